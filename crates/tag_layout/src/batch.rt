@@ -1,0 +1,24 @@
+//! How many completions make a batch.
+ghost use Rattle.std.specs.Prelude.{◌≡◌, ℕ, ◌≤◌, Option};
+ghost use Rattle.tag_layout.specs.Layout.{wake_batch};
+
+use crate::layout::Layout;
+
+/// The least and the greatest batch.
+const FEWEST: u32 = 1;
+const MOST: u32 = 8;
+
+impl Layout {
+    /// Completions that are charged together, each batch of them once: an eighth of the depth,
+    /// or of the least shallow depth where that is less, from 1 to 8. `None` sets no least shallow depth.
+    pub fn wake_batch(self, min_shallow: Option<u32>) -> u32
+        ensures value { result ≡ wake_batch self min_shallow }
+        ensures within { (1 ≤ result) × (result ≤ 8) }
+    {
+        let least = match min_shallow {
+            Some(shallow) => shallow.min(self.depth()),
+            None => self.depth(),
+        };
+        (least / 8).min(MOST).max(FEWEST)
+    }
+}

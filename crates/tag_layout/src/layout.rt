@@ -1,0 +1,156 @@
+//! The layout of a map, and the way from tags to words and places and back.
+ghost use Rattle.std.specs.Prelude.{◌≡◌, ◌≢◌, ℕ, ◌+◌, ◌*◌, ◌^◌, ◌<◌, ◌≤◌, ◌↔◌, IfOk, IsSomeAnd, Option, Some, None};
+ghost use Rattle.std.specs.Int.{bit_at};
+ghost use Rattle.tag_layout.specs.Layout.{word_bits, words, word_of, place_of, tag_at, word_depth, HasShift, IsDefaultShift};
+ghost use Rattle.tag_layout.specs.Sums.{sum_below};
+
+use std::marker::Model;
+
+/// The most tags of one map.
+pub const MAX_DEPTH: u32 = 10_240;
+
+/// The greatest shift: a word has at most 64 bits.
+pub const MAX_SHIFT: u32 = 6;
+
+/// Why there is no such layout.
+#[derive(Clone, Copy, Debug, PartialEq, Eq)]
+pub enum LayoutFault {
+    /// More than `MAX_DEPTH` tags.
+    DepthTooLarge,
+    /// A shift above `MAX_SHIFT`.
+    ShiftTooLarge,
+}
+
+/// `depth` tags in words of `2^shift` bits each, of which the last may use fewer.
+/// Tag `t` is the bit at place `t mod 2^shift` of word `t >> shift`.
+#[derive(Clone, Copy, Debug, PartialEq, Eq)]
+pub struct Layout {
+    /// Tags in all. 0 is legal, and has no words.
+    depth: u32,
+    /// Binary logarithm of the bits in a whole word, 0 to 6.
+    shift: u32,
+}
+
+impl Model for Layout {
+    ghost use Rattle.std.specs.Prelude.{◌≤◌};
+    ghost use Rattle.tag_layout.specs.Layout.{Layout as Sizes};
+    ghost use Rattle.tag_layout.specs.declared.layout.TheConstants.{MAX_DEPTH, MAX_SHIFT};
+
+    ghost Value = { Sizes };
+
+    ghost view = { λ l. record { depth = l.depth; shift = l.shift } };
+
+    ghost invariant = { λ l. (l.depth ≤ MAX_DEPTH) × (l.shift ≤ MAX_SHIFT) };
+
+    ghost inverse = { λ s. record { depth = s.depth; shift = s.shift } };
+}
+
+impl Layout {
+    /// Without a shift, the default one of `depth` is taken.
+    pub fn new(depth: u32, shift: Option<u32>) -> Result<Layout, LayoutFault>
+        ensures depth { IfOk result (λ l. l.depth ≡ depth) }
+        ensures shift { IfOk result (λ l. HasShift depth shift l.shift) }
+
+        // The depth is looked at first.
+        ensures too_deep { (result ≡ Err LayoutFault.DepthTooLarge) ↔ (MAX_DEPTH < depth) }
+        ensures too_wide {
+            (result ≡ Err LayoutFault.ShiftTooLarge)
+                ↔ ((depth ≤ MAX_DEPTH) × IsSomeAnd shift (λ s. MAX_SHIFT < s))
+        }
+    {
+        if depth > MAX_DEPTH {
+            return Err(LayoutFault::DepthTooLarge);
+        }
+        let shift = match shift {
+            Some(wanted) => wanted,
+            None => Layout::default_shift(depth),
+        };
+        if shift > MAX_SHIFT {
+            return Err(LayoutFault::ShiftTooLarge);
+        }
+        Ok(Layout { depth, shift })
+    }
+
+    /// The shift of a map for which none is asked: the greatest up to 6 with which it has four whole words,
+    /// and 6 where it has fewer than four tags.
+    pub fn default_shift(depth: u32) -> u32
+        ensures { IsDefaultShift depth result }
+    {
+        if depth < 4 {
+            return MAX_SHIFT;
+        }
+        (depth >> 2).ilog2().min(MAX_SHIFT)
+    }
+
+    /// Tags in all.
+    pub fn depth(self) -> u32
+        ensures value { result ≡ self.depth }
+        ensures bound { result ≤ MAX_DEPTH }
+    {
+        self.depth
+    }
+
+    /// Binary logarithm of the bits in a whole word.
+    pub fn shift(self) -> u32
+        ensures value { result ≡ self.shift }
+        ensures bound { result ≤ MAX_SHIFT }
+    {
+        self.shift
+    }
+
+    /// Words in all: `map_nr` of lib/sbitmap.c.
+    pub fn words(self) -> u32
+        ensures value { result ≡ words self }
+        ensures filled { sum_below (word_depth self) result ≡ self.depth }
+    {
+        (self.depth + (1 << self.shift) - 1) >> self.shift
+    }
+
+    /// The word in which a tag stands.
+    pub fn word_of(self, tag: u32) -> u32
+        requires { tag < self.depth }
+        ensures value { result ≡ word_of self tag }
+        ensures within { result < words self }
+    {
+        tag >> self.shift
+    }
+
+    /// The tag's place in its word: the place of its bit, the lowest first.
+    pub fn place_of(self, tag: u32) -> u32
+        requires { tag < self.depth }
+        ensures value { result ≡ place_of self tag }
+        ensures within { result < word_depth self (word_of self tag) }
+        ensures back { tag_at self (word_of self tag) result ≡ tag }
+    {
+        tag & ((1 << self.shift) - 1)
+    }
+
+    /// The tag at a place of a word.
+    pub fn tag_at(self, word: u32, place: u32) -> u32
+        requires word { word < words self }
+        requires place { place < word_depth self word }
+        ensures value { result ≡ tag_at self word place }
+        ensures within { result < self.depth }
+        ensures back { (word_of self result ≡ word) × (place_of self result ≡ place) }
+    {
+        (word << self.shift) + place
+    }
+
+    /// The bits that a word uses: `2^shift`, or fewer in the last word.
+    pub fn word_depth(self, word: u32) -> u32
+        requires { word < words self }
+        ensures value { result ≡ word_depth self word }
+        ensures within { (1 ≤ result) × (result ≤ 64) }
+    {
+        (self.depth - (word << self.shift)).min(1 << self.shift)
+    }
+
+    /// The bits that a word uses, as a mask: 1 is usable.
+    pub fn usable(self, word: u32) -> u64
+        requires { word < words self }
+        ensures value { result + 1 ≡ 2 ^ word_depth self word }
+        ensures bits { (place : ℕ) → (bit_at result place ≡ 1) ↔ (place < word_depth self word) }
+    {
+        u64::MAX >> (64 - self.word_depth(word))
+    }
+}
