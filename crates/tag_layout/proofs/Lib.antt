@@ -1,1 +1,4 @@
-mod PlaceFacts
+pub mod PlaceFacts
+pub mod ShareFacts
+pub mod SumFacts
+pub mod Scans

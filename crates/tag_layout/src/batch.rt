@@ -6,6 +6,7 @@ use crate::layout::Layout;
 
 /// The least and the greatest batch.
 const FEWEST: u32 = 1;
+
 const MOST: u32 = 8;
 
 impl Layout {

@@ -53,10 +53,8 @@ impl Layout {
 
         // The depth is looked at first.
         ensures too_deep { (result ≡ Err LayoutFault.DepthTooLarge) ↔ (MAX_DEPTH < depth) }
-        ensures too_wide {
-            (result ≡ Err LayoutFault.ShiftTooLarge)
-                ↔ ((depth ≤ MAX_DEPTH) × IsSomeAnd shift (λ s. MAX_SHIFT < s))
-        }
+        ensures too_wide { (result ≡ Err LayoutFault.ShiftTooLarge)
+            ↔ ((depth ≤ MAX_DEPTH) × IsSomeAnd shift (λ s. MAX_SHIFT < s)) }
     {
         if depth > MAX_DEPTH {
             return Err(LayoutFault::DepthTooLarge);

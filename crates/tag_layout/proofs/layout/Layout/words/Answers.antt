@@ -1,0 +1,12 @@
+-- The words use all tags.
+use Rattle.std.proofs.Common.{◌≡◌, ℕ, ◌+◌, ◌-◌, ◌*◌, ◌/◌, ◌%◌, ◌^◌, ◌<◌, ◌≤◌, bit_and, min, arith, refl, sym, ap, ◌∙◌, subst}
+use Rattle.tag_layout.specs.Layout.{Layout, word_bits, words, word_of, place_of, tag_at, word_depth}
+use Rattle.std.proofs.lemmas.Nat.{one_shl}
+use Rattle.tag_layout.specs.Sums.{sum_below}
+use Rattle.tag_layout.proofs.PlaceFacts.{word_depths-sum}
+use Rattle.tag_layout.proofs.layout.Layout.words.Goals as goal
+
+pub returns-clause-filled : goal.returns-clause-filled
+returns-clause-filled c =
+    ap (sum_below (word_depth c.args.self)) (ap (λ x. (c.self.inside.depth + x - 1) / 2 ^ c.self.inside.shift) (one_shl c.self.inside.shift 32 (omega arith)) ∙ ap words c.self.view_is)
+    ∙ word_depths-sum c.args.self
