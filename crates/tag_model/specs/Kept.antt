@@ -1,0 +1,55 @@
+-- A world as it is kept: places in the order of the tags, and counts in the order of the callers.
+use Rattle.std.specs.Prelude.{◌≡◌, ℕ, ◌+◌, ◌<◌, ◌≤◌, List, length, slice_index, slice_index_or}
+use Rattle.tag_layout.specs.Layout.{Layout}
+use Rattle.tag_model.specs.declared.place.Place.{Place}
+use Rattle.tag_model.specs.declared.place.Place.TheVariants.{Free}
+use Rattle.tag_model.specs.declared.event.Event.{Event}
+use Rattle.tag_model.specs.declared.world.TheConstants.{MAX_CALLERS, MOST_WON}
+use Rattle.tag_model.specs.World.{World, after, MayHappen}
+use Rattle.tag_model.specs.Runs.{after_all, MayRun}
+use Rattle.tag_model.specs.Totals.{Balances}
+
+-- a layout, a place for each tag, and two counts for each caller
+pub record KeptWorld : Type 0 where
+  pub layout : Layout
+  pub places : List Place
+  pub won : List ℕ
+  pub back : List ℕ
+
+-- how many callers there are
+abbrev pub callers_of : KeptWorld → ℕ
+callers_of kept = length kept.won
+
+-- the world that is kept
+abbrev pub world_of : KeptWorld → World
+world_of kept = record {
+  place = λ tag. slice_index_or kept.places tag Free;
+  won = λ caller. slice_index kept.won caller;
+  back = λ caller. slice_index kept.back caller;
+}
+
+-- the lists have an entry for each tag and each caller, and the totals balance
+pub record IsSound (kept : KeptWorld) : Type 0 where
+  pub tags : length kept.places ≡ kept.layout.depth
+  pub some_caller : 1 ≤ callers_of kept
+  pub few_callers : callers_of kept ≤ MAX_CALLERS
+  pub both_counts : length kept.back ≡ callers_of kept
+  pub unspent : (caller : ℕ) → caller < callers_of kept → slice_index kept.won caller ≤ MOST_WON
+  pub balances : Balances kept.layout (callers_of kept) (world_of kept)
+
+-- the layout and the number of callers stay
+pub record SameSetup (old new : KeptWorld) : Type 0 where
+  pub layout : new.layout ≡ old.layout
+  pub callers : callers_of new ≡ callers_of old
+
+-- the event could happen, and this is what it left
+pub record Happens (old : KeptWorld) (event : Event) (new : KeptWorld) : Type 0 where
+  pub setup : SameSetup old new
+  pub could : MayHappen old.layout (callers_of old) (world_of old) event
+  pub world : world_of new ≡ after old.layout event (world_of old)
+
+-- each of the events could happen in turn, and this is what they left
+pub record Ran (old : KeptWorld) (events : List Event) (new : KeptWorld) : Type 0 where
+  pub setup : SameSetup old new
+  pub could : MayRun old.layout (callers_of old) (world_of old) events
+  pub world : world_of new ≡ after_all old.layout events (world_of old)

@@ -1,0 +1,9 @@
+pub mod Event
+pub mod World
+pub mod Runs
+pub mod Totals
+pub mod Kept
+pub mod Laws
+pub use Rattle.tag_layout.specs.Layout
+pub use Rattle.tag_layout.specs.Bits
+pub use Rattle.tag_layout.specs.Sums
