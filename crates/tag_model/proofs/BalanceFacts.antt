@@ -78,28 +78,28 @@ module _ (l : Layout) where
     outs-after Look may = refl
     outs-after (Win caller word mask) may =
         let more = sum_below-add (λ t. out (place_after l (Win caller word mask) t (w.place t))) (λ t. out (w.place t)) (λ t. one_if (is_in_mask l word mask t)) l.depth
-          (λ t h. comes (is_in_mask l word mask t) (w.place t) (Held caller) (λ named. ap out (may.places t h named)) refl) in
+        (λ t h. comes (is_in_mask l word mask t) (w.place t) (Held caller) (λ named. ap out (may.places t h named)) refl) in
         let size = sum_below-mask l word mask may.in_layout.0 may.in_layout.1 in omega arith
     outs-after (Put caller tag) may =
         let less = sum_below-add (λ t. out (w.place t)) (λ t. out (place_after l (Put caller tag) t (w.place t))) (λ t. one_if (t == tag)) l.depth
-          (λ t h. goes (t == tag) (w.place t) Aside (λ named. ap out (may.places t h named)) refl) in
+        (λ t h. goes (t == tag) (w.place t) Aside (λ named. ap out (may.places t h named)) refl) in
         let size = sum_below-one l.depth tag may.in_layout in omega arith
     outs-after (Give caller word mask) may =
         let less = sum_below-add (λ t. out (w.place t)) (λ t. out (place_after l (Give caller word mask) t (w.place t))) (λ t. one_if (is_in_mask l word mask t)) l.depth
-          (λ t h. goes (is_in_mask l word mask t) (w.place t) Free (λ named. ap out (may.places t h named)) refl) in
+        (λ t h. goes (is_in_mask l word mask t) (w.place t) Free (λ named. ap out (may.places t h named)) refl) in
         let size = sum_below-mask l word mask may.in_layout.0 may.in_layout.1 in omega arith
     outs-after (Sweep caller word) may =
         let same = sum_below-same (λ t. out (place_after l (Sweep caller word) t (w.place t))) (λ t. out (w.place t)) l.depth
-          (λ t h. stays (names l (Sweep caller word) t) (w.place t) (swept_by caller (w.place t)) (λ named. out-swept caller (w.place t))) in omega arith
+        (λ t h. stays (names l (Sweep caller word) t) (w.place t) (swept_by caller (w.place t)) (λ named. out-swept caller (w.place t))) in omega arith
     outs-after (Spill caller word) may =
         let same = sum_below-same (λ t. out (place_after l (Spill caller word) t (w.place t))) (λ t. out (w.place t)) l.depth
-          (λ t h. stays (names l (Spill caller word) t) (w.place t) (spilled_by caller (w.place t)) (λ named. out-spilled caller (w.place t))) in omega arith
+        (λ t h. stays (names l (Spill caller word) t) (w.place t) (spilled_by caller (w.place t)) (λ named. out-spilled caller (w.place t))) in omega arith
     outs-after (Post caller tag) may =
         let same = sum_below-same (λ t. out (place_after l (Post caller tag) t (w.place t))) (λ t. out (w.place t)) l.depth
-          (λ t h. stays (t == tag) (w.place t) Posted (λ named. sym (ap out (may.places t h named)))) in omega arith
+        (λ t h. stays (t == tag) (w.place t) Posted (λ named. sym (ap out (may.places t h named)))) in omega arith
     outs-after (Take caller tag) may =
         let same = sum_below-same (λ t. out (place_after l (Take caller tag) t (w.place t))) (λ t. out (w.place t)) l.depth
-          (λ t h. stays (t == tag) (w.place t) (Held caller) (λ named. sym (ap out (may.places t h named)))) in omega arith
+        (λ t h. stays (t == tag) (w.place t) (Held caller) (λ named. sym (ap out (may.places t h named)))) in omega arith
 
   -- a tag that is out is held or posted
   outs-split : (w : World) → outs w ≡ held_in l w + posted_in l w

@@ -86,11 +86,11 @@ pub world-after :
     (l : Layout) (event : Event) (old new : List Place) (won back : List ℕ) → IsInLayout l event → length old ≡ l.depth → MovesTags l event old new
     → caller_of event < length won → caller_of event < length back
     → (let w : World = record { place = λ t. get_or old t Free; won = λ c. get_or won c 0; back = λ c. get_or back c 0 } in
-       let v : World = record {
-         place = λ t. get_or new t Free;
-         won = λ c. get_or (set won (caller_of event) (get_or won (caller_of event) 0 + won_by event)) c 0;
-         back = λ c. get_or (set back (caller_of event) (get_or back (caller_of event) 0 + back_by event)) c 0;
-       } in v ≡ after l event w)
+    let v : World = record {
+      place = λ t. get_or new t Free;
+      won = λ c. get_or (set won (caller_of event) (get_or won (caller_of event) 0 + won_by event)) c 0;
+      back = λ c. get_or (set back (caller_of event) (get_or back (caller_of event) 0 + back_by event)) c 0;
+    } in v ≡ after l event w)
 world-after l event old new won back within long moves in_won in_back =
     let places = fun_ext (moved-everywhere l event old new within long moves) in
     let wons = fun_ext (λ c. get_or-plus_at won (caller_of event) (won_by event) c in_won) in

@@ -74,8 +74,8 @@ module _ (old now : KeptWorld) (before : List Event) (event : Event) (ran : Ran 
   ran-more new happens =
       let layout = ran.setup.layout in let callers = ran.setup.callers in let world = ran.world in
       let may : MayHappen old.layout (callers_of old) (after_all old.layout before (world_of old)) event =
-        subst (λ (w : World). MayHappen old.layout (callers_of old) w event) world
-        (subst (λ (n : ℕ). MayHappen old.layout n (world_of now) event) callers (subst (λ (l : Layout). MayHappen l (callers_of now) (world_of now) event) layout happens.could)) in
+      subst (λ (w : World). MayHappen old.layout (callers_of old) w event) world
+      (subst (λ (n : ℕ). MayHappen old.layout n (world_of now) event) callers (subst (λ (l : Layout). MayHappen l (callers_of now) (world_of now) event) layout happens.could)) in
       record {
         setup = record { layout = happens.setup.layout ∙ layout; callers = happens.setup.callers ∙ callers };
         could = may_run-append old.layout (callers_of old) before (event ∷ []) (world_of old) ran.could (may, tt);

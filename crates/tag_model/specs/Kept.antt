@@ -4,11 +4,13 @@ use Rattle.tag_layout.specs.Layout.{Layout}
 use Rattle.tag_model.specs.declared.place.Place.{Place}
 use Rattle.tag_model.specs.declared.place.Place.TheVariants.{Free}
 use Rattle.tag_model.specs.declared.event.Event.{Event}
+use Rattle.tag_model.specs.declared.event.EventFault.{EventFault}
+use Rattle.tag_model.specs.declared.totals.Totals.{Totals}
 use Rattle.tag_model.specs.declared.world.TheConstants.{MAX_CALLERS, MOST_WON}
 use Rattle.tag_model.specs.Event.{names, Needs}
-use Rattle.tag_model.specs.World.{World, place_after, after, MayHappen}
-use Rattle.tag_model.specs.Runs.{after_all, MayRun}
-use Rattle.tag_model.specs.Totals.{Balances}
+use Rattle.tag_model.specs.World.{World, place_after, after, MayHappen, IsFirstFault}
+use Rattle.tag_model.specs.Runs.{after_all, MayRun, StopsAt}
+use Rattle.tag_model.specs.Totals.{AreTotals, Balances}
 
 -- a layout, a place for each tag, and two counts for each caller
 pub record KeptWorld : Type 0 where
@@ -43,16 +45,36 @@ pub record SameSetup (old new : KeptWorld) : Type 0 where
   pub layout : new.layout ≡ old.layout
   pub callers : callers_of new ≡ callers_of old
 
+-- the event can happen in the world that is kept
+abbrev pub CanHappen : KeptWorld → Event → Type 0
+CanHappen kept event = MayHappen kept.layout (callers_of kept) (world_of kept) event
+
+-- the first cause for which it can't
+abbrev pub HasFault : KeptWorld → Event → EventFault → Type 0
+HasFault kept event fault = IsFirstFault kept.layout (callers_of kept) (world_of kept) event fault
+
+-- each event can happen in turn
+abbrev pub CanRun : KeptWorld → List Event → Type 0
+CanRun kept events = MayRun kept.layout (callers_of kept) (world_of kept) events
+
+-- the event at this place is the first that can't happen in turn, and this is the cause
+abbrev pub Stops : KeptWorld → List Event → ℕ → EventFault → Type 0
+Stops kept events place fault = StopsAt kept.layout (callers_of kept) (world_of kept) events place fault
+
+-- these are the totals of the world that is kept
+abbrev pub HasTotals : KeptWorld → Totals → Type 0
+HasTotals kept totals = AreTotals kept.layout (callers_of kept) (world_of kept) totals
+
 -- the event could happen, and this is what it left
 pub record Happens (old : KeptWorld) (event : Event) (new : KeptWorld) : Type 0 where
   pub setup : SameSetup old new
-  pub could : MayHappen old.layout (callers_of old) (world_of old) event
+  pub could : CanHappen old event
   pub world : world_of new ≡ after old.layout event (world_of old)
 
 -- each of the events could happen in turn, and this is what they left
 pub record Ran (old : KeptWorld) (events : List Event) (new : KeptWorld) : Type 0 where
   pub setup : SameSetup old new
-  pub could : MayRun old.layout (callers_of old) (world_of old) events
+  pub could : CanRun old events
   pub world : world_of new ≡ after_all old.layout events (world_of old)
 
 -- each tag that the event names is where the event needs it

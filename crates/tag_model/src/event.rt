@@ -104,9 +104,7 @@ impl Event {
     pub(crate) fn span(self, layout: Layout) -> Range<u32>
         requires { IsInLayout layout self }
         ensures bound { (result.start ≤ result.end) × (result.end ≤ layout.depth) }
-        ensures named {
-            (tag : ℕ) → tag < layout.depth → IsTrue (names layout self tag) → (result.start ≤ tag) × (tag < result.end)
-        }
+        ensures named { (tag : ℕ) → tag < layout.depth → IsTrue (names layout self tag) → (result.start ≤ tag) × (tag < result.end) }
     {
         match self {
             Event::Look => 0..0,

@@ -5,6 +5,8 @@ mod event;
 mod laws;
 mod masks;
 mod place;
+#[cfg(test)]
+mod tests;
 mod totals;
 mod world;
 

@@ -1,10 +1,9 @@
 //! A world: where each tag is, and what each caller has won and given back.
-ghost use Rattle.std.specs.Prelude.{◌≡◌, ◌⊎◌, ℕ, ◌<◌, ◌≤◌, ◌↔◌, IfOk, IfErr, OnOk, OnErr, IsOk, MatchBool, List, length, take, slice_index, slice_set, ◌+◌, ◌^◌, sum, count_by, Bool};
+ghost use Rattle.std.specs.Prelude.{◌≡◌, ◌⊎◌, ℕ, ◌<◌, ◌≤◌, ◌↔◌, IfOk, IfErr, OnOk, OnErr, IsOk, MatchBool, length, take, slice_index, slice_set, ◌+◌, ◌^◌, sum, count_by};
 ghost use Rattle.tag_model.specs.Event.{IsInLayout};
-ghost use Rattle.tag_model.specs.World.{opened, MayHappen, IsFirstFault};
-ghost use Rattle.tag_model.specs.Runs.{after_all, MayRun, StopsAt};
-ghost use Rattle.tag_model.specs.Totals.{is_held, is_posted, AreTotals};
-ghost use Rattle.tag_model.specs.Kept.{callers_of, world_of, SameSetup, Happens, Ran, AreAccepted, MissesOne, MovesTags};
+ghost use Rattle.tag_model.specs.World.{opened};
+ghost use Rattle.tag_model.specs.Totals.{is_held, is_posted};
+ghost use Rattle.tag_model.specs.Kept.{callers_of, world_of, CanHappen, HasFault, Happens, CanRun, Stops, Ran, HasTotals, AreAccepted, MissesOne, MovesTags};
 
 use crate::event::{Event, EventFault};
 use crate::place::Place;
@@ -91,7 +90,7 @@ impl World {
 
     /// The sums over all callers and tags.
     pub fn totals(&self) -> Totals
-        ensures sums { AreTotals self.now.layout (callers_of self.now) (world_of self.now) result }
+        ensures sums { HasTotals self.now result }
         ensures balance { result.got ≡ result.back + result.held + result.posted }
     {
         Totals {
@@ -105,10 +104,10 @@ impl World {
     /// One event. A fault leaves the world as it was.
     pub fn apply(&mut self, event: Event) -> Result<(), EventFault>
         ensures ok { OnOk result (Happens self.old event self.new) }
-        ensures succeeds { MayHappen self.old.layout (callers_of self.old) (world_of self.old) event → IsOk result }
+        ensures succeeds { CanHappen self.old event → IsOk result }
 
         // Which fault it is: the first of its causes.
-        ensures fault { IfErr result (IsFirstFault self.old.layout (callers_of self.old) (world_of self.old) event) }
+        ensures fault { IfErr result (HasFault self.old event) }
         ensures err { OnErr result (self.new ≡ self.old) }
     {
         self.test(event)?;
@@ -120,11 +119,9 @@ impl World {
     /// The world then stands after the events before it.
     pub fn run(&mut self, events: &[Event]) -> Result<Totals, (usize, EventFault)>
         ensures ok { OnOk result (Ran self.old events.now self.new) }
-        ensures totals { IfOk result (AreTotals self.new.layout (callers_of self.new) (world_of self.new)) }
-        ensures succeeds { MayRun self.old.layout (callers_of self.old) (world_of self.old) events.now → IsOk result }
-        ensures fault {
-            IfErr result (λ e. StopsAt self.old.layout (callers_of self.old) (world_of self.old) events.now e.0 e.1)
-        }
+        ensures totals { IfOk result (HasTotals self.new) }
+        ensures succeeds { CanRun self.old events.now → IsOk result }
+        ensures fault { IfErr result (λ e. Stops self.old events.now e.0 e.1) }
         ensures stopped { IfErr result (λ e. Ran self.old (take e.0 events.now) self.new) }
     {
         for (place, event) in events.iter().enumerate() {
@@ -137,8 +134,8 @@ impl World {
 
     // The first cause for which the event can't happen, if there is one.
     fn test(&self, event: Event) -> Result<(), EventFault>
-        ensures ok { OnOk result (MayHappen self.now.layout (callers_of self.now) (world_of self.now) event) }
-        ensures fault { IfErr result (IsFirstFault self.now.layout (callers_of self.now) (world_of self.now) event) }
+        ensures ok { OnOk result (CanHappen self.now event) }
+        ensures fault { IfErr result (HasFault self.now event) }
     {
         if !event.is_in(self.layout) {
             return Err(EventFault::NoSuchTag);
@@ -158,7 +155,7 @@ impl World {
     }
 
     fn change(&mut self, event: Event)
-        requires { MayHappen self.old.layout (callers_of self.old) (world_of self.old) event }
+        requires { CanHappen self.old event }
         ensures { Happens self.old event self.new }
     {
         move_tags(&mut self.places, self.layout, event);

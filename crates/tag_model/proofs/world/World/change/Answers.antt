@@ -18,7 +18,7 @@ add_at-requires-2-clause-room c =
     let may : CanIn c.args.event old = subst (CanIn c.args.event) (sym c.self.view_is) c.requires in
     let few = back_of-fits old c.self.invariant (caller_of c.args.event) may.caller in
     let here : get_or c.deref_mut-3.result.now c.caller-2.result 0 ≡ get_or c.self.inside.back.items (caller_of c.args.event) 0 =
-      ap (λ (xs : List ℕ). get_or xs c.caller-2.result 0) c.deref_mut-3.ensures.value ∙ ap (λ (k : ℕ). get_or c.self.inside.back.items k 0) c.caller-2.ensures in
+    ap (λ (xs : List ℕ). get_or xs c.caller-2.result 0) c.deref_mut-3.ensures.value ∙ ap (λ (k : ℕ). get_or c.self.inside.back.items k 0) c.caller-2.ensures in
     omega arith
 
 pub invariant_of-self : goal.invariant_of-self
