@@ -1,0 +1,44 @@
+-- Words about a book and its tellers, for public clauses.
+use Rattle.std.specs.Prelude.{◌≡◌, ℕ, ◌≤◌, ◌<◌, List, map}
+use Rattle.step_ledger.specs.declared.record.Record.{Record}
+use Rattle.step_ledger.specs.Views as views
+use Rattle.step_ledger.specs.History.{total}
+use Rattle.wake_book.specs.declared.book.Book.{Book}
+use Rattle.wake_book.specs.declared.book.Teller.{Teller}
+use Rattle.wake_book.specs.declared.steps.BookStep.{BookStep}
+use Rattle.wake_book.specs.Charges.{added}
+
+-- the teller came from the book's opening
+abbrev pub IsTellerOf : Book → Teller → Type 0
+IsTellerOf book teller = teller.seat.table_id ≡ book.table.shared.table_id
+
+-- the teller's own steps, newest first
+abbrev pub steps_of : Teller → List BookStep
+steps_of teller = views.steps_of teller.seat.me.0
+
+-- the teller's number, from 0
+abbrev pub number_of : Teller → ℕ
+number_of teller = teller.number
+
+-- the completions that the teller counted
+abbrev pub counted_by : Teller → ℕ
+counted_by teller = total added (steps_of teller)
+
+-- the teller's number and steps
+abbrev pub record_of : Teller → Record BookStep
+record_of teller = record { number = teller.number; steps = steps_of teller }
+
+abbrev pub records_of : List Teller → List (Record BookStep)
+records_of tellers = map record_of tellers
+
+-- how many tellers the book has
+abbrev pub tellers_of : Book → ℕ
+tellers_of book = book.limits.tellers
+
+-- the most completions that one teller may count
+abbrev pub cap_of : Book → ℕ
+cap_of book = book.limits.cap
+
+-- how many completions one charge takes
+abbrev pub batch_of : Book → ℕ
+batch_of book = book.batch

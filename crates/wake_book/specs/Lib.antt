@@ -1,0 +1,4 @@
+pub mod Charges
+pub mod Charging
+pub mod Booked
+pub mod Book
