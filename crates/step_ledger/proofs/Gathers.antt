@@ -5,11 +5,11 @@ use lib.ListN.{get_elem?}
 use Rattle.atomic_table.specs.Table.{State, Final, Seen}
 use Rattle.step_ledger.specs.declared.record.Record.{Record}
 use Rattle.step_ledger.specs.declared.record.View.{View}
-use Rattle.step_ledger.specs.Views.{Has, numbers, sum_over}
+use Rattle.step_ledger.specs.Views.{Has, HasAll, numbers, turned, sum_over}
 use Rattle.step_ledger.specs.History.{own_steps, words_of, Lawful, sum_to, AreListsOf}
 use Rattle.step_ledger.specs.Ledger.{Ledger}
 use Rattle.step_ledger.proofs.Sums as sums
-use Rattle.step_ledger.proofs.Turned.{turned, at_turned, has_turned, sum_turned, number_at}
+use Rattle.step_ledger.proofs.Turned.{at_turned, has_turned, sum_turned, number_at}
 
 at_has : (ns : List ℕ) (i n : ℕ) → get_elem? ns i ≡ some n → (i < length ns) × (get_or ns i 0 ≡ n)
 at_has [] i n e = absurd (some-ne-none n (sym e))

@@ -41,6 +41,15 @@ module _ {T : Type 0} where
   pub next_fresh : (c m : ℕ) → c < m → fresh {T = T} c (m - c) ≡ fresh_record c ∷ fresh (c + 1) (m - (c + 1))
   next_fresh c m h = let d : ℕ = m - (c + 1) in let e : m - c ≡ suc d = omega arith in let e' : suc c ≡ c + 1 = omega arith in ap (fresh {T = T} c) e ∙ ap (λ (z : ℕ). fresh_record {T = T} c ∷ fresh z d) e'
 
+  pub fresh_longer : (c m : ℕ) → fresh {T = T} c m ++ fresh_record (c + m) ∷ [] ≡ fresh c (m + 1)
+  fresh_longer c zero = let z : c + 0 ≡ c = omega arith in ap (λ (x : ℕ). fresh_record {T = T} x ∷ []) z
+  fresh_longer c (suc m) = let z : c + suc m ≡ suc c + m = omega arith in let y : suc m + 1 ≡ suc (m + 1) = omega arith in
+      ap (λ (x : ℕ). fresh_record {T = T} c ∷ (fresh {T = T} (suc c) m ++ fresh_record x ∷ [])) z ∙ ap (λ (l : List (Record T)). fresh_record c ∷ l) (fresh_longer (suc c) m) ∙ ap (fresh {T = T} c) (sym y)
+
+  -- a list that stands in order has all numbers
+  pub fresh_none : (c : ℕ) → fresh {T = T} c 0 ≡ []
+  fresh_none c = refl
+
 module _ {S T : Type 0} where
   -- what a member knows after a step
   pub pushed : (m m' : Me S (View T)) (r : Record T) (x : T) → m ≡ (alone r, []) → Stepped x m m' → m' ≡ (alone (with_step x r), [])

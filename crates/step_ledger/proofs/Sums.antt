@@ -30,22 +30,22 @@ module _ {T : Type 0} (n : ℕ) (MayStep : ℕ → T → List (ℕ × T) → Typ
   totals f [] l = sum_none n
   totals f (x ∷ h) l = sum_grows (λ c. total f (own_steps c h)) (λ c. total f (own_steps c (x ∷ h))) x.0 (f x.1) n l.0 (ap (total f) (own_here x.0 x.1 h)) (λ d ne. ap (total f) (own_else d x.0 x.1 h ne)) ∙ ap (λ (z : ℕ). f x.1 + z) (totals f h l.2)
 
-sum_zero : (f : ℕ → ℕ) (n : ℕ) → ((c : ℕ) → c < n → f c ≡ 0) → sum_to f n ≡ 0
+pub sum_zero : (f : ℕ → ℕ) (n : ℕ) → ((c : ℕ) → c < n → f c ≡ 0) → sum_to f n ≡ 0
 sum_zero f zero h = refl
 sum_zero f (suc n) h = let a = sum_zero f n (λ c l. h c (omega arith)) in let b = h n (omega arith) in omega arith
 
-sum_add : (f g e : ℕ → ℕ) (n : ℕ) → ((c : ℕ) → c < n → f c ≡ g c + e c) → sum_to f n ≡ sum_to g n + sum_to e n
+pub sum_add : (f g e : ℕ → ℕ) (n : ℕ) → ((c : ℕ) → c < n → f c ≡ g c + e c) → sum_to f n ≡ sum_to g n + sum_to e n
 sum_add f g e zero h = refl
 sum_add f g e (suc n) h = let a = sum_add f g e n (λ c l. h c (omega arith)) in let b = h n (omega arith) in omega arith
 
 -- a sum of which one value is left
-sum_only : (f : ℕ → ℕ) (n c : ℕ) → c < n → ((d : ℕ) → d < n → d ≢ c → f d ≡ 0) → sum_to f n ≡ f c
+pub sum_only : (f : ℕ → ℕ) (n c : ℕ) → c < n → ((d : ℕ) → d < n → d ≢ c → f d ≡ 0) → sum_to f n ≡ f c
 sum_only f zero c h z = absurd (omega arith)
 sum_only f (suc n) c h z = dite (ℕ_discrete c n)
     (λ (e : c ≡ n). let a = sum_zero f n (λ d l. z d (omega arith) (λ s. omega arith)) in let b : f n ≡ f c = ap f (sym e) in omega arith)
     (λ (ne : c ≢ n). let a = sum_only f n c (omega arith) (λ d l. z d (omega arith)) in let b = z n (omega arith) (λ s. ne (sym s)) in omega arith)
 
-sum_swap : (f : ℕ → ℕ → ℕ) (m n : ℕ) → sum_to (λ i. sum_to (λ c. f c i) n) m ≡ sum_to (λ c. sum_to (f c) m) n
+pub sum_swap : (f : ℕ → ℕ → ℕ) (m n : ℕ) → sum_to (λ i. sum_to (λ c. f c i) n) m ≡ sum_to (λ c. sum_to (f c) m) n
 sum_swap f zero n = sym (sum_zero (λ c. sum_to (f c) zero) n (λ c l. refl))
 sum_swap f (suc m) n = let ih = sum_swap f m n in let a = sum_add (λ c. sum_to (f c) (suc m)) (λ c. sum_to (f c) m) (λ c. f c m) n (λ c l. refl) in omega arith
 

@@ -1,18 +1,14 @@
 -- Lists in the other order, as they come off the end one by one, and what stands in them.
-use Rattle.std.proofs.Common.{◌≡◌, ℕ, zero, suc, ◌+◌, ◌<◌, List, [], ◌∷◌, ◌++◌, length, get_or, All, arith, refl, sym, ap, ◌∙◌, subst, length-append}
+use Rattle.std.proofs.Common.{◌≡◌, ◌≢◌, ℕ, zero, suc, ◌+◌, ◌<◌, List, [], ◌∷◌, ◌++◌, map, length, get_or, All, arith, refl, sym, ap, ◌∙◌, subst, length-append}
+use mathlib.Core.List.{map-append}
 use mathlib.Core.Option.{some, some-injective, some-ne-none}
 use lib.ListN.{get_elem?}
 use Rattle.atomic_table.proofs.Lists.{at_longer}
 use Rattle.step_ledger.specs.declared.record.Record.{Record}
-use Rattle.step_ledger.specs.Views.{Has, numbers, sum_over}
+use Rattle.step_ledger.specs.Views.{Has, numbers, turned, sum_over}
 use Rattle.step_ledger.proofs.Seats.{append_second}
 
 module _ {A : Type 0} where
-  -- the list in the other order
-  abbrev pub turned : List A → List A
-  turned [] = []
-  turned (x ∷ xs) = turned xs ++ x ∷ []
-
   -- the last comes first
   pub turned_last : (xs : List A) (x : A) → turned (xs ++ x ∷ []) ≡ x ∷ turned xs
   turned_last [] x = refl
@@ -38,6 +34,10 @@ module _ {A : Type 0} where
   pub all_last : (P : A → Type 0) (xs : List A) (x : A) → All P (xs ++ x ∷ []) → P x
   all_last P xs x h = subst P (get_last xs x x) (h (length xs) x (let e = length-append xs (x ∷ []) in omega arith))
 
+-- what is taken off the end comes first
+pub taken : {A B : Type 0} (f : A → B) (xs : List A) (x : A) (l : List A) → l ≡ xs ++ x ∷ [] → turned (map f l) ≡ f x ∷ turned (map f xs)
+taken f xs x l e = ap (λ (z : List _). turned (map f z)) e ∙ ap turned (map-append f xs (x ∷ [])) ∙ turned_last (map f xs) (f x)
+
 module _ {T : Type 0} where
   pub sum_append : (f : List T → ℕ) (rs qs : List (Record T)) → sum_over f (rs ++ qs) ≡ sum_over f rs + sum_over f qs
   sum_append f [] qs = omega arith
@@ -60,3 +60,12 @@ module _ {T : Type 0} where
 
   pub has_turned : (rs : List (Record T)) (c : ℕ) → Has (numbers rs) c → Has (numbers (turned rs)) c
   has_turned rs c h = let a = number_at rs h.0 c h.1 in let b = at_turned rs h.0 a.0 a.1 in (b.0, at_number (turned rs) b.0 a.0 b.1 ∙ ap some a.2)
+
+-- what stands at no place isn't there
+pub nowhere : (ns : List ℕ) (c : ℕ) → ((i : ℕ) → i < length ns → get_elem? ns i ≢ some c) → ¬ Has ns c
+nowhere ns c none h = none h.0 (at_some ns h.0 c h.1) h.1
+  where
+    at_some : (ns : List ℕ) (i c : ℕ) → get_elem? ns i ≡ some c → i < length ns
+    at_some [] i c e = absurd (some-ne-none c (sym e))
+    at_some (x ∷ ns) zero c e = omega arith
+    at_some (x ∷ ns) (suc i) c e = let w = at_some ns i c e in omega arith

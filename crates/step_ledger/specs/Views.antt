@@ -1,5 +1,5 @@
 -- What a seat knows: the records that stand with it, and how they pass to another seat.
-use Rattle.std.specs.Prelude.{◌≡◌, ℕ, zero, suc, ◌+◌, List, [], ◌∷◌, ◌++◌, map}
+use Rattle.std.specs.Prelude.{◌≡◌, ℕ, zero, suc, ◌+◌, ◌<◌, List, [], ◌∷◌, ◌++◌, map}
 use mathlib.Core.Option.{some}
 use lib.ListN.{get_elem?}
 use Rattle.atomic_table.specs.Table.{Me}
@@ -9,6 +9,19 @@ use Rattle.step_ledger.specs.declared.record.View.{View}
 -- the number stands in the list
 abbrev pub Has : List ℕ → ℕ → Type 0
 Has ns n = (i : ℕ) × (get_elem? ns i ≡ some n)
+
+-- the list in the other order
+abbrev pub turned : {A : Type 0} → List A → List A
+turned [] = []
+turned (x ∷ xs) = turned xs ++ x ∷ []
+
+-- each number below n stands in the list
+abbrev pub HasAll : List ℕ → ℕ → Type 0
+HasAll ns n = (c : ℕ) → c < n → Has ns c
+
+-- the least number below n that doesn't stand in the list
+abbrev pub IsLeastMissing : List ℕ → ℕ → ℕ → Type 0
+IsLeastMissing ns n c = (c < n) × ¬ Has ns c × HasAll ns c
 
 module _ {T : Type 0} where
   -- the view of these records

@@ -27,10 +27,16 @@ module _ {S : Type 0} (k : Limits) (few : k.tellers ≤ 64) (low : k.cap ≤ 2 ^
   pub look_completions : Allows (BookRule k) slots id m 8 (λ n. n) (looked_completions (step slots 8 0 0 none) m)
   look_completions s kept deep at lw =
       let z = allows k.tellers opening_words words_after (MayStep k) slots id m r is 8 (λ n. n) LookCompletions
-          (λ v. (v < 2 ^ 63) × (total added (steps_of m.0) ≤ v) × ((w : ℕ) (before : List BookStep) → steps_of m.0 ≡ LookWakeups w ∷ before → w ≤ v))
-          (λ h l kn st lw'. (refl, set-get_or (words_in h) 8 0, (let z = small h l in omega arith,
+      (λ v. (v < 2 ^ 63) × (total added (steps_of m.0) ≤ v) × ((w : ℕ) (before : List BookStep) → steps_of m.0 ≡ LookWakeups w ∷ before → w ≤ v))
+      (λ h l kn st lw'. (
+        refl,
+        set-get_or (words_in h) 8 0,
+        (
+          let z = small h l in omega arith,
           (let z = own_le k r.number h l kn in let y = ap (total added) (sym own ∙ st) in omega arith),
-          λ w before e. let z = saw_wakeups k r.number w before h l (sym st ∙ own ∙ e) in let y = charged_le k h l in omega arith))) s kept deep at lw in
+          λ w before e. let z = saw_wakeups k r.number w before h l (sym st ∙ own ∙ e) in let y = charged_le k h l in omega arith,
+        ),
+      )) s kept deep at lw in
       (z.0, z.1, z.2, z.3, (z.4.0, z.4.1.0, z.4.1.1, z.4.1.2))
 
   pub look_wakeups : Allows (BookRule k) slots id m 16 (λ n. n) (looked_wakeups (step slots 16 0 0 none) m)
@@ -40,15 +46,17 @@ module _ {S : Type 0} (k : Limits) (few : k.tellers ≤ 64) (low : k.cap ≤ 2 ^
   pub add : (a : ℕ) → total added r.steps + a ≤ k.cap → Allows (BookRule k) slots id m 8 (λ n. (n + a) % 2 ^ 64) (adding (step slots 8 a 0 none) m)
   add a room s kept deep at lw =
       let z = allows k.tellers opening_words words_after (MayStep k) slots id m r is 8 (λ n. (n + a) % 2 ^ 64) (λ v. Add a v) (λ v. Unit {0})
-          (λ h l kn st low'. let b = small h l in let fits : (completions_in h + a) % 2 ^ 64 ≡ completions_in h + a = omega arith in
-          ((refl, subst (λ (x : List BookStep). total added x + a ≤ k.cap) st room), ap (set (words_in h) 8) fits, tt)) s kept deep at lw in
+      (λ h l kn st low'. let b = small h l in let fits : (completions_in h + a) % 2 ^ 64 ≡ completions_in h + a = omega arith in
+      ((refl, subst (λ (x : List BookStep). total added x + a ≤ k.cap) st room), ap (set (words_in h) 8) fits, tt)) s kept deep at lw in
       (z.0, z.1, z.2, z.3, z.4.0)
 
   pub advance : (start end seen : ℕ) (before : List BookStep) → r.steps ≡ LookCompletions seen ∷ before → start < end → end ≤ start + 8 → end ≤ seen
       → Allows (BookRule k) slots id m 16 (λ n. either (eqb n start) end n) (advancing (step slots 16 start end none) m)
   advance start end seen before looked less short le s kept deep at lw =
       let z = allows k.tellers opening_words words_after (MayStep k) slots id m r is 16 (λ n. either (eqb n start) end n) (λ v. Advance start end v) (λ v. Unit {0})
-          (λ h l kn st low'. let b = saw k r.number seen before h l (sym st ∙ looked) in let w : ℕ = wakeups_in h in
-          ((refl, less, short, omega arith),
-          ap (set (words_in h) 16) (exchanged w start end (λ (x : ℕ). x ≡ exchange_to start end w) (λ e. sym (moves start end w e)) (λ ne. sym (misses start end w ne))), tt)) s kept deep at lw in
+      (λ h l kn st low'. let b = saw k r.number seen before h l (sym st ∙ looked) in let w : ℕ = wakeups_in h in (
+        (refl, less, short, omega arith),
+        ap (set (words_in h) 16) (exchanged w start end (λ (x : ℕ). x ≡ exchange_to start end w) (λ e. sym (moves start end w e)) (λ ne. sym (misses start end w ne))),
+        tt,
+      )) s kept deep at lw in
       (z.0, z.1, z.2, z.3, z.4.0)

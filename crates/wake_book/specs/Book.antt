@@ -1,9 +1,10 @@
 -- Words about a book and its tellers, for public clauses.
-use Rattle.std.specs.Prelude.{◌≡◌, ℕ, ◌≤◌, ◌<◌, List, map}
+use Rattle.std.specs.Prelude.{◌≡◌, ℕ, ◌^◌, ◌<◌, ◌≤◌, ◌⊎◌, List, All, map}
 use Rattle.step_ledger.specs.declared.record.Record.{Record}
 use Rattle.step_ledger.specs.Views as views
 use Rattle.step_ledger.specs.History.{total}
 use Rattle.wake_book.specs.declared.book.Book.{Book}
+use Rattle.wake_book.specs.declared.book.Limits.{Limits}
 use Rattle.wake_book.specs.declared.book.Teller.{Teller}
 use Rattle.wake_book.specs.declared.steps.BookStep.{BookStep}
 use Rattle.wake_book.specs.Charges.{added}
@@ -31,6 +32,13 @@ record_of teller = record { number = teller.number; steps = steps_of teller }
 abbrev pub records_of : List Teller → List (Record BookStep)
 records_of tellers = map record_of tellers
 
+abbrev pub numbers_of : List Teller → List ℕ
+numbers_of tellers = map number_of tellers
+
+-- what the book was told at its opening
+abbrev pub limits_of : Book → Limits
+limits_of book = book.limits
+
 -- how many tellers the book has
 abbrev pub tellers_of : Book → ℕ
 tellers_of book = book.limits.tellers
@@ -42,3 +50,22 @@ cap_of book = book.limits.cap
 -- how many completions one charge takes
 abbrev pub batch_of : Book → ℕ
 batch_of book = book.batch
+
+-- the book is changed in its batch alone
+pub record Rebatches (old new : Book) (batch : ℕ) : Type 0 where
+  pub batch_is : batch_of new ≡ batch
+  pub table : new.table ≡ old.table
+  pub limits : limits_of new ≡ limits_of old
+
+-- a batch that isn't 1 to 8, or not 1 to 64 tellers
+abbrev pub MiscountsBook : ℕ → ℕ → Type 0
+MiscountsBook batch tellers = (batch < 1) ⊎ (8 < batch) ⊎ (tellers < 1) ⊎ (64 < tellers)
+
+-- a new book, whose tellers stand in the order of their numbers and have made no step
+pub record IsOpenBook (batch tellers cap : ℕ) (book : Book) (all : List Teller) : Type 0 where
+  pub counts : (1 ≤ batch) × (batch ≤ 8) × (1 ≤ tellers) × (tellers ≤ 64) × (cap ≤ 2 ^ 56)
+  pub batch_is : batch_of book ≡ batch
+  pub tellers_are : tellers_of book ≡ tellers
+  pub cap_is : cap_of book ≡ cap
+  pub own : All (IsTellerOf book) all
+  pub fresh_all : records_of all ≡ views.fresh 0 tellers

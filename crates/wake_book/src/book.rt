@@ -1,5 +1,5 @@
 //! The charge book: completions are counted, and each full batch of them is charged once.
-ghost use Rattle.std.specs.Prelude.{◌≡◌, ℕ, ◌^◌, ◌≤◌, List, []};
+ghost use Rattle.std.specs.Prelude.{◌≡◌, ◌^◌, ◌≤◌, []};
 ghost use Rattle.step_ledger.specs.Views.{alone, steps_of};
 ghost use Rattle.step_ledger.specs.History.{total};
 ghost use Rattle.wake_book.specs.Charges.{all_fresh, added, charged};
@@ -45,7 +45,7 @@ pub struct Book {
     pub(crate) batch: u32,
     ghost told: { table.shared.key ≡ limits },
     ghost wide: { (table.shared.table_id.words ≡ 24) × (table.shared.table_id.slots ≡ 0) },
-    ghost small: { (limits.tellers ≤ 64) × (limits.cap ≤ 2 ^ 56) × (1 ≤ batch) × (batch ≤ 8) },
+    ghost small: { (limits.tellers ≤ 64) × (limits.cap ≤ 2 ^ 56) × (1 ≤ batch) × (batch ≤ 8) × (1 ≤ limits.tellers) },
 }
 
 /// One who counts completions. A clause sees its number and the list of its own steps.
@@ -72,15 +72,4 @@ pub struct BookTotals {
     pub charged: u64,
     /// Charges won, each of one batch.
     pub charges: u64,
-}
-
-impl Book {
-    /// The batch of later charges. Counts and intervals go on.
-    pub fn rebatch(&mut self, batch: u32)
-        requires { (1 ≤ batch) × (batch ≤ 8) }
-        ensures batch { self.new.batch ≡ batch }
-        ensures kept { (self.new.table ≡ self.old.table) × (self.new.limits ≡ self.old.limits) }
-    {
-        self.batch = batch;
-    }
 }

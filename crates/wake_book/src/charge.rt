@@ -1,6 +1,6 @@
 //! Counting completions, and charging a batch where one is open.
 ghost use Rattle.std.specs.Prelude.{◌≡◌, ◌≢◌, ℕ, ◌+◌, ◌^◌, ◌<◌, ◌≤◌, ◌↔◌, List, ◌∷◌, length, IsTrue, IsFalse};
-ghost use Rattle.wake_book.specs.Book.{IsTellerOf, steps_of, number_of, counted_by, cap_of, batch_of};
+ghost use Rattle.wake_book.specs.Book.{IsTellerOf, steps_of, number_of, counted_by, cap_of, batch_of, Rebatches};
 ghost use Rattle.wake_book.specs.Charging.{IsCharge};
 ghost use Rattle.wake_book.specs.declared.steps.BookStep.TheVariants.{LookCompletions, LookWakeups, Add, Advance};
 
@@ -25,6 +25,14 @@ pub enum Charge {
 }
 
 impl Book {
+    /// The batch of later charges. Counts and intervals go on.
+    pub fn rebatch(&mut self, batch: u32)
+        requires { (1 ≤ batch) × (batch ≤ 8) }
+        ensures { Rebatches self.old self.new batch }
+    {
+        self.batch = batch;
+    }
+
     /// Counts 1 to 64 completions, and charges one batch where one is open. Others may count and charge meanwhile.
     pub fn count(&self, teller: &mut Teller, n: u32) -> Charge
         requires book { IsTellerOf self.now teller.old }
@@ -72,7 +80,9 @@ impl Book {
         ensures own { counted_by teller.old ≤ result }
         ensures above { (wakeups : ℕ) (before : List BookStep) → steps_of teller.old ≡ LookWakeups wakeups ∷ before → wakeups ≤ result }
     {
-        self.table.shared.load::<SeeCompletions>(&mut teller.seat, COMPLETIONS)
+        self.table
+            .shared
+            .load::<SeeCompletions>(&mut teller.seat, COMPLETIONS)
     }
 
     fn look_wakeups(&self, teller: &mut Teller) -> u64
@@ -81,7 +91,9 @@ impl Book {
         ensures same { (teller.new.count ≡ teller.old.count) × (teller.new.charges ≡ teller.old.charges) }
         ensures step { (steps_of teller.new ≡ LookWakeups result ∷ steps_of teller.old) × (result < 2 ^ 63) }
     {
-        self.table.shared.load::<SeeWakeups>(&mut teller.seat, WAKEUPS)
+        self.table
+            .shared
+            .load::<SeeWakeups>(&mut teller.seat, WAKEUPS)
     }
 
     fn add(&self, teller: &mut Teller, n: u64)
@@ -91,7 +103,9 @@ impl Book {
         ensures same { (teller.new.count ≡ teller.old.count + n) × (teller.new.charges ≡ teller.old.charges) }
         ensures step { (found : ℕ) × (steps_of teller.new ≡ Add n found ∷ steps_of teller.old) }
     {
-        self.table.shared.fetch_add::<CountSome>(&mut teller.seat, COMPLETIONS, n);
+        self.table
+            .shared
+            .fetch_add::<CountSome>(&mut teller.seat, COMPLETIONS, n);
         teller.count += n;
     }
 
@@ -106,7 +120,10 @@ impl Book {
         ensures won { IsTrue result → steps_of teller.new ≡ Advance start end start ∷ steps_of teller.old }
         ensures lost { IsFalse result → (teller.new.charges ≡ teller.old.charges) × (found : ℕ) × (found ≢ start) × (steps_of teller.new ≡ Advance start end found ∷ steps_of teller.old) }
     {
-        let found = self.table.shared.compare_exchange::<MoveOn>(&mut teller.seat, WAKEUPS, start, end);
+        let found = self
+            .table
+            .shared
+            .compare_exchange::<MoveOn>(&mut teller.seat, WAKEUPS, start, end);
         if found != start {
             return false;
         }

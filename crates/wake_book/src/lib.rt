@@ -2,11 +2,24 @@
 #![tactic(auto)]
 
 mod book;
+mod book_closing;
+mod book_opening;
 mod book_plays;
 mod charge;
 mod fault;
+mod group_plays;
+mod groups;
+mod groups_closing;
+mod groups_opening;
+mod sleeping;
 mod steps;
+mod waiting;
+mod walk;
 
 pub use book::{Book, BookTotals, Limits, Teller};
+pub use book_closing::BookGatherFault;
 pub use charge::Charge;
 pub use fault::{BookFault, GatherCause};
+pub use groups::{GroupTotals, Groups, Waiter};
+pub use groups_closing::GroupsGatherFault;
+pub use waiting::Left;

@@ -9,10 +9,12 @@ use Rattle.wake_book.proofs.BookKeeps as keeps
 use Rattle.wake_book.proofs.book.Book.advance.Goals as goal
 
 pub compare_exchange-found-requires : goal.compare_exchange-found-requires
-compare_exchange-found-requires c = let b = c.args.self.now in let t = c.args.teller.now in let w = b.wide.0 in let seen = c.requires.seen in
-    (c.requires.book, omega arith,
-    keeps.advance b.table.shared.key (subst (λ (z : Limits). z.tellers ≤ 64) (sym b.told) b.small.0) (subst (λ (z : Limits). z.cap ≤ 2 ^ 56) (sym b.told) b.small.1)
-    b.table.shared.table_id.slots t.seat.id t.seat.me _ (ap (λ z. z.0) t.knows) c.args.start c.args.end seen.0 seen.1 seen.2 c.requires.batch.0 c.requires.batch.1 seen.3)
+compare_exchange-found-requires c = let b = c.args.self.now in let t = c.args.teller.now in let w = b.wide.0 in let seen = c.requires.seen in (
+  c.requires.book,
+  omega arith,
+  keeps.advance b.table.shared.key (subst (λ (z : Limits). z.tellers ≤ 64) (sym b.told) b.small.0) (subst (λ (z : Limits). z.cap ≤ 2 ^ 56) (sym b.told) b.small.1)
+      b.table.shared.table_id.slots t.seat.id t.seat.me _ (ap (λ z. z.0) t.knows) c.args.start c.args.end seen.0 seen.1 seen.2 c.requires.batch.0 c.requires.batch.1 seen.3,
+)
 
 pub returns-then-found-start-clause-lost : goal.returns-then-found-start-clause-lost
 returns-then-found-start-clause-lost c _ = let t = c.args.teller.now in let did = c.compare_exchange-found.ensures.2 in

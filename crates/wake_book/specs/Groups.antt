@@ -1,0 +1,67 @@
+-- Words about wait groups and their waiters, for public clauses.
+use Rattle.std.specs.Prelude.{◌≡◌, ℕ, suc, ◌<◌, ◌≤◌, ◌⊎◌, List, All, map, Option, Some, None}
+use Rattle.step_ledger.specs.declared.record.Record.{Record}
+use Rattle.step_ledger.specs.Views as views
+use Rattle.step_ledger.specs.History.{total}
+use Rattle.wake_book.specs.declared.groups.Groups.{Groups}
+use Rattle.wake_book.specs.declared.groups.Waiter.{Waiter}
+use Rattle.wake_book.specs.declared.steps.GroupStep.{GroupStep}
+use Rattle.wake_book.specs.Waits.{moved_by}
+
+-- the waiter came from the opening of these groups
+abbrev pub IsWaiterOf : Groups → Waiter → Type 0
+IsWaiterOf groups waiter = waiter.seat.table_id ≡ groups.table.shared.table_id
+
+-- the waiter's own steps, newest first
+abbrev pub steps_of : Waiter → List GroupStep
+steps_of waiter = views.steps_of waiter.seat.me.0
+
+-- the waiter's number, from 0
+abbrev pub number_of : Waiter → ℕ
+number_of waiter = waiter.number
+
+-- the group in which the waiter stands
+abbrev pub standing_of : Waiter → Option ℕ
+standing_of waiter = waiter.standing
+
+-- the group in which the waiter stands next
+abbrev pub wait_index_of : Waiter → ℕ
+wait_index_of waiter = waiter.next
+
+-- how many the waiter moved to granted
+abbrev pub moved_of : Waiter → ℕ
+moved_of waiter = total moved_by (steps_of waiter)
+
+-- the waiter's number and steps
+abbrev pub record_of : Waiter → Record GroupStep
+record_of waiter = record { number = waiter.number; steps = steps_of waiter }
+
+abbrev pub records_of : List Waiter → List (Record GroupStep)
+records_of waiters = map record_of waiters
+
+abbrev pub numbers_of : List Waiter → List ℕ
+numbers_of waiters = map number_of waiters
+
+-- how many waiters the groups have
+abbrev pub waiters_of : Groups → ℕ
+waiters_of groups = groups.waiters
+
+-- it is the same waiter, and stands where it stood
+abbrev pub StandsAsBefore : Waiter → Waiter → Type 0
+StandsAsBefore old new = (number_of new ≡ number_of old) × (standing_of new ≡ standing_of old) × (wait_index_of new ≡ wait_index_of old)
+
+-- not 1 to 64 waiters
+abbrev pub MiscountsGroups : ℕ → Type 0
+MiscountsGroups waiters = (waiters < 1) ⊎ (64 < waiters)
+
+-- nobody stood yet
+abbrev pub IsNew : Waiter → Type 0
+IsNew waiter = (standing_of waiter ≡ None) × (wait_index_of waiter ≡ 0)
+
+-- new groups, whose waiters stand in the order of their numbers and have made no step
+pub record AreOpenGroups (waiters : ℕ) (groups : Groups) (all : List Waiter) : Type 0 where
+  pub count : (1 ≤ waiters) × (waiters ≤ 64)
+  pub waiters_are : waiters_of groups ≡ waiters
+  pub own : All (IsWaiterOf groups) all
+  pub new : All IsNew all
+  pub fresh_all : records_of all ≡ views.fresh 0 waiters
