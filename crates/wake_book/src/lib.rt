@@ -13,6 +13,8 @@ mod groups_closing;
 mod groups_opening;
 mod sleeping;
 mod steps;
+#[cfg(test)]
+mod tests;
 mod waiting;
 mod walk;
 

@@ -1,0 +1,4 @@
+//! Worked examples, threads that wait and wake, and refusals.
+mod book;
+mod groups;
+mod threads;
