@@ -9,10 +9,12 @@ use Rattle.step_ledger.specs.History.{own_steps, words_of, Lawful}
 
 -- each member's record stands in some view
 abbrev pub Everyone : {T : Type 0} → ℕ → List (View T) → (ℕ → ℕ) → (ℕ → ℕ) → Type 0
-Everyone {T} n views seat position = (c : ℕ) → c < n → (v : View T) × (r : Record T) × (get_elem? views (seat c) ≡ some v) × (get_elem? v.records.value (position c) ≡ some r) × (r.number ≡ c)
+Everyone {T} n views seat position = (c : ℕ) → c < n → (v : View T) × (r : Record T)
+    × (get_elem? views (seat c) ≡ some v) × (get_elem? v.records.value (position c) ≡ some r) × (r.number ≡ c)
 
 -- some lawful history leaves the words, and each of n members has its own steps of it in one record
-pub record Ledger {S T : Type 0} (n : ℕ) (start : List ℕ) (after : T → List ℕ → List ℕ) (MayStep : ℕ → T → List (ℕ × T) → Type 0) (s : State S (View T)) : Type 0 where
+pub record Ledger {S T : Type 0} (n : ℕ) (start : List ℕ) (after : T → List ℕ → List ℕ) (MayStep : ℕ → T → List (ℕ × T) → Type 0)
+    (s : State S (View T)) : Type 0 where
   pub history : List (ℕ × T)
   pub lawful : Lawful n MayStep history
   pub words_are : s.words ≡ words_of start after history

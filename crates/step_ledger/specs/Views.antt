@@ -1,5 +1,5 @@
 -- What a seat knows: the records that stand with it, and how they pass to another seat.
-use Rattle.std.specs.Prelude.{◌≡◌, ℕ, zero, suc, ◌+◌, ◌<◌, List, [], ◌∷◌, ◌++◌, map}
+use Rattle.std.specs.Prelude.{◌≡◌, ℕ, zero, suc, ◌+◌, ◌-◌, ◌<◌, List, [], ◌∷◌, ◌++◌, map}
 use mathlib.Core.Option.{some}
 use lib.ListN.{get_elem?}
 use Rattle.atomic_table.specs.Table.{Me}
@@ -36,6 +36,7 @@ module _ {T : Type 0} where
   abbrev pub with_step : T → Record T → Record T
   with_step x r = record { number = r.number; steps = x ∷ r.steps }
 
+  -- one more step of the first of these
   abbrev pub push_first : T → List (Record T) → List (Record T)
   push_first x [] = []
   push_first x (r ∷ rs) = with_step x r ∷ rs
@@ -61,10 +62,12 @@ module _ {T : Type 0} where
   fresh c zero = []
   fresh c (suc n) = fresh_record c ∷ fresh (suc c) n
 
+  -- the first of these alone
   abbrev pub first_of : List (Record T) → List (Record T)
   first_of [] = []
   first_of (r ∷ rs) = r ∷ []
 
+  -- all but the first
   abbrev pub rest_of : List (Record T) → List (Record T)
   rest_of [] = []
   rest_of (r ∷ rs) = rs
@@ -89,6 +92,14 @@ module _ {T : Type 0} where
   abbrev pub sum_over : (List T → ℕ) → List (Record T) → ℕ
   sum_over f [] = 0
   sum_over f (r ∷ rs) = f r.steps + sum_over f rs
+
+  -- what the seat knows from which members are handed out, once those below the number are
+  abbrev pub still_to_come : ℕ → ℕ → View T
+  still_to_come number n = viewing (fresh number (n - number))
+
+  -- the records are those of n members, which were taken off the end of a list
+  abbrev pub AreAll : ℕ → List (Record T) → List (Record T) → Type 0
+  AreAll n members records = (records ≡ turned members) × HasAll (numbers members) n
 
   -- what a seat that just stepped knows
   abbrev pub Stepped : {S : Type 0} → T → Me S (View T) → Me S (View T) → Type 0

@@ -1,5 +1,5 @@
 -- Words about a book and its tellers, for public clauses.
-use Rattle.std.specs.Prelude.{◌≡◌, ℕ, ◌^◌, ◌<◌, ◌≤◌, ◌⊎◌, List, All, map}
+use Rattle.std.specs.Prelude.{◌≡◌, ℕ, ◌≢◌, ◌^◌, ◌<◌, ◌≤◌, ◌⊎◌, List, ◌∷◌, All, map}
 use Rattle.step_ledger.specs.declared.record.Record.{Record}
 use Rattle.step_ledger.specs.Views as views
 use Rattle.step_ledger.specs.History.{total}
@@ -7,6 +7,7 @@ use Rattle.wake_book.specs.declared.book.Book.{Book}
 use Rattle.wake_book.specs.declared.book.Limits.{Limits}
 use Rattle.wake_book.specs.declared.book.Teller.{Teller}
 use Rattle.wake_book.specs.declared.steps.BookStep.{BookStep}
+use Rattle.wake_book.specs.declared.steps.BookStep.TheVariants.{LookCompletions, Advance}
 use Rattle.wake_book.specs.Charges.{added}
 
 -- the teller came from the book's opening
@@ -29,9 +30,11 @@ counted_by teller = total added (steps_of teller)
 abbrev pub record_of : Teller → Record BookStep
 record_of teller = record { number = teller.number; steps = steps_of teller }
 
+-- those of several tellers
 abbrev pub records_of : List Teller → List (Record BookStep)
 records_of tellers = map record_of tellers
 
+-- the numbers of several tellers
 abbrev pub numbers_of : List Teller → List ℕ
 numbers_of tellers = map number_of tellers
 
@@ -50,6 +53,14 @@ cap_of book = book.limits.cap
 -- how many completions one charge takes
 abbrev pub batch_of : Book → ℕ
 batch_of book = book.batch
+
+-- the teller just looked, and found at least this many completions
+abbrev pub JustSaw : Teller → ℕ → Type 0
+JustSaw teller most = (completions : ℕ) × (before : List BookStep) × (steps_of teller ≡ LookCompletions completions ∷ before) × (most ≤ completions)
+
+-- the teller's exchange of the wakeups found another count than it expected
+abbrev pub LosesAdvance : ℕ → ℕ → Teller → Teller → Type 0
+LosesAdvance start end old new = (found : ℕ) × (found ≢ start) × (steps_of new ≡ Advance start end found ∷ steps_of old)
 
 -- the book is changed in its batch alone
 pub record Rebatches (old new : Book) (batch : ℕ) : Type 0 where

@@ -44,6 +44,7 @@ added (LookWakeups found) = 0
 added (Add n found) = n
 added (Advance start end found) = 0
 
+-- 1 where the test holds
 abbrev pub one_if : Bool → ℕ
 one_if true = 1
 one_if false = 0
@@ -79,15 +80,19 @@ all_fresh k = viewing (fresh 0 k.tellers)
 
 -- what each kind of step tells
 module _ {S : Type 0} where
+  -- the completions are at least what the teller counted, and the wakeups that it just found
   abbrev pub looked_completions : table.Step S → Me S (View BookStep) → ℕ → Me S (View BookStep) → Type 0
   looked_completions step m found m' = Stepped (LookCompletions found) m m' × (found < 2 ^ 63) × (total added (steps_of m.0) ≤ found)
       × ((wakeups : ℕ) (before : List BookStep) → steps_of m.0 ≡ LookWakeups wakeups ∷ before → wakeups ≤ found)
 
+  -- the wakeups are found
   abbrev pub looked_wakeups : table.Step S → Me S (View BookStep) → ℕ → Me S (View BookStep) → Type 0
   looked_wakeups step m found m' = Stepped (LookWakeups found) m m' × (found < 2 ^ 63)
 
+  -- completions are counted
   abbrev pub adding : table.Step S → Me S (View BookStep) → ℕ → Me S (View BookStep) → Type 0
   adding step m found m' = Stepped (Add step.first found) m m'
 
+  -- the wakeups move on, where they are what was expected
   abbrev pub advancing : table.Step S → Me S (View BookStep) → ℕ → Me S (View BookStep) → Type 0
   advancing step m found m' = Stepped (Advance step.first step.second found) m m'

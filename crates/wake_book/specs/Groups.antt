@@ -1,11 +1,12 @@
 -- Words about wait groups and their waiters, for public clauses.
-use Rattle.std.specs.Prelude.{◌≡◌, ℕ, suc, ◌<◌, ◌≤◌, ◌⊎◌, List, All, map, Option, Some, None}
+use Rattle.std.specs.Prelude.{◌≡◌, ◌≢◌, ℕ, ◌+◌, ◌<◌, ◌≤◌, ◌⊎◌, List, ◌∷◌, All, map, Option, Some, None}
 use Rattle.step_ledger.specs.declared.record.Record.{Record}
 use Rattle.step_ledger.specs.Views as views
 use Rattle.step_ledger.specs.History.{total}
 use Rattle.wake_book.specs.declared.groups.Groups.{Groups}
 use Rattle.wake_book.specs.declared.groups.Waiter.{Waiter}
 use Rattle.wake_book.specs.declared.steps.GroupStep.{GroupStep}
+use Rattle.wake_book.specs.declared.steps.GroupStep.TheVariants.{Lower}
 use Rattle.wake_book.specs.Waits.{moved_by}
 
 -- the waiter came from the opening of these groups
@@ -36,9 +37,11 @@ moved_of waiter = total moved_by (steps_of waiter)
 abbrev pub record_of : Waiter → Record GroupStep
 record_of waiter = record { number = waiter.number; steps = steps_of waiter }
 
+-- those of several waiters
 abbrev pub records_of : List Waiter → List (Record GroupStep)
 records_of waiters = map record_of waiters
 
+-- the numbers of several waiters
 abbrev pub numbers_of : List Waiter → List ℕ
 numbers_of waiters = map number_of waiters
 
@@ -49,6 +52,22 @@ waiters_of groups = groups.waiters
 -- it is the same waiter, and stands where it stood
 abbrev pub StandsAsBefore : Waiter → Waiter → Type 0
 StandsAsBefore old new = (number_of new ≡ number_of old) × (standing_of new ≡ standing_of old) × (wait_index_of new ≡ wait_index_of old)
+
+-- it is the same waiter, and stands next where it would have
+abbrev pub SameWaiter : Waiter → Waiter → Type 0
+SameWaiter old new = (number_of new ≡ number_of old) × (wait_index_of new ≡ wait_index_of old)
+
+-- the waiter stands nowhere, and made this step and then lowered the active count
+abbrev pub LeavesBy : GroupStep → Waiter → Waiter → Type 0
+LeavesBy step old new = (standing_of new ≡ None) × (active : ℕ) × (steps_of new ≡ Lower active ∷ step ∷ steps_of old)
+
+-- the waiter's exchange, by the step that it would be of what is seen, found another word than it expected
+abbrev pub Loses : ℕ → (ℕ → GroupStep) → Waiter → Waiter → Type 0
+Loses expected step old new = (seen : ℕ) × (seen ≢ expected) × (steps_of new ≡ step seen ∷ steps_of old)
+
+-- the waiter's moves went up by the count
+abbrev pub MovesMore : ℕ → Waiter → Waiter → Type 0
+MovesMore count old new = new.moved ≡ old.moved + count
 
 -- not 1 to 64 waiters
 abbrev pub MiscountsGroups : ℕ → Type 0

@@ -8,3 +8,4 @@ pub mod Stands
 pub mod Walks
 pub mod Balance
 pub mod Groups
+pub mod Gather

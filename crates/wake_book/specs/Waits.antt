@@ -92,7 +92,8 @@ MayStep c (Look place found) h = found ≡ slice_index (words_in h) place
 MayStep c (Raise found) h = (found ≡ slice_index (words_in h) 72) × (raised (own_steps c h) ≡ 0)
 MayStep c (Lower found) h = (found ≡ slice_index (words_in h) 72) × (raised (own_steps c h) ≡ 1) × (stand (own_steps c h) ≡ 0)
 MayStep c (Enter g found) h = (found ≡ word (words_in h) g) × (g < 8) × (raised (own_steps c h) ≡ 1) × (stand (own_steps c h) ≡ 0)
-MayStep c (Grant g expected count found) h = (found ≡ word (words_in h) g) × (g < 8) × (count ≤ waiting expected) × (total moved_by (own_steps c h) + count ≤ 2 ^ 56)
+MayStep c (Grant g expected count found) h = (found ≡ word (words_in h) g) × (g < 8) × (count ≤ waiting expected)
+    × (total moved_by (own_steps c h) + count ≤ 2 ^ 56)
 MayStep c (Use g expected found) h = (found ≡ word (words_in h) g) × (g < 8) × (0 < granted expected) × (stand (own_steps c h) ≡ suc g)
 MayStep c (Withdraw g expected found) h = (found ≡ word (words_in h) g) × (g < 8) × (granted expected ≡ 0) × (stand (own_steps c h) ≡ suc g)
 MayStep c (Store index) h = index < 8

@@ -1,13 +1,13 @@
 //! All tellers come together, and the book ends.
-ghost use Rattle.std.specs.Prelude.{◌≡◌, ℕ, ◌-◌, ◌^◌, ◌<◌, List, [], ◌∷◌, ◌++◌, All, IfOk, IfErr, IsOk, IsTrue, MatchOption, ◌↔◌, min};
+ghost use Rattle.std.specs.Prelude.{◌≡◌, ◌-◌, ◌^◌, ◌↔◌, List, [], ◌∷◌, ◌++◌, All, IfOk, IfErr, IsOk, IsTrue, MatchOption, min};
 ghost use Rattle.std.specs.Slots.{slots_len};
-ghost use Rattle.step_ledger.specs.Views.{Has, HasAll, IsLeastMissing, numbers, turned, sum_over};
+ghost use Rattle.step_ledger.specs.Views.{Has, HasAll, IsLeastMissing, turned, AreAll, sum_over};
 ghost use Rattle.step_ledger.specs.History.{total};
 ghost use Rattle.step_ledger.specs.declared.record.Record.{Record};
 ghost use Rattle.wake_book.specs.Charges.{charged};
+ghost use Rattle.wake_book.specs.Gather.{IsCauseOf};
 ghost use Rattle.wake_book.specs.Book.{IsTellerOf, record_of, records_of, numbers_of, tellers_of, limits_of};
 ghost use Rattle.wake_book.specs.Booked.{IsBooked};
-ghost use Rattle.wake_book.specs.declared.fault.GatherCause.TheVariants.{Missing};
 
 use crate::book::{Book, BookTotals, COMPLETIONS, Teller, WAKEUPS};
 use crate::fault::GatherCause;
@@ -41,7 +41,7 @@ impl Book {
         requires { All (IsTellerOf book) tellers.items }
         ensures ok { IfOk result (λ totals. IsBooked (limits_of book) (records_of tellers.items) totals) }
         ensures succeeds { HasAll (numbers_of tellers.items) (tellers_of book) → IsOk result }
-        ensures missing { IfErr result (λ fault. (number : ℕ) × (fault.cause ≡ Missing number) × IsLeastMissing (numbers_of tellers.items) (tellers_of book) number) }
+        ensures missing { IfErr result (λ fault. IsCauseOf (numbers_of tellers.items) (tellers_of book) fault.cause) }
         ensures err { IfErr result (λ fault. (fault.book ≡ book) × (fault.tellers ≡ tellers)) }
     {
         if let Some(number) = least_missing(tellers.as_slice(), book.limits.tellers) {
@@ -59,7 +59,8 @@ impl Book {
     fn collect(&self, mut tellers: Vec<Teller>) -> Collected
         requires own { All (IsTellerOf self.now) tellers.items }
         requires some { Has (numbers_of tellers.items) 0 }
-        ensures { (result.seat.table_id ≡ self.now.table.shared.table_id) × (result.seat.me.0.records.value ≡ turned (records_of tellers.items)) }
+        ensures seat { result.seat.table_id ≡ self.now.table.shared.table_id }
+        ensures records { result.seat.me.0.records.value ≡ turned (records_of tellers.items) }
     {
         let Some(last) = tellers.pop() else {
             unreachable!()
@@ -73,8 +74,10 @@ impl Book {
     }
 
     fn unite(&self, all: &mut Collected, other: Collected)
-        requires { (all.old.seat.table_id ≡ self.now.table.shared.table_id) × (other.seat.table_id ≡ self.now.table.shared.table_id) }
-        ensures { (all.new.seat.table_id ≡ all.old.seat.table_id) × (all.new.seat.me.0.records.value ≡ all.old.seat.me.0.records.value ++ other.seat.me.0.records.value) }
+        requires all { all.old.seat.table_id ≡ self.now.table.shared.table_id }
+        requires other { other.seat.table_id ≡ self.now.table.shared.table_id }
+        ensures seat { all.new.seat.table_id ≡ all.old.seat.table_id }
+        ensures records { all.new.seat.me.0.records.value ≡ all.old.seat.me.0.records.value ++ other.seat.me.0.records.value }
     {
         let Collected { seat, charges } = other;
         self.table.shared.join_seat::<Collect>(&mut all.seat, seat);
@@ -83,7 +86,7 @@ impl Book {
 
     fn close(self, all: Collected) -> BookTotals
         requires { all.seat.table_id ≡ self.table.shared.table_id }
-        ensures { (tellers : List (Record BookStep)) → all.seat.me.0.records.value ≡ turned tellers → HasAll (numbers tellers) (tellers_of self) → IsBooked (limits_of self) tellers result }
+        ensures { (tellers : List (Record BookStep)) → AreAll (tellers_of self) tellers all.seat.me.0.records.value → IsBooked (limits_of self) tellers result }
     {
         let Book {
             table,
@@ -104,7 +107,8 @@ impl Book {
 }
 
 fn retire(teller: Teller) -> Collected
-    ensures { (result.seat.table_id ≡ teller.seat.table_id) × (result.seat.me.0.records.value ≡ record_of teller ∷ []) }
+    ensures seat { result.seat.table_id ≡ teller.seat.table_id }
+    ensures records { result.seat.me.0.records.value ≡ record_of teller ∷ [] }
 {
     let Teller {
         seat,

@@ -1,8 +1,8 @@
 //! A new book, and its tellers.
-ghost use Rattle.std.specs.Prelude.{◌≡◌, ℕ, ◌+◌, ◌-◌, ◌^◌, ◌<◌, ◌≤◌, ◌↔◌, ◌⊎◌, [], ◌∷◌, All, IfOk};
-ghost use Rattle.step_ledger.specs.Views.{viewing, fresh, fresh_record};
+ghost use Rattle.std.specs.Prelude.{◌≡◌, ℕ, ◌+◌, ◌^◌, ◌<◌, ◌≤◌, ◌↔◌, ◌⊎◌, [], ◌∷◌, All, IfOk};
+ghost use Rattle.step_ledger.specs.Views.{fresh, fresh_record, still_to_come};
 ghost use Rattle.wake_book.specs.Charges.{all_fresh};
-ghost use Rattle.wake_book.specs.Book.{IsTellerOf, record_of, records_of, IsOpenBook, MiscountsBook};
+ghost use Rattle.wake_book.specs.Book.{IsTellerOf, record_of, records_of, tellers_of, IsOpenBook, MiscountsBook};
 
 use crate::book::{Book, Limits, Teller};
 use crate::fault::BookFault;
@@ -68,7 +68,8 @@ impl Book {
         mut rest: Seat<(), View<BookStep>>,
     ) -> Result<Vec<Teller>, AllocError>
         requires { (rest.table_id ≡ self.now.table.shared.table_id) × (rest.me ≡ (all_fresh self.now.limits, [])) }
-        ensures { IfOk result (λ tellers. All (IsTellerOf self.now) tellers.items × (records_of tellers.items ≡ fresh 0 self.now.limits.tellers)) }
+        ensures own { IfOk result (λ tellers. All (IsTellerOf self.now) tellers.items) }
+        ensures fresh_all { IfOk result (λ tellers. records_of tellers.items ≡ fresh 0 (tellers_of self.now)) }
     {
         let mut tellers = Vec::new(alloc);
         for number in 0..self.limits.tellers {
@@ -81,9 +82,10 @@ impl Book {
     // The next teller, from the seat with the records of all that are still to come.
     fn new_teller(&self, rest: &mut Seat<(), View<BookStep>>, number: u32) -> Teller
         requires comes { (number < self.now.limits.tellers) × (rest.old.table_id ≡ self.now.table.shared.table_id) }
-        requires knows { rest.old.me ≡ (viewing (fresh number (self.now.limits.tellers - number)), []) }
+        requires knows { rest.old.me ≡ (still_to_come number (tellers_of self.now), []) }
         ensures teller { IsTellerOf self.now result × (record_of result ≡ fresh_record number) }
-        ensures rest { (rest.new.table_id ≡ rest.old.table_id) × (rest.new.me ≡ (viewing (fresh (number + 1) (self.now.limits.tellers - (number + 1))), [])) }
+        ensures rest { rest.new.table_id ≡ rest.old.table_id }
+        ensures knows { rest.new.me ≡ (still_to_come (number + 1) (tellers_of self.now), []) }
     {
         let seat = self.table.shared.split_seat::<HandOut>(rest);
         Teller {

@@ -1,6 +1,6 @@
 //! Counting completions, and charging a batch where one is open.
 ghost use Rattle.std.specs.Prelude.{◌≡◌, ◌≢◌, ℕ, ◌+◌, ◌^◌, ◌<◌, ◌≤◌, ◌↔◌, List, ◌∷◌, length, IsTrue, IsFalse};
-ghost use Rattle.wake_book.specs.Book.{IsTellerOf, steps_of, number_of, counted_by, cap_of, batch_of, Rebatches};
+ghost use Rattle.wake_book.specs.Book.{IsTellerOf, steps_of, number_of, counted_by, cap_of, batch_of, JustSaw, LosesAdvance, Rebatches};
 ghost use Rattle.wake_book.specs.Charging.{IsCharge};
 ghost use Rattle.wake_book.specs.declared.steps.BookStep.TheVariants.{LookCompletions, LookWakeups, Add, Advance};
 
@@ -113,12 +113,12 @@ impl Book {
     fn advance(&self, teller: &mut Teller, start: u64, end: u64) -> bool
         requires book { IsTellerOf self.now teller.old }
         requires batch { (start < end) × (end ≤ start + 8) }
-        requires seen { (completions : ℕ) × (before : List BookStep) × (steps_of teller.old ≡ LookCompletions completions ∷ before) × (end ≤ completions) }
+        requires seen { JustSaw teller.old end }
         requires room { teller.old.charges < teller.old.count }
         ensures book { IsTellerOf self.now teller.new × (number_of teller.new ≡ number_of teller.old) }
         ensures same { teller.new.count ≡ teller.old.count }
         ensures won { IsTrue result → steps_of teller.new ≡ Advance start end start ∷ steps_of teller.old }
-        ensures lost { IsFalse result → (teller.new.charges ≡ teller.old.charges) × (found : ℕ) × (found ≢ start) × (steps_of teller.new ≡ Advance start end found ∷ steps_of teller.old) }
+        ensures lost { IsFalse result → (teller.new.charges ≡ teller.old.charges) × LosesAdvance start end teller.old teller.new }
     {
         let found = self
             .table

@@ -1,5 +1,6 @@
 //! What each kind of step on the groups tells. These types are for the proofs alone.
-ghost use Rattle.wake_book.specs.WaitPlays.{looked_active, looked_index, looked_group, raising, lowering, entering, granting, using, withdrawing, storing};
+ghost use Rattle.wake_book.specs.WaitPlays.{looked_active, looked_index, looked_group, raising, lowering};
+ghost use Rattle.wake_book.specs.WaitPlays.{entering, granting, using, withdrawing, storing};
 
 use crate::steps::GroupStep;
 use atomic_table::Play;

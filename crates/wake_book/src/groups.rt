@@ -1,9 +1,9 @@
 //! The wait groups: eight counts of those who wait and of those who are granted leave, and how many are active.
-ghost use Rattle.std.specs.Prelude.{◌≡◌, ℕ, suc, ◌^◌, ◌<◌, ◌≤◌, List, [], min};
+ghost use Rattle.std.specs.Prelude.{◌≡◌, ◌^◌, ◌<◌, ◌≤◌, []};
 ghost use Rattle.step_ledger.specs.Views.{alone, steps_of};
 ghost use Rattle.step_ledger.specs.History.{total};
-ghost use Rattle.wake_book.specs.Waits.{all_fresh, group_at, raised, stand, moved_by};
-ghost use Rattle.wake_book.specs.Stands.{stand_code};
+ghost use Rattle.wake_book.specs.Waits.{all_fresh, group_at, moved_by};
+ghost use Rattle.wake_book.specs.Stands.{StandsSo};
 
 use crate::steps::GroupStep;
 use atomic_table::{Seat, Table, TableRule};
@@ -62,7 +62,7 @@ pub struct Waiter {
     /// How many it moved to granted, at most 2^56.
     pub(crate) moved: u64,
     ghost knows: { seat.me ≡ (alone (record { number = number; steps = steps_of seat.me.0 }), []) },
-    ghost stands: { (stand_code standing ≡ stand (steps_of seat.me.0)) × (raised (steps_of seat.me.0) ≡ min 1 (stand_code standing)) × (stand_code standing ≤ 8) },
+    ghost stands: { StandsSo standing (steps_of seat.me.0) },
     ghost within: { next < 8 },
     ghost moves: { (moved ≡ total moved_by (steps_of seat.me.0)) × (moved ≤ 2 ^ 56) },
 }

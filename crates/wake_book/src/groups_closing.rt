@@ -1,13 +1,13 @@
 //! All waiters come together, and the groups end.
-ghost use Rattle.std.specs.Prelude.{◌≡◌, ℕ, ◌+◌, ◌-◌, ◌*◌, ◌^◌, ◌<◌, ◌≤◌, List, [], ◌∷◌, ◌++◌, All, IfOk, IfErr, IsOk, IsTrue, MatchOption, ◌↔◌, min, slice_index};
+ghost use Rattle.std.specs.Prelude.{◌≡◌, ◌-◌, ◌^◌, ◌↔◌, List, [], ◌∷◌, ◌++◌, All, IfOk, IfErr, IsOk, IsTrue, MatchOption, min};
 ghost use Rattle.std.specs.Slots.{slots_len, slots_items, IsFull};
-ghost use Rattle.step_ledger.specs.Views.{Has, HasAll, IsLeastMissing, numbers, turned, sum_over};
+ghost use Rattle.step_ledger.specs.Views.{Has, HasAll, IsLeastMissing, turned, AreAll, sum_over};
 ghost use Rattle.step_ledger.specs.History.{total, sum_to};
 ghost use Rattle.step_ledger.specs.declared.record.Record.{Record};
 ghost use Rattle.wake_book.specs.Waits.{moved_by, granted, waiting, word};
+ghost use Rattle.wake_book.specs.Gather.{IsCauseOf};
 ghost use Rattle.wake_book.specs.Groups.{IsWaiterOf, record_of, records_of, numbers_of, waiters_of};
 ghost use Rattle.wake_book.specs.Balance.{IsBalanced};
-ghost use Rattle.wake_book.specs.declared.fault.GatherCause.TheVariants.{Missing};
 
 use crate::fault::GatherCause;
 use crate::groups::{GROUPS, GroupTotals, Groups, WAITING, Waiter, place_of};
@@ -41,7 +41,7 @@ impl Groups {
         requires { All (IsWaiterOf groups) waiters.items }
         ensures ok { IfOk result (λ totals. IsBalanced (waiters_of groups) (records_of waiters.items) totals) }
         ensures succeeds { HasAll (numbers_of waiters.items) (waiters_of groups) → IsOk result }
-        ensures missing { IfErr result (λ fault. (number : ℕ) × (fault.cause ≡ Missing number) × IsLeastMissing (numbers_of waiters.items) (waiters_of groups) number) }
+        ensures missing { IfErr result (λ fault. IsCauseOf (numbers_of waiters.items) (waiters_of groups) fault.cause) }
         ensures err { IfErr result (λ fault. (fault.groups ≡ groups) × (fault.waiters ≡ waiters)) }
     {
         if let Some(number) = least_missing(waiters.as_slice(), groups.waiters) {
@@ -59,7 +59,8 @@ impl Groups {
     fn collect(&self, mut waiters: Vec<Waiter>) -> Gathering
         requires own { All (IsWaiterOf self.now) waiters.items }
         requires some { Has (numbers_of waiters.items) 0 }
-        ensures { (result.seat.table_id ≡ self.now.table.shared.table_id) × (result.seat.me.0.records.value ≡ turned (records_of waiters.items)) }
+        ensures seat { result.seat.table_id ≡ self.now.table.shared.table_id }
+        ensures records { result.seat.me.0.records.value ≡ turned (records_of waiters.items) }
     {
         let Some(last) = waiters.pop() else {
             unreachable!()
@@ -73,8 +74,10 @@ impl Groups {
     }
 
     fn unite(&self, all: &mut Gathering, other: Gathering)
-        requires { (all.old.seat.table_id ≡ self.now.table.shared.table_id) × (other.seat.table_id ≡ self.now.table.shared.table_id) }
-        ensures { (all.new.seat.table_id ≡ all.old.seat.table_id) × (all.new.seat.me.0.records.value ≡ all.old.seat.me.0.records.value ++ other.seat.me.0.records.value) }
+        requires all { all.old.seat.table_id ≡ self.now.table.shared.table_id }
+        requires other { other.seat.table_id ≡ self.now.table.shared.table_id }
+        ensures seat { all.new.seat.table_id ≡ all.old.seat.table_id }
+        ensures records { all.new.seat.me.0.records.value ≡ all.old.seat.me.0.records.value ++ other.seat.me.0.records.value }
     {
         let Gathering { seat, moved } = other;
         self.table.shared.join_seat::<Collect>(&mut all.seat, seat);
@@ -83,8 +86,8 @@ impl Groups {
 
     fn close(self, all: Gathering) -> GroupTotals
         requires own { all.seat.table_id ≡ self.table.shared.table_id }
-        requires all { (waiters : List (Record GroupStep)) × (all.seat.me.0.records.value ≡ turned waiters) × HasAll (numbers waiters) (waiters_of self) }
-        ensures { (waiters : List (Record GroupStep)) → all.seat.me.0.records.value ≡ turned waiters → HasAll (numbers waiters) (waiters_of self) → IsBalanced (waiters_of self) waiters result }
+        requires all { (waiters : List (Record GroupStep)) × AreAll (waiters_of self) waiters all.seat.me.0.records.value }
+        ensures { (waiters : List (Record GroupStep)) → AreAll (waiters_of self) waiters all.seat.me.0.records.value → IsBalanced (waiters_of self) waiters result }
     {
         let Groups {
             table,
@@ -105,7 +108,8 @@ impl Groups {
 }
 
 fn retire(waiter: Waiter) -> Gathering
-    ensures { (result.seat.table_id ≡ waiter.seat.table_id) × (result.seat.me.0.records.value ≡ record_of waiter ∷ []) }
+    ensures seat { result.seat.table_id ≡ waiter.seat.table_id }
+    ensures records { result.seat.me.0.records.value ≡ record_of waiter ∷ [] }
 {
     let Waiter {
         seat,
@@ -120,7 +124,8 @@ fn retire(waiter: Waiter) -> Gathering
 // The granted and the waiting of all groups.
 fn counts_of(closed: &Closed<(), Global>) -> (u64, u64)
     requires { IsFull closed.now.words × (slots_len closed.now.words ≡ 88) }
-    ensures { (result.0 ≡ sum_to (λ g. granted (word (slots_items closed.now.words) g)) 8) × (result.1 ≡ sum_to (λ g. waiting (word (slots_items closed.now.words) g)) 8) }
+    ensures granted { result.0 ≡ sum_to (λ g. granted (word (slots_items closed.now.words) g)) 8 }
+    ensures waiting { result.1 ≡ sum_to (λ g. waiting (word (slots_items closed.now.words) g)) 8 }
 {
     let mut granted = 0u64;
     let mut waiting = 0u64;

@@ -1,8 +1,8 @@
 //! New groups, and their waiters.
-ghost use Rattle.std.specs.Prelude.{◌≡◌, ◌≢◌, ℕ, ◌+◌, ◌-◌, ◌<◌, ◌≤◌, ◌↔◌, ◌⊎◌, [], ◌∷◌, All, IfOk};
-ghost use Rattle.step_ledger.specs.Views.{viewing, fresh, fresh_record};
+ghost use Rattle.std.specs.Prelude.{◌≡◌, ◌≢◌, ℕ, ◌+◌, ◌<◌, ◌≤◌, ◌↔◌, ◌⊎◌, [], ◌∷◌, All, IfOk};
+ghost use Rattle.step_ledger.specs.Views.{fresh, fresh_record, still_to_come};
 ghost use Rattle.wake_book.specs.Waits.{all_fresh};
-ghost use Rattle.wake_book.specs.Groups.{IsWaiterOf, IsNew, record_of, records_of, AreOpenGroups, MiscountsGroups};
+ghost use Rattle.wake_book.specs.Groups.{IsWaiterOf, IsNew, record_of, records_of, waiters_of, AreOpenGroups, MiscountsGroups};
 
 use crate::fault::BookFault;
 use crate::groups::{Groups, Waiter};
@@ -64,7 +64,8 @@ impl Groups {
         mut rest: Seat<(), View<GroupStep>>,
     ) -> Result<Vec<Waiter>, AllocError>
         requires { (rest.table_id ≡ self.now.table.shared.table_id) × (rest.me ≡ (all_fresh self.now.waiters, [])) }
-        ensures { IfOk result (λ all. All (IsWaiterOf self.now) all.items × All IsNew all.items × (records_of all.items ≡ fresh 0 self.now.waiters)) }
+        ensures own { IfOk result (λ all. All (IsWaiterOf self.now) all.items × All IsNew all.items) }
+        ensures fresh_all { IfOk result (λ all. records_of all.items ≡ fresh 0 (waiters_of self.now)) }
     {
         let mut all = Vec::new(alloc);
         for number in 0..self.waiters {
@@ -77,9 +78,10 @@ impl Groups {
     // The next waiter, from the seat with the records of all that are still to come.
     fn new_waiter(&self, rest: &mut Seat<(), View<GroupStep>>, number: u32) -> Waiter
         requires comes { (number < self.now.waiters) × (rest.old.table_id ≡ self.now.table.shared.table_id) }
-        requires knows { rest.old.me ≡ (viewing (fresh number (self.now.waiters - number)), []) }
+        requires knows { rest.old.me ≡ (still_to_come number (waiters_of self.now), []) }
         ensures waiter { IsWaiterOf self.now result × IsNew result × (record_of result ≡ fresh_record number) }
-        ensures rest { (rest.new.table_id ≡ rest.old.table_id) × (rest.new.me ≡ (viewing (fresh (number + 1) (self.now.waiters - (number + 1))), [])) }
+        ensures rest { rest.new.table_id ≡ rest.old.table_id }
+        ensures knows { rest.new.me ≡ (still_to_come (number + 1) (waiters_of self.now), []) }
     {
         let seat = self.table.shared.split_seat::<HandOut>(rest);
         Waiter {

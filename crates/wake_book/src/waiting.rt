@@ -1,10 +1,9 @@
 //! How a waiter comes, looks, and goes.
-ghost use Rattle.std.specs.Prelude.{◌≡◌, ◌≢◌, ℕ, suc, ◌+◌, ◌*◌, ◌%◌, ◌<◌, ◌≤◌, List, ◌∷◌, length, IsTrue, IsFalse, Some, None, IsSome};
+ghost use Rattle.std.specs.Prelude.{◌≡◌, ℕ, ◌+◌, ◌%◌, ◌<◌, ◌≤◌, ◌∷◌, length, IsTrue, IsFalse, Some, None, IsSome};
 ghost use Rattle.wake_book.specs.Waits.{group_at, granted, waiting};
 ghost use Rattle.wake_book.specs.Walks.{IsLeave};
-ghost use Rattle.wake_book.specs.Stands.{stand_code};
-ghost use Rattle.wake_book.specs.Groups.{IsWaiterOf, steps_of, number_of, standing_of, wait_index_of, StandsAsBefore};
-ghost use Rattle.wake_book.specs.declared.steps.GroupStep.TheVariants.{Look, Raise, Lower, Enter, Use, Withdraw};
+ghost use Rattle.wake_book.specs.Groups.{IsWaiterOf, steps_of, number_of, standing_of, wait_index_of, StandsAsBefore, SameWaiter, LeavesBy, Loses};
+ghost use Rattle.wake_book.specs.declared.steps.GroupStep.TheVariants.{Look, Raise, Enter, Use, Withdraw};
 
 use crate::group_plays::{
     EnterGroup, LowerActive, RaiseActive, SeeActive, SeeGroup, SeeIndex, UseGrant, WithdrawOne,
@@ -48,7 +47,8 @@ impl Groups {
     pub fn standing(waiter: &Waiter) -> Option<u32>
         ensures { result ≡ standing_of waiter.now }
     {
-        waiter.standing
+        let Waiter { standing, .. } = waiter;
+        *standing
     }
 
     /// Raises the active count, and stands in the group of the wait index, which goes on by one.
@@ -114,9 +114,9 @@ impl Groups {
     fn use_grant(&self, waiter: &mut Waiter, group: u32, found: u64) -> bool
         requires groups { IsWaiterOf self.now waiter.old }
         requires stands { (standing_of waiter.old ≡ Some group) × (0 < granted found) }
-        ensures groups { IsWaiterOf self.now waiter.new × (number_of waiter.new ≡ number_of waiter.old) × (wait_index_of waiter.new ≡ wait_index_of waiter.old) }
-        ensures won { IsTrue result → (standing_of waiter.new ≡ None) × (active : ℕ) × (steps_of waiter.new ≡ Lower active ∷ Use group found found ∷ steps_of waiter.old) }
-        ensures lost { IsFalse result → (standing_of waiter.new ≡ standing_of waiter.old) × (seen : ℕ) × (seen ≢ found) × (steps_of waiter.new ≡ Use group found seen ∷ steps_of waiter.old) }
+        ensures groups { IsWaiterOf self.now waiter.new × SameWaiter waiter.old waiter.new }
+        ensures won { IsTrue result → LeavesBy (Use group found found) waiter.old waiter.new }
+        ensures lost { IsFalse result → (standing_of waiter.new ≡ standing_of waiter.old) × Loses found (Use group found) waiter.old waiter.new }
     {
         let seen = self
             .table
@@ -136,9 +136,9 @@ impl Groups {
     fn withdraw(&self, waiter: &mut Waiter, group: u32, found: u64) -> bool
         requires groups { IsWaiterOf self.now waiter.old }
         requires stands { (standing_of waiter.old ≡ Some group) × (granted found ≡ 0) × (1 ≤ waiting found) }
-        ensures groups { IsWaiterOf self.now waiter.new × (number_of waiter.new ≡ number_of waiter.old) × (wait_index_of waiter.new ≡ wait_index_of waiter.old) }
-        ensures won { IsTrue result → (standing_of waiter.new ≡ None) × (active : ℕ) × (steps_of waiter.new ≡ Lower active ∷ Withdraw group found found ∷ steps_of waiter.old) }
-        ensures lost { IsFalse result → (standing_of waiter.new ≡ standing_of waiter.old) × (seen : ℕ) × (seen ≢ found) × (steps_of waiter.new ≡ Withdraw group found seen ∷ steps_of waiter.old) }
+        ensures groups { IsWaiterOf self.now waiter.new × SameWaiter waiter.old waiter.new }
+        ensures won { IsTrue result → LeavesBy (Withdraw group found found) waiter.old waiter.new }
+        ensures lost { IsFalse result → (standing_of waiter.new ≡ standing_of waiter.old) × Loses found (Withdraw group found) waiter.old waiter.new }
     {
         let seen = self
             .table

@@ -1,8 +1,8 @@
 //! The walk that wakes: waiters go from waiting to granted, group by group.
-ghost use Rattle.std.specs.Prelude.{◌≡◌, ◌≢◌, ℕ, ◌+◌, ◌^◌, ◌<◌, ◌≤◌, List, ◌∷◌, length, IsTrue, IsFalse};
+ghost use Rattle.std.specs.Prelude.{◌≡◌, ◌+◌, ◌^◌, ◌<◌, ◌≤◌, ◌∷◌, length, IsTrue, IsFalse};
 ghost use Rattle.wake_book.specs.Waits.{waiting};
 ghost use Rattle.wake_book.specs.Walks.{IsVisit, IsWalk};
-ghost use Rattle.wake_book.specs.Groups.{IsWaiterOf, steps_of, StandsAsBefore};
+ghost use Rattle.wake_book.specs.Groups.{IsWaiterOf, steps_of, StandsAsBefore, MovesMore, Loses};
 ghost use Rattle.wake_book.specs.declared.steps.GroupStep.TheVariants.{Grant, Store};
 
 use crate::group_plays::{GrantSome, StoreIndex};
@@ -67,8 +67,8 @@ impl Groups {
         requires groups { IsWaiterOf self.now waiter.old }
         requires within { (group < 8) × (count ≤ waiting found) × (waiter.old.moved + count ≤ 2 ^ 56) }
         ensures groups { IsWaiterOf self.now waiter.new × StandsAsBefore waiter.old waiter.new }
-        ensures won { IsTrue result → (waiter.new.moved ≡ waiter.old.moved + count) × (steps_of waiter.new ≡ Grant group found count found ∷ steps_of waiter.old) }
-        ensures lost { IsFalse result → (waiter.new.moved ≡ waiter.old.moved) × (seen : ℕ) × (seen ≢ found) × (steps_of waiter.new ≡ Grant group found count seen ∷ steps_of waiter.old) }
+        ensures won { IsTrue result → MovesMore count waiter.old waiter.new × (steps_of waiter.new ≡ Grant group found count found ∷ steps_of waiter.old) }
+        ensures lost { IsFalse result → (waiter.new.moved ≡ waiter.old.moved) × Loses found (Grant group found count) waiter.old waiter.new }
     {
         let new = found - WAITING * count + count;
         let seen = self

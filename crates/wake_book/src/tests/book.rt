@@ -36,7 +36,14 @@ fn a_full_batch_is_charged_once(rt: HostRuntime) -> Result<(), Fail> {
     let Ok(totals) = Book::gather(book, tellers) else {
         return Err(Fail::new("a teller is missing"));
     };
-    assert_eq!(rt; totals, BookTotals { counted: 3, charged: 2, charges: 1 });
+    assert_eq!(rt;
+        totals,
+        BookTotals {
+            counted: 3,
+            charged: 2,
+            charges: 1
+        }
+    );
     Ok(())
 }
 
@@ -57,7 +64,14 @@ fn a_new_batch_goes_on_from_the_old_count(rt: HostRuntime) -> Result<(), Fail> {
     let Ok(totals) = Book::gather(book, tellers) else {
         return Err(Fail::new("a teller is missing"));
     };
-    assert_eq!(rt; totals, BookTotals { counted: 3, charged: 3, charges: 2 });
+    assert_eq!(rt;
+        totals,
+        BookTotals {
+            counted: 3,
+            charged: 3,
+            charges: 2
+        }
+    );
     Ok(())
 }
 
@@ -89,7 +103,14 @@ fn gather_without_a_teller_hands_all_back(rt: HostRuntime) -> Result<(), Fail> {
     let Ok(totals) = Book::gather(book, tellers) else {
         return Err(Fail::new("a teller is missing"));
     };
-    assert_eq!(rt; totals, BookTotals { counted: 0, charged: 0, charges: 0 });
+    assert_eq!(rt;
+        totals,
+        BookTotals {
+            counted: 0,
+            charged: 0,
+            charges: 0
+        }
+    );
     Ok(())
 }
 
@@ -103,7 +124,10 @@ fn a_book_is_refused_by_its_first_fault(rt: HostRuntime) {
         (2, 1, 72_057_594_037_927_937, BookFault::CapTooLarge),
     ] {
         match Book::open(rt.alloc(), batch, tellers, cap) {
-            Ok(_) => assert!(rt; false, "opened with batch {batch}, {tellers} tellers, cap {cap}"),
+            Ok(_) => assert!(rt;
+                false,
+                "opened with batch {batch}, {tellers} tellers, cap {cap}"
+            ),
             Err(fault) => assert_eq!(rt; fault, want),
         }
     }

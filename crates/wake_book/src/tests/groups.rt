@@ -14,7 +14,11 @@ pub(crate) fn next_waiter(groups: &Groups, waiters: &mut Vec<Waiter>) -> Option<
     waiters.pop()
 }
 
-pub(crate) fn put_back(groups: &Groups, waiters: &mut Vec<Waiter>, waiter: Waiter) -> Result<(), Fail>
+pub(crate) fn put_back(
+    groups: &Groups,
+    waiters: &mut Vec<Waiter>,
+    waiter: Waiter,
+) -> Result<(), Fail>
     requires { All (IsWaiterOf groups.now) waiters.old.items × IsWaiterOf groups.now waiter }
     ensures { All (IsWaiterOf groups.now) waiters.new.items }
 {
@@ -25,7 +29,10 @@ pub(crate) fn put_back(groups: &Groups, waiters: &mut Vec<Waiter>, waiter: Waite
 #[test]
 fn a_grant_is_used_once(rt: HostRuntime) -> Result<(), Fail> {
     let (groups, mut waiters) = Groups::open(rt.alloc(), 2)?;
-    let (Some(mut second), Some(mut first)) = (next_waiter(&groups, &mut waiters), next_waiter(&groups, &mut waiters)) else {
+    let (Some(mut second), Some(mut first)) = (
+        next_waiter(&groups, &mut waiters),
+        next_waiter(&groups, &mut waiters),
+    ) else {
         return Err(Fail::new("fewer than two waiters"));
     };
     assert_eq!(rt; groups.enter(&mut first), 0);
@@ -43,7 +50,15 @@ fn a_grant_is_used_once(rt: HostRuntime) -> Result<(), Fail> {
     let Ok(totals) = Groups::gather(groups, waiters) else {
         return Err(Fail::new("a waiter is missing"));
     };
-    assert_eq!(rt; totals, GroupTotals { issued: 1, used: 1, granted: 0, waiting: 0 });
+    assert_eq!(rt;
+        totals,
+        GroupTotals {
+            issued: 1,
+            used: 1,
+            granted: 0,
+            waiting: 0
+        }
+    );
     Ok(())
 }
 
@@ -72,7 +87,15 @@ fn who_stands_is_gathered_too(rt: HostRuntime) -> Result<(), Fail> {
     let Ok(totals) = Groups::gather(groups, waiters) else {
         return Err(Fail::new("a waiter is missing"));
     };
-    assert_eq!(rt; totals, GroupTotals { issued: 1, used: 0, granted: 1, waiting: 1 });
+    assert_eq!(rt;
+        totals,
+        GroupTotals {
+            issued: 1,
+            used: 0,
+            granted: 1,
+            waiting: 1
+        }
+    );
     Ok(())
 }
 

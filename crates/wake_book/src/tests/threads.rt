@@ -54,7 +54,10 @@ fn wake_often<R: Wait>(rt: &R, groups: &Groups, waiter: &mut Waiter, rounds: u32
 #[test]
 fn each_sleeper_is_woken(rt: HostRuntime) -> Result<(), Fail> {
     let (groups, mut waiters) = Groups::open(rt.alloc(), 2)?;
-    let (Some(mut second), Some(mut first)) = (next_waiter(&groups, &mut waiters), next_waiter(&groups, &mut waiters)) else {
+    let (Some(mut second), Some(mut first)) = (
+        next_waiter(&groups, &mut waiters),
+        next_waiter(&groups, &mut waiters),
+    ) else {
         return Err(Fail::new("fewer than two waiters"));
     };
     let (woken, _) = thread::join(
@@ -106,9 +109,12 @@ fn grants_balance_among_sixteen_threads(rt: HostRuntime) -> Result<(), Fail> {
         issued: AtomicU64::new(0),
         used: AtomicU64::new(0),
     };
-    thread::for_each_mut(&rt, waiters.as_mut_slice(), 16, &|number, waiter| {
-        wait_or_wake(&rt, &groups, waiter, &tally, number)
-    });
+    thread::for_each_mut(
+        &rt,
+        waiters.as_mut_slice(),
+        16,
+        &|number, waiter| { wait_or_wake(&rt, &groups, waiter, &tally, number) },
+    );
     let Ok(totals) = Groups::gather(groups, waiters) else {
         return Err(Fail::new("a waiter is missing"));
     };

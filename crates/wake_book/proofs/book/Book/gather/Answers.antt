@@ -19,4 +19,4 @@ collect-all-requires-clause-some c = let small = c.args.book.small in subst (λ 
 
 pub returns-clause-ok : goal.returns-clause-ok
 returns-clause-ok c = let all = subst (λ (z : List Teller). HasAll (numbers_of z) c.args.book.limits.tellers) c.as_slice.ensures.value c.in_default.ensures in
-    c.close.ensures (records_of c.args.tellers.items) c.collect-all.ensures.1 (subst (λ (z : List ℕ). HasAll z c.args.book.limits.tellers) (sym (numbers_same c.args.tellers.items)) all)
+    c.close.ensures (records_of c.args.tellers.items) (c.collect-all.ensures.records, subst (λ (z : List ℕ). HasAll z c.args.book.limits.tellers) (sym (numbers_same c.args.tellers.items)) all)

@@ -19,8 +19,8 @@ collect-all-requires-clause-some c = let small = c.args.groups.small in subst (�
 
 pub close-requires-clause-all : goal.close-requires-clause-all
 close-requires-clause-all c = let all = subst (λ (z : List Waiter). HasAll (numbers_of z) c.args.groups.waiters) c.as_slice.ensures.value c.in_default.ensures in
-    (records_of c.args.waiters.items, c.collect-all.ensures.1, subst (λ (z : List ℕ). HasAll z c.args.groups.waiters) (sym (numbers_same c.args.waiters.items)) all)
+    (records_of c.args.waiters.items, (c.collect-all.ensures.records, subst (λ (z : List ℕ). HasAll z c.args.groups.waiters) (sym (numbers_same c.args.waiters.items)) all))
 
 pub returns-clause-ok : goal.returns-clause-ok
 returns-clause-ok c = let all = subst (λ (z : List Waiter). HasAll (numbers_of z) c.args.groups.waiters) c.as_slice.ensures.value c.in_default.ensures in
-    c.close.ensures (records_of c.args.waiters.items) c.collect-all.ensures.1 (subst (λ (z : List ℕ). HasAll z c.args.groups.waiters) (sym (numbers_same c.args.waiters.items)) all)
+    c.close.ensures (records_of c.args.waiters.items) (c.collect-all.ensures.records, subst (λ (z : List ℕ). HasAll z c.args.groups.waiters) (sym (numbers_same c.args.waiters.items)) all)

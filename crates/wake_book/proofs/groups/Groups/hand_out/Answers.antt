@@ -13,8 +13,8 @@ pub loop-number-preserved : goal.loop-number-preserved
 loop-number-preserved c = let inv = c.loop-number.invariant in let t = c.new_waiter-waiter in let n : ℕ = c.loop-number.number in let old = c.loop-number.all.items in
     let e : c.push.new.self.items ≡ old ++ t.result ∷ [] = search rules in let P : Waiter → Type 0 = IsWaiterOf c.args.self.now in
     let z : 0 + n ≡ n = omega arith in record {
-      seat = t.ensures.rest.0 ∙ inv.seat;
-      knows = t.ensures.rest.1;
+      seat = t.ensures.rest ∙ inv.seat;
+      knows = t.ensures.knows;
       own = subst (All P) (sym e) (All-push P old t.result inv.own t.ensures.waiter.0);
       new = subst (All IsNew) (sym e) (All-push IsNew old t.result inv.new t.ensures.waiter.1);
       fresh_all = ap records_of e ∙ map-append record_of old (t.result ∷ []) ∙ (λ j. inv.fresh_all j ++ t.ensures.waiter.2 j ∷ [])

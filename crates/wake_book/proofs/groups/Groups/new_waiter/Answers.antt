@@ -16,7 +16,7 @@ returns-clause-waiter c = let k : ℕ = c.args.self.now.waiters in let n : ℕ =
     let is = ap (λ x. x.0) c.requires.knows ∙ ap viewing (next_fresh n k c.requires.comes.0) in
     (e.3 ∙ c.requires.comes.1, (refl, refl), ap (λ (z : List GroupStep). record { number = n; steps = z }) (ap (λ z. steps_of z.0) e.4 ∙ ap (λ z. steps_of (first_view z)) is))
 
-pub returns-clause-rest : goal.returns-clause-rest
-returns-clause-rest c = let k : ℕ = c.args.self.now.waiters in let n : ℕ = c.args.number in let e = c.split_seat-seat.ensures in
+pub returns-clause-knows : goal.returns-clause-knows
+returns-clause-knows c = let k : ℕ = c.args.self.now.waiters in let n : ℕ = c.args.number in
     let is = ap (λ x. x.0) c.requires.knows ∙ ap viewing (next_fresh n k c.requires.comes.0) in
-    (e.0, e.2 ∙ (λ j. (ap other_views is j, ap (λ x. x.1) c.requires.knows j)))
+    c.split_seat-seat.ensures.2 ∙ (λ j. (ap other_views is j, ap (λ x. x.1) c.requires.knows j))

@@ -8,7 +8,7 @@ use Rattle.wake_book.proofs.groups.Groups.unite.Goals as goal
 
 pub join_seat-requires : goal.join_seat-requires
 join_seat-requires c = let b = c.args.self.now in let key = b.table.shared.key in let v = c.args.all.now.seat in let o = c.args.other in let w = b.wide.0 in
-    (c.requires.0, c.requires.1, o.empty, omega arith, joins key opening_words words_after MayStep v.id v.me.0 o.seat.id o.seat.me.0)
+    (c.requires.all, c.requires.other, o.empty, omega arith, joins key opening_words words_after MayStep v.id v.me.0 o.seat.id o.seat.me.0)
 
 pub invariant_of-all : goal.invariant_of-all
 invariant_of-all c = let now = c.join_seat.ensures.2 in let a = c.args.all.now in let b = c.args.other in
