@@ -8,7 +8,7 @@ use Rattle.wake_book.specs.declared.book.Limits.{Limits}
 use Rattle.wake_book.specs.declared.steps.BookStep.{BookStep}
 use Rattle.wake_book.specs.declared.steps.BookStep.TheVariants.{LookCompletions, LookWakeups, Add, Advance}
 use Rattle.step_ledger.specs.History.{own_steps, total, total_all, sum_to, Lawful}
-use Rattle.wake_book.specs.Charges.{opening_words, words_after, words_in, completions_in, wakeups_in, added, one_if, charged, covers, MayStep, exchange_to}
+use Rattle.wake_book.specs.Charges.{opening_words, words_after, words_in, completions_in, wakeups_in, added, one_if, charged, covers, taken, MayStep, exchange_to}
 use Rattle.wake_book.specs.Charging.{LosesTries}
 use Rattle.step_ledger.proofs.Members.{own_here, own_else}
 use Rattle.step_ledger.proofs.Sums.{totals, sum_most, sum_has}
@@ -147,6 +147,19 @@ module _ (k : Limits) where
   pub charges_le : (h : Hist) → Ok h → total_all charged h ≤ wakeups_in h
   charges_le [] l = omega arith
   charges_le (x ∷ h) l = let a = charges_le h l.2 in let b = wakeups_next x.0 x.1 h in let d = rise_step x.1 x.0 h l.1 in omega arith
+
+  taken_step : (x : BookStep) (c : ℕ) (h : Hist) → MayStep k c x h → taken x + wakeups_in h ≡ wakeups_after x (wakeups_in h)
+  taken_step (LookCompletions f) c h can = omega arith
+  taken_step (LookWakeups f) c h can = omega arith
+  taken_step (Add n f) c h can = omega arith
+  taken_step (Advance a b f) c h can = let found = can.0 in let less = can.1 in dite (ℕ_discrete f a)
+      (λ (e : f ≡ a). let m = moves a b (wakeups_in h) (sym found ∙ e) in let w = ap (λ (z : Bool). cond z (b - a) 0) (eq-eqb f a e) in omega arith)
+      (λ (ne : f ≢ a). let m = misses a b (wakeups_in h) (λ z. ne (found ∙ z)) in let w = ap (λ (z : Bool). cond z (b - a) 0) (ne_eqb f a ne) in omega arith)
+
+  -- what is charged is what the tellers took
+  pub taken_is : (h : Hist) → Ok h → total_all taken h ≡ wakeups_in h
+  taken_is [] l = omega arith
+  taken_is (x ∷ h) l = let a = taken_is h l.2 in let b = wakeups_next x.0 x.1 h in let d = taken_step x.1 x.0 h l.1 in omega arith
 
   -- what a teller counted is part of the completions
   pub own_le : (c : ℕ) (h : Hist) → Ok h → c < k.tellers → own_count c h ≤ completions_in h

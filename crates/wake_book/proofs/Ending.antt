@@ -12,9 +12,9 @@ use Rattle.step_ledger.proofs.Turned.{sum_turned}
 use Rattle.step_ledger.proofs.Gathers.{gathered}
 use Rattle.wake_book.specs.declared.book.Limits.{Limits}
 use Rattle.wake_book.specs.declared.steps.BookStep.{BookStep}
-use Rattle.wake_book.specs.Charges.{opening_words, words_after, completions_in, wakeups_in, added, charged, covers, MayStep, BookRule}
+use Rattle.wake_book.specs.Charges.{opening_words, words_after, completions_in, wakeups_in, added, charged, covers, taken, MayStep, BookRule}
 use Rattle.wake_book.specs.Booked.{IsBooked}
-use Rattle.wake_book.proofs.Counting.{capped, counted, tiles, charged_le, charges_le}
+use Rattle.wake_book.proofs.Counting.{capped, counted, tiles, charged_le, charges_le, taken_is}
 
 -- what an entry is, as a clause reads it
 pub read : (l : List ℕ) (i x : ℕ) → get_elem? l i ≡ some x → get_or l i 0 ≡ x
@@ -38,6 +38,7 @@ booked k few low id v ws xs tellers completions wakeups charges last is all sum 
       lists = g.lists;
       counted = c_is ∙ sym n_all ∙ sym n_is;
       tiled = λ y. g.sums (total (covers y)) ∙ tiles k h l y ∙ ap (λ (z : ℕ). min 1 (z - y)) (sym w_is);
+      taken = w_is ∙ sym (taken_is k h l) ∙ sym (totals k.tellers (MayStep k) taken h l) ∙ sym (g.sums (total taken));
       charges = (let q : sum_over (total charged) tellers ≤ wakeups_in h = omega arith in omega arith);
       within = omega arith;
     }

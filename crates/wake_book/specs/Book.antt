@@ -8,7 +8,7 @@ use Rattle.wake_book.specs.declared.book.Limits.{Limits}
 use Rattle.wake_book.specs.declared.book.Teller.{Teller}
 use Rattle.wake_book.specs.declared.steps.BookStep.{BookStep}
 use Rattle.wake_book.specs.declared.steps.BookStep.TheVariants.{LookCompletions, Advance}
-use Rattle.wake_book.specs.Charges.{added}
+use Rattle.wake_book.specs.Charges.{added, taken}
 
 -- the teller came from the book's opening
 abbrev pub IsTellerOf : Book → Teller → Type 0
@@ -25,6 +25,10 @@ number_of teller = teller.number
 -- the completions that the teller counted
 abbrev pub counted_by : Teller → ℕ
 counted_by teller = total added (steps_of teller)
+
+-- the completions that the teller charged
+abbrev pub charged_by : Teller → ℕ
+charged_by teller = total taken (steps_of teller)
 
 -- the teller's number and steps
 abbrev pub record_of : Teller → Record BookStep

@@ -56,6 +56,13 @@ charged (LookWakeups found) = 0
 charged (Add n found) = 0
 charged (Advance start end found) = one_if (nat_eq found start)
 
+-- how many completions the step charged
+abbrev pub taken : BookStep → ℕ
+taken (LookCompletions found) = 0
+taken (LookWakeups found) = 0
+taken (Add n found) = 0
+taken (Advance start end found) = cond (nat_eq found start) (end - start) 0
+
 -- 1 where the step won an interval that has the number y
 abbrev pub covers : ℕ → BookStep → ℕ
 covers y (LookCompletions found) = 0

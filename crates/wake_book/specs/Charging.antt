@@ -7,6 +7,20 @@ use Rattle.wake_book.specs.declared.charge.Charge.{Charge}
 use Rattle.wake_book.specs.declared.charge.Charge.TheVariants.{Full, Below, Won, Busy}
 use Rattle.wake_book.specs.Charges.{added}
 
+-- how many completions a charge of n counts, by its answer
+abbrev pub counted_as : ℕ → Charge → ℕ
+counted_as n Full = 0
+counted_as n Below = n
+counted_as n (Won start) = n
+counted_as n Busy = n
+
+-- how many completions a charge takes, by its answer
+abbrev pub taken_as : ℕ → Charge → ℕ
+taken_as batch Full = 0
+taken_as batch Below = 0
+taken_as batch (Won start) = batch
+taken_as batch Busy = 0
+
 -- the two looks of a try: wakeups first, then completions
 abbrev pub looked : ℕ → ℕ → List BookStep → List BookStep
 looked start completions before = LookCompletions completions ∷ LookWakeups start ∷ before

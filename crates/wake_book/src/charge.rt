@@ -1,7 +1,7 @@
 //! Counting completions, and charging a batch where one is open.
-ghost use Rattle.std.specs.Prelude.{◌≡◌, ◌≢◌, ℕ, ◌+◌, ◌^◌, ◌<◌, ◌≤◌, ◌↔◌, List, ◌∷◌, length, IsTrue, IsFalse};
-ghost use Rattle.wake_book.specs.Book.{IsTellerOf, steps_of, number_of, counted_by, cap_of, batch_of, JustSaw, LosesAdvance, Rebatches};
-ghost use Rattle.wake_book.specs.Charging.{IsCharge};
+ghost use Rattle.std.specs.Prelude.{◌≡◌, ◌≢◌, ℕ, ◌+◌, ◌-◌, ◌^◌, ◌<◌, ◌≤◌, ◌↔◌, List, ◌∷◌, length, IsTrue, IsFalse};
+ghost use Rattle.wake_book.specs.Book.{IsTellerOf, steps_of, number_of, counted_by, charged_by, cap_of, batch_of, JustSaw, LosesAdvance, Rebatches};
+ghost use Rattle.wake_book.specs.Charging.{IsCharge, counted_as, taken_as};
 ghost use Rattle.wake_book.specs.declared.steps.BookStep.TheVariants.{LookCompletions, LookWakeups, Add, Advance};
 
 use crate::book::{Book, COMPLETIONS, Teller, WAKEUPS};
@@ -39,6 +39,8 @@ impl Book {
         requires within { (1 ≤ n) × (n ≤ 64) }
         ensures book { IsTellerOf self.now teller.new × (number_of teller.new ≡ number_of teller.old) }
         ensures lawful { IsCharge (cap_of self.now) (batch_of self.now) n (steps_of teller.old) (steps_of teller.new) result }
+        ensures counted { counted_by teller.new ≡ counted_by teller.old + counted_as n result }
+        ensures charged { charged_by teller.new ≡ charged_by teller.old + taken_as (batch_of self.now) result }
         ensures bound { length (steps_of teller.new) ≤ 49 + length (steps_of teller.old) }
     {
         let n = n as u64;
@@ -118,6 +120,8 @@ impl Book {
         ensures book { IsTellerOf self.now teller.new × (number_of teller.new ≡ number_of teller.old) }
         ensures same { teller.new.count ≡ teller.old.count }
         ensures won { IsTrue result → steps_of teller.new ≡ Advance start end start ∷ steps_of teller.old }
+        ensures taken { IsTrue result → charged_by teller.new ≡ charged_by teller.old + (end - start) }
+        ensures kept { IsFalse result → charged_by teller.new ≡ charged_by teller.old }
         ensures lost { IsFalse result → (teller.new.charges ≡ teller.old.charges) × LosesAdvance start end teller.old teller.new }
     {
         let found = self

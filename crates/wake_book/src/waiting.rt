@@ -2,7 +2,7 @@
 ghost use Rattle.std.specs.Prelude.{◌≡◌, ℕ, ◌+◌, ◌%◌, ◌<◌, ◌≤◌, ◌∷◌, length, IsTrue, IsFalse, Some, None, IsSome};
 ghost use Rattle.wake_book.specs.Waits.{group_at, granted, waiting};
 ghost use Rattle.wake_book.specs.Walks.{IsLeave};
-ghost use Rattle.wake_book.specs.Groups.{IsWaiterOf, steps_of, number_of, standing_of, wait_index_of, StandsAsBefore, SameWaiter, LeavesBy, Loses};
+ghost use Rattle.wake_book.specs.Groups.{IsWaiterOf, steps_of, number_of, standing_of, wait_index_of, moved_of, StandsAsBefore, SameWaiter, LeavesBy, Loses};
 ghost use Rattle.wake_book.specs.declared.steps.GroupStep.TheVariants.{Look, Raise, Enter, Use, Withdraw};
 
 use crate::group_plays::{
@@ -79,6 +79,7 @@ impl Groups {
         requires stands { IsSome (standing_of waiter.old) }
         ensures groups { IsWaiterOf self.now waiter.new × (number_of waiter.new ≡ number_of waiter.old) }
         ensures out { (standing_of waiter.new ≡ None) × (wait_index_of waiter.new ≡ wait_index_of waiter.old) }
+        ensures moved { moved_of waiter.new ≡ moved_of waiter.old }
         ensures left { (group : ℕ) × (standing_of waiter.old ≡ Some group) × IsLeave group (steps_of waiter.old) (steps_of waiter.new) result }
     {
         let Some(group) = waiter.standing else {
@@ -115,6 +116,7 @@ impl Groups {
         requires groups { IsWaiterOf self.now waiter.old }
         requires stands { (standing_of waiter.old ≡ Some group) × (0 < granted found) }
         ensures groups { IsWaiterOf self.now waiter.new × SameWaiter waiter.old waiter.new }
+        ensures moved { waiter.new.moved ≡ waiter.old.moved }
         ensures won { IsTrue result → LeavesBy (Use group found found) waiter.old waiter.new }
         ensures lost { IsFalse result → (standing_of waiter.new ≡ standing_of waiter.old) × Loses found (Use group found) waiter.old waiter.new }
     {
@@ -137,6 +139,7 @@ impl Groups {
         requires groups { IsWaiterOf self.now waiter.old }
         requires stands { (standing_of waiter.old ≡ Some group) × (granted found ≡ 0) × (1 ≤ waiting found) }
         ensures groups { IsWaiterOf self.now waiter.new × SameWaiter waiter.old waiter.new }
+        ensures moved { waiter.new.moved ≡ waiter.old.moved }
         ensures won { IsTrue result → LeavesBy (Withdraw group found found) waiter.old waiter.new }
         ensures lost { IsFalse result → (standing_of waiter.new ≡ standing_of waiter.old) × Loses found (Withdraw group found) waiter.old waiter.new }
     {

@@ -2,7 +2,7 @@
 ghost use Rattle.std.specs.Prelude.{◌≡◌, ◌+◌, ◌^◌, ◌<◌, ◌≤◌, ◌∷◌, length, IsTrue, IsFalse};
 ghost use Rattle.wake_book.specs.Waits.{waiting};
 ghost use Rattle.wake_book.specs.Walks.{IsVisit, IsWalk};
-ghost use Rattle.wake_book.specs.Groups.{IsWaiterOf, steps_of, StandsAsBefore, MovesMore, Loses};
+ghost use Rattle.wake_book.specs.Groups.{IsWaiterOf, steps_of, moved_of, StandsAsBefore, MovesMore, Loses};
 ghost use Rattle.wake_book.specs.declared.steps.GroupStep.TheVariants.{Grant, Store};
 
 use crate::group_plays::{GrantSome, StoreIndex};
@@ -21,6 +21,7 @@ impl Groups {
         requires within { (1 ≤ nr) × (nr ≤ 8) }
         ensures groups { IsWaiterOf self.now waiter.new × StandsAsBefore waiter.old waiter.new }
         ensures most { result ≤ nr }
+        ensures moved { moved_of waiter.new ≡ moved_of waiter.old + result }
         ensures lawful { IsWalk nr (steps_of waiter.old) (steps_of waiter.new) result }
         ensures bound { length (steps_of waiter.new) ≤ 67 + length (steps_of waiter.old) }
     {

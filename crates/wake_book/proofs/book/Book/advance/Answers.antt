@@ -1,11 +1,12 @@
-use Rattle.std.proofs.Common.{arith, refl, ◌≡◌, ℕ, ◌^◌, ◌+◌, ◌<◌, ◌≤◌, List, ◌∷◌, sym, ap, ◌∙◌, subst, IsFalse}
+use Rattle.std.proofs.Common.{arith, refl, ◌≡◌, ℕ, ◌^◌, ◌+◌, ◌-◌, ◌<◌, ◌≤◌, List, ◌∷◌, sym, ap, ◌∙◌, subst, IsFalse}
 use Rattle.step_ledger.specs.Views.{steps_of, push}
 use Rattle.step_ledger.specs.History.{total}
 use Rattle.wake_book.specs.declared.book.Limits.{Limits}
 use Rattle.wake_book.specs.declared.steps.BookStep.{BookStep}
 use Rattle.wake_book.specs.declared.steps.BookStep.TheVariants.{LookCompletions, LookWakeups, Add, Advance}
-use Rattle.wake_book.specs.Charges.{added}
+use Rattle.wake_book.specs.Charges.{added, taken}
 use Rattle.wake_book.proofs.BookKeeps as keeps
+use Rattle.wake_book.proofs.Standing.{yes_of, no_of}
 use Rattle.wake_book.proofs.book.Book.advance.Goals as goal
 
 pub compare_exchange-found-requires : goal.compare_exchange-found-requires
@@ -24,3 +25,13 @@ pub returns-clause-won : goal.returns-clause-won
 returns-clause-won c _ = let t = c.args.teller.now in let did = c.compare_exchange-found.ensures.2 in
     ap (λ z. steps_of z.0) did ∙ ap (λ z. steps_of (push (Advance c.args.start c.args.end c.compare_exchange-found.result) z.0)) t.knows
     ∙ ap (λ (z : ℕ). Advance c.args.start c.args.end z ∷ steps_of t.seat.me.0) c.if-found-start.false
+
+pub returns-then-found-start-clause-kept : goal.returns-then-found-start-clause-kept
+returns-then-found-start-clause-kept c _ = let t = c.args.teller.now in let did = c.compare_exchange-found.ensures.2 in
+    let steps = ap (λ z. steps_of z.0) did ∙ ap (λ z. steps_of (push (Advance c.args.start c.args.end c.compare_exchange-found.result) z.0)) t.knows in
+    let a = ap (total taken) steps in let none = no_of c.compare_exchange-found.result c.args.start (c.args.end - c.args.start) 0 c.if-found-start.true in omega arith
+
+pub returns-clause-taken : goal.returns-clause-taken
+returns-clause-taken c _ = let t = c.args.teller.now in let did = c.compare_exchange-found.ensures.2 in
+    let steps = ap (λ z. steps_of z.0) did ∙ ap (λ z. steps_of (push (Advance c.args.start c.args.end c.compare_exchange-found.result) z.0)) t.knows in
+    let a = ap (total taken) steps in let all = yes_of c.compare_exchange-found.result c.args.start (c.args.end - c.args.start) 0 c.if-found-start.false in omega arith

@@ -8,5 +8,6 @@ loop-init g c = record {
   turns = (tt, tt);
   groups = (c.requires.groups, (refl, refl, refl));
   stands = c.in-Some.is;
+  moved = refl;
   idle = no_idles c.in-Some.group (steps_of c.args.waiter.now);
 }

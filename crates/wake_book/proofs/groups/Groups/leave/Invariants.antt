@@ -8,5 +8,6 @@ invariant-loop g l = record {
   turns : (goal.iterator-loop g).can_next l.iterator' × (goal.iterator-loop g).is_finite l.iterator';
   groups : IsWaiterOf l.self l.waiter × StandsAsBefore l.fn.waiter l.waiter;
   stands : standing_of l.fn.waiter ≡ Some l.group;
+  moved : l.waiter.moved ≡ l.fn.waiter.moved;
   idle : OnlyIdles l.group (steps_of l.fn.waiter) (steps_of l.waiter);
 }
