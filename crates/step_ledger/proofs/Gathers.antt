@@ -1,15 +1,15 @@
 -- What the last state tells where one seat has the records of all members.
-use Rattle.std.proofs.Common.{◌≡◌, ◌≢◌, ℕ, zero, suc, ◌+◌, ◌<◌, ◌≤◌, List, [], ◌∷◌, length, get_or, arith, refl, sym, ap, ◌∙◌, subst}
+use Rattle.std.proofs.Common.{◌≡◌, ℕ, zero, suc, ◌<◌, List, [], ◌∷◌, length, get_or, arith, refl, sym, ap, ◌∙◌, subst}
 use mathlib.Core.Option.{some, some-injective, some-ne-none}
 use lib.ListN.{get_elem?}
 use Rattle.atomic_table.specs.Table.{State, Final, Seen}
 use Rattle.step_ledger.specs.declared.record.Record.{Record}
 use Rattle.step_ledger.specs.declared.record.View.{View}
-use Rattle.step_ledger.specs.Views.{Has, HasAll, numbers, turned, sum_over}
+use Rattle.step_ledger.specs.Views.{Has, numbers, turned, sum_over}
 use Rattle.step_ledger.specs.History.{own_steps, words_of, Lawful, sum_to, AreListsOf}
 use Rattle.step_ledger.specs.Ledger.{Ledger}
 use Rattle.step_ledger.proofs.Sums as sums
-use Rattle.step_ledger.proofs.Turned.{at_turned, has_turned, sum_turned, number_at}
+use Rattle.step_ledger.proofs.Turned.{at_turned, has_turned, sum_turned}
 
 at_has : (ns : List ℕ) (i n : ℕ) → get_elem? ns i ≡ some n → (i < length ns) × (get_or ns i 0 ≡ n)
 at_has [] i n e = absurd (some-ne-none n (sym e))

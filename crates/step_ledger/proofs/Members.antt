@@ -1,17 +1,15 @@
 -- Steps of members, and records that pass from seat to seat, keep the rule of a ledger. Nothing here depends on what the steps are.
-use Rattle.std.proofs.Common.{◌≡◌, ◌≢◌, ℕ, zero, suc, ◌+◌, ◌-◌, ◌<◌, ◌≤◌, ◌⊎◌, List, [], ◌∷◌, ◌++◌, length, get_or, set, nat_eq, Bool, cond, arith, refl, sym, ap, ◌∙◌, subst, ⊎_elim, inl, inr, eq-eqb, ne_eqb, length-set}
-use mathlib.Core.Option.{some, none, some-injective, some-ne-none}
-use mathlib.Core.Logic.{dite}
-use native.Mathlib.Decide.{ℕ_discrete}
+use Rattle.std.proofs.Common.{◌≡◌, ◌≢◌, ℕ, zero, suc, ◌+◌, ◌-◌, ◌<◌, List, [], ◌∷◌, ◌++◌, length, get_or, set, nat_eq, Bool, cond, arith, refl, sym, ap, ◌∙◌, subst, ⊎_elim, eq-eqb, ne_eqb}
+use mathlib.Core.Option.{some, some-injective, some-ne-none}
 use lib.ListN.{get_elem?}
-use Rattle.atomic_table.specs.Table.{State, Me, opening, Allows, Act, keeps, Splits, Joins}
-use Rattle.atomic_table.proofs.Lists.{at_set, set_here, set_else, at_longer}
+use Rattle.atomic_table.specs.Table.{State, Me, opening, Allows, keeps, Splits, Joins}
+use Rattle.atomic_table.proofs.Lists.{at_set, set_else}
 use Rattle.step_ledger.specs.declared.record.Record.{Record}
 use Rattle.step_ledger.specs.declared.record.View.{View}
-use Rattle.step_ledger.specs.Views.{viewing, alone, with_step, push, fresh_record, fresh, first_of, rest_of, first_view, other_views, both_views, steps_of, Stepped}
+use Rattle.step_ledger.specs.Views.{viewing, alone, with_step, push, fresh_record, fresh, first_view, other_views, both_views, steps_of, Stepped}
 use Rattle.step_ledger.specs.History.{own_steps, words_of, Lawful}
-use Rattle.step_ledger.specs.Ledger.{Everyone, Ledger}
-use Rattle.step_ledger.proofs.Seats.{within, snoc_at, snoc_here, append_at, append_second, everyone_same, everyone_split, everyone_join}
+use Rattle.step_ledger.specs.Ledger.{Ledger}
+use Rattle.step_ledger.proofs.Seats.{snoc_at, append_at, everyone_same, everyone_split, everyone_join}
 
 module _ {T : Type 0} where
   pub own_here : (c : ℕ) (x : T) (h : List (ℕ × T)) → own_steps c ((c, x) ∷ h) ≡ x ∷ own_steps c h
@@ -78,10 +76,12 @@ module _ {S T : Type 0} (n : ℕ) (start : List ℕ) (after : T → List ℕ →
         records = λ j v e i q e'. ⊎_elim
             (λ (t : (j ≡ id) × (alone (with_step x r) ≡ v)).
             let f = only_first i (with_step x r) q (ap (λ (z : View T). get_elem? z.records.value i) t.1 ∙ e') in
-            let num : r.number ≡ q.number = ap (λ (z : Record T). z.number) f.1 in
-            (subst (λ (z : ℕ). z < n) num own.0,
-            subst (λ (z : Record T). z.steps ≡ own_steps z.number ((r.number, x) ∷ k.history)) f.1 (ap (λ (l : List T). x ∷ l) own.1 ∙ sym (own_here r.number x k.history)),
-            ap k.seat (sym num) ∙ own.2 ∙ sym t.0, ap k.position (sym num) ∙ own.3 ∙ sym f.0))
+            let num : r.number ≡ q.number = ap (λ (z : Record T). z.number) f.1 in (
+              subst (λ (z : ℕ). z < n) num own.0,
+              subst (λ (z : Record T). z.steps ≡ own_steps z.number ((r.number, x) ∷ k.history)) f.1 (ap (λ (l : List T). x ∷ l) own.1 ∙ sym (own_here r.number x k.history)),
+              ap k.seat (sym num) ∙ own.2 ∙ sym t.0,
+              ap k.position (sym num) ∙ own.3 ∙ sym f.0,
+            ))
             (λ (t : (j ≢ id) × (get_elem? s.views j ≡ some v)). let o = k.records j v t.1 i q e' in
             (o.0, o.1 ∙ sym (own_else q.number r.number x k.history (λ e. t.0 (sym o.2 ∙ ap k.seat e ∙ own.2))), o.2, o.3))
             (at_set s.views id j (alone (with_step x r)) v e);
@@ -96,11 +96,14 @@ module _ {S T : Type 0} (n : ℕ) (start : List ℕ) (after : T → List ℕ →
   allows slots id m r is i f x Also owes s k deep at low = let at' : get_elem? s.views id ≡ some (alone r) = at ∙ ap some is in let own = known s k r id at' in
       let same : get_or s.words i 0 ≡ get_or (words_of start after k.history) i 0 = ap (λ (l : List ℕ). get_or l i 0) k.words_are in
       let o = owes k.history k.lawful own.0 own.1 (subst (λ (z : ℕ). z < 18446744073709551616) same low) in
-      let v : ℕ = get_or s.words i 0 in
-      (alone (with_step (x v) r), keeps, tt,
-      advances s k r id at' (x v) (subst (λ (z : ℕ). MayStep r.number (x z) k.history) (sym same) o.0) (set s.words i (f v)) s.homes
-      ((λ j. set (k.words_are j) i (f (same j))) ∙ o.1 ∙ ap (λ (z : ℕ). after (x z) (words_of start after k.history)) (sym same)),
-      (ap (λ (z : View T). (push (x v) z, m.1)) (sym is), subst Also (sym same) o.2))
+      let v : ℕ = get_or s.words i 0 in (
+        alone (with_step (x v) r),
+        keeps,
+        tt,
+        advances s k r id at' (x v) (subst (λ (z : ℕ). MayStep r.number (x z) k.history) (sym same) o.0) (set s.words i (f v)) s.homes
+            ((λ j. set (k.words_are j) i (f (same j))) ∙ o.1 ∙ ap (λ (z : ℕ). after (x z) (words_of start after k.history)) (sym same)),
+        (ap (λ (z : View T). (push (x v) z, m.1)) (sym is), subst Also (sym same) o.2),
+      )
 
   -- ---- the opening
 
@@ -127,8 +130,10 @@ module _ {S T : Type 0} (n : ℕ) (start : List ℕ) (after : T → List ℕ →
       let seat' : ℕ → ℕ = λ c. cond (nat_eq c r.number) (length vs) (sh.seat c) in
       let position' : ℕ → ℕ = λ c. cond (nat_eq c r.number) 0 (cond (nat_eq (sh.seat c) id) (sh.position c - 1) (sh.position c)) in
       let moved : (q : Record T) (j' n' : ℕ) → q.number ≢ r.number → cond (nat_eq (sh.seat q.number) id) (sh.position q.number - 1) (sh.position q.number) ≡ n' → sh.seat q.number ≡ j' → (seat' q.number ≡ j') × (position' q.number ≡ n')
-          = (λ q j' n' far ep es. (ap (λ (b : Bool). cond b (length vs) (sh.seat q.number)) (ne_eqb q.number r.number far) ∙ es,
-          ap (λ (b : Bool). cond b 0 (cond (nat_eq (sh.seat q.number) id) (sh.position q.number - 1) (sh.position q.number))) (ne_eqb q.number r.number far) ∙ ep)) in record {
+      = (λ q j' n' far ep es. (
+        ap (λ (b : Bool). cond b (length vs) (sh.seat q.number)) (ne_eqb q.number r.number far) ∙ es,
+        ap (λ (b : Bool). cond b 0 (cond (nat_eq (sh.seat q.number) id) (sh.position q.number - 1) (sh.position q.number))) (ne_eqb q.number r.number far) ∙ ep,
+      )) in record {
         history = sh.history;
         lawful = sh.lawful;
         words_are = sh.words_are;
@@ -148,10 +153,12 @@ module _ {S T : Type 0} (n : ℕ) (start : List ℕ) (after : T → List ℕ →
             (at_set s.views id j (viewing rs) v' old))
             (λ (t : (j ≡ length vs) × (alone r ≡ v')).
             let o = only_first i r q (ap (λ (z : View T). get_elem? z.records.value i) t.1 ∙ e') in
-            let num : q.number ≡ r.number = ap (λ (x : Record T). x.number) (sym o.1) in
-            (subst (λ (z : Record T). z.number < n) o.1 first.0, subst (λ (z : Record T). z.steps ≡ own_steps z.number sh.history) o.1 first.1,
-            ap (λ (b : Bool). cond b (length vs) (sh.seat q.number)) (eq-eqb q.number r.number num) ∙ sym t.0,
-            ap (λ (b : Bool). cond b 0 (cond (nat_eq (sh.seat q.number) id) (sh.position q.number - 1) (sh.position q.number))) (eq-eqb q.number r.number num) ∙ sym o.0))
+            let num : q.number ≡ r.number = ap (λ (x : Record T). x.number) (sym o.1) in (
+              subst (λ (z : Record T). z.number < n) o.1 first.0,
+              subst (λ (z : Record T). z.steps ≡ own_steps z.number sh.history) o.1 first.1,
+              ap (λ (b : Bool). cond b (length vs) (sh.seat q.number)) (eq-eqb q.number r.number num) ∙ sym t.0,
+              ap (λ (b : Bool). cond b 0 (cond (nat_eq (sh.seat q.number) id) (sh.position q.number - 1) (sh.position q.number))) (eq-eqb q.number r.number num) ∙ sym o.0,
+            ))
             (snoc_at vs (alone r) v' j e);
         each = everyone_split T n s.views sh.seat sh.position id r rs here (λ q i e. (sh.records id (viewing (r ∷ rs)) here i q e).3) first.3 sh.each;
       }
@@ -167,8 +174,10 @@ module _ {S T : Type 0} (n : ℕ) (start : List ℕ) (after : T → List ℕ →
       let seat' : ℕ → ℕ = λ c. cond (nat_eq (sh.seat c) other) id (sh.seat c) in
       let position' : ℕ → ℕ = λ c. cond (nat_eq (sh.seat c) other) (length v.records.value + sh.position c) (sh.position c) in
       let stays : (q : Record T) (j i : ℕ) → j ≢ other → sh.seat q.number ≡ j → sh.position q.number ≡ i → (seat' q.number ≡ j) × (position' q.number ≡ i) =
-          (λ q j i far es ep. (ap (λ (b : Bool). cond b id (sh.seat q.number)) (ne_eqb (sh.seat q.number) other (λ z. far (sym es ∙ z))) ∙ es,
-          ap (λ (b : Bool). cond b (length v.records.value + sh.position q.number) (sh.position q.number)) (ne_eqb (sh.seat q.number) other (λ z. far (sym es ∙ z))) ∙ ep)) in record {
+      (λ q j i far es ep. (
+        ap (λ (b : Bool). cond b id (sh.seat q.number)) (ne_eqb (sh.seat q.number) other (λ z. far (sym es ∙ z))) ∙ es,
+        ap (λ (b : Bool). cond b (length v.records.value + sh.position q.number) (sh.position q.number)) (ne_eqb (sh.seat q.number) other (λ z. far (sym es ∙ z))) ∙ ep,
+      )) in record {
         history = sh.history;
         lawful = sh.lawful;
         words_are = sh.words_are;
@@ -179,9 +188,12 @@ module _ {S T : Type 0} (n : ℕ) (start : List ℕ) (after : T → List ℕ →
             (λ (t : (j ≢ other) × (get_elem? vs j ≡ some v')). ⊎_elim
             (λ (u : (j ≡ id) × (both ≡ v')). ⊎_elim
             (λ (own : get_elem? v.records.value i ≡ some q). let o = sh.records id v at i q own in let m = stays q j i t.0 (o.2 ∙ sym u.0) o.3 in (o.0, o.1, m.0, m.1))
-            (λ (his : (a : ℕ) × (i ≡ length v.records.value + a) × (get_elem? w.records.value a ≡ some q)). let o = sh.records other w that his.0 q his.2 in
-            (o.0, o.1, ap (λ (b : Bool). cond b id (sh.seat q.number)) (eq-eqb (sh.seat q.number) other o.2) ∙ sym u.0,
-            ap (λ (b : Bool). cond b (length v.records.value + sh.position q.number) (sh.position q.number)) (eq-eqb (sh.seat q.number) other o.2) ∙ ap (λ (z : ℕ). length v.records.value + z) o.3 ∙ sym his.1))
+            (λ (his : (a : ℕ) × (i ≡ length v.records.value + a) × (get_elem? w.records.value a ≡ some q)). let o = sh.records other w that his.0 q his.2 in (
+              o.0,
+              o.1,
+              ap (λ (b : Bool). cond b id (sh.seat q.number)) (eq-eqb (sh.seat q.number) other o.2) ∙ sym u.0,
+              ap (λ (b : Bool). cond b (length v.records.value + sh.position q.number) (sh.position q.number)) (eq-eqb (sh.seat q.number) other o.2) ∙ ap (λ (z : ℕ). length v.records.value + z) o.3 ∙ sym his.1,
+            ))
             (append_at v.records.value w.records.value q i (ap (λ (z : View T). get_elem? z.records.value i) u.1 ∙ e')))
             (λ (u : (j ≢ id) × (get_elem? s.views j ≡ some v')). let o = sh.records j v' u.1 i q e' in let m = stays q j i t.0 o.2 o.3 in (o.0, o.1, m.0, m.1))
             (at_set s.views id j both v' t.1))

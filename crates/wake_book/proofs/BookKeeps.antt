@@ -1,5 +1,5 @@
 -- Each kind of step on the book keeps its rule, and tells what it tells.
-use Rattle.std.proofs.Common.{◌≡◌, ◌≢◌, ℕ, ◌+◌, ◌*◌, ◌%◌, ◌^◌, ◌<◌, ◌≤◌, List, [], ◌∷◌, get_or, set, eqb, arith, refl, sym, ap, ◌∙◌, subst}
+use Rattle.std.proofs.Common.{◌≡◌, ℕ, ◌+◌, ◌*◌, ◌%◌, ◌^◌, ◌<◌, ◌≤◌, List, ◌∷◌, set, eqb, arith, refl, sym, ap, ◌∙◌, subst}
 use mathlib.Core.Option.{none}
 use lib.Seq.{set-get_or}
 use prog.Atomic.{either}
@@ -8,7 +8,7 @@ use Rattle.atomic_table.proofs.Lists.{exchanged}
 use Rattle.step_ledger.specs.declared.record.Record.{Record}
 use Rattle.step_ledger.specs.declared.record.View.{View}
 use Rattle.step_ledger.specs.Views.{alone, steps_of}
-use Rattle.step_ledger.specs.History.{own_steps, total, sum_to, Lawful}
+use Rattle.step_ledger.specs.History.{own_steps, total, Lawful}
 use Rattle.step_ledger.proofs.Members.{allows}
 use Rattle.step_ledger.proofs.Sums.{sum_most}
 use Rattle.wake_book.specs.declared.book.Limits.{Limits}

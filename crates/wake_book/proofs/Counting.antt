@@ -1,14 +1,14 @@
 -- What a lawful history of the book says.
-use Rattle.std.proofs.Common.{◌≡◌, ◌≢◌, ℕ, zero, suc, ◌+◌, ◌-◌, ◌*◌, ◌^◌, ◌<◌, ◌≤◌, List, [], ◌∷◌, length, get_or, set, nat_eq, Bool, cond, min, arith, refl, sym, ap, ◌∙◌, subst, eq-eqb, ne_eqb, length-set, get_or-set_same, get_or-set_other}
+use Rattle.std.proofs.Common.{◌≡◌, ◌≢◌, ℕ, zero, suc, ◌+◌, ◌-◌, ◌*◌, ◌<◌, ◌≤◌, List, [], ◌∷◌, length, get_or, Bool, cond, min, arith, refl, sym, ap, ◌∙◌, subst, eq-eqb, ne_eqb, length-set, get_or-set_same, get_or-set_other}
 use mathlib.Core.Logic.{dite}
-use mathlib.Core.Option.{some, some-injective}
+use mathlib.Core.Option.{some-injective}
 use lib.ListN.{get_elem?}
 use native.Mathlib.Decide.{ℕ_discrete}
 use Rattle.wake_book.specs.declared.book.Limits.{Limits}
 use Rattle.wake_book.specs.declared.steps.BookStep.{BookStep}
 use Rattle.wake_book.specs.declared.steps.BookStep.TheVariants.{LookCompletions, LookWakeups, Add, Advance}
 use Rattle.step_ledger.specs.History.{own_steps, total, total_all, sum_to, Lawful}
-use Rattle.wake_book.specs.Charges.{opening_words, words_after, words_in, completions_in, wakeups_in, added, one_if, charged, covers, taken, MayStep, exchange_to}
+use Rattle.wake_book.specs.Charges.{words_after, words_in, completions_in, wakeups_in, added, one_if, charged, covers, taken, MayStep, exchange_to}
 use Rattle.wake_book.specs.Charging.{LosesTries}
 use Rattle.step_ledger.proofs.Members.{own_here, own_else}
 use Rattle.step_ledger.proofs.Sums.{totals, sum_most, sum_has}

@@ -1,12 +1,12 @@
 -- What the book's words say once no thread shares it.
-use Rattle.std.proofs.Common.{◌≡◌, ℕ, zero, suc, ◌-◌, ◌*◌, ◌^◌, ◌≤◌, min, List, [], ◌∷◌, get_or, arith, refl, sym, ap, ◌∙◌}
+use Rattle.std.proofs.Common.{◌≡◌, ℕ, zero, suc, ◌-◌, ◌^◌, ◌≤◌, min, List, [], ◌∷◌, get_or, arith, sym, ap, ◌∙◌}
 use mathlib.Core.Option.{some, some-injective, some-ne-none}
 use lib.ListN.{get_elem?}
 use Rattle.atomic_table.specs.Table.{Final, Seen}
 use Rattle.step_ledger.specs.declared.record.Record.{Record}
 use Rattle.step_ledger.specs.declared.record.View.{View}
 use Rattle.step_ledger.specs.Views.{HasAll, numbers, turned, sum_over}
-use Rattle.step_ledger.specs.History.{own_steps, total, total_all, sum_to}
+use Rattle.step_ledger.specs.History.{own_steps, total}
 use Rattle.step_ledger.proofs.Sums.{totals, sum_most}
 use Rattle.step_ledger.proofs.Turned.{sum_turned}
 use Rattle.step_ledger.proofs.Gathers.{gathered}

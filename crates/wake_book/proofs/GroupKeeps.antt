@@ -1,5 +1,5 @@
 -- Each kind of step on the groups keeps their rule, and tells what it tells.
-use Rattle.std.proofs.Common.{◌≡◌, ◌≢◌, ℕ, zero, suc, ◌+◌, ◌-◌, ◌*◌, ◌/◌, ◌%◌, ◌^◌, ◌<◌, ◌≤◌, List, [], ◌∷◌, get_or, set, eqb, arith, refl, sym, ap, ◌∙◌, subst}
+use Rattle.std.proofs.Common.{◌≡◌, ℕ, suc, ◌+◌, ◌-◌, ◌%◌, ◌^◌, ◌<◌, ◌≤◌, List, get_or, set, eqb, arith, refl, sym, ap, ◌∙◌, subst}
 use mathlib.Core.Option.{none}
 use lib.Seq.{set-get_or}
 use prog.Atomic.{either}
@@ -8,7 +8,7 @@ use Rattle.atomic_table.proofs.Lists.{exchanged}
 use Rattle.step_ledger.specs.declared.record.Record.{Record}
 use Rattle.step_ledger.specs.declared.record.View.{View}
 use Rattle.step_ledger.specs.Views.{alone, push, steps_of}
-use Rattle.step_ledger.specs.History.{own_steps, total, Lawful}
+use Rattle.step_ledger.specs.History.{total, Lawful}
 use Rattle.step_ledger.proofs.Members.{allows}
 use Rattle.wake_book.specs.declared.steps.GroupStep.{GroupStep}
 use Rattle.wake_book.specs.declared.steps.GroupStep.TheVariants.{Look, Raise, Lower, Enter, Grant, Use, Withdraw, Store}

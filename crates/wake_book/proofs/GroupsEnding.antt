@@ -1,16 +1,15 @@
 -- What the groups' words say once no thread shares them.
-use Rattle.std.proofs.Common.{◌≡◌, ℕ, ◌+◌, ◌-◌, ◌*◌, ◌/◌, ◌%◌, ◌^◌, ◌<◌, ◌≤◌, min, List, get_or, arith, refl, sym, ap, ◌∙◌}
+use Rattle.std.proofs.Common.{◌≡◌, ℕ, ◌+◌, ◌-◌, ◌^◌, ◌≤◌, min, List, arith, sym, ap, ◌∙◌}
 use Rattle.atomic_table.specs.Table.{Final, Seen}
 use Rattle.step_ledger.specs.declared.record.Record.{Record}
 use Rattle.step_ledger.specs.declared.record.View.{View}
 use Rattle.step_ledger.specs.Views.{HasAll, numbers, turned, sum_over}
-use Rattle.step_ledger.specs.History.{own_steps, total, total_all, sum_to}
+use Rattle.step_ledger.specs.History.{own_steps, total, sum_to}
 use Rattle.step_ledger.proofs.Sums.{totals, sum_most}
 use Rattle.step_ledger.proofs.Turned.{sum_turned}
 use Rattle.step_ledger.proofs.Gathers.{Gathered, gathered}
-use Rattle.wake_book.specs.declared.groups.GroupTotals.{GroupTotals}
 use Rattle.wake_book.specs.declared.steps.GroupStep.{GroupStep}
-use Rattle.wake_book.specs.Waits.{opening_words, words_after, words_in, word, granted, waiting, raised, stand, stands_in, moved_by, used_by, MayStep, GroupsRule}
+use Rattle.wake_book.specs.Waits.{opening_words, words_after, word, granted, waiting, raised, stands_in, moved_by, used_by, MayStep, GroupsRule}
 use Rattle.wake_book.specs.Balance.{IsBalanced}
 use Rattle.wake_book.proofs.Standing.{balanced, balance, active_is, all_issued, moved_capped}
 

@@ -1,12 +1,12 @@
 -- What a lawful history of the groups says.
-use Rattle.std.proofs.Common.{◌≡◌, ◌≢◌, ℕ, zero, suc, ◌+◌, ◌-◌, ◌*◌, ◌/◌, ◌%◌, ◌^◌, ◌<◌, ◌≤◌, List, [], ◌∷◌, replicate, length, get_or, set, nat_eq, Bool, cond, min, arith, refl, sym, ap, ◌∙◌, subst, eq-eqb, ne_eqb, length-set, get_or-set_same, get_or-set_other}
+use Rattle.std.proofs.Common.{◌≡◌, ◌≢◌, ℕ, zero, suc, ◌+◌, ◌-◌, ◌*◌, ◌/◌, ◌%◌, ◌^◌, ◌<◌, ◌≤◌, List, [], ◌∷◌, replicate, length, get_or, set, nat_eq, Bool, cond, arith, refl, sym, ap, ◌∙◌, subst, eq-eqb, ne_eqb, length-set, get_or-set_same, get_or-set_other}
 use mathlib.Core.Logic.{dite}
 use native.Mathlib.Decide.{ℕ_discrete}
 use Rattle.wake_book.specs.declared.steps.GroupStep.{GroupStep}
 use Rattle.wake_book.specs.declared.steps.GroupStep.TheVariants.{Look, Raise, Lower, Enter, Grant, Use, Withdraw, Store}
 use Rattle.wake_book.specs.Charges.{exchange_to}
 use Rattle.step_ledger.specs.History.{own_steps, total, total_all, sum_to, Lawful}
-use Rattle.wake_book.specs.Waits.{opening_words, words_after, words_in, group_at, word, granted, waiting, moved_in, raised, stand, stands_in, moved_by, used_by, MayStep}
+use Rattle.wake_book.specs.Waits.{words_after, words_in, group_at, word, granted, waiting, moved_in, raised, stand, moved_by, used_by, MayStep}
 use Rattle.step_ledger.proofs.Members.{own_here, own_else}
 use Rattle.wake_book.proofs.Counting.{moves, misses}
 use Rattle.step_ledger.proofs.Sums.{totals, sum_most, sum_same, sum_two, sum_three, sum_has, sum_only, sum_none}

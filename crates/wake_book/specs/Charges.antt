@@ -1,5 +1,5 @@
 -- The charge book's words, what each step does to them, and when a step may happen.
-use Rattle.std.specs.Prelude.{◌≡◌, ℕ, ◌+◌, ◌-◌, ◌^◌, ◌<◌, ◌≤◌, List, [], ◌∷◌, replicate, slice_index, slice_set, cond, min, nat_eq, Bool, true, false}
+use Rattle.std.specs.Prelude.{◌≡◌, ℕ, ◌+◌, ◌-◌, ◌^◌, ◌<◌, ◌≤◌, List, ◌∷◌, replicate, slice_index, slice_set, cond, min, nat_eq, Bool, true, false}
 use Rattle.atomic_table.specs.Table.{State, Me}
 use Rattle.atomic_table.specs.Table as table
 use Rattle.step_ledger.specs.declared.record.View.{View}

@@ -1,5 +1,5 @@
 -- Words about wait groups and their waiters, for public clauses.
-use Rattle.std.specs.Prelude.{◌≡◌, ◌≢◌, ℕ, ◌+◌, ◌<◌, ◌≤◌, ◌⊎◌, List, ◌∷◌, All, map, Option, Some, None}
+use Rattle.std.specs.Prelude.{◌≡◌, ◌≢◌, ℕ, ◌+◌, ◌<◌, ◌≤◌, ◌⊎◌, List, ◌∷◌, All, map, Option, None}
 use Rattle.step_ledger.specs.declared.record.Record.{Record}
 use Rattle.step_ledger.specs.Views as views
 use Rattle.step_ledger.specs.History.{total}

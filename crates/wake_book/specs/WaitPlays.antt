@@ -1,5 +1,5 @@
 -- What each kind of step on the wait groups tells.
-use Rattle.std.specs.Prelude.{◌≡◌, ℕ, suc, ◌+◌, ◌-◌, ◌*◌, ◌<◌, ◌≤◌}
+use Rattle.std.specs.Prelude.{◌≡◌, ℕ, suc, ◌<◌, ◌≤◌}
 use Rattle.atomic_table.specs.Table.{Me}
 use Rattle.atomic_table.specs.Table as table
 use Rattle.step_ledger.specs.declared.record.View.{View}

@@ -1,10 +1,9 @@
-use Rattle.std.proofs.Common.{rules, ◌≡◌, ◌≢◌, ℕ, ◌+◌, ◌<◌, List, map, length, refl, sym, ap, ◌∙◌, subst, below_more, arith}
+use Rattle.std.proofs.Common.{◌≡◌, ◌≢◌, ℕ, length, refl, sym, ap, ◌∙◌, below_more, arith}
 use Rattle.std.proofs.lemmas.List.{length-map}
 use mathlib.Core.Option.{some, some-injective}
 use lib.ListN.{get_elem?}
 use Rattle.atomic_table.proofs.Lists.{at_map, at_index}
 use Rattle.step_ledger.proofs.Turned.{nowhere}
-use Rattle.wake_book.specs.declared.book.Teller.{Teller}
 use Rattle.wake_book.specs.Book.{number_of, numbers_of}
 use Rattle.wake_book.proofs.book_closing.has_number.Goals as goal
 

@@ -1,4 +1,4 @@
-use Rattle.std.proofs.Common.{arith, ◌≡◌, ℕ, suc, ◌+◌, ◌*◌, ◌/◌, ◌%◌, ◌≤◌, List, get_or, sym, ap, ◌∙◌}
+use Rattle.std.proofs.Common.{arith, ◌≡◌, ℕ, suc, ◌+◌, ◌/◌, ◌%◌, List, get_or, sym, ap, ◌∙◌}
 use Rattle.std.specs.Slots.{slots_items}
 use Rattle.step_ledger.specs.History.{sum_to}
 use Rattle.wake_book.specs.Waits.{granted, waiting, word}

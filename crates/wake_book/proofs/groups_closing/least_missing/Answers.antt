@@ -1,4 +1,4 @@
-use Rattle.std.proofs.Common.{rules, IsTrue, below_more}
+use Rattle.std.proofs.Common.{rules, below_more}
 use Rattle.step_ledger.specs.Views.{Has}
 use Rattle.wake_book.specs.Groups.{numbers_of}
 use Rattle.wake_book.proofs.groups_closing.least_missing.Goals as goal

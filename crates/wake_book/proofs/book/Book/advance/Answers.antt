@@ -1,10 +1,9 @@
-use Rattle.std.proofs.Common.{arith, refl, ◌≡◌, ℕ, ◌^◌, ◌+◌, ◌-◌, ◌<◌, ◌≤◌, List, ◌∷◌, sym, ap, ◌∙◌, subst, IsFalse}
+use Rattle.std.proofs.Common.{arith, refl, ℕ, ◌^◌, ◌-◌, ◌≤◌, ◌∷◌, sym, ap, ◌∙◌, subst}
 use Rattle.step_ledger.specs.Views.{steps_of, push}
 use Rattle.step_ledger.specs.History.{total}
 use Rattle.wake_book.specs.declared.book.Limits.{Limits}
-use Rattle.wake_book.specs.declared.steps.BookStep.{BookStep}
-use Rattle.wake_book.specs.declared.steps.BookStep.TheVariants.{LookCompletions, LookWakeups, Add, Advance}
-use Rattle.wake_book.specs.Charges.{added, taken}
+use Rattle.wake_book.specs.declared.steps.BookStep.TheVariants.{Advance}
+use Rattle.wake_book.specs.Charges.{taken}
 use Rattle.wake_book.proofs.BookKeeps as keeps
 use Rattle.wake_book.proofs.Standing.{yes_of, no_of}
 use Rattle.wake_book.proofs.book.Book.advance.Goals as goal

@@ -1,4 +1,4 @@
-use Rattle.std.proofs.Common.{arith, ◌≡◌, ℕ, ◌+◌, ◌*◌, ◌<◌, ◌≤◌, List, ◌∷◌, length, sym, ap, ◌∙◌}
+use Rattle.std.proofs.Common.{arith, length, ap}
 use Rattle.wake_book.proofs.Counting.{lost_long}
 use Rattle.wake_book.proofs.book.Book.count.Goals as goal
 

@@ -1,5 +1,5 @@
-use Rattle.std.proofs.Common.{arith, ◌≡◌, ℕ, ◌<◌, List, [], ◌∷◌, refl, sym, ap, subst}
-use Rattle.step_ledger.specs.Views.{Has, HasAll, IsLeastMissing, numbers}
+use Rattle.std.proofs.Common.{arith, ◌≡◌, ℕ, List, [], ◌∷◌, refl, sym, ap, subst}
+use Rattle.step_ledger.specs.Views.{HasAll, IsLeastMissing, numbers}
 use Rattle.wake_book.specs.declared.book.Teller.{Teller}
 use Rattle.wake_book.specs.Book.{number_of, numbers_of, records_of}
 use Rattle.wake_book.proofs.book.Book.gather.Goals as goal

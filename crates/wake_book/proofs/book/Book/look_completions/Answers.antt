@@ -1,4 +1,4 @@
-use Rattle.std.proofs.Common.{arith, ◌≡◌, ◌^◌, ◌≤◌, sym, ap, ◌∙◌, subst}
+use Rattle.std.proofs.Common.{arith, ◌^◌, ◌≤◌, sym, ap, ◌∙◌, subst}
 use Rattle.step_ledger.specs.Views.{steps_of, push}
 use Rattle.wake_book.specs.declared.book.Limits.{Limits}
 use Rattle.wake_book.specs.declared.steps.BookStep.TheVariants.{LookCompletions}

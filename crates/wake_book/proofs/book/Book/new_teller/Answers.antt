@@ -1,8 +1,6 @@
-use Rattle.std.proofs.Common.{arith, ◌≡◌, ℕ, ◌+◌, ◌-◌, ◌<◌, List, [], ◌∷◌, refl, sym, ap, ◌∙◌, subst}
-use Rattle.step_ledger.specs.declared.record.Record.{Record}
+use Rattle.std.proofs.Common.{arith, ◌≡◌, ℕ, ◌+◌, ◌-◌, List, ◌∷◌, ap, ◌∙◌}
 use Rattle.step_ledger.specs.Views.{viewing, fresh, fresh_record, other_views, first_view, steps_of}
 use Rattle.step_ledger.proofs.Members.{splits, next_fresh}
-use Rattle.wake_book.specs.declared.book.Limits.{Limits}
 use Rattle.wake_book.specs.declared.steps.BookStep.{BookStep}
 use Rattle.wake_book.specs.Charges.{opening_words, words_after, MayStep}
 use Rattle.wake_book.proofs.book.Book.new_teller.Goals as goal

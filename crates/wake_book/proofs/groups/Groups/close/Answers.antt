@@ -1,4 +1,4 @@
-use Rattle.std.proofs.Common.{arith, ◌≡◌, ℕ, ◌≤◌, sym, subst}
+use Rattle.std.proofs.Common.{ℕ, subst}
 use Rattle.std.specs.Slots.{slots_items}
 use Rattle.atomic_table.specs.Table.{Final, Seen}
 use Rattle.wake_book.specs.Waits.{GroupsRule}

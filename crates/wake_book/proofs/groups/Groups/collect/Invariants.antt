@@ -1,4 +1,4 @@
-use Rattle.std.proofs.Common.{◌≡◌, ℕ, ◌++◌, List, All, length}
+use Rattle.std.proofs.Common.{◌≡◌, ◌++◌, All, length}
 use Rattle.step_ledger.specs.Views.{turned}
 use Rattle.wake_book.specs.Groups.{IsWaiterOf, records_of}
 use Rattle.wake_book.proofs.groups.Groups.collect.Given as goal

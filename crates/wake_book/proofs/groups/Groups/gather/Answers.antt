@@ -1,5 +1,5 @@
-use Rattle.std.proofs.Common.{arith, ◌≡◌, ℕ, ◌<◌, List, [], ◌∷◌, refl, sym, ap, subst}
-use Rattle.step_ledger.specs.Views.{Has, HasAll, IsLeastMissing, numbers}
+use Rattle.std.proofs.Common.{arith, ◌≡◌, ℕ, List, [], ◌∷◌, refl, sym, ap, subst}
+use Rattle.step_ledger.specs.Views.{HasAll, IsLeastMissing, numbers}
 use Rattle.wake_book.specs.declared.groups.Waiter.{Waiter}
 use Rattle.wake_book.specs.Groups.{number_of, numbers_of, records_of}
 use Rattle.wake_book.proofs.groups.Groups.gather.Goals as goal

@@ -1,4 +1,4 @@
-use Rattle.std.proofs.Common.{◌≡◌, ℕ, ◌-◌, [], All}
+use Rattle.std.proofs.Common.{◌≡◌, ◌-◌, [], All}
 use Rattle.step_ledger.specs.Views.{viewing, fresh}
 use Rattle.wake_book.specs.Groups.{IsWaiterOf, IsNew, records_of}
 use Rattle.wake_book.proofs.groups.Groups.hand_out.Given as goal

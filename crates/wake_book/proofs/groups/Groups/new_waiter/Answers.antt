@@ -1,5 +1,4 @@
-use Rattle.std.proofs.Common.{arith, ◌≡◌, ℕ, ◌+◌, ◌-◌, ◌<◌, List, [], ◌∷◌, refl, sym, ap, ◌∙◌, subst}
-use Rattle.step_ledger.specs.declared.record.Record.{Record}
+use Rattle.std.proofs.Common.{arith, ◌≡◌, ℕ, ◌+◌, ◌-◌, List, ◌∷◌, refl, ap, ◌∙◌}
 use Rattle.step_ledger.specs.Views.{viewing, fresh, fresh_record, other_views, first_view, steps_of}
 use Rattle.step_ledger.proofs.Members.{splits, next_fresh}
 use Rattle.wake_book.specs.declared.steps.GroupStep.{GroupStep}

@@ -1,15 +1,6 @@
-use Rattle.std.proofs.Common.{arith, ◌≡◌, ◌≢◌, ℕ, eqb, suc, ◌+◌, ◌-◌, ◌*◌, ◌/◌, ◌%◌, ◌^◌, ◌<◌, ◌≤◌, min, List, [], ◌∷◌, length, Some, None, IsSome, nat_eq, cond, refl, sym, ap, ◌∙◌, subst}
-use prog.Atomic.{either}
-use Rattle.step_ledger.specs.declared.record.Record.{Record}
-use Rattle.step_ledger.specs.Views.{steps_of, push, alone, with_step}
-use Rattle.step_ledger.specs.History.{total}
-use Rattle.step_ledger.proofs.Members.{pushed, settled}
-use Rattle.wake_book.specs.declared.steps.GroupStep.{GroupStep}
-use Rattle.wake_book.specs.declared.steps.GroupStep.TheVariants.{Look, Raise, Lower, Enter, Grant, Use, Withdraw, Store}
-use Rattle.wake_book.specs.Waits.{group_at, granted, waiting, moved_in, stand, raised, moved_by}
-use Rattle.wake_book.specs.WaitPlays.{looked_group, entering, granting, using, withdrawing}
-use Rattle.wake_book.specs.Stands.{stand_code}
-use Rattle.wake_book.proofs.Standing.{yes_of, no_of}
+use Rattle.std.proofs.Common.{arith, ◌≤◌, ap, ◌∙◌}
+use Rattle.step_ledger.specs.Views.{steps_of, push}
+use Rattle.wake_book.specs.declared.steps.GroupStep.TheVariants.{Store}
 use Rattle.wake_book.proofs.GroupKeeps as keeps
 use Rattle.wake_book.proofs.groups.Groups.store_index.Goals as goal
 

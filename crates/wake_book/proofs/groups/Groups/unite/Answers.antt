@@ -1,4 +1,4 @@
-use Rattle.std.proofs.Common.{arith, ◌≡◌, ℕ, ◌+◌, ◌-◌, ◌^◌, ◌<◌, min, List, [], ◌++◌, sym, ap, ◌∙◌}
+use Rattle.std.proofs.Common.{arith, ap, ◌∙◌}
 use Rattle.step_ledger.specs.Views.{sum_over}
 use Rattle.step_ledger.specs.History.{total}
 use Rattle.step_ledger.proofs.Members.{joins}

@@ -1,4 +1,3 @@
-use Rattle.std.proofs.Common.{◌≡◌}
 use Rattle.wake_book.specs.Groups.{IsWaiterOf}
 use Rattle.wake_book.proofs.tests.threads.wake_often.Given as goal
 
