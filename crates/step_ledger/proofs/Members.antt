@@ -44,10 +44,6 @@ module _ {T : Type 0} where
   fresh_longer c (suc m) = let z : c + suc m ≡ suc c + m = omega arith in let y : suc m + 1 ≡ suc (m + 1) = omega arith in
       ap (λ (x : ℕ). fresh_record {T = T} c ∷ (fresh {T = T} (suc c) m ++ fresh_record x ∷ [])) z ∙ ap (λ (l : List (Record T)). fresh_record c ∷ l) (fresh_longer (suc c) m) ∙ ap (fresh {T = T} c) (sym y)
 
-  -- a list that stands in order has all numbers
-  pub fresh_none : (c : ℕ) → fresh {T = T} c 0 ≡ []
-  fresh_none c = refl
-
 module _ {S T : Type 0} where
   -- what a member knows after a step
   pub pushed : (m m' : Me S (View T)) (r : Record T) (x : T) → m ≡ (alone r, []) → Stepped x m m' → m' ≡ (alone (with_step x r), [])

@@ -29,14 +29,14 @@ module _ {T : Type 0} where
   abbrev pub AreListsOf : List (ℕ × T) → List (Record T) → Type 0
   AreListsOf h rs = (i : ℕ) (r : Record T) → get_elem? rs i ≡ some r → r.steps ≡ own_steps r.number h
 
-  -- the words that a history leaves of the opening ones
   module _ (start : List ℕ) (after : T → List ℕ → List ℕ) where
+    -- the words that a history leaves of the opening ones
     abbrev pub words_of : List (ℕ × T) → List ℕ
     words_of [] = start
     words_of (x ∷ h) = after x.1 (words_of h)
 
-  -- each step is by one of n members, and might happen after those before it
   module _ (n : ℕ) (MayStep : ℕ → T → List (ℕ × T) → Type 0) where
+    -- each step is by one of n members, and might happen after those before it
     abbrev pub Lawful : List (ℕ × T) → Type 0
     Lawful [] = Unit {0}
     Lawful (x ∷ h) = (x.0 < n) × MayStep x.0 x.1 h × Lawful h

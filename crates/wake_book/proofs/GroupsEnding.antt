@@ -1,5 +1,5 @@
 -- What the groups' words say once no thread shares them.
-use Rattle.std.proofs.Common.{◌≡◌, ℕ, ◌+◌, ◌-◌, ◌^◌, ◌≤◌, min, List, arith, sym, ap, ◌∙◌}
+use Rattle.std.proofs.Common.{◌≡◌, ℕ, ◌+◌, ◌-◌, ◌^◌, ◌≤◌, min, List, arith, sym, ap, ◌∙◌, subst}
 use Rattle.atomic_table.specs.Table.{Final, Seen}
 use Rattle.step_ledger.specs.declared.record.Record.{Record}
 use Rattle.step_ledger.specs.declared.record.View.{View}
@@ -9,9 +9,9 @@ use Rattle.step_ledger.proofs.Sums.{totals, sum_most}
 use Rattle.step_ledger.proofs.Turned.{sum_turned}
 use Rattle.step_ledger.proofs.Gathers.{Gathered, gathered}
 use Rattle.wake_book.specs.declared.steps.GroupStep.{GroupStep}
-use Rattle.wake_book.specs.Waits.{opening_words, words_after, word, granted, waiting, raised, stands_in, moved_by, used_by, MayStep, GroupsRule}
+use Rattle.wake_book.specs.Waits.{stand, opening_words, words_after, word, granted, waiting, raised, stands_in, moved_by, used_by, MayStep, GroupsRule}
 use Rattle.wake_book.specs.Balance.{IsBalanced}
-use Rattle.wake_book.proofs.Standing.{balanced, balance, active_is, all_issued, moved_capped}
+use Rattle.wake_book.proofs.Standing.{balanced, balance, active_is, all_issued, moved_capped, who_stands}
 
 module _ {S : Type 0} (n : ℕ) (few : n ≤ 64) (id : ℕ) (v : View GroupStep) (ws : List ℕ) (xs : List S) (waiters : List (Record GroupStep)) (moved granted_now waiting_now : ℕ)
     (last : Final (Seen (GroupsRule n) id v) ws xs) (is : v.records.value ≡ turned waiters) (all : HasAll (numbers waiters) n) (sum : moved ≡ min (sum_over (total moved_by) v.records.value) (2 ^ 64 - 1))
@@ -38,6 +38,7 @@ module _ {S : Type 0} (n : ℕ) (few : n ≤ 64) (id : ℕ) (v : View GroupStep)
     lists = found.lists;
     standing = λ g less. balance n g h l (balanced n few g less h l) ∙ sym (found.sums (stands_in g));
     active = active_is n h l ∙ sym (found.sums raised);
+    active_all = λ i r at some_stand. ap raised (found.lists i r at) ∙ who_stands n h l r.number (subst (λ (z : List GroupStep). 1 ≤ stand z) (found.lists i r at) some_stand);
     issued = issued_is;
     used = omega arith;
     granted_all = granted_is ∙ ap (λ (z : List ℕ). sum_to (λ g. granted (word z g)) 8) found.words_are;

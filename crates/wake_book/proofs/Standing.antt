@@ -331,3 +331,17 @@ module _ (n : ℕ) where
   -- no waiter moves more than its cap
   pub moved_capped : (h : Hist) → Ok h → (c : ℕ) → total moved_by (own_steps c h) ≤ 2 ^ 56
   moved_capped h l c = each (λ s. total moved_by s ≤ 2 ^ 56) (omega arith) moved_step h l c
+
+  stands_up : (c : ℕ) (x : GroupStep) (h : Hist) → MayStep c x h → (1 ≤ stand (own_steps c h) → raised (own_steps c h) ≡ 1) → 1 ≤ stand (x ∷ own_steps c h) → raised (x ∷ own_steps c h) ≡ 1
+  stands_up c (Look i f) h can o e = o e
+  stands_up c (Raise f) h can o e = refl
+  stands_up c (Lower f) h can o e = let out = can.2 in absurd (omega arith)
+  stands_up c (Enter u f) h can o e = can.2
+  stands_up c (Grant u old m f) h can o e = o e
+  stands_up c (Use u old f) h can o e = let at = can.3 in o (omega arith)
+  stands_up c (Withdraw u old f) h can o e = let at = can.3 in o (omega arith)
+  stands_up c (Store v) h can o e = o e
+
+  -- who stands has raised the active count
+  pub who_stands : (h : Hist) → Ok h → (c : ℕ) → 1 ≤ stand (own_steps c h) → raised (own_steps c h) ≡ 1
+  who_stands h l c = each (λ s. 1 ≤ stand s → raised s ≡ 1) (λ e. absurd (omega arith)) stands_up h l c

@@ -60,7 +60,8 @@ batch_of book = book.batch
 
 -- the teller just looked, and found at least this many completions
 abbrev pub JustSaw : Teller → ℕ → Type 0
-JustSaw teller most = (completions : ℕ) × (before : List BookStep) × (steps_of teller ≡ LookCompletions completions ∷ before) × (most ≤ completions)
+JustSaw teller most = (completions : ℕ) × (before : List BookStep)
+    × (steps_of teller ≡ LookCompletions completions ∷ before) × (most ≤ completions)
 
 -- the teller's exchange of the wakeups found another count than it expected
 abbrev pub LosesAdvance : ℕ → ℕ → Teller → Teller → Type 0

@@ -1,5 +1,5 @@
 -- Words about wait groups and their waiters, for public clauses.
-use Rattle.std.specs.Prelude.{◌≡◌, ◌≢◌, ℕ, ◌+◌, ◌<◌, ◌≤◌, ◌⊎◌, List, ◌∷◌, All, map, Option, None}
+use Rattle.std.specs.Prelude.{◌≡◌, ◌≢◌, ℕ, ◌+◌, ◌<◌, ◌≤◌, ◌⊎◌, List, ◌∷◌, All, map, Option, Some, None}
 use Rattle.step_ledger.specs.declared.record.Record.{Record}
 use Rattle.step_ledger.specs.Views as views
 use Rattle.step_ledger.specs.History.{total}
@@ -7,7 +7,9 @@ use Rattle.wake_book.specs.declared.groups.Groups.{Groups}
 use Rattle.wake_book.specs.declared.groups.Waiter.{Waiter}
 use Rattle.wake_book.specs.declared.steps.GroupStep.{GroupStep}
 use Rattle.wake_book.specs.declared.steps.GroupStep.TheVariants.{Lower}
+use Rattle.wake_book.specs.declared.waiting.Left.{Left}
 use Rattle.wake_book.specs.Waits.{moved_by}
+use Rattle.wake_book.specs.Walks.{IsLeave, IsSleep}
 
 -- the waiter came from the opening of these groups
 abbrev pub IsWaiterOf : Groups → Waiter → Type 0
@@ -60,6 +62,14 @@ SameWaiter old new = (number_of new ≡ number_of old) × (wait_index_of new ≡
 -- the waiter stands nowhere, and made this step and then lowered the active count
 abbrev pub LeavesBy : GroupStep → Waiter → Waiter → Type 0
 LeavesBy step old new = (standing_of new ≡ None) × (active : ℕ) × (steps_of new ≡ Lower active ∷ step ∷ steps_of old)
+
+-- the waiter left the group in which it stood, as the answer says
+abbrev pub LeavesAs : Waiter → Waiter → Left → Type 0
+LeavesAs old new left = (group : ℕ) × (standing_of old ≡ Some group) × IsLeave group (steps_of old) (steps_of new) left
+
+-- the waiter slept in the group in which it stands, until it found a grant
+abbrev pub Sleeps : Waiter → Waiter → Type 0
+Sleeps old new = (group : ℕ) × (standing_of old ≡ Some group) × IsSleep group (steps_of old) (steps_of new)
 
 -- the waiter's exchange, by the step that it would be of what is seen, found another word than it expected
 abbrev pub Loses : ℕ → (ℕ → GroupStep) → Waiter → Waiter → Type 0

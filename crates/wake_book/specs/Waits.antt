@@ -17,6 +17,14 @@ opening_words = replicate 88 0
 abbrev pub group_at : ℕ → ℕ
 group_at group = 8 + 8 * group
 
+-- where the active count stands
+abbrev pub active_at : ℕ
+active_at = 72
+
+-- where the wake index stands
+abbrev pub index_at : ℕ
+index_at = 80
+
 -- the low half of a group's word counts the granted
 abbrev pub granted : ℕ → ℕ
 granted word = word % 4294967296

@@ -5,7 +5,7 @@ use Rattle.wake_book.specs.declared.steps.GroupStep.{GroupStep}
 use Rattle.wake_book.specs.declared.steps.GroupStep.TheVariants.{Look, Lower, Grant, Use, Withdraw, Store}
 use Rattle.wake_book.specs.declared.waiting.Left.{Left}
 use Rattle.wake_book.specs.declared.waiting.Left.TheVariants.{Woken, Unwoken}
-use Rattle.wake_book.specs.Waits.{group_at, granted, waiting, moved_by}
+use Rattle.wake_book.specs.Waits.{active_at, index_at, group_at, granted, waiting, moved_by}
 
 -- the look of a try at a group
 abbrev pub looked : ℕ → ℕ → List GroupStep → List GroupStep
@@ -38,24 +38,29 @@ LosesFour g most steps steps' moved = (tries : ℕ) × (tries ≡ 4) × LosesGra
 
 -- a visit to a group for at most so many
 abbrev pub IsVisit : ℕ → ℕ → List GroupStep → List GroupStep → ℕ → Type 0
-IsVisit g most steps steps' moved = FindsNobody g most steps steps' moved ⊎ (WinsGrant g most steps steps' moved ⊎ LosesFour g most steps steps' moved)
+IsVisit g most steps steps' moved = FindsNobody g most steps steps' moved
+    ⊎ (WinsGrant g most steps steps' moved ⊎ LosesFour g most steps steps' moved)
 
--- that many visits to groups in cyclic order from the first, each with some left to wake; at the end so many are left, and that is the next group
+-- that many visits to groups in cyclic order from the first, each with some left to wake;
+-- at the end so many are left, and that is the next group
 abbrev pub AreVisits : ℕ → ℕ → ℕ → List GroupStep → List GroupStep → ℕ → ℕ → Type 0
 AreVisits zero first nr steps steps' left next = (steps' ≡ steps) × (left ≡ nr) × (next ≡ first)
 AreVisits (suc visits) first nr steps steps' left next = (before : List GroupStep) × (most : ℕ) × (g : ℕ) × (moved : ℕ)
-    × AreVisits visits first nr steps before most g × (1 ≤ most) × IsVisit g most before steps' moved × (left ≡ most - moved) × (next ≡ (g + 1) % 8)
+    × AreVisits visits first nr steps before most g × (1 ≤ most) × IsVisit g most before steps' moved
+    × (left ≡ most - moved) × (next ≡ (g + 1) % 8)
 
--- the walk loads an active count that isn't 0 and the wake index, visits groups until nobody is left to wake or all eight were visited, and stores the next group
+-- the walk loads an active count that isn't 0 and the wake index, visits groups until nobody is left to wake or all
+-- eight were visited, and stores the next group
 abbrev pub WalksOn : ℕ → List GroupStep → List GroupStep → ℕ → Type 0
-WalksOn nr steps steps' moved = (active : ℕ) × (1 ≤ active) × (first : ℕ) × (visits : ℕ) × (visits ≤ 8) × (before : List GroupStep) × (left : ℕ) × (next : ℕ)
-    × AreVisits visits first nr (Look 80 first ∷ Look 72 active ∷ steps) before left next × ((left ≡ 0) ⊎ (visits ≡ 8))
+WalksOn nr steps steps' moved = (active : ℕ) × (1 ≤ active) × (first : ℕ) × (visits : ℕ) × (visits ≤ 8)
+    × (before : List GroupStep) × (left : ℕ) × (next : ℕ)
+    × AreVisits visits first nr (Look index_at first ∷ Look active_at active ∷ steps) before left next × ((left ≡ 0) ⊎ (visits ≡ 8))
     × (steps' ≡ Store next ∷ before) × (moved ≡ nr - left)
 
 -- a walk for nr makes no step where its waiter's moves could pass 2^56, and ends where it finds nobody active
 abbrev pub IsWalk : ℕ → List GroupStep → List GroupStep → ℕ → Type 0
 IsWalk nr steps steps' moved = ((2 ^ 56 < total moved_by steps + nr) × (steps' ≡ steps) × (moved ≡ 0))
-    ⊎ (((total moved_by steps + nr ≤ 2 ^ 56) × (steps' ≡ Look 72 0 ∷ steps) × (moved ≡ 0))
+    ⊎ (((total moved_by steps + nr ≤ 2 ^ 56) × (steps' ≡ Look active_at 0 ∷ steps) × (moved ≡ 0))
     ⊎ ((total moved_by steps + nr ≤ 2 ^ 56) × WalksOn nr steps steps' moved))
 
 -- the step looks at the group, or tries to leave it and finds another word than it expected

@@ -18,7 +18,7 @@ mod tests;
 mod waiting;
 mod walk;
 
-pub use book::{Book, BookTotals, Limits, Teller};
+pub use book::{Book, BookTotals, Teller};
 pub use book_closing::BookGatherFault;
 pub use charge::Charge;
 pub use fault::{BookFault, GatherCause};

@@ -1,7 +1,6 @@
 //! Sleeping until a grant stands in the waiter's group.
-ghost use Rattle.std.specs.Prelude.{◌≡◌, ℕ, Some, IsSome};
-ghost use Rattle.wake_book.specs.Walks.{IsSleep};
-ghost use Rattle.wake_book.specs.Groups.{IsWaiterOf, steps_of, standing_of, moved_of, StandsAsBefore};
+ghost use Rattle.std.specs.Prelude.{◌≡◌, IsSome};
+ghost use Rattle.wake_book.specs.Groups.{IsWaiterOf, standing_of, moved_of, StandsAsBefore, Sleeps};
 
 use crate::groups::{Groups, WAITING, Waiter};
 use std::sync::Wait;
@@ -13,7 +12,7 @@ impl Groups {
         requires stands { IsSome (standing_of waiter.old) }
         ensures groups { IsWaiterOf self.now waiter.new × StandsAsBefore waiter.old waiter.new }
         ensures moved { moved_of waiter.new ≡ moved_of waiter.old }
-        ensures slept { (group : ℕ) × (standing_of waiter.old ≡ Some group) × IsSleep group (steps_of waiter.old) (steps_of waiter.new) }
+        ensures slept { Sleeps waiter.old waiter.new }
     {
         let Some(group) = waiter.standing else {
             unreachable!()

@@ -1,8 +1,8 @@
 //! How a waiter comes, looks, and goes.
 ghost use Rattle.std.specs.Prelude.{◌≡◌, ℕ, ◌+◌, ◌%◌, ◌<◌, ◌≤◌, ◌∷◌, length, IsTrue, IsFalse, Some, None, IsSome};
-ghost use Rattle.wake_book.specs.Waits.{group_at, granted, waiting};
-ghost use Rattle.wake_book.specs.Walks.{IsLeave};
-ghost use Rattle.wake_book.specs.Groups.{IsWaiterOf, steps_of, number_of, standing_of, wait_index_of, moved_of, StandsAsBefore, SameWaiter, LeavesBy, Loses};
+ghost use Rattle.wake_book.specs.Waits.{active_at, index_at, group_at, granted, waiting};
+ghost use Rattle.wake_book.specs.Groups.{IsWaiterOf, steps_of, number_of, standing_of, wait_index_of, moved_of};
+ghost use Rattle.wake_book.specs.Groups.{StandsAsBefore, SameWaiter, LeavesBy, LeavesAs, Loses};
 ghost use Rattle.wake_book.specs.declared.steps.GroupStep.TheVariants.{Look, Raise, Enter, Use, Withdraw};
 
 use crate::group_plays::{
@@ -25,7 +25,7 @@ impl Groups {
     pub fn active(&self, waiter: &mut Waiter) -> u64
         requires groups { IsWaiterOf self.now waiter.old }
         ensures groups { IsWaiterOf self.now waiter.new × StandsAsBefore waiter.old waiter.new }
-        ensures step { steps_of waiter.new ≡ Look 72 result ∷ steps_of waiter.old }
+        ensures step { steps_of waiter.new ≡ Look active_at result ∷ steps_of waiter.old }
         ensures own { IsSome (standing_of waiter.old) → 1 ≤ result }
     {
         self.table
@@ -37,7 +37,7 @@ impl Groups {
     pub fn index(&self, waiter: &mut Waiter) -> u32
         requires groups { IsWaiterOf self.now waiter.old }
         ensures groups { IsWaiterOf self.now waiter.new × StandsAsBefore waiter.old waiter.new }
-        ensures step { steps_of waiter.new ≡ Look 80 result ∷ steps_of waiter.old }
+        ensures step { steps_of waiter.new ≡ Look index_at result ∷ steps_of waiter.old }
         ensures within { result < 8 }
     {
         self.table.shared.load::<SeeIndex>(&mut waiter.seat, INDEX) as u32
@@ -80,7 +80,7 @@ impl Groups {
         ensures groups { IsWaiterOf self.now waiter.new × (number_of waiter.new ≡ number_of waiter.old) }
         ensures out { (standing_of waiter.new ≡ None) × (wait_index_of waiter.new ≡ wait_index_of waiter.old) }
         ensures moved { moved_of waiter.new ≡ moved_of waiter.old }
-        ensures left { (group : ℕ) × (standing_of waiter.old ≡ Some group) × IsLeave group (steps_of waiter.old) (steps_of waiter.new) result }
+        ensures left { LeavesAs waiter.old waiter.new result }
     {
         let Some(group) = waiter.standing else {
             unreachable!()
@@ -118,7 +118,8 @@ impl Groups {
         ensures groups { IsWaiterOf self.now waiter.new × SameWaiter waiter.old waiter.new }
         ensures moved { waiter.new.moved ≡ waiter.old.moved }
         ensures won { IsTrue result → LeavesBy (Use group found found) waiter.old waiter.new }
-        ensures lost { IsFalse result → (standing_of waiter.new ≡ standing_of waiter.old) × Loses found (Use group found) waiter.old waiter.new }
+        ensures stays { IsFalse result → standing_of waiter.new ≡ standing_of waiter.old }
+        ensures lost { IsFalse result → Loses found (Use group found) waiter.old waiter.new }
     {
         let seen = self
             .table
@@ -141,7 +142,8 @@ impl Groups {
         ensures groups { IsWaiterOf self.now waiter.new × SameWaiter waiter.old waiter.new }
         ensures moved { waiter.new.moved ≡ waiter.old.moved }
         ensures won { IsTrue result → LeavesBy (Withdraw group found found) waiter.old waiter.new }
-        ensures lost { IsFalse result → (standing_of waiter.new ≡ standing_of waiter.old) × Loses found (Withdraw group found) waiter.old waiter.new }
+        ensures stays { IsFalse result → standing_of waiter.new ≡ standing_of waiter.old }
+        ensures lost { IsFalse result → Loses found (Withdraw group found) waiter.old waiter.new }
     {
         let seen = self
             .table

@@ -68,8 +68,10 @@ impl Groups {
         requires groups { IsWaiterOf self.now waiter.old }
         requires within { (group < 8) × (count ≤ waiting found) × (waiter.old.moved + count ≤ 2 ^ 56) }
         ensures groups { IsWaiterOf self.now waiter.new × StandsAsBefore waiter.old waiter.new }
-        ensures won { IsTrue result → MovesMore count waiter.old waiter.new × (steps_of waiter.new ≡ Grant group found count found ∷ steps_of waiter.old) }
-        ensures lost { IsFalse result → (waiter.new.moved ≡ waiter.old.moved) × Loses found (Grant group found count) waiter.old waiter.new }
+        ensures moved { IsTrue result → MovesMore count waiter.old waiter.new }
+        ensures won { IsTrue result → steps_of waiter.new ≡ Grant group found count found ∷ steps_of waiter.old }
+        ensures kept { IsFalse result → waiter.new.moved ≡ waiter.old.moved }
+        ensures lost { IsFalse result → Loses found (Grant group found count) waiter.old waiter.new }
     {
         let new = found - WAITING * count + count;
         let seen = self

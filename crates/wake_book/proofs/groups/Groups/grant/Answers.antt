@@ -31,7 +31,7 @@ invariant_of-waiter c = let few_wait = c.requires.within.1 in let same : c.args.
     }
 
 pub returns-then-seen-found-clause-lost : goal.returns-then-seen-found-clause-lost
-returns-then-seen-found-clause-lost c _ = let few_wait = c.requires.within.1 in let same : c.args.found - 4294967296 * c.args.count + c.args.count ≡ moved_in c.args.found c.args.count = omega arith in let w = c.args.waiter.now in let r : Record GroupStep = record { number = w.number; steps = steps_of w.seat.me.0 } in let x1 : GroupStep = Grant c.args.group c.args.found c.args.count c.compare_exchange-seen.result in let now1 = pushed w.seat.me c.compare_exchange-seen.new.seat.me r x1 w.knows (c.compare_exchange-seen.ensures.2 c.args.group c.args.count c.place_of.ensures c.requires.within.1 same) in let steps = ap (λ z. steps_of z.0) now1 in (refl, (c.compare_exchange-seen.result, c.if-seen-found.true, steps))
+returns-then-seen-found-clause-lost c _ = let few_wait = c.requires.within.1 in let same : c.args.found - 4294967296 * c.args.count + c.args.count ≡ moved_in c.args.found c.args.count = omega arith in let w = c.args.waiter.now in let r : Record GroupStep = record { number = w.number; steps = steps_of w.seat.me.0 } in let x1 : GroupStep = Grant c.args.group c.args.found c.args.count c.compare_exchange-seen.result in let now1 = pushed w.seat.me c.compare_exchange-seen.new.seat.me r x1 w.knows (c.compare_exchange-seen.ensures.2 c.args.group c.args.count c.place_of.ensures c.requires.within.1 same) in let steps = ap (λ z. steps_of z.0) now1 in (c.compare_exchange-seen.result, c.if-seen-found.true, steps)
 
 pub invariant_of-waiter-2 : goal.invariant_of-waiter-2
 invariant_of-waiter-2 c = let few_wait = c.requires.within.1 in let same : c.args.found - 4294967296 * c.args.count + c.args.count ≡ moved_in c.args.found c.args.count = omega arith in let w = c.args.waiter.now in let r : Record GroupStep = record { number = w.number; steps = steps_of w.seat.me.0 } in let x1 : GroupStep = Grant c.args.group c.args.found c.args.count c.compare_exchange-seen.result in let now1 = pushed w.seat.me c.compare_exchange-seen.new.seat.me r x1 w.knows (c.compare_exchange-seen.ensures.2 c.args.group c.args.count c.place_of.ensures c.requires.within.1 same) in let steps = ap (λ z. steps_of z.0) now1 in
@@ -43,4 +43,4 @@ invariant_of-waiter-2 c = let few_wait = c.requires.within.1 in let same : c.arg
     }
 
 pub returns-clause-won : goal.returns-clause-won
-returns-clause-won c _ = let few_wait = c.requires.within.1 in let same : c.args.found - 4294967296 * c.args.count + c.args.count ≡ moved_in c.args.found c.args.count = omega arith in let w = c.args.waiter.now in let r : Record GroupStep = record { number = w.number; steps = steps_of w.seat.me.0 } in let x1 : GroupStep = Grant c.args.group c.args.found c.args.count c.compare_exchange-seen.result in let now1 = pushed w.seat.me c.compare_exchange-seen.new.seat.me r x1 w.knows (c.compare_exchange-seen.ensures.2 c.args.group c.args.count c.place_of.ensures c.requires.within.1 same) in let steps = ap (λ z. steps_of z.0) now1 in (refl, steps ∙ ap (λ (z : ℕ). Grant c.args.group c.args.found c.args.count z ∷ steps_of w.seat.me.0) c.if-seen-found.false)
+returns-clause-won c _ = let few_wait = c.requires.within.1 in let same : c.args.found - 4294967296 * c.args.count + c.args.count ≡ moved_in c.args.found c.args.count = omega arith in let w = c.args.waiter.now in let r : Record GroupStep = record { number = w.number; steps = steps_of w.seat.me.0 } in let x1 : GroupStep = Grant c.args.group c.args.found c.args.count c.compare_exchange-seen.result in let now1 = pushed w.seat.me c.compare_exchange-seen.new.seat.me r x1 w.knows (c.compare_exchange-seen.ensures.2 c.args.group c.args.count c.place_of.ensures c.requires.within.1 same) in let steps = ap (λ z. steps_of z.0) now1 in (steps ∙ ap (λ (z : ℕ). Grant c.args.group c.args.found c.args.count z ∷ steps_of w.seat.me.0) c.if-seen-found.false)

@@ -33,7 +33,7 @@ invariant_of-waiter c = let w = c.args.waiter.now in let r : Record GroupStep = 
 
 pub returns-then-seen-found-clause-lost : goal.returns-then-seen-found-clause-lost
 returns-then-seen-found-clause-lost c _ = let w = c.args.waiter.now in let r : Record GroupStep = record { number = w.number; steps = steps_of w.seat.me.0 } in let x1 : GroupStep = Use c.args.group c.args.found c.compare_exchange-seen.result in let r1 : Record GroupStep = with_step x1 r in let now1 = pushed w.seat.me c.compare_exchange-seen.new.seat.me r x1 w.knows (c.compare_exchange-seen.ensures.2 c.args.group c.place_of.ensures) in
-    (refl, (c.compare_exchange-seen.result, c.if-seen-found.true, ap (λ z. steps_of z.0) now1))
+    (c.compare_exchange-seen.result, c.if-seen-found.true, ap (λ z. steps_of z.0) now1)
 
 pub fetch_sub-requires : goal.fetch_sub-requires
 fetch_sub-requires c = let w = c.args.waiter.now in let r : Record GroupStep = record { number = w.number; steps = steps_of w.seat.me.0 } in let x1 : GroupStep = Use c.args.group c.args.found c.compare_exchange-seen.result in let r1 : Record GroupStep = with_step x1 r in let now1 = pushed w.seat.me c.compare_exchange-seen.new.seat.me r x1 w.knows (c.compare_exchange-seen.ensures.2 c.args.group c.place_of.ensures) in let g = c.args.self.now in let wide = g.wide.0 in let told = g.told in let small = g.small in let few : g.table.shared.key ≤ 64 = omega arith in let ids = g.table.shared.table_id in
