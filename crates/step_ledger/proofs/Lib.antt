@@ -1,0 +1,5 @@
+pub mod Seats
+pub mod Members
+pub mod Sums
+pub mod Turned
+pub mod Gathers

@@ -1,0 +1,71 @@
+-- Lists in the other order, as they come off the end one by one, and what stands in them.
+use Rattle.std.proofs.Common.{◌≡◌, ◌≢◌, ℕ, zero, suc, ◌+◌, ◌<◌, List, [], ◌∷◌, ◌++◌, map, length, get_or, All, arith, refl, sym, ap, ◌∙◌, subst, length-append}
+use mathlib.Core.List.{map-append}
+use mathlib.Core.Option.{some, some-injective, some-ne-none}
+use lib.ListN.{get_elem?}
+use Rattle.atomic_table.proofs.Lists.{at_longer}
+use Rattle.step_ledger.specs.declared.record.Record.{Record}
+use Rattle.step_ledger.specs.Views.{Has, numbers, turned, sum_over}
+use Rattle.step_ledger.proofs.Seats.{append_second}
+
+module _ {A : Type 0} where
+  -- the last comes first
+  pub turned_last : (xs : List A) (x : A) → turned (xs ++ x ∷ []) ≡ x ∷ turned xs
+  turned_last [] x = refl
+  turned_last (y ∷ xs) x = ap (λ (l : List A). l ++ y ∷ []) (turned_last xs x)
+
+  pub at_turned : (xs : List A) (i : ℕ) (a : A) → get_elem? xs i ≡ some a → (j : ℕ) × (get_elem? (turned xs) j ≡ some a)
+  at_turned [] i a e = absurd (some-ne-none a (sym e))
+  at_turned (x ∷ xs) zero a e = (length (turned xs) + 0, append_second (turned xs) (x ∷ []) 0 ∙ e)
+  at_turned (x ∷ xs) (suc i) a e = let w = at_turned xs i a e in (w.0, at_longer (turned xs) (x ∷ []) w.0 a w.1)
+
+  get_front : (xs ys : List A) (k : ℕ) (d : A) → k < length xs → get_or (xs ++ ys) k d ≡ get_or xs k d
+  get_front [] ys k d h = absurd (omega arith)
+  get_front (x ∷ xs) ys zero d h = refl
+  get_front (x ∷ xs) ys (suc k) d h = get_front xs ys k d (omega arith)
+
+  get_last : (xs : List A) (x d : A) → get_or (xs ++ x ∷ []) (length xs) d ≡ x
+  get_last [] x d = refl
+  get_last (y ∷ xs) x d = get_last xs x d
+
+  pub all_front : (P : A → Type 0) (xs : List A) (x : A) → All P (xs ++ x ∷ []) → All P xs
+  all_front P xs x h k d l = subst P (get_front xs (x ∷ []) k d l) (h k d (let e = length-append xs (x ∷ []) in omega arith))
+
+  pub all_last : (P : A → Type 0) (xs : List A) (x : A) → All P (xs ++ x ∷ []) → P x
+  all_last P xs x h = subst P (get_last xs x x) (h (length xs) x (let e = length-append xs (x ∷ []) in omega arith))
+
+-- what is taken off the end comes first
+pub taken : {A B : Type 0} (f : A → B) (xs : List A) (x : A) (l : List A) → l ≡ xs ++ x ∷ [] → turned (map f l) ≡ f x ∷ turned (map f xs)
+taken f xs x l e = ap (λ (z : List _). turned (map f z)) e ∙ ap turned (map-append f xs (x ∷ [])) ∙ turned_last (map f xs) (f x)
+
+module _ {T : Type 0} where
+  pub sum_append : (f : List T → ℕ) (rs qs : List (Record T)) → sum_over f (rs ++ qs) ≡ sum_over f rs + sum_over f qs
+  sum_append f [] qs = omega arith
+  sum_append f (r ∷ rs) qs = let e = sum_append f rs qs in omega arith
+
+  pub sum_turned : (f : List T → ℕ) (rs : List (Record T)) → sum_over f (turned rs) ≡ sum_over f rs
+  sum_turned f [] = refl
+  sum_turned f (r ∷ rs) = let e = sum_append f (turned rs) (r ∷ []) in let i = sum_turned f rs in omega arith
+
+  -- whose record stands at a place
+  pub number_at : (rs : List (Record T)) (i c : ℕ) → get_elem? (numbers rs) i ≡ some c → (r : Record T) × (get_elem? rs i ≡ some r) × (r.number ≡ c)
+  number_at [] i c e = absurd (some-ne-none c (sym e))
+  number_at (r ∷ rs) zero c e = (r, refl, some-injective r.number c e)
+  number_at (r ∷ rs) (suc i) c e = number_at rs i c e
+
+  pub at_number : (rs : List (Record T)) (i : ℕ) (r : Record T) → get_elem? rs i ≡ some r → get_elem? (numbers rs) i ≡ some r.number
+  at_number [] i r e = absurd (some-ne-none r (sym e))
+  at_number (q ∷ rs) zero r e = ap (λ (x : Record T). some x.number) (some-injective q r e)
+  at_number (q ∷ rs) (suc i) r e = at_number rs i r e
+
+  pub has_turned : (rs : List (Record T)) (c : ℕ) → Has (numbers rs) c → Has (numbers (turned rs)) c
+  has_turned rs c h = let a = number_at rs h.0 c h.1 in let b = at_turned rs h.0 a.0 a.1 in (b.0, at_number (turned rs) b.0 a.0 b.1 ∙ ap some a.2)
+
+-- what stands at no place isn't there
+pub nowhere : (ns : List ℕ) (c : ℕ) → ((i : ℕ) → i < length ns → get_elem? ns i ≢ some c) → ¬ Has ns c
+nowhere ns c none h = none h.0 (at_some ns h.0 c h.1) h.1
+  where
+    at_some : (ns : List ℕ) (i c : ℕ) → get_elem? ns i ≡ some c → i < length ns
+    at_some [] i c e = absurd (some-ne-none c (sym e))
+    at_some (x ∷ ns) zero c e = omega arith
+    at_some (x ∷ ns) (suc i) c e = let w = at_some ns i c e in omega arith

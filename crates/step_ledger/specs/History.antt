@@ -1,0 +1,42 @@
+-- Histories: the steps of all members in one list, newest first.
+use Rattle.std.specs.Prelude.{◌≡◌, ℕ, zero, suc, ◌+◌, ◌<◌, List, [], ◌∷◌, cond, nat_eq}
+use mathlib.Core.Option.{some}
+use lib.ListN.{get_elem?}
+use Rattle.step_ledger.specs.declared.record.Record.{Record}
+
+-- the sum of the first n values
+abbrev pub sum_to : (ℕ → ℕ) → ℕ → ℕ
+sum_to f zero = 0
+sum_to f (suc n) = sum_to f n + f n
+
+module _ {T : Type 0} where
+  -- the steps of one member
+  abbrev pub own_steps : ℕ → List (ℕ × T) → List T
+  own_steps c [] = []
+  own_steps c (x ∷ h) = cond (nat_eq x.0 c) (x.1 ∷ own_steps c h) (own_steps c h)
+
+  -- what a list of steps adds up to
+  abbrev pub total : (T → ℕ) → List T → ℕ
+  total f [] = 0
+  total f (x ∷ xs) = f x + total f xs
+
+  -- what a history adds up to
+  abbrev pub total_all : (T → ℕ) → List (ℕ × T) → ℕ
+  total_all f [] = 0
+  total_all f (x ∷ h) = f x.1 + total_all f h
+
+  -- each of these records has the list of its member's steps in the history
+  abbrev pub AreListsOf : List (ℕ × T) → List (Record T) → Type 0
+  AreListsOf h rs = (i : ℕ) (r : Record T) → get_elem? rs i ≡ some r → r.steps ≡ own_steps r.number h
+
+  module _ (start : List ℕ) (after : T → List ℕ → List ℕ) where
+    -- the words that a history leaves of the opening ones
+    abbrev pub words_of : List (ℕ × T) → List ℕ
+    words_of [] = start
+    words_of (x ∷ h) = after x.1 (words_of h)
+
+  module _ (n : ℕ) (MayStep : ℕ → T → List (ℕ × T) → Type 0) where
+    -- each step is by one of n members, and might happen after those before it
+    abbrev pub Lawful : List (ℕ × T) → Type 0
+    Lawful [] = Unit {0}
+    Lawful (x ∷ h) = (x.0 < n) × MayStep x.0 x.1 h × Lawful h

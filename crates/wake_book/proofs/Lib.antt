@@ -1,0 +1,7 @@
+pub mod Counting
+pub mod BookKeeps
+pub mod Ending
+pub mod Standing
+pub mod GroupKeeps
+pub mod Lengths
+pub mod GroupsEnding

@@ -1,0 +1,18 @@
+use Rattle.std.proofs.Common.{arith, ◌^◌, ◌≤◌, sym, ap, ◌∙◌, subst}
+use Rattle.step_ledger.specs.Views.{steps_of, push}
+use Rattle.wake_book.specs.declared.book.Limits.{Limits}
+use Rattle.wake_book.specs.declared.steps.BookStep.TheVariants.{LookCompletions}
+use Rattle.wake_book.proofs.BookKeeps as keeps
+use Rattle.wake_book.proofs.book.Book.look_completions.Goals as goal
+
+pub load-requires : goal.load-requires
+load-requires c = let b = c.args.self.now in let t = c.args.teller.now in let w = b.wide.0 in (
+  c.requires,
+  omega arith,
+  keeps.look_completions b.table.shared.key (subst (λ (z : Limits). z.tellers ≤ 64) (sym b.told) b.small.0) (subst (λ (z : Limits). z.cap ≤ 2 ^ 56) (sym b.told) b.small.1)
+      b.table.shared.table_id.slots t.seat.id t.seat.me _ (ap (λ z. z.0) t.knows),
+)
+
+pub returns-clause-step : goal.returns-clause-step
+returns-clause-step c = let t = c.args.teller.now in let did = c.load.ensures.2 in
+    (ap (λ z. steps_of z.0) did.0 ∙ ap (λ z. steps_of (push (LookCompletions c.load.result) z.0)) t.knows, did.1)

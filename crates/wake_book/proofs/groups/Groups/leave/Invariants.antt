@@ -1,0 +1,13 @@
+use Rattle.std.proofs.Common.{◌≡◌, Some}
+use Rattle.wake_book.specs.Groups.{IsWaiterOf, steps_of, standing_of, StandsAsBefore}
+use Rattle.wake_book.specs.Walks.{OnlyIdles}
+use Rattle.wake_book.proofs.groups.Groups.leave.Given as goal
+
+abbrev pub invariant-loop : goal.invariant-loop
+invariant-loop g l = record {
+  turns : (goal.iterator-loop g).can_next l.iterator' × (goal.iterator-loop g).is_finite l.iterator';
+  groups : IsWaiterOf l.self l.waiter × StandsAsBefore l.fn.waiter l.waiter;
+  stands : standing_of l.fn.waiter ≡ Some l.group;
+  moved : l.waiter.moved ≡ l.fn.waiter.moved;
+  idle : OnlyIdles l.group (steps_of l.fn.waiter) (steps_of l.waiter);
+}

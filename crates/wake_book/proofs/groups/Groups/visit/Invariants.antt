@@ -1,0 +1,11 @@
+use Rattle.std.proofs.Common.{◌≡◌}
+use Rattle.wake_book.specs.Groups.{IsWaiterOf, steps_of, StandsAsBefore}
+use Rattle.wake_book.specs.Walks.{LosesGrants}
+use Rattle.wake_book.proofs.groups.Groups.visit.Given as goal
+
+abbrev pub invariant-loop : goal.invariant-loop
+invariant-loop l = record {
+  groups : IsWaiterOf l.self l.waiter × StandsAsBefore l.fn.waiter l.waiter;
+  moved : l.waiter.moved ≡ l.fn.waiter.moved;
+  tries : LosesGrants l.counter l.group l.most (steps_of l.fn.waiter) (steps_of l.waiter);
+}

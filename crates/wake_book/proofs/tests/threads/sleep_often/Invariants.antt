@@ -1,0 +1,10 @@
+use Rattle.std.proofs.Common.{◌≡◌, ◌≤◌, None}
+use Rattle.wake_book.specs.Groups.{IsWaiterOf, standing_of}
+use Rattle.wake_book.proofs.tests.threads.sleep_often.Given as goal
+
+abbrev pub invariant-loop : goal.invariant-loop
+invariant-loop g l = record {
+  groups : IsWaiterOf l.groups l.waiter;
+  out : standing_of l.waiter ≡ None;
+  few : l.woken ≤ l.counter;
+}

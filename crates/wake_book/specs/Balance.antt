@@ -1,0 +1,25 @@
+-- What the groups' totals say of all their waiters, once they are gathered.
+use Rattle.std.specs.Prelude.{◌≡◌, ℕ, ◌+◌, ◌<◌, ◌≤◌, List, slice_index}
+use mathlib.Core.Option.{some}
+use lib.ListN.{get_elem?}
+use Rattle.step_ledger.specs.declared.record.Record.{Record}
+use Rattle.step_ledger.specs.Views.{sum_over}
+use Rattle.step_ledger.specs.History.{total, sum_to, Lawful, AreListsOf}
+use Rattle.wake_book.specs.declared.groups.GroupTotals.{GroupTotals}
+use Rattle.wake_book.specs.declared.steps.GroupStep.{GroupStep}
+use Rattle.wake_book.specs.Waits.{active_at, words_in, word, granted, waiting, raised, stand, stands_in, moved_by, used_by, MayStep}
+
+-- the waiters' lists stand in one lawful history, whose words show who waits, who is granted and who is active;
+-- who stands is active
+pub record IsBalanced (n : ℕ) (waiters : List (Record GroupStep)) (totals : GroupTotals) : Type 0 where
+  pub history : List (ℕ × GroupStep)
+  pub lawful : Lawful n MayStep history
+  pub lists : AreListsOf history waiters
+  pub standing : (g : ℕ) → g < 8 → waiting (word (words_in history) g) + granted (word (words_in history) g) ≡ sum_over (stands_in g) waiters
+  pub active : slice_index (words_in history) active_at ≡ sum_over raised waiters
+  pub active_all : (i : ℕ) (r : Record GroupStep) → get_elem? waiters i ≡ some r → 1 ≤ stand r.steps → raised r.steps ≡ 1
+  pub issued : totals.issued ≡ sum_over (total moved_by) waiters
+  pub used : totals.used ≡ sum_over (total used_by) waiters
+  pub granted_all : totals.granted ≡ sum_to (λ g. granted (word (words_in history) g)) 8
+  pub waiting_all : totals.waiting ≡ sum_to (λ g. waiting (word (words_in history) g)) 8
+  pub balance : totals.issued ≡ totals.used + totals.granted

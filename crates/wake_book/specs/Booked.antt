@@ -1,0 +1,21 @@
+-- What the book's totals say of all its tellers, once they are gathered.
+use Rattle.std.specs.Prelude.{◌≡◌, ℕ, ◌-◌, ◌≤◌, min, List}
+use Rattle.step_ledger.specs.declared.record.Record.{Record}
+use Rattle.step_ledger.specs.Views.{sum_over}
+use Rattle.step_ledger.specs.History.{total, Lawful, AreListsOf}
+use Rattle.wake_book.specs.declared.book.Limits.{Limits}
+use Rattle.wake_book.specs.declared.book.BookTotals.{BookTotals}
+use Rattle.wake_book.specs.declared.steps.BookStep.{BookStep}
+use Rattle.wake_book.specs.Charges.{MayStep, added, charged, covers, taken}
+
+-- the tellers' lists stand in one lawful history; their intervals have each number below charged once and no other;
+-- what is charged was counted
+pub record IsBooked (k : Limits) (tellers : List (Record BookStep)) (totals : BookTotals) : Type 0 where
+  pub history : List (ℕ × BookStep)
+  pub lawful : Lawful k.tellers (MayStep k) history
+  pub lists : AreListsOf history tellers
+  pub counted : totals.counted ≡ sum_over (total added) tellers
+  pub tiled : (y : ℕ) → sum_over (total (covers y)) tellers ≡ min 1 (totals.charged - y)
+  pub taken : totals.charged ≡ sum_over (total taken) tellers
+  pub charges : totals.charges ≡ sum_over (total charged) tellers
+  pub within : totals.charged ≤ totals.counted

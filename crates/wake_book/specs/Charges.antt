@@ -1,0 +1,105 @@
+-- The charge book's words, what each step does to them, and when a step may happen.
+use Rattle.std.specs.Prelude.{◌≡◌, ℕ, ◌+◌, ◌-◌, ◌^◌, ◌<◌, ◌≤◌, List, ◌∷◌, replicate, slice_index, slice_set, cond, min, nat_eq, Bool, true, false}
+use Rattle.atomic_table.specs.Table.{State, Me}
+use Rattle.atomic_table.specs.Table as table
+use Rattle.step_ledger.specs.declared.record.View.{View}
+use Rattle.step_ledger.specs.Views.{viewing, fresh, steps_of, Stepped}
+use Rattle.step_ledger.specs.History.{own_steps, total, words_of}
+use Rattle.step_ledger.specs.Ledger.{Ledger}
+use Rattle.wake_book.specs.declared.book.Limits.{Limits}
+use Rattle.wake_book.specs.declared.steps.BookStep.{BookStep}
+use Rattle.wake_book.specs.declared.steps.BookStep.TheVariants.{LookCompletions, LookWakeups, Add, Advance}
+
+-- the words at the start: 0 is spare, 8 counts completions, 16 wakeups
+abbrev pub opening_words : List ℕ
+opening_words = replicate 24 0
+
+-- what an exchange leaves of a word
+abbrev pub exchange_to : ℕ → ℕ → ℕ → ℕ
+exchange_to expected new found = cond (nat_eq found expected) new found
+
+-- what a step leaves of the words
+abbrev pub words_after : BookStep → List ℕ → List ℕ
+words_after (LookCompletions found) ws = ws
+words_after (LookWakeups found) ws = ws
+words_after (Add n found) ws = slice_set ws 8 (slice_index ws 8 + n)
+words_after (Advance start end found) ws = slice_set ws 16 (exchange_to start end (slice_index ws 16))
+
+-- the words that a history leaves
+abbrev pub words_in : List (ℕ × BookStep) → List ℕ
+words_in h = words_of opening_words words_after h
+
+-- the completions counted
+abbrev pub completions_in : List (ℕ × BookStep) → ℕ
+completions_in h = slice_index (words_in h) 8
+
+-- the completions charged
+abbrev pub wakeups_in : List (ℕ × BookStep) → ℕ
+wakeups_in h = slice_index (words_in h) 16
+
+-- how many completions a step counts
+abbrev pub added : BookStep → ℕ
+added (LookCompletions found) = 0
+added (LookWakeups found) = 0
+added (Add n found) = n
+added (Advance start end found) = 0
+
+-- 1 where the test holds
+abbrev pub one_if : Bool → ℕ
+one_if true = 1
+one_if false = 0
+
+-- 1 where the step won an interval
+abbrev pub charged : BookStep → ℕ
+charged (LookCompletions found) = 0
+charged (LookWakeups found) = 0
+charged (Add n found) = 0
+charged (Advance start end found) = one_if (nat_eq found start)
+
+-- how many completions the step charged
+abbrev pub taken : BookStep → ℕ
+taken (LookCompletions found) = 0
+taken (LookWakeups found) = 0
+taken (Add n found) = 0
+taken (Advance start end found) = cond (nat_eq found start) (end - start) 0
+
+-- 1 where the step won an interval that has the number y
+abbrev pub covers : ℕ → BookStep → ℕ
+covers y (LookCompletions found) = 0
+covers y (LookWakeups found) = 0
+covers y (Add n found) = 0
+covers y (Advance start end found) = cond (nat_eq found start) (min 1 (end - y) - min 1 (start - y)) 0
+
+-- each step finds what the steps before it left; no teller counts past the cap; an interval is at most 8 long and was counted before
+abbrev pub MayStep : Limits → ℕ → BookStep → List (ℕ × BookStep) → Type 0
+MayStep k c (LookCompletions found) h = found ≡ completions_in h
+MayStep k c (LookWakeups found) h = found ≡ wakeups_in h
+MayStep k c (Add n found) h = (found ≡ completions_in h) × (total added (own_steps c h) + n ≤ k.cap)
+MayStep k c (Advance start end found) h = (found ≡ wakeups_in h) × (start < end) × (end ≤ start + 8) × (end ≤ completions_in h)
+
+-- the rule of the table
+abbrev pub BookRule : {S : Type 0} → Limits → State S (View BookStep) → Type 0
+BookRule k s = Ledger k.tellers opening_words words_after (MayStep k) s
+
+-- the first seat has the records of all tellers
+abbrev pub all_fresh : Limits → View BookStep
+all_fresh k = viewing (fresh 0 k.tellers)
+
+-- what each kind of step tells
+module _ {S : Type 0} where
+  -- the completions are at least what the teller counted, and the wakeups that it just found
+  abbrev pub looked_completions : table.Step S → Me S (View BookStep) → ℕ → Me S (View BookStep) → Type 0
+  looked_completions step m found m' = Stepped (LookCompletions found) m m' × (found < 2 ^ 63) × (total added (steps_of m.0) ≤ found)
+      × ((wakeups : ℕ) (before : List BookStep) → steps_of m.0 ≡ LookWakeups wakeups ∷ before → wakeups ≤ found)
+
+  -- the wakeups are found
+  abbrev pub looked_wakeups : table.Step S → Me S (View BookStep) → ℕ → Me S (View BookStep) → Type 0
+  looked_wakeups step m found m' = Stepped (LookWakeups found) m m' × (found < 2 ^ 63)
+
+  -- completions are counted
+  abbrev pub adding : table.Step S → Me S (View BookStep) → ℕ → Me S (View BookStep) → Type 0
+  adding step m found m' = Stepped (Add step.first found) m m'
+
+  -- the wakeups move on, where they are what was expected
+  abbrev pub advancing : table.Step S → Me S (View BookStep) → ℕ → Me S (View BookStep) → Type 0
+  advancing step m found m' = Stepped (Advance step.first step.second found) m m'

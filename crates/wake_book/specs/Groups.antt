@@ -1,0 +1,96 @@
+-- Words about wait groups and their waiters, for public clauses.
+use Rattle.std.specs.Prelude.{◌≡◌, ◌≢◌, ℕ, ◌+◌, ◌<◌, ◌≤◌, ◌⊎◌, List, ◌∷◌, All, map, Option, Some, None}
+use Rattle.step_ledger.specs.declared.record.Record.{Record}
+use Rattle.step_ledger.specs.Views as views
+use Rattle.step_ledger.specs.History.{total}
+use Rattle.wake_book.specs.declared.groups.Groups.{Groups}
+use Rattle.wake_book.specs.declared.groups.Waiter.{Waiter}
+use Rattle.wake_book.specs.declared.steps.GroupStep.{GroupStep}
+use Rattle.wake_book.specs.declared.steps.GroupStep.TheVariants.{Lower}
+use Rattle.wake_book.specs.declared.waiting.Left.{Left}
+use Rattle.wake_book.specs.Waits.{moved_by}
+use Rattle.wake_book.specs.Walks.{IsLeave, IsSleep}
+
+-- the waiter came from the opening of these groups
+abbrev pub IsWaiterOf : Groups → Waiter → Type 0
+IsWaiterOf groups waiter = waiter.seat.table_id ≡ groups.table.shared.table_id
+
+-- the waiter's own steps, newest first
+abbrev pub steps_of : Waiter → List GroupStep
+steps_of waiter = views.steps_of waiter.seat.me.0
+
+-- the waiter's number, from 0
+abbrev pub number_of : Waiter → ℕ
+number_of waiter = waiter.number
+
+-- the group in which the waiter stands
+abbrev pub standing_of : Waiter → Option ℕ
+standing_of waiter = waiter.standing
+
+-- the group in which the waiter stands next
+abbrev pub wait_index_of : Waiter → ℕ
+wait_index_of waiter = waiter.next
+
+-- how many the waiter moved to granted
+abbrev pub moved_of : Waiter → ℕ
+moved_of waiter = total moved_by (steps_of waiter)
+
+-- the waiter's number and steps
+abbrev pub record_of : Waiter → Record GroupStep
+record_of waiter = record { number = waiter.number; steps = steps_of waiter }
+
+-- those of several waiters
+abbrev pub records_of : List Waiter → List (Record GroupStep)
+records_of waiters = map record_of waiters
+
+-- the numbers of several waiters
+abbrev pub numbers_of : List Waiter → List ℕ
+numbers_of waiters = map number_of waiters
+
+-- how many waiters the groups have
+abbrev pub waiters_of : Groups → ℕ
+waiters_of groups = groups.waiters
+
+-- it is the same waiter, and stands where it stood
+abbrev pub StandsAsBefore : Waiter → Waiter → Type 0
+StandsAsBefore old new = (number_of new ≡ number_of old) × (standing_of new ≡ standing_of old) × (wait_index_of new ≡ wait_index_of old)
+
+-- it is the same waiter, and stands next where it would have
+abbrev pub SameWaiter : Waiter → Waiter → Type 0
+SameWaiter old new = (number_of new ≡ number_of old) × (wait_index_of new ≡ wait_index_of old)
+
+-- the waiter stands nowhere, and made this step and then lowered the active count
+abbrev pub LeavesBy : GroupStep → Waiter → Waiter → Type 0
+LeavesBy step old new = (standing_of new ≡ None) × (active : ℕ) × (steps_of new ≡ Lower active ∷ step ∷ steps_of old)
+
+-- the waiter left the group in which it stood, as the answer says
+abbrev pub LeavesAs : Waiter → Waiter → Left → Type 0
+LeavesAs old new left = (group : ℕ) × (standing_of old ≡ Some group) × IsLeave group (steps_of old) (steps_of new) left
+
+-- the waiter slept in the group in which it stands, until it found a grant
+abbrev pub Sleeps : Waiter → Waiter → Type 0
+Sleeps old new = (group : ℕ) × (standing_of old ≡ Some group) × IsSleep group (steps_of old) (steps_of new)
+
+-- the waiter's exchange, by the step that it would be of what is seen, found another word than it expected
+abbrev pub Loses : ℕ → (ℕ → GroupStep) → Waiter → Waiter → Type 0
+Loses expected step old new = (seen : ℕ) × (seen ≢ expected) × (steps_of new ≡ step seen ∷ steps_of old)
+
+-- the waiter's moves went up by the count
+abbrev pub MovesMore : ℕ → Waiter → Waiter → Type 0
+MovesMore count old new = new.moved ≡ old.moved + count
+
+-- not 1 to 64 waiters
+abbrev pub MiscountsGroups : ℕ → Type 0
+MiscountsGroups waiters = (waiters < 1) ⊎ (64 < waiters)
+
+-- nobody stood yet
+abbrev pub IsNew : Waiter → Type 0
+IsNew waiter = (standing_of waiter ≡ None) × (wait_index_of waiter ≡ 0)
+
+-- new groups, whose waiters stand in the order of their numbers and have made no step
+pub record AreOpenGroups (waiters : ℕ) (groups : Groups) (all : List Waiter) : Type 0 where
+  pub count : (1 ≤ waiters) × (waiters ≤ 64)
+  pub waiters_are : waiters_of groups ≡ waiters
+  pub own : All (IsWaiterOf groups) all
+  pub new : All IsNew all
+  pub fresh_all : records_of all ≡ views.fresh 0 waiters

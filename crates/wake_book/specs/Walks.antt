@@ -1,0 +1,91 @@
+-- Lawful walks, and how a waiter comes and goes.
+use Rattle.std.specs.Prelude.{◌≡◌, ◌≢◌, ◌⊎◌, ℕ, zero, suc, ◌+◌, ◌-◌, ◌%◌, ◌^◌, ◌<◌, ◌≤◌, List, [], ◌∷◌, min}
+use Rattle.step_ledger.specs.History.{total}
+use Rattle.wake_book.specs.declared.steps.GroupStep.{GroupStep}
+use Rattle.wake_book.specs.declared.steps.GroupStep.TheVariants.{Look, Lower, Grant, Use, Withdraw, Store}
+use Rattle.wake_book.specs.declared.waiting.Left.{Left}
+use Rattle.wake_book.specs.declared.waiting.Left.TheVariants.{Woken, Unwoken}
+use Rattle.wake_book.specs.Waits.{active_at, index_at, group_at, granted, waiting, moved_by}
+
+-- the look of a try at a group
+abbrev pub looked : ℕ → ℕ → List GroupStep → List GroupStep
+looked g found before = Look (group_at g) found ∷ before
+
+-- that many tries at a group, each of which found some waiting and lost its exchange
+abbrev pub LosesGrants : ℕ → ℕ → ℕ → List GroupStep → List GroupStep → Type 0
+LosesGrants zero g most steps steps' = steps' ≡ steps
+LosesGrants (suc tries) g most steps steps' = (found : ℕ) × (seen : ℕ) × (before : List GroupStep)
+    × LosesGrants tries g most steps before × (1 ≤ waiting found) × (seen ≢ found)
+    × (steps' ≡ Grant g found (min (waiting found) most) seen ∷ looked g found before)
+
+-- fewer than four tries were lost, and the next look found this word
+abbrev pub LosesAndLooks : ℕ → ℕ → List GroupStep → List GroupStep → ℕ → Type 0
+LosesAndLooks g most steps steps' found = (tries : ℕ) × (tries < 4) × (before : List GroupStep)
+    × LosesGrants tries g most steps before × (steps' ≡ looked g found before)
+
+-- a visit found nobody waiting
+abbrev pub FindsNobody : ℕ → ℕ → List GroupStep → List GroupStep → ℕ → Type 0
+FindsNobody g most steps steps' moved = (found : ℕ) × LosesAndLooks g most steps steps' found × (waiting found ≡ 0) × (moved ≡ 0)
+
+-- a visit won a try, and moved the lesser of what waited and the most asked for
+abbrev pub WinsGrant : ℕ → ℕ → List GroupStep → List GroupStep → ℕ → Type 0
+WinsGrant g most steps steps' moved = (found : ℕ) × (before : List GroupStep) × LosesAndLooks g most steps before found
+    × (1 ≤ waiting found) × (moved ≡ min (waiting found) most) × (steps' ≡ Grant g found moved found ∷ before)
+
+-- a visit lost four tries
+abbrev pub LosesFour : ℕ → ℕ → List GroupStep → List GroupStep → ℕ → Type 0
+LosesFour g most steps steps' moved = (tries : ℕ) × (tries ≡ 4) × LosesGrants tries g most steps steps' × (moved ≡ 0)
+
+-- a visit to a group for at most so many
+abbrev pub IsVisit : ℕ → ℕ → List GroupStep → List GroupStep → ℕ → Type 0
+IsVisit g most steps steps' moved = FindsNobody g most steps steps' moved
+    ⊎ (WinsGrant g most steps steps' moved ⊎ LosesFour g most steps steps' moved)
+
+-- that many visits to groups in cyclic order from the first, each with some left to wake;
+-- at the end so many are left, and that is the next group
+abbrev pub AreVisits : ℕ → ℕ → ℕ → List GroupStep → List GroupStep → ℕ → ℕ → Type 0
+AreVisits zero first nr steps steps' left next = (steps' ≡ steps) × (left ≡ nr) × (next ≡ first)
+AreVisits (suc visits) first nr steps steps' left next = (before : List GroupStep) × (most : ℕ) × (g : ℕ) × (moved : ℕ)
+    × AreVisits visits first nr steps before most g × (1 ≤ most) × IsVisit g most before steps' moved
+    × (left ≡ most - moved) × (next ≡ (g + 1) % 8)
+
+-- the walk loads an active count that isn't 0 and the wake index, visits groups until nobody is left to wake or all
+-- eight were visited, and stores the next group
+abbrev pub WalksOn : ℕ → List GroupStep → List GroupStep → ℕ → Type 0
+WalksOn nr steps steps' moved = (active : ℕ) × (1 ≤ active) × (first : ℕ) × (visits : ℕ) × (visits ≤ 8)
+    × (before : List GroupStep) × (left : ℕ) × (next : ℕ)
+    × AreVisits visits first nr (Look index_at first ∷ Look active_at active ∷ steps) before left next × ((left ≡ 0) ⊎ (visits ≡ 8))
+    × (steps' ≡ Store next ∷ before) × (moved ≡ nr - left)
+
+-- a walk for nr makes no step where its waiter's moves could pass 2^56, and ends where it finds nobody active
+abbrev pub IsWalk : ℕ → List GroupStep → List GroupStep → ℕ → Type 0
+IsWalk nr steps steps' moved = ((2 ^ 56 < total moved_by steps + nr) × (steps' ≡ steps) × (moved ≡ 0))
+    ⊎ (((total moved_by steps + nr ≤ 2 ^ 56) × (steps' ≡ Look active_at 0 ∷ steps) × (moved ≡ 0))
+    ⊎ ((total moved_by steps + nr ≤ 2 ^ 56) × WalksOn nr steps steps' moved))
+
+-- the step looks at the group, or tries to leave it and finds another word than it expected
+abbrev pub IsIdleAt : ℕ → GroupStep → Type 0
+IsIdleAt g (Look place found) = place ≡ group_at g
+IsIdleAt g (Use group expected found) = (group ≡ g) × (found ≢ expected)
+IsIdleAt g (Withdraw group expected found) = (group ≡ g) × (found ≢ expected)
+IsIdleAt g _ = ⊥
+
+-- only idle steps at the group were added
+abbrev pub OnlyIdles : ℕ → List GroupStep → List GroupStep → Type 0
+OnlyIdles g steps [] = steps ≡ []
+OnlyIdles g steps (x ∷ steps') = (steps ≡ x ∷ steps') ⊎ (IsIdleAt g x × OnlyIdles g steps steps')
+
+-- after idle steps the waiter looked at its group, and found this word
+abbrev pub IdlesAndLooks : ℕ → List GroupStep → List GroupStep → ℕ → Type 0
+IdlesAndLooks g steps steps' found = (before : List GroupStep) × OnlyIdles g steps before × (steps' ≡ looked g found before)
+
+-- the waiter left the group by a grant that stood there, or where it found none
+abbrev pub IsLeave : ℕ → List GroupStep → List GroupStep → Left → Type 0
+IsLeave g steps steps' Woken = (active : ℕ) × (found : ℕ) × (before : List GroupStep) × IdlesAndLooks g steps before found
+    × (0 < granted found) × (steps' ≡ Lower active ∷ Use g found found ∷ before)
+IsLeave g steps steps' Unwoken = (active : ℕ) × (found : ℕ) × (before : List GroupStep) × IdlesAndLooks g steps before found
+    × (granted found ≡ 0) × (steps' ≡ Lower active ∷ Withdraw g found found ∷ before)
+
+-- the waiter looked at its group until it found a grant
+abbrev pub IsSleep : ℕ → List GroupStep → List GroupStep → Type 0
+IsSleep g steps steps' = (found : ℕ) × IdlesAndLooks g steps steps' found × (0 < granted found)

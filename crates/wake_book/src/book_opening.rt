@@ -1,0 +1,98 @@
+//! A new book, and its tellers.
+ghost use Rattle.std.specs.Prelude.{◌≡◌, ℕ, ◌+◌, ◌^◌, ◌<◌, ◌≤◌, ◌↔◌, ◌⊎◌, [], ◌∷◌, All, IfOk};
+ghost use Rattle.step_ledger.specs.Views.{fresh, fresh_record, still_to_come};
+ghost use Rattle.wake_book.specs.Charges.{all_fresh};
+ghost use Rattle.wake_book.specs.Book.{IsTellerOf, record_of, records_of, tellers_of, IsOpenBook, MiscountsBook};
+
+use crate::book::{Book, Limits, Teller};
+use crate::fault::BookFault;
+use crate::steps::BookStep;
+use atomic_table::{Seat, Table};
+use std::alloc::{AllocError, Global};
+use step_ledger::{HandOut, View};
+
+/// Most completions that one charge takes.
+const MAX_BATCH: u32 = 8;
+
+/// Most tellers of a book.
+const MAX_TELLERS: u32 = 64;
+
+/// Highest cap, 2^56.
+const MAX_CAP: u64 = 72_057_594_037_927_936;
+
+impl Book {
+    /// A book whose tellers count at most `cap` completions each, and of which a charge takes `batch`.
+    /// The tellers stand in the order of their numbers.
+    pub fn open(
+        alloc: Global,
+        batch: u32,
+        tellers: u32,
+        cap: u64,
+    ) -> Result<(Book, Vec<Teller>), BookFault>
+        ensures ok { IfOk result (λ opened. IsOpenBook batch tellers cap opened.0 opened.1.items) }
+
+        // The counts are looked at first, and memory last.
+        ensures count { (result ≡ Err BookFault.Count) ↔ MiscountsBook batch tellers }
+        ensures cap { (result ≡ Err BookFault.CapTooLarge) ↔ ((1 ≤ batch) × (batch ≤ 8) × (1 ≤ tellers) × (tellers ≤ 64) × (2 ^ 56 < cap)) }
+    {
+        if batch == 0 || batch > MAX_BATCH || tellers == 0 || tellers > MAX_TELLERS {
+            return Err(BookFault::Count);
+        }
+        if cap > MAX_CAP {
+            return Err(BookFault::CapTooLarge);
+        }
+        let Ok(opened) = Book::lay_out(alloc, Limits { tellers, cap }, batch) else {
+            return Err(BookFault::Memory);
+        };
+        Ok(opened)
+    }
+
+    fn lay_out(alloc: Global, limits: Limits, batch: u32) -> Result<(Book, Vec<Teller>), AllocError>
+        requires { (1 ≤ batch) × (batch ≤ 8) × (1 ≤ limits.tellers) × (limits.tellers ≤ 64) × (limits.cap ≤ 2 ^ 56) }
+        ensures { IfOk result (λ opened. IsOpenBook batch limits.tellers limits.cap opened.0 opened.1.items) }
+    {
+        let words = [0u64; 24];
+        let (table, rest) = Table::of_words(alloc, &words, &limits)?;
+        let book = Book {
+            table,
+            limits,
+            batch,
+        };
+        let tellers = book.hand_out(alloc, rest)?;
+        Ok((book, tellers))
+    }
+
+    fn hand_out(
+        &self,
+        alloc: Global,
+        mut rest: Seat<(), View<BookStep>>,
+    ) -> Result<Vec<Teller>, AllocError>
+        requires { (rest.table_id ≡ self.now.table.shared.table_id) × (rest.me ≡ (all_fresh self.now.limits, [])) }
+        ensures own { IfOk result (λ tellers. All (IsTellerOf self.now) tellers.items) }
+        ensures fresh_all { IfOk result (λ tellers. records_of tellers.items ≡ fresh 0 (tellers_of self.now)) }
+    {
+        let mut tellers = Vec::new(alloc);
+        for number in 0..self.limits.tellers {
+            let teller = self.new_teller(&mut rest, number);
+            tellers.push(teller)?;
+        }
+        Ok(tellers)
+    }
+
+    // The next teller, from the seat with the records of all that are still to come.
+    fn new_teller(&self, rest: &mut Seat<(), View<BookStep>>, number: u32) -> Teller
+        requires comes { (number < self.now.limits.tellers) × (rest.old.table_id ≡ self.now.table.shared.table_id) }
+        requires knows { rest.old.me ≡ (still_to_come number (tellers_of self.now), []) }
+        ensures teller { IsTellerOf self.now result × (record_of result ≡ fresh_record number) }
+        ensures rest { rest.new.table_id ≡ rest.old.table_id }
+        ensures knows { rest.new.me ≡ (still_to_come (number + 1) (tellers_of self.now), []) }
+    {
+        let seat = self.table.shared.split_seat::<HandOut>(rest);
+        Teller {
+            seat,
+            number,
+            count: 0,
+            charges: 0,
+        }
+    }
+}

@@ -1,0 +1,99 @@
+//! New groups, and their waiters.
+ghost use Rattle.std.specs.Prelude.{◌≡◌, ◌≢◌, ℕ, ◌+◌, ◌<◌, ◌≤◌, ◌↔◌, ◌⊎◌, [], ◌∷◌, All, IfOk};
+ghost use Rattle.step_ledger.specs.Views.{fresh, fresh_record, still_to_come};
+ghost use Rattle.wake_book.specs.Waits.{all_fresh};
+ghost use Rattle.wake_book.specs.Groups.{IsWaiterOf, IsNew, record_of, records_of, waiters_of, AreOpenGroups, MiscountsGroups};
+
+use crate::fault::BookFault;
+use crate::groups::{Groups, Waiter};
+use crate::steps::GroupStep;
+use atomic_table::{Seat, Table};
+use crossbeam_utils::CachePadded;
+use crossbeam_utils::sync::EventCount;
+use std::alloc::{AllocError, Global};
+use step_ledger::{HandOut, View};
+
+/// Most waiters of groups.
+const MAX_WAITERS: u32 = 64;
+
+impl Groups {
+    /// Groups in which nobody stands. The waiters stand in the order of their numbers.
+    pub fn open(alloc: Global, waiters: u32) -> Result<(Groups, Vec<Waiter>), BookFault>
+        ensures ok { IfOk result (λ opened. AreOpenGroups waiters opened.0 opened.1.items) }
+
+        // The count is looked at first.
+        ensures count { (result ≡ Err BookFault.Count) ↔ MiscountsGroups waiters }
+        ensures no_cap { result ≢ Err BookFault.CapTooLarge }
+    {
+        if waiters == 0 || waiters > MAX_WAITERS {
+            return Err(BookFault::Count);
+        }
+        let Ok(opened) = Groups::lay_out(alloc, waiters) else {
+            return Err(BookFault::Memory);
+        };
+        Ok(opened)
+    }
+
+    fn lay_out(alloc: Global, waiters: u32) -> Result<(Groups, Vec<Waiter>), AllocError>
+        requires { (1 ≤ waiters) × (waiters ≤ 64) }
+        ensures { IfOk result (λ opened. AreOpenGroups waiters opened.0 opened.1.items) }
+    {
+        let words = [0u64; 88];
+        let (table, rest) = Table::of_words(alloc, &words, &waiters)?;
+        let groups = Groups {
+            table,
+            waiters,
+            bells: [
+                new_bell(),
+                new_bell(),
+                new_bell(),
+                new_bell(),
+                new_bell(),
+                new_bell(),
+                new_bell(),
+                new_bell(),
+            ],
+        };
+        let all = groups.hand_out(alloc, rest)?;
+        Ok((groups, all))
+    }
+
+    fn hand_out(
+        &self,
+        alloc: Global,
+        mut rest: Seat<(), View<GroupStep>>,
+    ) -> Result<Vec<Waiter>, AllocError>
+        requires { (rest.table_id ≡ self.now.table.shared.table_id) × (rest.me ≡ (all_fresh self.now.waiters, [])) }
+        ensures own { IfOk result (λ all. All (IsWaiterOf self.now) all.items × All IsNew all.items) }
+        ensures fresh_all { IfOk result (λ all. records_of all.items ≡ fresh 0 (waiters_of self.now)) }
+    {
+        let mut all = Vec::new(alloc);
+        for number in 0..self.waiters {
+            let waiter = self.new_waiter(&mut rest, number);
+            all.push(waiter)?;
+        }
+        Ok(all)
+    }
+
+    // The next waiter, from the seat with the records of all that are still to come.
+    fn new_waiter(&self, rest: &mut Seat<(), View<GroupStep>>, number: u32) -> Waiter
+        requires comes { (number < self.now.waiters) × (rest.old.table_id ≡ self.now.table.shared.table_id) }
+        requires knows { rest.old.me ≡ (still_to_come number (waiters_of self.now), []) }
+        ensures waiter { IsWaiterOf self.now result × IsNew result × (record_of result ≡ fresh_record number) }
+        ensures rest { rest.new.table_id ≡ rest.old.table_id }
+        ensures knows { rest.new.me ≡ (still_to_come (number + 1) (waiters_of self.now), []) }
+    {
+        let seat = self.table.shared.split_seat::<HandOut>(rest);
+        Waiter {
+            seat,
+            number,
+            standing: None,
+            next: 0,
+            moved: 0,
+        }
+    }
+}
+
+fn new_bell() -> CachePadded<EventCount> {
+    CachePadded::new(EventCount::new())
+}

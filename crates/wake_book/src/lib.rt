@@ -1,0 +1,27 @@
+//! Completions charged in batches, and waiters in eight groups, over tables of atomic words.
+#![tactic(auto)]
+
+mod book;
+mod book_closing;
+mod book_opening;
+mod book_plays;
+mod charge;
+mod fault;
+mod group_plays;
+mod groups;
+mod groups_closing;
+mod groups_opening;
+mod sleeping;
+mod steps;
+#[cfg(test)]
+mod tests;
+mod waiting;
+mod walk;
+
+pub use book::{Book, BookTotals, Teller};
+pub use book_closing::BookGatherFault;
+pub use charge::Charge;
+pub use fault::{BookFault, GatherCause};
+pub use groups::{GroupTotals, Groups, Waiter};
+pub use groups_closing::GroupsGatherFault;
+pub use waiting::Left;

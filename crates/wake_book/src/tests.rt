@@ -1,0 +1,5 @@
+//! Worked examples, threads that wait and wake, and refusals.
+mod book;
+mod groups;
+mod memory;
+mod threads;

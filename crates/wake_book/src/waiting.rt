@@ -1,0 +1,166 @@
+//! How a waiter comes, looks, and goes.
+ghost use Rattle.std.specs.Prelude.{◌≡◌, ℕ, ◌+◌, ◌%◌, ◌<◌, ◌≤◌, ◌∷◌, length, IsTrue, IsFalse, Some, None, IsSome};
+ghost use Rattle.wake_book.specs.Waits.{active_at, index_at, group_at, granted, waiting};
+ghost use Rattle.wake_book.specs.Groups.{IsWaiterOf, steps_of, number_of, standing_of, wait_index_of, moved_of};
+ghost use Rattle.wake_book.specs.Groups.{StandsAsBefore, SameWaiter, LeavesBy, LeavesAs, Loses};
+ghost use Rattle.wake_book.specs.declared.steps.GroupStep.TheVariants.{Look, Raise, Enter, Use, Withdraw};
+
+use crate::group_plays::{
+    EnterGroup, LowerActive, RaiseActive, SeeActive, SeeGroup, SeeIndex, UseGrant, WithdrawOne,
+};
+use crate::groups::{ACTIVE, GROUPS, Groups, INDEX, WAITING, Waiter, place_of};
+use std::sync::Wait;
+
+/// How a waiter left its group.
+#[derive(Clone, Copy, Debug, PartialEq, Eq)]
+pub enum Left {
+    /// By a grant, which it used.
+    Woken,
+    /// With no grant standing in its group.
+    Unwoken,
+}
+
+impl Groups {
+    /// How many have raised the active count and not lowered it, the caller among them.
+    pub fn active(&self, waiter: &mut Waiter) -> u64
+        requires groups { IsWaiterOf self.now waiter.old }
+        ensures groups { IsWaiterOf self.now waiter.new × StandsAsBefore waiter.old waiter.new }
+        ensures step { steps_of waiter.new ≡ Look active_at result ∷ steps_of waiter.old }
+        ensures own { IsSome (standing_of waiter.old) → 1 ≤ result }
+    {
+        self.table
+            .shared
+            .load::<SeeActive>(&mut waiter.seat, ACTIVE)
+    }
+
+    /// The group that the next walk visits first.
+    pub fn index(&self, waiter: &mut Waiter) -> u32
+        requires groups { IsWaiterOf self.now waiter.old }
+        ensures groups { IsWaiterOf self.now waiter.new × StandsAsBefore waiter.old waiter.new }
+        ensures step { steps_of waiter.new ≡ Look index_at result ∷ steps_of waiter.old }
+        ensures within { result < 8 }
+    {
+        self.table.shared.load::<SeeIndex>(&mut waiter.seat, INDEX) as u32
+    }
+
+    /// The group in which the waiter stands. It is known without a step.
+    pub fn standing(waiter: &Waiter) -> Option<u32>
+        ensures { result ≡ standing_of waiter.now }
+    {
+        let Waiter { standing, .. } = waiter;
+        *standing
+    }
+
+    /// Raises the active count, and stands in the group of the wait index, which goes on by one.
+    pub fn enter(&self, waiter: &mut Waiter) -> u32
+        requires groups { IsWaiterOf self.now waiter.old }
+        requires out { standing_of waiter.old ≡ None }
+        ensures groups { IsWaiterOf self.now waiter.new × (number_of waiter.new ≡ number_of waiter.old) }
+        ensures group { (result ≡ wait_index_of waiter.old) × (standing_of waiter.new ≡ Some result) }
+        ensures next { wait_index_of waiter.new ≡ (wait_index_of waiter.old + 1) % 8 }
+        ensures steps { (active : ℕ) × (found : ℕ) × (steps_of waiter.new ≡ Enter result found ∷ Raise active ∷ steps_of waiter.old) }
+        ensures bound { length (steps_of waiter.new) ≡ 2 + length (steps_of waiter.old) }
+    {
+        let group = waiter.next;
+        self.table
+            .shared
+            .fetch_add::<RaiseActive>(&mut waiter.seat, ACTIVE, 1);
+        self.table
+            .shared
+            .fetch_add::<EnterGroup>(&mut waiter.seat, place_of(group), WAITING);
+        waiter.standing = Some(group);
+        waiter.next = (group + 1) % GROUPS;
+        group
+    }
+
+    /// Uses a grant where one stands in the waiter's group, whoever was meant, else waits no more; then the active count is lowered.
+    pub fn leave<R: Wait>(&self, rt: &R, waiter: &mut Waiter) -> Left
+        requires groups { IsWaiterOf self.now waiter.old }
+        requires stands { IsSome (standing_of waiter.old) }
+        ensures groups { IsWaiterOf self.now waiter.new × (number_of waiter.new ≡ number_of waiter.old) }
+        ensures out { (standing_of waiter.new ≡ None) × (wait_index_of waiter.new ≡ wait_index_of waiter.old) }
+        ensures moved { moved_of waiter.new ≡ moved_of waiter.old }
+        ensures left { LeavesAs waiter.old waiter.new result }
+    {
+        let Some(group) = waiter.standing else {
+            unreachable!()
+        };
+        for _ in rt.forever() {
+            let found = self.look_group(waiter, group);
+            if found % WAITING > 0 {
+                if self.use_grant(waiter, group, found) {
+                    return Left::Woken;
+                }
+            } else if self.withdraw(waiter, group, found) {
+                return Left::Unwoken;
+            }
+        }
+        unreachable!()
+    }
+
+    pub(crate) fn look_group(&self, waiter: &mut Waiter, group: u32) -> u64
+        requires groups { IsWaiterOf self.now waiter.old }
+        requires within { group < 8 }
+        ensures groups { IsWaiterOf self.now waiter.new × StandsAsBefore waiter.old waiter.new }
+        ensures step { steps_of waiter.new ≡ Look (group_at group) result ∷ steps_of waiter.old }
+        ensures waits { standing_of waiter.old ≡ Some group → granted result ≡ 0 → 1 ≤ waiting result }
+        ensures moved { waiter.new.moved ≡ waiter.old.moved }
+    {
+        self.table
+            .shared
+            .load::<SeeGroup>(&mut waiter.seat, place_of(group))
+    }
+
+    // Uses a grant, where the word is still what was found, and lowers the active count.
+    fn use_grant(&self, waiter: &mut Waiter, group: u32, found: u64) -> bool
+        requires groups { IsWaiterOf self.now waiter.old }
+        requires stands { (standing_of waiter.old ≡ Some group) × (0 < granted found) }
+        ensures groups { IsWaiterOf self.now waiter.new × SameWaiter waiter.old waiter.new }
+        ensures moved { waiter.new.moved ≡ waiter.old.moved }
+        ensures won { IsTrue result → LeavesBy (Use group found found) waiter.old waiter.new }
+        ensures stays { IsFalse result → standing_of waiter.new ≡ standing_of waiter.old }
+        ensures lost { IsFalse result → Loses found (Use group found) waiter.old waiter.new }
+    {
+        let seen = self
+            .table
+            .shared
+            .compare_exchange::<UseGrant>(&mut waiter.seat, place_of(group), found, found - 1);
+        if seen != found {
+            return false;
+        }
+        self.table
+            .shared
+            .fetch_sub::<LowerActive>(&mut waiter.seat, ACTIVE, 1);
+        waiter.standing = None;
+        true
+    }
+
+    // Takes one from those who wait, where the word is still what was found, and lowers the active count.
+    fn withdraw(&self, waiter: &mut Waiter, group: u32, found: u64) -> bool
+        requires groups { IsWaiterOf self.now waiter.old }
+        requires stands { (standing_of waiter.old ≡ Some group) × (granted found ≡ 0) × (1 ≤ waiting found) }
+        ensures groups { IsWaiterOf self.now waiter.new × SameWaiter waiter.old waiter.new }
+        ensures moved { waiter.new.moved ≡ waiter.old.moved }
+        ensures won { IsTrue result → LeavesBy (Withdraw group found found) waiter.old waiter.new }
+        ensures stays { IsFalse result → standing_of waiter.new ≡ standing_of waiter.old }
+        ensures lost { IsFalse result → Loses found (Withdraw group found) waiter.old waiter.new }
+    {
+        let seen = self
+            .table
+            .shared
+            .compare_exchange::<WithdrawOne>(
+                &mut waiter.seat,
+                place_of(group),
+                found,
+                found - WAITING,
+            );
+        if seen != found {
+            return false;
+        }
+        self.table
+            .shared
+            .fetch_sub::<LowerActive>(&mut waiter.seat, ACTIVE, 1);
+        waiter.standing = None;
+        true
+    }
+}

@@ -1,0 +1,98 @@
+//! The walk that wakes: waiters go from waiting to granted, group by group.
+ghost use Rattle.std.specs.Prelude.{◌≡◌, ◌+◌, ◌^◌, ◌<◌, ◌≤◌, ◌∷◌, length, IsTrue, IsFalse};
+ghost use Rattle.wake_book.specs.Waits.{waiting};
+ghost use Rattle.wake_book.specs.Walks.{IsVisit, IsWalk};
+ghost use Rattle.wake_book.specs.Groups.{IsWaiterOf, steps_of, moved_of, StandsAsBefore, MovesMore, Loses};
+ghost use Rattle.wake_book.specs.declared.steps.GroupStep.TheVariants.{Grant, Store};
+
+use crate::group_plays::{GrantSome, StoreIndex};
+use crate::groups::{GROUPS, Groups, INDEX, WAITING, Waiter, place_of};
+
+/// Tries at one group, after which a walk goes on to the next.
+const TRIES: u32 = 4;
+
+/// Most moves to granted of one waiter, 2^56.
+const MAX_MOVED: u64 = 72_057_594_037_927_936;
+
+impl Groups {
+    /// Moves up to `nr`, 1 to 8, of those who wait to granted, and answers how many.
+    pub fn wake(&self, waiter: &mut Waiter, nr: u32) -> u32
+        requires groups { IsWaiterOf self.now waiter.old }
+        requires within { (1 ≤ nr) × (nr ≤ 8) }
+        ensures groups { IsWaiterOf self.now waiter.new × StandsAsBefore waiter.old waiter.new }
+        ensures most { result ≤ nr }
+        ensures moved { moved_of waiter.new ≡ moved_of waiter.old + result }
+        ensures lawful { IsWalk nr (steps_of waiter.old) (steps_of waiter.new) result }
+        ensures bound { length (steps_of waiter.new) ≤ 67 + length (steps_of waiter.old) }
+    {
+        if waiter.moved + nr as u64 > MAX_MOVED || self.active(waiter) == 0 {
+            return 0;
+        }
+        let mut group = self.index(waiter);
+        let mut left = nr;
+        let mut visits = 0u32;
+        while left > 0 && visits < GROUPS {
+            left -= self.visit(waiter, group, left);
+            group = (group + 1) % GROUPS;
+            visits += 1;
+        }
+        self.store_index(waiter, group);
+        nr - left
+    }
+
+    // Moves up to `most` of those who wait in a group, and wakes its sleepers.
+    fn visit(&self, waiter: &mut Waiter, group: u32, most: u32) -> u32
+        requires groups { IsWaiterOf self.now waiter.old }
+        requires within { (group < 8) × (waiter.old.moved + most ≤ 2 ^ 56) }
+        ensures groups { IsWaiterOf self.now waiter.new × StandsAsBefore waiter.old waiter.new }
+        ensures moved { (result ≤ most) × (waiter.new.moved ≡ waiter.old.moved + result) }
+        ensures visit { IsVisit group most (steps_of waiter.old) (steps_of waiter.new) result }
+    {
+        for _ in 0..TRIES {
+            let found = self.look_group(waiter, group);
+            let waiting = found / WAITING;
+            if waiting == 0 {
+                return 0;
+            }
+            let count = waiting.min(most as u64);
+            if self.grant(waiter, group, found, count) {
+                self.bells[group as usize].notify_all();
+                return count as u32;
+            }
+        }
+        0
+    }
+
+    // Moves some from waiting to granted, where the word is still what was found.
+    fn grant(&self, waiter: &mut Waiter, group: u32, found: u64, count: u64) -> bool
+        requires groups { IsWaiterOf self.now waiter.old }
+        requires within { (group < 8) × (count ≤ waiting found) × (waiter.old.moved + count ≤ 2 ^ 56) }
+        ensures groups { IsWaiterOf self.now waiter.new × StandsAsBefore waiter.old waiter.new }
+        ensures moved { IsTrue result → MovesMore count waiter.old waiter.new }
+        ensures won { IsTrue result → steps_of waiter.new ≡ Grant group found count found ∷ steps_of waiter.old }
+        ensures kept { IsFalse result → waiter.new.moved ≡ waiter.old.moved }
+        ensures lost { IsFalse result → Loses found (Grant group found count) waiter.old waiter.new }
+    {
+        let new = found - WAITING * count + count;
+        let seen = self
+            .table
+            .shared
+            .compare_exchange::<GrantSome>(&mut waiter.seat, place_of(group), found, new);
+        if seen != found {
+            return false;
+        }
+        waiter.moved += count;
+        true
+    }
+
+    fn store_index(&self, waiter: &mut Waiter, group: u32)
+        requires groups { IsWaiterOf self.now waiter.old }
+        requires within { group < 8 }
+        ensures groups { IsWaiterOf self.now waiter.new × StandsAsBefore waiter.old waiter.new }
+        ensures step { steps_of waiter.new ≡ Store group ∷ steps_of waiter.old }
+    {
+        self.table
+            .shared
+            .store::<StoreIndex>(&mut waiter.seat, INDEX, group as u64);
+    }
+}
