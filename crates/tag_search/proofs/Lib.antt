@@ -1,1 +1,4 @@
 pub mod Orders
+pub mod Claims
+pub mod Joined
+pub mod Passes

@@ -17,7 +17,7 @@ pub struct Rank {
 }
 
 impl Rank {
-    ghost use Rattle.std.specs.Prelude.{◌≡◌, ℕ, ◌≤◌, min, Bool, MatchOption};
+    ghost use Rattle.std.specs.Prelude.{◌≡◌, ℕ, ◌<◌, ◌≤◌, min, Bool, MatchOption, IfSome};
     ghost use Rattle.tag_search.specs.Order.{scan_order};
     ghost use Rattle.tag_search.specs.Search.{AllTaken, IsFirstInRank};
     ghost use Rattle.tag_search.specs.Places.{places_of};
@@ -38,10 +38,11 @@ impl Rank {
     /// Goes to the next place that is clear in the word, and leaves those behind it.
     #[inline]
     pub fn next(&mut self, word: u64) -> Option<u32>
-        ensures {
+        ensures next {
             MatchOption result (AllTaken word (places_of self.old)) (λ place.
                 IsFirstInRank word (places_of self.old) place (places_of self.new))
         }
+        ensures within { IfSome result (λ place. place < 64) }
     {
         if let Some(place) = first_clear(word, self.from, self.limit) {
             self.from = place + 1;

@@ -7,8 +7,8 @@ use Rattle.tag_search.specs.Order.{numbers}
 use Rattle.tag_search.proofs.Orders.{numbers-at, all_numbers}
 use Rattle.tag_search.proofs.rank.Rank.next.Goals as goal
 
-pub returns-in-Some : goal.returns-in-Some
-returns-in-Some c =
+pub returns-in-Some-clause-next : goal.returns-in-Some-clause-next
+returns-in-Some-clause-next c =
     let r = c.args.self.now in let p = c.in-Some.place in let is = c.in-Some.ensures in
     record {
       before = numbers r.from p;
@@ -17,14 +17,14 @@ returns-in-Some c =
       clear = is.clear;
     }
 
-pub returns-in_err-place : goal.returns-in_err-place
-returns-in_err-place c =
+pub returns-in_err-place-clause-next : goal.returns-in_err-place-clause-next
+returns-in_err-place-clause-next c =
     let r = c.args.self.now in let Taken : ℕ → Type 0 = λ k. bit_at c.args.word k ≡ 1 in
     rw c.from_residual.ensures (All-append Taken (numbers r.from r.limit) (numbers 0 r.then)
         (all_numbers Taken r.from r.limit c.in_default.ensures) (all_numbers Taken 0 r.then c.in_err-place.ensures))
 
-pub returns : goal.returns
-returns c =
+pub returns-clause-next : goal.returns-clause-next
+returns-clause-next c =
     let r = c.args.self.now in let p = c.in_ok-place.place in let is = c.in_ok-place.ensures in
     let Taken : ℕ → Type 0 = λ k. bit_at c.args.word k ≡ 1 in
     let front = numbers r.from r.limit in let back = numbers (p + 1) r.then in
