@@ -2,3 +2,4 @@ pub mod Orders
 pub mod Claims
 pub mod Joined
 pub mod Passes
+pub mod Searches

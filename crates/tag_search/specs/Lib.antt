@@ -1,5 +1,9 @@
 pub mod Order
 pub mod Search
+pub mod Visits
+pub mod Gets
 pub mod Added
 pub mod Hints
+pub mod Follows
 pub mod Places
+pub mod Scans

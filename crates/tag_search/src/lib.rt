@@ -5,7 +5,9 @@ mod hint;
 mod pass;
 mod port;
 mod rank;
+mod scan;
+mod search;
 
 pub use hint::Hint;
-pub use pass::visit;
 pub use port::Port;
+pub use search::{get, get_shallow};

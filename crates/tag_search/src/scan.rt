@@ -1,11 +1,12 @@
 //! The visits of a search over all words.
-ghost use Rattle.std.specs.Prelude.{◌≡◌, ℕ, ◌<◌, ◌≤◌, IfSome, IfNone};
-ghost use Rattle.tag_layout.specs.Layout.{words, word_depth};
-ghost use Rattle.tag_search.specs.Order.{numbers, scan_order};
+ghost use Rattle.std.specs.Prelude.{◌≡◌, ℕ, ◌<◌, ◌≤◌, ◌-◌, map, All, IfSome, IfNone};
+ghost use Rattle.tag_layout.specs.Layout.{words, word_of, place_of, word_depth};
+ghost use Rattle.tag_search.specs.Order.{numbers};
 ghost use Rattle.tag_search.specs.Search.{IsSearch};
 ghost use Rattle.tag_search.specs.Added.{Adds, SameRoom};
 ghost use Rattle.tag_search.specs.Places.{places_of};
-ghost use Rattle.tag_search.specs.Visits.{rank_of, visits_of, visits};
+ghost use Rattle.tag_search.specs.Visits.{visit_of, visits, plain_reach, shallow_reach};
+ghost use Rattle.tag_search.specs.Scans.{limit_of, reach_of};
 
 use tag_layout::Layout;
 
@@ -29,18 +30,64 @@ pub struct Scan {
 }
 
 impl Scan {
+    /// The scan of a plain search from a hint below the depth (0 where there are no tags).
+    #[inline]
+    pub fn plain(layout: Layout, round_robin: bool, from: u32) -> Scan
+        requires { from ≤ layout.depth - 1 }
+        ensures layout { result.layout ≡ layout }
+        ensures first { (result.first ≡ word_of layout from) × (result.first ≤ words layout) }
+        ensures reach { reach_of result ≡ plain_reach layout round_robin from }
+    {
+        Scan {
+            layout,
+            first: from >> layout.shift(),
+            start: if round_robin { place_in_word(layout, from) } else { 0 },
+            shallow: None,
+            wrap: !round_robin,
+        }
+    }
+
+    /// The scan of a search of this depth, from a hint below the map's depth (0 where there are no tags).
+    #[inline]
+    pub fn shallow(layout: Layout, depth: u32, from: u32) -> Scan
+        requires { from ≤ layout.depth - 1 }
+        ensures layout { result.layout ≡ layout }
+        ensures first { (result.first ≡ word_of layout from) × (result.first ≤ words layout) }
+        ensures reach { reach_of result ≡ shallow_reach layout depth from }
+    {
+        Scan {
+            layout,
+            first: from >> layout.shift(),
+            start: place_in_word(layout, from),
+            shallow: Some(depth),
+            wrap: true,
+        }
+    }
+
     /// The places of a word that may be taken, in their order.
     #[inline]
     fn rank(&self, word: u32) -> Rank
         requires { word < words self.now.layout }
-        ensures rank { places_of result ≡ rank_of self.now word }
+        ensures rank { places_of result ≡ (visit_of self.now.first (reach_of self.now) word).rank }
+        ensures within { All (λ place. place < word_depth self.now.layout word) (places_of result) }
     {
-        let limit = match self.shallow {
-            None => self.layout.word_depth(word),
-            Some(depth) => self.layout.shallow_limit(word, depth),
-        };
         let start = if word == self.first { self.start } else { 0 };
-        Rank::new(start, limit, self.wrap)
+        Rank::new(start, self.limit(word), self.wrap)
+    }
+
+    /// How many places of a word may be taken.
+    #[inline]
+    fn limit(&self, word: u32) -> u32
+        requires { word < words self.now.layout }
+        ensures value { result ≡ limit_of self.now.layout self.now.shallow word }
+        ensures within { result ≤ word_depth self.now.layout word }
+        ensures width { result ≤ 64 }
+    {
+        let depth = self.layout.word_depth(word);
+        match self.shallow {
+            None => depth,
+            Some(shallow) => self.layout.shallow_limit(word, shallow),
+        }
     }
 
     /// Visits the words from one on up to the end, until a visit wins a tag.
@@ -56,7 +103,7 @@ impl Scan {
         ensures tag { IfSome result (λ tag. tag < self.now.layout.depth) }
         ensures search {
             Adds P.adds port.old port.new (λ steps.
-                IsSearch self.now.layout (visits_of self.now (numbers from end)) steps result)
+                IsSearch self.now.layout (map (visit_of self.now.first (reach_of self.now)) (numbers from end)) steps result)
         }
     {
         for word in from..end {
@@ -79,7 +126,8 @@ impl Scan {
         ensures room { IfNone result (SameRoom P.has_room port.old port.new) }
         ensures tag { IfSome result (λ tag. tag < self.now.layout.depth) }
         ensures search {
-            Adds P.adds port.old port.new (λ steps. IsSearch self.now.layout (visits self.now) steps result)
+            Adds P.adds port.old port.new (λ steps.
+                IsSearch self.now.layout (visits self.now.layout self.now.first (reach_of self.now)) steps result)
         }
     {
         match self.visit_between(port, self.first, self.layout.words()) {
@@ -87,4 +135,12 @@ impl Scan {
             None => self.visit_between(port, 0, self.first),
         }
     }
+}
+
+/// The place of a number in its word, also where there is no such tag.
+#[inline]
+fn place_in_word(layout: Layout, from: u32) -> u32
+    ensures { result ≡ place_of layout from }
+{
+    from & ((1 << layout.shift()) - 1)
 }
