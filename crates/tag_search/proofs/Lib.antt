@@ -3,3 +3,5 @@ pub mod Claims
 pub mod Joined
 pub mod Passes
 pub mod Searches
+pub mod Tallies
+pub mod Bounds

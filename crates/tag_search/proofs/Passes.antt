@@ -6,7 +6,7 @@ use Rattle.std.proofs.lemmas.List.{append_assoc, length-append}
 use Rattle.std.proofs.lemmas.List.Elements.{All-head, All-tail}
 use Rattle.tag_core.specs.declared.word_step.WordStep.{WordStep}
 use Rattle.tag_core.specs.declared.word_step.WordStep.TheVariants.{Claimed}
-use Rattle.tag_search.specs.Search.{IsFirstInRank, IsTries, IsPass, lost}
+use Rattle.tag_search.specs.Search.{IsFirstInRank, IsTries, IsPass, loses}
 use Rattle.tag_search.specs.Added.{Adds}
 
 -- tries of the places that are left, put behind these steps, are a pass over the rank
@@ -17,7 +17,7 @@ IsPassBegun i rank left found steps = (tries : List WordStep) (answer : Option �
 pub begun_further : (i : ℕ) (rank left behind : List ℕ) (found next place : ℕ) (steps : List WordStep) → IsPassBegun i rank left found steps
     → IsFirstInRank found left place behind → bit_at next place ≡ 1 → IsPassBegun i rank behind next (steps ++ Claimed i (2 ^ place) next ∷ [])
 begun_further i rank left behind found next place steps begun first taken tries answer rest =
-    subst (λ xs. IsPass i rank xs answer) (sym (append_assoc steps (Claimed i (2 ^ place) next ∷ []) tries)) (begun (Claimed i (2 ^ place) next ∷ tries) answer (lost first taken rest))
+    subst (λ xs. IsPass i rank xs answer) (sym (append_assoc steps (Claimed i (2 ^ place) next ∷ []) tries)) (begun (Claimed i (2 ^ place) next ∷ tries) answer (loses first taken rest))
 
 -- what holds of each element holds of one in the middle, and of those behind it
 pub all_behind : {X : Type 0} (P : X → Type 0) (xs : List X) (y : X) (ys : List X) → All P (xs ++ y ∷ ys) → P y × All P ys

@@ -1,8 +1,10 @@
 -- What is known in the middle of a search.
-use Rattle.std.proofs.Common.{◌≡◌, ℕ, ◌+◌, ◌<◌, ◌≤◌, List, [], ◌∷◌, ◌++◌, map, Option, Some, None, arith, refl, sym, ap, ◌∙◌, subst}
-use Rattle.std.proofs.lemmas.List.{append_assoc, append-nil}
+use Rattle.std.proofs.Common.{◌≡◌, ℕ, ◌+◌, ◌<◌, ◌≤◌, List, [], ◌∷◌, ◌++◌, map, min, Option, Some, None, arith, refl, sym, ap, ◌∙◌, subst}
+use Rattle.std.proofs.lemmas.List.{append_assoc, append-nil, map-append}
 use Rattle.tag_core.specs.declared.word_step.WordStep.{WordStep}
-use Rattle.tag_layout.specs.Layout.{Layout, tag_at}
+use Rattle.tag_layout.specs.Layout.{Layout, words, tag_at}
+use Rattle.tag_search.specs.Order.{numbers}
+use Rattle.tag_search.specs.Visits.{Reach, visit_of, visits}
 use Rattle.tag_search.specs.Search.{Visit, IsVisit, IsSearch, over, won, passed}
 
 -- a search of the visits that are left, put behind these steps, is a search of all
@@ -34,3 +36,10 @@ search_goes_on l first more rest answer e over search = search
 search_goes_on l first more rest answer e (won {visit = visit} {place = place} v) search = absurd (let no : Some _ ≡ None = e in cc)
 search_goes_on l first more rest answer e (passed {visit = visit} {visits = vs} {steps = s} {rest = r} v left) search =
     subst (λ xs. IsSearch l (visit ∷ (vs ++ more)) xs answer) (sym (append_assoc s r rest)) (passed {visit = visit} v (search_goes_on l first more rest answer e left search))
+
+-- the visits of the words from the first on, and then of those before it
+pub visits-split : (l : Layout) (first : ℕ) (reach : Reach) → first ≤ words l
+    → visits l first reach ≡ map (visit_of first reach) (numbers first (words l)) ++ map (visit_of first reach) (numbers 0 first)
+visits-split l first reach h =
+    let e : min first (words l) ≡ first = omega arith in
+    ap (λ (end : ℕ). map (visit_of first reach) (numbers first (words l) ++ numbers 0 end)) e ∙ map-append (visit_of first reach) (numbers first (words l)) (numbers 0 first)

@@ -20,8 +20,8 @@ pub record IsFirstInRank (word : ℕ) (rank : List ℕ) (place : ℕ) (behind : 
 -- clear there, behind those claimed before, and the first claim won is the last
 pub data IsTries (i : ℕ) : List ℕ → ℕ → List WordStep → Option ℕ → Type 0 where
   none_left : {rank : List ℕ} {found : ℕ} → AllTaken found rank → IsTries i rank found [] None
-  won : {rank behind : List ℕ} {found next place : ℕ} → IsFirstInRank found rank place behind → bit_at next place ≡ 0 → IsTries i rank found (Claimed i (2 ^ place) next ∷ []) (Some place)
-  lost : {rank behind : List ℕ} {found next place : ℕ} {rest : List WordStep} {answer : Option ℕ} → IsFirstInRank found rank place behind → bit_at next place ≡ 1 → IsTries i behind next rest answer → IsTries i rank found (Claimed i (2 ^ place) next ∷ rest) answer
+  wins : {rank behind : List ℕ} {found next place : ℕ} → IsFirstInRank found rank place behind → bit_at next place ≡ 0 → IsTries i rank found (Claimed i (2 ^ place) next ∷ []) (Some place)
+  loses : {rank behind : List ℕ} {found next place : ℕ} {rest : List WordStep} {answer : Option ℕ} → IsFirstInRank found rank place behind → bit_at next place ≡ 1 → IsTries i behind next rest answer → IsTries i rank found (Claimed i (2 ^ place) next ∷ rest) answer
 
 -- a load of the word, and the claims that follow from it
 pub data IsPass (i : ℕ) (rank : List ℕ) : List WordStep → Option ℕ → Type 0 where

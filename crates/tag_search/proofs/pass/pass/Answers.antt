@@ -4,7 +4,7 @@ use Rattle.std.proofs.lemmas.List.{append-nil}
 use Rattle.tag_core.specs.declared.word_step.WordStep.{WordStep}
 use Rattle.tag_core.specs.declared.word_step.WordStep.TheVariants.{Look, Claimed}
 use Rattle.tag_layout.specs.Layout.{word_depth}
-use Rattle.tag_search.specs.Search.{IsPass, pass, none_left, won}
+use Rattle.tag_search.specs.Search.{IsPass, pass, none_left, wins}
 use Rattle.tag_search.specs.Places.{places_of}
 use Rattle.tag_search.proofs.Joined.{same_room_joined}
 use Rattle.tag_search.proofs.Passes.{begun_further, all_left}
@@ -37,7 +37,7 @@ returns-in-Ok-clause-pass g c =
     record {
       steps = begun.steps ++ step ∷ [];
       added = g.met.P.Port.adds_more c.args.port.now c.loop-place.port c.claim_place.new.port begun.steps (step ∷ []) begun.added claim.2;
-      holds = begun.holds (step ∷ []) (Some c.in-Some.place) (won c.in-Some.ensures.next claim.1);
+      holds = begun.holds (step ∷ []) (Some c.in-Some.place) (wins c.in-Some.ensures.next claim.1);
     }
 
 pub loop-place-preserved : goal.loop-place-preserved
