@@ -38,7 +38,39 @@ visit_bound (at_once once) = let a = pass_bound once in omega arith
 visit_bound (retried {first = first} {rest = rest} once again) =
     let a = pass_bound once in let b = retry_bound again in let e = length-append first rest in omega arith
 
+-- the most steps of all these visits
+abbrev pub most_steps : List Visit → ℕ
+most_steps [] = 0
+most_steps (visit ∷ visits) = 2 * length visit.rank + 4 + most_steps visits
+
 -- a search has at most the steps of all its visits
-search_bound : (l : Layout) (of : ℕ → Visit) (f : ℕ → ℕ) (is : List ℕ) {vs : List Visit} {steps : List WordStep} {answer : Option ℕ} → vs ≡ map of is
-    → All (λ i. 2 * length (of i).rank + 4 ≤ f i) is → IsSearch l vs steps answer → length steps ≤ tally f is
-search_bound l of f is e below search = ?
+pub search_bound : {l : Layout} {vs : List Visit} {steps : List WordStep} {answer : Option ℕ} → IsSearch l vs steps answer → length steps ≤ most_steps vs
+search_bound over = omega arith
+search_bound (won {visits = more} visit) = let a = visit_bound visit in omega arith
+search_bound (passed {steps = first} {rest = rest} visit search) =
+    let a = visit_bound visit in let b = search_bound search in let e = length-append first rest in omega arith
+
+most_steps-append : (xs ys : List Visit) → most_steps (xs ++ ys) ≡ most_steps xs + most_steps ys
+most_steps-append [] ys = omega arith
+most_steps-append (x ∷ xs) ys = let rest = most_steps-append xs ys in omega arith
+
+most_steps-map : (of : ℕ → Visit) (f : ℕ → ℕ) (is : List ℕ) → All (λ i. 2 * length (of i).rank + 4 ≤ f i) is → most_steps (map of is) ≤ tally f is
+most_steps-map of f [] h = omega arith
+most_steps-map of f (i ∷ is) h =
+    let P : ℕ → Type 0 = λ i. 2 * length (of i).rank + 4 ≤ f i in
+    let first = All-head P i is h in let rest = most_steps-map of f is (All-tail P i is h) in omega arith
+
+-- all visits of a search make at most two claims of each tag and four steps more a word
+pub visits_bound : (l : Layout) (first : ℕ) (reach : Reach) → first ≤ words l → ((i : ℕ) → i < words l → reach.limit i ≤ word_depth l i)
+    → most_steps (visits l first reach) ≤ 2 * l.depth + 4 * words l
+visits_bound l first reach h within =
+    let of : ℕ → Visit = visit_of first reach in let f : ℕ → ℕ = λ i. 2 * word_depth l i + 4 in
+    let P : ℕ → Type 0 = λ i. 2 * length (of i).rank + 4 ≤ f i in
+    let each : (i : ℕ) → i < words l → P i = λ i k.
+        let a : length (of i).rank ≤ reach.limit i = length-scan_order (cond (nat_eq i first) reach.start 0) (reach.limit i) reach.wrap in let b = within i k in omega arith in
+    let front = numbers first (words l) in let back = numbers 0 first in
+    let split : most_steps (visits l first reach) ≡ most_steps (map of front) + most_steps (map of back) =
+        ap most_steps (visits-split l first reach h) ∙ most_steps-append (map of front) (map of back) in
+    let a = most_steps-map of f front (all_numbers P first (words l) (λ i _ k. each i k)) in
+    let b = most_steps-map of f back (all_numbers P 0 first (λ i _ k. each i (omega arith))) in
+    let sum = tally-around f first (words l) h in let total = steps-sum l in omega arith

@@ -5,3 +5,4 @@ pub mod Passes
 pub mod Searches
 pub mod Tallies
 pub mod Bounds
+pub mod GetFacts
