@@ -7,3 +7,5 @@ pub mod Hints
 pub mod Follows
 pub mod Places
 pub mod Scans
+pub mod Plain
+pub mod PlainLaws

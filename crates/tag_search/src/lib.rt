@@ -3,11 +3,14 @@
 
 mod hint;
 mod pass;
+mod plain;
+mod plain_steps;
 mod port;
 mod rank;
 mod scan;
 mod search;
 
 pub use hint::Hint;
+pub use plain::PlainPort;
 pub use port::Port;
 pub use search::{get, get_shallow};
