@@ -6,3 +6,4 @@ pub mod Searches
 pub mod Tallies
 pub mod Bounds
 pub mod GetFacts
+pub mod PlainFacts

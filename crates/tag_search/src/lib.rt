@@ -3,6 +3,7 @@
 
 mod hint;
 mod pass;
+mod place;
 mod plain;
 mod plain_steps;
 mod port;

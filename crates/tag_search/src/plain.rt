@@ -9,6 +9,8 @@ use std::alloc::{AllocError, Global};
 use std::marker::Model;
 use tag_layout::Layout;
 
+use crate::place::bit_of;
+
 /// The words of a map that one caller has alone. A contract sees the layout, each word and each cleared set.
 #[derive(Drop)]
 pub struct PlainPort {
@@ -54,7 +56,7 @@ impl PlainPort {
         ensures { IsTrue result ↔ IsTaken self.now (word_of self.now.layout tag) (place_of self.now.layout tag) }
     {
         let word = self.layout.word_of(tag) as usize;
-        let bit = 1 << self.layout.place_of(tag);
+        let bit = bit_of(self.layout, tag);
         self.word[word] & bit != 0 && self.cleared[word] & bit == 0
     }
 
@@ -77,7 +79,7 @@ impl PlainPort {
         }
     {
         let word = self.layout.word_of(tag) as usize;
-        let bit = 1 << self.layout.place_of(tag);
+        let bit = bit_of(self.layout, tag);
         self.cleared[word] |= bit;
     }
 

@@ -1,6 +1,6 @@
 //! The visits of a search over all words.
 ghost use Rattle.std.specs.Prelude.{◌≡◌, ℕ, ◌<◌, ◌≤◌, ◌-◌, map, All, IfSome, IfNone};
-ghost use Rattle.tag_layout.specs.Layout.{words, word_of, place_of, word_depth};
+ghost use Rattle.tag_layout.specs.Layout.{words, word_of, word_depth};
 ghost use Rattle.tag_search.specs.Order.{numbers};
 ghost use Rattle.tag_search.specs.Search.{IsSearch};
 ghost use Rattle.tag_search.specs.Added.{Adds, SameRoom};
@@ -11,6 +11,7 @@ ghost use Rattle.tag_search.specs.Scans.{limit_of, reach_of};
 use tag_layout::Layout;
 
 use crate::pass::visit;
+use crate::place::place_in_word;
 use crate::port::Port;
 use crate::rank::Rank;
 
@@ -135,12 +136,4 @@ impl Scan {
             None => self.visit_between(port, 0, self.first),
         }
     }
-}
-
-/// The place of a number in its word, also where there is no such tag.
-#[inline]
-fn place_in_word(layout: Layout, from: u32) -> u32
-    ensures { result ≡ place_of layout from }
-{
-    from & ((1 << layout.shift()) - 1)
 }
