@@ -23,7 +23,8 @@ tries_bound (loses {rank = rank} {behind = behind} {found = found} {place = plac
 pub pass_bound : {i : ℕ} {rank : List ℕ} {steps : List WordStep} {answer : Option ℕ} → IsPass i rank steps answer → length steps ≤ length rank + 1
 pass_bound (pass tries) = let less = tries_bound tries in omega arith
 
-sweep_bound : {i mask : ℕ} {steps : List WordStep} → IsSweep i mask steps → length steps ≤ 2
+-- a sweep is a swap, and a spill where it found a mask
+pub sweep_bound : {i mask : ℕ} {steps : List WordStep} → IsSweep i mask steps → length steps ≤ 2
 sweep_bound empty = omega arith
 sweep_bound (spilled some fits) = omega arith
 

@@ -1,6 +1,5 @@
 -- What one write to the plain words leaves of all words.
 use Rattle.std.proofs.Common.{◌≡◌, ◌≢◌, ℕ, zero, suc, ◌+◌, ◌-◌, ◌*◌, ◌^◌, ◌<◌, List, [], ◌∷◌, length, get_or, set, nat_eq, cond, Bool, true, false, bit_and, bit_or, arith, refl, sym, ap, ◌∙◌, get_or-set_other, get_or-set_same, eq-eqb, ne_eqb, eqb-true, ◌↔◌}
-
 use mathlib.Core.Logic.{dite}
 use Rattle.std.specs.Prelude.{IsTrue, not}
 use native.Mathlib.Decide.{ℕ_discrete}

@@ -2,6 +2,7 @@ pub mod Order
 pub mod Search
 pub mod Visits
 pub mod Gets
+pub mod Batch
 pub mod Added
 pub mod Hints
 pub mod Follows

@@ -1,5 +1,5 @@
 //! Where the next search begins.
-ghost use Rattle.std.specs.Prelude.{◌≡◌, ℕ, ◌<◌, ◌≤◌, IfSome};
+ghost use Rattle.std.specs.Prelude.{◌≡◌, ℕ, ◌<◌, ◌≤◌, IfSome, if◌then◌else◌};
 ghost use Rattle.tag_search.specs.Hints.{reduced, hint_after_get, next_hint};
 
 /// Where one caller's next search begins.
@@ -33,6 +33,17 @@ impl Hint {
             Some(tag) if tag == from || self.round_robin => next_hint(depth, tag),
             Some(_) => from,
         };
+    }
+}
+
+/// Moves the hint of the caller who cleared a tag: to that tag, but not under round robin.
+#[inline]
+pub fn after_clear(hint: &mut Hint, tag: u32)
+    ensures at { hint.new.at ≡ (if hint.old.round_robin then hint.old.at else tag) }
+    ensures round_robin { hint.new.round_robin ≡ hint.old.round_robin }
+{
+    if !hint.round_robin {
+        hint.at = tag;
     }
 }
 

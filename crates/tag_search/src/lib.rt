@@ -1,6 +1,7 @@
 //! The search for free tags, written once for every kind of words.
 #![tactic(auto)]
 
+mod batch;
 mod hint;
 mod pass;
 mod place;
@@ -11,7 +12,7 @@ mod rank;
 mod scan;
 mod search;
 
-pub use hint::Hint;
+pub use hint::{Hint, after_clear};
 pub use plain::PlainPort;
 pub use port::Port;
-pub use search::{get, get_shallow};
+pub use search::{get, get_batch, get_shallow};
