@@ -1,16 +1,19 @@
 -- What is known in the middle of a search for several tags.
-use Rattle.std.proofs.Common.{◌≡◌, ◌≢◌, ℕ, ◌+◌, ◌*◌, ◌<◌, ◌≤◌, min, Bool, true, false, List, [], ◌∷◌, ◌++◌, length, Option, Some, None, arith, refl, sym, ap, ◌∙◌, subst}
+use Rattle.std.proofs.Common.{◌≡◌, ◌≢◌, ℕ, zero, suc, ◌+◌, ◌*◌, ◌/◌, ◌%◌, ◌^◌, ◌<◌, ◌≤◌, min, Bool, true, false, List, [], ◌∷◌, ◌++◌, length, Option, Some, None, arith, refl, sym, ap, ◌∙◌, subst}
 use mathlib.Core.Logic.{dite}
 use native.Mathlib.Decide.{dec_lt}
 use Rattle.std.specs.Prelude.{MatchBool, MatchOption}
 use Rattle.std.proofs.lemmas.List.{append_assoc, append-nil, length-append}
 use Rattle.tag_core.specs.declared.word_step.WordStep.{WordStep}
-use Rattle.tag_core.specs.declared.word_step.WordStep.TheVariants.{Look}
+use Rattle.tag_core.specs.declared.word_step.WordStep.TheVariants.{Look, Claimed}
 use Rattle.tag_layout.specs.Bits.{AllSet, IsFirstClear}
 use Rattle.std.specs.Int.{bit_at}
-use Rattle.tag_layout.specs.Layout.{Layout, words, word_depth, tag_at}
+use Rattle.tag_layout.specs.Layout.{Layout, words, word_of, word_depth, tag_at}
+use Rattle.tag_layout.proofs.PlaceFacts.{word_of-below}
+use Rattle.std.proofs.lemmas.Nat.{mod_below, pow_pos}
+use Rattle.tag_search.specs.Hints.{reduced}
 use Rattle.tag_search.specs.Added.{Adds}
-use Rattle.tag_search.specs.Batch.{IsSweptLook, swept_look, IsBatchVisit, no_run, run_lost, run_taken, IsBatchSearch, batch_over, batch_won, batch_passed, IsBatchGet}
+use Rattle.tag_search.specs.Batch.{run_mask, IsSweptLook, swept_look, IsBatchVisit, no_run, run_lost, run_taken, IsBatchSearch, batch_over, batch_won, batch_passed, IsBatchGet}
 use Rattle.tag_search.specs.Order.{numbers, scan_order}
 use Rattle.tag_search.specs.Search.{IsSweep}
 use Rattle.tag_search.proofs.Bounds.{sweep_bound}
@@ -60,12 +63,14 @@ batch_goes_on l n first more rest answer e (batch_passed {i = i} {is = is} {step
     subst (λ xs. IsBatchSearch l n (i ∷ (is ++ more)) xs answer) (sym (append_assoc s r rest)) (batch_passed v (batch_goes_on l n first more rest answer e left search))
 
 swept_look_bound : {i found : ℕ} {steps : List WordStep} → IsSweptLook i found steps → length steps ≤ 3
-swept_look_bound (swept_look {mask = mask} {sweep = sweep} s) = let a = sweep_bound s in let e = length-append sweep (Look _ _ ∷ []) in omega arith
+swept_look_bound {i = i} {found = found} (swept_look {sweep = sweep} s) = let a = sweep_bound s in let e = length-append sweep (Look i found ∷ []) in omega arith
 
 batch_visit_bound : {i depth n : ℕ} {steps : List WordStep} {answer : Option (ℕ × ℕ)} → IsBatchVisit i depth n steps answer → length steps ≤ 4
 batch_visit_bound (no_run look none) = let a = swept_look_bound look in omega arith
-batch_visit_bound (run_lost {steps = steps} next look run lost) = let a = swept_look_bound look in let e = length-append {A = WordStep} steps (_ ∷ []) in omega arith
-batch_visit_bound (run_taken {steps = steps} next look run won) = let a = swept_look_bound look in let e = length-append {A = WordStep} steps (_ ∷ []) in omega arith
+batch_visit_bound {i = i} {n = n} (run_lost {place = place} {steps = steps} next look run lost) =
+    let a = swept_look_bound look in let e = length-append steps (Claimed i (run_mask n place) next ∷ []) in omega arith
+batch_visit_bound {i = i} {n = n} (run_taken {place = place} {steps = steps} next look run won) =
+    let a = swept_look_bound look in let e = length-append steps (Claimed i (run_mask n place) next ∷ []) in omega arith
 
 batch_bound : {l : Layout} {n : ℕ} {is : List ℕ} {steps : List WordStep} {answer : Option (ℕ × ℕ)} → IsBatchSearch l n is steps answer → length steps ≤ 4 * length is
 batch_bound batch_over = omega arith
@@ -84,3 +89,19 @@ batch_get l n first h answer steps search =
     let all = length-append (numbers first (words l)) (numbers 0 first) in let e = ap length (order-split first (words l) h) in
     let a = length-numbers first (words l) in let b = length-numbers 0 first in let bound = batch_bound search in
     record { search = search; bound = omega arith }
+
+-- the hint's word is one of the words, or there are none
+pub hint_word-le : (l : Layout) (at : ℕ) → word_of l (reduced l.depth at) ≤ words l
+hint_word-le l at = cases l.depth refl
+  where
+    cases : (d : ℕ) → l.depth ≡ d → word_of l (reduced d at) ≤ words l
+    cases zero e = omega (arith, pow_pos l.shift)
+    cases (suc d) e = let low : at % suc d < suc d = mod_below at (suc d) (omega arith) in
+        let below = word_of-below l (at % suc d) (subst (λ (x : ℕ). at % suc d < x) (sym e) low) in omega arith
+
+-- the same by other names of the sizes and the first word
+pub batch_get_at : (l sizes : Layout) (n first word : ℕ) → l ≡ sizes → first ≡ word → word ≤ words sizes → (answer : Option (ℕ × ℕ)) (steps : List WordStep)
+    → IsBatchSearch l n (scan_order first (words l) true) steps answer → IsBatchGet sizes n word answer steps
+batch_get_at l sizes n first word e f h answer steps search =
+    let a = subst (λ (x : Layout). IsBatchSearch x n (scan_order first (words x) true) steps answer) e search in
+    batch_get sizes n word h answer steps (subst (λ (x : ℕ). IsBatchSearch sizes n (scan_order x (words sizes) true) steps answer) f a)

@@ -38,4 +38,14 @@ returns-clause-search g c =
     }
 
 pub returns-in-Some-clause-search : goal.returns-in-Some-clause-search
-returns-in-Some-clause-search g c = ?
+returns-in-Some-clause-search g c =
+    let l = c.args.layout in let n = c.args.n in let word = c.loop-word.word in let begun = c.loop-word.invariant.begun in
+    let visit = c.in-Some.ensures.visit in let all = numbers c.args.from c.args.end in let bits = c.in-Some.bits in
+    let won : Option (ℕ × ℕ) = Some (tag_at l word c.in-Some.place, bits) in
+    let last : IsBatchSearch l n (word ∷ numbers (word + 1) c.args.end) visit.steps won = batch_won visit.holds in
+    record {
+      steps = begun.steps ++ visit.steps;
+      added = g.met.P.Port.adds_more c.args.port.now c.loop-word.port c.visit_for_run.new.port begun.steps visit.steps begun.added visit.added;
+      holds = subst (λ (tag : ℕ). IsBatchSearch l n all (begun.steps ++ visit.steps) (Some (tag, bits))) (sym c.tag_at.ensures.value)
+        (begun.holds visit.steps won (subst (λ is. IsBatchSearch l n is visit.steps won) (sym (numbers-cons word c.args.end c.loop-word-test.true)) last));
+    }
