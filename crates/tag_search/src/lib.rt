@@ -12,6 +12,9 @@ mod rank;
 mod scan;
 mod search;
 
+#[cfg(test)]
+mod tests;
+
 pub use hint::{Hint, after_clear};
 pub use plain::PlainPort;
 pub use port::Port;
