@@ -1,0 +1,20 @@
+//! The kinds of atomic step on the words of a map. Only contracts and proofs speak of them: the code keeps no list.
+
+/// One atomic step on a word or on its cleared set. The first number is the index of the word, the last one what the
+/// step found; masks have 1 at the places that are meant.
+pub enum WordStep {
+    /// A load of the word.
+    Look(u32, u64),
+    /// A load of the cleared set.
+    LookAside(u32, u64),
+    /// The bits of the mask are set in the word.
+    Claimed(u32, u64, u64),
+    /// The bits of the mask are taken out of the word: tags that the caller gives back at once.
+    Give(u32, u64, u64),
+    /// The bits of the mask are set in the cleared set.
+    Put(u32, u64, u64),
+    /// The cleared set is emptied, and what stood in it is the sweeper's.
+    Swap(u32, u64),
+    /// The bits of the mask are taken out of the word: tags that the caller swept.
+    Spill(u32, u64, u64),
+}

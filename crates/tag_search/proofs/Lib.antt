@@ -1,0 +1,11 @@
+pub mod Orders
+pub mod Claims
+pub mod Runs
+pub mod Joined
+pub mod Passes
+pub mod Searches
+pub mod Tallies
+pub mod Bounds
+pub mod GetFacts
+pub mod Batches
+pub mod PlainFacts

@@ -1,0 +1,62 @@
+-- Numbers in order: the parts of a list of them, and what holds of each.
+use Rattle.std.proofs.Common.{◌≡◌, ℕ, zero, suc, ◌+◌, ◌-◌, ◌<◌, ◌≤◌, min, List, [], ◌∷◌, ◌++◌, length, arith, refl, sym, ap, ◌∙◌}
+use Rattle.std.specs.Prelude.{All, Bool, true, false, cond}
+use Rattle.std.proofs.lemmas.List.Elements.{All-nil, All-cons, All-append}
+use Rattle.std.proofs.lemmas.List.{length-append, append-nil}
+use Rattle.tag_search.specs.Order.{numbers_from, numbers, scan_order}
+
+-- the list ends where it does not begin
+pub numbers-none : (a b : ℕ) → b ≤ a → numbers a b ≡ []
+numbers-none a b h = let e : b - a ≡ 0 = omega arith in ap (numbers_from a) e
+
+-- the first number, and those behind it
+pub numbers-cons : (a b : ℕ) → a < b → numbers a b ≡ a ∷ numbers (a + 1) b
+numbers-cons a b h = let e : b - a ≡ suc (b - (a + 1)) = omega arith in ap (numbers_from a) e
+
+-- so many numbers, and then more
+numbers_from-add : (a m n : ℕ) → numbers_from a (m + n) ≡ numbers_from a m ++ numbers_from (a + m) n
+numbers_from-add a zero n =
+    let e : zero + n ≡ n = omega arith in let e' : a ≡ a + zero = omega arith in ap (numbers_from a) e ∙ ap (λ (x : ℕ). numbers_from x n) e'
+numbers_from-add a (suc m) n =
+    let e : suc m + n ≡ suc (m + n) = omega arith in let e' : a + 1 + m ≡ a + suc m = omega arith in
+    let rest = numbers_from-add (a + 1) m n in
+    ap (numbers_from a) e ∙ ap (λ (xs : List ℕ). a ∷ xs) (rest ∙ ap (λ (x : ℕ). numbers_from (a + 1) m ++ numbers_from x n) e')
+
+-- the numbers up to one, and those from it on
+pub numbers-split : (a b c : ℕ) → a ≤ b → b ≤ c → numbers a c ≡ numbers a b ++ numbers b c
+numbers-split a b c h k =
+    let e : c - a ≡ (b - a) + (c - b) = omega arith in let e' : a + (b - a) ≡ b = omega arith in
+    ap (numbers_from a) e ∙ numbers_from-add a (b - a) (c - b) ∙ ap (λ (x : ℕ). numbers a b ++ numbers_from x (c - b)) e'
+
+-- the numbers up to one, that one, and those behind it
+pub numbers-at : (a b c : ℕ) → a ≤ b → b < c → numbers a c ≡ numbers a b ++ b ∷ numbers (b + 1) c
+numbers-at a b c h k = numbers-split a b c h (omega arith) ∙ ap (λ (xs : List ℕ). numbers a b ++ xs) (numbers-cons b c k)
+
+all_from : (P : ℕ → Type 0) (a n : ℕ) → ((k : ℕ) → a ≤ k → k < a + n → P k) → All P (numbers_from a n)
+all_from P a zero h = All-nil P
+all_from P a (suc n) h = All-cons P a (numbers_from (a + 1) n) (h a (omega arith) (omega arith)) (all_from P (a + 1) n (λ k l m. h k (omega arith) (omega arith)))
+
+-- what holds of each number in the range holds of each in the list
+pub all_numbers : (P : ℕ → Type 0) (a b : ℕ) → ((k : ℕ) → a ≤ k → k < b → P k) → All P (numbers a b)
+all_numbers P a b h = all_from P a (b - a) (λ k l m. h k l (omega arith))
+
+length_from : (a n : ℕ) → length (numbers_from a n) ≡ n
+length_from a zero = refl
+length_from a (suc n) = ap suc (length_from (a + 1) n)
+
+pub length-numbers : (a b : ℕ) → length (numbers a b) ≡ b - a
+length-numbers a b = length_from a (b - a)
+
+-- a scan looks at no place twice, so it has at most as many as its limit
+pub length-scan_order : (start limit : ℕ) (wrap : Bool) → length (scan_order start limit wrap) ≤ limit
+length-scan_order start limit true =
+    let e = length-append (numbers start limit) (numbers 0 (min start limit)) in
+    let a = length-numbers start limit in let b = length-numbers 0 (min start limit) in omega arith
+length-scan_order start limit false =
+    let e = length-append {A = ℕ} (numbers start limit) [] in let a = length-numbers start limit in omega arith
+
+-- what holds below the limit holds of each place of a scan
+pub all_scan : (P : ℕ → Type 0) (start limit : ℕ) (wrap : Bool) → ((k : ℕ) → k < limit → P k) → All P (scan_order start limit wrap)
+all_scan P start limit true h =
+    All-append P (numbers start limit) (numbers 0 (min start limit)) (all_numbers P start limit (λ k _ l. h k l)) (all_numbers P 0 (min start limit) (λ k _ l. h k (omega arith)))
+all_scan P start limit false h = All-append P (numbers start limit) [] (all_numbers P start limit (λ k _ l. h k l)) (All-nil P)

@@ -1,0 +1,46 @@
+-- Masks of several bits side by side.
+use Rattle.std.proofs.Common.{◌≡◌, ℕ, zero, suc, ◌+◌, ◌-◌, ◌*◌, ◌/◌, ◌%◌, ◌^◌, ◌<◌, ◌≤◌, count_ones, arith, refl, sym, ap, ◌∙◌}
+use Rattle.std.proofs.lemmas.Nat.{ones_cat, pow_pos, shl_whole, shl_below}
+use Rattle.std.proofs.lemmas.Nat.Bits.{ones_shr}
+use Rattle.std.proofs.Math.Nat.{pow-suc, pow-le-pow_right}
+use lib.Count.{ones}
+use Rattle.tag_search.specs.Batch.{run_mask}
+
+ones-zero : count_ones 0 ≡ 0
+unfolding ones
+ones-zero = refl
+
+ones-one : count_ones 1 ≡ 1
+unfolding ones
+ones-one = refl
+
+ones-low : (n : ℕ) → count_ones (2 ^ n - 1) ≡ n
+ones-low zero = ones-zero
+ones-low (suc n) =
+    let pos : 0 < 2 ^ n = pow_pos n in let low : 2 ^ n - 1 < 2 ^ n = omega arith in
+    let double : 2 ^ suc n ≡ 2 ^ n * 2 = pow-suc 2 n in
+    let e : 2 ^ suc n - 1 ≡ 1 * 2 ^ n + (2 ^ n - 1) = omega arith in
+    let sum = ones_cat n 1 (2 ^ n - 1) low in let rest = ones-low n in
+    let one = ones-one in ap count_ones e ∙ sum ∙ omega arith
+
+-- a run has as many bits as it should
+pub ones-run : (n place : ℕ) → count_ones (run_mask n place) ≡ n
+ones-run n place =
+    let e : run_mask n place ≡ (2 ^ n - 1) * 2 ^ place + 0 = omega arith in
+    let sum = ones_cat place (2 ^ n - 1) 0 (pow_pos place) in let low = ones-low n in let none = ones-zero in
+    ap count_ones e ∙ sum ∙ omega arith
+
+-- the run, as the code shifts it
+pub run_shifted : (n place : ℕ) → n ≤ 64 → place + n ≤ 64 → (2 ^ 64 - 1) / 2 ^ (64 - n) * 2 ^ place % 2 ^ 64 ≡ run_mask n place
+run_shifted n place h fits =
+    let pos : 0 < 2 ^ n = pow_pos n in let low : 2 ^ n - 1 < 2 ^ n = omega arith in
+    let e : 64 - (64 - n) ≡ n = omega arith in
+    let high : (2 ^ 64 - 1) / 2 ^ (64 - n) ≡ 2 ^ n - 1 = ones_shr 64 (64 - n) (omega arith) ∙ ap (λ k. 2 ^ k - 1) e in
+    ap (λ (x : ℕ). x * 2 ^ place % 2 ^ 64) high ∙ shl_whole (2 ^ n - 1) n place 64 low (omega arith)
+
+-- a run that ends within a depth is a mask of it
+pub run_below : (n place depth : ℕ) → place + n ≤ depth → run_mask n place < 2 ^ depth
+run_below n place depth fits =
+    let pos : 0 < 2 ^ n = pow_pos n in let low : 2 ^ n - 1 < 2 ^ n = omega arith in
+    let a : run_mask n place < 2 ^ (n + place) = shl_below (2 ^ n - 1) n place low in
+    let b : 2 ^ (n + place) ≤ 2 ^ depth = pow-le-pow_right (omega arith) (omega arith) in omega arith

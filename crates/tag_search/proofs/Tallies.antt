@@ -1,0 +1,39 @@
+-- Sums over the words of a list, in the order in which a search visits them.
+use Rattle.std.proofs.Common.{◌≡◌, ℕ, zero, suc, ◌+◌, ◌-◌, ◌*◌, ◌<◌, ◌≤◌, List, [], ◌∷◌, ◌++◌, arith, refl, sym, ap, ◌∙◌}
+use Rattle.tag_layout.specs.Layout.{Layout, words, word_depth}
+use Rattle.tag_layout.specs.Sums.{sum_below}
+use Rattle.tag_layout.proofs.PlaceFacts.{word_depths-sum}
+use Rattle.tag_search.specs.Order.{numbers_from, numbers}
+
+-- the sum of f over a list
+abbrev pub tally : (ℕ → ℕ) → List ℕ → ℕ
+tally f [] = 0
+tally f (x ∷ xs) = f x + tally f xs
+
+pub tally-append : (f : ℕ → ℕ) (xs ys : List ℕ) → tally f (xs ++ ys) ≡ tally f xs + tally f ys
+tally-append f [] ys = omega arith
+tally-append f (x ∷ xs) ys = let rest = tally-append f xs ys in omega arith
+
+tally-from : (f : ℕ → ℕ) (a n : ℕ) → sum_below f a + tally f (numbers_from a n) ≡ sum_below f (a + n)
+tally-from f a zero = (let e : a ≡ a + zero = omega arith in let s : sum_below f a ≡ sum_below f (a + zero) = ap (sum_below f) e in omega arith)
+tally-from f a (suc n) =
+    let e : a + 1 + n ≡ a + suc n = omega arith in let s : sum_below f (a + 1 + n) ≡ sum_below f (a + suc n) = ap (sum_below f) e in
+    let e' : a + 1 ≡ suc a = omega arith in let t : sum_below f (a + 1) ≡ sum_below f a + f a = ap (sum_below f) e' in
+    let rest = tally-from f (a + 1) n in omega arith
+
+-- the words up to one and those from it on are all words
+pub tally-around : (f : ℕ → ℕ) (first n : ℕ) → first ≤ n → tally f (numbers first n) + tally f (numbers 0 first) ≡ sum_below f n
+tally-around f first n h =
+    let e : first + (n - first) ≡ n = omega arith in let whole : sum_below f (first + (n - first)) ≡ sum_below f n = ap (sum_below f) e in
+    let back = tally-from f first (n - first) in
+    let e' : 0 + (first - 0) ≡ first = omega arith in let low : sum_below f (0 + (first - 0)) ≡ sum_below f first = ap (sum_below f) e' in
+    let front = tally-from f 0 (first - 0) in omega arith
+
+-- twice a number and four more, summed
+pub sum_below-twice : (f : ℕ → ℕ) (n : ℕ) → sum_below (λ i. 2 * f i + 4) n ≡ 2 * sum_below f n + 4 * n
+sum_below-twice f zero = refl
+sum_below-twice f (suc n) = let before = sum_below-twice f n in omega arith
+
+-- twice the depth of each word and four more
+pub steps-sum : (l : Layout) → sum_below (λ i. 2 * word_depth l i + 4) (words l) ≡ 2 * l.depth + 4 * words l
+steps-sum l = sum_below-twice (word_depth l) (words l) ∙ ap (λ (d : ℕ). 2 * d + 4 * words l) (word_depths-sum l)

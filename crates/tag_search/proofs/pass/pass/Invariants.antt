@@ -1,0 +1,19 @@
+use Rattle.std.proofs.Common.{◌≡◌, ℕ, ◌<◌, length}
+use Rattle.std.specs.Prelude.{All}
+use Rattle.tag_layout.specs.Layout.{word_depth}
+use Rattle.tag_search.specs.Added.{Adds, SameRoom}
+use Rattle.tag_search.specs.Places.{places_of}
+use Rattle.tag_search.proofs.Passes.{IsPassBegun}
+use Rattle.tag_search.proofs.pass.pass.Given as goal
+
+abbrev pub invariant-loop-place : goal.invariant-loop-place
+invariant-loop-place g l = record {
+  port : g.P.Port.ready l.port;
+  sizes : g.P.Port.sizes l.port ≡ g.P.Port.sizes l.fn.port;
+  room : SameRoom (λ p n. g.P.Port.has_room p n) l.fn.port l.port;
+  places : All (λ place. place < word_depth (g.P.Port.sizes l.fn.port) l.word) (places_of l.left);
+  begun : Adds (λ p steps q. g.P.Port.adds p steps q) l.fn.port l.port (IsPassBegun l.word (places_of l.fn.rank) (places_of l.left) l.found);
+}
+
+abbrev pub decreases-loop-place : goal.decreases-loop-place
+decreases-loop-place g l = length (places_of l.left)

@@ -1,0 +1,16 @@
+-- The low bits are what is left by the size of a word.
+use Rattle.std.proofs.Common.{◌≡◌, ◌^◌, ◌<◌, ◌≤◌, arith, sym, subst}
+use Rattle.std.proofs.lemmas.Nat.{mod_below, pow_pos}
+use Rattle.tag_layout.specs.Layout.{word_bits}
+use Rattle.tag_layout.proofs.PlaceFacts.{low_bits, word_bits-le}
+use Rattle.tag_search.proofs.place.place_in_word.Goals as goal
+
+pub returns-clause-value : goal.returns-clause-value
+returns-clause-value c = let bound = c.shift.ensures.bound in let value = c.shift.ensures.value in rw c.shift.ensures.value (low_bits c.args.tag c.args.layout.shift (omega arith))
+
+pub returns-clause-width : goal.returns-clause-width
+returns-clause-width c =
+    let bound = c.shift.ensures.bound in let value = c.shift.ensures.value in
+    let whole = low_bits c.args.tag c.args.layout.shift (omega arith) in
+    let low = mod_below c.args.tag (2 ^ c.args.layout.shift) (pow_pos c.args.layout.shift) in
+    let most = word_bits-le c.args.layout (omega arith) in rw c.shift.ensures.value (omega arith)

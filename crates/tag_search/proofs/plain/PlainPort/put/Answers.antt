@@ -1,0 +1,22 @@
+-- A put writes its cleared set alone.
+use Rattle.std.proofs.Common.{◌≡◌, ◌≢◌, ◌↔◌, ℕ, ◌+◌, ◌*◌, ◌^◌, ◌<◌, [], ◌∷◌, length, get_or, set, bit_and, bit_or, nat_eq, Bool, true, false, sym, ap, ◌∙◌, subst, arith}
+use Rattle.std.proofs.lemmas.List.{get_or_read}
+use Rattle.tag_layout.specs.Layout.{words, word_of, place_of}
+use Rattle.tag_search.specs.Plain.{Plain, RunsAlone, IsTaken}
+use Rattle.tag_core.specs.declared.word_step.WordStep.TheVariants.{Put}
+use Rattle.tag_search.proofs.PlainFacts.{ran_put}
+use Rattle.tag_search.proofs.plain.PlainPort.put.Goals as goal
+
+pub returns : goal.returns
+returns c =
+    let p : Plain = record { layout = c.self.inside.layout; word = c.self.inside.word.items; aside = c.self.inside.cleared.items } in
+    let r = c.word_of-word.result in let bit = c.bit_of-bit.result in let found = c.index_mut.result.now in
+    let within : r < length p.aside = rw c.self.invariant.1 c.word_of-word.ensures.within in
+    let is : found ≡ get_or p.aside r 0 = get_or_read p.aside r found within c.index_mut.ensures.value 0 in
+    let i : ℕ = word_of p.layout c.args.tag in let e : r ≡ i = c.word_of-word.ensures.value in
+    let f : found ≡ get_or p.aside i 0 = is ∙ ap (λ (x : ℕ). get_or p.aside x 0) e in
+    let new : Plain = record p { aside = set p.aside r (bit_or found bit) } in
+    let a = ran_put p r bit found within is in
+    let b = subst (λ (x : ℕ). RunsAlone p (Put x bit found ∷ []) new) e a in
+    let d = subst (λ (x : ℕ). RunsAlone p (Put i x found ∷ []) new) c.bit_of-bit.ensures.value b in
+    rw (← c.self.view_is) (record { step = subst (λ (x : ℕ). RunsAlone p (Put i (2 ^ place_of p.layout c.args.tag) x ∷ []) new) f d })

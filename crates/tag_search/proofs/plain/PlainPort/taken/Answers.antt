@@ -1,0 +1,29 @@
+-- A bit that is masked out tells the place.
+use Rattle.std.proofs.Common.{◌≡◌, ◌≢◌, ◌↔◌, ℕ, ◌+◌, ◌*◌, ◌^◌, ◌<◌, [], ◌∷◌, length, get_or, bit_and, bit_or, nat_eq, Bool, true, false, sym, ap, ◌∙◌, subst, arith}
+use Rattle.std.proofs.lemmas.List.{get_or_read}
+use Rattle.tag_layout.specs.Layout.{words, word_of, place_of}
+use Rattle.tag_search.specs.Plain.{Plain, RunsAlone, IsTaken}
+use Rattle.tag_search.proofs.PlainFacts.{tells_taken, tells_free}
+use Rattle.tag_search.proofs.plain.PlainPort.taken.Goals as goal
+
+pub returns-then-index-bit-ne0 : goal.returns-then-index-bit-ne0
+returns-then-index-bit-ne0 c =
+    let p : Plain = record { layout = c.self.inside.layout; word = c.self.inside.word.items; aside = c.self.inside.cleared.items } in
+    let r = c.word_of-word.result in let i : ℕ = word_of p.layout c.args.tag in let e : r ≡ i = c.word_of-word.ensures.value in
+    let k : ℕ = place_of p.layout c.args.tag in let b = c.bit_of-bit.ensures.value in
+    let n = c.index.result.now in let a = c.index-then-index-bit-ne0.result.now in
+    let within : r < length p.word = rw c.self.invariant.0 c.word_of-word.ensures.within in
+    let within' : r < length p.aside = rw c.self.invariant.1 c.word_of-word.ensures.within in
+    let is = get_or_read p.word r n within c.index.ensures 0 ∙ ap (λ (x : ℕ). get_or p.word x 0) e in
+    let is' = get_or_read p.aside r a within' c.index-then-index-bit-ne0.ensures 0 ∙ ap (λ (x : ℕ). get_or p.aside x 0) e in
+    rw (← c.self.view_is) (tells_taken p i k n a c.bit_of-bit.result b is is' c.if-index-bit-ne0.true)
+
+pub returns-else-index-bit-ne0 : goal.returns-else-index-bit-ne0
+returns-else-index-bit-ne0 c =
+    let p : Plain = record { layout = c.self.inside.layout; word = c.self.inside.word.items; aside = c.self.inside.cleared.items } in
+    let r = c.word_of-word.result in let i : ℕ = word_of p.layout c.args.tag in let e : r ≡ i = c.word_of-word.ensures.value in
+    let k : ℕ = place_of p.layout c.args.tag in let b = c.bit_of-bit.ensures.value in
+    let n = c.index.result.now in
+    let within : r < length p.word = rw c.self.invariant.0 c.word_of-word.ensures.within in
+    let is = get_or_read p.word r n within c.index.ensures 0 ∙ ap (λ (x : ℕ). get_or p.word x 0) e in
+    rw (← c.self.view_is) (tells_free p i k n c.bit_of-bit.result b is c.if-index-bit-ne0.false)

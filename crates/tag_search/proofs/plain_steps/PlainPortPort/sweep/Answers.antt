@@ -1,0 +1,34 @@
+-- A sweep that finds nothing changes nothing, and one that finds a mask empties the cleared set and frees its places.
+use Rattle.std.proofs.Common.{◌≡◌, ℕ, ◌+◌, ◌*◌, ◌^◌, ◌<◌, [], ◌∷◌, length, get_or, bit_and, bit_or, sym, ap, ◌∙◌, subst, arith}
+use Rattle.std.proofs.lemmas.List.{get_or_read}
+use Rattle.tag_layout.specs.Layout.{words, word_of, place_of}
+use Rattle.tag_search.specs.Plain.{Plain, RunsAlone, IsTaken}
+use Rattle.tag_core.specs.declared.word_step.WordStep.TheVariants.{Swap, Spill}
+use Rattle.tag_search.specs.Search.{IsSweep, empty, spilled}
+use Rattle.tag_search.proofs.PlainFacts.{ran_empty, ran_sweep}
+use Rattle.tag_search.proofs.plain_steps.PlainPortPort.sweep.Goals as goal
+
+pub returns-then-mask-eq0-clause-steps : goal.returns-then-mask-eq0-clause-steps
+returns-then-mask-eq0-clause-steps c =
+    let p : Plain = record { layout = c.self.inside.layout; word = c.self.inside.word.items; aside = c.self.inside.cleared.items } in
+    let i = c.args.word in let mask = c.index-mask.result.now in
+    let near : i < words p.layout = subst (λ (x : Plain). i < words x.layout) (sym c.self.view_is) c.requires.word in
+    let within : i < length p.aside = rw c.self.invariant.1 near in
+    let is : get_or p.aside i 0 ≡ 0 = sym (get_or_read p.aside i mask within c.index-mask.ensures 0) ∙ c.if-mask-eq0.true in
+    rw (← c.self.view_is) (record { steps = Swap i 0 ∷ []; added = ran_empty p i is; holds = empty })
+
+pub returns-clause-steps : goal.returns-clause-steps
+returns-clause-steps c =
+    let p : Plain = record { layout = c.self.inside.layout; word = c.self.inside.word.items; aside = c.self.inside.cleared.items } in
+    let i = c.args.word in let mask = c.index-mask.result.now in let found = c.index_mut-2.result.now in
+    let near : i < words p.layout = subst (λ (x : Plain). i < words x.layout) (sym c.self.view_is) c.requires.word in
+    let within : i < length p.word = rw c.self.invariant.0 near in
+    let within' : i < length p.aside = rw c.self.invariant.1 near in
+    let is : found ≡ get_or p.word i 0 = get_or_read p.word i found within c.index_mut-2.ensures.value 0 in
+    let is' : mask ≡ get_or p.aside i 0 = get_or_read p.aside i mask within' c.index-mask.ensures 0 in
+    let fits : mask < 2 ^ 64 = omega arith in
+    (mask, c.if-mask-eq0.false, rw (← c.self.view_is) (record {
+      steps = Swap i mask ∷ Spill i mask found ∷ [];
+      added = ran_sweep p i mask found within within' is' is;
+      holds = spilled c.if-mask-eq0.false fits;
+    }))

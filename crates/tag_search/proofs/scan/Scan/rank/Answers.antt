@@ -1,0 +1,12 @@
+-- Each place of a rank is below the limit, which is within the word.
+use Rattle.std.proofs.Common.{ℕ, ◌<◌, ◌≤◌, List, arith, subst, sym}
+use Rattle.std.specs.Prelude.{All}
+use Rattle.tag_layout.specs.Layout.{word_depth}
+use Rattle.tag_search.proofs.Orders.{all_scan}
+use Rattle.tag_search.proofs.scan.Scan.rank.Goals as goal
+
+pub returns-clause-within : goal.returns-clause-within
+returns-clause-within c =
+    let Below : ℕ → Type 0 = λ place. place < word_depth c.args.self.now.layout c.args.word in
+    let le = c.limit.ensures.within in
+    subst (λ (xs : List ℕ). All Below xs) (sym c.new.ensures) (all_scan Below c.if-word-self.start c.limit.result c.args.self.now.wrap (λ k h. omega arith))

@@ -1,0 +1,16 @@
+use Rattle.std.proofs.Common.{◌≡◌, ℕ, map}
+use Rattle.tag_search.specs.Added.{Adds, SameRoom}
+use Rattle.tag_search.specs.Order.{numbers}
+use Rattle.tag_search.specs.Scans.{reach_of}
+use Rattle.tag_search.specs.Visits.{visit_of}
+use Rattle.tag_search.proofs.Searches.{IsSearchBegun}
+use Rattle.tag_search.proofs.scan.Scan.visit_between.Given as goal
+
+abbrev pub invariant-loop-word : goal.invariant-loop-word
+invariant-loop-word g l = record {
+  port : g.P.Port.ready l.port;
+  sizes : g.P.Port.sizes l.port ≡ g.P.Port.sizes l.fn.port;
+  room : SameRoom (λ p n. g.P.Port.has_room p n) l.fn.port l.port;
+  begun : let visit = visit_of l.self.first (reach_of l.self) in
+    Adds (λ p steps q. g.P.Port.adds p steps q) l.fn.port l.port (IsSearchBegun l.self.layout (map visit (numbers l.fn.from l.end)) (map visit (numbers l.word l.end)));
+}

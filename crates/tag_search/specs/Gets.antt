@@ -1,0 +1,10 @@
+-- What a get does: its steps, and what they answer.
+use Rattle.std.specs.Prelude.{◌≡◌, ℕ, ◌+◌, ◌*◌, ◌≤◌, List, length, Option}
+use Rattle.tag_layout.specs.Layout.{Layout, words}
+use Rattle.tag_core.specs.declared.word_step.WordStep.{WordStep}
+use Rattle.tag_search.specs.Search.{Visit, IsSearch}
+
+-- the steps are these visits and give this answer, and they are at most two claims of each tag and four steps more a word
+pub record IsGet (l : Layout) (visits : List Visit) (answer : Option ℕ) (steps : List WordStep) : Type 0 where
+  pub search : IsSearch l visits steps answer
+  pub bound : length steps ≤ 2 * l.depth + 4 * words l

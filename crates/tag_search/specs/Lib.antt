@@ -1,0 +1,12 @@
+pub mod Order
+pub mod Search
+pub mod Visits
+pub mod Gets
+pub mod Batch
+pub mod Added
+pub mod Hints
+pub mod Follows
+pub mod Places
+pub mod Scans
+pub mod Plain
+pub mod PlainLaws

@@ -1,0 +1,27 @@
+-- What a contract sees of a `PlainPort`, and what its steps do.
+use Rattle.std.specs.Prelude.{◌≡◌, ℕ, List, slice_index}
+use Rattle.std.specs.Int.{bit_at}
+use Rattle.tag_core.specs.declared.word_step.WordStep.{WordStep}
+use Rattle.tag_core.specs.Steps.{Words, Quiet, words_after_all}
+use Rattle.tag_layout.specs.Layout.{Layout, word_of, place_of}
+
+-- the sizes, each word, and each word's cleared set, in order
+pub record Plain : Type 0 where
+  pub layout : Layout
+  pub word : List ℕ
+  pub aside : List ℕ
+
+-- the words by their index
+abbrev pub words_of : Plain → Words
+words_of p = record { word = λ i. slice_index p.word i; aside = λ i. slice_index p.aside i }
+
+-- nobody else steps: each step finds what the words and the earlier steps leave, and the words after them are what they leave
+pub record RunsAlone (old : Plain) (steps : List WordStep) (new : Plain) : Type 0 where
+  pub layout : new.layout ≡ old.layout
+  pub quiet : Quiet steps (words_of old)
+  pub leaves : words_of new ≡ words_after_all steps (words_of old)
+
+-- the place is taken and not set aside
+pub record IsTaken (p : Plain) (word place : ℕ) : Type 0 where
+  pub taken : bit_at (slice_index p.word word) place ≡ 1
+  pub not_aside : bit_at (slice_index p.aside word) place ≡ 0

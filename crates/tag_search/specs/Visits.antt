@@ -1,0 +1,36 @@
+-- The visits of a search: which words in which order, and of each word which places in which order.
+use Rattle.std.specs.Prelude.{ℕ, Bool, true, false, cond, nat_eq, List, map, Option, Some, None}
+use Rattle.tag_layout.specs.Layout.{Layout, words, word_of, place_of, word_depth, shallow_limit}
+use Rattle.tag_search.specs.Order.{scan_order}
+use Rattle.tag_search.specs.Search.{Visit}
+
+-- where the first word is begun, how many places of each word may be taken, and whether those before the start follow
+pub record Reach : Type 0 where
+  pub start : ℕ
+  pub limit : ℕ → ℕ
+  pub wrap : Bool
+
+-- a plain search takes any place of a word; under round robin it begins at the hint and takes none before it
+abbrev pub plain_reach : Layout → Bool → ℕ → Reach
+plain_reach l false hint = record { start = 0; limit = word_depth l; wrap = true }
+plain_reach l true hint = record { start = place_of l hint; limit = word_depth l; wrap = false }
+
+-- a shallow search takes each word's share of its depth, from the hint on and then the places before it
+abbrev pub shallow_reach : Layout → ℕ → ℕ → Reach
+shallow_reach l depth hint = record { start = place_of l hint; limit = λ i. shallow_limit l i depth; wrap = true }
+
+-- the visit of a word: the first word is begun at the start, each other at its place 0
+abbrev pub visit_of : ℕ → Reach → ℕ → Visit
+visit_of first reach i = record { word = i; rank = scan_order (cond (nat_eq i first) reach.start 0) (reach.limit i) reach.wrap }
+
+-- a visit of each word, in cyclic order from the first
+abbrev pub visits : Layout → ℕ → Reach → List Visit
+visits l first reach = map (visit_of first reach) (scan_order first (words l) true)
+
+-- the visits of a plain search from this hint
+abbrev pub plain_visits : Layout → Bool → ℕ → List Visit
+plain_visits l round_robin hint = visits l (word_of l hint) (plain_reach l round_robin hint)
+
+-- the visits of a search of this depth from this hint
+abbrev pub shallow_visits : Layout → ℕ → ℕ → List Visit
+shallow_visits l depth hint = visits l (word_of l hint) (shallow_reach l depth hint)

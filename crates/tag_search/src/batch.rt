@@ -1,0 +1,133 @@
+//! The search for several tags at once in one word.
+ghost use Rattle.std.specs.Prelude.{◌≡◌, ◌≢◌, ℕ, ◌+◌, ◌*◌, ◌/◌, ◌<◌, ◌≤◌, ◌^◌, [], ◌∷◌, IfOk, IfErr, IfSome, IfNone, true, count_ones};
+ghost use Rattle.tag_core.specs.Steps.{without};
+ghost use Rattle.tag_core.specs.declared.word_step.WordStep.TheVariants.{Claimed};
+ghost use Rattle.tag_layout.specs.Layout.{words, word_depth};
+ghost use Rattle.tag_search.specs.Order.{numbers, scan_order};
+ghost use Rattle.tag_search.specs.Batch.{run_mask, run_won, IsSweptLook, IsBatchVisit, IsBatchSearch};
+ghost use Rattle.tag_search.specs.Added.{Adds, SameRoom};
+
+use tag_layout::{Layout, first_clear};
+
+use crate::port::Port;
+
+/// So many bits from a place on.
+#[inline]
+fn run_of(n: u32, place: u32) -> u64
+    requires some { 1 ≤ n }
+    requires fits { place + n ≤ 64 }
+    ensures value { result ≡ run_mask n place }
+    ensures ones { count_ones result ≡ n }
+{
+    (u64::MAX >> (64 - n)) << place
+}
+
+/// Claims the run from a place on. What it won stands in the answer, the place's bit lowest.
+#[inline]
+fn claim_run<P: Port>(port: &mut P, word: u32, place: u32, n: u32) -> Option<u64>
+    requires port { P.ready port.old }
+    requires word { word < words (P.sizes port.old) }
+    requires room { P.has_room port.old n }
+    requires some { 1 ≤ n }
+    requires fits { place + n ≤ word_depth (P.sizes port.old) word }
+    requires width { place + n ≤ 64 }
+    ensures port { P.ready port.new }
+    ensures sizes { P.sizes port.new ≡ P.sizes port.old }
+    ensures won {
+        IfSome result (λ bits. (found : ℕ) × (without (run_mask n place) found ≢ 0) × (bits ≡ run_won n place found)
+            × P.adds port.old (Claimed word (run_mask n place) found ∷ []) port.new)
+    }
+    ensures lost {
+        IfNone result ((found : ℕ) × (without (run_mask n place) found ≡ 0) × SameRoom P.has_room port.old port.new
+            × P.adds port.old (Claimed word (run_mask n place) found ∷ []) port.new)
+    }
+{
+    let Ok(claim) = port.claim(word, run_of(n, place)) else {
+        unreachable!()
+    };
+    if claim.won == 0 {
+        return None;
+    }
+    Some(claim.won >> place)
+}
+
+/// Frees what was set aside in the word, and loads it.
+#[inline]
+fn sweep_and_look<P: Port>(port: &mut P, word: u32) -> u64
+    requires port { P.ready port.old }
+    requires word { word < words (P.sizes port.old) }
+    ensures port { P.ready port.new }
+    ensures sizes { P.sizes port.new ≡ P.sizes port.old }
+    ensures room { SameRoom P.has_room port.old port.new }
+    ensures steps { Adds P.adds port.old port.new (IsSweptLook word result) }
+{
+    let _swept = port.sweep(word);
+    port.look(word)
+}
+
+/// Sweeps and loads the word, and claims the run from its first clear place where the word has room for it.
+#[inline]
+fn visit_for_run<P: Port>(port: &mut P, layout: Layout, word: u32, n: u32) -> Option<(u32, u64)>
+    requires port { P.ready port.old }
+    requires sizes { P.sizes port.old ≡ layout }
+    requires word { word < words layout }
+    requires room { P.has_room port.old n }
+    requires some { (1 ≤ n) × (n ≤ 64) }
+    ensures port { P.ready port.new }
+    ensures sizes { P.sizes port.new ≡ P.sizes port.old }
+    ensures room { IfNone result (SameRoom P.has_room port.old port.new) }
+    ensures place { IfSome result (λ won. won.0 + n ≤ word_depth layout word) }
+    ensures visit { Adds P.adds port.old port.new (λ steps. IsBatchVisit word (word_depth layout word) n steps result) }
+{
+    let found = sweep_and_look(port, word);
+    let depth = layout.word_depth(word);
+    let place = first_clear(found, 0, depth)?;
+    if place + n > depth {
+        return None;
+    }
+    let bits = claim_run(port, word, place, n)?;
+    Some((place, bits))
+}
+
+/// Visits the words from one on up to the end, until a claim wins.
+#[inline]
+fn runs_between<P: Port>(port: &mut P, layout: Layout, n: u32, from: u32, end: u32) -> Option<(u32, u64)>
+    requires port { P.ready port.old }
+    requires sizes { P.sizes port.old ≡ layout }
+    requires words { end ≤ words layout }
+    requires room { P.has_room port.old n }
+    requires some { (1 ≤ n) × (n ≤ 64) }
+    ensures port { P.ready port.new }
+    ensures sizes { P.sizes port.new ≡ P.sizes port.old }
+    ensures room { IfNone result (SameRoom P.has_room port.old port.new) }
+    ensures tags { IfSome result (λ won. won.0 + n ≤ layout.depth) }
+    ensures search { Adds P.adds port.old port.new (λ steps. IsBatchSearch layout n (numbers from end) steps result) }
+{
+    for word in from..end {
+        if let Some((place, bits)) = visit_for_run(port, layout, word, n) {
+            return Some((layout.tag_at(word, place), bits));
+        }
+    }
+    None
+}
+
+/// Visits all words in cyclic order from the first, until a claim wins.
+#[inline]
+pub fn search_run<P: Port>(port: &mut P, layout: Layout, n: u32, first: u32) -> Option<(u32, u64)>
+    requires port { P.ready port.old }
+    requires sizes { P.sizes port.old ≡ layout }
+    requires first { first ≤ words layout }
+    requires room { P.has_room port.old n }
+    requires some { (1 ≤ n) × (n ≤ 64) }
+    ensures port { P.ready port.new }
+    ensures sizes { P.sizes port.new ≡ P.sizes port.old }
+    ensures tags { IfSome result (λ won. won.0 + n ≤ layout.depth) }
+    ensures search {
+        Adds P.adds port.old port.new (λ steps. IsBatchSearch layout n (scan_order first (words layout) true) steps result)
+    }
+{
+    match runs_between(port, layout, n, first, layout.words()) {
+        Some(won) => Some(won),
+        None => runs_between(port, layout, n, 0, first),
+    }
+}

@@ -1,0 +1,21 @@
+//! The search for free tags, written once for every kind of words.
+#![tactic(auto)]
+
+mod batch;
+mod hint;
+mod pass;
+mod place;
+mod plain;
+mod plain_steps;
+mod port;
+mod rank;
+mod scan;
+mod search;
+
+#[cfg(test)]
+mod tests;
+
+pub use hint::{Hint, after_clear};
+pub use plain::PlainPort;
+pub use port::Port;
+pub use search::{get, get_batch, get_shallow};

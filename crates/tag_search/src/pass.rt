@@ -1,0 +1,95 @@
+//! A pass over the places of one word, and a visit of it.
+ghost use Rattle.std.specs.Prelude.{◌≡◌, ℕ, ◌<◌, ◌^◌, [], ◌∷◌, All, IfSome, IfNone, IfOk, IfErr};
+ghost use Rattle.std.specs.Int.{bit_at};
+ghost use Rattle.tag_core.specs.declared.word_step.WordStep.TheVariants.{Claimed};
+ghost use Rattle.tag_layout.specs.Layout.{words, word_depth};
+ghost use Rattle.tag_search.specs.Search.{IsPass, IsRetry, IsVisit};
+ghost use Rattle.tag_search.specs.Added.{Adds, SameRoom};
+ghost use Rattle.tag_search.specs.Places.{places_of};
+
+use crate::port::Port;
+use crate::rank::Rank;
+
+/// Claims one place. A lost claim tells what it found in the word.
+#[inline]
+fn claim_place<P: Port>(port: &mut P, word: u32, place: u32) -> Result<(), u64>
+    requires port { P.ready port.old }
+    requires word { word < words (P.sizes port.old) }
+    requires room { P.has_room port.old 1 }
+    requires place { place < word_depth (P.sizes port.old) word }
+    requires width { place < 64 }
+    ensures port { P.ready port.new }
+    ensures sizes { P.sizes port.new ≡ P.sizes port.old }
+    ensures won {
+        IfOk result (λ _. (found : ℕ) × (bit_at found place ≡ 0)
+            × P.adds port.old (Claimed word (2 ^ place) found ∷ []) port.new)
+    }
+    ensures lost {
+        IfErr result (λ found. (bit_at found place ≡ 1) × SameRoom P.has_room port.old port.new
+            × P.adds port.old (Claimed word (2 ^ place) found ∷ []) port.new)
+    }
+{
+    let Ok(claim) = port.claim(word, 1 << place) else {
+        unreachable!()
+    };
+    if claim.won != 0 { Ok(()) } else { Err(claim.found) }
+}
+
+/// Loads the word and claims the first clear place of the rank, and after a lost claim the next one behind it.
+#[inline]
+pub fn pass<P: Port>(port: &mut P, word: u32, rank: Rank) -> Option<u32>
+    requires port { P.ready port.old }
+    requires word { word < words (P.sizes port.old) }
+    requires room { P.has_room port.old 1 }
+    requires places { All (λ place. place < word_depth (P.sizes port.old) word) (places_of rank) }
+    ensures port { P.ready port.new }
+    ensures sizes { P.sizes port.new ≡ P.sizes port.old }
+    ensures room { IfNone result (SameRoom P.has_room port.old port.new) }
+    ensures place { IfSome result (λ place. place < word_depth (P.sizes port.old) word) }
+    ensures pass { Adds P.adds port.old port.new (λ steps. IsPass word (places_of rank) steps result) }
+{
+    let mut found = port.look(word);
+    let mut left = rank;
+    while let Some(place) = left.next(found) {
+        match claim_place(port, word, place) {
+            Ok(()) => return Some(place),
+            Err(next) => found = next,
+        }
+    }
+    None
+}
+
+/// A pass and, where it wins nothing and something was set aside in the word, a sweep and a second pass.
+#[inline]
+pub fn visit<P: Port>(port: &mut P, word: u32, rank: Rank) -> Option<u32>
+    requires port { P.ready port.old }
+    requires word { word < words (P.sizes port.old) }
+    requires room { P.has_room port.old 1 }
+    requires places { All (λ place. place < word_depth (P.sizes port.old) word) (places_of rank) }
+    ensures port { P.ready port.new }
+    ensures sizes { P.sizes port.new ≡ P.sizes port.old }
+    ensures room { IfNone result (SameRoom P.has_room port.old port.new) }
+    ensures place { IfSome result (λ place. place < word_depth (P.sizes port.old) word) }
+    ensures visit { Adds P.adds port.old port.new (λ steps. IsVisit word (places_of rank) steps result) }
+{
+    match pass(port, word, rank) {
+        Some(place) => Some(place),
+        None => retry(port, word, rank),
+    }
+}
+
+/// The part of a visit behind a pass that won nothing.
+#[inline(never)]
+fn retry<P: Port>(port: &mut P, word: u32, rank: Rank) -> Option<u32>
+    requires port { P.ready port.old }
+    requires word { word < words (P.sizes port.old) }
+    requires room { P.has_room port.old 1 }
+    requires places { All (λ place. place < word_depth (P.sizes port.old) word) (places_of rank) }
+    ensures port { P.ready port.new }
+    ensures sizes { P.sizes port.new ≡ P.sizes port.old }
+    ensures room { IfNone result (SameRoom P.has_room port.old port.new) }
+    ensures place { IfSome result (λ place. place < word_depth (P.sizes port.old) word) }
+    ensures retry { Adds P.adds port.old port.new (λ steps. IsRetry word (places_of rank) steps result) }
+{
+    if port.sweep(word) { pass(port, word, rank) } else { None }
+}

@@ -1,0 +1,95 @@
+//! Plain words of one caller, with no atomics.
+ghost use Rattle.std.specs.Prelude.{◌≡◌, ℕ, ◌+◌, ◌^◌, ◌<◌, ◌↔◌, List, [], ◌∷◌, replicate, slice_index, IsTrue, IfOk};
+ghost use Rattle.std.specs.Int.{bit_at};
+ghost use Rattle.tag_layout.specs.Layout.{words, word_of, place_of, IsWithin};
+ghost use Rattle.tag_core.specs.declared.word_step.WordStep.TheVariants.{LookAside, Give, Put};
+ghost use Rattle.tag_search.specs.Plain.{RunsAlone, IsTaken};
+
+use std::alloc::{AllocError, Global};
+use std::marker::Model;
+use tag_layout::Layout;
+
+use crate::place::bit_of;
+
+/// The words of a map that one caller has alone. A contract sees the layout, each word and each cleared set.
+#[derive(Drop)]
+pub struct PlainPort {
+    pub(crate) layout: Layout,
+    /// Each word: 1 is taken.
+    pub(crate) word: Vec<u64>,
+    /// Each word's cleared set: 1 is set aside, given back and not yet taken out of the word.
+    pub(crate) cleared: Vec<u64>,
+}
+
+impl Model for PlainPort {
+    ghost use Rattle.std.specs.Prelude.{◌≡◌, length};
+    ghost use Rattle.tag_layout.specs.Layout.{words};
+    ghost use Rattle.tag_search.specs.Plain.{Plain};
+
+    ghost Value = { Plain };
+
+    ghost view = { λ p. record { layout = p.layout; word = p.word.items; aside = p.cleared.items } };
+
+    ghost invariant = { λ p. (length p.word.items ≡ words p.layout) × (length p.cleared.items ≡ words p.layout) };
+}
+
+impl PlainPort {
+    /// All tags free.
+    pub fn open(alloc: Global, layout: Layout) -> Result<PlainPort, AllocError>
+        ensures layout { IfOk result (λ port. port.layout ≡ layout) }
+        ensures words { IfOk result (λ port. port.word ≡ replicate (words layout) 0) }
+        ensures aside { IfOk result (λ port. port.aside ≡ replicate (words layout) 0) }
+    {
+        let count = layout.words() as usize;
+        let word = vec![in alloc; 0u64; count]?;
+        let cleared = vec![in alloc; 0u64; count]?;
+        Ok(PlainPort {
+            layout,
+            word,
+            cleared,
+        })
+    }
+
+    /// Whether the tag is taken and not set aside.
+    pub fn taken(&self, tag: u32) -> bool
+        requires { tag < self.now.layout.depth }
+        ensures { IsTrue result ↔ IsTaken self.now (word_of self.now.layout tag) (place_of self.now.layout tag) }
+    {
+        let word = self.layout.word_of(tag) as usize;
+        let bit = bit_of(self.layout, tag);
+        self.word[word] & bit != 0 && self.cleared[word] & bit == 0
+    }
+
+    /// The cleared set of a word: 1 is set aside.
+    pub fn look_aside(&mut self, word: u32) -> u64
+        requires { word < words self.old.layout }
+        ensures step { RunsAlone self.old (LookAside word result ∷ []) self.new }
+    {
+        self.cleared[word as usize]
+    }
+
+    /// Sets a taken tag aside, for a later sweep to free.
+    pub fn put(&mut self, tag: u32)
+        requires tag { tag < self.old.layout.depth }
+        requires taken { IsTaken self.old (word_of self.old.layout tag) (place_of self.old.layout tag) }
+        ensures step {
+            let word = word_of self.old.layout tag in
+            let found = slice_index self.old.aside word in
+            RunsAlone self.old (Put word (2 ^ place_of self.old.layout tag) found ∷ []) self.new
+        }
+    {
+        let word = self.layout.word_of(tag) as usize;
+        let bit = bit_of(self.layout, tag);
+        self.cleared[word] |= bit;
+    }
+
+    /// Frees the taken tags of the mask at once.
+    pub fn give(&mut self, word: u32, mask: u64)
+        requires word { word < words self.old.layout }
+        requires mask { IsWithin self.old.layout word mask }
+        requires taken { (place : ℕ) → bit_at mask place ≡ 1 → IsTaken self.old word place }
+        ensures step { RunsAlone self.old (Give word mask (slice_index self.old.word word) ∷ []) self.new }
+    {
+        self.word[word as usize] &= !mask;
+    }
+}

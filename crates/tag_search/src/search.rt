@@ -1,0 +1,107 @@
+//! Gets: the search for a free tag, from a caller's hint.
+ghost use Rattle.std.specs.Prelude.{◌≡◌, ℕ, ◌↔◌, ◌⊎◌, ◌<◌, ◌≤◌, ◌+◌, false, IsTrue, IsOk, IfOk, IfSome, OnErr};
+ghost use Rattle.tag_layout.specs.Layout.{Layout as Sizes, word_bits, word_of};
+ghost use Rattle.tag_search.specs.Added.{Adds};
+ghost use Rattle.tag_search.specs.Gets.{IsGet};
+ghost use Rattle.tag_search.specs.Batch.{IsBatchGet};
+ghost use Rattle.tag_search.specs.Hints.{reduced};
+ghost use Rattle.tag_search.specs.Follows.{HintFollows, BatchFollows};
+ghost use Rattle.tag_search.specs.Visits.{plain_visits, shallow_visits};
+
+use tag_core::Spent;
+
+use crate::batch::search_run;
+use crate::hint::Hint;
+use crate::port::Port;
+use crate::scan::Scan;
+
+/// A free tag, which is the caller's from now on. `None` says that each place looked at was found taken during the
+/// call, not that all were taken at one moment.
+pub fn get<P: Port>(port: &mut P, hint: &mut Hint) -> Result<Option<u32>, Spent>
+    requires port { P.ready port.old }
+    ensures port { P.ready port.new }
+    ensures sizes { P.sizes port.new ≡ P.sizes port.old }
+    ensures room { IsOk result ↔ P.has_room port.old 1 }
+    ensures tag { IfOk result (λ answer. IfSome answer (λ tag. tag < (P.sizes port.old).depth)) }
+    ensures steps {
+        IfOk result (λ answer.
+            let l = P.sizes port.old in
+            let from = reduced l.depth hint.old.at in
+            Adds P.adds port.old port.new (IsGet l (plain_visits l hint.old.round_robin from) answer))
+    }
+    ensures hint { IfOk result (λ answer. HintFollows (P.sizes port.old).depth hint.old hint.new answer) }
+    ensures err { OnErr result ((port.new ≡ port.old) × (hint.new ≡ hint.old)) }
+{
+    if !port.room(1) {
+        return Err(Spent);
+    }
+    let layout = port.layout();
+    let from = hint.reduced(layout.depth());
+    let answer = Scan::plain(layout, hint.round_robin, from).search(port);
+    hint.follow(layout.depth(), from, answer);
+    Ok(answer)
+}
+
+/// As `get`, over so many tags of the whole map alone, of which each word has its share. Some words may have none.
+pub fn get_shallow<P: Port>(port: &mut P, hint: &mut Hint, depth: u32) -> Result<Option<u32>, Spent>
+    requires port { P.ready port.old }
+    ensures port { P.ready port.new }
+    ensures sizes { P.sizes port.new ≡ P.sizes port.old }
+    ensures room { IsOk result ↔ P.has_room port.old 1 }
+    ensures tag { IfOk result (λ answer. IfSome answer (λ tag. tag < (P.sizes port.old).depth)) }
+    ensures steps {
+        IfOk result (λ answer.
+            let l = P.sizes port.old in
+            let from = reduced l.depth hint.old.at in
+            Adds P.adds port.old port.new (IsGet l (shallow_visits l depth from) answer))
+    }
+    ensures hint { IfOk result (λ answer. HintFollows (P.sizes port.old).depth hint.old hint.new answer) }
+    ensures err { OnErr result ((port.new ≡ port.old) × (hint.new ≡ hint.old)) }
+{
+    if !port.room(1) {
+        return Err(Spent);
+    }
+    let layout = port.layout();
+    let from = hint.reduced(layout.depth());
+    let answer = Scan::shallow(layout, depth, from).search(port);
+    hint.follow(layout.depth(), from, answer);
+    Ok(answer)
+}
+
+/// Up to `n` free tags side by side in one word: the first tag, and the mask of those won, that tag's bit lowest.
+/// Under round robin there are none, without a step.
+pub fn get_batch<P: Port>(port: &mut P, hint: &mut Hint, n: u32) -> Result<Option<(u32, u64)>, Spent>
+    requires port { P.ready port.old }
+    requires count { (1 ≤ n) × (n ≤ word_bits (P.sizes port.old)) }
+    ensures port { P.ready port.new }
+    ensures sizes { P.sizes port.new ≡ P.sizes port.old }
+    ensures room { IsOk result ↔ (IsTrue hint.old.round_robin ⊎ P.has_room port.old n) }
+    ensures tags { IfOk result (λ answer. IfSome answer (λ won. won.0 + n ≤ (P.sizes port.old).depth)) }
+    ensures round_robin {
+        IsTrue hint.old.round_robin → (result ≡ Ok None) × (port.new ≡ port.old) × (hint.new ≡ hint.old)
+    }
+    ensures steps {
+        hint.old.round_robin ≡ false → IfOk result (λ answer.
+            let l = P.sizes port.old in
+            Adds P.adds port.old port.new (IsBatchGet l n (word_of l (reduced l.depth hint.old.at)) answer))
+    }
+    ensures hint {
+        hint.old.round_robin ≡ false → IfOk result (λ answer. BatchFollows (P.sizes port.old).depth n hint.old hint.new answer)
+    }
+    ensures err { OnErr result ((port.new ≡ port.old) × (hint.new ≡ hint.old)) }
+{
+    if hint.round_robin {
+        return Ok(None);
+    }
+    if !port.room(n) {
+        return Err(Spent);
+    }
+    let layout = port.layout();
+    let from = hint.reduced(layout.depth());
+    let answer = search_run(port, layout, n, from >> layout.shift());
+    match answer {
+        Some((tag, _)) => hint.follow(layout.depth(), from, Some(tag + n - 1)),
+        None => hint.at = from,
+    }
+    Ok(answer)
+}
