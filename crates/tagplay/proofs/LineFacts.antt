@@ -6,13 +6,15 @@ use Rattle.std.proofs.lemmas.List.Elements.{recursion_from_All}
 use Rattle.std.proofs.lemmas.List.Splits.{slice_split_none, slice_split_at}
 use Rattle.tagplay.specs.Lines.{LacksByte, lines_of, words_of}
 
-line_cut : (line rest : List ℕ) → AllByRecursion (λ b. (b == 10) ≡ false) line → lines_of (line ++ 10 ∷ rest) ≡ line ∷ lines_of rest
+line_cut : (line rest : List ℕ) → AllByRecursion (λ b. (b == 10) ≡ false) line
+    → lines_of (line ++ 10 ∷ rest) ≡ line ∷ lines_of rest
 line_cut [] rest h = refl
 line_cut (b ∷ bytes) rest (not_feed, others) =
     ap (λ test. cond test ([] ∷ lines_of (bytes ++ 10 ∷ rest)) (onto_first b (lines_of (bytes ++ 10 ∷ rest)))) not_feed
     ∙ ap (onto_first b) (line_cut bytes rest others)
 
-line_alone : (b : ℕ) (bytes : List ℕ) → AllByRecursion (λ c. (c == 10) ≡ false) (b ∷ bytes) → lines_of (b ∷ bytes) ≡ (b ∷ bytes) ∷ []
+line_alone : (b : ℕ) (bytes : List ℕ) → AllByRecursion (λ c. (c == 10) ≡ false) (b ∷ bytes)
+    → lines_of (b ∷ bytes) ≡ (b ∷ bytes) ∷ []
 line_alone b [] (not_feed, others) = ap (λ test. cond test ([] ∷ []) (onto_first b [])) not_feed
 line_alone b (c ∷ bytes) (not_feed, others) =
     ap (λ test. cond test ([] ∷ lines_of (c ∷ bytes)) (onto_first b (lines_of (c ∷ bytes)))) not_feed
@@ -30,7 +32,8 @@ lines_of-alone (b ∷ bytes) some lacks = line_alone b bytes (recursion_from_All
 -- the words that follow a word and a blank
 pub words_cut : (line word rest : List ℕ) → LacksByte 32 word → line ≡ word ++ 32 ∷ rest
     → slice_split (λ b. b == 32) line ≡ word ∷ slice_split (λ b. b == 32) rest
-words_cut line word rest lacks parts = ap (slice_split (λ b. b == 32)) parts ∙ slice_split_at (λ b. b == 32) word 32 rest lacks refl
+words_cut line word rest lacks parts = ap (slice_split (λ b. b == 32)) parts
+    ∙ slice_split_at (λ b. b == 32) word 32 rest lacks refl
 
 -- a line without a blank is one word
 pub words_alone : (line : List ℕ) → LacksByte 32 line → slice_split (λ b. b == 32) line ≡ line ∷ []

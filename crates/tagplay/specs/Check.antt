@@ -73,13 +73,17 @@ IsVerdict o text (Legal count totals) = IsRun o text (Legal count totals)
 
 -- the four sums, each behind its name
 abbrev pub totals_text : Totals → List ℕ
-totals_text t = field (codes " got=") t.got ++ field (codes " back=") t.back ++ field (codes " held=") t.held ++ field (codes " posted=") t.posted
+totals_text t =
+    field (codes " got=") t.got ++ field (codes " back=") t.back ++ field (codes " held=") t.held
+    ++ field (codes " posted=") t.posted
 
 -- the one line that tells a verdict
 abbrev pub verdict_text : Verdict → List ℕ
-verdict_text (Faulty fault) = field (codes "line ") fault.number ++ field (codes " refused ") (number_of_line_fault fault.cause) ++ codes "\n"
+verdict_text (Faulty fault) =
+    field (codes "line ") fault.number ++ field (codes " refused ") (number_of_line_fault fault.cause) ++ codes "\n"
 verdict_text (Setup fault) = field (codes "setup refused ") (number_of_setup_fault fault) ++ codes "\n"
-verdict_text (Stopped line fault) = field (codes "event ") line ++ field (codes " refused ") (number_of_event_fault fault) ++ codes "\n"
+verdict_text (Stopped line fault) =
+    field (codes "event ") line ++ field (codes " refused ") (number_of_event_fault fault) ++ codes "\n"
 verdict_text (Legal count totals) = field (codes "ok events=") count ++ totals_text totals ++ codes "\n"
 
 -- only a legal list is no refusal

@@ -1,7 +1,8 @@
 //! `check`: whether a list of events could have happened.
 ghost use Rattle.std.specs.Prelude.{◌≡◌, ◌≢◌, ◌<◌, ◌++◌, length, IfOk, IfErr, IfSome, OnOk, IsErrOf};
 ghost use Rattle.tagplay.specs.Faults.{number_of_event_fault};
-ghost use Rattle.tagplay.specs.Check.{IsLayoutOf, HasCallers, IsClosed, IsRunVerdict, IsVerdict, verdict_text, totals_text, ending_of, Writes};
+ghost use Rattle.tagplay.specs.Check.{IsLayoutOf, HasCallers, IsClosed, IsRunVerdict, IsVerdict, Writes};
+ghost use Rattle.tagplay.specs.Check.{verdict_text, totals_text, ending_of};
 ghost use Rattle.tag_model.specs.Kept.{callers_of, world_of};
 ghost use Rattle.tag_model.specs.World.{opened};
 

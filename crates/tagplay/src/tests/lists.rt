@@ -1,5 +1,6 @@
 //! Lists of events with the texts that are owed.
 use crate::{CheckOptions, Ending, run_check};
+use std::process::Abort;
 use std::test::*;
 
 // Checks a list, and compares the text and the ending.
