@@ -1,0 +1,4 @@
+pub mod LineFacts
+pub mod EventLineFacts
+pub mod ReadingFacts
+pub mod NumberFacts

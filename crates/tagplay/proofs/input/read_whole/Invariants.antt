@@ -1,0 +1,15 @@
+-- What was read and what is left are the input.
+use Rattle.std.proofs.Common.{◌≤◌, ◌-◌, ◌+◌, vec_len}
+use Rattle.std.specs.Io.KnownBytes.{Consumes}
+use Rattle.tagplay.specs.declared.input.TheConstants.{MAX_INPUT}
+use Rattle.tagplay.proofs.input.read_whole.Given as goal
+
+-- what was read came off the front of the input
+abbrev pub invariant-loop-count : goal.invariant-loop-count
+invariant-loop-count g l = record {
+  read : Consumes (g.R.Read.remaining l.fn.reader) (g.R.Read.remaining l.reader) l.input.items;
+  short : vec_len l.input ≤ MAX_INPUT;
+}
+
+abbrev pub decreases-loop-count : goal.decreases-loop-count
+decreases-loop-count g l = MAX_INPUT + 1 - vec_len l.input

@@ -1,0 +1,30 @@
+-- The numbers by which texts tell faults.
+use Rattle.std.specs.Prelude.{ℕ}
+use Rattle.tag_model.specs.declared.event.EventFault.{EventFault}
+use Rattle.tag_model.specs.declared.event.EventFault.TheVariants.{NoSuchTag, NotFree, NotHeld, NotPosted, Spent, NoSuchCaller as Nobody}
+use Rattle.tagplay.specs.declared.fault.LineFault.{LineFault}
+use Rattle.tagplay.specs.declared.fault.LineFault.TheVariants.{BadLine, BadNumber, NoSuchCaller}
+use Rattle.tagplay.specs.declared.fault.SetupFault.{SetupFault}
+use Rattle.tagplay.specs.declared.fault.SetupFault.TheVariants.{TotalTooLarge, ReservedTooLarge, ShiftTooLarge, CallerCount}
+
+-- of a line
+abbrev pub number_of_line_fault : LineFault → ℕ
+number_of_line_fault BadLine = 1
+number_of_line_fault BadNumber = 2
+number_of_line_fault NoSuchCaller = 3
+
+-- of a setup
+abbrev pub number_of_setup_fault : SetupFault → ℕ
+number_of_setup_fault TotalTooLarge = 2
+number_of_setup_fault ReservedTooLarge = 3
+number_of_setup_fault ShiftTooLarge = 4
+number_of_setup_fault CallerCount = 5
+
+-- of an event
+abbrev pub number_of_event_fault : EventFault → ℕ
+number_of_event_fault NoSuchTag = 1
+number_of_event_fault Nobody = 2
+number_of_event_fault NotFree = 3
+number_of_event_fault NotHeld = 4
+number_of_event_fault NotPosted = 5
+number_of_event_fault Spent = 6

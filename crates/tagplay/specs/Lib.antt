@@ -1,0 +1,12 @@
+pub mod Lines
+pub mod Faults
+pub mod Readings
+pub mod EventList
+pub mod Texts
+pub mod Check
+pub use Rattle.tag_model.specs.Event
+pub use Rattle.tag_model.specs.World
+pub use Rattle.tag_model.specs.Runs
+pub use Rattle.tag_model.specs.Totals
+pub use Rattle.tag_model.specs.Kept
+pub use Rattle.tag_layout.specs.Layout

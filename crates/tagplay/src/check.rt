@@ -1,0 +1,178 @@
+//! `check`: whether a list of events could have happened.
+ghost use Rattle.std.specs.Prelude.{◌≡◌, ◌≢◌, ◌<◌, ◌++◌, length, IfOk, IfErr, IfSome, OnOk, IsErrOf};
+ghost use Rattle.tagplay.specs.Faults.{number_of_event_fault};
+ghost use Rattle.tagplay.specs.Check.{IsLayoutOf, HasCallers, IsClosed, IsRunVerdict, IsVerdict, Writes};
+ghost use Rattle.tagplay.specs.Check.{verdict_text, totals_text, ending_of};
+ghost use Rattle.tag_model.specs.Kept.{callers_of, world_of};
+ghost use Rattle.tag_model.specs.World.{opened};
+
+use crate::ending::Ending;
+use crate::event_list::{ListFault, events};
+use crate::fault::{FaultyLine, RunFault, SetupFault};
+use crate::input::{MAX_INPUT, read_whole};
+use crate::lines::LINE_FEED;
+use crate::options::CheckOptions;
+use crate::text::push_field;
+use std::alloc::{AllocError, Global};
+use std::io::{Read, Write};
+use tag_layout::{Layout, LayoutFault};
+use tag_model::{Event, EventFault, ModelFault, Totals, World};
+
+/// What there is to say of a list of events.
+#[derive(Clone, Copy, Debug, PartialEq, Eq)]
+pub enum Verdict {
+    /// The first line that spells no event.
+    Faulty(FaultyLine),
+    /// There is no such world.
+    Setup(SetupFault),
+    /// The line of the first event that can't happen, from 1, and why it can't.
+    Stopped(u64, EventFault),
+    /// Each event can happen: how many there are, and the totals after them.
+    Legal(u64, Totals),
+}
+
+/// Reads a list of events, a line each, and writes whether it could have happened: `ok` with the totals,
+/// or the line of the first event that could not, and why.
+pub fn run_check<R: Read, W: Write>(
+    alloc: Global,
+    options: &CheckOptions,
+    reader: &mut R,
+    writer: &mut W,
+) -> Result<Ending, RunFault>
+    ensures written { IfOk result (Writes options.now (R.remaining reader.old) (W.contents writer.old) (W.contents writer.new)) }
+    ensures untouched { IfErr result (λ fault. fault ≢ RunFault.Write → writer.new ≡ writer.old) }
+    ensures too_long { IsErrOf result RunFault.TooLong → IfSome (R.remaining reader.old) (λ bytes. MAX_INPUT < length bytes) }
+{
+    let input = read_whole(alloc, reader)?;
+    let verdict = verdict_on(alloc, options, &input)?;
+    let text = verdict.text(alloc)?;
+    match writer.write_all(&text) {
+        Ok(()) => Ok(verdict.ending()),
+        Err(_) => Err(RunFault::Write),
+    }
+}
+
+// What there is to say of the events that a text spells. Its lines are looked at before the setup.
+fn verdict_on(alloc: Global, options: &CheckOptions, text: &[u8]) -> Result<Verdict, RunFault>
+    ensures verdict { IfOk result (IsVerdict options.now text.now) }
+    ensures memory { IfErr result (λ fault. fault ≡ RunFault.Memory) }
+{
+    let events = match events(alloc, text) {
+        Ok(events) => events,
+        Err(ListFault::Memory) => return Err(RunFault::Memory),
+        Err(ListFault::Faulty(fault)) => return Ok(Verdict::Faulty(fault)),
+    };
+    match open(alloc, options) {
+        Ok(mut world) => Ok(run(&mut world, &events)),
+        Err(Closed::Memory) => Err(RunFault::Memory),
+        Err(Closed::Setup(fault)) => Ok(Verdict::Setup(fault)),
+    }
+}
+
+/// Why there is no world.
+#[derive(Clone, Copy, Debug, PartialEq, Eq)]
+pub(crate) enum Closed {
+    /// There was no memory for it.
+    Memory,
+    /// The options ask for what there can't be.
+    Setup(SetupFault),
+}
+
+// The world that the options ask for, all tags free.
+fn open(alloc: Global, options: &CheckOptions) -> Result<World, Closed>
+    ensures layout { IfOk result (λ world. IsLayoutOf options.now world.layout) }
+    ensures callers { IfOk result (λ world. HasCallers options.now × (callers_of world ≡ options.now.callers)) }
+    ensures all_free { IfOk result (λ world. world_of world ≡ opened) }
+    ensures fault { IfErr result (IsClosed options.now) }
+{
+    let layout = match Layout::new(options.tags, options.shift) {
+        Ok(layout) => layout,
+        Err(LayoutFault::DepthTooLarge) => return Err(Closed::Setup(SetupFault::TotalTooLarge)),
+        Err(LayoutFault::ShiftTooLarge) => return Err(Closed::Setup(SetupFault::ShiftTooLarge)),
+    };
+    match World::open(alloc, layout, options.callers) {
+        Ok(world) => Ok(world),
+        Err(ModelFault::Memory) => Err(Closed::Memory),
+        Err(ModelFault::CallerCount) => Err(Closed::Setup(SetupFault::CallerCount)),
+    }
+}
+
+// The events one after another: line `n` has the event at place `n - 1`.
+fn run(world: &mut World, events: &[Event]) -> Verdict
+    ensures { IsRunVerdict world.old.layout (callers_of world.old) (world_of world.old) events.now result }
+{
+    match world.run(events) {
+        Ok(totals) => Verdict::Legal(events.len() as u64, totals),
+        Err((place, fault)) => Verdict::Stopped(place as u64 + 1, fault),
+    }
+}
+
+impl Verdict {
+    // What is written of it.
+    fn text(&self, alloc: Global) -> Result<Vec<u8>, RunFault>
+        ensures text { IfOk result (λ text. text.items ≡ verdict_text self.now) }
+        ensures memory { IfErr result (λ fault. fault ≡ RunFault.Memory) }
+    {
+        let mut text = Vec::new(alloc);
+        match self.push_to(&mut text) {
+            Ok(()) => Ok(text),
+            Err(_) => Err(RunFault::Memory),
+        }
+    }
+
+    fn push_to(&self, text: &mut Vec<u8>) -> Result<(), AllocError>
+        ensures ok { OnOk result (text.new.items ≡ text.old.items ++ verdict_text self.now) }
+    {
+        match *self {
+            Verdict::Faulty(fault) => {
+                push_field(text, b"line ", fault.number)?;
+                push_field(text, b" refused ", fault.cause.number())?;
+            }
+            Verdict::Setup(fault) => push_field(text, b"setup refused ", fault.number())?,
+            Verdict::Stopped(line, fault) => {
+                push_field(text, b"event ", line)?;
+                push_field(text, b" refused ", number_of(fault))?;
+            }
+            Verdict::Legal(count, totals) => {
+                push_field(text, b"ok events=", count)?;
+                push_totals(text, totals)?;
+            }
+        }
+        text.push(LINE_FEED)?;
+        Ok(())
+    }
+
+    // A verdict is a refusal, unless the list is legal.
+    fn ending(&self) -> Ending
+        ensures { result ≡ ending_of self.now }
+    {
+        match self {
+            Verdict::Legal(_, _) => Ending::Done,
+            _ => Ending::Refused,
+        }
+    }
+}
+
+fn push_totals(text: &mut Vec<u8>, totals: Totals) -> Result<(), AllocError>
+    ensures ok { OnOk result (text.new.items ≡ text.old.items ++ totals_text totals) }
+{
+    push_field(text, b" got=", totals.got)?;
+    push_field(text, b" back=", totals.back)?;
+    push_field(text, b" held=", totals.held)?;
+    push_field(text, b" posted=", totals.posted)?;
+    Ok(())
+}
+
+// The number of an event's fault in texts.
+fn number_of(fault: EventFault) -> u64
+    ensures { result ≡ number_of_event_fault fault }
+{
+    match fault {
+        EventFault::NoSuchTag => 1,
+        EventFault::NoSuchCaller => 2,
+        EventFault::NotFree => 3,
+        EventFault::NotHeld => 4,
+        EventFault::NotPosted => 5,
+        EventFault::Spent => 6,
+    }
+}

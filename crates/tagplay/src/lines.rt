@@ -1,0 +1,21 @@
+//! Lines of a text and words of a line, one after another.
+ghost use Rattle.std.specs.Prelude.{◌≡◌, ◌<◌, ◌++◌, [], ◌∷◌, length, IfSome, MatchOption};
+ghost use Rattle.tagplay.specs.Lines.{lines_of, words_of, LacksByte};
+
+/// What ends a line.
+pub(crate) const LINE_FEED: u8 = b'\n';
+
+/// What parts two words of a line.
+pub(crate) const BLANK: u8 = b' ';
+
+/// The part before the first such byte, and what follows that byte where there is one.
+pub(crate) fn cut(text: &[u8], at: u8) -> (&[u8], Option<&[u8]>)
+    ensures part { LacksByte at result.0.now }
+    ensures whole { MatchOption result.1 (text.now ≡ result.0.now) (λ rest. text.now ≡ result.0.now ++ at ∷ rest.now) }
+    ensures shorter { IfSome result.1 (λ rest. length rest.now < length text.now) }
+{
+    match text.iter().position(|byte| *byte == at) {
+        Some(end) => (&text[..end], Some(&text[end + 1..])),
+        None => (text, None),
+    }
+}

@@ -1,0 +1,3 @@
+//! Tests of what no clause says, and the worked cases.
+mod ends;
+mod lists;

@@ -1,0 +1,121 @@
+//! Readers and writers that fail, and inputs at the bound.
+use crate::{CheckOptions, Ending, RunFault, run_check};
+use std::io;
+use std::io::{Read, Write};
+use std::test::*;
+
+const FOUR: CheckOptions = CheckOptions {
+    tags: 4,
+    shift: Some(2),
+    callers: 1,
+};
+
+// Gives one byte a call, and an error at the call of this number, from 0.
+#[derive(Drop)]
+struct Failing<'a> {
+    text: &'a [u8],
+    at: usize,
+    fails_at: usize,
+}
+
+impl<'a> Read for Failing<'a> {
+    fn read(&mut self, buf: &mut [u8]) -> io::Result<usize> {
+        if self.at == self.fails_at {
+            return Err(io::Error::from(io::ErrorKind::Interrupted));
+        }
+        match (self.text.get(self.at), buf.first_mut()) {
+            (Some(byte), Some(place)) => {
+                *place = *byte;
+                self.at = self.at.saturating_add(1);
+                Ok(1)
+            }
+            _ => Ok(0),
+        }
+    }
+}
+
+// Gives so many bytes in all, the same each time.
+#[derive(Drop)]
+struct Repeats {
+    byte: u8,
+    left: usize,
+}
+
+impl Read for Repeats {
+    fn read(&mut self, buf: &mut [u8]) -> io::Result<usize> {
+        let count = self.left.min(buf.len());
+        for place in &mut buf[..count] {
+            *place = self.byte;
+        }
+        self.left -= count;
+        Ok(count)
+    }
+}
+
+// Takes nothing.
+#[derive(Drop)]
+struct Shut;
+
+impl Write for Shut {
+    fn write(&mut self, _buf: &[u8]) -> io::Result<usize> {
+        Err(io::Error::from(io::ErrorKind::BrokenPipe))
+    }
+
+    fn flush(&mut self) -> io::Result<()> {
+        Ok(())
+    }
+}
+
+#[test]
+fn an_error_at_any_call_of_the_reader_leaves_no_output(rt: HostRuntime) {
+    let text = b"win 0 0 8\nput 0 3\n".as_slice();
+    for fails_at in 0..=text.len() {
+        let mut reader = Failing {
+            text,
+            at: 0,
+            fails_at,
+        };
+        let mut written = Vec::new(rt.alloc());
+        let outcome = run_check(rt.alloc(), &FOUR, &mut reader, &mut written);
+        assert_eq!(rt; outcome, Err(RunFault::Read), "at {fails_at}");
+        assert!(rt; written.is_empty(), "at {fails_at}");
+    }
+}
+
+#[test]
+fn an_error_of_the_writer_is_told(rt: HostRuntime) {
+    let outcome = run_check(rt.alloc(), &FOUR, &mut b"look\n".as_slice(), &mut Shut);
+    assert_eq!(rt; outcome, Err(RunFault::Write));
+}
+
+#[test]
+fn an_input_of_16_mib_is_read_and_one_byte_more_is_too_long(rt: HostRuntime) {
+    let mut longest = Repeats {
+        byte: b'7',
+        left: 16_777_216,
+    };
+    let mut written = Vec::new(rt.alloc());
+    let outcome = run_check(rt.alloc(), &FOUR, &mut longest, &mut written);
+    assert_eq!(rt; outcome, Ok(Ending::Refused));
+    assert_eq!(rt; written.as_slice(), b"line 1 refused 1\n".as_slice());
+    let mut too_long = Repeats {
+        byte: b'7',
+        left: 16_777_217,
+    };
+    let mut written = Vec::new(rt.alloc());
+    let outcome = run_check(rt.alloc(), &FOUR, &mut too_long, &mut written);
+    assert_eq!(rt; outcome, Err(RunFault::TooLong));
+    assert!(rt; written.is_empty());
+}
+
+#[test]
+fn want_of_memory_leaves_no_output(rt: HostRuntime) {
+    let mut written = Vec::new(rt.alloc());
+    match run_check(rt.alloc(), &FOUR, &mut b"win 0 0 8\nlook\n".as_slice(), &mut written) {
+        Ok(ending) => assert_eq!(rt; ending, Ending::Done),
+        Err(fault) => {
+            assert!(rt; fault == RunFault::Memory || fault == RunFault::Write);
+            assert!(rt; fault == RunFault::Write || written.is_empty());
+        }
+    }
+}
