@@ -1,4 +1,4 @@
-use Rattle.std.proofs.Common.{arith, ◌≡◌, ℕ, eqb, ◌+◌, ◌-◌, ◌*◌, ◌≤◌, ◌∷◌, refl, sym, ap, ◌∙◌}
+use Rattle.std.proofs.Common.{arith, ◌≡◌, ℕ, eqb, ◌+◌, ◌-◌, ◌*◌, ◌≤◌, ◌∷◌, sym, ap, ◌∙◌}
 use prog.Atomic.{either}
 use Rattle.step_ledger.specs.declared.record.Record.{Record}
 use Rattle.step_ledger.specs.Views.{steps_of, with_step}
