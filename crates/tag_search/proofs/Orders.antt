@@ -32,7 +32,8 @@ numbers-split a b c h k =
 pub numbers-at : (a b c : ℕ) → a ≤ b → b < c → numbers a c ≡ numbers a b ++ b ∷ numbers (b + 1) c
 numbers-at a b c h k = numbers-split a b c h (omega arith) ∙ ap (λ (xs : List ℕ). numbers a b ++ xs) (numbers-cons b c k)
 
-all_from : (P : ℕ → Type 0) (a n : ℕ) → ((k : ℕ) → a ≤ k → k < a + n → P k) → All P (numbers_from a n)
+-- so many numbers from one on
+pub all_from : (P : ℕ → Type 0) (a n : ℕ) → ((k : ℕ) → a ≤ k → k < a + n → P k) → All P (numbers_from a n)
 all_from P a zero h = All-nil P
 all_from P a (suc n) h = All-cons P a (numbers_from (a + 1) n) (h a (omega arith) (omega arith)) (all_from P (a + 1) n (λ k l m. h k (omega arith) (omega arith)))
 

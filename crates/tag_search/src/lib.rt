@@ -2,6 +2,7 @@
 #![tactic(auto)]
 
 mod batch;
+mod choosing;
 mod hint;
 mod pass;
 mod place;

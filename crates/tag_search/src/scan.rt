@@ -36,6 +36,7 @@ impl Scan {
     pub fn plain(layout: Layout, round_robin: bool, from: u32) -> Scan
         requires { from ≤ layout.depth - 1 }
         ensures layout { result.layout ≡ layout }
+        ensures shift { layout.shift ≤ 6 }
         ensures first { (result.first ≡ word_of layout from) × (result.first ≤ words layout) }
         ensures reach { reach_of result ≡ plain_reach layout round_robin from }
     {
@@ -53,6 +54,7 @@ impl Scan {
     pub fn shallow(layout: Layout, depth: u32, from: u32) -> Scan
         requires { from ≤ layout.depth - 1 }
         ensures layout { result.layout ≡ layout }
+        ensures shift { layout.shift ≤ 6 }
         ensures first { (result.first ≡ word_of layout from) × (result.first ≤ words layout) }
         ensures reach { reach_of result ≡ shallow_reach layout depth from }
     {

@@ -64,11 +64,26 @@ fn take(port: &mut Counting, word: u32, mask: u64) {
     }
 }
 
+/// Whether there is such a tag, taken and not set aside.
+fn is_taken(port: &Counting, tag: u32) -> bool {
+    tag < port.layout().depth() && port.port.taken(tag)
+}
+
 /// Sets a tag aside that is taken.
 fn set_aside(port: &mut Counting, tag: u32) {
     if tag < port.layout().depth() && port.port.taken(tag) {
         port.port.put(tag);
     }
+}
+
+/// A batch get, where so many tags fit a word.
+#[tactic(auto, using(std::proofs::lemmas::Nat::one_shl))]
+fn batch(port: &mut Counting, hint: &mut Hint, n: u32) -> Result<Option<(u32, u64)>, Spent> {
+    let bits = 1u32 << port.layout().shift();
+    if n == 0 || n > bits {
+        return Ok(None);
+    }
+    get_batch(port, hint, n)
 }
 
 fn fresh(rt: &HostRuntime, depth: u32, shift: u32) -> Result<Counting, Fail> {
@@ -132,7 +147,7 @@ fn round_robin_misses_a_bit_below_its_hint(rt: HostRuntime) -> Result<(), Fail> 
     take(&mut port, 0, 0b1000);
     let mut late = hint_at(2, true);
     assert_eq!(rt; get(&mut port, &mut late), Ok(None));
-    assert_eq!(rt; get_batch(&mut port, &mut late, 1), Ok(None));
+    assert_eq!(rt; batch(&mut port, &mut late, 1), Ok(None));
     after_clear(&mut late, 3);
     assert_eq!(rt; late, hint_at(0, true));
     Ok(())
@@ -143,12 +158,12 @@ fn a_batch_lies_in_one_word(rt: HostRuntime) -> Result<(), Fail> {
     let mut port = fresh(&rt, 8, 2)?;
     take(&mut port, 0, 0b0111);
     let mut hint = hint_at(1, false);
-    assert_eq!(rt; get_batch(&mut port, &mut hint, 2), Ok(Some((4, 0b11))));
+    assert_eq!(rt; batch(&mut port, &mut hint, 2), Ok(Some((4, 0b11))));
     assert_eq!(rt; hint, hint_at(1, false));
     after_clear(&mut hint, 5);
-    assert_eq!(rt; get_batch(&mut port, &mut hint, 2), Ok(Some((6, 0b11))));
+    assert_eq!(rt; batch(&mut port, &mut hint, 2), Ok(Some((6, 0b11))));
     assert_eq!(rt; hint, hint_at(5, false));
-    assert_eq!(rt; get_batch(&mut port, &mut hint, 4), Ok(None));
+    assert_eq!(rt; batch(&mut port, &mut hint, 4), Ok(None));
     Ok(())
 }
 
@@ -156,7 +171,7 @@ fn a_batch_lies_in_one_word(rt: HostRuntime) -> Result<(), Fail> {
 fn a_tag_given_back_is_free_at_once(rt: HostRuntime) -> Result<(), Fail> {
     let mut port = fresh(&rt, 3, 1)?;
     take(&mut port, 1, 1);
-    assert!(rt; port.port.taken(2));
+    assert!(rt; is_taken(&port, 2));
     if port.layout().words() > 1 {
         assert_eq!(rt; port.port.look_aside(1), 0);
     }
