@@ -92,7 +92,7 @@ retry_alone {i = i} {rank = rank} {answer = answer} (swept {sweep = sweep} {seco
     let parts = quiet-split sweep second w quiet in let e = sweep_alone s w parts.0 in let left = sweep_leaves s ne w in
     let tells = pass_alone again (words_after_all sweep w) parts.1 in
     subst (λ (x : ℕ). RetryTells (w.word i) x rank answer) e
-      (second_tells (w.word i) mask rank (words_after_all sweep w) (words_after_all second (words_after_all sweep w)) i answer left.1 left.0 within set tells)
+    (second_tells (w.word i) mask rank (words_after_all sweep w) (words_after_all second (words_after_all sweep w)) i answer left.1 left.0 within set tells)
 
 -- a visit alone: all of the rank is busy, or the chosen place is won
 abbrev pub VisitTells : ℕ → ℕ → List ℕ → Option ℕ → Type 0

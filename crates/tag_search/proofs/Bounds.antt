@@ -68,10 +68,10 @@ visits_bound l first reach h within =
     let of : ℕ → Visit = visit_of first reach in let f : ℕ → ℕ = λ i. 2 * word_depth l i + 4 in
     let P : ℕ → Type 0 = λ i. 2 * length (of i).rank + 4 ≤ f i in
     let each : (i : ℕ) → i < words l → P i = λ i k.
-        let a : length (of i).rank ≤ reach.limit i = length-scan_order (cond (nat_eq i first) reach.start 0) (reach.limit i) reach.wrap in let b = within i k in omega arith in
+    let a : length (of i).rank ≤ reach.limit i = length-scan_order (cond (nat_eq i first) reach.start 0) (reach.limit i) reach.wrap in let b = within i k in omega arith in
     let front = numbers first (words l) in let back = numbers 0 first in
     let split : most_steps (visits l first reach) ≡ most_steps (map of front) + most_steps (map of back) =
-        ap most_steps (visits-split l first reach h) ∙ most_steps-append (map of front) (map of back) in
+    ap most_steps (visits-split l first reach h) ∙ most_steps-append (map of front) (map of back) in
     let a = most_steps-map of f front (all_numbers P first (words l) (λ i _ k. each i k)) in
     let b = most_steps-map of f back (all_numbers P 0 first (λ i _ k. each i (omega arith))) in
     let sum = tally-around f first (words l) h in let total = steps-sum l in omega arith

@@ -108,7 +108,7 @@ search_alone (passed {visit = visit} {visits = more} {steps = first} {rest = res
     let a = subst (λ (x : ℕ). All (IsBusy x (w.aside visit.word)) visit.rank) here.0 busy in
     let full : IsFull opening visit = subst (λ (x : ℕ). All (IsBusy (opening.word visit.word) x) visit.rank) here.1 a in
     let still : All (λ other. SameAt (words_after_all first w) opening other.word) more = λ k d h.
-        let there = steps_elsewhere first w visit.word _ (visit_on v) (distinct.0 k d h) in let before = others k d h in (there.0 ∙ before.0, there.1 ∙ before.1) in
+    let there = steps_elsewhere first w visit.word _ (visit_on v) (distinct.0 k d h) in let before = others k d h in (there.0 ∙ before.0, there.1 ∙ before.1) in
     choice_behind opening visit full (search_alone search opening (words_after_all first w) distinct.1 (All-tail InWords visit more within) still parts.1)
 
 -- no number stands twice
@@ -140,10 +140,10 @@ search_chooses l first reach narrow h within answer steps search w quiet =
     let bits = word_bits-le l narrow in
     let Narrow : ℕ → Type 0 = λ i. InWords (visit_of first reach i) in
     let each : (i : ℕ) → i < words l → Narrow i = λ i k. let a = within i k in
-        all_scan (λ b. b < 64) (cond (nat_eq i first) reach.start 0) (reach.limit i) reach.wrap (λ b below. omega arith) in
+    all_scan (λ b. b < 64) (cond (nat_eq i first) reach.start 0) (reach.limit i) reach.wrap (λ b below. omega arith) in
     let narrow_all : All Narrow (front ++ back) = All-append Narrow front back (all_numbers Narrow first (words l) (λ i _ k. each i k)) (all_numbers Narrow 0 first (λ i _ k. each i (omega arith))) in
     let apart : Apart (front ++ back) = apart-append front back (apart_from first (words l - first)) (apart_from 0 (first - 0))
-        (all_numbers (λ x. All (λ y. y ≢ x) back) first (words l) (λ x low _. all_numbers (λ y. y ≢ x) 0 first (λ y _ high e. omega arith))) in
+    (all_numbers (λ x. All (λ y. y ≢ x) back) first (words l) (λ x low _. all_numbers (λ y. y ≢ x) 0 first (λ y _ high e. omega arith))) in
     let of = visit_of first reach in
     let distinct : Distinct (visits l first reach) = subst (λ (xs : List ℕ). Distinct (map of xs)) (sym order) (distinct_map first reach (front ++ back) apart) in
     let inside : All InWords (visits l first reach) = subst (λ (xs : List ℕ). All InWords (map of xs)) (sym order) (All-map InWords of (front ++ back) narrow_all) in

@@ -92,17 +92,19 @@ taken_of_mask n k ne = cases (bit_at n k) refl (bit_at-lt n k)
 -- a place whose bit is set is taken exactly where it isn't set aside
 pub tells_taken : (p : Plain) (i k n a bit : ℕ) → bit ≡ 2 ^ k → n ≡ get_or p.word i 0 → a ≡ get_or p.aside i 0 → bit_and n bit ≢ 0
     → IsTrue (nat_eq (bit_and a bit) 0) ↔ IsTaken p i k
-tells_taken p i k n a bit b e f some =
-    (λ t. record {
-      taken = taken_of_mask (get_or p.word i 0) k (λ z. some (ap (bit_and n) b ∙ ap (λ (x : ℕ). bit_and x (2 ^ k)) e ∙ z));
-      not_aside = clear_of_mask (get_or p.aside i 0) k (sym (ap (bit_and a) b ∙ ap (λ (x : ℕ). bit_and x (2 ^ k)) f) ∙ eqb-true (bit_and a bit) 0 t);
-    },
-    λ is. eq-eqb (bit_and a bit) 0 (ap (bit_and a) b ∙ ap (λ (x : ℕ). bit_and x (2 ^ k)) f ∙ mask_of_clear (get_or p.aside i 0) k is.not_aside))
+tells_taken p i k n a bit b e f some = (
+  λ t. record {
+    taken = taken_of_mask (get_or p.word i 0) k (λ z. some (ap (bit_and n) b ∙ ap (λ (x : ℕ). bit_and x (2 ^ k)) e ∙ z));
+    not_aside = clear_of_mask (get_or p.aside i 0) k (sym (ap (bit_and a) b ∙ ap (λ (x : ℕ). bit_and x (2 ^ k)) f) ∙ eqb-true (bit_and a bit) 0 t);
+  },
+  λ is. eq-eqb (bit_and a bit) 0 (ap (bit_and a) b ∙ ap (λ (x : ℕ). bit_and x (2 ^ k)) f ∙ mask_of_clear (get_or p.aside i 0) k is.not_aside),
+)
 
 -- a place whose bit is clear is not taken
 pub tells_free : (p : Plain) (i k n bit : ℕ) → bit ≡ 2 ^ k → n ≡ get_or p.word i 0 → bit_and n bit ≡ 0
     → IsTrue (not (nat_eq (bit_and n bit) 0)) ↔ IsTaken p i k
 tells_free p i k n bit b e none =
-    let clear : bit_at (get_or p.word i 0) k ≡ 0 = clear_of_mask (get_or p.word i 0) k (sym (ap (bit_and n) b ∙ ap (λ (x : ℕ). bit_and x (2 ^ k)) e) ∙ none) in
-    (λ t. absurd (let no : not (nat_eq (bit_and n bit) 0) ≡ false = ap not (eq-eqb (bit_and n bit) 0 none) in let yes : not (nat_eq (bit_and n bit) 0) ≡ true = t in cc),
-    λ is. absurd (let one = is.taken in omega arith))
+    let clear : bit_at (get_or p.word i 0) k ≡ 0 = clear_of_mask (get_or p.word i 0) k (sym (ap (bit_and n) b ∙ ap (λ (x : ℕ). bit_and x (2 ^ k)) e) ∙ none) in (
+      λ t. absurd (let no : not (nat_eq (bit_and n bit) 0) ≡ false = ap not (eq-eqb (bit_and n bit) 0 none) in let yes : not (nat_eq (bit_and n bit) 0) ≡ true = t in cc),
+      λ is. absurd (let one = is.taken in omega arith),
+    )

@@ -7,9 +7,8 @@ ghost use Rattle.tag_search.specs.Order.{numbers, scan_order};
 ghost use Rattle.tag_search.specs.Batch.{run_mask, run_won, IsSweptLook, IsBatchVisit, IsBatchSearch};
 ghost use Rattle.tag_search.specs.Added.{Adds, SameRoom};
 
-use tag_layout::{Layout, first_clear};
-
 use crate::port::Port;
+use tag_layout::{Layout, first_clear};
 
 /// So many bits from a place on.
 #[inline]
@@ -33,14 +32,10 @@ fn claim_run<P: Port>(port: &mut P, word: u32, place: u32, n: u32) -> Option<u64
     requires width { place + n ≤ 64 }
     ensures port { P.ready port.new }
     ensures sizes { P.sizes port.new ≡ P.sizes port.old }
-    ensures won {
-        IfSome result (λ bits. (found : ℕ) × (without (run_mask n place) found ≢ 0) × (bits ≡ run_won n place found)
-            × P.adds port.old (Claimed word (run_mask n place) found ∷ []) port.new)
-    }
-    ensures lost {
-        IfNone result ((found : ℕ) × (without (run_mask n place) found ≡ 0) × SameRoom P.has_room port.old port.new
-            × P.adds port.old (Claimed word (run_mask n place) found ∷ []) port.new)
-    }
+    ensures won { IfSome result (λ bits. (found : ℕ) × (without (run_mask n place) found ≢ 0) × (bits ≡ run_won n place found)
+        × P.adds port.old (Claimed word (run_mask n place) found ∷ []) port.new) }
+    ensures lost { IfNone result ((found : ℕ) × (without (run_mask n place) found ≡ 0) × SameRoom P.has_room port.old port.new
+        × P.adds port.old (Claimed word (run_mask n place) found ∷ []) port.new) }
 {
     let Ok(claim) = port.claim(word, run_of(n, place)) else {
         unreachable!()
@@ -91,7 +86,13 @@ fn visit_for_run<P: Port>(port: &mut P, layout: Layout, word: u32, n: u32) -> Op
 
 /// Visits the words from one on up to the end, until a claim wins.
 #[inline]
-fn runs_between<P: Port>(port: &mut P, layout: Layout, n: u32, from: u32, end: u32) -> Option<(u32, u64)>
+fn runs_between<P: Port>(
+    port: &mut P,
+    layout: Layout,
+    n: u32,
+    from: u32,
+    end: u32,
+) -> Option<(u32, u64)>
     requires port { P.ready port.old }
     requires sizes { P.sizes port.old ≡ layout }
     requires words { end ≤ words layout }
@@ -122,9 +123,7 @@ pub fn search_run<P: Port>(port: &mut P, layout: Layout, n: u32, first: u32) -> 
     ensures port { P.ready port.new }
     ensures sizes { P.sizes port.new ≡ P.sizes port.old }
     ensures tags { IfSome result (λ won. won.0 + n ≤ layout.depth) }
-    ensures search {
-        Adds P.adds port.old port.new (λ steps. IsBatchSearch layout n (scan_order first (words layout) true) steps result)
-    }
+    ensures search { Adds P.adds port.old port.new (λ steps. IsBatchSearch layout n (scan_order first (words layout) true) steps result) }
 {
     match runs_between(port, layout, n, first, layout.words()) {
         Some(won) => Some(won),

@@ -14,10 +14,8 @@ impl PlainPort {
     /// A free tag, or else one set aside, in the first word from the hint's on that has one.
     pub fn choose(&mut self, hint: &mut Hint) -> Option<u32>
         ensures layout { self.new.layout ≡ self.old.layout }
-        ensures choice {
-            let l = self.old.layout in
-            IsChoice l (words_of self.old) (plain_visits l hint.old.round_robin (reduced l.depth hint.old.at)) result
-        }
+        ensures choice { let l = self.old.layout in
+            IsChoice l (words_of self.old) (plain_visits l hint.old.round_robin (reduced l.depth hint.old.at)) result }
         ensures hint { HintFollows self.old.layout.depth hint.old hint.new result }
     {
         let Ok(answer) = get(self, hint) else {
@@ -29,10 +27,8 @@ impl PlainPort {
     /// As `choose`, over so many tags of the whole map alone.
     pub fn choose_shallow(&mut self, hint: &mut Hint, depth: u32) -> Option<u32>
         ensures layout { self.new.layout ≡ self.old.layout }
-        ensures choice {
-            let l = self.old.layout in
-            IsChoice l (words_of self.old) (shallow_visits l depth (reduced l.depth hint.old.at)) result
-        }
+        ensures choice { let l = self.old.layout in
+            IsChoice l (words_of self.old) (shallow_visits l depth (reduced l.depth hint.old.at)) result }
         ensures hint { HintFollows self.old.layout.depth hint.old hint.new result }
     {
         let Ok(answer) = get_shallow(self, hint, depth) else {

@@ -17,16 +17,18 @@ impl Hint {
     pub(crate) fn reduced(self, depth: u32) -> u32
         ensures { result ≡ reduced depth self.at }
     {
-        if self.at < depth { self.at } else { reduce(self.at, depth) }
+        if self.at < depth {
+            self.at
+        } else {
+            reduce(self.at, depth)
+        }
     }
 
     /// Moves the hint after a search that began at `from`.
     #[inline]
     pub(crate) fn follow(&mut self, depth: u32, from: u32, answer: Option<u32>)
         requires { IfSome answer (λ tag. tag < depth) }
-        ensures {
-            self.new ≡ record self.old { at = hint_after_get depth self.old.round_robin from answer }
-        }
+        ensures { self.new ≡ record self.old { at = hint_after_get depth self.old.round_robin from answer } }
     {
         self.at = match answer {
             None => 0,

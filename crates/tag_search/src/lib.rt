@@ -12,7 +12,6 @@ mod port;
 mod rank;
 mod scan;
 mod search;
-
 #[cfg(test)]
 mod tests;
 

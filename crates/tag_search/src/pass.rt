@@ -20,19 +20,19 @@ fn claim_place<P: Port>(port: &mut P, word: u32, place: u32) -> Result<(), u64>
     requires width { place < 64 }
     ensures port { P.ready port.new }
     ensures sizes { P.sizes port.new ≡ P.sizes port.old }
-    ensures won {
-        IfOk result (λ _. (found : ℕ) × (bit_at found place ≡ 0)
-            × P.adds port.old (Claimed word (2 ^ place) found ∷ []) port.new)
-    }
-    ensures lost {
-        IfErr result (λ found. (bit_at found place ≡ 1) × SameRoom P.has_room port.old port.new
-            × P.adds port.old (Claimed word (2 ^ place) found ∷ []) port.new)
-    }
+    ensures won { IfOk result (λ _. (found : ℕ) × (bit_at found place ≡ 0)
+        × P.adds port.old (Claimed word (2 ^ place) found ∷ []) port.new) }
+    ensures lost { IfErr result (λ found. (bit_at found place ≡ 1) × SameRoom P.has_room port.old port.new
+        × P.adds port.old (Claimed word (2 ^ place) found ∷ []) port.new) }
 {
     let Ok(claim) = port.claim(word, 1 << place) else {
         unreachable!()
     };
-    if claim.won != 0 { Ok(()) } else { Err(claim.found) }
+    if claim.won != 0 {
+        Ok(())
+    } else {
+        Err(claim.found)
+    }
 }
 
 /// Loads the word and claims the first clear place of the rank, and after a lost claim the next one behind it.
@@ -91,5 +91,9 @@ fn retry<P: Port>(port: &mut P, word: u32, rank: Rank) -> Option<u32>
     ensures place { IfSome result (λ place. place < word_depth (P.sizes port.old) word) }
     ensures retry { Adds P.adds port.old port.new (λ steps. IsRetry word (places_of rank) steps result) }
 {
-    if port.sweep(word) { pass(port, word, rank) } else { None }
+    if port.sweep(word) {
+        pass(port, word, rank)
+    } else {
+        None
+    }
 }

@@ -5,11 +5,10 @@ ghost use Rattle.tag_layout.specs.Layout.{words, word_of, place_of, IsWithin};
 ghost use Rattle.tag_core.specs.declared.word_step.WordStep.TheVariants.{LookAside, Give, Put};
 ghost use Rattle.tag_search.specs.Plain.{RunsAlone, IsTaken};
 
+use crate::place::bit_of;
 use std::alloc::{AllocError, Global};
 use std::marker::Model;
 use tag_layout::Layout;
-
-use crate::place::bit_of;
 
 /// The words of a map that one caller has alone. A contract sees the layout, each word and each cleared set.
 #[derive(Drop)]
@@ -72,11 +71,9 @@ impl PlainPort {
     pub fn put(&mut self, tag: u32)
         requires tag { tag < self.old.layout.depth }
         requires taken { IsTaken self.old (word_of self.old.layout tag) (place_of self.old.layout tag) }
-        ensures step {
-            let word = word_of self.old.layout tag in
+        ensures step { let word = word_of self.old.layout tag in
             let found = slice_index self.old.aside word in
-            RunsAlone self.old (Put word (2 ^ place_of self.old.layout tag) found ∷ []) self.new
-        }
+            RunsAlone self.old (Put word (2 ^ place_of self.old.layout tag) found ∷ []) self.new }
     {
         let word = self.layout.word_of(tag) as usize;
         let bit = bit_of(self.layout, tag);

@@ -1,11 +1,10 @@
 //! The port to plain words: each call is its steps, which nobody else's come between.
 ghost use Rattle.std.specs.Prelude.{ℕ};
 
-use tag_core::{Claim, Spent};
-use tag_layout::Layout;
-
 use crate::plain::PlainPort;
 use crate::port::Port;
+use tag_core::{Claim, Spent};
+use tag_layout::Layout;
 
 impl Port for PlainPort {
     ghost use Rattle.tag_search.specs.Plain.{RunsAlone};

@@ -52,9 +52,7 @@ pub trait Port {
         ensures sizes { sizes self.new ≡ sizes self.old }
         ensures room { IsOk result ↔ has_room self.old (count_ones mask) }
         ensures won { IfOk result (λ claim. claim.won ≡ without mask claim.found) }
-        ensures uses_room {
-            IfOk result (λ claim. (n : ℕ) → has_room self.new n ↔ has_room self.old (count_ones claim.won + n))
-        }
+        ensures uses_room { IfOk result (λ claim. (n : ℕ) → has_room self.new n ↔ has_room self.old (count_ones claim.won + n)) }
         ensures step { IfOk result (λ claim. adds self.old (Claimed word mask claim.found ∷ []) self.new) }
         ensures err { OnErr result (self.new ≡ self.old) };
 
@@ -65,17 +63,13 @@ pub trait Port {
         ensures port { ready self.new }
         ensures sizes { sizes self.new ≡ sizes self.old }
         ensures room { SameRoom has_room self.old self.new }
-        ensures steps {
-            MatchBool result
-                ((mask : ℕ) × (mask ≢ 0) × Adds adds self.old self.new (IsSweep word mask))
-                (Adds adds self.old self.new (IsSweep word 0))
-        };
+        ensures steps { MatchBool result
+            ((mask : ℕ) × (mask ≢ 0) × Adds adds self.old self.new (IsSweep word mask))
+            (Adds adds self.old self.new (IsSweep word 0)) };
 
     /// A port that does nothing makes no step.
     ghost adds_none: { (p : Self) → adds p [] p };
 
     /// The steps of one call and then those of the next.
-    ghost adds_more: {
-        (p q r : Self) (xs ys : List WordStep) → adds p xs q → adds q ys r → adds p (xs ++ ys) r
-    };
+    ghost adds_more: { (p q r : Self) (xs ys : List WordStep) → adds p xs q → adds q ys r → adds p (xs ++ ys) r };
 }

@@ -38,10 +38,8 @@ impl Rank {
     /// Goes to the next place that is clear in the word, and leaves those behind it.
     #[inline]
     pub fn next(&mut self, word: u64) -> Option<u32>
-        ensures next {
-            MatchOption result (AllTaken word (places_of self.old)) (λ place.
-                IsFirstInRank word (places_of self.old) place (places_of self.new))
-        }
+        ensures next { MatchOption result (AllTaken word (places_of self.old)) (λ place.
+            IsFirstInRank word (places_of self.old) place (places_of self.new)) }
         ensures within { IfSome result (λ place. place < 64) }
     {
         if let Some(place) = first_clear(word, self.from, self.limit) {

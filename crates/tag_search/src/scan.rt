@@ -8,12 +8,11 @@ ghost use Rattle.tag_search.specs.Places.{places_of};
 ghost use Rattle.tag_search.specs.Visits.{visit_of, visits, plain_reach, shallow_reach};
 ghost use Rattle.tag_search.specs.Scans.{limit_of, reach_of};
 
-use tag_layout::Layout;
-
 use crate::pass::visit;
 use crate::place::place_in_word;
 use crate::port::Port;
 use crate::rank::Rank;
+use tag_layout::Layout;
 
 /// How a search goes over the words: where it begins, and which places of each word it may take.
 #[derive(Clone, Copy)]
@@ -43,7 +42,11 @@ impl Scan {
         Scan {
             layout,
             first: from >> layout.shift(),
-            start: if round_robin { place_in_word(layout, from) } else { 0 },
+            start: if round_robin {
+                place_in_word(layout, from)
+            } else {
+                0
+            },
             shallow: None,
             wrap: !round_robin,
         }
@@ -104,10 +107,8 @@ impl Scan {
         ensures sizes { P.sizes port.new ≡ P.sizes port.old }
         ensures room { IfNone result (SameRoom P.has_room port.old port.new) }
         ensures tag { IfSome result (λ tag. tag < self.now.layout.depth) }
-        ensures search {
-            Adds P.adds port.old port.new (λ steps.
-                IsSearch self.now.layout (map (visit_of self.now.first (reach_of self.now)) (numbers from end)) steps result)
-        }
+        ensures search { Adds P.adds port.old port.new (λ steps.
+            IsSearch self.now.layout (map (visit_of self.now.first (reach_of self.now)) (numbers from end)) steps result) }
     {
         for word in from..end {
             if let Some(place) = visit(port, word, self.rank(word)) {
@@ -128,10 +129,8 @@ impl Scan {
         ensures sizes { P.sizes port.new ≡ P.sizes port.old }
         ensures room { IfNone result (SameRoom P.has_room port.old port.new) }
         ensures tag { IfSome result (λ tag. tag < self.now.layout.depth) }
-        ensures search {
-            Adds P.adds port.old port.new (λ steps.
-                IsSearch self.now.layout (visits self.now.layout self.now.first (reach_of self.now)) steps result)
-        }
+        ensures search { Adds P.adds port.old port.new (λ steps.
+            IsSearch self.now.layout (visits self.now.layout self.now.first (reach_of self.now)) steps result) }
     {
         match self.visit_between(port, self.first, self.layout.words()) {
             Some(tag) => Some(tag),

@@ -8,12 +8,11 @@ ghost use Rattle.tag_search.specs.Hints.{reduced};
 ghost use Rattle.tag_search.specs.Follows.{HintFollows, BatchFollows};
 ghost use Rattle.tag_search.specs.Visits.{plain_visits, shallow_visits};
 
-use tag_core::Spent;
-
 use crate::batch::search_run;
 use crate::hint::Hint;
 use crate::port::Port;
 use crate::scan::Scan;
+use tag_core::Spent;
 
 /// A free tag, which is the caller's from now on. `None` says that each place looked at was found taken during the
 /// call, not that all were taken at one moment.
@@ -23,12 +22,10 @@ pub fn get<P: Port>(port: &mut P, hint: &mut Hint) -> Result<Option<u32>, Spent>
     ensures sizes { P.sizes port.new ≡ P.sizes port.old }
     ensures room { IsOk result ↔ P.has_room port.old 1 }
     ensures tag { IfOk result (λ answer. IfSome answer (λ tag. tag < (P.sizes port.old).depth)) }
-    ensures steps {
-        IfOk result (λ answer.
-            let l = P.sizes port.old in
-            let from = reduced l.depth hint.old.at in
-            Adds P.adds port.old port.new (IsGet l (plain_visits l hint.old.round_robin from) answer))
-    }
+    ensures steps { IfOk result (λ answer.
+        let l = P.sizes port.old in
+        let from = reduced l.depth hint.old.at in
+        Adds P.adds port.old port.new (IsGet l (plain_visits l hint.old.round_robin from) answer)) }
     ensures hint { IfOk result (λ answer. HintFollows (P.sizes port.old).depth hint.old hint.new answer) }
     ensures err { OnErr result ((port.new ≡ port.old) × (hint.new ≡ hint.old)) }
 {
@@ -49,12 +46,10 @@ pub fn get_shallow<P: Port>(port: &mut P, hint: &mut Hint, depth: u32) -> Result
     ensures sizes { P.sizes port.new ≡ P.sizes port.old }
     ensures room { IsOk result ↔ P.has_room port.old 1 }
     ensures tag { IfOk result (λ answer. IfSome answer (λ tag. tag < (P.sizes port.old).depth)) }
-    ensures steps {
-        IfOk result (λ answer.
-            let l = P.sizes port.old in
-            let from = reduced l.depth hint.old.at in
-            Adds P.adds port.old port.new (IsGet l (shallow_visits l depth from) answer))
-    }
+    ensures steps { IfOk result (λ answer.
+        let l = P.sizes port.old in
+        let from = reduced l.depth hint.old.at in
+        Adds P.adds port.old port.new (IsGet l (shallow_visits l depth from) answer)) }
     ensures hint { IfOk result (λ answer. HintFollows (P.sizes port.old).depth hint.old hint.new answer) }
     ensures err { OnErr result ((port.new ≡ port.old) × (hint.new ≡ hint.old)) }
 {
@@ -70,24 +65,22 @@ pub fn get_shallow<P: Port>(port: &mut P, hint: &mut Hint, depth: u32) -> Result
 
 /// Up to `n` free tags side by side in one word: the first tag, and the mask of those won, that tag's bit lowest.
 /// Under round robin there are none, without a step.
-pub fn get_batch<P: Port>(port: &mut P, hint: &mut Hint, n: u32) -> Result<Option<(u32, u64)>, Spent>
+pub fn get_batch<P: Port>(
+    port: &mut P,
+    hint: &mut Hint,
+    n: u32,
+) -> Result<Option<(u32, u64)>, Spent>
     requires port { P.ready port.old }
     requires count { (1 ≤ n) × (n ≤ word_bits (P.sizes port.old)) }
     ensures port { P.ready port.new }
     ensures sizes { P.sizes port.new ≡ P.sizes port.old }
     ensures room { IsOk result ↔ (IsTrue hint.old.round_robin ⊎ P.has_room port.old n) }
     ensures tags { IfOk result (λ answer. IfSome answer (λ won. won.0 + n ≤ (P.sizes port.old).depth)) }
-    ensures round_robin {
-        IsTrue hint.old.round_robin → (result ≡ Ok None) × (port.new ≡ port.old) × (hint.new ≡ hint.old)
-    }
-    ensures steps {
-        hint.old.round_robin ≡ false → IfOk result (λ answer.
-            let l = P.sizes port.old in
-            Adds P.adds port.old port.new (IsBatchGet l n (word_of l (reduced l.depth hint.old.at)) answer))
-    }
-    ensures hint {
-        hint.old.round_robin ≡ false → IfOk result (λ answer. BatchFollows (P.sizes port.old).depth n hint.old hint.new answer)
-    }
+    ensures round_robin { IsTrue hint.old.round_robin → (result ≡ Ok None) × (port.new ≡ port.old) × (hint.new ≡ hint.old) }
+    ensures steps { hint.old.round_robin ≡ false → IfOk result (λ answer.
+        let l = P.sizes port.old in
+        Adds P.adds port.old port.new (IsBatchGet l n (word_of l (reduced l.depth hint.old.at)) answer)) }
+    ensures hint { hint.old.round_robin ≡ false → IfOk result (λ answer. BatchFollows (P.sizes port.old).depth n hint.old hint.new answer) }
     ensures err { OnErr result ((port.new ≡ port.old) × (hint.new ≡ hint.old)) }
 {
     if hint.round_robin {

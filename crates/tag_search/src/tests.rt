@@ -1,11 +1,10 @@
 //! Searches worked by hand, with their steps counted.
 ghost use Rattle.std.specs.Prelude.{ℕ, ◌<◌};
 
+use crate::{Hint, PlainPort, Port, after_clear, get, get_batch, get_shallow};
 use std::test::Fail;
 use tag_core::{Claim, Spent};
 use tag_layout::Layout;
-
-use crate::{Hint, PlainPort, Port, after_clear, get, get_batch, get_shallow};
 
 /// A plain port that counts its atomic steps.
 #[derive(Drop)]

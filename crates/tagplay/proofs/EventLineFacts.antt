@@ -20,7 +20,7 @@ pub five_words : (a b c d rest : List ℕ) → event_of (a ∷ b ∷ c ∷ d ∷
 five_words a b c d [] = refl
 five_words a b c d (x ∷ xs) =
     elim (x == 32) as (λ test. event_of (a ∷ b ∷ c ∷ d ∷ cond test ([] ∷ slice_split (λ y. y == 32) xs) (onto_first x
-        (slice_split (λ y. y == 32) xs))) ≡ Err BadLine)
+    (slice_split (λ y. y == 32) xs))) ≡ Err BadLine)
     [ true ↦ refl | false ↦ onto_fifth a b c d x (slice_split (λ y. y == 32) xs) ]
 
 -- one word alone
@@ -34,7 +34,7 @@ pub two_words : (line a rest b : List ℕ) → LacksByte 32 a → line ≡ a ++ 
 two_words line a rest b lacks_a whole lacks_b rest_is =
     event_of-words line ∙ ap event_of (words_cut line a rest lacks_a whole)
     ∙ ap (λ text. event_of (a ∷ slice_split (λ x. x == 32) text)) rest_is
-        ∙ ap (λ words. event_of (a ∷ words)) (words_alone b lacks_b)
+    ∙ ap (λ words. event_of (a ∷ words)) (words_alone b lacks_b)
 
 -- a word, and what follows it
 after_word : (line a rest : List ℕ) → LacksByte 32 a → line ≡ a ++ 32 ∷ rest
@@ -48,13 +48,13 @@ pub three_words : (line a rest b rest' d : List ℕ) → LacksByte 32 a → line
 three_words line a rest b rest' d lacks_a whole lacks_b rest_is lacks_d last =
     after_word line a rest lacks_a whole ∙ ap (λ words. event_of (a ∷ words)) (words_cut rest b rest' lacks_b rest_is)
     ∙ ap (λ text. event_of (a ∷ b ∷ slice_split (λ x. x == 32) text)) last
-        ∙ ap (λ words. event_of (a ∷ b ∷ words)) (words_alone d lacks_d)
+    ∙ ap (λ words. event_of (a ∷ b ∷ words)) (words_alone d lacks_d)
 
 -- three words, and what follows them
 after_three : (line a rest b rest' d rest'' : List ℕ) → LacksByte 32 a → line ≡ a ++ 32 ∷ rest → LacksByte 32 b
     → rest ≡ b ++ 32 ∷ rest'
     → LacksByte 32 d → rest' ≡ d ++ 32 ∷ rest''
-        → event_of (words_of line) ≡ event_of (a ∷ b ∷ d ∷ slice_split (λ x. x == 32) rest'')
+    → event_of (words_of line) ≡ event_of (a ∷ b ∷ d ∷ slice_split (λ x. x == 32) rest'')
 after_three line a rest b rest' d rest'' lacks_a whole lacks_b rest_is lacks_d last =
     after_word line a rest lacks_a whole ∙ ap (λ words. event_of (a ∷ words)) (words_cut rest b rest' lacks_b rest_is)
     ∙ ap (λ words. event_of (a ∷ b ∷ words)) (words_cut rest' d rest'' lacks_d last)
@@ -63,11 +63,11 @@ after_three line a rest b rest' d rest'' lacks_a whole lacks_b rest_is lacks_d l
 pub four_words : (line a rest b rest' d rest'' e : List ℕ) → LacksByte 32 a → line ≡ a ++ 32 ∷ rest → LacksByte 32 b
     → rest ≡ b ++ 32 ∷ rest'
     → LacksByte 32 d → rest' ≡ d ++ 32 ∷ rest'' → LacksByte 32 e → rest'' ≡ e
-        → event_of (words_of line) ≡ event_of (a ∷ b ∷ d ∷ e ∷ [])
+    → event_of (words_of line) ≡ event_of (a ∷ b ∷ d ∷ e ∷ [])
 four_words line a rest b rest' d rest'' e lacks_a whole lacks_b rest_is lacks_d last lacks_e end =
     after_three line a rest b rest' d rest'' lacks_a whole lacks_b rest_is lacks_d last
     ∙ ap (λ text. event_of (a ∷ b ∷ d ∷ slice_split (λ x. x == 32) text)) end
-        ∙ ap (λ words. event_of (a ∷ b ∷ d ∷ words)) (words_alone e lacks_e)
+    ∙ ap (λ words. event_of (a ∷ b ∷ d ∷ words)) (words_alone e lacks_e)
 
 -- more than four words
 pub more_words : (line a rest b rest' d rest'' e more : List ℕ) → LacksByte 32 a → line ≡ a ++ 32 ∷ rest → LacksByte 32 b

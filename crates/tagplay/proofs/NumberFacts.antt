@@ -29,7 +29,7 @@ pub too_large : (limit : ℕ) (word : List ℕ) → limit ≤ digits_value 10 wo
 too_large limit word h =
     let above : nat_lt (digits_value 10 word) limit ≡ false = search (rules, h) in
     chosen limit (digits_value 10 word) (is_numeral word) (nat_lt (digits_value 10 word) limit) (and_false
-        (is_numeral word) _ above)
+    (is_numeral word) _ above)
 
 -- digits alone spell their number
 pub small_enough : (limit : ℕ) (word : List ℕ) → 0 < length word → all_ascii_digits word ≡ true → digits_value 10 word < limit
@@ -38,7 +38,7 @@ small_enough limit word some digits below =
     let nonempty : nat_lt 0 (length word) ≡ true = search (rules, some) in
     let fits : nat_lt (digits_value 10 word) limit ≡ true = search (rules, below) in
     ap (λ test. cond (test && all_ascii_digits word && nat_lt (digits_value 10 word) limit) (Some
-        (digits_value 10 word)) None) nonempty
+    (digits_value 10 word)) None) nonempty
     ∙ ap (λ test. cond (test && nat_lt (digits_value 10 word) limit) (Some (digits_value 10 word)) None) digits
     ∙ ap (λ test. cond test (Some (digits_value 10 word)) None) fits
 
@@ -47,10 +47,10 @@ pub overflows : (word : List ℕ) (i value : ℕ) → i < length word → digits
     → 2 ^ 64 ≤ value * 10 + digit_value (get_or word i 0) → number_below (2 ^ 64) word ≡ None
 overflows word i value within so_far large =
     let step : digits_value_after 10 value (drop i word) ≡ digits_value_after 10 value (get_or word i 0 ∷ drop (i + 1) word) =
-        at_drop_more (digits_value_after 10 value) word i 0 within in
+    at_drop_more (digits_value_after 10 value) word i 0 within in
     let grow : value * 10 + digit_value (get_or word i 0) ≤ digits_value_after 10 (value * 10 + digit_value
-        (get_or word i 0)) (drop (i + 1) word) =
-        digits_grow (value * 10 + digit_value (get_or word i 0)) (drop (i + 1) word) in
+    (get_or word i 0)) (drop (i + 1) word) =
+    digits_grow (value * 10 + digit_value (get_or word i 0)) (drop (i + 1) word) in
     too_large (2 ^ 64) word (omega (arith, step, so_far, grow, large))
 
 -- when no digit is left the number is read

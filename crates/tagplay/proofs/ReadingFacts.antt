@@ -15,7 +15,7 @@ first_reading says text line more said lines e =
 -- a line that says something goes from the rest to what was said
 pub said_on : {A : Type 0} (says : List (List ℕ) → Result A LineFault) (text rest line rest' : List ℕ) (items : List A) (item : A)
     → map Ok items ++ readings says rest ≡ readings says text → lines_of rest ≡ line ∷ lines_of rest'
-        → says (words_of line) ≡ Ok item
+    → says (words_of line) ≡ Ok item
     → map Ok (items ++ item ∷ []) ++ readings says rest' ≡ readings says text
 said_on says text rest line rest' items item said lines e =
     ap (λ front. front ++ readings says rest') (map-append Ok items (item ∷ []))
@@ -27,7 +27,7 @@ pub first_faulty : {A : Type 0} (says : List (List ℕ)
     → Result A LineFault) (text rest line : List ℕ) (more : List (List ℕ)) (items : List A)
     (cause : LineFault) (number : ℕ) → map Ok items ++ readings says rest ≡ readings says text → lines_of rest ≡ line ∷ more
     → says (words_of line) ≡ Err cause → number ≡ length items + 1
-        → IsFirstFaulty says text (record { number = number; cause = cause })
+    → IsFirstFaulty says text (record { number = number; cause = cause })
 first_faulty says text rest line more items cause number said lines e place = record {
   before = items;
   rest = map (λ l. says (words_of l)) more;

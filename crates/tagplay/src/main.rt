@@ -9,17 +9,15 @@ mod input;
 mod lines;
 mod numbers;
 mod options;
-mod text;
-
 #[cfg(test)]
 mod tests;
+mod text;
 
 pub use check::{Verdict, run_check};
+use clap::error::ErrorKind;
 pub use ending::Ending;
 pub use fault::{FaultyLine, LineFault, RunFault, SetupFault};
 pub use options::CheckOptions;
-
-use clap::error::ErrorKind;
 use std::process::ExitCode;
 use std::rt::Env;
 use std::{env, io};
@@ -50,7 +48,9 @@ fn main(rt: HostRuntime) -> ExitCode {
 fn play<R: AllocGlobal + Env + Input + Print + Eprint>(rt: &R) -> Result<Ending, Stop> {
     let alloc = rt.alloc();
     let words: Vec<String> = match env::args(rt) {
-        Ok(args) => args.collect(alloc).map_err(|_| Stop::Run(RunFault::Memory))?,
+        Ok(args) => args
+            .collect(alloc)
+            .map_err(|_| Stop::Run(RunFault::Memory))?,
         Err(_) => return Err(Stop::Run(RunFault::Memory)),
     };
     let command = options::command(alloc).map_err(|_| Stop::Run(RunFault::Memory))?;

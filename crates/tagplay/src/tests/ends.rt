@@ -111,7 +111,12 @@ fn an_input_of_16_mib_is_read_and_one_byte_more_is_too_long(rt: HostRuntime) {
 #[test]
 fn want_of_memory_leaves_no_output(rt: HostRuntime) {
     let mut written = Vec::new(rt.alloc());
-    match run_check(rt.alloc(), &FOUR, &mut b"win 0 0 8\nlook\n".as_slice(), &mut written) {
+    match run_check(
+        rt.alloc(),
+        &FOUR,
+        &mut b"win 0 0 8\nlook\n".as_slice(),
+        &mut written,
+    ) {
         Ok(ending) => assert_eq!(rt; ending, Ending::Done),
         Err(fault) => {
             assert!(rt; fault == RunFault::Memory || fault == RunFault::Write);

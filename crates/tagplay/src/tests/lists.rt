@@ -4,7 +4,12 @@ use std::process::Abort;
 use std::test::*;
 
 // Checks a list, and compares the text and the ending.
-fn expect<R: Abort + AllocGlobal>(rt: &R, options: &CheckOptions, list: &str, text: &str) -> Result<(), Fail> {
+fn expect<R: Abort + AllocGlobal>(
+    rt: &R,
+    options: &CheckOptions,
+    list: &str,
+    text: &str,
+) -> Result<(), Fail> {
     let mut written = Vec::new(rt.alloc());
     let ending = run_check(rt.alloc(), options, &mut list.as_bytes(), &mut written)?;
     let wanted = if text.starts_with("ok ") {
@@ -32,7 +37,12 @@ fn a_tag_is_won_again_only_when_its_sweep_is_spilled(rt: HostRuntime) -> Result<
     let in_a_sweep = "win 0 0 8\nput 0 3\nsweep 1 0\nwin 0 0 8\n";
     expect(&rt, &options(2), in_a_sweep, "event 4 refused 3\n")?;
     let spilled = "win 0 0 8\nput 0 3\nsweep 1 0\nspill 1 0\nwin 1 0 8\n";
-    expect(&rt, &options(2), spilled, "ok events=5 got=2 back=1 held=1 posted=0\n")
+    expect(
+        &rt,
+        &options(2),
+        spilled,
+        "ok events=5 got=2 back=1 held=1 posted=0\n",
+    )
 }
 
 #[test]
@@ -64,7 +74,10 @@ fn lines_are_bytes_and_the_last_may_lack_its_end(rt: HostRuntime) -> Result<(), 
         ("", "ok events=0 got=0 back=0 held=0 posted=0\n"),
         ("look", "ok events=1 got=0 back=0 held=0 posted=0\n"),
         ("look\nlook", "ok events=2 got=0 back=0 held=0 posted=0\n"),
-        ("win 00 000 0015", "ok events=1 got=4 back=0 held=4 posted=0\n"),
+        (
+            "win 00 000 0015",
+            "ok events=1 got=4 back=0 held=4 posted=0\n",
+        ),
         ("look\r\n", "line 1 refused 1\n"),
         ("look \n", "line 1 refused 1\n"),
         (" look\n", "line 1 refused 1\n"),
@@ -86,7 +99,12 @@ fn a_setup_is_refused_by_its_first_cause(rt: HostRuntime) -> Result<(), Fail> {
         (10_241, Some(7), 0, "setup refused 2\n"),
         (10_240, Some(7), 0, "setup refused 4\n"),
         (10_240, None, 0, "setup refused 5\n"),
-        (10_240, None, 64, "ok events=1 got=0 back=0 held=0 posted=0\n"),
+        (
+            10_240,
+            None,
+            64,
+            "ok events=1 got=0 back=0 held=0 posted=0\n",
+        ),
     ] {
         let options = CheckOptions {
             tags,
@@ -106,12 +124,22 @@ fn a_mask_has_64_bits(rt: HostRuntime) -> Result<(), Fail> {
         callers: 1,
     };
     let all = "win 0 0 18446744073709551615\ngive 0 0 9223372036854775808\n";
-    expect(&rt, &options, all, "ok events=2 got=64 back=1 held=63 posted=0\n")
+    expect(
+        &rt,
+        &options,
+        all,
+        "ok events=2 got=64 back=1 held=63 posted=0\n",
+    )
 }
 
 #[test]
 fn posted_tags_are_taken(rt: HostRuntime) -> Result<(), Fail> {
     let handed_over = "win 0 0 1\npost 0 0\ntake 1 0\ngive 1 0 1\nwin 1 0 2\npost 1 1\n";
-    expect(&rt, &options(2), handed_over, "ok events=6 got=2 back=1 held=0 posted=1\n")?;
+    expect(
+        &rt,
+        &options(2),
+        handed_over,
+        "ok events=6 got=2 back=1 held=0 posted=1\n",
+    )?;
     expect(&rt, &options(1), "take 0 0\n", "event 1 refused 5\n")
 }

@@ -23,7 +23,7 @@ loop-word-preserved g c =
         steps = begun.steps ++ visit.steps;
         added = g.met.P.Port.adds_more c.args.port.now c.loop-word.port c.visit_for_run.new.port begun.steps visit.steps begun.added visit.added;
         holds = batch_further l n all (numbers (word + 1) c.args.end) word begun.steps visit.steps
-          (subst (λ is. IsBatchBegun l n all is begun.steps) (numbers-cons word c.args.end c.loop-word-test.true) begun.holds) none;
+            (subst (λ is. IsBatchBegun l n all is begun.steps) (numbers-cons word c.args.end c.loop-word-test.true) begun.holds) none;
       };
     }
 
@@ -34,7 +34,7 @@ returns-clause-search g c =
       steps = begun.steps;
       added = begun.added;
       holds = batch_ends c.args.layout c.args.n (numbers c.args.from c.args.end) (numbers c.loop-word.word c.args.end) begun.steps
-        (numbers-none c.loop-word.word c.args.end c.loop-word-test.false) begun.holds;
+          (numbers-none c.loop-word.word c.args.end c.loop-word-test.false) begun.holds;
     }
 
 pub returns-in-Some-clause-search : goal.returns-in-Some-clause-search
@@ -47,5 +47,5 @@ returns-in-Some-clause-search g c =
       steps = begun.steps ++ visit.steps;
       added = g.met.P.Port.adds_more c.args.port.now c.loop-word.port c.visit_for_run.new.port begun.steps visit.steps begun.added visit.added;
       holds = subst (λ (tag : ℕ). IsBatchSearch l n all (begun.steps ++ visit.steps) (Some (tag, bits))) (sym c.tag_at.ensures.value)
-        (begun.holds visit.steps won (subst (λ is. IsBatchSearch l n is visit.steps won) (sym (numbers-cons word c.args.end c.loop-word-test.true)) last));
+          (begun.holds visit.steps won (subst (λ is. IsBatchSearch l n is visit.steps won) (sym (numbers-cons word c.args.end c.loop-word-test.true)) last));
     }

@@ -44,5 +44,5 @@ returns-clause-visit g c =
       steps = a.steps ++ step ∷ [];
       added = g.met.P.Port.adds_more c.args.port.now c.sweep_and_look-found.new.port c.claim_run.new.port a.steps (step ∷ []) a.added claim.3;
       holds = subst (λ (bits : ℕ). IsBatchVisit c.args.word d c.args.n (a.steps ++ step ∷ []) (Some (c.in_ok-place.place, bits))) (sym claim.2)
-        (run_taken claim.0 a.holds (record { first = first; fits = fits }) claim.1);
+          (run_taken claim.0 a.holds (record { first = first; fits = fits }) claim.1);
     }

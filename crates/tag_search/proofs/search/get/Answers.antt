@@ -17,13 +17,13 @@ returns-clause-steps g c =
     let same : c.layout-layout.result ≡ l = c.layout-layout.ensures.value in
     let hint : ℕ = reduced l.depth c.args.hint.now.at in
     let from : c.reduced-from.result ≡ hint =
-        c.reduced-from.ensures ∙ ap (λ (d : ℕ). reduced d c.args.hint.now.at) (c.depth.ensures.value ∙ ap (λ (x : Layout). x.depth) same) in
+    c.reduced-from.ensures ∙ ap (λ (d : ℕ). reduced d c.args.hint.now.at) (c.depth.ensures.value ∙ ap (λ (x : Layout). x.depth) same) in
     let first : scan.first ≡ word_of l hint = c.plain.ensures.first.0 ∙ (λ z. word_of (same z) (from z)) in
     let below : word_of l hint ≤ words l = subst (λ (x : ℕ). x ≤ words l) first (subst (λ (x : Layout). scan.first ≤ words x) same c.plain.ensures.first.1) in
     let narrow : l.shift ≤ 6 = subst (λ (x : Layout). x.shift ≤ 6) same c.plain.ensures.shift in
     adds_weaker (λ p xs q. g.P.Port.adds p xs q) c.args.port.now c.search-answer.new.port
-        (λ xs. IsSearch scan.layout (visits scan.layout scan.first (reach_of scan)) xs answer)
-        (IsGet l (plain_visits l c.args.hint.now.round_robin hint) answer)
-        (get_at scan.layout l scan.first (word_of l hint) (reach_of scan) (plain_reach l c.args.hint.now.round_robin hint) (c.plain.ensures.layout ∙ same) first
-            (c.plain.ensures.reach ∙ (λ z. plain_reach (same z) c.args.hint.now.round_robin (from z))) narrow below (plain_within l c.args.hint.now.round_robin hint) answer)
-        c.search-answer.ensures.search
+    (λ xs. IsSearch scan.layout (visits scan.layout scan.first (reach_of scan)) xs answer)
+    (IsGet l (plain_visits l c.args.hint.now.round_robin hint) answer)
+    (get_at scan.layout l scan.first (word_of l hint) (reach_of scan) (plain_reach l c.args.hint.now.round_robin hint) (c.plain.ensures.layout ∙ same) first
+    (c.plain.ensures.reach ∙ (λ z. plain_reach (same z) c.args.hint.now.round_robin (from z))) narrow below (plain_within l c.args.hint.now.round_robin hint) answer)
+    c.search-answer.ensures.search

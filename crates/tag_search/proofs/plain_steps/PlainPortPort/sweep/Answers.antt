@@ -26,9 +26,12 @@ returns-clause-steps c =
     let within' : i < length p.aside = rw c.self.invariant.1 near in
     let is : found ≡ get_or p.word i 0 = get_or_read p.word i found within c.index_mut-2.ensures.value 0 in
     let is' : mask ≡ get_or p.aside i 0 = get_or_read p.aside i mask within' c.index-mask.ensures 0 in
-    let fits : mask < 2 ^ 64 = omega arith in
-    (mask, c.if-mask-eq0.false, rw (← c.self.view_is) (record {
-      steps = Swap i mask ∷ Spill i mask found ∷ [];
-      added = ran_sweep p i mask found within within' is' is;
-      holds = spilled c.if-mask-eq0.false fits;
-    }))
+    let fits : mask < 2 ^ 64 = omega arith in (
+      mask,
+      c.if-mask-eq0.false,
+      rw (← c.self.view_is) (record {
+        steps = Swap i mask ∷ Spill i mask found ∷ [];
+        added = ran_sweep p i mask found within within' is' is;
+        holds = spilled c.if-mask-eq0.false fits;
+      }),
+    )

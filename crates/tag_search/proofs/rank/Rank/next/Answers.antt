@@ -21,7 +21,7 @@ pub returns-in_err-place-clause-next : goal.returns-in_err-place-clause-next
 returns-in_err-place-clause-next c =
     let r = c.args.self.now in let Taken : ℕ → Type 0 = λ k. bit_at c.args.word k ≡ 1 in
     rw c.from_residual.ensures (All-append Taken (numbers r.from r.limit) (numbers 0 r.then)
-        (all_numbers Taken r.from r.limit c.in_default.ensures) (all_numbers Taken 0 r.then c.in_err-place.ensures))
+    (all_numbers Taken r.from r.limit c.in_default.ensures) (all_numbers Taken 0 r.then c.in_err-place.ensures))
 
 pub returns-clause-next : goal.returns-clause-next
 returns-clause-next c =
@@ -32,8 +32,8 @@ returns-clause-next c =
     record {
       before = front ++ numbers 0 p;
       order =
-        ap (λ (xs : List ℕ). front ++ xs) (split ∙ ap (λ (xs : List ℕ). numbers 0 p ++ p ∷ xs) (sym (append-nil back)))
-            ∙ sym (append_assoc front (numbers 0 p) (p ∷ (back ++ [])));
+          ap (λ (xs : List ℕ). front ++ xs) (split ∙ ap (λ (xs : List ℕ). numbers 0 p ++ p ∷ xs) (sym (append-nil back)))
+          ∙ sym (append_assoc front (numbers 0 p) (p ∷ (back ++ [])));
       taken = All-append Taken front (numbers 0 p) (all_numbers Taken r.from r.limit c.in_default.ensures) (all_numbers Taken 0 p is.first);
       clear = is.clear;
     }

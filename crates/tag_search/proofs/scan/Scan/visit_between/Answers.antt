@@ -22,7 +22,7 @@ returns-in-Some-clause-search g c =
       steps = begun.steps ++ visit.steps;
       added = g.met.P.Port.adds_more c.args.port.now c.loop-word.port c.visit.new.port begun.steps visit.steps begun.added visit.added;
       holds = subst (λ (tag : ℕ). IsSearch l (map of (numbers c.args.from c.args.end)) (begun.steps ++ visit.steps) (Some tag)) (sym c.tag_at.ensures.value)
-        (begun.holds visit.steps (Some (tag_at l word c.in-Some.place)) (subst (λ vs. IsSearch l vs visit.steps (Some (tag_at l word c.in-Some.place))) (sym left) last));
+          (begun.holds visit.steps (Some (tag_at l word c.in-Some.place)) (subst (λ vs. IsSearch l vs visit.steps (Some (tag_at l word c.in-Some.place))) (sym left) last));
     }
 
 pub loop-word-preserved : goal.loop-word-preserved
@@ -32,7 +32,7 @@ loop-word-preserved g c =
     let visit = c.visit.ensures.visit in
     let left : map of (numbers word c.args.end) ≡ of word ∷ map of (numbers (word + 1) c.args.end) = ap (map of) (numbers-cons word c.args.end c.loop-word-test.true) in
     let none : IsVisit word (of word).rank visit.steps None = subst (λ answer. IsVisit word (of word).rank visit.steps answer) c.in_default.is
-        (subst (λ rank. IsVisit word rank visit.steps c.visit.result) c.rank.ensures.rank visit.holds) in
+    (subst (λ rank. IsVisit word rank visit.steps c.visit.result) c.rank.ensures.rank visit.holds) in
     record {
       port = c.visit.ensures.port;
       sizes = c.visit.ensures.sizes ∙ c.loop-word.invariant.sizes;
@@ -41,7 +41,7 @@ loop-word-preserved g c =
         steps = begun.steps ++ visit.steps;
         added = g.met.P.Port.adds_more c.args.port.now c.loop-word.port c.visit.new.port begun.steps visit.steps begun.added visit.added;
         holds = search_further l (map of (numbers c.args.from c.args.end)) (map of (numbers (word + 1) c.args.end)) (of word) begun.steps visit.steps
-          (subst (λ vs. IsSearchBegun l (map of (numbers c.args.from c.args.end)) vs begun.steps) left begun.holds) none;
+            (subst (λ vs. IsSearchBegun l (map of (numbers c.args.from c.args.end)) vs begun.steps) left begun.holds) none;
       };
     }
 
@@ -53,5 +53,5 @@ returns-clause-search g c =
       steps = begun.steps;
       added = begun.added;
       holds = search_over scan.layout (map of (numbers c.args.from c.args.end)) (map of (numbers word c.args.end)) begun.steps
-        (ap (map of) (numbers-none word c.args.end c.loop-word-test.false)) begun.holds;
+          (ap (map of) (numbers-none word c.args.end c.loop-word-test.false)) begun.holds;
     }
