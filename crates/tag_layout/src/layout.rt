@@ -118,6 +118,7 @@ impl Layout {
         requires { tag < self.depth }
         ensures value { result ≡ place_of self tag }
         ensures within { result < word_depth self (word_of self tag) }
+        ensures bound { result < 64 }
         ensures back { tag_at self (word_of self tag) result ≡ tag }
     {
         tag & ((1 << self.shift) - 1)

@@ -1,1 +1,4 @@
-pub mod Facts
+pub mod RunFacts
+pub mod MaskFacts
+pub mod BalanceFacts
+pub mod KeptFacts

@@ -1,11 +1,12 @@
 -- A world as it is kept: places in the order of the tags, and counts in the order of the callers.
-use Rattle.std.specs.Prelude.{◌≡◌, ℕ, ◌+◌, ◌<◌, ◌≤◌, List, length, slice_index, slice_index_or}
+use Rattle.std.specs.Prelude.{◌≡◌, ℕ, ◌+◌, ◌<◌, ◌≤◌, List, IsTrue, length, slice_index, slice_index_or}
 use Rattle.tag_layout.specs.Layout.{Layout}
 use Rattle.tag_model.specs.declared.place.Place.{Place}
 use Rattle.tag_model.specs.declared.place.Place.TheVariants.{Free}
 use Rattle.tag_model.specs.declared.event.Event.{Event}
 use Rattle.tag_model.specs.declared.world.TheConstants.{MAX_CALLERS, MOST_WON}
-use Rattle.tag_model.specs.World.{World, after, MayHappen}
+use Rattle.tag_model.specs.Event.{names, Needs}
+use Rattle.tag_model.specs.World.{World, place_after, after, MayHappen}
 use Rattle.tag_model.specs.Runs.{after_all, MayRun}
 use Rattle.tag_model.specs.Totals.{Balances}
 
@@ -53,3 +54,18 @@ pub record Ran (old : KeptWorld) (events : List Event) (new : KeptWorld) : Type 
   pub setup : SameSetup old new
   pub could : MayRun old.layout (callers_of old) (world_of old) events
   pub world : world_of new ≡ after_all old.layout events (world_of old)
+
+-- each tag that the event names is where the event needs it
+abbrev pub AreAccepted : Layout → Event → List Place → Type 0
+AreAccepted l event places =
+    (tag : ℕ) → tag < l.depth → IsTrue (names l event tag) → Needs event (slice_index_or places tag Free)
+
+-- some tag that the event names isn't where the event needs it
+abbrev pub MissesOne : Layout → Event → List Place → Type 0
+MissesOne l event places =
+    (tag : ℕ) × (tag < l.depth) × IsTrue (names l event tag) × ¬ (Needs event (slice_index_or places tag Free))
+
+-- each tag is where the event brings it, or where it was
+pub record MovesTags (l : Layout) (event : Event) (old new : List Place) : Type 0 where
+  pub tags : length new ≡ length old
+  pub moved : (tag : ℕ) → tag < l.depth → slice_index_or new tag Free ≡ place_after l event tag (slice_index_or old tag Free)

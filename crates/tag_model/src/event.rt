@@ -1,4 +1,12 @@
 //! What can happen to tags, and why it can't.
+ghost use Rattle.std.specs.Prelude.{◌≡◌, ℕ, ◌<◌, ◌≤◌, ◌↔◌, IsTrue};
+ghost use Rattle.tag_model.specs.Event.{caller_of, names, IsInLayout, Needs, brings, won_by, back_by};
+ghost use Rattle.tag_model.specs.World.{missing_of};
+
+use crate::masks::{is_in_mask, is_mask_of, tags_of};
+use crate::place::Place;
+use std::ops::Range;
+use tag_layout::Layout;
 
 /// One change that happened, by a caller. A mask has a 1 for each tag of its word that the event names.
 #[derive(Clone, Copy, Debug, PartialEq, Eq)]
@@ -36,4 +44,137 @@ pub enum EventFault {
     NotHeld,
     /// It takes a tag that isn't posted.
     NotPosted,
+}
+
+impl Event {
+    /// Who makes the event. A look is anybody's, so the first caller's.
+    pub(crate) fn caller(self) -> u32
+        ensures { result ≡ caller_of self }
+    {
+        match self {
+            Event::Look => 0,
+            Event::Win(caller, _, _) => caller,
+            Event::Put(caller, _) => caller,
+            Event::Give(caller, _, _) => caller,
+            Event::Sweep(caller, _) => caller,
+            Event::Spill(caller, _) => caller,
+            Event::Post(caller, _) => caller,
+            Event::Take(caller, _) => caller,
+        }
+    }
+
+    /// How many tags its caller wins by it.
+    pub(crate) fn won(self) -> u32
+        ensures { result ≡ won_by self }
+    {
+        match self {
+            Event::Win(_, _, mask) => mask.count_ones(),
+            _ => 0,
+        }
+    }
+
+    /// How many tags its caller gives back by it.
+    pub(crate) fn back(self) -> u32
+        ensures { result ≡ back_by self }
+    {
+        match self {
+            Event::Put(_, _) => 1,
+            Event::Give(_, _, mask) => mask.count_ones(),
+            _ => 0,
+        }
+    }
+
+    /// Whether the layout has all tags, words and bits that it names.
+    pub(crate) fn is_in(self, layout: Layout) -> bool
+        ensures { IsTrue result ↔ IsInLayout layout self }
+    {
+        match self {
+            Event::Look => true,
+            Event::Win(_, word, mask) => is_mask_of(layout, word, mask),
+            Event::Put(_, tag) => tag < layout.depth(),
+            Event::Give(_, word, mask) => is_mask_of(layout, word, mask),
+            Event::Sweep(_, word) => word < layout.words(),
+            Event::Spill(_, word) => word < layout.words(),
+            Event::Post(_, tag) => tag < layout.depth(),
+            Event::Take(_, tag) => tag < layout.depth(),
+        }
+    }
+
+    /// Tags among which are all that it names.
+    pub(crate) fn span(self, layout: Layout) -> Range<u32>
+        requires { IsInLayout layout self }
+        ensures bound { (result.start ≤ result.end) × (result.end ≤ layout.depth) }
+        ensures named {
+            (tag : ℕ) → tag < layout.depth → IsTrue (names layout self tag) → (result.start ≤ tag) × (tag < result.end)
+        }
+    {
+        match self {
+            Event::Look => 0..0,
+            Event::Win(_, word, _) => tags_of(layout, word),
+            Event::Put(_, tag) => tag..tag + 1,
+            Event::Give(_, word, _) => tags_of(layout, word),
+            Event::Sweep(_, word) => tags_of(layout, word),
+            Event::Spill(_, word) => tags_of(layout, word),
+            Event::Post(_, tag) => tag..tag + 1,
+            Event::Take(_, tag) => tag..tag + 1,
+        }
+    }
+
+    /// Whether it names the tag.
+    pub(crate) fn names(self, layout: Layout, tag: u32) -> bool
+        requires { tag < layout.depth }
+        ensures { result ≡ names layout self tag }
+    {
+        match self {
+            Event::Look => false,
+            Event::Win(_, word, mask) => is_in_mask(layout, word, mask, tag),
+            Event::Put(_, named) => tag == named,
+            Event::Give(_, word, mask) => is_in_mask(layout, word, mask, tag),
+            Event::Sweep(_, word) => layout.word_of(tag) == word,
+            Event::Spill(_, word) => layout.word_of(tag) == word,
+            Event::Post(_, named) => tag == named,
+            Event::Take(_, named) => tag == named,
+        }
+    }
+
+    /// Whether a tag that it names may be there.
+    pub(crate) fn accepts(self, place: Place) -> bool
+        ensures { IsTrue result ↔ Needs self place }
+    {
+        match self {
+            Event::Look | Event::Sweep(_, _) | Event::Spill(_, _) => true,
+            Event::Win(_, _, _) => place == Place::Free,
+            Event::Put(caller, _) => place == Place::Held(caller),
+            Event::Give(caller, _, _) => place == Place::Held(caller),
+            Event::Post(caller, _) => place == Place::Held(caller),
+            Event::Take(_, _) => place == Place::Posted,
+        }
+    }
+
+    /// Where it brings a tag that it names.
+    pub(crate) fn brings(self, place: Place) -> Place
+        ensures { result ≡ brings self place }
+    {
+        match self {
+            Event::Look => place,
+            Event::Win(caller, _, _) => Place::Held(caller),
+            Event::Put(_, _) => Place::Aside,
+            Event::Give(_, _, _) => Place::Free,
+            Event::Sweep(caller, _) => place.swept_by(caller),
+            Event::Spill(caller, _) => place.spilled_by(caller),
+            Event::Post(_, _) => Place::Posted,
+            Event::Take(caller, _) => Place::Held(caller),
+        }
+    }
+
+    /// What it is called that a tag isn't where the event needs it.
+    pub(crate) fn missing(self) -> EventFault
+        ensures { result ≡ missing_of self }
+    {
+        match self {
+            Event::Win(_, _, _) => EventFault::NotFree,
+            Event::Take(_, _) => EventFault::NotPosted,
+            _ => EventFault::NotHeld,
+        }
+    }
 }

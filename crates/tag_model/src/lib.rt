@@ -3,6 +3,7 @@
 
 mod event;
 mod laws;
+mod masks;
 mod place;
 mod totals;
 mod world;

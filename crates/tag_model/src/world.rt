@@ -1,10 +1,10 @@
 //! A world: where each tag is, and what each caller has won and given back.
-ghost use Rattle.std.specs.Prelude.{◌≡◌, ◌⊎◌, ℕ, ◌<◌, ◌≤◌, ◌↔◌, IfOk, IfErr, OnOk, OnErr, IsOk, MatchResult, take};
-ghost use Rattle.tag_layout.specs.Layout.{Layout as Sizes};
-ghost use Rattle.tag_model.specs.World.{opened, place_after, MayHappen, IsFirstFault};
+ghost use Rattle.std.specs.Prelude.{◌≡◌, ◌⊎◌, ℕ, ◌<◌, ◌≤◌, ◌↔◌, IfOk, IfErr, OnOk, OnErr, IsOk, MatchBool, List, length, take, slice_index, slice_set, ◌+◌, ◌^◌, sum, count_by, Bool};
+ghost use Rattle.tag_model.specs.Event.{IsInLayout};
+ghost use Rattle.tag_model.specs.World.{opened, MayHappen, IsFirstFault};
 ghost use Rattle.tag_model.specs.Runs.{after_all, MayRun, StopsAt};
-ghost use Rattle.tag_model.specs.Totals.{AreTotals, Balances};
-ghost use Rattle.tag_model.specs.Kept.{callers_of, world_of, SameSetup, Happens, Ran};
+ghost use Rattle.tag_model.specs.Totals.{is_held, is_posted, AreTotals};
+ghost use Rattle.tag_model.specs.Kept.{callers_of, world_of, SameSetup, Happens, Ran, AreAccepted, MissesOne, MovesTags};
 
 use crate::event::{Event, EventFault};
 use crate::place::Place;
@@ -88,4 +88,141 @@ impl World {
     {
         self.places[tag as usize]
     }
+
+    /// The sums over all callers and tags.
+    pub fn totals(&self) -> Totals
+        ensures sums { AreTotals self.now.layout (callers_of self.now) (world_of self.now) result }
+        ensures balance { result.got ≡ result.back + result.held + result.posted }
+    {
+        Totals {
+            got: sum_of(&self.won),
+            back: sum_of(&self.back),
+            held: held_of(&self.places),
+            posted: posted_of(&self.places),
+        }
+    }
+
+    /// One event. A fault leaves the world as it was.
+    pub fn apply(&mut self, event: Event) -> Result<(), EventFault>
+        ensures ok { OnOk result (Happens self.old event self.new) }
+        ensures succeeds { MayHappen self.old.layout (callers_of self.old) (world_of self.old) event → IsOk result }
+
+        // Which fault it is: the first of its causes.
+        ensures fault { IfErr result (IsFirstFault self.old.layout (callers_of self.old) (world_of self.old) event) }
+        ensures err { OnErr result (self.new ≡ self.old) }
+    {
+        self.test(event)?;
+        self.change(event);
+        Ok(())
+    }
+
+    /// Events one after another, up to the first that can't happen: its place in the list, from 0, and its fault.
+    /// The world then stands after the events before it.
+    pub fn run(&mut self, events: &[Event]) -> Result<Totals, (usize, EventFault)>
+        ensures ok { OnOk result (Ran self.old events.now self.new) }
+        ensures totals { IfOk result (AreTotals self.new.layout (callers_of self.new) (world_of self.new)) }
+        ensures succeeds { MayRun self.old.layout (callers_of self.old) (world_of self.old) events.now → IsOk result }
+        ensures fault {
+            IfErr result (λ e. StopsAt self.old.layout (callers_of self.old) (world_of self.old) events.now e.0 e.1)
+        }
+        ensures stopped { IfErr result (λ e. Ran self.old (take e.0 events.now) self.new) }
+    {
+        for (place, event) in events.iter().enumerate() {
+            if let Err(fault) = self.apply(*event) {
+                return Err((place, fault));
+            }
+        }
+        Ok(self.totals())
+    }
+
+    // The first cause for which the event can't happen, if there is one.
+    fn test(&self, event: Event) -> Result<(), EventFault>
+        ensures ok { OnOk result (MayHappen self.now.layout (callers_of self.now) (world_of self.now) event) }
+        ensures fault { IfErr result (IsFirstFault self.now.layout (callers_of self.now) (world_of self.now) event) }
+    {
+        if !event.is_in(self.layout) {
+            return Err(EventFault::NoSuchTag);
+        }
+        let caller = event.caller() as usize;
+        if caller >= self.won.len() {
+            return Err(EventFault::NoSuchCaller);
+        }
+        if self.won[caller] + u64::from(event.won()) > MOST_WON {
+            return Err(EventFault::Spent);
+        }
+        if are_accepted(&self.places, self.layout, event) {
+            Ok(())
+        } else {
+            Err(event.missing())
+        }
+    }
+
+    fn change(&mut self, event: Event)
+        requires { MayHappen self.old.layout (callers_of self.old) (world_of self.old) event }
+        ensures { Happens self.old event self.new }
+    {
+        move_tags(&mut self.places, self.layout, event);
+        add_at(&mut self.won, event.caller(), event.won());
+        add_at(&mut self.back, event.caller(), event.back());
+    }
+}
+
+// Whether each tag that the event names is where the event needs it.
+fn are_accepted(places: &[Place], layout: Layout, event: Event) -> bool
+    requires tags { length places.now ≡ layout.depth }
+    requires within { IsInLayout layout event }
+    ensures { MatchBool result (AreAccepted layout event places.now) (MissesOne layout event places.now) }
+{
+    let span = event.span(layout);
+    for tag in span.start..span.end {
+        if event.names(layout, tag) && !event.accepts(places[tag as usize]) {
+            return false;
+        }
+    }
+    true
+}
+
+// Brings each tag that the event names to its new place.
+fn move_tags(places: &mut [Place], layout: Layout, event: Event)
+    requires tags { length places.old ≡ layout.depth }
+    requires within { IsInLayout layout event }
+    ensures { MovesTags layout event places.old places.new }
+{
+    let span = event.span(layout);
+    for tag in span.start..span.end {
+        if event.names(layout, tag) {
+            let at = tag as usize;
+            places[at] = event.brings(places[at]);
+        }
+    }
+}
+
+// More at one caller's count.
+fn add_at(counts: &mut [u64], caller: u32, more: u32)
+    requires caller { caller < length counts.old }
+    requires room { slice_index counts.old caller + more < 2 ^ 64 }
+    ensures { counts.new ≡ slice_set counts.old caller (slice_index counts.old caller + more) }
+{
+    let at = caller as usize;
+    let count = counts[at] + u64::from(more);
+    counts[at] = count;
+}
+
+fn sum_of(counts: &[u64]) -> u64
+    requires { sum counts.now < 2 ^ 64 }
+    ensures { result ≡ sum counts.now }
+{
+    counts.iter().sum()
+}
+
+fn held_of(places: &[Place]) -> u64
+    ensures { result ≡ count_by is_held places.now }
+{
+    places.iter().filter(|place| place.is_held()).count() as u64
+}
+
+fn posted_of(places: &[Place]) -> u64
+    ensures { result ≡ count_by is_posted places.now }
+{
+    places.iter().filter(|place| place.is_posted()).count() as u64
 }

@@ -1,7 +1,7 @@
 -- The low bits of a tag are its place.
 use Rattle.std.proofs.Common.{◌≡◌, ℕ, ◌+◌, ◌-◌, ◌*◌, ◌/◌, ◌%◌, ◌^◌, ◌<◌, ◌≤◌, bit_and, min, arith, refl, sym, ap, ◌∙◌, subst}
 use Rattle.tag_layout.specs.Layout.{Layout, word_bits, words, word_of, place_of, tag_at, word_depth}
-use Rattle.tag_layout.proofs.PlaceFacts.{low_bits, place_of-below, tag_at-back}
+use Rattle.tag_layout.proofs.PlaceFacts.{word_bits-le, low_bits, place_of-below, tag_at-back}
 use Rattle.tag_layout.proofs.layout.Layout.place_of.Goals as goal
 
 pub returns-clause-value : goal.returns-clause-value
@@ -13,3 +13,8 @@ returns-clause-within c =
 
 pub returns-clause-back : goal.returns-clause-back
 returns-clause-back c = ap (tag_at c.args.self (word_of c.args.self c.args.tag)) (returns-clause-value c) ∙ tag_at-back c.args.self c.args.tag
+
+pub returns-clause-bound : goal.returns-clause-bound
+returns-clause-bound c =
+    let below = returns-clause-within c in
+    let few = word_bits-le c.args.self (subst (λ (l : Layout). l.shift ≤ 6) c.self.view_is c.self.invariant.1) in omega arith
