@@ -4,25 +4,13 @@ use Rattle.tag_layout.specs.Layout.{Layout}
 use Rattle.tag_model.specs.declared.event.Event.{Event}
 use Rattle.tag_model.specs.Event.{caller_of, won_by, back_by}
 use Rattle.tag_model.specs.World.{plus_at}
+use Rattle.tag_model.proofs.HistoryFacts.{plus_at-here, plus_at-else, plus_at-none}
 use Rattle.tag_core.specs.declared.step.Step.{Step}
 use Rattle.tag_core.specs.declared.step.Step.TheVariants.{Word, Post, Take}
 use Rattle.tag_core.specs.declared.word_step.WordStep.{WordStep}
 use Rattle.tag_core.specs.declared.word_step.WordStep.TheVariants.{Look, LookAside, Claimed, Give, Put, Swap, Spill}
 use Rattle.tag_core.specs.Histories.{History, event_of, steps_by}
 use Rattle.tag_core.specs.Records.{held_after, swept_after}
-
-pub plus_here : (g : ℕ → ℕ) (c n : ℕ) → plus_at c n g c ≡ g c + n
-plus_here g c n = ap (λ (b : Bool). g c + cond b n 0) (eq-eqb c c refl)
-
-pub plus_else : (g : ℕ → ℕ) (c n a : ℕ) → a ≢ c → plus_at c n g a ≡ g a
-plus_else g c n a far = ap (λ (b : Bool). g a + cond b n 0) (ne_eqb a c far) ∙ omega arith
-
-plus_none : (g : ℕ → ℕ) (c a : ℕ) → plus_at c 0 g a ≡ g a
-plus_none g c a = none_of (nat_eq a c)
-  where
-    none_of : (b : Bool) → g a + cond b 0 0 ≡ g a
-    none_of true = omega arith
-    none_of false = omega arith
 
 module _ (c : ℕ) where
   -- an event of c's is c's, or counts nothing
@@ -31,46 +19,46 @@ module _ (c : ℕ) where
 
   none_here : (e : Event) → won_by e ≡ 0 → back_by e ≡ 0 → Own e
   none_here e w b g = (
-    ap (λ (n : ℕ). plus_at (caller_of e) n g c) w ∙ plus_none g (caller_of e) c ∙ (let z : g c ≡ g c + 0 = omega arith in z) ∙ ap (λ (n : ℕ). g c + n) (sym w),
-    ap (λ (n : ℕ). plus_at (caller_of e) n g c) b ∙ plus_none g (caller_of e) c ∙ (let z : g c ≡ g c + 0 = omega arith in z) ∙ ap (λ (n : ℕ). g c + n) (sym b),
+    ap (λ (n : ℕ). plus_at (caller_of e) n g c) w ∙ plus_at-none g (caller_of e) c ∙ (let z : g c ≡ g c + 0 = omega arith in z) ∙ ap (λ (n : ℕ). g c + n) (sym w),
+    ap (λ (n : ℕ). plus_at (caller_of e) n g c) b ∙ plus_at-none g (caller_of e) c ∙ (let z : g c ≡ g c + 0 = omega arith in z) ∙ ap (λ (n : ℕ). g c + n) (sym b),
   )
 
   own_here : (e : Event) → caller_of e ≡ c → Own e
-  own_here e is g = (ap (λ (n : ℕ). plus_at n (won_by e) g c) is ∙ plus_here g c (won_by e), ap (λ (n : ℕ). plus_at n (back_by e) g c) is ∙ plus_here g c (back_by e))
+  own_here e is g = (ap (λ (n : ℕ). plus_at n (won_by e) g c) is ∙ plus_at-here g c (won_by e), ap (λ (n : ℕ). plus_at n (back_by e) g c) is ∙ plus_at-here g c (back_by e))
 
   abbrev Far : Event → Type 0
   Far e = (a : ℕ) → a ≢ c → (g : ℕ → ℕ) → (plus_at (caller_of e) (won_by e) g a ≡ g a) × (plus_at (caller_of e) (back_by e) g a ≡ g a)
 
   none_far : (e : Event) → won_by e ≡ 0 → back_by e ≡ 0 → Far e
-  none_far e w b a far g = (ap (λ (n : ℕ). plus_at (caller_of e) n g a) w ∙ plus_none g (caller_of e) a, ap (λ (n : ℕ). plus_at (caller_of e) n g a) b ∙ plus_none g (caller_of e) a)
+  none_far e w b a far g = (ap (λ (n : ℕ). plus_at (caller_of e) n g a) w ∙ plus_at-none g (caller_of e) a, ap (λ (n : ℕ). plus_at (caller_of e) n g a) b ∙ plus_at-none g (caller_of e) a)
 
   own_far : (e : Event) → caller_of e ≡ c → Far e
-  own_far e is a far g = (ap (λ (n : ℕ). plus_at n (won_by e) g a) is ∙ plus_else g c (won_by e) a far, ap (λ (n : ℕ). plus_at n (back_by e) g a) is ∙ plus_else g c (back_by e) a far)
+  own_far e is a far g = (ap (λ (n : ℕ). plus_at n (won_by e) g a) is ∙ plus_at-else g c (won_by e) a far, ap (λ (n : ℕ). plus_at n (back_by e) g a) is ∙ plus_at-else g c (back_by e) a far)
 
 module _ {R : Type 0} (l : Layout) (c : ℕ) where
   pub own : (st : Step R) → Own c (event_of l c st)
-  own (Word (Look i f)) = none_here c _ refl refl
-  own (Word (LookAside i f)) = none_here c _ refl refl
-  own (Word (Claimed i m f)) = own_here c _ refl
-  own (Word (Give i m f)) = own_here c _ refl
-  own (Word (Put i m f)) = own_here c _ refl
-  own (Word (Swap i f)) = own_here c _ refl
-  own (Word (Spill i m f)) = own_here c _ refl
-  own (Post t x) = own_here c _ refl
-  own (Take t zero x) = none_here c _ refl refl
-  own (Take t (suc f) x) = own_here c _ refl
+  own (Word (Look i f)) = none_here c (event_of {R = R} l c (Word (Look i f))) refl refl
+  own (Word (LookAside i f)) = none_here c (event_of {R = R} l c (Word (LookAside i f))) refl refl
+  own (Word (Claimed i m f)) = own_here c (event_of {R = R} l c (Word (Claimed i m f))) refl
+  own (Word (Give i m f)) = own_here c (event_of {R = R} l c (Word (Give i m f))) refl
+  own (Word (Put i m f)) = own_here c (event_of {R = R} l c (Word (Put i m f))) refl
+  own (Word (Swap i f)) = own_here c (event_of {R = R} l c (Word (Swap i f))) refl
+  own (Word (Spill i m f)) = own_here c (event_of {R = R} l c (Word (Spill i m f))) refl
+  own (Post t x) = own_here c (event_of {R = R} l c (Post t x)) refl
+  own (Take t zero x) = none_here c (event_of {R = R} l c (Take t zero x)) refl refl
+  own (Take t (suc f) x) = own_here c (event_of {R = R} l c (Take t (suc f) x)) refl
 
   pub others : (st : Step R) → Far c (event_of l c st)
-  others (Word (Look i f)) = none_far c _ refl refl
-  others (Word (LookAside i f)) = none_far c _ refl refl
-  others (Word (Claimed i m f)) = own_far c _ refl
-  others (Word (Give i m f)) = own_far c _ refl
-  others (Word (Put i m f)) = own_far c _ refl
-  others (Word (Swap i f)) = own_far c _ refl
-  others (Word (Spill i m f)) = own_far c _ refl
-  others (Post t x) = own_far c _ refl
-  others (Take t zero x) = none_far c _ refl refl
-  others (Take t (suc f) x) = own_far c _ refl
+  others (Word (Look i f)) = none_far c (event_of {R = R} l c (Word (Look i f))) refl refl
+  others (Word (LookAside i f)) = none_far c (event_of {R = R} l c (Word (LookAside i f))) refl refl
+  others (Word (Claimed i m f)) = own_far c (event_of {R = R} l c (Word (Claimed i m f))) refl
+  others (Word (Give i m f)) = own_far c (event_of {R = R} l c (Word (Give i m f))) refl
+  others (Word (Put i m f)) = own_far c (event_of {R = R} l c (Word (Put i m f))) refl
+  others (Word (Swap i f)) = own_far c (event_of {R = R} l c (Word (Swap i f))) refl
+  others (Word (Spill i m f)) = own_far c (event_of {R = R} l c (Word (Spill i m f))) refl
+  others (Post t x) = own_far c (event_of {R = R} l c (Post t x)) refl
+  others (Take t zero x) = none_far c (event_of {R = R} l c (Take t zero x)) refl refl
+  others (Take t (suc f) x) = own_far c (event_of {R = R} l c (Take t (suc f) x)) refl
 
   pub steps_here : (st : Step R) (h : History R) → steps_by c ((c, st) ∷ h) ≡ st ∷ steps_by c h
   steps_here st h = ap (λ (b : Bool). cond b (st ∷ steps_by c h) (steps_by c h)) (eq-eqb c c refl)

@@ -6,3 +6,16 @@ pub mod Counts
 pub mod Seats
 pub mod Within
 pub mod Advance
+pub mod Owing
+pub mod Acts
+pub mod Moving
+pub mod Allowed
+pub mod Passing
+pub mod Asking
+pub mod Sweepings
+pub mod Valued
+pub mod Fronts
+pub mod Ends
+pub mod Countings
+pub mod Totalling
+pub mod Lasts

@@ -19,6 +19,7 @@ impl<R> Map<R> {
     pub fn claim(&self, caller: &mut Caller<R>, word: u32, mask: u64) -> Result<Claim, Spent>
         requires caller { IsCallerOf self.now caller.old }
         requires within { (word < words (layout_of self.now)) × IsWithin (layout_of self.now) word mask }
+        ensures caller { IsCallerOf self.now caller.new }
         ensures won { IfOk result (λ c. c.won ≡ without mask c.found) }
         ensures step { IfOk result (λ c. Adds (Word (Claimed word mask c.found)) caller.old caller.new) }
 

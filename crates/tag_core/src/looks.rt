@@ -10,12 +10,21 @@ use crate::caller::Caller;
 use crate::map::Map;
 use crate::plays::{Looking, LookingAside};
 use crate::spots::{aside_spot, word_spot};
+use tag_layout::Layout;
 
 impl<R> Map<R> {
+    /// The numbering of its tags.
+    pub fn layout(&self) -> Layout
+        ensures { result ≡ layout_of self.now }
+    {
+        self.shape.layout
+    }
+
     /// The word: 1 is taken. Each tag that the caller holds is found taken.
     pub fn look(&self, caller: &mut Caller<R>, word: u32) -> u64
         requires caller { IsCallerOf self.now caller.old }
         requires within { word < words (layout_of self.now) }
+        ensures caller { IsCallerOf self.now caller.new }
         ensures step { Adds (Word (Look word result)) caller.old caller.new }
         ensures held { (tag : ℕ) → Holds caller.old tag → word_of (layout_of self.now) tag ≡ word
             → bit_at result (place_of (layout_of self.now) tag) ≡ 1 }
@@ -27,6 +36,7 @@ impl<R> Map<R> {
     pub fn look_aside(&self, caller: &mut Caller<R>, word: u32) -> u64
         requires caller { IsCallerOf self.now caller.old }
         requires within { word < words (layout_of self.now) }
+        ensures caller { IsCallerOf self.now caller.new }
         ensures step { Adds (Word (LookAside word result)) caller.old caller.new }
         ensures held { (tag : ℕ) → Holds caller.old tag → word_of (layout_of self.now) tag ≡ word
             → bit_at result (place_of (layout_of self.now) tag) ≡ 0 }

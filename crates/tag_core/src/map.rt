@@ -1,5 +1,5 @@
 //! A map of tags, and the rule of its table.
-ghost use Rattle.std.specs.Prelude.{◌≡◌, ◌≤◌};
+ghost use Rattle.std.specs.Prelude.{◌≡◌, ◌≤◌, [], vec_capacity};
 ghost use Rattle.tag_model.specs.declared.world.TheConstants.{MAX_CALLERS, MOST_WON};
 ghost use Rattle.tag_layout.specs.declared.layout.TheConstants.{MAX_DEPTH, MAX_SHIFT};
 ghost use Rattle.tag_core.specs.Spacing.{table_width};
@@ -29,8 +29,11 @@ pub struct Map<R> {
     pub(crate) table: Table<R, View<R>, Shape, MapRule, Global>,
     /// What it was opened with.
     pub(crate) shape: Shape,
+    /// Room for the slots when the map ends.
+    pub(crate) room: Vec<R>,
+    ghost roomy: { (room.items ≡ []) × (shape.layout.depth ≤ vec_capacity room) },
     ghost told: { table.shared.key ≡ shape },
     ghost wide: { (table.shared.table_id.words ≡ table_width shape.layout) × (table.shared.table_id.slots ≡ shape.layout.depth) },
     ghost small: { (shape.layout.depth ≤ MAX_DEPTH) × (shape.layout.shift ≤ MAX_SHIFT) },
-    ghost few: { (shape.callers ≤ MAX_CALLERS) × (shape.life ≤ MOST_WON) },
+    ghost few: { (1 ≤ shape.callers) × (shape.callers ≤ MAX_CALLERS) × (shape.life ≤ MOST_WON) },
 }

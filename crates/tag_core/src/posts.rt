@@ -14,7 +14,8 @@ impl<R> Map<R> {
     pub fn post(&self, caller: &mut Caller<R>, tag: u32)
         requires caller { IsCallerOf self.now caller.old }
         requires held { Holds caller.old tag }
-        ensures { (value : R) × (slot_of caller.old tag ≡ some value) × Adds (Post tag value) caller.old caller.new }
+        ensures caller { IsCallerOf self.now caller.new }
+        ensures step { (value : R) × (slot_of caller.old tag ≡ some value) × Adds (Post tag value) caller.old caller.new }
     {
         let word = caller.layout.word_of(tag) as usize;
         let bit = 1u64 << caller.layout.place_of(tag);
@@ -27,6 +28,7 @@ impl<R> Map<R> {
     pub fn take(&self, caller: &mut Caller<R>, tag: u32) -> bool
         requires caller { IsCallerOf self.now caller.old }
         requires within { tag < (layout_of self.now).depth }
+        ensures caller { IsCallerOf self.now caller.new }
         ensures won { IsTrue result → (value : R) × (slot_of caller.new tag ≡ some value) × Adds (Take tag 1 (Some value)) caller.old caller.new }
         ensures missed { IsFalse result → Adds (Take tag 0 None) caller.old caller.new }
     {

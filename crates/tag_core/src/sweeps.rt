@@ -15,6 +15,7 @@ impl<R> Map<R> {
     pub fn sweep(&self, caller: &mut Caller<R>, word: u32) -> bool
         requires caller { IsCallerOf self.now caller.old }
         requires within { word < words (layout_of self.now) }
+        ensures caller { IsCallerOf self.now caller.new }
         ensures none { IsFalse result → Adds (Word (Swap word 0)) caller.old caller.new }
         ensures some { IsTrue result → (mask : ℕ) × (found : ℕ) × (mask ≢ 0) × AddsTwo (Word (Swap word mask)) (Word (Spill word mask found)) caller.old caller.new }
     {
