@@ -2,3 +2,4 @@ pub mod RunFacts
 pub mod MaskFacts
 pub mod BalanceFacts
 pub mod KeptFacts
+pub mod HistoryFacts

@@ -1,0 +1,18 @@
+-- Lists whose last element is taken off.
+use Rattle.std.proofs.Common.{◌≡◌, ℕ, zero, suc, ◌+◌, ◌<◌, List, [], ◌∷◌, ◌++◌, length, get_or, All, arith, refl, subst, length-append}
+
+module _ {A : Type 0} where
+  get_front : (xs ys : List A) (k : ℕ) (d : A) → k < length xs → get_or (xs ++ ys) k d ≡ get_or xs k d
+  get_front [] ys k d h = absurd (omega arith)
+  get_front (x ∷ xs) ys zero d h = refl
+  get_front (x ∷ xs) ys (suc k) d h = get_front xs ys k d (omega arith)
+
+  get_last : (xs : List A) (x d : A) → get_or (xs ++ x ∷ []) (length xs) d ≡ x
+  get_last [] x d = refl
+  get_last (y ∷ xs) x d = get_last xs x d
+
+  pub all_front : (P : A → Type 0) (xs : List A) (x : A) → All P (xs ++ x ∷ []) → All P xs
+  all_front P xs x h k d l = subst P (get_front xs (x ∷ []) k d l) (h k d (let e = length-append xs (x ∷ []) in omega arith))
+
+  pub all_last : (P : A → Type 0) (xs : List A) (x : A) → All P (xs ++ x ∷ []) → P x
+  all_last P xs x h = subst P (get_last xs x x) (h (length xs) x (let e = length-append xs (x ∷ []) in omega arith))

@@ -1,0 +1,147 @@
+-- One step of one caller, with its slots.
+use Rattle.std.proofs.Common.{◌≡◌, ◌≢◌, ℕ, zero, suc, ◌+◌, ◌-◌, ◌*◌, ◌/◌, ◌%◌, ◌^◌, ◌<◌, ◌≤◌, ◌⊎◌, List, [], ◌∷◌, map, length, get_or, set, nat_eq, Bool, arith, refl, sym, ap, ◌∙◌, subst, ⊎_elim, inl, inr, eq-eqb}
+use mathlib.Core.Option.{some, none, some-injective, some-ne-none}
+use mathlib.Core.Option as maybe
+use mathlib.Core.Logic.{dite}
+use native.Mathlib.Decide.{ℕ_discrete}
+use lib.ListN.{get_elem?}
+use Rattle.atomic_table.specs.Table.{State, Act, Valid, carried_after, homes_after}
+use Rattle.tag_layout.specs.Layout.{Layout}
+use Rattle.tag_model.specs.declared.place.Place.{Place}
+use Rattle.tag_model.specs.declared.place.Place.TheVariants.{Free as free, Held as held, Posted as posted, Aside as aside, Sweep as sweep}
+use Rattle.tag_model.specs.declared.world.TheConstants.{MOST_WON}
+use Rattle.tag_model.specs.Event.{back_by}
+use Rattle.tag_model.specs.World.{World}
+use Rattle.tag_model.specs.Totals.{got_in, back_in, held_in, posted_in}
+use Rattle.tag_layout.proofs.SumFacts.{sum_below-none}
+use Rattle.tag_model.proofs.HistoryFacts.{back-history}
+use Rattle.tag_core.specs.declared.shape.Shape.{Shape}
+use Rattle.tag_core.specs.declared.step.Step.{Step}
+use Rattle.tag_core.specs.declared.record.Record.{Record}
+use Rattle.tag_core.specs.declared.record.View.{View}
+use Rattle.tag_core.specs.Bits.{one_if, held_bit}
+use Rattle.tag_core.specs.Histories.{event_of, events_of, opening_world, world_of, last_post}
+use Rattle.tag_core.specs.Records.{record_after, held_after, tag_bit, value_of, tags_from, Carries}
+use Rattle.tag_core.specs.Views.{alone}
+use Rattle.tag_core.specs.Rule.{SlotIs, IsKnown, IsOpening, Shown}
+use Rattle.tag_core.specs.Plays.{Stepped}
+use Rattle.tag_core.proofs.Picks.{placed}
+use Rattle.tag_core.proofs.Counts.{own}
+use Rattle.tag_core.proofs.Turns.{Shows, held_from}
+use Rattle.tag_core.proofs.Advance.{Owed, advances}
+use Rattle.tag_core.proofs.Acts.{Moved, moves}
+
+pub held_one : (c : ℕ) (q : Place) → q ≡ held c → held_bit c q ≡ 1
+held_one c q e = ap (held_bit c) e ∙ ap one_if (eq-eqb c c refl)
+
+pub holder : (q : Place) → ((d : ℕ) × (q ≡ held d)) ⊎ ((d : ℕ) → q ≢ held d)
+holder free = inr (λ d e. cc)
+holder (held d) = inl (d, refl)
+holder posted = inr (λ d e. cc)
+holder aside = inr (λ d e. cc)
+holder (sweep c) = inr (λ d e. cc)
+
+module _ (R : Type 0) (home : maybe.Option (maybe.Option R)) where
+  pub home_of : (q : Place) → SlotIs home q → ((d : ℕ) → q ≢ held d) → (y : R) × (home ≡ some (some y))
+  home_of free o n = o
+  home_of (held d) o n = absurd (n d refl)
+  home_of posted o n = o
+  home_of aside o n = o
+  home_of (sweep c) o n = o
+
+  pub slot_some : (q : Place) → ((d : ℕ) → q ≢ held d) → (y : R) × (home ≡ some (some y)) → SlotIs home q
+  slot_some free n o = o
+  slot_some (held d) n o = absurd (n d refl)
+  slot_some posted n o = o
+  slot_some aside n o = o
+  slot_some (sweep c) n o = o
+
+-- a map that opens is in balance
+pub opening_even : (k : Shape) → IsOpening k → got_in k.callers (opening_world k) ≡ back_in k.callers (opening_world k) + held_in k.layout (opening_world k) + posted_in k.layout (opening_world k)
+opening_even k opens =
+    let held = sum_below-none (λ t. 0) k.layout.depth (λ t l. refl) in let even = opens.even in omega arith
+
+module _ (R : Type 0) (k : Shape) (s : State R (View R)) (sh : Shown k s) (r : Record R) (st : Step R) (words' : List ℕ) (owed : Owed R k s sh r st words')
+  (ok : IsKnown k sh.history r) (cs : List (ℕ × R)) (carries : Carries k.layout r.held cs) (deep : length s.homes ≡ k.layout.depth) where
+  abbrev q : ℕ → Place
+  q = (world_of k sh.history).place
+
+  abbrev p : ℕ → Place
+  p = placed k.layout (event_of k.layout r.number st) (world_of k sh.history).place
+
+  abbrev f : ℕ → ℕ
+  f = tag_bit k.layout r.held
+
+  abbrev f' : ℕ → ℕ
+  f' = tag_bit k.layout (held_after k.layout st r.held)
+
+  -- the others' tags stay
+  others : (t : ℕ) → t < k.layout.depth → (d : ℕ) → d ≢ r.number → p t ≡ held d → q t ≡ held d
+  others t l d n e = held_from d (q t) (sym ((owed.tags t l).others_hold d n) ∙ held_one d (p t) e)
+
+  others_back : (t : ℕ) → t < k.layout.depth → (d : ℕ) → d ≢ r.number → q t ≡ held d → p t ≡ held d
+  others_back t l d n e = held_from d (p t) ((owed.tags t l).others_hold d n ∙ held_one d (q t) e)
+
+  was_mine : (t : ℕ) → t < k.layout.depth → f t ≡ 1 → q t ≡ held r.number
+  was_mine t l e = held_from r.number (q t) (ok.held t l ∙ e)
+
+  is_mine : (t : ℕ) → t < k.layout.depth → f' t ≡ 1 → p t ≡ held r.number
+  is_mine t l e = held_from r.number (p t) ((owed.tags t l).held ∙ e)
+
+  not_was : (t : ℕ) → t < k.layout.depth → f t ≢ 1 → q t ≢ held r.number
+  not_was t l n e = n (sym (ok.held t l) ∙ held_one r.number (q t) e)
+
+  not_is : (t : ℕ) → t < k.layout.depth → f' t ≢ 1 → p t ≢ held r.number
+  not_is t l n e = n (sym (owed.tags t l).held ∙ held_one r.number (p t) e)
+
+  two_holders : (c d : ℕ) (a : Place) → a ≡ held c → a ≡ held d → c ≡ d
+  two_holders c d a e e' = let z : held c ≡ held d = sym e ∙ e' in cc
+
+  -- non one held a tag that is mine now and was not
+  was_home : (t : ℕ) → t < k.layout.depth → f t ≢ 1 → f' t ≡ 1 → (y : R) × (get_elem? s.homes t ≡ some (some y))
+  was_home t l non aye = home_of R (get_elem? s.homes t) (q t) (sh.slots t l) (λ d e. dite (ℕ_discrete d r.number)
+      (λ (same : d ≡ r.number). not_was t l non (e ∙ ap held same))
+      (λ (n : d ≢ r.number). n (two_holders d r.number (p t) (others_back t l d n e) (is_mine t l aye))))
+
+  pub moved : Moved R f f' k.layout.depth s.homes cs
+  moved = moves R f f' k.layout.depth s.homes cs (let e : length s.homes ≡ k.layout.depth = deep in omega arith) carries was_home
+
+  slots_after : (t : ℕ) → t < k.layout.depth → SlotIs (get_elem? (homes_after s.homes cs moved.act) t) (p t)
+  slots_after t l = dite (ℕ_discrete (f' t) 1)
+      (λ (aye : f' t ≡ 1). subst (SlotIs (get_elem? (homes_after s.homes cs moved.act) t)) (sym (is_mine t l aye)) (moved.out t l aye))
+      (λ (non' : f' t ≢ 1). dite (ℕ_discrete (f t) 1)
+      (λ (aye : f t ≡ 1). let w = moved.returned t l aye non' in slot_some R _ (p t) (λ d e. dite (ℕ_discrete d r.number)
+      (λ (same : d ≡ r.number). not_is t l non' (e ∙ ap held same))
+      (λ (n : d ≢ r.number). n (two_holders d r.number (q t) (others t l d n e) (was_mine t l aye)))) (w.0, w.2))
+      (λ (non : f t ≢ 1). subst (λ z. SlotIs z (p t)) (sym (moved.same t l non non')) (⊎_elim
+      (λ (w : (d : ℕ) × (p t ≡ held d)). let n : w.0 ≢ r.number = (λ (z : w.0 ≡ r.number). not_is t l non' (w.1 ∙ ap held z)) in
+      subst (SlotIs (get_elem? s.homes t)) (others t l w.0 n w.1 ∙ sym w.1) (sh.slots t l))
+      (λ (o : (d : ℕ) → p t ≢ held d). slot_some R _ (p t) o (home_of R _ (q t) (sh.slots t l) (λ d e. dite (ℕ_discrete d r.number)
+      (λ (same : d ≡ r.number). not_was t l non (e ∙ ap held same))
+      (λ (n : d ≢ r.number). o d (others_back t l d n e)))))
+      (holder (p t)))))
+
+  module _ (posting : (t : ℕ) → t < k.layout.depth → p t ≡ posted → ((q t ≡ posted) × (last_post t ((r.number, st) ∷ sh.history) ≡ last_post t sh.history)) ⊎ ((q t ≡ held r.number) × (last_post t ((r.number, st) ∷ sh.history) ≡ value_of cs t))) where
+    posts_after : (t : ℕ) → t < k.layout.depth → p t ≡ posted → get_elem? (homes_after s.homes cs moved.act) t ≡ some (last_post t ((r.number, st) ∷ sh.history))
+    posts_after t l e = let non' : f' t ≢ 1 = (λ (z : f' t ≡ 1). let two : posted ≡ held r.number = sym e ∙ is_mine t l z in cc) in ⊎_elim
+        (λ (w : (q t ≡ posted) × (last_post t ((r.number, st) ∷ sh.history) ≡ last_post t sh.history)).
+        let non : f t ≢ 1 = (λ (z : f t ≡ 1). let two : posted ≡ held r.number = sym w.0 ∙ was_mine t l z in cc) in
+        moved.same t l non non' ∙ sh.posts t l w.0 ∙ ap some (sym w.1))
+        (λ (w : (q t ≡ held r.number) × (last_post t ((r.number, st) ∷ sh.history) ≡ value_of cs t)).
+        let aye : f t ≡ 1 = sym (ok.held t l) ∙ held_one r.number (q t) w.0 in let g = moved.returned t l aye non' in g.2 ∙ ap some (sym (w.1 ∙ g.1)))
+        (posting t l e)
+
+    pub kept : (id : ℕ) → get_elem? s.views id ≡ some (alone r) → Shown k record { words = words'; homes = homes_after s.homes cs moved.act; views = set s.views id (alone (record_after st r)) }
+    kept id at = advances R k s sh r st words' (homes_after s.homes cs moved.act) owed slots_after posts_after id at
+
+    -- with what the caller is told
+    pub told : (me : View R × List (ℕ × R)) → me.1 ≡ cs → Stepped st r me (alone (record_after st r), carried_after me.1 moved.act)
+    told me e = let same : k ≡ r.shape = sym ok.shape in let list : carried_after me.1 moved.act ≡ moved.list = ap (λ (z : List (ℕ × R)). carried_after z moved.act) e ∙ moved.list_is in record {
+      view = refl;
+      carries = subst (λ (z : Shape). Carries z.layout (held_after z.layout st r.held) (carried_after me.1 moved.act)) same (ap (map (λ x. x.0)) list ∙ moved.tags);
+      values = subst (λ (z : Shape). (t : ℕ) → t < z.layout.depth → tag_bit z.layout r.held t ≡ 1 → tag_bit z.layout (held_after z.layout st r.held) t ≡ 1 → value_of (carried_after me.1 moved.act) t ≡ value_of me.1 t) same
+          (λ t l a b. let g = moved.kept t l a b in ap (λ (z : List (ℕ × R)). value_of z t) list ∙ g.2 ∙ sym g.1 ∙ ap (λ (z : List (ℕ × R)). value_of z t) (sym e));
+      few_back = subst (λ (z : Shape). r.back + back_by (event_of z.layout r.number st) ≤ z.callers * MOST_WON) same
+          (let few = back-history k.layout k.callers (events_of k.layout ((r.number, st) ∷ sh.history)) (opening_world k) (owed.needs, sh.lawful.happens) sh.opening.unspent (opening_even k sh.opening) r.number ok.number in
+          let now = (own k.layout r.number st (world_of k sh.history).back).1 in let before = ok.back in omega arith);
+    }

@@ -1,0 +1,69 @@
+-- Words, cleared sets and states stand apart in the table, and tags in their words.
+use Rattle.std.proofs.Common.{◌≡◌, ◌≢◌, ℕ, zero, suc, ◌+◌, ◌-◌, ◌*◌, ◌/◌, ◌%◌, ◌^◌, ◌<◌, ◌≤◌, List, [], ◌∷◌, length, get_or, set, nat_eq, cond, Bool, arith, refl, sym, ap, ◌∙◌, min, get_or-set_other, get_or-set_same, eq-eqb, ne_eqb}
+use mathlib.Core.Logic.{dite}
+use native.Mathlib.Decide.{ℕ_discrete}
+use Rattle.std.proofs.lemmas.Nat.{pow_pos, pow_below, mod_below, div-add-mod'}
+use Rattle.std.proofs.Math.Nat.{mul-le-mul_left}
+use Rattle.tag_layout.specs.Layout.{Layout, word_bits, words, word_depth, word_of, place_of, tag_at}
+use Rattle.tag_layout.proofs.PlaceFacts.{word-start, word_bits-pos, place_of-below}
+use Rattle.tag_core.specs.Steps.{changed_at}
+use Rattle.tag_core.specs.Spacing.{word_at, aside_at, state_at, table_width}
+
+pub word_at_one : (i j : ℕ) → word_at i ≡ word_at j → i ≡ j
+unfolding word_at
+word_at_one i j e = omega arith
+
+pub aside_at_one : (i j : ℕ) → aside_at i ≡ aside_at j → i ≡ j
+unfolding aside_at
+aside_at_one i j e = omega arith
+
+pub state_at_one : (i j : ℕ) → state_at i ≡ state_at j → i ≡ j
+unfolding state_at
+state_at_one i j e = omega arith
+
+pub word_no_aside : (i j : ℕ) → word_at i ≢ aside_at j
+unfolding word_at aside_at
+word_no_aside i j e = omega arith
+
+pub word_no_state : (i j : ℕ) → word_at i ≢ state_at j
+unfolding word_at state_at
+word_no_state i j e = omega arith
+
+pub aside_no_state : (i j : ℕ) → aside_at i ≢ state_at j
+unfolding aside_at state_at
+aside_no_state i j e = omega arith
+
+-- there are no more words than tags
+word_below_depth : (l : Layout) (i : ℕ) → i < words l → i < l.depth
+word_below_depth l i h = let start : i * word_bits l < l.depth = word-start l i h in let pos = word_bits-pos l in let more : i * 1 ≤ i * word_bits l = mul-le-mul_left i pos in omega arith
+
+pub word_in : (l : Layout) (i : ℕ) → i < words l → word_at i < table_width l
+unfolding word_at table_width
+word_in l i h = let low = word_below_depth l i h in omega arith
+
+pub aside_in : (l : Layout) (i : ℕ) → i < words l → aside_at i < table_width l
+unfolding aside_at table_width
+aside_in l i h = let low = word_below_depth l i h in omega arith
+
+pub state_in : (l : Layout) (t : ℕ) → t < l.depth → state_at t < table_width l
+unfolding state_at table_width
+state_in l t h = omega arith
+
+pub some_width : (l : Layout) → 0 < table_width l
+unfolding table_width
+some_width l = omega arith
+
+-- an entry changed among those that `at` spreads over a list
+pub set_spread : (ws : List ℕ) (at g : ℕ → ℕ) (n i x : ℕ) → ((a b : ℕ) → at a ≡ at b → a ≡ b) → at i < length ws → ((j : ℕ) → j < n → get_or ws (at j) 0 ≡ g j)
+    → (j : ℕ) → j < n → get_or (set ws (at i) x) (at j) 0 ≡ changed_at g i x j
+set_spread ws at g n i x one inside same j l = dite (ℕ_discrete j i)
+    (λ e. ap (λ (z : ℕ). get_or (set ws (at i) x) (at z) 0) e ∙ get_or-set_same ws (at i) x 0 inside ∙ ap (λ (b : Bool). cond b x (g j)) (sym (eq-eqb j i e)))
+    (λ ne. get_or-set_other ws (at i) (at j) x 0 (λ e. ne (one j i e)) ∙ same j l ∙ ap (λ (b : Bool). cond b x (g j)) (sym (ne_eqb j i ne)))
+
+-- a tag is known by its word and its place there
+pub same_tag : (l : Layout) (t u : ℕ) → word_of l t ≡ word_of l u → place_of l t ≡ place_of l u → t ≡ u
+same_tag l t u e e' = let p : ℕ = word_bits l in sym (div-add-mod' t p) ∙ (λ z. e z * p + e' z) ∙ div-add-mod' u p
+
+-- a tag's bit lies within its word
+pub tag_mask_within : (l : Layout) (u : ℕ) → u < l.depth → 2 ^ place_of l u < 2 ^ word_depth l (word_of l u)
+tag_mask_within l u h = pow_below (place_of l u) (word_depth l (word_of l u)) (place_of-below l u h)

@@ -1,0 +1,53 @@
+use Rattle.std.proofs.Common.{rules, arith, ◌≡◌, ◌≢◌, ℕ, ◌+◌, ◌-◌, ◌*◌, ◌^◌, ◌<◌, ◌≤◌, List, length, replicate, slice_index, slice_set, length-set, get_or, set, bit_or, bit_and, count_ones, eqb, refl, sym, ap, ◌∙◌, subst, Some, None}
+use mathlib.Core.Option.{some, none}
+use prog.Atomic.{either}
+use Rattle.std.specs.Int.{bit_at}
+use Rattle.std.proofs.lemmas.List.{get_or_read}
+use Rattle.atomic_table.specs.Table.{step, Allows}
+use Rattle.tag_layout.specs.Layout.{Layout, words, word_of, place_of, IsWithin}
+use Rattle.tag_layout.proofs.PlaceFacts.{word_of-below}
+use Rattle.tag_model.specs.declared.world.TheConstants.{MAX_CALLERS, MOST_WON}
+use Rattle.tag_core.specs.declared.shape.Shape.{Shape}
+use Rattle.tag_core.specs.declared.step.Step.TheVariants.{Word, Post, Take}
+use Rattle.tag_core.specs.declared.word_step.WordStep.TheVariants.{Look, LookAside, Claimed, Give, Put, Swap, Spill}
+use Rattle.tag_core.specs.declared.record.Record.{Record}
+use Rattle.tag_core.specs.Steps.{without}
+use Rattle.tag_core.specs.Spacing.{word_at, aside_at, state_at}
+use Rattle.tag_core.specs.Records.{record_after, tag_bit, value_of}
+use Rattle.tag_core.specs.Plays.{looked, looked_aside, claimed, gave, put_aside, swapped, spilled, posted, took}
+use Rattle.tag_core.specs.Callers.{record_of}
+use Rattle.tag_core.proofs.Masks.{ones_minus}
+use Rattle.tag_core.proofs.Stand.{word_in, aside_in, state_in}
+use Rattle.tag_core.proofs.Picks.{among, one_among}
+use Rattle.tag_core.proofs.Sweepings.{nothing, clean, mask_of}
+use Rattle.tag_core.proofs.Allowed.{look_allowed, look_aside_allowed, claim_allowed, give_allowed, put_allowed, swap_allowed, spill_allowed, post_allowed, take_allowed}
+use Rattle.tag_core.proofs.Asking.{narrow, in_words, asked, recorded, knows, carries, few, slots, bounded, plus_none}
+use Rattle.tag_core.proofs.map.Map.give.Goals as goal
+
+pub fetch_and-requires : goal.fetch_and-requires
+fetch_and-requires g c = let m = c.args.self.now in let w = c.args.caller.now in let k = w.shape.value in let own = c.requires.caller in let R = g.row.R.Denot in let i : ℕ = c.args.word in let x : ℕ = c.args.mask in let inside = in_words m w own i c.requires.within.0 in
+    let same : m.shape ≡ k = sym own.1 in
+    let a = asked m w own w.seat.id w.seat.me (word_at i) c.word_spot.result (λ n. bit_and n (2 ^ 64 - 1 - x)) (2 ^ 64 - 1 - x) 0 gave c.word_spot.ensures (word_in k.layout i inside)
+        (give_allowed R k (narrow m w own) w.seat.id w.seat.me (record_of w) w.knows w.carries i x inside (subst (λ (z : Shape). IsWithin z.layout i x) same c.requires.within.1) c.ranges.mask.fits
+        (λ t l a. (c.requires.held t (subst (λ (z : Shape). t < z.layout.depth) own.1 l) (one_among m.shape.layout i x t (subst (λ (z : Shape). among z.layout.shift i x t ≡ 1) own.1 a))).1)) in (own.0, a.0, a.1)
+
+pub invariant_of-caller : goal.invariant_of-caller
+invariant_of-caller g c = let m = c.args.self.now in let w = c.args.caller.now in let k = w.shape.value in let own = c.requires.caller in let R = g.row.R.Denot in let i : ℕ = c.args.word in let x : ℕ = c.args.mask in let did = c.fetch_and.ensures.2 i x (record_of w) c.word_spot.ensures c.ranges.mask.fits refl w.knows in
+    let was : c.index.result.now ≡ slice_index w.held.items i = get_or_read w.held.items i c.index.result.now (subst (λ (z : ℕ). i < z) (sym w.wide) (in_words m w own i c.requires.within.0)) c.index.ensures 0 in
+    let held : List ℕ = slice_set w.held.items i (without c.index.result.now x) in
+    let held_is : slice_set w.held.items i (without (slice_index w.held.items i) x) ≡ held = ap (λ (z : ℕ). slice_set w.held.items i (without z x)) (sym was) in
+    record {
+      told = w.told;
+      knows = knows w (Word (Give i x c.fetch_and.result)) c.fetch_and.new.seat.me did held w.won (w.back + count_ones x) held_is refl (plus_none w.won) refl;
+      carries = carries w (Word (Give i x c.fetch_and.result)) c.fetch_and.new.seat.me did held w.won (w.back + count_ones x) held_is refl (plus_none w.won) refl;
+      wide = length-set w.held.items i _ ∙ w.wide;
+      unspent = w.unspent;
+      few_back = bounded m w own _ (few w (Word (Give i x c.fetch_and.result)) c.fetch_and.new.seat.me did held w.won (w.back + count_ones x) held_is refl (plus_none w.won) refl);
+    }
+
+pub returns-clause-step : goal.returns-clause-step
+returns-clause-step g c = let m = c.args.self.now in let w = c.args.caller.now in let k = w.shape.value in let own = c.requires.caller in let R = g.row.R.Denot in let i : ℕ = c.args.word in let x : ℕ = c.args.mask in let did = c.fetch_and.ensures.2 i x (record_of w) c.word_spot.ensures c.ranges.mask.fits refl w.knows in
+    let was : c.index.result.now ≡ slice_index w.held.items i = get_or_read w.held.items i c.index.result.now (subst (λ (z : ℕ). i < z) (sym w.wide) (in_words m w own i c.requires.within.0)) c.index.ensures 0 in
+    let held : List ℕ = slice_set w.held.items i (without c.index.result.now x) in
+    let held_is : slice_set w.held.items i (without (slice_index w.held.items i) x) ≡ held = ap (λ (z : ℕ). slice_set w.held.items i (without z x)) (sym was) in
+    (c.fetch_and.result, record { known = recorded w (Word (Give i x c.fetch_and.result)) c.fetch_and.new.seat.me did held w.won (w.back + count_ones x) held_is refl (plus_none w.won) refl; slots = slots w (Word (Give i x c.fetch_and.result)) c.fetch_and.new.seat.me did held w.won (w.back + count_ones x) held_is refl (plus_none w.won) refl; same_map = c.fetch_and.ensures.0 })

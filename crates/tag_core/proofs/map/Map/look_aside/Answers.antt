@@ -1,0 +1,42 @@
+use Rattle.std.proofs.Common.{rules, arith, ◌≡◌, ◌≢◌, ℕ, ◌+◌, ◌-◌, ◌*◌, ◌^◌, ◌<◌, ◌≤◌, List, length, replicate, slice_index, slice_set, length-set, get_or, set, bit_or, bit_and, count_ones, eqb, refl, sym, ap, ◌∙◌, subst, Some, None}
+use mathlib.Core.Option.{some, none}
+use prog.Atomic.{either}
+use Rattle.std.specs.Int.{bit_at}
+use Rattle.std.proofs.lemmas.List.{get_or_read}
+use Rattle.atomic_table.specs.Table.{step, Allows}
+use Rattle.tag_layout.specs.Layout.{Layout, words, word_of, place_of, IsWithin}
+use Rattle.tag_layout.proofs.PlaceFacts.{word_of-below}
+use Rattle.tag_model.specs.declared.world.TheConstants.{MAX_CALLERS, MOST_WON}
+use Rattle.tag_core.specs.declared.shape.Shape.{Shape}
+use Rattle.tag_core.specs.declared.step.Step.TheVariants.{Word, Post, Take}
+use Rattle.tag_core.specs.declared.word_step.WordStep.TheVariants.{Look, LookAside, Claimed, Give, Put, Swap, Spill}
+use Rattle.tag_core.specs.declared.record.Record.{Record}
+use Rattle.tag_core.specs.Steps.{without}
+use Rattle.tag_core.specs.Spacing.{word_at, aside_at, state_at}
+use Rattle.tag_core.specs.Records.{record_after, tag_bit, value_of}
+use Rattle.tag_core.specs.Plays.{looked, looked_aside, claimed, gave, put_aside, swapped, spilled, posted, took}
+use Rattle.tag_core.specs.Callers.{record_of}
+use Rattle.tag_core.proofs.Masks.{ones_minus}
+use Rattle.tag_core.proofs.Stand.{word_in, aside_in, state_in}
+use Rattle.tag_core.proofs.Picks.{one_among}
+use Rattle.tag_core.proofs.Sweepings.{nothing, clean, mask_of}
+use Rattle.tag_core.proofs.Allowed.{look_allowed, look_aside_allowed, claim_allowed, give_allowed, put_allowed, swap_allowed, spill_allowed, post_allowed, take_allowed}
+use Rattle.tag_core.proofs.Asking.{narrow, in_words, asked, recorded, knows, carries, few, slots, bounded, plus_none}
+use Rattle.tag_core.proofs.map.Map.look_aside.Goals as goal
+
+pub load-requires : goal.load-requires
+load-requires g c = let m = c.args.self.now in let w = c.args.caller.now in let k = w.shape.value in let own = c.requires.caller in let R = g.row.R.Denot in let i : ℕ = c.args.word in let inside = in_words m w own i c.requires.within in
+    let a = asked m w own w.seat.id w.seat.me (aside_at i) c.aside_spot.result (λ n. n) 0 0 looked_aside c.aside_spot.ensures (aside_in k.layout i inside)
+        (look_aside_allowed R k (narrow m w own) w.seat.id w.seat.me (record_of w) w.knows w.carries i inside) in (own.0, a.0, a.1)
+
+pub invariant_of-caller : goal.invariant_of-caller
+invariant_of-caller g c = let m = c.args.self.now in let w = c.args.caller.now in let k = w.shape.value in let own = c.requires.caller in let R = g.row.R.Denot in let i : ℕ = c.args.word in let did = c.load.ensures.2 i (record_of w) c.aside_spot.ensures w.knows in 
+    record { told = w.told; knows = knows w (Word (LookAside i c.load.result)) c.load.new.seat.me did.0 w.held.items w.won w.back refl refl (plus_none w.won) (plus_none w.back); carries = carries w (Word (LookAside i c.load.result)) c.load.new.seat.me did.0 w.held.items w.won w.back refl refl (plus_none w.won) (plus_none w.back); wide = w.wide; unspent = w.unspent; few_back = w.few_back }
+
+pub returns-clause-step : goal.returns-clause-step
+returns-clause-step g c = let m = c.args.self.now in let w = c.args.caller.now in let k = w.shape.value in let own = c.requires.caller in let R = g.row.R.Denot in let i : ℕ = c.args.word in let did = c.load.ensures.2 i (record_of w) c.aside_spot.ensures w.knows in 
+    record { known = recorded w (Word (LookAside i c.load.result)) c.load.new.seat.me did.0 w.held.items w.won w.back refl refl (plus_none w.won) (plus_none w.back); slots = slots w (Word (LookAside i c.load.result)) c.load.new.seat.me did.0 w.held.items w.won w.back refl refl (plus_none w.won) (plus_none w.back); same_map = c.load.ensures.0 }
+
+pub returns-clause-held : goal.returns-clause-held
+returns-clause-held g c = let m = c.args.self.now in let w = c.args.caller.now in let k = w.shape.value in let own = c.requires.caller in let R = g.row.R.Denot in let i : ℕ = c.args.word in let did = c.load.ensures.2 i (record_of w) c.aside_spot.ensures w.knows in λ t has e.
+    subst (λ (z : Shape). bit_at c.load.result (place_of z.layout t) ≡ 0) own.1 (did.1 t has.0 (ap (λ (z : Shape). word_of z.layout t) own.1 ∙ e) has.1)

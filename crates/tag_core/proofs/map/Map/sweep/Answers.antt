@@ -1,0 +1,99 @@
+use Rattle.std.proofs.Common.{rules, arith, ◌≡◌, ◌≢◌, ℕ, ◌+◌, ◌-◌, ◌*◌, ◌^◌, ◌<◌, ◌≤◌, List, length, replicate, slice_index, slice_set, length-set, get_or, set, bit_or, bit_and, count_ones, eqb, refl, sym, ap, ◌∙◌, subst, Some, None}
+use mathlib.Core.Option.{some, none}
+use prog.Atomic.{either}
+use Rattle.std.specs.Int.{bit_at}
+use Rattle.std.proofs.lemmas.List.{get_or_read}
+use Rattle.atomic_table.specs.Table.{step, Allows}
+use Rattle.tag_layout.specs.Layout.{Layout, words, word_of, place_of, IsWithin}
+use Rattle.tag_layout.proofs.PlaceFacts.{word_of-below}
+use Rattle.tag_model.specs.declared.world.TheConstants.{MAX_CALLERS, MOST_WON}
+use Rattle.tag_core.specs.declared.shape.Shape.{Shape}
+use Rattle.tag_core.specs.declared.step.Step.TheVariants.{Word, Post, Take}
+use Rattle.tag_core.specs.declared.word_step.WordStep.TheVariants.{Look, LookAside, Claimed, Give, Put, Swap, Spill}
+use Rattle.tag_core.specs.declared.record.Record.{Record}
+use Rattle.tag_core.specs.Steps.{without}
+use Rattle.tag_core.specs.Spacing.{word_at, aside_at, state_at}
+use Rattle.tag_core.specs.Records.{record_after, tag_bit, value_of}
+use Rattle.tag_core.specs.Plays.{looked, looked_aside, claimed, gave, put_aside, swapped, spilled, posted, took}
+use Rattle.tag_core.specs.Callers.{record_of}
+use Rattle.tag_core.proofs.Masks.{ones_minus}
+use Rattle.tag_core.proofs.Stand.{word_in, aside_in, state_in}
+use Rattle.tag_core.proofs.Picks.{one_among}
+use Rattle.tag_core.proofs.Sweepings.{nothing, clean, mask_of}
+use Rattle.tag_core.proofs.Allowed.{look_allowed, look_aside_allowed, claim_allowed, give_allowed, put_allowed, swap_allowed, spill_allowed, post_allowed, take_allowed}
+use Rattle.tag_core.proofs.Asking.{narrow, in_words, asked, recorded, knows, carries, few, slots, bounded, plus_none}
+use Rattle.std.proofs.Common.{◌∷◌}
+use Rattle.atomic_table.specs.Table.{Me}
+use Rattle.tag_core.specs.declared.record.View.{View}
+use Rattle.tag_core.specs.declared.caller.Caller.{Caller}
+use Rattle.tag_core.specs.Views.{alone, steps_of}
+use Rattle.tag_core.specs.Rule.{Shown}
+use Rattle.tag_core.specs.Callers.{Adds}
+use Rattle.tag_core.proofs.map.Map.sweep.Goals as goal
+
+pub swap-mask-requires : goal.swap-mask-requires
+swap-mask-requires g c = let m = c.args.self.now in let w = c.args.caller.now in let k = w.shape.value in let own = c.requires.caller in let R = g.row.R.Denot in let i : ℕ = c.args.word in let inside = in_words m w own i c.requires.within in
+    let a = asked m w own w.seat.id w.seat.me (aside_at i) c.aside_spot.result (λ _. 0) 0 0 swapped c.aside_spot.ensures (aside_in k.layout i inside)
+        (swap_allowed R k (narrow m w own) w.seat.id w.seat.me (record_of w) w.knows w.carries i inside) in (own.0, a.0, a.1)
+
+pub invariant_of-caller : goal.invariant_of-caller
+invariant_of-caller g c = let m = c.args.self.now in let w = c.args.caller.now in let k = w.shape.value in let own = c.requires.caller in let R = g.row.R.Denot in let i : ℕ = c.args.word in let inside = in_words m w own i c.requires.within in let f : ℕ = c.swap-mask.result in
+    let did = c.swap-mask.ensures.2 i (record_of w) c.aside_spot.ensures w.knows in let r1 : Record R = record_after (Word (Swap i f)) (record_of w) in
+    record { told = w.told; knows = knows w (Word (Swap i f)) c.swap-mask.new.seat.me did w.held.items w.won w.back refl (nothing (words k.layout) i f c.if-mask-eq0.true) (plus_none w.won) (plus_none w.back); carries = did.carries; wide = w.wide; unspent = w.unspent; few_back = w.few_back }
+
+pub returns-then-mask-eq0-clause-none : goal.returns-then-mask-eq0-clause-none
+returns-then-mask-eq0-clause-none g c = let m = c.args.self.now in let w = c.args.caller.now in let k = w.shape.value in let own = c.requires.caller in let R = g.row.R.Denot in let i : ℕ = c.args.word in let inside = in_words m w own i c.requires.within in let f : ℕ = c.swap-mask.result in
+    let did = c.swap-mask.ensures.2 i (record_of w) c.aside_spot.ensures w.knows in let r1 : Record R = record_after (Word (Swap i f)) (record_of w) in
+    λ t. record {
+      known = recorded w (Word (Swap i f)) c.swap-mask.new.seat.me did w.held.items w.won w.back refl (nothing (words k.layout) i f c.if-mask-eq0.true) (plus_none w.won) (plus_none w.back) ∙ ap (λ (z : ℕ). record_after (Word (Swap i z)) (record_of w)) c.if-mask-eq0.true;
+      slots = slots w (Word (Swap i f)) c.swap-mask.new.seat.me did w.held.items w.won w.back refl (nothing (words k.layout) i f c.if-mask-eq0.true) (plus_none w.won) (plus_none w.back);
+      same_map = c.swap-mask.ensures.0;
+    }
+
+pub fetch_and-requires : goal.fetch_and-requires
+fetch_and-requires g c = let m = c.args.self.now in let w = c.args.caller.now in let k = w.shape.value in let own = c.requires.caller in let R = g.row.R.Denot in let i : ℕ = c.args.word in let inside = in_words m w own i c.requires.within in let f : ℕ = c.swap-mask.result in
+    let did = c.swap-mask.ensures.2 i (record_of w) c.aside_spot.ensures w.knows in let r1 : Record R = record_after (Word (Swap i f)) (record_of w) in
+    let mask : get_or r1.swept i 0 ≡ f = mask_of (words k.layout) i f inside in let me = c.swap-mask.new.seat.me in
+    let a = asked m w own c.swap-mask.new.seat.id me (word_at i) c.word_spot.result (λ n. bit_and n (2 ^ 64 - 1 - f)) (2 ^ 64 - 1 - f) 0 spilled c.word_spot.ensures (word_in k.layout i inside)
+        (subst (λ (z : ℕ). Allows (Shown k) k.layout.depth c.swap-mask.new.seat.id me (word_at i) (λ n. bit_and n (2 ^ 64 - 1 - z)) (spilled (step k.layout.depth (word_at i) (2 ^ 64 - 1 - z) 0 none) me)) mask
+        (spill_allowed R k (narrow m w own) c.swap-mask.new.seat.id me r1 did.view did.carries i inside (subst (λ (z : ℕ). z < 2 ^ 64) (sym mask) c.swap-mask.type_inv))) in (c.swap-mask.ensures.0 ∙ own.0, a.0, a.1)
+
+-- the record after both steps
+both : {R : Type 0} (w : Caller R) (i f n : ℕ) (me' : Me R (View R)) → i < words w.shape.value.layout
+    → (did : me'.0 ≡ alone (record_after (Word (Spill i (get_or (record_after (Word (Swap i f)) (record_of w)).swept i 0) n)) (record_after (Word (Swap i f)) (record_of w))))
+    → record { shape = w.shape.value; number = w.number; held = w.held.items; swept = replicate (words w.shape.value.layout) 0; won = w.won; back = w.back; steps = steps_of me'.0 }
+    ≡ record_after (Word (Spill i f n)) (record_after (Word (Swap i f)) (record_of w))
+both w i f n me' inside did j = let mask = mask_of (words w.shape.value.layout) i f inside in record {
+  shape = w.shape.value;
+  number = w.number;
+  held = w.held.items;
+  swept = sym (clean (words w.shape.value.layout) i (bit_or (get_or (replicate (words w.shape.value.layout) 0) i 0) f)) j;
+  won = twice w.won j;
+  back = twice w.back j;
+  steps = (ap steps_of did ∙ (λ z. Word (Spill i (mask z) n) ∷ Word (Swap i f) ∷ steps_of w.seat.me.0)) j;
+}
+  where
+    twice : (n : ℕ) → n ≡ n + 0 + 0
+    twice n = omega arith
+
+pub invariant_of-caller-2 : goal.invariant_of-caller-2
+invariant_of-caller-2 g c = let m = c.args.self.now in let w = c.args.caller.now in let k = w.shape.value in let own = c.requires.caller in let R = g.row.R.Denot in let i : ℕ = c.args.word in let inside = in_words m w own i c.requires.within in let f : ℕ = c.swap-mask.result in
+    let did = c.swap-mask.ensures.2 i (record_of w) c.aside_spot.ensures w.knows in let r1 : Record R = record_after (Word (Swap i f)) (record_of w) in
+    let done = c.fetch_and.ensures.2 i r1 c.word_spot.ensures did.view in let me = c.fetch_and.new.seat.me in let mask = mask_of (words k.layout) i f inside in record {
+      told = w.told;
+      knows = done.view ∙ (λ j. alone (record_after (Word (Spill i (mask j) c.fetch_and.result)) r1)) ∙ ap alone (sym (both w i f c.fetch_and.result me inside done.view));
+      carries = done.carries;
+      wide = w.wide;
+      unspent = w.unspent;
+      few_back = w.few_back;
+    }
+
+pub returns-clause-some : goal.returns-clause-some
+returns-clause-some g c = let m = c.args.self.now in let w = c.args.caller.now in let k = w.shape.value in let own = c.requires.caller in let R = g.row.R.Denot in let i : ℕ = c.args.word in let inside = in_words m w own i c.requires.within in let f : ℕ = c.swap-mask.result in
+    let did = c.swap-mask.ensures.2 i (record_of w) c.aside_spot.ensures w.knows in let r1 : Record R = record_after (Word (Swap i f)) (record_of w) in
+    let done = c.fetch_and.ensures.2 i r1 c.word_spot.ensures did.view in let me = c.fetch_and.new.seat.me in
+    λ _. (f, c.fetch_and.result, c.if-mask-eq0.false, record {
+      known = both w i f c.fetch_and.result me inside done.view;
+      slots = λ t was is. done.values t was.0 was.1 was.1 ∙ did.values t was.0 was.1 was.1;
+      same_map = c.fetch_and.ensures.0 ∙ c.swap-mask.ensures.0;
+    })

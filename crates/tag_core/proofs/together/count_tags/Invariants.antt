@@ -1,0 +1,6 @@
+use Rattle.std.proofs.Common.{◌≡◌, ◌≤◌, ◌*◌, take}
+use Rattle.tag_core.specs.Sizes.{size_of}
+use Rattle.tag_core.proofs.together.count_tags.Given as goal
+
+abbrev pub invariant-loop-mask : goal.invariant-loop-mask
+invariant-loop-mask l = (l.size ≡ size_of (take l.mask-index l.masks)) × (l.size ≤ 64 * l.mask-index)

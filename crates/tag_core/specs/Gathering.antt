@@ -1,0 +1,37 @@
+-- What all callers of a map show when they come together.
+use Rattle.std.specs.Prelude.{◌≡◌, ◌≢◌, ℕ, ◌+◌, ◌<◌, List, length}
+use mathlib.Core.Option.{some}
+use lib.ListN.{get_elem?}
+use Rattle.tag_model.specs.declared.place.Place.TheVariants.{Posted}
+use Rattle.tag_model.specs.Totals.{AreTotals}
+use Rattle.tag_core.specs.declared.shape.Shape.{Shape}
+use Rattle.tag_core.specs.declared.record.Record.{Record}
+use Rattle.tag_core.specs.declared.caller.Caller.{Caller}
+use Rattle.tag_core.specs.declared.closed.Closed.{Closed}
+use Rattle.tag_core.specs.Histories.{History, IsLawful, world_of, steps_by, last_post}
+use Rattle.tag_core.specs.Sizes.{total_of, size_of}
+
+-- the totals are the sums over these records, and those of the world that one history of all their steps leaves
+pub record IsGathered {R : Type 0} (k : Shape) (rs : List (Record R)) (closed : Closed R) : Type 0 where
+  pub history : History R
+  pub lawful : IsLawful k history
+  pub own : (i : ℕ) (r : Record R) → get_elem? rs i ≡ some r → r.steps ≡ steps_by r.number history
+  pub layout : closed.layout ≡ k.layout
+  pub got : closed.totals.got ≡ total_of (λ (r : Record R). r.won) rs
+  pub back : closed.totals.back ≡ total_of (λ (r : Record R). r.back) rs
+  pub held : closed.totals.held ≡ total_of (λ (r : Record R). size_of r.held) rs
+  pub totals : AreTotals k.layout k.callers (world_of k history) closed.totals
+  pub balance : closed.totals.got ≡ closed.totals.back + closed.totals.held + closed.totals.posted
+  pub slots : length closed.slots.items ≡ k.layout.depth
+  -- a posted tag's slot has the value of its last Post
+  pub posts : (tag : ℕ) → tag < k.layout.depth → (world_of k history).place tag ≡ Posted → get_elem? closed.slots.items tag ≡ last_post tag history
+
+-- the caller of this number is among them
+abbrev pub IsThere : {R : Type 0} → List (Caller R) → ℕ → Type 0
+IsThere {R} callers number = (i : ℕ) × (caller : Caller R) × (get_elem? callers i ≡ some caller) × (caller.number ≡ number)
+
+-- of so many callers, the one of this number is missing, and none of a lesser number
+pub record IsLeastMissing {R : Type 0} (callers : List (Caller R)) (count number : ℕ) : Type 0 where
+  pub within : number < count
+  pub missing : ¬ (IsThere callers number)
+  pub least : (other : ℕ) → other < number → IsThere callers other

@@ -1,0 +1,23 @@
+-- A new map, and its callers.
+use Rattle.std.specs.Prelude.{◌≡◌, ℕ, ◌<◌, List, [], length}
+use mathlib.Core.Option.{some}
+use lib.ListN.{get_elem?}
+use Rattle.tag_layout.specs.Layout.{Layout}
+use Rattle.tag_core.specs.declared.shape.Shape.{Shape}
+use Rattle.tag_core.specs.declared.caller.Caller.{Caller}
+use Rattle.tag_core.specs.declared.map.Map.{Map}
+use Rattle.tag_core.specs.Records.{fresh_record}
+use Rattle.tag_core.specs.Callers.{IsCallerOf, record_of}
+
+-- the map has this layout, so many callers and this life, and nobody won a tag before
+pub record IsNew {R : Type 0} (layout : Layout) (callers life : ℕ) (map : Map R) : Type 0 where
+  pub layout_is : map.shape.layout ≡ layout
+  pub callers_is : map.shape.callers ≡ callers
+  pub life_is : map.shape.life ≡ life
+  pub won_before : map.shape.won_before.value.items ≡ []
+  pub back_before : map.shape.back_before.value.items ≡ []
+
+-- the callers of the map in the order of their numbers, each with nothing won, held or done
+pub record AreNew {R : Type 0} (map : Map R) (callers : List (Caller R)) : Type 0 where
+  pub count : length callers ≡ map.shape.callers
+  pub each : (n : ℕ) (caller : Caller R) → get_elem? callers n ≡ some caller → IsCallerOf map caller × (record_of caller ≡ fresh_record map.shape n)

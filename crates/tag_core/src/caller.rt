@@ -1,0 +1,47 @@
+//! A caller of a map.
+ghost use Rattle.std.specs.Prelude.{◌≡◌, ◌≤◌, ◌*◌, length, replicate};
+ghost use Rattle.tag_layout.specs.Layout.{words};
+ghost use Rattle.tag_model.specs.declared.world.TheConstants.{MOST_WON, MAX_CALLERS};
+ghost use Rattle.tag_core.specs.Records.{Carries};
+ghost use Rattle.tag_core.specs.Views.{alone, steps_of};
+
+use crate::record::View;
+use crate::shape::Shape;
+use atomic_table::Seat;
+use std::snapshot::Snapshot;
+use tag_layout::Layout;
+
+/// One of the callers of a map, by whose steps it changes. Where it is dropped, its tags stay held for ever.
+#[derive(Drop)]
+pub struct Caller<R> {
+    /// What it steps with: its record is the one of the view, and the slots are those of its tags, in order.
+    pub(crate) seat: Seat<R, View<R>>,
+    /// The layout of its map.
+    pub(crate) layout: Layout,
+    /// Its number, from 0.
+    pub(crate) number: u32,
+    /// The most tags that it may win, at most 2^48.
+    pub(crate) life: u64,
+    /// The tags that it holds, a mask for each word: 1 is held.
+    pub(crate) held: Vec<u64>,
+    /// Tags that it has won, at most `life`.
+    pub(crate) won: u64,
+    /// Tags that it has put or given back: its own, and others' that it took.
+    pub(crate) back: u64,
+    /// The shape of its map, as contracts see it.
+    pub(crate) shape: Snapshot<Shape>,
+    ghost told: { (layout ≡ shape.value.layout) × (life ≡ shape.value.life) },
+    ghost knows: { seat.me.0 ≡ alone (record {
+        shape = shape.value;
+        number = number;
+        held = held.items;
+        swept = replicate (words shape.value.layout) 0;
+        won = won;
+        back = back;
+        steps = steps_of seat.me.0;
+    }) },
+    ghost carries: { Carries shape.value.layout held.items seat.me.1 },
+    ghost wide: { length held.items ≡ words shape.value.layout },
+    ghost unspent: { (won ≤ life) × (life ≤ MOST_WON) },
+    ghost few_back: { back ≤ MAX_CALLERS * MOST_WON },
+}

@@ -1,0 +1,49 @@
+//! Claims: how tags are won.
+ghost use Rattle.std.specs.Prelude.{◌≡◌, ℕ, ◌+◌, ◌<◌, ◌≤◌, ◌↔◌, count_ones, IfOk, IsErr, OnErr, IsTrue};
+ghost use Rattle.tag_layout.specs.Layout.{words, IsWithin};
+ghost use Rattle.tag_core.specs.Steps.{without};
+ghost use Rattle.tag_core.specs.Callers.{layout_of, IsCallerOf, record_of, Adds};
+ghost use Rattle.tag_core.specs.declared.step.Step.TheVariants.{Word};
+ghost use Rattle.tag_core.specs.declared.word_step.WordStep.TheVariants.{Claimed};
+
+use crate::caller::Caller;
+use crate::claim::{Claim, Spent};
+use crate::map::Map;
+use crate::plays::Claiming;
+use crate::spots::word_spot;
+
+
+impl<R> Map<R> {
+    /// Sets the bits of the mask in a word, and wins those that were 0. `Spent` where the mask's bits could pass the
+    /// caller's life.
+    pub fn claim(&self, caller: &mut Caller<R>, word: u32, mask: u64) -> Result<Claim, Spent>
+        requires caller { IsCallerOf self.now caller.old }
+        requires within { (word < words (layout_of self.now)) × IsWithin (layout_of self.now) word mask }
+        ensures caller { IsCallerOf self.now caller.new }
+        ensures won { IfOk result (λ c. c.won ≡ without mask c.found) }
+        ensures step { IfOk result (λ c. Adds (Word (Claimed word mask c.found)) caller.old caller.new) }
+
+        // No step is made.
+        ensures spent { IsErr result ↔ ((record_of caller.old).shape.life < (record_of caller.old).won + count_ones mask) }
+        ensures unchanged { OnErr result (caller.new ≡ caller.old) }
+    {
+        if !caller.room(mask.count_ones()) {
+            return Err(Spent);
+        }
+        let found = self.table.shared.fetch_or::<Claiming>(&mut caller.seat, word_spot(word), mask);
+        let won = mask & !found;
+        let held = caller.held[word as usize] | won;
+        caller.held[word as usize] = held;
+        caller.won += won.count_ones() as u64;
+        Ok(Claim { won, found })
+    }
+}
+
+impl<R> Caller<R> {
+    /// Whether the caller may win so many tags more within its life.
+    pub fn room(&self, tags: u32) -> bool
+        ensures { IsTrue result ↔ ((record_of self.now).won + tags ≤ (record_of self.now).shape.life) }
+    {
+        tags as u64 <= self.life - self.won
+    }
+}

@@ -1,0 +1,43 @@
+//! How held tags are given back.
+ghost use Rattle.std.specs.Prelude.{◌≡◌, ℕ, ◌^◌, ◌<◌, IsTrue};
+ghost use Rattle.tag_layout.specs.Layout.{words, word_of, place_of, IsWithin};
+ghost use Rattle.tag_model.specs.Event.{is_in_mask};
+ghost use Rattle.tag_core.specs.Callers.{layout_of, IsCallerOf, Holds, Adds};
+ghost use Rattle.tag_core.specs.declared.step.Step.TheVariants.{Word};
+ghost use Rattle.tag_core.specs.declared.word_step.WordStep.TheVariants.{Give, Put};
+
+use crate::caller::Caller;
+use crate::map::Map;
+use crate::plays::{Giving, Putting};
+use crate::spots::{aside_spot, word_spot};
+
+impl<R> Map<R> {
+    /// Takes held tags of one word out of it at once: they are free.
+    pub fn give(&self, caller: &mut Caller<R>, word: u32, mask: u64)
+        requires caller { IsCallerOf self.now caller.old }
+        requires within { (word < words (layout_of self.now)) × IsWithin (layout_of self.now) word mask }
+        requires held { (tag : ℕ) → tag < (layout_of self.now).depth → IsTrue (is_in_mask (layout_of self.now) word mask tag) → Holds caller.old tag }
+        ensures caller { IsCallerOf self.now caller.new }
+        ensures step { (found : ℕ) × Adds (Word (Give word mask found)) caller.old caller.new }
+    {
+        self.table.shared.fetch_and::<Giving>(&mut caller.seat, word_spot(word), !mask);
+        let held = caller.held[word as usize] & !mask;
+        caller.held[word as usize] = held;
+        caller.back += mask.count_ones() as u64;
+    }
+
+    /// Sets a held tag aside: it is free after the next sweep of its word.
+    pub fn put(&self, caller: &mut Caller<R>, tag: u32)
+        requires caller { IsCallerOf self.now caller.old }
+        requires held { Holds caller.old tag }
+        ensures caller { IsCallerOf self.now caller.new }
+        ensures step { (found : ℕ) × Adds (Word (Put (word_of (layout_of self.now) tag) (2 ^ place_of (layout_of self.now) tag) found)) caller.old caller.new }
+    {
+        let word = caller.layout.word_of(tag);
+        let bit = 1u64 << caller.layout.place_of(tag);
+        self.table.shared.fetch_or::<Putting>(&mut caller.seat, aside_spot(word), bit);
+        let held = caller.held[word as usize] & !bit;
+        caller.held[word as usize] = held;
+        caller.back += 1;
+    }
+}

@@ -1,0 +1,57 @@
+//! Looks, which change nothing.
+ghost use Rattle.std.specs.Prelude.{◌≡◌, ℕ, ◌<◌, IsTrue, ◌↔◌};
+ghost use Rattle.std.specs.Int.{bit_at};
+ghost use Rattle.tag_layout.specs.Layout.{words, word_of, place_of};
+ghost use Rattle.tag_core.specs.Callers.{layout_of, IsCallerOf, record_of, Holds, Adds};
+ghost use Rattle.tag_core.specs.declared.step.Step.TheVariants.{Word};
+ghost use Rattle.tag_core.specs.declared.word_step.WordStep.TheVariants.{Look, LookAside};
+
+use crate::caller::Caller;
+use crate::map::Map;
+use crate::plays::{Looking, LookingAside};
+use crate::spots::{aside_spot, word_spot};
+use tag_layout::Layout;
+
+impl<R> Map<R> {
+    /// The numbering of its tags.
+    pub fn layout(&self) -> Layout
+        ensures { result ≡ layout_of self.now }
+    {
+        self.shape.layout
+    }
+
+    /// The word: 1 is taken. Each tag that the caller holds is found taken.
+    pub fn look(&self, caller: &mut Caller<R>, word: u32) -> u64
+        requires caller { IsCallerOf self.now caller.old }
+        requires within { word < words (layout_of self.now) }
+        ensures caller { IsCallerOf self.now caller.new }
+        ensures step { Adds (Word (Look word result)) caller.old caller.new }
+        ensures held { (tag : ℕ) → Holds caller.old tag → word_of (layout_of self.now) tag ≡ word
+            → bit_at result (place_of (layout_of self.now) tag) ≡ 1 }
+    {
+        self.table.shared.load::<Looking>(&mut caller.seat, word_spot(word))
+    }
+
+    /// The word's cleared set: 1 is set aside. No tag that the caller holds is found in it.
+    pub fn look_aside(&self, caller: &mut Caller<R>, word: u32) -> u64
+        requires caller { IsCallerOf self.now caller.old }
+        requires within { word < words (layout_of self.now) }
+        ensures caller { IsCallerOf self.now caller.new }
+        ensures step { Adds (Word (LookAside word result)) caller.old caller.new }
+        ensures held { (tag : ℕ) → Holds caller.old tag → word_of (layout_of self.now) tag ≡ word
+            → bit_at result (place_of (layout_of self.now) tag) ≡ 0 }
+    {
+        self.table.shared.load::<LookingAside>(&mut caller.seat, aside_spot(word))
+    }
+}
+
+impl<R> Caller<R> {
+    /// Whether the caller holds the tag.
+    pub fn holds(&self, tag: u32) -> bool
+        requires { tag < (record_of self.now).shape.layout.depth }
+        ensures { IsTrue result ↔ Holds self.now tag }
+    {
+        let mask = self.held[self.layout.word_of(tag) as usize];
+        mask >> self.layout.place_of(tag) & 1 == 1
+    }
+}

@@ -1,0 +1,134 @@
+//! A new map, and its callers.
+ghost use Rattle.std.specs.Prelude.{◌≡◌, ◌⊎◌, ℕ, ◌+◌, ◌-◌, ◌<◌, ◌≤◌, ◌↔◌, ◌≢◌, List, [], length, IfOk};
+ghost use Rattle.tag_model.specs.declared.world.TheConstants.{MAX_CALLERS, MOST_WON};
+ghost use Rattle.tag_core.specs.Records.{fresh_record};
+ghost use Rattle.tag_core.specs.Views.{viewing, fresh, all_fresh};
+ghost use Rattle.tag_core.specs.Opening.{IsNew, AreNew};
+ghost use Rattle.tag_core.specs.Callers.{IsCallerOf, record_of};
+
+use crate::caller::Caller;
+use crate::map::Map;
+use crate::plays::HandOut;
+use crate::record::View;
+use crate::shape::Shape;
+use crate::spots::table_words;
+use atomic_table::{Seat, Table};
+use std::alloc::{AllocError, Global};
+use std::snapshot::Snapshot;
+use tag_layout::Layout;
+use tag_model::{MAX_CALLERS, MOST_WON};
+
+/// Why there is no such map.
+#[derive(Clone, Copy, Debug, PartialEq, Eq)]
+pub enum OpenFault {
+    /// There was no memory for it.
+    Memory,
+    /// No caller, or more than 64.
+    CallerCount,
+    /// A life above 2^48.
+    LifeTooLong,
+    /// Not one slot for each tag.
+    SlotCount,
+}
+
+/// The next caller, from a seat that has the records of all that are still to come.
+fn next_caller<R>(alloc: Global, map: &Map<R>, rest: &mut Seat<R, View<R>>, number: u32) -> Result<Caller<R>, AllocError>
+    requires number { number < map.now.shape.callers }
+    requires seat { rest.old.table_id ≡ map.now.table.shared.table_id }
+    requires rest { rest.old.me ≡ (viewing (fresh map.now.shape number (map.now.shape.callers - number)), []) }
+    requires blank { (map.now.shape.won_before.value.items ≡ []) × (map.now.shape.back_before.value.items ≡ []) }
+    ensures caller { IfOk result (λ c. IsCallerOf map.now c × (record_of c ≡ fresh_record map.now.shape number)) }
+    ensures rest { IfOk result (λ c. (rest.new.table_id ≡ rest.old.table_id)
+        × (rest.new.me ≡ (viewing (fresh map.now.shape (number + 1) (map.now.shape.callers - (number + 1))), []))) }
+{
+    let layout = map.shape.layout;
+    let held = vec![in alloc; 0u64; layout.words() as usize]?;
+    let seat = map.table.shared.split_seat::<HandOut>(rest);
+    Ok(Caller {
+        seat,
+        layout,
+        number,
+        life: map.shape.life,
+        held,
+        won: 0,
+        back: 0,
+        shape: Snapshot::of(&map.shape),
+    })
+}
+
+/// All callers, in the order of their numbers, from the seat that has all records.
+fn hand_out<R>(alloc: Global, map: &Map<R>, mut rest: Seat<R, View<R>>) -> Result<Vec<Caller<R>>, AllocError>
+    requires seat { (rest.table_id ≡ map.now.table.shared.table_id) × (rest.me ≡ (all_fresh map.now.shape, [])) }
+    requires blank { (map.now.shape.won_before.value.items ≡ []) × (map.now.shape.back_before.value.items ≡ []) }
+    ensures { IfOk result (λ v. AreNew map.now v.items) }
+{
+    let mut callers = Vec::new(alloc);
+    for number in 0..map.shape.callers {
+        let caller = next_caller(alloc, map, &mut rest, number)?;
+        if callers.push(caller).is_err() {
+            return Err(AllocError);
+        }
+    }
+    Ok(callers)
+}
+
+/// A map and its callers, where nothing is to be refused but for want of memory.
+fn lay_out<R: Drop>(alloc: Global, shape: Shape, slots: Vec<R>) -> Result<(Map<R>, Vec<Caller<R>>), AllocError>
+    requires limits { (1 ≤ shape.callers) × (shape.callers ≤ MAX_CALLERS) × (shape.life ≤ MOST_WON) }
+    requires slots { length slots.items ≡ shape.layout.depth }
+    requires blank { (shape.won_before.value.items ≡ []) × (shape.back_before.value.items ≡ []) }
+    ensures { IfOk result (λ p. (p.0.shape ≡ shape) × AreNew p.0 p.1.items) }
+{
+    let room = Vec::with_capacity(alloc, shape.layout.depth() as usize)?;
+    let words = vec![in alloc; 0u64; table_words(shape.layout)]?;
+    let Ok((table, rest)) = Table::new(alloc, words.as_slice(), slots, &shape) else {
+        return Err(AllocError);
+    };
+    let map = Map { table, shape, room };
+    let callers = hand_out(alloc, &map, rest)?;
+    Ok((map, callers))
+}
+
+impl<R: Drop> Map<R> {
+    /// A map of free tags, with a slot for each, for 1 to 64 callers of which each may win at most `life` tags. The
+    /// slots are dropped where it is refused.
+    pub fn open(
+        alloc: Global,
+        layout: Layout,
+        callers: u32,
+        life: u64,
+        slots: Vec<R>,
+    ) -> Result<(Map<R>, Vec<Caller<R>>), OpenFault>
+        ensures map { IfOk result (λ p. IsNew layout callers life p.0) }
+        ensures callers { IfOk result (λ p. AreNew p.0 p.1.items) }
+
+        // The causes are looked at in this order, and memory last.
+        ensures callers_refused { (result ≡ Err OpenFault.CallerCount) ↔ ((callers ≡ 0) ⊎ (MAX_CALLERS < callers)) }
+        ensures life_refused { (result ≡ Err OpenFault.LifeTooLong)
+            ↔ ((1 ≤ callers) × (callers ≤ MAX_CALLERS) × (MOST_WON < life)) }
+        ensures slots_refused { (result ≡ Err OpenFault.SlotCount)
+            ↔ ((1 ≤ callers) × (callers ≤ MAX_CALLERS) × (life ≤ MOST_WON) × (length slots.items ≢ layout.depth)) }
+    {
+        if callers == 0 || callers > MAX_CALLERS {
+            return Err(OpenFault::CallerCount);
+        }
+        if life > MOST_WON {
+            return Err(OpenFault::LifeTooLong);
+        }
+        if slots.len() != layout.depth() as usize {
+            return Err(OpenFault::SlotCount);
+        }
+        let none: Vec<u64> = Vec::new(alloc);
+        let shape = Shape {
+            layout,
+            callers,
+            life,
+            won_before: Snapshot::of(&none),
+            back_before: Snapshot::of(&none),
+        };
+        match lay_out(alloc, shape, slots) {
+            Ok(opened) => Ok(opened),
+            Err(_) => Err(OpenFault::Memory),
+        }
+    }
+}

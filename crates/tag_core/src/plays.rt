@@ -1,0 +1,97 @@
+//! What each kind of step tells. These types are for the proofs alone.
+ghost use Rattle.std.specs.Prelude.{[]};
+ghost use Rattle.tag_core.specs.Plays.{looked, looked_aside, claimed, gave, put_aside, swapped, spilled, posted, took, fronted, ordered, counted};
+ghost use Rattle.tag_core.specs.Views.{first_view, other_views, both_views, viewing};
+
+use crate::record::View;
+use atomic_table::{Join, Play, Split};
+
+pub(crate) struct Looking;
+
+impl<R> Play<R, View<R>> for Looking {
+    ghost then = { looked };
+}
+
+pub(crate) struct LookingAside;
+
+impl<R> Play<R, View<R>> for LookingAside {
+    ghost then = { looked_aside };
+}
+
+pub(crate) struct Claiming;
+
+impl<R> Play<R, View<R>> for Claiming {
+    ghost then = { claimed };
+}
+
+pub(crate) struct Giving;
+
+impl<R> Play<R, View<R>> for Giving {
+    ghost then = { gave };
+}
+
+pub(crate) struct Putting;
+
+impl<R> Play<R, View<R>> for Putting {
+    ghost then = { put_aside };
+}
+
+pub(crate) struct Swapping;
+
+impl<R> Play<R, View<R>> for Swapping {
+    ghost then = { swapped };
+}
+
+pub(crate) struct Spilling;
+
+impl<R> Play<R, View<R>> for Spilling {
+    ghost then = { spilled };
+}
+
+pub(crate) struct Posting;
+
+impl<R> Play<R, View<R>> for Posting {
+    ghost then = { posted };
+}
+
+pub(crate) struct Taking;
+
+impl<R> Play<R, View<R>> for Taking {
+    ghost then = { took };
+}
+
+pub(crate) struct Fronting;
+
+impl<R> Play<R, View<R>> for Fronting {
+    ghost then = { fronted };
+}
+
+pub(crate) struct Ordering;
+
+impl<R> Play<R, View<R>> for Ordering {
+    ghost then = { ordered };
+}
+
+pub(crate) struct Counting;
+
+impl<R> Play<R, View<R>> for Counting {
+    ghost then = { counted };
+}
+
+/// The first record goes to a seat of its own.
+pub(crate) struct HandOut;
+
+impl<R> Split<View<R>> for HandOut {
+    ghost left = { other_views };
+
+    ghost right = { first_view };
+}
+
+/// A seat takes in the records of another.
+pub(crate) struct Collect;
+
+impl<R> Join<View<R>> for Collect {
+    ghost both = { both_views };
+
+    ghost spent = { viewing [] };
+}

@@ -1,0 +1,45 @@
+//! How a held tag passes from caller to caller.
+ghost use Rattle.std.specs.Prelude.{◌≡◌, ℕ, ◌<◌, IsTrue, IsFalse, Some, None};
+ghost use mathlib.Core.Option.{some};
+ghost use Rattle.tag_core.specs.Callers.{layout_of, IsCallerOf, Holds, slot_of, Adds};
+ghost use Rattle.tag_core.specs.declared.step.Step.TheVariants.{Post, Take};
+
+use crate::caller::Caller;
+use crate::map::Map;
+use crate::plays::{Posting, Taking};
+use crate::spots::state_spot;
+
+impl<R> Map<R> {
+    /// Hands a held tag on, with its slot, to whoever takes it first.
+    pub fn post(&self, caller: &mut Caller<R>, tag: u32)
+        requires caller { IsCallerOf self.now caller.old }
+        requires held { Holds caller.old tag }
+        ensures caller { IsCallerOf self.now caller.new }
+        ensures step { (value : R) × (slot_of caller.old tag ≡ some value) × Adds (Post tag value) caller.old caller.new }
+    {
+        let word = caller.layout.word_of(tag) as usize;
+        let bit = 1u64 << caller.layout.place_of(tag);
+        self.table.shared.store::<Posting>(&mut caller.seat, state_spot(tag), 1);
+        let held = caller.held[word] & !bit;
+        caller.held[word] = held;
+    }
+
+    /// Takes a posted tag, with its slot. False where the tag was not posted.
+    pub fn take(&self, caller: &mut Caller<R>, tag: u32) -> bool
+        requires caller { IsCallerOf self.now caller.old }
+        requires within { tag < (layout_of self.now).depth }
+        ensures caller { IsCallerOf self.now caller.new }
+        ensures won { IsTrue result → (value : R) × (slot_of caller.new tag ≡ some value) × Adds (Take tag 1 (Some value)) caller.old caller.new }
+        ensures missed { IsFalse result → Adds (Take tag 0 None) caller.old caller.new }
+    {
+        let word = caller.layout.word_of(tag) as usize;
+        let bit = 1u64 << caller.layout.place_of(tag);
+        let state = state_spot(tag);
+        if self.table.shared.compare_exchange::<Taking>(&mut caller.seat, state, 1, 0) != 1 {
+            return false;
+        }
+        let held = caller.held[word] | bit;
+        caller.held[word] = held;
+        true
+    }
+}

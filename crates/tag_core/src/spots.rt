@@ -1,0 +1,39 @@
+//! Where the words, the cleared sets and the states stand in the table. Nothing else knows the stride.
+ghost use Rattle.std.specs.Prelude.{◌≡◌};
+ghost use Rattle.tag_core.specs.Spacing.{word_at, aside_at, state_at, table_width};
+
+use tag_layout::Layout;
+
+/// Words of the table, of 8 bytes each, from one to the next that is used: 64 bytes.
+const STRIDE: usize = 8;
+
+/// The place of the spare word, which shows nothing.
+pub(crate) const SPARE: usize = 0;
+
+/// The place of a word.
+pub(crate) fn word_spot(word: u32) -> usize
+    ensures { result ≡ word_at word }
+{
+    STRIDE * (3 * word as usize + 1)
+}
+
+/// The place of a word's cleared set.
+pub(crate) fn aside_spot(word: u32) -> usize
+    ensures { result ≡ aside_at word }
+{
+    STRIDE * (3 * word as usize + 2)
+}
+
+/// The place of a tag's state.
+pub(crate) fn state_spot(tag: u32) -> usize
+    ensures { result ≡ state_at tag }
+{
+    STRIDE * (3 * tag as usize + 3)
+}
+
+/// Words of the table in all.
+pub(crate) fn table_words(layout: Layout) -> usize
+    ensures { result ≡ table_width layout }
+{
+    STRIDE * (3 * layout.depth() as usize + 1)
+}

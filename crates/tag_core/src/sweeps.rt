@@ -1,0 +1,29 @@
+//! How tags that were set aside become free.
+ghost use Rattle.std.specs.Prelude.{◌≡◌, ◌≢◌, ℕ, ◌<◌, IsTrue, IsFalse};
+ghost use Rattle.tag_layout.specs.Layout.{words};
+ghost use Rattle.tag_core.specs.Callers.{layout_of, IsCallerOf, Adds, AddsTwo};
+ghost use Rattle.tag_core.specs.declared.step.Step.TheVariants.{Word};
+ghost use Rattle.tag_core.specs.declared.word_step.WordStep.TheVariants.{Swap, Spill};
+
+use crate::caller::Caller;
+use crate::map::Map;
+use crate::plays::{Spilling, Swapping};
+use crate::spots::{aside_spot, word_spot};
+
+impl<R> Map<R> {
+    /// Empties the word's cleared set and then frees what stood in it: two steps. False, after the first, where it was empty.
+    pub fn sweep(&self, caller: &mut Caller<R>, word: u32) -> bool
+        requires caller { IsCallerOf self.now caller.old }
+        requires within { word < words (layout_of self.now) }
+        ensures caller { IsCallerOf self.now caller.new }
+        ensures none { IsFalse result → Adds (Word (Swap word 0)) caller.old caller.new }
+        ensures some { IsTrue result → (mask : ℕ) × (found : ℕ) × (mask ≢ 0) × AddsTwo (Word (Swap word mask)) (Word (Spill word mask found)) caller.old caller.new }
+    {
+        let mask = self.table.shared.swap::<Swapping>(&mut caller.seat, aside_spot(word), 0);
+        if mask == 0 {
+            return false;
+        }
+        self.table.shared.fetch_and::<Spilling>(&mut caller.seat, word_spot(word), !mask);
+        true
+    }
+}
