@@ -40,8 +40,8 @@ module _ (R : Type 0) (k : Shape) where
         ((cells_after st (cells_of sh.history)).state t) (tag_bit k.layout (held_after k.layout st r.held) t) (tag_bit k.layout (swept_after st r.swept) t)
 
   module _ (s : St) (sh : Shown k s) (r : Record R) (st : Step R) (words' : List ℕ) (homes' : List (maybe.Option R)) (owed : Owed s sh r st words')
-    (slots' : (t : ℕ) → t < k.layout.depth → SlotIs (get_elem? homes' t) (placed k.layout (event_of k.layout r.number st) (world_of k sh.history).place t))
-    (posts' : (t : ℕ) → t < k.layout.depth → placed k.layout (event_of k.layout r.number st) (world_of k sh.history).place t ≡ posted → get_elem? homes' t ≡ some (last_post t ((r.number, st) ∷ sh.history))) where
+      (slots' : (t : ℕ) → t < k.layout.depth → SlotIs (get_elem? homes' t) (placed k.layout (event_of k.layout r.number st) (world_of k sh.history).place t))
+      (posts' : (t : ℕ) → t < k.layout.depth → placed k.layout (event_of k.layout r.number st) (world_of k sh.history).place t ≡ posted → get_elem? homes' t ≡ some (last_post t ((r.number, st) ∷ sh.history))) where
     abbrev h : History R
     h = sh.history
 

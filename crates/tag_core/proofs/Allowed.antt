@@ -94,9 +94,10 @@ module _ (R : Type 0) (k : Shape) (narrow : k.layout.shift ≤ 6) (id : ℕ) (me
       → FindsHeld r i (get_or s.words (word_at i) 0) 1 × FindsHeld r i (get_or s.words (aside_at i) 0) 0
   found_held s sh o i = let same : k.layout ≡ r.shape.layout = ap (λ (z : Shape). z.layout) (sym o.shape) in
       subst (λ (z : Layout). ((t : ℕ) → t < z.depth → word_of z t ≡ i → tag_bit z r.held t ≡ 1 → bit_at (get_or s.words (word_at i) 0) (place_of z t) ≡ 1)
-      × ((t : ℕ) → t < z.depth → word_of z t ≡ i → tag_bit z r.held t ≡ 1 → bit_at (get_or s.words (aside_at i) 0) (place_of z t) ≡ 0)) same
-      ((λ t l e has. ap (λ (j : ℕ). bit_at (get_or s.words (word_at j) 0) (place_of k.layout t)) (sym e) ∙ (held_shown R k narrow s sh r o t l has).0),
-      (λ t l e has. ap (λ (j : ℕ). bit_at (get_or s.words (aside_at j) 0) (place_of k.layout t)) (sym e) ∙ (held_shown R k narrow s sh r o t l has).1))
+      × ((t : ℕ) → t < z.depth → word_of z t ≡ i → tag_bit z r.held t ≡ 1 → bit_at (get_or s.words (aside_at i) 0) (place_of z t) ≡ 0)) same (
+        (λ t l e has. ap (λ (j : ℕ). bit_at (get_or s.words (word_at j) 0) (place_of k.layout t)) (sym e) ∙ (held_shown R k narrow s sh r o t l has).0),
+        (λ t l e has. ap (λ (j : ℕ). bit_at (get_or s.words (aside_at j) 0) (place_of k.layout t)) (sym e) ∙ (held_shown R k narrow s sh r o t l has).1),
+      )
 
   pub look_allowed : (i : ℕ) → i < words k.layout → Allows (Shown k) k.layout.depth id me (word_at i) (λ n. n) (looked (step k.layout.depth (word_at i) 0 0 none) me)
   look_allowed i inside s sh deep at _ = let n : ℕ = get_or s.words (word_at i) 0 in let o = ok s sh deep at in
@@ -119,9 +120,14 @@ module _ (R : Type 0) (k : Shape) (narrow : k.layout.shift ≤ 6) (id : ℕ) (me
       → Allows (Shown k) k.layout.depth id me (word_at i) (λ n. bit_and n (2 ^ 64 - 1 - m)) (gave (step k.layout.depth (word_at i) (2 ^ 64 - 1 - m) 0 none) me)
   give_allowed i m inside low fits has s sh deep at _ = let n : ℕ = get_or s.words (word_at i) 0 in
       let z = answer s sh deep at (Word (Give i m n)) (set s.words (word_at i) (without n m)) (give_owed R k narrow s sh r (ok s sh deep at) i m inside low fits has)
-      (λ t l e. inl (unposted _ free (G s sh t) (λ x. cc) e, refl)) in
-      (z.0, z.1, z.2, z.3, λ i' m' r' ei low' em er. let same : m ≡ m' = omega arith in
-      subst (λ (x : ℕ × ℕ × Record R). Stepped (Word (Give x.0 x.1 n)) x.2 me (z.0, carried_after me.1 z.1)) (λ j. (word_at_one i i' ei j, same j, same_record r r' (sym mine ∙ er) j)) z.4)
+      (λ t l e. inl (unposted _ free (G s sh t) (λ x. cc) e, refl)) in (
+        z.0,
+        z.1,
+        z.2,
+        z.3,
+        λ i' m' r' ei low' em er. let same : m ≡ m' = omega arith in
+            subst (λ (x : ℕ × ℕ × Record R). Stepped (Word (Give x.0 x.1 n)) x.2 me (z.0, carried_after me.1 z.1)) (λ j. (word_at_one i i' ei j, same j, same_record r r' (sym mine ∙ er) j)) z.4,
+      )
 
   pub swap_allowed : (i : ℕ) → i < words k.layout → Allows (Shown k) k.layout.depth id me (aside_at i) (λ _. 0) (swapped (step k.layout.depth (aside_at i) 0 0 none) me)
   swap_allowed i inside s sh deep at _ = let n : ℕ = get_or s.words (aside_at i) 0 in
@@ -142,9 +148,14 @@ module _ (R : Type 0) (k : Shape) (narrow : k.layout.shift ≤ 6) (id : ℕ) (me
       let z = answer s sh deep at (Post u y) (set s.words (state_at u) 1) (post_owed R k narrow s sh r o u y lu has)
       (λ t l e. dite (ℕ_discrete t u)
       (λ (same : t ≡ u). inr (held_from r.number _ (o.held t l ∙ ap (tag_bit k.layout r.held) same ∙ has), ap (λ (b : Bool). cond b (some y) (last_post t sh.history)) (eq-eqb t u same) ∙ sym val ∙ ap (value_of me.1) (sym same)))
-      (λ (n : t ≢ u). inl (ap (λ (b : Bool). cond b posted (G s sh t)) (sym (ne_eqb t u n)) ∙ e, ap (λ (b : Bool). cond b (some y) (last_post t sh.history)) (ne_eqb t u n)))) in
-      (z.0, z.1, z.2, z.3, λ u' y' r' eu ey er. subst (λ (x : ℕ × R × Record R). Stepped (Post x.0 x.1) x.2 me (z.0, carried_after me.1 z.1))
-      (λ j. (state_at_one u u' eu j, some-injective y y' (sym val ∙ ap (value_of me.1) (state_at_one u u' eu) ∙ ey) j, same_record r r' (sym mine ∙ er) j)) z.4)
+      (λ (n : t ≢ u). inl (ap (λ (b : Bool). cond b posted (G s sh t)) (sym (ne_eqb t u n)) ∙ e, ap (λ (b : Bool). cond b (some y) (last_post t sh.history)) (ne_eqb t u n)))) in (
+        z.0,
+        z.1,
+        z.2,
+        z.3,
+        λ u' y' r' eu ey er. subst (λ (x : ℕ × R × Record R). Stepped (Post x.0 x.1) x.2 me (z.0, carried_after me.1 z.1))
+            (λ j. (state_at_one u u' eu j, some-injective y y' (sym val ∙ ap (value_of me.1) (state_at_one u u' eu) ∙ ey) j, same_record r r' (sym mine ∙ er) j)) z.4,
+      )
 
   pub put_allowed : (u : ℕ) → u < k.layout.depth → tag_bit k.layout r.held u ≡ 1
       → Allows (Shown k) k.layout.depth id me (aside_at (word_of k.layout u)) (λ n. bit_or n (2 ^ place_of k.layout u)) (put_aside (step k.layout.depth (aside_at (word_of k.layout u)) (2 ^ place_of k.layout u) 0 none) me)
@@ -173,14 +184,34 @@ module _ (R : Type 0) (k : Shape) (narrow : k.layout.shift ≤ 6) (id : ℕ) (me
       let now_mine : tag_bit k.layout (held_after k.layout (Take u 1 (Some last.0)) r.held) u ≡ 1 =
       sym (owed.tags u lu).held ∙ ap (λ (x : Bool). held_bit r.number (cond x (held r.number) ((world_of k sh.history).place u))) one ∙ ap one_if (eq-eqb r.number r.number refl) in
       let came = go.taken u lu not_mine now_mine in
-      let val : value_of (carried_after me.1 go.act) u ≡ some last.0 = ap (λ (l : List (ℕ × R)). value_of l u) go.list_is ∙ came.2 ∙ some-injective _ _ (sym came.1 ∙ sh.posts u lu its) ∙ last.1 in
-      (z.0, z.1, z.2, z.3, λ u' r' eu er. (λ h. (last.0, subst (λ (x : ℕ). value_of (carried_after me.1 go.act) x ≡ some last.0) (state_at_one u u' eu) val,
-      subst (λ (x : ℕ × Record R). Stepped (Take x.0 1 (Some last.0)) x.1 me (z.0, carried_after me.1 z.1)) (λ j. (state_at_one u u' eu j, same_record r r' (sym mine ∙ er) j)) z.4),
-      λ h. absurd (h hit))))
+      let val : value_of (carried_after me.1 go.act) u ≡ some last.0 = ap (λ (l : List (ℕ × R)). value_of l u) go.list_is ∙ came.2 ∙ some-injective _ _ (sym came.1 ∙ sh.posts u lu its) ∙ last.1 in (
+        z.0,
+        z.1,
+        z.2,
+        z.3,
+        λ u' r' eu er. (
+          λ h. (
+            last.0,
+            subst (λ (x : ℕ). value_of (carried_after me.1 go.act) x ≡ some last.0) (state_at_one u u' eu) val,
+            subst (λ (x : ℕ × Record R). Stepped (Take x.0 1 (Some last.0)) x.1 me (z.0, carried_after me.1 z.1)) (λ j. (state_at_one u u' eu j, same_record r r' (sym mine ∙ er) j)) z.4,
+          ),
+          λ h. absurd (h hit),
+        ),
+      ))
       (λ (miss : n ≢ 1). let zero_there : n ≡ 0 = omega arith in
-      let z = still s sh deep at (Take u 0 None) (state_at u) (miss_owed R k narrow s sh r o u lu zero_there) (λ t l e. inl (e, refl)) in
-      (z.0, z.1, z.2, z.3, λ u' r' eu er. (λ h. absurd (miss h), λ h. (zero_there,
-      subst (λ (x : ℕ × Record R). Stepped (Take x.0 0 None) x.1 me (z.0, carried_after me.1 z.1)) (λ j. (state_at_one u u' eu j, same_record r r' (sym mine ∙ er) j)) z.4))))
+      let z = still s sh deep at (Take u 0 None) (state_at u) (miss_owed R k narrow s sh r o u lu zero_there) (λ t l e. inl (e, refl)) in (
+        z.0,
+        z.1,
+        z.2,
+        z.3,
+        λ u' r' eu er. (
+          λ h. absurd (miss h),
+          λ h. (
+            zero_there,
+            subst (λ (x : ℕ × Record R). Stepped (Take x.0 0 None) x.1 me (z.0, carried_after me.1 z.1)) (λ j. (state_at_one u u' eu j, same_record r r' (sym mine ∙ er) j)) z.4,
+          ),
+        ),
+      ))
     where
       post_there : (s : State R (View R)) (sh : Shown k s) (u : ℕ) → u < k.layout.depth → (world_of k sh.history).place u ≡ posted → (y : R) × (last_post u sh.history ≡ some y)
       post_there s sh u lu its = let w = subst (λ (p : Place). SlotIs (get_elem? s.homes u) p) its (sh.slots u lu) in (w.0, some-injective _ _ (sym (sh.posts u lu its) ∙ w.1))

@@ -41,8 +41,8 @@ module _ {R : Type 0} (m : Map R) (w : Caller R) (own : IsCallerOf m w) where
   )
 
 module _ {R : Type 0} (w : Caller R) (st : Step R) (me' : Me R (View R)) (did : Stepped st (record_of w) w.seat.me me') (held' : List ℕ) (won' back' : ℕ)
-  (held_is : held_after w.shape.value.layout st w.held.items ≡ held') (swept_is : swept_after st (replicate {A = ℕ} (words w.shape.value.layout) 0) ≡ replicate (words w.shape.value.layout) 0)
-  (won_is : w.won + won_by (event_of w.shape.value.layout w.number st) ≡ won') (back_is : w.back + back_by (event_of w.shape.value.layout w.number st) ≡ back') where
+    (held_is : held_after w.shape.value.layout st w.held.items ≡ held') (swept_is : swept_after st (replicate {A = ℕ} (words w.shape.value.layout) 0) ≡ replicate (words w.shape.value.layout) 0)
+    (won_is : w.won + won_by (event_of w.shape.value.layout w.number st) ≡ won') (back_is : w.back + back_by (event_of w.shape.value.layout w.number st) ≡ back') where
   -- the record that the new fields give
   abbrev pub now : Record R
   now = record { shape = w.shape.value; number = w.number; held = held'; swept = replicate (words w.shape.value.layout) 0; won = won'; back = back'; steps = steps_of me'.0 }

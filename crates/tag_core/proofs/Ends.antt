@@ -157,7 +157,7 @@ module _ (k : Shape) where
   by_tags ms long fits =
       by_index count_ones ms ∙ ap (sum_below (λ i. count_ones (get_or ms i 0))) long
       ∙ sum_below-same (λ i. count_ones (get_or ms i 0)) (λ i. sum_below (among k.layout.shift i (get_or ms i 0)) k.layout.depth) (words k.layout)
-          (λ i l. sym (sum_below-same (among k.layout.shift i (get_or ms i 0)) (λ t. one_if (is_in_mask k.layout i (get_or ms i 0) t)) k.layout.depth (λ t lt. among_named k.layout i (get_or ms i 0) t) ∙ sum_below-mask k.layout i (get_or ms i 0) l (fits i l)))
+      (λ i l. sym (sum_below-same (among k.layout.shift i (get_or ms i 0)) (λ t. one_if (is_in_mask k.layout i (get_or ms i 0) t)) k.layout.depth (λ t lt. among_named k.layout i (get_or ms i 0) t) ∙ sum_below-mask k.layout i (get_or ms i 0) l (fits i l)))
       ∙ sym (sum_below-swap (λ i. among k.layout.shift i (get_or ms i 0)) k.layout.depth (words k.layout))
       ∙ sum_below-same (λ t. sum_below (λ i. among k.layout.shift i (get_or ms i 0) t) (words k.layout)) (tag_bit k.layout ms) k.layout.depth (λ t l.
       sum_below-only (λ i. among k.layout.shift i (get_or ms i 0) t) (words k.layout) (word_of k.layout t) (word_of-below k.layout t l) (λ i li ne. else_among i (get_or ms i 0) t (λ z. ne (sym z)))
@@ -188,7 +188,7 @@ module _ (k : Shape) where
           ∙ perm_sum (λ c. sum_below (λ t. held_bit c (w.place t)) k.layout.depth) (number_at v.records.value) sh.position (length v.records.value) k.callers each_once all_there
           ∙ sym (sum_below-swap (λ c t. held_bit c (w.place t)) k.layout.depth k.callers)
           ∙ sum_below-same (λ t. sum_below (λ c. held_bit c (w.place t)) k.callers) (λ t. one_if (is_held (w.place t))) k.layout.depth
-              (λ t l. holders (w.place t) (λ d e. known (events_of k.layout sh.history) (opening_world k) (λ t' d' e'. absurd cc) sh.lawful.happens t d e))
+          (λ t l. holders (w.place t) (λ d e. known (events_of k.layout sh.history) (opening_world k) (λ t' d' e'. absurd cc) sh.lawful.happens t d e))
 
     zero_or_one : (q : Place) → one_if (nat_eq (posted_bit q) 1) ≡ one_if (is_posted q)
     zero_or_one free = refl

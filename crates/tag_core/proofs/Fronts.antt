@@ -105,8 +105,8 @@ module _ (R : Type 0) (n : ℕ) (f : ℕ → ℕ) (u : ℕ) (lu : u < n) (has : 
       let hs1 : List (maybe.Option R) = set hs u (some value) in let long : length hs1 ≡ length hs = length-set hs u (some value) in
       let home : get_elem? hs1 u ≡ some (some value) = set_here hs u (some value) (omega arith) in
       let go = moves R (but f u) f n hs1 slots (omega arith) tags (λ t l no is. dite (ℕ_discrete t u)
-          (λ (e : t ≡ u). (value, ap (get_elem? hs1) e ∙ home))
-          (λ (ne : t ≢ u). absurd (no (but_else f u t ne ∙ is)))) in
+      (λ (e : t ≡ u). (value, ap (get_elem? hs1) e ∙ home))
+      (λ (ne : t ≢ u). absurd (no (but_else f u t ne ∙ is)))) in
       let here : but f u u ≢ 1 = (λ (e : but f u u ≡ 1). let z = but_here f u in absurd (omega arith)) in
       let came = go.taken u lu here has in record {
         act = chain gives go.act;
@@ -151,19 +151,19 @@ module _ (R : Type 0) (k : Shape) (id : ℕ) (me : Me R (View R)) (r : Record R)
       → Allows (Shown k) k.layout.depth id me (state_at u) (λ n. n) (ordered (step k.layout.depth (state_at u) 0 0 none) me)
   order_allowed value slots list tags s sh deep at _ = let shape = (ok s sh at).shape in
       let go = subst (Order R k.layout.depth (tag_bit k.layout r.held) u lu has s.homes deep (out_there s sh at) value slots) (sym list) (orders R k.layout.depth (tag_bit k.layout r.held) u lu has s.homes deep (out_there s sh at) value slots tags) in (
-    me.0,
-    go.act,
-    go.valid,
-    same_homes R k s (homes_after s.homes me.1 go.act) sh go.same id (state_at u) me.0 at,
-    λ u' v' xs' r' eu er el et eh. let same_list : (u, value) ∷ slots ≡ (u', v') ∷ xs' = sym list ∙ el in
-        let same_value : value ≡ v' = ap (λ (z : ℕ × R). z.1) (some-injective (u, value) (u', v') (ap (λ (z : List (ℕ × R)). get_elem? z 0) same_list)) in
-        let same_slots : slots ≡ xs' = ap rest_of same_list in
-        subst (λ (x : ℕ × Record R × R × List (ℕ × R)). (me.0 ≡ me.0) × Carries x.1.shape.layout x.1.held (carried_after me.1 go.act) × (value_of (carried_after me.1 go.act) x.0 ≡ some x.2)
-        × ((t : ℕ) → t < x.1.shape.layout.depth → t ≢ x.0 → tag_bit x.1.shape.layout x.1.held t ≡ 1 → value_of (carried_after me.1 go.act) t ≡ value_of x.3 t))
-        (λ j. (state_at_one u u' eu j, one_record r r' (sym mine ∙ er) j, same_value j, same_slots j))
-        (subst (λ (z : Shape). (me.0 ≡ me.0) × Carries z.layout r.held (carried_after me.1 go.act) × (value_of (carried_after me.1 go.act) u ≡ some value)
-        × ((t : ℕ) → t < z.layout.depth → t ≢ u → tag_bit z.layout r.held t ≡ 1 → value_of (carried_after me.1 go.act) t ≡ value_of slots t)) (sym shape) (refl, go.tags, go.now, go.others)),
-  )
+        me.0,
+        go.act,
+        go.valid,
+        same_homes R k s (homes_after s.homes me.1 go.act) sh go.same id (state_at u) me.0 at,
+        λ u' v' xs' r' eu er el et eh. let same_list : (u, value) ∷ slots ≡ (u', v') ∷ xs' = sym list ∙ el in
+            let same_value : value ≡ v' = ap (λ (z : ℕ × R). z.1) (some-injective (u, value) (u', v') (ap (λ (z : List (ℕ × R)). get_elem? z 0) same_list)) in
+            let same_slots : slots ≡ xs' = ap rest_of same_list in
+            subst (λ (x : ℕ × Record R × R × List (ℕ × R)). (me.0 ≡ me.0) × Carries x.1.shape.layout x.1.held (carried_after me.1 go.act) × (value_of (carried_after me.1 go.act) x.0 ≡ some x.2)
+            × ((t : ℕ) → t < x.1.shape.layout.depth → t ≢ x.0 → tag_bit x.1.shape.layout x.1.held t ≡ 1 → value_of (carried_after me.1 go.act) t ≡ value_of x.3 t))
+            (λ j. (state_at_one u u' eu j, one_record r r' (sym mine ∙ er) j, same_value j, same_slots j))
+            (subst (λ (z : Shape). (me.0 ≡ me.0) × Carries z.layout r.held (carried_after me.1 go.act) × (value_of (carried_after me.1 go.act) u ≡ some value)
+            × ((t : ℕ) → t < z.layout.depth → t ≢ u → tag_bit z.layout r.held t ≡ 1 → value_of (carried_after me.1 go.act) t ≡ value_of slots t)) (sym shape) (refl, go.tags, go.now, go.others)),
+      )
     where
       rest_of : List (ℕ × R) → List (ℕ × R)
       rest_of [] = []

@@ -62,7 +62,7 @@ opening_even k opens =
     let held = sum_below-none (λ t. 0) k.layout.depth (λ t l. refl) in let even = opens.even in omega arith
 
 module _ (R : Type 0) (k : Shape) (s : State R (View R)) (sh : Shown k s) (r : Record R) (st : Step R) (words' : List ℕ) (owed : Owed R k s sh r st words')
-  (ok : IsKnown k sh.history r) (cs : List (ℕ × R)) (carries : Carries k.layout r.held cs) (deep : length s.homes ≡ k.layout.depth) where
+    (ok : IsKnown k sh.history r) (cs : List (ℕ × R)) (carries : Carries k.layout r.held cs) (deep : length s.homes ≡ k.layout.depth) where
   abbrev q : ℕ → Place
   q = (world_of k sh.history).place
 

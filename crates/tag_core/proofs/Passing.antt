@@ -100,8 +100,10 @@ module _ (R : Type 0) (k : Shape) where
       let seat' : ℕ → ℕ = λ c. cond (nat_eq c r.number) (length vs) (sh.seat c) in
       let position' : ℕ → ℕ = λ c. cond (nat_eq c r.number) 0 (cond (nat_eq (sh.seat c) id) (sh.position c - 1) (sh.position c)) in
       let moved : (q : Record R) (j n j' n' : ℕ) → q.number ≢ r.number → cond (nat_eq (sh.seat q.number) id) (sh.position q.number - 1) (sh.position q.number) ≡ n' → sh.seat q.number ≡ j' → (seat' q.number ≡ j') × (position' q.number ≡ n')
-          = (λ q j n j' n' far ep es. (ap (λ (b : Bool). cond b (length vs) (sh.seat q.number)) (ne_eqb q.number r.number far) ∙ es,
-          ap (λ (b : Bool). cond b 0 (cond (nat_eq (sh.seat q.number) id) (sh.position q.number - 1) (sh.position q.number))) (ne_eqb q.number r.number far) ∙ ep)) in record {
+      = (λ q j n j' n' far ep es. (
+        ap (λ (b : Bool). cond b (length vs) (sh.seat q.number)) (ne_eqb q.number r.number far) ∙ es,
+        ap (λ (b : Bool). cond b 0 (cond (nat_eq (sh.seat q.number) id) (sh.position q.number - 1) (sh.position q.number))) (ne_eqb q.number r.number far) ∙ ep,
+      )) in record {
         opening = sh.opening;
         history = sh.history;
         lawful = sh.lawful;
@@ -124,10 +126,11 @@ module _ (R : Type 0) (k : Shape) where
             let m = moved q j n j n far (ap (λ (b : Bool). cond b (sh.position q.number - 1) (sh.position q.number)) (ne_eqb (sh.seat q.number) id (λ z. t.0 (sym o.1 ∙ z))) ∙ o.2) o.1 in (o.0, m.0, m.1))
             (at_set s.views id j (viewing rs) v' old))
             (λ (t : (j ≡ length vs) × (alone r ≡ v')).
-            let o = first_only n r q (ap (λ (z : View R). get_elem? z.records.value n) t.1 ∙ e') in
-            (subst (IsKnown k sh.history) o.1 first.0,
-            ap (λ (b : Bool). cond b (length vs) (sh.seat q.number)) (eq-eqb q.number r.number (ap (λ (x : Record R). x.number) (sym o.1))) ∙ sym t.0,
-            ap (λ (b : Bool). cond b 0 (cond (nat_eq (sh.seat q.number) id) (sh.position q.number - 1) (sh.position q.number))) (eq-eqb q.number r.number (ap (λ (x : Record R). x.number) (sym o.1))) ∙ sym o.0))
+            let o = first_only n r q (ap (λ (z : View R). get_elem? z.records.value n) t.1 ∙ e') in (
+              subst (IsKnown k sh.history) o.1 first.0,
+              ap (λ (b : Bool). cond b (length vs) (sh.seat q.number)) (eq-eqb q.number r.number (ap (λ (x : Record R). x.number) (sym o.1))) ∙ sym t.0,
+              ap (λ (b : Bool). cond b 0 (cond (nat_eq (sh.seat q.number) id) (sh.position q.number - 1) (sh.position q.number))) (eq-eqb q.number r.number (ap (λ (x : Record R). x.number) (sym o.1))) ∙ sym o.0,
+            ))
             (snoc_at vs (alone r) v' j e);
         each = everyone_split R k.callers s.views sh.seat sh.position id r rs here (λ q n e. (sh.records id (viewing (r ∷ rs)) here n q e).2) first.2 sh.each;
       }
@@ -144,8 +147,10 @@ module _ (R : Type 0) (k : Shape) where
       let seat' : ℕ → ℕ = λ c. cond (nat_eq (sh.seat c) other) id (sh.seat c) in
       let position' : ℕ → ℕ = λ c. cond (nat_eq (sh.seat c) other) (length v.records.value + sh.position c) (sh.position c) in
       let stays : (q : Record R) (j n : ℕ) → j ≢ other → sh.seat q.number ≡ j → sh.position q.number ≡ n → (seat' q.number ≡ j) × (position' q.number ≡ n) =
-          (λ q j n far es ep. (ap (λ (b : Bool). cond b id (sh.seat q.number)) (ne_eqb (sh.seat q.number) other (λ z. far (sym es ∙ z))) ∙ es,
-          ap (λ (b : Bool). cond b (length v.records.value + sh.position q.number) (sh.position q.number)) (ne_eqb (sh.seat q.number) other (λ z. far (sym es ∙ z))) ∙ ep)) in record {
+      (λ q j n far es ep. (
+        ap (λ (b : Bool). cond b id (sh.seat q.number)) (ne_eqb (sh.seat q.number) other (λ z. far (sym es ∙ z))) ∙ es,
+        ap (λ (b : Bool). cond b (length v.records.value + sh.position q.number) (sh.position q.number)) (ne_eqb (sh.seat q.number) other (λ z. far (sym es ∙ z))) ∙ ep,
+      )) in record {
         opening = sh.opening;
         history = sh.history;
         lawful = sh.lawful;
@@ -160,9 +165,11 @@ module _ (R : Type 0) (k : Shape) where
             (λ (t : (j ≢ other) × (get_elem? vs j ≡ some v')). ⊎_elim
             (λ (u : (j ≡ id) × (both ≡ v')). ⊎_elim
             (λ (own : get_elem? v.records.value n ≡ some q). let o = sh.records id v at n q own in let m = stays q j n t.0 (o.1 ∙ sym u.0) o.2 in (o.0, m.0, m.1))
-            (λ (his : (i : ℕ) × (n ≡ length v.records.value + i) × (get_elem? w.records.value i ≡ some q)). let o = sh.records other w that his.0 q his.2 in
-            (o.0, ap (λ (b : Bool). cond b id (sh.seat q.number)) (eq-eqb (sh.seat q.number) other o.1) ∙ sym u.0,
-            ap (λ (b : Bool). cond b (length v.records.value + sh.position q.number) (sh.position q.number)) (eq-eqb (sh.seat q.number) other o.1) ∙ ap (λ (z : ℕ). length v.records.value + z) o.2 ∙ sym his.1))
+            (λ (his : (i : ℕ) × (n ≡ length v.records.value + i) × (get_elem? w.records.value i ≡ some q)). let o = sh.records other w that his.0 q his.2 in (
+              o.0,
+              ap (λ (b : Bool). cond b id (sh.seat q.number)) (eq-eqb (sh.seat q.number) other o.1) ∙ sym u.0,
+              ap (λ (b : Bool). cond b (length v.records.value + sh.position q.number) (sh.position q.number)) (eq-eqb (sh.seat q.number) other o.1) ∙ ap (λ (z : ℕ). length v.records.value + z) o.2 ∙ sym his.1,
+            ))
             (append_at v.records.value w.records.value q n (ap (λ (z : View R). get_elem? z.records.value n) u.1 ∙ e')))
             (λ (u : (j ≢ id) × (get_elem? s.views j ≡ some v')). let o = sh.records j v' u.1 n q e' in let m = stays q j n t.0 o.1 o.2 in (o.0, m.0, m.1))
             (at_set s.views id j both v' t.1))

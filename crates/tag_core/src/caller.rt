@@ -32,13 +32,13 @@ pub struct Caller<R> {
     pub(crate) shape: Snapshot<Shape>,
     ghost told: { (layout ≡ shape.value.layout) × (life ≡ shape.value.life) },
     ghost knows: { seat.me.0 ≡ alone (record {
-        shape = shape.value;
-        number = number;
-        held = held.items;
-        swept = replicate (words shape.value.layout) 0;
-        won = won;
-        back = back;
-        steps = steps_of seat.me.0;
+      shape = shape.value;
+      number = number;
+      held = held.items;
+      swept = replicate (words shape.value.layout) 0;
+      won = won;
+      back = back;
+      steps = steps_of seat.me.0;
     }) },
     ghost carries: { Carries shape.value.layout held.items seat.me.1 },
     ghost wide: { length held.items ≡ words shape.value.layout },

@@ -12,7 +12,6 @@ use crate::map::Map;
 use crate::plays::Claiming;
 use crate::spots::word_spot;
 
-
 impl<R> Map<R> {
     /// Sets the bits of the mask in a word, and wins those that were 0. `Spent` where the mask's bits could pass the
     /// caller's life.
@@ -30,7 +29,10 @@ impl<R> Map<R> {
         if !caller.room(mask.count_ones()) {
             return Err(Spent);
         }
-        let found = self.table.shared.fetch_or::<Claiming>(&mut caller.seat, word_spot(word), mask);
+        let found = self
+            .table
+            .shared
+            .fetch_or::<Claiming>(&mut caller.seat, word_spot(word), mask);
         let won = mask & !found;
         let held = caller.held[word as usize] | won;
         caller.held[word as usize] = held;

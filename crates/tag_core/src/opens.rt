@@ -32,7 +32,12 @@ pub enum OpenFault {
 }
 
 /// The next caller, from a seat that has the records of all that are still to come.
-fn next_caller<R>(alloc: Global, map: &Map<R>, rest: &mut Seat<R, View<R>>, number: u32) -> Result<Caller<R>, AllocError>
+fn next_caller<R>(
+    alloc: Global,
+    map: &Map<R>,
+    rest: &mut Seat<R, View<R>>,
+    number: u32,
+) -> Result<Caller<R>, AllocError>
     requires number { number < map.now.shape.callers }
     requires seat { rest.old.table_id ≡ map.now.table.shared.table_id }
     requires rest { rest.old.me ≡ (viewing (fresh map.now.shape number (map.now.shape.callers - number)), []) }
@@ -57,7 +62,11 @@ fn next_caller<R>(alloc: Global, map: &Map<R>, rest: &mut Seat<R, View<R>>, numb
 }
 
 /// All callers, in the order of their numbers, from the seat that has all records.
-fn hand_out<R>(alloc: Global, map: &Map<R>, mut rest: Seat<R, View<R>>) -> Result<Vec<Caller<R>>, AllocError>
+fn hand_out<R>(
+    alloc: Global,
+    map: &Map<R>,
+    mut rest: Seat<R, View<R>>,
+) -> Result<Vec<Caller<R>>, AllocError>
     requires seat { (rest.table_id ≡ map.now.table.shared.table_id) × (rest.me ≡ (all_fresh map.now.shape, [])) }
     requires blank { (map.now.shape.won_before.value.items ≡ []) × (map.now.shape.back_before.value.items ≡ []) }
     ensures { IfOk result (λ v. AreNew map.now v.items) }
@@ -73,7 +82,11 @@ fn hand_out<R>(alloc: Global, map: &Map<R>, mut rest: Seat<R, View<R>>) -> Resul
 }
 
 /// A map and its callers, where nothing is to be refused but for want of memory.
-fn lay_out<R: Drop>(alloc: Global, shape: Shape, slots: Vec<R>) -> Result<(Map<R>, Vec<Caller<R>>), AllocError>
+fn lay_out<R: Drop>(
+    alloc: Global,
+    shape: Shape,
+    slots: Vec<R>,
+) -> Result<(Map<R>, Vec<Caller<R>>), AllocError>
     requires limits { (1 ≤ shape.callers) × (shape.callers ≤ MAX_CALLERS) × (shape.life ≤ MOST_WON) }
     requires slots { length slots.items ≡ shape.layout.depth }
     requires blank { (shape.won_before.value.items ≡ []) × (shape.back_before.value.items ≡ []) }

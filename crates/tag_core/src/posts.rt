@@ -19,7 +19,9 @@ impl<R> Map<R> {
     {
         let word = caller.layout.word_of(tag) as usize;
         let bit = 1u64 << caller.layout.place_of(tag);
-        self.table.shared.store::<Posting>(&mut caller.seat, state_spot(tag), 1);
+        self.table
+            .shared
+            .store::<Posting>(&mut caller.seat, state_spot(tag), 1);
         let held = caller.held[word] & !bit;
         caller.held[word] = held;
     }
@@ -35,7 +37,12 @@ impl<R> Map<R> {
         let word = caller.layout.word_of(tag) as usize;
         let bit = 1u64 << caller.layout.place_of(tag);
         let state = state_spot(tag);
-        if self.table.shared.compare_exchange::<Taking>(&mut caller.seat, state, 1, 0) != 1 {
+        if self
+            .table
+            .shared
+            .compare_exchange::<Taking>(&mut caller.seat, state, 1, 0)
+            != 1
+        {
             return false;
         }
         let held = caller.held[word] | bit;

@@ -22,7 +22,10 @@ impl<R> Map<R> {
     {
         let spot = state_spot(tag);
         self.table.shared.load::<Fronting>(&mut caller.seat, spot);
-        let old = self.table.shared.exchange(&mut caller.seat, tag as usize, new);
+        let old = self
+            .table
+            .shared
+            .exchange(&mut caller.seat, tag as usize, new);
         self.table.shared.load::<Ordering>(&mut caller.seat, spot);
         old
     }

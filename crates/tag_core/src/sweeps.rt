@@ -19,11 +19,16 @@ impl<R> Map<R> {
         ensures none { IsFalse result → Adds (Word (Swap word 0)) caller.old caller.new }
         ensures some { IsTrue result → (mask : ℕ) × (found : ℕ) × (mask ≢ 0) × AddsTwo (Word (Swap word mask)) (Word (Spill word mask found)) caller.old caller.new }
     {
-        let mask = self.table.shared.swap::<Swapping>(&mut caller.seat, aside_spot(word), 0);
+        let mask = self
+            .table
+            .shared
+            .swap::<Swapping>(&mut caller.seat, aside_spot(word), 0);
         if mask == 0 {
             return false;
         }
-        self.table.shared.fetch_and::<Spilling>(&mut caller.seat, word_spot(word), !mask);
+        self.table
+            .shared
+            .fetch_and::<Spilling>(&mut caller.seat, word_spot(word), !mask);
         true
     }
 }

@@ -11,7 +11,7 @@ invariant-loop-i g l = record {
   len : slots_len l.ended.slots ≡ slots_len l.fn.ended.slots;
   capacity : vec_capacity l.room ≡ vec_capacity l.fn.room;
   count : vec_len l.room ≡ l.i;
-  out : l.room.items ≡ take l.i (slots_items l.fn.ended.slots)
+  out : l.room.items ≡ take l.i (slots_items l.fn.ended.slots);
 }
 
 abbrev pub decreases-loop-i : goal.decreases-loop-i

@@ -13,9 +13,11 @@ use Rattle.tag_core.proofs.opens.next_caller.Goals as goal
 
 pub split_seat-seat-requires : goal.split_seat-seat-requires
 split_seat-seat-requires g c = let m = c.args.map.now in let k = m.shape in let R = g.row.R.Denot in let v = c.args.rest.now.me.0 in let n : ℕ = c.args.number in
-    let is : v ≡ viewing (fresh_record k n ∷ fresh k (n + 1) (k.callers - (n + 1))) = ap (λ x. x.0) c.requires.rest ∙ ap viewing (next_fresh R k n k.callers c.requires.number) in
-    (c.requires.seat, subst (λ (z : ℕ). 0 < z) (sym m.wide.0) (some_width k.layout),
-    subst (λ (z : Shape). Splits (Shown z) c.args.rest.now.id v (other_views v) (first_view v)) (sym m.told) (hands R k c.args.rest.now.id v (fresh_record k n) (fresh k (n + 1) (k.callers - (n + 1))) is))
+    let is : v ≡ viewing (fresh_record k n ∷ fresh k (n + 1) (k.callers - (n + 1))) = ap (λ x. x.0) c.requires.rest ∙ ap viewing (next_fresh R k n k.callers c.requires.number) in (
+      c.requires.seat,
+      subst (λ (z : ℕ). 0 < z) (sym m.wide.0) (some_width k.layout),
+      subst (λ (z : Shape). Splits (Shown z) c.args.rest.now.id v (other_views v) (first_view v)) (sym m.told) (hands R k c.args.rest.now.id v (fresh_record k n) (fresh k (n + 1) (k.callers - (n + 1))) is),
+    )
 
 -- a caller that won nothing before
 none_before : {R : Type 0} (k : Shape) (n : ℕ) → k.won_before.value.items ≡ [] → k.back_before.value.items ≡ []
@@ -39,9 +41,10 @@ pub returns-clause-caller : goal.returns-clause-caller
 returns-clause-caller g c = let k = c.args.map.now.shape in let n : ℕ = c.args.number in let R = g.row.R.Denot in
     let is = ap (λ x. x.0) c.requires.rest ∙ ap viewing (next_fresh R k n k.callers c.requires.number) in
     let blank : c.in_ok-held.held.items ≡ replicate (words k.layout) 0 = search rules in
-    let alone_is = ap (λ x. x.0) c.split_seat-seat.ensures.4 ∙ ap first_view is in
-    ((c.split_seat-seat.ensures.3 ∙ c.requires.seat, c.of.ensures),
-    (λ j. record { shape = c.of.ensures j; number = n; held = blank j; swept = replicate (words (c.of.ensures j).layout) 0; won = 0; back = 0; steps = steps_of (alone_is j) }) ∙ sym (none_before {R = R} k n c.requires.blank.0 c.requires.blank.1))
+    let alone_is = ap (λ x. x.0) c.split_seat-seat.ensures.4 ∙ ap first_view is in (
+      (c.split_seat-seat.ensures.3 ∙ c.requires.seat, c.of.ensures),
+      (λ j. record { shape = c.of.ensures j; number = n; held = blank j; swept = replicate (words (c.of.ensures j).layout) 0; won = 0; back = 0; steps = steps_of (alone_is j) }) ∙ sym (none_before {R = R} k n c.requires.blank.0 c.requires.blank.1),
+    )
 
 pub returns-clause-rest : goal.returns-clause-rest
 returns-clause-rest g c = let k = c.args.map.now.shape in let n : ℕ = c.args.number in let R = g.row.R.Denot in

@@ -28,7 +28,7 @@ pub fetch_or-found-requires : goal.fetch_or-found-requires
 fetch_or-found-requires g c = let m = c.args.self.now in let w = c.args.caller.now in let k = w.shape.value in let own = c.requires.caller in let R = g.row.R.Denot in let i : ℕ = c.args.word in let x : ℕ = c.args.mask in let inside = in_words m w own i c.requires.within.0 in
     let roomy : w.won + count_ones x ≤ k.life = c.room.ensures.0 (search rules) in let life = w.unspent.1 in let told = w.told.1 in
     let a = asked m w own w.seat.id w.seat.me (word_at i) c.word_spot.result (λ n. bit_or n x) x 0 claimed c.word_spot.ensures (word_in k.layout i inside)
-        (claim_allowed R k (narrow m w own) w.seat.id w.seat.me (record_of w) w.knows w.carries i x inside (subst (λ (z : Shape). IsWithin z.layout i x) (sym own.1) c.requires.within.1) (omega arith)) in (own.0, a.0, a.1)
+    (claim_allowed R k (narrow m w own) w.seat.id w.seat.me (record_of w) w.knows w.carries i x inside (subst (λ (z : Shape). IsWithin z.layout i x) (sym own.1) c.requires.within.1) (omega arith)) in (own.0, a.0, a.1)
 
 pub invariant_of-caller : goal.invariant_of-caller
 invariant_of-caller g c = let m = c.args.self.now in let w = c.args.caller.now in let k = w.shape.value in let own = c.requires.caller in let R = g.row.R.Denot in let i : ℕ = c.args.word in let f : ℕ = c.fetch_or-found.result in let did = c.fetch_or-found.ensures.2 i (record_of w) c.word_spot.ensures w.knows in

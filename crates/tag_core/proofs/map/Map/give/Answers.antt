@@ -28,8 +28,8 @@ pub fetch_and-requires : goal.fetch_and-requires
 fetch_and-requires g c = let m = c.args.self.now in let w = c.args.caller.now in let k = w.shape.value in let own = c.requires.caller in let R = g.row.R.Denot in let i : ℕ = c.args.word in let x : ℕ = c.args.mask in let inside = in_words m w own i c.requires.within.0 in
     let same : m.shape ≡ k = sym own.1 in
     let a = asked m w own w.seat.id w.seat.me (word_at i) c.word_spot.result (λ n. bit_and n (2 ^ 64 - 1 - x)) (2 ^ 64 - 1 - x) 0 gave c.word_spot.ensures (word_in k.layout i inside)
-        (give_allowed R k (narrow m w own) w.seat.id w.seat.me (record_of w) w.knows w.carries i x inside (subst (λ (z : Shape). IsWithin z.layout i x) same c.requires.within.1) c.ranges.mask.fits
-        (λ t l a. (c.requires.held t (subst (λ (z : Shape). t < z.layout.depth) own.1 l) (one_among m.shape.layout i x t (subst (λ (z : Shape). among z.layout.shift i x t ≡ 1) own.1 a))).1)) in (own.0, a.0, a.1)
+    (give_allowed R k (narrow m w own) w.seat.id w.seat.me (record_of w) w.knows w.carries i x inside (subst (λ (z : Shape). IsWithin z.layout i x) same c.requires.within.1) c.ranges.mask.fits
+    (λ t l a. (c.requires.held t (subst (λ (z : Shape). t < z.layout.depth) own.1 l) (one_among m.shape.layout i x t (subst (λ (z : Shape). among z.layout.shift i x t ≡ 1) own.1 a))).1)) in (own.0, a.0, a.1)
 
 pub invariant_of-caller : goal.invariant_of-caller
 invariant_of-caller g c = let m = c.args.self.now in let w = c.args.caller.now in let k = w.shape.value in let own = c.requires.caller in let R = g.row.R.Denot in let i : ℕ = c.args.word in let x : ℕ = c.args.mask in let did = c.fetch_and.ensures.2 i x (record_of w) c.word_spot.ensures c.ranges.mask.fits refl w.knows in

@@ -32,7 +32,7 @@ use Rattle.tag_core.proofs.map.Map.slot.Goals as goal
 pub load-requires : goal.load-requires
 load-requires g c = let m = c.args.self.now in let w = c.args.caller.now in let k = w.shape.value in let own = c.requires.caller in let R = g.row.R.Denot in let u : ℕ = c.args.tag in let lu = c.requires.held.0 in let has = c.requires.held.1 in
     let a = asked m w own w.seat.id w.seat.me (state_at u) c.state_spot-spot.result (λ n. n) 0 0 fronted c.state_spot-spot.ensures (state_in k.layout u lu)
-        (front_allowed R k w.seat.id w.seat.me (record_of w) w.knows u lu has w.carries) in (own.0, a.0, a.1)
+    (front_allowed R k w.seat.id w.seat.me (record_of w) w.knows u lu has w.carries) in (own.0, a.0, a.1)
 
 pub exchange-old-requires : goal.exchange-old-requires
 exchange-old-requires g c = let m = c.args.self.now in let w = c.args.caller.now in let k = w.shape.value in let own = c.requires.caller in let R = g.row.R.Denot in let u : ℕ = c.args.tag in let lu = c.requires.held.0 in let has = c.requires.held.1 in
@@ -47,7 +47,7 @@ load-requires-2 g c = let m = c.args.self.now in let w = c.args.caller.now in le
     let now : c.exchange-old.new.seat.me.1 ≡ (u, c.args.new) ∷ first.1 = ap (λ z. z.1) c.exchange-old.ensures.3 ∙ ap (λ (z : List (ℕ × R)). (u, c.args.new) ∷ rest z) first.3 in
     let seat = c.exchange-old.new.seat in
     let a = asked m w own seat.id seat.me (state_at u) c.state_spot-spot.result (λ n. n) 0 0 ordered c.state_spot-spot.ensures (state_in k.layout u lu)
-        (order_allowed R k seat.id seat.me (record_of w) (view ∙ w.knows) u lu has c.args.new first.1 now first.5) in (c.exchange-old.ensures.0 ∙ c.load.ensures.0 ∙ own.0, a.0, a.1)
+    (order_allowed R k seat.id seat.me (record_of w) (view ∙ w.knows) u lu has c.args.new first.1 now first.5) in (c.exchange-old.ensures.0 ∙ c.load.ensures.0 ∙ own.0, a.0, a.1)
 
 pub invariant_of-caller : goal.invariant_of-caller
 invariant_of-caller g c = let m = c.args.self.now in let w = c.args.caller.now in let k = w.shape.value in let own = c.requires.caller in let R = g.row.R.Denot in let u : ℕ = c.args.tag in let lu = c.requires.held.0 in let has = c.requires.held.1 in
@@ -101,6 +101,7 @@ returns-clause-unchanged g c = let m = c.args.self.now in let w = c.args.caller.
     let view : c.exchange-old.new.seat.me.0 ≡ w.seat.me.0 = ap (λ z. z.0) c.exchange-old.ensures.3 ∙ first.2 in
     let now : c.exchange-old.new.seat.me.1 ≡ (u, c.args.new) ∷ first.1 = ap (λ z. z.1) c.exchange-old.ensures.3 ∙ ap (λ (z : List (ℕ × R)). (u, c.args.new) ∷ rest z) first.3 in
     let last = c.load-2.ensures.2 u c.args.new first.1 (record_of w) c.state_spot-spot.ensures (view ∙ w.knows) now first.5 has in
-    let same = last.0 ∙ view in
-    ((λ j. record { shape = k; number = w.number; held = w.held.items; swept = replicate (words k.layout) 0; won = w.won; back = w.back; steps = steps_of (same j) }),
-    c.load-2.ensures.0 ∙ c.exchange-old.ensures.0 ∙ c.load.ensures.0)
+    let same = last.0 ∙ view in (
+      (λ j. record { shape = k; number = w.number; held = w.held.items; swept = replicate (words k.layout) 0; won = w.won; back = w.back; steps = steps_of (same j) }),
+      c.load-2.ensures.0 ∙ c.exchange-old.ensures.0 ∙ c.load.ensures.0,
+    )

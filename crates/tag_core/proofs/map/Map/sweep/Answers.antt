@@ -34,7 +34,7 @@ use Rattle.tag_core.proofs.map.Map.sweep.Goals as goal
 pub swap-mask-requires : goal.swap-mask-requires
 swap-mask-requires g c = let m = c.args.self.now in let w = c.args.caller.now in let k = w.shape.value in let own = c.requires.caller in let R = g.row.R.Denot in let i : ℕ = c.args.word in let inside = in_words m w own i c.requires.within in
     let a = asked m w own w.seat.id w.seat.me (aside_at i) c.aside_spot.result (λ _. 0) 0 0 swapped c.aside_spot.ensures (aside_in k.layout i inside)
-        (swap_allowed R k (narrow m w own) w.seat.id w.seat.me (record_of w) w.knows w.carries i inside) in (own.0, a.0, a.1)
+    (swap_allowed R k (narrow m w own) w.seat.id w.seat.me (record_of w) w.knows w.carries i inside) in (own.0, a.0, a.1)
 
 pub invariant_of-caller : goal.invariant_of-caller
 invariant_of-caller g c = let m = c.args.self.now in let w = c.args.caller.now in let k = w.shape.value in let own = c.requires.caller in let R = g.row.R.Denot in let i : ℕ = c.args.word in let inside = in_words m w own i c.requires.within in let f : ℕ = c.swap-mask.result in
@@ -55,8 +55,8 @@ fetch_and-requires g c = let m = c.args.self.now in let w = c.args.caller.now in
     let did = c.swap-mask.ensures.2 i (record_of w) c.aside_spot.ensures w.knows in let r1 : Record R = record_after (Word (Swap i f)) (record_of w) in
     let mask : get_or r1.swept i 0 ≡ f = mask_of (words k.layout) i f inside in let me = c.swap-mask.new.seat.me in
     let a = asked m w own c.swap-mask.new.seat.id me (word_at i) c.word_spot.result (λ n. bit_and n (2 ^ 64 - 1 - f)) (2 ^ 64 - 1 - f) 0 spilled c.word_spot.ensures (word_in k.layout i inside)
-        (subst (λ (z : ℕ). Allows (Shown k) k.layout.depth c.swap-mask.new.seat.id me (word_at i) (λ n. bit_and n (2 ^ 64 - 1 - z)) (spilled (step k.layout.depth (word_at i) (2 ^ 64 - 1 - z) 0 none) me)) mask
-        (spill_allowed R k (narrow m w own) c.swap-mask.new.seat.id me r1 did.view did.carries i inside (subst (λ (z : ℕ). z < 2 ^ 64) (sym mask) c.swap-mask.type_inv))) in (c.swap-mask.ensures.0 ∙ own.0, a.0, a.1)
+    (subst (λ (z : ℕ). Allows (Shown k) k.layout.depth c.swap-mask.new.seat.id me (word_at i) (λ n. bit_and n (2 ^ 64 - 1 - z)) (spilled (step k.layout.depth (word_at i) (2 ^ 64 - 1 - z) 0 none) me)) mask
+    (spill_allowed R k (narrow m w own) c.swap-mask.new.seat.id me r1 did.view did.carries i inside (subst (λ (z : ℕ). z < 2 ^ 64) (sym mask) c.swap-mask.type_inv))) in (c.swap-mask.ensures.0 ∙ own.0, a.0, a.1)
 
 -- the record after both steps
 both : {R : Type 0} (w : Caller R) (i f n : ℕ) (me' : Me R (View R)) → i < words w.shape.value.layout
@@ -92,8 +92,13 @@ pub returns-clause-some : goal.returns-clause-some
 returns-clause-some g c = let m = c.args.self.now in let w = c.args.caller.now in let k = w.shape.value in let own = c.requires.caller in let R = g.row.R.Denot in let i : ℕ = c.args.word in let inside = in_words m w own i c.requires.within in let f : ℕ = c.swap-mask.result in
     let did = c.swap-mask.ensures.2 i (record_of w) c.aside_spot.ensures w.knows in let r1 : Record R = record_after (Word (Swap i f)) (record_of w) in
     let done = c.fetch_and.ensures.2 i r1 c.word_spot.ensures did.view in let me = c.fetch_and.new.seat.me in
-    λ _. (f, c.fetch_and.result, c.if-mask-eq0.false, record {
-      known = both w i f c.fetch_and.result me inside done.view;
-      slots = λ t was is. done.values t was.0 was.1 was.1 ∙ did.values t was.0 was.1 was.1;
-      same_map = c.fetch_and.ensures.0 ∙ c.swap-mask.ensures.0;
-    })
+    λ _. (
+      f,
+      c.fetch_and.result,
+      c.if-mask-eq0.false,
+      record {
+        known = both w i f c.fetch_and.result me inside done.view;
+        slots = λ t was is. done.values t was.0 was.1 was.1 ∙ did.values t was.0 was.1 was.1;
+        same_map = c.fetch_and.ensures.0 ∙ c.swap-mask.ensures.0;
+      },
+    )

@@ -16,6 +16,13 @@ loop-next-preserved g c = let R = g.row.R.Denot in let m = c.args.tags.now in le
     let callers : next.shape.value.callers ≤ 64 = subst (λ (z : Shape). z.callers ≤ 64) (sym mine.1) m.few.1 in let long = length-map ds (record_of {R = R}) in record {
       here = b.seat;
       own = all_front (λ (x : Caller R). IsCallerOf m x) front next own;
-      done = (next ∷ ds, done.1 ∙ ap (λ (z : List (Caller R)). z ++ ds) e.items ∙ append_assoc front (next ∷ []) ds, b.records ∙ (λ j. first j ++ done.2 j), omega arith,
-          (let s = b.sums.0 in let w = one.0 in let d = done.4 in omega arith), (let s = b.sums.1 in let w = one.1 in let d = done.5 in omega arith), (let s = b.sums.2 in let w = one.2 in let d = done.6 in omega arith));
+      done = (
+        next ∷ ds,
+        done.1 ∙ ap (λ (z : List (Caller R)). z ++ ds) e.items ∙ append_assoc front (next ∷ []) ds,
+        b.records ∙ (λ j. first j ++ done.2 j),
+        omega arith,
+        (let s = b.sums.0 in let w = one.0 in let d = done.4 in omega arith),
+        (let s = b.sums.1 in let w = one.1 in let d = done.5 in omega arith),
+        (let s = b.sums.2 in let w = one.2 in let d = done.6 in omega arith),
+      );
     }

@@ -15,9 +15,13 @@ use Rattle.tag_core.proofs.Totalling.{total_of-append}
 use Rattle.tag_core.proofs.together.Together.before.Goals as goal
 
 pub join_seat-requires : goal.join_seat-requires
-join_seat-requires g c = let m = c.args.map.now in let v = c.args.self.seat in let w = c.args.all.seat in
-    (c.requires.seats.0, c.requires.seats.1, c.args.all.empty, subst (λ (z : ℕ). 0 < z) (sym m.wide.0) (some_width m.shape.layout),
-    subst (λ (z : Shape). Joins (Shown z) v.id v.me.0 w.id w.me.0 (both_views v.me.0 w.me.0) (viewing [])) (sym m.told) (joins g.row.R.Denot m.shape v.id v.me.0 w.id w.me.0))
+join_seat-requires g c = let m = c.args.map.now in let v = c.args.self.seat in let w = c.args.all.seat in (
+  c.requires.seats.0,
+  c.requires.seats.1,
+  c.args.all.empty,
+  subst (λ (z : ℕ). 0 < z) (sym m.wide.0) (some_width m.shape.layout),
+  subst (λ (z : Shape). Joins (Shown z) v.id v.me.0 w.id w.me.0 (both_views v.me.0 w.me.0) (viewing [])) (sym m.told) (joins g.row.R.Denot m.shape v.id v.me.0 w.id w.me.0),
+)
 
 pub load-requires : goal.load-requires
 load-requires g c = let m = c.args.map.now in let seat = c.join_seat.new.seat in
