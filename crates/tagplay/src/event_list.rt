@@ -7,7 +7,7 @@ ghost use Rattle.tagplay.specs.EventList.{event_of, single_of, masked_of, single
 use crate::fault::{FaultyLine, LineFault};
 use crate::lines::{BLANK, LINE_FEED, cut};
 use crate::numbers::{number, short_number};
-use std::alloc::{AllocError, Global};
+use std::alloc::Global;
 use tag_model::Event;
 
 /// The kinds of event that name a caller, and one tag or one word.

@@ -49,7 +49,9 @@ fn shift<'a>(alloc: Global) -> Arg<'a> {
         .long("shift")
         .value_name("S")
         .value_parser(value_parser!(u32))
-        .help("Tags are kept in words of 2^S bits, S at most 6 [default: four words or more]")
+        .help(
+            "Tags are kept in words of 2^S bits, S at most 6 [default: the greatest S with four whole words]",
+        )
 }
 
 fn callers<'a>(alloc: Global) -> Arg<'a> {
