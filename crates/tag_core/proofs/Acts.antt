@@ -1,11 +1,11 @@
 -- A seat gives back all slots that it has, and takes those of its tags after the step, in order.
-use Rattle.std.proofs.Common.{◌≡◌, ◌≢◌, ℕ, zero, suc, ◌+◌, ◌-◌, ◌*◌, ◌/◌, ◌%◌, ◌^◌, ◌<◌, ◌≤◌, ◌⊎◌, List, [], ◌∷◌, map, length, get_or, set, Bool, true, false, cond, nat_eq, arith, refl, sym, ap, ◌∙◌, subst, ⊎_elim, inl, inr, length-set, eq-eqb, ne_eqb}
+use Rattle.std.proofs.Common.{◌≡◌, ◌≢◌, ℕ, zero, suc, ◌+◌, ◌<◌, ◌≤◌, List, [], ◌∷◌, map, length, set, Bool, cond, arith, refl, sym, ap, ◌∙◌, subst, length-set, eq-eqb, ne_eqb}
 use mathlib.Core.Option.{some, none, some-injective, some-ne-none}
 use mathlib.Core.Option as maybe
 use mathlib.Core.Logic.{dite}
-use native.Mathlib.Decide.{ℕ_discrete, dec_le}
+use native.Mathlib.Decide.{ℕ_discrete}
 use lib.ListN.{get_elem?}
-use Rattle.atomic_table.specs.Table.{Act, keeps, takes, gives, chain, carried_after, homes_after, Valid, rest}
+use Rattle.atomic_table.specs.Table.{Act, keeps, takes, gives, chain, carried_after, homes_after, Valid}
 use Rattle.atomic_table.proofs.Lists.{set_here, set_else}
 use Rattle.tag_core.specs.Records.{tags_from, value_of}
 

@@ -1,5 +1,5 @@
 -- One step of one caller keeps the rule, where the cells, the tags and the slots are shown to follow.
-use Rattle.std.proofs.Common.{◌≡◌, ◌≢◌, ℕ, zero, suc, ◌+◌, ◌-◌, ◌*◌, ◌/◌, ◌%◌, ◌^◌, ◌<◌, ◌≤◌, List, [], ◌∷◌, length, get_or, set, arith, refl, sym, ap, ◌∙◌, subst, ⊎_elim, inl, inr}
+use Rattle.std.proofs.Common.{◌≡◌, ◌≢◌, ℕ, zero, suc, ◌+◌, ◌<◌, List, [], ◌∷◌, get_or, set, refl, sym, ap, ◌∙◌, subst, ⊎_elim}
 use mathlib.Core.Option.{some, none, some-injective, some-ne-none}
 use mathlib.Core.Option as maybe
 use lib.ListN.{get_elem?}
@@ -8,8 +8,8 @@ use Rattle.atomic_table.specs.Table.{State}
 use Rattle.atomic_table.proofs.Lists.{at_set}
 use Rattle.tag_layout.specs.Layout.{Layout, words, word_of, place_of, IsWithin}
 use Rattle.tag_model.specs.declared.place.Place.TheVariants.{Posted as posted}
-use Rattle.tag_model.specs.Event.{IsInLayout, won_by, back_by}
-use Rattle.tag_model.specs.World.{World, MayHappen}
+use Rattle.tag_model.specs.Event.{won_by, back_by}
+use Rattle.tag_model.specs.World.{MayHappen}
 use Rattle.tag_core.specs.declared.shape.Shape.{Shape}
 use Rattle.tag_core.specs.declared.step.Step.{Step}
 use Rattle.tag_core.specs.declared.record.Record.{Record}

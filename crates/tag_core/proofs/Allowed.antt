@@ -1,6 +1,6 @@
 -- Each kind of step is allowed by the rule.
-use Rattle.std.proofs.Common.{◌≡◌, ◌≢◌, ℕ, zero, suc, ◌+◌, ◌-◌, ◌*◌, ◌/◌, ◌%◌, ◌^◌, ◌<◌, ◌≤◌, ◌⊎◌, List, [], ◌∷◌, map, length, get_or, set, nat_eq, ◌==◌, Bool, true, false, cond, eqb, count_ones, bit_or, bit_and, IsTrue, arith, refl, sym, ap, ◌∙◌, subst, ⊎_elim, inl, inr, Some, None, eq-eqb, ne_eqb}
-use mathlib.Core.Option.{some, none, some-injective, some-ne-none}
+use Rattle.std.proofs.Common.{◌≡◌, ◌≢◌, ℕ, ◌+◌, ◌-◌, ◌^◌, ◌<◌, ◌≤◌, ◌⊎◌, List, ◌∷◌, length, get_or, set, ◌==◌, Bool, true, false, cond, eqb, count_ones, bit_or, bit_and, arith, refl, sym, ap, ◌∙◌, subst, inl, inr, Some, None, eq-eqb, ne_eqb}
+use mathlib.Core.Option.{some, none, some-injective}
 use mathlib.Core.Logic.{dite}
 use native.Mathlib.Decide.{ℕ_discrete}
 use lib.ListN.{get_elem?}

@@ -1,10 +1,10 @@
 -- What the table asks of a call, and what a caller knows after it.
-use Rattle.std.proofs.Common.{◌≡◌, ℕ, ◌+◌, ◌*◌, ◌<◌, ◌≤◌, List, replicate, arith, refl, sym, ap, ◌∙◌, subst}
+use Rattle.std.proofs.Common.{◌≡◌, ℕ, ◌+◌, ◌*◌, ◌<◌, ◌≤◌, List, replicate, arith, sym, ap, ◌∙◌, subst}
 use mathlib.Core.Option.{none}
 use Rattle.std.proofs.Math.Nat.{mul-le-mul_right}
 use Rattle.atomic_table.specs.Table.{Me, step, Allows}
 use Rattle.atomic_table.specs.Table as table
-use Rattle.tag_layout.specs.Layout.{Layout, words}
+use Rattle.tag_layout.specs.Layout.{words}
 use Rattle.tag_model.specs.declared.world.TheConstants.{MAX_CALLERS, MOST_WON}
 use Rattle.tag_model.specs.Event.{won_by, back_by}
 use Rattle.tag_core.specs.declared.shape.Shape.{Shape}

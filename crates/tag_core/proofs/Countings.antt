@@ -1,10 +1,9 @@
 -- A seat counts the records that it has.
-use Rattle.std.proofs.Common.{◌≡◌, ℕ, ◌<◌, ◌≤◌, List, ◌∷◌, length, refl, sym, ap, ◌∙◌, subst}
+use Rattle.std.proofs.Common.{◌≡◌, ℕ, ◌≤◌, ◌∷◌, length, refl, sym, ap, ◌∙◌, subst}
 use mathlib.Core.Option.{some, none}
 use lib.ListN.{get_elem?}
 use Rattle.atomic_table.specs.Table.{Me, keeps, step, Allows}
 use Rattle.tag_core.specs.declared.shape.Shape.{Shape}
-use Rattle.tag_core.specs.declared.record.Record.{Record}
 use Rattle.tag_core.specs.declared.record.View.{View}
 use Rattle.tag_core.specs.Views.{viewing}
 use Rattle.tag_core.specs.Rule.{Shown}

@@ -1,13 +1,12 @@
 -- What the last state tells where one seat has the records of all callers.
-use Rattle.std.proofs.Common.{◌≡◌, ◌≢◌, ℕ, zero, suc, ◌+◌, ◌-◌, ◌*◌, ◌/◌, ◌%◌, ◌^◌, ◌<◌, ◌≤◌, ◌⊎◌, List, [], ◌∷◌, map, length, get_or, nat_eq, ◌==◌, Bool, true, false, cond, count_ones, arith, refl, sym, ap, ◌∙◌, subst, ⊎_elim, inl, inr, eq-eqb, ne_eqb}
-use mathlib.Core.Option.{some, none, some-injective, some-ne-none}
+use Rattle.std.proofs.Common.{◌≡◌, ◌≢◌, ℕ, zero, suc, ◌+◌, ◌/◌, ◌%◌, ◌^◌, ◌<◌, ◌≤◌, ◌⊎◌, List, [], ◌∷◌, length, get_or, nat_eq, ◌==◌, Bool, true, false, cond, count_ones, arith, refl, sym, ap, ◌∙◌, subst, ⊎_elim, inl, inr, eq-eqb, ne_eqb}
+use mathlib.Core.Option.{some, some-injective, some-ne-none}
 use mathlib.Core.Logic.{dite}
-use native.Mathlib.Decide.{ℕ_discrete, dec_lt}
+use native.Mathlib.Decide.{dec_lt}
 use lib.ListN.{get_elem?}
 use Rattle.std.specs.Int.{bit_at}
-use Rattle.std.proofs.lemmas.Nat.{div-add-mod', div-mul-add, mod-mul-add, mod_below, pow_pos}
-use Rattle.atomic_table.specs.Table.{State, Final, Seen}
-use Rattle.tag_layout.specs.Layout.{Layout, words, word_depth, word_of, place_of, IsWithin}
+use Rattle.atomic_table.specs.Table.{State}
+use Rattle.tag_layout.specs.Layout.{words, word_of, IsWithin}
 use Rattle.tag_layout.specs.Sums.{sum_below}
 use Rattle.tag_layout.proofs.SumFacts.{sum_below-none, sum_below-same, sum_below-only, sum_below-split, sum_below-swap, sum_below-le}
 use Rattle.tag_layout.proofs.PlaceFacts.{word_of-below}
@@ -15,8 +14,8 @@ use Rattle.tag_model.specs.declared.place.Place.{Place}
 use Rattle.tag_model.specs.declared.place.Place.TheVariants.{Free as free, Held as held, Posted as posted, Aside as aside, Sweep as sweep}
 use Rattle.tag_model.specs.declared.event.Event.{Event}
 use Rattle.tag_model.specs.declared.event.Event.TheVariants as event
-use Rattle.tag_model.specs.Event.{caller_of, names, brings, is_in_mask, swept_by, spilled_by}
-use Rattle.tag_model.specs.World.{World, MayHappen, place_after}
+use Rattle.tag_model.specs.Event.{caller_of, is_in_mask, swept_by, spilled_by}
+use Rattle.tag_model.specs.World.{World, place_after}
 use Rattle.tag_model.specs.Runs.{after_history, IsHistory}
 use Rattle.tag_model.specs.Totals.{is_held, is_posted, got_in, back_in, held_in, posted_in, Balances}
 use Rattle.tag_model.proofs.MaskFacts.{sum_below-mask}
@@ -29,7 +28,7 @@ use Rattle.tag_core.specs.Bits.{one_if, held_bit, posted_bit}
 use Rattle.tag_core.specs.Histories.{events_of, opening_world, world_of}
 use Rattle.tag_core.specs.Records.{tag_bit}
 use Rattle.tag_core.specs.Sizes.{total_of, size_of}
-use Rattle.tag_core.specs.Rule.{IsKnown, Shown}
+use Rattle.tag_core.specs.Rule.{Shown}
 use Rattle.tag_core.proofs.Moving.{opening_even}
 use Rattle.tag_core.proofs.Picks.{among, among_named}
 

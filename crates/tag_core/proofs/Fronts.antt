@@ -1,5 +1,5 @@
 -- A held tag's slot comes to the front of its seat, and goes back to its place in the order: two loads that change nothing else.
-use Rattle.std.proofs.Common.{◌≡◌, ◌≢◌, ℕ, zero, suc, ◌<◌, ◌≤◌, ◌⊎◌, List, [], ◌∷◌, map, length, get_or, set, nat_eq, Bool, cond, arith, refl, sym, ap, ◌∙◌, subst, ⊎_elim, inl, inr, length-set, eq-eqb, ne_eqb}
+use Rattle.std.proofs.Common.{◌≡◌, ◌≢◌, ℕ, zero, suc, ◌<◌, List, [], ◌∷◌, map, length, get_or, set, Bool, cond, arith, refl, sym, ap, ◌∙◌, subst, length-set, eq-eqb, ne_eqb}
 use mathlib.Core.Option.{some, none, some-injective, some-ne-none}
 use mathlib.Core.Option as maybe
 use mathlib.Core.Logic.{dite}
@@ -8,21 +8,18 @@ use lib.ListN.{get_elem?}
 use lib.Seq.{set-get_or}
 use Rattle.atomic_table.specs.Table.{State, Me, Act, Valid, keeps, takes, gives, chain, carried_after, homes_after, step, Allows}
 use Rattle.atomic_table.proofs.Lists.{set_here, set_else}
-use Rattle.tag_layout.specs.Layout.{Layout}
-use Rattle.tag_model.specs.declared.place.Place.{Place}
-use Rattle.tag_model.specs.declared.place.Place.TheVariants.{Held as held}
 use Rattle.tag_core.specs.declared.shape.Shape.{Shape}
 use Rattle.tag_core.specs.declared.record.Record.{Record}
 use Rattle.tag_core.specs.declared.record.View.{View}
 use Rattle.tag_core.specs.Spacing.{state_at}
 use Rattle.tag_core.specs.Histories.{world_of}
 use Rattle.tag_core.specs.Records.{tag_bit, value_of, tags_from, but, Carries}
-use Rattle.tag_core.specs.Views.{viewing, alone}
+use Rattle.tag_core.specs.Views.{alone}
 use Rattle.tag_core.specs.Rule.{SlotIs, IsKnown, Shown}
 use Rattle.tag_core.specs.Plays.{fronted, ordered}
 use Rattle.tag_core.proofs.Turns.{held_from}
 use Rattle.tag_core.proofs.Stand.{state_at_one}
-use Rattle.tag_core.proofs.Acts.{Moved, moves}
+use Rattle.tag_core.proofs.Acts.{moves}
 
 -- what stands in a list already
 pub set_same : {A : Type 0} (l : List A) (i : ℕ) (a : A) → get_elem? l i ≡ some a → set l i a ≡ l

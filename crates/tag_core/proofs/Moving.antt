@@ -1,17 +1,15 @@
 -- One step of one caller, with its slots.
-use Rattle.std.proofs.Common.{◌≡◌, ◌≢◌, ℕ, zero, suc, ◌+◌, ◌-◌, ◌*◌, ◌/◌, ◌%◌, ◌^◌, ◌<◌, ◌≤◌, ◌⊎◌, List, [], ◌∷◌, map, length, get_or, set, nat_eq, Bool, arith, refl, sym, ap, ◌∙◌, subst, ⊎_elim, inl, inr, eq-eqb}
+use Rattle.std.proofs.Common.{◌≡◌, ◌≢◌, ℕ, ◌+◌, ◌*◌, ◌<◌, ◌≤◌, ◌⊎◌, List, ◌∷◌, map, length, set, arith, refl, sym, ap, ◌∙◌, subst, ⊎_elim, inl, inr, eq-eqb}
 use mathlib.Core.Option.{some, none, some-injective, some-ne-none}
 use mathlib.Core.Option as maybe
 use mathlib.Core.Logic.{dite}
 use native.Mathlib.Decide.{ℕ_discrete}
 use lib.ListN.{get_elem?}
-use Rattle.atomic_table.specs.Table.{State, Act, Valid, carried_after, homes_after}
-use Rattle.tag_layout.specs.Layout.{Layout}
+use Rattle.atomic_table.specs.Table.{State, carried_after, homes_after}
 use Rattle.tag_model.specs.declared.place.Place.{Place}
 use Rattle.tag_model.specs.declared.place.Place.TheVariants.{Free as free, Held as held, Posted as posted, Aside as aside, Sweep as sweep}
 use Rattle.tag_model.specs.declared.world.TheConstants.{MOST_WON}
 use Rattle.tag_model.specs.Event.{back_by}
-use Rattle.tag_model.specs.World.{World}
 use Rattle.tag_model.specs.Totals.{got_in, back_in, held_in, posted_in}
 use Rattle.tag_layout.proofs.SumFacts.{sum_below-none}
 use Rattle.tag_model.proofs.HistoryFacts.{back-history}
@@ -21,13 +19,13 @@ use Rattle.tag_core.specs.declared.record.Record.{Record}
 use Rattle.tag_core.specs.declared.record.View.{View}
 use Rattle.tag_core.specs.Bits.{one_if, held_bit}
 use Rattle.tag_core.specs.Histories.{event_of, events_of, opening_world, world_of, last_post}
-use Rattle.tag_core.specs.Records.{record_after, held_after, tag_bit, value_of, tags_from, Carries}
+use Rattle.tag_core.specs.Records.{record_after, held_after, tag_bit, value_of, Carries}
 use Rattle.tag_core.specs.Views.{alone}
 use Rattle.tag_core.specs.Rule.{SlotIs, IsKnown, IsOpening, Shown}
 use Rattle.tag_core.specs.Plays.{Stepped}
 use Rattle.tag_core.proofs.Picks.{placed}
 use Rattle.tag_core.proofs.Counts.{own}
-use Rattle.tag_core.proofs.Turns.{Shows, held_from}
+use Rattle.tag_core.proofs.Turns.{held_from}
 use Rattle.tag_core.proofs.Advance.{Owed, advances}
 use Rattle.tag_core.proofs.Acts.{Moved, moves}
 

@@ -1,19 +1,17 @@
 -- What each kind of step owes.
-use Rattle.std.proofs.Common.{◌≡◌, ◌≢◌, Some, None, ℕ, zero, suc, ◌+◌, ◌-◌, ◌*◌, ◌/◌, ◌%◌, ◌^◌, ◌<◌, ◌≤◌, List, [], ◌∷◌, length, get_or, set, Bool, true, false, cond, nat_eq, ◌==◌, bit_or, bit_and, count_ones, min, max, IsTrue, arith, refl, sym, ap, ◌∙◌, subst, ⊎_elim, inl, inr, length-set, get_or-set_other, get_or-set_same, eq-eqb, ne_eqb}
-use mathlib.Core.Option.{some, none}
-use mathlib.Core.Option as maybe
+use Rattle.std.proofs.Common.{◌≡◌, ◌≢◌, Some, None, ℕ, suc, ◌+◌, ◌-◌, ◌/◌, ◌%◌, ◌^◌, ◌<◌, ◌≤◌, List, length, get_or, set, Bool, cond, nat_eq, bit_or, count_ones, min, max, arith, refl, sym, ap, ◌∙◌, subst, length-set, get_or-set_other, get_or-set_same, eq-eqb, ne_eqb}
+use mathlib.Core.Option.{some}
 use mathlib.Core.Logic.{dite}
-use native.Mathlib.Decide.{ℕ_discrete, dec_lt}
-use lib.ListN.{get_elem?}
+use native.Mathlib.Decide.{ℕ_discrete}
 use Rattle.std.specs.Int.{bit_at, trailing_zeros, w64}
-use Rattle.std.proofs.lemmas.Nat.{pow_pos, pow_below, div-add-mod', or_lt, mod_below}
+use Rattle.std.proofs.lemmas.Nat.{pow_pos, pow_below, or_lt, mod_below}
 use Rattle.std.proofs.lemmas.Nat.Bits.{bit_at_or, bit_at-lt, bit_at-zero, bit_at-pow_same, bit_at-pow_other, bit_at-trailing_zeros}
 use Rattle.std.proofs.Math.Pow.{pow_mono}
 use Rattle.atomic_table.specs.Table.{State}
-use Rattle.tag_layout.specs.Layout.{Layout, words, word_depth, word_of, place_of, tag_at, IsWithin}
+use Rattle.tag_layout.specs.Layout.{words, word_depth, word_of, place_of, tag_at, IsWithin}
 use Rattle.tag_layout.proofs.PlaceFacts.{tag_at-back, word_of-below}
 use Rattle.tag_model.specs.declared.place.Place.{Place}
-use Rattle.tag_model.specs.declared.place.Place.TheVariants.{Free as free, Held as held, Posted as posted, Aside as aside, Sweep as sweep}
+use Rattle.tag_model.specs.declared.place.Place.TheVariants.{Free as free, Held as held, Posted as posted, Aside as aside}
 use Rattle.tag_model.specs.declared.world.TheConstants.{MOST_WON}
 use Rattle.tag_model.specs.Event.{is_in_mask}
 use Rattle.tag_model.specs.World.{World}
@@ -27,10 +25,10 @@ use Rattle.tag_core.specs.declared.record.View.{View}
 use Rattle.tag_core.specs.Steps.{changed_at, without}
 use Rattle.tag_core.specs.Spacing.{word_at, aside_at, state_at}
 use Rattle.tag_core.specs.Bits.{one_if, word_bit, aside_bit, posted_bit, held_bit, sweep_bit}
-use Rattle.tag_core.specs.Histories.{Cells, cells_of, event_of, events_of, opening_world, world_of, last_post}
+use Rattle.tag_core.specs.Histories.{Cells, cells_of, events_of, opening_world, world_of, last_post}
 use Rattle.tag_core.specs.Records.{tag_bit}
-use Rattle.tag_core.specs.Rule.{HasCells, IsKnown, ShowsTag, Shown}
-use Rattle.tag_core.proofs.Picks.{pick, among, only, placed, among_one, one_among, only_one, pick_among, pick_only, pick_swept, pick_spilled}
+use Rattle.tag_core.specs.Rule.{HasCells, IsKnown, Shown}
+use Rattle.tag_core.proofs.Picks.{pick, among, only, among_one, only_one, pick_among, pick_only, pick_swept, pick_spilled}
 use Rattle.tag_core.proofs.Turns.{Shows, stays, claims, gives, puts, posts, takes, gathers, spills, unchanged, posted_small, posted_from, aside_small, sweep_small, reshow, free_from, held_from}
 use Rattle.tag_core.proofs.Masks.{bit_minus, minus_le, ones_minus}
 use Rattle.tag_core.proofs.Stand.{word_at_one, aside_at_one, state_at_one, word_no_aside, word_no_state, aside_no_state, word_in, aside_in, state_in, set_spread, same_tag, tag_mask_within}

@@ -1,13 +1,13 @@
 -- Records pass from one seat to another.
-use Rattle.std.proofs.Common.{◌≡◌, ◌≢◌, ℕ, zero, suc, ◌+◌, ◌-◌, ◌*◌, ◌/◌, ◌%◌, ◌^◌, ◌<◌, ◌≤◌, ◌⊎◌, List, [], ◌∷◌, ◌++◌, map, length, get_or, set, replicate, nat_eq, Bool, cond, arith, refl, sym, ap, ◌∙◌, subst, ⊎_elim, inl, inr, eq-eqb, ne_eqb, length-set}
-use mathlib.Core.Option.{some, none, some-injective, some-ne-none}
+use Rattle.std.proofs.Common.{◌≡◌, ◌≢◌, ℕ, zero, suc, ◌+◌, ◌-◌, ◌%◌, ◌^◌, ◌<◌, ◌≤◌, List, [], ◌∷◌, map, length, get_or, set, replicate, nat_eq, Bool, cond, arith, refl, sym, ap, ◌∙◌, subst, ⊎_elim, eq-eqb, ne_eqb, length-set}
+use mathlib.Core.Option.{some, some-injective, some-ne-none}
 use lib.ListN.{get_elem?, length-replicate}
 use Rattle.std.specs.Int.{bit_at}
 use Rattle.std.proofs.lemmas.Nat.{pow_pos}
 use Rattle.std.proofs.lemmas.Nat.Bits.{bit_at-zero}
-use Rattle.atomic_table.specs.Table.{State, opening, Splits, Joins}
-use Rattle.atomic_table.proofs.Lists.{at_set, set_here, set_else, at_longer}
-use Rattle.tag_layout.specs.Layout.{Layout, words, word_depth, word_of, place_of, IsWithin}
+use Rattle.atomic_table.specs.Table.{opening, Splits, Joins}
+use Rattle.atomic_table.proofs.Lists.{at_set, set_else}
+use Rattle.tag_layout.specs.Layout.{Layout, words, word_depth, word_of, place_of}
 use Rattle.tag_layout.proofs.SumFacts.{sum_below-none}
 use Rattle.tag_model.specs.declared.world.TheConstants.{MOST_WON}
 use Rattle.tag_core.specs.declared.shape.Shape.{Shape}
@@ -15,9 +15,9 @@ use Rattle.tag_core.specs.declared.record.Record.{Record}
 use Rattle.tag_core.specs.declared.record.View.{View}
 use Rattle.tag_core.specs.Spacing.{word_at, aside_at, state_at, table_width}
 use Rattle.tag_core.specs.Records.{fresh_record, tag_bit, tags_from}
-use Rattle.tag_core.specs.Views.{viewing, alone, fresh, all_fresh, first_of, rest_of, first_view, other_views, both_views}
+use Rattle.tag_core.specs.Views.{viewing, alone, fresh, all_fresh, first_view, other_views, both_views}
 use Rattle.tag_core.specs.Rule.{IsOpening, IsKnown, Shown}
-use Rattle.tag_core.proofs.Seats.{within, snoc_at, snoc_here, append_at, append_second, everyone_split, everyone_join}
+use Rattle.tag_core.proofs.Seats.{within, snoc_at, append_at, everyone_split, everyone_join}
 
 pub zeros : (n i : ℕ) → ◌≡◌ {A = ℕ} (get_or (replicate n 0) i 0) 0
 zeros zero i = refl

@@ -1,10 +1,10 @@
 -- Words, cleared sets and states stand apart in the table, and tags in their words.
-use Rattle.std.proofs.Common.{◌≡◌, ◌≢◌, ℕ, zero, suc, ◌+◌, ◌-◌, ◌*◌, ◌/◌, ◌%◌, ◌^◌, ◌<◌, ◌≤◌, List, [], ◌∷◌, length, get_or, set, nat_eq, cond, Bool, arith, refl, sym, ap, ◌∙◌, min, get_or-set_other, get_or-set_same, eq-eqb, ne_eqb}
+use Rattle.std.proofs.Common.{◌≡◌, ◌≢◌, ℕ, ◌+◌, ◌*◌, ◌^◌, ◌<◌, ◌≤◌, List, length, get_or, set, cond, Bool, arith, sym, ap, ◌∙◌, get_or-set_other, get_or-set_same, eq-eqb, ne_eqb}
 use mathlib.Core.Logic.{dite}
 use native.Mathlib.Decide.{ℕ_discrete}
-use Rattle.std.proofs.lemmas.Nat.{pow_pos, pow_below, mod_below, div-add-mod'}
+use Rattle.std.proofs.lemmas.Nat.{pow_below, div-add-mod'}
 use Rattle.std.proofs.Math.Nat.{mul-le-mul_left}
-use Rattle.tag_layout.specs.Layout.{Layout, word_bits, words, word_depth, word_of, place_of, tag_at}
+use Rattle.tag_layout.specs.Layout.{Layout, word_bits, words, word_depth, word_of, place_of}
 use Rattle.tag_layout.proofs.PlaceFacts.{word-start, word_bits-pos, place_of-below}
 use Rattle.tag_core.specs.Steps.{changed_at}
 use Rattle.tag_core.specs.Spacing.{word_at, aside_at, state_at, table_width}

@@ -1,5 +1,5 @@
 -- Sums over lists that grow.
-use Rattle.std.proofs.Common.{◌≡◌, ℕ, zero, suc, ◌+◌, ◌<◌, List, [], ◌∷◌, ◌++◌, map, length, take, get_or, arith, refl, sym, ap, ◌∙◌}
+use Rattle.std.proofs.Common.{◌≡◌, ℕ, zero, suc, ◌+◌, ◌<◌, List, [], ◌∷◌, ◌++◌, length, take, get_or, arith, ap, ◌∙◌}
 use Rattle.tag_core.specs.Sizes.{total_of}
 
 pub total_of-append : {A : Type 0} (f : A → ℕ) (a b : List A) → total_of f (a ++ b) ≡ total_of f a + total_of f b

@@ -1,11 +1,11 @@
 -- What each event does to what one tag's place shows.
-use Rattle.std.proofs.Common.{◌≡◌, ◌≢◌, ℕ, zero, suc, ◌+◌, ◌-◌, ◌<◌, ◌≤◌, ◌⊎◌, min, max, Bool, true, false, cond, nat_eq, arith, refl, sym, ap, ◌∙◌, subst, inl, inr, ⊎_elim, eq-eqb, ne_eqb}
+use Rattle.std.proofs.Common.{◌≡◌, ◌≢◌, ℕ, zero, suc, ◌-◌, ◌<◌, min, max, Bool, true, false, nat_eq, arith, refl, sym, ap, ◌∙◌, subst, eq-eqb, ne_eqb}
 use mathlib.Core.Logic.{dite}
 use native.Mathlib.Decide.{ℕ_discrete}
 use Rattle.tag_model.specs.declared.place.Place.{Place}
 use Rattle.tag_model.specs.declared.place.Place.TheVariants.{Free as free, Held as held, Posted as posted, Aside as aside, Sweep as sweep}
 use Rattle.tag_core.specs.Bits.{one_if, word_bit, aside_bit, posted_bit, held_bit, sweep_bit}
-use Rattle.tag_core.proofs.Picks.{pick, only}
+use Rattle.tag_core.proofs.Picks.{pick}
 
 same : (c : ℕ) → one_if (nat_eq c c) ≡ 1
 same c = ap one_if (eq-eqb c c refl)

@@ -1,8 +1,7 @@
 -- What contracts see of a map and of its callers.
-use Rattle.std.specs.Prelude.{◌≡◌, ◌≢◌, ℕ, ◌<◌, List, replicate}
+use Rattle.std.specs.Prelude.{◌≡◌, ℕ, ◌<◌, replicate}
 use mathlib.Core.Option as maybe
 use Rattle.tag_layout.specs.Layout.{Layout, words}
-use Rattle.tag_core.specs.declared.shape.Shape.{Shape}
 use Rattle.tag_core.specs.declared.step.Step.{Step}
 use Rattle.tag_core.specs.declared.record.Record.{Record}
 use Rattle.tag_core.specs.declared.caller.Caller.{Caller}

@@ -1,5 +1,5 @@
 -- What all callers of a map show when they come together.
-use Rattle.std.specs.Prelude.{◌≡◌, ◌≢◌, ℕ, ◌+◌, ◌<◌, List, length}
+use Rattle.std.specs.Prelude.{◌≡◌, ℕ, ◌+◌, ◌<◌, List, length}
 use mathlib.Core.Option.{some}
 use lib.ListN.{get_elem?}
 use Rattle.tag_model.specs.declared.place.Place.TheVariants.{Posted}
@@ -24,7 +24,9 @@ pub record IsGathered {R : Type 0} (k : Shape) (rs : List (Record R)) (closed : 
   pub balance : closed.totals.got ≡ closed.totals.back + closed.totals.held + closed.totals.posted
   pub slots : length closed.slots.items ≡ k.layout.depth
   -- a posted tag's slot has the value of its last Post
-  pub posts : (tag : ℕ) → tag < k.layout.depth → (world_of k history).place tag ≡ Posted → get_elem? closed.slots.items tag ≡ last_post tag history
+  pub posts :
+      (tag : ℕ) → tag < k.layout.depth → (world_of k history).place tag ≡ Posted
+      → get_elem? closed.slots.items tag ≡ last_post tag history
 
 -- the caller of this number is among them
 abbrev pub IsThere : {R : Type 0} → List (Caller R) → ℕ → Type 0

@@ -1,5 +1,5 @@
 -- Histories: steps by the callers of a map, the newest first, each of which finds what the older ones leave.
-use Rattle.std.specs.Prelude.{◌≡◌, ℕ, zero, suc, ◌<◌, List, [], ◌∷◌, map, cond, nat_eq, slice_index, Option, Some}
+use Rattle.std.specs.Prelude.{◌≡◌, ℕ, zero, suc, ◌<◌, List, [], ◌∷◌, cond, nat_eq, slice_index, Some}
 use mathlib.Core.Option.{some, none}
 use mathlib.Core.Option as maybe
 use Rattle.std.specs.Int.{trailing_zeros, w64}
@@ -71,7 +71,11 @@ events_of l (x ∷ older) = event_of l x.0 x.1 ∷ events_of l older
 
 -- the world as a map opens: all tags free, and each caller has the counts that the shape tells
 abbrev pub opening_world : Shape → World
-opening_world k = record { place = λ tag. Free; won = λ caller. slice_index k.won_before.value.items caller; back = λ caller. slice_index k.back_before.value.items caller }
+opening_world k = record {
+  place = λ tag. Free;
+  won = λ caller. slice_index k.won_before.value.items caller;
+  back = λ caller. slice_index k.back_before.value.items caller;
+}
 
 -- the world that a history leaves
 abbrev pub world_of : {R : Type 0} → Shape → History R → World

@@ -1,9 +1,8 @@
 -- A new map, and its callers.
-use Rattle.std.specs.Prelude.{◌≡◌, ℕ, ◌<◌, List, [], length}
+use Rattle.std.specs.Prelude.{◌≡◌, ℕ, List, [], length}
 use mathlib.Core.Option.{some}
 use lib.ListN.{get_elem?}
 use Rattle.tag_layout.specs.Layout.{Layout}
-use Rattle.tag_core.specs.declared.shape.Shape.{Shape}
 use Rattle.tag_core.specs.declared.caller.Caller.{Caller}
 use Rattle.tag_core.specs.declared.map.Map.{Map}
 use Rattle.tag_core.specs.Records.{fresh_record}
@@ -20,4 +19,6 @@ pub record IsNew {R : Type 0} (layout : Layout) (callers life : ℕ) (map : Map 
 -- the callers of the map in the order of their numbers, each with nothing won, held or done
 pub record AreNew {R : Type 0} (map : Map R) (callers : List (Caller R)) : Type 0 where
   pub count : length callers ≡ map.shape.callers
-  pub each : (n : ℕ) (caller : Caller R) → get_elem? callers n ≡ some caller → IsCallerOf map caller × (record_of caller ≡ fresh_record map.shape n)
+  pub each :
+      (n : ℕ) (caller : Caller R) → get_elem? callers n ≡ some caller
+      → IsCallerOf map caller × (record_of caller ≡ fresh_record map.shape n)

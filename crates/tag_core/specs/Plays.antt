@@ -1,13 +1,12 @@
 -- What each kind of step on the table tells the caller that makes it.
-use Rattle.std.specs.Prelude.{◌≡◌, ◌≢◌, ℕ, ◌+◌, ◌-◌, ◌*◌, ◌^◌, ◌<◌, ◌≤◌, List, [], ◌∷◌, map, length, slice_index, Some, None}
-use mathlib.Core.Option.{some, none}
+use Rattle.std.specs.Prelude.{◌≡◌, ◌≢◌, ℕ, ◌+◌, ◌-◌, ◌*◌, ◌^◌, ◌<◌, ◌≤◌, List, ◌∷◌, map, length, slice_index, Some, None}
+use mathlib.Core.Option.{some}
 use Rattle.std.specs.Int.{bit_at}
 use Rattle.atomic_table.specs.Table.{Me}
 use Rattle.atomic_table.specs.Table as table
-use Rattle.tag_layout.specs.Layout.{Layout, word_of, place_of}
+use Rattle.tag_layout.specs.Layout.{word_of, place_of}
 use Rattle.tag_model.specs.declared.world.TheConstants.{MOST_WON}
 use Rattle.tag_model.specs.Event.{back_by}
-use Rattle.tag_core.specs.declared.shape.Shape.{Shape}
 use Rattle.tag_core.specs.declared.step.Step.{Step}
 use Rattle.tag_core.specs.declared.step.Step.TheVariants.{Word, Post, Take}
 use Rattle.tag_core.specs.declared.word_step.WordStep.TheVariants.{Look, LookAside, Claimed, Give, Put, Swap, Spill}
@@ -30,28 +29,39 @@ pub record Stepped {R : Type 0} (step : Step R) (r : Record R) (me me' : Me R (V
 -- each tag of this word that the caller holds has this bit in what was found
 abbrev pub FindsHeld : {R : Type 0} → Record R → ℕ → ℕ → ℕ → Type 0
 FindsHeld r i found bit =
-    (tag : ℕ) → tag < r.shape.layout.depth → word_of r.shape.layout tag ≡ i → tag_bit r.shape.layout r.held tag ≡ 1 → bit_at found (place_of r.shape.layout tag) ≡ bit
+    (tag : ℕ) → tag < r.shape.layout.depth → word_of r.shape.layout tag ≡ i → tag_bit r.shape.layout r.held tag ≡ 1
+    → bit_at found (place_of r.shape.layout tag) ≡ bit
 
 module _ {R : Type 0} (st : table.Step R) (me : Me R (View R)) (found : ℕ) (me' : Me R (View R)) where
   -- a load of a word
   abbrev pub looked : Type 0
-  looked = (i : ℕ) (r : Record R) → st.word ≡ word_at i → me.0 ≡ alone r → Stepped (Word (Look i found)) r me me' × FindsHeld r i found 1
+  looked =
+      (i : ℕ) (r : Record R) → st.word ≡ word_at i → me.0 ≡ alone r
+      → Stepped (Word (Look i found)) r me me' × FindsHeld r i found 1
 
   -- a load of a cleared set
   abbrev pub looked_aside : Type 0
-  looked_aside = (i : ℕ) (r : Record R) → st.word ≡ aside_at i → me.0 ≡ alone r → Stepped (Word (LookAside i found)) r me me' × FindsHeld r i found 0
+  looked_aside =
+      (i : ℕ) (r : Record R) → st.word ≡ aside_at i → me.0 ≡ alone r
+      → Stepped (Word (LookAside i found)) r me me' × FindsHeld r i found 0
 
   -- an or of a word
   abbrev pub claimed : Type 0
-  claimed = (i : ℕ) (r : Record R) → st.word ≡ word_at i → me.0 ≡ alone r → Stepped (Word (Claimed i st.first found)) r me me'
+  claimed =
+      (i : ℕ) (r : Record R) → st.word ≡ word_at i → me.0 ≡ alone r
+      → Stepped (Word (Claimed i st.first found)) r me me'
 
   -- an and-not of a word, of held tags
   abbrev pub gave : Type 0
-  gave = (i mask : ℕ) (r : Record R) → st.word ≡ word_at i → mask < 2 ^ 64 → st.first ≡ 2 ^ 64 - 1 - mask → me.0 ≡ alone r → Stepped (Word (Give i mask found)) r me me'
+  gave =
+      (i mask : ℕ) (r : Record R) → st.word ≡ word_at i → mask < 2 ^ 64 → st.first ≡ 2 ^ 64 - 1 - mask → me.0 ≡ alone r
+      → Stepped (Word (Give i mask found)) r me me'
 
   -- an or of a cleared set
   abbrev pub put_aside : Type 0
-  put_aside = (i : ℕ) (r : Record R) → st.word ≡ aside_at i → me.0 ≡ alone r → Stepped (Word (Put i st.first found)) r me me'
+  put_aside =
+      (i : ℕ) (r : Record R) → st.word ≡ aside_at i → me.0 ≡ alone r
+      → Stepped (Word (Put i st.first found)) r me me'
 
   -- a swap of a cleared set with 0
   abbrev pub swapped : Type 0
@@ -59,11 +69,15 @@ module _ {R : Type 0} (st : table.Step R) (me : Me R (View R)) (found : ℕ) (me
 
   -- an and-not of a word, of what the caller swept
   abbrev pub spilled : Type 0
-  spilled = (i : ℕ) (r : Record R) → st.word ≡ word_at i → me.0 ≡ alone r → Stepped (Word (Spill i (slice_index r.swept i) found)) r me me'
+  spilled =
+      (i : ℕ) (r : Record R) → st.word ≡ word_at i → me.0 ≡ alone r
+      → Stepped (Word (Spill i (slice_index r.swept i) found)) r me me'
 
   -- a store of 1 in a held tag's state
   abbrev pub posted : Type 0
-  posted = (tag : ℕ) (value : R) (r : Record R) → st.word ≡ state_at tag → value_of me.1 tag ≡ some value → me.0 ≡ alone r → Stepped (Post tag value) r me me'
+  posted =
+      (tag : ℕ) (value : R) (r : Record R) → st.word ≡ state_at tag → value_of me.1 tag ≡ some value → me.0 ≡ alone r
+      → Stepped (Post tag value) r me me'
 
   -- an exchange of a state's 1 for 0: where it was 1, the slot that came has the value of the tag's last Post
   abbrev pub took : Type 0
@@ -79,7 +93,8 @@ module _ {R : Type 0} (st : table.Step R) (me : Me R (View R)) (found : ℕ) (me
       → tag < r.shape.layout.depth → tag_bit r.shape.layout r.held tag ≡ 1
       → (value : R) × (slots : List (ℕ × R)) × (me'.0 ≡ me.0) × (me'.1 ≡ (tag, value) ∷ slots) × (value_of me.1 tag ≡ some value)
       × (map (λ x. x.0) slots ≡ tags_from (but (tag_bit r.shape.layout r.held) tag) 0 r.shape.layout.depth)
-      × ((other : ℕ) → other < r.shape.layout.depth → other ≢ tag → tag_bit r.shape.layout r.held other ≡ 1 → value_of slots other ≡ value_of me.1 other)
+      × ((other : ℕ) → other < r.shape.layout.depth → other ≢ tag → tag_bit r.shape.layout r.held other ≡ 1
+      → value_of slots other ≡ value_of me.1 other)
 
   -- a load that puts it back into its order
   abbrev pub ordered : Type 0
@@ -87,7 +102,8 @@ module _ {R : Type 0} (st : table.Step R) (me : Me R (View R)) (found : ℕ) (me
       (tag : ℕ) (value : R) (slots : List (ℕ × R)) (r : Record R) → st.word ≡ state_at tag → me.0 ≡ alone r → me.1 ≡ (tag, value) ∷ slots
       → map (λ x. x.0) slots ≡ tags_from (but (tag_bit r.shape.layout r.held) tag) 0 r.shape.layout.depth → tag_bit r.shape.layout r.held tag ≡ 1
       → (me'.0 ≡ me.0) × Carries r.shape.layout r.held me'.1 × (value_of me'.1 tag ≡ some value)
-      × ((other : ℕ) → other < r.shape.layout.depth → other ≢ tag → tag_bit r.shape.layout r.held other ≡ 1 → value_of me'.1 other ≡ value_of slots other)
+      × ((other : ℕ) → other < r.shape.layout.depth → other ≢ tag → tag_bit r.shape.layout r.held other ≡ 1
+      → value_of me'.1 other ≡ value_of slots other)
 
   -- a load by a seat that has several callers' records: there are no more than the map has callers
   abbrev pub counted : Type 0

@@ -1,17 +1,16 @@
 -- The rule of the table: words, states, slots and records show one world, which one history of all callers' steps gives.
-use Rattle.std.specs.Prelude.{◌≡◌, ◌≤◌, ◌<◌, ◌^◌, ℕ, List, [], ◌∷◌, length, slice_index}
+use Rattle.std.specs.Prelude.{◌≡◌, ◌≤◌, ◌<◌, ℕ, List, length, slice_index}
 use mathlib.Core.Option.{some, none}
 use mathlib.Core.Option as maybe
 use lib.ListN.{get_elem?}
 use Rattle.std.specs.Int.{bit_at}
 use Rattle.atomic_table.specs.Table.{State}
-use Rattle.tag_layout.specs.Layout.{words, word_of, place_of, word_depth, IsWithin}
+use Rattle.tag_layout.specs.Layout.{words, word_of, place_of, IsWithin}
 use Rattle.tag_model.specs.declared.place.Place.{Place}
-use Rattle.tag_model.specs.declared.place.Place.TheVariants.{Free, Held, Posted, Aside, Sweep}
+use Rattle.tag_model.specs.declared.place.Place.TheVariants.{Held, Posted}
 use Rattle.tag_model.specs.declared.world.TheConstants.{MOST_WON}
 use Rattle.tag_model.specs.Totals.{got_in, back_in}
 use Rattle.tag_core.specs.declared.shape.Shape.{Shape}
-use Rattle.tag_core.specs.declared.step.Step.{Step}
 use Rattle.tag_core.specs.declared.record.Record.{Record}
 use Rattle.tag_core.specs.declared.record.View.{View}
 use Rattle.tag_core.specs.Spacing.{word_at, aside_at, state_at, table_width}
@@ -71,7 +70,9 @@ pub record Shown {R : Type 0} (k : Shape) (s : State R (View R)) : Type 0 where
   pub cells : HasCells k s.words (cells_of history)
   pub tags : (tag : ℕ) → tag < k.layout.depth → ShowsTag k (cells_of history) ((world_of k history).place tag) tag
   pub slots : (tag : ℕ) → tag < k.layout.depth → SlotIs (get_elem? s.homes tag) ((world_of k history).place tag)
-  pub posts : (tag : ℕ) → tag < k.layout.depth → (world_of k history).place tag ≡ Posted → get_elem? s.homes tag ≡ some (last_post tag history)
+  pub posts :
+      (tag : ℕ) → tag < k.layout.depth → (world_of k history).place tag ≡ Posted
+      → get_elem? s.homes tag ≡ some (last_post tag history)
   -- the seat of each caller's record, and its position in the view there: so each number stands once
   pub seat : ℕ → ℕ
   pub position : ℕ → ℕ

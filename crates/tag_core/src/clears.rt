@@ -16,7 +16,8 @@ impl<R> Map<R> {
     pub fn give(&self, caller: &mut Caller<R>, word: u32, mask: u64)
         requires caller { IsCallerOf self.now caller.old }
         requires within { (word < words (layout_of self.now)) × IsWithin (layout_of self.now) word mask }
-        requires held { (tag : ℕ) → tag < (layout_of self.now).depth → IsTrue (is_in_mask (layout_of self.now) word mask tag) → Holds caller.old tag }
+        requires held { (tag : ℕ) → tag < (layout_of self.now).depth
+            → IsTrue (is_in_mask (layout_of self.now) word mask tag) → Holds caller.old tag }
         ensures caller { IsCallerOf self.now caller.new }
         ensures step { (found : ℕ) × Adds (Word (Give word mask found)) caller.old caller.new }
     {
@@ -33,7 +34,8 @@ impl<R> Map<R> {
         requires caller { IsCallerOf self.now caller.old }
         requires held { Holds caller.old tag }
         ensures caller { IsCallerOf self.now caller.new }
-        ensures step { (found : ℕ) × Adds (Word (Put (word_of (layout_of self.now) tag) (2 ^ place_of (layout_of self.now) tag) found)) caller.old caller.new }
+        ensures step { (found : ℕ)
+            × Adds (Word (Put (word_of (layout_of self.now) tag) (2 ^ place_of (layout_of self.now) tag) found)) caller.old caller.new }
     {
         let word = caller.layout.word_of(tag);
         let bit = 1u64 << caller.layout.place_of(tag);

@@ -52,7 +52,8 @@ fn take_out<R>(mut ended: Ended<R, Global>, mut room: Vec<R>) -> Vec<R>
 /// The map ends with all records on one seat.
 fn end<R>(map: Map<R>, all: Together<R>) -> Closed<R>
     requires seat { all.seat.table_id ≡ map.table.shared.table_id }
-    requires all { (n : ℕ) → n < map.shape.callers → (i : ℕ) × (r : Record R) × (get_elem? all.seat.me.0.records.value i ≡ some r) × (r.number ≡ n) }
+    requires all { (n : ℕ) → n < map.shape.callers
+        → (i : ℕ) × (r : Record R) × (get_elem? all.seat.me.0.records.value i ≡ some r) × (r.number ≡ n) }
     ensures { IsGathered map.shape all.seat.me.0.records.value result }
 {
     let Map { table, shape, room } = map;

@@ -1,4 +1,4 @@
-//! The steps on the words of a map of tags, and what a step answers.
+//! A map of tags that callers share without a lock, under a rule that between any two steps each tag is in one place.
 #![tactic(auto)]
 
 mod caller;
@@ -18,6 +18,8 @@ mod slots;
 mod spots;
 mod step;
 mod sweeps;
+#[cfg(test)]
+mod tests;
 mod together;
 mod word_step;
 

@@ -31,7 +31,8 @@ impl<R> Map<R> {
         requires caller { IsCallerOf self.now caller.old }
         requires within { tag < (layout_of self.now).depth }
         ensures caller { IsCallerOf self.now caller.new }
-        ensures won { IsTrue result → (value : R) × (slot_of caller.new tag ≡ some value) × Adds (Take tag 1 (Some value)) caller.old caller.new }
+        ensures won { IsTrue result
+            → (value : R) × (slot_of caller.new tag ≡ some value) × Adds (Take tag 1 (Some value)) caller.old caller.new }
         ensures missed { IsFalse result → Adds (Take tag 0 None) caller.old caller.new }
     {
         let word = caller.layout.word_of(tag) as usize;

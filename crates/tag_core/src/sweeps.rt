@@ -17,7 +17,8 @@ impl<R> Map<R> {
         requires within { word < words (layout_of self.now) }
         ensures caller { IsCallerOf self.now caller.new }
         ensures none { IsFalse result → Adds (Word (Swap word 0)) caller.old caller.new }
-        ensures some { IsTrue result → (mask : ℕ) × (found : ℕ) × (mask ≢ 0) × AddsTwo (Word (Swap word mask)) (Word (Spill word mask found)) caller.old caller.new }
+        ensures some { IsTrue result → (mask : ℕ) × (found : ℕ) × (mask ≢ 0)
+            × AddsTwo (Word (Swap word mask)) (Word (Spill word mask found)) caller.old caller.new }
     {
         let mask = self
             .table

@@ -1,14 +1,13 @@
 -- What passes and visits tell where nobody else steps.
-use Rattle.std.proofs.Common.{◌≡◌, ◌≢◌, ℕ, zero, suc, ◌+◌, ◌-◌, ◌^◌, ◌<◌, ◌≤◌, min, Bool, cond, nat_eq, List, [], ◌∷◌, ◌++◌, length, get_or, Option, Some, None, bit_and, arith, refl, sym, ap, ◌∙◌, subst, eq-eqb}
+use Rattle.std.proofs.Common.{◌≡◌, ◌≢◌, ℕ, ◌-◌, ◌^◌, ◌<◌, min, Bool, cond, List, [], ◌∷◌, ◌++◌, get_or, Option, Some, None, arith, refl, sym, ap, ◌∙◌, subst, eq-eqb}
 use Rattle.std.specs.Prelude.{All}
 use Rattle.std.specs.Int.{bit_at, w64}
 use Rattle.std.proofs.lemmas.List.Elements.{All-nil, All-cons, All-head, All-tail}
 use Rattle.std.proofs.lemmas.Nat.Bits.{bit_at_and, bit_at_not, bit_at-lt, bit_at-zero}
 use Rattle.tag_core.specs.declared.word_step.WordStep.{WordStep}
-use Rattle.tag_core.specs.declared.word_step.WordStep.TheVariants.{Look, Claimed, Swap, Spill}
-use Rattle.tag_core.specs.Steps.{Words, Quiet, words_after, words_after_all, changed_at, without}
+use Rattle.tag_core.specs.Steps.{Words, Quiet, words_after, words_after_all, without}
 use Rattle.tag_search.specs.Choice.{IsSet, IsFree, IsAside, IsBusy, IsFirst, IsChosen, first_free, first_aside}
-use Rattle.tag_search.specs.Search.{AllTaken, IsFirstInRank, IsTries, none_left, wins, loses, IsPass, pass, IsSweep, empty, spilled, IsRetry, nothing_aside, swept, IsVisit, at_once, retried}
+use Rattle.tag_search.specs.Search.{AllTaken, IsTries, none_left, wins, loses, IsPass, pass, IsSweep, empty, spilled, IsRetry, nothing_aside, swept, IsVisit, at_once, retried}
 use Rattle.tag_search.proofs.Passes.{all_behind}
 
 -- the parts of a quiet list are quiet, the second from what the first leaves

@@ -1,17 +1,17 @@
 -- How many steps a search makes.
-use Rattle.std.proofs.Common.{◌≡◌, ℕ, zero, suc, ◌+◌, ◌-◌, ◌*◌, ◌<◌, ◌≤◌, min, Bool, cond, nat_eq, List, [], ◌∷◌, ◌++◌, length, map, Option, arith, refl, sym, ap, ◌∙◌, subst}
+use Rattle.std.proofs.Common.{◌≡◌, ℕ, ◌+◌, ◌*◌, ◌<◌, ◌≤◌, cond, nat_eq, List, [], ◌∷◌, ◌++◌, length, map, Option, arith, ap, ◌∙◌}
 use Rattle.std.specs.Prelude.{All}
 use Rattle.std.proofs.lemmas.List.{length-append}
-use Rattle.std.proofs.lemmas.List.Elements.{All-head, All-tail, All-append}
+use Rattle.std.proofs.lemmas.List.Elements.{All-head, All-tail}
 use Rattle.tag_core.specs.declared.word_step.WordStep.{WordStep}
 use Rattle.tag_layout.specs.Layout.{Layout, words, word_depth}
-use Rattle.tag_search.specs.Order.{numbers, scan_order}
+use Rattle.tag_search.specs.Order.{numbers}
 use Rattle.tag_search.specs.Search.{IsTries, none_left, wins, loses, IsPass, pass, IsSweep, empty, spilled, IsRetry, nothing_aside, swept, IsVisit, at_once, retried, Visit, IsSearch, over, won, passed}
 use Rattle.tag_search.specs.Visits.{Reach, visit_of, visits}
 use Rattle.tag_search.proofs.Orders.{length-scan_order, all_numbers}
 use Rattle.tag_search.proofs.Passes.{fewer_left}
 use Rattle.tag_search.proofs.Searches.{visits-split}
-use Rattle.tag_search.proofs.Tallies.{tally, tally-append, tally-around, steps-sum}
+use Rattle.tag_search.proofs.Tallies.{tally, tally-around, steps-sum}
 
 tries_bound : {i : ℕ} {rank : List ℕ} {found : ℕ} {tries : List WordStep} {answer : Option ℕ} → IsTries i rank found tries answer → length tries ≤ length rank
 tries_bound (none_left taken) = omega arith

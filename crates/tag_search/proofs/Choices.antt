@@ -1,10 +1,10 @@
 -- A search where nobody else steps answers the choice.
-use Rattle.std.proofs.Common.{◌≡◌, ◌≢◌, ℕ, zero, suc, ◌+◌, ◌-◌, ◌<◌, ◌≤◌, min, Bool, true, cond, nat_eq, List, [], ◌∷◌, ◌++◌, length, map, Option, Some, None, arith, refl, sym, ap, ◌∙◌, subst, ne_eqb}
+use Rattle.std.proofs.Common.{◌≡◌, ◌≢◌, ℕ, zero, suc, ◌+◌, ◌-◌, ◌<◌, ◌≤◌, min, Bool, true, cond, nat_eq, List, [], ◌∷◌, ◌++◌, map, Option, arith, refl, sym, ap, ◌∙◌, subst, ne_eqb}
 use Rattle.std.specs.Prelude.{All}
 use Rattle.std.proofs.lemmas.List.Elements.{All-nil, All-cons, All-head, All-tail, All-append, All-map}
 use Rattle.tag_core.specs.declared.word_step.WordStep.{WordStep}
 use Rattle.tag_core.specs.declared.word_step.WordStep.TheVariants.{Look, LookAside, Claimed, Give, Put, Swap, Spill}
-use Rattle.tag_core.specs.Steps.{Words, Quiet, words_after, words_after_all, changed_at, without}
+use Rattle.tag_core.specs.Steps.{Words, Quiet, words_after, words_after_all, changed_at}
 use Rattle.tag_layout.specs.Layout.{Layout, words, word_depth}
 use Rattle.tag_layout.proofs.PlaceFacts.{word_bits-le}
 use Rattle.tag_search.specs.Choice.{IsBusy, IsChosen, IsFull, IsChoice, nothing, chosen}
@@ -13,7 +13,6 @@ use Rattle.tag_search.specs.Search.{IsTries, none_left, wins, loses, IsPass, pas
 use Rattle.tag_search.specs.Visits.{Reach, visit_of, visits}
 use Rattle.tag_search.proofs.Alone.{quiet-split, visit_alone}
 use Rattle.tag_search.proofs.Orders.{all_from, all_numbers, all_scan}
-use Rattle.tag_search.proofs.Searches.{visits-split}
 
 -- the word on which a step is made
 abbrev index_of : WordStep → ℕ

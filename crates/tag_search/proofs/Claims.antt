@@ -1,7 +1,7 @@
 -- What a claim of one place tells.
-use Rattle.std.proofs.Common.{◌≡◌, ◌≢◌, ◌⊎◌, ◌↔◌, ℕ, zero, suc, ◌+◌, ◌-◌, ◌*◌, ◌^◌, ◌<◌, ◌≤◌, ◌%◌, bit_and, count_ones, arith, refl, sym, ap, ◌∙◌, inl, inr}
+use Rattle.std.proofs.Common.{◌≡◌, ◌≢◌, ◌↔◌, ℕ, zero, suc, ◌+◌, ◌-◌, ◌*◌, ◌^◌, ◌<◌, count_ones, arith, refl, ap, ◌∙◌}
 use Rattle.std.specs.Int.{bit_at, w64}
-use Rattle.std.proofs.lemmas.Nat.{and_comm, ones_cat, pow_pos, one_shl}
+use Rattle.std.proofs.lemmas.Nat.{and_comm, ones_cat, pow_pos}
 use Rattle.std.proofs.lemmas.Nat.Bits.{and_pow, bit_at_not, bit_at-lt}
 use lib.Count.{ones}
 use Rattle.tag_core.specs.Steps.{without}

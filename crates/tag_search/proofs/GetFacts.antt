@@ -1,13 +1,12 @@
 -- A search over all words is a get.
-use Rattle.std.proofs.Common.{◌≡◌, ℕ, zero, suc, ◌+◌, ◌-◌, ◌*◌, ◌<◌, ◌≤◌, Bool, true, false, List, length, Option, arith, refl, sym, ap, ◌∙◌, subst}
+use Rattle.std.proofs.Common.{◌≡◌, ℕ, ◌<◌, ◌≤◌, Bool, true, false, List, Option, arith, subst}
 use Rattle.tag_core.specs.declared.word_step.WordStep.{WordStep}
-use Rattle.tag_layout.specs.Layout.{Layout, words, word_of, word_depth, shallow_limit}
-use Rattle.tag_layout.proofs.PlaceFacts.{word-start, word_of-below}
+use Rattle.tag_layout.specs.Layout.{Layout, words, word_depth}
+use Rattle.tag_layout.proofs.PlaceFacts.{word-start}
 use Rattle.tag_layout.proofs.ShareFacts.{shallow_limit-le}
 use Rattle.tag_search.specs.Gets.{IsGet}
-use Rattle.tag_search.specs.Hints.{reduced}
 use Rattle.tag_search.specs.Search.{IsSearch}
-use Rattle.tag_search.specs.Visits.{Reach, visits, plain_reach, shallow_reach, plain_visits, shallow_visits}
+use Rattle.tag_search.specs.Visits.{Reach, visits, plain_reach, shallow_reach}
 use Rattle.tag_search.proofs.Choices.{search_chooses}
 use Rattle.tag_search.proofs.Bounds.{search_bound, visits_bound}
 

@@ -1,6 +1,5 @@
 -- The steps of two calls, one after the other.
 use Rattle.std.proofs.Common.{ℕ, List, ◌++◌}
-use Rattle.std.specs.Prelude.{◌↔◌}
 use Rattle.tag_core.specs.declared.word_step.WordStep.{WordStep}
 use Rattle.tag_search.specs.Added.{Adds, SameRoom}
 

@@ -1,8 +1,8 @@
 -- Numbers in order: the parts of a list of them, and what holds of each.
-use Rattle.std.proofs.Common.{◌≡◌, ℕ, zero, suc, ◌+◌, ◌-◌, ◌<◌, ◌≤◌, min, List, [], ◌∷◌, ◌++◌, length, arith, refl, sym, ap, ◌∙◌}
-use Rattle.std.specs.Prelude.{All, Bool, true, false, cond}
+use Rattle.std.proofs.Common.{◌≡◌, ℕ, zero, suc, ◌+◌, ◌-◌, ◌<◌, ◌≤◌, min, List, [], ◌∷◌, ◌++◌, length, arith, refl, ap, ◌∙◌}
+use Rattle.std.specs.Prelude.{All, Bool, true, false}
 use Rattle.std.proofs.lemmas.List.Elements.{All-nil, All-cons, All-append}
-use Rattle.std.proofs.lemmas.List.{length-append, append-nil}
+use Rattle.std.proofs.lemmas.List.{length-append}
 use Rattle.tag_search.specs.Order.{numbers_from, numbers, scan_order}
 
 -- the list ends where it does not begin

@@ -1,5 +1,5 @@
 -- What one write to the plain words leaves of all words.
-use Rattle.std.proofs.Common.{◌≡◌, ◌≢◌, ℕ, zero, suc, ◌+◌, ◌-◌, ◌*◌, ◌^◌, ◌<◌, List, [], ◌∷◌, length, get_or, set, nat_eq, cond, Bool, true, false, bit_and, bit_or, arith, refl, sym, ap, ◌∙◌, get_or-set_other, get_or-set_same, eq-eqb, ne_eqb, eqb-true, ◌↔◌}
+use Rattle.std.proofs.Common.{◌≡◌, ◌≢◌, ℕ, zero, suc, ◌*◌, ◌^◌, ◌<◌, List, [], ◌∷◌, length, get_or, set, nat_eq, cond, Bool, true, false, bit_and, bit_or, arith, refl, sym, ap, ◌∙◌, get_or-set_other, get_or-set_same, eq-eqb, ne_eqb, eqb-true, ◌↔◌}
 use mathlib.Core.Logic.{dite}
 use Rattle.std.specs.Prelude.{IsTrue, not}
 use native.Mathlib.Decide.{ℕ_discrete}
@@ -7,8 +7,8 @@ use Rattle.std.proofs.lemmas.Nat.{pow_pos}
 use Rattle.std.proofs.lemmas.Nat.Bits.{and_pow, bit_at-lt}
 use Rattle.std.specs.Int.{bit_at}
 use Rattle.tag_core.specs.declared.word_step.WordStep.TheVariants.{Claimed, Give, Put, Swap, Spill}
-use Rattle.tag_core.specs.Steps.{Words, changed_at, without}
-use Rattle.tag_search.specs.Plain.{Plain, words_of, RunsAlone, IsTaken}
+use Rattle.tag_core.specs.Steps.{changed_at, without}
+use Rattle.tag_search.specs.Plain.{Plain, RunsAlone, IsTaken}
 
 -- a list with one entry changed, as a function of the index
 pub set_changed : (xs : List ℕ) (i v : ℕ) → i < length xs → (λ (j : ℕ). get_or (set xs i v) j 0) ≡ changed_at (λ j. get_or xs j 0) i v

@@ -1,8 +1,8 @@
 -- What is known in the middle of a search.
-use Rattle.std.proofs.Common.{◌≡◌, ℕ, ◌+◌, ◌<◌, ◌≤◌, List, [], ◌∷◌, ◌++◌, map, min, Option, Some, None, arith, refl, sym, ap, ◌∙◌, subst}
+use Rattle.std.proofs.Common.{◌≡◌, ℕ, ◌≤◌, List, [], ◌∷◌, ◌++◌, map, min, Option, Some, None, arith, sym, ap, ◌∙◌, subst}
 use Rattle.std.proofs.lemmas.List.{append_assoc, append-nil, map-append}
 use Rattle.tag_core.specs.declared.word_step.WordStep.{WordStep}
-use Rattle.tag_layout.specs.Layout.{Layout, words, tag_at}
+use Rattle.tag_layout.specs.Layout.{Layout, words}
 use Rattle.tag_search.specs.Order.{numbers}
 use Rattle.tag_search.specs.Visits.{Reach, visit_of, visits}
 use Rattle.tag_search.specs.Search.{Visit, IsVisit, IsSearch, over, won, passed}

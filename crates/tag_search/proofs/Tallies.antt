@@ -1,5 +1,5 @@
 -- Sums over the words of a list, in the order in which a search visits them.
-use Rattle.std.proofs.Common.{◌≡◌, ℕ, zero, suc, ◌+◌, ◌-◌, ◌*◌, ◌<◌, ◌≤◌, List, [], ◌∷◌, ◌++◌, arith, refl, sym, ap, ◌∙◌}
+use Rattle.std.proofs.Common.{◌≡◌, ℕ, zero, suc, ◌+◌, ◌-◌, ◌*◌, ◌≤◌, List, [], ◌∷◌, ◌++◌, arith, refl, ap, ◌∙◌}
 use Rattle.tag_layout.specs.Layout.{Layout, words, word_depth}
 use Rattle.tag_layout.specs.Sums.{sum_below}
 use Rattle.tag_layout.proofs.PlaceFacts.{word_depths-sum}

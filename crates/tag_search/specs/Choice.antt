@@ -1,5 +1,5 @@
 -- What a search answers where nobody else steps: a choice over the sets of free places and of places set aside.
-use Rattle.std.specs.Prelude.{◌≡◌, ℕ, List, [], ◌∷◌, ◌++◌, All, Option, Some, None}
+use Rattle.std.specs.Prelude.{◌≡◌, ℕ, List, ◌∷◌, ◌++◌, All, Option, Some, None}
 use Rattle.std.specs.Int.{bit_at}
 use Rattle.tag_core.specs.Steps.{Words}
 use Rattle.tag_layout.specs.Layout.{Layout, tag_at}

@@ -3,7 +3,7 @@ use Rattle.std.specs.Prelude.{◌≡◌, ℕ, List, slice_index}
 use Rattle.std.specs.Int.{bit_at}
 use Rattle.tag_core.specs.declared.word_step.WordStep.{WordStep}
 use Rattle.tag_core.specs.Steps.{Words, Quiet, words_after_all}
-use Rattle.tag_layout.specs.Layout.{Layout, word_of, place_of}
+use Rattle.tag_layout.specs.Layout.{Layout}
 
 -- the sizes, each word, and each word's cleared set, in order
 pub record Plain : Type 0 where

@@ -1,5 +1,5 @@
 -- The visits of a search: which words in which order, and of each word which places in which order.
-use Rattle.std.specs.Prelude.{ℕ, Bool, true, false, cond, nat_eq, List, map, Option, Some, None}
+use Rattle.std.specs.Prelude.{ℕ, Bool, true, false, cond, nat_eq, List, map}
 use Rattle.tag_layout.specs.Layout.{Layout, words, word_of, place_of, word_depth, shallow_limit}
 use Rattle.tag_search.specs.Order.{scan_order}
 use Rattle.tag_search.specs.Search.{Visit}

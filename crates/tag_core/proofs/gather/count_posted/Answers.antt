@@ -1,10 +1,10 @@
-use Rattle.std.proofs.Common.{rules, arith, ◌≡◌, ℕ, zero, suc, ◌+◌, ◌<◌, ◌≤◌, List, [], ◌∷◌, get_or, nat_eq, refl, sym, ap, ◌∙◌, subst, eq-eqb, ne_eqb}
+use Rattle.std.proofs.Common.{rules, arith, ◌≡◌, ℕ, zero, suc, ◌+◌, ◌<◌, List, [], ◌∷◌, get_or, nat_eq, refl, sym, ap, ◌∙◌, subst, eq-eqb, ne_eqb}
 use mathlib.Core.Option.{some, some-injective, some-ne-none}
 use lib.ListN.{get_elem?}
 use Rattle.std.specs.Slots.{slots_items, slots_len}
 use Rattle.tag_layout.specs.Sums.{sum_below}
 use Rattle.tag_core.specs.Bits.{one_if}
-use Rattle.tag_core.specs.Spacing.{state_at, table_width}
+use Rattle.tag_core.specs.Spacing.{state_at}
 use Rattle.tag_core.proofs.Stand.{state_in}
 use Rattle.tag_core.proofs.gather.count_posted.Goals.{then-word-eq1, else-word-eq1}
 use Rattle.tag_core.proofs.gather.count_posted.Goals as goal

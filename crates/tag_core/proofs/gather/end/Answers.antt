@@ -1,12 +1,10 @@
-use Rattle.std.proofs.Common.{rules, arith, ◌≡◌, ℕ, ◌+◌, ◌<◌, List, length, nat_eq, slice_index, refl, sym, ap, ◌∙◌, subst}
-use mathlib.Core.Option.{some, some-injective}
+use Rattle.std.proofs.Common.{arith, ℕ, List, nat_eq, slice_index, refl, sym, ap, ◌∙◌, subst}
+use mathlib.Core.Option.{some-injective}
 use lib.ListN.{get_elem?}
 use Rattle.std.specs.Slots.{slots_items}
 use Rattle.atomic_table.specs.Table.{Final, Seen}
 use Rattle.tag_layout.specs.Sums.{sum_below}
-use Rattle.tag_model.specs.declared.place.Place.{Place}
 use Rattle.tag_core.specs.declared.shape.Shape.{Shape}
-use Rattle.tag_core.specs.declared.record.Record.{Record}
 use Rattle.tag_core.specs.Bits.{one_if}
 use Rattle.tag_core.specs.Spacing.{state_at}
 use Rattle.tag_core.specs.Rule.{Shown, SlotIs}

@@ -1,5 +1,5 @@
-use Rattle.std.proofs.Common.{rules, arith, ◌≡◌, ◌≢◌, ℕ, ◌+◌, ◌<◌, length, sym, ap, ◌∙◌, subst, refl}
-use mathlib.Core.Option.{some, some-injective}
+use Rattle.std.proofs.Common.{rules, arith, ◌≡◌, ◌≢◌, sym, ap, ◌∙◌, refl}
+use mathlib.Core.Option.{some-injective}
 use mathlib.Core.Logic.{dite}
 use native.Mathlib.Decide.{ℕ_discrete}
 use lib.ListN.{get_elem?}

@@ -1,4 +1,4 @@
-use Rattle.std.proofs.Common.{rules, arith, ◌≡◌, ℕ, ◌≤◌, ◌<◌, replicate, get_or, length, sym, ap, ◌∙◌, subst, List}
+use Rattle.std.proofs.Common.{rules, ◌≡◌, ℕ, replicate, sym, subst, List}
 use lib.ListN.{length-replicate}
 use Rattle.atomic_table.specs.Table.{opening}
 use Rattle.tag_core.specs.Spacing.{table_width}

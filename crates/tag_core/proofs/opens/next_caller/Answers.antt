@@ -1,8 +1,7 @@
-use Rattle.std.proofs.Common.{rules, arith, ◌≡◌, ℕ, ◌≤◌, ◌<◌, ◌-◌, ◌+◌, List, [], ◌∷◌, replicate, get_or, length, refl, sym, ap, ◌∙◌, subst}
+use Rattle.std.proofs.Common.{rules, arith, ◌≡◌, ℕ, ◌<◌, ◌-◌, ◌+◌, List, [], ◌∷◌, replicate, get_or, length, sym, ap, ◌∙◌, subst}
 use lib.ListN.{length-replicate}
 use Rattle.atomic_table.specs.Table.{Splits}
 use Rattle.tag_layout.specs.Layout.{words}
-use Rattle.tag_core.specs.declared.record.Record.{Record}
 use Rattle.tag_core.specs.declared.shape.Shape.{Shape}
 use Rattle.tag_core.specs.Records.{fresh_record, Carries}
 use Rattle.tag_core.specs.Views.{viewing, alone, fresh, first_view, other_views, steps_of}

@@ -1,4 +1,4 @@
-use Rattle.std.proofs.Common.{rules, arith, ◌≡◌, ℕ, ◌+◌, ◌<◌, ◌^◌, List, length, slice_index, count_ones, sym, ap, ◌∙◌}
+use Rattle.std.proofs.Common.{arith, ℕ, ◌+◌, ◌<◌, ◌^◌, List, length, slice_index, count_ones, sym, ap, ◌∙◌}
 use Rattle.std.proofs.lemmas.Nat.{ones-le}
 use Rattle.tag_core.proofs.Totalling.{total_of-next}
 use Rattle.tag_core.proofs.together.count_tags.Goals as goal

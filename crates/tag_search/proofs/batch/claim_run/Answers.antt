@@ -1,9 +1,8 @@
 -- The run has n bits, for which there is room.
-use Rattle.std.proofs.Common.{◌≡◌, ℕ, ◌+◌, ◌/◌, ◌^◌, ◌<◌, [], ◌∷◌, count_ones, Bool, true, false, arith, refl, sym, ap, ◌∙◌, subst}
+use Rattle.std.proofs.Common.{◌≡◌, ◌/◌, ◌^◌, [], ◌∷◌, true, false, sym, ap, ◌∙◌, subst}
 use Rattle.tag_core.specs.declared.word_step.WordStep.TheVariants.{Claimed}
 use Rattle.tag_core.specs.Steps.{without}
-use Rattle.tag_layout.specs.Layout.{word_depth}
-use Rattle.tag_search.specs.Batch.{run_mask, run_won}
+use Rattle.tag_search.specs.Batch.{run_mask}
 use Rattle.tag_search.proofs.Claims.{same_where_lost}
 use Rattle.tag_search.proofs.Runs.{run_below}
 use Rattle.tag_search.proofs.batch.claim_run.Goals as goal

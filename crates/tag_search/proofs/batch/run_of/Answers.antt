@@ -1,5 +1,5 @@
 -- The shifts give the run.
-use Rattle.std.proofs.Common.{◌≡◌, ◌≤◌, count_ones, arith, ap, ◌∙◌}
+use Rattle.std.proofs.Common.{count_ones, arith, ap, ◌∙◌}
 use Rattle.tag_search.proofs.Runs.{run_shifted, ones-run}
 use Rattle.tag_search.proofs.batch.run_of.Goals as goal
 

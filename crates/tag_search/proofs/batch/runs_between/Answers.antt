@@ -1,8 +1,6 @@
 -- Each visit that wins nothing adds its steps, and the search goes on behind it.
-use Rattle.std.proofs.Common.{◌≡◌, ◌≢◌, ℕ, ◌+◌, ◌<◌, ◌≤◌, List, [], ◌∷◌, ◌++◌, Option, Some, None, arith, refl, sym, ap, ◌∙◌, subst}
-use Rattle.tag_core.specs.declared.word_step.WordStep.{WordStep}
-use Rattle.tag_core.specs.declared.word_step.WordStep.TheVariants.{Claimed}
-use Rattle.tag_layout.specs.Layout.{Layout, words, word_depth, tag_at}
+use Rattle.std.proofs.Common.{ℕ, ◌+◌, ◌∷◌, ◌++◌, Option, Some, None, sym, ◌∙◌, subst}
+use Rattle.tag_layout.specs.Layout.{word_depth, tag_at}
 use Rattle.tag_search.specs.Order.{numbers}
 use Rattle.tag_search.specs.Batch.{IsBatchVisit, IsBatchSearch, batch_won}
 use Rattle.tag_search.proofs.Batches.{IsBatchBegun, batch_further, batch_ends}

@@ -1,4 +1,4 @@
-use Rattle.std.proofs.Common.{◌≡◌, ℕ}
+use Rattle.std.proofs.Common.{◌≡◌}
 use Rattle.tag_search.specs.Added.{Adds, SameRoom}
 use Rattle.tag_search.specs.Order.{numbers}
 use Rattle.tag_search.proofs.Batches.{IsBatchBegun}

@@ -1,6 +1,5 @@
 -- The words from the first on, and then those before it.
-use Rattle.std.proofs.Common.{◌≡◌, ℕ, List, ◌++◌, true, Option, Some, None, refl, sym, subst}
-use Rattle.tag_core.specs.declared.word_step.WordStep.{WordStep}
+use Rattle.std.proofs.Common.{◌++◌, true, Some, None, refl, sym, subst}
 use Rattle.tag_layout.specs.Layout.{words}
 use Rattle.tag_search.specs.Batch.{IsBatchSearch}
 use Rattle.tag_search.specs.Order.{numbers, scan_order}

@@ -1,8 +1,7 @@
 -- The sweep's steps, and then the load.
-use Rattle.std.proofs.Common.{ℕ, List, [], ◌∷◌, ◌++◌, subst, sym}
-use Rattle.tag_core.specs.declared.word_step.WordStep.{WordStep}
+use Rattle.std.proofs.Common.{[], ◌∷◌, ◌++◌}
 use Rattle.tag_core.specs.declared.word_step.WordStep.TheVariants.{Look}
-use Rattle.tag_search.specs.Batch.{IsSweptLook, swept_look}
+use Rattle.tag_search.specs.Batch.{swept_look}
 use Rattle.tag_search.proofs.Batches.{swept_any}
 use Rattle.tag_search.proofs.batch.sweep_and_look.Goals as goal
 

@@ -1,12 +1,9 @@
 -- One claim, where the run from the first clear place is the word's.
-use Rattle.std.proofs.Common.{◌≡◌, ◌≢◌, ℕ, ◌+◌, ◌<◌, ◌≤◌, List, [], ◌∷◌, ◌++◌, Option, Some, None, arith, refl, sym, ap, ◌∙◌, subst}
-use Rattle.tag_core.specs.declared.word_step.WordStep.{WordStep}
+use Rattle.std.proofs.Common.{ℕ, ◌+◌, ◌≤◌, [], ◌∷◌, ◌++◌, Some, arith, sym, subst}
 use Rattle.tag_core.specs.declared.word_step.WordStep.TheVariants.{Claimed}
-use Rattle.tag_layout.specs.Layout.{Layout, words, word_depth, tag_at}
-use Rattle.tag_search.specs.Order.{numbers}
-use Rattle.tag_search.specs.Batch.{run_mask, run_won, IsSweptLook, IsRun, IsBatchVisit, no_run, run_lost, run_taken}
+use Rattle.tag_layout.specs.Layout.{word_depth}
+use Rattle.tag_search.specs.Batch.{run_mask, IsBatchVisit, no_run, run_lost, run_taken}
 use Rattle.tag_search.proofs.Batches.{no_first_clear, same_first_clear}
-use Rattle.tag_search.proofs.Joined.{adds_weaker}
 use Rattle.tag_search.proofs.batch.visit_for_run.Goals as goal
 
 pub returns-in_err-place-clause-visit : goal.returns-in_err-place-clause-visit

@@ -1,6 +1,5 @@
 -- The mask is one bit, so one tag of room is enough, and what was won tells what was found.
-use Rattle.std.proofs.Common.{◌≡◌, ℕ, ◌+◌, ◌*◌, ◌%◌, ◌^◌, ◌<◌, [], ◌∷◌, count_ones, arith, refl, sym, ap, ◌∙◌, subst, Bool, true, false}
-use Rattle.std.specs.Int.{bit_at}
+use Rattle.std.proofs.Common.{◌≡◌, ◌^◌, ◌<◌, [], ◌∷◌, count_ones, arith, sym, ap, ◌∙◌, subst, true, false}
 use Rattle.std.proofs.lemmas.Nat.{one_shl, pow_below}
 use Rattle.tag_core.specs.declared.word_step.WordStep.TheVariants.{Claimed}
 use Rattle.tag_core.specs.Steps.{without}

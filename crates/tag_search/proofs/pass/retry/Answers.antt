@@ -1,9 +1,6 @@
 -- A sweep that found a mask is followed by a pass, and one that found none by nothing.
-use Rattle.std.proofs.Common.{◌≡◌, ℕ, List, Option, None, subst, true, false}
-use Rattle.std.specs.Prelude.{MatchBool}
-use Rattle.tag_core.specs.declared.word_step.WordStep.{WordStep}
+use Rattle.std.proofs.Common.{None}
 use Rattle.tag_search.specs.Search.{IsPass, IsSweep, IsRetry, nothing_aside, swept}
-use Rattle.tag_search.specs.Added.{Adds}
 use Rattle.tag_search.specs.Places.{places_of}
 use Rattle.tag_search.proofs.Joined.{adds_joined, adds_weaker}
 use Rattle.tag_search.proofs.pass.retry.Goals as goal

@@ -1,8 +1,6 @@
 -- A pass that wins is the visit, and one that does not is followed by the retry.
-use Rattle.std.proofs.Common.{◌≡◌, ℕ, List, Option, Some, None}
-use Rattle.tag_core.specs.declared.word_step.WordStep.{WordStep}
+use Rattle.std.proofs.Common.{Some, None}
 use Rattle.tag_search.specs.Search.{IsPass, IsRetry, IsVisit, at_once, retried}
-use Rattle.tag_search.specs.Added.{Adds}
 use Rattle.tag_search.specs.Places.{places_of}
 use Rattle.tag_search.proofs.Joined.{adds_joined, adds_weaker}
 use Rattle.tag_search.proofs.pass.visit.Goals as goal

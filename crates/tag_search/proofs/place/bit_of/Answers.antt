@@ -1,5 +1,5 @@
 -- One bit, at the tag's place.
-use Rattle.std.proofs.Common.{◌≡◌, ◌^◌, ap, ◌∙◌}
+use Rattle.std.proofs.Common.{◌^◌, ap, ◌∙◌}
 use Rattle.std.proofs.lemmas.Nat.{one_shl}
 use Rattle.tag_search.proofs.place.bit_of.Goals as goal
 

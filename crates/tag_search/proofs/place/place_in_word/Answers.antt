@@ -1,7 +1,6 @@
 -- The low bits are what is left by the size of a word.
-use Rattle.std.proofs.Common.{◌≡◌, ◌^◌, ◌<◌, ◌≤◌, arith, sym, subst}
+use Rattle.std.proofs.Common.{◌^◌, arith}
 use Rattle.std.proofs.lemmas.Nat.{mod_below, pow_pos}
-use Rattle.tag_layout.specs.Layout.{word_bits}
 use Rattle.tag_layout.proofs.PlaceFacts.{low_bits, word_bits-le}
 use Rattle.tag_search.proofs.place.place_in_word.Goals as goal
 

@@ -1,6 +1,5 @@
 -- The scan's search is the get.
-use Rattle.std.proofs.Common.{◌≡◌, ℕ, ◌≤◌, List, Option, sym, ap, ◌∙◌, subst}
-use Rattle.tag_core.specs.declared.word_step.WordStep.{WordStep}
+use Rattle.std.proofs.Common.{◌≡◌, ℕ, ◌≤◌, ap, ◌∙◌, subst}
 use Rattle.tag_layout.specs.Layout.{Layout, words, word_of}
 use Rattle.tag_search.specs.Gets.{IsGet}
 use Rattle.tag_search.specs.Hints.{reduced}

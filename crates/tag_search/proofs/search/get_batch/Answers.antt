@@ -1,9 +1,7 @@
 -- The search for a run is the batch get.
-use Rattle.std.proofs.Common.{◌≡◌, ℕ, ◌≤◌, ◌<◌, ◌/◌, ◌^◌, List, Option, Some, None, arith, sym, ap, ◌∙◌, subst, true}
-use Rattle.tag_core.specs.declared.word_step.WordStep.{WordStep}
+use Rattle.std.proofs.Common.{◌≡◌, ℕ, ◌≤◌, ◌/◌, ◌^◌, arith, ap, ◌∙◌, true}
 use Rattle.tag_layout.specs.Layout.{Layout, words, word_bits, word_of}
 use Rattle.tag_layout.proofs.PlaceFacts.{word_bits-le}
-use Rattle.tag_search.specs.Added.{Adds}
 use Rattle.tag_search.specs.Batch.{IsBatchSearch, IsBatchGet}
 use Rattle.tag_search.specs.Hints.{reduced}
 use Rattle.tag_search.specs.Order.{scan_order}

@@ -1,27 +1,15 @@
-use Rattle.std.proofs.Common.{rules, arith, ◌≡◌, ◌≢◌, ℕ, ◌+◌, ◌-◌, ◌*◌, ◌^◌, ◌<◌, ◌≤◌, List, length, replicate, slice_index, slice_set, length-set, get_or, set, bit_or, bit_and, count_ones, eqb, refl, sym, ap, ◌∙◌, subst, Some, None}
-use mathlib.Core.Option.{some, none}
-use prog.Atomic.{either}
+use Rattle.std.proofs.Common.{◌≡◌, ℕ, refl, ap, ◌∙◌, subst}
 use Rattle.std.specs.Int.{bit_at}
-use Rattle.std.proofs.lemmas.List.{get_or_read}
-use Rattle.atomic_table.specs.Table.{step, Allows}
-use Rattle.tag_layout.specs.Layout.{Layout, words, word_of, place_of, IsWithin}
-use Rattle.tag_layout.proofs.PlaceFacts.{word_of-below}
-use Rattle.tag_model.specs.declared.world.TheConstants.{MAX_CALLERS, MOST_WON}
+use Rattle.tag_layout.specs.Layout.{word_of, place_of}
 use Rattle.tag_core.specs.declared.shape.Shape.{Shape}
-use Rattle.tag_core.specs.declared.step.Step.TheVariants.{Word, Post, Take}
-use Rattle.tag_core.specs.declared.word_step.WordStep.TheVariants.{Look, LookAside, Claimed, Give, Put, Swap, Spill}
-use Rattle.tag_core.specs.declared.record.Record.{Record}
-use Rattle.tag_core.specs.Steps.{without}
-use Rattle.tag_core.specs.Spacing.{word_at, aside_at, state_at}
-use Rattle.tag_core.specs.Records.{record_after, tag_bit, value_of}
-use Rattle.tag_core.specs.Plays.{looked, looked_aside, claimed, gave, put_aside, swapped, spilled, posted, took}
+use Rattle.tag_core.specs.declared.step.Step.TheVariants.{Word}
+use Rattle.tag_core.specs.declared.word_step.WordStep.TheVariants.{Look}
+use Rattle.tag_core.specs.Spacing.{word_at}
+use Rattle.tag_core.specs.Plays.{looked}
 use Rattle.tag_core.specs.Callers.{record_of}
-use Rattle.tag_core.proofs.Masks.{ones_minus}
-use Rattle.tag_core.proofs.Stand.{word_in, aside_in, state_in}
-use Rattle.tag_core.proofs.Picks.{one_among}
-use Rattle.tag_core.proofs.Sweepings.{nothing, clean, mask_of}
-use Rattle.tag_core.proofs.Allowed.{look_allowed, look_aside_allowed, claim_allowed, give_allowed, put_allowed, swap_allowed, spill_allowed, post_allowed, take_allowed}
-use Rattle.tag_core.proofs.Asking.{narrow, in_words, asked, recorded, knows, carries, few, slots, bounded, plus_none}
+use Rattle.tag_core.proofs.Stand.{word_in}
+use Rattle.tag_core.proofs.Allowed.{look_allowed}
+use Rattle.tag_core.proofs.Asking.{narrow, in_words, asked, recorded, knows, carries, slots, plus_none}
 use Rattle.tag_core.proofs.map.Map.look.Goals as goal
 
 pub load-requires : goal.load-requires

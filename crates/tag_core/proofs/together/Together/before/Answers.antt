@@ -1,12 +1,9 @@
-use Rattle.std.proofs.Common.{rules, arith, ◌≡◌, ℕ, ◌+◌, ◌<◌, List, [], ◌∷◌, ◌++◌, refl, sym, ap, ◌∙◌, subst}
-use mathlib.Core.Option.{none}
-use Rattle.atomic_table.specs.Table.{Joins, Allows, step}
+use Rattle.std.proofs.Common.{◌≡◌, ℕ, ◌+◌, ◌<◌, List, [], sym, ap, ◌∙◌, subst}
+use Rattle.atomic_table.specs.Table.{Joins}
 use Rattle.tag_core.specs.declared.record.Record.{Record}
-use Rattle.tag_core.specs.declared.record.View.{View}
 use Rattle.tag_core.specs.declared.shape.Shape.{Shape}
 use Rattle.tag_core.specs.Sizes.{total_of, size_of}
 use Rattle.tag_core.specs.Views.{both_views, viewing}
-use Rattle.tag_core.specs.Plays.{counted}
 use Rattle.tag_core.specs.Rule.{Shown}
 use Rattle.tag_core.proofs.Countings.{count_allowed}
 use Rattle.tag_core.proofs.Passing.{joins}

@@ -1,4 +1,4 @@
-use Rattle.std.proofs.Common.{rules, ◌≡◌, ℕ, ◌<◌, [], ◌∷◌, sym, subst}
+use Rattle.std.proofs.Common.{ℕ, ◌<◌, [], sym, subst}
 use Rattle.atomic_table.specs.Table.{Splits}
 use Rattle.tag_core.specs.declared.shape.Shape.{Shape}
 use Rattle.tag_core.specs.Views.{first_view, other_views}

@@ -1,8 +1,8 @@
 -- A put writes its cleared set alone.
-use Rattle.std.proofs.Common.{◌≡◌, ◌≢◌, ◌↔◌, ℕ, ◌+◌, ◌*◌, ◌^◌, ◌<◌, [], ◌∷◌, length, get_or, set, bit_and, bit_or, nat_eq, Bool, true, false, sym, ap, ◌∙◌, subst, arith}
+use Rattle.std.proofs.Common.{◌≡◌, ℕ, ◌^◌, ◌<◌, [], ◌∷◌, length, get_or, set, bit_or, ap, ◌∙◌, subst}
 use Rattle.std.proofs.lemmas.List.{get_or_read}
-use Rattle.tag_layout.specs.Layout.{words, word_of, place_of}
-use Rattle.tag_search.specs.Plain.{Plain, RunsAlone, IsTaken}
+use Rattle.tag_layout.specs.Layout.{word_of, place_of}
+use Rattle.tag_search.specs.Plain.{Plain, RunsAlone}
 use Rattle.tag_core.specs.declared.word_step.WordStep.TheVariants.{Put}
 use Rattle.tag_search.proofs.PlainFacts.{ran_put}
 use Rattle.tag_search.proofs.plain.PlainPort.put.Goals as goal

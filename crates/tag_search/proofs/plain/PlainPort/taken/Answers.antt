@@ -1,8 +1,8 @@
 -- A bit that is masked out tells the place.
-use Rattle.std.proofs.Common.{◌≡◌, ◌≢◌, ◌↔◌, ℕ, ◌+◌, ◌*◌, ◌^◌, ◌<◌, [], ◌∷◌, length, get_or, bit_and, bit_or, nat_eq, Bool, true, false, sym, ap, ◌∙◌, subst, arith}
+use Rattle.std.proofs.Common.{◌≡◌, ℕ, ◌<◌, length, get_or, ap, ◌∙◌}
 use Rattle.std.proofs.lemmas.List.{get_or_read}
-use Rattle.tag_layout.specs.Layout.{words, word_of, place_of}
-use Rattle.tag_search.specs.Plain.{Plain, RunsAlone, IsTaken}
+use Rattle.tag_layout.specs.Layout.{word_of, place_of}
+use Rattle.tag_search.specs.Plain.{Plain}
 use Rattle.tag_search.proofs.PlainFacts.{tells_taken, tells_free}
 use Rattle.tag_search.proofs.plain.PlainPort.taken.Goals as goal
 

@@ -1,9 +1,8 @@
 -- A claim writes its word alone.
-use Rattle.std.proofs.Common.{◌≡◌, ℕ, ◌+◌, ◌*◌, ◌^◌, ◌<◌, [], ◌∷◌, length, get_or, bit_and, bit_or, sym, ap, ◌∙◌, subst, arith}
+use Rattle.std.proofs.Common.{◌<◌, length, sym, subst}
 use Rattle.std.proofs.lemmas.List.{get_or_read}
-use Rattle.tag_layout.specs.Layout.{words, word_of, place_of}
-use Rattle.tag_search.specs.Plain.{Plain, RunsAlone, IsTaken}
-use Rattle.tag_core.specs.declared.word_step.WordStep.TheVariants.{Claimed}
+use Rattle.tag_layout.specs.Layout.{words}
+use Rattle.tag_search.specs.Plain.{Plain}
 use Rattle.tag_search.proofs.PlainFacts.{ran_claim}
 use Rattle.tag_search.proofs.plain_steps.PlainPortPort.claim.Goals as goal
 

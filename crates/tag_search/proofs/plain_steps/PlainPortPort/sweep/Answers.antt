@@ -1,10 +1,10 @@
 -- A sweep that finds nothing changes nothing, and one that finds a mask empties the cleared set and frees its places.
-use Rattle.std.proofs.Common.{◌≡◌, ℕ, ◌+◌, ◌*◌, ◌^◌, ◌<◌, [], ◌∷◌, length, get_or, bit_and, bit_or, sym, ap, ◌∙◌, subst, arith}
+use Rattle.std.proofs.Common.{◌≡◌, ◌^◌, ◌<◌, [], ◌∷◌, length, get_or, sym, ◌∙◌, subst, arith}
 use Rattle.std.proofs.lemmas.List.{get_or_read}
-use Rattle.tag_layout.specs.Layout.{words, word_of, place_of}
-use Rattle.tag_search.specs.Plain.{Plain, RunsAlone, IsTaken}
+use Rattle.tag_layout.specs.Layout.{words}
+use Rattle.tag_search.specs.Plain.{Plain}
 use Rattle.tag_core.specs.declared.word_step.WordStep.TheVariants.{Swap, Spill}
-use Rattle.tag_search.specs.Search.{IsSweep, empty, spilled}
+use Rattle.tag_search.specs.Search.{empty, spilled}
 use Rattle.tag_search.proofs.PlainFacts.{ran_empty, ran_sweep}
 use Rattle.tag_search.proofs.plain_steps.PlainPortPort.sweep.Goals as goal
 

@@ -1,5 +1,5 @@
 -- Each place of a rank is below the limit, which is within the word.
-use Rattle.std.proofs.Common.{ℕ, ◌<◌, ◌≤◌, List, arith, subst, sym}
+use Rattle.std.proofs.Common.{ℕ, ◌<◌, List, arith, subst, sym}
 use Rattle.std.specs.Prelude.{All}
 use Rattle.tag_layout.specs.Layout.{word_depth}
 use Rattle.tag_search.proofs.Orders.{all_scan}

@@ -1,7 +1,5 @@
 -- The words from the first on, and then those before it.
-use Rattle.std.proofs.Common.{◌≡◌, ℕ, ◌≤◌, min, List, ◌++◌, map, Option, Some, None, arith, refl, sym, ap, ◌∙◌, subst}
-use Rattle.std.proofs.lemmas.List.{map-append}
-use Rattle.tag_core.specs.declared.word_step.WordStep.{WordStep}
+use Rattle.std.proofs.Common.{ℕ, ◌++◌, map, Some, None, refl, sym, subst}
 use Rattle.tag_layout.specs.Layout.{words}
 use Rattle.tag_search.specs.Order.{numbers}
 use Rattle.tag_search.specs.Search.{Visit, IsSearch}

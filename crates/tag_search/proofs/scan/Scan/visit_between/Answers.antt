@@ -1,6 +1,5 @@
 -- Each visit that wins nothing adds its steps, and the search goes on behind it.
-use Rattle.std.proofs.Common.{◌≡◌, ℕ, ◌+◌, ◌<◌, ◌≤◌, List, [], ◌∷◌, ◌++◌, map, Option, Some, None, arith, refl, sym, ap, ◌∙◌, subst}
-use Rattle.tag_core.specs.declared.word_step.WordStep.{WordStep}
+use Rattle.std.proofs.Common.{◌≡◌, ℕ, ◌+◌, ◌∷◌, ◌++◌, map, Some, None, sym, ap, ◌∙◌, subst}
 use Rattle.tag_layout.specs.Layout.{tag_at}
 use Rattle.tag_search.specs.Order.{numbers}
 use Rattle.tag_search.specs.Search.{Visit, IsVisit, IsSearch, won}

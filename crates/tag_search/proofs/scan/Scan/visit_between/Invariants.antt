@@ -1,4 +1,4 @@
-use Rattle.std.proofs.Common.{◌≡◌, ℕ, map}
+use Rattle.std.proofs.Common.{◌≡◌, map}
 use Rattle.tag_search.specs.Added.{Adds, SameRoom}
 use Rattle.tag_search.specs.Order.{numbers}
 use Rattle.tag_search.specs.Scans.{reach_of}
