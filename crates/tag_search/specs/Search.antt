@@ -20,12 +20,20 @@ pub record IsFirstInRank (word : ℕ) (rank : List ℕ) (place : ℕ) (behind : 
 -- clear there, behind those claimed before, and the first claim won is the last
 pub data IsTries (i : ℕ) : List ℕ → ℕ → List WordStep → Option ℕ → Type 0 where
   none_left : {rank : List ℕ} {found : ℕ} → AllTaken found rank → IsTries i rank found [] None
-  wins : {rank behind : List ℕ} {found next place : ℕ} → IsFirstInRank found rank place behind → bit_at next place ≡ 0 → IsTries i rank found (Claimed i (2 ^ place) next ∷ []) (Some place)
-  loses : {rank behind : List ℕ} {found next place : ℕ} {rest : List WordStep} {answer : Option ℕ} → IsFirstInRank found rank place behind → bit_at next place ≡ 1 → IsTries i behind next rest answer → IsTries i rank found (Claimed i (2 ^ place) next ∷ rest) answer
+  wins :
+      {rank behind : List ℕ} {found next place : ℕ}
+      → IsFirstInRank found rank place behind → bit_at next place ≡ 0
+      → IsTries i rank found (Claimed i (2 ^ place) next ∷ []) (Some place)
+  loses :
+      {rank behind : List ℕ} {found next place : ℕ} {rest : List WordStep} {answer : Option ℕ}
+      → IsFirstInRank found rank place behind → bit_at next place ≡ 1 → IsTries i behind next rest answer
+      → IsTries i rank found (Claimed i (2 ^ place) next ∷ rest) answer
 
 -- a load of the word, and the claims that follow from it
 pub data IsPass (i : ℕ) (rank : List ℕ) : List WordStep → Option ℕ → Type 0 where
-  pass : {found : ℕ} {tries : List WordStep} {answer : Option ℕ} → IsTries i rank found tries answer → IsPass i rank (Look i found ∷ tries) answer
+  pass :
+      {found : ℕ} {tries : List WordStep} {answer : Option ℕ}
+      → IsTries i rank found tries answer → IsPass i rank (Look i found ∷ tries) answer
 
 -- the cleared set is swapped with 0, and a mask that stood in it is taken out of the word
 pub data IsSweep (i : ℕ) : ℕ → List WordStep → Type 0 where
@@ -35,12 +43,16 @@ pub data IsSweep (i : ℕ) : ℕ → List WordStep → Type 0 where
 -- a sweep, and where that found a mask a pass
 pub data IsRetry (i : ℕ) (rank : List ℕ) : List WordStep → Option ℕ → Type 0 where
   nothing_aside : {sweep : List WordStep} → IsSweep i 0 sweep → IsRetry i rank sweep None
-  swept : {sweep second : List WordStep} {mask : ℕ} {answer : Option ℕ} → mask ≢ 0 → IsSweep i mask sweep → IsPass i rank second answer → IsRetry i rank (sweep ++ second) answer
+  swept :
+      {sweep second : List WordStep} {mask : ℕ} {answer : Option ℕ}
+      → mask ≢ 0 → IsSweep i mask sweep → IsPass i rank second answer → IsRetry i rank (sweep ++ second) answer
 
 -- a pass, and where that wins nothing a sweep with its second pass
 pub data IsVisit (i : ℕ) (rank : List ℕ) : List WordStep → Option ℕ → Type 0 where
   at_once : {steps : List WordStep} {place : ℕ} → IsPass i rank steps (Some place) → IsVisit i rank steps (Some place)
-  retried : {first rest : List WordStep} {answer : Option ℕ} → IsPass i rank first None → IsRetry i rank rest answer → IsVisit i rank (first ++ rest) answer
+  retried :
+      {first rest : List WordStep} {answer : Option ℕ}
+      → IsPass i rank first None → IsRetry i rank rest answer → IsVisit i rank (first ++ rest) answer
 
 -- a word, and in which order its places are looked at
 pub record Visit : Type 0 where
@@ -50,5 +62,11 @@ pub record Visit : Type 0 where
 -- the visits in order, up to the first that wins: its tag is the answer, and none only after the last visit
 pub data IsSearch (l : Layout) : List Visit → List WordStep → Option ℕ → Type 0 where
   over : IsSearch l [] [] None
-  won : {visit : Visit} {visits : List Visit} {steps : List WordStep} {place : ℕ} → IsVisit visit.word visit.rank steps (Some place) → IsSearch l (visit ∷ visits) steps (Some (tag_at l visit.word place))
-  passed : {visit : Visit} {visits : List Visit} {steps rest : List WordStep} {answer : Option ℕ} → IsVisit visit.word visit.rank steps None → IsSearch l visits rest answer → IsSearch l (visit ∷ visits) (steps ++ rest) answer
+  won :
+      {visit : Visit} {visits : List Visit} {steps : List WordStep} {place : ℕ}
+      → IsVisit visit.word visit.rank steps (Some place)
+      → IsSearch l (visit ∷ visits) steps (Some (tag_at l visit.word place))
+  passed :
+      {visit : Visit} {visits : List Visit} {steps rest : List WordStep} {answer : Option ℕ}
+      → IsVisit visit.word visit.rank steps None → IsSearch l visits rest answer
+      → IsSearch l (visit ∷ visits) (steps ++ rest) answer

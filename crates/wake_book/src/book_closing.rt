@@ -86,7 +86,8 @@ impl Book {
 
     fn close(self, all: Collected) -> BookTotals
         requires { all.seat.table_id ≡ self.table.shared.table_id }
-        ensures { (tellers : List (Record BookStep)) → AreAll (tellers_of self) tellers all.seat.me.0.records.value → IsBooked (limits_of self) tellers result }
+        ensures { (tellers : List (Record BookStep)) → AreAll (tellers_of self) tellers all.seat.me.0.records.value
+            → IsBooked (limits_of self) tellers result }
     {
         let Book {
             table,

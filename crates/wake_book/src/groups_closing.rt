@@ -87,7 +87,8 @@ impl Groups {
     fn close(self, all: Gathering) -> GroupTotals
         requires own { all.seat.table_id ≡ self.table.shared.table_id }
         requires all { (waiters : List (Record GroupStep)) × AreAll (waiters_of self) waiters all.seat.me.0.records.value }
-        ensures { (waiters : List (Record GroupStep)) → AreAll (waiters_of self) waiters all.seat.me.0.records.value → IsBalanced (waiters_of self) waiters result }
+        ensures { (waiters : List (Record GroupStep)) → AreAll (waiters_of self) waiters all.seat.me.0.records.value
+            → IsBalanced (waiters_of self) waiters result }
     {
         let Groups {
             table,

@@ -9,7 +9,8 @@ use std::test::Fail;
 
 pub(crate) fn next_waiter(groups: &Groups, waiters: &mut Vec<Waiter>) -> Option<Waiter>
     requires { All (IsWaiterOf groups.now) waiters.old.items × All IsNew waiters.old.items }
-    ensures { All (IsWaiterOf groups.now) waiters.new.items × All IsNew waiters.new.items × IfSome result (IsWaiterOf groups.now) × IfSome result IsNew }
+    ensures kept { All (IsWaiterOf groups.now) waiters.new.items × All IsNew waiters.new.items }
+    ensures next { IfSome result (IsWaiterOf groups.now) × IfSome result IsNew }
 {
     waiters.pop()
 }
