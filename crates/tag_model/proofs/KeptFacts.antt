@@ -1,5 +1,5 @@
 -- Worlds as they are kept: sums and counts of their lists, and the lists after an event.
-use Rattle.std.proofs.Common.{◌≡◌, ◌≢◌, ℕ, zero, suc, ◌+◌, ◌-◌, ◌*◌, ◌^◌, ◌<◌, ◌≤◌, ◌==◌, List, [], ◌∷◌, length, get_or, set, take, replicate, sum, sum_by, count_by, Bool, true, false, cond, IsTrue, arith, refl, sym, ap, ◌∙◌, subst, eq-eqb, ne_eqb, get_or-set_same, get_or-set_other, length-set, Vec, Global}
+use Rattle.std.proofs.Common.{◌≡◌, ◌≢◌, ℕ, zero, suc, ◌+◌, ◌*◌, ◌<◌, ◌≤◌, ◌==◌, List, length, get_or, set, take, replicate, sum, sum_by, Bool, true, false, cond, arith, refl, sym, ap, ◌∙◌, subst, eq-eqb, ne_eqb, get_or-set_same, get_or-set_other, length-set, Vec, Global}
 use mathlib.Core.Logic.{dite}
 use native.Mathlib.Decide.{ℕ_discrete, dec_lt}
 use Rattle.std.proofs.Math.Path.{fun_ext}
@@ -8,16 +8,16 @@ use Rattle.std.proofs.Math.Nat.{mul-le-mul_right}
 use Rattle.std.proofs.Math.Seq.{take-length}
 use Rattle.std.proofs.lemmas.List.{with_items_is, length-replicate, get_or-replicate, get_or_past}
 use Rattle.std.proofs.lemmas.List.Sums.{sum_by_more}
-use Rattle.tag_layout.specs.Layout.{Layout, words, word_of}
+use Rattle.tag_layout.specs.Layout.{Layout, word_of}
 use Rattle.tag_layout.specs.Sums.{sum_below}
 use Rattle.tag_model.specs.declared.place.Place.{Place}
 use Rattle.tag_model.specs.declared.place.Place.TheVariants.{Free}
 use Rattle.tag_model.specs.declared.event.Event.{Event}
 use Rattle.tag_model.specs.declared.event.Event.TheVariants.{Look, Win, Put, Give, Sweep, Spill, Post, Take}
-use Rattle.tag_model.specs.Event.{caller_of, IsInLayout, names, brings, won_by, back_by}
+use Rattle.tag_model.specs.Event.{caller_of, IsInLayout, brings, won_by, back_by}
 use Rattle.tag_model.specs.World.{World, opened, place_after, plus_at, after, MayHappen}
-use Rattle.tag_model.specs.Totals.{count_below, Balances}
-use Rattle.tag_model.specs.Kept.{KeptWorld, callers_of, world_of, IsSound, SameSetup, Happens, MovesTags}
+use Rattle.tag_model.specs.Totals.{Balances}
+use Rattle.tag_model.specs.Kept.{KeptWorld, callers_of, world_of, IsSound, Happens, MovesTags}
 use Rattle.tag_model.proofs.MaskFacts.{in_mask-past}
 use Rattle.tag_model.proofs.BalanceFacts.{balances-after, balances-opened}
 
@@ -33,9 +33,6 @@ sum_by-below {X} f xs d = ap (sum_by f) (sym (take-length xs)) ∙ up_to (length
 
 pub sum-below : (xs : List ℕ) → sum xs ≡ sum_below (λ k. get_or xs k 0) (length xs)
 sum-below xs = sum_by-below (λ x. x) xs 0
-
-pub count_by-below : {X : Type 0} (p : X → Bool) (xs : List X) (d : X) → count_by p xs ≡ count_below (λ k. p (get_or xs k d)) (length xs)
-count_by-below p xs d = sum_by-below (λ x. cond (p x) 1 0) xs d
 
 -- a sum of terms that are each at most m
 pub sum_below-bound : (f : ℕ → ℕ) (n m : ℕ) → ((k : ℕ) → k < n → f k ≤ m) → sum_below f n ≤ n * m
@@ -168,23 +165,6 @@ module _ (old : KeptWorld) (event : Event) (places : List Place) (sound : IsSoun
             (subst (Balances old.layout (callers_of old)) (sym happens-kept.world) (balances-after old.layout (callers_of old) event (world_of old) may sound.balances));
       }
 
--- one tag more is where the event brings it
-module _ (l : Layout) (event : Event) (old places new : List Place) (at : ℕ)
-    (done : (k : ℕ) → k < at → k < l.depth → get_or places k Free ≡ place_after l event k (get_or old k Free))
-    (rest : (k : ℕ) → at ≤ k → k < l.depth → get_or places k Free ≡ get_or old k Free)
-    (here : at < l.depth → get_or new at Free ≡ place_after l event at (get_or places at Free))
-    (others : (k : ℕ) → k ≢ at → get_or new k Free ≡ get_or places k Free) where
-  pub done-more : (k : ℕ) → k < at + 1 → k < l.depth → get_or new k Free ≡ place_after l event k (get_or old k Free)
-  done-more k h h2 = dite (ℕ_discrete k at)
-      (λ (e : k ≡ at).
-      let in_range : at < l.depth = omega arith in
-      ap (λ (j : ℕ). get_or new j Free) e ∙ here in_range ∙ ap (place_after l event at) (rest at (omega arith) in_range)
-      ∙ ap (λ (j : ℕ). place_after l event j (get_or old j Free)) (sym e))
-      (λ (ne : k ≢ at). others k ne ∙ done k (omega arith) h2)
-
-  pub rest-less : (k : ℕ) → at + 1 ≤ k → k < l.depth → get_or new k Free ≡ get_or old k Free
-  rest-less k h h2 = others k (λ e. omega arith) ∙ rest k (omega arith) h2
-
 -- an opened world is kept soundly
 pub sound-opened : (l : Layout) (callers : ℕ) → 1 ≤ callers → callers ≤ 64 → IsSound (record { layout = l; places = replicate l.depth Free; won = replicate callers 0; back = replicate callers 0 })
 sound-opened l callers some few =
@@ -201,16 +181,13 @@ sound-opened l callers some few =
 
 -- the vectors written over hold what is kept after the event
 pub written-after :
-    (old : KeptWorld) (event : Event) (places : Vec Place Global) (won back : Vec ℕ Global) (moved : List Place) (more_won more_back : List ℕ)
-    → places.items ≡ old.places → won.items ≡ old.won → back.items ≡ old.back → MovesTags old.layout event old.places moved
-    → more_won ≡ set old.won (caller_of event) (get_or old.won (caller_of event) 0 + won_by event)
+    (old : KeptWorld) (event : Event) (layout : Layout) (won back : Vec ℕ Global) (moved : List Place) (more_won more_back : List ℕ)
+    → layout ≡ old.layout → won.items ≡ old.won → back.items ≡ old.back → more_won ≡ set old.won (caller_of event) (get_or old.won (caller_of event) 0 + won_by event)
     → more_back ≡ set old.back (caller_of event) (get_or old.back (caller_of event) 0 + back_by event)
-    → (let v : KeptWorld = record { layout = old.layout; places = (with_items places moved).items; won = (with_items won more_won).items; back = (with_items back more_back).items } in v ≡ kept_after old event moved)
-written-after old event places won back moved more_won more_back is_places is_won is_back moves to_won to_back =
-    let long_places : length moved ≡ places.len = moves.tags ∙ ap length (sym is_places) ∙ sym places.ok.0 in
+    → (let v : KeptWorld = record { layout = layout; places = moved; won = (with_items won more_won).items; back = (with_items back more_back).items } in v ≡ kept_after old event moved)
+written-after old event layout won back moved more_won more_back same is_won is_back to_won to_back =
     let long_won : length more_won ≡ won.len = ap length to_won ∙ length-set old.won (caller_of event) _ ∙ ap length (sym is_won) ∙ sym won.ok.0 in
     let long_back : length more_back ≡ back.len = ap length to_back ∙ length-set old.back (caller_of event) _ ∙ ap length (sym is_back) ∙ sym back.ok.0 in
-    let p = with_items_is places moved long_places in
     let w = with_items_is won more_won long_won ∙ to_won in
     let b = with_items_is back more_back long_back ∙ to_back in
-    λ i. record { layout = old.layout; places = p i; won = w i; back = b i }
+    λ i. record { layout = same i; places = moved; won = w i; back = b i }

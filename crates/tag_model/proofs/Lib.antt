@@ -2,4 +2,5 @@ pub mod RunFacts
 pub mod MaskFacts
 pub mod BalanceFacts
 pub mod KeptFacts
+pub mod EntryFacts
 pub mod HistoryFacts

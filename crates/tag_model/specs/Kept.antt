@@ -7,7 +7,7 @@ use Rattle.tag_model.specs.declared.event.Event.{Event}
 use Rattle.tag_model.specs.declared.event.EventFault.{EventFault}
 use Rattle.tag_model.specs.declared.totals.Totals.{Totals}
 use Rattle.tag_model.specs.declared.world.TheConstants.{MAX_CALLERS, MOST_WON}
-use Rattle.tag_model.specs.Event.{names, Needs}
+use Rattle.tag_model.specs.Event.{caller_of, names, IsInLayout, Needs, won_by}
 use Rattle.tag_model.specs.World.{World, place_after, after, MayHappen, IsFirstFault}
 use Rattle.tag_model.specs.Runs.{after_all, MayRun, StopsAt}
 use Rattle.tag_model.specs.Totals.{AreTotals, Balances}
@@ -52,6 +52,11 @@ CanHappen kept event = MayHappen kept.layout (callers_of kept) (world_of kept) e
 -- the first cause for which it can't
 abbrev pub HasFault : KeptWorld → Event → EventFault → Type 0
 HasFault kept event fault = IsFirstFault kept.layout (callers_of kept) (world_of kept) event fault
+
+-- nothing is wrong with the event but perhaps where its tags are
+abbrev pub IsInRoom : KeptWorld → Event → Type 0
+IsInRoom kept event =
+    IsInLayout kept.layout event × (caller_of event < callers_of kept) × ((world_of kept).won (caller_of event) + won_by event ≤ MOST_WON)
 
 -- each event can happen in turn
 abbrev pub CanRun : KeptWorld → List Event → Type 0

@@ -1,5 +1,6 @@
 pub mod Event
 pub mod World
+pub mod Entries
 pub mod Runs
 pub mod Totals
 pub mod Kept

@@ -1,9 +1,10 @@
 //! What can happen to tags, and why it can't.
-ghost use Rattle.std.specs.Prelude.{◌≡◌, ℕ, ◌<◌, ◌≤◌, ◌↔◌, IsTrue};
+ghost use Rattle.std.specs.Prelude.{◌≡◌, ℕ, ◌<◌, ◌≤◌, ◌↔◌, IsTrue, MatchOption};
+ghost use Rattle.tag_model.specs.Entries.{NamesNone, NamesMask};
 ghost use Rattle.tag_model.specs.Event.{caller_of, names, IsInLayout, Needs, brings, won_by, back_by};
 ghost use Rattle.tag_model.specs.World.{missing_of};
 
-use crate::masks::{is_in_mask, is_mask_of, tags_of};
+use crate::masks::{is_in_mask, is_mask_of, mask_of, tags_of};
 use crate::place::Place;
 use std::ops::Range;
 use tag_layout::Layout;
@@ -132,6 +133,23 @@ impl Event {
             Event::Spill(_, word) => layout.word_of(tag) == word,
             Event::Post(_, named) => tag == named,
             Event::Take(_, named) => tag == named,
+        }
+    }
+
+    /// The tags that it names as a word and a mask, if it names any.
+    pub(crate) fn mask(self, layout: Layout) -> Option<(u32, u64)>
+        requires { IsInLayout layout self }
+        ensures { MatchOption result (NamesNone layout self) (λ m. NamesMask layout self m.0 m.1) }
+    {
+        match self {
+            Event::Look => None,
+            Event::Win(_, word, mask) => Some((word, mask)),
+            Event::Put(_, tag) => Some((layout.word_of(tag), mask_of(layout, tag))),
+            Event::Give(_, word, mask) => Some((word, mask)),
+            Event::Sweep(_, word) => Some((word, layout.usable(word))),
+            Event::Spill(_, word) => Some((word, layout.usable(word))),
+            Event::Post(_, tag) => Some((layout.word_of(tag), mask_of(layout, tag))),
+            Event::Take(_, tag) => Some((layout.word_of(tag), mask_of(layout, tag))),
         }
     }
 

@@ -1,6 +1,7 @@
 //! The model of a tag allocator: one map from tags to places, and a list of events by any callers.
 #![tactic(auto)]
 
+mod entries;
 mod event;
 mod laws;
 mod masks;

@@ -1,6 +1,6 @@
 //! Masks of tags: those of one word, a bit each.
-ghost use Rattle.std.specs.Prelude.{◌≡◌, ℕ, ◌<◌, ◌≤◌, ◌↔◌, IsTrue};
-ghost use Rattle.tag_layout.specs.Layout.{words, word_of, IsWithin};
+ghost use Rattle.std.specs.Prelude.{◌≡◌, ℕ, ◌^◌, ◌<◌, ◌≤◌, ◌↔◌, IsTrue};
+ghost use Rattle.tag_layout.specs.Layout.{words, word_of, place_of, IsWithin};
 ghost use Rattle.tag_model.specs.Event.{is_in_mask};
 
 use std::ops::Range;
@@ -21,6 +21,14 @@ pub(crate) fn tags_of(layout: Layout, word: u32) -> Range<u32>
 {
     let first = layout.tag_at(word, 0);
     first..first + layout.word_depth(word)
+}
+
+/// The tag's bit in its word.
+pub(crate) fn mask_of(layout: Layout, tag: u32) -> u64
+    requires { tag < layout.depth }
+    ensures { result ≡ 2 ^ place_of layout tag }
+{
+    1 << layout.place_of(tag)
 }
 
 /// Whether the tag's bit in the mask of this word is 1.

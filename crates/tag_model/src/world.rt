@@ -1,10 +1,9 @@
 //! A world: where each tag is, and what each caller has won and given back.
-ghost use Rattle.std.specs.Prelude.{◌≡◌, ◌⊎◌, ℕ, ◌<◌, ◌≤◌, ◌↔◌, IfOk, IfErr, OnOk, OnErr, IsOk, MatchBool, length, take, slice_index, slice_set, ◌+◌, ◌^◌, sum, count_by};
-ghost use Rattle.tag_model.specs.Event.{IsInLayout};
+ghost use Rattle.std.specs.Prelude.{◌≡◌, ◌⊎◌, ℕ, ◌<◌, ◌≤◌, ◌↔◌, IfOk, IfErr, OnOk, OnErr, IsOk, length, take, slice_index, slice_set, ◌+◌, ◌^◌, sum};
 ghost use Rattle.tag_model.specs.World.{opened};
-ghost use Rattle.tag_model.specs.Totals.{is_held, is_posted};
-ghost use Rattle.tag_model.specs.Kept.{callers_of, world_of, CanHappen, HasFault, Happens, CanRun, Stops, Ran, HasTotals, AreAccepted, MissesOne, MovesTags};
+ghost use Rattle.tag_model.specs.Kept.{callers_of, world_of, CanHappen, HasFault, Happens, CanRun, Stops, Ran, HasTotals, IsInRoom};
 
+use crate::entries::Entries;
 use crate::event::{Event, EventFault};
 use crate::place::Place;
 use crate::totals::Totals;
@@ -30,9 +29,7 @@ pub enum ModelFault {
 /// Where each tag is, and how many tags each caller has won and given back.
 #[derive(Drop)]
 pub struct World {
-    layout: Layout,
-    /// Where each tag is, in the order of their numbers.
-    places: Vec<Place>,
+    entries: Entries,
     /// Tags that each caller has won, at most `MOST_WON`.
     won: Vec<u64>,
     /// Tags that each caller has put or given back, its own or others' that it took.
@@ -44,9 +41,9 @@ impl Model for World {
 
     ghost Value = { KeptWorld };
 
-    ghost view = { λ w. record { layout = w.layout; places = w.places.items; won = w.won.items; back = w.back.items } };
+    ghost view = { λ w. record { layout = w.entries.layout; places = w.entries.places; won = w.won.items; back = w.back.items } };
 
-    ghost invariant = { λ w. IsSound (record { layout = w.layout; places = w.places.items; won = w.won.items; back = w.back.items }) };
+    ghost invariant = { λ w. IsSound (record { layout = w.entries.layout; places = w.entries.places; won = w.won.items; back = w.back.items }) };
 }
 
 impl World {
@@ -73,8 +70,7 @@ impl World {
         ensures all_free { IfOk result (λ w. world_of w ≡ opened) }
     {
         Ok(World {
-            layout,
-            places: vec![in alloc; Place::Free; layout.depth() as usize]?,
+            entries: Entries::open(alloc, layout)?,
             won: vec![in alloc; 0; callers as usize]?,
             back: vec![in alloc; 0; callers as usize]?,
         })
@@ -85,7 +81,7 @@ impl World {
         requires { tag < self.now.layout.depth }
         ensures { result ≡ (world_of self.now).place tag }
     {
-        self.places[tag as usize]
+        self.entries.place(tag)
     }
 
     /// The sums over all callers and tags.
@@ -96,8 +92,8 @@ impl World {
         Totals {
             got: sum_of(&self.won),
             back: sum_of(&self.back),
-            held: held_of(&self.places),
-            posted: posted_of(&self.places),
+            held: self.entries.held(),
+            posted: self.entries.posted(),
         }
     }
 
@@ -111,7 +107,11 @@ impl World {
         ensures err { OnErr result (self.new ≡ self.old) }
     {
         self.test(event)?;
-        self.change(event);
+        if !self.entries.bring(event) {
+            return Err(event.missing());
+        }
+        add_at(&mut self.won, event.caller(), event.won());
+        add_at(&mut self.back, event.caller(), event.back());
         Ok(())
     }
 
@@ -132,12 +132,12 @@ impl World {
         Ok(self.totals())
     }
 
-    // The first cause for which the event can't happen, if there is one.
+    // The first cause for which the event can't happen, if it isn't where its tags are.
     fn test(&self, event: Event) -> Result<(), EventFault>
-        ensures ok { OnOk result (CanHappen self.now event) }
+        ensures ok { OnOk result (IsInRoom self.now event) }
         ensures fault { IfErr result (HasFault self.now event) }
     {
-        if !event.is_in(self.layout) {
+        if !event.is_in(self.entries.layout()) {
             return Err(EventFault::NoSuchTag);
         }
         let caller = event.caller() as usize;
@@ -147,50 +147,7 @@ impl World {
         if self.won[caller] + u64::from(event.won()) > MOST_WON {
             return Err(EventFault::Spent);
         }
-        if are_accepted(&self.places, self.layout, event) {
-            Ok(())
-        } else {
-            Err(event.missing())
-        }
-    }
-
-    fn change(&mut self, event: Event)
-        requires { CanHappen self.old event }
-        ensures { Happens self.old event self.new }
-    {
-        move_tags(&mut self.places, self.layout, event);
-        add_at(&mut self.won, event.caller(), event.won());
-        add_at(&mut self.back, event.caller(), event.back());
-    }
-}
-
-// Whether each tag that the event names is where the event needs it.
-fn are_accepted(places: &[Place], layout: Layout, event: Event) -> bool
-    requires tags { length places.now ≡ layout.depth }
-    requires within { IsInLayout layout event }
-    ensures { MatchBool result (AreAccepted layout event places.now) (MissesOne layout event places.now) }
-{
-    let span = event.span(layout);
-    for tag in span.start..span.end {
-        if event.names(layout, tag) && !event.accepts(places[tag as usize]) {
-            return false;
-        }
-    }
-    true
-}
-
-// Brings each tag that the event names to its new place.
-fn move_tags(places: &mut [Place], layout: Layout, event: Event)
-    requires tags { length places.old ≡ layout.depth }
-    requires within { IsInLayout layout event }
-    ensures { MovesTags layout event places.old places.new }
-{
-    let span = event.span(layout);
-    for tag in span.start..span.end {
-        if event.names(layout, tag) {
-            let at = tag as usize;
-            places[at] = event.brings(places[at]);
-        }
+        Ok(())
     }
 }
 
@@ -210,16 +167,4 @@ fn sum_of(counts: &[u64]) -> u64
     ensures { result ≡ sum counts.now }
 {
     counts.iter().sum()
-}
-
-fn held_of(places: &[Place]) -> u64
-    ensures { result ≡ count_by is_held places.now }
-{
-    places.iter().filter(|place| place.is_held()).count() as u64
-}
-
-fn posted_of(places: &[Place]) -> u64
-    ensures { result ≡ count_by is_posted places.now }
-{
-    places.iter().filter(|place| place.is_posted()).count() as u64
 }

@@ -1,34 +1,31 @@
 -- Sums of lists are sums over tags and callers, and a sound world balances.
-use Rattle.std.proofs.Common.{◌≡◌, ℕ, ◌+◌, ◌<◌, ◌≤◌, List, get_or, length, sum, count_by, arith, refl, sym, ap, ◌∙◌, subst}
+use Rattle.std.proofs.Common.{get_or, sum, arith, ap, ◌∙◌, subst}
 use Rattle.tag_layout.specs.Sums.{sum_below}
-use Rattle.tag_model.specs.declared.place.Place.{Place}
-use Rattle.tag_model.specs.declared.place.Place.TheVariants.{Free}
-use Rattle.tag_model.specs.Totals.{is_held, is_posted, count_below, AreTotals}
+use Rattle.tag_model.specs.Totals.{AreTotals}
 use Rattle.tag_model.specs.Kept.{KeptWorld, callers_of, world_of, IsSound}
-use Rattle.tag_model.proofs.KeptFacts.{sum-below, count_by-below, got-fits, back-fits}
+use Rattle.tag_model.proofs.KeptFacts.{sum-below, got-fits, back-fits}
 use Rattle.tag_model.proofs.world.World.totals.Goals as goal
 
 pub sum_of-requires : goal.sum_of-requires
 sum_of-requires c =
-    let old : KeptWorld = record { layout = c.self.inside.layout; places = c.self.inside.places.items; won = c.self.inside.won.items; back = c.self.inside.back.items } in
+    let old : KeptWorld = record { layout = c.self.inside.entries.layout; places = c.self.inside.entries.places; won = c.self.inside.won.items; back = c.self.inside.back.items } in
     let fits = got-fits old c.self.invariant in let is = ap sum c.deref.ensures.value ∙ sum-below c.self.inside.won.items in omega arith
 
 pub sum_of-requires-2 : goal.sum_of-requires-2
 sum_of-requires-2 c =
-    let old : KeptWorld = record { layout = c.self.inside.layout; places = c.self.inside.places.items; won = c.self.inside.won.items; back = c.self.inside.back.items } in
+    let old : KeptWorld = record { layout = c.self.inside.entries.layout; places = c.self.inside.entries.places; won = c.self.inside.won.items; back = c.self.inside.back.items } in
     let fits = back-fits old c.self.invariant in let is = ap sum c.deref-2.ensures.value ∙ sum-below c.self.inside.back.items in
     let both = ap (sum_below (λ k. get_or c.self.inside.back.items k 0)) c.self.invariant.both_counts in omega arith
 
 pub returns-clause-sums : goal.returns-clause-sums
 returns-clause-sums c =
-    let old : KeptWorld = record { layout = c.self.inside.layout; places = c.self.inside.places.items; won = c.self.inside.won.items; back = c.self.inside.back.items } in
-    let held = λ (k : ℕ). is_held (get_or old.places k Free) in let posted = λ (k : ℕ). is_posted (get_or old.places k Free) in
-    subst (λ (kept : KeptWorld). AreTotals kept.layout (callers_of kept) (world_of kept) record { got = c.sum_of.result; back = c.sum_of-2.result; held = c.held_of.result; posted = c.posted_of.result }) c.self.view_is
+    let old : KeptWorld = record { layout = c.self.inside.entries.layout; places = c.self.inside.entries.places; won = c.self.inside.won.items; back = c.self.inside.back.items } in
+    subst (λ (kept : KeptWorld). AreTotals kept.layout (callers_of kept) (world_of kept) record { got = c.sum_of.result; back = c.sum_of-2.result; held = c.held.result; posted = c.posted.result }) c.self.view_is
     (record {
       got = c.sum_of.ensures ∙ ap sum c.deref.ensures.value ∙ sum-below old.won;
       back = c.sum_of-2.ensures ∙ ap sum c.deref-2.ensures.value ∙ sum-below old.back ∙ ap (sum_below (λ k. get_or old.back k 0)) c.self.invariant.both_counts;
-      held = c.held_of.ensures ∙ ap (count_by is_held) c.deref-3.ensures.value ∙ count_by-below is_held old.places Free ∙ ap (count_below held) c.self.invariant.tags;
-      posted = c.posted_of.ensures ∙ ap (count_by is_posted) c.deref-4.ensures.value ∙ count_by-below is_posted old.places Free ∙ ap (count_below posted) c.self.invariant.tags;
+      held = c.held.ensures;
+      posted = c.posted.ensures;
     })
 
 pub returns-clause-balance : goal.returns-clause-balance

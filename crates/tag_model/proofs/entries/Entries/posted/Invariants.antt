@@ -1,0 +1,8 @@
+-- So many tags are posted among those that were looked at.
+use Rattle.std.proofs.Common.{◌≡◌, ◌≤◌, get_or}
+use Rattle.tag_model.specs.declared.place.Place.TheVariants.{Free}
+use Rattle.tag_model.specs.Totals.{is_posted, count_below}
+use Rattle.tag_model.proofs.entries.Entries.posted.Given as goal
+
+abbrev pub invariant-loop-tag : goal.invariant-loop-tag
+invariant-loop-tag l = (l.posted ≡ count_below (λ tag. is_posted (get_or l.self.places tag Free)) l.tag) × (l.posted ≤ l.tag)
