@@ -17,5 +17,6 @@ pub mod Valued
 pub mod Fronts
 pub mod Ends
 pub mod Countings
+pub mod Meetings
 pub mod Totalling
 pub mod Lasts
