@@ -18,5 +18,6 @@ pub mod Fronts
 pub mod Ends
 pub mod Countings
 pub mod Meetings
+pub mod Crossing
 pub mod Totalling
 pub mod Lasts
