@@ -12,5 +12,7 @@ pub caller_send : (R : RattleType) → IsSend R → IsSend (caller.the_row R)
 caller_send R value = search (sendable, crosses, seat_send) depth 60
 
 pub map_sync : (R : RattleType) → IsSend R → IsSync R → IsSync (map.the_row R)
-map_sync R sent shared = recorded_sync _ _ _ (map.the_type R).to_one (struct_sync (fields_of (map.the_type R))
-    (search (table_sync, sendable, crosses) depth 60, (search (sendable, crosses) depth 40, (search (sendable, crosses) depth 40, tt))))
+map_sync R sent shared = recorded_sync _ _ _ (map.the_type R).to_one (struct_sync (fields_of (map.the_type R)) (
+  search (table_sync, sendable, crosses) depth 60,
+  (search (sendable, crosses) depth 40, (search (sendable, crosses) depth 40, tt)),
+))

@@ -35,7 +35,8 @@ module _ {R : Type 0} (k : Shape) (s : State R (View R)) (sh : Shown k s) (id : 
 
   -- one number has one position
   pub two_numbers : first.number ≢ second.number
-  two_numbers same = let one : ◌≡◌ {A = ℕ} 0 1 = sym first_stands.2 ∙ ap sh.position same ∙ second_stands.2 in absurd (omega arith)
+  two_numbers same =
+      let one : ◌≡◌ {A = ℕ} 0 1 = sym first_stands.2 ∙ ap sh.position same ∙ second_stands.2 in absurd (omega arith)
 
   pub no_common_tag : AreApart k first second
   no_common_tag tag low in_first in_second = one_holder ((world_of k sh.history).place tag) first.number second.number two_numbers
@@ -48,7 +49,8 @@ module _ {R : Type 0} (k : Shape) (s : State R (View R)) (sh : Shown k s) (id : 
   pub shape_of_first : k ≡ first.shape
   shape_of_first = sym first_stands.0.shape
 
-pub meet_allowed : (R : Type 0) (k : Shape) (slots id : ℕ) (me : Me R (View R)) → Allows (Shown k) slots id me 0 (λ n. n) (met (step slots 0 0 0 none) me)
+pub meet_allowed : (R : Type 0) (k : Shape) (slots id : ℕ) (me : Me R (View R))
+    → Allows (Shown k) slots id me 0 (λ n. n) (met (step slots 0 0 0 none) me)
 meet_allowed R k slots id me s sh deep at _ = (
   me.0,
   keeps,

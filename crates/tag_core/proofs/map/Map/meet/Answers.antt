@@ -20,10 +20,14 @@ module _ {R : Type 0} (m : Map R) where
 
   splits_off : (id : ℕ) (v : View R) (r : Record R) (rs : List (Record R)) → v ≡ viewing (r ∷ rs)
       → Splits (Shown m.table.shared.key) id v (other_views v) (first_view v)
-  splits_off id v r rs is = subst (λ (z : Shape). Splits (Shown z) id v (other_views v) (first_view v)) (sym m.told) (hands R m.shape id v r rs is)
+  splits_off id v r rs is =
+      subst (λ (z : Shape). Splits (Shown z) id v (other_views v) (first_view v)) (sym m.told) (hands R m.shape id v r rs is)
 
-  joins_in : (id : ℕ) (v : View R) (other : ℕ) (w : View R) → Joins (Shown m.table.shared.key) id v other w (both_views v w) (viewing [])
-  joins_in id v other w = subst (λ (z : Shape). Joins (Shown z) id v other w (both_views v w) (viewing [])) (sym m.told) (joins R m.shape id v other w)
+  joins_in : (id : ℕ) (v : View R) (other : ℕ) (w : View R)
+      → Joins (Shown m.table.shared.key) id v other w (both_views v w) (viewing [])
+  joins_in id v other w =
+      subst (λ (z : Shape). Joins (Shown z) id v other w (both_views v w) (viewing [])) (sym m.told)
+      (joins R m.shape id v other w)
 
 -- the records of two callers come into one view
 two_records : {R : Type 0} (first second : Caller R) (one other both : View R) → one ≡ first_view first.seat.me.0
@@ -63,41 +67,49 @@ load-requires g c = let m = c.args.self.now in let both = c.join_seat.new.seat i
 )
 
 pub split_seat-one-requires : goal.split_seat-one-requires
-split_seat-one-requires g c = let m = c.args.self.now in let first = c.args.first.now in let second = c.args.second.now in let both = c.load.new.seat in
+split_seat-one-requires g c =
+    let m = c.args.self.now in let first = c.args.first.now in let second = c.args.second.now in let both = c.load.new.seat in
     let view = two_records first second c.split_seat-both.result.me.0 c.split_seat-other.result.me.0 both.me.0
-    (ap (λ z. z.0) c.split_seat-both.ensures.4) (ap (λ z. z.0) c.split_seat-other.ensures.4) (ap (λ z. z.0) (c.load.ensures.2.0 ∙ c.join_seat.ensures.2)) in (
+    (ap (λ z. z.0) c.split_seat-both.ensures.4) (ap (λ z. z.0) c.split_seat-other.ensures.4)
+    (ap (λ z. z.0) (c.load.ensures.2.0 ∙ c.join_seat.ensures.2)) in (
       c.load.ensures.0 ∙ c.join_seat.ensures.0 ∙ c.split_seat-both.ensures.3 ∙ c.requires.callers.0.0,
       some_words m,
       splits_off m both.id both.me.0 (record_of first) (record_of second ∷ []) view,
     )
 
 pub join_seat-requires-2 : goal.join_seat-requires-2
-join_seat-requires-2 g c = let m = c.args.self.now in let seat = c.split_seat-both.new.seat in let one = c.split_seat-one.result in (
-  c.split_seat-both.ensures.0 ∙ c.requires.callers.0.0,
-  c.split_seat-one.ensures.3 ∙ c.load.ensures.0 ∙ c.join_seat.ensures.0 ∙ c.split_seat-both.ensures.3 ∙ c.requires.callers.0.0,
-  ap (λ z. z.1) c.split_seat-one.ensures.4,
-  some_words m,
-  joins_in m seat.id seat.me.0 one.id one.me.0,
-)
+join_seat-requires-2 g c =
+    let m = c.args.self.now in let seat = c.split_seat-both.new.seat in let one = c.split_seat-one.result in (
+      c.split_seat-both.ensures.0 ∙ c.requires.callers.0.0,
+      c.split_seat-one.ensures.3 ∙ c.load.ensures.0 ∙ c.join_seat.ensures.0 ∙ c.split_seat-both.ensures.3 ∙ c.requires.callers.0.0,
+      ap (λ z. z.1) c.split_seat-one.ensures.4,
+      some_words m,
+      joins_in m seat.id seat.me.0 one.id one.me.0,
+    )
 
 pub join_seat-requires-3 : goal.join_seat-requires-3
-join_seat-requires-3 g c = let m = c.args.self.now in let seat = c.split_seat-other.new.seat in let two = c.split_seat-one.new.seat in (
-  c.split_seat-other.ensures.0 ∙ c.requires.callers.1.0,
-  c.split_seat-one.ensures.0 ∙ c.load.ensures.0 ∙ c.join_seat.ensures.0 ∙ c.split_seat-both.ensures.3 ∙ c.requires.callers.0.0,
-  ap (λ z. z.1) (c.split_seat-one.ensures.2) ∙ ap (λ z. z.1) (c.load.ensures.2.0 ∙ c.join_seat.ensures.2) ∙ ap (λ z. z.1) c.split_seat-both.ensures.4,
-  some_words m,
-  joins_in m seat.id seat.me.0 two.id two.me.0,
-)
+join_seat-requires-3 g c =
+    let m = c.args.self.now in let seat = c.split_seat-other.new.seat in let two = c.split_seat-one.new.seat in (
+      c.split_seat-other.ensures.0 ∙ c.requires.callers.1.0,
+      c.split_seat-one.ensures.0 ∙ c.load.ensures.0 ∙ c.join_seat.ensures.0 ∙ c.split_seat-both.ensures.3 ∙ c.requires.callers.0.0,
+      ap (λ z. z.1) (c.split_seat-one.ensures.2) ∙ ap (λ z. z.1) (c.load.ensures.2.0 ∙ c.join_seat.ensures.2)
+          ∙ ap (λ z. z.1) c.split_seat-both.ensures.4,
+      some_words m,
+      joins_in m seat.id seat.me.0 two.id two.me.0,
+    )
 
 pub returns-clause-apart : goal.returns-clause-apart
 returns-clause-apart g c tag has_first has_second = let first = c.args.first.now in let second = c.args.second.now in
     let view = two_records first second c.split_seat-both.result.me.0 c.split_seat-other.result.me.0 c.join_seat.new.seat.me.0
-    (ap (λ z. z.0) c.split_seat-both.ensures.4) (ap (λ z. z.0) c.split_seat-other.ensures.4) (ap (λ z. z.0) c.join_seat.ensures.2) in
+    (ap (λ z. z.0) c.split_seat-both.ensures.4) (ap (λ z. z.0) c.split_seat-other.ensures.4)
+    (ap (λ z. z.0) c.join_seat.ensures.2) in
     (c.load.ensures.2.1 (record_of first) (record_of second) view).1 tag has_first.0 has_first.1
-    (subst (λ (z : Shape). tag_bit z.layout second.held.items tag ≡ 1) (c.requires.callers.1.1 ∙ sym c.requires.callers.0.1) has_second.1)
+    (subst (λ (z : Shape). tag_bit z.layout second.held.items tag ≡ 1)
+    (c.requires.callers.1.1 ∙ sym c.requires.callers.0.1) has_second.1)
 
 pub returns-clause-numbers : goal.returns-clause-numbers
 returns-clause-numbers g c = let first = c.args.first.now in let second = c.args.second.now in
     let view = two_records first second c.split_seat-both.result.me.0 c.split_seat-other.result.me.0 c.join_seat.new.seat.me.0
-    (ap (λ z. z.0) c.split_seat-both.ensures.4) (ap (λ z. z.0) c.split_seat-other.ensures.4) (ap (λ z. z.0) c.join_seat.ensures.2) in
+    (ap (λ z. z.0) c.split_seat-both.ensures.4) (ap (λ z. z.0) c.split_seat-other.ensures.4)
+    (ap (λ z. z.0) c.join_seat.ensures.2) in
     (c.load.ensures.2.1 (record_of first) (record_of second) view).0

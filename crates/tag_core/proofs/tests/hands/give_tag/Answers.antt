@@ -26,7 +26,8 @@ only_tag_in l tag other inside =
     let zero_there = bit_at-pow_other (place_of l tag) (place_of l other) ne in absurd (omega arith)))
     (λ (ne : word_of l other ≢ word_of l tag).
     let zero_there : among l.shift (word_of l tag) mask other ≡ 0 =
-    ap (λ (b : Bool). cond b (bit_at mask (place_of l other)) 0) (ne_eqb (word_of l other) (word_of l tag) ne) in absurd (omega arith))
+    ap (λ (b : Bool). cond b (bit_at mask (place_of l other)) 0) (ne_eqb (word_of l other) (word_of l tag) ne) in
+    absurd (omega arith))
 
 -- the mask of the tag's bit
 mask_is : (l other : Layout) (word place tag : ℕ) → other ≡ l → word ≡ word_of other tag → place ≡ place_of other tag → place < 64
@@ -49,4 +50,5 @@ pub give-requires-clause-held : goal.give-requires-clause-held
 give-requires-clause-held c other low inside = let l : Layout = c.args.map.now.shape.layout in let tag : ℕ = c.args.tag in
     let is = mask_is l c.layout-layout.result c.word_of.result c.place_of.result tag c.layout-layout.ensures c.word_of.ensures.value c.place_of.ensures.value c.place_of.ensures.bound in
     let held = c.if-not-has.ensures refl in
-    subst (Holds c.args.caller.now) (only_tag_in l tag other (subst (λ (z : ℕ × ℕ). IsTrue (is_in_mask l z.0 z.1 other)) (λ j. (is.0 j, is.1 j)) inside)) held
+    subst (Holds c.args.caller.now)
+    (only_tag_in l tag other (subst (λ (z : ℕ × ℕ). IsTrue (is_in_mask l z.0 z.1 other)) (λ j. (is.0 j, is.1 j)) inside)) held
