@@ -31,7 +31,8 @@ use Rattle.tag_core.specs.Plays.{Stepped, FindsHeld, looked, looked_aside, claim
 use Rattle.tag_core.specs.Plays as plays
 use Rattle.tag_core.proofs.Picks.{among, placed}
 use Rattle.tag_core.proofs.Turns.{held_from, posted_from, posted_small}
-use Rattle.tag_core.proofs.Owing.{claim_owed, give_owed, put_owed, post_owed, take_owed, swap_owed, spill_owed, look_owed, look_aside_owed, miss_owed, held_shown}
+use Rattle.tag_core.proofs.Owing.{claim_owed, give_owed, look_owed, look_aside_owed, miss_owed, held_shown}
+use Rattle.tag_core.proofs.OwingTags.{put_owed, post_owed, take_owed, swap_owed, spill_owed}
 use Rattle.tag_core.proofs.Stand.{word_at_one, aside_at_one, state_at_one}
 use Rattle.tag_core.proofs.Advance.{Owed}
 use Rattle.tag_core.proofs.Moving.{moved, kept, told}

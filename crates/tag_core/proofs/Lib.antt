@@ -6,7 +6,9 @@ pub mod Counts
 pub mod Seats
 pub mod Within
 pub mod Advance
+pub mod TagBits
 pub mod Owing
+pub mod OwingTags
 pub mod Acts
 pub mod Moving
 pub mod Allowed
