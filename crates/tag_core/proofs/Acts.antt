@@ -67,30 +67,47 @@ module _ (S : Type 0) where
     inside : In f a n t → (v : S) × (value_of cs t ≡ some v) × (get_elem? hs' t ≡ some (some v))
     outside : ¬ In f a n t → get_elem? hs' t ≡ get_elem? hs t
 
-  puts : (f : ℕ → ℕ) (n a : ℕ) (hs : Homes) (cs : Held) → a + n ≤ length hs → map (λ x. x.0) cs ≡ tags_from f a n → (t : ℕ) → Put hs (put_all hs cs) cs f a n t
+  puts : (f : ℕ → ℕ) (n a : ℕ) (hs : Homes) (cs : Held) → a + n ≤ length hs → map (λ x. x.0) cs ≡ tags_from f a n
+      → (t : ℕ) → Put hs (put_all hs cs) cs f a n t
   unfolding put_all
   puts f zero a hs [] near e t = record { inside = λ i. absurd (omega (arith, i.0, i.1)); outside = λ _. refl }
   puts f zero a hs (x ∷ cs) near e t = absurd (some-ne-none x.0 (ap (λ (l : List ℕ). get_elem? l 0) e))
-  puts f (suc n) a hs cs near e t = dite (ℕ_discrete (f a) 1) (λ one. here (puts f n (suc a)) cs one (e ∙ ap (λ (b : Bool). cond b (a ∷ tags_from f (suc a) n) (tags_from f (suc a) n)) (eq-eqb (f a) 1 one)))
-      (λ no. let ih = puts f n (suc a) hs cs (omega arith) (e ∙ ap (λ (b : Bool). cond b (a ∷ tags_from f (suc a) n) (tags_from f (suc a) n)) (ne_eqb (f a) 1 no)) t in record {
-        inside = λ i. ih.inside (dite (ℕ_discrete t a) (λ (same : t ≡ a). absurd (no (ap f (sym same) ∙ i.2))) (λ (ne : t ≢ a). let g = i.0 in let g2 = i.1 in (omega arith, omega arith, i.2)));
+  puts f (suc n) a hs cs near e t =
+      dite (ℕ_discrete (f a) 1)
+      (λ one. here (puts f n (suc a)) cs one
+      (e ∙ ap (λ (b : Bool). cond b (a ∷ tags_from f (suc a) n) (tags_from f (suc a) n)) (eq-eqb (f a) 1 one)))
+      (λ no. let ih = puts f n (suc a) hs cs (omega arith)
+      (e ∙ ap (λ (b : Bool). cond b (a ∷ tags_from f (suc a) n) (tags_from f (suc a) n)) (ne_eqb (f a) 1 no)) t in record {
+        inside = λ i. ih.inside
+            (dite (ℕ_discrete t a) (λ (same : t ≡ a). absurd (no (ap f (sym same) ∙ i.2)))
+            (λ (ne : t ≢ a). let g = i.0 in let g2 = i.1 in (omega arith, omega arith, i.2)));
         outside = λ o. ih.outside (λ i. let g = i.0 in let g2 = i.1 in o (omega arith, omega arith, i.2));
       })
     where
-      here : ((hs : Homes) (cs : Held) → suc a + n ≤ length hs → map (λ x. x.0) cs ≡ tags_from f (suc a) n → (t : ℕ) → Put hs (put_all hs cs) cs f (suc a) n t) → (cs : Held) → f a ≡ 1 → map (λ x. x.0) cs ≡ a ∷ tags_from f (suc a) n → Put hs (put_all hs cs) cs f a (suc n) t
+      here : ((hs : Homes) (cs : Held) → suc a + n ≤ length hs → map (λ x. x.0) cs ≡ tags_from f (suc a) n → (t : ℕ)
+          → Put hs (put_all hs cs) cs f (suc a) n t) → (cs : Held) → f a ≡ 1
+          → map (λ x. x.0) cs ≡ a ∷ tags_from f (suc a) n → Put hs (put_all hs cs) cs f a (suc n) t
       here more [] one e = absurd (some-ne-none a (ap (λ (l : List ℕ). get_elem? l 0) (sym e)))
       here more (x ∷ cs) one e =
           let hd : x.0 ≡ a = some-injective x.0 a (ap (λ (l : List ℕ). get_elem? l 0) e) in
           let hs1 : Homes = set hs x.0 (some x.1) in
-          let ih = more hs1 cs (subst (λ (z : ℕ). suc a + n ≤ z) (sym (length-set hs x.0 (some x.1))) (omega arith)) (ap rest_of e) t in
+          let ih = more hs1 cs (subst (λ (z : ℕ). suc a + n ≤ z) (sym (length-set hs x.0 (some x.1))) (omega arith))
+          (ap rest_of e) t in
           dite (ℕ_discrete t a)
-          (λ (same : t ≡ a). let back : get_elem? (put_all hs1 cs) t ≡ some (some x.1) = ih.outside (λ i. let g = i.0 in absurd (omega arith)) ∙ ap (get_elem? hs1) (same ∙ sym hd) ∙ set_here hs x.0 (some x.1) (omega arith) in record {
+          (λ (same : t ≡ a). let back : get_elem? (put_all hs1 cs) t ≡ some (some x.1) = ih.outside
+          (λ i. let g = i.0 in absurd (omega arith)) ∙ ap (get_elem? hs1) (same ∙ sym hd)
+          ∙ set_here hs x.0 (some x.1) (omega arith) in record {
             inside = λ i. (x.1, ap (λ (b : Bool). cond b (some x.1) (value_of cs t)) (eq-eqb x.0 t (hd ∙ sym same)), back);
             outside = λ o. absurd (o (omega arith, omega arith, ap f same ∙ one));
           })
-          (λ (ne : t ≢ a). let off : get_elem? hs1 t ≡ get_elem? hs t = set_else hs x.0 t (some x.1) (λ (z : t ≡ x.0). ne (z ∙ hd)) in record {
-            inside = λ i. let g = i.0 in let g2 = i.1 in let w = ih.inside (omega arith, omega arith, i.2) in
-                (w.0, ap (λ (b : Bool). cond b (some x.1) (value_of cs t)) (ne_eqb x.0 t (λ (z : x.0 ≡ t). ne (sym z ∙ hd))) ∙ w.1, w.2);
+          (λ (ne : t ≢ a). let off : get_elem? hs1 t ≡ get_elem? hs t = set_else hs x.0 t (some x.1)
+          (λ (z : t ≡ x.0). ne (z ∙ hd)) in record {
+            inside = λ i. let g = i.0 in let g2 = i.1 in let w = ih.inside (omega arith, omega arith, i.2) in (
+              w.0,
+              ap (λ (b : Bool). cond b (some x.1) (value_of cs t))
+                  (ne_eqb x.0 t (λ (z : x.0 ≡ t). ne (sym z ∙ hd))) ∙ w.1,
+              w.2,
+            );
             outside = λ o. ih.outside (λ i. let g = i.0 in let g2 = i.1 in o (omega arith, omega arith, i.2)) ∙ off;
           })
         where
@@ -104,36 +121,66 @@ module _ (S : Type 0) where
     list : Held
     tags : map (λ x. x.0) list ≡ tags_from f a n
     valid : Valid hs [] (take_all list)
-    here : (t : ℕ) → In f a n t → (v : S) × (get_elem? hs t ≡ some (some v)) × (value_of list t ≡ some v) × (get_elem? (homes_after hs [] (take_all list)) t ≡ some none)
+    here : (t : ℕ) → In f a n t
+        → (v : S) × (get_elem? hs t ≡ some (some v)) × (value_of list t ≡ some v) ×
+        (get_elem? (homes_after hs [] (take_all list)) t ≡ some none)
     away : (t : ℕ) → ¬ In f a n t → get_elem? (homes_after hs [] (take_all list)) t ≡ get_elem? hs t
     long : length (homes_after hs [] (take_all list)) ≡ length hs
 
-  takings : (f : ℕ → ℕ) (n a : ℕ) (hs : Homes) → a + n ≤ length hs → ((t : ℕ) → In f a n t → (y : S) × (get_elem? hs t ≡ some (some y))) → Taken f a n hs
-  takings f zero a hs near home = record { list = []; tags = refl; valid = tt; here = λ t i. absurd (omega (arith, i.0, i.1)); away = λ t o. refl; long = refl }
+  takings : (f : ℕ → ℕ) (n a : ℕ) (hs : Homes) → a + n ≤ length hs
+      → ((t : ℕ) → In f a n t → (y : S) × (get_elem? hs t ≡ some (some y))) → Taken f a n hs
+  takings f zero a hs near home =
+      record {
+        list = [];
+        tags = refl;
+        valid = tt;
+        here = λ t i. absurd
+            (omega (arith, i.0, i.1));
+        away = λ t o. refl;
+        long = refl;
+      }
   takings f (suc n) a hs near home = dite (ℕ_discrete (f a) 1) (one_more (takings f n (suc a) hs))
-      (λ no. let ih = takings f n (suc a) hs (omega arith) (λ t i. let g = i.0 in let g2 = i.1 in home t (omega arith, omega arith, i.2)) in record {
+      (λ no. let ih = takings f n (suc a) hs (omega arith)
+      (λ t i. let g = i.0 in let g2 = i.1 in home t (omega arith, omega arith, i.2)) in record {
         list = ih.list;
         tags = ih.tags ∙ ap (λ (b : Bool). cond b (a ∷ tags_from f (suc a) n) (tags_from f (suc a) n)) (sym (ne_eqb (f a) 1 no));
         valid = ih.valid;
-        here = λ t i. ih.here t (dite (ℕ_discrete t a) (λ (same : t ≡ a). absurd (no (ap f (sym same) ∙ i.2))) (λ (ne : t ≢ a). let g = i.0 in let g2 = i.1 in (omega arith, omega arith, i.2)));
+        here = λ t i. ih.here t
+            (dite (ℕ_discrete t a) (λ (same : t ≡ a). absurd (no (ap f (sym same) ∙ i.2)))
+            (λ (ne : t ≢ a). let g = i.0 in let g2 = i.1 in (omega arith, omega arith, i.2)));
         away = λ t o. ih.away t (λ i. let g = i.0 in let g2 = i.1 in o (omega arith, omega arith, i.2));
         long = ih.long;
       })
     where
-      one_more : (suc a + n ≤ length hs → ((t : ℕ) → In f (suc a) n t → (y : S) × (get_elem? hs t ≡ some (some y))) → Taken f (suc a) n hs) → f a ≡ 1 → Taken f a (suc n) hs
+      one_more : (suc a + n ≤ length hs → ((t : ℕ) → In f (suc a) n t → (y : S) × (get_elem? hs t ≡ some (some y)))
+          → Taken f (suc a) n hs) → f a ≡ 1 → Taken f a (suc n) hs
       one_more more one =
           let ih = more (omega arith) (λ t i. let g = i.0 in let g2 = i.1 in home t (omega arith, omega arith, i.2)) in
           let mine = home a (omega arith, omega arith, one) in
           let hs1 : Homes = homes_after hs [] (take_all ih.list) in
           let wide : length hs1 ≡ length hs = ih.long in
-          let still : get_elem? hs1 a ≡ some (some mine.0) = ih.away a (λ i. let g = i.0 in absurd (omega arith)) ∙ mine.1 in record {
+          let still : get_elem? hs1 a ≡ some (some mine.0) = ih.away a (λ i. let g = i.0 in absurd (omega arith))
+          ∙ mine.1 in record {
             list = (a, mine.0) ∷ ih.list;
-            tags = ap (λ (l : List ℕ). a ∷ l) ih.tags ∙ ap (λ (b : Bool). cond b (a ∷ tags_from f (suc a) n) (tags_from f (suc a) n)) (sym (eq-eqb (f a) 1 one));
+            tags = ap (λ (l : List ℕ). a ∷ l) ih.tags
+                ∙ ap (λ (b : Bool). cond b (a ∷ tags_from f (suc a) n) (tags_from f (suc a) n)) (sym (eq-eqb (f a) 1 one));
             valid = (ih.valid, still);
             here = λ t i. dite (ℕ_discrete t a)
-                (λ (same : t ≡ a). (mine.0, ap (get_elem? hs) same ∙ mine.1, ap (λ (b : Bool). cond b (some mine.0) (value_of ih.list t)) (eq-eqb a t (sym same)), ap (get_elem? (set hs1 a none)) same ∙ set_here hs1 a none (omega arith)))
-                (λ (ne : t ≢ a). let g = i.0 in let g2 = i.1 in let w = ih.here t (omega arith, omega arith, i.2) in
-                (w.0, w.1, ap (λ (b : Bool). cond b (some mine.0) (value_of ih.list t)) (ne_eqb a t (λ (z : a ≡ t). ne (sym z))) ∙ w.2, set_else hs1 a t none ne ∙ w.3));
+                (λ (same : t ≡ a). (
+                  mine.0,
+                  ap (get_elem? hs) same
+                      ∙ mine.1,
+                  ap (λ (b : Bool). cond b (some mine.0) (value_of ih.list t)) (eq-eqb a t (sym same)),
+                  ap
+                      (get_elem? (set hs1 a none)) same ∙ set_here hs1 a none (omega arith),
+                ))
+                (λ (ne : t ≢ a). let g = i.0 in let g2 = i.1 in let w = ih.here t (omega arith, omega arith, i.2) in (
+                  w.0,
+                  w.1,
+                  ap (λ (b : Bool). cond b (some mine.0) (value_of ih.list t))
+                      (ne_eqb a t (λ (z : a ≡ t). ne (sym z))) ∙ w.2,
+                  set_else hs1 a t none ne ∙ w.3,
+                ));
             away = λ t o. let ne : t ≢ a = (λ (z : t ≡ a). o (omega arith, omega arith, ap f z ∙ one)) in
                 set_else hs1 a t none ne ∙ ih.away t (λ i. let g = i.0 in let g2 = i.1 in o (omega arith, omega arith, i.2));
             long = length-set hs1 a none ∙ ih.long;
@@ -148,7 +195,8 @@ module _ (S : Type 0) where
     pub list_is : carried_after cs act ≡ list
     pub tags : map (λ x. x.0) list ≡ tags_from f' 0 n
     pub out : (t : ℕ) → t < n → f' t ≡ 1 → get_elem? (homes_after hs cs act) t ≡ some none
-    pub returned : (t : ℕ) → t < n → f t ≡ 1 → f' t ≢ 1 → (v : S) × (value_of cs t ≡ some v) × (get_elem? (homes_after hs cs act) t ≡ some (some v))
+    pub returned : (t : ℕ) → t < n → f t ≡ 1 → f' t ≢ 1
+        → (v : S) × (value_of cs t ≡ some v) × (get_elem? (homes_after hs cs act) t ≡ some (some v))
     pub same : (t : ℕ) → t < n → f t ≢ 1 → f' t ≢ 1 → get_elem? (homes_after hs cs act) t ≡ get_elem? hs t
     pub kept : (t : ℕ) → t < n → f t ≡ 1 → f' t ≡ 1 → (v : S) × (value_of cs t ≡ some v) × (value_of list t ≡ some v)
     pub taken : (t : ℕ) → t < n → f t ≢ 1 → f' t ≡ 1 → (v : S) × (get_elem? hs t ≡ some (some v)) × (value_of list t ≡ some v)
@@ -161,20 +209,28 @@ module _ (S : Type 0) where
       let p : (t : ℕ) → Put hs hs1 cs f 0 n t = puts f n 0 hs cs (omega arith) e in
       let in_all : (g : ℕ → ℕ) (t : ℕ) → t < n → g t ≡ 1 → In g 0 n t = (λ g t l o. (omega arith, omega arith, o)) in
       let off : (g : ℕ → ℕ) (t : ℕ) → g t ≢ 1 → ¬ In g 0 n t = (λ g t o i. o i.2) in
-      let k = takings f' n 0 hs1 (let wide : length (put_all hs cs) ≡ length hs = put_long hs cs in omega arith) (λ t i. let l : t < n = omega (arith, i.1) in dite (ℕ_discrete (f t) 1)
+      let k = takings f' n 0 hs1 (let wide : length (put_all hs cs) ≡ length hs = put_long hs cs in omega arith)
+      (λ t i. let l : t < n = omega (arith, i.1) in dite (ℕ_discrete (f t) 1)
       (λ (one : f t ≡ 1). let w = (p t).inside (in_all f t l one) in (w.0, w.2))
       (λ (no : f t ≢ 1). let w = home t l no i.2 in (w.0, (p t).outside (off f t no) ∙ w.1))) in
-      let after : homes_after hs cs (trade cs k.list) ≡ homes_after hs1 [] (take_all k.list) = (λ i. homes_after (given hs cs i) (gone cs i) (take_all k.list)) in record {
+      let after : homes_after hs cs (trade cs k.list) ≡ homes_after hs1 [] (take_all k.list) =
+      (λ i. homes_after (given hs cs i) (gone cs i) (take_all k.list)) in record {
         act = trade cs k.list;
         list = k.list;
-        valid = (can_give hs cs, subst (λ (z : Homes × Held). Valid z.0 z.1 (take_all k.list)) (λ i. (sym (given hs cs) i, sym (gone cs) i)) k.valid);
+        valid = (
+          can_give hs cs,
+          subst (λ (z : Homes × Held). Valid z.0 z.1 (take_all k.list))
+              (λ i. (sym (given hs cs) i, sym (gone cs) i)) k.valid,
+        );
         list_is = traded cs k.list;
         tags = k.tags;
         out = λ t l o. ap (λ (z : Homes). get_elem? z t) after ∙ (k.here t (in_all f' t l o)).3;
-        returned = λ t l o no. let w = (p t).inside (in_all f t l o) in (w.0, w.1, ap (λ (z : Homes). get_elem? z t) after ∙ k.away t (off f' t no) ∙ w.2);
+        returned = λ t l o no. let w = (p t).inside (in_all f t l o) in
+            (w.0, w.1, ap (λ (z : Homes). get_elem? z t) after ∙ k.away t (off f' t no) ∙ w.2);
         same = λ t l no no'. ap (λ (z : Homes). get_elem? z t) after ∙ k.away t (off f' t no') ∙ (p t).outside (off f t no);
         kept = λ t l o o'. let w = (p t).inside (in_all f t l o) in let g = k.here t (in_all f' t l o') in
-            let one : g.0 ≡ w.0 = some-injective g.0 w.0 (some-injective (some g.0) (some w.0) (sym g.1 ∙ w.2)) in (w.0, w.1, g.2 ∙ ap some one);
+            let one : g.0 ≡ w.0 = some-injective g.0 w.0 (some-injective (some g.0) (some w.0) (sym g.1 ∙ w.2)) in
+            (w.0, w.1, g.2 ∙ ap some one);
         taken = λ t l no o'. let g = k.here t (in_all f' t l o') in (g.0, sym ((p t).outside (off f t no)) ∙ g.1, g.2);
         long = ap length after ∙ k.long ∙ put_long hs cs;
       }

@@ -35,13 +35,20 @@ module _ (R : Type 0) (k : Shape) where
     pub needs : MayHappen k.layout k.callers (world_of k sh.history) (event_of k.layout r.number st)
     pub cells : HasCells k words' (cells_after st (cells_of sh.history))
     pub tags : (t : ℕ) → t < k.layout.depth
-        → Shows r.number ((world_of k sh.history).place t) (placed k.layout (event_of k.layout r.number st) (world_of k sh.history).place t)
-        (bit_at ((cells_after st (cells_of sh.history)).words.word (word_of k.layout t)) (place_of k.layout t)) (bit_at ((cells_after st (cells_of sh.history)).words.aside (word_of k.layout t)) (place_of k.layout t))
-        ((cells_after st (cells_of sh.history)).state t) (tag_bit k.layout (held_after k.layout st r.held) t) (tag_bit k.layout (swept_after st r.swept) t)
+        → Shows r.number ((world_of k sh.history).place t)
+        (placed k.layout (event_of k.layout r.number st) (world_of k sh.history).place t)
+        (bit_at ((cells_after st (cells_of sh.history)).words.word (word_of k.layout t)) (place_of k.layout t))
+        (bit_at ((cells_after st (cells_of sh.history)).words.aside (word_of k.layout t)) (place_of k.layout t))
+        ((cells_after st (cells_of sh.history)).state t) (tag_bit k.layout (held_after k.layout st r.held) t)
+        (tag_bit k.layout (swept_after st r.swept) t)
 
-  module _ (s : St) (sh : Shown k s) (r : Record R) (st : Step R) (words' : List ℕ) (homes' : List (maybe.Option R)) (owed : Owed s sh r st words')
-      (slots' : (t : ℕ) → t < k.layout.depth → SlotIs (get_elem? homes' t) (placed k.layout (event_of k.layout r.number st) (world_of k sh.history).place t))
-      (posts' : (t : ℕ) → t < k.layout.depth → placed k.layout (event_of k.layout r.number st) (world_of k sh.history).place t ≡ posted → get_elem? homes' t ≡ some (last_post t ((r.number, st) ∷ sh.history))) where
+  module _ (s : St) (sh : Shown k s) (r : Record R) (st : Step R) (words' : List ℕ) (homes' : List (maybe.Option R))
+      (owed : Owed s sh r st words')
+      (slots' : (t : ℕ) → t < k.layout.depth
+      → SlotIs (get_elem? homes' t) (placed k.layout (event_of k.layout r.number st) (world_of k sh.history).place t))
+      (posts' : (t : ℕ) → t < k.layout.depth
+      → placed k.layout (event_of k.layout r.number st) (world_of k sh.history).place t ≡ posted
+      → get_elem? homes' t ≡ some (last_post t ((r.number, st) ∷ sh.history))) where
     abbrev h : History R
     h = sh.history
 
@@ -54,7 +61,9 @@ module _ (R : Type 0) (k : Shape) where
       number = ok.number;
       held_wide = held_long r.shape.layout r.number st r.held ∙ ok.held_wide;
       swept_wide = swept_long r.shape.layout r.number st r.swept ∙ ok.swept_wide;
-      within = subst (λ (z : Layout). (i : ℕ) → i < words k.layout → IsWithin k.layout i (get_or (held_after z st r.held) i 0)) (sym same) (held_within k.layout r.number st owed.needs.in_layout r.held ok.held_wide ok.within);
+      within = subst (λ (z : Layout). (i : ℕ) → i < words k.layout
+          → IsWithin k.layout i (get_or (held_after z st r.held) i 0)) (sym same)
+          (held_within k.layout r.number st owed.needs.in_layout r.held ok.held_wide ok.within);
       held = λ t l. (owed.tags t l).held ∙ ap (λ (z : Layout). tag_bit k.layout (held_after z st r.held) t) (sym same);
       swept = λ t l. (owed.tags t l).swept;
       won = (λ j. ok.won j + won_by (event_of (same j) r.number st)) ∙ sym (own k.layout r.number st (world_of k h).won).0;
@@ -76,11 +85,16 @@ module _ (R : Type 0) (k : Shape) where
       steps = ok.steps ∙ sym (steps_else k.layout r.number q.number st h far);
     }
 
-    pub advances : (id : ℕ) → get_elem? s.views id ≡ some (alone r) → Shown k record { words = words'; homes = homes'; views = set s.views id (alone (record_after st r)) }
+    pub advances : (id : ℕ) → get_elem? s.views id ≡ some (alone r)
+        → Shown k record { words = words'; homes = homes'; views = set s.views id (alone (record_after st r)) }
     advances id at = let mine_ok = sh.records id (alone r) at 0 r refl in record {
       opening = sh.opening;
       history = h';
-      lawful = record { finds = (mine_ok.0.number, owed.finds, owed.value, sh.lawful.finds); happens = (owed.needs, sh.lawful.happens) };
+      lawful = record {
+        finds = (mine_ok.0.number, owed.finds, owed.value, sh.lawful.finds);
+        happens =
+            (owed.needs, sh.lawful.happens);
+      };
       cells = owed.cells;
       tags = λ t l. record { word = (owed.tags t l).word; aside = (owed.tags t l).aside; posted = (owed.tags t l).posted };
       slots = slots';
@@ -89,7 +103,8 @@ module _ (R : Type 0) (k : Shape) where
       position = sh.position;
       records = λ j v e n q e'. ⊎_elim
           (λ (t : (j ≡ id) × (alone (record_after st r) ≡ v)). here mine_ok j v n q t.0 t.1 e')
-          (λ (t : (j ≢ id) × (get_elem? s.views j ≡ some v)). let o = sh.records j v t.1 n q e' in (other q (λ e. t.0 (sym o.1 ∙ ap sh.seat e ∙ mine_ok.1)) o.0, o.1, o.2))
+          (λ (t : (j ≢ id) × (get_elem? s.views j ≡ some v)). let o = sh.records j v t.1 n q e' in
+          (other q (λ e. t.0 (sym o.1 ∙ ap sh.seat e ∙ mine_ok.1)) o.0, o.1, o.2))
           (at_set s.views id j (alone (record_after st r)) v e);
       each = everyone_same R k.callers s.views sh.seat sh.position id r (record_after st r) at refl sh.each;
     }
@@ -98,8 +113,14 @@ module _ (R : Type 0) (k : Shape) where
         first zero a q e = (refl, some-injective a q e)
         first (suc n) a q e = absurd (some-ne-none q (sym e))
 
-        here : IsKnown k h r × (sh.seat r.number ≡ id) × (sh.position r.number ≡ 0) → (j : ℕ) (v : View R) (n : ℕ) (q : Record R) → j ≡ id → alone (record_after st r) ≡ v → get_elem? v.records.value n ≡ some q
+        here : IsKnown k h r × (sh.seat r.number ≡ id) × (sh.position r.number ≡ 0)
+            → (j : ℕ) (v : View R) (n : ℕ) (q : Record R) → j ≡ id → alone (record_after st r) ≡ v
+            → get_elem? v.records.value n ≡ some q
             → IsKnown k h' q × (sh.seat q.number ≡ j) × (sh.position q.number ≡ n)
         here ok j v n q ej ev e =
-            let f = first n (record_after st r) q (ap (λ (z : View R). get_elem? z.records.value n) ev ∙ e) in
-            (subst (IsKnown k h') f.1 (mine ok.0), ap (λ (z : Record R). sh.seat z.number) (sym f.1) ∙ ok.1 ∙ sym ej, ap (λ (z : Record R). sh.position z.number) (sym f.1) ∙ ok.2 ∙ sym f.0)
+            let f = first n (record_after st r) q (ap (λ (z : View R). get_elem? z.records.value n) ev ∙ e) in (
+              subst (IsKnown k h') f.1 (mine ok.0),
+              ap (λ (z : Record R). sh.seat z.number) (sym f.1) ∙ ok.1
+                  ∙ sym ej,
+              ap (λ (z : Record R). sh.position z.number) (sym f.1) ∙ ok.2 ∙ sym f.0,
+            )

@@ -31,7 +31,8 @@ use Rattle.tag_core.specs.Plays.{Stepped, FindsHeld, looked, looked_aside, claim
 use Rattle.tag_core.specs.Plays as plays
 use Rattle.tag_core.proofs.Picks.{among, placed}
 use Rattle.tag_core.proofs.Turns.{held_from, posted_from, posted_small}
-use Rattle.tag_core.proofs.Owing.{claim_owed, give_owed, put_owed, post_owed, take_owed, swap_owed, spill_owed, look_owed, look_aside_owed, miss_owed, held_shown}
+use Rattle.tag_core.proofs.Owing.{claim_owed, give_owed, look_owed, look_aside_owed, miss_owed, held_shown}
+use Rattle.tag_core.proofs.OwingTags.{put_owed, post_owed, take_owed, swap_owed, spill_owed}
 use Rattle.tag_core.proofs.Stand.{word_at_one, aside_at_one, state_at_one}
 use Rattle.tag_core.proofs.Advance.{Owed}
 use Rattle.tag_core.proofs.Moving.{moved, kept, told}
@@ -61,17 +62,21 @@ spilled_no_post c posted e = refl
 spilled_no_post c aside e = e
 spilled_no_post c (sweep d) e = unposted (d == c) free (sweep d) (λ z. cc) e
 
-module _ (R : Type 0) (k : Shape) (narrow : k.layout.shift ≤ 6) (id : ℕ) (me : Me R (View R)) (r : Record R) (mine : me.0 ≡ alone r) (carries : Carries k.layout r.held me.1) where
+module _ (R : Type 0) (k : Shape) (narrow : k.layout.shift ≤ 6) (id : ℕ) (me : Me R (View R)) (r : Record R)
+    (mine : me.0 ≡ alone r) (carries : Carries k.layout r.held me.1) where
   -- how the posted tags come about
   abbrev Posts : (s : State R (View R)) (sh : Shown k s) → Step R → Type 0
-  Posts s sh st = (t : ℕ) → t < k.layout.depth → placed k.layout (event_of k.layout r.number st) (world_of k sh.history).place t ≡ posted
+  Posts s sh st = (t : ℕ) → t < k.layout.depth
+      → placed k.layout (event_of k.layout r.number st) (world_of k sh.history).place t ≡ posted
       → (((world_of k sh.history).place t ≡ posted) × (last_post t ((r.number, st) ∷ sh.history) ≡ last_post t sh.history))
       ⊎ (((world_of k sh.history).place t ≡ held r.number) × (last_post t ((r.number, st) ∷ sh.history) ≡ value_of me.1 t))
 
   abbrev Answer : (s : State R (View R)) → Step R → List ℕ → Type 0
-  Answer s st words' = (w : View R) × (a : Act R) × Valid s.homes me.1 a × Shown k record { words = words'; homes = homes_after s.homes me.1 a; views = set s.views id w } × Stepped st r me (w, carried_after me.1 a)
+  Answer s st words' = (w : View R) × (a : Act R) × Valid s.homes me.1 a × Shown k record
+      { words = words'; homes = homes_after s.homes me.1 a; views = set s.views id w } × Stepped st r me (w, carried_after me.1 a)
 
-  module _ (s : State R (View R)) (sh : Shown k s) (deep : length s.homes ≡ k.layout.depth) (at : get_elem? s.views id ≡ some me.0) where
+  module _ (s : State R (View R)) (sh : Shown k s) (deep : length s.homes ≡ k.layout.depth)
+      (at : get_elem? s.views id ≡ some me.0) where
     here : get_elem? s.views id ≡ some (alone r)
     here = at ∙ ap some mine
 
@@ -84,7 +89,9 @@ module _ (R : Type 0) (k : Shape) (narrow : k.layout.shift ≤ 6) (id : ℕ) (me
 
     -- the same where the words stay
     still : (st : Step R) (i : ℕ) → Owed R k s sh r st s.words → Posts s sh st → Answer s st (set s.words i (get_or s.words i 0))
-    still st i owed posts = answer st (set s.words i (get_or s.words i 0)) (subst (λ (ws : List ℕ). Owed R k s sh r st ws) (sym (set-get_or s.words i 0)) owed) posts
+    still st i owed posts =
+        answer st (set s.words i (get_or s.words i 0))
+        (subst (λ (ws : List ℕ). Owed R k s sh r st ws) (sym (set-get_or s.words i 0)) owed) posts
 
   abbrev G : (s : State R (View R)) (sh : Shown k s) → ℕ → Place
   G s sh = (world_of k sh.history).place
@@ -93,84 +100,166 @@ module _ (R : Type 0) (k : Shape) (narrow : k.layout.shift ≤ 6) (id : ℕ) (me
   found_held : (s : State R (View R)) (sh : Shown k s) → IsKnown k sh.history r → (i : ℕ)
       → FindsHeld r i (get_or s.words (word_at i) 0) 1 × FindsHeld r i (get_or s.words (aside_at i) 0) 0
   found_held s sh o i = let same : k.layout ≡ r.shape.layout = ap (λ (z : Shape). z.layout) (sym o.shape) in
-      subst (λ (z : Layout). ((t : ℕ) → t < z.depth → word_of z t ≡ i → tag_bit z r.held t ≡ 1 → bit_at (get_or s.words (word_at i) 0) (place_of z t) ≡ 1)
-      × ((t : ℕ) → t < z.depth → word_of z t ≡ i → tag_bit z r.held t ≡ 1 → bit_at (get_or s.words (aside_at i) 0) (place_of z t) ≡ 0)) same (
-        (λ t l e has. ap (λ (j : ℕ). bit_at (get_or s.words (word_at j) 0) (place_of k.layout t)) (sym e) ∙ (held_shown R k narrow s sh r o t l has).0),
-        (λ t l e has. ap (λ (j : ℕ). bit_at (get_or s.words (aside_at j) 0) (place_of k.layout t)) (sym e) ∙ (held_shown R k narrow s sh r o t l has).1),
+      subst (λ (z : Layout).
+      ((t : ℕ) → t < z.depth → word_of z t ≡ i → tag_bit z r.held t ≡ 1
+      → bit_at (get_or s.words (word_at i) 0) (place_of z t) ≡ 1)
+      × ((t : ℕ) → t < z.depth → word_of z t ≡ i → tag_bit z r.held t ≡ 1
+      → bit_at (get_or s.words (aside_at i) 0) (place_of z t) ≡ 0)) same (
+        (λ t l e has. ap (λ (j : ℕ). bit_at (get_or s.words (word_at j) 0) (place_of k.layout t)) (sym e)
+            ∙ (held_shown R k narrow s sh r o t l has).0),
+        (λ t l e has. ap (λ (j : ℕ). bit_at (get_or s.words (aside_at j) 0) (place_of k.layout t)) (sym e)
+            ∙ (held_shown R k narrow s sh r o t l has).1),
       )
 
-  pub look_allowed : (i : ℕ) → i < words k.layout → Allows (Shown k) k.layout.depth id me (word_at i) (λ n. n) (looked (step k.layout.depth (word_at i) 0 0 none) me)
+  pub look_allowed : (i : ℕ) → i < words k.layout
+      → Allows (Shown k) k.layout.depth id me (word_at i) (λ n. n) (looked (step k.layout.depth (word_at i) 0 0 none) me)
   look_allowed i inside s sh deep at _ = let n : ℕ = get_or s.words (word_at i) 0 in let o = ok s sh deep at in
-      let z = still s sh deep at (Word (Look i n)) (word_at i) (look_owed R k narrow s sh r o i inside) (λ t l e. inl (e, refl)) in
-      (z.0, z.1, z.2, z.3, λ i' r' ei er. subst (λ (x : ℕ × Record R). Stepped (Word (Look x.0 n)) x.1 me (z.0, carried_after me.1 z.1) × FindsHeld x.1 x.0 n 1) (λ j. (word_at_one i i' ei j, same_record r r' (sym mine ∙ er) j)) (z.4, (found_held s sh o i).0))
+      let z = still s sh deep at (Word (Look i n)) (word_at i) (look_owed R k narrow s sh r o i inside)
+      (λ t l e. inl (e, refl)) in (
+        z.0,
+        z.1,
+        z.2,
+        z.3,
+        λ i' r' ei er. subst
+            (λ (x : ℕ × Record R). Stepped (Word (Look x.0 n)) x.1 me (z.0, carried_after me.1 z.1) × FindsHeld x.1 x.0 n 1)
+            (λ j. (word_at_one i i' ei j, same_record r r' (sym mine ∙ er) j)) (z.4, (found_held s sh o i).0),
+      )
 
-  pub look_aside_allowed : (i : ℕ) → i < words k.layout → Allows (Shown k) k.layout.depth id me (aside_at i) (λ n. n) (looked_aside (step k.layout.depth (aside_at i) 0 0 none) me)
+  pub look_aside_allowed : (i : ℕ) → i < words k.layout
+      → Allows (Shown k) k.layout.depth id me (aside_at i) (λ n. n) (looked_aside (step k.layout.depth (aside_at i) 0 0 none) me)
   look_aside_allowed i inside s sh deep at _ = let n : ℕ = get_or s.words (aside_at i) 0 in let o = ok s sh deep at in
-      let z = still s sh deep at (Word (LookAside i n)) (aside_at i) (look_aside_owed R k narrow s sh r o i inside) (λ t l e. inl (e, refl)) in
-      (z.0, z.1, z.2, z.3, λ i' r' ei er. subst (λ (x : ℕ × Record R). Stepped (Word (LookAside x.0 n)) x.1 me (z.0, carried_after me.1 z.1) × FindsHeld x.1 x.0 n 0) (λ j. (aside_at_one i i' ei j, same_record r r' (sym mine ∙ er) j)) (z.4, (found_held s sh o i).1))
+      let z = still s sh deep at (Word (LookAside i n)) (aside_at i) (look_aside_owed R k narrow s sh r o i inside)
+      (λ t l e. inl (e, refl)) in (
+        z.0,
+        z.1,
+        z.2,
+        z.3,
+        λ i' r' ei er. subst
+            (λ (x : ℕ × Record R). Stepped (Word (LookAside x.0 n)) x.1 me
+            (z.0, carried_after me.1 z.1) × FindsHeld x.1 x.0 n 0)
+            (λ j. (aside_at_one i i' ei j, same_record r r' (sym mine ∙ er) j)) (z.4, (found_held s sh o i).1),
+      )
 
   pub claim_allowed : (i m : ℕ) → i < words k.layout → IsWithin k.layout i m → r.won + count_ones m ≤ MOST_WON
-      → Allows (Shown k) k.layout.depth id me (word_at i) (λ n. bit_or n m) (claimed (step k.layout.depth (word_at i) m 0 none) me)
+      → Allows (Shown k) k.layout.depth id me (word_at i) (λ n. bit_or n m)
+      (claimed (step k.layout.depth (word_at i) m 0 none) me)
   claim_allowed i m inside fits room s sh deep at _ = let n : ℕ = get_or s.words (word_at i) 0 in
-      let z = answer s sh deep at (Word (Claimed i m n)) (set s.words (word_at i) (bit_or n m)) (claim_owed R k narrow s sh r (ok s sh deep at) i m inside fits room)
-      (λ t l e. inl (unposted _ (held r.number) (G s sh t) (held_no_post r.number (G s sh t)) e, refl)) in
-      (z.0, z.1, z.2, z.3, λ i' r' ei er. subst (λ (x : ℕ × Record R). Stepped (Word (Claimed x.0 m n)) x.1 me (z.0, carried_after me.1 z.1)) (λ j. (word_at_one i i' ei j, same_record r r' (sym mine ∙ er) j)) z.4)
+      let z = answer s sh deep at (Word (Claimed i m n)) (set s.words (word_at i) (bit_or n m))
+      (claim_owed R k narrow s sh r (ok s sh deep at) i m inside fits room)
+      (λ t l e. inl (unposted _ (held r.number) (G s sh t) (held_no_post r.number (G s sh t)) e, refl)) in (
+        z.0,
+        z.1,
+        z.2,
+        z.3,
+        λ i' r' ei er. subst
+            (λ (x : ℕ × Record R). Stepped (Word (Claimed x.0 m n)) x.1 me (z.0, carried_after me.1 z.1))
+            (λ j. (word_at_one i i' ei j, same_record r r' (sym mine ∙ er) j)) z.4,
+      )
 
-  pub give_allowed : (i m : ℕ) → i < words k.layout → IsWithin k.layout i m → m < 2 ^ 64 → ((t : ℕ) → t < k.layout.depth → among k.layout.shift i m t ≡ 1 → tag_bit k.layout r.held t ≡ 1)
-      → Allows (Shown k) k.layout.depth id me (word_at i) (λ n. bit_and n (2 ^ 64 - 1 - m)) (gave (step k.layout.depth (word_at i) (2 ^ 64 - 1 - m) 0 none) me)
+  pub give_allowed : (i m : ℕ) → i < words k.layout → IsWithin k.layout i m → m < 2 ^ 64
+      → ((t : ℕ) → t < k.layout.depth → among k.layout.shift i m t ≡ 1 → tag_bit k.layout r.held t ≡ 1)
+      → Allows (Shown k) k.layout.depth id me (word_at i) (λ n. bit_and n (2 ^ 64 - 1 - m))
+      (gave (step k.layout.depth (word_at i) (2 ^ 64 - 1 - m) 0 none) me)
   give_allowed i m inside low fits has s sh deep at _ = let n : ℕ = get_or s.words (word_at i) 0 in
-      let z = answer s sh deep at (Word (Give i m n)) (set s.words (word_at i) (without n m)) (give_owed R k narrow s sh r (ok s sh deep at) i m inside low fits has)
+      let z = answer s sh deep at (Word (Give i m n)) (set s.words (word_at i) (without n m))
+      (give_owed R k narrow s sh r (ok s sh deep at) i m inside low fits has)
       (λ t l e. inl (unposted _ free (G s sh t) (λ x. cc) e, refl)) in (
         z.0,
         z.1,
         z.2,
         z.3,
         λ i' m' r' ei low' em er. let same : m ≡ m' = omega arith in
-            subst (λ (x : ℕ × ℕ × Record R). Stepped (Word (Give x.0 x.1 n)) x.2 me (z.0, carried_after me.1 z.1)) (λ j. (word_at_one i i' ei j, same j, same_record r r' (sym mine ∙ er) j)) z.4,
+            subst (λ (x : ℕ × ℕ × Record R). Stepped (Word (Give x.0 x.1 n)) x.2 me (z.0, carried_after me.1 z.1))
+            (λ j. (word_at_one i i' ei j, same j, same_record r r' (sym mine ∙ er) j)) z.4,
       )
 
-  pub swap_allowed : (i : ℕ) → i < words k.layout → Allows (Shown k) k.layout.depth id me (aside_at i) (λ _. 0) (swapped (step k.layout.depth (aside_at i) 0 0 none) me)
+  pub swap_allowed : (i : ℕ) → i < words k.layout
+      → Allows (Shown k) k.layout.depth id me (aside_at i) (λ _. 0) (swapped (step k.layout.depth (aside_at i) 0 0 none) me)
   swap_allowed i inside s sh deep at _ = let n : ℕ = get_or s.words (aside_at i) 0 in
-      let z = answer s sh deep at (Word (Swap i n)) (set s.words (aside_at i) 0) (swap_owed R k narrow s sh r (ok s sh deep at) i inside)
-      (λ t l e. inl (unposted _ (swept_by r.number (G s sh t)) (G s sh t) (swept_no_post r.number (G s sh t)) e, refl)) in
-      (z.0, z.1, z.2, z.3, λ i' r' ei er. subst (λ (x : ℕ × Record R). Stepped (Word (Swap x.0 n)) x.1 me (z.0, carried_after me.1 z.1)) (λ j. (aside_at_one i i' ei j, same_record r r' (sym mine ∙ er) j)) z.4)
+      let z = answer s sh deep at (Word (Swap i n)) (set s.words (aside_at i) 0)
+      (swap_owed R k narrow s sh r (ok s sh deep at) i inside)
+      (λ t l e. inl (unposted _ (swept_by r.number (G s sh t)) (G s sh t) (swept_no_post r.number (G s sh t)) e, refl)) in (
+        z.0,
+        z.1,
+        z.2,
+        z.3,
+        λ i' r' ei er. subst
+            (λ (x : ℕ × Record R). Stepped (Word (Swap x.0 n)) x.1 me (z.0, carried_after me.1 z.1))
+            (λ j. (aside_at_one i i' ei j, same_record r r' (sym mine ∙ er) j)) z.4,
+      )
 
   pub spill_allowed : (i : ℕ) → i < words k.layout → get_or r.swept i 0 < 2 ^ 64
-      → Allows (Shown k) k.layout.depth id me (word_at i) (λ n. bit_and n (2 ^ 64 - 1 - get_or r.swept i 0)) (spilled (step k.layout.depth (word_at i) (2 ^ 64 - 1 - get_or r.swept i 0) 0 none) me)
+      → Allows (Shown k) k.layout.depth id me (word_at i) (λ n. bit_and n (2 ^ 64 - 1 - get_or r.swept i 0))
+      (spilled (step k.layout.depth (word_at i) (2 ^ 64 - 1 - get_or r.swept i 0) 0 none) me)
   spill_allowed i inside fits s sh deep at _ = let n : ℕ = get_or s.words (word_at i) 0 in let m : ℕ = get_or r.swept i 0 in
-      let z = answer s sh deep at (Word (Spill i m n)) (set s.words (word_at i) (without n m)) (spill_owed R k narrow s sh r (ok s sh deep at) i inside fits)
-      (λ t l e. inl (unposted _ (spilled_by r.number (G s sh t)) (G s sh t) (spilled_no_post r.number (G s sh t)) e, refl)) in
-      (z.0, z.1, z.2, z.3, λ i' r' ei er. subst (λ (x : ℕ × Record R). Stepped (Word (Spill x.0 (get_or x.1.swept x.0 0) n)) x.1 me (z.0, carried_after me.1 z.1)) (λ j. (word_at_one i i' ei j, same_record r r' (sym mine ∙ er) j)) z.4)
+      let z = answer s sh deep at (Word (Spill i m n)) (set s.words (word_at i) (without n m))
+      (spill_owed R k narrow s sh r (ok s sh deep at) i inside fits)
+      (λ t l e. inl (unposted _ (spilled_by r.number (G s sh t)) (G s sh t) (spilled_no_post r.number (G s sh t)) e, refl)) in (
+        z.0,
+        z.1,
+        z.2,
+        z.3,
+        λ i' r' ei er. subst
+            (λ (x : ℕ × Record R). Stepped (Word (Spill x.0 (get_or x.1.swept x.0 0) n)) x.1 me (z.0, carried_after me.1 z.1))
+            (λ j. (word_at_one i i' ei j, same_record r r' (sym mine ∙ er) j)) z.4,
+      )
 
   pub post_allowed : (u : ℕ) (y : R) → u < k.layout.depth → tag_bit k.layout r.held u ≡ 1 → value_of me.1 u ≡ some y
-      → Allows (Shown k) k.layout.depth id me (state_at u) (λ _. 1) (λ _. plays.posted (step k.layout.depth (state_at u) 1 0 none) me 1)
+      → Allows (Shown k) k.layout.depth id me (state_at u) (λ _. 1)
+      (λ _. plays.posted (step k.layout.depth (state_at u) 1 0 none) me 1)
   post_allowed u y lu has val s sh deep at _ = let o = ok s sh deep at in
       let z = answer s sh deep at (Post u y) (set s.words (state_at u) 1) (post_owed R k narrow s sh r o u y lu has)
       (λ t l e. dite (ℕ_discrete t u)
-      (λ (same : t ≡ u). inr (held_from r.number _ (o.held t l ∙ ap (tag_bit k.layout r.held) same ∙ has), ap (λ (b : Bool). cond b (some y) (last_post t sh.history)) (eq-eqb t u same) ∙ sym val ∙ ap (value_of me.1) (sym same)))
-      (λ (n : t ≢ u). inl (ap (λ (b : Bool). cond b posted (G s sh t)) (sym (ne_eqb t u n)) ∙ e, ap (λ (b : Bool). cond b (some y) (last_post t sh.history)) (ne_eqb t u n)))) in (
+      (λ (same : t ≡ u). inr (
+        held_from r.number _ (o.held t l ∙ ap (tag_bit k.layout r.held) same ∙ has),
+        ap
+            (λ (b : Bool). cond b (some y) (last_post t sh.history)) (eq-eqb t u same) ∙ sym val ∙ ap (value_of me.1) (sym same),
+      ))
+      (λ (n : t ≢ u). inl (
+        ap (λ (b : Bool). cond b posted (G s sh t)) (sym (ne_eqb t u n))
+            ∙ e,
+        ap (λ (b : Bool). cond b (some y) (last_post t sh.history)) (ne_eqb t u n),
+      ))) in (
         z.0,
         z.1,
         z.2,
         z.3,
         λ u' y' r' eu ey er. subst (λ (x : ℕ × R × Record R). Stepped (Post x.0 x.1) x.2 me (z.0, carried_after me.1 z.1))
-            (λ j. (state_at_one u u' eu j, some-injective y y' (sym val ∙ ap (value_of me.1) (state_at_one u u' eu) ∙ ey) j, same_record r r' (sym mine ∙ er) j)) z.4,
+            (λ j. (
+              state_at_one u u' eu j,
+              some-injective y y'
+                  (sym val ∙ ap (value_of me.1) (state_at_one u u' eu) ∙ ey) j,
+              same_record r r' (sym mine ∙ er) j,
+            )) z.4,
       )
 
   pub put_allowed : (u : ℕ) → u < k.layout.depth → tag_bit k.layout r.held u ≡ 1
-      → Allows (Shown k) k.layout.depth id me (aside_at (word_of k.layout u)) (λ n. bit_or n (2 ^ place_of k.layout u)) (put_aside (step k.layout.depth (aside_at (word_of k.layout u)) (2 ^ place_of k.layout u) 0 none) me)
-  put_allowed u lu has s sh deep at _ = let i : ℕ = word_of k.layout u in let m : ℕ = 2 ^ place_of k.layout u in let n : ℕ = get_or s.words (aside_at i) 0 in
-      let z = answer s sh deep at (Word (Put i m n)) (set s.words (aside_at i) (bit_or n m)) (put_owed R k narrow s sh r (ok s sh deep at) u lu has)
-      (λ t l e. inl (unposted _ aside (G s sh t) (λ x. cc) e, refl)) in
-      (z.0, z.1, z.2, z.3, λ i' r' ei er. subst (λ (x : ℕ × Record R). Stepped (Word (Put x.0 m n)) x.1 me (z.0, carried_after me.1 z.1)) (λ j. (aside_at_one i i' ei j, same_record r r' (sym mine ∙ er) j)) z.4)
+      → Allows (Shown k) k.layout.depth id me (aside_at (word_of k.layout u)) (λ n. bit_or n (2 ^ place_of k.layout u))
+      (put_aside (step k.layout.depth (aside_at (word_of k.layout u)) (2 ^ place_of k.layout u) 0 none) me)
+  put_allowed u lu has s sh deep at _ =
+      let i : ℕ = word_of k.layout u in let m : ℕ = 2 ^ place_of k.layout u in let n : ℕ = get_or s.words (aside_at i) 0 in
+      let z = answer s sh deep at (Word (Put i m n)) (set s.words (aside_at i) (bit_or n m))
+      (put_owed R k narrow s sh r (ok s sh deep at) u lu has)
+      (λ t l e. inl (unposted _ aside (G s sh t) (λ x. cc) e, refl)) in (
+        z.0,
+        z.1,
+        z.2,
+        z.3,
+        λ i' r' ei er. subst
+            (λ (x : ℕ × Record R). Stepped (Word (Put x.0 m n)) x.1 me (z.0, carried_after me.1 z.1))
+            (λ j. (aside_at_one i i' ei j, same_record r r' (sym mine ∙ er) j)) z.4,
+      )
 
   -- the two ends of a compare-exchange
-  pub take_allowed : (u : ℕ) → u < k.layout.depth → Allows (Shown k) k.layout.depth id me (state_at u) (λ n. either (eqb n 1) 0 n) (took (step k.layout.depth (state_at u) 1 0 none) me)
+  pub take_allowed : (u : ℕ) → u < k.layout.depth
+      → Allows (Shown k) k.layout.depth id me (state_at u) (λ n. either (eqb n 1) 0 n)
+      (took (step k.layout.depth (state_at u) 1 0 none) me)
   unfolding answer
   take_allowed u lu s sh deep at _ = let n : ℕ = get_or s.words (state_at u) 0 in let o = ok s sh deep at in
       let shows : posted_bit ((world_of k sh.history).place u) ≡ n = (sh.tags u lu).posted ∙ sym (sh.cells.state u lu) in
       let small = posted_small ((world_of k sh.history).place u) in
-      exchanged n 1 0 (λ x. (w : View R) × (a : Act R) × Valid s.homes me.1 a × Shown k record { words = set s.words (state_at u) x; homes = homes_after s.homes me.1 a; views = set s.views id w }
+      exchanged n 1 0 (λ x. (w : View R) × (a : Act R) × Valid s.homes me.1 a × Shown k record
+      { words = set s.words (state_at u) x; homes = homes_after s.homes me.1 a; views = set s.views id w }
       × took (step k.layout.depth (state_at u) 1 0 none) me n (w, carried_after me.1 a))
       (λ (hit : n ≡ 1).
       let its : (world_of k sh.history).place u ≡ posted = posted_from _ (shows ∙ hit) in
@@ -180,11 +269,16 @@ module _ (R : Type 0) (k : Shape) (narrow : k.layout.shift ≤ 6) (id : ℕ) (me
       (λ t l e. inl (unposted _ (held r.number) (G s sh t) (held_no_post r.number (G s sh t)) e, refl)) in
       let go = moved R k s sh r (Take u 1 (Some last.0)) (set s.words (state_at u) 0) owed o me.1 carries deep in
       let one : (u == u) ≡ true = eq-eqb u u refl in
-      let not_mine : tag_bit k.layout r.held u ≢ 1 = (λ (e : tag_bit k.layout r.held u ≡ 1). let b : held_bit r.number posted ≡ 1 = ap (held_bit r.number) (sym its) ∙ o.held u lu ∙ e in absurd (omega arith)) in
+      let not_mine : tag_bit k.layout r.held u ≢ 1 =
+      (λ (e : tag_bit k.layout r.held u ≡ 1). let b : held_bit r.number posted ≡ 1 = ap (held_bit r.number) (sym its)
+      ∙ o.held u lu ∙ e in absurd (omega arith)) in
       let now_mine : tag_bit k.layout (held_after k.layout (Take u 1 (Some last.0)) r.held) u ≡ 1 =
-      sym (owed.tags u lu).held ∙ ap (λ (x : Bool). held_bit r.number (cond x (held r.number) ((world_of k sh.history).place u))) one ∙ ap one_if (eq-eqb r.number r.number refl) in
+      sym (owed.tags u lu).held
+      ∙ ap (λ (x : Bool). held_bit r.number (cond x (held r.number) ((world_of k sh.history).place u))) one
+      ∙ ap one_if (eq-eqb r.number r.number refl) in
       let came = go.taken u lu not_mine now_mine in
-      let val : value_of (carried_after me.1 go.act) u ≡ some last.0 = ap (λ (l : List (ℕ × R)). value_of l u) go.list_is ∙ came.2 ∙ some-injective _ _ (sym came.1 ∙ sh.posts u lu its) ∙ last.1 in (
+      let val : value_of (carried_after me.1 go.act) u ≡ some last.0 = ap (λ (l : List (ℕ × R)). value_of l u) go.list_is
+      ∙ came.2 ∙ some-injective _ _ (sym came.1 ∙ sh.posts u lu its) ∙ last.1 in (
         z.0,
         z.1,
         z.2,
@@ -193,13 +287,15 @@ module _ (R : Type 0) (k : Shape) (narrow : k.layout.shift ≤ 6) (id : ℕ) (me
           λ h. (
             last.0,
             subst (λ (x : ℕ). value_of (carried_after me.1 go.act) x ≡ some last.0) (state_at_one u u' eu) val,
-            subst (λ (x : ℕ × Record R). Stepped (Take x.0 1 (Some last.0)) x.1 me (z.0, carried_after me.1 z.1)) (λ j. (state_at_one u u' eu j, same_record r r' (sym mine ∙ er) j)) z.4,
+            subst (λ (x : ℕ × Record R). Stepped (Take x.0 1 (Some last.0)) x.1 me (z.0, carried_after me.1 z.1))
+                (λ j. (state_at_one u u' eu j, same_record r r' (sym mine ∙ er) j)) z.4,
           ),
           λ h. absurd (h hit),
         ),
       ))
       (λ (miss : n ≢ 1). let zero_there : n ≡ 0 = omega arith in
-      let z = still s sh deep at (Take u 0 None) (state_at u) (miss_owed R k narrow s sh r o u lu zero_there) (λ t l e. inl (e, refl)) in (
+      let z = still s sh deep at (Take u 0 None) (state_at u) (miss_owed R k narrow s sh r o u lu zero_there)
+      (λ t l e. inl (e, refl)) in (
         z.0,
         z.1,
         z.2,
@@ -208,10 +304,14 @@ module _ (R : Type 0) (k : Shape) (narrow : k.layout.shift ≤ 6) (id : ℕ) (me
           λ h. absurd (miss h),
           λ h. (
             zero_there,
-            subst (λ (x : ℕ × Record R). Stepped (Take x.0 0 None) x.1 me (z.0, carried_after me.1 z.1)) (λ j. (state_at_one u u' eu j, same_record r r' (sym mine ∙ er) j)) z.4,
+            subst (λ (x : ℕ × Record R). Stepped (Take x.0 0 None) x.1 me (z.0, carried_after me.1 z.1))
+                (λ j. (state_at_one u u' eu j, same_record r r' (sym mine ∙ er) j)) z.4,
           ),
         ),
       ))
     where
-      post_there : (s : State R (View R)) (sh : Shown k s) (u : ℕ) → u < k.layout.depth → (world_of k sh.history).place u ≡ posted → (y : R) × (last_post u sh.history ≡ some y)
-      post_there s sh u lu its = let w = subst (λ (p : Place). SlotIs (get_elem? s.homes u) p) its (sh.slots u lu) in (w.0, some-injective _ _ (sym (sh.posts u lu its) ∙ w.1))
+      post_there : (s : State R (View R)) (sh : Shown k s) (u : ℕ) → u < k.layout.depth
+          → (world_of k sh.history).place u ≡ posted → (y : R) × (last_post u sh.history ≡ some y)
+      post_there s sh u lu its =
+          let w = subst (λ (p : Place). SlotIs (get_elem? s.homes u) p) its (sh.slots u lu) in
+          (w.0, some-injective _ _ (sym (sh.posts u lu its) ∙ w.1))

@@ -32,20 +32,36 @@ module _ {R : Type 0} (m : Map R) (w : Caller R) (own : IsCallerOf m w) where
   in_words i = subst (λ (z : Shape). i < words z.layout) (sym own.1)
 
   -- what the table asks of a step at this place
-  pub asked : (id : ℕ) (me : Me R (View R)) (at place : ℕ) (f : ℕ → ℕ) (a b : ℕ) (then : table.Step R → Me R (View R) → ℕ → Me R (View R) → Type 0) → place ≡ at → at < table_width w.shape.value.layout
+  pub asked : (id : ℕ) (me : Me R (View R)) (at place : ℕ) (f : ℕ → ℕ) (a b : ℕ)
+      (then : table.Step R → Me R (View R) → ℕ → Me R (View R) → Type 0) → place ≡ at → at < table_width w.shape.value.layout
       → Allows (Shown w.shape.value) w.shape.value.layout.depth id me at f (then (step w.shape.value.layout.depth at a b none) me)
-      → (place < m.table.shared.table_id.words) × Allows (Shown m.table.shared.key) m.table.shared.table_id.slots id me place f (then (step m.table.shared.table_id.slots place a b none) me)
+      → (place < m.table.shared.table_id.words) × Allows
+      (Shown m.table.shared.key) m.table.shared.table_id.slots id me place f
+      (then (step m.table.shared.table_id.slots place a b none) me)
   asked id me at place f a b then is low allowed = (
     subst (λ (z : ℕ × ℕ). z.0 < z.1) (λ j. (sym is j, (ap (λ (z : Shape). table_width z.layout) own.1 ∙ sym m.wide.0) j)) low,
-    subst (λ (z : Shape × ℕ × ℕ). Allows (Shown z.0) z.1 id me z.2 f (then (step z.1 z.2 a b none) me)) (λ j. ((own.1 ∙ sym m.told) j, (ap (λ (z : Shape). z.layout.depth) own.1 ∙ sym m.wide.1) j, sym is j)) allowed,
+    subst (λ (z : Shape × ℕ × ℕ). Allows (Shown z.0) z.1 id me z.2 f (then (step z.1 z.2 a b none) me))
+        (λ j. ((own.1 ∙ sym m.told) j, (ap (λ (z : Shape). z.layout.depth) own.1 ∙ sym m.wide.1) j, sym is j)) allowed,
   )
 
-module _ {R : Type 0} (w : Caller R) (st : Step R) (me' : Me R (View R)) (did : Stepped st (record_of w) w.seat.me me') (held' : List ℕ) (won' back' : ℕ)
-    (held_is : held_after w.shape.value.layout st w.held.items ≡ held') (swept_is : swept_after st (replicate {A = ℕ} (words w.shape.value.layout) 0) ≡ replicate (words w.shape.value.layout) 0)
-    (won_is : w.won + won_by (event_of w.shape.value.layout w.number st) ≡ won') (back_is : w.back + back_by (event_of w.shape.value.layout w.number st) ≡ back') where
+module _ {R : Type 0} (w : Caller R) (st : Step R) (me' : Me R (View R)) (did : Stepped st (record_of w) w.seat.me me')
+    (held' : List ℕ) (won' back' : ℕ)
+    (held_is : held_after w.shape.value.layout st w.held.items ≡ held')
+    (swept_is : swept_after st (replicate {A = ℕ} (words w.shape.value.layout) 0) ≡ replicate (words w.shape.value.layout) 0)
+    (won_is : w.won + won_by (event_of w.shape.value.layout w.number st) ≡ won')
+    (back_is : w.back + back_by (event_of w.shape.value.layout w.number st) ≡ back') where
   -- the record that the new fields give
   abbrev pub now : Record R
-  now = record { shape = w.shape.value; number = w.number; held = held'; swept = replicate (words w.shape.value.layout) 0; won = won'; back = back'; steps = steps_of me'.0 }
+  now = record {
+    shape = w.shape.value;
+    number = w.number;
+    held = held';
+    swept = replicate
+        (words w.shape.value.layout) 0;
+    won = won';
+    back = back';
+    steps = steps_of me'.0;
+  }
 
   pub recorded : now ≡ record_after st (record_of w)
   recorded j = record { shape = w.shape.value; number = w.number; held = sym held_is j; swept = sym swept_is j; won = sym won_is j; back = sym back_is j; steps = steps_of (did.view j) }
@@ -59,12 +75,16 @@ module _ {R : Type 0} (w : Caller R) (st : Step R) (me' : Me R (View R)) (did : 
   pub few : back' ≤ w.shape.value.callers * MOST_WON
   few = subst (λ (z : ℕ). z ≤ w.shape.value.callers * MOST_WON) back_is did.few_back
 
-  pub slots : (tag : ℕ) → Holds w tag → (tag < w.shape.value.layout.depth) × (tag_bit w.shape.value.layout held' tag ≡ 1) → value_of me'.1 tag ≡ value_of w.seat.me.1 tag
+  pub slots : (tag : ℕ) → Holds w tag → (tag < w.shape.value.layout.depth) × (tag_bit w.shape.value.layout held' tag ≡ 1)
+      → value_of me'.1 tag ≡ value_of w.seat.me.1 tag
   slots tag was is = did.values tag was.0 was.1 (ap (λ (z : List ℕ). tag_bit w.shape.value.layout z tag) held_is ∙ is.1)
 
 -- what a caller may have given back in all
-pub bounded : {R : Type 0} (m : Map R) (w : Caller R) → IsCallerOf m w → (n : ℕ) → n ≤ w.shape.value.callers * MOST_WON → n ≤ MAX_CALLERS * MOST_WON
-bounded m w own n h = let few : w.shape.value.callers ≤ MAX_CALLERS = subst (λ (z : Shape). z.callers ≤ MAX_CALLERS) (sym own.1) m.few.1 in let more : w.shape.value.callers * MOST_WON ≤ MAX_CALLERS * MOST_WON = mul-le-mul_right MOST_WON few in omega arith
+pub bounded : {R : Type 0} (m : Map R) (w : Caller R) → IsCallerOf m w → (n : ℕ) → n ≤ w.shape.value.callers * MOST_WON
+    → n ≤ MAX_CALLERS * MOST_WON
+bounded m w own n h =
+    let few : w.shape.value.callers ≤ MAX_CALLERS = subst (λ (z : Shape). z.callers ≤ MAX_CALLERS) (sym own.1) m.few.1 in
+    let more : w.shape.value.callers * MOST_WON ≤ MAX_CALLERS * MOST_WON = mul-le-mul_right MOST_WON few in omega arith
 
 pub plus_none : (n : ℕ) → n + 0 ≡ n
 plus_none n = omega arith

@@ -11,7 +11,8 @@ use Rattle.tag_core.specs.Plays.{counted}
 use Rattle.tag_core.proofs.Fronts.{idle}
 use Rattle.tag_core.proofs.Ends.{few_records}
 
-pub count_allowed : (R : Type 0) (k : Shape) (d id : ℕ) (me : Me R (View R)) → Allows (Shown k) d id me 0 (λ n. n) (counted (step d 0 0 0 none) me)
+pub count_allowed : (R : Type 0) (k : Shape) (d id : ℕ) (me : Me R (View R))
+    → Allows (Shown k) d id me 0 (λ n. n) (counted (step d 0 0 0 none) me)
 count_allowed R k d id me s sh deep at _ = (
   me.0,
   keeps,
@@ -20,7 +21,8 @@ count_allowed R k d id me s sh deep at _ = (
   (
     refl,
     λ r rs e.
-        let here : get_elem? s.views id ≡ some (viewing (r ∷ rs)) = at ∙ ap some e in let known = sh.records id (viewing (r ∷ rs)) here 0 r refl in
+        let here : get_elem? s.views id ≡ some (viewing (r ∷ rs)) = at ∙ ap some e in
+        let known = sh.records id (viewing (r ∷ rs)) here 0 r refl in
         subst (λ (z : Shape). length (r ∷ rs) ≤ z.callers) (sym known.0.shape) (few_records k s sh id (viewing (r ∷ rs)) here),
   ),
 )

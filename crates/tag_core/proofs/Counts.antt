@@ -14,25 +14,41 @@ use Rattle.tag_core.specs.Records.{held_after, swept_after}
 module _ (c : ℕ) where
   -- an event of c's is c's, or counts nothing
   abbrev Own : Event → Type 0
-  Own e = (g : ℕ → ℕ) → (plus_at (caller_of e) (won_by e) g c ≡ g c + won_by e) × (plus_at (caller_of e) (back_by e) g c ≡ g c + back_by e)
+  Own e = (g : ℕ → ℕ) → (plus_at (caller_of e) (won_by e) g c ≡ g c + won_by e) ×
+      (plus_at (caller_of e) (back_by e) g c ≡ g c + back_by e)
 
   none_here : (e : Event) → won_by e ≡ 0 → back_by e ≡ 0 → Own e
   none_here e w b g = (
-    ap (λ (n : ℕ). plus_at (caller_of e) n g c) w ∙ plus_at-none g (caller_of e) c ∙ (let z : g c ≡ g c + 0 = omega arith in z) ∙ ap (λ (n : ℕ). g c + n) (sym w),
-    ap (λ (n : ℕ). plus_at (caller_of e) n g c) b ∙ plus_at-none g (caller_of e) c ∙ (let z : g c ≡ g c + 0 = omega arith in z) ∙ ap (λ (n : ℕ). g c + n) (sym b),
+    ap (λ (n : ℕ). plus_at (caller_of e) n g c) w ∙ plus_at-none g (caller_of e) c
+        ∙ (let z : g c ≡ g c + 0 = omega arith in z) ∙ ap (λ (n : ℕ). g c + n) (sym w),
+    ap (λ (n : ℕ). plus_at (caller_of e) n g c) b ∙ plus_at-none g (caller_of e) c
+        ∙ (let z : g c ≡ g c + 0 = omega arith in z) ∙ ap (λ (n : ℕ). g c + n) (sym b),
   )
 
   own_here : (e : Event) → caller_of e ≡ c → Own e
-  own_here e is g = (ap (λ (n : ℕ). plus_at n (won_by e) g c) is ∙ plus_at-here g c (won_by e), ap (λ (n : ℕ). plus_at n (back_by e) g c) is ∙ plus_at-here g c (back_by e))
+  own_here e is g = (
+    ap (λ (n : ℕ). plus_at n (won_by e) g c) is
+        ∙ plus_at-here g c (won_by e),
+    ap (λ (n : ℕ). plus_at n (back_by e) g c) is ∙ plus_at-here g c (back_by e),
+  )
 
   abbrev Far : Event → Type 0
-  Far e = (a : ℕ) → a ≢ c → (g : ℕ → ℕ) → (plus_at (caller_of e) (won_by e) g a ≡ g a) × (plus_at (caller_of e) (back_by e) g a ≡ g a)
+  Far e = (a : ℕ) → a ≢ c → (g : ℕ → ℕ)
+      → (plus_at (caller_of e) (won_by e) g a ≡ g a) × (plus_at (caller_of e) (back_by e) g a ≡ g a)
 
   none_far : (e : Event) → won_by e ≡ 0 → back_by e ≡ 0 → Far e
-  none_far e w b a far g = (ap (λ (n : ℕ). plus_at (caller_of e) n g a) w ∙ plus_at-none g (caller_of e) a, ap (λ (n : ℕ). plus_at (caller_of e) n g a) b ∙ plus_at-none g (caller_of e) a)
+  none_far e w b a far g = (
+    ap (λ (n : ℕ). plus_at (caller_of e) n g a) w
+        ∙ plus_at-none g (caller_of e) a,
+    ap (λ (n : ℕ). plus_at (caller_of e) n g a) b ∙ plus_at-none g (caller_of e) a,
+  )
 
   own_far : (e : Event) → caller_of e ≡ c → Far e
-  own_far e is a far g = (ap (λ (n : ℕ). plus_at n (won_by e) g a) is ∙ plus_at-else g c (won_by e) a far, ap (λ (n : ℕ). plus_at n (back_by e) g a) is ∙ plus_at-else g c (back_by e) a far)
+  own_far e is a far g = (
+    ap (λ (n : ℕ). plus_at n (won_by e) g a) is
+        ∙ plus_at-else g c (won_by e) a far,
+    ap (λ (n : ℕ). plus_at n (back_by e) g a) is ∙ plus_at-else g c (back_by e) a far,
+  )
 
 module _ {R : Type 0} (l : Layout) (c : ℕ) where
   pub own : (st : Step R) → Own c (event_of l c st)

@@ -33,15 +33,19 @@ use Rattle.tag_core.proofs.Moving.{opening_even}
 use Rattle.tag_core.proofs.Picks.{among, among_named}
 
 -- a sum in another order
-perm_sum : (f num pos : ℕ → ℕ) (len m : ℕ) → ((n : ℕ) → n < len → (num n < m) × (pos (num n) ≡ n)) → ((c : ℕ) → c < m → (n : ℕ) × (n < len) × (num n ≡ c)) → sum_below (λ n. f (num n)) len ≡ sum_below f m
+perm_sum : (f num pos : ℕ → ℕ) (len m : ℕ) → ((n : ℕ) → n < len → (num n < m) × (pos (num n) ≡ n))
+    → ((c : ℕ) → c < m → (n : ℕ) × (n < len) × (num n ≡ c)) → sum_below (λ n. f (num n)) len ≡ sum_below f m
 perm_sum f num pos len m one all =
     let F : ℕ → ℕ → ℕ = λ c n. cond (nat_eq (num n) c) (f c) 0 in
     let hit : (c n : ℕ) → num n ≡ c → F c n ≡ f c = (λ c n e. ap (λ (b : Bool). cond b (f c) 0) (eq-eqb (num n) c e)) in
     let miss : (c n : ℕ) → num n ≢ c → F c n ≡ 0 = (λ c n e. ap (λ (b : Bool). cond b (f c) 0) (ne_eqb (num n) c e)) in
-    sum_below-same (λ n. f (num n)) (λ n. sum_below (λ c. F c n) m) len (λ n l. sym (sum_below-only (λ c. F c n) m (num n) (one n l).0 (λ c lc ne. miss c n (λ z. ne (sym z))) ∙ hit (num n) n refl))
+    sum_below-same (λ n. f (num n)) (λ n. sum_below (λ c. F c n) m) len
+    (λ n l. sym (sum_below-only (λ c. F c n) m (num n) (one n l).0 (λ c lc ne. miss c n (λ z. ne (sym z)))
+    ∙ hit (num n) n refl))
     ∙ sum_below-swap F len m
     ∙ sum_below-same (λ c. sum_below (F c) len) f m (λ c lc. let w = all c lc in
-    sum_below-only (F c) len w.0 w.1 (λ n l ne. miss c n (λ z. ne (sym (one n l).1 ∙ ap pos (z ∙ sym w.2) ∙ (one w.0 w.1).1))) ∙ hit c w.0 w.2)
+    sum_below-only (F c) len w.0 w.1
+    (λ n l ne. miss c n (λ z. ne (sym (one n l).1 ∙ ap pos (z ∙ sym w.2) ∙ (one w.0 w.1).1))) ∙ hit c w.0 w.2)
 
 -- numbers that are all different are no more than there are
 few_numbers : (num pos : ℕ → ℕ) (len m : ℕ) → ((n : ℕ) → n < len → (num n < m) × (pos (num n) ≡ n)) → len ≤ m
@@ -49,7 +53,9 @@ few_numbers num pos len m one =
     let F : ℕ → ℕ → ℕ = λ c n. cond (nat_eq (num n) c) 1 0 in
     let hit : (c n : ℕ) → num n ≡ c → F c n ≡ 1 = (λ c n e. ap (λ (b : Bool). cond b 1 0) (eq-eqb (num n) c e)) in
     let miss : (c n : ℕ) → num n ≢ c → F c n ≡ 0 = (λ c n e. ap (λ (b : Bool). cond b 1 0) (ne_eqb (num n) c e)) in
-    let whole = sum_below-same (λ n. 1) (λ n. sum_below (λ c. F c n) m) len (λ n l. sym (sum_below-only (λ c. F c n) m (num n) (one n l).0 (λ c lc ne. miss c n (λ z. ne (sym z))) ∙ hit (num n) n refl)) in
+    let whole = sum_below-same (λ n. 1) (λ n. sum_below (λ c. F c n) m) len
+    (λ n l. sym (sum_below-only (λ c. F c n) m (num n) (one n l).0 (λ c lc ne. miss c n (λ z. ne (sym z)))
+    ∙ hit (num n) n refl)) in
     let turned = sum_below-swap F len m in
     let less = sum_below-le (λ c. sum_below (F c) len) (λ c. 1) m (λ c lc. at_most c) in
     let left = ones len in let right = ones m in omega arith
@@ -60,9 +66,13 @@ few_numbers num pos len m one =
 
     at_most : (c : ℕ) → sum_below (λ n. cond (nat_eq (num n) c) 1 0) len ≤ 1
     at_most c = let p : ℕ = pos c in dite (dec_lt p len)
-        (λ (low : p < len). let only = sum_below-only (λ n. cond (nat_eq (num n) c) 1 0) len p low (λ n l ne. ap (λ (b : Bool). cond b 1 0) (ne_eqb (num n) c (λ z. ne (sym (one n l).1 ∙ ap pos z)))) in
+        (λ (low : p < len). let only = sum_below-only (λ n. cond (nat_eq (num n) c) 1 0) len p low
+        (λ n l ne. ap (λ (b : Bool). cond b 1 0) (ne_eqb (num n) c (λ z. ne (sym (one n l).1 ∙ ap pos z)))) in
         let small = one_at_most (nat_eq (num p) c) in omega arith)
-        (λ (high : ¬ (p < len)). let none_there = sum_below-none (λ n. cond (nat_eq (num n) c) 1 0) len (λ n l. ap (λ (b : Bool). cond b 1 0) (ne_eqb (num n) c (λ z. let q : pos (num n) ≡ n = (one n l).1 in let r : pos (num n) ≡ pos c = ap pos z in absurd (omega arith)))) in omega arith)
+        (λ (high : ¬ (p < len)). let none_there = sum_below-none (λ n. cond (nat_eq (num n) c) 1 0) len
+        (λ n l. ap (λ (b : Bool). cond b 1 0)
+        (ne_eqb (num n) c (λ z. let q : pos (num n) ≡ n = (one n l).1 in
+        let r : pos (num n) ≡ pos c = ap pos z in absurd (omega arith)))) in omega arith)
       where
         one_at_most : (b : Bool) → cond b 1 0 ≤ 1
         one_at_most true = omega arith
@@ -80,25 +90,33 @@ module _ {R : Type 0} where
   nth (x ∷ rs) zero h = (x, refl, refl)
   nth (x ∷ rs) (suc n) h = nth rs n (omega arith)
 
-  at_number : (rs : List (Record R)) (n : ℕ) (r : Record R) → get_elem? rs n ≡ some r → (n < length rs) × (number_at rs n ≡ r.number)
+  at_number : (rs : List (Record R)) (n : ℕ) (r : Record R) → get_elem? rs n ≡ some r
+      → (n < length rs) × (number_at rs n ≡ r.number)
   at_number [] n r e = absurd (some-ne-none r (sym e))
   at_number (x ∷ rs) zero r e = (omega arith, ap (λ (z : Record R). z.number) (some-injective x r e))
   at_number (x ∷ rs) (suc n) r e = let w = at_number rs n r e in let l = w.0 in (omega arith, w.1)
 
-  records_as : (f : ℕ → ℕ) (g : Record R → ℕ) (rs : List (Record R)) → ((n : ℕ) (r : Record R) → get_elem? rs n ≡ some r → g r ≡ f r.number) → total_of g rs ≡ sum_below (λ n. f (number_at rs n)) (length rs)
+  records_as : (f : ℕ → ℕ) (g : Record R → ℕ) (rs : List (Record R))
+      → ((n : ℕ) (r : Record R) → get_elem? rs n ≡ some r → g r ≡ f r.number)
+      → total_of g rs ≡ sum_below (λ n. f (number_at rs n)) (length rs)
   records_as f g [] h = refl
   records_as f g (x ∷ rs) h =
       let F : ℕ → ℕ = λ n. f (number_at (x ∷ rs) n) in let len : ℕ = length rs in
       let ih = records_as f g rs (λ n r e. h (suc n) r e) in let one = h 0 x refl in let s = sum_below-split F 1 len in
-      let same = sum_below-same (λ b. F (1 + b)) (λ n. f (number_at rs n)) len (λ b l. let z : 1 + b ≡ suc b = omega arith in ap F z) in
-      let e : suc len ≡ 1 + len = omega arith in (let total : g x + total_of g rs ≡ sum_below F (1 + len) = omega arith in total ∙ ap (sum_below F) (sym e))
+      let same = sum_below-same (λ b. F (1 + b)) (λ n. f (number_at rs n)) len
+      (λ b l. let z : 1 + b ≡ suc b = omega arith in ap F z) in
+      let e : suc len ≡ 1 + len = omega arith in
+      (let total : g x + total_of g rs ≡ sum_below F (1 + len) = omega arith in total ∙ ap (sum_below F) (sym e))
 
 by_index : (g : ℕ → ℕ) (ms : List ℕ) → total_of g ms ≡ sum_below (λ i. g (get_or ms i 0)) (length ms)
 by_index g [] = refl
 by_index g (m ∷ ms) =
-    let F : ℕ → ℕ = λ i. g (get_or (m ∷ ms) i 0) in let len : ℕ = length ms in let ih = by_index g ms in let s = sum_below-split F 1 len in
-    let same = sum_below-same (λ b. F (1 + b)) (λ i. g (get_or ms i 0)) len (λ b l. let z : 1 + b ≡ suc b = omega arith in ap F z) in
-    let e : suc len ≡ 1 + len = omega arith in (let total : g m + total_of g ms ≡ sum_below F (1 + len) = omega arith in total ∙ ap (sum_below F) (sym e))
+    let F : ℕ → ℕ = λ i. g (get_or (m ∷ ms) i 0) in let len : ℕ = length ms in let ih = by_index g ms in
+    let s = sum_below-split F 1 len in
+    let same = sum_below-same (λ b. F (1 + b)) (λ i. g (get_or ms i 0)) len
+    (λ b l. let z : 1 + b ≡ suc b = omega arith in ap F z) in
+    let e : suc len ≡ 1 + len = omega arith in
+    (let total : g m + total_of g ms ≡ sum_below F (1 + len) = omega arith in total ∙ ap (sum_below F) (sym e))
 
 -- who may hold a tag after a change
 came : (b : Bool) (p q : Place) (d : ℕ) → cond b p q ≡ held d → (q ≡ held d) ⊎ (p ≡ held d)
@@ -123,24 +141,33 @@ same_holder : (c d n : ℕ) → c < n → held c ≡ held d → d < n
 same_holder c d n h e = let z : c ≡ d = cc in omega arith
 
 module _ (k : Shape) where
-  known_after : (e : Event) (q : Place) (t d : ℕ) → caller_of e < k.callers → place_after k.layout e t q ≡ held d → (q ≡ held d) ⊎ (d < k.callers)
+  known_after : (e : Event) (q : Place) (t d : ℕ) → caller_of e < k.callers → place_after k.layout e t q ≡ held d
+      → (q ≡ held d) ⊎ (d < k.callers)
   known_after event.Look q t d h e = inl e
-  known_after (event.Win c i m) q t d h e = ⊎_elim inl (λ (z : held c ≡ held d). inr (same_holder c d k.callers h z)) (came (is_in_mask k.layout i m t) (held c) q d e)
+  known_after (event.Win c i m) q t d h e =
+      ⊎_elim inl (λ (z : held c ≡ held d). inr (same_holder c d k.callers h z)) (came (is_in_mask k.layout i m t) (held c) q d e)
   known_after (event.Put c u) q t d h e = ⊎_elim inl (λ (z : aside ≡ held d). absurd cc) (came (t == u) aside q d e)
-  known_after (event.Give c i m) q t d h e = ⊎_elim inl (λ (z : free ≡ held d). absurd cc) (came (is_in_mask k.layout i m t) free q d e)
-  known_after (event.Sweep c i) q t d h e = ⊎_elim inl (λ z. inl (swept_held c d q z)) (came (word_of k.layout t == i) (swept_by c q) q d e)
-  known_after (event.Spill c i) q t d h e = ⊎_elim inl (λ z. inl (spilled_held c d q z)) (came (word_of k.layout t == i) (spilled_by c q) q d e)
+  known_after (event.Give c i m) q t d h e =
+      ⊎_elim inl (λ (z : free ≡ held d). absurd cc) (came (is_in_mask k.layout i m t) free q d e)
+  known_after (event.Sweep c i) q t d h e =
+      ⊎_elim inl (λ z. inl (swept_held c d q z)) (came (word_of k.layout t == i) (swept_by c q) q d e)
+  known_after (event.Spill c i) q t d h e =
+      ⊎_elim inl (λ z. inl (spilled_held c d q z)) (came (word_of k.layout t == i) (spilled_by c q) q d e)
   known_after (event.Post c u) q t d h e = ⊎_elim inl (λ (z : posted ≡ held d). absurd cc) (came (t == u) posted q d e)
-  known_after (event.Take c u) q t d h e = ⊎_elim inl (λ (z : held c ≡ held d). inr (same_holder c d k.callers h z)) (came (t == u) (held c) q d e)
+  known_after (event.Take c u) q t d h e =
+      ⊎_elim inl (λ (z : held c ≡ held d). inr (same_holder c d k.callers h z)) (came (t == u) (held c) q d e)
 
-  known : (h : List Event) (w : World) → ((t d : ℕ) → w.place t ≡ held d → d < k.callers) → IsHistory k.layout k.callers w h → (t d : ℕ) → (after_history k.layout h w).place t ≡ held d → d < k.callers
+  known : (h : List Event) (w : World) → ((t d : ℕ) → w.place t ≡ held d → d < k.callers)
+      → IsHistory k.layout k.callers w h → (t d : ℕ) → (after_history k.layout h w).place t ≡ held d → d < k.callers
   known [] w start is t d e = start t d e
-  known (x ∷ h) w start is t d e = ⊎_elim (known h w start is.1 t d) (λ z. z) (known_after x ((after_history k.layout h w).place t) t d is.0.caller e)
+  known (x ∷ h) w start is t d e =
+      ⊎_elim (known h w start is.1 t d) (λ z. z) (known_after x ((after_history k.layout h w).place t) t d is.0.caller e)
 
   -- the callers' bits of one place
   holders : (q : Place) → ((d : ℕ) → q ≡ held d → d < k.callers) → sum_below (λ c. held_bit c q) k.callers ≡ one_if (is_held q)
   holders free h = sum_below-none (λ c. 0) k.callers (λ c l. refl)
-  holders (held d) h = sum_below-only (λ c. held_bit c (held d)) k.callers d (h d refl) (λ c l ne. ap one_if (ne_eqb d c (λ z. ne (sym z)))) ∙ ap one_if (eq-eqb d d refl)
+  holders (held d) h = sum_below-only (λ c. held_bit c (held d)) k.callers d (h d refl)
+      (λ c l ne. ap one_if (ne_eqb d c (λ z. ne (sym z)))) ∙ ap one_if (eq-eqb d d refl)
   holders posted h = sum_below-none (λ c. 0) k.callers (λ c l. refl)
   holders aside h = sum_below-none (λ c. 0) k.callers (λ c l. refl)
   holders (sweep c) h = sum_below-none (λ c. 0) k.callers (λ c l. refl)
@@ -152,42 +179,65 @@ module _ (k : Shape) where
   else_among i m t e = ap (λ (b : Bool). cond b (bit_at m (t % 2 ^ k.layout.shift)) 0) (ne_eqb (t / 2 ^ k.layout.shift) i e)
 
   -- the bits of one mask for each word, counted by tags
-  by_tags : (ms : List ℕ) → length ms ≡ words k.layout → ((i : ℕ) → i < words k.layout → IsWithin k.layout i (get_or ms i 0)) → size_of ms ≡ sum_below (tag_bit k.layout ms) k.layout.depth
+  by_tags : (ms : List ℕ) → length ms ≡ words k.layout
+      → ((i : ℕ) → i < words k.layout → IsWithin k.layout i (get_or ms i 0))
+      → size_of ms ≡ sum_below (tag_bit k.layout ms) k.layout.depth
   by_tags ms long fits =
       by_index count_ones ms ∙ ap (sum_below (λ i. count_ones (get_or ms i 0))) long
-      ∙ sum_below-same (λ i. count_ones (get_or ms i 0)) (λ i. sum_below (among k.layout.shift i (get_or ms i 0)) k.layout.depth) (words k.layout)
-      (λ i l. sym (sum_below-same (among k.layout.shift i (get_or ms i 0)) (λ t. one_if (is_in_mask k.layout i (get_or ms i 0) t)) k.layout.depth (λ t lt. among_named k.layout i (get_or ms i 0) t) ∙ sum_below-mask k.layout i (get_or ms i 0) l (fits i l)))
+      ∙ sum_below-same (λ i. count_ones (get_or ms i 0))
+      (λ i. sum_below (among k.layout.shift i (get_or ms i 0)) k.layout.depth) (words k.layout)
+      (λ i l. sym (sum_below-same (among k.layout.shift i (get_or ms i 0))
+      (λ t. one_if (is_in_mask k.layout i (get_or ms i 0) t)) k.layout.depth
+      (λ t lt. among_named k.layout i (get_or ms i 0) t) ∙ sum_below-mask k.layout i (get_or ms i 0) l (fits i l)))
       ∙ sym (sum_below-swap (λ i. among k.layout.shift i (get_or ms i 0)) k.layout.depth (words k.layout))
-      ∙ sum_below-same (λ t. sum_below (λ i. among k.layout.shift i (get_or ms i 0) t) (words k.layout)) (tag_bit k.layout ms) k.layout.depth (λ t l.
-      sum_below-only (λ i. among k.layout.shift i (get_or ms i 0) t) (words k.layout) (word_of k.layout t) (word_of-below k.layout t l) (λ i li ne. else_among i (get_or ms i 0) t (λ z. ne (sym z)))
+      ∙ sum_below-same (λ t. sum_below (λ i. among k.layout.shift i (get_or ms i 0) t) (words k.layout))
+      (tag_bit k.layout ms) k.layout.depth (λ t l.
+      sum_below-only (λ i. among k.layout.shift i (get_or ms i 0) t) (words k.layout) (word_of k.layout t)
+      (word_of-below k.layout t l) (λ i li ne. else_among i (get_or ms i 0) t (λ z. ne (sym z)))
       ∙ here_among (word_of k.layout t) (get_or ms (word_of k.layout t) 0) t refl)
 
   module _ {R : Type 0} (s : State R (View R)) (sh : Shown k s) (id : ℕ) (v : View R) (at : get_elem? s.views id ≡ some v) where
-    each_once : (n : ℕ) → n < length v.records.value → (number_at v.records.value n < k.callers) × (sh.position (number_at v.records.value n) ≡ n)
-    each_once n l = let x = nth v.records.value n l in let o = sh.records id v at n x.0 x.1 in (subst (λ (z : ℕ). z < k.callers) x.2 o.0.number, ap sh.position (sym x.2) ∙ o.2)
+    each_once : (n : ℕ) → n < length v.records.value
+        → (number_at v.records.value n < k.callers) × (sh.position (number_at v.records.value n) ≡ n)
+    each_once n l =
+        let x = nth v.records.value n l in
+        let o = sh.records id v at n x.0 x.1 in (subst (λ (z : ℕ). z < k.callers) x.2 o.0.number, ap sh.position (sym x.2) ∙ o.2)
 
     -- one seat has no more records than there are callers
     pub few_records : length v.records.value ≤ k.callers
     few_records = few_numbers (number_at v.records.value) sh.position (length v.records.value) k.callers each_once
 
-    module _ (has : (c : ℕ) → c < k.callers → (n : ℕ) × (r : Record R) × (get_elem? v.records.value n ≡ some r) × (r.number ≡ c)) where
+    module _ (has : (c : ℕ) → c < k.callers
+        → (n : ℕ) × (r : Record R) × (get_elem? v.records.value n ≡ some r) × (r.number ≡ c)) where
       all_there : (c : ℕ) → c < k.callers → (n : ℕ) × (n < length v.records.value) × (number_at v.records.value n ≡ c)
       all_there c l = let x = has c l in let y = at_number v.records.value x.0 x.1 x.2 in (x.0, y.0, y.1 ∙ x.3)
 
       pub won_all : total_of (λ (r : Record R). r.won) v.records.value ≡ got_in k.callers (world_of k sh.history)
-      won_all = records_as (world_of k sh.history).won (λ (r : Record R). r.won) v.records.value (λ n r e. (sh.records id v at n r e).0.won) ∙ perm_sum (world_of k sh.history).won (number_at v.records.value) sh.position (length v.records.value) k.callers each_once all_there
+      won_all = records_as (world_of k sh.history).won (λ (r : Record R). r.won) v.records.value
+          (λ n r e. (sh.records id v at n r e).0.won)
+          ∙ perm_sum (world_of k sh.history).won (number_at v.records.value) sh.position
+          (length v.records.value) k.callers each_once all_there
 
       pub back_all : total_of (λ (r : Record R). r.back) v.records.value ≡ back_in k.callers (world_of k sh.history)
-      back_all = records_as (world_of k sh.history).back (λ (r : Record R). r.back) v.records.value (λ n r e. (sh.records id v at n r e).0.back) ∙ perm_sum (world_of k sh.history).back (number_at v.records.value) sh.position (length v.records.value) k.callers each_once all_there
+      back_all = records_as (world_of k sh.history).back (λ (r : Record R). r.back) v.records.value
+          (λ n r e. (sh.records id v at n r e).0.back)
+          ∙ perm_sum (world_of k sh.history).back (number_at v.records.value) sh.position
+          (length v.records.value) k.callers each_once all_there
 
       pub held_all : total_of (λ (r : Record R). size_of r.held) v.records.value ≡ held_in k.layout (world_of k sh.history)
       held_all = let w : World = world_of k sh.history in
-          records_as (λ c. sum_below (λ t. held_bit c (w.place t)) k.layout.depth) (λ (r : Record R). size_of r.held) v.records.value (λ n r e. let o = (sh.records id v at n r e).0 in by_tags r.held o.held_wide o.within
-          ∙ sum_below-same (tag_bit k.layout r.held) (λ t. held_bit r.number (w.place t)) k.layout.depth (λ t l. sym (o.held t l)))
-          ∙ perm_sum (λ c. sum_below (λ t. held_bit c (w.place t)) k.layout.depth) (number_at v.records.value) sh.position (length v.records.value) k.callers each_once all_there
+          records_as (λ c. sum_below (λ t. held_bit c (w.place t)) k.layout.depth)
+          (λ (r : Record R). size_of r.held) v.records.value
+          (λ n r e. let o = (sh.records id v at n r e).0 in by_tags r.held o.held_wide o.within
+          ∙ sum_below-same (tag_bit k.layout r.held) (λ t. held_bit r.number (w.place t)) k.layout.depth
+          (λ t l. sym (o.held t l)))
+          ∙ perm_sum (λ c. sum_below (λ t. held_bit c (w.place t)) k.layout.depth) (number_at v.records.value) sh.position
+          (length v.records.value) k.callers each_once all_there
           ∙ sym (sum_below-swap (λ c t. held_bit c (w.place t)) k.layout.depth k.callers)
-          ∙ sum_below-same (λ t. sum_below (λ c. held_bit c (w.place t)) k.callers) (λ t. one_if (is_held (w.place t))) k.layout.depth
-          (λ t l. holders (w.place t) (λ d e. known (events_of k.layout sh.history) (opening_world k) (λ t' d' e'. absurd cc) sh.lawful.happens t d e))
+          ∙ sum_below-same (λ t. sum_below (λ c. held_bit c (w.place t)) k.callers)
+          (λ t. one_if (is_held (w.place t))) k.layout.depth
+          (λ t l. holders (w.place t)
+          (λ d e. known (events_of k.layout sh.history) (opening_world k) (λ t' d' e'. absurd cc) sh.lawful.happens t d e))
 
     zero_or_one : (q : Place) → one_if (nat_eq (posted_bit q) 1) ≡ one_if (is_posted q)
     zero_or_one free = refl
@@ -197,9 +247,13 @@ module _ (k : Shape) where
     zero_or_one (sweep c) = refl
 
     -- the states that are 1
-    pub posted_all : sum_below (λ t. one_if (nat_eq (get_or s.words (state_at t) 0) 1)) k.layout.depth ≡ posted_in k.layout (world_of k sh.history)
-    posted_all = sum_below-same (λ t. one_if (nat_eq (get_or s.words (state_at t) 0) 1)) (λ t. one_if (is_posted ((world_of k sh.history).place t))) k.layout.depth
-        (λ t l. ap (λ (z : ℕ). one_if (nat_eq z 1)) (sh.cells.state t l ∙ sym (sh.tags t l).posted) ∙ zero_or_one ((world_of k sh.history).place t))
+    pub posted_all : sum_below
+        (λ t. one_if (nat_eq (get_or s.words (state_at t) 0) 1)) k.layout.depth ≡ posted_in k.layout (world_of k sh.history)
+    posted_all = sum_below-same (λ t. one_if (nat_eq (get_or s.words (state_at t) 0) 1))
+        (λ t. one_if (is_posted ((world_of k sh.history).place t))) k.layout.depth
+        (λ t l. ap (λ (z : ℕ). one_if (nat_eq z 1)) (sh.cells.state t l ∙ sym (sh.tags t l).posted)
+        ∙ zero_or_one ((world_of k sh.history).place t))
 
     pub even_all : Balances k.layout k.callers (world_of k sh.history)
-    even_all = balances-history k.layout k.callers (events_of k.layout sh.history) (opening_world k) sh.lawful.happens (opening_even k sh.opening)
+    even_all = balances-history k.layout k.callers (events_of k.layout sh.history) (opening_world k) sh.lawful.happens
+        (opening_even k sh.opening)

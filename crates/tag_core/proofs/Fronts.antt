@@ -28,21 +28,26 @@ set_same (x ∷ l) zero a e = ap (λ (z : _). z ∷ l) (sym (some-injective x a 
 set_same (x ∷ l) (suc i) a e = ap (λ (z : List _). x ∷ z) (set_same l i a e)
 
 -- the rule looks at each home alone
-pub same_homes : (R : Type 0) (k : Shape) (s : State R (View R)) (homes' : List (maybe.Option R)) → Shown k s → ((t : ℕ) → t < k.layout.depth → get_elem? homes' t ≡ get_elem? s.homes t)
-    → (id i : ℕ) (v : View R) → get_elem? s.views id ≡ some v → Shown k record { words = set s.words i (get_or s.words i 0); homes = homes'; views = set s.views id v }
-same_homes R k s homes' sh same id i v at = subst (λ (z : List ℕ × List (View R)). Shown k record { words = z.0; homes = homes'; views = z.1 }) (λ j. (sym (set-get_or s.words i 0) j, sym (set_same s.views id v at) j)) (record {
-  opening = sh.opening;
-  history = sh.history;
-  lawful = sh.lawful;
-  cells = sh.cells;
-  tags = sh.tags;
-  slots = λ t l. subst (λ (z : maybe.Option (maybe.Option R)). SlotIs z ((world_of k sh.history).place t)) (sym (same t l)) (sh.slots t l);
-  posts = λ t l e. same t l ∙ sh.posts t l e;
-  seat = sh.seat;
-  position = sh.position;
-  records = sh.records;
-  each = sh.each;
-})
+pub same_homes : (R : Type 0) (k : Shape) (s : State R (View R)) (homes' : List (maybe.Option R)) → Shown k s
+    → ((t : ℕ) → t < k.layout.depth → get_elem? homes' t ≡ get_elem? s.homes t)
+    → (id i : ℕ) (v : View R) → get_elem? s.views id ≡ some v
+    → Shown k record { words = set s.words i (get_or s.words i 0); homes = homes'; views = set s.views id v }
+same_homes R k s homes' sh same id i v at =
+    subst (λ (z : List ℕ × List (View R)). Shown k record { words = z.0; homes = homes'; views = z.1 })
+    (λ j. (sym (set-get_or s.words i 0) j, sym (set_same s.views id v at) j)) (record {
+      opening = sh.opening;
+      history = sh.history;
+      lawful = sh.lawful;
+      cells = sh.cells;
+      tags = sh.tags;
+      slots = λ t l. subst (λ (z : maybe.Option (maybe.Option R)). SlotIs z ((world_of k sh.history).place t))
+          (sym (same t l)) (sh.slots t l);
+      posts = λ t l e. same t l ∙ sh.posts t l e;
+      seat = sh.seat;
+      position = sh.position;
+      records = sh.records;
+      each = sh.each;
+    })
 
 module _ (f : ℕ → ℕ) (u : ℕ) where
   pub but_here : but f u u ≡ 0
@@ -56,7 +61,8 @@ module _ (f : ℕ → ℕ) (u : ℕ) where
       (λ (same : t ≡ u). let none_there : but f u t ≡ 0 = ap (but f u) same ∙ but_here in absurd (omega arith))
       (λ (ne : t ≢ u). (ne, sym (but_else t ne) ∙ e))
 
-module _ (R : Type 0) (n : ℕ) (f : ℕ → ℕ) (u : ℕ) (lu : u < n) (has : f u ≡ 1) (hs : List (maybe.Option R)) (deep : length hs ≡ n) (out : (t : ℕ) → t < n → f t ≡ 1 → get_elem? hs t ≡ some none) where
+module _ (R : Type 0) (n : ℕ) (f : ℕ → ℕ) (u : ℕ) (lu : u < n) (has : f u ≡ 1) (hs : List (maybe.Option R))
+    (deep : length hs ≡ n) (out : (t : ℕ) → t < n → f t ≡ 1 → get_elem? hs t ≡ some none) where
   -- an act that leaves each home as it was
   pub record Front (cs : List (ℕ × R)) : Type 0 where
     pub act : Act R
@@ -73,7 +79,8 @@ module _ (R : Type 0) (n : ℕ) (f : ℕ → ℕ) (u : ℕ) (lu : u < n) (has : 
   fronts cs tags =
       let go = moves R f (but f u) n hs cs (omega arith) tags (λ t l no is. absurd (no (but_one f u t is).1)) in
       let here : but f u u ≢ 1 = (λ (e : but f u u ≡ 1). let z = but_here f u in absurd (omega arith)) in
-      let back = go.returned u lu has here in let hs1 : List (maybe.Option R) = homes_after hs cs go.act in let long : length hs1 ≡ length hs = go.long in record {
+      let back = go.returned u lu has here in let hs1 : List (maybe.Option R) = homes_after hs cs go.act in
+      let long : length hs1 ≡ length hs = go.long in record {
         act = chain go.act (takes u back.0);
         valid = (go.valid, back.2);
         value = back.0;
@@ -83,7 +90,8 @@ module _ (R : Type 0) (n : ℕ) (f : ℕ → ℕ) (u : ℕ) (lu : u < n) (has : 
         tags = go.tags;
         others = λ t l ne is. let w = go.kept t l is (but_else f u t ne ∙ is) in w.2 ∙ sym w.1;
         same = λ t l. dite (ℕ_discrete t u)
-            (λ (e : t ≡ u). ap (get_elem? (set hs1 u none)) e ∙ set_here hs1 u none (omega arith) ∙ sym (out u lu has) ∙ ap (get_elem? hs) (sym e))
+            (λ (e : t ≡ u). ap (get_elem? (set hs1 u none)) e ∙ set_here hs1 u none (omega arith) ∙ sym (out u lu has)
+            ∙ ap (get_elem? hs) (sym e))
             (λ (ne : t ≢ u). set_else hs1 u t none ne ∙ dite (ℕ_discrete (f t) 1)
             (λ (is : f t ≡ 1). go.out t l (but_else f u t ne ∙ is) ∙ sym (out t l is))
             (λ (no : f t ≢ 1). go.same t l no (λ e. no (but_one f u t e).1)));
@@ -97,9 +105,11 @@ module _ (R : Type 0) (n : ℕ) (f : ℕ → ℕ) (u : ℕ) (lu : u < n) (has : 
     pub others : (t : ℕ) → t < n → t ≢ u → f t ≡ 1 → value_of (carried_after cs act) t ≡ value_of slots t
     pub same : (t : ℕ) → t < n → get_elem? (homes_after hs cs act) t ≡ get_elem? hs t
 
-  pub orders : (value : R) (slots : List (ℕ × R)) → map (λ x. x.0) slots ≡ tags_from (but f u) 0 n → Order value slots ((u, value) ∷ slots)
+  pub orders : (value : R) (slots : List (ℕ × R)) → map (λ x. x.0) slots ≡ tags_from (but f u) 0 n
+      → Order value slots ((u, value) ∷ slots)
   orders value slots tags =
-      let hs1 : List (maybe.Option R) = set hs u (some value) in let long : length hs1 ≡ length hs = length-set hs u (some value) in
+      let hs1 : List (maybe.Option R) = set hs u (some value) in
+      let long : length hs1 ≡ length hs = length-set hs u (some value) in
       let home : get_elem? hs1 u ≡ some (some value) = set_here hs u (some value) (omega arith) in
       let go = moves R (but f u) f n hs1 slots (omega arith) tags (λ t l no is. dite (ℕ_discrete t u)
       (λ (e : t ≡ u). (value, ap (get_elem? hs1) e ∙ home))
@@ -109,14 +119,18 @@ module _ (R : Type 0) (n : ℕ) (f : ℕ → ℕ) (u : ℕ) (lu : u < n) (has : 
         act = chain gives go.act;
         valid = (tt, go.valid);
         tags = ap (map (λ x. x.0)) go.list_is ∙ go.tags;
-        now = ap (λ (z : List (ℕ × R)). value_of z u) go.list_is ∙ came.2 ∙ some-injective (some came.0) (some value) (sym came.1 ∙ home);
-        others = λ t l ne is. let w = go.kept t l (but_else f u t ne ∙ is) is in ap (λ (z : List (ℕ × R)). value_of z t) go.list_is ∙ w.2 ∙ sym w.1;
+        now = ap (λ (z : List (ℕ × R)). value_of z u) go.list_is ∙ came.2
+            ∙ some-injective (some came.0) (some value) (sym came.1 ∙ home);
+        others = λ t l ne is. let w = go.kept t l (but_else f u t ne ∙ is) is in
+            ap (λ (z : List (ℕ × R)). value_of z t) go.list_is ∙ w.2 ∙ sym w.1;
         same = λ t l. dite (ℕ_discrete (f t) 1)
             (λ (is : f t ≡ 1). go.out t l is ∙ sym (out t l is))
-            (λ (no : f t ≢ 1). go.same t l (λ e. no (but_one f u t e).1) no ∙ set_else hs u t (some value) (λ (e : t ≡ u). no (ap f e ∙ has)));
+            (λ (no : f t ≢ 1). go.same t l (λ e. no (but_one f u t e).1) no
+            ∙ set_else hs u t (some value) (λ (e : t ≡ u). no (ap f e ∙ has)));
       }
 
-module _ (R : Type 0) (k : Shape) (id : ℕ) (me : Me R (View R)) (r : Record R) (mine : me.0 ≡ alone r) (u : ℕ) (lu : u < k.layout.depth) (has : tag_bit k.layout r.held u ≡ 1) where
+module _ (R : Type 0) (k : Shape) (id : ℕ) (me : Me R (View R)) (r : Record R) (mine : me.0 ≡ alone r) (u : ℕ)
+    (lu : u < k.layout.depth) (has : tag_bit k.layout r.held u ≡ 1) where
   abbrev f : ℕ → ℕ
   f = tag_bit k.layout r.held
 
@@ -130,36 +144,52 @@ module _ (R : Type 0) (k : Shape) (id : ℕ) (me : Me R (View R)) (r : Record R)
     out_there : (t : ℕ) → t < k.layout.depth → tag_bit k.layout r.held t ≡ 1 → get_elem? s.homes t ≡ some none
     out_there t l e = subst (SlotIs (get_elem? s.homes t)) (held_from r.number _ (ok.held t l ∙ e)) (sh.slots t l)
 
-  pub front_allowed : Carries k.layout r.held me.1 → Allows (Shown k) k.layout.depth id me (state_at u) (λ n. n) (fronted (step k.layout.depth (state_at u) 0 0 none) me)
-  front_allowed carries s sh deep at _ = let go = fronts R k.layout.depth (tag_bit k.layout r.held) u lu has s.homes deep (out_there s sh at) me.1 carries in let shape = (ok s sh at).shape in (
-    me.0,
-    go.act,
-    go.valid,
-    same_homes R k s (homes_after s.homes me.1 go.act) sh go.same id (state_at u) me.0 at,
-    λ u' r' eu er lu' has'. subst (λ (x : ℕ × Record R). (value : R) × (slots : List (ℕ × R)) × (me.0 ≡ me.0) × (carried_after me.1 go.act ≡ (x.0, value) ∷ slots) × (value_of me.1 x.0 ≡ some value)
-        × (map (λ y. y.0) slots ≡ tags_from (but (tag_bit x.1.shape.layout x.1.held) x.0) 0 x.1.shape.layout.depth)
-        × ((t : ℕ) → t < x.1.shape.layout.depth → t ≢ x.0 → tag_bit x.1.shape.layout x.1.held t ≡ 1 → value_of slots t ≡ value_of me.1 t)) (λ j. (state_at_one u u' eu j, one_record r r' (sym mine ∙ er) j))
-        (subst (λ (z : Shape). (value : R) × (slots : List (ℕ × R)) × (me.0 ≡ me.0) × (carried_after me.1 go.act ≡ (u, value) ∷ slots) × (value_of me.1 u ≡ some value)
-        × (map (λ y. y.0) slots ≡ tags_from (but (tag_bit z.layout r.held) u) 0 z.layout.depth)
-        × ((t : ℕ) → t < z.layout.depth → t ≢ u → tag_bit z.layout r.held t ≡ 1 → value_of slots t ≡ value_of me.1 t)) (sym shape) (go.value, go.slots, refl, go.list, go.was, go.tags, go.others)),
-  )
+  pub front_allowed : Carries k.layout r.held me.1
+      → Allows (Shown k) k.layout.depth id me (state_at u) (λ n. n) (fronted (step k.layout.depth (state_at u) 0 0 none) me)
+  front_allowed carries s sh deep at _ =
+      let go = fronts R k.layout.depth (tag_bit k.layout r.held) u lu has s.homes deep (out_there s sh at) me.1 carries in
+      let shape = (ok s sh at).shape in (
+        me.0,
+        go.act,
+        go.valid,
+        same_homes R k s (homes_after s.homes me.1 go.act) sh go.same id (state_at u) me.0 at,
+        λ u' r' eu er lu' has'. subst
+            (λ (x : ℕ × Record R). (value : R) × (slots : List (ℕ × R)) × (me.0 ≡ me.0) ×
+            (carried_after me.1 go.act ≡ (x.0, value) ∷ slots) × (value_of me.1 x.0 ≡ some value)
+            × (map (λ y. y.0) slots ≡ tags_from (but (tag_bit x.1.shape.layout x.1.held) x.0) 0 x.1.shape.layout.depth)
+            × ((t : ℕ) → t < x.1.shape.layout.depth → t ≢ x.0 → tag_bit x.1.shape.layout x.1.held t ≡ 1
+            → value_of slots t ≡ value_of me.1 t)) (λ j. (state_at_one u u' eu j, one_record r r' (sym mine ∙ er) j))
+            (subst (λ (z : Shape). (value : R) × (slots : List (ℕ × R)) × (me.0 ≡ me.0) ×
+            (carried_after me.1 go.act ≡ (u, value) ∷ slots) × (value_of me.1 u ≡ some value)
+            × (map (λ y. y.0) slots ≡ tags_from (but (tag_bit z.layout r.held) u) 0 z.layout.depth)
+            × ((t : ℕ) → t < z.layout.depth → t ≢ u → tag_bit z.layout r.held t ≡ 1 → value_of slots t ≡ value_of me.1 t))
+            (sym shape) (go.value, go.slots, refl, go.list, go.was, go.tags, go.others)),
+      )
 
-  pub order_allowed : (value : R) (slots : List (ℕ × R)) → me.1 ≡ (u, value) ∷ slots → map (λ x. x.0) slots ≡ tags_from (but (tag_bit k.layout r.held) u) 0 k.layout.depth
+  pub order_allowed : (value : R) (slots : List (ℕ × R)) → me.1 ≡ (u, value) ∷ slots
+      → map (λ x. x.0) slots ≡ tags_from (but (tag_bit k.layout r.held) u) 0 k.layout.depth
       → Allows (Shown k) k.layout.depth id me (state_at u) (λ n. n) (ordered (step k.layout.depth (state_at u) 0 0 none) me)
   order_allowed value slots list tags s sh deep at _ = let shape = (ok s sh at).shape in
-      let go = subst (Order R k.layout.depth (tag_bit k.layout r.held) u lu has s.homes deep (out_there s sh at) value slots) (sym list) (orders R k.layout.depth (tag_bit k.layout r.held) u lu has s.homes deep (out_there s sh at) value slots tags) in (
+      let go = subst (Order R k.layout.depth (tag_bit k.layout r.held) u lu has s.homes deep
+      (out_there s sh at) value slots) (sym list)
+      (orders R k.layout.depth (tag_bit k.layout r.held) u lu has s.homes deep (out_there s sh at) value slots tags) in (
         me.0,
         go.act,
         go.valid,
         same_homes R k s (homes_after s.homes me.1 go.act) sh go.same id (state_at u) me.0 at,
         λ u' v' xs' r' eu er el et eh. let same_list : (u, value) ∷ slots ≡ (u', v') ∷ xs' = sym list ∙ el in
-            let same_value : value ≡ v' = ap (λ (z : ℕ × R). z.1) (some-injective (u, value) (u', v') (ap (λ (z : List (ℕ × R)). get_elem? z 0) same_list)) in
+            let same_value : value ≡ v' = ap (λ (z : ℕ × R). z.1)
+            (some-injective (u, value) (u', v') (ap (λ (z : List (ℕ × R)). get_elem? z 0) same_list)) in
             let same_slots : slots ≡ xs' = ap rest_of same_list in
-            subst (λ (x : ℕ × Record R × R × List (ℕ × R)). (me.0 ≡ me.0) × Carries x.1.shape.layout x.1.held (carried_after me.1 go.act) × (value_of (carried_after me.1 go.act) x.0 ≡ some x.2)
-            × ((t : ℕ) → t < x.1.shape.layout.depth → t ≢ x.0 → tag_bit x.1.shape.layout x.1.held t ≡ 1 → value_of (carried_after me.1 go.act) t ≡ value_of x.3 t))
+            subst (λ (x : ℕ × Record R × R × List (ℕ × R)). (me.0 ≡ me.0) × Carries x.1.shape.layout x.1.held
+            (carried_after me.1 go.act) × (value_of (carried_after me.1 go.act) x.0 ≡ some x.2)
+            × ((t : ℕ) → t < x.1.shape.layout.depth → t ≢ x.0 → tag_bit x.1.shape.layout x.1.held t ≡ 1
+            → value_of (carried_after me.1 go.act) t ≡ value_of x.3 t))
             (λ j. (state_at_one u u' eu j, one_record r r' (sym mine ∙ er) j, same_value j, same_slots j))
-            (subst (λ (z : Shape). (me.0 ≡ me.0) × Carries z.layout r.held (carried_after me.1 go.act) × (value_of (carried_after me.1 go.act) u ≡ some value)
-            × ((t : ℕ) → t < z.layout.depth → t ≢ u → tag_bit z.layout r.held t ≡ 1 → value_of (carried_after me.1 go.act) t ≡ value_of slots t)) (sym shape) (refl, go.tags, go.now, go.others)),
+            (subst (λ (z : Shape). (me.0 ≡ me.0) × Carries z.layout r.held (carried_after me.1 go.act) ×
+            (value_of (carried_after me.1 go.act) u ≡ some value)
+            × ((t : ℕ) → t < z.layout.depth → t ≢ u → tag_bit z.layout r.held t ≡ 1
+            → value_of (carried_after me.1 go.act) t ≡ value_of slots t)) (sym shape) (refl, go.tags, go.now, go.others)),
       )
     where
       rest_of : List (ℕ × R) → List (ℕ × R)
@@ -167,6 +197,12 @@ module _ (R : Type 0) (k : Shape) (id : ℕ) (me : Me R (View R)) (r : Record R)
       rest_of (x ∷ xs) = xs
 
 -- a load that changes nothing
-pub idle : (R : Type 0) (k : Shape) (s : State R (View R)) → Shown k s → (id i : ℕ) (me : Me R (View R)) → get_elem? s.views id ≡ some me.0
-    → Shown k record { words = set s.words i (get_or s.words i 0); homes = homes_after s.homes me.1 keeps; views = set s.views id me.0 }
+pub idle : (R : Type 0) (k : Shape) (s : State R (View R)) → Shown k s → (id i : ℕ) (me : Me R (View R))
+    → get_elem? s.views id ≡ some me.0
+    → Shown k record {
+      words = set s.words i
+          (get_or s.words i 0);
+      homes = homes_after s.homes me.1 keeps;
+      views = set s.views id me.0;
+    }
 idle R k s sh id i me at = same_homes R k s s.homes sh (λ t l. refl) id i me.0 at

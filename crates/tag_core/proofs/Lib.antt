@@ -6,7 +6,9 @@ pub mod Counts
 pub mod Seats
 pub mod Within
 pub mod Advance
+pub mod TagBits
 pub mod Owing
+pub mod OwingTags
 pub mod Acts
 pub mod Moving
 pub mod Allowed
@@ -17,5 +19,7 @@ pub mod Valued
 pub mod Fronts
 pub mod Ends
 pub mod Countings
+pub mod Meetings
+pub mod Crossing
 pub mod Totalling
 pub mod Lasts

@@ -55,12 +55,16 @@ module _ (R : Type 0) (home : maybe.Option (maybe.Option R)) where
   slot_some (sweep c) n o = o
 
 -- a map that opens is in balance
-pub opening_even : (k : Shape) → IsOpening k → got_in k.callers (opening_world k) ≡ back_in k.callers (opening_world k) + held_in k.layout (opening_world k) + posted_in k.layout (opening_world k)
+pub opening_even : (k : Shape) → IsOpening k
+    → got_in k.callers (opening_world k) ≡ back_in k.callers (opening_world k) + held_in k.layout
+    (opening_world k) + posted_in k.layout (opening_world k)
 opening_even k opens =
     let held = sum_below-none (λ t. 0) k.layout.depth (λ t l. refl) in let even = opens.even in omega arith
 
-module _ (R : Type 0) (k : Shape) (s : State R (View R)) (sh : Shown k s) (r : Record R) (st : Step R) (words' : List ℕ) (owed : Owed R k s sh r st words')
-    (ok : IsKnown k sh.history r) (cs : List (ℕ × R)) (carries : Carries k.layout r.held cs) (deep : length s.homes ≡ k.layout.depth) where
+module _ (R : Type 0) (k : Shape) (s : State R (View R)) (sh : Shown k s) (r : Record R) (st : Step R) (words' : List ℕ)
+    (owed : Owed R k s sh r st words')
+    (ok : IsKnown k sh.history r) (cs : List (ℕ × R)) (carries : Carries k.layout r.held cs)
+    (deep : length s.homes ≡ k.layout.depth) where
   abbrev q : ℕ → Place
   q = (world_of k sh.history).place
 
@@ -106,7 +110,8 @@ module _ (R : Type 0) (k : Shape) (s : State R (View R)) (sh : Shown k s) (r : R
 
   slots_after : (t : ℕ) → t < k.layout.depth → SlotIs (get_elem? (homes_after s.homes cs moved.act) t) (p t)
   slots_after t l = dite (ℕ_discrete (f' t) 1)
-      (λ (aye : f' t ≡ 1). subst (SlotIs (get_elem? (homes_after s.homes cs moved.act) t)) (sym (is_mine t l aye)) (moved.out t l aye))
+      (λ (aye : f' t ≡ 1). subst (SlotIs (get_elem? (homes_after s.homes cs moved.act) t)) (sym (is_mine t l aye))
+      (moved.out t l aye))
       (λ (non' : f' t ≢ 1). dite (ℕ_discrete (f t) 1)
       (λ (aye : f t ≡ 1). let w = moved.returned t l aye non' in slot_some R _ (p t) (λ d e. dite (ℕ_discrete d r.number)
       (λ (same : d ≡ r.number). not_is t l non' (e ∙ ap held same))
@@ -114,32 +119,53 @@ module _ (R : Type 0) (k : Shape) (s : State R (View R)) (sh : Shown k s) (r : R
       (λ (non : f t ≢ 1). subst (λ z. SlotIs z (p t)) (sym (moved.same t l non non')) (⊎_elim
       (λ (w : (d : ℕ) × (p t ≡ held d)). let n : w.0 ≢ r.number = (λ (z : w.0 ≡ r.number). not_is t l non' (w.1 ∙ ap held z)) in
       subst (SlotIs (get_elem? s.homes t)) (others t l w.0 n w.1 ∙ sym w.1) (sh.slots t l))
-      (λ (o : (d : ℕ) → p t ≢ held d). slot_some R _ (p t) o (home_of R _ (q t) (sh.slots t l) (λ d e. dite (ℕ_discrete d r.number)
+      (λ (o : (d : ℕ) → p t ≢ held d). slot_some R _ (p t) o
+      (home_of R _ (q t) (sh.slots t l) (λ d e. dite (ℕ_discrete d r.number)
       (λ (same : d ≡ r.number). not_was t l non (e ∙ ap held same))
       (λ (n : d ≢ r.number). o d (others_back t l d n e)))))
       (holder (p t)))))
 
-  module _ (posting : (t : ℕ) → t < k.layout.depth → p t ≡ posted → ((q t ≡ posted) × (last_post t ((r.number, st) ∷ sh.history) ≡ last_post t sh.history)) ⊎ ((q t ≡ held r.number) × (last_post t ((r.number, st) ∷ sh.history) ≡ value_of cs t))) where
-    posts_after : (t : ℕ) → t < k.layout.depth → p t ≡ posted → get_elem? (homes_after s.homes cs moved.act) t ≡ some (last_post t ((r.number, st) ∷ sh.history))
-    posts_after t l e = let non' : f' t ≢ 1 = (λ (z : f' t ≡ 1). let two : posted ≡ held r.number = sym e ∙ is_mine t l z in cc) in ⊎_elim
+  module _ (posting : (t : ℕ) → t < k.layout.depth → p t ≡ posted
+      → ((q t ≡ posted) × (last_post t ((r.number, st) ∷ sh.history) ≡ last_post t sh.history)) ⊎
+      ((q t ≡ held r.number) × (last_post t ((r.number, st) ∷ sh.history) ≡ value_of cs t))) where
+    posts_after : (t : ℕ) → t < k.layout.depth → p t ≡ posted
+        → get_elem? (homes_after s.homes cs moved.act) t ≡ some (last_post t ((r.number, st) ∷ sh.history))
+    posts_after t l e =
+        let non' : f' t ≢ 1 = (λ (z : f' t ≡ 1). let two : posted ≡ held r.number = sym e ∙ is_mine t l z in cc) in ⊎_elim
         (λ (w : (q t ≡ posted) × (last_post t ((r.number, st) ∷ sh.history) ≡ last_post t sh.history)).
         let non : f t ≢ 1 = (λ (z : f t ≡ 1). let two : posted ≡ held r.number = sym w.0 ∙ was_mine t l z in cc) in
         moved.same t l non non' ∙ sh.posts t l w.0 ∙ ap some (sym w.1))
         (λ (w : (q t ≡ held r.number) × (last_post t ((r.number, st) ∷ sh.history) ≡ value_of cs t)).
-        let aye : f t ≡ 1 = sym (ok.held t l) ∙ held_one r.number (q t) w.0 in let g = moved.returned t l aye non' in g.2 ∙ ap some (sym (w.1 ∙ g.1)))
+        let aye : f t ≡ 1 = sym (ok.held t l) ∙ held_one r.number (q t) w.0 in
+        let g = moved.returned t l aye non' in g.2 ∙ ap some (sym (w.1 ∙ g.1)))
         (posting t l e)
 
-    pub kept : (id : ℕ) → get_elem? s.views id ≡ some (alone r) → Shown k record { words = words'; homes = homes_after s.homes cs moved.act; views = set s.views id (alone (record_after st r)) }
+    pub kept : (id : ℕ) → get_elem? s.views id ≡ some (alone r)
+        → Shown k record {
+          words = words';
+          homes = homes_after s.homes cs moved.act;
+          views = set s.views id
+              (alone (record_after st r));
+        }
     kept id at = advances R k s sh r st words' (homes_after s.homes cs moved.act) owed slots_after posts_after id at
 
     -- with what the caller is told
-    pub told : (me : View R × List (ℕ × R)) → me.1 ≡ cs → Stepped st r me (alone (record_after st r), carried_after me.1 moved.act)
-    told me e = let same : k ≡ r.shape = sym ok.shape in let list : carried_after me.1 moved.act ≡ moved.list = ap (λ (z : List (ℕ × R)). carried_after z moved.act) e ∙ moved.list_is in record {
-      view = refl;
-      carries = subst (λ (z : Shape). Carries z.layout (held_after z.layout st r.held) (carried_after me.1 moved.act)) same (ap (map (λ x. x.0)) list ∙ moved.tags);
-      values = subst (λ (z : Shape). (t : ℕ) → t < z.layout.depth → tag_bit z.layout r.held t ≡ 1 → tag_bit z.layout (held_after z.layout st r.held) t ≡ 1 → value_of (carried_after me.1 moved.act) t ≡ value_of me.1 t) same
-          (λ t l a b. let g = moved.kept t l a b in ap (λ (z : List (ℕ × R)). value_of z t) list ∙ g.2 ∙ sym g.1 ∙ ap (λ (z : List (ℕ × R)). value_of z t) (sym e));
-      few_back = subst (λ (z : Shape). r.back + back_by (event_of z.layout r.number st) ≤ z.callers * MOST_WON) same
-          (let few = back-history k.layout k.callers (events_of k.layout ((r.number, st) ∷ sh.history)) (opening_world k) (owed.needs, sh.lawful.happens) sh.opening.unspent (opening_even k sh.opening) r.number ok.number in
-          let now = (own k.layout r.number st (world_of k sh.history).back).1 in let before = ok.back in omega arith);
-    }
+    pub told : (me : View R × List (ℕ × R)) → me.1 ≡ cs
+        → Stepped st r me (alone (record_after st r), carried_after me.1 moved.act)
+    told me e =
+        let same : k ≡ r.shape = sym ok.shape in
+        let list : carried_after me.1 moved.act ≡ moved.list = ap (λ (z : List (ℕ × R)). carried_after z moved.act) e
+        ∙ moved.list_is in record {
+          view = refl;
+          carries = subst (λ (z : Shape). Carries z.layout (held_after z.layout st r.held)
+              (carried_after me.1 moved.act)) same (ap (map (λ x. x.0)) list ∙ moved.tags);
+          values = subst (λ (z : Shape). (t : ℕ) → t < z.layout.depth → tag_bit z.layout r.held t ≡ 1
+              → tag_bit z.layout (held_after z.layout st r.held) t ≡ 1
+              → value_of (carried_after me.1 moved.act) t ≡ value_of me.1 t) same
+              (λ t l a b. let g = moved.kept t l a b in ap (λ (z : List (ℕ × R)). value_of z t) list ∙ g.2 ∙ sym g.1
+              ∙ ap (λ (z : List (ℕ × R)). value_of z t) (sym e));
+          few_back = subst (λ (z : Shape). r.back + back_by (event_of z.layout r.number st) ≤ z.callers * MOST_WON) same
+              (let few = back-history k.layout k.callers (events_of k.layout ((r.number, st) ∷ sh.history)) (opening_world k)
+              (owed.needs, sh.lawful.happens) sh.opening.unspent (opening_even k sh.opening) r.number ok.number in
+              let now = (own k.layout r.number st (world_of k sh.history).back).1 in let before = ok.back in omega arith);
+        }

@@ -41,7 +41,8 @@ one_in true x h = two x h
 one_in false x h = refl
 
 pub among_named : (l : Layout) (word mask tag : ℕ) → among l.shift word mask tag ≡ one_if (is_in_mask l word mask tag)
-among_named l word mask tag = one_in (nat_eq (tag / 2 ^ l.shift) word) (bit_at mask (tag % 2 ^ l.shift)) (bit_at-lt mask (tag % 2 ^ l.shift))
+among_named l word mask tag =
+    one_in (nat_eq (tag / 2 ^ l.shift) word) (bit_at mask (tag % 2 ^ l.shift)) (bit_at-lt mask (tag % 2 ^ l.shift))
 
 is_one : (b : Bool) → IsTrue b → one_if b ≡ 1
 is_one b h = ap one_if h
@@ -59,8 +60,10 @@ one_among l word mask tag e = one_is (is_in_mask l word mask tag) (sym (among_na
 pub only_one : (t u : ℕ) → IsTrue (t == u) → only t u ≡ 1
 only_one t u h = is_one (nat_eq t u) h
 
-pub pick_among : (l : Layout) (word mask tag : ℕ) (q p : Place) → pick (among l.shift word mask tag) q p ≡ cond (is_in_mask l word mask tag) q p
-pick_among l word mask tag q p = ap (λ (n : ℕ). pick n q p) (among_named l word mask tag) ∙ by_bool (is_in_mask l word mask tag) q p
+pub pick_among : (l : Layout) (word mask tag : ℕ) (q p : Place)
+    → pick (among l.shift word mask tag) q p ≡ cond (is_in_mask l word mask tag) q p
+pick_among l word mask tag q p = ap (λ (n : ℕ). pick n q p) (among_named l word mask tag)
+    ∙ by_bool (is_in_mask l word mask tag) q p
 
 pub pick_only : (t u : ℕ) (q p : Place) → pick (only t u) q p ≡ cond (t == u) q p
 pick_only t u q p = by_bool (nat_eq t u) q p

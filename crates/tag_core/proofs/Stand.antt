@@ -35,7 +35,9 @@ aside_no_state i j e = omega arith
 
 -- there are no more words than tags
 word_below_depth : (l : Layout) (i : ℕ) → i < words l → i < l.depth
-word_below_depth l i h = let start : i * word_bits l < l.depth = word-start l i h in let pos = word_bits-pos l in let more : i * 1 ≤ i * word_bits l = mul-le-mul_left i pos in omega arith
+word_below_depth l i h =
+    let start : i * word_bits l < l.depth = word-start l i h in let pos = word_bits-pos l in
+    let more : i * 1 ≤ i * word_bits l = mul-le-mul_left i pos in omega arith
 
 pub word_in : (l : Layout) (i : ℕ) → i < words l → word_at i < table_width l
 unfolding word_at table_width
@@ -54,11 +56,14 @@ unfolding table_width
 some_width l = omega arith
 
 -- an entry changed among those that `at` spreads over a list
-pub set_spread : (ws : List ℕ) (at g : ℕ → ℕ) (n i x : ℕ) → ((a b : ℕ) → at a ≡ at b → a ≡ b) → at i < length ws → ((j : ℕ) → j < n → get_or ws (at j) 0 ≡ g j)
+pub set_spread : (ws : List ℕ) (at g : ℕ → ℕ) (n i x : ℕ) → ((a b : ℕ) → at a ≡ at b → a ≡ b) → at i < length ws
+    → ((j : ℕ) → j < n → get_or ws (at j) 0 ≡ g j)
     → (j : ℕ) → j < n → get_or (set ws (at i) x) (at j) 0 ≡ changed_at g i x j
 set_spread ws at g n i x one inside same j l = dite (ℕ_discrete j i)
-    (λ e. ap (λ (z : ℕ). get_or (set ws (at i) x) (at z) 0) e ∙ get_or-set_same ws (at i) x 0 inside ∙ ap (λ (b : Bool). cond b x (g j)) (sym (eq-eqb j i e)))
-    (λ ne. get_or-set_other ws (at i) (at j) x 0 (λ e. ne (one j i e)) ∙ same j l ∙ ap (λ (b : Bool). cond b x (g j)) (sym (ne_eqb j i ne)))
+    (λ e. ap (λ (z : ℕ). get_or (set ws (at i) x) (at z) 0) e ∙ get_or-set_same ws (at i) x 0 inside
+    ∙ ap (λ (b : Bool). cond b x (g j)) (sym (eq-eqb j i e)))
+    (λ ne. get_or-set_other ws (at i) (at j) x 0 (λ e. ne (one j i e)) ∙ same j l
+    ∙ ap (λ (b : Bool). cond b x (g j)) (sym (ne_eqb j i ne)))
 
 -- a tag is known by its word and its place there
 pub same_tag : (l : Layout) (t u : ℕ) → word_of l t ≡ word_of l u → place_of l t ≡ place_of l u → t ≡ u

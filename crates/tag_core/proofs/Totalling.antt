@@ -6,7 +6,11 @@ pub total_of-append : {A : Type 0} (f : A → ℕ) (a b : List A) → total_of f
 total_of-append f [] b = omega arith
 total_of-append f (x ∷ a) b = let e = total_of-append f a b in omega arith
 
-pub total_of-next : (f : ℕ → ℕ) (xs : List ℕ) (i : ℕ) → i < length xs → total_of f (take (i + 1) xs) ≡ total_of f (take i xs) + f (get_or xs i 0)
+pub total_of-next : (f : ℕ → ℕ) (xs : List ℕ) (i : ℕ) → i < length xs
+    → total_of f (take (i + 1) xs) ≡ total_of f (take i xs) + f (get_or xs i 0)
 total_of-next f [] i h = absurd (omega arith)
 total_of-next f (x ∷ xs) zero h = omega arith
-total_of-next f (x ∷ xs) (suc i) h = let next : suc i + 1 ≡ suc (i + 1) = omega arith in let e = total_of-next f xs i (omega arith) in ap (λ (z : ℕ). total_of f (take z (x ∷ xs))) next ∙ (let z : f x + total_of f (take (i + 1) xs) ≡ f x + total_of f (take i xs) + f (get_or xs i 0) = omega arith in z)
+total_of-next f (x ∷ xs) (suc i) h =
+    let next : suc i + 1 ≡ suc (i + 1) = omega arith in
+    let e = total_of-next f xs i (omega arith) in ap (λ (z : ℕ). total_of f (take z (x ∷ xs))) next
+    ∙ (let z : f x + total_of f (take (i + 1) xs) ≡ f x + total_of f (take i xs) + f (get_or xs i 0) = omega arith in z)

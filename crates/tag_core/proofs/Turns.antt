@@ -46,11 +46,15 @@ stays c q = record { word = refl; aside = refl; posted = refl; held = refl; swep
 
 -- bit x of a claim's mask, where the place shows w
 pub claims : (c : ℕ) (q : Place) (x : ℕ) → x < 2 →
-    Shows c q (pick (min x (1 - word_bit q)) (held c) q) (max (word_bit q) x) (aside_bit q) (posted_bit q) (max (held_bit c q) (min x (1 - word_bit q))) (sweep_bit c q)
+    Shows c q (pick (min x (1 - word_bit q)) (held c) q) (max (word_bit q) x) (aside_bit q) (posted_bit q)
+    (max (held_bit c q) (min x (1 - word_bit q))) (sweep_bit c q)
 claims c free zero h = stays c free
-claims c free (suc zero) h = record { word = refl; aside = refl; posted = refl; held = same c; swept = refl; others_hold = λ b n. apart c b n; others_sweep = λ b n. refl }
-claims c (held d) zero h = record { word = refl; aside = refl; posted = refl; held = omega arith; swept = refl; others_hold = λ b n. refl; others_sweep = λ b n. refl }
-claims c (held d) (suc zero) h = record { word = refl; aside = refl; posted = refl; held = omega arith; swept = refl; others_hold = λ b n. refl; others_sweep = λ b n. refl }
+claims c free (suc zero) h =
+    record { word = refl; aside = refl; posted = refl; held = same c; swept = refl; others_hold = λ b n. apart c b n; others_sweep = λ b n. refl }
+claims c (held d) zero h =
+    record { word = refl; aside = refl; posted = refl; held = omega arith; swept = refl; others_hold = λ b n. refl; others_sweep = λ b n. refl }
+claims c (held d) (suc zero) h =
+    record { word = refl; aside = refl; posted = refl; held = omega arith; swept = refl; others_hold = λ b n. refl; others_sweep = λ b n. refl }
 claims c posted zero h = stays c posted
 claims c posted (suc zero) h = stays c posted
 claims c aside zero h = stays c aside
@@ -62,14 +66,35 @@ claims c q (suc (suc x)) h = absurd (omega arith)
 -- bit x of a mask of held tags that are given back
 pub gives : (c : ℕ) (q : Place) (x : ℕ) → x < 2 → (x ≡ 1 → q ≡ held c) →
     Shows c q (pick x free q) (min (word_bit q) (1 - x)) (aside_bit q) (posted_bit q) (min (held_bit c q) (1 - x)) (sweep_bit c q)
-gives c q zero h mine = record { word = omega (arith, word_small q); aside = refl; posted = refl; held = omega (arith, held_small c q); swept = refl; others_hold = λ b n. refl; others_sweep = λ b n. refl }
+gives c q zero h mine =
+    record {
+      word = omega (arith, word_small q);
+      aside = refl;
+      posted = refl;
+      held = omega
+          (arith, held_small c q);
+      swept = refl;
+      others_hold = λ b n. refl;
+      others_sweep = λ b n. refl;
+    }
 gives c q (suc zero) h mine = let e = sym (mine refl) in
-    subst (λ (q : Place). Shows c q free (min (word_bit q) 0) (aside_bit q) (posted_bit q) (min (held_bit c q) 0) (sweep_bit c q)) e
-    record { word = refl; aside = refl; posted = refl; held = omega arith; swept = refl; others_hold = λ b n. sym (apart c b n); others_sweep = λ b n. refl }
+    subst (λ (q : Place). Shows c q free (min (word_bit q) 0) (aside_bit q) (posted_bit q) (min (held_bit c q) 0)
+    (sweep_bit c q)) e
+    record {
+      word = refl;
+      aside = refl;
+      posted = refl;
+      held = omega arith;
+      swept = refl;
+      others_hold = λ b n. sym
+          (apart c b n);
+      others_sweep = λ b n. refl;
+    }
 gives c q (suc (suc x)) h mine = absurd (omega arith)
 
 -- the same, by equal numbers
-pub reshow : (c : ℕ) (q p p' : Place) (w w' a a' s s' h h' v v' : ℕ) → Shows c q p w a s h v → p ≡ p' → w ≡ w' → a ≡ a' → s ≡ s' → h ≡ h' → v ≡ v' → Shows c q p' w' a' s' h' v'
+pub reshow : (c : ℕ) (q p p' : Place) (w w' a a' s s' h h' v v' : ℕ) → Shows c q p w a s h v → p ≡ p' → w ≡ w' → a ≡ a'
+    → s ≡ s' → h ≡ h' → v ≡ v' → Shows c q p' w' a' s' h' v'
 reshow c q p p' w w' a a' s s' h h' v v' x ep ew ea es eh ev = record {
   word = ap word_bit (sym ep) ∙ x.word ∙ ew;
   aside = ap aside_bit (sym ep) ∙ x.aside ∙ ea;
@@ -89,7 +114,8 @@ free_from (sweep c) e = absurd (omega arith)
 
 pub held_from : (c : ℕ) (q : Place) → held_bit c q ≡ 1 → q ≡ held c
 held_from c free e = absurd (omega arith)
-held_from c (held d) e = dite (ℕ_discrete d c) (ap held) (λ n. let z : one_if (nat_eq d c) ≡ 0 = ap one_if (ne_eqb d c n) in absurd (omega arith))
+held_from c (held d) e =
+    dite (ℕ_discrete d c) (ap held) (λ n. let z : one_if (nat_eq d c) ≡ 0 = ap one_if (ne_eqb d c n) in absurd (omega arith))
 held_from c posted e = absurd (omega arith)
 held_from c aside e = absurd (omega arith)
 held_from c (sweep d) e = absurd (omega arith)
@@ -115,47 +141,76 @@ sweep_small a posted = omega arith
 sweep_small a aside = omega arith
 sweep_small a (sweep c) = one_small (nat_eq c a)
 
-pub unchanged : (c : ℕ) (q : Place) (w a s h v : ℕ) → word_bit q ≡ w → aside_bit q ≡ a → posted_bit q ≡ s → held_bit c q ≡ h → sweep_bit c q ≡ v → Shows c q q w a s h v
-unchanged c q w a s h v ew ea es eh ev = record { word = ew; aside = ea; posted = es; held = eh; swept = ev; others_hold = λ b n. refl; others_sweep = λ b n. refl }
+pub unchanged : (c : ℕ) (q : Place) (w a s h v : ℕ) → word_bit q ≡ w → aside_bit q ≡ a → posted_bit q ≡ s
+    → held_bit c q ≡ h → sweep_bit c q ≡ v → Shows c q q w a s h v
+unchanged c q w a s h v ew ea es eh ev =
+    record { word = ew; aside = ea; posted = es; held = eh; swept = ev; others_hold = λ b n. refl; others_sweep = λ b n. refl }
 
 -- a held tag is set aside
-pub puts : (c : ℕ) (q : Place) (x : ℕ) → x < 2 → (x ≡ 1 → q ≡ held c) → Shows c q (pick x aside q) (word_bit q) (max (aside_bit q) x) (posted_bit q) (min (held_bit c q) (1 - x)) (sweep_bit c q)
+pub puts : (c : ℕ) (q : Place) (x : ℕ) → x < 2 → (x ≡ 1 → q ≡ held c)
+    → Shows c q (pick x aside q) (word_bit q) (max (aside_bit q) x) (posted_bit q) (min (held_bit c q) (1 - x)) (sweep_bit c q)
 puts c q zero h mine = unchanged c q _ _ _ _ _ refl (omega arith) refl (omega (arith, held_small c q)) refl
 puts c q (suc zero) h mine = let e = sym (mine refl) in
-    subst (λ (q : Place). Shows c q aside (word_bit q) (max (aside_bit q) 1) (posted_bit q) (min (held_bit c q) 0) (sweep_bit c q)) e
-    record { word = refl; aside = refl; posted = refl; held = omega arith; swept = refl; others_hold = λ b n. sym (apart c b n); others_sweep = λ b n. refl }
+    subst (λ (q : Place). Shows c q aside (word_bit q) (max (aside_bit q) 1) (posted_bit q) (min (held_bit c q) 0)
+    (sweep_bit c q)) e
+    record {
+      word = refl;
+      aside = refl;
+      posted = refl;
+      held = omega arith;
+      swept = refl;
+      others_hold = λ b n. sym
+          (apart c b n);
+      others_sweep = λ b n. refl;
+    }
 puts c q (suc (suc x)) h mine = absurd (omega arith)
 
 -- a held tag is posted
-pub posts : (c : ℕ) (q : Place) (x : ℕ) → x < 2 → (x ≡ 1 → q ≡ held c) → Shows c q (pick x posted q) (word_bit q) (aside_bit q) (max (posted_bit q) x) (min (held_bit c q) (1 - x)) (sweep_bit c q)
+pub posts : (c : ℕ) (q : Place) (x : ℕ) → x < 2 → (x ≡ 1 → q ≡ held c)
+    → Shows c q (pick x posted q) (word_bit q) (aside_bit q) (max (posted_bit q) x) (min (held_bit c q) (1 - x)) (sweep_bit c q)
 posts c q zero h mine = unchanged c q _ _ _ _ _ refl refl (omega arith) (omega (arith, held_small c q)) refl
 posts c q (suc zero) h mine = let e = sym (mine refl) in
-    subst (λ (q : Place). Shows c q posted (word_bit q) (aside_bit q) (max (posted_bit q) 1) (min (held_bit c q) 0) (sweep_bit c q)) e
-    record { word = refl; aside = refl; posted = refl; held = omega arith; swept = refl; others_hold = λ b n. sym (apart c b n); others_sweep = λ b n. refl }
+    subst (λ (q : Place). Shows c q posted (word_bit q) (aside_bit q) (max (posted_bit q) 1) (min (held_bit c q) 0)
+    (sweep_bit c q)) e
+    record {
+      word = refl;
+      aside = refl;
+      posted = refl;
+      held = omega arith;
+      swept = refl;
+      others_hold = λ b n. sym
+          (apart c b n);
+      others_sweep = λ b n. refl;
+    }
 posts c q (suc (suc x)) h mine = absurd (omega arith)
 
 -- a posted tag is taken
-pub takes : (c : ℕ) (q : Place) (x : ℕ) → x < 2 → (x ≡ 1 → q ≡ posted) → Shows c q (pick x (held c) q) (word_bit q) (aside_bit q) (min (posted_bit q) (1 - x)) (max (held_bit c q) x) (sweep_bit c q)
+pub takes : (c : ℕ) (q : Place) (x : ℕ) → x < 2 → (x ≡ 1 → q ≡ posted)
+    → Shows c q (pick x (held c) q) (word_bit q) (aside_bit q) (min (posted_bit q) (1 - x)) (max (held_bit c q) x) (sweep_bit c q)
 takes c q zero h its = unchanged c q _ _ _ _ _ refl refl (omega (arith, posted_small q)) (omega arith) refl
 takes c q (suc zero) h its = let e = sym (its refl) in
-    subst (λ (q : Place). Shows c q (held c) (word_bit q) (aside_bit q) (min (posted_bit q) 0) (max (held_bit c q) 1) (sweep_bit c q)) e
+    subst (λ (q : Place). Shows c q (held c) (word_bit q) (aside_bit q) (min (posted_bit q) 0) (max (held_bit c q) 1)
+    (sweep_bit c q)) e
     record { word = refl; aside = refl; posted = refl; held = same c; swept = refl; others_hold = λ b n. apart c b n; others_sweep = λ b n. refl }
 takes c q (suc (suc x)) h its = absurd (omega arith)
 
 -- a word's tags that are aside go into a sweep; x is 1 in the word
 pub gathers : (c : ℕ) (q : Place) (x : ℕ) → x < 2 →
-    Shows c q (pick x (pick (aside_bit q) (sweep c) q) q) (word_bit q) (min (aside_bit q) (1 - x)) (posted_bit q) (held_bit c q) (max (sweep_bit c q) (min x (aside_bit q)))
+    Shows c q (pick x (pick (aside_bit q) (sweep c) q) q) (word_bit q) (min (aside_bit q) (1 - x)) (posted_bit q)
+    (held_bit c q) (max (sweep_bit c q) (min x (aside_bit q)))
 gathers c q zero h = unchanged c q _ _ _ _ _ refl (omega (arith, aside_small q)) refl refl (omega arith)
 gathers c free (suc zero) h = stays c free
 gathers c (held d) (suc zero) h = stays c (held d)
 gathers c posted (suc zero) h = stays c posted
-gathers c aside (suc zero) h = record { word = refl; aside = refl; posted = refl; held = refl; swept = same c; others_hold = λ b n. refl; others_sweep = λ b n. apart c b n }
+gathers c aside (suc zero) h =
+    record { word = refl; aside = refl; posted = refl; held = refl; swept = same c; others_hold = λ b n. refl; others_sweep = λ b n. apart c b n }
 gathers c (sweep d) (suc zero) h = unchanged c (sweep d) _ _ _ _ _ refl refl refl refl (omega arith)
 gathers c q (suc (suc x)) h = absurd (omega arith)
 
 -- the sweep is freed
 pub spills : (c : ℕ) (q : Place) (x : ℕ) → x < 2 →
-    Shows c q (pick x (pick (sweep_bit c q) free q) q) (min (word_bit q) (1 - min x (sweep_bit c q))) (aside_bit q) (posted_bit q) (held_bit c q) (min (sweep_bit c q) (1 - x))
+    Shows c q (pick x (pick (sweep_bit c q) free q) q) (min (word_bit q) (1 - min x (sweep_bit c q))) (aside_bit q)
+    (posted_bit q) (held_bit c q) (min (sweep_bit c q) (1 - x))
 spills c q zero h = unchanged c q _ _ _ _ _ (omega (arith, word_small q)) refl refl refl (omega (arith, sweep_small c q))
 spills c free (suc zero) h = stays c free
 spills c (held d) (suc zero) h = stays c (held d)
@@ -163,10 +218,12 @@ spills c posted (suc zero) h = stays c posted
 spills c aside (suc zero) h = stays c aside
 spills c (sweep d) (suc zero) h = dite (ℕ_discrete d c)
     (λ (e : d ≡ c). let own : one_if (nat_eq d c) ≡ 1 = ap one_if (eq-eqb d c e) in
-    reshow c (sweep d) free _ _ _ _ _ _ _ _ _ _ _ (record { word = refl; aside = refl; posted = refl; held = refl; swept = refl; others_hold = λ b n. refl; others_sweep = λ b n. sym (apart d b (λ z. n (z ∙ e))) })
+    reshow c (sweep d) free _ _ _ _ _ _ _ _ _ _ _
+    (record { word = refl; aside = refl; posted = refl; held = refl; swept = refl; others_hold = λ b n. refl; others_sweep = λ b n. sym (apart d b (λ z. n (z ∙ e))) })
     (ap (λ (z : ℕ). pick z free (sweep d)) (sym own)) (omega arith) refl refl refl (omega arith))
     (λ (n : d ≢ c). let not : one_if (nat_eq d c) ≡ 0 = ap one_if (ne_eqb d c n) in
-    reshow c (sweep d) (sweep d) _ _ _ _ _ _ _ _ _ _ _ (stays c (sweep d)) (ap (λ (z : ℕ). pick z free (sweep d)) (sym not)) (omega arith) refl refl refl (omega arith))
+    reshow c (sweep d) (sweep d) _ _ _ _ _ _ _ _ _ _ _ (stays c (sweep d))
+    (ap (λ (z : ℕ). pick z free (sweep d)) (sym not)) (omega arith) refl refl refl (omega arith))
 spills c q (suc (suc x)) h = absurd (omega arith)
 
 pub posted_from : (q : Place) → posted_bit q ≡ 1 → q ≡ posted

@@ -19,19 +19,27 @@ module _ (l : Layout) where
   abbrev pub AllWithin : List ℕ → Type 0
   AllWithin m = (i : ℕ) → i < words l → IsWithin l i (get_or m i 0)
 
-  set_within : (m : List ℕ) (i x : ℕ) → length m ≡ words l → AllWithin m → (i < words l → x < 2 ^ word_depth l i) → AllWithin (set m i x)
+  set_within : (m : List ℕ) (i x : ℕ) → length m ≡ words l → AllWithin m → (i < words l → x < 2 ^ word_depth l i)
+      → AllWithin (set m i x)
   set_within m i x long fits new j h = dite (ℕ_discrete j i)
       (λ e. subst (λ (z : ℕ). get_or (set m i x) z 0 < 2 ^ word_depth l z) (sym e)
-      (let low : i < words l = subst (λ (z : ℕ). z < words l) e h in subst (λ (z : ℕ). z < 2 ^ word_depth l i) (sym (get_or-set_same m i x 0 (subst (λ (z : ℕ). i < z) (sym long) low))) (new low)))
+      (let low : i < words l = subst (λ (z : ℕ). z < words l) e h in
+      subst (λ (z : ℕ). z < 2 ^ word_depth l i) (sym (get_or-set_same m i x 0 (subst (λ (z : ℕ). i < z) (sym long) low)))
+      (new low)))
       (λ n. subst (λ (z : ℕ). z < 2 ^ word_depth l j) (sym (get_or-set_other m i j x 0 n)) (fits j h))
 
   parted_within : (m : List ℕ) (i x : ℕ) → length m ≡ words l → AllWithin m → AllWithin (set m i (without (get_or m i 0) x))
-  parted_within m i x long fits = set_within m i (without (get_or m i 0) x) long fits (λ h. let a = minus_le (get_or m i 0) x in let b = fits i h in omega arith)
+  parted_within m i x long fits =
+      set_within m i (without (get_or m i 0) x) long fits
+      (λ h. let a = minus_le (get_or m i 0) x in let b = fits i h in omega arith)
 
-  pub held_within : {R : Type 0} (c : ℕ) (st : Step R) → IsInLayout l (event_of l c st) → (m : List ℕ) → length m ≡ words l → AllWithin m → AllWithin (held_after l st m)
+  pub held_within : {R : Type 0} (c : ℕ) (st : Step R) → IsInLayout l (event_of l c st) → (m : List ℕ)
+      → length m ≡ words l → AllWithin m → AllWithin (held_after l st m)
   held_within c (Word (Look i f)) needs m long fits = fits
   held_within c (Word (LookAside i f)) needs m long fits = fits
-  held_within c (Word (Claimed i x f)) needs m long fits = set_within m i (bit_or (get_or m i 0) (without x f)) long fits (λ h. or_lt (word_depth l i) (get_or m i 0) (without x f) (fits i h) needs.1)
+  held_within c (Word (Claimed i x f)) needs m long fits =
+      set_within m i (bit_or (get_or m i 0) (without x f)) long fits
+      (λ h. or_lt (word_depth l i) (get_or m i 0) (without x f) (fits i h) needs.1)
   held_within c (Word (Give i x f)) needs m long fits = parted_within m i x long fits
   held_within c (Word (Put i x f)) needs m long fits = parted_within m i x long fits
   held_within c (Word (Swap i f)) needs m long fits = fits
@@ -39,4 +47,6 @@ module _ (l : Layout) where
   held_within c (Post u y) needs m long fits = parted_within m (word_of l u) (2 ^ place_of l u) long fits
   held_within c (Take u zero y) needs m long fits = fits
   held_within c (Take u (suc f) y) needs m long fits =
-      let i : ℕ = word_of l u in set_within m i (bit_or (get_or m i 0) (2 ^ place_of l u)) long fits (λ h. or_lt (word_depth l i) (get_or m i 0) (2 ^ place_of l u) (fits i h) (tag_mask_within l u needs))
+      let i : ℕ = word_of l u in
+      set_within m i (bit_or (get_or m i 0) (2 ^ place_of l u)) long fits
+      (λ h. or_lt (word_depth l i) (get_or m i 0) (2 ^ place_of l u) (fits i h) (tag_mask_within l u needs))

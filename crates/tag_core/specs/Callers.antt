@@ -41,6 +41,12 @@ slot_of caller tag = value_of caller.seat.me.1 tag
 abbrev pub SameMap : {R : Type 0} → Caller R → Caller R → Type 0
 SameMap old new = new.seat.table_id ≡ old.seat.table_id
 
+-- the caller is as it was: its record, the slots of its tags, and its map
+pub record IsUnchanged {R : Type 0} (old new : Caller R) : Type 0 where
+  pub known : record_of new ≡ record_of old
+  pub slots : (tag : ℕ) → slot_of new tag ≡ slot_of old tag
+  pub same_map : SameMap old new
+
 -- the step joins the caller's own list, and its event changes the caller's record; the slots of tags that it keeps stay
 pub record Adds {R : Type 0} (step : Step R) (old new : Caller R) : Type 0 where
   pub known : record_of new ≡ record_after step (record_of old)

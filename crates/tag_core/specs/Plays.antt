@@ -1,5 +1,5 @@
 -- What each kind of step on the table tells the caller that makes it.
-use Rattle.std.specs.Prelude.{◌≡◌, ◌≢◌, ℕ, ◌+◌, ◌-◌, ◌*◌, ◌^◌, ◌<◌, ◌≤◌, List, ◌∷◌, map, length, slice_index, Some, None}
+use Rattle.std.specs.Prelude.{◌≡◌, ◌≢◌, ℕ, ◌+◌, ◌-◌, ◌*◌, ◌^◌, ◌<◌, ◌≤◌, List, [], ◌∷◌, map, length, slice_index, Some, None}
 use mathlib.Core.Option.{some}
 use Rattle.std.specs.Int.{bit_at}
 use Rattle.atomic_table.specs.Table.{Me}
@@ -16,6 +16,7 @@ use Rattle.tag_core.specs.Spacing.{word_at, aside_at, state_at}
 use Rattle.tag_core.specs.Histories.{event_of}
 use Rattle.tag_core.specs.Records.{record_after, held_after, tag_bit, value_of, tags_from, but, Carries}
 use Rattle.tag_core.specs.Views.{viewing, alone}
+use Rattle.tag_core.specs.Meeting.{ShareHistory, AreApart}
 
 -- the caller of this record made the step: the slots of its tags are with it, and those of tags that it keeps have their values
 pub record Stepped {R : Type 0} (step : Step R) (r : Record R) (me me' : Me R (View R)) : Type 0 where
@@ -108,3 +109,10 @@ module _ {R : Type 0} (st : table.Step R) (me : Me R (View R)) (found : ℕ) (me
   -- a load by a seat that has several callers' records: there are no more than the map has callers
   abbrev pub counted : Type 0
   counted = (me' ≡ me) × ((r : Record R) (rs : List (Record R)) → me.0 ≡ viewing (r ∷ rs) → length (r ∷ rs) ≤ r.shape.callers)
+
+  -- a load by a seat that has two callers' records: they are of two callers, who hold no tag in common, in one history
+  abbrev pub met : Type 0
+  met =
+      (me' ≡ me)
+      × ((first second : Record R) → me.0 ≡ viewing (first ∷ second ∷ [])
+      → (first.number ≢ second.number) × AreApart first.shape first second × ShareHistory first.shape first second)

@@ -9,6 +9,7 @@ mod closed;
 mod gather;
 mod looks;
 mod map;
+mod meets;
 mod opens;
 mod plays;
 mod posts;

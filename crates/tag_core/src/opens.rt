@@ -1,5 +1,5 @@
 //! A new map, and its callers.
-ghost use Rattle.std.specs.Prelude.{◌≡◌, ◌⊎◌, ℕ, ◌+◌, ◌-◌, ◌<◌, ◌≤◌, ◌↔◌, ◌≢◌, List, [], length, IfOk};
+ghost use Rattle.std.specs.Prelude.{◌≡◌, ◌⊎◌, ℕ, ◌+◌, ◌-◌, ◌<◌, ◌≤◌, ◌↔◌, ◌≢◌, List, [], length, All, IfOk};
 ghost use Rattle.tag_model.specs.declared.world.TheConstants.{MAX_CALLERS, MOST_WON};
 ghost use Rattle.tag_core.specs.Records.{fresh_record};
 ghost use Rattle.tag_core.specs.Views.{viewing, fresh, all_fresh};
@@ -69,7 +69,8 @@ fn hand_out<R>(
 ) -> Result<Vec<Caller<R>>, AllocError>
     requires seat { (rest.table_id ≡ map.now.table.shared.table_id) × (rest.me ≡ (all_fresh map.now.shape, [])) }
     requires blank { (map.now.shape.won_before.value.items ≡ []) × (map.now.shape.back_before.value.items ≡ []) }
-    ensures { IfOk result (λ v. AreNew map.now v.items) }
+    ensures new { IfOk result (λ v. AreNew map.now v.items) }
+    ensures own { IfOk result (λ v. All (IsCallerOf map.now) v.items) }
 {
     let mut callers = Vec::new(alloc);
     for number in 0..map.shape.callers {
@@ -90,7 +91,8 @@ fn lay_out<R: Drop>(
     requires limits { (1 ≤ shape.callers) × (shape.callers ≤ MAX_CALLERS) × (shape.life ≤ MOST_WON) }
     requires slots { length slots.items ≡ shape.layout.depth }
     requires blank { (shape.won_before.value.items ≡ []) × (shape.back_before.value.items ≡ []) }
-    ensures { IfOk result (λ p. (p.0.shape ≡ shape) × AreNew p.0 p.1.items) }
+    ensures new { IfOk result (λ p. (p.0.shape ≡ shape) × AreNew p.0 p.1.items) }
+    ensures own { IfOk result (λ p. All (IsCallerOf p.0) p.1.items) }
 {
     let room = Vec::with_capacity(alloc, shape.layout.depth() as usize)?;
     let words = vec![in alloc; 0u64; table_words(shape.layout)]?;
@@ -114,6 +116,7 @@ impl<R: Drop> Map<R> {
     ) -> Result<(Map<R>, Vec<Caller<R>>), OpenFault>
         ensures map { IfOk result (λ p. IsNew layout callers life p.0) }
         ensures callers { IfOk result (λ p. AreNew p.0 p.1.items) }
+        ensures own { IfOk result (λ p. All (IsCallerOf p.0) p.1.items) }
 
         // The causes are looked at in this order, and memory last.
         ensures callers_refused { (result ≡ Err OpenFault.CallerCount) ↔ ((callers ≡ 0) ⊎ (MAX_CALLERS < callers)) }

@@ -10,8 +10,11 @@ use Rattle.tag_core.proofs.gather.count_posted.Goals.{then-word-eq1, else-word-e
 use Rattle.tag_core.proofs.gather.count_posted.Goals as goal
 
 pub word-requires : goal.word-requires
-word-requires g c = let l : c.loop-tag.tag < c.args.layout.depth = search rules in
-    (subst (λ (z : ℕ). z < slots_len c.args.ended.now.words) (sym c.state_spot.ensures) (subst (λ (z : ℕ). state_at c.loop-tag.tag < z) (sym c.requires.1) (state_in c.args.layout c.loop-tag.tag l)), c.requires.0)
+word-requires g c = let l : c.loop-tag.tag < c.args.layout.depth = search rules in (
+  subst (λ (z : ℕ). z < slots_len c.args.ended.now.words) (sym c.state_spot.ensures)
+      (subst (λ (z : ℕ). state_at c.loop-tag.tag < z) (sym c.requires.1) (state_in c.args.layout c.loop-tag.tag l)),
+  c.requires.0,
+)
 
 -- what an entry is, as a clause reads it
 read : (l : List ℕ) (i x : ℕ) → get_elem? l i ≡ some x → get_or l i 0 ≡ x
@@ -23,12 +26,23 @@ abbrev ones : List ℕ → ℕ → ℕ
 ones ws n = sum_below (λ t. one_if (nat_eq (get_or ws (state_at t) 0) 1)) n
 
 pub loop-tag-preserved : goal.loop-tag-preserved
-loop-tag-preserved g c = let ws = slots_items c.args.ended.now.words in let t : ℕ = c.loop-tag.tag in let inv = c.loop-tag.invariant in let next : suc t ≡ t + 1 = omega arith in
-    let is : get_or ws (state_at t) 0 ≡ c.word.result = ap (λ (z : ℕ). get_or ws z 0) (sym c.state_spot.ensures) ∙ read ws c.state_spot.result c.word.result c.word.ensures in
+loop-tag-preserved g c =
+    let ws = slots_items c.args.ended.now.words in let t : ℕ = c.loop-tag.tag in let inv = c.loop-tag.invariant in
+    let next : suc t ≡ t + 1 = omega arith in
+    let is : get_or ws (state_at t) 0 ≡ c.word.result = ap (λ (z : ℕ). get_or ws z 0) (sym c.state_spot.ensures)
+    ∙ read ws c.state_spot.result c.word.result c.word.ensures in
     let more : ones ws (suc t) ≡ ones ws t + one_if (nat_eq (get_or ws (state_at t) 0) 1) = refl in
     elim c.if-word-eq1.branch [
-      | then-word-eq1 w ↦ (let one : one_if (nat_eq (get_or ws (state_at t) 0) 1) ≡ 1 = ap one_if (eq-eqb (get_or ws (state_at t) 0) 1 (is ∙ w.if-word-eq1.true)) in
-          let p = w.posted-is in ((let z : c.if-word-eq1.posted ≡ ones ws (suc t) = omega arith in z ∙ ap (ones ws) next), (let b = inv.1 in omega arith)))
-      | else-word-eq1 w ↦ (let none_here : one_if (nat_eq (get_or ws (state_at t) 0) 1) ≡ 0 = ap one_if (ne_eqb (get_or ws (state_at t) 0) 1 (λ z. w.if-word-eq1.false (sym is ∙ z))) in
-          let p = w.posted-is in ((let z : c.if-word-eq1.posted ≡ ones ws (suc t) = omega arith in z ∙ ap (ones ws) next), (let b = inv.1 in omega arith)))
+      | then-word-eq1 w ↦ (let one : one_if (nat_eq (get_or ws (state_at t) 0) 1) ≡ 1 = ap one_if
+          (eq-eqb (get_or ws (state_at t) 0) 1 (is ∙ w.if-word-eq1.true)) in
+          let p = w.posted-is in (
+            (let z : c.if-word-eq1.posted ≡ ones ws (suc t) = omega arith in z ∙ ap (ones ws) next),
+            (let b = inv.1 in omega arith),
+          ))
+      | else-word-eq1 w ↦ (let none_here : one_if (nat_eq (get_or ws (state_at t) 0) 1) ≡ 0 = ap one_if
+          (ne_eqb (get_or ws (state_at t) 0) 1 (λ z. w.if-word-eq1.false (sym is ∙ z))) in
+          let p = w.posted-is in (
+            (let z : c.if-word-eq1.posted ≡ ones ws (suc t) = omega arith in z ∙ ap (ones ws) next),
+            (let b = inv.1 in omega arith),
+          ))
     ]

@@ -12,14 +12,23 @@ use Rattle.tag_core.proofs.Ends.{won_all, back_all, held_all, posted_all, even_a
 use Rattle.tag_core.proofs.gather.end.Goals as goal
 
 pub count_posted-posted-requires : goal.count_posted-posted-requires
-count_posted-posted-requires g c = let v = c.close_with-ended.ensures.values in let n = c.close_with-ended.ensures.counts in let w = c.args.map.wide in (v.0, n.0 ∙ w.0)
+count_posted-posted-requires g c =
+    let v = c.close_with-ended.ensures.values in let n = c.close_with-ended.ensures.counts in
+    let w = c.args.map.wide in (v.0, n.0 ∙ w.0)
 
 pub returns : goal.returns
-returns g c = let a = c.args.all in let m = c.args.map in let k = m.shape in let ended = c.close_with-ended.result in let R = g.row.R.Denot in
-    let last = subst (λ (z : Shape). Final (Seen (Shown z) a.seat.id a.seat.me.0) (slots_items ended.words) (slots_items ended.slots)) m.told c.close_with-ended.ensures.values.2 in
+returns g c =
+    let a = c.args.all in let m = c.args.map in let k = m.shape in let ended = c.close_with-ended.result in
+    let R = g.row.R.Denot in
+    let last = subst (λ (z : Shape). Final (Seen (Shown z) a.seat.id a.seat.me.0) (slots_items ended.words)
+    (slots_items ended.slots)) m.told c.close_with-ended.ensures.values.2 in
     let s = last.0 in let sh = last.1.0 in let at = last.1.1 in let v = a.seat.me.0 in
-    let got = a.sums.0 ∙ won_all k s sh a.seat.id v at c.requires.all in let back = a.sums.1 ∙ back_all k s sh a.seat.id v at c.requires.all in let held = a.sums.2 ∙ held_all k s sh a.seat.id v at c.requires.all in
-    let posted = c.count_posted-posted.ensures.value ∙ ap (λ (z : List ℕ). sum_below (λ t. one_if (nat_eq (slice_index z (state_at t)) 1)) k.layout.depth) (sym last.2) ∙ posted_all k s sh a.seat.id v at in
+    let got = a.sums.0 ∙ won_all k s sh a.seat.id v at c.requires.all in
+    let back = a.sums.1 ∙ back_all k s sh a.seat.id v at c.requires.all in
+    let held = a.sums.2 ∙ held_all k s sh a.seat.id v at c.requires.all in
+    let posted = c.count_posted-posted.ensures.value
+    ∙ ap (λ (z : List ℕ). sum_below (λ t. one_if (nat_eq (slice_index z (state_at t)) 1)) k.layout.depth) (sym last.2)
+    ∙ posted_all k s sh a.seat.id v at in
     let even = even_all k s sh a.seat.id v at in record {
       history = sh.history;
       lawful = sh.lawful;
@@ -32,5 +41,6 @@ returns g c = let a = c.args.all in let m = c.args.map in let k = m.shape in let
       balance = omega arith;
       slots = c.take_out-slots.ensures.len ∙ c.close_with-ended.ensures.counts.1 ∙ m.wide.1;
       posts = λ t l e. let slot = subst (SlotIs (get_elem? s.homes t)) e (sh.slots t l) in
-          ap (λ (z : List R). get_elem? z t) c.take_out-slots.ensures.items ∙ last.4 t slot.0 slot.1 ∙ some-injective _ _ (sym slot.1 ∙ sh.posts t l e);
+          ap (λ (z : List R). get_elem? z t) c.take_out-slots.ensures.items ∙ last.4 t slot.0 slot.1
+          ∙ some-injective _ _ (sym slot.1 ∙ sh.posts t l e);
     }

@@ -1,4 +1,4 @@
-use Rattle.std.proofs.Common.{◌≡◌, ◌-◌, ℕ, [], length}
+use Rattle.std.proofs.Common.{◌≡◌, ◌-◌, ℕ, [], length, All}
 use mathlib.Core.Option.{some}
 use lib.ListN.{get_elem?}
 use Rattle.tag_core.specs.declared.caller.Caller.{Caller}
@@ -12,5 +12,7 @@ invariant-loop-number g l = record {
   seat : l.rest.table_id ≡ l.map.table.shared.table_id;
   rest : l.rest.me ≡ (viewing (fresh l.map.shape l.number (l.map.shape.callers - l.number)), []);
   count : length l.callers.items ≡ l.number;
-  each : (n : ℕ) (caller : Caller g.row.R.Denot) → get_elem? l.callers.items n ≡ some caller → IsCallerOf l.map caller × (record_of caller ≡ fresh_record l.map.shape n);
+  each : (n : ℕ) (caller : Caller g.row.R.Denot) → get_elem? l.callers.items n ≡ some caller
+      → IsCallerOf l.map caller × (record_of caller ≡ fresh_record l.map.shape n);
+  own : All (IsCallerOf l.map) l.callers.items;
 }

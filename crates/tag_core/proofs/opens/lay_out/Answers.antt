@@ -8,6 +8,9 @@ use Rattle.tag_core.proofs.Passing.{opens, starts, zeros}
 use Rattle.tag_core.proofs.opens.lay_out.Goals as goal
 
 pub new-requires : goal.new-requires
-new-requires g c = let k = c.args.shape in let words : c.as_slice.result.now ≡ replicate (table_width k.layout) 0 = search rules in
+new-requires g c =
+    let k = c.args.shape in let words : c.as_slice.result.now ≡ replicate (table_width k.layout) 0 = search rules in
     subst (λ (ws : List ℕ). Shown k (opening ws c.args.slots.items (all_fresh k))) (sym words)
-    (opens g.row.R.Denot k (replicate (table_width k.layout) 0) c.args.slots.items (starts k c.requires.blank.0 c.requires.blank.1) (length-replicate (table_width k.layout) 0) (zeros (table_width k.layout)) c.requires.slots)
+    (opens g.row.R.Denot k (replicate (table_width k.layout) 0) c.args.slots.items
+    (starts k c.requires.blank.0 c.requires.blank.1) (length-replicate (table_width k.layout) 0)
+    (zeros (table_width k.layout)) c.requires.slots)

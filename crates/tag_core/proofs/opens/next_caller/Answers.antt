@@ -11,26 +11,61 @@ use Rattle.tag_core.proofs.Stand.{some_width}
 use Rattle.tag_core.proofs.opens.next_caller.Goals as goal
 
 pub split_seat-seat-requires : goal.split_seat-seat-requires
-split_seat-seat-requires g c = let m = c.args.map.now in let k = m.shape in let R = g.row.R.Denot in let v = c.args.rest.now.me.0 in let n : ℕ = c.args.number in
-    let is : v ≡ viewing (fresh_record k n ∷ fresh k (n + 1) (k.callers - (n + 1))) = ap (λ x. x.0) c.requires.rest ∙ ap viewing (next_fresh R k n k.callers c.requires.number) in (
+split_seat-seat-requires g c =
+    let m = c.args.map.now in let k = m.shape in let R = g.row.R.Denot in let v = c.args.rest.now.me.0 in
+    let n : ℕ = c.args.number in
+    let is : v ≡ viewing (fresh_record k n ∷ fresh k (n + 1) (k.callers - (n + 1))) = ap (λ x. x.0) c.requires.rest
+    ∙ ap viewing (next_fresh R k n k.callers c.requires.number) in (
       c.requires.seat,
       subst (λ (z : ℕ). 0 < z) (sym m.wide.0) (some_width k.layout),
-      subst (λ (z : Shape). Splits (Shown z) c.args.rest.now.id v (other_views v) (first_view v)) (sym m.told) (hands R k c.args.rest.now.id v (fresh_record k n) (fresh k (n + 1) (k.callers - (n + 1))) is),
+      subst (λ (z : Shape). Splits (Shown z) c.args.rest.now.id v (other_views v) (first_view v)) (sym m.told)
+          (hands R k c.args.rest.now.id v (fresh_record k n) (fresh k (n + 1) (k.callers - (n + 1))) is),
     )
 
 -- a caller that won nothing before
 none_before : {R : Type 0} (k : Shape) (n : ℕ) → k.won_before.value.items ≡ [] → k.back_before.value.items ≡ []
-    → fresh_record {R = R} k n ≡ record { shape = k; number = n; held = replicate (words k.layout) 0; swept = replicate (words k.layout) 0; won = 0; back = 0; steps = [] }
-none_before k n won back j = record { shape = k; number = n; held = replicate (words k.layout) 0; swept = replicate (words k.layout) 0; won = get_or (won j) n 0; back = get_or (back j) n 0; steps = [] }
+    → fresh_record {R = R} k n ≡ record {
+      shape = k;
+      number = n;
+      held = replicate (words k.layout) 0;
+      swept = replicate
+          (words k.layout) 0;
+      won = 0;
+      back = 0;
+      steps = [];
+    }
+none_before k n won back j =
+    record {
+      shape = k;
+      number = n;
+      held = replicate (words k.layout) 0;
+      swept = replicate
+          (words k.layout) 0;
+      won = get_or (won j) n 0;
+      back = get_or (back j) n 0;
+      steps = [];
+    }
 
 pub invariant_of-result : goal.invariant_of-result
 invariant_of-result g c = let k = c.args.map.now.shape in let n : ℕ = c.args.number in let R = g.row.R.Denot in
     let is = ap (λ x. x.0) c.requires.rest ∙ ap viewing (next_fresh R k n k.callers c.requires.number) in
     let blank : c.in_ok-held.held.items ≡ replicate (words k.layout) 0 = search rules in let now = c.split_seat-seat.ensures.4 in
-    let alone_is = ap (λ x. x.0) now ∙ ap first_view is ∙ ap alone (none_before {R = R} k n c.requires.blank.0 c.requires.blank.1) in record {
+    let alone_is = ap (λ x. x.0) now ∙ ap first_view is
+    ∙ ap alone (none_before {R = R} k n c.requires.blank.0 c.requires.blank.1) in record {
       told = search rules;
-      knows = alone_is ∙ (λ j. alone (record { shape = sym c.of.ensures j; number = n; held = sym blank j; swept = replicate (words (sym c.of.ensures j).layout) 0; won = 0; back = 0; steps = sym (ap steps_of alone_is) j }));
-      carries = subst (λ (z : Shape × List ℕ × List (ℕ × R)). Carries z.0.layout z.1 z.2) (λ j. (sym c.of.ensures j, sym blank j, sym (ap (λ x. x.1) now) j)) (carries_none R k (words k.layout));
+      knows = alone_is ∙ (λ j. alone
+          (record {
+            shape = sym c.of.ensures j;
+            number = n;
+            held = sym blank j;
+            swept = replicate
+                (words (sym c.of.ensures j).layout) 0;
+            won = 0;
+            back = 0;
+            steps = sym (ap steps_of alone_is) j;
+          }));
+      carries = subst (λ (z : Shape × List ℕ × List (ℕ × R)). Carries z.0.layout z.1 z.2)
+          (λ j. (sym c.of.ensures j, sym blank j, sym (ap (λ x. x.1) now) j)) (carries_none R k (words k.layout));
       wide = ap length blank ∙ length-replicate (words k.layout) 0 ∙ ap (λ (z : Shape). words z.layout) (sym c.of.ensures);
       unspent = (omega arith, c.args.map.now.few.2);
       few_back = omega arith;
@@ -42,7 +77,17 @@ returns-clause-caller g c = let k = c.args.map.now.shape in let n : ℕ = c.args
     let blank : c.in_ok-held.held.items ≡ replicate (words k.layout) 0 = search rules in
     let alone_is = ap (λ x. x.0) c.split_seat-seat.ensures.4 ∙ ap first_view is in (
       (c.split_seat-seat.ensures.3 ∙ c.requires.seat, c.of.ensures),
-      (λ j. record { shape = c.of.ensures j; number = n; held = blank j; swept = replicate (words (c.of.ensures j).layout) 0; won = 0; back = 0; steps = steps_of (alone_is j) }) ∙ sym (none_before {R = R} k n c.requires.blank.0 c.requires.blank.1),
+      (λ j. record {
+        shape = c.of.ensures j;
+        number = n;
+        held = blank j;
+        swept = replicate
+            (words (c.of.ensures j).layout) 0;
+        won = 0;
+        back = 0;
+        steps = steps_of (alone_is j);
+      })
+          ∙ sym (none_before {R = R} k n c.requires.blank.0 c.requires.blank.1),
     )
 
 pub returns-clause-rest : goal.returns-clause-rest

@@ -13,18 +13,47 @@ use Rattle.tag_core.proofs.Asking.{narrow, in_words, asked, recorded, knows, car
 use Rattle.tag_core.proofs.map.Map.look.Goals as goal
 
 pub load-requires : goal.load-requires
-load-requires g c = let m = c.args.self.now in let w = c.args.caller.now in let k = w.shape.value in let own = c.requires.caller in let R = g.row.R.Denot in let i : ℕ = c.args.word in let inside = in_words m w own i c.requires.within in
-    let a = asked m w own w.seat.id w.seat.me (word_at i) c.word_spot.result (λ n. n) 0 0 looked c.word_spot.ensures (word_in k.layout i inside)
+load-requires g c =
+    let m = c.args.self.now in let w = c.args.caller.now in let k = w.shape.value in let own = c.requires.caller in
+    let R = g.row.R.Denot in let i : ℕ = c.args.word in let inside = in_words m w own i c.requires.within in
+    let a = asked m w own w.seat.id w.seat.me (word_at i) c.word_spot.result (λ n. n) 0 0 looked c.word_spot.ensures
+    (word_in k.layout i inside)
     (look_allowed R k (narrow m w own) w.seat.id w.seat.me (record_of w) w.knows w.carries i inside) in (own.0, a.0, a.1)
 
 pub invariant_of-caller : goal.invariant_of-caller
-invariant_of-caller g c = let m = c.args.self.now in let w = c.args.caller.now in let k = w.shape.value in let own = c.requires.caller in let R = g.row.R.Denot in let i : ℕ = c.args.word in let did = c.load.ensures.2 i (record_of w) c.word_spot.ensures w.knows in
-    record { told = w.told; knows = knows w (Word (Look i c.load.result)) c.load.new.seat.me did.0 w.held.items w.won w.back refl refl (plus_none w.won) (plus_none w.back); carries = carries w (Word (Look i c.load.result)) c.load.new.seat.me did.0 w.held.items w.won w.back refl refl (plus_none w.won) (plus_none w.back); wide = w.wide; unspent = w.unspent; few_back = w.few_back }
+invariant_of-caller g c =
+    let m = c.args.self.now in let w = c.args.caller.now in let k = w.shape.value in let own = c.requires.caller in
+    let R = g.row.R.Denot in let i : ℕ = c.args.word in let did = c.load.ensures.2 i (record_of w) c.word_spot.ensures w.knows in
+    record {
+      told = w.told;
+      knows = knows w
+          (Word (Look i c.load.result)) c.load.new.seat.me did.0 w.held.items w.won w.back refl refl (plus_none w.won)
+          (plus_none w.back);
+      carries =
+          carries w (Word (Look i c.load.result)) c.load.new.seat.me did.0 w.held.items w.won w.back refl refl
+          (plus_none w.won) (plus_none w.back);
+      wide = w.wide;
+      unspent = w.unspent;
+      few_back = w.few_back;
+    }
 
 pub returns-clause-step : goal.returns-clause-step
-returns-clause-step g c = let m = c.args.self.now in let w = c.args.caller.now in let k = w.shape.value in let own = c.requires.caller in let R = g.row.R.Denot in let i : ℕ = c.args.word in let did = c.load.ensures.2 i (record_of w) c.word_spot.ensures w.knows in
-    record { known = recorded w (Word (Look i c.load.result)) c.load.new.seat.me did.0 w.held.items w.won w.back refl refl (plus_none w.won) (plus_none w.back); slots = slots w (Word (Look i c.load.result)) c.load.new.seat.me did.0 w.held.items w.won w.back refl refl (plus_none w.won) (plus_none w.back); same_map = c.load.ensures.0 }
+returns-clause-step g c =
+    let m = c.args.self.now in let w = c.args.caller.now in let k = w.shape.value in let own = c.requires.caller in
+    let R = g.row.R.Denot in let i : ℕ = c.args.word in let did = c.load.ensures.2 i (record_of w) c.word_spot.ensures w.knows in
+    record {
+      known = recorded w (Word (Look i c.load.result)) c.load.new.seat.me did.0 w.held.items w.won w.back refl refl
+          (plus_none w.won) (plus_none w.back);
+      slots =
+          slots w (Word (Look i c.load.result)) c.load.new.seat.me did.0 w.held.items w.won w.back refl refl
+          (plus_none w.won) (plus_none w.back);
+      same_map = c.load.ensures.0;
+    }
 
 pub returns-clause-held : goal.returns-clause-held
-returns-clause-held g c = let m = c.args.self.now in let w = c.args.caller.now in let k = w.shape.value in let own = c.requires.caller in let R = g.row.R.Denot in let i : ℕ = c.args.word in let did = c.load.ensures.2 i (record_of w) c.word_spot.ensures w.knows in λ t has e.
-    subst (λ (z : Shape). bit_at c.load.result (place_of z.layout t) ≡ 1) own.1 (did.1 t has.0 (ap (λ (z : Shape). word_of z.layout t) own.1 ∙ e) has.1)
+returns-clause-held g c =
+    let m = c.args.self.now in let w = c.args.caller.now in let k = w.shape.value in let own = c.requires.caller in
+    let R = g.row.R.Denot in let i : ℕ = c.args.word in
+    let did = c.load.ensures.2 i (record_of w) c.word_spot.ensures w.knows in λ t has e.
+    subst (λ (z : Shape). bit_at c.load.result (place_of z.layout t) ≡ 1) own.1
+    (did.1 t has.0 (ap (λ (z : Shape). word_of z.layout t) own.1 ∙ e) has.1)

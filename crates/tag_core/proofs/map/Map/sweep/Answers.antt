@@ -22,36 +22,77 @@ use Rattle.tag_core.specs.Rule.{Shown}
 use Rattle.tag_core.proofs.map.Map.sweep.Goals as goal
 
 pub swap-mask-requires : goal.swap-mask-requires
-swap-mask-requires g c = let m = c.args.self.now in let w = c.args.caller.now in let k = w.shape.value in let own = c.requires.caller in let R = g.row.R.Denot in let i : ℕ = c.args.word in let inside = in_words m w own i c.requires.within in
-    let a = asked m w own w.seat.id w.seat.me (aside_at i) c.aside_spot.result (λ _. 0) 0 0 swapped c.aside_spot.ensures (aside_in k.layout i inside)
+swap-mask-requires g c =
+    let m = c.args.self.now in let w = c.args.caller.now in let k = w.shape.value in let own = c.requires.caller in
+    let R = g.row.R.Denot in let i : ℕ = c.args.word in let inside = in_words m w own i c.requires.within in
+    let a = asked m w own w.seat.id w.seat.me (aside_at i) c.aside_spot.result (λ _. 0) 0 0 swapped c.aside_spot.ensures
+    (aside_in k.layout i inside)
     (swap_allowed R k (narrow m w own) w.seat.id w.seat.me (record_of w) w.knows w.carries i inside) in (own.0, a.0, a.1)
 
 pub invariant_of-caller : goal.invariant_of-caller
-invariant_of-caller g c = let m = c.args.self.now in let w = c.args.caller.now in let k = w.shape.value in let own = c.requires.caller in let R = g.row.R.Denot in let i : ℕ = c.args.word in let inside = in_words m w own i c.requires.within in let f : ℕ = c.swap-mask.result in
-    let did = c.swap-mask.ensures.2 i (record_of w) c.aside_spot.ensures w.knows in let r1 : Record R = record_after (Word (Swap i f)) (record_of w) in
-    record { told = w.told; knows = knows w (Word (Swap i f)) c.swap-mask.new.seat.me did w.held.items w.won w.back refl (nothing (words k.layout) i f c.if-mask-eq0.true) (plus_none w.won) (plus_none w.back); carries = did.carries; wide = w.wide; unspent = w.unspent; few_back = w.few_back }
+invariant_of-caller g c =
+    let m = c.args.self.now in let w = c.args.caller.now in let k = w.shape.value in let own = c.requires.caller in
+    let R = g.row.R.Denot in let i : ℕ = c.args.word in let inside = in_words m w own i c.requires.within in
+    let f : ℕ = c.swap-mask.result in
+    let did = c.swap-mask.ensures.2 i (record_of w) c.aside_spot.ensures w.knows in
+    let r1 : Record R = record_after (Word (Swap i f)) (record_of w) in
+    record {
+      told = w.told;
+      knows = knows w (Word (Swap i f)) c.swap-mask.new.seat.me did w.held.items w.won w.back refl
+          (nothing (words k.layout) i f c.if-mask-eq0.true) (plus_none w.won) (plus_none w.back);
+      carries =
+          did.carries;
+      wide = w.wide;
+      unspent = w.unspent;
+      few_back = w.few_back;
+    }
 
 pub returns-then-mask-eq0-clause-none : goal.returns-then-mask-eq0-clause-none
-returns-then-mask-eq0-clause-none g c = let m = c.args.self.now in let w = c.args.caller.now in let k = w.shape.value in let own = c.requires.caller in let R = g.row.R.Denot in let i : ℕ = c.args.word in let inside = in_words m w own i c.requires.within in let f : ℕ = c.swap-mask.result in
-    let did = c.swap-mask.ensures.2 i (record_of w) c.aside_spot.ensures w.knows in let r1 : Record R = record_after (Word (Swap i f)) (record_of w) in
+returns-then-mask-eq0-clause-none g c =
+    let m = c.args.self.now in let w = c.args.caller.now in let k = w.shape.value in let own = c.requires.caller in
+    let R = g.row.R.Denot in let i : ℕ = c.args.word in let inside = in_words m w own i c.requires.within in
+    let f : ℕ = c.swap-mask.result in
+    let did = c.swap-mask.ensures.2 i (record_of w) c.aside_spot.ensures w.knows in
+    let r1 : Record R = record_after (Word (Swap i f)) (record_of w) in
     λ t. record {
-      known = recorded w (Word (Swap i f)) c.swap-mask.new.seat.me did w.held.items w.won w.back refl (nothing (words k.layout) i f c.if-mask-eq0.true) (plus_none w.won) (plus_none w.back) ∙ ap (λ (z : ℕ). record_after (Word (Swap i z)) (record_of w)) c.if-mask-eq0.true;
-      slots = slots w (Word (Swap i f)) c.swap-mask.new.seat.me did w.held.items w.won w.back refl (nothing (words k.layout) i f c.if-mask-eq0.true) (plus_none w.won) (plus_none w.back);
+      known = recorded w (Word (Swap i f)) c.swap-mask.new.seat.me did w.held.items w.won w.back refl
+          (nothing (words k.layout) i f c.if-mask-eq0.true) (plus_none w.won) (plus_none w.back)
+          ∙ ap (λ (z : ℕ). record_after (Word (Swap i z)) (record_of w)) c.if-mask-eq0.true;
+      slots = slots w (Word (Swap i f)) c.swap-mask.new.seat.me did w.held.items w.won w.back refl
+          (nothing (words k.layout) i f c.if-mask-eq0.true) (plus_none w.won) (plus_none w.back);
       same_map = c.swap-mask.ensures.0;
     }
 
 pub fetch_and-requires : goal.fetch_and-requires
-fetch_and-requires g c = let m = c.args.self.now in let w = c.args.caller.now in let k = w.shape.value in let own = c.requires.caller in let R = g.row.R.Denot in let i : ℕ = c.args.word in let inside = in_words m w own i c.requires.within in let f : ℕ = c.swap-mask.result in
-    let did = c.swap-mask.ensures.2 i (record_of w) c.aside_spot.ensures w.knows in let r1 : Record R = record_after (Word (Swap i f)) (record_of w) in
+fetch_and-requires g c =
+    let m = c.args.self.now in let w = c.args.caller.now in let k = w.shape.value in let own = c.requires.caller in
+    let R = g.row.R.Denot in let i : ℕ = c.args.word in let inside = in_words m w own i c.requires.within in
+    let f : ℕ = c.swap-mask.result in
+    let did = c.swap-mask.ensures.2 i (record_of w) c.aside_spot.ensures w.knows in
+    let r1 : Record R = record_after (Word (Swap i f)) (record_of w) in
     let mask : get_or r1.swept i 0 ≡ f = mask_of (words k.layout) i f inside in let me = c.swap-mask.new.seat.me in
-    let a = asked m w own c.swap-mask.new.seat.id me (word_at i) c.word_spot.result (λ n. bit_and n (2 ^ 64 - 1 - f)) (2 ^ 64 - 1 - f) 0 spilled c.word_spot.ensures (word_in k.layout i inside)
-    (subst (λ (z : ℕ). Allows (Shown k) k.layout.depth c.swap-mask.new.seat.id me (word_at i) (λ n. bit_and n (2 ^ 64 - 1 - z)) (spilled (step k.layout.depth (word_at i) (2 ^ 64 - 1 - z) 0 none) me)) mask
-    (spill_allowed R k (narrow m w own) c.swap-mask.new.seat.id me r1 did.view did.carries i inside (subst (λ (z : ℕ). z < 2 ^ 64) (sym mask) c.swap-mask.type_inv))) in (c.swap-mask.ensures.0 ∙ own.0, a.0, a.1)
+    let a = asked m w own c.swap-mask.new.seat.id me (word_at i) c.word_spot.result (λ n. bit_and n (2 ^ 64 - 1 - f))
+    (2 ^ 64 - 1 - f) 0 spilled c.word_spot.ensures (word_in k.layout i inside)
+    (subst (λ (z : ℕ). Allows (Shown k) k.layout.depth c.swap-mask.new.seat.id me (word_at i)
+    (λ n. bit_and n (2 ^ 64 - 1 - z)) (spilled (step k.layout.depth (word_at i) (2 ^ 64 - 1 - z) 0 none) me)) mask
+    (spill_allowed R k (narrow m w own) c.swap-mask.new.seat.id me r1 did.view did.carries i inside
+    (subst (λ (z : ℕ). z < 2 ^ 64) (sym mask) c.swap-mask.type_inv))) in (c.swap-mask.ensures.0 ∙ own.0, a.0, a.1)
 
 -- the record after both steps
 both : {R : Type 0} (w : Caller R) (i f n : ℕ) (me' : Me R (View R)) → i < words w.shape.value.layout
-    → (did : me'.0 ≡ alone (record_after (Word (Spill i (get_or (record_after (Word (Swap i f)) (record_of w)).swept i 0) n)) (record_after (Word (Swap i f)) (record_of w))))
-    → record { shape = w.shape.value; number = w.number; held = w.held.items; swept = replicate (words w.shape.value.layout) 0; won = w.won; back = w.back; steps = steps_of me'.0 }
+    → (did : me'.0 ≡ alone
+    (record_after (Word (Spill i (get_or (record_after (Word (Swap i f)) (record_of w)).swept i 0) n))
+    (record_after (Word (Swap i f)) (record_of w))))
+    → record {
+      shape = w.shape.value;
+      number = w.number;
+      held = w.held.items;
+      swept = replicate
+          (words w.shape.value.layout) 0;
+      won = w.won;
+      back = w.back;
+      steps = steps_of me'.0;
+    }
     ≡ record_after (Word (Spill i f n)) (record_after (Word (Swap i f)) (record_of w))
 both w i f n me' inside did j = let mask = mask_of (words w.shape.value.layout) i f inside in record {
   shape = w.shape.value;
@@ -67,11 +108,17 @@ both w i f n me' inside did j = let mask = mask_of (words w.shape.value.layout) 
     twice n = omega arith
 
 pub invariant_of-caller-2 : goal.invariant_of-caller-2
-invariant_of-caller-2 g c = let m = c.args.self.now in let w = c.args.caller.now in let k = w.shape.value in let own = c.requires.caller in let R = g.row.R.Denot in let i : ℕ = c.args.word in let inside = in_words m w own i c.requires.within in let f : ℕ = c.swap-mask.result in
-    let did = c.swap-mask.ensures.2 i (record_of w) c.aside_spot.ensures w.knows in let r1 : Record R = record_after (Word (Swap i f)) (record_of w) in
-    let done = c.fetch_and.ensures.2 i r1 c.word_spot.ensures did.view in let me = c.fetch_and.new.seat.me in let mask = mask_of (words k.layout) i f inside in record {
+invariant_of-caller-2 g c =
+    let m = c.args.self.now in let w = c.args.caller.now in let k = w.shape.value in let own = c.requires.caller in
+    let R = g.row.R.Denot in let i : ℕ = c.args.word in let inside = in_words m w own i c.requires.within in
+    let f : ℕ = c.swap-mask.result in
+    let did = c.swap-mask.ensures.2 i (record_of w) c.aside_spot.ensures w.knows in
+    let r1 : Record R = record_after (Word (Swap i f)) (record_of w) in
+    let done = c.fetch_and.ensures.2 i r1 c.word_spot.ensures did.view in let me = c.fetch_and.new.seat.me in
+    let mask = mask_of (words k.layout) i f inside in record {
       told = w.told;
-      knows = done.view ∙ (λ j. alone (record_after (Word (Spill i (mask j) c.fetch_and.result)) r1)) ∙ ap alone (sym (both w i f c.fetch_and.result me inside done.view));
+      knows = done.view ∙ (λ j. alone (record_after (Word (Spill i (mask j) c.fetch_and.result)) r1))
+          ∙ ap alone (sym (both w i f c.fetch_and.result me inside done.view));
       carries = done.carries;
       wide = w.wide;
       unspent = w.unspent;
@@ -79,8 +126,12 @@ invariant_of-caller-2 g c = let m = c.args.self.now in let w = c.args.caller.now
     }
 
 pub returns-clause-some : goal.returns-clause-some
-returns-clause-some g c = let m = c.args.self.now in let w = c.args.caller.now in let k = w.shape.value in let own = c.requires.caller in let R = g.row.R.Denot in let i : ℕ = c.args.word in let inside = in_words m w own i c.requires.within in let f : ℕ = c.swap-mask.result in
-    let did = c.swap-mask.ensures.2 i (record_of w) c.aside_spot.ensures w.knows in let r1 : Record R = record_after (Word (Swap i f)) (record_of w) in
+returns-clause-some g c =
+    let m = c.args.self.now in let w = c.args.caller.now in let k = w.shape.value in let own = c.requires.caller in
+    let R = g.row.R.Denot in let i : ℕ = c.args.word in let inside = in_words m w own i c.requires.within in
+    let f : ℕ = c.swap-mask.result in
+    let did = c.swap-mask.ensures.2 i (record_of w) c.aside_spot.ensures w.knows in
+    let r1 : Record R = record_after (Word (Swap i f)) (record_of w) in
     let done = c.fetch_and.ensures.2 i r1 c.word_spot.ensures did.view in let me = c.fetch_and.new.seat.me in
     λ _. (
       f,

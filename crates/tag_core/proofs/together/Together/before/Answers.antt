@@ -17,19 +17,34 @@ join_seat-requires g c = let m = c.args.map.now in let v = c.args.self.seat in l
   c.requires.seats.1,
   c.args.all.empty,
   subst (λ (z : ℕ). 0 < z) (sym m.wide.0) (some_width m.shape.layout),
-  subst (λ (z : Shape). Joins (Shown z) v.id v.me.0 w.id w.me.0 (both_views v.me.0 w.me.0) (viewing [])) (sym m.told) (joins g.row.R.Denot m.shape v.id v.me.0 w.id w.me.0),
+  subst (λ (z : Shape). Joins (Shown z) v.id v.me.0 w.id w.me.0 (both_views v.me.0 w.me.0) (viewing [])) (sym m.told)
+      (joins g.row.R.Denot m.shape v.id v.me.0 w.id w.me.0),
 )
 
 pub load-requires : goal.load-requires
-load-requires g c = let m = c.args.map.now in let seat = c.join_seat.new.seat in
-    (c.join_seat.ensures.0 ∙ c.requires.seats.0, subst (λ (z : ℕ). 0 < z) (sym m.wide.0) (some_width m.shape.layout), count_allowed g.row.R.Denot m.table.shared.key m.table.shared.table_id.slots seat.id seat.me)
+load-requires g c = let m = c.args.map.now in let seat = c.join_seat.new.seat in (
+  c.join_seat.ensures.0
+      ∙ c.requires.seats.0,
+  subst (λ (z : ℕ). 0 < z) (sym m.wide.0)
+      (some_width m.shape.layout),
+  count_allowed g.row.R.Denot m.table.shared.key m.table.shared.table_id.slots seat.id seat.me,
+)
 
 pub invariant_of-result : goal.invariant_of-result
-invariant_of-result g c = let R = g.row.R.Denot in let a = c.args.self in let b = c.args.all in let now = c.load.ensures.2.0 ∙ c.join_seat.ensures.2 in
+invariant_of-result g c =
+    let R = g.row.R.Denot in let a = c.args.self in let b = c.args.all in let now = c.load.ensures.2.0 ∙ c.join_seat.ensures.2 in
     let va : List (Record R) = a.seat.me.0.records.value in let vb : List (Record R) = b.seat.me.0.records.value in
-    let view : (f : Record R → ℕ) → total_of f c.load.new.seat.me.0.records.value ≡ total_of f va + total_of f vb = (λ f. ap (λ z. total_of f z.0.records.value) now ∙ total_of-append f va vb) in record {
+    let view : (f : Record R → ℕ)
+    → total_of f c.load.new.seat.me.0.records.value ≡ total_of f va + total_of f vb =
+    (λ f. ap (λ z. total_of f z.0.records.value) now ∙ total_of-append f va vb) in record {
       empty = ap (λ z. z.1) now ∙ a.empty;
-      sums = ((λ j. a.sums.0 j + b.sums.0 j) ∙ sym (view (λ (r : Record R). r.won)), (λ j. a.sums.1 j + b.sums.1 j) ∙ sym (view (λ (r : Record R). r.back)), (λ j. a.sums.2 j + b.sums.2 j) ∙ sym (view (λ (r : Record R). size_of r.held)));
+      sums = (
+        (λ j. a.sums.0 j + b.sums.0 j) ∙ sym (view (λ (r : Record R). r.won)),
+        (λ j. a.sums.1 j + b.sums.1 j)
+            ∙ sym (view (λ (r : Record R). r.back)),
+        (λ j. a.sums.2 j + b.sums.2 j)
+            ∙ sym (view (λ (r : Record R). size_of r.held)),
+      );
     }
 
 pub returns-clause-seat : goal.returns-clause-seat

@@ -12,5 +12,6 @@ pub split_seat-note-requires : goal.split_seat-note-requires
 split_seat-note-requires g c = let m = c.args.map.now in let w = c.args.caller in (
   c.requires.0,
   subst (λ (z : ℕ). 0 < z) (sym m.wide.0) (some_width m.shape.layout),
-  subst (λ (z : Shape). Splits (Shown z) w.seat.id w.seat.me.0 (other_views w.seat.me.0) (first_view w.seat.me.0)) (sym m.told) (hands g.row.R.Denot m.shape w.seat.id w.seat.me.0 (record_of w) [] w.knows),
+  subst (λ (z : Shape). Splits (Shown z) w.seat.id w.seat.me.0 (other_views w.seat.me.0) (first_view w.seat.me.0))
+      (sym m.told) (hands g.row.R.Denot m.shape w.seat.id w.seat.me.0 (record_of w) [] w.knows),
 )

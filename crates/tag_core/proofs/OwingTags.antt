@@ -1,0 +1,184 @@
+-- What steps on one tag and sweeps owe.
+use Rattle.std.proofs.Common.{◌≡◌, Some, ℕ, suc, ◌-◌, ◌/◌, ◌%◌, ◌^◌, ◌<◌, ◌≤◌, length, get_or, set, Bool, cond, nat_eq, bit_or, min, max, arith, refl, sym, ap, ◌∙◌, subst, eq-eqb, ne_eqb}
+use mathlib.Core.Option.{some}
+use mathlib.Core.Logic.{dite}
+use native.Mathlib.Decide.{ℕ_discrete}
+use Rattle.std.specs.Int.{bit_at}
+use Rattle.std.proofs.lemmas.Nat.{pow_pos, or_lt}
+use Rattle.atomic_table.specs.Table.{State}
+use Rattle.tag_layout.specs.Layout.{words, word_depth, word_of, place_of}
+use Rattle.tag_layout.proofs.PlaceFacts.{word_of-below}
+use Rattle.tag_model.specs.declared.place.Place.{Place}
+use Rattle.tag_model.specs.declared.place.Place.TheVariants.{Held as held, Posted as posted, Aside as aside}
+use Rattle.tag_model.specs.World.{World}
+use Rattle.tag_core.specs.declared.shape.Shape.{Shape}
+use Rattle.tag_core.specs.declared.step.Step.TheVariants.{Word, Post, Take}
+use Rattle.tag_core.specs.declared.word_step.WordStep.TheVariants.{Put, Swap, Spill}
+use Rattle.tag_core.specs.declared.record.Record.{Record}
+use Rattle.tag_core.specs.declared.record.View.{View}
+use Rattle.tag_core.specs.Steps.{without}
+use Rattle.tag_core.specs.Spacing.{word_at, aside_at, state_at}
+use Rattle.tag_core.specs.Bits.{one_if, aside_bit, posted_bit, held_bit, sweep_bit}
+use Rattle.tag_core.specs.Histories.{Cells, cells_of, world_of, last_post}
+use Rattle.tag_core.specs.Records.{tag_bit}
+use Rattle.tag_core.specs.Rule.{IsKnown, Shown}
+use Rattle.tag_core.proofs.Picks.{only, only_one, pick_only, pick_swept, pick_spilled}
+use Rattle.tag_core.proofs.Turns.{puts, posts, takes, gathers, spills, posted_small, posted_from, aside_small, sweep_small, reshow, held_from}
+use Rattle.tag_core.proofs.Masks.{minus_le}
+use Rattle.tag_core.proofs.Stand.{tag_mask_within}
+use Rattle.tag_core.proofs.Advance.{Owed}
+use Rattle.tag_core.proofs.TagBits.{or_bit, minus_bit, list_bit, only_among, tag_mask, only_small, only_is, in_small, among_as, none_left, tag_named}
+use Rattle.tag_core.proofs.Owing.{word_cells, aside_cells, state_cells, none_more, held_or, held_minus}
+
+module _ (R : Type 0) (k : Shape) (narrow : k.layout.shift ≤ 6) (s : State R (View R)) (sh : Shown k s) (r : Record R)
+    (ok : IsKnown k sh.history r) where
+  abbrev W : Cells
+  W = cells_of sh.history
+
+  abbrev G : World
+  G = world_of k sh.history
+
+  -- ---- steps on one tag
+
+  held_tag : (u t : ℕ) → tag_bit k.layout r.held u ≡ 1 → u < k.layout.depth → only t u ≡ 1 → G.place t ≡ held r.number
+  held_tag u t has l a =
+      subst (λ (z : ℕ). G.place z ≡ held r.number) (sym (only_is k narrow t u a))
+      (held_from r.number (G.place u) (ok.held u l ∙ has))
+
+  held_without : (u t : ℕ) → u < k.layout.depth → t < k.layout.depth
+      → min (held_bit r.number (G.place t)) (1 - only t u) ≡ tag_bit k.layout
+      (set r.held (u / 2 ^ k.layout.shift) (without (get_or r.held (u / 2 ^ k.layout.shift) 0) (2 ^ (u % 2 ^ k.layout.shift)))) t
+  held_without u t lu l = ap (λ (z : ℕ). min (held_bit r.number (G.place t)) (1 - z)) (only_among k narrow u t)
+      ∙ held_minus R k narrow s sh r ok (u / 2 ^ k.layout.shift) (2 ^ (u % 2 ^ k.layout.shift)) t
+      (word_of-below k.layout u lu) l (tag_mask k narrow u)
+
+  held_with : (u t : ℕ) → u < k.layout.depth → t < k.layout.depth
+      → max (held_bit r.number (G.place t)) (only t u) ≡ tag_bit k.layout
+      (set r.held (u / 2 ^ k.layout.shift) (bit_or (get_or r.held (u / 2 ^ k.layout.shift) 0) (2 ^ (u % 2 ^ k.layout.shift)))) t
+  held_with u t lu l = ap (max (held_bit r.number (G.place t))) (only_among k narrow u t)
+      ∙ held_or R k narrow s sh r ok (u / 2 ^ k.layout.shift) (2 ^ (u % 2 ^ k.layout.shift)) t (word_of-below k.layout u lu) l
+
+  pub put_owed : (u : ℕ) → u < k.layout.depth → tag_bit k.layout r.held u ≡ 1
+      → Owed R k s sh r (Word
+      (Put (word_of k.layout u) (2 ^ place_of k.layout u) (get_or s.words (aside_at (u / 2 ^ k.layout.shift)) 0)))
+      (set s.words (aside_at (u / 2 ^ k.layout.shift))
+      (bit_or (get_or s.words (aside_at (u / 2 ^ k.layout.shift)) 0) (2 ^ (u % 2 ^ k.layout.shift))))
+  put_owed u lu has =
+      let i : ℕ = u / 2 ^ k.layout.shift in let m : ℕ = 2 ^ (u % 2 ^ k.layout.shift) in
+      let n : ℕ = get_or s.words (aside_at i) 0 in let inside : i < words k.layout = word_of-below k.layout u lu in
+      let found : n ≡ W.words.aside i = sh.cells.aside i inside in let x : ℕ = bit_or (W.words.aside i) m in
+      let same : bit_or n m ≡ x = ap (λ (z : ℕ). bit_or z m) found in
+      record {
+        finds = found;
+        value = tt;
+        needs = record {
+          in_layout = subst (λ (z : ℕ). z < k.layout.depth) (sym (tag_named k narrow u)) lu;
+          caller = ok.number;
+          unspent = none_more R k narrow s sh r ok r.number;
+          places = λ t l is. held_tag u t has lu (only_one t u (sym (ap (λ (z : ℕ). nat_eq t z) (tag_named k narrow u)) ∙ is));
+        };
+        cells = aside_cells R k narrow s sh r ok i (bit_or n m) x inside same
+            (or_lt (word_depth k.layout i) (W.words.aside i) m (sh.cells.aside_within i inside) (tag_mask_within k.layout u lu));
+        tags = λ t l. let tag = sh.tags t l in
+            let q : Place = G.place t in
+            reshow r.number q _ _ _ _ _ _ _ _ _ _ _ _
+            (puts r.number q (only t u) (only_small k narrow t u) (held_tag u t has lu))
+            (pick_only t u aside q ∙ ap (λ (z : ℕ). cond (nat_eq t z) aside q) (sym (tag_named k narrow u))) tag.word
+            ((λ z. max (tag.aside z) (only_among k narrow u t z)) ∙ or_bit k narrow W.words.aside i m t) tag.posted
+            (held_without u t lu l) (ok.swept t l);
+      }
+
+  pub post_owed : (u : ℕ) (y : R) → u < k.layout.depth → tag_bit k.layout r.held u ≡ 1
+      → Owed R k s sh r (Post u y) (set s.words (state_at u) 1)
+  post_owed u y lu has = record {
+    finds = tt;
+    value = tt;
+    needs = record { in_layout = lu; caller = ok.number; unspent = none_more R k narrow s sh r ok r.number; places = λ t l is. held_tag u t has lu (only_one t u is) };
+    cells = state_cells R k narrow s sh r ok u 1 lu;
+    tags = λ t l. let tag = sh.tags t l in
+        let q : Place = G.place t in
+        reshow r.number q _ _ _ _ _ _ _ _ _ _ _ _
+        (posts r.number q (only t u) (only_small k narrow t u) (held_tag u t has lu)) (pick_only t u posted q) tag.word tag.aside
+        (dite (ℕ_discrete t u) (λ e. let one : only t u ≡ 1 = ap one_if (eq-eqb t u e) in let small = posted_small q in
+        (let z : max (posted_bit q) (only t u) ≡ 1 = omega arith in z
+        ∙ ap (λ (b : Bool). cond b 1 (W.state t)) (sym (eq-eqb t u e))))
+        (λ n. let none_here : only t u ≡ 0 = ap one_if (ne_eqb t u n) in
+        (let z : max (posted_bit q) (only t u) ≡ posted_bit q = omega arith in z ∙ tag.posted
+        ∙ ap (λ (b : Bool). cond b 1 (W.state t)) (sym (ne_eqb t u n)))))
+        (held_without u t lu l) (ok.swept t l);
+  }
+
+  -- a compare-exchange of 1 by 0 that found the state 1
+  pub take_owed : (u f : ℕ) (y : R) → u < k.layout.depth → get_or s.words (state_at u) 0 ≡ suc f → f ≡ 0
+      → last_post u sh.history ≡ some y → Owed R k s sh r (Take u (suc f) (Some y)) (set s.words (state_at u) 0)
+  take_owed u f y lu is one last = let shown : W.state u ≡ suc f = sym (sh.cells.state u lu) ∙ is in
+      let its : G.place u ≡ posted = posted_from (G.place u) ((sh.tags u lu).posted ∙ shown ∙ ap suc one) in record {
+        finds = sym shown;
+        value = (y, refl, last);
+        needs = record { in_layout = lu; caller = ok.number; unspent = none_more R k narrow s sh r ok r.number; places = λ t l is. subst (λ (z : ℕ). G.place z ≡ posted) (sym (only_is k narrow t u (only_one t u is))) its };
+        cells = state_cells R k narrow s sh r ok u 0 lu;
+        tags = λ t l. let tag = sh.tags t l in let q : Place = G.place t in reshow r.number q _ _ _ _ _ _ _ _ _ _ _ _
+            (takes r.number q (only t u) (only_small k narrow t u)
+            (λ a. subst (λ (z : ℕ). G.place z ≡ posted) (sym (only_is k narrow t u a)) its))
+            (pick_only t u (held r.number) q) tag.word tag.aside
+            (dite (ℕ_discrete t u) (λ e. let one' : only t u ≡ 1 = ap one_if (eq-eqb t u e) in let small = posted_small q in
+            (let z : min (posted_bit q) (1 - only t u) ≡ 0 = omega arith in z
+            ∙ ap (λ (b : Bool). cond b 0 (W.state t)) (sym (eq-eqb t u e))))
+            (λ n. let none_here : only t u ≡ 0 = ap one_if (ne_eqb t u n) in
+            let small = posted_small q in
+            (let z : min (posted_bit q) (1 - only t u) ≡ posted_bit q = omega arith in z ∙ tag.posted
+            ∙ ap (λ (b : Bool). cond b 0 (W.state t)) (sym (ne_eqb t u n)))))
+            (held_with u t lu l) (ok.swept t l);
+      }
+
+  -- ---- a sweep: swap, then spill
+
+  swept_long : (i : ℕ) → i < words k.layout → i < length r.swept
+  swept_long i h = subst (λ (z : ℕ). i < z) (sym ok.swept_wide) h
+
+  pub swap_owed : (i : ℕ) → i < words k.layout
+      → Owed R k s sh r (Word (Swap i (get_or s.words (aside_at i) 0))) (set s.words (aside_at i) 0)
+  swap_owed i inside =
+      let f : ℕ = get_or s.words (aside_at i) 0 in let found : f ≡ W.words.aside i = sh.cells.aside i inside in record {
+        finds = found;
+        value = tt;
+        needs = record { in_layout = inside; caller = ok.number; unspent = none_more R k narrow s sh r ok r.number; places = λ t l is. tt };
+        cells = aside_cells R k narrow s sh r ok i 0 0 inside refl (pow_pos (word_depth k.layout i));
+        tags = λ t l. let tag = sh.tags t l in let q : Place = G.place t in
+            let b : ℕ = t % 2 ^ k.layout.shift in
+            reshow r.number q _ _ _ _ _ _ _ _ _ _ _ _
+            (gathers r.number q (only (t / 2 ^ k.layout.shift) i) (in_small k narrow t i))
+            (pick_swept (t / 2 ^ k.layout.shift) i r.number q) tag.word
+            (none_left k narrow W.words.aside i t (aside_bit q) (aside_small q) tag.aside) tag.posted (ok.held t l)
+            ((λ z. max (ok.swept t l z)
+            (among_as k narrow i f t (aside_bit q) (aside_small q)
+            (λ e. (λ z. bit_at (found z) b) ∙ ap (λ (j : ℕ). bit_at (W.words.aside j) b) (sym e) ∙ sym tag.aside) z))
+            ∙ or_bit k narrow (λ j. get_or r.swept j 0) i f t ∙ list_bit k narrow r.swept i _ t (swept_long i inside));
+      }
+
+  module _ (i : ℕ) (inside : i < words k.layout) (fits : get_or r.swept i 0 < 2 ^ 64) where
+    abbrev mask : ℕ
+    mask = get_or r.swept i 0
+
+    pub spill_owed : Owed R k s sh r (Word (Spill i mask (get_or s.words (word_at i) 0)))
+        (set s.words (word_at i) (without (get_or s.words (word_at i) 0) mask))
+    spill_owed = let n : ℕ = get_or s.words (word_at i) 0 in let found : n ≡ W.words.word i = sh.cells.word i inside in
+        let x : ℕ = without (W.words.word i) mask in let same : without n mask ≡ x = ap (λ (z : ℕ). without z mask) found in
+        record {
+          finds = found;
+          value = tt;
+          needs = record { in_layout = inside; caller = ok.number; unspent = none_more R k narrow s sh r ok r.number; places = λ t l is. tt };
+          cells = word_cells R k narrow s sh r ok i (without n mask) x inside same
+              (let a = minus_le (W.words.word i) mask in let b = sh.cells.word_within i inside in omega arith);
+          tags = λ t l. let tag = sh.tags t l in let q : Place = G.place t in
+              let c : ℕ = r.number in
+              reshow c q _ _ _ _ _ _ _ _ _ _ _ _ (spills c q (only (t / 2 ^ k.layout.shift) i) (in_small k narrow t i))
+              (pick_spilled (t / 2 ^ k.layout.shift) i c q)
+              ((λ z. min (tag.word z)
+              (1 - among_as k narrow i mask t (sweep_bit c q) (sweep_small c q)
+              (λ e. ap (λ (j : ℕ). bit_at (get_or r.swept j 0) (t % 2 ^ k.layout.shift)) (sym e) ∙ sym (ok.swept t l)) z))
+              ∙ minus_bit k narrow W.words.word i mask t fits)
+              tag.aside tag.posted (ok.held t l)
+              (none_left k narrow (λ j. get_or r.swept j 0) i t (sweep_bit c q) (sweep_small c q) (ok.swept t l)
+              ∙ list_bit k narrow r.swept i 0 t (swept_long i inside));
+        }

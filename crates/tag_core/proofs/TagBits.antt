@@ -1,0 +1,152 @@
+-- A tag's bits in words and masks, and what they are once one word is changed.
+use Rattle.std.proofs.Common.{◌≡◌, ◌≢◌, ℕ, ◌-◌, ◌/◌, ◌%◌, ◌^◌, ◌<◌, ◌≤◌, List, length, get_or, set, Bool, cond, bit_or, min, max, arith, sym, ap, ◌∙◌, subst, get_or-set_other, get_or-set_same, eq-eqb, ne_eqb}
+use mathlib.Core.Logic.{dite}
+use native.Mathlib.Decide.{ℕ_discrete}
+use Rattle.std.specs.Int.{bit_at, trailing_zeros, w64}
+use Rattle.std.proofs.lemmas.Nat.{pow_pos, pow_below, mod_below}
+use Rattle.std.proofs.lemmas.Nat.Bits.{bit_at_or, bit_at-lt, bit_at-zero, bit_at-pow_same, bit_at-pow_other, bit_at-trailing_zeros}
+use Rattle.std.proofs.Math.Pow.{pow_mono}
+use Rattle.tag_layout.specs.Layout.{words, word_depth, word_of, place_of, tag_at, IsWithin}
+use Rattle.tag_layout.proofs.PlaceFacts.{tag_at-back}
+use Rattle.tag_core.specs.declared.shape.Shape.{Shape}
+use Rattle.tag_core.specs.Steps.{changed_at, without}
+use Rattle.tag_core.specs.Bits.{one_if}
+use Rattle.tag_core.specs.Records.{tag_bit}
+use Rattle.tag_core.proofs.Picks.{among, only}
+use Rattle.tag_core.proofs.Masks.{bit_minus}
+use Rattle.tag_core.proofs.Stand.{same_tag}
+
+module _ (k : Shape) (narrow : k.layout.shift ≤ 6) where
+  pub place_small : (t : ℕ) → t % 2 ^ k.layout.shift < 64
+  place_small t =
+      let p : ℕ = 2 ^ k.layout.shift in let low : t % p < p = mod_below t p (pow_pos k.layout.shift) in
+      let le : 2 ^ k.layout.shift ≤ 2 ^ 6 = pow_mono narrow in omega arith
+
+  pub small_word : (i n : ℕ) → n < 2 ^ word_depth k.layout i → n < 2 ^ 64
+  small_word i n h =
+      let le : 2 ^ k.layout.shift ≤ 2 ^ 6 = pow_mono narrow in let low : word_depth k.layout i ≤ 64 = omega arith in
+      let le2 : 2 ^ word_depth k.layout i ≤ 2 ^ 64 = pow_mono low in omega arith
+
+  -- bit of a mask at a tag in its word, and in another
+  pub among_here : (i m t : ℕ) → t / 2 ^ k.layout.shift ≡ i → bit_at m (t % 2 ^ k.layout.shift) ≡ among k.layout.shift i m t
+  among_here i m t e = ap (λ (b : Bool). cond b (bit_at m (t % 2 ^ k.layout.shift)) 0) (sym (eq-eqb (t / 2 ^ k.layout.shift) i e))
+
+  pub among_else : (i m t : ℕ) → t / 2 ^ k.layout.shift ≢ i → 0 ≡ among k.layout.shift i m t
+  among_else i m t e = ap (λ (b : Bool). cond b (bit_at m (t % 2 ^ k.layout.shift)) 0) (sym (ne_eqb (t / 2 ^ k.layout.shift) i e))
+
+  pub changed_here : (g : ℕ → ℕ) (i x t : ℕ) → t / 2 ^ k.layout.shift ≡ i
+      → bit_at x (t % 2 ^ k.layout.shift) ≡ bit_at (changed_at g i x (t / 2 ^ k.layout.shift)) (t % 2 ^ k.layout.shift)
+  changed_here g i x t e =
+      ap (λ (b : Bool). bit_at (cond b x (g (t / 2 ^ k.layout.shift))) (t % 2 ^ k.layout.shift))
+      (sym (eq-eqb (t / 2 ^ k.layout.shift) i e))
+
+  pub changed_else : (g : ℕ → ℕ) (i x t : ℕ) → t / 2 ^ k.layout.shift ≢ i
+      → bit_at (g (t / 2 ^ k.layout.shift)) (t % 2 ^ k.layout.shift) ≡ bit_at (changed_at g i x (t / 2 ^ k.layout.shift))
+      (t % 2 ^ k.layout.shift)
+  changed_else g i x t e =
+      ap (λ (b : Bool). bit_at (cond b x (g (t / 2 ^ k.layout.shift))) (t % 2 ^ k.layout.shift))
+      (sym (ne_eqb (t / 2 ^ k.layout.shift) i e))
+
+  pub mask_here : (l : List ℕ) (i x t : ℕ) → i < length l → t / 2 ^ k.layout.shift ≡ i
+      → bit_at x (t % 2 ^ k.layout.shift) ≡ tag_bit k.layout (set l i x) t
+  mask_here l i x t h e =
+      ap (λ (z : ℕ). bit_at z (t % 2 ^ k.layout.shift))
+      (sym (ap (λ (j : ℕ). get_or (set l i x) j 0) e ∙ get_or-set_same l i x 0 h))
+
+  pub mask_else : (l : List ℕ) (i x t : ℕ) → t / 2 ^ k.layout.shift ≢ i → tag_bit k.layout l t ≡ tag_bit k.layout (set l i x) t
+  mask_else l i x t e =
+      ap (λ (z : ℕ). bit_at z (t % 2 ^ k.layout.shift)) (sym (get_or-set_other l i (t / 2 ^ k.layout.shift) x 0 e))
+
+  -- the cells after a step on one of them
+  pub changed_within : (g : ℕ → ℕ) (i x : ℕ) → IsWithin k.layout i x
+      → ((j : ℕ) → j < words k.layout → IsWithin k.layout j (g j)) → (j : ℕ) → j < words k.layout
+      → IsWithin k.layout j (changed_at g i x j)
+  changed_within g i x h all j l = dite (ℕ_discrete j i)
+      (λ e. subst (λ (b : Bool). IsWithin k.layout j (cond b x (g j))) (sym (eq-eqb j i e))
+      (subst (λ (z : ℕ). IsWithin k.layout z x) (sym e) h))
+      (λ n. subst (λ (b : Bool). IsWithin k.layout j (cond b x (g j))) (sym (ne_eqb j i n)) (all j l))
+
+  pub among_small : (i m t : ℕ) → among k.layout.shift i m t < 2
+  among_small i m t = dite (ℕ_discrete (t / 2 ^ k.layout.shift) i)
+      (λ e. let z = among_here i m t e in let y = bit_at-lt m (t % 2 ^ k.layout.shift) in omega arith)
+      (λ e. let z = among_else i m t e in omega arith)
+
+  pub or_bit : (g : ℕ → ℕ) (i m t : ℕ)
+      → max (bit_at (g (t / 2 ^ k.layout.shift)) (t % 2 ^ k.layout.shift)) (among k.layout.shift i m t) ≡ bit_at
+      (changed_at g i (bit_or (g i) m) (t / 2 ^ k.layout.shift)) (t % 2 ^ k.layout.shift)
+  or_bit g i m t = let b : ℕ = t % 2 ^ k.layout.shift in dite (ℕ_discrete (t / 2 ^ k.layout.shift) i)
+      (λ e. (λ z. max (bit_at (g (e z)) b) (sym (among_here i m t e) z)) ∙ sym (bit_at_or (g i) m b)
+      ∙ changed_here g i (bit_or (g i) m) t e)
+      (λ e. ap (max (bit_at (g (t / 2 ^ k.layout.shift)) b)) (sym (among_else i m t e)) ∙ omega arith
+      ∙ changed_else g i (bit_or (g i) m) t e)
+
+  pub minus_bit : (g : ℕ → ℕ) (i m t : ℕ) → m < 2 ^ 64
+      → min (bit_at (g (t / 2 ^ k.layout.shift)) (t % 2 ^ k.layout.shift)) (1 - among k.layout.shift i m t) ≡ bit_at
+      (changed_at g i (without (g i) m) (t / 2 ^ k.layout.shift)) (t % 2 ^ k.layout.shift)
+  minus_bit g i m t fits =
+      let b : ℕ = t % 2 ^ k.layout.shift in
+      let small = bit_at-lt (g (t / 2 ^ k.layout.shift)) b in dite (ℕ_discrete (t / 2 ^ k.layout.shift) i)
+      (λ e. (λ z. min (bit_at (g (e z)) b) (1 - sym (among_here i m t e) z))
+      ∙ sym (bit_minus (g i) m b fits (place_small t)) ∙ changed_here g i (without (g i) m) t e)
+      (λ e. ap (λ (z : ℕ). min (bit_at (g (t / 2 ^ k.layout.shift)) b) (1 - z)) (sym (among_else i m t e)) ∙ omega arith
+      ∙ changed_else g i (without (g i) m) t e)
+
+  pub list_bit : (l : List ℕ) (i x t : ℕ) → i < length l
+      → bit_at (changed_at (λ j. get_or l j 0) i x (t / 2 ^ k.layout.shift)) (t % 2 ^ k.layout.shift) ≡ tag_bit k.layout
+      (set l i x) t
+  list_bit l i x t h = dite (ℕ_discrete (t / 2 ^ k.layout.shift) i)
+      (λ e. sym (changed_here (λ j. get_or l j 0) i x t e) ∙ mask_here l i x t h e)
+      (λ e. sym (changed_else (λ j. get_or l j 0) i x t e) ∙ mask_else l i x t e)
+
+  pub only_among : (u t : ℕ) → only t u ≡ among k.layout.shift (u / 2 ^ k.layout.shift) (2 ^ (u % 2 ^ k.layout.shift)) t
+  only_among u t = let p : ℕ = 2 ^ k.layout.shift in let i : ℕ = u / p in let m : ℕ = 2 ^ (u % p) in dite (ℕ_discrete t u)
+      (λ e. ap one_if (eq-eqb t u e) ∙ sym (ap (bit_at m) (ap (λ (z : ℕ). z % p) e) ∙ bit_at-pow_same (u % p))
+      ∙ among_here i m t (ap (λ (z : ℕ). z / p) e))
+      (λ n. ap one_if (ne_eqb t u n) ∙ dite (ℕ_discrete (t / p) i)
+      (λ e. sym (bit_at-pow_other (u % p) (t % p) (λ e'. n (same_tag k.layout t u e e'))) ∙ among_here i m t e)
+      (λ ne. among_else i m t ne))
+
+  pub tag_mask : (u : ℕ) → 2 ^ (u % 2 ^ k.layout.shift) < 2 ^ 64
+  tag_mask u = pow_below (u % 2 ^ k.layout.shift) 64 (place_small u)
+
+  pub only_small : (t u : ℕ) → only t u < 2
+  only_small t u = subst (λ (z : ℕ). z < 2) (sym (only_among u t))
+      (among_small (u / 2 ^ k.layout.shift) (2 ^ (u % 2 ^ k.layout.shift)) t)
+
+  pub only_is : (t u : ℕ) → only t u ≡ 1 → t ≡ u
+  only_is t u e = dite (ℕ_discrete t u) (λ z. z) (λ n. let z : only t u ≡ 0 = ap one_if (ne_eqb t u n) in absurd (omega arith))
+
+  -- the tag that a put's mask names
+  pub tag_named : (u : ℕ) → tag_at k.layout (word_of k.layout u) (trailing_zeros w64 (2 ^ place_of k.layout u)) ≡ u
+  tag_named u = let p : ℕ = place_of k.layout u in let low = bit_at-trailing_zeros w64 (2 ^ p) (pow_pos p) (tag_mask u) in
+      let is : trailing_zeros w64 (2 ^ p) ≡ p = dite (ℕ_discrete p (trailing_zeros w64 (2 ^ p))) (λ e. sym e)
+      (λ ne. let none_there = bit_at-pow_other p (trailing_zeros w64 (2 ^ p)) (λ e. ne (sym e)) in
+      let one = low.1 in absurd (omega arith)) in
+      ap (tag_at k.layout (word_of k.layout u)) is ∙ tag_at-back k.layout u
+
+  pub in_word : (t i : ℕ) → t / 2 ^ k.layout.shift ≡ i → only (t / 2 ^ k.layout.shift) i ≡ 1
+  in_word t i e = ap one_if (eq-eqb (t / 2 ^ k.layout.shift) i e)
+
+  pub not_in_word : (t i : ℕ) → t / 2 ^ k.layout.shift ≢ i → only (t / 2 ^ k.layout.shift) i ≡ 0
+  not_in_word t i e = ap one_if (ne_eqb (t / 2 ^ k.layout.shift) i e)
+
+  pub in_small : (t i : ℕ) → only (t / 2 ^ k.layout.shift) i < 2
+  in_small t i = dite (ℕ_discrete (t / 2 ^ k.layout.shift) i) (λ e. let z = in_word t i e in omega arith)
+      (λ e. let z = not_in_word t i e in omega arith)
+
+  -- the bits y of a mask for one word
+  pub among_as : (i m t y : ℕ) → y < 2 → (t / 2 ^ k.layout.shift ≡ i → bit_at m (t % 2 ^ k.layout.shift) ≡ y)
+      → min (only (t / 2 ^ k.layout.shift) i) y ≡ among k.layout.shift i m t
+  among_as i m t y h here = dite (ℕ_discrete (t / 2 ^ k.layout.shift) i)
+      (λ e. let o = in_word t i e in let b = here e in let a = among_here i m t e in omega arith)
+      (λ e. let o = not_in_word t i e in let a = among_else i m t e in omega arith)
+
+  -- a mask that is emptied
+  pub none_left : (g : ℕ → ℕ) (i t y : ℕ) → y < 2 → y ≡ bit_at (g (t / 2 ^ k.layout.shift)) (t % 2 ^ k.layout.shift)
+      → min y (1 - only (t / 2 ^ k.layout.shift) i) ≡ bit_at (changed_at g i 0 (t / 2 ^ k.layout.shift)) (t % 2 ^ k.layout.shift)
+  none_left g i t y h is = dite (ℕ_discrete (t / 2 ^ k.layout.shift) i)
+      (λ e. let o = in_word t i e in
+      let z : min y (1 - only (t / 2 ^ k.layout.shift) i) ≡ 0 = omega arith in z
+      ∙ sym (bit_at-zero (t % 2 ^ k.layout.shift)) ∙ changed_here g i 0 t e)
+      (λ e. let o = not_in_word t i e in
+      let z : min y (1 - only (t / 2 ^ k.layout.shift) i) ≡ y = omega arith in z ∙ is ∙ changed_else g i 0 t e)

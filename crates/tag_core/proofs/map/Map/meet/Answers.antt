@@ -1,0 +1,115 @@
+use Rattle.std.proofs.Common.{◌≡◌, ℕ, ◌<◌, List, [], ◌∷◌, sym, ap, ◌∙◌, subst}
+use Rattle.atomic_table.specs.Table.{Splits, Joins}
+use Rattle.tag_core.specs.declared.caller.Caller.{Caller}
+use Rattle.tag_core.specs.declared.map.Map.{Map}
+use Rattle.tag_core.specs.declared.record.Record.{Record}
+use Rattle.tag_core.specs.declared.record.View.{View}
+use Rattle.tag_core.specs.declared.shape.Shape.{Shape}
+use Rattle.tag_core.specs.Records.{tag_bit}
+use Rattle.tag_core.specs.Views.{viewing, first_view, other_views, both_views}
+use Rattle.tag_core.specs.Rule.{Shown}
+use Rattle.tag_core.specs.Callers.{record_of}
+use Rattle.tag_core.proofs.Passing.{hands, joins}
+use Rattle.tag_core.proofs.Stand.{some_width}
+use Rattle.tag_core.proofs.Meetings.{meet_allowed}
+use Rattle.tag_core.proofs.map.Map.meet.Goals as goal
+
+module _ {R : Type 0} (m : Map R) where
+  some_words : 0 < m.table.shared.table_id.words
+  some_words = subst (λ (z : ℕ). 0 < z) (sym m.wide.0) (some_width m.shape.layout)
+
+  splits_off : (id : ℕ) (v : View R) (r : Record R) (rs : List (Record R)) → v ≡ viewing (r ∷ rs)
+      → Splits (Shown m.table.shared.key) id v (other_views v) (first_view v)
+  splits_off id v r rs is =
+      subst (λ (z : Shape). Splits (Shown z) id v (other_views v) (first_view v)) (sym m.told) (hands R m.shape id v r rs is)
+
+  joins_in : (id : ℕ) (v : View R) (other : ℕ) (w : View R)
+      → Joins (Shown m.table.shared.key) id v other w (both_views v w) (viewing [])
+  joins_in id v other w =
+      subst (λ (z : Shape). Joins (Shown z) id v other w (both_views v w) (viewing [])) (sym m.told)
+      (joins R m.shape id v other w)
+
+-- the records of two callers come into one view
+two_records : {R : Type 0} (first second : Caller R) (one other both : View R) → one ≡ first_view first.seat.me.0
+    → other ≡ first_view second.seat.me.0 → both ≡ both_views one other → both ≡ viewing (record_of first ∷ record_of second ∷ [])
+two_records first second one other both is_one is_other is_both =
+    is_both ∙ (λ j. both_views (is_one j) (is_other j))
+    ∙ (λ j. both_views (first_view (first.knows j)) (first_view (second.knows j)))
+
+pub split_seat-both-requires : goal.split_seat-both-requires
+split_seat-both-requires g c = let m = c.args.self.now in let w = c.args.first.now in (
+  c.requires.callers.0.0,
+  some_words m,
+  splits_off m w.seat.id w.seat.me.0 (record_of w) [] w.knows,
+)
+
+pub split_seat-other-requires : goal.split_seat-other-requires
+split_seat-other-requires g c = let m = c.args.self.now in let w = c.args.second.now in (
+  c.requires.callers.1.0,
+  some_words m,
+  splits_off m w.seat.id w.seat.me.0 (record_of w) [] w.knows,
+)
+
+pub join_seat-requires : goal.join_seat-requires
+join_seat-requires g c = let m = c.args.self.now in let one = c.split_seat-both.result in let two = c.split_seat-other.result in (
+  c.split_seat-both.ensures.3 ∙ c.requires.callers.0.0,
+  c.split_seat-other.ensures.3 ∙ c.requires.callers.1.0,
+  ap (λ z. z.1) c.split_seat-other.ensures.4,
+  some_words m,
+  joins_in m one.id one.me.0 two.id two.me.0,
+)
+
+pub load-requires : goal.load-requires
+load-requires g c = let m = c.args.self.now in let both = c.join_seat.new.seat in (
+  c.join_seat.ensures.0 ∙ c.split_seat-both.ensures.3 ∙ c.requires.callers.0.0,
+  some_words m,
+  meet_allowed g.row.R.Denot m.table.shared.key m.table.shared.table_id.slots both.id both.me,
+)
+
+pub split_seat-one-requires : goal.split_seat-one-requires
+split_seat-one-requires g c =
+    let m = c.args.self.now in let first = c.args.first.now in let second = c.args.second.now in let both = c.load.new.seat in
+    let view = two_records first second c.split_seat-both.result.me.0 c.split_seat-other.result.me.0 both.me.0
+    (ap (λ z. z.0) c.split_seat-both.ensures.4) (ap (λ z. z.0) c.split_seat-other.ensures.4)
+    (ap (λ z. z.0) (c.load.ensures.2.0 ∙ c.join_seat.ensures.2)) in (
+      c.load.ensures.0 ∙ c.join_seat.ensures.0 ∙ c.split_seat-both.ensures.3 ∙ c.requires.callers.0.0,
+      some_words m,
+      splits_off m both.id both.me.0 (record_of first) (record_of second ∷ []) view,
+    )
+
+pub join_seat-requires-2 : goal.join_seat-requires-2
+join_seat-requires-2 g c =
+    let m = c.args.self.now in let seat = c.split_seat-both.new.seat in let one = c.split_seat-one.result in (
+      c.split_seat-both.ensures.0 ∙ c.requires.callers.0.0,
+      c.split_seat-one.ensures.3 ∙ c.load.ensures.0 ∙ c.join_seat.ensures.0 ∙ c.split_seat-both.ensures.3 ∙ c.requires.callers.0.0,
+      ap (λ z. z.1) c.split_seat-one.ensures.4,
+      some_words m,
+      joins_in m seat.id seat.me.0 one.id one.me.0,
+    )
+
+pub join_seat-requires-3 : goal.join_seat-requires-3
+join_seat-requires-3 g c =
+    let m = c.args.self.now in let seat = c.split_seat-other.new.seat in let two = c.split_seat-one.new.seat in (
+      c.split_seat-other.ensures.0 ∙ c.requires.callers.1.0,
+      c.split_seat-one.ensures.0 ∙ c.load.ensures.0 ∙ c.join_seat.ensures.0 ∙ c.split_seat-both.ensures.3 ∙ c.requires.callers.0.0,
+      ap (λ z. z.1) (c.split_seat-one.ensures.2) ∙ ap (λ z. z.1) (c.load.ensures.2.0 ∙ c.join_seat.ensures.2)
+          ∙ ap (λ z. z.1) c.split_seat-both.ensures.4,
+      some_words m,
+      joins_in m seat.id seat.me.0 two.id two.me.0,
+    )
+
+pub returns-clause-apart : goal.returns-clause-apart
+returns-clause-apart g c tag has_first has_second = let first = c.args.first.now in let second = c.args.second.now in
+    let view = two_records first second c.split_seat-both.result.me.0 c.split_seat-other.result.me.0 c.join_seat.new.seat.me.0
+    (ap (λ z. z.0) c.split_seat-both.ensures.4) (ap (λ z. z.0) c.split_seat-other.ensures.4)
+    (ap (λ z. z.0) c.join_seat.ensures.2) in
+    (c.load.ensures.2.1 (record_of first) (record_of second) view).1 tag has_first.0 has_first.1
+    (subst (λ (z : Shape). tag_bit z.layout second.held.items tag ≡ 1)
+    (c.requires.callers.1.1 ∙ sym c.requires.callers.0.1) has_second.1)
+
+pub returns-clause-numbers : goal.returns-clause-numbers
+returns-clause-numbers g c = let first = c.args.first.now in let second = c.args.second.now in
+    let view = two_records first second c.split_seat-both.result.me.0 c.split_seat-other.result.me.0 c.join_seat.new.seat.me.0
+    (ap (λ z. z.0) c.split_seat-both.ensures.4) (ap (λ z. z.0) c.split_seat-other.ensures.4)
+    (ap (λ z. z.0) c.join_seat.ensures.2) in
+    (c.load.ensures.2.1 (record_of first) (record_of second) view).0

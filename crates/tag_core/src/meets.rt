@@ -1,0 +1,31 @@
+//! Two callers in hand.
+ghost use Rattle.std.specs.Prelude.{◌≡◌, ◌≢◌, ℕ};
+ghost use Rattle.tag_core.specs.Meeting.{ShareHistory};
+ghost use Rattle.tag_core.specs.Callers.{IsCallerOf, record_of, Holds, IsUnchanged};
+
+use crate::caller::Caller;
+use crate::map::Map;
+use crate::plays::{Collect, HandOut, Meeting};
+use crate::spots::SPARE;
+
+impl<R> Map<R> {
+    /// Tells that two callers in hand hold no tag in common. Its loads, of the spare word, change no place and stand in
+    /// no list.
+    pub fn meet(&self, first: &mut Caller<R>, second: &mut Caller<R>)
+        requires callers { IsCallerOf self.now first.old × IsCallerOf self.now second.old }
+        ensures callers { IsCallerOf self.now first.new × IsCallerOf self.now second.new }
+        ensures apart { (tag : ℕ) → Holds first.new tag → ¬ (Holds second.new tag) }
+        ensures numbers { (record_of first.new).number ≢ (record_of second.new).number }
+        ensures history { ShareHistory self.now.shape (record_of first.new) (record_of second.new) }
+        ensures unchanged { IsUnchanged first.old first.new × IsUnchanged second.old second.new }
+    {
+        let table = &self.table.shared;
+        let mut both = table.split_seat::<HandOut>(&mut first.seat);
+        let other = table.split_seat::<HandOut>(&mut second.seat);
+        table.join_seat::<Collect>(&mut both, other);
+        table.load::<Meeting>(&mut both, SPARE);
+        let one = table.split_seat::<HandOut>(&mut both);
+        table.join_seat::<Collect>(&mut first.seat, one);
+        table.join_seat::<Collect>(&mut second.seat, both);
+    }
+}
