@@ -62,7 +62,7 @@ batch_goes_on l n first more rest answer e (batch_passed {i = i} {is = is} {step
     subst (λ xs. IsBatchSearch l n (i ∷ (is ++ more)) xs answer) (sym (append_assoc s r rest)) (batch_passed v (batch_goes_on l n first more rest answer e left search))
 
 swept_look_bound : {i found : ℕ} {steps : List WordStep} → IsSweptLook i found steps → length steps ≤ 3
-swept_look_bound {i = i} {found = found} (swept_look {sweep = sweep} s) = let a = sweep_bound s in let e = length-append sweep (Look i found ∷ []) in omega arith
+swept_look_bound {i = i} {found = found} (swept_look {sweep = sweep} s fits) = let a = sweep_bound s in let e = length-append sweep (Look i found ∷ []) in omega arith
 
 batch_visit_bound : {i depth n : ℕ} {steps : List WordStep} {answer : Option (ℕ × ℕ)} → IsBatchVisit i depth n steps answer → length steps ≤ 4
 batch_visit_bound (no_run look none) = let a = swept_look_bound look in omega arith

@@ -6,6 +6,8 @@ pub mod Passes
 pub mod Searches
 pub mod Tallies
 pub mod Bounds
+pub mod Pools
+pub mod Sweeps
 pub mod Alone
 pub mod Choices
 pub mod GetFacts
