@@ -11,5 +11,6 @@ pub mod Sweeps
 pub mod Alone
 pub mod Choices
 pub mod GetFacts
+pub mod BatchAlone
 pub mod Batches
 pub mod PlainFacts

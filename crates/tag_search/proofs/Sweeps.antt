@@ -68,7 +68,7 @@ pub claim_one : (w : Words) (i place found : ℕ) → pool_of (words_after (Clai
 claim_one w i place found = claim_pool w i (2 ^ place) found ∙ taken_same i (λ k. nat_eq (bit_at (2 ^ place) k) 1) (nat_eq place) (pool_of w) (one_place place)
 
 -- a bit of a word without a mask
-bit_without : (n m k : ℕ) → m < 2 ^ 64 → k < 64 → bit_at (without n m) k ≡ min (bit_at n k) (1 - bit_at m k)
+pub bit_without : (n m k : ℕ) → m < 2 ^ 64 → k < 64 → bit_at (without n m) k ≡ min (bit_at n k) (1 - bit_at m k)
 bit_without n m k fits within = bit_at_and n (2 ^ 64 - 1 - m) k ∙ ap (min (bit_at n k)) (bit_at_not w64 m k fits within)
 
 without_tests : (a b : ℕ) → a < 2 → b < 2 → nat_eq (min a (1 - b)) 0 ≡ (nat_eq a 0 || nat_eq b 1)
