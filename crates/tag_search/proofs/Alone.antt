@@ -1,16 +1,15 @@
 -- What passes and visits tell where nobody else steps.
-use Rattle.std.proofs.Common.{◌≡◌, ℕ, ◌^◌, ◌<◌, Bool, true, false, ◌&&◌, ◌||◌, nat_lt, nat_eq, List, [], ◌∷◌, ◌++◌, get_or, Option, Some, None, arith, refl, sym, ap, ◌∙◌, subst}
+use Rattle.std.proofs.Common.{◌≡◌, ℕ, ◌<◌, Bool, ◌||◌, List, [], ◌∷◌, ◌++◌, get_or, Option, Some, None, arith, refl, sym, ap, ◌∙◌, subst}
 use Rattle.std.specs.Prelude.{All}
 use Rattle.std.specs.Int.{bit_at}
 use Rattle.std.proofs.lemmas.List.Elements.{All-nil, All-cons, All-head, All-tail}
 use Rattle.std.proofs.lemmas.Nat.Bits.{bit_at-zero}
 use Rattle.tag_core.specs.declared.word_step.WordStep.{WordStep}
-use Rattle.tag_core.specs.declared.word_step.WordStep.TheVariants.{Claimed}
 use Rattle.tag_core.specs.Steps.{Words, Quiet, words_after, words_after_all}
 use Rattle.tag_search.specs.Choice.{IsFree, IsSet, IsAside, IsBusy, IsFirst}
 use Rattle.tag_search.specs.PlainLaws.{words_after-append}
 use Rattle.tag_search.specs.Pool.{Pool, pool_of, freed_in, taken_at}
-use Rattle.tag_search.specs.Search.{AllTaken, IsTries, none_left, wins, loses, IsPass, pass, IsSweep, IsRetry, nothing_aside, swept, IsVisit, at_once, retried}
+use Rattle.tag_search.specs.Search.{AllTaken, IsTries, none_left, wins, loses, IsPass, pass, IsRetry, nothing_aside, swept, IsVisit, at_once, retried}
 use Rattle.tag_search.proofs.Passes.{all_behind}
 use Rattle.tag_search.proofs.Pools.{free_here, aside_of_open}
 use Rattle.tag_search.proofs.Sweeps.{clear_of, set_of, none_of, claim_one, sweep_pool, sweep_none}

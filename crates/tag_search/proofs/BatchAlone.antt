@@ -1,5 +1,5 @@
 -- A search for several tags where nobody else steps answers the choice.
-use Rattle.std.proofs.Common.{◌≡◌, ◌≢◌, ◌↔◌, ℕ, ◌+◌, ◌-◌, ◌*◌, ◌/◌, ◌^◌, ◌<◌, ◌≤◌, min, Bool, true, false, ◌&&◌, nat_eq, nat_lt, nat_le, List, [], ◌∷◌, ◌++◌, get_or, Option, Some, None, arith, refl, sym, ap, ◌∙◌, subst, eq-eqb, ne_eqb}
+use Rattle.std.proofs.Common.{◌≡◌, ◌≢◌, ◌↔◌, ℕ, ◌+◌, ◌-◌, ◌*◌, ◌^◌, ◌<◌, ◌≤◌, min, Bool, true, ◌&&◌, nat_eq, nat_lt, nat_le, List, [], ◌∷◌, ◌++◌, get_or, Option, Some, None, arith, sym, ap, ◌∙◌, subst}
 use mathlib.Core.Logic.{dite}
 use native.Mathlib.Decide.{dec_lt}
 use Rattle.std.specs.Prelude.{All}
@@ -17,7 +17,7 @@ use Rattle.tag_layout.proofs.Scans.{bit_at-shr}
 use Rattle.tag_search.specs.Batch.{run_mask, run_won, IsSweptLook, swept_look, IsBatchVisit, no_run, run_lost, run_taken, IsBatchSearch, batch_over, batch_won, batch_passed}
 use Rattle.tag_search.specs.Choice.{IsLeastOpen, HasNoRun, IsOpenRun, IsBatchChoice, no_batch, batch}
 use Rattle.tag_search.specs.PlainLaws.{words_after-append}
-use Rattle.tag_search.specs.Pool.{Pool, pool_of, is_open, freed_in, taken_in, taken_from}
+use Rattle.tag_search.specs.Pool.{Pool, pool_of, is_open, freed_in, taken_from}
 use Rattle.tag_search.proofs.Alone.{quiet-split}
 use Rattle.tag_search.proofs.Pools.{free_here, open_freed, least_same, freed_none, freed_before, freed_between, taken_same, and_false}
 use Rattle.tag_search.proofs.Sweeps.{is_clear, clear_of, set_of, bit_of_clear, bit_of_set, bit_without, claim_pool, sweep_pool}

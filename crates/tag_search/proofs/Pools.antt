@@ -1,6 +1,6 @@
 -- Pools: when they are the same, and what freeing twice comes to.
 use Rattle.std.proofs.Common.{◌≡◌, ◌≢◌, ℕ, Bool, true, false, not, ◌&&◌, ◌||◌, nat_eq, List, [], ◌∷◌, refl, sym, ap, ◌∙◌, eq-eqb, ne_eqb}
-use Rattle.tag_search.specs.Choice.{IsOpen, IsBusy, IsLeastOpen}
+use Rattle.tag_search.specs.Choice.{IsLeastOpen}
 use Rattle.tag_search.specs.Pool.{Pool, is_open, is_in, freed_in, taken_in}
 
 -- pools with the same places are the same

@@ -1,5 +1,5 @@
 -- What claims and sweeps make of the pool of the words.
-use Rattle.std.proofs.Common.{◌≡◌, ◌≢◌, ℕ, zero, suc, ◌-◌, ◌^◌, ◌<◌, min, max, Bool, true, false, not, ◌&&◌, ◌||◌, cond, nat_eq, nat_lt, List, [], ◌∷◌, bit_or, arith, refl, sym, ap, ◌∙◌, eq-eqb, ne_eqb, eqb-true}
+use Rattle.std.proofs.Common.{◌≡◌, ℕ, zero, suc, ◌-◌, ◌^◌, ◌<◌, min, max, Bool, true, false, not, ◌&&◌, ◌||◌, cond, nat_eq, nat_lt, List, [], ◌∷◌, bit_or, arith, refl, sym, ap, ◌∙◌, eq-eqb, ne_eqb, eqb-true}
 use mathlib.Core.Logic.{dite}
 use native.Mathlib.Decide.{ℕ_discrete}
 use Rattle.std.specs.Int.{bit_at, w64}
@@ -8,7 +8,7 @@ use Rattle.std.proofs.lemmas.Nat.Bits.{bit_at_and, bit_at_or, bit_at_not, bit_at
 use Rattle.tag_core.specs.declared.word_step.WordStep.{WordStep}
 use Rattle.tag_core.specs.declared.word_step.WordStep.TheVariants.{Claimed, Swap, Spill}
 use Rattle.tag_core.specs.Steps.{Words, Quiet, words_after, words_after_all, without}
-use Rattle.tag_search.specs.Pool.{Pool, pool_of, freed_in, taken_in, taken_at}
+use Rattle.tag_search.specs.Pool.{pool_of, freed_in, taken_in, taken_at}
 use Rattle.tag_search.specs.Search.{IsSweep, empty, spilled}
 use Rattle.tag_search.proofs.Pools.{pool_ext, or_false, and_true, and_false, taken_same}
 

@@ -1,5 +1,5 @@
 -- What a search answers where nobody else steps, and what it leaves: a choice over free places and places set aside.
-use Rattle.std.specs.Prelude.{◌≡◌, ◌↔◌, ℕ, ◌+◌, ◌<◌, ◌≤◌, true, false, List, [], ◌∷◌, ◌++◌, map, All, Option, Some, None}
+use Rattle.std.specs.Prelude.{◌≡◌, ◌↔◌, ℕ, ◌+◌, ◌<◌, ◌≤◌, true, false, List, ◌∷◌, ◌++◌, map, All, Option, Some, None}
 use Rattle.std.specs.Int.{bit_at}
 use Rattle.tag_layout.specs.Layout.{Layout, word_depth, tag_at}
 use Rattle.tag_search.specs.Pool.{Pool, is_open, freed_in, taken_at, taken_from}
