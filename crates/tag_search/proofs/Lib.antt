@@ -13,4 +13,5 @@ pub mod Choices
 pub mod GetFacts
 pub mod BatchAlone
 pub mod Batches
+pub mod Held
 pub mod PlainFacts
