@@ -24,6 +24,7 @@ module _ (S : Type 0) where
   take_all [] = keeps
   take_all (x ∷ xs) = chain (take_all xs) (takes x.0 x.1)
 
+  -- all slots that are carried go back, and others are taken
   abbrev pub trade : Held → Held → Act S
   trade cs xs = chain (give_all cs) (take_all xs)
 
@@ -35,6 +36,7 @@ module _ (S : Type 0) where
   got [] = refl
   got (x ∷ xs) = ap (λ (z : Held). x ∷ z) (got xs)
 
+  -- what is carried after a trade
   pub traded : (cs xs : Held) → carried_after cs (trade cs xs) ≡ xs
   traded cs xs = ap (λ (z : Held). carried_after z (take_all xs)) (gone cs) ∙ got xs
 
@@ -188,6 +190,7 @@ module _ (S : Type 0) where
 
   -- ---- both
 
+  -- what is carried and what is at home after an act by which the tags carried are those of f' and no more those of f
   pub record Moved (f f' : ℕ → ℕ) (n : ℕ) (hs : Homes) (cs : Held) : Type 0 where
     pub act : Act S
     pub list : Held
@@ -202,6 +205,7 @@ module _ (S : Type 0) where
     pub taken : (t : ℕ) → t < n → f t ≢ 1 → f' t ≡ 1 → (v : S) × (get_elem? hs t ≡ some (some v)) × (value_of list t ≡ some v)
     pub long : length (homes_after hs cs act) ≡ length hs
 
+  -- there is such an act where the slots to be taken are at home
   pub moves : (f f' : ℕ → ℕ) (n : ℕ) (hs : Homes) (cs : Held) → n ≤ length hs → map (λ x. x.0) cs ≡ tags_from f 0 n
       → ((t : ℕ) → t < n → f t ≢ 1 → f' t ≡ 1 → (y : S) × (get_elem? hs t ≡ some (some y))) → Moved f f' n hs cs
   moves f f' n hs cs near e home =

@@ -22,14 +22,14 @@ use Rattle.tag_core.proofs.Picks.{placed}
 use Rattle.tag_core.proofs.Turns.{Shows}
 use Rattle.tag_core.proofs.Within.{held_within}
 use Rattle.tag_core.proofs.Seats.{everyone_same}
-use Rattle.tag_core.proofs.Counts.{own, others, steps_here, steps_else, held_long, swept_long}
+use Rattle.tag_core.proofs.Counts.{own_counts, other_counts, steps_here, steps_else, held_long, swept_long}
 
 module _ (R : Type 0) (k : Shape) where
-  abbrev St : Type 0
-  St = State R (View R)
+  abbrev TableState : Type 0
+  TableState = State R (View R)
 
   -- what is owed of one step of the caller of r
-  pub record Owed (s : St) (sh : Shown k s) (r : Record R) (st : Step R) (words' : List ℕ) : Type 0 where
+  pub record Owed (s : TableState) (sh : Shown k s) (r : Record R) (st : Step R) (words' : List ℕ) : Type 0 where
     pub finds : FindsIn st (cells_of sh.history)
     pub value : FindsPost st sh.history
     pub needs : MayHappen k.layout k.callers (world_of k sh.history) (event_of k.layout r.number st)
@@ -42,7 +42,7 @@ module _ (R : Type 0) (k : Shape) where
         ((cells_after st (cells_of sh.history)).state t) (tag_bit k.layout (held_after k.layout st r.held) t)
         (tag_bit k.layout (swept_after st r.swept) t)
 
-  module _ (s : St) (sh : Shown k s) (r : Record R) (st : Step R) (words' : List ℕ) (homes' : List (maybe.Option R))
+  module _ (s : TableState) (sh : Shown k s) (r : Record R) (st : Step R) (words' : List ℕ) (homes' : List (maybe.Option R))
       (owed : Owed s sh r st words')
       (slots' : (t : ℕ) → t < k.layout.depth
       → SlotIs (get_elem? homes' t) (placed k.layout (event_of k.layout r.number st) (world_of k sh.history).place t))
@@ -66,8 +66,9 @@ module _ (R : Type 0) (k : Shape) where
           (held_within k.layout r.number st owed.needs.in_layout r.held ok.held_wide ok.within);
       held = λ t l. (owed.tags t l).held ∙ ap (λ (z : Layout). tag_bit k.layout (held_after z st r.held) t) (sym same);
       swept = λ t l. (owed.tags t l).swept;
-      won = (λ j. ok.won j + won_by (event_of (same j) r.number st)) ∙ sym (own k.layout r.number st (world_of k h).won).0;
-      back = (λ j. ok.back j + back_by (event_of (same j) r.number st)) ∙ sym (own k.layout r.number st (world_of k h).back).1;
+      won = (λ j. ok.won j + won_by (event_of (same j) r.number st)) ∙ sym (own_counts k.layout r.number st (world_of k h).won).0;
+      back = (λ j. ok.back j + back_by (event_of (same j) r.number st))
+          ∙ sym (own_counts k.layout r.number st (world_of k h).back).1;
       steps = ap (λ (z : List (Step R)). st ∷ z) ok.steps ∙ sym (steps_here k.layout r.number st h);
     }
 
@@ -80,8 +81,8 @@ module _ (R : Type 0) (k : Shape) where
       within = ok.within;
       held = λ t l. (owed.tags t l).others_hold q.number far ∙ ok.held t l;
       swept = λ t l. (owed.tags t l).others_sweep q.number far ∙ ok.swept t l;
-      won = ok.won ∙ sym (others k.layout r.number st q.number far (world_of k h).won).0;
-      back = ok.back ∙ sym (others k.layout r.number st q.number far (world_of k h).back).1;
+      won = ok.won ∙ sym (other_counts k.layout r.number st q.number far (world_of k h).won).0;
+      back = ok.back ∙ sym (other_counts k.layout r.number st q.number far (world_of k h).back).1;
       steps = ok.steps ∙ sym (steps_else k.layout r.number q.number st h far);
     }
 

@@ -111,6 +111,7 @@ module _ (R : Type 0) (k : Shape) (narrow : k.layout.shift ≤ 6) (id : ℕ) (me
             ∙ (held_shown R k narrow s sh r o t l has).1),
       )
 
+  -- the table allows a load of a word
   pub look_allowed : (i : ℕ) → i < words k.layout
       → Allows (Shown k) k.layout.depth id me (word_at i) (λ n. n) (looked (step k.layout.depth (word_at i) 0 0 none) me)
   look_allowed i inside s sh deep at _ = let n : ℕ = get_or s.words (word_at i) 0 in let o = ok s sh deep at in
@@ -125,6 +126,7 @@ module _ (R : Type 0) (k : Shape) (narrow : k.layout.shift ≤ 6) (id : ℕ) (me
             (λ j. (word_at_one i i' ei j, same_record r r' (sym mine ∙ er) j)) (z.4, (found_held s sh o i).0),
       )
 
+  -- a load of a cleared set
   pub look_aside_allowed : (i : ℕ) → i < words k.layout
       → Allows (Shown k) k.layout.depth id me (aside_at i) (λ n. n) (looked_aside (step k.layout.depth (aside_at i) 0 0 none) me)
   look_aside_allowed i inside s sh deep at _ = let n : ℕ = get_or s.words (aside_at i) 0 in let o = ok s sh deep at in
@@ -140,6 +142,7 @@ module _ (R : Type 0) (k : Shape) (narrow : k.layout.shift ≤ 6) (id : ℕ) (me
             (λ j. (aside_at_one i i' ei j, same_record r r' (sym mine ∙ er) j)) (z.4, (found_held s sh o i).1),
       )
 
+  -- an or of a word
   pub claim_allowed : (i m : ℕ) → i < words k.layout → IsWithin k.layout i m → r.won + count_ones m ≤ MOST_WON
       → Allows (Shown k) k.layout.depth id me (word_at i) (λ n. bit_or n m)
       (claimed (step k.layout.depth (word_at i) m 0 none) me)
@@ -156,6 +159,7 @@ module _ (R : Type 0) (k : Shape) (narrow : k.layout.shift ≤ 6) (id : ℕ) (me
             (λ j. (word_at_one i i' ei j, same_record r r' (sym mine ∙ er) j)) z.4,
       )
 
+  -- an and-not of a word, of held tags
   pub give_allowed : (i m : ℕ) → i < words k.layout → IsWithin k.layout i m → m < 2 ^ 64
       → ((t : ℕ) → t < k.layout.depth → among k.layout.shift i m t ≡ 1 → tag_bit k.layout r.held t ≡ 1)
       → Allows (Shown k) k.layout.depth id me (word_at i) (λ n. bit_and n (2 ^ 64 - 1 - m))
@@ -173,6 +177,7 @@ module _ (R : Type 0) (k : Shape) (narrow : k.layout.shift ≤ 6) (id : ℕ) (me
             (λ j. (word_at_one i i' ei j, same j, same_record r r' (sym mine ∙ er) j)) z.4,
       )
 
+  -- a swap of a cleared set
   pub swap_allowed : (i : ℕ) → i < words k.layout
       → Allows (Shown k) k.layout.depth id me (aside_at i) (λ _. 0) (swapped (step k.layout.depth (aside_at i) 0 0 none) me)
   swap_allowed i inside s sh deep at _ = let n : ℕ = get_or s.words (aside_at i) 0 in
@@ -188,6 +193,7 @@ module _ (R : Type 0) (k : Shape) (narrow : k.layout.shift ≤ 6) (id : ℕ) (me
             (λ j. (aside_at_one i i' ei j, same_record r r' (sym mine ∙ er) j)) z.4,
       )
 
+  -- an and-not of a word, of what was swept
   pub spill_allowed : (i : ℕ) → i < words k.layout → get_or r.swept i 0 < 2 ^ 64
       → Allows (Shown k) k.layout.depth id me (word_at i) (λ n. bit_and n (2 ^ 64 - 1 - get_or r.swept i 0))
       (spilled (step k.layout.depth (word_at i) (2 ^ 64 - 1 - get_or r.swept i 0) 0 none) me)
@@ -204,6 +210,7 @@ module _ (R : Type 0) (k : Shape) (narrow : k.layout.shift ≤ 6) (id : ℕ) (me
             (λ j. (word_at_one i i' ei j, same_record r r' (sym mine ∙ er) j)) z.4,
       )
 
+  -- a store of 1 in a held tag's state
   pub post_allowed : (u : ℕ) (y : R) → u < k.layout.depth → tag_bit k.layout r.held u ≡ 1 → value_of me.1 u ≡ some y
       → Allows (Shown k) k.layout.depth id me (state_at u) (λ _. 1)
       (λ _. plays.posted (step k.layout.depth (state_at u) 1 0 none) me 1)
@@ -233,6 +240,7 @@ module _ (R : Type 0) (k : Shape) (narrow : k.layout.shift ≤ 6) (id : ℕ) (me
             )) z.4,
       )
 
+  -- an or of a cleared set, of a held tag
   pub put_allowed : (u : ℕ) → u < k.layout.depth → tag_bit k.layout r.held u ≡ 1
       → Allows (Shown k) k.layout.depth id me (aside_at (word_of k.layout u)) (λ n. bit_or n (2 ^ place_of k.layout u))
       (put_aside (step k.layout.depth (aside_at (word_of k.layout u)) (2 ^ place_of k.layout u) 0 none) me)

@@ -25,9 +25,11 @@ module _ {R : Type 0} (m : Map R) (w : Caller R) (own : IsCallerOf m w) where
   abbrev k : Shape
   k = w.shape.value
 
+  -- the words have at most 64 bits
   pub narrow : w.shape.value.layout.shift ≤ 6
   narrow = subst (λ (z : Shape). z.layout.shift ≤ 6) (sym own.1) m.small.1
 
+  -- a word of the map is one of the caller's layout
   pub in_words : (i : ℕ) → i < words m.shape.layout → i < words w.shape.value.layout
   in_words i = subst (λ (z : Shape). i < words z.layout) (sym own.1)
 
@@ -63,18 +65,32 @@ module _ {R : Type 0} (w : Caller R) (st : Step R) (me' : Me R (View R)) (did : 
     steps = steps_of me'.0;
   }
 
+  -- it is the record after the step
   pub recorded : now ≡ record_after st (record_of w)
-  recorded j = record { shape = w.shape.value; number = w.number; held = sym held_is j; swept = sym swept_is j; won = sym won_is j; back = sym back_is j; steps = steps_of (did.view j) }
+  recorded j = record {
+    shape = w.shape.value;
+    number = w.number;
+    held = sym held_is j;
+    swept = sym swept_is j;
+    won = sym won_is j;
+    back =
+        sym back_is j;
+    steps = steps_of (did.view j);
+  }
 
+  -- the seat has the record that the new fields give
   pub knows : me'.0 ≡ alone now
   knows = did.view ∙ sym (ap alone recorded)
 
+  -- it carries the slots of the tags that it holds now
   pub carries : Carries w.shape.value.layout held' me'.1
   carries = subst (λ (z : List ℕ). Carries w.shape.value.layout z me'.1) held_is did.carries
 
+  -- it gave back no more than all callers may win
   pub few : back' ≤ w.shape.value.callers * MOST_WON
   few = subst (λ (z : ℕ). z ≤ w.shape.value.callers * MOST_WON) back_is did.few_back
 
+  -- the slots of tags that it keeps have their values
   pub slots : (tag : ℕ) → Holds w tag → (tag < w.shape.value.layout.depth) × (tag_bit w.shape.value.layout held' tag ≡ 1)
       → value_of me'.1 tag ≡ value_of w.seat.me.1 tag
   slots tag was is = did.values tag was.0 was.1 (ap (λ (z : List ℕ). tag_bit w.shape.value.layout z tag) held_is ∙ is.1)

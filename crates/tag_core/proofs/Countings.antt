@@ -11,6 +11,7 @@ use Rattle.tag_core.specs.Plays.{counted}
 use Rattle.tag_core.proofs.Fronts.{idle}
 use Rattle.tag_core.proofs.Ends.{few_records}
 
+-- the table allows a load by which a seat counts its records
 pub count_allowed : (R : Type 0) (k : Shape) (d id : ℕ) (me : Me R (View R))
     → Allows (Shown k) d id me 0 (λ n. n) (counted (step d 0 0 0 none) me)
 count_allowed R k d id me s sh deep at _ = (

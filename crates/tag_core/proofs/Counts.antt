@@ -51,36 +51,41 @@ module _ (c : ℕ) where
   )
 
 module _ {R : Type 0} (l : Layout) (c : ℕ) where
-  pub own : (st : Step R) → Own c (event_of l c st)
-  own (Word (Look i f)) = none_here c (event_of {R = R} l c (Word (Look i f))) refl refl
-  own (Word (LookAside i f)) = none_here c (event_of {R = R} l c (Word (LookAside i f))) refl refl
-  own (Word (Claimed i m f)) = own_here c (event_of {R = R} l c (Word (Claimed i m f))) refl
-  own (Word (Give i m f)) = own_here c (event_of {R = R} l c (Word (Give i m f))) refl
-  own (Word (Put i m f)) = own_here c (event_of {R = R} l c (Word (Put i m f))) refl
-  own (Word (Swap i f)) = own_here c (event_of {R = R} l c (Word (Swap i f))) refl
-  own (Word (Spill i m f)) = own_here c (event_of {R = R} l c (Word (Spill i m f))) refl
-  own (Post t x) = own_here c (event_of {R = R} l c (Post t x)) refl
-  own (Take t zero x) = none_here c (event_of {R = R} l c (Take t zero x)) refl refl
-  own (Take t (suc f) x) = own_here c (event_of {R = R} l c (Take t (suc f) x)) refl
+  -- what a step adds to its caller's counts
+  pub own_counts : (st : Step R) → Own c (event_of l c st)
+  own_counts (Word (Look i f)) = none_here c (event_of {R = R} l c (Word (Look i f))) refl refl
+  own_counts (Word (LookAside i f)) = none_here c (event_of {R = R} l c (Word (LookAside i f))) refl refl
+  own_counts (Word (Claimed i m f)) = own_here c (event_of {R = R} l c (Word (Claimed i m f))) refl
+  own_counts (Word (Give i m f)) = own_here c (event_of {R = R} l c (Word (Give i m f))) refl
+  own_counts (Word (Put i m f)) = own_here c (event_of {R = R} l c (Word (Put i m f))) refl
+  own_counts (Word (Swap i f)) = own_here c (event_of {R = R} l c (Word (Swap i f))) refl
+  own_counts (Word (Spill i m f)) = own_here c (event_of {R = R} l c (Word (Spill i m f))) refl
+  own_counts (Post t x) = own_here c (event_of {R = R} l c (Post t x)) refl
+  own_counts (Take t zero x) = none_here c (event_of {R = R} l c (Take t zero x)) refl refl
+  own_counts (Take t (suc f) x) = own_here c (event_of {R = R} l c (Take t (suc f) x)) refl
 
-  pub others : (st : Step R) → Far c (event_of l c st)
-  others (Word (Look i f)) = none_far c (event_of {R = R} l c (Word (Look i f))) refl refl
-  others (Word (LookAside i f)) = none_far c (event_of {R = R} l c (Word (LookAside i f))) refl refl
-  others (Word (Claimed i m f)) = own_far c (event_of {R = R} l c (Word (Claimed i m f))) refl
-  others (Word (Give i m f)) = own_far c (event_of {R = R} l c (Word (Give i m f))) refl
-  others (Word (Put i m f)) = own_far c (event_of {R = R} l c (Word (Put i m f))) refl
-  others (Word (Swap i f)) = own_far c (event_of {R = R} l c (Word (Swap i f))) refl
-  others (Word (Spill i m f)) = own_far c (event_of {R = R} l c (Word (Spill i m f))) refl
-  others (Post t x) = own_far c (event_of {R = R} l c (Post t x)) refl
-  others (Take t zero x) = none_far c (event_of {R = R} l c (Take t zero x)) refl refl
-  others (Take t (suc f) x) = own_far c (event_of {R = R} l c (Take t (suc f) x)) refl
+  -- a step adds nothing to another caller's counts
+  pub other_counts : (st : Step R) → Far c (event_of l c st)
+  other_counts (Word (Look i f)) = none_far c (event_of {R = R} l c (Word (Look i f))) refl refl
+  other_counts (Word (LookAside i f)) = none_far c (event_of {R = R} l c (Word (LookAside i f))) refl refl
+  other_counts (Word (Claimed i m f)) = own_far c (event_of {R = R} l c (Word (Claimed i m f))) refl
+  other_counts (Word (Give i m f)) = own_far c (event_of {R = R} l c (Word (Give i m f))) refl
+  other_counts (Word (Put i m f)) = own_far c (event_of {R = R} l c (Word (Put i m f))) refl
+  other_counts (Word (Swap i f)) = own_far c (event_of {R = R} l c (Word (Swap i f))) refl
+  other_counts (Word (Spill i m f)) = own_far c (event_of {R = R} l c (Word (Spill i m f))) refl
+  other_counts (Post t x) = own_far c (event_of {R = R} l c (Post t x)) refl
+  other_counts (Take t zero x) = none_far c (event_of {R = R} l c (Take t zero x)) refl refl
+  other_counts (Take t (suc f) x) = own_far c (event_of {R = R} l c (Take t (suc f) x)) refl
 
+  -- a step heads its caller's own list
   pub steps_here : (st : Step R) (h : History R) → steps_by c ((c, st) ∷ h) ≡ st ∷ steps_by c h
   steps_here st h = ap (λ (b : Bool). cond b (st ∷ steps_by c h) (steps_by c h)) (eq-eqb c c refl)
 
+  -- a step stands in no other caller's list
   pub steps_else : (a : ℕ) (st : Step R) (h : History R) → a ≢ c → steps_by a ((c, st) ∷ h) ≡ steps_by a h
   steps_else a st h n = ap (λ (b : Bool). cond b (st ∷ steps_by a h) (steps_by a h)) (ne_eqb c a (λ e. n (sym e)))
 
+  -- a step leaves the number of held masks
   pub held_long : (st : Step R) (m : List ℕ) → length (held_after l st m) ≡ length m
   held_long (Word (Look i f)) m = refl
   held_long (Word (LookAside i f)) m = refl
@@ -93,6 +98,7 @@ module _ {R : Type 0} (l : Layout) (c : ℕ) where
   held_long (Take t zero x) m = refl
   held_long (Take t (suc f) x) m = length-set m _ _
 
+  -- a step leaves the number of sweep masks
   pub swept_long : (st : Step R) (m : List ℕ) → length (swept_after st m) ≡ length m
   swept_long (Word (Look i f)) m = refl
   swept_long (Word (LookAside i f)) m = refl

@@ -8,9 +8,11 @@ use Rattle.atomic_table.proofs.owned.Table.TheSendSync.{the_field_sync as table_
 use Rattle.tag_core.specs.contracts.caller.Caller as caller
 use Rattle.tag_core.specs.contracts.map.Map as map
 
+-- a caller may go to another thread
 pub caller_send : (R : RattleType) → IsSend R → IsSend (caller.the_row R)
 caller_send R value = search (sendable, crosses, seat_send) depth 60
 
+-- threads may share a map
 pub map_sync : (R : RattleType) → IsSend R → IsSync R → IsSync (map.the_row R)
 map_sync R sent shared = recorded_sync _ _ _ (map.the_type R).to_one (struct_sync (fields_of (map.the_type R)) (
   search (table_sync, sendable, crosses) depth 60,

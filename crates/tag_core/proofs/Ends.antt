@@ -212,18 +212,21 @@ module _ (k : Shape) where
       all_there : (c : ℕ) → c < k.callers → (n : ℕ) × (n < length v.records.value) × (number_at v.records.value n ≡ c)
       all_there c l = let x = has c l in let y = at_number v.records.value x.0 x.1 x.2 in (x.0, y.0, y.1 ∙ x.3)
 
+      -- the records of all callers tell what was won
       pub won_all : total_of (λ (r : Record R). r.won) v.records.value ≡ got_in k.callers (world_of k sh.history)
       won_all = records_as (world_of k sh.history).won (λ (r : Record R). r.won) v.records.value
           (λ n r e. (sh.records id v at n r e).0.won)
           ∙ perm_sum (world_of k sh.history).won (number_at v.records.value) sh.position
           (length v.records.value) k.callers each_once all_there
 
+      -- what was given back
       pub back_all : total_of (λ (r : Record R). r.back) v.records.value ≡ back_in k.callers (world_of k sh.history)
       back_all = records_as (world_of k sh.history).back (λ (r : Record R). r.back) v.records.value
           (λ n r e. (sh.records id v at n r e).0.back)
           ∙ perm_sum (world_of k sh.history).back (number_at v.records.value) sh.position
           (length v.records.value) k.callers each_once all_there
 
+      -- what is held
       pub held_all : total_of (λ (r : Record R). size_of r.held) v.records.value ≡ held_in k.layout (world_of k sh.history)
       held_all = let w : World = world_of k sh.history in
           records_as (λ c. sum_below (λ t. held_bit c (w.place t)) k.layout.depth)
@@ -254,6 +257,7 @@ module _ (k : Shape) where
         (λ t l. ap (λ (z : ℕ). one_if (nat_eq z 1)) (sh.cells.state t l ∙ sym (sh.tags t l).posted)
         ∙ zero_or_one ((world_of k sh.history).place t))
 
+    -- the world is in balance
     pub even_all : Balances k.layout k.callers (world_of k sh.history)
     even_all = balances-history k.layout k.callers (events_of k.layout sh.history) (opening_world k) sh.lawful.happens
         (opening_even k sh.opening)

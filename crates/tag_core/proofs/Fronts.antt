@@ -50,9 +50,11 @@ same_homes R k s homes' sh same id i v at =
     })
 
 module _ (f : ℕ → ℕ) (u : ℕ) where
+  -- the bit left out
   pub but_here : but f u u ≡ 0
   but_here = ap (λ (b : Bool). cond b 0 (f u)) (eq-eqb u u refl)
 
+  -- every other bit
   pub but_else : (t : ℕ) → t ≢ u → but f u t ≡ f t
   but_else t n = ap (λ (b : Bool). cond b 0 (f t)) (ne_eqb t u n)
 
@@ -75,6 +77,7 @@ module _ (R : Type 0) (n : ℕ) (f : ℕ → ℕ) (u : ℕ) (lu : u < n) (has : 
     pub others : (t : ℕ) → t < n → t ≢ u → f t ≡ 1 → value_of slots t ≡ value_of cs t
     pub same : (t : ℕ) → t < n → get_elem? (homes_after hs cs act) t ≡ get_elem? hs t
 
+  -- the slot of a held tag comes to the front
   pub fronts : (cs : List (ℕ × R)) → map (λ x. x.0) cs ≡ tags_from f 0 n → Front cs
   fronts cs tags =
       let go = moves R f (but f u) n hs cs (omega arith) tags (λ t l no is. absurd (no (but_one f u t is).1)) in
@@ -97,6 +100,7 @@ module _ (R : Type 0) (n : ℕ) (f : ℕ → ℕ) (u : ℕ) (lu : u < n) (has : 
             (λ (no : f t ≢ 1). go.same t l no (λ e. no (but_one f u t e).1)));
       }
 
+  -- an act that leaves each home as it was and puts the front slot back into its order
   pub record Order (value : R) (slots cs : List (ℕ × R)) : Type 0 where
     pub act : Act R
     pub valid : Valid hs cs act
@@ -105,6 +109,7 @@ module _ (R : Type 0) (n : ℕ) (f : ℕ → ℕ) (u : ℕ) (lu : u < n) (has : 
     pub others : (t : ℕ) → t < n → t ≢ u → f t ≡ 1 → value_of (carried_after cs act) t ≡ value_of slots t
     pub same : (t : ℕ) → t < n → get_elem? (homes_after hs cs act) t ≡ get_elem? hs t
 
+  -- there is such an act
   pub orders : (value : R) (slots : List (ℕ × R)) → map (λ x. x.0) slots ≡ tags_from (but f u) 0 n
       → Order value slots ((u, value) ∷ slots)
   orders value slots tags =
@@ -144,6 +149,7 @@ module _ (R : Type 0) (k : Shape) (id : ℕ) (me : Me R (View R)) (r : Record R)
     out_there : (t : ℕ) → t < k.layout.depth → tag_bit k.layout r.held t ≡ 1 → get_elem? s.homes t ≡ some none
     out_there t l e = subst (SlotIs (get_elem? s.homes t)) (held_from r.number _ (ok.held t l ∙ e)) (sh.slots t l)
 
+  -- the table allows a load that brings a held tag's slot to the front
   pub front_allowed : Carries k.layout r.held me.1
       → Allows (Shown k) k.layout.depth id me (state_at u) (λ n. n) (fronted (step k.layout.depth (state_at u) 0 0 none) me)
   front_allowed carries s sh deep at _ =
@@ -166,6 +172,7 @@ module _ (R : Type 0) (k : Shape) (id : ℕ) (me : Me R (View R)) (r : Record R)
             (sym shape) (go.value, go.slots, refl, go.list, go.was, go.tags, go.others)),
       )
 
+  -- the table allows a load that puts it back
   pub order_allowed : (value : R) (slots : List (ℕ × R)) → me.1 ≡ (u, value) ∷ slots
       → map (λ x. x.0) slots ≡ tags_from (but (tag_bit k.layout r.held) u) 0 k.layout.depth
       → Allows (Shown k) k.layout.depth id me (state_at u) (λ n. n) (ordered (step k.layout.depth (state_at u) 0 0 none) me)

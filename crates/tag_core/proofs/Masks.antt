@@ -8,6 +8,7 @@ use Rattle.std.proofs.Common.{count_ones}
 use Rattle.std.proofs.lemmas.Nat.{and_le_l, ones-le}
 use Rattle.tag_core.specs.Steps.{without}
 
+-- a bit is 0 or 1
 pub bit_cases : (n b : ℕ) → (bit_at n b ≡ 0) ⊎ (bit_at n b ≡ 1)
 bit_cases n b = cases (bit_at n b) (bit_at-lt n b)
   where
@@ -16,6 +17,7 @@ bit_cases n b = cases (bit_at n b) (bit_at-lt n b)
     cases (suc zero) h = inr refl
     cases (suc (suc x)) h = absurd (omega arith)
 
+-- a bit of a word less a mask
 pub bit_minus : (n m b : ℕ) → m < 2 ^ 64 → b < 64 → bit_at (without n m) b ≡ min (bit_at n b) (1 - bit_at m b)
 bit_minus n m b fits within = bit_at_and n (2 ^ 64 - 1 - m) b ∙ ap (min (bit_at n b)) (bit_at_not w64 m b fits within)
 
@@ -32,5 +34,6 @@ fewer (suc d) m x h =
     let e : count_ones (bit_and m x / 2) ≡ count_ones (bit_and (m / 2) (x / 2)) = ap count_ones half in
     let ih = fewer d (m / 2) (x / 2) (omega arith) in omega arith
 
+-- a word less a mask has no more bits than the word
 pub ones_minus : (n m : ℕ) → count_ones (without n m) ≤ count_ones n
 ones_minus n m = fewer n n (2 ^ 64 - 1 - m) (omega arith)

@@ -38,17 +38,21 @@ module _ {R : Type 0} (k : Shape) (s : State R (View R)) (sh : Shown k s) (id : 
   two_numbers same =
       let one : ◌≡◌ {A = ℕ} 0 1 = sym first_stands.2 ∙ ap sh.position same ∙ second_stands.2 in absurd (omega arith)
 
+  -- no tag is in both held sets
   pub no_common_tag : AreApart k first second
   no_common_tag tag low in_first in_second = one_holder ((world_of k sh.history).place tag) first.number second.number two_numbers
       (first_stands.0.held tag low ∙ in_first)
       (second_stands.0.held tag low ∙ in_second)
 
+  -- one history shows both
   pub one_history : ShareHistory k first second
   one_history = record { history = sh.history; lawful = sh.lawful; first_known = first_stands.0; second_known = second_stands.0 }
 
+  -- the first record knows the shape
   pub shape_of_first : k ≡ first.shape
   shape_of_first = sym first_stands.0.shape
 
+-- the table allows a load by which two callers meet
 pub meet_allowed : (R : Type 0) (k : Shape) (slots id : ℕ) (me : Me R (View R))
     → Allows (Shown k) slots id me 0 (λ n. n) (met (step slots 0 0 0 none) me)
 meet_allowed R k slots id me s sh deep at _ = (

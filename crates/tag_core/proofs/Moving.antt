@@ -24,14 +24,16 @@ use Rattle.tag_core.specs.Views.{alone}
 use Rattle.tag_core.specs.Rule.{SlotIs, IsKnown, IsOpening, Shown}
 use Rattle.tag_core.specs.Plays.{Stepped}
 use Rattle.tag_core.proofs.Picks.{placed}
-use Rattle.tag_core.proofs.Counts.{own}
+use Rattle.tag_core.proofs.Counts.{own_counts}
 use Rattle.tag_core.proofs.Turns.{held_from}
 use Rattle.tag_core.proofs.Advance.{Owed, advances}
 use Rattle.tag_core.proofs.Acts.{Moved, moves}
 
+-- a held tag shows in the held set of its holder
 pub held_one : (c : ℕ) (q : Place) → q ≡ held c → held_bit c q ≡ 1
 held_one c q e = ap (held_bit c) e ∙ ap one_if (eq-eqb c c refl)
 
+-- a tag has a holder, or none
 pub holder : (q : Place) → ((d : ℕ) × (q ≡ held d)) ⊎ ((d : ℕ) → q ≢ held d)
 holder free = inr (λ d e. cc)
 holder (held d) = inl (d, refl)
@@ -40,6 +42,7 @@ holder aside = inr (λ d e. cc)
 holder (sweep c) = inr (λ d e. cc)
 
 module _ (R : Type 0) (home : maybe.Option (maybe.Option R)) where
+  -- the slot of a tag that nobody holds is at home
   pub home_of : (q : Place) → SlotIs home q → ((d : ℕ) → q ≢ held d) → (y : R) × (home ≡ some (some y))
   home_of free o n = o
   home_of (held d) o n = absurd (n d refl)
@@ -47,6 +50,7 @@ module _ (R : Type 0) (home : maybe.Option (maybe.Option R)) where
   home_of aside o n = o
   home_of (sweep c) o n = o
 
+  -- a slot at home is where it belongs when nobody holds the tag
   pub slot_some : (q : Place) → ((d : ℕ) → q ≢ held d) → (y : R) × (home ≡ some (some y)) → SlotIs home q
   slot_some free n o = o
   slot_some (held d) n o = absurd (n d refl)
@@ -105,6 +109,7 @@ module _ (R : Type 0) (k : Shape) (s : State R (View R)) (sh : Shown k s) (r : R
       (λ (same : d ≡ r.number). not_was t l non (e ∙ ap held same))
       (λ (n : d ≢ r.number). n (two_holders d r.number (p t) (others_back t l d n e) (is_mine t l aye))))
 
+  -- the slots move with the step's tags
   pub moved : Moved R f f' k.layout.depth s.homes cs
   moved = moves R f f' k.layout.depth s.homes cs (let e : length s.homes ≡ k.layout.depth = deep in omega arith) carries was_home
 
@@ -140,6 +145,7 @@ module _ (R : Type 0) (k : Shape) (s : State R (View R)) (sh : Shown k s) (r : R
         let g = moved.returned t l aye non' in g.2 ∙ ap some (sym (w.1 ∙ g.1)))
         (posting t l e)
 
+    -- the rule holds after the step
     pub kept : (id : ℕ) → get_elem? s.views id ≡ some (alone r)
         → Shown k record {
           words = words';
@@ -167,5 +173,5 @@ module _ (R : Type 0) (k : Shape) (s : State R (View R)) (sh : Shown k s) (r : R
           few_back = subst (λ (z : Shape). r.back + back_by (event_of z.layout r.number st) ≤ z.callers * MOST_WON) same
               (let few = back-history k.layout k.callers (events_of k.layout ((r.number, st) ∷ sh.history)) (opening_world k)
               (owed.needs, sh.lawful.happens) sh.opening.unspent (opening_even k sh.opening) r.number ok.number in
-              let now = (own k.layout r.number st (world_of k sh.history).back).1 in let before = ok.back in omega arith);
+              let now = (own_counts k.layout r.number st (world_of k sh.history).back).1 in let before = ok.back in omega arith);
         }

@@ -35,60 +35,71 @@ use Rattle.tag_core.proofs.TagBits.{place_small, small_word, among_here, among_e
 
 module _ (R : Type 0) (k : Shape) (narrow : k.layout.shift ≤ 6) (s : State R (View R)) (sh : Shown k s) (r : Record R)
     (ok : IsKnown k sh.history r) where
-  abbrev W : Cells
-  W = cells_of sh.history
+  abbrev now_cells : Cells
+  now_cells = cells_of sh.history
 
-  abbrev G : World
-  G = world_of k sh.history
+  abbrev now_world : World
+  now_world = world_of k sh.history
 
+  -- the table after a change of one word
   pub word_cells : (i x x' : ℕ) → i < words k.layout → x ≡ x' → IsWithin k.layout i x'
-      → HasCells k (set s.words (word_at i) x) (record W { words = record W.words { word = changed_at W.words.word i x' } })
+      → HasCells k (set s.words (word_at i) x)
+      (record now_cells { words = record now_cells.words { word = changed_at now_cells.words.word i x' } })
   word_cells i x x' h same fits =
       let inside : word_at i < length s.words = subst (λ (z : ℕ). word_at i < z) (sym sh.cells.wide)
       (word_in k.layout i h) in record {
         wide = length-set s.words (word_at i) x ∙ sh.cells.wide;
-        word = λ j l. set_spread s.words word_at W.words.word (words k.layout) i x word_at_one inside sh.cells.word j l
-            ∙ ap (λ (z : ℕ). changed_at W.words.word i z j) same;
-        aside = λ j l. get_or-set_other s.words (word_at i) (aside_at j) x 0 (λ e. word_no_aside i j (sym e)) ∙ sh.cells.aside j l;
-        state = λ t l. get_or-set_other s.words (word_at i) (state_at t) x 0 (λ e. word_no_state i t (sym e)) ∙ sh.cells.state t l;
-        word_within = changed_within k narrow W.words.word i x' fits sh.cells.word_within;
+        word = λ j l. set_spread s.words word_at now_cells.words.word (words k.layout) i x word_at_one inside sh.cells.word j l
+            ∙ ap (λ (z : ℕ). changed_at now_cells.words.word i z j) same;
+        aside = λ j l. get_or-set_other s.words (word_at i) (aside_at j) x 0 (λ e. word_no_aside i j (sym e))
+            ∙ sh.cells.aside j l;
+        state = λ t l. get_or-set_other s.words (word_at i) (state_at t) x 0 (λ e. word_no_state i t (sym e))
+            ∙ sh.cells.state t l;
+        word_within = changed_within k narrow now_cells.words.word i x' fits sh.cells.word_within;
         aside_within = sh.cells.aside_within;
       }
 
+  -- after a change of one cleared set
   pub aside_cells : (i x x' : ℕ) → i < words k.layout → x ≡ x' → IsWithin k.layout i x'
-      → HasCells k (set s.words (aside_at i) x) (record W { words = record W.words { aside = changed_at W.words.aside i x' } })
+      → HasCells k (set s.words (aside_at i) x)
+      (record now_cells { words = record now_cells.words { aside = changed_at now_cells.words.aside i x' } })
   aside_cells i x x' h same fits =
       let inside : aside_at i < length s.words = subst (λ (z : ℕ). aside_at i < z) (sym sh.cells.wide)
       (aside_in k.layout i h) in record {
         wide = length-set s.words (aside_at i) x ∙ sh.cells.wide;
         word = λ j l. get_or-set_other s.words (aside_at i) (word_at j) x 0 (word_no_aside j i) ∙ sh.cells.word j l;
-        aside = λ j l. set_spread s.words aside_at W.words.aside (words k.layout) i x aside_at_one inside sh.cells.aside j l
-            ∙ ap (λ (z : ℕ). changed_at W.words.aside i z j) same;
-        state = λ t l. get_or-set_other s.words (aside_at i) (state_at t) x 0 (λ e. aside_no_state i t (sym e)) ∙ sh.cells.state t l;
+        aside = λ j l. set_spread s.words aside_at now_cells.words.aside
+            (words k.layout) i x aside_at_one inside sh.cells.aside j l
+            ∙ ap (λ (z : ℕ). changed_at now_cells.words.aside i z j) same;
+        state = λ t l. get_or-set_other s.words (aside_at i) (state_at t) x 0 (λ e. aside_no_state i t (sym e))
+            ∙ sh.cells.state t l;
         word_within = sh.cells.word_within;
-        aside_within = changed_within k narrow W.words.aside i x' fits sh.cells.aside_within;
+        aside_within = changed_within k narrow now_cells.words.aside i x' fits sh.cells.aside_within;
       }
 
+  -- after a change of one tag's state
   pub state_cells : (u x : ℕ) → u < k.layout.depth
-      → HasCells k (set s.words (state_at u) x) (record W { state = changed_at W.state u x })
+      → HasCells k (set s.words (state_at u) x) (record now_cells { state = changed_at now_cells.state u x })
   state_cells u x h =
       let inside : state_at u < length s.words = subst (λ (z : ℕ). state_at u < z) (sym sh.cells.wide)
       (state_in k.layout u h) in record {
         wide = length-set s.words (state_at u) x ∙ sh.cells.wide;
         word = λ j l. get_or-set_other s.words (state_at u) (word_at j) x 0 (word_no_state j u) ∙ sh.cells.word j l;
         aside = λ j l. get_or-set_other s.words (state_at u) (aside_at j) x 0 (aside_no_state j u) ∙ sh.cells.aside j l;
-        state = set_spread s.words state_at W.state k.layout.depth u x state_at_one inside sh.cells.state;
+        state = set_spread s.words state_at now_cells.state k.layout.depth u x state_at_one inside sh.cells.state;
         word_within = sh.cells.word_within;
         aside_within = sh.cells.aside_within;
       }
 
   -- nobody has won too much yet
-  unspent : (c : ℕ) → G.won c ≤ MOST_WON
+  unspent : (c : ℕ) → now_world.won c ≤ MOST_WON
   unspent = won-history k.layout k.callers (events_of k.layout sh.history) (opening_world k) sh.lawful.happens sh.opening.unspent
 
-  pub none_more : (c : ℕ) → G.won c + 0 ≤ MOST_WON
+  -- a step that wins nothing passes no limit
+  pub none_more : (c : ℕ) → now_world.won c + 0 ≤ MOST_WON
   none_more c = let few = unspent c in omega arith
 
+  -- there is a caller
   pub some_caller : 0 < k.callers
   some_caller = let low = ok.number in omega arith
 
@@ -97,31 +108,34 @@ module _ (R : Type 0) (k : Shape) (narrow : k.layout.shift ≤ 6) (s : State R (
     abbrev n : ℕ
     n = get_or s.words (word_at i) 0
 
-    found : n ≡ W.words.word i
+    found : n ≡ now_cells.words.word i
     found = sh.cells.word i inside
 
     new_bit : (t : ℕ) → t < k.layout.depth → t / 2 ^ k.layout.shift ≡ i
-        → min (bit_at m (t % 2 ^ k.layout.shift)) (1 - word_bit (G.place t)) ≡ bit_at (without m n) (t % 2 ^ k.layout.shift)
+        → min (bit_at m (t % 2 ^ k.layout.shift)) (1 - word_bit (now_world.place t)) ≡ bit_at (without m n)
+        (t % 2 ^ k.layout.shift)
     new_bit t l e = ap (λ (z : ℕ). min (bit_at m (t % 2 ^ k.layout.shift)) (1 - z))
-        ((sh.tags t l).word ∙ ap (λ (j : ℕ). bit_at (W.words.word j) (t % 2 ^ k.layout.shift)) e
+        ((sh.tags t l).word ∙ ap (λ (j : ℕ). bit_at (now_cells.words.word j) (t % 2 ^ k.layout.shift)) e
         ∙ ap (λ (z : ℕ). bit_at z (t % 2 ^ k.layout.shift)) (sym found))
         ∙ sym (bit_minus m n (t % 2 ^ k.layout.shift)
         (subst (λ (z : ℕ). z < 2 ^ 64) (sym found)
-        (small_word k narrow i (W.words.word i) (sh.cells.word_within i inside))) (place_small k narrow t))
+        (small_word k narrow i (now_cells.words.word i) (sh.cells.word_within i inside))) (place_small k narrow t))
 
     claim_tags : (t : ℕ) → t < k.layout.depth
-        → Shows r.number (G.place t) (cond (is_in_mask k.layout i (without m n) t) (held r.number) (G.place t))
-        (bit_at (changed_at W.words.word i (bit_or (W.words.word i) m) (t / 2 ^ k.layout.shift)) (t % 2 ^ k.layout.shift))
-        (bit_at (W.words.aside (t / 2 ^ k.layout.shift)) (t % 2 ^ k.layout.shift)) (W.state t)
+        → Shows r.number (now_world.place t) (cond (is_in_mask k.layout i (without m n) t) (held r.number) (now_world.place t))
+        (bit_at (changed_at now_cells.words.word i (bit_or (now_cells.words.word i) m) (t / 2 ^ k.layout.shift))
+        (t % 2 ^ k.layout.shift))
+        (bit_at (now_cells.words.aside (t / 2 ^ k.layout.shift)) (t % 2 ^ k.layout.shift)) (now_cells.state t)
         (tag_bit k.layout (set r.held i (bit_or (get_or r.held i 0) (without m n))) t) (tag_bit k.layout r.swept t)
     claim_tags t l =
-        let q : Place = G.place t in let b : ℕ = t % 2 ^ k.layout.shift in let c : ℕ = r.number in
+        let q : Place = now_world.place t in let b : ℕ = t % 2 ^ k.layout.shift in let c : ℕ = r.number in
         let tag = sh.tags t l in dite (ℕ_discrete (t / 2 ^ k.layout.shift) i)
         (λ e. let x : ℕ = bit_at m b in reshow c q _ _ _ _ _ _ _ _ _ _ _ _ (claims c q x (bit_at-lt m b))
         (ap (λ (z : ℕ). pick z (held c) q) (new_bit t l e ∙ among_here k narrow i (without m n) t e)
         ∙ pick_among k.layout i (without m n) t (held c) q)
-        (ap (λ (z : ℕ). max z x) (tag.word ∙ ap (λ (j : ℕ). bit_at (W.words.word j) b) e)
-        ∙ sym (bit_at_or (W.words.word i) m b) ∙ changed_here k narrow W.words.word i (bit_or (W.words.word i) m) t e)
+        (ap (λ (z : ℕ). max z x) (tag.word ∙ ap (λ (j : ℕ). bit_at (now_cells.words.word j) b) e)
+        ∙ sym (bit_at_or (now_cells.words.word i) m b)
+        ∙ changed_here k narrow now_cells.words.word i (bit_or (now_cells.words.word i) m) t e)
         tag.aside tag.posted
         ((λ z. max ((ok.held t l ∙ ap (λ (j : ℕ). bit_at (get_or r.held j 0) b) e) z) (new_bit t l e z))
         ∙ sym (bit_at_or (get_or r.held i 0) (without m n) b)
@@ -131,40 +145,43 @@ module _ (R : Type 0) (k : Shape) (narrow : k.layout.shift ≤ 6) (s : State R (
         (λ ne. reshow c q _ _ _ _ _ _ _ _ _ _ _ _ (stays c q)
         (ap (λ (z : ℕ). pick z (held c) q) (among_else k narrow i (without m n) t ne)
         ∙ pick_among k.layout i (without m n) t (held c) q)
-        (tag.word ∙ changed_else k narrow W.words.word i (bit_or (W.words.word i) m) t ne) tag.aside tag.posted
+        (tag.word ∙ changed_else k narrow now_cells.words.word i (bit_or (now_cells.words.word i) m) t ne) tag.aside tag.posted
         (ok.held t l ∙ mask_else k narrow r.held i (bit_or (get_or r.held i 0) (without m n)) t ne) (ok.swept t l))
 
+    -- a claim
     pub claim_owed : Owed R k s sh r (Word (Claimed i m n)) (set s.words (word_at i) (bit_or n m))
-    claim_owed = let x : ℕ = bit_or (W.words.word i) m in let same : bit_or n m ≡ x = ap (λ (z : ℕ). bit_or z m) found in
+    claim_owed = let x : ℕ = bit_or (now_cells.words.word i) m in let same : bit_or n m ≡ x = ap (λ (z : ℕ). bit_or z m) found in
         record {
           finds = found;
           value = tt;
           needs = record {
             in_layout = (inside, (let a = minus_le m n in omega arith));
             caller = ok.number;
-            unspent = (let w : r.won ≡ G.won r.number = ok.won in
+            unspent = (let w : r.won ≡ now_world.won r.number = ok.won in
                 let few : count_ones (without m n) ≤ count_ones m = ones_minus m n in omega arith);
             places = λ t l named. let a = among_one k.layout i (without m n) t named in
-                free_from (G.place t) (dite (ℕ_discrete (t / 2 ^ k.layout.shift) i)
-                (λ e. let one : min (bit_at m (t % 2 ^ k.layout.shift)) (1 - word_bit (G.place t)) ≡ 1 = new_bit t l e
+                free_from (now_world.place t) (dite (ℕ_discrete (t / 2 ^ k.layout.shift) i)
+                (λ e. let one : min (bit_at m (t % 2 ^ k.layout.shift)) (1 - word_bit (now_world.place t)) ≡ 1 = new_bit t l e
                 ∙ among_here k narrow i (without m n) t e ∙ a in omega arith)
                 (λ ne. let none_there : 0 ≡ among k.layout.shift i (without m n) t = among_else k narrow i
                 (without m n) t ne in absurd (omega arith)));
           };
           cells = word_cells i (bit_or n m) x inside same
-              (or_lt (word_depth k.layout i) (W.words.word i) m (sh.cells.word_within i inside) fits);
+              (or_lt (word_depth k.layout i) (now_cells.words.word i) m (sh.cells.word_within i inside) fits);
           tags = claim_tags;
         }
 
+  -- the held set with more bits of one word
   pub held_or : (i m t : ℕ) → i < words k.layout → t < k.layout.depth
-      → max (held_bit r.number (G.place t)) (among k.layout.shift i m t) ≡ tag_bit k.layout
+      → max (held_bit r.number (now_world.place t)) (among k.layout.shift i m t) ≡ tag_bit k.layout
       (set r.held i (bit_or (get_or r.held i 0) m)) t
   held_or i m t h l = ap (λ (z : ℕ). max z (among k.layout.shift i m t)) (ok.held t l)
       ∙ or_bit k narrow (λ j. get_or r.held j 0) i m t
       ∙ list_bit k narrow r.held i _ t (subst (λ (z : ℕ). i < z) (sym ok.held_wide) h)
 
+  -- the held set with fewer bits of one word
   pub held_minus : (i m t : ℕ) → i < words k.layout → t < k.layout.depth → m < 2 ^ 64
-      → min (held_bit r.number (G.place t)) (1 - among k.layout.shift i m t) ≡ tag_bit k.layout
+      → min (held_bit r.number (now_world.place t)) (1 - among k.layout.shift i m t) ≡ tag_bit k.layout
       (set r.held i (without (get_or r.held i 0) m)) t
   held_minus i m t h l fits = ap (λ (z : ℕ). min z (1 - among k.layout.shift i m t)) (ok.held t l)
       ∙ minus_bit k narrow (λ j. get_or r.held j 0) i m t fits
@@ -173,15 +190,16 @@ module _ (R : Type 0) (k : Shape) (narrow : k.layout.shift ≤ 6) (s : State R (
   -- a held tag of a mask
   pub is_held : (i m t : ℕ)
       → ((j : ℕ) → j < k.layout.depth → among k.layout.shift i m j ≡ 1 → tag_bit k.layout r.held j ≡ 1)
-      → t < k.layout.depth → among k.layout.shift i m t ≡ 1 → G.place t ≡ held r.number
-  is_held i m t has l a = held_from r.number (G.place t) (ok.held t l ∙ has t l a)
+      → t < k.layout.depth → among k.layout.shift i m t ≡ 1 → now_world.place t ≡ held r.number
+  is_held i m t has l a = held_from r.number (now_world.place t) (ok.held t l ∙ has t l a)
 
   module _ (i m : ℕ) (inside : i < words k.layout) (low : m < 2 ^ word_depth k.layout i) (fits : m < 2 ^ 64)
       (has : (t : ℕ) → t < k.layout.depth → among k.layout.shift i m t ≡ 1 → tag_bit k.layout r.held t ≡ 1) where
+    -- a give of held tags
     pub give_owed : Owed R k s sh r (Word (Give i m (get_or s.words (word_at i) 0)))
         (set s.words (word_at i) (without (get_or s.words (word_at i) 0) m))
-    give_owed = let n : ℕ = get_or s.words (word_at i) 0 in let found : n ≡ W.words.word i = sh.cells.word i inside in
-        let x : ℕ = without (W.words.word i) m in let same : without n m ≡ x = ap (λ (z : ℕ). without z m) found in
+    give_owed = let n : ℕ = get_or s.words (word_at i) 0 in let found : n ≡ now_cells.words.word i = sh.cells.word i inside in
+        let x : ℕ = without (now_cells.words.word i) m in let same : without n m ≡ x = ap (λ (z : ℕ). without z m) found in
         record {
           finds = found;
           value = tt;
@@ -194,14 +212,15 @@ module _ (R : Type 0) (k : Shape) (narrow : k.layout.shift ≤ 6) (s : State R (
                 λ t l named. is_held i m t has l (among_one k.layout i m t named);
           };
           cells = word_cells i (without n m) x inside same
-              (let a = minus_le (W.words.word i) m in let b = sh.cells.word_within i inside in omega arith);
+              (let a = minus_le (now_cells.words.word i) m in let b = sh.cells.word_within i inside in omega arith);
           tags = λ t l. let tag = sh.tags t l in
-              let q : Place = G.place t in
+              let q : Place = now_world.place t in
               reshow r.number q _ _ _ _ _ _ _ _ _ _ _ _
               (gives r.number q (among k.layout.shift i m t) (among_small k narrow i m t) (is_held i m t has l))
               (pick_among k.layout i m t free q)
               (ap (λ (z : ℕ). min z (1 - among k.layout.shift i m t)) tag.word
-              ∙ minus_bit k narrow W.words.word i m t fits) tag.aside tag.posted (held_minus i m t inside l fits) (ok.swept t l);
+              ∙ minus_bit k narrow now_cells.words.word i m t fits) tag.aside tag.posted (held_minus i m t inside l fits)
+              (ok.swept t l);
         }
 
   -- ---- steps that change nothing
@@ -209,6 +228,7 @@ module _ (R : Type 0) (k : Shape) (narrow : k.layout.shift ≤ 6) (s : State R (
   abbrev Unmoved : Step R → Type 0
   Unmoved st = Owed R k s sh r st s.words
 
+  -- a look at a word
   pub look_owed : (i : ℕ) → i < words k.layout → Unmoved (Word (Look i (get_or s.words (word_at i) 0)))
   look_owed i inside = record {
     finds = sh.cells.word i inside;
@@ -216,9 +236,10 @@ module _ (R : Type 0) (k : Shape) (narrow : k.layout.shift ≤ 6) (s : State R (
     needs = record { in_layout = tt; caller = some_caller; unspent = none_more 0; places = λ t l is. tt };
     cells = sh.cells;
     tags = λ t l. let tag = sh.tags t l in
-        unchanged r.number (G.place t) _ _ _ _ _ tag.word tag.aside tag.posted (ok.held t l) (ok.swept t l);
+        unchanged r.number (now_world.place t) _ _ _ _ _ tag.word tag.aside tag.posted (ok.held t l) (ok.swept t l);
   }
 
+  -- a look at a cleared set
   pub look_aside_owed : (i : ℕ) → i < words k.layout → Unmoved (Word (LookAside i (get_or s.words (aside_at i) 0)))
   look_aside_owed i inside = record {
     finds = sh.cells.aside i inside;
@@ -226,9 +247,10 @@ module _ (R : Type 0) (k : Shape) (narrow : k.layout.shift ≤ 6) (s : State R (
     needs = record { in_layout = tt; caller = some_caller; unspent = none_more 0; places = λ t l is. tt };
     cells = sh.cells;
     tags = λ t l. let tag = sh.tags t l in
-        unchanged r.number (G.place t) _ _ _ _ _ tag.word tag.aside tag.posted (ok.held t l) (ok.swept t l);
+        unchanged r.number (now_world.place t) _ _ _ _ _ tag.word tag.aside tag.posted (ok.held t l) (ok.swept t l);
   }
 
+  -- a take that found no post
   pub miss_owed : (u : ℕ) → u < k.layout.depth → get_or s.words (state_at u) 0 ≡ 0 → Unmoved (Take u 0 None)
   miss_owed u l e = record {
     finds = sym e ∙ sh.cells.state u l;
@@ -236,7 +258,7 @@ module _ (R : Type 0) (k : Shape) (narrow : k.layout.shift ≤ 6) (s : State R (
     needs = record { in_layout = tt; caller = some_caller; unspent = none_more 0; places = λ t l is. tt };
     cells = sh.cells;
     tags = λ t l. let tag = sh.tags t l in
-        unchanged r.number (G.place t) _ _ _ _ _ tag.word tag.aside tag.posted (ok.held t l) (ok.swept t l);
+        unchanged r.number (now_world.place t) _ _ _ _ _ tag.word tag.aside tag.posted (ok.held t l) (ok.swept t l);
   }
 
   -- a held tag is taken and not aside
@@ -244,7 +266,7 @@ module _ (R : Type 0) (k : Shape) (narrow : k.layout.shift ≤ 6) (s : State R (
       → (bit_at (get_or s.words (word_at (word_of k.layout t)) 0) (place_of k.layout t) ≡ 1) ×
       (bit_at (get_or s.words (aside_at (word_of k.layout t)) 0) (place_of k.layout t) ≡ 0)
   held_shown t l has =
-      let is : G.place t ≡ held r.number = held_from r.number (G.place t) (ok.held t l ∙ has) in
+      let is : now_world.place t ≡ held r.number = held_from r.number (now_world.place t) (ok.held t l ∙ has) in
       let i : ℕ = word_of k.layout t in let inside = word_of-below k.layout t l in (
         ap (λ (z : ℕ). bit_at z (place_of k.layout t)) (sh.cells.word i inside) ∙ sym (sh.tags t l).word ∙ ap word_bit is,
         ap (λ (z : ℕ). bit_at z (place_of k.layout t)) (sh.cells.aside i inside) ∙ sym (sh.tags t l).aside ∙ ap aside_bit is,

@@ -19,6 +19,7 @@ use Rattle.tag_core.specs.Views.{viewing, alone, fresh, all_fresh, first_view, o
 use Rattle.tag_core.specs.Rule.{IsOpening, IsKnown, Shown}
 use Rattle.tag_core.proofs.Seats.{within, snoc_at, append_at, everyone_split, everyone_join}
 
+-- each of so many zeros is 0
 pub zeros : (n i : ℕ) → ◌≡◌ {A = ℕ} (get_or (replicate n 0) i 0) 0
 zeros zero i = refl
 zeros (suc n) zero = refl
@@ -71,6 +72,7 @@ module _ (R : Type 0) (k : Shape) where
   at_home (x ∷ xs) zero h = (x, refl)
   at_home (x ∷ xs) (suc t) h = at_home xs t (omega arith)
 
+  -- a table whose words are 0 shows a new map
   pub opens : (table : List ℕ) (slots : List R) → IsOpening k → length table ≡ table_width k.layout
       → ((i : ℕ) → get_or table i 0 ≡ 0) → length slots ≡ k.layout.depth → Shown k (opening table slots (all_fresh k))
   opens table slots starts wide blank deep = record {
@@ -224,14 +226,16 @@ module _ (R : Type 0) (k : Shape) where
         each = everyone_join R k.callers s.views sh.seat sh.position id other v w at that apart sh.each;
       }
 
+  -- the next caller of those that are still to come
   pub next_fresh : (c n : ℕ) → c < n → fresh {R = R} k c (n - c) ≡ fresh_record k c ∷ fresh k (c + 1) (n - (c + 1))
   next_fresh c n h =
       let m : ℕ = n - (c + 1) in let e : n - c ≡ suc m = omega arith in
       let e' : suc c ≡ c + 1 = omega arith in ap (fresh {R = R} k c) e ∙ ap (λ (z : ℕ). fresh_record {R = R} k c ∷ fresh k z m) e'
 
-  pub hands : (id : ℕ) (v : View R) (r : Record R) (rs : List (Record R)) → v ≡ viewing (r ∷ rs)
+  -- the first record may go to a seat of its own
+  pub hands_first : (id : ℕ) (v : View R) (r : Record R) (rs : List (Record R)) → v ≡ viewing (r ∷ rs)
       → Splits (Shown k) id v (other_views v) (first_view v)
-  hands id v r rs is = subst (λ (z : View R × View R). Splits (Shown k) id v z.0 z.1)
+  hands_first id v r rs is = subst (λ (z : View R × View R). Splits (Shown k) id v z.0 z.1)
       (λ j. (ap other_views (sym is) j, ap first_view (sym is) j)) (splits id v r rs is)
 
   -- a record that holds nothing carries nothing

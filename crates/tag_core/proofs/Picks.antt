@@ -40,6 +40,7 @@ one_in : (b : Bool) (x : ℕ) → x < 2 → cond b x 0 ≡ one_if (b && (x == 1)
 one_in true x h = two x h
 one_in false x h = refl
 
+-- the tag's bit in a mask is 1 where the mask names the tag
 pub among_named : (l : Layout) (word mask tag : ℕ) → among l.shift word mask tag ≡ one_if (is_in_mask l word mask tag)
 among_named l word mask tag =
     one_in (nat_eq (tag / 2 ^ l.shift) word) (bit_at mask (tag % 2 ^ l.shift)) (bit_at-lt mask (tag % 2 ^ l.shift))
@@ -51,20 +52,25 @@ one_is : (b : Bool) → one_if b ≡ 1 → IsTrue b
 one_is true e = refl
 one_is false e = absurd (omega arith)
 
+-- a tag that the mask names has its bit
 pub among_one : (l : Layout) (word mask tag : ℕ) → IsTrue (is_in_mask l word mask tag) → among l.shift word mask tag ≡ 1
 among_one l word mask tag h = among_named l word mask tag ∙ is_one (is_in_mask l word mask tag) h
 
+-- a tag that has its bit is named by the mask
 pub one_among : (l : Layout) (word mask tag : ℕ) → among l.shift word mask tag ≡ 1 → IsTrue (is_in_mask l word mask tag)
 one_among l word mask tag e = one_is (is_in_mask l word mask tag) (sym (among_named l word mask tag) ∙ e)
 
+-- the bit of one tag, at that tag
 pub only_one : (t u : ℕ) → IsTrue (t == u) → only t u ≡ 1
 only_one t u h = is_one (nat_eq t u) h
 
+-- a choice by the bit in a mask
 pub pick_among : (l : Layout) (word mask tag : ℕ) (q p : Place)
     → pick (among l.shift word mask tag) q p ≡ cond (is_in_mask l word mask tag) q p
 pick_among l word mask tag q p = ap (λ (n : ℕ). pick n q p) (among_named l word mask tag)
     ∙ by_bool (is_in_mask l word mask tag) q p
 
+-- a choice by the bit of one tag
 pub pick_only : (t u : ℕ) (q p : Place) → pick (only t u) q p ≡ cond (t == u) q p
 pick_only t u q p = by_bool (nat_eq t u) q p
 
@@ -82,8 +88,10 @@ spilled c posted = refl
 spilled c aside = refl
 spilled c (sweep d) = by_bool (nat_eq d c) free (sweep d)
 
+-- a choice by the bits of a sweep
 pub pick_swept : (t u c : ℕ) (p : Place) → pick (only t u) (pick (aside_bit p) (sweep c) p) p ≡ cond (t == u) (swept_by c p) p
 pick_swept t u c p = pick_only t u (pick (aside_bit p) (sweep c) p) p ∙ ap (λ (x : Place). cond (t == u) x p) (swept c p)
 
+-- a choice by the bits of a spill
 pub pick_spilled : (t u c : ℕ) (p : Place) → pick (only t u) (pick (sweep_bit c p) free p) p ≡ cond (t == u) (spilled_by c p) p
 pick_spilled t u c p = pick_only t u (pick (sweep_bit c p) free p) p ∙ ap (λ (x : Place). cond (t == u) x p) (spilled c p)

@@ -10,6 +10,7 @@ use Rattle.tag_core.specs.declared.record.View.{View}
 use Rattle.tag_core.specs.Rule.{EachStands}
 use Rattle.tag_core.specs.Views.{viewing, alone, both_views}
 
+-- an entry stands below the length
 pub within : {A : Type 0} (l : List A) (i : ℕ) (a : A) → get_elem? l i ≡ some a → i < length l
 within [] i a e = absurd (some-ne-none a (sym e))
 within (x ∷ xs) zero a e = omega arith
@@ -23,10 +24,12 @@ snoc_at [] a b (suc j) e = absurd (some-ne-none b (sym e))
 snoc_at (x ∷ xs) a b zero e = inl e
 snoc_at (x ∷ xs) a b (suc j) e = ⊎_elim inl (λ (t : (j ≡ length xs) × (a ≡ b)). inr (ap suc t.0, t.1)) (snoc_at xs a b j e)
 
+-- the last entry of a longer list
 pub snoc_here : {A : Type 0} (l : List A) (a : A) → get_elem? (l ++ a ∷ []) (length l) ≡ some a
 snoc_here [] a = refl
 snoc_here (x ∷ xs) a = snoc_here xs a
 
+-- an entry of two lists is one of the first or of the second
 pub append_at : {A : Type 0} (l m : List A) (b : A) (j : ℕ) → get_elem? (l ++ m) j ≡ some b
     → (get_elem? l j ≡ some b) ⊎ ((i : ℕ) × (j ≡ length l + i) × (get_elem? m i ≡ some b))
 append_at [] m b j e = inr (j, omega arith, e)
@@ -35,6 +38,7 @@ append_at (x ∷ xs) m b (suc j) e =
     ⊎_elim inl (λ (t : (i : ℕ) × (j ≡ length xs + i) × (get_elem? m i ≡ some b)). inr
     (t.0, ap suc t.1 ∙ omega arith, t.2)) (append_at xs m b j e)
 
+-- an entry of the second of two lists
 pub append_second : {A : Type 0} (l m : List A) (i : ℕ) → get_elem? (l ++ m) (length l + i) ≡ get_elem? m i
 append_second [] m i = let e : 0 + i ≡ i = omega arith in ap (get_elem? m) e
 append_second (x ∷ xs) m i =
@@ -62,6 +66,7 @@ module _ (R : Type 0) (n : ℕ) (views : List (View R)) (seat position : ℕ →
       ))
       (λ (far : seat c ≢ id). (w.0, w.1, set_else views id (seat c) (alone r') far ∙ w.2, w.3, w.4))
 
+  -- each record still stands in some view after a split
   pub everyone_split : (id : ℕ) (r : Record R) (rs : List (Record R)) → get_elem? views id ≡ some (viewing (r ∷ rs))
       → ((q : Record R) (i : ℕ) → get_elem? (r ∷ rs) i ≡ some q → position q.number ≡ i) → position r.number ≡ 0
       → EachStands n views seat position
@@ -93,7 +98,8 @@ module _ (R : Type 0) (n : ℕ) (views : List (View R)) (seat position : ℕ →
         viewing rs,
         w.1,
         ap (get_elem? (vs ++ alone r ∷ [])) (seat_is ∙ es)
-            ∙ at_longer vs (alone r ∷ []) id (viewing rs) (set_here views id (viewing rs) (within views id (viewing (r ∷ rs)) at)),
+            ∙ at_longer vs (alone r ∷ []) id (viewing rs)
+            (set_here views id (viewing rs) (within views id (viewing (r ∷ rs)) at)),
         ap (get_elem? rs) (place_is ∙ ap (λ (b : Bool). cond b (position c - 1) (position c)) (eq-eqb (seat c) id es)) ∙ q,
         w.4,
       ))
@@ -112,6 +118,7 @@ module _ (R : Type 0) (n : ℕ) (views : List (View R)) (seat position : ℕ →
       behind zero a qs q ne e = absurd (ne (some-injective a q e))
       behind (suc i) a qs q ne e = (let z : suc i - 1 ≡ i = omega arith in ap (get_elem? qs) z) ∙ e
 
+  -- and after a join
   pub everyone_join : (id other : ℕ) (v w : View R) → get_elem? views id ≡ some v → get_elem? views other ≡ some w
       → ¬ (other ≡ id) → EachStands n views seat position
       → EachStands n (set (set views id (both_views v w)) other (viewing []))

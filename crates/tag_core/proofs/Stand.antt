@@ -9,26 +9,32 @@ use Rattle.tag_layout.proofs.PlaceFacts.{word-start, word_bits-pos, place_of-bel
 use Rattle.tag_core.specs.Steps.{changed_at}
 use Rattle.tag_core.specs.Spacing.{word_at, aside_at, state_at, table_width}
 
+-- words stand at different places
 pub word_at_one : (i j : ℕ) → word_at i ≡ word_at j → i ≡ j
 unfolding word_at
 word_at_one i j e = omega arith
 
+-- so do cleared sets
 pub aside_at_one : (i j : ℕ) → aside_at i ≡ aside_at j → i ≡ j
 unfolding aside_at
 aside_at_one i j e = omega arith
 
+-- so do states
 pub state_at_one : (i j : ℕ) → state_at i ≡ state_at j → i ≡ j
 unfolding state_at
 state_at_one i j e = omega arith
 
+-- no word stands at the place of a cleared set
 pub word_no_aside : (i j : ℕ) → word_at i ≢ aside_at j
 unfolding word_at aside_at
 word_no_aside i j e = omega arith
 
+-- nor at that of a state
 pub word_no_state : (i j : ℕ) → word_at i ≢ state_at j
 unfolding word_at state_at
 word_no_state i j e = omega arith
 
+-- no cleared set stands at the place of a state
 pub aside_no_state : (i j : ℕ) → aside_at i ≢ state_at j
 unfolding aside_at state_at
 aside_no_state i j e = omega arith
@@ -39,18 +45,22 @@ word_below_depth l i h =
     let start : i * word_bits l < l.depth = word-start l i h in let pos = word_bits-pos l in
     let more : i * 1 ≤ i * word_bits l = mul-le-mul_left i pos in omega arith
 
+-- each word stands in the table
 pub word_in : (l : Layout) (i : ℕ) → i < words l → word_at i < table_width l
 unfolding word_at table_width
 word_in l i h = let low = word_below_depth l i h in omega arith
 
+-- each cleared set does
 pub aside_in : (l : Layout) (i : ℕ) → i < words l → aside_at i < table_width l
 unfolding aside_at table_width
 aside_in l i h = let low = word_below_depth l i h in omega arith
 
+-- each state does
 pub state_in : (l : Layout) (t : ℕ) → t < l.depth → state_at t < table_width l
 unfolding state_at table_width
 state_in l t h = omega arith
 
+-- the table has a word
 pub some_width : (l : Layout) → 0 < table_width l
 unfolding table_width
 some_width l = omega arith

@@ -17,11 +17,13 @@ use Rattle.tag_core.proofs.Masks.{bit_minus}
 use Rattle.tag_core.proofs.Stand.{same_tag}
 
 module _ (k : Shape) (narrow : k.layout.shift ≤ 6) where
+  -- a tag's place is below 64
   pub place_small : (t : ℕ) → t % 2 ^ k.layout.shift < 64
   place_small t =
       let p : ℕ = 2 ^ k.layout.shift in let low : t % p < p = mod_below t p (pow_pos k.layout.shift) in
       let le : 2 ^ k.layout.shift ≤ 2 ^ 6 = pow_mono narrow in omega arith
 
+  -- a word within the layout has at most 64 bits
   pub small_word : (i n : ℕ) → n < 2 ^ word_depth k.layout i → n < 2 ^ 64
   small_word i n h =
       let le : 2 ^ k.layout.shift ≤ 2 ^ 6 = pow_mono narrow in let low : word_depth k.layout i ≤ 64 = omega arith in
@@ -31,15 +33,18 @@ module _ (k : Shape) (narrow : k.layout.shift ≤ 6) where
   pub among_here : (i m t : ℕ) → t / 2 ^ k.layout.shift ≡ i → bit_at m (t % 2 ^ k.layout.shift) ≡ among k.layout.shift i m t
   among_here i m t e = ap (λ (b : Bool). cond b (bit_at m (t % 2 ^ k.layout.shift)) 0) (sym (eq-eqb (t / 2 ^ k.layout.shift) i e))
 
+  -- and in another word
   pub among_else : (i m t : ℕ) → t / 2 ^ k.layout.shift ≢ i → 0 ≡ among k.layout.shift i m t
   among_else i m t e = ap (λ (b : Bool). cond b (bit_at m (t % 2 ^ k.layout.shift)) 0) (sym (ne_eqb (t / 2 ^ k.layout.shift) i e))
 
+  -- a tag's bit in the word that was changed
   pub changed_here : (g : ℕ → ℕ) (i x t : ℕ) → t / 2 ^ k.layout.shift ≡ i
       → bit_at x (t % 2 ^ k.layout.shift) ≡ bit_at (changed_at g i x (t / 2 ^ k.layout.shift)) (t % 2 ^ k.layout.shift)
   changed_here g i x t e =
       ap (λ (b : Bool). bit_at (cond b x (g (t / 2 ^ k.layout.shift))) (t % 2 ^ k.layout.shift))
       (sym (eq-eqb (t / 2 ^ k.layout.shift) i e))
 
+  -- and in another word
   pub changed_else : (g : ℕ → ℕ) (i x t : ℕ) → t / 2 ^ k.layout.shift ≢ i
       → bit_at (g (t / 2 ^ k.layout.shift)) (t % 2 ^ k.layout.shift) ≡ bit_at (changed_at g i x (t / 2 ^ k.layout.shift))
       (t % 2 ^ k.layout.shift)
@@ -47,12 +52,14 @@ module _ (k : Shape) (narrow : k.layout.shift ≤ 6) where
       ap (λ (b : Bool). bit_at (cond b x (g (t / 2 ^ k.layout.shift))) (t % 2 ^ k.layout.shift))
       (sym (ne_eqb (t / 2 ^ k.layout.shift) i e))
 
+  -- a tag's bit in masks of which its word's was set
   pub mask_here : (l : List ℕ) (i x t : ℕ) → i < length l → t / 2 ^ k.layout.shift ≡ i
       → bit_at x (t % 2 ^ k.layout.shift) ≡ tag_bit k.layout (set l i x) t
   mask_here l i x t h e =
       ap (λ (z : ℕ). bit_at z (t % 2 ^ k.layout.shift))
       (sym (ap (λ (j : ℕ). get_or (set l i x) j 0) e ∙ get_or-set_same l i x 0 h))
 
+  -- and where another word's was
   pub mask_else : (l : List ℕ) (i x t : ℕ) → t / 2 ^ k.layout.shift ≢ i → tag_bit k.layout l t ≡ tag_bit k.layout (set l i x) t
   mask_else l i x t e =
       ap (λ (z : ℕ). bit_at z (t % 2 ^ k.layout.shift)) (sym (get_or-set_other l i (t / 2 ^ k.layout.shift) x 0 e))
@@ -66,11 +73,13 @@ module _ (k : Shape) (narrow : k.layout.shift ≤ 6) where
       (subst (λ (z : ℕ). IsWithin k.layout z x) (sym e) h))
       (λ n. subst (λ (b : Bool). IsWithin k.layout j (cond b x (g j))) (sym (ne_eqb j i n)) (all j l))
 
+  -- it is 0 or 1
   pub among_small : (i m t : ℕ) → among k.layout.shift i m t < 2
   among_small i m t = dite (ℕ_discrete (t / 2 ^ k.layout.shift) i)
       (λ e. let z = among_here i m t e in let y = bit_at-lt m (t % 2 ^ k.layout.shift) in omega arith)
       (λ e. let z = among_else i m t e in omega arith)
 
+  -- a tag's bit after an or of one word
   pub or_bit : (g : ℕ → ℕ) (i m t : ℕ)
       → max (bit_at (g (t / 2 ^ k.layout.shift)) (t % 2 ^ k.layout.shift)) (among k.layout.shift i m t) ≡ bit_at
       (changed_at g i (bit_or (g i) m) (t / 2 ^ k.layout.shift)) (t % 2 ^ k.layout.shift)
@@ -80,6 +89,7 @@ module _ (k : Shape) (narrow : k.layout.shift ≤ 6) where
       (λ e. ap (max (bit_at (g (t / 2 ^ k.layout.shift)) b)) (sym (among_else i m t e)) ∙ omega arith
       ∙ changed_else g i (bit_or (g i) m) t e)
 
+  -- and after an and-not
   pub minus_bit : (g : ℕ → ℕ) (i m t : ℕ) → m < 2 ^ 64
       → min (bit_at (g (t / 2 ^ k.layout.shift)) (t % 2 ^ k.layout.shift)) (1 - among k.layout.shift i m t) ≡ bit_at
       (changed_at g i (without (g i) m) (t / 2 ^ k.layout.shift)) (t % 2 ^ k.layout.shift)
@@ -91,6 +101,7 @@ module _ (k : Shape) (narrow : k.layout.shift ≤ 6) where
       (λ e. ap (λ (z : ℕ). min (bit_at (g (t / 2 ^ k.layout.shift)) b) (1 - z)) (sym (among_else i m t e)) ∙ omega arith
       ∙ changed_else g i (without (g i) m) t e)
 
+  -- masks of which one was set, as a function
   pub list_bit : (l : List ℕ) (i x t : ℕ) → i < length l
       → bit_at (changed_at (λ j. get_or l j 0) i x (t / 2 ^ k.layout.shift)) (t % 2 ^ k.layout.shift) ≡ tag_bit k.layout
       (set l i x) t
@@ -98,6 +109,7 @@ module _ (k : Shape) (narrow : k.layout.shift ≤ 6) where
       (λ e. sym (changed_here (λ j. get_or l j 0) i x t e) ∙ mask_here l i x t h e)
       (λ e. sym (changed_else (λ j. get_or l j 0) i x t e) ∙ mask_else l i x t e)
 
+  -- the bit of one tag is its bit in a mask of it alone
   pub only_among : (u t : ℕ) → only t u ≡ among k.layout.shift (u / 2 ^ k.layout.shift) (2 ^ (u % 2 ^ k.layout.shift)) t
   only_among u t = let p : ℕ = 2 ^ k.layout.shift in let i : ℕ = u / p in let m : ℕ = 2 ^ (u % p) in dite (ℕ_discrete t u)
       (λ e. ap one_if (eq-eqb t u e) ∙ sym (ap (bit_at m) (ap (λ (z : ℕ). z % p) e) ∙ bit_at-pow_same (u % p))
@@ -106,13 +118,16 @@ module _ (k : Shape) (narrow : k.layout.shift ≤ 6) where
       (λ e. sym (bit_at-pow_other (u % p) (t % p) (λ e'. n (same_tag k.layout t u e e'))) ∙ among_here i m t e)
       (λ ne. among_else i m t ne))
 
+  -- that mask has at most 64 bits
   pub tag_mask : (u : ℕ) → 2 ^ (u % 2 ^ k.layout.shift) < 2 ^ 64
   tag_mask u = pow_below (u % 2 ^ k.layout.shift) 64 (place_small u)
 
+  -- the bit of one tag is 0 or 1
   pub only_small : (t u : ℕ) → only t u < 2
   only_small t u = subst (λ (z : ℕ). z < 2) (sym (only_among u t))
       (among_small (u / 2 ^ k.layout.shift) (2 ^ (u % 2 ^ k.layout.shift)) t)
 
+  -- it is 1 at that tag alone
   pub only_is : (t u : ℕ) → only t u ≡ 1 → t ≡ u
   only_is t u e = dite (ℕ_discrete t u) (λ z. z) (λ n. let z : only t u ≡ 0 = ap one_if (ne_eqb t u n) in absurd (omega arith))
 
@@ -124,12 +139,15 @@ module _ (k : Shape) (narrow : k.layout.shift ≤ 6) where
       let one = low.1 in absurd (omega arith)) in
       ap (tag_at k.layout (word_of k.layout u)) is ∙ tag_at-back k.layout u
 
+  -- a tag's own word
   pub in_word : (t i : ℕ) → t / 2 ^ k.layout.shift ≡ i → only (t / 2 ^ k.layout.shift) i ≡ 1
   in_word t i e = ap one_if (eq-eqb (t / 2 ^ k.layout.shift) i e)
 
+  -- another word
   pub not_in_word : (t i : ℕ) → t / 2 ^ k.layout.shift ≢ i → only (t / 2 ^ k.layout.shift) i ≡ 0
   not_in_word t i e = ap one_if (ne_eqb (t / 2 ^ k.layout.shift) i e)
 
+  -- it is 0 or 1
   pub in_small : (t i : ℕ) → only (t / 2 ^ k.layout.shift) i < 2
   in_small t i = dite (ℕ_discrete (t / 2 ^ k.layout.shift) i) (λ e. let z = in_word t i e in omega arith)
       (λ e. let z = not_in_word t i e in omega arith)

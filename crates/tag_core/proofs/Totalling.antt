@@ -2,10 +2,12 @@
 use Rattle.std.proofs.Common.{◌≡◌, ℕ, zero, suc, ◌+◌, ◌<◌, List, [], ◌∷◌, ◌++◌, length, take, get_or, arith, ap, ◌∙◌}
 use Rattle.tag_core.specs.Sizes.{total_of}
 
+-- the total of two lists
 pub total_of-append : {A : Type 0} (f : A → ℕ) (a b : List A) → total_of f (a ++ b) ≡ total_of f a + total_of f b
 total_of-append f [] b = omega arith
 total_of-append f (x ∷ a) b = let e = total_of-append f a b in omega arith
 
+-- the total of one element more
 pub total_of-next : (f : ℕ → ℕ) (xs : List ℕ) (i : ℕ) → i < length xs
     → total_of f (take (i + 1) xs) ≡ total_of f (take i xs) + f (get_or xs i 0)
 total_of-next f [] i h = absurd (omega arith)

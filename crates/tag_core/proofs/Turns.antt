@@ -13,6 +13,7 @@ same c = ap one_if (eq-eqb c c refl)
 apart : (c a : ℕ) → a ≢ c → one_if (nat_eq c a) ≡ 0
 apart c a n = ap one_if (ne_eqb c a (λ e. n (sym e)))
 
+-- what a place shows is 0 or 1: in the word
 pub word_small : (q : Place) → word_bit q < 2
 word_small free = omega arith
 word_small (held c) = omega arith
@@ -24,6 +25,7 @@ one_small : (b : Bool) → one_if b < 2
 one_small true = omega arith
 one_small false = omega arith
 
+-- in a held set
 pub held_small : (a : ℕ) (q : Place) → held_bit a q < 2
 held_small a free = omega arith
 held_small a (held c) = one_small (nat_eq c a)
@@ -31,7 +33,8 @@ held_small a posted = omega arith
 held_small a aside = omega arith
 held_small a (sweep c) = omega arith
 
--- What a place shows after a move from q to p, by the caller c: the word's bit, the cleared bit, the state, and the bits of c's held and swept masks
+-- What a place shows after a move from q to p, by the caller c: the word's bit, the cleared bit, the state,
+-- and the bits of c's held and swept masks
 pub record Shows (c : ℕ) (q p : Place) (w a s h v : ℕ) : Type 0 where
   pub word : word_bit p ≡ w
   pub aside : aside_bit p ≡ a
@@ -41,8 +44,17 @@ pub record Shows (c : ℕ) (q p : Place) (w a s h v : ℕ) : Type 0 where
   pub others_hold : (b : ℕ) → b ≢ c → held_bit b p ≡ held_bit b q
   pub others_sweep : (b : ℕ) → b ≢ c → sweep_bit b p ≡ sweep_bit b q
 
+-- a place that stays shows the same
 pub stays : (c : ℕ) (q : Place) → Shows c q q (word_bit q) (aside_bit q) (posted_bit q) (held_bit c q) (sweep_bit c q)
-stays c q = record { word = refl; aside = refl; posted = refl; held = refl; swept = refl; others_hold = λ b n. refl; others_sweep = λ b n. refl }
+stays c q = record {
+  word = refl;
+  aside = refl;
+  posted = refl;
+  held = refl;
+  swept = refl;
+  others_hold = λ b n. refl;
+  others_sweep = λ b n. refl;
+}
 
 -- bit x of a claim's mask, where the place shows w
 pub claims : (c : ℕ) (q : Place) (x : ℕ) → x < 2 →
@@ -50,11 +62,38 @@ pub claims : (c : ℕ) (q : Place) (x : ℕ) → x < 2 →
     (max (held_bit c q) (min x (1 - word_bit q))) (sweep_bit c q)
 claims c free zero h = stays c free
 claims c free (suc zero) h =
-    record { word = refl; aside = refl; posted = refl; held = same c; swept = refl; others_hold = λ b n. apart c b n; others_sweep = λ b n. refl }
+    record {
+      word = refl;
+      aside = refl;
+      posted = refl;
+      held = same c;
+      swept = refl;
+      others_hold =
+          λ b n. apart c b n;
+      others_sweep = λ b n. refl;
+    }
 claims c (held d) zero h =
-    record { word = refl; aside = refl; posted = refl; held = omega arith; swept = refl; others_hold = λ b n. refl; others_sweep = λ b n. refl }
+    record {
+      word = refl;
+      aside = refl;
+      posted = refl;
+      held = omega arith;
+      swept = refl;
+      others_hold =
+          λ b n. refl;
+      others_sweep = λ b n. refl;
+    }
 claims c (held d) (suc zero) h =
-    record { word = refl; aside = refl; posted = refl; held = omega arith; swept = refl; others_hold = λ b n. refl; others_sweep = λ b n. refl }
+    record {
+      word = refl;
+      aside = refl;
+      posted = refl;
+      held = omega arith;
+      swept = refl;
+      others_hold =
+          λ b n. refl;
+      others_sweep = λ b n. refl;
+    }
 claims c posted zero h = stays c posted
 claims c posted (suc zero) h = stays c posted
 claims c aside zero h = stays c aside
@@ -105,6 +144,7 @@ reshow c q p p' w w' a a' s s' h h' v v' x ep ew ea es eh ev = record {
   others_sweep = λ b n. ap (sweep_bit b) (sym ep) ∙ x.others_sweep b n;
 }
 
+-- a tag whose bit in the word is 0 is free
 pub free_from : (q : Place) → word_bit q ≡ 0 → q ≡ free
 free_from free e = refl
 free_from (held c) e = absurd (omega arith)
@@ -112,6 +152,7 @@ free_from posted e = absurd (omega arith)
 free_from aside e = absurd (omega arith)
 free_from (sweep c) e = absurd (omega arith)
 
+-- a tag whose bit in a caller's held set is 1 is held by that caller
 pub held_from : (c : ℕ) (q : Place) → held_bit c q ≡ 1 → q ≡ held c
 held_from c free e = absurd (omega arith)
 held_from c (held d) e =
@@ -120,6 +161,7 @@ held_from c posted e = absurd (omega arith)
 held_from c aside e = absurd (omega arith)
 held_from c (sweep d) e = absurd (omega arith)
 
+-- in the cleared set
 pub aside_small : (q : Place) → aside_bit q < 2
 aside_small free = omega arith
 aside_small (held c) = omega arith
@@ -127,6 +169,7 @@ aside_small posted = omega arith
 aside_small aside = omega arith
 aside_small (sweep c) = omega arith
 
+-- in the state
 pub posted_small : (q : Place) → posted_bit q < 2
 posted_small free = omega arith
 posted_small (held c) = omega arith
@@ -134,6 +177,7 @@ posted_small posted = omega arith
 posted_small aside = omega arith
 posted_small (sweep c) = omega arith
 
+-- in a sweep
 pub sweep_small : (a : ℕ) (q : Place) → sweep_bit a q < 2
 sweep_small a free = omega arith
 sweep_small a (held c) = omega arith
@@ -141,6 +185,7 @@ sweep_small a posted = omega arith
 sweep_small a aside = omega arith
 sweep_small a (sweep c) = one_small (nat_eq c a)
 
+-- what a place shows is read off where it stays
 pub unchanged : (c : ℕ) (q : Place) (w a s h v : ℕ) → word_bit q ≡ w → aside_bit q ≡ a → posted_bit q ≡ s
     → held_bit c q ≡ h → sweep_bit c q ≡ v → Shows c q q w a s h v
 unchanged c q w a s h v ew ea es eh ev =
@@ -191,7 +236,16 @@ takes c q zero h its = unchanged c q _ _ _ _ _ refl refl (omega (arith, posted_s
 takes c q (suc zero) h its = let e = sym (its refl) in
     subst (λ (q : Place). Shows c q (held c) (word_bit q) (aside_bit q) (min (posted_bit q) 0) (max (held_bit c q) 1)
     (sweep_bit c q)) e
-    record { word = refl; aside = refl; posted = refl; held = same c; swept = refl; others_hold = λ b n. apart c b n; others_sweep = λ b n. refl }
+    record {
+      word = refl;
+      aside = refl;
+      posted = refl;
+      held = same c;
+      swept = refl;
+      others_hold =
+          λ b n. apart c b n;
+      others_sweep = λ b n. refl;
+    }
 takes c q (suc (suc x)) h its = absurd (omega arith)
 
 -- a word's tags that are aside go into a sweep; x is 1 in the word
@@ -203,7 +257,16 @@ gathers c free (suc zero) h = stays c free
 gathers c (held d) (suc zero) h = stays c (held d)
 gathers c posted (suc zero) h = stays c posted
 gathers c aside (suc zero) h =
-    record { word = refl; aside = refl; posted = refl; held = refl; swept = same c; others_hold = λ b n. refl; others_sweep = λ b n. apart c b n }
+    record {
+      word = refl;
+      aside = refl;
+      posted = refl;
+      held = refl;
+      swept = same c;
+      others_hold = λ b n. refl;
+      others_sweep =
+          λ b n. apart c b n;
+    }
 gathers c (sweep d) (suc zero) h = unchanged c (sweep d) _ _ _ _ _ refl refl refl refl (omega arith)
 gathers c q (suc (suc x)) h = absurd (omega arith)
 
@@ -219,13 +282,23 @@ spills c aside (suc zero) h = stays c aside
 spills c (sweep d) (suc zero) h = dite (ℕ_discrete d c)
     (λ (e : d ≡ c). let own : one_if (nat_eq d c) ≡ 1 = ap one_if (eq-eqb d c e) in
     reshow c (sweep d) free _ _ _ _ _ _ _ _ _ _ _
-    (record { word = refl; aside = refl; posted = refl; held = refl; swept = refl; others_hold = λ b n. refl; others_sweep = λ b n. sym (apart d b (λ z. n (z ∙ e))) })
+    (record {
+      word = refl;
+      aside = refl;
+      posted = refl;
+      held = refl;
+      swept = refl;
+      others_hold = λ b n. refl;
+      others_sweep =
+          λ b n. sym (apart d b (λ z. n (z ∙ e)));
+    })
     (ap (λ (z : ℕ). pick z free (sweep d)) (sym own)) (omega arith) refl refl refl (omega arith))
     (λ (n : d ≢ c). let not : one_if (nat_eq d c) ≡ 0 = ap one_if (ne_eqb d c n) in
     reshow c (sweep d) (sweep d) _ _ _ _ _ _ _ _ _ _ _ (stays c (sweep d))
     (ap (λ (z : ℕ). pick z free (sweep d)) (sym not)) (omega arith) refl refl refl (omega arith))
 spills c q (suc (suc x)) h = absurd (omega arith)
 
+-- a tag whose state is 1 is posted
 pub posted_from : (q : Place) → posted_bit q ≡ 1 → q ≡ posted
 posted_from free e = absurd (omega arith)
 posted_from (held c) e = absurd (omega arith)

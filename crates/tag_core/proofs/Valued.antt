@@ -6,6 +6,7 @@ use lib.ListN.{length-replicate}
 use Rattle.tag_core.specs.Records.{tags_from, value_of}
 use Rattle.tag_core.proofs.Acts.{moves}
 
+-- each tag that is carried has a value
 pub valued : {S : Type 0} (f : ℕ → ℕ) (n : ℕ) (cs : List (ℕ × S)) → map (λ x. x.0) cs ≡ tags_from f 0 n → (u : ℕ) → u < n
     → f u ≡ 1 → (v : S) × (value_of cs u ≡ some v)
 valued {S} f n cs tags u l has =

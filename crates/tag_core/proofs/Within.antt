@@ -33,6 +33,7 @@ module _ (l : Layout) where
       set_within m i (without (get_or m i 0) x) long fits
       (λ h. let a = minus_le (get_or m i 0) x in let b = fits i h in omega arith)
 
+  -- a step leaves the held masks within the layout
   pub held_within : {R : Type 0} (c : ℕ) (st : Step R) → IsInLayout l (event_of l c st) → (m : List ℕ)
       → length m ≡ words l → AllWithin m → AllWithin (held_after l st m)
   held_within c (Word (Look i f)) needs m long fits = fits

@@ -100,8 +100,10 @@ module _ {R : Type 0} (st : table.Step R) (me : Me R (View R)) (found : ℕ) (me
   -- a load that puts it back into its order
   abbrev pub ordered : Type 0
   ordered =
-      (tag : ℕ) (value : R) (slots : List (ℕ × R)) (r : Record R) → st.word ≡ state_at tag → me.0 ≡ alone r → me.1 ≡ (tag, value) ∷ slots
-      → map (λ x. x.0) slots ≡ tags_from (but (tag_bit r.shape.layout r.held) tag) 0 r.shape.layout.depth → tag_bit r.shape.layout r.held tag ≡ 1
+      (tag : ℕ) (value : R) (slots : List (ℕ × R)) (r : Record R) → st.word ≡ state_at tag → me.0 ≡ alone r
+      → me.1 ≡ (tag, value) ∷ slots
+      → map (λ x. x.0) slots ≡ tags_from (but (tag_bit r.shape.layout r.held) tag) 0 r.shape.layout.depth
+      → tag_bit r.shape.layout r.held tag ≡ 1
       → (me'.0 ≡ me.0) × Carries r.shape.layout r.held me'.1 × (value_of me'.1 tag ≡ some value)
       × ((other : ℕ) → other < r.shape.layout.depth → other ≢ tag → tag_bit r.shape.layout r.held other ≡ 1
       → value_of me'.1 other ≡ value_of slots other)

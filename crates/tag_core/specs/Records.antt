@@ -87,7 +87,8 @@ value_of (x ∷ slots) tag = cond (nat_eq x.0 tag) (some x.1) (value_of slots ta
 -- of so many tags from the first on, those whose bit is 1, in order
 abbrev pub tags_from : (ℕ → ℕ) → ℕ → ℕ → List ℕ
 tags_from bit first zero = []
-tags_from bit first (suc count) = cond (nat_eq (bit first) 1) (first ∷ tags_from bit (suc first) count) (tags_from bit (suc first) count)
+tags_from bit first (suc count) =
+    cond (nat_eq (bit first) 1) (first ∷ tags_from bit (suc first) count) (tags_from bit (suc first) count)
 
 -- the bits of all tags but one
 abbrev pub but : (ℕ → ℕ) → ℕ → ℕ → ℕ

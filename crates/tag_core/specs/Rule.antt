@@ -60,7 +60,8 @@ pub record IsKnown {R : Type 0} (k : Shape) (h : History R) (r : Record R) : Typ
 abbrev pub EachStands : {R : Type 0} → ℕ → List (View R) → (ℕ → ℕ) → (ℕ → ℕ) → Type 0
 EachStands {R} callers views seat position =
     (caller : ℕ) → caller < callers
-    → (v : View R) × (r : Record R) × (get_elem? views (seat caller) ≡ some v) × (get_elem? v.records.value (position caller) ≡ some r) × (r.number ≡ caller)
+    → (v : View R) × (r : Record R) × (get_elem? views (seat caller) ≡ some v)
+    × (get_elem? v.records.value (position caller) ≡ some r) × (r.number ≡ caller)
 
 -- the rule
 pub record Shown {R : Type 0} (k : Shape) (s : State R (View R)) : Type 0 where

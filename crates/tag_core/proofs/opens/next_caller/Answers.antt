@@ -6,7 +6,7 @@ use Rattle.tag_core.specs.declared.shape.Shape.{Shape}
 use Rattle.tag_core.specs.Records.{fresh_record, Carries}
 use Rattle.tag_core.specs.Views.{viewing, alone, fresh, first_view, other_views, steps_of}
 use Rattle.tag_core.specs.Rule.{Shown}
-use Rattle.tag_core.proofs.Passing.{hands, next_fresh, carries_none}
+use Rattle.tag_core.proofs.Passing.{hands_first, next_fresh, carries_none}
 use Rattle.tag_core.proofs.Stand.{some_width}
 use Rattle.tag_core.proofs.opens.next_caller.Goals as goal
 
@@ -19,7 +19,7 @@ split_seat-seat-requires g c =
       c.requires.seat,
       subst (λ (z : ℕ). 0 < z) (sym m.wide.0) (some_width k.layout),
       subst (λ (z : Shape). Splits (Shown z) c.args.rest.now.id v (other_views v) (first_view v)) (sym m.told)
-          (hands R k c.args.rest.now.id v (fresh_record k n) (fresh k (n + 1) (k.callers - (n + 1))) is),
+          (hands_first R k c.args.rest.now.id v (fresh_record k n) (fresh k (n + 1) (k.callers - (n + 1))) is),
     )
 
 -- a caller that won nothing before

@@ -9,7 +9,7 @@ use Rattle.tag_core.specs.Records.{tag_bit}
 use Rattle.tag_core.specs.Views.{viewing, first_view, other_views, both_views}
 use Rattle.tag_core.specs.Rule.{Shown}
 use Rattle.tag_core.specs.Callers.{record_of}
-use Rattle.tag_core.proofs.Passing.{hands, joins}
+use Rattle.tag_core.proofs.Passing.{hands_first, joins}
 use Rattle.tag_core.proofs.Stand.{some_width}
 use Rattle.tag_core.proofs.Meetings.{meet_allowed}
 use Rattle.tag_core.proofs.map.Map.meet.Goals as goal
@@ -21,7 +21,8 @@ module _ {R : Type 0} (m : Map R) where
   splits_off : (id : ℕ) (v : View R) (r : Record R) (rs : List (Record R)) → v ≡ viewing (r ∷ rs)
       → Splits (Shown m.table.shared.key) id v (other_views v) (first_view v)
   splits_off id v r rs is =
-      subst (λ (z : Shape). Splits (Shown z) id v (other_views v) (first_view v)) (sym m.told) (hands R m.shape id v r rs is)
+      subst (λ (z : Shape). Splits (Shown z) id v (other_views v) (first_view v)) (sym m.told)
+      (hands_first R m.shape id v r rs is)
 
   joins_in : (id : ℕ) (v : View R) (other : ℕ) (w : View R)
       → Joins (Shown m.table.shared.key) id v other w (both_views v w) (viewing [])
@@ -81,7 +82,8 @@ pub join_seat-requires-2 : goal.join_seat-requires-2
 join_seat-requires-2 g c =
     let m = c.args.self.now in let seat = c.split_seat-both.new.seat in let one = c.split_seat-one.result in (
       c.split_seat-both.ensures.0 ∙ c.requires.callers.0.0,
-      c.split_seat-one.ensures.3 ∙ c.load.ensures.0 ∙ c.join_seat.ensures.0 ∙ c.split_seat-both.ensures.3 ∙ c.requires.callers.0.0,
+      c.split_seat-one.ensures.3 ∙ c.load.ensures.0 ∙ c.join_seat.ensures.0 ∙ c.split_seat-both.ensures.3
+          ∙ c.requires.callers.0.0,
       ap (λ z. z.1) c.split_seat-one.ensures.4,
       some_words m,
       joins_in m seat.id seat.me.0 one.id one.me.0,
@@ -91,7 +93,8 @@ pub join_seat-requires-3 : goal.join_seat-requires-3
 join_seat-requires-3 g c =
     let m = c.args.self.now in let seat = c.split_seat-other.new.seat in let two = c.split_seat-one.new.seat in (
       c.split_seat-other.ensures.0 ∙ c.requires.callers.1.0,
-      c.split_seat-one.ensures.0 ∙ c.load.ensures.0 ∙ c.join_seat.ensures.0 ∙ c.split_seat-both.ensures.3 ∙ c.requires.callers.0.0,
+      c.split_seat-one.ensures.0 ∙ c.load.ensures.0 ∙ c.join_seat.ensures.0 ∙ c.split_seat-both.ensures.3
+          ∙ c.requires.callers.0.0,
       ap (λ z. z.1) (c.split_seat-one.ensures.2) ∙ ap (λ z. z.1) (c.load.ensures.2.0 ∙ c.join_seat.ensures.2)
           ∙ ap (λ z. z.1) c.split_seat-both.ensures.4,
       some_words m,

@@ -4,7 +4,7 @@ use Rattle.tag_core.specs.declared.shape.Shape.{Shape}
 use Rattle.tag_core.specs.Views.{first_view, other_views}
 use Rattle.tag_core.specs.Rule.{Shown}
 use Rattle.tag_core.specs.Callers.{record_of}
-use Rattle.tag_core.proofs.Passing.{hands}
+use Rattle.tag_core.proofs.Passing.{hands_first}
 use Rattle.tag_core.proofs.Stand.{some_width}
 use Rattle.tag_core.proofs.together.Together.of.Goals as goal
 
@@ -13,5 +13,5 @@ split_seat-note-requires g c = let m = c.args.map.now in let w = c.args.caller i
   c.requires.0,
   subst (λ (z : ℕ). 0 < z) (sym m.wide.0) (some_width m.shape.layout),
   subst (λ (z : Shape). Splits (Shown z) w.seat.id w.seat.me.0 (other_views w.seat.me.0) (first_view w.seat.me.0))
-      (sym m.told) (hands g.row.R.Denot m.shape w.seat.id w.seat.me.0 (record_of w) [] w.knows),
+      (sym m.told) (hands_first g.row.R.Denot m.shape w.seat.id w.seat.me.0 (record_of w) [] w.knows),
 )
