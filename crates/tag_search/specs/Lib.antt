@@ -11,3 +11,4 @@ pub mod Places
 pub mod Scans
 pub mod Plain
 pub mod PlainLaws
+pub mod Writes

@@ -12,8 +12,8 @@ returns-then-index-bit-ne0 c =
     let r = c.word_of-word.result in let i : ℕ = word_of p.layout c.args.tag in let e : r ≡ i = c.word_of-word.ensures.value in
     let k : ℕ = place_of p.layout c.args.tag in let b = c.bit_of-bit.ensures.value in
     let n = c.index.result.now in let a = c.index-then-index-bit-ne0.result.now in
-    let within : r < length p.word = rw c.self.invariant.0 c.word_of-word.ensures.within in
-    let within' : r < length p.aside = rw c.self.invariant.1 c.word_of-word.ensures.within in
+    let within : r < length p.word = rw c.self.invariant.word_count c.word_of-word.ensures.within in
+    let within' : r < length p.aside = rw c.self.invariant.aside_count c.word_of-word.ensures.within in
     let is = get_or_read p.word r n within c.index.ensures 0 ∙ ap (λ (x : ℕ). get_or p.word x 0) e in
     let is' = get_or_read p.aside r a within' c.index-then-index-bit-ne0.ensures 0 ∙ ap (λ (x : ℕ). get_or p.aside x 0) e in
     rw (← c.self.view_is) (tells_taken p i k n a c.bit_of-bit.result b is is' c.if-index-bit-ne0.true)
@@ -24,6 +24,6 @@ returns-else-index-bit-ne0 c =
     let r = c.word_of-word.result in let i : ℕ = word_of p.layout c.args.tag in let e : r ≡ i = c.word_of-word.ensures.value in
     let k : ℕ = place_of p.layout c.args.tag in let b = c.bit_of-bit.ensures.value in
     let n = c.index.result.now in
-    let within : r < length p.word = rw c.self.invariant.0 c.word_of-word.ensures.within in
+    let within : r < length p.word = rw c.self.invariant.word_count c.word_of-word.ensures.within in
     let is = get_or_read p.word r n within c.index.ensures 0 ∙ ap (λ (x : ℕ). get_or p.word x 0) e in
     rw (← c.self.view_is) (tells_free p i k n c.bit_of-bit.result b is c.if-index-bit-ne0.false)
