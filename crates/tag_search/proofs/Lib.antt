@@ -12,3 +12,4 @@ pub mod GetFacts
 pub mod Batches
 pub mod PlainFacts
 pub mod Writings
+pub mod Held
