@@ -3,7 +3,7 @@ use Rattle.std.proofs.Common.{◌≡◌, ◌^◌, ◌<◌, get_or, arith, sym, a
 use Rattle.tag_layout.specs.Layout.{IsWithin}
 use Rattle.tag_search.specs.Plain.{Plain, IsTaken}
 use Rattle.tag_search.specs.Writes.{IsTidy}
-use Rattle.tag_search.proofs.Held.{held, held_within, held_taken}
+use Rattle.tag_search.proofs.TakenPlaces.{held, held_within, held_taken}
 use Rattle.tag_search.proofs.tests.comparison.give.Goals as goal
 
 pub give-requires-clause-mask : goal.give-requires-clause-mask
