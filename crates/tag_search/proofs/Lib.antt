@@ -17,3 +17,4 @@ pub mod Held
 pub mod PlainFacts
 pub mod Writings
 pub mod TakenPlaces
+pub mod PlainPools
