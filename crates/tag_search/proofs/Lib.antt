@@ -15,3 +15,7 @@ pub mod BatchAlone
 pub mod Batches
 pub mod Held
 pub mod PlainFacts
+pub mod Writings
+pub mod TakenPlaces
+pub mod PlainPools
+pub mod Slow

@@ -12,3 +12,5 @@ pub mod Places
 pub mod Scans
 pub mod Plain
 pub mod PlainLaws
+pub mod Writes
+pub mod Marks

@@ -1,5 +1,12 @@
 //! The port to plain words: each call is its steps, which nobody else's come between.
-ghost use Rattle.std.specs.Prelude.{ℕ};
+ghost use Rattle.std.specs.Prelude.{◌≡◌, ◌≢◌, ℕ, ◌^◌, ◌<◌, ◌↔◌, ⊤, [], ◌∷◌, slice_index, IsTrue, IfOk, IsOkAnd, MatchBool};
+ghost use Rattle.tag_layout.specs.Layout.{words, IsWithin};
+ghost use Rattle.tag_core.specs.declared.word_step.WordStep.TheVariants.{Look, Claimed};
+ghost use Rattle.tag_core.specs.Steps.{without};
+ghost use Rattle.tag_search.specs.Added.{Adds};
+ghost use Rattle.tag_search.specs.Plain.{RunsAlone};
+ghost use Rattle.tag_search.specs.Search.{IsSweep};
+ghost use Rattle.tag_search.specs.Writes.{Writes, IsIn, IsTidy};
 
 use crate::plain::PlainPort;
 use crate::port::Port;
@@ -7,7 +14,6 @@ use tag_core::{Claim, Spent};
 use tag_layout::Layout;
 
 impl Port for PlainPort {
-    ghost use Rattle.tag_search.specs.Plain.{RunsAlone};
     ghost use Rattle.tag_search.specs.PlainLaws.{runs_nothing, runs_on};
 
     ghost sizes = { λ p. p.layout };
@@ -31,27 +37,53 @@ impl Port for PlainPort {
     }
 
     #[inline]
-    fn look(&mut self, word: u32) -> u64 {
+    fn look(&mut self, word: u32) -> u64
+        requires word { word < words self.old.layout }
+        ensures value { result ≡ slice_index self.old.word word }
+        ensures same { self.new ≡ self.old }
+        ensures tidy { IsTidy self.old }
+        ensures step { RunsAlone self.old (Look word result ∷ []) self.new }
+    {
         self.word[word as usize]
     }
 
     #[inline]
-    fn claim(&mut self, word: u32, mask: u64) -> Result<Claim, Spent> {
-        let found = self.word[word as usize];
-        self.word[word as usize] = found | mask;
+    fn claim(&mut self, word: u32, mask: u64) -> Result<Claim, Spent>
+        requires word { word < words self.old.layout }
+        requires mask { IsWithin self.old.layout word mask }
+        ensures layout { self.new.layout ≡ self.old.layout }
+        ensures found { IsOkAnd result (λ claim. claim.found ≡ slice_index self.old.word word) }
+        ensures won { IfOk result (λ claim. claim.won ≡ without mask claim.found) }
+        ensures word { Writes self.old.word self.new.word word (IsIn mask) 1 }
+        ensures aside { self.new.aside ≡ self.old.aside }
+        ensures step { IfOk result (λ claim. RunsAlone self.old (Claimed word mask claim.found ∷ []) self.new) }
+    {
+        let at = word as usize;
+        let found = self.word[at];
+        self.word[at] = found | mask;
         Ok(Claim {
             won: mask & !found,
             found,
         })
     }
 
-    fn sweep(&mut self, word: u32) -> bool {
-        let mask = self.cleared[word as usize];
+    fn sweep(&mut self, word: u32) -> bool
+        requires word { word < words self.old.layout }
+        ensures layout { self.new.layout ≡ self.old.layout }
+        ensures swept { IsTrue result ↔ (slice_index self.old.aside word ≢ 0) }
+        ensures word { Writes self.old.word self.new.word word (IsIn (slice_index self.old.aside word)) 0 }
+        ensures aside { Writes self.old.aside self.new.aside word (λ _. ⊤) 0 }
+        ensures steps { MatchBool result
+            ((mask : ℕ) × (mask ≢ 0) × Adds RunsAlone self.old self.new (IsSweep word mask))
+            (Adds RunsAlone self.old self.new (IsSweep word 0)) }
+    {
+        let at = word as usize;
+        let mask = self.cleared[at];
         if mask == 0 {
             return false;
         }
-        self.cleared[word as usize] = 0;
-        self.word[word as usize] &= !mask;
+        self.cleared[at] = 0;
+        self.word[at] &= !mask;
         true
     }
 }

@@ -1,0 +1,28 @@
+-- What a call on plain words changes of them, bit by bit, and what is true of them between any two calls.
+use Rattle.std.specs.Prelude.{◌≡◌, ◌≢◌, ℕ, ◌<◌, true, false, List, length, slice_index}
+use Rattle.std.specs.Int.{bit_at}
+use Rattle.tag_layout.specs.Layout.{words, word_depth}
+use Rattle.tag_search.specs.Plain.{Plain}
+use Rattle.tag_search.specs.Pool.{Pool}
+
+-- in this word the places of the set have this bit, and every other bit of the list stays
+pub record Writes (old new : List ℕ) (word : ℕ) (Places : ℕ → Type 0) (bit : ℕ) : Type 0 where
+  pub there : (place : ℕ) → Places place → bit_at (slice_index new word) place ≡ bit
+  pub beside : (place : ℕ) → ¬ Places place → bit_at (slice_index new word) place ≡ bit_at (slice_index old word) place
+  pub others : (other : ℕ) → other ≢ word → slice_index new other ≡ slice_index old other
+
+-- the places of a mask
+abbrev pub IsIn : ℕ → ℕ → Type 0
+IsIn mask place = bit_at mask place ≡ 1
+
+-- there is an entry a word, no bit of a word stands where it uses none, and what is set aside is taken
+pub record IsTidy (p : Plain) : Type 0 where
+  pub word_count : length p.word ≡ words p.layout
+  pub aside_count : length p.aside ≡ words p.layout
+  pub within : (word place : ℕ) → bit_at (slice_index p.word word) place ≡ 1 → place < word_depth p.layout word
+  pub taken : (word place : ℕ) → bit_at (slice_index p.aside word) place ≡ 1 → bit_at (slice_index p.word word) place ≡ 1
+
+-- each of the 64 places of every word is free, and none is set aside
+pub record IsAllFree (p : Pool) : Type 0 where
+  pub free : (word place : ℕ) → place < 64 → p.free word place ≡ true
+  pub aside : (word place : ℕ) → p.aside word place ≡ false
