@@ -11,3 +11,4 @@ pub mod Choices
 pub mod GetFacts
 pub mod Batches
 pub mod PlainFacts
+pub mod SharedFacts

@@ -11,3 +11,5 @@ pub mod Places
 pub mod Scans
 pub mod Plain
 pub mod PlainLaws
+pub mod Shared
+pub mod SharedLaws
