@@ -11,4 +11,5 @@ pub mod Choices
 pub mod GetFacts
 pub mod Batches
 pub mod PlainFacts
+pub mod SharedCalls
 pub mod SharedFacts

@@ -13,3 +13,4 @@ pub mod Plain
 pub mod PlainLaws
 pub mod Shared
 pub mod SharedLaws
+pub mod Gains

@@ -1,6 +1,6 @@
 -- A claim adds bits to the caller's held set.
 use Rattle.std.proofs.Common.{◌^◌, ◌<◌, length, refl, arith}
-use Rattle.tag_search.proofs.SharedFacts.{adds_claim}
+use Rattle.tag_search.proofs.SharedCalls.{adds_claim}
 use Rattle.tag_search.proofs.shared.SharedPort.claim.Goals as goal
 
 pub returns-clause-step : goal.returns-clause-step

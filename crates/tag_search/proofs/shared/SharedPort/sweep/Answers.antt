@@ -1,6 +1,6 @@
 -- A sweep leaves the caller's held set as it was.
 use Rattle.std.proofs.Common.{refl}
-use Rattle.tag_search.proofs.SharedFacts.{swept}
+use Rattle.tag_search.proofs.SharedCalls.{swept}
 use Rattle.tag_search.proofs.shared.SharedPort.sweep.Goals as goal
 
 pub returns-clause-steps : goal.returns-clause-steps
