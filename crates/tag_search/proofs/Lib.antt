@@ -13,3 +13,4 @@ pub mod Batches
 pub mod PlainFacts
 pub mod SharedCalls
 pub mod SharedFacts
+pub mod RunFacts

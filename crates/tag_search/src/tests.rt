@@ -1,6 +1,9 @@
 //! Searches worked by hand, with their steps counted.
 ghost use Rattle.std.specs.Prelude.{ℕ, ◌<◌};
 
+mod shared;
+mod threads;
+
 use crate::{Hint, PlainPort, Port, after_clear, get, get_batch, get_shallow};
 use std::test::Fail;
 use tag_core::{Claim, Spent};
