@@ -1,5 +1,5 @@
 //! How tags that were set aside become free.
-ghost use Rattle.std.specs.Prelude.{◌≡◌, ◌≢◌, ℕ, ◌<◌, IsTrue, IsFalse};
+ghost use Rattle.std.specs.Prelude.{◌≡◌, ◌≢◌, ℕ, ◌^◌, ◌<◌, IsTrue, IsFalse};
 ghost use Rattle.tag_layout.specs.Layout.{words};
 ghost use Rattle.tag_core.specs.Callers.{layout_of, IsCallerOf, Adds, AddsTwo};
 ghost use Rattle.tag_core.specs.declared.step.Step.TheVariants.{Word};
@@ -17,7 +17,7 @@ impl<R> Map<R> {
         requires within { word < words (layout_of self.now) }
         ensures caller { IsCallerOf self.now caller.new }
         ensures none { IsFalse result → Adds (Word (Swap word 0)) caller.old caller.new }
-        ensures some { IsTrue result → (mask : ℕ) × (found : ℕ) × (mask ≢ 0)
+        ensures some { IsTrue result → (mask : ℕ) × (found : ℕ) × (mask ≢ 0) × (mask < 2 ^ 64)
             × AddsTwo (Word (Swap word mask)) (Word (Spill word mask found)) caller.old caller.new }
     {
         let mask = self

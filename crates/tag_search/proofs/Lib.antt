@@ -19,3 +19,6 @@ pub mod Writings
 pub mod TakenPlaces
 pub mod PlainPools
 pub mod Slow
+pub mod SharedCalls
+pub mod SharedFacts
+pub mod RunFacts

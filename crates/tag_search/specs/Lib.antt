@@ -14,3 +14,6 @@ pub mod Plain
 pub mod PlainLaws
 pub mod Writes
 pub mod Marks
+pub mod Shared
+pub mod SharedLaws
+pub mod Gains

@@ -12,6 +12,7 @@ mod port;
 mod rank;
 mod scan;
 mod search;
+mod shared;
 #[cfg(test)]
 mod tests;
 
@@ -19,3 +20,4 @@ pub use hint::{Hint, after_clear};
 pub use plain::PlainPort;
 pub use port::Port;
 pub use search::{get, get_batch, get_shallow};
+pub use shared::Shared;

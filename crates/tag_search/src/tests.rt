@@ -7,6 +7,8 @@ mod hints;
 mod marks;
 mod memory;
 mod slow;
+mod shared;
+mod threads;
 
 use crate::{Hint, PlainPort, Port, after_clear, get, get_batch, get_shallow};
 use std::test::Fail;

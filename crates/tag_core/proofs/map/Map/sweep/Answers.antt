@@ -137,6 +137,7 @@ returns-clause-some g c =
       f,
       c.fetch_and.result,
       c.if-mask-eq0.false,
+      c.swap-mask.type_inv,
       record {
         known = both w i f c.fetch_and.result me inside done.view;
         slots = λ t was is. done.values t was.0 was.1 was.1 ∙ did.values t was.0 was.1 was.1;

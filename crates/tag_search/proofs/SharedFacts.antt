@@ -1,0 +1,285 @@
+-- What a get over a shared map does to its caller: it holds the tag that it won, and what it held.
+use Rattle.std.proofs.Common.{◌≡◌, ℕ, ◌+◌, ◌-◌, ◌*◌, ◌^◌, ◌<◌, ◌≤◌, ◌==◌, Bool, true, false, ◌&&◌, cond, nat_eq, eqb-true, List, [], ◌∷◌, ◌++◌, length, Option, Some, None, get_or, set, bit_or, count_ones, get_or-set_same, arith, refl, sym, ap, ◌∙◌, subst}
+use Rattle.std.specs.Prelude.{All, IfSome, IsTrue}
+use mathlib.Core.Logic.{dite}
+use native.Mathlib.Decide.{ℕ_discrete}
+use Rattle.tag_core.specs.Event.{is_in_mask}
+use Rattle.std.specs.List.{AllByRecursion}
+use Rattle.std.specs.Int.{bit_at}
+use Rattle.std.specs.Int.Bits.{or_zero_r}
+use Rattle.std.proofs.lemmas.List.{set-get_or}
+use Rattle.std.proofs.lemmas.List.Elements.{All-head, All-tail, All-map}
+use Rattle.std.proofs.lemmas.Nat.Bits.{bit_at_or, bit_at-pow_same, bit_at-pow_other, bit_at-lt}
+use lib.Count.{ones}
+use Rattle.tag_layout.specs.Layout.{Layout, words, word_bits, word_of, place_of, word_depth, tag_at}
+use Rattle.tag_layout.proofs.PlaceFacts.{word_of-tag_at, place_of-tag_at, tag_at-below, tag_at-back, word_of-below, word_bits-le}
+use Rattle.tag_core.specs.declared.caller.Caller.{Caller}
+use Rattle.tag_core.specs.declared.map.Map.{Map}
+use Rattle.tag_core.specs.declared.record.Record.{Record}
+use Rattle.tag_core.specs.declared.step.Step.TheVariants.{Word}
+use Rattle.tag_core.specs.declared.word_step.WordStep.{WordStep}
+use Rattle.tag_core.specs.declared.word_step.WordStep.TheVariants.{Look, Claimed, Swap, Spill}
+use Rattle.tag_core.specs.Callers.{layout_of, IsCallerOf, record_of, Holds}
+use Rattle.tag_core.specs.Records.{record_after, joined, tag_bit}
+use Rattle.tag_core.specs.Steps.{without}
+use Rattle.tag_search.specs.declared.shared.Shared.{Shared}
+use Rattle.tag_search.specs.Added.{Adds as Ports}
+use Rattle.tag_search.specs.Gains.{held_with, count_of, Gains}
+use Rattle.tag_search.specs.Gets.{IsGet}
+use Rattle.tag_search.specs.Order.{scan_order}
+use Rattle.tag_search.specs.Search.{IsTries, none_left, wins, loses, IsPass, pass, IsSweep, empty, spilled, IsRetry, nothing_aside, swept, IsVisit, at_once, retried, Visit, IsSearch, over, won, passed}
+use Rattle.tag_search.specs.Shared.{record_after_all, FindsWord, AddsAll, AddsThrough}
+use Rattle.tag_search.specs.SharedLaws.{record_after-append}
+use Rattle.tag_search.specs.Visits.{Reach, visit_of, visits, plain_visits, shallow_visits, plain_reach, shallow_reach}
+use Rattle.tag_search.proofs.Claims.{count_ones-pow, without-pow}
+use Rattle.tag_search.proofs.GetFacts.{plain_within, shallow_within}
+use Rattle.tag_search.proofs.Orders.{all_scan}
+use Rattle.tag_search.proofs.Passes.{all_left}
+
+-- the held set and the place of a word that was won, where there is one
+abbrev pub held_at : ℕ → Option ℕ → List ℕ → List ℕ
+held_at i None held = held
+held_at i (Some place) held = joined held i (2 ^ place)
+
+-- the caller won this place of the word below the bound, where there is one, and no other, and gave none back
+pub record Took {R : Type 0} (bits i : ℕ) (answer : Option ℕ) (old new : Record R) : Type 0 where
+  pub shape : new.shape ≡ old.shape
+  pub number : new.number ≡ old.number
+  pub held : new.held ≡ held_at i answer old.held
+  pub won : new.won ≡ old.won + count_of answer
+  pub back : new.back ≡ old.back
+  pub place : IfSome answer (λ place. place < bits)
+
+pub count_ones-zero : count_ones 0 ≡ 0
+unfolding ones
+count_ones-zero = refl
+
+finds-split : (xs ys : List WordStep) → AllByRecursion FindsWord (xs ++ ys) → AllByRecursion FindsWord xs × AllByRecursion FindsWord ys
+finds-split [] ys h = (tt, h)
+finds-split (x ∷ xs) ys h = let rest = finds-split xs ys h.1 in ((h.0, rest.0), rest.1)
+
+module _ {R : Type 0} (bits i : ℕ) where
+  -- what took nothing, and then what took something
+  took_on : (r s t : Record R) (answer : Option ℕ) → Took bits i None r s → Took bits i answer s t → Took bits i answer r t
+  took_on r s t answer a b = record {
+    shape = b.shape ∙ a.shape;
+    number = b.number ∙ a.number;
+    held = b.held ∙ ap (held_at i answer) a.held;
+    won = let x = a.won in let y = b.won in omega arith;
+    back = b.back ∙ a.back;
+    place = b.place;
+  }
+
+  pub took_more : (r : Record R) (xs ys : List WordStep) (answer : Option ℕ) → Took bits i None r (record_after_all xs r)
+      → Took bits i answer (record_after_all xs r) (record_after_all ys (record_after_all xs r)) → Took bits i answer r (record_after_all (xs ++ ys) r)
+  took_more r xs ys answer a b =
+      subst (λ (s : Record R). Took bits i answer r s) (sym (record_after-append xs ys r)) (took_on r (record_after_all xs r) (record_after_all ys (record_after_all xs r)) answer a b)
+
+  pub took_none : (r : Record R) → Took bits i None r r
+  took_none r = record { shape = refl; number = refl; held = refl; won = omega arith; back = refl; place = tt }
+
+  pub took_look : (r : Record R) (found : ℕ) → Took bits i None r (record_after (Word (Look i found)) r)
+  took_look r found = record { shape = refl; number = refl; held = refl; won = refl; back = omega arith; place = tt }
+
+  took_swap : (r : Record R) (found : ℕ) → Took bits i None r (record_after (Word (Swap i found)) r)
+  took_swap r found = record { shape = refl; number = refl; held = refl; won = refl; back = omega arith; place = tt }
+
+  took_spill : (r : Record R) (mask found : ℕ) → Took bits i None r (record_after (Word (Spill i mask found)) r)
+  took_spill r mask found = record { shape = refl; number = refl; held = refl; won = refl; back = omega arith; place = tt }
+
+  -- a claim of a place that was taken
+  took_lost : (r : Record R) (place found : ℕ) → place < 64 → found < 2 ^ 64 → bit_at found place ≡ 1 → Took bits i None r (record_after (Word (Claimed i (2 ^ place) found)) r)
+  took_lost r place found h fits one =
+      let none : without (2 ^ place) found ≡ 0 = without-pow found place fits h ∙ ap (λ (x : ℕ). (1 - x) * 2 ^ place) one ∙ omega arith in record {
+        shape = refl;
+        number = refl;
+        held = ap (joined r.held i) none ∙ ap (set r.held i) (or_zero_r (get_or r.held i 0)) ∙ set-get_or r.held i 0;
+        won = ap (λ (x : ℕ). r.won + count_ones x) none ∙ ap (λ (x : ℕ). r.won + x) count_ones-zero;
+        back = omega arith;
+        place = tt;
+      }
+
+  -- a claim of a place that was clear
+  took_won : (r : Record R) (place found : ℕ) → place < 64 → place < bits → found < 2 ^ 64 → bit_at found place ≡ 0
+      → Took bits i (Some place) r (record_after (Word (Claimed i (2 ^ place) found)) r)
+  took_won r place found h below fits clear =
+      let all : without (2 ^ place) found ≡ 2 ^ place = without-pow found place fits h ∙ ap (λ (x : ℕ). (1 - x) * 2 ^ place) clear ∙ omega arith in record {
+        shape = refl;
+        number = refl;
+        held = ap (joined r.held i) all;
+        won = ap (λ (x : ℕ). r.won + count_ones x) all ∙ ap (λ (x : ℕ). r.won + x) (count_ones-pow place);
+        back = omega arith;
+        place = below;
+      }
+
+module _ {R : Type 0} (bits i : ℕ) (narrow : bits ≤ 64) where
+  tries_took : {rank : List ℕ} {found : ℕ} {steps : List WordStep} {answer : Option ℕ} (r : Record R) → IsTries i rank found steps answer
+      → AllByRecursion FindsWord steps → All (λ place. place < bits) rank → Took bits i answer r (record_after_all steps r)
+  tries_took r (none_left taken) finds small = took_none bits i r
+  tries_took r (wins {rank = rank} {behind = behind} {found = found} {next = next} {place = place} first clear) finds small =
+      let at = all_left (λ place. place < bits) found rank behind place first small in let below : place < bits = at.0 in
+      took_won bits i r place next (omega arith) below finds.0 clear
+  tries_took r (loses {rank = rank} {behind = behind} {found = found} {next = next} {place = place} {rest = rest} {answer = answer} first taken more) finds small =
+      let at = all_left (λ place. place < bits) found rank behind place first small in let below : place < bits = at.0 in
+      let s : Record R = record_after (Word (Claimed i (2 ^ place) next)) r in
+      took_on bits i r s (record_after_all rest s) answer (took_lost bits i r place next (omega arith) finds.0 taken) (tries_took s more finds.1 at.1)
+
+  pass_took : {rank : List ℕ} {steps : List WordStep} {answer : Option ℕ} (r : Record R) → IsPass i rank steps answer
+      → AllByRecursion FindsWord steps → All (λ place. place < bits) rank → Took bits i answer r (record_after_all steps r)
+  pass_took r (pass {found = found} {tries = tries} {answer = answer} more) finds small =
+      let s : Record R = record_after (Word (Look i found)) r in
+      took_on bits i r s (record_after_all tries s) answer (took_look bits i r found) (tries_took s more finds.1 small)
+
+  pub sweep_took : {mask : ℕ} {steps : List WordStep} (r : Record R) → IsSweep i mask steps → Took bits i None r (record_after_all steps r)
+  sweep_took r empty = took_swap bits i r 0
+  sweep_took r (spilled {mask = mask} {found = found} some fits) =
+      let s : Record R = record_after (Word (Swap i mask)) r in
+      took_on bits i r s (record_after (Word (Spill i mask found)) s) None (took_swap bits i r mask) (took_spill bits i s mask found)
+
+  retry_took : {rank : List ℕ} {steps : List WordStep} {answer : Option ℕ} (r : Record R) → IsRetry i rank steps answer
+      → AllByRecursion FindsWord steps → All (λ place. place < bits) rank → Took bits i answer r (record_after_all steps r)
+  retry_took r (nothing_aside sweep) finds small = sweep_took r sweep
+  retry_took r (swept {sweep = first} {second = second} {answer = answer} some sweep again) finds small =
+      took_more bits i r first second answer (sweep_took r sweep) (pass_took (record_after_all first r) again (finds-split first second finds).1 small)
+
+  -- a visit wins the place that it answers, and nothing else
+  visit_took : {rank : List ℕ} {steps : List WordStep} {answer : Option ℕ} (r : Record R) → IsVisit i rank steps answer
+      → AllByRecursion FindsWord steps → All (λ place. place < bits) rank → Took bits i answer r (record_after_all steps r)
+  visit_took r (at_once once) finds small = pass_took r once finds small
+  visit_took r (retried {first = first} {rest = rest} {answer = answer} once again) finds small =
+      let split = finds-split first rest finds in
+      took_more bits i r first rest answer (pass_took r once split.0 small) (retry_took (record_after_all first r) again split.1 small)
+
+-- as `Gains` says it of the records alone, with a tag of the map
+record Won {R : Type 0} (l : Layout) (answer : Option ℕ) (old new : Record R) : Type 0 where
+  shape : new.shape ≡ old.shape
+  number : new.number ≡ old.number
+  held : new.held ≡ held_with l answer old.held
+  won : new.won ≡ old.won + count_of answer
+  back : new.back ≡ old.back
+  tag : IfSome answer (λ tag. tag < l.depth)
+
+-- each place of the visit is one of its word
+abbrev IsInside : Layout → Visit → Type 0
+IsInside l visit = All (λ place. place < word_depth l visit.word) visit.rank
+
+module _ {R : Type 0} (l : Layout) (narrow : word_bits l ≤ 64) where
+  won_none : (r : Record R) → Won l None r r
+  won_none r = record { shape = refl; number = refl; held = refl; won = omega arith; back = refl; tag = tt }
+
+  won_tag : (i place : ℕ) (r s : Record R) → Took (word_depth l i) i (Some place) r s → Won l (Some (tag_at l i place)) r s
+  won_tag i place r s took = let near : place < word_depth l i = took.place in let small : place < word_bits l = omega arith in record {
+    shape = took.shape;
+    number = took.number;
+    held = took.held ∙ sym (λ z. joined r.held (word_of-tag_at l i place small z) (2 ^ place_of-tag_at l i place small z));
+    won = took.won;
+    back = took.back;
+    tag = tag_at-below l i place near;
+  }
+
+  won_on : (i : ℕ) (r s t : Record R) (answer : Option ℕ) → Took (word_depth l i) i None r s → Won l answer s t → Won l answer r t
+  won_on i r s t answer a b = record {
+    shape = b.shape ∙ a.shape;
+    number = b.number ∙ a.number;
+    held = b.held ∙ ap (held_with l answer) a.held;
+    won = let x = a.won in let y = b.won in omega arith;
+    back = b.back ∙ a.back;
+    tag = b.tag;
+  }
+
+  visit_wins : (visit : Visit) {steps : List WordStep} {answer : Option ℕ} (r : Record R) → IsVisit visit.word visit.rank steps answer
+      → AllByRecursion FindsWord steps → IsInside l visit → Took (word_depth l visit.word) visit.word answer r (record_after_all steps r)
+  visit_wins visit r v finds inside = visit_took (word_depth l visit.word) visit.word (let z : word_depth l visit.word ≤ 64 = omega arith in z) r v finds inside
+
+  -- a search wins the tag that it answers, and nothing else
+  search_wins : {vs : List Visit} {steps : List WordStep} {answer : Option ℕ} (r : Record R) → IsSearch l vs steps answer
+      → AllByRecursion FindsWord steps → All (IsInside l) vs → Won l answer r (record_after_all steps r)
+  search_wins r over finds inside = won_none r
+  search_wins r (won {visit = visit} {visits = more} {steps = steps} {place = place} v) finds inside =
+      won_tag visit.word place r (record_after_all steps r) (visit_wins visit r v finds (All-head (IsInside l) visit more inside))
+  search_wins r (passed {visit = visit} {visits = more} {steps = steps} {rest = rest} {answer = answer} v search) finds inside =
+      let split = finds-split steps rest finds in let s : Record R = record_after_all steps r in
+      subst (λ (t : Record R). Won l answer r t) (sym (record_after-append steps rest r))
+      (won_on visit.word r s (record_after_all rest s) answer (visit_wins visit r v split.0 (All-head (IsInside l) visit more inside))
+      (search_wins s search split.1 (All-tail (IsInside l) visit more inside)))
+
+-- the visits of a get are inside their words
+visits_inside : (l : Layout) (first : ℕ) (reach : Reach) → ((i : ℕ) → i < words l → reach.limit i ≤ word_depth l i)
+    → All (IsInside l) (visits l first reach)
+visits_inside l first reach within =
+    All-map (IsInside l) (visit_of first reach) (scan_order first (words l) true)
+    (all_scan (λ i. IsInside l (visit_of first reach i)) first (words l) true (λ i h.
+    all_scan (λ place. place < word_depth l i) (cond (nat_eq i first) reach.start 0) (reach.limit i) reach.wrap
+    (λ k below. let most = within i h in (let z : k < word_depth l i = omega arith in z))))
+
+-- a tag that joined the held set is held
+joined_is_held : {R : Type 0} (l : Layout) (old new : Caller R) (answer : Option ℕ) → old.shape.value.layout ≡ l
+    → Won l answer (record_of old) (record_of new) → IfSome answer (Holds new)
+joined_is_held l old new None same gained = tt
+joined_is_held l old new (Some tag) same gained =
+    let below : tag < l.depth = gained.tag in
+    let layout : new.shape.value.layout ≡ l = (λ z. (gained.shape z).layout) ∙ same in
+    let wide : length old.held.items ≡ words l = old.wide ∙ ap words same in
+    let near : word_of l tag < length old.held.items = let inside = word_of-below l tag below in omega arith in
+    let i : ℕ = word_of l tag in let place : ℕ = place_of l tag in let word : ℕ = bit_or (get_or old.held.items i 0) (2 ^ place) in
+    let one : bit_at word place ≡ 1 =
+    let both = bit_at_or (get_or old.held.items i 0) (2 ^ place) place in let here = bit_at-pow_same place in let small = bit_at-lt (get_or old.held.items i 0) place in omega arith in
+    let bit : tag_bit l new.held.items tag ≡ 1 =
+    ap (λ (held : List ℕ). tag_bit l held tag) gained.held ∙ ap (λ (x : ℕ). bit_at x place) (get_or-set_same old.held.items i word 0 near) ∙ one in
+    let depth : new.shape.value.layout.depth ≡ l.depth = ap (λ (x : Layout). x.depth) layout in
+    ((let z : tag < new.shape.value.layout.depth = omega arith in z), ap (λ (x : Layout). tag_bit x new.held.items tag) layout ∙ bit)
+
+module _ {R : Type 0} (map : Map R) (caller : Caller R) (old new : Shared R) (map_is : old.map.now ≡ map) (caller_is : old.caller.now ≡ caller) (own : IsCallerOf map caller) where
+  -- what a get through the port of this caller of the map does to it
+  get_leaves : (first : ℕ) (reach : Reach) (answer : Option ℕ) → ((i : ℕ) → i < words (layout_of map) → reach.limit i ≤ word_depth (layout_of map) i)
+      → Ports AddsThrough old new (IsGet (layout_of map) (visits (layout_of map) first reach) answer)
+      → Gains (layout_of map) answer caller new.caller.now
+  get_leaves first reach answer within a =
+      let l = layout_of map in let now = new.caller.now in
+      let all : AddsAll a.steps caller now = subst (λ (c : Caller R). AddsAll a.steps c now) caller_is a.added.added in
+      let won : Won l answer (record_of caller) (record_of now) =
+      subst (λ (t : Record R). Won l answer (record_of caller) t) (sym all.known)
+      (search_wins l (word_bits-le l map.small.1) (record_of caller) a.holds.search all.finds (visits_inside l first reach within)) in record {
+        won = joined_is_held l caller now answer (λ z. (own.1 z).layout) won;
+        kept = all.kept;
+        held = won.held;
+        count = won.won;
+        back = won.back;
+        number = won.number;
+        shape = won.shape;
+        same_map = all.same_map;
+      }
+
+  -- after a get
+  pub get_gains : (round_robin : Bool) (from : ℕ) (answer : Option ℕ)
+      → Ports AddsThrough old new (IsGet (layout_of old.map.now) (plain_visits (layout_of old.map.now) round_robin from) answer)
+      → Gains (layout_of map) answer caller new.caller.now
+  get_gains round_robin from answer a =
+      let l = layout_of map in get_leaves (word_of l from) (plain_reach l round_robin from) answer (plain_within l round_robin from)
+      (subst (λ (m : Map R). Ports AddsThrough old new (IsGet (layout_of m) (plain_visits (layout_of m) round_robin from) answer)) map_is a)
+
+  -- after a shallow get
+  pub shallow_gains : (depth from : ℕ) (answer : Option ℕ)
+      → Ports AddsThrough old new (IsGet (layout_of old.map.now) (shallow_visits (layout_of old.map.now) depth from) answer)
+      → Gains (layout_of map) answer caller new.caller.now
+  shallow_gains depth from answer a =
+      let l = layout_of map in get_leaves (word_of l from) (shallow_reach l depth from) answer (shallow_within l depth from)
+      (subst (λ (m : Map R). Ports AddsThrough old new (IsGet (layout_of m) (shallow_visits (layout_of m) depth from) answer)) map_is a)
+
+-- a number of one bit has it at its own place
+pub one_place : (k i : ℕ) → bit_at (2 ^ k) i ≡ 1 → i ≡ k
+one_place k i one = dite (ℕ_discrete i k) (λ e. e) (λ ne. absurd (let none = bit_at-pow_other k i ne in omega arith))
+
+both_true : (a b : Bool) → (a && b) ≡ true → (a ≡ true) × (b ≡ true)
+both_true true true h = (refl, refl)
+both_true true false h = absurd cc
+both_true false b h = absurd cc
+
+-- a mask of one tag names that tag alone
+pub one_named : (l : Layout) (tag other : ℕ) → IsTrue (is_in_mask l (word_of l tag) (2 ^ place_of l tag) other) → other ≡ tag
+one_named l tag other h =
+    let named = both_true (word_of l other == word_of l tag) (bit_at (2 ^ place_of l tag) (place_of l other) == 1) h in
+    let word : word_of l other ≡ word_of l tag = eqb-true (word_of l other) (word_of l tag) named.0 in
+    let bit : bit_at (2 ^ place_of l tag) (place_of l other) ≡ 1 = eqb-true (bit_at (2 ^ place_of l tag) (place_of l other)) 1 named.1 in
+    let place : place_of l other ≡ place_of l tag = one_place (place_of l tag) (place_of l other) bit in
+    sym (tag_at-back l other) ∙ (λ z. tag_at l (word z) (place z)) ∙ tag_at-back l tag

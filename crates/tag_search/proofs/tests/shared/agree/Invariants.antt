@@ -1,0 +1,5 @@
+use Rattle.tag_core.specs.Callers.{IsCallerOf}
+use Rattle.tag_search.proofs.tests.shared.agree.Given as goal
+
+abbrev pub invariant-loop : goal.invariant-loop
+invariant-loop l = IsCallerOf l.map l.caller

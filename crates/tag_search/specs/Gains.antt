@@ -1,0 +1,49 @@
+-- What a get over a shared map does to its caller.
+use Rattle.std.specs.Prelude.{◌≡◌, ℕ, ◌+◌, ◌*◌, ◌^◌, List, Option, Some, None, IfSome, count_ones}
+use Rattle.std.specs.Int.{bit_at}
+use Rattle.tag_layout.specs.Layout.{Layout, word_of, place_of}
+use Rattle.tag_core.specs.declared.caller.Caller.{Caller}
+use Rattle.tag_core.specs.Callers.{record_of, slot_of, Holds, SameMap}
+use Rattle.tag_core.specs.Records.{joined}
+
+-- the held set and the tag that was won, where there is one
+abbrev pub held_with : Layout → Option ℕ → List ℕ → List ℕ
+held_with l None held = held
+held_with l (Some tag) held = joined held (word_of l tag) (2 ^ place_of l tag)
+
+-- how many tags were won
+abbrev pub count_of : Option ℕ → ℕ
+count_of None = 0
+count_of (Some tag) = 1
+
+-- the caller holds the tag that was answered, where there is one, and what it held, and nothing else: it gave nothing back
+pub record Gains {R : Type 0} (l : Layout) (answer : Option ℕ) (old new : Caller R) : Type 0 where
+  pub won : IfSome answer (Holds new)
+  pub kept : (tag : ℕ) → Holds old tag → Holds new tag × (slot_of new tag ≡ slot_of old tag)
+  pub held : (record_of new).held ≡ held_with l answer (record_of old).held
+  pub count : (record_of new).won ≡ (record_of old).won + count_of answer
+  pub back : (record_of new).back ≡ (record_of old).back
+  pub number : (record_of new).number ≡ (record_of old).number
+  pub shape : (record_of new).shape ≡ (record_of old).shape
+  pub same_map : SameMap old new
+
+-- the held set and the tags of a batch, where there is one: its first tag, and the bits won from that tag's place on
+abbrev pub held_with_run : Layout → Option (ℕ × ℕ) → List ℕ → List ℕ
+held_with_run l None held = held
+held_with_run l (Some won) held = joined held (word_of l won.0) (won.1 * 2 ^ place_of l won.0)
+
+-- how many tags a batch won
+abbrev pub count_of_run : Option (ℕ × ℕ) → ℕ
+count_of_run None = 0
+count_of_run (Some won) = count_ones won.1
+
+-- as `Gains`, of a batch: the caller holds each tag whose bit was won
+pub record GainsRun {R : Type 0} (l : Layout) (answer : Option (ℕ × ℕ)) (old new : Caller R) : Type 0 where
+  pub won : IfSome answer (λ won. (k : ℕ) → bit_at won.1 k ≡ 1 → Holds new (won.0 + k))
+  pub kept : (tag : ℕ) → Holds old tag → Holds new tag × (slot_of new tag ≡ slot_of old tag)
+  pub held : (record_of new).held ≡ held_with_run l answer (record_of old).held
+  pub count : (record_of new).won ≡ (record_of old).won + count_of_run answer
+  pub back : (record_of new).back ≡ (record_of old).back
+  pub number : (record_of new).number ≡ (record_of old).number
+  pub shape : (record_of new).shape ≡ (record_of old).shape
+  pub same_map : SameMap old new
