@@ -11,8 +11,8 @@ use std::time::{Clock, Duration, Instant};
 use tag_core::{Caller, Map};
 use tag_layout::Layout;
 
-/// Tags of the map: four words of 64.
-const DEPTH: u32 = 256;
+/// Tags of the map: 16 words of 64.
+const DEPTH: u32 = 1_024;
 
 /// Tags that a thread claims and clears in one lap, in the order of their numbers.
 const TAGS: u32 = 16;
@@ -53,7 +53,7 @@ impl Clear {
 pub(crate) fn smoke<R: AllocGlobal + Threads + Sync + Print>(rt: &R) -> Result<(), Failed> {
     for clear in [Clear::Put, Clear::Give] {
         for stride in STRIDES {
-            let (map, mut callers) = open(rt.alloc(), 4)?;
+            let (map, mut callers) = open(rt.alloc(), 8)?;
             clear_by_all(rt, &map, &mut callers, clear, stride, FEW);
             let Ok(closed) = Map::gather(map, callers) else {
                 return Err(Failed::Memory);
@@ -73,7 +73,7 @@ pub(crate) fn figures<R: AllocGlobal + Threads + Sync + Print + Clock>(
     for clear in [Clear::Put, Clear::Give] {
         for stride in STRIDES {
             for threads in THREADS {
-                let (map, mut callers) = open(rt.alloc(), threads)?;
+                let (map, mut callers) = open(rt.alloc(), 2 * threads)?;
                 let runs = time_clears(rt, &map, &mut callers, clear, stride)?;
                 print_figure(rt, map, callers, runs, clear, stride, threads)?;
             }
@@ -109,7 +109,7 @@ fn print_figure(
 }
 
 // A new map and its callers.
-fn open(alloc: Global, threads: u32) -> Result<(Map<u64>, Vec<Caller<u64>>), Failed>
+fn open(alloc: Global, count: u32) -> Result<(Map<u64>, Vec<Caller<u64>>), Failed>
     ensures { IfOk result (λ p. All (IsCallerOf p.0) p.1.items) }
 {
     let Ok(layout) = Layout::new(DEPTH, None) else {
@@ -118,7 +118,7 @@ fn open(alloc: Global, threads: u32) -> Result<(Map<u64>, Vec<Caller<u64>>), Fai
     let Ok(slots) = vec![in alloc; 0u64; DEPTH as usize] else {
         return Err(Failed::Memory);
     };
-    match Map::open(alloc, layout, threads, LIFE, slots) {
+    match Map::open(alloc, layout, count, LIFE, slots) {
         Ok(opened) => Ok(opened),
         Err(_) => Err(Failed::Memory),
     }
@@ -165,7 +165,8 @@ fn clear_by_all<R: Threads + Sync>(
     );
 }
 
-// The caller at this index claims and clears its tags, so many laps.
+// The caller at this index claims and clears its tags, so many laps. Every other caller does nothing, so that those at
+// work lie on lines of their own.
 fn clear_often(
     map: &Map<u64>,
     caller: &mut Caller<u64>,
@@ -178,7 +179,10 @@ fn clear_often(
     requires stride { stride ≤ 64 }
     ensures { IsCallerOf map.now caller.new }
 {
-    let first = (index % 4) as u32 * stride;
+    if index % 2 == 1 {
+        return;
+    }
+    let first = (index / 2 % 4) as u32 * stride;
     if first + TAGS > map.layout().depth() {
         return;
     }
