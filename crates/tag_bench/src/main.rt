@@ -4,6 +4,7 @@
 //! the schedule. With `--measure` it prints nanoseconds per operation, the median of seven runs.
 #![tactic(auto)]
 
+mod maps;
 mod measure;
 mod plain;
 mod wakes;
@@ -14,9 +15,9 @@ use std::rt::Env;
 
 fn main(rt: HostRuntime) -> ExitCode {
     let ran = if wants_figures(&rt) {
-        plain::figures(&rt).is_ok() && wakes::figures(&rt).is_ok()
+        plain::figures(&rt).is_ok() && maps::figures(&rt).is_ok() && wakes::figures(&rt).is_ok()
     } else {
-        plain::smoke(&rt).is_ok() && wakes::smoke(&rt).is_ok()
+        plain::smoke(&rt).is_ok() && maps::smoke(&rt).is_ok() && wakes::smoke(&rt).is_ok()
     };
     if ran {
         ExitCode::SUCCESS
