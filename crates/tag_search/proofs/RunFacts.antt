@@ -91,7 +91,7 @@ module _ {R : Type 0} (depth i : ℕ) (narrow : depth ≤ 64) where
   run_none r = record { shape = refl; number = refl; held = refl; won = omega arith; back = refl; below = tt }
 
   swept_took : {found : ℕ} {steps : List WordStep} (r : Record R) → IsSweptLook i found steps → Took depth i None r (record_after_all steps r)
-  swept_took {found = found} r (swept_look {sweep = sweep} is) =
+  swept_took {found = found} r (swept_look {sweep = sweep} is small) =
       took_more depth i r sweep (Look i found ∷ []) None (sweep_took depth i narrow r is) (took_look depth i (record_after_all sweep r) found)
 
   claim_lost : (n place found : ℕ) (r : Record R) → without (run_mask n place) found ≡ 0 → TookRun depth i None r (record_after (Word (Claimed i (run_mask n place) found)) r)
