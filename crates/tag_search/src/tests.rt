@@ -6,8 +6,8 @@ mod draws;
 mod hints;
 mod marks;
 mod memory;
-mod slow;
 mod shared;
+mod slow;
 mod threads;
 
 use crate::{Hint, PlainPort, Port, after_clear, get, get_batch, get_shallow};
