@@ -1,5 +1,5 @@
 -- The mask has the bit of the taken tag alone.
-use Rattle.std.proofs.Common.{◌≡◌, ℕ, ◌*◌, ◌%◌, ◌^◌, ◌<◌, sym, ap, ◌∙◌, subst}
+use Rattle.std.proofs.Common.{◌≡◌, ℕ, ◌<◌, sym, ap, ◌∙◌, subst}
 use Rattle.std.specs.Int.{bit_at}
 use Rattle.std.proofs.lemmas.Nat.{one_shl, pow_below}
 use Rattle.tag_layout.specs.Layout.{Layout, word_of, place_of, word_depth}
