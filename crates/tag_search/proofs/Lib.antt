@@ -13,4 +13,5 @@ pub mod Batches
 pub mod PlainFacts
 pub mod SharedCalls
 pub mod SharedFacts
+pub mod OneTag
 pub mod RunFacts
