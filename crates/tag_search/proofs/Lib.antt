@@ -21,4 +21,5 @@ pub mod PlainPools
 pub mod Slow
 pub mod SharedCalls
 pub mod SharedFacts
+pub mod OneTag
 pub mod RunFacts

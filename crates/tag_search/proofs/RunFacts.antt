@@ -1,7 +1,6 @@
 -- What a batch get over a shared map does to its caller: it holds the tags that it won, and what it held.
-use Rattle.std.proofs.Common.{◌≡◌, ℕ, ◌+◌, ◌-◌, ◌*◌, ◌/◌, ◌%◌, ◌^◌, ◌<◌, ◌≤◌, max, true, List, [], ◌∷◌, ◌++◌, length, Option, Some, None, get_or, set, bit_and, bit_or, count_ones, get_or-set_same, arith, refl, sym, ap, ◌∙◌, subst, ⊎_elim}
+use Rattle.std.proofs.Common.{◌≡◌, ℕ, ◌+◌, ◌-◌, ◌*◌, ◌%◌, ◌^◌, ◌<◌, ◌≤◌, List, [], ◌∷◌, length, Option, Some, None, get_or, set, bit_and, bit_or, count_ones, get_or-set_same, arith, refl, sym, ap, ◌∙◌, subst, ⊎_elim}
 use Rattle.std.specs.Prelude.{IfSome}
-use Rattle.std.specs.List.{AllByRecursion}
 use Rattle.std.specs.Int.{bit_at}
 use Rattle.std.specs.Int.Bits.{or_zero_r, and_zero_l}
 use Rattle.std.proofs.lemmas.List.{set-get_or}
@@ -29,7 +28,7 @@ use Rattle.tag_search.specs.Gains.{held_with_run, count_of_run, GainsRun}
 use Rattle.tag_search.specs.Shared.{record_after_all, AddsAll, AddsThrough}
 use Rattle.tag_search.specs.SharedLaws.{record_after-append}
 use Rattle.tag_search.proofs.Runs.{run_below}
-use Rattle.tag_search.proofs.SharedFacts.{Took, took_none, took_more, took_look, sweep_took, count_ones-zero}
+use Rattle.tag_search.proofs.SharedFacts.{Took, took_more, took_look, sweep_took, count_ones-zero}
 
 -- the bits of a run that were won, put back to their places, are what was won
 module _ (n place found : ℕ) where

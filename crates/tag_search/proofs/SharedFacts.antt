@@ -1,18 +1,15 @@
 -- What a get over a shared map does to its caller: it holds the tag that it won, and what it held.
-use Rattle.std.proofs.Common.{◌≡◌, ℕ, ◌+◌, ◌-◌, ◌*◌, ◌^◌, ◌<◌, ◌≤◌, ◌==◌, Bool, true, false, ◌&&◌, cond, nat_eq, eqb-true, List, [], ◌∷◌, ◌++◌, length, Option, Some, None, get_or, set, bit_or, count_ones, get_or-set_same, arith, refl, sym, ap, ◌∙◌, subst}
-use Rattle.std.specs.Prelude.{All, IfSome, IsTrue}
-use mathlib.Core.Logic.{dite}
-use native.Mathlib.Decide.{ℕ_discrete}
-use Rattle.tag_core.specs.Event.{is_in_mask}
+use Rattle.std.proofs.Common.{◌≡◌, ℕ, ◌+◌, ◌-◌, ◌*◌, ◌^◌, ◌<◌, ◌≤◌, Bool, true, cond, nat_eq, List, [], ◌∷◌, ◌++◌, length, Option, Some, None, get_or, set, bit_or, count_ones, get_or-set_same, arith, refl, sym, ap, ◌∙◌, subst}
+use Rattle.std.specs.Prelude.{All, IfSome}
 use Rattle.std.specs.List.{AllByRecursion}
 use Rattle.std.specs.Int.{bit_at}
 use Rattle.std.specs.Int.Bits.{or_zero_r}
 use Rattle.std.proofs.lemmas.List.{set-get_or}
 use Rattle.std.proofs.lemmas.List.Elements.{All-head, All-tail, All-map}
-use Rattle.std.proofs.lemmas.Nat.Bits.{bit_at_or, bit_at-pow_same, bit_at-pow_other, bit_at-lt}
+use Rattle.std.proofs.lemmas.Nat.Bits.{bit_at_or, bit_at-pow_same, bit_at-lt}
 use lib.Count.{ones}
 use Rattle.tag_layout.specs.Layout.{Layout, words, word_bits, word_of, place_of, word_depth, tag_at}
-use Rattle.tag_layout.proofs.PlaceFacts.{word_of-tag_at, place_of-tag_at, tag_at-below, tag_at-back, word_of-below, word_bits-le}
+use Rattle.tag_layout.proofs.PlaceFacts.{word_of-tag_at, place_of-tag_at, tag_at-below, word_of-below, word_bits-le}
 use Rattle.tag_core.specs.declared.caller.Caller.{Caller}
 use Rattle.tag_core.specs.declared.map.Map.{Map}
 use Rattle.tag_core.specs.declared.record.Record.{Record}
@@ -265,21 +262,3 @@ module _ {R : Type 0} (map : Map R) (caller : Caller R) (old new : Shared R) (ma
   shallow_gains depth from answer a =
       let l = layout_of map in get_leaves (word_of l from) (shallow_reach l depth from) answer (shallow_within l depth from)
       (subst (λ (m : Map R). Ports AddsThrough old new (IsGet (layout_of m) (shallow_visits (layout_of m) depth from) answer)) map_is a)
-
--- a number of one bit has it at its own place
-pub one_place : (k i : ℕ) → bit_at (2 ^ k) i ≡ 1 → i ≡ k
-one_place k i one = dite (ℕ_discrete i k) (λ e. e) (λ ne. absurd (let none = bit_at-pow_other k i ne in omega arith))
-
-both_true : (a b : Bool) → (a && b) ≡ true → (a ≡ true) × (b ≡ true)
-both_true true true h = (refl, refl)
-both_true true false h = absurd cc
-both_true false b h = absurd cc
-
--- a mask of one tag names that tag alone
-pub one_named : (l : Layout) (tag other : ℕ) → IsTrue (is_in_mask l (word_of l tag) (2 ^ place_of l tag) other) → other ≡ tag
-one_named l tag other h =
-    let named = both_true (word_of l other == word_of l tag) (bit_at (2 ^ place_of l tag) (place_of l other) == 1) h in
-    let word : word_of l other ≡ word_of l tag = eqb-true (word_of l other) (word_of l tag) named.0 in
-    let bit : bit_at (2 ^ place_of l tag) (place_of l other) ≡ 1 = eqb-true (bit_at (2 ^ place_of l tag) (place_of l other)) 1 named.1 in
-    let place : place_of l other ≡ place_of l tag = one_place (place_of l tag) (place_of l other) bit in
-    sym (tag_at-back l other) ∙ (λ z. tag_at l (word z) (place z)) ∙ tag_at-back l tag

@@ -5,7 +5,7 @@ use Rattle.std.proofs.lemmas.Nat.{one_shl, pow_below}
 use Rattle.tag_layout.specs.Layout.{Layout, words, word_of, place_of, word_depth}
 use Rattle.tag_core.specs.Callers.{layout_of, Holds}
 use Rattle.tag_core.specs.Event.{is_in_mask}
-use Rattle.tag_search.proofs.SharedFacts.{one_named}
+use Rattle.tag_search.proofs.OneTag.{one_named}
 use Rattle.tag_search.proofs.tests.shared.give_on.Goals as goal
 
 pub give-requires-clause-within : goal.give-requires-clause-within

@@ -1,10 +1,10 @@
 -- The mask has the bit of the taken tag alone.
-use Rattle.std.proofs.Common.{◌≡◌, ℕ, ◌*◌, ◌%◌, ◌^◌, ◌<◌, sym, ap, ◌∙◌, subst}
+use Rattle.std.proofs.Common.{◌≡◌, ℕ, ◌<◌, sym, ap, ◌∙◌, subst}
 use Rattle.std.specs.Int.{bit_at}
 use Rattle.std.proofs.lemmas.Nat.{one_shl, pow_below}
 use Rattle.tag_layout.specs.Layout.{Layout, word_of, place_of, word_depth}
 use Rattle.tag_search.specs.Plain.{IsTaken}
-use Rattle.tag_search.proofs.SharedFacts.{one_place}
+use Rattle.tag_search.proofs.OneTag.{one_place}
 use Rattle.tag_search.proofs.tests.shared.give_plain.Goals as goal
 
 pub give-requires-clause-mask : goal.give-requires-clause-mask

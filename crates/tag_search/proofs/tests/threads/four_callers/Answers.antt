@@ -1,5 +1,5 @@
 -- The callers that come back are those of the map.
-use Rattle.std.proofs.Common.{ℕ, length, drop, ◌++◌}
+use Rattle.std.proofs.Common.{length, drop, ◌++◌}
 use Rattle.std.proofs.lemmas.List.Elements.{All-take, All-append, All-drop}
 use Rattle.tag_core.specs.Callers.{IsCallerOf}
 use Rattle.tag_search.proofs.tests.threads.four_callers.Goals as goal
