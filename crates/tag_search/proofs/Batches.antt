@@ -8,13 +8,14 @@ use Rattle.tag_core.specs.declared.word_step.WordStep.{WordStep}
 use Rattle.tag_core.specs.declared.word_step.WordStep.TheVariants.{Look, Claimed}
 use Rattle.tag_layout.specs.Bits.{AllSet, IsFirstClear}
 use Rattle.tag_layout.specs.Layout.{Layout, words, word_of, word_depth, tag_at}
-use Rattle.tag_layout.proofs.PlaceFacts.{word_of-below}
+use Rattle.tag_layout.proofs.PlaceFacts.{word_bits-le, word_of-below}
 use Rattle.std.proofs.lemmas.Nat.{mod_below, pow_pos}
 use Rattle.tag_search.specs.Hints.{reduced}
 use Rattle.tag_search.specs.Added.{Adds}
 use Rattle.tag_search.specs.Batch.{run_mask, IsSweptLook, swept_look, IsBatchVisit, no_run, run_lost, run_taken, IsBatchSearch, batch_over, batch_won, batch_passed, IsBatchGet}
 use Rattle.tag_search.specs.Order.{numbers, scan_order}
 use Rattle.tag_search.specs.Search.{IsSweep}
+use Rattle.tag_search.proofs.BatchAlone.{batch_alone}
 use Rattle.tag_search.proofs.Bounds.{sweep_bound}
 use Rattle.tag_search.proofs.Orders.{length-numbers}
 
@@ -62,7 +63,7 @@ batch_goes_on l n first more rest answer e (batch_passed {i = i} {is = is} {step
     subst (λ xs. IsBatchSearch l n (i ∷ (is ++ more)) xs answer) (sym (append_assoc s r rest)) (batch_passed v (batch_goes_on l n first more rest answer e left search))
 
 swept_look_bound : {i found : ℕ} {steps : List WordStep} → IsSweptLook i found steps → length steps ≤ 3
-swept_look_bound {i = i} {found = found} (swept_look {sweep = sweep} s) = let a = sweep_bound s in let e = length-append sweep (Look i found ∷ []) in omega arith
+swept_look_bound {i = i} {found = found} (swept_look {sweep = sweep} s fits) = let a = sweep_bound s in let e = length-append sweep (Look i found ∷ []) in omega arith
 
 batch_visit_bound : {i depth n : ℕ} {steps : List WordStep} {answer : Option (ℕ × ℕ)} → IsBatchVisit i depth n steps answer → length steps ≤ 4
 batch_visit_bound (no_run look none) = let a = swept_look_bound look in omega arith
@@ -82,12 +83,12 @@ pub order-split : (first count : ℕ) → first ≤ count → scan_order first c
 order-split first count h = let e : min first count ≡ first = omega arith in ap (λ (end : ℕ). numbers first count ++ numbers 0 end) e
 
 -- a search over all words is a batch get
-pub batch_get : (l : Layout) (n first : ℕ) → first ≤ words l → (answer : Option (ℕ × ℕ)) (steps : List WordStep)
+pub batch_get : (l : Layout) (n first : ℕ) → 1 ≤ n → l.shift ≤ 6 → first ≤ words l → (answer : Option (ℕ × ℕ)) (steps : List WordStep)
     → IsBatchSearch l n (scan_order first (words l) true) steps answer → IsBatchGet l n first answer steps
-batch_get l n first h answer steps search =
+batch_get l n first some narrow h answer steps search =
     let all = length-append (numbers first (words l)) (numbers 0 first) in let e = ap length (order-split first (words l) h) in
     let a = length-numbers first (words l) in let b = length-numbers 0 first in let bound = batch_bound search in
-    record { search = search; bound = omega arith }
+    record { search = search; alone = batch_alone l n search some (word_bits-le l narrow); bound = omega arith }
 
 -- the hint's word is one of the words, or there are none
 pub hint_word-le : (l : Layout) (at : ℕ) → word_of l (reduced l.depth at) ≤ words l
@@ -99,8 +100,8 @@ hint_word-le l at = cases l.depth refl
         let below = word_of-below l (at % suc d) (subst (λ (x : ℕ). at % suc d < x) (sym e) low) in omega arith
 
 -- the same by other names of the sizes and the first word
-pub batch_get_at : (l sizes : Layout) (n first word : ℕ) → l ≡ sizes → first ≡ word → word ≤ words sizes → (answer : Option (ℕ × ℕ)) (steps : List WordStep)
+pub batch_get_at : (l sizes : Layout) (n first word : ℕ) → 1 ≤ n → sizes.shift ≤ 6 → l ≡ sizes → first ≡ word → word ≤ words sizes → (answer : Option (ℕ × ℕ)) (steps : List WordStep)
     → IsBatchSearch l n (scan_order first (words l) true) steps answer → IsBatchGet sizes n word answer steps
-batch_get_at l sizes n first word e f h answer steps search =
+batch_get_at l sizes n first word some narrow e f h answer steps search =
     let a = subst (λ (x : Layout). IsBatchSearch x n (scan_order first (words x) true) steps answer) e search in
-    batch_get sizes n word h answer steps (subst (λ (x : ℕ). IsBatchSearch sizes n (scan_order x (words sizes) true) steps answer) f a)
+    batch_get sizes n word some narrow h answer steps (subst (λ (x : ℕ). IsBatchSearch sizes n (scan_order x (words sizes) true) steps answer) f a)

@@ -1,80 +1,21 @@
 -- A search where nobody else steps answers the choice.
-use Rattle.std.proofs.Common.{◌≡◌, ◌≢◌, ℕ, zero, suc, ◌+◌, ◌-◌, ◌<◌, ◌≤◌, min, Bool, true, cond, nat_eq, List, [], ◌∷◌, ◌++◌, map, Option, arith, refl, sym, ap, ◌∙◌, subst, ne_eqb}
+use Rattle.std.proofs.Common.{◌≡◌, ◌≢◌, ℕ, zero, suc, ◌+◌, ◌-◌, ◌<◌, ◌≤◌, min, true, cond, nat_eq, List, [], ◌∷◌, ◌++◌, map, get_or, Option, Some, None, arith, sym, ap, ◌∙◌, subst}
 use Rattle.std.specs.Prelude.{All}
 use Rattle.std.proofs.lemmas.List.Elements.{All-nil, All-cons, All-head, All-tail, All-append, All-map}
 use Rattle.tag_core.specs.declared.word_step.WordStep.{WordStep}
-use Rattle.tag_core.specs.declared.word_step.WordStep.TheVariants.{Look, LookAside, Claimed, Give, Put, Swap, Spill}
-use Rattle.tag_core.specs.Steps.{Words, Quiet, words_after, words_after_all, changed_at}
-use Rattle.tag_layout.specs.Layout.{Layout, words, word_depth}
+use Rattle.tag_core.specs.Steps.{Words, Quiet, words_after_all}
+use Rattle.tag_layout.specs.Layout.{Layout, words, word_depth, tag_at}
 use Rattle.tag_layout.proofs.PlaceFacts.{word_bits-le}
-use Rattle.tag_search.specs.Choice.{IsBusy, IsChosen, IsFull, IsChoice, nothing, chosen}
+use Rattle.tag_search.specs.Choice.{IsFree, IsSet, IsAside, IsBusy, IsFirst, IsFull, words_in, IsChoice, nothing, chosen_free, chosen_aside}
 use Rattle.tag_search.specs.Order.{numbers_from, numbers, scan_order}
-use Rattle.tag_search.specs.Search.{IsTries, none_left, wins, loses, IsPass, pass, IsSweep, empty, spilled, IsRetry, nothing_aside, swept, IsVisit, at_once, retried, Visit, IsSearch, over, won, passed}
+use Rattle.tag_search.specs.PlainLaws.{words_after-append}
+use Rattle.tag_search.specs.Pool.{Pool, pool_of, freed_in, taken_at}
+use Rattle.tag_search.specs.Search.{Visit, IsSearch, over, won, passed}
 use Rattle.tag_search.specs.Visits.{Reach, visit_of, visits}
-use Rattle.tag_search.proofs.Alone.{quiet-split, visit_alone}
+use Rattle.tag_search.proofs.Alone.{quiet-split, Wins, wins_free, wins_aside, visit_alone}
 use Rattle.tag_search.proofs.Orders.{all_from, all_numbers, all_scan}
-
--- the word on which a step is made
-abbrev index_of : WordStep → ℕ
-index_of (Look i found) = i
-index_of (LookAside i found) = i
-index_of (Claimed i mask found) = i
-index_of (Give i mask found) = i
-index_of (Put i mask found) = i
-index_of (Swap i found) = i
-index_of (Spill i mask found) = i
-
--- all steps are made on one word
-abbrev OnWord : ℕ → List WordStep → Type 0
-OnWord i [] = Unit {0}
-OnWord i (step ∷ steps) = (index_of step ≡ i) × OnWord i steps
-
-on-append : (i : ℕ) (xs ys : List WordStep) → OnWord i xs → OnWord i ys → OnWord i (xs ++ ys)
-on-append i [] ys a b = b
-on-append i (x ∷ xs) ys a b = (a.0, on-append i xs ys a.1 b)
-
-tries_on : {i : ℕ} {rank : List ℕ} {found : ℕ} {tries : List WordStep} {answer : Option ℕ} → IsTries i rank found tries answer → OnWord i tries
-tries_on (none_left taken) = tt
-tries_on (wins first clear) = (refl, tt)
-tries_on (loses first taken rest) = (refl, tries_on rest)
-
-pass_on : {i : ℕ} {rank : List ℕ} {steps : List WordStep} {answer : Option ℕ} → IsPass i rank steps answer → OnWord i steps
-pass_on (pass tries) = (refl, tries_on tries)
-
-sweep_on : {i mask : ℕ} {steps : List WordStep} → IsSweep i mask steps → OnWord i steps
-sweep_on empty = (refl, tt)
-sweep_on (spilled some fits) = (refl, (refl, tt))
-
-retry_on : {i : ℕ} {rank : List ℕ} {steps : List WordStep} {answer : Option ℕ} → IsRetry i rank steps answer → OnWord i steps
-retry_on (nothing_aside sweep) = sweep_on sweep
-retry_on {i = i} (swept {sweep = first} {second = second} some sweep again) = on-append i first second (sweep_on sweep) (pass_on again)
-
-visit_on : {i : ℕ} {rank : List ℕ} {steps : List WordStep} {answer : Option ℕ} → IsVisit i rank steps answer → OnWord i steps
-visit_on (at_once once) = pass_on once
-visit_on {i = i} (retried {first = first} {rest = rest} once again) = on-append i first rest (pass_on once) (retry_on again)
-
--- a function changed at one index is the same at the others
-elsewhere : (f : ℕ → ℕ) (at value j : ℕ) → j ≢ at → changed_at f at value j ≡ f j
-elsewhere f at value j ne = ap (λ (b : Bool). cond b value (f j)) (ne_eqb j at ne)
-
--- the word, and its cleared set, are the same in both
-abbrev SameAt : Words → Words → ℕ → Type 0
-SameAt a b j = (a.word j ≡ b.word j) × (a.aside j ≡ b.aside j)
-
-step_elsewhere : (step : WordStep) (w : Words) (j : ℕ) → j ≢ index_of step → SameAt (words_after step w) w j
-step_elsewhere (Look i found) w j ne = (refl, refl)
-step_elsewhere (LookAside i found) w j ne = (refl, refl)
-step_elsewhere (Claimed i mask found) w j ne = (elsewhere w.word i _ j ne, refl)
-step_elsewhere (Give i mask found) w j ne = (elsewhere w.word i _ j ne, refl)
-step_elsewhere (Put i mask found) w j ne = (refl, elsewhere w.aside i _ j ne)
-step_elsewhere (Swap i found) w j ne = (refl, elsewhere w.aside i _ j ne)
-step_elsewhere (Spill i mask found) w j ne = (elsewhere w.word i _ j ne, refl)
-
-steps_elsewhere : (steps : List WordStep) (w : Words) (i j : ℕ) → OnWord i steps → j ≢ i → SameAt (words_after_all steps w) w j
-steps_elsewhere [] w i j on ne = (refl, refl)
-steps_elsewhere (step ∷ steps) w i j on ne =
-    let first = step_elsewhere step w j (λ e. ne (e ∙ on.0)) in let rest = steps_elsewhere steps (words_after step w) i j on.1 ne in
-    (rest.0 ∙ first.0, rest.1 ∙ first.1)
+use Rattle.tag_search.proofs.Passes.{all_behind}
+use Rattle.tag_search.proofs.Pools.{open_freed, free_elsewhere, aside_elsewhere, freed_none, freed_before, freed_between}
 
 -- no two visits are of one word
 abbrev pub Distinct : List Visit → Type 0
@@ -85,30 +26,72 @@ Distinct (visit ∷ visits) = All (λ other. other.word ≢ visit.word) visits �
 abbrev pub InWords : Visit → Type 0
 InWords visit = All (λ b. b < 64) visit.rank
 
-choice_behind : (w : Words) (first : Visit) {l : Layout} {vs : List Visit} {answer : Option ℕ} → IsFull w first → IsChoice l w vs answer → IsChoice l w (first ∷ vs) answer
-choice_behind w first full (nothing {visits = vs} all) = nothing (All-cons (IsFull w) first vs full all)
-choice_behind w first full (chosen fulls behind visit all is) =
-    chosen (first ∷ fulls) behind visit (All-cons (IsFull w) first fulls full all) is
+set_elsewhere : (x : ℕ) (p : Pool) (i : ℕ) (places : List ℕ) → i ≢ x → All (IsSet (freed_in (x ∷ []) p) i) places → All (IsSet p i) places
+set_elsewhere x p i places ne set = λ k d h. sym (free_elsewhere x p i (get_or places k d) ne) ∙ set k d h
 
--- a search from words that agree with the opening ones on each word to visit
-pub search_alone : {l : Layout} {vs : List Visit} {steps : List WordStep} {answer : Option ℕ} → IsSearch l vs steps answer → (opening w : Words) → Distinct vs → All InWords vs
-    → All (λ visit. SameAt w opening visit.word) vs → Quiet steps w → IsChoice l opening vs answer
-search_alone over opening w distinct within same quiet = nothing (All-nil (IsFull opening))
-search_alone (won {visit = visit} {visits = more} {place = place} v) opening w distinct within same quiet =
-    let here = All-head (λ visit. SameAt w opening visit.word) visit more same in
-    let is = visit_alone v w (All-head InWords visit more within) quiet in
-    let a = subst (λ (x : ℕ). IsChosen x (w.aside visit.word) visit.rank place) here.0 is in
-    chosen [] more visit (All-nil (IsFull opening)) (subst (λ (x : ℕ). IsChosen (opening.word visit.word) x visit.rank place) here.1 a)
-search_alone (passed {visit = visit} {visits = more} {steps = first} {rest = rest} v search) opening w distinct within same quiet =
-    let Same : Visit → Type 0 = λ visit. SameAt w opening visit.word in
-    let here = All-head Same visit more same in let others = All-tail Same visit more same in
-    let parts = quiet-split first rest w quiet in
-    let busy = visit_alone v w (All-head InWords visit more within) parts.0 in
-    let a = subst (λ (x : ℕ). All (IsBusy x (w.aside visit.word)) visit.rank) here.0 busy in
-    let full : IsFull opening visit = subst (λ (x : ℕ). All (IsBusy (opening.word visit.word) x) visit.rank) here.1 a in
-    let still : All (λ other. SameAt (words_after_all first w) opening other.word) more = λ k d h.
-    let there = steps_elsewhere first w visit.word _ (visit_on v) (distinct.0 k d h) in let before = others k d h in (there.0 ∙ before.0, there.1 ∙ before.1) in
-    choice_behind opening visit full (search_alone search opening (words_after_all first w) distinct.1 (All-tail InWords visit more within) still parts.1)
+busy_still : (x : ℕ) (p : Pool) (i : ℕ) (places : List ℕ) → All (IsBusy (freed_in (x ∷ []) p) i) places → All (IsBusy p i) places
+busy_still x p i places busy = λ k d h. sym (open_freed (x ∷ []) p i (get_or places k d)) ∙ busy k d h
+
+-- a place that is free, or set aside, is so where another word is freed
+first_elsewhere : (x : ℕ) (p : Pool) (i : ℕ) (rank : List ℕ) (place : ℕ) → i ≢ x → IsFirst (IsFree (freed_in (x ∷ []) p) i) (IsSet (freed_in (x ∷ []) p) i) rank place
+    → IsFirst (IsFree p i) (IsSet p i) rank place
+first_elsewhere x p i rank place ne first = record {
+  before = first.before;
+  behind = first.behind;
+  order = first.order;
+  others = set_elsewhere x p i first.before ne first.others;
+  is = sym (free_elsewhere x p i place ne) ∙ first.is;
+}
+
+aside_first : (x : ℕ) (p : Pool) (i : ℕ) (rank : List ℕ) (place : ℕ) → i ≢ x → IsFirst (IsAside (freed_in (x ∷ []) p) i) (IsBusy (freed_in (x ∷ []) p) i) rank place
+    → IsFirst (IsAside p i) (IsBusy p i) rank place
+aside_first x p i rank place ne first = record {
+  before = first.before;
+  behind = first.behind;
+  order = first.order;
+  others = busy_still x p i first.before first.others;
+  is = sym (aside_elsewhere x p i place ne) ∙ first.is;
+}
+
+full_still : (x : ℕ) (p : Pool) (visits : List Visit) → All (IsFull (freed_in (x ∷ []) p)) visits → All (IsFull p) visits
+full_still x p visits full = λ k d h. let visit = get_or visits k d in busy_still x p visit.word visit.rank (full k d h)
+
+-- a choice behind a word that is full, and was swept
+choice_behind : (p : Pool) (first : Visit) {l : Layout} {vs : List Visit} {answer : Option ℕ} {left : Pool} → IsFull p first → All (λ other. other.word ≢ first.word) vs
+    → IsChoice l (freed_in (first.word ∷ []) p) vs answer left → IsChoice l p (first ∷ vs) answer left
+choice_behind p first {l = l} full apart (nothing {visits = vs} all) =
+    subst (IsChoice l p (first ∷ vs) None) (sym (freed_before first.word (words_in vs) p)) (nothing (All-cons (IsFull p) first vs full (full_still first.word p vs all)))
+choice_behind p first {l = l} full apart (chosen_free fulls behind visit {place = place} all is) =
+    let ne = (all_behind (λ other. other.word ≢ first.word) fulls visit behind apart).0 in
+    subst (IsChoice l p (first ∷ (fulls ++ visit ∷ behind)) (Some (tag_at l visit.word place))) (sym (ap (taken_at visit.word place) (freed_before first.word (words_in fulls) p)))
+    (chosen_free (first ∷ fulls) behind visit (All-cons (IsFull p) first fulls full (full_still first.word p fulls all)) (first_elsewhere first.word p visit.word visit.rank place ne is))
+choice_behind p first {l = l} full apart (chosen_aside fulls behind visit {place = place} all set is) =
+    let ne = (all_behind (λ other. other.word ≢ first.word) fulls visit behind apart).0 in
+    subst (IsChoice l p (first ∷ (fulls ++ visit ∷ behind)) (Some (tag_at l visit.word place))) (sym (ap (taken_at visit.word place) (freed_between first.word visit.word (words_in fulls) p)))
+    (chosen_aside (first ∷ fulls) behind visit (All-cons (IsFull p) first fulls full (full_still first.word p fulls all))
+    (set_elsewhere first.word p visit.word visit.rank ne set) (aside_first first.word p visit.word visit.rank place ne is))
+
+-- a choice that the first visit makes
+choice_here : (l : Layout) (p left : Pool) (visit : Visit) (more : List Visit) (place : ℕ) → Wins p visit.word visit.rank place left
+    → IsChoice l p (visit ∷ more) (Some (tag_at l visit.word place)) left
+choice_here l p left visit more place (wins_free first e) =
+    subst (IsChoice l p (visit ∷ more) (Some (tag_at l visit.word place))) (ap (taken_at visit.word place) (freed_none p) ∙ sym e) (chosen_free [] more visit (All-nil (IsFull p)) first)
+choice_here l p left visit more place (wins_aside set first e) =
+    subst (IsChoice l p (visit ∷ more) (Some (tag_at l visit.word place))) (sym e) (chosen_aside [] more visit (All-nil (IsFull p)) set first)
+
+-- a search alone is a choice
+pub search_alone : {l : Layout} {vs : List Visit} {steps : List WordStep} {answer : Option ℕ} → IsSearch l vs steps answer → (w : Words) → Distinct vs → All InWords vs
+    → Quiet steps w → IsChoice l (pool_of w) vs answer (pool_of (words_after_all steps w))
+search_alone {l = l} over w distinct within quiet = subst (IsChoice l (pool_of w) [] None) (freed_none (pool_of w)) (nothing (All-nil (IsFull (pool_of w))))
+search_alone {l = l} (won {visit = visit} {visits = more} {steps = steps} {place = place} v) w distinct within quiet =
+    choice_here l (pool_of w) (pool_of (words_after_all steps w)) visit more place (visit_alone v w (All-head InWords visit more within) quiet)
+search_alone {l = l} (passed {visit = visit} {visits = more} {steps = first} {rest = rest} {answer = answer} v search) w distinct within quiet =
+    let parts = quiet-split first rest w quiet in let mid = words_after_all first w in
+    let tells = visit_alone v w (All-head InWords visit more within) parts.0 in
+    let a = search_alone search mid distinct.1 (All-tail InWords visit more within) parts.1 in
+    let b = subst (λ (x : Words). IsChoice l (pool_of mid) more answer (pool_of x)) (sym (words_after-append first rest w)) a in
+    choice_behind (pool_of w) visit tells.0 distinct.0
+    (subst (λ (p : Pool). IsChoice l p more answer (pool_of (words_after_all (first ++ rest) w))) tells.1 b)
 
 -- no number stands twice
 abbrev Apart : List ℕ → Type 0
@@ -131,7 +114,8 @@ distinct_map first reach (x ∷ xs) a = (All-map (λ visit. visit.word ≢ x) (v
 
 -- where nobody else steps a search over all words answers the choice
 pub search_chooses : (l : Layout) (first : ℕ) (reach : Reach) → l.shift ≤ 6 → first ≤ words l → ((i : ℕ) → i < words l → reach.limit i ≤ word_depth l i)
-    → (answer : Option ℕ) (steps : List WordStep) → IsSearch l (visits l first reach) steps answer → (w : Words) → Quiet steps w → IsChoice l w (visits l first reach) answer
+    → (answer : Option ℕ) (steps : List WordStep) → IsSearch l (visits l first reach) steps answer → (w : Words) → Quiet steps w
+    → IsChoice l (pool_of w) (visits l first reach) answer (pool_of (words_after_all steps w))
 search_chooses l first reach narrow h within answer steps search w quiet =
     let front = numbers first (words l) in let back = numbers 0 first in
     let e : min first (words l) ≡ first = omega arith in
@@ -146,4 +130,4 @@ search_chooses l first reach narrow h within answer steps search w quiet =
     let of = visit_of first reach in
     let distinct : Distinct (visits l first reach) = subst (λ (xs : List ℕ). Distinct (map of xs)) (sym order) (distinct_map first reach (front ++ back) apart) in
     let inside : All InWords (visits l first reach) = subst (λ (xs : List ℕ). All InWords (map of xs)) (sym order) (All-map InWords of (front ++ back) narrow_all) in
-    search_alone search w w distinct inside (λ k d _. (refl, refl)) quiet
+    search_alone search w distinct inside quiet

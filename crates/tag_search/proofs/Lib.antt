@@ -6,9 +6,12 @@ pub mod Passes
 pub mod Searches
 pub mod Tallies
 pub mod Bounds
+pub mod Pools
+pub mod Sweeps
 pub mod Alone
 pub mod Choices
 pub mod GetFacts
+pub mod BatchAlone
 pub mod Batches
 pub mod PlainFacts
 pub mod Writings

@@ -1,25 +1,29 @@
--- What a search answers where nobody else steps: a choice over the sets of free places and of places set aside.
-use Rattle.std.specs.Prelude.{◌≡◌, ℕ, List, ◌∷◌, ◌++◌, All, Option, Some, None}
+-- What a search answers where nobody else steps, and what it leaves: a choice over free places and places set aside.
+use Rattle.std.specs.Prelude.{◌≡◌, ◌↔◌, ℕ, ◌+◌, ◌<◌, ◌≤◌, true, false, List, ◌∷◌, ◌++◌, map, All, Option, Some, None}
 use Rattle.std.specs.Int.{bit_at}
-use Rattle.tag_core.specs.Steps.{Words}
-use Rattle.tag_layout.specs.Layout.{Layout, tag_at}
+use Rattle.tag_layout.specs.Layout.{Layout, word_depth, tag_at}
+use Rattle.tag_search.specs.Pool.{Pool, is_open, freed_in, taken_at, taken_from}
 use Rattle.tag_search.specs.Search.{Visit}
 
--- the place is not free in the word
-abbrev pub IsSet : ℕ → ℕ → Type 0
-IsSet word place = bit_at word place ≡ 1
+-- the place is free
+abbrev pub IsFree : Pool → ℕ → ℕ → Type 0
+IsFree p word place = p.free word place ≡ true
 
--- the place is free in the word
-abbrev pub IsFree : ℕ → ℕ → Type 0
-IsFree word place = bit_at word place ≡ 0
+-- the place is not free
+abbrev pub IsSet : Pool → ℕ → ℕ → Type 0
+IsSet p word place = p.free word place ≡ false
 
--- the place was given back and is not free yet
-abbrev pub IsAside : ℕ → ℕ → ℕ → Type 0
-IsAside word cleared place = (bit_at word place ≡ 1) × (bit_at cleared place ≡ 1)
+-- the place is set aside
+abbrev pub IsAside : Pool → ℕ → ℕ → Type 0
+IsAside p word place = p.aside word place ≡ true
+
+-- the place is free or set aside
+abbrev pub IsOpen : Pool → ℕ → ℕ → Type 0
+IsOpen p word place = is_open p word place ≡ true
 
 -- the place is neither free nor set aside
-abbrev pub IsBusy : ℕ → ℕ → ℕ → Type 0
-IsBusy word cleared place = (bit_at word place ≡ 1) × (bit_at cleared place ≡ 0)
+abbrev pub IsBusy : Pool → ℕ → ℕ → Type 0
+IsBusy p word place = is_open p word place ≡ false
 
 -- the place is in the rank, and the others hold of each place before it
 pub record IsFirst (This Others : ℕ → Type 0) (rank : List ℕ) (place : ℕ) : Type 0 where
@@ -29,16 +33,45 @@ pub record IsFirst (This Others : ℕ → Type 0) (rank : List ℕ) (place : ℕ
   pub others : All Others before
   pub is : This place
 
--- the first free place of the rank, or where none is free the first that is set aside
-pub data IsChosen (word cleared : ℕ) (rank : List ℕ) : ℕ → Type 0 where
-  first_free : {place : ℕ} → IsFirst (IsFree word) (IsSet word) rank place → IsChosen word cleared rank place
-  first_aside : {place : ℕ} → All (IsSet word) rank → IsFirst (IsAside word cleared) (IsBusy word cleared) rank place → IsChosen word cleared rank place
-
 -- no place of the rank of this word is free or set aside
-abbrev pub IsFull : Words → Visit → Type 0
-IsFull w visit = All (IsBusy (w.word visit.word) (w.aside visit.word)) visit.rank
+abbrev pub IsFull : Pool → Visit → Type 0
+IsFull p visit = All (IsBusy p visit.word) visit.rank
 
--- the first word with a free place or one set aside in its rank gives the answer, and none where there is no such word
-pub data IsChoice (l : Layout) (w : Words) : List Visit → Option ℕ → Type 0 where
-  nothing : {visits : List Visit} → All (IsFull w) visits → IsChoice l w visits None
-  chosen : (full behind : List Visit) (visit : Visit) {place : ℕ} → All (IsFull w) full → IsChosen (w.word visit.word) (w.aside visit.word) visit.rank place → IsChoice l w (full ++ visit ∷ behind) (Some (tag_at l visit.word place))
+-- the words that are visited
+abbrev pub words_in : List Visit → List ℕ
+words_in visits = map (λ visit. visit.word) visits
+
+-- the first word with a free place or one set aside in its rank gives the answer: its first free place, and where there is
+-- none the first set aside; none where there is no such word. Each word passed has its set aside places freed, and so has
+-- a word that answers one of them; the place answered is free no more
+pub data IsChoice (l : Layout) (old : Pool) : List Visit → Option ℕ → Pool → Type 0 where
+  nothing : {visits : List Visit} → All (IsFull old) visits → IsChoice l old visits None (freed_in (words_in visits) old)
+  chosen_free : (full behind : List Visit) (visit : Visit) {place : ℕ} → All (IsFull old) full
+      → IsFirst (IsFree old visit.word) (IsSet old visit.word) visit.rank place
+      → IsChoice l old (full ++ visit ∷ behind) (Some (tag_at l visit.word place)) (taken_at visit.word place (freed_in (words_in full) old))
+  chosen_aside : (full behind : List Visit) (visit : Visit) {place : ℕ} → All (IsFull old) full
+      → All (IsSet old visit.word) visit.rank → IsFirst (IsAside old visit.word) (IsBusy old visit.word) visit.rank place
+      → IsChoice l old (full ++ visit ∷ behind) (Some (tag_at l visit.word place)) (taken_at visit.word place (freed_in (visit.word ∷ words_in full) old))
+
+-- the place is the least of the word's first so many that is free or set aside
+pub record IsLeastOpen (p : Pool) (word depth place : ℕ) : Type 0 where
+  pub within : place < depth
+  pub is : IsOpen p word place
+  pub least : (other : ℕ) → other < place → IsBusy p word other
+
+-- from the word's least open place on there are fewer than n places, or it has none
+abbrev pub HasNoRun : Layout → ℕ → Pool → ℕ → Type 0
+HasNoRun l n p word = (place : ℕ) → IsLeastOpen p word (word_depth l word) place → word_depth l word < place + n
+
+-- the word's n places from its least open one on, and the bits of those among them that are open
+pub record IsOpenRun (l : Layout) (n : ℕ) (p : Pool) (word place bits : ℕ) : Type 0 where
+  pub least : IsLeastOpen p word (word_depth l word) place
+  pub fits : place + n ≤ word_depth l word
+  pub won : (k : ℕ) → bit_at bits k ≡ 1 ↔ (k < n) × IsOpen p word (place + k)
+
+-- the first word with n places from its least open one on answers those among them that are open; none where there is no such
+-- word. Each word up to the answer's has its set aside places freed, and the n places are free no more
+pub data IsBatchChoice (l : Layout) (n : ℕ) (old : Pool) : List ℕ → Option (ℕ × ℕ) → Pool → Type 0 where
+  no_batch : {words : List ℕ} → All (HasNoRun l n old) words → IsBatchChoice l n old words None (freed_in words old)
+  batch : (passed behind : List ℕ) (word : ℕ) {place bits : ℕ} → All (HasNoRun l n old) passed → IsOpenRun l n old word place bits
+      → IsBatchChoice l n old (passed ++ word ∷ behind) (Some (tag_at l word place, bits)) (taken_from word place n (freed_in (word ∷ passed) old))

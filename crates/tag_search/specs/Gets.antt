@@ -2,13 +2,14 @@
 use Rattle.std.specs.Prelude.{ℕ, ◌+◌, ◌*◌, ◌≤◌, List, length, Option}
 use Rattle.tag_layout.specs.Layout.{Layout, words}
 use Rattle.tag_core.specs.declared.word_step.WordStep.{WordStep}
-use Rattle.tag_core.specs.Steps.{Words, Quiet}
+use Rattle.tag_core.specs.Steps.{Words, Quiet, words_after_all}
+use Rattle.tag_search.specs.Pool.{pool_of}
 use Rattle.tag_search.specs.Choice.{IsChoice}
 use Rattle.tag_search.specs.Search.{Visit, IsSearch}
 
--- the steps are these visits and give this answer; where nobody else stepped it is the choice; and they are at most two
--- claims of each tag and four steps more a word
+-- the steps are these visits and give this answer; where nobody else stepped it is the choice, and what they leave is what
+-- the choice leaves; and they are at most two claims of each tag and four steps more a word
 pub record IsGet (l : Layout) (visits : List Visit) (answer : Option ℕ) (steps : List WordStep) : Type 0 where
   pub search : IsSearch l visits steps answer
-  pub alone : (w : Words) → Quiet steps w → IsChoice l w visits answer
+  pub alone : (w : Words) → Quiet steps w → IsChoice l (pool_of w) visits answer (pool_of (words_after_all steps w))
   pub bound : length steps ≤ 2 * l.depth + 4 * words l

@@ -1,6 +1,7 @@
 pub mod Order
 pub mod Search
 pub mod Visits
+pub mod Pool
 pub mod Choice
 pub mod Gets
 pub mod Batch

@@ -1,21 +1,25 @@
-//! Gets over plain words, where nobody else steps: what they answer is the choice.
-ghost use Rattle.std.specs.Prelude.{◌≡◌, ℕ};
-ghost use Rattle.tag_search.specs.Choice.{IsChoice};
-ghost use Rattle.tag_search.specs.Follows.{HintFollows};
+//! Gets over plain words, where nobody else steps: what they answer and what they leave is the choice.
+ghost use Rattle.std.specs.Prelude.{◌≡◌, ℕ, ◌≤◌, false, IsTrue};
+ghost use Rattle.tag_layout.specs.Layout.{word_bits, word_of};
+ghost use Rattle.tag_search.specs.Batch.{batch_words};
+ghost use Rattle.tag_search.specs.Choice.{IsChoice, IsBatchChoice};
+ghost use Rattle.tag_search.specs.Follows.{HintFollows, BatchFollows};
 ghost use Rattle.tag_search.specs.Hints.{reduced};
 ghost use Rattle.tag_search.specs.Plain.{words_of};
+ghost use Rattle.tag_search.specs.Pool.{pool_of};
 ghost use Rattle.tag_search.specs.Visits.{plain_visits, shallow_visits};
 
 use crate::hint::Hint;
 use crate::plain::PlainPort;
-use crate::search::{get, get_shallow};
+use crate::search::{get, get_batch, get_shallow};
 
 impl PlainPort {
     /// A free tag, or else one set aside, in the first word from the hint's on that has one.
     pub fn choose(&mut self, hint: &mut Hint) -> Option<u32>
         ensures layout { self.new.layout ≡ self.old.layout }
         ensures choice { let l = self.old.layout in
-            IsChoice l (words_of self.old) (plain_visits l hint.old.round_robin (reduced l.depth hint.old.at)) result }
+            let visits = plain_visits l hint.old.round_robin (reduced l.depth hint.old.at) in
+            IsChoice l (pool_of (words_of self.old)) visits result (pool_of (words_of self.new)) }
         ensures hint { HintFollows self.old.layout.depth hint.old hint.new result }
     {
         let Ok(answer) = get(self, hint) else {
@@ -28,10 +32,28 @@ impl PlainPort {
     pub fn choose_shallow(&mut self, hint: &mut Hint, depth: u32) -> Option<u32>
         ensures layout { self.new.layout ≡ self.old.layout }
         ensures choice { let l = self.old.layout in
-            IsChoice l (words_of self.old) (shallow_visits l depth (reduced l.depth hint.old.at)) result }
+            let visits = shallow_visits l depth (reduced l.depth hint.old.at) in
+            IsChoice l (pool_of (words_of self.old)) visits result (pool_of (words_of self.new)) }
         ensures hint { HintFollows self.old.layout.depth hint.old hint.new result }
     {
         let Ok(answer) = get_shallow(self, hint, depth) else {
+            unreachable!()
+        };
+        answer
+    }
+
+    /// The tags that are free or set aside among `n` side by side, in the first word from the hint's on that has `n` tags
+    /// from its first such tag on: that tag, and their mask, its bit lowest. Under round robin there are none.
+    pub fn choose_batch(&mut self, hint: &mut Hint, n: u32) -> Option<(u32, u64)>
+        requires count { (1 ≤ n) × (n ≤ word_bits self.old.layout) }
+        ensures layout { self.new.layout ≡ self.old.layout }
+        ensures round_robin { IsTrue hint.old.round_robin → (result ≡ None) × (self.new ≡ self.old) × (hint.new ≡ hint.old) }
+        ensures choice { hint.old.round_robin ≡ false → let l = self.old.layout in
+            let words = batch_words l (word_of l (reduced l.depth hint.old.at)) in
+            IsBatchChoice l n (pool_of (words_of self.old)) words result (pool_of (words_of self.new)) }
+        ensures hint { hint.old.round_robin ≡ false → BatchFollows self.old.layout.depth n hint.old hint.new result }
+    {
+        let Ok(answer) = get_batch(self, hint, n) else {
             unreachable!()
         };
         answer

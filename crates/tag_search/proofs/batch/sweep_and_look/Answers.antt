@@ -1,5 +1,5 @@
 -- The sweep's steps, and then the load.
-use Rattle.std.proofs.Common.{[], ◌∷◌, ◌++◌}
+use Rattle.std.proofs.Common.{arith, [], ◌∷◌, ◌++◌}
 use Rattle.tag_core.specs.declared.word_step.WordStep.TheVariants.{Look}
 use Rattle.tag_search.specs.Batch.{swept_look}
 use Rattle.tag_search.proofs.Batches.{swept_any}
@@ -11,5 +11,5 @@ returns-clause-steps g c =
     record {
       steps = a.steps ++ Look c.args.word c.look.result ∷ [];
       added = g.met.P.Port.adds_more c.args.port.now c.sweep-swept.new.self c.look.new.self a.steps (Look c.args.word c.look.result ∷ []) a.added c.look.ensures.step;
-      holds = swept_look a.holds.1;
+      holds = swept_look a.holds.1 (omega arith);
     }

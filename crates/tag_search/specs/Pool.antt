@@ -1,0 +1,60 @@
+-- The tags of a map as two sets, by word and place: those that are free, and those that were set aside.
+use Rattle.std.specs.Prelude.{◌≡◌, ℕ, ◌+◌, Bool, false, not, ◌&&◌, ◌||◌, nat_eq, nat_lt, nat_le, List}
+use Rattle.std.specs.List.{list_any}
+use Rattle.std.specs.Int.{bit_at}
+use Rattle.tag_core.specs.Steps.{Words}
+
+-- the places that are free, and those that were given back for a sweep to free
+pub record Pool : Type 0 where
+  pub free : ℕ → ℕ → Bool
+  pub aside : ℕ → ℕ → Bool
+
+-- of the 64 places of each word: a clear bit is free, and a bit of the cleared set is aside
+abbrev pub pool_of : Words → Pool
+pool_of w = record {
+  free = λ word place. nat_lt place 64 && nat_eq (bit_at (w.word word) place) 0;
+  aside = λ word place. nat_lt place 64 && nat_eq (bit_at (w.aside word) place) 1;
+}
+
+-- the place is free, or will be once its word is swept
+abbrev pub is_open : Pool → ℕ → ℕ → Bool
+is_open p word place = p.free word place || p.aside word place
+
+-- the place is neither free nor set aside: somebody holds it
+abbrev pub is_busy : Pool → ℕ → ℕ → Bool
+is_busy p word place = not (is_open p word place)
+
+-- no place is free and set aside at once
+abbrev pub IsApart : Pool → Type 0
+IsApart p = (word place : ℕ) → (p.free word place && p.aside word place) ≡ false
+
+-- the number is in the list
+abbrev pub is_in : ℕ → List ℕ → Bool
+is_in n list = list_any (nat_eq n) list
+
+-- whatever is set aside in these words is free instead
+abbrev pub freed_in : List ℕ → Pool → Pool
+freed_in words p = record {
+  free = λ word place. p.free word place || (is_in word words && p.aside word place);
+  aside = λ word place. not (is_in word words) && p.aside word place;
+}
+
+-- these places of the word are free no more
+abbrev pub taken_in : ℕ → (ℕ → Bool) → Pool → Pool
+taken_in word these p = record p { free = λ other place. p.free other place && not (nat_eq other word && these place) }
+
+-- this place of the word is free no more
+abbrev pub taken_at : ℕ → ℕ → Pool → Pool
+taken_at word place p = taken_in word (nat_eq place) p
+
+-- so many places of the word, from one on, are free no more
+abbrev pub taken_from : ℕ → ℕ → ℕ → Pool → Pool
+taken_from word place n p = taken_in word (λ other. nat_le place other && nat_lt other (place + n)) p
+
+-- this place of the word is set aside
+abbrev pub aside_at : ℕ → ℕ → Pool → Pool
+aside_at word place p = record p { aside = λ other at. p.aside other at || (nat_eq other word && nat_eq at place) }
+
+-- the places of the mask are free in the word
+abbrev pub free_at : ℕ → ℕ → Pool → Pool
+free_at word mask p = record p { free = λ other place. p.free other place || (nat_eq other word && nat_lt place 64 && nat_eq (bit_at mask place) 1) }
