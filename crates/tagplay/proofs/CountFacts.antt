@@ -67,6 +67,16 @@ module _ (l : Layout) (test : ℕ → Bool) where
 
 module _ (p : Plain) (i u : ℕ) (there : i < words p.layout) (narrow : word_depth p.layout i ≤ 64)
     (usable : u + 1 ≡ 2 ^ word_depth p.layout i) (bits : (place : ℕ) → place < word_depth p.layout i → bit_at u place ≡ 1) where
+  -- the bit of a tag that the caller holds
+  pub held_place : slice_index p.aside i < 2 ^ 64 → (place : ℕ) → place < word_depth p.layout i
+      → cond (is_busy (pool_of (words_of p)) (word_of p.layout (tag_at p.layout i place)) (place_of p.layout (tag_at p.layout i place))) 1 0
+      ≡ bit_at (bit_and (bit_and (slice_index p.word i) u) (bit_not w64 (slice_index p.aside i))) place
+  held_place fits place h =
+      let w = word_of-tag_at p.layout i place (omega arith) in let k = place_of-tag_at p.layout i place (omega arith) in
+      ap (λ (x : ℕ). cond (is_busy (pool_of (words_of p)) x (place_of p.layout (tag_at p.layout i place))) 1 0) w
+      ∙ ap (λ (x : ℕ). cond (is_busy (pool_of (words_of p)) i x) 1 0) k
+      ∙ busy_place (slice_index p.word i) (slice_index p.aside i) u place (omega arith) fits (bits place h)
+
   -- the tags that the caller holds
   pub count_held : slice_index p.aside i < 2 ^ 64
       → count_below (λ tag. is_busy (pool_of (words_of p)) (word_of p.layout tag) (place_of p.layout tag)) (min ((i + 1) * word_bits p.layout) p.layout.depth)
@@ -76,11 +86,7 @@ module _ (p : Plain) (i u : ℕ) (there : i < words p.layout) (narrow : word_dep
       let n : ℕ = slice_index p.word i in let a : ℕ = slice_index p.aside i in
       let le = and_le_l (bit_and n u) (bit_not w64 a) in let le' = and_le_r n u in
       count_word p.layout (λ tag. is_busy (pool_of (words_of p)) (word_of p.layout tag) (place_of p.layout tag)) i
-      (bit_and (bit_and n u) (bit_not w64 a)) there (omega arith) (λ place h.
-      let w = word_of-tag_at p.layout i place (omega arith) in let k = place_of-tag_at p.layout i place (omega arith) in
-      ap (λ (x : ℕ). cond (is_busy (pool_of (words_of p)) x (place_of p.layout (tag_at p.layout i place))) 1 0) w
-      ∙ ap (λ (x : ℕ). cond (is_busy (pool_of (words_of p)) i x) 1 0) k
-      ∙ busy_place n a u place (omega arith) fits (bits place h))
+      (bit_and (bit_and n u) (bit_not w64 a)) there (omega arith) (held_place fits)
 
   -- the tags that are set aside
   pub count_aside :

@@ -22,6 +22,7 @@ plays_more {old} {between} {new} order more (obeyed {order = first} {orders = or
 pub same_world : (p : Player) (q : Plain) → q.layout ≡ p.port.layout → words_of q ≡ words_of p.port → solo_of (record p { port = q }) ≡ solo_of p
 same_world p q layout words = λ z. record {
   layout = layout z;
+  least = p.least;
   pool = pool_of (words z);
   hint = p.hint;
   won = p.won;

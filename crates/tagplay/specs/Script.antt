@@ -1,5 +1,5 @@
 -- What a script is owed: the text of its first faulty line, of a refused setup, or of its orders one after another.
-use Rattle.std.specs.Prelude.{◌≡◌, ◌≢◌, ℕ, ◌<◌, ◌≤◌, List, ◌++◌, length, Option, IfSome, IsSomeAnd, codes}
+use Rattle.std.specs.Prelude.{◌≡◌, ◌≢◌, ℕ, ◌<◌, ◌≤◌, List, ◌++◌, length, max, unwrap_or, Option, IfSome, IsSomeAnd, codes}
 use Rattle.std.specs.Io.KnownBytes.{Appends}
 use Rattle.tag_layout.specs.Layout.{Layout}
 use Rattle.tag_layout.specs.declared.layout.TheConstants.{MAX_DEPTH, MAX_SHIFT}
@@ -42,6 +42,10 @@ pub record IsSetup (o : ScriptOptions) (l : Layout) : Type 0 where
   pub map : IsMapOf o l
   pub alone : o.callers ≡ 1
 
+-- the least depth of a shallow get: what was asked for, and 1 at least
+abbrev pub least_depth : Option ℕ → ℕ
+least_depth asked = max 1 (unwrap_or asked 1)
+
 -- the last line: tags won, given back and held; none is ever posted
 abbrev pub total_line : Solo → List ℕ
 total_line w = codes "total" ++ totals_text (record { got = w.won; back = w.back; held = held_in w; posted = 0 }) ++ codes "\n"
@@ -50,7 +54,7 @@ total_line w = codes "total" ++ totals_text (record { got = w.won; back = w.back
 pub data Owed (o : ScriptOptions) (script : List ℕ) : List ℕ → Ending → Type 0 where
   faulty : (fault : FaultyLine) → IsFirstFaulty (order_of o.callers) script fault → Owed o script (faulty_text fault) Refused
   refused : (orders : List Order) (fault : SetupFault) → AreReadings (order_of o.callers) script orders → IsRefusedSetup o fault → Owed o script (setup_text fault) Refused
-  played : (orders : List Order) (l : Layout) (answers : List ℕ) (after : Solo) → AreReadings (order_of o.callers) script orders → IsSetup o l → Plays (opened l o.round_robin) orders answers after → Owed o script (answers ++ total_line after) Done
+  played : (orders : List Order) (l : Layout) (answers : List ℕ) (after : Solo) → AreReadings (order_of o.callers) script orders → IsSetup o l → Plays (opened l o.round_robin (least_depth o.min_shallow)) orders answers after → Owed o script (answers ++ total_line after) Done
 
 -- what the writer gained is what some bytes are owed, which are the reader's where those are known
 pub record WritesOwed (o : ScriptOptions) (input before after : Option (List ℕ)) (ending : Ending) : Type 0 where

@@ -6,7 +6,7 @@ use Rattle.tagplay.specs.declared.fault.LineFault.TheVariants.{BadLine, BadNumbe
 use Rattle.tagplay.specs.declared.order.Command.{Command}
 use Rattle.tagplay.specs.declared.order.Command.TheVariants as commands
 use Rattle.tagplay.specs.declared.order.Numbered.{Numbered}
-use Rattle.tagplay.specs.declared.order.Numbered.TheVariants.{Clear}
+use Rattle.tagplay.specs.declared.order.Numbered.TheVariants.{Shallow, Batch, Clear}
 use Rattle.tagplay.specs.declared.order.Order.{Order}
 use Rattle.tagplay.specs.Lines.{number_below}
 
@@ -14,14 +14,20 @@ use Rattle.tagplay.specs.Lines.{number_below}
 abbrev pub lone_of : List ℕ → Option Command
 lone_of name =
     if bytes_eq name (codes "get") then Some commands.Get else
-    (if bytes_eq name (codes "show") then Some commands.Show else None)
+    (if bytes_eq name (codes "show") then Some commands.Show else
+    (if bytes_eq name (codes "busy") then Some commands.Busy else None))
 
 -- the commands that a number follows
 abbrev pub numbered_of : List ℕ → Option Numbered
-numbered_of name = if bytes_eq name (codes "clear") then Some Clear else None
+numbered_of name =
+    if bytes_eq name (codes "shallow") then Some Shallow else
+    (if bytes_eq name (codes "batch") then Some Batch else
+    (if bytes_eq name (codes "clear") then Some Clear else None))
 
 -- the command with its number
 abbrev pub numbered_command : Numbered → ℕ → Command
+numbered_command Shallow number = commands.Shallow number
+numbered_command Batch number = commands.Batch number
 numbered_command Clear number = commands.Clear number
 
 -- the order, if there is such a caller

@@ -1,6 +1,8 @@
 //! The commands of a script, and the texts that they answer.
-ghost use Rattle.std.specs.Prelude.{◌≡◌, ◌≤◌, ◌*◌, ◌^◌, ◌++◌, length, OnOk, codes};
-ghost use Rattle.tagplay.specs.Commands.{tag_line, refused_line, done_line, shown_of, shown_text, Answered, Played};
+ghost use Rattle.std.specs.Prelude.{◌≡◌, ◌<◌, ◌≤◌, ◌*◌, ◌^◌, ◌++◌, length, OnOk, codes};
+ghost use Rattle.tag_layout.specs.Layout.{words, word_depth};
+ghost use Rattle.tagplay.specs.Commands.{tag_line, got_line, mask_line, batch_line, refused_line, done_line};
+ghost use Rattle.tagplay.specs.Commands.{texts_below, held_text, word_text, place_text, shown_of, shown_text, Answered, Played};
 ghost use Rattle.tagplay.specs.Players.{solo_of, IsReadyFor, Counted};
 ghost use Rattle.tagplay.specs.Script.{total_line};
 
@@ -9,6 +11,7 @@ use crate::order::{Command, Order};
 use crate::player::{Player, Shown};
 use crate::text::{end_line, push_field, push_totals};
 use std::alloc::AllocError;
+use tag_layout::Layout;
 use tag_model::Totals;
 
 impl Player {
@@ -31,8 +34,11 @@ impl Player {
     {
         match command {
             Command::Get => push_tag(text, self.get()),
+            Command::Shallow(depth) => push_got(text, self.get_shallow(depth)),
+            Command::Batch(n) => push_batch(text, self.get_batch(n)),
             Command::Clear(tag) => push_done(text, self.clear(tag)),
             Command::Show => self.show(text),
+            Command::Busy => self.busy(text),
         }
     }
 
@@ -44,6 +50,30 @@ impl Player {
         let shown = self.shown();
         push_shown(text, shown)?;
         end_line(text)
+    }
+
+    // The tags that are held, in ascending order.
+    fn busy(&mut self, text: &mut Vec<u8>) -> Result<(), AllocError>
+        ensures same { solo_of self.new ≡ solo_of self.old }
+        ensures ok { let w = solo_of self.old in
+            OnOk result (text.new.items ≡ text.old.items ++ (codes "busy" ++ texts_below (held_text w) w.layout.depth ++ codes "\n")) }
+    {
+        text.extend_from_slice(b"busy")?;
+        self.push_held(text)?;
+        end_line(text)
+    }
+
+    // Each of them behind a blank. A word with none is passed over whole.
+    fn push_held(&mut self, text: &mut Vec<u8>) -> Result<(), AllocError>
+        ensures same { solo_of self.new ≡ solo_of self.old }
+        ensures ok { let w = solo_of self.old in OnOk result (text.new.items ≡ text.old.items ++ texts_below (held_text w) w.layout.depth) }
+    {
+        let layout = self.layout();
+        for word in 0..layout.words() {
+            let held = self.look_held(word);
+            push_word(text, layout, word, held)?;
+        }
+        Ok(())
     }
 
     /// The last line of a script.
@@ -72,6 +102,82 @@ fn push_tag(text: &mut Vec<u8>, answer: Option<u32>) -> Result<(), AllocError>
         None => text.extend_from_slice(b"none")?,
     }
     end_line(text)
+}
+
+// A tag alone, or none, or why there is neither.
+fn push_got(text: &mut Vec<u8>, outcome: Result<Option<u32>, TagFault>) -> Result<(), AllocError>
+    ensures ok { OnOk result (text.new.items ≡ text.old.items ++ got_line outcome) }
+{
+    match outcome {
+        Ok(answer) => push_tag(text, answer),
+        Err(fault) => push_refused(text, fault),
+    }
+}
+
+// A mask and its lowest tag, or none, or why there is neither.
+fn push_batch(
+    text: &mut Vec<u8>,
+    outcome: Result<Option<(u32, u64)>, TagFault>,
+) -> Result<(), AllocError>
+    ensures ok { OnOk result (text.new.items ≡ text.old.items ++ batch_line outcome) }
+{
+    match outcome {
+        Ok(answer) => push_mask(text, answer),
+        Err(fault) => push_refused(text, fault),
+    }
+}
+
+fn push_mask(text: &mut Vec<u8>, answer: Option<(u32, u64)>) -> Result<(), AllocError>
+    ensures ok { OnOk result (text.new.items ≡ text.old.items ++ mask_line answer) }
+{
+    match answer {
+        Some((tag, bits)) => {
+            push_field(text, b"mask ", bits)?;
+            push_field(text, b" at ", u64::from(tag))?;
+        }
+        None => text.extend_from_slice(b"none")?,
+    }
+    end_line(text)
+}
+
+fn push_refused(text: &mut Vec<u8>, fault: TagFault) -> Result<(), AllocError>
+    ensures ok { OnOk result (text.new.items ≡ text.old.items ++ refused_line fault) }
+{
+    push_field(text, b"refused ", fault.number())?;
+    end_line(text)
+}
+
+// The tags of a word whose bits are 1 in a mask, each behind a blank.
+fn push_word(text: &mut Vec<u8>, layout: Layout, word: u32, mask: u64) -> Result<(), AllocError>
+    requires { word < words layout }
+    ensures ok { OnOk result (text.new.items ≡ text.old.items ++ word_text layout word mask) }
+{
+    if mask == 0 {
+        return Ok(());
+    }
+    for place in 0..layout.word_depth(word) {
+        push_place(text, layout, word, mask, place)?;
+    }
+    Ok(())
+}
+
+fn push_place(
+    text: &mut Vec<u8>,
+    layout: Layout,
+    word: u32,
+    mask: u64,
+    place: u32,
+) -> Result<(), AllocError>
+    requires word { word < words layout }
+    requires place { place < word_depth layout word }
+    requires low { place < 64 }
+    ensures ok { OnOk result (text.new.items ≡ text.old.items ++ place_text layout word mask place) }
+{
+    if mask & (1 << place) == 0 {
+        return Ok(());
+    }
+    push_field(text, b" ", u64::from(layout.tag_at(word, place)))?;
+    Ok(())
 }
 
 // Done, or why not.

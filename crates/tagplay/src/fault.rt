@@ -89,6 +89,10 @@ pub enum TagFault {
     NoSuchTag,
     /// The caller doesn't hold the tag.
     NotHeld,
+    /// No tag at all is asked for, or more than a word has.
+    BadCount,
+    /// The depth is 0, or below the least one.
+    TooShallow,
 }
 
 impl TagFault {
@@ -99,6 +103,8 @@ impl TagFault {
         match self {
             TagFault::NoSuchTag => 1,
             TagFault::NotHeld => 3,
+            TagFault::BadCount => 5,
+            TagFault::TooShallow => 6,
         }
     }
 }

@@ -12,10 +12,16 @@ use crate::numbers::short_number;
 pub enum Command {
     /// A free tag.
     Get,
+    /// A free tag among so many of the whole map.
+    Shallow(u32),
+    /// So many tags side by side, as far as they are free.
+    Batch(u32),
     /// This tag is given back.
     Clear(u32),
     /// The sizes of the map, and how many of its tags are busy and how many are set aside.
     Show,
+    /// The tags that are busy.
+    Busy,
 }
 
 /// A command, and the caller who gives it.
@@ -36,6 +42,8 @@ impl Command {
             Some(Command::Get)
         } else if name == b"show".as_slice() {
             Some(Command::Show)
+        } else if name == b"busy".as_slice() {
+            Some(Command::Busy)
         } else {
             None
         }
@@ -45,6 +53,10 @@ impl Command {
 /// The kinds of command that a number follows.
 #[derive(Clone, Copy, Debug, PartialEq, Eq)]
 pub enum Numbered {
+    /// The number is a depth.
+    Shallow,
+    /// The number is a count of tags.
+    Batch,
     /// The number is a tag.
     Clear,
 }
@@ -54,7 +66,11 @@ impl Numbered {
     fn named(name: &[u8]) -> Option<Numbered>
         ensures { result ≡ numbered_of name.now }
     {
-        if name == b"clear".as_slice() {
+        if name == b"shallow".as_slice() {
+            Some(Numbered::Shallow)
+        } else if name == b"batch".as_slice() {
+            Some(Numbered::Batch)
+        } else if name == b"clear".as_slice() {
             Some(Numbered::Clear)
         } else {
             None
@@ -66,6 +82,8 @@ impl Numbered {
         ensures { result ≡ numbered_command self number }
     {
         match self {
+            Numbered::Shallow => Command::Shallow(number),
+            Numbered::Batch => Command::Batch(number),
             Numbered::Clear => Command::Clear(number),
         }
     }

@@ -1,9 +1,9 @@
 //! One caller alone with a map, as a script moves it.
 ghost use Rattle.std.specs.Prelude.{◌≡◌, ◌+◌, ◌*◌, ◌^◌, ◌<◌, ◌≤◌, IfOk, ◌↔◌, IsTrue};
-ghost use Rattle.tagplay.specs.Solo.{opened, Gets, Clears, held_in, aside_in};
-ghost use Rattle.tag_layout.specs.Layout.{word_bits};
+ghost use Rattle.tagplay.specs.Solo.{opened, Gets, GetsShallow, Batches, Clears, won_in, held_in, aside_in};
+ghost use Rattle.tag_layout.specs.Layout.{words, word_bits};
 ghost use Rattle.tagplay.specs.Commands.{get_visits, shown_of};
-ghost use Rattle.tagplay.specs.Players.{solo_of, IsReadyFor};
+ghost use Rattle.tagplay.specs.Players.{solo_of, IsReadyFor, Counted, IsHeldMask};
 
 use crate::fault::TagFault;
 use std::alloc::{AllocError, Global};
@@ -29,6 +29,8 @@ pub struct Shown {
 #[derive(Drop)]
 pub(crate) struct Player {
     port: PlainPort,
+    /// The least depth of a shallow get, 1 at least.
+    least: u32,
     hint: Hint,
     /// Tags won so far.
     won: u64,
@@ -42,13 +44,15 @@ impl Player {
         alloc: Global,
         layout: Layout,
         round_robin: bool,
+        least: u32,
     ) -> Result<Player, AllocError>
-        ensures { IfOk result (λ player. solo_of player ≡ opened layout round_robin) }
+        ensures { IfOk result (λ player. solo_of player ≡ opened layout round_robin least) }
     {
         let port = PlainPort::open(alloc, layout)?;
         let hint = Hint { at: 0, round_robin };
         Ok(Player {
             port,
+            least,
             hint,
             won: 0,
             back: 0,
@@ -79,6 +83,38 @@ impl Player {
             self.won += 1;
         }
         answer
+    }
+
+    /// The same over so many tags of the whole map alone.
+    pub(crate) fn get_shallow(&mut self, depth: u32) -> Result<Option<u32>, TagFault>
+        requires ready { IsReadyFor 1 (solo_of self.old) }
+        ensures { GetsShallow depth (solo_of self.old) result (solo_of self.new) }
+    {
+        if depth < self.least {
+            return Err(TagFault::TooShallow);
+        }
+        let answer = self.port.choose_shallow(&mut self.hint, depth);
+        if answer.is_some() {
+            self.won += 1;
+        }
+        Ok(answer)
+    }
+
+    /// Free tags among so many side by side: the first tag, and the mask of those won, its bit lowest.
+    pub(crate) fn get_batch(&mut self, n: u32) -> Result<Option<(u32, u64)>, TagFault>
+        requires ready { IsReadyFor 1 (solo_of self.old) }
+        ensures batch { Batches n (solo_of self.old) result (solo_of self.new) }
+        ensures counted { Counted (solo_of self.old) (solo_of self.new) }
+    {
+        if n == 0 || u64::from(n) > bits_per_word(self.port.layout()) {
+            return Err(TagFault::BadCount);
+        }
+        if self.hint.round_robin {
+            return Ok(None);
+        }
+        let answer = self.port.choose_batch(&mut self.hint, n);
+        self.won += won_in(answer);
+        Ok(answer)
     }
 
     /// Gives a tag back.
@@ -117,6 +153,25 @@ impl Player {
         (held, aside)
     }
 
+    /// The tags of a word that the caller holds, as a mask.
+    pub(crate) fn look_held(&mut self, word: u32) -> u64
+        requires { word < words (solo_of self.old).layout }
+        ensures same { solo_of self.new ≡ solo_of self.old }
+        ensures held { IsHeldMask (solo_of self.old) word result }
+    {
+        let usable = self.port.layout().usable(word);
+        let set = self.port.look(word);
+        let cleared = self.port.look_aside(word);
+        set & usable & !cleared
+    }
+
+    /// The layout of the map.
+    pub(crate) fn layout(&self) -> Layout
+        ensures { result ≡ (solo_of self.now).layout }
+    {
+        self.port.layout()
+    }
+
     /// What there is to show.
     pub(crate) fn shown(&mut self) -> Shown
         ensures same { solo_of self.new ≡ solo_of self.old }
@@ -131,6 +186,17 @@ impl Player {
             bits_per_word: bits_per_word(layout),
             map_nr: u64::from(layout.words()),
         }
+    }
+}
+
+// How many tags a batch gives.
+fn won_in(answer: Option<(u32, u64)>) -> u64
+    ensures value { result ≡ won_in answer }
+    ensures few { result ≤ 64 }
+{
+    match answer {
+        Some((_, bits)) => u64::from(bits.count_ones()),
+        None => 0,
     }
 }
 

@@ -1,7 +1,7 @@
 //! `script`: the commands of one caller, carried out one after another.
 ghost use Rattle.std.specs.Prelude.{◌≡◌, ◌≢◌, ◌<◌, ◌≤◌, ◌++◌, [], length, IfOk, IfErr, IfSome, IsErrOf};
 ghost use Rattle.tagplay.specs.Players.{solo_of};
-ghost use Rattle.tagplay.specs.Script.{IsSetup, IsUnopened, Owed, WritesOwed};
+ghost use Rattle.tagplay.specs.Script.{IsSetup, IsUnopened, least_depth, Owed, WritesOwed};
 ghost use Rattle.tagplay.specs.Solo.{opened};
 
 use crate::ending::Ending;
@@ -85,7 +85,7 @@ fn push_owed(
 // The world that the options ask for: one caller, all tags free.
 fn open(alloc: Global, options: &ScriptOptions) -> Result<Player, Closed>
     ensures setup { IfOk result (λ player. IsSetup options.now (solo_of player).layout) }
-    ensures opened { IfOk result (λ player. solo_of player ≡ opened (solo_of player).layout options.now.round_robin) }
+    ensures opened { IfOk result (λ player. solo_of player ≡ opened (solo_of player).layout options.now.round_robin (least_depth options.now.min_shallow)) }
     ensures fault { IfErr result (IsUnopened options.now) }
 {
     if options.tags > MAX_DEPTH {
@@ -100,7 +100,8 @@ fn open(alloc: Global, options: &ScriptOptions) -> Result<Player, Closed>
     if options.callers != 1 {
         return Err(Closed::Setup(SetupFault::CallerCount));
     }
-    match Player::open(alloc, layout, options.round_robin) {
+    let least = options.min_shallow.unwrap_or(1).max(1);
+    match Player::open(alloc, layout, options.round_robin, least) {
         Ok(player) => Ok(player),
         Err(_) => Err(Closed::Memory),
     }

@@ -54,8 +54,8 @@ fn a_fresh_map_is_shown(rt: HostRuntime) -> Result<(), Fail> {
 
 #[test]
 fn no_tags(rt: HostRuntime) -> Result<(), Fail> {
-    let text = "none\ntotal got=0 back=0 held=0 posted=0\n";
-    expect(&rt, &options(0, None), "0 get\n", text)
+    let text = "none\nbusy\ntotal got=0 back=0 held=0 posted=0\n";
+    expect(&rt, &options(0, None), "0 get\n0 busy\n", text)
 }
 
 #[test]
@@ -171,4 +171,74 @@ fn only_a_tag_that_is_held_is_cleared(rt: HostRuntime) -> Result<(), Fail> {
     let script = "0 clear 0\n0 get\n0 clear 0\n0 clear 0\n0 clear 8\n";
     let text = "refused 3\n0\nok\nrefused 3\nrefused 1\ntotal got=1 back=1 held=0 posted=0\n";
     expect(&rt, &options(8, None), script, text)
+}
+
+#[test]
+fn round_robin_misses_no_tag_behind_its_hint_alone(rt: HostRuntime) -> Result<(), Fail> {
+    let around = ScriptOptions {
+        round_robin: true,
+        ..options(4, Some(2))
+    };
+    let script = "0 get\n0 get\n0 get\n0 get\n0 clear 0\n0 clear 1\n0 get\n0 get\n0 get\n";
+    let text = "0\n1\n2\n3\nok\nok\n0\n1\nnone\ntotal got=6 back=2 held=4 posted=0\n";
+    expect(&rt, &around, script, text)
+}
+
+#[test]
+fn shallow(rt: HostRuntime) -> Result<(), Fail> {
+    let script =
+        "0 shallow 2\n0 shallow 2\n0 shallow 2\n0 shallow 2\n0 shallow 2\n0 get\n0 shallow 0\n";
+    let text = "0\n4\nnone\nnone\nnone\n1\nrefused 6\ntotal got=3 back=0 held=3 posted=0\n";
+    expect(&rt, &options(8, Some(2)), script, text)
+}
+
+#[test]
+fn shallow_by_share(rt: HostRuntime) -> Result<(), Fail> {
+    let text = "8\nnone\ntotal got=1 back=0 held=1 posted=0\n";
+    expect(
+        &rt,
+        &options(10, Some(2)),
+        "0 shallow 1\n0 shallow 1\n",
+        text,
+    )
+}
+
+#[test]
+fn least_shallow(rt: HostRuntime) -> Result<(), Fail> {
+    let least = ScriptOptions {
+        min_shallow: Some(2),
+        ..options(8, None)
+    };
+    let text = "refused 6\ntotal got=0 back=0 held=0 posted=0\n";
+    expect(&rt, &least, "0 shallow 1\n", text)
+}
+
+#[test]
+fn batches(rt: HostRuntime) -> Result<(), Fail> {
+    let script = "0 get\n0 get\n0 get\n0 get\n0 get\n0 clear 1\n0 clear 3\n\
+        0 batch 3\n0 batch 5\n0 batch 0\n0 batch 9\n";
+    let text = "0\n1\n2\n3\n4\nok\nok\nmask 5 at 1\nnone\nrefused 5\nrefused 5\n\
+        total got=7 back=2 held=5 posted=0\n";
+    expect(&rt, &options(8, Some(3)), script, text)
+}
+
+#[test]
+fn round_robin_batch(rt: HostRuntime) -> Result<(), Fail> {
+    let around = ScriptOptions {
+        round_robin: true,
+        ..options(8, Some(2))
+    };
+    let text = "none\nrefused 5\ntotal got=0 back=0 held=0 posted=0\n";
+    expect(&rt, &around, "0 batch 2\n0 batch 5\n", text)
+}
+
+#[test]
+fn busy_and_show(rt: HostRuntime) -> Result<(), Fail> {
+    let script = "0 get\n0 get\n0 get\n0 get\n0 get\n0 get\n0 get\n0 get\n0 get\n0 get\n\
+        0 clear 1\n0 clear 2\n0 clear 3\n0 clear 4\n0 clear 5\n0 clear 6\n0 clear 7\n0 clear 8\n\
+        0 busy\n0 show\n";
+    let text = "0\n1\n2\n3\n4\n5\n6\n7\n8\n9\nok\nok\nok\nok\nok\nok\nok\nok\n\
+        busy 0 9\ndepth=16\nbusy=2\ncleared=8\nbits_per_word=4\nmap_nr=4\n\
+        total got=10 back=8 held=2 posted=0\n";
+    expect(&rt, &options(16, None), script, text)
 }

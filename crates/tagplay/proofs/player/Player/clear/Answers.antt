@@ -35,12 +35,14 @@ returns c =
     λ z. record { at = c.after_clear.ensures.at z; round_robin = c.after_clear.ensures.round_robin z } in
     let done : put_back c.args.tag (solo_of c.args.self.now) ≡ record {
       layout = q.layout;
+      least = c.args.self.now.least;
       pool = pool_of (words_of q);
       hint = c.after_clear.new.hint;
       won = c.args.self.now.won;
       back = c.args.self.now.back + 1;
     } = λ z. record {
       layout = sym c.put.ensures.layout z;
+      least = c.args.self.now.least;
       pool = sym pool z;
       hint = sym hint z;
       won = c.args.self.now.won;

@@ -6,6 +6,7 @@ use Rattle.tagplay.proofs.player.Player.get.Goals as goal
 pub returns-then-is_some : goal.returns-then-is_some
 returns-then-is_some c = record {
   layout = c.choose-answer.ensures.layout;
+  least = refl;
   choice = c.choose-answer.ensures.choice;
   hint = c.choose-answer.ensures.hint;
   won = counts_one c.args.self.now.won c.choose-answer.result (search rules);
@@ -15,6 +16,7 @@ returns-then-is_some c = record {
 pub returns-else-is_some : goal.returns-else-is_some
 returns-else-is_some c = record {
   layout = c.choose-answer.ensures.layout;
+  least = refl;
   choice = c.choose-answer.ensures.choice;
   hint = c.choose-answer.ensures.hint;
   won = counts_none c.args.self.now.won c.choose-answer.result (search rules);
