@@ -18,3 +18,4 @@ pub mod PlainFacts
 pub mod Writings
 pub mod TakenPlaces
 pub mod PlainPools
+pub mod Slow

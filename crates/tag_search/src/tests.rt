@@ -3,6 +3,8 @@ ghost use Rattle.std.specs.Prelude.{ℕ, ◌<◌};
 
 mod comparison;
 mod draws;
+mod hints;
+mod marks;
 mod memory;
 mod slow;
 

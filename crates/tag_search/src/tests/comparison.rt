@@ -1,10 +1,13 @@
 //! The search over plain words beside the slow one, on pseudo-random states and calls.
-ghost use Rattle.std.specs.Prelude.{◌<◌, ◌≤◌, ◌≡◌};
+ghost use Rattle.std.specs.Prelude.{◌<◌, ◌≤◌, ◌≡◌, IsTrue};
 ghost use Rattle.tag_layout.specs.Layout.{words, word_bits};
+ghost use Rattle.tag_search.specs.Marks.{AreMarks};
 
 use super::draws::Draws;
-use super::slow::{batch_choice, choice, hint_after, reduced};
-use crate::{Hint, PlainPort, Port, get_batch};
+use super::hints::{hint_after, hint_after_batch};
+use super::marks::Marks;
+use super::slow::{batch_choice, plain_choice, shallow_choice};
+use crate::{Hint, PlainPort, Port};
 use std::alloc::{AllocError, Global};
 use std::test::Fail;
 use tag_layout::Layout;
@@ -13,8 +16,7 @@ use tag_layout::Layout;
 #[derive(Drop)]
 struct Pair {
     port: PlainPort,
-    free: Vec<bool>,
-    aside: Vec<bool>,
+    marks: Marks,
     hint: Hint,
 }
 
@@ -25,10 +27,10 @@ fn agree(pair: &mut Pair) -> bool {
         let (mut taken, mut aside) = (0u64, 0u64);
         for place in 0..layout.word_depth(word) {
             let tag = layout.tag_at(word, place) as usize;
-            if pair.free.get(tag) == Some(&false) {
+            if pair.marks.free.get(tag) == Some(&false) {
                 taken |= 1 << place;
             }
-            if pair.aside.get(tag) == Some(&true) {
+            if pair.marks.aside.get(tag) == Some(&true) {
                 aside |= 1 << place;
             }
         }
@@ -57,7 +59,7 @@ fn take(pair: &mut Pair, tag: u32) {
         let mask = 1 << layout.place_of(tag);
         if mask <= layout.usable(word) {
             let _ = pair.port.claim(word, mask);
-            mark(&mut pair.free, tag, false);
+            mark(&mut pair.marks.free, tag, false);
         }
     }
 }
@@ -66,7 +68,7 @@ fn take(pair: &mut Pair, tag: u32) {
 fn put(pair: &mut Pair, tag: u32) {
     if tag < pair.port.layout().depth() && pair.port.taken(tag) {
         pair.port.put(tag);
-        mark(&mut pair.aside, tag, true);
+        mark(&mut pair.marks.aside, tag, true);
     }
 }
 
@@ -78,7 +80,7 @@ fn give(pair: &mut Pair, word: u32, mask: u64) {
         pair.port.give(word, held);
         for place in 0..layout.word_depth(word) {
             if (held >> place) & 1 == 1 {
-                mark(&mut pair.free, layout.tag_at(word, place), true);
+                mark(&mut pair.marks.free, layout.tag_at(word, place), true);
             }
         }
     }
@@ -95,8 +97,10 @@ fn random_pair(
     let depth = layout.depth();
     let mut pair = Pair {
         port: PlainPort::open(alloc, layout)?,
-        free: vec![in alloc; true; depth as usize]?,
-        aside: vec![in alloc; false; depth as usize]?,
+        marks: Marks {
+            free: vec![in alloc; true; depth as usize]?,
+            aside: vec![in alloc; false; depth as usize]?,
+        },
         hint: Hint {
             at: draws.below(depth + 3),
             round_robin: draws.eighths(4),
@@ -113,51 +117,54 @@ fn random_pair(
     Ok(pair)
 }
 
-/// One get of each kind beside its slow one: whether answer and hint are the same.
+/// Whether there is a mark a tag.
+fn fits(marks: &Marks, layout: Layout) -> bool
+    ensures { IsTrue result → AreMarks layout marks.now.free.items marks.now.aside.items }
+{
+    let depth = layout.depth() as usize;
+    marks.free.len() == depth && marks.aside.len() == depth
+}
+
+/// A get beside its slow one: whether answer and hint are the same.
 fn same_get(alloc: Global, pair: &mut Pair, shallow: Option<u32>) -> Result<bool, AllocError> {
     let layout = pair.port.layout();
     let old = pair.hint;
-    let from = reduced(layout.depth(), old);
+    if !fits(&pair.marks, layout) {
+        return Ok(false);
+    }
+    let (free, aside) = (&pair.marks.free, &pair.marks.aside);
+    let (wanted, marks) = match shallow {
+        Some(depth) => shallow_choice(alloc, layout, free, aside, old, depth)?,
+        None => plain_choice(alloc, layout, free, aside, old)?,
+    };
+    pair.marks = marks;
     let answer = match shallow {
         Some(depth) => pair.port.choose_shallow(&mut pair.hint, depth),
         None => pair.port.choose(&mut pair.hint),
     };
-    let wanted = choice(
-        alloc,
-        layout,
-        &mut pair.free,
-        &mut pair.aside,
-        from,
-        old.round_robin,
-        shallow,
-    )?;
     Ok(answer == wanted && pair.hint == hint_after(layout.depth(), old, wanted))
 }
 
-/// A batch get beside the slow one.
+/// A batch get beside its slow one.
 fn same_batch(alloc: Global, pair: &mut Pair, n: u32) -> Result<bool, AllocError> {
     let layout = pair.port.layout();
     let old = pair.hint;
-    if n == 0 || n > 1u32 << layout.shift() {
+    if n == 0 || n > 64 || n > 1u32 << layout.shift() || !fits(&pair.marks, layout) {
         return Ok(false);
     }
-    let answer = get_batch(&mut pair.port, &mut pair.hint, n);
+    let answer = pair.port.choose_batch(&mut pair.hint, n);
     if old.round_robin {
-        return Ok(answer == Ok(None) && pair.hint == old);
+        return Ok(answer == None && pair.hint == old);
     }
-    let from = reduced(layout.depth(), old);
-    let wanted = batch_choice(alloc, layout, &mut pair.free, &mut pair.aside, from, n)?;
-    let hint = match wanted {
-        None => Hint {
-            at: from,
-            round_robin: false,
-        },
-        Some((tag, _)) => {
-            let last = tag.wrapping_add(n).wrapping_sub(1);
-            hint_after(layout.depth(), old, Some(last))
-        }
-    };
-    Ok(answer == Ok(wanted) && pair.hint == hint)
+    let (free, aside) = (&pair.marks.free, &pair.marks.aside);
+    let (wanted, marks) = batch_choice(alloc, layout, free, aside, old, n)?;
+    pair.marks = marks;
+    if let Some((tag, _)) = wanted
+        && u64::from(tag) + u64::from(n) > u64::from(layout.depth())
+    {
+        return Ok(false);
+    }
+    Ok(answer == wanted && pair.hint == hint_after_batch(layout.depth(), old, n, wanted))
 }
 
 /// A random call on both, and whether they still agree.
@@ -209,7 +216,7 @@ fn the_search_answers_the_slow_choice(rt: HostRuntime) -> Result<(), Fail> {
     let mut draws = Draws::new(20_260_917);
     for depth in 0..71 {
         for shift in 0..7 {
-            for round in 0..24 {
+            for round in 0..8 {
                 assert!(rt;
                     same_calls(rt.alloc(), depth, shift, &mut draws, 25)?,
                     "{depth} {shift} {round}"

@@ -1,9 +1,8 @@
 -- What the words show taken and not set aside may be given back.
 use Rattle.std.proofs.Common.{◌≡◌, ◌^◌, ◌<◌, get_or, arith, sym, ap, ◌∙◌, subst}
-use Rattle.tag_layout.specs.Layout.{IsWithin}
-use Rattle.tag_search.specs.Plain.{Plain, IsTaken}
+use Rattle.tag_search.specs.Plain.{Plain}
 use Rattle.tag_search.specs.Writes.{IsTidy}
-use Rattle.tag_search.proofs.TakenPlaces.{held, held_within, held_taken}
+use Rattle.tag_search.proofs.TakenPlaces.{held_within, held_taken}
 use Rattle.tag_search.proofs.tests.comparison.give.Goals as goal
 
 pub give-requires-clause-mask : goal.give-requires-clause-mask
