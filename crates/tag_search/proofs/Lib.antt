@@ -13,5 +13,9 @@ pub mod Choices
 pub mod GetFacts
 pub mod BatchAlone
 pub mod Batches
+pub mod Held
 pub mod PlainFacts
 pub mod Writings
+pub mod TakenPlaces
+pub mod PlainPools
+pub mod Slow

@@ -1,5 +1,5 @@
 -- Numbers in order: the parts of a list of them, and what holds of each.
-use Rattle.std.proofs.Common.{◌≡◌, ℕ, zero, suc, ◌+◌, ◌-◌, ◌<◌, ◌≤◌, min, List, [], ◌∷◌, ◌++◌, length, arith, refl, ap, ◌∙◌}
+use Rattle.std.proofs.Common.{◌≡◌, ℕ, zero, suc, ◌+◌, ◌-◌, ◌<◌, ◌≤◌, min, List, [], ◌∷◌, ◌++◌, length, arith, refl, sym, ap, ◌∙◌, append_assoc}
 use Rattle.std.specs.Prelude.{All, Bool, true, false}
 use Rattle.std.proofs.lemmas.List.Elements.{All-nil, All-cons, All-append}
 use Rattle.std.proofs.lemmas.List.{length-append}
@@ -61,3 +61,17 @@ pub all_scan : (P : ℕ → Type 0) (start limit : ℕ) (wrap : Bool) → ((k : 
 all_scan P start limit true h =
     All-append P (numbers start limit) (numbers 0 (min start limit)) (all_numbers P start limit (λ k _ l. h k l)) (all_numbers P 0 (min start limit) (λ k _ l. h k (omega arith)))
 all_scan P start limit false h = All-append P (numbers start limit) [] (all_numbers P start limit (λ k _ l. h k l)) (All-nil P)
+
+-- one more number at the end
+pub numbers-push : (a b : ℕ) → a ≤ b → numbers a (b + 1) ≡ numbers a b ++ b ∷ []
+numbers-push a b h = numbers-at a b (b + 1) h (omega arith) ∙ ap (λ (xs : List ℕ). numbers a b ++ b ∷ xs) (numbers-none (b + 1) (b + 1) (omega arith))
+
+-- the same where the numbers are those below a limit
+pub numbers_more : (a b limit : ℕ) → a ≤ b → b < limit → numbers a (min b limit) ++ b ∷ [] ≡ numbers a (min (b + 1) limit)
+numbers_more a b limit h k =
+    let here : min b limit ≡ b = omega arith in let next : b + 1 ≡ min (b + 1) limit = omega arith in
+    ap (λ (x : ℕ). numbers a x ++ b ∷ []) here ∙ sym (numbers-push a b h) ∙ ap (numbers a) next
+
+-- and behind other numbers
+pub numbers_behind : (xs : List ℕ) (b : ℕ) → (xs ++ numbers 0 b) ++ b ∷ [] ≡ xs ++ numbers 0 (b + 1)
+numbers_behind xs b = append_assoc xs (numbers 0 b) (b ∷ []) ∙ ap (λ (ys : List ℕ). xs ++ ys) (sym (numbers-push 0 b (omega arith)))

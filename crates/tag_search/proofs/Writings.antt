@@ -54,7 +54,7 @@ writes_without xs i v mask h e fits narrow =
     record {
       there = λ k one. let b = bit_at_without v mask k fits narrow in ap (λ (x : ℕ). bit_at x k) here ∙ omega arith;
       beside = λ k out. let none = bit_out mask k out in let b = bit_at_without v mask k fits narrow in let l = bit_at-lt v k in
-      ap (λ (x : ℕ). bit_at x k) here ∙ (let same : bit_at (without v mask) k ≡ bit_at v k = omega arith in same ∙ ap (λ (x : ℕ). bit_at x k) e);
+          ap (λ (x : ℕ). bit_at x k) here ∙ (let same : bit_at (without v mask) k ≡ bit_at v k = omega arith in same ∙ ap (λ (x : ℕ). bit_at x k) e);
       others = λ j ne. other_entries xs i (without v mask) j ne;
     }
 
@@ -89,19 +89,19 @@ tidy_claim p new i mask tidy long fits w = record {
   word_count = long ∙ tidy.word_count;
   aside_count = tidy.aside_count;
   within = λ j k one. dite (ℕ_discrete j i)
-  (λ (e : j ≡ i). let here : bit_at (get_or new i 0) k ≡ 1 = subst (λ (x : ℕ). bit_at (get_or new x 0) k ≡ 1) e one in
-  subst (λ (x : ℕ). k < word_depth p.layout x) (sym e) (elim (bit_is mask k) [
-    inl is ↦ in_below mask (word_depth p.layout i) k fits is
-  | inr out ↦ tidy.within i k (sym (w.beside k (λ is. absurd (omega arith))) ∙ here)
-  ]))
-  (λ ne. tidy.within j k (sym (ap (λ (x : ℕ). bit_at x k) (w.others j ne)) ∙ one));
+      (λ (e : j ≡ i). let here : bit_at (get_or new i 0) k ≡ 1 = subst (λ (x : ℕ). bit_at (get_or new x 0) k ≡ 1) e one in
+      subst (λ (x : ℕ). k < word_depth p.layout x) (sym e) (elim (bit_is mask k) [
+        | inl is ↦ in_below mask (word_depth p.layout i) k fits is
+        | inr out ↦ tidy.within i k (sym (w.beside k (λ is. absurd (omega arith))) ∙ here)
+      ]))
+      (λ ne. tidy.within j k (sym (ap (λ (x : ℕ). bit_at x k) (w.others j ne)) ∙ one));
   taken = λ j k aside. let was = tidy.taken j k aside in dite (ℕ_discrete j i)
-  (λ (e : j ≡ i). let before : bit_at (get_or p.word i 0) k ≡ 1 = subst (λ (x : ℕ). bit_at (get_or p.word x 0) k ≡ 1) e was in
-  subst (λ (x : ℕ). bit_at (get_or new x 0) k ≡ 1) (sym e) (elim (bit_is mask k) [
-    inl is ↦ w.there k is
-  | inr out ↦ w.beside k (λ is. absurd (omega arith)) ∙ before
-  ]))
-  (λ ne. ap (λ (x : ℕ). bit_at x k) (w.others j ne) ∙ was);
+      (λ (e : j ≡ i). let before : bit_at (get_or p.word i 0) k ≡ 1 = subst (λ (x : ℕ). bit_at (get_or p.word x 0) k ≡ 1) e was in
+      subst (λ (x : ℕ). bit_at (get_or new x 0) k ≡ 1) (sym e) (elim (bit_is mask k) [
+        | inl is ↦ w.there k is
+        | inr out ↦ w.beside k (λ is. absurd (omega arith)) ∙ before
+      ]))
+      (λ ne. ap (λ (x : ℕ). bit_at x k) (w.others j ne) ∙ was);
 }
 
 -- places cleared, none of which is set aside any more
@@ -112,17 +112,17 @@ tidy_clear p new aside i mask tidy long broad w fewer apart = record {
   word_count = long ∙ tidy.word_count;
   aside_count = broad ∙ tidy.aside_count;
   within = λ j k one. dite (ℕ_discrete j i)
-  (λ (e : j ≡ i). let here : bit_at (get_or new i 0) k ≡ 1 = subst (λ (x : ℕ). bit_at (get_or new x 0) k ≡ 1) e one in
-  subst (λ (x : ℕ). k < word_depth p.layout x) (sym e) (elim (bit_is mask k) [
-    inl is ↦ absurd (let none = w.there k is in omega arith)
-  | inr out ↦ tidy.within i k (sym (w.beside k (λ is. absurd (omega arith))) ∙ here)
-  ]))
-  (λ ne. tidy.within j k (sym (ap (λ (x : ℕ). bit_at x k) (w.others j ne)) ∙ one));
+      (λ (e : j ≡ i). let here : bit_at (get_or new i 0) k ≡ 1 = subst (λ (x : ℕ). bit_at (get_or new x 0) k ≡ 1) e one in
+      subst (λ (x : ℕ). k < word_depth p.layout x) (sym e) (elim (bit_is mask k) [
+        | inl is ↦ absurd (let none = w.there k is in omega arith)
+        | inr out ↦ tidy.within i k (sym (w.beside k (λ is. absurd (omega arith))) ∙ here)
+      ]))
+      (λ ne. tidy.within j k (sym (ap (λ (x : ℕ). bit_at x k) (w.others j ne)) ∙ one));
   taken = λ j k still. let was = tidy.taken j k (fewer j k still) in dite (ℕ_discrete j i)
-  (λ (e : j ≡ i). let before : bit_at (get_or p.word i 0) k ≡ 1 = subst (λ (x : ℕ). bit_at (get_or p.word x 0) k ≡ 1) e was in
-  let here : bit_at (get_or aside i 0) k ≡ 1 = subst (λ (x : ℕ). bit_at (get_or aside x 0) k ≡ 1) e still in
-  subst (λ (x : ℕ). bit_at (get_or new x 0) k ≡ 1) (sym e) (w.beside k (apart k here) ∙ before))
-  (λ ne. ap (λ (x : ℕ). bit_at x k) (w.others j ne) ∙ was);
+      (λ (e : j ≡ i). let before : bit_at (get_or p.word i 0) k ≡ 1 = subst (λ (x : ℕ). bit_at (get_or p.word x 0) k ≡ 1) e was in
+      let here : bit_at (get_or aside i 0) k ≡ 1 = subst (λ (x : ℕ). bit_at (get_or aside x 0) k ≡ 1) e still in
+      subst (λ (x : ℕ). bit_at (get_or new x 0) k ≡ 1) (sym e) (w.beside k (apart k here) ∙ before))
+      (λ ne. ap (λ (x : ℕ). bit_at x k) (w.others j ne) ∙ was);
 }
 
 -- a taken place set aside
@@ -132,11 +132,11 @@ tidy_put p aside i place tidy broad was w = record {
   aside_count = broad ∙ tidy.aside_count;
   within = tidy.within;
   taken = λ j k one. dite (ℕ_discrete j i)
-  (λ (e : j ≡ i). let here : bit_at (get_or aside i 0) k ≡ 1 = subst (λ (x : ℕ). bit_at (get_or aside x 0) k ≡ 1) e one in
-  subst (λ (x : ℕ). bit_at (get_or p.word x 0) k ≡ 1) (sym e) (dite (ℕ_discrete k place)
-  (λ (is : k ≡ place). subst (λ (x : ℕ). bit_at (get_or p.word i 0) x ≡ 1) (sym is) was)
-  (λ no. tidy.taken i k (sym (w.beside k no) ∙ here))))
-  (λ ne. tidy.taken j k (sym (ap (λ (x : ℕ). bit_at x k) (w.others j ne)) ∙ one));
+      (λ (e : j ≡ i). let here : bit_at (get_or aside i 0) k ≡ 1 = subst (λ (x : ℕ). bit_at (get_or aside x 0) k ≡ 1) e one in
+      subst (λ (x : ℕ). bit_at (get_or p.word x 0) k ≡ 1) (sym e) (dite (ℕ_discrete k place)
+      (λ (is : k ≡ place). subst (λ (x : ℕ). bit_at (get_or p.word i 0) x ≡ 1) (sym is) was)
+      (λ no. tidy.taken i k (sym (w.beside k no) ∙ here))))
+      (λ ne. tidy.taken j k (sym (ap (λ (x : ℕ). bit_at x k) (w.others j ne)) ∙ one));
 }
 
 -- a bit or-ed into the word at an index, said of that index and that place

@@ -1,7 +1,7 @@
 -- What a search answers where nobody else steps, and what it leaves: a choice over free places and places set aside.
 use Rattle.std.specs.Prelude.{◌≡◌, ◌↔◌, ℕ, ◌+◌, ◌<◌, ◌≤◌, true, false, List, ◌∷◌, ◌++◌, map, All, Option, Some, None}
 use Rattle.std.specs.Int.{bit_at}
-use Rattle.tag_layout.specs.Layout.{Layout, word_depth, tag_at}
+use Rattle.tag_layout.specs.Layout.{Layout, word_of, place_of, word_depth, tag_at}
 use Rattle.tag_search.specs.Pool.{Pool, is_open, freed_in, taken_at, taken_from}
 use Rattle.tag_search.specs.Search.{Visit}
 
@@ -24,6 +24,10 @@ IsOpen p word place = is_open p word place ≡ true
 -- the place is neither free nor set aside
 abbrev pub IsBusy : Pool → ℕ → ℕ → Type 0
 IsBusy p word place = is_open p word place ≡ false
+
+-- the tag is neither free nor set aside
+abbrev pub IsHeld : Layout → Pool → ℕ → Type 0
+IsHeld l p tag = IsBusy p (word_of l tag) (place_of l tag)
 
 -- the place is in the rank, and the others hold of each place before it
 pub record IsFirst (This Others : ℕ → Type 0) (rank : List ℕ) (place : ℕ) : Type 0 where

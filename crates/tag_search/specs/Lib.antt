@@ -13,3 +13,4 @@ pub mod Scans
 pub mod Plain
 pub mod PlainLaws
 pub mod Writes
+pub mod Marks

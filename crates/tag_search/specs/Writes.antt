@@ -1,8 +1,9 @@
 -- What a call on plain words changes of them, bit by bit, and what is true of them between any two calls.
-use Rattle.std.specs.Prelude.{◌≡◌, ◌≢◌, ℕ, ◌<◌, List, length, slice_index}
+use Rattle.std.specs.Prelude.{◌≡◌, ◌≢◌, ℕ, ◌<◌, true, false, List, length, slice_index}
 use Rattle.std.specs.Int.{bit_at}
 use Rattle.tag_layout.specs.Layout.{words, word_depth}
 use Rattle.tag_search.specs.Plain.{Plain}
+use Rattle.tag_search.specs.Pool.{Pool}
 
 -- in this word the places of the set have this bit, and every other bit of the list stays
 pub record Writes (old new : List ℕ) (word : ℕ) (Places : ℕ → Type 0) (bit : ℕ) : Type 0 where
@@ -20,3 +21,8 @@ pub record IsTidy (p : Plain) : Type 0 where
   pub aside_count : length p.aside ≡ words p.layout
   pub within : (word place : ℕ) → bit_at (slice_index p.word word) place ≡ 1 → place < word_depth p.layout word
   pub taken : (word place : ℕ) → bit_at (slice_index p.aside word) place ≡ 1 → bit_at (slice_index p.word word) place ≡ 1
+
+-- each of the 64 places of every word is free, and none is set aside
+pub record IsAllFree (p : Pool) : Type 0 where
+  pub free : (word place : ℕ) → place < 64 → p.free word place ≡ true
+  pub aside : (word place : ℕ) → p.aside word place ≡ false

@@ -1,12 +1,13 @@
 //! Gets over plain words, where nobody else steps: what they answer and what they leave is the choice.
-ghost use Rattle.std.specs.Prelude.{◌≡◌, ℕ, ◌≤◌, false, IsTrue};
+ghost use Rattle.std.specs.Prelude.{◌≡◌, ℕ, ◌+◌, ◌≤◌, false, IsTrue, IfSome};
+ghost use Rattle.std.specs.Int.{bit_at};
 ghost use Rattle.tag_layout.specs.Layout.{word_bits, word_of};
 ghost use Rattle.tag_search.specs.Batch.{batch_words};
-ghost use Rattle.tag_search.specs.Choice.{IsChoice, IsBatchChoice};
+ghost use Rattle.tag_search.specs.Choice.{IsHeld, IsChoice, IsBatchChoice};
 ghost use Rattle.tag_search.specs.Follows.{HintFollows, BatchFollows};
 ghost use Rattle.tag_search.specs.Hints.{reduced};
 ghost use Rattle.tag_search.specs.Plain.{words_of};
-ghost use Rattle.tag_search.specs.Pool.{pool_of};
+ghost use Rattle.tag_search.specs.Pool.{pool_of, IsApart};
 ghost use Rattle.tag_search.specs.Visits.{plain_visits, shallow_visits};
 
 use crate::hint::Hint;
@@ -14,12 +15,14 @@ use crate::plain::PlainPort;
 use crate::search::{get, get_batch, get_shallow};
 
 impl PlainPort {
-    /// A free tag, or else one set aside, in the first word from the hint's on that has one.
+    /// A free tag, or else one set aside, in the first word from the hint's on that has one. It is held from now on.
     pub fn choose(&mut self, hint: &mut Hint) -> Option<u32>
         ensures layout { self.new.layout ≡ self.old.layout }
         ensures choice { let l = self.old.layout in
             let visits = plain_visits l hint.old.round_robin (reduced l.depth hint.old.at) in
             IsChoice l (pool_of (words_of self.old)) visits result (pool_of (words_of self.new)) }
+        ensures held { IsApart (pool_of (words_of self.old)) → let left = pool_of (words_of self.new) in
+            IsApart left × IfSome result (IsHeld self.old.layout left) }
         ensures hint { HintFollows self.old.layout.depth hint.old hint.new result }
     {
         let Ok(answer) = get(self, hint) else {
@@ -34,6 +37,8 @@ impl PlainPort {
         ensures choice { let l = self.old.layout in
             let visits = shallow_visits l depth (reduced l.depth hint.old.at) in
             IsChoice l (pool_of (words_of self.old)) visits result (pool_of (words_of self.new)) }
+        ensures held { IsApart (pool_of (words_of self.old)) → let left = pool_of (words_of self.new) in
+            IsApart left × IfSome result (IsHeld self.old.layout left) }
         ensures hint { HintFollows self.old.layout.depth hint.old hint.new result }
     {
         let Ok(answer) = get_shallow(self, hint, depth) else {
@@ -51,6 +56,8 @@ impl PlainPort {
         ensures choice { hint.old.round_robin ≡ false → let l = self.old.layout in
             let words = batch_words l (word_of l (reduced l.depth hint.old.at)) in
             IsBatchChoice l n (pool_of (words_of self.old)) words result (pool_of (words_of self.new)) }
+        ensures held { hint.old.round_robin ≡ false → IsApart (pool_of (words_of self.old)) → let left = pool_of (words_of self.new) in
+            IsApart left × IfSome result (λ won. (k : ℕ) → bit_at won.1 k ≡ 1 → IsHeld self.old.layout left (won.0 + k)) }
         ensures hint { hint.old.round_robin ≡ false → BatchFollows self.old.layout.depth n hint.old hint.new result }
     {
         let Ok(answer) = get_batch(self, hint, n) else {

@@ -58,8 +58,9 @@ impl Port for PlainPort {
         ensures aside { self.new.aside ≡ self.old.aside }
         ensures step { IfOk result (λ claim. RunsAlone self.old (Claimed word mask claim.found ∷ []) self.new) }
     {
-        let found = self.word[word as usize];
-        self.word[word as usize] = found | mask;
+        let at = word as usize;
+        let found = self.word[at];
+        self.word[at] = found | mask;
         Ok(Claim {
             won: mask & !found,
             found,
@@ -76,12 +77,13 @@ impl Port for PlainPort {
             ((mask : ℕ) × (mask ≢ 0) × Adds RunsAlone self.old self.new (IsSweep word mask))
             (Adds RunsAlone self.old self.new (IsSweep word 0)) }
     {
-        let mask = self.cleared[word as usize];
+        let at = word as usize;
+        let mask = self.cleared[at];
         if mask == 0 {
             return false;
         }
-        self.cleared[word as usize] = 0;
-        self.word[word as usize] &= !mask;
+        self.cleared[at] = 0;
+        self.word[at] &= !mask;
         true
     }
 }

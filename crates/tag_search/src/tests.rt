@@ -1,6 +1,13 @@
 //! Searches worked by hand, with their steps counted.
 ghost use Rattle.std.specs.Prelude.{ℕ, ◌<◌};
 
+mod comparison;
+mod draws;
+mod hints;
+mod marks;
+mod memory;
+mod slow;
+
 use crate::{Hint, PlainPort, Port, after_clear, get, get_batch, get_shallow};
 use std::test::Fail;
 use tag_core::{Claim, Spent};
@@ -177,5 +184,35 @@ fn a_tag_given_back_is_free_at_once(rt: HostRuntime) -> Result<(), Fail> {
     let mut hint = hint_at(9, false);
     assert_eq!(rt; get(&mut port, &mut hint), Ok(Some(0)));
     assert_eq!(rt; hint, hint_at(1, false));
+    Ok(())
+}
+
+/// The choice of a batch, where so many tags fit a word.
+#[tactic(auto, using(std::proofs::lemmas::Nat::one_shl))]
+fn chosen_batch(port: &mut PlainPort, hint: &mut Hint, n: u32) -> Option<(u32, u64)> {
+    let bits = 1u32 << port.layout().shift();
+    if n == 0 || n > bits {
+        return None;
+    }
+    port.choose_batch(hint, n)
+}
+
+#[test]
+fn a_batch_leaves_out_a_tag_that_is_held(rt: HostRuntime) -> Result<(), Fail> {
+    let mut counting = fresh(&rt, 8, 2)?;
+    take(&mut counting, 0, 0b1111);
+    set_aside(&mut counting, 1);
+    set_aside(&mut counting, 3);
+    let mut hint = hint_at(0, false);
+    let mut port = counting.port;
+    assert_eq!(rt; chosen_batch(&mut port, &mut hint, 3), Some((1, 0b101)));
+    assert_eq!(rt; hint, hint_at(0, false));
+    assert_eq!(rt; port.choose(&mut hint), Some(4));
+    assert_eq!(rt; port.choose_shallow(&mut hint, 4), Some(5));
+    assert_eq!(rt; port.choose_shallow(&mut hint, 4), None);
+    let mut round = hint_at(6, true);
+    assert_eq!(rt; chosen_batch(&mut port, &mut round, 1), None);
+    assert_eq!(rt; port.choose(&mut round), Some(6));
+    assert_eq!(rt; round, hint_at(0, true));
     Ok(())
 }

@@ -7,6 +7,7 @@ use Rattle.tag_core.specs.Steps.{without}
 use Rattle.tag_layout.specs.Layout.{words}
 use Rattle.tag_search.specs.Plain.{Plain, IsTaken}
 use Rattle.tag_search.proofs.PlainFacts.{ran_give}
+use Rattle.tag_search.proofs.PlainPools.{ran_give_pool}
 use Rattle.tag_search.proofs.Writings.{writes_without, tidy_clear}
 use Rattle.tag_search.proofs.plain.PlainPort.give.Goals as goal
 
@@ -32,6 +33,16 @@ returns-clause-word c =
     let is : found ≡ get_or p.word i 0 = get_or_read p.word i found within c.index_mut.ensures.value 0 in
     let fits : found < 2 ^ 64 = omega arith in let narrow : mask < 2 ^ 64 = omega arith in
     rw (← c.self.view_is) (writes_without p.word i found mask within is fits narrow)
+
+pub returns-clause-pool : goal.returns-clause-pool
+returns-clause-pool c =
+    let p : Plain = record { layout = c.self.inside.layout; word = c.self.inside.word.items; aside = c.self.inside.cleared.items } in
+    let i = c.args.word in let mask = c.args.mask in let found = c.index_mut.result.now in
+    let near : i < words p.layout = subst (λ (x : Plain). i < words x.layout) (sym c.self.view_is) c.requires.word in
+    let within : i < length p.word = rw c.self.invariant.word_count near in
+    let is : found ≡ get_or p.word i 0 = get_or_read p.word i found within c.index_mut.ensures.value 0 in
+    let narrow : mask < 2 ^ 64 = omega arith in
+    rw (← c.self.view_is) (ran_give_pool p (record p { word = set p.word i (without found mask) }) i mask found narrow (ran_give p i mask found within is))
 
 pub returns-clause-step : goal.returns-clause-step
 returns-clause-step c =

@@ -7,6 +7,7 @@ use Rattle.tag_layout.specs.Layout.{word_of, place_of}
 use Rattle.tag_search.specs.Plain.{Plain, RunsAlone, IsTaken}
 use Rattle.tag_core.specs.declared.word_step.WordStep.TheVariants.{Put}
 use Rattle.tag_search.proofs.PlainFacts.{ran_put}
+use Rattle.tag_search.proofs.PlainPools.{ran_put_pool}
 use Rattle.tag_search.proofs.Writings.{writes_place, tidy_put}
 use Rattle.tag_search.proofs.plain.PlainPort.put.Goals as goal
 
@@ -31,6 +32,20 @@ returns-clause-aside c =
     let is : found ≡ get_or p.aside r 0 = get_or_read p.aside r found within c.index_mut.ensures.value 0 in
     rw (← c.self.view_is)
     (writes_place p.aside r (word_of p.layout c.args.tag) found bit (place_of p.layout c.args.tag) c.word_of-word.ensures.value c.bit_of-bit.ensures.value within is)
+
+pub returns-clause-pool : goal.returns-clause-pool
+returns-clause-pool c =
+    let p : Plain = record { layout = c.self.inside.layout; word = c.self.inside.word.items; aside = c.self.inside.cleared.items } in
+    let r = c.word_of-word.result in let bit = c.bit_of-bit.result in let found = c.index_mut.result.now in
+    let within : r < length p.aside = rw c.self.invariant.aside_count c.word_of-word.ensures.within in
+    let is : found ≡ get_or p.aside r 0 = get_or_read p.aside r found within c.index_mut.ensures.value 0 in
+    let i : ℕ = word_of p.layout c.args.tag in let e : r ≡ i = c.word_of-word.ensures.value in
+    let f : found ≡ get_or p.aside i 0 = is ∙ ap (λ (x : ℕ). get_or p.aside x 0) e in
+    let new : Plain = record p { aside = set p.aside r (bit_or found bit) } in
+    let a = ran_put p r bit found within is in
+    let b = subst (λ (x : ℕ). RunsAlone p (Put x bit found ∷ []) new) e a in
+    let d = subst (λ (x : ℕ). RunsAlone p (Put i x found ∷ []) new) c.bit_of-bit.ensures.value b in
+    rw (← c.self.view_is) (ran_put_pool p new i (place_of p.layout c.args.tag) found c.bit_of-bit.ensures.width d)
 
 pub returns-clause-step : goal.returns-clause-step
 returns-clause-step c =

@@ -1,0 +1,11 @@
+-- The tags of a batch are held.
+use Rattle.std.proofs.Common.{ℕ}
+use Rattle.tag_layout.specs.Layout.{Layout, word_of}
+use Rattle.tag_search.specs.Hints.{reduced}
+use Rattle.tag_search.proofs.Held.{batch_held, batch_choice_of}
+use Rattle.tag_search.proofs.plain.PlainPort.choose_batch.Goals as goal
+
+pub returns-clause-held : goal.returns-clause-held
+returns-clause-held c straight apart =
+    let l : Layout = c.args.self.now.layout in let hint : ℕ = reduced l.depth c.args.hint.now.at in
+    batch_held (batch_choice_of l c.args.n (word_of l hint) c.args.self.now c.get_batch.new.port c.in-Ok.answer (c.in-Ok.ensures.steps straight)) apart

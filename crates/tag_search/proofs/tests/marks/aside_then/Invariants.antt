@@ -1,0 +1,11 @@
+-- The marks so far.
+use Rattle.std.proofs.Common.{◌≡◌, ℕ, ◌<◌, false, length, get_or}
+use Rattle.tag_layout.specs.Layout.{word_of}
+use Rattle.tag_search.specs.Marks.{aside_then}
+use Rattle.tag_search.proofs.tests.marks.aside_then.Given as goal
+
+abbrev pub invariant-loop-tag : goal.invariant-loop-tag
+invariant-loop-tag l = record {
+  count : length l.marks.items ≡ l.tag;
+  each : (tag : ℕ) → tag < l.tag → get_or l.marks.items tag false ≡ aside_then l.aside l.swept tag (word_of l.layout tag);
+}

@@ -1,0 +1,12 @@
+-- The words passed have no run, and are swept.
+use Rattle.std.proofs.Common.{◌≡◌, take}
+use Rattle.std.specs.Prelude.{All}
+use Rattle.tag_search.specs.Choice.{HasNoRun}
+use Rattle.tag_search.specs.Marks.{pool_of_marks}
+use Rattle.tag_search.proofs.tests.slow.batch_choice.Given as goal
+
+abbrev pub invariant-loop-word : goal.invariant-loop-word
+invariant-loop-word l = record {
+  swept : l.swept.items ≡ take l.word-index l.word-items;
+  passed : All (HasNoRun l.layout l.n (pool_of_marks l.layout l.free l.aside)) (take l.word-index l.word-items);
+}

@@ -1,0 +1,10 @@
+-- The numbers so far.
+use Rattle.std.proofs.Common.{◌≡◌, min, ◌++◌}
+use Rattle.tag_search.specs.Order.{numbers}
+use Rattle.tag_search.proofs.tests.slow.in_order.Given as goal
+
+abbrev pub invariant-loop-number : goal.invariant-loop-number
+invariant-loop-number l = l.order.items ≡ numbers l.start (min l.number l.limit)
+
+abbrev pub invariant-loop-number-then-wrap : goal.invariant-loop-number-then-wrap
+invariant-loop-number-then-wrap l = l.order.items ≡ numbers l.start l.limit ++ numbers 0 l.number

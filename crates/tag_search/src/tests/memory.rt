@@ -1,0 +1,15 @@
+//! Want of memory. Run with each allocation refused in turn, these tests still pass.
+use crate::PlainPort;
+use std::alloc::AllocError;
+use tag_layout::Layout;
+
+#[test]
+fn want_of_memory_is_told(rt: HostRuntime) {
+    let Ok(layout) = Layout::new(10_240, None) else {
+        unreachable!()
+    };
+    match PlainPort::open(rt.alloc(), layout) {
+        Ok(port) => assert!(rt; !port.taken(10_239)),
+        Err(fault) => assert_eq!(rt; fault, AllocError),
+    }
+}
