@@ -21,7 +21,7 @@ returns-then-not-taken c =
     let low = place_of-narrow p.layout c.args.tag c.requires.narrow in
     let depth = depth_is p.layout c.layout.result c.depth.result c.layout.ensures.value c.depth.ensures.value in
     not_held (omega arith)
-    (busy_free p (word_of p.layout c.args.tag) (place_of p.layout c.args.tag) low (λ is. false≢true (sym c.if-not-taken.true ∙ c.taken.ensures.1 is)))
+    (busy_free p (word_of p.layout c.args.tag) (place_of p.layout c.args.tag) low (λ is. false≢true (sym c.if-not-taken.true ∙ c.taken.ensures.taken.1 is)))
 
 pub returns : goal.returns
 returns c =
@@ -29,7 +29,7 @@ returns c =
     let low = place_of-narrow p.layout c.args.tag c.requires.narrow in
     let q = c.put.new.self in
     let held : IsTrue c.taken.result = c.if-not-taken.false in
-    let busy = busy_taken p (word_of p.layout c.args.tag) (place_of p.layout c.args.tag) low (c.taken.ensures.0 held) in
+    let busy = busy_taken p (word_of p.layout c.args.tag) (place_of p.layout c.args.tag) low (c.taken.ensures.taken.0 held) in
     let pool = pool_put p q (word_of p.layout c.args.tag) (place_of p.layout c.args.tag) low c.put.ensures.word c.put.ensures.aside in
     let hint : c.after_clear.new.hint ≡ record c.args.self.now.hint { at = if c.args.self.now.hint.round_robin then c.args.self.now.hint.at else c.args.tag } =
     λ z. record { at = c.after_clear.ensures.at z; round_robin = c.after_clear.ensures.round_robin z } in
