@@ -1,4 +1,10 @@
 pub mod LineFacts
+pub mod TextFacts
+pub mod WordFacts
 pub mod EventLineFacts
+pub mod OrderLineFacts
 pub mod ReadingFacts
 pub mod NumberFacts
+pub mod CountFacts
+pub mod PlayFacts
+pub mod PoolFacts

@@ -1,10 +1,9 @@
 -- What `check` says of a list of events.
 use Rattle.std.specs.Prelude.{◌≡◌, ◌⊎◌, ℕ, ◌+◌, ◌<◌, ◌≤◌, List, [], ◌∷◌, ◌++◌, length, Option, IfSome, IsSomeAnd, codes}
 use Rattle.std.specs.Io.KnownBytes.{Appends}
-use Rattle.tag_layout.specs.Layout.{Layout, HasShift}
+use Rattle.tag_layout.specs.Layout.{Layout}
 use Rattle.tag_layout.specs.declared.layout.TheConstants.{MAX_DEPTH, MAX_SHIFT}
 use Rattle.tag_model.specs.declared.event.Event.{Event}
-use Rattle.tag_model.specs.declared.totals.Totals.{Totals}
 use Rattle.tag_model.specs.declared.world.TheConstants.{MAX_CALLERS}
 use Rattle.tag_model.specs.World.{World, opened}
 use Rattle.tag_model.specs.Runs.{after_all, MayRun, StopsAt}
@@ -15,21 +14,15 @@ use Rattle.tagplay.specs.declared.fault.SetupFault.{SetupFault}
 use Rattle.tagplay.specs.declared.fault.SetupFault.TheVariants.{TotalTooLarge, ReservedTooLarge, ShiftTooLarge, CallerCount}
 use Rattle.tagplay.specs.declared.ending.Ending.{Ending}
 use Rattle.tagplay.specs.declared.ending.Ending.TheVariants.{Done, Refused}
-use Rattle.tagplay.specs.declared.check.Closed.{Closed}
-use Rattle.tagplay.specs.declared.check.Closed.TheVariants as closed
+use Rattle.tagplay.specs.declared.fault.Closed.{Closed}
+use Rattle.tagplay.specs.declared.fault.Closed.TheVariants as closed
 use Rattle.tagplay.specs.declared.check.Verdict.{Verdict}
 use Rattle.tagplay.specs.declared.check.Verdict.TheVariants.{Faulty, Setup, Stopped, Legal}
-use Rattle.tagplay.specs.Faults.{number_of_line_fault, number_of_setup_fault, number_of_event_fault}
+use Rattle.tagplay.specs.Faults.{number_of_event_fault}
 use Rattle.tagplay.specs.Readings.{AreReadings, IsFirstFaulty}
 use Rattle.tagplay.specs.EventList.{event_of}
-use Rattle.tagplay.specs.Texts.{field}
-
--- so many tags, in words of the shift that was asked for, or of the default one
-pub record IsLayoutOf (o : CheckOptions) (l : Layout) : Type 0 where
-  pub depth : l.depth ≡ o.tags
-  pub few : o.tags ≤ MAX_DEPTH
-  pub shift : HasShift o.tags o.shift l.shift
-  pub narrow : IfSome o.shift (λ s. s ≤ MAX_SHIFT)
+use Rattle.tagplay.specs.Setups.{IsLayoutOf}
+use Rattle.tagplay.specs.Texts.{field, totals_text, faulty_text, setup_text}
 
 -- there are as many callers as a world can have
 abbrev pub HasCallers : CheckOptions → Type 0
@@ -40,7 +33,7 @@ abbrev pub IsSetupFault : CheckOptions → SetupFault → Type 0
 IsSetupFault o TotalTooLarge = MAX_DEPTH < o.tags
 IsSetupFault o ReservedTooLarge = ⊥
 IsSetupFault o ShiftTooLarge = (o.tags ≤ MAX_DEPTH) × IsSomeAnd o.shift (λ s. MAX_SHIFT < s)
-IsSetupFault o CallerCount = (l : Layout) × IsLayoutOf o l × ((o.callers ≡ 0) ⊎ (MAX_CALLERS < o.callers))
+IsSetupFault o CallerCount = (l : Layout) × IsLayoutOf o.tags o.shift l × ((o.callers ≡ 0) ⊎ (MAX_CALLERS < o.callers))
 
 -- no memory, or such a cause
 abbrev pub IsClosed : CheckOptions → Closed → Type 0
@@ -60,7 +53,7 @@ pub record IsRun (o : CheckOptions) (text : List ℕ) (verdict : Verdict) : Type
   pub events : List Event
   pub layout : Layout
   pub lines : AreReadings event_of text events
-  pub layout_is : IsLayoutOf o layout
+  pub layout_is : IsLayoutOf o.tags o.shift layout
   pub callers : HasCallers o
   pub run : IsRunVerdict layout o.callers opened events verdict
 
@@ -71,17 +64,10 @@ IsVerdict o text (Setup fault) = (events : List Event) × AreReadings event_of t
 IsVerdict o text (Stopped line fault) = IsRun o text (Stopped line fault)
 IsVerdict o text (Legal count totals) = IsRun o text (Legal count totals)
 
--- the four sums, each behind its name
-abbrev pub totals_text : Totals → List ℕ
-totals_text t =
-    field (codes " got=") t.got ++ field (codes " back=") t.back ++ field (codes " held=") t.held
-    ++ field (codes " posted=") t.posted
-
 -- the one line that tells a verdict
 abbrev pub verdict_text : Verdict → List ℕ
-verdict_text (Faulty fault) =
-    field (codes "line ") fault.number ++ field (codes " refused ") (number_of_line_fault fault.cause) ++ codes "\n"
-verdict_text (Setup fault) = field (codes "setup refused ") (number_of_setup_fault fault) ++ codes "\n"
+verdict_text (Faulty fault) = faulty_text fault
+verdict_text (Setup fault) = setup_text fault
 verdict_text (Stopped line fault) =
     field (codes "event ") line ++ field (codes " refused ") (number_of_event_fault fault) ++ codes "\n"
 verdict_text (Legal count totals) = field (codes "ok events=") count ++ totals_text totals ++ codes "\n"

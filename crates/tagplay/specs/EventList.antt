@@ -9,10 +9,7 @@ use Rattle.tagplay.specs.declared.event_list.Single.{Single}
 use Rattle.tagplay.specs.declared.event_list.Single.TheVariants.{Put, Sweep, Spill, Post, Take}
 use Rattle.tagplay.specs.declared.event_list.Masked.{Masked}
 use Rattle.tagplay.specs.declared.event_list.Masked.TheVariants.{Win, Give}
-use Rattle.tagplay.specs.declared.event_list.ListFault.{ListFault}
-use Rattle.tagplay.specs.declared.event_list.ListFault.TheVariants.{Memory, Faulty}
 use Rattle.tagplay.specs.Lines.{number_below}
-use Rattle.tagplay.specs.Readings.{IsFirstFaulty}
 
 -- the names of the events on a tag or a word
 abbrev pub single_of : List ℕ → Option Single
@@ -63,8 +60,3 @@ event_of (name ∷ caller ∷ on ∷ []) = single_line (single_of name) (number_
 event_of (name ∷ caller ∷ word ∷ mask ∷ []) =
     masked_line (masked_of name) (number_below (2 ^ 32) caller) (number_below (2 ^ 32) word) (number_below (2 ^ 64) mask)
 event_of (name ∷ caller ∷ word ∷ mask ∷ more ∷ rest) = Err BadLine
-
--- no memory, or the first line that spells no event
-abbrev pub IsListFault : List ℕ → ListFault → Type 0
-IsListFault text Memory = Unit {0}
-IsListFault text (Faulty fault) = IsFirstFaulty event_of text fault

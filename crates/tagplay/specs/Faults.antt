@@ -5,6 +5,8 @@ use Rattle.tag_model.specs.declared.event.EventFault.TheVariants.{NoSuchTag, Not
 use Rattle.tagplay.specs.declared.fault.LineFault.{LineFault}
 use Rattle.tagplay.specs.declared.fault.LineFault.TheVariants.{BadLine, BadNumber, NoSuchCaller}
 use Rattle.tagplay.specs.declared.fault.SetupFault.{SetupFault}
+use Rattle.tagplay.specs.declared.fault.TagFault.{TagFault}
+use Rattle.tagplay.specs.declared.fault.TagFault.TheVariants.{NoSuchTag as NoTag, NotHeld as NotTheirs, BadCount, TooShallow}
 use Rattle.tagplay.specs.declared.fault.SetupFault.TheVariants.{TotalTooLarge, ReservedTooLarge, ShiftTooLarge, CallerCount}
 
 -- of a line
@@ -28,3 +30,10 @@ number_of_event_fault NotFree = 3
 number_of_event_fault NotHeld = 4
 number_of_event_fault NotPosted = 5
 number_of_event_fault Spent = 6
+
+-- of a command
+abbrev pub number_of_tag_fault : TagFault → ℕ
+number_of_tag_fault NoTag = 1
+number_of_tag_fault NotTheirs = 3
+number_of_tag_fault BadCount = 5
+number_of_tag_fault TooShallow = 6

@@ -2,6 +2,8 @@
 use Rattle.std.specs.Prelude.{◌≡◌, ℕ, ◌+◌, List, ◌∷◌, ◌++◌, map, length, Result, Ok, Err}
 use Rattle.tagplay.specs.declared.fault.LineFault.{LineFault}
 use Rattle.tagplay.specs.declared.fault.FaultyLine.{FaultyLine}
+use Rattle.tagplay.specs.declared.fault.ListFault.{ListFault}
+use Rattle.tagplay.specs.declared.fault.ListFault.TheVariants.{Memory, Faulty}
 use Rattle.tagplay.specs.Lines.{lines_of, words_of}
 
 -- what each line says, in order
@@ -18,3 +20,8 @@ pub record IsFirstFaulty {A : Type 0} (says : List (List ℕ) → Result A LineF
   pub rest : List (Result A LineFault)
   pub parts : readings says text ≡ map Ok before ++ Err fault.cause ∷ rest
   pub number : fault.number ≡ length before + 1
+
+-- no memory, or the first line that says nothing
+abbrev pub IsListFault : {A : Type 0} → (List (List ℕ) → Result A LineFault) → List ℕ → ListFault → Type 0
+IsListFault says text Memory = Unit {0}
+IsListFault says text (Faulty fault) = IsFirstFaulty says text fault

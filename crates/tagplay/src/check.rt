@@ -1,18 +1,18 @@
 //! `check`: whether a list of events could have happened.
 ghost use Rattle.std.specs.Prelude.{◌≡◌, ◌≢◌, ◌<◌, ◌++◌, length, IfOk, IfErr, IfSome, OnOk, IsErrOf};
 ghost use Rattle.tagplay.specs.Faults.{number_of_event_fault};
-ghost use Rattle.tagplay.specs.Check.{IsLayoutOf, HasCallers, IsClosed, IsRunVerdict, IsVerdict, Writes};
-ghost use Rattle.tagplay.specs.Check.{verdict_text, totals_text, ending_of};
+ghost use Rattle.tagplay.specs.Setups.{IsLayoutOf};
+ghost use Rattle.tagplay.specs.Check.{HasCallers, IsClosed, IsRunVerdict, IsVerdict, Writes};
+ghost use Rattle.tagplay.specs.Check.{verdict_text, ending_of};
 ghost use Rattle.tag_model.specs.Kept.{callers_of, world_of};
 ghost use Rattle.tag_model.specs.World.{opened};
 
 use crate::ending::Ending;
-use crate::event_list::{ListFault, events};
-use crate::fault::{FaultyLine, RunFault, SetupFault};
+use crate::event_list::events;
+use crate::fault::{Closed, FaultyLine, ListFault, RunFault, SetupFault};
 use crate::input::{MAX_INPUT, read_whole};
-use crate::lines::LINE_FEED;
 use crate::options::CheckOptions;
-use crate::text::push_field;
+use crate::text::{end_line, push_faulty, push_field, push_setup, push_totals};
 use std::alloc::{AllocError, Global};
 use std::io::{Read, Write};
 use tag_layout::{Layout, LayoutFault};
@@ -69,18 +69,9 @@ fn verdict_on(alloc: Global, options: &CheckOptions, text: &[u8]) -> Result<Verd
     }
 }
 
-/// Why there is no world.
-#[derive(Clone, Copy, Debug, PartialEq, Eq)]
-pub(crate) enum Closed {
-    /// There was no memory for it.
-    Memory,
-    /// The options ask for what there can't be.
-    Setup(SetupFault),
-}
-
 // The world that the options ask for, all tags free.
 fn open(alloc: Global, options: &CheckOptions) -> Result<World, Closed>
-    ensures layout { IfOk result (λ world. IsLayoutOf options.now world.layout) }
+    ensures layout { IfOk result (λ world. IsLayoutOf options.now.tags options.now.shift world.layout) }
     ensures callers { IfOk result (λ world. HasCallers options.now × (callers_of world ≡ options.now.callers)) }
     ensures all_free { IfOk result (λ world. world_of world ≡ opened) }
     ensures fault { IfErr result (IsClosed options.now) }
@@ -124,22 +115,19 @@ impl Verdict {
         ensures ok { OnOk result (text.new.items ≡ text.old.items ++ verdict_text self.now) }
     {
         match *self {
-            Verdict::Faulty(fault) => {
-                push_field(text, b"line ", fault.number)?;
-                push_field(text, b" refused ", fault.cause.number())?;
-            }
-            Verdict::Setup(fault) => push_field(text, b"setup refused ", fault.number())?,
+            Verdict::Faulty(fault) => push_faulty(text, fault),
+            Verdict::Setup(fault) => push_setup(text, fault),
             Verdict::Stopped(line, fault) => {
                 push_field(text, b"event ", line)?;
                 push_field(text, b" refused ", number_of(fault))?;
+                end_line(text)
             }
             Verdict::Legal(count, totals) => {
                 push_field(text, b"ok events=", count)?;
                 push_totals(text, totals)?;
+                end_line(text)
             }
         }
-        text.push(LINE_FEED)?;
-        Ok(())
     }
 
     // A verdict is a refusal, unless the list is legal.
@@ -151,16 +139,6 @@ impl Verdict {
             _ => Ending::Refused,
         }
     }
-}
-
-fn push_totals(text: &mut Vec<u8>, totals: Totals) -> Result<(), AllocError>
-    ensures ok { OnOk result (text.new.items ≡ text.old.items ++ totals_text totals) }
-{
-    push_field(text, b" got=", totals.got)?;
-    push_field(text, b" back=", totals.back)?;
-    push_field(text, b" held=", totals.held)?;
-    push_field(text, b" posted=", totals.posted)?;
-    Ok(())
 }
 
 // The number of an event's fault in texts.

@@ -1,10 +1,10 @@
 //! Lists of events, a line each.
 ghost use Rattle.std.specs.Prelude.{◌≡◌, ◌^◌, [], ◌∷◌, IfOk, IfErr};
 ghost use Rattle.tagplay.specs.Lines.{words_of};
-ghost use Rattle.tagplay.specs.Readings.{AreReadings};
-ghost use Rattle.tagplay.specs.EventList.{event_of, single_of, masked_of, single_event, masked_event, IsListFault};
+ghost use Rattle.tagplay.specs.Readings.{AreReadings, IsListFault};
+ghost use Rattle.tagplay.specs.EventList.{event_of, single_of, masked_of, single_event, masked_event};
 
-use crate::fault::{FaultyLine, LineFault};
+use crate::fault::{FaultyLine, LineFault, ListFault};
 use crate::lines::{BLANK, LINE_FEED, cut};
 use crate::numbers::{number, short_number};
 use std::alloc::Global;
@@ -93,19 +93,10 @@ impl Masked {
     }
 }
 
-/// Why there are no events.
-#[derive(Clone, Copy, Debug, PartialEq, Eq)]
-pub(crate) enum ListFault {
-    /// There was no memory for them.
-    Memory,
-    /// A line spells none.
-    Faulty(FaultyLine),
-}
-
 /// The events that the lines of a text spell, or the first line that spells none.
 pub(crate) fn events(alloc: Global, text: &[u8]) -> Result<Vec<Event>, ListFault>
     ensures events { IfOk result (λ events. AreReadings event_of text.now events.items) }
-    ensures fault { IfErr result (IsListFault text.now) }
+    ensures fault { IfErr result (IsListFault event_of text.now) }
 {
     let mut events = Vec::new(alloc);
     let mut rest = text;

@@ -1,6 +1,6 @@
 //! What is wrong with a line, with a setup, or with a run.
 ghost use Rattle.std.specs.Prelude.{◌≡◌};
-ghost use Rattle.tagplay.specs.Faults.{number_of_line_fault, number_of_setup_fault};
+ghost use Rattle.tagplay.specs.Faults.{number_of_line_fault, number_of_setup_fault, number_of_tag_fault};
 
 use thiserror::Error;
 
@@ -37,6 +37,15 @@ pub struct FaultyLine {
     pub cause: LineFault,
 }
 
+/// Why the lines of a text were not read.
+#[derive(Clone, Copy, Debug, PartialEq, Eq)]
+pub(crate) enum ListFault {
+    /// There was no memory for what they say.
+    Memory,
+    /// A line says nothing.
+    Faulty(FaultyLine),
+}
+
 /// Why there is no such world. The causes are looked for in the order in which they stand here.
 #[derive(Clone, Copy, Debug, PartialEq, Eq)]
 pub enum SetupFault {
@@ -60,6 +69,42 @@ impl SetupFault {
             SetupFault::ReservedTooLarge => 3,
             SetupFault::ShiftTooLarge => 4,
             SetupFault::CallerCount => 5,
+        }
+    }
+}
+
+/// Why no world was opened.
+#[derive(Clone, Copy, Debug, PartialEq, Eq)]
+pub(crate) enum Closed {
+    /// There was no memory for it.
+    Memory,
+    /// The options ask for what there can't be.
+    Setup(SetupFault),
+}
+
+/// Why a command of a script is refused. A refused command changes nothing, and the script goes on.
+#[derive(Clone, Copy, Debug, PartialEq, Eq)]
+pub enum TagFault {
+    /// There is no such tag.
+    NoSuchTag,
+    /// The caller doesn't hold the tag.
+    NotHeld,
+    /// No tag at all is asked for, or more than a word has.
+    BadCount,
+    /// The depth is 0, or below the least one.
+    TooShallow,
+}
+
+impl TagFault {
+    /// Its number in texts.
+    pub(crate) fn number(self) -> u64
+        ensures { result ≡ number_of_tag_fault self }
+    {
+        match self {
+            TagFault::NoSuchTag => 1,
+            TagFault::NotHeld => 3,
+            TagFault::BadCount => 5,
+            TagFault::TooShallow => 6,
         }
     }
 }

@@ -2,6 +2,7 @@
 #![tactic(auto)]
 
 mod check;
+mod commands;
 mod ending;
 mod event_list;
 mod fault;
@@ -9,6 +10,10 @@ mod input;
 mod lines;
 mod numbers;
 mod options;
+mod order;
+mod order_list;
+mod player;
+mod script;
 #[cfg(test)]
 mod tests;
 mod text;
@@ -16,8 +21,10 @@ mod text;
 pub use check::{Verdict, run_check};
 use clap::error::ErrorKind;
 pub use ending::Ending;
-pub use fault::{FaultyLine, LineFault, RunFault, SetupFault};
-pub use options::CheckOptions;
+pub use fault::{FaultyLine, LineFault, RunFault, SetupFault, TagFault};
+pub use options::{CheckOptions, ScriptOptions};
+pub use order::{Command, Order};
+pub use script::run_script;
 use std::process::ExitCode;
 use std::rt::Env;
 use std::{env, io};
@@ -64,9 +71,17 @@ fn play<R: AllocGlobal + Env + Input + Print + Eprint>(rt: &R) -> Result<Ending,
             return Err(Stop::CommandLine(error.exit_code() as u8));
         }
     };
-    let Some((_, chosen)) = matches.subcommand() else {
+    let Some((name, chosen)) = matches.subcommand() else {
         return Err(Stop::CommandLine(2));
     };
-    let options = options::check_options(chosen);
-    check::run_check(alloc, &options, &mut rt.reader(), &mut io::writer(rt)).map_err(Stop::Run)
+    let mut reader = rt.reader();
+    let mut writer = io::writer(rt);
+    let outcome = if name == "script" {
+        let options = options::script_options(chosen);
+        script::run_script(alloc, &options, &mut reader, &mut writer)
+    } else {
+        let options = options::check_options(chosen);
+        check::run_check(alloc, &options, &mut reader, &mut writer)
+    };
+    outcome.map_err(Stop::Run)
 }

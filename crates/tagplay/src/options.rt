@@ -1,6 +1,30 @@
 //! What the command line says.
-use clap::{Arg, ArgMatches, Command, value_parser};
+use clap::{Arg, ArgAction, ArgMatches, Command, value_parser};
 use std::alloc::{AllocError, Global};
+
+/// How many tags a caller may win where nothing else is asked for: 2^48.
+const DEFAULT_LIFE: u64 = 281_474_976_710_656;
+
+/// The options of `script`.
+#[derive(Clone, Copy, Debug, PartialEq, Eq)]
+pub struct ScriptOptions {
+    /// Tags of the world.
+    pub tags: u32,
+    /// Tags among them that are kept for reserved gets. One caller alone has none.
+    pub reserved: u32,
+    /// Binary logarithm of the bits in a whole word. None: the default for so many tags.
+    pub shift: Option<u32>,
+    /// Whether gets go round: each begins behind the last tag won.
+    pub round_robin: bool,
+    /// The least depth of a shallow get. None: 1.
+    pub min_shallow: Option<u32>,
+    /// Callers of the world.
+    pub callers: u32,
+    /// How many tags a caller may win. One caller alone has no such bound.
+    pub life: u64,
+    /// Whether one caller has plain words alone.
+    pub plain: bool,
+}
 
 /// The options of `check`.
 #[derive(Clone, Copy, Debug, PartialEq, Eq)]
@@ -15,6 +39,16 @@ pub struct CheckOptions {
 
 /// The command line that the program takes.
 pub(crate) fn command<'a>(alloc: Global) -> Result<Command<'a>, AllocError> {
+    let script = Command::new(alloc, "script")
+        .about("Carries out the commands of a script, a line each")
+        .arg(tags(alloc))?
+        .arg(reserved(alloc))?
+        .arg(shift(alloc))?
+        .arg(round_robin(alloc))?
+        .arg(min_shallow(alloc))?
+        .arg(callers(alloc))?
+        .arg(life(alloc))?
+        .arg(plain(alloc))?;
     let check = Command::new(alloc, "check")
         .about("Says whether a list of events could have happened")
         .arg(tags(alloc))?
@@ -23,7 +57,22 @@ pub(crate) fn command<'a>(alloc: Global) -> Result<Command<'a>, AllocError> {
     Command::new(alloc, "tagplay")
         .about("Plays with a tag allocator: reads from standard input, writes to standard output")
         .subcommand_required(true)
+        .subcommand(script)?
         .subcommand(check)
+}
+
+/// The options that a command line of `script` gives.
+pub(crate) fn script_options(matches: &ArgMatches) -> ScriptOptions {
+    ScriptOptions {
+        tags: matches.get_one::<u32>("tags").unwrap_or(0),
+        reserved: matches.get_one::<u32>("reserved").unwrap_or(0),
+        shift: matches.get_one::<u32>("shift"),
+        round_robin: matches.get_flag("round-robin"),
+        min_shallow: matches.get_one::<u32>("min-shallow"),
+        callers: matches.get_one::<u32>("callers").unwrap_or(1),
+        life: matches.get_one::<u64>("life").unwrap_or(DEFAULT_LIFE),
+        plain: matches.get_flag("plain"),
+    }
 }
 
 /// The options that a command line of `check` gives.
@@ -61,4 +110,46 @@ fn callers<'a>(alloc: Global) -> Arg<'a> {
         .value_parser(value_parser!(u32))
         .default_value("1")
         .help("How many callers there are, 1 to 64; they go by the numbers from 0")
+}
+
+fn reserved<'a>(alloc: Global) -> Arg<'a> {
+    Arg::new(alloc, "reserved")
+        .long("reserved")
+        .value_name("R")
+        .value_parser(value_parser!(u32))
+        .default_value("0")
+        .help("How many of the tags are reserved; one caller alone has none")
+}
+
+fn round_robin<'a>(alloc: Global) -> Arg<'a> {
+    Arg::new(alloc, "round-robin")
+        .long("round-robin")
+        .action(ArgAction::SetTrue)
+        .help(
+            "Each get begins behind the last tag won, and takes no place of its first word before that",
+        )
+}
+
+fn min_shallow<'a>(alloc: Global) -> Arg<'a> {
+    Arg::new(alloc, "min-shallow")
+        .long("min-shallow")
+        .value_name("M")
+        .value_parser(value_parser!(u32))
+        .help("A shallow get of a lesser depth is refused [default: 1]")
+}
+
+fn life<'a>(alloc: Global) -> Arg<'a> {
+    Arg::new(alloc, "life")
+        .long("life")
+        .value_name("L")
+        .value_parser(value_parser!(u64))
+        .default_value("281474976710656")
+        .help("How many tags a caller may win; not looked at with --plain")
+}
+
+fn plain<'a>(alloc: Global) -> Arg<'a> {
+    Arg::new(alloc, "plain")
+        .long("plain")
+        .action(ArgAction::SetTrue)
+        .help("One caller has the words alone; so far a script without this runs the same way")
 }

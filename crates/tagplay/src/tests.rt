@@ -1,3 +1,4 @@
 //! Tests of what no clause says, and the worked cases.
 mod ends;
 mod lists;
+mod scripts;

@@ -1,5 +1,5 @@
 //! Readers and writers that fail, and inputs at the bound.
-use crate::{CheckOptions, Ending, RunFault, run_check};
+use crate::{CheckOptions, Ending, RunFault, ScriptOptions, run_check, run_script};
 use std::io;
 use std::io::{Read, Write};
 use std::test::*;
@@ -8,6 +8,17 @@ const FOUR: CheckOptions = CheckOptions {
     tags: 4,
     shift: Some(2),
     callers: 1,
+};
+
+const PLAIN_FOUR: ScriptOptions = ScriptOptions {
+    tags: 4,
+    reserved: 0,
+    shift: Some(2),
+    round_robin: false,
+    min_shallow: None,
+    callers: 1,
+    life: 1,
+    plain: true,
 };
 
 // Gives one byte a call, and an error at the call of this number, from 0.
@@ -83,8 +94,31 @@ fn an_error_at_any_call_of_the_reader_leaves_no_output(rt: HostRuntime) {
 }
 
 #[test]
+fn an_error_at_any_call_of_the_reader_leaves_no_answer(rt: HostRuntime) {
+    let text = b"0 get\n0 clear 0\n".as_slice();
+    for fails_at in 0..=text.len() {
+        let mut reader = Failing {
+            text,
+            at: 0,
+            fails_at,
+        };
+        let mut written = Vec::new(rt.alloc());
+        let outcome = run_script(rt.alloc(), &PLAIN_FOUR, &mut reader, &mut written);
+        assert_eq!(rt; outcome, Err(RunFault::Read), "at {fails_at}");
+        assert!(rt; written.is_empty(), "at {fails_at}");
+    }
+}
+
+#[test]
 fn an_error_of_the_writer_is_told(rt: HostRuntime) {
     let outcome = run_check(rt.alloc(), &FOUR, &mut b"look\n".as_slice(), &mut Shut);
+    assert_eq!(rt; outcome, Err(RunFault::Write));
+    let outcome = run_script(
+        rt.alloc(),
+        &PLAIN_FOUR,
+        &mut b"0 get\n".as_slice(),
+        &mut Shut,
+    );
     assert_eq!(rt; outcome, Err(RunFault::Write));
 }
 
@@ -106,6 +140,13 @@ fn an_input_of_16_mib_is_read_and_one_byte_more_is_too_long(rt: HostRuntime) {
     let outcome = run_check(rt.alloc(), &FOUR, &mut too_long, &mut written);
     assert_eq!(rt; outcome, Err(RunFault::TooLong));
     assert!(rt; written.is_empty());
+    let mut too_long = Repeats {
+        byte: b'7',
+        left: 16_777_217,
+    };
+    let outcome = run_script(rt.alloc(), &PLAIN_FOUR, &mut too_long, &mut written);
+    assert_eq!(rt; outcome, Err(RunFault::TooLong));
+    assert!(rt; written.is_empty());
 }
 
 #[test]
@@ -115,6 +156,23 @@ fn want_of_memory_leaves_no_output(rt: HostRuntime) {
         rt.alloc(),
         &FOUR,
         &mut b"win 0 0 8\nlook\n".as_slice(),
+        &mut written,
+    ) {
+        Ok(ending) => assert_eq!(rt; ending, Ending::Done),
+        Err(fault) => {
+            assert!(rt; fault == RunFault::Memory || fault == RunFault::Write);
+            assert!(rt; fault == RunFault::Write || written.is_empty());
+        }
+    }
+}
+
+#[test]
+fn want_of_memory_leaves_no_answer(rt: HostRuntime) {
+    let mut written = Vec::new(rt.alloc());
+    match run_script(
+        rt.alloc(),
+        &PLAIN_FOUR,
+        &mut b"0 get\n0 show\n0 clear 0\n".as_slice(),
         &mut written,
     ) {
         Ok(ending) => assert_eq!(rt; ending, Ending::Done),

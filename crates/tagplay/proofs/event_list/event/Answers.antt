@@ -1,13 +1,15 @@
 -- The words of a line are those that were cut off it.
-use Rattle.std.proofs.Common.{◌≡◌, ◌∙◌, sym}
+use Rattle.std.proofs.Common.{◌≡◌, ◌∙◌, sym, refl}
 use Rattle.tagplay.proofs.LineFacts.{is_whole, has_rest}
-use Rattle.tagplay.proofs.EventLineFacts.{one_word, two_words, three_words, four_words, more_words}
+use Rattle.tagplay.specs.EventList.{event_of}
+use Rattle.tagplay.proofs.WordFacts.{one_word, two_words, three_words}
+use Rattle.tagplay.proofs.EventLineFacts.{four_words, more_words}
 use Rattle.tagplay.proofs.event_list.event.Goals as goal
 
 pub returns-in-None : goal.returns-in-None
 returns-in-None c =
     let whole = is_whole c.cut.result.1 (λ r. r.now) c.args.line.now c.cut.result.0.now 32 c.cut.ensures.whole c.in-None.is in
-    c.lone_event.ensures ∙ sym (one_word c.args.line.now c.cut.result.0.now c.cut.ensures.part whole)
+    c.lone_event.ensures ∙ sym (one_word event_of refl c.args.line.now c.cut.result.0.now c.cut.ensures.part whole)
 
 pub returns-in-None-rest : goal.returns-in-None-rest
 returns-in-None-rest c =
@@ -15,7 +17,7 @@ returns-in-None-rest c =
     c.cut.ensures.whole c.in-Some.is in
     let second = is_whole c.cut-2.result.1 (λ r. r.now) c.in-Some.rest.now c.cut-2.result.0.now 32 c.cut-2.ensures.whole
     c.in-None-rest.is in
-    sym (two_words c.args.line.now c.cut.result.0.now c.in-Some.rest.now c.cut-2.result.0.now c.cut.ensures.part first
+    sym (two_words event_of refl c.args.line.now c.cut.result.0.now c.in-Some.rest.now c.cut-2.result.0.now c.cut.ensures.part first
     c.cut-2.ensures.part second)
 
 pub returns-in-None-rest-2 : goal.returns-in-None-rest-2
@@ -26,7 +28,7 @@ returns-in-None-rest-2 c =
     c.cut-2.ensures.whole c.in-Some-rest.is in
     let third = is_whole c.cut-3.result.1 (λ r. r.now) c.in-Some-rest.rest.now c.cut-3.result.0.now 32
     c.cut-3.ensures.whole c.in-None-rest-2.is in
-    c.single_event.ensures ∙ sym (three_words c.args.line.now c.cut.result.0.now c.in-Some.rest.now c.cut-2.result.0.now
+    c.single_event.ensures ∙ sym (three_words event_of refl c.args.line.now c.cut.result.0.now c.in-Some.rest.now c.cut-2.result.0.now
     c.in-Some-rest.rest.now
     c.cut-3.result.0.now c.cut.ensures.part first c.cut-2.ensures.part second c.cut-3.ensures.part third)
 

@@ -1,0 +1,114 @@
+-- How many tags are held or set aside, counted a word at a time.
+use Rattle.std.proofs.Common.{◌≡◌, ℕ, zero, suc, ◌+◌, ◌-◌, ◌*◌, ◌^◌, ◌<◌, ◌≤◌, min, Bool, true, false, not, ◌&&◌, ◌||◌, nat_eq, nat_lt, cond, bit_and, count_ones, slice_index, refl, sym, ap, ◌∙◌, arith, rules}
+use Rattle.std.specs.Int.{bit_at, bit_not, w64}
+use Rattle.std.proofs.lemmas.Nat.{and_le_l, and_le_r}
+use mathlib.Core.Logic.{dite}
+use native.Mathlib.Decide.{dec_lt}
+use Rattle.std.proofs.Math.Nat.{mul-le-mul_right}
+use Rattle.std.proofs.lemmas.Nat.Bits.{bit_at-lt, bit_at_and, bit_at_not, bit_at_above}
+use Rattle.tag_layout.specs.Layout.{Layout, word_bits, words, word_of, place_of, tag_at, word_depth}
+use Rattle.tag_layout.specs.Sums.{sum_below}
+use Rattle.tag_layout.proofs.SumFacts.{sum_below-same, sum_below-split}
+use Rattle.tag_layout.proofs.PlaceFacts.{word-start, depth-le-words, word_of-tag_at, place_of-tag_at}
+use Rattle.tag_model.specs.Totals.{count_below}
+use Rattle.tag_model.proofs.MaskFacts.{sum_below-bits}
+use Rattle.tag_search.specs.Plain.{Plain, words_of}
+use Rattle.tag_search.specs.Pool.{pool_of, is_busy}
+
+-- a set bit that isn't aside
+busy_bits : (b a : ℕ) → b < 2 → a < 2 → cond (not (nat_eq b 0 || nat_eq a 1)) 1 0 ≡ min b (1 - a)
+busy_bits zero zero h k = refl
+busy_bits zero (suc zero) h k = refl
+busy_bits (suc zero) zero h k = refl
+busy_bits (suc zero) (suc zero) h k = refl
+busy_bits (suc (suc b)) a h k = absurd (omega arith)
+busy_bits zero (suc (suc a)) h k = absurd (omega arith)
+busy_bits (suc zero) (suc (suc a)) h k = absurd (omega arith)
+
+aside_bits : (a : ℕ) → a < 2 → cond (nat_eq a 1) 1 0 ≡ a
+aside_bits zero h = refl
+aside_bits (suc zero) h = refl
+aside_bits (suc (suc a)) h = absurd (omega arith)
+
+-- the bit of a place in the mask of the bits that are set and not aside
+busy_place : (n a u place : ℕ) → place < 64 → a < 2 ^ 64 → bit_at u place ≡ 1
+    → cond (not ((nat_lt place 64 && nat_eq (bit_at n place) 0) || (nat_lt place 64 && nat_eq (bit_at a place) 1))) 1 0
+    ≡ bit_at (bit_and (bit_and n u) (bit_not w64 a)) place
+busy_place n a u place low fits one =
+    let below : nat_lt place 64 ≡ true = search (rules, low) in
+    let both = bit_at_and (bit_and n u) (bit_not w64 a) place in let used = bit_at_and n u place in
+    let other = bit_at_not w64 a place fits low in let b = bit_at-lt n place in
+    ap (λ (t : Bool). cond (not ((t && nat_eq (bit_at n place) 0) || (t && nat_eq (bit_at a place) 1))) 1 0) below
+    ∙ busy_bits (bit_at n place) (bit_at a place) b (bit_at-lt a place) ∙ omega arith
+
+aside_place : (a u place : ℕ) → place < 64 → bit_at u place ≡ 1
+    → cond (nat_lt place 64 && nat_eq (bit_at a place) 1) 1 0 ≡ bit_at (bit_and a u) place
+aside_place a u place low one =
+    let below : nat_lt place 64 ≡ true = search (rules, low) in
+    let used = bit_at_and a u place in let b = bit_at-lt a place in
+    ap (λ (t : Bool). cond (t && nat_eq (bit_at a place) 1) 1 0) below ∙ aside_bits (bit_at a place) b ∙ omega arith
+
+module _ (l : Layout) (test : ℕ → Bool) where
+  -- the tags up to the end of a word that pass a test are those before it, and the bits of the word's mask
+  pub count_word : (i mask : ℕ) → i < words l → mask < 2 ^ word_depth l i
+      → ((place : ℕ) → place < word_depth l i → cond (test (tag_at l i place)) 1 0 ≡ bit_at mask place)
+      → count_below test (min ((i + 1) * word_bits l) l.depth) ≡ count_below test (min (i * word_bits l) l.depth) + count_ones mask
+  count_word i mask there within each =
+      let f : ℕ → ℕ = λ k. cond (test k) 1 0 in
+      let start = word-start l i there in
+      let more : (i + 1) * word_bits l ≡ i * word_bits l + word_bits l = omega arith in
+      let here : min (i * word_bits l) l.depth ≡ i * word_bits l = omega arith in
+      let next : min ((i + 1) * word_bits l) l.depth ≡ i * word_bits l + word_depth l i = omega arith in
+      let split = sum_below-split f (i * word_bits l) (word_depth l i) in
+      let same = sum_below-same (λ k. f (i * word_bits l + k)) (bit_at mask) (word_depth l i) each in
+      let ones = sum_below-bits (word_depth l i) mask within in
+      let before = ap (count_below test) here in
+      ap (count_below test) next ∙ omega arith
+
+module _ (p : Plain) (i u : ℕ) (there : i < words p.layout) (narrow : word_depth p.layout i ≤ 64)
+    (usable : u + 1 ≡ 2 ^ word_depth p.layout i) (bits : (place : ℕ) → place < word_depth p.layout i → bit_at u place ≡ 1) where
+  -- the bit of a tag that the caller holds
+  pub held_place : slice_index p.aside i < 2 ^ 64 → (place : ℕ) → place < word_depth p.layout i
+      → cond (is_busy (pool_of (words_of p)) (word_of p.layout (tag_at p.layout i place)) (place_of p.layout (tag_at p.layout i place))) 1 0
+      ≡ bit_at (bit_and (bit_and (slice_index p.word i) u) (bit_not w64 (slice_index p.aside i))) place
+  held_place fits place h =
+      let w = word_of-tag_at p.layout i place (omega arith) in let k = place_of-tag_at p.layout i place (omega arith) in
+      ap (λ (x : ℕ). cond (is_busy (pool_of (words_of p)) x (place_of p.layout (tag_at p.layout i place))) 1 0) w
+      ∙ ap (λ (x : ℕ). cond (is_busy (pool_of (words_of p)) i x) 1 0) k
+      ∙ busy_place (slice_index p.word i) (slice_index p.aside i) u place (omega arith) fits (bits place h)
+
+  -- the tags that the caller holds
+  pub count_held : slice_index p.aside i < 2 ^ 64
+      → count_below (λ tag. is_busy (pool_of (words_of p)) (word_of p.layout tag) (place_of p.layout tag)) (min ((i + 1) * word_bits p.layout) p.layout.depth)
+      ≡ count_below (λ tag. is_busy (pool_of (words_of p)) (word_of p.layout tag) (place_of p.layout tag)) (min (i * word_bits p.layout) p.layout.depth)
+      + count_ones (bit_and (bit_and (slice_index p.word i) u) (bit_not w64 (slice_index p.aside i)))
+  count_held fits =
+      let n : ℕ = slice_index p.word i in let a : ℕ = slice_index p.aside i in
+      let le = and_le_l (bit_and n u) (bit_not w64 a) in let le' = and_le_r n u in
+      count_word p.layout (λ tag. is_busy (pool_of (words_of p)) (word_of p.layout tag) (place_of p.layout tag)) i
+      (bit_and (bit_and n u) (bit_not w64 a)) there (omega arith) (held_place fits)
+
+  -- the tags that are set aside
+  pub count_aside :
+      count_below (λ tag. (pool_of (words_of p)).aside (word_of p.layout tag) (place_of p.layout tag)) (min ((i + 1) * word_bits p.layout) p.layout.depth)
+      ≡ count_below (λ tag. (pool_of (words_of p)).aside (word_of p.layout tag) (place_of p.layout tag)) (min (i * word_bits p.layout) p.layout.depth)
+      + count_ones (bit_and (slice_index p.aside i) u)
+  count_aside =
+      let a : ℕ = slice_index p.aside i in let le = and_le_r a u in
+      count_word p.layout (λ tag. (pool_of (words_of p)).aside (word_of p.layout tag) (place_of p.layout tag)) i
+      (bit_and a u) there (omega arith) (λ place h.
+      let w = word_of-tag_at p.layout i place (omega arith) in let k = place_of-tag_at p.layout i place (omega arith) in
+      ap (λ (x : ℕ). cond ((pool_of (words_of p)).aside x (place_of p.layout (tag_at p.layout i place))) 1 0) w
+      ∙ ap (λ (x : ℕ). cond ((pool_of (words_of p)).aside i x) 1 0) k
+      ∙ aside_place a u place (omega arith) (bits place h))
+
+-- a mask of 64 bits has no place behind them
+pub narrow_word : (u depth : ℕ) → u < 2 ^ 64 → ((place : ℕ) → place < depth → bit_at u place ≡ 1) → depth ≤ 64
+narrow_word u depth fits bits = dite (dec_lt 64 depth)
+    (λ (h : 64 < depth). absurd (let one = bits 64 h in let none = bit_at_above u 64 64 fits (omega arith) in omega arith))
+    (λ no. omega arith)
+
+-- the tags of all words are all tags
+pub all_words : (l : Layout) (n : ℕ) → words l ≤ n → min (n * word_bits l) l.depth ≡ l.depth
+all_words l n h =
+    let room = depth-le-words l in let more : words l * word_bits l ≤ n * word_bits l = mul-le-mul_right (word_bits l) h in omega arith

@@ -1,0 +1,45 @@
+-- The words of a line are those that were cut off it.
+use Rattle.std.proofs.Common.{◌≡◌, ◌∙◌, sym, refl}
+use Rattle.tagplay.specs.ScriptLines.{order_of}
+use Rattle.tagplay.proofs.LineFacts.{is_whole, has_rest}
+use Rattle.tagplay.proofs.WordFacts.{one_word, two_words, three_words}
+use Rattle.tagplay.proofs.OrderLineFacts.{more_words}
+use Rattle.tagplay.proofs.order.read_order.Goals as goal
+
+pub returns-in-None : goal.returns-in-None
+returns-in-None c =
+    let whole = is_whole c.cut.result.1 (λ r. r.now) c.args.line.now c.cut.result.0.now 32 c.cut.ensures.whole c.in-None.is in
+    sym (one_word (order_of c.args.callers) refl c.args.line.now c.cut.result.0.now c.cut.ensures.part whole)
+
+pub returns-in-None-rest : goal.returns-in-None-rest
+returns-in-None-rest c =
+    let first = has_rest c.cut.result.1 (λ r. r.now) c.args.line.now c.cut.result.0.now 32 c.in-Some.rest
+    c.cut.ensures.whole c.in-Some.is in
+    let second = is_whole c.cut-2.result.1 (λ r. r.now) c.in-Some.rest.now c.cut-2.result.0.now 32 c.cut-2.ensures.whole
+    c.in-None-rest.is in
+    c.lone_order.ensures ∙ sym (two_words (order_of c.args.callers) refl c.args.line.now c.cut.result.0.now c.in-Some.rest.now
+    c.cut-2.result.0.now c.cut.ensures.part first c.cut-2.ensures.part second)
+
+pub returns-in-Some-rest-2 : goal.returns-in-Some-rest-2
+returns-in-Some-rest-2 c =
+    let first = has_rest c.cut.result.1 (λ r. r.now) c.args.line.now c.cut.result.0.now 32 c.in-Some.rest
+    c.cut.ensures.whole c.in-Some.is in
+    let second = has_rest c.cut-2.result.1 (λ r. r.now) c.in-Some.rest.now c.cut-2.result.0.now 32 c.in-Some-rest.rest
+    c.cut-2.ensures.whole c.in-Some-rest.is in
+    let third = has_rest c.cut-3.result.1 (λ r. r.now) c.in-Some-rest.rest.now c.cut-3.result.0.now 32
+    c.in-Some-rest-2.field-0 c.cut-3.ensures.whole c.in-Some-rest-2.is in
+    sym (more_words c.args.callers c.args.line.now c.cut.result.0.now c.in-Some.rest.now c.cut-2.result.0.now
+    c.in-Some-rest.rest.now c.cut-3.result.0.now c.in-Some-rest-2.field-0.now
+    c.cut.ensures.part first c.cut-2.ensures.part second c.cut-3.ensures.part third)
+
+pub returns-in-None-rest-2 : goal.returns-in-None-rest-2
+returns-in-None-rest-2 c =
+    let first = has_rest c.cut.result.1 (λ r. r.now) c.args.line.now c.cut.result.0.now 32 c.in-Some.rest
+    c.cut.ensures.whole c.in-Some.is in
+    let second = has_rest c.cut-2.result.1 (λ r. r.now) c.in-Some.rest.now c.cut-2.result.0.now 32 c.in-Some-rest.rest
+    c.cut-2.ensures.whole c.in-Some-rest.is in
+    let third = is_whole c.cut-3.result.1 (λ r. r.now) c.in-Some-rest.rest.now c.cut-3.result.0.now 32
+    c.cut-3.ensures.whole c.in-None-rest-2.is in
+    c.numbered_order.ensures ∙ sym (three_words (order_of c.args.callers) refl c.args.line.now c.cut.result.0.now
+    c.in-Some.rest.now c.cut-2.result.0.now c.in-Some-rest.rest.now
+    c.cut-3.result.0.now c.cut.ensures.part first c.cut-2.ensures.part second c.cut-3.ensures.part third)

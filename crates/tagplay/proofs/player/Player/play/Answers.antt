@@ -1,0 +1,36 @@
+-- One more order is played in the world that those before it left.
+use Rattle.std.proofs.Common.{◌≡◌, ◌<◌, ◌≤◌, ◌+◌, ◌*◌, List, [], ◌∷◌, ◌++◌, take, get_or, length, append_assoc, append-nil, refl, sym, ap, subst, ◌∙◌, arith, rules}
+use Rattle.std.proofs.lemmas.List.{take_more}
+use Rattle.tagplay.specs.declared.order.Order.{Order}
+use Rattle.tagplay.specs.declared.order.Command.TheVariants.{Get}
+use Rattle.tagplay.specs.Commands.{Plays, over}
+use Rattle.tagplay.specs.Players.{solo_of}
+use Rattle.tagplay.proofs.PlayFacts.{plays_more}
+use Rattle.tagplay.proofs.player.Player.play.Goals as goal
+
+pub loop-order-init : goal.loop-order-init
+loop-order-init c = record {
+  played = record { answers = []; text = sym (append-nil c.args.text.now.items); plays = over };
+  won = omega arith;
+  back = omega arith;
+  layout = refl;
+}
+
+pub loop-order-preserved : goal.loop-order-preserved
+loop-order-preserved c =
+    let so_far = c.loop-order.invariant.played in let one = c.in_ok-obey.ensures.ok in
+    let counted = c.in_ok-obey.ensures.counted in
+    let there : c.loop-order.order-index < length c.args.orders.now = search rules in
+    let e = take_more c.args.orders.now c.loop-order.order-index (record { caller = 0; command = Get }) there in
+    let first : Order = get_or c.args.orders.now c.loop-order.order-index (record { caller = 0; command = Get }) in
+    let P : List Order → Type 0 = λ os. Plays (solo_of c.args.self.now) os (so_far.answers ++ one.answer) (solo_of c.obey.new.self) in
+    record {
+      played = record {
+        answers = so_far.answers ++ one.answer;
+        text = one.text ∙ ap (λ t. t ++ one.answer) so_far.text ∙ append_assoc c.args.text.now.items so_far.answers one.answer;
+        plays = subst P (sym e) (plays_more first one.answer so_far.plays one.obeys);
+      };
+      won = omega (arith, counted.won, c.loop-order.invariant.won);
+      back = omega (arith, counted.back, c.loop-order.invariant.back);
+      layout = counted.layout ∙ c.loop-order.invariant.layout;
+    }

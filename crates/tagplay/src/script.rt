@@ -1,0 +1,108 @@
+//! `script`: the commands of one caller, carried out one after another.
+ghost use Rattle.std.specs.Prelude.{◌≡◌, ◌≢◌, ◌<◌, ◌≤◌, ◌++◌, [], length, IfOk, IfErr, IfSome, IsErrOf};
+ghost use Rattle.tagplay.specs.Players.{solo_of};
+ghost use Rattle.tagplay.specs.Script.{IsSetup, IsUnopened, least_depth, Owed, WritesOwed};
+ghost use Rattle.tagplay.specs.Solo.{opened};
+
+use crate::ending::Ending;
+use crate::fault::{Closed, ListFault, RunFault, SetupFault};
+use crate::input::{MAX_INPUT, read_whole};
+use crate::options::ScriptOptions;
+use crate::order_list::orders;
+use crate::player::Player;
+use crate::text::{push_faulty, push_setup};
+use std::alloc::{AllocError, Global};
+use std::io::{Read, Write};
+use tag_layout::{Layout, MAX_DEPTH};
+
+/// Reads a script, a command a line, and writes what the commands answer, a line or more each, with the totals at the end.
+pub fn run_script<R: Read, W: Write>(
+    alloc: Global,
+    options: &ScriptOptions,
+    reader: &mut R,
+    writer: &mut W,
+) -> Result<Ending, RunFault>
+    ensures written { IfOk result (WritesOwed options.now (R.remaining reader.old) (W.contents writer.old) (W.contents writer.new)) }
+    ensures untouched { IfErr result (λ fault. fault ≢ RunFault.Write → writer.new ≡ writer.old) }
+    ensures too_long { IsErrOf result RunFault.TooLong → IfSome (R.remaining reader.old) (λ bytes. MAX_INPUT < length bytes) }
+{
+    let input = read_whole(alloc, reader)?;
+    let (text, ending) = text_owed(alloc, options, &input)?;
+    match writer.write_all(&text) {
+        Ok(()) => Ok(ending),
+        Err(_) => Err(RunFault::Write),
+    }
+}
+
+// What a script is owed. All its lines are looked at before the setup, and both before any command.
+fn text_owed(
+    alloc: Global,
+    options: &ScriptOptions,
+    script: &[u8],
+) -> Result<(Vec<u8>, Ending), RunFault>
+    requires { length script.now ≤ MAX_INPUT }
+    ensures owed { IfOk result (λ (text, ending). Owed options.now script.now text.items ending) }
+    ensures memory { IfErr result (λ fault. fault ≡ RunFault.Memory) }
+{
+    let mut text = Vec::new(alloc);
+    match push_owed(alloc, options, script, &mut text) {
+        Ok(ending) => Ok((text, ending)),
+        Err(_) => Err(RunFault::Memory),
+    }
+}
+
+fn push_owed(
+    alloc: Global,
+    options: &ScriptOptions,
+    script: &[u8],
+    text: &mut Vec<u8>,
+) -> Result<Ending, AllocError>
+    requires script { length script.now ≤ MAX_INPUT }
+    requires text { text.old.items ≡ [] }
+    ensures owed { IfOk result (Owed options.now script.now text.new.items) }
+{
+    let orders = match orders(alloc, options.callers, script) {
+        Ok(orders) => orders,
+        Err(ListFault::Memory) => return Err(AllocError),
+        Err(ListFault::Faulty(fault)) => {
+            push_faulty(text, fault)?;
+            return Ok(Ending::Refused);
+        }
+    };
+    let mut player = match open(alloc, options) {
+        Ok(player) => player,
+        Err(Closed::Memory) => return Err(AllocError),
+        Err(Closed::Setup(fault)) => {
+            push_setup(text, fault)?;
+            return Ok(Ending::Refused);
+        }
+    };
+    player.play(&orders, text)?;
+    player.push_total(text)?;
+    Ok(Ending::Done)
+}
+
+// The world that the options ask for: one caller, all tags free.
+fn open(alloc: Global, options: &ScriptOptions) -> Result<Player, Closed>
+    ensures setup { IfOk result (λ player. IsSetup options.now (solo_of player).layout) }
+    ensures opened { IfOk result (λ player. solo_of player ≡ opened (solo_of player).layout options.now.round_robin (least_depth options.now.min_shallow)) }
+    ensures fault { IfErr result (IsUnopened options.now) }
+{
+    if options.tags > MAX_DEPTH {
+        return Err(Closed::Setup(SetupFault::TotalTooLarge));
+    }
+    if options.reserved > 0 {
+        return Err(Closed::Setup(SetupFault::ReservedTooLarge));
+    }
+    let Ok(layout) = Layout::new(options.tags, options.shift) else {
+        return Err(Closed::Setup(SetupFault::ShiftTooLarge));
+    };
+    if options.callers != 1 {
+        return Err(Closed::Setup(SetupFault::CallerCount));
+    }
+    let least = options.min_shallow.unwrap_or(1).max(1);
+    match Player::open(alloc, layout, options.round_robin, least) {
+        Ok(player) => Ok(player),
+        Err(_) => Err(Closed::Memory),
+    }
+}

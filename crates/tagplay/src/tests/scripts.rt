@@ -1,0 +1,244 @@
+//! Scripts with the texts that are owed.
+use crate::{Ending, ScriptOptions, run_script};
+use std::process::Abort;
+use std::test::*;
+
+// Carries a script out, and compares the text and the ending.
+fn expect<R: Abort + AllocGlobal>(
+    rt: &R,
+    options: &ScriptOptions,
+    script: &str,
+    text: &str,
+) -> Result<(), Fail> {
+    let mut written = Vec::new(rt.alloc());
+    let ending = run_script(rt.alloc(), options, &mut script.as_bytes(), &mut written)?;
+    let refused = text.starts_with("line ") || text.starts_with("setup ");
+    let wanted = if refused {
+        Ending::Refused
+    } else {
+        Ending::Done
+    };
+    assert_eq!(rt; written.as_slice(), text.as_bytes(), "at {script}");
+    assert_eq!(rt; ending, wanted, "at {script}");
+    Ok(())
+}
+
+fn options(tags: u32, shift: Option<u32>) -> ScriptOptions {
+    ScriptOptions {
+        tags,
+        reserved: 0,
+        shift,
+        round_robin: false,
+        min_shallow: None,
+        callers: 1,
+        life: 281_474_976_710_656,
+        plain: true,
+    }
+}
+
+#[test]
+fn tags_come_back(rt: HostRuntime) -> Result<(), Fail> {
+    let script = "0 get\n0 get\n0 clear 0\n0 get\n0 get\n0 get\n0 get\n0 show\n";
+    let text = "0\n1\nok\n2\n3\n0\nnone\n\
+        depth=4\nbusy=4\ncleared=0\nbits_per_word=4\nmap_nr=1\n\
+        total got=5 back=1 held=4 posted=0\n";
+    expect(&rt, &options(4, Some(2)), script, text)
+}
+
+#[test]
+fn a_fresh_map_is_shown(rt: HostRuntime) -> Result<(), Fail> {
+    let text = "depth=8\nbusy=0\ncleared=0\nbits_per_word=2\nmap_nr=4\n\
+        total got=0 back=0 held=0 posted=0\n";
+    expect(&rt, &options(8, None), "0 show\n", text)
+}
+
+#[test]
+fn no_tags(rt: HostRuntime) -> Result<(), Fail> {
+    let text = "none\nbusy\ntotal got=0 back=0 held=0 posted=0\n";
+    expect(&rt, &options(0, None), "0 get\n0 busy\n", text)
+}
+
+#[test]
+fn a_large_shift_is_refused(rt: HostRuntime) -> Result<(), Fail> {
+    expect(&rt, &options(8, Some(7)), "0 get\n", "setup refused 4\n")
+}
+
+#[test]
+fn a_tag_is_found_past_a_full_word(rt: HostRuntime) -> Result<(), Fail> {
+    let script = "0 get\n0 get\n0 get\n0 get\n0 get\n0 get\n0 get\n0 get\n0 get\n";
+    let text = "0\n1\n2\n3\n4\n5\n6\n7\nnone\ntotal got=8 back=0 held=8 posted=0\n";
+    expect(&rt, &options(8, Some(2)), script, text)
+}
+
+#[test]
+fn round_robin(rt: HostRuntime) -> Result<(), Fail> {
+    let around = ScriptOptions {
+        round_robin: true,
+        ..options(4, Some(2))
+    };
+    let script = "0 get\n0 clear 0\n0 get\n0 clear 1\n0 get\n0 clear 2\n0 get\n0 clear 3\n0 get\n";
+    let text = "0\nok\n1\nok\n2\nok\n3\nok\n0\ntotal got=5 back=4 held=1 posted=0\n";
+    expect(&rt, &around, script, text)
+}
+
+#[test]
+fn plain_setups(rt: HostRuntime) -> Result<(), Fail> {
+    let two = ScriptOptions {
+        callers: 2,
+        ..options(4, None)
+    };
+    expect(&rt, &two, "0 get\n", "setup refused 5\n")?;
+    let reserved = ScriptOptions {
+        reserved: 1,
+        ..options(4, None)
+    };
+    expect(&rt, &reserved, "0 get\n", "setup refused 3\n")
+}
+
+#[test]
+fn a_setup_is_refused_by_its_first_cause(rt: HostRuntime) -> Result<(), Fail> {
+    for (tags, reserved, shift, callers, text) in [
+        (10_241, 1, Some(7), 0, "setup refused 2\n"),
+        (10_240, 1, Some(7), 0, "setup refused 3\n"),
+        (10_240, 0, Some(7), 0, "setup refused 4\n"),
+        (10_240, 0, Some(6), 0, "setup refused 5\n"),
+    ] {
+        let refused = ScriptOptions {
+            reserved,
+            callers,
+            ..options(tags, shift)
+        };
+        expect(&rt, &refused, "", text)?;
+    }
+    Ok(())
+}
+
+#[test]
+fn faulty_lines(rt: HostRuntime) -> Result<(), Fail> {
+    let two = ScriptOptions {
+        callers: 2,
+        ..options(4, None)
+    };
+    for (script, text) in [
+        ("0 get x", "line 1 refused 1\n"),
+        ("0 clear x", "line 1 refused 2\n"),
+        ("5 get", "line 1 refused 3\n"),
+        ("", "setup refused 5\n"),
+    ] {
+        expect(&rt, &two, script, text)?;
+    }
+    expect(
+        &rt,
+        &options(4, None),
+        "",
+        "total got=0 back=0 held=0 posted=0\n",
+    )
+}
+
+#[test]
+fn malformed_scripts(rt: HostRuntime) -> Result<(), Fail> {
+    for (script, text) in [
+        ("0  get", "line 1 refused 1\n"),
+        ("x get", "line 1 refused 2\n"),
+        ("7 clear x", "line 1 refused 2\n"),
+        ("0 clear 4294967296", "line 1 refused 2\n"),
+        ("01 get", "line 1 refused 3\n"),
+        ("00 get", "0\ntotal got=1 back=0 held=1 posted=0\n"),
+        (
+            "0 clear 4294967295",
+            "refused 1\ntotal got=0 back=0 held=0 posted=0\n",
+        ),
+        ("0 get\n\n0 get", "line 2 refused 1\n"),
+        ("0 get\r\n", "line 1 refused 1\n"),
+        ("0 get\n0 get \n0 clear x\n", "line 2 refused 1\n"),
+        ("0 post 0\n", "line 1 refused 1\n"),
+        ("0 show reserved\n", "line 1 refused 1\n"),
+        ("0\n", "line 1 refused 1\n"),
+        ("0 clear\n", "line 1 refused 1\n"),
+    ] {
+        expect(&rt, &options(4, None), script, text)?;
+    }
+    Ok(())
+}
+
+#[test]
+fn a_line_is_looked_at_before_the_setup(rt: HostRuntime) -> Result<(), Fail> {
+    expect(&rt, &options(8, Some(7)), "0 gets\n", "line 1 refused 1\n")
+}
+
+#[test]
+fn only_a_tag_that_is_held_is_cleared(rt: HostRuntime) -> Result<(), Fail> {
+    let script = "0 clear 0\n0 get\n0 clear 0\n0 clear 0\n0 clear 8\n";
+    let text = "refused 3\n0\nok\nrefused 3\nrefused 1\ntotal got=1 back=1 held=0 posted=0\n";
+    expect(&rt, &options(8, None), script, text)
+}
+
+#[test]
+fn round_robin_misses_no_tag_behind_its_hint_alone(rt: HostRuntime) -> Result<(), Fail> {
+    let around = ScriptOptions {
+        round_robin: true,
+        ..options(4, Some(2))
+    };
+    let script = "0 get\n0 get\n0 get\n0 get\n0 clear 0\n0 clear 1\n0 get\n0 get\n0 get\n";
+    let text = "0\n1\n2\n3\nok\nok\n0\n1\nnone\ntotal got=6 back=2 held=4 posted=0\n";
+    expect(&rt, &around, script, text)
+}
+
+#[test]
+fn shallow(rt: HostRuntime) -> Result<(), Fail> {
+    let script =
+        "0 shallow 2\n0 shallow 2\n0 shallow 2\n0 shallow 2\n0 shallow 2\n0 get\n0 shallow 0\n";
+    let text = "0\n4\nnone\nnone\nnone\n1\nrefused 6\ntotal got=3 back=0 held=3 posted=0\n";
+    expect(&rt, &options(8, Some(2)), script, text)
+}
+
+#[test]
+fn shallow_by_share(rt: HostRuntime) -> Result<(), Fail> {
+    let text = "8\nnone\ntotal got=1 back=0 held=1 posted=0\n";
+    expect(
+        &rt,
+        &options(10, Some(2)),
+        "0 shallow 1\n0 shallow 1\n",
+        text,
+    )
+}
+
+#[test]
+fn least_shallow(rt: HostRuntime) -> Result<(), Fail> {
+    let least = ScriptOptions {
+        min_shallow: Some(2),
+        ..options(8, None)
+    };
+    let text = "refused 6\ntotal got=0 back=0 held=0 posted=0\n";
+    expect(&rt, &least, "0 shallow 1\n", text)
+}
+
+#[test]
+fn batches(rt: HostRuntime) -> Result<(), Fail> {
+    let script = "0 get\n0 get\n0 get\n0 get\n0 get\n0 clear 1\n0 clear 3\n\
+        0 batch 3\n0 batch 5\n0 batch 0\n0 batch 9\n";
+    let text = "0\n1\n2\n3\n4\nok\nok\nmask 5 at 1\nnone\nrefused 5\nrefused 5\n\
+        total got=7 back=2 held=5 posted=0\n";
+    expect(&rt, &options(8, Some(3)), script, text)
+}
+
+#[test]
+fn round_robin_batch(rt: HostRuntime) -> Result<(), Fail> {
+    let around = ScriptOptions {
+        round_robin: true,
+        ..options(8, Some(2))
+    };
+    let text = "none\nrefused 5\ntotal got=0 back=0 held=0 posted=0\n";
+    expect(&rt, &around, "0 batch 2\n0 batch 5\n", text)
+}
+
+#[test]
+fn busy_and_show(rt: HostRuntime) -> Result<(), Fail> {
+    let script = "0 get\n0 get\n0 get\n0 get\n0 get\n0 get\n0 get\n0 get\n0 get\n0 get\n\
+        0 clear 1\n0 clear 2\n0 clear 3\n0 clear 4\n0 clear 5\n0 clear 6\n0 clear 7\n0 clear 8\n\
+        0 busy\n0 show\n";
+    let text = "0\n1\n2\n3\n4\n5\n6\n7\n8\n9\nok\nok\nok\nok\nok\nok\nok\nok\n\
+        busy 0 9\ndepth=16\nbusy=2\ncleared=8\nbits_per_word=4\nmap_nr=4\n\
+        total got=10 back=8 held=2 posted=0\n";
+    expect(&rt, &options(16, None), script, text)
+}
