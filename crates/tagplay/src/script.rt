@@ -85,7 +85,8 @@ fn push_owed(
 // The world that the options ask for: one caller, all tags free.
 fn open(alloc: Global, options: &ScriptOptions) -> Result<Player, Closed>
     ensures setup { IfOk result (λ player. IsSetup options.now (solo_of player).layout) }
-    ensures opened { IfOk result (λ player. solo_of player ≡ opened (solo_of player).layout options.now.round_robin (least_depth options.now.min_shallow)) }
+    ensures opened { IfOk result (λ player. solo_of player
+        ≡ opened (solo_of player).layout options.now.round_robin (least_depth options.now.min_shallow)) }
     ensures fault { IfErr result (IsUnopened options.now) }
 {
     if options.tags > MAX_DEPTH {
