@@ -23,3 +23,4 @@ pub mod SharedCalls
 pub mod SharedFacts
 pub mod OneTag
 pub mod RunFacts
+pub mod LoneFacts

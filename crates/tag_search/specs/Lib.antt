@@ -16,4 +16,5 @@ pub mod Writes
 pub mod Marks
 pub mod Shared
 pub mod SharedLaws
+pub mod LoneLaws
 pub mod Gains

@@ -4,6 +4,7 @@
 mod batch;
 mod choosing;
 mod hint;
+pub mod laws;
 mod pass;
 mod place;
 mod plain;

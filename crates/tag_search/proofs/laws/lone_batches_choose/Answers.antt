@@ -1,0 +1,6 @@
+-- Gets of several tags on a map of one caller.
+use Rattle.tag_search.proofs.LoneFacts.{lone_batch_choice}
+use Rattle.tag_search.proofs.laws.lone_batches_choose.Goals as goal
+
+pub returns : goal.returns
+returns g c = lone_batch_choice _
