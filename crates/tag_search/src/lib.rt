@@ -4,7 +4,7 @@
 mod batch;
 mod choosing;
 mod hint;
-pub mod laws;
+mod laws;
 mod pass;
 mod place;
 mod plain;
@@ -18,6 +18,7 @@ mod shared;
 mod tests;
 
 pub use hint::{Hint, after_clear};
+pub use laws::{lone_batches_choose, lone_gets_choose};
 pub use plain::PlainPort;
 pub use port::Port;
 pub use search::{get, get_batch, get_shallow};

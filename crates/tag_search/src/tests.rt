@@ -10,7 +10,10 @@ mod shared;
 mod slow;
 mod threads;
 
-use crate::{Hint, PlainPort, Port, after_clear, get, get_batch, get_shallow};
+use crate::{
+    Hint, PlainPort, Port, after_clear, get, get_batch, get_shallow, lone_batches_choose,
+    lone_gets_choose,
+};
 use std::test::Fail;
 use tag_core::{Claim, Spent};
 use tag_layout::Layout;
@@ -217,4 +220,10 @@ fn a_batch_leaves_out_a_tag_that_is_held(rt: HostRuntime) -> Result<(), Fail> {
     assert_eq!(rt; port.choose(&mut round), Some(6));
     assert_eq!(rt; round, hint_at(0, true));
     Ok(())
+}
+
+#[test]
+fn laws_hold() {
+    lone_gets_choose::<u32>();
+    lone_batches_choose::<u32>();
 }
