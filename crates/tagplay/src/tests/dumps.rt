@@ -25,7 +25,7 @@ fn expect_dump<R: Abort + AllocGlobal>(
     script.push_str("0 dump\n")?;
     text.push_str(dumped)?;
     let back = clears.len();
-    let held = got as usize - back;
+    let held = (got as usize).saturating_sub(back);
     write!(text, "total got={got} back={back} held={held} posted=0\n")?;
     expect(rt, map, &script, &text)
 }
