@@ -1,5 +1,6 @@
 pub mod LineFacts
 pub mod TextFacts
+pub mod DumpFacts
 pub mod WordFacts
 pub mod EventLineFacts
 pub mod OrderLineFacts

@@ -8,9 +8,10 @@ use Rattle.tag_search.specs.Search.{Visit}
 use Rattle.tag_search.specs.Visits.{plain_visits}
 use Rattle.tagplay.specs.declared.fault.TagFault.{TagFault}
 use Rattle.tagplay.specs.declared.order.Command.{Command}
-use Rattle.tagplay.specs.declared.order.Command.TheVariants.{Get, Shallow, Batch, Clear, Show, Busy}
+use Rattle.tagplay.specs.declared.order.Command.TheVariants.{Get, Shallow, Batch, Clear, Show, Busy, Dump}
 use Rattle.tagplay.specs.declared.order.Order.{Order}
 use Rattle.tagplay.specs.declared.player.Shown.{Shown}
+use Rattle.tagplay.specs.Dump.{byte_text, byte_count}
 use Rattle.tagplay.specs.Faults.{number_of_tag_fault}
 use Rattle.tagplay.specs.Solo.{Solo, Gets, GetsShallow, Batches, Clears, is_held, held_in, aside_in}
 use Rattle.tagplay.specs.Texts.{field}
@@ -88,6 +89,7 @@ Obeys (Batch n) old text new = (outcome : Result (Option (ℕ × ℕ)) TagFault)
 Obeys (Clear tag) old text new = (outcome : Result (Unit {0}) TagFault) × Clears tag old outcome new × (text ≡ done_line outcome)
 Obeys Show old text new = (new ≡ old) × (text ≡ shown_text (shown_of old) ++ codes "\n")
 Obeys Busy old text new = (new ≡ old) × (text ≡ codes "busy" ++ texts_below (held_text old) old.layout.depth ++ codes "\n")
+Obeys Dump old text new = (new ≡ old) × (text ≡ texts_below (byte_text old) (byte_count old))
 
 -- the orders one after another, each in the world that those before it left
 pub data Plays : Solo → List Order → List ℕ → Solo → Type 0 where

@@ -7,6 +7,7 @@ pub mod Setups
 pub mod Check
 pub mod ScriptLines
 pub mod Solo
+pub mod Dump
 pub mod Commands
 pub mod Players
 pub mod Script

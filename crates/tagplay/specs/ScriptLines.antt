@@ -15,7 +15,8 @@ abbrev pub lone_of : List ℕ → Option Command
 lone_of name =
     if bytes_eq name (codes "get") then Some commands.Get else
     (if bytes_eq name (codes "show") then Some commands.Show else
-    (if bytes_eq name (codes "busy") then Some commands.Busy else None))
+    (if bytes_eq name (codes "busy") then Some commands.Busy else
+    (if bytes_eq name (codes "dump") then Some commands.Dump else None)))
 
 -- the commands that a number follows
 abbrev pub numbered_of : List ℕ → Option Numbered

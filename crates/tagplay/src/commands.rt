@@ -39,6 +39,7 @@ impl Player {
             Command::Clear(tag) => push_done(text, self.clear(tag)),
             Command::Show => self.show(text),
             Command::Busy => self.busy(text),
+            Command::Dump => self.dump(text),
         }
     }
 

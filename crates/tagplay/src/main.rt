@@ -3,6 +3,7 @@
 
 mod check;
 mod commands;
+mod dump;
 mod ending;
 mod event_list;
 mod fault;

@@ -22,6 +22,8 @@ pub enum Command {
     Show,
     /// The tags that are busy.
     Busy,
+    /// The tags that are busy, as bits.
+    Dump,
 }
 
 /// A command, and the caller who gives it.
@@ -44,6 +46,8 @@ impl Command {
             Some(Command::Show)
         } else if name == b"busy".as_slice() {
             Some(Command::Busy)
+        } else if name == b"dump".as_slice() {
+            Some(Command::Dump)
         } else {
             None
         }

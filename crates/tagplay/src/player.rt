@@ -3,6 +3,7 @@ ghost use Rattle.std.specs.Prelude.{◌≡◌, ◌+◌, ◌*◌, ◌^◌, ◌<�
 ghost use Rattle.tagplay.specs.Solo.{opened, Gets, GetsShallow, Batches, Clears, won_in, held_in, aside_in};
 ghost use Rattle.tag_layout.specs.Layout.{words, word_bits};
 ghost use Rattle.tagplay.specs.Commands.{get_visits, shown_of};
+ghost use Rattle.tagplay.specs.Dump.{is_held_tag};
 ghost use Rattle.tagplay.specs.Players.{solo_of, IsReadyFor, Counted, IsHeldMask};
 
 use crate::fault::TagFault;
@@ -163,6 +164,13 @@ impl Player {
         let set = self.port.look(word);
         let cleared = self.port.look_aside(word);
         set & usable & !cleared
+    }
+
+    /// The caller holds the tag. None behind the last is held.
+    pub(crate) fn holds(&self, tag: u32) -> bool
+        ensures { result ≡ is_held_tag (solo_of self.now) tag }
+    {
+        tag < self.port.layout().depth() && self.port.taken(tag)
     }
 
     /// The layout of the map.

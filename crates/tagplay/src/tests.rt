@@ -1,4 +1,5 @@
 //! Tests of what no clause says, and the worked cases.
+mod dumps;
 mod ends;
 mod lists;
 mod scripts;

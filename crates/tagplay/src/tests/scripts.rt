@@ -3,8 +3,8 @@ use crate::{Ending, ScriptOptions, run_script};
 use std::process::Abort;
 use std::test::*;
 
-// Carries a script out, and compares the text and the ending.
-fn expect<R: Abort + AllocGlobal>(
+/// Carries a script out, and compares the text and the ending.
+pub(crate) fn expect<R: Abort + AllocGlobal>(
     rt: &R,
     options: &ScriptOptions,
     script: &str,
@@ -23,7 +23,8 @@ fn expect<R: Abort + AllocGlobal>(
     Ok(())
 }
 
-fn options(tags: u32, shift: Option<u32>) -> ScriptOptions {
+/// One caller with a map of so many tags.
+pub(crate) fn options(tags: u32, shift: Option<u32>) -> ScriptOptions {
     ScriptOptions {
         tags,
         reserved: 0,
@@ -55,7 +56,9 @@ fn a_fresh_map_is_shown(rt: HostRuntime) -> Result<(), Fail> {
 #[test]
 fn no_tags(rt: HostRuntime) -> Result<(), Fail> {
     let text = "none\nbusy\ntotal got=0 back=0 held=0 posted=0\n";
-    expect(&rt, &options(0, None), "0 get\n0 busy\n", text)
+    expect(&rt, &options(0, None), "0 get\n0 busy\n", text)?;
+    let text = "none\ntotal got=0 back=0 held=0 posted=0\n";
+    expect(&rt, &options(0, None), "0 get\n0 dump\n", text)
 }
 
 #[test]
@@ -233,12 +236,12 @@ fn round_robin_batch(rt: HostRuntime) -> Result<(), Fail> {
 }
 
 #[test]
-fn busy_and_show(rt: HostRuntime) -> Result<(), Fail> {
+fn busy_show_and_dump(rt: HostRuntime) -> Result<(), Fail> {
     let script = "0 get\n0 get\n0 get\n0 get\n0 get\n0 get\n0 get\n0 get\n0 get\n0 get\n\
         0 clear 1\n0 clear 2\n0 clear 3\n0 clear 4\n0 clear 5\n0 clear 6\n0 clear 7\n0 clear 8\n\
-        0 busy\n0 show\n";
+        0 busy\n0 show\n0 dump\n";
     let text = "0\n1\n2\n3\n4\n5\n6\n7\n8\n9\nok\nok\nok\nok\nok\nok\nok\nok\n\
         busy 0 9\ndepth=16\nbusy=2\ncleared=8\nbits_per_word=4\nmap_nr=4\n\
-        total got=10 back=8 held=2 posted=0\n";
+        00000000: 0102\ntotal got=10 back=8 held=2 posted=0\n";
     expect(&rt, &options(16, None), script, text)
 }
