@@ -1,4 +1,5 @@
 pub mod LineFacts
+pub mod TagListFacts
 pub mod TextFacts
 pub mod DumpFacts
 pub mod WordFacts
@@ -6,6 +7,7 @@ pub mod EventLineFacts
 pub mod OrderLineFacts
 pub mod ReadingFacts
 pub mod NumberFacts
+pub mod ClearingFacts
 pub mod CountFacts
 pub mod PlayFacts
 pub mod PoolFacts

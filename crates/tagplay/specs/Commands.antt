@@ -8,12 +8,12 @@ use Rattle.tag_search.specs.Search.{Visit}
 use Rattle.tag_search.specs.Visits.{plain_visits}
 use Rattle.tagplay.specs.declared.fault.TagFault.{TagFault}
 use Rattle.tagplay.specs.declared.order.Command.{Command}
-use Rattle.tagplay.specs.declared.order.Command.TheVariants.{Get, Shallow, Batch, Clear, Show, Busy, Dump}
+use Rattle.tagplay.specs.declared.order.Command.TheVariants.{Get, Shallow, Batch, Clear, ClearBatch, Show, Busy, Dump}
 use Rattle.tagplay.specs.declared.order.Order.{Order}
 use Rattle.tagplay.specs.declared.player.Shown.{Shown}
 use Rattle.tagplay.specs.Dump.{byte_text, byte_count}
 use Rattle.tagplay.specs.Faults.{number_of_tag_fault}
-use Rattle.tagplay.specs.Solo.{Solo, Gets, GetsShallow, Batches, Clears, is_held, held_in, aside_in}
+use Rattle.tagplay.specs.Solo.{Solo, Gets, GetsShallow, Batches, Clears, ClearsBatch, is_held, held_in, aside_in}
 use Rattle.tagplay.specs.Texts.{field}
 
 -- a tag alone, or none
@@ -87,6 +87,7 @@ Obeys Get old text new = (answer : Option ℕ) × Gets (get_visits old) old answ
 Obeys (Shallow depth) old text new = (outcome : Result (Option ℕ) TagFault) × GetsShallow depth old outcome new × (text ≡ got_line outcome)
 Obeys (Batch n) old text new = (outcome : Result (Option (ℕ × ℕ)) TagFault) × Batches n old outcome new × (text ≡ batch_line outcome)
 Obeys (Clear tag) old text new = (outcome : Result (Unit {0}) TagFault) × Clears tag old outcome new × (text ≡ done_line outcome)
+Obeys (ClearBatch tags) old text new = (outcome : Result (Unit {0}) TagFault) × ClearsBatch tags old outcome new × (text ≡ done_line outcome)
 Obeys Show old text new = (new ≡ old) × (text ≡ shown_text (shown_of old) ++ codes "\n")
 Obeys Busy old text new = (new ≡ old) × (text ≡ codes "busy" ++ texts_below (held_text old) old.layout.depth ++ codes "\n")
 Obeys Dump old text new = (new ≡ old) × (text ≡ texts_below (byte_text old) (byte_count old))

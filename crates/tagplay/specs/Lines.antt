@@ -27,3 +27,14 @@ is_numeral word = nat_lt 0 (length word) && all_ascii_digits word
 abbrev pub number_below : ℕ → List ℕ → Option ℕ
 number_below limit word =
     if is_numeral word && nat_lt (digits_value 10 word) limit then Some (digits_value 10 word) else None
+
+-- the list with a number before it, if both are there
+abbrev pub onto_numbers : Option ℕ → Option (List ℕ) → Option (List ℕ)
+onto_numbers None numbers = None
+onto_numbers (Some number) None = None
+onto_numbers (Some number) (Some numbers) = Some (number ∷ numbers)
+
+-- the numbers that words spell, if each spells one below the limit
+abbrev pub numbers_below : ℕ → List (List ℕ) → Option (List ℕ)
+numbers_below limit [] = Some []
+numbers_below limit (word ∷ words) = onto_numbers (number_below limit word) (numbers_below limit words)

@@ -8,7 +8,7 @@ use Rattle.tagplay.specs.declared.order.Command.TheVariants as commands
 use Rattle.tagplay.specs.declared.order.Numbered.{Numbered}
 use Rattle.tagplay.specs.declared.order.Numbered.TheVariants.{Shallow, Batch, Clear}
 use Rattle.tagplay.specs.declared.order.Order.{Order}
-use Rattle.tagplay.specs.Lines.{number_below}
+use Rattle.tagplay.specs.Lines.{number_below, numbers_below}
 
 -- the commands that stand alone
 abbrev pub lone_of : List ℕ → Option Command
@@ -48,11 +48,23 @@ numbered_line callers (Some kind) None number = Err BadNumber
 numbered_line callers (Some kind) (Some caller) None = Err BadNumber
 numbered_line callers (Some kind) (Some caller) (Some number) = ordered callers caller (numbered_command kind number)
 
+-- the same of a list of numbers
+abbrev pub listed_line : ℕ → Option ℕ → Option (List ℕ) → Result Order LineFault
+listed_line callers None tags = Err BadNumber
+listed_line callers (Some caller) None = Err BadNumber
+listed_line callers (Some caller) (Some tags) = ordered callers caller (commands.ClearBatch tags)
+
+-- one number and no word behind it
+abbrev pub one_number_line : ℕ → Option Numbered → List ℕ → List ℕ → List (List ℕ) → Result Order LineFault
+one_number_line callers kind caller number [] =
+    numbered_line callers kind (number_below (2 ^ 32) caller) (number_below (2 ^ 32) number)
+one_number_line callers kind caller number (word ∷ more) = Err BadLine
+
 -- the order that the words of a line spell, by one of so many callers
 abbrev pub order_of : ℕ → List (List ℕ) → Result Order LineFault
 order_of callers [] = Err BadLine
 order_of callers (caller ∷ []) = Err BadLine
 order_of callers (caller ∷ name ∷ []) = lone_line callers (lone_of name) (number_below (2 ^ 32) caller)
-order_of callers (caller ∷ name ∷ number ∷ []) =
-    numbered_line callers (numbered_of name) (number_below (2 ^ 32) caller) (number_below (2 ^ 32) number)
-order_of callers (caller ∷ name ∷ number ∷ more ∷ rest) = Err BadLine
+order_of callers (caller ∷ name ∷ number ∷ more) =
+    if bytes_eq name (codes "clear-batch") then listed_line callers (number_below (2 ^ 32) caller) (numbers_below (2 ^ 32) (number ∷ more))
+    else one_number_line callers (numbered_of name) caller number more

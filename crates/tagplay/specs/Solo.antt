@@ -1,5 +1,6 @@
 -- The world of a script: one caller alone with a map.
-use Rattle.std.specs.Prelude.{◌≡◌, ℕ, ◌+◌, ◌<◌, ◌≤◌, List, Bool, true, false, if◌then◌else◌, Option, Some, None, Result, Ok, Err, nat_lt, count_ones, ◌⊎◌}
+use Rattle.std.specs.Prelude.{◌≡◌, ℕ, ◌+◌, ◌<◌, ◌≤◌, ◌≢◌, List, [], length, Bool, true, false, if◌then◌else◌, Option, Some, None, Result, Ok, Err, nat_lt, nat_eq, count_ones, ◌&&◌, ◌||◌, ◌-◌, slice_index, ◌⊎◌}
+use Rattle.std.specs.List.{All, AllPairs, Any, list_any}
 use Rattle.tag_layout.specs.Layout.{Layout, word_bits, word_of, place_of}
 use Rattle.tag_model.specs.Totals.{count_below}
 use Rattle.tag_search.specs.declared.hint.Hint.{Hint}
@@ -101,3 +102,32 @@ pub data Clears (tag : ℕ) (w : Solo) : Result (Unit {0}) TagFault → Solo →
   no_such_tag : w.layout.depth ≤ tag → Clears tag w (Err NoSuchTag) w
   not_held : tag < w.layout.depth → is_held w tag ≡ false → Clears tag w (Err NotHeld) w
   cleared : tag < w.layout.depth → is_held w tag ≡ true → Clears tag w (Ok tt) (put_back tag w)
+
+-- the place is that of a tag of the list
+abbrev pub is_named : Layout → List ℕ → ℕ → ℕ → Bool
+is_named l tags word place = list_any (λ tag. nat_eq word (word_of l tag) && nat_eq place (place_of l tag)) tags
+
+-- the tags of the list are free, and what is set aside stays
+abbrev pub freed : Layout → List ℕ → Pool → Pool
+freed l tags p = record p { free = λ word place. p.free word place || is_named l tags word place }
+
+-- the tags are free and counted, and the hint is at the last of them, but not under round robin
+abbrev pub give_back : List ℕ → Solo → Solo
+give_back tags w = record w {
+  pool = freed w.layout tags w.pool;
+  hint = record w.hint { at = if w.hint.round_robin then w.hint.at else slice_index tags (length tags - 1) };
+  back = w.back + length tags;
+}
+
+-- two places of the list have one tag
+abbrev pub NamesTwice : List ℕ → Type 0
+NamesTwice tags = (i j : ℕ) × (i < j) × (j < length tags) × (slice_index tags i ≡ slice_index tags j)
+
+-- a clear of a list: 1 to 64 tags, which are there, are held and differ
+pub data ClearsBatch (tags : List ℕ) (w : Solo) : Result (Unit {0}) TagFault → Solo → Type 0 where
+  bad_count : (length tags ≡ 0) ⊎ (64 < length tags) → ClearsBatch tags w (Err BadCount) w
+  no_such_tag : 1 ≤ length tags → length tags ≤ 64 → Any (λ tag. w.layout.depth ≤ tag) tags → ClearsBatch tags w (Err NoSuchTag) w
+  not_held : 1 ≤ length tags → length tags ≤ 64 → All (λ tag. tag < w.layout.depth) tags
+      → Any (λ tag. is_held w tag ≡ false) tags ⊎ NamesTwice tags → ClearsBatch tags w (Err NotHeld) w
+  cleared : 1 ≤ length tags → length tags ≤ 64 → All (λ tag. tag < w.layout.depth) tags → All (λ tag. is_held w tag ≡ true) tags
+      → AllPairs (λ a b. a ≢ b) tags → ClearsBatch tags w (Ok tt) (give_back tags w)

@@ -21,22 +21,23 @@ impl Player {
         ensures ok { OnOk result (Played orders.now (solo_of self.old) (solo_of self.new) text.old.items text.new.items) }
     {
         for order in orders {
-            self.obey(order.command, text)?;
+            self.obey(&order.command, text)?;
         }
         Ok(())
     }
 
     // Carries out a command, and adds what it answers.
-    fn obey(&mut self, command: Command, text: &mut Vec<u8>) -> Result<(), AllocError>
+    fn obey(&mut self, command: &Command, text: &mut Vec<u8>) -> Result<(), AllocError>
         requires ready { IsReadyFor 1 (solo_of self.old) }
-        ensures ok { OnOk result (Answered command (solo_of self.old) (solo_of self.new) text.old.items text.new.items) }
+        ensures ok { OnOk result (Answered command.now (solo_of self.old) (solo_of self.new) text.old.items text.new.items) }
         ensures counted { OnOk result (Counted (solo_of self.old) (solo_of self.new)) }
     {
         match command {
             Command::Get => push_tag(text, self.get()),
-            Command::Shallow(depth) => push_got(text, self.get_shallow(depth)),
-            Command::Batch(n) => push_batch(text, self.get_batch(n)),
-            Command::Clear(tag) => push_done(text, self.clear(tag)),
+            Command::Shallow(depth) => push_got(text, self.get_shallow(*depth)),
+            Command::Batch(n) => push_batch(text, self.get_batch(*n)),
+            Command::Clear(tag) => push_done(text, self.clear(*tag)),
+            Command::ClearBatch(tags) => push_done(text, self.clear_batch(tags.as_slice())),
             Command::Show => self.show(text),
             Command::Busy => self.busy(text),
             Command::Dump => self.dump(text),

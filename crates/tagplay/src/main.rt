@@ -2,6 +2,7 @@
 #![tactic(auto)]
 
 mod check;
+mod clearing;
 mod commands;
 mod dump;
 mod ending;
@@ -15,6 +16,7 @@ mod order;
 mod order_list;
 mod player;
 mod script;
+mod tag_list;
 #[cfg(test)]
 mod tests;
 mod text;

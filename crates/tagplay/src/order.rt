@@ -1,14 +1,16 @@
 //! The orders of a script, a line each.
-ghost use Rattle.std.specs.Prelude.{◌≡◌, ◌^◌, [], ◌∷◌};
+ghost use Rattle.std.specs.Prelude.{◌≡◌, ◌^◌, [], ◌∷◌, IfOk};
 ghost use Rattle.tagplay.specs.Lines.{words_of, number_below};
-ghost use Rattle.tagplay.specs.ScriptLines.{order_of, lone_of, numbered_of, numbered_command, ordered};
+ghost use Rattle.tagplay.specs.ScriptLines.{order_of, lone_of, numbered_of, numbered_command, numbered_line, listed_line, ordered};
 
 use crate::fault::LineFault;
 use crate::lines::{BLANK, cut};
 use crate::numbers::short_number;
+use crate::tag_list::{TagList, read_tags};
+use std::alloc::{AllocError, Global};
 
 /// What a caller asks for.
-#[derive(Clone, Copy, Debug, PartialEq, Eq)]
+#[derive(Debug, Drop)]
 pub enum Command {
     /// A free tag.
     Get,
@@ -18,6 +20,8 @@ pub enum Command {
     Batch(u32),
     /// This tag is given back.
     Clear(u32),
+    /// These tags are given back at once.
+    ClearBatch(TagList),
     /// The sizes of the map, and how many of its tags are busy and how many are set aside.
     Show,
     /// The tags that are busy.
@@ -27,7 +31,7 @@ pub enum Command {
 }
 
 /// A command, and the caller who gives it.
-#[derive(Clone, Copy, Debug, PartialEq, Eq)]
+#[derive(Debug, Drop)]
 pub struct Order {
     /// The caller's number, from 0.
     pub caller: u32,
@@ -94,23 +98,31 @@ impl Numbered {
 }
 
 /// The order that a line spells, by one of so many callers.
-pub(crate) fn read_order(callers: u32, line: &[u8]) -> Result<Order, LineFault>
-    ensures { result ≡ order_of callers (words_of line.now) }
+pub(crate) fn read_order(
+    alloc: Global,
+    callers: u32,
+    line: &[u8],
+) -> Result<Result<Order, LineFault>, AllocError>
+    ensures { IfOk result (λ said. said ≡ order_of callers (words_of line.now)) }
 {
     let (caller, rest) = cut(line, BLANK);
     let rest = match rest {
         Some(rest) => rest,
-        None => return Err(LineFault::BadLine),
+        None => return Ok(Err(LineFault::BadLine)),
     };
     let (name, rest) = cut(rest, BLANK);
-    let rest = match rest {
-        Some(rest) => rest,
-        None => return lone_order(callers, caller, name),
+    let words = match rest {
+        Some(words) => words,
+        None => return Ok(lone_order(callers, caller, name)),
     };
-    let (number, rest) = cut(rest, BLANK);
-    match rest {
-        Some(_) => Err(LineFault::BadLine),
-        None => numbered_order(callers, caller, name, number),
+    if name == b"clear-batch".as_slice() {
+        let tags = read_tags(alloc, words)?;
+        return Ok(listed_order(callers, caller, tags));
+    }
+    let (number, more) = cut(words, BLANK);
+    match more {
+        Some(_) => Ok(Err(LineFault::BadLine)),
+        None => Ok(numbered_order(callers, caller, name, number)),
     }
 }
 
@@ -128,12 +140,20 @@ fn numbered_order(
     name: &[u8],
     number: &[u8],
 ) -> Result<Order, LineFault>
-    ensures { result ≡ order_of callers (caller.now ∷ name.now ∷ number.now ∷ []) }
+    ensures { result ≡ numbered_line callers (numbered_of name.now) (number_below (2 ^ 32) caller.now) (number_below (2 ^ 32) number.now) }
 {
     let kind = Numbered::named(name).ok_or(LineFault::BadLine)?;
     let caller = short_number(caller).ok_or(LineFault::BadNumber)?;
     let number = short_number(number).ok_or(LineFault::BadNumber)?;
     ordered(callers, caller, kind.command(number))
+}
+
+fn listed_order(callers: u32, caller: &[u8], tags: Option<TagList>) -> Result<Order, LineFault>
+    ensures { result ≡ listed_line callers (number_below (2 ^ 32) caller.now) tags }
+{
+    let caller = short_number(caller).ok_or(LineFault::BadNumber)?;
+    let tags = tags.ok_or(LineFault::BadNumber)?;
+    ordered(callers, caller, Command::ClearBatch(tags))
 }
 
 // The order, if there is such a caller.

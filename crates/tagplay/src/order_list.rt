@@ -18,12 +18,13 @@ pub(crate) fn orders(alloc: Global, callers: u32, text: &[u8]) -> Result<Vec<Ord
     let mut rest = text;
     while !rest.is_empty() {
         let (line, after) = cut(rest, LINE_FEED);
-        let order = match read_order(callers, line) {
-            Ok(order) => order,
-            Err(cause) => {
+        let order = match read_order(alloc, callers, line) {
+            Ok(Ok(order)) => order,
+            Ok(Err(cause)) => {
                 let number = orders.len() as u64 + 1;
                 return Err(ListFault::Faulty(FaultyLine { number, cause }));
             }
+            Err(_) => return Err(ListFault::Memory),
         };
         if orders.push(order).is_err() {
             return Err(ListFault::Memory);

@@ -1,11 +1,12 @@
 //! One caller alone with a map, as a script moves it.
 ghost use Rattle.std.specs.Prelude.{◌≡◌, ◌+◌, ◌*◌, ◌^◌, ◌<◌, ◌≤◌, IfOk, ◌↔◌, IsTrue};
-ghost use Rattle.tagplay.specs.Solo.{opened, Gets, GetsShallow, Batches, Clears, won_in, held_in, aside_in};
+ghost use Rattle.tagplay.specs.Solo.{opened, Gets, GetsShallow, Batches, Clears, ClearsBatch, won_in, held_in, aside_in};
 ghost use Rattle.tag_layout.specs.Layout.{words, word_bits};
 ghost use Rattle.tagplay.specs.Commands.{get_visits, shown_of};
 ghost use Rattle.tagplay.specs.Dump.{is_held_tag};
 ghost use Rattle.tagplay.specs.Players.{solo_of, IsReadyFor, Counted, IsHeldMask};
 
+use crate::clearing::{are_below, are_held_once, give_all};
 use crate::fault::TagFault;
 use std::alloc::{AllocError, Global};
 use tag_layout::Layout;
@@ -132,6 +133,26 @@ impl Player {
         self.port.put(tag);
         after_clear(&mut self.hint, tag);
         self.back += 1;
+        Ok(())
+    }
+
+    /// Gives tags back at once: they are free, and not set aside for a later get to free.
+    pub(crate) fn clear_batch(&mut self, tags: &[u32]) -> Result<(), TagFault>
+        requires { IsReadyFor 1 (solo_of self.old) }
+        ensures { ClearsBatch tags.now (solo_of self.old) result (solo_of self.new) }
+    {
+        if tags.is_empty() || tags.len() > 64 {
+            return Err(TagFault::BadCount);
+        }
+        if !are_below(tags, self.port.layout().depth()) {
+            return Err(TagFault::NoSuchTag);
+        }
+        if !are_held_once(&self.port, tags) {
+            return Err(TagFault::NotHeld);
+        }
+        give_all(&mut self.port, tags);
+        after_clear(&mut self.hint, tags[tags.len() - 1]);
+        self.back += tags.len() as u64;
         Ok(())
     }
 

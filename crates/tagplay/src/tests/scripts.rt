@@ -1,5 +1,6 @@
 //! Scripts with the texts that are owed.
 use crate::{Ending, ScriptOptions, run_script};
+use itoa::Buffer;
 use std::process::Abort;
 use std::test::*;
 
@@ -244,4 +245,105 @@ fn busy_show_and_dump(rt: HostRuntime) -> Result<(), Fail> {
         busy 0 9\ndepth=16\nbusy=2\ncleared=8\nbits_per_word=4\nmap_nr=4\n\
         00000000: 0102\ntotal got=10 back=8 held=2 posted=0\n";
     expect(&rt, &options(16, None), script, text)
+}
+
+#[test]
+fn round_robin_misses(rt: HostRuntime) -> Result<(), Fail> {
+    let around = ScriptOptions {
+        round_robin: true,
+        ..options(4, Some(2))
+    };
+    let script = "0 get\n0 get\n0 get\n0 get\n0 clear-batch 0 1\n0 get\n0 clear-batch 0\n\
+        0 get\n0 get\n0 get\n";
+    let text = "0\n1\n2\n3\nok\n0\nok\n1\nnone\n0\ntotal got=7 back=3 held=4 posted=0\n";
+    expect(&rt, &around, script, text)
+}
+
+#[test]
+fn batches(rt: HostRuntime) -> Result<(), Fail> {
+    let script = "0 get\n0 get\n0 get\n0 get\n0 get\n0 clear-batch 1 3\n0 batch 3\n0 batch 5\n\
+        0 batch 0\n0 batch 9\n0 clear-batch 0 0\n";
+    let text = "0\n1\n2\n3\n4\nok\nmask 5 at 1\nnone\nrefused 5\nrefused 5\nrefused 3\n\
+        total got=7 back=2 held=5 posted=0\n";
+    expect(&rt, &options(8, Some(3)), script, text)
+}
+
+#[test]
+fn lists_are_refused_by_their_first_cause(rt: HostRuntime) -> Result<(), Fail> {
+    for (list, text) in [
+        ("0 1 2 3 0", "refused 3\n"),
+        ("3 8", "refused 1\n"),
+        ("0 3 1", "refused 3\n"),
+        ("0 0", "refused 3\n"),
+        ("1 0", "ok\n"),
+    ] {
+        let mut script = String::new(rt.alloc());
+        script.push_str("0 get\n0 get\n0 clear-batch ")?;
+        script.push_str(list)?;
+        let mut wanted = String::new(rt.alloc());
+        wanted.push_str("0\n1\n")?;
+        wanted.push_str(text)?;
+        let back = if text == "ok\n" {
+            "total got=2 back=2 held=0 posted=0\n"
+        } else {
+            "total got=2 back=0 held=2 posted=0\n"
+        };
+        wanted.push_str(back)?;
+        expect(&rt, &options(8, Some(2)), &script, &wanted)?;
+    }
+    Ok(())
+}
+
+#[test]
+fn cleared_lists_are_free_at_once(rt: HostRuntime) -> Result<(), Fail> {
+    let script = "0 get\n0 get\n0 get\n0 clear 2\n0 clear-batch 1 0\n0 show\n0 get\n";
+    let text = "0\n1\n2\nok\nok\n\
+        depth=4\nbusy=0\ncleared=1\nbits_per_word=4\nmap_nr=1\n0\n\
+        total got=4 back=3 held=1 posted=0\n";
+    expect(&rt, &options(4, Some(2)), script, text)
+}
+
+// The lists of as many tags as a batch may have, and of one more.
+#[test]
+fn long_lists(rt: HostRuntime) -> Result<(), Fail> {
+    for (length, answer, totals) in [
+        (64, "ok\n", "total got=65 back=64 held=1 posted=0\n"),
+        (65, "refused 5\n", "total got=65 back=0 held=65 posted=0\n"),
+    ] {
+        let mut script = String::new(rt.alloc());
+        let mut wanted = String::new(rt.alloc());
+        let mut buffer = Buffer::new();
+        for tag in 0u32..65 {
+            script.push_str("0 get\n")?;
+            wanted.push_str(buffer.format(tag))?;
+            wanted.push_str("\n")?;
+        }
+        script.push_str("0 clear-batch")?;
+        for tag in 0u32..length {
+            script.push_str(" ")?;
+            script.push_str(buffer.format(tag))?;
+        }
+        wanted.push_str(answer)?;
+        wanted.push_str(totals)?;
+        expect(&rt, &options(128, Some(4)), &script, &wanted)?;
+    }
+    Ok(())
+}
+
+#[test]
+fn malformed_lists(rt: HostRuntime) -> Result<(), Fail> {
+    for (script, text) in [
+        ("0 clear-batch", "line 1 refused 1\n"),
+        ("0 clear-batch ", "line 1 refused 2\n"),
+        ("0 clear-batch 0  1", "line 1 refused 2\n"),
+        ("0 clear-batch 0 1 x", "line 1 refused 2\n"),
+        ("x clear-batch 0 1", "line 1 refused 2\n"),
+        ("0 clear-batch 0 4294967296", "line 1 refused 2\n"),
+        ("1 clear-batch 0 x", "line 1 refused 2\n"),
+        ("1 clear-batch 0 1", "line 1 refused 3\n"),
+        ("0 clear-batches 0 1", "line 1 refused 1\n"),
+    ] {
+        expect(&rt, &options(4, None), script, text)?;
+    }
+    Ok(())
 }

@@ -1,9 +1,12 @@
 -- The words of a line are those that were cut off it.
-use Rattle.std.proofs.Common.{◌≡◌, ◌∙◌, sym, refl}
-use Rattle.tagplay.specs.ScriptLines.{order_of}
+use Rattle.std.proofs.Common.{◌≡◌, ◌^◌, true, false, ◌∙◌, sym, ap, refl, rules}
+use Rattle.std.specs.Prelude.{codes}
+use Rattle.std.specs.Str.{bytes_eq}
+use Rattle.tagplay.specs.Lines.{number_below}
+use Rattle.tagplay.specs.ScriptLines.{order_of, listed_line}
 use Rattle.tagplay.proofs.LineFacts.{is_whole, has_rest}
-use Rattle.tagplay.proofs.WordFacts.{one_word, two_words, three_words}
-use Rattle.tagplay.proofs.OrderLineFacts.{more_words}
+use Rattle.tagplay.proofs.WordFacts.{one_word, two_words}
+use Rattle.tagplay.proofs.OrderLineFacts.{listed_words, number_words, more_words}
 use Rattle.tagplay.proofs.order.read_order.Goals as goal
 
 pub returns-in-None : goal.returns-in-None
@@ -20,26 +23,40 @@ returns-in-None-rest c =
     c.lone_order.ensures ∙ sym (two_words (order_of c.args.callers) refl c.args.line.now c.cut.result.0.now c.in-Some.rest.now
     c.cut-2.result.0.now c.cut.ensures.part first c.cut-2.ensures.part second)
 
-pub returns-in-Some-rest-2 : goal.returns-in-Some-rest-2
-returns-in-Some-rest-2 c =
+pub returns-then-eq : goal.returns-then-eq
+returns-then-eq c =
     let first = has_rest c.cut.result.1 (λ r. r.now) c.args.line.now c.cut.result.0.now 32 c.in-Some.rest
     c.cut.ensures.whole c.in-Some.is in
-    let second = has_rest c.cut-2.result.1 (λ r. r.now) c.in-Some.rest.now c.cut-2.result.0.now 32 c.in-Some-rest.rest
+    let second = has_rest c.cut-2.result.1 (λ r. r.now) c.in-Some.rest.now c.cut-2.result.0.now 32 c.in-Some-rest.words
     c.cut-2.ensures.whole c.in-Some-rest.is in
-    let third = has_rest c.cut-3.result.1 (λ r. r.now) c.in-Some-rest.rest.now c.cut-3.result.0.now 32
-    c.in-Some-rest-2.field-0 c.cut-3.ensures.whole c.in-Some-rest-2.is in
-    sym (more_words c.args.callers c.args.line.now c.cut.result.0.now c.in-Some.rest.now c.cut-2.result.0.now
-    c.in-Some-rest.rest.now c.cut-3.result.0.now c.in-Some-rest-2.field-0.now
-    c.cut.ensures.part first c.cut-2.ensures.part second c.cut-3.ensures.part third)
+    let name : bytes_eq c.cut-2.result.0.now (codes "clear-batch") ≡ true = search rules in
+    c.listed_order.ensures
+    ∙ ap (listed_line c.args.callers (number_below (2 ^ 32) c.cut.result.0.now)) c.in_ok-tags.ensures
+    ∙ sym (listed_words c.args.callers c.args.line.now c.cut.result.0.now c.in-Some.rest.now c.cut-2.result.0.now
+    c.in-Some-rest.words.now c.cut.ensures.part first c.cut-2.ensures.part second name)
 
-pub returns-in-None-rest-2 : goal.returns-in-None-rest-2
-returns-in-None-rest-2 c =
+pub returns-in-Some-more : goal.returns-in-Some-more
+returns-in-Some-more c =
     let first = has_rest c.cut.result.1 (λ r. r.now) c.args.line.now c.cut.result.0.now 32 c.in-Some.rest
     c.cut.ensures.whole c.in-Some.is in
-    let second = has_rest c.cut-2.result.1 (λ r. r.now) c.in-Some.rest.now c.cut-2.result.0.now 32 c.in-Some-rest.rest
+    let second = has_rest c.cut-2.result.1 (λ r. r.now) c.in-Some.rest.now c.cut-2.result.0.now 32 c.in-Some-rest.words
     c.cut-2.ensures.whole c.in-Some-rest.is in
-    let third = is_whole c.cut-3.result.1 (λ r. r.now) c.in-Some-rest.rest.now c.cut-3.result.0.now 32
-    c.cut-3.ensures.whole c.in-None-rest-2.is in
-    c.numbered_order.ensures ∙ sym (three_words (order_of c.args.callers) refl c.args.line.now c.cut.result.0.now
-    c.in-Some.rest.now c.cut-2.result.0.now c.in-Some-rest.rest.now
-    c.cut-3.result.0.now c.cut.ensures.part first c.cut-2.ensures.part second c.cut-3.ensures.part third)
+    let third = has_rest c.cut-3.result.1 (λ r. r.now) c.in-Some-rest.words.now c.cut-3.result.0.now 32
+    c.in-Some-more.field-0 c.cut-3.ensures.whole c.in-Some-more.is in
+    let name : bytes_eq c.cut-2.result.0.now (codes "clear-batch") ≡ false = search rules in
+    sym (more_words c.args.callers c.args.line.now c.cut.result.0.now c.in-Some.rest.now c.cut-2.result.0.now
+    c.in-Some-rest.words.now c.cut-3.result.0.now c.in-Some-more.field-0.now
+    c.cut.ensures.part first c.cut-2.ensures.part second c.cut-3.ensures.part third name)
+
+pub returns-in-None-more : goal.returns-in-None-more
+returns-in-None-more c =
+    let first = has_rest c.cut.result.1 (λ r. r.now) c.args.line.now c.cut.result.0.now 32 c.in-Some.rest
+    c.cut.ensures.whole c.in-Some.is in
+    let second = has_rest c.cut-2.result.1 (λ r. r.now) c.in-Some.rest.now c.cut-2.result.0.now 32 c.in-Some-rest.words
+    c.cut-2.ensures.whole c.in-Some-rest.is in
+    let third = is_whole c.cut-3.result.1 (λ r. r.now) c.in-Some-rest.words.now c.cut-3.result.0.now 32
+    c.cut-3.ensures.whole c.in-None-more.is in
+    let name : bytes_eq c.cut-2.result.0.now (codes "clear-batch") ≡ false = search rules in
+    c.numbered_order.ensures ∙ sym (number_words c.args.callers c.args.line.now c.cut.result.0.now
+    c.in-Some.rest.now c.cut-2.result.0.now c.in-Some-rest.words.now
+    c.cut-3.result.0.now c.cut.ensures.part first c.cut-2.ensures.part second c.cut-3.ensures.part third name)

@@ -2,7 +2,6 @@
 use Rattle.std.proofs.Common.{◌≡◌, ◌<◌, ◌≤◌, ◌+◌, ◌*◌, List, [], ◌∷◌, ◌++◌, take, get_or, length, append_assoc, append-nil, refl, sym, ap, subst, ◌∙◌, arith, rules}
 use Rattle.std.proofs.lemmas.List.{take_more}
 use Rattle.tagplay.specs.declared.order.Order.{Order}
-use Rattle.tagplay.specs.declared.order.Command.TheVariants.{Get}
 use Rattle.tagplay.specs.Commands.{Plays, over}
 use Rattle.tagplay.specs.Players.{solo_of}
 use Rattle.tagplay.proofs.PlayFacts.{plays_more}
@@ -21,8 +20,10 @@ loop-order-preserved c =
     let so_far = c.loop-order.invariant.played in let one = c.in_ok-obey.ensures.ok in
     let counted = c.in_ok-obey.ensures.counted in
     let there : c.loop-order.order-index < length c.args.orders.now = search rules in
-    let e = take_more c.args.orders.now c.loop-order.order-index (record { caller = 0; command = Get }) there in
-    let first : Order = get_or c.args.orders.now c.loop-order.order-index (record { caller = 0; command = Get }) in
+    let first : Order = c.order-item.result in
+    let e : take (c.loop-order.order-index + 1) c.args.orders.now ≡ take c.loop-order.order-index c.args.orders.now ++ first ∷ [] =
+    take_more c.args.orders.now c.loop-order.order-index first there
+    ∙ ap (λ (o : Order). take c.loop-order.order-index c.args.orders.now ++ o ∷ []) (sym c.order-item.is) in
     let P : List Order → Type 0 = λ os. Plays (solo_of c.args.self.now) os (so_far.answers ++ one.answer) (solo_of c.obey.new.self) in
     record {
       played = record {
