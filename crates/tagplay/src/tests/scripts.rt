@@ -260,7 +260,7 @@ fn round_robin_misses(rt: HostRuntime) -> Result<(), Fail> {
 }
 
 #[test]
-fn batches(rt: HostRuntime) -> Result<(), Fail> {
+fn batches_of_a_list_given_back(rt: HostRuntime) -> Result<(), Fail> {
     let script = "0 get\n0 get\n0 get\n0 get\n0 get\n0 clear-batch 1 3\n0 batch 3\n0 batch 5\n\
         0 batch 0\n0 batch 9\n0 clear-batch 0 0\n";
     let text = "0\n1\n2\n3\n4\nok\nmask 5 at 1\nnone\nrefused 5\nrefused 5\nrefused 3\n\
