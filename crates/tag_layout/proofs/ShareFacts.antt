@@ -1,12 +1,12 @@
 -- How a shallow depth is shared out: the words' limits, and a share by one multiplication.
-use Rattle.std.proofs.Common.{◌≡◌, ℕ, zero, suc, ◌+◌, ◌-◌, ◌*◌, ◌/◌, ◌%◌, ◌^◌, ◌<◌, ◌≤◌, min, arith, refl, sym, ap, ◌∙◌, subst}
+use Rattle.std.proofs.Common.{◌≡◌, ℕ, zero, suc, ◌+◌, ◌-◌, ◌*◌, ◌/◌, ◌%◌, ◌^◌, ◌<◌, ◌≤◌, min, arith, sym, ap, ◌∙◌}
 use mathlib.Core.Logic.{dite}
 use native.Mathlib.Decide.{dec_lt}
-use Rattle.std.proofs.lemmas.Nat.{pow_pos, le-div, mod_below, div-mul-add, div-add-mod'}
+use Rattle.std.proofs.lemmas.Nat.{le-div, mod_below, div-mul-add, div-add-mod'}
 use Rattle.std.proofs.Math.Nat.{mul-le-mul_left, mul-le-mul_right}
 use Rattle.tag_layout.specs.Layout.{Layout, word_bits, words, word_depth, share, shallow_limit}
 use Rattle.tag_layout.specs.Sums.{sum_below}
-use Rattle.tag_layout.proofs.PlaceFacts.{word_bits-pos, word-start, depth-le-words}
+use Rattle.tag_layout.proofs.PlaceFacts.{word_bits-pos, depth-le-words}
 
 -- a quotient is between its bounds
 pub div-is : (n d q : ℕ) → 0 < d → q * d ≤ n → n < suc q * d → n / d ≡ q

@@ -1,7 +1,5 @@
 -- In every run the tags won are those given back, held and posted.
-use Rattle.std.proofs.Common.{◌≡◌, ◌≢◌, ℕ, zero, suc, ◌+◌, ◌-◌, ◌*◌, ◌<◌, ◌≤◌, ◌==◌, List, [], ◌∷◌, Bool, true, false, cond, IsTrue, count_ones, arith, refl, sym, ap, ◌∙◌, subst, eq-eqb, ne_eqb}
-use mathlib.Core.Logic.{dite}
-use native.Mathlib.Decide.{ℕ_discrete}
+use Rattle.std.proofs.Common.{◌≡◌, ℕ, ◌+◌, ◌<◌, ◌==◌, List, [], ◌∷◌, Bool, true, false, cond, IsTrue, arith, refl, sym, ap, ◌∙◌, eq-eqb, ne_eqb}
 use Rattle.tag_layout.specs.Layout.{Layout}
 use Rattle.tag_layout.specs.Sums.{sum_below}
 use Rattle.tag_layout.proofs.SumFacts.{sum_below-none, sum_below-same, sum_below-add, sum_below-only}
@@ -9,10 +7,10 @@ use Rattle.tag_model.specs.declared.place.Place.{Place}
 use Rattle.tag_model.specs.declared.place.Place.TheVariants.{Free, Held, Posted, Aside, Sweep as Swept}
 use Rattle.tag_model.specs.declared.event.Event.{Event}
 use Rattle.tag_model.specs.declared.event.Event.TheVariants.{Look, Win, Put, Give, Sweep, Spill, Post, Take}
-use Rattle.tag_model.specs.Event.{caller_of, is_in_mask, names, Needs, brings, swept_by, spilled_by, won_by, back_by}
+use Rattle.tag_model.specs.Event.{caller_of, is_in_mask, names, swept_by, spilled_by, won_by, back_by}
 use Rattle.tag_model.specs.World.{World, opened, place_after, plus_at, after, MayHappen}
 use Rattle.tag_model.specs.Runs.{after_all, MayRun, after_history, IsHistory}
-use Rattle.tag_model.specs.Totals.{is_held, is_posted, count_below, got_in, back_in, held_in, posted_in, Balances}
+use Rattle.tag_model.specs.Totals.{is_held, is_posted, held_in, posted_in, Balances}
 use Rattle.tag_model.proofs.MaskFacts.{one_if, sum_below-mask}
 
 -- 1 for a tag that was won and not given back

@@ -1,5 +1,5 @@
 -- Counts in the worlds of a history: nobody wins more than one may, or gives back more than all win.
-use Rattle.std.proofs.Common.{◌≡◌, ◌≢◌, ℕ, zero, suc, ◌+◌, ◌*◌, ◌<◌, ◌≤◌, List, [], ◌∷◌, Bool, true, false, cond, nat_eq, ◌==◌, arith, refl, sym, ap, ◌∙◌, eq-eqb, ne_eqb}
+use Rattle.std.proofs.Common.{◌≡◌, ◌≢◌, ℕ, zero, suc, ◌+◌, ◌*◌, ◌<◌, ◌≤◌, List, [], ◌∷◌, Bool, true, false, cond, nat_eq, arith, refl, ap, ◌∙◌, eq-eqb, ne_eqb}
 use Rattle.std.proofs.Math.Nat.{suc-mul}
 use mathlib.Core.Logic.{dite}
 use native.Mathlib.Decide.{ℕ_discrete}
@@ -10,7 +10,7 @@ use Rattle.tag_model.specs.declared.world.TheConstants.{MOST_WON}
 use Rattle.tag_model.specs.Event.{caller_of, won_by}
 use Rattle.tag_model.specs.World.{World, plus_at, after, MayHappen}
 use Rattle.tag_model.specs.Runs.{after_history, IsHistory}
-use Rattle.tag_model.specs.Totals.{got_in, back_in, Balances}
+use Rattle.tag_model.specs.Totals.{Balances}
 use Rattle.tag_model.proofs.BalanceFacts.{balances-history}
 
 pub plus_at-here : (g : ℕ → ℕ) (c n : ℕ) → plus_at c n g c ≡ g c + n

@@ -1,12 +1,12 @@
 -- Runs of two lists, and of one event more.
-use Rattle.std.proofs.Common.{◌≡◌, ℕ, zero, suc, ◌+◌, ◌-◌, ◌<◌, ◌≤◌, List, [], ◌∷◌, ◌++◌, length, take, arith, refl, sym, ap, ◌∙◌, subst, append_assoc, length-append}
+use Rattle.std.proofs.Common.{◌≡◌, ℕ, ◌+◌, List, [], ◌∷◌, ◌++◌, length, arith, refl, sym, ap, ◌∙◌, subst, append_assoc, length-append}
 use Rattle.tag_layout.specs.Layout.{Layout}
 use Rattle.tag_model.specs.declared.event.Event.{Event}
 use Rattle.tag_model.specs.declared.event.EventFault.{EventFault}
 use Rattle.tag_model.specs.declared.event.EventFault.TheVariants.{NoSuchTag, NoSuchCaller, Spent, NotFree, NotHeld, NotPosted}
 use Rattle.tag_model.specs.World.{World, after, MayHappen, IsFirstFault}
-use Rattle.tag_model.specs.Runs.{after_all, MayRun, StopsAt, after_history, IsHistory}
-use Rattle.tag_model.specs.Kept.{KeptWorld, callers_of, world_of, SameSetup, Happens, Ran}
+use Rattle.tag_model.specs.Runs.{after_all, MayRun, StopsAt}
+use Rattle.tag_model.specs.Kept.{KeptWorld, callers_of, world_of, Happens, Ran}
 use Rattle.tag_model.specs.Laws.{RunsJoin}
 
 module _ (l : Layout) where

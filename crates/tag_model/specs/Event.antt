@@ -1,5 +1,5 @@
 -- The table of events: who makes one, which tags it names, what it asks of them and what it makes of them.
-use Rattle.std.specs.Prelude.{◌≡◌, ℕ, ◌<◌, Bool, true, false, ◌==◌, ◌&&◌, cond, count_ones}
+use Rattle.std.specs.Prelude.{◌≡◌, ℕ, ◌<◌, Bool, false, ◌==◌, ◌&&◌, cond, count_ones}
 use Rattle.std.specs.Int.{bit_at}
 use Rattle.tag_layout.specs.Layout.{Layout, words, word_of, place_of, IsWithin}
 use Rattle.tag_model.specs.declared.place.Place.{Place}

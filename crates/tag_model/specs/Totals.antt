@@ -3,7 +3,7 @@ use Rattle.std.specs.Prelude.{◌≡◌, ℕ, ◌+◌, Bool, true, false, cond}
 use Rattle.tag_layout.specs.Layout.{Layout}
 use Rattle.tag_layout.specs.Sums.{sum_below}
 use Rattle.tag_model.specs.declared.place.Place.{Place}
-use Rattle.tag_model.specs.declared.place.Place.TheVariants.{Free, Held, Posted, Aside, Sweep}
+use Rattle.tag_model.specs.declared.place.Place.TheVariants.{Held, Posted}
 use Rattle.tag_model.specs.declared.totals.Totals.{Totals}
 use Rattle.tag_model.specs.World.{World}
 

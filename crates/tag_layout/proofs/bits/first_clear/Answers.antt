@@ -1,5 +1,5 @@
 -- The lowest 1 of the clear bits from the first place on is the place, if it is below the limit.
-use Rattle.std.proofs.Common.{◌≡◌, ℕ, ◌+◌, ◌-◌, ◌/◌, ◌^◌, ◌<◌, ◌≤◌, arith}
+use Rattle.std.proofs.Common.{arith}
 use Rattle.tag_layout.proofs.Scans.{first_found, none_found}
 use Rattle.tag_layout.proofs.bits.first_clear.Goals as goal
 

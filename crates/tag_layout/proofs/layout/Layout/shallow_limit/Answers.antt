@@ -1,6 +1,5 @@
 -- The limits sum to the shallow depth, and none is above its word's depth.
-use Rattle.std.proofs.Common.{◌≡◌, ℕ, ◌+◌, ◌-◌, ◌*◌, ◌/◌, ◌%◌, ◌^◌, ◌<◌, ◌≤◌, min, arith, refl, sym, ap, ◌∙◌, subst}
-use Rattle.tag_layout.specs.Layout.{Layout, share, shallow_limit}
+use Rattle.std.proofs.Common.{ℕ, ◌*◌, ◌%◌, ◌^◌, arith}
 use Rattle.tag_layout.proofs.PlaceFacts.{word-start}
 use Rattle.tag_layout.proofs.ShareFacts.{share-more, shallow_limits-sum}
 use Rattle.tag_layout.proofs.layout.Layout.shallow_limit.Goals as goal

@@ -1,7 +1,5 @@
 -- A share by one multiplication.
-use Rattle.std.proofs.Common.{◌≡◌, ℕ, ◌+◌, ◌-◌, ◌*◌, ◌/◌, ◌%◌, ◌^◌, ◌<◌, ◌≤◌, min, arith, refl, sym, ap, ◌∙◌, subst}
-use Rattle.std.proofs.Math.Nat.{mul-le-mul_left, mul-le-mul_right}
-use Rattle.tag_layout.specs.Layout.{Layout, share}
+use Rattle.std.proofs.Common.{◌≡◌, ℕ, ◌*◌, ◌/◌, ◌^◌, ◌≤◌, min, arith, ap, ◌∙◌}
 use Rattle.tag_layout.proofs.ShareFacts.{product_fits, div-by_reciprocal, mul-le-mul}
 use Rattle.tag_layout.proofs.layout.Layout.share_of.Goals as goal
 

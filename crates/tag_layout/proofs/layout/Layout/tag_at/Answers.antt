@@ -1,7 +1,7 @@
 -- The tag at a place has that word and that place.
-use Rattle.std.proofs.Common.{◌≡◌, ℕ, ◌+◌, ◌-◌, ◌*◌, ◌/◌, ◌%◌, ◌^◌, ◌<◌, ◌≤◌, bit_and, min, arith, refl, sym, ap, ◌∙◌, subst}
-use Rattle.tag_layout.specs.Layout.{Layout, word_bits, words, word_of, place_of, tag_at, word_depth}
-use Rattle.tag_layout.proofs.PlaceFacts.{word-start, word_of-tag_at, place_of-tag_at, tag_at-below}
+use Rattle.std.proofs.Common.{◌≡◌, ℕ, ◌+◌, ◌*◌, ◌%◌, ◌^◌, ◌<◌, arith, ap, ◌∙◌}
+use Rattle.tag_layout.specs.Layout.{Layout, word_bits, word_of, place_of, tag_at}
+use Rattle.tag_layout.proofs.PlaceFacts.{word-start, word_of-tag_at, place_of-tag_at}
 use Rattle.tag_layout.proofs.layout.Layout.tag_at.Goals as goal
 
 pub returns-clause-back : goal.returns-clause-back

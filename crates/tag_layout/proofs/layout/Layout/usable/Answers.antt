@@ -1,6 +1,6 @@
 -- The low ones of a word are the places that it uses.
-use Rattle.std.proofs.Common.{◌≡◌, ℕ, ◌+◌, ◌-◌, ◌*◌, ◌/◌, ◌%◌, ◌^◌, ◌<◌, ◌≤◌, bit_and, min, arith, refl, sym, ap, ◌∙◌, subst}
-use Rattle.tag_layout.specs.Layout.{Layout, word_bits, words, word_of, place_of, tag_at, word_depth}
+use Rattle.std.proofs.Common.{◌≡◌, ℕ, ◌-◌, ◌/◌, ◌^◌, ◌≤◌, arith, ap, ◌∙◌}
+use Rattle.tag_layout.specs.Layout.{word_depth}
 use mathlib.Core.Logic.{dite}
 use native.Mathlib.Decide.{dec_lt}
 use Rattle.std.specs.Int.{bit_at}

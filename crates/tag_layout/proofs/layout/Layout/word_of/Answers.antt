@@ -1,6 +1,6 @@
 -- A tag below the depth stands in a word that there is.
-use Rattle.std.proofs.Common.{◌≡◌, ℕ, ◌+◌, ◌-◌, ◌*◌, ◌/◌, ◌%◌, ◌^◌, ◌<◌, ◌≤◌, bit_and, min, arith, refl, sym, ap, ◌∙◌, subst}
-use Rattle.tag_layout.specs.Layout.{Layout, word_bits, words, word_of, place_of, tag_at, word_depth}
+use Rattle.std.proofs.Common.{◌/◌, ◌^◌, ◌<◌, sym, subst}
+use Rattle.tag_layout.specs.Layout.{Layout, words}
 use Rattle.tag_layout.proofs.PlaceFacts.{word_of-below}
 use Rattle.tag_layout.proofs.layout.Layout.word_of.Goals as goal
 

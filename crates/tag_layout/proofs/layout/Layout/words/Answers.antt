@@ -1,6 +1,6 @@
 -- The words use all tags.
-use Rattle.std.proofs.Common.{◌≡◌, ℕ, ◌+◌, ◌-◌, ◌*◌, ◌/◌, ◌%◌, ◌^◌, ◌<◌, ◌≤◌, bit_and, min, arith, refl, sym, ap, ◌∙◌, subst}
-use Rattle.tag_layout.specs.Layout.{Layout, word_bits, words, word_of, place_of, tag_at, word_depth}
+use Rattle.std.proofs.Common.{◌+◌, ◌-◌, ◌/◌, ◌^◌, arith, ap, ◌∙◌}
+use Rattle.tag_layout.specs.Layout.{words, word_depth}
 use Rattle.std.proofs.lemmas.Nat.{one_shl}
 use Rattle.tag_layout.specs.Sums.{sum_below}
 use Rattle.tag_layout.proofs.PlaceFacts.{word_depths-sum}

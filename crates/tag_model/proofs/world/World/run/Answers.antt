@@ -1,10 +1,10 @@
 -- The events before the place ran, and the one at the place comes next.
-use Rattle.std.proofs.Common.{◌≡◌, ℕ, suc, ◌+◌, ◌<◌, ◌≤◌, List, [], ◌∷◌, ◌++◌, get_or, take, drop, length, arith, refl, sym, ap, ◌∙◌, subst, length-take-le, drop-cons}
+use Rattle.std.proofs.Common.{◌≡◌, ℕ, suc, ◌+◌, ◌<◌, List, ◌∷◌, ◌++◌, get_or, take, drop, length, arith, sym, ap, ◌∙◌, subst, length-take-le, drop-cons}
 use Rattle.std.proofs.lemmas.List.{take_more, take-append-drop}
 use Rattle.tag_model.specs.declared.event.Event.{Event}
 use Rattle.tag_model.specs.declared.event.Event.TheVariants.{Look}
 use Rattle.tag_model.specs.Runs.{StopsAt, MayRun}
-use Rattle.tag_model.specs.Kept.{KeptWorld, callers_of, world_of, Ran, Happens}
+use Rattle.tag_model.specs.Kept.{KeptWorld, callers_of, world_of, Ran}
 use Rattle.tag_model.proofs.RunFacts.{ran-more, stops-here, cannot-stop}
 use Rattle.tag_model.proofs.world.World.run.Goals as goal
 
