@@ -11,6 +11,9 @@ use atomic_table::Seat;
 use std::snapshot::Snapshot;
 use tag_layout::Layout;
 
+/// Unused words of 8 bytes behind what one caller alone writes.
+pub(crate) const APART: usize = 16;
+
 /// One of the callers of a map, by whose steps it changes. Where it is dropped, its tags stay held for ever.
 #[derive(Drop)]
 pub struct Caller<R> {
@@ -30,6 +33,8 @@ pub struct Caller<R> {
     pub(crate) back: u64,
     /// The shape of its map, as contracts see it.
     pub(crate) shape: Snapshot<Shape>,
+    /// Nobody looks at it: callers side by side in memory lie 128 bytes apart, so the steps of one slow no other down.
+    pub(crate) apart: [u64; APART],
     ghost told: { (layout ≡ shape.value.layout) × (life ≡ shape.value.life) },
     ghost knows: { seat.me.0 ≡ alone (record {
       shape = shape.value;

@@ -29,10 +29,8 @@ impl<R> Map<R> {
         if !caller.room(mask.count_ones()) {
             return Err(Spent);
         }
-        let found = self
-            .table
-            .shared
-            .fetch_or::<Claiming>(&mut caller.seat, word_spot(word), mask);
+        let table = &self.table.shared;
+        let found = table.fetch_or::<Claiming>(&mut caller.seat, word_spot(word), mask);
         let won = mask & !found;
         let held = caller.held[word as usize] | won;
         caller.held[word as usize] = held;

@@ -21,9 +21,8 @@ impl<R> Map<R> {
         ensures caller { IsCallerOf self.now caller.new }
         ensures step { (found : ℕ) × Adds (Word (Give word mask found)) caller.old caller.new }
     {
-        self.table
-            .shared
-            .fetch_and::<Giving>(&mut caller.seat, word_spot(word), !mask);
+        let table = &self.table.shared;
+        table.fetch_and::<Giving>(&mut caller.seat, word_spot(word), !mask);
         let held = caller.held[word as usize] & !mask;
         caller.held[word as usize] = held;
         caller.back += mask.count_ones() as u64;
@@ -39,9 +38,8 @@ impl<R> Map<R> {
     {
         let word = caller.layout.word_of(tag);
         let bit = 1u64 << caller.layout.place_of(tag);
-        self.table
-            .shared
-            .fetch_or::<Putting>(&mut caller.seat, aside_spot(word), bit);
+        let table = &self.table.shared;
+        table.fetch_or::<Putting>(&mut caller.seat, aside_spot(word), bit);
         let held = caller.held[word as usize] & !bit;
         caller.held[word as usize] = held;
         caller.back += 1;

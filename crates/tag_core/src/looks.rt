@@ -29,9 +29,8 @@ impl<R> Map<R> {
         ensures held { (tag : ℕ) → Holds caller.old tag → word_of (layout_of self.now) tag ≡ word
             → bit_at result (place_of (layout_of self.now) tag) ≡ 1 }
     {
-        self.table
-            .shared
-            .load::<Looking>(&mut caller.seat, word_spot(word))
+        let table = &self.table.shared;
+        table.load::<Looking>(&mut caller.seat, word_spot(word))
     }
 
     /// The word's cleared set: 1 is set aside. No tag that the caller holds is found in it.
@@ -43,9 +42,8 @@ impl<R> Map<R> {
         ensures held { (tag : ℕ) → Holds caller.old tag → word_of (layout_of self.now) tag ≡ word
             → bit_at result (place_of (layout_of self.now) tag) ≡ 0 }
     {
-        self.table
-            .shared
-            .load::<LookingAside>(&mut caller.seat, aside_spot(word))
+        let table = &self.table.shared;
+        table.load::<LookingAside>(&mut caller.seat, aside_spot(word))
     }
 }
 

@@ -1,12 +1,13 @@
 //! A new map, and its callers.
-ghost use Rattle.std.specs.Prelude.{◌≡◌, ◌⊎◌, ℕ, ◌+◌, ◌-◌, ◌<◌, ◌≤◌, ◌↔◌, ◌≢◌, List, [], length, All, IfOk};
+ghost use Rattle.std.specs.Prelude.{◌≡◌, ◌⊎◌, ℕ, ◌+◌, ◌-◌, ◌<◌, ◌≤◌, ◌↔◌, ◌≢◌, List, [], length, replicate, All, IfOk};
+ghost use Rattle.tag_layout.specs.declared.layout.TheConstants.{MAX_DEPTH};
 ghost use Rattle.tag_model.specs.declared.world.TheConstants.{MAX_CALLERS, MOST_WON};
 ghost use Rattle.tag_core.specs.Records.{fresh_record};
 ghost use Rattle.tag_core.specs.Views.{viewing, fresh, all_fresh};
 ghost use Rattle.tag_core.specs.Opening.{IsNew, AreNew};
 ghost use Rattle.tag_core.specs.Callers.{IsCallerOf, record_of};
 
-use crate::caller::Caller;
+use crate::caller::{APART, Caller};
 use crate::map::Map;
 use crate::plays::HandOut;
 use crate::record::View;
@@ -31,6 +32,16 @@ pub enum OpenFault {
     SlotCount,
 }
 
+/// A mask of no tags for each word, in a block of memory that has no line in common with another caller's.
+fn none_held(alloc: Global, words: usize) -> Result<Vec<u64>, AllocError>
+    requires { words ≤ MAX_DEPTH }
+    ensures { IfOk result (λ held. held.items ≡ replicate words 0) }
+{
+    let mut held = Vec::with_capacity(alloc, words + APART)?;
+    held.resize(words, 0u64)?;
+    Ok(held)
+}
+
 /// The next caller, from a seat that has the records of all that are still to come.
 fn next_caller<R>(
     alloc: Global,
@@ -47,7 +58,7 @@ fn next_caller<R>(
         × (rest.new.me ≡ (viewing (fresh map.now.shape (number + 1) (map.now.shape.callers - (number + 1))), []))) }
 {
     let layout = map.shape.layout;
-    let held = vec![in alloc; 0u64; layout.words() as usize]?;
+    let held = none_held(alloc, layout.words() as usize)?;
     let seat = map.table.shared.split_seat::<HandOut>(rest);
     Ok(Caller {
         seat,
@@ -58,6 +69,7 @@ fn next_caller<R>(
         won: 0,
         back: 0,
         shape: Snapshot::of(&map.shape),
+        apart: [0; APART],
     })
 }
 

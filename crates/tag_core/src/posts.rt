@@ -19,9 +19,8 @@ impl<R> Map<R> {
     {
         let word = caller.layout.word_of(tag) as usize;
         let bit = 1u64 << caller.layout.place_of(tag);
-        self.table
-            .shared
-            .store::<Posting>(&mut caller.seat, state_spot(tag), 1);
+        let table = &self.table.shared;
+        table.store::<Posting>(&mut caller.seat, state_spot(tag), 1);
         let held = caller.held[word] & !bit;
         caller.held[word] = held;
     }
@@ -37,13 +36,9 @@ impl<R> Map<R> {
     {
         let word = caller.layout.word_of(tag) as usize;
         let bit = 1u64 << caller.layout.place_of(tag);
-        let state = state_spot(tag);
-        if self
-            .table
-            .shared
-            .compare_exchange::<Taking>(&mut caller.seat, state, 1, 0)
-            != 1
-        {
+        let table = &self.table.shared;
+        let found = table.compare_exchange::<Taking>(&mut caller.seat, state_spot(tag), 1, 0);
+        if found != 1 {
             return false;
         }
         let held = caller.held[word] | bit;

@@ -21,12 +21,10 @@ impl<R> Map<R> {
         ensures unchanged { (record_of caller.new ≡ record_of caller.old) × SameMap caller.old caller.new }
     {
         let spot = state_spot(tag);
-        self.table.shared.load::<Fronting>(&mut caller.seat, spot);
-        let old = self
-            .table
-            .shared
-            .exchange(&mut caller.seat, tag as usize, new);
-        self.table.shared.load::<Ordering>(&mut caller.seat, spot);
+        let table = &self.table.shared;
+        table.load::<Fronting>(&mut caller.seat, spot);
+        let old = table.exchange(&mut caller.seat, tag as usize, new);
+        table.load::<Ordering>(&mut caller.seat, spot);
         old
     }
 }

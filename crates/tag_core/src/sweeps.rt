@@ -20,16 +20,12 @@ impl<R> Map<R> {
         ensures some { IsTrue result → (mask : ℕ) × (found : ℕ) × (mask ≢ 0) × (mask < 2 ^ 64)
             × AddsTwo (Word (Swap word mask)) (Word (Spill word mask found)) caller.old caller.new }
     {
-        let mask = self
-            .table
-            .shared
-            .swap::<Swapping>(&mut caller.seat, aside_spot(word), 0);
+        let table = &self.table.shared;
+        let mask = table.swap::<Swapping>(&mut caller.seat, aside_spot(word), 0);
         if mask == 0 {
             return false;
         }
-        self.table
-            .shared
-            .fetch_and::<Spilling>(&mut caller.seat, word_spot(word), !mask);
+        table.fetch_and::<Spilling>(&mut caller.seat, word_spot(word), !mask);
         true
     }
 }

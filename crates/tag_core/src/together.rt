@@ -59,6 +59,7 @@ impl<R> Together<R> {
             won,
             back,
             shape: _,
+            apart: _,
         } = caller;
         let note = map.table.shared.split_seat::<HandOut>(&mut seat);
         let held = count_tags(held.as_slice());

@@ -14,8 +14,8 @@ use Rattle.tag_core.proofs.Asking.{narrow, asked, recorded, knows, carries, slot
 use Rattle.std.proofs.lemmas.Nat.{one_shl}
 use Rattle.tag_core.proofs.map.Map.take.Goals as goal
 
-pub compare_exchange-requires : goal.compare_exchange-requires
-compare_exchange-requires g c =
+pub compare_exchange-found-requires : goal.compare_exchange-found-requires
+compare_exchange-found-requires g c =
     let m = c.args.self.now in let w = c.args.caller.now in let k = w.shape.value in let own = c.requires.caller in
     let R = g.row.R.Denot in let u : ℕ = c.args.tag in let lay : w.layout ≡ k.layout = w.told.0 in
     let i : ℕ = c.word_of-word.result in let b : ℕ = c.place_of.result in
@@ -23,8 +23,8 @@ compare_exchange-requires g c =
     let b_is : 1 * 2 ^ b % 2 ^ 64 ≡ 2 ^ place_of k.layout u = one_shl b 64 c.place_of.ensures.bound
     ∙ ap (λ (z : ℕ). 2 ^ z) (c.place_of.ensures.value ∙ ap (λ (z : Layout). place_of z u) lay) in
     let lu : u < k.layout.depth = subst (λ (z : Shape). u < z.layout.depth) (sym own.1) c.requires.within in
-    let a = asked m w own w.seat.id w.seat.me (state_at u) c.state_spot-state.result
-    (λ n. either (eqb n 1) 0 n) 1 0 took c.state_spot-state.ensures (state_in k.layout u lu)
+    let a = asked m w own w.seat.id w.seat.me (state_at u) c.state_spot.result
+    (λ n. either (eqb n 1) 0 n) 1 0 took c.state_spot.ensures (state_in k.layout u lu)
     (take_allowed R k (narrow m w own) w.seat.id w.seat.me (record_of w) w.knows w.carries u lu) in (own.0, a.0, a.1)
 
 pub invariant_of-caller : goal.invariant_of-caller
@@ -36,11 +36,11 @@ invariant_of-caller g c =
     let b_is : 1 * 2 ^ b % 2 ^ 64 ≡ 2 ^ place_of k.layout u = one_shl b 64 c.place_of.ensures.bound
     ∙ ap (λ (z : ℕ). 2 ^ z) (c.place_of.ensures.value ∙ ap (λ (z : Layout). place_of z u) lay) in
     let lu : u < k.layout.depth = subst (λ (z : Shape). u < z.layout.depth) (sym own.1) c.requires.within in
-    let did = c.compare_exchange.ensures.2 u (record_of w) c.state_spot-state.ensures w.knows in
-    let miss = (did.1 c.if-compare_exchange-ne1.true).1 in record {
+    let did = c.compare_exchange-found.ensures.2 u (record_of w) c.state_spot.ensures w.knows in
+    let miss = (did.1 c.if-found-ne1.true).1 in record {
       told = w.told;
       knows = knows w
-          (Take u 0 None) c.compare_exchange.new.seat.me miss w.held.items w.won w.back refl refl (plus_none w.won)
+          (Take u 0 None) c.compare_exchange-found.new.seat.me miss w.held.items w.won w.back refl refl (plus_none w.won)
           (plus_none w.back);
       carries = miss.carries;
       wide = w.wide;
@@ -48,8 +48,8 @@ invariant_of-caller g c =
       few_back = w.few_back;
     }
 
-pub returns-then-compare_exchange-ne1-clause-missed : goal.returns-then-compare_exchange-ne1-clause-missed
-returns-then-compare_exchange-ne1-clause-missed g c =
+pub returns-then-found-ne1-clause-missed : goal.returns-then-found-ne1-clause-missed
+returns-then-found-ne1-clause-missed g c =
     let m = c.args.self.now in let w = c.args.caller.now in let k = w.shape.value in let own = c.requires.caller in
     let R = g.row.R.Denot in let u : ℕ = c.args.tag in let lay : w.layout ≡ k.layout = w.told.0 in
     let i : ℕ = c.word_of-word.result in let b : ℕ = c.place_of.result in
@@ -57,16 +57,16 @@ returns-then-compare_exchange-ne1-clause-missed g c =
     let b_is : 1 * 2 ^ b % 2 ^ 64 ≡ 2 ^ place_of k.layout u = one_shl b 64 c.place_of.ensures.bound
     ∙ ap (λ (z : ℕ). 2 ^ z) (c.place_of.ensures.value ∙ ap (λ (z : Layout). place_of z u) lay) in
     let lu : u < k.layout.depth = subst (λ (z : Shape). u < z.layout.depth) (sym own.1) c.requires.within in
-    let did = c.compare_exchange.ensures.2 u (record_of w) c.state_spot-state.ensures w.knows in
-    let miss = (did.1 c.if-compare_exchange-ne1.true).1 in
+    let did = c.compare_exchange-found.ensures.2 u (record_of w) c.state_spot.ensures w.knows in
+    let miss = (did.1 c.if-found-ne1.true).1 in
     λ _. record {
       known = recorded w
-          (Take u 0 None) c.compare_exchange.new.seat.me miss w.held.items w.won w.back refl refl (plus_none w.won)
+          (Take u 0 None) c.compare_exchange-found.new.seat.me miss w.held.items w.won w.back refl refl (plus_none w.won)
           (plus_none w.back);
       slots =
-          slots w (Take u 0 None) c.compare_exchange.new.seat.me miss w.held.items w.won w.back refl refl (plus_none w.won)
+          slots w (Take u 0 None) c.compare_exchange-found.new.seat.me miss w.held.items w.won w.back refl refl (plus_none w.won)
           (plus_none w.back);
-      same_map = c.compare_exchange.ensures.0;
+      same_map = c.compare_exchange-found.ensures.0;
     }
 
 pub invariant_of-caller-2 : goal.invariant_of-caller-2
@@ -78,7 +78,7 @@ invariant_of-caller-2 g c =
     let b_is : 1 * 2 ^ b % 2 ^ 64 ≡ 2 ^ place_of k.layout u = one_shl b 64 c.place_of.ensures.bound
     ∙ ap (λ (z : ℕ). 2 ^ z) (c.place_of.ensures.value ∙ ap (λ (z : Layout). place_of z u) lay) in
     let lu : u < k.layout.depth = subst (λ (z : Shape). u < z.layout.depth) (sym own.1) c.requires.within in
-    let did = c.compare_exchange.ensures.2 u (record_of w) c.state_spot-state.ensures w.knows in
+    let did = c.compare_exchange-found.ensures.2 u (record_of w) c.state_spot.ensures w.knows in
     let got = did.0 (search rules) in
     let was : c.index.result.now ≡ slice_index w.held.items i = get_or_read w.held.items i c.index.result.now
     (subst (λ (z : ℕ × ℕ). z.0 < z.1) (λ j. (sym i_is j, sym w.wide j)) (word_of-below k.layout u lu)) c.index.ensures 0 in
@@ -89,9 +89,9 @@ invariant_of-caller-2 g c =
     ∙ ap (λ (z : ℕ). slice_set w.held.items i (bit_or z (1 * 2 ^ b % 2 ^ 64))) (sym was) in
     record {
       told = w.told;
-      knows = knows w (Take u 1 (Some got.0)) c.compare_exchange.new.seat.me got.2 held w.won w.back held_is refl
+      knows = knows w (Take u 1 (Some got.0)) c.compare_exchange-found.new.seat.me got.2 held w.won w.back held_is refl
           (plus_none w.won) (plus_none w.back);
-      carries = carries w (Take u 1 (Some got.0)) c.compare_exchange.new.seat.me got.2 held w.won w.back held_is refl
+      carries = carries w (Take u 1 (Some got.0)) c.compare_exchange-found.new.seat.me got.2 held w.won w.back held_is refl
           (plus_none w.won) (plus_none w.back);
       wide = length-set w.held.items i _ ∙ w.wide;
       unspent = w.unspent;
@@ -107,7 +107,7 @@ returns-clause-won g c =
     let b_is : 1 * 2 ^ b % 2 ^ 64 ≡ 2 ^ place_of k.layout u = one_shl b 64 c.place_of.ensures.bound
     ∙ ap (λ (z : ℕ). 2 ^ z) (c.place_of.ensures.value ∙ ap (λ (z : Layout). place_of z u) lay) in
     let lu : u < k.layout.depth = subst (λ (z : Shape). u < z.layout.depth) (sym own.1) c.requires.within in
-    let did = c.compare_exchange.ensures.2 u (record_of w) c.state_spot-state.ensures w.knows in
+    let did = c.compare_exchange-found.ensures.2 u (record_of w) c.state_spot.ensures w.knows in
     let got = did.0 (search rules) in
     let was : c.index.result.now ≡ slice_index w.held.items i = get_or_read w.held.items i c.index.result.now
     (subst (λ (z : ℕ × ℕ). z.0 < z.1) (λ j. (sym i_is j, sym w.wide j)) (word_of-below k.layout u lu)) c.index.ensures 0 in
@@ -120,11 +120,11 @@ returns-clause-won g c =
       got.0,
       got.1,
       record {
-        known = recorded w (Take u 1 (Some got.0)) c.compare_exchange.new.seat.me got.2 held w.won w.back held_is refl
+        known = recorded w (Take u 1 (Some got.0)) c.compare_exchange-found.new.seat.me got.2 held w.won w.back held_is refl
             (plus_none w.won) (plus_none w.back);
         slots =
-            slots w (Take u 1 (Some got.0)) c.compare_exchange.new.seat.me got.2 held w.won w.back held_is refl (plus_none w.won)
+            slots w (Take u 1 (Some got.0)) c.compare_exchange-found.new.seat.me got.2 held w.won w.back held_is refl (plus_none w.won)
             (plus_none w.back);
-        same_map = c.compare_exchange.ensures.0;
+        same_map = c.compare_exchange-found.ensures.0;
       },
     )
