@@ -33,12 +33,10 @@ use Rattle.tag_core.proofs.Picks.{among, placed}
 use Rattle.tag_core.proofs.Turns.{held_from, posted_from, posted_small}
 use Rattle.tag_core.proofs.Owing.{claim_owed, give_owed, look_owed, look_aside_owed, miss_owed, held_shown}
 use Rattle.tag_core.proofs.OwingTags.{put_owed, post_owed, take_owed, swap_owed, spill_owed}
-use Rattle.tag_core.proofs.Stand.{word_at_one, aside_at_one, state_at_one}
+use Rattle.tag_core.proofs.Stand.{word_at_one, aside_at_one}
+use Rattle.tag_core.proofs.Singles.{same_record, same_state}
 use Rattle.tag_core.proofs.Advance.{Owed}
 use Rattle.tag_core.proofs.Moving.{moved, kept, told}
-
-same_record : {R : Type 0} (a b : Record R) → alone a ≡ alone b → a ≡ b
-same_record a b e = some-injective a b (ap (λ (v : View _). get_elem? v.records.value 0) e)
 
 -- a tag that is posted after an event that brings none there was posted before
 unposted : (b : Bool) (p q : Place) → (p ≡ posted → q ≡ posted) → cond b p q ≡ posted → q ≡ posted
@@ -212,10 +210,10 @@ module _ (R : Type 0) (k : Shape) (narrow : k.layout.shift ≤ 6) (id : ℕ) (me
 
   -- a store of 1 in a held tag's state
   pub post_allowed : (u : ℕ) (y : R) → u < k.layout.depth → tag_bit k.layout r.held u ≡ 1 → value_of me.1 u ≡ some y
-      → Allows (Shown k) k.layout.depth id me (state_at u) (λ _. 1)
-      (λ _. plays.posted (step k.layout.depth (state_at u) 1 0 none) me 1)
+      → Allows (Shown k) k.layout.depth id me (state_at k.layout u) (λ _. 1)
+      (λ _. plays.posted (step k.layout.depth (state_at k.layout u) 1 0 none) me 1)
   post_allowed u y lu has val s sh deep at _ = let o = ok s sh deep at in
-      let z = answer s sh deep at (Post u y) (set s.words (state_at u) 1) (post_owed R k narrow s sh r o u y lu has)
+      let z = answer s sh deep at (Post u y) (set s.words (state_at k.layout u) 1) (post_owed R k narrow s sh r o u y lu has)
       (λ t l e. dite (ℕ_discrete t u)
       (λ (same : t ≡ u). inr (
         held_from r.number _ (o.held t l ∙ ap (tag_bit k.layout r.held) same ∙ has),
@@ -233,9 +231,9 @@ module _ (R : Type 0) (k : Shape) (narrow : k.layout.shift ≤ 6) (id : ℕ) (me
         z.3,
         λ u' y' r' eu ey er. subst (λ (x : ℕ × R × Record R). Stepped (Post x.0 x.1) x.2 me (z.0, carried_after me.1 z.1))
             (λ j. (
-              state_at_one u u' eu j,
+              same_state k r r' u u' o.shape (same_record r r' (sym mine ∙ er)) eu j,
               some-injective y y'
-                  (sym val ∙ ap (value_of me.1) (state_at_one u u' eu) ∙ ey) j,
+                  (sym val ∙ ap (value_of me.1) (same_state k r r' u u' o.shape (same_record r r' (sym mine ∙ er)) eu) ∙ ey) j,
               same_record r r' (sym mine ∙ er) j,
             )) z.4,
       )
@@ -260,22 +258,22 @@ module _ (R : Type 0) (k : Shape) (narrow : k.layout.shift ≤ 6) (id : ℕ) (me
 
   -- the two ends of a compare-exchange
   pub take_allowed : (u : ℕ) → u < k.layout.depth
-      → Allows (Shown k) k.layout.depth id me (state_at u) (λ n. either (eqb n 1) 0 n)
-      (took (step k.layout.depth (state_at u) 1 0 none) me)
+      → Allows (Shown k) k.layout.depth id me (state_at k.layout u) (λ n. either (eqb n 1) 0 n)
+      (took (step k.layout.depth (state_at k.layout u) 1 0 none) me)
   unfolding answer
-  take_allowed u lu s sh deep at _ = let n : ℕ = get_or s.words (state_at u) 0 in let o = ok s sh deep at in
+  take_allowed u lu s sh deep at _ = let n : ℕ = get_or s.words (state_at k.layout u) 0 in let o = ok s sh deep at in
       let shows : posted_bit ((world_of k sh.history).place u) ≡ n = (sh.tags u lu).posted ∙ sym (sh.cells.state u lu) in
       let small = posted_small ((world_of k sh.history).place u) in
       exchanged n 1 0 (λ x. (w : View R) × (a : Act R) × Valid s.homes me.1 a × Shown k record
-      { words = set s.words (state_at u) x; homes = homes_after s.homes me.1 a; views = set s.views id w }
-      × took (step k.layout.depth (state_at u) 1 0 none) me n (w, carried_after me.1 a))
+      { words = set s.words (state_at k.layout u) x; homes = homes_after s.homes me.1 a; views = set s.views id w }
+      × took (step k.layout.depth (state_at k.layout u) 1 0 none) me n (w, carried_after me.1 a))
       (λ (hit : n ≡ 1).
       let its : (world_of k sh.history).place u ≡ posted = posted_from _ (shows ∙ hit) in
       let last = post_there s sh u lu its in
       let owed = take_owed R k narrow s sh r o u 0 last.0 lu hit refl last.1 in
-      let z = answer s sh deep at (Take u 1 (Some last.0)) (set s.words (state_at u) 0) owed
+      let z = answer s sh deep at (Take u 1 (Some last.0)) (set s.words (state_at k.layout u) 0) owed
       (λ t l e. inl (unposted _ (held r.number) (G s sh t) (held_no_post r.number (G s sh t)) e, refl)) in
-      let go = moved R k s sh r (Take u 1 (Some last.0)) (set s.words (state_at u) 0) owed o me.1 carries deep in
+      let go = moved R k s sh r (Take u 1 (Some last.0)) (set s.words (state_at k.layout u) 0) owed o me.1 carries deep in
       let one : (u == u) ≡ true = eq-eqb u u refl in
       let not_mine : tag_bit k.layout r.held u ≢ 1 =
       (λ (e : tag_bit k.layout r.held u ≡ 1). let b : held_bit r.number posted ≡ 1 = ap (held_bit r.number) (sym its)
@@ -294,15 +292,15 @@ module _ (R : Type 0) (k : Shape) (narrow : k.layout.shift ≤ 6) (id : ℕ) (me
         λ u' r' eu er. (
           λ h. (
             last.0,
-            subst (λ (x : ℕ). value_of (carried_after me.1 go.act) x ≡ some last.0) (state_at_one u u' eu) val,
+            subst (λ (x : ℕ). value_of (carried_after me.1 go.act) x ≡ some last.0) (same_state k r r' u u' o.shape (same_record r r' (sym mine ∙ er)) eu) val,
             subst (λ (x : ℕ × Record R). Stepped (Take x.0 1 (Some last.0)) x.1 me (z.0, carried_after me.1 z.1))
-                (λ j. (state_at_one u u' eu j, same_record r r' (sym mine ∙ er) j)) z.4,
+                (λ j. (same_state k r r' u u' o.shape (same_record r r' (sym mine ∙ er)) eu j, same_record r r' (sym mine ∙ er) j)) z.4,
           ),
           λ h. absurd (h hit),
         ),
       ))
       (λ (miss : n ≢ 1). let zero_there : n ≡ 0 = omega arith in
-      let z = still s sh deep at (Take u 0 None) (state_at u) (miss_owed R k narrow s sh r o u lu zero_there)
+      let z = still s sh deep at (Take u 0 None) (state_at k.layout u) (miss_owed R k narrow s sh r o u lu zero_there)
       (λ t l e. inl (e, refl)) in (
         z.0,
         z.1,
@@ -313,7 +311,7 @@ module _ (R : Type 0) (k : Shape) (narrow : k.layout.shift ≤ 6) (id : ℕ) (me
           λ h. (
             zero_there,
             subst (λ (x : ℕ × Record R). Stepped (Take x.0 0 None) x.1 me (z.0, carried_after me.1 z.1))
-                (λ j. (state_at_one u u' eu j, same_record r r' (sym mine ∙ er) j)) z.4,
+                (λ j. (same_state k r r' u u' o.shape (same_record r r' (sym mine ∙ er)) eu j, same_record r r' (sym mine ∙ er) j)) z.4,
           ),
         ),
       ))

@@ -251,8 +251,8 @@ module _ (k : Shape) where
 
     -- the states that are 1
     pub posted_all : sum_below
-        (λ t. one_if (nat_eq (get_or s.words (state_at t) 0) 1)) k.layout.depth ≡ posted_in k.layout (world_of k sh.history)
-    posted_all = sum_below-same (λ t. one_if (nat_eq (get_or s.words (state_at t) 0) 1))
+        (λ t. one_if (nat_eq (get_or s.words (state_at k.layout t) 0) 1)) k.layout.depth ≡ posted_in k.layout (world_of k sh.history)
+    posted_all = sum_below-same (λ t. one_if (nat_eq (get_or s.words (state_at k.layout t) 0) 1))
         (λ t. one_if (is_posted ((world_of k sh.history).place t))) k.layout.depth
         (λ t l. ap (λ (z : ℕ). one_if (nat_eq z 1)) (sh.cells.state t l ∙ sym (sh.tags t l).posted)
         ∙ zero_or_one ((world_of k sh.history).place t))

@@ -18,7 +18,7 @@ use Rattle.tag_core.specs.Views.{alone}
 use Rattle.tag_core.specs.Rule.{SlotIs, IsKnown, Shown}
 use Rattle.tag_core.specs.Plays.{fronted, ordered}
 use Rattle.tag_core.proofs.Turns.{held_from}
-use Rattle.tag_core.proofs.Stand.{state_at_one}
+use Rattle.tag_core.proofs.Singles.{same_record, same_state}
 use Rattle.tag_core.proofs.Acts.{moves}
 
 -- what stands in a list already
@@ -139,9 +139,6 @@ module _ (R : Type 0) (k : Shape) (id : ℕ) (me : Me R (View R)) (r : Record R)
   abbrev f : ℕ → ℕ
   f = tag_bit k.layout r.held
 
-  one_record : (a b : Record R) → alone a ≡ alone b → a ≡ b
-  one_record a b e = some-injective a b (ap (λ (v : View R). get_elem? v.records.value 0) e)
-
   module _ (s : State R (View R)) (sh : Shown k s) (at : get_elem? s.views id ≡ some me.0) where
     ok : IsKnown k sh.history r
     ok = (sh.records id (alone r) (at ∙ ap some mine) 0 r refl).0
@@ -151,20 +148,20 @@ module _ (R : Type 0) (k : Shape) (id : ℕ) (me : Me R (View R)) (r : Record R)
 
   -- the table allows a load that brings a held tag's slot to the front
   pub front_allowed : Carries k.layout r.held me.1
-      → Allows (Shown k) k.layout.depth id me (state_at u) (λ n. n) (fronted (step k.layout.depth (state_at u) 0 0 none) me)
+      → Allows (Shown k) k.layout.depth id me (state_at k.layout u) (λ n. n) (fronted (step k.layout.depth (state_at k.layout u) 0 0 none) me)
   front_allowed carries s sh deep at _ =
       let go = fronts R k.layout.depth (tag_bit k.layout r.held) u lu has s.homes deep (out_there s sh at) me.1 carries in
       let shape = (ok s sh at).shape in (
         me.0,
         go.act,
         go.valid,
-        same_homes R k s (homes_after s.homes me.1 go.act) sh go.same id (state_at u) me.0 at,
+        same_homes R k s (homes_after s.homes me.1 go.act) sh go.same id (state_at k.layout u) me.0 at,
         λ u' r' eu er lu' has'. subst
             (λ (x : ℕ × Record R). (value : R) × (slots : List (ℕ × R)) × (me.0 ≡ me.0) ×
             (carried_after me.1 go.act ≡ (x.0, value) ∷ slots) × (value_of me.1 x.0 ≡ some value)
             × (map (λ y. y.0) slots ≡ tags_from (but (tag_bit x.1.shape.layout x.1.held) x.0) 0 x.1.shape.layout.depth)
             × ((t : ℕ) → t < x.1.shape.layout.depth → t ≢ x.0 → tag_bit x.1.shape.layout x.1.held t ≡ 1
-            → value_of slots t ≡ value_of me.1 t)) (λ j. (state_at_one u u' eu j, one_record r r' (sym mine ∙ er) j))
+            → value_of slots t ≡ value_of me.1 t)) (λ j. (same_state k r r' u u' shape (same_record r r' (sym mine ∙ er)) eu j, same_record r r' (sym mine ∙ er) j))
             (subst (λ (z : Shape). (value : R) × (slots : List (ℕ × R)) × (me.0 ≡ me.0) ×
             (carried_after me.1 go.act ≡ (u, value) ∷ slots) × (value_of me.1 u ≡ some value)
             × (map (λ y. y.0) slots ≡ tags_from (but (tag_bit z.layout r.held) u) 0 z.layout.depth)
@@ -175,7 +172,7 @@ module _ (R : Type 0) (k : Shape) (id : ℕ) (me : Me R (View R)) (r : Record R)
   -- the table allows a load that puts it back
   pub order_allowed : (value : R) (slots : List (ℕ × R)) → me.1 ≡ (u, value) ∷ slots
       → map (λ x. x.0) slots ≡ tags_from (but (tag_bit k.layout r.held) u) 0 k.layout.depth
-      → Allows (Shown k) k.layout.depth id me (state_at u) (λ n. n) (ordered (step k.layout.depth (state_at u) 0 0 none) me)
+      → Allows (Shown k) k.layout.depth id me (state_at k.layout u) (λ n. n) (ordered (step k.layout.depth (state_at k.layout u) 0 0 none) me)
   order_allowed value slots list tags s sh deep at _ = let shape = (ok s sh at).shape in
       let go = subst (Order R k.layout.depth (tag_bit k.layout r.held) u lu has s.homes deep
       (out_there s sh at) value slots) (sym list)
@@ -183,7 +180,7 @@ module _ (R : Type 0) (k : Shape) (id : ℕ) (me : Me R (View R)) (r : Record R)
         me.0,
         go.act,
         go.valid,
-        same_homes R k s (homes_after s.homes me.1 go.act) sh go.same id (state_at u) me.0 at,
+        same_homes R k s (homes_after s.homes me.1 go.act) sh go.same id (state_at k.layout u) me.0 at,
         λ u' v' xs' r' eu er el et eh. let same_list : (u, value) ∷ slots ≡ (u', v') ∷ xs' = sym list ∙ el in
             let same_value : value ≡ v' = ap (λ (z : ℕ × R). z.1)
             (some-injective (u, value) (u', v') (ap (λ (z : List (ℕ × R)). get_elem? z 0) same_list)) in
@@ -192,7 +189,7 @@ module _ (R : Type 0) (k : Shape) (id : ℕ) (me : Me R (View R)) (r : Record R)
             (carried_after me.1 go.act) × (value_of (carried_after me.1 go.act) x.0 ≡ some x.2)
             × ((t : ℕ) → t < x.1.shape.layout.depth → t ≢ x.0 → tag_bit x.1.shape.layout x.1.held t ≡ 1
             → value_of (carried_after me.1 go.act) t ≡ value_of x.3 t))
-            (λ j. (state_at_one u u' eu j, one_record r r' (sym mine ∙ er) j, same_value j, same_slots j))
+            (λ j. (same_state k r r' u u' shape (same_record r r' (sym mine ∙ er)) eu j, same_record r r' (sym mine ∙ er) j, same_value j, same_slots j))
             (subst (λ (z : Shape). (me.0 ≡ me.0) × Carries z.layout r.held (carried_after me.1 go.act) ×
             (value_of (carried_after me.1 go.act) u ≡ some value)
             × ((t : ℕ) → t < z.layout.depth → t ≢ u → tag_bit z.layout r.held t ≡ 1

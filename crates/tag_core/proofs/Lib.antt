@@ -2,6 +2,7 @@ pub mod Picks
 pub mod Turns
 pub mod Masks
 pub mod Stand
+pub mod Singles
 pub mod Counts
 pub mod Seats
 pub mod Within

@@ -53,7 +53,7 @@ module _ (R : Type 0) (k : Shape) (narrow : k.layout.shift ≤ 6) (s : State R (
             ∙ ap (λ (z : ℕ). changed_at now_cells.words.word i z j) same;
         aside = λ j l. get_or-set_other s.words (word_at i) (aside_at j) x 0 (λ e. word_no_aside i j (sym e))
             ∙ sh.cells.aside j l;
-        state = λ t l. get_or-set_other s.words (word_at i) (state_at t) x 0 (λ e. word_no_state i t (sym e))
+        state = λ t l. get_or-set_other s.words (word_at i) (state_at k.layout t) x 0 (λ e. word_no_state k.layout i t h (sym e))
             ∙ sh.cells.state t l;
         word_within = changed_within k narrow now_cells.words.word i x' fits sh.cells.word_within;
         aside_within = sh.cells.aside_within;
@@ -71,7 +71,7 @@ module _ (R : Type 0) (k : Shape) (narrow : k.layout.shift ≤ 6) (s : State R (
         aside = λ j l. set_spread s.words aside_at now_cells.words.aside
             (words k.layout) i x aside_at_one inside sh.cells.aside j l
             ∙ ap (λ (z : ℕ). changed_at now_cells.words.aside i z j) same;
-        state = λ t l. get_or-set_other s.words (aside_at i) (state_at t) x 0 (λ e. aside_no_state i t (sym e))
+        state = λ t l. get_or-set_other s.words (aside_at i) (state_at k.layout t) x 0 (λ e. aside_no_state k.layout i t h (sym e))
             ∙ sh.cells.state t l;
         word_within = sh.cells.word_within;
         aside_within = changed_within k narrow now_cells.words.aside i x' fits sh.cells.aside_within;
@@ -79,14 +79,14 @@ module _ (R : Type 0) (k : Shape) (narrow : k.layout.shift ≤ 6) (s : State R (
 
   -- after a change of one tag's state
   pub state_cells : (u x : ℕ) → u < k.layout.depth
-      → HasCells k (set s.words (state_at u) x) (record now_cells { state = changed_at now_cells.state u x })
+      → HasCells k (set s.words (state_at k.layout u) x) (record now_cells { state = changed_at now_cells.state u x })
   state_cells u x h =
-      let inside : state_at u < length s.words = subst (λ (z : ℕ). state_at u < z) (sym sh.cells.wide)
+      let inside : state_at k.layout u < length s.words = subst (λ (z : ℕ). state_at k.layout u < z) (sym sh.cells.wide)
       (state_in k.layout u h) in record {
-        wide = length-set s.words (state_at u) x ∙ sh.cells.wide;
-        word = λ j l. get_or-set_other s.words (state_at u) (word_at j) x 0 (word_no_state j u) ∙ sh.cells.word j l;
-        aside = λ j l. get_or-set_other s.words (state_at u) (aside_at j) x 0 (aside_no_state j u) ∙ sh.cells.aside j l;
-        state = set_spread s.words state_at now_cells.state k.layout.depth u x state_at_one inside sh.cells.state;
+        wide = length-set s.words (state_at k.layout u) x ∙ sh.cells.wide;
+        word = λ j l. get_or-set_other s.words (state_at k.layout u) (word_at j) x 0 (word_no_state k.layout j u l) ∙ sh.cells.word j l;
+        aside = λ j l. get_or-set_other s.words (state_at k.layout u) (aside_at j) x 0 (aside_no_state k.layout j u l) ∙ sh.cells.aside j l;
+        state = set_spread s.words (state_at k.layout) now_cells.state k.layout.depth u x (state_at_one k.layout) inside sh.cells.state;
         word_within = sh.cells.word_within;
         aside_within = sh.cells.aside_within;
       }
@@ -251,7 +251,7 @@ module _ (R : Type 0) (k : Shape) (narrow : k.layout.shift ≤ 6) (s : State R (
   }
 
   -- a take that found no post
-  pub miss_owed : (u : ℕ) → u < k.layout.depth → get_or s.words (state_at u) 0 ≡ 0 → Unmoved (Take u 0 None)
+  pub miss_owed : (u : ℕ) → u < k.layout.depth → get_or s.words (state_at k.layout u) 0 ≡ 0 → Unmoved (Take u 0 None)
   miss_owed u l e = record {
     finds = sym e ∙ sh.cells.state u l;
     value = tt;

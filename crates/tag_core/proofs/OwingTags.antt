@@ -92,7 +92,7 @@ module _ (R : Type 0) (k : Shape) (narrow : k.layout.shift ≤ 6) (s : State R (
 
   -- a post of a held tag
   pub post_owed : (u : ℕ) (y : R) → u < k.layout.depth → tag_bit k.layout r.held u ≡ 1
-      → Owed R k s sh r (Post u y) (set s.words (state_at u) 1)
+      → Owed R k s sh r (Post u y) (set s.words (state_at k.layout u) 1)
   post_owed u y lu has = record {
     finds = tt;
     value = tt;
@@ -118,8 +118,8 @@ module _ (R : Type 0) (k : Shape) (narrow : k.layout.shift ≤ 6) (s : State R (
   }
 
   -- a compare-exchange of 1 by 0 that found the state 1
-  pub take_owed : (u f : ℕ) (y : R) → u < k.layout.depth → get_or s.words (state_at u) 0 ≡ suc f → f ≡ 0
-      → last_post u sh.history ≡ some y → Owed R k s sh r (Take u (suc f) (Some y)) (set s.words (state_at u) 0)
+  pub take_owed : (u f : ℕ) (y : R) → u < k.layout.depth → get_or s.words (state_at k.layout u) 0 ≡ suc f → f ≡ 0
+      → last_post u sh.history ≡ some y → Owed R k s sh r (Take u (suc f) (Some y)) (set s.words (state_at k.layout u) 0)
   take_owed u f y lu is one last = let shown : now_cells.state u ≡ suc f = sym (sh.cells.state u lu) ∙ is in
       let its : now_world.place u ≡ posted = posted_from (now_world.place u)
       ((sh.tags u lu).posted ∙ shown ∙ ap suc one) in record {

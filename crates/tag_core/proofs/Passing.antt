@@ -83,7 +83,7 @@ module _ (R : Type 0) (k : Shape) where
       wide = wide;
       word = λ i l. blank (word_at i);
       aside = λ i l. blank (aside_at i);
-      state = λ t l. blank (state_at t);
+      state = λ t l. blank (state_at k.layout t);
       word_within = λ i l. pow_pos (word_depth k.layout i);
       aside_within = λ i l. pow_pos (word_depth k.layout i);
     };

@@ -1,11 +1,10 @@
 -- Words, cleared sets and states stand apart in the table, and tags in their words.
-use Rattle.std.proofs.Common.{◌≡◌, ◌≢◌, ℕ, ◌+◌, ◌*◌, ◌^◌, ◌<◌, ◌≤◌, List, length, get_or, set, cond, Bool, arith, sym, ap, ◌∙◌, get_or-set_other, get_or-set_same, eq-eqb, ne_eqb}
+use Rattle.std.proofs.Common.{◌≡◌, ◌≢◌, ℕ, ◌+◌, ◌*◌, ◌^◌, ◌<◌, List, length, get_or, set, cond, Bool, arith, sym, ap, ◌∙◌, get_or-set_other, get_or-set_same, eq-eqb, ne_eqb}
 use mathlib.Core.Logic.{dite}
 use native.Mathlib.Decide.{ℕ_discrete}
 use Rattle.std.proofs.lemmas.Nat.{pow_below, div-add-mod'}
-use Rattle.std.proofs.Math.Nat.{mul-le-mul_left}
 use Rattle.tag_layout.specs.Layout.{Layout, word_bits, words, word_depth, word_of, place_of}
-use Rattle.tag_layout.proofs.PlaceFacts.{word-start, word_bits-pos, place_of-below}
+use Rattle.tag_layout.proofs.PlaceFacts.{place_of-below}
 use Rattle.tag_core.specs.Steps.{changed_at}
 use Rattle.tag_core.specs.Spacing.{word_at, aside_at, state_at, table_width}
 
@@ -20,9 +19,9 @@ unfolding aside_at
 aside_at_one i j e = omega arith
 
 -- so do states
-pub state_at_one : (i j : ℕ) → state_at i ≡ state_at j → i ≡ j
+pub state_at_one : (l : Layout) (i j : ℕ) → state_at l i ≡ state_at l j → i ≡ j
 unfolding state_at
-state_at_one i j e = omega arith
+state_at_one l i j e = omega arith
 
 -- no word stands at the place of a cleared set
 pub word_no_aside : (i j : ℕ) → word_at i ≢ aside_at j
@@ -30,33 +29,27 @@ unfolding word_at aside_at
 word_no_aside i j e = omega arith
 
 -- nor at that of a state
-pub word_no_state : (i j : ℕ) → word_at i ≢ state_at j
+pub word_no_state : (l : Layout) (i j : ℕ) → i < words l → word_at i ≢ state_at l j
 unfolding word_at state_at
-word_no_state i j e = omega arith
+word_no_state l i j h e = omega arith
 
 -- no cleared set stands at the place of a state
-pub aside_no_state : (i j : ℕ) → aside_at i ≢ state_at j
+pub aside_no_state : (l : Layout) (i j : ℕ) → i < words l → aside_at i ≢ state_at l j
 unfolding aside_at state_at
-aside_no_state i j e = omega arith
-
--- there are no more words than tags
-word_below_depth : (l : Layout) (i : ℕ) → i < words l → i < l.depth
-word_below_depth l i h =
-    let start : i * word_bits l < l.depth = word-start l i h in let pos = word_bits-pos l in
-    let more : i * 1 ≤ i * word_bits l = mul-le-mul_left i pos in omega arith
+aside_no_state l i j h e = omega arith
 
 -- each word stands in the table
 pub word_in : (l : Layout) (i : ℕ) → i < words l → word_at i < table_width l
 unfolding word_at table_width
-word_in l i h = let low = word_below_depth l i h in omega arith
+word_in l i h = omega arith
 
 -- each cleared set does
 pub aside_in : (l : Layout) (i : ℕ) → i < words l → aside_at i < table_width l
 unfolding aside_at table_width
-aside_in l i h = let low = word_below_depth l i h in omega arith
+aside_in l i h = omega arith
 
 -- each state does
-pub state_in : (l : Layout) (t : ℕ) → t < l.depth → state_at t < table_width l
+pub state_in : (l : Layout) (t : ℕ) → t < l.depth → state_at l t < table_width l
 unfolding state_at table_width
 state_in l t h = omega arith
 

@@ -77,20 +77,20 @@ module _ {R : Type 0} (st : table.Step R) (me : Me R (View R)) (found : ℕ) (me
   -- a store of 1 in a held tag's state
   abbrev pub posted : Type 0
   posted =
-      (tag : ℕ) (value : R) (r : Record R) → st.word ≡ state_at tag → value_of me.1 tag ≡ some value → me.0 ≡ alone r
+      (tag : ℕ) (value : R) (r : Record R) → st.word ≡ state_at r.shape.layout tag → value_of me.1 tag ≡ some value → me.0 ≡ alone r
       → Stepped (Post tag value) r me me'
 
   -- an exchange of a state's 1 for 0: where it was 1, the slot that came has the value of the tag's last Post
   abbrev pub took : Type 0
   took =
-      (tag : ℕ) (r : Record R) → st.word ≡ state_at tag → me.0 ≡ alone r
+      (tag : ℕ) (r : Record R) → st.word ≡ state_at r.shape.layout tag → me.0 ≡ alone r
       → (found ≡ 1 → (value : R) × (value_of me'.1 tag ≡ some value) × Stepped (Take tag 1 (Some value)) r me me')
       × (found ≢ 1 → (found ≡ 0) × Stepped (Take tag 0 None) r me me')
 
   -- a load that brings a held tag's slot to the front
   abbrev pub fronted : Type 0
   fronted =
-      (tag : ℕ) (r : Record R) → st.word ≡ state_at tag → me.0 ≡ alone r
+      (tag : ℕ) (r : Record R) → st.word ≡ state_at r.shape.layout tag → me.0 ≡ alone r
       → tag < r.shape.layout.depth → tag_bit r.shape.layout r.held tag ≡ 1
       → (value : R) × (slots : List (ℕ × R)) × (me'.0 ≡ me.0) × (me'.1 ≡ (tag, value) ∷ slots) × (value_of me.1 tag ≡ some value)
       × (map (λ x. x.0) slots ≡ tags_from (but (tag_bit r.shape.layout r.held) tag) 0 r.shape.layout.depth)
@@ -100,7 +100,7 @@ module _ {R : Type 0} (st : table.Step R) (me : Me R (View R)) (found : ℕ) (me
   -- a load that puts it back into its order
   abbrev pub ordered : Type 0
   ordered =
-      (tag : ℕ) (value : R) (slots : List (ℕ × R)) (r : Record R) → st.word ≡ state_at tag → me.0 ≡ alone r
+      (tag : ℕ) (value : R) (slots : List (ℕ × R)) (r : Record R) → st.word ≡ state_at r.shape.layout tag → me.0 ≡ alone r
       → me.1 ≡ (tag, value) ∷ slots
       → map (λ x. x.0) slots ≡ tags_from (but (tag_bit r.shape.layout r.held) tag) 0 r.shape.layout.depth
       → tag_bit r.shape.layout r.held tag ≡ 1

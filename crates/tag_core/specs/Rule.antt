@@ -28,7 +28,7 @@ pub record HasCells (k : Shape) (table : List ℕ) (c : Cells) : Type 0 where
   pub wide : length table ≡ table_width k.layout
   pub word : (i : ℕ) → i < words k.layout → slice_index table (word_at i) ≡ c.words.word i
   pub aside : (i : ℕ) → i < words k.layout → slice_index table (aside_at i) ≡ c.words.aside i
-  pub state : (tag : ℕ) → tag < k.layout.depth → slice_index table (state_at tag) ≡ c.state tag
+  pub state : (tag : ℕ) → tag < k.layout.depth → slice_index table (state_at k.layout tag) ≡ c.state tag
   pub word_within : (i : ℕ) → i < words k.layout → IsWithin k.layout i (c.words.word i)
   pub aside_within : (i : ℕ) → i < words k.layout → IsWithin k.layout i (c.words.aside i)
 

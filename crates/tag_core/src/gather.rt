@@ -22,11 +22,11 @@ use tag_model::Totals;
 
 fn count_posted<R>(ended: &Ended<R, Global>, layout: Layout) -> u64
     requires { IsFull ended.now.words × (slots_len ended.now.words ≡ table_width layout) }
-    ensures value { result ≡ sum_below (λ tag. one_if (nat_eq (slice_index (slots_items ended.now.words) (state_at tag)) 1)) layout.depth }
+    ensures value { result ≡ sum_below (λ tag. one_if (nat_eq (slice_index (slots_items ended.now.words) (state_at layout tag)) 1)) layout.depth }
 {
     let mut posted = 0u64;
     for tag in 0..layout.depth() {
-        if ended.word(state_spot(tag)) == 1 {
+        if ended.word(state_spot(layout, tag)) == 1 {
             posted += 1;
         }
     }

@@ -20,7 +20,7 @@ impl<R> Map<R> {
         let word = caller.layout.word_of(tag) as usize;
         let bit = 1u64 << caller.layout.place_of(tag);
         let table = &self.table.shared;
-        table.store::<Posting>(&mut caller.seat, state_spot(tag), 1);
+        table.store::<Posting>(&mut caller.seat, state_spot(caller.layout, tag), 1);
         let held = caller.held[word] & !bit;
         caller.held[word] = held;
     }
@@ -37,7 +37,8 @@ impl<R> Map<R> {
         let word = caller.layout.word_of(tag) as usize;
         let bit = 1u64 << caller.layout.place_of(tag);
         let table = &self.table.shared;
-        let found = table.compare_exchange::<Taking>(&mut caller.seat, state_spot(tag), 1, 0);
+        let state = state_spot(caller.layout, tag);
+        let found = table.compare_exchange::<Taking>(&mut caller.seat, state, 1, 0);
         if found != 1 {
             return false;
         }

@@ -20,7 +20,7 @@ impl<R> Map<R> {
         ensures others { (other : ℕ) → Holds caller.old other → other ≢ tag → slot_of caller.new other ≡ slot_of caller.old other }
         ensures unchanged { (record_of caller.new ≡ record_of caller.old) × SameMap caller.old caller.new }
     {
-        let spot = state_spot(tag);
+        let spot = state_spot(caller.layout, tag);
         let table = &self.table.shared;
         table.load::<Fronting>(&mut caller.seat, spot);
         let old = table.exchange(&mut caller.seat, tag as usize, new);

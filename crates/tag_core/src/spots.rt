@@ -1,5 +1,5 @@
 //! Where the words, the cleared sets and the states stand in the table. Nothing else knows the stride.
-ghost use Rattle.std.specs.Prelude.{◌≡◌};
+ghost use Rattle.std.specs.Prelude.{◌≡◌, ◌<◌};
 ghost use Rattle.tag_core.specs.Spacing.{word_at, aside_at, state_at, table_width};
 
 use tag_layout::Layout;
@@ -14,26 +14,27 @@ pub(crate) const SPARE: usize = 0;
 pub(crate) fn word_spot(word: u32) -> usize
     ensures { result ≡ word_at word }
 {
-    STRIDE * (3 * word as usize + 1)
+    STRIDE * (2 * word as usize + 1)
 }
 
 /// The place of a word's cleared set.
 pub(crate) fn aside_spot(word: u32) -> usize
     ensures { result ≡ aside_at word }
 {
-    STRIDE * (3 * word as usize + 2)
+    STRIDE * (2 * word as usize + 2)
 }
 
 /// The place of a tag's state.
-pub(crate) fn state_spot(tag: u32) -> usize
-    ensures { result ≡ state_at tag }
+pub(crate) fn state_spot(layout: Layout, tag: u32) -> usize
+    requires { tag < layout.depth }
+    ensures { result ≡ state_at layout tag }
 {
-    STRIDE * (3 * tag as usize + 3)
+    STRIDE * (2 * layout.words() as usize + tag as usize + 1)
 }
 
 /// Words of the table in all.
 pub(crate) fn table_words(layout: Layout) -> usize
     ensures { result ≡ table_width layout }
 {
-    STRIDE * (3 * layout.depth() as usize + 1)
+    STRIDE * (2 * layout.words() as usize + layout.depth() as usize + 1)
 }

@@ -2,6 +2,7 @@ use Rattle.std.proofs.Common.{rules, arith, ◌≡◌, ℕ, zero, suc, ◌+◌, 
 use mathlib.Core.Option.{some, some-injective, some-ne-none}
 use lib.ListN.{get_elem?}
 use Rattle.std.specs.Slots.{slots_items, slots_len}
+use Rattle.tag_layout.specs.Layout.{Layout}
 use Rattle.tag_layout.specs.Sums.{sum_below}
 use Rattle.tag_core.specs.Bits.{one_if}
 use Rattle.tag_core.specs.Spacing.{state_at}
@@ -12,7 +13,7 @@ use Rattle.tag_core.proofs.gather.count_posted.Goals as goal
 pub word-requires : goal.word-requires
 word-requires g c = let l : c.loop-tag.tag < c.args.layout.depth = search rules in (
   subst (λ (z : ℕ). z < slots_len c.args.ended.now.words) (sym c.state_spot.ensures)
-      (subst (λ (z : ℕ). state_at c.loop-tag.tag < z) (sym c.requires.1) (state_in c.args.layout c.loop-tag.tag l)),
+      (subst (λ (z : ℕ). state_at c.args.layout c.loop-tag.tag < z) (sym c.requires.1) (state_in c.args.layout c.loop-tag.tag l)),
   c.requires.0,
 )
 
@@ -22,27 +23,28 @@ read [] i x e = absurd (some-ne-none x (sym e))
 read (y ∷ l) zero x e = some-injective y x e
 read (y ∷ l) (suc i) x e = read l i x e
 
-abbrev ones : List ℕ → ℕ → ℕ
-ones ws n = sum_below (λ t. one_if (nat_eq (get_or ws (state_at t) 0) 1)) n
+-- states that are 1, of the first tags of a layout
+abbrev ones : Layout → List ℕ → ℕ → ℕ
+ones l ws n = sum_below (λ t. one_if (nat_eq (get_or ws (state_at l t) 0) 1)) n
 
 pub loop-tag-preserved : goal.loop-tag-preserved
 loop-tag-preserved g c =
-    let ws = slots_items c.args.ended.now.words in let t : ℕ = c.loop-tag.tag in let inv = c.loop-tag.invariant in
+    let l = c.args.layout in let ws = slots_items c.args.ended.now.words in let t : ℕ = c.loop-tag.tag in let inv = c.loop-tag.invariant in
     let next : suc t ≡ t + 1 = omega arith in
-    let is : get_or ws (state_at t) 0 ≡ c.word.result = ap (λ (z : ℕ). get_or ws z 0) (sym c.state_spot.ensures)
+    let is : get_or ws (state_at l t) 0 ≡ c.word.result = ap (λ (z : ℕ). get_or ws z 0) (sym c.state_spot.ensures)
     ∙ read ws c.state_spot.result c.word.result c.word.ensures in
-    let more : ones ws (suc t) ≡ ones ws t + one_if (nat_eq (get_or ws (state_at t) 0) 1) = refl in
+    let more : ones l ws (suc t) ≡ ones l ws t + one_if (nat_eq (get_or ws (state_at l t) 0) 1) = refl in
     elim c.if-word-eq1.branch [
-      | then-word-eq1 w ↦ (let one : one_if (nat_eq (get_or ws (state_at t) 0) 1) ≡ 1 = ap one_if
-          (eq-eqb (get_or ws (state_at t) 0) 1 (is ∙ w.if-word-eq1.true)) in
+      | then-word-eq1 w ↦ (let one : one_if (nat_eq (get_or ws (state_at l t) 0) 1) ≡ 1 = ap one_if
+          (eq-eqb (get_or ws (state_at l t) 0) 1 (is ∙ w.if-word-eq1.true)) in
           let p = w.posted-is in (
-            (let z : c.if-word-eq1.posted ≡ ones ws (suc t) = omega arith in z ∙ ap (ones ws) next),
+            (let z : c.if-word-eq1.posted ≡ ones l ws (suc t) = omega arith in z ∙ ap (ones l ws) next),
             (let b = inv.1 in omega arith),
           ))
-      | else-word-eq1 w ↦ (let none_here : one_if (nat_eq (get_or ws (state_at t) 0) 1) ≡ 0 = ap one_if
-          (ne_eqb (get_or ws (state_at t) 0) 1 (λ z. w.if-word-eq1.false (sym is ∙ z))) in
+      | else-word-eq1 w ↦ (let none_here : one_if (nat_eq (get_or ws (state_at l t) 0) 1) ≡ 0 = ap one_if
+          (ne_eqb (get_or ws (state_at l t) 0) 1 (λ z. w.if-word-eq1.false (sym is ∙ z))) in
           let p = w.posted-is in (
-            (let z : c.if-word-eq1.posted ≡ ones ws (suc t) = omega arith in z ∙ ap (ones ws) next),
+            (let z : c.if-word-eq1.posted ≡ ones l ws (suc t) = omega arith in z ∙ ap (ones l ws) next),
             (let b = inv.1 in omega arith),
           ))
     ]

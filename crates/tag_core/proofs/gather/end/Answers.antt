@@ -27,7 +27,7 @@ returns g c =
     let back = a.sums.1 ∙ back_all k s sh a.seat.id v at c.requires.all in
     let held = a.sums.2 ∙ held_all k s sh a.seat.id v at c.requires.all in
     let posted = c.count_posted-posted.ensures.value
-    ∙ ap (λ (z : List ℕ). sum_below (λ t. one_if (nat_eq (slice_index z (state_at t)) 1)) k.layout.depth) (sym last.2)
+    ∙ ap (λ (z : List ℕ). sum_below (λ t. one_if (nat_eq (slice_index z (state_at k.layout t)) 1)) k.layout.depth) (sym last.2)
     ∙ posted_all k s sh a.seat.id v at in
     let even = even_all k s sh a.seat.id v at in record {
       history = sh.history;

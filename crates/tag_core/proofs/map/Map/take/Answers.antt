@@ -23,8 +23,8 @@ compare_exchange-found-requires g c =
     let b_is : 1 * 2 ^ b % 2 ^ 64 ≡ 2 ^ place_of k.layout u = one_shl b 64 c.place_of.ensures.bound
     ∙ ap (λ (z : ℕ). 2 ^ z) (c.place_of.ensures.value ∙ ap (λ (z : Layout). place_of z u) lay) in
     let lu : u < k.layout.depth = subst (λ (z : Shape). u < z.layout.depth) (sym own.1) c.requires.within in
-    let a = asked m w own w.seat.id w.seat.me (state_at u) c.state_spot.result
-    (λ n. either (eqb n 1) 0 n) 1 0 took c.state_spot.ensures (state_in k.layout u lu)
+    let a = asked m w own w.seat.id w.seat.me (state_at k.layout u) c.state_spot-state.result
+    (λ n. either (eqb n 1) 0 n) 1 0 took (c.state_spot-state.ensures ∙ ap (λ (z : Layout). state_at z u) lay) (state_in k.layout u lu)
     (take_allowed R k (narrow m w own) w.seat.id w.seat.me (record_of w) w.knows w.carries u lu) in (own.0, a.0, a.1)
 
 pub invariant_of-caller : goal.invariant_of-caller
@@ -36,7 +36,7 @@ invariant_of-caller g c =
     let b_is : 1 * 2 ^ b % 2 ^ 64 ≡ 2 ^ place_of k.layout u = one_shl b 64 c.place_of.ensures.bound
     ∙ ap (λ (z : ℕ). 2 ^ z) (c.place_of.ensures.value ∙ ap (λ (z : Layout). place_of z u) lay) in
     let lu : u < k.layout.depth = subst (λ (z : Shape). u < z.layout.depth) (sym own.1) c.requires.within in
-    let did = c.compare_exchange-found.ensures.2 u (record_of w) c.state_spot.ensures w.knows in
+    let did = c.compare_exchange-found.ensures.2 u (record_of w) (c.state_spot-state.ensures ∙ ap (λ (z : Layout). state_at z u) lay) w.knows in
     let miss = (did.1 c.if-found-ne1.true).1 in record {
       told = w.told;
       knows = knows w
@@ -57,7 +57,7 @@ returns-then-found-ne1-clause-missed g c =
     let b_is : 1 * 2 ^ b % 2 ^ 64 ≡ 2 ^ place_of k.layout u = one_shl b 64 c.place_of.ensures.bound
     ∙ ap (λ (z : ℕ). 2 ^ z) (c.place_of.ensures.value ∙ ap (λ (z : Layout). place_of z u) lay) in
     let lu : u < k.layout.depth = subst (λ (z : Shape). u < z.layout.depth) (sym own.1) c.requires.within in
-    let did = c.compare_exchange-found.ensures.2 u (record_of w) c.state_spot.ensures w.knows in
+    let did = c.compare_exchange-found.ensures.2 u (record_of w) (c.state_spot-state.ensures ∙ ap (λ (z : Layout). state_at z u) lay) w.knows in
     let miss = (did.1 c.if-found-ne1.true).1 in
     λ _. record {
       known = recorded w
@@ -78,7 +78,7 @@ invariant_of-caller-2 g c =
     let b_is : 1 * 2 ^ b % 2 ^ 64 ≡ 2 ^ place_of k.layout u = one_shl b 64 c.place_of.ensures.bound
     ∙ ap (λ (z : ℕ). 2 ^ z) (c.place_of.ensures.value ∙ ap (λ (z : Layout). place_of z u) lay) in
     let lu : u < k.layout.depth = subst (λ (z : Shape). u < z.layout.depth) (sym own.1) c.requires.within in
-    let did = c.compare_exchange-found.ensures.2 u (record_of w) c.state_spot.ensures w.knows in
+    let did = c.compare_exchange-found.ensures.2 u (record_of w) (c.state_spot-state.ensures ∙ ap (λ (z : Layout). state_at z u) lay) w.knows in
     let got = did.0 (search rules) in
     let was : c.index.result.now ≡ slice_index w.held.items i = get_or_read w.held.items i c.index.result.now
     (subst (λ (z : ℕ × ℕ). z.0 < z.1) (λ j. (sym i_is j, sym w.wide j)) (word_of-below k.layout u lu)) c.index.ensures 0 in
@@ -107,7 +107,7 @@ returns-clause-won g c =
     let b_is : 1 * 2 ^ b % 2 ^ 64 ≡ 2 ^ place_of k.layout u = one_shl b 64 c.place_of.ensures.bound
     ∙ ap (λ (z : ℕ). 2 ^ z) (c.place_of.ensures.value ∙ ap (λ (z : Layout). place_of z u) lay) in
     let lu : u < k.layout.depth = subst (λ (z : Shape). u < z.layout.depth) (sym own.1) c.requires.within in
-    let did = c.compare_exchange-found.ensures.2 u (record_of w) c.state_spot.ensures w.knows in
+    let did = c.compare_exchange-found.ensures.2 u (record_of w) (c.state_spot-state.ensures ∙ ap (λ (z : Layout). state_at z u) lay) w.knows in
     let got = did.0 (search rules) in
     let was : c.index.result.now ≡ slice_index w.held.items i = get_or_read w.held.items i c.index.result.now
     (subst (λ (z : ℕ × ℕ). z.0 < z.1) (λ j. (sym i_is j, sym w.wide j)) (word_of-below k.layout u lu)) c.index.ensures 0 in

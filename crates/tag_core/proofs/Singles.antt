@@ -1,0 +1,20 @@
+-- A view with one record tells that record, and a state's place tells its tag.
+use Rattle.std.proofs.Common.{◌≡◌, ℕ, sym, ap, ◌∙◌}
+use mathlib.Core.Option.{some-injective}
+use lib.ListN.{get_elem?}
+use Rattle.tag_core.specs.declared.shape.Shape.{Shape}
+use Rattle.tag_core.specs.declared.record.Record.{Record}
+use Rattle.tag_core.specs.declared.record.View.{View}
+use Rattle.tag_core.specs.Spacing.{state_at}
+use Rattle.tag_core.specs.Views.{alone}
+use Rattle.tag_core.proofs.Stand.{state_at_one}
+
+-- two views with one record each are the same where the records are
+pub same_record : {R : Type 0} (a b : Record R) → alone a ≡ alone b → a ≡ b
+same_record a b e = some-injective a b (ap (λ (v : View _). get_elem? v.records.value 0) e)
+
+-- two tags whose states stand at one place, by the layouts of two records that are the same
+pub same_state : {R : Type 0} (k : Shape) (r r' : Record R) (u u' : ℕ) → r.shape ≡ k → r ≡ r'
+    → state_at k.layout u ≡ state_at r'.shape.layout u' → u ≡ u'
+same_state k r r' u u' shape same e = state_at_one k.layout u u'
+    (e ∙ ap (λ (z : Shape). state_at z.layout u') (ap (λ z. z.shape) (sym same) ∙ shape))
