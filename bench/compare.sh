@@ -10,7 +10,7 @@ options=("${@:3}")
 
 made=$(mktemp -d)
 trap 'rm -rf "$made"' EXIT
-rustc -O --edition 2021 -o "$made/baseline" bench/baseline/main.rs
+rustc -O -C target-cpu=x86-64-v2 --edition 2021 -o "$made/baseline" bench/baseline/main.rs
 (cd crates/tag_bench && rt run > "$made/smoke")
 
 for ((run = 1; run <= alternations; run++)); do

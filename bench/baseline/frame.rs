@@ -63,12 +63,15 @@ impl Case<'_> {
         );
     }
 
+    /// One run. As in `tag_bench`, the first thread is the caller's own.
     fn time(&self, work: &(impl Fn(u32) -> u64 + Sync), done: &AtomicU64) -> Duration {
+        let run = move |index: u32| done.fetch_add(work(index), SeqCst);
         let start = Instant::now();
         thread::scope(|scope| {
-            for index in 0..self.threads {
-                scope.spawn(move || done.fetch_add(work(index), SeqCst));
+            for index in 1..self.threads {
+                scope.spawn(move || run(index));
             }
+            run(0);
         });
         start.elapsed()
     }

@@ -92,14 +92,10 @@ pub(crate) fn carry_out<R: AllocGlobal + Threads + Sync + Clock>(
 fn open(alloc: Global, plan: Plan) -> Result<(Map<u64>, Vec<Caller<u64>>), Failed>
     ensures { IfOk result (λ p. All (IsCallerOf p.0) p.1.items) }
 {
-    let Ok(layout) = Layout::new(plan.depth, None) else {
-        return Err(Failed::Sizes);
-    };
+    let layout = Layout::new(plan.depth, None)?;
     let slots = vec![in alloc; 0u64; plan.depth as usize]?;
-    match Map::open(alloc, layout, plan.threads.saturating_mul(2), LIFE, slots) {
-        Ok(opened) => Ok(opened),
-        Err(_) => Err(Failed::Sizes),
-    }
+    let count = plan.threads.saturating_mul(2);
+    Ok(Map::open(alloc, layout, count, LIFE, slots)?)
 }
 
 fn time_runs<R: Threads + Sync + Clock>(

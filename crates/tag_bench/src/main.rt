@@ -25,7 +25,7 @@ fn main(rt: HostRuntime) -> ExitCode {
     match play(&rt) {
         Ok(status) => ExitCode::from(status),
         Err(failed) => {
-            let _ = eprintln!(rt; "{failed:?}");
+            let _ = eprintln!(rt; "tag_bench stopped: {failed:?}");
             ExitCode::FAILURE
         }
     }

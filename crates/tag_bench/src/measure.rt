@@ -4,6 +4,9 @@ use std::alloc::AllocError;
 use std::fmt::Display;
 use std::time::Duration;
 use std::{fmt, io};
+use tag_core::OpenFault;
+use tag_layout::LayoutFault;
+use wake_book::BookFault;
 
 /// Runs of which the median is taken.
 pub(crate) const RUNS: usize = 7;
@@ -24,6 +27,30 @@ pub(crate) enum Failed {
 impl From<AllocError> for Failed {
     fn from(_error: AllocError) -> Failed {
         Failed::Memory
+    }
+}
+
+impl From<LayoutFault> for Failed {
+    fn from(_fault: LayoutFault) -> Failed {
+        Failed::Sizes
+    }
+}
+
+impl From<OpenFault> for Failed {
+    fn from(fault: OpenFault) -> Failed {
+        match fault {
+            OpenFault::Memory => Failed::Memory,
+            _ => Failed::Sizes,
+        }
+    }
+}
+
+impl From<BookFault> for Failed {
+    fn from(fault: BookFault) -> Failed {
+        match fault {
+            BookFault::Memory => Failed::Memory,
+            _ => Failed::Sizes,
+        }
     }
 }
 

@@ -58,10 +58,7 @@ fn run_depth<R: AllocGlobal + Print + Clock>(
 
 // A map of this depth of which so many tags stay free.
 fn prepare(alloc: Global, depth: u32, free: u32) -> Result<PlainPort, Failed> {
-    let Ok(layout) = Layout::new(depth, None) else {
-        return Err(Failed::Sizes);
-    };
-    let mut port = PlainPort::open(alloc, layout)?;
+    let mut port = PlainPort::open(alloc, Layout::new(depth, None)?)?;
     let mut hint = first_hint();
     for _ in free..depth {
         let _ = get(&mut port, &mut hint);

@@ -36,9 +36,7 @@ fn run_looks<R: AllocGlobal + Threads + Sync + Print + Clock>(
     options: &Options,
     threads: u32,
 ) -> Result<(), Failed> {
-    let Ok((groups, mut waiters)) = Groups::open(rt.alloc(), threads) else {
-        return Err(Failed::Sizes);
-    };
+    let (groups, mut waiters) = Groups::open(rt.alloc(), threads)?;
     let rounds = options.rounds;
     let times = Times {
         runs: time_looks(rt, &groups, &mut waiters, rounds)?,
@@ -62,9 +60,7 @@ fn run_counts<R: AllocGlobal + Threads + Sync + Print + Clock>(
     options: &Options,
     threads: u32,
 ) -> Result<(), Failed> {
-    let Ok((book, mut tellers)) = Book::open(rt.alloc(), BATCH, threads, CAP) else {
-        return Err(Failed::Sizes);
-    };
+    let (book, mut tellers) = Book::open(rt.alloc(), BATCH, threads, CAP)?;
     let rounds = options.rounds;
     let times = Times {
         runs: time_counts(rt, &book, &mut tellers, rounds)?,
