@@ -13,9 +13,11 @@ trap 'rm -rf "$made"' EXIT
 rustc -O -C target-cpu=x86-64-v2 --edition 2021 -o "$made/baseline" bench/baseline/main.rs
 (cd crates/tag_bench && rt run > "$made/smoke")
 
+cat /proc/loadavg > "$made/load"
 for ((run = 1; run <= alternations; run++)); do
   echo "alternation $run of $alternations" >&2
   crates/tag_bench/out/tag_bench "$workload" --json "${options[@]}" >> "$made/lines"
   "$made/baseline" "$workload" "${options[@]}" >> "$made/lines"
 done
+echo "$(date +%F), $(rt version), $(rustc --version), $(nproc) processors, load $(cut -d ' ' -f 1 "$made/load") at the start"
 python3 bench/table.py "$made/lines"
