@@ -1,8 +1,8 @@
 -- The bit of one tag as a mask.
-use Rattle.std.proofs.Common.{◌≡◌, ℕ, ◌*◌, ◌%◌, ◌^◌, ◌<◌, ◌≤◌, arith, refl, sym, ap, ◌∙◌, subst}
+use Rattle.std.proofs.Common.{◌≡◌, ℕ, ◌*◌, ◌%◌, ◌^◌, ◌<◌, sym, subst}
 use Rattle.std.proofs.Math.Pow.{pow-lt}
 use Rattle.std.proofs.lemmas.Nat.{one_shl}
-use Rattle.tag_layout.specs.Layout.{Layout, words, word_of, place_of, word_depth, IsWithin}
+use Rattle.tag_layout.specs.Layout.{Layout, word_of, word_depth, IsWithin}
 
 -- a tag's bit, as the code shifts it, is one that its word uses
 pub bit-within : (l : Layout) (word tag place : ℕ) → word ≡ word_of l tag → place < word_depth l (word_of l tag) → place < 64 → IsWithin l word (1 * 2 ^ place % 2 ^ 64)

@@ -1,23 +1,117 @@
-//! Medians of runs.
-ghost use Rattle.std.specs.Prelude.{◌<◌};
-
+//! What a case took, and its line.
+use crate::options::Show;
+use std::alloc::AllocError;
+use std::fmt::Display;
 use std::time::Duration;
+use std::{fmt, io};
+use tag_core::OpenFault;
+use tag_layout::LayoutFault;
+use wake_book::BookFault;
 
 /// Runs of which the median is taken.
 pub(crate) const RUNS: usize = 7;
 
-/// The median of the runs, in hundredths of a nanosecond per operation.
-pub(crate) fn median(mut runs: [Duration; RUNS], operations: u64) -> u64
-    requires { 0 < operations }
-{
-    runs.sort_unstable();
-    hundredths(runs[RUNS / 2], operations)
+/// Why a workload ended early.
+#[derive(Debug, Drop)]
+pub(crate) enum Failed {
+    /// There was no memory for it.
+    Memory,
+    /// The library has no map or book of these sizes.
+    Sizes,
+    /// A caller or a teller didn't come back from its thread.
+    Missing,
+    /// The clock or the output failed.
+    Io,
 }
 
-// Hundredths of a nanosecond per operation. A run of more than a day counts as a day.
-fn hundredths(run: Duration, operations: u64) -> u64
-    requires { 0 < operations }
-{
-    let seconds = run.as_secs().min(86_400);
-    (seconds * 1_000_000_000 + u64::from(run.subsec_nanos())) * 100 / operations
+impl From<AllocError> for Failed {
+    fn from(_error: AllocError) -> Failed {
+        Failed::Memory
+    }
+}
+
+impl From<LayoutFault> for Failed {
+    fn from(_fault: LayoutFault) -> Failed {
+        Failed::Sizes
+    }
+}
+
+impl From<OpenFault> for Failed {
+    fn from(fault: OpenFault) -> Failed {
+        match fault {
+            OpenFault::Memory => Failed::Memory,
+            _ => Failed::Sizes,
+        }
+    }
+}
+
+impl From<BookFault> for Failed {
+    fn from(fault: BookFault) -> Failed {
+        match fault {
+            BookFault::Memory => Failed::Memory,
+            _ => Failed::Sizes,
+        }
+    }
+}
+
+impl From<io::Error> for Failed {
+    fn from(_error: io::Error) -> Failed {
+        Failed::Io
+    }
+}
+
+/// What the runs of one case took.
+#[derive(Clone, Copy, Debug)]
+pub(crate) struct Times {
+    /// Of each run.
+    pub runs: [Duration; RUNS],
+    /// Operations of one thread in one run.
+    pub operations: u64,
+}
+
+/// Hundredths of a nanosecond.
+#[derive(Clone, Copy, Debug)]
+struct Hundredths(u64);
+
+impl Display for Hundredths {
+    fn fmt<W: fmt::Write>(&self, f: &mut fmt::Formatter<W>) -> fmt::Result {
+        let whole = self.0 / 100;
+        let part = self.0 % 100;
+        write!(f, "{whole}.{part:02}")
+    }
+}
+
+impl Times {
+    // One operation of one thread, in a run that took this long. A run of more than a day counts as a day.
+    fn per_operation(self, run: Duration) -> Hundredths {
+        let seconds = run.as_secs().min(86_400);
+        let nanoseconds = seconds * 1_000_000_000 + u64::from(run.subsec_nanos());
+        Hundredths(nanoseconds * 100 / self.operations.max(1))
+    }
+}
+
+/// Prints a line of one case: what an operation of one thread took, or what holds of the case.
+pub(crate) fn print_case(
+    rt: &impl Print,
+    show: Show,
+    workload: &str,
+    name: impl Display + Drop,
+    threads: u32,
+    times: Times,
+    facts: impl Display + Drop,
+) -> io::Result<()> {
+    let mut runs = times.runs;
+    runs.sort_unstable();
+    let least = times.per_operation(runs[0]);
+    let median = times.per_operation(runs[RUNS / 2]);
+    let most = times.per_operation(runs[RUNS - 1]);
+    match show {
+        Show::Facts => println!(rt; "{workload} {name}, threads={threads}: {facts}"),
+        Show::Times => {
+            println!(rt; "{workload} {name}, threads={threads}: {median} ns ({least} to {most})")
+        }
+        Show::Json => println!(rt;
+            "{{\"workload\":\"{workload}\",\"case\":\"{name}\",\"threads\":{threads},\"ns\":{median},\"least\":{least},\"most\":{most}}}"
+        ),
+    }
 }

@@ -1,76 +1,69 @@
 //! The workload `plain`: one caller alone gets a tag and clears it.
-use crate::measure::{RUNS, median};
-use std::alloc::{AllocError, Global};
+use crate::measure::{Failed, RUNS, Times, print_case};
+use crate::options::Options;
+use std::alloc::Global;
 use std::io;
 use std::time::{Clock, Duration, Instant};
 use tag_layout::Layout;
 use tag_search::{Hint, PlainPort, after_clear, get};
 
-/// Rounds of a run that only shows that all works, and of one that is measured.
-const FEW: u32 = 2_000;
-
-const MANY: u32 = 2_000_000;
-
 /// Tags that stay free on a map that is nearly full.
 const SPARE: u32 = 4;
 
-/// Depths that are tried.
+/// Depths that are tried where none is asked for.
 const DEPTHS: [u32; 3] = [64, 1_024, 10_240];
 
-/// Runs a few pairs at each depth, on a map that is nearly empty and on one that is nearly full.
-pub(crate) fn smoke<R: AllocGlobal + Print>(rt: &R) -> io::Result<()> {
+/// Runs each case.
+pub(crate) fn run<R: AllocGlobal + Print + Clock>(rt: &R, options: &Options) -> Result<(), Failed> {
+    if let Some(depth) = options.depth {
+        return run_depth(rt, options, depth);
+    }
     for depth in DEPTHS {
-        for spare in [depth, SPARE] {
-            let Some(mut port) = prepare(rt.alloc(), depth, spare)? else {
-                continue;
-            };
-            let done = pairs(&mut port, &mut first_hint(), FEW);
-            println!(rt; "plain depth {depth} free {spare}: {done} pairs")?;
-        }
+        run_depth(rt, options, depth)?;
     }
     Ok(())
 }
 
-/// Prints nanoseconds per get and clear.
-pub(crate) fn figures<R: AllocGlobal + Print + Clock>(rt: &R) -> io::Result<()> {
-    for depth in DEPTHS {
-        for spare in [depth, SPARE] {
-            let Some(mut port) = prepare(rt.alloc(), depth, spare)? else {
-                continue;
-            };
-            let hundredths = median(time_pairs(rt, &mut port)?, u64::from(MANY));
-            println!(rt;
-                "plain depth {depth} free {spare}: {}.{:02} ns",
-                hundredths / 100,
-                hundredths % 100
-            )?;
+// A map of this depth that is nearly empty, and one that is nearly full.
+fn run_depth<R: AllocGlobal + Print + Clock>(
+    rt: &R,
+    options: &Options,
+    depth: u32,
+) -> Result<(), Failed> {
+    for free in [depth, SPARE.min(depth)] {
+        let mut port = prepare(rt.alloc(), depth, free)?;
+        let mut runs = [Duration::ZERO; RUNS];
+        let mut done = 0;
+        for run in runs.iter_mut() {
+            let start = Instant::now(rt)?;
+            done = pairs(&mut port, options.rounds);
+            *run = start.elapsed(rt)?;
         }
+        let times = Times {
+            runs,
+            operations: u64::from(done),
+        };
+        print_case(
+            rt,
+            options.show,
+            "plain",
+            format_args!("get and put, {free} of {depth} free"),
+            1,
+            times,
+            format_args!("pairs={done}"),
+        )?;
     }
     Ok(())
 }
 
-fn time_pairs<R: Clock>(rt: &R, port: &mut PlainPort) -> io::Result<[Duration; RUNS]> {
-    let mut runs = [Duration::ZERO; RUNS];
-    for run in runs.iter_mut() {
-        let mut hint = first_hint();
-        let start = Instant::now(rt)?;
-        pairs(port, &mut hint, MANY);
-        *run = start.elapsed(rt)?;
-    }
-    Ok(runs)
-}
-
-// A map of this depth of which so many tags stay free. `None` where there is no such layout.
-fn prepare(alloc: Global, depth: u32, spare: u32) -> Result<Option<PlainPort>, AllocError> {
-    let Ok(layout) = Layout::new(depth, None) else {
-        return Ok(None);
-    };
-    let mut port = PlainPort::open(alloc, layout)?;
+// A map of this depth of which so many tags stay free.
+fn prepare(alloc: Global, depth: u32, free: u32) -> Result<PlainPort, Failed> {
+    let mut port = PlainPort::open(alloc, Layout::new(depth, None)?)?;
     let mut hint = first_hint();
-    for _ in spare..depth {
+    for _ in free..depth {
         let _ = get(&mut port, &mut hint);
     }
-    Ok(Some(port))
+    Ok(port)
 }
 
 // A caller's first hint.
@@ -83,13 +76,14 @@ fn first_hint() -> Hint {
 
 // Gets a tag and clears it, so many times. Answers how many tags were got.
 #[inline(never)]
-fn pairs(port: &mut PlainPort, hint: &mut Hint, rounds: u32) -> u32 {
+fn pairs(port: &mut PlainPort, rounds: u32) -> u32 {
+    let mut hint = first_hint();
     let mut done: u32 = 0;
     for _ in 0..rounds {
-        if let Ok(Some(tag)) = get(port, hint) {
+        if let Ok(Some(tag)) = get(port, &mut hint) {
             if port.taken(tag) {
                 port.put(tag);
-                after_clear(hint, tag);
+                after_clear(&mut hint, tag);
                 done = done.wrapping_add(1);
             }
         }

@@ -1,6 +1,6 @@
 -- The caller stays one of the map.
 use Rattle.tag_core.specs.Callers.{IsCallerOf}
-use Rattle.tag_bench.proofs.maps.put_often.Given as goal
+use Rattle.tag_bench.proofs.claims.give_often.Given as goal
 
 abbrev pub invariant-loop : goal.invariant-loop
 invariant-loop l = IsCallerOf l.map l.caller

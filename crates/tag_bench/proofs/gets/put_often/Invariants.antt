@@ -1,9 +1,6 @@
 -- The caller stays one of the map.
 use Rattle.tag_core.specs.Callers.{IsCallerOf}
-use Rattle.tag_bench.proofs.maps.give_often.Given as goal
+use Rattle.tag_bench.proofs.gets.put_often.Given as goal
 
 abbrev pub invariant-loop : goal.invariant-loop
 invariant-loop l = IsCallerOf l.map l.caller
-
-abbrev pub invariant-loop-tag : goal.invariant-loop-tag
-invariant-loop-tag l = IsCallerOf l.map l.caller

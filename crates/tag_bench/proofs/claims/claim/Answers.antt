@@ -1,8 +1,8 @@
 -- The tag's bit is one that its word uses.
-use Rattle.std.proofs.Common.{◌≡◌, ℕ, ◌*◌, ◌%◌, ◌^◌, ◌<◌, refl, sym, ap, ◌∙◌, subst}
-use Rattle.tag_layout.specs.Layout.{Layout, words, word_of, place_of, IsWithin}
+use Rattle.std.proofs.Common.{◌*◌, ◌%◌, ◌^◌, ◌<◌, subst}
+use Rattle.tag_layout.specs.Layout.{Layout, words, IsWithin}
 use Rattle.tag_bench.proofs.Bits.{bit-within}
-use Rattle.tag_bench.proofs.maps.claim_and_put.Goals as goal
+use Rattle.tag_bench.proofs.claims.claim.Goals as goal
 
 pub claim-requires-clause-within : goal.claim-requires-clause-within
 claim-requires-clause-within c =

@@ -1,8 +1,8 @@
 -- Callers go to threads that share the map.
 use denote.Param.Send.{sendable}
 use Rattle.std.proofs.Crossing.{crosses}
-use Rattle.tag_bench.proofs.Crossing.{caller_send, map_sync}
-use Rattle.tag_bench.proofs.maps.clear_by_all.Goals as goal
+use Rattle.tag_core.proofs.Crossing.{caller_send, map_sync}
+use Rattle.tag_bench.proofs.callers.work_all.Goals as goal
 
 pub for_each_mut-requires-send-T : goal.for_each_mut-requires-send-T
 for_each_mut-requires-send-T g c κs within = search (caller_send, sendable) depth 40

@@ -1,0 +1,78 @@
+//! The frame of each case: threads that work at once, several runs of them, and a line.
+use std::sync::atomic::{AtomicU64, Ordering::SeqCst};
+use std::thread;
+use std::time::{Duration, Instant};
+
+/// Runs of which the median is taken.
+const RUNS: usize = 7;
+
+/// What the command line asks for, as `tag_bench` has it.
+pub struct Options {
+    /// Rounds of each thread in a run.
+    pub rounds: u64,
+    /// Tags of the map. None: as the workload has it.
+    pub depth: Option<u32>,
+    /// Counts of threads to be tried.
+    pub threads: Vec<u32>,
+}
+
+impl Options {
+    /// The options that these words give. None where one is not known, or has no number above 0.
+    pub fn read(mut words: impl Iterator<Item = String>) -> Option<Options> {
+        let mut options = Options {
+            rounds: 2_000_000,
+            depth: None,
+            threads: vec![1, 2, 4],
+        };
+        while let Some(word) = words.next() {
+            let number: u32 = words.next()?.parse().ok().filter(|&number| number > 0)?;
+            match word.as_str() {
+                "--rounds" => options.rounds = u64::from(number),
+                "--depth" => options.depth = Some(number),
+                "--threads" => options.threads = vec![number],
+                _ => return None,
+            }
+        }
+        Some(options)
+    }
+}
+
+/// Who is measured, and at what. The case is named as `tag_bench` names it.
+pub struct Case<'a> {
+    pub contender: &'a str,
+    pub name: String,
+    pub threads: u32,
+}
+
+impl Case<'_> {
+    /// Measures the work of the threads, each of which is given its index and answers how many operations it made.
+    pub fn measure(&self, work: impl Fn(u32) -> u64 + Sync) {
+        let done = AtomicU64::new(0);
+        let mut runs: Vec<Duration> = (0..RUNS).map(|_| self.time(&work, &done)).collect();
+        runs.sort();
+        let operations = done.into_inner() / (RUNS as u64 * u64::from(self.threads));
+        let each = |run: usize| runs[run].as_nanos() as f64 / operations.max(1) as f64;
+        println!(
+            "{{\"contender\":\"{}\",\"case\":\"{}\",\"threads\":{},\"ns\":{:.2},\"least\":{:.2},\"most\":{:.2}}}",
+            self.contender,
+            self.name,
+            self.threads,
+            each(RUNS / 2),
+            each(0),
+            each(RUNS - 1)
+        );
+    }
+
+    /// One run. As in `tag_bench`, the first thread is the caller's own.
+    fn time(&self, work: &(impl Fn(u32) -> u64 + Sync), done: &AtomicU64) -> Duration {
+        let run = move |index: u32| done.fetch_add(work(index), SeqCst);
+        let start = Instant::now();
+        thread::scope(|scope| {
+            for index in 1..self.threads {
+                scope.spawn(move || run(index));
+            }
+            run(0);
+        });
+        start.elapsed()
+    }
+}

@@ -1,0 +1,145 @@
+//! Callers of one map at work, each in a thread of its own.
+ghost use Rattle.std.specs.Prelude.{All, IfOk};
+ghost use Rattle.tag_core.specs.Callers.{IsCallerOf};
+
+use crate::measure::{Failed, RUNS, Times};
+use crate::{claims, gets};
+use std::alloc::Global;
+use std::thread;
+use std::thread::Threads;
+use std::time::{Clock, Duration, Instant};
+use tag_core::{Caller, Map};
+use tag_layout::Layout;
+
+/// Tags that one caller may win.
+const LIFE: u64 = 1 << 48;
+
+/// How a caller wins a tag.
+#[derive(Clone, Copy, Debug, PartialEq, Eq)]
+pub(crate) enum Take {
+    /// By a claim of its bit.
+    Claim,
+    /// By a get.
+    Get,
+}
+
+/// How it clears the tag.
+#[derive(Clone, Copy, Debug, PartialEq, Eq)]
+pub(crate) enum Clear {
+    /// It sets it aside for a sweep.
+    Put,
+    /// It frees it at once.
+    Give,
+}
+
+impl Clear {
+    /// As a case's name has it.
+    pub(crate) fn name(self) -> &'static str {
+        match self {
+            Clear::Put => "put",
+            Clear::Give => "give",
+        }
+    }
+}
+
+/// What all callers of one map do.
+#[derive(Clone, Copy, Debug, PartialEq, Eq)]
+pub(crate) struct Plan {
+    pub take: Take,
+    pub clear: Clear,
+    /// Tags of the map.
+    pub depth: u32,
+    /// Callers at work, each in a thread of its own.
+    pub threads: u32,
+    /// Tags from where one caller begins to where the next one does.
+    pub stride: u32,
+    /// Tags that each caller tries to win in a run.
+    pub rounds: u32,
+}
+
+/// What came of a plan.
+#[derive(Clone, Copy, Debug)]
+pub(crate) struct Outcome {
+    /// What its runs took, per tag that one caller won.
+    pub times: Times,
+    /// Whether all tags won were given back.
+    pub even: bool,
+}
+
+/// Carries out a plan on a new map, several times.
+pub(crate) fn carry_out<R: AllocGlobal + Threads + Sync + Clock>(
+    rt: &R,
+    plan: Plan,
+) -> Result<Outcome, Failed> {
+    let (map, mut callers) = open(rt.alloc(), plan)?;
+    let runs = time_runs(rt, &map, &mut callers, plan)?;
+    let Ok(closed) = Map::gather(map, callers) else {
+        return Err(Failed::Missing);
+    };
+    let totals = closed.totals;
+    let shares = RUNS as u64 * u64::from(plan.threads.max(1));
+    Ok(Outcome {
+        times: Times {
+            runs,
+            operations: totals.got / shares,
+        },
+        even: totals.got == totals.back,
+    })
+}
+
+// A new map and its callers, of whom every other one stays idle: callers lie side by side, and two neighbours at work
+// would write to one line of memory.
+fn open(alloc: Global, plan: Plan) -> Result<(Map<u64>, Vec<Caller<u64>>), Failed>
+    ensures { IfOk result (λ p. All (IsCallerOf p.0) p.1.items) }
+{
+    let layout = Layout::new(plan.depth, None)?;
+    let slots = vec![in alloc; 0u64; plan.depth as usize]?;
+    let count = plan.threads.saturating_mul(2);
+    Ok(Map::open(alloc, layout, count, LIFE, slots)?)
+}
+
+fn time_runs<R: Threads + Sync + Clock>(
+    rt: &R,
+    map: &Map<u64>,
+    callers: &mut Vec<Caller<u64>>,
+    plan: Plan,
+) -> Result<[Duration; RUNS], Failed>
+    requires own { All (IsCallerOf map.now) callers.old.items }
+    ensures { IfOk result (λ _. All (IsCallerOf map.now) callers.new.items) }
+{
+    let mut runs = [Duration::ZERO; RUNS];
+    for run in runs.iter_mut() {
+        let start = Instant::now(rt)?;
+        work_all(rt, map, callers, plan);
+        *run = start.elapsed(rt)?;
+    }
+    Ok(runs)
+}
+
+// All callers work at once.
+fn work_all<R: Threads + Sync>(rt: &R, map: &Map<u64>, callers: &mut Vec<Caller<u64>>, plan: Plan)
+    requires { All (IsCallerOf map.now) callers.old.items }
+    ensures { All (IsCallerOf map.now) callers.new.items }
+{
+    thread::for_each_mut(
+        rt,
+        callers.as_mut_slice(),
+        plan.threads.max(1) as usize,
+        &|index, caller| { work(map, caller, index, plan) },
+    );
+}
+
+// The work of the caller at this index.
+fn work(map: &Map<u64>, caller: &mut Caller<u64>, index: usize, plan: Plan)
+    requires { IsCallerOf map.now caller.old }
+    ensures { IsCallerOf map.now caller.new }
+{
+    if index % 2 == 1 {
+        return;
+    }
+    let first = ((index / 2 % 64) as u32).wrapping_mul(plan.stride);
+    match plan.take {
+        Take::Claim => claims::work(map, caller, first, plan),
+        Take::Get => gets::work(map, caller, first, plan),
+    }
+}

@@ -1,0 +1,142 @@
+//! The workload `map`: callers claim tags of the shared map by their numbers, and clear them.
+ghost use Rattle.std.specs.Prelude.{◌+◌, ◌<◌, ◌≤◌, IsTrue};
+ghost use Rattle.tag_core.specs.Callers.{layout_of, IsCallerOf, Holds};
+
+use crate::callers::{Clear, Plan, Take, carry_out};
+use crate::measure::{Failed, print_case};
+use crate::options::Options;
+use std::thread::Threads;
+use std::time::Clock;
+use tag_core::{Caller, Map};
+
+/// Tags of the map: 16 words of 64.
+const DEPTH: u32 = 1_024;
+
+/// Tags that a caller claims and clears in one lap, in the order of their numbers.
+const TAGS: u32 = 16;
+
+/// Tags from one caller's first to the next one's: each has a word of its own, or four have parts of one word.
+const STRIDES: [u32; 2] = [64, TAGS];
+
+/// Runs each case.
+pub(crate) fn run<R: AllocGlobal + Threads + Sync + Print + Clock>(
+    rt: &R,
+    options: &Options,
+) -> Result<(), Failed> {
+    for clear in [Clear::Put, Clear::Give] {
+        for stride in STRIDES {
+            for &threads in options.threads.iter() {
+                let plan = Plan {
+                    take: Take::Claim,
+                    clear,
+                    depth: DEPTH,
+                    threads,
+                    stride,
+                    rounds: options.rounds,
+                };
+                let outcome = carry_out(rt, plan)?;
+                let way = clear.name();
+                let even = outcome.even;
+                print_case(
+                    rt,
+                    options.show,
+                    "map",
+                    format_args!("claim and {way}, {stride} apart"),
+                    threads,
+                    outcome.times,
+                    format_args!("even={even}"),
+                )?;
+            }
+        }
+    }
+    Ok(())
+}
+
+/// The laps of one caller, from its first tag on.
+pub(crate) fn work(map: &Map<u64>, caller: &mut Caller<u64>, first: u32, plan: Plan)
+    requires { IsCallerOf map.now caller.old }
+    ensures { IsCallerOf map.now caller.new }
+{
+    let depth = map.layout().depth();
+    if first >= depth || depth - first < TAGS {
+        return;
+    }
+    let laps = plan.rounds.div_ceil(TAGS);
+    match plan.clear {
+        Clear::Put => put_often(map, caller, first, laps),
+        Clear::Give => give_often(map, caller, first, laps),
+    }
+}
+
+// Claims and puts the tags, and sweeps their word after each lap.
+#[inline(never)]
+fn put_often(map: &Map<u64>, caller: &mut Caller<u64>, first: u32, laps: u32)
+    requires caller { IsCallerOf map.now caller.old }
+    requires tags { first + 16 ≤ (layout_of map.now).depth }
+    ensures { IsCallerOf map.now caller.new }
+{
+    let word = map.layout().word_of(first);
+    for _ in 0..laps {
+        for tag in first..first + TAGS {
+            claim_and_put(map, caller, tag);
+        }
+        map.sweep(caller, word);
+    }
+}
+
+#[inline(never)]
+fn give_often(map: &Map<u64>, caller: &mut Caller<u64>, first: u32, laps: u32)
+    requires caller { IsCallerOf map.now caller.old }
+    requires tags { first + 16 ≤ (layout_of map.now).depth }
+    ensures { IsCallerOf map.now caller.new }
+{
+    for _ in 0..laps {
+        for tag in first..first + TAGS {
+            claim_and_give(map, caller, tag);
+        }
+    }
+}
+
+fn claim_and_put(map: &Map<u64>, caller: &mut Caller<u64>, tag: u32)
+    requires caller { IsCallerOf map.now caller.old }
+    requires tag { tag < (layout_of map.now).depth }
+    ensures { IsCallerOf map.now caller.new }
+{
+    if claim(map, caller, tag) {
+        map.put(caller, tag);
+    }
+}
+
+fn claim_and_give(map: &Map<u64>, caller: &mut Caller<u64>, tag: u32)
+    requires caller { IsCallerOf map.now caller.old }
+    requires tag { tag < (layout_of map.now).depth }
+    ensures { IsCallerOf map.now caller.new }
+{
+    if claim(map, caller, tag) {
+        give(map, caller, tag);
+    }
+}
+
+// Claims a tag, and answers whether the caller holds it.
+fn claim(map: &Map<u64>, caller: &mut Caller<u64>, tag: u32) -> bool
+    requires caller { IsCallerOf map.now caller.old }
+    requires tag { tag < (layout_of map.now).depth }
+    ensures caller { IsCallerOf map.now caller.new }
+    ensures held { IsTrue result → Holds caller.new tag }
+{
+    let layout = map.layout();
+    let bit = 1u64 << layout.place_of(tag);
+    map.claim(caller, layout.word_of(tag), bit).is_ok() && caller.holds(tag)
+}
+
+/// Frees a held tag at once.
+#[inline]
+pub(crate) fn give(map: &Map<u64>, caller: &mut Caller<u64>, tag: u32)
+    requires caller { IsCallerOf map.now caller.old }
+    requires held { Holds caller.old tag }
+    ensures { IsCallerOf map.now caller.new }
+{
+    let layout = map.layout();
+    let bit = 1u64 << layout.place_of(tag);
+    map.give(caller, layout.word_of(tag), bit);
+}

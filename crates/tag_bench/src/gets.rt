@@ -1,0 +1,116 @@
+//! The workload `shared`: callers get tags of the shared map, and clear them.
+ghost use Rattle.std.specs.Prelude.{IfOk, IfSome};
+ghost use Rattle.tag_core.specs.Callers.{IsCallerOf, Holds};
+
+use crate::callers::{Clear, Plan, Take, carry_out};
+use crate::claims::give;
+use crate::measure::{Failed, print_case};
+use crate::options::Options;
+use std::thread::Threads;
+use std::time::Clock;
+use tag_core::{Caller, Map, Spent};
+use tag_search::{Hint, Shared, after_clear, get};
+
+/// Tags of the map where no count is asked for: 16 words of 64.
+const DEPTH: u32 = 1_024;
+
+/// Runs each case.
+pub(crate) fn run<R: AllocGlobal + Threads + Sync + Print + Clock>(
+    rt: &R,
+    options: &Options,
+) -> Result<(), Failed> {
+    for clear in [Clear::Put, Clear::Give] {
+        for apart in [true, false] {
+            for &threads in options.threads.iter() {
+                run_case(rt, options, clear, apart, threads)?;
+            }
+        }
+    }
+    Ok(())
+}
+
+// Where the hints are apart, each caller begins in a part of the map of its own; else all begin at tag 0.
+fn run_case<R: AllocGlobal + Threads + Sync + Print + Clock>(
+    rt: &R,
+    options: &Options,
+    clear: Clear,
+    apart: bool,
+    threads: u32,
+) -> Result<(), Failed> {
+    let depth = options.depth.unwrap_or(DEPTH);
+    let plan = Plan {
+        take: Take::Get,
+        clear,
+        depth,
+        threads,
+        stride: if apart { depth / threads.max(1) } else { 0 },
+        rounds: options.rounds,
+    };
+    let outcome = carry_out(rt, plan)?;
+    let way = clear.name();
+    let hints = if apart { "apart" } else { "from 0" };
+    let even = outcome.even;
+    print_case(
+        rt,
+        options.show,
+        "shared",
+        format_args!("get and {way}, hints {hints}, depth {depth}"),
+        threads,
+        outcome.times,
+        format_args!("even={even}"),
+    )?;
+    Ok(())
+}
+
+/// The gets and clears of one caller, whose hint begins at its first tag.
+pub(crate) fn work(map: &Map<u64>, caller: &mut Caller<u64>, first: u32, plan: Plan)
+    requires { IsCallerOf map.now caller.old }
+    ensures { IsCallerOf map.now caller.new }
+{
+    let hint = Hint {
+        at: first,
+        round_robin: false,
+    };
+    match plan.clear {
+        Clear::Put => put_often(map, caller, hint, plan.rounds),
+        Clear::Give => give_often(map, caller, hint, plan.rounds),
+    }
+}
+
+#[inline(never)]
+fn put_often(map: &Map<u64>, caller: &mut Caller<u64>, from: Hint, rounds: u32)
+    requires { IsCallerOf map.now caller.old }
+    ensures { IsCallerOf map.now caller.new }
+{
+    let mut hint = from;
+    for _ in 0..rounds {
+        if let Ok(Some(tag)) = get_one(map, caller, &mut hint) {
+            map.put(caller, tag);
+            after_clear(&mut hint, tag);
+        }
+    }
+}
+
+#[inline(never)]
+fn give_often(map: &Map<u64>, caller: &mut Caller<u64>, from: Hint, rounds: u32)
+    requires { IsCallerOf map.now caller.old }
+    ensures { IsCallerOf map.now caller.new }
+{
+    let mut hint = from;
+    for _ in 0..rounds {
+        if let Ok(Some(tag)) = get_one(map, caller, &mut hint) {
+            give(map, caller, tag);
+            after_clear(&mut hint, tag);
+        }
+    }
+}
+
+// A get. The tag that it answers is the caller's from then on.
+#[inline]
+fn get_one(map: &Map<u64>, caller: &mut Caller<u64>, hint: &mut Hint) -> Result<Option<u32>, Spent>
+    requires caller { IsCallerOf map.now caller.old }
+    ensures caller { IsCallerOf map.now caller.new }
+    ensures held { IfOk result (λ answer. IfSome answer (Holds caller.new)) }
+{
+    get(&mut Shared::new(map, caller), hint)
+}
