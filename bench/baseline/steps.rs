@@ -7,14 +7,13 @@ use std::sync::atomic::{AtomicU64, Ordering::SeqCst};
 #[repr(align(64))]
 pub struct Line(pub AtomicU64);
 
-/// A word, its cleared set, and the line where the map has a tag's state.
+/// A word, and its cleared set behind it.
 #[derive(Default)]
 pub struct Word {
     /// 1 is taken.
     pub word: Line,
     /// 1 is set aside.
     pub cleared: Line,
-    _state: Line,
 }
 
 /// So many words, of which no tag is taken.

@@ -87,15 +87,13 @@ pub(crate) fn carry_out<R: AllocGlobal + Threads + Sync + Clock>(
     })
 }
 
-// A new map and its callers, of whom every other one stays idle: callers lie side by side, and two neighbours at work
-// would write to one line of memory.
+// A new map, and a caller for each thread.
 fn open(alloc: Global, plan: Plan) -> Result<(Map<u64>, Vec<Caller<u64>>), Failed>
     ensures { IfOk result (λ p. All (IsCallerOf p.0) p.1.items) }
 {
     let layout = Layout::new(plan.depth, None)?;
     let slots = vec![in alloc; 0u64; plan.depth as usize]?;
-    let count = plan.threads.saturating_mul(2);
-    Ok(Map::open(alloc, layout, count, LIFE, slots)?)
+    Ok(Map::open(alloc, layout, plan.threads, LIFE, slots)?)
 }
 
 fn time_runs<R: Threads + Sync + Clock>(
@@ -129,15 +127,12 @@ fn work_all<R: Threads + Sync>(rt: &R, map: &Map<u64>, callers: &mut Vec<Caller<
     );
 }
 
-// The work of the caller at this index.
+// The work of the caller at this index, one of at most 64.
 fn work(map: &Map<u64>, caller: &mut Caller<u64>, index: usize, plan: Plan)
     requires { IsCallerOf map.now caller.old }
     ensures { IsCallerOf map.now caller.new }
 {
-    if index % 2 == 1 {
-        return;
-    }
-    let first = ((index / 2 % 64) as u32).wrapping_mul(plan.stride);
+    let first = ((index % 64) as u32).wrapping_mul(plan.stride);
     match plan.take {
         Take::Claim => claims::work(map, caller, first, plan),
         Take::Get => gets::work(map, caller, first, plan),
