@@ -20,7 +20,7 @@ const DEPTH: u32 = 8;
 const THREADS: u32 = 4;
 
 /// Rounds of each thread.
-const ROUNDS: u32 = 80_000;
+const ROUNDS: u32 = 800_000;
 
 /// What the threads saw.
 #[derive(Drop)]
