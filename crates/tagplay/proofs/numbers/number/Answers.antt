@@ -7,7 +7,7 @@ use Rattle.tagplay.proofs.numbers.number.Goals as goal
 
 pub returns : goal.returns
 returns c =
-    sym (is_read c.args.word.now c.loop-byte.byte-index c.loop-byte.value (search rules) (omega arith) c.loop-byte.invariant.fits
+    sym (is_read c.args.word.now c.loop-byte.byte-index c.loop-byte.value (omega arith) c.loop-byte.invariant.fits
     c.loop-byte.invariant.value c.loop-byte.invariant.digits)
 
 pub returns-in-None : goal.returns-in-None
