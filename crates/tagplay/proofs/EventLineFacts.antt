@@ -1,5 +1,5 @@
 -- Lines that spell events, by how many words they have.
-use Rattle.std.proofs.Common.{◌≡◌, ℕ, Bool, true, false, List, [], ◌∷◌, ◌++◌, ◌==◌, cond, refl, ap, ◌∙◌, Err}
+use Rattle.std.proofs.Common.{◌≡◌, ℕ, true, false, List, [], ◌∷◌, ◌++◌, ◌==◌, cond, refl, ap, ◌∙◌, Err}
 use Rattle.std.specs.List.{slice_split, onto_first}
 use Rattle.tagplay.specs.declared.fault.LineFault.TheVariants.{BadLine}
 use Rattle.tagplay.specs.Lines.{LacksByte, parts_of, has_gap, words_of}

@@ -1,5 +1,5 @@
 -- What a plain word's bits say of its places.
-use Rattle.std.proofs.Common.{◌≡◌, ◌≢◌, ℕ, zero, suc, ◌^◌, ◌<◌, ◌≤◌, Bool, true, false, not, ◌&&◌, ◌||◌, nat_eq, nat_lt, slice_index, refl, sym, ap, ◌∙◌, eq-eqb, ne_eqb, arith, rules}
+use Rattle.std.proofs.Common.{◌≡◌, ◌≢◌, ℕ, zero, suc, ◌<◌, ◌≤◌, Bool, true, false, not, ◌&&◌, ◌||◌, nat_eq, nat_lt, slice_index, refl, sym, ap, ◌∙◌, eq-eqb, ne_eqb, arith, rules}
 use mathlib.Core.Logic.{dite}
 use native.Mathlib.Decide.{ℕ_discrete}
 use Rattle.std.specs.Int.{bit_at}
@@ -9,7 +9,7 @@ use Rattle.tag_layout.specs.Layout.{Layout, word_bits, place_of}
 use Rattle.tag_layout.proofs.PlaceFacts.{word_bits-pos, word_bits-le}
 use Rattle.tag_search.specs.Plain.{Plain, words_of, IsTaken}
 use Rattle.tag_search.specs.Writes.{Writes}
-use Rattle.tag_search.specs.Pool.{Pool, pool_of, is_busy, aside_at}
+use Rattle.tag_search.specs.Pool.{pool_of, is_busy, aside_at}
 
 -- a depth that was read off
 pub depth_is : (l m : Layout) (depth : ℕ) → m ≡ l → depth ≡ m.depth → depth ≡ l.depth

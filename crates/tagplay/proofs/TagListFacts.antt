@@ -1,5 +1,5 @@
 -- Numbers of words, read one after another.
-use Rattle.std.proofs.Common.{◌≡◌, ℕ, ◌^◌, List, [], ◌∷◌, ◌++◌, ◌==◌, Option, Some, None, subst, refl, sym, ap, ◌∙◌, append_assoc, append-nil}
+use Rattle.std.proofs.Common.{◌≡◌, ℕ, ◌^◌, List, [], ◌∷◌, ◌++◌, Option, Some, None, refl, sym, ap, ◌∙◌, append_assoc}
 use Rattle.std.specs.Prelude.{MatchOption}
 use Rattle.tagplay.specs.Lines.{LacksByte, parts_of, number_below, numbers_below, onto_numbers}
 use Rattle.tagplay.proofs.LineFacts.{words_cut, words_alone}

@@ -1,5 +1,5 @@
 -- The words of a line are those that were cut off it.
-use Rattle.std.proofs.Common.{◌≡◌, ◌∙◌, sym}
+use Rattle.std.proofs.Common.{◌∙◌, sym}
 use Rattle.tagplay.proofs.LineFacts.{is_whole, has_rest}
 use Rattle.tagplay.specs.EventList.{event_of}
 use Rattle.tagplay.proofs.WordFacts.{one_word, two_words, three_words}

@@ -1,5 +1,5 @@
 -- The parts are those that the line is cut into, and each is tested.
-use Rattle.std.proofs.Common.{◌≡◌, ◌==◌, length, rules, tests, refl}
+use Rattle.std.proofs.Common.{◌==◌, length, rules, tests}
 use Rattle.std.proofs.lemmas.Iterator.Search.{any_from_yields_List}
 use Rattle.std.proofs.lemmas.Iterator.Splits.{YieldsList-from_slice_split}
 use Rattle.tagplay.proofs.lines.has_gap.Goals as goal

@@ -1,6 +1,5 @@
 -- A number is told to be none only where it has another byte, or is too large.
-use Rattle.std.proofs.Common.{◌≡◌, ◌<◌, ◌≤◌, ◌+◌, ◌*◌, ◌^◌, length, get_or, arith, sym, rules}
-use Rattle.std.specs.Char.{digit_value}
+use Rattle.std.proofs.Common.{get_or, arith, sym}
 use Rattle.std.proofs.lemmas.Str.{digit_value_digit}
 use Rattle.tagplay.proofs.NumberFacts.{overflows, is_read}
 use Rattle.tagplay.proofs.numbers.number.Goals as goal

@@ -1,5 +1,5 @@
 -- A tag that isn't there or isn't held is refused, and any other is set aside.
-use Rattle.std.proofs.Common.{◌≡◌, ◌≤◌, ◌<◌, ◌+◌, true, false, refl, sym, ap, subst, ◌∙◌, arith, rules}
+use Rattle.std.proofs.Common.{◌≡◌, ◌+◌, sym, subst, ◌∙◌, arith}
 use Rattle.std.proofs.lemmas.Bool.{false≢true}
 use Rattle.tag_layout.specs.Layout.{word_of, place_of}
 use Rattle.std.specs.Prelude.{IsTrue, if◌then◌else◌, Ok}

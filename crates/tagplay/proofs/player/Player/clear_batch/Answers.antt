@@ -1,12 +1,11 @@
 -- A list is refused by its first cause, and any other is freed.
-use Rattle.std.proofs.Common.{◌≡◌, ◌≢◌, ℕ, ◌≤◌, ◌<◌, ◌+◌, ◌-◌, ◌⊎◌, true, false, length, get_or, inl, inr, refl, sym, ap, subst, ◌∙◌, arith, rules}
+use Rattle.std.proofs.Common.{◌≡◌, ℕ, ◌≤◌, ◌<◌, ◌+◌, ◌-◌, length, get_or, inl, inr, sym, subst, arith, rules}
 use Rattle.std.specs.Prelude.{if◌then◌else◌, Ok}
-use Rattle.std.specs.List.{All, Any, AllPairs}
-use Rattle.tag_layout.specs.Layout.{Layout, word_of, place_of}
+use Rattle.std.specs.List.{All, Any}
 use Rattle.tag_search.specs.Plain.{words_of}
-use Rattle.tag_search.specs.Pool.{pool_of, is_busy}
+use Rattle.tag_search.specs.Pool.{pool_of}
 use Rattle.tagplay.specs.Players.{solo_of}
-use Rattle.tagplay.specs.Solo.{Solo, ClearsBatch, give_back, bad_count, no_such_tag, not_held, cleared, NamesTwice, is_held}
+use Rattle.tagplay.specs.Solo.{Solo, ClearsBatch, give_back, bad_count, no_such_tag, not_held, cleared}
 use Rattle.tagplay.proofs.PoolFacts.{depth_is}
 use Rattle.tagplay.proofs.ClearingFacts.{if_true, if_false}
 use Rattle.tagplay.proofs.player.Player.clear_batch.Goals as goal

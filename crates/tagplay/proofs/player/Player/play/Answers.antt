@@ -1,5 +1,5 @@
 -- One more order is played in the world that those before it left.
-use Rattle.std.proofs.Common.{◌≡◌, ◌<◌, ◌≤◌, ◌+◌, ◌*◌, List, [], ◌∷◌, ◌++◌, take, get_or, length, append_assoc, append-nil, refl, sym, ap, subst, ◌∙◌, arith, rules}
+use Rattle.std.proofs.Common.{◌≡◌, ◌<◌, ◌+◌, List, [], ◌∷◌, ◌++◌, take, length, append_assoc, append-nil, refl, sym, ap, subst, ◌∙◌, arith, rules}
 use Rattle.std.proofs.lemmas.List.{take_more}
 use Rattle.tagplay.specs.declared.order.Order.{Order}
 use Rattle.tagplay.specs.Commands.{Plays, over}
