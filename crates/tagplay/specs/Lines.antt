@@ -22,11 +22,11 @@ parts_of line = slice_split (λ b. b == 32) line
 abbrev pub has_gap : List (List ℕ) → Bool
 has_gap parts = list_any (λ part. length part == 0) parts
 
--- the words of a line are its parts. A line with an empty part has no words
+-- the words of a line are its parts. A line with an empty part has no words, and so has an empty line
 abbrev pub words_of : List ℕ → List (List ℕ)
 words_of line = if has_gap (parts_of line) then [] else parts_of line
 
--- the number that a word spells in decimal digits, if it is below the limit
+-- the number that a word spells in decimal digits, if it is below the limit. No word of a line is empty
 abbrev pub number_below : ℕ → List ℕ → Option ℕ
 number_below limit word =
     if all_ascii_digits word && nat_lt (digits_value 10 word) limit then Some (digits_value 10 word) else None
