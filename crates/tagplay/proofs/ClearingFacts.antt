@@ -1,10 +1,9 @@
 -- Tags that are freed one after another, a mask for those of one word.
-use Rattle.std.proofs.Common.{◌≡◌, ◌≢◌, ℕ, zero, suc, ◌+◌, ◌^◌, ◌<◌, ◌≤◌, max, Bool, true, false, not, ◌&&◌, ◌||◌, nat_eq, nat_lt, List, [], ◌∷◌, length, take, get_or, bit_or, refl, sym, ap, ◌∙◌, eq-eqb, ne_eqb, eqb-true, subst, arith}
+use Rattle.std.proofs.Common.{◌≡◌, ◌≢◌, ℕ, zero, suc, ◌+◌, ◌^◌, ◌<◌, ◌≤◌, max, Bool, true, false, not, ◌&&◌, ◌||◌, nat_eq, nat_lt, List, [], length, take, get_or, bit_or, refl, sym, ap, ◌∙◌, eq-eqb, ne_eqb, subst, arith}
 use mathlib.Core.Logic.{dite}
 use native.Mathlib.Decide.{ℕ_discrete}
 use Rattle.std.specs.Int.{bit_at}
 use Rattle.std.specs.Prelude.{MatchBool}
-use Rattle.std.specs.List.{list_any}
 use Rattle.std.proofs.lemmas.Bool.{lt-ltb, false≢true}
 use Rattle.std.proofs.lemmas.List.Folds.{list_any_more, list_any_none}
 use Rattle.std.proofs.lemmas.Grind.{get_or_default_zero}
@@ -12,10 +11,9 @@ use Rattle.std.proofs.lemmas.List.{length-take, get_or-take}
 use Rattle.std.proofs.lemmas.Nat.Bits.{bit_at_or, bit_at-lt, bit_at-zero, bit_at-pow_same, bit_at-pow_other}
 use Rattle.tag_layout.specs.Layout.{Layout, word_of, place_of, tag_at, IsWithin}
 use Rattle.tag_layout.proofs.PlaceFacts.{tag_at-back}
-use Rattle.tag_search.specs.Plain.{Plain, words_of, IsTaken}
-use Rattle.tag_search.specs.Pool.{Pool, pool_of, is_busy, free_at}
+use Rattle.tag_search.specs.Plain.{Plain, IsTaken}
+use Rattle.tag_search.specs.Pool.{Pool, is_busy, free_at}
 use Rattle.tag_search.proofs.Pools.{pool_ext, or_false, and_false}
-use Rattle.tag_search.proofs.PlainPools.{taken_of_busy}
 use Rattle.tag_search.proofs.OneTag.{one_place}
 use Rattle.tagplay.specs.Solo.{freed, is_named}
 

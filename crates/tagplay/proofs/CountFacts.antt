@@ -1,5 +1,5 @@
 -- How many tags are held or set aside, counted a word at a time.
-use Rattle.std.proofs.Common.{◌≡◌, ℕ, zero, suc, ◌+◌, ◌-◌, ◌*◌, ◌^◌, ◌<◌, ◌≤◌, min, Bool, true, false, not, ◌&&◌, ◌||◌, nat_eq, nat_lt, cond, bit_and, count_ones, slice_index, refl, sym, ap, ◌∙◌, arith, rules}
+use Rattle.std.proofs.Common.{◌≡◌, ℕ, zero, suc, ◌+◌, ◌-◌, ◌*◌, ◌^◌, ◌<◌, ◌≤◌, min, Bool, true, not, ◌&&◌, ◌||◌, nat_eq, nat_lt, cond, bit_and, count_ones, slice_index, refl, ap, ◌∙◌, arith, rules}
 use Rattle.std.specs.Int.{bit_at, bit_not, w64}
 use Rattle.std.proofs.lemmas.Nat.{and_le_l, and_le_r}
 use mathlib.Core.Logic.{dite}
@@ -7,7 +7,6 @@ use native.Mathlib.Decide.{dec_lt}
 use Rattle.std.proofs.Math.Nat.{mul-le-mul_right}
 use Rattle.std.proofs.lemmas.Nat.Bits.{bit_at-lt, bit_at_and, bit_at_not, bit_at_above}
 use Rattle.tag_layout.specs.Layout.{Layout, word_bits, words, word_of, place_of, tag_at, word_depth}
-use Rattle.tag_layout.specs.Sums.{sum_below}
 use Rattle.tag_layout.proofs.SumFacts.{sum_below-same, sum_below-split}
 use Rattle.tag_layout.proofs.PlaceFacts.{word-start, depth-le-words, word_of-tag_at, place_of-tag_at}
 use Rattle.tag_model.specs.Totals.{count_below}

@@ -10,4 +10,3 @@ pub mod NumberFacts
 pub mod ClearingFacts
 pub mod CountFacts
 pub mod PlayFacts
-pub mod PoolFacts

@@ -1,10 +1,10 @@
 -- The first line of a text, and the first word of a line.
-use Rattle.std.proofs.Common.{◌≡◌, ℕ, ◌<◌, Bool, true, false, List, [], ◌∷◌, ◌++◌, ◌==◌, cond, length, refl, ap, sym, ◌∙◌, subst, arith}
+use Rattle.std.proofs.Common.{◌≡◌, ℕ, ◌<◌, false, List, [], ◌∷◌, ◌++◌, ◌==◌, cond, length, refl, ap, sym, ◌∙◌, subst, arith}
 use Rattle.std.specs.Prelude.{Option, Some, None, MatchOption}
-use Rattle.std.specs.List.{All, AllByRecursion, slice_split, onto_first}
+use Rattle.std.specs.List.{AllByRecursion, onto_first}
 use Rattle.std.proofs.lemmas.List.Elements.{recursion_from_All}
 use Rattle.std.proofs.lemmas.List.Splits.{slice_split_none, slice_split_at}
-use Rattle.tagplay.specs.Lines.{LacksByte, lines_of, words_of}
+use Rattle.tagplay.specs.Lines.{LacksByte, lines_of, parts_of}
 
 line_cut : (line rest : List ℕ) → AllByRecursion (λ b. (b == 10) ≡ false) line
     → lines_of (line ++ 10 ∷ rest) ≡ line ∷ lines_of rest
@@ -31,12 +31,11 @@ lines_of-alone (b ∷ bytes) some lacks = line_alone b bytes (recursion_from_All
 
 -- the words that follow a word and a blank
 pub words_cut : (line word rest : List ℕ) → LacksByte 32 word → line ≡ word ++ 32 ∷ rest
-    → slice_split (λ b. b == 32) line ≡ word ∷ slice_split (λ b. b == 32) rest
-words_cut line word rest lacks parts = ap (slice_split (λ b. b == 32)) parts
-    ∙ slice_split_at (λ b. b == 32) word 32 rest lacks refl
+    → parts_of line ≡ word ∷ parts_of rest
+words_cut line word rest lacks parts = ap parts_of parts ∙ slice_split_at (λ b. b == 32) word 32 rest lacks refl
 
 -- a line without a blank is one word
-pub words_alone : (line : List ℕ) → LacksByte 32 line → slice_split (λ b. b == 32) line ≡ line ∷ []
+pub words_alone : (line : List ℕ) → LacksByte 32 line → parts_of line ≡ line ∷ []
 words_alone line lacks = slice_split_none (λ b. b == 32) line lacks
 
 -- what a cut says where the byte isn't there

@@ -4,7 +4,7 @@ use Rattle.std.specs.Prelude.{codes}
 use Rattle.std.specs.Str.{bytes_eq}
 use Rattle.std.specs.List.{slice_split, onto_first}
 use Rattle.tagplay.specs.declared.fault.LineFault.TheVariants.{BadLine}
-use Rattle.tagplay.specs.Lines.{LacksByte, words_of, number_below, numbers_below}
+use Rattle.tagplay.specs.Lines.{LacksByte, parts_of, has_gap, words_of, number_below, numbers_below}
 use Rattle.tagplay.specs.ScriptLines.{order_of, numbered_of, numbered_line, one_number_line, listed_line}
 use Rattle.tagplay.proofs.WordFacts.{after_two, three_words, after_three}
 
@@ -16,7 +16,7 @@ onto_some : (x : ℕ) (parts : List (List ℕ)) → HasWord (onto_first x parts)
 onto_some x [] = (x ∷ [], [], refl)
 onto_some x (part ∷ parts) = (x ∷ part, parts, refl)
 
-pub split_some : (text : List ℕ) → HasWord (slice_split (λ x. x == 32) text)
+pub split_some : (text : List ℕ) → HasWord (parts_of text)
 split_some [] = ([], [], refl)
 split_some (x ∷ xs) =
     elim (x == 32) as (λ test. HasWord (cond test ([] ∷ slice_split (λ y. y == 32) xs) (onto_first x (slice_split (λ y. y == 32) xs))))
@@ -34,19 +34,19 @@ listed_parts callers a b parts some is =
     ∙ ap (λ ws. listed_line callers (number_below (2 ^ 32) a) (numbers_below (2 ^ 32) ws)) (sym some.2)
 
 -- a list of numbers
-pub listed_words : (callers : ℕ) (line a rest b rest' : List ℕ) → LacksByte 32 a → line ≡ a ++ 32 ∷ rest → LacksByte 32 b
+pub listed_words : (callers : ℕ) (line : List ℕ) → has_gap (parts_of line) ≡ false → (a rest b rest' : List ℕ) → LacksByte 32 a → line ≡ a ++ 32 ∷ rest → LacksByte 32 b
     → rest ≡ b ++ 32 ∷ rest' → bytes_eq b (codes "clear-batch") ≡ true
-    → order_of callers (words_of line) ≡ listed_line callers (number_below (2 ^ 32) a) (numbers_below (2 ^ 32) (slice_split (λ x. x == 32) rest'))
-listed_words callers line a rest b rest' lacks_a whole lacks_b rest_is is =
-    after_two (order_of callers) refl line a rest b rest' lacks_a whole lacks_b rest_is
-    ∙ listed_parts callers a b (slice_split (λ x. x == 32) rest') (split_some rest') is
+    → order_of callers (words_of line) ≡ listed_line callers (number_below (2 ^ 32) a) (numbers_below (2 ^ 32) (parts_of rest'))
+listed_words callers line full a rest b rest' lacks_a whole lacks_b rest_is is =
+    after_two (order_of callers) line full a rest b rest' lacks_a whole lacks_b rest_is
+    ∙ listed_parts callers a b (parts_of rest') (split_some rest') is
 
 -- one number
-pub number_words : (callers : ℕ) (line a rest b rest' d : List ℕ) → LacksByte 32 a → line ≡ a ++ 32 ∷ rest → LacksByte 32 b
+pub number_words : (callers : ℕ) (line : List ℕ) → has_gap (parts_of line) ≡ false → (a rest b rest' d : List ℕ) → LacksByte 32 a → line ≡ a ++ 32 ∷ rest → LacksByte 32 b
     → rest ≡ b ++ 32 ∷ rest' → LacksByte 32 d → rest' ≡ d → bytes_eq b (codes "clear-batch") ≡ false
     → order_of callers (words_of line) ≡ numbered_line callers (numbered_of b) (number_below (2 ^ 32) a) (number_below (2 ^ 32) d)
-number_words callers line a rest b rest' d lacks_a whole lacks_b rest_is lacks_d last is =
-    three_words (order_of callers) refl line a rest b rest' d lacks_a whole lacks_b rest_is lacks_d last ∙ named callers a b d [] false is
+number_words callers line full a rest b rest' d lacks_a whole lacks_b rest_is lacks_d last is =
+    three_words (order_of callers) line full a rest b rest' d lacks_a whole lacks_b rest_is lacks_d last ∙ named callers a b d [] false is
 
 four_parts : (callers : ℕ) (a b d : List ℕ) (parts : List (List ℕ)) → HasWord parts → bytes_eq b (codes "clear-batch") ≡ false
     → order_of callers (a ∷ b ∷ d ∷ parts) ≡ Err BadLine
@@ -54,9 +54,9 @@ four_parts callers a b d parts some is =
     ap (λ ws. order_of callers (a ∷ b ∷ d ∷ ws)) some.2 ∙ named callers a b d (some.0 ∷ some.1) false is
 
 -- four words or more that are no list spell no order
-pub more_words : (callers : ℕ) (line a rest b rest' d rest'' : List ℕ) → LacksByte 32 a → line ≡ a ++ 32 ∷ rest → LacksByte 32 b
+pub more_words : (callers : ℕ) (line : List ℕ) → has_gap (parts_of line) ≡ false → (a rest b rest' d rest'' : List ℕ) → LacksByte 32 a → line ≡ a ++ 32 ∷ rest → LacksByte 32 b
     → rest ≡ b ++ 32 ∷ rest' → LacksByte 32 d → rest' ≡ d ++ 32 ∷ rest'' → bytes_eq b (codes "clear-batch") ≡ false
     → order_of callers (words_of line) ≡ Err BadLine
-more_words callers line a rest b rest' d rest'' lacks_a whole lacks_b rest_is lacks_d last is =
-    after_three (order_of callers) refl line a rest b rest' d rest'' lacks_a whole lacks_b rest_is lacks_d last
-    ∙ four_parts callers a b d (slice_split (λ x. x == 32) rest'') (split_some rest'') is
+more_words callers line full a rest b rest' d rest'' lacks_a whole lacks_b rest_is lacks_d last is =
+    after_three (order_of callers) line full a rest b rest' d rest'' lacks_a whole lacks_b rest_is lacks_d last
+    ∙ four_parts callers a b d (parts_of rest'') (split_some rest'') is

@@ -1,13 +1,12 @@
 -- Numbers of words, read one after another.
-use Rattle.std.proofs.Common.{◌≡◌, ℕ, ◌^◌, List, [], ◌∷◌, ◌++◌, ◌==◌, Option, Some, None, subst, refl, sym, ap, ◌∙◌, append_assoc, append-nil}
+use Rattle.std.proofs.Common.{◌≡◌, ℕ, ◌^◌, List, [], ◌∷◌, ◌++◌, Option, Some, None, refl, sym, ap, ◌∙◌, append_assoc}
 use Rattle.std.specs.Prelude.{MatchOption}
-use Rattle.std.specs.List.{slice_split}
-use Rattle.tagplay.specs.Lines.{LacksByte, number_below, numbers_below, onto_numbers}
+use Rattle.tagplay.specs.Lines.{LacksByte, parts_of, number_below, numbers_below, onto_numbers}
 use Rattle.tagplay.proofs.LineFacts.{words_cut, words_alone}
 
 -- the numbers of a text's words
 abbrev pub numbers_in : List ℕ → Option (List ℕ)
-numbers_in text = numbers_below (2 ^ 32) (slice_split (λ b. b == 32) text)
+numbers_in text = numbers_below (2 ^ 32) (parts_of text)
 
 -- the numbers behind a list
 abbrev pub behind : List ℕ → Option (List ℕ) → Option (List ℕ)
@@ -37,13 +36,13 @@ number_last numbers text word n lacks whole e =
     ∙ ap (λ (o : Option ℕ). behind numbers (onto_numbers o (Some []))) e
 
 -- a first word that spells none
-pub no_number : (numbers : List ℕ) (text word : List ℕ) (more : List (List ℕ)) → slice_split (λ b. b == 32) text ≡ word ∷ more
+pub no_number : (numbers : List ℕ) (text word : List ℕ) (more : List (List ℕ)) → parts_of text ≡ word ∷ more
     → number_below (2 ^ 32) word ≡ None → behind numbers (numbers_in text) ≡ None
 no_number numbers text word more words e =
     ap (λ ws. behind numbers (numbers_below (2 ^ 32) ws)) words ∙ ap (λ (o : Option ℕ). behind numbers (onto_numbers o (numbers_below (2 ^ 32) more))) e
 
 -- a text's first word
 pub first_word : {A : Type 0} (o : Option A) (view : A → List ℕ) (text word : List ℕ) → LacksByte 32 word
-    → MatchOption o (text ≡ word) (λ rest. text ≡ word ++ 32 ∷ view rest) → (more : List (List ℕ)) × (slice_split (λ b. b == 32) text ≡ word ∷ more)
-first_word None view text word lacks whole = ([], ap (λ t. slice_split (λ b. b == 32) t) whole ∙ words_alone word lacks)
-first_word (Some rest) view text word lacks whole = (slice_split (λ b. b == 32) (view rest), words_cut text word (view rest) lacks whole)
+    → MatchOption o (text ≡ word) (λ rest. text ≡ word ++ 32 ∷ view rest) → (more : List (List ℕ)) × (parts_of text ≡ word ∷ more)
+first_word None view text word lacks whole = ([], ap parts_of whole ∙ words_alone word lacks)
+first_word (Some rest) view text word lacks whole = (parts_of (view rest), words_cut text word (view rest) lacks whole)

@@ -1,5 +1,5 @@
 -- What `check` says of a list of events.
-use Rattle.std.specs.Prelude.{◌≡◌, ◌⊎◌, ℕ, ◌+◌, ◌<◌, ◌≤◌, List, [], ◌∷◌, ◌++◌, length, Option, IfSome, IsSomeAnd, codes}
+use Rattle.std.specs.Prelude.{◌≡◌, ◌⊎◌, ℕ, ◌+◌, ◌<◌, ◌≤◌, List, ◌++◌, length, Option, IfSome, IsSomeAnd, codes}
 use Rattle.std.specs.Io.KnownBytes.{Appends}
 use Rattle.tag_layout.specs.Layout.{Layout}
 use Rattle.tag_layout.specs.declared.layout.TheConstants.{MAX_DEPTH, MAX_SHIFT}

@@ -51,7 +51,7 @@ masked_line (Some kind) (Some caller) None mask = Err BadNumber
 masked_line (Some kind) (Some caller) (Some word) None = Err BadNumber
 masked_line (Some kind) (Some caller) (Some word) (Some mask) = Ok (masked_event kind caller word mask)
 
--- the event that the words of a line spell
+-- the event that the words of a line spell. A line with an empty word has no words
 abbrev pub event_of : List (List ℕ) → Result Event LineFault
 event_of [] = Err BadLine
 event_of (name ∷ []) = if bytes_eq name (codes "look") then Ok events.Look else Err BadLine

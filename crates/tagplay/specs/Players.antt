@@ -18,17 +18,15 @@ solo_of p = record {
   back = p.back;
 }
 
--- there is room for the counts of so many commands, and no word has more than 64 bits
+-- there is room for the counts of so many commands
 pub record IsReadyFor (n : ℕ) (w : Solo) : Type 0 where
   pub won : w.won + 64 * n < 2 ^ 64
   pub back : w.back + 64 * n < 2 ^ 64
-  pub narrow : w.layout.shift ≤ 6
 
--- a command counts no more tags than a word has, and leaves the sizes
+-- a command counts no more tags than a word has
 pub record Counted (old new : Solo) : Type 0 where
   pub won : new.won ≤ old.won + 64
   pub back : new.back ≤ old.back + 64
-  pub layout : new.layout ≡ old.layout
 
 -- the mask has the bits of the word's places that the caller holds
 pub record IsHeldMask (w : Solo) (word mask : ℕ) : Type 0 where

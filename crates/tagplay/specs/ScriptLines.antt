@@ -60,7 +60,7 @@ one_number_line callers kind caller number [] =
     numbered_line callers kind (number_below (2 ^ 32) caller) (number_below (2 ^ 32) number)
 one_number_line callers kind caller number (word ∷ more) = Err BadLine
 
--- the order that the words of a line spell, by one of so many callers
+-- the order that the words of a line spell, by one of so many callers. A line with an empty word has no words
 abbrev pub order_of : ℕ → List (List ℕ) → Result Order LineFault
 order_of callers [] = Err BadLine
 order_of callers (caller ∷ []) = Err BadLine

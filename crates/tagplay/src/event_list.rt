@@ -5,7 +5,7 @@ ghost use Rattle.tagplay.specs.Readings.{AreReadings, IsListFault};
 ghost use Rattle.tagplay.specs.EventList.{event_of, single_of, masked_of, single_event, masked_event};
 
 use crate::fault::{FaultyLine, LineFault, ListFault};
-use crate::lines::{BLANK, LINE_FEED, cut};
+use crate::lines::{BLANK, LINE_FEED, cut, has_gap};
 use crate::numbers::{number, short_number};
 use std::alloc::Global;
 use tag_model::Event;
@@ -124,6 +124,9 @@ pub(crate) fn events(alloc: Global, text: &[u8]) -> Result<Vec<Event>, ListFault
 fn event(line: &[u8]) -> Result<Event, LineFault>
     ensures { result ≡ event_of (words_of line.now) }
 {
+    if has_gap(line) {
+        return Err(LineFault::BadLine);
+    }
     let (name, rest) = cut(line, BLANK);
     let rest = match rest {
         Some(rest) => rest,

@@ -7,7 +7,7 @@ use thiserror::Error;
 /// What is wrong with a line. The causes are looked for in the order in which they stand here.
 #[derive(Clone, Copy, Debug, PartialEq, Eq)]
 pub enum LineFault {
-    /// Too few words, an unknown command, or a wrong number of words after it.
+    /// An empty word, too few words, an unknown command, or a wrong number of words after it.
     BadLine,
     /// A word in a number's place isn't all digits, or spells a number over its bound.
     BadNumber,
@@ -89,7 +89,7 @@ pub enum TagFault {
     NoSuchTag,
     /// The caller doesn't hold the tag.
     NotHeld,
-    /// No tag at all is asked for, or more than a word has.
+    /// No tag at all, or more than a word has; of a list that is given back, more than 64.
     BadCount,
     /// The depth is 0, or below the least one.
     TooShallow,

@@ -1,6 +1,6 @@
 //! Lines of a text and words of a line, one after another.
 ghost use Rattle.std.specs.Prelude.{◌≡◌, ◌<◌, ◌++◌, [], ◌∷◌, length, IfSome, MatchOption};
-ghost use Rattle.tagplay.specs.Lines.{lines_of, words_of, LacksByte};
+ghost use Rattle.tagplay.specs.Lines.{parts_of, has_gap, LacksByte};
 
 /// What ends a line.
 pub(crate) const LINE_FEED: u8 = b'\n';
@@ -18,4 +18,12 @@ pub(crate) fn cut(text: &[u8], at: u8) -> (&[u8], Option<&[u8]>)
         Some(end) => (&text[..end], Some(&text[end + 1..])),
         None => (text, None),
     }
+}
+
+/// Whether a blank begins or ends the line, or two stand together. An empty line is one empty part.
+pub(crate) fn has_gap(line: &[u8]) -> bool
+    ensures { result ≡ has_gap (parts_of line.now) }
+{
+    line.split(|byte| *byte == BLANK)
+        .any(|part| part.is_empty())
 }

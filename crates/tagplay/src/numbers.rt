@@ -2,13 +2,10 @@
 ghost use Rattle.std.specs.Prelude.{◌≡◌, ◌+◌, ◌*◌, ◌^◌, ◌≤◌, MatchOption};
 ghost use Rattle.tagplay.specs.Lines.{number_below};
 
-/// The number that a word spells in decimal digits alone, if it fits 64 bits.
+/// The number that a word spells in decimal digits alone, if it fits 64 bits. No word of a line is empty.
 pub(crate) fn number(word: &[u8]) -> Option<u64>
     ensures { result ≡ number_below (2 ^ 64) word.now }
 {
-    if word.is_empty() {
-        return None;
-    }
     let mut value = 0u64;
     for byte in word {
         if !byte.is_ascii_digit() {

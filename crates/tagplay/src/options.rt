@@ -40,22 +40,37 @@ pub struct CheckOptions {
 /// The command line that the program takes.
 pub(crate) fn command<'a>(alloc: Global) -> Result<Command<'a>, AllocError> {
     let script = Command::new(alloc, "script")
-        .about("Carries out the commands of a script, a line each")
+        .about("Carries out the commands of a script, a line each, as 0 get")
         .arg(tags(alloc))?
         .arg(reserved(alloc))?
         .arg(shift(alloc))?
         .arg(round_robin(alloc))?
         .arg(min_shallow(alloc))?
-        .arg(callers(alloc))?
+        .arg(callers(alloc).help(
+            "How many callers there are; so far a script is carried out for caller 0 alone, and any number but 1 is refused",
+        ))?
         .arg(life(alloc))?
-        .arg(plain(alloc))?;
+        .arg(plain(alloc))?
+        .after_help(
+            "A line is the caller, 0, and a command: get, shallow D, batch N, clear T, clear-batch T1 T2 .., busy, show or dump.\n\
+            Exit status: 0 done, 1 refused, 2 a command line that isn't one, 3 no memory, too long an input, or a fault of reading or writing.",
+        );
     let check = Command::new(alloc, "check")
-        .about("Says whether a list of events could have happened")
+        .about("Says whether a list of events, a line each, as win 0 0 8, could have happened")
         .arg(tags(alloc))?
         .arg(shift(alloc))?
-        .arg(callers(alloc))?;
+        .arg(callers(alloc).help(
+            "How many callers there are, 1 to 64; they go by the numbers from 0",
+        ))?
+        .after_help(
+            "A line is look, win C W M, give C W M, put C T, sweep C W, spill C W, post C T or take C T:\n\
+            caller C, word W, tag T, and the decimal mask M of the word's tags, its first tag at the low bit.\n\
+            Exit status: 0 it could, 1 refused, 2 a command line that isn't one, 3 no memory, too long an input, or a fault of reading or writing.",
+        );
     Command::new(alloc, "tagplay")
-        .about("Plays with a tag allocator: reads from standard input, writes to standard output")
+        .about(
+            "Plays with a tag allocator: reads lines from standard input, and writes what they answer to standard output",
+        )
         .subcommand_required(true)
         .subcommand(script)?
         .subcommand(check)
@@ -99,7 +114,7 @@ fn shift<'a>(alloc: Global) -> Arg<'a> {
         .value_name("S")
         .value_parser(value_parser!(u32))
         .help(
-            "Tags are kept in words of 2^S bits, S at most 6 [default: the greatest S with four whole words]",
+            "Tags are kept in words of 2^S bits, S at most 6 [default: the greatest S with four whole words, and 6 for less than 4 tags]",
         )
 }
 
@@ -109,7 +124,6 @@ fn callers<'a>(alloc: Global) -> Arg<'a> {
         .value_name("C")
         .value_parser(value_parser!(u32))
         .default_value("1")
-        .help("How many callers there are, 1 to 64; they go by the numbers from 0")
 }
 
 fn reserved<'a>(alloc: Global) -> Arg<'a> {
@@ -118,7 +132,7 @@ fn reserved<'a>(alloc: Global) -> Arg<'a> {
         .value_name("R")
         .value_parser(value_parser!(u32))
         .default_value("0")
-        .help("How many of the tags are reserved; one caller alone has none")
+        .help("How many of the tags are reserved; so far any number but 0 is refused")
 }
 
 fn round_robin<'a>(alloc: Global) -> Arg<'a> {
@@ -126,7 +140,7 @@ fn round_robin<'a>(alloc: Global) -> Arg<'a> {
         .long("round-robin")
         .action(ArgAction::SetTrue)
         .help(
-            "Each get begins behind the last tag won, and takes no place of its first word before that",
+            "Each get begins behind the last tag won, and takes no place before that in its first word",
         )
 }
 
@@ -144,12 +158,12 @@ fn life<'a>(alloc: Global) -> Arg<'a> {
         .value_name("L")
         .value_parser(value_parser!(u64))
         .default_value("281474976710656")
-        .help("How many tags a caller may win; not looked at with --plain")
+        .help("How many tags a caller may win; so far not looked at")
 }
 
 fn plain<'a>(alloc: Global) -> Arg<'a> {
     Arg::new(alloc, "plain")
         .long("plain")
         .action(ArgAction::SetTrue)
-        .help("One caller has the words alone; so far a script without this runs the same way")
+        .help("One caller has the map alone; so far a script without this option runs the same way")
 }

@@ -4,7 +4,7 @@ ghost use Rattle.tagplay.specs.Lines.{words_of, number_below};
 ghost use Rattle.tagplay.specs.ScriptLines.{order_of, lone_of, numbered_of, numbered_command, numbered_line, listed_line, ordered};
 
 use crate::fault::LineFault;
-use crate::lines::{BLANK, cut};
+use crate::lines::{BLANK, cut, has_gap};
 use crate::numbers::short_number;
 use crate::tag_list::{TagList, read_tags};
 use std::alloc::{AllocError, Global};
@@ -105,6 +105,9 @@ pub(crate) fn read_order(
 ) -> Result<Result<Order, LineFault>, AllocError>
     ensures { IfOk result (λ said. said ≡ order_of callers (words_of line.now)) }
 {
+    if has_gap(line) {
+        return Ok(Err(LineFault::BadLine));
+    }
     let (caller, rest) = cut(line, BLANK);
     let rest = match rest {
         Some(rest) => rest,

@@ -12,6 +12,9 @@ use std::alloc::{AllocError, Global};
 use tag_layout::Layout;
 use tag_search::{Hint, PlainPort, Port, after_clear};
 
+/// The most tags of a list that are given back at once.
+const MAX_LIST: usize = 64;
+
 /// The sizes of a map and the sums of its words.
 #[derive(Clone, Copy, Debug, PartialEq, Eq)]
 pub struct Shown {
@@ -141,7 +144,7 @@ impl Player {
         requires { IsReadyFor 1 (solo_of self.old) }
         ensures { ClearsBatch tags.now (solo_of self.old) result (solo_of self.new) }
     {
-        if tags.is_empty() || tags.len() > 64 {
+        if tags.is_empty() || tags.len() > MAX_LIST {
             return Err(TagFault::BadCount);
         }
         if !are_below(tags, self.port.layout().depth()) {

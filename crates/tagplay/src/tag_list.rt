@@ -1,7 +1,6 @@
 //! Lists of tags, as a line names them.
-ghost use Rattle.std.specs.Prelude.{◌≡◌, ◌==◌, ◌^◌, IfOk};
-ghost use Rattle.std.specs.List.{slice_split};
-ghost use Rattle.tagplay.specs.Lines.{numbers_below};
+ghost use Rattle.std.specs.Prelude.{◌≡◌, ◌^◌, IfOk};
+ghost use Rattle.tagplay.specs.Lines.{parts_of, numbers_below};
 
 use crate::lines::{BLANK, cut};
 use crate::numbers::short_number;
@@ -31,7 +30,7 @@ impl TagList {
 
 /// The numbers that words spell, one blank between two of them, if each spells one that fits 32 bits.
 pub(crate) fn read_tags(alloc: Global, words: &[u8]) -> Result<Option<TagList>, AllocError>
-    ensures { IfOk result (λ tags. tags ≡ numbers_below (2 ^ 32) (slice_split (λ b. b == 32) words.now)) }
+    ensures { IfOk result (λ tags. tags ≡ numbers_below (2 ^ 32) (parts_of words.now)) }
 {
     let mut tags = Vec::new(alloc);
     let mut rest = words;

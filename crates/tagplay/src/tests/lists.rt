@@ -79,16 +79,69 @@ fn lines_are_bytes_and_the_last_may_lack_its_end(rt: HostRuntime) -> Result<(), 
             "ok events=1 got=4 back=0 held=4 posted=0\n",
         ),
         ("look\r\n", "line 1 refused 1\n"),
-        ("look \n", "line 1 refused 1\n"),
-        (" look\n", "line 1 refused 1\n"),
-        ("put  0 3\n", "line 1 refused 1\n"),
+        ("put 0 3\r\n", "line 1 refused 2\n"),
+        ("put 0 3\0\n", "line 1 refused 2\n"),
+        ("look\0\n", "line 1 refused 1\n"),
+        ("put 0\t3\n", "line 1 refused 1\n"),
         ("put 0 +3\n", "line 1 refused 2\n"),
         ("put 0 4294967296\n", "line 1 refused 2\n"),
         ("put 0 4294967295\n", "event 1 refused 1\n"),
-        ("win 0 0 1 \n", "line 1 refused 1\n"),
         ("look\n\nlook\n", "line 2 refused 1\n"),
     ] {
         expect(&rt, &options(1), list, text)?;
+    }
+    Ok(())
+}
+
+// An empty word is told before an unknown name and a number.
+#[test]
+fn an_empty_word_is_told_first(rt: HostRuntime) -> Result<(), Fail> {
+    for line in [
+        "\n",
+        " ",
+        "  ",
+        " \r",
+        " look",
+        "look ",
+        "nothing ",
+        " nothing 0 3",
+        " put 0 3",
+        "put  0 3",
+        "put  3",
+        "put 0  3",
+        "put 0 ",
+        "put 0 3 ",
+        "put x ",
+        "put 4294967296 ",
+        "sweep  0",
+        "win 0 0 ",
+        "win 0  8",
+        "win  0 8",
+        "win 0 0 8 ",
+        "win x  8",
+        "give 0 0  8",
+    ] {
+        expect(&rt, &options(1), line, "line 1 refused 1\n")?;
+    }
+    expect(
+        &rt,
+        &options(1),
+        "look\nput 0 \nput 0 x\n",
+        "line 2 refused 1\n",
+    )
+}
+
+#[test]
+fn bytes_of_any_value_stand_in_words(rt: HostRuntime) -> Result<(), Fail> {
+    for (list, text) in [
+        (b"put 0 \xFF".as_slice(), b"line 1 refused 2\n".as_slice()),
+        (b"\xFFook", b"line 1 refused 1\n"),
+        (b"put \x80  3", b"line 1 refused 1\n"),
+    ] {
+        let mut written = Vec::new(rt.alloc());
+        let ending = run_check(rt.alloc(), &options(1), &mut &*list, &mut written)?;
+        assert_eq!(rt; written.as_slice(), text, "at {list:?}");
+        assert_eq!(rt; ending, Ending::Refused, "at {list:?}");
     }
     Ok(())
 }

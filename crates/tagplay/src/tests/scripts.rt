@@ -142,7 +142,6 @@ fn faulty_lines(rt: HostRuntime) -> Result<(), Fail> {
 #[test]
 fn malformed_scripts(rt: HostRuntime) -> Result<(), Fail> {
     for (script, text) in [
-        ("0  get", "line 1 refused 1\n"),
         ("x get", "line 1 refused 2\n"),
         ("7 clear x", "line 1 refused 2\n"),
         ("0 clear 4294967296", "line 1 refused 2\n"),
@@ -154,6 +153,9 @@ fn malformed_scripts(rt: HostRuntime) -> Result<(), Fail> {
         ),
         ("0 get\n\n0 get", "line 2 refused 1\n"),
         ("0 get\r\n", "line 1 refused 1\n"),
+        ("0 clear 0\r\n", "line 1 refused 2\n"),
+        ("0\r get\n", "line 1 refused 2\n"),
+        ("0\tget\n", "line 1 refused 1\n"),
         ("0 get\n0 get \n0 clear x\n", "line 2 refused 1\n"),
         ("0 post 0\n", "line 1 refused 1\n"),
         ("0 show reserved\n", "line 1 refused 1\n"),
@@ -161,6 +163,74 @@ fn malformed_scripts(rt: HostRuntime) -> Result<(), Fail> {
         ("0 clear\n", "line 1 refused 1\n"),
     ] {
         expect(&rt, &options(4, None), script, text)?;
+    }
+    Ok(())
+}
+
+// An empty word is told before an unknown command, a number and the caller.
+#[test]
+fn an_empty_word_is_told_first(rt: HostRuntime) -> Result<(), Fail> {
+    for line in [
+        "\n",
+        " ",
+        "  ",
+        " \r",
+        " get",
+        " 0 get",
+        "0  get",
+        "0 get ",
+        "0 get  ",
+        "x  get",
+        "7  get",
+        "7 get ",
+        "4294967296  get",
+        " nothing",
+        "0  nothing",
+        "0 nothing ",
+        "0 clear ",
+        "0 clear  5",
+        "0 clear 5 ",
+        "0  clear 5",
+        "x clear ",
+        "7 clear  x",
+        "0 shallow ",
+        "0 batch ",
+        "0 show ",
+        "0 clear-batch ",
+        "0 clear-batch 0  1",
+        "0 clear-batch 0 1 ",
+        "0 clear-batch  0 1",
+        "x clear-batch x ",
+        "7 clear-batch 0  1",
+    ] {
+        expect(&rt, &options(4, None), line, "line 1 refused 1\n")?;
+    }
+    expect(
+        &rt,
+        &options(4, None),
+        "0 get\n0 clear 0\n0 clear \n0 clear x\n",
+        "line 3 refused 1\n",
+    )
+}
+
+// A line feed ends a line and a blank ends a word. All other bytes stand in words.
+#[test]
+fn any_other_byte_stands_in_a_word(rt: HostRuntime) -> Result<(), Fail> {
+    for (script, text) in [
+        (b"0 get\0".as_slice(), b"line 1 refused 1\n".as_slice()),
+        (b"\0 get", b"line 1 refused 2\n"),
+        (b"0 clear \0", b"line 1 refused 2\n"),
+        (b"0 clear 0\0", b"line 1 refused 2\n"),
+        (b"0 clear-batch 0 \xFF", b"line 1 refused 2\n"),
+        (b"0 g\xC3\xA9t", b"line 1 refused 1\n"),
+        (b"\xFF get", b"line 1 refused 2\n"),
+        (b"\xFF\xFE  get", b"line 1 refused 1\n"),
+        (b"0\xA0get", b"line 1 refused 1\n"),
+    ] {
+        let mut written = Vec::new(rt.alloc());
+        let ending = run_script(rt.alloc(), &options(4, None), &mut &*script, &mut written)?;
+        assert_eq!(rt; written.as_slice(), text, "at {script:?}");
+        assert_eq!(rt; ending, Ending::Refused, "at {script:?}");
     }
     Ok(())
 }
@@ -334,8 +404,6 @@ fn long_lists(rt: HostRuntime) -> Result<(), Fail> {
 fn malformed_lists(rt: HostRuntime) -> Result<(), Fail> {
     for (script, text) in [
         ("0 clear-batch", "line 1 refused 1\n"),
-        ("0 clear-batch ", "line 1 refused 2\n"),
-        ("0 clear-batch 0  1", "line 1 refused 2\n"),
         ("0 clear-batch 0 1 x", "line 1 refused 2\n"),
         ("x clear-batch 0 1", "line 1 refused 2\n"),
         ("0 clear-batch 0 4294967296", "line 1 refused 2\n"),

@@ -3,7 +3,7 @@ use Rattle.std.proofs.Common.{◌≡◌, ℕ, ◌+◌, ◌*◌, ◌%◌, ◌^◌
 use Rattle.std.specs.Int.{bit_at}
 use Rattle.std.proofs.lemmas.Nat.{one_shl, or_lt, pow_below, pow_pos}
 use Rattle.std.proofs.lemmas.Nat.Bits.{bit_at-zero}
-use Rattle.tag_layout.specs.Layout.{Layout, words, word_of, place_of, word_depth, IsWithin}
+use Rattle.tag_layout.specs.Layout.{Layout, words, word_of, place_of, word_depth}
 use Rattle.tag_search.specs.Plain.{Plain, words_of, IsTaken}
 use Rattle.tag_search.specs.Pool.{Pool, pool_of, is_busy, free_at}
 use Rattle.tag_search.proofs.PlainPools.{taken_of_busy}

@@ -1,5 +1,5 @@
 -- Each part goes behind those before it.
-use Rattle.std.proofs.Common.{◌≡◌, ℕ, List, ◌++◌}
+use Rattle.std.proofs.Common.{ℕ, List, ◌++◌}
 use Rattle.std.specs.Prelude.{codes}
 use Rattle.tagplay.specs.Texts.{field}
 use Rattle.tagplay.proofs.TextFacts.{after}

@@ -1,5 +1,5 @@
 -- A mask without a bit adds nothing, and each place adds its text.
-use Rattle.std.proofs.Common.{◌≡◌, ℕ, List, ◌++◌, sym, ap, ◌∙◌, append-nil}
+use Rattle.std.proofs.Common.{ℕ, List, ◌++◌, sym, ap, ◌∙◌, append-nil}
 use Rattle.tagplay.specs.Commands.{texts_below, place_text, word_text}
 use Rattle.tagplay.proofs.TextFacts.{after, empty_word, texts_below-next}
 use Rattle.tagplay.proofs.commands.push_word.Goals as goal

@@ -1,9 +1,7 @@
 -- Each line goes from the rest to the events, or is the first faulty one.
-use Rattle.std.proofs.Common.{◌≡◌, ◌<◌, ◌+◌, ◌∷◌, [], ◌++◌, length, subst, sym, ◌∙◌, ap, rules, arith}
+use Rattle.std.proofs.Common.{◌≡◌, ◌<◌, ◌+◌, ◌∷◌, [], ◌++◌, length, sym, ◌∙◌, rules, arith}
 use Rattle.std.proofs.lemmas.Grind.{common_steps}
-use Rattle.tagplay.specs.Readings.{readings}
 use Rattle.tagplay.specs.EventList.{event_of}
-use Rattle.tagplay.specs.Lines.{words_of, lines_of}
 use Rattle.tagplay.proofs.LineFacts.{is_whole, has_rest, has_line, last_line, lines_of-cut}
 use Rattle.tagplay.proofs.ReadingFacts.{said_on, first_faulty}
 use Rattle.tagplay.proofs.event_list.events.Goals as goal

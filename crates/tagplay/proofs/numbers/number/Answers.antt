@@ -1,13 +1,12 @@
 -- A number is told to be none only where it has another byte, or is too large.
-use Rattle.std.proofs.Common.{◌≡◌, ◌<◌, ◌≤◌, ◌+◌, ◌*◌, ◌^◌, length, get_or, arith, sym, rules}
-use Rattle.std.specs.Char.{digit_value}
+use Rattle.std.proofs.Common.{get_or, arith, sym}
 use Rattle.std.proofs.lemmas.Str.{digit_value_digit}
 use Rattle.tagplay.proofs.NumberFacts.{overflows, is_read}
 use Rattle.tagplay.proofs.numbers.number.Goals as goal
 
 pub returns : goal.returns
 returns c =
-    sym (is_read c.args.word.now c.loop-byte.byte-index c.loop-byte.value (search rules) (omega arith) c.loop-byte.invariant.fits
+    sym (is_read c.args.word.now c.loop-byte.byte-index c.loop-byte.value (omega arith) c.loop-byte.invariant.fits
     c.loop-byte.invariant.value c.loop-byte.invariant.digits)
 
 pub returns-in-None : goal.returns-in-None

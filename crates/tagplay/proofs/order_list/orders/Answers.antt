@@ -1,9 +1,7 @@
 -- Each line goes from the rest to the orders, or is the first faulty one.
-use Rattle.std.proofs.Common.{◌≡◌, ◌<◌, ◌+◌, ◌∷◌, [], ◌++◌, length, Ok, Err, subst, sym, ◌∙◌, ap, rules, arith}
+use Rattle.std.proofs.Common.{◌≡◌, ◌<◌, ◌+◌, ◌∷◌, [], ◌++◌, length, Ok, Err, sym, ◌∙◌, rules, arith}
 use Rattle.std.proofs.lemmas.Grind.{common_steps}
-use Rattle.tagplay.specs.Readings.{readings}
 use Rattle.tagplay.specs.ScriptLines.{order_of}
-use Rattle.tagplay.specs.Lines.{words_of, lines_of}
 use Rattle.tagplay.proofs.LineFacts.{is_whole, has_rest, has_line, last_line, lines_of-cut}
 use Rattle.tagplay.proofs.ReadingFacts.{said_on, first_faulty}
 use Rattle.tagplay.proofs.order_list.orders.Goals as goal

@@ -1,5 +1,5 @@
 -- A shift of one is a power of two.
-use Rattle.std.proofs.Common.{◌≡◌, ◌^◌, ap, ◌∙◌, arith}
+use Rattle.std.proofs.Common.{◌^◌, ap, ◌∙◌, arith}
 use Rattle.std.proofs.lemmas.Nat.{one_shl}
 use Rattle.tagplay.proofs.player.bits_per_word.Goals as goal
 

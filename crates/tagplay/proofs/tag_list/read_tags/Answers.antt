@@ -1,5 +1,5 @@
 -- Each word gives a number to the list, or there is none.
-use Rattle.std.proofs.Common.{◌≡◌, ◌∷◌, [], ◌++◌, None, sym, ◌∙◌, ap, rules}
+use Rattle.std.proofs.Common.{◌≡◌, ◌∷◌, [], ◌++◌, sym, ◌∙◌, ap, rules}
 use Rattle.tagplay.proofs.LineFacts.{is_whole, has_rest}
 use Rattle.tagplay.proofs.TagListFacts.{numbers_in, behind, no_number, number_last, number_more, first_word}
 use Rattle.tagplay.proofs.tag_list.read_tags.Goals as goal

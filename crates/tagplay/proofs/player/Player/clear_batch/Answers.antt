@@ -1,42 +1,41 @@
 -- A list is refused by its first cause, and any other is freed.
-use Rattle.std.proofs.Common.{◌≡◌, ◌≢◌, ℕ, ◌≤◌, ◌<◌, ◌+◌, ◌-◌, ◌⊎◌, true, false, length, get_or, inl, inr, refl, sym, ap, subst, ◌∙◌, arith, rules}
+use Rattle.std.proofs.Common.{◌≡◌, ℕ, ◌≤◌, ◌<◌, ◌+◌, ◌-◌, length, get_or, inl, inr, sym, ap, subst, ◌∙◌, arith, rules}
 use Rattle.std.specs.Prelude.{if◌then◌else◌, Ok}
-use Rattle.std.specs.List.{All, Any, AllPairs}
-use Rattle.tag_layout.specs.Layout.{Layout, word_of, place_of}
+use Rattle.std.specs.List.{All, Any}
+use Rattle.tag_layout.specs.Layout.{Layout}
 use Rattle.tag_search.specs.Plain.{words_of}
-use Rattle.tag_search.specs.Pool.{pool_of, is_busy}
+use Rattle.tag_search.specs.Pool.{pool_of}
 use Rattle.tagplay.specs.Players.{solo_of}
-use Rattle.tagplay.specs.Solo.{Solo, ClearsBatch, give_back, bad_count, no_such_tag, not_held, cleared, NamesTwice, is_held}
-use Rattle.tagplay.proofs.PoolFacts.{depth_is}
+use Rattle.tagplay.specs.Solo.{Solo, ClearsBatch, give_back, bad_count, no_such_tag, not_held, cleared}
 use Rattle.tagplay.proofs.ClearingFacts.{if_true, if_false}
 use Rattle.tagplay.proofs.player.Player.clear_batch.Goals as goal
-use Rattle.tagplay.proofs.player.Player.clear_batch.Goals.{then-is_empty-via-then-is_empty, then-is_empty-via-else-is_empty+then-tags-gt64}
+use Rattle.tagplay.proofs.player.Player.clear_batch.Goals.{then-is_empty-via-then-is_empty, then-is_empty-via-else-is_empty+then-tags-gt-MAX_LIST}
 
 pub returns-then-is_empty : goal.returns-then-is_empty
 returns-then-is_empty c = elim c.then-is_empty.branch [
   | then-is_empty-via-then-is_empty w ↦ bad_count (inl (search rules))
-  | then-is_empty-via-else-is_empty+then-tags-gt64 w ↦ bad_count (inr (omega (arith, w.if-tags-gt64.true)))
+  | then-is_empty-via-else-is_empty+then-tags-gt-MAX_LIST w ↦ bad_count (inr (omega (arith, w.if-tags-gt-MAX_LIST.true)))
 ]
 
 pub returns-then-not-are_below : goal.returns-then-not-are_below
 returns-then-not-are_below c =
     let tags = c.args.tags.now in let some : 0 < length c.args.tags.now = search rules in
-    let depth = depth_is c.args.self.now.port.layout c.layout.result c.depth.result c.layout.ensures.value c.depth.ensures.value in
+    let depth = c.depth.ensures.value ∙ ap (λ (l : Layout). l.depth) c.layout.ensures.value in
     let which : Any (λ (tag : ℕ). c.depth.result ≤ tag) tags = if_false _ _ c.are_below.result c.if-not-are_below.true c.are_below.ensures in
-    no_such_tag (omega (arith, some)) (omega (arith, c.if-tags-gt64.false)) (subst (λ (d : ℕ). Any (λ (tag : ℕ). d ≤ tag) tags) depth which)
+    no_such_tag (omega (arith, some)) (omega (arith, c.if-tags-gt-MAX_LIST.false)) (subst (λ (d : ℕ). Any (λ (tag : ℕ). d ≤ tag) tags) depth which)
 
 pub returns-then-not-are_held_once : goal.returns-then-not-are_held_once
 returns-then-not-are_held_once c =
     let tags = c.args.tags.now in let some : 0 < length c.args.tags.now = search rules in
-    let depth = depth_is c.args.self.now.port.layout c.layout.result c.depth.result c.layout.ensures.value c.depth.ensures.value in
+    let depth = c.depth.ensures.value ∙ ap (λ (l : Layout). l.depth) c.layout.ensures.value in
     let below : All (λ (tag : ℕ). tag < c.depth.result) tags = if_true _ _ c.are_below.result c.if-not-are_below.false c.are_below.ensures in
-    not_held (omega (arith, some)) (omega (arith, c.if-tags-gt64.false)) (subst (λ (d : ℕ). All (λ (tag : ℕ). tag < d) tags) depth below)
+    not_held (omega (arith, some)) (omega (arith, c.if-tags-gt-MAX_LIST.false)) (subst (λ (d : ℕ). All (λ (tag : ℕ). tag < d) tags) depth below)
     (if_false _ _ c.are_held_once.result c.if-not-are_held_once.true c.are_held_once.ensures)
 
 pub returns : goal.returns
 returns c =
     let p = c.args.self.now.port in let tags = c.args.tags.now in let some : 0 < length c.args.tags.now = search rules in let q = c.give_all.new.port in
-    let depth = depth_is p.layout c.layout.result c.depth.result c.layout.ensures.value c.depth.ensures.value in
+    let depth = c.depth.ensures.value ∙ ap (λ (l : Layout). l.depth) c.layout.ensures.value in
     let below : All (λ (tag : ℕ). tag < c.depth.result) tags = if_true _ _ c.are_below.result c.if-not-are_below.false c.are_below.ensures in
     let held = if_true _ _ c.are_held_once.result c.if-not-are_held_once.false c.are_held_once.ensures in
     let hint : c.after_clear.new.hint ≡ record c.args.self.now.hint {
@@ -58,4 +57,4 @@ returns c =
       back = c.args.self.now.back + length tags;
     } in
     let P : Solo → Type 0 = λ w. ClearsBatch tags (solo_of c.args.self.now) (Ok tt) w in
-    subst P done (cleared (omega (arith, some)) (omega (arith, c.if-tags-gt64.false)) (subst (λ (d : ℕ). All (λ (tag : ℕ). tag < d) tags) depth below) held.0 held.1)
+    subst P done (cleared (omega (arith, some)) (omega (arith, c.if-tags-gt-MAX_LIST.false)) (subst (λ (d : ℕ). All (λ (tag : ℕ). tag < d) tags) depth below) held.0 held.1)

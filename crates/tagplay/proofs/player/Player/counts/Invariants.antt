@@ -1,5 +1,5 @@
 -- The words so far are counted, and nothing is changed.
-use Rattle.std.proofs.Common.{◌≡◌, ◌≤◌, ◌+◌, ◌*◌, min}
+use Rattle.std.proofs.Common.{◌≡◌, ◌≤◌, ◌*◌, min}
 use Rattle.tag_layout.specs.Layout.{word_bits}
 use Rattle.tag_model.specs.Totals.{count_below}
 use Rattle.tagplay.specs.Players.{solo_of}

@@ -1,5 +1,5 @@
 -- The choice, with the tag counted.
-use Rattle.std.proofs.Common.{◌≡◌, ◌+◌, refl, arith, rules}
+use Rattle.std.proofs.Common.{refl, rules}
 use Rattle.tagplay.proofs.PlayFacts.{counts_one, counts_none}
 use Rattle.tagplay.proofs.player.Player.get.Goals as goal
 

@@ -1,5 +1,5 @@
 -- A count that isn't refused is searched for, but not under round robin, and the tags are counted.
-use Rattle.std.proofs.Common.{◌≡◌, ℕ, ◌+◌, ◌≤◌, ◌<◌, refl, ap, inl, inr, arith}
+use Rattle.std.proofs.Common.{◌≡◌, ℕ, ◌+◌, refl, ap, inl, inr, arith}
 use Rattle.tag_layout.specs.Layout.{word_bits}
 use Rattle.tagplay.specs.Solo.{bad_count, none_around, side_by_side}
 use Rattle.tagplay.proofs.player.Player.get_batch.Goals as goal

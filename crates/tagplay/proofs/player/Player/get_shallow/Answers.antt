@@ -1,5 +1,5 @@
 -- A depth that isn't refused is searched, and the tag counted.
-use Rattle.std.proofs.Common.{◌≡◌, ◌+◌, refl, arith, rules}
+use Rattle.std.proofs.Common.{refl, arith, rules}
 use Rattle.tagplay.specs.Solo.{too_shallow, deep_enough}
 use Rattle.tagplay.proofs.PlayFacts.{counts_one, counts_none}
 use Rattle.tagplay.proofs.player.Player.get_shallow.Goals as goal

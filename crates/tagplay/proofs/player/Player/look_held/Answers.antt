@@ -1,9 +1,8 @@
 -- The bits that are set and not aside, and nothing is changed.
-use Rattle.std.proofs.Common.{◌≡◌, ℕ, ◌+◌, ◌^◌, ◌<◌, bit_and, slice_index, cond, sym, ap, subst, ◌∙◌, arith}
+use Rattle.std.proofs.Common.{◌≡◌, ℕ, ◌+◌, ◌^◌, ◌<◌, bit_and, slice_index, sym, ap, subst, ◌∙◌, arith}
 use Rattle.std.specs.Int.{bit_at, bit_not, w64}
-use Rattle.tag_layout.specs.Layout.{Layout, words, word_depth, tag_at}
-use Rattle.tagplay.specs.Players.{solo_of, IsHeldMask}
-use Rattle.tagplay.specs.Solo.{Solo, is_held}
+use Rattle.tag_layout.specs.Layout.{Layout, words, word_depth}
+use Rattle.tagplay.specs.Players.{solo_of}
 use Rattle.tagplay.proofs.CountFacts.{held_place, narrow_word}
 use Rattle.tagplay.proofs.PlayFacts.{same_world}
 use Rattle.tagplay.proofs.player.Player.look_held.Goals as goal

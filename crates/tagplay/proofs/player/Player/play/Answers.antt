@@ -1,5 +1,5 @@
 -- One more order is played in the world that those before it left.
-use Rattle.std.proofs.Common.{◌≡◌, ◌<◌, ◌≤◌, ◌+◌, ◌*◌, List, [], ◌∷◌, ◌++◌, take, get_or, length, append_assoc, append-nil, refl, sym, ap, subst, ◌∙◌, arith, rules}
+use Rattle.std.proofs.Common.{◌≡◌, ◌<◌, ◌+◌, List, [], ◌∷◌, ◌++◌, take, length, append_assoc, append-nil, sym, ap, subst, ◌∙◌, arith, rules}
 use Rattle.std.proofs.lemmas.List.{take_more}
 use Rattle.tagplay.specs.declared.order.Order.{Order}
 use Rattle.tagplay.specs.Commands.{Plays, over}
@@ -12,7 +12,6 @@ loop-order-init c = record {
   played = record { answers = []; text = sym (append-nil c.args.text.now.items); plays = over };
   won = omega arith;
   back = omega arith;
-  layout = refl;
 }
 
 pub loop-order-preserved : goal.loop-order-preserved
@@ -33,5 +32,4 @@ loop-order-preserved c =
       };
       won = omega (arith, counted.won, c.loop-order.invariant.won);
       back = omega (arith, counted.back, c.loop-order.invariant.back);
-      layout = counted.layout ∙ c.loop-order.invariant.layout;
     }

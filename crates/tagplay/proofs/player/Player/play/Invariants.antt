@@ -1,5 +1,5 @@
 -- The orders so far are played, and counted.
-use Rattle.std.proofs.Common.{◌≡◌, ◌≤◌, ◌+◌, ◌*◌, take}
+use Rattle.std.proofs.Common.{◌≤◌, ◌+◌, ◌*◌, take}
 use Rattle.tagplay.specs.Commands.{Played}
 use Rattle.tagplay.specs.Players.{solo_of}
 use Rattle.tagplay.proofs.player.Player.play.Given as goal
@@ -10,5 +10,4 @@ invariant-loop-order l = record {
   played : Played (take l.order-index l.orders) (solo_of l.fn.self) (solo_of l.self) l.fn.text.items l.text.items;
   won : l.self.won ≤ l.fn.self.won + 64 * l.order-index;
   back : l.self.back ≤ l.fn.self.back + 64 * l.order-index;
-  layout : l.self.port.layout ≡ l.fn.self.port.layout;
 }

@@ -4,7 +4,6 @@ use Rattle.tag_layout.specs.Layout.{Layout, words, word_bits}
 use Rattle.tagplay.specs.Commands.{texts_below, held_text, word_text}
 use Rattle.tagplay.specs.Players.{solo_of, IsHeldMask}
 use Rattle.tagplay.specs.Solo.{Solo}
-use Rattle.tagplay.proofs.CountFacts.{all_words}
 use Rattle.tagplay.proofs.TextFacts.{after, held_word}
 use Rattle.tagplay.proofs.player.Player.push_held.Goals as goal
 
