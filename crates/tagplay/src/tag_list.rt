@@ -7,16 +7,16 @@ use crate::numbers::short_number;
 use std::alloc::{AllocError, Global};
 use std::marker::Model;
 
-/// A list of tags. A clause sees the list.
+/// A list of tags. A clause sees the list. It is boxed, so that the orders of a script, most of which have none, are small.
 #[derive(Debug, Drop)]
-pub struct TagList(Vec<u32>);
+pub struct TagList(Box<Vec<u32>>);
 
 impl Model for TagList {
     ghost use Rattle.std.specs.Prelude.{ℕ, List};
 
     ghost Value = { List ℕ };
 
-    ghost view = { λ tags. tags.0.items };
+    ghost view = { λ tags. tags.0.value.items };
 }
 
 impl TagList {
@@ -24,7 +24,7 @@ impl TagList {
     pub fn as_slice(&self) -> &[u32]
         ensures { result.now ≡ self.now }
     {
-        &self.0
+        self.0.as_slice()
     }
 }
 
@@ -42,7 +42,7 @@ pub(crate) fn read_tags(alloc: Global, words: &[u8]) -> Result<Option<TagList>, 
         }
         rest = match after {
             Some(after) => after,
-            None => return Ok(Some(TagList(tags))),
+            None => return Ok(Some(TagList(Box::new(alloc, tags)?))),
         };
     }
 }

@@ -12,9 +12,9 @@ returns-in-None c =
 
 pub returns-in-None-after : goal.returns-in-None-after
 returns-in-None-after c =
-    let pushed : c.push.new.self.items ≡ c.loop-tag.tags.items ++ c.in-Some.tag ∷ [] = search rules in
+    let boxed : c.in_ok-new-in-None-after.field-0.value.items ≡ c.loop-tag.tags.items ++ c.in-Some.tag ∷ [] = search rules in
     let whole = is_whole c.cut.result.1 (λ r. r.now) c.loop-tag.rest.now c.cut.result.0.now 32 c.cut.ensures.whole c.in-None-after.is in
-    rw pushed (sym (sym c.loop-tag.invariant
+    rw boxed (sym (sym c.loop-tag.invariant
     ∙ number_last c.loop-tag.tags.items c.loop-tag.rest.now c.cut.result.0.now c.in-Some.tag c.cut.ensures.part whole (sym c.short_number.ensures ∙ c.in-Some.is)))
 
 pub loop-tag-preserved : goal.loop-tag-preserved
