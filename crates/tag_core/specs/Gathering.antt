@@ -1,13 +1,17 @@
 -- What all callers of a map show when they come together.
-use Rattle.std.specs.Prelude.{◌≡◌, ℕ, ◌+◌, ◌<◌, List, length}
+use Rattle.std.specs.Prelude.{◌≡◌, ℕ, ◌+◌, ◌<◌, List, length, nat_eq, slice_index}
 use mathlib.Core.Option.{some}
 use lib.ListN.{get_elem?}
+use Rattle.tag_layout.specs.Layout.{Layout}
+use Rattle.tag_layout.specs.Sums.{sum_below}
 use Rattle.tag_model.specs.declared.place.Place.TheVariants.{Posted}
 use Rattle.tag_model.specs.Totals.{AreTotals}
 use Rattle.tag_core.specs.declared.shape.Shape.{Shape}
 use Rattle.tag_core.specs.declared.record.Record.{Record}
 use Rattle.tag_core.specs.declared.caller.Caller.{Caller}
 use Rattle.tag_core.specs.declared.closed.Closed.{Closed}
+use Rattle.tag_core.specs.Bits.{one_if}
+use Rattle.tag_core.specs.Spacing.{state_at}
 use Rattle.tag_core.specs.Histories.{History, IsLawful, world_of, steps_by, last_post}
 use Rattle.tag_core.specs.Sizes.{total_of, size_of}
 
@@ -27,6 +31,10 @@ pub record IsGathered {R : Type 0} (k : Shape) (rs : List (Record R)) (closed : 
   pub posts :
       (tag : ℕ) → tag < k.layout.depth → (world_of k history).place tag ≡ Posted
       → get_elem? closed.slots.items tag ≡ last_post tag history
+
+-- how many tags have a state of 1 in a table's words
+abbrev pub states_posted : Layout → List ℕ → ℕ
+states_posted l table = sum_below (λ tag. one_if (nat_eq (slice_index table (state_at l tag)) 1)) l.depth
 
 -- the caller of this number is among them
 abbrev pub IsThere : {R : Type 0} → List (Caller R) → ℕ → Type 0

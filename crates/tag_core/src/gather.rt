@@ -1,12 +1,10 @@
 //! All callers come together, and the map ends.
-ghost use Rattle.std.specs.Prelude.{◌≡◌, ◌≢◌, ℕ, ◌+◌, ◌<◌, ◌≤◌, ◌↔◌, List, [], length, map, All, IfOk, IfErr, IfSome, IfNone, IsTrue, vec_capacity, nat_eq, slice_index};
+ghost use Rattle.std.specs.Prelude.{◌≡◌, ◌≢◌, ℕ, ◌+◌, ◌<◌, ◌≤◌, ◌↔◌, List, [], length, map, All, IfOk, IfErr, IfSome, IfNone, IsTrue, vec_capacity};
 ghost use mathlib.Core.Option.{some};
 ghost use lib.ListN.{get_elem?};
 ghost use Rattle.std.specs.Slots.{slots_items, slots_filled, slots_len, IsFull};
-ghost use Rattle.tag_layout.specs.Sums.{sum_below};
-ghost use Rattle.tag_core.specs.Bits.{one_if};
-ghost use Rattle.tag_core.specs.Spacing.{table_width, state_at};
-ghost use Rattle.tag_core.specs.Gathering.{IsGathered, IsThere, IsLeastMissing};
+ghost use Rattle.tag_core.specs.Spacing.{table_width};
+ghost use Rattle.tag_core.specs.Gathering.{states_posted, IsGathered, IsThere, IsLeastMissing};
 ghost use Rattle.tag_core.specs.Callers.{IsCallerOf, record_of};
 
 use crate::caller::Caller;
@@ -22,7 +20,7 @@ use tag_model::Totals;
 
 fn count_posted<R>(ended: &Ended<R, Global>, layout: Layout) -> u64
     requires { IsFull ended.now.words × (slots_len ended.now.words ≡ table_width layout) }
-    ensures value { result ≡ sum_below (λ tag. one_if (nat_eq (slice_index (slots_items ended.now.words) (state_at layout tag)) 1)) layout.depth }
+    ensures value { result ≡ states_posted layout (slots_items ended.now.words) }
 {
     let mut posted = 0u64;
     for tag in 0..layout.depth() {

@@ -2,4 +2,5 @@
 mod dumps;
 mod ends;
 mod lists;
+mod refusals;
 mod scripts;
