@@ -40,7 +40,7 @@ pub struct CheckOptions {
 /// The command line that the program takes.
 pub(crate) fn command<'a>(alloc: Global) -> Result<Command<'a>, AllocError> {
     let script = Command::new(alloc, "script")
-        .about("Carries out the commands of a script, a line each, as 0 get")
+        .about("Carries out a script, a command on each line, such as '0 get'")
         .arg(tags(alloc))?
         .arg(reserved(alloc))?
         .arg(shift(alloc))?
@@ -56,7 +56,9 @@ pub(crate) fn command<'a>(alloc: Global) -> Result<Command<'a>, AllocError> {
             Exit status: 0 done, 1 refused, 2 a command line that isn't one, 3 no memory, too long an input, or a fault of reading or writing.",
         );
     let check = Command::new(alloc, "check")
-        .about("Says whether a list of events, a line each, as win 0 0 8, could have happened")
+        .about(
+            "Says whether a list of events, one on each line, such as 'win 0 0 8', could have happened",
+        )
         .arg(tags(alloc))?
         .arg(shift(alloc))?
         .arg(callers(alloc).help(
@@ -69,7 +71,7 @@ pub(crate) fn command<'a>(alloc: Global) -> Result<Command<'a>, AllocError> {
         );
     Command::new(alloc, "tagplay")
         .about(
-            "Plays with a tag allocator: reads lines from standard input, and writes what they answer to standard output",
+            "Plays with a tag allocator: reads lines from standard input, and writes the answers to standard output",
         )
         .subcommand_required(true)
         .subcommand(script)?

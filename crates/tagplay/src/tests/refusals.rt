@@ -1,6 +1,6 @@
 //! Scripts that are refused: a faulty line, and then the setup.
-use crate::{Ending, ScriptOptions, run_script};
 use crate::tests::scripts::{expect, options};
+use crate::{Ending, ScriptOptions, run_script};
 use std::test::*;
 
 #[test]
