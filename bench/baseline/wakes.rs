@@ -17,21 +17,17 @@ struct Book {
 pub fn run(options: &Options) {
     for &threads in &options.threads {
         let active = Line::default();
-        let case = Case {
-            contender: "atomics",
-            name: "active".to_string(),
-            threads,
-        };
-        case.measure(|_| look_often(&active, options.rounds));
-    }
-    for &threads in &options.threads {
+        case("active", threads).measure(|_| look_often(&active, options.rounds));
         let book = Book::default();
-        let case = Case {
-            contender: "atomics",
-            name: "count".to_string(),
-            threads,
-        };
-        case.measure(|_| count_often(&book, options.rounds));
+        case("count", threads).measure(|_| count_often(&book, options.rounds));
+    }
+}
+
+fn case(name: &str, threads: u32) -> Case<'static> {
+    Case {
+        contender: "atomics",
+        name: name.to_string(),
+        threads,
     }
 }
 
