@@ -22,7 +22,8 @@ pub struct BookGatherFault {
 }
 
 impl Book {
-    /// Ends the book where all its tellers are handed in, in any order. One load for each teller but the last stands in no list.
+    /// Ends the book where all its tellers are handed in, in any order.
+    /// For each teller but the first it makes one load that stands in no list.
     pub fn gather(book: Book, tellers: Vec<Teller>) -> Result<BookTotals, BookGatherFault>
         requires { All (IsTellerOf book) tellers.items }
         ensures ok { IfOk result (λ totals. IsBooked (limits_of book) (records_of tellers.items) totals) }
@@ -98,7 +99,7 @@ impl Book {
 }
 
 impl TellerGathering {
-    /// One more teller of the book comes to those gathered. Its one load stands in no list.
+    /// One more teller of the book comes to those gathered, by one load that stands in no list.
     pub fn add(&mut self, book: &Book, teller: Teller)
         requires own { IsTellerOf book.now teller }
         requires book { IsGatheringOf book.now self.old }
@@ -116,7 +117,8 @@ impl TellerGathering {
     }
 }
 
-fn discard(closed: Closed<(), Global>)
+/// The memory of a table without slots.
+pub(crate) fn discard(closed: Closed<(), Global>)
     requires { slots_len closed.slots ≡ 0 }
 {
     closed.free();

@@ -9,6 +9,7 @@ ghost use Rattle.wake_book.specs.Groups.{IsWaiterOf, record_of, records_of, numb
 ghost use Rattle.wake_book.specs.Groups.{IsGatheringOf, gathered};
 ghost use Rattle.wake_book.specs.Balance.{IsBalanced};
 
+use crate::book_closing::discard;
 use crate::groups::{GROUPS, GroupTotals, Groups, WAITING, Waiter, WaiterGathering, place_of};
 use atomic_table::Closed;
 use std::alloc::Global;
@@ -25,7 +26,7 @@ pub struct GroupsGatherFault {
 
 impl Groups {
     /// Ends the groups where all their waiters are handed in, in any order, also those that stand.
-    /// One load for each waiter but the last stands in no list.
+    /// For each waiter but the first it makes one load that stands in no list.
     pub fn gather(groups: Groups, waiters: Vec<Waiter>) -> Result<GroupTotals, GroupsGatherFault>
         requires { All (IsWaiterOf groups) waiters.items }
         ensures ok { IfOk result (λ totals. IsBalanced (waiters_of groups) (records_of waiters.items) totals) }
@@ -102,7 +103,7 @@ impl Groups {
 }
 
 impl WaiterGathering {
-    /// One more waiter of the groups comes to those gathered. Its one load stands in no list.
+    /// One more waiter of the groups comes to those gathered, by one load that stands in no list.
     pub fn add(&mut self, groups: &Groups, waiter: Waiter)
         requires own { IsWaiterOf groups.now waiter }
         requires groups { IsGatheringOf groups.now self.old }
@@ -138,10 +139,4 @@ fn counts_of(closed: &Closed<(), Global>) -> (u64, u64)
         waiting += word / WAITING;
     }
     (granted, waiting)
-}
-
-fn discard(closed: Closed<(), Global>)
-    requires { slots_len closed.slots ≡ 0 }
-{
-    closed.free();
 }

@@ -6,7 +6,7 @@ use crate::book::{Book, BookTotals, Teller};
 use crate::charge::Charge;
 use crate::fault::BookFault;
 use std::test::Fail;
-use step_ledger::GatherCause;
+use step_ledger::{GatherCause, Numbered};
 
 fn next_teller(book: &Book, tellers: &mut Vec<Teller>) -> Option<Teller>
     requires { All (IsTellerOf book.now) tellers.old.items }
@@ -117,6 +117,33 @@ fn gather_without_a_teller_hands_all_back(rt: HostRuntime) -> Result<(), Fail> {
             counted: 0,
             charged: 0,
             charges: 0
+        }
+    );
+    Ok(())
+}
+
+#[test]
+fn tellers_come_together_one_after_another(rt: HostRuntime) -> Result<(), Fail> {
+    let (book, mut tellers) = Book::open(rt.alloc(), 2, 2, 3)?;
+    let (Some(mut second), Some(first)) = (
+        next_teller(&book, &mut tellers),
+        next_teller(&book, &mut tellers),
+    ) else {
+        return Err(Fail::new("fewer than two tellers"));
+    };
+    assert_eq!(rt; (book.batch(), book.tellers()), (2, 2));
+    assert_eq!(rt; book.count(&mut second, 3), Charge::Won(0));
+    if book.tellers() != 2 || first.number() != 0 || second.number() != 1 {
+        return Err(Fail::new("the tellers are numbered otherwise"));
+    }
+    let mut all = book.start_gathering(second);
+    all.add(&book, first);
+    assert_eq!(rt;
+        book.finish(all),
+        BookTotals {
+            counted: 3,
+            charged: 2,
+            charges: 1
         }
     );
     Ok(())

@@ -8,17 +8,19 @@ use Rattle.step_ledger.proofs.Turned.{nowhere}
 use Rattle.step_ledger.proofs.numbered.has_number.Goals as goal
 
 pub returns-then-number : goal.returns-then-number
-returns-then-number g c = let ms = c.args.members.now in let i : ℕ = c.loop-member.member-index in let m = c.member-item in (
-  λ t. (
-    i,
-    at_map g.M.Numbered.number_of ms i m.result (at_index ms i m.result c.loop-member-test.true m.is)
-        ∙ ap some (sym c.number.ensures ∙ c.if-number.true),
-  ),
-  λ h. refl,
-)
+returns-then-number g c = let ms = c.args.members.now in let i : ℕ = c.loop-member.member-index in
+    let m = c.member-item in (
+      λ t. (
+        i,
+        at_map g.M.Numbered.number_of ms i m.result (at_index ms i m.result c.loop-member-test.true m.is)
+            ∙ ap some (sym c.number.ensures ∙ c.if-number.true),
+      ),
+      λ h. refl,
+    )
 
 pub loop-member-preserved : goal.loop-member-preserved
-loop-member-preserved g c = let ms = c.args.members.now in let i : ℕ = c.loop-member.member-index in let m = c.member-item in
+loop-member-preserved g c = let ms = c.args.members.now in let i : ℕ = c.loop-member.member-index in
+    let m = c.member-item in
     below_more (λ (i : ℕ). get_elem? (map g.M.Numbered.number_of ms) i ≢ some c.args.number) i c.loop-member.invariant
     (λ e. c.if-number.false (c.number.ensures ∙ some-injective _ _
     (sym (at_map g.M.Numbered.number_of ms i m.result (at_index ms i m.result c.loop-member-test.true m.is)) ∙ e)))

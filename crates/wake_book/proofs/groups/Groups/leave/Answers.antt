@@ -15,7 +15,8 @@ loop-init g c = record {
 }
 
 pub loop-preserved-else-use_grant : goal.loop-preserved-else-use_grant
-loop-preserved-else-use_grant g c = let inv = c.loop.invariant in let l = c.look_group-found.ensures in let e = c.use_grant.ensures in let lost = e.lost c.if-use_grant.false in
+loop-preserved-else-use_grant g c = let inv = c.loop.invariant in let l = c.look_group-found.ensures in
+    let e = c.use_grant.ensures in let lost = e.lost c.if-use_grant.false in
     let found : ℕ = c.look_group-found.result in let step : GroupStep = Use c.in-Some.group found lost.0 in record {
       turns = (tt, tt);
       groups = (
@@ -28,12 +29,27 @@ loop-preserved-else-use_grant g c = let inv = c.loop.invariant in let l = c.look
       );
       stands = inv.stands;
       moved = e.moved ∙ l.moved ∙ inv.moved;
-      idle = (suc inv.idle.0, (found, lost.0, step, _, inv.idle.1, inl (c.if-found-gt0.true, refl), lost.1, lost.2 ∙ ap (λ (s : List GroupStep). step ∷ s) l.step));
+      idle = (
+        suc inv.idle.0,
+        (
+          found,
+          lost.0,
+          step,
+          _,
+          inv.idle.1,
+          inl (c.if-found-gt0.true, refl),
+          lost.1,
+          lost.2 ∙
+              ap (λ (s : List GroupStep). step ∷ s) l.step,
+        ),
+      );
     }
 
 pub loop-preserved : goal.loop-preserved
-loop-preserved g c = let inv = c.loop.invariant in let l = c.look_group-found.ensures in let e = c.withdraw.ensures in let lost = e.lost c.if-withdraw.false in
-    let none : granted c.look_group-found.result ≡ 0 = omega arith in let found : ℕ = c.look_group-found.result in let step : GroupStep = Withdraw c.in-Some.group found lost.0 in record {
+loop-preserved g c = let inv = c.loop.invariant in let l = c.look_group-found.ensures in let e = c.withdraw.ensures in
+    let lost = e.lost c.if-withdraw.false in
+    let none : granted c.look_group-found.result ≡ 0 = omega arith in let found : ℕ = c.look_group-found.result in
+    let step : GroupStep = Withdraw c.in-Some.group found lost.0 in record {
       turns = (tt, tt);
       groups = (
         e.groups.0,
@@ -45,5 +61,18 @@ loop-preserved g c = let inv = c.loop.invariant in let l = c.look_group-found.en
       );
       stands = inv.stands;
       moved = e.moved ∙ l.moved ∙ inv.moved;
-      idle = (suc inv.idle.0, (found, lost.0, step, _, inv.idle.1, inr (none, refl), lost.1, lost.2 ∙ ap (λ (s : List GroupStep). step ∷ s) l.step));
+      idle = (
+        suc inv.idle.0,
+        (
+          found,
+          lost.0,
+          step,
+          _,
+          inv.idle.1,
+          inr (none, refl),
+          lost.1,
+          lost.2 ∙ ap
+              (λ (s : List GroupStep). step ∷ s) l.step,
+        ),
+      );
     }

@@ -13,10 +13,19 @@ loop-init g c = record {
 }
 
 pub loop-preserved : goal.loop-preserved
-loop-preserved g c = let inv = c.loop.invariant in let l = c.look_group.ensures in let none : granted c.look_group.result ≡ 0 = omega arith in record {
-  turns = (tt, tt);
-  groups = (l.groups.0, (l.groups.1.0 ∙ inv.groups.1.0, l.groups.1.1 ∙ inv.groups.1.1, l.groups.1.2 ∙ inv.groups.1.2));
-  stands = inv.stands;
-  moved = l.moved ∙ inv.moved;
-  vain = (suc inv.vain.0, (c.look_group.result, _, inv.vain.1, none, l.step));
-}
+loop-preserved g c = let inv = c.loop.invariant in let l = c.look_group.ensures in
+    let none : granted c.look_group.result ≡ 0 = omega arith in record {
+      turns = (tt, tt);
+      groups = (
+        l.groups.0,
+        (
+          l.groups.1.0 ∙ inv.groups.1.0,
+          l.groups.1.1 ∙ inv.groups.1.1,
+          l.groups.1.2 ∙
+              inv.groups.1.2,
+        ),
+      );
+      stands = inv.stands;
+      moved = l.moved ∙ inv.moved;
+      vain = (suc inv.vain.0, (c.look_group.result, _, inv.vain.1, none, l.step));
+    }
