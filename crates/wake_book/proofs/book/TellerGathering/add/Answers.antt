@@ -1,11 +1,8 @@
 -- The teller's record comes behind those on the seat, and its charges to their sum.
 use Rattle.std.proofs.Common.{arith, ap, ◌∙◌}
-use Rattle.step_ledger.specs.declared.record.Record.{Record}
-use Rattle.step_ledger.specs.Views.{steps_of}
 use Rattle.step_ledger.specs.History.{total}
 use Rattle.step_ledger.proofs.Members.{joins}
 use Rattle.step_ledger.proofs.Turned.{joined, sum_joined}
-use Rattle.wake_book.specs.declared.steps.BookStep.{BookStep}
 use Rattle.wake_book.specs.Charges.{opening_words, words_after, MayStep, charged}
 use Rattle.wake_book.specs.Book.{record_of}
 use Rattle.wake_book.proofs.book.TellerGathering.add.Goals as goal

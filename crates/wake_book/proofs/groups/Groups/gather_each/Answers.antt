@@ -1,5 +1,5 @@
 -- Waiters come off the end, so each stands before those that came earlier: the records keep the order of the list.
-use Rattle.std.proofs.Common.{List, [], ◌∷◌, ◌++◌, All, ap, ◌∙◌, subst}
+use Rattle.std.proofs.Common.{List, ◌++◌, All, ap, ◌∙◌, subst}
 use Rattle.step_ledger.specs.declared.record.Record.{Record}
 use Rattle.step_ledger.proofs.Turned.{taken, taken_first, all_front, all_last}
 use Rattle.wake_book.specs.declared.groups.Waiter.{Waiter}

@@ -1,5 +1,5 @@
 -- Each turn that doesn't end the call adds one look that found no grant.
-use Rattle.std.proofs.Common.{arith, ℕ, suc, ◌≡◌, refl, ◌∙◌}
+use Rattle.std.proofs.Common.{arith, suc, ◌≡◌, refl, ◌∙◌}
 use Rattle.wake_book.specs.Waits.{granted}
 use Rattle.wake_book.proofs.groups.Groups.sleep.Goals as goal
 
