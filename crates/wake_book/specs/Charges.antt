@@ -7,12 +7,25 @@ use Rattle.step_ledger.specs.Views.{viewing, fresh, steps_of, Stepped}
 use Rattle.step_ledger.specs.History.{own_steps, total, words_of}
 use Rattle.step_ledger.specs.Ledger.{Ledger}
 use Rattle.wake_book.specs.declared.book.Limits.{Limits}
+use Rattle.wake_book.specs.declared.book.TheConstants.{COMPLETIONS, WAKEUPS}
 use Rattle.wake_book.specs.declared.steps.BookStep.{BookStep}
 use Rattle.wake_book.specs.declared.steps.BookStep.TheVariants.{LookCompletions, LookWakeups, Add, Advance}
 
--- the words at the start: 0 is spare, 8 counts completions, 16 wakeups
+-- the place of the word that counts completions, 64 bytes behind the spare word at 0
+abbrev pub completions_at : ℕ
+completions_at = COMPLETIONS
+
+-- the place of the word that counts the completions charged, 64 bytes further on
+abbrev pub wakeups_at : ℕ
+wakeups_at = WAKEUPS
+
+-- words of the table: the last of the three has 64 bytes of its own too
+abbrev pub book_width : ℕ
+book_width = 24
+
+-- the words at the start
 abbrev pub opening_words : List ℕ
-opening_words = replicate 24 0
+opening_words = replicate book_width 0
 
 -- what an exchange leaves of a word
 abbrev pub exchange_to : ℕ → ℕ → ℕ → ℕ
@@ -22,8 +35,8 @@ exchange_to expected new found = cond (nat_eq found expected) new found
 abbrev pub words_after : BookStep → List ℕ → List ℕ
 words_after (LookCompletions found) ws = ws
 words_after (LookWakeups found) ws = ws
-words_after (Add n found) ws = slice_set ws 8 (slice_index ws 8 + n)
-words_after (Advance start end found) ws = slice_set ws 16 (exchange_to start end (slice_index ws 16))
+words_after (Add n found) ws = slice_set ws completions_at (slice_index ws completions_at + n)
+words_after (Advance start end found) ws = slice_set ws wakeups_at (exchange_to start end (slice_index ws wakeups_at))
 
 -- the words that a history leaves
 abbrev pub words_in : List (ℕ × BookStep) → List ℕ
@@ -31,11 +44,11 @@ words_in h = words_of opening_words words_after h
 
 -- the completions counted
 abbrev pub completions_in : List (ℕ × BookStep) → ℕ
-completions_in h = slice_index (words_in h) 8
+completions_in h = slice_index (words_in h) completions_at
 
 -- the completions charged
 abbrev pub wakeups_in : List (ℕ × BookStep) → ℕ
-wakeups_in h = slice_index (words_in h) 16
+wakeups_in h = slice_index (words_in h) wakeups_at
 
 -- how many completions a step counts
 abbrev pub added : BookStep → ℕ

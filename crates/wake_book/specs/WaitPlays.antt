@@ -6,16 +6,16 @@ use Rattle.step_ledger.specs.declared.record.View.{View}
 use Rattle.step_ledger.specs.Views.{steps_of, Stepped}
 use Rattle.wake_book.specs.declared.steps.GroupStep.{GroupStep}
 use Rattle.wake_book.specs.declared.steps.GroupStep.TheVariants.{Look, Raise, Lower, Enter, Grant, Use, Withdraw, Store}
-use Rattle.wake_book.specs.Waits.{group_at, granted, waiting, moved_in, raised, stand}
+use Rattle.wake_book.specs.Waits.{active_at, index_at, group_at, granted, waiting, moved_in, raised, stand}
 
 module _ {S : Type 0} where
   -- one who has raised the active count is counted in it
   abbrev pub looked_active : table.Step S → Me S (View GroupStep) → ℕ → Me S (View GroupStep) → Type 0
-  looked_active step m found m' = Stepped (Look 72 found) m m' × (raised (steps_of m.0) ≡ 1 → 1 ≤ found)
+  looked_active step m found m' = Stepped (Look active_at found) m m' × (raised (steps_of m.0) ≡ 1 → 1 ≤ found)
 
   -- the wake index is one of the eight groups
   abbrev pub looked_index : table.Step S → Me S (View GroupStep) → ℕ → Me S (View GroupStep) → Type 0
-  looked_index step m found m' = Stepped (Look 80 found) m m' × (found < 8)
+  looked_index step m found m' = Stepped (Look index_at found) m m' × (found < 8)
 
   -- one who stands in a group without a grant waits there
   abbrev pub looked_group : table.Step S → Me S (View GroupStep) → ℕ → Me S (View GroupStep) → Type 0

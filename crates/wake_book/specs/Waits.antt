@@ -5,37 +5,50 @@ use Rattle.step_ledger.specs.declared.record.View.{View}
 use Rattle.step_ledger.specs.Views.{viewing, fresh}
 use Rattle.step_ledger.specs.History.{own_steps, total, words_of}
 use Rattle.step_ledger.specs.Ledger.{Ledger}
+use Rattle.wake_book.specs.declared.groups.TheConstants.{ACTIVE, INDEX, WAITING}
 use Rattle.wake_book.specs.declared.steps.GroupStep.{GroupStep}
 use Rattle.wake_book.specs.declared.steps.GroupStep.TheVariants.{Look, Raise, Lower, Enter, Grant, Use, Withdraw, Store}
 use Rattle.wake_book.specs.Charges.{exchange_to}
 
--- the words at the start: 0 is spare, the groups stand at 8, 16, .. 64, the active count at 72, the wake index at 80
-abbrev pub opening_words : List ℕ
-opening_words = replicate 88 0
+-- how far apart words that different threads write stand: 64 bytes
+abbrev pub line : ℕ
+line = 8
 
--- where the word of a group stands
+-- the place of a group's word: the spare word stands at 0, and then the eight groups
 abbrev pub group_at : ℕ → ℕ
-group_at group = 8 + 8 * group
+group_at group = line + line * group
 
--- where the active count stands
+-- the place of the active count, behind the groups
 abbrev pub active_at : ℕ
-active_at = 72
+active_at = ACTIVE
 
--- where the wake index stands
+-- the place of the wake index, behind the active count
 abbrev pub index_at : ℕ
-index_at = 80
+index_at = INDEX
 
--- the low half of a group's word counts the granted
+-- words of the table: the last has 64 bytes of its own too
+abbrev pub groups_width : ℕ
+groups_width = 88
+
+-- the words at the start
+abbrev pub opening_words : List ℕ
+opening_words = replicate groups_width 0
+
+-- one who waits, in a group's word: its low 32 bits count the granted, its high 32 bits the waiting
+abbrev pub one_waiting : ℕ
+one_waiting = WAITING
+
+-- how many are granted
 abbrev pub granted : ℕ → ℕ
-granted word = word % 4294967296
+granted word = word % one_waiting
 
--- the high half counts the waiting
+-- how many wait without a grant
 abbrev pub waiting : ℕ → ℕ
-waiting word = word / 4294967296
+waiting word = word / one_waiting
 
 -- the word with this many gone from waiting to granted
 abbrev pub moved_in : ℕ → ℕ → ℕ
-moved_in word count = word + count - 4294967296 * count
+moved_in word count = word + count - one_waiting * count
 
 -- the word of a group
 abbrev pub word : List ℕ → ℕ → ℕ
@@ -44,13 +57,13 @@ word ws group = slice_index ws (group_at group)
 -- what a step leaves of the words
 abbrev pub words_after : GroupStep → List ℕ → List ℕ
 words_after (Look place found) ws = ws
-words_after (Raise found) ws = slice_set ws 72 (slice_index ws 72 + 1)
-words_after (Lower found) ws = slice_set ws 72 (slice_index ws 72 - 1)
-words_after (Enter g found) ws = slice_set ws (group_at g) (word ws g + 4294967296)
+words_after (Raise found) ws = slice_set ws active_at (slice_index ws active_at + 1)
+words_after (Lower found) ws = slice_set ws active_at (slice_index ws active_at - 1)
+words_after (Enter g found) ws = slice_set ws (group_at g) (word ws g + one_waiting)
 words_after (Grant g expected count found) ws = slice_set ws (group_at g) (exchange_to expected (moved_in expected count) (word ws g))
 words_after (Use g expected found) ws = slice_set ws (group_at g) (exchange_to expected (expected - 1) (word ws g))
-words_after (Withdraw g expected found) ws = slice_set ws (group_at g) (exchange_to expected (expected - 4294967296) (word ws g))
-words_after (Store index) ws = slice_set ws 80 index
+words_after (Withdraw g expected found) ws = slice_set ws (group_at g) (exchange_to expected (expected - one_waiting) (word ws g))
+words_after (Store index) ws = slice_set ws index_at index
 
 -- the words that a history leaves
 abbrev pub words_in : List (ℕ × GroupStep) → List ℕ
@@ -97,8 +110,8 @@ used_by _ = 0
 -- each step finds what the steps before it left; a waiter waits where it is active, leaves as it stands, and moves at most 2^56 in all
 abbrev pub MayStep : ℕ → GroupStep → List (ℕ × GroupStep) → Type 0
 MayStep c (Look place found) h = found ≡ slice_index (words_in h) place
-MayStep c (Raise found) h = (found ≡ slice_index (words_in h) 72) × (raised (own_steps c h) ≡ 0)
-MayStep c (Lower found) h = (found ≡ slice_index (words_in h) 72) × (raised (own_steps c h) ≡ 1) × (stand (own_steps c h) ≡ 0)
+MayStep c (Raise found) h = (found ≡ slice_index (words_in h) active_at) × (raised (own_steps c h) ≡ 0)
+MayStep c (Lower found) h = (found ≡ slice_index (words_in h) active_at) × (raised (own_steps c h) ≡ 1) × (stand (own_steps c h) ≡ 0)
 MayStep c (Enter g found) h = (found ≡ word (words_in h) g) × (g < 8) × (raised (own_steps c h) ≡ 1) × (stand (own_steps c h) ≡ 0)
 MayStep c (Grant g expected count found) h = (found ≡ word (words_in h) g) × (g < 8) × (count ≤ waiting expected)
     × (total moved_by (own_steps c h) + count ≤ 2 ^ 56)

@@ -25,7 +25,7 @@ pub enum Charge {
 }
 
 impl Book {
-    /// The batch of later charges. Counts and intervals go on.
+    /// The batch of later charges, 1 to 8. The table and the limits stay the same, so counts and intervals go on.
     pub fn rebatch(&mut self, batch: u32)
         requires { (1 ≤ batch) × (batch ≤ 8) }
         ensures { Rebatches self.old self.new batch }
@@ -34,6 +34,7 @@ impl Book {
     }
 
     /// Counts 1 to 64 completions, and charges one batch where one is open. Others may count and charge meanwhile.
+    /// At most 49 steps stand in the teller's list; the body makes no load beside them.
     pub fn count(&self, teller: &mut Teller, n: u32) -> Charge
         requires book { IsTellerOf self.now teller.old }
         requires within { (1 ≤ n) × (n ≤ 64) }

@@ -51,7 +51,8 @@ impl Groups {
         *standing
     }
 
-    /// Raises the active count, and stands in the group of the wait index, which goes on by one.
+    /// Raises the active count, and stands in the group of the wait index, which goes on by one. It makes these two steps,
+    /// and no load beside them.
     pub fn enter(&self, waiter: &mut Waiter) -> u32
         requires groups { IsWaiterOf self.now waiter.old }
         requires out { standing_of waiter.old ≡ None }

@@ -2,10 +2,11 @@
 ghost use Rattle.std.specs.Prelude.{◌≡◌, All, IfSome, None};
 ghost use Rattle.wake_book.specs.Groups.{IsWaiterOf, IsNew};
 
-use crate::fault::{BookFault, GatherCause};
+use crate::fault::BookFault;
 use crate::groups::{GroupTotals, Groups, Waiter};
 use crate::waiting::Left;
 use std::test::Fail;
+use step_ledger::{GatherCause, Numbered};
 
 pub(crate) fn next_waiter(groups: &Groups, waiters: &mut Vec<Waiter>) -> Option<Waiter>
     requires { All (IsWaiterOf groups.now) waiters.old.items × All IsNew waiters.old.items }
@@ -95,6 +96,34 @@ fn who_stands_is_gathered_too(rt: HostRuntime) -> Result<(), Fail> {
             used: 0,
             granted: 1,
             waiting: 1
+        }
+    );
+    Ok(())
+}
+
+#[test]
+fn waiters_come_together_one_after_another(rt: HostRuntime) -> Result<(), Fail> {
+    let (groups, mut waiters) = Groups::open(rt.alloc(), 2)?;
+    let (Some(mut second), Some(first)) = (
+        next_waiter(&groups, &mut waiters),
+        next_waiter(&groups, &mut waiters),
+    ) else {
+        return Err(Fail::new("fewer than two waiters"));
+    };
+    groups.enter(&mut second);
+    assert_eq!(rt; groups.wake(&mut second, 8), 1);
+    if groups.waiters() != 2 || first.number() != 0 || second.number() != 1 {
+        return Err(Fail::new("the waiters are numbered otherwise"));
+    }
+    let mut all = groups.start_gathering(second);
+    all.add(&groups, first);
+    assert_eq!(rt;
+        groups.finish(all),
+        GroupTotals {
+            issued: 1,
+            used: 0,
+            granted: 1,
+            waiting: 0
         }
     );
     Ok(())

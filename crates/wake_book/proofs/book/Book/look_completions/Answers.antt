@@ -1,3 +1,4 @@
+-- A load may always happen, and tells the completions that the steps before it left.
 use Rattle.std.proofs.Common.{arith, ◌^◌, ◌≤◌, sym, ap, ◌∙◌, subst}
 use Rattle.step_ledger.specs.Views.{steps_of, push}
 use Rattle.wake_book.specs.declared.book.Limits.{Limits}
@@ -9,7 +10,8 @@ pub load-requires : goal.load-requires
 load-requires c = let b = c.args.self.now in let t = c.args.teller.now in let w = b.wide.0 in (
   c.requires,
   omega arith,
-  keeps.look_completions b.table.shared.key (subst (λ (z : Limits). z.tellers ≤ 64) (sym b.told) b.small.0) (subst (λ (z : Limits). z.cap ≤ 2 ^ 56) (sym b.told) b.small.1)
+  keeps.look_completions b.table.shared.key (subst (λ (z : Limits). z.tellers ≤ 64) (sym b.told) b.small.0)
+      (subst (λ (z : Limits). z.cap ≤ 2 ^ 56) (sym b.told) b.small.1)
       b.table.shared.table_id.slots t.seat.id t.seat.me _ (ap (λ z. z.0) t.knows),
 )
 

@@ -1,3 +1,4 @@
+-- A load may always happen, and one who has raised the count is counted in it.
 use Rattle.std.proofs.Common.{arith, ◌≤◌, ap, ◌∙◌}
 use Rattle.step_ledger.specs.Views.{steps_of, push}
 use Rattle.wake_book.specs.declared.steps.GroupStep.TheVariants.{Look}
@@ -5,8 +6,14 @@ use Rattle.wake_book.proofs.GroupKeeps as keeps
 use Rattle.wake_book.proofs.groups.Groups.active.Goals as goal
 
 pub load-requires : goal.load-requires
-load-requires c = let g = c.args.self.now in let w = c.args.waiter.now in let wide = g.wide.0 in let told = g.told in let small = g.small in let few : g.table.shared.key ≤ 64 = omega arith in let ids = g.table.shared.table_id in
-    (c.requires.groups, omega arith, keeps.active g.table.shared.key few ids.slots w.seat.id w.seat.me _ (ap (λ z. z.0) w.knows))
+load-requires c = let g = c.args.self.now in let w = c.args.waiter.now in let wide = g.wide.0 in let told = g.told in
+    let small = g.small in let few : g.table.shared.key ≤ 64 = omega arith in let ids = g.table.shared.table_id in (
+      c.requires.groups,
+      omega arith,
+      keeps.active g.table.shared.key few ids.slots w.seat.id w.seat.me _
+          (ap (λ z. z.0) w.knows),
+    )
 
 pub returns-clause-step : goal.returns-clause-step
-returns-clause-step c = let w = c.args.waiter.now in ap (λ z. steps_of z.0) c.load.ensures.2.0 ∙ ap (λ z. steps_of (push (Look 72 c.load.result) z.0)) w.knows
+returns-clause-step c = let w = c.args.waiter.now in
+    ap (λ z. steps_of z.0) c.load.ensures.2.0 ∙ ap (λ z. steps_of (push (Look 72 c.load.result) z.0)) w.knows

@@ -1,3 +1,4 @@
+-- The empty history leaves the opening words, so the rule holds at the start.
 use Rattle.std.proofs.Common.{[]}
 use Rattle.step_ledger.proofs.Members.{opens}
 use Rattle.wake_book.specs.Waits.{opening_words, words_after, MayStep}

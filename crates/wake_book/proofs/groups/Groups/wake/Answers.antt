@@ -1,3 +1,4 @@
+-- A visit adds at most eight steps, so eight visits with two loads before and one store behind are at most 67.
 use Rattle.std.proofs.Common.{arith, ◌≡◌, ℕ, suc, ◌+◌, ◌-◌, ◌%◌, ◌∷◌, length, refl, ap, ◌∙◌, subst}
 use Rattle.wake_book.specs.declared.steps.GroupStep.TheVariants.{Look}
 use Rattle.wake_book.specs.Groups.{steps_of}
@@ -6,20 +7,42 @@ use Rattle.wake_book.proofs.Lengths.{visits_long}
 use Rattle.wake_book.proofs.groups.Groups.wake.Goals as goal
 
 pub loop-left-preserved : goal.loop-left-preserved
-loop-left-preserved c = let inv = c.loop-left.invariant in let e = c.visit-left.ensures in let walk = inv.walk in let some = c.loop-left-test.true in let v : ℕ = c.loop-left.visits in let next : suc v ≡ v + 1 = omega arith in
-    let few = inv.few.0 in let more = c.if-visits-lt-GROUPS.true in let moved = e.moved in let before = inv.moved in let start = Look 80 walk.0 ∷ Look 72 walk.1 ∷ steps_of c.args.waiter.now in record {
-      groups = (e.groups.0, (e.groups.1.0 ∙ inv.groups.1.0, e.groups.1.1 ∙ inv.groups.1.1, e.groups.1.2 ∙ inv.groups.1.2));
+loop-left-preserved c = let inv = c.loop-left.invariant in let e = c.visit-left.ensures in let walk = inv.walk in
+    let some = c.loop-left-test.true in let v : ℕ = c.loop-left.visits in let next : suc v ≡ v + 1 = omega arith in
+    let few = inv.few.0 in let more = c.if-visits-lt-GROUPS.true in let moved = e.moved in let before = inv.moved in
+    let start = Look 80 walk.0 ∷ Look 72 walk.1 ∷ steps_of c.args.waiter.now in record {
+      groups = (
+        e.groups.0,
+        (
+          e.groups.1.0 ∙ inv.groups.1.0,
+          e.groups.1.1 ∙ inv.groups.1.1,
+          e.groups.1.2 ∙
+              inv.groups.1.2,
+        ),
+      );
       few = (omega arith, omega arith, omega arith);
       moved = omega arith;
       walk = (
         walk.0,
         walk.1,
         walk.2,
-        subst (λ (z : ℕ). AreVisits z walk.0 c.args.nr start (steps_of c.visit-left.new.waiter) (c.loop-left.left - c.visit-left.result) ((c.loop-left.group + 1) % 8)) next
-            (steps_of c.loop-left.waiter, c.loop-left.left, c.loop-left.group, c.visit-left.result, walk.3, some, e.visit, refl, refl),
+        subst (λ (z : ℕ). AreVisits z walk.0 c.args.nr start (steps_of c.visit-left.new.waiter)
+            (c.loop-left.left - c.visit-left.result) ((c.loop-left.group + 1) % 8)) next (
+              steps_of c.loop-left.waiter,
+              c.loop-left.left,
+              c.loop-left.group,
+              c.visit-left.result,
+              walk.3,
+              some,
+              e.visit,
+              refl,
+              refl,
+            ),
       );
     }
 
 pub returns-clause-bound : goal.returns-clause-bound
-returns-clause-bound c = let inv = c.loop-left.invariant in let walk = inv.walk in let few = inv.few.2 in let e = ap length c.store_index.ensures.step in
-    let l = visits_long c.loop-left.visits walk.0 c.args.nr (Look 80 walk.0 ∷ Look 72 walk.1 ∷ steps_of c.args.waiter.now) (steps_of c.loop-left.waiter) c.loop-left.left c.loop-left.group walk.3 in omega arith
+returns-clause-bound c = let inv = c.loop-left.invariant in let walk = inv.walk in let few = inv.few.2 in
+    let e = ap length c.store_index.ensures.step in
+    let l = visits_long c.loop-left.visits walk.0 c.args.nr (Look 80 walk.0 ∷ Look 72 walk.1 ∷ steps_of
+    c.args.waiter.now) (steps_of c.loop-left.waiter) c.loop-left.left c.loop-left.group walk.3 in omega arith

@@ -9,7 +9,8 @@ invariant-loop-left l = record {
   groups : IsWaiterOf l.self l.waiter × StandsAsBefore l.fn.waiter l.waiter;
   few : (l.left ≤ l.nr) × (l.group < 8) × (l.visits ≤ 8);
   moved : l.waiter.moved + l.left ≡ l.fn.waiter.moved + l.nr;
-  walk : (first : ℕ) × (active : ℕ) × (1 ≤ active) × AreVisits l.visits first l.nr (Look 80 first ∷ Look 72 active ∷ steps_of l.fn.waiter) (steps_of l.waiter) l.left l.group;
+  walk : (first : ℕ) × (active : ℕ) × (1 ≤ active) × AreVisits l.visits first l.nr
+      (Look 80 first ∷ Look 72 active ∷ steps_of l.fn.waiter) (steps_of l.waiter) l.left l.group;
 }
 
 abbrev pub decreases-loop-left : goal.decreases-loop-left
