@@ -26,3 +26,4 @@ pub mod Totalling
 pub mod Lasts
 pub mod Showings
 pub mod Holdings
+pub mod Numbers

@@ -11,6 +11,7 @@ use crate::record::View;
 use crate::shape::Shape;
 use atomic_table::Seat;
 use std::snapshot::Snapshot;
+use step_ledger::Numbered;
 use tag_layout::Layout;
 
 /// Unused words of 8 bytes behind what one caller alone writes.
@@ -52,4 +53,31 @@ pub struct Caller<R> {
     ghost wide: { length held.items ≡ words shape.value.layout },
     ghost unspent: { (won ≤ life) × (life ≤ MOST_WON) },
     ghost few_back: { back ≤ MAX_CALLERS * MOST_WON },
+}
+
+impl<R> Numbered for Caller<R> {
+    ghost number_of = { λ caller. caller.number };
+
+    fn number(&self) -> u32 {
+        self.number
+    }
+}
+
+impl<R> Caller<R> {
+    ghost use Rattle.tag_core.specs.Callers.{record_of};
+
+    /// Tags that it has won, at most 2^48.
+    pub fn won(&self) -> u64
+        ensures value { result ≡ (record_of self.now).won }
+        ensures within { result ≤ MOST_WON }
+    {
+        self.won
+    }
+
+    /// Tags that it has put or given back, others' that it took among them.
+    pub fn back(&self) -> u64
+        ensures { result ≡ (record_of self.now).back }
+    {
+        self.back
+    }
 }
