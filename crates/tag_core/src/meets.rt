@@ -9,8 +9,8 @@ use crate::plays::{Collect, HandOut, Meeting};
 use crate::spots::SPARE;
 
 impl<R> Map<R> {
-    /// Tells that two callers in hand hold no tag in common. Its loads, of the spare word, change no place and stand in
-    /// no list.
+    /// Shows that two callers in hand hold no tag in common. Its seven loads, of the spare word, change no place and stand
+    /// in no list.
     pub fn meet(&self, first: &mut Caller<R>, second: &mut Caller<R>)
         requires callers { IsCallerOf self.now first.old × IsCallerOf self.now second.old }
         ensures callers { IsCallerOf self.now first.new × IsCallerOf self.now second.new }
@@ -29,8 +29,8 @@ impl<R> Map<R> {
         table.join_seat::<Collect>(&mut second.seat, both);
     }
 
-    /// Tells that a tag which the first caller holds is not one of the second's. It makes no step: a look at the
-    /// second's own mask is enough, and only where that had the tag, which can't be, the two would meet.
+    /// Shows that the second caller doesn't hold a tag of the first. It makes no load: the second's own mask has not the
+    /// tag, since two callers who both held it could not meet.
     pub fn apart(&self, first: &mut Caller<R>, second: &mut Caller<R>, tag: u32)
         requires callers { IsCallerOf self.now first.old × IsCallerOf self.now second.old }
         requires held { Holds first.old tag }
@@ -45,7 +45,7 @@ impl<R> Map<R> {
 }
 
 impl<R> Caller<R> {
-    /// Tells that one lawful history shows what is known of the caller. It makes no step: each step of the caller showed it.
+    /// Shows that one lawful history has the caller's record. It makes no load: each step of the caller showed it.
     pub fn history(&self)
         ensures { ∥ HasHistory (record_of self.now).shape (record_of self.now) ∥₁ }
     {}

@@ -48,7 +48,7 @@ fn front_value<R: Copy>(
 }
 
 impl<R: Copy> Map<R> {
-    /// The value of a held tag's slot, which keeps it. Two loads, as `slot` makes them, stand in no list.
+    /// The value of a held tag's slot, which keeps it. Its two loads, of the same kind as those of `slot`, stand in no list.
     pub fn read(&self, caller: &mut Caller<R>, tag: u32) -> R
         requires caller { IsCallerOf self.now caller.old }
         requires held { Holds caller.old tag }

@@ -50,7 +50,8 @@ impl<R> Map<R> {
     ghost use Rattle.tag_core.specs.Callers.{IsCallerOf, record_of};
     ghost use Rattle.tag_core.specs.Gathering.{IsGatheringOf, gathered, numbers_of};
 
-    /// The first of the callers that come together. The slots of the tags that it holds are dropped with it.
+    /// The first of the callers that come together. The slots of its tags stay in the table, each with some value. Its
+    /// one load, of the spare word, stands in no list.
     pub fn start_gathering(&self, caller: Caller<R>) -> Gathering<R>
         requires { IsCallerOf self.now caller }
         ensures map { IsGatheringOf self.now result }
@@ -100,7 +101,7 @@ impl<R> Gathering<R> {
     ghost use Rattle.tag_core.specs.Callers.{IsCallerOf, record_of};
     ghost use Rattle.tag_core.specs.Gathering.{IsGatheringOf, gathered};
 
-    /// One more caller of the map comes to those gathered. Its one load, of the spare word, stands in no list.
+    /// One more caller of the map comes to those gathered. Its three loads, of the spare word, stand in no list.
     pub fn add(&mut self, map: &Map<R>, caller: Caller<R>)
         requires caller { IsCallerOf map.now caller }
         requires map { IsGatheringOf map.now self.old }

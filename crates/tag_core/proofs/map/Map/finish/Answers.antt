@@ -1,5 +1,4 @@
 -- Where each number is among those of the records, a record of each number is among them.
-use Rattle.tag_core.specs.declared.record.Record.{Record}
 use Rattle.tag_core.specs.Gathering.{gathered}
 use Rattle.tag_core.proofs.Numbers.{numbered}
 use Rattle.tag_core.proofs.map.Map.finish.Goals as goal

@@ -1,5 +1,5 @@
 -- Callers come off the end, so each stands before those that came earlier: the records keep the order of the list.
-use Rattle.std.proofs.Common.{List, ◌∷◌, ◌++◌, map, All, ap, ◌∙◌, subst}
+use Rattle.std.proofs.Common.{List, ◌++◌, map, All, ap, ◌∙◌, subst}
 use Rattle.tag_core.specs.declared.record.Record.{Record}
 use Rattle.tag_core.specs.declared.caller.Caller.{Caller}
 use Rattle.tag_core.specs.Callers.{IsCallerOf, record_of}
