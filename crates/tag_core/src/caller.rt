@@ -2,6 +2,8 @@
 ghost use Rattle.std.specs.Prelude.{◌≡◌, ◌≤◌, ◌*◌, length, replicate};
 ghost use Rattle.tag_layout.specs.Layout.{words};
 ghost use Rattle.tag_model.specs.declared.world.TheConstants.{MOST_WON, MAX_CALLERS};
+ghost use Rattle.tag_core.specs.declared.record.Record.{Record};
+ghost use Rattle.tag_core.specs.Meeting.{HasHistory};
 ghost use Rattle.tag_core.specs.Records.{Carries};
 ghost use Rattle.tag_core.specs.Views.{alone, steps_of};
 
@@ -9,6 +11,7 @@ use crate::record::View;
 use crate::shape::Shape;
 use atomic_table::Seat;
 use std::snapshot::Snapshot;
+use step_ledger::Numbered;
 use tag_layout::Layout;
 
 /// Unused words of 8 bytes behind what one caller alone writes.
@@ -45,8 +48,36 @@ pub struct Caller<R> {
       back = back;
       steps = steps_of seat.me.0;
     }) },
+    ghost shown: { (r : Record R) → seat.me.0 ≡ alone r → ∥ HasHistory shape.value r ∥₁ },
     ghost carries: { Carries shape.value.layout held.items seat.me.1 },
     ghost wide: { length held.items ≡ words shape.value.layout },
     ghost unspent: { (won ≤ life) × (life ≤ MOST_WON) },
     ghost few_back: { back ≤ MAX_CALLERS * MOST_WON },
+}
+
+impl<R> Numbered for Caller<R> {
+    ghost number_of = { λ caller. caller.number };
+
+    fn number(&self) -> u32 {
+        self.number
+    }
+}
+
+impl<R> Caller<R> {
+    ghost use Rattle.tag_core.specs.Callers.{record_of};
+
+    /// Tags that it has won, at most 2^48.
+    pub fn won(&self) -> u64
+        ensures value { result ≡ (record_of self.now).won }
+        ensures within { result ≤ MOST_WON }
+    {
+        self.won
+    }
+
+    /// Tags that it has put or given back, others' that it took among them.
+    pub fn back(&self) -> u64
+        ensures { result ≡ (record_of self.now).back }
+    {
+        self.back
+    }
 }

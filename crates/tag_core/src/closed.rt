@@ -1,6 +1,7 @@
 //! What comes of a map when its callers come together.
 use crate::caller::Caller;
 use crate::map::Map;
+use step_ledger::GatherCause;
 use tag_layout::Layout;
 use tag_model::Totals;
 
@@ -15,17 +16,11 @@ pub struct Closed<R> {
     pub slots: Vec<R>,
 }
 
-/// Why the callers can't come together.
-#[derive(Clone, Copy, Debug, PartialEq, Eq)]
-pub enum GatherCause {
-    /// The caller of this number is missing, and none of a lesser number.
-    Missing(u32),
-}
-
-/// What was handed in, and why it comes back.
+/// Why a map was not gathered, with all that was handed in.
 #[derive(Drop)]
 pub struct GatherFault<R> {
     pub cause: GatherCause,
     pub map: Map<R>,
+    /// In the order in which they were handed in.
     pub callers: Vec<Caller<R>>,
 }

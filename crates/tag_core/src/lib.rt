@@ -26,10 +26,12 @@ mod word_step;
 
 pub use caller::Caller;
 pub use claim::{Claim, Spent};
-pub use closed::{Closed, GatherCause, GatherFault};
+pub use closed::{Closed, GatherFault};
 pub use map::Map;
 pub use opens::OpenFault;
 pub use record::{Record, View};
 pub use shape::Shape;
 pub use step::Step;
+pub use step_ledger::GatherCause;
+pub use together::Gathering;
 pub use word_step::WordStep;

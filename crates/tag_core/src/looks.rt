@@ -1,8 +1,10 @@
 //! Looks, which change nothing.
-ghost use Rattle.std.specs.Prelude.{◌≡◌, ℕ, ◌<◌, IsTrue, ◌↔◌};
+ghost use Rattle.std.specs.Prelude.{◌≡◌, ℕ, ◌<◌, ◌≤◌, IsTrue, ◌↔◌};
+ghost use Rattle.tag_model.specs.declared.world.TheConstants.{MAX_CALLERS};
 ghost use Rattle.std.specs.Int.{bit_at};
 ghost use Rattle.tag_layout.specs.Layout.{words, word_of, place_of};
 ghost use Rattle.tag_core.specs.Callers.{layout_of, IsCallerOf, record_of, Holds, Adds};
+ghost use Rattle.tag_core.specs.Holdings.{KeepsAll};
 ghost use Rattle.tag_core.specs.declared.step.Step.TheVariants.{Word};
 ghost use Rattle.tag_core.specs.declared.word_step.WordStep.TheVariants.{Look, LookAside};
 
@@ -20,12 +22,21 @@ impl<R> Map<R> {
         self.shape.layout
     }
 
+    /// Callers of the map, 1 to 64.
+    pub fn callers(&self) -> u32
+        ensures value { result ≡ self.now.shape.callers }
+        ensures within { (1 ≤ result) × (result ≤ MAX_CALLERS) }
+    {
+        self.shape.callers
+    }
+
     /// The word: 1 is taken. Each tag that the caller holds is found taken.
     pub fn look(&self, caller: &mut Caller<R>, word: u32) -> u64
         requires caller { IsCallerOf self.now caller.old }
         requires within { word < words (layout_of self.now) }
         ensures caller { IsCallerOf self.now caller.new }
         ensures step { Adds (Word (Look word result)) caller.old caller.new }
+        ensures kept { KeepsAll caller.old caller.new }
         ensures held { (tag : ℕ) → Holds caller.old tag → word_of (layout_of self.now) tag ≡ word
             → bit_at result (place_of (layout_of self.now) tag) ≡ 1 }
     {
@@ -39,6 +50,7 @@ impl<R> Map<R> {
         requires within { word < words (layout_of self.now) }
         ensures caller { IsCallerOf self.now caller.new }
         ensures step { Adds (Word (LookAside word result)) caller.old caller.new }
+        ensures kept { KeepsAll caller.old caller.new }
         ensures held { (tag : ℕ) → Holds caller.old tag → word_of (layout_of self.now) tag ≡ word
             → bit_at result (place_of (layout_of self.now) tag) ≡ 0 }
     {

@@ -1,6 +1,6 @@
-//! Two callers in hand.
+//! Callers in hand.
 ghost use Rattle.std.specs.Prelude.{◌≡◌, ◌≢◌, ℕ};
-ghost use Rattle.tag_core.specs.Meeting.{ShareHistory};
+ghost use Rattle.tag_core.specs.Meeting.{HasHistory, ShareHistory};
 ghost use Rattle.tag_core.specs.Callers.{IsCallerOf, record_of, Holds, IsUnchanged};
 
 use crate::caller::Caller;
@@ -9,8 +9,8 @@ use crate::plays::{Collect, HandOut, Meeting};
 use crate::spots::SPARE;
 
 impl<R> Map<R> {
-    /// Tells that two callers in hand hold no tag in common. Its loads, of the spare word, change no place and stand in
-    /// no list.
+    /// Shows that two callers in hand hold no tag in common. Its seven loads, of the spare word, change no place and stand
+    /// in no list.
     pub fn meet(&self, first: &mut Caller<R>, second: &mut Caller<R>)
         requires callers { IsCallerOf self.now first.old × IsCallerOf self.now second.old }
         ensures callers { IsCallerOf self.now first.new × IsCallerOf self.now second.new }
@@ -28,4 +28,25 @@ impl<R> Map<R> {
         table.join_seat::<Collect>(&mut first.seat, one);
         table.join_seat::<Collect>(&mut second.seat, both);
     }
+
+    /// Shows that the second caller doesn't hold a tag of the first. It makes no load: the second's own mask has not the
+    /// tag, since two callers who both held it could not meet.
+    pub fn apart(&self, first: &mut Caller<R>, second: &mut Caller<R>, tag: u32)
+        requires callers { IsCallerOf self.now first.old × IsCallerOf self.now second.old }
+        requires held { Holds first.old tag }
+        ensures apart { ¬ (Holds second.old tag) }
+        ensures same { (first.new ≡ first.old) × (second.new ≡ second.old) }
+    {
+        if second.holds(tag) {
+            self.meet(first, second);
+            unreachable!()
+        }
+    }
+}
+
+impl<R> Caller<R> {
+    /// Shows that one lawful history has the caller's record. It makes no load: each step of the caller showed it.
+    pub fn history(&self)
+        ensures { ∥ HasHistory (record_of self.now).shape (record_of self.now) ∥₁ }
+    {}
 }

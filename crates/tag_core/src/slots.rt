@@ -1,12 +1,17 @@
 //! The value beside a held tag.
-ghost use Rattle.std.specs.Prelude.{◌≡◌, ◌≢◌, ℕ};
+ghost use Rattle.std.specs.Prelude.{◌≡◌, ◌≢◌, ◌∷◌, ℕ};
 ghost use mathlib.Core.Option.{some};
+ghost use Rattle.atomic_table.specs.Table.{rest};
+ghost use Rattle.tag_core.specs.Holdings.{KeepsAll};
 ghost use Rattle.tag_core.specs.Callers.{IsCallerOf, SameMap, record_of, Holds, slot_of};
 
 use crate::caller::Caller;
-use crate::map::Map;
+use crate::map::{Map, MapRule};
 use crate::plays::{Fronting, Ordering};
+use crate::record::View;
+use crate::shape::Shape;
 use crate::spots::state_spot;
+use atomic_table::{Seat, Shared};
 
 impl<R> Map<R> {
     /// Exchanges the value of a held tag's slot, and answers the one before. Its two loads, of the state that only the
@@ -26,5 +31,37 @@ impl<R> Map<R> {
         let old = table.exchange(&mut caller.seat, tag as usize, new);
         table.load::<Ordering>(&mut caller.seat, spot);
         old
+    }
+}
+
+/// The value of the slot that the seat took last.
+fn front_value<R: Copy>(
+    table: &Shared<R, View<R>, Shape, MapRule>,
+    seat: &mut Seat<R, View<R>>,
+    slot: usize,
+) -> R
+    requires { (seat.old.table_id ≡ table.now.table_id) × ((old : R) × (seat.old.me.1 ≡ (slot, old) ∷ rest seat.old.me.1)) }
+    ensures same { (seat.new.table_id ≡ seat.old.table_id) × (seat.new.id ≡ seat.old.id) × (seat.new.me ≡ seat.old.me) }
+    ensures value { seat.old.me.1 ≡ (slot, result) ∷ rest seat.old.me.1 }
+{
+    *seat.slot_mut(table, slot)
+}
+
+impl<R: Copy> Map<R> {
+    /// The value of a held tag's slot, which keeps it. Its two loads, of the same kind as those of `slot`, stand in no list.
+    pub fn read(&self, caller: &mut Caller<R>, tag: u32) -> R
+        requires caller { IsCallerOf self.now caller.old }
+        requires held { Holds caller.old tag }
+        ensures caller { IsCallerOf self.now caller.new }
+        ensures value { slot_of caller.old tag ≡ some result }
+        ensures kept { KeepsAll caller.old caller.new }
+        ensures unchanged { (record_of caller.new ≡ record_of caller.old) × SameMap caller.old caller.new }
+    {
+        let spot = state_spot(caller.layout, tag);
+        let table = &self.table.shared;
+        table.load::<Fronting>(&mut caller.seat, spot);
+        let value = front_value(table, &mut caller.seat, tag as usize);
+        table.load::<Ordering>(&mut caller.seat, spot);
+        value
     }
 }

@@ -142,6 +142,17 @@ pub(crate) fn exchange(map: &Map<u64>, caller: &mut Caller<u64>, tag: u32, new: 
     Some(map.slot(caller, tag, new))
 }
 
+/// The value of a held tag's slot.
+pub(crate) fn read(map: &Map<u64>, caller: &mut Caller<u64>, tag: u32) -> Option<u64>
+    requires { IsCallerOf map.now caller.old }
+    ensures { IsCallerOf map.now caller.new }
+{
+    if !has(map, caller, tag) {
+        return None;
+    }
+    Some(map.read(caller, tag))
+}
+
 /// The word and its cleared set: 1 is taken, and 1 is set aside.
 pub(crate) fn look_at(map: &Map<u64>, caller: &mut Caller<u64>, word: u32) -> Option<(u64, u64)>
     requires { IsCallerOf map.now caller.old }

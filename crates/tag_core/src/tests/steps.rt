@@ -2,7 +2,7 @@
 use crate::claim::{Claim, Spent};
 use crate::tests::hands::{
     claim_bits, close, exchange, four_tags, give_tag, has, look_at, next_caller, post_tag,
-    put_back, put_tag, sweep_word, take_tag,
+    put_back, put_tag, read, sweep_word, take_tag,
 };
 use std::test::Fail;
 use tag_model::Totals;
@@ -69,6 +69,7 @@ fn a_posted_tag_is_taken_once_with_its_slot(rt: HostRuntime) -> Result<(), Fail>
         Some(Ok(Claim { won: 1, found: 0 }))
     );
     assert_eq!(rt; exchange(&map, &mut zeroth, 0, 7), Some(0));
+    assert_eq!(rt; read(&map, &mut zeroth, 0), Some(7));
     assert!(rt; post_tag(&map, &mut zeroth, 0));
     assert!(rt; take_tag(&map, &mut first, 0));
     assert!(rt; !take_tag(&map, &mut zeroth, 0));
