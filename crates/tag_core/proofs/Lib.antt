@@ -24,3 +24,6 @@ pub mod Meetings
 pub mod Crossing
 pub mod Totalling
 pub mod Lasts
+pub mod Settlings
+pub mod Chains
+pub mod Reopenings

@@ -1,6 +1,8 @@
 -- What contracts see of a map and of its callers.
-use Rattle.std.specs.Prelude.{◌≡◌, ℕ, ◌<◌, replicate}
+use Rattle.std.specs.Prelude.{◌≡◌, ℕ, ◌<◌, List, length, replicate}
+use mathlib.Core.Option.{some}
 use mathlib.Core.Option as maybe
+use lib.ListN.{get_elem?}
 use Rattle.tag_layout.specs.Layout.{Layout, words}
 use Rattle.tag_core.specs.declared.step.Step.{Step}
 use Rattle.tag_core.specs.declared.record.Record.{Record}
@@ -46,6 +48,11 @@ pub record IsUnchanged {R : Type 0} (old new : Caller R) : Type 0 where
   pub known : record_of new ≡ record_of old
   pub slots : (tag : ℕ) → slot_of new tag ≡ slot_of old tag
   pub same_map : SameMap old new
+
+-- one by one, in the same order, each caller is as it was
+pub record AreUnchanged {R : Type 0} (old new : List (Caller R)) : Type 0 where
+  pub count : length new ≡ length old
+  pub each : (n : ℕ) (a b : Caller R) → get_elem? old n ≡ some a → get_elem? new n ≡ some b → IsUnchanged a b
 
 -- the step joins the caller's own list, and its event changes the caller's record; the slots of tags that it keeps stay
 pub record Adds {R : Type 0} (step : Step R) (old new : Caller R) : Type 0 where

@@ -87,7 +87,7 @@ fn is_there<R>(callers: &[Caller<R>], number: u32) -> bool
     false
 }
 
-fn least_missing<R>(callers: &[Caller<R>], count: u32) -> Option<u32>
+pub(crate) fn least_missing<R>(callers: &[Caller<R>], count: u32) -> Option<u32>
     ensures none { IfNone result ((number : ℕ) → number < count → IsThere callers.now number) }
     ensures some { IfSome result (λ number. IsLeastMissing callers.now count number) }
 {

@@ -33,7 +33,7 @@ pub enum OpenFault {
 }
 
 /// A mask of no tags for each word, in a block of memory that has no line in common with another caller's.
-fn none_held(alloc: Global, words: usize) -> Result<Vec<u64>, AllocError>
+pub(crate) fn none_held(alloc: Global, words: usize) -> Result<Vec<u64>, AllocError>
     requires { words ≤ MAX_DEPTH }
     ensures { IfOk result (λ held. held.items ≡ replicate words 0) }
 {

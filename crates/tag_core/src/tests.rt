@@ -3,5 +3,6 @@ mod gathering;
 mod hands;
 mod memory;
 mod opening;
+mod resizing;
 mod steps;
 mod threads;
