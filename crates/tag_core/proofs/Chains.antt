@@ -1,6 +1,5 @@
 -- What was won along a chain of maps.
 use Rattle.std.proofs.Common.{◌≡◌, ℕ, ◌+◌, List, [], ◌∷◌, get_or, arith, ap, ◌∙◌}
-use Rattle.std.proofs.Math.Logic.{∥∥₁_map}
 use Rattle.tag_layout.specs.Layout.{Layout}
 use Rattle.tag_layout.proofs.SumFacts.{sum_below-none, sum_below-same}
 use Rattle.tag_model.specs.declared.event.Event.{Event}
@@ -13,7 +12,7 @@ use Rattle.tag_model.proofs.BalanceFacts.{sum_below-plus_at}
 use Rattle.tag_core.specs.declared.shape.Shape.{Shape}
 use Rattle.tag_core.specs.Histories.{History, IsLawful, events_of, opening_world, world_of}
 use Rattle.tag_core.specs.Sizes.{total_of}
-use Rattle.tag_core.specs.Chain.{Chapter, IsChain, HasChain, won_along, back_along, CountChain}
+use Rattle.tag_core.specs.Chain.{Epoch, IsChain, HasChain, won_along, back_along, CountsChain}
 
 -- a history adds what its events win
 won_grows : (l : Layout) (callers : ℕ) (h : List Event) (w : World) → IsHistory l callers w h
@@ -33,7 +32,7 @@ back_grows l callers (e ∷ h) w is =
 
 module _ {R : Type 0} where
   -- a map opens with what was won in the maps before it
-  won_before : (k : Shape) (older : List (Chapter R)) → IsChain k older → got_in k.callers (opening_world k) ≡ won_along older
+  won_before : (k : Shape) (older : List (Epoch R)) → IsChain k older → got_in k.callers (opening_world k) ≡ won_along older
   won_before k [] is = sum_below-none (opening_world k).won k.callers (λ c l. ap (λ (z : List ℕ). get_or z c 0) is.0)
   won_before k (last ∷ older) is =
       let on = is.0 in let before = won_before last.shape older is.1 in
@@ -44,7 +43,7 @@ module _ {R : Type 0} where
       ∙ (let e : got_in last.shape.callers (opening_world k) ≡ won_along (last ∷ older) = omega arith in e)
 
   -- and with what was given back in them
-  back_before : (k : Shape) (older : List (Chapter R)) → IsChain k older → back_in k.callers (opening_world k) ≡ back_along older
+  back_before : (k : Shape) (older : List (Epoch R)) → IsChain k older → back_in k.callers (opening_world k) ≡ back_along older
   back_before k [] is = sum_below-none (opening_world k).back k.callers (λ c l. ap (λ (z : List ℕ). get_or z c 0) is.1)
   back_before k (last ∷ older) is =
       let on = is.0 in let before = back_before last.shape older is.1 in
@@ -56,10 +55,11 @@ module _ {R : Type 0} where
 
   -- the totals of a map's world count the whole chain
   pub count_chain : (k : Shape) (h : History R) (totals : Totals) → HasChain R k → IsLawful k h
-      → AreTotals k.layout k.callers (world_of k h) totals → CountChain k h totals
-  count_chain k h totals chain lawful are = ∥∥₁_map chain
-      (λ (x : (older : List (Chapter R)) × IsChain k older).
-      let won = won_before k x.0 x.1 in let back = back_before k x.0 x.1 in
-      let more_won = won_grows k.layout k.callers (events_of k.layout h) (opening_world k) lawful.happens in
-      let more_back = back_grows k.layout k.callers (events_of k.layout h) (opening_world k) lawful.happens in
-      let got = are.got in let given = are.back in (x.0, x.1, omega arith, omega arith))
+      → AreTotals k.layout k.callers (world_of k h) totals → CountsChain k h totals
+  count_chain k h totals leads lawful are = record {
+    leads = leads;
+    got = λ older is. let before = won_before k older is in let got = are.got in
+        let more = won_grows k.layout k.callers (events_of k.layout h) (opening_world k) lawful.happens in omega arith;
+    back = λ older is. let before = back_before k older is in let back = are.back in
+        let more = back_grows k.layout k.callers (events_of k.layout h) (opening_world k) lawful.happens in omega arith;
+  }

@@ -24,6 +24,8 @@ pub mod Meetings
 pub mod Crossing
 pub mod Totalling
 pub mod Lasts
+pub mod Entries
+pub mod SeatMoves
 pub mod Settlings
 pub mod Chains
 pub mod Reopenings

@@ -14,18 +14,17 @@ use Rattle.tag_core.specs.declared.map.Map.{Map}
 use Rattle.tag_core.specs.Histories.{world_of}
 use Rattle.tag_core.specs.Sizes.{total_of, size_of}
 use Rattle.tag_core.specs.Rule.{Shown}
-use Rattle.tag_core.specs.Settling.{HasAll, AreSettled}
+use Rattle.tag_core.specs.Settling.{HasRecords, AreSettled}
 use Rattle.tag_core.specs.Plays.{settled}
 use Rattle.tag_core.specs.Views.{viewing, first_view, other_views, both_views}
 use Rattle.tag_core.specs.Callers.{record_of, IsUnchanged, AreUnchanged}
-use Rattle.tag_core.proofs.Passing.{hands_first, joins}
 use Rattle.tag_core.proofs.Seats.{within, snoc_at}
 use Rattle.tag_core.proofs.Stand.{some_width}
 use Rattle.tag_core.proofs.Fronts.{idle}
 use Rattle.tag_core.proofs.Ends.{few_records, won_all, back_all, held_all, even_all}
 
 module _ {R : Type 0} (k : Shape) (s : State R (View R)) (sh : Shown k s) (id : ℕ) (v : View R) (at : get_elem? s.views id ≡ some v)
-    (all : HasAll k.callers v.records.value) where
+    (all : HasRecords k.callers v.records.value) where
   -- what the records tell, and the posted tags of the world
   abbrev totals_there : Totals
   totals_there = record {
@@ -65,29 +64,10 @@ settle_allowed R k d id me s sh deep at _ = (
     refl,
     λ r e.
         let is : r.shape ≡ k = (sh.records id me.0 at 0 r e).0.shape in
-        subst (λ (z : Shape). HasAll z.callers me.0.records.value → (totals : Totals) × AreSettled z me.0.records.value totals)
+        subst (λ (z : Shape). HasRecords z.callers me.0.records.value → (totals : Totals) × AreSettled z me.0.records.value totals)
         (sym is) (λ all. (totals_there k s sh id me.0 at all, settled_there k s sh id me.0 at all)),
   ),
 )
-
-module _ {R : Type 0} (m : Map R) where
-  -- a map's table has a word
-  pub some_words : 0 < m.table.shared.table_id.words
-  some_words = subst (λ (z : ℕ). 0 < z) (sym m.wide.0) (some_width m.shape.layout)
-
-  -- a seat's first record may leave it
-  pub splits_off : (id : ℕ) (v : View R) (r : Record R) (rs : List (Record R)) → v ≡ viewing (r ∷ rs)
-      → Splits (Shown m.table.shared.key) id v (other_views v) (first_view v)
-  splits_off id v r rs is =
-      subst (λ (z : Shape). Splits (Shown z) id v (other_views v) (first_view v)) (sym m.told)
-      (hands_first R m.shape id v r rs is)
-
-  -- a seat may take in the records of another
-  pub joins_in : (id : ℕ) (v : View R) (other : ℕ) (w : View R)
-      → Joins (Shown m.table.shared.key) id v other w (both_views v w) (viewing [])
-  joins_in id v other w =
-      subst (λ (z : Shape). Joins (Shown z) id v other w (both_views v w) (viewing [])) (sym m.told)
-      (joins R m.shape id v other w)
 
 module _ {R : Type 0} where
   -- one caller more is as it was

@@ -17,7 +17,7 @@ use Rattle.tag_core.specs.Histories.{event_of}
 use Rattle.tag_core.specs.Records.{record_after, held_after, tag_bit, value_of, tags_from, but, Carries}
 use Rattle.tag_core.specs.Views.{viewing, alone}
 use Rattle.tag_core.specs.Meeting.{ShareHistory, AreApart}
-use Rattle.tag_core.specs.Settling.{HasAll, AreSettled}
+use Rattle.tag_core.specs.Settling.{HasRecords, AreSettled}
 use Rattle.tag_model.specs.declared.totals.Totals.{Totals}
 use lib.ListN.{get_elem?}
 
@@ -126,5 +126,5 @@ module _ {R : Type 0} (st : table.Step R) (me : Me R (View R)) (found : ℕ) (me
   abbrev pub settled : Type 0
   settled =
       (me' ≡ me)
-      × ((r : Record R) → get_elem? me.0.records.value 0 ≡ some r → HasAll r.shape.callers me.0.records.value
+      × ((r : Record R) → get_elem? me.0.records.value 0 ≡ some r → HasRecords r.shape.callers me.0.records.value
       → (totals : Totals) × AreSettled r.shape me.0.records.value totals)

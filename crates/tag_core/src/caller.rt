@@ -9,6 +9,7 @@ use crate::record::View;
 use crate::shape::Shape;
 use atomic_table::Seat;
 use std::snapshot::Snapshot;
+use step_ledger::Numbered;
 use tag_layout::Layout;
 
 /// Unused words of 8 bytes behind what one caller alone writes.
@@ -49,4 +50,12 @@ pub struct Caller<R> {
     ghost wide: { length held.items ≡ words shape.value.layout },
     ghost unspent: { (won ≤ life) × (life ≤ MOST_WON) },
     ghost few_back: { back ≤ MAX_CALLERS * MOST_WON },
+}
+
+impl<R> Numbered for Caller<R> {
+    ghost number_of = { λ c. c.number };
+
+    fn number(&self) -> u32 {
+        self.number
+    }
 }

@@ -1,6 +1,7 @@
 //! What comes of a map when its callers come together.
 use crate::caller::Caller;
 use crate::map::Map;
+use step_ledger::GatherCause;
 use tag_layout::Layout;
 use tag_model::Totals;
 
@@ -13,13 +14,6 @@ pub struct Closed<R> {
     pub totals: Totals,
     /// The slots of the tags, in their order. That of a tag still held is some value.
     pub slots: Vec<R>,
-}
-
-/// Why the callers can't come together.
-#[derive(Clone, Copy, Debug, PartialEq, Eq)]
-pub enum GatherCause {
-    /// The caller of this number is missing, and none of a lesser number.
-    Missing(u32),
 }
 
 /// What was handed in, and why it comes back.

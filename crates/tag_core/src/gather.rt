@@ -8,13 +8,14 @@ ghost use Rattle.tag_core.specs.Gathering.{states_posted, IsGathered, IsThere, I
 ghost use Rattle.tag_core.specs.Callers.{IsCallerOf, record_of};
 
 use crate::caller::Caller;
-use crate::closed::{Closed, GatherCause, GatherFault};
+use crate::closed::{Closed, GatherFault};
 use crate::map::Map;
 use crate::record::Record;
 use crate::spots::state_spot;
 use crate::together::Together;
 use atomic_table::Closed as Ended;
 use std::alloc::Global;
+use step_ledger::GatherCause;
 use tag_layout::Layout;
 use tag_model::Totals;
 
@@ -87,7 +88,7 @@ fn is_there<R>(callers: &[Caller<R>], number: u32) -> bool
     false
 }
 
-pub(crate) fn least_missing<R>(callers: &[Caller<R>], count: u32) -> Option<u32>
+fn least_missing<R>(callers: &[Caller<R>], count: u32) -> Option<u32>
     ensures none { IfNone result ((number : ℕ) → number < count → IsThere callers.now number) }
     ensures some { IfSome result (λ number. IsLeastMissing callers.now count number) }
 {

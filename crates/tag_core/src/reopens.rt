@@ -1,41 +1,35 @@
 //! The callers of a map that has ended go on with a next one.
-ghost use Rattle.std.specs.Prelude.{◌≡◌, ◌≢◌, ℕ, ◌+◌, ◌-◌, ◌<◌, ◌≤◌, List, [], length, replicate, map, All, IfOk, IfErr, IfNone, IfSome, slice_index, vec_len};
+ghost use Rattle.std.specs.Prelude.{◌≡◌, ℕ, ◌+◌, ◌-◌, ◌<◌, ◌≤◌, [], length, replicate, map, All, IfOk, IfErr, IfNone, IfSome, slice_index};
 ghost use mathlib.Core.Option.{some};
 ghost use lib.ListN.{get_elem?};
+ghost use Rattle.step_ledger.specs.Views.{Has};
 ghost use Rattle.tag_layout.specs.Layout.{words};
 ghost use Rattle.tag_layout.specs.declared.layout.TheConstants.{MAX_DEPTH};
-ghost use Rattle.tag_model.specs.declared.world.TheConstants.{MAX_CALLERS, MOST_WON};
-ghost use Rattle.tag_core.specs.Chain.{HasChain};
-ghost use Rattle.tag_core.specs.Callers.{IsCallerOf, record_of};
-ghost use Rattle.tag_core.specs.Gathering.{IsThere};
-ghost use Rattle.tag_core.specs.Reopening.{reopened_record, IsNext, HasCounts, AreReopened};
-ghost use Rattle.tag_core.specs.Rule.{IsOpening};
+ghost use Rattle.tag_core.specs.Callers.{IsCallerOf, record_of, numbers_of, HaveOwnNumbers};
+ghost use Rattle.tag_core.specs.Reopening.{reopened_record, IsNext, HasCounts, AreReopened, GoesOnFrom, AllFree};
 ghost use Rattle.tag_core.specs.Views.{viewing, fresh, all_fresh};
 
 use crate::caller::Caller;
 use crate::map::Map;
-use crate::opens::none_held;
+use crate::opens::{new_map, none_held};
 use crate::plays::HandOut;
 use crate::record::View;
 use crate::settled::Settled;
 use crate::shape::Shape;
-use crate::spots::table_words;
-use atomic_table::{Seat, Table};
+use atomic_table::Seat;
 use std::alloc::{AllocError, Global};
 use std::snapshot::Snapshot;
 use tag_layout::Layout;
 
 /// Where the caller of this number stands.
 fn place_of<R>(callers: &[Caller<R>], number: u32) -> Option<usize>
-    ensures none { IfNone result (¬ (IsThere callers.now number)) }
-    ensures some { IfSome result (λ i. (i < length callers.now) × ((c : Caller R) → get_elem? callers.now i ≡ some c → c.number ≡ number)) }
+    ensures none { IfNone result (¬ Has (numbers_of callers.now) number) }
+    ensures some { IfSome result (λ i. get_elem? (numbers_of callers.now) i ≡ some number) }
 {
-    let mut i = 0;
-    for caller in callers {
+    for (i, caller) in callers.iter().enumerate() {
         if caller.number == number {
             return Some(i);
         }
-        i += 1;
     }
     None
 }
@@ -63,8 +57,7 @@ fn next_shape<R>(
     layout: Layout,
 ) -> Result<Shape, AllocError>
     requires below { (i : ℕ) (c : Caller R) → get_elem? callers.now i ≡ some c → c.number < shape.now.callers }
-    requires once { (i j : ℕ) (a b : Caller R) → get_elem? callers.now i ≡ some a → get_elem? callers.now j ≡ some b
-        → a.number ≡ b.number → i ≡ j }
+    requires once { HaveOwnNumbers callers.now }
     ensures next { IfOk result (λ k. IsNext layout shape.now k) }
     ensures counts { IfOk result (λ k. HasCounts callers.now k) }
     ensures wide { IfOk result (λ k. (length k.won_before.value.items ≡ shape.now.callers)
@@ -84,32 +77,6 @@ fn next_shape<R>(
         won_before: Snapshot::of(&won),
         back_before: Snapshot::of(&back),
     })
-}
-
-/// A map of this shape, and the seat that has the records of all its callers. The slots come back where it is refused.
-fn next_map<R: Drop>(
-    alloc: Global,
-    shape: Shape,
-    slots: Vec<R>,
-) -> Result<(Map<R>, Seat<R, View<R>>), Vec<R>>
-    requires limits { (1 ≤ shape.callers) × (shape.callers ≤ MAX_CALLERS) × (shape.life ≤ MOST_WON) }
-    requires slots { length slots.items ≡ shape.layout.depth }
-    requires opening { IsOpening shape }
-    requires chain { HasChain R shape }
-    ensures map { IfOk result (λ p. p.0.shape ≡ shape) }
-    ensures seat { IfOk result (λ p. (p.1.table_id ≡ p.0.table.shared.table_id) × (p.1.me ≡ (all_fresh shape, []))) }
-    ensures back { IfErr result (λ s. s.items ≡ slots.items) }
-{
-    let Ok(room) = Vec::with_capacity(alloc, shape.layout.depth() as usize) else {
-        return Err(slots);
-    };
-    let Ok(words) = vec![in alloc; 0u64; table_words(shape.layout)] else {
-        return Err(slots);
-    };
-    match Table::new(alloc, words.as_slice(), slots, &shape) {
-        Ok((table, rest)) => Ok((Map { table, shape, room }, rest)),
-        Err(refused) => Err(refused.slots),
-    }
 }
 
 /// A caller goes on with the next map, from the seat that has its record there and those of greater numbers.
@@ -139,9 +106,8 @@ fn reseat_all<R>(
     mut masks: Vec<Vec<u64>>,
 )
     requires seat { (rest.table_id ≡ tags.now.table.shared.table_id) × (rest.me ≡ (all_fresh tags.now.shape, [])) }
-    requires every { (n : ℕ) → n < tags.now.shape.callers → ¬ (¬ (IsThere callers.old.items n)) }
-    requires once { (i j : ℕ) (a b : Caller R) → get_elem? callers.old.items i ≡ some a → get_elem? callers.old.items j ≡ some b
-        → a.number ≡ b.number → i ≡ j }
+    requires every { (n : ℕ) → n < tags.now.shape.callers → ¬ (¬ (Has (numbers_of callers.old.items) n)) }
+    requires once { HaveOwnNumbers callers.old.items }
     requires below { (i : ℕ) (c : Caller R) → get_elem? callers.old.items i ≡ some c → c.number < tags.now.shape.callers }
     requires life { (i : ℕ) (c : Caller R) → get_elem? callers.old.items i ≡ some c → c.life ≡ tags.now.shape.life }
     requires counts { HasCounts callers.old.items tags.now.shape }
@@ -160,6 +126,28 @@ fn reseat_all<R>(
     }
 }
 
+/// What can fail before the next map is made: its shape, and a mask of no tags for each word and caller.
+fn prepare<R>(
+    alloc: Global,
+    settled: &Settled<R>,
+    layout: Layout,
+) -> Result<(Shape, Vec<Vec<u64>>), AllocError>
+    ensures next { IfOk result (λ p. IsNext layout settled.now.tags.shape p.0) }
+    ensures counts { IfOk result (λ p. HasCounts settled.now.callers.items p.0) }
+    ensures wide { IfOk result (λ p. length p.0.won_before.value.items ≡ settled.now.tags.shape.callers) }
+    ensures masks { IfOk result (λ p. (length p.1.items ≡ settled.now.tags.shape.callers)
+        × All (λ m. m.items ≡ replicate (words layout) 0) p.1.items) }
+{
+    let shape = next_shape(
+        alloc,
+        &settled.tags.shape,
+        settled.callers.as_slice(),
+        layout,
+    )?;
+    let masks = spare_masks(alloc, shape.callers as usize, layout.words() as usize)?;
+    Ok((shape, masks))
+}
+
 impl<R: Drop> Settled<R> {
     /// The callers go on with a new map, in which all tags are free. Refused for want of memory alone: then all comes back.
     pub fn reopen(
@@ -171,18 +159,16 @@ impl<R: Drop> Settled<R> {
         requires unused { (self.totals.held ≡ 0) × (self.totals.posted ≡ 0) }
         requires slots { length slots.items ≡ layout.depth }
         ensures next { IfOk result (λ p. IsNext layout self.tags.shape p.0.shape) }
-        ensures counts { IfOk result (λ p. HasCounts self.callers.items p.0.shape) }
+        ensures goes_on { IfOk result (λ p. GoesOnFrom self p.0.shape) }
         ensures callers { IfOk result (λ p. AreReopened p.0 self.callers.items p.1.items) }
         ensures own { IfOk result (λ p. All (IsCallerOf p.0) p.1.items) }
-        ensures back { IfErr result (λ e. (e.0 ≡ self) × (e.1.items ≡ slots.items)) }
+        ensures free { IfOk result (λ p. AllFree p.0.shape (map record_of p.1.items)) }
+        ensures err { IfErr result (λ e. (e.0 ≡ self) × (e.1.items ≡ slots.items)) }
     {
-        let Ok(shape) = next_shape(alloc, &self.tags.shape, self.callers.as_slice(), layout) else {
+        let Ok((shape, masks)) = prepare(alloc, &self, layout) else {
             return Err((self, slots));
         };
-        let Ok(masks) = spare_masks(alloc, shape.callers as usize, layout.words() as usize) else {
-            return Err((self, slots));
-        };
-        let (map, rest) = match next_map(alloc, shape, slots) {
+        let (map, rest) = match new_map(alloc, shape, slots) {
             Ok(made) => made,
             Err(slots) => return Err((self, slots)),
         };

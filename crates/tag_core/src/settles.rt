@@ -1,18 +1,19 @@
 //! All callers come together, and the map stays.
-ghost use Rattle.std.specs.Prelude.{◌≡◌, ℕ, ◌+◌, ◌*◌, ◌<◌, ◌≤◌, [], ◌++◌, length, map, All, IfOk, IfErr, vec_len, vec_capacity};
+ghost use Rattle.std.specs.Prelude.{◌≡◌, ◌↔◌, ℕ, ◌+◌, ◌*◌, ◌≤◌, [], ◌++◌, length, map, All, IsOk, IfOk, IfErr, vec_len, vec_capacity};
 ghost use mathlib.Core.Option.{some};
 ghost use lib.ListN.{get_elem?};
-ghost use Rattle.tag_core.specs.Callers.{IsCallerOf, record_of, AreUnchanged};
-ghost use Rattle.tag_core.specs.Gathering.{IsLeastMissing};
-ghost use Rattle.tag_core.specs.Settling.{HasAll, AreSettled};
+ghost use Rattle.step_ledger.specs.Views.{HasAll};
+ghost use Rattle.step_ledger.specs.Gather.{IsCauseOf};
+ghost use Rattle.tag_core.specs.Callers.{IsCallerOf, record_of, numbers_of, AreUnchanged};
+ghost use Rattle.tag_core.specs.Settling.{HasRecords, AreSettled};
 ghost use Rattle.tag_core.specs.Sizes.{total_of, size_of};
 ghost use Rattle.tag_model.specs.declared.world.TheConstants.{MAX_CALLERS};
 ghost use Rattle.tag_layout.specs.declared.layout.TheConstants.{MAX_DEPTH};
 
 use crate::caller::Caller;
-use crate::closed::{GatherCause, GatherFault};
-use crate::gather::least_missing;
+use crate::closed::GatherFault;
 use crate::map::Map;
+use crate::missing::all_there;
 use crate::plays::{Collect, HandOut, Settling};
 use crate::record::{Record, View};
 use crate::settled::Settled;
@@ -31,7 +32,7 @@ fn come_together<R>(
     requires own { All (λ c. IsCallerOf tags.now c) callers.old.items }
     requires seat { (all.table_id ≡ tags.now.table.shared.table_id) × (all.me.1 ≡ []) }
     requires first { (r : Record R) × (get_elem? all.me.0.records.value 0 ≡ some r) × (r.shape ≡ tags.now.shape) }
-    requires every { HasAll tags.now.shape.callers (map record_of callers.old.items ++ all.me.0.records.value) }
+    requires every { HasRecords tags.now.shape.callers (map record_of callers.old.items ++ all.me.0.records.value) }
     ensures seat { (result.table_id ≡ all.table_id) × (result.me ≡ all.me) }
     ensures own { All (λ c. IsCallerOf tags.now c) callers.new.items }
     ensures unchanged { AreUnchanged callers.old.items callers.new.items }
@@ -90,7 +91,7 @@ fn totals_of<R>(tags: &Map<R>, callers: &[Caller<R>]) -> Totals
 /// All callers come together and are as they were; what they won, gave back, hold and posted.
 fn settle_all<R>(tags: &Map<R>, callers: &mut Vec<Caller<R>>) -> Totals
     requires own { All (λ c. IsCallerOf tags.now c) callers.old.items }
-    requires every { HasAll tags.now.shape.callers (map record_of callers.old.items) }
+    requires every { HasRecords tags.now.shape.callers (map record_of callers.old.items) }
     ensures own { All (λ c. IsCallerOf tags.now c) callers.new.items }
     ensures unchanged { AreUnchanged callers.old.items callers.new.items }
     ensures settled { AreSettled tags.now.shape (map record_of callers.new.items) result }
@@ -108,25 +109,21 @@ fn settle_all<R>(tags: &Map<R>, callers: &mut Vec<Caller<R>>) -> Totals
 
 impl<R: Drop> Map<R> {
     /// Brings all callers together, in any order, so that nobody else acts. Where one is missing all come back.
-    pub fn settle(self, mut callers: Vec<Caller<R>>) -> Result<Settled<R>, GatherFault<R>>
+    pub fn settle(self, callers: Vec<Caller<R>>) -> Result<Settled<R>, GatherFault<R>>
         requires { All (λ c. IsCallerOf self c) callers.items }
+        ensures succeeds { IsOk result ↔ HasAll (numbers_of callers.items) self.shape.callers }
         ensures map { IfOk result (λ s. s.tags ≡ self) }
         ensures callers { IfOk result (λ s. AreUnchanged callers.items s.callers.items) }
-        ensures settled { IfOk result (λ s. AreSettled self.shape (map record_of s.callers.items) s.totals) }
-        ensures missing { IfErr result (λ f. (number : ℕ) × (f.cause ≡ GatherCause.Missing number)
-            × IsLeastMissing callers.items self.shape.callers number) }
-        ensures back { IfErr result (λ f. (f.map ≡ self) × (f.callers.items ≡ callers.items)) }
+        ensures settled { IfOk result (λ s. AreSettled s.tags.shape (map record_of s.callers.items) s.totals) }
+
+        // The caller missing is the one of the least number.
+        ensures missing { IfErr result (λ f. IsCauseOf (numbers_of callers.items) self.shape.callers f.cause) }
+        ensures err { IfErr result (λ f. (f.map ≡ self) × (f.callers.items ≡ callers.items)) }
     {
-        if let Some(number) = least_missing(callers.as_slice(), self.shape.callers) {
-            return Err(GatherFault {
-                cause: GatherCause::Missing(number),
-                map: self,
-                callers,
-            });
-        }
-        let totals = settle_all(&self, &mut callers);
+        let (tags, mut callers) = all_there(self, callers)?;
+        let totals = settle_all(&tags, &mut callers);
         Ok(Settled {
-            tags: self,
+            tags,
             callers,
             totals,
         })

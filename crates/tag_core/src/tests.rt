@@ -3,6 +3,8 @@ mod gathering;
 mod hands;
 mod memory;
 mod opening;
+mod reopening;
 mod resizing;
+mod resizing_threads;
 mod steps;
 mod threads;

@@ -1,8 +1,8 @@
 //! Callers that are missing, and callers that were lost.
 use crate::claim::Claim;
-use crate::closed::GatherCause;
 use crate::tests::hands::{claim_bits, close, four_tags, next_caller, put_back};
 use std::test::Fail;
+use step_ledger::GatherCause;
 use tag_model::Totals;
 
 const NOTHING: Totals = Totals {

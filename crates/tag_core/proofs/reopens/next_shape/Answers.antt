@@ -1,3 +1,4 @@
+-- Each caller's counts stand at its number, and no two callers have one number.
 use Rattle.std.proofs.Common.{rules, arith, ◌≡◌, ◌≢◌, ℕ, ◌+◌, ◌<◌, List, length, get_or, set, sym, ap, ◌∙◌, subst, get_or-set_other, get_or-set_same, length-set}
 use mathlib.Core.Option.{some, some-injective}
 use mathlib.Core.Logic.{dite}
@@ -5,6 +6,7 @@ use native.Mathlib.Decide.{ℕ_discrete}
 use lib.ListN.{get_elem?}
 use Rattle.atomic_table.proofs.Lists.{at_index}
 use Rattle.tag_core.specs.declared.caller.Caller.{Caller}
+use Rattle.tag_core.specs.Callers.{HaveOwnNumbers}
 use Rattle.tag_core.proofs.Seats.{within}
 use Rattle.tag_core.proofs.reopens.next_shape.Goals as goal
 
@@ -24,7 +26,7 @@ index_mut-requires-in-loop-caller g c =
 more : {R : Type 0} (f : Caller R → ℕ) (callers : List (Caller R)) (counts : List ℕ) (n : ℕ) (x : Caller R)
     → get_elem? callers n ≡ some x → x.number < length counts
     → ((i : ℕ) (y : Caller R) → i < n → get_elem? callers i ≡ some y → get_or counts y.number 0 ≡ f y)
-    → ((i j : ℕ) (a b : Caller R) → get_elem? callers i ≡ some a → get_elem? callers j ≡ some b → a.number ≡ b.number → i ≡ j)
+    → HaveOwnNumbers callers
     → (i : ℕ) (y : Caller R) → i < n + 1 → get_elem? callers i ≡ some y → get_or (set counts x.number (f x)) y.number 0 ≡ f y
 more f callers counts n x here low before once i y l at = dite (ℕ_discrete i n)
     (λ (same : i ≡ n). let is : x ≡ y = some-injective x y (sym here ∙ ap (get_elem? callers) (sym same) ∙ at) in

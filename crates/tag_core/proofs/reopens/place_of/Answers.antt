@@ -1,35 +1,31 @@
-use Rattle.std.proofs.Common.{rules, arith, ◌≡◌, ◌≢◌, ℕ, sym, ap, ◌∙◌}
-use mathlib.Core.Option.{some-injective}
-use mathlib.Core.Logic.{dite}
-use native.Mathlib.Decide.{ℕ_discrete}
+-- The loop leaves off at a caller of that number; where it ends, the number stands at no place.
+use Rattle.std.proofs.Common.{◌≡◌, ◌≢◌, ℕ, map, length, below_more, arith, refl, sym, ap, ◌∙◌}
+use Rattle.std.proofs.lemmas.List.{length-map}
+use mathlib.Core.Option.{some, some-injective}
 use lib.ListN.{get_elem?}
-use Rattle.atomic_table.proofs.Lists.{at_index}
+use Rattle.atomic_table.proofs.Lists.{at_map, at_index}
+use Rattle.step_ledger.proofs.Turned.{nowhere}
 use Rattle.tag_core.specs.declared.caller.Caller.{Caller}
-use Rattle.tag_core.proofs.Seats.{within}
+use Rattle.tag_core.specs.Callers.{numbers_of}
+use Rattle.tag_core.proofs.reopens.place_of.Given as given
+use Rattle.tag_core.proofs.reopens.place_of.Goals.{After-index-callers-i}
 use Rattle.tag_core.proofs.reopens.place_of.Goals as goal
 
-pub returns-then-caller-number-clause-some : goal.returns-then-caller-number-clause-some
-returns-then-caller-number-clause-some g c =
-    let i : ℕ = c.loop-caller.caller-index in let is : c.loop-caller.i ≡ i = c.loop-caller.invariant.here in
-    let here = at_index c.args.callers.now i c.caller-item.result c.loop-caller-test.true c.caller-item.is in (
-      (let low = c.loop-caller-test.true in omega arith),
-      λ x at. ap (λ (z : Caller g.row.R.Denot). z.number) (some-injective x c.caller-item.result
-          (sym at ∙ ap (get_elem? c.args.callers.now) is ∙ here)) ∙ c.if-caller-number.true,
-    )
+-- the number that stands at this place
+number_here : {g : given.Over} (c : After-index-callers-i g)
+    → get_elem? (numbers_of c.args.callers.now) c.loop-i.i ≡ some c.index-callers-i.result.number
+number_here {g} c = at_map (λ (x : Caller g.row.R.Denot). x.number) c.args.callers.now c.loop-i.i c.index-callers-i.result
+    (at_index c.args.callers.now c.loop-i.i c.index-callers-i.result c.loop-i-test.true c.index-callers-i.is)
 
-pub loop-caller-preserved : goal.loop-caller-preserved
-loop-caller-preserved g c = record {
-  here = (let e = c.loop-caller.invariant.here in omega arith);
-  others = λ i x low at e. dite (ℕ_discrete i c.loop-caller.caller-index)
-      (λ (same : i ≡ c.loop-caller.caller-index).
-      let here = at_index c.args.callers.now c.loop-caller.caller-index c.caller-item.result c.loop-caller-test.true c.caller-item.is in
-      let is : x ≡ c.caller-item.result = some-injective x c.caller-item.result
-      (sym at ∙ ap (get_elem? c.args.callers.now) same ∙ here) in
-      c.if-caller-number.false (ap (λ (z : Caller g.row.R.Denot). z.number) (sym is) ∙ e))
-      (λ (ne : i ≢ c.loop-caller.caller-index). c.loop-caller.invariant.others i x (omega arith) at e);
-}
+pub returns-then-caller-number-clause-some : goal.returns-then-caller-number-clause-some
+returns-then-caller-number-clause-some g c = number_here c.before ∙ ap some c.if-caller-number.true
+
+pub loop-i-preserved : goal.loop-i-preserved
+loop-i-preserved g c = below_more (λ (k : ℕ). get_elem? (numbers_of c.args.callers.now) k ≢ some c.args.number) c.loop-i.i
+    c.loop-i.invariant (λ e. c.if-caller-number.false (some-injective _ _ (sym (number_here c.before) ∙ e)))
 
 pub returns-clause-none : goal.returns-clause-none
-returns-clause-none g c there =
-    let low = within c.args.callers.now there.0 there.1 there.2 in
-    c.loop-caller.invariant.others there.0 there.1 (search rules) there.2 there.3
+returns-clause-none g c =
+    let xs = c.args.callers.now in let stop = c.loop-i-test.false in
+    let long : length (numbers_of xs) ≡ length xs = length-map xs (λ (x : Caller g.row.R.Denot). x.number) in
+    nowhere (numbers_of xs) c.args.number (λ k l. c.loop-i.invariant k (omega arith))

@@ -9,7 +9,7 @@ use Rattle.tag_core.specs.Reopening.{reopened_record}
 use Rattle.tag_core.specs.Views.{viewing, alone, fresh, first_view, other_views, steps_of}
 use Rattle.tag_core.specs.Callers.{record_of}
 use Rattle.tag_core.proofs.Passing.{next_fresh, carries_none}
-use Rattle.tag_core.proofs.Settlings.{some_words, splits_off}
+use Rattle.tag_core.proofs.SeatMoves.{some_words, splits_off}
 use Rattle.tag_core.proofs.reopens.reseat.Goals as goal
 
 module _ {R : Type 0} (k : Shape) (old : Caller R) where

@@ -1,28 +1,24 @@
-use Rattle.std.proofs.Common.{arith, ◌≡◌, ◌≢◌, ℕ, zero, suc, ◌+◌, ◌-◌, ◌<◌, ◌≤◌, List, [], ◌∷◌, All, Vec, Global, length, length-set, length-append, get_or, set, replicate, sym, ap, ◌∙◌, refl, subst, ⊎_elim}
+-- The callers are reseated in the order of their numbers, each in its own place.
+use Rattle.std.proofs.Common.{rules, arith, ◌≡◌, ◌≢◌, ℕ, ◌+◌, ◌-◌, ◌<◌, ◌≤◌, List, [], ◌∷◌, All, Vec, Global, length, length-set, length-append, get_or, set, replicate, sym, ap, ◌∙◌, subst, ⊎_elim}
 use mathlib.Core.Option.{some, some-injective}
 use mathlib.Core.Logic.{dite}
 use native.Mathlib.Decide.{dec_lt}
 use lib.ListN.{get_elem?}
-use Rattle.atomic_table.proofs.Lists.{at_index, at_set}
+use Rattle.atomic_table.proofs.Lists.{at_index, at_map, at_set}
+use Rattle.step_ledger.specs.Views.{Has}
 use Rattle.tag_layout.specs.Layout.{words}
 use Rattle.tag_core.specs.declared.caller.Caller.{Caller}
 use Rattle.tag_core.specs.declared.map.Map.{Map}
 use Rattle.tag_core.specs.declared.record.Record.{Record}
 use Rattle.tag_core.specs.Views.{viewing, fresh}
-use Rattle.tag_core.specs.Callers.{IsCallerOf, record_of}
-use Rattle.tag_core.specs.Gathering.{IsThere}
+use Rattle.tag_core.specs.Callers.{IsCallerOf, record_of, numbers_of, HaveOwnNumbers}
 use Rattle.tag_core.specs.Reopening.{reopened_record}
+use Rattle.tag_core.proofs.Entries.{entry, entry_of_map}
 use Rattle.tag_core.proofs.Lasts.{all_front, all_last}
 use Rattle.tag_core.proofs.Seats.{within}
 use Rattle.tag_core.proofs.reopens.reseat_all.Given as given
 use Rattle.tag_core.proofs.reopens.reseat_all.Goals.{After-index_mut}
 use Rattle.tag_core.proofs.reopens.reseat_all.Goals as goal
-
--- below the length there is an entry
-there : {A : Type 0} (xs : List A) (i : ℕ) → i < length xs → (x : A) × (get_elem? xs i ≡ some x)
-there [] i h = absurd (omega arith)
-there (x ∷ xs) zero h = (x, refl)
-there (x ∷ xs) (suc i) h = there xs i (omega arith)
 
 module _ {R : Type 0} (m : Map R) (old cur : List (Caller R)) (n : ℕ) (long : length cur ≡ length old)
     (gone : (j : ℕ) (a b : Caller R) → get_elem? old j ≡ some a → get_elem? cur j ≡ some b → a.number < n
@@ -31,19 +27,19 @@ module _ {R : Type 0} (m : Map R) (old cur : List (Caller R)) (n : ℕ) (long : 
   -- the caller of the next number is as it was
   mine : (i : ℕ) (x : Caller R) → get_elem? cur i ≡ some x → x.number ≡ n → (a : Caller R) × (get_elem? old i ≡ some a) × (x ≡ a)
   mine i x at is =
-      let low = within cur i x at in let a = there old i (omega arith) in dite (dec_lt a.0.number n)
+      let low = within cur i x at in let a = entry old i (omega arith) in dite (dec_lt a.0.number n)
       (λ (lt : a.0.number < n).
       let e = ap (λ (z : Record R). z.number) (gone i a.0 x a.1 at lt).1 in absurd (omega arith))
       (λ (ge : ¬ (a.0.number < n)). (a.0, a.1, stays i a.0 x a.1 at (omega arith)))
 
   -- it is still there
-  still : IsThere old n → IsThere cur n
+  still : Has (numbers_of old) n → Has (numbers_of cur) n
   still t =
-      let low = within old t.0 t.1 t.2 in let b = there cur t.0 (omega arith) in let number = t.3 in
-      let same = stays t.0 t.1 b.0 t.2 b.1 (omega arith) in
-      (t.0, b.0, b.1, ap (λ (z : Caller R). z.number) same ∙ number)
+      let a = entry_of_map (λ (z : Caller R). z.number) old t.0 n t.1 in let low = within old t.0 a.0 a.1 in
+      let b = entry cur t.0 (omega arith) in let same = stays t.0 a.0 b.0 a.1 b.1 (let e = a.2 in omega arith) in
+      (t.0, at_map (λ (z : Caller R). z.number) cur t.0 b.0 b.1 ∙ ap some (ap (λ (z : Caller R). z.number) same ∙ a.2))
 
-  module _ (once : (i j : ℕ) (a b : Caller R) → get_elem? old i ≡ some a → get_elem? old j ≡ some b → a.number ≡ b.number → i ≡ j)
+  module _ (once : HaveOwnNumbers old)
       (i : ℕ) (x x' : Caller R) (at : get_elem? cur i ≡ some x) (is : x.number ≡ n)
       (new : IsCallerOf m x' × (record_of x' ≡ reopened_record m.shape (record_of x))) where
     -- one caller more goes on
@@ -72,19 +68,30 @@ pub unreachable-requires : goal.unreachable-requires
 unreachable-requires g c =
     let inv = c.loop-number.invariant in let n : ℕ = c.loop-number.number in
     c.requires.every n c.loop-number-test.true (λ t. c.in_default.ensures.none
-    (subst (λ (z : List (Caller g.row.R.Denot)). IsThere z n) (sym c.as_slice.ensures.value)
+    (subst (λ (z : List (Caller g.row.R.Denot)). Has (numbers_of z) n) (sym c.as_slice.ensures.value)
     (still c.args.tags.now c.args.callers.now.items c.loop-number.callers.items n inv.long inv.gone inv.stays t)))
 
 -- the caller that was found
-found : {g : given.Over} (c : After-index_mut g)
+found : {R : Type 0} (cur seen : List (Caller R)) (i n : ℕ) → seen ≡ cur → get_elem? (numbers_of seen) i ≡ some n
+    → (x : Caller R) × (get_elem? cur i ≡ some x) × (x.number ≡ n)
+found {R} cur seen i n same at = entry_of_map (λ (z : Caller R). z.number) cur i n
+    (ap (λ (z : List (Caller R)). get_elem? (numbers_of z) i) (sym same) ∙ at)
+
+pub index_mut-requires : goal.index_mut-requires
+index_mut-requires g c =
+    let cur : List (Caller g.row.R.Denot) = c.loop-number.callers.items in
+    let x = found cur c.as_slice.result.now c.in-Some.i c.loop-number.number c.as_slice.ensures.value c.in-Some.ensures.some in
+    let low = within cur c.in-Some.i x.0 x.1 in search rules
+
+-- the caller that is lent is the one found
+lent : {g : given.Over} (c : After-index_mut g)
     → (get_elem? c.loop-number.callers.items c.in-Some.i ≡ some c.index_mut.result.now)
     × (c.index_mut.result.now.number ≡ c.loop-number.number)
-found {g} c =
-    let R = g.row.R.Denot in let x : Caller R = c.index_mut.result.now in let cur : List (Caller R) = c.loop-number.callers.items in
-    let same = c.as_slice.ensures.value in
-    let here = at_index cur c.in-Some.i x (subst (λ (z : List (Caller R)). c.in-Some.i < length z) same c.in-Some.ensures.some.0)
-    c.index_mut.ensures.value in
-    (here, c.in-Some.ensures.some.1 x (ap (λ (z : List (Caller R)). get_elem? z c.in-Some.i) same ∙ here))
+lent {g} c =
+    let R = g.row.R.Denot in let lent : Caller R = c.index_mut.result.now in let cur : List (Caller R) = c.loop-number.callers.items in
+    let x = found cur c.as_slice.result.now c.in-Some.i c.loop-number.number c.as_slice.ensures.value c.in-Some.ensures.some in
+    let here = at_index cur c.in-Some.i lent (within cur c.in-Some.i x.0 x.1) c.index_mut.ensures.value in
+    (here, ap (λ (z : Caller R). z.number) (some-injective lent x.0 (sym here ∙ x.1)) ∙ x.2)
 
 -- it is as it was
 as_it_was : {g : given.Over} (c : After-index_mut g)
@@ -92,15 +99,15 @@ as_it_was : {g : given.Over} (c : After-index_mut g)
 as_it_was {g} c =
     let inv = c.loop-number.invariant in
     mine c.args.tags.now c.args.callers.now.items c.loop-number.callers.items c.loop-number.number inv.long inv.gone inv.stays
-    c.in-Some.i c.index_mut.result.now (found c).0 (found c).1
+    c.in-Some.i c.index_mut.result.now (lent c).0 (lent c).1
 
 pub reseat-requires-clause-number : goal.reseat-requires-clause-number
-reseat-requires-clause-number g c = let is = (found c).1 in let low = c.loop-number-test.true in omega arith
+reseat-requires-clause-number g c = let is = (lent c).1 in let low = c.loop-number-test.true in omega arith
 
 pub reseat-requires-clause-rest : goal.reseat-requires-clause-rest
 reseat-requires-clause-rest g c =
     let k = c.args.tags.now.shape in c.loop-number.invariant.rest
-    ∙ ap (λ (z : ℕ). (viewing (fresh {R = g.row.R.Denot} k z (k.callers - z)), [])) (sym (found c).1)
+    ∙ ap (λ (z : ℕ). (viewing (fresh {R = g.row.R.Denot} k z (k.callers - z)), [])) (sym (lent c).1)
 
 pub reseat-requires-clause-counts : goal.reseat-requires-clause-counts
 reseat-requires-clause-counts g c =
@@ -122,7 +129,7 @@ pub loop-number-preserved : goal.loop-number-preserved
 loop-number-preserved g c =
     let R = g.row.R.Denot in let m = c.args.tags.now in let k = m.shape in let inv = c.loop-number.invariant in
     let n : ℕ = c.loop-number.number in let cur : List (Caller R) = c.loop-number.callers.items in
-    let x : Caller R = c.index_mut.result.now in let x' : Caller R = c.reseat.new.caller in let is = found c.before.before in
+    let x : Caller R = c.index_mut.result.now in let x' : Caller R = c.reseat.new.caller in let is = lent c.before.before in
     let took = c.in-Some-pop.ensures.items in record {
       seat = c.reseat.ensures.rest.0 ∙ inv.seat;
       rest = c.reseat.ensures.rest.1

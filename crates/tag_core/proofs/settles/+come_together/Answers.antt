@@ -9,9 +9,10 @@ use Rattle.tag_core.specs.declared.record.View.{View}
 use Rattle.tag_core.specs.Views.{viewing, first_view, other_views, both_views, steps_of}
 use Rattle.tag_core.specs.Records.{value_of}
 use Rattle.tag_core.specs.Callers.{IsCallerOf, record_of, AreUnchanged}
-use Rattle.tag_core.specs.Settling.{HasAll, AreSettled}
+use Rattle.tag_core.specs.Settling.{HasRecords, AreSettled}
 use Rattle.tag_core.proofs.Lasts.{all_front, all_last}
-use Rattle.tag_core.proofs.Settlings.{settle_allowed, some_words, splits_off, joins_in, unchanged-more, last_before}
+use Rattle.tag_core.proofs.SeatMoves.{some_words, splits_off, joins_in}
+use Rattle.tag_core.proofs.Settlings.{settle_allowed, unchanged-more, last_before}
 use Rattle.tag_core.proofs.settles.+come_together.Goals as goal
 
 module _ {R : Type 0} where
@@ -38,10 +39,10 @@ returns-in_default-clause-settled g t c =
     let R = g.row.R.Denot in let m = c.args.tags.now in let first = c.requires.first in
     let records : List (Record R) = c.args.all.me.0.records.value in
     let none : c.args.callers.now.items ≡ [] = search rules in
-    let told = subst (λ (z : Shape). HasAll z.callers records → (totals : Totals) × AreSettled z records totals)
+    let told = subst (λ (z : Shape). HasRecords z.callers records → (totals : Totals) × AreSettled z records totals)
     first.2 (c.load.ensures.2.1 first.0 first.1) in
     subst (λ (z : List (Caller R)). (totals : Totals) × AreSettled m.shape (map record_of z ++ records) totals) (sym none)
-    (told (subst (λ (z : List (Caller R)). HasAll m.shape.callers (map record_of z ++ records)) none c.requires.every))
+    (told (subst (λ (z : List (Caller R)). HasRecords m.shape.callers (map record_of z ++ records)) none c.requires.every))
 
 pub split_seat-one-requires : goal.split_seat-one-requires
 split_seat-one-requires g t c =
@@ -86,7 +87,7 @@ come_together-rest-requires g t c κs within =
             ),
             (
               (record_of last, ap (λ (z : View R). get_elem? z.records.value 0) view, mine.1),
-              subst (HasAll m.shape.callers)
+              subst (HasRecords m.shape.callers)
                   (ap (λ (z : List (Caller R)). map record_of z ++ records) c.in-Some.ensures.items
                   ∙ last_before front last records
                   ∙ ap (λ (z : View R). map record_of front ++ z.records.value) (sym view)) c.requires.every,

@@ -8,10 +8,11 @@ use Rattle.tag_core.specs.declared.record.View.{View}
 use Rattle.tag_core.specs.Records.{value_of}
 use Rattle.tag_core.specs.Views.{alone, first_view, other_views, both_views, steps_of}
 use Rattle.tag_core.specs.Callers.{IsCallerOf, record_of, AreUnchanged}
-use Rattle.tag_core.specs.Settling.{HasAll, AreSettled}
+use Rattle.tag_core.specs.Settling.{HasRecords, AreSettled}
 use Rattle.tag_core.specs.Sizes.{total_of, size_of}
 use Rattle.tag_core.proofs.Lasts.{all_front, all_last}
-use Rattle.tag_core.proofs.Settlings.{some_words, splits_off, joins_in, unchanged-more, unchanged-records, totals_same}
+use Rattle.tag_core.proofs.SeatMoves.{some_words, splits_off, joins_in}
+use Rattle.tag_core.proofs.Settlings.{unchanged-more, unchanged-records, totals_same}
 use Rattle.tag_core.proofs.settles.settle_all.Given as given
 use Rattle.tag_core.proofs.settles.settle_all.Goals.{After-push_reserved}
 use Rattle.tag_core.proofs.settles.settle_all.Goals as goal
@@ -62,7 +63,7 @@ come_together-one-requires-clause-first g c =
 
 pub come_together-one-requires-clause-every : goal.come_together-one-requires-clause-every
 come_together-one-requires-clause-every g c =
-    let m = c.args.tags.now in subst (HasAll m.shape.callers)
+    let m = c.args.tags.now in subst (HasRecords m.shape.callers)
     (all_records c.args.callers.now.items c.pop.new.self.items c.in-Some.last c.split_seat-one.result.me.0
     c.in-Some.ensures.items (ap (λ z. z.0) c.split_seat-one.ensures.4)) c.requires.every
 

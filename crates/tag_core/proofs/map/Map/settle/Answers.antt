@@ -1,12 +1,15 @@
-use Rattle.std.proofs.Common.{List, subst}
-use Rattle.atomic_table.proofs.Lists.{at_map}
+-- Where each number is there, so is each record.
+use Rattle.std.proofs.Common.{ℕ, List, refl, sym, ap, subst}
+use Rattle.step_ledger.specs.Views.{HasAll}
 use Rattle.tag_core.specs.declared.caller.Caller.{Caller}
-use Rattle.tag_core.specs.Gathering.{IsThere}
-use Rattle.tag_core.specs.Callers.{record_of}
+use Rattle.tag_core.specs.Callers.{numbers_of}
+use Rattle.tag_core.proofs.Reopenings.{records_from}
 use Rattle.tag_core.proofs.map.Map.settle.Goals as goal
 
 pub settle_all-totals-requires-clause-every : goal.settle_all-totals-requires-clause-every
-settle_all-totals-requires-clause-every g c n l =
-    let R = g.row.R.Denot in
-    let there = subst (λ (z : List (Caller R)). IsThere z n) c.as_slice.ensures.value (c.in_default.ensures.none n l) in
-    (there.0, record_of there.1, at_map (record_of {R = R}) c.args.callers.items there.0 there.1 there.2, there.3)
+settle_all-totals-requires-clause-every g c =
+    let R = g.row.R.Denot in let here = c.in_ok-tags in let same = here.ensures.ok in
+    records_from here.tags.shape.callers here.callers.items
+    (subst (λ (n : ℕ). HasAll (numbers_of here.callers.items) n) (sym (ap (λ p. p.0.shape.callers) same))
+    (subst (λ (z : List (Caller R)). HasAll (numbers_of z) c.args.self.shape.callers) (sym (ap (λ p. p.1.items) same))
+    (here.ensures.succeeds.0 refl)))

@@ -1,3 +1,4 @@
+-- The table opens with zeros, so all tags are free; nothing was won or given back in it yet.
 use Rattle.std.proofs.Common.{rules, ◌≡◌, ℕ, replicate, sym, subst, List}
 use lib.ListN.{length-replicate}
 use Rattle.atomic_table.specs.Table.{opening}
@@ -5,7 +6,7 @@ use Rattle.tag_core.specs.Spacing.{table_width}
 use Rattle.tag_core.specs.Views.{all_fresh}
 use Rattle.tag_core.specs.Rule.{Shown}
 use Rattle.tag_core.proofs.Passing.{opens, zeros}
-use Rattle.tag_core.proofs.reopens.next_map.Goals as goal
+use Rattle.tag_core.proofs.opens.new_map.Goals as goal
 
 pub new-requires : goal.new-requires
 new-requires g c =
