@@ -29,3 +29,5 @@ pub mod SeatMoves
 pub mod Settlings
 pub mod Chains
 pub mod Reopenings
+pub mod Showings
+pub mod Holdings

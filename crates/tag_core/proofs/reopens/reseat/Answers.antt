@@ -1,3 +1,4 @@
+-- The seat has the caller's record of the next map first: nothing held or done, and the counts that it brings.
 use Rattle.std.proofs.Common.{◌≡◌, ℕ, ◌<◌, ◌-◌, ◌+◌, List, [], ◌∷◌, replicate, length, sym, ap, ◌∙◌, subst}
 use lib.ListN.{length-replicate}
 use Rattle.tag_layout.specs.Layout.{words}
@@ -8,7 +9,9 @@ use Rattle.tag_core.specs.Records.{fresh_record, Carries}
 use Rattle.tag_core.specs.Reopening.{reopened_record}
 use Rattle.tag_core.specs.Views.{viewing, alone, fresh, first_view, other_views, steps_of}
 use Rattle.tag_core.specs.Callers.{record_of}
-use Rattle.tag_core.proofs.Passing.{next_fresh, carries_none}
+use Rattle.tag_core.specs.Meeting.{HasHistory}
+use Rattle.tag_core.proofs.Passing.{next_fresh, carries_none, fresh_history}
+use Rattle.tag_core.proofs.Singles.{same_record}
 use Rattle.tag_core.proofs.SeatMoves.{some_words, splits_off}
 use Rattle.tag_core.proofs.reopens.reseat.Goals as goal
 
@@ -53,6 +56,10 @@ invariant_of-caller g c =
             back = old.back;
             steps = sym (ap steps_of alone_is) j;
           }));
+      shown = λ r e. ∣ subst (λ (z : Shape). HasHistory z r) (sym of)
+          (subst (HasHistory k) (same_record (fresh_record k old.number) r
+          (sym (ap (λ x. x.0) c.split_seat.ensures.4 ∙ ap first_view is) ∙ e))
+          (fresh_history R k old.number c.requires.number)) ∣₁;
       carries = subst (λ (z : Shape × List ℕ × List (ℕ × R)). Carries z.0.layout z.1 z.2)
           (λ j. (sym of j, sym c.requires.held j, sym (ap (λ x. x.1) c.split_seat.ensures.4) j)) (carries_none R k (words k.layout));
       wide = ap length c.requires.held ∙ length-replicate (words k.layout) 0 ∙ ap (λ (z : Shape). words z.layout) (sym of);
