@@ -19,11 +19,12 @@ use Rattle.tag_core.specs.declared.step.Step.{Step}
 use Rattle.tag_core.specs.declared.record.Record.{Record}
 use Rattle.tag_core.specs.declared.caller.Caller.{Caller}
 use Rattle.tag_core.specs.declared.map.Map.{Map}
+use Rattle.tag_core.specs.declared.settled.Settled.{Settled}
 use Rattle.tag_core.specs.Histories.{opening_world, world_of, steps_by}
 use Rattle.tag_core.specs.Rule.{IsOpening}
-use Rattle.tag_core.specs.Callers.{record_of, numbers_of, HaveOwnNumbers}
+use Rattle.tag_core.specs.Callers.{record_of, numbers_of, HaveOwnNumbers, AreUnchanged}
 use Rattle.tag_core.specs.Settling.{HasRecords, AreSettled}
-use Rattle.tag_core.specs.Reopening.{IsNext, HasCounts, AreReopened, AllFree}
+use Rattle.tag_core.specs.Reopening.{IsNext, HasCounts, AreReopened, GoesOnFrom, AllFree, LeadsOn}
 use Rattle.tag_core.specs.Chain.{Epoch, GoesOn, IsChain, HasChain}
 use Rattle.tag_core.proofs.Entries.{entry, entry_of_map}
 use Rattle.tag_core.proofs.Seats.{within}
@@ -159,3 +160,21 @@ module _ {R : Type 0} (k : Shape) (callers : List (Caller R)) (totals : Totals) 
               at_map (record_of {R = R}) new w.0 b.0 b.1,
               ap (λ (z : Record R). z.number) (are.each w.0 a.0 b.0 a.1 b.1).1 ∙ a.2,
             )
+
+-- what settle and reopen tell, put together: the callers' lists stand in a history that leads on to the next map
+pub leads_on : {R : Type 0} (old next : Map R) (callers : List (Caller R)) (s : Settled R) → s.tags ≡ old
+    → AreUnchanged callers s.callers.items → AreSettled s.tags.shape (map record_of s.callers.items) s.totals
+    → GoesOnFrom s next.shape → LeadsOn old callers next
+leads_on {R} old next callers s same kept known on = record {
+  history = known.history;
+  lists = λ i a at.
+      let long = kept.count in let low = within callers i a at in let b = entry s.callers.items i (omega arith) in
+      let is = (kept.each i a b.0 at b.1).known in
+      ap (λ (z : Record R). z.steps) (sym is)
+      ∙ (known.each i (record_of b.0) (at_map (record_of {R = R}) s.callers.items i b.0 b.1)).steps
+      ∙ ap (λ (z : Record R). steps_by z.number known.history) is;
+  chain = λ older is. (
+    subst (λ (z : Map R). GoesOn (record { shape = z.shape; history = known.history }) next.shape) same (on known),
+    is,
+  );
+}

@@ -17,7 +17,7 @@ pub(crate) fn all_there<R>(
     ensures succeeds { IsOk result ↔ HasAll (numbers_of callers.items) tags.shape.callers }
     ensures ok { IfOk result (λ p. p ≡ (tags, callers)) }
     ensures missing { IfErr result (λ f. IsCauseOf (numbers_of callers.items) tags.shape.callers f.cause) }
-    ensures err { IfErr result (λ f. (f.map ≡ tags) × (f.callers.items ≡ callers.items)) }
+    ensures err { IfErr result (λ f. (f.map ≡ tags) × (f.callers ≡ callers)) }
 {
     match least_missing(callers.as_slice(), tags.shape.callers) {
         None => Ok((tags, callers)),

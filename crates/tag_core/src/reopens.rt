@@ -149,7 +149,8 @@ fn prepare<R>(
 }
 
 impl<R: Drop> Settled<R> {
-    /// The callers go on with a new map, in which all tags are free. Refused for want of memory alone: then all comes back.
+    /// The callers go on with a new map of free tags, with what they won and gave back. Refused for want of memory alone:
+    /// then all comes back.
     pub fn reopen(
         self,
         alloc: Global,

@@ -7,11 +7,11 @@ use crate::caller::Caller;
 use crate::map::Map;
 use tag_model::Totals;
 
-/// A map and all its callers, so that nobody else acts. They go on as they are, or with a new map.
+/// A map and all its callers, so that nobody else acts. They go back as they are, or on with a next map.
 #[derive(Drop)]
 pub struct Settled<R> {
     pub(crate) tags: Map<R>,
-    /// In the order in which they came.
+    /// In the order in which they were handed in.
     pub(crate) callers: Vec<Caller<R>>,
     /// What they won, gave back, hold and posted.
     pub(crate) totals: Totals,

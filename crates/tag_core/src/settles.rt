@@ -108,7 +108,8 @@ fn settle_all<R>(tags: &Map<R>, callers: &mut Vec<Caller<R>>) -> Totals
 }
 
 impl<R: Drop> Map<R> {
-    /// Brings all callers together, in any order, so that nobody else acts. Where one is missing all come back.
+    /// Brings all callers together, in any order, so that nobody else acts. Where one is missing all come back. Its loads
+    /// of the spare word, `4 n - 1` for `n` callers, change no place and stand in no list.
     pub fn settle(self, callers: Vec<Caller<R>>) -> Result<Settled<R>, GatherFault<R>>
         requires { All (λ c. IsCallerOf self c) callers.items }
         ensures succeeds { IsOk result ↔ HasAll (numbers_of callers.items) self.shape.callers }
@@ -118,7 +119,7 @@ impl<R: Drop> Map<R> {
 
         // The caller missing is the one of the least number.
         ensures missing { IfErr result (λ f. IsCauseOf (numbers_of callers.items) self.shape.callers f.cause) }
-        ensures err { IfErr result (λ f. (f.map ≡ self) × (f.callers.items ≡ callers.items)) }
+        ensures err { IfErr result (λ f. (f.map ≡ self) × (f.callers ≡ callers)) }
     {
         let (tags, mut callers) = all_there(self, callers)?;
         let totals = settle_all(&tags, &mut callers);
