@@ -1,5 +1,6 @@
 -- Lists whose last element is taken off.
-use Rattle.std.proofs.Common.{◌≡◌, ℕ, zero, suc, ◌<◌, List, [], ◌∷◌, ◌++◌, length, get_or, All, arith, refl, subst, length-append}
+use Rattle.std.proofs.Common.{◌≡◌, ℕ, zero, suc, ◌<◌, List, [], ◌∷◌, ◌++◌, length, get_or, All, map, arith, refl, sym, ap, ◌∙◌, subst, length-append, append_assoc}
+use mathlib.Core.List.{map-append}
 
 module _ {A : Type 0} where
   get_front : (xs ys : List A) (k : ℕ) (d : A) → k < length xs → get_or (xs ++ ys) k d ≡ get_or xs k d
@@ -18,3 +19,14 @@ module _ {A : Type 0} where
   -- and of the last
   pub all_last : (P : A → Type 0) (xs : List A) (x : A) → All P (xs ++ x ∷ []) → P x
   all_last P xs x h = subst P (get_last xs x x) (h (length xs) x (let e = length-append xs (x ∷ []) in omega arith))
+
+-- what is taken off the end of a list comes before what was taken earlier
+pub taken_off : {A B : Type 0} (f : A → B) (xs left : List A) (x : A) (earlier : List B) → xs ≡ left ++ x ∷ []
+    → map f left ++ f x ∷ earlier ≡ map f xs ++ earlier
+taken_off f xs left x earlier e = sym (append_assoc (map f left) (f x ∷ []) earlier)
+    ∙ ap (λ (z : List _). z ++ earlier) (sym (map-append f left (x ∷ [])) ∙ ap (map f) (sym e))
+
+-- the first that is taken off
+pub taken_first : {A B : Type 0} (f : A → B) (xs left : List A) (x : A) → xs ≡ left ++ x ∷ []
+    → map f left ++ f x ∷ [] ≡ map f xs
+taken_first f xs left x e = sym (map-append f left (x ∷ [])) ∙ ap (map f) (sym e)

@@ -31,3 +31,4 @@ pub mod Chains
 pub mod Reopenings
 pub mod Showings
 pub mod Holdings
+pub mod Numbers

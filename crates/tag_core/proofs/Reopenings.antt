@@ -22,7 +22,8 @@ use Rattle.tag_core.specs.declared.map.Map.{Map}
 use Rattle.tag_core.specs.declared.settled.Settled.{Settled}
 use Rattle.tag_core.specs.Histories.{opening_world, world_of, steps_by}
 use Rattle.tag_core.specs.Rule.{IsOpening}
-use Rattle.tag_core.specs.Callers.{record_of, numbers_of, HaveOwnNumbers, AreUnchanged}
+use Rattle.tag_core.specs.Callers.{record_of, HaveOwnNumbers, AreUnchanged}
+use Rattle.tag_core.specs.Gathering.{numbers_of}
 use Rattle.tag_core.specs.Settling.{HasRecords, AreSettled}
 use Rattle.tag_core.specs.Reopening.{IsNext, HasCounts, AreReopened, GoesOnFrom, AllFree, LeadsOn}
 use Rattle.tag_core.specs.Chain.{Epoch, GoesOn, IsChain, HasChain}

@@ -1,5 +1,5 @@
 -- What contracts see of a map and of its callers.
-use Rattle.std.specs.Prelude.{◌≡◌, ℕ, ◌<◌, List, length, map, replicate}
+use Rattle.std.specs.Prelude.{◌≡◌, ℕ, ◌<◌, List, length, replicate}
 use mathlib.Core.Option.{some}
 use mathlib.Core.Option as maybe
 use lib.ListN.{get_elem?}
@@ -34,10 +34,6 @@ record_of caller = record {
 -- the caller holds the tag
 abbrev pub Holds : {R : Type 0} → Caller R → ℕ → Type 0
 Holds caller tag = (tag < caller.shape.value.layout.depth) × (tag_bit caller.shape.value.layout caller.held.items tag ≡ 1)
-
--- the numbers of callers, in their order
-abbrev pub numbers_of : {R : Type 0} → List (Caller R) → List ℕ
-numbers_of {R} callers = map (λ (c : Caller R). c.number) callers
 
 -- no two of the callers have one number
 abbrev pub HaveOwnNumbers : {R : Type 0} → List (Caller R) → Type 0

@@ -1,5 +1,5 @@
 -- What all callers of a map show when they come together.
-use Rattle.std.specs.Prelude.{◌≡◌, ℕ, ◌+◌, ◌<◌, List, length, nat_eq, slice_index}
+use Rattle.std.specs.Prelude.{◌≡◌, ℕ, ◌+◌, ◌<◌, List, length, map, nat_eq, slice_index}
 use mathlib.Core.Option.{some}
 use lib.ListN.{get_elem?}
 use Rattle.tag_layout.specs.Layout.{Layout}
@@ -9,7 +9,9 @@ use Rattle.tag_model.specs.Totals.{AreTotals}
 use Rattle.tag_core.specs.declared.shape.Shape.{Shape}
 use Rattle.tag_core.specs.declared.record.Record.{Record}
 use Rattle.tag_core.specs.declared.caller.Caller.{Caller}
+use Rattle.tag_core.specs.declared.map.Map.{Map}
 use Rattle.tag_core.specs.declared.closed.Closed.{Closed}
+use Rattle.tag_core.specs.declared.together.Gathering.{Gathering}
 use Rattle.tag_core.specs.Bits.{one_if}
 use Rattle.tag_core.specs.Spacing.{state_at}
 use Rattle.tag_core.specs.Histories.{History, IsLawful, world_of, steps_by, last_post}
@@ -39,12 +41,18 @@ pub record IsGathered {R : Type 0} (k : Shape) (rs : List (Record R)) (closed : 
 abbrev pub states_posted : Layout → List ℕ → ℕ
 states_posted l table = sum_below (λ tag. one_if (nat_eq (slice_index table (state_at l tag)) 1)) l.depth
 
--- the caller of this number is among them
-abbrev pub IsThere : {R : Type 0} → List (Caller R) → ℕ → Type 0
-IsThere {R} callers number = (i : ℕ) × (caller : Caller R) × (get_elem? callers i ≡ some caller) × (caller.number ≡ number)
+-- the numbers of these callers
+abbrev pub numbers_of : {R : Type 0} → List (Caller R) → List ℕ
+numbers_of {R} callers = map (λ (c : Caller R). c.number) callers
 
--- of so many callers, the one of this number is missing, and none of a lesser number
-pub record IsLeastMissing {R : Type 0} (callers : List (Caller R)) (count number : ℕ) : Type 0 where
-  pub within : number < count
-  pub missing : ¬ (IsThere callers number)
-  pub least : (other : ℕ) → other < number → IsThere callers other
+-- whose records these are
+abbrev pub numbers : {R : Type 0} → List (Record R) → List ℕ
+numbers {R} rs = map (λ (r : Record R). r.number) rs
+
+-- these callers are of this map
+abbrev pub IsGatheringOf : {R : Type 0} → Map R → Gathering R → Type 0
+IsGatheringOf owner gathering = gathering.seat.table_id ≡ owner.table.shared.table_id
+
+-- the records of the callers gathered, the newest first
+abbrev pub gathered : {R : Type 0} → Gathering R → List (Record R)
+gathered gathering = gathering.seat.me.0.records.value

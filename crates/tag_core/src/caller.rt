@@ -56,9 +56,28 @@ pub struct Caller<R> {
 }
 
 impl<R> Numbered for Caller<R> {
-    ghost number_of = { λ c. c.number };
+    ghost number_of = { λ caller. caller.number };
 
     fn number(&self) -> u32 {
         self.number
+    }
+}
+
+impl<R> Caller<R> {
+    ghost use Rattle.tag_core.specs.Callers.{record_of};
+
+    /// Tags that it has won, at most 2^48.
+    pub fn won(&self) -> u64
+        ensures value { result ≡ (record_of self.now).won }
+        ensures within { result ≤ MOST_WON }
+    {
+        self.won
+    }
+
+    /// Tags that it has put or given back, others' that it took among them.
+    pub fn back(&self) -> u64
+        ensures { result ≡ (record_of self.now).back }
+    {
+        self.back
     }
 }

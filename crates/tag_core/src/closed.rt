@@ -16,10 +16,11 @@ pub struct Closed<R> {
     pub slots: Vec<R>,
 }
 
-/// What was handed in, and why it comes back.
+/// Why a map was neither gathered nor settled, with all that was handed in.
 #[derive(Drop)]
 pub struct GatherFault<R> {
     pub cause: GatherCause,
     pub map: Map<R>,
+    /// In the order in which they were handed in.
     pub callers: Vec<Caller<R>>,
 }

@@ -1,10 +1,12 @@
 //! All callers come together, and the map ends.
-ghost use Rattle.std.specs.Prelude.{◌≡◌, ◌≢◌, ℕ, ◌+◌, ◌<◌, ◌≤◌, ◌↔◌, List, [], length, map, All, IfOk, IfErr, IfSome, IfNone, IsTrue, vec_capacity};
+ghost use Rattle.std.specs.Prelude.{◌≡◌, ◌≢◌, ℕ, ◌+◌, ◌<◌, ◌≤◌, ◌↔◌, List, [], length, map, All, IfOk, IfErr, IsOk, vec_capacity};
 ghost use mathlib.Core.Option.{some};
 ghost use lib.ListN.{get_elem?};
 ghost use Rattle.std.specs.Slots.{slots_items, slots_filled, slots_len, IsFull};
 ghost use Rattle.tag_core.specs.Spacing.{table_width};
-ghost use Rattle.tag_core.specs.Gathering.{states_posted, IsGathered, IsThere, IsLeastMissing};
+ghost use Rattle.step_ledger.specs.Views.{HasAll};
+ghost use Rattle.step_ledger.specs.Gather.{IsCauseOf};
+ghost use Rattle.tag_core.specs.Gathering.{states_posted, IsGathered, IsGatheringOf, gathered, numbers, numbers_of};
 ghost use Rattle.tag_core.specs.Callers.{IsCallerOf, record_of};
 
 use crate::caller::Caller;
@@ -12,10 +14,10 @@ use crate::closed::{Closed, GatherFault};
 use crate::map::Map;
 use crate::record::Record;
 use crate::spots::state_spot;
-use crate::together::Together;
+use crate::together::Gathering;
 use atomic_table::Closed as Ended;
 use std::alloc::Global;
-use step_ledger::GatherCause;
+use step_ledger::{GatherCause, least_missing};
 use tag_layout::Layout;
 use tag_model::Totals;
 
@@ -49,14 +51,14 @@ fn take_out<R>(mut ended: Ended<R, Global>, mut room: Vec<R>) -> Vec<R>
 }
 
 /// The map ends with all records on one seat.
-fn end<R>(map: Map<R>, all: Together<R>) -> Closed<R>
+fn end<R>(map: Map<R>, all: Gathering<R>) -> Closed<R>
     requires seat { all.seat.table_id ≡ map.table.shared.table_id }
     requires all { (n : ℕ) → n < map.shape.callers
         → (i : ℕ) × (r : Record R) × (get_elem? all.seat.me.0.records.value i ≡ some r) × (r.number ≡ n) }
     ensures { IsGathered map.shape all.seat.me.0.records.value result }
 {
     let Map { table, shape, room } = map;
-    let Together {
+    let Gathering {
         seat,
         won,
         back,
@@ -77,37 +79,25 @@ fn end<R>(map: Map<R>, all: Together<R>) -> Closed<R>
     }
 }
 
-fn is_there<R>(callers: &[Caller<R>], number: u32) -> bool
-    ensures { IsTrue result ↔ IsThere callers.now number }
-{
-    for caller in callers {
-        if caller.number == number {
-            return true;
-        }
+impl<R> Map<R> {
+    /// Ends the map once each of its callers was gathered, and tells their totals.
+    pub fn finish(self, gathering: Gathering<R>) -> Closed<R>
+        requires map { IsGatheringOf self gathering }
+        requires all { HasAll (numbers (gathered gathering)) self.shape.callers }
+        ensures { IsGathered self.shape (gathered gathering) result }
+    {
+        end(self, gathering)
     }
-    false
-}
-
-fn least_missing<R>(callers: &[Caller<R>], count: u32) -> Option<u32>
-    ensures none { IfNone result ((number : ℕ) → number < count → IsThere callers.now number) }
-    ensures some { IfSome result (λ number. IsLeastMissing callers.now count number) }
-{
-    for number in 0..count {
-        if !is_there(callers, number) {
-            return Some(number);
-        }
-    }
-    None
 }
 
 impl<R: Drop> Map<R> {
-    /// Ends the map with all its callers, in any order, and tells their totals. Where one is missing all come back.
+    /// Ends the map where all its callers are handed in, in any order, and tells their totals.
     pub fn gather(self, callers: Vec<Caller<R>>) -> Result<Closed<R>, GatherFault<R>>
         requires { All (λ c. IsCallerOf self c) callers.items }
         ensures ok { IfOk result (λ closed. IsGathered self.shape (map record_of callers.items) closed) }
-        ensures missing { IfErr result (λ f. (number : ℕ) × (f.cause ≡ GatherCause.Missing number)
-            × IsLeastMissing callers.items self.shape.callers number) }
-        ensures back { IfErr result (λ f. (f.map ≡ self) × (f.callers.items ≡ callers.items)) }
+        ensures succeeds { IsOk result ↔ HasAll (numbers_of callers.items) self.shape.callers }
+        ensures missing { IfErr result (λ f. IsCauseOf (numbers_of callers.items) self.shape.callers f.cause) }
+        ensures err { IfErr result (λ f. (f.map ≡ self) × (f.callers ≡ callers)) }
     {
         if let Some(number) = least_missing(callers.as_slice(), self.shape.callers) {
             return Err(GatherFault {
@@ -116,9 +106,7 @@ impl<R: Drop> Map<R> {
                 callers,
             });
         }
-        let Some(all) = Together::all(&self, callers) else {
-            unreachable!()
-        };
-        Ok(end(self, all))
+        let all = self.gather_each(callers);
+        Ok(self.finish(all))
     }
 }

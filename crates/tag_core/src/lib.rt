@@ -38,4 +38,5 @@ pub use settled::Settled;
 pub use shape::Shape;
 pub use step::Step;
 pub use step_ledger::GatherCause;
+pub use together::Gathering;
 pub use word_step::WordStep;

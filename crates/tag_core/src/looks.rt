@@ -1,5 +1,6 @@
 //! Looks, which change nothing.
-ghost use Rattle.std.specs.Prelude.{◌≡◌, ℕ, ◌<◌, IsTrue, ◌↔◌};
+ghost use Rattle.std.specs.Prelude.{◌≡◌, ℕ, ◌<◌, ◌≤◌, IsTrue, ◌↔◌};
+ghost use Rattle.tag_model.specs.declared.world.TheConstants.{MAX_CALLERS};
 ghost use Rattle.std.specs.Int.{bit_at};
 ghost use Rattle.tag_layout.specs.Layout.{words, word_of, place_of};
 ghost use Rattle.tag_core.specs.Callers.{layout_of, IsCallerOf, record_of, Holds, Adds};
@@ -19,6 +20,14 @@ impl<R> Map<R> {
         ensures { result ≡ layout_of self.now }
     {
         self.shape.layout
+    }
+
+    /// Callers of the map, 1 to 64.
+    pub fn callers(&self) -> u32
+        ensures value { result ≡ self.now.shape.callers }
+        ensures within { (1 ≤ result) × (result ≤ MAX_CALLERS) }
+    {
+        self.shape.callers
     }
 
     /// The word: 1 is taken. Each tag that the caller holds is found taken.

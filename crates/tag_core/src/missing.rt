@@ -2,7 +2,7 @@
 ghost use Rattle.std.specs.Prelude.{◌≡◌, ◌↔◌, IsOk, IfOk, IfErr};
 ghost use Rattle.step_ledger.specs.Views.{HasAll};
 ghost use Rattle.step_ledger.specs.Gather.{IsCauseOf};
-ghost use Rattle.tag_core.specs.Callers.{numbers_of};
+ghost use Rattle.tag_core.specs.Gathering.{numbers_of};
 
 use crate::caller::Caller;
 use crate::closed::GatherFault;

@@ -5,7 +5,8 @@ ghost use lib.ListN.{get_elem?};
 ghost use Rattle.step_ledger.specs.Views.{Has};
 ghost use Rattle.tag_layout.specs.Layout.{words};
 ghost use Rattle.tag_layout.specs.declared.layout.TheConstants.{MAX_DEPTH};
-ghost use Rattle.tag_core.specs.Callers.{IsCallerOf, record_of, numbers_of, HaveOwnNumbers};
+ghost use Rattle.tag_core.specs.Callers.{IsCallerOf, record_of, HaveOwnNumbers};
+ghost use Rattle.tag_core.specs.Gathering.{numbers_of};
 ghost use Rattle.tag_core.specs.Reopening.{reopened_record, IsNext, HasCounts, AreReopened, GoesOnFrom, AllFree};
 ghost use Rattle.tag_core.specs.Views.{viewing, fresh, all_fresh};
 

@@ -1,21 +1,22 @@
-//! Callers that have come together: their records stand in the view of one seat.
-ghost use Rattle.std.specs.Prelude.{◌≡◌, ℕ, ◌+◌, ◌*◌, ◌^◌, ◌<◌, ◌≤◌, List, [], ◌∷◌, ◌++◌, length, map, All, IfNone, IfSome};
+//! Callers that come together, one after another: their records stand in the view of one seat.
+ghost use Rattle.std.specs.Prelude.{◌≡◌, ℕ, ◌+◌, ◌*◌, ◌≤◌, [], ◌∷◌, length, map, All};
 ghost use Rattle.tag_layout.specs.declared.layout.TheConstants.{MAX_DEPTH};
-ghost use Rattle.tag_layout.specs.Layout.{words};
 ghost use Rattle.tag_model.specs.declared.world.TheConstants.{MAX_CALLERS, MOST_WON};
+ghost use Rattle.step_ledger.specs.Views.{Has};
 ghost use Rattle.tag_core.specs.Sizes.{total_of, size_of};
-ghost use Rattle.tag_core.specs.Views.{alone};
 
 use crate::caller::Caller;
 use crate::map::Map;
 use crate::plays::{Collect, Counting, HandOut};
-use crate::record::{Record, View};
+use crate::record::View;
 use crate::spots::SPARE;
 use atomic_table::Seat;
+use std::mem::swap;
 
-/// A seat with the records of several callers, and their sums.
+/// Callers that have come together, one after another. A clause sees the list of their records, the newest first.
 #[derive(Drop)]
-pub(crate) struct Together<R> {
+pub struct Gathering<R> {
+    /// It has all their records, and no slot.
     pub(crate) seat: Seat<R, View<R>>,
     /// Tags that they won.
     pub(crate) won: u64,
@@ -26,6 +27,10 @@ pub(crate) struct Together<R> {
     ghost empty: { seat.me.1 ≡ [] },
     ghost sums: { (won ≡ total_of (λ r. r.won) seat.me.0.records.value) × (back ≡ total_of (λ r. r.back) seat.me.0.records.value)
         × (held ≡ total_of (λ r. size_of r.held) seat.me.0.records.value) },
+    ghost few: { length seat.me.0.records.value ≤ MAX_CALLERS },
+    ghost small: { (won ≤ length seat.me.0.records.value * MOST_WON)
+        × (back ≤ length seat.me.0.records.value * (MAX_CALLERS * MOST_WON))
+        × (held ≤ length seat.me.0.records.value * (64 * MAX_DEPTH)) },
 }
 
 /// The tags of masks: 1 is counted.
@@ -41,14 +46,15 @@ pub(crate) fn count_tags(masks: &[u64]) -> u64
     size
 }
 
-impl<R> Together<R> {
+impl<R> Map<R> {
     ghost use Rattle.tag_core.specs.Callers.{IsCallerOf, record_of};
+    ghost use Rattle.tag_core.specs.Gathering.{IsGatheringOf, gathered, numbers_of};
 
-    /// One caller's record goes to a seat that has no slot.
-    pub(crate) fn of(map: &Map<R>, caller: Caller<R>) -> Together<R>
-        requires { IsCallerOf map.now caller }
-        ensures seat { (result.seat.table_id ≡ map.now.table.shared.table_id) × (result.seat.me.0 ≡ alone (record_of caller)) }
-        ensures small { (result.won ≤ MOST_WON) × (result.back ≤ MAX_CALLERS * MOST_WON) × (result.held ≤ 64 * MAX_DEPTH) }
+    /// The first of the callers that come together. The slots of the tags that it holds are dropped with it.
+    pub fn start_gathering(&self, caller: Caller<R>) -> Gathering<R>
+        requires { IsCallerOf self.now caller }
+        ensures map { IsGatheringOf self.now result }
+        ensures gathered { gathered result ≡ record_of caller ∷ [] }
     {
         let Caller {
             mut seat,
@@ -61,9 +67,9 @@ impl<R> Together<R> {
             shape: _,
             apart: _,
         } = caller;
-        let note = map.table.shared.split_seat::<HandOut>(&mut seat);
+        let note = self.table.shared.split_seat::<HandOut>(&mut seat);
         let held = count_tags(held.as_slice());
-        Together {
+        Gathering {
             seat: note,
             won,
             back,
@@ -71,52 +77,47 @@ impl<R> Together<R> {
         }
     }
 
-    /// This one's records come before the others'.
-    pub(crate) fn before(self, map: &Map<R>, all: Together<R>) -> Together<R>
-        requires seats { (self.seat.table_id ≡ map.now.table.shared.table_id) × (all.seat.table_id ≡ map.now.table.shared.table_id) }
-        requires room { (self.won + all.won < 2 ^ 64) × (self.back + all.back < 2 ^ 64) × (self.held + all.held < 2 ^ 64) }
-        ensures seat { result.seat.table_id ≡ map.now.table.shared.table_id }
-        ensures records { result.seat.me.0.records.value ≡ self.seat.me.0.records.value ++ all.seat.me.0.records.value }
-        ensures sums { (result.won ≡ self.won + all.won) × (result.back ≡ self.back + all.back) × (result.held ≡ self.held + all.held) }
-        ensures few { (r : Record R) (rs : List (Record R)) → self.seat.me.0.records.value ++ all.seat.me.0.records.value ≡ r ∷ rs
-            → length (r ∷ rs) ≤ r.shape.callers }
+    /// All callers that are handed in come together. The last of them is the first to be taken.
+    pub(crate) fn gather_each(&self, mut callers: Vec<Caller<R>>) -> Gathering<R>
+        requires own { All (IsCallerOf self.now) callers.items }
+        requires some { Has (numbers_of callers.items) 0 }
+        ensures map { IsGatheringOf self.now result }
+        ensures gathered { gathered result ≡ map record_of callers.items }
     {
-        let Together {
+        let Some(last) = callers.pop() else {
+            unreachable!()
+        };
+        let mut all = self.start_gathering(last);
+        while let Some(caller) = callers.pop() {
+            all.add(self, caller);
+        }
+        callers.destroy_empty();
+        all
+    }
+}
+
+impl<R> Gathering<R> {
+    ghost use Rattle.tag_core.specs.Callers.{IsCallerOf, record_of};
+    ghost use Rattle.tag_core.specs.Gathering.{IsGatheringOf, gathered};
+
+    /// One more caller of the map comes to those gathered. Its one load, of the spare word, stands in no list.
+    pub fn add(&mut self, map: &Map<R>, caller: Caller<R>)
+        requires caller { IsCallerOf map.now caller }
+        requires map { IsGatheringOf map.now self.old }
+        ensures map { IsGatheringOf map.now self.new }
+        ensures gathered { gathered self.new ≡ record_of caller ∷ gathered self.old }
+    {
+        let Gathering {
             mut seat,
             won,
             back,
             held,
-        } = self;
-        let Together {
-            seat: other,
-            won: other_won,
-            back: other_back,
-            held: other_held,
-        } = all;
-        map.table.shared.join_seat::<Collect>(&mut seat, other);
-        map.table.shared.load::<Counting>(&mut seat, SPARE);
-        Together {
-            seat,
-            won: won + other_won,
-            back: back + other_back,
-            held: held + other_held,
-        }
-    }
-
-    /// The records of all callers that are handed in, in their order.
-    pub(crate) fn all(tags: &Map<R>, mut rest: Vec<Caller<R>>) -> Option<Together<R>>
-        requires { All (λ c. IsCallerOf tags.now c) rest.items }
-        ensures none { IfNone result (rest.items ≡ []) }
-        ensures some { IfSome result (λ t. (t.seat.table_id ≡ tags.now.table.shared.table_id)
-            × (t.seat.me.0.records.value ≡ map record_of rest.items)) }
-    {
-        let last = rest.pop()?;
-        let mut all = Together::of(tags, last);
-        while let Some(next) = rest.pop() {
-            let one = Together::of(tags, next);
-            all = one.before(tags, all);
-        }
-        rest.destroy_empty();
-        Some(all)
+        } = map.start_gathering(caller);
+        swap(&mut self.seat, &mut seat);
+        map.table.shared.join_seat::<Collect>(&mut self.seat, seat);
+        map.table.shared.load::<Counting>(&mut self.seat, SPARE);
+        self.won += won;
+        self.back += back;
+        self.held += held;
     }
 }

@@ -3,7 +3,7 @@ use Rattle.std.proofs.Common.{List, refl, subst}
 use Rattle.std.proofs.lemmas.Bool.{false≢true}
 use Rattle.step_ledger.specs.Views.{HasAll, IsLeastMissing}
 use Rattle.tag_core.specs.declared.caller.Caller.{Caller}
-use Rattle.tag_core.specs.Callers.{numbers_of}
+use Rattle.tag_core.specs.Gathering.{numbers_of}
 use Rattle.tag_core.proofs.missing.all_there.Given as given
 use Rattle.tag_core.proofs.missing.all_there.Goals.{In-Some}
 use Rattle.tag_core.proofs.missing.all_there.Goals as goal

@@ -6,7 +6,7 @@ use lib.ListN.{get_elem?}
 use Rattle.atomic_table.proofs.Lists.{at_map, at_index}
 use Rattle.step_ledger.proofs.Turned.{nowhere}
 use Rattle.tag_core.specs.declared.caller.Caller.{Caller}
-use Rattle.tag_core.specs.Callers.{numbers_of}
+use Rattle.tag_core.specs.Gathering.{numbers_of}
 use Rattle.tag_core.proofs.reopens.place_of.Given as given
 use Rattle.tag_core.proofs.reopens.place_of.Goals.{After-index-callers-i}
 use Rattle.tag_core.proofs.reopens.place_of.Goals as goal

@@ -1,7 +1,7 @@
 use Rattle.std.proofs.Common.{◌≢◌, ℕ, ◌<◌}
 use mathlib.Core.Option.{some}
 use lib.ListN.{get_elem?}
-use Rattle.tag_core.specs.Callers.{numbers_of}
+use Rattle.tag_core.specs.Gathering.{numbers_of}
 use Rattle.tag_core.proofs.reopens.place_of.Given as goal
 
 abbrev pub invariant-loop-i : goal.invariant-loop-i

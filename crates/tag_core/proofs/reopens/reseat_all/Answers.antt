@@ -11,7 +11,8 @@ use Rattle.tag_core.specs.declared.caller.Caller.{Caller}
 use Rattle.tag_core.specs.declared.map.Map.{Map}
 use Rattle.tag_core.specs.declared.record.Record.{Record}
 use Rattle.tag_core.specs.Views.{viewing, fresh}
-use Rattle.tag_core.specs.Callers.{IsCallerOf, record_of, numbers_of, HaveOwnNumbers}
+use Rattle.tag_core.specs.Callers.{IsCallerOf, record_of, HaveOwnNumbers}
+use Rattle.tag_core.specs.Gathering.{numbers_of}
 use Rattle.tag_core.specs.Reopening.{reopened_record}
 use Rattle.tag_core.proofs.Entries.{entry, entry_of_map}
 use Rattle.tag_core.proofs.Lasts.{all_front, all_last}

@@ -2,7 +2,7 @@
 use Rattle.std.proofs.Common.{ℕ, List, refl, sym, ap, subst}
 use Rattle.step_ledger.specs.Views.{HasAll}
 use Rattle.tag_core.specs.declared.caller.Caller.{Caller}
-use Rattle.tag_core.specs.Callers.{numbers_of}
+use Rattle.tag_core.specs.Gathering.{numbers_of}
 use Rattle.tag_core.proofs.Reopenings.{records_from}
 use Rattle.tag_core.proofs.map.Map.settle.Goals as goal
 

@@ -6,10 +6,10 @@ use Rattle.tag_core.specs.Rule.{Shown}
 use Rattle.tag_core.specs.Callers.{record_of}
 use Rattle.tag_core.proofs.Passing.{hands_first}
 use Rattle.tag_core.proofs.Stand.{some_width}
-use Rattle.tag_core.proofs.together.Together.of.Goals as goal
+use Rattle.tag_core.proofs.map.Map.start_gathering.Goals as goal
 
 pub split_seat-note-requires : goal.split_seat-note-requires
-split_seat-note-requires g c = let m = c.args.map.now in let w = c.args.caller in (
+split_seat-note-requires g c = let m = c.args.self.now in let w = c.args.caller in (
   c.requires.0,
   subst (λ (z : ℕ). 0 < z) (sym m.wide.0) (some_width m.shape.layout),
   subst (λ (z : Shape). Splits (Shown z) w.seat.id w.seat.me.0 (other_views w.seat.me.0) (first_view w.seat.me.0))
