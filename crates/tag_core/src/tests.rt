@@ -5,6 +5,5 @@ mod memory;
 mod opening;
 mod reopening;
 mod resizing;
-mod resizing_threads;
 mod steps;
 mod threads;
