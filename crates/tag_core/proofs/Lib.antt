@@ -24,6 +24,11 @@ pub mod Meetings
 pub mod Crossing
 pub mod Totalling
 pub mod Lasts
+pub mod Entries
+pub mod SeatMoves
+pub mod Settlings
+pub mod Chains
+pub mod Reopenings
 pub mod Showings
 pub mod Holdings
 pub mod Numbers

@@ -1,6 +1,8 @@
 -- What contracts see of a map and of its callers.
-use Rattle.std.specs.Prelude.{◌≡◌, ℕ, ◌<◌, replicate}
+use Rattle.std.specs.Prelude.{◌≡◌, ℕ, ◌<◌, List, length, replicate}
+use mathlib.Core.Option.{some}
 use mathlib.Core.Option as maybe
+use lib.ListN.{get_elem?}
 use Rattle.tag_layout.specs.Layout.{Layout, words}
 use Rattle.tag_core.specs.declared.step.Step.{Step}
 use Rattle.tag_core.specs.declared.record.Record.{Record}
@@ -33,6 +35,11 @@ record_of caller = record {
 abbrev pub Holds : {R : Type 0} → Caller R → ℕ → Type 0
 Holds caller tag = (tag < caller.shape.value.layout.depth) × (tag_bit caller.shape.value.layout caller.held.items tag ≡ 1)
 
+-- no two of the callers have one number
+abbrev pub HaveOwnNumbers : {R : Type 0} → List (Caller R) → Type 0
+HaveOwnNumbers {R} callers =
+    (i j : ℕ) (a b : Caller R) → get_elem? callers i ≡ some a → get_elem? callers j ≡ some b → a.number ≡ b.number → i ≡ j
+
 -- the value of the slot of a tag that the caller holds
 abbrev pub slot_of : {R : Type 0} → Caller R → ℕ → maybe.Option R
 slot_of caller tag = value_of caller.seat.me.1 tag
@@ -46,6 +53,11 @@ pub record IsUnchanged {R : Type 0} (old new : Caller R) : Type 0 where
   pub known : record_of new ≡ record_of old
   pub slots : (tag : ℕ) → slot_of new tag ≡ slot_of old tag
   pub same_map : SameMap old new
+
+-- one by one, in the same order, each caller is as it was
+pub record AreUnchanged {R : Type 0} (old new : List (Caller R)) : Type 0 where
+  pub count : length new ≡ length old
+  pub each : (n : ℕ) (a b : Caller R) → get_elem? old n ≡ some a → get_elem? new n ≡ some b → IsUnchanged a b
 
 -- the step joins the caller's own list, and its event changes the caller's record; the slots of tags that it keeps stay
 pub record Adds {R : Type 0} (step : Step R) (old new : Caller R) : Type 0 where

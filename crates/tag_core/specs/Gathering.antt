@@ -16,8 +16,10 @@ use Rattle.tag_core.specs.Bits.{one_if}
 use Rattle.tag_core.specs.Spacing.{state_at}
 use Rattle.tag_core.specs.Histories.{History, IsLawful, world_of, steps_by, last_post}
 use Rattle.tag_core.specs.Sizes.{total_of, size_of}
+use Rattle.tag_core.specs.Chain.{CountsChain}
 
--- the totals are the sums over these records, and those of the world that one history of all their steps leaves
+-- the totals are the sums over these records, those of the world that one history of all their steps leaves, and what was
+-- won and given back in this map and in those before it
 pub record IsGathered {R : Type 0} (k : Shape) (rs : List (Record R)) (closed : Closed R) : Type 0 where
   pub history : History R
   pub lawful : IsLawful k history
@@ -27,6 +29,7 @@ pub record IsGathered {R : Type 0} (k : Shape) (rs : List (Record R)) (closed : 
   pub back : closed.totals.back ≡ total_of (λ (r : Record R). r.back) rs
   pub held : closed.totals.held ≡ total_of (λ (r : Record R). size_of r.held) rs
   pub totals : AreTotals k.layout k.callers (world_of k history) closed.totals
+  pub chain : CountsChain k history closed.totals
   pub balance : closed.totals.got ≡ closed.totals.back + closed.totals.held + closed.totals.posted
   pub slots : length closed.slots.items ≡ k.layout.depth
   -- a posted tag's slot has the value of its last Post
@@ -37,10 +40,6 @@ pub record IsGathered {R : Type 0} (k : Shape) (rs : List (Record R)) (closed : 
 -- how many tags have a state of 1 in a table's words
 abbrev pub states_posted : Layout → List ℕ → ℕ
 states_posted l table = sum_below (λ tag. one_if (nat_eq (slice_index table (state_at l tag)) 1)) l.depth
-
--- the caller of this number is among them
-abbrev pub IsThere : {R : Type 0} → List (Caller R) → ℕ → Type 0
-IsThere {R} callers number = (i : ℕ) × (caller : Caller R) × (get_elem? callers i ≡ some caller) × (caller.number ≡ number)
 
 -- the numbers of these callers
 abbrev pub numbers_of : {R : Type 0} → List (Caller R) → List ℕ

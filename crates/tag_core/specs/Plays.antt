@@ -1,10 +1,12 @@
 -- What each kind of step on the table tells the caller that makes it.
 use Rattle.std.specs.Prelude.{◌≡◌, ◌≢◌, ℕ, ◌+◌, ◌-◌, ◌*◌, ◌^◌, ◌<◌, ◌≤◌, List, [], ◌∷◌, map, length, slice_index, Some, None}
 use mathlib.Core.Option.{some}
+use lib.ListN.{get_elem?}
 use Rattle.std.specs.Int.{bit_at}
 use Rattle.atomic_table.specs.Table.{Me}
 use Rattle.atomic_table.specs.Table as table
 use Rattle.tag_layout.specs.Layout.{word_of, place_of}
+use Rattle.tag_model.specs.declared.totals.Totals.{Totals}
 use Rattle.tag_model.specs.declared.world.TheConstants.{MOST_WON}
 use Rattle.tag_model.specs.Event.{back_by}
 use Rattle.tag_core.specs.declared.step.Step.{Step}
@@ -17,6 +19,7 @@ use Rattle.tag_core.specs.Histories.{event_of}
 use Rattle.tag_core.specs.Records.{record_after, held_after, tag_bit, value_of, tags_from, but, Carries}
 use Rattle.tag_core.specs.Views.{viewing, alone}
 use Rattle.tag_core.specs.Meeting.{HasHistory, ShareHistory, AreApart}
+use Rattle.tag_core.specs.Settling.{HasRecords, AreSettled}
 
 -- the caller of this record made the step: the slots of its tags are with it, and those of tags that it keeps have their values
 pub record Stepped {R : Type 0} (step : Step R) (r : Record R) (me me' : Me R (View R)) : Type 0 where
@@ -121,3 +124,10 @@ module _ {R : Type 0} (st : table.Step R) (me : Me R (View R)) (found : ℕ) (me
       (me' ≡ me)
       × ((first second : Record R) → me.0 ≡ viewing (first ∷ second ∷ [])
       → (first.number ≢ second.number) × AreApart first.shape first second × ShareHistory first.shape first second)
+
+  -- a load by a seat that has the records of all callers: one history shows them, with their totals
+  abbrev pub settled : Type 0
+  settled =
+      (me' ≡ me)
+      × ((r : Record R) → get_elem? me.0.records.value 0 ≡ some r → HasRecords r.shape.callers me.0.records.value
+      → (totals : Totals) × AreSettled r.shape me.0.records.value totals)

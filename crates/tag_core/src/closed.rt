@@ -16,7 +16,7 @@ pub struct Closed<R> {
     pub slots: Vec<R>,
 }
 
-/// Why a map was not gathered, with all that was handed in.
+/// Why a map was neither gathered nor settled, with all that was handed in.
 #[derive(Drop)]
 pub struct GatherFault<R> {
     pub cause: GatherCause,

@@ -3,6 +3,7 @@ ghost use Rattle.std.specs.Prelude.{◌≡◌, ◌≤◌, [], vec_capacity};
 ghost use Rattle.tag_model.specs.declared.world.TheConstants.{MAX_CALLERS, MOST_WON};
 ghost use Rattle.tag_layout.specs.declared.layout.TheConstants.{MAX_DEPTH, MAX_SHIFT};
 ghost use Rattle.tag_core.specs.Spacing.{table_width};
+ghost use Rattle.tag_core.specs.Chain.{HasChain};
 
 use crate::record::View;
 use crate::shape::Shape;
@@ -35,5 +36,6 @@ pub struct Map<R> {
     ghost told: { table.shared.key ≡ shape },
     ghost wide: { (table.shared.table_id.words ≡ table_width shape.layout) × (table.shared.table_id.slots ≡ shape.layout.depth) },
     ghost small: { (shape.layout.depth ≤ MAX_DEPTH) × (shape.layout.shift ≤ MAX_SHIFT) },
+    ghost chain: { HasChain R shape },
     ghost few: { (1 ≤ shape.callers) × (shape.callers ≤ MAX_CALLERS) × (shape.life ≤ MOST_WON) },
 }

@@ -1,9 +1,11 @@
 //! A new map, and its callers.
-ghost use Rattle.std.specs.Prelude.{◌≡◌, ◌⊎◌, ℕ, ◌+◌, ◌-◌, ◌<◌, ◌≤◌, ◌↔◌, ◌≢◌, List, [], length, replicate, All, IfOk};
+ghost use Rattle.std.specs.Prelude.{◌≡◌, ◌⊎◌, ℕ, ◌+◌, ◌-◌, ◌<◌, ◌≤◌, ◌↔◌, ◌≢◌, List, [], length, replicate, All, IfOk, IfErr};
 ghost use Rattle.tag_layout.specs.declared.layout.TheConstants.{MAX_DEPTH};
 ghost use Rattle.tag_model.specs.declared.world.TheConstants.{MAX_CALLERS, MOST_WON};
 ghost use Rattle.tag_core.specs.Records.{fresh_record};
 ghost use Rattle.tag_core.specs.Views.{viewing, fresh, all_fresh};
+ghost use Rattle.tag_core.specs.Rule.{IsOpening};
+ghost use Rattle.tag_core.specs.Chain.{HasChain};
 ghost use Rattle.tag_core.specs.Opening.{IsNew, AreNew};
 ghost use Rattle.tag_core.specs.Callers.{IsCallerOf, record_of};
 
@@ -33,7 +35,7 @@ pub enum OpenFault {
 }
 
 /// A mask of no tags for each word, in a block of memory that has no line in common with another caller's.
-fn none_held(alloc: Global, words: usize) -> Result<Vec<u64>, AllocError>
+pub(crate) fn none_held(alloc: Global, words: usize) -> Result<Vec<u64>, AllocError>
     requires { words ≤ MAX_DEPTH }
     ensures { IfOk result (λ held. held.items ≡ replicate words 0) }
 {
@@ -94,6 +96,33 @@ fn hand_out<R>(
     Ok(callers)
 }
 
+/// A map of this shape with all tags free, and the seat that has the records of all its callers. The slots come back
+/// where there is no memory for it.
+pub(crate) fn new_map<R: Drop>(
+    alloc: Global,
+    shape: Shape,
+    slots: Vec<R>,
+) -> Result<(Map<R>, Seat<R, View<R>>), Vec<R>>
+    requires limits { (1 ≤ shape.callers) × (shape.callers ≤ MAX_CALLERS) × (shape.life ≤ MOST_WON) }
+    requires slots { length slots.items ≡ shape.layout.depth }
+    requires opening { IsOpening shape }
+    requires chain { HasChain R shape }
+    ensures map { IfOk result (λ p. p.0.shape ≡ shape) }
+    ensures seat { IfOk result (λ p. (p.1.table_id ≡ p.0.table.shared.table_id) × (p.1.me ≡ (all_fresh shape, []))) }
+    ensures err { IfErr result (λ s. s.items ≡ slots.items) }
+{
+    let Ok(room) = Vec::with_capacity(alloc, shape.layout.depth() as usize) else {
+        return Err(slots);
+    };
+    let Ok(words) = vec![in alloc; 0u64; table_words(shape.layout)] else {
+        return Err(slots);
+    };
+    match Table::new(alloc, words.as_slice(), slots, &shape) {
+        Ok((table, rest)) => Ok((Map { table, shape, room }, rest)),
+        Err(refused) => Err(refused.slots),
+    }
+}
+
 /// A map and its callers, where nothing is to be refused but for want of memory.
 fn lay_out<R: Drop>(
     alloc: Global,
@@ -106,12 +135,9 @@ fn lay_out<R: Drop>(
     ensures new { IfOk result (λ p. (p.0.shape ≡ shape) × AreNew p.0 p.1.items) }
     ensures own { IfOk result (λ p. All (IsCallerOf p.0) p.1.items) }
 {
-    let room = Vec::with_capacity(alloc, shape.layout.depth() as usize)?;
-    let words = vec![in alloc; 0u64; table_words(shape.layout)]?;
-    let Ok((table, rest)) = Table::new(alloc, words.as_slice(), slots, &shape) else {
+    let Ok((map, rest)) = new_map(alloc, shape, slots) else {
         return Err(AllocError);
     };
-    let map = Map { table, shape, room };
     let callers = hand_out(alloc, &map, rest)?;
     Ok((map, callers))
 }

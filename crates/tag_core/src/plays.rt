@@ -1,6 +1,6 @@
 //! What each kind of step tells. These types are for the proofs alone.
 ghost use Rattle.std.specs.Prelude.{[]};
-ghost use Rattle.tag_core.specs.Plays.{looked, looked_aside, claimed, gave, put_aside, swapped, spilled, posted, took, fronted, ordered, counted, met};
+ghost use Rattle.tag_core.specs.Plays.{looked, looked_aside, claimed, gave, put_aside, swapped, spilled, posted, took, fronted, ordered, counted, met, settled};
 ghost use Rattle.tag_core.specs.Views.{first_view, other_views, both_views, viewing};
 
 use crate::record::View;
@@ -82,6 +82,12 @@ pub(crate) struct Meeting;
 
 impl<R> Play<R, View<R>> for Meeting {
     ghost then = { met };
+}
+
+pub(crate) struct Settling;
+
+impl<R> Play<R, View<R>> for Settling {
+    ghost then = { settled };
 }
 
 /// The first record goes to a seat of its own.

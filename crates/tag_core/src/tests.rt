@@ -3,5 +3,7 @@ mod gathering;
 mod hands;
 mod memory;
 mod opening;
+mod reopening;
+mod resizing;
 mod steps;
 mod threads;

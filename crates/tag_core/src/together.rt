@@ -34,7 +34,7 @@ pub struct Gathering<R> {
 }
 
 /// The tags of masks: 1 is counted.
-fn count_tags(masks: &[u64]) -> u64
+pub(crate) fn count_tags(masks: &[u64]) -> u64
     requires { length masks.now ≤ MAX_DEPTH }
     ensures value { result ≡ size_of masks.now }
     ensures bound { result ≤ 64 * length masks.now }

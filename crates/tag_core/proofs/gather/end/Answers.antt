@@ -9,6 +9,7 @@ use Rattle.tag_core.specs.Bits.{one_if}
 use Rattle.tag_core.specs.Spacing.{state_at}
 use Rattle.tag_core.specs.Rule.{Shown, SlotIs}
 use Rattle.tag_core.proofs.Ends.{won_all, back_all, held_all, posted_all, even_all}
+use Rattle.tag_core.proofs.Chains.{count_chain}
 use Rattle.tag_core.proofs.gather.end.Goals as goal
 
 pub count_posted-posted-requires : goal.count_posted-posted-requires
@@ -38,6 +39,9 @@ returns g c =
       back = a.sums.1;
       held = a.sums.2;
       totals = record { got = got; back = back; held = held; posted = posted };
+      chain = count_chain k sh.history
+          (record { got = a.won; back = a.back; held = a.held; posted = c.count_posted-posted.result }) m.chain sh.lawful
+          (record { got = got; back = back; held = held; posted = posted });
       balance = omega arith;
       slots = c.take_out-slots.ensures.len ∙ c.close_with-ended.ensures.counts.1 ∙ m.wide.1;
       posts = λ t l e. let slot = subst (SlotIs (get_elem? s.homes t)) e (sh.slots t l) in

@@ -1,16 +1,10 @@
-use Rattle.std.proofs.Common.{rules, ◌≡◌, ℕ, replicate, sym, subst, List}
-use lib.ListN.{length-replicate}
-use Rattle.atomic_table.specs.Table.{opening}
-use Rattle.tag_core.specs.Spacing.{table_width}
-use Rattle.tag_core.specs.Views.{all_fresh}
-use Rattle.tag_core.specs.Rule.{Shown}
-use Rattle.tag_core.proofs.Passing.{opens, starts, zeros}
+-- Nobody won a tag before the first map of a chain.
+use Rattle.std.proofs.Common.{[]}
+use Rattle.tag_core.proofs.Passing.{starts}
 use Rattle.tag_core.proofs.opens.lay_out.Goals as goal
 
-pub new-requires : goal.new-requires
-new-requires g c =
-    let k = c.args.shape in let words : c.as_slice.result.now ≡ replicate (table_width k.layout) 0 = search rules in
-    subst (λ (ws : List ℕ). Shown k (opening ws c.args.slots.items (all_fresh k))) (sym words)
-    (opens g.row.R.Denot k (replicate (table_width k.layout) 0) c.args.slots.items
-    (starts k c.requires.blank.0 c.requires.blank.1) (length-replicate (table_width k.layout) 0)
-    (zeros (table_width k.layout)) c.requires.slots)
+pub new_map-requires-clause-opening : goal.new_map-requires-clause-opening
+new_map-requires-clause-opening g c = starts c.args.shape c.requires.blank.0 c.requires.blank.1
+
+pub new_map-requires-clause-chain : goal.new_map-requires-clause-chain
+new_map-requires-clause-chain g c = ∣ ([], c.requires.blank) ∣₁

@@ -9,26 +9,9 @@ use Rattle.tag_core.specs.Records.{tag_bit}
 use Rattle.tag_core.specs.Views.{viewing, first_view, other_views, both_views}
 use Rattle.tag_core.specs.Rule.{Shown}
 use Rattle.tag_core.specs.Callers.{record_of}
-use Rattle.tag_core.proofs.Passing.{hands_first, joins}
-use Rattle.tag_core.proofs.Stand.{some_width}
+use Rattle.tag_core.proofs.SeatMoves.{some_words, splits_off, joins_in}
 use Rattle.tag_core.proofs.Meetings.{meet_allowed}
 use Rattle.tag_core.proofs.map.Map.meet.Goals as goal
-
-module _ {R : Type 0} (m : Map R) where
-  some_words : 0 < m.table.shared.table_id.words
-  some_words = subst (λ (z : ℕ). 0 < z) (sym m.wide.0) (some_width m.shape.layout)
-
-  splits_off : (id : ℕ) (v : View R) (r : Record R) (rs : List (Record R)) → v ≡ viewing (r ∷ rs)
-      → Splits (Shown m.table.shared.key) id v (other_views v) (first_view v)
-  splits_off id v r rs is =
-      subst (λ (z : Shape). Splits (Shown z) id v (other_views v) (first_view v)) (sym m.told)
-      (hands_first R m.shape id v r rs is)
-
-  joins_in : (id : ℕ) (v : View R) (other : ℕ) (w : View R)
-      → Joins (Shown m.table.shared.key) id v other w (both_views v w) (viewing [])
-  joins_in id v other w =
-      subst (λ (z : Shape). Joins (Shown z) id v other w (both_views v w) (viewing [])) (sym m.told)
-      (joins R m.shape id v other w)
 
 -- the records of two callers come into one view
 two_records : {R : Type 0} (first second : Caller R) (one other both : View R) → one ≡ first_view first.seat.me.0

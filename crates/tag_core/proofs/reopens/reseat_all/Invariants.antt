@@ -1,0 +1,22 @@
+use Rattle.std.proofs.Common.{◌≡◌, ℕ, ◌+◌, ◌-◌, ◌<◌, ◌≤◌, [], length, replicate, All}
+use mathlib.Core.Option.{some}
+use lib.ListN.{get_elem?}
+use Rattle.tag_layout.specs.Layout.{words}
+use Rattle.tag_core.specs.declared.caller.Caller.{Caller}
+use Rattle.tag_core.specs.Callers.{IsCallerOf, record_of}
+use Rattle.tag_core.specs.Reopening.{reopened_record}
+use Rattle.tag_core.specs.Views.{viewing, fresh}
+use Rattle.tag_core.proofs.reopens.reseat_all.Given as goal
+
+abbrev pub invariant-loop-number : goal.invariant-loop-number
+invariant-loop-number g l = record {
+  seat : l.rest.table_id ≡ l.tags.table.shared.table_id;
+  rest : l.rest.me ≡ (viewing (fresh l.tags.shape l.number (l.tags.shape.callers - l.number)), []);
+  left : length l.masks.items + l.number ≡ l.tags.shape.callers;
+  blank : All (λ m. m.items ≡ replicate (words l.tags.shape.layout) 0) l.masks.items;
+  long : length l.callers.items ≡ length l.fn.callers.items;
+  gone : (j : ℕ) (a b : Caller g.row.R.Denot) → get_elem? l.fn.callers.items j ≡ some a → get_elem? l.callers.items j ≡ some b
+      → a.number < l.number → IsCallerOf l.tags b × (record_of b ≡ reopened_record l.tags.shape (record_of a));
+  stays : (j : ℕ) (a b : Caller g.row.R.Denot) → get_elem? l.fn.callers.items j ≡ some a → get_elem? l.callers.items j ≡ some b
+      → l.number ≤ a.number → b ≡ a;
+}
