@@ -1,33 +1,23 @@
--- Which tags are held once bits have joined the held set: those that were held, and those of the bits.
-use Rattle.std.proofs.Common.{◌≡◌, ℕ, ◌+◌, ◌-◌, ◌*◌, ◌^◌, ◌<◌, ◌≤◌, ◌⊎◌, List, length, Option, Some, None, get_or, bit_or, get_or-set_same, get_or-set_other, arith, sym, ap, ◌∙◌, inl, inr}
+-- Which tags are held once a get has won: those that were held, and those that it answers.
+use Rattle.std.proofs.Common.{◌≡◌, ℕ, ◌+◌, ◌-◌, ◌*◌, ◌^◌, ◌<◌, ◌≤◌, ◌==◌, Option, Some, None, eqb-true, eq-eqb, arith, sym, ap, ◌∙◌, subst, inl}
+use Rattle.std.specs.Prelude.{IfSome}
 use mathlib.Core.Logic.{dite}
-use native.Mathlib.Decide.{ℕ_discrete, dec_lt}
+use native.Mathlib.Decide.{dec_lt}
 use Rattle.std.specs.Int.{bit_at}
 use Rattle.std.proofs.lemmas.Nat.{pow_pos}
-use Rattle.std.proofs.lemmas.Nat.Bits.{bit_at_or, bit_at-zero, bit_at_cat_low, bit_at_cat_high}
-use Rattle.tag_layout.specs.Layout.{Layout, words, word_of, place_of, tag_at}
-use Rattle.tag_layout.proofs.PlaceFacts.{tag_at-back, tag_at-below, word_of-below}
+use Rattle.std.proofs.lemmas.Nat.Bits.{bit_at-zero, bit_at_cat_low, bit_at_cat_high}
+use Rattle.std.proofs.Math.Nat.{mul-div_cancel}
+use Rattle.tag_layout.specs.Layout.{Layout, word_bits, word_of, place_of, word_depth, tag_at}
+use Rattle.tag_layout.proofs.PlaceFacts.{word_of-tag_at, place_of-tag_at, tag_at-below, tag_at-back, word_of-below}
+use Rattle.tag_layout.proofs.Scans.{bit_at-shr}
 use Rattle.tag_core.specs.declared.caller.Caller.{Caller}
-use Rattle.tag_core.specs.Callers.{record_of, Holds}
-use Rattle.tag_core.specs.Records.{joined, tag_bit}
-use Rattle.tag_search.specs.Gains.{IsInRun}
-use Rattle.tag_search.proofs.OneTag.{one_place}
-use Rattle.tag_search.proofs.RunFacts.{WonRun}
+use Rattle.tag_core.specs.Callers.{record_of, slot_of, Holds}
+use Rattle.tag_core.specs.Holdings.{IsInMask, Acquires}
+use Rattle.tag_core.proofs.Holdings.{keeps_all, acquires, acquired_as, alone_named, named_alone}
+use Rattle.tag_search.specs.Gains.{IsAnswer, IsInRun}
+use Rattle.tag_search.proofs.OneTag.{both_true, and_true}
+use Rattle.tag_search.proofs.RunFacts.{IsBelow, WonRun}
 use Rattle.tag_search.proofs.SharedFacts.{Won}
-use Rattle.tag_search.proofs.Writings.{bit_is}
-
--- a tag whose bit is there once a mask has joined a word had it before, or is one of the mask's
-bit_joined : (l : Layout) (held : List ℕ) (i mask tag : ℕ) → i < length held → tag_bit l (joined held i mask) tag ≡ 1
-    → (tag_bit l held tag ≡ 1) ⊎ ((word_of l tag ≡ i) × (bit_at mask (place_of l tag) ≡ 1))
-bit_joined l held i mask tag near one =
-    let p : ℕ = place_of l tag in let w : ℕ = bit_or (get_or held i 0) mask in dite (ℕ_discrete (word_of l tag) i)
-    (λ e. let there : bit_at w p ≡ 1 = sym (ap (λ (x : ℕ). bit_at x p) (get_or-set_same held i w 0 near))
-    ∙ ap (λ (j : ℕ). bit_at (get_or (joined held i mask) j 0) p) (sym e) ∙ one in
-    elim (bit_is mask p) [
-      | inl is ↦ inr (e, is)
-      | inr none ↦ inl (ap (λ (j : ℕ). bit_at (get_or held j 0) p) e ∙ (let both = bit_at_or (get_or held i 0) mask p in omega arith))
-    ])
-    (λ ne. inl (sym (ap (λ (x : ℕ). bit_at x p) (get_or-set_other held i (word_of l tag) w 0 ne)) ∙ one))
 
 -- a bit of a shifted mask is one of the mask
 shifted_bit : (bits p q : ℕ) → bit_at (bits * 2 ^ p) q ≡ 1 → (p ≤ q) × (bit_at bits (q - p) ≡ 1)
@@ -37,45 +27,73 @@ shifted_bit bits p q one =
     (λ low. absurd (let none = bit_at_cat_low bits p 0 q low in let zero = bit_at-zero q in omega arith))
     (λ high. let above : p ≤ q = omega arith in (above, sym (bit_at_cat_high bits p 0 q (pow_pos p) above) ∙ there))
 
-module _ {R : Type 0} (l : Layout) (old new : Caller R) (same : old.shape.value.layout ≡ l) where
-  -- a caller whose masks stayed holds what it held
-  held_still : new.shape.value ≡ old.shape.value → new.held.items ≡ old.held.items → (tag : ℕ) → Holds new tag → Holds old tag
-  held_still shape items tag holds =
-      let depth : new.shape.value.layout.depth ≡ old.shape.value.layout.depth = λ z. (shape z).layout.depth in let low = holds.0 in
-      (omega arith, sym (λ z. tag_bit (shape z).layout (items z) tag) ∙ holds.1)
+-- the mask of a batch names its tags
+module _ (l : Layout) (won : ℕ × ℕ) (low : IsBelow (word_depth l (word_of l won.0)) (place_of l won.0, won.1)) where
+  abbrev run : ℕ
+  run = won.1 * 2 ^ place_of l won.0
 
-  -- once a mask has joined one word, a tag that is held was held before or is one of the mask's
-  held_joined : (i mask : ℕ) → i < words l → new.shape.value ≡ old.shape.value → new.held.items ≡ joined old.held.items i mask
-      → (tag : ℕ) → Holds new tag → Holds old tag ⊎ ((word_of l tag ≡ i) × (bit_at mask (place_of l tag) ≡ 1))
-  held_joined i mask inside shape items tag holds =
-      let layout : new.shape.value.layout ≡ l = (λ z. (shape z).layout) ∙ same in
-      let depth : new.shape.value.layout.depth ≡ old.shape.value.layout.depth = λ z. (shape z).layout.depth in let low = holds.0 in
-      let wide : length old.held.items ≡ words l = old.wide ∙ ap words same in
-      elim (bit_joined l old.held.items i mask tag (let z : i < length old.held.items = omega arith in z) (sym (λ z. tag_bit (layout z) (items z) tag) ∙ holds.1)) [
-        | inl before ↦ inl (omega arith, (λ z. tag_bit (same z) old.held.items tag) ∙ before)
-        | inr one ↦ inr one
-      ]
-
-  -- after a get the caller holds what it held and the tag answered
-  pub none_but_tag : (answer : Option ℕ) → Won l answer (record_of old) (record_of new) → (tag : ℕ) → Holds new tag → Holds old tag ⊎ (answer ≡ Some tag)
-  none_but_tag None gained tag holds = inl (held_still gained.shape gained.held tag holds)
-  none_but_tag (Some answer) gained tag holds =
-      let near = word_of-below l answer gained.tag in
-      elim (held_joined (word_of l answer) (2 ^ place_of l answer) near gained.shape gained.held tag holds) [
-        | inl before ↦ inl before
-        | inr one ↦ inr (ap Some (sym (tag_at-back l answer)
-            ∙ sym (λ z. tag_at l (one.0 z) (one_place (place_of l answer) (place_of l tag) one.1 z)) ∙ tag_at-back l tag))
-      ]
-
-  -- after a batch get it holds what it held and the tags of the batch
-  pub none_but_run : (answer : Option (ℕ × ℕ)) → WonRun l answer (record_of old) (record_of new) → (tag : ℕ) → Holds new tag → Holds old tag ⊎ IsInRun answer tag
-  none_but_run None gained tag holds = inl (held_still gained.shape gained.held tag holds)
-  none_but_run (Some won) gained tag holds =
+  named_in_run : (tag : ℕ) → IsInMask l (word_of l won.0) run tag → IsInRun (Some won) tag
+  named_in_run tag named =
       let i : ℕ = word_of l won.0 in let p : ℕ = place_of l won.0 in let q : ℕ = place_of l tag in
-      let near : i < words l = word_of-below l won.0 (let low = tag_at-below l i p gained.tags.0 in let back = tag_at-back l won.0 in omega arith) in
-      elim (held_joined i (won.1 * 2 ^ p) near gained.shape gained.held tag holds) [
-        | inl before ↦ inl before
-        | inr one ↦ (let at = shifted_bit won.1 p q one.1 in let high : p ≤ q = at.0 in
-            let first = tag_at-back l won.0 in let here : tag_at l i q ≡ tag = ap (λ (j : ℕ). tag_at l j q) (sym one.0) ∙ tag_at-back l tag in
-            inr (q - p, omega arith, at.1))
-      ]
+      let both = both_true (word_of l tag == i) (bit_at run q == 1) named in
+      let word : word_of l tag ≡ i = eqb-true (word_of l tag) i both.0 in
+      let at = shifted_bit won.1 p q (eqb-true (bit_at run q) 1 both.1) in let high : p ≤ q = at.0 in
+      let first = tag_at-back l won.0 in let here : tag_at l i q ≡ tag = ap (λ (j : ℕ). tag_at l j q) (sym word) ∙ tag_at-back l tag in
+      (q - p, omega arith, at.1)
+
+  -- a tag of the batch, by its word and place
+  run_place : (tag : ℕ) → IsInRun (Some won) tag → (k : ℕ) × (place_of l won.0 + k < word_depth l (word_of l won.0))
+      × (tag ≡ tag_at l (word_of l won.0) (place_of l won.0 + k)) × (bit_at won.1 k ≡ 1)
+  run_place tag within = (within.0, low.1 within.0 within.2, (let first = tag_at-back l won.0 in let is = within.1 in omega arith), within.2)
+
+  run_below : (tag : ℕ) → IsInRun (Some won) tag → tag < l.depth
+  run_below tag within = let at = run_place tag within in let below = tag_at-below l (word_of l won.0) (place_of l won.0 + at.0) at.1 in
+      let is = at.2 in omega arith
+
+  run_named : (tag : ℕ) → IsInRun (Some won) tag → IsInMask l (word_of l won.0) run tag
+  run_named tag within = let at = run_place tag within in let i : ℕ = word_of l won.0 in let p : ℕ = place_of l won.0 in let k : ℕ = at.0 in
+      let deep : p + k < word_depth l i = at.1 in let small : p + k < word_bits l = omega arith in
+      let word : word_of l tag ≡ i = ap (word_of l) at.2 ∙ word_of-tag_at l i (p + k) small in
+      let place : place_of l tag ≡ p + k = ap (place_of l) at.2 ∙ place_of-tag_at l i (p + k) small in
+      let bit : bit_at run (place_of l tag) ≡ 1 = ap (bit_at run) place ∙ sym (bit_at-shr run p k)
+      ∙ ap (λ (x : ℕ). bit_at x k) (mul-div_cancel won.1 (pow_pos p)) ∙ at.3 in
+      and_true (word_of l tag == i) (bit_at run (place_of l tag) == 1) (eq-eqb (word_of l tag) i word) (eq-eqb (bit_at run (place_of l tag)) 1 bit)
+
+module _ {R : Type 0} (old new : Caller R) (narrow : old.shape.value.layout.shift ≤ 6) where
+  abbrev sizes : Layout
+  sizes = old.shape.value.layout
+
+  -- what a get acquires
+  pub acquires_answer : (answer : Option ℕ) → Won sizes answer (record_of old) (record_of new) → IfSome answer (λ tag. ¬ (Holds old tag))
+      → ((tag : ℕ) → Holds old tag → Holds new tag → slot_of new tag ≡ slot_of old tag) → Acquires (IsAnswer answer) old new
+  acquires_answer None gained fresh slots = let all = keeps_all old new narrow gained.shape slots gained.held in record {
+    fresh = λ tag is. absurd is;
+    joined = λ tag is. absurd is;
+    kept = all.kept;
+    none_else = λ tag holds. inl (all.none_else tag holds);
+  }
+  acquires_answer (Some answer) gained fresh slots =
+      let i : ℕ = word_of sizes answer in let bit : ℕ = 2 ^ place_of sizes answer in
+      let to = alone_named old.shape.value narrow answer in
+      acquired_as old new (IsInMask sizes i bit) (λ tag. tag ≡ answer) to (named_alone old.shape.value narrow answer)
+      (acquires old new narrow gained.shape slots i bit (word_of-below sizes answer gained.tag)
+      (λ tag named. subst (λ (t : ℕ). ¬ (Holds old t)) (sym (to tag named)) fresh)
+      (λ tag named. subst (λ (t : ℕ). t < sizes.depth) (sym (to tag named)) gained.tag) gained.held)
+
+  -- what a batch get acquires
+  pub acquires_run : (answer : Option (ℕ × ℕ)) → WonRun sizes answer (record_of old) (record_of new)
+      → ((tag : ℕ) → IsInRun answer tag → ¬ (Holds old tag))
+      → ((tag : ℕ) → Holds old tag → Holds new tag → slot_of new tag ≡ slot_of old tag) → Acquires (IsInRun answer) old new
+  acquires_run None gained fresh slots = let all = keeps_all old new narrow gained.shape slots gained.held in record {
+    fresh = fresh;
+    joined = λ tag is. absurd is;
+    kept = all.kept;
+    none_else = λ tag holds. inl (all.none_else tag holds);
+  }
+  acquires_run (Some won) gained fresh slots =
+      let i : ℕ = word_of sizes won.0 in let mask : ℕ = won.1 * 2 ^ place_of sizes won.0 in
+      let to = named_in_run sizes won gained.tags in
+      let first : won.0 < sizes.depth = let low = tag_at-below sizes i (place_of sizes won.0) gained.tags.0 in let back = tag_at-back sizes won.0 in omega arith in
+      acquired_as old new (IsInMask sizes i mask) (IsInRun (Some won)) to (run_named sizes won gained.tags)
+      (acquires old new narrow gained.shape slots i mask (word_of-below sizes won.0 first)
+      (λ tag named. fresh tag (to tag named)) (λ tag named. run_below sizes won gained.tags tag (to tag named)) gained.held)

@@ -1,27 +1,25 @@
 -- What a batch get over a shared map does to its caller: it holds the tags that it won, and what it held.
-use Rattle.std.proofs.Common.{◌≡◌, ℕ, ◌+◌, ◌-◌, ◌*◌, ◌%◌, ◌^◌, ◌<◌, ◌≤◌, List, [], ◌∷◌, length, Option, Some, None, get_or, set, bit_and, bit_or, count_ones, get_or-set_same, arith, refl, sym, ap, ◌∙◌, subst, ⊎_elim}
+use Rattle.std.proofs.Common.{◌≡◌, ℕ, ◌+◌, ◌-◌, ◌*◌, ◌%◌, ◌^◌, ◌<◌, ◌≤◌, List, [], ◌∷◌, Option, Some, None, get_or, set, bit_and, count_ones, arith, refl, sym, ap, ◌∙◌, subst, ⊎_elim}
 use Rattle.std.specs.Prelude.{IfSome}
 use Rattle.std.specs.Int.{bit_at}
 use Rattle.std.specs.Int.Bits.{or_zero_r, and_zero_l}
 use Rattle.std.proofs.lemmas.List.{set-get_or}
 use Rattle.std.proofs.lemmas.Bool.{cases_lt}
 use Rattle.std.proofs.lemmas.Nat.{and_le_l, and_mod, ones_cat, pow_pos}
-use Rattle.std.proofs.lemmas.Nat.Bits.{bit_at_or, bit_at_above, bit_at-lt}
-use Rattle.std.proofs.Math.Nat.{div-mul-le_self, mod-eq-sub-div-mul, mul-mod_left, mul-div_cancel}
+use Rattle.std.proofs.lemmas.Nat.Bits.{bit_at_above}
+use Rattle.std.proofs.Math.Nat.{div-mul-le_self, mod-eq-sub-div-mul, mul-mod_left}
 use lib.Count.{ones}
-use Rattle.tag_layout.specs.Layout.{Layout, words, word_bits, word_of, place_of, word_depth, tag_at}
-use Rattle.tag_layout.proofs.PlaceFacts.{word_of-tag_at, place_of-tag_at, tag_at-below, tag_at-back, word_of-below}
+use Rattle.tag_layout.specs.Layout.{Layout, word_bits, word_of, place_of, word_depth, tag_at}
+use Rattle.tag_layout.proofs.PlaceFacts.{word_of-tag_at, place_of-tag_at}
 use Rattle.tag_layout.proofs.Scans.{bit_at-shr}
-use Rattle.tag_core.specs.declared.caller.Caller.{Caller}
 use Rattle.tag_core.specs.declared.record.Record.{Record}
 use Rattle.tag_core.specs.declared.step.Step.TheVariants.{Word}
 use Rattle.tag_core.specs.declared.word_step.WordStep.{WordStep}
 use Rattle.tag_core.specs.declared.word_step.WordStep.TheVariants.{Look, Claimed}
-use Rattle.tag_core.specs.Callers.{record_of, Holds}
-use Rattle.tag_core.specs.Records.{record_after, joined, tag_bit}
+use Rattle.tag_core.specs.Records.{record_after, joined}
 use Rattle.tag_core.specs.Steps.{without}
 use Rattle.tag_search.specs.Batch.{run_mask, run_won, IsSweptLook, swept_look, IsBatchVisit, no_run, run_lost, run_taken, IsBatchSearch, batch_over, batch_won, batch_passed}
-use Rattle.tag_search.specs.Gains.{IsInRun, held_with_run, count_of_run}
+use Rattle.tag_search.specs.Gains.{held_with_run, count_of_run}
 use Rattle.tag_search.specs.Shared.{record_after_all}
 use Rattle.tag_search.specs.SharedLaws.{record_after-append}
 use Rattle.tag_search.proofs.Runs.{run_below}
@@ -59,7 +57,7 @@ run_at i None held = held
 run_at i (Some won) held = joined held i (won.1 * 2 ^ won.0)
 
 -- the run lies below the depth of its word
-abbrev IsBelow : ℕ → ℕ × ℕ → Type 0
+abbrev pub IsBelow : ℕ → ℕ × ℕ → Type 0
 IsBelow depth won = (won.0 < depth) × ((k : ℕ) → bit_at won.1 k ≡ 1 → won.0 + k < depth)
 
 -- the caller won this run of the word, where there is one, and nothing else, and gave none back
@@ -163,31 +161,3 @@ module _ {R : Type 0} (l : Layout) (narrow : word_bits l ≤ 64) where
         back = b.back ∙ a.back;
         tags = b.tags;
       })
-
--- tags that joined the held set are held
-bit_is_held : {R : Type 0} (l : Layout) (old new : Caller R) (won : ℕ × ℕ) → old.shape.value.layout ≡ l
-    → WonRun l (Some won) (record_of old) (record_of new) → (k : ℕ) → bit_at won.1 k ≡ 1 → Holds new (won.0 + k)
-bit_is_held l old new won same gained = λ k one.
-    let i : ℕ = word_of l won.0 in let p : ℕ = place_of l won.0 in let q : ℕ = p + k in let tag : ℕ = won.0 + k in
-    let deep : q < word_depth l i = gained.tags.1 k one in let small : q < word_bits l = omega arith in
-    let tag_is : tag_at l i q ≡ tag = let z = tag_at-back l won.0 in omega arith in
-    let below : tag < l.depth = let z = tag_at-below l i q deep in omega arith in
-    let word_is : word_of l tag ≡ i = ap (word_of l) (sym tag_is) ∙ word_of-tag_at l i q small in
-    let place_is : place_of l tag ≡ q = ap (place_of l) (sym tag_is) ∙ place_of-tag_at l i q small in
-    let layout : new.shape.value.layout ≡ l = (λ z. (gained.shape z).layout) ∙ same in
-    let wide : length old.held.items ≡ words l = old.wide ∙ ap words same in
-    let near : i < length old.held.items = let inside = word_of-below l tag below in omega arith in
-    let mask : ℕ = won.1 * 2 ^ p in let word : ℕ = bit_or (get_or old.held.items i 0) mask in
-    let here : bit_at mask q ≡ 1 = sym (bit_at-shr mask p k) ∙ ap (λ (x : ℕ). bit_at x k) (mul-div_cancel won.1 (pow_pos p)) ∙ one in
-    let set_there : bit_at word q ≡ 1 = let both = bit_at_or (get_or old.held.items i 0) mask q in let less = bit_at-lt (get_or old.held.items i 0) q in omega arith in
-    let bit : tag_bit l new.held.items tag ≡ 1 =
-    ap (λ (held : List ℕ). tag_bit l held tag) gained.held ∙ (λ z. bit_at (get_or (joined old.held.items i mask) (word_is z) 0) (place_is z))
-    ∙ ap (λ (x : ℕ). bit_at x q) (get_or-set_same old.held.items i word 0 near) ∙ set_there in
-    let depth : new.shape.value.layout.depth ≡ l.depth = ap (λ (x : Layout). x.depth) layout in
-    ((let z : tag < new.shape.value.layout.depth = omega arith in z), ap (λ (x : Layout). tag_bit x new.held.items tag) layout ∙ bit)
-
-pub run_is_held : {R : Type 0} (l : Layout) (old new : Caller R) (answer : Option (ℕ × ℕ)) → old.shape.value.layout ≡ l
-    → WonRun l answer (record_of old) (record_of new) → (tag : ℕ) → IsInRun answer tag → Holds new tag
-run_is_held l old new None same gained tag within = absurd within
-run_is_held l old new (Some won) same gained tag within =
-    subst (λ (t : ℕ). Holds new t) (sym within.1) (bit_is_held l old new won same gained within.0 within.2)

@@ -1,22 +1,19 @@
 -- What a get over a shared map does to its caller: it holds the tag that it won, and what it held.
-use Rattle.std.proofs.Common.{◌≡◌, ℕ, ◌+◌, ◌-◌, ◌*◌, ◌^◌, ◌<◌, ◌≤◌, true, cond, nat_eq, List, [], ◌∷◌, ◌++◌, length, Option, Some, None, get_or, set, bit_or, count_ones, get_or-set_same, arith, refl, sym, ap, ◌∙◌, subst}
+use Rattle.std.proofs.Common.{◌≡◌, ℕ, ◌+◌, ◌-◌, ◌*◌, ◌^◌, ◌<◌, ◌≤◌, true, cond, nat_eq, List, [], ◌∷◌, ◌++◌, Option, Some, None, get_or, set, count_ones, arith, refl, sym, ap, ◌∙◌, subst}
 use Rattle.std.specs.Prelude.{All, IfSome}
 use Rattle.std.specs.List.{AllByRecursion}
 use Rattle.std.specs.Int.{bit_at}
 use Rattle.std.specs.Int.Bits.{or_zero_r}
 use Rattle.std.proofs.lemmas.List.{set-get_or}
 use Rattle.std.proofs.lemmas.List.Elements.{All-head, All-tail, All-map}
-use Rattle.std.proofs.lemmas.Nat.Bits.{bit_at_or, bit_at-pow_same, bit_at-lt}
 use lib.Count.{ones}
-use Rattle.tag_layout.specs.Layout.{Layout, words, word_bits, word_of, place_of, word_depth, tag_at}
-use Rattle.tag_layout.proofs.PlaceFacts.{word_of-tag_at, place_of-tag_at, tag_at-below, word_of-below}
-use Rattle.tag_core.specs.declared.caller.Caller.{Caller}
+use Rattle.tag_layout.specs.Layout.{Layout, words, word_bits, word_depth, tag_at}
+use Rattle.tag_layout.proofs.PlaceFacts.{word_of-tag_at, place_of-tag_at, tag_at-below}
 use Rattle.tag_core.specs.declared.record.Record.{Record}
 use Rattle.tag_core.specs.declared.step.Step.TheVariants.{Word}
 use Rattle.tag_core.specs.declared.word_step.WordStep.{WordStep}
 use Rattle.tag_core.specs.declared.word_step.WordStep.TheVariants.{Look, Claimed, Swap, Spill}
-use Rattle.tag_core.specs.Callers.{record_of, Holds}
-use Rattle.tag_core.specs.Records.{record_after, joined, tag_bit}
+use Rattle.tag_core.specs.Records.{record_after, joined}
 use Rattle.tag_core.specs.Steps.{without}
 use Rattle.tag_search.specs.Gains.{held_with, count_of}
 use Rattle.tag_search.specs.Order.{scan_order}
@@ -203,20 +200,3 @@ visits_inside l first reach within =
     (all_scan (λ i. IsInside l (visit_of first reach i)) first (words l) true (λ i h.
     all_scan (λ place. place < word_depth l i) (cond (nat_eq i first) reach.start 0) (reach.limit i) reach.wrap
     (λ k below. let most = within i h in (let z : k < word_depth l i = omega arith in z))))
-
--- a tag that joined the held set is held
-pub joined_is_held : {R : Type 0} (l : Layout) (old new : Caller R) (answer : Option ℕ) → old.shape.value.layout ≡ l
-    → Won l answer (record_of old) (record_of new) → IfSome answer (Holds new)
-joined_is_held l old new None same gained = tt
-joined_is_held l old new (Some tag) same gained =
-    let below : tag < l.depth = gained.tag in
-    let layout : new.shape.value.layout ≡ l = (λ z. (gained.shape z).layout) ∙ same in
-    let wide : length old.held.items ≡ words l = old.wide ∙ ap words same in
-    let near : word_of l tag < length old.held.items = let inside = word_of-below l tag below in omega arith in
-    let i : ℕ = word_of l tag in let place : ℕ = place_of l tag in let word : ℕ = bit_or (get_or old.held.items i 0) (2 ^ place) in
-    let one : bit_at word place ≡ 1 =
-    let both = bit_at_or (get_or old.held.items i 0) (2 ^ place) place in let here = bit_at-pow_same place in let small = bit_at-lt (get_or old.held.items i 0) place in omega arith in
-    let bit : tag_bit l new.held.items tag ≡ 1 =
-    ap (λ (held : List ℕ). tag_bit l held tag) gained.held ∙ ap (λ (x : ℕ). bit_at x place) (get_or-set_same old.held.items i word 0 near) ∙ one in
-    let depth : new.shape.value.layout.depth ≡ l.depth = ap (λ (x : Layout). x.depth) layout in
-    ((let z : tag < new.shape.value.layout.depth = omega arith in z), ap (λ (x : Layout). tag_bit x new.held.items tag) layout ∙ bit)

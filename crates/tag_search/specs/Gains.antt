@@ -1,9 +1,10 @@
 -- What a get over a shared map does to its caller.
-use Rattle.std.specs.Prelude.{◌≡◌, ℕ, ◌+◌, ◌*◌, ◌^◌, ◌⊎◌, List, Option, Some, None, IfSome, count_ones}
+use Rattle.std.specs.Prelude.{◌≡◌, ℕ, ◌+◌, ◌*◌, ◌^◌, List, Option, Some, None, count_ones}
 use Rattle.std.specs.Int.{bit_at}
 use Rattle.tag_layout.specs.Layout.{Layout, word_of, place_of}
 use Rattle.tag_core.specs.declared.caller.Caller.{Caller}
-use Rattle.tag_core.specs.Callers.{record_of, slot_of, Holds, SameMap}
+use Rattle.tag_core.specs.Callers.{record_of, SameMap}
+use Rattle.tag_core.specs.Holdings.{Acquires}
 use Rattle.tag_core.specs.Records.{joined}
 
 -- the held set and the tag that was won, where there is one
@@ -16,13 +17,14 @@ abbrev pub count_of : Option ℕ → ℕ
 count_of None = 0
 count_of (Some tag) = 1
 
--- the caller holds the tag answered, where there is one, which it did not hold before; it keeps each tag that it held, with
--- the value of its slot, holds no other, and gave nothing back
+-- the tag is the one answered
+abbrev pub IsAnswer : Option ℕ → ℕ → Type 0
+IsAnswer None tag = ⊥
+IsAnswer (Some answer) tag = tag ≡ answer
+
+-- the caller acquires the tag answered, where there is one, and no other, and gave nothing back
 pub record Gains {R : Type 0} (l : Layout) (answer : Option ℕ) (old new : Caller R) : Type 0 where
-  pub won : IfSome answer (Holds new)
-  pub fresh : IfSome answer (λ tag. ¬ (Holds old tag))
-  pub kept : (tag : ℕ) → Holds old tag → Holds new tag × (slot_of new tag ≡ slot_of old tag)
-  pub none_else : (tag : ℕ) → Holds new tag → Holds old tag ⊎ (answer ≡ Some tag)
+  pub acquires : Acquires (IsAnswer answer) old new
   pub held : (record_of new).held ≡ held_with l answer (record_of old).held
   pub count : (record_of new).won ≡ (record_of old).won + count_of answer
   pub back : (record_of new).back ≡ (record_of old).back
@@ -47,10 +49,7 @@ count_of_run (Some won) = count_ones won.1
 
 -- as `Gains`, of the tags of a batch
 pub record GainsRun {R : Type 0} (l : Layout) (answer : Option (ℕ × ℕ)) (old new : Caller R) : Type 0 where
-  pub won : (tag : ℕ) → IsInRun answer tag → Holds new tag
-  pub fresh : (tag : ℕ) → IsInRun answer tag → ¬ (Holds old tag)
-  pub kept : (tag : ℕ) → Holds old tag → Holds new tag × (slot_of new tag ≡ slot_of old tag)
-  pub none_else : (tag : ℕ) → Holds new tag → Holds old tag ⊎ IsInRun answer tag
+  pub acquires : Acquires (IsInRun answer) old new
   pub held : (record_of new).held ≡ held_with_run l answer (record_of old).held
   pub count : (record_of new).won ≡ (record_of old).won + count_of_run answer
   pub back : (record_of new).back ≡ (record_of old).back

@@ -2,6 +2,7 @@
 ghost use Rattle.std.specs.Prelude.{◌≡◌, ℕ, ◌^◌, ◌↔◌, ◌⊎◌, ◌≤◌, false, IsTrue, IsOk, IfOk, OnErr};
 ghost use Rattle.tag_layout.specs.Layout.{word_bits, word_of, place_of};
 ghost use Rattle.tag_core.specs.Callers.{layout_of, IsCallerOf, Holds, Adds};
+ghost use Rattle.tag_core.specs.Holdings.{Releases};
 ghost use Rattle.tag_core.specs.declared.step.Step.TheVariants.{Word};
 ghost use Rattle.tag_core.specs.declared.word_step.WordStep.TheVariants.{Give, Put};
 ghost use Rattle.tag_search.specs.Batch.{IsBatchGet};
@@ -106,6 +107,7 @@ pub fn put<R>(map: &Map<R>, caller: &mut Caller<R>, hint: &mut Hint, tag: u32)
     ensures caller { IsCallerOf map.now caller.new }
     ensures step { let l = layout_of map.now in
         (found : ℕ) × Adds (Word (Put (word_of l tag) (2 ^ place_of l tag) found)) caller.old caller.new }
+    ensures released { Releases (λ t. t ≡ tag) caller.old caller.new }
     ensures alone { let l = layout_of map.now in
         Leaves (aside_at (word_of l tag) (place_of l tag) (pool_left caller.old)) caller.old caller.new }
     ensures hint { ClearFollows tag hint.old hint.new }
@@ -122,6 +124,7 @@ pub fn give<R>(map: &Map<R>, caller: &mut Caller<R>, hint: &mut Hint, tag: u32)
     ensures caller { IsCallerOf map.now caller.new }
     ensures step { let l = layout_of map.now in
         (found : ℕ) × Adds (Word (Give (word_of l tag) (2 ^ place_of l tag) found)) caller.old caller.new }
+    ensures released { Releases (λ t. t ≡ tag) caller.old caller.new }
     ensures alone { let l = layout_of map.now in
         Leaves (free_at (word_of l tag) (2 ^ place_of l tag) (pool_left caller.old)) caller.old caller.new }
     ensures hint { ClearFollows tag hint.old hint.new }
