@@ -80,30 +80,37 @@ module _ {R : Type 0} where
   own_quiet old new steps one all =
       let own : (record_of new).steps ≡ own_after steps (record_of old).steps =
       ap (λ (r : Record R). r.steps) all.known ∙ own_of_record steps (record_of old) in (
-        (found_quiet steps (record_of old).steps (subst (λ (s : List (Step R)). EachFound s) own (own_found new one))).0,
+        (found_quiet steps (record_of old).steps
+            (subst (λ (s : List (Step R)). EachFound s) own (own_found new one))).0,
         ap (λ (s : List (Step R)). words_left s) own ∙ left_after steps (record_of old).steps,
       )
 
   -- a get is the choice
-  pub own_choice : (old new : Caller R) (steps : List WordStep) (l : Layout) (vs : List Visit) (answer : Option ℕ) → IsAlone new
+  pub own_choice : (old new : Caller R) (steps : List WordStep) (l : Layout) (vs : List Visit) (answer : Option ℕ)
+      → IsAlone new
       → AddsAll steps old new → IsGet l vs answer steps → IsChoice l (pool_left old) vs answer (pool_left new)
   own_choice old new steps l vs answer one all get = let q = own_quiet old new steps one all in
-      subst (λ (w : Words). IsChoice l (pool_left old) vs answer (pool_of w)) (sym q.1) (get.alone (words_left (record_of old).steps) q.0)
+      subst (λ (w : Words). IsChoice l (pool_left old) vs answer (pool_of w)) (sym q.1)
+      (get.alone (words_left (record_of old).steps) q.0)
 
-  pub own_batch : (old new : Caller R) (steps : List WordStep) (l : Layout) (n first : ℕ) (answer : Option (ℕ × ℕ)) → IsAlone new
-      → AddsAll steps old new → IsBatchGet l n first answer steps → IsBatchChoice l n (pool_left old) (batch_words l first) answer (pool_left new)
+  pub own_batch : (old new : Caller R) (steps : List WordStep) (l : Layout) (n first : ℕ) (answer : Option (ℕ × ℕ))
+      → IsAlone new
+      → AddsAll steps old new → IsBatchGet l n first answer steps
+      → IsBatchChoice l n (pool_left old) (batch_words l first) answer (pool_left new)
   own_batch old new steps l n first answer one all get = let q = own_quiet old new steps one all in
       subst (λ (w : Words). IsBatchChoice l n (pool_left old) (batch_words l first) answer (pool_of w)) (sym q.1)
       (get.alone (words_left (record_of old).steps) q.0)
 
-  own_next : (step : Step R) (old new : Caller R) → Adds step old new → (record_of new).steps ≡ step ∷ (record_of old).steps
+  own_next : (step : Step R) (old new : Caller R) → Adds step old new
+      → (record_of new).steps ≡ step ∷ (record_of old).steps
   own_next step old new adds = ap (λ (r : Record R). r.steps) adds.known
 
   -- a put sets its place aside
   pub own_put : (old new : Caller R) (i place found : ℕ) → place < 64 → Adds (Word (Put i (2 ^ place) found)) old new
       → Leaves (aside_at i place (pool_left old)) old new
   own_put old new i place found low adds = let next = own_next (Word (Put i (2 ^ place) found)) old new adds in record {
-    pool_is = ap (λ (s : List (Step R)). pool_of (words_left s)) next ∙ put_pool (words_left (record_of old).steps) i place found low;
+    pool_is = ap (λ (s : List (Step R)). pool_of (words_left s)) next
+        ∙ put_pool (words_left (record_of old).steps) i place found low;
     posted = λ tag. ap (λ (s : List (Step R)). nat_eq ((cells_left s).state tag) 1) next;
   }
 
@@ -111,28 +118,35 @@ module _ {R : Type 0} where
   pub own_give : (old new : Caller R) (i mask found : ℕ) → mask < 2 ^ 64 → Adds (Word (Give i mask found)) old new
       → Leaves (free_at i mask (pool_left old)) old new
   own_give old new i mask found fits adds = let next = own_next (Word (Give i mask found)) old new adds in record {
-    pool_is = ap (λ (s : List (Step R)). pool_of (words_left s)) next ∙ give_pool (words_left (record_of old).steps) i mask found fits;
+    pool_is = ap (λ (s : List (Step R)). pool_of (words_left s)) next
+        ∙ give_pool (words_left (record_of old).steps) i mask found fits;
     posted = λ tag. ap (λ (s : List (Step R)). nat_eq ((cells_left s).state tag) 1) next;
   }
 
   -- a post and a take leave the words
-  pub own_post : (old new : Caller R) (tag : ℕ) (value : R) → Adds (Post tag value) old new → pool_left new ≡ pool_left old
-  own_post old new tag value adds = ap (λ (s : List (Step R)). pool_of (words_left s)) (own_next (Post tag value) old new adds)
+  pub own_post : (old new : Caller R) (tag : ℕ) (value : R) → Adds (Post tag value) old new
+      → pool_left new ≡ pool_left old
+  own_post old new tag value adds = ap (λ (s : List (Step R)). pool_of (words_left s))
+      (own_next (Post tag value) old new adds)
 
-  take_words : (tag found : ℕ) (value : Option R) (older : List (Step R)) → words_left (Take tag found value ∷ older) ≡ words_left older
+  take_words : (tag found : ℕ) (value : Option R) (older : List (Step R))
+      → words_left (Take tag found value ∷ older) ≡ words_left older
   take_words tag zero value older = refl
   take_words tag (suc found) value older = refl
 
-  pub own_take : (old new : Caller R) (tag found : ℕ) (value : Option R) → Adds (Take tag found value) old new → pool_left new ≡ pool_left old
+  pub own_take : (old new : Caller R) (tag found : ℕ) (value : Option R) → Adds (Take tag found value) old new
+      → pool_left new ≡ pool_left old
   own_take old new tag found value adds =
       ap (λ (s : List (Step R)). pool_of (words_left s)) (own_next (Take tag found value) old new adds)
       ∙ ap pool_of (take_words tag found value (record_of old).steps)
 
   -- a take of a lone caller finds the tag posted exactly where its own steps posted it
-  pub own_took : (old new : Caller R) (tag found : ℕ) (value : Option R) → IsAlone new → Adds (Take tag found value) old new
+  pub own_took : (old new : Caller R) (tag found : ℕ) (value : Option R) → IsAlone new
+      → Adds (Take tag found value) old new
       → nat_eq found 1 ≡ is_posted old tag
   own_took old new tag found value one adds =
-      let f = subst (λ (s : List (Step R)). EachFound s) (own_next (Take tag found value) old new adds) (own_found new one) in
+      let f = subst (λ (s : List (Step R)). EachFound s) (own_next (Take tag found value) old new adds)
+      (own_found new one) in
       ap (λ (n : ℕ). nat_eq n 1) f.0
 
   -- a look finds the word that its own steps left, and leaves the pool
@@ -152,24 +166,30 @@ module _ {R : Type 0} where
 
 -- steps on words leave what is posted
 module _ {R : Type 0} where
-  pub state_after : (steps : List WordStep) (older : List (Step R)) → (cells_left (own_after steps older)).state ≡ (cells_left older).state
+  pub state_after : (steps : List WordStep) (older : List (Step R))
+      → (cells_left (own_after steps older)).state ≡ (cells_left older).state
   state_after [] older = refl
   state_after (step ∷ steps) older = state_after steps (Word step ∷ older)
 
-  pub own_posted : (old new : Caller R) (steps : List WordStep) → AddsAll steps old new → (tag : ℕ) → is_posted new tag ≡ is_posted old tag
+  pub own_posted : (old new : Caller R) (steps : List WordStep) → AddsAll steps old new → (tag : ℕ)
+      → is_posted new tag ≡ is_posted old tag
   own_posted old new steps all tag =
-      ap (λ (s : List (Step R)). nat_eq ((cells_left s).state tag) 1) (ap (λ (r : Record R). r.steps) all.known ∙ own_of_record steps (record_of old))
+      ap (λ (s : List (Step R)). nat_eq ((cells_left s).state tag) 1)
+      (ap (λ (r : Record R). r.steps) all.known ∙ own_of_record steps (record_of old))
       ∙ ap (λ (f : ℕ → ℕ). nat_eq (f tag) 1) (state_after steps (record_of old).steps)
 
   -- two looks find what the caller's own steps left, and leave it
   pub own_looks : (old mid new : Caller R) (i found set : ℕ) → IsAlone old → Adds (Word (Look i found)) old mid
       → Adds (Word (LookAside i set)) mid new
-      → (found ≡ (words_left (record_of old).steps).word i) × (set ≡ (words_left (record_of old).steps).aside i) × Leaves (pool_left old) old new
+      → (found ≡ (words_left (record_of old).steps).word i) × (set ≡ (words_left (record_of old).steps).aside i)
+      × Leaves (pool_left old) old new
   own_looks old mid new i found set one first second =
       let one' : IsAlone mid = ap (λ (r : Record R). r.shape.callers) first.known ∙ one in
       let one'' : IsAlone new = ap (λ (r : Record R). r.shape.callers) second.known ∙ one' in
-      let a = own_next (Word (Look i found)) old mid first in let b = own_next (Word (LookAside i set)) mid new second in
-      let w : words_left (record_of mid).steps ≡ words_left (record_of old).steps = ap (λ (s : List (Step R)). words_left s) a in (
+      let a = own_next (Word (Look i found)) old mid first in
+      let b = own_next (Word (LookAside i set)) mid new second in
+      let w : words_left (record_of mid).steps ≡ words_left (record_of old).steps = ap
+      (λ (s : List (Step R)). words_left s) a in (
         (own_look old mid i found one' first).0,
         (own_look_aside mid new i set one'' second).0 ∙ ap (λ (x : Words). x.aside i) w,
         record {
@@ -228,8 +248,10 @@ place_own k [] finds tag = tt
 place_own k (x ∷ older) finds tag =
     let before = place_own k older finds.3 tag in let low = finds.0 in let is : x.0 ≡ 0 = omega arith in
     let q = (world_of k older).place tag in
-    subst (λ (n : ℕ). IsOwnPlace (cond (names k.layout (event_of k.layout n x.1) tag) (brings (event_of k.layout n x.1) q) q)) (sym is)
-    (pick_own (names k.layout (event_of k.layout 0 x.1) tag) (brings (event_of k.layout 0 x.1) q) q (brings_own k.layout x.1 q before) before)
+    subst (λ (n : ℕ). IsOwnPlace (cond (names k.layout (event_of k.layout n x.1) tag)
+    (brings (event_of k.layout n x.1) q) q)) (sym is)
+    (pick_own (names k.layout (event_of k.layout 0 x.1) tag) (brings (event_of k.layout 0 x.1) q) q
+    (brings_own k.layout x.1 q before) before)
 
 -- what a place shows that is caller 0's or nobody's, with nothing in a sweep
 shows_own : (q : Place) → IsOwnPlace q → sweep_bit 0 q ≡ 0
@@ -238,7 +260,8 @@ shows_own free o s = refl
 shows_own (held c) o s = ap (λ (n : ℕ). nat_eq (held_bit 0 (held n)) 1) o
 shows_own posted o s = refl
 shows_own aside o s = refl
-shows_own (sweep c) o s = let z : sweep_bit 0 (sweep 0) ≡ 0 = ap (λ (n : ℕ). sweep_bit 0 (sweep n)) (sym o) ∙ s in absurd (omega arith)
+shows_own (sweep c) o s = let z : sweep_bit 0 (sweep 0) ≡ 0 = ap (λ (n : ℕ). sweep_bit 0 (sweep n)) (sym o) ∙ s in
+    absurd (omega arith)
 
 near_bits : (b w a : Bool) → b ≡ true → not ((b && w) || (b && a)) ≡ not (w || a)
 near_bits true w a e = refl
@@ -248,7 +271,8 @@ pub place_small : (l : Layout) (tag : ℕ) → tag < l.depth → l.shift ≤ 6 �
 place_small l tag low narrow = let inside = place_of-below l tag low in let few = word_bits-le l narrow in omega arith
 
 none_swept : (l : Layout) (tag : ℕ) → tag_bit l (replicate (words l) 0) tag ≡ 0
-none_swept l tag = ap (λ (z : ℕ). bit_at z (place_of l tag)) (zeros (words l) (word_of l tag)) ∙ bit_at-zero (place_of l tag)
+none_swept l tag = ap (λ (z : ℕ). bit_at z (place_of l tag)) (zeros (words l) (word_of l tag))
+    ∙ bit_at-zero (place_of l tag)
 
 module _ {R : Type 0} where
   own_tag : (c : Caller R) → IsAlone c → (tag : ℕ) → tag < c.shape.value.layout.depth → c.shape.value.layout.shift ≤ 6
@@ -267,22 +291,28 @@ module _ {R : Type 0} where
       ∙ shows_own q (place_own k h.history finds tag) unswept
       ∙ (λ z. not (nat_eq (shows.word z) 0 || nat_eq (shows.aside z) 1) && not (nat_eq (shows.posted z) 1))
       ∙ (λ z. not (nat_eq (bit_at ((cells z).words.word (word_of l tag)) (place_of l tag)) 0
-      || nat_eq (bit_at ((cells z).words.aside (word_of l tag)) (place_of l tag)) 1) && not (nat_eq ((cells z).state tag) 1))
+      || nat_eq (bit_at ((cells z).words.aside (word_of l tag)) (place_of l tag)) 1) && not
+      (nat_eq ((cells z).state tag) 1))
       ∙ ap (λ (b : Bool). b && not (is_posted c tag)) (sym (near_bits (nat_lt (place_of l tag) 64)
       (nat_eq (bit_at ((words_left r.steps).word (word_of l tag)) (place_of l tag)) 0)
       (nat_eq (bit_at ((words_left r.steps).aside (word_of l tag)) (place_of l tag)) 1) near))
 
   -- a lone caller's held set has the tags that are busy and not posted
-  pub own_holds : (c : Caller R) → IsAlone c → (tag : ℕ) → tag < c.shape.value.layout.depth → c.shape.value.layout.shift ≤ 6
+  pub own_holds : (c : Caller R) → IsAlone c → (tag : ℕ) → tag < c.shape.value.layout.depth
+      → c.shape.value.layout.shift ≤ 6
       → nat_eq (tag_bit c.shape.value.layout c.held.items tag) 1 ≡ is_own c tag
   own_holds c one tag low narrow = ∥∥₁_elim (c.shown (record_of c) c.knows)
-      (Bool-set (nat_eq (tag_bit c.shape.value.layout c.held.items tag) 1) (is_own c tag)) (own_tag c one tag low narrow)
+      (Bool-set (nat_eq (tag_bit c.shape.value.layout c.held.items tag) 1) (is_own c tag))
+      (own_tag c one tag low narrow)
 
-pub alone_still : {R : Type 0} (old new : Caller R) (steps : List WordStep) → AddsAll steps old new → IsAlone old → IsAlone new
+pub alone_still : {R : Type 0} (old new : Caller R) (steps : List WordStep) → AddsAll steps old new → IsAlone old
+    → IsAlone new
 alone_still old new steps all one =
-    ap (λ (r : Record _). r.shape.callers) all.known ∙ ap (λ (k : Shape). k.callers) (shape_after steps (record_of old)) ∙ one
+    ap (λ (r : Record _). r.shape.callers) all.known
+    ∙ ap (λ (k : Shape). k.callers) (shape_after steps (record_of old)) ∙ one
 
-module _ {R : Type 0} (map : Map R) (c : Caller R) (own : IsCallerOf map c) (one : IsAlone c) (tag : ℕ) (low : tag < (layout_of map).depth) where
+module _ {R : Type 0} (map : Map R) (c : Caller R) (own : IsCallerOf map c) (one : IsAlone c) (tag : ℕ)
+    (low : tag < (layout_of map).depth) where
   own_narrow : c.shape.value.layout.shift ≤ 6
   own_narrow = subst (λ (k : Shape). k.layout.shift ≤ 6) (sym own.1) map.small.1
 

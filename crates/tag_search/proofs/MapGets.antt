@@ -47,8 +47,10 @@ module _ {R : Type 0} (map : Map R) (caller now : Caller R) (own : IsCallerOf ma
   narrow = subst (λ (k : Shape). k.layout.shift ≤ 6) (sym own.1) map.small.1
 
   -- a get from what its steps are
-  got : (first : ℕ) (reach : Reach) (answer : Option ℕ) → ((i : ℕ) → i < words sizes → reach.limit i ≤ word_depth sizes i)
-      → Makes caller now (IsGet sizes (visits sizes first reach) answer) → Got sizes (visits sizes first reach) answer caller now
+  got : (first : ℕ) (reach : Reach) (answer : Option ℕ)
+      → ((i : ℕ) → i < words sizes → reach.limit i ≤ word_depth sizes i)
+      → Makes caller now (IsGet sizes (visits sizes first reach) answer)
+      → Got sizes (visits sizes first reach) answer caller now
   got first reach answer within made =
       let all = made.added in let inside = visits_inside sizes first reach within in
       let won : Won sizes answer (record_of caller) (record_of now) =
@@ -56,7 +58,8 @@ module _ {R : Type 0} (map : Map R) (caller now : Caller R) (own : IsCallerOf ma
       (search_wins sizes (word_bits-le sizes narrow) (record_of caller) made.holds.search all.finds inside) in record {
         gains = record {
           acquires = acquires_answer caller now narrow answer won
-              (search_new caller sizes refl (word_bits-le sizes narrow) (record_of caller) made.holds.search all.finds all.finds_held inside)
+              (search_new caller sizes refl (word_bits-le sizes narrow)
+              (record_of caller) made.holds.search all.finds all.finds_held inside)
               (λ tag was is. (all.kept tag was).1);
           held = won.held;
           count = won.won;
@@ -67,13 +70,15 @@ module _ {R : Type 0} (map : Map R) (caller now : Caller R) (own : IsCallerOf ma
         };
         steps = made;
         alone = λ one. record {
-          choice = own_choice caller now made.steps sizes (visits sizes first reach) answer (alone_still caller now made.steps all one) all made.holds;
+          choice = own_choice caller now made.steps sizes (visits sizes first reach) answer
+              (alone_still caller now made.steps all one) all made.holds;
           posted = own_posted caller now made.steps all;
         };
       }
 
   -- a batch get from what its steps are
-  got_run : (n first : ℕ) (answer : Option (ℕ × ℕ)) → Makes caller now (IsBatchGet sizes n first answer) → GotRun sizes n first answer caller now
+  got_run : (n first : ℕ) (answer : Option (ℕ × ℕ)) → Makes caller now (IsBatchGet sizes n first answer)
+      → GotRun sizes n first answer caller now
   got_run n first answer made =
       let all = made.added in
       let won : WonRun sizes answer (record_of caller) (record_of now) =
@@ -92,12 +97,14 @@ module _ {R : Type 0} (map : Map R) (caller now : Caller R) (own : IsCallerOf ma
         };
         steps = made;
         alone = λ one. record {
-          choice = own_batch caller now made.steps sizes n first answer (alone_still caller now made.steps all one) all made.holds;
+          choice = own_batch caller now made.steps sizes n first answer
+              (alone_still caller now made.steps all one) all made.holds;
           posted = own_posted caller now made.steps all;
         };
       }
 
-module _ {R : Type 0} (map : Map R) (caller : Caller R) (old new : Shared R) (map_is : old.map.now ≡ map) (caller_is : old.caller.now ≡ caller)
+module _ {R : Type 0} (map : Map R) (caller : Caller R) (old new : Shared R) (map_is : old.map.now ≡ map)
+    (caller_is : old.caller.now ≡ caller)
     (own : IsCallerOf map caller) where
   -- the port's sizes are the caller's
   same_sizes : layout_of old.map.now ≡ caller.shape.value.layout
@@ -118,40 +125,51 @@ module _ {R : Type 0} (map : Map R) (caller : Caller R) (old new : Shared R) (ma
 
   -- after a get
   pub get_got : (round_robin : Bool) (from : ℕ) (answer : Option ℕ)
-      → Ports AddsThrough old new (IsGet (layout_of old.map.now) (plain_visits (layout_of old.map.now) round_robin from) answer)
+      → Ports AddsThrough old new (IsGet (layout_of old.map.now)
+      (plain_visits (layout_of old.map.now) round_robin from) answer)
       → Got (layout_of map) (plain_visits (layout_of map) round_robin from) answer caller new.caller.now
   get_got round_robin from answer a = let l = caller.shape.value.layout in
       of_map (λ k. Got k (plain_visits k round_robin from) answer caller new.caller.now)
-      (got map caller new.caller.now own (word_of l from) (plain_reach l round_robin from) answer (plain_within l round_robin from)
+      (got map caller new.caller.now own (word_of l from) (plain_reach l round_robin from) answer
+      (plain_within l round_robin from)
       (made (λ k. IsGet k (plain_visits k round_robin from) answer) a))
 
   -- after a shallow get
   pub shallow_got : (depth from : ℕ) (answer : Option ℕ)
-      → Ports AddsThrough old new (IsGet (layout_of old.map.now) (shallow_visits (layout_of old.map.now) depth from) answer)
+      → Ports AddsThrough old new (IsGet (layout_of old.map.now)
+      (shallow_visits (layout_of old.map.now) depth from) answer)
       → Got (layout_of map) (shallow_visits (layout_of map) depth from) answer caller new.caller.now
   shallow_got depth from answer a = let l = caller.shape.value.layout in
       of_map (λ k. Got k (shallow_visits k depth from) answer caller new.caller.now)
-      (got map caller new.caller.now own (word_of l from) (shallow_reach l depth from) answer (shallow_within l depth from)
+      (got map caller new.caller.now own (word_of l from) (shallow_reach l depth from) answer
+      (shallow_within l depth from)
       (made (λ k. IsGet k (shallow_visits k depth from) answer) a))
 
   -- after a batch get from a hint
   pub batch_got : (n at : ℕ) (answer : Option (ℕ × ℕ))
-      → Ports AddsThrough old new (IsBatchGet (layout_of old.map.now) n (word_of (layout_of old.map.now) (reduced (layout_of old.map.now).depth at)) answer)
-      → GotRun (layout_of map) n (word_of (layout_of map) (reduced (layout_of map).depth at)) answer caller new.caller.now
+      → Ports AddsThrough old new (IsBatchGet (layout_of old.map.now) n
+      (word_of (layout_of old.map.now) (reduced (layout_of old.map.now).depth at)) answer)
+      → GotRun (layout_of map) n (word_of (layout_of map)
+      (reduced (layout_of map).depth at)) answer caller new.caller.now
   batch_got n at answer a = let l = caller.shape.value.layout in
       of_map (λ k. GotRun k n (word_of k (reduced k.depth at)) answer caller new.caller.now)
       (got_run map caller new.caller.now own n (word_of l (reduced l.depth at)) answer
       (made (λ k. IsBatchGet k n (word_of k (reduced k.depth at)) answer) a))
 
 -- a batch that answers none without a step
-pub none_got : {R : Type 0} (l : Layout) (answer : Result (Option (ℕ × ℕ)) Spent) (old new : Caller R) → answer ≡ Ok None → new ≡ old
+pub none_got : {R : Type 0} (l : Layout) (answer : Result (Option (ℕ × ℕ)) Spent) (old new : Caller R)
+    → answer ≡ Ok None → new ≡ old
     → IfOk answer (λ won. GainsRun l won old new)
 none_got l answer old new none same =
     subst (λ (x : Result (Option (ℕ × ℕ)) Spent). IfOk x (λ won. GainsRun l won old new)) (sym none) (record {
       acquires = record {
         fresh = λ tag within. absurd within;
         joined = λ tag within. absurd within;
-        kept = λ tag holds. (subst (λ (c : Caller _). Holds c tag) (sym same) holds, ap (λ (c : Caller _). slot_of c tag) same);
+        kept = λ tag holds. (
+          subst (λ (c : Caller _). Holds c tag) (sym same) holds,
+          ap
+              (λ (c : Caller _). slot_of c tag) same,
+        );
         none_else = λ tag holds. inl (subst (λ (c : Caller _). Holds c tag) same holds);
       };
       held = ap (λ (c : Caller _). (record_of c).held) same;

@@ -24,16 +24,19 @@ is_posted c tag = nat_eq ((cells_left (record_of c).steps).state tag) 1
 -- the tag is neither free nor set aside nor posted, as the caller's own steps leave it
 abbrev pub is_own : {R : Type 0} → Caller R → ℕ → Bool
 is_own c tag =
-    is_busy (pool_left c) (word_of c.shape.value.layout tag) (place_of c.shape.value.layout tag) && not (is_posted c tag)
+    is_busy (pool_left c) (word_of c.shape.value.layout tag) (place_of c.shape.value.layout tag) && not
+    (is_posted c tag)
 
 -- over the places that the caller's own steps left, the answer is the choice, and what is left is what the choice leaves; no tag
 -- is posted or taken
-pub record Chooses {R : Type 0} (l : Layout) (visits : List Visit) (answer : Option ℕ) (old new : Caller R) : Type 0 where
+pub record Chooses {R : Type 0} (l : Layout) (visits : List Visit) (answer : Option ℕ)
+    (old new : Caller R) : Type 0 where
   pub choice : IsChoice l (pool_left old) visits answer (pool_left new)
   pub posted : (tag : ℕ) → is_posted new tag ≡ is_posted old tag
 
 -- as `Chooses`, of n tags side by side in one word
-pub record ChoosesRun {R : Type 0} (l : Layout) (n first : ℕ) (answer : Option (ℕ × ℕ)) (old new : Caller R) : Type 0 where
+pub record ChoosesRun {R : Type 0} (l : Layout) (n first : ℕ) (answer : Option (ℕ × ℕ))
+    (old new : Caller R) : Type 0 where
   pub choice : IsBatchChoice l n (pool_left old) (batch_words l first) answer (pool_left new)
   pub posted : (tag : ℕ) → is_posted new tag ≡ is_posted old tag
 

@@ -30,7 +30,8 @@ FindsWord _ = Unit {0}
 -- a claim found the bit of each tag of its word that the caller holds
 abbrev pub FindsHeldBy : {R : Type 0} → Caller R → WordStep → Type 0
 FindsHeldBy c (Claimed i mask found) =
-    (tag : ℕ) → Holds c tag → word_of c.shape.value.layout tag ≡ i → bit_at found (place_of c.shape.value.layout tag) ≡ 1
+    (tag : ℕ) → Holds c tag → word_of c.shape.value.layout tag ≡ i
+    → bit_at found (place_of c.shape.value.layout tag) ≡ 1
 FindsHeldBy c _ = Unit {0}
 
 -- the steps join the caller's own list, and their events change its record; it keeps each tag that it held, with the value of

@@ -16,12 +16,14 @@ use Rattle.tag_core.specs.declared.word_step.WordStep.TheVariants.{Look, LookAsi
 use Rattle.tag_search.specs.Shared.{record_after_all, FindsWord, FindsHeldBy, AddsAll, AddsThrough}
 
 -- the record after two lists is that after the second from that after the first
-pub record_after-append : {R : Type 0} (xs ys : List WordStep) (r : Record R) → record_after_all (xs ++ ys) r ≡ record_after_all ys (record_after_all xs r)
+pub record_after-append : {R : Type 0} (xs ys : List WordStep) (r : Record R)
+    → record_after_all (xs ++ ys) r ≡ record_after_all ys (record_after_all xs r)
 record_after-append [] ys r = refl
 record_after-append (x ∷ xs) ys r = record_after-append xs ys (record_after (Word x) r)
 
 -- what holds of each step of two lists holds of each step of both
-pub finds-append : (xs ys : List WordStep) → AllByRecursion FindsWord xs → AllByRecursion FindsWord ys → AllByRecursion FindsWord (xs ++ ys)
+pub finds-append : (xs ys : List WordStep) → AllByRecursion FindsWord xs → AllByRecursion FindsWord ys
+    → AllByRecursion FindsWord (xs ++ ys)
 finds-append [] ys a b = b
 finds-append (x ∷ xs) ys a b = (a.0, finds-append xs ys a.1 b)
 
@@ -31,10 +33,12 @@ shape_after [] r = refl
 shape_after (step ∷ steps) r = shape_after steps (record_after (Word step) r)
 
 -- what a step found of the tags held later it found of those held before
-held_earlier : {R : Type 0} (c d : Caller R) → d.shape.value ≡ c.shape.value → ((tag : ℕ) → Holds c tag → Holds d tag) → (step : WordStep)
+held_earlier : {R : Type 0} (c d : Caller R) → d.shape.value ≡ c.shape.value → ((tag : ℕ) → Holds c tag → Holds d tag)
+    → (step : WordStep)
     → FindsHeldBy d step → FindsHeldBy c step
 held_earlier c d shape kept (Claimed i mask found) f = λ tag held is.
-    ap (λ (k : Shape). bit_at found (place_of k.layout tag)) (sym shape) ∙ f tag (kept tag held) (ap (λ (k : Shape). word_of k.layout tag) shape ∙ is)
+    ap (λ (k : Shape). bit_at found (place_of k.layout tag)) (sym shape)
+    ∙ f tag (kept tag held) (ap (λ (k : Shape). word_of k.layout tag) shape ∙ is)
 held_earlier c d shape kept (Look i found) f = tt
 held_earlier c d shape kept (LookAside i found) f = tt
 held_earlier c d shape kept (Give i mask found) f = tt
@@ -42,7 +46,8 @@ held_earlier c d shape kept (Put i mask found) f = tt
 held_earlier c d shape kept (Swap i found) f = tt
 held_earlier c d shape kept (Spill i mask found) f = tt
 
-all_earlier : {R : Type 0} (c d : Caller R) → d.shape.value ≡ c.shape.value → ((tag : ℕ) → Holds c tag → Holds d tag) → (xs ys : List WordStep)
+all_earlier : {R : Type 0} (c d : Caller R) → d.shape.value ≡ c.shape.value → ((tag : ℕ) → Holds c tag → Holds d tag)
+    → (xs ys : List WordStep)
     → AllByRecursion (FindsHeldBy c) xs → AllByRecursion (FindsHeldBy d) ys → AllByRecursion (FindsHeldBy c) (xs ++ ys)
 all_earlier c d shape kept [] [] a b = tt
 all_earlier c d shape kept [] (y ∷ ys) a b = (held_earlier c d shape kept y b.0, all_earlier c d shape kept [] ys a b.1)
@@ -53,12 +58,14 @@ pub adds_nothing : {R : Type 0} (c : Caller R) → AddsAll [] c c
 adds_nothing c = record { known = refl; kept = λ tag held. (held, refl); finds = tt; finds_held = tt; same_map = refl }
 
 -- the steps of two calls
-pub adds_on : {R : Type 0} (c d e : Caller R) (xs ys : List WordStep) → AddsAll xs c d → AddsAll ys d e → AddsAll (xs ++ ys) c e
+pub adds_on : {R : Type 0} (c d e : Caller R) (xs ys : List WordStep) → AddsAll xs c d → AddsAll ys d e
+    → AddsAll (xs ++ ys) c e
 adds_on c d e xs ys a b = record {
   known = b.known ∙ ap (record_after_all ys) a.known ∙ sym (record_after-append xs ys (record_of c));
   kept = λ tag held. let once = a.kept tag held in let twice = b.kept tag once.0 in (twice.0, twice.1 ∙ once.1);
   finds = finds-append xs ys a.finds b.finds;
-  finds_held = all_earlier c d (ap (λ (r : Record _). r.shape) a.known ∙ shape_after xs (record_of c)) (λ tag held. (a.kept tag held).0) xs ys a.finds_held b.finds_held;
+  finds_held = all_earlier c d (ap (λ (r : Record _). r.shape) a.known ∙ shape_after xs (record_of c))
+      (λ tag held. (a.kept tag held).0) xs ys a.finds_held b.finds_held;
   same_map = b.same_map ∙ a.same_map;
 }
 
@@ -67,7 +74,8 @@ pub through_nothing : {R : Type 0} (p : Shared R) → AddsThrough p [] p
 through_nothing p = record { added = adds_nothing p.caller.now; map = refl; lent = refl }
 
 -- the steps of two calls through one port
-pub through_more : {R : Type 0} (p q r : Shared R) (xs ys : List WordStep) → AddsThrough p xs q → AddsThrough q ys r → AddsThrough p (xs ++ ys) r
+pub through_more : {R : Type 0} (p q r : Shared R) (xs ys : List WordStep) → AddsThrough p xs q → AddsThrough q ys r
+    → AddsThrough p (xs ++ ys) r
 through_more p q r xs ys a b = record {
   added = adds_on p.caller.now q.caller.now r.caller.now xs ys a.added b.added;
   map = b.map ∙ a.map;

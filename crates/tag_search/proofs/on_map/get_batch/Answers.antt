@@ -9,7 +9,8 @@ use Rattle.tag_search.proofs.on_map.get_batch.Goals as goal
 
 pub returns-clause-gains : goal.returns-clause-gains
 returns-clause-gains g c = let made = c.new.ensures.lent in elim (cases_Bool c.args.hint.now.round_robin) [
-  | inl round ↦ (let none = c.get_batch.ensures.round_robin round in let kept = ap (λ (p : Shared g.row.R.Denot). p.caller.ghost_name) none.1 in
+  | inl round ↦ (let none = c.get_batch.ensures.round_robin round in
+      let kept = ap (λ (p : Shared g.row.R.Denot). p.caller.ghost_name) none.1 in
       let same = ap (λ (p : Shared g.row.R.Denot). p.caller.now) none.1 ∙ c.new.ensures.caller in
       let done = none_got (layout_of c.args.map.now) c.get_batch.result c.args.caller.now c.get_batch.new.port.caller.now none.0 same in search rules)
   | inr plain ↦ IfOk-weaker c.get_batch.result _ _ (λ answer a. let kept = a.added.lent in
