@@ -11,6 +11,7 @@ pub mod Sweeps
 pub mod Alone
 pub mod Choices
 pub mod GetFacts
+pub mod Wholes
 pub mod BatchAlone
 pub mod Batches
 pub mod Held

@@ -17,6 +17,7 @@ mod search;
 mod shared;
 #[cfg(test)]
 mod tests;
+mod whole;
 
 pub use hint::{Hint, after_clear};
 pub use laws::{lone_batches_choose, lone_gets_choose};
