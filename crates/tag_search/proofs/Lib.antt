@@ -11,6 +11,7 @@ pub mod Sweeps
 pub mod Alone
 pub mod Choices
 pub mod GetFacts
+pub mod Wholes
 pub mod BatchAlone
 pub mod Batches
 pub mod Held
@@ -24,3 +25,7 @@ pub mod SharedFacts
 pub mod OneTag
 pub mod RunFacts
 pub mod LoneFacts
+pub mod LoneCallers
+pub mod Freshness
+pub mod HeldFacts
+pub mod MapGets

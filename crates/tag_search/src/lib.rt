@@ -5,6 +5,7 @@ mod batch;
 mod choosing;
 mod hint;
 mod laws;
+pub mod on_map;
 mod pass;
 mod place;
 mod plain;
@@ -16,6 +17,7 @@ mod search;
 mod shared;
 #[cfg(test)]
 mod tests;
+mod whole;
 
 pub use hint::{Hint, after_clear};
 pub use laws::{lone_batches_choose, lone_gets_choose};

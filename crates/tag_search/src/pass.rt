@@ -79,8 +79,8 @@ pub fn visit<P: Port>(port: &mut P, word: u32, rank: Rank) -> Option<u32>
 }
 
 /// The part of a visit behind a pass that won nothing.
-#[inline(never)]
-fn retry<P: Port>(port: &mut P, word: u32, rank: Rank) -> Option<u32>
+#[inline]
+pub fn retry<P: Port>(port: &mut P, word: u32, rank: Rank) -> Option<u32>
     requires port { P.ready port.old }
     requires word { word < words (P.sizes port.old) }
     requires room { P.has_room port.old 1 }

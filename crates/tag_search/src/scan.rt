@@ -1,5 +1,5 @@
 //! The visits of a search over all words.
-ghost use Rattle.std.specs.Prelude.{◌≡◌, ℕ, ◌<◌, ◌≤◌, ◌-◌, map, All, IfSome, IfNone};
+ghost use Rattle.std.specs.Prelude.{◌≡◌, ℕ, ◌<◌, ◌≤◌, ◌-◌, map, All, IfSome, IfNone, false};
 ghost use Rattle.tag_layout.specs.Layout.{words, word_of, word_depth};
 ghost use Rattle.tag_search.specs.Order.{numbers};
 ghost use Rattle.tag_search.specs.Search.{IsSearch};
@@ -52,6 +52,21 @@ impl Scan {
         }
     }
 
+    /// The scan of whole words from one on.
+    pub fn of_words(layout: Layout, first: u32) -> Scan
+        ensures layout { result.layout ≡ layout }
+        ensures first { result.first ≡ first }
+        ensures reach { reach_of result ≡ plain_reach layout false 0 }
+    {
+        Scan {
+            layout,
+            first,
+            start: 0,
+            shallow: None,
+            wrap: true,
+        }
+    }
+
     /// The scan of a search of this depth, from a hint below the map's depth (0 where there are no tags).
     #[inline]
     pub fn shallow(layout: Layout, depth: u32, from: u32) -> Scan
@@ -98,7 +113,7 @@ impl Scan {
 
     /// Visits the words from one on up to the end, until a visit wins a tag.
     #[inline]
-    fn visit_between<P: Port>(&self, port: &mut P, from: u32, end: u32) -> Option<u32>
+    pub fn visit_between<P: Port>(&self, port: &mut P, from: u32, end: u32) -> Option<u32>
         requires port { P.ready port.old }
         requires layout { P.sizes port.old ≡ self.now.layout }
         requires words { end ≤ words self.now.layout }

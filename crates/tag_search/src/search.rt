@@ -1,6 +1,7 @@
 //! Gets: the search for a free tag, from a caller's hint.
-ghost use Rattle.std.specs.Prelude.{◌≡◌, ℕ, ◌↔◌, ◌⊎◌, ◌<◌, ◌≤◌, ◌+◌, false, IsTrue, IsOk, IfOk, IfSome, OnErr};
-ghost use Rattle.tag_layout.specs.Layout.{Layout as Sizes, word_bits, word_of};
+ghost use Rattle.std.specs.Prelude.{◌≡◌, ℕ, ◌↔◌, ◌⊎◌, ◌<◌, ◌≤◌, ◌+◌, ◌-◌, false, IsTrue, IsOk, IfOk, IfSome, OnErr};
+ghost use Rattle.tag_layout.specs.Layout.{Layout as Sizes, word_bits, word_of, words};
+ghost use Rattle.tag_search.specs.Search.{IsSearch};
 ghost use Rattle.tag_search.specs.Added.{Adds};
 ghost use Rattle.tag_search.specs.Gets.{IsGet};
 ghost use Rattle.tag_search.specs.Batch.{IsBatchGet};
@@ -12,7 +13,9 @@ use crate::batch::search_run;
 use crate::hint::Hint;
 use crate::port::Port;
 use crate::scan::Scan;
+use crate::whole::search_whole;
 use tag_core::Spent;
+use tag_layout::Layout;
 
 /// A free tag, which is the caller's from now on. `None` says that each place looked at was found taken during the
 /// call, not that all were taken at one moment.
@@ -34,9 +37,46 @@ pub fn get<P: Port>(port: &mut P, hint: &mut Hint) -> Result<Option<u32>, Spent>
     }
     let layout = port.layout();
     let from = hint.reduced(layout.depth());
-    let answer = Scan::plain(layout, hint.round_robin, from).search(port);
+    let answer = search_plain(port, layout, hint.round_robin, from);
     hint.follow(layout.depth(), from, answer);
     Ok(answer)
+}
+
+/// The search of a plain get, from a hint below the depth (0 where there are no tags).
+#[inline]
+fn search_plain<P: Port>(port: &mut P, layout: Layout, round_robin: bool, from: u32) -> Option<u32>
+    requires port { P.ready port.old }
+    requires layout { P.sizes port.old ≡ layout }
+    requires from { from ≤ layout.depth - 1 }
+    requires room { P.has_room port.old 1 }
+    ensures port { P.ready port.new }
+    ensures sizes { P.sizes port.new ≡ P.sizes port.old }
+    ensures shift { layout.shift ≤ 6 }
+    ensures first { word_of layout from ≤ words layout }
+    ensures tag { IfSome result (λ tag. tag < layout.depth) }
+    ensures search { Adds P.adds port.old port.new (λ steps. IsSearch layout (plain_visits layout round_robin from) steps result) }
+{
+    if round_robin || from >= layout.depth() {
+        return search_scan(port, layout, round_robin, from);
+    }
+    search_whole(port, layout, layout.word_of(from))
+}
+
+/// As `search_plain`, for every plain search.
+#[inline(never)]
+fn search_scan<P: Port>(port: &mut P, layout: Layout, round_robin: bool, from: u32) -> Option<u32>
+    requires port { P.ready port.old }
+    requires layout { P.sizes port.old ≡ layout }
+    requires from { from ≤ layout.depth - 1 }
+    requires room { P.has_room port.old 1 }
+    ensures port { P.ready port.new }
+    ensures sizes { P.sizes port.new ≡ P.sizes port.old }
+    ensures shift { layout.shift ≤ 6 }
+    ensures first { word_of layout from ≤ words layout }
+    ensures tag { IfSome result (λ tag. tag < layout.depth) }
+    ensures search { Adds P.adds port.old port.new (λ steps. IsSearch layout (plain_visits layout round_robin from) steps result) }
+{
+    Scan::plain(layout, round_robin, from).search(port)
 }
 
 /// As `get`, over so many tags of the whole map alone, of which each word has its share. Some words may have none.

@@ -1,0 +1,60 @@
+-- A plain search that does not go round, from its first word on.
+use Rattle.std.proofs.Common.{◌≡◌, ℕ, ◌+◌, ◌<◌, ◌≤◌, Bool, true, false, cond, nat_eq, List, [], ◌∷◌, ◌++◌, map, Option, Some, None, arith, refl, sym, ap, ◌∙◌, subst}
+use Rattle.std.proofs.lemmas.List.{append_assoc}
+use Rattle.tag_core.specs.declared.word_step.WordStep.{WordStep}
+use Rattle.tag_layout.specs.Layout.{Layout, words, word_depth, tag_at}
+use Rattle.tag_search.specs.Order.{numbers, scan_order}
+use Rattle.tag_search.specs.Visits.{Reach, visit_of, visits, plain_reach}
+use Rattle.tag_search.specs.Search.{Visit, IsPass, IsRetry, IsVisit, at_once, retried, IsSearch, won, passed}
+use Rattle.tag_search.proofs.Orders.{numbers-cons}
+use Rattle.tag_search.proofs.Searches.{visits-split}
+
+start-same : (b : Bool) → let z : ℕ = 0 in z ≡ cond b z z
+start-same true = refl
+start-same false = refl
+
+-- a search as the scan has it
+pub scanned : (m l : Layout) (one first : ℕ) (had reach : Reach) (a e end : ℕ) (steps : List WordStep)
+    (answer : Option ℕ) → m ≡ l → one ≡ first → had ≡ reach → e ≡ end
+    → IsSearch m (map (visit_of one had) (numbers a e)) steps answer
+    → IsSearch l (map (visit_of first reach) (numbers a end)) steps answer
+scanned m l one first had reach a e end steps answer p q r s search =
+    let i = subst (λ (x : Layout). IsSearch x (map (visit_of one had) (numbers a e)) steps answer) p search in
+    let j = subst (λ (x : ℕ). IsSearch l (map (visit_of x had) (numbers a e)) steps answer) q i in
+    let k = subst (λ (x : Reach). IsSearch l (map (visit_of first x) (numbers a e)) steps answer) r j in
+    subst (λ (x : ℕ). IsSearch l (map (visit_of first reach) (numbers a x)) steps answer) s k
+
+module _ (l : Layout) (first : ℕ) (h : first < words l) where
+  abbrev of : ℕ → Visit
+  of = visit_of first (plain_reach l false 0)
+
+  abbrev pub places : List ℕ
+  places = scan_order 0 (word_depth l first) true
+
+  abbrev pub others : List Visit
+  others = map of (numbers (first + 1) (words l)) ++ map of (numbers 0 first)
+
+  visit-is : (steps : List WordStep) (answer : Option ℕ) → IsVisit first places steps answer
+      → IsVisit first (of first).rank steps answer
+  visit-is steps answer = subst (λ (s : ℕ). IsVisit first (scan_order s (word_depth l first) true) steps answer)
+      (start-same (nat_eq first first))
+
+  visits-are : visits l first (plain_reach l false 0) ≡ of first ∷ others
+  visits-are =
+      visits-split l first (plain_reach l false 0) (omega arith)
+      ∙ ap (λ (is : List ℕ). map of is ++ map of (numbers 0 first)) (numbers-cons first (words l) h)
+
+  -- the first word has the tag
+  pub whole_won : (steps : List WordStep) (place : ℕ) → IsVisit first places steps (Some place)
+      → IsSearch l (visits l first (plain_reach l false 0)) steps (Some (tag_at l first place))
+  whole_won steps place v =
+      subst (λ vs. IsSearch l vs steps (Some (tag_at l first place))) (sym visits-are)
+      (won {visit = of first} (visit-is steps (Some place) v))
+
+  -- it has none
+  pub whole_passed : (steps more : List WordStep) (answer : Option ℕ) → IsVisit first places steps None
+      → IsSearch l others more answer
+      → IsSearch l (visits l first (plain_reach l false 0)) (steps ++ more) answer
+  whole_passed steps more answer v search =
+      subst (λ vs. IsSearch l vs (steps ++ more) answer) (sym visits-are)
+      (passed {visit = of first} (visit-is steps None v) search)
