@@ -8,6 +8,7 @@ use crate::options::Options;
 use std::thread::Threads;
 use std::time::Clock;
 use tag_core::{Caller, Map};
+use tag_search::{Hint, on_map};
 
 /// Tags of the map: 16 words of 64.
 const DEPTH: u32 = 1_024;
@@ -129,14 +130,16 @@ fn claim(map: &Map<u64>, caller: &mut Caller<u64>, tag: u32) -> bool
     map.claim(caller, layout.word_of(tag), bit).is_ok() && caller.holds(tag)
 }
 
-/// Frees a held tag at once.
+// Frees a held tag at once. Nobody searches here, so its hint goes unused.
 #[inline]
-pub(crate) fn give(map: &Map<u64>, caller: &mut Caller<u64>, tag: u32)
+fn give(map: &Map<u64>, caller: &mut Caller<u64>, tag: u32)
     requires caller { IsCallerOf map.now caller.old }
     requires held { Holds caller.old tag }
     ensures { IsCallerOf map.now caller.new }
 {
-    let layout = map.layout();
-    let bit = 1u64 << layout.place_of(tag);
-    map.give(caller, layout.word_of(tag), bit);
+    let mut unused = Hint {
+        at: 0,
+        round_robin: true,
+    };
+    on_map::give(map, caller, &mut unused, tag);
 }

@@ -1,15 +1,13 @@
 //! The workload `shared`: callers get tags of the shared map, and clear them.
-ghost use Rattle.std.specs.Prelude.{IfOk, IfSome};
-ghost use Rattle.tag_core.specs.Callers.{IsCallerOf, Holds};
+ghost use Rattle.tag_core.specs.Callers.{IsCallerOf};
 
 use crate::callers::{Clear, Plan, Take, carry_out};
-use crate::claims::give;
 use crate::measure::{Failed, print_case};
 use crate::options::Options;
 use std::thread::Threads;
 use std::time::Clock;
-use tag_core::{Caller, Map, Spent};
-use tag_search::{Hint, Shared, after_clear, get};
+use tag_core::{Caller, Map};
+use tag_search::{Hint, on_map};
 
 /// Tags of the map where no count is asked for: 16 words of 64.
 const DEPTH: u32 = 1_024;
@@ -84,9 +82,8 @@ fn put_often(map: &Map<u64>, caller: &mut Caller<u64>, from: Hint, rounds: u32)
 {
     let mut hint = from;
     for _ in 0..rounds {
-        if let Ok(Some(tag)) = get_one(map, caller, &mut hint) {
-            map.put(caller, tag);
-            after_clear(&mut hint, tag);
+        if let Ok(Some(tag)) = on_map::get(map, caller, &mut hint) {
+            on_map::put(map, caller, &mut hint, tag);
         }
     }
 }
@@ -98,19 +95,8 @@ fn give_often(map: &Map<u64>, caller: &mut Caller<u64>, from: Hint, rounds: u32)
 {
     let mut hint = from;
     for _ in 0..rounds {
-        if let Ok(Some(tag)) = get_one(map, caller, &mut hint) {
-            give(map, caller, tag);
-            after_clear(&mut hint, tag);
+        if let Ok(Some(tag)) = on_map::get(map, caller, &mut hint) {
+            on_map::give(map, caller, &mut hint, tag);
         }
     }
-}
-
-// A get. The tag that it answers is the caller's from then on.
-#[inline]
-fn get_one(map: &Map<u64>, caller: &mut Caller<u64>, hint: &mut Hint) -> Result<Option<u32>, Spent>
-    requires caller { IsCallerOf map.now caller.old }
-    ensures caller { IsCallerOf map.now caller.new }
-    ensures held { IfOk result (λ answer. IfSome answer (Holds caller.new)) }
-{
-    get(&mut Shared::new(map, caller), hint)
 }

@@ -44,7 +44,7 @@ abbrev pub batch_words : Layout → ℕ → List ℕ
 batch_words l first = scan_order first (words l) true
 
 -- the steps are a visit of each word cyclically from the first, up to one that wins; where nobody else stepped the answer
--- and what they leave are the choice; and they are few
+-- and what they leave are the choice; and they are few, not counting loads that stand in no list
 pub record IsBatchGet (l : Layout) (n first : ℕ) (answer : Option (ℕ × ℕ)) (steps : List WordStep) : Type 0 where
   pub search : IsBatchSearch l n (batch_words l first) steps answer
   pub alone : (w : Words) → Quiet steps w → IsBatchChoice l n (pool_of w) (batch_words l first) answer (pool_of (words_after_all steps w))

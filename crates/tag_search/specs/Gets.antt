@@ -8,7 +8,8 @@ use Rattle.tag_search.specs.Choice.{IsChoice}
 use Rattle.tag_search.specs.Search.{Visit, IsSearch}
 
 -- the steps are these visits and give this answer; where nobody else stepped it is the choice, and what they leave is what
--- the choice leaves; and they are at most two claims of each tag and four steps more a word
+-- the choice leaves; and they are at most two claims of each tag and four steps more a word, not counting loads that stand in
+-- no list
 pub record IsGet (l : Layout) (visits : List Visit) (answer : Option ℕ) (steps : List WordStep) : Type 0 where
   pub search : IsSearch l visits steps answer
   pub alone : (w : Words) → Quiet steps w → IsChoice l (pool_of w) visits answer (pool_of (words_after_all steps w))
