@@ -10,9 +10,11 @@ kernel=$out/$linux
 crates=$out/usr/share/cargo/registry
 
 # Packages are downloaded once. They are unpacked here, and nothing is installed.
+download() {
+  (cd "$out" && apt-get download -qq -o APT::Sandbox::User=root "$1")
+}
 fetch() {
-  ls "$out/$1"_*.deb > "$out/found" 2> /dev/null && return
-  (cd "$out" && { apt-get download -qq "$1" || { apt-get update -qq && apt-get download -qq "$1"; }; })
+  compgen -G "$out/${1}_*.deb" > /dev/null || download "$1" || { apt-get update -qq && download "$1"; }
 }
 
 if [ ! -e "$kernel/include/linux/find.h" ]; then
@@ -61,4 +63,4 @@ library crossbeam_queue "$(basename "$crates"/crossbeam-queue-*)" --cfg 'feature
   --extern "cfg_if=$out/libcfg_if.rlib" --extern "crossbeam_utils=$out/libcrossbeam_utils.rlib"
 rust --edition 2021 --cap-lints warn --crate-name contenders --extern "crossbeam_queue=$out/libcrossbeam_queue.rlib" \
   -l static=sbitmap "$here/main.rs"
-sed -n 's/^Version: /linux-source-6.12 /p' <(dpkg-deb -I "$out/$linux"_*.deb | sed 's/^ //') > "$out/version"
+echo "$linux $(dpkg-deb -f "$out/$linux"_*.deb Version)" > "$out/version"
