@@ -43,6 +43,6 @@ for ((repetition = 1; repetition <= repetitions; repetition++)); do
 done
 echo "$(date +%F), $(rt version), $(rustc --version), $(gcc --version | head -n 1), $(cat "$out/version")"
 echo "$(nproc) processors of $(sed -n 's/^model name.*: //p' /proc/cpuinfo | head -n 1), load $load at the start," \
-  "$repetitions repetitions of $rounds rounds"
+  "repetitions $repetitions, rounds $rounds"
 echo
 python3 bench/kernel/report.py "$out/kernel.json" "$out/kernel.svg"
