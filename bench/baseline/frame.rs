@@ -1,4 +1,5 @@
 //! The frame of each case: threads that work at once, several runs of them, and a line.
+use crate::clock::processor_time;
 use std::sync::atomic::{AtomicU64, Ordering::SeqCst};
 use std::thread;
 use std::time::{Duration, Instant};
@@ -37,35 +38,52 @@ impl Options {
     }
 }
 
-/// Who is measured, and at what. The case is named as `tag_bench` names it.
+/// Who is measured, and at what. The workload and the case are named as `tag_bench` names them.
 pub struct Case<'a> {
     pub contender: &'a str,
+    pub workload: &'a str,
     pub name: String,
     pub threads: u32,
+}
+
+/// What one run took.
+struct Run {
+    /// By the clock.
+    clock: Duration,
+    /// Processor time of all threads together.
+    processor: Duration,
 }
 
 impl Case<'_> {
     /// Measures the work of the threads, each of which is given its index and answers how many operations it made.
     pub fn measure(&self, work: impl Fn(u32) -> u64 + Sync) {
         let done = AtomicU64::new(0);
-        let mut runs: Vec<Duration> = (0..RUNS).map(|_| self.time(&work, &done)).collect();
-        runs.sort();
+        let runs: Vec<Run> = (0..RUNS).map(|_| self.time(&work, &done)).collect();
         let operations = done.into_inner() / (RUNS as u64 * u64::from(self.threads));
-        let each = |run: usize| runs[run].as_nanos() as f64 / operations.max(1) as f64;
+        let sorted = |time: fn(&Run) -> Duration| {
+            let mut times: Vec<f64> = runs.iter().map(|run| time(run).as_nanos() as f64).collect();
+            times.sort_by(f64::total_cmp);
+            move |run: usize| times[run] / operations.max(1) as f64
+        };
+        let clock = sorted(|run| run.clock);
+        let processor = sorted(|run| run.processor);
         println!(
-            "{{\"contender\":\"{}\",\"case\":\"{}\",\"threads\":{},\"ns\":{:.2},\"least\":{:.2},\"most\":{:.2}}}",
+            "{{\"contender\":\"{}\",\"workload\":\"{}\",\"case\":\"{}\",\"threads\":{},\"ns\":{:.2},\"least\":{:.2},\"most\":{:.2},\"processor\":{:.2}}}",
             self.contender,
+            self.workload,
             self.name,
             self.threads,
-            each(RUNS / 2),
-            each(0),
-            each(RUNS - 1)
+            clock(RUNS / 2),
+            clock(0),
+            clock(RUNS - 1),
+            processor(RUNS / 2) / f64::from(self.threads)
         );
     }
 
     /// One run. As in `tag_bench`, the first thread is the caller's own.
-    fn time(&self, work: &(impl Fn(u32) -> u64 + Sync), done: &AtomicU64) -> Duration {
+    fn time(&self, work: &(impl Fn(u32) -> u64 + Sync), done: &AtomicU64) -> Run {
         let run = move |index: u32| done.fetch_add(work(index), SeqCst);
+        let processor = processor_time();
         let start = Instant::now();
         thread::scope(|scope| {
             for index in 1..self.threads {
@@ -73,6 +91,9 @@ impl Case<'_> {
             }
             run(0);
         });
-        start.elapsed()
+        Run {
+            clock: start.elapsed(),
+            processor: processor_time().saturating_sub(processor),
+        }
     }
 }

@@ -1,5 +1,6 @@
 //! What the library is compared with: the same steps and rules in plain Rust, with no record of who holds what, and other
 //! ways to keep free tags. `main WORKLOAD [--threads N] [--depth N] [--rounds N]` prints a line of JSON a case.
+mod clock;
 mod frame;
 mod map;
 mod plain;

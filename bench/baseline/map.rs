@@ -25,6 +25,7 @@ fn run_clear<S: Steps, const PUT: bool>(options: &Options, clear: &str) {
             let laps = options.rounds.div_ceil(u64::from(TAGS));
             let case = Case {
                 contender: S::NAME,
+                workload: "map",
                 name: format!("claim and {clear}, {stride} apart"),
                 threads,
             };

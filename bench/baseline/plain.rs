@@ -47,6 +47,7 @@ fn run_depth(options: &Options, depth: u32) {
         let words = Mutex::new(prepare(depth, free));
         let case = Case {
             contender: "plain numbers",
+            workload: "plain",
             name: format!("get and put, {free} of {depth} free"),
             threads: 1,
         };

@@ -107,6 +107,7 @@ fn run_clear<T: Tags, const PUT: bool>(options: &Options, clear: &str) {
             let tags = T::open(depth);
             let case = Case {
                 contender: T::NAME,
+                workload: "shared",
                 name: format!("get and {clear}, hints {hints}, depth {depth}"),
                 threads,
             };

@@ -26,6 +26,7 @@ pub fn run(options: &Options) {
 fn case(name: &str, threads: u32) -> Case<'static> {
     Case {
         contender: "atomics",
+        workload: "wakes",
         name: name.to_string(),
         threads,
     }

@@ -2,11 +2,11 @@
 ghost use Rattle.std.specs.Prelude.{◌+◌, ◌<◌, ◌≤◌, IsTrue};
 ghost use Rattle.tag_core.specs.Callers.{layout_of, IsCallerOf, Holds};
 
-use crate::callers::{Clear, Plan, Take, carry_out};
+use crate::callers::{Clear, Plan, Task, carry_out};
 use crate::measure::{Failed, print_case};
 use crate::options::Options;
 use std::thread::Threads;
-use std::time::Clock;
+use std::time::{Clock, CpuClock};
 use tag_core::{Caller, Map};
 use tag_search::{Hint, on_map};
 
@@ -20,7 +20,7 @@ const TAGS: u32 = 16;
 const STRIDES: [u32; 2] = [64, TAGS];
 
 /// Runs each case.
-pub(crate) fn run<R: AllocGlobal + Threads + Sync + Print + Clock>(
+pub(crate) fn run<R: AllocGlobal + Threads + Sync + Print + Clock + CpuClock>(
     rt: &R,
     options: &Options,
 ) -> Result<(), Failed> {
@@ -28,7 +28,7 @@ pub(crate) fn run<R: AllocGlobal + Threads + Sync + Print + Clock>(
         for stride in STRIDES {
             for &threads in options.threads.iter() {
                 let plan = Plan {
-                    take: Take::Claim,
+                    task: Task::Claim,
                     clear,
                     depth: DEPTH,
                     threads,

@@ -1,11 +1,11 @@
 //! The workload `shared`: callers get tags of the shared map, and clear them.
 ghost use Rattle.tag_core.specs.Callers.{IsCallerOf};
 
-use crate::callers::{Clear, Plan, Take, carry_out};
+use crate::callers::{Clear, Plan, Task, carry_out};
 use crate::measure::{Failed, print_case};
 use crate::options::Options;
 use std::thread::Threads;
-use std::time::Clock;
+use std::time::{Clock, CpuClock};
 use tag_core::{Caller, Map};
 use tag_search::{Hint, on_map};
 
@@ -13,7 +13,7 @@ use tag_search::{Hint, on_map};
 const DEPTH: u32 = 1_024;
 
 /// Runs each case.
-pub(crate) fn run<R: AllocGlobal + Threads + Sync + Print + Clock>(
+pub(crate) fn run<R: AllocGlobal + Threads + Sync + Print + Clock + CpuClock>(
     rt: &R,
     options: &Options,
 ) -> Result<(), Failed> {
@@ -28,7 +28,7 @@ pub(crate) fn run<R: AllocGlobal + Threads + Sync + Print + Clock>(
 }
 
 // Where the hints are apart, each caller begins in a part of the map of its own; else all begin at tag 0.
-fn run_case<R: AllocGlobal + Threads + Sync + Print + Clock>(
+fn run_case<R: AllocGlobal + Threads + Sync + Print + Clock + CpuClock>(
     rt: &R,
     options: &Options,
     clear: Clear,
@@ -37,7 +37,7 @@ fn run_case<R: AllocGlobal + Threads + Sync + Print + Clock>(
 ) -> Result<(), Failed> {
     let depth = options.depth.unwrap_or(DEPTH);
     let plan = Plan {
-        take: Take::Get,
+        task: Task::Get,
         clear,
         depth,
         threads,

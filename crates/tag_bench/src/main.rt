@@ -4,22 +4,27 @@
 //! whatever the schedule. With `--measure` it prints nanoseconds per operation, the median of seven runs.
 #![tactic(auto)]
 
+mod batches;
 mod callers;
 mod claims;
 mod gets;
 mod measure;
 mod options;
+mod pipes;
 mod plain;
+mod rounds;
+mod traffic;
 mod wakes;
 
 use crate::measure::Failed;
 use crate::options::{Options, Workload};
+use crate::traffic::TRAFFIC;
 use clap::error::ErrorKind;
 use std::env;
 use std::process::ExitCode;
 use std::rt::Env;
 use std::thread::Threads;
-use std::time::Clock;
+use std::time::{Clock, CpuClock};
 
 fn main(rt: HostRuntime) -> ExitCode {
     match play(&rt) {
@@ -32,7 +37,7 @@ fn main(rt: HostRuntime) -> ExitCode {
 }
 
 // Runs what the command line asks for. Answers the exit status.
-fn play<R: AllocGlobal + Env + Threads + Sync + Clock + Print + Eprint>(
+fn play<R: AllocGlobal + Env + Threads + Sync + Clock + CpuClock + Print + Eprint>(
     rt: &R,
 ) -> Result<u8, Failed> {
     let words: Vec<String> = env::args(rt)?.collect(rt.alloc())?;
@@ -51,7 +56,7 @@ fn play<R: AllocGlobal + Env + Threads + Sync + Clock + Print + Eprint>(
 }
 
 // Runs the workload that was asked for, or each.
-fn run<R: AllocGlobal + Threads + Sync + Clock + Print>(
+fn run<R: AllocGlobal + Threads + Sync + Clock + CpuClock + Print>(
     rt: &R,
     options: &Options,
 ) -> Result<(), Failed> {
@@ -60,11 +65,16 @@ fn run<R: AllocGlobal + Threads + Sync + Clock + Print>(
         Some(Workload::Map) => claims::run(rt, options),
         Some(Workload::Shared) => gets::run(rt, options),
         Some(Workload::Wakes) => wakes::run(rt, options),
+        Some(Workload::Traffic(traffic)) => traffic::run(rt, options, traffic),
         None => {
             plain::run(rt, options)?;
             claims::run(rt, options)?;
             gets::run(rt, options)?;
-            wakes::run(rt, options)
+            wakes::run(rt, options)?;
+            for traffic in TRAFFIC {
+                traffic::run(rt, options, traffic)?;
+            }
+            Ok(())
         }
     }
 }

@@ -2,7 +2,7 @@
 use crate::options::Show;
 use std::alloc::AllocError;
 use std::fmt::Display;
-use std::time::Duration;
+use std::time::{Clock, CpuClock, Duration, Instant};
 use std::{fmt, io};
 use tag_core::OpenFault;
 use tag_layout::LayoutFault;
@@ -60,11 +60,51 @@ impl From<io::Error> for Failed {
     }
 }
 
+/// What one run took.
+#[derive(Clone, Copy, Debug)]
+pub(crate) struct Run {
+    /// By the clock.
+    pub clock: Duration,
+    /// Processor time of all threads together.
+    pub processor: Duration,
+}
+
+impl Run {
+    /// A run that took no time.
+    pub(crate) const ZERO: Run = Run {
+        clock: Duration::ZERO,
+        processor: Duration::ZERO,
+    };
+}
+
+/// Both clocks as a run begins.
+#[derive(Clone, Copy, Debug)]
+pub(crate) struct Watch {
+    start: Instant,
+    processor: Duration,
+}
+
+impl Watch {
+    /// A run begins.
+    pub(crate) fn start(rt: &(impl Clock + CpuClock)) -> io::Result<Watch> {
+        let processor = rt.process_cpu_time()?;
+        let start = Instant::now(rt)?;
+        Ok(Watch { start, processor })
+    }
+
+    /// What the run took.
+    pub(crate) fn stop(self, rt: &(impl Clock + CpuClock)) -> io::Result<Run> {
+        let clock = self.start.elapsed(rt)?;
+        let processor = rt.process_cpu_time()?.saturating_sub(self.processor);
+        Ok(Run { clock, processor })
+    }
+}
+
 /// What the runs of one case took.
 #[derive(Clone, Copy, Debug)]
 pub(crate) struct Times {
     /// Of each run.
-    pub runs: [Duration; RUNS],
+    pub runs: [Run; RUNS],
     /// Operations of one thread in one run.
     pub operations: u64,
 }
@@ -88,6 +128,20 @@ impl Times {
         let nanoseconds = seconds * 1_000_000_000 + u64::from(run.subsec_nanos());
         Hundredths(nanoseconds * 100 / self.operations.max(1))
     }
+
+    // The runs by the clock, shortest first.
+    fn clocks(self) -> [Duration; RUNS] {
+        let mut clocks = self.runs.map(|run| run.clock);
+        clocks.sort_unstable();
+        clocks
+    }
+
+    // Processor time of one thread, in the run that is the median.
+    fn processor(self, threads: u32) -> Duration {
+        let mut all = self.runs.map(|run| run.processor);
+        all.sort_unstable();
+        all[RUNS / 2] / threads.max(1)
+    }
 }
 
 /// Prints a line of one case: what an operation of one thread took, or what holds of the case.
@@ -100,18 +154,18 @@ pub(crate) fn print_case(
     times: Times,
     facts: impl Display + Drop,
 ) -> io::Result<()> {
-    let mut runs = times.runs;
-    runs.sort_unstable();
-    let least = times.per_operation(runs[0]);
-    let median = times.per_operation(runs[RUNS / 2]);
-    let most = times.per_operation(runs[RUNS - 1]);
+    let clocks = times.clocks();
+    let least = times.per_operation(clocks[0]);
+    let median = times.per_operation(clocks[RUNS / 2]);
+    let most = times.per_operation(clocks[RUNS - 1]);
+    let processor = times.per_operation(times.processor(threads));
     match show {
         Show::Facts => println!(rt; "{workload} {name}, threads={threads}: {facts}"),
-        Show::Times => {
-            println!(rt; "{workload} {name}, threads={threads}: {median} ns ({least} to {most})")
-        }
+        Show::Times => println!(rt;
+            "{workload} {name}, threads={threads}: {median} ns ({least} to {most}), processor {processor} ns"
+        ),
         Show::Json => println!(rt;
-            "{{\"workload\":\"{workload}\",\"case\":\"{name}\",\"threads\":{threads},\"ns\":{median},\"least\":{least},\"most\":{most}}}"
+            "{{\"workload\":\"{workload}\",\"case\":\"{name}\",\"threads\":{threads},\"ns\":{median},\"least\":{least},\"most\":{most},\"processor\":{processor}}}"
         ),
     }
 }

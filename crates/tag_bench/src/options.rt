@@ -1,4 +1,5 @@
 //! What the command line says.
+use crate::traffic::Traffic;
 use clap::builder::ValueParser;
 use clap::{Arg, ArgAction, ArgMatches, Command};
 use std::alloc::{AllocError, Global};
@@ -19,6 +20,8 @@ pub(crate) enum Workload {
     Shared,
     /// The active count and the charge book.
     Wakes,
+    /// Gets, touches and clears as drivers make them.
+    Traffic(Traffic),
 }
 
 /// What is printed of each case.
@@ -65,7 +68,7 @@ pub(crate) fn command<'a>(alloc: Global) -> Result<Command<'a>, AllocError> {
     let wakes = Command::new(alloc, "wakes")
         .about("Clears look at the active count, and count completions")
         .arg(threads(alloc))?;
-    Command::new(alloc, "tag_bench")
+    let command = Command::new(alloc, "tag_bench")
         .about(
             "Measures the library, workload by workload; without an option it shows that each works",
         )
@@ -75,7 +78,47 @@ pub(crate) fn command<'a>(alloc: Global) -> Result<Command<'a>, AllocError> {
         .subcommand(plain)?
         .subcommand(map)?
         .subcommand(shared)?
-        .subcommand(wakes)
+        .subcommand(wakes)?;
+    with_traffic(alloc, command)
+}
+
+// The command line with the workloads of `traffic.rt`.
+fn with_traffic<'a>(alloc: Global, command: Command<'a>) -> Result<Command<'a>, AllocError> {
+    let command = command.subcommand(traffic(
+        alloc,
+        "pair",
+        "Each caller gets a tag, touches its slot and clears it",
+    )?)?;
+    let command = command.subcommand(traffic(
+        alloc,
+        "ring",
+        "Each caller holds up to 32 tags, clears the oldest and gets another",
+    )?)?;
+    let command = command.subcommand(traffic(
+        alloc,
+        "full",
+        "As ring, where the callers hold all tags between them",
+    )?)?;
+    let command = command.subcommand(traffic(
+        alloc,
+        "pass",
+        "One caller gets tags and posts them, another takes and clears them",
+    )?)?;
+    command.subcommand(traffic(
+        alloc,
+        "batch",
+        "Each caller gets up to 8 tags side by side, and gives them back at once",
+    )?)
+}
+
+fn traffic<'a>(alloc: Global, name: &'a str, about: &'a str) -> Result<Command<'a>, AllocError> {
+    Command::new(alloc, name)
+        .about(about)
+        .arg(depth(
+            alloc,
+            "Tags of the map [default: 64, 1024 and 10240 in turn]",
+        ))?
+        .arg(threads(alloc))
 }
 
 /// The options that a command line gives.
@@ -112,6 +155,11 @@ fn workload_of(name: &str) -> Option<Workload> {
         "map" => Some(Workload::Map),
         "shared" => Some(Workload::Shared),
         "wakes" => Some(Workload::Wakes),
+        "pair" => Some(Workload::Traffic(Traffic::Pair)),
+        "ring" => Some(Workload::Traffic(Traffic::Ring)),
+        "full" => Some(Workload::Traffic(Traffic::Full)),
+        "pass" => Some(Workload::Traffic(Traffic::Pass)),
+        "batch" => Some(Workload::Traffic(Traffic::Batch)),
         _ => None,
     }
 }

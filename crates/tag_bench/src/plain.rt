@@ -1,9 +1,9 @@
 //! The workload `plain`: one caller alone gets a tag and clears it.
-use crate::measure::{Failed, RUNS, Times, print_case};
+use crate::measure::{Failed, RUNS, Run, Times, Watch, print_case};
 use crate::options::Options;
 use std::alloc::Global;
 use std::io;
-use std::time::{Clock, Duration, Instant};
+use std::time::{Clock, CpuClock};
 use tag_layout::Layout;
 use tag_search::{Hint, PlainPort, after_clear, get};
 
@@ -14,7 +14,10 @@ const SPARE: u32 = 4;
 const DEPTHS: [u32; 3] = [64, 1_024, 10_240];
 
 /// Runs each case.
-pub(crate) fn run<R: AllocGlobal + Print + Clock>(rt: &R, options: &Options) -> Result<(), Failed> {
+pub(crate) fn run<R: AllocGlobal + Print + Clock + CpuClock>(
+    rt: &R,
+    options: &Options,
+) -> Result<(), Failed> {
     if let Some(depth) = options.depth {
         return run_depth(rt, options, depth);
     }
@@ -25,19 +28,19 @@ pub(crate) fn run<R: AllocGlobal + Print + Clock>(rt: &R, options: &Options) -> 
 }
 
 // A map of this depth that is nearly empty, and one that is nearly full.
-fn run_depth<R: AllocGlobal + Print + Clock>(
+fn run_depth<R: AllocGlobal + Print + Clock + CpuClock>(
     rt: &R,
     options: &Options,
     depth: u32,
 ) -> Result<(), Failed> {
     for free in [depth, SPARE.min(depth)] {
         let mut port = prepare(rt.alloc(), depth, free)?;
-        let mut runs = [Duration::ZERO; RUNS];
+        let mut runs = [Run::ZERO; RUNS];
         let mut done = 0;
         for run in runs.iter_mut() {
-            let start = Instant::now(rt)?;
+            let watch = Watch::start(rt)?;
             done = pairs(&mut port, options.rounds);
-            *run = start.elapsed(rt)?;
+            *run = watch.stop(rt)?;
         }
         let times = Times {
             runs,

@@ -3,11 +3,11 @@ ghost use Rattle.std.specs.Prelude.{◌≡◌, ◌<◌, All, OnOk};
 ghost use Rattle.wake_book.specs.Book.{IsTellerOf};
 ghost use Rattle.wake_book.specs.Groups.{IsWaiterOf};
 
-use crate::measure::{Failed, RUNS, Times, print_case};
+use crate::measure::{Failed, RUNS, Run, Times, Watch, print_case};
 use crate::options::Options;
 use std::thread;
 use std::thread::Threads;
-use std::time::{Clock, Duration, Instant};
+use std::time::{Clock, CpuClock};
 use wake_book::{Book, Groups, Teller, Waiter};
 
 /// Completions that one charge takes.
@@ -17,7 +17,7 @@ const BATCH: u32 = 8;
 const CAP: u64 = 1 << 48;
 
 /// Runs each case.
-pub(crate) fn run<R: AllocGlobal + Threads + Sync + Print + Clock>(
+pub(crate) fn run<R: AllocGlobal + Threads + Sync + Print + Clock + CpuClock>(
     rt: &R,
     options: &Options,
 ) -> Result<(), Failed> {
@@ -31,7 +31,7 @@ pub(crate) fn run<R: AllocGlobal + Threads + Sync + Print + Clock>(
 }
 
 // Each thread looks at the active count, and nobody waits.
-fn run_looks<R: AllocGlobal + Threads + Sync + Print + Clock>(
+fn run_looks<R: AllocGlobal + Threads + Sync + Print + Clock + CpuClock>(
     rt: &R,
     options: &Options,
     threads: u32,
@@ -55,7 +55,7 @@ fn run_looks<R: AllocGlobal + Threads + Sync + Print + Clock>(
 }
 
 // Each thread counts completions, and charges where a batch is open.
-fn run_counts<R: AllocGlobal + Threads + Sync + Print + Clock>(
+fn run_counts<R: AllocGlobal + Threads + Sync + Print + Clock + CpuClock>(
     rt: &R,
     options: &Options,
     threads: u32,
@@ -84,49 +84,49 @@ fn run_counts<R: AllocGlobal + Threads + Sync + Print + Clock>(
     Ok(())
 }
 
-fn time_looks<R: Threads + Sync + Clock>(
+fn time_looks<R: Threads + Sync + Clock + CpuClock>(
     rt: &R,
     groups: &Groups,
     waiters: &mut Vec<Waiter>,
     rounds: u32,
-) -> Result<[Duration; RUNS], Failed>
+) -> Result<[Run; RUNS], Failed>
     requires { All (IsWaiterOf groups.now) waiters.old.items }
 {
-    let mut runs = [Duration::ZERO; RUNS];
+    let mut runs = [Run::ZERO; RUNS];
     for run in runs.iter_mut() {
         let threads = waiters.len().max(1);
-        let start = Instant::now(rt)?;
+        let watch = Watch::start(rt)?;
         thread::for_each_mut(
             rt,
             waiters.as_mut_slice(),
             threads,
             &|_, waiter| { look_often(groups, waiter, rounds) },
         );
-        *run = start.elapsed(rt)?;
+        *run = watch.stop(rt)?;
     }
     Ok(runs)
 }
 
-fn time_counts<R: Threads + Sync + Clock>(
+fn time_counts<R: Threads + Sync + Clock + CpuClock>(
     rt: &R,
     book: &Book,
     tellers: &mut Vec<Teller>,
     rounds: u32,
-) -> Result<[Duration; RUNS], Failed>
+) -> Result<[Run; RUNS], Failed>
     requires { All (IsTellerOf book.now) tellers.old.items }
     ensures { OnOk result (All (IsTellerOf book.now) tellers.new.items) }
 {
-    let mut runs = [Duration::ZERO; RUNS];
+    let mut runs = [Run::ZERO; RUNS];
     for run in runs.iter_mut() {
         let threads = tellers.len().max(1);
-        let start = Instant::now(rt)?;
+        let watch = Watch::start(rt)?;
         thread::for_each_mut(
             rt,
             tellers.as_mut_slice(),
             threads,
             &|_, teller| { count_often(book, teller, rounds) },
         );
-        *run = start.elapsed(rt)?;
+        *run = watch.stop(rt)?;
     }
     Ok(runs)
 }

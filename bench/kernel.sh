@@ -1,0 +1,48 @@
+#!/usr/bin/env bash
+# kernel.sh [REPETITIONS [ROUNDS]]: runs pair, ring, full, pass and batch of tag_bench and of what stands beside it in
+# alternation, seven times with 60000 rounds unless told otherwise, prints a table and draws bench/out/kernel.svg.
+# rt, gcc, rustc, python3, apt-get and dpkg-deb are on the path; the first run downloads 154 MB from Debian's archive.
+set -euo pipefail
+cd "$(dirname "$0")/.."
+repetitions=${1:-7}
+rounds=${2:-60000}
+out=bench/out
+workloads=(pair ring full pass batch)
+
+bench/kernel/build.sh "$out"
+(cd crates/tag_bench && rt run > /dev/null)
+
+# The lines of one program at one case, with the number of the repetition. A round of batch is an eighth of a call.
+measure() {
+  local count=$rounds
+  if [ "$workload" = batch ]; then count=$((8 * rounds)); fi
+  "$1" "$workload" --depth "$depth" --threads "$threads" --rounds "$count" "${@:2}" \
+    | sed "s/^{/{\"repetition\":$repetition,/" >> "$out/kernel.json"
+}
+ours() { measure crates/tag_bench/out/tag_bench --json; }
+others() { measure "$out/contenders"; }
+
+rm -f "$out/kernel.json"
+load=$(cut -d ' ' -f 1 /proc/loadavg)
+for ((repetition = 1; repetition <= repetitions; repetition++)); do
+  echo "repetition $repetition of $repetitions" >&2
+  for workload in "${workloads[@]}"; do
+    for depth in 64 1024 10240; do
+      for threads in 1 2 4; do
+        [ "$workload $threads" = "pass 1" ] && continue
+        if ((repetition % 2)); then
+          ours
+          others
+        else
+          others
+          ours
+        fi
+      done
+    done
+  done
+done
+echo "$(date +%F), $(rt version), $(rustc --version), $(gcc --version | head -n 1), $(cat "$out/version")"
+echo "$(nproc) processors of $(sed -n 's/^model name.*: //p' /proc/cpuinfo | head -n 1), load $load at the start," \
+  "repetitions $repetitions, rounds $rounds"
+echo
+python3 bench/kernel/report.py "$out/kernel.json" "$out/kernel.svg"

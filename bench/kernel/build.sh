@@ -1,0 +1,66 @@
+#!/usr/bin/env bash
+# build.sh OUT: builds what kernel.sh measures as OUT/contenders. The kernel's files and crossbeam's come from Debian's
+# packages, and are compiled as they are.
+set -euo pipefail
+here=$(cd "$(dirname "$0")" && pwd)
+out=$(mkdir -p "$1" && cd "$1" && pwd)
+linux=linux-source-6.12
+debian=(librust-cfg-if-dev librust-crossbeam-utils-dev librust-crossbeam-queue-dev)
+kernel=$out/$linux
+crates=$out/usr/share/cargo/registry
+
+# Packages are downloaded once. They are unpacked here, and nothing is installed.
+download() {
+  (cd "$out" && apt-get download -qq -o APT::Sandbox::User=root "$1")
+}
+fetch() {
+  compgen -G "$out/${1}_*.deb" > /dev/null || download "$1" || { apt-get update -qq && download "$1"; }
+}
+
+if [ ! -e "$kernel/include/linux/find.h" ]; then
+  fetch $linux
+  files=(lib/sbitmap.c lib/find_bit.c include/linux/sbitmap.h include/linux/find.h)
+  dpkg-deb --fsys-tarfile "$out/$linux"_*.deb | tar -xO ./usr/src/$linux.tar.xz \
+    | tar -xJ -C "$out" "${files[@]/#/$linux/}"
+fi
+if [ ! -d "$crates" ]; then
+  for package in "${debian[@]}"; do
+    fetch "$package"
+    dpkg-deb -x "$out/$package"_*.deb "$out"
+  done
+fi
+
+# Each header that the kernel's files name is the shim, but for their own two.
+headers=$out/headers
+mkdir -p "$headers/linux"
+cp "$kernel"/include/linux/{sbitmap,find}.h "$headers/linux"
+sed -n 's,^#include <linux/\(.*\)>.*,\1,p' "$kernel"/lib/*.c "$kernel"/include/linux/*.h | sort -u | while read -r name; do
+  case $name in
+    sbitmap.h) ;;
+    bitmap.h | bitops.h) printf '#include "kernel.h"\n#include <linux/find.h>\n' > "$headers/linux/$name" ;;
+    *) echo '#include "kernel.h"' > "$headers/linux/$name" ;;
+  esac
+done
+compile() {
+  gcc -std=gnu11 -O2 -march=x86-64-v2 -fno-strict-aliasing -include "$here/shim/kernel.h" -I"$here/shim" -I"$headers" \
+    "${@:3}" -c "$1" -o "$out/$2.o"
+}
+compile "$kernel/lib/sbitmap.c" sbitmap -w
+compile "$kernel/lib/find_bit.c" find_bit -w
+compile "$here/sbitmap_tags.c" sbitmap_tags -Wall -Wextra -Wno-sign-compare -Wno-unused-parameter
+rm -f "$out/libsbitmap.a"
+ar rcs "$out/libsbitmap.a" "$out"/{sbitmap,find_bit,sbitmap_tags}.o
+
+rust() {
+  rustc -O -C target-cpu=x86-64-v2 -C codegen-units=1 --cap-lints allow --out-dir "$out" -L "$out" "$@"
+}
+library() {
+  rust --crate-type rlib --edition 2018 --crate-name "$1" "${@:3}" "$crates/$2"/src/lib.rs
+}
+library cfg_if "$(basename "$crates"/cfg-if-*)"
+library crossbeam_utils "$(basename "$crates"/crossbeam-utils-*)" --cfg 'feature="std"' --extern "cfg_if=$out/libcfg_if.rlib"
+library crossbeam_queue "$(basename "$crates"/crossbeam-queue-*)" --cfg 'feature="std"' --cfg 'feature="alloc"' \
+  --extern "cfg_if=$out/libcfg_if.rlib" --extern "crossbeam_utils=$out/libcrossbeam_utils.rlib"
+rust --edition 2021 --cap-lints warn --crate-name contenders --extern "crossbeam_queue=$out/libcrossbeam_queue.rlib" \
+  -l static=sbitmap "$here/main.rs"
+echo "$linux $(dpkg-deb -f "$out/$linux"_*.deb Version)" > "$out/version"

@@ -1,0 +1,131 @@
+//! What the workloads `pair`, `ring`, `full`, `pass` and `batch` of `tag_bench` are set beside: the kernel's sbitmap_queue,
+//! a queue of the free tags, a list of them behind a lock, and two locked steps on lines of the thread's own.
+//! `main WORKLOAD [--threads N] [--depth N] [--rounds N]` prints a line of JSON a case.
+#[path = "../baseline/clock.rs"]
+mod clock;
+#[path = "../baseline/frame.rs"]
+mod frame;
+mod kernel;
+mod limit;
+mod lists;
+mod loops;
+
+use crate::frame::{Case, Options};
+use crate::kernel::Kernel;
+use crate::limit::Limit;
+use crate::lists::{List, Queue};
+use crate::loops::{Slots, Tags, Way, Workload};
+use std::process::ExitCode;
+
+/// Tags of the map, where no count is asked for.
+const DEPTHS: [u32; 3] = [64, 1_024, 10_240];
+
+fn main() -> ExitCode {
+    let mut words = std::env::args().skip(1);
+    let Some(workload) = words.next().and_then(|name| Workload::named(&name)) else {
+        eprintln!("the workloads are pair, ring, full, pass and batch");
+        return ExitCode::from(2);
+    };
+    let Some(options) = Options::read(words) else {
+        eprintln!("an option is not known, or has no number above 0");
+        return ExitCode::from(2);
+    };
+    for depth in DEPTHS {
+        if options.depth.is_none() {
+            run(workload, &options, depth);
+        }
+    }
+    if let Some(depth) = options.depth {
+        run(workload, &options, depth);
+    }
+    ExitCode::SUCCESS
+}
+
+fn run(workload: Workload, options: &Options, depth: u32) {
+    for &threads in &options.threads {
+        if workload.can_run(depth, threads) {
+            let case = |hints| Setting {
+                workload,
+                depth,
+                threads,
+                hints,
+                rounds: options.rounds,
+            };
+            case(Hints::Apart).measure::<Kernel>();
+            case(Hints::FromZero).measure::<Kernel>();
+            case(Hints::None).measure::<Queue>();
+            case(Hints::None).measure::<List>();
+            case(Hints::None).measure::<Limit>();
+        }
+    }
+}
+
+/// Where the first search of each thread begins.
+#[derive(Clone, Copy, PartialEq, Eq)]
+enum Hints {
+    /// Each in a part of the map of its own.
+    Apart,
+    /// All at tag 0.
+    FromZero,
+    /// There are no hints.
+    None,
+}
+
+/// One case of one contender.
+#[derive(Clone, Copy)]
+struct Setting {
+    workload: Workload,
+    depth: u32,
+    threads: u32,
+    hints: Hints,
+    rounds: u64,
+}
+
+impl Setting {
+    fn measure<T: Tags>(self) {
+        let stride = match self.hints {
+            Hints::Apart => self.depth / self.threads,
+            Hints::FromZero | Hints::None => 0,
+        };
+        let tags = T::open(self.depth, self.threads, stride);
+        let slots = Slots::new(self.depth);
+        let ways: Vec<Way> = (0..self.threads).map(|_| Way::default()).collect();
+        let held = self.workload.held(self.depth, self.threads);
+        let case = Case {
+            contender: T::NAME,
+            workload: self.workload.name(),
+            name: self.name(),
+            threads: self.threads,
+        };
+        case.measure(|index| {
+            let mut user = tags.enter(index);
+            match self.workload {
+                Workload::Pair => loops::pairs(&tags, &mut user, &slots, self.rounds),
+                Workload::Ring | Workload::Full => {
+                    loops::ring(&tags, &mut user, &slots, held, self.rounds)
+                }
+                Workload::Batch => loops::batches(&tags, &mut user, &slots, self.rounds),
+                Workload::Pass if index % 2 == 0 => {
+                    loops::send(&tags, &mut user, &slots, &ways[index as usize], self.rounds)
+                }
+                Workload::Pass => loops::receive(
+                    &tags,
+                    &mut user,
+                    &slots,
+                    &ways[index as usize - 1],
+                    self.rounds,
+                ),
+            }
+        });
+        tags.close();
+    }
+
+    fn name(self) -> String {
+        let depth = self.depth;
+        match self.hints {
+            Hints::Apart => format!("hints apart, depth {depth}"),
+            Hints::FromZero => format!("hints from 0, depth {depth}"),
+            Hints::None => format!("depth {depth}"),
+        }
+    }
+}

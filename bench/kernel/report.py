@@ -1,0 +1,162 @@
+"""report.py LINES SVG: prints what kernel.sh measured as a table, and draws a part of it.
+
+A figure is the median over the repetitions. A ratio is one of times by the clock, to the kernel's time with hints apart in
+the same repetition; less is better. The last column is a ratio of processor time."""
+import json
+import statistics
+import sys
+from math import log2
+
+KERNEL = ("kernel", "apart")
+OURS = ("tag_bench", "apart")
+COLUMNS = [
+    ("tag_bench", OURS),
+    ("tag_bench, from 0", ("tag_bench", "from 0")),
+    ("kernel, from 0", ("kernel", "from 0")),
+    ("queue", ("queue", None)),
+    ("locked list", ("locked list", None)),
+    ("limit", ("limit", None)),
+]
+# What the plot has: its panels, and of each contender its name and colour.
+PLOTTED_DEPTH = 1024
+PANELS = [
+    ("pair", "one tag at a time"),
+    ("ring", "32 tags held by each thread"),
+    ("full", "all tags held"),
+]
+LINES = [
+    (OURS, "tag_bench", "#0b6e4f"),
+    (KERNEL, "kernel", "#b3261e"),
+    (("queue", None), "queue", "#3b5ba5"),
+    (("locked list", None), "locked list", "#8a6d1d"),
+    (("limit", None), "limit", "#777777"),
+]
+
+
+def read(path):
+    """Of each workload, depth, count of threads and contender with its hints, the entries by repetition."""
+    figures = {}
+    with open(path, encoding="utf-8") as lines:
+        for line in lines:
+            entry = json.loads(line)
+            hints, _, depth = entry["case"].rpartition("depth ")
+            hints = hints.removeprefix("hints ").removesuffix(", ") or None
+            who = (entry.get("contender", "tag_bench"), hints)
+            case = (entry["workload"], int(depth), entry["threads"])
+            figures.setdefault(case, {}).setdefault(who, {})[entry["repetition"]] = entry
+    return figures
+
+
+def ratio(case, who, what="ns"):
+    """The median of the ratios to the kernel of the same repetition. None where either was not measured."""
+    ours, kernel = case.get(who, {}), case.get(KERNEL, {})
+    ratios = [ours[at][what] / max(kernel[at][what], 0.01) for at in ours if at in kernel]
+    return statistics.median(ratios) if ratios else None
+
+
+def median(case, who):
+    return statistics.median(entry["ns"] for entry in case[who].values())
+
+
+def print_table(figures):
+    head = ["workload", "depth", "threads", "kernel, ns"]
+    head += [title for title, _ in COLUMNS] + ["tag_bench, processor"]
+    print("| " + " | ".join(head) + " |")
+    print("|" + "---|" * len(head))
+    for (workload, depth, threads), case in figures.items():
+        ratios = [ratio(case, who) for _, who in COLUMNS] + [ratio(case, OURS, "processor")]
+        row = [workload, str(depth), str(threads), f"{median(case, KERNEL):.1f}" if KERNEL in case else ""]
+        row += ["" if value is None else f"{value:.2f}" for value in ratios]
+        print("| " + " | ".join(row) + " |")
+
+
+class Panel:
+    """One workload: nanoseconds over threads, both on scales on which twice as much is one step."""
+
+    WIDTH, HEIGHT, LEFT, TOP = 210, 220, 48, 56
+    THREADS = [1, 2, 4]
+
+    def __init__(self, index, least, most):
+        self.left = self.LEFT + index * (self.WIDTH + 34)
+        self.least, self.most = least, most
+
+    def x(self, threads):
+        return self.left + 14 + self.THREADS.index(threads) * (self.WIDTH - 28) / (len(self.THREADS) - 1)
+
+    def y(self, ns):
+        return self.TOP + self.HEIGHT * (1 - log2(ns / self.least) / log2(self.most / self.least))
+
+
+def text(x, y, words, **style):
+    style = "".join(f' {name.replace("_", "-")}="{value}"' for name, value in style.items())
+    return f'<text x="{x:.1f}" y="{y:.1f}"{style}>{words}</text>'
+
+
+def draw(figures, path):
+    points = {
+        (workload, who): [
+            (threads, median(case, who))
+            for threads in Panel.THREADS
+            if who in (case := figures.get((workload, PLOTTED_DEPTH, threads), {}))
+        ]
+        for workload, _ in PANELS
+        for who, _, _ in LINES
+    }
+    times = [ns for line in points.values() for _, ns in line]
+    least = 2 ** int(log2(min(times)))
+    most = 2 ** (int(log2(max(times))) + 1)
+    width = Panel.LEFT + len(PANELS) * (Panel.WIDTH + 34)
+    height = Panel.TOP + Panel.HEIGHT + 80
+    out = [
+        f'<svg xmlns="http://www.w3.org/2000/svg" width="{width}" height="{height}" viewBox="0 0 {width} {height}"'
+        ' font-family="sans-serif" font-size="12" fill="#222">',
+        f'<rect width="{width}" height="{height}" fill="#fff"/>',
+        text(Panel.LEFT, 20, f"A get, a touch and a clear: nanoseconds of one thread, depth {PLOTTED_DEPTH}", font_size=14),
+    ]
+    for index, (workload, title) in enumerate(PANELS):
+        panel = Panel(index, least, most)
+        out += draw_panel(panel, title, index == 0)
+        for who, _, colour in LINES:
+            out += draw_line(panel, points[workload, who], colour)
+    out += draw_legend(height - 14)
+    with open(path, "w", encoding="utf-8") as svg:
+        svg.write("\n".join(out + ["</svg>"]) + "\n")
+
+
+def draw_panel(panel, title, has_scale):
+    out = [text(panel.left, panel.TOP - 12, title, font_weight="bold")]
+    ns = panel.least
+    while ns <= panel.most:
+        y = panel.y(ns)
+        out.append(f'<path d="M{panel.left} {y:.1f}h{panel.WIDTH}" stroke="#ddd"/>')
+        if has_scale:
+            out.append(text(panel.left - 6, y + 4, ns, text_anchor="end"))
+        ns *= 2
+    bottom = panel.TOP + panel.HEIGHT + 18
+    out += [text(panel.x(threads), bottom, threads, text_anchor="middle") for threads in panel.THREADS]
+    return out + [text(panel.left + panel.WIDTH / 2, bottom + 18, "threads", text_anchor="middle")]
+
+
+def draw_line(panel, line, colour):
+    at = [(panel.x(threads), panel.y(ns)) for threads, ns in line]
+    way = " ".join(f"{x:.1f},{y:.1f}" for x, y in at)
+    out = [f'<polyline points="{way}" fill="none" stroke="{colour}" stroke-width="2"/>']
+    return out + [f'<circle cx="{x:.1f}" cy="{y:.1f}" r="3.5" fill="{colour}"/>' for x, y in at]
+
+
+def draw_legend(y):
+    out, x = [], Panel.LEFT
+    for _, name, colour in LINES:
+        out.append(f'<path d="M{x} {y - 4}h22" stroke="{colour}" stroke-width="2"/>')
+        out.append(text(x + 28, y, name))
+        x += 54 + 7 * len(name)
+    return out
+
+
+def main():
+    figures = read(sys.argv[1])
+    print_table(figures)
+    draw(figures, sys.argv[2])
+
+
+main()
