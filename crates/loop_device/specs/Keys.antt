@@ -3,7 +3,7 @@ use Rattle.std.specs.Prelude.{◌≡◌, ℕ, ◌+◌, ◌*◌, ◌^◌, ◌<◌
 use Rattle.loop_device.specs.declared.io.Io.{Io}
 use Rattle.loop_device.specs.declared.io.Done.{Done}
 use Rattle.loop_device.specs.declared.halving.Stamps.{Stamps}
-use Rattle.loop_device.specs.Halving.{stamp_at, is_sound}
+use Rattle.loop_device.specs.Halving.{stamp_at, is_sound, IsStampedWithin}
 use Rattle.loop_device.specs.History.{first_of, last_of, stamp_of, done_of, Answers, IsHistory}
 
 -- the place of a name's sector
@@ -33,6 +33,10 @@ pub record IsKept (history : List Done) (stamps : Stamps) : Type 0 where
   pub sound : is_sound (2 ^ 88) stamps ≡ true
   pub stamps_are : AreStampsOf history stamps
   pub lawful : IsHistory history
+
+-- the sectors that the line covers have its stamp, and the others are as they were
+abbrev pub LeavesStamp : Stamps → Stamps → Io → Type 0
+LeavesStamp old new io = IsStampedWithin (stamp_at (2 ^ 88) old) (stamp_at (2 ^ 88) new) (2 ^ 88) (first_key io) (end_key io) io.line
 
 -- the line answers this after each history of the old stamps, and leaves the stamps that are then due
 pub record Carries (old new : Stamps) (io : Io) (stamp : ℕ) : Type 0 where

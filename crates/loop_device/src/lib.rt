@@ -11,3 +11,6 @@ pub use fault::PlayFault;
 pub use io::{Done, Io, IoKind, Log};
 pub use judging::verdict;
 pub use store::Store;
+
+#[cfg(test)]
+mod tests;

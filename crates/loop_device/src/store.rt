@@ -1,8 +1,8 @@
 //! A store in memory: what was carried out, and the stamps of its sectors.
 ghost use Rattle.std.specs.Prelude.{◌≡◌, ◌≤◌, ◌^◌, ◌++◌, ◌∷◌, [], true, IfOk, OnOk, OnErr};
-ghost use Rattle.loop_device.specs.Halving.{stamp_at, is_sound, IsGreatestWithin, IsStampedWithin, IsRefined};
+ghost use Rattle.loop_device.specs.Halving.{is_sound, IsRefined};
 ghost use Rattle.loop_device.specs.History.{Answers, IsHistory, done_of};
-ghost use Rattle.loop_device.specs.Keys.{first_key, end_key, Carries, IsSmall};
+ghost use Rattle.loop_device.specs.Keys.{first_key, end_key, Carries, IsSmall, LeavesStamp};
 
 use crate::halving::Stamps;
 use crate::io::{Done, Io, IoKind};
@@ -97,7 +97,7 @@ fn leave_stamp(stamps: &mut Stamps, alloc: Global, io: &Io) -> Result<(), AllocE
     requires { is_sound (2 ^ 88) stamps.old ≡ true }
     ensures small { IsSmall io.now }
     ensures sound { is_sound (2 ^ 88) stamps.new ≡ true }
-    ensures ok { OnOk result (IsStampedWithin (stamp_at (2 ^ 88) stamps.old) (stamp_at (2 ^ 88) stamps.new) (2 ^ 88) (first_key io.now) (end_key io.now) io.now.line) }
+    ensures ok { OnOk result (LeavesStamp stamps.old stamps.new io.now) }
     ensures err { OnErr result (IsRefined (2 ^ 88) stamps.old stamps.new) }
 {
     let (first, end) = span(io);
