@@ -9,8 +9,10 @@ use Rattle.loop_device.proofs.judging.place_of.Goals as goal
 
 pub returns-else-eq-clause-absent : goal.returns-else-eq-clause-absent
 returns-else-eq-clause-absent c none =
-    let by_line = c.in-Ok.ensures.position (λ found. found.line) (answers_always _ _ _ (λ f a r g called. search rules)) in
-    absent_beside c.args.ios.now c.requires c.args.io.now c.in-Ok.place (search rules) (ranked _ _ _ (sym (by_line c.args.io.now)))
+    let by_line = c.in-Ok.ensures.position (λ found. found.line) (answers_always _ _ _ (λ f a r g called. search
+    rules)) in
+    absent_beside c.args.ios.now c.requires c.args.io.now c.in-Ok.place (search rules) (ranked _ _ _ (sym (by_line
+    c.args.io.now)))
     (λ same. grind (arith, nat_tests, same, c.eq.ensures, c.if-eq.false, get_or_default c.args.ios.now c.in-Ok.place))
 
 pub returns-in-Err-clause-absent : goal.returns-in-Err-clause-absent

@@ -10,7 +10,8 @@ returns-then-leaves_stamp-clause-ok c =
     let leaves : leaves_stamp c.args.io.now.kind ≡ true = sym c.leaves_stamp.ensures ∙ c.if-leaves_stamp.true in
     record {
       sound = c.in_ok-leave_stamp.ensures.sound;
-      stamps_are = stamped_kept c.args.stamps.now c.leave_stamp.new.stamps c.args.io.now c.in_ok-leave_stamp.ensures.small leaves c.in_ok-leave_stamp.ensures.ok;
+      stamps_are = stamped_kept c.args.stamps.now c.leave_stamp.new.stamps c.args.io.now
+          c.in_ok-leave_stamp.ensures.small leaves c.in_ok-leave_stamp.ensures.ok;
       answers = λ history are. answers_line c.args.io.now.kind history c.args.io.now leaves;
     }
 
@@ -20,7 +21,8 @@ returns-in-Read-clause-ok c =
     record {
       sound = c.requires;
       stamps_are = unstamped_kept c.args.stamps.now c.args.io.now c.greatest.result plain;
-      answers = λ history are. subst (λ (kind : IoKind). AnswersAs kind history c.args.io.now c.greatest.result) (sym c.in-Read.is)
+      answers = λ history are. subst (λ (kind : IoKind). AnswersAs kind history c.args.io.now c.greatest.result) (sym
+          c.in-Read.is)
           (reads_greatest c.args.stamps.now c.args.io.now c.span-first.ensures.small c.greatest.result
           (rw (c.span-first.ensures.first, c.span-first.ensures.end) at c.greatest.ensures) history are);
     }

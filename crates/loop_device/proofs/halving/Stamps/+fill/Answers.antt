@@ -7,7 +7,8 @@ use Rattle.loop_device.proofs.halving.Stamps.+fill.Goals as goal
 
 pub fill-requires : goal.fill-requires
 fill-requires t c =
-    let s = split_sound c.args.width c.in-Split.greatest c.in-Split.low c.in-Split.high c.args.self.now c.in-Split.is c.requires.sound in
+    let s = split_sound c.args.width c.in-Split.greatest c.in-Split.low c.in-Split.high c.args.self.now c.in-Split.is
+    c.requires.sound in
     let first = subst (λ (n : Stamps). is_cut c.args.width n c.args.first ≡ true) c.in-Split.is c.requires.first in
     let end = subst (λ (n : Stamps). is_cut c.args.width n c.args.end ≡ true) c.in-Split.is c.requires.end in (
       omega (arith, s.wide),
@@ -16,8 +17,10 @@ fill-requires t c =
         (
           omega (arith, c.min-in-Split.ensures),
           (
-            low_cut c.args.width c.in-Split.greatest c.in-Split.low c.in-Split.high c.args.first c.min.result s c.min.ensures first,
-            low_cut c.args.width c.in-Split.greatest c.in-Split.low c.in-Split.high c.args.end c.min-in-Split.result s c.min-in-Split.ensures end,
+            low_cut c.args.width c.in-Split.greatest c.in-Split.low c.in-Split.high c.args.first c.min.result s
+                c.min.ensures first,
+            low_cut c.args.width c.in-Split.greatest c.in-Split.low c.in-Split.high c.args.end c.min-in-Split.result
+                s c.min-in-Split.ensures end,
           ),
         ),
       ),
@@ -25,7 +28,8 @@ fill-requires t c =
 
 pub fill-requires-in-Split : goal.fill-requires-in-Split
 fill-requires-in-Split t c =
-    let s = split_sound c.args.width c.in-Split.greatest c.in-Split.low c.in-Split.high c.args.self.now c.in-Split.is c.requires.sound in
+    let s = split_sound c.args.width c.in-Split.greatest c.in-Split.low c.in-Split.high c.args.self.now c.in-Split.is
+    c.requires.sound in
     let first = subst (λ (n : Stamps). is_cut c.args.width n c.args.first ≡ true) c.in-Split.is c.requires.first in
     let end = subst (λ (n : Stamps). is_cut c.args.width n c.args.end ≡ true) c.in-Split.is c.requires.end in (
       omega (arith, s.wide),
@@ -34,8 +38,10 @@ fill-requires-in-Split t c =
         (
           omega (arith, c.saturating_sub-in-Split.ensures, c.requires.within),
           (
-            high_cut c.args.width c.in-Split.greatest c.in-Split.low c.in-Split.high c.args.first c.saturating_sub.result s c.saturating_sub.ensures first,
-            high_cut c.args.width c.in-Split.greatest c.in-Split.low c.in-Split.high c.args.end c.saturating_sub-in-Split.result s c.saturating_sub-in-Split.ensures end,
+            high_cut c.args.width c.in-Split.greatest c.in-Split.low c.in-Split.high c.args.first
+                c.saturating_sub.result s c.saturating_sub.ensures first,
+            high_cut c.args.width c.in-Split.greatest c.in-Split.low c.in-Split.high c.args.end
+                c.saturating_sub-in-Split.result s c.saturating_sub-in-Split.ensures end,
           ),
         ),
       ),
