@@ -1,0 +1,162 @@
+-- How often lines are carried out, item after item.
+use Rattle.std.proofs.Common.{◌≡◌, ◌≢◌, ℕ, ◌<◌, ◌≤◌, ◌+◌, ◌==◌, List, [], ◌∷◌, replicate, length, get_or, set, map, take, refl, sym, ap, ◌∙◌, subst, arith}
+use Rattle.std.specs.List.{All, AllWithin, HoldsAt}
+use Rattle.std.proofs.lemmas.List.{length-map, get_or-map, get_or_default, ext_get_or, get_or-set_same, get_or-set_other}
+use Rattle.std.proofs.lemmas.List.Sums.{count_by_more_yes, count_by_more_no, count_by-le-length}
+use Rattle.std.proofs.lemmas.Bool.Decides.{nat_tests}
+use Rattle.std.proofs.lemmas.Grind.{common_steps, get_or_default_zero}
+use Rattle.loop_device.specs.declared.io.Io.{Io}
+use Rattle.loop_device.specs.declared.io.Done.{Done}
+use Rattle.loop_device.specs.Lines.{LinesAscend}
+use Rattle.loop_device.specs.Verdict.{times, AreOfLog, IsTwice, IsLost, CarriesEachOnce}
+use Rattle.loop_device.proofs.Places.{same_place}
+
+-- how often each line is carried out
+abbrev pub tallied : List Io → List Done → List ℕ
+tallied ios done = map (λ io. times done io.line) ios
+
+module _ (done : List Done) (i : ℕ) (d : Done) (low : i < length done) where
+  -- an item is one more of its line
+  times_same : (line : ℕ) → (get_or done i d).io.line ≡ line → times (take (i + 1) done) line ≡ times (take i done)
+      line + 1
+  times_same line same = count_by_more_yes (λ (e : Done). e.io.line == line) done i d low (grind (arith, nat_tests))
+
+  -- and none more of another
+  times_other : (line : ℕ) → (get_or done i d).io.line ≢ line
+      → times (take (i + 1) done) line ≡ times (take i done) line
+  times_other line other = count_by_more_no (λ (e : Done). e.io.line == line) done i d low (grind (arith, nat_tests))
+
+  -- the count at the item's place grows by one, and the others stay
+  pub counted : (ios : List Io) → LinesAscend ios → (place : ℕ) → place < length ios
+      → HoldsAt (λ found. found ≡ (get_or done i d).io) ios place
+      → (counts : List ℕ) → counts ≡ tallied ios (take i done)
+      → set counts place (get_or counts place 0 + 1) ≡ tallied ios (take (i + 1) done)
+  counted ios ascend place within at counts are =
+      let e = (get_or done i d).io in
+      let before = tallied ios (take i done) in
+      let size : length before ≡ length ios = length-map ios (λ io. times (take i done) io.line) in
+      let old = λ (k : ℕ) (lt : k < length ios). get_or-map (λ (io : Io). times (take i done) io.line) ios k e 0 lt in
+      let new = λ (k : ℕ) (lt : k < length ios). get_or-map (λ (io : Io). times (take (i + 1) done) io.line) ios k e
+      0 lt in
+      let line_here : e.line ≡ (get_or ios place e).line = ap (λ (io : Io). io.line) (sym (at e)) in
+      rw are (ext_get_or 0 _ _ (grind (
+        arith,
+        common_steps,
+        size,
+        length-map ios (λ io. times (take (i + 1) done)
+            io.line),
+      )) (λ k lt.
+      let lt' : k < length ios = grind (arith, common_steps, size) in
+      let here : k ≡ place → get_or (set before place (get_or before place 0 + 1)) k 0 ≡ get_or (tallied ios (take (i
+      + 1) done)) k 0 =
+      λ same. rw same (get_or-set_same before place (get_or before place 0 + 1) 0 (omega (arith, size, within))
+      ∙ ap (λ n. n + 1) (old place within) ∙ sym (times_same (get_or ios place e).line line_here) ∙ sym (new place
+      within)) in
+      let beside : k ≢ place → get_or (set before place (get_or before place 0 + 1)) k 0 ≡ get_or (tallied ios (take
+      (i + 1) done)) k 0 =
+      λ differs. get_or-set_other before place k (get_or before place 0 + 1) 0 differs ∙ old k lt'
+      ∙ sym (times_other (get_or ios k e).line (λ same. differs (same_place ios ascend k place e lt' within (sym same
+      ∙ line_here)))) ∙ sym (new k lt') in
+      grind (arith, here, beside)))
+
+zeros : (ios : List Io) → replicate (length ios) 0 ≡ tallied ios []
+zeros [] = refl
+zeros (io ∷ ios) = ap (λ rest. 0 ∷ rest) (zeros ios)
+
+-- before the first item each count is 0
+pub none_yet : (ios : List Io) (counts : List ℕ) → counts ≡ replicate (length ios) 0 → counts ≡ tallied ios []
+none_yet ios counts are = are ∙ zeros ios
+
+-- there is a count for each line
+pub count_at : (ios : List Io) (done : List Done) (counts : List ℕ) → counts ≡ tallied ios done
+    → length counts ≡ length ios
+count_at ios done counts are = ap length are ∙ length-map ios (λ io. times done io.line)
+
+-- the count that was read at a place
+pub read_count : (ios : List Io) (done : List Done) (counts : List ℕ) → counts ≡ tallied ios done → (place : ℕ)
+    → place < length ios → (value : ℕ) → value ≡ get_or counts place value → value ≡ get_or counts place 0
+read_count ios done counts are place low value is = is ∙ get_or_default_zero counts place value (omega (
+  arith,
+  low,
+  count_at ios done counts are,
+))
+
+-- no line is counted more often than there are items
+pub counts_few : (ios : List Io) (done : List Done) (i : ℕ) (counts : List ℕ) → counts ≡ tallied ios (take i done)
+    → (place : ℕ) → place < length ios
+    → i ≤ length done → (value : ℕ) → value ≡ get_or counts place value → value ≤ i
+counts_few [] done i counts are place low within value is = absurd (omega arith)
+counts_few (io ∷ ios) done i counts are place low within value is =
+    let read = read_count (io ∷ ios) (take i done) counts are place low value is ∙ ap (λ xs. get_or xs place 0) are
+    ∙ get_or-map (λ (io : Io). times (take i done) io.line) (io ∷ ios) place io 0 low in
+    let most = count_by-le-length (λ (e : Done). e.io.line == (get_or (io ∷ ios) place io).line) (take i done) in
+    grind (arith, common_steps, read, most)
+
+-- what a count at a place says of the line there
+module _ (ios : List Io) (ascend : LinesAscend ios) (done : List Done) (counts : List ℕ) (are : counts ≡ tallied ios
+    done) where
+  count_is : (place : ℕ) (d : Io) → place < length ios → get_or counts place 0 ≡ times done (get_or ios place d).line
+  count_is place d low = ap (λ xs. get_or xs place 0) are ∙ get_or-map (λ (io : Io). times done io.line) ios place d
+      0 low
+
+  -- a line below another stands before it
+  line_below : (k place : ℕ) (d e : Io) → k < length ios → place < length ios
+      → (get_or ios k d).line < (get_or ios place e).line → k < place
+  line_below k place d e low within less =
+      let there = ap (λ (io : Io). io.line) (get_or_default ios place e d within) in
+      grind (arith, there, ascend place k d, λ (same : k ≡ place). ap (λ j. (get_or ios j d).line) same)
+
+  -- what holds of all counts holds of how often each line is carried out
+  pub of_counts : (P : ℕ → Type 0) → All P counts → All (λ io. P (times done io.line)) ios
+  of_counts P all k d low = subst P (count_is k d low) (all k 0 (omega (arith, low, count_at ios done counts are)))
+
+  -- what holds of the counts before a place holds of the lines below its line
+  pub of_counts_before : (P : ℕ → Type 0) (place : ℕ) (e : Io) → place < length ios → AllWithin P counts 0 place
+      → All (λ io. io.line < (get_or ios place e).line → P (times done io.line)) ios
+  of_counts_before P place e within before k d low less =
+      let earlier : k < place = line_below k place d e low within less in
+      subst P (count_is k d low) (before k 0 (omega arith) earlier)
+
+  -- the line at the place, where its count is above 1 and none before it is
+  pub is_twice : AreOfLog ios done → (place : ℕ) (io : Io) → place < length ios → io ≡ get_or ios place io
+      → 1 < get_or counts place 0
+      → AllWithin (λ n. n ≤ 1) counts 0 place → IsTwice ios done io.line
+  is_twice known place io low is twice before = record {
+    known = known;
+    among = (
+      place,
+      omega (arith, low, length-map ios (λ (io : Io). io.line)),
+      get_or-map (λ (io : Io). io.line) ios
+          place io io.line low ∙ ap (λ (io : Io). io.line) (sym is),
+    );
+    twice = let t : get_or counts place 0 ≡ times done io.line = count_is place io low ∙ ap (λ (io : Io). times done
+        io.line) (sym is) in omega (arith, t, twice);
+    least = subst (λ (e : Io). All (λ io. io.line < e.line → times done io.line ≤ 1) ios) (sym is) (of_counts_before
+        (λ n. n ≤ 1) place io low before);
+  }
+
+  -- the line at the place, where its count is 0 and none before it is
+  pub is_lost : AreOfLog ios done → All (λ n. n ≤ 1) counts → (place : ℕ) (io : Io) → place < length ios
+      → io ≡ get_or ios place io → get_or counts place 0 ≡ 0
+      → AllWithin (λ n. 0 < n) counts 0 place → IsLost ios done io.line
+  is_lost known few place io low is lost before = record {
+    known = known;
+    none_twice = of_counts (λ n. n ≤ 1) few;
+    among = (
+      place,
+      omega (arith, low, length-map ios (λ (io : Io). io.line)),
+      get_or-map (λ (io : Io). io.line) ios
+          place io io.line low ∙ ap (λ (io : Io). io.line) (sym is),
+    );
+    lost = sym (count_is place io low ∙ ap (λ (io : Io). times done io.line) (sym is)) ∙ lost;
+    least = subst (λ (e : Io). All (λ io. io.line < e.line → 0 < times done io.line) ios) (sym is) (of_counts_before
+        (λ n. 0 < n) place io low before);
+  }
+
+  -- each line is carried out once, where each count is 1
+  pub is_once : AreOfLog ios done → All (λ n. n ≤ 1) counts → All (λ n. 0 < n) counts → CarriesEachOnce ios done
+  is_once known few some = record {
+    known = known;
+    once = λ k d low. let f = of_counts (λ n. n ≤ 1) few k d low in let s = of_counts (λ n. 0 < n) some k d low in
+        omega (arith, f, s);
+  }

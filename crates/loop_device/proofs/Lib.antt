@@ -1,0 +1,5 @@
+pub mod Counting
+pub mod Halves
+pub mod Keeping
+pub mod Places
+pub mod Refining

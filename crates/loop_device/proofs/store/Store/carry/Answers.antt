@@ -1,0 +1,19 @@
+-- The line goes into the history with what it answers after those before it.
+use Rattle.std.proofs.Common.{◌≡◌, ◌++◌, ◌∷◌, [], List, sym, subst, rules}
+use Rattle.loop_device.specs.declared.io.Done.{Done}
+use Rattle.loop_device.specs.History.{done_of}
+use Rattle.loop_device.specs.Keys.{IsKept}
+use Rattle.loop_device.proofs.Keeping.{extends}
+use Rattle.loop_device.proofs.store.Store.carry.Goals as goal
+
+pub invariant_of-self-2 : goal.invariant_of-self-2
+invariant_of-self-2 c =
+    let h = c.self.inside.done.items in
+    let d = done_of c.args.io.now c.in_ok-stamp.stamp in
+    let k = c.in_ok-stamp.ensures.ok in
+    let items : c.push_reserved.new.self.items ≡ h ++ d ∷ [] = search rules in
+    subst (λ (ds : List Done). IsKept ds c.answer.new.stamps) (sym items) (record {
+      sound = k.sound;
+      stamps_are = k.stamps_are h c.self.invariant.stamps_are;
+      lawful = extends h d c.self.invariant.lawful (k.answers h c.self.invariant.stamps_are);
+    })

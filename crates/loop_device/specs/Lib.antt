@@ -1,0 +1,5 @@
+pub mod Halving
+pub mod History
+pub mod Keys
+pub mod Lines
+pub mod Verdict

@@ -1,0 +1,119 @@
+//! The stamps of a row of sectors, halved where they differ.
+ghost use Rattle.std.specs.Prelude.{◌≡◌, ℕ, true, ◌≤◌, ◌<◌, OnOk};
+ghost use Rattle.loop_device.specs.Halving.{stamp_at, greatest_of, is_sound, is_cut, IsGreatestWithin, IsStampedWithin, IsRefined};
+
+use std::alloc::{AllocError, Global};
+
+/// The stamps of sectors 0, 1, 2, .. of a row. Its width is kept by the caller, and halved on each way down.
+#[derive(Drop)]
+pub(crate) enum Stamps {
+    /// Each sector has this stamp.
+    Even(u64),
+    /// The greatest stamp, and the stamps of the lower and of the upper half.
+    Split(u64, Box<Stamps>, Box<Stamps>),
+}
+
+impl Stamps {
+    /// The greatest stamp of the whole row.
+    fn greatest_of(&self) -> u64
+        ensures { result ≡ greatest_of self.now }
+    {
+        match self {
+            Stamps::Even(stamp) => *stamp,
+            Stamps::Split(greatest, _, _) => *greatest,
+        }
+    }
+
+    /// The greatest stamp of the sectors from `first` up to `end`, 0 if there are none.
+    pub(crate) fn greatest(&self, width: u128, first: u128, end: u128) -> u64
+        requires sound { is_sound width self.now ≡ true }
+        requires within { end ≤ width }
+        ensures { IsGreatestWithin (stamp_at width self.now) first end result }
+    {
+        if end <= first {
+            return 0;
+        }
+        match self {
+            Stamps::Even(stamp) => *stamp,
+            Stamps::Split(greatest, low, high) => {
+                if first == 0 && end == width {
+                    return *greatest;
+                }
+                let half = width / 2;
+                let below = low.greatest(half, first.min(half), end.min(half));
+                let above = high.greatest(
+                    width - half,
+                    first.saturating_sub(half),
+                    end.saturating_sub(half),
+                );
+                below.max(above)
+            }
+        }
+    }
+
+    /// Halves the row until no part of one stamp goes on across `at`. No stamp changes.
+    pub(crate) fn cut(&mut self, alloc: Global, width: u128, at: u128) -> Result<(), AllocError>
+        requires sound { is_sound width self.old ≡ true }
+        requires within { at ≤ width }
+        ensures same { IsRefined width self.old self.new }
+        ensures ok { OnOk result (is_cut width self.new at ≡ true) }
+    {
+        if at == 0 || at == width {
+            return Ok(());
+        }
+        let half = width / 2;
+        match self {
+            Stamps::Even(stamp) => {
+                let stamp = *stamp;
+                let mut low = Box::new(alloc, Stamps::Even(stamp))?;
+                let mut high = Box::new(alloc, Stamps::Even(stamp))?;
+                if at < half {
+                    low.cut(alloc, half, at)?;
+                } else {
+                    high.cut(alloc, width - half, at - half)?;
+                }
+                *self = Stamps::Split(stamp, low, high);
+                Ok(())
+            }
+            Stamps::Split(_, low, high) => {
+                if at < half {
+                    low.cut(alloc, half, at)
+                } else {
+                    high.cut(alloc, width - half, at - half)
+                }
+            }
+        }
+    }
+
+    /// Stamps the sectors from `first` up to `end`.
+    pub(crate) fn fill(&mut self, width: u128, first: u128, end: u128, stamp: u64)
+        requires sound { is_sound width self.old ≡ true }
+        requires within { end ≤ width }
+        requires first { is_cut width self.old first ≡ true }
+        requires end { is_cut width self.old end ≡ true }
+        ensures sound { is_sound width self.new ≡ true }
+        ensures stamps { IsStampedWithin (stamp_at width self.old) (stamp_at width self.new) width first end stamp }
+    {
+        if end <= first {
+            return;
+        }
+        if first == 0 && end == width {
+            *self = Stamps::Even(stamp);
+            return;
+        }
+        let half = width / 2;
+        match self {
+            Stamps::Split(greatest, low, high) => {
+                low.fill(half, first.min(half), end.min(half), stamp);
+                high.fill(
+                    width - half,
+                    first.saturating_sub(half),
+                    end.saturating_sub(half),
+                    stamp,
+                );
+                *greatest = low.greatest_of().max(high.greatest_of());
+            }
+            Stamps::Even(_) => unreachable!(),
+        }
+    }
+}

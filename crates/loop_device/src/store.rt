@@ -1,0 +1,127 @@
+//! A store in memory: what was carried out, and the stamps of its sectors.
+ghost use Rattle.std.specs.Prelude.{◌≡◌, ◌≤◌, ◌^◌, ◌++◌, ◌∷◌, [], true, IfOk, OnOk, OnErr};
+ghost use Rattle.loop_device.specs.Halving.{is_sound, IsRefined};
+ghost use Rattle.loop_device.specs.History.{Answers, IsHistory, done_of};
+ghost use Rattle.loop_device.specs.Keys.{first_key, end_key, Carries, IsSmall, LeavesStamp};
+
+use crate::halving::Stamps;
+use crate::io::{Done, Io, IoKind};
+use std::alloc::{AllocError, Global};
+use std::marker::Model;
+
+/// Bytes in a sector.
+const SECTOR: u128 = 512;
+
+/// Sectors of one name, all names' side by side in one row: no offset and length of 64 bits reach further.
+const SECTORS_PER_NAME: u128 = 1 << 56;
+
+/// Sectors in the row.
+const WIDTH: u128 = 1 << 88;
+
+/// A store, which clauses see as its history: what was carried out, in order.
+#[derive(Drop)]
+pub struct Store {
+    alloc: Global,
+    stamps: Stamps,
+    done: Vec<Done>,
+}
+
+impl Model for Store {
+    ghost use Rattle.std.specs.Prelude.{List};
+    ghost use Rattle.loop_device.specs.declared.io.Done.{Done};
+    ghost use Rattle.loop_device.specs.Keys.{IsKept};
+
+    ghost Value = { List Done };
+
+    ghost view = { λ s. s.done.items };
+
+    ghost invariant = { λ s. IsKept s.done.items s.stamps };
+}
+
+impl Store {
+    /// A store on which nothing was carried out. Each sector's stamp is 0.
+    pub fn open(alloc: Global) -> Store
+        ensures { result ≡ [] }
+    {
+        Store {
+            alloc,
+            stamps: Stamps::Even(0),
+            done: Vec::new(alloc),
+        }
+    }
+
+    /// What was carried out, in order.
+    pub fn history(&self) -> &[Done]
+        ensures same { result.now ≡ self.now }
+        ensures lawful { IsHistory self.now }
+    {
+        self.done.as_slice()
+    }
+
+    /// Carries a line out, and tells its stamp: of a write or a trim its line, of a read the greatest stamp of its sectors,
+    /// where a sector's stamp is the line of the last write or trim that covered it, and 0 before the first. The others
+    /// answer 0. Out of memory, nothing changes.
+    pub fn carry(&mut self, io: &Io) -> Result<u64, AllocError>
+        ensures ok { IfOk result (λ stamp. self.new ≡ self.old ++ done_of io.now stamp ∷ []) }
+        ensures stamp { IfOk result (Answers self.old io.now) }
+        ensures err { OnErr result (self.new ≡ self.old) }
+    {
+        self.done.reserve(1)?;
+        let stamp = answer(&mut self.stamps, self.alloc, io)?;
+        self.done.push_reserved(Done { io: *io, stamp });
+        Ok(stamp)
+    }
+}
+
+// What the line answers. A write or a trim leaves its stamp.
+fn answer(stamps: &mut Stamps, alloc: Global, io: &Io) -> Result<u64, AllocError>
+    requires { is_sound (2 ^ 88) stamps.old ≡ true }
+    ensures ok { IfOk result (Carries stamps.old stamps.new io.now) }
+    ensures err { OnErr result (IsRefined (2 ^ 88) stamps.old stamps.new) }
+{
+    if io.kind.leaves_stamp() {
+        leave_stamp(stamps, alloc, io)?;
+        return Ok(io.line);
+    }
+    match io.kind {
+        IoKind::Read => {
+            let (first, end) = span(io);
+            Ok(stamps.greatest(WIDTH, first, end))
+        }
+        _ => Ok(0),
+    }
+}
+
+// Leaves the line's number as the stamp of each sector that it covers.
+fn leave_stamp(stamps: &mut Stamps, alloc: Global, io: &Io) -> Result<(), AllocError>
+    requires { is_sound (2 ^ 88) stamps.old ≡ true }
+    ensures small { IsSmall io.now }
+    ensures sound { is_sound (2 ^ 88) stamps.new ≡ true }
+    ensures ok { OnOk result (LeavesStamp stamps.old stamps.new io.now) }
+    ensures err { OnErr result (IsRefined (2 ^ 88) stamps.old stamps.new) }
+{
+    let (first, end) = span(io);
+    stamps.cut(alloc, WIDTH, first)?;
+    stamps.cut(alloc, WIDTH, end)?;
+    stamps.fill(WIDTH, first, end, io.line);
+    Ok(())
+}
+
+// Where the sectors that the line covers begin in the row, and where they end.
+fn span(io: &Io) -> (u128, u128)
+    ensures first { result.0 ≡ first_key io.now }
+    ensures end { result.1 ≡ end_key io.now }
+    ensures small { IsSmall io.now }
+    ensures within { first_key io.now ≤ 2 ^ 88 }
+    ensures end_within { end_key io.now ≤ 2 ^ 88 }
+{
+    let base = u128::from(io.name) * SECTORS_PER_NAME;
+    let offset = u128::from(io.offset);
+    let first = base + offset / SECTOR;
+    if io.length > 0 {
+        let last = (offset + u128::from(io.length) - 1) / SECTOR;
+        (first, base + last + 1)
+    } else {
+        (first, first)
+    }
+}
