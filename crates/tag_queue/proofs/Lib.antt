@@ -1,0 +1,9 @@
+pub mod Results
+pub mod Getting
+pub mod Holding
+pub mod Counting
+pub mod Fronts
+pub mod Twins
+pub mod Gathering
+pub mod Opening
+pub mod Crossing

@@ -1,0 +1,10 @@
+pub mod Agents
+pub mod Gets
+pub mod Holding
+pub mod Clears
+pub mod Slots
+pub mod Waits
+pub mod Parts
+pub mod Twins
+pub mod Gathering
+pub mod Opening
