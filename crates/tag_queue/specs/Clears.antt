@@ -15,7 +15,7 @@ use Rattle.wake_book.specs.Waits.{active_at}
 use Rattle.wake_book.specs.Walks.{IsWalk}
 use Rattle.tag_queue.specs.declared.agent.Agent.{Agent}
 use Rattle.tag_queue.specs.declared.queue.Queue.{Queue}
-use Rattle.tag_queue.specs.Holding.{HoldsLess}
+use Rattle.tag_queue.specs.Holding.{HoldsLess, Only}
 use Rattle.tag_queue.specs.Agents.{caller_of, teller_of, waiter_of, hint_of, book_steps, group_steps, batch_of, cap_of}
 
 -- the hint of one who clears a tag goes to it, but not under round robin
@@ -27,7 +27,7 @@ pub record FollowsClear (tag : ℕ) (old new : Hint) : Type 0 where
 pub record Puts {R : Type 0} (l : Layout) (tag : ℕ) (old new : Agent R) : Type 0 where
   pub found : ℕ
   pub put : Adds (Word (Put (word_of l tag) (2 ^ place_of l tag) found)) (caller_of old) (caller_of new)
-  pub less : HoldsLess tag old new
+  pub less : HoldsLess (Only tag) old new
   pub hint : FollowsClear tag (hint_of old) (hint_of new)
 
 -- what follows a charge: a lawful walk for one batch where it was won, else no step

@@ -1,16 +1,30 @@
--- How the tags that an agent holds change.
-use Rattle.std.specs.Prelude.{◌≡◌, ◌≢◌, ℕ}
+-- How the tags that an agent holds change, and the values of their slots.
+use Rattle.std.specs.Prelude.{◌≡◌, ℕ}
+use Rattle.tag_core.specs.declared.caller.Caller.{Caller}
+use Rattle.tag_core.specs.Callers.{Holds, slot_of}
 use Rattle.tag_queue.specs.declared.agent.Agent.{Agent}
-use Rattle.tag_queue.specs.Agents.{Holds, slot_of}
+use Rattle.tag_queue.specs.Agents.{caller_of}
 
--- the agent holds the tag no more, and each other tag as before, with the value of its slot
-pub record HoldsLess {R : Type 0} (tag : ℕ) (old new : Agent R) : Type 0 where
-  pub gone : ¬ (Holds new tag)
-  pub kept : (other : ℕ) → other ≢ tag → Holds old other → Holds new other × (slot_of new other ≡ slot_of old other)
-  pub none_else : (other : ℕ) → Holds new other → Holds old other
+-- the named tags are gone; each other tag held before is held still, with the value of its slot; and no other is held
+pub record Parts {R : Type 0} (named : ℕ → Type 0) (old new : Caller R) : Type 0 where
+  pub gone : (tag : ℕ) → named tag → ¬ (Holds new tag)
+  pub kept : (tag : ℕ) → ¬ (named tag) → Holds old tag → Holds new tag × (slot_of new tag ≡ slot_of old tag)
+  pub none_else : (tag : ℕ) → Holds new tag → Holds old tag
 
--- the agent holds the tag, and each other tag as before, with the value of its slot
-pub record HoldsMore {R : Type 0} (tag : ℕ) (old new : Agent R) : Type 0 where
-  pub held : Holds new tag
-  pub kept : (other : ℕ) → Holds old other → Holds new other × (slot_of new other ≡ slot_of old other)
-  pub none_else : (other : ℕ) → other ≢ tag → Holds new other → Holds old other
+-- the named tags are held; each tag held before is held still, with the value of its slot; and no other is held
+pub record Joins {R : Type 0} (named : ℕ → Type 0) (old new : Caller R) : Type 0 where
+  pub held : (tag : ℕ) → named tag → Holds new tag
+  pub kept : (tag : ℕ) → Holds old tag → Holds new tag × (slot_of new tag ≡ slot_of old tag)
+  pub none_else : (tag : ℕ) → ¬ (named tag) → Holds new tag → Holds old tag
+
+-- the agent holds the named tags no more
+abbrev pub HoldsLess : {R : Type 0} → (ℕ → Type 0) → Agent R → Agent R → Type 0
+HoldsLess named old new = Parts named (caller_of old) (caller_of new)
+
+-- the agent holds the named tags as well
+abbrev pub HoldsMore : {R : Type 0} → (ℕ → Type 0) → Agent R → Agent R → Type 0
+HoldsMore named old new = Joins named (caller_of old) (caller_of new)
+
+-- the one tag
+abbrev pub Only : ℕ → ℕ → Type 0
+Only tag other = other ≡ tag

@@ -2,6 +2,7 @@ pub mod Agents
 pub mod Gets
 pub mod Holding
 pub mod Clears
+pub mod Batches
 pub mod Slots
 pub mod Waits
 pub mod Parts

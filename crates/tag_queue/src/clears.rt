@@ -76,8 +76,8 @@ impl<R: Copy> Queue<R> {
         after_clear(&mut agent.hint, tag);
     }
 
-    // Counts tags that came back where someone is active, and wakes up to a batch of waiters where it charged one.
-    fn complete(&self, agent: &mut Agent<R>, n: u32) -> u32
+    /// Counts tags that came back where someone is active, and wakes up to a batch of waiters where it charged one.
+    pub(crate) fn complete(&self, agent: &mut Agent<R>, n: u32) -> u32
         requires agent { IsAgentOf self.now agent.old }
         requires within { (1 ≤ n) × (n ≤ 64) }
         requires came_back { counted_by (teller_of agent.old) + n ≤ (record_of (caller_of agent.old)).back }

@@ -2,6 +2,7 @@
 #![tactic(auto)]
 
 mod agent;
+mod batches;
 mod clears;
 mod fault;
 mod gather;

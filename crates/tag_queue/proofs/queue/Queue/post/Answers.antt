@@ -1,10 +1,10 @@
-use Rattle.std.proofs.Common.{rules, ◌≡◌, List, ap, ◌∙◌, refl, ◌^◌}
+use Rattle.std.proofs.Common.{rules, ◌≡◌, ◌<◌, List, ap, ◌∙◌, subst, refl, ◌^◌}
 use Rattle.tag_layout.specs.Layout.{word_of, place_of}
 use Rattle.tag_core.specs.declared.record.Record.{Record}
 use Rattle.tag_core.specs.declared.shape.Shape.{Shape}
 use Rattle.tag_core.specs.Records.{parted}
 use Rattle.tag_core.specs.Callers.{Holds}
-use Rattle.tag_queue.proofs.Holding.{holds_less}
+use Rattle.tag_queue.proofs.Holding.{parts_with_tag}
 use Rattle.tag_queue.proofs.queue.Queue.post.Goals as goal
 
 pub returns-clause-posts : goal.returns-clause-posts
@@ -13,7 +13,8 @@ returns-clause-posts g c = let adds = c.post.ensures.step.2 in let old = c.args.
       value = c.post.ensures.step.0;
       slot = c.post.ensures.step.1;
       step = adds;
-      less = holds_less c.args.self.now.map c.args.agent.now _ c.args.tag c.requires.agent.0 c.post.ensures.caller held adds.slots
+      less = parts_with_tag c.args.self.now.map old c.post.new.caller c.requires.agent.0 c.post.ensures.caller c.args.tag
+          (subst (λ (s : Shape). c.args.tag < s.layout.depth) c.requires.agent.0.1 held.0) adds.slots
           (ap (λ (r : Record g.row.R.Denot). r.held) adds.known
           ∙ ap (λ (s : Shape). parted old.held.items (word_of s.layout c.args.tag) (2 ^ place_of s.layout c.args.tag)) c.requires.agent.0.1);
       same_else = (refl, (refl, refl));

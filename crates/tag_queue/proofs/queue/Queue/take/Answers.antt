@@ -3,7 +3,7 @@ use Rattle.tag_layout.specs.Layout.{word_of, place_of}
 use Rattle.tag_core.specs.declared.record.Record.{Record}
 use Rattle.tag_core.specs.declared.shape.Shape.{Shape}
 use Rattle.tag_core.specs.Records.{joined}
-use Rattle.tag_queue.proofs.Holding.{holds_more}
+use Rattle.tag_queue.proofs.Holding.{joins_with_tag}
 use Rattle.tag_queue.proofs.queue.Queue.take.Goals as goal
 
 pub returns-clause-takes : goal.returns-clause-takes
@@ -12,7 +12,7 @@ returns-clause-takes g c = let won = c.take.ensures.won (search rules) in let ad
       value = won.0;
       slot = won.1;
       step = adds;
-      more = holds_more c.args.self.now.map c.args.agent.now _ c.args.tag c.requires.agent.0 c.take.ensures.caller below adds.slots
+      more = joins_with_tag c.args.self.now.map old c.take.new.caller c.requires.agent.0 c.take.ensures.caller c.args.tag below adds.slots
           (ap (λ (r : Record g.row.R.Denot). r.held) adds.known
           ∙ ap (λ (s : Shape). joined old.held.items (word_of s.layout c.args.tag) (2 ^ place_of s.layout c.args.tag)) c.requires.agent.0.1);
       same_else = (refl, (refl, refl));
