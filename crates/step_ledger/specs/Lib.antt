@@ -1,3 +1,4 @@
 pub mod Views
+pub mod Gather
 pub mod History
 pub mod Ledger

@@ -83,7 +83,7 @@ module _ (R : Type 0) (k : Shape) (narrow : k.layout.shift ≤ 6) (id : ℕ) (me
 
     answer : (st : Step R) (words' : List ℕ) → Owed R k s sh r st words' → Posts s sh st → Answer s st words'
     answer st words' owed posts = let go = moved R k s sh r st words' owed ok me.1 carries deep in
-        (alone (record_after st r), go.act, go.valid, kept R k s sh r st words' owed ok me.1 carries deep posts id here, told R k s sh r st words' owed ok me.1 carries deep posts me refl)
+        (alone (record_after st r), go.act, go.valid, kept R k s sh r st words' owed ok me.1 carries deep posts id here, told R k s sh r st words' owed ok me.1 carries deep posts id here me refl)
 
     -- the same where the words stay
     still : (st : Step R) (i : ℕ) → Owed R k s sh r st s.words → Posts s sh st → Answer s st (set s.words i (get_or s.words i 0))
@@ -153,8 +153,8 @@ module _ (R : Type 0) (k : Shape) (narrow : k.layout.shift ≤ 6) (id : ℕ) (me
         z.2,
         z.3,
         λ i' r' ei er. subst
-            (λ (x : ℕ × Record R). Stepped (Word (Claimed x.0 m n)) x.1 me (z.0, carried_after me.1 z.1))
-            (λ j. (word_at_one i i' ei j, same_record r r' (sym mine ∙ er) j)) z.4,
+            (λ (x : ℕ × Record R). Stepped (Word (Claimed x.0 m n)) x.1 me (z.0, carried_after me.1 z.1) × FindsHeld x.1 x.0 n 1)
+            (λ j. (word_at_one i i' ei j, same_record r r' (sym mine ∙ er) j)) (z.4, (found_held s sh (ok s sh deep at) i).0),
       )
 
   -- an and-not of a word, of held tags
@@ -295,6 +295,9 @@ module _ (R : Type 0) (k : Shape) (narrow : k.layout.shift ≤ 6) (id : ℕ) (me
             subst (λ (x : ℕ). value_of (carried_after me.1 go.act) x ≡ some last.0) (same_state k r r' u u' o.shape (same_record r r' (sym mine ∙ er)) eu) val,
             subst (λ (x : ℕ × Record R). Stepped (Take x.0 1 (Some last.0)) x.1 me (z.0, carried_after me.1 z.1))
                 (λ j. (same_state k r r' u u' o.shape (same_record r r' (sym mine ∙ er)) eu j, same_record r r' (sym mine ∙ er) j)) z.4,
+            subst (λ (x : ℕ × Record R). tag_bit x.1.shape.layout x.1.held x.0 ≢ 1)
+                (λ j. (same_state k r r' u u' o.shape (same_record r r' (sym mine ∙ er)) eu j, same_record r r' (sym mine ∙ er) j))
+                (subst (λ (z : Shape). tag_bit z.layout r.held u ≢ 1) (sym o.shape) not_mine),
           ),
           λ h. absurd (h hit),
         ),

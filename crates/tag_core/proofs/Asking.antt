@@ -19,6 +19,8 @@ use Rattle.tag_core.specs.Records.{record_after, held_after, swept_after, tag_bi
 use Rattle.tag_core.specs.Views.{alone, steps_of}
 use Rattle.tag_core.specs.Rule.{Shown}
 use Rattle.tag_core.specs.Plays.{Stepped}
+use Rattle.tag_core.specs.Meeting.{HasHistory}
+use Rattle.tag_core.proofs.Singles.{same_record}
 use Rattle.tag_core.specs.Callers.{IsCallerOf, record_of, Holds}
 
 module _ {R : Type 0} (m : Map R) (w : Caller R) (own : IsCallerOf m w) where
@@ -94,6 +96,11 @@ module _ {R : Type 0} (w : Caller R) (st : Step R) (me' : Me R (View R)) (did : 
   pub slots : (tag : ℕ) → Holds w tag → (tag < w.shape.value.layout.depth) × (tag_bit w.shape.value.layout held' tag ≡ 1)
       → value_of me'.1 tag ≡ value_of w.seat.me.1 tag
   slots tag was is = did.values tag was.0 was.1 (ap (λ (z : List ℕ). tag_bit w.shape.value.layout z tag) held_is ∙ is.1)
+
+-- after a step one history shows what the caller knows
+pub shows : {R : Type 0} (st : Step R) (r : Record R) (me me' : Me R (View R)) → Stepped st r me me' → (q : Record R)
+    → me'.0 ≡ alone q → ∥ HasHistory r.shape q ∥₁
+shows st r me me' did q is = ∣ subst (HasHistory r.shape) (same_record (record_after st r) q (sym did.view ∙ is)) did.shown ∣₁
 
 -- what a caller may have given back in all
 pub bounded : {R : Type 0} (m : Map R) (w : Caller R) → IsCallerOf m w → (n : ℕ) → n ≤ w.shape.value.callers * MOST_WON

@@ -24,3 +24,5 @@ pub mod Meetings
 pub mod Crossing
 pub mod Totalling
 pub mod Lasts
+pub mod Showings
+pub mod Holdings

@@ -24,6 +24,10 @@ use Rattle.tag_core.specs.Views.{alone}
 use Rattle.tag_core.specs.Rule.{SlotIs, IsKnown, IsOpening, Shown}
 use Rattle.tag_core.specs.Plays.{Stepped}
 use Rattle.tag_core.proofs.Picks.{placed}
+use Rattle.atomic_table.proofs.Lists.{set_here}
+use Rattle.tag_core.specs.Meeting.{HasHistory}
+use Rattle.tag_core.proofs.Seats.{within}
+use Rattle.tag_core.proofs.Showings.{seen_in}
 use Rattle.tag_core.proofs.Counts.{own_counts}
 use Rattle.tag_core.proofs.Turns.{held_from}
 use Rattle.tag_core.proofs.Advance.{Owed, advances}
@@ -156,9 +160,9 @@ module _ (R : Type 0) (k : Shape) (s : State R (View R)) (sh : Shown k s) (r : R
     kept id at = advances R k s sh r st words' (homes_after s.homes cs moved.act) owed slots_after posts_after id at
 
     -- with what the caller is told
-    pub told : (me : View R × List (ℕ × R)) → me.1 ≡ cs
+    pub told : (id : ℕ) → get_elem? s.views id ≡ some (alone r) → (me : View R × List (ℕ × R)) → me.1 ≡ cs
         → Stepped st r me (alone (record_after st r), carried_after me.1 moved.act)
-    told me e =
+    told id at me e =
         let same : k ≡ r.shape = sym ok.shape in
         let list : carried_after me.1 moved.act ≡ moved.list = ap (λ (z : List (ℕ × R)). carried_after z moved.act) e
         ∙ moved.list_is in record {
@@ -174,4 +178,6 @@ module _ (R : Type 0) (k : Shape) (s : State R (View R)) (sh : Shown k s) (r : R
               (let few = back-history k.layout k.callers (events_of k.layout ((r.number, st) ∷ sh.history)) (opening_world k)
               (owed.needs, sh.lawful.happens) sh.opening.unspent (opening_even k sh.opening) r.number ok.number in
               let now = (own_counts k.layout r.number st (world_of k sh.history).back).1 in let before = ok.back in omega arith);
+          shown = subst (λ (z : Shape). HasHistory z (record_after st r)) same (seen_in R k _ (kept id at) id (record_after st r)
+              (set_here s.views id (alone (record_after st r)) (within s.views id _ at)));
         }

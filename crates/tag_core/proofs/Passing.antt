@@ -17,6 +17,7 @@ use Rattle.tag_core.specs.Spacing.{word_at, aside_at, state_at, table_width}
 use Rattle.tag_core.specs.Records.{fresh_record, tag_bit, tags_from}
 use Rattle.tag_core.specs.Views.{viewing, alone, fresh, all_fresh, first_view, other_views, both_views}
 use Rattle.tag_core.specs.Rule.{IsOpening, IsKnown, Shown}
+use Rattle.tag_core.specs.Meeting.{HasHistory}
 use Rattle.tag_core.proofs.Seats.{within, snoc_at, append_at, everyone_split, everyone_join}
 
 -- each of so many zeros is 0
@@ -65,6 +66,21 @@ module _ (R : Type 0) (k : Shape) where
     won = refl;
     back = refl;
     steps = refl;
+  }
+
+  -- the history of no steps shows a new caller's record
+  pub fresh_history : (c : ℕ) → c < k.callers → HasHistory k (fresh_record {R = R} k c)
+  fresh_history c h = record {
+    history = [];
+    lawful = record { finds = tt; happens = tt };
+    known = fresh_ok c h;
+    tags = λ t l. record {
+      word = sym (bit_at-zero (t % 2 ^ k.layout.shift));
+      aside = sym (bit_at-zero (t % 2 ^ k.layout.shift));
+      posted = refl;
+    };
+    word_within = λ i l. pow_pos (word_depth k.layout i);
+    aside_within = λ i l. pow_pos (word_depth k.layout i);
   }
 
   at_home : (xs : List R) (t : ℕ) → t < length xs → (y : R) × (get_elem? (map some xs) t ≡ some (some y))

@@ -16,7 +16,7 @@ use Rattle.tag_core.specs.Spacing.{word_at, aside_at, state_at}
 use Rattle.tag_core.specs.Histories.{event_of}
 use Rattle.tag_core.specs.Records.{record_after, held_after, tag_bit, value_of, tags_from, but, Carries}
 use Rattle.tag_core.specs.Views.{viewing, alone}
-use Rattle.tag_core.specs.Meeting.{ShareHistory, AreApart}
+use Rattle.tag_core.specs.Meeting.{HasHistory, ShareHistory, AreApart}
 
 -- the caller of this record made the step: the slots of its tags are with it, and those of tags that it keeps have their values
 pub record Stepped {R : Type 0} (step : Step R) (r : Record R) (me me' : Me R (View R)) : Type 0 where
@@ -26,6 +26,7 @@ pub record Stepped {R : Type 0} (step : Step R) (r : Record R) (me me' : Me R (V
       (tag : ℕ) → tag < r.shape.layout.depth → tag_bit r.shape.layout r.held tag ≡ 1
       → tag_bit r.shape.layout (held_after r.shape.layout step r.held) tag ≡ 1 → value_of me'.1 tag ≡ value_of me.1 tag
   pub few_back : r.back + back_by (event_of r.shape.layout r.number step) ≤ r.shape.callers * MOST_WON
+  pub shown : HasHistory r.shape (record_after step r)
 
 -- each tag of this word that the caller holds has this bit in what was found
 abbrev pub FindsHeld : {R : Type 0} → Record R → ℕ → ℕ → ℕ → Type 0
@@ -50,7 +51,7 @@ module _ {R : Type 0} (st : table.Step R) (me : Me R (View R)) (found : ℕ) (me
   abbrev pub claimed : Type 0
   claimed =
       (i : ℕ) (r : Record R) → st.word ≡ word_at i → me.0 ≡ alone r
-      → Stepped (Word (Claimed i st.first found)) r me me'
+      → Stepped (Word (Claimed i st.first found)) r me me' × FindsHeld r i found 1
 
   -- an and-not of a word, of held tags
   abbrev pub gave : Type 0
@@ -80,11 +81,13 @@ module _ {R : Type 0} (st : table.Step R) (me : Me R (View R)) (found : ℕ) (me
       (tag : ℕ) (value : R) (r : Record R) → st.word ≡ state_at r.shape.layout tag → value_of me.1 tag ≡ some value → me.0 ≡ alone r
       → Stepped (Post tag value) r me me'
 
-  -- an exchange of a state's 1 for 0: where it was 1, the slot that came has the value of the tag's last Post
+  -- an exchange of a state's 1 for 0: where it was 1, the slot that came has the value of the tag's last Post, and the tag was
+  -- not the caller's
   abbrev pub took : Type 0
   took =
       (tag : ℕ) (r : Record R) → st.word ≡ state_at r.shape.layout tag → me.0 ≡ alone r
-      → (found ≡ 1 → (value : R) × (value_of me'.1 tag ≡ some value) × Stepped (Take tag 1 (Some value)) r me me')
+      → (found ≡ 1 → (value : R) × (value_of me'.1 tag ≡ some value) × Stepped (Take tag 1 (Some value)) r me me'
+      × (tag_bit r.shape.layout r.held tag ≢ 1))
       × (found ≢ 1 → (found ≡ 0) × Stepped (Take tag 0 None) r me me')
 
   -- a load that brings a held tag's slot to the front

@@ -2,6 +2,8 @@
 ghost use Rattle.std.specs.Prelude.{◌≡◌, ◌≤◌, ◌*◌, length, replicate};
 ghost use Rattle.tag_layout.specs.Layout.{words};
 ghost use Rattle.tag_model.specs.declared.world.TheConstants.{MOST_WON, MAX_CALLERS};
+ghost use Rattle.tag_core.specs.declared.record.Record.{Record};
+ghost use Rattle.tag_core.specs.Meeting.{HasHistory};
 ghost use Rattle.tag_core.specs.Records.{Carries};
 ghost use Rattle.tag_core.specs.Views.{alone, steps_of};
 
@@ -45,6 +47,7 @@ pub struct Caller<R> {
       back = back;
       steps = steps_of seat.me.0;
     }) },
+    ghost shown: { (r : Record R) → seat.me.0 ≡ alone r → ∥ HasHistory shape.value r ∥₁ },
     ghost carries: { Carries shape.value.layout held.items seat.me.1 },
     ghost wide: { length held.items ≡ words shape.value.layout },
     ghost unspent: { (won ≤ life) × (life ≤ MOST_WON) },

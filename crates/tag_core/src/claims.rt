@@ -1,8 +1,10 @@
 //! Claims: how tags are won.
 ghost use Rattle.std.specs.Prelude.{◌≡◌, ℕ, ◌+◌, ◌<◌, ◌≤◌, ◌↔◌, count_ones, IfOk, IsErr, OnErr, IsTrue};
-ghost use Rattle.tag_layout.specs.Layout.{words, IsWithin};
+ghost use Rattle.std.specs.Int.{bit_at};
+ghost use Rattle.tag_layout.specs.Layout.{words, word_of, place_of, IsWithin};
 ghost use Rattle.tag_core.specs.Steps.{without};
-ghost use Rattle.tag_core.specs.Callers.{layout_of, IsCallerOf, record_of, Adds};
+ghost use Rattle.tag_core.specs.Callers.{layout_of, IsCallerOf, record_of, Holds, Adds};
+ghost use Rattle.tag_core.specs.Holdings.{IsInMask, Acquires};
 ghost use Rattle.tag_core.specs.declared.step.Step.TheVariants.{Word};
 ghost use Rattle.tag_core.specs.declared.word_step.WordStep.TheVariants.{Claimed};
 
@@ -19,7 +21,10 @@ impl<R> Map<R> {
         requires caller { IsCallerOf self.now caller.old }
         requires within { (word < words (layout_of self.now)) × IsWithin (layout_of self.now) word mask }
         ensures caller { IsCallerOf self.now caller.new }
+        ensures held { IfOk result (λ c. (tag : ℕ) → Holds caller.old tag → word_of (layout_of self.now) tag ≡ word
+            → bit_at c.found (place_of (layout_of self.now) tag) ≡ 1) }
         ensures won { IfOk result (λ c. c.won ≡ without mask c.found) }
+        ensures acquired { IfOk result (λ c. Acquires (IsInMask (layout_of self.now) word c.won) caller.old caller.new) }
         ensures step { IfOk result (λ c. Adds (Word (Claimed word mask c.found)) caller.old caller.new) }
 
         // No step is made.

@@ -1,6 +1,6 @@
-//! Two callers in hand.
+//! Callers in hand.
 ghost use Rattle.std.specs.Prelude.{◌≡◌, ◌≢◌, ℕ};
-ghost use Rattle.tag_core.specs.Meeting.{ShareHistory};
+ghost use Rattle.tag_core.specs.Meeting.{HasHistory, ShareHistory};
 ghost use Rattle.tag_core.specs.Callers.{IsCallerOf, record_of, Holds, IsUnchanged};
 
 use crate::caller::Caller;
@@ -28,4 +28,25 @@ impl<R> Map<R> {
         table.join_seat::<Collect>(&mut first.seat, one);
         table.join_seat::<Collect>(&mut second.seat, both);
     }
+
+    /// Tells that a tag which the first caller holds is not one of the second's. It makes no step: a look at the
+    /// second's own mask is enough, and only where that had the tag, which can't be, the two would meet.
+    pub fn apart(&self, first: &mut Caller<R>, second: &mut Caller<R>, tag: u32)
+        requires callers { IsCallerOf self.now first.old × IsCallerOf self.now second.old }
+        requires held { Holds first.old tag }
+        ensures apart { ¬ (Holds second.old tag) }
+        ensures same { (first.new ≡ first.old) × (second.new ≡ second.old) }
+    {
+        if second.holds(tag) {
+            self.meet(first, second);
+            unreachable!()
+        }
+    }
+}
+
+impl<R> Caller<R> {
+    /// Tells that one lawful history shows what is known of the caller. It makes no step: each step of the caller showed it.
+    pub fn history(&self)
+        ensures { ∥ HasHistory (record_of self.now).shape (record_of self.now) ∥₁ }
+    {}
 }

@@ -2,6 +2,7 @@
 ghost use Rattle.std.specs.Prelude.{◌≡◌, ◌≢◌, ℕ, ◌^◌, ◌<◌, IsTrue, IsFalse};
 ghost use Rattle.tag_layout.specs.Layout.{words};
 ghost use Rattle.tag_core.specs.Callers.{layout_of, IsCallerOf, Adds, AddsTwo};
+ghost use Rattle.tag_core.specs.Holdings.{KeepsAll};
 ghost use Rattle.tag_core.specs.declared.step.Step.TheVariants.{Word};
 ghost use Rattle.tag_core.specs.declared.word_step.WordStep.TheVariants.{Swap, Spill};
 
@@ -19,6 +20,7 @@ impl<R> Map<R> {
         ensures none { IsFalse result → Adds (Word (Swap word 0)) caller.old caller.new }
         ensures some { IsTrue result → (mask : ℕ) × (found : ℕ) × (mask ≢ 0) × (mask < 2 ^ 64)
             × AddsTwo (Word (Swap word mask)) (Word (Spill word mask found)) caller.old caller.new }
+        ensures kept { KeepsAll caller.old caller.new }
     {
         let table = &self.table.shared;
         let mask = table.swap::<Swapping>(&mut caller.seat, aside_spot(word), 0);

@@ -6,7 +6,9 @@ use Rattle.tag_core.specs.declared.shape.Shape.{Shape}
 use Rattle.tag_core.specs.Records.{fresh_record, Carries}
 use Rattle.tag_core.specs.Views.{viewing, alone, fresh, first_view, other_views, steps_of}
 use Rattle.tag_core.specs.Rule.{Shown}
-use Rattle.tag_core.proofs.Passing.{hands_first, next_fresh, carries_none}
+use Rattle.tag_core.specs.Meeting.{HasHistory}
+use Rattle.tag_core.proofs.Passing.{hands_first, next_fresh, carries_none, fresh_history}
+use Rattle.tag_core.proofs.Singles.{same_record}
 use Rattle.tag_core.proofs.Stand.{some_width}
 use Rattle.tag_core.proofs.opens.next_caller.Goals as goal
 
@@ -64,6 +66,9 @@ invariant_of-result g c = let k = c.args.map.now.shape in let n : ℕ = c.args.n
             back = 0;
             steps = sym (ap steps_of alone_is) j;
           }));
+      shown = λ r e. ∣ subst (λ (z : Shape). HasHistory z r) (sym c.of.ensures)
+          (subst (HasHistory k) (same_record (fresh_record k n) r (sym (ap (λ x. x.0) now ∙ ap first_view is) ∙ e))
+          (fresh_history R k n c.requires.number)) ∣₁;
       carries = subst (λ (z : Shape × List ℕ × List (ℕ × R)). Carries z.0.layout z.1 z.2)
           (λ j. (sym c.of.ensures j, sym blank j, sym (ap (λ x. x.1) now) j)) (carries_none R k (words k.layout));
       wide = ap length blank ∙ length-replicate (words k.layout) 0 ∙ ap (λ (z : Shape). words z.layout) (sym c.of.ensures);

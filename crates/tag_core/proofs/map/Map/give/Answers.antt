@@ -11,7 +11,8 @@ use Rattle.tag_core.specs.Callers.{record_of}
 use Rattle.tag_core.proofs.Stand.{word_in}
 use Rattle.tag_core.proofs.Picks.{among, one_among}
 use Rattle.tag_core.proofs.Allowed.{give_allowed}
-use Rattle.tag_core.proofs.Asking.{narrow, in_words, asked, recorded, knows, carries, few, slots, bounded, plus_none}
+use Rattle.tag_core.proofs.Asking.{narrow, in_words, asked, recorded, knows, carries, few, slots, bounded, plus_none, shows}
+use Rattle.tag_core.proofs.Holdings.{adds_releases}
 use Rattle.tag_core.proofs.map.Map.give.Goals as goal
 
 pub fetch_and-requires : goal.fetch_and-requires
@@ -41,6 +42,7 @@ invariant_of-caller g c =
       told = w.told;
       knows = knows w (Word (Give i x c.fetch_and.result)) c.fetch_and.new.seat.me did held w.won
           (w.back + count_ones x) held_is refl (plus_none w.won) refl;
+      shown = shows (Word (Give i x c.fetch_and.result)) (record_of w) w.seat.me c.fetch_and.new.seat.me did;
       carries = carries w (Word (Give i x c.fetch_and.result)) c.fetch_and.new.seat.me did held w.won
           (w.back + count_ones x) held_is refl (plus_none w.won) refl;
       wide = length-set w.held.items i _ ∙ w.wide;
@@ -70,3 +72,8 @@ returns-clause-step g c =
         same_map = c.fetch_and.ensures.0;
       },
     )
+
+pub returns-clause-released : goal.returns-clause-released
+returns-clause-released g c =
+    let m = c.args.self.now in let w = c.args.caller.now in let own = c.requires.caller in
+    adds_releases m w _ own _ (returns-clause-step g c).1 c.args.word c.args.mask c.requires.within.0 c.requires.within.1 refl

@@ -9,7 +9,8 @@ use Rattle.tag_core.specs.Plays.{looked_aside}
 use Rattle.tag_core.specs.Callers.{record_of}
 use Rattle.tag_core.proofs.Stand.{aside_in}
 use Rattle.tag_core.proofs.Allowed.{look_aside_allowed}
-use Rattle.tag_core.proofs.Asking.{narrow, in_words, asked, recorded, knows, carries, slots, plus_none}
+use Rattle.tag_core.proofs.Asking.{narrow, in_words, asked, recorded, knows, carries, slots, plus_none, shows}
+use Rattle.tag_core.proofs.Holdings.{adds_keeps}
 use Rattle.tag_core.proofs.map.Map.look_aside.Goals as goal
 
 pub load-requires : goal.load-requires
@@ -29,6 +30,7 @@ invariant_of-caller g c =
       knows = knows w
           (Word (LookAside i c.load.result)) c.load.new.seat.me did.0 w.held.items w.won w.back refl refl (plus_none w.won)
           (plus_none w.back);
+      shown = shows (Word (LookAside i c.load.result)) (record_of w) w.seat.me c.load.new.seat.me did.0;
       carries =
           carries w (Word (LookAside i c.load.result)) c.load.new.seat.me did.0 w.held.items w.won w.back refl refl
           (plus_none w.won) (plus_none w.back);
@@ -58,3 +60,7 @@ returns-clause-held g c =
     let did = c.load.ensures.2 i (record_of w) c.aside_spot.ensures w.knows in λ t has e.
     subst (λ (z : Shape). bit_at c.load.result (place_of z.layout t) ≡ 0) own.1
     (did.1 t has.0 (ap (λ (z : Shape). word_of z.layout t) own.1 ∙ e) has.1)
+
+pub returns-clause-kept : goal.returns-clause-kept
+returns-clause-kept g c =
+    adds_keeps c.args.self.now c.args.caller.now _ c.requires.caller _ (returns-clause-step g c) refl

@@ -10,9 +10,10 @@ use Rattle.tag_core.specs.Plays.{posted}
 use Rattle.tag_core.specs.Callers.{record_of}
 use Rattle.tag_core.proofs.Stand.{state_in}
 use Rattle.tag_core.proofs.Allowed.{post_allowed}
-use Rattle.tag_core.proofs.Asking.{narrow, asked, recorded, knows, carries, slots, plus_none}
+use Rattle.tag_core.proofs.Asking.{narrow, asked, recorded, knows, carries, slots, plus_none, shows}
 use Rattle.std.proofs.lemmas.Nat.{one_shl}
 use Rattle.tag_core.proofs.Valued.{valued}
+use Rattle.tag_core.proofs.Holdings.{adds_releases_one}
 use Rattle.tag_core.proofs.map.Map.post.Goals as goal
 
 pub store-requires : goal.store-requires
@@ -51,6 +52,7 @@ invariant_of-caller g c =
     record {
       told = w.told;
       knows = knows w (Post u val.0) c.store.new.seat.me did held w.won w.back held_is refl (plus_none w.won) (plus_none w.back);
+      shown = shows (Post u val.0) (record_of w) w.seat.me c.store.new.seat.me did;
       carries = carries w (Post u val.0) c.store.new.seat.me did held w.won w.back held_is refl (plus_none w.won)
           (plus_none w.back);
       wide = length-set w.held.items i _ ∙ w.wide;
@@ -87,3 +89,8 @@ returns-clause-step g c =
         same_map = c.store.ensures.0;
       },
     )
+
+pub returns-clause-released : goal.returns-clause-released
+returns-clause-released g c =
+    let m = c.args.self.now in let w = c.args.caller.now in let own = c.requires.caller in
+    adds_releases_one m w _ own _ (returns-clause-step g c).2 c.args.tag c.requires.held.0 refl

@@ -9,15 +9,16 @@ use Rattle.tag_core.specs.declared.step.Step.TheVariants.{Word}
 use Rattle.tag_core.specs.declared.word_step.WordStep.TheVariants.{Put}
 use Rattle.tag_core.specs.Steps.{without}
 use Rattle.tag_core.specs.Spacing.{aside_at}
-use Rattle.tag_core.specs.Records.{record_after}
+use Rattle.tag_core.specs.Records.{record_after, parted}
 use Rattle.tag_core.specs.Plays.{put_aside}
 use Rattle.tag_core.specs.Callers.{record_of}
 use Rattle.tag_core.proofs.Stand.{aside_in}
 use Rattle.tag_core.proofs.Allowed.{put_allowed}
-use Rattle.tag_core.proofs.Asking.{narrow, asked, recorded, knows, carries, few, slots, bounded, plus_none}
+use Rattle.tag_core.proofs.Asking.{narrow, asked, recorded, knows, carries, few, slots, bounded, plus_none, shows}
 use Rattle.std.proofs.lemmas.Nat.{one_shl}
 use Rattle.tag_core.specs.Plays.{Stepped}
 use Rattle.tag_core.specs.Rule.{Shown}
+use Rattle.tag_core.proofs.Holdings.{adds_releases_one}
 use Rattle.tag_core.proofs.map.Map.put.Goals as goal
 
 pub fetch_or-requires : goal.fetch_or-requires
@@ -58,6 +59,7 @@ invariant_of-caller g c =
       told = w.told;
       knows = knows w (Word (Put (word_of k.layout u) (2 ^ place_of k.layout u) n)) c.fetch_or.new.seat.me did held w.won
           (w.back + 1) held_is refl (plus_none w.won) refl;
+      shown = shows (Word (Put (word_of k.layout u) (2 ^ place_of k.layout u) n)) (record_of w) w.seat.me c.fetch_or.new.seat.me did;
       carries = carries w (Word
           (Put (word_of k.layout u) (2 ^ place_of k.layout u) n)) c.fetch_or.new.seat.me did held w.won
           (w.back + 1) held_is refl (plus_none w.won) refl;
@@ -99,3 +101,9 @@ returns-clause-step g c =
         same_map = c.fetch_or.ensures.0;
       },
     )
+
+pub returns-clause-released : goal.returns-clause-released
+returns-clause-released g c =
+    let m = c.args.self.now in let w = c.args.caller.now in let own = c.requires.caller in
+    adds_releases_one m w _ own _ (returns-clause-step g c).1 c.args.tag c.requires.held.0
+    (ap (λ (z : Shape). parted w.held.items (word_of z.layout c.args.tag) (2 ^ place_of z.layout c.args.tag)) (sym own.1))

@@ -72,6 +72,7 @@ invariant_of-caller g c =
             back = w.back;
             steps = steps_of (sym same j);
           }));
+      shown = λ r is. w.shown r (sym same ∙ is);
       carries = last.1;
       wide = w.wide;
       unspent = w.unspent;

@@ -12,13 +12,14 @@ use Rattle.tag_core.specs.Callers.{record_of}
 use Rattle.tag_core.proofs.Stand.{word_in, aside_in}
 use Rattle.tag_core.proofs.Sweepings.{nothing, clean, mask_of}
 use Rattle.tag_core.proofs.Allowed.{swap_allowed, spill_allowed}
-use Rattle.tag_core.proofs.Asking.{narrow, in_words, asked, recorded, knows, slots, plus_none}
+use Rattle.tag_core.proofs.Asking.{narrow, in_words, asked, recorded, knows, slots, plus_none, shows}
 use Rattle.std.proofs.Common.{◌∷◌}
 use Rattle.atomic_table.specs.Table.{Me}
 use Rattle.tag_core.specs.declared.record.View.{View}
 use Rattle.tag_core.specs.declared.caller.Caller.{Caller}
 use Rattle.tag_core.specs.Views.{alone, steps_of}
 use Rattle.tag_core.specs.Rule.{Shown}
+use Rattle.tag_core.proofs.Holdings.{adds_keeps, adds_two_keeps}
 use Rattle.tag_core.proofs.map.Map.sweep.Goals as goal
 
 pub swap-mask-requires : goal.swap-mask-requires
@@ -40,6 +41,7 @@ invariant_of-caller g c =
       told = w.told;
       knows = knows w (Word (Swap i f)) c.swap-mask.new.seat.me did w.held.items w.won w.back refl
           (nothing (words k.layout) i f c.if-mask-eq0.true) (plus_none w.won) (plus_none w.back);
+      shown = shows (Word (Swap i f)) (record_of w) w.seat.me c.swap-mask.new.seat.me did;
       carries =
           did.carries;
       wide = w.wide;
@@ -119,6 +121,7 @@ invariant_of-caller-2 g c =
       told = w.told;
       knows = done.view ∙ (λ j. alone (record_after (Word (Spill i (mask j) c.fetch_and.result)) r1))
           ∙ ap alone (sym (both w i f c.fetch_and.result me inside done.view));
+      shown = shows (Word (Spill i (get_or r1.swept i 0) c.fetch_and.result)) (r1) c.swap-mask.new.seat.me me done;
       carries = done.carries;
       wide = w.wide;
       unspent = w.unspent;
@@ -144,3 +147,11 @@ returns-clause-some g c =
         same_map = c.fetch_and.ensures.0 ∙ c.swap-mask.ensures.0;
       },
     )
+
+pub returns-then-mask-eq0-clause-kept : goal.returns-then-mask-eq0-clause-kept
+returns-then-mask-eq0-clause-kept g c =
+    adds_keeps c.args.self.now c.args.caller.now _ c.requires.caller _ (returns-then-mask-eq0-clause-none g c refl) refl
+
+pub returns-clause-kept : goal.returns-clause-kept
+returns-clause-kept g c = let steps = returns-clause-some g c refl in
+    adds_two_keeps c.args.self.now c.args.caller.now _ c.requires.caller _ _ steps.4 refl

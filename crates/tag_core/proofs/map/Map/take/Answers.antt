@@ -10,8 +10,9 @@ use Rattle.tag_core.specs.Plays.{took}
 use Rattle.tag_core.specs.Callers.{record_of}
 use Rattle.tag_core.proofs.Stand.{state_in}
 use Rattle.tag_core.proofs.Allowed.{take_allowed}
-use Rattle.tag_core.proofs.Asking.{narrow, asked, recorded, knows, carries, slots, plus_none}
+use Rattle.tag_core.proofs.Asking.{narrow, asked, recorded, knows, carries, slots, plus_none, shows}
 use Rattle.std.proofs.lemmas.Nat.{one_shl}
+use Rattle.tag_core.proofs.Holdings.{adds_keeps, adds_acquires_one}
 use Rattle.tag_core.proofs.map.Map.take.Goals as goal
 
 pub compare_exchange-found-requires : goal.compare_exchange-found-requires
@@ -42,6 +43,7 @@ invariant_of-caller g c =
       knows = knows w
           (Take u 0 None) c.compare_exchange-found.new.seat.me miss w.held.items w.won w.back refl refl (plus_none w.won)
           (plus_none w.back);
+      shown = shows (Take u 0 None) (record_of w) w.seat.me c.compare_exchange-found.new.seat.me miss;
       carries = miss.carries;
       wide = w.wide;
       unspent = w.unspent;
@@ -69,6 +71,10 @@ returns-then-found-ne1-clause-missed g c =
       same_map = c.compare_exchange-found.ensures.0;
     }
 
+pub returns-then-found-ne1-clause-kept : goal.returns-then-found-ne1-clause-kept
+returns-then-found-ne1-clause-kept g c = λ missed.
+    adds_keeps c.args.self.now c.args.caller.now _ c.requires.caller _ (returns-then-found-ne1-clause-missed g c missed) refl
+
 pub invariant_of-caller-2 : goal.invariant_of-caller-2
 invariant_of-caller-2 g c =
     let m = c.args.self.now in let w = c.args.caller.now in let k = w.shape.value in let own = c.requires.caller in
@@ -91,6 +97,7 @@ invariant_of-caller-2 g c =
       told = w.told;
       knows = knows w (Take u 1 (Some got.0)) c.compare_exchange-found.new.seat.me got.2 held w.won w.back held_is refl
           (plus_none w.won) (plus_none w.back);
+      shown = shows (Take u 1 (Some got.0)) (record_of w) w.seat.me c.compare_exchange-found.new.seat.me got.2;
       carries = carries w (Take u 1 (Some got.0)) c.compare_exchange-found.new.seat.me got.2 held w.won w.back held_is refl
           (plus_none w.won) (plus_none w.back);
       wide = length-set w.held.items i _ ∙ w.wide;
@@ -128,3 +135,12 @@ returns-clause-won g c =
         same_map = c.compare_exchange-found.ensures.0;
       },
     )
+
+pub returns-clause-acquired : goal.returns-clause-acquired
+returns-clause-acquired g c =
+    let m = c.args.self.now in let w = c.args.caller.now in let k = w.shape.value in let own = c.requires.caller in
+    let u : ℕ = c.args.tag in let lay : w.layout ≡ k.layout = w.told.0 in
+    let did = c.compare_exchange-found.ensures.2 u (record_of w) (c.state_spot-state.ensures ∙ ap (λ (z : Layout). state_at z u) lay) w.knows in
+    let got = did.0 (search rules) in
+    let lu : u < k.layout.depth = subst (λ (z : Shape). u < z.layout.depth) (sym own.1) c.requires.within in
+    λ true. adds_acquires_one m w _ own _ (returns-clause-won g c true).2 u lu (λ h. got.3 h.1) refl

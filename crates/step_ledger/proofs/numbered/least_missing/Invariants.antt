@@ -1,0 +1,6 @@
+use Rattle.std.proofs.Common.{map}
+use Rattle.step_ledger.specs.Views.{HasAll}
+use Rattle.step_ledger.proofs.numbered.least_missing.Given as goal
+
+abbrev pub invariant-loop-number : goal.invariant-loop-number
+invariant-loop-number g l = HasAll (map g.M.Numbered.number_of l.members) l.number

@@ -1,0 +1,43 @@
+//! Who is missing where members of one table come together.
+ghost use Rattle.std.specs.Prelude.{◌≡◌, ◌↔◌, map, IsTrue, MatchOption};
+ghost use Rattle.step_ledger.specs.Views.{Has, HasAll, IsLeastMissing};
+
+/// Why members don't come together.
+#[derive(Clone, Copy, Debug, PartialEq, Eq)]
+pub enum GatherCause {
+    /// The least number of a member that wasn't handed in.
+    Missing(u32),
+}
+
+/// A member of a table, by its number from 0.
+pub trait Numbered {
+    ghost use Rattle.std.specs.Prelude.{ℕ};
+
+    ghost number_of: { Self → ℕ };
+
+    fn number(&self) -> u32
+        ensures { result ≡ number_of self.now };
+}
+
+/// The least number below `count` that none of these members has.
+pub fn least_missing<M: Numbered>(members: &[M], count: u32) -> Option<u32>
+    ensures { MatchOption result (HasAll (map M.number_of members.now) count) (IsLeastMissing (map M.number_of members.now) count) }
+{
+    for number in 0..count {
+        if !has_number(members, number) {
+            return Some(number);
+        }
+    }
+    None
+}
+
+fn has_number<M: Numbered>(members: &[M], number: u32) -> bool
+    ensures { IsTrue result ↔ Has (map M.number_of members.now) number }
+{
+    for member in members {
+        if member.number() == number {
+            return true;
+        }
+    }
+    false
+}

@@ -1,0 +1,206 @@
+-- What the steps that join a caller's list do to the tags that it holds.
+use Rattle.std.proofs.Common.{◌≡◌, ◌≢◌, ℕ, ◌-◌, ◌/◌, ◌%◌, ◌^◌, ◌<◌, ◌≤◌, List, length, get_or, min, max, arith, sym, ap, ◌∙◌, subst, inl, inr, eq-eqb, ⊎_elim}
+use mathlib.Core.Logic.{dite}
+use native.Mathlib.Decide.{ℕ_discrete}
+use Rattle.std.specs.Int.{bit_at}
+use Rattle.std.proofs.lemmas.Nat.Bits.{bit_at-lt, bit_at_above}
+use Rattle.std.proofs.lemmas.Bool.{cases_lt}
+use Rattle.tag_layout.specs.Layout.{Layout, words, word_depth, word_of, place_of, IsWithin}
+use Rattle.tag_layout.proofs.PlaceFacts.{word_of-below, tag_at-back, tag_at-below}
+use Rattle.tag_core.specs.declared.shape.Shape.{Shape}
+use Rattle.tag_core.specs.declared.step.Step.{Step}
+use Rattle.tag_core.specs.declared.record.Record.{Record}
+use Rattle.tag_core.specs.declared.caller.Caller.{Caller}
+use Rattle.tag_core.specs.declared.map.Map.{Map}
+use Rattle.tag_core.specs.Steps.{without}
+use Rattle.tag_core.specs.Bits.{one_if}
+use Rattle.tag_core.specs.Records.{joined, parted, held_after, tag_bit}
+use Rattle.tag_core.specs.Callers.{layout_of, IsCallerOf, Holds, slot_of, Adds, AddsTwo}
+use Rattle.tag_core.specs.Holdings.{IsInMask, Releases, Acquires, KeepsAll}
+use Rattle.tag_core.proofs.Masks.{bit_minus}
+use Rattle.tag_core.proofs.Picks.{among, among_one, one_among}
+use Rattle.tag_core.proofs.TagBits.{place_small, among_here, among_else, among_small, minus_bit, or_bit, list_bit, only_among, only_is, tag_mask, small_word}
+
+-- the bit of a mask within its word names a tag of the map
+pub named_below : (l : Layout) (i m t : ℕ) → IsWithin l i m → word_of l t ≡ i → bit_at m (place_of l t) ≡ 1 → t < l.depth
+named_below l i m t within e one = let b : ℕ = place_of l t in
+    subst (λ (z : ℕ). z < l.depth) (tag_at-back l t) (tag_at-below l (word_of l t) b (⊎_elim
+    (λ (h : b < word_depth l (word_of l t)). h)
+    (λ (past : word_depth l (word_of l t) ≤ b).
+    let none = bit_at_above m (word_depth l i) b within (subst (λ (z : ℕ). word_depth l z ≤ b) e past) in absurd (omega arith))
+    (cases_lt b (word_depth l (word_of l t)))))
+
+-- a tag that such a mask names is one of the map's
+pub named_in : (k : Shape) → k.layout.shift ≤ 6 → (i m t : ℕ) → IsWithin k.layout i m → IsInMask k.layout i m t → t < k.layout.depth
+named_in k narrow i m t within named = let one = among_one k.layout i m t named in dite (ℕ_discrete (t / 2 ^ k.layout.shift) i)
+    (λ (e : t / 2 ^ k.layout.shift ≡ i). named_below k.layout i m t within e (among_here k narrow i m t e ∙ one))
+    (λ (n : t / 2 ^ k.layout.shift ≢ i). let none = among_else k narrow i m t n in absurd (omega arith))
+
+-- what a claim wins it did not find taken
+pub not_found : (k : Shape) → k.layout.shift ≤ 6 → (i m found t : ℕ) → found < 2 ^ 64 → IsInMask k.layout i (without m found) t
+    → (word_of k.layout t ≡ i → bit_at found (place_of k.layout t) ≡ 1) → ⊥
+not_found k narrow i m found t fits named taken = let one = among_one k.layout i (without m found) t named in
+    dite (ℕ_discrete (t / 2 ^ k.layout.shift) i)
+    (λ (e : t / 2 ^ k.layout.shift ≡ i). let b = bit_minus m found (t % 2 ^ k.layout.shift) fits (place_small k narrow t) in
+    let a = among_here k narrow i (without m found) t e in let f = taken e in omega arith)
+    (λ (n : t / 2 ^ k.layout.shift ≢ i). let none = among_else k narrow i (without m found) t n in omega arith)
+
+-- a mask of one tag names that tag alone
+module _ (k : Shape) (narrow : k.layout.shift ≤ 6) (u : ℕ) where
+  pub alone_named : (t : ℕ) → IsInMask k.layout (word_of k.layout u) (2 ^ place_of k.layout u) t → t ≡ u
+  alone_named t h = only_is k narrow t u (only_among k narrow u t ∙ among_one k.layout _ _ t h)
+
+  pub named_alone : (t : ℕ) → t ≡ u → IsInMask k.layout (word_of k.layout u) (2 ^ place_of k.layout u) t
+  named_alone t e = one_among k.layout _ _ t (sym (only_among k narrow u t) ∙ ap one_if (eq-eqb t u e))
+
+module _ {R : Type 0} (old new : Caller R) (narrow : old.shape.value.layout.shift ≤ 6)
+    (same : new.shape.value ≡ old.shape.value)
+    (slots : (tag : ℕ) → Holds old tag → Holds new tag → slot_of new tag ≡ slot_of old tag) where
+  abbrev k : Shape
+  k = old.shape.value
+
+  abbrev has : List ℕ → ℕ → ℕ
+  has = tag_bit old.shape.value.layout
+
+  has_small : (masks : List ℕ) (t : ℕ) → has masks t < 2
+  has_small masks t = bit_at-lt (get_or masks (word_of k.layout t) 0) (place_of k.layout t)
+
+  now_holds : (t : ℕ) → t < k.layout.depth → has new.held.items t ≡ 1 → Holds new t
+  now_holds t l e = subst (λ (z : Shape). (t < z.layout.depth) × (tag_bit z.layout new.held.items t ≡ 1)) (sym same) (l, e)
+
+  holds_now : (t : ℕ) → Holds new t → (t < k.layout.depth) × (has new.held.items t ≡ 1)
+  holds_now t h = subst (λ (z : Shape). (t < z.layout.depth) × (tag_bit z.layout new.held.items t ≡ 1)) same h
+
+  -- the held set stays
+  pub keeps_all : new.held.items ≡ old.held.items → KeepsAll old new
+  keeps_all is = record {
+    kept = λ t h. let now = now_holds t h.0 (ap (λ (l : List ℕ). has l t) is ∙ h.1) in (now, slots t h now);
+    none_else = λ t h. let was = holds_now t h in (was.0, sym (ap (λ (l : List ℕ). has l t) is) ∙ was.1);
+  }
+
+  module _ (i m : ℕ) (inside : i < words k.layout) where
+    long : i < length old.held.items
+    long = subst (λ (z : ℕ). i < z) (sym old.wide) inside
+
+    in_mask : (t : ℕ) → IsInMask k.layout i m t → among k.layout.shift i m t ≡ 1
+    in_mask t h = among_one k.layout i m t h
+
+    not_in_mask : (t : ℕ) → ¬ (IsInMask k.layout i m t) → among k.layout.shift i m t ≡ 0
+    not_in_mask t n = let small = among_small k narrow i m t in dite (ℕ_discrete (among k.layout.shift i m t) 1)
+        (λ (e : among k.layout.shift i m t ≡ 1). absurd (n (one_among k.layout i m t e)))
+        (λ (e : among k.layout.shift i m t ≢ 1). omega arith)
+
+    -- the tags of a mask leave the held set
+    module _ (fits : m < 2 ^ 64) (is : new.held.items ≡ parted old.held.items i m) where
+      less : (t : ℕ) → has new.held.items t ≡ min (has old.held.items t) (1 - among k.layout.shift i m t)
+      less t = ap (λ (l : List ℕ). has l t) is ∙ sym (minus_bit k narrow (λ j. get_or old.held.items j 0) i m t fits
+          ∙ list_bit k narrow old.held.items i _ t long)
+
+      pub releases : Releases (IsInMask k.layout i m) old new
+      releases = record {
+        gone = λ t named h. let one = (holds_now t h).1 in let e = less t in let a = in_mask t named in omega arith;
+        kept = λ t out h. let e = less t in let a = not_in_mask t out in let one = h.1 in
+            let now = now_holds t h.0 (omega arith) in (now, slots t h now);
+        none_else = λ t h. let one = holds_now t h in let e = less t in let b = one.1 in
+            let small = has_small old.held.items t in (one.0, omega arith);
+      }
+
+    -- the tags of a mask join the held set
+    module _ (fresh : (t : ℕ) → IsInMask k.layout i m t → ¬ (Holds old t))
+        (below : (t : ℕ) → IsInMask k.layout i m t → t < k.layout.depth)
+        (is : new.held.items ≡ joined old.held.items i m) where
+      more : (t : ℕ) → has new.held.items t ≡ max (has old.held.items t) (among k.layout.shift i m t)
+      more t = ap (λ (l : List ℕ). has l t) is ∙ sym (or_bit k narrow (λ j. get_or old.held.items j 0) i m t
+          ∙ list_bit k narrow old.held.items i _ t long)
+
+      pub acquires : Acquires (IsInMask k.layout i m) old new
+      acquires = record {
+        fresh = fresh;
+        joined = λ t named. let e = more t in let a = in_mask t named in let small = has_small old.held.items t in
+            now_holds t (below t named) (omega arith);
+        kept = λ t h. let e = more t in let one = h.1 in let small = has_small new.held.items t in
+            let now = now_holds t h.0 (omega arith) in (now, slots t h now);
+        none_else = λ t h. let one = holds_now t h in dite (ℕ_discrete (among k.layout.shift i m t) 1)
+            (λ (e : among k.layout.shift i m t ≡ 1). inr (one_among k.layout i m t e))
+            (λ (n : among k.layout.shift i m t ≢ 1). let e = more t in let small = among_small k narrow i m t in
+            let b = one.1 in let small' = has_small old.held.items t in inl (one.0, omega arith));
+      }
+
+-- the same tags, told in another way
+pub released_as : {R : Type 0} (old new : Caller R) (P Q : ℕ → Type 0) → ((t : ℕ) → P t → Q t) → ((t : ℕ) → Q t → P t)
+    → Releases P old new → Releases Q old new
+released_as old new P Q to back h = record {
+  gone = λ t q. h.gone t (back t q);
+  kept = λ t out. h.kept t (λ p. out (to t p));
+  none_else = h.none_else;
+}
+
+pub acquired_as : {R : Type 0} (old new : Caller R) (P Q : ℕ → Type 0) → ((t : ℕ) → P t → Q t) → ((t : ℕ) → Q t → P t)
+    → Acquires P old new → Acquires Q old new
+acquired_as old new P Q to back h = record {
+  fresh = λ t q. h.fresh t (back t q);
+  joined = λ t q. h.joined t (back t q);
+  kept = h.kept;
+  none_else = λ t now. ⊎_elim (λ (was : Holds old t). inl was) (λ (p : P t). inr (to t p)) (h.none_else t now);
+}
+
+module _ {R : Type 0} (m : Map R) (old new : Caller R) (own : IsCallerOf m old) where
+  abbrev l : Layout
+  l = old.shape.value.layout
+
+  low : old.shape.value.layout.shift ≤ 6
+  low = subst (λ (z : Shape). z.layout.shift ≤ 6) (sym own.1) m.small.1
+
+  module _ (st : Step R) (adds : Adds st old new) where
+    shape : new.shape.value ≡ old.shape.value
+    shape = ap (λ (r : Record R). r.shape) adds.known
+
+    held : new.held.items ≡ held_after l st old.held.items
+    held = ap (λ (r : Record R). r.held) adds.known
+
+    -- a step that leaves the held set
+    pub adds_keeps : held_after l st old.held.items ≡ old.held.items → KeepsAll old new
+    adds_keeps is = keeps_all old new low shape adds.slots (held ∙ is)
+
+    -- a step that takes the tags of a mask out of it
+    pub adds_releases : (i x : ℕ) → i < words (layout_of m) → IsWithin (layout_of m) i x
+        → held_after l st old.held.items ≡ parted old.held.items i x → Releases (IsInMask (layout_of m) i x) old new
+    adds_releases i x inside within is = let same : old.shape.value ≡ m.shape = own.1 in
+        subst (λ (z : Shape). Releases (IsInMask z.layout i x) old new) same
+        (releases old new low shape adds.slots i x (subst (λ (z : Shape). i < words z.layout) (sym same) inside)
+        (small_word old.shape.value low i x (subst (λ (z : Shape). IsWithin z.layout i x) (sym same) within)) (held ∙ is))
+
+    -- a step that brings the tags of a mask into it
+    pub adds_acquires : (i x : ℕ) → i < words (layout_of m) → IsWithin (layout_of m) i x
+        → ((t : ℕ) → IsInMask (layout_of m) i x t → ¬ (Holds old t))
+        → held_after l st old.held.items ≡ joined old.held.items i x → Acquires (IsInMask (layout_of m) i x) old new
+    adds_acquires i x inside within fresh is = let same : old.shape.value ≡ m.shape = own.1 in
+        subst (λ (z : Shape). Acquires (IsInMask z.layout i x) old new) same
+        (acquires old new low shape adds.slots i x (subst (λ (z : Shape). i < words z.layout) (sym same) inside)
+        (subst (λ (z : Shape). (t : ℕ) → IsInMask z.layout i x t → ¬ (Holds old t)) (sym same) fresh)
+        (λ t named. named_in old.shape.value low i x t (subst (λ (z : Shape). IsWithin z.layout i x) (sym same) within) named) (held ∙ is))
+
+  -- two steps that leave it
+  pub adds_two_keeps : (first second : Step R) → AddsTwo first second old new
+      → held_after l second (held_after l first old.held.items) ≡ old.held.items → KeepsAll old new
+  adds_two_keeps first second adds is = keeps_all old new low (ap (λ (r : Record R). r.shape) adds.known) adds.slots
+      (ap (λ (r : Record R). r.held) adds.known ∙ is)
+
+  -- a step that takes one tag out of it
+  module _ (st : Step R) (adds : Adds st old new) (u : ℕ) where
+    abbrev one_tag : Layout → ℕ → Type 0
+    one_tag z = IsInMask z (word_of z u) (2 ^ place_of z u)
+
+    pub adds_releases_one : u < l.depth
+        → held_after l st old.held.items ≡ parted old.held.items (word_of l u) (2 ^ place_of l u) → Releases (λ t. t ≡ u) old new
+    adds_releases_one below is = released_as old new (one_tag l) (λ t. t ≡ u) (alone_named old.shape.value low u)
+        (named_alone old.shape.value low u) (releases old new low (shape st adds) adds.slots (word_of l u) (2 ^ place_of l u)
+        (word_of-below l u below) (tag_mask old.shape.value low u) (held st adds ∙ is))
+
+    -- a step that brings one tag into it
+    pub adds_acquires_one : u < l.depth → ¬ (Holds old u)
+        → held_after l st old.held.items ≡ joined old.held.items (word_of l u) (2 ^ place_of l u) → Acquires (λ t. t ≡ u) old new
+    adds_acquires_one below fresh is = acquired_as old new (one_tag l) (λ t. t ≡ u) (alone_named old.shape.value low u)
+        (named_alone old.shape.value low u) (acquires old new low (shape st adds) adds.slots (word_of l u) (2 ^ place_of l u)
+        (word_of-below l u below) (λ t named. subst (λ (z : ℕ). ¬ (Holds old z)) (sym (alone_named old.shape.value low u t named)) fresh)
+        (λ t named. subst (λ (z : ℕ). z < l.depth) (sym (alone_named old.shape.value low u t named)) below) (held st adds ∙ is))
