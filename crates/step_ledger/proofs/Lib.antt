@@ -3,3 +3,4 @@ pub mod Members
 pub mod Sums
 pub mod Turned
 pub mod Gathers
+pub mod Crossing

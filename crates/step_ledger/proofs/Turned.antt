@@ -1,11 +1,12 @@
 -- Lists in the other order, as they come off the end one by one, and what stands in them.
-use Rattle.std.proofs.Common.{◌≡◌, ◌≢◌, ℕ, zero, suc, ◌+◌, ◌<◌, List, [], ◌∷◌, ◌++◌, map, length, get_or, All, arith, refl, sym, ap, ◌∙◌, subst, length-append}
+use Rattle.std.proofs.Common.{◌≡◌, ◌≢◌, ℕ, zero, suc, ◌+◌, ◌<◌, List, [], ◌∷◌, ◌++◌, map, length, get_or, All, arith, refl, sym, ap, ◌∙◌, subst, length-append, append_assoc}
 use mathlib.Core.List.{map-append}
 use mathlib.Core.Option.{some, some-injective, some-ne-none}
 use lib.ListN.{get_elem?}
 use Rattle.atomic_table.proofs.Lists.{at_longer}
 use Rattle.step_ledger.specs.declared.record.Record.{Record}
-use Rattle.step_ledger.specs.Views.{Has, numbers, turned, sum_over}
+use Rattle.step_ledger.specs.declared.record.View.{View}
+use Rattle.step_ledger.specs.Views.{Has, alone, both_views, numbers, turned, sum_over}
 use Rattle.step_ledger.proofs.Seats.{append_second}
 
 module _ {A : Type 0} where
@@ -13,6 +14,11 @@ module _ {A : Type 0} where
   pub turned_last : (xs : List A) (x : A) → turned (xs ++ x ∷ []) ≡ x ∷ turned xs
   turned_last [] x = refl
   turned_last (y ∷ xs) x = ap (λ (l : List A). l ++ y ∷ []) (turned_last xs x)
+
+  -- turned twice is as it was
+  pub turned_back : (xs : List A) → turned (turned xs) ≡ xs
+  turned_back [] = refl
+  turned_back (x ∷ xs) = turned_last (turned xs) x ∙ ap (λ (l : List A). x ∷ l) (turned_back xs)
 
   pub at_turned : (xs : List A) (i : ℕ) (a : A) → get_elem? xs i ≡ some a → (j : ℕ) × (get_elem? (turned xs) j ≡ some a)
   at_turned [] i a e = absurd (some-ne-none a (sym e))
@@ -34,9 +40,21 @@ module _ {A : Type 0} where
   pub all_last : (P : A → Type 0) (xs : List A) (x : A) → All P (xs ++ x ∷ []) → P x
   all_last P xs x h = subst P (get_last xs x x) (h (length xs) x (let e = length-append xs (x ∷ []) in omega arith))
 
--- what is taken off the end comes first
-pub taken : {A B : Type 0} (f : A → B) (xs : List A) (x : A) (l : List A) → l ≡ xs ++ x ∷ [] → turned (map f l) ≡ f x ∷ turned (map f xs)
-taken f xs x l e = ap (λ (z : List _). turned (map f z)) e ∙ ap turned (map-append f xs (x ∷ [])) ∙ turned_last (map f xs) (f x)
+-- what is taken off the end of a list comes before what was taken earlier
+pub taken : {A B : Type 0} (f : A → B) (xs left : List A) (x : A) (earlier : List B) → xs ≡ left ++ x ∷ []
+    → map f left ++ f x ∷ earlier ≡ map f xs ++ earlier
+taken f xs left x earlier e = sym (append_assoc (map f left) (f x ∷ []) earlier)
+    ∙ ap (λ (z : List _). z ++ earlier) (sym (map-append f left (x ∷ [])) ∙ ap (map f) (sym e))
+
+-- the first that is taken off
+pub taken_first : {A B : Type 0} (f : A → B) (xs left : List A) (x : A) → xs ≡ left ++ x ∷ [] → map f left ++ f x ∷ [] ≡ map f xs
+taken_first f xs left x e = sym (map-append f left (x ∷ [])) ∙ ap (map f) (sym e)
+
+-- whose records they are, where they are made of members
+pub numbers_map : {A T : Type 0} (record_of : A → Record T) (number_of : A → ℕ) → ((a : A) → (record_of a).number ≡ number_of a)
+    → (xs : List A) → numbers (map record_of xs) ≡ map number_of xs
+numbers_map record_of number_of same [] = refl
+numbers_map record_of number_of same (x ∷ xs) = λ j. same x j ∷ numbers_map record_of number_of same xs j
 
 module _ {T : Type 0} where
   pub sum_append : (f : List T → ℕ) (rs qs : List (Record T)) → sum_over f (rs ++ qs) ≡ sum_over f rs + sum_over f qs
@@ -46,6 +64,15 @@ module _ {T : Type 0} where
   pub sum_turned : (f : List T → ℕ) (rs : List (Record T)) → sum_over f (turned rs) ≡ sum_over f rs
   sum_turned f [] = refl
   sum_turned f (r ∷ rs) = let e = sum_append f (turned rs) (r ∷ []) in let i = sum_turned f rs in omega arith
+
+  -- where one member's seat was joined to another, its record is the newest
+  pub joined : (v w now : View T) (r : Record T) → now ≡ both_views v w → w ≡ alone r → turned now.records.value ≡ r ∷ turned v.records.value
+  joined v w now r is one = ap (λ (z : View T). turned z.records.value) (is ∙ ap (both_views v) one) ∙ turned_last v.records.value r
+
+  pub sum_joined : (f : List T → ℕ) (v w now : View T) (r : Record T) → now ≡ both_views v w → w ≡ alone r
+      → sum_over f now.records.value ≡ sum_over f v.records.value + f r.steps
+  sum_joined f v w now r is one = let e = sum_append f v.records.value (r ∷ []) in
+      let j = ap (λ (z : View T). sum_over f z.records.value) (is ∙ ap (both_views v) one) in omega arith
 
   -- whose record stands at a place
   pub number_at : (rs : List (Record T)) (i c : ℕ) → get_elem? (numbers rs) i ≡ some c → (r : Record T) × (get_elem? rs i ≡ some r) × (r.number ≡ c)

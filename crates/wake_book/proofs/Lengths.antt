@@ -1,11 +1,7 @@
--- How many steps a walk adds at most, and lists to which nothing was added.
-use Rattle.std.proofs.Common.{◌≡◌, ℕ, zero, suc, ◌+◌, ◌*◌, ◌≤◌, List, [], ◌∷◌, length, arith, refl, ap, ◌∙◌, ⊎_elim, inl}
+-- How many steps a walk adds at most.
+use Rattle.std.proofs.Common.{◌≡◌, ℕ, zero, suc, ◌+◌, ◌*◌, ◌≤◌, List, length, arith, ap, ◌∙◌, ⊎_elim}
 use Rattle.wake_book.specs.declared.steps.GroupStep.{GroupStep}
-use Rattle.wake_book.specs.Walks.{LosesGrants, LosesAndLooks, IsVisit, AreVisits, OnlyIdles}
-
-pub no_idles : (g : ℕ) (steps : List GroupStep) → OnlyIdles g steps steps
-no_idles g [] = refl
-no_idles g (x ∷ steps) = inl refl
+use Rattle.wake_book.specs.Walks.{LosesGrants, LosesAndLooks, IsVisit, AreVisits}
 
 lost_long : (tries g most : ℕ) (s s' : List GroupStep) → LosesGrants tries g most s s' → length s' ≡ 2 * tries + length s
 lost_long zero g most s s' l = ap length l ∙ omega arith

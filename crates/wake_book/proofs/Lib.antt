@@ -5,3 +5,4 @@ pub mod Standing
 pub mod GroupKeeps
 pub mod Lengths
 pub mod GroupsEnding
+pub mod Crossing

@@ -6,6 +6,7 @@ use Rattle.step_ledger.specs.History.{total}
 use Rattle.wake_book.specs.declared.book.Book.{Book}
 use Rattle.wake_book.specs.declared.book.Limits.{Limits}
 use Rattle.wake_book.specs.declared.book.Teller.{Teller}
+use Rattle.wake_book.specs.declared.book.TellerGathering.{TellerGathering}
 use Rattle.wake_book.specs.declared.steps.BookStep.{BookStep}
 use Rattle.wake_book.specs.declared.steps.BookStep.TheVariants.{LookCompletions, Advance}
 use Rattle.wake_book.specs.Charges.{added, taken}
@@ -41,6 +42,14 @@ records_of tellers = map record_of tellers
 -- the numbers of several tellers
 abbrev pub numbers_of : List Teller → List ℕ
 numbers_of tellers = map number_of tellers
+
+-- these tellers came from the book's opening
+abbrev pub IsGatheringOf : Book → TellerGathering → Type 0
+IsGatheringOf book gathering = gathering.seat.table_id ≡ book.table.shared.table_id
+
+-- the records of the tellers gathered, the newest first
+abbrev pub gathered : TellerGathering → List (Record BookStep)
+gathered gathering = views.turned gathering.seat.me.0.records.value
 
 -- what the book was told at its opening
 abbrev pub limits_of : Book → Limits

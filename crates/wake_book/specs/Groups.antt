@@ -5,6 +5,7 @@ use Rattle.step_ledger.specs.Views as views
 use Rattle.step_ledger.specs.History.{total}
 use Rattle.wake_book.specs.declared.groups.Groups.{Groups}
 use Rattle.wake_book.specs.declared.groups.Waiter.{Waiter}
+use Rattle.wake_book.specs.declared.groups.WaiterGathering.{WaiterGathering}
 use Rattle.wake_book.specs.declared.steps.GroupStep.{GroupStep}
 use Rattle.wake_book.specs.declared.steps.GroupStep.TheVariants.{Lower}
 use Rattle.wake_book.specs.declared.waiting.Left.{Left}
@@ -46,6 +47,14 @@ records_of waiters = map record_of waiters
 -- the numbers of several waiters
 abbrev pub numbers_of : List Waiter → List ℕ
 numbers_of waiters = map number_of waiters
+
+-- these waiters came from the groups' opening
+abbrev pub IsGatheringOf : Groups → WaiterGathering → Type 0
+IsGatheringOf groups gathering = gathering.seat.table_id ≡ groups.table.shared.table_id
+
+-- the records of the waiters gathered, the newest first
+abbrev pub gathered : WaiterGathering → List (Record GroupStep)
+gathered gathering = views.turned gathering.seat.me.0.records.value
 
 -- how many waiters the groups have
 abbrev pub waiters_of : Groups → ℕ

@@ -8,4 +8,3 @@ pub mod Stands
 pub mod Walks
 pub mod Balance
 pub mod Groups
-pub mod Gather

@@ -63,21 +63,20 @@ IsWalk nr steps steps' moved = ((2 ^ 56 < total moved_by steps + nr) × (steps' 
     ⊎ (((total moved_by steps + nr ≤ 2 ^ 56) × (steps' ≡ Look active_at 0 ∷ steps) × (moved ≡ 0))
     ⊎ ((total moved_by steps + nr ≤ 2 ^ 56) × WalksOn nr steps steps' moved))
 
--- the step looks at the group, or tries to leave it and finds another word than it expected
-abbrev pub IsIdleAt : ℕ → GroupStep → Type 0
-IsIdleAt g (Look place found) = place ≡ group_at g
-IsIdleAt g (Use group expected found) = (group ≡ g) × (found ≢ expected)
-IsIdleAt g (Withdraw group expected found) = (group ≡ g) × (found ≢ expected)
-IsIdleAt g _ = ⊥
+-- the exchange that a look calls for: where it found a grant a use of it, else a withdrawal
+abbrev pub IsCalledFor : ℕ → ℕ → ℕ → GroupStep → Type 0
+IsCalledFor g found seen step = ((0 < granted found) × (step ≡ Use g found seen))
+    ⊎ ((granted found ≡ 0) × (step ≡ Withdraw g found seen))
 
--- only idle steps at the group were added
-abbrev pub OnlyIdles : ℕ → List GroupStep → List GroupStep → Type 0
-OnlyIdles g steps [] = steps ≡ []
-OnlyIdles g steps (x ∷ steps') = (steps ≡ x ∷ steps') ⊎ (IsIdleAt g x × OnlyIdles g steps steps')
+-- that many idles, each a look at the group and the exchange that it calls for, lost
+abbrev pub Idles : ℕ → ℕ → List GroupStep → List GroupStep → Type 0
+Idles zero g steps steps' = steps' ≡ steps
+Idles (suc idles) g steps steps' = (found : ℕ) × (seen : ℕ) × (step : GroupStep) × (before : List GroupStep)
+    × Idles idles g steps before × IsCalledFor g found seen step × (seen ≢ found) × (steps' ≡ step ∷ looked g found before)
 
--- after idle steps the waiter looked at its group, and found this word
+-- after idles the waiter looked at its group, and found this word
 abbrev pub IdlesAndLooks : ℕ → List GroupStep → List GroupStep → ℕ → Type 0
-IdlesAndLooks g steps steps' found = (before : List GroupStep) × OnlyIdles g steps before × (steps' ≡ looked g found before)
+IdlesAndLooks g steps steps' found = (idles : ℕ) × (before : List GroupStep) × Idles idles g steps before × (steps' ≡ looked g found before)
 
 -- the waiter left the group by a grant that stood there, or where it found none
 abbrev pub IsLeave : ℕ → List GroupStep → List GroupStep → Left → Type 0
@@ -86,6 +85,13 @@ IsLeave g steps steps' Woken = (active : ℕ) × (found : ℕ) × (before : List
 IsLeave g steps steps' Unwoken = (active : ℕ) × (found : ℕ) × (before : List GroupStep) × IdlesAndLooks g steps before found
     × (granted found ≡ 0) × (steps' ≡ Lower active ∷ Withdraw g found found ∷ before)
 
--- the waiter looked at its group until it found a grant
+-- that many looks at the group, none of which found a grant
+abbrev pub LooksInVain : ℕ → ℕ → List GroupStep → List GroupStep → Type 0
+LooksInVain zero g steps steps' = steps' ≡ steps
+LooksInVain (suc looks) g steps steps' = (found : ℕ) × (before : List GroupStep) × LooksInVain looks g steps before
+    × (granted found ≡ 0) × (steps' ≡ looked g found before)
+
+-- the waiter looked at its group until a look found a grant
 abbrev pub IsSleep : ℕ → List GroupStep → List GroupStep → Type 0
-IsSleep g steps steps' = (found : ℕ) × IdlesAndLooks g steps steps' found × (0 < granted found)
+IsSleep g steps steps' = (looks : ℕ) × (before : List GroupStep) × LooksInVain looks g steps before
+    × (found : ℕ) × (0 < granted found) × (steps' ≡ looked g found before)

@@ -1,13 +1,13 @@
 //! The charge book: completions are counted, and each full batch of them is charged once.
-ghost use Rattle.std.specs.Prelude.{◌≡◌, ◌^◌, ◌≤◌, []};
-ghost use Rattle.step_ledger.specs.Views.{alone, steps_of};
+ghost use Rattle.std.specs.Prelude.{◌≡◌, ◌-◌, ◌^◌, ◌≤◌, [], min};
+ghost use Rattle.step_ledger.specs.Views.{alone, steps_of, sum_over};
 ghost use Rattle.step_ledger.specs.History.{total};
 ghost use Rattle.wake_book.specs.Charges.{all_fresh, added, charged};
 
 use crate::steps::BookStep;
 use atomic_table::{Seat, Table, TableRule};
 use std::alloc::Global;
-use step_ledger::View;
+use step_ledger::{Numbered, View};
 
 /// Place of the word that counts completions. Words that differ in their writers lie 64 bytes apart.
 pub(crate) const COMPLETIONS: usize = 8;
@@ -48,6 +48,26 @@ pub struct Book {
     ghost small: { (limits.tellers ≤ 64) × (limits.cap ≤ 2 ^ 56) × (1 ≤ batch) × (batch ≤ 8) × (1 ≤ limits.tellers) },
 }
 
+impl Book {
+    ghost use Rattle.wake_book.specs.Book.{batch_of, tellers_of};
+
+    /// Completions that one charge takes, 1 to 8.
+    pub fn batch(&self) -> u32
+        ensures value { result ≡ batch_of self.now }
+        ensures within { (1 ≤ result) × (result ≤ 8) }
+    {
+        self.batch
+    }
+
+    /// Tellers of the book, 1 to 64.
+    pub fn tellers(&self) -> u32
+        ensures value { result ≡ tellers_of self.now }
+        ensures within { (1 ≤ result) × (result ≤ 64) }
+    {
+        self.limits.tellers
+    }
+}
+
 /// One who counts completions. A clause sees its number and the list of its own steps.
 #[derive(Drop)]
 pub struct Teller {
@@ -61,6 +81,25 @@ pub struct Teller {
     ghost knows: { seat.me ≡ (alone (record { number = number; steps = steps_of seat.me.0 }), []) },
     ghost counts: { (count ≡ total added (steps_of seat.me.0)) × (count ≤ 2 ^ 56) },
     ghost wins: { (charges ≡ total charged (steps_of seat.me.0)) × (charges ≤ count) },
+}
+
+impl Numbered for Teller {
+    ghost number_of = { λ teller. teller.number };
+
+    fn number(&self) -> u32 {
+        self.number
+    }
+}
+
+/// Tellers that have come together, one after another. A clause sees the list of their records, the newest first.
+#[derive(Drop)]
+pub struct TellerGathering {
+    /// It has all their records.
+    pub(crate) seat: Seat<(), View<BookStep>>,
+    /// Charges of these tellers. It never comes to the largest number, where it would stay.
+    pub(crate) charges: u64,
+    ghost empty: { seat.me.1 ≡ [] },
+    ghost sum: { charges ≡ min (sum_over (total charged) seat.me.0.records.value) (2 ^ 64 - 1) },
 }
 
 /// What a book counted in all, once its tellers are gathered.

@@ -10,10 +10,3 @@ pub enum BookFault {
     /// No memory was found. It is told only after the other causes.
     Memory,
 }
-
-/// Why a table can't be gathered.
-#[derive(Clone, Copy, Debug, PartialEq, Eq)]
-pub enum GatherCause {
-    /// The least number of a member that wasn't handed in.
-    Missing(u32),
-}

@@ -1,6 +1,6 @@
 //! The wait groups: eight counts of those who wait and of those who are granted leave, and how many are active.
-ghost use Rattle.std.specs.Prelude.{◌≡◌, ◌^◌, ◌<◌, ◌≤◌, []};
-ghost use Rattle.step_ledger.specs.Views.{alone, steps_of};
+ghost use Rattle.std.specs.Prelude.{◌≡◌, ◌-◌, ◌^◌, ◌<◌, ◌≤◌, [], min};
+ghost use Rattle.step_ledger.specs.Views.{alone, steps_of, sum_over};
 ghost use Rattle.step_ledger.specs.History.{total};
 ghost use Rattle.wake_book.specs.Waits.{all_fresh, group_at, moved_by};
 ghost use Rattle.wake_book.specs.Stands.{StandsSo};
@@ -10,7 +10,7 @@ use atomic_table::{Seat, Table, TableRule};
 use crossbeam_utils::CachePadded;
 use crossbeam_utils::sync::EventCount;
 use std::alloc::Global;
-use step_ledger::View;
+use step_ledger::{Numbered, View};
 
 /// Place of the word that counts the active. Words that differ in their writers lie 64 bytes apart.
 pub(crate) const ACTIVE: usize = 72;
@@ -49,6 +49,18 @@ pub struct Groups {
     ghost small: { (1 ≤ waiters) × (waiters ≤ 64) },
 }
 
+impl Groups {
+    ghost use Rattle.wake_book.specs.Groups.{waiters_of};
+
+    /// Waiters of the groups, 1 to 64.
+    pub fn waiters(&self) -> u32
+        ensures value { result ≡ waiters_of self.now }
+        ensures within { (1 ≤ result) × (result ≤ 64) }
+    {
+        self.waiters
+    }
+}
+
 /// One who waits and wakes. A clause sees its number, where it stands, and the list of its own steps.
 #[derive(Drop)]
 pub struct Waiter {
@@ -65,6 +77,25 @@ pub struct Waiter {
     ghost stands: { StandsSo standing (steps_of seat.me.0) },
     ghost within: { next < 8 },
     ghost moves: { (moved ≡ total moved_by (steps_of seat.me.0)) × (moved ≤ 2 ^ 56) },
+}
+
+impl Numbered for Waiter {
+    ghost number_of = { λ waiter. waiter.number };
+
+    fn number(&self) -> u32 {
+        self.number
+    }
+}
+
+/// Waiters that have come together, one after another. A clause sees the list of their records, the newest first.
+#[derive(Drop)]
+pub struct WaiterGathering {
+    /// It has all their records.
+    pub(crate) seat: Seat<(), View<GroupStep>>,
+    /// Moves to granted of these waiters. It never comes to the largest number, where it would stay.
+    pub(crate) moved: u64,
+    ghost empty: { seat.me.1 ≡ [] },
+    ghost sum: { moved ≡ min (sum_over (total moved_by) seat.me.0.records.value) (2 ^ 64 - 1) },
 }
 
 /// What the groups saw in all, once their waiters are gathered.

@@ -18,10 +18,11 @@ mod tests;
 mod waiting;
 mod walk;
 
-pub use book::{Book, BookTotals, Teller};
+pub use book::{Book, BookTotals, Teller, TellerGathering};
 pub use book_closing::BookGatherFault;
 pub use charge::Charge;
-pub use fault::{BookFault, GatherCause};
-pub use groups::{GroupTotals, Groups, Waiter};
+pub use fault::BookFault;
+pub use groups::{GroupTotals, Groups, Waiter, WaiterGathering};
 pub use groups_closing::GroupsGatherFault;
+pub use step_ledger::{GatherCause, Numbered};
 pub use waiting::Left;

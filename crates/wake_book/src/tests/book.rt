@@ -4,8 +4,9 @@ ghost use Rattle.wake_book.specs.Book.{IsTellerOf};
 
 use crate::book::{Book, BookTotals, Teller};
 use crate::charge::Charge;
-use crate::fault::{BookFault, GatherCause};
+use crate::fault::BookFault;
 use std::test::Fail;
+use step_ledger::GatherCause;
 
 fn next_teller(book: &Book, tellers: &mut Vec<Teller>) -> Option<Teller>
     requires { All (IsTellerOf book.now) tellers.old.items }
@@ -48,7 +49,7 @@ fn a_full_batch_is_charged_once(rt: HostRuntime) -> Result<(), Fail> {
 }
 
 #[test]
-fn a_new_batch_goes_on_from_the_old_count(rt: HostRuntime) -> Result<(), Fail> {
+fn new_batches_go_on_from_the_old_count(rt: HostRuntime) -> Result<(), Fail> {
     let (mut book, mut tellers) = Book::open(rt.alloc(), 2, 1, 10)?;
     let Some(mut teller) = next_teller(&book, &mut tellers) else {
         return Err(Fail::new("no teller"));
@@ -61,15 +62,22 @@ fn a_new_batch_goes_on_from_the_old_count(rt: HostRuntime) -> Result<(), Fail> {
     };
     assert_eq!(rt; book.count(&mut teller, 1), Charge::Won(2));
     put_back(&book, &mut tellers, teller)?;
+    book.rebatch(3);
+    let Some(mut teller) = next_teller(&book, &mut tellers) else {
+        return Err(Fail::new("no teller"));
+    };
+    assert_eq!(rt; book.count(&mut teller, 2), Charge::Below);
+    assert_eq!(rt; book.count(&mut teller, 1), Charge::Won(3));
+    put_back(&book, &mut tellers, teller)?;
     let Ok(totals) = Book::gather(book, tellers) else {
         return Err(Fail::new("a teller is missing"));
     };
     assert_eq!(rt;
         totals,
         BookTotals {
-            counted: 3,
-            charged: 3,
-            charges: 2
+            counted: 6,
+            charged: 6,
+            charges: 3
         }
     );
     Ok(())

@@ -2,10 +2,11 @@
 ghost use Rattle.std.specs.Prelude.{◌≡◌, All, IfSome, None};
 ghost use Rattle.wake_book.specs.Groups.{IsWaiterOf, IsNew};
 
-use crate::fault::{BookFault, GatherCause};
+use crate::fault::BookFault;
 use crate::groups::{GroupTotals, Groups, Waiter};
 use crate::waiting::Left;
 use std::test::Fail;
+use step_ledger::GatherCause;
 
 pub(crate) fn next_waiter(groups: &Groups, waiters: &mut Vec<Waiter>) -> Option<Waiter>
     requires { All (IsWaiterOf groups.now) waiters.old.items × All IsNew waiters.old.items }

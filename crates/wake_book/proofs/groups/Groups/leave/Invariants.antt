@@ -1,6 +1,6 @@
-use Rattle.std.proofs.Common.{◌≡◌, Some}
+use Rattle.std.proofs.Common.{◌≡◌, ℕ, Some}
 use Rattle.wake_book.specs.Groups.{IsWaiterOf, steps_of, standing_of, StandsAsBefore}
-use Rattle.wake_book.specs.Walks.{OnlyIdles}
+use Rattle.wake_book.specs.Walks.{Idles}
 use Rattle.wake_book.proofs.groups.Groups.leave.Given as goal
 
 abbrev pub invariant-loop : goal.invariant-loop
@@ -9,5 +9,5 @@ invariant-loop g l = record {
   groups : IsWaiterOf l.self l.waiter × StandsAsBefore l.fn.waiter l.waiter;
   stands : standing_of l.fn.waiter ≡ Some l.group;
   moved : l.waiter.moved ≡ l.fn.waiter.moved;
-  idle : OnlyIdles l.group (steps_of l.fn.waiter) (steps_of l.waiter);
+  idle : (idles : ℕ) × Idles idles l.group (steps_of l.fn.waiter) (steps_of l.waiter);
 }

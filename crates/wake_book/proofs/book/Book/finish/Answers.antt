@@ -1,0 +1,16 @@
+-- The gathering's seat has the records of all tellers, so what it knows of the last words is the whole book's.
+use Rattle.std.proofs.Common.{sym, subst}
+use Rattle.std.specs.Slots.{slots_items}
+use Rattle.atomic_table.specs.Table.{Final, Seen}
+use Rattle.step_ledger.proofs.Turned.{turned_back}
+use Rattle.wake_book.specs.declared.book.Limits.{Limits}
+use Rattle.wake_book.specs.Charges.{BookRule}
+use Rattle.wake_book.specs.Book.{gathered}
+use Rattle.wake_book.proofs.Ending.{booked}
+use Rattle.wake_book.proofs.book.Book.finish.Goals as goal
+
+pub returns : goal.returns
+returns c = let b = c.args.self in let a = c.args.gathering in let closed = c.close_with-closed.result in
+    booked b.limits b.small.0 b.small.1 a.seat.id a.seat.me.0 (slots_items closed.words) (slots_items closed.slots) (gathered a) c.word-counted.result c.word-charged.result a.charges
+    (subst (λ (z : Limits). Final (Seen (BookRule z) a.seat.id a.seat.me.0) (slots_items closed.words) (slots_items closed.slots)) b.told c.close_with-closed.ensures.values.2)
+    (sym (turned_back a.seat.me.0.records.value)) c.requires.all a.sum c.word-counted.ensures c.word-charged.ensures
