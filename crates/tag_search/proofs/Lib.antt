@@ -24,3 +24,7 @@ pub mod SharedFacts
 pub mod OneTag
 pub mod RunFacts
 pub mod LoneFacts
+pub mod LoneCallers
+pub mod Freshness
+pub mod HeldFacts
+pub mod MapGets

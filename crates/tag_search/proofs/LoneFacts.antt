@@ -1,5 +1,5 @@
 -- The steps of a map's one caller are its whole history, so each of them finds what the caller's own older ones left.
-use Rattle.std.proofs.Common.{◌≡◌, ℕ, ◌<◌, Bool, cond, List, [], ◌∷◌, ◌++◌, map, arith, refl, sym, ap, ◌∙◌, subst}
+use Rattle.std.proofs.Common.{◌≡◌, ℕ, ◌<◌, Bool, cond, List, [], ◌∷◌, ◌++◌, arith, refl, sym, ap, ◌∙◌, subst}
 use Rattle.std.proofs.lemmas.Bool.{eq-eqb}
 use Rattle.tag_core.specs.declared.record.Record.{Record}
 use Rattle.tag_core.specs.declared.shape.Shape.{Shape}
@@ -9,7 +9,7 @@ use Rattle.tag_core.specs.declared.word_step.WordStep.{WordStep}
 use Rattle.tag_core.specs.Histories.{Cells, FindsIn, cells_after, History, cells_of, EachFinds, steps_by}
 use Rattle.tag_core.specs.Records.{record_after}
 use Rattle.tag_core.specs.Steps.{Words, Quiet, words_after_all}
-use Rattle.tag_search.specs.LoneLaws.{words_left, own_after, IsLone, LoneGetsChoose, LoneBatchesChoose}
+use Rattle.tag_search.specs.LoneLaws.{cells_left, words_left, own_after, IsLone, LoneGetsChoose, LoneBatchesChoose}
 use Rattle.tag_search.specs.Batch.{batch_words}
 use Rattle.tag_search.specs.Choice.{IsChoice, IsBatchChoice}
 use Rattle.tag_search.specs.Pool.{pool_of}
@@ -20,12 +20,8 @@ pub own_of_record : {R : Type 0} (steps : List WordStep) (r : Record R) → (rec
 own_of_record [] r = refl
 own_of_record (step ∷ steps) r = own_of_record steps (record_after (Word step) r)
 
--- the words and the states that one caller's steps leave
-abbrev cells_left : {R : Type 0} → List (Step R) → Cells
-cells_left steps = cells_of (map (λ step. (0, step)) steps)
-
 -- each step found what the older ones left
-abbrev EachFound : {R : Type 0} → List (Step R) → Type 0
+abbrev pub EachFound : {R : Type 0} → List (Step R) → Type 0
 EachFound [] = Unit {0}
 EachFound (step ∷ older) = FindsIn step (cells_left older) × EachFound older
 
@@ -35,13 +31,13 @@ module _ {R : Type 0} where
   own_first x older below = ap (λ (b : Bool). cond b (x.1 ∷ steps_by 0 older) (steps_by 0 older)) (eq-eqb x.0 0 (omega arith))
 
   -- what a history of one caller leaves is what the caller's list leaves
-  same_cells : (h : History R) → EachFinds 1 h → cells_of h ≡ cells_left (steps_by 0 h)
+  pub same_cells : (h : History R) → EachFinds 1 h → cells_of h ≡ cells_left (steps_by 0 h)
   same_cells [] finds = refl
   same_cells (x ∷ older) finds =
       ap (cells_after x.1) (same_cells older finds.3) ∙ sym (ap (λ (own : List (Step R)). cells_left own) (own_first x older finds.0))
 
   -- each step of the list found what the list's older ones left
-  each_found : (h : History R) → EachFinds 1 h → EachFound (steps_by 0 h)
+  pub each_found : (h : History R) → EachFinds 1 h → EachFound (steps_by 0 h)
   each_found [] finds = tt
   each_found (x ∷ older) finds =
       let here = subst (λ (c : Cells). FindsIn x.1 c) (same_cells older finds.3) finds.1 in
@@ -53,12 +49,12 @@ module _ {R : Type 0} where
   found_older (step ∷ newer) older found = found_older newer older found.1
 
   -- steps on words of such a list are quiet from what the older ones left
-  found_quiet : (steps : List WordStep) (older : List (Step R)) → EachFound (own_after steps older) → Quiet steps (words_left older) × EachFound older
+  pub found_quiet : (steps : List WordStep) (older : List (Step R)) → EachFound (own_after steps older) → Quiet steps (words_left older) × EachFound older
   found_quiet [] older found = (tt, found)
   found_quiet (step ∷ steps) older found = let rest = found_quiet steps (Word step ∷ older) found in ((rest.1.0, rest.0), rest.1.1)
 
   -- what they leave
-  left_after : (steps : List WordStep) (older : List (Step R)) → words_left (own_after steps older) ≡ words_after_all steps (words_left older)
+  pub left_after : (steps : List WordStep) (older : List (Step R)) → words_left (own_after steps older) ≡ words_after_all steps (words_left older)
   left_after [] older = refl
   left_after (step ∷ steps) older = left_after steps (Word step ∷ older)
 

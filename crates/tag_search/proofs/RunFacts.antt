@@ -10,22 +10,19 @@ use Rattle.std.proofs.lemmas.Nat.Bits.{bit_at_or, bit_at_above, bit_at-lt}
 use Rattle.std.proofs.Math.Nat.{div-mul-le_self, mod-eq-sub-div-mul, mul-mod_left, mul-div_cancel}
 use lib.Count.{ones}
 use Rattle.tag_layout.specs.Layout.{Layout, words, word_bits, word_of, place_of, word_depth, tag_at}
-use Rattle.tag_layout.proofs.PlaceFacts.{word_of-tag_at, place_of-tag_at, tag_at-below, tag_at-back, word_of-below, word_bits-le}
+use Rattle.tag_layout.proofs.PlaceFacts.{word_of-tag_at, place_of-tag_at, tag_at-below, tag_at-back, word_of-below}
 use Rattle.tag_layout.proofs.Scans.{bit_at-shr}
 use Rattle.tag_core.specs.declared.caller.Caller.{Caller}
-use Rattle.tag_core.specs.declared.map.Map.{Map}
 use Rattle.tag_core.specs.declared.record.Record.{Record}
 use Rattle.tag_core.specs.declared.step.Step.TheVariants.{Word}
 use Rattle.tag_core.specs.declared.word_step.WordStep.{WordStep}
 use Rattle.tag_core.specs.declared.word_step.WordStep.TheVariants.{Look, Claimed}
-use Rattle.tag_core.specs.Callers.{layout_of, IsCallerOf, record_of, Holds}
+use Rattle.tag_core.specs.Callers.{record_of, Holds}
 use Rattle.tag_core.specs.Records.{record_after, joined, tag_bit}
 use Rattle.tag_core.specs.Steps.{without}
-use Rattle.tag_search.specs.declared.shared.Shared.{Shared}
-use Rattle.tag_search.specs.Added.{Adds as Ports}
-use Rattle.tag_search.specs.Batch.{run_mask, run_won, IsSweptLook, swept_look, IsBatchVisit, no_run, run_lost, run_taken, IsBatchSearch, batch_over, batch_won, batch_passed, IsBatchGet}
-use Rattle.tag_search.specs.Gains.{held_with_run, count_of_run, GainsRun}
-use Rattle.tag_search.specs.Shared.{record_after_all, AddsAll, AddsThrough}
+use Rattle.tag_search.specs.Batch.{run_mask, run_won, IsSweptLook, swept_look, IsBatchVisit, no_run, run_lost, run_taken, IsBatchSearch, batch_over, batch_won, batch_passed}
+use Rattle.tag_search.specs.Gains.{IsInRun, held_with_run, count_of_run}
+use Rattle.tag_search.specs.Shared.{record_after_all}
 use Rattle.tag_search.specs.SharedLaws.{record_after-append}
 use Rattle.tag_search.proofs.Runs.{run_below}
 use Rattle.tag_search.proofs.SharedFacts.{Took, took_more, took_look, sweep_took, count_ones-zero}
@@ -49,7 +46,7 @@ module _ (n place found : ℕ) where
       let sum = ones_cat place b 0 (pow_pos place) in let none = count_ones-zero in ap count_ones e ∙ sum ∙ omega arith
 
   -- a bit won is one of the word
-  inside : (depth k : ℕ) → place + n ≤ depth → bit_at (run_won n place found) k ≡ 1 → place + k < depth
+  pub inside : (depth k : ℕ) → place + n ≤ depth → bit_at (run_won n place found) k ≡ 1 → place + k < depth
   inside depth k fits one = ⊎_elim (λ (h : place + k < depth). h)
       (λ (past : depth ≤ place + k). absurd (
       let small : taken < 2 ^ depth = let a = and_le_l (run_mask n place) (2 ^ 64 - 1 - found) in let b = run_below n place depth fits in omega arith in
@@ -128,13 +125,13 @@ module _ {R : Type 0} (depth i : ℕ) (narrow : depth ≤ 64) where
       (run_after r s t (Some (place, run_won n place next)) (swept_took r sweep) (claim_won n place next s run.first.within run.fits))
 
 -- as `GainsRun` says it of the records alone, with tags of one word
-record WonRun {R : Type 0} (l : Layout) (answer : Option (ℕ × ℕ)) (old new : Record R) : Type 0 where
-  shape : new.shape ≡ old.shape
-  number : new.number ≡ old.number
-  held : new.held ≡ held_with_run l answer old.held
-  won : new.won ≡ old.won + count_of_run answer
-  back : new.back ≡ old.back
-  tags : IfSome answer (λ won. IsBelow (word_depth l (word_of l won.0)) (place_of l won.0, won.1))
+pub record WonRun {R : Type 0} (l : Layout) (answer : Option (ℕ × ℕ)) (old new : Record R) : Type 0 where
+  pub shape : new.shape ≡ old.shape
+  pub number : new.number ≡ old.number
+  pub held : new.held ≡ held_with_run l answer old.held
+  pub won : new.won ≡ old.won + count_of_run answer
+  pub back : new.back ≡ old.back
+  pub tags : IfSome answer (λ won. IsBelow (word_depth l (word_of l won.0)) (place_of l won.0, won.1))
 
 module _ {R : Type 0} (l : Layout) (narrow : word_bits l ≤ 64) where
   won_run : (i place bits : ℕ) (r s : Record R) → TookRun (word_depth l i) i (Some (place, bits)) r s → WonRun l (Some (tag_at l i place, bits)) r s
@@ -151,7 +148,7 @@ module _ {R : Type 0} (l : Layout) (narrow : word_bits l ≤ 64) where
       }
 
   -- a batch search wins the tags that it answers, and nothing else
-  batch_wins : {n : ℕ} {is : List ℕ} {steps : List WordStep} {answer : Option (ℕ × ℕ)} (r : Record R) → IsBatchSearch l n is steps answer → WonRun l answer r (record_after_all steps r)
+  pub batch_wins : {n : ℕ} {is : List ℕ} {steps : List WordStep} {answer : Option (ℕ × ℕ)} (r : Record R) → IsBatchSearch l n is steps answer → WonRun l answer r (record_after_all steps r)
   batch_wins r batch_over = record { shape = refl; number = refl; held = refl; won = omega arith; back = refl; tags = tt }
   batch_wins r (batch_won {i = i} {steps = steps} {place = place} {bits = bits} v) =
       won_run i place bits r (record_after_all steps r) (visit_took_run (word_depth l i) i (let z : word_depth l i ≤ 64 = omega arith in z) r v)
@@ -168,10 +165,9 @@ module _ {R : Type 0} (l : Layout) (narrow : word_bits l ≤ 64) where
       })
 
 -- tags that joined the held set are held
-run_is_held : {R : Type 0} (l : Layout) (old new : Caller R) (answer : Option (ℕ × ℕ)) → old.shape.value.layout ≡ l
-    → WonRun l answer (record_of old) (record_of new) → IfSome answer (λ won. (k : ℕ) → bit_at won.1 k ≡ 1 → Holds new (won.0 + k))
-run_is_held l old new None same gained = tt
-run_is_held l old new (Some won) same gained = λ k one.
+bit_is_held : {R : Type 0} (l : Layout) (old new : Caller R) (won : ℕ × ℕ) → old.shape.value.layout ≡ l
+    → WonRun l (Some won) (record_of old) (record_of new) → (k : ℕ) → bit_at won.1 k ≡ 1 → Holds new (won.0 + k)
+bit_is_held l old new won same gained = λ k one.
     let i : ℕ = word_of l won.0 in let p : ℕ = place_of l won.0 in let q : ℕ = p + k in let tag : ℕ = won.0 + k in
     let deep : q < word_depth l i = gained.tags.1 k one in let small : q < word_bits l = omega arith in
     let tag_is : tag_at l i q ≡ tag = let z = tag_at-back l won.0 in omega arith in
@@ -190,24 +186,8 @@ run_is_held l old new (Some won) same gained = λ k one.
     let depth : new.shape.value.layout.depth ≡ l.depth = ap (λ (x : Layout). x.depth) layout in
     ((let z : tag < new.shape.value.layout.depth = omega arith in z), ap (λ (x : Layout). tag_bit x new.held.items tag) layout ∙ bit)
 
-module _ {R : Type 0} (map : Map R) (caller : Caller R) (old new : Shared R) (map_is : old.map.now ≡ map) (caller_is : old.caller.now ≡ caller) (own : IsCallerOf map caller) where
-  -- after a batch get
-  pub batch_gains : (n first : ℕ) (answer : Option (ℕ × ℕ)) → Ports AddsThrough old new (IsBatchGet (layout_of old.map.now) n first answer)
-      → GainsRun (layout_of map) answer caller new.caller.now
-  batch_gains n first answer a =
-      let l = layout_of map in let now = new.caller.now in
-      let of_map : Ports AddsThrough old new (IsBatchGet l n first answer) =
-      subst (λ (m : Map R). Ports AddsThrough old new (IsBatchGet (layout_of m) n first answer)) map_is a in
-      let all : AddsAll of_map.steps caller now = subst (λ (c : Caller R). AddsAll of_map.steps c now) caller_is of_map.added.added in
-      let won : WonRun l answer (record_of caller) (record_of now) =
-      subst (λ (t : Record R). WonRun l answer (record_of caller) t) (sym all.known)
-      (batch_wins l (word_bits-le l map.small.1) (record_of caller) of_map.holds.search) in record {
-        won = run_is_held l caller now answer (λ z. (own.1 z).layout) won;
-        kept = all.kept;
-        held = won.held;
-        count = won.won;
-        back = won.back;
-        number = won.number;
-        shape = won.shape;
-        same_map = all.same_map;
-      }
+pub run_is_held : {R : Type 0} (l : Layout) (old new : Caller R) (answer : Option (ℕ × ℕ)) → old.shape.value.layout ≡ l
+    → WonRun l answer (record_of old) (record_of new) → (tag : ℕ) → IsInRun answer tag → Holds new tag
+run_is_held l old new None same gained tag within = absurd within
+run_is_held l old new (Some won) same gained tag within =
+    subst (λ (t : ℕ). Holds new t) (sym within.1) (bit_is_held l old new won same gained within.0 within.2)

@@ -17,7 +17,7 @@ use Rattle.tag_core.specs.Steps.{without}
 use Rattle.tag_search.specs.declared.shared.Shared.{Shared}
 use Rattle.tag_search.specs.Added.{Adds as Ports}
 use Rattle.tag_search.specs.Search.{IsSweep, empty, spilled}
-use Rattle.tag_search.specs.Shared.{FindsWord, AddsAll, AddsThrough}
+use Rattle.tag_search.specs.Shared.{FindsWord, FindsHeldBy, AddsAll, AddsThrough}
 
 -- a tag's bit stays where bits join a word
 pub bit_kept : (l : Layout) (held : List ℕ) (i mask tag : ℕ) → i < length held → tag_bit l held tag ≡ 1 → tag_bit l (joined held i mask) tag ≡ 1
@@ -38,15 +38,16 @@ holds_by old new held tag shape items was bit =
     ((let z : tag < new.shape.value.layout.depth = omega arith in z), (λ z. tag_bit (shape z).layout (items z) tag) ∙ bit)
 
 -- one step after which each tag is held that was held before
-pub adds_one : {R : Type 0} (step : WordStep) (old new : Caller R) → Adds (Word step) old new → FindsWord step
+pub adds_one : {R : Type 0} (step : WordStep) (old new : Caller R) → Adds (Word step) old new → FindsWord step → FindsHeldBy old step
     → ((tag : ℕ) → tag_bit old.shape.value.layout old.held.items tag ≡ 1 → tag_bit old.shape.value.layout (held_after_word step old.held.items) tag ≡ 1)
     → AddsAll (step ∷ []) old new
-adds_one {R} step old new a fits keeps = record {
+adds_one {R} step old new a fits found_held keeps = record {
   known = a.known;
   kept = λ tag was.
       let is : Holds new tag = holds_by old new (held_after_word step old.held.items) tag (ap (λ (r : Record R). r.shape) a.known) (ap (λ (r : Record R). r.held) a.known) was (keeps tag was.1) in
       (is, a.slots tag was is);
   finds = (fits, tt);
+  finds_held = (found_held, tt);
   same_map = a.same_map;
 }
 
@@ -59,13 +60,14 @@ adds_two {R} i mask found old new a = record {
       let is : Holds new tag = holds_by old new old.held.items tag (ap (λ (r : Record R). r.shape) a.known) (ap (λ (r : Record R). r.held) a.known) was was.1 in
       (is, a.slots tag was is);
   finds = (tt, (tt, tt));
+  finds_held = (tt, (tt, tt));
   same_map = a.same_map;
 }
 
 -- a claim of a word that the map has
-pub adds_claim : {R : Type 0} (i mask found : ℕ) (old new : Caller R) → i < length old.held.items → found < 2 ^ 64 → Adds (Word (Claimed i mask found)) old new
+pub adds_claim : {R : Type 0} (i mask found : ℕ) (old new : Caller R) → i < length old.held.items → found < 2 ^ 64 → FindsHeldBy old (Claimed i mask found) → Adds (Word (Claimed i mask found)) old new
     → AddsAll (Claimed i mask found ∷ []) old new
-adds_claim i mask found old new near fits a = adds_one (Claimed i mask found) old new a fits (λ tag. bit_kept old.shape.value.layout old.held.items i (without mask found) tag near)
+adds_claim i mask found old new near fits found_held a = adds_one (Claimed i mask found) old new a fits found_held (λ tag. bit_kept old.shape.value.layout old.held.items i (without mask found) tag near)
 
 -- a sweep adds a swap alone, or a swap and a spill
 pub swept : {R : Type 0} (i : ℕ) (some : Bool) (old new : Shared R) → new.map.now ≡ old.map.now → new.caller.ghost_name ≡ old.caller.ghost_name
@@ -83,6 +85,6 @@ swept i true old new map lent none some = let s = some refl in (
 )
 swept i false old new map lent none some = record {
   steps = Swap i 0 ∷ [];
-  added = record { added = adds_one (Swap i 0) old.caller.now new.caller.now (none refl) tt (λ tag h. h); map = map; lent = lent };
+  added = record { added = adds_one (Swap i 0) old.caller.now new.caller.now (none refl) tt tt (λ tag h. h); map = map; lent = lent };
   holds = empty;
 }

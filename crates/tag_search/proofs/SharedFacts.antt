@@ -1,5 +1,5 @@
 -- What a get over a shared map does to its caller: it holds the tag that it won, and what it held.
-use Rattle.std.proofs.Common.{◌≡◌, ℕ, ◌+◌, ◌-◌, ◌*◌, ◌^◌, ◌<◌, ◌≤◌, Bool, true, cond, nat_eq, List, [], ◌∷◌, ◌++◌, length, Option, Some, None, get_or, set, bit_or, count_ones, get_or-set_same, arith, refl, sym, ap, ◌∙◌, subst}
+use Rattle.std.proofs.Common.{◌≡◌, ℕ, ◌+◌, ◌-◌, ◌*◌, ◌^◌, ◌<◌, ◌≤◌, true, cond, nat_eq, List, [], ◌∷◌, ◌++◌, length, Option, Some, None, get_or, set, bit_or, count_ones, get_or-set_same, arith, refl, sym, ap, ◌∙◌, subst}
 use Rattle.std.specs.Prelude.{All, IfSome}
 use Rattle.std.specs.List.{AllByRecursion}
 use Rattle.std.specs.Int.{bit_at}
@@ -9,27 +9,22 @@ use Rattle.std.proofs.lemmas.List.Elements.{All-head, All-tail, All-map}
 use Rattle.std.proofs.lemmas.Nat.Bits.{bit_at_or, bit_at-pow_same, bit_at-lt}
 use lib.Count.{ones}
 use Rattle.tag_layout.specs.Layout.{Layout, words, word_bits, word_of, place_of, word_depth, tag_at}
-use Rattle.tag_layout.proofs.PlaceFacts.{word_of-tag_at, place_of-tag_at, tag_at-below, word_of-below, word_bits-le}
+use Rattle.tag_layout.proofs.PlaceFacts.{word_of-tag_at, place_of-tag_at, tag_at-below, word_of-below}
 use Rattle.tag_core.specs.declared.caller.Caller.{Caller}
-use Rattle.tag_core.specs.declared.map.Map.{Map}
 use Rattle.tag_core.specs.declared.record.Record.{Record}
 use Rattle.tag_core.specs.declared.step.Step.TheVariants.{Word}
 use Rattle.tag_core.specs.declared.word_step.WordStep.{WordStep}
 use Rattle.tag_core.specs.declared.word_step.WordStep.TheVariants.{Look, Claimed, Swap, Spill}
-use Rattle.tag_core.specs.Callers.{layout_of, IsCallerOf, record_of, Holds}
+use Rattle.tag_core.specs.Callers.{record_of, Holds}
 use Rattle.tag_core.specs.Records.{record_after, joined, tag_bit}
 use Rattle.tag_core.specs.Steps.{without}
-use Rattle.tag_search.specs.declared.shared.Shared.{Shared}
-use Rattle.tag_search.specs.Added.{Adds as Ports}
-use Rattle.tag_search.specs.Gains.{held_with, count_of, Gains}
-use Rattle.tag_search.specs.Gets.{IsGet}
+use Rattle.tag_search.specs.Gains.{held_with, count_of}
 use Rattle.tag_search.specs.Order.{scan_order}
 use Rattle.tag_search.specs.Search.{IsTries, none_left, wins, loses, IsPass, pass, IsSweep, empty, spilled, IsRetry, nothing_aside, swept, IsVisit, at_once, retried, Visit, IsSearch, over, won, passed}
-use Rattle.tag_search.specs.Shared.{record_after_all, FindsWord, AddsAll, AddsThrough}
+use Rattle.tag_search.specs.Shared.{record_after_all, FindsWord}
 use Rattle.tag_search.specs.SharedLaws.{record_after-append}
-use Rattle.tag_search.specs.Visits.{Reach, visit_of, visits, plain_visits, shallow_visits, plain_reach, shallow_reach}
+use Rattle.tag_search.specs.Visits.{Reach, visit_of, visits}
 use Rattle.tag_search.proofs.Claims.{count_ones-pow, without-pow}
-use Rattle.tag_search.proofs.GetFacts.{plain_within, shallow_within}
 use Rattle.tag_search.proofs.Orders.{all_scan}
 use Rattle.tag_search.proofs.Passes.{all_left}
 
@@ -51,7 +46,7 @@ pub count_ones-zero : count_ones 0 ≡ 0
 unfolding ones
 count_ones-zero = refl
 
-finds-split : (xs ys : List WordStep) → AllByRecursion FindsWord (xs ++ ys) → AllByRecursion FindsWord xs × AllByRecursion FindsWord ys
+pub finds-split : (xs ys : List WordStep) → AllByRecursion FindsWord (xs ++ ys) → AllByRecursion FindsWord xs × AllByRecursion FindsWord ys
 finds-split [] ys h = (tt, h)
 finds-split (x ∷ xs) ys h = let rest = finds-split xs ys h.1 in ((h.0, rest.0), rest.1)
 
@@ -148,16 +143,16 @@ module _ {R : Type 0} (bits i : ℕ) (narrow : bits ≤ 64) where
       took_more bits i r first rest answer (pass_took r once split.0 small) (retry_took (record_after_all first r) again split.1 small)
 
 -- as `Gains` says it of the records alone, with a tag of the map
-record Won {R : Type 0} (l : Layout) (answer : Option ℕ) (old new : Record R) : Type 0 where
-  shape : new.shape ≡ old.shape
-  number : new.number ≡ old.number
-  held : new.held ≡ held_with l answer old.held
-  won : new.won ≡ old.won + count_of answer
-  back : new.back ≡ old.back
-  tag : IfSome answer (λ tag. tag < l.depth)
+pub record Won {R : Type 0} (l : Layout) (answer : Option ℕ) (old new : Record R) : Type 0 where
+  pub shape : new.shape ≡ old.shape
+  pub number : new.number ≡ old.number
+  pub held : new.held ≡ held_with l answer old.held
+  pub won : new.won ≡ old.won + count_of answer
+  pub back : new.back ≡ old.back
+  pub tag : IfSome answer (λ tag. tag < l.depth)
 
 -- each place of the visit is one of its word
-abbrev IsInside : Layout → Visit → Type 0
+abbrev pub IsInside : Layout → Visit → Type 0
 IsInside l visit = All (λ place. place < word_depth l visit.word) visit.rank
 
 module _ {R : Type 0} (l : Layout) (narrow : word_bits l ≤ 64) where
@@ -184,12 +179,12 @@ module _ {R : Type 0} (l : Layout) (narrow : word_bits l ≤ 64) where
     tag = b.tag;
   }
 
-  visit_wins : (visit : Visit) {steps : List WordStep} {answer : Option ℕ} (r : Record R) → IsVisit visit.word visit.rank steps answer
+  pub visit_wins : (visit : Visit) {steps : List WordStep} {answer : Option ℕ} (r : Record R) → IsVisit visit.word visit.rank steps answer
       → AllByRecursion FindsWord steps → IsInside l visit → Took (word_depth l visit.word) visit.word answer r (record_after_all steps r)
   visit_wins visit r v finds inside = visit_took (word_depth l visit.word) visit.word (let z : word_depth l visit.word ≤ 64 = omega arith in z) r v finds inside
 
   -- a search wins the tag that it answers, and nothing else
-  search_wins : {vs : List Visit} {steps : List WordStep} {answer : Option ℕ} (r : Record R) → IsSearch l vs steps answer
+  pub search_wins : {vs : List Visit} {steps : List WordStep} {answer : Option ℕ} (r : Record R) → IsSearch l vs steps answer
       → AllByRecursion FindsWord steps → All (IsInside l) vs → Won l answer r (record_after_all steps r)
   search_wins r over finds inside = won_none r
   search_wins r (won {visit = visit} {visits = more} {steps = steps} {place = place} v) finds inside =
@@ -201,7 +196,7 @@ module _ {R : Type 0} (l : Layout) (narrow : word_bits l ≤ 64) where
       (search_wins s search split.1 (All-tail (IsInside l) visit more inside)))
 
 -- the visits of a get are inside their words
-visits_inside : (l : Layout) (first : ℕ) (reach : Reach) → ((i : ℕ) → i < words l → reach.limit i ≤ word_depth l i)
+pub visits_inside : (l : Layout) (first : ℕ) (reach : Reach) → ((i : ℕ) → i < words l → reach.limit i ≤ word_depth l i)
     → All (IsInside l) (visits l first reach)
 visits_inside l first reach within =
     All-map (IsInside l) (visit_of first reach) (scan_order first (words l) true)
@@ -210,7 +205,7 @@ visits_inside l first reach within =
     (λ k below. let most = within i h in (let z : k < word_depth l i = omega arith in z))))
 
 -- a tag that joined the held set is held
-joined_is_held : {R : Type 0} (l : Layout) (old new : Caller R) (answer : Option ℕ) → old.shape.value.layout ≡ l
+pub joined_is_held : {R : Type 0} (l : Layout) (old new : Caller R) (answer : Option ℕ) → old.shape.value.layout ≡ l
     → Won l answer (record_of old) (record_of new) → IfSome answer (Holds new)
 joined_is_held l old new None same gained = tt
 joined_is_held l old new (Some tag) same gained =
@@ -225,40 +220,3 @@ joined_is_held l old new (Some tag) same gained =
     ap (λ (held : List ℕ). tag_bit l held tag) gained.held ∙ ap (λ (x : ℕ). bit_at x place) (get_or-set_same old.held.items i word 0 near) ∙ one in
     let depth : new.shape.value.layout.depth ≡ l.depth = ap (λ (x : Layout). x.depth) layout in
     ((let z : tag < new.shape.value.layout.depth = omega arith in z), ap (λ (x : Layout). tag_bit x new.held.items tag) layout ∙ bit)
-
-module _ {R : Type 0} (map : Map R) (caller : Caller R) (old new : Shared R) (map_is : old.map.now ≡ map) (caller_is : old.caller.now ≡ caller) (own : IsCallerOf map caller) where
-  -- what a get through the port of this caller of the map does to it
-  get_leaves : (first : ℕ) (reach : Reach) (answer : Option ℕ) → ((i : ℕ) → i < words (layout_of map) → reach.limit i ≤ word_depth (layout_of map) i)
-      → Ports AddsThrough old new (IsGet (layout_of map) (visits (layout_of map) first reach) answer)
-      → Gains (layout_of map) answer caller new.caller.now
-  get_leaves first reach answer within a =
-      let l = layout_of map in let now = new.caller.now in
-      let all : AddsAll a.steps caller now = subst (λ (c : Caller R). AddsAll a.steps c now) caller_is a.added.added in
-      let won : Won l answer (record_of caller) (record_of now) =
-      subst (λ (t : Record R). Won l answer (record_of caller) t) (sym all.known)
-      (search_wins l (word_bits-le l map.small.1) (record_of caller) a.holds.search all.finds (visits_inside l first reach within)) in record {
-        won = joined_is_held l caller now answer (λ z. (own.1 z).layout) won;
-        kept = all.kept;
-        held = won.held;
-        count = won.won;
-        back = won.back;
-        number = won.number;
-        shape = won.shape;
-        same_map = all.same_map;
-      }
-
-  -- after a get
-  pub get_gains : (round_robin : Bool) (from : ℕ) (answer : Option ℕ)
-      → Ports AddsThrough old new (IsGet (layout_of old.map.now) (plain_visits (layout_of old.map.now) round_robin from) answer)
-      → Gains (layout_of map) answer caller new.caller.now
-  get_gains round_robin from answer a =
-      let l = layout_of map in get_leaves (word_of l from) (plain_reach l round_robin from) answer (plain_within l round_robin from)
-      (subst (λ (m : Map R). Ports AddsThrough old new (IsGet (layout_of m) (plain_visits (layout_of m) round_robin from) answer)) map_is a)
-
-  -- after a shallow get
-  pub shallow_gains : (depth from : ℕ) (answer : Option ℕ)
-      → Ports AddsThrough old new (IsGet (layout_of old.map.now) (shallow_visits (layout_of old.map.now) depth from) answer)
-      → Gains (layout_of map) answer caller new.caller.now
-  shallow_gains depth from answer a =
-      let l = layout_of map in get_leaves (word_of l from) (shallow_reach l depth from) answer (shallow_within l depth from)
-      (subst (λ (m : Map R). Ports AddsThrough old new (IsGet (layout_of m) (shallow_visits (layout_of m) depth from) answer)) map_is a)

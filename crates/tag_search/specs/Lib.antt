@@ -18,3 +18,4 @@ pub mod Shared
 pub mod SharedLaws
 pub mod LoneLaws
 pub mod Gains
+pub mod Lone

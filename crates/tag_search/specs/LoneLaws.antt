@@ -5,7 +5,7 @@ use Rattle.tag_core.specs.declared.shape.Shape.{Shape}
 use Rattle.tag_core.specs.declared.step.Step.{Step}
 use Rattle.tag_core.specs.declared.step.Step.TheVariants.{Word}
 use Rattle.tag_core.specs.declared.word_step.WordStep.{WordStep}
-use Rattle.tag_core.specs.Histories.{History, cells_of, IsLawful, steps_by}
+use Rattle.tag_core.specs.Histories.{Cells, History, cells_of, IsLawful, steps_by}
 use Rattle.tag_core.specs.Steps.{Words}
 use Rattle.tag_search.specs.Batch.{IsBatchGet, batch_words}
 use Rattle.tag_search.specs.Choice.{IsChoice, IsBatchChoice}
@@ -13,9 +13,13 @@ use Rattle.tag_search.specs.Gets.{IsGet}
 use Rattle.tag_search.specs.Pool.{pool_of}
 use Rattle.tag_search.specs.Search.{Visit}
 
--- the words that one caller's steps, the newest first, leave of blank ones
+-- the words and the states that one caller's steps, the newest first, leave of blank ones
+abbrev pub cells_left : {R : Type 0} → List (Step R) → Cells
+cells_left steps = cells_of (map (λ step. (0, step)) steps)
+
+-- the words among them
 abbrev pub words_left : {R : Type 0} → List (Step R) → Words
-words_left steps = (cells_of (map (λ step. (0, step)) steps)).words
+words_left steps = (cells_left steps).words
 
 -- a caller's own list, the newest first, after these steps on words, the oldest first
 abbrev pub own_after : {R : Type 0} → List WordStep → List (Step R) → List (Step R)

@@ -1,6 +1,8 @@
 -- What steps through a port on a shared map do to the caller that makes them.
-use Rattle.std.specs.Prelude.{◌≡◌, ℕ, ◌^◌, ◌<◌, List, [], ◌∷◌}
+use Rattle.std.specs.Prelude.{◌≡◌, ℕ, ◌+◌, ◌^◌, ◌<◌, ◌≤◌, List, [], ◌∷◌}
 use Rattle.std.specs.List.{AllByRecursion}
+use Rattle.std.specs.Int.{bit_at}
+use Rattle.tag_layout.specs.Layout.{word_of, place_of}
 use Rattle.tag_core.specs.declared.caller.Caller.{Caller}
 use Rattle.tag_core.specs.declared.record.Record.{Record}
 use Rattle.tag_core.specs.declared.step.Step.TheVariants.{Word}
@@ -9,6 +11,11 @@ use Rattle.tag_core.specs.declared.word_step.WordStep.TheVariants.{Claimed}
 use Rattle.tag_core.specs.Callers.{record_of, slot_of, Holds, SameMap}
 use Rattle.tag_core.specs.Records.{record_after}
 use Rattle.tag_search.specs.declared.shared.Shared.{Shared}
+use Rattle.tag_search.specs.Added.{Adds}
+
+-- the caller may win so many tags more
+abbrev pub HasRoom : {R : Type 0} → Caller R → ℕ → Type 0
+HasRoom c n = (record_of c).won + n ≤ (record_of c).shape.life
 
 -- the record after these steps on words, the oldest first
 abbrev pub record_after_all : {R : Type 0} → List WordStep → Record R → Record R
@@ -20,11 +27,19 @@ abbrev pub FindsWord : WordStep → Type 0
 FindsWord (Claimed i mask found) = found < 2 ^ 64
 FindsWord _ = Unit {0}
 
--- the steps join the caller's own list, and their events change its record; it keeps each tag that it held, with the value of its slot
+-- a claim found the bit of each tag of its word that the caller holds
+abbrev pub FindsHeldBy : {R : Type 0} → Caller R → WordStep → Type 0
+FindsHeldBy c (Claimed i mask found) =
+    (tag : ℕ) → Holds c tag → word_of c.shape.value.layout tag ≡ i → bit_at found (place_of c.shape.value.layout tag) ≡ 1
+FindsHeldBy c _ = Unit {0}
+
+-- the steps join the caller's own list, and their events change its record; it keeps each tag that it held, with the value of
+-- its slot, and no claim found such a tag's bit clear
 pub record AddsAll {R : Type 0} (steps : List WordStep) (old new : Caller R) : Type 0 where
   pub known : record_of new ≡ record_after_all steps (record_of old)
   pub kept : (tag : ℕ) → Holds old tag → Holds new tag × (slot_of new tag ≡ slot_of old tag)
   pub finds : AllByRecursion FindsWord steps
+  pub finds_held : AllByRecursion (FindsHeldBy old) steps
   pub same_map : SameMap old new
 
 -- the port's caller made the steps, and the port is that of the same caller and map
@@ -32,3 +47,7 @@ pub record AddsThrough {R : Type 0} (old : Shared R) (steps : List WordStep) (ne
   pub added : AddsAll steps old.caller.now new.caller.now
   pub map : new.map.now ≡ old.map.now
   pub lent : new.caller.ghost_name ≡ old.caller.ghost_name
+
+-- the caller made some steps, and this holds of them
+abbrev pub Makes : {R : Type 0} → Caller R → Caller R → (List WordStep → Type 0) → Type 0
+Makes old new fact = Adds (λ before steps after. AddsAll steps before after) old new fact

@@ -1,15 +1,19 @@
 -- Steps of one caller of a shared map, one list behind the other.
-use Rattle.std.specs.Prelude.{◌≡◌, List, [], ◌∷◌, ◌++◌, refl}
+use Rattle.std.specs.Prelude.{◌≡◌, ℕ, List, [], ◌∷◌, ◌++◌, refl}
 use Rattle.std.specs.List.{AllByRecursion}
 use Rattle.std.proofs.Common.{sym, ap, ◌∙◌}
 use Rattle.tag_core.specs.declared.caller.Caller.{Caller}
 use Rattle.tag_core.specs.declared.record.Record.{Record}
 use Rattle.tag_core.specs.declared.step.Step.TheVariants.{Word}
 use Rattle.tag_core.specs.declared.word_step.WordStep.{WordStep}
-use Rattle.tag_core.specs.Callers.{record_of}
+use Rattle.tag_core.specs.Callers.{record_of, Holds}
 use Rattle.tag_core.specs.Records.{record_after}
 use Rattle.tag_search.specs.declared.shared.Shared.{Shared}
-use Rattle.tag_search.specs.Shared.{record_after_all, FindsWord, AddsAll, AddsThrough}
+use Rattle.std.specs.Int.{bit_at}
+use Rattle.tag_layout.specs.Layout.{word_of, place_of}
+use Rattle.tag_core.specs.declared.shape.Shape.{Shape}
+use Rattle.tag_core.specs.declared.word_step.WordStep.TheVariants.{Look, LookAside, Claimed, Give, Put, Swap, Spill}
+use Rattle.tag_search.specs.Shared.{record_after_all, FindsWord, FindsHeldBy, AddsAll, AddsThrough}
 
 -- the record after two lists is that after the second from that after the first
 pub record_after-append : {R : Type 0} (xs ys : List WordStep) (r : Record R) → record_after_all (xs ++ ys) r ≡ record_after_all ys (record_after_all xs r)
@@ -21,9 +25,32 @@ pub finds-append : (xs ys : List WordStep) → AllByRecursion FindsWord xs → A
 finds-append [] ys a b = b
 finds-append (x ∷ xs) ys a b = (a.0, finds-append xs ys a.1 b)
 
+-- steps on words leave the shape
+pub shape_after : {R : Type 0} (steps : List WordStep) (r : Record R) → (record_after_all steps r).shape ≡ r.shape
+shape_after [] r = refl
+shape_after (step ∷ steps) r = shape_after steps (record_after (Word step) r)
+
+-- what a step found of the tags held later it found of those held before
+held_earlier : {R : Type 0} (c d : Caller R) → d.shape.value ≡ c.shape.value → ((tag : ℕ) → Holds c tag → Holds d tag) → (step : WordStep)
+    → FindsHeldBy d step → FindsHeldBy c step
+held_earlier c d shape kept (Claimed i mask found) f = λ tag held is.
+    ap (λ (k : Shape). bit_at found (place_of k.layout tag)) (sym shape) ∙ f tag (kept tag held) (ap (λ (k : Shape). word_of k.layout tag) shape ∙ is)
+held_earlier c d shape kept (Look i found) f = tt
+held_earlier c d shape kept (LookAside i found) f = tt
+held_earlier c d shape kept (Give i mask found) f = tt
+held_earlier c d shape kept (Put i mask found) f = tt
+held_earlier c d shape kept (Swap i found) f = tt
+held_earlier c d shape kept (Spill i mask found) f = tt
+
+all_earlier : {R : Type 0} (c d : Caller R) → d.shape.value ≡ c.shape.value → ((tag : ℕ) → Holds c tag → Holds d tag) → (xs ys : List WordStep)
+    → AllByRecursion (FindsHeldBy c) xs → AllByRecursion (FindsHeldBy d) ys → AllByRecursion (FindsHeldBy c) (xs ++ ys)
+all_earlier c d shape kept [] [] a b = tt
+all_earlier c d shape kept [] (y ∷ ys) a b = (held_earlier c d shape kept y b.0, all_earlier c d shape kept [] ys a b.1)
+all_earlier c d shape kept (x ∷ xs) ys a b = (a.0, all_earlier c d shape kept xs ys a.1 b)
+
 -- no step leaves the caller as it is
 pub adds_nothing : {R : Type 0} (c : Caller R) → AddsAll [] c c
-adds_nothing c = record { known = refl; kept = λ tag held. (held, refl); finds = tt; same_map = refl }
+adds_nothing c = record { known = refl; kept = λ tag held. (held, refl); finds = tt; finds_held = tt; same_map = refl }
 
 -- the steps of two calls
 pub adds_on : {R : Type 0} (c d e : Caller R) (xs ys : List WordStep) → AddsAll xs c d → AddsAll ys d e → AddsAll (xs ++ ys) c e
@@ -31,6 +58,7 @@ adds_on c d e xs ys a b = record {
   known = b.known ∙ ap (record_after_all ys) a.known ∙ sym (record_after-append xs ys (record_of c));
   kept = λ tag held. let once = a.kept tag held in let twice = b.kept tag once.0 in (twice.0, twice.1 ∙ once.1);
   finds = finds-append xs ys a.finds b.finds;
+  finds_held = all_earlier c d (ap (λ (r : Record _). r.shape) a.known ∙ shape_after xs (record_of c)) (λ tag held. (a.kept tag held).0) xs ys a.finds_held b.finds_held;
   same_map = b.same_map ∙ a.same_map;
 }
 

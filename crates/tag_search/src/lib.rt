@@ -5,6 +5,7 @@ mod batch;
 mod choosing;
 mod hint;
 mod laws;
+pub mod on_map;
 mod pass;
 mod place;
 mod plain;

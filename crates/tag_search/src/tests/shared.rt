@@ -1,11 +1,10 @@
-//! Gets over a shared map by one thread: what a client knows of its caller, and the same answers as over plain words.
-ghost use Rattle.std.specs.Prelude.{◌≡◌, ◌<◌, ◌≤◌, false, All, IsTrue, IfOk};
-ghost use Rattle.tag_layout.specs.Layout.{word_bits, word_of, place_of};
-ghost use Rattle.tag_core.specs.Callers.{layout_of, IsCallerOf, Holds};
+//! Gets over a shared map by one thread answer as those over plain words.
+ghost use Rattle.std.specs.Prelude.{◌<◌, All, IsTrue, IfOk};
+ghost use Rattle.tag_layout.specs.Layout.{word_of, place_of};
+ghost use Rattle.tag_core.specs.Callers.{IsCallerOf, Holds};
 ghost use Rattle.tag_search.specs.Plain.{IsTaken};
-ghost use Rattle.tag_search.specs.Gains.{Gains, GainsRun};
 
-use crate::{Hint, PlainPort, Port, Shared, after_clear, get, get_batch, get_shallow};
+use crate::{Hint, PlainPort, Port, after_clear, get, get_batch, get_shallow, on_map};
 use std::alloc::Global;
 use std::test::Fail;
 use tag_core::{Caller, Map, Spent};
@@ -24,65 +23,12 @@ pub(crate) fn opened(
     Ok(Map::open(alloc, layout, callers, life, slots)?)
 }
 
-/// A get on a map by one of its callers: the tag that it answers is the caller's from then on, and so is what it held.
-pub(crate) fn get_on(
-    map: &Map<u64>,
-    caller: &mut Caller<u64>,
-    hint: &mut Hint,
-) -> Result<Option<u32>, Spent>
-    requires caller { IsCallerOf map.now caller.old }
-    ensures caller { IsCallerOf map.now caller.new }
-    ensures gains { IfOk result (λ answer. Gains (layout_of map.now) answer caller.old caller.new) }
-{
-    get(&mut Shared::new(map, caller), hint)
-}
-
-/// Frees a held tag at once.
-pub(crate) fn give_on(map: &Map<u64>, caller: &mut Caller<u64>, tag: u32)
-    requires caller { IsCallerOf map.now caller.old }
-    requires held { Holds caller.old tag }
-    ensures caller { IsCallerOf map.now caller.new }
-{
-    let layout = map.layout();
-    map.give(caller, layout.word_of(tag), 1 << layout.place_of(tag));
-}
-
 /// Whether there is such a tag and the caller holds it.
 fn is_held(map: &Map<u64>, caller: &Caller<u64>, tag: u32) -> bool
     requires { IsCallerOf map.now caller.now }
     ensures { IsTrue result → Holds caller.now tag }
 {
     tag < map.layout().depth() && caller.holds(tag)
-}
-
-// A shallow get, as `get_on`.
-fn shallow_on(
-    map: &Map<u64>,
-    caller: &mut Caller<u64>,
-    hint: &mut Hint,
-    depth: u32,
-) -> Result<Option<u32>, Spent>
-    requires caller { IsCallerOf map.now caller.old }
-    ensures caller { IsCallerOf map.now caller.new }
-    ensures gains { IfOk result (λ answer. Gains (layout_of map.now) answer caller.old caller.new) }
-{
-    get_shallow(&mut Shared::new(map, caller), hint, depth)
-}
-
-// A batch get, where so many tags fit a word. Each tag won is the caller's from then on.
-fn batch_on(
-    map: &Map<u64>,
-    caller: &mut Caller<u64>,
-    hint: &mut Hint,
-    n: u32,
-) -> Result<Option<(u32, u64)>, Spent>
-    requires caller { IsCallerOf map.now caller.old }
-    requires count { (1 ≤ n) × (n ≤ word_bits (layout_of map.now)) }
-    ensures caller { IsCallerOf map.now caller.new }
-    ensures gains { hint.old.round_robin ≡ false
-        → IfOk result (λ answer. GainsRun (layout_of map.now) answer caller.old caller.new) }
-{
-    get_batch(&mut Shared::new(map, caller), hint, n)
 }
 
 // A batch get of any count: none where it is no count of a batch.
@@ -100,7 +46,7 @@ fn batch_within(
     if n == 0 || n > bits {
         return Ok(None);
     }
-    batch_on(map, caller, hint, n)
+    on_map::get_batch(map, caller, hint, n)
 }
 
 /// One call of a script.
@@ -153,20 +99,18 @@ fn call_shared(
     ensures { IsCallerOf map.now caller.new }
 {
     match call {
-        Call::Get => told(get_on(map, caller, hint)),
-        Call::Shallow(depth) => told(shallow_on(map, caller, hint, depth)),
+        Call::Get => told(on_map::get(map, caller, hint)),
+        Call::Shallow(depth) => told(on_map::get_shallow(map, caller, hint, depth)),
         Call::Batch(n) => told_of_batch(batch_within(map, caller, hint, n)),
         Call::Put(tag) => {
             if is_held(map, caller, tag) {
-                map.put(caller, tag);
-                after_clear(hint, tag);
+                on_map::put(map, caller, hint, tag);
             }
             None
         }
         Call::Give(tag) => {
             if is_held(map, caller, tag) {
-                give_on(map, caller, tag);
-                after_clear(hint, tag);
+                on_map::give(map, caller, hint, tag);
             }
             None
         }
@@ -279,11 +223,17 @@ fn a_spent_caller_leaves_its_hint(rt: HostRuntime) -> Result<(), Fail> {
         round_robin: false,
     };
     assert_eq!(rt; batch_within(&map, &mut caller, &mut hint, 3), Err(Spent));
-    assert_eq!(rt; get_on(&map, &mut caller, &mut hint), Ok(Some(4)));
-    assert_eq!(rt; shallow_on(&map, &mut caller, &mut hint, 8), Ok(Some(5)));
+    assert_eq!(rt; on_map::get(&map, &mut caller, &mut hint), Ok(Some(4)));
+    assert_eq!(rt;
+        on_map::get_shallow(&map, &mut caller, &mut hint, 8),
+        Ok(Some(5))
+    );
     let last = hint;
-    assert_eq!(rt; get_on(&map, &mut caller, &mut hint), Err(Spent));
-    assert_eq!(rt; shallow_on(&map, &mut caller, &mut hint, 8), Err(Spent));
+    assert_eq!(rt; on_map::get(&map, &mut caller, &mut hint), Err(Spent));
+    assert_eq!(rt;
+        on_map::get_shallow(&map, &mut caller, &mut hint, 8),
+        Err(Spent)
+    );
     assert_eq!(rt; hint, last);
     Ok(())
 }

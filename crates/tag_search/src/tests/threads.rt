@@ -2,8 +2,8 @@
 ghost use Rattle.std.specs.Prelude.{All};
 ghost use Rattle.tag_core.specs.Callers.{IsCallerOf};
 
-use crate::tests::shared::{get_on, give_on, opened};
-use crate::{Hint, after_clear};
+use crate::tests::shared::opened;
+use crate::{Hint, on_map};
 use std::alloc::Global;
 use std::sync::atomic::AtomicU64;
 use std::sync::atomic::Ordering::SeqCst;
@@ -55,14 +55,13 @@ fn round(map: &Map<u64>, caller: &mut Caller<u64>, hint: &mut Hint, clear: Clear
     requires { IsCallerOf map.now caller.old }
     ensures { IsCallerOf map.now caller.new }
 {
-    if let Ok(Some(tag)) = get_on(map, caller, hint) {
+    if let Ok(Some(tag)) = on_map::get(map, caller, hint) {
         seen.comes(tag);
         seen.goes(tag);
         match clear {
-            Clear::Give => give_on(map, caller, tag),
-            Clear::Put => map.put(caller, tag),
+            Clear::Give => on_map::give(map, caller, hint, tag),
+            Clear::Put => on_map::put(map, caller, hint, tag),
         }
-        after_clear(hint, tag);
     }
 }
 

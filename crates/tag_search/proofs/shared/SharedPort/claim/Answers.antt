@@ -1,5 +1,10 @@
 -- A claim adds bits to the caller's held set.
-use Rattle.std.proofs.Common.{◌^◌, ◌<◌, length, refl, arith}
+use Rattle.std.proofs.Common.{◌^◌, ◌<◌, length, refl, sym, ap, ◌∙◌, arith}
+use Rattle.std.specs.Int.{bit_at}
+use Rattle.tag_layout.specs.Layout.{word_of, place_of}
+use Rattle.tag_core.specs.declared.shape.Shape.{Shape}
+use Rattle.tag_core.specs.declared.word_step.WordStep.TheVariants.{Claimed}
+use Rattle.tag_search.specs.Shared.{FindsHeldBy}
 use Rattle.tag_search.proofs.SharedCalls.{adds_claim}
 use Rattle.tag_search.proofs.shared.SharedPort.claim.Goals as goal
 
@@ -7,4 +12,7 @@ pub returns-clause-step : goal.returns-clause-step
 returns-clause-step g c =
     let w = c.args.self.now.caller.now in let found = c.in_ok-claim.claim.found in let fits : found < 2 ^ 64 = omega arith in
     let near : c.args.word < length w.held.items = rw w.wide (rw c.requires.port.1 c.requires.word) in
-    record { added = adds_claim c.args.word c.args.mask found w _ near fits c.in_ok-claim.ensures.step; map = refl; lent = refl }
+    let found_held : FindsHeldBy w (Claimed c.args.word c.args.mask found) = λ tag has is.
+    let shape = c.requires.port.1 in
+    ap (λ (k : Shape). bit_at found (place_of k.layout tag)) shape ∙ c.in_ok-claim.ensures.held tag has (ap (λ (k : Shape). word_of k.layout tag) (sym shape) ∙ is) in
+    record { added = adds_claim c.args.word c.args.mask found w _ near fits found_held c.in_ok-claim.ensures.step; map = refl; lent = refl }

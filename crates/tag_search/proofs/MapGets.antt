@@ -1,0 +1,147 @@
+-- What a get through the port of a map's caller does to it.
+use Rattle.std.proofs.Common.{◌≡◌, ℕ, ◌<◌, ◌≤◌, Bool, List, Option, None, Result, Ok, arith, sym, ap, subst, inl}
+use Rattle.std.specs.Prelude.{IfOk}
+use Rattle.tag_layout.specs.Layout.{Layout, words, word_of, word_depth}
+use Rattle.tag_layout.proofs.PlaceFacts.{word_bits-le}
+use Rattle.tag_core.specs.declared.caller.Caller.{Caller}
+use Rattle.tag_core.specs.declared.map.Map.{Map}
+use Rattle.tag_core.specs.declared.record.Record.{Record}
+use Rattle.tag_core.specs.declared.word_step.WordStep.{WordStep}
+use Rattle.tag_core.specs.declared.claim.Spent.{Spent}
+use Rattle.tag_core.specs.Callers.{layout_of, IsCallerOf, record_of, slot_of, Holds}
+use Rattle.tag_search.specs.declared.shared.Shared.{Shared}
+use Rattle.tag_search.specs.Added.{Adds as Ports}
+use Rattle.tag_search.specs.Batch.{IsBatchGet}
+use Rattle.tag_search.specs.Gains.{Gains, GainsRun}
+use Rattle.tag_search.specs.Gets.{IsGet}
+use Rattle.tag_search.specs.Hints.{reduced}
+use Rattle.tag_search.specs.Lone.{IsAlone, Chooses, ChoosesRun}
+use Rattle.tag_search.specs.Search.{Visit}
+use Rattle.tag_search.specs.Shared.{AddsAll, AddsThrough, Makes}
+use Rattle.tag_search.specs.Visits.{Reach, visits, plain_visits, shallow_visits, plain_reach, shallow_reach}
+use Rattle.tag_search.proofs.Freshness.{search_new, batch_new}
+use Rattle.tag_search.proofs.GetFacts.{plain_within, shallow_within}
+use Rattle.tag_search.proofs.HeldFacts.{none_but_tag, none_but_run}
+use Rattle.tag_search.proofs.LoneCallers.{alone_still, own_choice, own_batch, own_posted}
+use Rattle.tag_search.proofs.RunFacts.{WonRun, batch_wins, run_is_held}
+use Rattle.tag_search.proofs.SharedFacts.{Won, search_wins, visits_inside, joined_is_held}
+
+-- a get that makes these visits did to its caller what the calls on a map say
+pub record Got {R : Type 0} (l : Layout) (visits : List Visit) (answer : Option ℕ) (old new : Caller R) : Type 0 where
+  pub gains : Gains l answer old new
+  pub steps : Makes old new (IsGet l visits answer)
+  pub alone : IsAlone old → Chooses l visits answer old new
+
+-- so did a get of several tags at once
+pub record GotRun {R : Type 0} (l : Layout) (n first : ℕ) (answer : Option (ℕ × ℕ)) (old new : Caller R) : Type 0 where
+  pub gains : GainsRun l answer old new
+  pub steps : Makes old new (IsBatchGet l n first answer)
+  pub alone : IsAlone old → ChoosesRun l n first answer old new
+
+module _ {R : Type 0} (map : Map R) (caller now : Caller R) (own : IsCallerOf map caller) where
+  -- a get from what its steps are
+  got : (first : ℕ) (reach : Reach) (answer : Option ℕ) → ((i : ℕ) → i < words (layout_of map) → reach.limit i ≤ word_depth (layout_of map) i)
+      → Makes caller now (IsGet (layout_of map) (visits (layout_of map) first reach) answer)
+      → Got (layout_of map) (visits (layout_of map) first reach) answer caller now
+  got first reach answer within made =
+      let l = layout_of map in let all = made.added in let layout : caller.shape.value.layout ≡ l = λ z. (own.1 z).layout in
+      let inside = visits_inside l first reach within in
+      let won : Won l answer (record_of caller) (record_of now) =
+      subst (λ (t : Record R). Won l answer (record_of caller) t) (sym all.known)
+      (search_wins l (word_bits-le l map.small.1) (record_of caller) made.holds.search all.finds inside) in record {
+        gains = record {
+          won = joined_is_held l caller now answer layout won;
+          fresh = search_new caller l layout (word_bits-le l map.small.1) (record_of caller) made.holds.search all.finds all.finds_held inside;
+          kept = all.kept;
+          none_else = none_but_tag l caller now layout answer won;
+          held = won.held;
+          count = won.won;
+          back = won.back;
+          number = won.number;
+          shape = won.shape;
+          same_map = all.same_map;
+        };
+        steps = made;
+        alone = λ one. record {
+          choice = own_choice caller now made.steps l (visits l first reach) answer (alone_still caller now made.steps all one) all made.holds;
+          posted = own_posted caller now made.steps all;
+        };
+      }
+
+  -- a batch get from what its steps are
+  got_run : (n first : ℕ) (answer : Option (ℕ × ℕ)) → Makes caller now (IsBatchGet (layout_of map) n first answer)
+      → GotRun (layout_of map) n first answer caller now
+  got_run n first answer made =
+      let l = layout_of map in let all = made.added in let layout : caller.shape.value.layout ≡ l = λ z. (own.1 z).layout in
+      let won : WonRun l answer (record_of caller) (record_of now) =
+      subst (λ (t : Record R). WonRun l answer (record_of caller) t) (sym all.known)
+      (batch_wins l (word_bits-le l map.small.1) (record_of caller) made.holds.search) in record {
+        gains = record {
+          won = run_is_held l caller now answer layout won;
+          fresh = batch_new caller l layout (word_bits-le l map.small.1) made.holds.search all.finds all.finds_held;
+          kept = all.kept;
+          none_else = none_but_run l caller now layout answer won;
+          held = won.held;
+          count = won.won;
+          back = won.back;
+          number = won.number;
+          shape = won.shape;
+          same_map = all.same_map;
+        };
+        steps = made;
+        alone = λ one. record {
+          choice = own_batch caller now made.steps l n first answer (alone_still caller now made.steps all one) all made.holds;
+          posted = own_posted caller now made.steps all;
+        };
+      }
+
+module _ {R : Type 0} (map : Map R) (caller : Caller R) (old new : Shared R) (map_is : old.map.now ≡ map) (caller_is : old.caller.now ≡ caller)
+    (own : IsCallerOf map caller) where
+  -- what the port added its caller made
+  made : (fact : Layout → List WordStep → Type 0) → Ports AddsThrough old new (fact (layout_of old.map.now)) → Makes caller new.caller.now (fact (layout_of map))
+  made fact a = record {
+    steps = a.steps;
+    added = subst (λ (c : Caller R). AddsAll a.steps c new.caller.now) caller_is a.added.added;
+    holds = subst (λ (m : Map R). fact (layout_of m) a.steps) map_is a.holds;
+  }
+
+  -- after a get
+  pub get_got : (round_robin : Bool) (from : ℕ) (answer : Option ℕ)
+      → Ports AddsThrough old new (IsGet (layout_of old.map.now) (plain_visits (layout_of old.map.now) round_robin from) answer)
+      → Got (layout_of map) (plain_visits (layout_of map) round_robin from) answer caller new.caller.now
+  get_got round_robin from answer a = let l = layout_of map in
+      got map caller new.caller.now own (word_of l from) (plain_reach l round_robin from) answer (plain_within l round_robin from)
+      (made (λ k. IsGet k (plain_visits k round_robin from) answer) a)
+
+  -- after a shallow get
+  pub shallow_got : (depth from : ℕ) (answer : Option ℕ)
+      → Ports AddsThrough old new (IsGet (layout_of old.map.now) (shallow_visits (layout_of old.map.now) depth from) answer)
+      → Got (layout_of map) (shallow_visits (layout_of map) depth from) answer caller new.caller.now
+  shallow_got depth from answer a = let l = layout_of map in
+      got map caller new.caller.now own (word_of l from) (shallow_reach l depth from) answer (shallow_within l depth from)
+      (made (λ k. IsGet k (shallow_visits k depth from) answer) a)
+
+  -- after a batch get from a hint
+  pub batch_got : (n at : ℕ) (answer : Option (ℕ × ℕ))
+      → Ports AddsThrough old new (IsBatchGet (layout_of old.map.now) n (word_of (layout_of old.map.now) (reduced (layout_of old.map.now).depth at)) answer)
+      → GotRun (layout_of map) n (word_of (layout_of map) (reduced (layout_of map).depth at)) answer caller new.caller.now
+  batch_got n at answer a = let l = layout_of map in
+      got_run map caller new.caller.now own n (word_of l (reduced l.depth at)) answer
+      (made (λ k. IsBatchGet k n (word_of k (reduced k.depth at)) answer) a)
+
+-- a batch that answers none without a step
+pub none_got : {R : Type 0} (l : Layout) (answer : Result (Option (ℕ × ℕ)) Spent) (old new : Caller R) → answer ≡ Ok None → new ≡ old
+    → IfOk answer (λ won. GainsRun l won old new)
+none_got l answer old new none same =
+    subst (λ (x : Result (Option (ℕ × ℕ)) Spent). IfOk x (λ won. GainsRun l won old new)) (sym none) (record {
+      won = λ tag within. absurd within;
+      fresh = λ tag within. absurd within;
+      kept = λ tag holds. (subst (λ (c : Caller _). Holds c tag) (sym same) holds, ap (λ (c : Caller _). slot_of c tag) same);
+      none_else = λ tag holds. inl (subst (λ (c : Caller _). Holds c tag) same holds);
+      held = ap (λ (c : Caller _). (record_of c).held) same;
+      count = let z = ap (λ (c : Caller _). (record_of c).won) same in omega arith;
+      back = ap (λ (c : Caller _). (record_of c).back) same;
+      number = ap (λ (c : Caller _). (record_of c).number) same;
+      shape = ap (λ (c : Caller _). (record_of c).shape) same;
+      same_map = ap (λ (c : Caller _). c.seat.table_id) same;
+    })

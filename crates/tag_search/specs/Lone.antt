@@ -1,0 +1,43 @@
+-- What the one caller of a map knows of it by its own steps.
+use Rattle.std.specs.Prelude.{◌≡◌, ℕ, Bool, not, ◌&&◌, nat_eq, List, Option}
+use Rattle.tag_layout.specs.Layout.{Layout, word_of, place_of}
+use Rattle.tag_core.specs.declared.caller.Caller.{Caller}
+use Rattle.tag_core.specs.Callers.{record_of}
+use Rattle.tag_search.specs.LoneLaws.{cells_left, words_left}
+use Rattle.tag_search.specs.Pool.{Pool, pool_of, is_busy}
+use Rattle.tag_search.specs.Search.{Visit}
+use Rattle.tag_search.specs.Choice.{IsChoice, IsBatchChoice}
+use Rattle.tag_search.specs.Batch.{batch_words}
+
+-- the caller's map has no other caller
+abbrev pub IsAlone : {R : Type 0} → Caller R → Type 0
+IsAlone c = c.shape.value.callers ≡ 1
+
+-- the places that are free, and those set aside, as the caller's own steps leave them
+abbrev pub pool_left : {R : Type 0} → Caller R → Pool
+pool_left c = pool_of (words_left (record_of c).steps)
+
+-- the tag is posted, as the caller's own steps leave it
+abbrev pub is_posted : {R : Type 0} → Caller R → ℕ → Bool
+is_posted c tag = nat_eq ((cells_left (record_of c).steps).state tag) 1
+
+-- the tag is neither free nor set aside nor posted, as the caller's own steps leave it
+abbrev pub is_own : {R : Type 0} → Caller R → ℕ → Bool
+is_own c tag =
+    is_busy (pool_left c) (word_of c.shape.value.layout tag) (place_of c.shape.value.layout tag) && not (is_posted c tag)
+
+-- over the places that the caller's own steps left, the answer is the choice, and what is left is what the choice leaves; no tag
+-- is posted or taken
+pub record Chooses {R : Type 0} (l : Layout) (visits : List Visit) (answer : Option ℕ) (old new : Caller R) : Type 0 where
+  pub choice : IsChoice l (pool_left old) visits answer (pool_left new)
+  pub posted : (tag : ℕ) → is_posted new tag ≡ is_posted old tag
+
+-- as `Chooses`, of n tags side by side in one word
+pub record ChoosesRun {R : Type 0} (l : Layout) (n first : ℕ) (answer : Option (ℕ × ℕ)) (old new : Caller R) : Type 0 where
+  pub choice : IsBatchChoice l n (pool_left old) (batch_words l first) answer (pool_left new)
+  pub posted : (tag : ℕ) → is_posted new tag ≡ is_posted old tag
+
+-- the caller's own steps leave this pool, and no tag is posted or taken
+pub record Leaves {R : Type 0} (pool : Pool) (old new : Caller R) : Type 0 where
+  pub pool_is : pool_left new ≡ pool
+  pub posted : (tag : ℕ) → is_posted new tag ≡ is_posted old tag

@@ -1,0 +1,132 @@
+//! Gets and clears by one of the callers of a shared map.
+ghost use Rattle.std.specs.Prelude.{◌≡◌, ℕ, ◌^◌, ◌↔◌, ◌⊎◌, ◌≤◌, false, IsTrue, IsOk, IfOk, OnErr};
+ghost use Rattle.tag_layout.specs.Layout.{word_bits, word_of, place_of};
+ghost use Rattle.tag_core.specs.Callers.{layout_of, IsCallerOf, Holds, Adds};
+ghost use Rattle.tag_core.specs.declared.step.Step.TheVariants.{Word};
+ghost use Rattle.tag_core.specs.declared.word_step.WordStep.TheVariants.{Give, Put};
+ghost use Rattle.tag_search.specs.Batch.{IsBatchGet};
+ghost use Rattle.tag_search.specs.Follows.{HintFollows, BatchFollows, ClearFollows};
+ghost use Rattle.tag_search.specs.Gains.{Gains, GainsRun};
+ghost use Rattle.tag_search.specs.Gets.{IsGet};
+ghost use Rattle.tag_search.specs.Hints.{reduced};
+ghost use Rattle.tag_search.specs.Lone.{IsAlone, pool_left, Chooses, ChoosesRun, Leaves};
+ghost use Rattle.tag_search.specs.Pool.{aside_at, free_at};
+ghost use Rattle.tag_search.specs.Shared.{HasRoom, Makes};
+ghost use Rattle.tag_search.specs.Visits.{plain_visits, shallow_visits};
+
+use crate::hint::{Hint, after_clear};
+use crate::place::bit_of;
+use crate::search;
+use crate::shared::Shared;
+use tag_core::{Caller, Map, Spent};
+
+/// A free tag, which the caller holds from now on. `None` says that each place was found taken at some moment of the call,
+/// not that all were taken at one moment. `Spent` where the caller's life leaves no room for a tag more.
+#[inline]
+pub fn get<R>(map: &Map<R>, caller: &mut Caller<R>, hint: &mut Hint) -> Result<Option<u32>, Spent>
+    requires caller { IsCallerOf map.now caller.old }
+    ensures caller { IsCallerOf map.now caller.new }
+    ensures room { IsOk result ↔ HasRoom caller.old 1 }
+    ensures gains { IfOk result (λ answer. Gains (layout_of map.now) answer caller.old caller.new) }
+    ensures steps { IfOk result (λ answer.
+        let l = layout_of map.now in
+        let visits = plain_visits l hint.old.round_robin (reduced l.depth hint.old.at) in
+        Makes caller.old caller.new (IsGet l visits answer)) }
+
+    // Where the map has no other caller, the words are those that this caller's own steps left.
+    ensures alone { IsAlone caller.old → IfOk result (λ answer.
+        let l = layout_of map.now in
+        let visits = plain_visits l hint.old.round_robin (reduced l.depth hint.old.at) in
+        Chooses l visits answer caller.old caller.new) }
+    ensures hint { IfOk result (λ answer. HintFollows (layout_of map.now).depth hint.old hint.new answer) }
+    ensures err { OnErr result ((caller.new ≡ caller.old) × (hint.new ≡ hint.old)) }
+{
+    search::get(&mut Shared::new(map, caller), hint)
+}
+
+/// As `get`, over so many tags of the whole map alone, of which each word has its share. Some words may have none.
+#[inline]
+pub fn get_shallow<R>(
+    map: &Map<R>,
+    caller: &mut Caller<R>,
+    hint: &mut Hint,
+    depth: u32,
+) -> Result<Option<u32>, Spent>
+    requires caller { IsCallerOf map.now caller.old }
+    ensures caller { IsCallerOf map.now caller.new }
+    ensures room { IsOk result ↔ HasRoom caller.old 1 }
+    ensures gains { IfOk result (λ answer. Gains (layout_of map.now) answer caller.old caller.new) }
+    ensures steps { IfOk result (λ answer.
+        let l = layout_of map.now in
+        let visits = shallow_visits l depth (reduced l.depth hint.old.at) in
+        Makes caller.old caller.new (IsGet l visits answer)) }
+    ensures alone { IsAlone caller.old → IfOk result (λ answer.
+        let l = layout_of map.now in
+        let visits = shallow_visits l depth (reduced l.depth hint.old.at) in
+        Chooses l visits answer caller.old caller.new) }
+    ensures hint { IfOk result (λ answer. HintFollows (layout_of map.now).depth hint.old hint.new answer) }
+    ensures err { OnErr result ((caller.new ≡ caller.old) × (hint.new ≡ hint.old)) }
+{
+    search::get_shallow(&mut Shared::new(map, caller), hint, depth)
+}
+
+/// Up to `n` free tags side by side in one word, which the caller holds from now on: the first tag, and the mask of those
+/// won, that tag's bit lowest. Under round robin there are none, without a step.
+#[inline]
+pub fn get_batch<R>(
+    map: &Map<R>,
+    caller: &mut Caller<R>,
+    hint: &mut Hint,
+    n: u32,
+) -> Result<Option<(u32, u64)>, Spent>
+    requires caller { IsCallerOf map.now caller.old }
+    requires count { (1 ≤ n) × (n ≤ word_bits (layout_of map.now)) }
+    ensures caller { IsCallerOf map.now caller.new }
+    ensures room { IsOk result ↔ (IsTrue hint.old.round_robin ⊎ HasRoom caller.old n) }
+    ensures gains { IfOk result (λ answer. GainsRun (layout_of map.now) answer caller.old caller.new) }
+    ensures round_robin { IsTrue hint.old.round_robin → (result ≡ Ok None) × (caller.new ≡ caller.old) × (hint.new ≡ hint.old) }
+    ensures steps { hint.old.round_robin ≡ false → IfOk result (λ answer.
+        let l = layout_of map.now in
+        Makes caller.old caller.new (IsBatchGet l n (word_of l (reduced l.depth hint.old.at)) answer)) }
+    ensures alone { hint.old.round_robin ≡ false → IsAlone caller.old → IfOk result (λ answer.
+        let l = layout_of map.now in
+        ChoosesRun l n (word_of l (reduced l.depth hint.old.at)) answer caller.old caller.new) }
+    ensures hint { hint.old.round_robin ≡ false
+        → IfOk result (λ answer. BatchFollows (layout_of map.now).depth n hint.old hint.new answer) }
+    ensures err { OnErr result ((caller.new ≡ caller.old) × (hint.new ≡ hint.old)) }
+{
+    search::get_batch(&mut Shared::new(map, caller), hint, n)
+}
+
+/// Sets a held tag aside: it is free after the next sweep of its word. The hint goes to the tag, but not under round robin.
+#[inline]
+pub fn put<R>(map: &Map<R>, caller: &mut Caller<R>, hint: &mut Hint, tag: u32)
+    requires caller { IsCallerOf map.now caller.old }
+    requires held { Holds caller.old tag }
+    ensures caller { IsCallerOf map.now caller.new }
+    ensures step { let l = layout_of map.now in
+        (found : ℕ) × Adds (Word (Put (word_of l tag) (2 ^ place_of l tag) found)) caller.old caller.new }
+    ensures alone { let l = layout_of map.now in
+        Leaves (aside_at (word_of l tag) (place_of l tag) (pool_left caller.old)) caller.old caller.new }
+    ensures hint { ClearFollows tag hint.old hint.new }
+{
+    map.put(caller, tag);
+    after_clear(hint, tag);
+}
+
+/// Frees a held tag at once. The hint goes to the tag, but not under round robin.
+#[inline]
+pub fn give<R>(map: &Map<R>, caller: &mut Caller<R>, hint: &mut Hint, tag: u32)
+    requires caller { IsCallerOf map.now caller.old }
+    requires held { Holds caller.old tag }
+    ensures caller { IsCallerOf map.now caller.new }
+    ensures step { let l = layout_of map.now in
+        (found : ℕ) × Adds (Word (Give (word_of l tag) (2 ^ place_of l tag) found)) caller.old caller.new }
+    ensures alone { let l = layout_of map.now in
+        Leaves (free_at (word_of l tag) (2 ^ place_of l tag) (pool_left caller.old)) caller.old caller.new }
+    ensures hint { ClearFollows tag hint.old hint.new }
+{
+    let layout = map.layout();
+    map.give(caller, layout.word_of(tag), bit_of(layout, tag));
+    after_clear(hint, tag);
+}
