@@ -20,14 +20,13 @@ use Rattle.tag_core.specs.declared.record.Record.{Record}
 use Rattle.tag_core.specs.declared.step.Step.TheVariants.{Word}
 use Rattle.tag_core.specs.declared.word_step.WordStep.TheVariants.{Give}
 use Rattle.tag_core.specs.Bits.{one_if}
-use Rattle.tag_core.specs.Callers.{IsCallerOf, record_of, Adds}
+use Rattle.tag_core.specs.Callers.{record_of, Adds}
+use Rattle.tag_core.specs.Holdings.{IsInMask, Releases}
 use Rattle.tag_core.specs.Records.{record_after}
 use Rattle.tag_core.proofs.Picks.{among, only, among_one, one_among}
 use Rattle.tag_core.proofs.TagBits.{among_here, among_else, among_small, only_among, only_is, place_small}
 use Rattle.tag_search.proofs.Claims.{count_ones-pow}
 use Rattle.tag_queue.specs.Batches.{Run, AreRuns, EndsElsewhere, GivesAll, record_after_runs}
-use Rattle.tag_queue.specs.Holding.{Parts}
-use Rattle.tag_queue.proofs.Holding.{parts_with}
 
 -- one more bit is one more, in a word of any width
 one_bit_more : (width mask p : ℕ) → mask < 2 ^ width → p < width → bit_at mask p ≡ 0 → count_ones (bit_or mask (2 ^ p)) ≡ count_ones mask + 1
@@ -113,34 +112,25 @@ module _ (k : Shape) (narrow : k.layout.shift ≤ 6) where
       let low = bit_at-lt mask (place_of k.layout u) in let a = among_here k narrow word mask u (sym here) in
       let ne : bit_at mask (place_of k.layout u) ≢ 1 = λ e. other ((is u).0 (sym a ∙ e)) in omega arith
 
-module _ {R : Type 0} (map : Map R) (old now next : Caller R) (now_is : IsCallerOf map now) (next_is : IsCallerOf map next) where
+module _ {R : Type 0} (map : Map R) (old now next : Caller R) where
   -- one run more is given back
-  abbrev pub gives_more : (done run : List ℕ) (word mask found : ℕ) → word < words map.shape.layout → mask < 2 ^ 64 → 1 ≤ length run
+  abbrev pub gives_more : (done run : List ℕ) (word mask found : ℕ) → 1 ≤ length run
       → IsMaskOf map.shape map.small.1 run word mask → (given : GivesAll map.shape.layout done old now) → EndsElsewhere word given.runs
-      → Adds (Word (Give word mask found)) now next → GivesAll map.shape.layout (done ++ run) old next
-  gives_more done run word mask found there fits some is given turns adds =
-      let less = parts_with map now next now_is next_is word mask there (Contains run) is adds.slots fits (ap (λ (r : Record R). r.held) adds.known) in record {
+      → Adds (Word (Give word mask found)) now next → Releases (IsInMask map.shape.layout word mask) now next
+      → GivesAll map.shape.layout (done ++ run) old next
+  gives_more done run word mask found some is given turns adds less =
+      let in_run : (t : ℕ) → IsInMask map.shape.layout word mask t → Contains run t = λ t h. (is t).0 (among_one map.shape.layout word mask t h) in
+      let in_mask : (t : ℕ) → Contains run t → IsInMask map.shape.layout word mask t = λ t c. one_among map.shape.layout word mask t ((is t).1 c) in
+      record {
         less = record {
-          gone = λ t n h. ⊎_elim (λ (d : Contains done t). given.less.gone t d (less.none_else t h)) (λ (r : Contains run t). less.gone t r h)
+          gone = λ t n h. ⊎_elim (λ (d : Contains done t). given.less.gone t d (less.none_else t h)) (λ (r : Contains run t). less.gone t (in_mask t r) h)
               (Contains-append_cases done run t n);
           kept = λ t n h. let a = given.less.kept t (λ d. n (Contains-append_left done run t d)) h in
-              let b = less.kept t (λ r. n (Contains-append_right done run t r)) a.0 in (b.0, b.1 ∙ a.1);
+              let b = less.kept t (λ m. n (Contains-append_right done run t (in_run t m))) a.0 in (b.0, b.1 ∙ a.1);
           none_else = λ t h. given.less.none_else t (less.none_else t h);
         };
         runs = record { tags = run; word = word; mask = mask; found = found } ∷ given.runs;
-        cut = (
-          done,
-          refl,
-          record {
-            some = some;
-            mask_is = λ t. (
-              (λ h. (is t).0 (among_one map.shape.layout word mask t h)),
-              (λ c. one_among map.shape.layout word mask t ((is t).1 c)),
-            );
-          },
-          turns,
-          given.cut,
-        );
+        cut = (done, refl, record { some = some; mask_is = λ t. (in_run t, in_mask t) }, turns, given.cut);
         known = adds.known ∙ ap (record_after (Word (Give word mask found))) given.known;
         same_map = adds.same_map ∙ given.same_map;
       }

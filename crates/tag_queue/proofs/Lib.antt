@@ -1,6 +1,4 @@
-pub mod Results
 pub mod Getting
-pub mod Holding
 pub mod Giving
 pub mod SoFar
 pub mod Counting

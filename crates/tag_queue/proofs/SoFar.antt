@@ -13,6 +13,7 @@ use Rattle.tag_core.specs.declared.record.Record.{Record}
 use Rattle.tag_core.specs.declared.step.Step.TheVariants.{Word}
 use Rattle.tag_core.specs.declared.word_step.WordStep.TheVariants.{Give}
 use Rattle.tag_core.specs.Callers.{IsCallerOf, Holds, record_of, Adds}
+use Rattle.tag_core.specs.Holdings.{IsInMask, Releases}
 use Rattle.tag_core.proofs.Picks.{among_one}
 use Rattle.tag_core.proofs.TagBits.{small_word, place_small}
 use Rattle.tag_search.proofs.Claims.{count_ones-pow}
@@ -70,9 +71,10 @@ module _ {R : Type 0} (map : Map R) (tags : List ℕ) (i : ℕ) (old now : Calle
   gives_held t l h = so.held t ((so.mask_is t).0 (among_one map.shape.layout word mask t h))
 
   -- once the last run is given back, all of them are
-  module _ (next : Caller R) (found : ℕ) (next_is : IsCallerOf map next) (adds : Adds (Word (Give word mask found)) now next) (some : 1 ≤ length so.run) where
+  module _ (next : Caller R) (found : ℕ) (adds : Adds (Word (Give word mask found)) now next)
+      (less : Releases (IsInMask map.shape.layout word mask) now next) (some : 1 ≤ length so.run) where
     abbrev all_gives : GivesAll map.shape.layout (so.done ++ so.run) old next
-    all_gives = gives_more map old now next so.caller next_is so.done so.run word mask found so.there fits some so.mask_is so.given so.elsewhere adds
+    all_gives = gives_more map old now next so.done so.run word mask found some so.mask_is so.given so.elsewhere adds less
 
     all_back : (record_of next).back ≡ (record_of old).back + length (so.done ++ so.run)
     all_back = let step = ap (λ (r : Record R). r.back) adds.known in let before = so.back in let ones = so.ones in
@@ -127,18 +129,19 @@ module _ {R : Type 0} (map : Map R) (tags : List ℕ) (i : ℕ) (old now : Calle
 
     -- a tag of another word begins the next run, once the last is given back
     pub begins_run : (next : Caller R) (found : ℕ) → IsCallerOf map next → Adds (Word (Give word mask found)) now next
+        → Releases (IsInMask map.shape.layout word mask) now next
         → word ≢ word_of map.shape.layout (get_or tags i 0)
         → SoFar map tags (i + 1) old next (word_of map.shape.layout (get_or tags i 0)) (2 ^ place_of map.shape.layout (get_or tags i 0))
-    begins_run next found next_is adds other = let u : ℕ = get_or tags i 0 in let l = map.shape.layout in
+    begins_run next found next_is adds less other = let u : ℕ = get_or tags i 0 in let l = map.shape.layout in
         let some : 1 ≤ length so.run = ⊎_elim (λ (h : 1 ≤ length so.run). h) (λ (first : (i ≡ 0) × (word ≡ word_of l (get_or tags 0 0))).
         absurd (other (first.1 ∙ ap (λ (j : ℕ). word_of l (get_or tags j 0)) (sym first.0)))) so.some in
-        let all = all_gives next found next_is adds some in record {
+        let all = all_gives next found adds less some in record {
           caller = next_is;
           done = so.done ++ so.run;
           run = u ∷ [];
           together = ap (λ (l : List ℕ). l ++ u ∷ []) so.together ∙ sym one_more;
           given = all;
-          back = all_back next found next_is adds some;
+          back = all_back next found adds less some;
           elsewhere = other;
           there = near;
           within = bit_fits;

@@ -1,10 +1,12 @@
 -- What contracts see of a queue and of its agents.
-use Rattle.std.specs.Prelude.{◌≡◌, ℕ, ◌+◌, ◌<◌, ◌≤◌, List, length, map, Option}
+use Rattle.std.specs.Prelude.{◌≡◌, ℕ, ◌+◌, ◌↔◌, List, length, map, Option}
 use mathlib.Core.Option as maybe
 use Rattle.tag_layout.specs.Layout.{Layout}
 use Rattle.tag_core.specs.declared.caller.Caller.{Caller}
+use Rattle.tag_core.specs.declared.shape.Shape.{Shape}
 use Rattle.tag_core.specs.Callers as core
 use Rattle.tag_search.specs.declared.hint.Hint.{Hint}
+use Rattle.tag_search.specs.Shared as search
 use Rattle.wake_book.specs.declared.book.Teller.{Teller}
 use Rattle.wake_book.specs.declared.groups.Waiter.{Waiter}
 use Rattle.wake_book.specs.declared.steps.BookStep.{BookStep}
@@ -76,7 +78,7 @@ slot_of agent tag = core.slot_of agent.caller tag
 
 -- the agent may win so many tags more
 abbrev pub HasRoom : {R : Type 0} → Agent R → ℕ → Type 0
-HasRoom agent n = (core.record_of agent.caller).won + n ≤ (core.record_of agent.caller).shape.life
+HasRoom agent n = search.HasRoom agent.caller n
 
 -- the group in which the agent stands
 abbrev pub standing_of : {R : Type 0} → Agent R → Option ℕ
@@ -85,6 +87,20 @@ standing_of agent = groups.standing_of agent.waiter
 -- the agent's counts, grants and standing are as before
 abbrev pub SameCounts : {R : Type 0} → Agent R → Agent R → Type 0
 SameCounts old new = (teller_of new ≡ teller_of old) × (waiter_of new ≡ waiter_of old)
+
+-- all of the agent but its tags and its steps on the map is as before
+abbrev pub SameElse : {R : Type 0} → Agent R → Agent R → Type 0
+SameElse old new = (hint_of new ≡ hint_of old) × SameCounts old new
+
+-- the agent is as it was: its tags with their slots, its own steps, and all else
+pub record IsUnchanged {R : Type 0} (old new : Agent R) : Type 0 where
+  pub caller : core.IsUnchanged (caller_of old) (caller_of new)
+  pub holds : (tag : ℕ) → Holds new tag ↔ Holds old tag
+  pub same_else : SameElse old new
+
+-- what the queue's map was opened with
+abbrev pub shape_of : {R : Type 0} → Queue R → Shape
+shape_of queue = queue.map.shape
 
 -- how many agents the queue has
 abbrev pub agents_of : {R : Type 0} → Queue R → ℕ

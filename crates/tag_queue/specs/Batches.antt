@@ -7,11 +7,11 @@ use Rattle.tag_core.specs.declared.record.Record.{Record}
 use Rattle.tag_core.specs.declared.step.Step.TheVariants.{Word}
 use Rattle.tag_core.specs.declared.word_step.WordStep.TheVariants.{Give}
 use Rattle.tag_core.specs.Callers as core
+use Rattle.tag_core.specs.Holdings.{Releases}
 use Rattle.tag_core.specs.Records.{record_after}
+use Rattle.tag_search.specs.Follows.{ClearFollows}
 use Rattle.tag_queue.specs.declared.agent.Agent.{Agent}
 use Rattle.tag_queue.specs.Agents.{caller_of, hint_of}
-use Rattle.tag_queue.specs.Clears.{FollowsClear}
-use Rattle.tag_queue.specs.Holding.{Parts}
 
 -- as many tags as one call may name
 abbrev pub CountsTags : List ℕ → Type 0
@@ -54,7 +54,7 @@ record_after_runs (run ∷ runs) r = record_after (Word (Give run.word run.mask 
 
 -- the caller holds the tags of the list no more: each run of it was given back by one step, and nothing else was done
 pub record GivesAll {R : Type 0} (l : Layout) (tags : List ℕ) (old new : Caller R) : Type 0 where
-  pub less : Parts (Contains tags) old new
+  pub less : Releases (Contains tags) old new
   pub runs : List Run
   pub cut : AreRuns l tags runs
   pub known : core.record_of new ≡ record_after_runs runs (core.record_of old)
@@ -63,4 +63,4 @@ pub record GivesAll {R : Type 0} (l : Layout) (tags : List ℕ) (old new : Calle
 -- the tags of the list are given back, and the hint follows the last of them
 pub record GivesBack {R : Type 0} (l : Layout) (tags : List ℕ) (old new : Agent R) : Type 0 where
   pub gives : GivesAll l tags (caller_of old) (caller_of new)
-  pub hint : FollowsClear (slice_index tags (length tags - 1)) (hint_of old) (hint_of new)
+  pub hint : ClearFollows (slice_index tags (length tags - 1)) (hint_of old) (hint_of new)

@@ -1,10 +1,10 @@
 -- What clears do to the agent that makes them.
-use Rattle.std.specs.Prelude.{◌≡◌, ℕ, ◌^◌, ◌≤◌, ◌⊎◌, List, ◌∷◌, if◌then◌else◌}
+use Rattle.std.specs.Prelude.{◌≡◌, ℕ, ◌^◌, ◌≤◌, ◌⊎◌, List, ◌∷◌}
 use Rattle.tag_layout.specs.Layout.{Layout, word_of, place_of}
 use Rattle.tag_core.specs.declared.step.Step.TheVariants.{Word}
 use Rattle.tag_core.specs.declared.word_step.WordStep.TheVariants.{Put}
 use Rattle.tag_core.specs.Callers.{Adds}
-use Rattle.tag_search.specs.declared.hint.Hint.{Hint}
+use Rattle.tag_search.specs.Follows.{ClearFollows}
 use Rattle.wake_book.specs.declared.charge.Charge.{Charge}
 use Rattle.wake_book.specs.declared.charge.Charge.TheVariants.{Full, Below, Won, Busy}
 use Rattle.wake_book.specs.declared.steps.GroupStep.{GroupStep}
@@ -15,20 +15,15 @@ use Rattle.wake_book.specs.Waits.{active_at}
 use Rattle.wake_book.specs.Walks.{IsWalk}
 use Rattle.tag_queue.specs.declared.agent.Agent.{Agent}
 use Rattle.tag_queue.specs.declared.queue.Queue.{Queue}
-use Rattle.tag_queue.specs.Holding.{HoldsLess, Only}
+use Rattle.tag_queue.specs.Holding.{HoldsLess}
 use Rattle.tag_queue.specs.Agents.{caller_of, teller_of, waiter_of, hint_of, book_steps, group_steps, batch_of, cap_of}
-
--- the hint of one who clears a tag goes to it, but not under round robin
-pub record FollowsClear (tag : ℕ) (old new : Hint) : Type 0 where
-  pub at : new.at ≡ (if old.round_robin then old.at else tag)
-  pub round_robin : new.round_robin ≡ old.round_robin
 
 -- the tag is set aside by one put and held no more, and the hint follows
 pub record Puts {R : Type 0} (l : Layout) (tag : ℕ) (old new : Agent R) : Type 0 where
   pub found : ℕ
   pub put : Adds (Word (Put (word_of l tag) (2 ^ place_of l tag) found)) (caller_of old) (caller_of new)
-  pub less : HoldsLess (Only tag) old new
-  pub hint : FollowsClear tag (hint_of old) (hint_of new)
+  pub less : HoldsLess (λ other. other ≡ tag) old new
+  pub hint : ClearFollows tag (hint_of old) (hint_of new)
 
 -- what follows a charge: a lawful walk for one batch where it was won, else no step
 abbrev pub Follows : ℕ → Charge → List GroupStep → List GroupStep → ℕ → Type 0

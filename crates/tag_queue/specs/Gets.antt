@@ -4,28 +4,26 @@ use Rattle.tag_layout.specs.Layout.{Layout, words, word_bits, word_of}
 use Rattle.tag_core.specs.declared.word_step.WordStep.{WordStep}
 use Rattle.tag_core.specs.declared.caller.Caller.{Caller}
 use Rattle.tag_core.specs.declared.step.Step.TheVariants.{Word}
-use Rattle.tag_core.specs.Callers.{Adds as StepsOn}
+use Rattle.tag_core.specs.Callers.{Adds}
 use Rattle.tag_search.specs.declared.hint.Hint.{Hint}
-use Rattle.tag_search.specs.Added.{Adds}
-use Rattle.tag_search.specs.Shared.{AddsAll}
+use Rattle.tag_search.specs.Shared.{Makes}
 use Rattle.tag_search.specs.Gains.{Gains, GainsRun}
 use Rattle.tag_search.specs.Gets.{IsGet}
 use Rattle.tag_search.specs.Batch.{IsBatchGet}
+use Rattle.tag_search.specs.Lone.{IsAlone, Chooses, ChoosesRun}
 use Rattle.tag_search.specs.Hints.{reduced}
 use Rattle.tag_search.specs.Search.{Visit}
 use Rattle.tag_search.specs.Visits.{plain_visits, shallow_visits}
 use Rattle.tag_search.specs.Follows.{HintFollows, BatchFollows}
 use Rattle.tag_queue.specs.declared.agent.Agent.{Agent}
-use Rattle.tag_queue.specs.Agents.{caller_of, hint_of, SameCounts}
+use Rattle.tag_queue.specs.Agents.{caller_of, hint_of, SameCounts, SameElse}
 
--- between the two states the caller made some steps, and this holds of them
-abbrev pub Made : {R : Type 0} → (List WordStep → Type 0) → Caller R → Caller R → Type 0
-Made fact old new = Adds (λ before steps after. AddsAll steps before after) old new fact
-
--- the caller gains the tag answered, and nothing else, by a lawful search of these visits, and its hint follows
+-- the caller gains the tag answered, and nothing else, by a lawful search of these visits, and its hint follows; where it is the
+-- only caller, the answer is the choice
 pub record Searches {R : Type 0} (l : Layout) (visits : List Visit) (answer : Option ℕ) (old new : Caller R) (before after : Hint) : Type 0 where
   pub gains : Gains l answer old new
-  pub steps : Made (IsGet l visits answer) old new
+  pub steps : Makes old new (IsGet l visits answer)
+  pub alone : IsAlone old → Chooses l visits answer old new
   pub hint : HintFollows l.depth before after answer
 
 -- a plain search from the hint
@@ -39,18 +37,17 @@ pub record GetsPlain {R : Type 0} (l : Layout) (answer : Option ℕ) (old new : 
 
 -- a shallow get of this depth
 pub record GetsShallow {R : Type 0} (l : Layout) (depth : ℕ) (answer : Option ℕ) (old new : Agent R) : Type 0 where
-  pub searches : Searches l (shallow_visits l depth (reduced l.depth (hint_of old).at)) answer (caller_of old) (caller_of new) (hint_of old) (hint_of new)
+  pub searches :
+      Searches l (shallow_visits l depth (reduced l.depth (hint_of old).at)) answer (caller_of old) (caller_of new)
+      (hint_of old) (hint_of new)
   pub others : SameCounts old new
 
--- the caller gains the tags of a run of n, and nothing else, by a lawful search for it, and its hint follows
-pub record SearchesRun {R : Type 0} (l : Layout) (n : ℕ) (answer : Option (ℕ × ℕ)) (old new : Caller R) (before after : Hint) : Type 0 where
-  pub gains : GainsRun l answer old new
-  pub steps : Made (IsBatchGet l n (word_of l (reduced l.depth before.at)) answer) old new
-  pub hint : BatchFollows l.depth n before after answer
-
--- a batch get of n
+-- a batch get of n: the agent gains the tags of a run, and nothing else, by a lawful search for it
 pub record GetsBatch {R : Type 0} (l : Layout) (n : ℕ) (answer : Option (ℕ × ℕ)) (old new : Agent R) : Type 0 where
-  pub searches : SearchesRun l n answer (caller_of old) (caller_of new) (hint_of old) (hint_of new)
+  pub gains : GainsRun l answer (caller_of old) (caller_of new)
+  pub steps : Makes (caller_of old) (caller_of new) (IsBatchGet l n (word_of l (reduced l.depth (hint_of old).at)) answer)
+  pub alone : IsAlone (caller_of old) → ChoosesRun l n (word_of l (reduced l.depth (hint_of old).at)) answer (caller_of old) (caller_of new)
+  pub hint : BatchFollows l.depth n (hint_of old) (hint_of new) answer
   pub others : SameCounts old new
 
 -- a count that no batch has
@@ -63,6 +60,5 @@ most_steps l = 2 * l.depth + 4 * words l
 
 -- the agent made this step on a word, which changes nothing else of it
 pub record Looks {R : Type 0} (step : WordStep) (old new : Agent R) : Type 0 where
-  pub step_is : StepsOn (Word step) (caller_of old) (caller_of new)
-  pub hint : hint_of new ≡ hint_of old
-  pub others : SameCounts old new
+  pub step_is : Adds (Word step) (caller_of old) (caller_of new)
+  pub same_else : SameElse old new

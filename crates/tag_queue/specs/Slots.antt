@@ -6,12 +6,8 @@ use Rattle.tag_core.specs.Callers.{record_of, Adds, SameMap}
 use Rattle.tag_queue.specs.declared.agent.Agent.{Agent}
 use Rattle.tag_queue.specs.declared.fault.TagFault.{TagFault}
 use Rattle.tag_queue.specs.declared.fault.TagFault.TheVariants.{NoSuchTag, NotPosted}
-use Rattle.tag_queue.specs.Agents.{caller_of, hint_of, Holds, slot_of, SameCounts}
-use Rattle.tag_queue.specs.Holding.{HoldsLess, HoldsMore, Only}
-
--- the agent's hint, counts, grants and standing are as before
-abbrev pub SameElse : {R : Type 0} → Agent R → Agent R → Type 0
-SameElse old new = (hint_of new ≡ hint_of old) × SameCounts old new
+use Rattle.tag_queue.specs.Agents.{caller_of, Holds, slot_of, SameElse}
+use Rattle.tag_queue.specs.Holding.{HoldsLess, HoldsMore, HoldsSame}
 
 -- the tag's slot has the value, and all else of the agent is as before
 pub record Writes {R : Type 0} (tag : ℕ) (value : R) (old new : Agent R) : Type 0 where
@@ -26,7 +22,7 @@ pub record Posts {R : Type 0} (tag : ℕ) (old new : Agent R) : Type 0 where
   pub value : R
   pub slot : slot_of old tag ≡ some value
   pub step : Adds (Post tag value) (caller_of old) (caller_of new)
-  pub less : HoldsLess (Only tag) old new
+  pub less : HoldsLess (λ other. other ≡ tag) old new
   pub same_else : SameElse old new
 
 -- the tag was found posted and is the agent's, with the value that it was posted with
@@ -34,12 +30,13 @@ pub record Takes {R : Type 0} (tag : ℕ) (old new : Agent R) : Type 0 where
   pub value : R
   pub slot : slot_of new tag ≡ some value
   pub step : Adds (Take tag 1 (Some value)) (caller_of old) (caller_of new)
-  pub more : HoldsMore (Only tag) old new
+  pub more : HoldsMore (λ other. other ≡ tag) old new
   pub same_else : SameElse old new
 
 -- the tag was found not posted, by a step that changes no place
 pub record Misses {R : Type 0} (tag : ℕ) (old new : Agent R) : Type 0 where
   pub step : Adds (Take tag 0 None) (caller_of old) (caller_of new)
+  pub same : HoldsSame old new
   pub same_else : SameElse old new
 
 -- what a take that is refused leaves

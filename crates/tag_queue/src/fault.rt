@@ -1,9 +1,9 @@
 //! Why a call refuses.
 
-/// Why there is no such queue or set of tags, in the order in which the causes are looked at; memory comes last.
+/// Why a queue or a set of tags can't be opened. Memory is reported last, the others in the order in which they stand here.
 #[derive(Clone, Copy, Debug, PartialEq, Eq)]
 pub enum SetFault {
-    /// There was no memory for it.
+    /// An allocation was refused.
     Memory,
     /// More than 10,240 tags.
     TotalTooLarge,
@@ -19,25 +19,25 @@ pub enum SetFault {
     CapTooLarge,
 }
 
-/// Why a call of an agent changes nothing.
+/// Why a call on a tag or a wait was refused.
 #[derive(Clone, Copy, Debug, PartialEq, Eq)]
 pub enum TagFault {
-    /// There is no tag of this number.
+    /// No tag has this number.
     NoSuchTag,
     /// There is no reserved tag.
     NoReserved,
-    /// The agent does not hold the tag, or it is named twice.
+    /// The caller doesn't hold the tag, or named it twice.
     NotHeld,
-    /// The tag was found not posted.
+    /// The tag was not posted when the call looked.
     NotPosted,
-    /// A count that no batch has.
+    /// A count out of range: of a batch get 1 to the bits of a word, of a batch clear 1 to 64.
     BadCount,
-    /// A depth of 0, or below the least shallow depth.
+    /// A shallow depth of 0, or below the least one allowed.
     TooShallow,
-    /// The agent has won so much that the tags asked for could pass its life.
+    /// The tags asked for could bring the caller past its life, the most that it may win.
     Spent,
-    /// The agent stands in a group already.
+    /// The caller stands in a wait group already.
     Waiting,
-    /// The agent stands in no group.
+    /// The caller stands in no wait group.
     NotWaiting,
 }

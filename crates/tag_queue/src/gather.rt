@@ -1,7 +1,7 @@
 //! All agents come together, and the queue ends.
 ghost use Rattle.std.specs.Prelude.{◌≡◌, ℕ, ◌<◌, ◌≤◌, ◌↔◌, List, length, All, IfOk, IfErr, IsOk, IsTrue, MatchOption};
 ghost use Rattle.step_ledger.specs.Views.{Has, HasAll, IsLeastMissing};
-ghost use Rattle.wake_book.specs.Gather.{IsCauseOf};
+ghost use Rattle.step_ledger.specs.Gather.{IsCauseOf};
 ghost use Rattle.tag_queue.specs.Agents.{IsAgentOf, agents_of, numbers_of};
 ghost use Rattle.tag_queue.specs.Gathering.{IsGathered};
 ghost use Rattle.tag_queue.specs.Twins.{AllDiffer, AreTwins};
@@ -9,8 +9,9 @@ ghost use Rattle.tag_queue.specs.Twins.{AllDiffer, AreTwins};
 use crate::agent::Agent;
 use crate::parts::split;
 use crate::queue::Queue;
+use step_ledger::{GatherCause, least_missing};
 use tag_model::Totals;
-use wake_book::{Book, BookTotals, GatherCause, GroupTotals, Groups};
+use wake_book::{Book, BookTotals, GroupTotals, Groups};
 
 /// What a queue saw in all, once its agents are gathered.
 #[derive(Clone, Copy, Debug, PartialEq, Eq)]
@@ -40,7 +41,7 @@ impl<R: Copy> Queue<R> {
     ) -> Result<QueueTotals, QueueGatherFault<R>>
         requires { All (IsAgentOf queue) agents.items }
         ensures ok { IfOk result (λ totals. IsGathered queue agents.items totals) }
-        ensures succeeds { HasAll (numbers_of agents.items) (agents_of queue) → IsOk result }
+        ensures succeeds { IsOk result ↔ HasAll (numbers_of agents.items) (agents_of queue) }
         ensures missing { IfErr result (λ fault. IsCauseOf (numbers_of agents.items) (agents_of queue) fault.cause) }
         ensures err { IfErr result (λ fault. (fault.queue ≡ queue) × (fault.agents ≡ agents)) }
     {
@@ -108,28 +109,6 @@ impl<R: Copy> Queue<R> {
             groups,
         }
     }
-}
-
-fn least_missing<R>(agents: &[Agent<R>], count: u32) -> Option<u32>
-    ensures { MatchOption result (HasAll (numbers_of agents.now) count) (IsLeastMissing (numbers_of agents.now) count) }
-{
-    for number in 0..count {
-        if !has_number(agents, number) {
-            return Some(number);
-        }
-    }
-    None
-}
-
-fn has_number<R>(agents: &[Agent<R>], number: u32) -> bool
-    ensures { IsTrue result ↔ Has (numbers_of agents.now) number }
-{
-    for agent in agents {
-        if agent.number == number {
-            return true;
-        }
-    }
-    false
 }
 
 // The places of two agents of one number. Agents of one queue have none such, and no call with fewer agents looks for them.

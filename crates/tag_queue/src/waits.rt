@@ -11,9 +11,9 @@ ghost use Rattle.tag_queue.specs.Waits.{SameTags, Enters, BlockingGets};
 
 use crate::agent::Agent;
 use crate::fault::TagFault;
-use crate::gets::get_on;
 use crate::queue::Queue;
 use std::sync::Wait;
+use tag_search::on_map;
 use wake_book::{Groups, Left};
 
 /// What is counted and charged, and who is active.
@@ -125,7 +125,7 @@ impl<R: Copy> Queue<R> {
         ensures agent { IsAgentOf self.now agent.new }
         ensures gets { GetsPlain (layout_of self.now) result agent.old agent.new }
     {
-        let Ok(answer) = get_on(&self.map, &mut agent.caller, &mut agent.hint) else {
+        let Ok(answer) = on_map::get(&self.map, &mut agent.caller, &mut agent.hint) else {
             unreachable!()
         };
         answer

@@ -44,7 +44,7 @@ loop-tag-preserved g c =
           let word_to : c.if-here-word.word ≡ word_of l u = w.word-is ∙ here_is in
           let mask_is : c.if-here-word.mask ≡ 2 ^ place_of l u = w.mask-is ∙ bit in
           subst P (λ z. (sym w.caller-is z, sym word_to z, sym mask_is z))
-          (begins_run map tags i old now word mask so inside c.requires.held room near w.give.new.caller w.give.ensures.step.0 w.give.ensures.caller w.give.ensures.step.1 other)
+          (begins_run map tags i old now word mask so inside c.requires.held room near w.give.new.caller w.give.ensures.step.0 w.give.ensures.caller w.give.ensures.step.1 w.give.ensures.released other)
     ]
 
 pub returns : goal.returns
@@ -52,7 +52,7 @@ returns g c =
     let map = c.args.map.now in let tags = c.args.tags.now in let so = c.loop-tag.invariant in let i : ℕ = c.loop-tag.tag-index in
     let stop : length tags ≤ i = search rules in let long : 1 ≤ length tags = c.requires.some in
     let some : 1 ≤ length so.run = ⊎_elim (λ (h : 1 ≤ length so.run). h) (λ (first : (i ≡ 0) × _). absurd (let none = first.0 in omega arith)) so.some in
-    let all = ends map tags i c.args.caller.now c.loop-tag.caller c.loop-tag.word c.loop-tag.mask so c.give-2.new.caller c.give-2.ensures.step.0 c.give-2.ensures.caller c.give-2.ensures.step.1 some stop in record {
+    let all = ends map tags i c.args.caller.now c.loop-tag.caller c.loop-tag.word c.loop-tag.mask so c.give-2.new.caller c.give-2.ensures.step.0 c.give-2.ensures.step.1 c.give-2.ensures.released some stop in record {
       caller = c.give-2.ensures.caller;
       gives = all.0;
       back = all.1;

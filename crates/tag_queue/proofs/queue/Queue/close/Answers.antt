@@ -15,7 +15,7 @@ gather-requires-2 g c = tellers_own c.args.self c.args.agents.items c.requires.o
 
 pub unreachable-requires-in_default-gather : goal.unreachable-requires-in_default-gather
 unreachable-requires-in_default-gather g c =
-    let ok = c.gather-2.ensures.succeeds (tellers_there c.args.agents.items _ _ _ c.split-callers.ensures.tellers_are c.args.self.as_many.0 c.requires.all) in
+    let ok = c.gather-2.ensures.succeeds.1 (tellers_there c.args.agents.items _ _ _ c.split-callers.ensures.tellers_are c.args.self.as_many.0 c.requires.all) in
     let not = c.in_default-gather.is in search rules
 
 pub gather-requires-3 : goal.gather-requires-3
@@ -23,7 +23,7 @@ gather-requires-3 g c = waiters_own c.args.self c.args.agents.items c.requires.o
 
 pub unreachable-requires-in_default-gather-2 : goal.unreachable-requires-in_default-gather-2
 unreachable-requires-in_default-gather-2 g c =
-    let ok = c.gather-3.ensures.succeeds (waiters_there c.args.agents.items _ _ _ c.split-callers.ensures.waiters_are c.args.self.as_many.1 c.requires.all) in
+    let ok = c.gather-3.ensures.succeeds.1 (waiters_there c.args.agents.items _ _ _ c.split-callers.ensures.waiters_are c.args.self.as_many.1 c.requires.all) in
     let not = c.in_default-gather-2.is in search rules
 
 pub returns : goal.returns
