@@ -93,7 +93,7 @@ impl<R: Copy> Queue<R> {
             rooms,
             fill: _,
         } = self;
-        let (callers, tellers, waiters) = split(agents, rooms.into_inner());
+        let (callers, tellers, waiters) = split(agents, rooms);
         let Ok(closed) = map.gather(callers) else {
             unreachable!()
         };

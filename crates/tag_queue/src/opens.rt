@@ -11,7 +11,6 @@ use crate::fault::SetFault;
 use crate::parts::join;
 use crate::queue::{Options, Queue, Rooms};
 use std::alloc::{AllocError, Global};
-use std::sync::Mutex;
 use tag_core::Map;
 use tag_layout::{Layout, LayoutFault};
 use tag_model::{MAX_CALLERS, MOST_WON};
@@ -97,7 +96,7 @@ fn lay_out<R: Copy>(
         batch,
         least: options.min_shallow.unwrap_or(1).max(1),
         callers: options.callers,
-        rooms: Mutex::new(rooms),
+        rooms,
         fill,
     };
     Ok((queue, agents))

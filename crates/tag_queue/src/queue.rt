@@ -3,7 +3,6 @@ ghost use Rattle.std.specs.Prelude.{◌≡◌, ◌≤◌, [], vec_capacity};
 ghost use Rattle.wake_book.specs.Book.{batch_of, tellers_of};
 ghost use Rattle.wake_book.specs.Groups.{waiters_of};
 
-use std::sync::Mutex;
 use tag_core::{Caller, Map};
 use wake_book::{Book, Groups, Teller, Waiter};
 
@@ -46,8 +45,8 @@ pub struct Queue<R> {
     pub(crate) least: u32,
     /// Agents, 1 to 64.
     pub(crate) callers: u32,
-    /// Nobody locks it: it is taken out when the queue ends, and threads may share the queue.
-    pub(crate) rooms: Mutex<Rooms<R>>,
+    /// Empty until the queue ends, which then needs no memory.
+    pub(crate) rooms: Rooms<R>,
     /// With what each slot begins. It stands in while a slot is read.
     pub(crate) fill: R,
     ghost batch_is: { batch_of book ≡ batch },
