@@ -12,7 +12,8 @@ use tag_search::after_clear;
 use wake_book::Charge;
 
 impl<R: Copy> Queue<R> {
-    /// Gives a held tag back, counts it where someone is active, and answers how many waiters it woke.
+    /// Gives a held tag back, counts it if anybody waits, and returns how many waiters it woke. The tag is set aside: it is
+    /// free after the next sweep of its word.
     pub fn clear(&self, agent: &mut Agent<R>, tag: u32) -> Result<u32, TagFault>
         requires agent { IsAgentOf self.now agent.old }
         ensures agent { IsAgentOf self.now agent.new }
@@ -29,7 +30,7 @@ impl<R: Copy> Queue<R> {
         Ok(self.complete(agent, 1))
     }
 
-    /// Gives a held tag back, which counts and wakes nothing.
+    /// As `clear`, but counts and wakes nothing.
     pub fn clear_uncounted(&self, agent: &mut Agent<R>, tag: u32) -> Result<(), TagFault>
         requires agent { IsAgentOf self.now agent.old }
         ensures agent { IsAgentOf self.now agent.new }
@@ -46,7 +47,7 @@ impl<R: Copy> Queue<R> {
         Ok(())
     }
 
-    /// Whether there is such a tag, and the agent holds it.
+    /// Whether there is such a tag and the agent holds it.
     pub(crate) fn find_held(&self, agent: &Agent<R>, tag: u32) -> Result<(), TagFault>
         requires agent { IsAgentOf self.now agent.now }
         ensures held { IsOk result ↔ Holds agent.now tag }

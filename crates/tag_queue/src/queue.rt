@@ -9,11 +9,11 @@ use wake_book::{Book, Groups, Teller, Waiter};
 /// How a queue is opened.
 #[derive(Clone, Copy, Debug, PartialEq, Eq)]
 pub struct Options {
-    /// Binary logarithm of the bits in a whole word; the rule's where none is given.
+    /// Binary logarithm of the bits in a whole word, at most 6. Without one, the default for the depth.
     pub shift: Option<u32>,
     /// Whether each get begins behind the last tag won.
     pub round_robin: bool,
-    /// The least depth of a shallow get, if there is one.
+    /// The least depth that a shallow get may ask for. Without one, 1.
     pub min_shallow: Option<u32>,
     /// Agents, 1 to 64.
     pub callers: u32,

@@ -9,7 +9,7 @@ use crate::fault::TagFault;
 use crate::queue::Queue;
 
 impl<R: Copy> Queue<R> {
-    /// The value beside a held tag.
+    /// The value in a held tag's slot.
     pub fn read(&self, agent: &mut Agent<R>, tag: u32) -> Result<R, TagFault>
         requires agent { IsAgentOf self.now agent.old }
         ensures agent { IsAgentOf self.now agent.new }
@@ -26,7 +26,7 @@ impl<R: Copy> Queue<R> {
         Ok(value)
     }
 
-    /// Puts a value beside a held tag, and answers the one before.
+    /// Writes a held tag's slot, and returns its former value.
     pub fn write(&self, agent: &mut Agent<R>, tag: u32, value: R) -> Result<R, TagFault>
         requires agent { IsAgentOf self.now agent.old }
         ensures agent { IsAgentOf self.now agent.new }
@@ -41,7 +41,7 @@ impl<R: Copy> Queue<R> {
         Ok(self.map.slot(&mut agent.caller, tag, value))
     }
 
-    /// Hands a held tag on, with its value, to whoever takes it first.
+    /// Hands a held tag on, with its slot, to whichever agent takes it first.
     pub fn post(&self, agent: &mut Agent<R>, tag: u32) -> Result<(), TagFault>
         requires agent { IsAgentOf self.now agent.old }
         ensures agent { IsAgentOf self.now agent.new }
@@ -56,7 +56,7 @@ impl<R: Copy> Queue<R> {
         Ok(())
     }
 
-    /// Takes a posted tag, with its value.
+    /// Takes a posted tag, with its slot. `NotPosted` leaves the agent as it was but for one step in its list.
     pub fn take(&self, agent: &mut Agent<R>, tag: u32) -> Result<(), TagFault>
         requires agent { IsAgentOf self.now agent.old }
         ensures agent { IsAgentOf self.now agent.new }

@@ -16,7 +16,7 @@ use std::sync::Wait;
 use tag_search::on_map;
 use wake_book::{Groups, Left};
 
-/// What is counted and charged, and who is active.
+/// What an agent finds of the counts and of the groups.
 #[derive(Clone, Copy, Debug, PartialEq, Eq)]
 pub struct Wakes {
     /// Completions counted.
@@ -30,7 +30,7 @@ pub struct Wakes {
 }
 
 impl<R: Copy> Queue<R> {
-    /// Stands in the next group, which it answers.
+    /// Enters the group of the agent's wait index, and returns its number, below 8.
     pub fn prepare_wait(&self, agent: &mut Agent<R>) -> Result<u32, TagFault>
         requires agent { IsAgentOf self.now agent.old }
         ensures agent { IsAgentOf self.now agent.new }
@@ -44,7 +44,7 @@ impl<R: Copy> Queue<R> {
         Ok(self.groups.enter(&mut agent.waiter))
     }
 
-    /// Leaves the group in which the agent stands, by a grant where one stands there.
+    /// Leaves the group in which the agent stands: `Woken` if it used a grant, `Unwoken` if it found none.
     pub fn finish_wait<W: Wait>(&self, rt: &W, agent: &mut Agent<R>) -> Result<Left, TagFault>
         requires agent { IsAgentOf self.now agent.old }
         ensures agent { IsAgentOf self.now agent.new }
@@ -60,7 +60,7 @@ impl<R: Copy> Queue<R> {
         Ok(self.groups.leave(rt, &mut agent.waiter))
     }
 
-    /// What the agent finds of the counts and the groups, by four looks.
+    /// What the agent finds of the counts and of the groups, by four loads at four moments.
     pub fn wakes(&self, agent: &mut Agent<R>) -> Wakes
         requires agent { IsAgentOf self.now agent.old }
         ensures agent { IsAgentOf self.now agent.new }
@@ -83,7 +83,7 @@ impl<R: Copy> Queue<R> {
         }
     }
 
-    /// A free tag, for which the agent waits where there is none.
+    /// Takes a free tag as `get` does, and waits while it finds none. Nothing promises that it returns.
     pub fn get_blocking<W: Wait>(&self, rt: &W, agent: &mut Agent<R>) -> Result<u32, TagFault>
         requires agent { IsAgentOf self.now agent.old }
         ensures agent { IsAgentOf self.now agent.new }
