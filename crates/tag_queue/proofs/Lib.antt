@@ -1,0 +1,9 @@
+pub mod Getting
+pub mod Giving
+pub mod SoFar
+pub mod Counting
+pub mod Fronts
+pub mod Twins
+pub mod Gathering
+pub mod Opening
+pub mod Crossing

@@ -1,0 +1,6 @@
+-- Of the tags so far all are given back but those of the last run, which its mask has.
+use Rattle.tag_queue.proofs.SoFar.{SoFar}
+use Rattle.tag_queue.proofs.batches.give_all.Given as goal
+
+abbrev pub invariant-loop-tag : goal.invariant-loop-tag
+invariant-loop-tag g l = SoFar l.map l.tags l.tag-index l.fn.caller l.caller l.word l.mask

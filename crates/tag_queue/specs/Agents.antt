@@ -1,0 +1,111 @@
+-- What contracts see of a queue and of its agents.
+use Rattle.std.specs.Prelude.{◌≡◌, ℕ, ◌+◌, ◌↔◌, List, length, map, Option}
+use mathlib.Core.Option as maybe
+use Rattle.tag_layout.specs.Layout.{Layout}
+use Rattle.tag_core.specs.declared.caller.Caller.{Caller}
+use Rattle.tag_core.specs.declared.shape.Shape.{Shape}
+use Rattle.tag_core.specs.Callers as core
+use Rattle.tag_search.specs.declared.hint.Hint.{Hint}
+use Rattle.tag_search.specs.Shared as search
+use Rattle.wake_book.specs.declared.book.Teller.{Teller}
+use Rattle.wake_book.specs.declared.groups.Waiter.{Waiter}
+use Rattle.wake_book.specs.declared.steps.BookStep.{BookStep}
+use Rattle.wake_book.specs.declared.steps.GroupStep.{GroupStep}
+use Rattle.wake_book.specs.Book as book
+use Rattle.wake_book.specs.Groups as groups
+use Rattle.tag_queue.specs.declared.agent.Agent.{Agent}
+use Rattle.tag_queue.specs.declared.queue.Queue.{Queue}
+
+-- the layout of the queue's map
+abbrev pub layout_of : {R : Type 0} → Queue R → Layout
+layout_of queue = core.layout_of queue.map
+
+-- the completions that one charge takes
+abbrev pub batch_of : {R : Type 0} → Queue R → ℕ
+batch_of queue = book.batch_of queue.book
+
+-- the most completions that one agent may count
+abbrev pub cap_of : {R : Type 0} → Queue R → ℕ
+cap_of queue = book.cap_of queue.book
+
+-- the least depth of a shallow get
+abbrev pub least_of : {R : Type 0} → Queue R → ℕ
+least_of queue = queue.least
+
+-- the agent is one of the queue's own
+abbrev pub IsAgentOf : {R : Type 0} → Queue R → Agent R → Type 0
+IsAgentOf queue agent = core.IsCallerOf queue.map agent.caller × book.IsTellerOf queue.book agent.teller × groups.IsWaiterOf queue.groups agent.waiter
+
+-- the agent as a caller of the map
+abbrev pub caller_of : {R : Type 0} → Agent R → Caller R
+caller_of agent = agent.caller
+
+-- the agent as a teller of the book
+abbrev pub teller_of : {R : Type 0} → Agent R → Teller
+teller_of agent = agent.teller
+
+-- the agent as a waiter of the groups
+abbrev pub waiter_of : {R : Type 0} → Agent R → Waiter
+waiter_of agent = agent.waiter
+
+-- where the agent's next get begins
+abbrev pub hint_of : {R : Type 0} → Agent R → Hint
+hint_of agent = agent.hint
+
+-- the agent's number, from 0
+abbrev pub number_of : {R : Type 0} → Agent R → ℕ
+number_of agent = agent.number
+
+-- the agent's own steps on the book, newest first
+abbrev pub book_steps : {R : Type 0} → Agent R → List BookStep
+book_steps agent = book.steps_of agent.teller
+
+-- the agent's own steps on the groups, newest first
+abbrev pub group_steps : {R : Type 0} → Agent R → List GroupStep
+group_steps agent = groups.steps_of agent.waiter
+
+-- how many steps the agent has made
+abbrev pub step_count : {R : Type 0} → Agent R → ℕ
+step_count agent = length (core.record_of agent.caller).steps + length (book_steps agent) + length (group_steps agent)
+
+-- the agent holds the tag
+abbrev pub Holds : {R : Type 0} → Agent R → ℕ → Type 0
+Holds agent tag = core.Holds agent.caller tag
+
+-- the value of the slot of a tag that the agent holds
+abbrev pub slot_of : {R : Type 0} → Agent R → ℕ → maybe.Option R
+slot_of agent tag = core.slot_of agent.caller tag
+
+-- the agent may win so many tags more
+abbrev pub HasRoom : {R : Type 0} → Agent R → ℕ → Type 0
+HasRoom agent n = search.HasRoom agent.caller n
+
+-- the group in which the agent stands
+abbrev pub standing_of : {R : Type 0} → Agent R → Option ℕ
+standing_of agent = groups.standing_of agent.waiter
+
+-- the agent's counts, grants and standing are as before
+abbrev pub SameCounts : {R : Type 0} → Agent R → Agent R → Type 0
+SameCounts old new = (teller_of new ≡ teller_of old) × (waiter_of new ≡ waiter_of old)
+
+-- all of the agent but its tags and its steps on the map is as before
+abbrev pub SameElse : {R : Type 0} → Agent R → Agent R → Type 0
+SameElse old new = (hint_of new ≡ hint_of old) × SameCounts old new
+
+-- the agent is as it was: its tags with their slots, its own steps, and all else
+pub record IsUnchanged {R : Type 0} (old new : Agent R) : Type 0 where
+  pub caller : core.IsUnchanged (caller_of old) (caller_of new)
+  pub holds : (tag : ℕ) → Holds new tag ↔ Holds old tag
+  pub same_else : SameElse old new
+
+-- what the queue's map was opened with
+abbrev pub shape_of : {R : Type 0} → Queue R → Shape
+shape_of queue = queue.map.shape
+
+-- how many agents the queue has
+abbrev pub agents_of : {R : Type 0} → Queue R → ℕ
+agents_of queue = queue.map.shape.callers
+
+-- the numbers of several agents
+abbrev pub numbers_of : {R : Type 0} → List (Agent R) → List ℕ
+numbers_of agents = map number_of agents

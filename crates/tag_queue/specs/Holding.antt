@@ -1,0 +1,17 @@
+-- How the tags that an agent holds change, and the values of their slots.
+use Rattle.std.specs.Prelude.{ℕ}
+use Rattle.tag_core.specs.Holdings.{Releases, Acquires, KeepsAll}
+use Rattle.tag_queue.specs.declared.agent.Agent.{Agent}
+use Rattle.tag_queue.specs.Agents.{caller_of}
+
+-- the agent holds the named tags no more, every other tag as before, with the value of its slot, and none besides
+abbrev pub HoldsLess : {R : Type 0} → (ℕ → Type 0) → Agent R → Agent R → Type 0
+HoldsLess named old new = Releases named (caller_of old) (caller_of new)
+
+-- the agent holds the named tags, which it did not hold before, every other tag as before, with the value of its slot, and none besides
+abbrev pub HoldsMore : {R : Type 0} → (ℕ → Type 0) → Agent R → Agent R → Type 0
+HoldsMore named old new = Acquires named (caller_of old) (caller_of new)
+
+-- the agent holds the tags that it held, with the values of their slots, and none besides
+abbrev pub HoldsSame : {R : Type 0} → Agent R → Agent R → Type 0
+HoldsSame old new = KeepsAll (caller_of old) (caller_of new)

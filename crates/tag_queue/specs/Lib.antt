@@ -1,0 +1,11 @@
+pub mod Agents
+pub mod Gets
+pub mod Holding
+pub mod Clears
+pub mod Batches
+pub mod Slots
+pub mod Waits
+pub mod Parts
+pub mod Twins
+pub mod Gathering
+pub mod Opening

@@ -1,0 +1,36 @@
+//! An agent of a queue.
+ghost use Rattle.std.specs.Prelude.{◌≡◌, ◌<◌, ◌≤◌};
+ghost use Rattle.tag_core.specs.Callers.{record_of};
+ghost use Rattle.wake_book.specs.Book.{number_of as teller_number, counted_by, charged_by};
+ghost use Rattle.wake_book.specs.Groups.{number_of as waiter_number, moved_of};
+
+use step_ledger::Numbered;
+use tag_core::Caller;
+use tag_search::Hint;
+use wake_book::{Teller, Waiter};
+
+/// One thread's part in a queue: it holds tags, counts completions, wakes and waits.
+#[derive(Drop)]
+pub struct Agent<R> {
+    pub(crate) caller: Caller<R>,
+    pub(crate) teller: Teller,
+    pub(crate) waiter: Waiter,
+    /// Where its next get begins.
+    pub(crate) hint: Hint,
+    /// From 0, the same in the map, the book and the groups.
+    pub(crate) number: u32,
+    ghost numbers: { ((record_of caller).number ≡ number) × (teller_number teller ≡ number) × (waiter_number waiter ≡ number) },
+    ghost below: { number < (record_of caller).shape.callers },
+
+    // It counts only tags that it gave back, and wakes only for completions that it charged.
+    ghost counts: { counted_by teller ≤ (record_of caller).back },
+    ghost wakes: { moved_of waiter ≤ charged_by teller },
+}
+
+impl<R> Numbered for Agent<R> {
+    ghost number_of = { λ agent. agent.number };
+
+    fn number(&self) -> u32 {
+        self.number
+    }
+}

@@ -1,0 +1,114 @@
+//! How many tags come back at once.
+ghost use Rattle.std.specs.Prelude.{◌≡◌, ◌≢◌, ℕ, ◌+◌, ◌<◌, ◌≤◌, ◌↔◌, length, All, IfOk, IsOk, OnOk, OnErr, IsTrue};
+ghost use Rattle.tag_core.specs.Callers.{IsCallerOf, record_of, layout_of as layout_of_map};
+ghost use Rattle.tag_queue.specs.Agents.{layout_of, IsAgentOf, step_count, caller_of, SameCounts};
+ghost use Rattle.tag_queue.specs.Batches.{CountsTags, AreTags, AreHeldOnce, GivesAll, GivesBack};
+ghost use Rattle.tag_queue.specs.Clears.{Counts};
+
+use crate::agent::Agent;
+use crate::fault::TagFault;
+use crate::queue::Queue;
+use tag_core::{Caller, Map};
+use tag_search::after_clear;
+
+/// Most tags that one call gives back.
+const MAX_TAGS: usize = 64;
+
+impl<R: Copy> Queue<R> {
+    /// Gives held tags back at once, counts them together where someone is active, and answers how many waiters it woke.
+    /// They are free, and not set aside as after `clear`. Tags of one word that follow each other are one step.
+    pub fn clear_batch(&self, agent: &mut Agent<R>, tags: &[u32]) -> Result<u32, TagFault>
+        requires agent { IsAgentOf self.now agent.old }
+        ensures agent { IsAgentOf self.now agent.new }
+
+        // The causes are looked at in this order, each for the whole list.
+        ensures bad_count { (result ≡ Err TagFault.BadCount) ↔ ¬ (CountsTags tags.now) }
+        ensures no_such_tag { (result ≡ Err TagFault.NoSuchTag) ↔ (CountsTags tags.now × ¬ (AreTags (layout_of self.now) tags.now)) }
+        ensures not_held { (result ≡ Err TagFault.NotHeld)
+            ↔ (CountsTags tags.now × AreTags (layout_of self.now) tags.now × ¬ (AreHeldOnce (caller_of agent.old) tags.now)) }
+        ensures succeeds { IsOk result ↔ (CountsTags tags.now × AreHeldOnce (caller_of agent.old) tags.now) }
+        ensures gives { OnOk result (GivesBack (layout_of self.now) tags.now agent.old agent.new) }
+        ensures counts { IfOk result (λ woken. Counts self.now (length tags.now) agent.old agent.new woken) }
+        ensures bound { OnOk result (step_count agent.new ≤ length tags.now + 117 + step_count agent.old) }
+        ensures err { OnErr result (agent.new ≡ agent.old) }
+    {
+        if tags.is_empty() || tags.len() > MAX_TAGS {
+            return Err(TagFault::BadCount);
+        }
+        if !are_below(tags, self.map.layout().depth()) {
+            return Err(TagFault::NoSuchTag);
+        }
+        if !are_held_once(&agent.caller, tags) {
+            return Err(TagFault::NotHeld);
+        }
+        self.give_back(agent, tags);
+        Ok(self.complete(agent, tags.len() as u32))
+    }
+
+    // Gives held tags back, and moves the hint.
+    fn give_back(&self, agent: &mut Agent<R>, tags: &[u32])
+        requires agent { IsAgentOf self.now agent.old }
+        requires some { 1 ≤ length tags.now }
+        requires held { AreHeldOnce (caller_of agent.old) tags.now }
+        ensures agent { IsAgentOf self.now agent.new }
+        ensures gives { GivesBack (layout_of self.now) tags.now agent.old agent.new }
+        ensures back { (record_of (caller_of agent.new)).back ≡ (record_of (caller_of agent.old)).back + length tags.now }
+        ensures others { SameCounts agent.old agent.new }
+        ensures bound { step_count agent.new ≤ length tags.now + step_count agent.old }
+    {
+        give_all(&self.map, &mut agent.caller, tags);
+        after_clear(&mut agent.hint, tags[tags.len() - 1]);
+    }
+}
+
+// Whether each number of the list is below the depth.
+fn are_below(tags: &[u32], depth: u32) -> bool
+    ensures { IsTrue result ↔ All (λ tag. tag < depth) tags.now }
+{
+    for tag in tags {
+        if *tag >= depth {
+            return false;
+        }
+    }
+    true
+}
+
+// Whether each tag of the list is held, and none is named twice.
+// Each is compared with those before it: of 64 tags, 2,016 comparisons at most.
+fn are_held_once<R>(caller: &Caller<R>, tags: &[u32]) -> bool
+    requires { AreTags (caller.now.shape.value.layout) tags.now }
+    ensures { IsTrue result ↔ AreHeldOnce caller.now tags.now }
+{
+    for i in 0..tags.len() {
+        if !caller.holds(tags[i]) || tags[..i].contains(&tags[i]) {
+            return false;
+        }
+    }
+    true
+}
+
+// Gives held tags back. Those of one word that follow each other are one step.
+fn give_all<R>(map: &Map<R>, caller: &mut Caller<R>, tags: &[u32])
+    requires caller { IsCallerOf map.now caller.old }
+    requires some { 1 ≤ length tags.now }
+    requires held { AreHeldOnce caller.old tags.now }
+    ensures caller { IsCallerOf map.now caller.new }
+    ensures gives { GivesAll (layout_of_map map.now) tags.now caller.old caller.new }
+    ensures back { (record_of caller.new).back ≡ (record_of caller.old).back + length tags.now }
+{
+    let layout = map.layout();
+    let mut word = layout.word_of(tags[0]);
+    let mut mask = 0u64;
+    for tag in tags {
+        let here = layout.word_of(*tag);
+        let bit = 1u64 << layout.place_of(*tag);
+        if here == word {
+            mask |= bit;
+        } else {
+            map.give(caller, word, mask);
+            word = here;
+            mask = bit;
+        }
+    }
+    map.give(caller, word, mask);
+}

@@ -1,0 +1,98 @@
+//! How tags come back.
+ghost use Rattle.std.specs.Prelude.{◌≡◌, ℕ, ◌+◌, ◌<◌, ◌≤◌, ◌↔◌, IfOk, IsOk, OnOk, OnErr};
+ghost use Rattle.tag_core.specs.Callers.{record_of};
+ghost use Rattle.wake_book.specs.Book.{counted_by};
+ghost use Rattle.tag_queue.specs.Agents.{layout_of, IsAgentOf, Holds, step_count, caller_of, teller_of, hint_of, SameCounts};
+ghost use Rattle.tag_queue.specs.Clears.{Puts, Counts};
+
+use crate::agent::Agent;
+use crate::fault::TagFault;
+use crate::queue::Queue;
+use tag_search::after_clear;
+use wake_book::Charge;
+
+impl<R: Copy> Queue<R> {
+    /// Gives a held tag back, counts it if anybody waits, and returns how many waiters it woke. The tag is set aside: it is
+    /// free after the next sweep of its word.
+    pub fn clear(&self, agent: &mut Agent<R>, tag: u32) -> Result<u32, TagFault>
+        requires agent { IsAgentOf self.now agent.old }
+        ensures agent { IsAgentOf self.now agent.new }
+        ensures no_such_tag { (result ≡ Err TagFault.NoSuchTag) ↔ ((layout_of self.now).depth ≤ tag) }
+        ensures not_held { (result ≡ Err TagFault.NotHeld) ↔ ((tag < (layout_of self.now).depth) × ¬ (Holds agent.old tag)) }
+        ensures succeeds { Holds agent.old tag → IsOk result }
+        ensures puts { OnOk result (Puts (layout_of self.now) tag agent.old agent.new) }
+        ensures counts { IfOk result (λ woken. Counts self.now 1 agent.old agent.new woken) }
+        ensures bound { step_count agent.new ≤ 118 + step_count agent.old }
+        ensures err { OnErr result (agent.new ≡ agent.old) }
+    {
+        self.find_held(agent, tag)?;
+        self.put(agent, tag);
+        Ok(self.complete(agent, 1))
+    }
+
+    /// As `clear`, but counts and wakes nothing.
+    pub fn clear_uncounted(&self, agent: &mut Agent<R>, tag: u32) -> Result<(), TagFault>
+        requires agent { IsAgentOf self.now agent.old }
+        ensures agent { IsAgentOf self.now agent.new }
+        ensures no_such_tag { (result ≡ Err TagFault.NoSuchTag) ↔ ((layout_of self.now).depth ≤ tag) }
+        ensures not_held { (result ≡ Err TagFault.NotHeld) ↔ ((tag < (layout_of self.now).depth) × ¬ (Holds agent.old tag)) }
+        ensures succeeds { Holds agent.old tag → IsOk result }
+        ensures puts { OnOk result (Puts (layout_of self.now) tag agent.old agent.new) }
+        ensures others { SameCounts agent.old agent.new }
+        ensures bound { step_count agent.new ≤ 1 + step_count agent.old }
+        ensures err { OnErr result (agent.new ≡ agent.old) }
+    {
+        self.find_held(agent, tag)?;
+        self.put(agent, tag);
+        Ok(())
+    }
+
+    /// Whether there is such a tag and the agent holds it.
+    pub(crate) fn find_held(&self, agent: &Agent<R>, tag: u32) -> Result<(), TagFault>
+        requires agent { IsAgentOf self.now agent.now }
+        ensures held { IsOk result ↔ Holds agent.now tag }
+        ensures no_such_tag { (result ≡ Err TagFault.NoSuchTag) ↔ ((layout_of self.now).depth ≤ tag) }
+        ensures not_held { (result ≡ Err TagFault.NotHeld) ↔ ((tag < (layout_of self.now).depth) × ¬ (Holds agent.now tag)) }
+    {
+        if tag >= self.map.layout().depth() {
+            return Err(TagFault::NoSuchTag);
+        }
+        if !agent.caller.holds(tag) {
+            return Err(TagFault::NotHeld);
+        }
+        Ok(())
+    }
+
+    // Sets a held tag aside, and moves the hint.
+    fn put(&self, agent: &mut Agent<R>, tag: u32)
+        requires agent { IsAgentOf self.now agent.old }
+        requires held { Holds agent.old tag }
+        ensures agent { IsAgentOf self.now agent.new }
+        ensures puts { Puts (layout_of self.now) tag agent.old agent.new }
+        ensures back { (record_of (caller_of agent.new)).back ≡ (record_of (caller_of agent.old)).back + 1 }
+        ensures others { SameCounts agent.old agent.new }
+        ensures bound { step_count agent.new ≡ 1 + step_count agent.old }
+    {
+        self.map.put(&mut agent.caller, tag);
+        after_clear(&mut agent.hint, tag);
+    }
+
+    /// Counts tags that came back where someone is active, and wakes up to a batch of waiters where it charged one.
+    pub(crate) fn complete(&self, agent: &mut Agent<R>, n: u32) -> u32
+        requires agent { IsAgentOf self.now agent.old }
+        requires within { (1 ≤ n) × (n ≤ 64) }
+        requires came_back { counted_by (teller_of agent.old) + n ≤ (record_of (caller_of agent.old)).back }
+        ensures agent { IsAgentOf self.now agent.new }
+        ensures counts { Counts self.now n agent.old agent.new result }
+        ensures others { (caller_of agent.new ≡ caller_of agent.old) × (hint_of agent.new ≡ hint_of agent.old) }
+        ensures bound { step_count agent.new ≤ 117 + step_count agent.old }
+    {
+        if self.groups.active(&mut agent.waiter) == 0 {
+            return 0;
+        }
+        match self.book.count(&mut agent.teller, n) {
+            Charge::Won(_) => self.groups.wake(&mut agent.waiter, self.batch),
+            _ => 0,
+        }
+    }
+}

@@ -1,0 +1,82 @@
+//! How tags are taken.
+ghost use Rattle.std.specs.Prelude.{◌≡◌, ◌+◌, ◌<◌, ◌≤◌, ◌↔◌, false, IfOk, IfErr, OnErr, IsOk, IsTrue, None};
+ghost use Rattle.tag_queue.specs.Agents.{layout_of, least_of, IsAgentOf, HasRoom, hint_of, step_count};
+ghost use Rattle.tag_queue.specs.Gets.{GetsPlain, GetsShallow, GetsBatch, MiscountsBatch, most_steps};
+
+use crate::agent::Agent;
+use crate::fault::TagFault;
+use crate::queue::Queue;
+use tag_search::on_map;
+
+impl<R: Copy> Queue<R> {
+    /// Takes a free tag for this agent alone, until it is cleared or posted. `None` says that each place looked at was
+    /// found taken at some moment of the call, not that all were taken at one moment.
+    pub fn get(&self, agent: &mut Agent<R>) -> Result<Option<u32>, TagFault>
+        requires agent { IsAgentOf self.now agent.old }
+        ensures agent { IsAgentOf self.now agent.new }
+        ensures room { IsOk result ↔ HasRoom agent.old 1 }
+        ensures gets { IfOk result (λ answer. GetsPlain (layout_of self.now) answer agent.old agent.new) }
+        ensures bound { step_count agent.new ≤ most_steps (layout_of self.now) + step_count agent.old }
+        ensures err { IfErr result (λ fault. (fault ≡ TagFault.Spent) × (agent.new ≡ agent.old)) }
+    {
+        let Ok(answer) = on_map::get(&self.map, &mut agent.caller, &mut agent.hint) else {
+            return Err(TagFault::Spent);
+        };
+        Ok(answer)
+    }
+
+    /// As `get`, over `depth` tags of the whole queue alone, of which each word has its share. Some words may have none.
+    pub fn get_shallow(&self, agent: &mut Agent<R>, depth: u32) -> Result<Option<u32>, TagFault>
+        requires agent { IsAgentOf self.now agent.old }
+        ensures agent { IsAgentOf self.now agent.new }
+
+        // The depth is looked at first.
+        ensures too_shallow { (result ≡ Err TagFault.TooShallow) ↔ (depth < least_of self.now) }
+        ensures spent { (result ≡ Err TagFault.Spent) ↔ ((least_of self.now ≤ depth) × ¬ (HasRoom agent.old 1)) }
+        ensures succeeds { IsOk result ↔ ((least_of self.now ≤ depth) × HasRoom agent.old 1) }
+        ensures gets { IfOk result (λ answer. GetsShallow (layout_of self.now) depth answer agent.old agent.new) }
+        ensures bound { step_count agent.new ≤ most_steps (layout_of self.now) + step_count agent.old }
+        ensures err { OnErr result (agent.new ≡ agent.old) }
+    {
+        if depth < self.least {
+            return Err(TagFault::TooShallow);
+        }
+        let Ok(answer) = on_map::get_shallow(&self.map, &mut agent.caller, &mut agent.hint, depth)
+        else {
+            return Err(TagFault::Spent);
+        };
+        Ok(answer)
+    }
+
+    /// Takes up to `n` free tags side by side in one word, 1 to the bits of a word: the first tag, and the mask of those
+    /// won, whose lowest bit stands for the first tag. Under round robin it finds none and makes no step.
+    #[tactic(auto, using(std::proofs::lemmas::Nat::one_shl))]
+    pub fn get_batch(&self, agent: &mut Agent<R>, n: u32) -> Result<Option<(u32, u64)>, TagFault>
+        requires agent { IsAgentOf self.now agent.old }
+        ensures agent { IsAgentOf self.now agent.new }
+
+        // The count is looked at first, round robin next.
+        ensures bad_count { (result ≡ Err TagFault.BadCount) ↔ MiscountsBatch (layout_of self.now) n }
+        ensures round_robin { ¬ (MiscountsBatch (layout_of self.now) n) → IsTrue (hint_of agent.old).round_robin
+            → (result ≡ Ok None) × (agent.new ≡ agent.old) }
+        ensures spent { (result ≡ Err TagFault.Spent)
+            ↔ (¬ (MiscountsBatch (layout_of self.now) n) × ((hint_of agent.old).round_robin ≡ false) × ¬ (HasRoom agent.old n)) }
+        ensures succeeds { ¬ (MiscountsBatch (layout_of self.now) n) → HasRoom agent.old n → IsOk result }
+        ensures gets { (hint_of agent.old).round_robin ≡ false
+            → IfOk result (λ answer. GetsBatch (layout_of self.now) n answer agent.old agent.new) }
+        ensures bound { step_count agent.new ≤ most_steps (layout_of self.now) + step_count agent.old }
+        ensures err { OnErr result (agent.new ≡ agent.old) }
+    {
+        let bits = 1u32 << self.map.layout().shift();
+        if n == 0 || n > bits {
+            return Err(TagFault::BadCount);
+        }
+        if agent.hint.round_robin {
+            return Ok(None);
+        }
+        let Ok(answer) = on_map::get_batch(&self.map, &mut agent.caller, &mut agent.hint, n) else {
+            return Err(TagFault::Spent);
+        };
+        Ok(answer)
+    }
+}

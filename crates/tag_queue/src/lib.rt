@@ -1,0 +1,24 @@
+//! Tags that threads share, with completions counted in batches and waiters woken by them: one map, one charge book and
+//! one set of wait groups behind one handle for each thread.
+#![tactic(auto)]
+
+mod agent;
+mod batches;
+mod clears;
+mod fault;
+mod gather;
+mod gets;
+mod looks;
+mod meets;
+mod opens;
+mod parts;
+mod queue;
+mod slots;
+mod waits;
+
+pub use agent::Agent;
+pub use fault::{SetFault, TagFault};
+pub use gather::{QueueGatherFault, QueueTotals};
+pub use queue::{Options, Queue};
+pub use step_ledger::{GatherCause, Numbered};
+pub use waits::Wakes;

@@ -1,0 +1,116 @@
+//! A new queue, and its agents.
+ghost use Rattle.std.specs.Prelude.{◌≡◌, ◌≢◌, ℕ, ◌^◌, ◌<◌, ◌≤◌, ◌↔◌, List, [], All, IfOk, IsSomeAnd};
+ghost use Rattle.tag_layout.specs.Layout.{HasShift};
+ghost use Rattle.tag_layout.specs.declared.layout.TheConstants.{MAX_DEPTH, MAX_SHIFT};
+ghost use Rattle.tag_model.specs.declared.world.TheConstants.{MAX_CALLERS, MOST_WON};
+ghost use Rattle.tag_queue.specs.Agents.{layout_of};
+ghost use Rattle.tag_queue.specs.Opening.{HasLayout, MiscountsAgents, CountsAgents, IsOpen};
+
+use crate::agent::Agent;
+use crate::fault::SetFault;
+use crate::parts::join;
+use crate::queue::{Options, Queue, Rooms};
+use std::alloc::{AllocError, Global};
+use tag_core::Map;
+use tag_layout::{Layout, LayoutFault};
+use tag_model::{MAX_CALLERS, MOST_WON};
+use tag_search::Hint;
+use wake_book::{Book, Groups};
+
+/// Highest cap, 2^56.
+const MAX_CAP: u64 = 72_057_594_037_927_936;
+
+impl<R: Copy> Queue<R> {
+    /// A queue of free tags, with a slot of the value `fill` for each. The agents stand in the order of their numbers.
+    pub fn open(
+        alloc: Global,
+        depth: u32,
+        options: Options,
+        fill: R,
+    ) -> Result<(Queue<R>, Vec<Agent<R>>), SetFault>
+        ensures ok { IfOk result (λ opened. IsOpen options opened.0 opened.1.items) }
+        ensures layout { IfOk result (λ opened. ((layout_of opened.0).depth ≡ depth) × HasShift depth options.shift (layout_of opened.0).shift) }
+
+        // The causes are looked at in this order, and memory last.
+        ensures total { (result ≡ Err SetFault.TotalTooLarge) ↔ (MAX_DEPTH < depth) }
+        ensures shift { (result ≡ Err SetFault.ShiftTooLarge) ↔ ((depth ≤ MAX_DEPTH) × IsSomeAnd options.shift (λ s. MAX_SHIFT < s)) }
+        ensures callers { (result ≡ Err SetFault.CallerCount) ↔ (HasLayout depth options × MiscountsAgents options) }
+        ensures life { (result ≡ Err SetFault.LifeTooLong) ↔ (HasLayout depth options × CountsAgents options × (MOST_WON < options.life)) }
+        ensures cap { (result ≡ Err SetFault.CapTooLarge)
+            ↔ (HasLayout depth options × CountsAgents options × (options.life ≤ MOST_WON) × (2 ^ 56 < options.cap)) }
+        ensures no_reserved { result ≢ Err SetFault.ReservedTooLarge }
+    {
+        let layout = match Layout::new(depth, options.shift) {
+            Ok(layout) => layout,
+            Err(LayoutFault::DepthTooLarge) => return Err(SetFault::TotalTooLarge),
+            Err(LayoutFault::ShiftTooLarge) => return Err(SetFault::ShiftTooLarge),
+        };
+        if options.callers == 0 || options.callers > MAX_CALLERS {
+            return Err(SetFault::CallerCount);
+        }
+        if options.life > MOST_WON {
+            return Err(SetFault::LifeTooLong);
+        }
+        if options.cap > MAX_CAP {
+            return Err(SetFault::CapTooLarge);
+        }
+        let Ok(opened) = lay_out(alloc, layout, options, fill) else {
+            return Err(SetFault::Memory);
+        };
+        Ok(opened)
+    }
+}
+
+// A queue and its agents, where nothing is to be refused but for want of memory.
+fn lay_out<R: Copy>(
+    alloc: Global,
+    layout: Layout,
+    options: Options,
+    fill: R,
+) -> Result<(Queue<R>, Vec<Agent<R>>), AllocError>
+    requires limits { CountsAgents options × (options.life ≤ MOST_WON) × (options.cap ≤ 2 ^ 56) }
+    ensures layout { IfOk result (λ opened. layout_of opened.0 ≡ layout) }
+    ensures open { IfOk result (λ opened. IsOpen options opened.0 opened.1.items) }
+{
+    let slots = vec![in alloc; fill; layout.depth() as usize]?;
+    let Ok((map, callers)) = Map::open(alloc, layout, options.callers, options.life, slots) else {
+        return Err(AllocError);
+    };
+    let batch = layout.wake_batch(options.min_shallow);
+    let Ok((book, tellers)) = Book::open(alloc, batch, options.callers, options.cap) else {
+        return Err(AllocError);
+    };
+    let Ok((groups, waiters)) = Groups::open(alloc, options.callers) else {
+        return Err(AllocError);
+    };
+    let rooms = Rooms::open(alloc)?;
+    let hint = Hint {
+        at: 0,
+        round_robin: options.round_robin,
+    };
+    let agents = join(alloc, options.callers, callers, tellers, waiters, hint)?;
+    let queue = Queue {
+        map,
+        book,
+        groups,
+        batch,
+        least: options.min_shallow.unwrap_or(1).max(1),
+        callers: options.callers,
+        rooms,
+        fill,
+    };
+    Ok((queue, agents))
+}
+
+impl<R> Rooms<R> {
+    fn open(alloc: Global) -> Result<Rooms<R>, AllocError> {
+        let callers = Vec::with_capacity(alloc, MAX_CALLERS as usize)?;
+        let tellers = Vec::with_capacity(alloc, MAX_CALLERS as usize)?;
+        let waiters = Vec::with_capacity(alloc, MAX_CALLERS as usize)?;
+        Ok(Rooms {
+            callers,
+            tellers,
+            waiters,
+        })
+    }
+}

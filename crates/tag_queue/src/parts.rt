@@ -1,0 +1,98 @@
+//! How agents are put together, and taken apart when they come together.
+ghost use Rattle.std.specs.Prelude.{◌≡◌, ℕ, ◌≤◌, List, length, All, IfOk, map};
+ghost use mathlib.Core.Option.{some};
+ghost use lib.ListN.{get_elem?};
+ghost use Rattle.tag_core.specs.declared.caller.Caller.{Caller};
+ghost use Rattle.wake_book.specs.declared.book.Teller.{Teller};
+ghost use Rattle.wake_book.specs.declared.groups.Waiter.{Waiter};
+ghost use Rattle.tag_queue.specs.Parts.{FitTogether, Fits, AreParts, HasHint};
+
+use crate::agent::Agent;
+use crate::queue::Rooms;
+use std::alloc::{AllocError, Global};
+use tag_core::Caller;
+use tag_search::Hint;
+use wake_book::{Teller, Waiter};
+
+/// The agents of these parts, in their order.
+pub(crate) fn join<R>(
+    alloc: Global,
+    count: u32,
+    callers: Vec<Caller<R>>,
+    tellers: Vec<Teller>,
+    waiters: Vec<Waiter>,
+    hint: Hint,
+) -> Result<Vec<Agent<R>>, AllocError>
+    requires counts { (length callers.items ≡ count) × (length tellers.items ≡ count) × (length waiters.items ≡ count) }
+    requires fit { FitTogether callers.items tellers.items waiters.items }
+    ensures parts { IfOk result (λ agents. AreParts agents.items callers.items tellers.items waiters.items) }
+    ensures hints { IfOk result (λ agents. All (HasHint hint) agents.items) }
+{
+    let mut agents = Vec::new(alloc);
+    let mut callers = callers.into_iter();
+    let mut tellers = tellers.into_iter();
+    let mut waiters = waiters.into_iter();
+    for number in 0..count {
+        let Some(caller) = callers.next() else {
+            unreachable!()
+        };
+        let Some(teller) = tellers.next() else {
+            unreachable!()
+        };
+        let Some(waiter) = waiters.next() else {
+            unreachable!()
+        };
+        agents.push(agent_of(number, caller, teller, waiter, hint))?;
+    }
+    Ok(agents)
+}
+
+fn agent_of<R>(
+    number: u32,
+    caller: Caller<R>,
+    teller: Teller,
+    waiter: Waiter,
+    hint: Hint,
+) -> Agent<R>
+    requires { Fits number caller teller waiter }
+    ensures parts { (result.caller ≡ caller) × (result.teller ≡ teller) × (result.waiter ≡ waiter) }
+    ensures hint { result.hint ≡ hint }
+{
+    Agent {
+        caller,
+        teller,
+        waiter,
+        hint,
+        number,
+    }
+}
+
+/// The parts of the agents, in their order, in room that was kept for them.
+pub(crate) fn split<R>(
+    agents: Vec<Agent<R>>,
+    rooms: Rooms<R>,
+) -> (Vec<Caller<R>>, Vec<Teller>, Vec<Waiter>)
+    requires { length agents.items ≤ 64 }
+    ensures { AreParts agents.items result.0.items result.1.items result.2.items }
+{
+    let Rooms {
+        mut callers,
+        mut tellers,
+        mut waiters,
+    } = rooms;
+    let mut agents = agents.into_iter();
+    while let Some(agent) = agents.next() {
+        let Agent {
+            caller,
+            teller,
+            waiter,
+            hint: _,
+            number: _,
+        } = agent;
+        callers.push_reserved(caller);
+        tellers.push_reserved(teller);
+        waiters.push_reserved(waiter);
+    }
+    agents.destroy_empty();
+    (callers, tellers, waiters)
+}

@@ -1,0 +1,75 @@
+//! The values beside held tags, and how tags pass from agent to agent.
+ghost use Rattle.std.specs.Prelude.{◌≡◌, ◌<◌, ◌≤◌, ◌↔◌, IfOk, IfErr, IsOk, OnOk, OnErr};
+ghost use mathlib.Core.Option.{some};
+ghost use Rattle.tag_queue.specs.Agents.{layout_of, IsAgentOf, Holds, slot_of, step_count};
+ghost use Rattle.tag_queue.specs.Slots.{Writes, Posts, Takes, RefusesTake};
+
+use crate::agent::Agent;
+use crate::fault::TagFault;
+use crate::queue::Queue;
+
+impl<R: Copy> Queue<R> {
+    /// The value in a held tag's slot.
+    pub fn read(&self, agent: &mut Agent<R>, tag: u32) -> Result<R, TagFault>
+        requires agent { IsAgentOf self.now agent.old }
+        ensures agent { IsAgentOf self.now agent.new }
+        ensures no_such_tag { (result ≡ Err TagFault.NoSuchTag) ↔ ((layout_of self.now).depth ≤ tag) }
+        ensures not_held { (result ≡ Err TagFault.NotHeld) ↔ ((tag < (layout_of self.now).depth) × ¬ (Holds agent.old tag)) }
+        ensures succeeds { Holds agent.old tag → IsOk result }
+        ensures value { IfOk result (λ value. slot_of agent.old tag ≡ some value) }
+        ensures same { IfOk result (λ value. Writes tag value agent.old agent.new) }
+        ensures err { OnErr result (agent.new ≡ agent.old) }
+    {
+        self.find_held(agent, tag)?;
+        let value = self.map.slot(&mut agent.caller, tag, self.fill);
+        self.map.slot(&mut agent.caller, tag, value);
+        Ok(value)
+    }
+
+    /// Writes a held tag's slot, and returns its former value.
+    pub fn write(&self, agent: &mut Agent<R>, tag: u32, value: R) -> Result<R, TagFault>
+        requires agent { IsAgentOf self.now agent.old }
+        ensures agent { IsAgentOf self.now agent.new }
+        ensures no_such_tag { (result ≡ Err TagFault.NoSuchTag) ↔ ((layout_of self.now).depth ≤ tag) }
+        ensures not_held { (result ≡ Err TagFault.NotHeld) ↔ ((tag < (layout_of self.now).depth) × ¬ (Holds agent.old tag)) }
+        ensures succeeds { Holds agent.old tag → IsOk result }
+        ensures former { IfOk result (λ former. slot_of agent.old tag ≡ some former) }
+        ensures writes { OnOk result (Writes tag value agent.old agent.new) }
+        ensures err { OnErr result (agent.new ≡ agent.old) }
+    {
+        self.find_held(agent, tag)?;
+        Ok(self.map.slot(&mut agent.caller, tag, value))
+    }
+
+    /// Hands a held tag on, with its slot, to whichever agent takes it first.
+    pub fn post(&self, agent: &mut Agent<R>, tag: u32) -> Result<(), TagFault>
+        requires agent { IsAgentOf self.now agent.old }
+        ensures agent { IsAgentOf self.now agent.new }
+        ensures no_such_tag { (result ≡ Err TagFault.NoSuchTag) ↔ ((layout_of self.now).depth ≤ tag) }
+        ensures not_held { (result ≡ Err TagFault.NotHeld) ↔ ((tag < (layout_of self.now).depth) × ¬ (Holds agent.old tag)) }
+        ensures succeeds { Holds agent.old tag → IsOk result }
+        ensures posts { OnOk result (Posts tag agent.old agent.new) }
+        ensures err { OnErr result (agent.new ≡ agent.old) }
+    {
+        self.find_held(agent, tag)?;
+        self.map.post(&mut agent.caller, tag);
+        Ok(())
+    }
+
+    /// Takes a posted tag, with its slot. `NotPosted` leaves the agent as it was but for one step in its list.
+    pub fn take(&self, agent: &mut Agent<R>, tag: u32) -> Result<(), TagFault>
+        requires agent { IsAgentOf self.now agent.old }
+        ensures agent { IsAgentOf self.now agent.new }
+        ensures no_such_tag { (result ≡ Err TagFault.NoSuchTag) ↔ ((layout_of self.now).depth ≤ tag) }
+        ensures takes { OnOk result (Takes tag agent.old agent.new) }
+        ensures refuses { IfErr result (λ fault. RefusesTake tag fault agent.old agent.new) }
+    {
+        if tag >= self.map.layout().depth() {
+            return Err(TagFault::NoSuchTag);
+        }
+        if !self.map.take(&mut agent.caller, tag) {
+            return Err(TagFault::NotPosted);
+        }
+        Ok(())
+    }
+}

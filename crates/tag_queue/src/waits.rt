@@ -1,0 +1,133 @@
+//! Waiting for a tag.
+ghost use Rattle.std.specs.Prelude.{◌≡◌, ℕ, ◌+◌, ◌≤◌, ◌<◌, ◌↔◌, ◌∷◌, IfOk, IfErr, IsOk, IsSome, OnErr, Some, None};
+ghost use Rattle.wake_book.specs.Waits.{active_at, index_at};
+ghost use Rattle.wake_book.specs.Groups.{LeavesAs, StandsAsBefore};
+ghost use Rattle.wake_book.specs.Book.{counted_by};
+ghost use Rattle.wake_book.specs.declared.steps.BookStep.TheVariants.{LookCompletions, LookWakeups};
+ghost use Rattle.wake_book.specs.declared.steps.GroupStep.TheVariants.{Look};
+ghost use Rattle.tag_queue.specs.Agents.{layout_of, IsAgentOf, HasRoom, standing_of, book_steps, group_steps, caller_of, teller_of, waiter_of, hint_of, step_count};
+ghost use Rattle.tag_queue.specs.Gets.{GetsPlain};
+ghost use Rattle.tag_queue.specs.Waits.{SameTags, Enters, BlockingGets};
+
+use crate::agent::Agent;
+use crate::fault::TagFault;
+use crate::queue::Queue;
+use std::sync::Wait;
+use tag_search::on_map;
+use wake_book::{Groups, Left};
+
+/// What an agent finds of the counts and of the groups.
+#[derive(Clone, Copy, Debug, PartialEq, Eq)]
+pub struct Wakes {
+    /// Completions counted.
+    pub counted: u64,
+    /// Completions charged, which were looked at first and so are at most as many.
+    pub charged: u64,
+    /// The group that the next walk visits first.
+    pub index: u32,
+    /// How many are active.
+    pub active: u64,
+}
+
+impl<R: Copy> Queue<R> {
+    /// Enters the group of the agent's wait index, and returns its number, below 8.
+    pub fn prepare_wait(&self, agent: &mut Agent<R>) -> Result<u32, TagFault>
+        requires agent { IsAgentOf self.now agent.old }
+        ensures agent { IsAgentOf self.now agent.new }
+        ensures out { IsOk result ↔ (standing_of agent.old ≡ None) }
+        ensures enters { IfOk result (λ group. Enters group agent.old agent.new) }
+        ensures err { IfErr result (λ fault. (fault ≡ TagFault.Waiting) × (agent.new ≡ agent.old)) }
+    {
+        if Groups::standing(&agent.waiter).is_some() {
+            return Err(TagFault::Waiting);
+        }
+        Ok(self.groups.enter(&mut agent.waiter))
+    }
+
+    /// Leaves the group in which the agent stands: `Woken` if it used a grant, `Unwoken` if it found none.
+    pub fn finish_wait<W: Wait>(&self, rt: &W, agent: &mut Agent<R>) -> Result<Left, TagFault>
+        requires agent { IsAgentOf self.now agent.old }
+        ensures agent { IsAgentOf self.now agent.new }
+        ensures stands { IsOk result ↔ IsSome (standing_of agent.old) }
+        ensures leaves { IfOk result (λ left. LeavesAs (waiter_of agent.old) (waiter_of agent.new) left) }
+        ensures out { standing_of agent.new ≡ None }
+        ensures same { SameTags agent.old agent.new }
+        ensures err { IfErr result (λ fault. (fault ≡ TagFault.NotWaiting) × (agent.new ≡ agent.old)) }
+    {
+        if Groups::standing(&agent.waiter).is_none() {
+            return Err(TagFault::NotWaiting);
+        }
+        Ok(self.groups.leave(rt, &mut agent.waiter))
+    }
+
+    /// What the agent finds of the counts and of the groups, by four loads at four moments.
+    pub fn wakes(&self, agent: &mut Agent<R>) -> Wakes
+        requires agent { IsAgentOf self.now agent.old }
+        ensures agent { IsAgentOf self.now agent.new }
+        ensures counts { book_steps agent.new ≡ LookCompletions result.counted ∷ LookWakeups result.charged ∷ book_steps agent.old }
+        ensures looks { group_steps agent.new ≡ Look active_at result.active ∷ Look index_at result.index ∷ group_steps agent.old }
+        ensures ordered { result.charged ≤ result.counted }
+        ensures own { counted_by (teller_of agent.old) ≤ result.counted }
+        ensures active { IsSome (standing_of agent.old) → 1 ≤ result.active }
+        ensures same { (caller_of agent.new ≡ caller_of agent.old) × (hint_of agent.new ≡ hint_of agent.old)
+            × StandsAsBefore (waiter_of agent.old) (waiter_of agent.new) }
+    {
+        let (counted, charged) = self.book.counts(&mut agent.teller);
+        let index = self.groups.index(&mut agent.waiter);
+        let active = self.groups.active(&mut agent.waiter);
+        Wakes {
+            counted,
+            charged,
+            index,
+            active,
+        }
+    }
+
+    /// Takes a free tag as `get` does, and waits while it finds none. Nothing promises that it returns.
+    pub fn get_blocking<W: Wait>(&self, rt: &W, agent: &mut Agent<R>) -> Result<u32, TagFault>
+        requires agent { IsAgentOf self.now agent.old }
+        ensures agent { IsAgentOf self.now agent.new }
+        ensures no_such_tag { (result ≡ Err TagFault.NoSuchTag) ↔ ((layout_of self.now).depth ≡ 0) }
+        ensures waiting { (result ≡ Err TagFault.Waiting) ↔ ((1 ≤ (layout_of self.now).depth) × IsSome (standing_of agent.old)) }
+        ensures spent { (result ≡ Err TagFault.Spent)
+            ↔ ((1 ≤ (layout_of self.now).depth) × (standing_of agent.old ≡ None) × ¬ (HasRoom agent.old 1)) }
+        ensures gets { IfOk result (λ tag. BlockingGets (layout_of self.now) tag agent.old agent.new) }
+        ensures err { OnErr result (agent.new ≡ agent.old) }
+    {
+        if self.map.layout().depth() == 0 {
+            return Err(TagFault::NoSuchTag);
+        }
+        if Groups::standing(&agent.waiter).is_some() {
+            return Err(TagFault::Waiting);
+        }
+        if !agent.caller.room(1) {
+            return Err(TagFault::Spent);
+        }
+        for _ in rt.forever() {
+            if let Some(tag) = self.try_get(agent) {
+                return Ok(tag);
+            }
+            self.groups.enter(&mut agent.waiter);
+            if let Some(tag) = self.try_get(agent) {
+                self.groups.leave(rt, &mut agent.waiter);
+                return Ok(tag);
+            }
+            self.groups.sleep(rt, &mut agent.waiter);
+            self.groups.leave(rt, &mut agent.waiter);
+        }
+        unreachable!()
+    }
+
+    // A get by an agent that has room.
+    fn try_get(&self, agent: &mut Agent<R>) -> Option<u32>
+        requires agent { IsAgentOf self.now agent.old }
+        requires room { HasRoom agent.old 1 }
+        ensures agent { IsAgentOf self.now agent.new }
+        ensures gets { GetsPlain (layout_of self.now) result agent.old agent.new }
+    {
+        let Ok(answer) = on_map::get(&self.map, &mut agent.caller, &mut agent.hint) else {
+            unreachable!()
+        };
+        answer
+    }
+}
