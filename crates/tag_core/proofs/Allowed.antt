@@ -82,9 +82,13 @@ module _ (R : Type 0) (k : Shape) (narrow : k.layout.shift ≤ 6) (id : ℕ) (me
     ok = (sh.records id (alone r) here 0 r refl).0
 
     answer : (st : Step R) (words' : List ℕ) → Owed R k s sh r st words' → Posts s sh st → Answer s st words'
-    answer st words' owed posts = let go = moved R k s sh r st words' owed ok me.1 carries deep in
-        (alone (record_after st r), go.act, go.valid, kept R k s sh r st words' owed ok me.1 carries deep posts id here,
-        told R k s sh r st words' owed ok me.1 carries deep posts id here me refl)
+    answer st words' owed posts = let go = moved R k s sh r st words' owed ok me.1 carries deep in (
+      alone (record_after st r),
+      go.act,
+      go.valid,
+      kept R k s sh r st words' owed ok me.1 carries deep posts id here,
+      told R k s sh r st words' owed ok me.1 carries deep posts id here me refl,
+    )
 
     -- the same where the words stay
     still : (st : Step R) (i : ℕ) → Owed R k s sh r st s.words → Posts s sh st → Answer s st (set s.words i (get_or s.words i 0))

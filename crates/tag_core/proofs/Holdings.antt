@@ -22,22 +22,27 @@ use Rattle.tag_core.proofs.Picks.{among, among_one, one_among}
 use Rattle.tag_core.proofs.TagBits.{place_small, among_here, among_else, among_small, minus_bit, or_bit, list_bit, only_among, only_is, tag_mask, small_word}
 
 -- the bit of a mask within its word names a tag of the map
-pub named_below : (l : Layout) (i m t : ℕ) → IsWithin l i m → word_of l t ≡ i → bit_at m (place_of l t) ≡ 1 → t < l.depth
+pub named_below : (l : Layout) (i m t : ℕ) → IsWithin l i m → word_of l t ≡ i → bit_at m (place_of l t) ≡ 1
+    → t < l.depth
 named_below l i m t within e one = let b : ℕ = place_of l t in
     subst (λ (z : ℕ). z < l.depth) (tag_at-back l t) (tag_at-below l (word_of l t) b (⊎_elim
     (λ (h : b < word_depth l (word_of l t)). h)
     (λ (past : word_depth l (word_of l t) ≤ b).
-    let none = bit_at_above m (word_depth l i) b within (subst (λ (z : ℕ). word_depth l z ≤ b) e past) in absurd (omega arith))
+    let none = bit_at_above m (word_depth l i) b within (subst (λ (z : ℕ). word_depth l z ≤ b) e past) in
+    absurd (omega arith))
     (cases_lt b (word_depth l (word_of l t)))))
 
 -- a tag that such a mask names is one of the map's
-pub named_in : (k : Shape) → k.layout.shift ≤ 6 → (i m t : ℕ) → IsWithin k.layout i m → IsInMask k.layout i m t → t < k.layout.depth
-named_in k narrow i m t within named = let one = among_one k.layout i m t named in dite (ℕ_discrete (t / 2 ^ k.layout.shift) i)
+pub named_in : (k : Shape) → k.layout.shift ≤ 6 → (i m t : ℕ) → IsWithin k.layout i m → IsInMask k.layout i m t
+    → t < k.layout.depth
+named_in k narrow i m t within named = let one = among_one k.layout i m t named in
+    dite (ℕ_discrete (t / 2 ^ k.layout.shift) i)
     (λ (e : t / 2 ^ k.layout.shift ≡ i). named_below k.layout i m t within e (among_here k narrow i m t e ∙ one))
     (λ (n : t / 2 ^ k.layout.shift ≢ i). let none = among_else k narrow i m t n in absurd (omega arith))
 
 -- what a claim wins it did not find taken
-pub not_found : (k : Shape) → k.layout.shift ≤ 6 → (i m found t : ℕ) → found < 2 ^ 64 → IsInMask k.layout i (without m found) t
+pub not_found : (k : Shape) → k.layout.shift ≤ 6 → (i m found t : ℕ) → found < 2 ^ 64
+    → IsInMask k.layout i (without m found) t
     → (word_of k.layout t ≡ i → bit_at found (place_of k.layout t) ≡ 1) → ⊥
 not_found k narrow i m found t fits named taken = let one = among_one k.layout i (without m found) t named in
     dite (ℕ_discrete (t / 2 ^ k.layout.shift) i)
@@ -66,7 +71,8 @@ module _ {R : Type 0} (old new : Caller R) (narrow : old.shape.value.layout.shif
   has_small masks t = bit_at-lt (get_or masks (word_of k.layout t) 0) (place_of k.layout t)
 
   now_holds : (t : ℕ) → t < k.layout.depth → has new.held.items t ≡ 1 → Holds new t
-  now_holds t l e = subst (λ (z : Shape). (t < z.layout.depth) × (tag_bit z.layout new.held.items t ≡ 1)) (sym same) (l, e)
+  now_holds t l e = subst (λ (z : Shape). (t < z.layout.depth) × (tag_bit z.layout new.held.items t ≡ 1)) (sym same)
+      (l, e)
 
   holds_now : (t : ℕ) → Holds new t → (t < k.layout.depth) × (has new.held.items t ≡ 1)
   holds_now t h = subst (λ (z : Shape). (t < z.layout.depth) × (tag_bit z.layout new.held.items t ≡ 1)) same h
@@ -168,7 +174,8 @@ module _ {R : Type 0} (m : Map R) (old new : Caller R) (own : IsCallerOf m old) 
     adds_releases i x inside within is = let same : old.shape.value ≡ m.shape = own.1 in
         subst (λ (z : Shape). Releases (IsInMask z.layout i x) old new) same
         (releases old new low shape adds.slots i x (subst (λ (z : Shape). i < words z.layout) (sym same) inside)
-        (small_word old.shape.value low i x (subst (λ (z : Shape). IsWithin z.layout i x) (sym same) within)) (held ∙ is))
+        (small_word old.shape.value low i x (subst (λ (z : Shape). IsWithin z.layout i x) (sym same) within))
+        (held ∙ is))
 
     -- a step that brings the tags of a mask into it
     pub adds_acquires : (i x : ℕ) → i < words (layout_of m) → IsWithin (layout_of m) i x
@@ -178,7 +185,8 @@ module _ {R : Type 0} (m : Map R) (old new : Caller R) (own : IsCallerOf m old) 
         subst (λ (z : Shape). Acquires (IsInMask z.layout i x) old new) same
         (acquires old new low shape adds.slots i x (subst (λ (z : Shape). i < words z.layout) (sym same) inside)
         (subst (λ (z : Shape). (t : ℕ) → IsInMask z.layout i x t → ¬ (Holds old t)) (sym same) fresh)
-        (λ t named. named_in old.shape.value low i x t (subst (λ (z : Shape). IsWithin z.layout i x) (sym same) within) named) (held ∙ is))
+        (λ t named. named_in old.shape.value low i x t
+        (subst (λ (z : Shape). IsWithin z.layout i x) (sym same) within) named) (held ∙ is))
 
   -- two steps that leave it
   pub adds_two_keeps : (first second : Step R) → AddsTwo first second old new
@@ -192,15 +200,21 @@ module _ {R : Type 0} (m : Map R) (old new : Caller R) (own : IsCallerOf m old) 
     one_tag z = IsInMask z (word_of z u) (2 ^ place_of z u)
 
     pub adds_releases_one : u < l.depth
-        → held_after l st old.held.items ≡ parted old.held.items (word_of l u) (2 ^ place_of l u) → Releases (λ t. t ≡ u) old new
+        → held_after l st old.held.items ≡ parted old.held.items (word_of l u) (2 ^ place_of l u)
+        → Releases (λ t. t ≡ u) old new
     adds_releases_one below is = released_as old new (one_tag l) (λ t. t ≡ u) (alone_named old.shape.value low u)
-        (named_alone old.shape.value low u) (releases old new low (shape st adds) adds.slots (word_of l u) (2 ^ place_of l u)
+        (named_alone old.shape.value low u) (releases old new low (shape st adds) adds.slots (word_of l u)
+        (2 ^ place_of l u)
         (word_of-below l u below) (tag_mask old.shape.value low u) (held st adds ∙ is))
 
     -- a step that brings one tag into it
     pub adds_acquires_one : u < l.depth → ¬ (Holds old u)
-        → held_after l st old.held.items ≡ joined old.held.items (word_of l u) (2 ^ place_of l u) → Acquires (λ t. t ≡ u) old new
+        → held_after l st old.held.items ≡ joined old.held.items (word_of l u) (2 ^ place_of l u)
+        → Acquires (λ t. t ≡ u) old new
     adds_acquires_one below fresh is = acquired_as old new (one_tag l) (λ t. t ≡ u) (alone_named old.shape.value low u)
-        (named_alone old.shape.value low u) (acquires old new low (shape st adds) adds.slots (word_of l u) (2 ^ place_of l u)
-        (word_of-below l u below) (λ t named. subst (λ (z : ℕ). ¬ (Holds old z)) (sym (alone_named old.shape.value low u t named)) fresh)
-        (λ t named. subst (λ (z : ℕ). z < l.depth) (sym (alone_named old.shape.value low u t named)) below) (held st adds ∙ is))
+        (named_alone old.shape.value low u) (acquires old new low (shape st adds) adds.slots (word_of l u)
+        (2 ^ place_of l u)
+        (word_of-below l u below) (λ t named. subst (λ (z : ℕ). ¬ (Holds old z))
+        (sym (alone_named old.shape.value low u t named)) fresh)
+        (λ t named. subst (λ (z : ℕ). z < l.depth) (sym (alone_named old.shape.value low u t named)) below)
+        (held st adds ∙ is))

@@ -9,13 +9,13 @@ use Rattle.tag_core.specs.Callers.{Holds, slot_of}
 abbrev pub IsInMask : Layout → ℕ → ℕ → ℕ → Type 0
 IsInMask l word mask tag = IsTrue (is_in_mask l word mask tag)
 
--- the caller holds these tags no more, every other tag as before, with the value of its slot, and none besides
+-- the caller holds these tags no more, and every other that it held, with the value of its slot; no tag joins
 pub record Releases {R : Type 0} (released : ℕ → Type 0) (old new : Caller R) : Type 0 where
   pub gone : (tag : ℕ) → released tag → ¬ (Holds new tag)
   pub kept : (tag : ℕ) → ¬ (released tag) → Holds old tag → Holds new tag × (slot_of new tag ≡ slot_of old tag)
   pub none_else : (tag : ℕ) → Holds new tag → Holds old tag
 
--- the caller holds these tags, which it did not hold before, every other tag as before, with the value of its slot, and none besides
+-- the caller holds these tags, of which it held none before, and what it held, with the values of the slots, and no more
 pub record Acquires {R : Type 0} (acquired : ℕ → Type 0) (old new : Caller R) : Type 0 where
   pub fresh : (tag : ℕ) → acquired tag → ¬ (Holds old tag)
   pub joined : (tag : ℕ) → acquired tag → Holds new tag

@@ -14,7 +14,8 @@ start_gathering-all-requires g c =
 
 pub loop-caller-init : goal.loop-caller-init
 loop-caller-init g c =
-    let R = g.row.R.Denot in let P : Caller R → Type 0 = IsCallerOf c.args.self.now in let e = c.in-Some.ensures.items in
+    let R = g.row.R.Denot in let P : Caller R → Type 0 = IsCallerOf c.args.self.now in
+    let e = c.in-Some.ensures.items in
     let s = c.start_gathering-all.ensures in let left : List (Caller R) = c.pop.new.self.items in record {
       owner = s.map;
       own = all_front P left c.in-Some.last (subst (All P) e c.requires.own);
@@ -30,11 +31,13 @@ add-requires-clause-caller g c =
 
 pub loop-caller-preserved : goal.loop-caller-preserved
 loop-caller-preserved g c =
-    let R = g.row.R.Denot in let P : Caller R → Type 0 = IsCallerOf c.args.self.now in let e = c.in-Some-pop.ensures.items in
+    let R = g.row.R.Denot in let P : Caller R → Type 0 = IsCallerOf c.args.self.now in
+    let e = c.in-Some-pop.ensures.items in
     let inv = c.loop-caller.invariant in let a = c.add.ensures in
     let left : List (Caller R) = c.pop-in-loop-caller.new.self.items in record {
       owner = a.map;
       own = all_front P left c.in-Some-pop.caller (subst (All P) e inv.own);
       gathered = ap (λ (z : List (Record R)). map record_of left ++ z) a.gathered
-          ∙ taken_off record_of c.loop-caller.callers.items left c.in-Some-pop.caller (gathered c.loop-caller.all) e ∙ inv.gathered;
+          ∙ taken_off record_of c.loop-caller.callers.items left c.in-Some-pop.caller (gathered c.loop-caller.all) e
+          ∙ inv.gathered;
     }

@@ -23,14 +23,16 @@ load-requires g c =
     let m = c.args.self.now in let w = c.args.caller.now in let k = w.shape.value in let own = c.requires.caller in
     let R = g.row.R.Denot in let u : ℕ = c.args.tag in let lu = c.requires.held.0 in let has = c.requires.held.1 in
     let a = asked m w own w.seat.id w.seat.me (state_at k.layout u) c.state_spot-spot.result
-    (λ n. n) 0 0 fronted (c.state_spot-spot.ensures ∙ ap (λ (z : Layout). state_at z u) w.told.0) (state_in k.layout u lu)
+    (λ n. n) 0 0 fronted (c.state_spot-spot.ensures ∙ ap (λ (z : Layout). state_at z u) w.told.0)
+    (state_in k.layout u lu)
     (front_allowed R k w.seat.id w.seat.me (record_of w) w.knows u lu has w.carries) in (own.0, a.0, a.1)
 
 pub front_value-value-requires : goal.front_value-value-requires
 front_value-value-requires g c =
     let m = c.args.self.now in let w = c.args.caller.now in let k = w.shape.value in let own = c.requires.caller in
     let R = g.row.R.Denot in let u : ℕ = c.args.tag in let lu = c.requires.held.0 in let has = c.requires.held.1 in
-    let first = c.load.ensures.2 u (record_of w) (c.state_spot-spot.ensures ∙ ap (λ (z : Layout). state_at z u) w.told.0) w.knows lu has in
+    let first = c.load.ensures.2 u (record_of w)
+    (c.state_spot-spot.ensures ∙ ap (λ (z : Layout). state_at z u) w.told.0) w.knows lu has in
     (c.load.ensures.0 ∙ own.0, (first.0, first.3 ∙ (λ j. (u, first.0) ∷ rest (sym first.3 j))))
 
 pub load-requires-2 : goal.load-requires-2
@@ -43,7 +45,8 @@ load-requires-2 g c =
     let now = ap (λ z. z.1) read.same.2 ∙ first.3 in
     let seat = c.front_value-value.new.seat in
     let a = asked m w own seat.id seat.me (state_at k.layout u) c.state_spot-spot.result (λ n. n) 0 0 ordered spot_is
-    (state_in k.layout u lu) (order_allowed R k seat.id seat.me (record_of w) (view ∙ w.knows) u lu has first.0 first.1 now first.5) in
+    (state_in k.layout u lu) (order_allowed R k seat.id seat.me (record_of w)
+    (view ∙ w.knows) u lu has first.0 first.1 now first.5) in
     (read.same.0 ∙ c.load.ensures.0 ∙ own.0, a.0, a.1)
 
 pub invariant_of-caller : goal.invariant_of-caller
@@ -100,7 +103,8 @@ returns-clause-kept g c =
       kept = λ t h. (
         h,
         dite (ℕ_discrete t u)
-            (λ (e : t ≡ u). ap (value_of c.load-2.new.seat.me.1) e ∙ last.2 ∙ sym first.4 ∙ ap (value_of w.seat.me.1) (sym e))
+            (λ (e : t ≡ u). ap (value_of c.load-2.new.seat.me.1) e ∙ last.2 ∙ sym first.4 ∙ ap (value_of w.seat.me.1)
+            (sym e))
             (λ (ne : t ≢ u). last.3 t h.0 ne h.1 ∙ first.6 t h.0 ne h.1),
       );
       none_else = λ t h. h;

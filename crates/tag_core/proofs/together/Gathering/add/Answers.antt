@@ -1,5 +1,5 @@
--- The caller's record comes before those on the seat, which then has as many as the map has callers at most, and what the
--- caller won, gave back and holds comes to the sums.
+-- The caller's record comes before those on the seat, which then has at most as many as the map has callers; what the
+-- caller won, gave back and holds is added to the sums.
 use Rattle.std.proofs.Common.{arith, ◌≡◌, ℕ, ◌+◌, ◌<◌, ◌≤◌, suc, List, [], ◌∷◌, ◌++◌, length, sym, ap, ◌∙◌, subst}
 use Rattle.atomic_table.specs.Table.{Me, Joins}
 use Rattle.atomic_table.specs.declared.shared.Seat.{Seat}
@@ -18,25 +18,29 @@ use Rattle.tag_core.proofs.together.Gathering.add.Goals as goal
 
 pub join_seat-requires : goal.join_seat-requires
 join_seat-requires g c =
-    let R = g.row.R.Denot in let m = c.args.map.now in let v = c.swap.new.x in let w = c.swap.new.y in let s = c.swap.ensures in (
+    let R = g.row.R.Denot in let m = c.args.map.now in let v = c.swap.new.x in let w = c.swap.new.y in
+    let s = c.swap.ensures in (
       ap (λ (z : Seat R (View R)). z.table_id) s.x_after ∙ c.start_gathering-seat.ensures.map,
       ap (λ (z : Seat R (View R)). z.table_id) s.y_after ∙ c.requires.map,
       ap (λ (z : Seat R (View R)). z.me.1) s.y_after ∙ c.args.self.now.empty,
       subst (λ (z : ℕ). 0 < z) (sym m.wide.0) (some_width m.shape.layout),
-      subst (λ (z : Shape). Joins (Shown z) v.id v.me.0 w.id w.me.0 (both_views v.me.0 w.me.0) (viewing [])) (sym m.told)
+      subst (λ (z : Shape). Joins (Shown z) v.id v.me.0 w.id w.me.0 (both_views v.me.0 w.me.0) (viewing []))
+          (sym m.told)
           (joins R m.shape v.id v.me.0 w.id w.me.0),
     )
 
 pub load-requires : goal.load-requires
 load-requires g c =
     let R = g.row.R.Denot in let m = c.args.map.now in let seat = c.join_seat.new.seat in (
-      c.join_seat.ensures.0 ∙ ap (λ (z : Seat R (View R)). z.table_id) c.swap.ensures.x_after ∙ c.start_gathering-seat.ensures.map,
+      c.join_seat.ensures.0 ∙ ap (λ (z : Seat R (View R)). z.table_id) c.swap.ensures.x_after
+          ∙ c.start_gathering-seat.ensures.map,
       subst (λ (z : ℕ). 0 < z) (sym m.wide.0) (some_width m.shape.layout),
       count_allowed R m.table.shared.key m.table.shared.table_id.slots seat.id seat.me,
     )
 
 -- the records once the seats are joined
-came : {R : Type 0} (r : Record R) (x y one old : Seat R (View R)) (now : Me R (View R)) → now.0 ≡ both_views x.me.0 y.me.0
+came : {R : Type 0} (r : Record R) (x y one old : Seat R (View R)) (now : Me R (View R))
+    → now.0 ≡ both_views x.me.0 y.me.0
     → x ≡ one → y ≡ old → one.me.0.records.value ≡ r ∷ [] → now.0.records.value ≡ r ∷ old.me.0.records.value
 came {R} r x y one old now joined first rest alone =
     let of : Seat R (View R) → List (Record R) = λ z. z.me.0.records.value in
@@ -44,20 +48,24 @@ came {R} r x y one old now joined first rest alone =
 
 pub invariant_of-self : goal.invariant_of-self
 invariant_of-self g c =
-    let R = g.row.R.Denot in let m = c.args.map.now in let old = c.args.self.now in let one = c.start_gathering-seat.result in
+    let R = g.row.R.Denot in let m = c.args.map.now in let old = c.args.self.now in
+    let one = c.start_gathering-seat.result in
     let r : Record R = record_of c.args.caller in let alone = c.start_gathering-seat.ensures.gathered in
     let now = c.load.ensures.2.0 ∙ c.join_seat.ensures.2 in
     let records = came r c.swap.new.x c.swap.new.y one.seat old.seat c.load.new.seat.me (ap (λ z. z.0) now)
     c.swap.ensures.x_after c.swap.ensures.y_after alone in
-    let joined = came r c.swap.new.x c.swap.new.y one.seat old.seat c.join_seat.new.seat.me (ap (λ z. z.0) c.join_seat.ensures.2)
+    let joined = came r c.swap.new.x c.swap.new.y one.seat old.seat c.join_seat.new.seat.me
+    (ap (λ z. z.0) c.join_seat.ensures.2)
     c.swap.ensures.x_after c.swap.ensures.y_after alone in
     let few : suc (length (gathered old)) ≤ r.shape.callers = c.load.ensures.2.1 r (gathered old) (ap viewing joined) in
     let own : r.shape.callers ≤ 64 = subst (λ (z : Shape). z.callers ≤ 64) (sym c.requires.caller.1) m.few.1 in
-    let long : length c.load.new.seat.me.0.records.value ≡ suc (length (gathered old)) = ap (λ (z : List (Record R)). length z) records in
+    let long : length c.load.new.seat.me.0.records.value ≡ suc (length (gathered old)) =
+    ap (λ (z : List (Record R)). length z) records in
     let alone_long : length (gathered one) ≡ 1 = ap (λ (z : List (Record R)). length z) alone in
     let total : (f : Record R → ℕ)
     → total_of f c.load.new.seat.me.0.records.value ≡ total_of f (gathered old) + total_of f (gathered one) =
-    (λ f. let a = ap (λ (z : List (Record R)). total_of f z) records in let b = ap (λ (z : List (Record R)). total_of f z) alone in
+    (λ f. let a = ap (λ (z : List (Record R)). total_of f z) records in
+    let b = ap (λ (z : List (Record R)). total_of f z) alone in
     omega arith) in
     let sums = old.sums in let own_sums = one.sums in let small = old.small in let own_small = one.small in record {
       empty = ap (λ z. z.1) now ∙ ap (λ (z : Seat R (View R)). z.me.1) c.swap.ensures.x_after ∙ one.empty;
@@ -74,4 +82,5 @@ pub returns-clause-gathered : goal.returns-clause-gathered
 returns-clause-gathered g c =
     let R = g.row.R.Denot in let now = c.load.ensures.2.0 ∙ c.join_seat.ensures.2 in
     came (record_of c.args.caller) c.swap.new.x c.swap.new.y c.start_gathering-seat.result.seat c.args.self.now.seat
-    c.load.new.seat.me (ap (λ z. z.0) now) c.swap.ensures.x_after c.swap.ensures.y_after c.start_gathering-seat.ensures.gathered
+    c.load.new.seat.me (ap (λ z. z.0) now) c.swap.ensures.x_after c.swap.ensures.y_after
+    c.start_gathering-seat.ensures.gathered
