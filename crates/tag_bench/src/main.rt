@@ -10,6 +10,8 @@ mod gets;
 mod measure;
 mod options;
 mod plain;
+#[cfg(test)]
+mod tests;
 mod wakes;
 
 use crate::measure::Failed;
