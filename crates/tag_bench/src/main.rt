@@ -13,6 +13,8 @@ mod options;
 mod pipes;
 mod plain;
 mod rounds;
+#[cfg(test)]
+mod tests;
 mod traffic;
 mod wakes;
 
