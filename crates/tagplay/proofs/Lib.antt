@@ -1,12 +1,1 @@
-pub mod LineFacts
-pub mod TagListFacts
-pub mod TextFacts
-pub mod DumpFacts
-pub mod WordFacts
-pub mod EventLineFacts
-pub mod OrderLineFacts
-pub mod ReadingFacts
-pub mod NumberFacts
-pub mod ClearingFacts
-pub mod CountFacts
-pub mod PlayFacts
+pub mod InputFacts

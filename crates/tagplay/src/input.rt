@@ -1,13 +1,11 @@
 //! Input, read whole.
-ghost use Rattle.std.specs.Prelude.{◌≡◌, ◌<◌, ◌≤◌, length, vec_len, IfOk, IfSome, IsErrOf, OnOk, Err};
-ghost use Rattle.tagplay.specs.declared.fault.RunFault.TheVariants.{Write, TooLong};
+ghost use Rattle.std.specs.Prelude.{◌≡◌, ◌≢◌, ◌≤◌, vec_len, IfOk, IfErr, IfSome};
+ghost use Rattle.tagplay.specs.Input.{Reads, Stops};
 
 use crate::fault::RunFault;
 use std::alloc::Global;
 use std::io::Read;
-
-/// The most bytes of input: 16 MiB.
-pub const MAX_INPUT: usize = 16_777_216;
+use tag_lines::MAX_INPUT;
 
 /// Bytes asked of the reader at a time.
 const PIECE: usize = 16_384;
@@ -16,8 +14,9 @@ const PIECE: usize = 16_384;
 pub(crate) fn read_whole<R: Read>(alloc: Global, reader: &mut R) -> Result<Vec<u8>, RunFault>
     ensures whole { IfOk result (λ input. IfSome (R.remaining reader.old) (λ bytes. input.items ≡ bytes)) }
     ensures short { IfOk result (λ input. vec_len input ≤ MAX_INPUT) }
-    ensures too_long { IsErrOf result RunFault.TooLong → IfSome (R.remaining reader.old) (λ bytes. MAX_INPUT < length bytes) }
-    ensures not_write { IsErrOf result RunFault.Write → ⊥ }
+    ensures read { IfOk result (λ input. Reads (R.remaining reader.old) (R.remaining reader.new) input.items) }
+    ensures stopped { IfErr result (λ fault. Stops fault (R.remaining reader.old) (R.remaining reader.new)) }
+    ensures not_write { IfErr result (λ fault. fault ≢ RunFault.Write) }
 {
     let mut input = Vec::new(alloc);
     let mut piece = [0; PIECE];

@@ -1,77 +1,45 @@
-//! What the command line says.
+//! The command line: its subcommands, their options and their help.
 use clap::{Arg, ArgAction, ArgMatches, Command, value_parser};
 use std::alloc::{AllocError, Global};
+use tag_script::{CheckOptions, ScriptOptions};
 
 /// How many tags a caller may win where nothing else is asked for: 2^48.
 const DEFAULT_LIFE: u64 = 281_474_976_710_656;
 
-/// The options of `script`.
-#[derive(Clone, Copy, Debug, PartialEq, Eq)]
-pub struct ScriptOptions {
-    /// Tags of the world.
-    pub tags: u32,
-    /// Tags among them that are kept for reserved gets. One caller alone has none.
-    pub reserved: u32,
-    /// Binary logarithm of the bits in a whole word. None: the default for so many tags.
-    pub shift: Option<u32>,
-    /// Whether gets go round: each begins behind the last tag won.
-    pub round_robin: bool,
-    /// The least depth of a shallow get. None: 1.
-    pub min_shallow: Option<u32>,
-    /// Callers of the world.
-    pub callers: u32,
-    /// How many tags a caller may win. One caller alone has no such bound.
-    pub life: u64,
-    /// Whether one caller has plain words alone.
-    pub plain: bool,
-}
-
-/// The options of `check`.
-#[derive(Clone, Copy, Debug, PartialEq, Eq)]
-pub struct CheckOptions {
-    /// Tags of the world.
-    pub tags: u32,
-    /// Binary logarithm of the bits in a whole word. None: the default for so many tags.
-    pub shift: Option<u32>,
-    /// Callers of the world.
-    pub callers: u32,
-}
-
 /// The command line that the program takes.
 pub(crate) fn command<'a>(alloc: Global) -> Result<Command<'a>, AllocError> {
     let script = Command::new(alloc, "script")
-        .about("Carries out a script, a command on each line, such as '0 get'")
+        .about("Carries out a script, one command a line, such as '0 get'")
         .arg(tags(alloc))?
         .arg(reserved(alloc))?
         .arg(shift(alloc))?
         .arg(round_robin(alloc))?
         .arg(min_shallow(alloc))?
         .arg(callers(alloc).help(
-            "How many callers there are; so far a script is carried out for caller 0 alone, and any number but 1 is refused",
+            "Number of callers; a script runs for caller 0 alone so far, and any number but 1 is refused",
         ))?
         .arg(life(alloc))?
         .arg(plain(alloc))?
         .after_help(
-            "A line is the caller, 0, and a command: get, shallow D, batch N, clear T, clear-batch T1 T2 .., busy, show or dump.\n\
-            Exit status: 0 done, 1 refused, 2 a command line that isn't one, 3 no memory, too long an input, or a fault of reading or writing.",
+            "Each line is the caller, 0, and a command: get, shallow D, batch N, clear T, clear-batch T1 T2 .., busy, show or dump.\n\
+            Exit status: 0 done, 1 refused, 2 mistaken command line, 3 out of memory, input too long, or a read or write fault.",
         );
     let check = Command::new(alloc, "check")
         .about(
-            "Says whether a list of events, one on each line, such as 'win 0 0 8', could have happened",
+            "Decides whether a list of events is possible, one event a line, such as 'win 0 0 8'",
         )
         .arg(tags(alloc))?
         .arg(shift(alloc))?
-        .arg(callers(alloc).help(
-            "How many callers there are, 1 to 64; they go by the numbers from 0",
-        ))?
+        .arg(callers(alloc).help("Number of callers, 1 to 64, numbered from 0"))?
         .after_help(
-            "A line is look, win C W M, give C W M, put C T, sweep C W, spill C W, post C T or take C T:\n\
-            caller C, word W, tag T, and the decimal mask M of the word's tags, its first tag at the low bit.\n\
-            Exit status: 0 it could, 1 refused, 2 a command line that isn't one, 3 no memory, too long an input, or a fault of reading or writing.",
+            "Each line is look, win C W M, give C W M, put C T, sweep C W, spill C W, post C T or take C T:\n\
+            caller C, word W, tag T, and decimal mask M, whose lowest bit is the word's first tag.\n\
+            Exit status: 0 possible, 1 refused, 2 mistaken command line, 3 out of memory, input too long, or a read or write fault.",
         );
     Command::new(alloc, "tagplay")
+        .version("0.1.0")
         .about(
-            "Plays with a tag allocator: reads lines from standard input, and writes the answers to standard output",
+            "Runs a tag allocator on lines of standard input, and writes the answers to standard output",
         )
         .subcommand_required(true)
         .subcommand(script)?
@@ -107,7 +75,7 @@ fn tags<'a>(alloc: Global) -> Arg<'a> {
         .value_name("N")
         .value_parser(value_parser!(u32))
         .required(true)
-        .help("How many tags there are, at most 10240")
+        .help("Number of tags, at most 10240")
 }
 
 fn shift<'a>(alloc: Global) -> Arg<'a> {
@@ -116,7 +84,7 @@ fn shift<'a>(alloc: Global) -> Arg<'a> {
         .value_name("S")
         .value_parser(value_parser!(u32))
         .help(
-            "Tags are kept in words of 2^S bits, S at most 6 [default: the greatest S with four whole words, and 6 for less than 4 tags]",
+            "Bits in a word, as the power 2^S, S at most 6 [default: the greatest S with four whole words, or 6 for fewer than 4 tags]",
         )
 }
 
@@ -134,16 +102,14 @@ fn reserved<'a>(alloc: Global) -> Arg<'a> {
         .value_name("R")
         .value_parser(value_parser!(u32))
         .default_value("0")
-        .help("How many of the tags are reserved; so far any number but 0 is refused")
+        .help("Number of reserved tags; so far any number but 0 is refused")
 }
 
 fn round_robin<'a>(alloc: Global) -> Arg<'a> {
     Arg::new(alloc, "round-robin")
         .long("round-robin")
         .action(ArgAction::SetTrue)
-        .help(
-            "Each get begins behind the last tag won, and takes no place before that in its first word",
-        )
+        .help("Starts each get behind the last tag won, and takes no earlier place in that word")
 }
 
 fn min_shallow<'a>(alloc: Global) -> Arg<'a> {
@@ -151,7 +117,7 @@ fn min_shallow<'a>(alloc: Global) -> Arg<'a> {
         .long("min-shallow")
         .value_name("M")
         .value_parser(value_parser!(u32))
-        .help("A shallow get of a lesser depth is refused [default: 1]")
+        .help("Least depth of a shallow get; a lesser one is refused [default: 1]")
 }
 
 fn life<'a>(alloc: Global) -> Arg<'a> {
@@ -160,12 +126,14 @@ fn life<'a>(alloc: Global) -> Arg<'a> {
         .value_name("L")
         .value_parser(value_parser!(u64))
         .default_value("281474976710656")
-        .help("How many tags a caller may win; so far not looked at")
+        .help("Most tags that a caller may win; not enforced so far")
 }
 
 fn plain<'a>(alloc: Global) -> Arg<'a> {
     Arg::new(alloc, "plain")
         .long("plain")
         .action(ArgAction::SetTrue)
-        .help("One caller has the map alone; so far a script without this option runs the same way")
+        .help(
+            "Runs over the plain words of one caller; so far a script does so without this option too",
+        )
 }

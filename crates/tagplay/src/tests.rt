@@ -1,6 +1,3 @@
-//! Tests of what no clause says, and the worked cases.
-mod dumps;
+//! Tests of what no clause says.
+mod command_lines;
 mod ends;
-mod lists;
-mod refusals;
-mod scripts;

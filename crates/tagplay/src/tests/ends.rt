@@ -1,8 +1,9 @@
 //! Readers and writers that fail, and inputs at the bound.
-use crate::{CheckOptions, Ending, RunFault, ScriptOptions, run_check, run_script};
+use crate::{RunFault, run_check, run_script};
 use std::io;
 use std::io::{Read, Write};
 use std::test::*;
+use tag_script::{CheckOptions, Ending, ScriptOptions};
 
 const FOUR: CheckOptions = CheckOptions {
     tags: 4,

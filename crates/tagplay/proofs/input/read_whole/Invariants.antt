@@ -1,7 +1,7 @@
 -- What was read and what is left are the input.
 use Rattle.std.proofs.Common.{◌≤◌, ◌-◌, ◌+◌, vec_len}
 use Rattle.std.specs.Io.KnownBytes.{Consumes}
-use Rattle.tagplay.specs.declared.input.TheConstants.{MAX_INPUT}
+use Rattle.tag_lines.specs.declared.lines.TheConstants.{MAX_INPUT}
 use Rattle.tagplay.proofs.input.read_whole.Given as goal
 
 -- what was read came off the front of the input

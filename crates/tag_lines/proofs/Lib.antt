@@ -1,0 +1,7 @@
+pub mod LineFacts
+pub mod TagListFacts
+pub mod WordFacts
+pub mod EventLineFacts
+pub mod OrderLineFacts
+pub mod ReadingFacts
+pub mod NumberFacts

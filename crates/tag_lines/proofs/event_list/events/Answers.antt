@@ -1,0 +1,43 @@
+-- Each line goes from the rest to the events, or is the first faulty one.
+use Rattle.std.proofs.Common.{◌≡◌, ◌<◌, ◌+◌, ◌∷◌, [], ◌++◌, length, sym, ◌∙◌, rules, arith}
+use Rattle.std.proofs.lemmas.Grind.{common_steps}
+use Rattle.tag_lines.specs.EventList.{event_of}
+use Rattle.tag_lines.proofs.LineFacts.{is_whole, has_rest, has_line, last_line, lines_of-cut}
+use Rattle.tag_lines.proofs.ReadingFacts.{said_on, first_faulty}
+use Rattle.tag_lines.proofs.event_list.events.Goals as goal
+
+pub returns-in-Err-clause-fault : goal.returns-in-Err-clause-fault
+returns-in-Err-clause-fault c =
+    let some : 0 < length c.loop-rest.rest.now = search rules in
+    let lines = has_line c.cut.result.1 (λ r. r.now) c.loop-rest.rest.now c.cut.result.0.now some c.cut.ensures.part
+    c.cut.ensures.whole in
+    first_faulty event_of c.args.text.now c.loop-rest.rest.now c.cut.result.0.now lines.0 c.loop-rest.events.items
+    c.in-Err.cause (c.len.result + 1)
+    c.loop-rest.invariant.said lines.1 (sym c.event.ensures ∙ c.in-Err.is) (omega (arith, c.len.ensures, c.loop-rest.events.ok.0))
+
+pub loop-rest-preserved-in-Some : goal.loop-rest-preserved-in-Some
+loop-rest-preserved-in-Some c =
+    let pushed : c.push.new.self.items ≡ c.loop-rest.events.items ++ c.in-Ok.event ∷ [] = search rules in
+    let whole = has_rest c.cut.result.1 (λ r. r.now) c.loop-rest.rest.now c.cut.result.0.now 10 c.in-Some.after
+    c.cut.ensures.whole c.in-Some.is in
+    let lines = lines_of-cut c.loop-rest.rest.now c.cut.result.0.now c.in-Some.after.now c.cut.ensures.part whole in
+    record {
+      said = rw pushed (said_on event_of c.args.text.now c.loop-rest.rest.now c.cut.result.0.now c.in-Some.after.now
+          c.loop-rest.events.items c.in-Ok.event
+          c.loop-rest.invariant.said lines (sym c.event.ensures ∙ c.in-Ok.is));
+      room = first_of (search rules, grind (arith, common_steps));
+    }
+
+pub loop-rest-preserved : goal.loop-rest-preserved
+loop-rest-preserved c =
+    let pushed : c.push.new.self.items ≡ c.loop-rest.events.items ++ c.in-Ok.event ∷ [] = search rules in
+    let some : 0 < length c.loop-rest.rest.now = search rules in
+    let whole = is_whole c.cut.result.1 (λ r. r.now) c.loop-rest.rest.now c.cut.result.0.now 10 c.cut.ensures.whole
+    c.in-None.is in
+    let lines = last_line c.loop-rest.rest.now c.cut.result.0.now some c.cut.ensures.part whole in
+    record {
+      said = rw pushed (said_on event_of c.args.text.now c.loop-rest.rest.now c.cut.result.0.now []
+          c.loop-rest.events.items c.in-Ok.event
+          c.loop-rest.invariant.said lines (sym c.event.ensures ∙ c.in-Ok.is));
+      room = first_of (search rules, grind (arith, common_steps));
+    }

@@ -1,0 +1,10 @@
+-- The number by which a text tells a line's fault.
+use Rattle.std.specs.Prelude.{ℕ}
+use Rattle.tag_lines.specs.declared.fault.LineFault.{LineFault}
+use Rattle.tag_lines.specs.declared.fault.LineFault.TheVariants.{BadLine, BadNumber, NoSuchCaller}
+
+-- of a line
+abbrev pub number_of_line_fault : LineFault → ℕ
+number_of_line_fault BadLine = 1
+number_of_line_fault BadNumber = 2
+number_of_line_fault NoSuchCaller = 3

@@ -1,0 +1,6 @@
+pub mod Lines
+pub mod Faults
+pub mod Readings
+pub mod EventList
+pub mod ScriptLines
+pub use Rattle.tag_model.specs.Event

@@ -1,0 +1,179 @@
+//! Lists of events, a line each.
+ghost use Rattle.std.specs.Prelude.{◌≡◌, ◌^◌, [], ◌∷◌, IfOk, IfErr};
+ghost use Rattle.tag_lines.specs.Lines.{words_of};
+ghost use Rattle.tag_lines.specs.Readings.{AreReadings, IsListFault};
+ghost use Rattle.tag_lines.specs.EventList.{event_of, single_of, masked_of, single_event, masked_event};
+
+use crate::fault::{FaultyLine, LineFault, ListFault};
+use crate::lines::{BLANK, LINE_FEED, cut, has_gap};
+use crate::numbers::{number, short_number};
+use std::alloc::Global;
+use tag_model::Event;
+
+/// The kinds of event that name a caller, and one tag or one word.
+#[derive(Clone, Copy, Debug, PartialEq, Eq)]
+pub enum Single {
+    /// Of a tag that the caller holds.
+    Put,
+    /// Of a word.
+    Sweep,
+    /// Of a word.
+    Spill,
+    /// Of a tag that the caller holds.
+    Post,
+    /// Of a posted tag.
+    Take,
+}
+
+impl Single {
+    /// The kind that goes by this name.
+    fn named(name: &[u8]) -> Option<Single>
+        ensures { result ≡ single_of name.now }
+    {
+        if name == b"put".as_slice() {
+            Some(Single::Put)
+        } else if name == b"sweep".as_slice() {
+            Some(Single::Sweep)
+        } else if name == b"spill".as_slice() {
+            Some(Single::Spill)
+        } else if name == b"post".as_slice() {
+            Some(Single::Post)
+        } else if name == b"take".as_slice() {
+            Some(Single::Take)
+        } else {
+            None
+        }
+    }
+
+    /// The event of this kind, by a caller, on a tag or a word.
+    fn event(self, caller: u32, on: u32) -> Event
+        ensures { result ≡ single_event self caller on }
+    {
+        match self {
+            Single::Put => Event::Put(caller, on),
+            Single::Sweep => Event::Sweep(caller, on),
+            Single::Spill => Event::Spill(caller, on),
+            Single::Post => Event::Post(caller, on),
+            Single::Take => Event::Take(caller, on),
+        }
+    }
+}
+
+/// The kinds of event that name a caller, a word and a mask.
+#[derive(Clone, Copy, Debug, PartialEq, Eq)]
+pub enum Masked {
+    /// Of free tags.
+    Win,
+    /// Of tags that the caller holds.
+    Give,
+}
+
+impl Masked {
+    /// The kind that goes by this name.
+    fn named(name: &[u8]) -> Option<Masked>
+        ensures { result ≡ masked_of name.now }
+    {
+        if name == b"win".as_slice() {
+            Some(Masked::Win)
+        } else if name == b"give".as_slice() {
+            Some(Masked::Give)
+        } else {
+            None
+        }
+    }
+
+    /// The event of this kind, by a caller, on the tags of a word whose bits are 1 in the mask.
+    fn event(self, caller: u32, word: u32, mask: u64) -> Event
+        ensures { result ≡ masked_event self caller word mask }
+    {
+        match self {
+            Masked::Win => Event::Win(caller, word, mask),
+            Masked::Give => Event::Give(caller, word, mask),
+        }
+    }
+}
+
+/// The events that the lines of a text spell, in order, or the first line that spells none.
+pub fn events(alloc: Global, text: &[u8]) -> Result<Vec<Event>, ListFault>
+    ensures events { IfOk result (λ events. AreReadings event_of text.now events.items) }
+    ensures fault { IfErr result (IsListFault event_of text.now) }
+{
+    let mut events = Vec::new(alloc);
+    let mut rest = text;
+    while !rest.is_empty() {
+        let (line, after) = cut(rest, LINE_FEED);
+        let event = match event(line) {
+            Ok(event) => event,
+            Err(cause) => {
+                let number = events.len() as u64 + 1;
+                return Err(ListFault::Faulty(FaultyLine { number, cause }));
+            }
+        };
+        if events.push(event).is_err() {
+            return Err(ListFault::Memory);
+        }
+        rest = match after {
+            Some(after) => after,
+            None => &[],
+        };
+    }
+    Ok(events)
+}
+
+// The event that a line spells.
+fn event(line: &[u8]) -> Result<Event, LineFault>
+    ensures { result ≡ event_of (words_of line.now) }
+{
+    if has_gap(line) {
+        return Err(LineFault::BadLine);
+    }
+    let (name, rest) = cut(line, BLANK);
+    let rest = match rest {
+        Some(rest) => rest,
+        None => return lone_event(name),
+    };
+    let (caller, rest) = cut(rest, BLANK);
+    let rest = match rest {
+        Some(rest) => rest,
+        None => return Err(LineFault::BadLine),
+    };
+    let (on, rest) = cut(rest, BLANK);
+    let rest = match rest {
+        Some(rest) => rest,
+        None => return single_event(name, caller, on),
+    };
+    let (mask, rest) = cut(rest, BLANK);
+    match rest {
+        Some(_) => Err(LineFault::BadLine),
+        None => masked_event(name, caller, on, mask),
+    }
+}
+
+fn lone_event(name: &[u8]) -> Result<Event, LineFault>
+    ensures { result ≡ event_of (name.now ∷ []) }
+{
+    if name == b"look".as_slice() {
+        Ok(Event::Look)
+    } else {
+        Err(LineFault::BadLine)
+    }
+}
+
+fn single_event(name: &[u8], caller: &[u8], on: &[u8]) -> Result<Event, LineFault>
+    ensures { result ≡ event_of (name.now ∷ caller.now ∷ on.now ∷ []) }
+{
+    let kind = Single::named(name).ok_or(LineFault::BadLine)?;
+    let caller = short_number(caller).ok_or(LineFault::BadNumber)?;
+    let on = short_number(on).ok_or(LineFault::BadNumber)?;
+    Ok(kind.event(caller, on))
+}
+
+fn masked_event(name: &[u8], caller: &[u8], word: &[u8], mask: &[u8]) -> Result<Event, LineFault>
+    ensures { result ≡ event_of (name.now ∷ caller.now ∷ word.now ∷ mask.now ∷ []) }
+{
+    let kind = Masked::named(name).ok_or(LineFault::BadLine)?;
+    let caller = short_number(caller).ok_or(LineFault::BadNumber)?;
+    let word = short_number(word).ok_or(LineFault::BadNumber)?;
+    let mask = number(mask).ok_or(LineFault::BadNumber)?;
+    Ok(kind.event(caller, word, mask))
+}

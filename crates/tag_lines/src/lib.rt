@@ -1,0 +1,18 @@
+//! How lines read: the words of a line, the numbers, orders and events that they spell.
+#![tactic(auto)]
+
+mod event_list;
+mod fault;
+mod lines;
+mod numbers;
+mod order;
+mod order_list;
+mod tag_list;
+
+pub use event_list::events;
+pub use fault::{FaultyLine, LineFault, ListFault};
+pub use lines::{BLANK, LINE_FEED, MAX_INPUT, cut, has_gap};
+pub use numbers::{number, short_number};
+pub use order::{Command, Order, read_order};
+pub use order_list::orders;
+pub use tag_list::{TagList, read_tags};

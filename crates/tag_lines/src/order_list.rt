@@ -1,0 +1,38 @@
+//! All lines of a script, before any is carried out.
+ghost use Rattle.std.specs.Prelude.{◌≡◌, ◌≤◌, length, vec_len, IfOk, IfErr};
+ghost use Rattle.tag_lines.specs.Readings.{AreReadings, IsListFault};
+ghost use Rattle.tag_lines.specs.ScriptLines.{order_of};
+
+use crate::fault::{FaultyLine, ListFault};
+use crate::lines::{LINE_FEED, cut};
+use crate::order::{Order, read_order};
+use std::alloc::Global;
+
+/// The orders that the lines of a script spell, in order, or the first line that spells none. `callers` bounds the callers' numbers.
+pub fn orders(alloc: Global, callers: u32, text: &[u8]) -> Result<Vec<Order>, ListFault>
+    ensures orders { IfOk result (λ orders. AreReadings (order_of callers) text.now orders.items) }
+    ensures few { IfOk result (λ orders. vec_len orders ≤ length text.now) }
+    ensures fault { IfErr result (IsListFault (order_of callers) text.now) }
+{
+    let mut orders = Vec::new(alloc);
+    let mut rest = text;
+    while !rest.is_empty() {
+        let (line, after) = cut(rest, LINE_FEED);
+        let order = match read_order(alloc, callers, line) {
+            Ok(Ok(order)) => order,
+            Ok(Err(cause)) => {
+                let number = orders.len() as u64 + 1;
+                return Err(ListFault::Faulty(FaultyLine { number, cause }));
+            }
+            Err(_) => return Err(ListFault::Memory),
+        };
+        if orders.push(order).is_err() {
+            return Err(ListFault::Memory);
+        }
+        rest = match after {
+            Some(after) => after,
+            None => &[],
+        };
+    }
+    Ok(orders)
+}

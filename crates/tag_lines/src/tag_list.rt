@@ -1,0 +1,48 @@
+//! Lists of tags, as a line names them.
+ghost use Rattle.std.specs.Prelude.{◌≡◌, ◌^◌, IfOk};
+ghost use Rattle.tag_lines.specs.Lines.{parts_of, numbers_below};
+
+use crate::lines::{BLANK, cut};
+use crate::numbers::short_number;
+use std::alloc::{AllocError, Global};
+use std::marker::Model;
+
+/// A list of tags. A clause sees the list. It is boxed, so that the orders of a script, most of which have none, are small.
+#[derive(Debug, Drop)]
+pub struct TagList(Box<Vec<u32>>);
+
+impl Model for TagList {
+    ghost use Rattle.std.specs.Prelude.{ℕ, List};
+
+    ghost Value = { List ℕ };
+
+    ghost view = { λ tags. tags.0.value.items };
+}
+
+impl TagList {
+    /// The tags in order.
+    pub fn as_slice(&self) -> &[u32]
+        ensures { result.now ≡ self.now }
+    {
+        self.0.as_slice()
+    }
+}
+
+/// The numbers that words spell, one blank between two of them, if each spells one that fits 32 bits.
+pub fn read_tags(alloc: Global, words: &[u8]) -> Result<Option<TagList>, AllocError>
+    ensures { IfOk result (λ tags. tags ≡ numbers_below (2 ^ 32) (parts_of words.now)) }
+{
+    let mut tags = Vec::new(alloc);
+    let mut rest = words;
+    loop {
+        let (word, after) = cut(rest, BLANK);
+        match short_number(word) {
+            Some(tag) => tags.push(tag)?,
+            None => return Ok(None),
+        }
+        rest = match after {
+            Some(after) => after,
+            None => return Ok(Some(TagList(Box::new(alloc, tags)?))),
+        };
+    }
+}

@@ -1,0 +1,5 @@
+pub mod TextFacts
+pub mod DumpFacts
+pub mod ClearingFacts
+pub mod CountFacts
+pub mod PlayFacts

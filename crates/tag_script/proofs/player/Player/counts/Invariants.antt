@@ -1,0 +1,17 @@
+-- The words so far are counted, and nothing is changed.
+use Rattle.std.proofs.Common.{◌≡◌, ◌≤◌, ◌*◌, min}
+use Rattle.tag_layout.specs.Layout.{word_bits}
+use Rattle.tag_model.specs.Totals.{count_below}
+use Rattle.tag_script.specs.Players.{solo_of}
+use Rattle.tag_script.specs.Solo.{is_held, is_aside}
+use Rattle.tag_script.proofs.player.Player.counts.Given as goal
+
+-- the words so far are counted
+abbrev pub invariant-loop-word : goal.invariant-loop-word
+invariant-loop-word l = record {
+  same : solo_of l.self ≡ solo_of l.fn.self;
+  held : l.held ≡ count_below (is_held (solo_of l.self)) (min (l.word * word_bits l.self.port.layout) l.self.port.layout.depth);
+  aside : l.aside ≡ count_below (is_aside (solo_of l.self)) (min (l.word * word_bits l.self.port.layout) l.self.port.layout.depth);
+  few_held : l.held ≤ 64 * l.word;
+  few_aside : l.aside ≤ 64 * l.word;
+}

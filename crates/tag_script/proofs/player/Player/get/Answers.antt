@@ -1,0 +1,24 @@
+-- The choice, with the tag counted.
+use Rattle.std.proofs.Common.{refl, rules}
+use Rattle.tag_script.proofs.PlayFacts.{counts_one, counts_none}
+use Rattle.tag_script.proofs.player.Player.get.Goals as goal
+
+pub returns-then-is_some : goal.returns-then-is_some
+returns-then-is_some c = record {
+  layout = c.choose-answer.ensures.layout;
+  least = refl;
+  choice = c.choose-answer.ensures.choice;
+  hint = c.choose-answer.ensures.hint;
+  won = counts_one c.args.self.now.won c.choose-answer.result (search rules);
+  back = refl;
+}
+
+pub returns-else-is_some : goal.returns-else-is_some
+returns-else-is_some c = record {
+  layout = c.choose-answer.ensures.layout;
+  least = refl;
+  choice = c.choose-answer.ensures.choice;
+  hint = c.choose-answer.ensures.hint;
+  won = counts_none c.args.self.now.won c.choose-answer.result (search rules);
+  back = refl;
+}

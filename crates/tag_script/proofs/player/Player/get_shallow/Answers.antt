@@ -1,0 +1,28 @@
+-- A depth that isn't refused is searched, and the tag counted.
+use Rattle.std.proofs.Common.{refl, arith, rules}
+use Rattle.tag_script.specs.Solo.{too_shallow, deep_enough}
+use Rattle.tag_script.proofs.PlayFacts.{counts_one, counts_none}
+use Rattle.tag_script.proofs.player.Player.get_shallow.Goals as goal
+
+pub returns-then-depth-self : goal.returns-then-depth-self
+returns-then-depth-self c = too_shallow (omega arith)
+
+pub returns-then-is_some : goal.returns-then-is_some
+returns-then-is_some c = deep_enough c.choose_shallow-answer.result _ (omega arith) (record {
+  layout = c.choose_shallow-answer.ensures.layout;
+  least = refl;
+  choice = c.choose_shallow-answer.ensures.choice;
+  hint = c.choose_shallow-answer.ensures.hint;
+  won = counts_one c.args.self.now.won c.choose_shallow-answer.result (search rules);
+  back = refl;
+})
+
+pub returns-else-is_some : goal.returns-else-is_some
+returns-else-is_some c = deep_enough c.choose_shallow-answer.result _ (omega arith) (record {
+  layout = c.choose_shallow-answer.ensures.layout;
+  least = refl;
+  choice = c.choose_shallow-answer.ensures.choice;
+  hint = c.choose_shallow-answer.ensures.hint;
+  won = counts_none c.args.self.now.won c.choose_shallow-answer.result (search rules);
+  back = refl;
+})

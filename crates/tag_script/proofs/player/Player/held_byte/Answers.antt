@@ -1,0 +1,22 @@
+-- A byte has room for eight bits.
+use Rattle.std.proofs.Common.{◌≡◌, ◌*◌, ◌%◌, ◌^◌, ◌<◌, ap, ◌∙◌, arith}
+use Rattle.std.proofs.lemmas.Nat.{one_shl, pow_below}
+use Rattle.tag_layout.specs.Sums.{sum_below}
+use Rattle.tag_script.specs.Dump.{bit_value}
+use Rattle.tag_script.specs.Players.{solo_of}
+use Rattle.tag_script.proofs.DumpFacts.{bits-below}
+use Rattle.tag_script.proofs.player.Player.held_byte.Goals as goal
+
+pub overflow_add-byte : goal.overflow_add-byte
+overflow_add-byte c =
+    let n = c.loop-bit.bit in
+    let few : n < 8 = omega arith in
+    let bit : 1 * 2 ^ n % 2 ^ 32 ≡ 2 ^ n = one_shl n 32 (omega arith) in
+    let low = pow_below n 8 few in
+    let before = bits-below (solo_of c.args.self.now) c.args.offset n in
+    omega (arith, c.loop-bit.invariant)
+
+pub returns : goal.returns
+returns c =
+    let all : c.loop-bit.bit ≡ 8 = omega arith in
+    c.loop-bit.invariant ∙ ap (sum_below (bit_value (solo_of c.args.self.now) c.args.offset)) all

@@ -1,0 +1,85 @@
+-- What `check` says of a list of events.
+use Rattle.std.specs.Prelude.{◌≡◌, ◌⊎◌, ℕ, ◌+◌, ◌<◌, ◌≤◌, List, ◌++◌, length, IsSomeAnd, codes}
+use Rattle.tag_layout.specs.Layout.{Layout}
+use Rattle.tag_layout.specs.declared.layout.TheConstants.{MAX_DEPTH, MAX_SHIFT}
+use Rattle.tag_model.specs.declared.event.Event.{Event}
+use Rattle.tag_model.specs.declared.world.TheConstants.{MAX_CALLERS}
+use Rattle.tag_model.specs.World.{World, opened}
+use Rattle.tag_model.specs.Runs.{after_all, MayRun, StopsAt}
+use Rattle.tag_model.specs.Totals.{AreTotals}
+use Rattle.tag_script.specs.declared.options.CheckOptions.{CheckOptions}
+use Rattle.tag_script.specs.declared.fault.SetupFault.{SetupFault}
+use Rattle.tag_script.specs.declared.fault.SetupFault.TheVariants.{TotalTooLarge, ReservedTooLarge, ShiftTooLarge, CallerCount}
+use Rattle.tag_script.specs.declared.ending.Ending.{Ending}
+use Rattle.tag_script.specs.declared.ending.Ending.TheVariants.{Done, Refused}
+use Rattle.tag_script.specs.declared.fault.Closed.{Closed}
+use Rattle.tag_script.specs.declared.fault.Closed.TheVariants as closed
+use Rattle.tag_script.specs.declared.check.Verdict.{Verdict}
+use Rattle.tag_script.specs.declared.check.Verdict.TheVariants.{Faulty, Setup, Stopped, Legal}
+use Rattle.tag_script.specs.Faults.{number_of_event_fault}
+use Rattle.tag_lines.specs.Readings.{AreReadings, IsFirstFaulty}
+use Rattle.tag_lines.specs.EventList.{event_of}
+use Rattle.tag_script.specs.Setups.{IsLayoutOf}
+use Rattle.tag_script.specs.Texts.{field, totals_text, faulty_text, setup_text}
+
+-- there are as many callers as a world can have
+abbrev pub HasCallers : CheckOptions → Type 0
+HasCallers o = (1 ≤ o.callers) × (o.callers ≤ MAX_CALLERS)
+
+-- the first cause for which there is no such world
+abbrev pub IsSetupFault : CheckOptions → SetupFault → Type 0
+IsSetupFault o TotalTooLarge = MAX_DEPTH < o.tags
+IsSetupFault o ReservedTooLarge = ⊥
+IsSetupFault o ShiftTooLarge = (o.tags ≤ MAX_DEPTH) × IsSomeAnd o.shift (λ s. MAX_SHIFT < s)
+IsSetupFault o CallerCount = (l : Layout) × IsLayoutOf o.tags o.shift l × ((o.callers ≡ 0) ⊎ (MAX_CALLERS < o.callers))
+
+-- no memory, or such a cause
+abbrev pub IsClosed : CheckOptions → Closed → Type 0
+IsClosed o closed.Memory = Unit {0}
+IsClosed o (closed.Setup fault) = IsSetupFault o fault
+
+-- what a run of events says: line n has the event at place n - 1
+abbrev pub IsRunVerdict : Layout → ℕ → World → List Event → Verdict → Type 0
+IsRunVerdict l callers w events (Faulty fault) = ⊥
+IsRunVerdict l callers w events (Setup fault) = ⊥
+IsRunVerdict l callers w events (Stopped line fault) = (place : ℕ) × (line ≡ place + 1) × StopsAt l callers w events place fault
+IsRunVerdict l callers w events (Legal count totals) =
+    (count ≡ length events) × MayRun l callers w events × AreTotals l callers (after_all l events w) totals
+
+-- each line is an event, and the world opens for them
+pub record IsRun (o : CheckOptions) (text : List ℕ) (verdict : Verdict) : Type 0 where
+  pub events : List Event
+  pub layout : Layout
+  pub lines : AreReadings event_of text events
+  pub layout_is : IsLayoutOf o.tags o.shift layout
+  pub callers : HasCallers o
+  pub run : IsRunVerdict layout o.callers opened events verdict
+
+-- what there is to say of a text: its first faulty line, else why the setup is refused, else what the run says
+abbrev pub IsVerdict : CheckOptions → List ℕ → Verdict → Type 0
+IsVerdict o text (Faulty fault) = IsFirstFaulty event_of text fault
+IsVerdict o text (Setup fault) = (events : List Event) × AreReadings event_of text events × IsSetupFault o fault
+IsVerdict o text (Stopped line fault) = IsRun o text (Stopped line fault)
+IsVerdict o text (Legal count totals) = IsRun o text (Legal count totals)
+
+-- the one line that tells a verdict
+abbrev pub verdict_text : Verdict → List ℕ
+verdict_text (Faulty fault) = faulty_text fault
+verdict_text (Setup fault) = setup_text fault
+verdict_text (Stopped line fault) =
+    field (codes "event ") line ++ field (codes " refused ") (number_of_event_fault fault) ++ codes "\n"
+verdict_text (Legal count totals) = field (codes "ok events=") count ++ totals_text totals ++ codes "\n"
+
+-- only a legal list is no refusal
+abbrev pub ending_of : Verdict → Ending
+ending_of (Faulty fault) = Refused
+ending_of (Setup fault) = Refused
+ending_of (Stopped line fault) = Refused
+ending_of (Legal count totals) = Done
+
+-- the text that a list is told, and whether it is a refusal: those of its verdict
+pub record Tells (o : CheckOptions) (list text : List ℕ) (ending : Ending) : Type 0 where
+  pub verdict : Verdict
+  pub verdict_is : IsVerdict o list verdict
+  pub text_is : text ≡ verdict_text verdict
+  pub ending_is : ending ≡ ending_of verdict

@@ -1,0 +1,65 @@
+//! Lists of tags that are given back at once.
+ghost use Rattle.std.specs.Prelude.{◌≡◌, ◌≢◌, ℕ, ◌<◌, ◌≤◌, ◌⊎◌, true, false, length, MatchBool};
+ghost use Rattle.std.specs.List.{All, AllPairs, Any};
+ghost use Rattle.tag_layout.specs.Layout.{word_of, place_of};
+ghost use Rattle.tag_search.specs.Plain.{words_of};
+ghost use Rattle.tag_search.specs.Pool.{pool_of, is_busy};
+ghost use Rattle.tag_script.specs.Solo.{freed, NamesTwice};
+
+use tag_search::{PlainPort, Port};
+
+/// Whether each number of the list is below the depth.
+pub(crate) fn are_below(tags: &[u32], depth: u32) -> bool
+    ensures { MatchBool result (All (λ tag. tag < depth) tags.now) (Any (λ tag. depth ≤ tag) tags.now) }
+{
+    for tag in tags {
+        if *tag >= depth {
+            return false;
+        }
+    }
+    true
+}
+
+/// Whether each tag of the list is held, and none stands there twice.
+// Each is compared with those before it: of 64 tags, 2,016 comparisons at most.
+pub(crate) fn are_held_once(port: &PlainPort, tags: &[u32]) -> bool
+    requires { All (λ tag. tag < port.now.layout.depth) tags.now }
+    ensures { let l = port.now.layout in let held = λ (tag : ℕ). is_busy (pool_of (words_of port.now)) (word_of l tag) (place_of l tag) in
+        MatchBool result
+        (All (λ tag. held tag ≡ true) tags.now × AllPairs (λ a b. a ≢ b) tags.now)
+        (Any (λ tag. held tag ≡ false) tags.now ⊎ NamesTwice tags.now) }
+{
+    for i in 0..tags.len() {
+        if !port.taken(tags[i]) || tags[..i].contains(&tags[i]) {
+            return false;
+        }
+    }
+    true
+}
+
+/// Frees the tags of the list. Those of one word that follow each other are one step.
+pub(crate) fn give_all(port: &mut PlainPort, tags: &[u32])
+    requires some { 1 ≤ length tags.now }
+    requires there { All (λ tag. tag < port.old.layout.depth) tags.now }
+    requires held { let l = port.old.layout in
+        All (λ tag. is_busy (pool_of (words_of port.old)) (word_of l tag) (place_of l tag) ≡ true) tags.now }
+    requires once { AllPairs (λ a b. a ≢ b) tags.now }
+    ensures layout { port.new.layout ≡ port.old.layout }
+    ensures pool { pool_of (words_of port.new) ≡ freed port.old.layout tags.now (pool_of (words_of port.old)) }
+{
+    let layout = port.layout();
+    let mut word = layout.word_of(tags[0]);
+    let mut mask = 0u64;
+    for tag in tags {
+        let here = layout.word_of(*tag);
+        let bit = 1u64 << layout.place_of(*tag);
+        if here == word {
+            mask |= bit;
+        } else {
+            port.give(word, mask);
+            word = here;
+            mask = bit;
+        }
+    }
+    port.give(word, mask);
+}

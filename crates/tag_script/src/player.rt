@@ -1,0 +1,240 @@
+//! One caller alone with a map, as a script moves it.
+ghost use Rattle.std.specs.Prelude.{◌≡◌, ◌+◌, ◌*◌, ◌^◌, ◌<◌, ◌≤◌, IfOk, ◌↔◌, IsTrue};
+ghost use Rattle.tag_script.specs.Solo.{opened, Gets, GetsShallow, Batches, Clears, ClearsBatch, won_in, held_in, aside_in};
+ghost use Rattle.tag_layout.specs.Layout.{words, word_bits};
+ghost use Rattle.tag_script.specs.Commands.{get_visits, shown_of};
+ghost use Rattle.tag_script.specs.Dump.{is_held_tag};
+ghost use Rattle.tag_script.specs.Players.{solo_of, IsReadyFor, Counted, IsHeldMask};
+
+use crate::clearing::{are_below, are_held_once, give_all};
+use crate::fault::TagFault;
+use std::alloc::{AllocError, Global};
+use tag_layout::Layout;
+use tag_search::{Hint, PlainPort, Port, after_clear};
+
+/// The most tags of a list that are given back at once.
+const MAX_LIST: usize = 64;
+
+/// The sizes of a map and the sums of its words.
+#[derive(Clone, Copy, Debug, PartialEq, Eq)]
+pub struct Shown {
+    /// Tags in all.
+    pub depth: u64,
+    /// Tags that are held.
+    pub busy: u64,
+    /// Tags that are set aside.
+    pub cleared: u64,
+    /// Bits in a whole word.
+    pub bits_per_word: u64,
+    /// Words in all.
+    pub map_nr: u64,
+}
+
+/// One caller alone with a map. A clause sees its world by `solo_of`.
+#[derive(Drop)]
+pub(crate) struct Player {
+    port: PlainPort,
+    /// The least depth of a shallow get, 1 at least.
+    least: u32,
+    hint: Hint,
+    /// Tags won so far.
+    won: u64,
+    /// Tags given back so far.
+    back: u64,
+}
+
+impl Player {
+    /// A caller who begins, with all tags free.
+    pub(crate) fn open(
+        alloc: Global,
+        layout: Layout,
+        round_robin: bool,
+        least: u32,
+    ) -> Result<Player, AllocError>
+        ensures { IfOk result (λ player. solo_of player ≡ opened layout round_robin least) }
+    {
+        let port = PlainPort::open(alloc, layout)?;
+        let hint = Hint { at: 0, round_robin };
+        Ok(Player {
+            port,
+            least,
+            hint,
+            won: 0,
+            back: 0,
+        })
+    }
+
+    /// Tags won so far.
+    pub(crate) fn won(&self) -> u64
+        ensures { result ≡ (solo_of self.now).won }
+    {
+        self.won
+    }
+
+    /// Tags given back so far.
+    pub(crate) fn back(&self) -> u64
+        ensures { result ≡ (solo_of self.now).back }
+    {
+        self.back
+    }
+
+    /// A free tag, or else one set aside.
+    pub(crate) fn get(&mut self) -> Option<u32>
+        requires { IsReadyFor 1 (solo_of self.old) }
+        ensures { Gets (get_visits (solo_of self.old)) (solo_of self.old) result (solo_of self.new) }
+    {
+        let answer = self.port.choose(&mut self.hint);
+        if answer.is_some() {
+            self.won += 1;
+        }
+        answer
+    }
+
+    /// The same over so many tags of the whole map alone.
+    pub(crate) fn get_shallow(&mut self, depth: u32) -> Result<Option<u32>, TagFault>
+        requires ready { IsReadyFor 1 (solo_of self.old) }
+        ensures { GetsShallow depth (solo_of self.old) result (solo_of self.new) }
+    {
+        if depth < self.least {
+            return Err(TagFault::TooShallow);
+        }
+        let answer = self.port.choose_shallow(&mut self.hint, depth);
+        if answer.is_some() {
+            self.won += 1;
+        }
+        Ok(answer)
+    }
+
+    /// Free tags among so many side by side: the first tag, and the mask of those won, its bit lowest.
+    pub(crate) fn get_batch(&mut self, n: u32) -> Result<Option<(u32, u64)>, TagFault>
+        requires ready { IsReadyFor 1 (solo_of self.old) }
+        ensures batch { Batches n (solo_of self.old) result (solo_of self.new) }
+        ensures counted { Counted (solo_of self.old) (solo_of self.new) }
+    {
+        if n == 0 || u64::from(n) > bits_per_word(self.port.layout()) {
+            return Err(TagFault::BadCount);
+        }
+        if self.hint.round_robin {
+            return Ok(None);
+        }
+        let answer = self.port.choose_batch(&mut self.hint, n);
+        self.won += won_in(answer);
+        Ok(answer)
+    }
+
+    /// Gives a tag back.
+    pub(crate) fn clear(&mut self, tag: u32) -> Result<(), TagFault>
+        requires { IsReadyFor 1 (solo_of self.old) }
+        ensures { Clears tag (solo_of self.old) result (solo_of self.new) }
+    {
+        if tag >= self.port.layout().depth() {
+            return Err(TagFault::NoSuchTag);
+        }
+        if !self.port.taken(tag) {
+            return Err(TagFault::NotHeld);
+        }
+        self.port.put(tag);
+        after_clear(&mut self.hint, tag);
+        self.back += 1;
+        Ok(())
+    }
+
+    /// Gives tags back at once: they are free, and not set aside for a later get to free.
+    pub(crate) fn clear_batch(&mut self, tags: &[u32]) -> Result<(), TagFault>
+        requires { IsReadyFor 1 (solo_of self.old) }
+        ensures { ClearsBatch tags.now (solo_of self.old) result (solo_of self.new) }
+    {
+        if tags.is_empty() || tags.len() > MAX_LIST {
+            return Err(TagFault::BadCount);
+        }
+        if !are_below(tags, self.port.layout().depth()) {
+            return Err(TagFault::NoSuchTag);
+        }
+        if !are_held_once(&self.port, tags) {
+            return Err(TagFault::NotHeld);
+        }
+        give_all(&mut self.port, tags);
+        after_clear(&mut self.hint, tags[tags.len() - 1]);
+        self.back += tags.len() as u64;
+        Ok(())
+    }
+
+    /// How many tags the caller holds, and how many are set aside.
+    pub(crate) fn counts(&mut self) -> (u64, u64)
+        ensures same { solo_of self.new ≡ solo_of self.old }
+        ensures held { result.0 ≡ held_in (solo_of self.old) }
+        ensures aside { result.1 ≡ aside_in (solo_of self.old) }
+    {
+        let layout = self.port.layout();
+        let mut held = 0u64;
+        let mut aside = 0u64;
+        for word in 0..layout.words() {
+            let usable = layout.usable(word);
+            let set = self.port.look(word);
+            let cleared = self.port.look_aside(word);
+            held += u64::from((set & usable & !cleared).count_ones());
+            aside += u64::from((cleared & usable).count_ones());
+        }
+        (held, aside)
+    }
+
+    /// The tags of a word that the caller holds, as a mask.
+    pub(crate) fn look_held(&mut self, word: u32) -> u64
+        requires { word < words (solo_of self.old).layout }
+        ensures same { solo_of self.new ≡ solo_of self.old }
+        ensures held { IsHeldMask (solo_of self.old) word result }
+    {
+        let usable = self.port.layout().usable(word);
+        let set = self.port.look(word);
+        let cleared = self.port.look_aside(word);
+        set & usable & !cleared
+    }
+
+    /// The caller holds the tag. None behind the last is held.
+    pub(crate) fn holds(&self, tag: u32) -> bool
+        ensures { result ≡ is_held_tag (solo_of self.now) tag }
+    {
+        tag < self.port.layout().depth() && self.port.taken(tag)
+    }
+
+    /// The layout of the map.
+    pub(crate) fn layout(&self) -> Layout
+        ensures { result ≡ (solo_of self.now).layout }
+    {
+        self.port.layout()
+    }
+
+    /// What there is to show.
+    pub(crate) fn shown(&mut self) -> Shown
+        ensures same { solo_of self.new ≡ solo_of self.old }
+        ensures shown { result ≡ shown_of (solo_of self.old) }
+    {
+        let (busy, cleared) = self.counts();
+        let layout = self.port.layout();
+        Shown {
+            depth: u64::from(layout.depth()),
+            busy,
+            cleared,
+            bits_per_word: bits_per_word(layout),
+            map_nr: u64::from(layout.words()),
+        }
+    }
+}
+
+// How many tags a batch gives.
+fn won_in(answer: Option<(u32, u64)>) -> u64
+    ensures value { result ≡ won_in answer }
+    ensures few { result ≤ 64 }
+{
+    match answer {
+        Some((_, bits)) => u64::from(bits.count_ones()),
+        None => 0,
+    }
+}
+
+// The bits in a whole word.
+fn bits_per_word(layout: Layout) -> u64
+    ensures { result ≡ word_bits layout }
+{
+    1 << layout.shift()
+}

@@ -1,7 +1,0 @@
--- A shift of one is a power of two.
-use Rattle.std.proofs.Common.{◌^◌, ap, ◌∙◌, arith}
-use Rattle.std.proofs.lemmas.Nat.{one_shl}
-use Rattle.tagplay.proofs.player.bits_per_word.Goals as goal
-
-pub returns : goal.returns
-returns c = one_shl c.shift.result 64 (omega (arith, c.shift.ensures.bound)) ∙ ap (λ s. 2 ^ s) c.shift.ensures.value

@@ -1,0 +1,40 @@
+-- What a run writes: the text that its input is owed.
+use Rattle.std.specs.Prelude.{◌≡◌, ℕ, ◌≤◌, List, length, Option, IfSome, codes}
+use Rattle.std.specs.Io.KnownBytes.{Appends}
+use Rattle.tag_lines.specs.declared.lines.TheConstants.{MAX_INPUT}
+use Rattle.tag_script.specs.declared.ending.Ending.{Ending}
+use Rattle.tag_script.specs.Check.{Tells}
+use Rattle.tag_script.specs.Script.{Owed}
+use Rattle.tagplay.specs.declared.choice.Choice.{Choice}
+use Rattle.tagplay.specs.declared.choice.Choice.TheVariants.{Script, Check}
+
+-- the subcommand's name
+abbrev pub name_of : Choice → List ℕ
+name_of (Script options) = codes "script"
+name_of (Check options) = codes "check"
+
+-- what the run that was chosen owes
+abbrev pub owed_by : Choice → List ℕ → List ℕ → Ending → Type 0
+owed_by (Script options) = Owed options
+owed_by (Check options) = Tells options
+
+-- the text is owed to some bytes, which are the reader's where those are known
+pub record Answers (owes : List ℕ → List ℕ → Ending → Type 0) (input : Option (List ℕ)) (text : List ℕ) (ending : Ending)
+    : Type 0 where
+  pub bytes : List ℕ
+  pub short : length bytes ≤ MAX_INPUT
+  pub read : IfSome input (λ known. bytes ≡ known)
+  pub owed : owes bytes text ending
+
+-- what the writer gained is such a text
+pub record Writes (owes : List ℕ → List ℕ → Ending → Type 0) (input before after : Option (List ℕ)) (ending : Ending)
+    : Type 0 where
+  pub text : List ℕ
+  pub answers : Answers owes input text ending
+  pub written : Appends before after text
+
+-- there is such a text, with some ending
+pub record HasAnswer (owes : List ℕ → List ℕ → Ending → Type 0) (input : Option (List ℕ)) : Type 0 where
+  pub text : List ℕ
+  pub ending : Ending
+  pub answers : Answers owes input text ending

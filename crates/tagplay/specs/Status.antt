@@ -1,0 +1,13 @@
+-- The exit status of a run.
+use Rattle.std.specs.Prelude.{ℕ, Result, Ok, Err}
+use Rattle.tag_script.specs.declared.ending.Ending.{Ending}
+use Rattle.tag_script.specs.declared.ending.Ending.TheVariants.{Done, Refused}
+use Rattle.tagplay.specs.declared.stop.Stop.{Stop}
+use Rattle.tagplay.specs.declared.stop.Stop.TheVariants.{CommandLine, Run}
+
+-- done, refused, the command line's own, and any fault of a run
+abbrev pub status_of : Result Ending Stop → ℕ
+status_of (Ok Done) = 0
+status_of (Ok Refused) = 1
+status_of (Err (CommandLine status)) = status
+status_of (Err (Run fault)) = 3

@@ -1,0 +1,33 @@
+//! The subcommand that a command line names.
+ghost use Rattle.std.specs.Prelude.{◌≡◌, Some, IfSome};
+ghost use Rattle.clap.specs.Matches.{subcommand_name_of};
+ghost use Rattle.tagplay.specs.Runs.{name_of};
+
+use crate::options::{check_options, script_options};
+use clap::ArgMatches;
+use tag_script::{CheckOptions, ScriptOptions};
+
+/// What a command line asks for.
+#[derive(Clone, Copy, Debug, PartialEq, Eq)]
+pub enum Choice {
+    /// A script is carried out.
+    Script(ScriptOptions),
+    /// A list of events is checked.
+    Check(CheckOptions),
+}
+
+impl Choice {
+    /// The run that the subcommand names, with its options.
+    pub(crate) fn named(matches: &ArgMatches) -> Option<Choice>
+        ensures { IfSome result (λ choice. subcommand_name_of matches.now ≡ Some (name_of choice)) }
+    {
+        let (name, options) = matches.subcommand()?;
+        if name == "script" {
+            Some(Choice::Script(script_options(options)))
+        } else if name == "check" {
+            Some(Choice::Check(check_options(options)))
+        } else {
+            None
+        }
+    }
+}

@@ -1,0 +1,55 @@
+//! From the words of a command line to the run that they ask for.
+ghost use Rattle.std.specs.Prelude.{◌≡◌, IfOk};
+ghost use Rattle.tagplay.specs.declared.choice.Choice.{Choice as Chosen};
+ghost use Rattle.tagplay.specs.Runs.{owed_by, Writes};
+
+use crate::choice::Choice;
+use crate::fault::RunFault;
+use crate::options;
+use crate::stop::Stop;
+use clap::error::ErrorKind;
+use std::convert::AsStr;
+use std::env;
+use std::io::{Read, Write};
+use std::rt::Env;
+use tag_script::Ending;
+
+/// The words of the process's own command line.
+pub(crate) fn words<R: AllocGlobal + Env>(rt: &R) -> Result<Vec<String>, RunFault> {
+    match env::args(rt) {
+        Ok(args) => args.collect(rt.alloc()).map_err(|_| RunFault::Memory),
+        Err(_) => Err(RunFault::Memory),
+    }
+}
+
+/// Runs what the words ask for. Help goes to standard output, a mistake of the words to standard error.
+pub(crate) fn play<P: AllocGlobal + Print + Eprint, S: AsStr, R: Read, W: Write>(
+    rt: &P,
+    words: &[S],
+    reader: &mut R,
+    writer: &mut W,
+) -> Result<Ending, Stop>
+    ensures { IfOk result (λ ending. (choice : Chosen)
+        × Writes (owed_by choice) (R.remaining reader.old) (W.contents writer.old) (W.contents writer.new) ending) }
+{
+    let choice = chosen(rt, words)?;
+    choice.run(rt.alloc(), reader, writer).map_err(Stop::Run)
+}
+
+/// What the words ask for.
+pub(crate) fn chosen<P: AllocGlobal + Print + Eprint, S: AsStr>(
+    rt: &P,
+    words: &[S],
+) -> Result<Choice, Stop> {
+    let command = options::command(rt.alloc()).map_err(|_| Stop::Run(RunFault::Memory))?;
+    match command.try_get_matches_from(words) {
+        Ok(matches) => Choice::named(&matches).ok_or(Stop::CommandLine(2)),
+        Err(error) => {
+            if error.kind() == ErrorKind::OutOfMemory {
+                return Err(Stop::Run(RunFault::Memory));
+            }
+            let _ = error.print(rt);
+            Err(Stop::CommandLine(error.exit_code() as u8))
+        }
+    }
+}

@@ -1,0 +1,86 @@
+//! Runs: the input is read whole, then answered, and then the text is written.
+ghost use Rattle.std.specs.Prelude.{◌≡◌, ◌≢◌, IfOk, IfErr, IsErrOf};
+ghost use Rattle.tag_script.specs.Check.{Tells};
+ghost use Rattle.tag_script.specs.Script.{Owed};
+ghost use Rattle.tagplay.specs.Input.{Stops};
+ghost use Rattle.tagplay.specs.Runs.{owed_by, HasAnswer, Writes};
+
+use crate::choice::Choice;
+use crate::fault::RunFault;
+use crate::input::read_whole;
+use std::alloc::Global;
+use std::io::{Read, Write};
+use tag_script::{CheckOptions, Ending, ScriptOptions, answer_script, verdict_on};
+
+impl Choice {
+    /// Makes the run that was chosen.
+    pub(crate) fn run<R: Read, W: Write>(
+        &self,
+        alloc: Global,
+        reader: &mut R,
+        writer: &mut W,
+    ) -> Result<Ending, RunFault>
+        ensures written { IfOk result (Writes (owed_by self.now) (R.remaining reader.old)
+            (W.contents writer.old) (W.contents writer.new)) }
+        ensures untouched { IfErr result (λ fault. fault ≢ RunFault.Write → writer.new ≡ writer.old) }
+        ensures stopped { IfErr result (λ fault. Stops fault (R.remaining reader.old) (R.remaining reader.new)) }
+        ensures answered { IsErrOf result RunFault.Write → HasAnswer (owed_by self.now) (R.remaining reader.old) }
+    {
+        match self {
+            Choice::Script(options) => run_script(alloc, options, reader, writer),
+            Choice::Check(options) => run_check(alloc, options, reader, writer),
+        }
+    }
+}
+
+/// Reads a script, a command a line, and writes what the commands answer, a line or more each, with the totals at the
+/// end.
+pub fn run_script<R: Read, W: Write>(
+    alloc: Global,
+    options: &ScriptOptions,
+    reader: &mut R,
+    writer: &mut W,
+) -> Result<Ending, RunFault>
+    ensures written { IfOk result (Writes (Owed options.now) (R.remaining reader.old)
+        (W.contents writer.old) (W.contents writer.new)) }
+    ensures untouched { IfErr result (λ fault. fault ≢ RunFault.Write → writer.new ≡ writer.old) }
+    ensures stopped { IfErr result (λ fault. Stops fault (R.remaining reader.old) (R.remaining reader.new)) }
+    ensures answered { IsErrOf result RunFault.Write → HasAnswer (Owed options.now) (R.remaining reader.old) }
+{
+    let input = read_whole(alloc, reader)?;
+    let Ok((text, ending)) = answer_script(alloc, options, &input) else {
+        return Err(RunFault::Memory);
+    };
+    match writer.write_all(&text) {
+        Ok(()) => Ok(ending),
+        Err(_) => Err(RunFault::Write),
+    }
+}
+
+/// Reads a list of events, a line each, and writes whether it is possible: `ok` with the totals, or the line of the first
+/// event that can't happen, and why.
+pub fn run_check<R: Read, W: Write>(
+    alloc: Global,
+    options: &CheckOptions,
+    reader: &mut R,
+    writer: &mut W,
+) -> Result<Ending, RunFault>
+    ensures written { IfOk result (Writes (Tells options.now) (R.remaining reader.old)
+        (W.contents writer.old) (W.contents writer.new)) }
+    ensures untouched { IfErr result (λ fault. fault ≢ RunFault.Write → writer.new ≡ writer.old) }
+    ensures stopped { IfErr result (λ fault. Stops fault (R.remaining reader.old) (R.remaining reader.new)) }
+    ensures answered { IsErrOf result RunFault.Write → HasAnswer (Tells options.now) (R.remaining reader.old) }
+{
+    let input = read_whole(alloc, reader)?;
+    let Ok(verdict) = verdict_on(alloc, options, &input) else {
+        return Err(RunFault::Memory);
+    };
+    let Ok(text) = verdict.text(alloc) else {
+        return Err(RunFault::Memory);
+    };
+    let ending = verdict.ending();
+    match writer.write_all(&text) {
+        Ok(()) => Ok(ending),
+        Err(_) => Err(RunFault::Write),
+    }
+}
