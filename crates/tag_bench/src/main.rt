@@ -13,8 +13,6 @@ mod options;
 mod pipes;
 mod plain;
 mod rounds;
-#[cfg(test)]
-mod tests;
 mod traffic;
 mod wakes;
 
