@@ -1,8 +1,6 @@
 -- All agents come together: who is there, and the sums over them.
-use Rattle.std.proofs.Common.{◌≡◌, ℕ, zero, suc, ◌<◌, ◌≤◌, List, [], ◌∷◌, map, All, arith, refl, sym, ap, ◌∙◌, subst}
+use Rattle.std.proofs.Common.{◌≡◌, ℕ, ◌≤◌, List, [], ◌∷◌, map, All, arith, refl, sym, ap, ◌∙◌, subst}
 use Rattle.std.proofs.lemmas.List.Elements.{All-map}
-use mathlib.Core.Option.{some, some-injective, some-ne-none}
-use lib.ListN.{get_elem?}
 use Rattle.step_ledger.specs.Views.{HasAll, sum_over}
 use Rattle.step_ledger.specs.History.{total}
 use Rattle.tag_core.specs.declared.caller.Caller.{Caller}
@@ -47,15 +45,14 @@ module _ {R : Type 0} where
   waiter_numbers [] = refl
   waiter_numbers (a ∷ agents) = ap (λ (n : ℕ). n ∷ numbers_of agents) (sym a.numbers.2) ∙ ap (λ (l : List ℕ). groups.number_of a.waiter ∷ l) (waiter_numbers agents)
 
-  caller_there : (agents : List (Agent R)) (i n : ℕ) → get_elem? (numbers_of agents) i ≡ some n → tags.IsThere (map caller_of agents) n
-  caller_there [] i n e = absurd (some-ne-none n (sym e))
-  caller_there (a ∷ agents) zero n e = (0, a.caller, refl, a.numbers.0 ∙ some-injective a.number n e)
-  caller_there (a ∷ agents) (suc i) n e = let t = caller_there agents i n e in (suc t.0, t.1, t.2, t.3)
+  pub caller_numbers : (agents : List (Agent R)) → numbers_of agents ≡ tags.numbers_of (map caller_of agents)
+  caller_numbers [] = refl
+  caller_numbers (a ∷ agents) = ap (λ (n : ℕ). n ∷ numbers_of agents) (sym a.numbers.0) ∙ ap (λ (l : List ℕ). a.caller.number ∷ l) (caller_numbers agents)
 
-  -- whose number is there, he is among the callers
-  pub callers_there : (agents : List (Agent R)) (callers : List (Caller R)) (count n : ℕ) → map caller_of agents ≡ callers → HasAll (numbers_of agents) count → n < count
-      → tags.IsThere callers n
-  callers_there agents callers count n is all l = subst (λ (cs : List (Caller R)). tags.IsThere cs n) is (let h = all n l in caller_there agents h.0 n h.1)
+  -- where all agents are there, all callers, tellers and waiters are
+  pub callers_there : (agents : List (Agent R)) (callers : List (Caller R)) (count : ℕ) → map caller_of agents ≡ callers → HasAll (numbers_of agents) count
+      → HasAll (tags.numbers_of callers) count
+  callers_there agents callers count is all = subst (λ (l : List ℕ). HasAll l count) (caller_numbers agents ∙ ap tags.numbers_of is) all
 
   pub tellers_there : (agents : List (Agent R)) (tellers : List Teller) (count m : ℕ) → map teller_of agents ≡ tellers → m ≡ count → HasAll (numbers_of agents) count
       → HasAll (book.numbers_of tellers) m

@@ -7,8 +7,9 @@ pub gather-requires : goal.gather-requires
 gather-requires g c = callers_own c.args.self c.args.agents.items c.requires.own _ c.split-callers.ensures.callers_are
 
 pub unreachable-requires : goal.unreachable-requires
-unreachable-requires g c = let m = c.in_default.ensures.missing in
-    m.2.missing (callers_there c.args.agents.items _ _ m.0 c.split-callers.ensures.callers_are c.requires.all m.2.within)
+unreachable-requires g c =
+    let ok = c.gather.ensures.succeeds.1 (callers_there c.args.agents.items _ _ c.split-callers.ensures.callers_are c.requires.all) in
+    let not = c.in_default.is in search rules
 
 pub gather-requires-2 : goal.gather-requires-2
 gather-requires-2 g c = tellers_own c.args.self c.args.agents.items c.requires.own _ c.split-callers.ensures.tellers_are
