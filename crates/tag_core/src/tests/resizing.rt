@@ -6,11 +6,15 @@ ghost use Rattle.tag_core.specs.Reopening.{LeadsOn};
 use crate::caller::Caller;
 use crate::map::Map;
 use crate::settled::Settled;
-use crate::tests::hands::{claim_bits, four_tags, give_tag, next_caller, put_back};
+use crate::tests::hands::{
+    claim_bits, close, exchange, four_tags, give_tag, look_at, next_caller, post_tag, put_back,
+    put_tag, take_tag,
+};
 use std::alloc::Global;
 use std::test::Fail;
-use step_ledger::GatherCause;
+use step_ledger::{GatherCause, Numbered};
 use tag_layout::Layout;
+use tag_model::Totals;
 
 /// What the slots of a next map have.
 const FILL: u64 = 7;
@@ -76,6 +80,52 @@ impl Count {
     {
         self.back = self.back.wrapping_add(give_tag(map, caller, tag) as u64);
     }
+
+    fn put(&mut self, map: &Map<u64>, caller: &mut Caller<u64>, tag: u32)
+        requires { IsCallerOf map.now caller.old }
+        ensures { IsCallerOf map.now caller.new }
+    {
+        self.back = self.back.wrapping_add(put_tag(map, caller, tag) as u64);
+    }
+}
+
+#[test]
+fn totals_go_on_through_four_resizes(rt: HostRuntime) -> Result<(), Fail> {
+    let mut count = Count { got: 0, back: 0 };
+    let (map, mut callers) = four_tags(rt.alloc(), 2, 16)?;
+    let mut first = next_caller(&map, &mut callers)?;
+    let mut zeroth = next_caller(&map, &mut callers)?;
+    assert_eq!(rt; count.win(&map, &mut first, 0, 5), 5);
+    assert_eq!(rt; count.win(&map, &mut zeroth, 0, 3), 2);
+    count.give(&map, &mut first, 0);
+    count.put(&map, &mut zeroth, 1);
+    count.give(&map, &mut first, 2);
+    put_back(&map, &mut callers, first)?;
+    put_back(&map, &mut callers, zeroth)?;
+    let (map, callers) = resize(rt.alloc(), map, callers, Layout::new(0, None)?)?;
+    let (map, mut callers) = resize(rt.alloc(), map, callers, Layout::new(1, None)?)?;
+    let mut zeroth = next_caller(&map, &mut callers)?;
+    assert_eq!(rt; zeroth.number(), 0);
+    assert_eq!(rt; look_at(&map, &mut zeroth, 0), Some((0, 0)));
+    assert_eq!(rt; count.win(&map, &mut zeroth, 0, 1), 1);
+    count.put(&map, &mut zeroth, 0);
+    put_back(&map, &mut callers, zeroth)?;
+    let (map, mut callers) = resize(rt.alloc(), map, callers, Layout::new(9, Some(3))?)?;
+    let mut zeroth = next_caller(&map, &mut callers)?;
+    let mut first = next_caller(&map, &mut callers)?;
+    assert_eq!(rt; count.win(&map, &mut first, 1, 1), 1);
+    assert_eq!(rt; exchange(&map, &mut first, 8, 3), Some(FILL));
+    count.give(&map, &mut first, 8);
+    put_back(&map, &mut callers, zeroth)?;
+    put_back(&map, &mut callers, first)?;
+    let (map, mut callers) = resize(rt.alloc(), map, callers, Layout::new(2, None)?)?;
+    let mut first = next_caller(&map, &mut callers)?;
+    assert_eq!(rt; (first.number(), count.win(&map, &mut first, 0, 1)), (1, 1));
+    put_back(&map, &mut callers, first)?;
+    let totals = close(map, callers)?.totals;
+    assert_eq!(rt; (totals.got, totals.back), (count.got, count.back));
+    assert_eq!(rt; (totals.held, totals.posted), (1, 0));
+    Ok(())
 }
 
 #[test]
@@ -94,6 +144,38 @@ fn a_life_goes_on_through_a_resize(rt: HostRuntime) -> Result<(), Fail> {
         Some(Err(crate::Spent))
     );
     assert_eq!(rt; count.win(&map, &mut caller, 0, 2), 2);
+    Ok(())
+}
+
+#[test]
+fn callers_go_back_and_on_with_their_map(rt: HostRuntime) -> Result<(), Fail> {
+    let (map, mut callers) = four_tags(rt.alloc(), 2, 16)?;
+    let mut count = Count { got: 0, back: 0 };
+    let mut first = next_caller(&map, &mut callers)?;
+    assert_eq!(rt; count.win(&map, &mut first, 0, 7), 7);
+    assert_eq!(rt; exchange(&map, &mut first, 0, 5), Some(0));
+    assert!(rt; post_tag(&map, &mut first, 2));
+    put_back(&map, &mut callers, first)?;
+    let settled = settle(map, callers)?;
+    assert_eq!(rt; (settled.held(), settled.posted()), (2, 1));
+    let (map, mut callers) = settled.back();
+    let mut first = next_caller(&map, &mut callers)?;
+    assert_eq!(rt;
+        (first.number(), exchange(&map, &mut first, 0, 6)),
+        (1, Some(5))
+    );
+    count.give(&map, &mut first, 0);
+    assert_eq!(rt; count.win(&map, &mut first, 0, 9), 9);
+    put_back(&map, &mut callers, first)?;
+    assert_eq!(rt;
+        close(map, callers)?.totals,
+        Totals {
+            got: 5,
+            back: 1,
+            held: 3,
+            posted: 1
+        }
+    );
     Ok(())
 }
 
