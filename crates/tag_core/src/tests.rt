@@ -5,5 +5,6 @@ mod memory;
 mod opening;
 mod reopening;
 mod resizing;
+mod resizing_threads;
 mod steps;
 mod threads;
