@@ -6,5 +6,6 @@ mod opening;
 mod reopening;
 mod resizing;
 mod resizing_threads;
+mod stage;
 mod steps;
 mod threads;

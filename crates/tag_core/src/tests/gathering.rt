@@ -1,6 +1,6 @@
 //! Callers that are missing, and callers that were lost.
 use crate::claim::Claim;
-use crate::tests::hands::{claim_bits, close, four_tags, next_caller, put_back};
+use crate::tests::stage::Stage;
 use std::test::Fail;
 use step_ledger::GatherCause;
 use tag_model::Totals;
@@ -12,85 +12,54 @@ const NOTHING: Totals = Totals {
     posted: 0,
 };
 
+/// A gather for which a caller is missing.
+fn missing(stage: Stage) -> Result<(GatherCause, Stage), Fail> {
+    match stage.gather() {
+        Ok(_) => Err(Fail::new("gathered without a caller")),
+        Err(fault) => Ok(fault),
+    }
+}
+
 #[test]
 fn gather_without_a_caller_hands_all_back(rt: HostRuntime) -> Result<(), Fail> {
-    let (map, mut callers) = four_tags(rt.alloc(), 2, 16)?;
-    let first = next_caller(&map, &mut callers)?;
-    let zeroth = next_caller(&map, &mut callers)?;
-    let Err(fault) = map.gather(callers) else {
-        return Err(Fail::new("gathered without a caller"));
-    };
-    assert_eq!(rt;
-        (fault.cause, fault.callers.len()),
-        (GatherCause::Missing(0), 0)
-    );
-    let (map, mut callers) = (fault.map, fault.callers);
-    put_back(&map, &mut callers, zeroth)?;
-    let Err(fault) = map.gather(callers) else {
-        return Err(Fail::new("gathered without caller 1"));
-    };
-    assert_eq!(rt;
-        (fault.cause, fault.callers.len()),
-        (GatherCause::Missing(1), 1)
-    );
-    let (map, mut callers) = (fault.map, fault.callers);
-    let zeroth = next_caller(&map, &mut callers)?;
-    put_back(&map, &mut callers, first)?;
-    put_back(&map, &mut callers, zeroth)?;
-    assert_eq!(rt; close(map, callers)?.totals, NOTHING);
+    let mut stage = Stage::of_four_tags(rt.alloc(), 2, 16)?;
+    stage.send_away(1)?;
+    stage.send_away(0)?;
+    let (cause, mut stage) = missing(stage)?;
+    assert_eq!(rt; (cause, stage.count()), (GatherCause::Missing(0), 0));
+    stage.bring_back()?;
+    let (cause, mut stage) = missing(stage)?;
+    assert_eq!(rt; (cause, stage.count()), (GatherCause::Missing(1), 1));
+    stage.bring_back()?;
+    assert_eq!(rt; stage.close()?.totals, NOTHING);
     Ok(())
 }
 
 #[test]
 fn a_lost_caller_keeps_its_tags(rt: HostRuntime) -> Result<(), Fail> {
-    let (map, mut callers) = four_tags(rt.alloc(), 2, 16)?;
-    let mut first = next_caller(&map, &mut callers)?;
-    let mut zeroth = next_caller(&map, &mut callers)?;
+    let mut stage = Stage::of_four_tags(rt.alloc(), 2, 16)?;
+    assert_eq!(rt; stage.claim(1, 0, 4), Some(Ok(Claim { won: 4, found: 0 })));
+    stage.lose(1);
     assert_eq!(rt;
-        claim_bits(&map, &mut first, 0, 4),
-        Some(Ok(Claim { won: 4, found: 0 }))
-    );
-    drop(first);
-    assert_eq!(rt;
-        claim_bits(&map, &mut zeroth, 0, 15),
+        stage.claim(0, 0, 15),
         Some(Ok(Claim { won: 11, found: 4 }))
     );
-    put_back(&map, &mut callers, zeroth)?;
-    let Err(fault) = map.gather(callers) else {
-        return Err(Fail::new("gathered without caller 1"));
-    };
-    assert_eq!(rt;
-        (fault.cause, fault.callers.len()),
-        (GatherCause::Missing(1), 1)
-    );
+    let (cause, stage) = missing(stage)?;
+    assert_eq!(rt; (cause, stage.count()), (GatherCause::Missing(1), 1));
     Ok(())
 }
 
 #[test]
 fn a_refused_gather_succeeds_with_the_missing_caller(rt: HostRuntime) -> Result<(), Fail> {
-    let (map, mut callers) = four_tags(rt.alloc(), 3, 16)?;
-    let mut second = next_caller(&map, &mut callers)?;
-    let mut first = next_caller(&map, &mut callers)?;
-    let zeroth = next_caller(&map, &mut callers)?;
+    let mut stage = Stage::of_four_tags(rt.alloc(), 3, 16)?;
+    assert_eq!(rt; stage.claim(2, 0, 5), Some(Ok(Claim { won: 5, found: 0 })));
+    assert_eq!(rt; stage.claim(1, 0, 3), Some(Ok(Claim { won: 2, found: 5 })));
+    stage.send_away(1)?;
+    let (cause, mut stage) = missing(stage)?;
+    assert_eq!(rt; cause, GatherCause::Missing(1));
+    stage.bring_back()?;
     assert_eq!(rt;
-        claim_bits(&map, &mut second, 0, 5),
-        Some(Ok(Claim { won: 5, found: 0 }))
-    );
-    assert_eq!(rt;
-        claim_bits(&map, &mut first, 0, 3),
-        Some(Ok(Claim { won: 2, found: 5 }))
-    );
-    put_back(&map, &mut callers, second)?;
-    put_back(&map, &mut callers, zeroth)?;
-    let Err(fault) = map.gather(callers) else {
-        return Err(Fail::new("gathered without caller 1"));
-    };
-    assert_eq!(rt; fault.cause, GatherCause::Missing(1));
-    let (map, mut callers) = (fault.map, fault.callers);
-    put_back(&map, &mut callers, first)?;
-    let closed = close(map, callers)?;
-    assert_eq!(rt;
-        closed.totals,
+        stage.close()?.totals,
         Totals {
             got: 3,
             back: 0,

@@ -1,55 +1,13 @@
 //! Maps and callers for tests. What a call asks of its caller is looked at when it runs: false and None say that it
 //! wasn't so, and that nothing was done.
-ghost use Rattle.std.specs.Prelude.{◌≡◌, ℕ, ◌<◌, All, IfOk, IsTrue};
+ghost use Rattle.std.specs.Prelude.{◌≡◌, ℕ, ◌<◌, All, IsTrue};
 ghost use Rattle.tag_core.specs.Callers.{IsCallerOf, Holds};
 
 use crate::caller::Caller;
 use crate::claim::{Claim, Spent};
 use crate::closed::Closed;
 use crate::map::Map;
-use std::alloc::Global;
 use std::test::Fail;
-use tag_layout::Layout;
-
-/// A map of four tags in one word, whose slots are 0.
-pub(crate) fn four_tags(
-    alloc: Global,
-    callers: u32,
-    life: u64,
-) -> Result<(Map<u64>, Vec<Caller<u64>>), Fail>
-    ensures { IfOk result (λ p. All (IsCallerOf p.0) p.1.items) }
-{
-    let layout = Layout::new(4, Some(2))?;
-    let slots = vec![in alloc; 0u64; 4]?;
-    Ok(Map::open(alloc, layout, callers, life, slots)?)
-}
-
-/// The last of the callers.
-pub(crate) fn next_caller(
-    map: &Map<u64>,
-    callers: &mut Vec<Caller<u64>>,
-) -> Result<Caller<u64>, Fail>
-    requires { All (IsCallerOf map.now) callers.old.items }
-    ensures own { All (IsCallerOf map.now) callers.new.items }
-    ensures caller { IfOk result (IsCallerOf map.now) }
-{
-    match callers.pop() {
-        Some(caller) => Ok(caller),
-        None => Err(Fail::new("no caller is left")),
-    }
-}
-
-pub(crate) fn put_back(
-    map: &Map<u64>,
-    callers: &mut Vec<Caller<u64>>,
-    caller: Caller<u64>,
-) -> Result<(), Fail>
-    requires { All (IsCallerOf map.now) callers.old.items × IsCallerOf map.now caller }
-    ensures { All (IsCallerOf map.now) callers.new.items }
-{
-    callers.push(caller)?;
-    Ok(())
-}
 
 /// Gathers all callers.
 pub(crate) fn close(map: Map<u64>, callers: Vec<Caller<u64>>) -> Result<Closed<u64>, Fail>

@@ -4,31 +4,17 @@ ghost use Rattle.tag_core.specs.Callers.{IsCallerOf};
 ghost use Rattle.tag_core.specs.Reopening.{LeadsOn};
 
 use crate::caller::Caller;
+use crate::claim::{Claim, Spent};
 use crate::map::Map;
-use crate::settled::Settled;
-use crate::tests::hands::{
-    claim_bits, close, exchange, four_tags, give_tag, look_at, next_caller, post_tag, put_back,
-    put_tag, take_tag,
-};
+use crate::tests::stage::Stage;
 use std::alloc::Global;
 use std::test::Fail;
-use step_ledger::{GatherCause, Numbered};
+use step_ledger::GatherCause;
 use tag_layout::Layout;
 use tag_model::Totals;
 
 /// What the slots of a next map have.
 const FILL: u64 = 7;
-
-/// All callers together.
-pub(crate) fn settle(map: Map<u64>, callers: Vec<Caller<u64>>) -> Result<Settled<u64>, Fail>
-    requires { All (IsCallerOf map) callers.items }
-    ensures own { IfOk result (λ s. All (IsCallerOf s.tags) s.callers.items) }
-{
-    match map.settle(callers) {
-        Ok(settled) => Ok(settled),
-        Err(_) => Err(Fail::new("a caller is missing")),
-    }
-}
 
 /// The callers go on with a map of this layout. Whoever knows a chain of histories that leads to their map knows the one
 /// that leads to the next.
@@ -63,66 +49,59 @@ struct Count {
 }
 
 impl Count {
-    fn win(&mut self, map: &Map<u64>, caller: &mut Caller<u64>, word: u32, mask: u64) -> u64
-        requires { IsCallerOf map.now caller.old }
-        ensures { IsCallerOf map.now caller.new }
-    {
-        let Some(Ok(claim)) = claim_bits(map, caller, word, mask) else {
+    fn win(&mut self, stage: &mut Stage, at: usize, word: u32, mask: u64) -> u64 {
+        let Some(Ok(claim)) = stage.claim(at, word, mask) else {
             return 0;
         };
         self.got = self.got.wrapping_add(claim.won.count_ones() as u64);
         claim.won
     }
 
-    fn give(&mut self, map: &Map<u64>, caller: &mut Caller<u64>, tag: u32)
-        requires { IsCallerOf map.now caller.old }
-        ensures { IsCallerOf map.now caller.new }
-    {
-        self.back = self.back.wrapping_add(give_tag(map, caller, tag) as u64);
+    fn give(&mut self, stage: &mut Stage, at: usize, tag: u32) {
+        self.back = self.back.wrapping_add(stage.give(at, tag) as u64);
     }
 
-    fn put(&mut self, map: &Map<u64>, caller: &mut Caller<u64>, tag: u32)
-        requires { IsCallerOf map.now caller.old }
-        ensures { IsCallerOf map.now caller.new }
-    {
-        self.back = self.back.wrapping_add(put_tag(map, caller, tag) as u64);
+    fn put(&mut self, stage: &mut Stage, at: usize, tag: u32) {
+        self.back = self.back.wrapping_add(stage.put(at, tag) as u64);
     }
+}
+
+/// Caller 1 and then caller 0, on four tags, of which three were won and given back.
+fn three_won_and_back(alloc: Global, count: &mut Count) -> Result<Stage, Fail> {
+    let mut stage = Stage::of_four_tags(alloc, 2, 16)?;
+    if count.win(&mut stage, 1, 0, 5) != 5 || count.win(&mut stage, 0, 0, 3) != 2 {
+        return Err(Fail::new("a claim won something else"));
+    }
+    count.give(&mut stage, 1, 0);
+    count.put(&mut stage, 0, 1);
+    count.give(&mut stage, 1, 2);
+    stage.send_away(0)?;
+    stage.bring_back()?;
+    Ok(stage)
 }
 
 #[test]
 fn totals_go_on_through_four_resizes(rt: HostRuntime) -> Result<(), Fail> {
     let mut count = Count { got: 0, back: 0 };
-    let (map, mut callers) = four_tags(rt.alloc(), 2, 16)?;
-    let mut first = next_caller(&map, &mut callers)?;
-    let mut zeroth = next_caller(&map, &mut callers)?;
-    assert_eq!(rt; count.win(&map, &mut first, 0, 5), 5);
-    assert_eq!(rt; count.win(&map, &mut zeroth, 0, 3), 2);
-    count.give(&map, &mut first, 0);
-    count.put(&map, &mut zeroth, 1);
-    count.give(&map, &mut first, 2);
-    put_back(&map, &mut callers, first)?;
-    put_back(&map, &mut callers, zeroth)?;
-    let (map, callers) = resize(rt.alloc(), map, callers, Layout::new(0, None)?)?;
-    let (map, mut callers) = resize(rt.alloc(), map, callers, Layout::new(1, None)?)?;
-    let mut zeroth = next_caller(&map, &mut callers)?;
-    assert_eq!(rt; zeroth.number(), 0);
-    assert_eq!(rt; look_at(&map, &mut zeroth, 0), Some((0, 0)));
-    assert_eq!(rt; count.win(&map, &mut zeroth, 0, 1), 1);
-    count.put(&map, &mut zeroth, 0);
-    put_back(&map, &mut callers, zeroth)?;
-    let (map, mut callers) = resize(rt.alloc(), map, callers, Layout::new(9, Some(3))?)?;
-    let mut zeroth = next_caller(&map, &mut callers)?;
-    let mut first = next_caller(&map, &mut callers)?;
-    assert_eq!(rt; count.win(&map, &mut first, 1, 1), 1);
-    assert_eq!(rt; exchange(&map, &mut first, 8, 3), Some(FILL));
-    count.give(&map, &mut first, 8);
-    put_back(&map, &mut callers, zeroth)?;
-    put_back(&map, &mut callers, first)?;
-    let (map, mut callers) = resize(rt.alloc(), map, callers, Layout::new(2, None)?)?;
-    let mut first = next_caller(&map, &mut callers)?;
-    assert_eq!(rt; (first.number(), count.win(&map, &mut first, 0, 1)), (1, 1));
-    put_back(&map, &mut callers, first)?;
-    let totals = close(map, callers)?.totals;
+    let stage = three_won_and_back(rt.alloc(), &mut count)?;
+    let stage = stage.resize(rt.alloc(), Layout::new(0, None)?)?;
+    let mut stage = stage.resize(rt.alloc(), Layout::new(1, None)?)?;
+    assert_eq!(rt; (stage.number(0), stage.number(1)), (Some(1), Some(0)));
+    assert_eq!(rt; stage.look(1, 0), Some((0, 0)));
+    assert_eq!(rt; count.win(&mut stage, 1, 0, 1), 1);
+    count.put(&mut stage, 1, 0);
+    let mut stage = stage.resize(rt.alloc(), Layout::new(9, Some(3))?)?;
+    assert_eq!(rt; count.win(&mut stage, 0, 1, 1), 1);
+    assert_eq!(rt; stage.exchange(0, 8, 3), Some(FILL));
+    count.give(&mut stage, 0, 8);
+    stage.send_away(0)?;
+    stage.bring_back()?;
+    let mut stage = stage.resize(rt.alloc(), Layout::new(2, None)?)?;
+    assert_eq!(rt;
+        (stage.number(1), count.win(&mut stage, 1, 0, 1)),
+        (Some(1), 1)
+    );
+    let totals = stage.close()?.totals;
     assert_eq!(rt; (totals.got, totals.back), (count.got, count.back));
     assert_eq!(rt; (totals.held, totals.posted), (1, 0));
     Ok(())
@@ -130,45 +109,36 @@ fn totals_go_on_through_four_resizes(rt: HostRuntime) -> Result<(), Fail> {
 
 #[test]
 fn a_life_goes_on_through_a_resize(rt: HostRuntime) -> Result<(), Fail> {
-    let (map, mut callers) = four_tags(rt.alloc(), 1, 3)?;
     let mut count = Count { got: 0, back: 0 };
-    let mut caller = next_caller(&map, &mut callers)?;
-    assert_eq!(rt; count.win(&map, &mut caller, 0, 3), 3);
-    count.give(&map, &mut caller, 0);
-    count.give(&map, &mut caller, 1);
-    put_back(&map, &mut callers, caller)?;
-    let (map, mut callers) = resize(rt.alloc(), map, callers, Layout::new(8, None)?)?;
-    let mut caller = next_caller(&map, &mut callers)?;
-    assert_eq!(rt;
-        claim_bits(&map, &mut caller, 0, 3),
-        Some(Err(crate::Spent))
-    );
-    assert_eq!(rt; count.win(&map, &mut caller, 0, 2), 2);
+    let mut stage = Stage::of_four_tags(rt.alloc(), 1, 3)?;
+    assert_eq!(rt; count.win(&mut stage, 0, 0, 3), 3);
+    count.give(&mut stage, 0, 0);
+    count.give(&mut stage, 0, 1);
+    let mut stage = stage.resize(rt.alloc(), Layout::new(8, None)?)?;
+    assert_eq!(rt; stage.claim(0, 0, 3), Some(Err(Spent)));
+    assert_eq!(rt; count.win(&mut stage, 0, 0, 2), 2);
     Ok(())
 }
 
 #[test]
 fn callers_go_back_and_on_with_their_map(rt: HostRuntime) -> Result<(), Fail> {
-    let (map, mut callers) = four_tags(rt.alloc(), 2, 16)?;
-    let mut count = Count { got: 0, back: 0 };
-    let mut first = next_caller(&map, &mut callers)?;
-    assert_eq!(rt; count.win(&map, &mut first, 0, 7), 7);
-    assert_eq!(rt; exchange(&map, &mut first, 0, 5), Some(0));
-    assert!(rt; post_tag(&map, &mut first, 2));
-    put_back(&map, &mut callers, first)?;
-    let settled = settle(map, callers)?;
+    let mut stage = Stage::of_four_tags(rt.alloc(), 2, 16)?;
+    assert_eq!(rt; stage.claim(1, 0, 7), Some(Ok(Claim { won: 7, found: 0 })));
+    assert_eq!(rt; stage.exchange(1, 0, 5), Some(0));
+    assert!(rt; stage.post(1, 2));
+    let Ok(settled) = stage.settle() else {
+        return Err(Fail::new("a caller is missing"));
+    };
     assert_eq!(rt; (settled.held(), settled.posted()), (2, 1));
-    let (map, mut callers) = settled.back();
-    let mut first = next_caller(&map, &mut callers)?;
+    let mut stage = Stage::back(rt.alloc(), settled);
     assert_eq!(rt;
-        (first.number(), exchange(&map, &mut first, 0, 6)),
-        (1, Some(5))
+        (stage.number(1), stage.exchange(1, 0, 6)),
+        (Some(1), Some(5))
     );
-    count.give(&map, &mut first, 0);
-    assert_eq!(rt; count.win(&map, &mut first, 0, 9), 9);
-    put_back(&map, &mut callers, first)?;
+    assert!(rt; stage.give(1, 0));
+    assert_eq!(rt; stage.claim(1, 0, 9), Some(Ok(Claim { won: 9, found: 6 })));
     assert_eq!(rt;
-        close(map, callers)?.totals,
+        stage.close()?.totals,
         Totals {
             got: 5,
             back: 1,
@@ -181,20 +151,16 @@ fn callers_go_back_and_on_with_their_map(rt: HostRuntime) -> Result<(), Fail> {
 
 #[test]
 fn settle_without_a_caller_hands_all_back(rt: HostRuntime) -> Result<(), Fail> {
-    let (map, mut callers) = four_tags(rt.alloc(), 3, 16)?;
-    let second = next_caller(&map, &mut callers)?;
-    let first = next_caller(&map, &mut callers)?;
-    put_back(&map, &mut callers, second)?;
-    let Err(fault) = map.settle(callers) else {
+    let mut stage = Stage::of_four_tags(rt.alloc(), 3, 16)?;
+    stage.send_away(1)?;
+    let Err((cause, mut stage)) = stage.settle() else {
         return Err(Fail::new("settled without caller 1"));
     };
-    assert_eq!(rt;
-        (fault.cause, fault.callers.len()),
-        (GatherCause::Missing(1), 2)
-    );
-    let (map, mut callers) = (fault.map, fault.callers);
-    put_back(&map, &mut callers, first)?;
-    let settled = settle(map, callers)?;
+    assert_eq!(rt; (cause, stage.count()), (GatherCause::Missing(1), 2));
+    stage.bring_back()?;
+    let Ok(settled) = stage.settle() else {
+        return Err(Fail::new("a caller is missing"));
+    };
     assert_eq!(rt; (settled.held(), settled.posted()), (0, 0));
     Ok(())
 }

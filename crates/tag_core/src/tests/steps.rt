@@ -1,31 +1,17 @@
 //! Steps of one or two callers, in one thread.
 use crate::claim::{Claim, Spent};
-use crate::tests::hands::{
-    claim_bits, close, exchange, four_tags, give_tag, has, look_at, next_caller, post_tag,
-    put_back, put_tag, read, sweep_word, take_tag,
-};
+use crate::tests::stage::Stage;
 use std::test::Fail;
 use tag_model::Totals;
 
 #[test]
 fn a_claim_wins_what_nobody_has(rt: HostRuntime) -> Result<(), Fail> {
-    let (map, mut callers) = four_tags(rt.alloc(), 2, 16)?;
-    let mut first = next_caller(&map, &mut callers)?;
-    let mut zeroth = next_caller(&map, &mut callers)?;
+    let mut stage = Stage::of_four_tags(rt.alloc(), 2, 16)?;
+    assert_eq!(rt; stage.claim(0, 0, 6), Some(Ok(Claim { won: 6, found: 0 })));
+    assert_eq!(rt; stage.claim(1, 0, 3), Some(Ok(Claim { won: 1, found: 6 })));
+    assert!(rt; stage.give(0, 1));
     assert_eq!(rt;
-        claim_bits(&map, &mut zeroth, 0, 6),
-        Some(Ok(Claim { won: 6, found: 0 }))
-    );
-    assert_eq!(rt;
-        claim_bits(&map, &mut first, 0, 3),
-        Some(Ok(Claim { won: 1, found: 6 }))
-    );
-    assert!(rt; give_tag(&map, &mut zeroth, 1));
-    put_back(&map, &mut callers, zeroth)?;
-    put_back(&map, &mut callers, first)?;
-    let closed = close(map, callers)?;
-    assert_eq!(rt;
-        closed.totals,
+        stage.close()?.totals,
         Totals {
             got: 3,
             back: 1,
@@ -38,17 +24,11 @@ fn a_claim_wins_what_nobody_has(rt: HostRuntime) -> Result<(), Fail> {
 
 #[test]
 fn a_spent_claim_makes_no_step(rt: HostRuntime) -> Result<(), Fail> {
-    let (map, mut callers) = four_tags(rt.alloc(), 1, 2)?;
-    let mut zeroth = next_caller(&map, &mut callers)?;
-    assert_eq!(rt; claim_bits(&map, &mut zeroth, 0, 7), Some(Err(Spent)));
+    let mut stage = Stage::of_four_tags(rt.alloc(), 1, 2)?;
+    assert_eq!(rt; stage.claim(0, 0, 7), Some(Err(Spent)));
+    assert_eq!(rt; stage.claim(0, 0, 3), Some(Ok(Claim { won: 3, found: 0 })));
     assert_eq!(rt;
-        claim_bits(&map, &mut zeroth, 0, 3),
-        Some(Ok(Claim { won: 3, found: 0 }))
-    );
-    put_back(&map, &mut callers, zeroth)?;
-    let closed = close(map, callers)?;
-    assert_eq!(rt;
-        closed.totals,
+        stage.close()?.totals,
         Totals {
             got: 2,
             back: 0,
@@ -61,24 +41,16 @@ fn a_spent_claim_makes_no_step(rt: HostRuntime) -> Result<(), Fail> {
 
 #[test]
 fn a_posted_tag_is_taken_once_with_its_slot(rt: HostRuntime) -> Result<(), Fail> {
-    let (map, mut callers) = four_tags(rt.alloc(), 2, 16)?;
-    let mut first = next_caller(&map, &mut callers)?;
-    let mut zeroth = next_caller(&map, &mut callers)?;
+    let mut stage = Stage::of_four_tags(rt.alloc(), 2, 16)?;
+    assert_eq!(rt; stage.claim(0, 0, 1), Some(Ok(Claim { won: 1, found: 0 })));
+    assert_eq!(rt; stage.exchange(0, 0, 7), Some(0));
+    assert_eq!(rt; stage.read(0, 0), Some(7));
+    assert!(rt; stage.post(0, 0));
+    assert!(rt; stage.take(1, 0));
+    assert!(rt; !stage.take(0, 0));
+    assert_eq!(rt; stage.exchange(1, 0, 0), Some(7));
     assert_eq!(rt;
-        claim_bits(&map, &mut zeroth, 0, 1),
-        Some(Ok(Claim { won: 1, found: 0 }))
-    );
-    assert_eq!(rt; exchange(&map, &mut zeroth, 0, 7), Some(0));
-    assert_eq!(rt; read(&map, &mut zeroth, 0), Some(7));
-    assert!(rt; post_tag(&map, &mut zeroth, 0));
-    assert!(rt; take_tag(&map, &mut first, 0));
-    assert!(rt; !take_tag(&map, &mut zeroth, 0));
-    assert_eq!(rt; exchange(&map, &mut first, 0, 0), Some(7));
-    put_back(&map, &mut callers, zeroth)?;
-    put_back(&map, &mut callers, first)?;
-    let closed = close(map, callers)?;
-    assert_eq!(rt;
-        closed.totals,
+        stage.close()?.totals,
         Totals {
             got: 1,
             back: 0,
@@ -91,23 +63,13 @@ fn a_posted_tag_is_taken_once_with_its_slot(rt: HostRuntime) -> Result<(), Fail>
 
 #[test]
 fn a_posted_tag_keeps_its_slot(rt: HostRuntime) -> Result<(), Fail> {
-    let (map, mut callers) = four_tags(rt.alloc(), 2, 16)?;
-    let mut first = next_caller(&map, &mut callers)?;
-    let mut zeroth = next_caller(&map, &mut callers)?;
-    assert_eq!(rt;
-        claim_bits(&map, &mut zeroth, 0, 1),
-        Some(Ok(Claim { won: 1, found: 0 }))
-    );
-    assert_eq!(rt; exchange(&map, &mut zeroth, 0, 7), Some(0));
-    assert!(rt; post_tag(&map, &mut zeroth, 0));
-    assert!(rt; !has(&map, &zeroth, 0));
-    assert_eq!(rt;
-        claim_bits(&map, &mut first, 0, 1),
-        Some(Ok(Claim { won: 0, found: 1 }))
-    );
-    put_back(&map, &mut callers, zeroth)?;
-    put_back(&map, &mut callers, first)?;
-    let closed = close(map, callers)?;
+    let mut stage = Stage::of_four_tags(rt.alloc(), 2, 16)?;
+    assert_eq!(rt; stage.claim(0, 0, 1), Some(Ok(Claim { won: 1, found: 0 })));
+    assert_eq!(rt; stage.exchange(0, 0, 7), Some(0));
+    assert!(rt; stage.post(0, 0));
+    assert!(rt; !stage.has(0, 0));
+    assert_eq!(rt; stage.claim(1, 0, 1), Some(Ok(Claim { won: 0, found: 1 })));
+    let closed = stage.close()?;
     assert_eq!(rt;
         closed.totals,
         Totals {
@@ -123,31 +85,20 @@ fn a_posted_tag_keeps_its_slot(rt: HostRuntime) -> Result<(), Fail> {
 
 #[test]
 fn a_tag_set_aside_is_free_after_a_sweep(rt: HostRuntime) -> Result<(), Fail> {
-    let (map, mut callers) = four_tags(rt.alloc(), 2, 16)?;
-    let mut first = next_caller(&map, &mut callers)?;
-    let mut zeroth = next_caller(&map, &mut callers)?;
+    let mut stage = Stage::of_four_tags(rt.alloc(), 2, 16)?;
     assert_eq!(rt;
-        claim_bits(&map, &mut zeroth, 0, 12),
+        stage.claim(0, 0, 12),
         Some(Ok(Claim { won: 12, found: 0 }))
     );
-    assert!(rt; put_tag(&map, &mut zeroth, 2));
+    assert!(rt; stage.put(0, 2));
+    assert_eq!(rt; stage.claim(1, 0, 4), Some(Ok(Claim { won: 0, found: 12 })));
+    assert_eq!(rt; stage.look(1, 0), Some((12, 4)));
+    assert!(rt; stage.sweep(1, 0));
+    assert_eq!(rt; stage.look(0, 0), Some((8, 0)));
+    assert!(rt; !stage.sweep(1, 0));
+    assert_eq!(rt; stage.claim(1, 0, 4), Some(Ok(Claim { won: 4, found: 8 })));
     assert_eq!(rt;
-        claim_bits(&map, &mut first, 0, 4),
-        Some(Ok(Claim { won: 0, found: 12 }))
-    );
-    assert_eq!(rt; look_at(&map, &mut first, 0), Some((12, 4)));
-    assert!(rt; sweep_word(&map, &mut first, 0));
-    assert_eq!(rt; look_at(&map, &mut zeroth, 0), Some((8, 0)));
-    assert!(rt; !sweep_word(&map, &mut first, 0));
-    assert_eq!(rt;
-        claim_bits(&map, &mut first, 0, 4),
-        Some(Ok(Claim { won: 4, found: 8 }))
-    );
-    put_back(&map, &mut callers, zeroth)?;
-    put_back(&map, &mut callers, first)?;
-    let closed = close(map, callers)?;
-    assert_eq!(rt;
-        closed.totals,
+        stage.close()?.totals,
         Totals {
             got: 3,
             back: 1,
@@ -160,33 +111,19 @@ fn a_tag_set_aside_is_free_after_a_sweep(rt: HostRuntime) -> Result<(), Fail> {
 
 #[test]
 fn two_callers_meet_and_go_on(rt: HostRuntime) -> Result<(), Fail> {
-    let (map, mut callers) = four_tags(rt.alloc(), 2, 16)?;
-    let mut first = next_caller(&map, &mut callers)?;
-    let mut zeroth = next_caller(&map, &mut callers)?;
-    map.meet(&mut zeroth, &mut first);
+    let mut stage = Stage::of_four_tags(rt.alloc(), 2, 16)?;
+    assert!(rt; stage.meet(0)?);
+    assert_eq!(rt; stage.claim(0, 0, 3), Some(Ok(Claim { won: 3, found: 0 })));
+    assert_eq!(rt; stage.claim(1, 0, 7), Some(Ok(Claim { won: 4, found: 3 })));
+    assert_eq!(rt; stage.exchange(0, 1, 5), Some(0));
+    assert_eq!(rt; stage.exchange(1, 2, 6), Some(0));
+    assert!(rt; stage.meet(0)?);
+    assert_eq!(rt; (stage.has(0, 1), stage.has(1, 1)), (true, false));
+    assert_eq!(rt; stage.exchange(0, 1, 7), Some(5));
+    assert_eq!(rt; stage.exchange(1, 2, 8), Some(6));
+    assert!(rt; stage.give(1, 2));
     assert_eq!(rt;
-        claim_bits(&map, &mut zeroth, 0, 3),
-        Some(Ok(Claim { won: 3, found: 0 }))
-    );
-    assert_eq!(rt;
-        claim_bits(&map, &mut first, 0, 7),
-        Some(Ok(Claim { won: 4, found: 3 }))
-    );
-    assert_eq!(rt; exchange(&map, &mut zeroth, 1, 5), Some(0));
-    assert_eq!(rt; exchange(&map, &mut first, 2, 6), Some(0));
-    map.meet(&mut first, &mut zeroth);
-    assert_eq!(rt;
-        (has(&map, &zeroth, 1), has(&map, &first, 1)),
-        (true, false)
-    );
-    assert_eq!(rt; exchange(&map, &mut zeroth, 1, 7), Some(5));
-    assert_eq!(rt; exchange(&map, &mut first, 2, 8), Some(6));
-    assert!(rt; give_tag(&map, &mut first, 2));
-    put_back(&map, &mut callers, zeroth)?;
-    put_back(&map, &mut callers, first)?;
-    let closed = close(map, callers)?;
-    assert_eq!(rt;
-        closed.totals,
+        stage.close()?.totals,
         Totals {
             got: 3,
             back: 1,

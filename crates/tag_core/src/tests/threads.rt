@@ -1,18 +1,20 @@
 //! Four threads on one map.
-ghost use Rattle.std.specs.Prelude.{◌<◌};
+ghost use Rattle.std.specs.Prelude.{◌<◌, All};
 ghost use Rattle.tag_core.specs.Callers.{IsCallerOf};
 
 use crate::caller::Caller;
+use crate::closed::Closed;
 use crate::map::Map;
 use crate::tests::hands::{
     claim_bits, close, exchange, give_tag, post_tag, put_tag, sweep_word, take_tag,
 };
+use std::alloc::Global;
 use std::sync::atomic::AtomicU64;
 use std::sync::atomic::Ordering::SeqCst;
 use std::test::Fail;
 use std::thread;
+use std::thread::Threads;
 use tag_layout::Layout;
-use tag_model::Totals;
 
 /// Tags, in two words of four.
 const DEPTH: u32 = 8;
@@ -37,6 +39,23 @@ struct Tally {
     wrong: AtomicU64,
     /// The value that the last holder wrote into each tag's slot.
     written: Vec<AtomicU64>,
+}
+
+impl Tally {
+    fn new(alloc: Global) -> Result<Tally, Fail> {
+        let mut written = Vec::new(alloc);
+        for _ in 0..DEPTH {
+            written.push(AtomicU64::new(0))?;
+        }
+        Ok(Tally {
+            won: AtomicU64::new(0),
+            back: AtomicU64::new(0),
+            posted: AtomicU64::new(0),
+            taken: AtomicU64::new(0),
+            wrong: AtomicU64::new(0),
+            written,
+        })
+    }
 }
 
 fn count(number: &AtomicU64, so: bool) {
@@ -136,43 +155,43 @@ fn play(map: &Map<u64>, caller: &mut Caller<u64>, tally: &Tally, number: usize)
     }
 }
 
-#[test]
-fn a_slot_has_what_its_holder_wrote_among_threads(rt: HostRuntime) -> Result<(), Fail> {
-    let layout = Layout::new(DEPTH, Some(2))?;
-    let slots = vec![in rt.alloc(); 0u64; DEPTH as usize]?;
-    let (map, mut callers) = Map::open(rt.alloc(), layout, THREADS, 1 << 40, slots)?;
-    let mut written = Vec::new(rt.alloc());
-    for _ in 0..DEPTH {
-        written.push(AtomicU64::new(0))?;
-    }
-    let tally = Tally {
-        won: AtomicU64::new(0),
-        back: AtomicU64::new(0),
-        posted: AtomicU64::new(0),
-        taken: AtomicU64::new(0),
-        wrong: AtomicU64::new(0),
-        written,
-    };
+/// All callers play at once, and come together.
+fn play_all<T: Threads + Sync>(
+    rt: &T,
+    map: Map<u64>,
+    mut callers: Vec<Caller<u64>>,
+    tally: &Tally,
+) -> Result<Closed<u64>, Fail>
+    requires { All (IsCallerOf map) callers.items }
+{
     thread::for_each_mut(
-        &rt,
+        rt,
         callers.as_mut_slice(),
         THREADS as usize,
-        &|number, caller| { play(&map, caller, &tally, number) },
+        &|number, caller| play(&map, caller, tally, number),
     );
-    let closed = close(map, callers)?;
+    close(map, callers)
+}
+
+#[test]
+fn a_slot_has_what_its_holder_wrote_among_threads(rt: HostRuntime) -> Result<(), Fail> {
+    let tally = Tally::new(rt.alloc())?;
+    let layout = Layout::new(DEPTH, Some(2))?;
+    let slots = vec![in rt.alloc(); 0u64; DEPTH as usize]?;
+    let (map, callers) = Map::open(rt.alloc(), layout, THREADS, 1 << 40, slots)?;
+    let totals = play_all(&rt, map, callers, &tally)?.totals;
     assert_eq!(rt; tally.wrong.load(SeqCst), 0);
     assert!(rt; 0 < tally.taken.load(SeqCst));
     assert_eq!(rt;
-        closed.totals,
-        Totals {
-            got: tally.won.load(SeqCst),
-            back: tally.back.load(SeqCst),
-            held: 0,
-            posted: tally
-                .posted
-                .load(SeqCst)
-                .wrapping_sub(tally.taken.load(SeqCst)),
-        }
+        (totals.got, totals.back, totals.held),
+        (tally.won.load(SeqCst), tally.back.load(SeqCst), 0)
+    );
+    assert_eq!(rt;
+        totals.posted,
+        tally
+            .posted
+            .load(SeqCst)
+            .wrapping_sub(tally.taken.load(SeqCst))
     );
     Ok(())
 }

@@ -1,7 +1,7 @@
 use denote.Param.Send.{sendable}
 use Rattle.std.proofs.Crossing.{crosses}
 use Rattle.tag_core.proofs.Crossing.{caller_send, map_sync}
-use Rattle.tag_core.proofs.tests.threads.a_slot_has_what_its_holder_wrote_among_threads.Goals as goal
+use Rattle.tag_core.proofs.tests.threads.play_all.Goals as goal
 
 pub for_each_mut-requires-send-T : goal.for_each_mut-requires-send-T
 for_each_mut-requires-send-T g c κs within = search (caller_send, sendable) depth 40
