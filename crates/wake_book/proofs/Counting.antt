@@ -10,7 +10,8 @@ use Rattle.wake_book.specs.declared.book.Limits.{Limits}
 use Rattle.wake_book.specs.declared.steps.BookStep.{BookStep}
 use Rattle.wake_book.specs.declared.steps.BookStep.TheVariants.{LookCompletions, LookWakeups, Add, Advance}
 use Rattle.step_ledger.specs.History.{own_steps, total, total_all, sum_to, Lawful}
-use Rattle.wake_book.specs.Charges.{words_after, words_in, completions_in, wakeups_in, added, one_if, charged, covers}
+use Rattle.wake_book.specs.Charges.{book_width, completions_at, wakeups_at, words_after, words_in, completions_in}
+use Rattle.wake_book.specs.Charges.{wakeups_in, added, one_if, charged, covers}
 use Rattle.wake_book.specs.Charges.{taken, MayStep, exchange_to}
 use Rattle.wake_book.specs.Charging.{LosesTries}
 use Rattle.step_ledger.proofs.Members.{own_here, own_else}
@@ -27,15 +28,18 @@ head_same x y xs ys e = some-injective x y (ap (λ (l : List BookStep). get_elem
 long_step : (x : BookStep) (ws : List ℕ) → length (words_after x ws) ≡ length ws
 long_step (LookCompletions f) ws = refl
 long_step (LookWakeups f) ws = refl
-long_step (Add n f) ws = length-set ws 8 _
-long_step (Advance a b f) ws = length-set ws 16 _
+long_step (Add n f) ws = length-set ws completions_at _
+long_step (Advance a b f) ws = length-set ws wakeups_at _
 
-completions_step : (x : BookStep) (ws : List ℕ) → length ws ≡ 24 → get_or (words_after x ws) 8 0 ≡ added x
-    + get_or ws 8 0
+completions_step : (x : BookStep) (ws : List ℕ) → length ws ≡ book_width → get_or (words_after x ws) completions_at 0
+    ≡ added x
+    + get_or ws completions_at 0
 completions_step (LookCompletions f) ws l = omega arith
 completions_step (LookWakeups f) ws l = omega arith
-completions_step (Add n f) ws l = get_or-set_same ws 8 (get_or ws 8 0 + n) 0 (omega arith) ∙ omega arith
-completions_step (Advance a b f) ws l = get_or-set_other ws 16 8 _ 0 (λ e. cc) ∙ omega arith
+completions_step (Add n f) ws l = get_or-set_same ws completions_at (get_or ws completions_at 0 + n) 0 (omega arith)
+    ∙ omega arith
+completions_step (Advance a b f) ws l = get_or-set_other ws wakeups_at completions_at _ 0 (λ e. absurd (omega arith))
+    ∙ omega arith
 
 abbrev wakeups_after : BookStep → ℕ → ℕ
 wakeups_after (LookCompletions f) w = w
@@ -43,12 +47,13 @@ wakeups_after (LookWakeups f) w = w
 wakeups_after (Add n f) w = w
 wakeups_after (Advance a b f) w = exchange_to a b w
 
-wakeups_step : (x : BookStep) (ws : List ℕ) → length ws ≡ 24 → get_or (words_after x ws) 16 0 ≡ wakeups_after x
-    (get_or ws 16 0)
+wakeups_step : (x : BookStep) (ws : List ℕ) → length ws ≡ book_width → get_or (words_after x ws) wakeups_at 0
+    ≡ wakeups_after x
+    (get_or ws wakeups_at 0)
 wakeups_step (LookCompletions f) ws l = refl
 wakeups_step (LookWakeups f) ws l = refl
-wakeups_step (Add n f) ws l = get_or-set_other ws 8 16 _ 0 (λ e. cc)
-wakeups_step (Advance a b f) ws l = get_or-set_same ws 16 _ 0 (omega arith)
+wakeups_step (Add n f) ws l = get_or-set_other ws completions_at wakeups_at _ 0 (λ e. absurd (omega arith))
+wakeups_step (Advance a b f) ws l = get_or-set_same ws wakeups_at _ 0 (omega arith)
 
 pub moves : (a b w : ℕ) → w ≡ a → exchange_to a b w ≡ b
 moves a b w e = ap (λ (z : Bool). cond z b w) (eq-eqb w a e)
@@ -58,7 +63,7 @@ misses a b w e = ap (λ (z : Bool). cond z b w) (ne_eqb w a e)
 
 -- ---- a history
 
-pub long : (h : Hist) → length (words_in h) ≡ 24
+pub long : (h : Hist) → length (words_in h) ≡ book_width
 long [] = refl
 long (x ∷ h) = long_step x.1 (words_in h) ∙ long h
 

@@ -8,7 +8,8 @@ use Rattle.wake_book.specs.declared.steps.GroupStep.{GroupStep}
 use Rattle.wake_book.specs.declared.steps.GroupStep.TheVariants.{Look, Raise, Lower, Enter, Grant, Use, Withdraw, Store}
 use Rattle.wake_book.specs.Charges.{exchange_to}
 use Rattle.step_ledger.specs.History.{own_steps, total, total_all, sum_to, Lawful}
-use Rattle.wake_book.specs.Waits.{words_after, words_in, group_at, word, granted, waiting, moved_in, raised, stand}
+use Rattle.wake_book.specs.Waits.{active_at, groups_width, index_at, one_waiting, words_after, words_in, group_at, word}
+use Rattle.wake_book.specs.Waits.{granted, waiting, moved_in, raised, stand}
 use Rattle.wake_book.specs.Waits.{moved_by, used_by, MayStep}
 use Rattle.step_ledger.proofs.Members.{own_here, own_else}
 use Rattle.wake_book.proofs.Counting.{moves, misses}
@@ -69,28 +70,29 @@ zeros (suc n) (suc i) = zeros n i
 
 long_step : (x : GroupStep) (ws : List ℕ) → length (words_after x ws) ≡ length ws
 long_step (Look i f) ws = refl
-long_step (Raise f) ws = length-set ws 72 _
-long_step (Lower f) ws = length-set ws 72 _
+long_step (Raise f) ws = length-set ws active_at _
+long_step (Lower f) ws = length-set ws active_at _
 long_step (Enter g f) ws = length-set ws (group_at g) _
 long_step (Grant g old m f) ws = length-set ws (group_at g) _
 long_step (Use g old f) ws = length-set ws (group_at g) _
 long_step (Withdraw g old f) ws = length-set ws (group_at g) _
-long_step (Store v) ws = length-set ws 80 _
+long_step (Store v) ws = length-set ws index_at _
 
-pub long : (h : Hist) → length (words_in h) ≡ 88
+pub long : (h : Hist) → length (words_in h) ≡ groups_width
 long [] = refl
 long (x ∷ h) = long_step x.1 (words_in h) ∙ long h
 
 -- the word of the group g after a step, from that before
 abbrev word_after : ℕ → GroupStep → ℕ → ℕ
-word_after g (Enter u f) w = cond (nat_eq u g) (w + 4294967296) w
+word_after g (Enter u f) w = cond (nat_eq u g) (w + one_waiting) w
 word_after g (Grant u old m f) w = cond (nat_eq u g) (exchange_to old (moved_in old m) w) w
 word_after g (Use u old f) w = cond (nat_eq u g) (exchange_to old (old - 1) w) w
-word_after g (Withdraw u old f) w = cond (nat_eq u g) (exchange_to old (old - 4294967296) w) w
+word_after g (Withdraw u old f) w = cond (nat_eq u g) (exchange_to old (old - one_waiting) w) w
 word_after g _ w = w
 
 -- a change of the group u, seen at the group g
-set_group : (ws : List ℕ) (u g : ℕ) (f : ℕ → ℕ) → length ws ≡ 88 → u < 8 → word (set ws (group_at u) (f (word ws u))) g
+set_group : (ws : List ℕ) (u g : ℕ) (f : ℕ → ℕ) → length ws ≡ groups_width → u < 8
+    → word (set ws (group_at u) (f (word ws u))) g
     ≡ cond (nat_eq u g) (f (word ws g)) (word ws g)
 set_group ws u g f l s = dite (ℕ_discrete u g)
     (λ (e : u ≡ g). subst (λ (z : ℕ). word (set ws (group_at u) (f (word ws u))) z ≡ f (word ws z)) e
@@ -101,15 +103,15 @@ set_group ws u g f l s = dite (ℕ_discrete u g)
 word_step : (c g : ℕ) (x : GroupStep) (h : Hist) → g < 8 → MayStep c x h → word (words_after x (words_in h)) g
     ≡ word_after g x (word (words_in h) g)
 word_step c g (Look i f) h s can = refl
-word_step c g (Raise f) h s can = get_or-set_other (words_in h) 72 (group_at g) _ 0 (λ z. absurd (omega arith))
-word_step c g (Lower f) h s can = get_or-set_other (words_in h) 72 (group_at g) _ 0 (λ z. absurd (omega arith))
-word_step c g (Enter u f) h s can = set_group (words_in h) u g (λ w. w + 4294967296) (long h) can.1
+word_step c g (Raise f) h s can = get_or-set_other (words_in h) active_at (group_at g) _ 0 (λ z. absurd (omega arith))
+word_step c g (Lower f) h s can = get_or-set_other (words_in h) active_at (group_at g) _ 0 (λ z. absurd (omega arith))
+word_step c g (Enter u f) h s can = set_group (words_in h) u g (λ w. w + one_waiting) (long h) can.1
 word_step c g (Grant u old m f) h s can = set_group (words_in h) u g (λ w. exchange_to old (moved_in old m) w)
     (long h) can.1
 word_step c g (Use u old f) h s can = set_group (words_in h) u g (λ w. exchange_to old (old - 1) w) (long h) can.1
-word_step c g (Withdraw u old f) h s can = set_group (words_in h) u g (λ w. exchange_to old (old - 4294967296) w)
+word_step c g (Withdraw u old f) h s can = set_group (words_in h) u g (λ w. exchange_to old (old - one_waiting) w)
     (long h) can.1
-word_step c g (Store v) h s can = get_or-set_other (words_in h) 80 (group_at g) _ 0 (λ z. absurd (omega arith))
+word_step c g (Store v) h s can = get_or-set_other (words_in h) index_at (group_at g) _ 0 (λ z. absurd (omega arith))
 
 -- ---- one waiter
 
@@ -248,14 +250,14 @@ module _ (n : ℕ) where
       (omega arith, omega arith)
   bal_step few g c (Enter u f) h s l k can b = let x = b.0 in let y = b.1 in let w : ℕ = word (words_in h) g in
       let e = word_step c g (Enter u f) h s can in dite (ℕ_discrete u g)
-      (λ z. let p = yes_of u g (w + 4294967296) w z in let q = yes_of u g 1 0 z in (omega arith, omega arith))
-      (λ z. let p = no_of u g (w + 4294967296) w z in let q = no_of u g 1 0 z in (omega arith, omega arith))
+      (λ z. let p = yes_of u g (w + one_waiting) w z in let q = yes_of u g 1 0 z in (omega arith, omega arith))
+      (λ z. let p = no_of u g (w + one_waiting) w z in let q = no_of u g 1 0 z in (omega arith, omega arith))
   bal_step few g c (Grant u old m f) h s l k can b = let w : ℕ = word (words_in h) g in
       let U : ℕ = total_all (used g) h in let M : ℕ = total_all (issued g) h in let D : ℕ = total_all (withdrawn g) h in
       let E : ℕ = total_all (entered g) h in
-      let x : w % 4294967296 + U ≡ M = b.0 in let y : w / 4294967296 + M + D ≡ E = b.1 in
-      let room = balance g h l b in let most = few_stand g h in let le : m ≤ old / 4294967296 = can.2 in
-      let P : ℕ → ℕ → Type 0 = (λ w' a. (w' % 4294967296 + U ≡ a + M) × (w' / 4294967296 + (a + M) + D ≡ E)) in
+      let x : w % one_waiting + U ≡ M = b.0 in let y : w / one_waiting + M + D ≡ E = b.1 in
+      let room = balance g h l b in let most = few_stand g h in let le : m ≤ old / one_waiting = can.2 in
+      let P : ℕ → ℕ → Type 0 = (λ w' a. (w' % one_waiting + U ≡ a + M) × (w' / one_waiting + (a + M) + D ≡ E)) in
       let t : P (word (words_in ((c, Grant u old m f) ∷ h)) g) (issued g (Grant u old m f)) =
       (subst (λ (w' : ℕ). P w' (issued g (Grant u old m f))) (sym (word_step c g (Grant u old m f) h s can))
       (cas g u f old (moved_in old m) m w P (λ e. can.0 ∙ ap (word (words_in h)) e)
@@ -264,9 +266,9 @@ module _ (n : ℕ) where
   bal_step few g c (Use u old f) h s l k can b = let w : ℕ = word (words_in h) g in
       let U : ℕ = total_all (used g) h in let M : ℕ = total_all (issued g) h in let D : ℕ = total_all (withdrawn g) h in
       let E : ℕ = total_all (entered g) h in
-      let x : w % 4294967296 + U ≡ M = b.0 in let y : w / 4294967296 + M + D ≡ E = b.1 in
-      let some : 0 < old % 4294967296 = can.2 in
-      let P : ℕ → ℕ → Type 0 = (λ w' a. (w' % 4294967296 + (a + U) ≡ M) × (w' / 4294967296 + M + D ≡ E)) in
+      let x : w % one_waiting + U ≡ M = b.0 in let y : w / one_waiting + M + D ≡ E = b.1 in
+      let some : 0 < old % one_waiting = can.2 in
+      let P : ℕ → ℕ → Type 0 = (λ w' a. (w' % one_waiting + (a + U) ≡ M) × (w' / one_waiting + M + D ≡ E)) in
       let t : P (word (words_in ((c, Use u old f) ∷ h)) g) (used g (Use u old f)) =
       (subst (λ (w' : ℕ). P w' (used g (Use u old f))) (sym (word_step c g (Use u old f) h s can))
       (cas g u f old (old - 1) 1 w P (λ e. can.0 ∙ ap (word (words_in h)) e) (λ e won. (omega arith, omega arith))
@@ -274,49 +276,52 @@ module _ (n : ℕ) where
   bal_step few g c (Withdraw u old f) h s l k can b = let w : ℕ = word (words_in h) g in
       let U : ℕ = total_all (used g) h in let M : ℕ = total_all (issued g) h in let D : ℕ = total_all (withdrawn g) h in
       let E : ℕ = total_all (entered g) h in
-      let x : w % 4294967296 + U ≡ M = b.0 in let y : w / 4294967296 + M + D ≡ E = b.1 in
-      let none : old % 4294967296 ≡ 0 = can.2 in
+      let x : w % one_waiting + U ≡ M = b.0 in let y : w / one_waiting + M + D ≡ E = b.1 in
+      let none : old % one_waiting ≡ 0 = can.2 in
       let room = balance g h l b in
-      let P : ℕ → ℕ → Type 0 = (λ w' a. (w' % 4294967296 + U ≡ M) × (w' / 4294967296 + M + (a + D) ≡ E)) in
+      let P : ℕ → ℕ → Type 0 = (λ w' a. (w' % one_waiting + U ≡ M) × (w' / one_waiting + M + (a + D) ≡ E)) in
       let t : P (word (words_in ((c, Withdraw u old f) ∷ h)) g) (withdrawn g (Withdraw u old f)) =
       (subst (λ (w' : ℕ). P w' (withdrawn g (Withdraw u old f))) (sym (word_step c g (Withdraw u old f) h s can))
-      (cas g u f old (old - 4294967296) 1 w P (λ e. can.0 ∙ ap (word (words_in h)) e)
+      (cas g u f old (old - one_waiting) 1 w P (λ e. can.0 ∙ ap (word (words_in h)) e)
       (λ e won. let stands_here = here_in g u (stand (own_steps c h)) can.3 in let one = yes_of u g 1 0 e in
       let has = sum_has (λ d. here g (stand (own_steps d h))) c n k in (omega arith, omega arith))
       (omega arith, omega arith))) in let t0 = t.0 in let t1 = t.1 in (omega arith, omega arith)
 
   pub balanced : n ≤ 64 → (g : ℕ) → g < 8 → (h : Hist) → Ok h → Bal g h
-  balanced few g s [] l = let z = zeros 88 (group_at g) in (omega arith, omega arith)
+  balanced few g s [] l = let z = zeros groups_width (group_at g) in (omega arith, omega arith)
   balanced few g s (x ∷ h) l = bal_step few g x.0 x.1 h s l.2 l.0 l.1 (balanced few g s h l.2)
 
   active_step : (c : ℕ) (x : GroupStep) (h : Hist) → Ok h → c < n → MayStep c x h
-      → get_or (words_in h) 72 0 + total_all downs h ≡ total_all ups h → get_or (words_after x (words_in h)) 72 0
+      → get_or (words_in h) active_at 0 + total_all downs h ≡ total_all ups h
+      → get_or (words_after x (words_in h)) active_at 0
       + (downs x + total_all downs h) ≡ ups x + total_all ups h
   active_step c (Look i f) h l k can b = omega arith
   active_step c (Raise f) h l k can b = let o = long h in
-      let z = get_or-set_same (words_in h) 72 (get_or (words_in h) 72 0 + 1) 0 (omega arith) in omega arith
+      let z = get_or-set_same (words_in h) active_at (get_or (words_in h) active_at 0 + 1) 0 (omega arith) in
+      omega arith
   active_step c (Lower f) h l k can b = let o = long h in
-      let z = get_or-set_same (words_in h) 72 (get_or (words_in h) 72 0 - 1) 0 (omega arith) in
+      let z = get_or-set_same (words_in h) active_at (get_or (words_in h) active_at 0 - 1) 0 (omega arith) in
       let has = sum_has (λ d. raised (own_steps d h)) c n k in let one = can.1 in let a = all_up h l in omega arith
-  active_step c (Enter u f) h l k can b = let z = get_or-set_other (words_in h) (group_at u) 72
-      (word (words_in h) u + 4294967296) 0 (λ e. let t = can.1 in absurd (omega arith)) in omega arith
-  active_step c (Grant u old m f) h l k can b = let z = get_or-set_other (words_in h) (group_at u) 72
+  active_step c (Enter u f) h l k can b = let z = get_or-set_other (words_in h) (group_at u) active_at
+      (word (words_in h) u + one_waiting) 0 (λ e. let t = can.1 in absurd (omega arith)) in omega arith
+  active_step c (Grant u old m f) h l k can b = let z = get_or-set_other (words_in h) (group_at u) active_at
       (exchange_to old (moved_in old m) (word (words_in h) u)) 0 (λ e. let t = can.1 in absurd (omega arith)) in
       omega arith
-  active_step c (Use u old f) h l k can b = let z = get_or-set_other (words_in h) (group_at u) 72
+  active_step c (Use u old f) h l k can b = let z = get_or-set_other (words_in h) (group_at u) active_at
       (exchange_to old (old - 1) (word (words_in h) u)) 0 (λ e. let t = can.1 in absurd (omega arith)) in omega arith
-  active_step c (Withdraw u old f) h l k can b = let z = get_or-set_other (words_in h) (group_at u) 72
-      (exchange_to old (old - 4294967296) (word (words_in h) u)) 0 (λ e. let t = can.1 in absurd (omega arith)) in
+  active_step c (Withdraw u old f) h l k can b = let z = get_or-set_other (words_in h) (group_at u) active_at
+      (exchange_to old (old - one_waiting) (word (words_in h) u)) 0 (λ e. let t = can.1 in absurd (omega arith)) in
       omega arith
-  active_step c (Store v) h l k can b = let z = get_or-set_other (words_in h) 80 72 v 0 (λ e. absurd (omega arith)) in
+  active_step c (Store v) h l k can b = let z = get_or-set_other (words_in h) index_at active_at v 0
+      (λ e. absurd (omega arith)) in
       omega arith
 
-  active_fold : (h : Hist) → Ok h → get_or (words_in h) 72 0 + total_all downs h ≡ total_all ups h
+  active_fold : (h : Hist) → Ok h → get_or (words_in h) active_at 0 + total_all downs h ≡ total_all ups h
   active_fold [] l = omega arith
   active_fold (x ∷ h) l = active_step x.0 x.1 h l.2 l.0 l.1 (active_fold h l.2)
 
   -- the active count is the number of waiters that have raised it
-  pub active_is : (h : Hist) → Ok h → get_or (words_in h) 72 0 ≡ up_now h
+  pub active_is : (h : Hist) → Ok h → get_or (words_in h) active_at 0 ≡ up_now h
   active_is h l = let a = active_fold h l in let b = all_up h l in omega arith
 
   -- one who stands is counted in its group, and one who has raised among the active
@@ -327,27 +332,29 @@ module _ (n : ℕ) where
   pub some_up : (c : ℕ) (h : Hist) → c < n → raised (own_steps c h) ≡ 1 → 1 ≤ up_now h
   some_up c h k e = let has = sum_has (λ d. raised (own_steps d h)) c n k in omega arith
 
-  index_step : (c : ℕ) (x : GroupStep) (h : Hist) → MayStep c x h → get_or (words_in h) 80 0 < 8
-      → get_or (words_after x (words_in h)) 80 0 < 8
+  index_step : (c : ℕ) (x : GroupStep) (h : Hist) → MayStep c x h → get_or (words_in h) index_at 0 < 8
+      → get_or (words_after x (words_in h)) index_at 0 < 8
   index_step c (Look i f) h can b = b
-  index_step c (Raise f) h can b = let z = get_or-set_other (words_in h) 72 80 (get_or (words_in h) 72 0 + 1) 0
+  index_step c (Raise f) h can b = let z = get_or-set_other (words_in h) active_at index_at
+      (get_or (words_in h) active_at 0 + 1) 0
       (λ e. absurd (omega arith)) in omega arith
-  index_step c (Lower f) h can b = let z = get_or-set_other (words_in h) 72 80 (get_or (words_in h) 72 0 - 1) 0
+  index_step c (Lower f) h can b = let z = get_or-set_other (words_in h) active_at index_at
+      (get_or (words_in h) active_at 0 - 1) 0
       (λ e. absurd (omega arith)) in omega arith
-  index_step c (Enter u f) h can b = let z = get_or-set_other (words_in h) (group_at u) 80
-      (word (words_in h) u + 4294967296) 0 (λ e. let t = can.1 in absurd (omega arith)) in omega arith
-  index_step c (Grant u old m f) h can b = let z = get_or-set_other (words_in h) (group_at u) 80
+  index_step c (Enter u f) h can b = let z = get_or-set_other (words_in h) (group_at u) index_at
+      (word (words_in h) u + one_waiting) 0 (λ e. let t = can.1 in absurd (omega arith)) in omega arith
+  index_step c (Grant u old m f) h can b = let z = get_or-set_other (words_in h) (group_at u) index_at
       (exchange_to old (moved_in old m) (word (words_in h) u)) 0 (λ e. let t = can.1 in absurd (omega arith)) in
       omega arith
-  index_step c (Use u old f) h can b = let z = get_or-set_other (words_in h) (group_at u) 80
+  index_step c (Use u old f) h can b = let z = get_or-set_other (words_in h) (group_at u) index_at
       (exchange_to old (old - 1) (word (words_in h) u)) 0 (λ e. let t = can.1 in absurd (omega arith)) in omega arith
-  index_step c (Withdraw u old f) h can b = let z = get_or-set_other (words_in h) (group_at u) 80
-      (exchange_to old (old - 4294967296) (word (words_in h) u)) 0 (λ e. let t = can.1 in absurd (omega arith)) in
+  index_step c (Withdraw u old f) h can b = let z = get_or-set_other (words_in h) (group_at u) index_at
+      (exchange_to old (old - one_waiting) (word (words_in h) u)) 0 (λ e. let t = can.1 in absurd (omega arith)) in
       omega arith
-  index_step c (Store v) h can b = let o = long h in let z = get_or-set_same (words_in h) 80 v 0 (omega arith) in
+  index_step c (Store v) h can b = let o = long h in let z = get_or-set_same (words_in h) index_at v 0 (omega arith) in
       omega arith
 
-  pub index_small : (h : Hist) → Ok h → get_or (words_in h) 80 0 < 8
+  pub index_small : (h : Hist) → Ok h → get_or (words_in h) index_at 0 < 8
   index_small [] l = omega arith
   index_small (x ∷ h) l = index_step x.0 x.1 h l.1 (index_small h l.2)
 
