@@ -1,5 +1,6 @@
 -- What passes and visits tell where nobody else steps.
-use Rattle.std.proofs.Common.{◌≡◌, ℕ, ◌<◌, Bool, ◌||◌, List, [], ◌∷◌, ◌++◌, get_or, Option, Some, None, arith, refl, sym, ap, ◌∙◌, subst}
+use Rattle.std.proofs.Common.{◌≡◌, ℕ, ◌<◌, Bool, ◌||◌, List, [], ◌∷◌, ◌++◌, get_or, Option, Some, None, arith, refl}
+use Rattle.std.proofs.Common.{sym, ap, ◌∙◌, subst}
 use Rattle.std.specs.Prelude.{All}
 use Rattle.std.specs.Int.{bit_at}
 use Rattle.std.proofs.lemmas.List.Elements.{All-nil, All-cons, All-head, All-tail}
@@ -9,40 +10,51 @@ use Rattle.tag_core.specs.Steps.{Words, Quiet, words_after, words_after_all}
 use Rattle.tag_search.specs.Choice.{IsFree, IsSet, IsAside, IsBusy, IsFirst}
 use Rattle.tag_search.specs.PlainLaws.{words_after-append}
 use Rattle.tag_search.specs.Pool.{Pool, pool_of, freed_in, taken_at}
-use Rattle.tag_search.specs.Search.{AllTaken, IsTries, none_left, wins, loses, IsPass, pass, IsRetry, nothing_aside, swept, IsVisit, at_once, retried}
+use Rattle.tag_search.specs.Search.{AllTaken, IsTries, none_left, wins, loses, IsPass, pass, IsRetry, nothing_aside}
+use Rattle.tag_search.specs.Search.{swept, IsVisit, at_once, retried}
 use Rattle.tag_search.proofs.Passes.{all_behind}
 use Rattle.tag_search.proofs.Pools.{free_here, aside_of_open}
 use Rattle.tag_search.proofs.Sweeps.{clear_of, set_of, none_of, claim_one, sweep_pool, sweep_none}
 
 -- the parts of a quiet list are quiet, the second from what the first leaves
-pub quiet-split : (xs ys : List WordStep) (w : Words) → Quiet (xs ++ ys) w → Quiet xs w × Quiet ys (words_after_all xs w)
+pub quiet-split : (xs ys : List WordStep) (w : Words) → Quiet (xs ++ ys) w → Quiet xs w
+    × Quiet ys (words_after_all xs w)
 quiet-split [] ys w quiet = (tt, quiet)
 quiet-split (x ∷ xs) ys w quiet = let rest = quiet-split xs ys (words_after x w) quiet.1 in ((quiet.0, rest.0), rest.1)
 
 -- a pass alone: none of the rank is free and nothing changed, or the first free place is won and taken
 abbrev pub PassTells : Words → ℕ → List ℕ → Option ℕ → Words → Type 0
 PassTells w i rank None left = All (IsSet (pool_of w) i) rank × (left ≡ w)
-PassTells w i rank (Some place) left = IsFirst (IsFree (pool_of w) i) (IsSet (pool_of w) i) rank place × (pool_of left ≡ taken_at i place (pool_of w))
+PassTells w i rank (Some place) left = IsFirst (IsFree (pool_of w) i) (IsSet (pool_of w) i) rank place
+    × (pool_of left ≡ taken_at i place (pool_of w))
 
-all_set : (w : Words) (i found : ℕ) (places : List ℕ) → found ≡ w.word i → AllTaken found places → All (IsSet (pool_of w) i) places
-all_set w i found places e taken = let here : AllTaken (w.word i) places = subst (λ (x : ℕ). AllTaken x places) e taken in
+all_set : (w : Words) (i found : ℕ) (places : List ℕ) → found ≡ w.word i → AllTaken found places
+    → All (IsSet (pool_of w) i) places
+all_set w i found places e taken = let here : AllTaken (w.word i) places = subst (λ (x : ℕ). AllTaken x places) e
+    taken in
     λ k d h. set_of (w.word i) (get_or places k d) (here k d h)
 
-tries_alone : {i : ℕ} {rank : List ℕ} {found : ℕ} {tries : List WordStep} {answer : Option ℕ} → IsTries i rank found tries answer
-    → (w : Words) → found ≡ w.word i → All (λ b. b < 64) rank → Quiet tries w → PassTells w i rank answer (words_after_all tries w)
-tries_alone {i = i} {rank = rank} {found = found} (none_left taken) w e within quiet = (all_set w i found rank e taken, refl)
-tries_alone {i = i} {found = found} (wins {behind = behind} {next = next} {place = place} first clear) w e within quiet = (
-  record {
-    before = first.before;
-    behind = behind;
-    order = first.order;
-    others = all_set w i found first.before e first.taken;
-    is = clear_of (w.word i) place (all_behind (λ b. b < 64) first.before place behind (subst (All (λ b. b < 64)) first.order within)).0 (subst (λ (x : ℕ). bit_at x place ≡ 0) e first.clear);
-  },
-  claim_one w i place next,
-)
+tries_alone : {i : ℕ} {rank : List ℕ} {found : ℕ} {tries : List WordStep} {answer : Option ℕ}
+    → IsTries i rank found tries answer
+    → (w : Words) → found ≡ w.word i → All (λ b. b < 64) rank → Quiet tries w
+    → PassTells w i rank answer (words_after_all tries w)
+tries_alone {i = i} {rank = rank} {found = found} (none_left taken) w e within quiet =
+    (all_set w i found rank e taken, refl)
+tries_alone {i = i} {found = found} (wins {behind = behind} {next = next} {place = place} first clear) w e within
+    quiet = (
+      record {
+        before = first.before;
+        behind = behind;
+        order = first.order;
+        others = all_set w i found first.before e first.taken;
+        is = clear_of (w.word i) place (all_behind (λ b. b < 64) first.before place behind
+            (subst (All (λ b. b < 64)) first.order within)).0 (subst (λ (x : ℕ). bit_at x place ≡ 0) e first.clear);
+      },
+      claim_one w i place next,
+    )
 tries_alone (loses {found = found} {next = next} {place = place} first taken rest) w e within quiet =
-    absurd (let same : bit_at next place ≡ bit_at found place = ap (λ (x : ℕ). bit_at x place) (quiet.0 ∙ sym e) in let clear = first.clear in omega arith)
+    absurd (let same : bit_at next place ≡ bit_at found place = ap (λ (x : ℕ). bit_at x place) (quiet.0 ∙ sym e) in
+    let clear = first.clear in omega arith)
 
 pub pass_alone : {i : ℕ} {rank : List ℕ} {steps : List WordStep} {answer : Option ℕ} → IsPass i rank steps answer
     → (w : Words) → All (λ b. b < 64) rank → Quiet steps w → PassTells w i rank answer (words_after_all steps w)
@@ -51,7 +63,8 @@ pass_alone (pass tries) w within quiet = tries_alone tries w quiet.0 within quie
 -- a visit won a place: a free one, or where none is free one that its sweep freed
 pub data Wins (p : Pool) (i : ℕ) (rank : List ℕ) (place : ℕ) (left : Pool) : Type 0 where
   wins_free : IsFirst (IsFree p i) (IsSet p i) rank place → left ≡ taken_at i place p → Wins p i rank place left
-  wins_aside : All (IsSet p i) rank → IsFirst (IsAside p i) (IsBusy p i) rank place → left ≡ taken_at i place (freed_in (i ∷ []) p) → Wins p i rank place left
+  wins_aside : All (IsSet p i) rank → IsFirst (IsAside p i) (IsBusy p i) rank place
+      → left ≡ taken_at i place (freed_in (i ∷ []) p) → Wins p i rank place left
 
 -- a visit alone: all of the rank is busy and the word was swept, or a place is won
 abbrev pub VisitTells : Pool → ℕ → List ℕ → Option ℕ → Pool → Type 0
@@ -60,16 +73,24 @@ VisitTells p i rank (Some place) left = Wins p i rank place left
 
 all_before : {X : Type 0} (P : X → Type 0) (xs ys : List X) → All P (xs ++ ys) → All P xs
 all_before P [] ys h = All-nil P
-all_before P (x ∷ xs) ys h = All-cons P x xs (All-head P x (xs ++ ys) h) (all_before P xs ys (All-tail P x (xs ++ ys) h))
+all_before P (x ∷ xs) ys h = All-cons P x xs (All-head P x (xs ++ ys) h)
+    (all_before P xs ys (All-tail P x (xs ++ ys) h))
 
 -- a place that isn't free once its word is swept is busy
-all_busy : (p mid : Pool) (i : ℕ) (places : List ℕ) → mid ≡ freed_in (i ∷ []) p → All (IsSet mid i) places → All (IsBusy p i) places
-all_busy p mid i places e set = λ k d h. let place = get_or places k d in sym (free_here p i place) ∙ ap (λ (q : Pool). q.free i place) (sym e) ∙ set k d h
+all_busy : (p mid : Pool) (i : ℕ) (places : List ℕ) → mid ≡ freed_in (i ∷ []) p → All (IsSet mid i) places
+    → All (IsBusy p i) places
+all_busy p mid i places e set = λ k d h. let place = get_or places k d in
+    sym (free_here p i place) ∙ ap (λ (q : Pool). q.free i place) (sym e) ∙ set k d h
 
 -- the second pass, after a sweep, wins the first place set aside
-second_tells : (p mid : Pool) (w left : Words) (i : ℕ) (rank : List ℕ) (answer : Option ℕ) → pool_of w ≡ mid → mid ≡ freed_in (i ∷ []) p → All (IsSet p i) rank
+second_tells : (p mid : Pool) (w left : Words) (i : ℕ) (rank : List ℕ) (answer : Option ℕ) → pool_of w ≡ mid
+    → mid ≡ freed_in (i ∷ []) p → All (IsSet p i) rank
     → PassTells w i rank answer left → VisitTells p i rank answer (pool_of left)
-second_tells p mid w left i rank None e f set tells = (all_busy p (pool_of w) i rank (e ∙ f) tells.0, ap pool_of tells.1 ∙ e ∙ f)
+second_tells p mid w left i rank None e f set tells = (
+  all_busy p (pool_of w) i rank (e ∙ f) tells.0,
+  ap pool_of tells.1
+      ∙ e ∙ f,
+)
 second_tells p mid w left i rank (Some place) e f set tells =
     let first = tells.0 in let all = subst (All (IsSet p i)) first.order set in
     wins_aside set (record {
@@ -77,29 +98,38 @@ second_tells p mid w left i rank (Some place) e f set tells =
       behind = first.behind;
       order = first.order;
       others = all_busy p (pool_of w) i first.before (e ∙ f) first.others;
-      is = aside_of_open (p.free i place) (p.aside i place) (all_behind (IsSet p i) first.before place first.behind all).0
+      is = aside_of_open (p.free i place) (p.aside i place)
+          (all_behind (IsSet p i) first.before place first.behind all).0
           (sym (free_here p i place) ∙ ap (λ (q : Pool). q.free i place) (sym (e ∙ f)) ∙ first.is);
     }) (tells.1 ∙ ap (taken_at i place) (e ∙ f))
 
-retry_alone : {i : ℕ} {rank : List ℕ} {steps : List WordStep} {answer : Option ℕ} → IsRetry i rank steps answer → (w : Words) → All (λ b. b < 64) rank
-    → All (IsSet (pool_of w) i) rank → Quiet steps w → VisitTells (pool_of w) i rank answer (pool_of (words_after_all steps w))
+retry_alone : {i : ℕ} {rank : List ℕ} {steps : List WordStep} {answer : Option ℕ} → IsRetry i rank steps answer
+    → (w : Words) → All (λ b. b < 64) rank
+    → All (IsSet (pool_of w) i) rank → Quiet steps w
+    → VisitTells (pool_of w) i rank answer (pool_of (words_after_all steps w))
 retry_alone {i = i} {rank = rank} (nothing_aside sweep) w within set quiet =
     let none = sweep_none sweep w quiet in (
       λ k d h. let place = get_or rank k d in
-          ap (λ (b : Bool). b || (pool_of w).aside i place) (set k d h) ∙ none_of (w.aside i) place (ap (λ (n : ℕ). bit_at n place) none ∙ bit_at-zero place),
+          ap (λ (b : Bool). b || (pool_of w).aside i place) (set k d h)
+          ∙ none_of (w.aside i) place (ap (λ (n : ℕ). bit_at n place) none ∙ bit_at-zero place),
       sweep_pool sweep w quiet,
     )
-retry_alone {i = i} {rank = rank} {answer = answer} (swept {sweep = sweep} {second = second} ne s again) w within set quiet =
+retry_alone {i = i} {rank = rank} {answer = answer} (swept {sweep = sweep} {second = second} ne s again) w within set
+    quiet =
     let parts = quiet-split sweep second w quiet in let mid = words_after_all sweep w in
     let tells = pass_alone again mid within parts.1 in
     subst (λ (x : Words). VisitTells (pool_of w) i rank answer (pool_of x)) (sym (words_after-append sweep second w))
-    (second_tells (pool_of w) (pool_of mid) mid (words_after_all second mid) i rank answer refl (sweep_pool s w parts.0) set tells)
+    (second_tells (pool_of w) (pool_of mid) mid (words_after_all second mid) i rank answer refl (sweep_pool s w parts.0)
+    set tells)
 
-pub visit_alone : {i : ℕ} {rank : List ℕ} {steps : List WordStep} {answer : Option ℕ} → IsVisit i rank steps answer → (w : Words) → All (λ b. b < 64) rank
+pub visit_alone : {i : ℕ} {rank : List ℕ} {steps : List WordStep} {answer : Option ℕ} → IsVisit i rank steps answer
+    → (w : Words) → All (λ b. b < 64) rank
     → Quiet steps w → VisitTells (pool_of w) i rank answer (pool_of (words_after_all steps w))
 visit_alone (at_once once) w within quiet = let tells = pass_alone once w within quiet in wins_free tells.0 tells.1
 visit_alone {i = i} {rank = rank} {answer = answer} (retried {first = first} {rest = rest} once again) w within quiet =
     let parts = quiet-split first rest w quiet in let tells = pass_alone once w within parts.0 in
     let quiet' : Quiet rest w = subst (Quiet rest) tells.1 parts.1 in
-    let e : words_after_all (first ++ rest) w ≡ words_after_all rest w = words_after-append first rest w ∙ ap (words_after_all rest) tells.1 in
-    subst (λ (x : Words). VisitTells (pool_of w) i rank answer (pool_of x)) (sym e) (retry_alone again w within tells.0 quiet')
+    let e : words_after_all (first ++ rest) w ≡ words_after_all rest w = words_after-append first rest w
+    ∙ ap (words_after_all rest) tells.1 in
+    subst (λ (x : Words). VisitTells (pool_of w) i rank answer (pool_of x)) (sym e)
+    (retry_alone again w within tells.0 quiet')

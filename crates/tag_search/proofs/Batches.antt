@@ -1,5 +1,6 @@
 -- What is known in the middle of a search for several tags.
-use Rattle.std.proofs.Common.{◌≡◌, ◌≢◌, ℕ, zero, suc, ◌+◌, ◌*◌, ◌%◌, ◌<◌, ◌≤◌, min, Bool, true, false, List, [], ◌∷◌, ◌++◌, length, Option, Some, None, arith, refl, sym, ap, subst}
+use Rattle.std.proofs.Common.{◌≡◌, ◌≢◌, ℕ, zero, suc, ◌+◌, ◌*◌, ◌%◌, ◌<◌, ◌≤◌, min, Bool, true, false, List, [], ◌∷◌}
+use Rattle.std.proofs.Common.{◌++◌, length, Option, Some, None, arith, refl, sym, ap, subst}
 use mathlib.Core.Logic.{dite}
 use native.Mathlib.Decide.{dec_lt}
 use Rattle.std.specs.Prelude.{MatchBool}
@@ -12,7 +13,8 @@ use Rattle.tag_layout.proofs.PlaceFacts.{word_bits-le, word_of-below}
 use Rattle.std.proofs.lemmas.Nat.{mod_below, pow_pos}
 use Rattle.tag_search.specs.Hints.{reduced}
 use Rattle.tag_search.specs.Added.{Adds}
-use Rattle.tag_search.specs.Batch.{run_mask, IsSweptLook, swept_look, IsBatchVisit, no_run, run_lost, run_taken, IsBatchSearch, batch_over, batch_won, batch_passed, IsBatchGet}
+use Rattle.tag_search.specs.Batch.{run_mask, IsSweptLook, swept_look, IsBatchVisit, no_run, run_lost, run_taken}
+use Rattle.tag_search.specs.Batch.{IsBatchSearch, batch_over, batch_won, batch_passed, IsBatchGet}
 use Rattle.tag_search.specs.Order.{numbers, scan_order}
 use Rattle.tag_search.specs.Search.{IsSweep}
 use Rattle.tag_search.proofs.BatchAlone.{batch_alone}
@@ -21,72 +23,93 @@ use Rattle.tag_search.proofs.Orders.{length-numbers}
 
 -- what a sweep adds, whether or not it found a mask
 pub swept_any : {Port : Type 0} (adds : Port → List WordStep → Port → Type 0) (p q : Port) (i : ℕ) (b : Bool)
-    → MatchBool b ((mask : ℕ) × (mask ≢ 0) × Adds adds p q (IsSweep i mask)) (Adds adds p q (IsSweep i 0)) → Adds adds p q (λ xs. (mask : ℕ) × IsSweep i mask xs)
+    → MatchBool b ((mask : ℕ) × (mask ≢ 0) × Adds adds p q (IsSweep i mask)) (Adds adds p q (IsSweep i 0))
+    → Adds adds p q (λ xs. (mask : ℕ) × IsSweep i mask xs)
 swept_any adds p q i true h = record { steps = h.2.steps; added = h.2.added; holds = (h.0, h.2.holds) }
 swept_any adds p q i false h = record { steps = h.steps; added = h.added; holds = (0, h.holds) }
 
 -- where all is taken there is no run
-pub no_first_clear : (found depth n : ℕ) → AllSet found 0 depth → (place : ℕ) → IsFirstClear found 0 depth place → depth < place + n
-no_first_clear found depth n set place first = absurd (let a = set place (omega arith) first.within in let b = first.clear in omega arith)
+pub no_first_clear : (found depth n : ℕ) → AllSet found 0 depth → (place : ℕ) → IsFirstClear found 0 depth place
+    → depth < place + n
+no_first_clear found depth n set place first = absurd (let a = set place (omega arith) first.within in
+    let b = first.clear in omega arith)
 
 -- the first clear place is one
 pub same_first_clear : (found depth a b : ℕ) → IsFirstClear found 0 depth a → IsFirstClear found 0 depth b → a ≤ b
 same_first_clear found depth a b x y = dite (dec_lt b a)
-    (λ (less : b < a). absurd (let t = x.first b (omega arith) less in let f = y.clear in omega arith)) (λ (no : b < a → ⊥). omega arith)
+    (λ (less : b < a). absurd (let t = x.first b (omega arith) less in let f = y.clear in omega arith))
+    (λ (no : b < a → ⊥). omega arith)
 
 -- a search of the words that are left, put behind these steps, is a search of all
 abbrev pub IsBatchBegun : Layout → ℕ → List ℕ → List ℕ → List WordStep → Type 0
-IsBatchBegun l n all left steps = (rest : List WordStep) (answer : Option (ℕ × ℕ)) → IsBatchSearch l n left rest answer → IsBatchSearch l n all (steps ++ rest) answer
+IsBatchBegun l n all left steps = (rest : List WordStep) (answer : Option (ℕ × ℕ)) → IsBatchSearch l n left rest answer
+    → IsBatchSearch l n all (steps ++ rest) answer
 
-pub batch_further : (l : Layout) (n : ℕ) (all behind : List ℕ) (i : ℕ) (steps more : List WordStep) → IsBatchBegun l n all (i ∷ behind) steps
+pub batch_further : (l : Layout) (n : ℕ) (all behind : List ℕ) (i : ℕ) (steps more : List WordStep)
+    → IsBatchBegun l n all (i ∷ behind) steps
     → IsBatchVisit i (word_depth l i) n more None → IsBatchBegun l n all behind (steps ++ more)
 batch_further l n all behind i steps more begun none rest answer search =
-    subst (λ xs. IsBatchSearch l n all xs answer) (sym (append_assoc steps more rest)) (begun (more ++ rest) answer (batch_passed none search))
+    subst (λ xs. IsBatchSearch l n all xs answer) (sym (append_assoc steps more rest))
+    (begun (more ++ rest) answer (batch_passed none search))
 
-pub batch_ends : (l : Layout) (n : ℕ) (all left : List ℕ) (steps : List WordStep) → left ≡ [] → IsBatchBegun l n all left steps → IsBatchSearch l n all steps None
+pub batch_ends : (l : Layout) (n : ℕ) (all left : List ℕ) (steps : List WordStep) → left ≡ []
+    → IsBatchBegun l n all left steps → IsBatchSearch l n all steps None
 batch_ends l n all left steps e begun =
-    subst (λ xs. IsBatchSearch l n all xs None) (append-nil steps) (begun [] None (subst (λ is. IsBatchSearch l n is [] None) (sym e) batch_over))
+    subst (λ xs. IsBatchSearch l n all xs None) (append-nil steps)
+    (begun [] None (subst (λ is. IsBatchSearch l n is [] None) (sym e) batch_over))
 
 -- a search that was answered doesn't look at further words
-pub batch_stops : (l : Layout) (n : ℕ) {is : List ℕ} {steps : List WordStep} (won : ℕ × ℕ) (answer : Option (ℕ × ℕ)) (more : List ℕ) → answer ≡ Some won
+pub batch_stops : (l : Layout) (n : ℕ) {is : List ℕ} {steps : List WordStep} (won : ℕ × ℕ) (answer : Option (ℕ × ℕ))
+    (more : List ℕ) → answer ≡ Some won
     → IsBatchSearch l n is steps answer → IsBatchSearch l n (is ++ more) steps answer
 batch_stops l n won answer more e batch_over = absurd (let no : None ≡ Some won = e in cc)
 batch_stops l n won answer more e (batch_won v) = batch_won v
 batch_stops l n won answer more e (batch_passed v search) = batch_passed v (batch_stops l n won answer more e search)
 
 -- a search that was not answered goes on with further words
-pub batch_goes_on : (l : Layout) (n : ℕ) {is : List ℕ} {steps : List WordStep} (first : Option (ℕ × ℕ)) (more : List ℕ) (rest : List WordStep) (answer : Option (ℕ × ℕ))
-    → first ≡ None → IsBatchSearch l n is steps first → IsBatchSearch l n more rest answer → IsBatchSearch l n (is ++ more) (steps ++ rest) answer
+pub batch_goes_on : (l : Layout) (n : ℕ) {is : List ℕ} {steps : List WordStep} (first : Option (ℕ × ℕ)) (more : List ℕ)
+    (rest : List WordStep) (answer : Option (ℕ × ℕ))
+    → first ≡ None → IsBatchSearch l n is steps first → IsBatchSearch l n more rest answer
+    → IsBatchSearch l n (is ++ more) (steps ++ rest) answer
 batch_goes_on l n first more rest answer e batch_over search = search
-batch_goes_on l n first more rest answer e (batch_won {i = i} {place = place} {bits = bits} v) search = absurd (let no : Some (tag_at l i place, bits) ≡ None = e in cc)
+batch_goes_on l n first more rest answer e (batch_won {i = i} {place = place} {bits = bits} v) search =
+    absurd (let no : Some (tag_at l i place, bits) ≡ None = e in cc)
 batch_goes_on l n first more rest answer e (batch_passed {i = i} {is = is} {steps = s} {rest = r} v left) search =
-    subst (λ xs. IsBatchSearch l n (i ∷ (is ++ more)) xs answer) (sym (append_assoc s r rest)) (batch_passed v (batch_goes_on l n first more rest answer e left search))
+    subst (λ xs. IsBatchSearch l n (i ∷ (is ++ more)) xs answer) (sym (append_assoc s r rest))
+    (batch_passed v (batch_goes_on l n first more rest answer e left search))
 
 swept_look_bound : {i found : ℕ} {steps : List WordStep} → IsSweptLook i found steps → length steps ≤ 3
-swept_look_bound {i = i} {found = found} (swept_look {sweep = sweep} s fits) = let a = sweep_bound s in let e = length-append sweep (Look i found ∷ []) in omega arith
+swept_look_bound {i = i} {found = found} (swept_look {sweep = sweep} s fits) = let a = sweep_bound s in
+    let e = length-append sweep (Look i found ∷ []) in omega arith
 
-batch_visit_bound : {i depth n : ℕ} {steps : List WordStep} {answer : Option (ℕ × ℕ)} → IsBatchVisit i depth n steps answer → length steps ≤ 4
+batch_visit_bound : {i depth n : ℕ} {steps : List WordStep} {answer : Option (ℕ × ℕ)}
+    → IsBatchVisit i depth n steps answer → length steps ≤ 4
 batch_visit_bound (no_run look none) = let a = swept_look_bound look in omega arith
 batch_visit_bound {i = i} {n = n} (run_lost {place = place} {steps = steps} next look run lost) =
     let a = swept_look_bound look in let e = length-append steps (Claimed i (run_mask n place) next ∷ []) in omega arith
 batch_visit_bound {i = i} {n = n} (run_taken {place = place} {steps = steps} next look run won) =
     let a = swept_look_bound look in let e = length-append steps (Claimed i (run_mask n place) next ∷ []) in omega arith
 
-batch_bound : {l : Layout} {n : ℕ} {is : List ℕ} {steps : List WordStep} {answer : Option (ℕ × ℕ)} → IsBatchSearch l n is steps answer → length steps ≤ 4 * length is
+batch_bound : {l : Layout} {n : ℕ} {is : List ℕ} {steps : List WordStep} {answer : Option (ℕ × ℕ)}
+    → IsBatchSearch l n is steps answer → length steps ≤ 4 * length is
 batch_bound batch_over = omega arith
 batch_bound (batch_won v) = let a = batch_visit_bound v in omega arith
 batch_bound (batch_passed {steps = first} {rest = rest} v search) =
     let a = batch_visit_bound v in let b = batch_bound search in let e = length-append first rest in omega arith
 
 -- the words from the first on, and then those before it
-pub order-split : (first count : ℕ) → first ≤ count → scan_order first count true ≡ numbers first count ++ numbers 0 first
-order-split first count h = let e : min first count ≡ first = omega arith in ap (λ (end : ℕ). numbers first count ++ numbers 0 end) e
+pub order-split : (first count : ℕ) → first ≤ count → scan_order first count true ≡ numbers first count
+    ++ numbers 0 first
+order-split first count h = let e : min first count ≡ first = omega arith in
+    ap (λ (end : ℕ). numbers first count ++ numbers 0 end) e
 
 -- a search over all words is a batch get
-pub batch_get : (l : Layout) (n first : ℕ) → 1 ≤ n → l.shift ≤ 6 → first ≤ words l → (answer : Option (ℕ × ℕ)) (steps : List WordStep)
+pub batch_get : (l : Layout) (n first : ℕ) → 1 ≤ n → l.shift ≤ 6 → first ≤ words l
+    → (answer : Option (ℕ × ℕ)) (steps : List WordStep)
     → IsBatchSearch l n (scan_order first (words l) true) steps answer → IsBatchGet l n first answer steps
 batch_get l n first some narrow h answer steps search =
-    let all = length-append (numbers first (words l)) (numbers 0 first) in let e = ap length (order-split first (words l) h) in
+    let all = length-append (numbers first (words l)) (numbers 0 first) in
+    let e = ap length (order-split first (words l) h) in
     let a = length-numbers first (words l) in let b = length-numbers 0 first in let bound = batch_bound search in
     record { search = search; alone = batch_alone l n search some (word_bits-le l narrow); bound = omega arith }
 
@@ -100,8 +123,10 @@ hint_word-le l at = cases l.depth refl
         let below = word_of-below l (at % suc d) (subst (λ (x : ℕ). at % suc d < x) (sym e) low) in omega arith
 
 -- the same by other names of the sizes and the first word
-pub batch_get_at : (l sizes : Layout) (n first word : ℕ) → 1 ≤ n → sizes.shift ≤ 6 → l ≡ sizes → first ≡ word → word ≤ words sizes → (answer : Option (ℕ × ℕ)) (steps : List WordStep)
+pub batch_get_at : (l sizes : Layout) (n first word : ℕ) → 1 ≤ n → sizes.shift ≤ 6 → l ≡ sizes → first ≡ word
+    → word ≤ words sizes → (answer : Option (ℕ × ℕ)) (steps : List WordStep)
     → IsBatchSearch l n (scan_order first (words l) true) steps answer → IsBatchGet sizes n word answer steps
 batch_get_at l sizes n first word some narrow e f h answer steps search =
     let a = subst (λ (x : Layout). IsBatchSearch x n (scan_order first (words x) true) steps answer) e search in
-    batch_get sizes n word some narrow h answer steps (subst (λ (x : ℕ). IsBatchSearch sizes n (scan_order x (words sizes) true) steps answer) f a)
+    batch_get sizes n word some narrow h answer steps
+    (subst (λ (x : ℕ). IsBatchSearch sizes n (scan_order x (words sizes) true) steps answer) f a)

@@ -1,12 +1,14 @@
 -- A search where nobody else steps answers the choice.
-use Rattle.std.proofs.Common.{◌≡◌, ◌≢◌, ℕ, zero, suc, ◌+◌, ◌-◌, ◌<◌, ◌≤◌, min, true, cond, nat_eq, List, [], ◌∷◌, ◌++◌, map, get_or, Option, Some, None, arith, sym, ap, ◌∙◌, subst}
+use Rattle.std.proofs.Common.{◌≡◌, ◌≢◌, ℕ, zero, suc, ◌+◌, ◌-◌, ◌<◌, ◌≤◌, min, true, cond, nat_eq, List, [], ◌∷◌, ◌++◌}
+use Rattle.std.proofs.Common.{map, get_or, Option, Some, None, arith, sym, ap, ◌∙◌, subst}
 use Rattle.std.specs.Prelude.{All}
 use Rattle.std.proofs.lemmas.List.Elements.{All-nil, All-cons, All-head, All-tail, All-append, All-map}
 use Rattle.tag_core.specs.declared.word_step.WordStep.{WordStep}
 use Rattle.tag_core.specs.Steps.{Words, Quiet, words_after_all}
 use Rattle.tag_layout.specs.Layout.{Layout, words, word_depth, tag_at}
 use Rattle.tag_layout.proofs.PlaceFacts.{word_bits-le}
-use Rattle.tag_search.specs.Choice.{IsFree, IsSet, IsAside, IsBusy, IsFirst, IsFull, words_in, IsChoice, nothing, chosen_free, chosen_aside}
+use Rattle.tag_search.specs.Choice.{IsFree, IsSet, IsAside, IsBusy, IsFirst, IsFull, words_in, IsChoice, nothing}
+use Rattle.tag_search.specs.Choice.{chosen_free, chosen_aside}
 use Rattle.tag_search.specs.Order.{numbers_from, numbers, scan_order}
 use Rattle.tag_search.specs.PlainLaws.{words_after-append}
 use Rattle.tag_search.specs.Pool.{Pool, pool_of, freed_in, taken_at}
@@ -15,7 +17,8 @@ use Rattle.tag_search.specs.Visits.{Reach, visit_of, visits}
 use Rattle.tag_search.proofs.Alone.{quiet-split, Wins, wins_free, wins_aside, visit_alone}
 use Rattle.tag_search.proofs.Orders.{all_from, all_numbers, all_scan}
 use Rattle.tag_search.proofs.Passes.{all_behind}
-use Rattle.tag_search.proofs.Pools.{open_freed, free_elsewhere, aside_elsewhere, freed_none, freed_before, freed_between}
+use Rattle.tag_search.proofs.Pools.{open_freed, free_elsewhere, aside_elsewhere, freed_none, freed_before}
+use Rattle.tag_search.proofs.Pools.{freed_between}
 
 -- no two visits are of one word
 abbrev pub Distinct : List Visit → Type 0
@@ -26,14 +29,17 @@ Distinct (visit ∷ visits) = All (λ other. other.word ≢ visit.word) visits �
 abbrev pub InWords : Visit → Type 0
 InWords visit = All (λ b. b < 64) visit.rank
 
-set_elsewhere : (x : ℕ) (p : Pool) (i : ℕ) (places : List ℕ) → i ≢ x → All (IsSet (freed_in (x ∷ []) p) i) places → All (IsSet p i) places
+set_elsewhere : (x : ℕ) (p : Pool) (i : ℕ) (places : List ℕ) → i ≢ x → All (IsSet (freed_in (x ∷ []) p) i) places
+    → All (IsSet p i) places
 set_elsewhere x p i places ne set = λ k d h. sym (free_elsewhere x p i (get_or places k d) ne) ∙ set k d h
 
-busy_still : (x : ℕ) (p : Pool) (i : ℕ) (places : List ℕ) → All (IsBusy (freed_in (x ∷ []) p) i) places → All (IsBusy p i) places
+busy_still : (x : ℕ) (p : Pool) (i : ℕ) (places : List ℕ) → All (IsBusy (freed_in (x ∷ []) p) i) places
+    → All (IsBusy p i) places
 busy_still x p i places busy = λ k d h. sym (open_freed (x ∷ []) p i (get_or places k d)) ∙ busy k d h
 
 -- a place that is free, or set aside, is so where another word is freed
-first_elsewhere : (x : ℕ) (p : Pool) (i : ℕ) (rank : List ℕ) (place : ℕ) → i ≢ x → IsFirst (IsFree (freed_in (x ∷ []) p) i) (IsSet (freed_in (x ∷ []) p) i) rank place
+first_elsewhere : (x : ℕ) (p : Pool) (i : ℕ) (rank : List ℕ) (place : ℕ) → i ≢ x
+    → IsFirst (IsFree (freed_in (x ∷ []) p) i) (IsSet (freed_in (x ∷ []) p) i) rank place
     → IsFirst (IsFree p i) (IsSet p i) rank place
 first_elsewhere x p i rank place ne first = record {
   before = first.before;
@@ -43,7 +49,8 @@ first_elsewhere x p i rank place ne first = record {
   is = sym (free_elsewhere x p i place ne) ∙ first.is;
 }
 
-aside_first : (x : ℕ) (p : Pool) (i : ℕ) (rank : List ℕ) (place : ℕ) → i ≢ x → IsFirst (IsAside (freed_in (x ∷ []) p) i) (IsBusy (freed_in (x ∷ []) p) i) rank place
+aside_first : (x : ℕ) (p : Pool) (i : ℕ) (rank : List ℕ) (place : ℕ) → i ≢ x
+    → IsFirst (IsAside (freed_in (x ∷ []) p) i) (IsBusy (freed_in (x ∷ []) p) i) rank place
     → IsFirst (IsAside p i) (IsBusy p i) rank place
 aside_first x p i rank place ne first = record {
   before = first.before;
@@ -53,43 +60,59 @@ aside_first x p i rank place ne first = record {
   is = sym (aside_elsewhere x p i place ne) ∙ first.is;
 }
 
-full_still : (x : ℕ) (p : Pool) (visits : List Visit) → All (IsFull (freed_in (x ∷ []) p)) visits → All (IsFull p) visits
+full_still : (x : ℕ) (p : Pool) (visits : List Visit) → All (IsFull (freed_in (x ∷ []) p)) visits
+    → All (IsFull p) visits
 full_still x p visits full = λ k d h. let visit = get_or visits k d in busy_still x p visit.word visit.rank (full k d h)
 
 -- a choice behind a word that is full, and was swept
-choice_behind : (p : Pool) (first : Visit) {l : Layout} {vs : List Visit} {answer : Option ℕ} {left : Pool} → IsFull p first → All (λ other. other.word ≢ first.word) vs
+choice_behind : (p : Pool) (first : Visit) {l : Layout} {vs : List Visit} {answer : Option ℕ} {left : Pool}
+    → IsFull p first → All (λ other. other.word ≢ first.word) vs
     → IsChoice l (freed_in (first.word ∷ []) p) vs answer left → IsChoice l p (first ∷ vs) answer left
 choice_behind p first {l = l} full apart (nothing {visits = vs} all) =
-    subst (IsChoice l p (first ∷ vs) None) (sym (freed_before first.word (words_in vs) p)) (nothing (All-cons (IsFull p) first vs full (full_still first.word p vs all)))
+    subst (IsChoice l p (first ∷ vs) None) (sym (freed_before first.word (words_in vs) p))
+    (nothing (All-cons (IsFull p) first vs full (full_still first.word p vs all)))
 choice_behind p first {l = l} full apart (chosen_free fulls behind visit {place = place} all is) =
     let ne = (all_behind (λ other. other.word ≢ first.word) fulls visit behind apart).0 in
-    subst (IsChoice l p (first ∷ (fulls ++ visit ∷ behind)) (Some (tag_at l visit.word place))) (sym (ap (taken_at visit.word place) (freed_before first.word (words_in fulls) p)))
-    (chosen_free (first ∷ fulls) behind visit (All-cons (IsFull p) first fulls full (full_still first.word p fulls all)) (first_elsewhere first.word p visit.word visit.rank place ne is))
+    subst (IsChoice l p (first ∷ (fulls ++ visit ∷ behind)) (Some (tag_at l visit.word place)))
+    (sym (ap (taken_at visit.word place) (freed_before first.word (words_in fulls) p)))
+    (chosen_free (first ∷ fulls) behind visit (All-cons (IsFull p) first fulls full (full_still first.word p fulls all))
+    (first_elsewhere first.word p visit.word visit.rank place ne is))
 choice_behind p first {l = l} full apart (chosen_aside fulls behind visit {place = place} all set is) =
     let ne = (all_behind (λ other. other.word ≢ first.word) fulls visit behind apart).0 in
-    subst (IsChoice l p (first ∷ (fulls ++ visit ∷ behind)) (Some (tag_at l visit.word place))) (sym (ap (taken_at visit.word place) (freed_between first.word visit.word (words_in fulls) p)))
-    (chosen_aside (first ∷ fulls) behind visit (All-cons (IsFull p) first fulls full (full_still first.word p fulls all))
-    (set_elsewhere first.word p visit.word visit.rank ne set) (aside_first first.word p visit.word visit.rank place ne is))
+    subst (IsChoice l p (first ∷ (fulls ++ visit ∷ behind)) (Some (tag_at l visit.word place)))
+    (sym (ap (taken_at visit.word place) (freed_between first.word visit.word (words_in fulls) p)))
+    (chosen_aside (first ∷ fulls) behind visit
+    (All-cons (IsFull p) first fulls full (full_still first.word p fulls all))
+    (set_elsewhere first.word p visit.word visit.rank ne set)
+    (aside_first first.word p visit.word visit.rank place ne is))
 
 -- a choice that the first visit makes
-choice_here : (l : Layout) (p left : Pool) (visit : Visit) (more : List Visit) (place : ℕ) → Wins p visit.word visit.rank place left
+choice_here : (l : Layout) (p left : Pool) (visit : Visit) (more : List Visit) (place : ℕ)
+    → Wins p visit.word visit.rank place left
     → IsChoice l p (visit ∷ more) (Some (tag_at l visit.word place)) left
 choice_here l p left visit more place (wins_free first e) =
-    subst (IsChoice l p (visit ∷ more) (Some (tag_at l visit.word place))) (ap (taken_at visit.word place) (freed_none p) ∙ sym e) (chosen_free [] more visit (All-nil (IsFull p)) first)
+    subst (IsChoice l p (visit ∷ more) (Some (tag_at l visit.word place)))
+    (ap (taken_at visit.word place) (freed_none p) ∙ sym e) (chosen_free [] more visit (All-nil (IsFull p)) first)
 choice_here l p left visit more place (wins_aside set first e) =
-    subst (IsChoice l p (visit ∷ more) (Some (tag_at l visit.word place))) (sym e) (chosen_aside [] more visit (All-nil (IsFull p)) set first)
+    subst (IsChoice l p (visit ∷ more) (Some (tag_at l visit.word place))) (sym e)
+    (chosen_aside [] more visit (All-nil (IsFull p)) set first)
 
 -- a search alone is a choice
-pub search_alone : {l : Layout} {vs : List Visit} {steps : List WordStep} {answer : Option ℕ} → IsSearch l vs steps answer → (w : Words) → Distinct vs → All InWords vs
+pub search_alone : {l : Layout} {vs : List Visit} {steps : List WordStep} {answer : Option ℕ}
+    → IsSearch l vs steps answer → (w : Words) → Distinct vs → All InWords vs
     → Quiet steps w → IsChoice l (pool_of w) vs answer (pool_of (words_after_all steps w))
-search_alone {l = l} over w distinct within quiet = subst (IsChoice l (pool_of w) [] None) (freed_none (pool_of w)) (nothing (All-nil (IsFull (pool_of w))))
+search_alone {l = l} over w distinct within quiet = subst (IsChoice l (pool_of w) [] None) (freed_none (pool_of w))
+    (nothing (All-nil (IsFull (pool_of w))))
 search_alone {l = l} (won {visit = visit} {visits = more} {steps = steps} {place = place} v) w distinct within quiet =
-    choice_here l (pool_of w) (pool_of (words_after_all steps w)) visit more place (visit_alone v w (All-head InWords visit more within) quiet)
-search_alone {l = l} (passed {visit = visit} {visits = more} {steps = first} {rest = rest} {answer = answer} v search) w distinct within quiet =
+    choice_here l (pool_of w) (pool_of (words_after_all steps w)) visit more place
+    (visit_alone v w (All-head InWords visit more within) quiet)
+search_alone {l = l} (passed {visit = visit} {visits = more} {steps = first} {rest = rest} {answer = answer} v search) w
+    distinct within quiet =
     let parts = quiet-split first rest w quiet in let mid = words_after_all first w in
     let tells = visit_alone v w (All-head InWords visit more within) parts.0 in
     let a = search_alone search mid distinct.1 (All-tail InWords visit more within) parts.1 in
-    let b = subst (λ (x : Words). IsChoice l (pool_of mid) more answer (pool_of x)) (sym (words_after-append first rest w)) a in
+    let b = subst (λ (x : Words). IsChoice l (pool_of mid) more answer (pool_of x))
+    (sym (words_after-append first rest w)) a in
     choice_behind (pool_of w) visit tells.0 distinct.0
     (subst (λ (p : Pool). IsChoice l p more answer (pool_of (words_after_all (first ++ rest) w))) tells.1 b)
 
@@ -110,11 +133,16 @@ apart-append (x ∷ xs) ys a b cross =
 
 distinct_map : (first : ℕ) (reach : Reach) (xs : List ℕ) → Apart xs → Distinct (map (visit_of first reach) xs)
 distinct_map first reach [] a = tt
-distinct_map first reach (x ∷ xs) a = (All-map (λ visit. visit.word ≢ x) (visit_of first reach) xs a.0, distinct_map first reach xs a.1)
+distinct_map first reach (x ∷ xs) a = (
+  All-map (λ visit. visit.word ≢ x) (visit_of first reach) xs a.0,
+  distinct_map first reach xs a.1,
+)
 
 -- where nobody else steps a search over all words answers the choice
-pub search_chooses : (l : Layout) (first : ℕ) (reach : Reach) → l.shift ≤ 6 → first ≤ words l → ((i : ℕ) → i < words l → reach.limit i ≤ word_depth l i)
-    → (answer : Option ℕ) (steps : List WordStep) → IsSearch l (visits l first reach) steps answer → (w : Words) → Quiet steps w
+pub search_chooses : (l : Layout) (first : ℕ) (reach : Reach) → l.shift ≤ 6 → first ≤ words l
+    → ((i : ℕ) → i < words l → reach.limit i ≤ word_depth l i)
+    → (answer : Option ℕ) (steps : List WordStep) → IsSearch l (visits l first reach) steps answer → (w : Words)
+    → Quiet steps w
     → IsChoice l (pool_of w) (visits l first reach) answer (pool_of (words_after_all steps w))
 search_chooses l first reach narrow h within answer steps search w quiet =
     let front = numbers first (words l) in let back = numbers 0 first in
@@ -124,10 +152,16 @@ search_chooses l first reach narrow h within answer steps search w quiet =
     let Narrow : ℕ → Type 0 = λ i. InWords (visit_of first reach i) in
     let each : (i : ℕ) → i < words l → Narrow i = λ i k. let a = within i k in
     all_scan (λ b. b < 64) (cond (nat_eq i first) reach.start 0) (reach.limit i) reach.wrap (λ b below. omega arith) in
-    let narrow_all : All Narrow (front ++ back) = All-append Narrow front back (all_numbers Narrow first (words l) (λ i _ k. each i k)) (all_numbers Narrow 0 first (λ i _ k. each i (omega arith))) in
-    let apart : Apart (front ++ back) = apart-append front back (apart_from first (words l - first)) (apart_from 0 (first - 0))
-    (all_numbers (λ x. All (λ y. y ≢ x) back) first (words l) (λ x low _. all_numbers (λ y. y ≢ x) 0 first (λ y _ high e. omega arith))) in
+    let narrow_all : All Narrow (front ++ back) = All-append Narrow front back
+    (all_numbers Narrow first (words l) (λ i _ k. each i k))
+    (all_numbers Narrow 0 first (λ i _ k. each i (omega arith))) in
+    let apart : Apart (front ++ back) = apart-append front back (apart_from first (words l - first))
+    (apart_from 0 (first - 0))
+    (all_numbers (λ x. All (λ y. y ≢ x) back) first (words l)
+    (λ x low _. all_numbers (λ y. y ≢ x) 0 first (λ y _ high e. omega arith))) in
     let of = visit_of first reach in
-    let distinct : Distinct (visits l first reach) = subst (λ (xs : List ℕ). Distinct (map of xs)) (sym order) (distinct_map first reach (front ++ back) apart) in
-    let inside : All InWords (visits l first reach) = subst (λ (xs : List ℕ). All InWords (map of xs)) (sym order) (All-map InWords of (front ++ back) narrow_all) in
+    let distinct : Distinct (visits l first reach) = subst (λ (xs : List ℕ). Distinct (map of xs)) (sym order)
+    (distinct_map first reach (front ++ back) apart) in
+    let inside : All InWords (visits l first reach) = subst (λ (xs : List ℕ). All InWords (map of xs)) (sym order)
+    (All-map InWords of (front ++ back) narrow_all) in
     search_alone search w distinct inside quiet

@@ -15,7 +15,8 @@ count_ones-pow k = let e : 2 ^ k ≡ 1 * 2 ^ k + 0 = omega arith in ap count_one
 -- what a claim of one place won, by what it found there
 pub without-pow : (found k : ℕ) → found < 2 ^ 64 → k < 64 → without (2 ^ k) found ≡ (1 - bit_at found k) * 2 ^ k
 without-pow found k fits h =
-    and_comm (2 ^ k) (2 ^ 64 - 1 - found) ∙ and_pow (2 ^ 64 - 1 - found) k ∙ ap (λ (x : ℕ). x * 2 ^ k) (bit_at_not w64 found k fits h)
+    and_comm (2 ^ k) (2 ^ 64 - 1 - found) ∙ and_pow (2 ^ 64 - 1 - found) k
+    ∙ ap (λ (x : ℕ). x * 2 ^ k) (bit_at_not w64 found k fits h)
 
 -- a claim that won something found the place clear
 pub clear_where_won : (found k : ℕ) → found < 2 ^ 64 → k < 64 → without (2 ^ k) found ≢ 0 → bit_at found k ≡ 0
@@ -32,7 +33,8 @@ taken_where_lost found k fits h lost = cases (bit_at found k) refl (bit_at-lt fo
   where
     cases : (b : ℕ) → bit_at found k ≡ b → b < 2 → bit_at found k ≡ 1
     cases zero e l = let pos : 0 < 2 ^ k = pow_pos k in
-        let all : without (2 ^ k) found ≡ 2 ^ k = without-pow found k fits h ∙ ap (λ (x : ℕ). (1 - x) * 2 ^ k) e ∙ omega arith in absurd (omega arith)
+        let all : without (2 ^ k) found ≡ 2 ^ k = without-pow found k fits h ∙ ap (λ (x : ℕ). (1 - x) * 2 ^ k) e
+        ∙ omega arith in absurd (omega arith)
     cases (suc zero) e l = e
     cases (suc (suc b)) e l = absurd (omega arith)
 
@@ -41,7 +43,9 @@ unfolding ones
 count_ones-zero = refl
 
 -- room is used by what was won alone
-pub same_where_lost : {Port : Type 0} (room : Port → ℕ → Type 0) (old new : Port) (won : ℕ) → won ≡ 0 → ((n : ℕ) → room new n ↔ room old (count_ones won + n)) → SameRoom room old new
+pub same_where_lost : {Port : Type 0} (room : Port → ℕ → Type 0) (old new : Port) (won : ℕ) → won ≡ 0
+    → ((n : ℕ) → room new n ↔ room old (count_ones won + n)) → SameRoom room old new
 same_where_lost room old new won e uses n =
-    let f : count_ones won + n ≡ n = ap (λ (x : ℕ). count_ones x + n) e ∙ ap (λ (x : ℕ). x + n) count_ones-zero ∙ omega arith in
+    let f : count_ones won + n ≡ n = ap (λ (x : ℕ). count_ones x + n) e ∙ ap (λ (x : ℕ). x + n) count_ones-zero
+    ∙ omega arith in
     let back : room new n ↔ room old n = rw f at (uses n) in (back.1, back.0)

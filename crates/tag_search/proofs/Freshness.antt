@@ -14,9 +14,11 @@ use Rattle.tag_core.specs.declared.word_step.WordStep.TheVariants.{Claimed}
 use Rattle.tag_core.specs.Callers.{Holds}
 use Rattle.tag_core.specs.Steps.{without}
 use Rattle.tag_core.proofs.Masks.{bit_minus}
-use Rattle.tag_search.specs.Batch.{run_mask, run_won, IsBatchVisit, no_run, run_lost, run_taken, IsBatchSearch, batch_over, batch_won, batch_passed}
+use Rattle.tag_search.specs.Batch.{run_mask, run_won, IsBatchVisit, no_run, run_lost, run_taken, IsBatchSearch}
+use Rattle.tag_search.specs.Batch.{batch_over, batch_won, batch_passed}
 use Rattle.tag_search.specs.Gains.{IsInRun}
-use Rattle.tag_search.specs.Search.{IsTries, none_left, wins, loses, IsPass, pass, IsRetry, nothing_aside, swept, IsVisit, at_once, retried, Visit, IsSearch, over, won, passed}
+use Rattle.tag_search.specs.Search.{IsTries, none_left, wins, loses, IsPass, pass, IsRetry, nothing_aside, swept}
+use Rattle.tag_search.specs.Search.{IsVisit, at_once, retried, Visit, IsSearch, over, won, passed}
 use Rattle.tag_search.specs.Shared.{FindsWord, FindsHeldBy}
 use Rattle.tag_search.proofs.RunFacts.{inside as won_inside}
 use Rattle.tag_search.proofs.SharedFacts.{IsInside, visit_wins, finds-split}
@@ -65,13 +67,15 @@ module _ {R : Type 0} (c : Caller R) where
       → IsSearch l vs steps answer → AllByRecursion FindsWord steps → Blocks steps → All (IsInside l) vs
       → IfSome answer (λ tag. ¬ (Holds c tag))
   search_new l same narrow r over finds blocks inside = tt
-  search_new l same narrow r (won {visit = visit} {visits = more} {steps = steps} {place = place} v) finds blocks inside = λ holds.
+  search_new l same narrow r (won {visit = visit} {visits = more} {steps = steps} {place = place} v) finds blocks
+      inside = λ holds.
       let near = (visit_wins l narrow visit r v finds (All-head (IsInside l) visit more inside)).place in
       let low : place < word_depth l visit.word = near in let small : place < word_bits l = omega arith in
       visit_new v blocks (tag_at l visit.word place) holds
       (ap (λ (x : Layout). word_of x (tag_at l visit.word place)) same ∙ word_of-tag_at l visit.word place small)
       (ap (λ (x : Layout). place_of x (tag_at l visit.word place)) same ∙ place_of-tag_at l visit.word place small)
-  search_new l same narrow r (passed {visit = visit} {visits = more} {steps = steps} {rest = rest} v search) finds blocks inside =
+  search_new l same narrow r (passed {visit = visit} {visits = more} {steps = steps} {rest = rest} v search) finds
+      blocks inside =
       search_new l same narrow r search (finds-split steps rest finds).1 (blocks-split steps rest blocks).1
       (All-tail (IsInside l) visit more inside)
 

@@ -11,24 +11,34 @@ use Rattle.tag_search.proofs.Choices.{search_chooses}
 use Rattle.tag_search.proofs.Bounds.{search_bound, visits_bound}
 
 -- a search with limits within the words has few steps
-pub get_of_search : (l : Layout) (first : ℕ) (reach : Reach) → l.shift ≤ 6 → first ≤ words l → ((i : ℕ) → i < words l → reach.limit i ≤ word_depth l i)
-    → (answer : Option ℕ) (steps : List WordStep) → IsSearch l (visits l first reach) steps answer → IsGet l (visits l first reach) answer steps
+pub get_of_search : (l : Layout) (first : ℕ) (reach : Reach) → l.shift ≤ 6 → first ≤ words l
+    → ((i : ℕ) → i < words l → reach.limit i ≤ word_depth l i)
+    → (answer : Option ℕ) (steps : List WordStep) → IsSearch l (visits l first reach) steps answer
+    → IsGet l (visits l first reach) answer steps
 get_of_search l first reach narrow h within answer steps search =
-    record { search = search; alone = search_chooses l first reach narrow h within answer steps search; bound = let a = search_bound search in let b = visits_bound l first reach h within in omega arith }
+    record {
+      search = search;
+      alone = search_chooses l first reach narrow h within answer steps search;
+      bound = let a = search_bound search in let b = visits_bound l first reach h within in omega arith;
+    }
 
 -- a plain search takes no place behind a word's
-pub plain_within : (l : Layout) (round_robin : Bool) (hint i : ℕ) → i < words l → (plain_reach l round_robin hint).limit i ≤ word_depth l i
+pub plain_within : (l : Layout) (round_robin : Bool) (hint i : ℕ) → i < words l
+    → (plain_reach l round_robin hint).limit i ≤ word_depth l i
 plain_within l true hint i h = omega arith
 plain_within l false hint i h = omega arith
 
 -- neither does a shallow one
-pub shallow_within : (l : Layout) (depth hint i : ℕ) → i < words l → (shallow_reach l depth hint).limit i ≤ word_depth l i
+pub shallow_within : (l : Layout) (depth hint i : ℕ) → i < words l → (shallow_reach l depth hint).limit i
+    ≤ word_depth l i
 shallow_within l depth hint i h = let start = word-start l i h in shallow_limit-le l depth i (omega arith)
 
 -- the same by other names of the sizes, the first word and the reach
-pub get_at : (l sizes : Layout) (first word : ℕ) (reach wanted : Reach) → l ≡ sizes → first ≡ word → reach ≡ wanted → sizes.shift ≤ 6 → word ≤ words sizes
+pub get_at : (l sizes : Layout) (first word : ℕ) (reach wanted : Reach) → l ≡ sizes → first ≡ word → reach ≡ wanted
+    → sizes.shift ≤ 6 → word ≤ words sizes
     → ((i : ℕ) → i < words sizes → wanted.limit i ≤ word_depth sizes i)
-    → (answer : Option ℕ) (steps : List WordStep) → IsSearch l (visits l first reach) steps answer → IsGet sizes (visits sizes word wanted) answer steps
+    → (answer : Option ℕ) (steps : List WordStep) → IsSearch l (visits l first reach) steps answer
+    → IsGet sizes (visits sizes word wanted) answer steps
 get_at l sizes first word reach wanted e f r narrow h within answer steps search =
     let a = subst (λ (x : Layout). IsSearch x (visits x first reach) steps answer) e search in
     let b = subst (λ (x : ℕ). IsSearch sizes (visits sizes x reach) steps answer) f a in

@@ -1,5 +1,6 @@
 -- Where no place is free and set aside at once, what a choice answers is held, and still no place is both.
-use Rattle.std.proofs.Common.{◌≡◌, ℕ, ◌+◌, ◌<◌, ◌≤◌, Bool, true, false, not, ◌&&◌, ◌||◌, cond, nat_eq, nat_lt, nat_le, List, ◌∷◌, ◌++◌, map, Option, IfSome, arith, refl, sym, ◌∙◌, subst, eq-eqb}
+use Rattle.std.proofs.Common.{◌≡◌, ℕ, ◌+◌, ◌<◌, ◌≤◌, Bool, true, false, not, ◌&&◌, ◌||◌, cond, nat_eq, nat_lt, nat_le}
+use Rattle.std.proofs.Common.{List, ◌∷◌, ◌++◌, map, Option, IfSome, arith, refl, sym, ◌∙◌, subst, eq-eqb}
 use Rattle.std.specs.Prelude.{All}
 use Rattle.std.specs.Int.{bit_at}
 use Rattle.std.proofs.lemmas.Bool.{le-leb, lt-ltb}
@@ -9,7 +10,8 @@ use Rattle.tag_layout.specs.Layout.{Layout, words, word_bits, word_depth, tag_at
 use Rattle.tag_layout.proofs.PlaceFacts.{word_of-tag_at, place_of-tag_at}
 use Rattle.tag_search.specs.Added.{Adds}
 use Rattle.tag_search.specs.Batch.{IsBatchGet, batch_words}
-use Rattle.tag_search.specs.Choice.{IsOpen, IsBusy, IsHeld, words_in, IsChoice, nothing, chosen_free, chosen_aside, IsBatchChoice, no_batch, batch}
+use Rattle.tag_search.specs.Choice.{IsOpen, IsBusy, IsHeld, words_in, IsChoice, nothing, chosen_free, chosen_aside}
+use Rattle.tag_search.specs.Choice.{IsBatchChoice, no_batch, batch}
 use Rattle.tag_search.specs.Gets.{IsGet}
 use Rattle.tag_search.specs.Order.{numbers}
 use Rattle.tag_search.specs.Plain.{Plain, words_of, RunsAlone}
@@ -45,8 +47,10 @@ held_bits true a false t e free here is = absurd (let no : false ≡ true = here
 held_bits true a true false e free here is = absurd (let no : false ≡ true = is in cc)
 
 -- a free place that is taken is held
-taken_busy : (i : ℕ) (these : ℕ → Bool) (p : Pool) (k : ℕ) → IsApart p → p.free i k ≡ true → these k ≡ true → IsBusy (taken_in i these p) i k
-taken_busy i these p k apart free is = held_bits (p.free i k) (p.aside i k) (nat_eq i i) (these k) (apart i k) free (eq-eqb i i refl) is
+taken_busy : (i : ℕ) (these : ℕ → Bool) (p : Pool) (k : ℕ) → IsApart p → p.free i k ≡ true → these k ≡ true
+    → IsBusy (taken_in i these p) i k
+taken_busy i these p k apart free is = held_bits (p.free i k) (p.aside i k) (nat_eq i i) (these k) (apart i k) free
+    (eq-eqb i i refl) is
 
 open_bits : (f a b c : Bool) → b ≡ true → (f || a) ≡ true → (f || ((b || c) && a)) ≡ true
 open_bits true a b c here e = refl
@@ -73,27 +77,36 @@ held_at l p i k h busy = (λ z. is_open p (word_of-tag_at l i k h z) (place_of-t
 abbrev pub InDepth : Layout → Visit → Type 0
 InDepth l visit = All (λ k. k < word_bits l) visit.rank
 
-pub choice_held : {l : Layout} {old : Pool} {vs : List Visit} {answer : Option ℕ} {new : Pool} → IsChoice l old vs answer new → IsApart old → All (InDepth l) vs
+pub choice_held : {l : Layout} {old : Pool} {vs : List Visit} {answer : Option ℕ} {new : Pool}
+    → IsChoice l old vs answer new → IsApart old → All (InDepth l) vs
     → IsApart new × IfSome answer (IsHeld l new)
 choice_held {old = old} (nothing {visits = vs} all) apart inside = (apart_freed (words_in vs) old apart, tt)
 choice_held {l = l} {old = old} (chosen_free full behind visit {place = place} all first) apart inside =
     let p : Pool = freed_in (words_in full) old in let apart' = apart_freed (words_in full) old apart in
     let Low : ℕ → Type 0 = λ k. k < word_bits l in
-    let low = all_behind Low first.before place first.behind (subst (All Low) first.order (all_behind (InDepth l) full visit behind inside).0) in
-    let free = or_left (old.free visit.word place) (is_in visit.word (words_in full) && old.aside visit.word place) first.is in (
+    let low = all_behind Low first.before place first.behind
+    (subst (All Low) first.order (all_behind (InDepth l) full visit behind inside).0) in
+    let free = or_left (old.free visit.word place) (is_in visit.word (words_in full) && old.aside visit.word place)
+    first.is in (
       apart_taken visit.word (nat_eq place) p apart',
-      held_at l (taken_in visit.word (nat_eq place) p) visit.word place low.0 (taken_busy visit.word (nat_eq place) p place apart' free (eq-eqb place place refl)),
+      held_at l (taken_in visit.word (nat_eq place) p) visit.word place low.0
+          (taken_busy visit.word (nat_eq place) p place apart' free (eq-eqb place place refl)),
     )
 choice_held {l = l} {old = old} (chosen_aside full behind visit {place = place} all set first) apart inside =
-    let p : Pool = freed_in (visit.word ∷ words_in full) old in let apart' = apart_freed (visit.word ∷ words_in full) old apart in
+    let p : Pool = freed_in (visit.word ∷ words_in full) old in
+    let apart' = apart_freed (visit.word ∷ words_in full) old apart in
     let Low : ℕ → Type 0 = λ k. k < word_bits l in
-    let low = all_behind Low first.before place first.behind (subst (All Low) first.order (all_behind (InDepth l) full visit behind inside).0) in
-    let free = free_after visit.word (words_in full) old place (or_right (old.free visit.word place) (old.aside visit.word place) first.is) in (
+    let low = all_behind Low first.before place first.behind
+    (subst (All Low) first.order (all_behind (InDepth l) full visit behind inside).0) in
+    let free = free_after visit.word (words_in full) old place
+    (or_right (old.free visit.word place) (old.aside visit.word place) first.is) in (
       apart_taken visit.word (nat_eq place) p apart',
-      held_at l (taken_in visit.word (nat_eq place) p) visit.word place low.0 (taken_busy visit.word (nat_eq place) p place apart' free (eq-eqb place place refl)),
+      held_at l (taken_in visit.word (nat_eq place) p) visit.word place low.0
+          (taken_busy visit.word (nat_eq place) p place apart' free (eq-eqb place place refl)),
     )
 
-pub batch_held : {l : Layout} {n : ℕ} {old : Pool} {is : List ℕ} {answer : Option (ℕ × ℕ)} {new : Pool} → IsBatchChoice l n old is answer new → IsApart old
+pub batch_held : {l : Layout} {n : ℕ} {old : Pool} {is : List ℕ} {answer : Option (ℕ × ℕ)} {new : Pool}
+    → IsBatchChoice l n old is answer new → IsApart old
     → IsApart new × IfSome answer (λ won. (k : ℕ) → bit_at won.1 k ≡ 1 → IsHeld l new (won.0 + k))
 batch_held {old = old} (no_batch {words = is} all) apart = (apart_freed is old apart, tt)
 batch_held {l = l} {n = n} {old = old} (batch passed behind word {place = place} {bits = bits} all run) apart =
@@ -102,27 +115,38 @@ batch_held {l = l} {n = n} {old = old} (batch passed behind word {place = place}
       apart_taken word these p apart',
       λ k one. let is = (run.won k).0 one in let high = is.0 in
           let e : tag_at l word place + k ≡ tag_at l word (place + k) = omega arith in
-          let here : these (place + k) ≡ true = λ z. le-leb place (place + k) (omega arith) z && lt-ltb (place + k) (place + n) (omega arith) z in
-          subst (IsHeld l (taken_in word these p)) (sym e) (held_at l (taken_in word these p) word (place + k) (omega arith)
+          let here : these (place + k) ≡ true = λ z. le-leb place (place + k) (omega arith) z && lt-ltb (place + k)
+          (place + n) (omega arith) z in
+          subst (IsHeld l (taken_in word these p)) (sym e)
+          (held_at l (taken_in word these p) word (place + k) (omega arith)
           (taken_busy word these p (place + k) apart' (free_after word passed old (place + k) is.1) here)),
     )
 
 -- the visits of a search whose limits are within the words
-pub visits_inside : (l : Layout) (first : ℕ) (reach : Reach) → first ≤ words l → ((i : ℕ) → i < words l → reach.limit i ≤ word_depth l i) → All (InDepth l) (visits l first reach)
+pub visits_inside : (l : Layout) (first : ℕ) (reach : Reach) → first ≤ words l
+    → ((i : ℕ) → i < words l → reach.limit i ≤ word_depth l i) → All (InDepth l) (visits l first reach)
 visits_inside l first reach h within =
     let of = visit_of first reach in let Inside : ℕ → Type 0 = λ i. InDepth l (of i) in
     let each : (i : ℕ) → i < words l → Inside i = λ i k. let a = within i k in
-    all_scan (λ b. b < word_bits l) (cond (nat_eq i first) reach.start 0) (reach.limit i) reach.wrap (λ b below. omega arith) in
+    all_scan (λ b. b < word_bits l) (cond (nat_eq i first) reach.start 0) (reach.limit i) reach.wrap
+    (λ b below. omega arith) in
     let front = numbers first (words l) in let back = numbers 0 first in
-    let all : All Inside (front ++ back) = All-append Inside front back (all_numbers Inside first (words l) (λ i _ k. each i k)) (all_numbers Inside 0 first (λ i _ k. each i (omega arith))) in
-    subst (λ (xs : List ℕ). All (InDepth l) (map of xs)) (sym (order-split first (words l) h)) (All-map (InDepth l) of (front ++ back) all)
+    let all : All Inside (front ++ back) = All-append Inside front back
+    (all_numbers Inside first (words l) (λ i _ k. each i k))
+    (all_numbers Inside 0 first (λ i _ k. each i (omega arith))) in
+    subst (λ (xs : List ℕ). All (InDepth l) (map of xs)) (sym (order-split first (words l) h))
+    (All-map (InDepth l) of (front ++ back) all)
 
 -- a get over plain words is the choice
-pub choice_of : (l : Layout) (p q : Plain) (vs : List Visit) (answer : Option ℕ) → Adds RunsAlone p q (IsGet l vs answer)
+pub choice_of : (l : Layout) (p q : Plain) (vs : List Visit) (answer : Option ℕ)
+    → Adds RunsAlone p q (IsGet l vs answer)
     → IsChoice l (pool_of (words_of p)) vs answer (pool_of (words_of q))
-choice_of l p q vs answer a = subst (λ (x : Words). IsChoice l (pool_of (words_of p)) vs answer (pool_of x)) (sym a.added.leaves) (a.holds.alone (words_of p) a.added.quiet)
+choice_of l p q vs answer a = subst (λ (x : Words). IsChoice l (pool_of (words_of p)) vs answer (pool_of x))
+    (sym a.added.leaves) (a.holds.alone (words_of p) a.added.quiet)
 
-pub batch_choice_of : (l : Layout) (n first : ℕ) (p q : Plain) (answer : Option (ℕ × ℕ)) → Adds RunsAlone p q (IsBatchGet l n first answer)
+pub batch_choice_of : (l : Layout) (n first : ℕ) (p q : Plain) (answer : Option (ℕ × ℕ))
+    → Adds RunsAlone p q (IsBatchGet l n first answer)
     → IsBatchChoice l n (pool_of (words_of p)) (batch_words l first) answer (pool_of (words_of q))
 batch_choice_of l n first p q answer a =
-    subst (λ (x : Words). IsBatchChoice l n (pool_of (words_of p)) (batch_words l first) answer (pool_of x)) (sym a.added.leaves) (a.holds.alone (words_of p) a.added.quiet)
+    subst (λ (x : Words). IsBatchChoice l n (pool_of (words_of p)) (batch_words l first) answer (pool_of x))
+    (sym a.added.leaves) (a.holds.alone (words_of p) a.added.quiet)

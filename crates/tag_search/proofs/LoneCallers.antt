@@ -1,5 +1,7 @@
--- The one caller of a map: its own steps tell the words, so gets are choices, and what it holds is what is busy and not posted.
-use Rattle.std.proofs.Common.{◌≡◌, ℕ, zero, suc, ◌<◌, ◌≤◌, ◌^◌, Bool, true, false, not, ◌&&◌, ◌||◌, ◌==◌, cond, nat_eq, nat_lt, List, [], ◌∷◌, replicate, ◌↔◌, eq-eqb, eqb-true, arith, refl, sym, ap, ◌∙◌, subst}
+-- The one caller of a map: its own steps tell the words, so gets are choices, and what it holds is what is busy and not
+-- posted.
+use Rattle.std.proofs.Common.{◌≡◌, ℕ, zero, suc, ◌<◌, ◌≤◌, ◌^◌, Bool, true, false, not, ◌&&◌, ◌||◌, ◌==◌, cond, nat_eq}
+use Rattle.std.proofs.Common.{nat_lt, List, [], ◌∷◌, replicate, ◌↔◌, eq-eqb, eqb-true, arith, refl, sym, ap, ◌∙◌, subst}
 use Rattle.std.proofs.Math.Logic.{∥∥₁_elim}
 use Rattle.std.proofs.lemmas.Bool.{lt-ltb}
 use Rattle.std.specs.Prelude.{Option, IsTrue}
@@ -10,7 +12,8 @@ use Rattle.std.proofs.lemmas.Nat.Bits.{bit_at-zero}
 use Rattle.tag_layout.specs.Layout.{Layout, words, word_of, place_of}
 use Rattle.tag_layout.proofs.PlaceFacts.{place_of-below, word_bits-le}
 use Rattle.tag_model.specs.declared.place.Place.{Place}
-use Rattle.tag_model.specs.declared.place.Place.TheVariants.{Free as free, Held as held, Posted as posted, Aside as aside, Sweep as sweep}
+use Rattle.tag_model.specs.declared.place.Place.TheVariants.{Free as free, Held as held, Posted as posted}
+use Rattle.tag_model.specs.declared.place.Place.TheVariants.{Aside as aside, Sweep as sweep}
 use Rattle.tag_model.specs.Event.{names, brings, swept_by, spilled_by}
 use Rattle.tag_core.specs.declared.shape.Shape.{Shape}
 use Rattle.tag_core.specs.declared.step.Step.{Step}

@@ -16,7 +16,8 @@ use Rattle.tag_search.specs.Pool.{pool_of}
 use Rattle.tag_search.specs.Shared.{record_after_all}
 
 -- the list of a record after steps on words
-pub own_of_record : {R : Type 0} (steps : List WordStep) (r : Record R) → (record_after_all steps r).steps ≡ own_after steps r.steps
+pub own_of_record : {R : Type 0} (steps : List WordStep) (r : Record R) → (record_after_all steps r).steps
+    ≡ own_after steps r.steps
 own_of_record [] r = refl
 own_of_record (step ∷ steps) r = own_of_record steps (record_after (Word step) r)
 
@@ -28,13 +29,15 @@ EachFound (step ∷ older) = FindsIn step (cells_left older) × EachFound older
 module _ {R : Type 0} where
   -- the newest step is caller 0's own
   own_first : (x : ℕ × Step R) (older : History R) → x.0 < 1 → steps_by 0 (x ∷ older) ≡ x.1 ∷ steps_by 0 older
-  own_first x older below = ap (λ (b : Bool). cond b (x.1 ∷ steps_by 0 older) (steps_by 0 older)) (eq-eqb x.0 0 (omega arith))
+  own_first x older below = ap (λ (b : Bool). cond b (x.1 ∷ steps_by 0 older) (steps_by 0 older))
+      (eq-eqb x.0 0 (omega arith))
 
   -- what a history of one caller leaves is what the caller's list leaves
   pub same_cells : (h : History R) → EachFinds 1 h → cells_of h ≡ cells_left (steps_by 0 h)
   same_cells [] finds = refl
   same_cells (x ∷ older) finds =
-      ap (cells_after x.1) (same_cells older finds.3) ∙ sym (ap (λ (own : List (Step R)). cells_left own) (own_first x older finds.0))
+      ap (cells_after x.1) (same_cells older finds.3)
+      ∙ sym (ap (λ (own : List (Step R)). cells_left own) (own_first x older finds.0))
 
   -- each step of the list found what the list's older ones left
   pub each_found : (h : History R) → EachFinds 1 h → EachFound (steps_by 0 h)
@@ -49,17 +52,21 @@ module _ {R : Type 0} where
   found_older (step ∷ newer) older found = found_older newer older found.1
 
   -- steps on words of such a list are quiet from what the older ones left
-  pub found_quiet : (steps : List WordStep) (older : List (Step R)) → EachFound (own_after steps older) → Quiet steps (words_left older) × EachFound older
+  pub found_quiet : (steps : List WordStep) (older : List (Step R)) → EachFound (own_after steps older)
+      → Quiet steps (words_left older) × EachFound older
   found_quiet [] older found = (tt, found)
-  found_quiet (step ∷ steps) older found = let rest = found_quiet steps (Word step ∷ older) found in ((rest.1.0, rest.0), rest.1.1)
+  found_quiet (step ∷ steps) older found = let rest = found_quiet steps (Word step ∷ older) found in
+      ((rest.1.0, rest.0), rest.1.1)
 
   -- what they leave
-  pub left_after : (steps : List WordStep) (older : List (Step R)) → words_left (own_after steps older) ≡ words_after_all steps (words_left older)
+  pub left_after : (steps : List WordStep) (older : List (Step R)) → words_left (own_after steps older)
+      ≡ words_after_all steps (words_left older)
   left_after [] older = refl
   left_after (step ∷ steps) older = left_after steps (Word step ∷ older)
 
   -- a lone caller's steps are quiet
-  lone_quiet : (k : Shape) (h : History R) (newer older : List (Step R)) (steps : List WordStep) → IsLone k h newer older steps → Quiet steps (words_left older)
+  lone_quiet : (k : Shape) (h : History R) (newer older : List (Step R)) (steps : List WordStep)
+      → IsLone k h newer older steps → Quiet steps (words_left older)
   lone_quiet k h newer older steps lone =
       let found = each_found h (subst (λ (callers : ℕ). EachFinds callers h) lone.one lone.lawful.finds) in
       let own = subst (λ (all : List (Step R)). EachFound all) lone.own found in
@@ -68,11 +75,13 @@ module _ {R : Type 0} where
 -- a get by a lone caller
 pub lone_choice : (R : Type 0) → LoneGetsChoose R
 lone_choice R k h newer older steps lone l visits answer get =
-    subst (λ (w : Words). IsChoice l (pool_of (words_left older)) visits answer (pool_of w)) (sym (left_after steps older))
+    subst (λ (w : Words). IsChoice l (pool_of (words_left older)) visits answer (pool_of w))
+    (sym (left_after steps older))
     (get.alone (words_left older) (lone_quiet k h newer older steps lone))
 
 -- a get of several tags by a lone caller
 pub lone_batch_choice : (R : Type 0) → LoneBatchesChoose R
 lone_batch_choice R k h newer older steps lone l n first answer get =
-    subst (λ (w : Words). IsBatchChoice l n (pool_of (words_left older)) (batch_words l first) answer (pool_of w)) (sym (left_after steps older))
+    subst (λ (w : Words). IsBatchChoice l n (pool_of (words_left older)) (batch_words l first) answer (pool_of w))
+    (sym (left_after steps older))
     (get.alone (words_left older) (lone_quiet k h newer older steps lone))

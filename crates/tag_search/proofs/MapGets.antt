@@ -1,5 +1,6 @@
 -- What a get through the port of a map's caller does to it.
-use Rattle.std.proofs.Common.{◌≡◌, ℕ, ◌<◌, ◌≤◌, Bool, List, Option, None, Result, Ok, arith, refl, sym, ap, subst, inl, ◌∙◌}
+use Rattle.std.proofs.Common.{◌≡◌, ℕ, ◌<◌, ◌≤◌, Bool, List, Option, None, Result, Ok, arith, refl, sym, ap, subst, inl}
+use Rattle.std.proofs.Common.{◌∙◌}
 use Rattle.std.specs.Prelude.{IfOk}
 use Rattle.tag_layout.specs.Layout.{Layout, words, word_of, word_depth}
 use Rattle.tag_layout.proofs.PlaceFacts.{word_bits-le}

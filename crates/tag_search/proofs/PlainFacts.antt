@@ -1,5 +1,7 @@
 -- What one write to the plain words leaves of all words.
-use Rattle.std.proofs.Common.{◌≡◌, ◌≢◌, ℕ, zero, suc, ◌*◌, ◌^◌, ◌<◌, List, [], ◌∷◌, length, get_or, set, nat_eq, cond, Bool, true, false, bit_and, bit_or, arith, refl, sym, ap, ◌∙◌, get_or-set_other, get_or-set_same, eq-eqb, ne_eqb, eqb-true, ◌↔◌}
+use Rattle.std.proofs.Common.{◌≡◌, ◌≢◌, ℕ, zero, suc, ◌*◌, ◌^◌, ◌<◌, List, [], ◌∷◌, length, get_or, set, nat_eq, cond}
+use Rattle.std.proofs.Common.{Bool, true, false, bit_and, bit_or, arith, refl, sym, ap, ◌∙◌, get_or-set_other}
+use Rattle.std.proofs.Common.{get_or-set_same, eq-eqb, ne_eqb, eqb-true, ◌↔◌}
 use mathlib.Core.Logic.{dite}
 use Rattle.std.specs.Prelude.{IsTrue, not}
 use native.Mathlib.Decide.{ℕ_discrete}
@@ -11,36 +13,53 @@ use Rattle.tag_core.specs.Steps.{changed_at, without}
 use Rattle.tag_search.specs.Plain.{Plain, RunsAlone, IsTaken}
 
 -- a list with one entry changed, as a function of the index
-pub set_changed : (xs : List ℕ) (i v : ℕ) → i < length xs → (λ (j : ℕ). get_or (set xs i v) j 0) ≡ changed_at (λ j. get_or xs j 0) i v
+pub set_changed : (xs : List ℕ) (i v : ℕ) → i < length xs → (λ (j : ℕ). get_or (set xs i v) j 0) ≡ changed_at
+    (λ j. get_or xs j 0) i v
 set_changed xs i v h = λ z j. each j z
   where
     each : (j : ℕ) → get_or (set xs i v) j 0 ≡ cond (nat_eq j i) v (get_or xs j 0)
     each j = dite (ℕ_discrete j i)
-        (λ e. ap (λ (k : ℕ). get_or (set xs i v) k 0) e ∙ get_or-set_same xs i v 0 h ∙ ap (λ (b : Bool). cond b v (get_or xs j 0)) (sym (eq-eqb j i e)))
+        (λ e. ap (λ (k : ℕ). get_or (set xs i v) k 0) e ∙ get_or-set_same xs i v 0 h
+        ∙ ap (λ (b : Bool). cond b v (get_or xs j 0)) (sym (eq-eqb j i e)))
         (λ ne. get_or-set_other xs i j v 0 ne ∙ ap (λ (b : Bool). cond b v (get_or xs j 0)) (sym (ne_eqb j i ne)))
 
 -- a claim writes its word
-pub ran_claim : (p : Plain) (i mask found : ℕ) → i < length p.word → found ≡ get_or p.word i 0 → RunsAlone p (Claimed i mask found ∷ []) (record p { word = set p.word i (bit_or found mask) })
+pub ran_claim : (p : Plain) (i mask found : ℕ) → i < length p.word → found ≡ get_or p.word i 0
+    → RunsAlone p (Claimed i mask found ∷ []) (record p { word = set p.word i (bit_or found mask) })
 ran_claim p i mask found h e = record {
   layout = refl;
   quiet = (e, tt);
-  leaves = λ z. record { word = (set_changed p.word i (bit_or found mask) h ∙ ap (λ (x : ℕ). changed_at (λ j. get_or p.word j 0) i (bit_or x mask)) e) z; aside = λ j. get_or p.aside j 0 };
+  leaves = λ z. record {
+    word = (set_changed p.word i (bit_or found mask) h
+        ∙ ap (λ (x : ℕ). changed_at (λ j. get_or p.word j 0) i (bit_or x mask)) e) z;
+    aside = λ j. get_or p.aside j 0;
+  };
 }
 
 -- a give writes its word
-pub ran_give : (p : Plain) (i mask found : ℕ) → i < length p.word → found ≡ get_or p.word i 0 → RunsAlone p (Give i mask found ∷ []) (record p { word = set p.word i (without found mask) })
+pub ran_give : (p : Plain) (i mask found : ℕ) → i < length p.word → found ≡ get_or p.word i 0
+    → RunsAlone p (Give i mask found ∷ []) (record p { word = set p.word i (without found mask) })
 ran_give p i mask found h e = record {
   layout = refl;
   quiet = (e, tt);
-  leaves = λ z. record { word = (set_changed p.word i (without found mask) h ∙ ap (λ (x : ℕ). changed_at (λ j. get_or p.word j 0) i (without x mask)) e) z; aside = λ j. get_or p.aside j 0 };
+  leaves = λ z. record {
+    word = (set_changed p.word i (without found mask) h
+        ∙ ap (λ (x : ℕ). changed_at (λ j. get_or p.word j 0) i (without x mask)) e) z;
+    aside = λ j. get_or p.aside j 0;
+  };
 }
 
 -- a put writes the cleared set
-pub ran_put : (p : Plain) (i mask found : ℕ) → i < length p.aside → found ≡ get_or p.aside i 0 → RunsAlone p (Put i mask found ∷ []) (record p { aside = set p.aside i (bit_or found mask) })
+pub ran_put : (p : Plain) (i mask found : ℕ) → i < length p.aside → found ≡ get_or p.aside i 0
+    → RunsAlone p (Put i mask found ∷ []) (record p { aside = set p.aside i (bit_or found mask) })
 ran_put p i mask found h e = record {
   layout = refl;
   quiet = (e, tt);
-  leaves = λ z. record { word = λ j. get_or p.word j 0; aside = (set_changed p.aside i (bit_or found mask) h ∙ ap (λ (x : ℕ). changed_at (λ j. get_or p.aside j 0) i (bit_or x mask)) e) z };
+  leaves = λ z. record {
+    word = λ j. get_or p.word j 0;
+    aside = (set_changed p.aside i (bit_or found mask) h
+        ∙ ap (λ (x : ℕ). changed_at (λ j. get_or p.aside j 0) i (bit_or x mask)) e) z;
+  };
 }
 
 -- a sweep that finds nothing writes what stands there
@@ -53,17 +72,21 @@ ran_empty p i e = record {
   where
     same : (j : ℕ) → get_or p.aside j 0 ≡ cond (nat_eq j i) 0 (get_or p.aside j 0)
     same j = dite (ℕ_discrete j i)
-        (λ k. ap (λ (m : ℕ). get_or p.aside m 0) k ∙ e ∙ ap (λ (b : Bool). cond b 0 (get_or p.aside j 0)) (sym (eq-eqb j i k)))
+        (λ k. ap (λ (m : ℕ). get_or p.aside m 0) k ∙ e ∙ ap (λ (b : Bool). cond b 0 (get_or p.aside j 0))
+        (sym (eq-eqb j i k)))
         (λ ne. ap (λ (b : Bool). cond b 0 (get_or p.aside j 0)) (sym (ne_eqb j i ne)))
 
 -- a sweep that finds a mask writes both
-pub ran_sweep : (p : Plain) (i mask found : ℕ) → i < length p.word → i < length p.aside → mask ≡ get_or p.aside i 0 → found ≡ get_or p.word i 0
-    → RunsAlone p (Swap i mask ∷ Spill i mask found ∷ []) (record p { word = set p.word i (without found mask); aside = set p.aside i 0 })
+pub ran_sweep : (p : Plain) (i mask found : ℕ) → i < length p.word → i < length p.aside → mask ≡ get_or p.aside i 0
+    → found ≡ get_or p.word i 0
+    → RunsAlone p (Swap i mask ∷ Spill i mask found ∷ [])
+    (record p { word = set p.word i (without found mask); aside = set p.aside i 0 })
 ran_sweep p i mask found h k e f = record {
   layout = refl;
   quiet = (e, (f, tt));
   leaves = λ z. record {
-    word = (set_changed p.word i (without found mask) h ∙ ap (λ (x : ℕ). changed_at (λ j. get_or p.word j 0) i (without x mask)) f) z;
+    word = (set_changed p.word i (without found mask) h
+        ∙ ap (λ (x : ℕ). changed_at (λ j. get_or p.word j 0) i (without x mask)) f) z;
     aside = set_changed p.aside i 0 k z;
   };
 }
@@ -75,7 +98,8 @@ clear_of_mask n k e = cases (bit_at n k) refl (bit_at-lt n k)
     cases : (b : ℕ) → bit_at n k ≡ b → b < 2 → bit_at n k ≡ 0
     cases zero f l = f
     cases (suc zero) f l = let pos : 0 < 2 ^ k = pow_pos k in
-        let one : bit_and n (2 ^ k) ≡ 2 ^ k = and_pow n k ∙ ap (λ (x : ℕ). x * 2 ^ k) f ∙ omega arith in absurd (omega arith)
+        let one : bit_and n (2 ^ k) ≡ 2 ^ k = and_pow n k ∙ ap (λ (x : ℕ). x * 2 ^ k) f ∙ omega arith in
+        absurd (omega arith)
     cases (suc (suc b)) f l = absurd (omega arith)
 
 pub mask_of_clear : (n k : ℕ) → bit_at n k ≡ 0 → bit_and n (2 ^ k) ≡ 0
@@ -90,21 +114,27 @@ taken_of_mask n k ne = cases (bit_at n k) refl (bit_at-lt n k)
     cases (suc (suc b)) f l = absurd (omega arith)
 
 -- a place whose bit is set is taken exactly where it isn't set aside
-pub tells_taken : (p : Plain) (i k n a bit : ℕ) → bit ≡ 2 ^ k → n ≡ get_or p.word i 0 → a ≡ get_or p.aside i 0 → bit_and n bit ≢ 0
+pub tells_taken : (p : Plain) (i k n a bit : ℕ) → bit ≡ 2 ^ k → n ≡ get_or p.word i 0 → a ≡ get_or p.aside i 0
+    → bit_and n bit ≢ 0
     → IsTrue (nat_eq (bit_and a bit) 0) ↔ IsTaken p i k
 tells_taken p i k n a bit b e f some = (
   λ t. record {
-    taken = taken_of_mask (get_or p.word i 0) k (λ z. some (ap (bit_and n) b ∙ ap (λ (x : ℕ). bit_and x (2 ^ k)) e ∙ z));
-    not_aside = clear_of_mask (get_or p.aside i 0) k (sym (ap (bit_and a) b ∙ ap (λ (x : ℕ). bit_and x (2 ^ k)) f) ∙ eqb-true (bit_and a bit) 0 t);
+    taken = taken_of_mask (get_or p.word i 0) k
+        (λ z. some (ap (bit_and n) b ∙ ap (λ (x : ℕ). bit_and x (2 ^ k)) e ∙ z));
+    not_aside = clear_of_mask (get_or p.aside i 0) k (sym (ap (bit_and a) b ∙ ap (λ (x : ℕ). bit_and x (2 ^ k)) f)
+        ∙ eqb-true (bit_and a bit) 0 t);
   },
-  λ is. eq-eqb (bit_and a bit) 0 (ap (bit_and a) b ∙ ap (λ (x : ℕ). bit_and x (2 ^ k)) f ∙ mask_of_clear (get_or p.aside i 0) k is.not_aside),
+  λ is. eq-eqb (bit_and a bit) 0 (ap (bit_and a) b ∙ ap (λ (x : ℕ). bit_and x (2 ^ k)) f
+      ∙ mask_of_clear (get_or p.aside i 0) k is.not_aside),
 )
 
 -- a place whose bit is clear is not taken
 pub tells_free : (p : Plain) (i k n bit : ℕ) → bit ≡ 2 ^ k → n ≡ get_or p.word i 0 → bit_and n bit ≡ 0
     → IsTrue (not (nat_eq (bit_and n bit) 0)) ↔ IsTaken p i k
 tells_free p i k n bit b e none =
-    let clear : bit_at (get_or p.word i 0) k ≡ 0 = clear_of_mask (get_or p.word i 0) k (sym (ap (bit_and n) b ∙ ap (λ (x : ℕ). bit_and x (2 ^ k)) e) ∙ none) in (
-      λ t. absurd (let no : not (nat_eq (bit_and n bit) 0) ≡ false = ap not (eq-eqb (bit_and n bit) 0 none) in let yes : not (nat_eq (bit_and n bit) 0) ≡ true = t in cc),
+    let clear : bit_at (get_or p.word i 0) k ≡ 0 = clear_of_mask (get_or p.word i 0) k
+    (sym (ap (bit_and n) b ∙ ap (λ (x : ℕ). bit_and x (2 ^ k)) e) ∙ none) in (
+      λ t. absurd (let no : not (nat_eq (bit_and n bit) 0) ≡ false = ap not (eq-eqb (bit_and n bit) 0 none) in
+          let yes : not (nat_eq (bit_and n bit) 0) ≡ true = t in cc),
       λ is. absurd (let one = is.taken in omega arith),
     )

@@ -1,5 +1,6 @@
 -- Pools: when they are the same, and what freeing twice comes to.
-use Rattle.std.proofs.Common.{◌≡◌, ◌≢◌, ℕ, Bool, true, false, not, ◌&&◌, ◌||◌, nat_eq, List, [], ◌∷◌, refl, sym, ap, ◌∙◌, eq-eqb, ne_eqb}
+use Rattle.std.proofs.Common.{◌≡◌, ◌≢◌, ℕ, Bool, true, false, not, ◌&&◌, ◌||◌, nat_eq, List, [], ◌∷◌, refl, sym, ap}
+use Rattle.std.proofs.Common.{◌∙◌, eq-eqb, ne_eqb}
 use Rattle.tag_search.specs.Choice.{IsLeastOpen}
 use Rattle.tag_search.specs.Pool.{Pool, is_open, is_in, freed_in, taken_in}
 
@@ -35,14 +36,17 @@ aside_twice a false true = refl
 aside_twice a false false = refl
 
 -- freed in some words and then in others is freed in all of them
-pub freed_twice : (xs ys zs : List ℕ) (p : Pool) → ((i : ℕ) → (is_in i xs || is_in i ys) ≡ is_in i zs) → freed_in ys (freed_in xs p) ≡ freed_in zs p
+pub freed_twice : (xs ys zs : List ℕ) (p : Pool) → ((i : ℕ) → (is_in i xs || is_in i ys) ≡ is_in i zs)
+    → freed_in ys (freed_in xs p) ≡ freed_in zs p
 freed_twice xs ys zs p both = pool_ext (freed_in ys (freed_in xs p)) (freed_in zs p)
-    (λ i k. free_twice (p.free i k) (p.aside i k) (is_in i xs) (is_in i ys) ∙ ap (λ (b : Bool). p.free i k || (b && p.aside i k)) (both i))
+    (λ i k. free_twice (p.free i k) (p.aside i k) (is_in i xs) (is_in i ys)
+    ∙ ap (λ (b : Bool). p.free i k || (b && p.aside i k)) (both i))
     (λ i k. aside_twice (p.aside i k) (is_in i xs) (is_in i ys) ∙ ap (λ (b : Bool). not b && p.aside i k) (both i))
 
 -- one word, and then others
 pub freed_before : (x : ℕ) (ys : List ℕ) (p : Pool) → freed_in ys (freed_in (x ∷ []) p) ≡ freed_in (x ∷ ys) p
-freed_before x ys p = freed_twice (x ∷ []) ys (x ∷ ys) p (λ i. ap (λ (b : Bool). b || is_in i ys) (or_false (nat_eq i x)))
+freed_before x ys p = freed_twice (x ∷ []) ys (x ∷ ys) p
+    (λ i. ap (λ (b : Bool). b || is_in i ys) (or_false (nat_eq i x)))
 
 swapped : (a b c : Bool) → ((a || false) || (b || c)) ≡ (b || (a || c))
 swapped true true c = refl
@@ -50,15 +54,18 @@ swapped true false c = refl
 swapped false true c = refl
 swapped false false c = refl
 
-pub freed_between : (x y : ℕ) (ys : List ℕ) (p : Pool) → freed_in (y ∷ ys) (freed_in (x ∷ []) p) ≡ freed_in (y ∷ x ∷ ys) p
-freed_between x y ys p = freed_twice (x ∷ []) (y ∷ ys) (y ∷ x ∷ ys) p (λ i. swapped (nat_eq i x) (nat_eq i y) (is_in i ys))
+pub freed_between : (x y : ℕ) (ys : List ℕ) (p : Pool) → freed_in (y ∷ ys) (freed_in (x ∷ []) p) ≡ freed_in
+    (y ∷ x ∷ ys) p
+freed_between x y ys p = freed_twice (x ∷ []) (y ∷ ys) (y ∷ x ∷ ys) p
+    (λ i. swapped (nat_eq i x) (nat_eq i y) (is_in i ys))
 
 -- no word
 pub freed_none : (p : Pool) → freed_in [] p ≡ p
 freed_none p = pool_ext (freed_in [] p) p (λ i k. or_false (p.free i k)) (λ i k. refl)
 
 -- the same places, taken
-pub taken_same : (i : ℕ) (these those : ℕ → Bool) (p : Pool) → ((k : ℕ) → these k ≡ those k) → taken_in i these p ≡ taken_in i those p
+pub taken_same : (i : ℕ) (these those : ℕ → Bool) (p : Pool) → ((k : ℕ) → these k ≡ those k)
+    → taken_in i these p ≡ taken_in i those p
 taken_same i these those p same = λ z. taken_in i (λ k. same k z) p
 
 open_still : (f a x : Bool) → ((f || (x && a)) || (not x && a)) ≡ (f || a)
@@ -78,14 +85,20 @@ free_here p i k = ap (λ (b : Bool). p.free i k || ((b || false) && p.aside i k)
 
 -- and in another word they are the same
 pub free_elsewhere : (x : ℕ) (p : Pool) (i k : ℕ) → i ≢ x → (freed_in (x ∷ []) p).free i k ≡ p.free i k
-free_elsewhere x p i k ne = ap (λ (b : Bool). p.free i k || ((b || false) && p.aside i k)) (ne_eqb i x ne) ∙ or_false (p.free i k)
+free_elsewhere x p i k ne = ap (λ (b : Bool). p.free i k || ((b || false) && p.aside i k)) (ne_eqb i x ne)
+    ∙ or_false (p.free i k)
 
 pub aside_elsewhere : (x : ℕ) (p : Pool) (i k : ℕ) → i ≢ x → (freed_in (x ∷ []) p).aside i k ≡ p.aside i k
 aside_elsewhere x p i k ne = ap (λ (b : Bool). not (b || false) && p.aside i k) (ne_eqb i x ne)
 
 -- the least open place is the same in pools with the same open places
-pub least_same : (p q : Pool) (i depth place : ℕ) → ((k : ℕ) → is_open p i k ≡ is_open q i k) → IsLeastOpen p i depth place → IsLeastOpen q i depth place
-least_same p q i depth place same least = record { within = least.within; is = sym (same place) ∙ least.is; least = λ k h. sym (same k) ∙ least.least k h }
+pub least_same : (p q : Pool) (i depth place : ℕ) → ((k : ℕ) → is_open p i k ≡ is_open q i k)
+    → IsLeastOpen p i depth place → IsLeastOpen q i depth place
+least_same p q i depth place same least = record {
+  within = least.within;
+  is = sym (same place) ∙ least.is;
+  least = λ k h. sym (same k) ∙ least.least k h;
+}
 
 -- a place that is not free and is open is set aside
 pub aside_of_open : (f a : Bool) → f ≡ false → (f || a) ≡ true → a ≡ true

@@ -1,5 +1,6 @@
 -- What a batch get over a shared map does to its caller: it holds the tags that it won, and what it held.
-use Rattle.std.proofs.Common.{◌≡◌, ℕ, ◌+◌, ◌-◌, ◌*◌, ◌%◌, ◌^◌, ◌<◌, ◌≤◌, List, [], ◌∷◌, Option, Some, None, get_or, set, bit_and, count_ones, arith, refl, sym, ap, ◌∙◌, subst, ⊎_elim}
+use Rattle.std.proofs.Common.{◌≡◌, ℕ, ◌+◌, ◌-◌, ◌*◌, ◌%◌, ◌^◌, ◌<◌, ◌≤◌, List, [], ◌∷◌, Option, Some, None, get_or, set}
+use Rattle.std.proofs.Common.{bit_and, count_ones, arith, refl, sym, ap, ◌∙◌, subst, ⊎_elim}
 use Rattle.std.specs.Prelude.{IfSome}
 use Rattle.std.specs.Int.{bit_at}
 use Rattle.std.specs.Int.Bits.{or_zero_r, and_zero_l}
@@ -18,7 +19,8 @@ use Rattle.tag_core.specs.declared.word_step.WordStep.{WordStep}
 use Rattle.tag_core.specs.declared.word_step.WordStep.TheVariants.{Look, Claimed}
 use Rattle.tag_core.specs.Records.{record_after, joined}
 use Rattle.tag_core.specs.Steps.{without}
-use Rattle.tag_search.specs.Batch.{run_mask, run_won, IsSweptLook, swept_look, IsBatchVisit, no_run, run_lost, run_taken, IsBatchSearch, batch_over, batch_won, batch_passed}
+use Rattle.tag_search.specs.Batch.{run_mask, run_won, IsSweptLook, swept_look, IsBatchVisit, no_run, run_lost}
+use Rattle.tag_search.specs.Batch.{run_taken, IsBatchSearch, batch_over, batch_won, batch_passed}
 use Rattle.tag_search.specs.Gains.{held_with_run, count_of_run}
 use Rattle.tag_search.specs.Shared.{record_after_all}
 use Rattle.tag_search.specs.SharedLaws.{record_after-append}
@@ -33,10 +35,12 @@ module _ (n place found : ℕ) where
   low : taken % 2 ^ place ≡ 0
   low =
       and_mod (run_mask n place) (2 ^ 64 - 1 - found) place
-      ∙ ap (λ (x : ℕ). bit_and x ((2 ^ 64 - 1 - found) % 2 ^ place)) (mul-mod_left (2 ^ n - 1) (2 ^ place)) ∙ and_zero_l ((2 ^ 64 - 1 - found) % 2 ^ place)
+      ∙ ap (λ (x : ℕ). bit_and x ((2 ^ 64 - 1 - found) % 2 ^ place)) (mul-mod_left (2 ^ n - 1) (2 ^ place))
+      ∙ and_zero_l ((2 ^ 64 - 1 - found) % 2 ^ place)
 
   back : run_won n place found * 2 ^ place ≡ taken
-  back = let none = low in let most = div-mul-le_self taken (2 ^ place) in let rest = mod-eq-sub-div-mul taken (2 ^ place) in omega arith
+  back = let none = low in let most = div-mul-le_self taken (2 ^ place) in
+      let rest = mod-eq-sub-div-mul taken (2 ^ place) in omega arith
 
   as_many : count_ones taken ≡ count_ones (run_won n place found)
   as_many =
@@ -47,7 +51,8 @@ module _ (n place found : ℕ) where
   pub inside : (depth k : ℕ) → place + n ≤ depth → bit_at (run_won n place found) k ≡ 1 → place + k < depth
   inside depth k fits one = ⊎_elim (λ (h : place + k < depth). h)
       (λ (past : depth ≤ place + k). absurd (
-      let small : taken < 2 ^ depth = let a = and_le_l (run_mask n place) (2 ^ 64 - 1 - found) in let b = run_below n place depth fits in omega arith in
+      let small : taken < 2 ^ depth = let a = and_le_l (run_mask n place) (2 ^ 64 - 1 - found) in
+      let b = run_below n place depth fits in omega arith in
       let here : bit_at taken (place + k) ≡ 1 = sym (bit_at-shr taken place k) ∙ one in
       let none = bit_at_above taken depth (place + k) small past in omega arith)) (cases_lt (place + k) depth)
 
@@ -71,7 +76,8 @@ record TookRun {R : Type 0} (depth i : ℕ) (answer : Option (ℕ × ℕ)) (old 
 
 module _ {R : Type 0} (depth i : ℕ) (narrow : depth ≤ 64) where
   -- after steps that took nothing, a last one
-  run_after : (r s t : Record R) (answer : Option (ℕ × ℕ)) → Took depth i None r s → TookRun depth i answer s t → TookRun depth i answer r t
+  run_after : (r s t : Record R) (answer : Option (ℕ × ℕ)) → Took depth i None r s → TookRun depth i answer s t
+      → TookRun depth i answer r t
   run_after r s t answer a b = record {
     shape = b.shape ∙ a.shape;
     number = b.number ∙ a.number;
@@ -84,11 +90,14 @@ module _ {R : Type 0} (depth i : ℕ) (narrow : depth ≤ 64) where
   run_none : (r : Record R) → TookRun depth i None r r
   run_none r = record { shape = refl; number = refl; held = refl; won = omega arith; back = refl; below = tt }
 
-  swept_took : {found : ℕ} {steps : List WordStep} (r : Record R) → IsSweptLook i found steps → Took depth i None r (record_after_all steps r)
+  swept_took : {found : ℕ} {steps : List WordStep} (r : Record R) → IsSweptLook i found steps
+      → Took depth i None r (record_after_all steps r)
   swept_took {found = found} r (swept_look {sweep = sweep} is small) =
-      took_more depth i r sweep (Look i found ∷ []) None (sweep_took depth i narrow r is) (took_look depth i (record_after_all sweep r) found)
+      took_more depth i r sweep (Look i found ∷ []) None (sweep_took depth i narrow r is)
+      (took_look depth i (record_after_all sweep r) found)
 
-  claim_lost : (n place found : ℕ) (r : Record R) → without (run_mask n place) found ≡ 0 → TookRun depth i None r (record_after (Word (Claimed i (run_mask n place) found)) r)
+  claim_lost : (n place found : ℕ) (r : Record R) → without (run_mask n place) found ≡ 0
+      → TookRun depth i None r (record_after (Word (Claimed i (run_mask n place) found)) r)
   claim_lost n place found r none = record {
     shape = refl;
     number = refl;
@@ -99,7 +108,8 @@ module _ {R : Type 0} (depth i : ℕ) (narrow : depth ≤ 64) where
   }
 
   claim_won : (n place found : ℕ) (r : Record R) → place < depth → place + n ≤ depth
-      → TookRun depth i (Some (place, run_won n place found)) r (record_after (Word (Claimed i (run_mask n place) found)) r)
+      → TookRun depth i (Some (place, run_won n place found)) r
+      (record_after (Word (Claimed i (run_mask n place) found)) r)
   claim_won n place found r first fits = record {
     shape = refl;
     number = refl;
@@ -110,17 +120,24 @@ module _ {R : Type 0} (depth i : ℕ) (narrow : depth ≤ 64) where
   }
 
   -- a visit wins the run that it answers, and nothing else
-  visit_took_run : {n : ℕ} {steps : List WordStep} {answer : Option (ℕ × ℕ)} (r : Record R) → IsBatchVisit i depth n steps answer → TookRun depth i answer r (record_after_all steps r)
+  visit_took_run : {n : ℕ} {steps : List WordStep} {answer : Option (ℕ × ℕ)} (r : Record R)
+      → IsBatchVisit i depth n steps answer → TookRun depth i answer r (record_after_all steps r)
   visit_took_run r (no_run {steps = steps} sweep none) =
-      run_after r (record_after_all steps r) (record_after_all steps r) None (swept_took r sweep) (run_none (record_after_all steps r))
+      run_after r (record_after_all steps r) (record_after_all steps r) None (swept_took r sweep)
+      (run_none (record_after_all steps r))
   visit_took_run {n = n} r (run_lost {found = found} {place = place} {steps = steps} next sweep run none) =
-      let s : Record R = record_after_all steps r in let t : Record R = record_after (Word (Claimed i (run_mask n place) next)) s in
-      subst (λ (u : Record R). TookRun depth i None r u) (sym (record_after-append steps (Claimed i (run_mask n place) next ∷ []) r))
+      let s : Record R = record_after_all steps r in
+      let t : Record R = record_after (Word (Claimed i (run_mask n place) next)) s in
+      subst (λ (u : Record R). TookRun depth i None r u)
+      (sym (record_after-append steps (Claimed i (run_mask n place) next ∷ []) r))
       (run_after r s t None (swept_took r sweep) (claim_lost n place next s none))
   visit_took_run {n = n} r (run_taken {found = found} {place = place} {steps = steps} next sweep run some) =
-      let s : Record R = record_after_all steps r in let t : Record R = record_after (Word (Claimed i (run_mask n place) next)) s in
-      subst (λ (u : Record R). TookRun depth i (Some (place, run_won n place next)) r u) (sym (record_after-append steps (Claimed i (run_mask n place) next ∷ []) r))
-      (run_after r s t (Some (place, run_won n place next)) (swept_took r sweep) (claim_won n place next s run.first.within run.fits))
+      let s : Record R = record_after_all steps r in
+      let t : Record R = record_after (Word (Claimed i (run_mask n place) next)) s in
+      subst (λ (u : Record R). TookRun depth i (Some (place, run_won n place next)) r u)
+      (sym (record_after-append steps (Claimed i (run_mask n place) next ∷ []) r))
+      (run_after r s t (Some (place, run_won n place next)) (swept_took r sweep)
+      (claim_won n place next s run.first.within run.fits))
 
 -- as `GainsRun` says it of the records alone, with tags of one word
 pub record WonRun {R : Type 0} (l : Layout) (answer : Option (ℕ × ℕ)) (old new : Record R) : Type 0 where
@@ -132,7 +149,8 @@ pub record WonRun {R : Type 0} (l : Layout) (answer : Option (ℕ × ℕ)) (old 
   pub tags : IfSome answer (λ won. IsBelow (word_depth l (word_of l won.0)) (place_of l won.0, won.1))
 
 module _ {R : Type 0} (l : Layout) (narrow : word_bits l ≤ 64) where
-  won_run : (i place bits : ℕ) (r s : Record R) → TookRun (word_depth l i) i (Some (place, bits)) r s → WonRun l (Some (tag_at l i place, bits)) r s
+  won_run : (i place bits : ℕ) (r s : Record R) → TookRun (word_depth l i) i (Some (place, bits)) r s
+      → WonRun l (Some (tag_at l i place, bits)) r s
   won_run i place bits r s took =
       let near : place < word_depth l i = took.below.0 in let small : place < word_bits l = omega arith in
       let word = word_of-tag_at l i place small in let at = place_of-tag_at l i place small in record {
@@ -146,12 +164,22 @@ module _ {R : Type 0} (l : Layout) (narrow : word_bits l ≤ 64) where
       }
 
   -- a batch search wins the tags that it answers, and nothing else
-  pub batch_wins : {n : ℕ} {is : List ℕ} {steps : List WordStep} {answer : Option (ℕ × ℕ)} (r : Record R) → IsBatchSearch l n is steps answer → WonRun l answer r (record_after_all steps r)
-  batch_wins r batch_over = record { shape = refl; number = refl; held = refl; won = omega arith; back = refl; tags = tt }
+  pub batch_wins : {n : ℕ} {is : List ℕ} {steps : List WordStep} {answer : Option (ℕ × ℕ)} (r : Record R)
+      → IsBatchSearch l n is steps answer → WonRun l answer r (record_after_all steps r)
+  batch_wins r batch_over = record {
+    shape = refl;
+    number = refl;
+    held = refl;
+    won = omega arith;
+    back = refl;
+    tags = tt;
+  }
   batch_wins r (batch_won {i = i} {steps = steps} {place = place} {bits = bits} v) =
-      won_run i place bits r (record_after_all steps r) (visit_took_run (word_depth l i) i (let z : word_depth l i ≤ 64 = omega arith in z) r v)
+      won_run i place bits r (record_after_all steps r)
+      (visit_took_run (word_depth l i) i (let z : word_depth l i ≤ 64 = omega arith in z) r v)
   batch_wins r (batch_passed {i = i} {steps = steps} {rest = rest} {answer = answer} v search) =
-      let s : Record R = record_after_all steps r in let a = visit_took_run (word_depth l i) i (let z : word_depth l i ≤ 64 = omega arith in z) r v in
+      let s : Record R = record_after_all steps r in
+      let a = visit_took_run (word_depth l i) i (let z : word_depth l i ≤ 64 = omega arith in z) r v in
       let b = batch_wins s search in
       subst (λ (t : Record R). WonRun l answer r t) (sym (record_after-append steps rest r)) (record {
         shape = b.shape ∙ a.shape;

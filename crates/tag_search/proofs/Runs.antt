@@ -1,5 +1,6 @@
 -- Masks of several bits side by side.
-use Rattle.std.proofs.Common.{◌≡◌, ℕ, zero, suc, ◌+◌, ◌-◌, ◌*◌, ◌/◌, ◌%◌, ◌^◌, ◌<◌, ◌≤◌, count_ones, arith, refl, ap, ◌∙◌}
+use Rattle.std.proofs.Common.{◌≡◌, ℕ, zero, suc, ◌+◌, ◌-◌, ◌*◌, ◌/◌, ◌%◌, ◌^◌, ◌<◌, ◌≤◌, count_ones, arith, refl, ap}
+use Rattle.std.proofs.Common.{◌∙◌}
 use Rattle.std.proofs.lemmas.Nat.{ones_cat, pow_pos, shl_whole, shl_below}
 use Rattle.std.proofs.lemmas.Nat.Bits.{ones_shr}
 use Rattle.std.proofs.Math.Nat.{pow-suc, pow-le-pow_right}
@@ -31,7 +32,8 @@ ones-run n place =
     ap count_ones e ∙ sum ∙ omega arith
 
 -- the run, as the code shifts it
-pub run_shifted : (n place : ℕ) → n ≤ 64 → place + n ≤ 64 → (2 ^ 64 - 1) / 2 ^ (64 - n) * 2 ^ place % 2 ^ 64 ≡ run_mask n place
+pub run_shifted : (n place : ℕ) → n ≤ 64 → place + n ≤ 64 → (2 ^ 64 - 1) / 2 ^ (64 - n) * 2 ^ place % 2 ^ 64
+    ≡ run_mask n place
 run_shifted n place h fits =
     let pos : 0 < 2 ^ n = pow_pos n in let low : 2 ^ n - 1 < 2 ^ n = omega arith in
     let e : 64 - (64 - n) ≡ n = omega arith in

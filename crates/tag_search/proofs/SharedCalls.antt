@@ -1,5 +1,6 @@
 -- What the calls of a shared map add, as the port's clauses say it.
-use Rattle.std.proofs.Common.{◌≡◌, ◌≢◌, ℕ, ◌^◌, ◌<◌, Bool, true, false, List, [], ◌∷◌, length, get_or, bit_or, get_or-set_same, get_or-set_other, arith, refl, sym, ap, ◌∙◌}
+use Rattle.std.proofs.Common.{◌≡◌, ◌≢◌, ℕ, ◌^◌, ◌<◌, Bool, true, false, List, [], ◌∷◌, length, get_or, bit_or}
+use Rattle.std.proofs.Common.{get_or-set_same, get_or-set_other, arith, refl, sym, ap, ◌∙◌}
 use Rattle.std.specs.Prelude.{IsTrue, IsFalse, MatchBool}
 use mathlib.Core.Logic.{dite}
 use native.Mathlib.Decide.{ℕ_discrete}
@@ -20,31 +21,42 @@ use Rattle.tag_search.specs.Search.{IsSweep, empty, spilled}
 use Rattle.tag_search.specs.Shared.{FindsWord, FindsHeldBy, AddsAll, AddsThrough}
 
 -- a tag's bit stays where bits join a word
-pub bit_kept : (l : Layout) (held : List ℕ) (i mask tag : ℕ) → i < length held → tag_bit l held tag ≡ 1 → tag_bit l (joined held i mask) tag ≡ 1
+pub bit_kept : (l : Layout) (held : List ℕ) (i mask tag : ℕ) → i < length held → tag_bit l held tag ≡ 1
+    → tag_bit l (joined held i mask) tag ≡ 1
 bit_kept l held i mask tag h one = dite (ℕ_discrete (word_of l tag) i)
     (λ e.
-    let was : bit_at (get_or held i 0) (place_of l tag) ≡ 1 = ap (λ (j : ℕ). bit_at (get_or held j 0) (place_of l tag)) (sym e) ∙ one in
+    let was : bit_at (get_or held i 0) (place_of l tag) ≡ 1 = ap (λ (j : ℕ). bit_at (get_or held j 0) (place_of l tag))
+    (sym e) ∙ one in
     let both = bit_at_or (get_or held i 0) mask (place_of l tag) in let small = bit_at-lt mask (place_of l tag) in
     ap (λ (j : ℕ). bit_at (get_or (joined held i mask) j 0) (place_of l tag)) e
-    ∙ ap (λ (x : ℕ). bit_at x (place_of l tag)) (get_or-set_same held i (bit_or (get_or held i 0) mask) 0 h) ∙ omega arith)
-    (λ ne. ap (λ (x : ℕ). bit_at x (place_of l tag)) (get_or-set_other held i (word_of l tag) (bit_or (get_or held i 0) mask) 0 ne) ∙ one)
+    ∙ ap (λ (x : ℕ). bit_at x (place_of l tag)) (get_or-set_same held i (bit_or (get_or held i 0) mask) 0 h)
+    ∙ omega arith)
+    (λ ne. ap (λ (x : ℕ). bit_at x (place_of l tag))
+    (get_or-set_other held i (word_of l tag) (bit_or (get_or held i 0) mask) 0 ne) ∙ one)
 
 -- a caller holds a tag whose bit is in the held set that it has by now
-holds_by : {R : Type 0} (old new : Caller R) (held : List ℕ) (tag : ℕ) → new.shape.value ≡ old.shape.value → new.held.items ≡ held
+holds_by : {R : Type 0} (old new : Caller R) (held : List ℕ) (tag : ℕ) → new.shape.value ≡ old.shape.value
+    → new.held.items ≡ held
     → Holds old tag → tag_bit old.shape.value.layout held tag ≡ 1 → Holds new tag
 holds_by old new held tag shape items was bit =
     let depth : new.shape.value.layout.depth ≡ old.shape.value.layout.depth = λ z. (shape z).layout.depth in
-    let below : tag < old.shape.value.layout.depth = was.0 in
-    ((let z : tag < new.shape.value.layout.depth = omega arith in z), (λ z. tag_bit (shape z).layout (items z) tag) ∙ bit)
+    let below : tag < old.shape.value.layout.depth = was.0 in (
+      (let z : tag < new.shape.value.layout.depth = omega arith in z),
+      (λ z. tag_bit (shape z).layout (items z) tag)
+          ∙ bit,
+    )
 
 -- one step after which each tag is held that was held before
-pub adds_one : {R : Type 0} (step : WordStep) (old new : Caller R) → Adds (Word step) old new → FindsWord step → FindsHeldBy old step
-    → ((tag : ℕ) → tag_bit old.shape.value.layout old.held.items tag ≡ 1 → tag_bit old.shape.value.layout (held_after_word step old.held.items) tag ≡ 1)
+pub adds_one : {R : Type 0} (step : WordStep) (old new : Caller R) → Adds (Word step) old new → FindsWord step
+    → FindsHeldBy old step
+    → ((tag : ℕ) → tag_bit old.shape.value.layout old.held.items tag ≡ 1 → tag_bit old.shape.value.layout
+    (held_after_word step old.held.items) tag ≡ 1)
     → AddsAll (step ∷ []) old new
 adds_one {R} step old new a fits found_held keeps = record {
   known = a.known;
   kept = λ tag was.
-      let is : Holds new tag = holds_by old new (held_after_word step old.held.items) tag (ap (λ (r : Record R). r.shape) a.known) (ap (λ (r : Record R). r.held) a.known) was (keeps tag was.1) in
+      let is : Holds new tag = holds_by old new (held_after_word step old.held.items) tag
+      (ap (λ (r : Record R). r.shape) a.known) (ap (λ (r : Record R). r.held) a.known) was (keeps tag was.1) in
       (is, a.slots tag was is);
   finds = (fits, tt);
   finds_held = (found_held, tt);
@@ -52,12 +64,14 @@ adds_one {R} step old new a fits found_held keeps = record {
 }
 
 -- a swap and a spill of what it found
-pub adds_two : {R : Type 0} (i mask found : ℕ) (old new : Caller R) → AddsTwo (Word (Swap i mask)) (Word (Spill i mask found)) old new
+pub adds_two : {R : Type 0} (i mask found : ℕ) (old new : Caller R)
+    → AddsTwo (Word (Swap i mask)) (Word (Spill i mask found)) old new
     → AddsAll (Swap i mask ∷ Spill i mask found ∷ []) old new
 adds_two {R} i mask found old new a = record {
   known = a.known;
   kept = λ tag was.
-      let is : Holds new tag = holds_by old new old.held.items tag (ap (λ (r : Record R). r.shape) a.known) (ap (λ (r : Record R). r.held) a.known) was was.1 in
+      let is : Holds new tag = holds_by old new old.held.items tag (ap (λ (r : Record R). r.shape) a.known)
+      (ap (λ (r : Record R). r.held) a.known) was was.1 in
       (is, a.slots tag was is);
   finds = (tt, (tt, tt));
   finds_held = (tt, (tt, tt));
@@ -65,15 +79,20 @@ adds_two {R} i mask found old new a = record {
 }
 
 -- a claim of a word that the map has
-pub adds_claim : {R : Type 0} (i mask found : ℕ) (old new : Caller R) → i < length old.held.items → found < 2 ^ 64 → FindsHeldBy old (Claimed i mask found) → Adds (Word (Claimed i mask found)) old new
+pub adds_claim : {R : Type 0} (i mask found : ℕ) (old new : Caller R) → i < length old.held.items → found < 2 ^ 64
+    → FindsHeldBy old (Claimed i mask found) → Adds (Word (Claimed i mask found)) old new
     → AddsAll (Claimed i mask found ∷ []) old new
-adds_claim i mask found old new near fits found_held a = adds_one (Claimed i mask found) old new a fits found_held (λ tag. bit_kept old.shape.value.layout old.held.items i (without mask found) tag near)
+adds_claim i mask found old new near fits found_held a = adds_one (Claimed i mask found) old new a fits found_held
+    (λ tag. bit_kept old.shape.value.layout old.held.items i (without mask found) tag near)
 
 -- a sweep adds a swap alone, or a swap and a spill
-pub swept : {R : Type 0} (i : ℕ) (some : Bool) (old new : Shared R) → new.map.now ≡ old.map.now → new.caller.ghost_name ≡ old.caller.ghost_name
+pub swept : {R : Type 0} (i : ℕ) (some : Bool) (old new : Shared R) → new.map.now ≡ old.map.now
+    → new.caller.ghost_name ≡ old.caller.ghost_name
     → (IsFalse some → Adds (Word (Swap i 0)) old.caller.now new.caller.now)
-    → (IsTrue some → (mask : ℕ) × (found : ℕ) × (mask ≢ 0) × (mask < 2 ^ 64) × AddsTwo (Word (Swap i mask)) (Word (Spill i mask found)) old.caller.now new.caller.now)
-    → MatchBool some ((mask : ℕ) × (mask ≢ 0) × Ports AddsThrough old new (IsSweep i mask)) (Ports AddsThrough old new (IsSweep i 0))
+    → (IsTrue some → (mask : ℕ) × (found : ℕ) × (mask ≢ 0) × (mask < 2 ^ 64)
+    × AddsTwo (Word (Swap i mask)) (Word (Spill i mask found)) old.caller.now new.caller.now)
+    → MatchBool some ((mask : ℕ) × (mask ≢ 0) × Ports AddsThrough old new (IsSweep i mask))
+    (Ports AddsThrough old new (IsSweep i 0))
 swept i true old new map lent none some = let s = some refl in (
   s.0,
   s.2,
@@ -85,6 +104,10 @@ swept i true old new map lent none some = let s = some refl in (
 )
 swept i false old new map lent none some = record {
   steps = Swap i 0 ∷ [];
-  added = record { added = adds_one (Swap i 0) old.caller.now new.caller.now (none refl) tt tt (λ tag h. h); map = map; lent = lent };
+  added = record {
+    added = adds_one (Swap i 0) old.caller.now new.caller.now (none refl) tt tt (λ tag h. h);
+    map = map;
+    lent = lent;
+  };
   holds = empty;
 }

@@ -1,5 +1,6 @@
 -- What a get over a shared map does to its caller: it holds the tag that it won, and what it held.
-use Rattle.std.proofs.Common.{◌≡◌, ℕ, ◌+◌, ◌-◌, ◌*◌, ◌^◌, ◌<◌, ◌≤◌, true, cond, nat_eq, List, [], ◌∷◌, ◌++◌, Option, Some, None, get_or, set, count_ones, arith, refl, sym, ap, ◌∙◌, subst}
+use Rattle.std.proofs.Common.{◌≡◌, ℕ, ◌+◌, ◌-◌, ◌*◌, ◌^◌, ◌<◌, ◌≤◌, true, cond, nat_eq, List, [], ◌∷◌, ◌++◌, Option}
+use Rattle.std.proofs.Common.{Some, None, get_or, set, count_ones, arith, refl, sym, ap, ◌∙◌, subst}
 use Rattle.std.specs.Prelude.{All, IfSome}
 use Rattle.std.specs.List.{AllByRecursion}
 use Rattle.std.specs.Int.{bit_at}
@@ -17,7 +18,8 @@ use Rattle.tag_core.specs.Records.{record_after, joined}
 use Rattle.tag_core.specs.Steps.{without}
 use Rattle.tag_search.specs.Gains.{held_with, count_of}
 use Rattle.tag_search.specs.Order.{scan_order}
-use Rattle.tag_search.specs.Search.{IsTries, none_left, wins, loses, IsPass, pass, IsSweep, empty, spilled, IsRetry, nothing_aside, swept, IsVisit, at_once, retried, Visit, IsSearch, over, won, passed}
+use Rattle.tag_search.specs.Search.{IsTries, none_left, wins, loses, IsPass, pass, IsSweep, empty, spilled, IsRetry}
+use Rattle.tag_search.specs.Search.{nothing_aside, swept, IsVisit, at_once, retried, Visit, IsSearch, over, won, passed}
 use Rattle.tag_search.specs.Shared.{record_after_all, FindsWord}
 use Rattle.tag_search.specs.SharedLaws.{record_after-append}
 use Rattle.tag_search.specs.Visits.{Reach, visit_of, visits}
@@ -43,13 +45,15 @@ pub count_ones-zero : count_ones 0 ≡ 0
 unfolding ones
 count_ones-zero = refl
 
-pub finds-split : (xs ys : List WordStep) → AllByRecursion FindsWord (xs ++ ys) → AllByRecursion FindsWord xs × AllByRecursion FindsWord ys
+pub finds-split : (xs ys : List WordStep) → AllByRecursion FindsWord (xs ++ ys) → AllByRecursion FindsWord xs
+    × AllByRecursion FindsWord ys
 finds-split [] ys h = (tt, h)
 finds-split (x ∷ xs) ys h = let rest = finds-split xs ys h.1 in ((h.0, rest.0), rest.1)
 
 module _ {R : Type 0} (bits i : ℕ) where
   -- what took nothing, and then what took something
-  took_on : (r s t : Record R) (answer : Option ℕ) → Took bits i None r s → Took bits i answer s t → Took bits i answer r t
+  took_on : (r s t : Record R) (answer : Option ℕ) → Took bits i None r s → Took bits i answer s t
+      → Took bits i answer r t
   took_on r s t answer a b = record {
     shape = b.shape ∙ a.shape;
     number = b.number ∙ a.number;
@@ -59,10 +63,13 @@ module _ {R : Type 0} (bits i : ℕ) where
     place = b.place;
   }
 
-  pub took_more : (r : Record R) (xs ys : List WordStep) (answer : Option ℕ) → Took bits i None r (record_after_all xs r)
-      → Took bits i answer (record_after_all xs r) (record_after_all ys (record_after_all xs r)) → Took bits i answer r (record_after_all (xs ++ ys) r)
+  pub took_more : (r : Record R) (xs ys : List WordStep) (answer : Option ℕ)
+      → Took bits i None r (record_after_all xs r)
+      → Took bits i answer (record_after_all xs r) (record_after_all ys (record_after_all xs r))
+      → Took bits i answer r (record_after_all (xs ++ ys) r)
   took_more r xs ys answer a b =
-      subst (λ (s : Record R). Took bits i answer r s) (sym (record_after-append xs ys r)) (took_on r (record_after_all xs r) (record_after_all ys (record_after_all xs r)) answer a b)
+      subst (λ (s : Record R). Took bits i answer r s) (sym (record_after-append xs ys r))
+      (took_on r (record_after_all xs r) (record_after_all ys (record_after_all xs r)) answer a b)
 
   pub took_none : (r : Record R) → Took bits i None r r
   took_none r = record { shape = refl; number = refl; held = refl; won = omega arith; back = refl; place = tt }
@@ -74,12 +81,21 @@ module _ {R : Type 0} (bits i : ℕ) where
   took_swap r found = record { shape = refl; number = refl; held = refl; won = refl; back = omega arith; place = tt }
 
   took_spill : (r : Record R) (mask found : ℕ) → Took bits i None r (record_after (Word (Spill i mask found)) r)
-  took_spill r mask found = record { shape = refl; number = refl; held = refl; won = refl; back = omega arith; place = tt }
+  took_spill r mask found = record {
+    shape = refl;
+    number = refl;
+    held = refl;
+    won = refl;
+    back = omega arith;
+    place = tt;
+  }
 
   -- a claim of a place that was taken
-  took_lost : (r : Record R) (place found : ℕ) → place < 64 → found < 2 ^ 64 → bit_at found place ≡ 1 → Took bits i None r (record_after (Word (Claimed i (2 ^ place) found)) r)
+  took_lost : (r : Record R) (place found : ℕ) → place < 64 → found < 2 ^ 64 → bit_at found place ≡ 1
+      → Took bits i None r (record_after (Word (Claimed i (2 ^ place) found)) r)
   took_lost r place found h fits one =
-      let none : without (2 ^ place) found ≡ 0 = without-pow found place fits h ∙ ap (λ (x : ℕ). (1 - x) * 2 ^ place) one ∙ omega arith in record {
+      let none : without (2 ^ place) found ≡ 0 = without-pow found place fits h
+      ∙ ap (λ (x : ℕ). (1 - x) * 2 ^ place) one ∙ omega arith in record {
         shape = refl;
         number = refl;
         held = ap (joined r.held i) none ∙ ap (set r.held i) (or_zero_r (get_or r.held i 0)) ∙ set-get_or r.held i 0;
@@ -92,7 +108,8 @@ module _ {R : Type 0} (bits i : ℕ) where
   took_won : (r : Record R) (place found : ℕ) → place < 64 → place < bits → found < 2 ^ 64 → bit_at found place ≡ 0
       → Took bits i (Some place) r (record_after (Word (Claimed i (2 ^ place) found)) r)
   took_won r place found h below fits clear =
-      let all : without (2 ^ place) found ≡ 2 ^ place = without-pow found place fits h ∙ ap (λ (x : ℕ). (1 - x) * 2 ^ place) clear ∙ omega arith in record {
+      let all : without (2 ^ place) found ≡ 2 ^ place = without-pow found place fits h
+      ∙ ap (λ (x : ℕ). (1 - x) * 2 ^ place) clear ∙ omega arith in record {
         shape = refl;
         number = refl;
         held = ap (joined r.held i) all;
@@ -102,42 +119,56 @@ module _ {R : Type 0} (bits i : ℕ) where
       }
 
 module _ {R : Type 0} (bits i : ℕ) (narrow : bits ≤ 64) where
-  tries_took : {rank : List ℕ} {found : ℕ} {steps : List WordStep} {answer : Option ℕ} (r : Record R) → IsTries i rank found steps answer
-      → AllByRecursion FindsWord steps → All (λ place. place < bits) rank → Took bits i answer r (record_after_all steps r)
+  tries_took : {rank : List ℕ} {found : ℕ} {steps : List WordStep} {answer : Option ℕ} (r : Record R)
+      → IsTries i rank found steps answer
+      → AllByRecursion FindsWord steps → All (λ place. place < bits) rank
+      → Took bits i answer r (record_after_all steps r)
   tries_took r (none_left taken) finds small = took_none bits i r
-  tries_took r (wins {rank = rank} {behind = behind} {found = found} {next = next} {place = place} first clear) finds small =
-      let at = all_left (λ place. place < bits) found rank behind place first small in let below : place < bits = at.0 in
+  tries_took r (wins {rank = rank} {behind = behind} {found = found} {next = next} {place = place} first clear) finds
+      small =
+      let at = all_left (λ place. place < bits) found rank behind place first small in
+      let below : place < bits = at.0 in
       took_won bits i r place next (omega arith) below finds.0 clear
-  tries_took r (loses {rank = rank} {behind = behind} {found = found} {next = next} {place = place} {rest = rest} {answer = answer} first taken more) finds small =
-      let at = all_left (λ place. place < bits) found rank behind place first small in let below : place < bits = at.0 in
+  tries_took r (loses {rank = rank} {behind = behind} {found = found} {next = next} {place = place} {rest = rest}
+      {answer = answer} first taken more) finds small =
+      let at = all_left (λ place. place < bits) found rank behind place first small in
+      let below : place < bits = at.0 in
       let s : Record R = record_after (Word (Claimed i (2 ^ place) next)) r in
-      took_on bits i r s (record_after_all rest s) answer (took_lost bits i r place next (omega arith) finds.0 taken) (tries_took s more finds.1 at.1)
+      took_on bits i r s (record_after_all rest s) answer (took_lost bits i r place next (omega arith) finds.0 taken)
+      (tries_took s more finds.1 at.1)
 
   pass_took : {rank : List ℕ} {steps : List WordStep} {answer : Option ℕ} (r : Record R) → IsPass i rank steps answer
-      → AllByRecursion FindsWord steps → All (λ place. place < bits) rank → Took bits i answer r (record_after_all steps r)
+      → AllByRecursion FindsWord steps → All (λ place. place < bits) rank
+      → Took bits i answer r (record_after_all steps r)
   pass_took r (pass {found = found} {tries = tries} {answer = answer} more) finds small =
       let s : Record R = record_after (Word (Look i found)) r in
       took_on bits i r s (record_after_all tries s) answer (took_look bits i r found) (tries_took s more finds.1 small)
 
-  pub sweep_took : {mask : ℕ} {steps : List WordStep} (r : Record R) → IsSweep i mask steps → Took bits i None r (record_after_all steps r)
+  pub sweep_took : {mask : ℕ} {steps : List WordStep} (r : Record R) → IsSweep i mask steps
+      → Took bits i None r (record_after_all steps r)
   sweep_took r empty = took_swap bits i r 0
   sweep_took r (spilled {mask = mask} {found = found} some fits) =
       let s : Record R = record_after (Word (Swap i mask)) r in
-      took_on bits i r s (record_after (Word (Spill i mask found)) s) None (took_swap bits i r mask) (took_spill bits i s mask found)
+      took_on bits i r s (record_after (Word (Spill i mask found)) s) None (took_swap bits i r mask)
+      (took_spill bits i s mask found)
 
   retry_took : {rank : List ℕ} {steps : List WordStep} {answer : Option ℕ} (r : Record R) → IsRetry i rank steps answer
-      → AllByRecursion FindsWord steps → All (λ place. place < bits) rank → Took bits i answer r (record_after_all steps r)
+      → AllByRecursion FindsWord steps → All (λ place. place < bits) rank
+      → Took bits i answer r (record_after_all steps r)
   retry_took r (nothing_aside sweep) finds small = sweep_took r sweep
   retry_took r (swept {sweep = first} {second = second} {answer = answer} some sweep again) finds small =
-      took_more bits i r first second answer (sweep_took r sweep) (pass_took (record_after_all first r) again (finds-split first second finds).1 small)
+      took_more bits i r first second answer (sweep_took r sweep)
+      (pass_took (record_after_all first r) again (finds-split first second finds).1 small)
 
   -- a visit wins the place that it answers, and nothing else
   visit_took : {rank : List ℕ} {steps : List WordStep} {answer : Option ℕ} (r : Record R) → IsVisit i rank steps answer
-      → AllByRecursion FindsWord steps → All (λ place. place < bits) rank → Took bits i answer r (record_after_all steps r)
+      → AllByRecursion FindsWord steps → All (λ place. place < bits) rank
+      → Took bits i answer r (record_after_all steps r)
   visit_took r (at_once once) finds small = pass_took r once finds small
   visit_took r (retried {first = first} {rest = rest} {answer = answer} once again) finds small =
       let split = finds-split first rest finds in
-      took_more bits i r first rest answer (pass_took r once split.0 small) (retry_took (record_after_all first r) again split.1 small)
+      took_more bits i r first rest answer (pass_took r once split.0 small)
+      (retry_took (record_after_all first r) again split.1 small)
 
 -- as `Gains` says it of the records alone, with a tag of the map
 pub record Won {R : Type 0} (l : Layout) (answer : Option ℕ) (old new : Record R) : Type 0 where
@@ -156,17 +187,21 @@ module _ {R : Type 0} (l : Layout) (narrow : word_bits l ≤ 64) where
   won_none : (r : Record R) → Won l None r r
   won_none r = record { shape = refl; number = refl; held = refl; won = omega arith; back = refl; tag = tt }
 
-  won_tag : (i place : ℕ) (r s : Record R) → Took (word_depth l i) i (Some place) r s → Won l (Some (tag_at l i place)) r s
-  won_tag i place r s took = let near : place < word_depth l i = took.place in let small : place < word_bits l = omega arith in record {
-    shape = took.shape;
-    number = took.number;
-    held = took.held ∙ sym (λ z. joined r.held (word_of-tag_at l i place small z) (2 ^ place_of-tag_at l i place small z));
-    won = took.won;
-    back = took.back;
-    tag = tag_at-below l i place near;
-  }
+  won_tag : (i place : ℕ) (r s : Record R) → Took (word_depth l i) i (Some place) r s
+      → Won l (Some (tag_at l i place)) r s
+  won_tag i place r s took = let near : place < word_depth l i = took.place in
+      let small : place < word_bits l = omega arith in record {
+        shape = took.shape;
+        number = took.number;
+        held = took.held ∙ sym (λ z. joined r.held (word_of-tag_at l i place small z)
+            (2 ^ place_of-tag_at l i place small z));
+        won = took.won;
+        back = took.back;
+        tag = tag_at-below l i place near;
+      }
 
-  won_on : (i : ℕ) (r s t : Record R) (answer : Option ℕ) → Took (word_depth l i) i None r s → Won l answer s t → Won l answer r t
+  won_on : (i : ℕ) (r s t : Record R) (answer : Option ℕ) → Took (word_depth l i) i None r s → Won l answer s t
+      → Won l answer r t
   won_on i r s t answer a b = record {
     shape = b.shape ∙ a.shape;
     number = b.number ∙ a.number;
@@ -176,20 +211,27 @@ module _ {R : Type 0} (l : Layout) (narrow : word_bits l ≤ 64) where
     tag = b.tag;
   }
 
-  pub visit_wins : (visit : Visit) {steps : List WordStep} {answer : Option ℕ} (r : Record R) → IsVisit visit.word visit.rank steps answer
-      → AllByRecursion FindsWord steps → IsInside l visit → Took (word_depth l visit.word) visit.word answer r (record_after_all steps r)
-  visit_wins visit r v finds inside = visit_took (word_depth l visit.word) visit.word (let z : word_depth l visit.word ≤ 64 = omega arith in z) r v finds inside
+  pub visit_wins : (visit : Visit) {steps : List WordStep} {answer : Option ℕ} (r : Record R)
+      → IsVisit visit.word visit.rank steps answer
+      → AllByRecursion FindsWord steps → IsInside l visit → Took (word_depth l visit.word) visit.word answer r
+      (record_after_all steps r)
+  visit_wins visit r v finds inside = visit_took (word_depth l visit.word) visit.word
+      (let z : word_depth l visit.word ≤ 64 = omega arith in z) r v finds inside
 
   -- a search wins the tag that it answers, and nothing else
-  pub search_wins : {vs : List Visit} {steps : List WordStep} {answer : Option ℕ} (r : Record R) → IsSearch l vs steps answer
+  pub search_wins : {vs : List Visit} {steps : List WordStep} {answer : Option ℕ} (r : Record R)
+      → IsSearch l vs steps answer
       → AllByRecursion FindsWord steps → All (IsInside l) vs → Won l answer r (record_after_all steps r)
   search_wins r over finds inside = won_none r
   search_wins r (won {visit = visit} {visits = more} {steps = steps} {place = place} v) finds inside =
-      won_tag visit.word place r (record_after_all steps r) (visit_wins visit r v finds (All-head (IsInside l) visit more inside))
-  search_wins r (passed {visit = visit} {visits = more} {steps = steps} {rest = rest} {answer = answer} v search) finds inside =
+      won_tag visit.word place r (record_after_all steps r)
+      (visit_wins visit r v finds (All-head (IsInside l) visit more inside))
+  search_wins r (passed {visit = visit} {visits = more} {steps = steps} {rest = rest} {answer = answer} v search) finds
+      inside =
       let split = finds-split steps rest finds in let s : Record R = record_after_all steps r in
       subst (λ (t : Record R). Won l answer r t) (sym (record_after-append steps rest r))
-      (won_on visit.word r s (record_after_all rest s) answer (visit_wins visit r v split.0 (All-head (IsInside l) visit more inside))
+      (won_on visit.word r s (record_after_all rest s) answer
+      (visit_wins visit r v split.0 (All-head (IsInside l) visit more inside))
       (search_wins s search split.1 (All-tail (IsInside l) visit more inside)))
 
 -- the visits of a get are inside their words

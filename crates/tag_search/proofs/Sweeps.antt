@@ -1,10 +1,13 @@
 -- What claims and sweeps make of the pool of the words.
-use Rattle.std.proofs.Common.{◌≡◌, ℕ, zero, suc, ◌-◌, ◌^◌, ◌<◌, min, max, Bool, true, false, not, ◌&&◌, ◌||◌, cond, nat_eq, nat_lt, List, [], ◌∷◌, bit_or, arith, refl, sym, ap, ◌∙◌, eq-eqb, ne_eqb, eqb-true}
+use Rattle.std.proofs.Common.{◌≡◌, ℕ, zero, suc, ◌-◌, ◌^◌, ◌<◌, min, max, Bool, true, false, not, ◌&&◌, ◌||◌, cond}
+use Rattle.std.proofs.Common.{nat_eq, nat_lt, List, [], ◌∷◌, bit_or, arith, refl, sym, ap, ◌∙◌, eq-eqb, ne_eqb}
+use Rattle.std.proofs.Common.{eqb-true}
 use mathlib.Core.Logic.{dite}
 use native.Mathlib.Decide.{ℕ_discrete}
 use Rattle.std.specs.Int.{bit_at, w64}
 use Rattle.std.proofs.lemmas.Bool.{lt-ltb, ltb-true}
-use Rattle.std.proofs.lemmas.Nat.Bits.{bit_at_and, bit_at_or, bit_at_not, bit_at-lt, bit_at-zero, bit_at-pow_same, bit_at-pow_other}
+use Rattle.std.proofs.lemmas.Nat.Bits.{bit_at_and, bit_at_or, bit_at_not, bit_at-lt, bit_at-zero, bit_at-pow_same}
+use Rattle.std.proofs.lemmas.Nat.Bits.{bit_at-pow_other}
 use Rattle.tag_core.specs.declared.word_step.WordStep.{WordStep}
 use Rattle.tag_core.specs.declared.word_step.WordStep.TheVariants.{Claimed, Swap, Spill}
 use Rattle.tag_core.specs.Steps.{Words, Quiet, words_after, words_after_all, without}
@@ -47,25 +50,33 @@ or_tests true a (suc zero) h = ne_eqb (max a 1) 0 (λ e. omega arith) ∙ sym (a
 or_tests true a (suc (suc b)) h = absurd (omega arith)
 
 or_clear : (n m k : ℕ) → is_clear (bit_or n m) k ≡ (is_clear n k && not (nat_eq (bit_at m k) 1))
-or_clear n m k = ap (λ (x : ℕ). nat_lt k 64 && nat_eq x 0) (bit_at_or n m k) ∙ or_tests (nat_lt k 64) (bit_at n k) (bit_at m k) (bit_at-lt m k)
+or_clear n m k = ap (λ (x : ℕ). nat_lt k 64 && nat_eq x 0) (bit_at_or n m k)
+    ∙ or_tests (nat_lt k 64) (bit_at n k) (bit_at m k) (bit_at-lt m k)
 
-claim_bit : (b : Bool) (x y m k : ℕ) → (b ≡ true → y ≡ x) → is_clear (cond b (bit_or x m) y) k ≡ (is_clear y k && not (b && nat_eq (bit_at m k) 1))
-claim_bit true x y m k same = or_clear x m k ∙ ap (λ (n : ℕ). is_clear n k && not (nat_eq (bit_at m k) 1)) (sym (same refl))
+claim_bit : (b : Bool) (x y m k : ℕ) → (b ≡ true → y ≡ x) → is_clear (cond b (bit_or x m) y) k
+    ≡ (is_clear y k && not (b && nat_eq (bit_at m k) 1))
+claim_bit true x y m k same = or_clear x m k ∙ ap (λ (n : ℕ). is_clear n k && not (nat_eq (bit_at m k) 1))
+    (sym (same refl))
 claim_bit false x y m k same = sym (and_true (is_clear y k))
 
 -- a claim takes the places of its mask
-pub claim_pool : (w : Words) (i mask found : ℕ) → pool_of (words_after (Claimed i mask found) w) ≡ taken_in i (λ k. nat_eq (bit_at mask k) 1) (pool_of w)
-claim_pool w i mask found = pool_ext (pool_of (words_after (Claimed i mask found) w)) (taken_in i (λ k. nat_eq (bit_at mask k) 1) (pool_of w))
+pub claim_pool : (w : Words) (i mask found : ℕ) → pool_of (words_after (Claimed i mask found) w) ≡ taken_in i
+    (λ k. nat_eq (bit_at mask k) 1) (pool_of w)
+claim_pool w i mask found = pool_ext (pool_of (words_after (Claimed i mask found) w))
+    (taken_in i (λ k. nat_eq (bit_at mask k) 1) (pool_of w))
     (λ j k. claim_bit (nat_eq j i) (w.word i) (w.word j) mask k (λ t. ap w.word (eqb-true j i t))) (λ j k. refl)
 
 one_place : (place k : ℕ) → nat_eq (bit_at (2 ^ place) k) 1 ≡ nat_eq place k
 one_place place k = dite (ℕ_discrete k place)
-    (λ e. let set : bit_at (2 ^ place) k ≡ 1 = ap (bit_at (2 ^ place)) e ∙ bit_at-pow_same place in eq-eqb (bit_at (2 ^ place) k) 1 set ∙ sym (eq-eqb place k (sym e)))
+    (λ e. let set : bit_at (2 ^ place) k ≡ 1 = ap (bit_at (2 ^ place)) e ∙ bit_at-pow_same place in
+    eq-eqb (bit_at (2 ^ place) k) 1 set ∙ sym (eq-eqb place k (sym e)))
     (λ ne. ap (λ (x : ℕ). nat_eq x 1) (bit_at-pow_other place k ne) ∙ sym (ne_eqb place k (λ e. ne (sym e))))
 
 -- a claim of one place takes it
-pub claim_one : (w : Words) (i place found : ℕ) → pool_of (words_after (Claimed i (2 ^ place) found) w) ≡ taken_at i place (pool_of w)
-claim_one w i place found = claim_pool w i (2 ^ place) found ∙ taken_same i (λ k. nat_eq (bit_at (2 ^ place) k) 1) (nat_eq place) (pool_of w) (one_place place)
+pub claim_one : (w : Words) (i place found : ℕ) → pool_of (words_after (Claimed i (2 ^ place) found) w)
+    ≡ taken_at i place (pool_of w)
+claim_one w i place found = claim_pool w i (2 ^ place) found ∙ taken_same i (λ k. nat_eq (bit_at (2 ^ place) k) 1)
+    (nat_eq place) (pool_of w) (one_place place)
 
 -- a bit of a word without a mask
 pub bit_without : (n m k : ℕ) → m < 2 ^ 64 → k < 64 → bit_at (without n m) k ≡ min (bit_at n k) (1 - bit_at m k)
@@ -82,17 +93,21 @@ without_tests a (suc (suc b)) h k = absurd (omega arith)
 without_clear : (n m k : ℕ) → m < 2 ^ 64 → is_clear (without n m) k ≡ (is_clear n k || is_one m k)
 without_clear n m k fits = cases (nat_lt k 64) refl
   where
-    cases : (t : Bool) → nat_lt k 64 ≡ t → (t && nat_eq (bit_at (without n m) k) 0) ≡ ((t && nat_eq (bit_at n k) 0) || (t && nat_eq (bit_at m k) 1))
+    cases : (t : Bool) → nat_lt k 64 ≡ t → (t && nat_eq (bit_at (without n m) k) 0)
+        ≡ ((t && nat_eq (bit_at n k) 0) || (t && nat_eq (bit_at m k) 1))
     cases false e = refl
-    cases true e = ap (λ (x : ℕ). nat_eq x 0) (bit_without n m k fits (ltb-true k 64 e)) ∙ without_tests (bit_at n k) (bit_at m k) (bit_at-lt n k) (bit_at-lt m k)
+    cases true e = ap (λ (x : ℕ). nat_eq x 0) (bit_without n m k fits (ltb-true k 64 e))
+        ∙ without_tests (bit_at n k) (bit_at m k) (bit_at-lt n k) (bit_at-lt m k)
 
 spill_bit : (b : Bool) (x y a m k : ℕ) → (b ≡ true → y ≡ x) → (b ≡ true → a ≡ m) → m < 2 ^ 64
     → is_clear (cond b (without x m) y) k ≡ (is_clear y k || ((b || false) && is_one a k))
-spill_bit true x y a m k same mask fits = without_clear x m k fits ∙ (λ z. is_clear (sym (same refl) z) k || is_one (sym (mask refl) z) k)
+spill_bit true x y a m k same mask fits = without_clear x m k fits
+    ∙ (λ z. is_clear (sym (same refl) z) k || is_one (sym (mask refl) z) k)
 spill_bit false x y a m k same mask fits = sym (or_false (is_clear y k))
 
 kept_bit : (b : Bool) (y a k : ℕ) → (b ≡ true → a ≡ 0) → is_clear y k ≡ (is_clear y k || ((b || false) && is_one a k))
-kept_bit true y a k none = sym (ap (λ (c : Bool). is_clear y k || c) (none_of a k (ap (λ (n : ℕ). bit_at n k) (none refl) ∙ bit_at-zero k)) ∙ or_false (is_clear y k))
+kept_bit true y a k none = sym (ap (λ (c : Bool). is_clear y k || c)
+    (none_of a k (ap (λ (n : ℕ). bit_at n k) (none refl) ∙ bit_at-zero k)) ∙ or_false (is_clear y k))
 kept_bit false y a k none = sym (or_false (is_clear y k))
 
 swap_bit : (b : Bool) (a k : ℕ) → is_one (cond b 0 a) k ≡ (not (b || false) && is_one a k)
@@ -102,11 +117,14 @@ swap_bit false a k = refl
 -- a sweep frees what is set aside in its word
 pub sweep_pool : {i mask : ℕ} {steps : List WordStep} → IsSweep i mask steps → (w : Words) → Quiet steps w
     → pool_of (words_after_all steps w) ≡ freed_in (i ∷ []) (pool_of w)
-sweep_pool {i = i} empty w quiet = pool_ext (pool_of (words_after_all (Swap i 0 ∷ []) w)) (freed_in (i ∷ []) (pool_of w))
-    (λ j k. kept_bit (nat_eq j i) (w.word j) (w.aside j) k (λ t. ap w.aside (eqb-true j i t) ∙ sym quiet.0)) (λ j k. swap_bit (nat_eq j i) (w.aside j) k)
+sweep_pool {i = i} empty w quiet = pool_ext (pool_of (words_after_all (Swap i 0 ∷ []) w))
+    (freed_in (i ∷ []) (pool_of w))
+    (λ j k. kept_bit (nat_eq j i) (w.word j) (w.aside j) k (λ t. ap w.aside (eqb-true j i t) ∙ sym quiet.0))
+    (λ j k. swap_bit (nat_eq j i) (w.aside j) k)
 sweep_pool {i = i} {mask = mask} (spilled {found = found} some fits) w quiet =
     pool_ext (pool_of (words_after_all (Swap i mask ∷ Spill i mask found ∷ []) w)) (freed_in (i ∷ []) (pool_of w))
-    (λ j k. spill_bit (nat_eq j i) (w.word i) (w.word j) (w.aside j) mask k (λ t. ap w.word (eqb-true j i t)) (λ t. ap w.aside (eqb-true j i t) ∙ sym quiet.0) fits)
+    (λ j k. spill_bit (nat_eq j i) (w.word i) (w.word j) (w.aside j) mask k (λ t. ap w.word (eqb-true j i t))
+    (λ t. ap w.aside (eqb-true j i t) ∙ sym quiet.0) fits)
     (λ j k. swap_bit (nat_eq j i) (w.aside j) k)
 
 -- a sweep that found nothing found none set aside

@@ -15,18 +15,23 @@ tally-append f [] ys = omega arith
 tally-append f (x ∷ xs) ys = let rest = tally-append f xs ys in omega arith
 
 tally-from : (f : ℕ → ℕ) (a n : ℕ) → sum_below f a + tally f (numbers_from a n) ≡ sum_below f (a + n)
-tally-from f a zero = (let e : a ≡ a + zero = omega arith in let s : sum_below f a ≡ sum_below f (a + zero) = ap (sum_below f) e in omega arith)
+tally-from f a zero = (let e : a ≡ a + zero = omega arith in
+    let s : sum_below f a ≡ sum_below f (a + zero) = ap (sum_below f) e in omega arith)
 tally-from f a (suc n) =
-    let e : a + 1 + n ≡ a + suc n = omega arith in let s : sum_below f (a + 1 + n) ≡ sum_below f (a + suc n) = ap (sum_below f) e in
+    let e : a + 1 + n ≡ a + suc n = omega arith in
+    let s : sum_below f (a + 1 + n) ≡ sum_below f (a + suc n) = ap (sum_below f) e in
     let e' : a + 1 ≡ suc a = omega arith in let t : sum_below f (a + 1) ≡ sum_below f a + f a = ap (sum_below f) e' in
     let rest = tally-from f (a + 1) n in omega arith
 
 -- the words up to one and those from it on are all words
-pub tally-around : (f : ℕ → ℕ) (first n : ℕ) → first ≤ n → tally f (numbers first n) + tally f (numbers 0 first) ≡ sum_below f n
+pub tally-around : (f : ℕ → ℕ) (first n : ℕ) → first ≤ n → tally f (numbers first n) + tally f (numbers 0 first)
+    ≡ sum_below f n
 tally-around f first n h =
-    let e : first + (n - first) ≡ n = omega arith in let whole : sum_below f (first + (n - first)) ≡ sum_below f n = ap (sum_below f) e in
+    let e : first + (n - first) ≡ n = omega arith in
+    let whole : sum_below f (first + (n - first)) ≡ sum_below f n = ap (sum_below f) e in
     let back = tally-from f first (n - first) in
-    let e' : 0 + (first - 0) ≡ first = omega arith in let low : sum_below f (0 + (first - 0)) ≡ sum_below f first = ap (sum_below f) e' in
+    let e' : 0 + (first - 0) ≡ first = omega arith in
+    let low : sum_below f (0 + (first - 0)) ≡ sum_below f first = ap (sum_below f) e' in
     let front = tally-from f 0 (first - 0) in omega arith
 
 -- twice a number and four more, summed

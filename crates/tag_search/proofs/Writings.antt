@@ -1,10 +1,12 @@
 -- What one write to a list of words leaves of their bits, and that the words stay tidy.
-use Rattle.std.proofs.Common.{◌≡◌, ◌≢◌, ℕ, zero, suc, ◌-◌, ◌^◌, ◌<◌, ◌⊎◌, min, List, length, get_or, set, bit_or, arith, refl, sym, ap, ◌∙◌, subst, inl, inr, get_or-set_other, get_or-set_same}
+use Rattle.std.proofs.Common.{◌≡◌, ◌≢◌, ℕ, zero, suc, ◌-◌, ◌^◌, ◌<◌, ◌⊎◌, min, List, length, get_or, set, bit_or, arith}
+use Rattle.std.proofs.Common.{refl, sym, ap, ◌∙◌, subst, inl, inr, get_or-set_other, get_or-set_same}
 use mathlib.Core.Logic.{dite}
 use native.Mathlib.Decide.{ℕ_discrete, dec_lt}
 use Rattle.std.specs.Int.{bit_at, w64}
 use Rattle.std.proofs.Math.ListN.{length-set}
-use Rattle.std.proofs.lemmas.Nat.Bits.{bit_at_and, bit_at_or, bit_at_not, bit_at-lt, bit_at-zero, bit_at_above, bit_at-pow_same, bit_at-pow_other}
+use Rattle.std.proofs.lemmas.Nat.Bits.{bit_at_and, bit_at_or, bit_at_not, bit_at-lt, bit_at-zero, bit_at_above}
+use Rattle.std.proofs.lemmas.Nat.Bits.{bit_at-pow_same, bit_at-pow_other}
 use Rattle.tag_core.specs.Steps.{without}
 use Rattle.tag_layout.specs.Layout.{word_depth, IsWithin}
 use Rattle.tag_search.specs.Plain.{Plain}
@@ -25,41 +27,52 @@ bit_out mask k out = elim (bit_is mask k) [ inl one ↦ absurd (out one) | inr n
 
 -- a place of a mask is below its width
 pub in_below : (mask depth k : ℕ) → mask < 2 ^ depth → IsIn mask k → k < depth
-in_below mask depth k fits one = dite (dec_lt k depth) (λ h. h) (λ no. let none = bit_at_above mask depth k fits (omega arith) in absurd (omega arith))
+in_below mask depth k fits one = dite (dec_lt k depth) (λ h. h)
+    (λ no. let none = bit_at_above mask depth k fits (omega arith) in absurd (omega arith))
 
 -- one entry is written, the others stay
 other_entries : (xs : List ℕ) (i v j : ℕ) → j ≢ i → get_or (set xs i v) j 0 ≡ get_or xs j 0
 other_entries xs i v j ne = get_or-set_other xs i j v 0 ne
 
 -- bits or-ed into a word
-pub writes_or : (xs : List ℕ) (i v mask : ℕ) → i < length xs → v ≡ get_or xs i 0 → Writes xs (set xs i (bit_or v mask)) i (IsIn mask) 1
+pub writes_or : (xs : List ℕ) (i v mask : ℕ) → i < length xs → v ≡ get_or xs i 0
+    → Writes xs (set xs i (bit_or v mask)) i (IsIn mask) 1
 writes_or xs i v mask h e =
     let here : get_or (set xs i (bit_or v mask)) i 0 ≡ bit_or v mask = get_or-set_same xs i (bit_or v mask) 0 h in
     record {
-      there = λ k one. let b = bit_at_or v mask k in let l = bit_at-lt v k in ap (λ (x : ℕ). bit_at x k) here ∙ omega arith;
-      beside = λ k out. let none = bit_out mask k out in let b = bit_at_or v mask k in ap (λ (x : ℕ). bit_at x k) here ∙ (let same : bit_at (bit_or v mask) k ≡ bit_at v k = omega arith in same ∙ ap (λ (x : ℕ). bit_at x k) e);
+      there = λ k one. let b = bit_at_or v mask k in let l = bit_at-lt v k in
+          ap (λ (x : ℕ). bit_at x k) here ∙ omega arith;
+      beside = λ k out. let none = bit_out mask k out in let b = bit_at_or v mask k in
+          ap (λ (x : ℕ). bit_at x k) here ∙ (let same : bit_at (bit_or v mask) k ≡ bit_at v k = omega arith in
+          same ∙ ap (λ (x : ℕ). bit_at x k) e);
       others = λ j ne. other_entries xs i (bit_or v mask) j ne;
     }
 
 -- a bit of a word without those of a mask
-pub bit_at_without : (v mask k : ℕ) → v < 2 ^ 64 → mask < 2 ^ 64 → bit_at (without v mask) k ≡ min (bit_at v k) (1 - bit_at mask k)
+pub bit_at_without : (v mask k : ℕ) → v < 2 ^ 64 → mask < 2 ^ 64 → bit_at (without v mask) k ≡ min (bit_at v k)
+    (1 - bit_at mask k)
 bit_at_without v mask k fits narrow = dite (dec_lt k 64)
     (λ (low : k < 64). bit_at_and v (2 ^ 64 - 1 - mask) k ∙ ap (min (bit_at v k)) (bit_at_not w64 mask k narrow low))
-    (λ high. let none = bit_at_above v 64 k fits (omega arith) in let b = bit_at_and v (2 ^ 64 - 1 - mask) k in omega arith)
+    (λ high. let none = bit_at_above v 64 k fits (omega arith) in let b = bit_at_and v (2 ^ 64 - 1 - mask) k in
+    omega arith)
 
 -- bits taken out of a word
-pub writes_without : (xs : List ℕ) (i v mask : ℕ) → i < length xs → v ≡ get_or xs i 0 → v < 2 ^ 64 → mask < 2 ^ 64 → Writes xs (set xs i (without v mask)) i (IsIn mask) 0
+pub writes_without : (xs : List ℕ) (i v mask : ℕ) → i < length xs → v ≡ get_or xs i 0 → v < 2 ^ 64 → mask < 2 ^ 64
+    → Writes xs (set xs i (without v mask)) i (IsIn mask) 0
 writes_without xs i v mask h e fits narrow =
     let here : get_or (set xs i (without v mask)) i 0 ≡ without v mask = get_or-set_same xs i (without v mask) 0 h in
     record {
       there = λ k one. let b = bit_at_without v mask k fits narrow in ap (λ (x : ℕ). bit_at x k) here ∙ omega arith;
-      beside = λ k out. let none = bit_out mask k out in let b = bit_at_without v mask k fits narrow in let l = bit_at-lt v k in
-          ap (λ (x : ℕ). bit_at x k) here ∙ (let same : bit_at (without v mask) k ≡ bit_at v k = omega arith in same ∙ ap (λ (x : ℕ). bit_at x k) e);
+      beside = λ k out. let none = bit_out mask k out in let b = bit_at_without v mask k fits narrow in
+          let l = bit_at-lt v k in
+          ap (λ (x : ℕ). bit_at x k) here ∙ (let same : bit_at (without v mask) k ≡ bit_at v k = omega arith in
+          same ∙ ap (λ (x : ℕ). bit_at x k) e);
       others = λ j ne. other_entries xs i (without v mask) j ne;
     }
 
 -- a word emptied
-pub writes_zero : (xs : List ℕ) (i : ℕ) (P : ℕ → Type 0) → i < length xs → ((k : ℕ) → ¬ P k → bit_at (get_or xs i 0) k ≡ 0) → Writes xs (set xs i 0) i P 0
+pub writes_zero : (xs : List ℕ) (i : ℕ) (P : ℕ → Type 0) → i < length xs
+    → ((k : ℕ) → ¬ P k → bit_at (get_or xs i 0) k ≡ 0) → Writes xs (set xs i 0) i P 0
 writes_zero xs i P h out =
     let here : get_or (set xs i 0) i 0 ≡ 0 = get_or-set_same xs i 0 0 h in
     record {
@@ -70,33 +83,46 @@ writes_zero xs i P h out =
 
 -- nothing is written where no place is meant
 pub writes_nothing : (xs : List ℕ) (i : ℕ) (P : ℕ → Type 0) (b : ℕ) → ((k : ℕ) → ¬ P k) → Writes xs xs i P b
-writes_nothing xs i P b none = record { there = λ k one. absurd (none k one); beside = λ k _. refl; others = λ j _. refl }
+writes_nothing xs i P b none = record {
+  there = λ k one. absurd (none k one);
+  beside = λ k _. refl;
+  others = λ j _. refl;
+}
 
 -- the same places, said otherwise
-pub writes_where : (xs ys : List ℕ) (i b : ℕ) (P Q : ℕ → Type 0) → ((k : ℕ) → Q k → P k) → ((k : ℕ) → P k → Q k) → Writes xs ys i P b → Writes xs ys i Q b
-writes_where xs ys i b P Q f g w = record { there = λ k q. w.there k (f k q); beside = λ k no. w.beside k (λ p. no (g k p)); others = w.others }
+pub writes_where : (xs ys : List ℕ) (i b : ℕ) (P Q : ℕ → Type 0) → ((k : ℕ) → Q k → P k) → ((k : ℕ) → P k → Q k)
+    → Writes xs ys i P b → Writes xs ys i Q b
+writes_where xs ys i b P Q f g w = record {
+  there = λ k q. w.there k (f k q);
+  beside = λ k no. w.beside k (λ p. no (g k p));
+  others = w.others;
+}
 
 -- the one place of a mask of one bit
 pub is_place : (place k : ℕ) → IsIn (2 ^ place) k → k ≡ place
-is_place place k one = dite (ℕ_discrete k place) (λ e. e) (λ ne. let none = bit_at-pow_other place k ne in absurd (omega arith))
+is_place place k one = dite (ℕ_discrete k place) (λ e. e) (λ ne. let none = bit_at-pow_other place k ne in
+    absurd (omega arith))
 
 pub place_is : (place k : ℕ) → k ≡ place → IsIn (2 ^ place) k
 place_is place k e = ap (bit_at (2 ^ place)) e ∙ bit_at-pow_same place
 
 -- a claim of places that the word uses
-pub tidy_claim : (p : Plain) (new : List ℕ) (i mask : ℕ) → IsTidy p → length new ≡ length p.word → IsWithin p.layout i mask → Writes p.word new i (IsIn mask) 1 → IsTidy (record p { word = new })
+pub tidy_claim : (p : Plain) (new : List ℕ) (i mask : ℕ) → IsTidy p → length new ≡ length p.word
+    → IsWithin p.layout i mask → Writes p.word new i (IsIn mask) 1 → IsTidy (record p { word = new })
 tidy_claim p new i mask tidy long fits w = record {
   word_count = long ∙ tidy.word_count;
   aside_count = tidy.aside_count;
   within = λ j k one. dite (ℕ_discrete j i)
-      (λ (e : j ≡ i). let here : bit_at (get_or new i 0) k ≡ 1 = subst (λ (x : ℕ). bit_at (get_or new x 0) k ≡ 1) e one in
+      (λ (e : j ≡ i). let here : bit_at (get_or new i 0) k ≡ 1 = subst (λ (x : ℕ). bit_at (get_or new x 0) k ≡ 1) e
+      one in
       subst (λ (x : ℕ). k < word_depth p.layout x) (sym e) (elim (bit_is mask k) [
         | inl is ↦ in_below mask (word_depth p.layout i) k fits is
         | inr out ↦ tidy.within i k (sym (w.beside k (λ is. absurd (omega arith))) ∙ here)
       ]))
       (λ ne. tidy.within j k (sym (ap (λ (x : ℕ). bit_at x k) (w.others j ne)) ∙ one));
   taken = λ j k aside. let was = tidy.taken j k aside in dite (ℕ_discrete j i)
-      (λ (e : j ≡ i). let before : bit_at (get_or p.word i 0) k ≡ 1 = subst (λ (x : ℕ). bit_at (get_or p.word x 0) k ≡ 1) e was in
+      (λ (e : j ≡ i). let before : bit_at (get_or p.word i 0) k ≡ 1 =
+      subst (λ (x : ℕ). bit_at (get_or p.word x 0) k ≡ 1) e was in
       subst (λ (x : ℕ). bit_at (get_or new x 0) k ≡ 1) (sym e) (elim (bit_is mask k) [
         | inl is ↦ w.there k is
         | inr out ↦ w.beside k (λ is. absurd (omega arith)) ∙ before
@@ -105,34 +131,41 @@ tidy_claim p new i mask tidy long fits w = record {
 }
 
 -- places cleared, none of which is set aside any more
-pub tidy_clear : (p : Plain) (new aside : List ℕ) (i mask : ℕ) → IsTidy p → length new ≡ length p.word → length aside ≡ length p.aside → Writes p.word new i (IsIn mask) 0
-    → ((j k : ℕ) → bit_at (get_or aside j 0) k ≡ 1 → bit_at (get_or p.aside j 0) k ≡ 1) → ((k : ℕ) → bit_at (get_or aside i 0) k ≡ 1 → ¬ IsIn mask k)
+pub tidy_clear : (p : Plain) (new aside : List ℕ) (i mask : ℕ) → IsTidy p → length new ≡ length p.word
+    → length aside ≡ length p.aside → Writes p.word new i (IsIn mask) 0
+    → ((j k : ℕ) → bit_at (get_or aside j 0) k ≡ 1 → bit_at (get_or p.aside j 0) k ≡ 1)
+    → ((k : ℕ) → bit_at (get_or aside i 0) k ≡ 1 → ¬ IsIn mask k)
     → IsTidy (record p { word = new; aside = aside })
 tidy_clear p new aside i mask tidy long broad w fewer apart = record {
   word_count = long ∙ tidy.word_count;
   aside_count = broad ∙ tidy.aside_count;
   within = λ j k one. dite (ℕ_discrete j i)
-      (λ (e : j ≡ i). let here : bit_at (get_or new i 0) k ≡ 1 = subst (λ (x : ℕ). bit_at (get_or new x 0) k ≡ 1) e one in
+      (λ (e : j ≡ i). let here : bit_at (get_or new i 0) k ≡ 1 = subst (λ (x : ℕ). bit_at (get_or new x 0) k ≡ 1) e
+      one in
       subst (λ (x : ℕ). k < word_depth p.layout x) (sym e) (elim (bit_is mask k) [
         | inl is ↦ absurd (let none = w.there k is in omega arith)
         | inr out ↦ tidy.within i k (sym (w.beside k (λ is. absurd (omega arith))) ∙ here)
       ]))
       (λ ne. tidy.within j k (sym (ap (λ (x : ℕ). bit_at x k) (w.others j ne)) ∙ one));
   taken = λ j k still. let was = tidy.taken j k (fewer j k still) in dite (ℕ_discrete j i)
-      (λ (e : j ≡ i). let before : bit_at (get_or p.word i 0) k ≡ 1 = subst (λ (x : ℕ). bit_at (get_or p.word x 0) k ≡ 1) e was in
+      (λ (e : j ≡ i). let before : bit_at (get_or p.word i 0) k ≡ 1 =
+      subst (λ (x : ℕ). bit_at (get_or p.word x 0) k ≡ 1) e was in
       let here : bit_at (get_or aside i 0) k ≡ 1 = subst (λ (x : ℕ). bit_at (get_or aside x 0) k ≡ 1) e still in
       subst (λ (x : ℕ). bit_at (get_or new x 0) k ≡ 1) (sym e) (w.beside k (apart k here) ∙ before))
       (λ ne. ap (λ (x : ℕ). bit_at x k) (w.others j ne) ∙ was);
 }
 
 -- a taken place set aside
-pub tidy_put : (p : Plain) (aside : List ℕ) (i place : ℕ) → IsTidy p → length aside ≡ length p.aside → bit_at (get_or p.word i 0) place ≡ 1 → Writes p.aside aside i (λ k. k ≡ place) 1 → IsTidy (record p { aside = aside })
+pub tidy_put : (p : Plain) (aside : List ℕ) (i place : ℕ) → IsTidy p → length aside ≡ length p.aside
+    → bit_at (get_or p.word i 0) place ≡ 1 → Writes p.aside aside i (λ k. k ≡ place) 1
+    → IsTidy (record p { aside = aside })
 tidy_put p aside i place tidy broad was w = record {
   word_count = tidy.word_count;
   aside_count = broad ∙ tidy.aside_count;
   within = tidy.within;
   taken = λ j k one. dite (ℕ_discrete j i)
-      (λ (e : j ≡ i). let here : bit_at (get_or aside i 0) k ≡ 1 = subst (λ (x : ℕ). bit_at (get_or aside x 0) k ≡ 1) e one in
+      (λ (e : j ≡ i). let here : bit_at (get_or aside i 0) k ≡ 1 = subst (λ (x : ℕ). bit_at (get_or aside x 0) k ≡ 1) e
+      one in
       subst (λ (x : ℕ). bit_at (get_or p.word x 0) k ≡ 1) (sym e) (dite (ℕ_discrete k place)
       (λ (is : k ≡ place). subst (λ (x : ℕ). bit_at (get_or p.word i 0) x ≡ 1) (sym is) was)
       (λ no. tidy.taken i k (sym (w.beside k no) ∙ here))))
@@ -140,22 +173,29 @@ tidy_put p aside i place tidy broad was w = record {
 }
 
 -- a bit or-ed into the word at an index, said of that index and that place
-pub writes_place : (xs : List ℕ) (r i found bit place : ℕ) → r ≡ i → bit ≡ 2 ^ place → r < length xs → found ≡ get_or xs r 0 → Writes xs (set xs r (bit_or found bit)) i (λ k. k ≡ place) 1
+pub writes_place : (xs : List ℕ) (r i found bit place : ℕ) → r ≡ i → bit ≡ 2 ^ place → r < length xs
+    → found ≡ get_or xs r 0 → Writes xs (set xs r (bit_or found bit)) i (λ k. k ≡ place) 1
 writes_place xs r i found bit place e b h f =
     let new : List ℕ = set xs r (bit_or found bit) in
     subst (λ (x : ℕ). Writes xs new x (λ k. k ≡ place) 1) e
-    (writes_where xs new r 1 (IsIn bit) (λ k. k ≡ place) (λ k q. subst (λ (x : ℕ). IsIn x k) (sym b) (place_is place k q)) (λ k q. is_place place k (subst (λ (x : ℕ). IsIn x k) b q))
+    (writes_where xs new r 1 (IsIn bit) (λ k. k ≡ place)
+    (λ k q. subst (λ (x : ℕ). IsIn x k) (sym b) (place_is place k q))
+    (λ k q. is_place place k (subst (λ (x : ℕ). IsIn x k) b q))
     (writes_or xs r found bit h f))
 
 -- a sweep that found a mask
-pub tidy_sweep : (p : Plain) (i mask found : ℕ) → IsTidy p → i < length p.word → i < length p.aside → found ≡ get_or p.word i 0 → found < 2 ^ 64 → mask < 2 ^ 64
+pub tidy_sweep : (p : Plain) (i mask found : ℕ) → IsTidy p → i < length p.word → i < length p.aside
+    → found ≡ get_or p.word i 0 → found < 2 ^ 64 → mask < 2 ^ 64
     → IsTidy (record p { word = set p.word i (without found mask); aside = set p.aside i 0 })
 tidy_sweep p i mask found tidy h g f fits narrow =
     let empty : get_or (set p.aside i 0) i 0 ≡ 0 = get_or-set_same p.aside i 0 0 g in
-    let none : (k : ℕ) → bit_at (get_or (set p.aside i 0) i 0) k ≡ 0 = λ k. ap (λ (x : ℕ). bit_at x k) empty ∙ bit_at-zero k in
-    tidy_clear p (set p.word i (without found mask)) (set p.aside i 0) i mask tidy (length-set p.word i (without found mask)) (length-set p.aside i 0)
+    let none : (k : ℕ) → bit_at (get_or (set p.aside i 0) i 0) k ≡ 0 = λ k. ap (λ (x : ℕ). bit_at x k) empty
+    ∙ bit_at-zero k in
+    tidy_clear p (set p.word i (without found mask)) (set p.aside i 0) i mask tidy
+    (length-set p.word i (without found mask)) (length-set p.aside i 0)
     (writes_without p.word i found mask h f fits narrow)
     (λ j k one. dite (ℕ_discrete j i)
-    (λ (e : j ≡ i). absurd (let here : bit_at (get_or (set p.aside i 0) i 0) k ≡ 1 = subst (λ (x : ℕ). bit_at (get_or (set p.aside i 0) x 0) k ≡ 1) e one in let z = none k in omega arith))
+    (λ (e : j ≡ i). absurd (let here : bit_at (get_or (set p.aside i 0) i 0) k ≡ 1 =
+    subst (λ (x : ℕ). bit_at (get_or (set p.aside i 0) x 0) k ≡ 1) e one in let z = none k in omega arith))
     (λ ne. sym (ap (λ (x : ℕ). bit_at x k) (other_entries p.aside i 0 j ne)) ∙ one))
     (λ k one. absurd (let z = none k in omega arith))

@@ -12,7 +12,9 @@ use Rattle.step_ledger.proofs.Turned.{sum_turned}
 use Rattle.step_ledger.proofs.Gathers.{gathered}
 use Rattle.wake_book.specs.declared.book.Limits.{Limits}
 use Rattle.wake_book.specs.declared.steps.BookStep.{BookStep}
-use Rattle.wake_book.specs.Charges.{opening_words, words_after, completions_in, wakeups_in, added, charged, covers, taken, MayStep, BookRule}
+use Rattle.wake_book.specs.Charges.{completions_at, wakeups_at, opening_words, words_after, completions_in, wakeups_in}
+use Rattle.wake_book.specs.Charges.{added, charged, covers}
+use Rattle.wake_book.specs.Charges.{taken, MayStep, BookRule}
 use Rattle.wake_book.specs.Booked.{IsBooked}
 use Rattle.wake_book.proofs.Counting.{capped, counted, tiles, charged_le, charges_le, taken_is}
 
@@ -22,16 +24,25 @@ read [] i x e = absurd (some-ne-none x (sym e))
 read (a ∷ l) zero x e = some-injective a x e
 read (a ∷ l) (suc i) x e = read l i x e
 
-pub booked : {S : Type 0} (k : Limits) → k.tellers ≤ 64 → k.cap ≤ 2 ^ 56 → (id : ℕ) (v : View BookStep) (ws : List ℕ) (xs : List S) (tellers : List (Record BookStep)) (completions wakeups charges : ℕ)
-    → Final (Seen (BookRule k) id v) ws xs → v.records.value ≡ turned tellers → HasAll (numbers tellers) k.tellers → charges ≡ min (sum_over (total charged) v.records.value) (2 ^ 64 - 1)
-    → get_elem? ws 8 ≡ some completions → get_elem? ws 16 ≡ some wakeups → IsBooked k tellers record { counted = completions; charged = wakeups; charges = charges }
+pub booked : {S : Type 0} (k : Limits) → k.tellers ≤ 64 → k.cap ≤ 2 ^ 56
+    → (id : ℕ) (v : View BookStep) (ws : List ℕ) (xs : List S) (tellers : List (Record BookStep))
+    (completions wakeups charges : ℕ)
+    → Final (Seen (BookRule k) id v) ws xs → v.records.value ≡ turned tellers → HasAll (numbers tellers) k.tellers
+    → charges ≡ min (sum_over (total charged) v.records.value) (2 ^ 64 - 1)
+    → get_elem? ws completions_at ≡ some completions → get_elem? ws wakeups_at ≡ some wakeups
+    → IsBooked k tellers record { counted = completions; charged = wakeups; charges = charges }
 booked k few low id v ws xs tellers completions wakeups charges last is all sum at_completions at_wakeups =
-    let g = gathered k.tellers opening_words words_after (MayStep k) id v ws xs tellers last is all in let h = g.history in let l = g.lawful in
-    let c_is : completions ≡ completions_in h = sym (read ws 8 completions at_completions) ∙ ap (λ (z : List ℕ). get_or z 8 0) g.words_are in
-    let w_is : wakeups ≡ wakeups_in h = sym (read ws 16 wakeups at_wakeups) ∙ ap (λ (z : List ℕ). get_or z 16 0) g.words_are in
+    let g = gathered k.tellers opening_words words_after (MayStep k) id v ws xs tellers last is all in
+    let h = g.history in let l = g.lawful in
+    let c_is : completions ≡ completions_in h = sym (read ws completions_at completions at_completions)
+    ∙ ap (λ (z : List ℕ). get_or z completions_at 0) g.words_are in
+    let w_is : wakeups ≡ wakeups_in h = sym (read ws wakeups_at wakeups at_wakeups)
+    ∙ ap (λ (z : List ℕ). get_or z wakeups_at 0) g.words_are in
     let n_is = g.sums (total added) in let n_all = counted k h l in
-    let most = sum_most (λ c. total added (own_steps c h)) (2 ^ 56) k.tellers (λ c _. let z = capped k h l c in omega arith) in
-    let q_is = g.sums (total charged) in let q_all = totals k.tellers (MayStep k) charged h l in let q_most = charges_le k h l in let below = charged_le k h l in
+    let most = sum_most (λ c. total added (own_steps c h)) (2 ^ 56) k.tellers (λ c _. let z = capped k h l c in
+    omega arith) in
+    let q_is = g.sums (total charged) in let q_all = totals k.tellers (MayStep k) charged h l in
+    let q_most = charges_le k h l in let below = charged_le k h l in
     let same = ap (sum_over (total charged)) is ∙ sum_turned (total charged) tellers in record {
       history = h;
       lawful = l;

@@ -1,5 +1,6 @@
 -- Each kind of step on the groups keeps their rule, and tells what it tells.
-use Rattle.std.proofs.Common.{◌≡◌, ℕ, suc, ◌+◌, ◌-◌, ◌%◌, ◌^◌, ◌<◌, ◌≤◌, List, get_or, set, eqb, arith, refl, sym, ap, ◌∙◌, subst}
+use Rattle.std.proofs.Common.{◌≡◌, ℕ, suc, ◌+◌, ◌-◌, ◌%◌, ◌^◌, ◌<◌, ◌≤◌, List, get_or, set, eqb, arith, refl, sym, ap}
+use Rattle.std.proofs.Common.{◌∙◌, subst}
 use mathlib.Core.Option.{none}
 use lib.Seq.{set-get_or}
 use prog.Atomic.{either}
@@ -13,33 +14,52 @@ use Rattle.step_ledger.proofs.Members.{allows}
 use Rattle.wake_book.specs.declared.steps.GroupStep.{GroupStep}
 use Rattle.wake_book.specs.declared.steps.GroupStep.TheVariants.{Look, Raise, Lower, Enter, Grant, Use, Withdraw, Store}
 use Rattle.wake_book.specs.Charges.{exchange_to}
-use Rattle.wake_book.specs.Waits.{opening_words, words_after, words_in, group_at, word, granted, waiting, moved_in, raised, stand, moved_by, MayStep, GroupsRule}
-use Rattle.wake_book.specs.WaitPlays.{looked_active, looked_index, looked_group, raising, lowering, entering, granting, using, withdrawing, storing}
+use Rattle.wake_book.specs.Waits.{active_at, index_at, one_waiting, opening_words, words_after, words_in, group_at}
+use Rattle.wake_book.specs.Waits.{word, granted, waiting, moved_in}
+use Rattle.wake_book.specs.Waits.{raised, stand, moved_by, MayStep, GroupsRule}
+use Rattle.wake_book.specs.WaitPlays.{looked_active, looked_index, looked_group, raising, lowering, entering, granting}
+use Rattle.wake_book.specs.WaitPlays.{using, withdrawing, storing}
 use Rattle.wake_book.proofs.Counting.{moves, misses}
 use Rattle.wake_book.proofs.Standing.{balanced, balance, few_stand, active_is, few_up, some_stand, some_up, index_small}
 
-module _ {S : Type 0} (n : ℕ) (few : n ≤ 64) (slots id : ℕ) (m : Me S (View GroupStep)) (r : Record GroupStep) (is : m.0 ≡ alone r) where
+module _ {S : Type 0} (n : ℕ) (few : n ≤ 64) (slots id : ℕ) (m : Me S (View GroupStep)) (r : Record GroupStep)
+    (is : m.0 ≡ alone r) where
   own : r.steps ≡ steps_of m.0
   own = ap steps_of (sym is)
 
   -- the waiting and the granted of a group are few
-  small : (g : ℕ) → g < 8 → (h : List (ℕ × GroupStep)) → Lawful n MayStep h → waiting (word (words_in h) g) + granted (word (words_in h) g) ≤ 64
+  small : (g : ℕ) → g < 8 → (h : List (ℕ × GroupStep)) → Lawful n MayStep h
+      → waiting (word (words_in h) g) + granted (word (words_in h) g) ≤ 64
   small g s h l = let a = balance n g h l (balanced n few g s h l) in let b = few_stand n g h in omega arith
 
   -- the word of a group may be named otherwise
-  pub placed : (i g : ℕ) → i ≡ group_at g → (f : ℕ → ℕ) (a b : ℕ) (then : Step S → Me S (View GroupStep) → ℕ → Me S (View GroupStep) → Type 0)
-      → Allows (GroupsRule n) slots id m (group_at g) f (then (step slots (group_at g) a b none) m) → Allows (GroupsRule n) slots id m i f (then (step slots i a b none) m)
-  placed i g e f a b then at = subst (λ (z : ℕ). Allows (GroupsRule n) slots id m z f (then (step slots z a b none) m)) (sym e) at
+  pub placed : (i g : ℕ) → i ≡ group_at g
+      → (f : ℕ → ℕ) (a b : ℕ) (then : Step S → Me S (View GroupStep) → ℕ → Me S (View GroupStep) → Type 0)
+      → Allows (GroupsRule n) slots id m (group_at g) f (then (step slots (group_at g) a b none) m)
+      → Allows (GroupsRule n) slots id m i f (then (step slots i a b none) m)
+  placed i g e f a b then at = subst (λ (z : ℕ). Allows (GroupsRule n) slots id m z f (then (step slots z a b none) m))
+      (sym e) at
 
-  pub active : Allows (GroupsRule n) slots id m 72 (λ v. v) (looked_active (step slots 72 0 0 none) m)
-  active = allows n opening_words words_after MayStep slots id m r is 72 (λ v. v) (λ v. Look 72 v) (λ v. raised (steps_of m.0) ≡ 1 → 1 ≤ v)
-      (λ h l kn st low. (refl, set-get_or (words_in h) 72 0, λ e. let a = active_is n h l in let b = some_up n r.number h kn (ap raised (sym st ∙ own) ∙ e) in omega arith))
+  pub active : Allows (GroupsRule n) slots id m active_at (λ v. v) (looked_active (step slots active_at 0 0 none) m)
+  active = allows n opening_words words_after MayStep slots id m r is active_at (λ v. v) (λ v. Look active_at v)
+      (λ v. raised (steps_of m.0) ≡ 1 → 1 ≤ v)
+      (λ h l kn st low. (
+        refl,
+        set-get_or (words_in h) active_at 0,
+        λ e. let a = active_is n h l in
+            let b = some_up n r.number h kn (ap raised (sym st ∙ own) ∙ e) in omega arith,
+      ))
 
-  pub index : Allows (GroupsRule n) slots id m 80 (λ v. v) (looked_index (step slots 80 0 0 none) m)
-  index = allows n opening_words words_after MayStep slots id m r is 80 (λ v. v) (λ v. Look 80 v) (λ v. v < 8) (λ h l kn st low. (refl, set-get_or (words_in h) 80 0, index_small n h l))
+  pub index : Allows (GroupsRule n) slots id m index_at (λ v. v) (looked_index (step slots index_at 0 0 none) m)
+  index = allows n opening_words words_after MayStep slots id m r is index_at (λ v. v) (λ v. Look index_at v)
+      (λ v. v < 8)
+      (λ h l kn st low. (refl, set-get_or (words_in h) index_at 0, index_small n h l))
 
-  pub group : (u : ℕ) → u < 8 → Allows (GroupsRule n) slots id m (group_at u) (λ v. v) (looked_group (step slots (group_at u) 0 0 none) m)
-  group u s = allows n opening_words words_after MayStep slots id m r is (group_at u) (λ v. v) (λ v. Look (group_at u) v) (λ v. (g : ℕ) → group_at u ≡ group_at g → stand (steps_of m.0) ≡ suc g → granted v ≡ 0 → 1 ≤ waiting v)
+  pub group : (u : ℕ) → u < 8 → Allows (GroupsRule n) slots id m (group_at u) (λ v. v)
+      (looked_group (step slots (group_at u) 0 0 none) m)
+  group u s = allows n opening_words words_after MayStep slots id m r is (group_at u) (λ v. v)
+      (λ v. Look (group_at u) v) (λ v. (g : ℕ) → group_at u ≡ group_at g → stand (steps_of m.0) ≡ suc g → granted v ≡ 0
+      → 1 ≤ waiting v)
       (λ h l kn st low. (
         refl,
         set-get_or (words_in h) (group_at u) 0,
@@ -47,29 +67,62 @@ module _ {S : Type 0} (n : ℕ) (few : n ≤ 64) (slots id : ℕ) (m : Me S (Vie
             let c = some_stand n r.number u h kn (ap stand (sym st ∙ own) ∙ stands ∙ same) in omega arith,
       ))
 
-  pub raise : raised r.steps ≡ 0 → Allows (GroupsRule n) slots id m 72 (λ v. (v + 1) % 2 ^ 64) (raising (step slots 72 1 0 none) m)
-  raise down s kept deep at lw = let z = allows n opening_words words_after MayStep slots id m r is 72 (λ v. (v + 1) % 2 ^ 64) (λ v. Raise v) (λ v. Unit {0})
-      (λ h l kn st low. let a = active_is n h l in let b = few_up n h l in let fits : (get_or (words_in h) 72 0 + 1) % 2 ^ 64 ≡ get_or (words_in h) 72 0 + 1 = omega arith in
-      ((refl, ap raised (sym st) ∙ down), ap (set (words_in h) 72) fits, tt)) s kept deep at lw in (z.0, z.1, z.2, z.3, z.4.0)
+  pub raise : raised r.steps ≡ 0 → Allows (GroupsRule n) slots id m active_at (λ v. (v + 1) % 2 ^ 64)
+      (raising (step slots active_at 1 0 none) m)
+  raise down s kept deep at lw = let z = allows n opening_words words_after MayStep slots id m r is active_at
+      (λ v. (v + 1) % 2 ^ 64) (λ v. Raise v) (λ v. Unit {0})
+      (λ h l kn st low. let a = active_is n h l in let b = few_up n h l in
+      let fits : (get_or (words_in h) active_at 0 + 1) % 2 ^ 64 ≡ get_or (words_in h) active_at 0 + 1 = omega arith in
+      ((refl, ap raised (sym st) ∙ down), ap (set (words_in h) active_at) fits, tt)) s kept deep at lw in
+      (z.0, z.1, z.2, z.3, z.4.0)
 
-  pub lower : raised r.steps ≡ 1 → stand r.steps ≡ 0 → Allows (GroupsRule n) slots id m 72 (λ v. (v + (2 ^ 64 - 1)) % 2 ^ 64) (lowering (step slots 72 1 0 none) m)
-  lower up out s kept deep at lw = let z = allows n opening_words words_after MayStep slots id m r is 72 (λ v. (v + (2 ^ 64 - 1)) % 2 ^ 64) (λ v. Lower v) (λ v. Unit {0})
-      (λ h l kn st low. let a = active_is n h l in let b = few_up n h l in let d = some_up n r.number h kn (ap raised (sym st) ∙ up) in
-      let fits : (get_or (words_in h) 72 0 + (2 ^ 64 - 1)) % 2 ^ 64 ≡ get_or (words_in h) 72 0 - 1 = omega arith in
-      ((refl, ap raised (sym st) ∙ up, ap stand (sym st) ∙ out), ap (set (words_in h) 72) fits, tt)) s kept deep at lw in (z.0, z.1, z.2, z.3, z.4.0)
+  pub lower : raised r.steps ≡ 1 → stand r.steps ≡ 0
+      → Allows (GroupsRule n) slots id m active_at (λ v. (v + (2 ^ 64 - 1)) % 2 ^ 64)
+      (lowering (step slots active_at 1 0 none) m)
+  lower up out s kept deep at lw = let z = allows n opening_words words_after MayStep slots id m r is active_at
+      (λ v. (v + (2 ^ 64 - 1)) % 2 ^ 64) (λ v. Lower v) (λ v. Unit {0})
+      (λ h l kn st low. let a = active_is n h l in let b = few_up n h l in
+      let d = some_up n r.number h kn (ap raised (sym st) ∙ up) in
+      let fits : (get_or (words_in h) active_at 0 + (2 ^ 64 - 1)) % 2 ^ 64 ≡ get_or (words_in h) active_at 0 - 1 =
+      omega arith in
+      ((refl, ap raised (sym st) ∙ up, ap stand (sym st) ∙ out), ap (set (words_in h) active_at) fits, tt)) s kept deep
+      at
+      lw in (z.0, z.1, z.2, z.3, z.4.0)
 
-  pub enter : (g : ℕ) → g < 8 → raised r.steps ≡ 1 → stand r.steps ≡ 0 → Allows (GroupsRule n) slots id m (group_at g) (λ v. (v + 4294967296) % 2 ^ 64) (entering (step slots (group_at g) 4294967296 0 none) m)
-  enter g few_g up out s kept deep at lw = let z = allows n opening_words words_after MayStep slots id m r is (group_at g) (λ v. (v + 4294967296) % 2 ^ 64) (λ v. Enter g v) (λ v. Unit {0})
-      (λ h l kn st low. let a = small g few_g h l in let fits : (word (words_in h) g + 4294967296) % 2 ^ 64 ≡ word (words_in h) g + 4294967296 = omega arith in
-      ((refl, few_g, ap raised (sym st) ∙ up, ap stand (sym st) ∙ out), ap (set (words_in h) (group_at g)) fits, tt)) s kept deep at lw in
-      (z.0, z.1, z.2, z.3, λ u e. let same : g ≡ u = omega arith in z.4.0 ∙ ap (λ (x : ℕ). (push (Enter x (get_or s.words (group_at g) 0)) m.0, m.1)) same)
+  pub enter : (g : ℕ) → g < 8 → raised r.steps ≡ 1 → stand r.steps ≡ 0 → Allows (GroupsRule n) slots id m (group_at g)
+      (λ v. (v + one_waiting) % 2 ^ 64) (entering (step slots (group_at g) one_waiting 0 none) m)
+  enter g few_g up out s kept deep at lw = let z = allows n opening_words words_after MayStep slots id m r is
+      (group_at g) (λ v. (v + one_waiting) % 2 ^ 64) (λ v. Enter g v) (λ v. Unit {0})
+      (λ h l kn st low. let a = small g few_g h l in
+      let fits : (word (words_in h) g + one_waiting) % 2 ^ 64 ≡ word (words_in h) g + one_waiting = omega arith in
+      ((refl, few_g, ap raised (sym st) ∙ up, ap stand (sym st) ∙ out), ap (set (words_in h) (group_at g)) fits, tt)) s
+      kept deep at lw in (
+        z.0,
+        z.1,
+        z.2,
+        z.3,
+        λ u e. let same : g ≡ u = omega arith in
+            z.4.0 ∙ ap (λ (x : ℕ). (push (Enter x (get_or s.words (group_at g) 0)) m.0, m.1)) same,
+      )
 
-  swapped : (g old new : ℕ) (h : List (ℕ × GroupStep)) → set (words_in h) (group_at g) (either (eqb (word (words_in h) g) old) new (word (words_in h) g)) ≡ set (words_in h) (group_at g) (exchange_to old new (word (words_in h) g))
-  swapped g old new h = let w : ℕ = word (words_in h) g in ap (set (words_in h) (group_at g)) (exchanged w old new (λ (x : ℕ). x ≡ exchange_to old new w) (λ e. sym (moves old new w e)) (λ ne. sym (misses old new w ne)))
+  swapped : (g old new : ℕ) (h : List (ℕ × GroupStep))
+      → set (words_in h) (group_at g) (either (eqb (word (words_in h) g) old) new (word (words_in h) g))
+      ≡ set (words_in h) (group_at g) (exchange_to old new (word (words_in h) g))
+  swapped g old new h = let w : ℕ = word (words_in h) g in
+      ap (set (words_in h) (group_at g)) (exchanged w old new (λ (x : ℕ). x ≡ exchange_to old new w)
+      (λ e. sym (moves old new w e)) (λ ne. sym (misses old new w ne)))
 
-  pub grant : (g k old new : ℕ) → g < 8 → k ≤ waiting old → total moved_by r.steps + k ≤ 2 ^ 56 → new ≡ moved_in old k → Allows (GroupsRule n) slots id m (group_at g) (λ v. either (eqb v old) new v) (granting (step slots (group_at g) old new none) m)
-  grant g k old new few_g le low is_new s kept deep at lw = let z = allows n opening_words words_after MayStep slots id m r is (group_at g) (λ v. either (eqb v old) new v) (λ v. Grant g old k v) (λ v. Unit {0})
-      (λ h l kn st lw. ((refl, few_g, le, subst (λ (x : List GroupStep). total moved_by x + k ≤ 2 ^ 56) st low), swapped g old new h ∙ ap (λ (y : ℕ). set (words_in h) (group_at g) (exchange_to old y (word (words_in h) g))) is_new, tt)) s kept deep at lw in (
+  pub grant : (g k old new : ℕ) → g < 8 → k ≤ waiting old → total moved_by r.steps + k ≤ 2 ^ 56 → new ≡ moved_in old k
+      → Allows (GroupsRule n) slots id m (group_at g) (λ v. either (eqb v old) new v)
+      (granting (step slots (group_at g) old new none) m)
+  grant g k old new few_g le low is_new s kept deep at lw = let z = allows n opening_words words_after MayStep slots id
+      m r is (group_at g) (λ v. either (eqb v old) new v) (λ v. Grant g old k v) (λ v. Unit {0})
+      (λ h l kn st lw. (
+        (refl, few_g, le, subst (λ (x : List GroupStep). total moved_by x + k ≤ 2 ^ 56) st low),
+        swapped g old new h ∙ ap (λ (y : ℕ). set (words_in h) (group_at g) (exchange_to old y (word (words_in h) g)))
+            is_new,
+        tt,
+      )) s kept deep at lw in (
         z.0,
         z.1,
         z.2,
@@ -78,15 +131,40 @@ module _ {S : Type 0} (n : ℕ) (few : n ≤ 64) (slots id : ℕ) (m : Me S (Vie
             z.4.0 ∙ (λ i. (push (Grant (same i) old (one i) (get_or s.words (group_at g) 0)) m.0, m.1)),
       )
 
-  pub use_grant : (g old : ℕ) → g < 8 → 0 < granted old → stand r.steps ≡ suc g → Allows (GroupsRule n) slots id m (group_at g) (λ v. either (eqb v old) (old - 1) v) (using (step slots (group_at g) old (old - 1) none) m)
-  use_grant g old few_g some stands s kept deep at lw = let z = allows n opening_words words_after MayStep slots id m r is (group_at g) (λ v. either (eqb v old) (old - 1) v) (λ v. Use g old v) (λ v. Unit {0})
-      (λ h l kn st low. ((refl, few_g, some, ap stand (sym st) ∙ stands), swapped g old (old - 1) h, tt)) s kept deep at lw in
-      (z.0, z.1, z.2, z.3, λ u e. let same : g ≡ u = omega arith in z.4.0 ∙ ap (λ (x : ℕ). (push (Use x old (get_or s.words (group_at g) 0)) m.0, m.1)) same)
+  pub use_grant : (g old : ℕ) → g < 8 → 0 < granted old → stand r.steps ≡ suc g
+      → Allows (GroupsRule n) slots id m (group_at g) (λ v. either (eqb v old) (old - 1) v)
+      (using (step slots (group_at g) old (old - 1) none) m)
+  use_grant g old few_g some stands s kept deep at lw = let z = allows n opening_words words_after MayStep slots id m r
+      is (group_at g) (λ v. either (eqb v old) (old - 1) v) (λ v. Use g old v) (λ v. Unit {0})
+      (λ h l kn st low. ((refl, few_g, some, ap stand (sym st) ∙ stands), swapped g old (old - 1) h, tt)) s kept deep at
+      lw in (
+        z.0,
+        z.1,
+        z.2,
+        z.3,
+        λ u e. let same : g ≡ u = omega arith in
+            z.4.0 ∙ ap (λ (x : ℕ). (push (Use x old (get_or s.words (group_at g) 0)) m.0, m.1)) same,
+      )
 
-  pub withdraw : (g old : ℕ) → g < 8 → granted old ≡ 0 → stand r.steps ≡ suc g → Allows (GroupsRule n) slots id m (group_at g) (λ v. either (eqb v old) (old - 4294967296) v) (withdrawing (step slots (group_at g) old (old - 4294967296) none) m)
-  withdraw g old few_g no_grant stands s kept deep at lw = let z = allows n opening_words words_after MayStep slots id m r is (group_at g) (λ v. either (eqb v old) (old - 4294967296) v) (λ v. Withdraw g old v) (λ v. Unit {0})
-      (λ h l kn st low. ((refl, few_g, no_grant, ap stand (sym st) ∙ stands), swapped g old (old - 4294967296) h, tt)) s kept deep at lw in
-      (z.0, z.1, z.2, z.3, λ u e. let same : g ≡ u = omega arith in z.4.0 ∙ ap (λ (x : ℕ). (push (Withdraw x old (get_or s.words (group_at g) 0)) m.0, m.1)) same)
+  pub withdraw : (g old : ℕ) → g < 8 → granted old ≡ 0 → stand r.steps ≡ suc g
+      → Allows (GroupsRule n) slots id m (group_at g) (λ v. either (eqb v old) (old - one_waiting) v)
+      (withdrawing (step slots (group_at g) old (old - one_waiting) none) m)
+  withdraw g old few_g no_grant stands s kept deep at lw = let z = allows n opening_words words_after MayStep slots id m
+      r is (group_at g) (λ v. either (eqb v old) (old - one_waiting) v) (λ v. Withdraw g old v) (λ v. Unit {0})
+      (λ h l kn st low. ((refl, few_g, no_grant, ap stand (sym st) ∙ stands), swapped g old (old - one_waiting) h, tt))
+      s
+      kept deep at lw in (
+        z.0,
+        z.1,
+        z.2,
+        z.3,
+        λ u e. let same : g ≡ u = omega arith in
+            z.4.0 ∙ ap (λ (x : ℕ). (push (Withdraw x old (get_or s.words (group_at g) 0)) m.0, m.1)) same,
+      )
 
-  pub store : (v : ℕ) → v < 8 → Allows (GroupsRule n) slots id m 80 (λ _. v) (λ _. storing (step slots 80 v 0 none) m v)
-  store v small_v s kept deep at lw = let z = allows n opening_words words_after MayStep slots id m r is 80 (λ _. v) (λ _. Store v) (λ v. Unit {0}) (λ h l kn st low. (small_v, refl, tt)) s kept deep at lw in (z.0, z.1, z.2, z.3, z.4.0)
+  pub store : (v : ℕ) → v < 8 → Allows (GroupsRule n) slots id m index_at (λ _. v)
+      (λ _. storing (step slots index_at v 0 none) m v)
+  store v small_v s kept deep at lw = let z = allows n opening_words words_after MayStep slots id m r is index_at
+      (λ _. v)
+      (λ _. Store v) (λ v. Unit {0}) (λ h l kn st low. (small_v, refl, tt)) s kept deep at lw in
+      (z.0, z.1, z.2, z.3, z.4.0)

@@ -7,7 +7,7 @@ use Rattle.step_ledger.specs.Views.{viewing, fresh, steps_of, Stepped}
 use Rattle.step_ledger.specs.History.{own_steps, total, words_of}
 use Rattle.step_ledger.specs.Ledger.{Ledger}
 use Rattle.wake_book.specs.declared.book.Limits.{Limits}
-use Rattle.wake_book.specs.declared.book.TheConstants.{COMPLETIONS, WAKEUPS}
+use Rattle.wake_book.specs.declared.book.TheConstants.{COMPLETIONS, WAKEUPS, BOOK_WORDS}
 use Rattle.wake_book.specs.declared.steps.BookStep.{BookStep}
 use Rattle.wake_book.specs.declared.steps.BookStep.TheVariants.{LookCompletions, LookWakeups, Add, Advance}
 
@@ -21,7 +21,7 @@ wakeups_at = WAKEUPS
 
 -- words of the table: the last of the three has 64 bytes of its own too
 abbrev pub book_width : ℕ
-book_width = 24
+book_width = BOOK_WORDS
 
 -- the words at the start
 abbrev pub opening_words : List ℕ

@@ -5,14 +5,15 @@ use Rattle.step_ledger.specs.declared.record.View.{View}
 use Rattle.step_ledger.specs.Views.{viewing, fresh}
 use Rattle.step_ledger.specs.History.{own_steps, total, words_of}
 use Rattle.step_ledger.specs.Ledger.{Ledger}
-use Rattle.wake_book.specs.declared.groups.TheConstants.{ACTIVE, INDEX, WAITING}
+use Rattle.wake_book.specs.declared.groups.TheConstants.{ACTIVE, INDEX, GROUP_WORDS, WAITING}
+use Rattle.wake_book.specs.declared.spacing.TheConstants.{STRIDE}
 use Rattle.wake_book.specs.declared.steps.GroupStep.{GroupStep}
 use Rattle.wake_book.specs.declared.steps.GroupStep.TheVariants.{Look, Raise, Lower, Enter, Grant, Use, Withdraw, Store}
 use Rattle.wake_book.specs.Charges.{exchange_to}
 
 -- how far apart words that different threads write stand: 64 bytes
 abbrev pub line : ℕ
-line = 8
+line = STRIDE
 
 -- the place of a group's word: the spare word stands at 0, and then the eight groups
 abbrev pub group_at : ℕ → ℕ
@@ -28,7 +29,7 @@ index_at = INDEX
 
 -- words of the table: the last has 64 bytes of its own too
 abbrev pub groups_width : ℕ
-groups_width = 88
+groups_width = GROUP_WORDS
 
 -- the words at the start
 abbrev pub opening_words : List ℕ

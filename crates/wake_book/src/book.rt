@@ -2,18 +2,22 @@
 ghost use Rattle.std.specs.Prelude.{◌≡◌, ◌-◌, ◌^◌, ◌≤◌, [], min};
 ghost use Rattle.step_ledger.specs.Views.{alone, steps_of, sum_over};
 ghost use Rattle.step_ledger.specs.History.{total};
-ghost use Rattle.wake_book.specs.Charges.{all_fresh, added, charged};
+ghost use Rattle.wake_book.specs.Charges.{all_fresh, added, book_width, charged};
 
+use crate::spacing::STRIDE;
 use crate::steps::BookStep;
 use atomic_table::{Seat, Table, TableRule};
 use std::alloc::Global;
 use step_ledger::{Numbered, View};
 
-/// Place of the word that counts completions. Words that differ in their writers lie 64 bytes apart.
-pub(crate) const COMPLETIONS: usize = 8;
+/// Place of the word that counts completions, behind the spare word at 0.
+pub(crate) const COMPLETIONS: usize = STRIDE;
 
 /// Place of the word that counts the completions charged.
-pub(crate) const WAKEUPS: usize = 16;
+pub(crate) const WAKEUPS: usize = 2 * STRIDE;
+
+/// Words of the table: the last of the three has 64 bytes of its own too.
+pub(crate) const BOOK_WORDS: usize = 3 * STRIDE;
 
 /// What the book's table is told once.
 #[derive(Clone, Copy)]
@@ -44,7 +48,7 @@ pub struct Book {
     /// Completions that one charge takes, 1 to 8.
     pub(crate) batch: u32,
     ghost told: { table.shared.key ≡ limits },
-    ghost wide: { (table.shared.table_id.words ≡ 24) × (table.shared.table_id.slots ≡ 0) },
+    ghost wide: { (table.shared.table_id.words ≡ book_width) × (table.shared.table_id.slots ≡ 0) },
     ghost small: { (limits.tellers ≤ 64) × (limits.cap ≤ 2 ^ 56) × (1 ≤ batch) × (batch ≤ 8) × (1 ≤ limits.tellers) },
 }
 

@@ -4,7 +4,7 @@ ghost use Rattle.step_ledger.specs.Views.{fresh, fresh_record, still_to_come};
 ghost use Rattle.wake_book.specs.Charges.{all_fresh};
 ghost use Rattle.wake_book.specs.Book.{IsTellerOf, record_of, records_of, tellers_of, IsOpenBook, MiscountsBook};
 
-use crate::book::{Book, Limits, Teller};
+use crate::book::{BOOK_WORDS, Book, Limits, Teller};
 use crate::fault::BookFault;
 use crate::steps::BookStep;
 use atomic_table::{Seat, Table};
@@ -17,8 +17,8 @@ const MAX_BATCH: u32 = 8;
 /// Most tellers of a book.
 const MAX_TELLERS: u32 = 64;
 
-/// Highest cap, 2^56.
-const MAX_CAP: u64 = 72_057_594_037_927_936;
+/// Highest cap, in completions.
+const MAX_CAP: u64 = 1 << 56;
 
 impl Book {
     /// A book whose tellers count at most `cap` completions each, and of which a charge takes `batch`.
@@ -51,7 +51,7 @@ impl Book {
         requires { (1 ≤ batch) × (batch ≤ 8) × (1 ≤ limits.tellers) × (limits.tellers ≤ 64) × (limits.cap ≤ 2 ^ 56) }
         ensures { IfOk result (λ opened. IsOpenBook batch limits.tellers limits.cap opened.0 opened.1.items) }
     {
-        let words = [0u64; 24];
+        let words = [0u64; BOOK_WORDS];
         let (table, rest) = Table::of_words(alloc, &words, &limits)?;
         let book = Book {
             table,

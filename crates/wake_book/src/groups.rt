@@ -2,9 +2,10 @@
 ghost use Rattle.std.specs.Prelude.{◌≡◌, ◌-◌, ◌^◌, ◌<◌, ◌≤◌, [], min};
 ghost use Rattle.step_ledger.specs.Views.{alone, steps_of, sum_over};
 ghost use Rattle.step_ledger.specs.History.{total};
-ghost use Rattle.wake_book.specs.Waits.{all_fresh, group_at, moved_by};
+ghost use Rattle.wake_book.specs.Waits.{all_fresh, group_at, groups_width, moved_by};
 ghost use Rattle.wake_book.specs.Stands.{StandsSo};
 
+use crate::spacing::STRIDE;
 use crate::steps::GroupStep;
 use atomic_table::{Seat, Table, TableRule};
 use crossbeam_utils::CachePadded;
@@ -12,17 +13,20 @@ use crossbeam_utils::sync::EventCount;
 use std::alloc::Global;
 use step_ledger::{Numbered, View};
 
-/// Place of the word that counts the active. Words that differ in their writers lie 64 bytes apart.
-pub(crate) const ACTIVE: usize = 72;
+/// Place of the word that counts the active, behind the spare word at 0 and the groups.
+pub(crate) const ACTIVE: usize = 9 * STRIDE;
 
 /// Place of the word that says which group a walk visits first.
-pub(crate) const INDEX: usize = 80;
+pub(crate) const INDEX: usize = 10 * STRIDE;
+
+/// Words of the table: the last has 64 bytes of its own too.
+pub(crate) const GROUP_WORDS: usize = 11 * STRIDE;
 
 /// Groups, among which waiters stand in turn.
 pub(crate) const GROUPS: u32 = 8;
 
-/// One who waits, in a group's word. Its low half counts the granted.
-pub(crate) const WAITING: u64 = 4_294_967_296;
+/// One who waits, in a group's word. Its low 32 bits count the granted.
+pub(crate) const WAITING: u64 = 1 << 32;
 
 /// The rule of the groups' table: some lawful history of the waiters' steps leaves its words.
 #[derive(Drop)]
@@ -45,7 +49,7 @@ pub struct Groups {
     /// Where the sleepers of each group are woken. No clause speaks of it.
     pub(crate) bells: [CachePadded<EventCount>; 8],
     ghost told: { table.shared.key ≡ waiters },
-    ghost wide: { (table.shared.table_id.words ≡ 88) × (table.shared.table_id.slots ≡ 0) },
+    ghost wide: { (table.shared.table_id.words ≡ groups_width) × (table.shared.table_id.slots ≡ 0) },
     ghost small: { (1 ≤ waiters) × (waiters ≤ 64) },
 }
 
@@ -116,5 +120,5 @@ pub(crate) fn place_of(group: u32) -> usize
     requires { group < 8 }
     ensures { result ≡ group_at group }
 {
-    8 + 8 * group as usize
+    STRIDE + STRIDE * group as usize
 }

@@ -4,7 +4,7 @@ ghost use Rattle.std.specs.Slots.{slots_len, slots_items, IsFull};
 ghost use Rattle.step_ledger.specs.Views.{Has, HasAll, numbers};
 ghost use Rattle.step_ledger.specs.History.{sum_to};
 ghost use Rattle.step_ledger.specs.Gather.{IsCauseOf};
-ghost use Rattle.wake_book.specs.Waits.{granted, waiting, word};
+ghost use Rattle.wake_book.specs.Waits.{granted, groups_width, waiting, word};
 ghost use Rattle.wake_book.specs.Groups.{IsWaiterOf, record_of, records_of, numbers_of, waiters_of};
 ghost use Rattle.wake_book.specs.Groups.{IsGatheringOf, gathered};
 ghost use Rattle.wake_book.specs.Balance.{IsBalanced};
@@ -127,7 +127,7 @@ impl WaiterGathering {
 
 // The granted and the waiting of all groups.
 fn counts_of(closed: &Closed<(), Global>) -> (u64, u64)
-    requires { IsFull closed.now.words × (slots_len closed.now.words ≡ 88) }
+    requires { IsFull closed.now.words × (slots_len closed.now.words ≡ groups_width) }
     ensures granted { result.0 ≡ sum_to (λ g. granted (word (slots_items closed.now.words) g)) 8 }
     ensures waiting { result.1 ≡ sum_to (λ g. waiting (word (slots_items closed.now.words) g)) 8 }
 {

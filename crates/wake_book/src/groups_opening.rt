@@ -5,7 +5,7 @@ ghost use Rattle.wake_book.specs.Waits.{all_fresh};
 ghost use Rattle.wake_book.specs.Groups.{IsWaiterOf, IsNew, record_of, records_of, waiters_of, AreOpenGroups, MiscountsGroups};
 
 use crate::fault::BookFault;
-use crate::groups::{Groups, Waiter};
+use crate::groups::{GROUP_WORDS, Groups, Waiter};
 use crate::steps::GroupStep;
 use atomic_table::{Seat, Table};
 use crossbeam_utils::CachePadded;
@@ -38,7 +38,7 @@ impl Groups {
         requires { (1 ≤ waiters) × (waiters ≤ 64) }
         ensures { IfOk result (λ opened. AreOpenGroups waiters opened.0 opened.1.items) }
     {
-        let words = [0u64; 88];
+        let words = [0u64; GROUP_WORDS];
         let (table, rest) = Table::of_words(alloc, &words, &waiters)?;
         let groups = Groups {
             table,

@@ -12,6 +12,7 @@ mod groups;
 mod groups_closing;
 mod groups_opening;
 mod sleeping;
+mod spacing;
 mod steps;
 #[cfg(test)]
 mod tests;

@@ -11,8 +11,8 @@ use crate::groups::{GROUPS, Groups, INDEX, WAITING, Waiter, place_of};
 /// Tries at one group, after which a walk goes on to the next.
 const TRIES: u32 = 4;
 
-/// Most moves to granted of one waiter, 2^56.
-const MAX_MOVED: u64 = 72_057_594_037_927_936;
+/// Most moves to granted of one waiter.
+const MAX_MOVED: u64 = 1 << 56;
 
 impl Groups {
     /// Moves up to `nr`, 1 to 8, of those who wait to granted, and answers how many.

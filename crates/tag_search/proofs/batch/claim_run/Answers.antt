@@ -12,23 +12,28 @@ claim-requires-clause-mask g c = rw c.run_of.ensures.value (run_below c.args.n c
 
 pub unreachable-requires : goal.unreachable-requires
 unreachable-requires g c =
-    let err : false ≡ true = c.in_default.ensures.room.1 (subst (λ n. g.P.Port.has_room c.args.port.now n) (sym c.run_of.ensures.ones) c.requires.room) in cc
+    let err : false ≡ true = c.in_default.ensures.room.1
+    (subst (λ n. g.P.Port.has_room c.args.port.now n) (sym c.run_of.ensures.ones) c.requires.room) in cc
 
 pub returns-then-claim-eq0-clause-lost : goal.returns-then-claim-eq0-clause-lost
 returns-then-claim-eq0-clause-lost g c =
     let found = c.in-Ok.claim.found in let e = c.run_of.ensures.value in (
       found,
       sym (c.in-Ok.ensures.won ∙ ap (λ mask. without mask found) e) ∙ c.if-claim-eq0.true,
-      same_where_lost (λ p n. g.P.Port.has_room p n) c.args.port.now c.claim.new.self c.in-Ok.claim.won c.if-claim-eq0.true c.in-Ok.ensures.uses_room,
-      subst (λ mask. g.P.Port.adds c.args.port.now (Claimed c.args.word mask found ∷ []) c.claim.new.self) e c.in-Ok.ensures.step,
+      same_where_lost (λ p n. g.P.Port.has_room p n) c.args.port.now c.claim.new.self c.in-Ok.claim.won
+          c.if-claim-eq0.true c.in-Ok.ensures.uses_room,
+      subst (λ mask. g.P.Port.adds c.args.port.now (Claimed c.args.word mask found ∷ []) c.claim.new.self) e
+          c.in-Ok.ensures.step,
     )
 
 pub returns-clause-won : goal.returns-clause-won
 returns-clause-won g c =
     let found = c.in-Ok.claim.found in let e = c.run_of.ensures.value in
-    let won : c.in-Ok.claim.won ≡ without (run_mask c.args.n c.args.place) found = c.in-Ok.ensures.won ∙ ap (λ mask. without mask found) e in (
+    let won : c.in-Ok.claim.won ≡ without (run_mask c.args.n c.args.place) found = c.in-Ok.ensures.won
+    ∙ ap (λ mask. without mask found) e in (
       found,
       (λ none. c.if-claim-eq0.false (won ∙ none)),
       ap (λ x. x / 2 ^ c.args.place) won,
-      subst (λ mask. g.P.Port.adds c.args.port.now (Claimed c.args.word mask found ∷ []) c.claim.new.self) e c.in-Ok.ensures.step,
+      subst (λ mask. g.P.Port.adds c.args.port.now (Claimed c.args.word mask found ∷ []) c.claim.new.self) e
+          c.in-Ok.ensures.step,
     )

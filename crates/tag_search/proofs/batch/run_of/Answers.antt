@@ -8,4 +8,5 @@ returns-clause-value c = let fits = c.requires.fits in run_shifted c.args.n c.ar
 
 pub returns-clause-ones : goal.returns-clause-ones
 returns-clause-ones c =
-    let fits = c.requires.fits in ap count_ones (run_shifted c.args.n c.args.place (omega arith) fits) ∙ ones-run c.args.n c.args.place
+    let fits = c.requires.fits in ap count_ones (run_shifted c.args.n c.args.place (omega arith) fits)
+    ∙ ones-run c.args.n c.args.place

@@ -9,5 +9,6 @@ invariant-loop-word g l = record {
   port : g.P.Port.ready l.port;
   sizes : g.P.Port.sizes l.port ≡ g.P.Port.sizes l.fn.port;
   room : SameRoom (λ p n. g.P.Port.has_room p n) l.fn.port l.port;
-  begun : Adds (λ p steps q. g.P.Port.adds p steps q) l.fn.port l.port (IsBatchBegun l.layout l.n (numbers l.fn.from l.end) (numbers l.word l.end));
+  begun : Adds (λ p steps q. g.P.Port.adds p steps q) l.fn.port l.port
+      (IsBatchBegun l.layout l.n (numbers l.fn.from l.end) (numbers l.word l.end));
 }

@@ -49,7 +49,8 @@ returns-clause-alone g c =
     own_give c.args.caller.now c.give.new.caller (word_of l tag) (2 ^ place_of l tag) c.give.ensures.step.0 fits
     (subst (λ (w : ℕ). Adds (Word (Give w
     (2 ^ place_of l tag) c.give.ensures.step.0)) c.args.caller.now c.give.new.caller) word
-    (subst (λ (x : ℕ). Adds (Word (Give c.word_of.result x c.give.ensures.step.0)) c.args.caller.now c.give.new.caller) bit c.give.ensures.step.1))
+    (subst (λ (x : ℕ). Adds (Word (Give c.word_of.result x c.give.ensures.step.0)) c.args.caller.now c.give.new.caller)
+    bit c.give.ensures.step.1))
 
 pub returns-clause-released : goal.returns-clause-released
 returns-clause-released g c =

@@ -16,19 +16,25 @@ loop-place-init g c = record {
   sizes = c.look-found.ensures.sizes;
   room = c.look-found.ensures.room;
   places = c.requires.places;
-  begun = record { steps = Look c.args.word c.look-found.result ∷ []; added = c.look-found.ensures.step; holds = λ tries answer rest. pass rest };
+  begun = record {
+    steps = Look c.args.word c.look-found.result ∷ [];
+    added = c.look-found.ensures.step;
+    holds = λ tries answer rest. pass rest;
+  };
 }
 
 pub claim_place-requires-clause-place : goal.claim_place-requires-clause-place
 claim_place-requires-clause-place g c =
-    rw c.loop-place.invariant.sizes (all_left (λ place. place < word_depth (g.P.Port.sizes c.args.port.now) c.args.word) c.loop-place.found _ _ c.in-Some.place c.in-Some.ensures.next c.loop-place.invariant.places).0
+    rw c.loop-place.invariant.sizes (all_left (λ place. place < word_depth (g.P.Port.sizes c.args.port.now) c.args.word)
+    c.loop-place.found _ _ c.in-Some.place c.in-Some.ensures.next c.loop-place.invariant.places).0
 
 pub claim_place-requires-clause-width : goal.claim_place-requires-clause-width
 claim_place-requires-clause-width g c = c.in-Some.ensures.within
 
 pub returns-in-Ok-clause-place : goal.returns-in-Ok-clause-place
 returns-in-Ok-clause-place g c =
-    (all_left (λ place. place < word_depth (g.P.Port.sizes c.args.port.now) c.args.word) c.loop-place.found _ _ c.in-Some.place c.in-Some.ensures.next c.loop-place.invariant.places).0
+    (all_left (λ place. place < word_depth (g.P.Port.sizes c.args.port.now) c.args.word) c.loop-place.found _ _
+    c.in-Some.place c.in-Some.ensures.next c.loop-place.invariant.places).0
 
 pub returns-in-Ok-clause-pass : goal.returns-in-Ok-clause-pass
 returns-in-Ok-clause-pass g c =
@@ -36,7 +42,8 @@ returns-in-Ok-clause-pass g c =
     let step = Claimed c.args.word (2 ^ c.in-Some.place) claim.0 in
     record {
       steps = begun.steps ++ step ∷ [];
-      added = g.met.P.Port.adds_more c.args.port.now c.loop-place.port c.claim_place.new.port begun.steps (step ∷ []) begun.added claim.2;
+      added = g.met.P.Port.adds_more c.args.port.now c.loop-place.port c.claim_place.new.port begun.steps
+          (step ∷ []) begun.added claim.2;
       holds = begun.holds (step ∷ []) (Some c.in-Some.place) (wins c.in-Some.ensures.next claim.1);
     }
 
@@ -47,12 +54,17 @@ loop-place-preserved g c =
     record {
       port = c.in-Err.ensures.port;
       sizes = c.in-Err.ensures.sizes ∙ c.loop-place.invariant.sizes;
-      room = same_room_joined (λ p n. g.P.Port.has_room p n) c.args.port.now c.loop-place.port c.claim_place.new.port c.loop-place.invariant.room claim.1;
-      places = (all_left (λ place. place < word_depth (g.P.Port.sizes c.args.port.now) c.args.word) c.loop-place.found _ _ c.in-Some.place c.in-Some.ensures.next c.loop-place.invariant.places).1;
+      room = same_room_joined (λ p n. g.P.Port.has_room p n) c.args.port.now c.loop-place.port c.claim_place.new.port
+          c.loop-place.invariant.room claim.1;
+      places = (all_left (λ place. place < word_depth (g.P.Port.sizes c.args.port.now) c.args.word) c.loop-place.found _
+          _ c.in-Some.place c.in-Some.ensures.next c.loop-place.invariant.places).1;
       begun = record {
         steps = begun.steps ++ step ∷ [];
-        added = g.met.P.Port.adds_more c.args.port.now c.loop-place.port c.claim_place.new.port begun.steps (step ∷ []) begun.added claim.2;
-        holds = begun_further c.args.word (places_of c.args.rank) (places_of c.loop-place.left) (places_of c.next.new.self) c.loop-place.found c.in-Err.next c.in-Some.place begun.steps begun.holds c.in-Some.ensures.next claim.0;
+        added = g.met.P.Port.adds_more c.args.port.now c.loop-place.port c.claim_place.new.port begun.steps
+            (step ∷ []) begun.added claim.2;
+        holds = begun_further c.args.word (places_of c.args.rank) (places_of c.loop-place.left)
+            (places_of c.next.new.self) c.loop-place.found c.in-Err.next c.in-Some.place begun.steps begun.holds
+            c.in-Some.ensures.next claim.0;
       };
     }
 
@@ -62,5 +74,6 @@ returns-clause-pass g c =
     record {
       steps = begun.steps;
       added = begun.added;
-      holds = subst (λ (xs : List WordStep). IsPass c.args.word (places_of c.args.rank) xs None) (append-nil begun.steps) (begun.holds [] None (none_left c.in_default.ensures.next));
+      holds = subst (λ (xs : List WordStep). IsPass c.args.word (places_of c.args.rank) xs None)
+          (append-nil begun.steps) (begun.holds [] None (none_left c.in_default.ensures.next));
     }

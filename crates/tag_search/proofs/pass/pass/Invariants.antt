@@ -12,7 +12,8 @@ invariant-loop-place g l = record {
   sizes : g.P.Port.sizes l.port ≡ g.P.Port.sizes l.fn.port;
   room : SameRoom (λ p n. g.P.Port.has_room p n) l.fn.port l.port;
   places : All (λ place. place < word_depth (g.P.Port.sizes l.fn.port) l.word) (places_of l.left);
-  begun : Adds (λ p steps q. g.P.Port.adds p steps q) l.fn.port l.port (IsPassBegun l.word (places_of l.fn.rank) (places_of l.left) l.found);
+  begun : Adds (λ p steps q. g.P.Port.adds p steps q) l.fn.port l.port
+      (IsPassBegun l.word (places_of l.fn.rank) (places_of l.left) l.found);
 }
 
 abbrev pub decreases-loop-place : goal.decreases-loop-place

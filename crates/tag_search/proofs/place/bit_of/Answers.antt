@@ -4,4 +4,5 @@ use Rattle.std.proofs.lemmas.Nat.{one_shl}
 use Rattle.tag_search.proofs.place.bit_of.Goals as goal
 
 pub returns-clause-value : goal.returns-clause-value
-returns-clause-value c = one_shl c.place_in_word.result 64 c.place_in_word.ensures.width ∙ ap (λ k. 2 ^ k) c.place_in_word.ensures.value
+returns-clause-value c = one_shl c.place_in_word.result 64 c.place_in_word.ensures.width
+    ∙ ap (λ k. 2 ^ k) c.place_in_word.ensures.value

@@ -5,7 +5,8 @@ use Rattle.tag_layout.proofs.PlaceFacts.{low_bits, word_bits-le}
 use Rattle.tag_search.proofs.place.place_in_word.Goals as goal
 
 pub returns-clause-value : goal.returns-clause-value
-returns-clause-value c = let bound = c.shift.ensures.bound in let value = c.shift.ensures.value in rw c.shift.ensures.value (low_bits c.args.tag c.args.layout.shift (omega arith))
+returns-clause-value c = let bound = c.shift.ensures.bound in let value = c.shift.ensures.value in
+    rw c.shift.ensures.value (low_bits c.args.tag c.args.layout.shift (omega arith))
 
 pub returns-clause-width : goal.returns-clause-width
 returns-clause-width c =

@@ -16,13 +16,17 @@ returns-clause-steps g c =
     let same : c.layout-layout.result ≡ l = c.layout-layout.ensures.value in
     let hint : ℕ = reduced l.depth c.args.hint.now.at in
     let from : c.reduced-from.result ≡ hint =
-    c.reduced-from.ensures ∙ ap (λ (d : ℕ). reduced d c.args.hint.now.at) (c.depth.ensures.value ∙ ap (λ (x : Layout). x.depth) same) in
+    c.reduced-from.ensures ∙ ap (λ (d : ℕ). reduced d c.args.hint.now.at) (c.depth.ensures.value
+    ∙ ap (λ (x : Layout). x.depth) same) in
     let first : scan.first ≡ word_of l hint = c.shallow.ensures.first.0 ∙ (λ z. word_of (same z) (from z)) in
-    let below : word_of l hint ≤ words l = subst (λ (x : ℕ). x ≤ words l) first (subst (λ (x : Layout). scan.first ≤ words x) same c.shallow.ensures.first.1) in
+    let below : word_of l hint ≤ words l = subst (λ (x : ℕ). x ≤ words l) first
+    (subst (λ (x : Layout). scan.first ≤ words x) same c.shallow.ensures.first.1) in
     let narrow : l.shift ≤ 6 = subst (λ (x : Layout). x.shift ≤ 6) same c.shallow.ensures.shift in
     adds_weaker (λ p xs q. g.P.Port.adds p xs q) c.args.port.now c.search-answer.new.port
     (λ xs. IsSearch scan.layout (visits scan.layout scan.first (reach_of scan)) xs answer)
     (IsGet l (shallow_visits l c.args.depth hint) answer)
-    (get_at scan.layout l scan.first (word_of l hint) (reach_of scan) (shallow_reach l c.args.depth hint) (c.shallow.ensures.layout ∙ same) first
-    (c.shallow.ensures.reach ∙ (λ z. shallow_reach (same z) c.args.depth (from z))) narrow below (shallow_within l c.args.depth hint) answer)
+    (get_at scan.layout l scan.first (word_of l hint) (reach_of scan) (shallow_reach l c.args.depth hint)
+    (c.shallow.ensures.layout ∙ same) first
+    (c.shallow.ensures.reach ∙ (λ z. shallow_reach (same z) c.args.depth (from z))) narrow below
+    (shallow_within l c.args.depth hint) answer)
     c.search-answer.ensures.search

@@ -26,7 +26,8 @@ pub returns-in-None-clause-search : goal.returns-in-None-clause-search
 returns-in-None-clause-search g c =
     let l = c.args.layout in let first = c.args.first in let h = c.requires.first in
     let all = visits l first (plain_reach l false 0) in let answer = c.search_others.result in
-    adds_joined (λ p xs q. g.P.Port.adds p xs q) g.met.P.Port.adds_more c.args.port.now c.retry.new.port c.search_others.new.port (λ xs. IsRetry first (places l first h) xs None)
+    adds_joined (λ p xs q. g.P.Port.adds p xs q) g.met.P.Port.adds_more c.args.port.now c.retry.new.port
+    c.search_others.new.port (λ xs. IsRetry first (places l first h) xs None)
     (λ ys. IsSearch l (others l first h) ys answer)
     (λ xs. (seen : List WordStep) → IsPass first (places l first h) seen None → IsSearch l all (seen ++ xs) answer)
     (λ xs ys retry search seen pass. subst (λ zs. IsSearch l all zs answer) (append_assoc seen xs ys)

@@ -21,7 +21,8 @@ returns-in-Some-clause-search g c =
     (λ xs search. search_stops tag (Some tag) (map of (numbers 0 first)) refl
     (scanned scan.layout l scan.first first (reach_of scan) (plain_reach l false 0) (first + 1) c.words.result
     (words l) xs (Some tag)
-    c.of_words-scan.ensures.layout c.of_words-scan.ensures.first c.of_words-scan.ensures.reach c.words.ensures.value search))
+    c.of_words-scan.ensures.layout c.of_words-scan.ensures.first c.of_words-scan.ensures.reach c.words.ensures.value
+    search))
     c.in-Some.ensures.search
 
 pub returns-in-None-clause-search : goal.returns-in-None-clause-search
@@ -29,7 +30,8 @@ returns-in-None-clause-search g c =
     let l = c.args.layout in let first = c.args.first in let scan = c.of_words-scan.result in
     let answer = c.visit_between-in-None.result in
     let of : ℕ → Visit = visit_of first (plain_reach l false 0) in
-    adds_joined (λ p xs q. g.P.Port.adds p xs q) g.met.P.Port.adds_more c.args.port.now c.visit_between.new.port c.visit_between-in-None.new.port
+    adds_joined (λ p xs q. g.P.Port.adds p xs q) g.met.P.Port.adds_more c.args.port.now c.visit_between.new.port
+    c.visit_between-in-None.new.port
     (λ xs. IsSearch scan.layout (map (visit_of scan.first (reach_of scan))
     (numbers (first + 1) c.words.result)) xs None)
     (λ xs. IsSearch scan.layout (map (visit_of scan.first (reach_of scan)) (numbers 0 first)) xs answer)
@@ -37,7 +39,8 @@ returns-in-None-clause-search g c =
     (λ xs ys search rest. search_goes_on l None (map of (numbers 0 first)) ys answer refl
     (scanned scan.layout l scan.first first (reach_of scan) (plain_reach l false 0) (first + 1) c.words.result
     (words l) xs None
-    c.of_words-scan.ensures.layout c.of_words-scan.ensures.first c.of_words-scan.ensures.reach c.words.ensures.value search)
+    c.of_words-scan.ensures.layout c.of_words-scan.ensures.first c.of_words-scan.ensures.reach c.words.ensures.value
+    search)
     (scanned scan.layout l scan.first first (reach_of scan) (plain_reach l false 0) 0 first first ys answer
     c.of_words-scan.ensures.layout c.of_words-scan.ensures.first c.of_words-scan.ensures.reach refl rest))
     c.in-None.ensures.search c.visit_between-in-None.ensures.search

@@ -23,7 +23,8 @@ pub returns-in-None-clause-search : goal.returns-in-None-clause-search
 returns-in-None-clause-search g c =
     let l = c.args.layout in let first = c.args.first in let h = c.requires.first in
     let all = visits l first (plain_reach l false 0) in let answer = c.search_on.result in
-    adds_joined (λ p xs q. g.P.Port.adds p xs q) g.met.P.Port.adds_more c.args.port.now c.pass.new.port c.search_on.new.port (λ xs. IsPass first (places l first h) xs None)
+    adds_joined (λ p xs q. g.P.Port.adds p xs q) g.met.P.Port.adds_more c.args.port.now c.pass.new.port
+    c.search_on.new.port (λ xs. IsPass first (places l first h) xs None)
     (λ ys. (seen : List WordStep) → IsPass first (scan_order 0 (word_depth l first) true) seen None
     → IsSearch l all (seen ++ ys) answer) (λ xs. IsSearch l all xs answer)
     (λ xs ys pass on. on xs pass) (rw c.whole.ensures.rank at c.in-None.ensures.pass) c.search_on.ensures.search

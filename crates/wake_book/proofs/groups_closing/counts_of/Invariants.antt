@@ -1,12 +1,12 @@
 use Rattle.std.proofs.Common.{◌≡◌, ◌*◌, ◌≤◌}
 use Rattle.std.specs.Slots.{slots_items}
 use Rattle.step_ledger.specs.History.{sum_to}
-use Rattle.wake_book.specs.Waits.{granted, waiting, word}
+use Rattle.wake_book.specs.Waits.{one_waiting, granted, waiting, word}
 use Rattle.wake_book.proofs.groups_closing.counts_of.Given as goal
 
 abbrev pub invariant-loop-group : goal.invariant-loop-group
 invariant-loop-group l = record {
   granted_is : l.granted ≡ sum_to (λ g. granted (word (slots_items l.closed.words) g)) l.group;
   waiting_is : l.waiting ≡ sum_to (λ g. waiting (word (slots_items l.closed.words) g)) l.group;
-  small : (l.granted ≤ l.group * 4294967296) × (l.waiting ≤ l.group * 4294967296);
+  small : (l.granted ≤ l.group * one_waiting) × (l.waiting ≤ l.group * one_waiting);
 }

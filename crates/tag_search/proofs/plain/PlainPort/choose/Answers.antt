@@ -10,6 +10,9 @@ use Rattle.tag_search.proofs.plain.PlainPort.choose.Goals as goal
 
 pub returns-clause-held : goal.returns-clause-held
 returns-clause-held c apart =
-    let l : Layout = c.args.self.now.layout in let round_robin = c.args.hint.now.round_robin in let hint : ℕ = reduced l.depth c.args.hint.now.at in
-    let choice = choice_of l c.args.self.now c.get.new.port (plain_visits l round_robin hint) c.in-Ok.answer c.in-Ok.ensures.steps in
-    choice_held choice apart (visits_inside l (word_of l hint) (plain_reach l round_robin hint) (hint_word-le l c.args.hint.now.at) (plain_within l round_robin hint))
+    let l : Layout = c.args.self.now.layout in let round_robin = c.args.hint.now.round_robin in
+    let hint : ℕ = reduced l.depth c.args.hint.now.at in
+    let choice = choice_of l c.args.self.now c.get.new.port (plain_visits l round_robin hint) c.in-Ok.answer
+    c.in-Ok.ensures.steps in
+    choice_held choice apart (visits_inside l (word_of l hint) (plain_reach l round_robin hint)
+    (hint_word-le l c.args.hint.now.at) (plain_within l round_robin hint))

@@ -10,6 +10,9 @@ use Rattle.tag_search.proofs.plain.PlainPort.choose_shallow.Goals as goal
 
 pub returns-clause-held : goal.returns-clause-held
 returns-clause-held c apart =
-    let l : Layout = c.args.self.now.layout in let depth = c.args.depth in let hint : ℕ = reduced l.depth c.args.hint.now.at in
-    let choice = choice_of l c.args.self.now c.get_shallow.new.port (shallow_visits l depth hint) c.in-Ok.answer c.in-Ok.ensures.steps in
-    choice_held choice apart (visits_inside l (word_of l hint) (shallow_reach l depth hint) (hint_word-le l c.args.hint.now.at) (shallow_within l depth hint))
+    let l : Layout = c.args.self.now.layout in let depth = c.args.depth in
+    let hint : ℕ = reduced l.depth c.args.hint.now.at in
+    let choice = choice_of l c.args.self.now c.get_shallow.new.port (shallow_visits l depth hint) c.in-Ok.answer
+    c.in-Ok.ensures.steps in
+    choice_held choice apart (visits_inside l (word_of l hint) (shallow_reach l depth hint)
+    (hint_word-le l c.args.hint.now.at) (shallow_within l depth hint))

@@ -13,20 +13,31 @@ use Rattle.tag_search.proofs.plain.PlainPort.give.Goals as goal
 
 pub invariant_of-self : goal.invariant_of-self
 invariant_of-self c =
-    let p : Plain = record { layout = c.self.inside.layout; word = c.self.inside.word.items; aside = c.self.inside.cleared.items } in
+    let p : Plain = record {
+      layout = c.self.inside.layout;
+      word = c.self.inside.word.items;
+      aside = c.self.inside.cleared.items;
+    } in
     let i = c.args.word in let mask = c.args.mask in let found = c.index_mut.result.now in
     let near : i < words p.layout = subst (λ (x : Plain). i < words x.layout) (sym c.self.view_is) c.requires.word in
     let within : i < length p.word = rw c.self.invariant.word_count near in
     let is : found ≡ get_or p.word i 0 = get_or_read p.word i found within c.index_mut.ensures.value 0 in
     let fits : found < 2 ^ 64 = omega arith in let narrow : mask < 2 ^ 64 = omega arith in
     let taken : (place : ℕ) → bit_at mask place ≡ 1 → IsTaken p i place =
-    subst (λ (x : Plain). (place : ℕ) → bit_at mask place ≡ 1 → IsTaken x i place) (sym c.self.view_is) c.requires.taken in
-    tidy_clear p (set p.word i (without found mask)) p.aside i mask c.self.invariant (length-set p.word i (without found mask)) (λ _. length p.aside)
-    (writes_without p.word i found mask within is fits narrow) (λ j k one. one) (λ k one is_in. let no = (taken k is_in).not_aside in absurd (omega arith))
+    subst (λ (x : Plain). (place : ℕ) → bit_at mask place ≡ 1 → IsTaken x i place) (sym c.self.view_is)
+    c.requires.taken in
+    tidy_clear p (set p.word i (without found mask)) p.aside i mask c.self.invariant
+    (length-set p.word i (without found mask)) (λ _. length p.aside)
+    (writes_without p.word i found mask within is fits narrow) (λ j k one. one)
+    (λ k one is_in. let no = (taken k is_in).not_aside in absurd (omega arith))
 
 pub returns-clause-word : goal.returns-clause-word
 returns-clause-word c =
-    let p : Plain = record { layout = c.self.inside.layout; word = c.self.inside.word.items; aside = c.self.inside.cleared.items } in
+    let p : Plain = record {
+      layout = c.self.inside.layout;
+      word = c.self.inside.word.items;
+      aside = c.self.inside.cleared.items;
+    } in
     let i = c.args.word in let mask = c.args.mask in let found = c.index_mut.result.now in
     let near : i < words p.layout = subst (λ (x : Plain). i < words x.layout) (sym c.self.view_is) c.requires.word in
     let within : i < length p.word = rw c.self.invariant.word_count near in
@@ -36,17 +47,26 @@ returns-clause-word c =
 
 pub returns-clause-pool : goal.returns-clause-pool
 returns-clause-pool c =
-    let p : Plain = record { layout = c.self.inside.layout; word = c.self.inside.word.items; aside = c.self.inside.cleared.items } in
+    let p : Plain = record {
+      layout = c.self.inside.layout;
+      word = c.self.inside.word.items;
+      aside = c.self.inside.cleared.items;
+    } in
     let i = c.args.word in let mask = c.args.mask in let found = c.index_mut.result.now in
     let near : i < words p.layout = subst (λ (x : Plain). i < words x.layout) (sym c.self.view_is) c.requires.word in
     let within : i < length p.word = rw c.self.invariant.word_count near in
     let is : found ≡ get_or p.word i 0 = get_or_read p.word i found within c.index_mut.ensures.value 0 in
     let narrow : mask < 2 ^ 64 = omega arith in
-    rw (← c.self.view_is) (ran_give_pool p (record p { word = set p.word i (without found mask) }) i mask found narrow (ran_give p i mask found within is))
+    rw (← c.self.view_is) (ran_give_pool p (record p { word = set p.word i (without found mask) }) i mask found narrow
+    (ran_give p i mask found within is))
 
 pub returns-clause-step : goal.returns-clause-step
 returns-clause-step c =
-    let p : Plain = record { layout = c.self.inside.layout; word = c.self.inside.word.items; aside = c.self.inside.cleared.items } in
+    let p : Plain = record {
+      layout = c.self.inside.layout;
+      word = c.self.inside.word.items;
+      aside = c.self.inside.cleared.items;
+    } in
     let i = c.args.word in let found = c.index_mut.result.now in
     let near : i < words p.layout = subst (λ (x : Plain). i < words x.layout) (sym c.self.view_is) c.requires.word in
     let within : i < length p.word = rw c.self.invariant.word_count near in

@@ -13,29 +13,45 @@ use Rattle.tag_search.proofs.plain.PlainPort.put.Goals as goal
 
 pub invariant_of-self : goal.invariant_of-self
 invariant_of-self c =
-    let p : Plain = record { layout = c.self.inside.layout; word = c.self.inside.word.items; aside = c.self.inside.cleared.items } in
+    let p : Plain = record {
+      layout = c.self.inside.layout;
+      word = c.self.inside.word.items;
+      aside = c.self.inside.cleared.items;
+    } in
     let r = c.word_of-word.result in let bit = c.bit_of-bit.result in let found = c.index_mut.result.now in
     let within : r < length p.aside = rw c.self.invariant.aside_count c.word_of-word.ensures.within in
     let is : found ≡ get_or p.aside r 0 = get_or_read p.aside r found within c.index_mut.ensures.value 0 in
-    let e : r ≡ word_of p.layout c.args.tag = c.word_of-word.ensures.value in let k : ℕ = place_of p.layout c.args.tag in
+    let e : r ≡ word_of p.layout c.args.tag = c.word_of-word.ensures.value in
+    let k : ℕ = place_of p.layout c.args.tag in
     let taken : IsTaken p (word_of p.layout c.args.tag) k =
-    subst (λ (x : Plain). IsTaken x (word_of x.layout c.args.tag) (place_of x.layout c.args.tag)) (sym c.self.view_is) c.requires.taken in
-    let was : bit_at (get_or p.word r 0) k ≡ 1 = subst (λ (x : ℕ). bit_at (get_or p.word x 0) k ≡ 1) (sym e) taken.taken in
+    subst (λ (x : Plain). IsTaken x (word_of x.layout c.args.tag) (place_of x.layout c.args.tag)) (sym c.self.view_is)
+    c.requires.taken in
+    let was : bit_at (get_or p.word r 0) k ≡ 1 = subst (λ (x : ℕ). bit_at (get_or p.word x 0) k ≡ 1)
+    (sym e) taken.taken in
     tidy_put p (set p.aside r (bit_or found bit)) r k c.self.invariant (length-set p.aside r (bit_or found bit)) was
     (writes_place p.aside r r found bit k (λ _. r) c.bit_of-bit.ensures.value within is)
 
 pub returns-clause-aside : goal.returns-clause-aside
 returns-clause-aside c =
-    let p : Plain = record { layout = c.self.inside.layout; word = c.self.inside.word.items; aside = c.self.inside.cleared.items } in
+    let p : Plain = record {
+      layout = c.self.inside.layout;
+      word = c.self.inside.word.items;
+      aside = c.self.inside.cleared.items;
+    } in
     let r = c.word_of-word.result in let bit = c.bit_of-bit.result in let found = c.index_mut.result.now in
     let within : r < length p.aside = rw c.self.invariant.aside_count c.word_of-word.ensures.within in
     let is : found ≡ get_or p.aside r 0 = get_or_read p.aside r found within c.index_mut.ensures.value 0 in
     rw (← c.self.view_is)
-    (writes_place p.aside r (word_of p.layout c.args.tag) found bit (place_of p.layout c.args.tag) c.word_of-word.ensures.value c.bit_of-bit.ensures.value within is)
+    (writes_place p.aside r (word_of p.layout c.args.tag) found bit (place_of p.layout c.args.tag)
+    c.word_of-word.ensures.value c.bit_of-bit.ensures.value within is)
 
 pub returns-clause-pool : goal.returns-clause-pool
 returns-clause-pool c =
-    let p : Plain = record { layout = c.self.inside.layout; word = c.self.inside.word.items; aside = c.self.inside.cleared.items } in
+    let p : Plain = record {
+      layout = c.self.inside.layout;
+      word = c.self.inside.word.items;
+      aside = c.self.inside.cleared.items;
+    } in
     let r = c.word_of-word.result in let bit = c.bit_of-bit.result in let found = c.index_mut.result.now in
     let within : r < length p.aside = rw c.self.invariant.aside_count c.word_of-word.ensures.within in
     let is : found ≡ get_or p.aside r 0 = get_or_read p.aside r found within c.index_mut.ensures.value 0 in
@@ -49,7 +65,11 @@ returns-clause-pool c =
 
 pub returns-clause-step : goal.returns-clause-step
 returns-clause-step c =
-    let p : Plain = record { layout = c.self.inside.layout; word = c.self.inside.word.items; aside = c.self.inside.cleared.items } in
+    let p : Plain = record {
+      layout = c.self.inside.layout;
+      word = c.self.inside.word.items;
+      aside = c.self.inside.cleared.items;
+    } in
     let r = c.word_of-word.result in let bit = c.bit_of-bit.result in let found = c.index_mut.result.now in
     let within : r < length p.aside = rw c.self.invariant.aside_count c.word_of-word.ensures.within in
     let is : found ≡ get_or p.aside r 0 = get_or_read p.aside r found within c.index_mut.ensures.value 0 in

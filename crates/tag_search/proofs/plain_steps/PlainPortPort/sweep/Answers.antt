@@ -13,16 +13,25 @@ use Rattle.tag_search.proofs.plain_steps.PlainPortPort.sweep.Goals as goal
 
 pub returns-then-mask-eq0-clause-steps : goal.returns-then-mask-eq0-clause-steps
 returns-then-mask-eq0-clause-steps c =
-    let p : Plain = record { layout = c.self.inside.layout; word = c.self.inside.word.items; aside = c.self.inside.cleared.items } in
+    let p : Plain = record {
+      layout = c.self.inside.layout;
+      word = c.self.inside.word.items;
+      aside = c.self.inside.cleared.items;
+    } in
     let i = c.args.word in let mask = c.index-mask.result.now in
     let near : i < words p.layout = subst (λ (x : Plain). i < words x.layout) (sym c.self.view_is) c.requires.word in
     let within : i < length p.aside = rw c.self.invariant.aside_count near in
-    let is : get_or p.aside i 0 ≡ 0 = sym (get_or_read p.aside i mask within c.index-mask.ensures 0) ∙ c.if-mask-eq0.true in
+    let is : get_or p.aside i 0 ≡ 0 = sym (get_or_read p.aside i mask within c.index-mask.ensures 0)
+    ∙ c.if-mask-eq0.true in
     rw (← c.self.view_is) (record { steps = Swap i 0 ∷ []; added = ran_empty p i is; holds = empty })
 
 pub invariant_of-self : goal.invariant_of-self
 invariant_of-self c =
-    let p : Plain = record { layout = c.self.inside.layout; word = c.self.inside.word.items; aside = c.self.inside.cleared.items } in
+    let p : Plain = record {
+      layout = c.self.inside.layout;
+      word = c.self.inside.word.items;
+      aside = c.self.inside.cleared.items;
+    } in
     let i = c.args.word in let mask = c.index-mask.result.now in let found = c.index_mut-2.result.now in
     let near : i < words p.layout = subst (λ (x : Plain). i < words x.layout) (sym c.self.view_is) c.requires.word in
     let within : i < length p.word = rw c.self.invariant.word_count near in
@@ -33,7 +42,11 @@ invariant_of-self c =
 
 pub returns-clause-word : goal.returns-clause-word
 returns-clause-word c =
-    let p : Plain = record { layout = c.self.inside.layout; word = c.self.inside.word.items; aside = c.self.inside.cleared.items } in
+    let p : Plain = record {
+      layout = c.self.inside.layout;
+      word = c.self.inside.word.items;
+      aside = c.self.inside.cleared.items;
+    } in
     let i = c.args.word in let mask = c.index-mask.result.now in let found = c.index_mut-2.result.now in
     let near : i < words p.layout = subst (λ (x : Plain). i < words x.layout) (sym c.self.view_is) c.requires.word in
     let within : i < length p.word = rw c.self.invariant.word_count near in
@@ -42,11 +55,16 @@ returns-clause-word c =
     let is' : mask ≡ get_or p.aside i 0 = get_or_read p.aside i mask within' c.index-mask.ensures 0 in
     let fits : found < 2 ^ 64 = omega arith in let narrow : mask < 2 ^ 64 = omega arith in
     rw (← c.self.view_is)
-    (subst (λ (x : ℕ). Writes p.word (set p.word i (without found mask)) i (IsIn x) 0) is' (writes_without p.word i found mask within is fits narrow))
+    (subst (λ (x : ℕ). Writes p.word (set p.word i (without found mask)) i (IsIn x) 0) is'
+    (writes_without p.word i found mask within is fits narrow))
 
 pub returns-clause-steps : goal.returns-clause-steps
 returns-clause-steps c =
-    let p : Plain = record { layout = c.self.inside.layout; word = c.self.inside.word.items; aside = c.self.inside.cleared.items } in
+    let p : Plain = record {
+      layout = c.self.inside.layout;
+      word = c.self.inside.word.items;
+      aside = c.self.inside.cleared.items;
+    } in
     let i = c.args.word in let mask = c.index-mask.result.now in let found = c.index_mut-2.result.now in
     let near : i < words p.layout = subst (λ (x : Plain). i < words x.layout) (sym c.self.view_is) c.requires.word in
     let within : i < length p.word = rw c.self.invariant.word_count near in

@@ -12,7 +12,8 @@ returns-in-Some-clause-next c =
     let r = c.args.self.now in let p = c.in-Some.place in let is = c.in-Some.ensures in
     record {
       before = numbers r.from p;
-      order = ap (λ (xs : List ℕ). xs ++ numbers 0 r.then) (numbers-at r.from p r.limit is.behind is.within) ∙ append_assoc (numbers r.from p) (p ∷ numbers (p + 1) r.limit) (numbers 0 r.then);
+      order = ap (λ (xs : List ℕ). xs ++ numbers 0 r.then) (numbers-at r.from p r.limit is.behind is.within)
+          ∙ append_assoc (numbers r.from p) (p ∷ numbers (p + 1) r.limit) (numbers 0 r.then);
       taken = all_numbers (λ k. bit_at c.args.word k ≡ 1) r.from p is.first;
       clear = is.clear;
     }
@@ -32,8 +33,10 @@ returns-clause-next c =
     record {
       before = front ++ numbers 0 p;
       order =
-          ap (λ (xs : List ℕ). front ++ xs) (split ∙ ap (λ (xs : List ℕ). numbers 0 p ++ p ∷ xs) (sym (append-nil back)))
+          ap (λ (xs : List ℕ). front ++ xs)
+          (split ∙ ap (λ (xs : List ℕ). numbers 0 p ++ p ∷ xs) (sym (append-nil back)))
           ∙ sym (append_assoc front (numbers 0 p) (p ∷ (back ++ [])));
-      taken = All-append Taken front (numbers 0 p) (all_numbers Taken r.from r.limit c.in_default.ensures) (all_numbers Taken 0 p is.first);
+      taken = All-append Taken front (numbers 0 p) (all_numbers Taken r.from r.limit c.in_default.ensures)
+          (all_numbers Taken 0 p is.first);
       clear = is.clear;
     }

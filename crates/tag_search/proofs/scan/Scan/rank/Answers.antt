@@ -9,4 +9,5 @@ pub returns-clause-within : goal.returns-clause-within
 returns-clause-within c =
     let Below : ℕ → Type 0 = λ place. place < word_depth c.args.self.now.layout c.args.word in
     let le = c.limit.ensures.within in
-    subst (λ (xs : List ℕ). All Below xs) (sym c.new.ensures) (all_scan Below c.if-word-self.start c.limit.result c.args.self.now.wrap (λ k h. omega arith))
+    subst (λ (xs : List ℕ). All Below xs) (sym c.new.ensures)
+    (all_scan Below c.if-word-self.start c.limit.result c.args.self.now.wrap (λ k h. omega arith))

@@ -14,14 +14,20 @@ pub returns-in-Some-clause-search : goal.returns-in-Some-clause-search
 returns-in-Some-clause-search g c =
     let scan = c.args.self.now in let l = scan.layout in let of : ℕ → Visit = visit_of scan.first (reach_of scan) in
     let word = c.loop-word.word in let begun = c.loop-word.invariant.begun in let visit = c.in-Some.ensures.visit in
-    let left : map of (numbers word c.args.end) ≡ of word ∷ map of (numbers (word + 1) c.args.end) = ap (map of) (numbers-cons word c.args.end c.loop-word-test.true) in
-    let is : IsVisit word (of word).rank visit.steps (Some c.in-Some.place) = subst (λ rank. IsVisit word rank visit.steps (Some c.in-Some.place)) c.rank.ensures.rank visit.holds in
-    let last : IsSearch l (of word ∷ map of (numbers (word + 1) c.args.end)) visit.steps (Some (tag_at l word c.in-Some.place)) = won {visit = of word} is in
+    let left : map of (numbers word c.args.end) ≡ of word ∷ map of (numbers (word + 1) c.args.end) = ap (map of)
+    (numbers-cons word c.args.end c.loop-word-test.true) in
+    let is : IsVisit word (of word).rank visit.steps (Some c.in-Some.place) =
+    subst (λ rank. IsVisit word rank visit.steps (Some c.in-Some.place)) c.rank.ensures.rank visit.holds in
+    let last : IsSearch l (of word ∷ map of (numbers (word + 1) c.args.end)) visit.steps
+    (Some (tag_at l word c.in-Some.place)) = won {visit = of word} is in
     record {
       steps = begun.steps ++ visit.steps;
-      added = g.met.P.Port.adds_more c.args.port.now c.loop-word.port c.visit.new.port begun.steps visit.steps begun.added visit.added;
-      holds = subst (λ (tag : ℕ). IsSearch l (map of (numbers c.args.from c.args.end)) (begun.steps ++ visit.steps) (Some tag)) (sym c.tag_at.ensures.value)
-          (begun.holds visit.steps (Some (tag_at l word c.in-Some.place)) (subst (λ vs. IsSearch l vs visit.steps (Some (tag_at l word c.in-Some.place))) (sym left) last));
+      added = g.met.P.Port.adds_more c.args.port.now c.loop-word.port c.visit.new.port begun.steps visit.steps
+          begun.added visit.added;
+      holds = subst (λ (tag : ℕ). IsSearch l (map of (numbers c.args.from c.args.end)) (begun.steps ++ visit.steps)
+          (Some tag)) (sym c.tag_at.ensures.value)
+          (begun.holds visit.steps (Some (tag_at l word c.in-Some.place))
+          (subst (λ vs. IsSearch l vs visit.steps (Some (tag_at l word c.in-Some.place))) (sym left) last));
     }
 
 pub loop-word-preserved : goal.loop-word-preserved
@@ -29,18 +35,24 @@ loop-word-preserved g c =
     let scan = c.args.self.now in let l = scan.layout in let of : ℕ → Visit = visit_of scan.first (reach_of scan) in
     let word = c.loop-word.word in let begun = c.loop-word.invariant.begun in
     let visit = c.visit.ensures.visit in
-    let left : map of (numbers word c.args.end) ≡ of word ∷ map of (numbers (word + 1) c.args.end) = ap (map of) (numbers-cons word c.args.end c.loop-word-test.true) in
-    let none : IsVisit word (of word).rank visit.steps None = subst (λ answer. IsVisit word (of word).rank visit.steps answer) c.in_default.is
+    let left : map of (numbers word c.args.end) ≡ of word ∷ map of (numbers (word + 1) c.args.end) = ap (map of)
+    (numbers-cons word c.args.end c.loop-word-test.true) in
+    let none : IsVisit word (of word).rank visit.steps None =
+    subst (λ answer. IsVisit word (of word).rank visit.steps answer) c.in_default.is
     (subst (λ rank. IsVisit word rank visit.steps c.visit.result) c.rank.ensures.rank visit.holds) in
     record {
       port = c.visit.ensures.port;
       sizes = c.visit.ensures.sizes ∙ c.loop-word.invariant.sizes;
-      room = same_room_joined (λ p n. g.P.Port.has_room p n) c.args.port.now c.loop-word.port c.visit.new.port c.loop-word.invariant.room c.in_default.ensures.room;
+      room = same_room_joined (λ p n. g.P.Port.has_room p n) c.args.port.now c.loop-word.port c.visit.new.port
+          c.loop-word.invariant.room c.in_default.ensures.room;
       begun = record {
         steps = begun.steps ++ visit.steps;
-        added = g.met.P.Port.adds_more c.args.port.now c.loop-word.port c.visit.new.port begun.steps visit.steps begun.added visit.added;
-        holds = search_further l (map of (numbers c.args.from c.args.end)) (map of (numbers (word + 1) c.args.end)) (of word) begun.steps visit.steps
-            (subst (λ vs. IsSearchBegun l (map of (numbers c.args.from c.args.end)) vs begun.steps) left begun.holds) none;
+        added = g.met.P.Port.adds_more c.args.port.now c.loop-word.port c.visit.new.port begun.steps visit.steps
+            begun.added visit.added;
+        holds = search_further l (map of (numbers c.args.from c.args.end)) (map of (numbers (word + 1) c.args.end))
+            (of word) begun.steps visit.steps
+            (subst (λ vs. IsSearchBegun l (map of (numbers c.args.from c.args.end)) vs begun.steps) left begun.holds)
+            none;
       };
     }
 
@@ -51,6 +63,7 @@ returns-clause-search g c =
     record {
       steps = begun.steps;
       added = begun.added;
-      holds = search_over scan.layout (map of (numbers c.args.from c.args.end)) (map of (numbers word c.args.end)) begun.steps
+      holds = search_over scan.layout (map of (numbers c.args.from c.args.end)) (map of (numbers word c.args.end))
+          begun.steps
           (ap (map of) (numbers-none word c.args.end c.loop-word-test.false)) begun.holds;
     }

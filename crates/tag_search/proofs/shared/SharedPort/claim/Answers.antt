@@ -17,4 +17,8 @@ returns-clause-step g c =
     let shape = c.requires.port.1 in
     ap (λ (k : Shape). bit_at found (place_of k.layout tag)) shape
     ∙ c.in_ok-claim.ensures.held tag has (ap (λ (k : Shape). word_of k.layout tag) (sym shape) ∙ is) in
-    record { added = adds_claim c.args.word c.args.mask found w _ near fits found_held c.in_ok-claim.ensures.step; map = refl; lent = refl }
+    record {
+      added = adds_claim c.args.word c.args.mask found w _ near fits found_held c.in_ok-claim.ensures.step;
+      map = refl;
+      lent = refl;
+    }

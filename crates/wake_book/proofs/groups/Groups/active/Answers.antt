@@ -3,6 +3,7 @@ use Rattle.std.proofs.Common.{arith, ◌≤◌, ap, ◌∙◌}
 use Rattle.step_ledger.specs.Views.{steps_of, push}
 use Rattle.wake_book.specs.declared.steps.GroupStep.TheVariants.{Look}
 use Rattle.wake_book.proofs.GroupKeeps as keeps
+use Rattle.wake_book.specs.Waits.{active_at}
 use Rattle.wake_book.proofs.groups.Groups.active.Goals as goal
 
 pub load-requires : goal.load-requires
@@ -16,4 +17,4 @@ load-requires c = let g = c.args.self.now in let w = c.args.waiter.now in let wi
 
 pub returns-clause-step : goal.returns-clause-step
 returns-clause-step c = let w = c.args.waiter.now in
-    ap (λ z. steps_of z.0) c.load.ensures.2.0 ∙ ap (λ z. steps_of (push (Look 72 c.load.result) z.0)) w.knows
+    ap (λ z. steps_of z.0) c.load.ensures.2.0 ∙ ap (λ z. steps_of (push (Look active_at c.load.result) z.0)) w.knows

@@ -7,7 +7,7 @@ use Rattle.step_ledger.specs.History.{total}
 use Rattle.step_ledger.proofs.Members.{pushed, settled}
 use Rattle.wake_book.specs.declared.steps.GroupStep.{GroupStep}
 use Rattle.wake_book.specs.declared.steps.GroupStep.TheVariants.{Raise, Enter}
-use Rattle.wake_book.specs.Waits.{stand, raised, moved_by}
+use Rattle.wake_book.specs.Waits.{one_waiting, stand, raised, moved_by}
 use Rattle.wake_book.specs.WaitPlays.{entering}
 use Rattle.wake_book.specs.Stands.{stand_code}
 use Rattle.wake_book.proofs.GroupKeeps as keeps
@@ -35,7 +35,7 @@ fetch_add-requires-2 c = let w = c.args.waiter.now in
       c.fetch_add.ensures.0 ∙ c.requires.groups,
       omega arith,
       keeps.placed g.table.shared.key few ids.slots c.fetch_add.new.seat.id c.fetch_add.new.seat.me r1
-          (ap (λ z. z.0) now1) c.place_of.result w.next at (λ v. (v + 4294967296) % 2 ^ 64) 4294967296 0 entering
+          (ap (λ z. z.0) now1) c.place_of.result w.next at (λ v. (v + one_waiting) % 2 ^ 64) one_waiting 0 entering
           (keeps.enter g.table.shared.key few ids.slots c.fetch_add.new.seat.id c.fetch_add.new.seat.me r1
           (ap (λ z. z.0) now1) w.next w.within refl (sym w.stands.0 ∙ ap stand_code c.requires.out)),
     )

@@ -8,7 +8,7 @@ use Rattle.step_ledger.specs.History.{total}
 use Rattle.step_ledger.proofs.Members.{pushed, settled}
 use Rattle.wake_book.specs.declared.steps.GroupStep.{GroupStep}
 use Rattle.wake_book.specs.declared.steps.GroupStep.TheVariants.{Grant}
-use Rattle.wake_book.specs.Waits.{moved_in, stand, raised, moved_by}
+use Rattle.wake_book.specs.Waits.{one_waiting, moved_in, stand, raised, moved_by}
 use Rattle.wake_book.specs.WaitPlays.{granting}
 use Rattle.wake_book.proofs.Standing.{yes_of, no_of}
 use Rattle.wake_book.proofs.GroupKeeps as keeps
@@ -16,12 +16,12 @@ use Rattle.wake_book.proofs.groups.Groups.grant.Goals as goal
 
 pub compare_exchange-seen-requires : goal.compare_exchange-seen-requires
 compare_exchange-seen-requires c = let few_wait = c.requires.within.1 in
-    let same : c.args.found - 4294967296 * c.args.count + c.args.count ≡ moved_in c.args.found c.args.count = omega
+    let same : c.args.found - one_waiting * c.args.count + c.args.count ≡ moved_in c.args.found c.args.count = omega
     arith in let g = c.args.self.now in let w = c.args.waiter.now in let wide = g.wide.0 in let told = g.told in
     let small = g.small in let few : g.table.shared.key ≤ 64 = omega arith in let ids = g.table.shared.table_id in
     let in_range = c.requires.within.0 in let at = c.place_of.ensures in let room = c.requires.within.2 in
     let own = w.moves.0 in
-    let new : ℕ = c.args.found - 4294967296 * c.args.count + c.args.count in (
+    let new : ℕ = c.args.found - one_waiting * c.args.count + c.args.count in (
       c.requires.groups,
       omega arith,
       keeps.placed g.table.shared.key few ids.slots w.seat.id w.seat.me _ (ap (λ z. z.0) w.knows) c.place_of.result
@@ -33,7 +33,7 @@ compare_exchange-seen-requires c = let few_wait = c.requires.within.1 in
 
 pub invariant_of-waiter : goal.invariant_of-waiter
 invariant_of-waiter c = let few_wait = c.requires.within.1 in
-    let same : c.args.found - 4294967296 * c.args.count + c.args.count ≡ moved_in c.args.found c.args.count = omega
+    let same : c.args.found - one_waiting * c.args.count + c.args.count ≡ moved_in c.args.found c.args.count = omega
     arith in let w = c.args.waiter.now in
     let r : Record GroupStep = record { number = w.number; steps = steps_of w.seat.me.0 } in
     let x1 : GroupStep = Grant c.args.group c.args.found c.args.count c.compare_exchange-seen.result in
@@ -50,7 +50,7 @@ invariant_of-waiter c = let few_wait = c.requires.within.1 in
 
 pub returns-then-seen-found-clause-lost : goal.returns-then-seen-found-clause-lost
 returns-then-seen-found-clause-lost c _ = let few_wait = c.requires.within.1 in
-    let same : c.args.found - 4294967296 * c.args.count + c.args.count ≡ moved_in c.args.found c.args.count = omega
+    let same : c.args.found - one_waiting * c.args.count + c.args.count ≡ moved_in c.args.found c.args.count = omega
     arith in let w = c.args.waiter.now in
     let r : Record GroupStep = record { number = w.number; steps = steps_of w.seat.me.0 } in
     let x1 : GroupStep = Grant c.args.group c.args.found c.args.count c.compare_exchange-seen.result in
@@ -60,7 +60,7 @@ returns-then-seen-found-clause-lost c _ = let few_wait = c.requires.within.1 in
 
 pub invariant_of-waiter-2 : goal.invariant_of-waiter-2
 invariant_of-waiter-2 c = let few_wait = c.requires.within.1 in
-    let same : c.args.found - 4294967296 * c.args.count + c.args.count ≡ moved_in c.args.found c.args.count = omega
+    let same : c.args.found - one_waiting * c.args.count + c.args.count ≡ moved_in c.args.found c.args.count = omega
     arith in let w = c.args.waiter.now in
     let r : Record GroupStep = record { number = w.number; steps = steps_of w.seat.me.0 } in
     let x1 : GroupStep = Grant c.args.group c.args.found c.args.count c.compare_exchange-seen.result in
@@ -77,7 +77,7 @@ invariant_of-waiter-2 c = let few_wait = c.requires.within.1 in
 
 pub returns-clause-won : goal.returns-clause-won
 returns-clause-won c _ = let few_wait = c.requires.within.1 in
-    let same : c.args.found - 4294967296 * c.args.count + c.args.count ≡ moved_in c.args.found c.args.count = omega
+    let same : c.args.found - one_waiting * c.args.count + c.args.count ≡ moved_in c.args.found c.args.count = omega
     arith in let w = c.args.waiter.now in
     let r : Record GroupStep = record { number = w.number; steps = steps_of w.seat.me.0 } in
     let x1 : GroupStep = Grant c.args.group c.args.found c.args.count c.compare_exchange-seen.result in

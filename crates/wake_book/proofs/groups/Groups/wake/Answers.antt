@@ -4,13 +4,14 @@ use Rattle.wake_book.specs.declared.steps.GroupStep.TheVariants.{Look}
 use Rattle.wake_book.specs.Groups.{steps_of}
 use Rattle.wake_book.specs.Walks.{AreVisits}
 use Rattle.wake_book.proofs.Lengths.{visits_long}
+use Rattle.wake_book.specs.Waits.{active_at, index_at}
 use Rattle.wake_book.proofs.groups.Groups.wake.Goals as goal
 
 pub loop-left-preserved : goal.loop-left-preserved
 loop-left-preserved c = let inv = c.loop-left.invariant in let e = c.visit-left.ensures in let walk = inv.walk in
     let some = c.loop-left-test.true in let v : ℕ = c.loop-left.visits in let next : suc v ≡ v + 1 = omega arith in
     let few = inv.few.0 in let more = c.if-visits-lt-GROUPS.true in let moved = e.moved in let before = inv.moved in
-    let start = Look 80 walk.0 ∷ Look 72 walk.1 ∷ steps_of c.args.waiter.now in record {
+    let start = Look index_at walk.0 ∷ Look active_at walk.1 ∷ steps_of c.args.waiter.now in record {
       groups = (
         e.groups.0,
         (
@@ -44,5 +45,5 @@ loop-left-preserved c = let inv = c.loop-left.invariant in let e = c.visit-left.
 pub returns-clause-bound : goal.returns-clause-bound
 returns-clause-bound c = let inv = c.loop-left.invariant in let walk = inv.walk in let few = inv.few.2 in
     let e = ap length c.store_index.ensures.step in
-    let l = visits_long c.loop-left.visits walk.0 c.args.nr (Look 80 walk.0 ∷ Look 72 walk.1 ∷ steps_of
+    let l = visits_long c.loop-left.visits walk.0 c.args.nr (Look index_at walk.0 ∷ Look active_at walk.1 ∷ steps_of
     c.args.waiter.now) (steps_of c.loop-left.waiter) c.loop-left.left c.loop-left.group walk.3 in omega arith

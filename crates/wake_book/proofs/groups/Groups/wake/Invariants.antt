@@ -2,6 +2,7 @@ use Rattle.std.proofs.Common.{◌≡◌, ℕ, ◌+◌, ◌-◌, ◌<◌, ◌≤�
 use Rattle.wake_book.specs.declared.steps.GroupStep.TheVariants.{Look}
 use Rattle.wake_book.specs.Groups.{IsWaiterOf, steps_of, StandsAsBefore}
 use Rattle.wake_book.specs.Walks.{AreVisits}
+use Rattle.wake_book.specs.Waits.{active_at, index_at}
 use Rattle.wake_book.proofs.groups.Groups.wake.Given as goal
 
 abbrev pub invariant-loop-left : goal.invariant-loop-left
@@ -10,7 +11,7 @@ invariant-loop-left l = record {
   few : (l.left ≤ l.nr) × (l.group < 8) × (l.visits ≤ 8);
   moved : l.waiter.moved + l.left ≡ l.fn.waiter.moved + l.nr;
   walk : (first : ℕ) × (active : ℕ) × (1 ≤ active) × AreVisits l.visits first l.nr
-      (Look 80 first ∷ Look 72 active ∷ steps_of l.fn.waiter) (steps_of l.waiter) l.left l.group;
+      (Look index_at first ∷ Look active_at active ∷ steps_of l.fn.waiter) (steps_of l.waiter) l.left l.group;
 }
 
 abbrev pub decreases-loop-left : goal.decreases-loop-left

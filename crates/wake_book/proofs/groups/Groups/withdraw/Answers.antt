@@ -8,7 +8,7 @@ use Rattle.step_ledger.specs.History.{total}
 use Rattle.step_ledger.proofs.Members.{pushed, settled}
 use Rattle.wake_book.specs.declared.steps.GroupStep.{GroupStep}
 use Rattle.wake_book.specs.declared.steps.GroupStep.TheVariants.{Lower, Withdraw}
-use Rattle.wake_book.specs.Waits.{stand, raised, moved_by}
+use Rattle.wake_book.specs.Waits.{one_waiting, stand, raised, moved_by}
 use Rattle.wake_book.specs.WaitPlays.{withdrawing}
 use Rattle.wake_book.specs.Stands.{stand_code}
 use Rattle.wake_book.proofs.Standing.{yes_of, no_of}
@@ -24,8 +24,8 @@ compare_exchange-seen-requires c = let g = c.args.self.now in let w = c.args.wai
       c.requires.groups,
       omega arith,
       keeps.placed g.table.shared.key few ids.slots w.seat.id w.seat.me _ (ap (λ z. z.0) w.knows) c.place_of.result
-          c.args.group at (λ v. either (eqb v c.args.found) (c.args.found - 4294967296) v) c.args.found
-          (c.args.found - 4294967296) withdrawing
+          c.args.group at (λ v. either (eqb v c.args.found) (c.args.found - one_waiting) v) c.args.found
+          (c.args.found - one_waiting) withdrawing
           (keeps.withdraw g.table.shared.key few ids.slots w.seat.id w.seat.me
           (record { number = w.number; steps = steps_of w.seat.me.0 }) (ap (λ z. z.0) w.knows) c.args.group c.args.found
           in_range c.requires.stands.1 (sym w.stands.0 ∙ st)),
