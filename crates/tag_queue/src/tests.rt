@@ -1,0 +1,11 @@
+//! What no clause says: worked examples, want of memory, and threads that wait and wake.
+mod agents;
+mod clears;
+mod gathering;
+mod gets;
+mod long_run;
+mod memory;
+mod opening;
+mod slots;
+mod threads;
+mod waits;

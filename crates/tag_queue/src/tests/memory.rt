@@ -1,0 +1,21 @@
+//! Want of memory. Run with each allocation refused in turn, this test still passes.
+use crate::fault::SetFault;
+use crate::queue::Queue;
+use crate::tests::agents::options;
+use std::test::Fail;
+
+#[test]
+fn want_of_memory_is_told(rt: HostRuntime) -> Result<(), Fail> {
+    let (queue, agents) = match Queue::open(rt.alloc(), 8, options(3), 0u64) {
+        Ok(opened) => opened,
+        Err(fault) => {
+            assert_eq!(rt; fault, SetFault::Memory);
+            return Ok(());
+        }
+    };
+    let Ok(totals) = Queue::gather(queue, agents) else {
+        return Err(Fail::new("an agent is missing"));
+    };
+    assert_eq!(rt; (totals.tags.got, totals.tags.back), (0, 0));
+    Ok(())
+}
