@@ -18,5 +18,6 @@ close-requires g c =
     let queue = c.in_ok-queue.queue in let agents = c.in_ok-queue.agents in let ran = c.for_each_mut.new.s in
     All-take (IsAgentOf queue) agents.len (ran ++ drop (length ran) agents.items)
     (All-append (IsAgentOf queue) ran (drop (length ran) agents.items)
-    (λ k d h. let inside : k < length c.as_mut_slice.result.now = omega arith in let at = (c.for_each_mut.ensures k d inside).1 in (search rules, search rules, search rules))
+    (λ k d h. let inside : k < length c.as_mut_slice.result.now = omega arith in
+    let at = (c.for_each_mut.ensures k d inside).1 in (search rules, search rules, search rules))
     (All-drop (IsAgentOf queue) (length ran) agents.items c.in_ok-queue.ensures))
