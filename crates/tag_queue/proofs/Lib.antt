@@ -3,7 +3,6 @@ pub mod Giving
 pub mod SoFar
 pub mod Counting
 pub mod Fronts
-pub mod Twins
 pub mod Gathering
 pub mod Opening
 pub mod Crossing

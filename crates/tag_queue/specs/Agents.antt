@@ -3,6 +3,7 @@ use Rattle.std.specs.Prelude.{◌≡◌, ℕ, ◌+◌, ◌↔◌, List, length, 
 use mathlib.Core.Option as maybe
 use Rattle.tag_layout.specs.Layout.{Layout}
 use Rattle.tag_core.specs.declared.caller.Caller.{Caller}
+use Rattle.tag_core.specs.declared.record.Record.{Record}
 use Rattle.tag_core.specs.declared.shape.Shape.{Shape}
 use Rattle.tag_core.specs.Callers as core
 use Rattle.tag_search.specs.declared.hint.Hint.{Hint}
@@ -109,3 +110,7 @@ agents_of queue = queue.map.shape.callers
 -- the numbers of several agents
 abbrev pub numbers_of : {R : Type 0} → List (Agent R) → List ℕ
 numbers_of agents = map number_of agents
+
+-- what is known of several agents as callers of the map
+abbrev pub records_of : {R : Type 0} → List (Agent R) → List (Record R)
+records_of agents = map core.record_of (map caller_of agents)

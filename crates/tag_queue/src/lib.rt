@@ -10,10 +10,12 @@ mod gather;
 mod gets;
 mod looks;
 mod meets;
+mod missing;
 mod opens;
 mod parts;
 mod queue;
 mod slots;
+mod together;
 mod waits;
 
 pub use agent::Agent;
