@@ -6,3 +6,4 @@ pub mod Fronts
 pub mod Gathering
 pub mod Opening
 pub mod Crossing
+pub mod Unchanged

@@ -1,6 +1,8 @@
 -- What contracts see of a queue and of its agents.
 use Rattle.std.specs.Prelude.{◌≡◌, ℕ, ◌+◌, ◌↔◌, List, length, map, Option}
 use mathlib.Core.Option as maybe
+use mathlib.Core.Option.{some}
+use lib.ListN.{get_elem?}
 use Rattle.tag_layout.specs.Layout.{Layout}
 use Rattle.tag_core.specs.declared.caller.Caller.{Caller}
 use Rattle.tag_core.specs.declared.record.Record.{Record}
@@ -98,6 +100,11 @@ pub record IsUnchanged {R : Type 0} (old new : Agent R) : Type 0 where
   pub caller : core.IsUnchanged (caller_of old) (caller_of new)
   pub holds : (tag : ℕ) → Holds new tag ↔ Holds old tag
   pub same_else : SameElse old new
+
+-- one by one, in the same order, each agent is as it was
+pub record AreUnchanged {R : Type 0} (old new : List (Agent R)) : Type 0 where
+  pub count : length new ≡ length old
+  pub each : (n : ℕ) (a b : Agent R) → get_elem? old n ≡ some a → get_elem? new n ≡ some b → IsUnchanged a b
 
 -- what the queue's map was opened with
 abbrev pub shape_of : {R : Type 0} → Queue R → Shape

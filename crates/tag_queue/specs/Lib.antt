@@ -8,3 +8,4 @@ pub mod Waits
 pub mod Parts
 pub mod Gathering
 pub mod Opening
+pub mod Using

@@ -16,6 +16,7 @@ mod parts;
 mod queue;
 mod slots;
 mod together;
+mod uses;
 mod waits;
 
 pub use agent::Agent;
@@ -23,4 +24,5 @@ pub use fault::{SetFault, TagFault};
 pub use gather::{QueueGatherFault, QueueTotals};
 pub use queue::{Options, Queue};
 pub use step_ledger::{GatherCause, Numbered};
+pub use uses::Usage;
 pub use waits::Wakes;
