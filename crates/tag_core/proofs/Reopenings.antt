@@ -8,7 +8,7 @@ use Rattle.std.proofs.Math.Logic.{∥∥₁_elim, ∥∥₁_map, ∥∥₁_prop}
 use Rattle.std.specs.Coded.{le_prop}
 use lib.ListN.{get_elem?, get_or-eq_default}
 use Rattle.atomic_table.proofs.Lists.{at_map}
-use Rattle.step_ledger.specs.Views.{Has, HasAll}
+use Rattle.step_ledger.specs.Views.{Has}
 use Rattle.tag_layout.specs.Layout.{Layout}
 use Rattle.tag_layout.proofs.SumFacts.{sum_below-same}
 use Rattle.tag_model.specs.declared.totals.Totals.{Totals}
@@ -24,19 +24,13 @@ use Rattle.tag_core.specs.Histories.{opening_world, world_of, steps_by}
 use Rattle.tag_core.specs.Rule.{IsOpening}
 use Rattle.tag_core.specs.Callers.{record_of, HaveOwnNumbers, AreUnchanged}
 use Rattle.tag_core.specs.Gathering.{numbers_of}
-use Rattle.tag_core.specs.Settling.{HasRecords, AreSettled}
+use Rattle.tag_core.specs.Settling.{AreSettled}
 use Rattle.tag_core.specs.Reopening.{IsNext, HasCounts, AreReopened, GoesOnFrom, AllFree, LeadsOn}
 use Rattle.tag_core.specs.Chain.{Epoch, GoesOn, IsChain, HasChain}
 use Rattle.tag_core.proofs.Entries.{entry, entry_of_map}
 use Rattle.tag_core.proofs.Seats.{within}
 
 module _ {R : Type 0} where
-  -- where each number is there, so is each record
-  pub records_from : (n : ℕ) (callers : List (Caller R)) → HasAll (numbers_of callers) n → HasRecords n (map record_of callers)
-  records_from n callers all c l =
-      let w = all c l in let x = entry_of_map (λ (z : Caller R). z.number) callers w.0 c w.1 in
-      (w.0, record_of x.0, at_map (record_of {R = R}) callers w.0 x.0 x.1, x.2)
-
   -- no history but that of no steps shows that nobody has made a step
   none_done : (k : Shape) (rs : List (Record R)) → ((c : ℕ) → c < k.callers → ¬ (¬ ((i : ℕ) × (r : Record R) × (get_elem? rs i ≡ some r) × (r.number ≡ c))))
       → ((i : ℕ) (r : Record R) → get_elem? rs i ≡ some r → r.steps ≡ []) → AllFree k rs

@@ -1,25 +1,22 @@
 -- A seat that has the records of all callers.
-use Rattle.std.proofs.Common.{◌≡◌, ℕ, suc, ◌+◌, ◌<◌, List, [], ◌∷◌, ◌++◌, map, length, arith, refl, sym, ap, ◌∙◌, subst, ⊎_elim, length-append, append_assoc}
+use Rattle.std.proofs.Common.{◌≡◌, ℕ, suc, ◌+◌, List, [], ◌∷◌, ◌++◌, map, length, arith, refl, sym, ap, ◌∙◌, subst, ⊎_elim, length-append, append_assoc}
 use Rattle.std.proofs.lemmas.List.{map-append}
 use mathlib.Core.Option.{some, none}
 use lib.ListN.{get_elem?}
-use Rattle.atomic_table.specs.Table.{State, Me, keeps, step, Allows, Splits, Joins}
+use Rattle.atomic_table.specs.Table.{State, Me, keeps, step, Allows}
 use Rattle.tag_model.specs.declared.totals.Totals.{Totals}
 use Rattle.tag_model.specs.Totals.{posted_in}
 use Rattle.tag_core.specs.declared.shape.Shape.{Shape}
 use Rattle.tag_core.specs.declared.record.Record.{Record}
 use Rattle.tag_core.specs.declared.record.View.{View}
 use Rattle.tag_core.specs.declared.caller.Caller.{Caller}
-use Rattle.tag_core.specs.declared.map.Map.{Map}
 use Rattle.tag_core.specs.Histories.{world_of}
 use Rattle.tag_core.specs.Sizes.{total_of, size_of}
 use Rattle.tag_core.specs.Rule.{Shown}
 use Rattle.tag_core.specs.Settling.{HasRecords, AreSettled}
 use Rattle.tag_core.specs.Plays.{settled}
-use Rattle.tag_core.specs.Views.{viewing, first_view, other_views, both_views}
 use Rattle.tag_core.specs.Callers.{record_of, IsUnchanged, AreUnchanged}
 use Rattle.tag_core.proofs.Seats.{within, snoc_at}
-use Rattle.tag_core.proofs.Stand.{some_width}
 use Rattle.tag_core.proofs.Fronts.{idle}
 use Rattle.tag_core.proofs.Ends.{few_records, won_all, back_all, held_all, even_all}
 

@@ -6,12 +6,14 @@ ghost use Rattle.step_ledger.specs.Views.{Has};
 ghost use Rattle.tag_core.specs.Sizes.{total_of, size_of};
 
 use crate::caller::Caller;
+use crate::loans::Lender;
 use crate::map::Map;
 use crate::plays::{Collect, Counting, HandOut};
 use crate::record::View;
 use crate::spots::SPARE;
 use atomic_table::Seat;
 use std::mem::swap;
+use std::snapshot::Snapshot;
 
 /// Callers that have come together, one after another. A clause sees the list of their records, the newest first.
 #[derive(Drop)]
@@ -49,6 +51,7 @@ pub(crate) fn count_tags(masks: &[u64]) -> u64
 impl<R> Map<R> {
     ghost use Rattle.tag_core.specs.Callers.{IsCallerOf, record_of};
     ghost use Rattle.tag_core.specs.Gathering.{IsGatheringOf, gathered, numbers_of};
+    ghost use Rattle.tag_core.specs.Lending.{caller_before};
 
     /// The first of the callers that come together. The slots of its tags stay in the table, each with some value. Its
     /// one load, of the spare word, stands in no list.
@@ -57,25 +60,51 @@ impl<R> Map<R> {
         ensures map { IsGatheringOf self.now result }
         ensures gathered { gathered result ≡ record_of caller ∷ [] }
     {
+        let (first, _) = self.start_lending(caller);
+        first
+    }
+
+    /// The first of the callers that come together for a while: it lends its record, and keeps the slots of its tags. Its
+    /// one load, of the spare word, stands in no list.
+    pub fn start_lending(&self, caller: Caller<R>) -> (Gathering<R>, Lender<R>)
+        requires { IsCallerOf self.now caller }
+        ensures map { IsGatheringOf self.now result.0 }
+        ensures gathered { gathered result.0 ≡ record_of caller ∷ [] }
+        ensures lender { caller_before result.1 ≡ caller }
+    {
+        let was = Snapshot::of(&caller);
         let Caller {
             mut seat,
-            layout: _,
-            number: _,
-            life: _,
-            held,
+            layout,
+            number,
+            life,
+            held: masks,
             won,
             back,
-            shape: _,
-            apart: _,
+            shape,
+            apart,
         } = caller;
         let note = self.table.shared.split_seat::<HandOut>(&mut seat);
-        let held = count_tags(held.as_slice());
-        Gathering {
+        let held = count_tags(masks.as_slice());
+        let first = Gathering {
             seat: note,
             won,
             back,
             held,
-        }
+        };
+        let lender = Lender {
+            seat,
+            layout,
+            number,
+            life,
+            held: masks,
+            won,
+            back,
+            shape,
+            apart,
+            was,
+        };
+        (first, lender)
     }
 
     /// All callers that are handed in come together. The last of them is the first to be taken.
@@ -100,6 +129,7 @@ impl<R> Map<R> {
 impl<R> Gathering<R> {
     ghost use Rattle.tag_core.specs.Callers.{IsCallerOf, record_of};
     ghost use Rattle.tag_core.specs.Gathering.{IsGatheringOf, gathered};
+    ghost use Rattle.tag_core.specs.Lending.{caller_before};
 
     /// One more caller of the map comes to those gathered. Its three loads, of the spare word, stand in no list.
     pub fn add(&mut self, map: &Map<R>, caller: Caller<R>)
@@ -108,17 +138,30 @@ impl<R> Gathering<R> {
         ensures map { IsGatheringOf map.now self.new }
         ensures gathered { gathered self.new ≡ record_of caller ∷ gathered self.old }
     {
+        self.lend(map, caller);
+    }
+
+    /// One more caller of the map lends its record to those gathered, by the same three loads.
+    pub fn lend(&mut self, map: &Map<R>, caller: Caller<R>) -> Lender<R>
+        requires caller { IsCallerOf map.now caller }
+        requires map { IsGatheringOf map.now self.old }
+        ensures map { IsGatheringOf map.now self.new }
+        ensures gathered { gathered self.new ≡ record_of caller ∷ gathered self.old }
+        ensures lender { caller_before result ≡ caller }
+    {
+        let (first, lender) = map.start_lending(caller);
         let Gathering {
             mut seat,
             won,
             back,
             held,
-        } = map.start_gathering(caller);
+        } = first;
         swap(&mut self.seat, &mut seat);
         map.table.shared.join_seat::<Collect>(&mut self.seat, seat);
         map.table.shared.load::<Counting>(&mut self.seat, SPARE);
         self.won += won;
         self.back += back;
         self.held += held;
+        lender
     }
 }

@@ -3,18 +3,10 @@ use denote.RattleType.{RattleType}
 use denote.Param.Send.{IsSend, IsSync, recorded_send, struct_send, recorded_sync, struct_sync, sendable}
 use denote.Struct.Declared.{shape as fields_of}
 use Rattle.std.proofs.Crossing.{crosses}
-use Rattle.atomic_table.proofs.shared.Seat.TheSendSync.{the_send as seat_send}
-use Rattle.atomic_table.proofs.owned.Table.TheSendSync.{the_field_sync as table_sync}
-use Rattle.step_ledger.proofs.Crossing.{seat_sync}
-use Rattle.tag_core.specs.contracts.caller.Caller as caller
-use Rattle.tag_core.specs.contracts.map.Map as map
-use Rattle.wake_book.proofs.Crossing.{teller_field_send, waiter_field_send, teller_sync, waiter_sync, book_field_sync, groups_field_sync}
+use Rattle.tag_core.proofs.Crossing.{caller_field_send, map_field_sync}
+use Rattle.wake_book.proofs.Crossing.{teller_field_send, waiter_field_send, book_field_sync, groups_field_sync}
 use Rattle.tag_queue.specs.contracts.agent.Agent as agent
 use Rattle.tag_queue.specs.contracts.queue.Queue as queue
-use Rattle.tag_queue.specs.contracts.queue.Rooms as rooms
-
-caller_field_send : (R : RattleType) → IsSend R → IsSend (caller.the_field R).row
-caller_field_send R value = search (sendable, crosses, seat_send) depth 60
 
 pub agent_field_send : (R : RattleType) → IsSend R → IsSend (agent.the_field R).row
 agent_field_send R value = struct_send (fields_of (agent.the_type R)) (
@@ -25,18 +17,6 @@ agent_field_send R value = struct_send (fields_of (agent.the_type R)) (
 -- an agent may go to another thread
 pub agent_send : (R : RattleType) → IsSend R → IsSend (agent.the_row R)
 agent_send R value = recorded_send _ _ _ (agent.the_type R).to_one (agent_field_send R value)
-
-caller_sync : (R : RattleType) → IsSend R → IsSync R → IsSync (caller.the_row R)
-caller_sync R sent shared = search (seat_sync, sendable, crosses) depth 60
-
-map_field_sync : (R : RattleType) → IsSend R → IsSync R → IsSync (map.the_field R).row
-map_field_sync R sent shared = struct_sync (fields_of (map.the_type R)) (
-  search (table_sync, sendable, crosses) depth 60,
-  (search (sendable, crosses) depth 40, (search (sendable, crosses) depth 40, tt)),
-)
-
-rooms_field_sync : (R : RattleType) → IsSend R → IsSync R → IsSync (rooms.the_field R).row
-rooms_field_sync R sent shared = search (caller_sync, teller_sync, waiter_sync, sendable, crosses) depth 60
 
 pub queue_field_sync : (R : RattleType) → IsSend R → IsSync R → IsSync (queue.the_field R).row
 queue_field_sync R sent shared = struct_sync (fields_of (queue.the_type R)) (
@@ -49,7 +29,7 @@ queue_field_sync R sent shared = struct_sync (fields_of (queue.the_type R)) (
         search (sendable, crosses) depth 40,
         (
           search (sendable, crosses) depth 40,
-          (search (sendable, crosses) depth 40, (rooms_field_sync R sent shared, (search (sendable, crosses) depth 40, tt))),
+          (search (sendable, crosses) depth 40, (search (sendable, crosses) depth 40, tt)),
         ),
       ),
     ),

@@ -3,7 +3,7 @@ pub mod Giving
 pub mod SoFar
 pub mod Counting
 pub mod Fronts
-pub mod Twins
 pub mod Gathering
 pub mod Opening
 pub mod Crossing
+pub mod Unchanged

@@ -1,8 +1,11 @@
 -- What contracts see of a queue and of its agents.
 use Rattle.std.specs.Prelude.{◌≡◌, ℕ, ◌+◌, ◌↔◌, List, length, map, Option}
 use mathlib.Core.Option as maybe
+use mathlib.Core.Option.{some}
+use lib.ListN.{get_elem?}
 use Rattle.tag_layout.specs.Layout.{Layout}
 use Rattle.tag_core.specs.declared.caller.Caller.{Caller}
+use Rattle.tag_core.specs.declared.record.Record.{Record}
 use Rattle.tag_core.specs.declared.shape.Shape.{Shape}
 use Rattle.tag_core.specs.Callers as core
 use Rattle.tag_search.specs.declared.hint.Hint.{Hint}
@@ -98,6 +101,11 @@ pub record IsUnchanged {R : Type 0} (old new : Agent R) : Type 0 where
   pub holds : (tag : ℕ) → Holds new tag ↔ Holds old tag
   pub same_else : SameElse old new
 
+-- one by one, in the same order, each agent is as it was
+pub record AreUnchanged {R : Type 0} (old new : List (Agent R)) : Type 0 where
+  pub count : length new ≡ length old
+  pub each : (n : ℕ) (a b : Agent R) → get_elem? old n ≡ some a → get_elem? new n ≡ some b → IsUnchanged a b
+
 -- what the queue's map was opened with
 abbrev pub shape_of : {R : Type 0} → Queue R → Shape
 shape_of queue = queue.map.shape
@@ -109,3 +117,7 @@ agents_of queue = queue.map.shape.callers
 -- the numbers of several agents
 abbrev pub numbers_of : {R : Type 0} → List (Agent R) → List ℕ
 numbers_of agents = map number_of agents
+
+-- what is known of several agents as callers of the map
+abbrev pub records_of : {R : Type 0} → List (Agent R) → List (Record R)
+records_of agents = map core.record_of (map caller_of agents)

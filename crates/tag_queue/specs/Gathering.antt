@@ -1,8 +1,8 @@
--- What a queue's totals say of all its agents, once they are gathered.
+-- How agents come together, and what a queue's totals say of them all.
 use Rattle.std.specs.Prelude.{◌≡◌, ℕ, ◌≤◌, List, map}
 use Rattle.tag_core.specs.declared.closed.Closed.{Closed}
-use Rattle.tag_core.specs.Callers.{record_of}
 use Rattle.tag_core.specs.Gathering as tags
+use Rattle.tag_core.specs.Chain.{CountsChain}
 use Rattle.wake_book.specs.Book as book
 use Rattle.wake_book.specs.Groups as groups
 use Rattle.wake_book.specs.Booked.{IsBooked}
@@ -10,13 +10,27 @@ use Rattle.wake_book.specs.Balance.{IsBalanced}
 use Rattle.tag_queue.specs.declared.agent.Agent.{Agent}
 use Rattle.tag_queue.specs.declared.queue.Queue.{Queue}
 use Rattle.tag_queue.specs.declared.gather.QueueTotals.{QueueTotals}
-use Rattle.tag_queue.specs.Agents.{caller_of, teller_of, waiter_of}
+use Rattle.tag_queue.specs.declared.together.Together.{Together}
+use Rattle.tag_queue.specs.Agents.{teller_of, waiter_of, shape_of, records_of}
 
--- the totals are those of the map, of the book and of the groups; issued is at most charged, that at most counted, and that at most back
+-- the agents that came together are the queue's own
+abbrev pub IsTogetherOf : {R : Type 0} → Queue R → Together R → Type 0
+IsTogetherOf queue together = tags.IsGatheringOf queue.map together.callers × book.IsGatheringOf queue.book together.tellers
+    × groups.IsGatheringOf queue.groups together.waiters
+
+-- these agents came together, the last of them first
+pub record AreTogether {R : Type 0} (agents : List (Agent R)) (together : Together R) : Type 0 where
+  pub callers : tags.gathered together.callers ≡ records_of agents
+  pub tellers : book.gathered together.tellers ≡ book.records_of (map teller_of agents)
+  pub waiters : groups.gathered together.waiters ≡ groups.records_of (map waiter_of agents)
+
+-- the totals are those of the map and of those before it, of the book and of the groups; issued is at most charged, that
+-- at most counted, and that at most back
 pub record IsGathered {R : Type 0} (queue : Queue R) (agents : List (Agent R)) (totals : QueueTotals) : Type 0 where
   pub closed : Closed R
   pub tags_are : totals.tags ≡ closed.totals
-  pub tags : tags.IsGathered queue.map.shape (map record_of (map caller_of agents)) closed
+  pub tags : tags.IsGathered (shape_of queue) (records_of agents) closed
+  pub chain : CountsChain (shape_of queue) tags.history totals.tags
   pub book : IsBooked (book.limits_of queue.book) (book.records_of (map teller_of agents)) totals.book
   pub groups : IsBalanced (groups.waiters_of queue.groups) (groups.records_of (map waiter_of agents)) totals.groups
   pub issued : totals.groups.issued ≤ totals.book.charged

@@ -6,6 +6,6 @@ pub mod Batches
 pub mod Slots
 pub mod Waits
 pub mod Parts
-pub mod Twins
 pub mod Gathering
 pub mod Opening
+pub mod Using

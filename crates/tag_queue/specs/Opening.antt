@@ -1,6 +1,6 @@
 -- A new queue, and its agents.
 use Rattle.std.specs.Prelude.{◌≡◌, ℕ, ◌<◌, ◌≤◌, ◌⊎◌, ◌^◌, List, All, map, max, unwrap_or, IsSomeAnd, Bool}
-use Rattle.tag_layout.specs.Layout.{wake_batch, HasShift}
+use Rattle.tag_layout.specs.Layout.{Layout, wake_batch, HasShift}
 use Rattle.tag_layout.specs.declared.layout.TheConstants.{MAX_DEPTH, MAX_SHIFT}
 use Rattle.tag_model.specs.declared.world.TheConstants.{MAX_CALLERS, MOST_WON}
 use Rattle.tag_core.specs.Opening.{IsNew, AreNew}
@@ -16,6 +16,10 @@ use Rattle.tag_queue.specs.Parts.{HasHint}
 -- there is a layout for the options
 abbrev pub HasLayout : ℕ → Options → Type 0
 HasLayout depth options = (depth ≤ MAX_DEPTH) × ¬ (IsSomeAnd options.shift (λ s. MAX_SHIFT < s))
+
+-- the layout has this depth, and the shift asked for, or else the default one
+abbrev pub IsLaidOut : ℕ → Options → Layout → Type 0
+IsLaidOut depth options layout = (layout.depth ≡ depth) × HasShift depth options.shift layout.shift
 
 -- no agent, or too many
 abbrev pub MiscountsAgents : Options → Type 0

@@ -1,17 +1,16 @@
 //! All agents come together, and the queue ends.
-ghost use Rattle.std.specs.Prelude.{◌≡◌, ℕ, ◌<◌, ◌≤◌, ◌↔◌, List, length, All, IfOk, IfErr, IsOk, IsTrue, MatchOption};
-ghost use Rattle.step_ledger.specs.Views.{Has, HasAll, IsLeastMissing};
+ghost use Rattle.std.specs.Prelude.{◌≡◌, ◌↔◌, All, IfOk, IfErr, IsOk};
+ghost use Rattle.step_ledger.specs.Views.{HasAll};
 ghost use Rattle.step_ledger.specs.Gather.{IsCauseOf};
 ghost use Rattle.tag_queue.specs.Agents.{IsAgentOf, agents_of, numbers_of};
 ghost use Rattle.tag_queue.specs.Gathering.{IsGathered};
-ghost use Rattle.tag_queue.specs.Twins.{AllDiffer, AreTwins};
 
 use crate::agent::Agent;
-use crate::parts::split;
 use crate::queue::Queue;
-use step_ledger::{GatherCause, least_missing};
+use crate::together::{Together, gather_each};
+use step_ledger::GatherCause;
 use tag_model::Totals;
-use wake_book::{Book, BookTotals, GroupTotals, Groups};
+use wake_book::{BookTotals, GroupTotals};
 
 /// What a queue saw in all, once its agents are gathered.
 #[derive(Clone, Copy, Debug, PartialEq, Eq)]
@@ -45,44 +44,27 @@ impl<R: Copy> Queue<R> {
         ensures missing { IfErr result (λ fault. IsCauseOf (numbers_of agents.items) (agents_of queue) fault.cause) }
         ensures err { IfErr result (λ fault. (fault.queue ≡ queue) × (fault.agents ≡ agents)) }
     {
-        if let Some(number) = least_missing(agents.as_slice(), queue.callers) {
-            let cause = GatherCause::Missing(number);
+        if let Some(number) = queue.missing(agents.as_slice()) {
             return Err(QueueGatherFault {
-                cause,
+                cause: GatherCause::Missing(number),
                 queue,
                 agents,
             });
         }
-        let agents = queue.counted(agents);
         Ok(queue.close(agents))
-    }
-
-    // The agents are no more than there is room for: two of one number would meet.
-    fn counted(&self, mut agents: Vec<Agent<R>>) -> Vec<Agent<R>>
-        requires own { All (IsAgentOf self.now) agents.items }
-        ensures same { result ≡ agents }
-        ensures count { length result.items ≤ agents_of self.now }
-    {
-        let count = self.callers as usize;
-        if agents.len() <= count {
-            return agents;
-        }
-        let Some((first, second)) = twins(agents.as_slice()) else {
-            unreachable!()
-        };
-        let mut one = agents.remove(second);
-        let mut other = agents.remove(first);
-        self.map.meet(&mut one.caller, &mut other.caller);
-        unreachable!()
     }
 
     // Ends the queue with all its agents.
     fn close(self, agents: Vec<Agent<R>>) -> QueueTotals
         requires own { All (IsAgentOf self) agents.items }
-        requires count { length agents.items ≤ agents_of self }
         requires all { HasAll (numbers_of agents.items) (agents_of self) }
         ensures { IsGathered self agents.items result }
     {
+        let Together {
+            callers,
+            tellers,
+            waiters,
+        } = gather_each(&self, agents);
         let Queue {
             map,
             book,
@@ -90,38 +72,12 @@ impl<R: Copy> Queue<R> {
             batch: _,
             least: _,
             callers: _,
-            rooms,
             fill: _,
         } = self;
-        let (callers, tellers, waiters) = split(agents, rooms);
-        let Ok(closed) = map.gather(callers) else {
-            unreachable!()
-        };
-        let Ok(book) = Book::gather(book, tellers) else {
-            unreachable!()
-        };
-        let Ok(groups) = Groups::gather(groups, waiters) else {
-            unreachable!()
-        };
         QueueTotals {
-            tags: closed.totals,
-            book,
-            groups,
+            tags: map.finish(callers).totals,
+            book: book.finish(tellers),
+            groups: groups.finish(waiters),
         }
     }
-}
-
-// The places of two agents of one number. Agents of one queue have none such, and no call with fewer agents looks for them.
-#[cold]
-fn twins<R>(agents: &[Agent<R>]) -> Option<(usize, usize)>
-    ensures { MatchOption result (AllDiffer (numbers_of agents.now)) (λ places. AreTwins places.0 places.1 (numbers_of agents.now)) }
-{
-    for second in 0..agents.len() {
-        for first in 0..second {
-            if agents[first].number == agents[second].number {
-                return Some((first, second));
-            }
-        }
-    }
-    None
 }

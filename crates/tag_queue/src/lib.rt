@@ -10,12 +10,15 @@ mod gather;
 mod gets;
 mod looks;
 mod meets;
+mod missing;
 mod opens;
 mod parts;
 mod queue;
 mod slots;
 #[cfg(test)]
 mod tests;
+mod together;
+mod uses;
 mod waits;
 
 pub use agent::Agent;
@@ -23,4 +26,5 @@ pub use fault::{SetFault, TagFault};
 pub use gather::{QueueGatherFault, QueueTotals};
 pub use queue::{Options, Queue};
 pub use step_ledger::{GatherCause, Numbered};
+pub use uses::Usage;
 pub use waits::Wakes;

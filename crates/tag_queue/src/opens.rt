@@ -1,15 +1,14 @@
 //! A new queue, and its agents.
 ghost use Rattle.std.specs.Prelude.{◌≡◌, ◌≢◌, ℕ, ◌^◌, ◌<◌, ◌≤◌, ◌↔◌, List, [], All, IfOk, IsSomeAnd};
-ghost use Rattle.tag_layout.specs.Layout.{HasShift};
 ghost use Rattle.tag_layout.specs.declared.layout.TheConstants.{MAX_DEPTH, MAX_SHIFT};
 ghost use Rattle.tag_model.specs.declared.world.TheConstants.{MAX_CALLERS, MOST_WON};
 ghost use Rattle.tag_queue.specs.Agents.{layout_of};
-ghost use Rattle.tag_queue.specs.Opening.{HasLayout, MiscountsAgents, CountsAgents, IsOpen};
+ghost use Rattle.tag_queue.specs.Opening.{HasLayout, IsLaidOut, MiscountsAgents, CountsAgents, IsOpen};
 
 use crate::agent::Agent;
 use crate::fault::SetFault;
 use crate::parts::join;
-use crate::queue::{Options, Queue, Rooms};
+use crate::queue::{Options, Queue};
 use std::alloc::{AllocError, Global};
 use tag_core::Map;
 use tag_layout::{Layout, LayoutFault};
@@ -29,7 +28,7 @@ impl<R: Copy> Queue<R> {
         fill: R,
     ) -> Result<(Queue<R>, Vec<Agent<R>>), SetFault>
         ensures ok { IfOk result (λ opened. IsOpen options opened.0 opened.1.items) }
-        ensures layout { IfOk result (λ opened. ((layout_of opened.0).depth ≡ depth) × HasShift depth options.shift (layout_of opened.0).shift) }
+        ensures layout { IfOk result (λ opened. IsLaidOut depth options (layout_of opened.0)) }
 
         // The causes are looked at in this order, and memory last.
         ensures total { (result ≡ Err SetFault.TotalTooLarge) ↔ (MAX_DEPTH < depth) }
@@ -83,7 +82,6 @@ fn lay_out<R: Copy>(
     let Ok((groups, waiters)) = Groups::open(alloc, options.callers) else {
         return Err(AllocError);
     };
-    let rooms = Rooms::open(alloc)?;
     let hint = Hint {
         at: 0,
         round_robin: options.round_robin,
@@ -96,21 +94,7 @@ fn lay_out<R: Copy>(
         batch,
         least: options.min_shallow.unwrap_or(1).max(1),
         callers: options.callers,
-        rooms,
         fill,
     };
     Ok((queue, agents))
-}
-
-impl<R> Rooms<R> {
-    fn open(alloc: Global) -> Result<Rooms<R>, AllocError> {
-        let callers = Vec::with_capacity(alloc, MAX_CALLERS as usize)?;
-        let tellers = Vec::with_capacity(alloc, MAX_CALLERS as usize)?;
-        let waiters = Vec::with_capacity(alloc, MAX_CALLERS as usize)?;
-        Ok(Rooms {
-            callers,
-            tellers,
-            waiters,
-        })
-    }
 }

@@ -1,4 +1,4 @@
-//! How agents are put together, and taken apart when they come together.
+//! How agents are put together.
 ghost use Rattle.std.specs.Prelude.{◌≡◌, ℕ, ◌≤◌, List, length, All, IfOk, map};
 ghost use mathlib.Core.Option.{some};
 ghost use lib.ListN.{get_elem?};
@@ -8,7 +8,6 @@ ghost use Rattle.wake_book.specs.declared.groups.Waiter.{Waiter};
 ghost use Rattle.tag_queue.specs.Parts.{FitTogether, Fits, AreParts, HasHint};
 
 use crate::agent::Agent;
-use crate::queue::Rooms;
 use std::alloc::{AllocError, Global};
 use tag_core::Caller;
 use tag_search::Hint;
@@ -65,34 +64,4 @@ fn agent_of<R>(
         hint,
         number,
     }
-}
-
-/// The parts of the agents, in their order, in room that was kept for them.
-pub(crate) fn split<R>(
-    agents: Vec<Agent<R>>,
-    rooms: Rooms<R>,
-) -> (Vec<Caller<R>>, Vec<Teller>, Vec<Waiter>)
-    requires { length agents.items ≤ 64 }
-    ensures { AreParts agents.items result.0.items result.1.items result.2.items }
-{
-    let Rooms {
-        mut callers,
-        mut tellers,
-        mut waiters,
-    } = rooms;
-    let mut agents = agents.into_iter();
-    while let Some(agent) = agents.next() {
-        let Agent {
-            caller,
-            teller,
-            waiter,
-            hint: _,
-            number: _,
-        } = agent;
-        callers.push_reserved(caller);
-        tellers.push_reserved(teller);
-        waiters.push_reserved(waiter);
-    }
-    agents.destroy_empty();
-    (callers, tellers, waiters)
 }

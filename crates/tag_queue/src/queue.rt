@@ -1,10 +1,10 @@
 //! A queue of tags.
-ghost use Rattle.std.specs.Prelude.{◌≡◌, ◌≤◌, [], vec_capacity};
+ghost use Rattle.std.specs.Prelude.{◌≡◌, ◌≤◌};
 ghost use Rattle.wake_book.specs.Book.{batch_of, tellers_of};
 ghost use Rattle.wake_book.specs.Groups.{waiters_of};
 
-use tag_core::{Caller, Map};
-use wake_book::{Book, Groups, Teller, Waiter};
+use tag_core::Map;
+use wake_book::{Book, Groups};
 
 /// How a queue is opened.
 #[derive(Clone, Copy, Debug, PartialEq, Eq)]
@@ -23,16 +23,6 @@ pub struct Options {
     pub cap: u64,
 }
 
-/// Room for the parts of all agents, when they come together.
-#[derive(Drop)]
-pub(crate) struct Rooms<R> {
-    pub(crate) callers: Vec<Caller<R>>,
-    pub(crate) tellers: Vec<Teller>,
-    pub(crate) waiters: Vec<Waiter>,
-    ghost empty: { (callers.items ≡ []) × (tellers.items ≡ []) × (waiters.items ≡ []) },
-    ghost roomy: { (64 ≤ vec_capacity callers) × (64 ≤ vec_capacity tellers) × (64 ≤ vec_capacity waiters) },
-}
-
 /// Tags that up to 64 agents share without a lock, with a count of completions and groups of waiters.
 #[derive(Drop)]
 pub struct Queue<R> {
@@ -45,9 +35,7 @@ pub struct Queue<R> {
     pub(crate) least: u32,
     /// Agents, 1 to 64.
     pub(crate) callers: u32,
-    /// Empty until the queue ends, which then needs no memory.
-    pub(crate) rooms: Rooms<R>,
-    /// With what each slot begins. It stands in while a slot is read.
+    /// With what each slot begins.
     pub(crate) fill: R,
     ghost batch_is: { batch_of book ≡ batch },
     ghost narrow: { (1 ≤ batch) × (batch ≤ 8) × (1 ≤ least) },

@@ -21,9 +21,7 @@ impl<R: Copy> Queue<R> {
         ensures err { OnErr result (agent.new ≡ agent.old) }
     {
         self.find_held(agent, tag)?;
-        let value = self.map.slot(&mut agent.caller, tag, self.fill);
-        self.map.slot(&mut agent.caller, tag, value);
-        Ok(value)
+        Ok(self.map.read(&mut agent.caller, tag))
     }
 
     /// Writes a held tag's slot, and returns its former value.

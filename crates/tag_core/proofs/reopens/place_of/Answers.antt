@@ -1,5 +1,5 @@
 -- The loop leaves off at a caller of that number; where it ends, the number stands at no place.
-use Rattle.std.proofs.Common.{◌≡◌, ◌≢◌, ℕ, map, length, below_more, arith, refl, sym, ap, ◌∙◌}
+use Rattle.std.proofs.Common.{◌≡◌, ◌≢◌, ℕ, length, below_more, arith, sym, ap, ◌∙◌}
 use Rattle.std.proofs.lemmas.List.{length-map}
 use mathlib.Core.Option.{some, some-injective}
 use lib.ListN.{get_elem?}

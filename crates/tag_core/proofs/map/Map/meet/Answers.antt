@@ -1,13 +1,9 @@
-use Rattle.std.proofs.Common.{◌≡◌, ℕ, ◌<◌, List, [], ◌∷◌, sym, ap, ◌∙◌, subst}
-use Rattle.atomic_table.specs.Table.{Splits, Joins}
+use Rattle.std.proofs.Common.{◌≡◌, [], ◌∷◌, sym, ap, ◌∙◌, subst}
 use Rattle.tag_core.specs.declared.caller.Caller.{Caller}
-use Rattle.tag_core.specs.declared.map.Map.{Map}
-use Rattle.tag_core.specs.declared.record.Record.{Record}
 use Rattle.tag_core.specs.declared.record.View.{View}
 use Rattle.tag_core.specs.declared.shape.Shape.{Shape}
 use Rattle.tag_core.specs.Records.{tag_bit}
-use Rattle.tag_core.specs.Views.{viewing, first_view, other_views, both_views}
-use Rattle.tag_core.specs.Rule.{Shown}
+use Rattle.tag_core.specs.Views.{viewing, first_view, both_views}
 use Rattle.tag_core.specs.Callers.{record_of}
 use Rattle.tag_core.proofs.SeatMoves.{some_words, splits_off, joins_in}
 use Rattle.tag_core.proofs.Meetings.{meet_allowed}

@@ -1,6 +1,5 @@
 -- The counts with which the next map opens are those of the callers that settled, and so those of the history that showed them.
-use Rattle.std.proofs.Common.{arith, ◌≡◌, ℕ, List, length, get_or, sym, ap, ◌∙◌, subst}
-use lib.ListN.{get_elem?}
+use Rattle.std.proofs.Common.{arith, List, get_or, sym, ap, ◌∙◌, subst}
 use Rattle.tag_core.specs.declared.shape.Shape.{Shape}
 use Rattle.tag_core.specs.declared.caller.Caller.{Caller}
 use Rattle.tag_core.specs.Callers.{IsCallerOf}

@@ -1,32 +1,46 @@
-use Rattle.std.proofs.Common.{rules, ◌≡◌, ℕ, List, subst, sym}
-use Rattle.tag_core.specs.declared.closed.GatherFault.{GatherFault}
-use Rattle.tag_queue.proofs.Gathering.{callers_there, tellers_there, waiters_there, callers_own, tellers_own, waiters_own, gathers}
+-- All callers, tellers and waiters were gathered, and what the three ends tell is told of the agents.
+use Rattle.std.proofs.Common.{◌≡◌, ℕ, List, map, sym, ap, ◌∙◌, subst}
+use Rattle.step_ledger.specs.Views.{HasAll, numbers}
+use Rattle.step_ledger.specs.declared.record.Record as ledger
+use Rattle.tag_core.specs.declared.record.Record.{Record}
+use Rattle.tag_core.specs.Gathering as tags
+use Rattle.wake_book.specs.declared.steps.BookStep.{BookStep}
+use Rattle.wake_book.specs.declared.steps.GroupStep.{GroupStep}
+use Rattle.wake_book.specs.Book as book
+use Rattle.wake_book.specs.Groups as groups
+use Rattle.wake_book.specs.Booked.{IsBooked}
+use Rattle.wake_book.specs.Balance.{IsBalanced}
+use Rattle.tag_queue.specs.Agents.{agents_of}
+use Rattle.tag_queue.proofs.Gathering.{caller_numbers, teller_numbers, waiter_numbers, gathers}
 use Rattle.tag_queue.proofs.queue.Queue.close.Goals as goal
 
-pub gather-requires : goal.gather-requires
-gather-requires g c = callers_own c.args.self c.args.agents.items c.requires.own _ c.split-callers.ensures.callers_are
+pub gather_each-callers-requires-clause-some : goal.gather_each-callers-requires-clause-some
+gather_each-callers-requires-clause-some g c = c.requires.all 0 c.args.self.map.few.0
 
-pub unreachable-requires : goal.unreachable-requires
-unreachable-requires g c =
-    let ok = c.gather.ensures.succeeds.1 (callers_there c.args.agents.items _ _ c.split-callers.ensures.callers_are c.requires.all) in
-    let not = c.in_default.is in search rules
+pub finish-requires-clause-all : goal.finish-requires-clause-all
+finish-requires-clause-all g c =
+    subst (λ (z : List ℕ). HasAll z (agents_of c.args.self))
+    (caller_numbers c.args.agents.items
+    ∙ ap (λ (z : List (Record g.row.R.Denot)). tags.numbers z) (sym c.gather_each-callers.ensures.all.callers)) c.requires.all
 
-pub gather-requires-2 : goal.gather-requires-2
-gather-requires-2 g c = tellers_own c.args.self c.args.agents.items c.requires.own _ c.split-callers.ensures.tellers_are
+pub finish-requires-2-clause-all : goal.finish-requires-2-clause-all
+finish-requires-2-clause-all g c =
+    subst (λ (n : ℕ). HasAll (numbers (book.gathered c.gather_each-callers.result.tellers)) n) (sym c.args.self.as_many.0)
+    (subst (λ (z : List ℕ). HasAll z (agents_of c.args.self))
+    (teller_numbers c.args.agents.items
+    ∙ ap (λ (z : List (ledger.Record BookStep)). numbers z) (sym c.gather_each-callers.ensures.all.tellers)) c.requires.all)
 
-pub unreachable-requires-in_default-gather : goal.unreachable-requires-in_default-gather
-unreachable-requires-in_default-gather g c =
-    let ok = c.gather-2.ensures.succeeds.1 (tellers_there c.args.agents.items _ _ _ c.split-callers.ensures.tellers_are c.args.self.as_many.0 c.requires.all) in
-    let not = c.in_default-gather.is in search rules
-
-pub gather-requires-3 : goal.gather-requires-3
-gather-requires-3 g c = waiters_own c.args.self c.args.agents.items c.requires.own _ c.split-callers.ensures.waiters_are
-
-pub unreachable-requires-in_default-gather-2 : goal.unreachable-requires-in_default-gather-2
-unreachable-requires-in_default-gather-2 g c =
-    let ok = c.gather-3.ensures.succeeds.1 (waiters_there c.args.agents.items _ _ _ c.split-callers.ensures.waiters_are c.args.self.as_many.1 c.requires.all) in
-    let not = c.in_default-gather-2.is in search rules
+pub finish-requires-3-clause-all : goal.finish-requires-3-clause-all
+finish-requires-3-clause-all g c =
+    subst (λ (n : ℕ). HasAll (numbers (groups.gathered c.gather_each-callers.result.waiters)) n) (sym c.args.self.as_many.1)
+    (subst (λ (z : List ℕ). HasAll z (agents_of c.args.self))
+    (waiter_numbers c.args.agents.items
+    ∙ ap (λ (z : List (ledger.Record GroupStep)). numbers z) (sym c.gather_each-callers.ensures.all.waiters)) c.requires.all)
 
 pub returns : goal.returns
-returns g c = gathers c.args.self c.args.agents.items c.split-callers.result.0.items c.split-callers.result.1.items c.split-callers.result.2.items
-    c.in-Ok.closed c.in-Ok-gather.book c.in-Ok-gather-2.groups c.split-callers.ensures c.in-Ok.ensures.ok c.in-Ok-gather.ensures.ok c.in-Ok-gather-2.ensures.ok
+returns g c =
+    let q = c.args.self in let all = c.gather_each-callers.ensures.all in
+    gathers q c.args.agents.items c.finish.result c.finish-2.result c.finish-3.result
+    (subst (λ (z : List (Record g.row.R.Denot)). tags.IsGathered q.map.shape z c.finish.result) all.callers c.finish.ensures)
+    (subst (λ (z : List (ledger.Record BookStep)). IsBooked (book.limits_of q.book) z c.finish-2.result) all.tellers c.finish-2.ensures)
+    (subst (λ (z : List (ledger.Record GroupStep)). IsBalanced (groups.waiters_of q.groups) z c.finish-3.result) all.waiters c.finish-3.ensures)

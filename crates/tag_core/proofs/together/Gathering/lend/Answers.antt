@@ -14,13 +14,13 @@ use Rattle.tag_core.specs.Gathering.{gathered}
 use Rattle.tag_core.proofs.Countings.{count_allowed}
 use Rattle.tag_core.proofs.Passing.{joins}
 use Rattle.tag_core.proofs.Stand.{some_width}
-use Rattle.tag_core.proofs.together.Gathering.add.Goals as goal
+use Rattle.tag_core.proofs.together.Gathering.lend.Goals as goal
 
 pub join_seat-requires : goal.join_seat-requires
 join_seat-requires g c =
     let R = g.row.R.Denot in let m = c.args.map.now in let v = c.swap.new.x in let w = c.swap.new.y in
     let s = c.swap.ensures in (
-      ap (λ (z : Seat R (View R)). z.table_id) s.x_after ∙ c.start_gathering-seat.ensures.map,
+      ap (λ (z : Seat R (View R)). z.table_id) s.x_after ∙ c.start_lending-first.ensures.map,
       ap (λ (z : Seat R (View R)). z.table_id) s.y_after ∙ c.requires.map,
       ap (λ (z : Seat R (View R)). z.me.1) s.y_after ∙ c.args.self.now.empty,
       subst (λ (z : ℕ). 0 < z) (sym m.wide.0) (some_width m.shape.layout),
@@ -33,7 +33,7 @@ pub load-requires : goal.load-requires
 load-requires g c =
     let R = g.row.R.Denot in let m = c.args.map.now in let seat = c.join_seat.new.seat in (
       c.join_seat.ensures.0 ∙ ap (λ (z : Seat R (View R)). z.table_id) c.swap.ensures.x_after
-          ∙ c.start_gathering-seat.ensures.map,
+          ∙ c.start_lending-first.ensures.map,
       subst (λ (z : ℕ). 0 < z) (sym m.wide.0) (some_width m.shape.layout),
       count_allowed R m.table.shared.key m.table.shared.table_id.slots seat.id seat.me,
     )
@@ -49,8 +49,8 @@ came {R} r x y one old now joined first rest alone =
 pub invariant_of-self : goal.invariant_of-self
 invariant_of-self g c =
     let R = g.row.R.Denot in let m = c.args.map.now in let old = c.args.self.now in
-    let one = c.start_gathering-seat.result in
-    let r : Record R = record_of c.args.caller in let alone = c.start_gathering-seat.ensures.gathered in
+    let one = c.start_lending-first.result.0 in
+    let r : Record R = record_of c.args.caller in let alone = c.start_lending-first.ensures.gathered in
     let now = c.load.ensures.2.0 ∙ c.join_seat.ensures.2 in
     let records = came r c.swap.new.x c.swap.new.y one.seat old.seat c.load.new.seat.me (ap (λ z. z.0) now)
     c.swap.ensures.x_after c.swap.ensures.y_after alone in
@@ -81,6 +81,6 @@ invariant_of-self g c =
 pub returns-clause-gathered : goal.returns-clause-gathered
 returns-clause-gathered g c =
     let R = g.row.R.Denot in let now = c.load.ensures.2.0 ∙ c.join_seat.ensures.2 in
-    came (record_of c.args.caller) c.swap.new.x c.swap.new.y c.start_gathering-seat.result.seat c.args.self.now.seat
+    came (record_of c.args.caller) c.swap.new.x c.swap.new.y c.start_lending-first.result.0.seat c.args.self.now.seat
     c.load.new.seat.me (ap (λ z. z.0) now) c.swap.ensures.x_after c.swap.ensures.y_after
-    c.start_gathering-seat.ensures.gathered
+    c.start_lending-first.ensures.gathered

@@ -6,7 +6,7 @@ use Rattle.tag_core.specs.Rule.{Shown}
 use Rattle.tag_core.specs.Callers.{record_of}
 use Rattle.tag_core.proofs.Passing.{hands_first}
 use Rattle.tag_core.proofs.Stand.{some_width}
-use Rattle.tag_core.proofs.map.Map.start_gathering.Goals as goal
+use Rattle.tag_core.proofs.map.Map.start_lending.Goals as goal
 
 pub split_seat-note-requires : goal.split_seat-note-requires
 split_seat-note-requires g c = let m = c.args.self.now in let w = c.args.caller in (

@@ -1,0 +1,109 @@
+-- Agents that are as they were.
+use Rattle.std.proofs.Common.{◌≡◌, ℕ, suc, ◌+◌, ◌<◌, List, [], ◌∷◌, ◌++◌, length, arith, refl, sym, ap, ◌∙◌, subst, ⊎_elim, length-append, append_assoc}
+use Rattle.std.specs.Prelude.{◌↔◌, All}
+use Rattle.std.proofs.lemmas.List.Elements.{All-push}
+use mathlib.Core.Option.{some}
+use lib.ListN.{get_elem?}
+use Rattle.step_ledger.specs.Views.{HasAll}
+use Rattle.tag_model.specs.declared.totals.Totals.{Totals}
+use Rattle.tag_core.specs.declared.caller.Caller.{Caller}
+use Rattle.tag_core.specs.declared.record.Record.{Record}
+use Rattle.tag_core.specs.declared.shape.Shape.{Shape}
+use Rattle.tag_core.specs.Callers as core
+use Rattle.tag_core.specs.Callers.{record_of}
+use Rattle.tag_core.specs.Records.{tag_bit}
+use Rattle.tag_core.specs.Gathering.{numbers}
+use Rattle.tag_core.specs.Settling.{AreSettled}
+use Rattle.tag_core.proofs.Seats.{within, snoc_at}
+use Rattle.tag_queue.specs.declared.agent.Agent.{Agent}
+use Rattle.tag_queue.specs.Agents.{caller_of, numbers_of, records_of, SameElse, IsUnchanged, AreUnchanged}
+use Rattle.tag_queue.proofs.Gathering.{caller_numbers}
+
+module _ {R : Type 0} where
+  -- one agent more is as it was
+  pub unchanged-more : (olds news : List (Agent R)) (a b : Agent R) → AreUnchanged olds news → IsUnchanged a b
+      → AreUnchanged (olds ++ a ∷ []) (news ++ b ∷ [])
+  unchanged-more olds news a b same one = record {
+    count = length-append news (b ∷ []) ∙ ap (λ (z : ℕ). z + 1) same.count ∙ sym (length-append olds (a ∷ []));
+    each = λ n x y e f. ⊎_elim
+        (λ (old : get_elem? olds n ≡ some x). ⊎_elim
+        (λ (new : get_elem? news n ≡ some y). same.each n x y old new)
+        (λ (t : (n ≡ length news) × (b ≡ y)).
+        let low = within olds n x old in let long = same.count in let here = t.0 in absurd (omega arith))
+        (snoc_at news b y n f))
+        (λ (t : (n ≡ length olds) × (a ≡ x)). ⊎_elim
+        (λ (new : get_elem? news n ≡ some y).
+        let low = within news n y new in let long = same.count in let here = t.0 in absurd (omega arith))
+        (λ (u : (n ≡ length news) × (b ≡ y)).
+        subst (λ (z : Agent R × Agent R). IsUnchanged z.0 z.1) (λ j. (t.1 j, u.1 j)) one)
+        (snoc_at news b y n f))
+        (snoc_at olds a x n e);
+  }
+
+  -- a caller with the same record holds the same tags
+  pub holds_same : (old new : Caller R) → record_of new ≡ record_of old → (tag : ℕ) → core.Holds new tag ↔ core.Holds old tag
+  holds_same old new e tag =
+      let P : Record R → Type 0 = λ r. (tag < r.shape.layout.depth) × (tag_bit r.shape.layout r.held tag ≡ 1) in
+      (subst P e, subst P (sym e))
+
+  -- an agent whose caller is as it was, and whose other parts were not touched
+  pub agent_same : (old new : Agent R) → core.IsUnchanged (caller_of old) (caller_of new) → SameElse old new → IsUnchanged old new
+  agent_same old new one else = record {
+    caller = one;
+    holds = holds_same (caller_of old) (caller_of new) one.known;
+    same_else = else;
+  }
+
+  -- what holds of all holds once one more is pushed
+  pub all_pushed : (P : Agent R → Type 0) (news rest : List (Agent R)) (back : Agent R) → news ≡ rest ++ back ∷ [] → All P rest → P back → All P news
+  all_pushed P news rest back pushed all one = subst (All P) (sym pushed) (All-push P rest back all one)
+
+  -- the last agent came off the end, and stands there again
+  pub unchanged-back : (olds front news rest : List (Agent R)) (last back : Agent R) → olds ≡ front ++ last ∷ [] → news ≡ rest ++ back ∷ []
+      → AreUnchanged front rest → IsUnchanged last back → AreUnchanged olds news
+  unchanged-back olds front news rest last back taken pushed same one =
+      subst (λ (z : List (Agent R) × List (Agent R)). AreUnchanged z.0 z.1) (λ j. (sym taken j, sym pushed j))
+      (unchanged-more front rest last back same one)
+
+  -- agents that are as they were have the records that they had
+  pub unchanged-records : (olds news : List (Agent R)) → AreUnchanged olds news → records_of news ≡ records_of olds
+  unchanged-records [] [] same = refl
+  unchanged-records [] (b ∷ news) same = let e = same.count in absurd (omega arith)
+  unchanged-records (a ∷ olds) [] same = let e = same.count in absurd (omega arith)
+  unchanged-records (a ∷ olds) (b ∷ news) same = let e = same.count in
+      (λ j. (same.each 0 a b refl refl).caller.known j
+      ∷ unchanged-records olds news record { count = omega arith; each = λ n x y p q. same.each (suc n) x y p q } j)
+
+  records-append : (olds news : List (Agent R)) → records_of (olds ++ news) ≡ records_of olds ++ records_of news
+  records-append [] news = refl
+  records-append (a ∷ olds) news = ap (λ (z : List (Record R)). record_of (caller_of a) ∷ z) (records-append olds news)
+
+  -- the last agent's record comes before the others'
+  pub last_before : (front : List (Agent R)) (last : Agent R) (rs : List (Record R))
+      → records_of (front ++ last ∷ []) ++ rs ≡ records_of front ++ record_of (caller_of last) ∷ rs
+  last_before front last rs =
+      ap (λ (z : List (Record R)). z ++ rs) (records-append front (last ∷ []))
+      ∙ append_assoc (records_of front) (record_of (caller_of last) ∷ []) rs
+
+module _ {R : Type 0} (olds front news rest : List (Agent R)) (last back : Agent R) (rs : List (Record R))
+    (taken : olds ≡ front ++ last ∷ []) (came : rs ≡ record_of (caller_of last) ∷ []) where
+  -- these are all records
+  all_records : records_of olds ≡ records_of front ++ rs
+  all_records = ap (λ (z : List (Agent R)). records_of z) taken ∙ records-append front (last ∷ [])
+      ∙ ap (λ (z : List (Record R)). records_of front ++ z) (sym came)
+
+  -- so none is missing
+  pub all_numbers : (count : ℕ) → HasAll (numbers_of olds) count → HasAll (numbers (records_of front ++ rs)) count
+  all_numbers count all = subst (λ (z : List ℕ). HasAll z count)
+      (caller_numbers olds ∙ ap (λ (z : List (Record R)). numbers z) all_records) all
+
+  module _ (one : IsUnchanged last back) (same : AreUnchanged front rest) (pushed : news ≡ rest ++ back ∷ []) where
+    -- each is as it was
+    pub all_same : AreUnchanged olds news
+    all_same = unchanged-back olds front news rest last back taken pushed same one
+
+    -- and their records are those that one history showed
+    pub all_settled : (k : Shape) (totals : Totals) → AreSettled k (records_of front ++ rs) totals
+        → AreSettled k (records_of news) totals
+    all_settled k totals = subst (λ (z : List (Record R)). AreSettled k z totals)
+        (sym (unchanged-records olds news all_same ∙ all_records))

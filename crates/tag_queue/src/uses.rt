@@ -1,0 +1,135 @@
+//! How many tags are held, and how many are posted.
+ghost use Rattle.std.specs.Prelude.{◌≡◌, ◌↔◌, ◌++◌, All, IfOk, IfErr, IsOk, vec_len, vec_capacity};
+ghost use Rattle.step_ledger.specs.Views.{HasAll};
+ghost use Rattle.step_ledger.specs.Gather.{IsCauseOf};
+ghost use Rattle.tag_core.specs.Gathering.{IsGatheringOf, gathered, numbers};
+ghost use Rattle.tag_core.specs.Lending.{lent, AreLoansOf, BeginsWith};
+ghost use Rattle.tag_core.specs.Settling.{AreSettled};
+ghost use Rattle.tag_queue.specs.Agents.{IsAgentOf, AreUnchanged, agents_of, numbers_of, records_of, shape_of};
+ghost use Rattle.tag_queue.specs.Using.{AreInUse};
+
+use crate::agent::Agent;
+use crate::gather::QueueGatherFault;
+use crate::queue::Queue;
+use step_ledger::GatherCause;
+use tag_core::{Gathering, Loans};
+use tag_model::Totals;
+
+/// A queue with all its agents, and how many of its tags are in use.
+#[derive(Drop)]
+pub struct Usage<R> {
+    pub queue: Queue<R>,
+    /// In the order in which they were handed in.
+    pub agents: Vec<Agent<R>>,
+    /// Tags that an agent holds.
+    pub held: u64,
+    /// Tags that are posted.
+    pub posted: u64,
+}
+
+/// These agents lend their callers' records to those gathered. Once all are together one history shows them, and then each
+/// has its record back.
+fn settle_rest<R>(
+    queue: &Queue<R>,
+    mut all: Gathering<R>,
+    agents: &mut Vec<Agent<R>>,
+) -> (Loans<R>, Totals)
+    requires own { All (IsAgentOf queue.now) agents.old.items }
+    requires map { IsGatheringOf queue.now.map all }
+    requires first { BeginsWith (shape_of queue.now) (gathered all) }
+    requires every { HasAll (numbers (records_of agents.old.items ++ gathered all)) (agents_of queue.now) }
+    ensures map { AreLoansOf queue.now.map result.0 }
+    ensures lent { lent result.0 ≡ gathered all }
+    ensures own { All (IsAgentOf queue.now) agents.new.items }
+    ensures unchanged { AreUnchanged agents.old.items agents.new.items }
+    ensures room { (vec_len agents.new ≡ vec_len agents.old) × (vec_capacity agents.new ≡ vec_capacity agents.old) }
+    ensures settled { AreSettled (shape_of queue.now) (records_of agents.old.items ++ gathered all) result.1 }
+{
+    let Some(last) = agents.pop() else {
+        return all.settle(&queue.map);
+    };
+    let Agent {
+        caller,
+        teller,
+        waiter,
+        hint,
+        number,
+    } = last;
+    let lender = all.lend(&queue.map, caller);
+    let (mut loans, totals) = settle_rest(queue, all, agents);
+    let caller = loans.give_back(&queue.map, lender);
+    agents.push_reserved(Agent {
+        caller,
+        teller,
+        waiter,
+        hint,
+        number,
+    });
+    (loans, totals)
+}
+
+impl<R> Queue<R> {
+    /// All agents come together and are as they were; what they won, gave back, hold and posted.
+    pub(crate) fn settle(&self, agents: &mut Vec<Agent<R>>) -> Totals
+        requires own { All (IsAgentOf self.now) agents.old.items }
+        requires every { HasAll (numbers_of agents.old.items) (agents_of self.now) }
+        ensures own { All (IsAgentOf self.now) agents.new.items }
+        ensures unchanged { AreUnchanged agents.old.items agents.new.items }
+        ensures settled { AreSettled (shape_of self.now) (records_of agents.new.items) result }
+    {
+        let Some(last) = agents.pop() else {
+            unreachable!()
+        };
+        let Agent {
+            caller,
+            teller,
+            waiter,
+            hint,
+            number,
+        } = last;
+        let (all, lender) = self.map.start_lending(caller);
+        let (mut loans, totals) = settle_rest(self, all, agents);
+        let caller = loans.give_back(&self.map, lender);
+        agents.push_reserved(Agent {
+            caller,
+            teller,
+            waiter,
+            hint,
+            number,
+        });
+        totals
+    }
+}
+
+impl<R: Copy> Queue<R> {
+    /// How many tags are held and how many posted, where all agents are handed in, in any order. It takes no memory, and its
+    /// loads, of a spare word, stand in no list.
+    pub fn in_use(
+        queue: Queue<R>,
+        mut agents: Vec<Agent<R>>,
+    ) -> Result<Usage<R>, QueueGatherFault<R>>
+        requires { All (IsAgentOf queue) agents.items }
+        ensures succeeds { IsOk result ↔ HasAll (numbers_of agents.items) (agents_of queue) }
+        ensures queue { IfOk result (λ usage. usage.queue ≡ queue) }
+        ensures own { IfOk result (λ usage. All (IsAgentOf queue) usage.agents.items) }
+        ensures agents { IfOk result (λ usage. AreUnchanged agents.items usage.agents.items) }
+        ensures used { IfOk result (λ usage. AreInUse queue usage.agents.items usage.held usage.posted) }
+        ensures missing { IfErr result (λ fault. IsCauseOf (numbers_of agents.items) (agents_of queue) fault.cause) }
+        ensures err { IfErr result (λ fault. (fault.queue ≡ queue) × (fault.agents ≡ agents)) }
+    {
+        if let Some(number) = queue.missing(agents.as_slice()) {
+            return Err(QueueGatherFault {
+                cause: GatherCause::Missing(number),
+                queue,
+                agents,
+            });
+        }
+        let totals = queue.settle(&mut agents);
+        Ok(Usage {
+            queue,
+            agents,
+            held: totals.held,
+            posted: totals.posted,
+        })
+    }
+}
