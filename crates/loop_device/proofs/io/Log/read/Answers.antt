@@ -35,8 +35,8 @@ returns-in-None-clause-log c =
     let whole = is_whole c.cut.result.1 (λ r. r.now) c.args.text.now c.cut.result.0.now 10 c.cut.ensures.whole c.in-None.is in
     let some : 0 < length c.args.text.now = omega (arith, ap length whole, some_header c.cut.result.0.now same) in
     let lines = last_line c.args.text.now c.cut.result.0.now some c.cut.ensures.part whole in
-    log_in c.args.text.now (lines_of []) c.read_lines.result
-    (has_body c.args.text.now c.cut.result.0.now (lines_of []) lines same) c.read_lines.ensures.log
+    log_in c.args.text.now (lines_of []) c.read_lines-in-None.result
+    (has_body c.args.text.now c.cut.result.0.now (lines_of []) lines same) c.read_lines-in-None.ensures.log
 
 pub returns-in-None-clause-fault : goal.returns-in-None-clause-fault
 returns-in-None-clause-fault c =
@@ -44,5 +44,5 @@ returns-in-None-clause-fault c =
     let whole = is_whole c.cut.result.1 (λ r. r.now) c.args.text.now c.cut.result.0.now 10 c.cut.ensures.whole c.in-None.is in
     let some : 0 < length c.args.text.now = omega (arith, ap length whole, some_header c.cut.result.0.now same) in
     let lines = last_line c.args.text.now c.cut.result.0.now some c.cut.ensures.part whole in
-    fault_in c.args.text.now (lines_of []) c.read_lines.result
-    (has_body c.args.text.now c.cut.result.0.now (lines_of []) lines same) c.read_lines.ensures.fault
+    fault_in c.args.text.now (lines_of []) c.read_lines-in-None.result
+    (has_body c.args.text.now c.cut.result.0.now (lines_of []) lines same) c.read_lines-in-None.ensures.fault
