@@ -6,7 +6,6 @@ use Rattle.std.specs.declared.alloc.Global.{Global}
 use Rattle.tag_lines.specs.Lines.{number_below}
 use Rattle.loop_device.specs.declared.fault.LogCause.{LogCause}
 use Rattle.loop_device.specs.declared.fault.LogCause.TheVariants.{BadLine, BadNumber, UnknownName, TooManyNames, Memory}
-use Rattle.loop_device.specs.declared.io.IoKind.{IoKind}
 use Rattle.loop_device.specs.declared.io.IoKind.TheVariants as kinds
 use Rattle.loop_device.specs.declared.log_line.Entry.{Entry}
 use Rattle.loop_device.specs.declared.log_line.Entry.TheVariants as entries

@@ -1,5 +1,5 @@
 -- Each line goes from the rest to what is read, or is the first faulty one.
-use Rattle.std.proofs.Common.{◌≡◌, ◌<◌, ◌≤◌, [], length, ap, subst, sym, rules, arith}
+use Rattle.std.proofs.Common.{◌<◌, ◌≤◌, [], length, ap, subst, rules, arith}
 use Rattle.std.specs.Prelude.{IfErr}
 use Rattle.std.proofs.lemmas.Grind.{common_steps}
 use Rattle.tag_lines.specs.Lines.{lines_of}

@@ -1,5 +1,5 @@
 -- The words of a range are those that were cut off it.
-use Rattle.std.proofs.Common.{◌≡◌, ◌∷◌, [], ◌∙◌, sym, ap}
+use Rattle.std.proofs.Common.{◌∷◌, ◌∙◌, sym, ap}
 use Rattle.tag_lines.specs.Lines.{parts_of}
 use Rattle.tag_lines.proofs.LineFacts.{is_whole, has_rest, words_cut, words_alone}
 use Rattle.tag_lines.proofs.OrderLineFacts.{split_some}
