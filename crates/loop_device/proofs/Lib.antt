@@ -3,3 +3,5 @@ pub mod Halves
 pub mod Keeping
 pub mod Places
 pub mod Refining
+pub mod LogWords
+pub mod LogFacts

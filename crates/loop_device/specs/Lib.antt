@@ -2,4 +2,8 @@ pub mod Halving
 pub mod History
 pub mod Keys
 pub mod Lines
+pub mod LogFaults
+pub mod LogLines
+pub mod LogProgress
+pub mod Logs
 pub mod Verdict

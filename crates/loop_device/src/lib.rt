@@ -4,10 +4,13 @@
 mod fault;
 mod halving;
 mod io;
+mod io_log;
 mod judging;
+mod log_line;
+mod log_reader;
 mod store;
 
-pub use fault::PlayFault;
+pub use fault::{LogCause, LogFault, PlayFault};
 pub use io::{Done, Io, IoKind, Log};
 pub use judging::verdict;
 pub use store::Store;

@@ -1,4 +1,5 @@
 //! The rows that were worked by hand, and what happens without memory.
+mod logs;
 
 use crate::{Done, Io, IoKind, Log, PlayFault, Store, verdict};
 use std::alloc::{AllocError, Global};

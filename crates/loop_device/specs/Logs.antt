@@ -1,0 +1,65 @@
+-- What the lines of an I/O log say, and the first faulty one.
+use Rattle.std.specs.Prelude.{◌≡◌, ℕ, ◌+◌, Bool, true, false, List, [], ◌∷◌, ◌++◌, map, length, fold, filter_map, count_by, if◌then◌else◌}
+use Rattle.std.specs.Prelude.{Option, Some, None, IsSomeAnd, MatchOption, Result, Ok, codes}
+use Rattle.std.specs.Str.{bytes_eq}
+use Rattle.tag_lines.specs.Lines.{lines_of, words_of}
+use Rattle.loop_device.specs.declared.fault.LogCause.{LogCause}
+use Rattle.loop_device.specs.declared.fault.LogCause.TheVariants.{NoHeader}
+use Rattle.loop_device.specs.declared.fault.LogFault.{LogFault}
+use Rattle.loop_device.specs.declared.io.Io.{Io}
+use Rattle.loop_device.specs.declared.io.Log.{Log}
+use Rattle.loop_device.specs.declared.log_line.Entry.{Entry}
+use Rattle.loop_device.specs.declared.log_line.Entry.TheVariants.{Name, Wait, Carry}
+use Rattle.loop_device.specs.LogLines.{names_of, entry_of, names_after, Tells}
+
+-- the lines after the header
+abbrev pub body_of : List (List ℕ) → Option (List (List ℕ))
+body_of [] = None
+body_of (line ∷ lines) = if bytes_eq line (codes "fio version 2 iolog") then Some lines else None
+
+-- what each line says, where these names are known before the first, which has this number
+abbrev pub entries_of : List (List ℕ) → ℕ → List (List ℕ) → List (Result Entry LogCause)
+entries_of names number [] = []
+entries_of names number (line ∷ lines) =
+    entry_of names number (words_of line) ∷ entries_of (names_after names (words_of line)) (number + 1) lines
+
+-- the names that are known after the lines
+abbrev pub names_in : List (List ℕ) → List (List ℕ) → List (List ℕ)
+names_in names lines = fold (λ known line. names_after known (words_of line)) names lines
+
+-- the I/O line that an entry is
+abbrev pub io_in : Entry → Option Io
+io_in Name = None
+io_in Wait = None
+io_in (Carry io) = Some io
+
+-- the entry asks to wait
+abbrev pub is_wait : Entry → Bool
+is_wait Name = false
+is_wait Wait = true
+is_wait (Carry io) = false
+
+-- each line says something, and the log has the names, the I/O lines and the waits of them all
+pub record Says (lines : List (List ℕ)) (log : Log) : Type 0 where
+  pub entries : List Entry
+  pub said : entries_of [] 2 lines ≡ map Ok entries
+  pub names : names_of log.names.items ≡ names_in [] lines
+  pub ios : log.ios.items ≡ filter_map io_in entries
+  pub waits : log.waits ≡ count_by is_wait entries
+
+-- the lines before this one say something; it is faulty, and this is the cause, or there was no memory for it
+pub record IsFaultOf (lines : List (List ℕ)) (fault : LogFault) : Type 0 where
+  pub before : List Entry
+  pub said : Result Entry LogCause
+  pub rest : List (Result Entry LogCause)
+  pub parts : entries_of [] 2 lines ≡ map Ok before ++ said ∷ rest
+  pub number : fault.line ≡ length before + 2
+  pub cause : Tells said fault.cause
+
+-- the log that a text spells
+abbrev pub IsLogOf : List ℕ → Log → Type 0
+IsLogOf text log = IsSomeAnd (body_of (lines_of text)) (λ lines. Says lines log)
+
+-- why a text spells none: it has no header, or a line after it is faulty
+abbrev pub IsLogFault : List ℕ → LogFault → Type 0
+IsLogFault text fault = MatchOption (body_of (lines_of text)) (fault ≡ record { line = 1; cause = NoHeader }) (λ lines. IsFaultOf lines fault)

@@ -1,0 +1,236 @@
+//! What a line of an I/O log says.
+ghost use Rattle.std.specs.Prelude.{◌≡◌, ◌≢◌, ◌≤◌, ◌<◌, ◌^◌, ◌∷◌, ◌++◌, [], length, IfOk, IfErr, OnOk, Ok, Err};
+ghost use Rattle.loop_device.specs.declared.fault.LogCause.TheVariants.{Memory, TooManyNames};
+ghost use Rattle.tag_lines.specs.Lines.{parts_of, words_of, number_below};
+ghost use Rattle.loop_device.specs.LogLines.{names_of, place_of, name_action, range_action, name_entry, range_entry};
+ghost use Rattle.loop_device.specs.LogLines.{range_words, with_name, entry_of, names_after, IsOfLine, Tells};
+
+use crate::fault::LogCause;
+use crate::io::{Io, IoKind};
+use std::alloc::Global;
+use tag_lines::{BLANK, cut, has_gap, number};
+
+/// The most names of a log.
+pub(crate) const MAX_NAMES: usize = 16;
+
+/// The greatest offset and length: 2^63 - 1.
+const MAX_EXTENT: u64 = 9_223_372_036_854_775_807;
+
+/// What a line says.
+#[derive(Clone, Copy, Debug, PartialEq, Eq)]
+pub(crate) enum Entry {
+    /// Its name is added, opened or closed.
+    Name,
+    /// It asks to wait.
+    Wait,
+    /// It is an I/O line.
+    Carry(Io),
+}
+
+/// The actions on a name alone.
+#[derive(Clone, Copy, Debug, PartialEq, Eq)]
+pub(crate) enum NameAction {
+    /// The name is known from here on.
+    Add,
+    /// Of a known name; nothing is done.
+    Open,
+    /// Of a known name; nothing is done.
+    Close,
+}
+
+impl NameAction {
+    /// The action that goes by this name.
+    fn named(action: &[u8]) -> Option<NameAction>
+        ensures { result ≡ name_action action.now }
+    {
+        if action == b"add".as_slice() {
+            Some(NameAction::Add)
+        } else if action == b"open".as_slice() {
+            Some(NameAction::Open)
+        } else if action == b"close".as_slice() {
+            Some(NameAction::Close)
+        } else {
+            None
+        }
+    }
+}
+
+/// The actions on a range of bytes.
+#[derive(Clone, Copy, Debug, PartialEq, Eq)]
+pub(crate) enum RangeAction {
+    /// An I/O line of this kind.
+    Carry(IoKind),
+    /// A wait, which is counted alone.
+    Wait,
+}
+
+impl RangeAction {
+    /// The action that goes by this name.
+    fn named(action: &[u8]) -> Option<RangeAction>
+        ensures { result ≡ range_action action.now }
+    {
+        if action == b"read".as_slice() {
+            Some(RangeAction::Carry(IoKind::Read))
+        } else if action == b"write".as_slice() {
+            Some(RangeAction::Carry(IoKind::Write))
+        } else if action == b"trim".as_slice() {
+            Some(RangeAction::Carry(IoKind::Trim))
+        } else if action == b"sync".as_slice() {
+            Some(RangeAction::Carry(IoKind::Sync))
+        } else if action == b"datasync".as_slice() {
+            Some(RangeAction::Carry(IoKind::Datasync))
+        } else if action == b"wait".as_slice() {
+            Some(RangeAction::Wait)
+        } else {
+            None
+        }
+    }
+}
+
+/// What the line of this number says. The name of an `add` is among the names afterwards.
+pub(crate) fn read_line(
+    alloc: Global,
+    names: &mut Vec<Vec<u8>>,
+    number: u64,
+    line: &[u8],
+) -> Result<Entry, LogCause>
+    requires few { length names.old.items ≤ MAX_NAMES }
+    ensures few { length names.new.items ≤ MAX_NAMES }
+    ensures ok { IfOk result (λ entry. entry_of (names_of names.old.items) number (words_of line.now) ≡ Ok entry) }
+    ensures names { OnOk result (names_of names.new.items ≡ names_after (names_of names.old.items) (words_of line.now)) }
+    ensures line { IfOk result (IsOfLine number) }
+    ensures err { IfErr result (Tells (entry_of (names_of names.old.items) number (words_of line.now))) }
+{
+    if has_gap(line) {
+        return Err(LogCause::BadLine);
+    }
+    let (name, rest) = cut(line, BLANK);
+    let rest = match rest {
+        Some(rest) => rest,
+        None => return Err(LogCause::BadLine),
+    };
+    let (action, rest) = cut(rest, BLANK);
+    match rest {
+        Some(range) => range_line(names, number, name, action, range),
+        None => name_line(alloc, names, number, name, action),
+    }
+}
+
+// A name and an action on it.
+fn name_line(
+    alloc: Global,
+    names: &mut Vec<Vec<u8>>,
+    number: u64,
+    name: &[u8],
+    action: &[u8],
+) -> Result<Entry, LogCause>
+    requires few { length names.old.items ≤ MAX_NAMES }
+    ensures few { length names.new.items ≤ MAX_NAMES }
+    ensures ok { IfOk result (λ entry. entry_of (names_of names.old.items) number (name.now ∷ action.now ∷ []) ≡ Ok entry) }
+    ensures names { OnOk result (names_of names.new.items ≡ names_after (names_of names.old.items) (name.now ∷ action.now ∷ [])) }
+    ensures line { IfOk result (IsOfLine number) }
+    ensures err { IfErr result (Tells (entry_of (names_of names.old.items) number (name.now ∷ action.now ∷ []))) }
+{
+    let action = NameAction::named(action).ok_or(LogCause::BadLine)?;
+    match (action, place_of(names, name)) {
+        (_, Some(_)) => {}
+        (NameAction::Add, None) => add_name(alloc, names, name)?,
+        (_, None) => return Err(LogCause::UnknownName),
+    }
+    Ok(Entry::Name)
+}
+
+// Adds a new name, if there is room for it.
+fn add_name(alloc: Global, names: &mut Vec<Vec<u8>>, name: &[u8]) -> Result<(), LogCause>
+    requires few { length names.old.items ≤ MAX_NAMES }
+    ensures few { length names.new.items ≤ MAX_NAMES }
+    ensures room { OnOk result (length names.old.items < MAX_NAMES) }
+    ensures ok { OnOk result (names_of names.new.items ≡ names_of names.old.items ++ name.now ∷ []) }
+    ensures err { IfErr result (λ cause. cause ≢ Memory → (cause ≡ TooManyNames) × (MAX_NAMES ≤ length names.old.items)) }
+{
+    if names.len() >= MAX_NAMES {
+        return Err(LogCause::TooManyNames);
+    }
+    let Ok(name) = name.to_vec(alloc) else {
+        return Err(LogCause::Memory);
+    };
+    match names.push(name) {
+        Ok(()) => Ok(()),
+        Err(_) => Err(LogCause::Memory),
+    }
+}
+
+// The place of a name among those that are known.
+fn place_of(names: &[Vec<u8>], name: &[u8]) -> Option<u32>
+    requires { length names.now ≤ MAX_NAMES }
+    ensures { result ≡ place_of (names_of names.now) name.now }
+{
+    let place = names.iter().position(|known| known.as_slice() == name)?;
+    Some(place as u32)
+}
+
+// A name, an action, and the words of its range.
+fn range_line(
+    names: &[Vec<u8>],
+    line: u64,
+    name: &[u8],
+    action: &[u8],
+    range: &[u8],
+) -> Result<Entry, LogCause>
+    requires { length names.now ≤ MAX_NAMES }
+    ensures said { result ≡ range_words line (range_action action.now) (parts_of range.now) (place_of (names_of names.now) name.now) }
+    ensures line { IfOk result (IsOfLine line) }
+{
+    let (offset, rest) = cut(range, BLANK);
+    let rest = match rest {
+        Some(rest) => rest,
+        None => return Err(LogCause::BadLine),
+    };
+    let (size, more) = cut(rest, BLANK);
+    match more {
+        Some(_) => Err(LogCause::BadLine),
+        None => range_entry(names, line, name, action, offset, size),
+    }
+}
+
+fn range_entry(
+    names: &[Vec<u8>],
+    line: u64,
+    name: &[u8],
+    action: &[u8],
+    offset: &[u8],
+    size: &[u8],
+) -> Result<Entry, LogCause>
+    requires { length names.now ≤ MAX_NAMES }
+    ensures line { IfOk result (IsOfLine line) }
+    ensures said { result ≡ range_entry line (range_action action.now) (number_below (2 ^ 63) offset.now)
+        (number_below (2 ^ 63) size.now) (place_of (names_of names.now) name.now) }
+{
+    let action = RangeAction::named(action).ok_or(LogCause::BadLine)?;
+    let offset = extent(offset).ok_or(LogCause::BadNumber)?;
+    let length = extent(size).ok_or(LogCause::BadNumber)?;
+    let kind = match action {
+        RangeAction::Carry(kind) => kind,
+        RangeAction::Wait => return Ok(Entry::Wait),
+    };
+    let name = place_of(names, name).ok_or(LogCause::UnknownName)?;
+    Ok(Entry::Carry(Io {
+        line,
+        kind,
+        name,
+        offset,
+        length,
+    }))
+}
+
+// The offset or the length that a word spells.
+fn extent(word: &[u8]) -> Option<u64>
+    ensures { result ≡ number_below (2 ^ 63) word.now }
+{
+    let value = number(word)?;
+    if value <= MAX_EXTENT {
+        Some(value)
+    } else {
+        None
+    }
+}

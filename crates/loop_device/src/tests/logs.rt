@@ -1,0 +1,145 @@
+//! I/O logs that were read by hand.
+
+use crate::{Io, IoKind, Log, LogCause, LogFault};
+use std::alloc::{AllocError, Global};
+use std::test::Fail;
+
+const SMALL: &[u8] =
+    b"fio version 2 iolog\n/dev/loop0 add\n/dev/loop0 open\n/dev/loop0 write 0 4096\n\
+/dev/loop0 write 4096 4096\n/dev/loop0 read 0 8192\n/dev/loop0 sync 0 0\n/dev/loop0 close";
+
+// The lines behind a header.
+fn behind_header(alloc: Global, lines: &[u8]) -> Result<Vec<u8>, AllocError> {
+    let mut text = b"fio version 2 iolog\n".to_vec(alloc)?;
+    text.extend_from_slice(lines)?;
+    Ok(text)
+}
+
+fn fault_of(alloc: Global, text: &[u8]) -> Option<LogFault> {
+    match Log::read(alloc, text) {
+        Ok(_) => None,
+        Err(fault) => Some(fault),
+    }
+}
+
+#[test]
+fn a_small_log(rt: HostRuntime) -> Result<(), Fail> {
+    let Ok(log) = Log::read(rt.alloc(), SMALL) else {
+        return Err(Fail::new("a log was not read"));
+    };
+    assert_eq!(rt; log.names.len(), 1);
+    assert_eq!(rt; log.names[0].as_slice(), b"/dev/loop0".as_slice());
+    assert_eq!(rt; log.waits, 0);
+    assert_eq!(rt; log.ios.len(), 4);
+    assert_eq!(rt;
+        log.ios[2],
+        Io {
+            line: 6,
+            kind: IoKind::Read,
+            name: 0,
+            offset: 0,
+            length: 8_192
+        }
+    );
+    assert_eq!(rt; log.ios[3].line, 7);
+    Ok(())
+}
+
+#[test]
+fn names_and_waits(rt: HostRuntime) -> Result<(), Fail> {
+    let text = behind_header(
+        rt.alloc(),
+        b"a add\nb add\na add\nc wait 0 9\nb trim 512 9223372036854775807\n",
+    )?;
+    let Ok(log) = Log::read(rt.alloc(), &text) else {
+        return Err(Fail::new("a log was not read"));
+    };
+    assert_eq!(rt; log.names.len(), 2);
+    assert_eq!(rt; log.waits, 1);
+    assert_eq!(rt;
+        log.ios[0],
+        Io {
+            line: 6,
+            kind: IoKind::Trim,
+            name: 1,
+            offset: 512,
+            length: 9_223_372_036_854_775_807
+        }
+    );
+    Ok(())
+}
+
+#[test]
+fn faulty_logs(rt: HostRuntime) -> Result<(), Fail> {
+    for (lines, line, cause) in [
+        (b"a read 0 512".as_slice(), 2, LogCause::UnknownName),
+        (b"a add\na read 0".as_slice(), 3, LogCause::BadLine),
+        (b"a add\na read 0 -1".as_slice(), 3, LogCause::BadNumber),
+        (
+            b"a add\na read 0 9223372036854775808".as_slice(),
+            3,
+            LogCause::BadNumber,
+        ),
+        (b"a open\n".as_slice(), 2, LogCause::UnknownName),
+        (b"a add\n\na add".as_slice(), 3, LogCause::BadLine),
+        (b"a add \n".as_slice(), 2, LogCause::BadLine),
+        (b"a shut\n".as_slice(), 2, LogCause::BadLine),
+        (b"a add 0 0\n".as_slice(), 2, LogCause::BadLine),
+        (b"a read x 0\n".as_slice(), 2, LogCause::BadNumber),
+    ] {
+        let text = behind_header(rt.alloc(), lines)?;
+        assert_eq!(rt; fault_of(rt.alloc(), &text), Some(LogFault { line, cause }));
+    }
+    Ok(())
+}
+
+#[test]
+fn headers(rt: HostRuntime) -> Result<(), Fail> {
+    let missing = Some(LogFault {
+        line: 1,
+        cause: LogCause::NoHeader,
+    });
+    for text in [
+        b"".as_slice(),
+        b"\n".as_slice(),
+        b"fio version 3 iolog\n".as_slice(),
+        b" fio version 2 iolog".as_slice(),
+    ] {
+        assert_eq!(rt; fault_of(rt.alloc(), text), missing);
+    }
+    assert_eq!(rt; fault_of(rt.alloc(), b"fio version 2 iolog"), None);
+    assert_eq!(rt; fault_of(rt.alloc(), b"fio version 2 iolog\n"), None);
+    Ok(())
+}
+
+#[test]
+fn seventeen_names(rt: HostRuntime) -> Result<(), Fail> {
+    let mut text = behind_header(rt.alloc(), b"")?;
+    for name in b'a'..b'q' {
+        text.push(name)?;
+        text.extend_from_slice(b" add\n")?;
+    }
+    text.extend_from_slice(b"a add\n")?;
+    assert_eq!(rt; fault_of(rt.alloc(), &text), None);
+    text.extend_from_slice(b"q add\n")?;
+    let fault = LogFault {
+        line: 19,
+        cause: LogCause::TooManyNames,
+    };
+    assert_eq!(rt; fault_of(rt.alloc(), &text), Some(fault));
+    Ok(())
+}
+
+#[test]
+fn each_prefix_is_read_or_is_faulty_in_its_last_line(rt: HostRuntime) -> Result<(), Fail> {
+    let mut whole = 0;
+    for end in 0..=SMALL.len() {
+        let lines = SMALL[..end].iter().filter(|byte| **byte == b'\n').count() as u64;
+        match fault_of(rt.alloc(), &SMALL[..end]) {
+            Some(fault) => assert_eq!(rt; fault.line, lines + 1),
+            None => whole += 1,
+        }
+    }
+    assert_eq!(rt; whole, 24);
+    Ok(())
+}
