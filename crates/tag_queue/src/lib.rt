@@ -14,6 +14,8 @@ mod opens;
 mod parts;
 mod queue;
 mod slots;
+#[cfg(test)]
+mod tests;
 mod waits;
 
 pub use agent::Agent;
