@@ -1,6 +1,7 @@
 //! What no clause says: worked examples, want of memory, and threads that wait and wake.
 mod agents;
 mod clears;
+mod example;
 mod gathering;
 mod gets;
 mod long_run;
