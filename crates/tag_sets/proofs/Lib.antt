@@ -1,0 +1,6 @@
+pub mod Numbering
+pub mod Lifting
+pub mod Passing
+pub mod Getting
+pub mod Uniting
+pub mod Opening

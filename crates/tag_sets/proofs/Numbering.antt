@@ -1,0 +1,59 @@
+-- A tag's set and its number there, and the tag that has them.
+use Rattle.std.proofs.Common.{◌≡◌, ℕ, ◌+◌, ◌<◌, ◌≤◌, ◌⊎◌, inl, inr, Bool, true, false, nat_lt, if◌then◌else◌, arith, refl, sym, ap, ◌∙◌, ⊎_elim}
+use Rattle.std.proofs.lemmas.Bool.{ltb-true, ltb-false, lt-ltb, le-ltb}
+use Rattle.tag_sets.specs.declared.kind.Kind.{Kind}
+use Rattle.tag_sets.specs.declared.kind.Kind.TheVariants.{Ordinary, Reserved}
+use Rattle.tag_sets.specs.Sets.{kind_of, number_in_set, other_kind}
+
+-- a reserved tag keeps its number
+pub record IsReserved (reserved tag : ℕ) : Type 0 where
+  pub below : tag < reserved
+  pub kind : kind_of reserved tag ≡ Reserved
+  pub number : number_in_set reserved tag ≡ tag
+
+-- an ordinary tag is counted from the reserved ones on
+pub record IsOrdinary (reserved tag : ℕ) : Type 0 where
+  pub above : reserved ≤ tag
+  pub kind : kind_of reserved tag ≡ Ordinary
+  pub number : number_in_set reserved tag + reserved ≡ tag
+
+pub reserved_below : (reserved tag : ℕ) → tag < reserved → IsReserved reserved tag
+reserved_below reserved tag below = let t = lt-ltb tag reserved below in record {
+  below = below;
+  kind = ap (λ (b : Bool). if b then Reserved else Ordinary) t;
+  number = grind (arith, t);
+}
+
+pub ordinary_above : (reserved tag : ℕ) → reserved ≤ tag → IsOrdinary reserved tag
+ordinary_above reserved tag above = let f = le-ltb tag reserved above in record {
+  above = above;
+  kind = ap (λ (b : Bool). if b then Reserved else Ordinary) f;
+  number = grind (arith, f);
+}
+
+-- each tag is of one kind
+pub stands : (reserved tag : ℕ) → IsReserved reserved tag ⊎ IsOrdinary reserved tag
+stands reserved tag = elim (nat_lt tag reserved) as (λ (b : Bool). nat_lt tag reserved ≡ b → IsReserved reserved tag ⊎ IsOrdinary reserved tag) [
+  | true ↦ (λ t. inl (reserved_below reserved tag (ltb-true tag reserved t)))
+  | false ↦ (λ f. inr (ordinary_above reserved tag (ltb-false tag reserved f)))
+] refl
+
+pub reserved_at : (reserved tag : ℕ) → kind_of reserved tag ≡ Reserved → IsReserved reserved tag
+reserved_at reserved tag e = ⊎_elim (λ (r : IsReserved reserved tag). r) (λ (o : IsOrdinary reserved tag). let k = o.kind in absurd (cc)) (stands reserved tag)
+
+pub ordinary_at : (reserved tag : ℕ) → kind_of reserved tag ≡ Ordinary → IsOrdinary reserved tag
+ordinary_at reserved tag e = ⊎_elim (λ (r : IsReserved reserved tag). let k = r.kind in absurd (cc)) (λ (o : IsOrdinary reserved tag). o) (stands reserved tag)
+
+-- a set and a number there are those of one tag
+pub one_tag : (reserved a b : ℕ) → kind_of reserved a ≡ kind_of reserved b → number_in_set reserved a ≡ number_in_set reserved b → a ≡ b
+one_tag reserved a b kinds numbers = ⊎_elim
+    (λ (r : IsReserved reserved b). let s = reserved_at reserved a (kinds ∙ r.kind) in sym s.number ∙ numbers ∙ r.number)
+    (λ (o : IsOrdinary reserved b). let s = ordinary_at reserved a (kinds ∙ o.kind) in let x = s.number in let y = o.number in omega (arith, numbers))
+    (stands reserved b)
+
+-- a set is this one or the other
+pub this_or_other : (j k : Kind) → (j ≡ k) ⊎ (j ≡ other_kind k)
+this_or_other Ordinary Ordinary = inl refl
+this_or_other Ordinary Reserved = inr refl
+this_or_other Reserved Ordinary = inr refl
+this_or_other Reserved Reserved = inl refl

@@ -1,0 +1,41 @@
+-- A hand whose agents are both as they were.
+use Rattle.std.proofs.Common.{refl, ◌∙◌}
+use Rattle.tag_queue.specs.declared.agent.Agent.{Agent}
+use Rattle.tag_queue.specs.Agents as queue
+use Rattle.tag_queue.specs.Holding as queue_holding
+use Rattle.tag_sets.specs.declared.hand.Hand.{Hand}
+use Rattle.tag_sets.specs.declared.kind.Kind.{Kind}
+use Rattle.tag_sets.specs.declared.kind.Kind.TheVariants.{Ordinary, Reserved}
+use Rattle.tag_sets.specs.Hands.{agent_of}
+use Rattle.tag_sets.specs.Holding.{HoldsSame}
+use Rattle.tag_sets.specs.Meeting.{IsUnchanged}
+use Rattle.tag_sets.proofs.Lifting.{same}
+
+module _ {R : Type 0} where
+  agent_same : (old new : Agent R) → queue.IsUnchanged old new → queue_holding.HoldsSame old new
+  agent_same old new u = record {
+    kept = λ tag h. ((u.holds tag).1 h, u.caller.slots tag);
+    none_else = λ tag h. (u.holds tag).0 h;
+  }
+
+  -- what is kept twice is kept
+  twice_same : (a b c : Hand R) → HoldsSame a b → HoldsSame b c → HoldsSame a c
+  twice_same a b c s t = record {
+    kept = λ tag h. let x = s.kept tag h in let y = t.kept tag x.0 in (y.0, y.1 ∙ x.1);
+    none_else = λ tag h. s.none_else tag (t.none_else tag h);
+  }
+
+  each_set : (hand : Hand R) (reserved ordinary : Agent R) → queue.IsUnchanged hand.reserved reserved → queue.IsUnchanged hand.ordinary ordinary
+      → (kind : Kind) → queue.IsUnchanged (agent_of hand kind) (agent_of (record hand { reserved = reserved; ordinary = ordinary }) kind)
+  each_set hand reserved ordinary r o Ordinary = o
+  each_set hand reserved ordinary r o Reserved = r
+
+  pub unchanged : (hand : Hand R) (reserved ordinary : Agent R) → queue.IsUnchanged hand.reserved reserved → queue.IsUnchanged hand.ordinary ordinary
+      → IsUnchanged hand (record hand { reserved = reserved; ordinary = ordinary })
+  unchanged hand reserved ordinary r o =
+      let mid = record hand { reserved = reserved } in let new = record hand { reserved = reserved; ordinary = ordinary } in record {
+        same = twice_same hand mid new (same hand mid Reserved refl refl (agent_same hand.reserved reserved r))
+            (same mid new Ordinary refl refl (agent_same hand.ordinary ordinary o));
+        sets = each_set hand reserved ordinary r o;
+        split = refl;
+      }

@@ -1,0 +1,16 @@
+-- The hands so far have the agents so far, in their order.
+use Rattle.std.proofs.Common.{◌≡◌, ◌++◌, All, map}
+use Rattle.std.specs.Vec.Iter.{into_iter_items, into_iter_len}
+use Rattle.tag_sets.specs.Opening.{reserved_part, ordinary_part, IsSplitAt}
+use Rattle.tag_sets.proofs.opens.join.Given as goal
+
+abbrev pub invariant-loop-reserved : goal.invariant-loop-reserved
+invariant-loop-reserved g l = record {
+  reserved : map reserved_part l.hands.items ++ into_iter_items l.agents ≡ l.fn.reserved.items;
+  ordinary : map ordinary_part l.hands.items ++ into_iter_items l.others ≡ l.fn.ordinary.items;
+  left : into_iter_len l.agents ≡ into_iter_len l.others;
+  split : All (IsSplitAt l.reserved_count) l.hands.items;
+}
+
+abbrev pub decreases-loop-reserved : goal.decreases-loop-reserved
+decreases-loop-reserved g l = into_iter_len l.agents

@@ -1,0 +1,9 @@
+pub mod Sets
+pub mod Hands
+pub mod Holding
+pub mod Slots
+pub mod Clears
+pub mod Gets
+pub mod Waits
+pub mod Meeting
+pub mod Opening

@@ -1,0 +1,50 @@
+-- Two new sets of tags, and their hands.
+use Rattle.std.specs.Prelude.{◌≡◌, ℕ, ◌<◌, ◌≤◌, List, All, map, length, IsSomeAnd, None}
+use mathlib.Core.Option.{some}
+use lib.ListN.{get_elem?}
+use Rattle.tag_layout.specs.declared.layout.TheConstants.{MAX_DEPTH, MAX_SHIFT}
+use Rattle.tag_queue.specs.declared.agent.Agent.{Agent}
+use Rattle.tag_queue.specs.declared.queue.Options.{Options}
+use Rattle.tag_queue.specs.Opening as queue
+use Rattle.tag_sets.specs.declared.hand.Hand.{Hand}
+use Rattle.tag_sets.specs.declared.tags.Tags.{Tags}
+use Rattle.tag_sets.specs.Hands.{IsHandOf, Holds, number_of, split_of}
+
+-- the totals are within their limits
+abbrev pub HasRange : ℕ → ℕ → Type 0
+HasRange total reserved = (total ≤ MAX_DEPTH) × (reserved ≤ total)
+
+-- and there are layouts for the options
+abbrev pub HasLayouts : ℕ → ℕ → Options → Type 0
+HasLayouts total reserved options = HasRange total reserved × ¬ (IsSomeAnd options.shift (λ s. MAX_SHIFT < s))
+
+-- the hand as an agent of the reserved set, and of the ordinary one
+abbrev pub reserved_part : {R : Type 0} → Hand R → Agent R
+reserved_part hand = hand.reserved
+
+abbrev pub ordinary_part : {R : Type 0} → Hand R → Agent R
+ordinary_part hand = hand.ordinary
+
+-- so many tags of the hand's range are reserved
+abbrev pub IsSplitAt : {R : Type 0} → ℕ → Hand R → Type 0
+IsSplitAt reserved hand = split_of hand ≡ reserved
+
+-- these are the agents of the hands, in their order
+pub record AreParts {R : Type 0} (count : ℕ) (reserved ordinary : List (Agent R)) (hands : List (Hand R)) : Type 0 where
+  pub reserved_are : map reserved_part hands ≡ reserved
+  pub ordinary_are : map ordinary_part hands ≡ ordinary
+  pub split : All (IsSplitAt count) hands
+
+-- the hand holds no tag
+abbrev pub HoldsNone : {R : Type 0} → Hand R → Type 0
+HoldsNone hand = (tag : ℕ) → ¬ (Holds hand tag)
+
+-- both sets are as the options say, the least shallow depth being that of the ordinary one; the hands stand in the order of
+-- their numbers and have done nothing
+pub record IsOpen {R : Type 0} (options : Options) (tags : Tags R) (hands : List (Hand R)) : Type 0 where
+  pub ordinary : queue.IsOpen options tags.ordinary (map ordinary_part hands)
+  pub reserved : queue.IsOpen (record options { min_shallow = None }) tags.reserved (map reserved_part hands)
+  pub own : All (IsHandOf tags) hands
+  pub none_held : All HoldsNone hands
+  pub count : length hands ≡ options.callers
+  pub ordered : (n : ℕ) (hand : Hand R) → get_elem? hands n ≡ some hand → number_of hand ≡ n

@@ -1,0 +1,35 @@
+-- How hands wait.
+use Rattle.std.specs.Prelude.{◌≡◌, ℕ, Some}
+use Rattle.wake_book.specs.declared.waiting.Left.{Left}
+use Rattle.wake_book.specs.Groups.{LeavesAs, StandsAsBefore}
+use Rattle.tag_queue.specs.declared.agent.Agent.{Agent}
+use Rattle.tag_queue.specs.Agents.{caller_of, hint_of, waiter_of}
+use Rattle.tag_queue.specs.Waits as queue
+use Rattle.tag_sets.specs.declared.hand.Hand.{Hand}
+use Rattle.tag_sets.specs.declared.kind.Kind.TheVariants.{Ordinary}
+use Rattle.tag_sets.specs.Hands.{standing_of, Changes}
+use Rattle.tag_sets.specs.Holding.{HoldsSame}
+
+-- the hand raised the active count and stands in the group of its wait index, which went on
+pub record Enters {R : Type 0} (group : ℕ) (old new : Hand R) : Type 0 where
+  pub stands : standing_of new ≡ Some group
+  pub same : HoldsSame old new
+  pub set : Changes Ordinary (queue.Enters group) old new
+
+-- the agent left its group as the answer says, and keeps its tags, hint and counts
+abbrev pub AgentLeaves : {R : Type 0} → Left → Agent R → Agent R → Type 0
+AgentLeaves left old new = LeavesAs (waiter_of old) (waiter_of new) left × queue.SameTags old new
+
+-- the hand left its group as the answer says
+pub record Leaves {R : Type 0} (left : Left) (old new : Hand R) : Type 0 where
+  pub same : HoldsSame old new
+  pub set : Changes Ordinary (AgentLeaves left) old new
+
+-- the agent keeps its tags and its hint, and stands where it stood
+abbrev pub AgentStays : {R : Type 0} → Agent R → Agent R → Type 0
+AgentStays old new = (caller_of new ≡ caller_of old) × (hint_of new ≡ hint_of old) × StandsAsBefore (waiter_of old) (waiter_of new)
+
+-- the hand keeps its tags and its hints, and stands where it stood
+pub record Stays {R : Type 0} (old new : Hand R) : Type 0 where
+  pub same : HoldsSame old new
+  pub set : Changes Ordinary AgentStays old new

@@ -1,0 +1,89 @@
+//! How tags are taken.
+ghost use Rattle.std.specs.Prelude.{◌≡◌, ◌+◌, ◌<◌, ◌≤◌, ◌↔◌, false, IfOk, IfErr, OnErr, IsOk, IsTrue, None};
+ghost use Rattle.tag_sets.specs.Hands.{reserved_of, least_of, IsHandOf, HasRoom, hint_of, step_count};
+ghost use Rattle.tag_sets.specs.Gets.{Gets, GetsReserved, GetsShallow, GetsBatch, MiscountsBatch, most_steps, most_reserved_steps};
+ghost use Rattle.tag_sets.specs.declared.kind.Kind.TheVariants.{Ordinary, Reserved};
+
+use crate::hand::Hand;
+use crate::tags::Tags;
+use tag_queue::TagFault;
+
+impl<R: Copy> Tags<R> {
+    /// Takes a free ordinary tag for this hand alone, until it is cleared or posted. `None` says that each place looked at
+    /// was found taken at some moment of the call, not that all were taken at one moment.
+    pub fn get(&self, hand: &mut Hand<R>) -> Result<Option<u32>, TagFault>
+        requires hand { IsHandOf self.now hand.old }
+        ensures hand { IsHandOf self.now hand.new }
+        ensures room { IsOk result ↔ HasRoom hand.old Ordinary 1 }
+        ensures gets { IfOk result (λ answer. Gets self.now answer hand.old hand.new) }
+        ensures bound { step_count hand.new ≤ most_steps self.now + step_count hand.old }
+        ensures err { IfErr result (λ fault. (fault ≡ TagFault.Spent) × (hand.new ≡ hand.old)) }
+    {
+        let Some(number) = self.ordinary.get(&mut hand.ordinary)? else {
+            return Ok(None);
+        };
+        Ok(Some(self.reserved_count + number))
+    }
+
+    /// As `get`, of a reserved tag.
+    pub fn get_reserved(&self, hand: &mut Hand<R>) -> Result<Option<u32>, TagFault>
+        requires hand { IsHandOf self.now hand.old }
+        ensures hand { IsHandOf self.now hand.new }
+
+        // Whether there are any is looked at first.
+        ensures no_reserved { (result ≡ Err TagFault.NoReserved) ↔ (reserved_of self.now ≡ 0) }
+        ensures spent { (result ≡ Err TagFault.Spent) ↔ ((1 ≤ reserved_of self.now) × ¬ (HasRoom hand.old Reserved 1)) }
+        ensures succeeds { IsOk result ↔ ((1 ≤ reserved_of self.now) × HasRoom hand.old Reserved 1) }
+        ensures gets { IfOk result (λ answer. GetsReserved self.now answer hand.old hand.new) }
+        ensures bound { step_count hand.new ≤ most_reserved_steps self.now + step_count hand.old }
+        ensures err { OnErr result (hand.new ≡ hand.old) }
+    {
+        if self.reserved_count == 0 {
+            return Err(TagFault::NoReserved);
+        }
+        self.reserved.get(&mut hand.reserved)
+    }
+
+    /// As `get`, over `depth` of the ordinary tags alone, of which each word has its share. Some words may have none.
+    pub fn get_shallow(&self, hand: &mut Hand<R>, depth: u32) -> Result<Option<u32>, TagFault>
+        requires hand { IsHandOf self.now hand.old }
+        ensures hand { IsHandOf self.now hand.new }
+
+        // The depth is looked at first.
+        ensures too_shallow { (result ≡ Err TagFault.TooShallow) ↔ (depth < least_of self.now) }
+        ensures spent { (result ≡ Err TagFault.Spent) ↔ ((least_of self.now ≤ depth) × ¬ (HasRoom hand.old Ordinary 1)) }
+        ensures succeeds { IsOk result ↔ ((least_of self.now ≤ depth) × HasRoom hand.old Ordinary 1) }
+        ensures gets { IfOk result (λ answer. GetsShallow self.now depth answer hand.old hand.new) }
+        ensures bound { step_count hand.new ≤ most_steps self.now + step_count hand.old }
+        ensures err { OnErr result (hand.new ≡ hand.old) }
+    {
+        let Some(found) = self.ordinary.get_shallow(&mut hand.ordinary, depth)? else {
+            return Ok(None);
+        };
+        Ok(Some(self.reserved_count + found))
+    }
+
+    /// Takes up to `n` free ordinary tags side by side in one word, 1 to the bits of a word: the first tag, and the mask of
+    /// those won, whose lowest bit stands for the first tag. Under round robin it finds none and makes no step.
+    pub fn get_batch(&self, hand: &mut Hand<R>, n: u32) -> Result<Option<(u32, u64)>, TagFault>
+        requires hand { IsHandOf self.now hand.old }
+        ensures hand { IsHandOf self.now hand.new }
+
+        // The count is looked at first, round robin next.
+        ensures bad_count { (result ≡ Err TagFault.BadCount) ↔ MiscountsBatch self.now n }
+        ensures round_robin { ¬ (MiscountsBatch self.now n) → IsTrue (hint_of hand.old Ordinary).round_robin
+            → (result ≡ Ok None) × (hand.new ≡ hand.old) }
+        ensures spent { (result ≡ Err TagFault.Spent)
+            ↔ (¬ (MiscountsBatch self.now n) × ((hint_of hand.old Ordinary).round_robin ≡ false) × ¬ (HasRoom hand.old Ordinary n)) }
+        ensures succeeds { ¬ (MiscountsBatch self.now n) → HasRoom hand.old Ordinary n → IsOk result }
+        ensures gets { (hint_of hand.old Ordinary).round_robin ≡ false
+            → IfOk result (λ answer. GetsBatch self.now n answer hand.old hand.new) }
+        ensures bound { step_count hand.new ≤ most_steps self.now + step_count hand.old }
+        ensures err { OnErr result (hand.new ≡ hand.old) }
+    {
+        let Some((first, won)) = self.ordinary.get_batch(&mut hand.ordinary, n)? else {
+            return Ok(None);
+        };
+        Ok(Some((self.reserved_count + first, won)))
+    }
+}

@@ -1,0 +1,94 @@
+//! Two new sets of tags, and their hands.
+ghost use Rattle.std.specs.Prelude.{◌≡◌, ◌-◌, ◌^◌, ◌<◌, ◌≤◌, ◌↔◌, length, IfOk, IsSomeAnd};
+ghost use Rattle.tag_layout.specs.Layout.{HasShift};
+ghost use Rattle.tag_layout.specs.declared.layout.TheConstants.{MAX_DEPTH, MAX_SHIFT};
+ghost use Rattle.tag_model.specs.declared.world.TheConstants.{MOST_WON};
+ghost use Rattle.tag_queue.specs.Opening.{MiscountsAgents, CountsAgents};
+ghost use Rattle.tag_sets.specs.Hands.{layout_of, reserved_of, total_of};
+ghost use Rattle.tag_sets.specs.Opening.{HasRange, HasLayouts, AreParts, IsOpen};
+ghost use Rattle.tag_sets.specs.declared.kind.Kind.TheVariants.{Ordinary, Reserved};
+
+use crate::hand::Hand;
+use crate::tags::Tags;
+use std::alloc::{AllocError, Global};
+use tag_layout::MAX_DEPTH;
+use tag_queue::{Agent, Options, Queue, SetFault};
+
+impl<R: Copy> Tags<R> {
+    /// Two sets of free tags, of which the first `reserved` are the reserved ones, with a slot of the value `fill` for each.
+    /// Without a shift each set has the default one of its own depth. The hands stand in the order of their numbers.
+    pub fn open(
+        alloc: Global,
+        total: u32,
+        reserved: u32,
+        options: Options,
+        fill: R,
+    ) -> Result<(Tags<R>, Vec<Hand<R>>), SetFault>
+        ensures ok { IfOk result (λ opened. IsOpen options opened.0 opened.1.items) }
+        ensures range { IfOk result (λ opened. (total_of opened.0 ≡ total) × (reserved_of opened.0 ≡ reserved)) }
+        ensures ordinary_shift { IfOk result (λ opened.
+            HasShift (total - reserved) options.shift (layout_of opened.0 Ordinary).shift) }
+        ensures reserved_shift { IfOk result (λ opened. HasShift reserved options.shift (layout_of opened.0 Reserved).shift) }
+
+        // The causes are looked at in this order, and memory last.
+        ensures total { (result ≡ Err SetFault.TotalTooLarge) ↔ (MAX_DEPTH < total) }
+        ensures reserved { (result ≡ Err SetFault.ReservedTooLarge) ↔ ((total ≤ MAX_DEPTH) × (total < reserved)) }
+        ensures shift { (result ≡ Err SetFault.ShiftTooLarge)
+            ↔ (HasRange total reserved × IsSomeAnd options.shift (λ s. MAX_SHIFT < s)) }
+        ensures callers { (result ≡ Err SetFault.CallerCount) ↔ (HasLayouts total reserved options × MiscountsAgents options) }
+        ensures life { (result ≡ Err SetFault.LifeTooLong)
+            ↔ (HasLayouts total reserved options × CountsAgents options × (MOST_WON < options.life)) }
+        ensures cap { (result ≡ Err SetFault.CapTooLarge) ↔ (HasLayouts total reserved options × CountsAgents options
+            × (options.life ≤ MOST_WON) × (2 ^ 56 < options.cap)) }
+    {
+        if total > MAX_DEPTH {
+            return Err(SetFault::TotalTooLarge);
+        }
+        if reserved > total {
+            return Err(SetFault::ReservedTooLarge);
+        }
+        let (ordinary, ordinary_agents) = Queue::open(alloc, total - reserved, options, fill)?;
+        let unlimited = Options {
+            min_shallow: None,
+            ..options
+        };
+        let Ok((set, agents)) = Queue::open(alloc, reserved, unlimited, fill) else {
+            return Err(SetFault::Memory);
+        };
+        let Ok(hands) = join(alloc, reserved, agents, ordinary_agents) else {
+            return Err(SetFault::Memory);
+        };
+        let tags = Tags {
+            reserved: set,
+            ordinary,
+            reserved_count: reserved,
+        };
+        Ok((tags, hands))
+    }
+}
+
+// The hands of these agents, in their order.
+fn join<R>(
+    alloc: Global,
+    reserved_count: u32,
+    reserved: Vec<Agent<R>>,
+    ordinary: Vec<Agent<R>>,
+) -> Result<Vec<Hand<R>>, AllocError>
+    requires { length reserved.items ≡ length ordinary.items }
+    ensures { IfOk result (λ hands. AreParts reserved_count reserved.items ordinary.items hands.items) }
+{
+    let mut hands = Vec::new(alloc);
+    let mut agents = reserved.into_iter();
+    let mut others = ordinary.into_iter();
+    while let Some(reserved) = agents.next() {
+        let Some(ordinary) = others.next() else {
+            unreachable!()
+        };
+        hands.push(Hand {
+            reserved,
+            ordinary,
+            reserved_count,
+        })?;
+    }
+    Ok(hands)
+}

@@ -1,0 +1,80 @@
+//! The values beside held tags, and how tags pass from hand to hand.
+ghost use Rattle.std.specs.Prelude.{◌≡◌, ◌<◌, ◌≤◌, ◌↔◌, IfOk, IfErr, IsOk, OnOk, OnErr};
+ghost use mathlib.Core.Option.{some};
+ghost use Rattle.tag_sets.specs.Hands.{total_of, IsHandOf, Holds, slot_of};
+ghost use Rattle.tag_sets.specs.Slots.{Reads, Writes, Posts, Takes, RefusesTake};
+
+use crate::hand::Hand;
+use crate::kind::{Kind, SetTag};
+use crate::tags::Tags;
+use tag_queue::TagFault;
+
+impl<R: Copy> Tags<R> {
+    /// The value in a held tag's slot.
+    pub fn read(&self, hand: &mut Hand<R>, tag: u32) -> Result<R, TagFault>
+        requires hand { IsHandOf self.now hand.old }
+        ensures hand { IsHandOf self.now hand.new }
+        ensures no_such_tag { (result ≡ Err TagFault.NoSuchTag) ↔ (total_of self.now ≤ tag) }
+        ensures not_held { (result ≡ Err TagFault.NotHeld) ↔ ((tag < total_of self.now) × ¬ (Holds hand.old tag)) }
+        ensures succeeds { Holds hand.old tag → IsOk result }
+        ensures value { IfOk result (λ value. slot_of hand.old tag ≡ some value) }
+        ensures reads { IfOk result (λ value. Reads tag value hand.old hand.new) }
+        ensures err { OnErr result (hand.new ≡ hand.old) }
+    {
+        let SetTag { kind, number } = SetTag::of(tag, self.reserved_count);
+        match kind {
+            Kind::Ordinary => self.ordinary.read(&mut hand.ordinary, number),
+            Kind::Reserved => self.reserved.read(&mut hand.reserved, number),
+        }
+    }
+
+    /// Writes a held tag's slot, and returns its former value.
+    pub fn write(&self, hand: &mut Hand<R>, tag: u32, value: R) -> Result<R, TagFault>
+        requires hand { IsHandOf self.now hand.old }
+        ensures hand { IsHandOf self.now hand.new }
+        ensures no_such_tag { (result ≡ Err TagFault.NoSuchTag) ↔ (total_of self.now ≤ tag) }
+        ensures not_held { (result ≡ Err TagFault.NotHeld) ↔ ((tag < total_of self.now) × ¬ (Holds hand.old tag)) }
+        ensures succeeds { Holds hand.old tag → IsOk result }
+        ensures former { IfOk result (λ former. slot_of hand.old tag ≡ some former) }
+        ensures writes { OnOk result (Writes tag value hand.old hand.new) }
+        ensures err { OnErr result (hand.new ≡ hand.old) }
+    {
+        let SetTag { kind, number } = SetTag::of(tag, self.reserved_count);
+        match kind {
+            Kind::Ordinary => self.ordinary.write(&mut hand.ordinary, number, value),
+            Kind::Reserved => self.reserved.write(&mut hand.reserved, number, value),
+        }
+    }
+
+    /// Hands a held tag on, with its slot, to whichever hand takes it first.
+    pub fn post(&self, hand: &mut Hand<R>, tag: u32) -> Result<(), TagFault>
+        requires hand { IsHandOf self.now hand.old }
+        ensures hand { IsHandOf self.now hand.new }
+        ensures no_such_tag { (result ≡ Err TagFault.NoSuchTag) ↔ (total_of self.now ≤ tag) }
+        ensures not_held { (result ≡ Err TagFault.NotHeld) ↔ ((tag < total_of self.now) × ¬ (Holds hand.old tag)) }
+        ensures succeeds { Holds hand.old tag → IsOk result }
+        ensures posts { OnOk result (Posts tag hand.old hand.new) }
+        ensures err { OnErr result (hand.new ≡ hand.old) }
+    {
+        let SetTag { kind, number } = SetTag::of(tag, self.reserved_count);
+        match kind {
+            Kind::Ordinary => self.ordinary.post(&mut hand.ordinary, number),
+            Kind::Reserved => self.reserved.post(&mut hand.reserved, number),
+        }
+    }
+
+    /// Takes a posted tag, with its slot. `NotPosted` leaves the hand as it was but for one step in its list.
+    pub fn take(&self, hand: &mut Hand<R>, tag: u32) -> Result<(), TagFault>
+        requires hand { IsHandOf self.now hand.old }
+        ensures hand { IsHandOf self.now hand.new }
+        ensures no_such_tag { (result ≡ Err TagFault.NoSuchTag) ↔ (total_of self.now ≤ tag) }
+        ensures takes { OnOk result (Takes tag hand.old hand.new) }
+        ensures refuses { IfErr result (λ fault. RefusesTake tag fault hand.old hand.new) }
+    {
+        let SetTag { kind, number } = SetTag::of(tag, self.reserved_count);
+        match kind {
+            Kind::Ordinary => self.ordinary.take(&mut hand.ordinary, number),
+            Kind::Reserved => self.reserved.take(&mut hand.reserved, number),
+        }
+    }
+}

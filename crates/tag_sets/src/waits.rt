@@ -1,0 +1,74 @@
+//! Waiting for an ordinary tag.
+ghost use Rattle.std.specs.Prelude.{◌≡◌, ◌+◌, ◌≤◌, ◌<◌, ◌↔◌, ◌∷◌, IfOk, IfErr, IsOk, IsSome, OnErr, None};
+ghost use Rattle.wake_book.specs.Waits.{active_at, index_at};
+ghost use Rattle.wake_book.specs.Book.{counted_by};
+ghost use Rattle.wake_book.specs.declared.steps.BookStep.TheVariants.{LookCompletions, LookWakeups};
+ghost use Rattle.wake_book.specs.declared.steps.GroupStep.TheVariants.{Look};
+ghost use Rattle.tag_queue.specs.Agents.{teller_of};
+ghost use Rattle.tag_sets.specs.Hands.{reserved_of, total_of, IsHandOf, HasRoom, agent_of, standing_of, book_steps, group_steps};
+ghost use Rattle.tag_sets.specs.Gets.{BlockingGets};
+ghost use Rattle.tag_sets.specs.Waits.{Enters, Leaves, Stays};
+ghost use Rattle.tag_sets.specs.declared.kind.Kind.TheVariants.{Ordinary};
+
+use crate::hand::Hand;
+use crate::tags::Tags;
+use std::sync::Wait;
+use tag_queue::{TagFault, Wakes};
+use wake_book::Left;
+
+impl<R: Copy> Tags<R> {
+    /// Enters the group of the hand's wait index, and returns its number, below 8.
+    pub fn prepare_wait(&self, hand: &mut Hand<R>) -> Result<u32, TagFault>
+        requires hand { IsHandOf self.now hand.old }
+        ensures hand { IsHandOf self.now hand.new }
+        ensures out { IsOk result ↔ (standing_of hand.old ≡ None) }
+        ensures enters { IfOk result (λ group. Enters group hand.old hand.new) }
+        ensures err { IfErr result (λ fault. (fault ≡ TagFault.Waiting) × (hand.new ≡ hand.old)) }
+    {
+        self.ordinary.prepare_wait(&mut hand.ordinary)
+    }
+
+    /// Leaves the group in which the hand stands: `Woken` if it used a grant, `Unwoken` if it found none.
+    pub fn finish_wait<W: Wait>(&self, rt: &W, hand: &mut Hand<R>) -> Result<Left, TagFault>
+        requires hand { IsHandOf self.now hand.old }
+        ensures hand { IsHandOf self.now hand.new }
+        ensures stands { IsOk result ↔ IsSome (standing_of hand.old) }
+        ensures leaves { IfOk result (λ left. Leaves left hand.old hand.new) }
+        ensures out { standing_of hand.new ≡ None }
+        ensures err { IfErr result (λ fault. (fault ≡ TagFault.NotWaiting) × (hand.new ≡ hand.old)) }
+    {
+        self.ordinary.finish_wait(rt, &mut hand.ordinary)
+    }
+
+    /// What the hand finds of the counts and of the groups, by four loads at four moments.
+    pub fn wakes(&self, hand: &mut Hand<R>) -> Wakes
+        requires hand { IsHandOf self.now hand.old }
+        ensures hand { IsHandOf self.now hand.new }
+        ensures counts { book_steps hand.new ≡ LookCompletions result.counted ∷ LookWakeups result.charged ∷ book_steps hand.old }
+        ensures looks { group_steps hand.new ≡ Look active_at result.active ∷ Look index_at result.index ∷ group_steps hand.old }
+        ensures ordered { result.charged ≤ result.counted }
+        ensures own { counted_by (teller_of (agent_of hand.old Ordinary)) ≤ result.counted }
+        ensures active { IsSome (standing_of hand.old) → 1 ≤ result.active }
+        ensures same { Stays hand.old hand.new }
+    {
+        self.ordinary.wakes(&mut hand.ordinary)
+    }
+
+    /// Takes a free ordinary tag as `get` does, and waits while it finds none. Nothing promises that it returns.
+    pub fn get_blocking<W: Wait>(&self, rt: &W, hand: &mut Hand<R>) -> Result<u32, TagFault>
+        requires hand { IsHandOf self.now hand.old }
+        ensures hand { IsHandOf self.now hand.new }
+
+        // The causes are looked at in this order.
+        ensures no_such_tag { (result ≡ Err TagFault.NoSuchTag) ↔ (total_of self.now ≡ reserved_of self.now) }
+        ensures waiting { (result ≡ Err TagFault.Waiting)
+            ↔ ((reserved_of self.now < total_of self.now) × IsSome (standing_of hand.old)) }
+        ensures spent { (result ≡ Err TagFault.Spent)
+            ↔ ((reserved_of self.now < total_of self.now) × (standing_of hand.old ≡ None) × ¬ (HasRoom hand.old Ordinary 1)) }
+        ensures gets { IfOk result (λ tag. BlockingGets self.now tag hand.old hand.new) }
+        ensures err { OnErr result (hand.new ≡ hand.old) }
+    {
+        let number = self.ordinary.get_blocking(rt, &mut hand.ordinary)?;
+        Ok(self.reserved_count + number)
+    }
+}
