@@ -132,12 +132,12 @@ fn seventeen_names(rt: HostRuntime) -> Result<(), Fail> {
 
 #[test]
 fn each_prefix_is_read_or_is_faulty_in_its_last_line(rt: HostRuntime) -> Result<(), Fail> {
-    let mut whole = 0;
+    let mut whole = 0u32;
     for end in 0..SMALL.len() {
         let lines = SMALL[..end].iter().filter(|byte| **byte == b'\n').count() as u64;
         match fault_of(rt.alloc(), &SMALL[..end]) {
             Some(fault) => assert_eq!(rt; Some(fault.line), lines.checked_add(1)),
-            None => whole += 1,
+            None => whole = whole.saturating_add(1),
         }
     }
     assert_eq!(rt; whole, 23);
