@@ -1,7 +1,8 @@
 //! The subcommand that a command line names.
-ghost use Rattle.std.specs.Prelude.{◌≡◌, Some, IfSome};
+ghost use Rattle.std.specs.Prelude.{◌≡◌, Some, IsNone, IfSome};
 ghost use Rattle.clap.specs.Matches.{subcommand_name_of};
 ghost use Rattle.tagplay.specs.Runs.{name_of};
+ghost use Rattle.tagplay.specs.declared.choice.Choice.{Choice};
 
 use crate::options::{check_options, script_options};
 use clap::ArgMatches;
@@ -19,7 +20,8 @@ pub enum Choice {
 impl Choice {
     /// The run that the subcommand names, with its options.
     pub(crate) fn named(matches: &ArgMatches) -> Option<Choice>
-        ensures { IfSome result (λ choice. subcommand_name_of matches.now ≡ Some (name_of choice)) }
+        ensures named { IfSome result (λ choice. subcommand_name_of matches.now ≡ Some (name_of choice)) }
+        ensures none { IsNone result → (choice : Choice) → ¬ (subcommand_name_of matches.now ≡ Some (name_of choice)) }
     {
         let (name, options) = matches.subcommand()?;
         if name == "script" {
