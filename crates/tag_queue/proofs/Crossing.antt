@@ -29,7 +29,10 @@ queue_field_sync R sent shared = struct_sync (fields_of (queue.the_type R)) (
         search (sendable, crosses) depth 40,
         (
           search (sendable, crosses) depth 40,
-          (search (sendable, crosses) depth 40, (search (sendable, crosses) depth 40, tt)),
+          (
+            search (sendable, crosses) depth 40,
+            (search (sendable, crosses) depth 40, (search (sendable, crosses) depth 40, tt)),
+          ),
         ),
       ),
     ),

@@ -7,3 +7,6 @@ pub mod Gathering
 pub mod Opening
 pub mod Crossing
 pub mod Unchanged
+pub mod Refits
+pub mod NextMaps
+pub mod Resized

@@ -1,7 +1,8 @@
 -- Agents that are as they were.
 use Rattle.std.proofs.Common.{◌≡◌, ℕ, suc, ◌+◌, ◌<◌, List, [], ◌∷◌, ◌++◌, length, arith, refl, sym, ap, ◌∙◌, subst, ⊎_elim, length-append, append_assoc}
-use Rattle.std.specs.Prelude.{◌↔◌, All}
+use Rattle.std.specs.Prelude.{◌↔◌, All, cond, is_some}
 use Rattle.std.proofs.lemmas.List.Elements.{All-push}
+use Rattle.std.proofs.lemmas.List.Recursion.{is_count_by}
 use mathlib.Core.Option.{some}
 use lib.ListN.{get_elem?}
 use Rattle.step_ledger.specs.Views.{HasAll}
@@ -16,7 +17,9 @@ use Rattle.tag_core.specs.Gathering.{numbers}
 use Rattle.tag_core.specs.Settling.{AreSettled}
 use Rattle.tag_core.proofs.Seats.{within, snoc_at}
 use Rattle.tag_queue.specs.declared.agent.Agent.{Agent}
-use Rattle.tag_queue.specs.Agents.{caller_of, numbers_of, records_of, SameElse, IsUnchanged, AreUnchanged}
+use Rattle.tag_queue.specs.Agents.{caller_of, waiter_of, numbers_of, records_of, SameElse, IsUnchanged, AreUnchanged}
+use Rattle.wake_book.specs.Groups.{standing_of as standing_of_waiter}
+use Rattle.tag_queue.specs.Resizing.{standing_count}
 use Rattle.tag_queue.proofs.Gathering.{caller_numbers}
 
 module _ {R : Type 0} where
@@ -73,6 +76,31 @@ module _ {R : Type 0} where
   unchanged-records (a ∷ olds) (b ∷ news) same = let e = same.count in
       (λ j. (same.each 0 a b refl refl).caller.known j
       ∷ unchanged-records olds news record { count = omega arith; each = λ n x y p q. same.each (suc n) x y p q } j)
+
+  abbrev standing : List (Agent R) → ℕ
+  standing [] = 0
+  standing (a ∷ agents) = cond (is_some (standing_of_waiter (waiter_of a))) (1 + standing agents) (standing agents)
+
+  standing_same : (olds news : List (Agent R)) → AreUnchanged olds news → standing news ≡ standing olds
+  standing_same [] [] same = refl
+  standing_same [] (b ∷ news) same = let e = same.count in absurd (omega arith)
+  standing_same (a ∷ olds) [] same = let e = same.count in absurd (omega arith)
+  standing_same (a ∷ olds) (b ∷ news) same = let e = same.count in
+      let waiter = (same.each 0 a b refl refl).same_else.1.1 in
+      let rest = standing_same olds news record { count = omega arith; each = λ n x y p q. same.each (suc n) x y p q } in
+      λ j. cond (is_some (standing_of_waiter (waiter j))) (1 + rest j) (rest j)
+
+  standing-count : (agents : List (Agent R)) → standing agents ≡ standing_count agents
+  standing-count = is_count_by standing (λ agent. is_some (standing_of_waiter (waiter_of agent))) refl (λ x xs. refl)
+
+  -- as many of them stand in a group
+  pub unchanged-standing : (olds news : List (Agent R)) → AreUnchanged olds news → standing_count news ≡ standing_count olds
+  unchanged-standing olds news same = sym (standing-count news) ∙ standing_same olds news same ∙ standing-count olds
+
+  -- as many records as agents
+  pub length-records : (agents : List (Agent R)) → length (records_of agents) ≡ length agents
+  length-records [] = refl
+  length-records (a ∷ agents) = ap suc (length-records agents)
 
   records-append : (olds news : List (Agent R)) → records_of (olds ++ news) ≡ records_of olds ++ records_of news
   records-append [] news = refl

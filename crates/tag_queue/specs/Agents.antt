@@ -35,6 +35,10 @@ cap_of queue = book.cap_of queue.book
 abbrev pub least_of : {R : Type 0} → Queue R → ℕ
 least_of queue = queue.least
 
+-- the least depth of a shallow get as it was asked for
+abbrev pub min_shallow_of : {R : Type 0} → Queue R → Option ℕ
+min_shallow_of queue = queue.min_shallow
+
 -- the agent is one of the queue's own
 abbrev pub IsAgentOf : {R : Type 0} → Queue R → Agent R → Type 0
 IsAgentOf queue agent = core.IsCallerOf queue.map agent.caller × book.IsTellerOf queue.book agent.teller × groups.IsWaiterOf queue.groups agent.waiter

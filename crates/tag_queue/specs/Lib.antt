@@ -9,3 +9,5 @@ pub mod Parts
 pub mod Gathering
 pub mod Opening
 pub mod Using
+pub mod Shells
+pub mod Resizing

@@ -10,7 +10,7 @@ use Rattle.wake_book.specs.Groups.{AreOpenGroups}
 use Rattle.tag_queue.specs.declared.agent.Agent.{Agent}
 use Rattle.tag_queue.specs.declared.queue.Options.{Options}
 use Rattle.tag_queue.specs.declared.queue.Queue.{Queue}
-use Rattle.tag_queue.specs.Agents.{caller_of, teller_of, waiter_of, layout_of, least_of, IsAgentOf}
+use Rattle.tag_queue.specs.Agents.{caller_of, teller_of, waiter_of, layout_of, least_of, min_shallow_of, IsAgentOf}
 use Rattle.tag_queue.specs.Parts.{HasHint}
 
 -- there is a layout for the options
@@ -42,3 +42,4 @@ pub record IsOpen {R : Type 0} (options : Options) (queue : Queue R) (agents : L
   pub own : All (IsAgentOf queue) agents
   pub hints : All (HasHint (first_hint options.round_robin)) agents
   pub least : least_of queue ≡ max (unwrap_or options.min_shallow 1) 1
+  pub min_shallow : min_shallow_of queue ≡ options.min_shallow

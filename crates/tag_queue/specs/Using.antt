@@ -1,7 +1,9 @@
 -- How many tags of a queue are in use.
-use Rattle.std.specs.Prelude.{◌≡◌, ℕ, List}
+use Rattle.std.specs.Prelude.{◌≡◌, ℕ, ◌+◌, ◌-◌, List}
 use Rattle.tag_model.specs.declared.totals.Totals.{Totals}
+use Rattle.tag_core.specs.declared.record.Record.{Record}
 use Rattle.tag_core.specs.Settling.{AreSettled}
+use Rattle.tag_core.specs.Sizes.{total_of, size_of}
 use Rattle.tag_queue.specs.declared.agent.Agent.{Agent}
 use Rattle.tag_queue.specs.declared.queue.Queue.{Queue}
 use Rattle.tag_queue.specs.Agents.{shape_of, records_of}
@@ -12,3 +14,15 @@ pub record AreInUse {R : Type 0} (queue : Queue R) (agents : List (Agent R)) (he
   pub held_is : held ≡ totals.held
   pub posted_is : posted ≡ totals.posted
   pub settled : AreSettled (shape_of queue) (records_of agents) totals
+
+-- tags that callers with these records hold
+abbrev pub held_in : {R : Type 0} → List (Record R) → ℕ
+held_in {R} rs = total_of (λ (r : Record R). size_of r.held) rs
+
+-- tags that they won, and neither gave back nor hold: where they are all callers of a map, those that are posted
+abbrev pub posted_in : {R : Type 0} → List (Record R) → ℕ
+posted_in {R} rs = total_of (λ (r : Record R). r.won) rs - (total_of (λ (r : Record R). r.back) rs + held_in rs)
+
+-- no tag is held, and none posted
+abbrev pub NoneInUse : {R : Type 0} → List (Record R) → Type 0
+NoneInUse rs = (held_in rs ≡ 0) × (posted_in rs ≡ 0)

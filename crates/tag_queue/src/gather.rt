@@ -71,6 +71,7 @@ impl<R: Copy> Queue<R> {
             groups,
             batch: _,
             least: _,
+            min_shallow: _,
             callers: _,
             fill: _,
         } = self;

@@ -93,6 +93,7 @@ fn lay_out<R: Copy>(
         groups,
         batch,
         least: options.min_shallow.unwrap_or(1).max(1),
+        min_shallow: options.min_shallow,
         callers: options.callers,
         fill,
     };

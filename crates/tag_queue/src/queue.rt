@@ -33,9 +33,11 @@ pub struct Queue<R> {
     pub(crate) batch: u32,
     /// The least depth of a shallow get, at least 1.
     pub(crate) least: u32,
+    /// The least depth of a shallow get as it was asked for, from which the batch of a resized queue follows.
+    pub(crate) min_shallow: Option<u32>,
     /// Agents, 1 to 64.
     pub(crate) callers: u32,
-    /// With what each slot begins.
+    /// With what each slot begins, and begins anew after a resize.
     pub(crate) fill: R,
     ghost batch_is: { batch_of book ≡ batch },
     ghost narrow: { (1 ≤ batch) × (batch ≤ 8) × (1 ≤ least) },

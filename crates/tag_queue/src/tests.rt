@@ -7,6 +7,7 @@ mod gets;
 mod long_run;
 mod memory;
 mod opening;
+mod resizing;
 mod slots;
 mod threads;
 mod waits;

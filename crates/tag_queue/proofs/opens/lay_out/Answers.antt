@@ -32,4 +32,5 @@ returns-clause-open g c = let parts = c.in_ok-agents.ensures.parts in let option
       own = own_all c.in-Ok.map c.in-Ok-open.book c.in-Ok-open-2.groups c.in_ok-agents.agents.items _ _ _ parts c.in-Ok.ensures.own b.own s.own;
       hints = c.in_ok-agents.ensures.hints;
       least = search rules;
+      min_shallow = search rules;
     }

@@ -1,0 +1,86 @@
+-- Resizes of a queue: why they are refused, and what goes on.
+use Rattle.std.specs.Prelude.{◌≡◌, ℕ, ◌<◌, ◌≤◌, List, All, map, count_by, is_some, length}
+use Rattle.step_ledger.specs.Views.{HasAll, IsLeastMissing}
+use Rattle.tag_layout.specs.Layout.{Layout, wake_batch}
+use Rattle.tag_layout.specs.declared.layout.TheConstants.{MAX_DEPTH}
+use Rattle.tag_model.specs.declared.totals.Totals.{Totals}
+use Rattle.tag_core.specs.declared.caller.Caller.{Caller}
+use Rattle.tag_core.specs.declared.map.Map.{Map}
+use Rattle.tag_core.specs.declared.record.Record.{Record}
+use Rattle.tag_core.specs.declared.shape.Shape.{Shape}
+use Rattle.tag_core.specs.Callers.{IsCallerOf, record_of}
+use Rattle.tag_core.specs.Chain.{GoesOn}
+use Rattle.tag_core.specs.Settling.{AreSettled}
+use Rattle.tag_core.specs.Reopening.{IsNext, AreReopened, AllFree}
+use Rattle.wake_book.specs.Book.{Rebatches}
+use Rattle.tag_queue.specs.declared.agent.Agent.{Agent}
+use Rattle.tag_queue.specs.declared.queue.Queue.{Queue}
+use Rattle.tag_queue.specs.declared.resizes.ResizeCause.{ResizeCause}
+use Rattle.tag_queue.specs.declared.resizes.ResizeCause.TheVariants.{Missing, DepthTooLarge, InUse, Waiting, Memory}
+use Rattle.tag_queue.specs.Agents.{caller_of, teller_of, waiter_of, hint_of, layout_of, least_of, min_shallow_of, shape_of, standing_of, agents_of, numbers_of, records_of, IsAgentOf}
+use Rattle.tag_queue.specs.Using.{held_in, posted_in, NoneInUse}
+
+-- how many of these agents stand in a group
+abbrev pub standing_count : {R : Type 0} → List (Agent R) → ℕ
+standing_count agents = count_by (λ agent. is_some (standing_of agent)) agents
+
+-- of all agents of a queue: no tag is held, and none posted
+abbrev pub AreUnused : {R : Type 0} → List (Agent R) → Type 0
+AreUnused agents = NoneInUse (records_of agents)
+
+-- all agents are there, and there is a layout of the depth
+abbrev pub HasMap : {R : Type 0} → Queue R → List (Agent R) → ℕ → Type 0
+HasMap queue agents depth = HasAll (numbers_of agents) (agents_of queue) × (depth ≤ MAX_DEPTH)
+
+-- nothing is in the way of a resize
+abbrev pub MayResize : {R : Type 0} → Queue R → List (Agent R) → ℕ → Type 0
+MayResize queue agents depth = HasMap queue agents depth × AreUnused agents × (standing_count agents ≡ 0)
+
+-- tags are in use, or agents stand in a group: the cause that is told
+abbrev pub IsBusyFor : {R : Type 0} → List (Agent R) → ResizeCause → Type 0
+IsBusyFor agents (InUse held posted) =
+    (held ≡ held_in (records_of agents)) × (posted ≡ posted_in (records_of agents)) × ¬ (AreUnused agents)
+IsBusyFor agents (Waiting count) = AreUnused agents × (count ≡ standing_count agents) × (1 ≤ count)
+IsBusyFor agents _ = ⊥
+
+-- a resize is refused for this cause, the first in this order: no two of the conditions hold at once
+abbrev pub IsRefusedFor : {R : Type 0} → Queue R → List (Agent R) → ℕ → ResizeCause → Type 0
+IsRefusedFor queue agents depth (Missing number) = IsLeastMissing (numbers_of agents) (agents_of queue) number
+IsRefusedFor queue agents depth DepthTooLarge = HasAll (numbers_of agents) (agents_of queue) × (MAX_DEPTH < depth)
+IsRefusedFor queue agents depth (InUse held posted) = HasMap queue agents depth × IsBusyFor agents (InUse held posted)
+IsRefusedFor queue agents depth (Waiting count) = HasMap queue agents depth × IsBusyFor agents (Waiting count)
+IsRefusedFor queue agents depth Memory = MayResize queue agents depth
+
+-- the next map goes on from any history in which these records stand when their callers settle
+abbrev pub GoesOnAfter : {R : Type 0} → Shape → List (Record R) → Shape → Type 0
+GoesOnAfter k rs next = (totals : Totals) (known : AreSettled k rs totals) → GoesOn (record { shape = k; history = known.history }) next
+
+-- in the same order the callers go on with a next map of this layout, whose tags are free
+pub record MoveOn {R : Type 0} (layout : Layout) (old : Map R) (before : List (Caller R)) (new : Map R) (after : List (Caller R)) : Type 0 where
+  pub next : IsNext layout old.shape new.shape
+  pub goes_on : GoesOnAfter old.shape (map record_of before) new.shape
+  pub callers : AreReopened new before after
+  pub own : All (IsCallerOf new) after
+  pub free : AllFree new.shape (map record_of after)
+
+-- the layout asked for: the depth is the one given, and the shift is as before
+abbrev pub layout_at : {R : Type 0} → Queue R → ℕ → Layout
+layout_at queue depth = record { depth = depth; shift = (layout_of queue).shift }
+
+-- but for its map and its batch the queue is as it was, and the batch is that of the new depth
+pub record KeepsRest {R : Type 0} (old new : Queue R) : Type 0 where
+  pub book : Rebatches old.book new.book (wake_batch (layout_of new) (min_shallow_of old))
+  pub groups : new.groups ≡ old.groups
+  pub least : least_of new ≡ least_of old
+  pub min_shallow : min_shallow_of new ≡ min_shallow_of old
+  pub fill : new.fill ≡ old.fill
+
+-- in the same order the agents go on with a next map of free tags: their numbers, their counts, where they stand, and their
+-- hints are as they were, and they hold nothing
+pub record IsResized {R : Type 0} (old : Queue R) (agents : List (Agent R)) (depth : ℕ) (new : Queue R) (resized : List (Agent R)) : Type 0 where
+  pub callers : MoveOn (layout_at old depth) old.map (map caller_of agents) new.map (map caller_of resized)
+  pub tellers : map teller_of resized ≡ map teller_of agents
+  pub waiters : map waiter_of resized ≡ map waiter_of agents
+  pub hints : map hint_of resized ≡ map hint_of agents
+  pub own : All (IsAgentOf new) resized
+  pub rest : KeepsRest old new

@@ -1,0 +1,17 @@
+-- Agents whose callers stand apart.
+use Rattle.std.specs.Prelude.{List, [], ◌∷◌}
+use Rattle.tag_core.specs.declared.caller.Caller.{Caller}
+use Rattle.tag_queue.specs.declared.agent.Agent.{Agent}
+use Rattle.tag_queue.specs.declared.shells.Shell.{Shell}
+use Rattle.tag_queue.specs.Parts.{Fits}
+
+-- the agent without its caller
+abbrev pub shell_of : {R : Type 0} → Agent R → Shell
+shell_of agent = record { teller = agent.teller; waiter = agent.waiter; hint = agent.hint; number = agent.number }
+
+-- one by one, these callers can be those of the agents that are left
+abbrev pub FitShells : {R : Type 0} → List (Caller R) → List Shell → Type 0
+FitShells [] [] = Unit {0}
+FitShells [] (shell ∷ shells) = ⊥
+FitShells (caller ∷ callers) [] = ⊥
+FitShells (caller ∷ callers) (shell ∷ shells) = Fits shell.number caller shell.teller shell.waiter × FitShells callers shells

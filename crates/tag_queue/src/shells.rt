@@ -1,0 +1,129 @@
+//! Agents whose callers stand apart, while these settle and go on with a next map.
+ghost use Rattle.std.specs.Prelude.{◌≡◌, ◌≤◌, [], length, map, IfOk, vec_capacity};
+ghost use Rattle.tag_queue.specs.Agents.{caller_of};
+ghost use Rattle.tag_queue.specs.Shells.{shell_of, FitShells};
+ghost use Rattle.tag_queue.specs.Parts.{Fits};
+
+use crate::agent::Agent;
+use std::alloc::{AllocError, Global};
+use tag_core::Caller;
+use tag_search::Hint;
+use wake_book::{Teller, Waiter};
+
+/// An agent without its caller.
+#[derive(Drop)]
+pub(crate) struct Shell {
+    pub(crate) teller: Teller,
+    pub(crate) waiter: Waiter,
+    pub(crate) hint: Hint,
+    pub(crate) number: u32,
+}
+
+/// Room for the parts of all agents and for the agents again, and the slots of the next map: what can fail before they move.
+#[derive(Drop)]
+pub(crate) struct Rooms<R> {
+    pub(crate) callers: Vec<Caller<R>>,
+    pub(crate) shells: Vec<Shell>,
+    pub(crate) agents: Vec<Agent<R>>,
+    pub(crate) slots: Vec<R>,
+    ghost empty: { (callers.items ≡ []) × (shells.items ≡ []) × (agents.items ≡ []) },
+}
+
+impl<R: Copy> Rooms<R> {
+    pub(crate) fn open(
+        alloc: Global,
+        count: usize,
+        depth: u32,
+        fill: R,
+    ) -> Result<Rooms<R>, AllocError>
+        ensures room { IfOk result (λ rooms. (count ≤ vec_capacity rooms.callers) × (count ≤ vec_capacity rooms.shells)
+            × (count ≤ vec_capacity rooms.agents)) }
+        ensures slots { IfOk result (λ rooms. length rooms.slots.items ≡ depth) }
+    {
+        let callers = Vec::with_capacity(alloc, count)?;
+        let shells = Vec::with_capacity(alloc, count)?;
+        let agents = Vec::with_capacity(alloc, count)?;
+        let slots = vec![in alloc; fill; depth as usize]?;
+        Ok(Rooms {
+            callers,
+            shells,
+            agents,
+            slots,
+        })
+    }
+}
+
+/// The callers of the agents, and what is left of these, in their order.
+pub(crate) fn part<R>(
+    agents: Vec<Agent<R>>,
+    mut callers: Vec<Caller<R>>,
+    mut shells: Vec<Shell>,
+) -> (Vec<Caller<R>>, Vec<Shell>)
+    requires empty { (callers.items ≡ []) × (shells.items ≡ []) }
+    requires room { (length agents.items ≤ vec_capacity callers) × (length agents.items ≤ vec_capacity shells) }
+    ensures callers { result.0.items ≡ map caller_of agents.items }
+    ensures shells { result.1.items ≡ map shell_of agents.items }
+{
+    let mut agents = agents.into_iter();
+    while let Some(agent) = agents.next() {
+        let Agent {
+            caller,
+            teller,
+            waiter,
+            hint,
+            number,
+        } = agent;
+        callers.push_reserved(caller);
+        shells.push_reserved(Shell {
+            teller,
+            waiter,
+            hint,
+            number,
+        });
+    }
+    agents.destroy_empty();
+    (callers, shells)
+}
+
+/// The agents of these callers, in their order.
+pub(crate) fn unite<R>(
+    callers: Vec<Caller<R>>,
+    shells: Vec<Shell>,
+    mut agents: Vec<Agent<R>>,
+) -> Vec<Agent<R>>
+    requires empty { agents.items ≡ [] }
+    requires room { length callers.items ≤ vec_capacity agents }
+    requires fit { FitShells callers.items shells.items }
+    ensures callers { map caller_of result.items ≡ callers.items }
+    ensures shells { map shell_of result.items ≡ shells.items }
+{
+    let mut callers = callers.into_iter();
+    let mut shells = shells.into_iter();
+    while let Some(caller) = callers.next() {
+        let Some(shell) = shells.next() else {
+            unreachable!()
+        };
+        agents.push_reserved(agent_of(caller, shell));
+    }
+    agents
+}
+
+fn agent_of<R>(caller: Caller<R>, shell: Shell) -> Agent<R>
+    requires { Fits shell.number caller shell.teller shell.waiter }
+    ensures caller { caller_of result ≡ caller }
+    ensures shell { shell_of result ≡ shell }
+{
+    let Shell {
+        teller,
+        waiter,
+        hint,
+        number,
+    } = shell;
+    Agent {
+        caller,
+        teller,
+        waiter,
+        hint,
+        number,
+    }
+}
