@@ -75,6 +75,10 @@ group_steps agent = groups.steps_of agent.waiter
 abbrev pub step_count : {R : Type 0} → Agent R → ℕ
 step_count agent = length (core.record_of agent.caller).steps + length (book_steps agent) + length (group_steps agent)
 
+-- how many tags there are where the agent is at work
+abbrev pub depth_of : {R : Type 0} → Agent R → ℕ
+depth_of agent = (core.record_of agent.caller).shape.layout.depth
+
 -- the agent holds the tag
 abbrev pub Holds : {R : Type 0} → Agent R → ℕ → Type 0
 Holds agent tag = core.Holds agent.caller tag

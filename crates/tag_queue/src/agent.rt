@@ -34,3 +34,16 @@ impl<R> Numbered for Agent<R> {
         self.number
     }
 }
+
+impl<R> Agent<R> {
+    ghost use Rattle.std.specs.Prelude.{◌↔◌, IsTrue};
+    ghost use Rattle.tag_queue.specs.Agents.{Holds, depth_of};
+
+    /// Whether the agent holds the tag. It makes no step.
+    pub fn holds(&self, tag: u32) -> bool
+        requires { tag < depth_of self.now }
+        ensures { IsTrue result ↔ Holds self.now tag }
+    {
+        self.caller.holds(tag)
+    }
+}
