@@ -12,7 +12,7 @@ use Rattle.wake_book.specs.Charging.{IsCharge}
 use Rattle.wake_book.specs.Waits.{active_at}
 use Rattle.tag_queue.specs.declared.agent.Agent.{Agent}
 use Rattle.tag_queue.specs.declared.queue.Queue.{Queue}
-use Rattle.tag_queue.specs.Agents.{SameCounts, teller_of, waiter_of, book_steps, group_steps, batch_of, cap_of}
+use Rattle.tag_queue.specs.Agents.{SameCounts, waiter_of, book_steps, group_steps, batch_of, cap_of}
 use Rattle.tag_queue.specs.Clears.{Follows, FindsNobody, Charges, Counts}
 
 -- after a charge that was not won no step follows

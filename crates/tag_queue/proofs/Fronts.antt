@@ -1,5 +1,5 @@
 -- Lists of parts, as they come off the front one by one.
-use Rattle.std.proofs.Common.{◌≡◌, ℕ, zero, suc, List, [], ◌∷◌, ◌++◌, map, length, append_assoc, refl, sym, ap, ◌∙◌, subst}
+use Rattle.std.proofs.Common.{◌≡◌, ℕ, List, [], ◌∷◌, ◌++◌, map, length, append_assoc, refl, sym, ap, ◌∙◌, subst}
 use mathlib.Core.List.{map-append}
 use mathlib.Core.Option.{some}
 use lib.ListN.{get_elem?}

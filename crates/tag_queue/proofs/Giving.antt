@@ -1,5 +1,5 @@
 -- Tags that are given back one after another, a mask for those of one word.
-use Rattle.std.proofs.Common.{◌≡◌, ◌≢◌, ℕ, ◌+◌, ◌/◌, ◌%◌, ◌^◌, ◌<◌, ◌≤◌, ◌↔◌, max, List, [], ◌∷◌, ◌++◌, length, length-append, take, get_or, bit_or, count_ones, cond, refl, sym, ap, ◌∙◌, subst, ⊎_elim, eq-eqb, ne_eqb, arith}
+use Rattle.std.proofs.Common.{◌≡◌, ◌≢◌, ℕ, ◌+◌, ◌/◌, ◌%◌, ◌^◌, ◌<◌, ◌≤◌, ◌↔◌, max, List, [], ◌∷◌, ◌++◌, length, length-append, take, get_or, bit_or, count_ones, refl, sym, ap, ◌∙◌, subst, ⊎_elim, eq-eqb, ne_eqb, arith}
 use mathlib.Core.Logic.{dite}
 use native.Mathlib.Decide.{ℕ_discrete}
 use Rattle.std.specs.Prelude.{AllPairs, Contains}
@@ -9,8 +9,7 @@ use Rattle.std.proofs.lemmas.List.{length-take, get_or-take}
 use Rattle.std.proofs.lemmas.List.Elements.{Contains-append_left, Contains-append_right, Contains-append_cases, Contains-push, Contains-push_cases}
 use Rattle.std.proofs.lemmas.Nat.{or_lt, pow_below}
 use Rattle.std.proofs.lemmas.Nat.Bits.{bit_at_or, bit_at-lt, bit_at-zero, bit_at-pow_other}
-use Rattle.tag_layout.specs.Layout.{Layout, words, word_of, place_of}
-use Rattle.tag_layout.specs.Sums.{sum_below}
+use Rattle.tag_layout.specs.Layout.{Layout, word_of, place_of}
 use Rattle.tag_layout.proofs.SumFacts.{sum_below-add}
 use Rattle.tag_model.proofs.MaskFacts.{sum_below-bits}
 use Rattle.tag_core.specs.declared.shape.Shape.{Shape}
@@ -24,7 +23,7 @@ use Rattle.tag_core.specs.Callers.{record_of, Adds}
 use Rattle.tag_core.specs.Holdings.{IsInMask, Releases}
 use Rattle.tag_core.specs.Records.{record_after}
 use Rattle.tag_core.proofs.Picks.{among, only, among_one, one_among}
-use Rattle.tag_core.proofs.TagBits.{among_here, among_else, among_small, only_among, only_is, place_small}
+use Rattle.tag_core.proofs.TagBits.{among_here, among_else, among_small, only_among, only_is}
 use Rattle.tag_search.proofs.Claims.{count_ones-pow}
 use Rattle.tag_queue.specs.Batches.{Run, AreRuns, EndsElsewhere, GivesAll, record_after_runs}
 

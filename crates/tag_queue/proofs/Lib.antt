@@ -10,3 +10,4 @@ pub mod Unchanged
 pub mod Refits
 pub mod NextMaps
 pub mod Resized
+pub mod Refusals

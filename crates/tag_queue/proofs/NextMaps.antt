@@ -1,7 +1,5 @@
 -- All callers settle, and go on with a next map.
-use Rattle.std.proofs.Common.{◌≡◌, ℕ, ◌+◌, ◌-◌, ◌≤◌, List, map, arith, sym, ap, ◌∙◌, subst}
-use mathlib.Core.Option.{some}
-use lib.ListN.{get_elem?}
+use Rattle.std.proofs.Common.{◌≡◌, List, map, arith, sym, ap, ◌∙◌, subst}
 use Rattle.tag_model.specs.declared.totals.Totals.{Totals}
 use Rattle.tag_core.specs.declared.caller.Caller.{Caller}
 use Rattle.tag_core.specs.declared.map.Map.{Map}
@@ -10,14 +8,14 @@ use Rattle.tag_core.specs.declared.settled.Settled.{Settled}
 use Rattle.tag_core.specs.declared.shape.Shape.{Shape}
 use Rattle.tag_core.specs.Callers.{record_of, AreUnchanged}
 use Rattle.tag_core.specs.Chain.{GoesOn}
-use Rattle.tag_core.specs.Reopening.{AreReopened, GoesOnFrom, reopened_record}
+use Rattle.tag_core.specs.Histories.{steps_by}
+use Rattle.tag_core.specs.Reopening.{AreReopened, GoesOnFrom, LeadsOn, reopened_record}
 use Rattle.tag_core.specs.Settling.{AreSettled}
-use Rattle.tag_core.specs.Sizes.{total_of, size_of}
 use Rattle.tag_core.proofs.Entries.{entry}
 use Rattle.tag_core.proofs.Seats.{within}
 use Rattle.tag_core.proofs.Settlings.{unchanged-records}
 use Rattle.tag_queue.specs.Resizing.{GoesOnAfter}
-use Rattle.tag_queue.specs.Using.{held_in, posted_in, NoneInUse}
+use Rattle.tag_queue.specs.Using.{posted_in, NoneInUse}
 
 module _ {R : Type 0} where
   -- what the totals say of tags in use is a sum over the records
@@ -39,6 +37,17 @@ module _ {R : Type 0} where
         let low = within olds n a p in let long = same.count in let mid = entry mids n (omega arith) in
         let went = on.each n mid.0 b mid.1 q in
         (went.0, went.1 ∙ ap (reopened_record m.shape) (same.each n a mid.0 p mid.1).known);
+  }
+
+  -- the list of each stands in the history that led on
+  pub leads_after : (old next : Map R) (olds mids : List (Caller R)) → AreUnchanged olds mids → LeadsOn old mids next → LeadsOn old olds next
+  leads_after old next olds mids same on = record {
+    history = on.history;
+    lists = λ n c at.
+        let low = within olds n c at in let long = same.count in let mid = entry mids n (omega arith) in
+        let is = (same.each n c mid.0 at mid.1).known in
+        ap (λ (r : Record R). r.steps) (sym is) ∙ on.lists n mid.0 mid.1 ∙ ap (λ (r : Record R). steps_by r.number on.history) is;
+    chain = on.chain;
   }
 
   module _ (k : Shape) (rs : List (Record R)) (t u : Totals) (known : AreSettled k rs t) (told : AreSettled k rs u) where

@@ -1,5 +1,5 @@
 -- A new queue: its parts fit together.
-use Rattle.std.proofs.Common.{◌≡◌, ℕ, zero, suc, ◌+◌, ◌<◌, ◌≤◌, List, [], ◌∷◌, map, length, get_or, max, unwrap_or, Option, arith, refl, sym, ap, ◌∙◌, subst}
+use Rattle.std.proofs.Common.{◌≡◌, ℕ, zero, suc, ◌+◌, ◌<◌, List, [], ◌∷◌, map, length, arith, refl, sym, ap, ◌∙◌, subst}
 use Rattle.std.specs.Prelude.{All}
 use Rattle.std.proofs.lemmas.List.{length-map, get_or-map}
 use mathlib.Core.Option.{some, some-injective, some-ne-none}
@@ -8,13 +8,12 @@ use Rattle.atomic_table.proofs.Lists.{at_map}
 use Rattle.step_ledger.specs.declared.record.Record.{Record}
 use Rattle.step_ledger.specs.Views.{fresh, fresh_record}
 use Rattle.step_ledger.specs.History.{total}
-use Rattle.tag_layout.specs.Layout.{Layout, wake_batch}
 use Rattle.tag_core.specs.declared.caller.Caller.{Caller}
 use Rattle.tag_core.specs.declared.map.Map.{Map}
 use Rattle.tag_core.specs.declared.record.Record as core
 use Rattle.tag_core.specs.declared.shape.Shape.{Shape}
 use Rattle.tag_core.specs.Callers.{IsCallerOf}
-use Rattle.tag_core.specs.Opening.{IsNew, AreNew}
+use Rattle.tag_core.specs.Opening.{AreNew}
 use Rattle.wake_book.specs.declared.book.Book.{Book}
 use Rattle.wake_book.specs.declared.book.Teller.{Teller}
 use Rattle.wake_book.specs.declared.groups.Groups.{Groups}
@@ -26,9 +25,8 @@ use Rattle.wake_book.specs.Groups as groups
 use Rattle.wake_book.specs.Charges.{added}
 use Rattle.wake_book.specs.Waits.{moved_by}
 use Rattle.tag_queue.specs.declared.agent.Agent.{Agent}
-use Rattle.tag_queue.specs.declared.queue.Queue.{Queue}
-use Rattle.tag_queue.specs.Agents.{caller_of, teller_of, waiter_of, IsAgentOf}
-use Rattle.tag_queue.specs.Parts.{Fits, FitTogether, AreParts}
+use Rattle.tag_queue.specs.Agents.{caller_of, teller_of, waiter_of}
+use Rattle.tag_queue.specs.Parts.{FitTogether, AreParts}
 
 fresh_length : (T : Type 0) (c n : ℕ) → length (fresh {T = T} c n) ≡ n
 fresh_length T c zero = refl

@@ -21,9 +21,7 @@ use Rattle.tag_core.specs.Gathering as tags
 use Rattle.tag_core.specs.Reopening.{IsNext, AreReopened}
 use Rattle.tag_core.proofs.Numbers.{numbers-records}
 use Rattle.wake_book.specs.declared.book.Book.{Book}
-use Rattle.wake_book.specs.declared.book.Teller.{Teller}
 use Rattle.wake_book.specs.declared.groups.Groups.{Groups}
-use Rattle.wake_book.specs.declared.groups.Waiter.{Waiter}
 use Rattle.wake_book.specs.Book as book
 use Rattle.wake_book.specs.Groups as groups
 use Rattle.tag_queue.specs.declared.agent.Agent.{Agent}
@@ -125,6 +123,9 @@ module _ {R : Type 0} where
     pub hints_same : map hint_of news ≡ map hint_of agents
     hints_same = part_same (λ (s : Shell). s.hint)
 
+    pub numbers_same : numbers_of news ≡ numbers_of agents
+    numbers_same = part_same (λ (s : Shell). s.number)
+
     -- they are a queue's own where their callers are its map's, and its book and groups are those that were
     pub own_again : (queue : Queue R) (m : Map R) (b : Book) (s : Groups) (callers : List (Caller R)) → All (IsAgentOf queue) agents
         → map caller_of news ≡ callers → All (IsCallerOf m) callers → b.table ≡ queue.book.table → s ≡ queue.groups
@@ -145,6 +146,7 @@ module _ {R : Type 0} where
           tellers = tellers_same;
           waiters = waiters_same;
           hints = hints_same;
+          numbers = numbers_same;
           own = own_again old new.map new.book new.groups callers own is on.own rest.book.table rest.groups;
           rest = rest;
         }
@@ -158,6 +160,7 @@ module _ {R : Type 0} (queue : Queue R) (agents : List (Agent R)) where
   pub callers_there : (count : ℕ) → HasAll (numbers_of agents) count → HasAll (tags.numbers_of (map caller_of agents)) count
   callers_there count = subst (λ (l : List ℕ). HasAll l count) (caller_numbers agents ∙ numbers-records (map caller_of agents))
 
+module _ {R : Type 0} (queue : Queue R) where
   -- the queue with this map
   abbrev with_map : (m : Map R) → book.batch_of queue.book ≡ queue.batch
       → (1 ≤ queue.batch) × (queue.batch ≤ 8) × (1 ≤ queue.least)

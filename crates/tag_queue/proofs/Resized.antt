@@ -1,10 +1,9 @@
 -- Agents that settled, and are as they were, go on as those that were handed in.
-use Rattle.std.proofs.Common.{◌≡◌, ℕ, suc, ◌<◌, ◌≤◌, List, [], ◌∷◌, map, length, arith, refl, sym, ap, ◌∙◌, subst, ⊎_elim, Ok, Err, Result}
+use Rattle.std.proofs.Common.{◌≡◌, ℕ, suc, ◌<◌, ◌≤◌, List, [], ◌∷◌, map, arith, refl, sym, ap, ◌∙◌, subst, ⊎_elim, Ok, Err, Result}
 use Rattle.std.specs.Prelude.{◌↔◌, is_ok}
 use Rattle.std.proofs.lemmas.Bool.{cases_lt, false≢true}
 use Rattle.std.proofs.lemmas.List.{length-map}
-use mathlib.Core.Option.{some, some-injective}
-use lib.ListN.{get_elem?}
+use mathlib.Core.Option.{some-injective}
 use Rattle.step_ledger.specs.Views.{HasAll}
 use Rattle.tag_layout.specs.declared.layout.TheConstants.{MAX_DEPTH}
 use Rattle.tag_core.specs.declared.caller.Caller.{Caller}
@@ -17,10 +16,10 @@ use Rattle.tag_queue.specs.declared.queue.Queue.{Queue}
 use Rattle.tag_queue.specs.declared.resizes.ResizeCause.{ResizeCause}
 use Rattle.tag_queue.specs.declared.resizes.ResizeCause.TheVariants.{Missing, DepthTooLarge, InUse, Waiting, Memory}
 use Rattle.tag_core.specs.Gathering.{numbers}
-use Rattle.tag_queue.specs.Agents.{caller_of, teller_of, waiter_of, hint_of, shape_of, numbers_of, records_of, IsUnchanged, AreUnchanged}
+use Rattle.tag_queue.specs.Agents.{caller_of, teller_of, waiter_of, hint_of, shape_of, numbers_of, IsUnchanged, AreUnchanged}
 use Rattle.tag_queue.specs.Resizing.{HasMap, IsBusyFor, IsRefusedFor, IsResized, GoesOnAfter}
 use Rattle.tag_queue.proofs.Gathering.{caller_numbers}
-use Rattle.tag_queue.proofs.NextMaps.{reopened_after}
+use Rattle.tag_queue.proofs.NextMaps.{reopened_after, leads_after}
 use Rattle.tag_queue.proofs.Unchanged.{agent_same, unchanged-records}
 
 -- a layout was made, so there is one of the depth
@@ -86,11 +85,15 @@ module _ {R : Type 0} where
       (λ j. is a b (same.each 0 a b refl refl) j
       ∷ part_same f is olds news record { count = omega arith; each = λ n x y p q. same.each (suc n) x y p q } j)
 
+  -- and their numbers
+  pub unchanged-numbers : (olds news : List (Agent R)) → AreUnchanged olds news → numbers_of news ≡ numbers_of olds
+  unchanged-numbers olds news same =
+      caller_numbers news ∙ ap (λ (z : List (Record R)). numbers z) (unchanged-records olds news same) ∙ sym (caller_numbers olds)
+
   -- none of them is missing
   pub unchanged-there : (olds news : List (Agent R)) → AreUnchanged olds news → (count : ℕ) → HasAll (numbers_of olds) count
       → HasAll (numbers_of news) count
-  unchanged-there olds news same count = subst (λ (z : List ℕ). HasAll z count)
-      (caller_numbers olds ∙ ap (λ (z : List (Record R)). numbers z) (sym (unchanged-records olds news same)) ∙ sym (caller_numbers news))
+  unchanged-there olds news same count = subst (λ (z : List ℕ). HasAll z count) (sym (unchanged-numbers olds news same))
 
   -- a resize of agents that are as they were is one of those that they were
   pub resized_from : (queue : Queue R) (olds mids : List (Agent R)) (depth : ℕ) (new : Queue R) (resized : List (Agent R)) → AreUnchanged olds mids
@@ -101,11 +104,13 @@ module _ {R : Type 0} where
       goes_on = subst (λ (z : List (Record R)). GoesOnAfter (shape_of queue) z (shape_of new)) (unchanged-records olds mids same) is.callers.goes_on;
       callers = reopened_after new.map (map caller_of olds) (map caller_of mids) (map caller_of resized) (unchanged-callers olds mids same) is.callers.callers;
       own = is.callers.own;
+      leads = leads_after queue.map new.map (map caller_of olds) (map caller_of mids) (unchanged-callers olds mids same) is.callers.leads;
       free = is.callers.free;
     };
     tellers = is.tellers ∙ part_same teller_of (λ a b u. u.same_else.1.0) olds mids same;
     waiters = is.waiters ∙ part_same waiter_of (λ a b u. u.same_else.1.1) olds mids same;
     hints = is.hints ∙ part_same hint_of (λ a b u. u.same_else.0) olds mids same;
+    numbers = is.numbers ∙ unchanged-numbers olds mids same;
     own = is.own;
     rest = is.rest;
   }

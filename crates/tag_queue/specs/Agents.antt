@@ -39,6 +39,10 @@ least_of queue = queue.least
 abbrev pub min_shallow_of : {R : Type 0} → Queue R → Option ℕ
 min_shallow_of queue = queue.min_shallow
 
+-- with what each slot begins
+abbrev pub fill_of : {R : Type 0} → Queue R → R
+fill_of queue = queue.fill
+
 -- the agent is one of the queue's own
 abbrev pub IsAgentOf : {R : Type 0} → Queue R → Agent R → Type 0
 IsAgentOf queue agent = core.IsCallerOf queue.map agent.caller × book.IsTellerOf queue.book agent.teller × groups.IsWaiterOf queue.groups agent.waiter

@@ -1,5 +1,5 @@
 -- How agents come together, and what a queue's totals say of them all.
-use Rattle.std.specs.Prelude.{◌≡◌, ℕ, ◌≤◌, List, map}
+use Rattle.std.specs.Prelude.{◌≡◌, ◌≤◌, List, map}
 use Rattle.tag_core.specs.declared.closed.Closed.{Closed}
 use Rattle.tag_core.specs.Gathering as tags
 use Rattle.tag_core.specs.Chain.{CountsChain}

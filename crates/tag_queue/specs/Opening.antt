@@ -1,8 +1,8 @@
 -- A new queue, and its agents.
-use Rattle.std.specs.Prelude.{◌≡◌, ℕ, ◌<◌, ◌≤◌, ◌⊎◌, ◌^◌, List, All, map, max, unwrap_or, IsSomeAnd, Bool}
+use Rattle.std.specs.Prelude.{◌≡◌, ℕ, ◌<◌, ◌≤◌, ◌⊎◌, List, All, map, max, unwrap_or, IsSomeAnd, Bool}
 use Rattle.tag_layout.specs.Layout.{Layout, wake_batch, HasShift}
 use Rattle.tag_layout.specs.declared.layout.TheConstants.{MAX_DEPTH, MAX_SHIFT}
-use Rattle.tag_model.specs.declared.world.TheConstants.{MAX_CALLERS, MOST_WON}
+use Rattle.tag_model.specs.declared.world.TheConstants.{MAX_CALLERS}
 use Rattle.tag_core.specs.Opening.{IsNew, AreNew}
 use Rattle.tag_search.specs.declared.hint.Hint.{Hint}
 use Rattle.wake_book.specs.Book.{IsOpenBook}

@@ -1,5 +1,5 @@
 -- Resizes of a queue: why they are refused, and what goes on.
-use Rattle.std.specs.Prelude.{◌≡◌, ℕ, ◌<◌, ◌≤◌, List, All, map, count_by, is_some, length}
+use Rattle.std.specs.Prelude.{◌≡◌, ℕ, ◌<◌, ◌≤◌, List, All, map, count_by, is_some, Result, IsErrAnd}
 use Rattle.step_ledger.specs.Views.{HasAll, IsLeastMissing}
 use Rattle.tag_layout.specs.Layout.{Layout, wake_batch}
 use Rattle.tag_layout.specs.declared.layout.TheConstants.{MAX_DEPTH}
@@ -11,13 +11,14 @@ use Rattle.tag_core.specs.declared.shape.Shape.{Shape}
 use Rattle.tag_core.specs.Callers.{IsCallerOf, record_of}
 use Rattle.tag_core.specs.Chain.{GoesOn}
 use Rattle.tag_core.specs.Settling.{AreSettled}
-use Rattle.tag_core.specs.Reopening.{IsNext, AreReopened, AllFree}
+use Rattle.tag_core.specs.Reopening.{IsNext, AreReopened, LeadsOn, AllFree}
 use Rattle.wake_book.specs.Book.{Rebatches}
 use Rattle.tag_queue.specs.declared.agent.Agent.{Agent}
 use Rattle.tag_queue.specs.declared.queue.Queue.{Queue}
 use Rattle.tag_queue.specs.declared.resizes.ResizeCause.{ResizeCause}
+use Rattle.tag_queue.specs.declared.resizes.ResizeFault.{ResizeFault}
 use Rattle.tag_queue.specs.declared.resizes.ResizeCause.TheVariants.{Missing, DepthTooLarge, InUse, Waiting, Memory}
-use Rattle.tag_queue.specs.Agents.{caller_of, teller_of, waiter_of, hint_of, layout_of, least_of, min_shallow_of, shape_of, standing_of, agents_of, numbers_of, records_of, IsAgentOf}
+use Rattle.tag_queue.specs.Agents.{caller_of, teller_of, waiter_of, hint_of, layout_of, least_of, min_shallow_of, fill_of, standing_of, agents_of, numbers_of, records_of, IsAgentOf}
 use Rattle.tag_queue.specs.Using.{held_in, posted_in, NoneInUse}
 
 -- how many of these agents stand in a group
@@ -36,20 +37,31 @@ HasMap queue agents depth = HasAll (numbers_of agents) (agents_of queue) × (dep
 abbrev pub MayResize : {R : Type 0} → Queue R → List (Agent R) → ℕ → Type 0
 MayResize queue agents depth = HasMap queue agents depth × AreUnused agents × (standing_count agents ≡ 0)
 
+-- so many tags are held and so many posted, and these are not none
+abbrev pub AreUsed : {R : Type 0} → List (Agent R) → ℕ → ℕ → Type 0
+AreUsed agents held posted = (held ≡ held_in (records_of agents)) × (posted ≡ posted_in (records_of agents)) × ¬ (AreUnused agents)
+
+-- no tag is in use, and so many agents stand in a group, which is not none
+abbrev pub AreWaiting : {R : Type 0} → List (Agent R) → ℕ → Type 0
+AreWaiting agents count = AreUnused agents × (count ≡ standing_count agents) × (1 ≤ count)
+
 -- tags are in use, or agents stand in a group: the cause that is told
 abbrev pub IsBusyFor : {R : Type 0} → List (Agent R) → ResizeCause → Type 0
-IsBusyFor agents (InUse held posted) =
-    (held ≡ held_in (records_of agents)) × (posted ≡ posted_in (records_of agents)) × ¬ (AreUnused agents)
-IsBusyFor agents (Waiting count) = AreUnused agents × (count ≡ standing_count agents) × (1 ≤ count)
+IsBusyFor agents (InUse held posted) = AreUsed agents held posted
+IsBusyFor agents (Waiting count) = AreWaiting agents count
 IsBusyFor agents _ = ⊥
 
--- a resize is refused for this cause, the first in this order: no two of the conditions hold at once
+-- what has to be so for a refusal of this cause
 abbrev pub IsRefusedFor : {R : Type 0} → Queue R → List (Agent R) → ℕ → ResizeCause → Type 0
 IsRefusedFor queue agents depth (Missing number) = IsLeastMissing (numbers_of agents) (agents_of queue) number
 IsRefusedFor queue agents depth DepthTooLarge = HasAll (numbers_of agents) (agents_of queue) × (MAX_DEPTH < depth)
-IsRefusedFor queue agents depth (InUse held posted) = HasMap queue agents depth × IsBusyFor agents (InUse held posted)
-IsRefusedFor queue agents depth (Waiting count) = HasMap queue agents depth × IsBusyFor agents (Waiting count)
+IsRefusedFor queue agents depth (InUse held posted) = HasMap queue agents depth × AreUsed agents held posted
+IsRefusedFor queue agents depth (Waiting count) = HasMap queue agents depth × AreWaiting agents count
 IsRefusedFor queue agents depth Memory = MayResize queue agents depth
+
+-- the answer is a refusal of this cause
+abbrev pub IsRefusedAs : {R A : Type 0} → Result A (ResizeFault R) → ResizeCause → Type 0
+IsRefusedAs result cause = IsErrAnd result (λ fault. fault.cause ≡ cause)
 
 -- the next map goes on from any history in which these records stand when their callers settle
 abbrev pub GoesOnAfter : {R : Type 0} → Shape → List (Record R) → Shape → Type 0
@@ -61,6 +73,7 @@ pub record MoveOn {R : Type 0} (layout : Layout) (old : Map R) (before : List (C
   pub goes_on : GoesOnAfter old.shape (map record_of before) new.shape
   pub callers : AreReopened new before after
   pub own : All (IsCallerOf new) after
+  pub leads : LeadsOn old before new
   pub free : AllFree new.shape (map record_of after)
 
 -- the layout asked for: the depth is the one given, and the shift is as before
@@ -73,7 +86,7 @@ pub record KeepsRest {R : Type 0} (old new : Queue R) : Type 0 where
   pub groups : new.groups ≡ old.groups
   pub least : least_of new ≡ least_of old
   pub min_shallow : min_shallow_of new ≡ min_shallow_of old
-  pub fill : new.fill ≡ old.fill
+  pub fill : fill_of new ≡ fill_of old
 
 -- in the same order the agents go on with a next map of free tags: their numbers, their counts, where they stand, and their
 -- hints are as they were, and they hold nothing
@@ -82,5 +95,6 @@ pub record IsResized {R : Type 0} (old : Queue R) (agents : List (Agent R)) (dep
   pub tellers : map teller_of resized ≡ map teller_of agents
   pub waiters : map waiter_of resized ≡ map waiter_of agents
   pub hints : map hint_of resized ≡ map hint_of agents
+  pub numbers : numbers_of resized ≡ numbers_of agents
   pub own : All (IsAgentOf new) resized
   pub rest : KeepsRest old new

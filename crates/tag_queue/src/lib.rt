@@ -15,6 +15,7 @@ mod next_map;
 mod opens;
 mod parts;
 mod queue;
+mod reopens;
 mod resizes;
 mod shells;
 mod slots;

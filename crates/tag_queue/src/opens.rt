@@ -2,7 +2,7 @@
 ghost use Rattle.std.specs.Prelude.{◌≡◌, ◌≢◌, ℕ, ◌^◌, ◌<◌, ◌≤◌, ◌↔◌, List, [], All, IfOk, IsSomeAnd};
 ghost use Rattle.tag_layout.specs.declared.layout.TheConstants.{MAX_DEPTH, MAX_SHIFT};
 ghost use Rattle.tag_model.specs.declared.world.TheConstants.{MAX_CALLERS, MOST_WON};
-ghost use Rattle.tag_queue.specs.Agents.{layout_of};
+ghost use Rattle.tag_queue.specs.Agents.{layout_of, fill_of};
 ghost use Rattle.tag_queue.specs.Opening.{HasLayout, IsLaidOut, MiscountsAgents, CountsAgents, IsOpen};
 
 use crate::agent::Agent;
@@ -29,6 +29,7 @@ impl<R: Copy> Queue<R> {
     ) -> Result<(Queue<R>, Vec<Agent<R>>), SetFault>
         ensures ok { IfOk result (λ opened. IsOpen options opened.0 opened.1.items) }
         ensures layout { IfOk result (λ opened. IsLaidOut depth options (layout_of opened.0)) }
+        ensures fill { IfOk result (λ opened. fill_of opened.0 ≡ fill) }
 
         // The causes are looked at in this order, and memory last.
         ensures total { (result ≡ Err SetFault.TotalTooLarge) ↔ (MAX_DEPTH < depth) }
@@ -69,6 +70,7 @@ fn lay_out<R: Copy>(
 ) -> Result<(Queue<R>, Vec<Agent<R>>), AllocError>
     requires limits { CountsAgents options × (options.life ≤ MOST_WON) × (options.cap ≤ 2 ^ 56) }
     ensures layout { IfOk result (λ opened. layout_of opened.0 ≡ layout) }
+    ensures fill { IfOk result (λ opened. fill_of opened.0 ≡ fill) }
     ensures open { IfOk result (λ opened. IsOpen options opened.0 opened.1.items) }
 {
     let slots = vec![in alloc; fill; layout.depth() as usize]?;

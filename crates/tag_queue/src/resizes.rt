@@ -1,13 +1,13 @@
 //! A queue goes on with another depth.
-ghost use Rattle.std.specs.Prelude.{◌≡◌, All, IfOk, IfErr, IsOk, MatchOption};
-ghost use Rattle.step_ledger.specs.Views.{HasAll};
+ghost use Rattle.std.specs.Prelude.{◌≡◌, ◌<◌, ◌↔◌, ℕ, All, IfOk, IfErr, IsOk, MatchOption, MatchResult};
+ghost use Rattle.step_ledger.specs.Views.{HasAll, IsLeastMissing};
+ghost use Rattle.tag_layout.specs.declared.layout.TheConstants.{MAX_DEPTH};
 ghost use Rattle.tag_queue.specs.Agents.{IsAgentOf, AreUnchanged, agents_of, numbers_of, layout_of};
-ghost use Rattle.tag_queue.specs.Resizing.{IsRefusedFor, IsResized, MayResize, AreUnused, IsBusyFor, standing_count};
+ghost use Rattle.tag_queue.specs.Resizing.{IsRefusedAs, IsRefusedFor, IsResized, MayResize, HasMap, layout_at};
+ghost use Rattle.tag_queue.specs.Resizing.{AreUnused, AreUsed, AreWaiting, IsBusyFor, standing_count};
 
 use crate::agent::Agent;
-use crate::next_map::next_map;
 use crate::queue::Queue;
-use crate::shells::{Rooms, part, unite};
 use std::alloc::Global;
 use tag_layout::{Layout, LayoutFault};
 use wake_book::Groups;
@@ -49,39 +49,27 @@ impl<R: Copy> Queue<R> {
         ensures ok { IfOk result (λ p. IsResized queue agents.items depth p.0 p.1.items) }
         ensures may { IsOk result → MayResize queue agents.items depth }
 
-        // No two causes hold at once, so each is told exactly where it holds; but for memory, which nothing tells.
-        ensures cause { IfErr result (λ fault. IsRefusedFor queue agents.items depth fault.cause) }
+        // The causes are looked at in this order, and memory last.
+        ensures missing { (n : ℕ) → IsRefusedAs result (ResizeCause.Missing n)
+            ↔ IsLeastMissing (numbers_of agents.items) (agents_of queue) n }
+        ensures too_deep { IsRefusedAs result ResizeCause.DepthTooLarge
+            ↔ (HasAll (numbers_of agents.items) (agents_of queue) × (MAX_DEPTH < depth)) }
+        ensures in_use { (held posted : ℕ) → IsRefusedAs result (ResizeCause.InUse held posted)
+            ↔ (HasMap queue agents.items depth × AreUsed agents.items held posted) }
+        ensures waiting { (n : ℕ) → IsRefusedAs result (ResizeCause.Waiting n)
+            ↔ (HasMap queue agents.items depth × AreWaiting agents.items n) }
+        ensures memory { IsRefusedAs result ResizeCause.Memory → MayResize queue agents.items depth }
         ensures err { IfErr result (λ fault. (fault.queue ≡ queue) × AreUnchanged agents.items fault.agents.items) }
         ensures own { IfErr result (λ fault. All (IsAgentOf fault.queue) fault.agents.items) }
     {
-        if let Some(number) = queue.missing(agents.as_slice()) {
-            let cause = ResizeCause::Missing(number);
-            return Err(ResizeFault {
+        match queue.next_layout(&mut agents, depth) {
+            Ok(layout) => queue.reopen(alloc, layout, agents),
+            Err(cause) => Err(ResizeFault {
                 cause,
                 queue,
                 agents,
-            });
+            }),
         }
-        let layout = match Layout::new(depth, Some(queue.map.layout().shift())) {
-            Ok(layout) => layout,
-            Err(LayoutFault::ShiftTooLarge) => unreachable!(),
-            Err(LayoutFault::DepthTooLarge) => {
-                let cause = ResizeCause::DepthTooLarge;
-                return Err(ResizeFault {
-                    cause,
-                    queue,
-                    agents,
-                });
-            }
-        };
-        if let Some(cause) = queue.busy(&mut agents) {
-            return Err(ResizeFault {
-                cause,
-                queue,
-                agents,
-            });
-        }
-        queue.reopen(alloc, layout, agents)
     }
 }
 
@@ -95,6 +83,29 @@ fn count_standing<R>(agents: &[Agent<R>]) -> usize
 }
 
 impl<R> Queue<R> {
+    // The layout of this depth, where nothing but memory is in the way.
+    fn next_layout(&self, agents: &mut Vec<Agent<R>>, depth: u32) -> Result<Layout, ResizeCause>
+        requires own { All (IsAgentOf self.now) agents.old.items }
+        ensures own { All (IsAgentOf self.now) agents.new.items }
+        ensures unchanged { AreUnchanged agents.old.items agents.new.items }
+        ensures may { IsOk result → MayResize self.now agents.old.items depth }
+        ensures layout { IfOk result (λ layout. layout ≡ layout_at self.now depth) }
+        ensures cause { IfErr result (IsRefusedFor self.now agents.old.items depth) }
+    {
+        if let Some(number) = self.missing(agents.as_slice()) {
+            return Err(ResizeCause::Missing(number));
+        }
+        let layout = match Layout::new(depth, Some(self.map.layout().shift())) {
+            Ok(layout) => layout,
+            Err(LayoutFault::ShiftTooLarge) => unreachable!(),
+            Err(LayoutFault::DepthTooLarge) => return Err(ResizeCause::DepthTooLarge),
+        };
+        match self.busy(agents) {
+            Some(cause) => Err(cause),
+            None => Ok(layout),
+        }
+    }
+
     // Why it can't be resized now that all agents are there, unless for want of memory.
     fn busy(&self, agents: &mut Vec<Agent<R>>) -> Option<ResizeCause>
         requires own { All (IsAgentOf self.now) agents.old.items }
@@ -113,84 +124,5 @@ impl<R> Queue<R> {
             return Some(ResizeCause::Waiting(waiting as u32));
         }
         None
-    }
-}
-
-impl<R: Copy> Queue<R> {
-    // All agents go on with a map of this layout.
-    fn reopen(
-        self,
-        alloc: Global,
-        layout: Layout,
-        agents: Vec<Agent<R>>,
-    ) -> Result<(Queue<R>, Vec<Agent<R>>), ResizeFault<R>>
-        requires own { All (IsAgentOf self) agents.items }
-        requires every { HasAll (numbers_of agents.items) (agents_of self) }
-        requires unused { AreUnused agents.items }
-        requires shift { layout.shift ≡ (layout_of self).shift }
-        ensures ok { IfOk result (λ p. IsResized self agents.items layout.depth p.0 p.1.items) }
-        ensures cause { IfErr result (λ fault. fault.cause ≡ ResizeCause.Memory) }
-        ensures err { IfErr result (λ fault. (fault.queue ≡ self) × AreUnchanged agents.items fault.agents.items) }
-        ensures own { IfErr result (λ fault. All (IsAgentOf fault.queue) fault.agents.items) }
-    {
-        let cause = ResizeCause::Memory;
-        let Ok(rooms) = Rooms::open(alloc, agents.len(), layout.depth(), self.fill) else {
-            return Err(ResizeFault {
-                cause,
-                queue: self,
-                agents,
-            });
-        };
-        let Rooms {
-            callers,
-            shells,
-            agents: room,
-            slots,
-        } = rooms;
-        let (callers, shells) = part(agents, callers, shells);
-        let Queue {
-            map,
-            mut book,
-            groups,
-            batch,
-            least,
-            min_shallow,
-            callers: count,
-            fill,
-        } = self;
-        match next_map(alloc, map, callers, layout, slots) {
-            Ok((map, callers)) => {
-                let batch = layout.wake_batch(min_shallow);
-                book.rebatch(batch);
-                let queue = Queue {
-                    map,
-                    book,
-                    groups,
-                    batch,
-                    least,
-                    min_shallow,
-                    callers: count,
-                    fill,
-                };
-                Ok((queue, unite(callers, shells, room)))
-            }
-            Err((map, callers)) => {
-                let queue = Queue {
-                    map,
-                    book,
-                    groups,
-                    batch,
-                    least,
-                    min_shallow,
-                    callers: count,
-                    fill,
-                };
-                Err(ResizeFault {
-                    cause,
-                    queue,
-                    agents: unite(callers, shells, room),
-                })
-            }
-        }
     }
 }

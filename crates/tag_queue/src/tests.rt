@@ -1,6 +1,7 @@
 //! What no clause says: worked examples, want of memory, and threads that wait and wake.
 mod agents;
 mod clears;
+mod crowd;
 mod example;
 mod gathering;
 mod gets;
@@ -9,5 +10,6 @@ mod memory;
 mod opening;
 mod resizing;
 mod slots;
+mod stage;
 mod threads;
 mod waits;

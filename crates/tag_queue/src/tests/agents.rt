@@ -1,6 +1,6 @@
-//! Queues and agents for tests.
-ghost use Rattle.std.specs.Prelude.{All, IfOk};
-ghost use Rattle.tag_queue.specs.Agents.{IsAgentOf};
+//! Queues and agents for tests. What a call asks for is looked at when it runs.
+ghost use Rattle.std.specs.Prelude.{All, IfOk, IsTrue};
+ghost use Rattle.tag_queue.specs.Agents.{IsAgentOf, Holds};
 
 use crate::agent::Agent;
 use crate::gather::QueueTotals;
@@ -42,60 +42,6 @@ pub(crate) fn opened(
     Ok(Queue::open(alloc, depth, options, FILL)?)
 }
 
-/// The last of the agents.
-pub(crate) fn next_agent(
-    queue: &Queue<u64>,
-    agents: &mut Vec<Agent<u64>>,
-) -> Result<Agent<u64>, Fail>
-    requires { All (IsAgentOf queue.now) agents.old.items }
-    ensures own { All (IsAgentOf queue.now) agents.new.items }
-    ensures agent { IfOk result (IsAgentOf queue.now) }
-{
-    match agents.pop() {
-        Some(agent) => Ok(agent),
-        None => Err(Fail::new("no agent is left")),
-    }
-}
-
-pub(crate) fn put_back(
-    queue: &Queue<u64>,
-    agents: &mut Vec<Agent<u64>>,
-    agent: Agent<u64>,
-) -> Result<(), Fail>
-    requires { All (IsAgentOf queue.now) agents.old.items × IsAgentOf queue.now agent }
-    ensures { All (IsAgentOf queue.now) agents.new.items }
-{
-    agents.push(agent)?;
-    Ok(())
-}
-
-/// A queue of one agent.
-pub(crate) fn alone(
-    alloc: Global,
-    depth: u32,
-    options: Options,
-) -> Result<(Queue<u64>, Agent<u64>), Fail>
-    ensures { IfOk result (λ p. IsAgentOf p.0 p.1) }
-{
-    let (queue, mut agents) = opened(alloc, depth, options)?;
-    let agent = next_agent(&queue, &mut agents)?;
-    Ok((queue, agent))
-}
-
-/// A queue of two agents, whose numbers are 0 and 1.
-pub(crate) fn pair(
-    alloc: Global,
-    depth: u32,
-    options: Options,
-) -> Result<(Queue<u64>, Agent<u64>, Agent<u64>), Fail>
-    ensures { IfOk result (λ p. IsAgentOf p.0 p.1 × IsAgentOf p.0 p.2) }
-{
-    let (queue, mut agents) = opened(alloc, depth, options)?;
-    let first = next_agent(&queue, &mut agents)?;
-    let zeroth = next_agent(&queue, &mut agents)?;
-    Ok((queue, zeroth, first))
-}
-
 /// Gathers all agents.
 pub(crate) fn close(queue: Queue<u64>, agents: Vec<Agent<u64>>) -> Result<QueueTotals, Fail>
     requires { All (IsAgentOf queue) agents.items }
@@ -106,33 +52,12 @@ pub(crate) fn close(queue: Queue<u64>, agents: Vec<Agent<u64>>) -> Result<QueueT
     }
 }
 
-/// Gathers two agents.
-pub(crate) fn close_pair(
-    alloc: Global,
-    queue: Queue<u64>,
-    zeroth: Agent<u64>,
-    first: Agent<u64>,
-) -> Result<QueueTotals, Fail>
-    requires { IsAgentOf queue zeroth × IsAgentOf queue first }
+/// Whether there is such a tag and the agent holds it.
+pub(crate) fn has(queue: &Queue<u64>, agent: &Agent<u64>, tag: u32) -> bool
+    requires { IsAgentOf queue.now agent.now }
+    ensures { IsTrue result → Holds agent.now tag }
 {
-    close(queue, vec![in alloc; zeroth, first]?)
-}
-
-/// What so many gets answer, one after another.
-pub(crate) fn gets(
-    alloc: Global,
-    queue: &Queue<u64>,
-    agent: &mut Agent<u64>,
-    count: u32,
-) -> Result<Vec<Option<u32>>, Fail>
-    requires { IsAgentOf queue.now agent.old }
-    ensures { IsAgentOf queue.now agent.new }
-{
-    let mut answers = Vec::new(alloc);
-    for _ in 0..count {
-        answers.push(queue.get(agent)?)?;
-    }
-    Ok(answers)
+    tag < queue.map.layout().depth() && agent.holds(tag)
 }
 
 /// The word and its cleared set: 1 is taken, and 1 is set aside. None where there is no such word.

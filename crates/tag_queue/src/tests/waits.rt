@@ -1,8 +1,9 @@
 //! Waits, and who is woken.
 use crate::fault::TagFault;
 use crate::gather::QueueTotals;
-use crate::queue::{Options, Queue};
-use crate::tests::agents::{alone, close_pair, gets, options, pair};
+use crate::queue::Options;
+use crate::tests::agents::options;
+use crate::tests::stage::Stage;
 use crate::waits::Wakes;
 use std::test::Fail;
 use tag_model::Totals;
@@ -10,18 +11,18 @@ use wake_book::{BookTotals, GroupTotals, Left};
 
 #[test]
 fn a_batch_of_completions_wakes_a_waiter(rt: HostRuntime) -> Result<(), Fail> {
-    let (queue, mut zeroth, mut first) = pair(rt.alloc(), 16, options(2))?;
+    let mut stage = Stage::open(rt.alloc(), 16, options(2))?;
     assert_eq!(rt;
-        gets(rt.alloc(), &queue, &mut zeroth, 3)?.as_slice(),
+        stage.gets(rt.alloc(), 0, 3)?.as_slice(),
         &[Some(0), Some(1), Some(2)][..]
     );
-    assert_eq!(rt; queue.clear(&mut zeroth, 0), Ok(0));
-    assert_eq!(rt; queue.prepare_wait(&mut first), Ok(0));
-    assert_eq!(rt; queue.clear(&mut zeroth, 1), Ok(0));
-    assert_eq!(rt; queue.clear(&mut zeroth, 2), Ok(1));
-    assert_eq!(rt; queue.finish_wait(&rt, &mut first), Ok(Left::Woken));
+    assert_eq!(rt; stage.clear(0, 0), Ok(0));
+    assert_eq!(rt; stage.prepare_wait(1), Ok(0));
+    assert_eq!(rt; stage.clear(0, 1), Ok(0));
+    assert_eq!(rt; stage.clear(0, 2), Ok(1));
+    assert_eq!(rt; stage.finish_wait(&rt, 1), Ok(Left::Woken));
     assert_eq!(rt;
-        close_pair(rt.alloc(), queue, zeroth, first)?,
+        stage.close()?,
         QueueTotals {
             tags: Totals {
                 got: 3,
@@ -51,19 +52,19 @@ fn a_clear_past_the_cap_wakes_nobody(rt: HostRuntime) -> Result<(), Fail> {
         cap: 1,
         ..options(2)
     };
-    let (queue, mut zeroth, mut first) = pair(rt.alloc(), 8, capped)?;
+    let mut stage = Stage::open(rt.alloc(), 8, capped)?;
     assert_eq!(rt;
-        gets(rt.alloc(), &queue, &mut zeroth, 2)?.as_slice(),
+        stage.gets(rt.alloc(), 0, 2)?.as_slice(),
         &[Some(0), Some(1)][..]
     );
-    assert_eq!(rt; queue.prepare_wait(&mut first), Ok(0));
-    assert_eq!(rt; queue.clear(&mut zeroth, 0), Ok(1));
-    assert_eq!(rt; queue.finish_wait(&rt, &mut first), Ok(Left::Woken));
-    assert_eq!(rt; queue.prepare_wait(&mut first), Ok(1));
-    assert_eq!(rt; queue.clear(&mut zeroth, 1), Ok(0));
-    assert_eq!(rt; queue.finish_wait(&rt, &mut first), Ok(Left::Unwoken));
+    assert_eq!(rt; stage.prepare_wait(1), Ok(0));
+    assert_eq!(rt; stage.clear(0, 0), Ok(1));
+    assert_eq!(rt; stage.finish_wait(&rt, 1), Ok(Left::Woken));
+    assert_eq!(rt; stage.prepare_wait(1), Ok(1));
+    assert_eq!(rt; stage.clear(0, 1), Ok(0));
+    assert_eq!(rt; stage.finish_wait(&rt, 1), Ok(Left::Unwoken));
     assert_eq!(rt;
-        close_pair(rt.alloc(), queue, zeroth, first)?,
+        stage.close()?,
         QueueTotals {
             tags: Totals {
                 got: 2,
@@ -91,45 +92,44 @@ fn a_clear_past_the_cap_wakes_nobody(rt: HostRuntime) -> Result<(), Fail> {
 fn a_wait_is_refused_to_who_stands_and_its_end_to_who_does_not(
     rt: HostRuntime,
 ) -> Result<(), Fail> {
-    let (queue, mut zeroth, mut first) = pair(rt.alloc(), 8, options(2))?;
-    assert_eq!(rt; queue.get(&mut zeroth)?, Some(0));
+    let mut stage = Stage::open(rt.alloc(), 8, options(2))?;
+    assert_eq!(rt; stage.get(0)?, Some(0));
+    assert_eq!(rt; stage.finish_wait(&rt, 1), Err(TagFault::NotWaiting));
+    assert_eq!(rt; stage.prepare_wait(1), Ok(0));
+    assert_eq!(rt; stage.prepare_wait(1), Err(TagFault::Waiting));
+    assert_eq!(rt; stage.get_blocking(&rt, 1), Err(TagFault::Waiting));
+    assert_eq!(rt; stage.clear(0, 0), Ok(1));
     assert_eq!(rt;
-        queue.finish_wait(&rt, &mut first),
-        Err(TagFault::NotWaiting)
-    );
-    assert_eq!(rt; queue.prepare_wait(&mut first), Ok(0));
-    assert_eq!(rt; queue.prepare_wait(&mut first), Err(TagFault::Waiting));
-    assert_eq!(rt; queue.get_blocking(&rt, &mut first), Err(TagFault::Waiting));
-    assert_eq!(rt; queue.clear(&mut zeroth, 0), Ok(1));
-    assert_eq!(rt;
-        queue.wakes(&mut zeroth),
-        Wakes {
+        stage.wakes(0),
+        Some(Wakes {
             counted: 1,
             charged: 1,
             index: 1,
             active: 1
-        }
+        })
     );
-    assert_eq!(rt; queue.finish_wait(&rt, &mut first), Ok(Left::Woken));
+    assert_eq!(rt; stage.finish_wait(&rt, 1), Ok(Left::Woken));
+    assert_eq!(rt; stage.finish_wait(&rt, 1), Err(TagFault::NotWaiting));
     assert_eq!(rt;
-        queue.finish_wait(&rt, &mut first),
-        Err(TagFault::NotWaiting)
+        stage.wakes(1),
+        Some(Wakes {
+            counted: 1,
+            charged: 1,
+            index: 1,
+            active: 0
+        })
     );
-    assert_eq!(rt; queue.wakes(&mut first).active, 0);
     Ok(())
 }
 
 #[test]
 fn a_blocking_get_of_a_free_tag_does_not_wait(rt: HostRuntime) -> Result<(), Fail> {
-    let (queue, mut agent) = alone(rt.alloc(), 0, options(1))?;
-    assert_eq!(rt;
-        queue.get_blocking(&rt, &mut agent),
-        Err(TagFault::NoSuchTag)
-    );
-    let (queue, mut agent) = alone(rt.alloc(), 1, options(1))?;
-    assert_eq!(rt; queue.get_blocking(&rt, &mut agent), Ok(0));
-    assert_eq!(rt; queue.clear(&mut agent, 0), Ok(0));
+    let mut stage = Stage::open(rt.alloc(), 0, options(1))?;
+    assert_eq!(rt; stage.get_blocking(&rt, 0), Err(TagFault::NoSuchTag));
+    let mut stage = Stage::open(rt.alloc(), 1, options(1))?;
+    assert_eq!(rt; stage.get_blocking(&rt, 0), Ok(0));
+    assert_eq!(rt; stage.clear(0, 0), Ok(0));
     // The next wait is the first: none was begun.
-    assert_eq!(rt; queue.prepare_wait(&mut agent), Ok(0));
+    assert_eq!(rt; stage.prepare_wait(0), Ok(0));
     Ok(())
 }

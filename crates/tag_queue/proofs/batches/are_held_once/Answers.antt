@@ -1,5 +1,5 @@
 -- A tag that is not held, or that stands among those before it, is told; where none is, all are held and differ.
-use Rattle.std.proofs.Common.{rules, arith, ◌≡◌, ◌≢◌, ℕ, ◌<◌, ◌⊎◌, length, take, get_or, false, sym, ap, ◌∙◌, subst, below_more, eqb-true, eq-eqb, ⊎_elim}
+use Rattle.std.proofs.Common.{rules, arith, ◌≡◌, ◌≢◌, ℕ, ◌<◌, length, take, get_or, sym, ap, ◌∙◌, subst, below_more, eqb-true, eq-eqb}
 use mathlib.Core.Logic.{dite}
 use native.Mathlib.Decide.{ℕ_discrete}
 use Rattle.std.proofs.lemmas.Grind.{get_or_default_zero}

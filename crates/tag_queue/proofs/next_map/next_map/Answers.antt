@@ -4,6 +4,7 @@ use Rattle.tag_core.specs.declared.record.Record.{Record}
 use Rattle.tag_core.specs.declared.map.Map.{Map}
 use Rattle.tag_core.specs.Callers.{record_of}
 use Rattle.tag_core.specs.Reopening.{IsNext}
+use Rattle.tag_core.proofs.Reopenings.{leads_on}
 use Rattle.tag_core.proofs.Settlings.{unchanged-records}
 use Rattle.tag_queue.specs.Using.{NoneInUse}
 use Rattle.tag_queue.proofs.NextMaps.{none_used, reopened_after, goes_on_after}
@@ -27,5 +28,6 @@ returns-in-Ok-reopen-clause-ok g c =
       goes_on = goes_on_after s c.args.tags c.args.callers.items next.shape told.map told.callers told.settled went.goes_on;
       callers = reopened_after next c.args.callers.items s.callers.items c.in-Ok-reopen.reopened.1.items told.callers went.callers;
       own = went.own;
+      leads = leads_on c.args.tags next c.args.callers.items s told.map told.callers told.settled went.goes_on;
       free = went.free;
     }

@@ -1,6 +1,5 @@
-use Rattle.std.proofs.Common.{rules, ◌≡◌, ℕ, List, map, sym, ◌∙◌, subst}
+use Rattle.std.proofs.Common.{rules, ℕ, List, map, sym, ◌∙◌, subst}
 use Rattle.tag_layout.specs.Layout.{Layout, wake_batch}
-use Rattle.tag_core.specs.declared.caller.Caller.{Caller}
 use Rattle.tag_core.specs.Opening.{IsNew, AreNew}
 use Rattle.wake_book.specs.declared.book.Teller.{Teller}
 use Rattle.wake_book.specs.declared.groups.Waiter.{Waiter}

@@ -1,9 +1,8 @@
 -- Agents come off the end, so each stands before those that came earlier.
-use Rattle.std.proofs.Common.{◌≡◌, List, [], ◌∷◌, ◌++◌, All, sym, ap, ◌∙◌, subst, append_assoc}
+use Rattle.std.proofs.Common.{List, [], ◌∷◌, ◌++◌, All, sym, ap, ◌∙◌, subst, append_assoc}
 use Rattle.tag_core.proofs.Lasts.{all_front, all_last}
 use Rattle.tag_queue.specs.declared.agent.Agent.{Agent}
 use Rattle.tag_queue.specs.Agents.{IsAgentOf}
-use Rattle.tag_queue.specs.Gathering.{AreTogether}
 use Rattle.tag_queue.proofs.together.gather_each.Goals as goal
 
 pub start-all-requires : goal.start-all-requires

@@ -1,5 +1,5 @@
 -- The last agent's record comes before those gathered; on the way back it is the latest again.
-use Rattle.std.proofs.Common.{rules, ◌≡◌, List, [], ◌∷◌, ◌++◌, All, refl, sym, ap, ◌∙◌, subst}
+use Rattle.std.proofs.Common.{rules, ◌≡◌, List, [], ◌++◌, All, refl, sym, ap, ◌∙◌, subst}
 use lib.ListN.{get_elem?}
 use Rattle.step_ledger.specs.Views.{HasAll}
 use Rattle.tag_core.specs.declared.record.Record.{Record}

@@ -1,5 +1,5 @@
 -- The records and the groups of the agents are as before, so what is found of them now held before.
-use Rattle.std.proofs.Common.{arith, ◌≡◌, ℕ, List, sym, ap, ◌∙◌}
+use Rattle.std.proofs.Common.{arith, ◌≡◌, List, sym, ap, ◌∙◌}
 use Rattle.tag_core.specs.declared.record.Record.{Record}
 use Rattle.tag_queue.specs.declared.agent.Agent.{Agent}
 use Rattle.tag_queue.specs.Agents.{records_of, shape_of}

@@ -1,5 +1,5 @@
 -- All callers, tellers and waiters were gathered, and what the three ends tell is told of the agents.
-use Rattle.std.proofs.Common.{◌≡◌, ℕ, List, map, sym, ap, ◌∙◌, subst}
+use Rattle.std.proofs.Common.{ℕ, List, sym, ap, ◌∙◌, subst}
 use Rattle.step_ledger.specs.Views.{HasAll, numbers}
 use Rattle.step_ledger.specs.declared.record.Record as ledger
 use Rattle.tag_core.specs.declared.record.Record.{Record}

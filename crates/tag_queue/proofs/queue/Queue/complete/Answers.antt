@@ -1,4 +1,4 @@
-use Rattle.std.proofs.Common.{rules, arith, ◌≡◌, ℕ, List, ◌∷◌, inr, subst, sym}
+use Rattle.std.proofs.Common.{rules, arith, ℕ, List, inr, subst, sym}
 use Rattle.wake_book.specs.declared.steps.GroupStep.{GroupStep}
 use Rattle.wake_book.specs.declared.charge.Charge.{Charge}
 use Rattle.wake_book.specs.declared.charge.Charge.TheVariants.{Won}

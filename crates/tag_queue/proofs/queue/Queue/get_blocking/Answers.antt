@@ -1,6 +1,5 @@
-use Rattle.std.proofs.Common.{rules, arith, ◌≡◌, ℕ, suc, ◌+◌, Option, None, ap, ◌∙◌}
+use Rattle.std.proofs.Common.{arith, suc, None, ap, ◌∙◌}
 use Rattle.tag_core.specs.declared.shape.Shape.{Shape}
-use Rattle.wake_book.specs.declared.groups.Waiter.{Waiter}
 use Rattle.wake_book.specs.Groups as groups
 use Rattle.tag_queue.specs.declared.agent.Agent.{Agent}
 use Rattle.tag_layout.specs.Layout.{Layout}

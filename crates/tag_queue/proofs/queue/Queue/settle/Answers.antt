@@ -1,5 +1,5 @@
 -- The last agent's caller lends its record first, and has it back last.
-use Rattle.std.proofs.Common.{◌≡◌, List, [], ◌∷◌, ◌++◌, All, refl, sym, ap, subst}
+use Rattle.std.proofs.Common.{List, [], All, refl, sym, ap, subst}
 use lib.ListN.{get_elem?}
 use Rattle.tag_core.specs.declared.record.Record.{Record}
 use Rattle.tag_core.specs.declared.caller.Caller.{Caller}

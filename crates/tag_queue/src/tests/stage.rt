@@ -1,0 +1,182 @@
+//! A queue with its agents, for tests of one thread.
+ghost use Rattle.std.specs.Prelude.{All};
+ghost use Rattle.tag_queue.specs.Agents.{IsAgentOf};
+
+use crate::agent::Agent;
+use crate::fault::TagFault;
+use crate::queue::{Options, Queue};
+use crate::tests::agents::{FILL, has, look_at};
+use crate::waits::Wakes;
+use std::alloc::Global;
+use std::sync::Wait;
+use std::test::Fail;
+use step_ledger::Numbered;
+use wake_book::Left;
+
+/// There is no such agent. No call of a queue is refused for this.
+pub(crate) const NOBODY: TagFault = TagFault::NoReserved;
+
+/// A queue and its agents, who go by where they stand, from 0.
+#[derive(Drop)]
+pub(crate) struct Stage {
+    pub(crate) queue: Queue<u64>,
+    pub(crate) agents: Vec<Agent<u64>>,
+    /// Those who are not there when the others come together.
+    pub(crate) away: Vec<Agent<u64>>,
+    ghost own: { All (λ a. IsAgentOf queue a) agents.items },
+    ghost own_away: { All (λ a. IsAgentOf queue a) away.items },
+}
+
+impl Stage {
+    /// Each slot begins as `FILL`.
+    pub(crate) fn open(alloc: Global, depth: u32, options: Options) -> Result<Stage, Fail> {
+        let (queue, agents) = Queue::open(alloc, depth, options, FILL)?;
+        Ok(Stage::of(alloc, queue, agents))
+    }
+
+    pub(crate) fn of(alloc: Global, queue: Queue<u64>, agents: Vec<Agent<u64>>) -> Stage
+        requires { All (λ a. IsAgentOf queue a) agents.items }
+    {
+        Stage {
+            queue,
+            agents,
+            away: Vec::new(alloc),
+        }
+    }
+
+    pub(crate) fn number(&self, at: usize) -> Option<u32> {
+        Some(self.agents.get(at)?.number())
+    }
+
+    pub(crate) fn get(&mut self, at: usize) -> Result<Option<u32>, TagFault> {
+        let Some(agent) = self.agents.get_mut(at) else {
+            return Err(NOBODY);
+        };
+        self.queue.get(agent)
+    }
+
+    /// What so many gets answer, one after another.
+    pub(crate) fn gets(
+        &mut self,
+        alloc: Global,
+        at: usize,
+        count: u32,
+    ) -> Result<Vec<Option<u32>>, Fail> {
+        let mut answers = Vec::new(alloc);
+        for _ in 0..count {
+            answers.push(self.get(at)?)?;
+        }
+        Ok(answers)
+    }
+
+    pub(crate) fn get_shallow(&mut self, at: usize, depth: u32) -> Result<Option<u32>, TagFault> {
+        let Some(agent) = self.agents.get_mut(at) else {
+            return Err(NOBODY);
+        };
+        self.queue.get_shallow(agent, depth)
+    }
+
+    pub(crate) fn get_batch(
+        &mut self,
+        at: usize,
+        count: u32,
+    ) -> Result<Option<(u32, u64)>, TagFault> {
+        let Some(agent) = self.agents.get_mut(at) else {
+            return Err(NOBODY);
+        };
+        self.queue.get_batch(agent, count)
+    }
+
+    pub(crate) fn get_blocking<W: Wait>(&mut self, rt: &W, at: usize) -> Result<u32, TagFault> {
+        let Some(agent) = self.agents.get_mut(at) else {
+            return Err(NOBODY);
+        };
+        self.queue.get_blocking(rt, agent)
+    }
+
+    pub(crate) fn clear(&mut self, at: usize, tag: u32) -> Result<u32, TagFault> {
+        let Some(agent) = self.agents.get_mut(at) else {
+            return Err(NOBODY);
+        };
+        self.queue.clear(agent, tag)
+    }
+
+    pub(crate) fn clear_uncounted(&mut self, at: usize, tag: u32) -> Result<(), TagFault> {
+        let Some(agent) = self.agents.get_mut(at) else {
+            return Err(NOBODY);
+        };
+        self.queue.clear_uncounted(agent, tag)
+    }
+
+    pub(crate) fn clear_batch(&mut self, at: usize, tags: &[u32]) -> Result<u32, TagFault> {
+        let Some(agent) = self.agents.get_mut(at) else {
+            return Err(NOBODY);
+        };
+        self.queue.clear_batch(agent, tags)
+    }
+
+    pub(crate) fn read(&mut self, at: usize, tag: u32) -> Result<u64, TagFault> {
+        let Some(agent) = self.agents.get_mut(at) else {
+            return Err(NOBODY);
+        };
+        self.queue.read(agent, tag)
+    }
+
+    /// The former value is answered.
+    pub(crate) fn write(&mut self, at: usize, tag: u32, value: u64) -> Result<u64, TagFault> {
+        let Some(agent) = self.agents.get_mut(at) else {
+            return Err(NOBODY);
+        };
+        self.queue.write(agent, tag, value)
+    }
+
+    pub(crate) fn post(&mut self, at: usize, tag: u32) -> Result<(), TagFault> {
+        let Some(agent) = self.agents.get_mut(at) else {
+            return Err(NOBODY);
+        };
+        self.queue.post(agent, tag)
+    }
+
+    pub(crate) fn take(&mut self, at: usize, tag: u32) -> Result<(), TagFault> {
+        let Some(agent) = self.agents.get_mut(at) else {
+            return Err(NOBODY);
+        };
+        self.queue.take(agent, tag)
+    }
+
+    pub(crate) fn prepare_wait(&mut self, at: usize) -> Result<u32, TagFault> {
+        let Some(agent) = self.agents.get_mut(at) else {
+            return Err(NOBODY);
+        };
+        self.queue.prepare_wait(agent)
+    }
+
+    pub(crate) fn finish_wait<W: Wait>(&mut self, rt: &W, at: usize) -> Result<Left, TagFault> {
+        let Some(agent) = self.agents.get_mut(at) else {
+            return Err(NOBODY);
+        };
+        self.queue.finish_wait(rt, agent)
+    }
+
+    pub(crate) fn wakes(&mut self, at: usize) -> Option<Wakes> {
+        Some(self.queue.wakes(self.agents.get_mut(at)?))
+    }
+
+    /// Completions counted, and charged.
+    pub(crate) fn counts(&mut self, at: usize) -> Option<(u64, u64)> {
+        let found = self.wakes(at)?;
+        Some((found.counted, found.charged))
+    }
+
+    /// The word and its cleared set: 1 is taken, and 1 is set aside. None where there is no such word.
+    pub(crate) fn look(&mut self, at: usize, word: u32) -> Option<(u64, u64)> {
+        look_at(&self.queue, self.agents.get_mut(at)?, word)
+    }
+
+    pub(crate) fn holds(&self, at: usize, tag: u32) -> bool {
+        match self.agents.get(at) {
+            Some(agent) => has(&self.queue, agent, tag),
+            None => false,
+        }
+    }
+}
