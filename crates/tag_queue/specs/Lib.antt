@@ -11,3 +11,4 @@ pub mod Opening
 pub mod Using
 pub mod Shells
 pub mod Resizing
+pub mod Placing

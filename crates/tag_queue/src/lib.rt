@@ -14,6 +14,7 @@ mod missing;
 mod next_map;
 mod opens;
 mod parts;
+mod placing;
 mod queue;
 mod reopens;
 mod resizes;

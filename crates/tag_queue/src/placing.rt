@@ -1,0 +1,23 @@
+//! Where an agent's gets begin.
+ghost use Rattle.std.specs.Prelude.{◌≡◌};
+ghost use Rattle.tag_queue.specs.Agents.{IsAgentOf, SameCounts, caller_of, hint_of};
+ghost use Rattle.tag_queue.specs.Placing.{hint_in_part};
+
+use crate::agent::Agent;
+use crate::queue::Queue;
+
+impl<R: Copy> Queue<R> {
+    /// Has the agent's next get begin in its own part of the map: at its number times the depth, divided by the number of agents.
+    /// Every hint begins at 0, so threads meet there; agents placed apart meet only where their parts are full. It makes no step.
+    pub fn place(&self, agent: &mut Agent<R>)
+        requires { IsAgentOf self.now agent.old }
+        ensures agent { IsAgentOf self.now agent.new }
+        ensures hint { hint_of agent.new ≡ hint_in_part self.now agent.old }
+        ensures tags { caller_of agent.new ≡ caller_of agent.old }
+        ensures counts { SameCounts agent.old agent.new }
+    {
+        let depth = u64::from(self.map.layout().depth());
+        let first = u64::from(agent.number) * depth / u64::from(self.callers);
+        agent.hint.at = first as u32;
+    }
+}
