@@ -7,3 +7,4 @@ pub mod Gets
 pub mod Waits
 pub mod Meeting
 pub mod Opening
+pub mod Placing

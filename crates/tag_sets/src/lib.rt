@@ -7,6 +7,7 @@ mod hand;
 mod kind;
 mod meets;
 mod opens;
+mod placing;
 mod slots;
 mod tags;
 mod waits;
