@@ -146,3 +146,19 @@ fn a_get_is_refused_for_its_first_fault(rt: HostRuntime) -> Result<(), Fail> {
     assert_eq!(rt; stage.get_batch(0, 3), Err(TagFault::BadCount));
     Ok(())
 }
+
+#[test]
+fn agents_placed_apart_begin_in_their_own_parts(rt: HostRuntime) -> Result<(), Fail> {
+    let mut stage = Stage::open(rt.alloc(), 16, words_of_four(3))?;
+    for at in 0..3 {
+        stage.place(at);
+    }
+    assert_eq!(rt; stage.get(2)?, Some(8));
+    assert_eq!(rt; stage.get(1)?, Some(4));
+    assert_eq!(rt; stage.get(0)?, Some(0));
+    assert_eq!(rt;
+        stage.gets(rt.alloc(), 1, 2)?.as_slice(),
+        &[Some(5), Some(6)][..]
+    );
+    Ok(())
+}

@@ -48,6 +48,13 @@ impl Stage {
         Some(self.agents.get(at)?.number())
     }
 
+    /// Has the agent begin in its own part, where there is such an agent.
+    pub(crate) fn place(&mut self, at: usize) {
+        if let Some(agent) = self.agents.get_mut(at) {
+            self.queue.place(agent);
+        }
+    }
+
     pub(crate) fn get(&mut self, at: usize) -> Result<Option<u32>, TagFault> {
         let Some(agent) = self.agents.get_mut(at) else {
             return Err(NOBODY);
