@@ -1,6 +1,7 @@
 #!/usr/bin/env bash
-# kernel.sh [REPETITIONS [ROUNDS]]: runs pair, ring, full, pass and batch of tag_bench and of what stands beside it in
-# alternation, seven times with 60000 rounds unless told otherwise, prints a table and draws bench/out/kernel.svg.
+# kernel.sh [REPETITIONS [ROUNDS]]: runs pair, ring, full, pass and batch of tag_bench, over the map and over the queue, and of
+# what stands beside it in alternation, seven times with 60000 rounds unless told otherwise, prints a table and draws
+# bench/out/kernel.svg.
 # rt, gcc, rustc, python3, apt-get and dpkg-deb are on the path; the first run downloads 154 MB from Debian's archive.
 set -euo pipefail
 cd "$(dirname "$0")/.."
@@ -8,6 +9,7 @@ repetitions=${1:-7}
 rounds=${2:-60000}
 out=bench/out
 workloads=(pair ring full pass batch)
+bench=crates/tag_bench/out/tag_bench
 
 bench/kernel/build.sh "$out"
 (cd crates/tag_bench && rt run > /dev/null)
@@ -16,11 +18,14 @@ bench/kernel/build.sh "$out"
 measure() {
   local count=$rounds
   if [ "$workload" = batch ]; then count=$((8 * rounds)); fi
-  "$1" "$workload" --depth "$depth" --threads "$threads" --rounds "$count" "${@:2}" \
+  "$@" --depth "$depth" --threads "$threads" --rounds "$count" \
     | sed "s/^{/{\"repetition\":$repetition,/" >> "$out/kernel.json"
 }
-ours() { measure crates/tag_bench/out/tag_bench --json; }
-others() { measure "$out/contenders"; }
+ours() {
+  measure "$bench" "$workload" --json
+  if [ "$workload" != batch ]; then measure "$bench" queue "$workload" --json; fi
+}
+others() { measure "$out/contenders" "$workload"; }
 
 rm -f "$out/kernel.json"
 load=$(cut -d ' ' -f 1 /proc/loadavg)

@@ -1,7 +1,8 @@
 """report.py LINES SVG: prints what kernel.sh measured as a table, and draws a part of it.
 
 A figure is the median over the repetitions. A ratio is one of times by the clock, to the kernel's time with hints apart in
-the same repetition; less is better. The last column is a ratio of processor time."""
+the same repetition; less is better. The last columns are a ratio of processor time, and the nanoseconds that an operation over
+tag_queue takes more than one over the map alone, in the same repetition, with hints apart."""
 import json
 import statistics
 import sys
@@ -9,9 +10,12 @@ from math import log2
 
 KERNEL = ("kernel", "apart")
 OURS = ("tag_bench", "apart")
+QUEUE = ("tag_queue", "apart")
 COLUMNS = [
     ("tag_bench", OURS),
     ("tag_bench, from 0", ("tag_bench", "from 0")),
+    ("tag_queue", QUEUE),
+    ("tag_queue, from 0", ("tag_queue", "from 0")),
     ("kernel, from 0", ("kernel", "from 0")),
     ("queue", ("queue", None)),
     ("locked list", ("locked list", None)),
@@ -26,6 +30,7 @@ PANELS = [
 ]
 LINES = [
     (OURS, "tag_bench", "#0b6e4f"),
+    (QUEUE, "tag_queue", "#55b391"),
     (KERNEL, "kernel", "#b3261e"),
     (("queue", None), "queue", "#3b5ba5"),
     (("locked list", None), "locked list", "#8a6d1d"),
@@ -41,8 +46,10 @@ def read(path):
             entry = json.loads(line)
             hints, _, depth = entry["case"].rpartition("depth ")
             hints = hints.removeprefix("hints ").removesuffix(", ") or None
-            who = (entry.get("contender", "tag_bench"), hints)
-            case = (entry["workload"], int(depth), entry["threads"])
+            workload = entry["workload"].removeprefix("queue ")
+            ours = "tag_bench" if workload == entry["workload"] else "tag_queue"
+            who = (entry.get("contender", ours), hints)
+            case = (workload, int(depth), entry["threads"])
             figures.setdefault(case, {}).setdefault(who, {})[entry["repetition"]] = entry
     return figures
 
@@ -54,19 +61,28 @@ def ratio(case, who, what="ns"):
     return statistics.median(ratios) if ratios else None
 
 
+def queue_costs(case):
+    """The median of what the queue takes more than the map in the same repetition, in nanoseconds."""
+    queue, ours = case.get(QUEUE, {}), case.get(OURS, {})
+    costs = [queue[at]["ns"] - ours[at]["ns"] for at in queue if at in ours]
+    return statistics.median(costs) if costs else None
+
+
 def median(case, who):
     return statistics.median(entry["ns"] for entry in case[who].values())
 
 
 def print_table(figures):
     head = ["workload", "depth", "threads", "kernel, ns"]
-    head += [title for title, _ in COLUMNS] + ["tag_bench, processor"]
+    head += [title for title, _ in COLUMNS] + ["tag_bench, processor", "tag_queue over tag_bench, ns"]
     print("| " + " | ".join(head) + " |")
     print("|" + "---|" * len(head))
     for (workload, depth, threads), case in figures.items():
         ratios = [ratio(case, who) for _, who in COLUMNS] + [ratio(case, OURS, "processor")]
         row = [workload, str(depth), str(threads), f"{median(case, KERNEL):.1f}" if KERNEL in case else ""]
         row += ["" if value is None else f"{value:.2f}" for value in ratios]
+        cost = queue_costs(case)
+        row.append("" if cost is None else f"{cost:+.1f}")
         print("| " + " | ".join(row) + " |")
 
 

@@ -4,26 +4,45 @@ ghost use Rattle.std.specs.Int.{bit_at};
 ghost use Rattle.tag_layout.specs.Layout.{word_bits};
 ghost use Rattle.tag_core.specs.Callers.{layout_of, IsCallerOf, Holds};
 
-use crate::rounds::touch;
+use crate::jobs::{Job, Plan};
+use crate::measure::Failed;
+use crate::options::Options;
+use crate::tags::Tags;
+use crate::traffic::{plans, run_case};
+use std::thread::Threads;
+use std::time::{Clock, CpuClock};
 use tag_core::{Caller, Map};
 use tag_search::{Hint, after_clear, on_map};
 
 /// Tags of a batch.
 const BATCH: u32 = 8;
 
-/// Gets batches, as many as have so many tags in all, touches the slots of each and gives it back.
-#[inline(never)]
-pub(crate) fn batches(map: &Map<u64>, caller: &mut Caller<u64>, from: Hint, rounds: u32)
-    requires { IsCallerOf map.now caller.old }
-    ensures { IsCallerOf map.now caller.new }
-{
-    let mut hint = from;
-    let bits = 1u32 << map.layout().shift();
-    if bits < BATCH {
-        return;
+/// Runs each case.
+pub(crate) fn run<R: AllocGlobal + Threads + Sync + Print + Clock + CpuClock>(
+    rt: &R,
+    options: &Options,
+) -> Result<(), Failed> {
+    for &plan in plans(rt.alloc(), options)?.iter() {
+        run_case::<R, Map<u64>, Batches>(rt, options, "batch", plan, &Batches)?;
     }
-    for round in 0..rounds / BATCH {
-        batch(map, caller, &mut hint, round);
+    Ok(())
+}
+
+/// Each thread gets batches, as many as have so many tags in all, touches the slots of each and gives it back.
+#[derive(Drop)]
+struct Batches;
+
+impl Job<Map<u64>> for Batches {
+    #[inline(never)]
+    fn work(&self, map: &Map<u64>, caller: &mut Caller<u64>, index: usize, plan: Plan) {
+        let mut hint = plan.hint(index);
+        let bits = 1u32 << map.layout().shift();
+        if bits < BATCH {
+            return;
+        }
+        for round in 0..plan.rounds / BATCH {
+            batch(map, caller, &mut hint, round);
+        }
     }
 }
 
@@ -64,7 +83,7 @@ fn touch_run(map: &Map<u64>, caller: &mut Caller<u64>, first: u32, won: u64, val
 {
     for place in 0..BATCH {
         if won >> place & 1 == 1 {
-            touch(map, caller, first + place, value);
+            map.touch(caller, first + place, value);
         }
     }
 }

@@ -2,7 +2,7 @@
 ghost use Rattle.std.specs.Prelude.{◌+◌, ◌<◌, ◌≤◌, IsTrue};
 ghost use Rattle.tag_core.specs.Callers.{layout_of, IsCallerOf, Holds};
 
-use crate::callers::{Clear, Plan, Task, carry_out};
+use crate::jobs::{Job, Plan, carry_out};
 use crate::measure::{Failed, print_case};
 use crate::options::Options;
 use std::thread::Threads;
@@ -19,6 +19,25 @@ const TAGS: u32 = 16;
 /// Tags from one caller's first to the next one's: each has a word of its own, or four have parts of one word.
 const STRIDES: [u32; 2] = [64, TAGS];
 
+/// How a caller clears a tag.
+#[derive(Clone, Copy)]
+pub(crate) enum Clear {
+    /// It sets it aside for a sweep.
+    Put,
+    /// It frees it at once.
+    Give,
+}
+
+impl Clear {
+    /// As a case's name has it.
+    pub(crate) fn name(self) -> &'static str {
+        match self {
+            Clear::Put => "put",
+            Clear::Give => "give",
+        }
+    }
+}
+
 /// Runs each case.
 pub(crate) fn run<R: AllocGlobal + Threads + Sync + Print + Clock + CpuClock>(
     rt: &R,
@@ -28,14 +47,13 @@ pub(crate) fn run<R: AllocGlobal + Threads + Sync + Print + Clock + CpuClock>(
         for stride in STRIDES {
             for &threads in options.threads.iter() {
                 let plan = Plan {
-                    task: Task::Claim,
-                    clear,
                     depth: DEPTH,
                     threads,
+                    winners: threads,
                     stride,
                     rounds: options.rounds,
                 };
-                let outcome = carry_out(rt, plan)?;
+                let outcome = carry_out::<R, Map<u64>, Claims>(rt, plan, &Claims { clear })?;
                 let way = clear.name();
                 let even = outcome.even;
                 print_case(
@@ -53,19 +71,24 @@ pub(crate) fn run<R: AllocGlobal + Threads + Sync + Print + Clock + CpuClock>(
     Ok(())
 }
 
-/// The laps of one caller, from its first tag on.
-pub(crate) fn work(map: &Map<u64>, caller: &mut Caller<u64>, first: u32, plan: Plan)
-    requires { IsCallerOf map.now caller.old }
-    ensures { IsCallerOf map.now caller.new }
-{
-    let depth = map.layout().depth();
-    if first >= depth || depth - first < TAGS {
-        return;
-    }
-    let laps = plan.rounds.div_ceil(TAGS);
-    match plan.clear {
-        Clear::Put => put_often(map, caller, first, laps),
-        Clear::Give => give_often(map, caller, first, laps),
+/// Each caller claims and clears tags in laps, from its first on.
+#[derive(Drop)]
+struct Claims {
+    clear: Clear,
+}
+
+impl Job<Map<u64>> for Claims {
+    fn work(&self, map: &Map<u64>, caller: &mut Caller<u64>, index: usize, plan: Plan) {
+        let first = plan.first(index);
+        let depth = map.layout().depth();
+        if first >= depth || depth - first < TAGS {
+            return;
+        }
+        let laps = plan.rounds.div_ceil(TAGS);
+        match self.clear {
+            Clear::Put => put_often(map, caller, first, laps),
+            Clear::Give => give_often(map, caller, first, laps),
+        }
     }
 }
 

@@ -1,7 +1,8 @@
 //! The workload `shared`: callers get tags of the shared map, and clear them.
 ghost use Rattle.tag_core.specs.Callers.{IsCallerOf};
 
-use crate::callers::{Clear, Plan, Task, carry_out};
+use crate::claims::Clear;
+use crate::jobs::{Job, Plan, carry_out};
 use crate::measure::{Failed, print_case};
 use crate::options::Options;
 use std::thread::Threads;
@@ -37,14 +38,13 @@ fn run_case<R: AllocGlobal + Threads + Sync + Print + Clock + CpuClock>(
 ) -> Result<(), Failed> {
     let depth = options.depth.unwrap_or(DEPTH);
     let plan = Plan {
-        task: Task::Get,
-        clear,
         depth,
         threads,
+        winners: threads,
         stride: if apart { depth / threads.max(1) } else { 0 },
         rounds: options.rounds,
     };
-    let outcome = carry_out(rt, plan)?;
+    let outcome = carry_out::<R, Map<u64>, Gets>(rt, plan, &Gets { clear })?;
     let way = clear.name();
     let hints = if apart { "apart" } else { "from 0" };
     let even = outcome.even;
@@ -60,18 +60,19 @@ fn run_case<R: AllocGlobal + Threads + Sync + Print + Clock + CpuClock>(
     Ok(())
 }
 
-/// The gets and clears of one caller, whose hint begins at its first tag.
-pub(crate) fn work(map: &Map<u64>, caller: &mut Caller<u64>, first: u32, plan: Plan)
-    requires { IsCallerOf map.now caller.old }
-    ensures { IsCallerOf map.now caller.new }
-{
-    let hint = Hint {
-        at: first,
-        round_robin: false,
-    };
-    match plan.clear {
-        Clear::Put => put_often(map, caller, hint, plan.rounds),
-        Clear::Give => give_often(map, caller, hint, plan.rounds),
+/// Each caller gets tags and clears them.
+#[derive(Drop)]
+struct Gets {
+    clear: Clear,
+}
+
+impl Job<Map<u64>> for Gets {
+    fn work(&self, map: &Map<u64>, caller: &mut Caller<u64>, index: usize, plan: Plan) {
+        let hint = plan.hint(index);
+        match self.clear {
+            Clear::Put => put_often(map, caller, hint, plan.rounds),
+            Clear::Give => give_often(map, caller, hint, plan.rounds),
+        }
     }
 }
 

@@ -5,26 +5,33 @@
 #![tactic(auto)]
 
 mod batches;
-mod callers;
 mod claims;
 mod gets;
+mod jobs;
 mod measure;
 mod options;
 mod pipes;
 mod plain;
 mod rounds;
+mod shared_map;
+mod shared_queue;
+mod tags;
 mod traffic;
+mod waits;
 mod wakes;
 
 use crate::measure::Failed;
-use crate::options::{Options, Workload};
-use crate::traffic::TRAFFIC;
+use crate::options::{Options, Queued, Workload};
+use crate::traffic::{TRAFFIC, Traffic};
 use clap::error::ErrorKind;
 use std::env;
 use std::process::ExitCode;
 use std::rt::Env;
+use std::sync::Wait;
 use std::thread::Threads;
 use std::time::{Clock, CpuClock};
+use tag_core::Map;
+use tag_queue::Queue;
 
 fn main(rt: HostRuntime) -> ExitCode {
     match play(&rt) {
@@ -37,7 +44,7 @@ fn main(rt: HostRuntime) -> ExitCode {
 }
 
 // Runs what the command line asks for. Answers the exit status.
-fn play<R: AllocGlobal + Env + Threads + Sync + Clock + CpuClock + Print + Eprint>(
+fn play<R: AllocGlobal + Env + Threads + Wait + Sync + Clock + CpuClock + Print + Eprint>(
     rt: &R,
 ) -> Result<u8, Failed> {
     let words: Vec<String> = env::args(rt)?.collect(rt.alloc())?;
@@ -56,7 +63,7 @@ fn play<R: AllocGlobal + Env + Threads + Sync + Clock + CpuClock + Print + Eprin
 }
 
 // Runs the workload that was asked for, or each.
-fn run<R: AllocGlobal + Threads + Sync + Clock + CpuClock + Print>(
+fn run<R: AllocGlobal + Threads + Wait + Sync + Clock + CpuClock + Print>(
     rt: &R,
     options: &Options,
 ) -> Result<(), Failed> {
@@ -65,16 +72,61 @@ fn run<R: AllocGlobal + Threads + Sync + Clock + CpuClock + Print>(
         Some(Workload::Map) => claims::run(rt, options),
         Some(Workload::Shared) => gets::run(rt, options),
         Some(Workload::Wakes) => wakes::run(rt, options),
-        Some(Workload::Traffic(traffic)) => traffic::run(rt, options, traffic),
+        Some(Workload::Traffic(traffic)) => run_on_map(rt, options, traffic),
+        Some(Workload::Batch) => batches::run(rt, options),
+        Some(Workload::Queue(queued)) => run_queue(rt, options, queued),
+        None => run_each(rt, options),
+    }
+}
+
+// Runs each workload.
+fn run_each<R: AllocGlobal + Threads + Wait + Sync + Clock + CpuClock + Print>(
+    rt: &R,
+    options: &Options,
+) -> Result<(), Failed> {
+    plain::run(rt, options)?;
+    claims::run(rt, options)?;
+    gets::run(rt, options)?;
+    wakes::run(rt, options)?;
+    for traffic in TRAFFIC {
+        run_on_map(rt, options, traffic)?;
+    }
+    batches::run(rt, options)?;
+    run_queue(rt, options, None)
+}
+
+// Runs a workload over the shared map.
+fn run_on_map<R: AllocGlobal + Threads + Sync + Clock + CpuClock + Print>(
+    rt: &R,
+    options: &Options,
+    traffic: Traffic,
+) -> Result<(), Failed> {
+    traffic::run::<R, Map<u64>>(rt, options, "", traffic)
+}
+
+// Runs a workload over a queue.
+fn run_on_queue<R: AllocGlobal + Threads + Sync + Clock + CpuClock + Print>(
+    rt: &R,
+    options: &Options,
+    traffic: Traffic,
+) -> Result<(), Failed> {
+    traffic::run::<R, Queue<u64>>(rt, options, "queue ", traffic)
+}
+
+// Runs the workload of the queue that was asked for, or each.
+fn run_queue<R: AllocGlobal + Threads + Wait + Sync + Clock + CpuClock + Print>(
+    rt: &R,
+    options: &Options,
+    queued: Option<Queued>,
+) -> Result<(), Failed> {
+    match queued {
+        Some(Queued::Traffic(traffic)) => run_on_queue(rt, options, traffic),
+        Some(Queued::Waiters) => waits::run(rt, options),
         None => {
-            plain::run(rt, options)?;
-            claims::run(rt, options)?;
-            gets::run(rt, options)?;
-            wakes::run(rt, options)?;
             for traffic in TRAFFIC {
-                traffic::run(rt, options, traffic)?;
+                run_on_queue(rt, options, traffic)?;
             }
-            Ok(())
+            waits::run(rt, options)
         }
     }
 }

@@ -6,6 +6,7 @@ use std::time::{Clock, CpuClock, Duration, Instant};
 use std::{fmt, io};
 use tag_core::OpenFault;
 use tag_layout::LayoutFault;
+use tag_queue::SetFault;
 use wake_book::BookFault;
 
 /// Runs of which the median is taken.
@@ -16,9 +17,9 @@ pub(crate) const RUNS: usize = 7;
 pub(crate) enum Failed {
     /// There was no memory for it.
     Memory,
-    /// The library has no map or book of these sizes.
+    /// The library has no map, queue or book of these sizes.
     Sizes,
-    /// A caller or a teller didn't come back from its thread.
+    /// A caller, an agent or a teller didn't come back from its thread.
     Missing,
     /// The clock or the output failed.
     Io,
@@ -45,6 +46,15 @@ impl From<OpenFault> for Failed {
     }
 }
 
+impl From<SetFault> for Failed {
+    fn from(fault: SetFault) -> Failed {
+        match fault {
+            SetFault::Memory => Failed::Memory,
+            _ => Failed::Sizes,
+        }
+    }
+}
+
 impl From<BookFault> for Failed {
     fn from(fault: BookFault) -> Failed {
         match fault {
@@ -61,7 +71,7 @@ impl From<io::Error> for Failed {
 }
 
 /// What one run took.
-#[derive(Clone, Copy, Debug)]
+#[derive(Clone, Copy)]
 pub(crate) struct Run {
     /// By the clock.
     pub clock: Duration,
@@ -78,7 +88,7 @@ impl Run {
 }
 
 /// Both clocks as a run begins.
-#[derive(Clone, Copy, Debug)]
+#[derive(Clone, Copy)]
 pub(crate) struct Watch {
     start: Instant,
     processor: Duration,
@@ -101,7 +111,7 @@ impl Watch {
 }
 
 /// What the runs of one case took.
-#[derive(Clone, Copy, Debug)]
+#[derive(Clone, Copy)]
 pub(crate) struct Times {
     /// Of each run.
     pub runs: [Run; RUNS],
@@ -110,7 +120,7 @@ pub(crate) struct Times {
 }
 
 /// Hundredths of a nanosecond.
-#[derive(Clone, Copy, Debug)]
+#[derive(Clone, Copy)]
 struct Hundredths(u64);
 
 impl Display for Hundredths {
@@ -148,7 +158,7 @@ impl Times {
 pub(crate) fn print_case(
     rt: &impl Print,
     show: Show,
-    workload: &str,
+    workload: impl Display + Drop,
     name: impl Display + Drop,
     threads: u32,
     times: Times,

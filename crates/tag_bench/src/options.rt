@@ -1,5 +1,5 @@
 //! What the command line says.
-use crate::traffic::Traffic;
+use crate::traffic::{TRAFFIC, Traffic};
 use clap::builder::ValueParser;
 use clap::{Arg, ArgAction, ArgMatches, Command};
 use std::alloc::{AllocError, Global};
@@ -10,7 +10,7 @@ const FEW: u32 = 2_000;
 const MANY: u32 = 2_000_000;
 
 /// What can be run.
-#[derive(Clone, Copy, Debug, PartialEq, Eq)]
+#[derive(Clone, Copy)]
 pub(crate) enum Workload {
     /// The search over plain words.
     Plain,
@@ -20,12 +20,28 @@ pub(crate) enum Workload {
     Shared,
     /// The active count and the charge book.
     Wakes,
-    /// Gets, touches and clears as drivers make them.
+    /// Gets, touches and clears as drivers make them, over the shared map.
     Traffic(Traffic),
+    /// Batches of tags of the shared map.
+    Batch,
+    /// The same over a queue: one of its workloads, or each.
+    Queue(Option<Queued>),
 }
 
+/// What can be run over a queue.
+#[derive(Clone, Copy)]
+pub(crate) enum Queued {
+    /// Gets, touches and clears as drivers make them.
+    Traffic(Traffic),
+    /// Gets that wait.
+    Waiters,
+}
+
+/// The workloads of a queue, as the command line has them.
+const QUEUED: [&str; 5] = ["pair", "ring", "full", "pass", "waiters"];
+
 /// What is printed of each case.
-#[derive(Clone, Copy, Debug, PartialEq, Eq)]
+#[derive(Clone, Copy, PartialEq, Eq)]
 pub(crate) enum Show {
     /// What holds of it whatever the schedule.
     Facts,
@@ -36,7 +52,7 @@ pub(crate) enum Show {
 }
 
 /// What the command line asks for.
-#[derive(Debug, Drop)]
+#[derive(Drop)]
 pub(crate) struct Options {
     /// What to run. None: each.
     pub workload: Option<Workload>,
@@ -82,33 +98,43 @@ pub(crate) fn command<'a>(alloc: Global) -> Result<Command<'a>, AllocError> {
     with_traffic(alloc, command)
 }
 
-// The command line with the workloads of `traffic.rt`.
+// The command line with the workloads of `traffic.rt`, then batches and the queue.
 fn with_traffic<'a>(alloc: Global, command: Command<'a>) -> Result<Command<'a>, AllocError> {
     let command = command.subcommand(traffic(
         alloc,
         "pair",
-        "Each caller gets a tag, touches its slot and clears it",
+        "Each thread gets a tag, touches its slot and clears it",
     )?)?;
     let command = command.subcommand(traffic(
         alloc,
         "ring",
-        "Each caller holds up to 32 tags, clears the oldest and gets another",
+        "Each thread holds up to 32 tags, clears the oldest and gets another",
     )?)?;
     let command = command.subcommand(traffic(
         alloc,
         "full",
-        "As ring, where the callers hold all tags between them",
+        "As ring, where the threads hold all tags between them",
     )?)?;
     let command = command.subcommand(traffic(
         alloc,
         "pass",
-        "One caller gets tags and posts them, another takes and clears them",
+        "One thread gets tags and posts them, another takes and clears them",
     )?)?;
-    command.subcommand(traffic(
+    let command = command.subcommand(traffic(
         alloc,
         "batch",
         "Each caller gets up to 8 tags side by side, and gives them back at once",
-    )?)
+    )?)?;
+    command.subcommand(queue(alloc)?)
+}
+
+fn queue<'a>(alloc: Global) -> Result<Command<'a>, AllocError> {
+    let command = traffic(
+        alloc,
+        "queue",
+        "The same over a queue, and gets that wait where there are more threads than tags",
+    )?;
+    command.arg(queue_workload(alloc))
 }
 
 fn traffic<'a>(alloc: Global, name: &'a str, about: &'a str) -> Result<Command<'a>, AllocError> {
@@ -124,6 +150,7 @@ fn traffic<'a>(alloc: Global, name: &'a str, about: &'a str) -> Result<Command<'
 /// The options that a command line gives.
 pub(crate) fn read(alloc: Global, matches: &ArgMatches) -> Result<Options, AllocError> {
     let (workload, chosen) = match matches.subcommand() {
+        Some(("queue", chosen)) => (Some(Workload::Queue(queued_of(chosen))), chosen),
         Some((name, chosen)) => (workload_of(name), chosen),
         None => (None, matches),
     };
@@ -155,13 +182,22 @@ fn workload_of(name: &str) -> Option<Workload> {
         "map" => Some(Workload::Map),
         "shared" => Some(Workload::Shared),
         "wakes" => Some(Workload::Wakes),
-        "pair" => Some(Workload::Traffic(Traffic::Pair)),
-        "ring" => Some(Workload::Traffic(Traffic::Ring)),
-        "full" => Some(Workload::Traffic(Traffic::Full)),
-        "pass" => Some(Workload::Traffic(Traffic::Pass)),
-        "batch" => Some(Workload::Traffic(Traffic::Batch)),
-        _ => None,
+        "batch" => Some(Workload::Batch),
+        _ => traffic_of(name).map(Workload::Traffic),
     }
+}
+
+// The workload of a queue that was named.
+fn queued_of(chosen: &ArgMatches) -> Option<Queued> {
+    match chosen.get_str("workload")? {
+        "waiters" => Some(Queued::Waiters),
+        name => traffic_of(name).map(Queued::Traffic),
+    }
+}
+
+// The traffic of this name.
+fn traffic_of(name: &str) -> Option<Traffic> {
+    TRAFFIC.into_iter().find(|traffic| traffic.name() == name)
 }
 
 fn measure<'a>(alloc: Global) -> Arg<'a> {
@@ -205,4 +241,10 @@ fn threads<'a>(alloc: Global) -> Arg<'a> {
         .value_name("N")
         .value_parser(ValueParser::unsigned(1, 16))
         .help("Threads at once [default: 1, 2 and 4 in turn]")
+}
+
+fn queue_workload<'a>(alloc: Global) -> Arg<'a> {
+    Arg::new(alloc, "workload")
+        .value_parser(ValueParser::Names(&QUEUED))
+        .help("Runs this workload alone")
 }

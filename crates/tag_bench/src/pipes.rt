@@ -1,27 +1,26 @@
-//! The workload `pass`: tags that pass from caller to caller.
-ghost use Rattle.tag_core.specs.Callers.{IsCallerOf, Holds};
-
-use crate::rounds::{touch, win};
+//! The workload `pass`: tags that pass from thread to thread.
+use crate::jobs::{Job, Plan};
+use crate::rounds::win;
+use crate::tags::Tags;
 use std::alloc::{AllocError, Global};
 use std::sync::atomic::AtomicU64;
 use std::sync::atomic::Ordering::SeqCst;
 use std::thread;
-use tag_core::{Caller, Map};
-use tag_search::{Hint, on_map};
+use tag_search::Hint;
 
-/// Tags on their way from one caller to the next, at most.
+/// Tags on their way from one thread to the next, at most.
 const ROOM: usize = 64;
 
-/// Looks at a cell before a caller lets other threads run.
+/// Looks at a cell before a thread lets others run.
 const LOOKS: u32 = 1_000;
 
-/// Times that a caller lets others run before it gives up.
+/// Times that a thread lets others run before it gives up.
 const PATIENCE: u32 = 1_000_000;
 
 /// What a cell has where no tag is in it. A tag stands there as its number and 1.
 const EMPTY: u64 = 0;
 
-/// Ways for tags, one from each caller of an even number to the next caller.
+/// Ways for tags, one from each thread of an even number to the next thread.
 #[derive(Drop)]
 pub(crate) struct Pipes {
     /// The cells of one way after those of another, each used in turn.
@@ -29,10 +28,10 @@ pub(crate) struct Pipes {
 }
 
 impl Pipes {
-    /// Ways for so many callers.
-    pub(crate) fn open(alloc: Global, callers: u32) -> Result<Pipes, AllocError> {
+    /// Ways for so many threads.
+    pub(crate) fn open(alloc: Global, threads: u32) -> Result<Pipes, AllocError> {
         let mut cells = Vec::new(alloc);
-        for _ in 0..callers.min(64) as usize * ROOM {
+        for _ in 0..threads.min(64) as usize * ROOM {
             if cells.push(AtomicU64::new(EMPTY)).is_err() {
                 return Err(AllocError);
             }
@@ -57,25 +56,36 @@ impl Pipes {
     }
 }
 
-/// Gets tags and sends each on.
+/// A thread of an even number gets tags and sends each on, and the next thread clears those that come.
+impl<T: Tags> Job<T> for Pipes {
+    fn work(&self, tags: &T, hand: &mut T::Hand, index: usize, plan: Plan) {
+        let hint = plan.hint(index);
+        if index % 2 == 0 {
+            send(tags, hand, hint, plan.rounds, self, index);
+        } else {
+            receive(tags, hand, hint, plan.rounds, self, index - 1);
+        }
+    }
+}
+
+// Gets tags and sends each on.
 #[inline(never)]
-pub(crate) fn send(
-    map: &Map<u64>,
-    caller: &mut Caller<u64>,
-    from: Hint,
+fn send<T: Tags>(
+    tags: &T,
+    hand: &mut T::Hand,
+    mut hint: Hint,
     rounds: u32,
     pipes: &Pipes,
     way: usize,
 )
-    requires { IsCallerOf map.now caller.old }
-    ensures { IsCallerOf map.now caller.new }
+    requires { T.is_own tags.now hand.old }
+    ensures { T.is_own tags.now hand.new }
 {
-    let mut hint = from;
     for round in 0..rounds {
-        let Some(tag) = win(map, caller, &mut hint, round) else {
+        let Some(tag) = win(tags, hand, &mut hint, round) else {
             return;
         };
-        map.post(caller, tag);
+        tags.post(hand, tag);
         if pipes
             .exchange(way, round, false, u64::from(tag) + 1)
             .is_none()
@@ -85,20 +95,19 @@ pub(crate) fn send(
     }
 }
 
-/// Takes the tags that come, and clears each.
+// Takes the tags that come, and clears each.
 #[inline(never)]
-pub(crate) fn receive(
-    map: &Map<u64>,
-    caller: &mut Caller<u64>,
-    from: Hint,
+fn receive<T: Tags>(
+    tags: &T,
+    hand: &mut T::Hand,
+    mut hint: Hint,
     rounds: u32,
     pipes: &Pipes,
     way: usize,
 )
-    requires { IsCallerOf map.now caller.old }
-    ensures { IsCallerOf map.now caller.new }
+    requires { T.is_own tags.now hand.old }
+    ensures { T.is_own tags.now hand.new }
 {
-    let mut hint = from;
     for round in 0..rounds {
         let Some(cell) = pipes.exchange(way, round, true, EMPTY) else {
             return;
@@ -106,9 +115,9 @@ pub(crate) fn receive(
         let Ok(tag) = u32::try_from(cell.saturating_sub(1)) else {
             return;
         };
-        if tag < map.layout().depth() && map.take(caller, tag) {
-            touch(map, caller, tag, round);
-            on_map::put(map, caller, &mut hint, tag);
+        if tags.take(hand, tag) {
+            tags.touch(hand, tag, round);
+            tags.clear(hand, &mut hint, tag);
         }
     }
 }

@@ -1,38 +1,40 @@
-//! The workloads `pair`, `ring`, `full`, `pass` and `batch`: callers of one map use tags as drivers do.
-use crate::callers::{Clear, Plan, Task, carry_out};
+//! The workloads `pair`, `ring`, `full` and `pass`: threads use tags as drivers do, those of a shared map or of a queue.
+use crate::jobs::{Job, Plan, carry_out};
 use crate::measure::{Failed, print_case};
 use crate::options::Options;
+use crate::pipes::Pipes;
+use crate::rounds::{Pairs, Ring};
+use crate::tags::Tags;
+use std::alloc::{AllocError, Global};
+use std::fmt::Display;
 use std::thread::Threads;
 use std::time::{Clock, CpuClock};
 
-/// Tags of the map, where no count is asked for.
+/// How many tags there are, where no count is asked for.
 const DEPTHS: [u32; 3] = [64, 1_024, 10_240];
 
-/// Tags that each caller holds in `ring`.
+/// Tags that each thread holds in `ring`.
 const HELD: u32 = 32;
 
 /// How tags are used.
-#[derive(Clone, Copy, Debug, PartialEq, Eq)]
+#[derive(Clone, Copy)]
 pub(crate) enum Traffic {
     /// A get, a touch of the slot and a clear.
     Pair,
-    /// Each caller holds 32 tags, clears the oldest and gets another.
+    /// Each thread holds 32 tags, clears the oldest and gets another.
     Ring,
-    /// The same, where the callers hold all tags of the map between them.
+    /// The same, where the threads hold all tags between them.
     Full,
-    /// One caller gets and posts, another takes and clears.
+    /// One thread gets and posts, another takes and clears.
     Pass,
-    /// Up to 8 tags side by side are got, touched and given back at once.
-    Batch,
 }
 
 /// Each of them, in the order in which they run.
-pub(crate) const TRAFFIC: [Traffic; 5] = [
+pub(crate) const TRAFFIC: [Traffic; 4] = [
     Traffic::Pair,
     Traffic::Ring,
     Traffic::Full,
     Traffic::Pass,
-    Traffic::Batch,
 ];
 
 impl Traffic {
@@ -43,79 +45,108 @@ impl Traffic {
             Traffic::Ring => "ring",
             Traffic::Full => "full",
             Traffic::Pass => "pass",
-            Traffic::Batch => "batch",
-        }
-    }
-
-    // What each of so many callers does on a map of so many tags. None: they cannot.
-    fn task(self, depth: u32, threads: u32) -> Option<Task> {
-        let share = depth / threads.max(1);
-        match self {
-            _ if share == 0 => None,
-            Traffic::Pair => Some(Task::Pair),
-            Traffic::Ring => Some(Task::Ring(share.min(HELD))),
-            Traffic::Full => Some(Task::Ring(share)),
-            Traffic::Pass if threads % 2 != 0 => None,
-            Traffic::Pass => Some(Task::Pass),
-            Traffic::Batch => Some(Task::Batch),
         }
     }
 }
 
-/// Runs each case of one workload.
-pub(crate) fn run<R: AllocGlobal + Threads + Sync + Print + Clock + CpuClock>(
-    rt: &R,
-    options: &Options,
-    traffic: Traffic,
-) -> Result<(), Failed> {
-    if let Some(depth) = options.depth {
-        return run_depth(rt, options, traffic, depth);
-    }
-    for depth in DEPTHS {
-        run_depth(rt, options, traffic, depth)?;
+/// Runs each case of one workload. The prefix stands before its name.
+pub(crate) fn run<
+    R: AllocGlobal + Threads + Sync + Print + Clock + CpuClock,
+    T: Tags + Sync + Drop,
+>(rt: &R, options: &Options, prefix: &str, traffic: Traffic) -> Result<(), Failed>
+where
+    T::Hand: Send + Drop,
+{
+    let name = traffic.name();
+    for &plan in plans(rt.alloc(), options)?.iter() {
+        run_plan::<R, T>(rt, options, format_args!("{prefix}{name}"), plan, traffic)?;
     }
     Ok(())
 }
 
-// Each count of threads on a map of this depth, with hints apart and with all hints from 0.
-fn run_depth<R: AllocGlobal + Threads + Sync + Print + Clock + CpuClock>(
+// Runs one case, with the job that its workload has. `pass` wants an even number of threads.
+fn run_plan<R: AllocGlobal + Threads + Sync + Print + Clock + CpuClock, T: Tags + Sync + Drop>(
     rt: &R,
     options: &Options,
+    workload: impl Display + Drop,
+    plan: Plan,
     traffic: Traffic,
-    depth: u32,
-) -> Result<(), Failed> {
+) -> Result<(), Failed>
+where
+    T::Hand: Send + Drop,
+{
+    let share = plan.depth / plan.threads.max(1);
+    match traffic {
+        Traffic::Pair => run_case::<R, T, Pairs>(rt, options, workload, plan, &Pairs),
+        Traffic::Ring => {
+            let hold = share.min(HELD);
+            run_case::<R, T, Ring>(rt, options, workload, plan, &Ring { hold })
+        }
+        Traffic::Full => run_case::<R, T, Ring>(rt, options, workload, plan, &Ring { hold: share }),
+        Traffic::Pass if plan.threads % 2 != 0 => Ok(()),
+        Traffic::Pass => {
+            let pipes = Pipes::open(rt.alloc(), plan.threads)?;
+            let winners = plan.threads / 2;
+            run_case::<R, T, Pipes>(rt, options, workload, Plan { winners, ..plan }, &pipes)
+        }
+    }
+}
+
+/// Each count of threads at each depth, with hints apart and with all hints from 0, where each thread has a share of the tags.
+pub(crate) fn plans(alloc: Global, options: &Options) -> Result<Vec<Plan>, AllocError> {
+    let mut plans = Vec::new(alloc);
+    match options.depth {
+        Some(depth) => add_plans(&mut plans, options, depth)?,
+        None => {
+            for depth in DEPTHS {
+                add_plans(&mut plans, options, depth)?;
+            }
+        }
+    }
+    Ok(plans)
+}
+
+fn add_plans(plans: &mut Vec<Plan>, options: &Options, depth: u32) -> Result<(), AllocError> {
     for apart in [true, false] {
         for &threads in options.threads.iter() {
-            if let Some(task) = traffic.task(depth, threads) {
-                let plan = Plan {
-                    task,
-                    clear: Clear::Put,
+            let share = depth / threads.max(1);
+            if share > 0 {
+                plans.push(Plan {
                     depth,
                     threads,
-                    stride: if apart { depth / threads.max(1) } else { 0 },
+                    winners: threads,
+                    stride: if apart { share } else { 0 },
                     rounds: options.rounds,
-                };
-                run_case(rt, options, traffic, plan)?;
+                })?;
             }
         }
     }
     Ok(())
 }
 
-fn run_case<R: AllocGlobal + Threads + Sync + Print + Clock + CpuClock>(
+/// Has a job done as planned, and prints the line of the case.
+pub(crate) fn run_case<
+    R: AllocGlobal + Threads + Sync + Print + Clock + CpuClock,
+    T: Tags + Sync + Drop,
+    J: Job<T> + Sync,
+>(
     rt: &R,
     options: &Options,
-    traffic: Traffic,
+    workload: impl Display + Drop,
     plan: Plan,
-) -> Result<(), Failed> {
-    let outcome = carry_out(rt, plan)?;
+    job: &J,
+) -> Result<(), Failed>
+where
+    T::Hand: Send + Drop,
+{
+    let outcome = carry_out::<R, T, J>(rt, plan, job)?;
     let hints = if plan.stride == 0 { "from 0" } else { "apart" };
     let depth = plan.depth;
     let even = outcome.even;
     print_case(
         rt,
         options.show,
-        traffic.name(),
+        workload,
         format_args!("hints {hints}, depth {depth}"),
         plan.threads,
         outcome.times,

@@ -1,6 +1,5 @@
--- The caller stays one of the map.
-use Rattle.tag_core.specs.Callers.{IsCallerOf}
+-- The hand stays one of the tags' own.
 use Rattle.tag_bench.proofs.pipes.receive.Given as goal
 
 abbrev pub invariant-loop-round : goal.invariant-loop-round
-invariant-loop-round l = IsCallerOf l.map l.caller
+invariant-loop-round g l = g.T.Tags.is_own l.tags l.hand

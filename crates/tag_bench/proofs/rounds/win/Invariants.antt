@@ -1,6 +1,5 @@
--- The caller stays one of the map.
-use Rattle.tag_core.specs.Callers.{IsCallerOf}
+-- The hand stays one of the tags' own.
 use Rattle.tag_bench.proofs.rounds.win.Given as goal
 
 abbrev pub invariant-loop : goal.invariant-loop
-invariant-loop l = IsCallerOf l.map l.caller
+invariant-loop g l = g.T.Tags.is_own l.tags l.hand

@@ -1,0 +1,11 @@
+-- Agents go to threads that share the queue.
+use denote.Param.Send.{sendable}
+use Rattle.std.proofs.Crossing.{crosses}
+use Rattle.tag_queue.proofs.Crossing.{agent_send, queue_sync}
+use Rattle.tag_bench.proofs.run_on_queue.Goals as goal
+
+pub run-requires-send-T-Hand : goal.run-requires-send-T-Hand
+run-requires-send-T-Hand g c κs within = search (agent_send, sendable) depth 40
+
+pub run-requires-sync-T : goal.run-requires-sync-T
+run-requires-sync-T g c κs within = search (queue_sync, sendable, crosses) depth 40

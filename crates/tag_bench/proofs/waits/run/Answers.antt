@@ -1,0 +1,11 @@
+-- Agents go to threads that share the queue.
+use denote.Param.Send.{sendable}
+use Rattle.std.proofs.Crossing.{crosses}
+use Rattle.tag_queue.proofs.Crossing.{agent_send, queue_sync}
+use Rattle.tag_bench.proofs.waits.run.Goals as goal
+
+pub carry_out-requires-send-T-Hand : goal.carry_out-requires-send-T-Hand
+carry_out-requires-send-T-Hand g c κs within = search (agent_send, sendable) depth 40
+
+pub carry_out-requires-sync-T : goal.carry_out-requires-sync-T
+carry_out-requires-sync-T g c κs within = search (queue_sync, sendable, crosses) depth 40

@@ -1,0 +1,123 @@
+//! The tags of a queue, each thread as an agent of it.
+ghost use Rattle.std.specs.Prelude.{All};
+ghost use Rattle.tag_queue.specs.Agents.{IsAgentOf, Holds};
+
+use crate::measure::Failed;
+use crate::tags::Tags;
+use std::alloc::Global;
+use tag_core::Spent;
+use tag_layout::MAX_DEPTH;
+use tag_model::Totals;
+use tag_queue::{Agent, Options, Queue};
+use tag_search::Hint;
+
+/// Tags that one agent may win, and completions that it may count.
+const LIFE: u64 = 1 << 48;
+
+impl Tags for Queue<u64> {
+    type Hand = Agent<u64>;
+
+    ghost is_own = { IsAgentOf };
+
+    ghost holds = { Holds };
+
+    fn open(
+        alloc: Global,
+        depth: u32,
+        threads: u32,
+    ) -> Result<(Queue<u64>, Vec<Agent<u64>>), Failed> {
+        let options = Options {
+            shift: None,
+            round_robin: false,
+            min_shallow: None,
+            callers: threads,
+            life: LIFE,
+            cap: LIFE,
+        };
+        Ok(Queue::open(alloc, depth, options, 0)?)
+    }
+
+    fn gather(self, agents: Vec<Agent<u64>>) -> Result<Totals, Failed>
+        requires { All (IsAgentOf self) agents.items }
+    {
+        match Queue::gather(self, agents) {
+            Ok(totals) => Ok(totals.tags),
+            Err(_) => Err(Failed::Missing),
+        }
+    }
+
+    // A clear leaves the agent's hint at the tag cleared, so this one is cleared last.
+    fn place(&self, agent: &mut Agent<u64>, first: u32) -> u64 {
+        if first == 0 {
+            return 0;
+        }
+        let won = win_up_to(self, agent, first);
+        for tag in 0..MAX_DEPTH {
+            if tag != first {
+                let _ = Queue::clear(self, agent, tag);
+            }
+        }
+        let _ = Queue::clear(self, agent, first);
+        won
+    }
+
+    #[inline]
+    fn get(&self, agent: &mut Agent<u64>, _hint: &mut Hint) -> Result<Option<u32>, Spent> {
+        let Ok(answer) = Queue::get(self, agent) else {
+            return Err(Spent);
+        };
+        Ok(answer)
+    }
+
+    #[inline]
+    fn touch(&self, agent: &mut Agent<u64>, tag: u32, value: u32) {
+        let Ok(_) = self.write(agent, tag, u64::from(value)) else {
+            unreachable!()
+        };
+    }
+
+    #[inline]
+    fn clear(&self, agent: &mut Agent<u64>, _hint: &mut Hint, tag: u32) {
+        let Ok(_) = Queue::clear(self, agent, tag) else {
+            unreachable!()
+        };
+    }
+
+    #[inline]
+    fn test_and_clear(&self, agent: &mut Agent<u64>, _hint: &mut Hint, tag: u32) {
+        let _ = Queue::clear(self, agent, tag);
+    }
+
+    #[inline]
+    fn post(&self, agent: &mut Agent<u64>, tag: u32) {
+        let Ok(()) = Queue::post(self, agent, tag) else {
+            unreachable!()
+        };
+    }
+
+    #[inline]
+    fn take(&self, agent: &mut Agent<u64>, tag: u32) -> bool {
+        let Ok(()) = Queue::take(self, agent, tag) else {
+            return false;
+        };
+        true
+    }
+}
+
+// Wins tags until this one is among them. Answers how many.
+fn win_up_to(queue: &Queue<u64>, agent: &mut Agent<u64>, last: u32) -> u64
+    requires { IsAgentOf queue.now agent.old }
+    ensures { IsAgentOf queue.now agent.new }
+{
+    let mut won: u64 = 0;
+    for _ in 0..MAX_DEPTH {
+        let Ok(Some(tag)) = queue.get(agent) else {
+            break;
+        };
+        won = won.wrapping_add(1);
+        if tag == last {
+            break;
+        }
+    }
+    won
+}
