@@ -98,43 +98,32 @@ pub(crate) fn command<'a>(alloc: Global) -> Result<Command<'a>, AllocError> {
     with_traffic(alloc, command)
 }
 
-// The command line with the workloads of `traffic.rt`, then batches and the queue.
+// The command line with the workloads that use tags as drivers do.
 fn with_traffic<'a>(alloc: Global, command: Command<'a>) -> Result<Command<'a>, AllocError> {
-    let command = command.subcommand(traffic(
-        alloc,
-        "pair",
-        "Each thread gets a tag, touches its slot and clears it",
-    )?)?;
-    let command = command.subcommand(traffic(
-        alloc,
-        "ring",
-        "Each thread holds up to 32 tags, clears the oldest and gets another",
-    )?)?;
-    let command = command.subcommand(traffic(
-        alloc,
-        "full",
-        "As ring, where the threads hold all tags between them",
-    )?)?;
-    let command = command.subcommand(traffic(
-        alloc,
-        "pass",
-        "One thread gets tags and posts them, another takes and clears them",
-    )?)?;
-    let command = command.subcommand(traffic(
-        alloc,
-        "batch",
-        "Each caller gets up to 8 tags side by side, and gives them back at once",
-    )?)?;
-    command.subcommand(queue(alloc)?)
+    let mut command = command;
+    for each in TRAFFIC {
+        // The borrow checker wants both at the command's lifetime.
+        let (name, about): (&'a str, &'a str) = (each.name(), each.about());
+        command = command.subcommand(traffic(alloc, name, about)?)?;
+    }
+    command
+        .subcommand(traffic(
+            alloc,
+            "batch",
+            "Each thread gets up to 8 tags side by side, and gives them back at once",
+        )?)?
+        .subcommand(queue(alloc)?)
 }
 
 fn queue<'a>(alloc: Global) -> Result<Command<'a>, AllocError> {
-    let command = traffic(
-        alloc,
-        "queue",
-        "The same over a queue, and gets that wait where there are more threads than tags",
-    )?;
-    command.arg(queue_workload(alloc))
+    Command::new(alloc, "queue")
+        .about("pair, ring, full and pass over a queue, and gets that wait for a tag")
+        .arg(queue_workload(alloc))?
+        .arg(depth(
+            alloc,
+            "Tags of the queue [default: 64, 1024 and 10240 in turn; of waiters half as many as threads]",
+        ))?
+        .arg(threads(alloc))
 }
 
 fn traffic<'a>(alloc: Global, name: &'a str, about: &'a str) -> Result<Command<'a>, AllocError> {

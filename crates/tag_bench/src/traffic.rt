@@ -47,6 +47,16 @@ impl Traffic {
             Traffic::Pass => "pass",
         }
     }
+
+    /// What the command line's help says of it.
+    pub(crate) fn about(self) -> &'static str {
+        match self {
+            Traffic::Pair => "Each thread gets a tag, touches its slot and clears it",
+            Traffic::Ring => "Each thread holds up to 32 tags, clears the oldest and gets another",
+            Traffic::Full => "As ring, where the threads hold all tags between them",
+            Traffic::Pass => "One thread gets tags and posts them, another takes and clears them",
+        }
+    }
 }
 
 /// Runs each case of one workload. The prefix stands before its name.
