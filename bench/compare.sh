@@ -4,9 +4,11 @@
 # rt, rustc and python3 are on the path.
 set -euo pipefail
 cd "$(dirname "$0")/.."
-workload=${1:?plain, map, shared or wakes}
+workload=${1:?plain, map, shared, wakes or waiters}
 alternations=${2:-5}
 options=("${@:3}")
+ours=("$workload")
+if [ "$workload" = waiters ]; then ours=(queue waiters); fi
 
 made=$(mktemp -d)
 trap 'rm -rf "$made"' EXIT
@@ -16,7 +18,7 @@ rustc -O -C target-cpu=x86-64-v2 --edition 2021 -o "$made/baseline" bench/baseli
 cat /proc/loadavg > "$made/load"
 for ((run = 1; run <= alternations; run++)); do
   echo "alternation $run of $alternations" >&2
-  crates/tag_bench/out/tag_bench "$workload" --json "${options[@]}" >> "$made/lines"
+  crates/tag_bench/out/tag_bench "${ours[@]}" --json "${options[@]}" >> "$made/lines"
   "$made/baseline" "$workload" "${options[@]}" >> "$made/lines"
 done
 echo "$(date +%F), $(rt version), $(rustc --version), $(nproc) processors, load $(cut -d ' ' -f 1 "$made/load") at the start"

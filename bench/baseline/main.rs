@@ -7,6 +7,7 @@ mod plain;
 mod search;
 mod shared;
 mod steps;
+mod waiters;
 mod wakes;
 
 use frame::Options;
@@ -23,9 +24,10 @@ fn main() -> ExitCode {
         "map" => map::run(&options),
         "plain" => plain::run(&options),
         "shared" => shared::run(&options),
+        "waiters" => waiters::run(&options),
         "wakes" => wakes::run(&options),
         _ => {
-            eprintln!("the workloads are map, plain, shared and wakes");
+            eprintln!("the workloads are map, plain, shared, waiters and wakes");
             return ExitCode::from(2);
         }
     }
