@@ -3,8 +3,6 @@ ghost use Rattle.std.specs.Prelude.{All, IfOk};
 
 use crate::measure::{Failed, RUNS, Run, Times, Watch};
 use crate::tags::Tags;
-use std::sync::atomic::AtomicU64;
-use std::sync::atomic::Ordering::SeqCst;
 use std::thread;
 use std::thread::Threads;
 use std::time::{Clock, CpuClock};
@@ -67,34 +65,28 @@ where
     T::Hand: Send + Drop,
 {
     let (tags, mut hands) = T::open(rt.alloc(), plan.depth, plan.threads)?;
-    let placing = Placing {
-        won: AtomicU64::new(0),
-    };
-    work_all(rt, &tags, &mut hands, Plan { threads: 1, ..plan }, &placing);
+    if plan.stride > 0 {
+        work_all(rt, &tags, &mut hands, Plan { threads: 1, ..plan }, &Placing);
+    }
     let runs = time_runs(rt, &tags, &mut hands, plan, job)?;
     let totals = tags.gather(hands)?;
-    let won = totals.got.saturating_sub(placing.won.load(SeqCst));
     let shares = RUNS as u64 * u64::from(plan.winners.max(1));
     Ok(Outcome {
         times: Times {
             runs,
-            operations: won / shares,
+            operations: totals.got / shares,
         },
         even: totals.got == totals.back,
     })
 }
 
-/// Brings each hand to where its gets begin, before the first run.
+// Has each hand begin in its own part of the tags, before the first run.
 #[derive(Drop)]
-struct Placing {
-    /// Tags won for that.
-    won: AtomicU64,
-}
+struct Placing;
 
 impl<T: Tags> Job<T> for Placing {
-    fn work(&self, tags: &T, hand: &mut T::Hand, index: usize, plan: Plan) {
-        self.won
-            .fetch_add(tags.place(hand, plan.first(index)), SeqCst);
+    fn work(&self, tags: &T, hand: &mut T::Hand, _index: usize, _plan: Plan) {
+        tags.place(hand);
     }
 }
 

@@ -40,9 +40,7 @@ impl Tags for Map<u64> {
     }
 
     // A caller is told at each get where it begins.
-    fn place(&self, _caller: &mut Caller<u64>, _first: u32) -> u64 {
-        0
-    }
+    fn place(&self, _caller: &mut Caller<u64>) {}
 
     #[inline]
     fn get(&self, caller: &mut Caller<u64>, hint: &mut Hint) -> Result<Option<u32>, Spent> {

@@ -6,7 +6,6 @@ use crate::measure::Failed;
 use crate::tags::Tags;
 use std::alloc::Global;
 use tag_core::Spent;
-use tag_layout::MAX_DEPTH;
 use tag_model::Totals;
 use tag_queue::{Agent, Options, Queue};
 use tag_search::Hint;
@@ -46,19 +45,8 @@ impl Tags for Queue<u64> {
         }
     }
 
-    // A clear leaves the agent's hint at the tag cleared, so this one is cleared last.
-    fn place(&self, agent: &mut Agent<u64>, first: u32) -> u64 {
-        if first == 0 {
-            return 0;
-        }
-        let won = win_up_to(self, agent, first);
-        for tag in 0..MAX_DEPTH {
-            if tag != first {
-                let _ = Queue::clear(self, agent, tag);
-            }
-        }
-        let _ = Queue::clear(self, agent, first);
-        won
+    fn place(&self, agent: &mut Agent<u64>) {
+        Queue::place(self, agent);
     }
 
     #[inline]
@@ -102,22 +90,4 @@ impl Tags for Queue<u64> {
         };
         true
     }
-}
-
-// Wins tags until this one is among them. Answers how many.
-fn win_up_to(queue: &Queue<u64>, agent: &mut Agent<u64>, last: u32) -> u64
-    requires { IsAgentOf queue.now agent.old }
-    ensures { IsAgentOf queue.now agent.new }
-{
-    let mut won: u64 = 0;
-    for _ in 0..MAX_DEPTH {
-        let Ok(Some(tag)) = queue.get(agent) else {
-            break;
-        };
-        won = won.wrapping_add(1);
-        if tag == last {
-            break;
-        }
-    }
-    won
 }

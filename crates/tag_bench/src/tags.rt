@@ -26,8 +26,8 @@ pub(crate) trait Tags {
     fn gather(self, hands: Vec<Self::Hand>) -> Result<Totals, Failed>
         requires { All (is_own self) hands.items };
 
-    /// Has the hand's next get begin at this tag, where the hand keeps a hint of its own. Answers how many tags it won for that.
-    fn place(&self, hand: &mut Self::Hand, first: u32) -> u64
+    /// Has the hand's next get begin in its own part of the tags, where the hand keeps a hint of its own.
+    fn place(&self, hand: &mut Self::Hand)
         requires { is_own self.now hand.old }
         ensures { is_own self.now hand.new };
 
