@@ -2,6 +2,7 @@
 mod agents;
 mod clears;
 mod crowd;
+mod deeds;
 mod example;
 mod gathering;
 mod gets;

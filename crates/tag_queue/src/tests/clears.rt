@@ -1,7 +1,11 @@
 //! Clears, and what they count.
-use crate::fault::TagFault;
+use crate::fault::TagFault::{BadCount, NoSuchTag, NotHeld};
 use crate::queue::Options;
 use crate::tests::agents::{options, words_of_four};
+use crate::tests::deeds::Answer::{Batch, Bits, Done, Found, Group, Refused, Tag, Woken};
+use crate::tests::deeds::Deed::{
+    Clear, ClearBoth, ClearUncounted, Get, GetBatch, Look, PrepareWait, Wakes,
+};
 use crate::tests::stage::Stage;
 use std::test::Fail;
 use tag_model::Totals;
@@ -9,13 +13,18 @@ use tag_model::Totals;
 #[test]
 fn a_clear_of_a_tag_that_is_not_held_is_refused(rt: HostRuntime) -> Result<(), Fail> {
     let mut stage = Stage::open(rt.alloc(), 4, options(2))?;
-    assert_eq!(rt; stage.get(0)?, Some(0));
-    assert_eq!(rt; stage.clear(1, 0), Err(TagFault::NotHeld));
-    assert_eq!(rt; stage.clear(0, 4), Err(TagFault::NoSuchTag));
-    assert_eq!(rt; stage.clear_uncounted(1, 0), Err(TagFault::NotHeld));
-    assert_eq!(rt; stage.clear_uncounted(0, 4), Err(TagFault::NoSuchTag));
-    assert_eq!(rt; stage.clear(0, 0), Ok(0));
-    assert_eq!(rt; stage.clear(0, 0), Err(TagFault::NotHeld));
+    assert_eq!(rt;
+        stage.wrong(&[
+            (Get(0), Tag(0)),
+            (Clear(1, 0), Refused(NotHeld)),
+            (Clear(0, 4), Refused(NoSuchTag)),
+            (ClearUncounted(1, 0), Refused(NotHeld)),
+            (ClearUncounted(0, 4), Refused(NoSuchTag)),
+            (Clear(0, 0), Woken(0)),
+            (Clear(0, 0), Refused(NotHeld)),
+        ]),
+        None
+    );
     Ok(())
 }
 
@@ -23,13 +32,18 @@ fn a_clear_of_a_tag_that_is_not_held_is_refused(rt: HostRuntime) -> Result<(), F
 fn a_batch_clear_is_refused_for_its_first_fault(rt: HostRuntime) -> Result<(), Fail> {
     let mut stage = Stage::open(rt.alloc(), 4, words_of_four(1))?;
     assert_eq!(rt; stage.get(0)?, Some(0));
-    assert_eq!(rt; stage.clear_batch(0, &[]), Err(TagFault::BadCount));
-    assert_eq!(rt; stage.clear_batch(0, &[4; 65]), Err(TagFault::BadCount));
-    assert_eq!(rt; stage.clear_batch(0, &[4; 64]), Err(TagFault::NoSuchTag));
-    assert_eq!(rt; stage.clear_batch(0, &[1, 4]), Err(TagFault::NoSuchTag));
-    assert_eq!(rt; stage.clear_batch(0, &[0, 1]), Err(TagFault::NotHeld));
-    assert_eq!(rt; stage.clear_batch(0, &[0, 0]), Err(TagFault::NotHeld));
-    assert_eq!(rt; stage.look(0, 0), Some((1, 0)));
+    assert_eq!(rt; stage.clear_batch(0, &[]), Err(BadCount));
+    assert_eq!(rt; stage.clear_batch(0, &[4; 65]), Err(BadCount));
+    assert_eq!(rt; stage.clear_batch(0, &[4; 64]), Err(NoSuchTag));
+    assert_eq!(rt;
+        stage.wrong(&[
+            (ClearBoth(0, 1, 4), Refused(NoSuchTag)),
+            (ClearBoth(0, 0, 1), Refused(NotHeld)),
+            (ClearBoth(0, 0, 0), Refused(NotHeld)),
+            (Look(0, 0), Bits(1, 0)),
+        ]),
+        None
+    );
     assert_eq!(rt; stage.clear_batch(0, &[0]), Ok(0));
     assert_eq!(rt; stage.look(0, 0), Some((0, 0)));
     Ok(())
@@ -38,19 +52,23 @@ fn a_batch_clear_is_refused_for_its_first_fault(rt: HostRuntime) -> Result<(), F
 #[test]
 fn a_clear_sets_aside_and_a_batch_clear_frees(rt: HostRuntime) -> Result<(), Fail> {
     let mut stage = Stage::open(rt.alloc(), 8, words_of_four(1))?;
-    assert_eq!(rt; stage.gets(rt.alloc(), 0, 8)?.len(), 8);
+    assert_eq!(rt; stage.gets(0, 8), Ok(8));
     assert_eq!(rt; stage.clear_batch(0, &[3, 5, 0, 7]), Ok(0));
-    assert_eq!(rt; stage.look(0, 0), Some((6, 0)));
-    assert_eq!(rt; stage.look(0, 1), Some((5, 0)));
     // The hint is the last of the list, so the search begins in its word.
-    assert_eq!(rt; stage.get(0)?, Some(5));
-    assert_eq!(rt; stage.clear(0, 2), Ok(0));
-    assert_eq!(rt; stage.clear_uncounted(0, 6), Ok(()));
-    assert_eq!(rt; stage.look(0, 0), Some((6, 4)));
-    assert_eq!(rt; stage.look(0, 1), Some((7, 4)));
     assert_eq!(rt;
-        stage.gets(rt.alloc(), 0, 3)?.as_slice(),
-        &[Some(7), Some(6), Some(0)][..]
+        stage.wrong(&[
+            (Look(0, 0), Bits(6, 0)),
+            (Look(0, 1), Bits(5, 0)),
+            (Get(0), Tag(5)),
+            (Clear(0, 2), Woken(0)),
+            (ClearUncounted(0, 6), Done),
+            (Look(0, 0), Bits(6, 4)),
+            (Look(0, 1), Bits(7, 4)),
+            (Get(0), Tag(7)),
+            (Get(0), Tag(6)),
+            (Get(0), Tag(0)),
+        ]),
+        None
     );
     Ok(())
 }
@@ -62,7 +80,7 @@ fn a_batch_of_64_comes_back_at_once(rt: HostRuntime) -> Result<(), Fail> {
         ..options(1)
     };
     let mut stage = Stage::open(rt.alloc(), 64, one_word)?;
-    assert_eq!(rt; stage.get_batch(0, 64)?, Some((0, u64::MAX)));
+    assert_eq!(rt; stage.wrong(&[(GetBatch(0, 64), Batch(0, u64::MAX))]), None);
     let mut tags = [0u32; 64];
     for tag in 0..64u32 {
         tags[tag as usize] = 63 - tag;
@@ -75,14 +93,21 @@ fn a_batch_of_64_comes_back_at_once(rt: HostRuntime) -> Result<(), Fail> {
 #[test]
 fn a_batch_clear_counts_all_its_tags_and_charges_one_batch(rt: HostRuntime) -> Result<(), Fail> {
     let mut stage = Stage::open(rt.alloc(), 16, options(2))?;
-    assert_eq!(rt; stage.gets(rt.alloc(), 0, 7)?.len(), 7);
-    assert_eq!(rt; stage.prepare_wait(1), Ok(0));
-    assert_eq!(rt; stage.clear_uncounted(0, 6), Ok(()));
+    assert_eq!(rt; stage.gets(0, 7), Ok(7));
+    assert_eq!(rt;
+        stage.wrong(&[(PrepareWait(1), Group(0)), (ClearUncounted(0, 6), Done)]),
+        None
+    );
     assert_eq!(rt; stage.clear_batch(0, &[0, 1, 2, 3, 4]), Ok(1));
-    assert_eq!(rt; stage.counts(0), Some((5, 2)));
     // Two more are open, and one completion charges two of them.
-    assert_eq!(rt; stage.clear(0, 5), Ok(0));
-    assert_eq!(rt; stage.counts(0), Some((6, 4)));
+    assert_eq!(rt;
+        stage.wrong(&[
+            (Wakes(0), Found(5, 2, 0, 1)),
+            (Clear(0, 5), Woken(0)),
+            (Wakes(0), Found(6, 4, 0, 1)),
+        ]),
+        None
+    );
     let totals = stage.close()?;
     assert_eq!(rt;
         totals.tags,

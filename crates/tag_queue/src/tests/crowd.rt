@@ -1,5 +1,5 @@
 //! How the agents of a stage meet, go away and come together.
-ghost use Rattle.std.specs.Prelude.{◌≡◌, IfSome};
+ghost use Rattle.std.specs.Prelude.{◌≡◌, All, IfSome};
 ghost use Rattle.tag_queue.specs.Agents.{IsAgentOf};
 
 use crate::agent::Agent;
@@ -13,6 +13,32 @@ use std::mem::replace;
 use std::test::Fail;
 use step_ledger::GatherCause;
 
+/// The agent stands behind the others.
+fn put_back(queue: &Queue<u64>, agents: &mut Vec<Agent<u64>>, agent: Agent<u64>) -> Result<(), Fail>
+    requires { All (IsAgentOf queue.now) agents.old.items × IsAgentOf queue.now agent }
+    ensures { All (IsAgentOf queue.now) agents.new.items }
+{
+    agents.push(agent)?;
+    Ok(())
+}
+
+/// The other agent stands there now, and who stood there goes, if anybody did.
+fn trade(
+    queue: &Queue<u64>,
+    agents: &mut Vec<Agent<u64>>,
+    at: usize,
+    other: Agent<u64>,
+) -> Agent<u64>
+    requires { All (IsAgentOf queue.now) agents.old.items × IsAgentOf queue.now other }
+    ensures own { All (IsAgentOf queue.now) agents.new.items }
+    ensures agent { IsAgentOf queue.now result }
+{
+    match agents.get_mut(at) {
+        Some(place) => replace(place, other),
+        None => other,
+    }
+}
+
 impl Stage {
     fn take_last(&mut self) -> Option<Agent<u64>>
         ensures queue { self.new.queue ≡ self.old.queue }
@@ -21,24 +47,12 @@ impl Stage {
         self.agents.pop()
     }
 
-    /// The other agent stands there now, and who stood there goes, if anybody did.
-    fn trade(&mut self, at: usize, other: Agent<u64>) -> Agent<u64>
-        requires { IsAgentOf self.old.queue other }
-        ensures queue { self.new.queue ≡ self.old.queue }
-        ensures agent { IsAgentOf self.old.queue result }
-    {
-        match self.agents.get_mut(at) {
-            Some(place) => replace(place, other),
-            None => other,
-        }
-    }
-
     fn take_out(&mut self, at: usize) -> Option<Agent<u64>>
         ensures queue { self.new.queue ≡ self.old.queue }
         ensures agent { IfSome result (IsAgentOf self.old.queue) }
     {
         match self.take_last() {
-            Some(last) => Some(self.trade(at, last)),
+            Some(last) => Some(trade(&self.queue, &mut self.agents, at, last)),
             None => None,
         }
     }
@@ -63,7 +77,7 @@ impl Stage {
             return Ok(false);
         };
         let is_there = self.meet_with(at, &mut last);
-        self.agents.push(last)?;
+        put_back(&self.queue, &mut self.agents, last)?;
         Ok(is_there)
     }
 
@@ -87,14 +101,14 @@ impl Stage {
             return Ok(false);
         };
         let is_held = self.apart_from(at, &mut last, tag);
-        self.agents.push(last)?;
+        put_back(&self.queue, &mut self.agents, last)?;
         Ok(is_held)
     }
 
     /// An agent goes away, and the last one takes its place.
     pub(crate) fn send_away(&mut self, at: usize) -> Result<(), Fail> {
         if let Some(agent) = self.take_out(at) {
-            self.away.push(agent)?;
+            put_back(&self.queue, &mut self.away, agent)?;
         }
         Ok(())
     }
@@ -102,7 +116,7 @@ impl Stage {
     /// Who went away last comes back, behind the others.
     pub(crate) fn bring_back(&mut self) -> Result<(), Fail> {
         if let Some(agent) = self.away.pop() {
-            self.agents.push(agent)?;
+            put_back(&self.queue, &mut self.agents, agent)?;
         }
         Ok(())
     }

@@ -1,6 +1,8 @@
 //! Agents that are missing, that were lost, and that meet.
 use crate::gather::QueueTotals;
 use crate::tests::agents::options;
+use crate::tests::deeds::Answer::{Tag, Woken};
+use crate::tests::deeds::Deed::{Clear, Get};
 use crate::tests::stage::Stage;
 use std::test::Fail;
 use step_ledger::GatherCause;
@@ -75,12 +77,14 @@ fn a_lost_agent_keeps_its_tags(rt: HostRuntime) -> Result<(), Fail> {
 fn two_agents_meet_and_go_on(rt: HostRuntime) -> Result<(), Fail> {
     let mut stage = Stage::open(rt.alloc(), 4, options(2))?;
     assert!(rt; stage.meet(0)?);
-    assert_eq!(rt; stage.get(0)?, Some(0));
+    assert_eq!(rt; stage.wrong(&[(Get(0), Tag(0))]), None);
     assert!(rt; stage.apart(0, 0)?);
-    assert_eq!(rt; stage.get(1)?, Some(1));
+    assert_eq!(rt; stage.wrong(&[(Get(1), Tag(1))]), None);
     assert!(rt; stage.meet(0)?);
-    assert_eq!(rt; stage.clear(0, 0)?, 0);
-    assert_eq!(rt; stage.get(0)?, Some(0));
+    assert_eq!(rt;
+        stage.wrong(&[(Clear(0, 0), Woken(0)), (Get(0), Tag(0))]),
+        None
+    );
     let totals = stage.close()?;
     assert_eq!(rt; (totals.tags.got, totals.tags.held), (3, 2));
     Ok(())

@@ -1,17 +1,18 @@
 //! Gets by one agent.
-use crate::fault::TagFault;
+use crate::fault::TagFault::{BadCount, Spent, TooShallow};
 use crate::queue::Options;
 use crate::tests::agents::{options, words_of_four};
+use crate::tests::deeds::Answer::{Batch, Nothing, Refused, Tag, Woken};
+use crate::tests::deeds::Deed::{Clear, ClearBoth, Get, GetBatch, GetShallow};
 use crate::tests::stage::Stage;
 use std::test::Fail;
 
-// A get, and the clear of its tag.
-fn get_and_clear(stage: &mut Stage) -> Result<Option<u32>, TagFault> {
-    let answer = stage.get(0)?;
-    if let Some(tag) = answer {
-        stage.clear(0, tag)?;
+/// Words of four tags, in round-robin mode.
+fn in_turn() -> Options {
+    Options {
+        round_robin: true,
+        ..words_of_four(1)
     }
-    Ok(answer)
 }
 
 #[test]
@@ -19,21 +20,21 @@ fn a_get_goes_on_past_a_full_word(rt: HostRuntime) -> Result<(), Fail> {
     let mut stage = Stage::open(rt.alloc(), 8, words_of_four(1))?;
     // Behind tag 6 the hint is 0 again, and tag 7 lies past a full word.
     assert_eq!(rt;
-        stage.gets(rt.alloc(), 0, 9)?.as_slice(),
-        &[
-            Some(0),
-            Some(1),
-            Some(2),
-            Some(3),
-            Some(4),
-            Some(5),
-            Some(6),
-            Some(7),
-            None
-        ][..]
+        stage.wrong(&[
+            (Get(0), Tag(0)),
+            (Get(0), Tag(1)),
+            (Get(0), Tag(2)),
+            (Get(0), Tag(3)),
+            (Get(0), Tag(4)),
+            (Get(0), Tag(5)),
+            (Get(0), Tag(6)),
+            (Get(0), Tag(7)),
+            (Get(0), Nothing),
+            (Clear(0, 5), Woken(0)),
+            (Get(0), Tag(5)),
+        ]),
+        None
     );
-    assert_eq!(rt; stage.clear(0, 5)?, 0);
-    assert_eq!(rt; stage.get(0)?, Some(5));
     Ok(())
 }
 
@@ -41,49 +42,58 @@ fn a_get_goes_on_past_a_full_word(rt: HostRuntime) -> Result<(), Fail> {
 fn a_cleared_tag_comes_back_after_a_sweep(rt: HostRuntime) -> Result<(), Fail> {
     let mut stage = Stage::open(rt.alloc(), 4, words_of_four(1))?;
     assert_eq!(rt;
-        stage.gets(rt.alloc(), 0, 2)?.as_slice(),
-        &[Some(0), Some(1)][..]
-    );
-    assert_eq!(rt; stage.clear(0, 0)?, 0);
-    assert_eq!(rt;
-        stage.gets(rt.alloc(), 0, 4)?.as_slice(),
-        &[Some(2), Some(3), Some(0), None][..]
+        stage.wrong(&[
+            (Get(0), Tag(0)),
+            (Get(0), Tag(1)),
+            (Clear(0, 0), Woken(0)),
+            (Get(0), Tag(2)),
+            (Get(0), Tag(3)),
+            (Get(0), Tag(0)),
+            (Get(0), Nothing),
+        ]),
+        None
     );
     Ok(())
 }
 
 #[test]
 fn a_round_robin_get_begins_behind_the_last_tag(rt: HostRuntime) -> Result<(), Fail> {
-    let in_turn = Options {
-        round_robin: true,
-        ..words_of_four(1)
-    };
-    let mut stage = Stage::open(rt.alloc(), 4, in_turn)?;
-    assert_eq!(rt; get_and_clear(&mut stage)?, Some(0));
-    assert_eq!(rt; get_and_clear(&mut stage)?, Some(1));
-    assert_eq!(rt; get_and_clear(&mut stage)?, Some(2));
-    assert_eq!(rt; get_and_clear(&mut stage)?, Some(3));
-    assert_eq!(rt; stage.get(0)?, Some(0));
+    let mut stage = Stage::open(rt.alloc(), 4, in_turn())?;
+    assert_eq!(rt;
+        stage.wrong(&[
+            (Get(0), Tag(0)),
+            (Clear(0, 0), Woken(0)),
+            (Get(0), Tag(1)),
+            (Clear(0, 1), Woken(0)),
+            (Get(0), Tag(2)),
+            (Clear(0, 2), Woken(0)),
+            (Get(0), Tag(3)),
+            (Clear(0, 3), Woken(0)),
+            (Get(0), Tag(0)),
+        ]),
+        None
+    );
     Ok(())
 }
 
 #[test]
 fn a_round_robin_get_misses_a_tag_below_its_hint(rt: HostRuntime) -> Result<(), Fail> {
-    let in_turn = Options {
-        round_robin: true,
-        ..words_of_four(1)
-    };
-    let mut stage = Stage::open(rt.alloc(), 4, in_turn)?;
+    let mut stage = Stage::open(rt.alloc(), 4, in_turn())?;
     assert_eq!(rt;
-        stage.gets(rt.alloc(), 0, 4)?.as_slice(),
-        &[Some(0), Some(1), Some(2), Some(3)][..]
+        stage.wrong(&[
+            (Get(0), Tag(0)),
+            (Get(0), Tag(1)),
+            (Get(0), Tag(2)),
+            (Get(0), Tag(3)),
+            (ClearBoth(0, 0, 1), Woken(0)),
+            (Get(0), Tag(0)),
+        ]),
+        None
     );
-    assert_eq!(rt; stage.clear_batch(0, &[0, 1])?, 0);
-    assert_eq!(rt; stage.get(0)?, Some(0));
     assert_eq!(rt; stage.clear_batch(0, &[0])?, 0);
     assert_eq!(rt;
-        stage.gets(rt.alloc(), 0, 3)?.as_slice(),
-        &[Some(1), None, Some(0)][..]
+        stage.wrong(&[(Get(0), Tag(1)), (Get(0), Nothing), (Get(0), Tag(0))]),
+        None
     );
     Ok(())
 }
@@ -91,14 +101,21 @@ fn a_round_robin_get_misses_a_tag_below_its_hint(rt: HostRuntime) -> Result<(), 
 #[test]
 fn a_shallow_get_has_its_share_of_each_word(rt: HostRuntime) -> Result<(), Fail> {
     let mut stage = Stage::open(rt.alloc(), 8, words_of_four(1))?;
-    assert_eq!(rt; stage.get_shallow(0, 2)?, Some(0));
-    assert_eq!(rt; stage.get_shallow(0, 2)?, Some(4));
-    assert_eq!(rt; stage.get_shallow(0, 2)?, None);
-    assert_eq!(rt; stage.get(0)?, Some(1));
-    assert_eq!(rt; stage.get_shallow(0, 0), Err(TagFault::TooShallow));
+    assert_eq!(rt;
+        stage.wrong(&[
+            (GetShallow(0, 2), Tag(0)),
+            (GetShallow(0, 2), Tag(4)),
+            (GetShallow(0, 2), Nothing),
+            (Get(0), Tag(1)),
+            (GetShallow(0, 0), Refused(TooShallow)),
+        ]),
+        None
+    );
     let mut stage = Stage::open(rt.alloc(), 10, words_of_four(1))?;
-    assert_eq!(rt; stage.get_shallow(0, 1)?, Some(8));
-    assert_eq!(rt; stage.get_shallow(0, 1)?, None);
+    assert_eq!(rt;
+        stage.wrong(&[(GetShallow(0, 1), Tag(8)), (GetShallow(0, 1), Nothing)]),
+        None
+    );
     Ok(())
 }
 
@@ -110,14 +127,20 @@ fn a_batch_get_wins_what_is_free_of_a_run(rt: HostRuntime) -> Result<(), Fail> {
     };
     let mut stage = Stage::open(rt.alloc(), 8, one_word)?;
     assert_eq!(rt;
-        stage.gets(rt.alloc(), 0, 5)?.as_slice(),
-        &[Some(0), Some(1), Some(2), Some(3), Some(4)][..]
+        stage.wrong(&[
+            (Get(0), Tag(0)),
+            (Get(0), Tag(1)),
+            (Get(0), Tag(2)),
+            (Get(0), Tag(3)),
+            (Get(0), Tag(4)),
+            (ClearBoth(0, 1, 3), Woken(0)),
+            (GetBatch(0, 3), Batch(1, 5)),
+            (GetBatch(0, 5), Nothing),
+            (GetBatch(0, 0), Refused(BadCount)),
+            (GetBatch(0, 9), Refused(BadCount)),
+        ]),
+        None
     );
-    assert_eq!(rt; stage.clear_batch(0, &[1, 3])?, 0);
-    assert_eq!(rt; stage.get_batch(0, 3)?, Some((1, 5)));
-    assert_eq!(rt; stage.get_batch(0, 5)?, None);
-    assert_eq!(rt; stage.get_batch(0, 0), Err(TagFault::BadCount));
-    assert_eq!(rt; stage.get_batch(0, 9), Err(TagFault::BadCount));
     Ok(())
 }
 
@@ -129,21 +152,31 @@ fn a_get_is_refused_for_its_first_fault(rt: HostRuntime) -> Result<(), Fail> {
         ..options(1)
     };
     let mut stage = Stage::open(rt.alloc(), 8, brief)?;
-    assert_eq!(rt; stage.get_batch(0, 2), Err(TagFault::Spent));
-    assert_eq!(rt; stage.get(0), Ok(Some(0)));
-    assert_eq!(rt; stage.clear(0, 0), Ok(0));
-    assert_eq!(rt; stage.get(0), Err(TagFault::Spent));
-    assert_eq!(rt; stage.get_shallow(0, 2), Err(TagFault::Spent));
-    assert_eq!(rt; stage.get_shallow(0, 1), Err(TagFault::TooShallow));
-    assert_eq!(rt; stage.get_batch(0, 3), Err(TagFault::BadCount));
-    assert_eq!(rt; stage.get_blocking(&rt, 0), Err(TagFault::Spent));
-    let in_turn = Options {
+    assert_eq!(rt;
+        stage.wrong(&[
+            (GetBatch(0, 2), Refused(Spent)),
+            (Get(0), Tag(0)),
+            (Clear(0, 0), Woken(0)),
+            (Get(0), Refused(Spent)),
+            (GetShallow(0, 2), Refused(Spent)),
+            (GetShallow(0, 1), Refused(TooShallow)),
+            (GetBatch(0, 3), Refused(BadCount)),
+        ]),
+        None
+    );
+    assert_eq!(rt; stage.get_blocking(&rt, 0), Err(Spent));
+    let brief_in_turn = Options {
         round_robin: true,
         ..brief
     };
-    let mut stage = Stage::open(rt.alloc(), 8, in_turn)?;
-    assert_eq!(rt; stage.get_batch(0, 2), Ok(None));
-    assert_eq!(rt; stage.get_batch(0, 3), Err(TagFault::BadCount));
+    let mut stage = Stage::open(rt.alloc(), 8, brief_in_turn)?;
+    assert_eq!(rt;
+        stage.wrong(&[
+            (GetBatch(0, 2), Nothing),
+            (GetBatch(0, 3), Refused(BadCount))
+        ]),
+        None
+    );
     Ok(())
 }
 

@@ -2,8 +2,10 @@
 use crate::queue::{Options, Queue};
 use crate::resizes::ResizeCause;
 use crate::tests::agents::{FILL, options};
+use crate::tests::deeds::Answer::{Done, Found, Group, Nothing, Tag, Value, Woken};
+use crate::tests::deeds::Deed::{Clear, Get, Post, PrepareWait, Wakes, Write};
+use crate::tests::deeds::{Answer, Deed};
 use crate::tests::stage::Stage;
-use crate::waits::Wakes;
 use std::test::Fail;
 use step_ledger::GatherCause;
 use tag_model::Totals;
@@ -16,18 +18,31 @@ fn a_hint_beyond_the_depth_is_reduced(rt: HostRuntime) -> Result<(), Fail> {
         ..options(1)
     };
     let mut stage = Stage::open(rt.alloc(), 8, words_of_one)?;
-    for tag in 0..4 {
-        assert_eq!(rt; stage.get(0)?, Some(tag));
-    }
+    assert_eq!(rt;
+        stage.wrong(&[
+            (Get(0), Tag(0)),
+            (Get(0), Tag(1)),
+            (Get(0), Tag(2)),
+            (Get(0), Tag(3)),
+        ]),
+        None
+    );
     let (cause, mut stage) = stage.refused(rt.alloc(), 2)?;
     assert_eq!(rt; cause, ResizeCause::InUse(4, 0));
-    for tag in 0..4 {
-        assert_eq!(rt; stage.clear(0, tag)?, 0);
-    }
+    assert_eq!(rt;
+        stage.wrong(&[
+            (Clear(0, 0), Woken(0)),
+            (Clear(0, 1), Woken(0)),
+            (Clear(0, 2), Woken(0)),
+            (Clear(0, 3), Woken(0)),
+        ]),
+        None
+    );
     let mut stage = stage.resized(rt.alloc(), 2)?;
-    assert_eq!(rt; stage.get(0)?, Some(1));
-    assert_eq!(rt; stage.get(0)?, Some(0));
-    assert_eq!(rt; stage.get(0)?, None);
+    assert_eq!(rt;
+        stage.wrong(&[(Get(0), Tag(1)), (Get(0), Tag(0)), (Get(0), Nothing)]),
+        None
+    );
     assert_eq!(rt;
         stage.close()?.tags,
         Totals {
@@ -43,36 +58,42 @@ fn a_hint_beyond_the_depth_is_reduced(rt: HostRuntime) -> Result<(), Fail> {
 #[test]
 fn waits_forbid_a_resize(rt: HostRuntime) -> Result<(), Fail> {
     let mut stage = Stage::open(rt.alloc(), 16, options(2))?;
-    for tag in 0..3 {
-        assert_eq!(rt; stage.get(0)?, Some(tag));
-    }
-    assert_eq!(rt; stage.prepare_wait(1)?, 0);
+    assert_eq!(rt;
+        stage.wrong(&[
+            (Get(0), Tag(0)),
+            (Get(0), Tag(1)),
+            (Get(0), Tag(2)),
+            (PrepareWait(1), Group(0)),
+        ]),
+        None
+    );
     let (cause, mut stage) = stage.refused(rt.alloc(), 8)?;
     assert_eq!(rt; cause, ResizeCause::InUse(3, 0));
-    assert_eq!(rt; stage.clear(0, 0)?, 0);
-    assert_eq!(rt; stage.clear(0, 1)?, 1);
-    assert_eq!(rt; stage.finish_wait(&rt, 1)?, Left::Woken);
-    assert_eq!(rt; stage.clear(0, 2)?, 0);
-    assert_eq!(rt; stage.prepare_wait(1)?, 1);
+    assert_eq!(rt;
+        stage.wrong(&[(Clear(0, 0), Woken(0)), (Clear(0, 1), Woken(1))]),
+        None
+    );
+    assert_eq!(rt; stage.finish_wait(&rt, 1), Ok(Left::Woken));
+    assert_eq!(rt;
+        stage.wrong(&[(Clear(0, 2), Woken(0)), (PrepareWait(1), Group(1))]),
+        None
+    );
     let (cause, mut stage) = stage.refused(rt.alloc(), 8)?;
     assert_eq!(rt; cause, ResizeCause::Waiting(1));
-    assert_eq!(rt; stage.finish_wait(&rt, 1)?, Left::Unwoken);
+    assert_eq!(rt; stage.finish_wait(&rt, 1), Ok(Left::Unwoken));
     let (cause, stage) = stage.refused(rt.alloc(), 10_241)?;
     assert_eq!(rt; cause, ResizeCause::DepthTooLarge);
     let mut stage = stage.resized(rt.alloc(), 8)?;
-    assert_eq!(rt; stage.prepare_wait(1)?, 2);
-    assert_eq!(rt; stage.get(0)?, Some(0));
-    assert_eq!(rt; stage.clear(0, 0)?, 1);
     assert_eq!(rt;
-        stage.wakes(0),
-        Some(Wakes {
-            counted: 3,
-            charged: 3,
-            index: 3,
-            active: 1
-        })
+        stage.wrong(&[
+            (PrepareWait(1), Group(2)),
+            (Get(0), Tag(0)),
+            (Clear(0, 0), Woken(1)),
+            (Wakes(0), Found(3, 3, 3, 1)),
+        ]),
+        None
     );
-    assert_eq!(rt; stage.finish_wait(&rt, 1)?, Left::Woken);
+    assert_eq!(rt; stage.finish_wait(&rt, 1), Ok(Left::Woken));
     let totals = stage.close()?;
     assert_eq!(rt; (totals.tags.got, totals.tags.back), (4, 4));
     assert_eq!(rt; (totals.book.counted, totals.book.charged), (3, 3));
@@ -100,9 +121,10 @@ fn a_resize_without_an_agent_hands_all_back(rt: HostRuntime) -> Result<(), Fail>
 #[test]
 fn held_and_posted_tags_are_told(rt: HostRuntime) -> Result<(), Fail> {
     let mut stage = Stage::open(rt.alloc(), 8, options(2))?;
-    assert_eq!(rt; stage.get(0)?, Some(0));
-    assert_eq!(rt; stage.get(0)?, Some(1));
-    stage.post(0, 1)?;
+    assert_eq!(rt;
+        stage.wrong(&[(Get(0), Tag(0)), (Get(0), Tag(1)), (Post(0, 1), Done)]),
+        None
+    );
     let Ok((held, posted, stage)) = stage.in_use() else {
         return Err(Fail::new("an agent is missing"));
     };
@@ -121,15 +143,20 @@ fn held_and_posted_tags_are_told(rt: HostRuntime) -> Result<(), Fail> {
     Ok(())
 }
 
+// The first tag of a queue where all are free, whose slot is as it begins.
+fn won_and_back(stage: &mut Stage) -> Option<(Deed, Answer)> {
+    stage.wrong(&[
+        (Get(0), Tag(0)),
+        (Write(0, 0, 5), Value(FILL)),
+        (Clear(0, 0), Woken(0)),
+    ])
+}
+
 #[test]
 fn totals_go_on_through_three_depths(rt: HostRuntime) -> Result<(), Fail> {
     let mut stage = Stage::open(rt.alloc(), 64, options(1))?;
     for depth in [0, 3, 130] {
-        let Some(tag) = stage.get(0)? else {
-            return Err(Fail::new("no tag is free"));
-        };
-        assert_eq!(rt; stage.write(0, tag, 5)?, FILL);
-        assert_eq!(rt; stage.clear(0, tag)?, 0);
+        assert_eq!(rt; won_and_back(&mut stage), None);
         let none = stage.resized(rt.alloc(), 0)?;
         stage = none.resized(rt.alloc(), depth + 1)?;
     }

@@ -62,18 +62,13 @@ impl Stage {
         self.queue.get(agent)
     }
 
-    /// What so many gets answer, one after another.
-    pub(crate) fn gets(
-        &mut self,
-        alloc: Global,
-        at: usize,
-        count: u32,
-    ) -> Result<Vec<Option<u32>>, Fail> {
-        let mut answers = Vec::new(alloc);
+    /// How many of so many gets won a tag.
+    pub(crate) fn gets(&mut self, at: usize, count: u32) -> Result<u32, TagFault> {
+        let mut won = 0;
         for _ in 0..count {
-            answers.push(self.get(at)?)?;
+            won += self.get(at)?.is_some() as u32;
         }
-        Ok(answers)
+        Ok(won)
     }
 
     pub(crate) fn get_shallow(&mut self, at: usize, depth: u32) -> Result<Option<u32>, TagFault> {
@@ -167,12 +162,6 @@ impl Stage {
 
     pub(crate) fn wakes(&mut self, at: usize) -> Option<Wakes> {
         Some(self.queue.wakes(self.agents.get_mut(at)?))
-    }
-
-    /// Completions counted, and charged.
-    pub(crate) fn counts(&mut self, at: usize) -> Option<(u64, u64)> {
-        let found = self.wakes(at)?;
-        Some((found.counted, found.charged))
     }
 
     /// The word and its cleared set: 1 is taken, and 1 is set aside. None where there is no such word.

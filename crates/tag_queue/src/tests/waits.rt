@@ -1,10 +1,11 @@
 //! Waits, and who is woken.
-use crate::fault::TagFault;
+use crate::fault::TagFault::{NoSuchTag, NotWaiting, Waiting};
 use crate::gather::QueueTotals;
 use crate::queue::Options;
 use crate::tests::agents::options;
+use crate::tests::deeds::Answer::{Found, Group, Refused, Tag, Woken};
+use crate::tests::deeds::Deed::{Clear, Get, PrepareWait, Wakes};
 use crate::tests::stage::Stage;
-use crate::waits::Wakes;
 use std::test::Fail;
 use tag_model::Totals;
 use wake_book::{BookTotals, GroupTotals, Left};
@@ -13,13 +14,17 @@ use wake_book::{BookTotals, GroupTotals, Left};
 fn a_batch_of_completions_wakes_a_waiter(rt: HostRuntime) -> Result<(), Fail> {
     let mut stage = Stage::open(rt.alloc(), 16, options(2))?;
     assert_eq!(rt;
-        stage.gets(rt.alloc(), 0, 3)?.as_slice(),
-        &[Some(0), Some(1), Some(2)][..]
+        stage.wrong(&[
+            (Get(0), Tag(0)),
+            (Get(0), Tag(1)),
+            (Get(0), Tag(2)),
+            (Clear(0, 0), Woken(0)),
+            (PrepareWait(1), Group(0)),
+            (Clear(0, 1), Woken(0)),
+            (Clear(0, 2), Woken(1)),
+        ]),
+        None
     );
-    assert_eq!(rt; stage.clear(0, 0), Ok(0));
-    assert_eq!(rt; stage.prepare_wait(1), Ok(0));
-    assert_eq!(rt; stage.clear(0, 1), Ok(0));
-    assert_eq!(rt; stage.clear(0, 2), Ok(1));
     assert_eq!(rt; stage.finish_wait(&rt, 1), Ok(Left::Woken));
     assert_eq!(rt;
         stage.close()?,
@@ -54,14 +59,19 @@ fn a_clear_past_the_cap_wakes_nobody(rt: HostRuntime) -> Result<(), Fail> {
     };
     let mut stage = Stage::open(rt.alloc(), 8, capped)?;
     assert_eq!(rt;
-        stage.gets(rt.alloc(), 0, 2)?.as_slice(),
-        &[Some(0), Some(1)][..]
+        stage.wrong(&[
+            (Get(0), Tag(0)),
+            (Get(0), Tag(1)),
+            (PrepareWait(1), Group(0)),
+            (Clear(0, 0), Woken(1)),
+        ]),
+        None
     );
-    assert_eq!(rt; stage.prepare_wait(1), Ok(0));
-    assert_eq!(rt; stage.clear(0, 0), Ok(1));
     assert_eq!(rt; stage.finish_wait(&rt, 1), Ok(Left::Woken));
-    assert_eq!(rt; stage.prepare_wait(1), Ok(1));
-    assert_eq!(rt; stage.clear(0, 1), Ok(0));
+    assert_eq!(rt;
+        stage.wrong(&[(PrepareWait(1), Group(1)), (Clear(0, 1), Woken(0))]),
+        None
+    );
     assert_eq!(rt; stage.finish_wait(&rt, 1), Ok(Left::Unwoken));
     assert_eq!(rt;
         stage.close()?,
@@ -93,43 +103,36 @@ fn a_wait_is_refused_to_who_stands_and_its_end_to_who_does_not(
     rt: HostRuntime,
 ) -> Result<(), Fail> {
     let mut stage = Stage::open(rt.alloc(), 8, options(2))?;
-    assert_eq!(rt; stage.get(0)?, Some(0));
-    assert_eq!(rt; stage.finish_wait(&rt, 1), Err(TagFault::NotWaiting));
-    assert_eq!(rt; stage.prepare_wait(1), Ok(0));
-    assert_eq!(rt; stage.prepare_wait(1), Err(TagFault::Waiting));
-    assert_eq!(rt; stage.get_blocking(&rt, 1), Err(TagFault::Waiting));
-    assert_eq!(rt; stage.clear(0, 0), Ok(1));
+    assert_eq!(rt; stage.finish_wait(&rt, 1), Err(NotWaiting));
     assert_eq!(rt;
-        stage.wakes(0),
-        Some(Wakes {
-            counted: 1,
-            charged: 1,
-            index: 1,
-            active: 1
-        })
+        stage.wrong(&[
+            (Get(0), Tag(0)),
+            (PrepareWait(1), Group(0)),
+            (PrepareWait(1), Refused(Waiting)),
+        ]),
+        None
+    );
+    assert_eq!(rt; stage.get_blocking(&rt, 1), Err(Waiting));
+    assert_eq!(rt;
+        stage.wrong(&[(Clear(0, 0), Woken(1)), (Wakes(0), Found(1, 1, 1, 1))]),
+        None
     );
     assert_eq!(rt; stage.finish_wait(&rt, 1), Ok(Left::Woken));
-    assert_eq!(rt; stage.finish_wait(&rt, 1), Err(TagFault::NotWaiting));
-    assert_eq!(rt;
-        stage.wakes(1),
-        Some(Wakes {
-            counted: 1,
-            charged: 1,
-            index: 1,
-            active: 0
-        })
-    );
+    assert_eq!(rt; stage.finish_wait(&rt, 1), Err(NotWaiting));
+    assert_eq!(rt; stage.wrong(&[(Wakes(1), Found(1, 1, 1, 0))]), None);
     Ok(())
 }
 
 #[test]
 fn a_blocking_get_of_a_free_tag_does_not_wait(rt: HostRuntime) -> Result<(), Fail> {
     let mut stage = Stage::open(rt.alloc(), 0, options(1))?;
-    assert_eq!(rt; stage.get_blocking(&rt, 0), Err(TagFault::NoSuchTag));
+    assert_eq!(rt; stage.get_blocking(&rt, 0), Err(NoSuchTag));
     let mut stage = Stage::open(rt.alloc(), 1, options(1))?;
     assert_eq!(rt; stage.get_blocking(&rt, 0), Ok(0));
-    assert_eq!(rt; stage.clear(0, 0), Ok(0));
     // The next wait is the first: none was begun.
-    assert_eq!(rt; stage.prepare_wait(0), Ok(0));
+    assert_eq!(rt;
+        stage.wrong(&[(Clear(0, 0), Woken(0)), (PrepareWait(0), Group(0))]),
+        None
+    );
     Ok(())
 }
