@@ -4,3 +4,4 @@ pub mod Passing
 pub mod Getting
 pub mod Uniting
 pub mod Opening
+pub mod Batching

@@ -8,3 +8,4 @@ pub mod Waits
 pub mod Meeting
 pub mod Opening
 pub mod Placing
+pub mod Batches

@@ -1,6 +1,7 @@
 //! Reserved and ordinary tags that threads share: one range of numbers over two queues, behind one handle for each thread.
 #![tactic(auto)]
 
+mod batches;
 mod clears;
 mod gets;
 mod hand;

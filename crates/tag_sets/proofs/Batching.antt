@@ -1,0 +1,126 @@
+-- A list of ordinary tags, by their numbers in the ordinary set.
+use Rattle.std.proofs.Common.{◌≡◌, ℕ, ◌+◌, ◌-◌, ◌<◌, ◌≤◌, ◌↔◌, List, All, Contains, length, get_or, arith, refl, sym, ap, ◌∙◌, subst}
+use Rattle.std.proofs.lemmas.List.{length-map, get_or-map}
+use Rattle.tag_core.specs.declared.shape.Shape.{Shape}
+use Rattle.tag_queue.specs.declared.agent.Agent.{Agent}
+use Rattle.tag_queue.specs.Agents as queue
+use Rattle.tag_queue.specs.Batches as queue_batches
+use Rattle.tag_sets.specs.declared.hand.Hand.{Hand}
+use Rattle.tag_sets.specs.declared.kind.Kind.{Kind}
+use Rattle.tag_sets.specs.declared.kind.Kind.TheVariants.{Ordinary}
+use Rattle.tag_sets.specs.declared.tags.Tags.{Tags}
+use Rattle.tag_sets.specs.Sets.{number_in_set}
+use Rattle.tag_sets.specs.Hands.{agent_of, split_of, layout_of, reserved_of, IsHandOf, Holds}
+use Rattle.tag_sets.specs.Batches.{CountsTags, AreOrdinary, AreHeldOnce, numbers_of, GivesBack}
+use Rattle.tag_sets.proofs.Numbering.{ordinary_above}
+use Rattle.tag_sets.proofs.Lifting.{InSet, less, less_like}
+use Rattle.tag_sets.proofs.Getting.{ordinary_like}
+
+module _ (reserved : ℕ) (list : List ℕ) (above : All (λ tag. reserved ≤ tag) list) where
+  number_at : (k d e : ℕ) → k < length list → get_or (numbers_of reserved list) k e + reserved ≡ get_or list k d
+  number_at k d e l = let at = get_or-map (λ tag. tag - reserved) list k d e l in let high = above k d l in omega arith
+
+  contains_there : (n : ℕ) → Contains (numbers_of reserved list) n → Contains list (reserved + n)
+  contains_there n c = let same = length-map list (λ tag. tag - reserved) in
+      let inside : c.0 < length list = let l = c.1 in omega arith in
+      let at = number_at c.0 (reserved + n) n inside in let is = c.2 in (c.0, inside, omega arith)
+
+  contains_back : (tag : ℕ) → Contains list tag → (n : ℕ) × (tag ≡ reserved + n) × Contains (numbers_of reserved list) n
+  contains_back tag c = let same = length-map list (λ t. t - reserved) in
+      let high = above c.0 tag c.1 in let inside = c.1 in let is = c.2 in
+      let at = number_at c.0 tag (tag - reserved) c.1 in (tag - reserved, omega arith, (c.0, omega arith, omega arith))
+
+module _ {R : Type 0} (tags : Tags R) (hand : Hand R) (own : IsHandOf tags hand) (list named : List ℕ)
+    (above : All (λ tag. reserved_of tags ≤ tag) list) (is : named ≡ numbers_of (reserved_of tags) list) where
+  -- there are as many numbers as tags
+  same_count : length named ≡ length list
+  same_count = ap length is ∙ length-map list (λ tag. tag - reserved_of tags)
+
+  at_place : (k d : ℕ) → k < length named → get_or named k d + reserved_of tags ≡ get_or list k d
+  at_place k d l = ap (λ (xs : List ℕ). get_or xs k d + reserved_of tags) is
+      ∙ number_at (reserved_of tags) list above k d d (let same = same_count in omega arith)
+
+  counts_there : CountsTags list → queue_batches.CountsTags named
+  counts_there h = let low = h.0 in let high = h.1 in let same = same_count in (omega arith, omega arith)
+
+  counts_back : queue_batches.CountsTags named → CountsTags list
+  counts_back h = let low = h.0 in let high = h.1 in let same = same_count in (omega arith, omega arith)
+
+  tags_there : AreOrdinary tags list → queue_batches.AreTags (layout_of tags Ordinary) named
+  tags_there o k d l = let at = at_place k d l in
+      let low = (o k d (let same = same_count in omega arith)).1 in omega arith
+
+  tags_back : queue_batches.AreTags (layout_of tags Ordinary) named → AreOrdinary tags list
+  tags_back t k d l = let inside : k < length named = let same = same_count in omega arith in
+      let at = at_place k d inside in let low = t k d inside in (above k d l, omega arith)
+
+  -- whether the hand holds an ordinary tag, by its number
+  holds_there : (tag n : ℕ) → n + reserved_of tags ≡ tag → Holds hand tag → queue.Holds hand.ordinary n
+  holds_there tag n e h = let split = own.2 in
+      let o = ordinary_above (split_of hand) tag (omega (arith, split)) in let x = o.number in
+      subst (λ (m : ℕ). queue.Holds hand.ordinary m) (omega (arith, split))
+      (subst (λ (k : Kind). queue.Holds (agent_of hand k) (number_in_set (split_of hand) tag)) o.kind h)
+
+  holds_back : (tag n : ℕ) → n + reserved_of tags ≡ tag → queue.Holds hand.ordinary n → Holds hand tag
+  holds_back tag n e h = let split = own.2 in
+      let o = ordinary_above (split_of hand) tag (omega (arith, split)) in let x = o.number in
+      subst (λ (k : Kind). queue.Holds (agent_of hand k) (number_in_set (split_of hand) tag)) (sym o.kind)
+      (subst (λ (m : ℕ). queue.Holds hand.ordinary m) (omega (arith, split)) h)
+
+  held_there : AreHeldOnce hand list → queue_batches.AreHeldOnce (queue.caller_of hand.ordinary) named
+  held_there h = let same = same_count in (
+    λ k d l. holds_there (get_or list k d) (get_or named k d) (at_place k d l) (h.0 k d (omega arith)),
+    λ j k d less l e. let a = at_place j d (omega arith) in let b = at_place k d l in
+        h.1 j k d less (omega arith) (omega arith),
+  )
+
+  held_back : queue_batches.AreHeldOnce (queue.caller_of hand.ordinary) named → AreHeldOnce hand list
+  held_back h = let same = same_count in (
+    λ k d l. holds_back (get_or list k d) (get_or named k d) (at_place k d (omega arith)) (h.0 k d (omega arith)),
+    λ j k d less l e. let a = at_place j d (omega arith) in let b = at_place k d (omega arith) in
+        h.1 j k d less (omega arith) (omega arith),
+  )
+
+  -- what is held is a tag of the set
+  are_tags : queue_batches.AreHeldOnce (queue.caller_of hand.ordinary) named
+      → queue_batches.AreTags (layout_of tags Ordinary) named
+  are_tags h k d l = subst (λ (s : Shape). get_or named k d < s.layout.depth) own.1.0.1 (h.0 k d l).0
+
+  pub gives_back : (agent : Agent R) → queue_batches.GivesBack (layout_of tags Ordinary) named hand.ordinary agent
+      → GivesBack tags list hand (record hand { ordinary = agent })
+  gives_back agent g = let new = record hand { ordinary = agent } in
+      let numbers = numbers_of (reserved_of tags) list in
+      let given = subst (λ (xs : List ℕ). queue_batches.GivesBack (layout_of tags Ordinary) xs hand.ordinary agent)
+      is g in record {
+        less = less_like (InSet hand Ordinary (Contains numbers)) (Contains list) hand new
+            (ordinary_like hand (reserved_of tags) (Contains numbers) (Contains list) own.2
+            (contains_there (reserved_of tags) list above) (contains_back (reserved_of tags) list above))
+            (less hand new Ordinary refl refl (Contains numbers) given.gives.less);
+        set = record { changed = given; other = refl; split = refl };
+      }
+
+  -- what is so of the numbers exactly where something is said, is so of the tags
+  module _ (Said : Type 0) where
+    pub no_such_tag :
+        Said ↔ (queue_batches.CountsTags named × ¬ (queue_batches.AreTags (layout_of tags Ordinary) named))
+        → Said ↔ (CountsTags list × ¬ (AreOrdinary tags list))
+    no_such_tag s = (
+      λ e. let h = s.0 e in (counts_back h.0, λ o. h.1 (tags_there o)),
+      λ h. s.1 (counts_there h.0, λ t. h.1 (tags_back t)),
+    )
+
+    pub not_held : Said ↔ (queue_batches.CountsTags named × queue_batches.AreTags (layout_of tags Ordinary) named
+        × ¬ (queue_batches.AreHeldOnce (queue.caller_of hand.ordinary) named))
+        → Said ↔ (CountsTags list × AreOrdinary tags list × ¬ (AreHeldOnce hand list))
+    not_held s = (
+      λ e. let h = s.0 e in (counts_back h.0, tags_back h.1, λ o. h.2 (held_there o)),
+      λ h. s.1 (counts_there h.0, tags_there h.1, λ t. h.2 (held_back t)),
+    )
+
+    pub succeeds :
+        Said ↔ (queue_batches.CountsTags named × queue_batches.AreHeldOnce (queue.caller_of hand.ordinary) named)
+        → Said ↔ (CountsTags list × AreOrdinary tags list × AreHeldOnce hand list)
+    succeeds s = (
+      λ e. let h = s.0 e in (counts_back h.0, tags_back (are_tags h.1), held_back h.1),
+      λ h. s.1 (counts_there h.0, held_there h.2),
+    )
