@@ -11,6 +11,8 @@ mod opens;
 mod placing;
 mod slots;
 mod tags;
+#[cfg(test)]
+mod tests;
 mod waits;
 
 pub use hand::Hand;
