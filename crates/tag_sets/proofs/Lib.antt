@@ -5,3 +5,4 @@ pub mod Getting
 pub mod Uniting
 pub mod Opening
 pub mod Batching
+pub mod Crossing

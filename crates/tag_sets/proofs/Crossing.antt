@@ -1,0 +1,24 @@
+-- Where the slots' values may go to any thread, a hand may; where any thread may share them too, threads may share tags.
+use denote.RattleType.{RattleType}
+use denote.Param.Send.{IsSend, IsSync, recorded_send, struct_send, recorded_sync, struct_sync, sendable}
+use denote.Struct.Declared.{shape as fields_of}
+use Rattle.std.proofs.Crossing.{crosses}
+use Rattle.tag_queue.proofs.Crossing.{agent_field_send, queue_field_sync}
+use Rattle.tag_sets.specs.contracts.hand.Hand as hand
+use Rattle.tag_sets.specs.contracts.tags.Tags as tags
+
+pub hand_field_send : (R : RattleType) → IsSend R → IsSend (hand.the_field R).row
+hand_field_send R value = struct_send (fields_of (hand.the_type R))
+    (agent_field_send R value, (agent_field_send R value, (search (sendable, crosses) depth 40, tt)))
+
+-- a hand may go to another thread
+pub hand_send : (R : RattleType) → IsSend R → IsSend (hand.the_row R)
+hand_send R value = recorded_send _ _ _ (hand.the_type R).to_one (hand_field_send R value)
+
+pub tags_field_sync : (R : RattleType) → IsSend R → IsSync R → IsSync (tags.the_field R).row
+tags_field_sync R sent shared = struct_sync (fields_of (tags.the_type R))
+    (queue_field_sync R sent shared, (queue_field_sync R sent shared, (search (sendable, crosses) depth 40, tt)))
+
+-- threads may share tags
+pub tags_sync : (R : RattleType) → IsSend R → IsSync R → IsSync (tags.the_row R)
+tags_sync R sent shared = recorded_sync _ _ _ (tags.the_type R).to_one (tags_field_sync R sent shared)
