@@ -6,3 +6,4 @@ pub mod Uniting
 pub mod Opening
 pub mod Batching
 pub mod Crossing
+pub mod Gathering

@@ -9,3 +9,4 @@ pub mod Meeting
 pub mod Opening
 pub mod Placing
 pub mod Batches
+pub mod Gathering

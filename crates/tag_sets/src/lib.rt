@@ -3,6 +3,7 @@
 
 mod batches;
 mod clears;
+mod gather;
 mod gets;
 mod hand;
 mod kind;
@@ -13,11 +14,17 @@ mod slots;
 mod tags;
 #[cfg(test)]
 mod tests;
+mod parting;
+mod rooms;
+mod slots;
+mod tags;
+mod twins;
 mod waits;
 
+pub use gather::TagsGatherFault;
 pub use hand::Hand;
 pub use kind::Kind;
-pub use step_ledger::Numbered;
-pub use tag_queue::{Options, SetFault, TagFault, Wakes};
+pub use step_ledger::{GatherCause, Numbered};
+pub use tag_queue::{Options, QueueTotals, SetFault, TagFault, Wakes};
 pub use tags::Tags;
 pub use wake_book::Left;

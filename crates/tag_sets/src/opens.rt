@@ -9,6 +9,7 @@ ghost use Rattle.tag_sets.specs.Opening.{HasRange, HasLayouts, AreParts, IsOpen}
 ghost use Rattle.tag_sets.specs.declared.kind.Kind.TheVariants.{Ordinary, Reserved};
 
 use crate::hand::Hand;
+use crate::rooms::Rooms;
 use crate::tags::Tags;
 use std::alloc::{AllocError, Global};
 use tag_layout::MAX_DEPTH;
@@ -58,10 +59,14 @@ impl<R: Copy> Tags<R> {
         let Ok(hands) = join(alloc, reserved, agents, ordinary_agents) else {
             return Err(SetFault::Memory);
         };
+        let Ok(rooms) = Rooms::open(alloc, options.callers) else {
+            return Err(SetFault::Memory);
+        };
         let tags = Tags {
             reserved: set,
             ordinary,
             reserved_count: reserved,
+            rooms,
         };
         Ok((tags, hands))
     }

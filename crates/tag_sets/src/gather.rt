@@ -1,0 +1,82 @@
+//! All hands come together, and both sets end.
+ghost use Rattle.std.specs.Prelude.{◌≡◌, ◌↔◌, All, IfOk, IfErr, IsOk};
+ghost use Rattle.step_ledger.specs.Views.{HasAll};
+ghost use Rattle.step_ledger.specs.Gather.{IsCauseOf};
+ghost use Rattle.tag_sets.specs.Hands.{IsHandOf};
+ghost use Rattle.tag_sets.specs.Gathering.{hands_of, numbers_of, totals_of_both, IsSmall, IsGathered};
+
+use crate::hand::Hand;
+use crate::tags::Tags;
+use step_ledger::{GatherCause, least_missing};
+use tag_model::Totals;
+use tag_queue::{Queue, QueueTotals};
+
+/// Why tags weren't gathered, with all that was handed in.
+#[derive(Drop)]
+pub struct TagsGatherFault<R> {
+    pub cause: GatherCause,
+    pub tags: Tags<R>,
+    /// In the order in which they were handed in.
+    pub hands: Vec<Hand<R>>,
+}
+
+impl<R: Copy> Tags<R> {
+    /// Ends both sets where all hands are handed in, in any order, also those that stand in a group. The tags are counted
+    /// over both sets; completions and waits are those of the ordinary one.
+    pub fn gather(tags: Tags<R>, hands: Vec<Hand<R>>) -> Result<QueueTotals, TagsGatherFault<R>>
+        requires { All (IsHandOf tags) hands.items }
+        ensures ok { IfOk result (λ totals. IsGathered tags hands.items totals) }
+        ensures succeeds { IsOk result ↔ HasAll (numbers_of hands.items) (hands_of tags) }
+        ensures missing { IfErr result (λ fault. IsCauseOf (numbers_of hands.items) (hands_of tags) fault.cause) }
+        ensures err { IfErr result (λ fault. (fault.tags ≡ tags) × (fault.hands ≡ hands)) }
+    {
+        if let Some(number) = least_missing(hands.as_slice(), tags.rooms.count) {
+            return Err(TagsGatherFault {
+                cause: GatherCause::Missing(number),
+                tags,
+                hands,
+            });
+        }
+        Ok(tags.close(hands))
+    }
+
+    // Ends both sets with all their hands.
+    fn close(self, hands: Vec<Hand<R>>) -> QueueTotals
+        requires own { All (IsHandOf self) hands.items }
+        requires all { HasAll (numbers_of hands.items) (hands_of self) }
+        ensures { IsGathered self hands.items result }
+    {
+        let hands = self.tell_few(hands);
+        let Tags {
+            reserved,
+            ordinary,
+            reserved_count: _,
+            rooms,
+        } = self;
+        let (agents, others) = rooms.part(hands);
+        let Ok(special) = Queue::gather(reserved, agents) else {
+            unreachable!()
+        };
+        let Ok(totals) = Queue::gather(ordinary, others) else {
+            unreachable!()
+        };
+        QueueTotals {
+            tags: add_up(totals.tags, special.tags),
+            book: totals.book,
+            groups: totals.groups,
+        }
+    }
+}
+
+// The sums over both sets.
+fn add_up(one: Totals, other: Totals) -> Totals
+    requires { IsSmall one × IsSmall other }
+    ensures { result ≡ totals_of_both one other }
+{
+    Totals {
+        got: one.got + other.got,
+        back: one.back + other.back,
+        held: one.held + other.held,
+        posted: one.posted + other.posted,
+    }
+}
