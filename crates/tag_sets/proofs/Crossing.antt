@@ -33,8 +33,16 @@ rooms_field_sync R sent = let agents = agent_sync R sent in struct_sync (fields_
     (search (agents, sendable, crosses) depth 40, (search (agents, sendable, crosses) depth 40, (search (sendable, crosses) depth 40, tt)))
 
 pub tags_field_sync : (R : RattleType) → IsSend R → IsSync R → IsSync (tags.the_field R).row
-tags_field_sync R sent shared = struct_sync (fields_of (tags.the_type R))
-    (queue_field_sync R sent shared, (queue_field_sync R sent shared, (search (sendable, crosses) depth 40, (rooms_field_sync R sent, tt))))
+tags_field_sync R sent shared = struct_sync (fields_of (tags.the_type R)) (
+  queue_field_sync R sent shared,
+  (
+    queue_field_sync R sent shared,
+    (
+      search (sendable, crosses) depth 40,
+      (search (sendable, crosses) depth 40, (search (sendable, crosses) depth 40, (rooms_field_sync R sent, tt))),
+    ),
+  ),
+)
 
 -- threads may share tags
 pub tags_sync : (R : RattleType) → IsSend R → IsSync R → IsSync (tags.the_row R)

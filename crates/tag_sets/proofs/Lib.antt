@@ -7,3 +7,7 @@ pub mod Opening
 pub mod Batching
 pub mod Crossing
 pub mod Gathering
+pub mod Tallies
+pub mod Around
+pub mod Sizes
+pub mod Writings

@@ -19,7 +19,7 @@ module _ {R : Type 0} where
   }
 
   -- what is kept twice is kept
-  twice_same : (a b c : Hand R) → HoldsSame a b → HoldsSame b c → HoldsSame a c
+  pub twice_same : (a b c : Hand R) → HoldsSame a b → HoldsSame b c → HoldsSame a c
   twice_same a b c s t = record {
     kept = λ tag h. let x = s.kept tag h in let y = t.kept tag x.0 in (y.0, y.1 ∙ x.1);
     none_else = λ tag h. s.none_else tag (t.none_else tag h);

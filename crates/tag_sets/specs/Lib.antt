@@ -10,3 +10,6 @@ pub mod Opening
 pub mod Placing
 pub mod Batches
 pub mod Gathering
+pub mod Looks
+pub mod Shows
+pub mod Texts

@@ -51,6 +51,8 @@ impl<R: Copy> Tags<R> {
             reserved,
             ordinary,
             reserved_count: _,
+            reserved_layout: _,
+            ordinary_layout: _,
             rooms,
         } = self;
         let (agents, others) = rooms.part(hands);

@@ -3,7 +3,7 @@ ghost use Rattle.std.specs.Prelude.{◌≡◌, ◌-◌, ◌^◌, ◌<◌, ◌≤
 ghost use Rattle.tag_layout.specs.Layout.{HasShift};
 ghost use Rattle.tag_layout.specs.declared.layout.TheConstants.{MAX_DEPTH, MAX_SHIFT};
 ghost use Rattle.tag_model.specs.declared.world.TheConstants.{MOST_WON};
-ghost use Rattle.tag_queue.specs.Opening.{MiscountsAgents, CountsAgents};
+ghost use Rattle.tag_queue.specs.Opening.{MiscountsAgents, CountsAgents, HasLayout, IsLaidOut};
 ghost use Rattle.tag_sets.specs.Hands.{layout_of, reserved_of, total_of};
 ghost use Rattle.tag_sets.specs.Opening.{HasRange, HasLayouts, AreParts, IsOpen};
 ghost use Rattle.tag_sets.specs.declared.kind.Kind.TheVariants.{Ordinary, Reserved};
@@ -12,7 +12,7 @@ use crate::hand::Hand;
 use crate::rooms::Rooms;
 use crate::tags::Tags;
 use std::alloc::{AllocError, Global};
-use tag_layout::MAX_DEPTH;
+use tag_layout::{Layout, MAX_DEPTH};
 use tag_queue::{Agent, Options, Queue, SetFault};
 
 impl<R: Copy> Tags<R> {
@@ -66,10 +66,23 @@ impl<R: Copy> Tags<R> {
             reserved: set,
             ordinary,
             reserved_count: reserved,
+            reserved_layout: lay_out(reserved, options),
+            ordinary_layout: lay_out(total - reserved, options),
             rooms,
         };
         Ok((tags, hands))
     }
+}
+
+// The layout of a set that is opened so.
+fn lay_out(depth: u32, options: Options) -> Layout
+    requires { HasLayout depth options }
+    ensures { IsLaidOut depth options result }
+{
+    let Ok(layout) = Layout::new(depth, options.shift) else {
+        unreachable!()
+    };
+    layout
 }
 
 // The hands of these agents, in their order.

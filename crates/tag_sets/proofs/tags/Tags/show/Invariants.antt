@@ -1,0 +1,16 @@
+-- The words so far are counted.
+use Rattle.std.proofs.Common.{◌≡◌, ℕ, ◌*◌, List, min}
+use Rattle.tag_layout.specs.Layout.{word_bits}
+use Rattle.tag_model.specs.Totals.{count_below}
+use Rattle.tag_sets.specs.Hands.{IsHandOf, layout_of}
+use Rattle.tag_sets.specs.Looks.{is_busy_in, is_aside_in}
+use Rattle.tag_sets.proofs.Around.{SoFar}
+use Rattle.tag_sets.proofs.tags.Tags.show.Given as goal
+
+abbrev pub invariant-loop-word : goal.invariant-loop-word
+invariant-loop-word g l = let sizes = layout_of l.self l.kind in record {
+  own : IsHandOf l.self l.hand;
+  found : (found : List (ℕ × ℕ)) × SoFar l.kind l.word found l.fn.hand l.hand
+      × (l.busy ≡ count_below (is_busy_in sizes found) (min (l.word * word_bits sizes) sizes.depth))
+      × (l.cleared ≡ count_below (is_aside_in sizes found) (min (l.word * word_bits sizes) sizes.depth));
+}

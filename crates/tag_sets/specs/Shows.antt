@@ -1,0 +1,33 @@
+-- What shows tell: sizes, and sums over the words that the call found.
+use Rattle.std.specs.Prelude.{◌≡◌, ℕ, List, length}
+use Rattle.tag_layout.specs.Layout.{Layout, words, word_bits}
+use Rattle.tag_model.specs.Totals.{count_below}
+use Rattle.tag_sets.specs.declared.hand.Hand.{Hand}
+use Rattle.tag_sets.specs.declared.kind.Kind.{Kind}
+use Rattle.tag_sets.specs.declared.shown.Shown.{Shown}
+use Rattle.tag_sets.specs.declared.tags.Tags.{Tags}
+use Rattle.tag_sets.specs.Hands.{layout_of, Changes}
+use Rattle.tag_sets.specs.Holding.{HoldsSame}
+use Rattle.tag_sets.specs.Looks.{Finds, looks_from, is_busy_in, is_aside_in}
+
+-- what there is to show of these words
+abbrev pub shown_of : Layout → List (ℕ × ℕ) → Shown
+shown_of l found = record {
+  depth = l.depth;
+  busy = count_below (is_busy_in l found) l.depth;
+  cleared = count_below (is_aside_in l found) l.depth;
+  bits_per_word = word_bits l;
+  map_nr = words l;
+}
+
+-- the hand looked at each word of the set once, in turn, and found these; it holds what it held
+pub record LooksAround {R : Type 0} (l : Layout) (kind : Kind) (found : List (ℕ × ℕ)) (old new : Hand R) : Type 0 where
+  pub each : length found ≡ words l
+  pub looks : Changes kind (Finds (looks_from 0 found)) old new
+  pub same : HoldsSame old new
+
+-- the show is of the words that this call found
+pub record Shows {R : Type 0} (tags : Tags R) (kind : Kind) (shown : Shown) (old new : Hand R) : Type 0 where
+  pub found : List (ℕ × ℕ)
+  pub around : LooksAround (layout_of tags kind) kind found old new
+  pub shown_is : shown ≡ shown_of (layout_of tags kind) found

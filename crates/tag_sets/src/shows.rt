@@ -1,0 +1,38 @@
+//! What the words of a set show.
+ghost use Rattle.std.specs.Prelude.{◌+◌, ◌*◌, ◌≤◌};
+ghost use Rattle.tag_layout.specs.Layout.{words};
+ghost use Rattle.tag_sets.specs.Hands.{IsHandOf, layout_of, step_count};
+ghost use Rattle.tag_sets.specs.Shows.{Shows};
+
+use crate::hand::Hand;
+use crate::kind::Kind;
+use crate::shown::Shown;
+use crate::tags::Tags;
+
+impl<R: Copy> Tags<R> {
+    /// The sizes of a set, and how many of its tags are busy and how many set aside. Each word is looked at once, and then its
+    /// cleared bits: while others step, the sums are of no single moment.
+    pub fn show(&self, hand: &mut Hand<R>, kind: Kind) -> Shown
+        requires hand { IsHandOf self.now hand.old }
+        ensures hand { IsHandOf self.now hand.new }
+        ensures shows { Shows self.now kind result hand.old hand.new }
+        ensures bound { step_count hand.new ≤ 2 * words (layout_of self.now kind) + step_count hand.old }
+    {
+        let layout = self.layout(kind);
+        let mut busy = 0u32;
+        let mut cleared = 0u32;
+        for word in 0..layout.words() {
+            let (taken, aside) = self.look_both(hand, kind, word);
+            let usable = layout.usable(word);
+            busy += (taken & usable & !aside).count_ones();
+            cleared += (aside & usable).count_ones();
+        }
+        Shown {
+            depth: layout.depth(),
+            busy,
+            cleared,
+            bits_per_word: 1 << layout.shift(),
+            map_nr: layout.words(),
+        }
+    }
+}
