@@ -64,9 +64,9 @@ impl Stage {
 
     /// How many of so many gets won a tag.
     pub(crate) fn gets(&mut self, at: usize, count: u32) -> Result<u32, TagFault> {
-        let mut won = 0;
+        let mut won = 0u32;
         for _ in 0..count {
-            won += self.get(at)?.is_some() as u32;
+            won = won.wrapping_add(self.get(at)?.is_some() as u32);
         }
         Ok(won)
     }
