@@ -11,3 +11,4 @@ pub mod Tallies
 pub mod Around
 pub mod Sizes
 pub mod Writings
+pub mod Ranges

@@ -1,5 +1,5 @@
 -- What contracts see of two sets of tags and of their hands.
-use Rattle.std.specs.Prelude.{◌≡◌, ℕ, ◌+◌, List, Option}
+use Rattle.std.specs.Prelude.{◌≡◌, ℕ, ◌+◌, ◌<◌, List, Option}
 use mathlib.Core.Option as maybe
 use Rattle.tag_layout.specs.Layout.{Layout}
 use Rattle.tag_search.specs.declared.hint.Hint.{Hint}
@@ -52,6 +52,10 @@ IsHandOf tags hand = queue.IsAgentOf tags.reserved hand.reserved × queue.IsAgen
 -- the hand's number, from 0
 abbrev pub number_of : {R : Type 0} → Hand R → ℕ
 number_of hand = queue.number_of hand.ordinary
+
+-- the tag is one of the hand's range: its set has more tags than its number there
+abbrev pub IsTagOf : {R : Type 0} → Hand R → ℕ → Type 0
+IsTagOf hand tag = number_in_set (split_of hand) tag < queue.depth_of (agent_of hand (kind_of (split_of hand) tag))
 
 -- the hand holds the tag: of the reserved tags one below their number, of the ordinary ones one counted from there
 abbrev pub Holds : {R : Type 0} → Hand R → ℕ → Type 0

@@ -6,6 +6,7 @@ mod clears;
 mod gather;
 mod gets;
 mod hand;
+mod holds;
 mod kind;
 mod looks;
 mod meets;
