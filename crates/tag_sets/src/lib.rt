@@ -11,17 +11,15 @@ mod kind;
 mod looks;
 mod meets;
 mod opens;
-mod placing;
-mod slots;
-mod tags;
-#[cfg(test)]
-mod tests;
 mod parting;
+mod placing;
 mod rooms;
 mod shown;
 mod shows;
 mod slots;
 mod tags;
+#[cfg(test)]
+mod tests;
 mod texts;
 mod twins;
 mod waits;
