@@ -4,6 +4,7 @@ mod clears;
 mod example;
 mod gets;
 mod hands;
+mod meets;
 mod memory;
 mod opening;
 mod slots;
