@@ -1,11 +1,12 @@
 -- Looks at one word after another.
-use Rattle.std.proofs.Common.{◌≡◌, ℕ, suc, ◌+◌, ◌*◌, List, [], ◌∷◌, ◌++◌, length, length-append, refl, sym, ap, ◌∙◌, subst, arith}
+use Rattle.std.proofs.Common.{◌≡◌, ℕ, suc, ◌+◌, ◌*◌, ◌<◌, List, [], ◌∷◌, ◌++◌, length, length-append, refl, sym, ap, ◌∙◌, subst, arith}
 use Rattle.tag_core.specs.declared.record.Record.{Record}
 use Rattle.tag_core.specs.declared.step.Step.TheVariants.{Word}
 use Rattle.tag_core.specs.declared.word_step.WordStep.{WordStep}
 use Rattle.tag_core.specs.declared.word_step.WordStep.TheVariants.{Look, LookAside}
 use Rattle.tag_core.specs.Callers.{record_of}
-use Rattle.tag_core.specs.Records.{record_after}
+use Rattle.tag_core.specs.declared.shape.Shape.{Shape}
+use Rattle.tag_core.specs.Records.{record_after, tag_bit}
 use Rattle.tag_search.specs.Shared.{record_after_all}
 use Rattle.wake_book.specs.declared.book.Teller.{Teller}
 use Rattle.wake_book.specs.declared.groups.Waiter.{Waiter}
@@ -83,6 +84,18 @@ module _ {R : Type 0} where
         (changes-then kind (looks_from 0 found) (looks_from word (pair ∷ [])) old mid new s.looks next);
     same = twice_same old mid new s.same same;
   }
+
+  looks-keep : (word : ℕ) (found : List (ℕ × ℕ)) (r : Record R) → ((record_after_all (looks_from word found) r).shape ≡ r.shape)
+      × ((record_after_all (looks_from word found) r).held ≡ r.held)
+  looks-keep word [] r = (refl, refl)
+  looks-keep word (x ∷ found) r = looks-keep (suc word) found (record_after (Word (LookAside word x.1)) (record_after (Word (Look word x.0)) r))
+
+  -- what was held is held after looks
+  pub found_holds : (found : List (ℕ × ℕ)) (old new : Agent R) → Finds (looks_from 0 found) old new → (tag : ℕ) → queue.Holds old tag → queue.Holds new tag
+  found_holds found old new f tag h =
+      let k = looks-keep 0 found (record_of (queue.caller_of old)) in
+      let shape = ap (λ (r : Record R). r.shape) f.known ∙ k.0 in let held = ap (λ (r : Record R). r.held) f.known ∙ k.1 in
+      subst (λ (p : Shape × List ℕ). (tag < p.0.layout.depth) × (tag_bit p.0.layout p.1 tag ≡ 1)) (λ j. (sym shape j, sym held j)) h
 
   found_steps : (found : List (ℕ × ℕ)) (old new : Agent R) → Finds (looks_from 0 found) old new
       → queue.step_count new ≡ 2 * length found + queue.step_count old

@@ -12,3 +12,5 @@ pub mod Around
 pub mod Sizes
 pub mod Writings
 pub mod Ranges
+pub mod Marking
+pub mod Listing

@@ -13,6 +13,8 @@ use Rattle.tag_layout.proofs.SumFacts.{sum_below-same, sum_below-split}
 use Rattle.tag_layout.proofs.PlaceFacts.{word-start, depth-le-words, tag_at-back, word_of-tag_at, place_of-tag_at}
 use Rattle.tag_model.specs.Totals.{count_below}
 use Rattle.tag_model.proofs.MaskFacts.{sum_below-bits}
+use Rattle.tag_sets.specs.Bits.{Marks}
+use Rattle.tag_sets.proofs.Marking.{one_if, marks-like, marks-then}
 use Rattle.tag_sets.specs.Looks.{word_in, is_busy_in, is_aside_in}
 
 -- a taken bit that isn't aside
@@ -154,3 +156,37 @@ counted layout l is found pair i u count there small usable bits fits = subst (�
   few_busy = (let le = count_le (is_busy_in layout (found ++ pair ∷ [])) (min ((i + 1) * word_bits layout) layout.depth) in omega arith);
   few_aside = (let le = count_le (is_aside_in layout (found ++ pair ∷ [])) (min ((i + 1) * word_bits layout) layout.depth) in omega arith);
 })
+
+-- the tags of one word more are marked
+pub marks_word : (l : Layout) (found : List (ℕ × ℕ)) (pair : ℕ × ℕ) (i : ℕ) → length found ≡ i → (u : ℕ) → i < words l → u < 2 ^ 64
+    → u + 1 ≡ 2 ^ word_depth l i → ((place : ℕ) → (bit_at u place ≡ 1) ↔ (place < word_depth l i)) → pair.1 < 2 ^ 64
+    → (first : ℕ) (old mid new : List ℕ) → Marks 64 first (min (i * word_bits l) l.depth) (is_busy_in l found) old mid
+    → Marks 64 (first + tag_at l i 0) (word_depth l i) (λ k. nat_eq (bit_at (bit_and (bit_and pair.0 u) (bit_not w64 pair.1)) k) 1) mid new
+    → Marks 64 first (min ((i + 1) * word_bits l) l.depth) (is_busy_in l (found ++ pair ∷ [])) old new
+marks_word l found pair i count u there small usable bits fits first old mid new one two =
+    let start = word-start l i there in
+    let more : (i + 1) * word_bits l ≡ i * word_bits l + word_bits l = omega arith in
+    let here : min (i * word_bits l) l.depth ≡ i * word_bits l = omega arith in
+    let next : i * word_bits l + word_depth l i ≡ min ((i + 1) * word_bits l) l.depth = omega arith in
+    let at : tag_at l i 0 ≡ i * word_bits l = omega arith in
+    let mask : ℕ = bit_and (bit_and pair.0 u) (bit_not w64 pair.1) in
+    let before = marks-like 64 first (min (i * word_bits l) l.depth) (is_busy_in l found) (is_busy_in l (found ++ pair ∷ [])) old mid
+    (λ k less. sym (ap (λ (w : ℕ × ℕ). one_if (nat_eq (bit_at w.0 (place_of l k)) 1 && nat_eq (bit_at w.1 (place_of l k)) 0)) (word_before l found pair i count k less))) one in
+    subst (λ (n : ℕ). Marks 64 first n (is_busy_in l (found ++ pair ∷ [])) old new) next
+    (marks-then 64 first (i * word_bits l) (word_depth l i) (is_busy_in l (found ++ pair ∷ [])) (λ k. nat_eq (bit_at mask k) 1) old mid new
+    (subst (λ (n : ℕ). Marks 64 first n (is_busy_in l (found ++ pair ∷ [])) old mid) here before)
+    (subst (λ (n : ℕ). Marks 64 (first + n) (word_depth l i) (λ k. nat_eq (bit_at mask k) 1) mid new) at two)
+    (λ k less. aside_bits (bit_at mask k) (bit_at-lt mask k) ∙ sym (busy_here l found pair i count u there small usable (λ place low. (bits place).1 low) fits k less)))
+
+-- the tags held so far were found busy, and so are those of one word more
+pub held_word : (l : Layout) (found : List (ℕ × ℕ)) (pair : ℕ × ℕ) (i : ℕ) → length found ≡ i → (holds : ℕ → Type 0)
+    → ((tag : ℕ) → holds tag → word_of l tag < i → is_busy_in l found tag ≡ true)
+    → ((tag : ℕ) → holds tag → word_of l tag ≡ i → (bit_at pair.0 (place_of l tag) ≡ 1) × (bit_at pair.1 (place_of l tag) ≡ 0))
+    → (tag : ℕ) → holds tag → word_of l tag < i + 1 → is_busy_in l (found ++ pair ∷ []) tag ≡ true
+held_word l found pair i count holds before here tag h low = dite (dec_lt (word_of l tag) i)
+    (λ (less : word_of l tag < i). ap (λ (w : ℕ × ℕ). nat_eq (bit_at w.0 (place_of l tag)) 1 && nat_eq (bit_at w.1 (place_of l tag)) 0)
+    (get_or_append_left found (pair ∷ []) (0, 0) (word_of l tag) (omega arith)) ∙ before tag h less)
+    (λ no. let is : word_of l tag ≡ i = omega arith in let f = here tag h is in
+    ap (λ (w : ℕ × ℕ). nat_eq (bit_at w.0 (place_of l tag)) 1 && nat_eq (bit_at w.1 (place_of l tag)) 0)
+    (get_or_push found pair (0, 0) (word_of l tag) (count ∙ sym is))
+    ∙ ap (λ (x : ℕ). nat_eq x 1 && nat_eq (bit_at pair.1 (place_of l tag)) 0) f.0 ∙ ap (λ (x : ℕ). nat_eq x 0) f.1)

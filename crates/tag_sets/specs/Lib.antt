@@ -13,3 +13,5 @@ pub mod Gathering
 pub mod Looks
 pub mod Shows
 pub mod Texts
+pub mod Bits
+pub mod Busy

@@ -2,6 +2,7 @@
 #![tactic(auto)]
 
 mod batches;
+mod busy;
 mod clears;
 mod gather;
 mod gets;
@@ -9,6 +10,7 @@ mod hand;
 mod holds;
 mod kind;
 mod looks;
+mod marks;
 mod meets;
 mod opens;
 mod parting;

@@ -1,0 +1,20 @@
+-- The tags of the words so far are marked and counted.
+use Rattle.std.proofs.Common.{◌≡◌, ℕ, ◌*◌, ◌<◌, true, List, length, min}
+use Rattle.tag_layout.specs.Layout.{word_bits, word_of}
+use Rattle.tag_model.specs.Totals.{count_below}
+use Rattle.tag_queue.specs.Agents.{Holds}
+use Rattle.tag_sets.specs.Bits.{Marks}
+use Rattle.tag_sets.specs.Hands.{IsHandOf, agent_of}
+use Rattle.tag_sets.specs.Looks.{is_busy_in}
+use Rattle.tag_sets.proofs.Around.{SoFar}
+use Rattle.tag_sets.proofs.tags.Tags.list_set.Given as goal
+
+abbrev pub invariant-loop-word : goal.invariant-loop-word
+invariant-loop-word g l = let sizes = l.layout in record {
+  own : IsHandOf l.self l.hand;
+  room : length l.into ≡ length l.fn.into;
+  found : (found : List (ℕ × ℕ)) × SoFar l.kind l.word found l.fn.hand l.hand
+      × (l.count ≡ count_below (is_busy_in sizes found) (min (l.word * word_bits sizes) sizes.depth))
+      × Marks 64 l.first (min (l.word * word_bits sizes) sizes.depth) (is_busy_in sizes found) l.fn.into l.into
+      × ((tag : ℕ) → Holds (agent_of l.fn.hand l.kind) tag → word_of sizes tag < l.word → is_busy_in sizes found tag ≡ true);
+}

@@ -1,0 +1,20 @@
+//! Bits that are set in words side by side.
+ghost use Rattle.std.specs.Prelude.{◌≡◌, ◌+◌, ◌*◌, ◌^◌, ◌<◌, ◌≤◌, length, nat_eq};
+ghost use Rattle.std.specs.Int.{bit_at};
+ghost use Rattle.tag_sets.specs.Bits.{Marks};
+
+/// Sets the bits of a mask, which has so many places, from the bit `first` on.
+pub(crate) fn mark(into: &mut [u64], first: u32, width: u32, mask: u64)
+    requires width { width ≤ 64 }
+    requires room { first + width ≤ 64 * length into.old }
+    requires low { first + width < 2 ^ 32 }
+    ensures room { length into.new ≡ length into.old }
+    ensures marks { Marks 64 first width (λ k. nat_eq (bit_at mask k) 1) into.old into.new }
+{
+    for place in 0..width {
+        if mask & (1 << place) != 0 {
+            let bit = first + place;
+            into[(bit / 64) as usize] |= 1 << (bit % 64);
+        }
+    }
+}
