@@ -24,8 +24,8 @@ use Rattle.tag_sets.proofs.Numbering.{IsReserved, IsOrdinary, stands}
 use Rattle.tag_sets.proofs.Sizes.{held_low}
 
 -- words that are 0 have no bit
-pub no_bit : (words : List ℕ) → ((i : ℕ) → get_or words i 0 ≡ 0) → (n : ℕ) → bit_in 64 words n ≡ 0
-no_bit words none n = ap (λ (x : ℕ). bit_at x (n % 64)) (none (n / 64)) ∙ bit_at-zero (n % 64)
+pub no_bit : (w : ℕ) (words : List ℕ) → ((i : ℕ) → get_or words i 0 ≡ 0) → (n : ℕ) → bit_in w words n ≡ 0
+no_bit w words none n = ap (λ (x : ℕ). bit_at x (n % w)) (none (n / w)) ∙ bit_at-zero (n % w)
 
 module _ {R : Type 0} (tags : Tags R) (found found' : List (ℕ × ℕ)) where
   in_reserve : (tag : ℕ) → tag < reserved_of tags → one_if (is_busy_tag tags found found' tag) ≡ one_if (is_busy_in (layout_of tags Reserved) found tag)

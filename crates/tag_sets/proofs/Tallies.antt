@@ -158,24 +158,24 @@ counted layout l is found pair i u count there small usable bits fits = subst (�
 })
 
 -- the tags of one word more are marked
-pub marks_word : (l : Layout) (found : List (ℕ × ℕ)) (pair : ℕ × ℕ) (i : ℕ) → length found ≡ i → (u : ℕ) → i < words l → u < 2 ^ 64
+pub marks_word : (w : ℕ) (l : Layout) (found : List (ℕ × ℕ)) (pair : ℕ × ℕ) (i : ℕ) → length found ≡ i → (u : ℕ) → i < words l → u < 2 ^ 64
     → u + 1 ≡ 2 ^ word_depth l i → ((place : ℕ) → (bit_at u place ≡ 1) ↔ (place < word_depth l i)) → pair.1 < 2 ^ 64
-    → (first : ℕ) (old mid new : List ℕ) → Marks 64 first (min (i * word_bits l) l.depth) (is_busy_in l found) old mid
-    → Marks 64 (first + tag_at l i 0) (word_depth l i) (λ k. nat_eq (bit_at (bit_and (bit_and pair.0 u) (bit_not w64 pair.1)) k) 1) mid new
-    → Marks 64 first (min ((i + 1) * word_bits l) l.depth) (is_busy_in l (found ++ pair ∷ [])) old new
-marks_word l found pair i count u there small usable bits fits first old mid new one two =
+    → (first : ℕ) (old mid new : List ℕ) → Marks w first (min (i * word_bits l) l.depth) (is_busy_in l found) old mid
+    → Marks w (first + tag_at l i 0) (word_depth l i) (λ k. nat_eq (bit_at (bit_and (bit_and pair.0 u) (bit_not w64 pair.1)) k) 1) mid new
+    → Marks w first (min ((i + 1) * word_bits l) l.depth) (is_busy_in l (found ++ pair ∷ [])) old new
+marks_word w l found pair i count u there small usable bits fits first old mid new one two =
     let start = word-start l i there in
     let more : (i + 1) * word_bits l ≡ i * word_bits l + word_bits l = omega arith in
     let here : min (i * word_bits l) l.depth ≡ i * word_bits l = omega arith in
     let next : i * word_bits l + word_depth l i ≡ min ((i + 1) * word_bits l) l.depth = omega arith in
     let at : tag_at l i 0 ≡ i * word_bits l = omega arith in
     let mask : ℕ = bit_and (bit_and pair.0 u) (bit_not w64 pair.1) in
-    let before = marks-like 64 first (min (i * word_bits l) l.depth) (is_busy_in l found) (is_busy_in l (found ++ pair ∷ [])) old mid
-    (λ k less. sym (ap (λ (w : ℕ × ℕ). one_if (nat_eq (bit_at w.0 (place_of l k)) 1 && nat_eq (bit_at w.1 (place_of l k)) 0)) (word_before l found pair i count k less))) one in
-    subst (λ (n : ℕ). Marks 64 first n (is_busy_in l (found ++ pair ∷ [])) old new) next
-    (marks-then 64 first (i * word_bits l) (word_depth l i) (is_busy_in l (found ++ pair ∷ [])) (λ k. nat_eq (bit_at mask k) 1) old mid new
-    (subst (λ (n : ℕ). Marks 64 first n (is_busy_in l (found ++ pair ∷ [])) old mid) here before)
-    (subst (λ (n : ℕ). Marks 64 (first + n) (word_depth l i) (λ k. nat_eq (bit_at mask k) 1) mid new) at two)
+    let before = marks-like w first (min (i * word_bits l) l.depth) (is_busy_in l found) (is_busy_in l (found ++ pair ∷ [])) old mid
+    (λ k less. sym (ap (λ (x : ℕ × ℕ). one_if (nat_eq (bit_at x.0 (place_of l k)) 1 && nat_eq (bit_at x.1 (place_of l k)) 0)) (word_before l found pair i count k less))) one in
+    subst (λ (n : ℕ). Marks w first n (is_busy_in l (found ++ pair ∷ [])) old new) next
+    (marks-then w first (i * word_bits l) (word_depth l i) (is_busy_in l (found ++ pair ∷ [])) (λ k. nat_eq (bit_at mask k) 1) old mid new
+    (subst (λ (n : ℕ). Marks w first n (is_busy_in l (found ++ pair ∷ [])) old mid) here before)
+    (subst (λ (n : ℕ). Marks w (first + n) (word_depth l i) (λ k. nat_eq (bit_at mask k) 1) mid new) at two)
     (λ k less. aside_bits (bit_at mask k) (bit_at-lt mask k) ∙ sym (busy_here l found pair i count u there small usable (λ place low. (bits place).1 low) fits k less)))
 
 -- the tags held so far were found busy, and so are those of one word more

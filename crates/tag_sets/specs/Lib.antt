@@ -15,3 +15,4 @@ pub mod Shows
 pub mod Texts
 pub mod Bits
 pub mod Busy
+pub mod Dumps

@@ -4,6 +4,7 @@
 mod batches;
 mod busy;
 mod clears;
+mod dump;
 mod gather;
 mod gets;
 mod hand;
@@ -13,6 +14,8 @@ mod looks;
 mod marks;
 mod meets;
 mod opens;
+#[cfg(test)]
+mod outputs;
 mod parting;
 mod placing;
 mod rooms;

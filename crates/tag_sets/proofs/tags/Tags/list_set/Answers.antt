@@ -58,7 +58,7 @@ loop-word-preserved g c =
         goes_on kind word inv.0 pair c.args.hand.now c.loop-word.hand c.look_both-taken.new.hand inv.1
             c.look_both-taken.ensures.looks c.look_both-taken.ensures.same,
         omega arith,
-        marks_word l inv.0 pair word inv.1.count c.usable.result (omega arith) (omega arith) c.usable.ensures.value c.usable.ensures.bits (omega arith)
+        marks_word 64 l inv.0 pair word inv.1.count c.usable.result (omega arith) (omega arith) c.usable.ensures.value c.usable.ensures.bits (omega arith)
             c.args.first c.args.into.now c.loop-word.into c.mark.new.into inv.3
             (subst (λ (p : ℕ × ℕ). Marks 64 (c.args.first + p.0) p.1 (λ k. nat_eq (bit_at (bit_and (bit_and pair.0 c.usable.result) (bit_not w64 pair.1)) k) 1)
             c.loop-word.into c.mark.new.into) (λ j. (c.tag_at.ensures.value j, c.word_depth.ensures.value j)) c.mark.ensures.marks),

@@ -1,0 +1,23 @@
+-- What dumps tell: the busy tags of a set as bytes.
+use Rattle.std.specs.Prelude.{◌≡◌, ℕ, List, ◌++◌, length, drop, cond, nat_lt, ◌&&◌}
+use Rattle.std.specs.Int.{div_ceil}
+use Rattle.tag_layout.specs.Layout.{Layout}
+use Rattle.tag_sets.specs.declared.hand.Hand.{Hand}
+use Rattle.tag_sets.specs.declared.kind.Kind.{Kind}
+use Rattle.tag_sets.specs.Bits.{bit_in}
+use Rattle.tag_sets.specs.Looks.{is_busy_in}
+use Rattle.tag_sets.specs.Shows.{LooksAround}
+
+-- the bytes have the bits of the tags that the call found busy, eight of them each, low bit first, and no other bit
+pub record Packs {R : Type 0} (l : Layout) (kind : Kind) (bytes : List ℕ) (old new : Hand R) : Type 0 where
+  pub found : List (ℕ × ℕ)
+  pub around : LooksAround l kind found old new
+  pub bits_are : (tag : ℕ) → bit_in 8 bytes tag ≡ cond (nat_lt tag l.depth && is_busy_in l found tag) 1 0
+
+-- so many of the bytes are those of the set, and those behind them are as they were
+pub record Dumps {R : Type 0} (l : Layout) (kind : Kind) (before after : List ℕ) (count : ℕ) (old new : Hand R) : Type 0 where
+  pub bytes : List ℕ
+  pub packed : Packs l kind bytes old new
+  pub count_is : count ≡ div_ceil l.depth 8
+  pub long : length bytes ≡ count
+  pub after_is : after ≡ bytes ++ drop count before
