@@ -112,7 +112,8 @@ fn a_dump_is_written_sixteen_bytes_a_line(rt: HostRuntime) -> Result<(), Fail> {
     write_dump(&[0x01, 0x02], &mut text)?;
     write_dump(&[0xff, 0x00, 0x07], &mut text)?;
     write_dump(&[0xff; 17], &mut text)?;
-    let lines = b"00000000: 0102\n00000000: ff00 07\n00000000: ffff ffff ffff ffff ffff ffff ffff ffff\n00000010: ff\n";
+    let lines =
+        b"00000000: 0102\n00000000: ff00 07\n00000000: ffff ffff ffff ffff ffff ffff ffff ffff\n00000010: ff\n";
     assert_eq!(rt; text.as_slice(), lines.as_slice());
     Ok(())
 }
@@ -127,7 +128,10 @@ fn a_gather_adds_up_both_sets(rt: HostRuntime) -> Result<(), Fail> {
     let Err(fault) = Tags::gather(tags, hands) else {
         return Err(Fail::new("gathered without a hand"));
     };
-    assert_eq!(rt; (fault.cause, fault.hands.len()), (GatherCause::Missing(0), 0));
+    assert_eq!(rt;
+        (fault.cause, fault.hands.len()),
+        (GatherCause::Missing(0), 0)
+    );
     let mut hands = fault.hands;
     hands.push(hand)?;
     let Ok(totals) = Tags::gather(fault.tags, hands) else {

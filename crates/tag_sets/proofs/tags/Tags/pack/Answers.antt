@@ -1,11 +1,11 @@
 -- A word adds its busy tags to the bytes, which were 0.
-use Rattle.std.proofs.Common.{arith, ◌≡◌, inr, inl, ℕ, ◌+◌, ◌*◌, ◌<◌, ◌≤◌, max, List, [], ◌∷◌, ◌++◌, min, length, get_or, nat_eq, nat_lt, cond, Bool, bit_and, refl, sym, ap, ◌∙◌, subst}
+use Rattle.std.proofs.Common.{arith, ◌≡◌, inr, ℕ, ◌+◌, ◌*◌, ◌<◌, List, [], ◌∷◌, ◌++◌, min, length, get_or, nat_eq, Bool, bit_and, ap, ◌∙◌, subst}
 use Rattle.std.specs.Prelude.{◌&&◌}
 use Rattle.std.specs.Int.{bit_at, bit_not, w64}
 use Rattle.std.proofs.lemmas.Bool.{lt-ltb, le-ltb}
 use mathlib.Core.Logic.{dite}
 use native.Mathlib.Decide.{dec_lt}
-use Rattle.tag_layout.specs.Layout.{Layout, words, word_bits, tag_at}
+use Rattle.tag_layout.specs.Layout.{Layout, word_bits, tag_at}
 use Rattle.tag_layout.proofs.PlaceFacts.{word_depth-pos}
 use Rattle.tag_core.proofs.Passing.{zeros}
 use Rattle.tag_sets.specs.Bits.{Marks, bit_in}
