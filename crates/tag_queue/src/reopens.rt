@@ -73,7 +73,8 @@ impl<R: Copy> Queue<R> {
         requires slots { length slots.items ≡ layout.depth }
         ensures ok { IfOk result (λ p. MoveOn layout self.map callers.items p.0.map p.1.items) }
         ensures rest { IfOk result (λ p. KeepsRest self p.0) }
-        ensures err { IfErr result (λ p. (p.0 ≡ self) × core.AreUnchanged callers.items p.1.items × All (IsCallerOf p.0.map) p.1.items) }
+        ensures err { IfErr result (λ p. (p.0 ≡ self) × core.AreUnchanged callers.items p.1.items) }
+        ensures own { IfErr result (λ p. All (IsCallerOf p.0.map) p.1.items) }
     {
         let Queue {
             map,

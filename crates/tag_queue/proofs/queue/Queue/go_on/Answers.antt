@@ -18,4 +18,4 @@ returns-in-Ok-clause-rest g c =
     }
 
 pub returns-in-Err-clause-err : goal.returns-in-Err-clause-err
-returns-in-Err-clause-err g c = (same_queue c.args.self c.in-Err.map c.in-Err.ensures.err.0 _ _ _, c.in-Err.ensures.err.1, c.in-Err.ensures.err.2)
+returns-in-Err-clause-err g c = (same_queue c.args.self c.in-Err.map c.in-Err.ensures.err.0 _ _ _, c.in-Err.ensures.err.1)

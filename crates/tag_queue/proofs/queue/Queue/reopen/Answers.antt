@@ -55,4 +55,4 @@ returns-in-Err-clause-own g c =
     let same = c.in-Err.ensures.err.0 in let here = c.in-Err.queue in
     own_again c.args.agents.items c.unite-in-Err.result.items (c.unite-in-Err.ensures.shells ∙ c.part-callers.ensures.shells)
     c.args.self here.map here.book here.groups c.in-Err.callers.items c.requires.own c.unite-in-Err.ensures.callers
-    c.in-Err.ensures.err.2 (λ j. (same j).book.table) (λ j. (same j).groups)
+    c.in-Err.ensures.own (λ j. (same j).book.table) (λ j. (same j).groups)
