@@ -76,42 +76,33 @@ impl<R: Copy> Queue<R> {
         ensures err { IfErr result (λ p. (p.0 ≡ self) × core.AreUnchanged callers.items p.1.items) }
         ensures own { IfErr result (λ p. All (IsCallerOf p.0.map) p.1.items) }
     {
-        let Queue {
-            map,
-            mut book,
-            groups,
-            batch,
-            least,
-            min_shallow,
-            callers: count,
-            fill,
-        } = self;
-        match next_map(alloc, map, callers, layout, slots) {
+        match next_map(alloc, self.map, callers, layout, slots) {
             Ok((map, callers)) => {
-                let next_batch = layout.wake_batch(min_shallow);
-                book.rebatch(next_batch);
+                let batch = layout.wake_batch(self.min_shallow);
+                let mut book = self.book;
+                book.rebatch(batch);
                 let queue = Queue {
                     map,
                     book,
-                    groups,
-                    batch: next_batch,
-                    least,
-                    min_shallow,
-                    callers: count,
-                    fill,
+                    groups: self.groups,
+                    batch,
+                    least: self.least,
+                    min_shallow: self.min_shallow,
+                    callers: self.callers,
+                    fill: self.fill,
                 };
                 Ok((queue, callers))
             }
             Err((map, callers)) => {
                 let queue = Queue {
                     map,
-                    book,
-                    groups,
-                    batch,
-                    least,
-                    min_shallow,
-                    callers: count,
-                    fill,
+                    book: self.book,
+                    groups: self.groups,
+                    batch: self.batch,
+                    least: self.least,
+                    min_shallow: self.min_shallow,
+                    callers: self.callers,
+                    fill: self.fill,
                 };
                 Err((queue, callers))
             }
