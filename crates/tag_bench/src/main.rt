@@ -6,6 +6,7 @@
 
 mod batches;
 mod claims;
+mod command_line;
 mod gets;
 mod jobs;
 mod measure;
@@ -21,7 +22,7 @@ mod waits;
 mod wakes;
 
 use crate::measure::Failed;
-use crate::options::{Options, Queued, Workload};
+use crate::options::{Options, Queued, WORKLOADS, Workload};
 use crate::traffic::{TRAFFIC, Traffic};
 use clap::error::ErrorKind;
 use std::env;
@@ -48,7 +49,7 @@ fn play<R: AllocGlobal + Env + Threads + Wait + Sync + Clock + CpuClock + Print 
     rt: &R,
 ) -> Result<u8, Failed> {
     let words: Vec<String> = env::args(rt)?.collect(rt.alloc())?;
-    let command = options::command(rt.alloc())?;
+    let command = command_line::command(rt.alloc())?;
     match command.try_get_matches_from(words.as_slice()) {
         Ok(matches) => {
             run(rt, &options::read(rt.alloc(), &matches)?)?;
@@ -67,32 +68,29 @@ fn run<R: AllocGlobal + Threads + Wait + Sync + Clock + CpuClock + Print>(
     rt: &R,
     options: &Options,
 ) -> Result<(), Failed> {
-    match options.workload {
-        Some(Workload::Plain) => plain::run(rt, options),
-        Some(Workload::Map) => claims::run(rt, options),
-        Some(Workload::Shared) => gets::run(rt, options),
-        Some(Workload::Wakes) => wakes::run(rt, options),
-        Some(Workload::Traffic(traffic)) => run_on_map(rt, options, traffic),
-        Some(Workload::Batch) => batches::run(rt, options),
-        Some(Workload::Queue(queued)) => run_queue(rt, options, queued),
-        None => run_each(rt, options),
+    if let Some(workload) = options.workload {
+        return run_workload(rt, options, workload);
     }
+    for workload in WORKLOADS {
+        run_workload(rt, options, workload)?;
+    }
+    Ok(())
 }
 
-// Runs each workload.
-fn run_each<R: AllocGlobal + Threads + Wait + Sync + Clock + CpuClock + Print>(
+fn run_workload<R: AllocGlobal + Threads + Wait + Sync + Clock + CpuClock + Print>(
     rt: &R,
     options: &Options,
+    workload: Workload,
 ) -> Result<(), Failed> {
-    plain::run(rt, options)?;
-    claims::run(rt, options)?;
-    gets::run(rt, options)?;
-    wakes::run(rt, options)?;
-    for traffic in TRAFFIC {
-        run_on_map(rt, options, traffic)?;
+    match workload {
+        Workload::Plain => plain::run(rt, options),
+        Workload::Map => claims::run(rt, options),
+        Workload::Shared => gets::run(rt, options),
+        Workload::Wakes => wakes::run(rt, options),
+        Workload::Traffic(traffic) => run_on_map(rt, options, traffic),
+        Workload::Batch => batches::run(rt, options),
+        Workload::Queue(queued) => run_queue(rt, options, queued),
     }
-    batches::run(rt, options)?;
-    run_queue(rt, options, None)
 }
 
 // Runs a workload over the shared map.
