@@ -14,8 +14,6 @@ mod looks;
 mod marks;
 mod meets;
 mod opens;
-#[cfg(test)]
-mod outputs;
 mod parting;
 mod placing;
 mod rooms;

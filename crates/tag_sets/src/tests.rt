@@ -7,5 +7,6 @@ mod hands;
 mod meets;
 mod memory;
 mod opening;
+mod outputs;
 mod slots;
 mod waits;

@@ -13,19 +13,19 @@ fn ordinary_clears_alone_wake(rt: HostRuntime) -> Result<(), Fail> {
         tags.finish_wait(&rt, &mut waiting),
         Err(TagFault::NotWaiting)
     );
-    assert_eq!(rt; tags.get_reserved(&mut hand)?, Some(0));
-    assert_eq!(rt; tags.get_blocking(&rt, &mut hand)?, 1);
-    assert_eq!(rt; tags.prepare_wait(&mut waiting)?, 0);
+    assert_eq!(rt; tags.get_reserved(&mut hand), Ok(Some(0)));
+    assert_eq!(rt; tags.get_blocking(&rt, &mut hand), Ok(1));
+    assert_eq!(rt; tags.prepare_wait(&mut waiting), Ok(0));
     assert_eq!(rt; tags.prepare_wait(&mut waiting), Err(TagFault::Waiting));
-    assert_eq!(rt; tags.clear(&mut hand, 0)?, 0);
-    assert_eq!(rt; tags.clear(&mut hand, 1)?, 1);
+    assert_eq!(rt; tags.clear(&mut hand, 0), Ok(0));
+    assert_eq!(rt; tags.clear(&mut hand, 1), Ok(1));
     let wakes = tags.wakes(&mut hand);
     assert_eq!(rt;
         (wakes.counted, wakes.charged, wakes.index, wakes.active),
         (1, 1, 1, 1)
     );
-    assert_eq!(rt; tags.finish_wait(&rt, &mut waiting)?, Left::Woken);
-    assert_eq!(rt; tags.prepare_wait(&mut waiting)?, 1);
-    assert_eq!(rt; tags.finish_wait(&rt, &mut waiting)?, Left::Unwoken);
+    assert_eq!(rt; tags.finish_wait(&rt, &mut waiting), Ok(Left::Woken));
+    assert_eq!(rt; tags.prepare_wait(&mut waiting), Ok(1));
+    assert_eq!(rt; tags.finish_wait(&rt, &mut waiting), Ok(Left::Unwoken));
     Ok(())
 }
