@@ -5,3 +5,5 @@ pub mod Places
 pub mod Refining
 pub mod LogWords
 pub mod LogFacts
+pub mod QueueMoves
+pub mod Completing
