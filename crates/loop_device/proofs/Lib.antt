@@ -7,3 +7,5 @@ pub mod LogWords
 pub mod LogFacts
 pub mod QueueMoves
 pub mod Completing
+pub mod Promising
+pub mod Crossing

@@ -7,6 +7,7 @@ pub mod LogFaults
 pub mod LogLines
 pub mod LogProgress
 pub mod Logs
+pub mod Playing
 pub mod Requests
 pub mod Setups
 pub mod Verdict

@@ -17,6 +17,7 @@ use std::thread;
 use tag_sets::{Hand, TagFault, Tags};
 
 /// What the threads of a play share.
+#[derive(Drop)]
 pub(crate) struct Shared<'a, B: Tagged, G> {
     pub(crate) log: &'a Log,
     pub(crate) gate: &'a G,
@@ -27,33 +28,6 @@ pub(crate) struct Shared<'a, B: Tagged, G> {
     pub(crate) stopped: &'a AtomicBool,
     /// Whether all submitters have ended.
     pub(crate) closed: &'a AtomicBool,
-}
-
-impl<'a, B: Tagged, G> Shared<'a, B, G> {
-    /// The same, for another thread.
-    pub(crate) fn again(&self) -> Shared<'a, B, G>
-        ensures tags { result.tags.now ≡ self.now.tags.now }
-        ensures queue { result.queue.now ≡ self.now.queue.now }
-    {
-        let Shared {
-            log,
-            gate,
-            tags,
-            queue,
-            store,
-            stopped,
-            closed,
-        } = *self;
-        Shared {
-            log,
-            gate,
-            tags,
-            queue,
-            store,
-            stopped,
-            closed,
-        }
-    }
 }
 
 /// What threads met that the store's history does not show.
