@@ -11,6 +11,7 @@ use crate::waits::Wakes;
 /// A call of an agent, with its arguments.
 #[derive(Clone, Copy, Debug, PartialEq, Eq)]
 pub(crate) enum Call {
+    Place,
     Get,
     GetShallow(u32),
     GetBatch(u32),
@@ -111,6 +112,10 @@ fn act(queue: &Queue<u64>, agent: &mut Agent<u64>, call: Call) -> Answer
     ensures { IsAgentOf queue.now agent.new }
 {
     match call {
+        Call::Place => {
+            queue.place(agent);
+            Answer::Done
+        }
         Call::Get => tag(queue.get(agent)),
         Call::GetShallow(depth) => tag(queue.get_shallow(agent, depth)),
         Call::GetBatch(count) => batch(queue.get_batch(agent, count)),

@@ -2,8 +2,8 @@
 use crate::fault::TagFault::{BadCount, Spent, TooShallow};
 use crate::queue::Options;
 use crate::tests::agents::{options, words_of_four};
-use crate::tests::calls::Answer::{Batch, Nothing, Refused, Tag, Woken};
-use crate::tests::calls::Call::{Clear, ClearBoth, Get, GetBatch, GetShallow};
+use crate::tests::calls::Answer::{Batch, Done, Nothing, Refused, Tag, Woken};
+use crate::tests::calls::Call::{Clear, ClearBoth, Get, GetBatch, GetShallow, Place};
 use crate::tests::stage::Stage;
 use std::test::Fail;
 
@@ -183,15 +183,16 @@ fn a_get_is_refused_for_its_first_fault(rt: HostRuntime) -> Result<(), Fail> {
 #[test]
 fn agents_placed_apart_begin_in_their_own_parts(rt: HostRuntime) -> Result<(), Fail> {
     let mut stage = Stage::open(rt.alloc(), 16, words_of_four(3))?;
-    for at in 0..3 {
-        stage.place(at);
-    }
-    assert_eq!(rt; stage.get(2)?, Some(8));
-    assert_eq!(rt; stage.get(1)?, Some(4));
-    assert_eq!(rt; stage.get(0)?, Some(0));
     assert_eq!(rt;
-        stage.gets(rt.alloc(), 1, 2)?.as_slice(),
-        &[Some(5), Some(6)][..]
+        stage.wrong(&[
+            (1, Place, Done),
+            (2, Place, Done),
+            (2, Get, Tag(8)),
+            (1, Get, Tag(4)),
+            (0, Get, Tag(0)),
+            (1, Get, Tag(5)),
+        ]),
+        None
     );
     Ok(())
 }

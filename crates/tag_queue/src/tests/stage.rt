@@ -48,20 +48,6 @@ impl Stage {
         Some(self.agents.get(at)?.number())
     }
 
-    /// Has the agent begin in its own part, where there is such an agent.
-    pub(crate) fn place(&mut self, at: usize) {
-        if let Some(agent) = self.agents.get_mut(at) {
-            self.queue.place(agent);
-        }
-    }
-
-    pub(crate) fn get(&mut self, at: usize) -> Result<Option<u32>, TagFault> {
-        let Some(agent) = self.agents.get_mut(at) else {
-            return Err(NOBODY);
-        };
-        self.queue.get(agent)
-    }
-
     /// How many of so many gets won a tag.
     pub(crate) fn gets(&mut self, at: usize, count: u32) -> u32 {
         let mut won = 0u32;

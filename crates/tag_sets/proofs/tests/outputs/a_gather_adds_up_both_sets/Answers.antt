@@ -3,7 +3,7 @@ use Rattle.std.proofs.Common.{ℕ, [], ◌∷◌, ◌++◌, All, sym, ap, ◌∙
 use Rattle.std.proofs.lemmas.List.Elements.{All-push}
 use Rattle.tag_sets.specs.declared.tags.Tags.{Tags}
 use Rattle.tag_sets.specs.Hands.{IsHandOf}
-use Rattle.tag_sets.proofs.outputs.a_gather_adds_up_both_sets.Goals as goal
+use Rattle.tag_sets.proofs.tests.outputs.a_gather_adds_up_both_sets.Goals as goal
 
 pub gather-requires-2 : goal.gather-requires-2
 gather-requires-2 g c =
