@@ -65,17 +65,9 @@ where
     T::Hand: Send + Drop,
 {
     let (tags, mut hands) = T::open(rt.alloc(), plan.depth, plan.threads)?;
-<<<<<<< ours
     if plan.stride > 0 {
         work_all(rt, &tags, &mut hands, Plan { threads: 1, ..plan }, &Placing);
     }
-=======
-    let placing = Placing {
-        won: AtomicU64::new(0),
-    };
-    // One hand after another, so that none holds the tag at which another is to begin.
-    work_all(rt, &tags, &mut hands, Plan { threads: 1, ..plan }, &placing);
->>>>>>> theirs
     let runs = time_runs(rt, &tags, &mut hands, plan, job)?;
     let totals = tags.gather(hands)?;
     let shares = RUNS as u64 * u64::from(plan.winners.max(1));
