@@ -53,4 +53,5 @@ IsNotPosted tags tag old new = ((total_of tags ≤ tag) × (new ≡ old)) ⊎ ((
 
 -- what a fault of `complete` tells, and what it leaves
 abbrev pub IsRequestFault : Tags ℕ → List Io → ℕ → PlayFault → Hand ℕ → Hand ℕ → Type 0
-IsRequestFault tags ios tag fault old new = ((fault ≡ Stranger) × IsNotPosted tags tag old new) ⊎ CompletesWithout tags ios tag fault old new
+IsRequestFault tags ios tag fault old new =
+    ((fault ≡ Stranger) × IsNotPosted tags tag old new) ⊎ CompletesWithout tags ios tag fault old new

@@ -129,7 +129,8 @@ fn carry_in_scope<B: Tagged + Send + Sync, G: Gate, R: Threads + Wait + Sync>(
         thread::scope_env(),
         rt,
         |scope| -> Result<(Vec<Hand<u64>>, Faults), AllocError>
-            requires { All (IsHandOf tags.now) hands.items × IsPassOf queue.now pass × (total_of tags.now ≡ B.total) × (wanted < length hands.items) }
+            requires { All (IsHandOf tags.now) hands.items × IsPassOf queue.now pass × (total_of tags.now ≡ B.total)
+                × (wanted < length hands.items) }
             ensures { IfOk result (λ back. All (IsHandOf tags.entry.now) back.0.items) }
         {
             let shared = Shared {

@@ -200,7 +200,8 @@ fn start_submitter<'s, E, B: Tagged + Send + Sync, G: Gate, R: Wait + Sync>(
     let started = scope.spawn_with(
         HandsBack(tags),
         move || -> Worked
-            requires { IsHandOf tags.now hand × IsPassOf queue.now mine × ((view mine).submits ≡ true) × (total_of tags.now ≡ B.total) × (0 < submitters) }
+            requires { IsHandOf tags.now hand × IsPassOf queue.now mine × ((view mine).submits ≡ true)
+                × (total_of tags.now ≡ B.total) × (0 < submitters) }
             ensures { IsHandOf tags.entry.now result.hand }
         {
             let shared = Shared {

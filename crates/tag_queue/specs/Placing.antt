@@ -7,4 +7,7 @@ use Rattle.tag_queue.specs.Agents.{layout_of, agents_of, number_of, hint_of}
 
 -- the agent's hint, at the first tag of the agent's own part: each agent has one of the equal parts of the map
 abbrev pub hint_in_part : {R : Type 0} → Queue R → Agent R → Hint
-hint_in_part queue agent = record { at = (number_of agent * (layout_of queue).depth) / agents_of queue; round_robin = (hint_of agent).round_robin }
+hint_in_part queue agent = record {
+  at = (number_of agent * (layout_of queue).depth) / agents_of queue;
+  round_robin = (hint_of agent).round_robin;
+}
