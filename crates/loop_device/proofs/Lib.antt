@@ -5,3 +5,7 @@ pub mod Places
 pub mod Refining
 pub mod LogWords
 pub mod LogFacts
+pub mod QueueMoves
+pub mod Completing
+pub mod Promising
+pub mod Crossing

@@ -1,3 +1,4 @@
+pub mod DeviceQueue
 pub mod Halving
 pub mod History
 pub mod Keys
@@ -6,4 +7,7 @@ pub mod LogFaults
 pub mod LogLines
 pub mod LogProgress
 pub mod Logs
+pub mod Playing
+pub mod Requests
+pub mod Setups
 pub mod Verdict

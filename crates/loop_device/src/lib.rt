@@ -1,18 +1,31 @@
-//! I/O logs, a store in memory that carries their lines out, and the verdict on what was carried out.
+//! I/O logs, a store in memory that carries their lines out under tags, and the verdict on what was carried out.
 #![tactic(auto)]
 
+mod device_queue;
 mod fault;
+mod gate;
 mod halving;
 mod io;
 mod io_log;
 mod judging;
 mod log_line;
 mod log_reader;
+mod playing;
+mod report;
+mod request;
+mod setup;
 mod store;
+mod threads;
+mod workers;
 
 pub use fault::{LogCause, LogFault, PlayFault};
+pub use gate::{Gate, OpenGate};
 pub use io::{Done, Io, IoKind, Log};
 pub use judging::verdict;
+pub use playing::play;
+pub use report::Report;
+pub use request::complete;
+pub use setup::Setup;
 pub use store::Store;
 
 #[cfg(test)]

@@ -58,6 +58,19 @@ impl Store {
         self.done.as_slice()
     }
 
+    /// What was carried out, in order, where nothing more is to be.
+    pub(crate) fn into_history(self) -> Vec<Done>
+        ensures same { result.items ≡ self }
+        ensures lawful { IsHistory result.items }
+    {
+        let Store {
+            alloc: _,
+            stamps: _,
+            done,
+        } = self;
+        done
+    }
+
     /// Carries a line out, and tells its stamp: of a write or a trim its line, of a read the greatest stamp of its sectors,
     /// where a sector's stamp is the line of the last write or trim that covered it, and 0 before the first. The others
     /// answer 0. Out of memory, nothing changes.

@@ -1,5 +1,7 @@
 //! The rows that were worked by hand, and what happens without memory.
 mod logs;
+mod plays;
+mod requests;
 
 use crate::{Done, Io, IoKind, Log, PlayFault, Store, verdict};
 use std::alloc::{AllocError, Global};

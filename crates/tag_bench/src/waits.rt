@@ -49,6 +49,7 @@ impl<R: Wait + Sync> Job<Queue<u64>> for Waiters<'_, R> {
             let Ok(tag) = queue.get_blocking(self.rt, agent) else {
                 return;
             };
+            // Neither is refused a tag that the agent holds.
             let _ = queue.write(agent, tag, u64::from(round));
             let _ = queue.clear(agent, tag);
         }

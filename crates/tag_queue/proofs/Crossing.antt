@@ -10,8 +10,8 @@ use Rattle.tag_queue.specs.contracts.queue.Queue as queue
 
 pub agent_field_send : (R : RattleType) → IsSend R → IsSend (agent.the_field R).row
 agent_field_send R value = struct_send (fields_of (agent.the_type R)) (
-  caller_field_send R value,
-  (teller_field_send, (waiter_field_send, (search (sendable, crosses) depth 40, (search (sendable, crosses) depth 40, tt)))),
+  search (sendable, crosses) depth 40,
+  (search (sendable, crosses) depth 40, (teller_field_send, (waiter_field_send, (caller_field_send R value, tt)))),
 )
 
 -- an agent may go to another thread

@@ -12,13 +12,14 @@ use wake_book::{Teller, Waiter};
 /// One thread's part in a queue: it holds tags, counts completions, wakes and waits.
 #[derive(Drop)]
 pub struct Agent<R> {
-    pub(crate) caller: Caller<R>,
-    pub(crate) teller: Teller,
-    pub(crate) waiter: Waiter,
     /// Where its next get begins.
     pub(crate) hint: Hint,
     /// From 0, the same in the map, the book and the groups.
     pub(crate) number: u32,
+    pub(crate) teller: Teller,
+    pub(crate) waiter: Waiter,
+    /// The last field, for the unused words at its end: agents side by side in memory share no line.
+    pub(crate) caller: Caller<R>,
     ghost numbers: { ((record_of caller).number ≡ number) × (teller_number teller ≡ number) × (waiter_number waiter ≡ number) },
     ghost below: { number < (record_of caller).shape.callers },
 

@@ -1,8 +1,8 @@
 //! What no clause says: worked examples, want of memory, and threads that wait and wake.
 mod agents;
+mod calls;
 mod clears;
 mod crowd;
-mod deeds;
 mod example;
 mod gathering;
 mod gets;

@@ -13,7 +13,7 @@ use Rattle.tag_sets.specs.contracts.tags.Tags as tags
 
 pub hand_field_send : (R : RattleType) → IsSend R → IsSend (hand.the_field R).row
 hand_field_send R value = struct_send (fields_of (hand.the_type R))
-    (agent_field_send R value, (agent_field_send R value, (search (sendable, crosses) depth 40, tt)))
+    (search (sendable, crosses) depth 40, (agent_field_send R value, (agent_field_send R value, tt)))
 
 -- a hand may go to another thread
 pub hand_send : (R : RattleType) → IsSend R → IsSend (hand.the_row R)
@@ -21,8 +21,8 @@ hand_send R value = recorded_send _ _ _ (hand.the_type R).to_one (hand_field_sen
 
 agent_field_sync : (R : RattleType) → IsSend R → IsSync (agent.the_field R).row
 agent_field_sync R sent = struct_sync (fields_of (agent.the_type R)) (
-  caller_field_sync R sent,
-  (teller_field_sync, (waiter_field_sync, (search (sendable, crosses) depth 40, (search (sendable, crosses) depth 40, tt)))),
+  search (sendable, crosses) depth 40,
+  (search (sendable, crosses) depth 40, (teller_field_sync, (waiter_field_sync, (caller_field_sync R sent, tt)))),
 )
 
 agent_sync : (R : RattleType) → IsSend R → IsSync (agent.the_row R)

@@ -7,10 +7,11 @@ use tag_queue::Agent;
 /// One thread's part in both sets of tags.
 #[derive(Drop)]
 pub struct Hand<R> {
-    pub(crate) reserved: Agent<R>,
-    pub(crate) ordinary: Agent<R>,
     /// Reserved tags of the whole range, its first ones.
     pub(crate) reserved_count: u32,
+    pub(crate) reserved: Agent<R>,
+    /// The last field: an agent ends in unused words, so hands side by side in memory share no line.
+    pub(crate) ordinary: Agent<R>,
 }
 
 impl<R> Numbered for Hand<R> {

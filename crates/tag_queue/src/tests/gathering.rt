@@ -1,8 +1,8 @@
 //! Agents that are missing, that were lost, and that meet.
 use crate::gather::QueueTotals;
 use crate::tests::agents::options;
-use crate::tests::deeds::Answer::{Tag, Woken};
-use crate::tests::deeds::Deed::{Clear, Get};
+use crate::tests::calls::Answer::{Batch, Tag, Woken};
+use crate::tests::calls::Call::{Clear, Get, GetBatch};
 use crate::tests::stage::Stage;
 use std::test::Fail;
 use step_ledger::GatherCause;
@@ -46,7 +46,7 @@ fn gather_without_an_agent_is_refused(rt: HostRuntime) -> Result<(), Fail> {
 #[test]
 fn a_refused_gather_succeeds_with_the_missing_agent(rt: HostRuntime) -> Result<(), Fail> {
     let mut stage = Stage::open(rt.alloc(), 4, options(3))?;
-    assert_eq!(rt; stage.get(1)?, Some(0));
+    assert_eq!(rt; stage.act(1, Get), Some(Tag(0)));
     stage.send_away(1)?;
     assert_eq!(rt; (stage.number(0), stage.number(1)), (Some(0), Some(2)));
     let Err((cause, mut stage)) = stage.gather() else {
@@ -63,9 +63,9 @@ fn a_refused_gather_succeeds_with_the_missing_agent(rt: HostRuntime) -> Result<(
 #[test]
 fn a_lost_agent_keeps_its_tags(rt: HostRuntime) -> Result<(), Fail> {
     let mut stage = Stage::open(rt.alloc(), 4, options(2))?;
-    assert_eq!(rt; stage.get_batch(1, 1)?, Some((0, 1)));
+    assert_eq!(rt; stage.act(1, GetBatch(1)), Some(Batch(0, 1)));
     stage.lose(1);
-    assert_eq!(rt; stage.get(0)?, Some(1));
+    assert_eq!(rt; stage.act(0, Get), Some(Tag(1)));
     let Err((cause, _)) = stage.gather() else {
         return Err(Fail::new("gathered without agent 1"));
     };
@@ -77,12 +77,12 @@ fn a_lost_agent_keeps_its_tags(rt: HostRuntime) -> Result<(), Fail> {
 fn two_agents_meet_and_go_on(rt: HostRuntime) -> Result<(), Fail> {
     let mut stage = Stage::open(rt.alloc(), 4, options(2))?;
     assert!(rt; stage.meet(0)?);
-    assert_eq!(rt; stage.wrong(&[(Get(0), Tag(0))]), None);
+    assert_eq!(rt; stage.wrong(&[(0, Get, Tag(0))]), None);
     assert!(rt; stage.apart(0, 0)?);
-    assert_eq!(rt; stage.wrong(&[(Get(1), Tag(1))]), None);
+    assert_eq!(rt; stage.wrong(&[(1, Get, Tag(1))]), None);
     assert!(rt; stage.meet(0)?);
     assert_eq!(rt;
-        stage.wrong(&[(Clear(0, 0), Woken(0)), (Get(0), Tag(0))]),
+        stage.wrong(&[(0, Clear(0), Woken(0)), (0, Get, Tag(0))]),
         None
     );
     let totals = stage.close()?;

@@ -2,9 +2,9 @@
 use crate::queue::{Options, Queue};
 use crate::resizes::ResizeCause;
 use crate::tests::agents::{FILL, options};
-use crate::tests::deeds::Answer::{Done, Found, Group, Nothing, Tag, Value, Woken};
-use crate::tests::deeds::Deed::{Clear, Get, Post, PrepareWait, Wakes, Write};
-use crate::tests::deeds::{Answer, Deed};
+use crate::tests::calls::Answer::{Done, Found, Group, Nothing, Tag, Value, Woken};
+use crate::tests::calls::Call::{Clear, Get, Post, PrepareWait, Wakes, Write};
+use crate::tests::calls::{Answer, Call};
 use crate::tests::stage::Stage;
 use std::test::Fail;
 use step_ledger::GatherCause;
@@ -20,10 +20,10 @@ fn a_hint_beyond_the_depth_is_reduced(rt: HostRuntime) -> Result<(), Fail> {
     let mut stage = Stage::open(rt.alloc(), 8, words_of_one)?;
     assert_eq!(rt;
         stage.wrong(&[
-            (Get(0), Tag(0)),
-            (Get(0), Tag(1)),
-            (Get(0), Tag(2)),
-            (Get(0), Tag(3)),
+            (0, Get, Tag(0)),
+            (0, Get, Tag(1)),
+            (0, Get, Tag(2)),
+            (0, Get, Tag(3)),
         ]),
         None
     );
@@ -31,16 +31,16 @@ fn a_hint_beyond_the_depth_is_reduced(rt: HostRuntime) -> Result<(), Fail> {
     assert_eq!(rt; cause, ResizeCause::InUse(4, 0));
     assert_eq!(rt;
         stage.wrong(&[
-            (Clear(0, 0), Woken(0)),
-            (Clear(0, 1), Woken(0)),
-            (Clear(0, 2), Woken(0)),
-            (Clear(0, 3), Woken(0)),
+            (0, Clear(0), Woken(0)),
+            (0, Clear(1), Woken(0)),
+            (0, Clear(2), Woken(0)),
+            (0, Clear(3), Woken(0)),
         ]),
         None
     );
     let mut stage = stage.resized(rt.alloc(), 2)?;
     assert_eq!(rt;
-        stage.wrong(&[(Get(0), Tag(1)), (Get(0), Tag(0)), (Get(0), Nothing)]),
+        stage.wrong(&[(0, Get, Tag(1)), (0, Get, Tag(0)), (0, Get, Nothing)]),
         None
     );
     assert_eq!(rt;
@@ -60,22 +60,22 @@ fn waits_forbid_a_resize(rt: HostRuntime) -> Result<(), Fail> {
     let mut stage = Stage::open(rt.alloc(), 16, options(2))?;
     assert_eq!(rt;
         stage.wrong(&[
-            (Get(0), Tag(0)),
-            (Get(0), Tag(1)),
-            (Get(0), Tag(2)),
-            (PrepareWait(1), Group(0)),
+            (0, Get, Tag(0)),
+            (0, Get, Tag(1)),
+            (0, Get, Tag(2)),
+            (1, PrepareWait, Group(0)),
         ]),
         None
     );
     let (cause, mut stage) = stage.refused(rt.alloc(), 8)?;
     assert_eq!(rt; cause, ResizeCause::InUse(3, 0));
     assert_eq!(rt;
-        stage.wrong(&[(Clear(0, 0), Woken(0)), (Clear(0, 1), Woken(1))]),
+        stage.wrong(&[(0, Clear(0), Woken(0)), (0, Clear(1), Woken(1))]),
         None
     );
     assert_eq!(rt; stage.finish_wait(&rt, 1), Ok(Left::Woken));
     assert_eq!(rt;
-        stage.wrong(&[(Clear(0, 2), Woken(0)), (PrepareWait(1), Group(1))]),
+        stage.wrong(&[(0, Clear(2), Woken(0)), (1, PrepareWait, Group(1))]),
         None
     );
     let (cause, mut stage) = stage.refused(rt.alloc(), 8)?;
@@ -86,10 +86,10 @@ fn waits_forbid_a_resize(rt: HostRuntime) -> Result<(), Fail> {
     let mut stage = stage.resized(rt.alloc(), 8)?;
     assert_eq!(rt;
         stage.wrong(&[
-            (PrepareWait(1), Group(2)),
-            (Get(0), Tag(0)),
-            (Clear(0, 0), Woken(1)),
-            (Wakes(0), Found(3, 3, 3, 1)),
+            (1, PrepareWait, Group(2)),
+            (0, Get, Tag(0)),
+            (0, Clear(0), Woken(1)),
+            (0, Wakes, Found(3, 3, 3, 1)),
         ]),
         None
     );
@@ -122,7 +122,7 @@ fn a_resize_without_an_agent_hands_all_back(rt: HostRuntime) -> Result<(), Fail>
 fn held_and_posted_tags_are_told(rt: HostRuntime) -> Result<(), Fail> {
     let mut stage = Stage::open(rt.alloc(), 8, options(2))?;
     assert_eq!(rt;
-        stage.wrong(&[(Get(0), Tag(0)), (Get(0), Tag(1)), (Post(0, 1), Done)]),
+        stage.wrong(&[(0, Get, Tag(0)), (0, Get, Tag(1)), (0, Post(1), Done)]),
         None
     );
     let Ok((held, posted, stage)) = stage.in_use() else {
@@ -144,11 +144,11 @@ fn held_and_posted_tags_are_told(rt: HostRuntime) -> Result<(), Fail> {
 }
 
 // The first tag of a queue where all are free, whose slot is as it begins.
-fn won_and_back(stage: &mut Stage) -> Option<(Deed, Answer)> {
+fn won_and_back(stage: &mut Stage) -> Option<(usize, Call, Answer)> {
     stage.wrong(&[
-        (Get(0), Tag(0)),
-        (Write(0, 0, 5), Value(FILL)),
-        (Clear(0, 0), Woken(0)),
+        (0, Get, Tag(0)),
+        (0, Write(0, 5), Value(FILL)),
+        (0, Clear(0), Woken(0)),
     ])
 }
 

@@ -1,8 +1,8 @@
 //! The values beside tags, and tags that pass from agent to agent.
 use crate::fault::TagFault::{NoSuchTag, NotHeld, NotPosted};
 use crate::tests::agents::{FILL, options};
-use crate::tests::deeds::Answer::{Done, Held, Refused, Tag, Value, Woken};
-use crate::tests::deeds::Deed::{Clear, Get, Holds, Post, Read, Take, Write};
+use crate::tests::calls::Answer::{Done, Held, Refused, Tag, Value, Woken};
+use crate::tests::calls::Call::{Clear, Get, Holds, Post, Read, Take, Write};
 use crate::tests::stage::Stage;
 use std::test::Fail;
 use tag_model::Totals;
@@ -12,17 +12,17 @@ fn a_slot_passes_on_with_its_tag(rt: HostRuntime) -> Result<(), Fail> {
     let mut stage = Stage::open(rt.alloc(), 4, options(2))?;
     assert_eq!(rt;
         stage.wrong(&[
-            (Get(0), Tag(0)),
-            (Read(0, 0), Value(FILL)),
-            (Write(0, 0, 7), Value(FILL)),
-            (Read(0, 0), Value(7)),
-            (Write(0, 0, 8), Value(7)),
-            (Post(0, 0), Done),
-            (Take(1, 0), Done),
-            (Take(0, 0), Refused(NotPosted)),
-            (Clear(0, 0), Refused(NotHeld)),
-            (Read(1, 0), Value(8)),
-            (Clear(1, 0), Woken(0)),
+            (0, Get, Tag(0)),
+            (0, Read(0), Value(FILL)),
+            (0, Write(0, 7), Value(FILL)),
+            (0, Read(0), Value(7)),
+            (0, Write(0, 8), Value(7)),
+            (0, Post(0), Done),
+            (1, Take(0), Done),
+            (0, Take(0), Refused(NotPosted)),
+            (0, Clear(0), Refused(NotHeld)),
+            (1, Read(0), Value(8)),
+            (1, Clear(0), Woken(0)),
         ]),
         None
     );
@@ -43,19 +43,19 @@ fn an_agent_tells_what_it_holds(rt: HostRuntime) -> Result<(), Fail> {
     let mut stage = Stage::open(rt.alloc(), 100, options(2))?;
     assert_eq!(rt;
         stage.wrong(&[
-            (Holds(0, 0), Held(false)),
-            (Get(0), Tag(0)),
-            (Get(1), Tag(1)),
-            (Holds(0, 0), Held(true)),
-            (Holds(1, 0), Held(false)),
-            (Holds(1, 1), Held(true)),
-            (Holds(1, 99), Held(false)),
-            (Post(0, 0), Done),
-            (Holds(0, 0), Held(false)),
-            (Take(1, 0), Done),
-            (Holds(1, 0), Held(true)),
-            (Clear(1, 0), Woken(0)),
-            (Holds(1, 0), Held(false)),
+            (0, Holds(0), Held(false)),
+            (0, Get, Tag(0)),
+            (1, Get, Tag(1)),
+            (0, Holds(0), Held(true)),
+            (1, Holds(0), Held(false)),
+            (1, Holds(1), Held(true)),
+            (1, Holds(99), Held(false)),
+            (0, Post(0), Done),
+            (0, Holds(0), Held(false)),
+            (1, Take(0), Done),
+            (1, Holds(0), Held(true)),
+            (1, Clear(0), Woken(0)),
+            (1, Holds(0), Held(false)),
         ]),
         None
     );
@@ -67,16 +67,16 @@ fn a_slot_of_a_tag_that_is_not_held_is_refused(rt: HostRuntime) -> Result<(), Fa
     let mut stage = Stage::open(rt.alloc(), 4, options(2))?;
     assert_eq!(rt;
         stage.wrong(&[
-            (Get(0), Tag(0)),
-            (Read(1, 0), Refused(NotHeld)),
-            (Write(1, 0, 7), Refused(NotHeld)),
-            (Post(1, 0), Refused(NotHeld)),
-            (Take(1, 0), Refused(NotPosted)),
-            (Read(0, 4), Refused(NoSuchTag)),
-            (Write(0, 4, 7), Refused(NoSuchTag)),
-            (Post(0, 4), Refused(NoSuchTag)),
-            (Take(0, 4), Refused(NoSuchTag)),
-            (Read(0, 0), Value(FILL)),
+            (0, Get, Tag(0)),
+            (1, Read(0), Refused(NotHeld)),
+            (1, Write(0, 7), Refused(NotHeld)),
+            (1, Post(0), Refused(NotHeld)),
+            (1, Take(0), Refused(NotPosted)),
+            (0, Read(4), Refused(NoSuchTag)),
+            (0, Write(4, 7), Refused(NoSuchTag)),
+            (0, Post(4), Refused(NoSuchTag)),
+            (0, Take(4), Refused(NoSuchTag)),
+            (0, Read(0), Value(FILL)),
         ]),
         None
     );
@@ -88,10 +88,10 @@ fn a_posted_tag_that_nobody_takes_is_counted_as_posted(rt: HostRuntime) -> Resul
     let mut stage = Stage::open(rt.alloc(), 4, options(2))?;
     assert_eq!(rt;
         stage.wrong(&[
-            (Get(0), Tag(0)),
-            (Get(1), Tag(1)),
-            (Post(0, 0), Done),
-            (Read(0, 0), Refused(NotHeld)),
+            (0, Get, Tag(0)),
+            (1, Get, Tag(1)),
+            (0, Post(0), Done),
+            (0, Read(0), Refused(NotHeld)),
         ]),
         None
     );

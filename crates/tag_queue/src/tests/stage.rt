@@ -5,8 +5,8 @@ ghost use Rattle.tag_queue.specs.Agents.{IsAgentOf};
 use crate::agent::Agent;
 use crate::fault::TagFault;
 use crate::queue::{Options, Queue};
-use crate::tests::agents::{FILL, has, look_at};
-use crate::waits::Wakes;
+use crate::tests::agents::FILL;
+use crate::tests::calls::{Answer, Call};
 use std::alloc::Global;
 use std::sync::Wait;
 use std::test::Fail;
@@ -48,45 +48,15 @@ impl Stage {
         Some(self.agents.get(at)?.number())
     }
 
-    /// Has the agent begin in its own part, where there is such an agent.
-    pub(crate) fn place(&mut self, at: usize) {
-        if let Some(agent) = self.agents.get_mut(at) {
-            self.queue.place(agent);
-        }
-    }
-
-    pub(crate) fn get(&mut self, at: usize) -> Result<Option<u32>, TagFault> {
-        let Some(agent) = self.agents.get_mut(at) else {
-            return Err(NOBODY);
-        };
-        self.queue.get(agent)
-    }
-
     /// How many of so many gets won a tag.
-    pub(crate) fn gets(&mut self, at: usize, count: u32) -> Result<u32, TagFault> {
+    pub(crate) fn gets(&mut self, at: usize, count: u32) -> u32 {
         let mut won = 0u32;
         for _ in 0..count {
-            won = won.wrapping_add(self.get(at)?.is_some() as u32);
+            if let Some(Answer::Tag(_)) = self.act(at, Call::Get) {
+                won = won.wrapping_add(1);
+            }
         }
-        Ok(won)
-    }
-
-    pub(crate) fn get_shallow(&mut self, at: usize, depth: u32) -> Result<Option<u32>, TagFault> {
-        let Some(agent) = self.agents.get_mut(at) else {
-            return Err(NOBODY);
-        };
-        self.queue.get_shallow(agent, depth)
-    }
-
-    pub(crate) fn get_batch(
-        &mut self,
-        at: usize,
-        count: u32,
-    ) -> Result<Option<(u32, u64)>, TagFault> {
-        let Some(agent) = self.agents.get_mut(at) else {
-            return Err(NOBODY);
-        };
-        self.queue.get_batch(agent, count)
+        won
     }
 
     pub(crate) fn get_blocking<W: Wait>(&mut self, rt: &W, at: usize) -> Result<u32, TagFault> {
@@ -96,20 +66,6 @@ impl Stage {
         self.queue.get_blocking(rt, agent)
     }
 
-    pub(crate) fn clear(&mut self, at: usize, tag: u32) -> Result<u32, TagFault> {
-        let Some(agent) = self.agents.get_mut(at) else {
-            return Err(NOBODY);
-        };
-        self.queue.clear(agent, tag)
-    }
-
-    pub(crate) fn clear_uncounted(&mut self, at: usize, tag: u32) -> Result<(), TagFault> {
-        let Some(agent) = self.agents.get_mut(at) else {
-            return Err(NOBODY);
-        };
-        self.queue.clear_uncounted(agent, tag)
-    }
-
     pub(crate) fn clear_batch(&mut self, at: usize, tags: &[u32]) -> Result<u32, TagFault> {
         let Some(agent) = self.agents.get_mut(at) else {
             return Err(NOBODY);
@@ -117,62 +73,10 @@ impl Stage {
         self.queue.clear_batch(agent, tags)
     }
 
-    pub(crate) fn read(&mut self, at: usize, tag: u32) -> Result<u64, TagFault> {
-        let Some(agent) = self.agents.get_mut(at) else {
-            return Err(NOBODY);
-        };
-        self.queue.read(agent, tag)
-    }
-
-    /// The former value is answered.
-    pub(crate) fn write(&mut self, at: usize, tag: u32, value: u64) -> Result<u64, TagFault> {
-        let Some(agent) = self.agents.get_mut(at) else {
-            return Err(NOBODY);
-        };
-        self.queue.write(agent, tag, value)
-    }
-
-    pub(crate) fn post(&mut self, at: usize, tag: u32) -> Result<(), TagFault> {
-        let Some(agent) = self.agents.get_mut(at) else {
-            return Err(NOBODY);
-        };
-        self.queue.post(agent, tag)
-    }
-
-    pub(crate) fn take(&mut self, at: usize, tag: u32) -> Result<(), TagFault> {
-        let Some(agent) = self.agents.get_mut(at) else {
-            return Err(NOBODY);
-        };
-        self.queue.take(agent, tag)
-    }
-
-    pub(crate) fn prepare_wait(&mut self, at: usize) -> Result<u32, TagFault> {
-        let Some(agent) = self.agents.get_mut(at) else {
-            return Err(NOBODY);
-        };
-        self.queue.prepare_wait(agent)
-    }
-
     pub(crate) fn finish_wait<W: Wait>(&mut self, rt: &W, at: usize) -> Result<Left, TagFault> {
         let Some(agent) = self.agents.get_mut(at) else {
             return Err(NOBODY);
         };
         self.queue.finish_wait(rt, agent)
-    }
-
-    pub(crate) fn wakes(&mut self, at: usize) -> Option<Wakes> {
-        Some(self.queue.wakes(self.agents.get_mut(at)?))
-    }
-
-    /// The word and its cleared set: 1 is taken, and 1 is set aside. None where there is no such word.
-    pub(crate) fn look(&mut self, at: usize, word: u32) -> Option<(u64, u64)> {
-        look_at(&self.queue, self.agents.get_mut(at)?, word)
-    }
-
-    pub(crate) fn holds(&self, at: usize, tag: u32) -> bool {
-        match self.agents.get(at) {
-            Some(agent) => has(&self.queue, agent, tag),
-            None => false,
-        }
     }
 }

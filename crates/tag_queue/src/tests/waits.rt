@@ -3,8 +3,8 @@ use crate::fault::TagFault::{NoSuchTag, NotWaiting, Waiting};
 use crate::gather::QueueTotals;
 use crate::queue::Options;
 use crate::tests::agents::options;
-use crate::tests::deeds::Answer::{Found, Group, Refused, Tag, Woken};
-use crate::tests::deeds::Deed::{Clear, Get, PrepareWait, Wakes};
+use crate::tests::calls::Answer::{Found, Group, Refused, Tag, Woken};
+use crate::tests::calls::Call::{Clear, Get, PrepareWait, Wakes};
 use crate::tests::stage::Stage;
 use std::test::Fail;
 use tag_model::Totals;
@@ -15,13 +15,13 @@ fn a_batch_of_completions_wakes_a_waiter(rt: HostRuntime) -> Result<(), Fail> {
     let mut stage = Stage::open(rt.alloc(), 16, options(2))?;
     assert_eq!(rt;
         stage.wrong(&[
-            (Get(0), Tag(0)),
-            (Get(0), Tag(1)),
-            (Get(0), Tag(2)),
-            (Clear(0, 0), Woken(0)),
-            (PrepareWait(1), Group(0)),
-            (Clear(0, 1), Woken(0)),
-            (Clear(0, 2), Woken(1)),
+            (0, Get, Tag(0)),
+            (0, Get, Tag(1)),
+            (0, Get, Tag(2)),
+            (0, Clear(0), Woken(0)),
+            (1, PrepareWait, Group(0)),
+            (0, Clear(1), Woken(0)),
+            (0, Clear(2), Woken(1)),
         ]),
         None
     );
@@ -60,16 +60,16 @@ fn a_clear_past_the_cap_wakes_nobody(rt: HostRuntime) -> Result<(), Fail> {
     let mut stage = Stage::open(rt.alloc(), 8, capped)?;
     assert_eq!(rt;
         stage.wrong(&[
-            (Get(0), Tag(0)),
-            (Get(0), Tag(1)),
-            (PrepareWait(1), Group(0)),
-            (Clear(0, 0), Woken(1)),
+            (0, Get, Tag(0)),
+            (0, Get, Tag(1)),
+            (1, PrepareWait, Group(0)),
+            (0, Clear(0), Woken(1)),
         ]),
         None
     );
     assert_eq!(rt; stage.finish_wait(&rt, 1), Ok(Left::Woken));
     assert_eq!(rt;
-        stage.wrong(&[(PrepareWait(1), Group(1)), (Clear(0, 1), Woken(0))]),
+        stage.wrong(&[(1, PrepareWait, Group(1)), (0, Clear(1), Woken(0))]),
         None
     );
     assert_eq!(rt; stage.finish_wait(&rt, 1), Ok(Left::Unwoken));
@@ -106,20 +106,20 @@ fn a_wait_is_refused_to_who_stands_and_its_end_to_who_does_not(
     assert_eq!(rt; stage.finish_wait(&rt, 1), Err(NotWaiting));
     assert_eq!(rt;
         stage.wrong(&[
-            (Get(0), Tag(0)),
-            (PrepareWait(1), Group(0)),
-            (PrepareWait(1), Refused(Waiting)),
+            (0, Get, Tag(0)),
+            (1, PrepareWait, Group(0)),
+            (1, PrepareWait, Refused(Waiting)),
         ]),
         None
     );
     assert_eq!(rt; stage.get_blocking(&rt, 1), Err(Waiting));
     assert_eq!(rt;
-        stage.wrong(&[(Clear(0, 0), Woken(1)), (Wakes(0), Found(1, 1, 1, 1))]),
+        stage.wrong(&[(0, Clear(0), Woken(1)), (0, Wakes, Found(1, 1, 1, 1))]),
         None
     );
     assert_eq!(rt; stage.finish_wait(&rt, 1), Ok(Left::Woken));
     assert_eq!(rt; stage.finish_wait(&rt, 1), Err(NotWaiting));
-    assert_eq!(rt; stage.wrong(&[(Wakes(1), Found(1, 1, 1, 0))]), None);
+    assert_eq!(rt; stage.wrong(&[(1, Wakes, Found(1, 1, 1, 0))]), None);
     Ok(())
 }
 
@@ -131,7 +131,7 @@ fn a_blocking_get_of_a_free_tag_does_not_wait(rt: HostRuntime) -> Result<(), Fai
     assert_eq!(rt; stage.get_blocking(&rt, 0), Ok(0));
     // The next wait is the first: none was begun.
     assert_eq!(rt;
-        stage.wrong(&[(Clear(0, 0), Woken(0)), (PrepareWait(0), Group(0))]),
+        stage.wrong(&[(0, Clear(0), Woken(0)), (0, PrepareWait, Group(0))]),
         None
     );
     Ok(())

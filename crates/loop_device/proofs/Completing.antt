@@ -1,0 +1,69 @@
+-- A tag that is taken, read and cleared leaves the hand's tags as they were.
+use Rattle.std.proofs.Common.{◌≡◌, ℕ, ◌≤◌, ◌↔◌, inl, inr, ⊎_elim, List, Result, Ok, Err, IfOk, IfErr, refl, sym, ap, ◌∙◌, subst, arith}
+use Rattle.tag_queue.specs.declared.fault.TagFault.{TagFault}
+use Rattle.tag_queue.specs.declared.fault.TagFault.TheVariants.{NoSuchTag, NotPosted}
+use Rattle.tag_sets.specs.declared.hand.Hand.{Hand}
+use Rattle.tag_sets.specs.declared.tags.Tags.{Tags}
+use Rattle.tag_sets.specs.Hands.{total_of}
+use Rattle.tag_sets.specs.Holding.{HoldsSame}
+use Rattle.tag_sets.specs.Slots.{Takes, Misses, RefusesTake}
+use Rattle.loop_device.specs.declared.io.Io.{Io}
+use Rattle.loop_device.specs.declared.fault.PlayFault.{PlayFault}
+use Rattle.loop_device.specs.declared.fault.PlayFault.TheVariants.{Stranger}
+use Rattle.loop_device.specs.Requests.{Ends, EndsWithout, Completes, IsRequestFault}
+
+module _ (tags : Tags ℕ) (tag : ℕ) (old taken new : Hand ℕ) (takes : Takes tag old taken) where
+  same_tags : (line : ℕ) → Ends tags tag line taken new → HoldsSame old new
+  same_tags line ends = record {
+    kept = λ other held.
+        let was = takes.more.kept other held in
+        let read = ends.reads.same.kept other was.0 in
+        let apart : other ≡ tag → ⊥ = λ is. takes.more.fresh other is held in
+        let left = ends.clears.less.kept other apart read.0 in
+        (left.0, left.1 ∙ read.1 ∙ was.1);
+    none_else = λ other held.
+        let read = ends.clears.less.none_else other held in
+        ⊎_elim (λ was. was) (λ is. absurd (ends.clears.less.gone other is held))
+        (takes.more.none_else other (ends.reads.same.none_else other read));
+  }
+
+  -- whatever became of the line
+  pub held : (ios : List Io) (r : Result ℕ PlayFault) → IfOk r (λ line. Ends tags tag line taken new)
+      → IfErr r (λ fault. EndsWithout tags ios tag fault taken new) → HoldsSame old new
+  held ios (Ok line) ends without = same_tags line ends
+  held ios (Err fault) ends without = same_tags without.line without.ends
+
+  pub completed : (r : Result ℕ PlayFault) → IfOk r (λ line. Ends tags tag line taken new)
+      → IfOk r (λ line. Completes tags tag line old new)
+  completed (Ok line) ends = record { taken = taken; takes = takes; ends = ends }
+  completed (Err fault) ends = tt
+
+  pub told : (ios : List Io) (r : Result ℕ PlayFault) → IfErr r (λ fault. EndsWithout tags ios tag fault taken new)
+      → IfErr r (λ fault. IsRequestFault tags ios tag fault old new)
+  told ios (Ok line) without = tt
+  told ios (Err fault) without = inr record {
+    line = without.line;
+    tells = without.tells;
+    completes = record { taken = taken; takes = takes; ends = without.ends };
+  }
+
+module _ (tags : Tags ℕ) (tag : ℕ) (old new : Hand ℕ) where
+  pub held_back : (fault : TagFault) → RefusesTake tag fault old new → HoldsSame old new
+  held_back fault refuses = ⊎_elim
+      (λ (no : (fault ≡ NoSuchTag) × (new ≡ old)). subst (λ hand. HoldsSame old hand) (sym no.1) record {
+        kept = λ other held. (held, refl);
+        none_else = λ other held. held;
+      })
+      (λ missed. missed.1.same) refuses
+
+  -- a refused take tells which of the two it was
+  pub told_back : {A : Type 0} (ios : List Io) (r : Result A TagFault) (fault : TagFault) → r ≡ Err fault
+      → (r ≡ Err NoSuchTag) ↔ (total_of tags ≤ tag) → RefusesTake tag fault old new
+      → IsRequestFault tags ios tag Stranger old new
+  told_back ios r fault is known refuses = inl (
+    refl,
+    ⊎_elim (λ (no : (fault ≡ NoSuchTag) × (new ≡ old)). inl (known.0 (is ∙ ap Err no.0), no.1))
+        (λ (missed : (fault ≡ NotPosted) × Misses tag old new).
+        let among : total_of tags ≤ tag → ⊥ = λ beyond. let same = known.1 beyond in let posted = missed.0 in cc in
+        inr (omega (arith, among), missed.1)) refuses,
+  )

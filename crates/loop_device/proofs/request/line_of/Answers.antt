@@ -1,0 +1,25 @@
+-- The line stands where the search found its number, and nowhere where the search found none.
+use Rattle.std.proofs.Common.{rules, Err, sym, subst}
+use Rattle.std.specs.List.Sorted.{IsBinarySearchResult}
+use Rattle.std.specs.Ordering.{nat_cmp}
+use Rattle.std.proofs.lemmas.Cmp.{ranked}
+use Rattle.std.proofs.lemmas.List.Elements.{Contains-get_or}
+use Rattle.std.proofs.lemmas.List.Sorted.{answers_always}
+use Rattle.loop_device.specs.declared.io.Io.{Io}
+use Rattle.loop_device.proofs.Places.{absent_between}
+use Rattle.loop_device.proofs.request.line_of.Goals as goal
+
+pub returns-in-Ok-clause-found : goal.returns-in-Ok-clause-found
+returns-in-Ok-clause-found c =
+    let by_line = c.in-Ok.ensures.position (λ found. found.line) (answers_always _ _ _ (λ f a r g called. search
+    rules)) in
+    (Contains-get_or c.args.ios.now c.in-Ok.place _ (search rules), ranked _ _ _ (sym (by_line _)))
+
+pub returns-in-Err-clause-absent : goal.returns-in-Err-clause-absent
+returns-in-Err-clause-absent c none has =
+    let ios = c.args.ios.now in
+    let gap = c.in-Err.field-0 in
+    let parted : IsBinarySearchResult (λ (found : Io). nat_cmp found.line c.args.line) ios (Err gap) =
+    c.in-Err.ensures.position (λ found. found.line) (answers_always _ _ _ (λ f a r g called. search rules)) in
+    absent_between ios c.requires has.0 gap
+    (subst (λ line. IsBinarySearchResult (λ (found : Io). nat_cmp found.line line) ios (Err gap)) (sym has.2) parted) has.1

@@ -1,0 +1,19 @@
+-- The hands that are left are the tags' own, the threads that run promise theirs, and there is room for as many more.
+use Rattle.std.proofs.Common.{All, ◌+◌, ◌≤◌, vec_len, vec_capacity}
+use Rattle.std.specs.Vec.Iter.{into_iter_items, into_iter_len}
+use Rattle.crossbeam_queue.specs.Passes.{IsPassOf}
+use Rattle.tag_sets.specs.Hands.{IsHandOf}
+use Rattle.loop_device.specs.Playing.{Promises}
+use Rattle.loop_device.proofs.threads.start_all.Given as goal
+
+abbrev pub invariant-loop-hand : goal.invariant-loop-hand
+invariant-loop-hand g l = record {
+  steps : (goal.iterator-loop-hand g).can_next l.hand-iterator × (goal.iterator-loop-hand g).is_finite l.hand-iterator;
+  rest : All (IsHandOf l.shared.tags.now) (into_iter_items l.hand-iterator);
+  pass : IsPassOf l.shared.queue.now l.pass;
+  completers : All (Promises l.shared.tags.now) l.completers.items;
+  submitters : All (Promises l.shared.tags.now) l.submitters.items;
+  room : (vec_len l.completers + into_iter_len l.hand-iterator ≤ vec_capacity l.completers)
+      × (vec_len l.submitters + into_iter_len l.hand-iterator ≤ vec_capacity l.submitters);
+  len : vec_len l.completers + vec_len l.submitters + into_iter_len l.hand-iterator ≤ l.count;
+}

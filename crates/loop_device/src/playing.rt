@@ -1,0 +1,180 @@
+//! A log played: carried out by threads that share tags.
+ghost use Rattle.std.specs.Prelude.{◌≡◌, ◌≢◌, ◌+◌, ◌<◌, ◌↔◌, All, length, IfOk, IfErr};
+ghost use Rattle.crossbeam_queue.specs.Passes.{IsPassOf};
+ghost use Rattle.tag_sets.specs.Hands.{IsHandOf, total_of};
+ghost use Rattle.loop_device.specs.History.{IsHistory};
+ghost use Rattle.loop_device.specs.Playing.{IsPlayed};
+ghost use Rattle.loop_device.specs.Setups.{IsLegal};
+
+use crate::device_queue::{DeviceQueue, Tagged, Worker};
+use crate::fault::PlayFault;
+use crate::gate::Gate;
+use crate::io::{Done, Log};
+use crate::judging::verdict;
+use crate::report::Report;
+use crate::setup::Setup;
+use crate::store::Store;
+use crate::threads::carry_by_threads;
+use crate::workers::{Faults, Shared};
+use crossbeam_queue::Pass;
+use std::alloc::{AllocError, Global};
+use std::marker::Brand;
+use std::sync::atomic::AtomicBool;
+use std::sync::{Mutex, Wait};
+use std::thread;
+use std::thread::Threads;
+use tag_model::Totals;
+use tag_sets::{Hand, Options, Tags};
+
+/// Carries each I/O line of the log out once, by threads that share tags, and joins them all. `Setup` is told before anything
+/// runs. Of the other faults the first is told, in the order Memory, Stranger, Twice, Lost. Memory also tells that a thread
+/// could not be started, and Stranger that the totals of the tags are not one tag taken and given back for each line.
+pub fn play<G: Gate, R: Threads + Wait + Sync>(
+    rt: &R,
+    alloc: Global,
+    log: &Log,
+    setup: Setup,
+    gate: &G,
+) -> Result<Report, PlayFault>
+    ensures ok { IfOk result (IsPlayed log.now.ios.items) }
+    ensures setup { (result ≡ Err PlayFault.Setup) ↔ ¬ (IsLegal setup) }
+{
+    if !setup.is_legal() {
+        return Err(PlayFault::Setup);
+    }
+    let options = Options {
+        shift: setup.shift,
+        round_robin: false,
+        min_shallow: None,
+        callers: setup.submitters + setup.completers,
+        life: 1 << 48,
+        cap: 1 << 56,
+    };
+    // A legal setup is refused for want of memory alone.
+    let Ok((tags, hands)) = Tags::open(alloc, setup.total, setup.reserved, options, 0u64) else {
+        return Err(PlayFault::Memory);
+    };
+    play_under::<Brand, G, R>(rt, alloc, log, setup, gate, tags, hands)
+}
+
+// Plays under these tags.
+fn play_under<B: Tagged + Send + Sync, G: Gate, R: Threads + Wait + Sync>(
+    rt: &R,
+    alloc: Global,
+    log: &Log,
+    setup: Setup,
+    gate: &G,
+    tags: Tags<u64>,
+    hands: Vec<Hand<u64>>,
+) -> Result<Report, PlayFault>
+    requires total { total_of tags ≡ B.total }
+    requires hands { All (IsHandOf tags) hands.items }
+    requires count { length hands.items ≡ setup.submitters + setup.completers }
+    requires setup { IsLegal setup }
+    ensures ok { IfOk result (IsPlayed log.now.ios.items) }
+    ensures fault { IfErr result (λ fault. fault ≢ PlayFault.Setup) }
+{
+    let Ok((queue, pass)) = DeviceQueue::<B>::ruled(alloc, setup.queue as usize) else {
+        return Err(PlayFault::Memory);
+    };
+    let store = Mutex::new(Store::open(alloc));
+    let stopped = AtomicBool::new(false);
+    let closed = AtomicBool::new(false);
+    let shared = Shared {
+        log,
+        gate,
+        tags: &tags,
+        queue: &queue,
+        store: &store,
+        stopped: &stopped,
+        closed: &closed,
+    };
+    let carried = carry_in_scope(rt, alloc, &shared, hands, pass, setup.completers as usize);
+    let Ok((hands, faults)) = carried else {
+        return Err(PlayFault::Memory);
+    };
+    let done = store.into_inner().into_history();
+    // A hand is missing only where its thread could not be started.
+    let Ok(totals) = Tags::gather(tags, hands) else {
+        return Err(PlayFault::Memory);
+    };
+    judge(alloc, log, totals.tags, done, faults)
+}
+
+// Carries the log out by threads that all have ended as it returns.
+fn carry_in_scope<B: Tagged + Send + Sync, G: Gate, R: Threads + Wait + Sync>(
+    rt: &R,
+    alloc: Global,
+    shared: &Shared<'_, B, G>,
+    hands: Vec<Hand<u64>>,
+    pass: Pass<u32, Worker>,
+    wanted: usize,
+) -> Result<(Vec<Hand<u64>>, Faults), AllocError>
+    requires hands { All (IsHandOf shared.now.tags.now) hands.items }
+    requires pass { IsPassOf shared.now.queue.now pass }
+    requires total { total_of shared.now.tags.now ≡ B.total }
+    requires wanted { wanted < length hands.items }
+    ensures { IfOk result (λ back. All (IsHandOf shared.now.tags.now) back.0.items) }
+{
+    let Shared {
+        log,
+        gate,
+        tags,
+        queue,
+        store,
+        stopped,
+        closed,
+    } = *shared;
+    thread::scope(
+        thread::scope_env(),
+        rt,
+        |scope| -> Result<(Vec<Hand<u64>>, Faults), AllocError>
+            requires { All (IsHandOf tags.now) hands.items × IsPassOf queue.now pass × (total_of tags.now ≡ B.total) × (wanted < length hands.items) }
+            ensures { IfOk result (λ back. All (IsHandOf tags.entry.now) back.0.items) }
+        {
+            let shared = Shared {
+                log,
+                gate,
+                tags,
+                queue,
+                store,
+                stopped,
+                closed,
+            };
+            carry_by_threads(scope, rt, alloc, &shared, hands, pass, wanted)
+        },
+    )
+}
+
+// What the play tells, after the joins.
+fn judge(
+    alloc: Global,
+    log: &Log,
+    totals: Totals,
+    done: Vec<Done>,
+    faults: Faults,
+) -> Result<Report, PlayFault>
+    requires { IsHistory done.items }
+    ensures ok { IfOk result (IsPlayed log.now.ios.items) }
+    ensures fault { IfErr result (λ fault. fault ≢ PlayFault.Setup) }
+{
+    let judged = verdict(alloc, log, done.as_slice());
+    if faults.memory || judged == Err(PlayFault::Memory) {
+        return Err(PlayFault::Memory);
+    }
+    if faults.stranger {
+        return Err(PlayFault::Stranger);
+    }
+    judged?;
+    let count = log.ios.len() as u64;
+    let played = Totals {
+        got: count,
+        back: count,
+        held: 0,
+        posted: 0,
+    };
+    if totals != played {
+        return Err(PlayFault::Stranger);
+    }
+    Ok(Report { totals, done })
+}

@@ -1,0 +1,104 @@
+//! One request completed.
+ghost use Rattle.std.specs.Prelude.{◌≡◌, IfOk, IfErr, IfSome, IsNone, OnOk};
+ghost use Rattle.std.specs.List.{Contains};
+ghost use Rattle.tag_sets.specs.Hands.{IsHandOf, Holds};
+ghost use Rattle.tag_sets.specs.Holding.{HoldsSame};
+ghost use Rattle.loop_device.specs.Lines.{LinesAscend};
+ghost use Rattle.loop_device.specs.Requests.{IsLineOf, Completes, Ends, EndsWithout, IsCarryFault, IsRequestFault};
+
+use crate::fault::PlayFault;
+use crate::gate::Gate;
+use crate::io::{Io, Log};
+use crate::store::Store;
+use std::sync::{Mutex, Wait};
+use tag_sets::{Hand, Tags};
+
+/// Completes the request of a posted tag: takes the tag, carries the line in its slot out and clears the tag. It returns
+/// the line. `Stranger` tells that there is no such tag, that it was found not posted (a step in the hand's list), or that
+/// the log has no I/O line of the number in its slot; `Memory`, that the store had no memory for the line. A tag that was
+/// taken is cleared whatever became of its line. No clause says what the store holds.
+pub fn complete<G: Gate, W: Wait>(
+    rt: &W,
+    tags: &Tags<u64>,
+    hand: &mut Hand<u64>,
+    tag: u32,
+    log: &Log,
+    store: &Mutex<Store>,
+    gate: &G,
+) -> Result<u64, PlayFault>
+    requires hand { IsHandOf tags.now hand.old }
+    ensures hand { IsHandOf tags.now hand.new }
+    ensures held { HoldsSame hand.old hand.new }
+    ensures line { IfOk result (IsLineOf log.now.ios.items) }
+    ensures ok { IfOk result (λ line. Completes tags.now tag line hand.old hand.new) }
+    ensures fault { IfErr result (λ fault. IsRequestFault tags.now log.now.ios.items tag fault hand.old hand.new) }
+{
+    let Ok(()) = tags.take(hand, tag) else {
+        return Err(PlayFault::Stranger);
+    };
+    finish(rt, tags, hand, tag, log, store, gate)
+}
+
+/// Carries out the line in the slot of a tag that the hand holds, and clears the tag, whatever became of the line.
+pub(crate) fn finish<G: Gate, W: Wait>(
+    rt: &W,
+    tags: &Tags<u64>,
+    hand: &mut Hand<u64>,
+    tag: u32,
+    log: &Log,
+    store: &Mutex<Store>,
+    gate: &G,
+) -> Result<u64, PlayFault>
+    requires hand { IsHandOf tags.now hand.old }
+    requires held { Holds hand.old tag }
+    ensures hand { IsHandOf tags.now hand.new }
+    ensures line { IfOk result (IsLineOf log.now.ios.items) }
+    ensures ok { IfOk result (λ line. Ends tags.now tag line hand.old hand.new) }
+    ensures fault { IfErr result (λ fault. EndsWithout tags.now log.now.ios.items tag fault hand.old hand.new) }
+{
+    let Ok(line) = tags.read(hand, tag) else {
+        unreachable!()
+    };
+    let carried = carry_out(rt, line, log, store, gate);
+    let Ok(_woken) = tags.clear(hand, tag) else {
+        unreachable!()
+    };
+    match carried {
+        Ok(()) => Ok(line),
+        Err(fault) => Err(fault),
+    }
+}
+
+// Carries the line of this number out, under the store's lock.
+fn carry_out<G: Gate, W: Wait>(
+    rt: &W,
+    line: u64,
+    log: &Log,
+    store: &Mutex<Store>,
+    gate: &G,
+) -> Result<(), PlayFault>
+    ensures ok { OnOk result (IsLineOf log.now.ios.items line) }
+    ensures fault { IfErr result (IsCarryFault log.now.ios.items line) }
+{
+    let Some(io) = line_of(&log.ios, line) else {
+        return Err(PlayFault::Stranger);
+    };
+    gate.before_complete(line);
+    let mut store = store.lock(rt);
+    match store.carry(&io) {
+        Ok(_) => Ok(()),
+        Err(_) => Err(PlayFault::Memory),
+    }
+}
+
+// The I/O line of this number.
+fn line_of(ios: &[Io], line: u64) -> Option<Io>
+    requires { LinesAscend ios.now }
+    ensures found { IfSome result (λ io. Contains ios.now io × (io.line ≡ line)) }
+    ensures absent { IsNone result → ¬ (IsLineOf ios.now line) }
+{
+    match ios.binary_search_by_key(&line, |io| io.line) {
+        Ok(place) => Some(ios[place]),
+        Err(_) => None,
+    }
+}

@@ -1,0 +1,92 @@
+//! Requests that are completed one at a time.
+ghost use Rattle.std.specs.Prelude.{IfOk};
+ghost use Rattle.tag_sets.specs.Hands.{IsHandOf};
+
+use crate::tests::small_log;
+use crate::{Gate, PlayFault, Store, complete};
+use std::alloc::Global;
+use std::sync::Mutex;
+use std::sync::atomic::AtomicU64;
+use std::sync::atomic::Ordering::SeqCst;
+use std::test::Fail;
+use tag_sets::{Hand, Options, Tags};
+
+// Records the line that was about to be carried out last.
+#[derive(Drop)]
+struct Recorder {
+    completed: AtomicU64,
+}
+
+impl Gate for Recorder {
+    fn after_submit(&self, _line: u64) {}
+
+    fn before_complete(&self, line: u64) {
+        self.completed.store(line, SeqCst);
+    }
+}
+
+// Four ordinary tags with one hand.
+fn opened(alloc: Global) -> Result<(Tags<u64>, Hand<u64>), Fail>
+    ensures { IfOk result (λ opened. IsHandOf opened.0 opened.1) }
+{
+    let options = Options {
+        shift: None,
+        round_robin: false,
+        min_shallow: None,
+        callers: 1,
+        life: 1 << 48,
+        cap: 1 << 56,
+    };
+    let Ok((tags, mut hands)) = Tags::open(alloc, 4, 0, options, 0u64) else {
+        return Err(Fail::new("no tags were opened"));
+    };
+    let Some(hand) = hands.pop() else {
+        return Err(Fail::new("no hand"));
+    };
+    Ok((tags, hand))
+}
+
+#[test]
+fn a_posted_tag_is_completed_once(rt: HostRuntime) -> Result<(), Fail> {
+    let log = small_log(rt.alloc())?;
+    let store = Mutex::new(Store::open(rt.alloc()));
+    let gate = Recorder {
+        completed: AtomicU64::new(0),
+    };
+    let (tags, mut hand) = opened(rt.alloc())?;
+    assert_eq!(rt; tags.get(&mut hand), Ok(Some(0)));
+    assert_eq!(rt; tags.write(&mut hand, 0, 4), Ok(0));
+    assert_eq!(rt; tags.post(&mut hand, 0), Ok(()));
+    assert_eq!(rt;
+        complete(&rt, &tags, &mut hand, 0, &log, &store, &gate),
+        Ok(4)
+    );
+    assert_eq!(rt; gate.completed.load(SeqCst), 4);
+    assert_eq!(rt; store.lock(&rt).history().len(), 1);
+    let again = complete(&rt, &tags, &mut hand, 0, &log, &store, &gate);
+    assert_eq!(rt; again, Err(PlayFault::Stranger));
+    let beyond = complete(&rt, &tags, &mut hand, 4, &log, &store, &gate);
+    assert_eq!(rt; beyond, Err(PlayFault::Stranger));
+    assert_eq!(rt; store.lock(&rt).history().len(), 1);
+    Ok(())
+}
+
+#[test]
+fn a_slot_without_an_io_line_is_a_stranger(rt: HostRuntime) -> Result<(), Fail> {
+    let log = small_log(rt.alloc())?;
+    let store = Mutex::new(Store::open(rt.alloc()));
+    let gate = Recorder {
+        completed: AtomicU64::new(0),
+    };
+    let (tags, mut hand) = opened(rt.alloc())?;
+    assert_eq!(rt; tags.get(&mut hand), Ok(Some(0)));
+    assert_eq!(rt; tags.write(&mut hand, 0, 3), Ok(0));
+    assert_eq!(rt; tags.post(&mut hand, 0), Ok(()));
+    let done = complete(&rt, &tags, &mut hand, 0, &log, &store, &gate);
+    assert_eq!(rt; done, Err(PlayFault::Stranger));
+    assert_eq!(rt; gate.completed.load(SeqCst), 0);
+    assert_eq!(rt; store.lock(&rt).history().len(), 0);
+    // The tag was cleared, so it can't be cleared again.
+    assert!(rt; tags.clear(&mut hand, 0).is_err());
+    Ok(())
+}

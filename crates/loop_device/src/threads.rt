@@ -1,0 +1,247 @@
+//! The threads of a play: how they are started and joined.
+ghost use Rattle.std.specs.Prelude.{◌≡◌, ◌+◌, ◌<◌, ◌≤◌, All, true, vec_len, vec_capacity, IfOk, []};
+ghost use Rattle.crossbeam_queue.specs.Passes.{view, IsPassOf};
+ghost use Rattle.tag_sets.specs.Hands.{IsHandOf, total_of};
+ghost use Rattle.loop_device.specs.Playing.{Promises};
+
+use crate::device_queue::{Completer, Submitter, Tagged, Worker};
+use crate::gate::Gate;
+use crate::workers::{Faults, Shared, Worked, complete_all, submit_all};
+use crossbeam_queue::Pass;
+use std::alloc::{AllocError, Global};
+use std::sync::Wait;
+use std::sync::atomic::Ordering::SeqCst;
+use std::thread::{Promise, PromisedHandle, Scope, Threads};
+use tag_sets::{Hand, Tags};
+
+/// The promise of a thread to hand back a hand of these tags.
+#[derive(Clone, Copy)]
+pub(crate) struct HandsBack<'a>(&'a Tags<u64>);
+
+impl<'a> Promise<Worked> for HandsBack<'a> {
+    ghost use Rattle.tag_sets.specs.Hands.{IsHandOf};
+
+    ghost kept_by = { λ p worked. IsHandOf p.0.now worked.hand };
+}
+
+type Handle<'s> = PromisedHandle<Worked, HandsBack<'s>>;
+
+/// Carries the log out: so many of the hands complete, and the others submit, each in a thread of its own. It returns the
+/// hands that came back, which are all but those of threads that could not be started.
+pub(crate) fn carry_by_threads<'s, E, B: Tagged + Send + Sync, G: Gate, R: Threads + Wait + Sync>(
+    scope: &Scope<'s, E>,
+    rt: &'s R,
+    alloc: Global,
+    shared: &Shared<'s, B, G>,
+    hands: Vec<Hand<u64>>,
+    mut pass: Pass<u32, Worker>,
+    wanted: usize,
+) -> Result<(Vec<Hand<u64>>, Faults), AllocError>
+    requires hands { All (IsHandOf shared.now.tags.now) hands.items }
+    requires pass { IsPassOf shared.now.queue.now pass }
+    requires total { total_of shared.now.tags.now ≡ B.total }
+    requires wanted { wanted < vec_len hands }
+    ensures { IfOk result (λ back. All (IsHandOf shared.now.tags.now) back.0.items) }
+{
+    let count = hands.len();
+    let mut completers = Vec::with_capacity(alloc, count)?;
+    let mut submitters = Vec::with_capacity(alloc, count)?;
+    let mut back = Vec::with_capacity(alloc, count)?;
+    let mut faults = Faults::none();
+    if !start_all(
+        scope,
+        rt,
+        shared,
+        hands,
+        pass,
+        wanted,
+        &mut completers,
+        &mut submitters,
+    ) {
+        faults.memory = true;
+        shared.stopped.store(true, SeqCst);
+    }
+    join_all(rt, shared.tags, submitters, &mut back, &mut faults);
+    shared.closed.store(true, SeqCst);
+    join_all(rt, shared.tags, completers, &mut back, &mut faults);
+    Ok((back, faults))
+}
+
+// Starts the completers and then the submitters, and stops at the first that can't be started. It tells whether all were.
+fn start_all<'s, E, B: Tagged + Send + Sync, G: Gate, R: Wait + Sync>(
+    scope: &Scope<'s, E>,
+    rt: &'s R,
+    shared: &Shared<'s, B, G>,
+    hands: Vec<Hand<u64>>,
+    mut pass: Pass<u32, Worker>,
+    wanted: usize,
+    completers: &mut Vec<Handle<'s>>,
+    submitters: &mut Vec<Handle<'s>>,
+) -> bool
+    requires hands { All (IsHandOf shared.now.tags.now) hands.items }
+    requires pass { IsPassOf shared.now.queue.now pass }
+    requires total { total_of shared.now.tags.now ≡ B.total }
+    requires wanted { wanted < vec_len hands }
+    requires none { (completers.old.items ≡ []) × (submitters.old.items ≡ []) }
+    requires room { (vec_len hands ≤ vec_capacity completers.old) × (vec_len hands ≤ vec_capacity submitters.old) }
+    ensures completers { All (Promises shared.now.tags.now) completers.new.items }
+    ensures submitters { All (Promises shared.now.tags.now) submitters.new.items }
+    ensures len { vec_len completers.new + vec_len submitters.new ≤ vec_len hands }
+{
+    let count = hands.len();
+    for hand in hands {
+        let started = if completers.len() < wanted {
+            start_completer(scope, rt, shared, hand, &mut pass, completers)
+        } else {
+            start_submitter(
+                scope,
+                rt,
+                shared,
+                hand,
+                &mut pass,
+                submitters,
+                count - wanted,
+            )
+        };
+        if !started {
+            return false;
+        }
+    }
+    true
+}
+
+// Starts a completer with this hand, if a thread can be started.
+fn start_completer<'s, E, B: Tagged + Send + Sync, G: Gate, R: Wait + Sync>(
+    scope: &Scope<'s, E>,
+    rt: &'s R,
+    shared: &Shared<'s, B, G>,
+    hand: Hand<u64>,
+    pass: &mut Pass<u32, Worker>,
+    handles: &mut Vec<Handle<'s>>,
+) -> bool
+    requires hand { IsHandOf shared.now.tags.now hand }
+    requires pass { IsPassOf shared.now.queue.now pass.old }
+    requires handles { All (Promises shared.now.tags.now) handles.old.items }
+    requires room { vec_len handles.old < vec_capacity handles.old }
+    ensures pass { IsPassOf shared.now.queue.now pass.new }
+    ensures handles { All (Promises shared.now.tags.now) handles.new.items }
+    ensures len { vec_len handles.new ≤ vec_len handles.old + 1 }
+    ensures capacity { vec_capacity handles.new ≡ vec_capacity handles.old }
+{
+    let mine = shared.queue.another::<Completer>(pass);
+    let Shared {
+        log,
+        gate,
+        tags,
+        queue,
+        store,
+        stopped,
+        closed,
+    } = *shared;
+    let started = scope.spawn_with(
+        HandsBack(tags),
+        move || -> Worked
+            requires { IsHandOf tags.now hand × IsPassOf queue.now mine }
+            ensures { IsHandOf tags.entry.now result.hand }
+        {
+            let shared = Shared {
+                log,
+                gate,
+                tags,
+                queue,
+                store,
+                stopped,
+                closed,
+            };
+            complete_all(rt, &shared, hand, mine)
+        },
+    );
+    match started {
+        Ok(handle) => {
+            handles.push_reserved(handle);
+            true
+        }
+        Err(_) => false,
+    }
+}
+
+// Starts the next submitter with this hand, if a thread can be started.
+fn start_submitter<'s, E, B: Tagged + Send + Sync, G: Gate, R: Wait + Sync>(
+    scope: &Scope<'s, E>,
+    rt: &'s R,
+    shared: &Shared<'s, B, G>,
+    hand: Hand<u64>,
+    pass: &mut Pass<u32, Worker>,
+    handles: &mut Vec<Handle<'s>>,
+    submitters: usize,
+) -> bool
+    requires hand { IsHandOf shared.now.tags.now hand }
+    requires pass { IsPassOf shared.now.queue.now pass.old }
+    requires total { total_of shared.now.tags.now ≡ B.total }
+    requires submitters { 0 < submitters }
+    requires handles { All (Promises shared.now.tags.now) handles.old.items }
+    requires room { vec_len handles.old < vec_capacity handles.old }
+    ensures pass { IsPassOf shared.now.queue.now pass.new }
+    ensures handles { All (Promises shared.now.tags.now) handles.new.items }
+    ensures len { vec_len handles.new ≤ vec_len handles.old + 1 }
+    ensures capacity { vec_capacity handles.new ≡ vec_capacity handles.old }
+{
+    let mine = shared.queue.another::<Submitter>(pass);
+    let number = handles.len();
+    let Shared {
+        log,
+        gate,
+        tags,
+        queue,
+        store,
+        stopped,
+        closed,
+    } = *shared;
+    let started = scope.spawn_with(
+        HandsBack(tags),
+        move || -> Worked
+            requires { IsHandOf tags.now hand × IsPassOf queue.now mine × ((view mine).submits ≡ true) × (total_of tags.now ≡ B.total) × (0 < submitters) }
+            ensures { IsHandOf tags.entry.now result.hand }
+        {
+            let shared = Shared {
+                log,
+                gate,
+                tags,
+                queue,
+                store,
+                stopped,
+                closed,
+            };
+            submit_all(rt, &shared, hand, mine, number, submitters)
+        },
+    );
+    match started {
+        Ok(handle) => {
+            handles.push_reserved(handle);
+            true
+        }
+        Err(_) => false,
+    }
+}
+
+// Joins the threads, and keeps the hands that they hand back.
+fn join_all<'s, R: Threads>(
+    rt: &R,
+    tags: &Tags<u64>,
+    handles: Vec<Handle<'s>>,
+    back: &mut Vec<Hand<u64>>,
+    faults: &mut Faults,
+)
+    requires handles { All (Promises tags.now) handles.items }
+    requires back { All (IsHandOf tags.now) back.old.items }
+    requires room { vec_len back.old + vec_len handles ≤ vec_capacity back.old }
+    ensures back { All (IsHandOf tags.now) back.new.items }
+    ensures len { vec_len back.new ≤ vec_len back.old + vec_len handles.entry }
+    ensures capacity { vec_capacity back.new ≡ vec_capacity back.old }
+{
+    for handle in handles {
+        let worked = handle.join(rt);
+        faults.add(worked.faults);
+        back.push_reserved(worked.hand);
+    }
+}

@@ -1,0 +1,202 @@
+//! What the threads of a play do.
+ghost use Rattle.std.specs.Prelude.{◌≡◌, ◌<◌, true, IfOk};
+ghost use Rattle.crossbeam_queue.specs.Passes.{view, IsPassOf};
+ghost use Rattle.tag_sets.specs.Hands.{IsHandOf, total_of};
+
+use crate::device_queue::{DeviceQueue, Tagged, Worker, pop, push};
+use crate::fault::PlayFault;
+use crate::gate::Gate;
+use crate::io::Log;
+use crate::request::{complete, finish};
+use crate::store::Store;
+use crossbeam_queue::Pass;
+use std::sync::atomic::AtomicBool;
+use std::sync::atomic::Ordering::SeqCst;
+use std::sync::{Mutex, Wait};
+use std::thread;
+use tag_sets::{Hand, TagFault, Tags};
+
+/// What the threads of a play share.
+#[derive(Drop)]
+pub(crate) struct Shared<'a, B: Tagged, G> {
+    pub(crate) log: &'a Log,
+    pub(crate) gate: &'a G,
+    pub(crate) tags: &'a Tags<u64>,
+    pub(crate) queue: &'a DeviceQueue<B>,
+    pub(crate) store: &'a Mutex<Store>,
+    /// Whether nothing more is to be submitted, since a thread could not be started.
+    pub(crate) stopped: &'a AtomicBool,
+    /// Whether all submitters have ended.
+    pub(crate) closed: &'a AtomicBool,
+}
+
+/// What threads met that the store's history does not show.
+#[derive(Clone, Copy, Debug, PartialEq, Eq)]
+pub(crate) struct Faults {
+    /// There was no memory for a line, or for a thread.
+    pub(crate) memory: bool,
+    /// A tag was handed on that is not posted or has no I/O line in its slot.
+    pub(crate) stranger: bool,
+}
+
+impl Faults {
+    /// None so far.
+    pub(crate) fn none() -> Faults {
+        Faults {
+            memory: false,
+            stranger: false,
+        }
+    }
+
+    /// Those of another thread too.
+    pub(crate) fn add(&mut self, other: Faults) {
+        self.memory |= other.memory;
+        self.stranger |= other.stranger;
+    }
+
+    // What became of one line. A line that was not submitted is missing from the history.
+    fn note(&mut self, done: Result<u64, PlayFault>) {
+        match done {
+            Err(PlayFault::Memory) => self.memory = true,
+            Err(PlayFault::Stranger) => self.stranger = true,
+            _ => {}
+        }
+    }
+}
+
+/// What a thread hands back.
+#[derive(Drop)]
+pub(crate) struct Worked {
+    pub(crate) hand: Hand<u64>,
+    pub(crate) faults: Faults,
+}
+
+/// Completes what comes through the queue, until it is closed and found empty.
+pub(crate) fn complete_all<B: Tagged, G: Gate, W: Wait>(
+    rt: &W,
+    shared: &Shared<'_, B, G>,
+    mut hand: Hand<u64>,
+    mut pass: Pass<u32, Worker>,
+) -> Worked
+    requires hand { IsHandOf shared.now.tags.now hand }
+    requires pass { IsPassOf shared.now.queue.now pass }
+    ensures { IsHandOf shared.now.tags.now result.hand }
+{
+    let mut faults = Faults::none();
+    for _ in rt.forever() {
+        // The flag is read first: what was pushed before it was set is found by the pop.
+        let closed = shared.closed.load(SeqCst);
+        match pop(rt, shared.queue, &mut pass) {
+            Some(tag) => {
+                let done = complete(
+                    rt,
+                    shared.tags,
+                    &mut hand,
+                    tag,
+                    shared.log,
+                    shared.store,
+                    shared.gate,
+                );
+                faults.note(done);
+            }
+            None => {
+                if closed {
+                    break;
+                }
+                thread::yield_now();
+            }
+        }
+    }
+    Worked { hand, faults }
+}
+
+/// Submits its share of the I/O lines in their order, until nothing more is to be submitted: of so many submitters, each has
+/// every such line, the first one from the first on.
+pub(crate) fn submit_all<B: Tagged, G: Gate, W: Wait>(
+    rt: &W,
+    shared: &Shared<'_, B, G>,
+    mut hand: Hand<u64>,
+    mut pass: Pass<u32, Worker>,
+    number: usize,
+    submitters: usize,
+) -> Worked
+    requires hand { IsHandOf shared.now.tags.now hand }
+    requires pass { IsPassOf shared.now.queue.now pass }
+    requires submitter { (view pass).submits ≡ true }
+    requires total { total_of shared.now.tags.now ≡ B.total }
+    requires submitters { 0 < submitters }
+    ensures { IsHandOf shared.now.tags.now result.hand }
+{
+    let mut faults = Faults::none();
+    for (place, io) in shared.log.ios.iter().enumerate() {
+        if place % submitters != number {
+            continue;
+        }
+        if shared.stopped.load(SeqCst) {
+            break;
+        }
+        let done = submit(rt, shared, &mut hand, &mut pass, io.line);
+        faults.note(done);
+    }
+    Worked { hand, faults }
+}
+
+// Hands one line on to the completers, or completes it where the queue is full.
+fn submit<B: Tagged, G: Gate, W: Wait>(
+    rt: &W,
+    shared: &Shared<'_, B, G>,
+    hand: &mut Hand<u64>,
+    pass: &mut Pass<u32, Worker>,
+    line: u64,
+) -> Result<u64, PlayFault>
+    requires hand { IsHandOf shared.now.tags.now hand.old }
+    requires pass { IsPassOf shared.now.queue.now pass.old }
+    requires submitter { (view pass.old).submits ≡ true }
+    requires total { total_of shared.now.tags.now ≡ B.total }
+    ensures hand { IsHandOf shared.now.tags.now hand.new }
+    ensures pass { IsPassOf shared.now.queue.now pass.new }
+    ensures submitter { (view pass.new).submits ≡ true }
+{
+    let Ok(tag) = post_line(rt, shared.tags, hand, line) else {
+        return Err(PlayFault::Lost(line));
+    };
+    let Err(tag) = push(rt, shared.queue, pass, tag) else {
+        shared.gate.after_submit(line);
+        return Ok(line);
+    };
+    let taken = shared.tags.take(hand, tag);
+    shared.gate.after_submit(line);
+    let Ok(()) = taken else {
+        return Err(PlayFault::Stranger);
+    };
+    finish(
+        rt,
+        shared.tags,
+        hand,
+        tag,
+        shared.log,
+        shared.store,
+        shared.gate,
+    )
+}
+
+// Posts a tag with the line in its slot.
+fn post_line<W: Wait>(
+    rt: &W,
+    tags: &Tags<u64>,
+    hand: &mut Hand<u64>,
+    line: u64,
+) -> Result<u32, TagFault>
+    requires hand { IsHandOf tags.now hand.old }
+    ensures hand { IsHandOf tags.now hand.new }
+    ensures tag { IfOk result (λ tag. tag < total_of tags.now) }
+{
+    let tag = tags.get_blocking(rt, hand)?;
+    let Ok(_) = tags.write(hand, tag, line) else {
+        unreachable!()
+    };
+    let Ok(()) = tags.post(hand, tag) else {
+        unreachable!()
+    };
+    Ok(tag)
+}
