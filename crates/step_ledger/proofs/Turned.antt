@@ -35,7 +35,8 @@ module _ {A : Type 0} where
   get_last (y ∷ xs) x d = get_last xs x d
 
   pub all_front : (P : A → Type 0) (xs : List A) (x : A) → All P (xs ++ x ∷ []) → All P xs
-  all_front P xs x h k d l = subst P (get_front xs (x ∷ []) k d l) (h k d (let e = length-append xs (x ∷ []) in omega arith))
+  all_front P xs x h k d l = subst P (get_front xs (x ∷ []) k d l) (h k d (let e = length-append xs (x ∷ []) in
+    omega arith))
 
   pub all_last : (P : A → Type 0) (xs : List A) (x : A) → All P (xs ++ x ∷ []) → P x
   all_last P xs x h = subst P (get_last xs x x) (h (length xs) x (let e = length-append xs (x ∷ []) in omega arith))
@@ -47,11 +48,13 @@ taken f xs left x earlier e = sym (append_assoc (map f left) (f x ∷ []) earlie
     ∙ ap (λ (z : List _). z ++ earlier) (sym (map-append f left (x ∷ [])) ∙ ap (map f) (sym e))
 
 -- the first that is taken off
-pub taken_first : {A B : Type 0} (f : A → B) (xs left : List A) (x : A) → xs ≡ left ++ x ∷ [] → map f left ++ f x ∷ [] ≡ map f xs
+pub taken_first : {A B : Type 0} (f : A → B) (xs left : List A) (x : A) → xs ≡ left ++ x ∷ []
+    → map f left ++ f x ∷ [] ≡ map f xs
 taken_first f xs left x e = sym (map-append f left (x ∷ [])) ∙ ap (map f) (sym e)
 
 -- whose records they are, where they are made of members
-pub numbers_map : {A T : Type 0} (record_of : A → Record T) (number_of : A → ℕ) → ((a : A) → (record_of a).number ≡ number_of a)
+pub numbers_map : {A T : Type 0} (record_of : A → Record T) (number_of : A → ℕ)
+    → ((a : A) → (record_of a).number ≡ number_of a)
     → (xs : List A) → numbers (map record_of xs) ≡ map number_of xs
 numbers_map record_of number_of same [] = refl
 numbers_map record_of number_of same (x ∷ xs) = λ j. same x j ∷ numbers_map record_of number_of same xs j
@@ -66,8 +69,10 @@ module _ {T : Type 0} where
   sum_turned f (r ∷ rs) = let e = sum_append f (turned rs) (r ∷ []) in let i = sum_turned f rs in omega arith
 
   -- where one member's seat was joined to another, its record is the newest
-  pub joined : (v w now : View T) (r : Record T) → now ≡ both_views v w → w ≡ alone r → turned now.records.value ≡ r ∷ turned v.records.value
-  joined v w now r is one = ap (λ (z : View T). turned z.records.value) (is ∙ ap (both_views v) one) ∙ turned_last v.records.value r
+  pub joined : (v w now : View T) (r : Record T) → now ≡ both_views v w → w ≡ alone r
+    → turned now.records.value ≡ r ∷ turned v.records.value
+  joined v w now r is one = ap (λ (z : View T). turned z.records.value) (is ∙ ap (both_views v) one)
+    ∙ turned_last v.records.value r
 
   pub sum_joined : (f : List T → ℕ) (v w now : View T) (r : Record T) → now ≡ both_views v w → w ≡ alone r
       → sum_over f now.records.value ≡ sum_over f v.records.value + f r.steps
@@ -75,18 +80,21 @@ module _ {T : Type 0} where
       let j = ap (λ (z : View T). sum_over f z.records.value) (is ∙ ap (both_views v) one) in omega arith
 
   -- whose record stands at a place
-  pub number_at : (rs : List (Record T)) (i c : ℕ) → get_elem? (numbers rs) i ≡ some c → (r : Record T) × (get_elem? rs i ≡ some r) × (r.number ≡ c)
+  pub number_at : (rs : List (Record T)) (i c : ℕ) → get_elem? (numbers rs) i ≡ some c
+    → (r : Record T) × (get_elem? rs i ≡ some r) × (r.number ≡ c)
   number_at [] i c e = absurd (some-ne-none c (sym e))
   number_at (r ∷ rs) zero c e = (r, refl, some-injective r.number c e)
   number_at (r ∷ rs) (suc i) c e = number_at rs i c e
 
-  pub at_number : (rs : List (Record T)) (i : ℕ) (r : Record T) → get_elem? rs i ≡ some r → get_elem? (numbers rs) i ≡ some r.number
+  pub at_number : (rs : List (Record T)) (i : ℕ) (r : Record T) → get_elem? rs i ≡ some r
+    → get_elem? (numbers rs) i ≡ some r.number
   at_number [] i r e = absurd (some-ne-none r (sym e))
   at_number (q ∷ rs) zero r e = ap (λ (x : Record T). some x.number) (some-injective q r e)
   at_number (q ∷ rs) (suc i) r e = at_number rs i r e
 
   pub has_turned : (rs : List (Record T)) (c : ℕ) → Has (numbers rs) c → Has (numbers (turned rs)) c
-  has_turned rs c h = let a = number_at rs h.0 c h.1 in let b = at_turned rs h.0 a.0 a.1 in (b.0, at_number (turned rs) b.0 a.0 b.1 ∙ ap some a.2)
+  has_turned rs c h = let a = number_at rs h.0 c h.1 in let b = at_turned rs h.0 a.0 a.1 in
+    (b.0, at_number (turned rs) b.0 a.0 b.1 ∙ ap some a.2)
 
 -- what stands at no place isn't there
 pub nowhere : (ns : List ℕ) (c : ℕ) → ((i : ℕ) → i < length ns → get_elem? ns i ≢ some c) → ¬ Has ns c

@@ -13,13 +13,15 @@ Everyone {T} n views seat position = (c : ℕ) → c < n → (v : View T) × (r 
     × (get_elem? views (seat c) ≡ some v) × (get_elem? v.records.value (position c) ≡ some r) × (r.number ≡ c)
 
 -- some lawful history leaves the words, and each of n members has its own steps of it in one record
-pub record Ledger {S T : Type 0} (n : ℕ) (start : List ℕ) (after : T → List ℕ → List ℕ) (MayStep : ℕ → T → List (ℕ × T) → Type 0)
+pub record Ledger {S T : Type 0} (n : ℕ) (start : List ℕ) (after : T → List ℕ → List ℕ) (MayStep : ℕ → T
+    → List (ℕ × T) → Type 0)
     (s : State S (View T)) : Type 0 where
   pub history : List (ℕ × T)
   pub lawful : Lawful n MayStep history
   pub words_are : s.words ≡ words_of start after history
   pub seat : ℕ → ℕ
   pub position : ℕ → ℕ
-  pub records : (j : ℕ) (v : View T) → get_elem? s.views j ≡ some v → (i : ℕ) (r : Record T) → get_elem? v.records.value i ≡ some r
+  pub records : (j : ℕ) (v : View T) → get_elem? s.views j ≡ some v → (i : ℕ) (r : Record T)
+    → get_elem? v.records.value i ≡ some r
       → (r.number < n) × (r.steps ≡ own_steps r.number history) × (seat r.number ≡ j) × (position r.number ≡ i)
   pub each : Everyone n s.views seat position

@@ -79,7 +79,8 @@ module _ (S : Type 0) where
       (λ one. here (puts f n (suc a)) cs one
       (e ∙ ap (λ (b : Bool). cond b (a ∷ tags_from f (suc a) n) (tags_from f (suc a) n)) (eq-eqb (f a) 1 one)))
       (λ no. let ih = puts f n (suc a) hs cs (omega arith)
-      (e ∙ ap (λ (b : Bool). cond b (a ∷ tags_from f (suc a) n) (tags_from f (suc a) n)) (ne_eqb (f a) 1 no)) t in record {
+      (e ∙ ap (λ (b : Bool). cond b (a ∷ tags_from f (suc a) n) (tags_from f (suc a) n)) (ne_eqb (f a) 1 no)) t in
+      record {
         inside = λ i. ih.inside
             (dite (ℕ_discrete t a) (λ (same : t ≡ a). absurd (no (ap f (sym same) ∙ i.2)))
             (λ (ne : t ≢ a). let g = i.0 in let g2 = i.1 in (omega arith, omega arith, i.2)));
@@ -99,7 +100,8 @@ module _ (S : Type 0) where
           (λ (same : t ≡ a). let back : get_elem? (put_all hs1 cs) t ≡ some (some x.1) = ih.outside
           (λ i. let g = i.0 in absurd (omega arith)) ∙ ap (get_elem? hs1) (same ∙ sym hd)
           ∙ set_here hs x.0 (some x.1) (omega arith) in record {
-            inside = λ i. (x.1, ap (λ (b : Bool). cond b (some x.1) (value_of cs t)) (eq-eqb x.0 t (hd ∙ sym same)), back);
+            inside = λ i. (x.1, ap (λ (b : Bool). cond b (some x.1) (value_of cs t))
+              (eq-eqb x.0 t (hd ∙ sym same)), back);
             outside = λ o. absurd (o (omega arith, omega arith, ap f same ∙ one));
           })
           (λ (ne : t ≢ a). let off : get_elem? hs1 t ≡ get_elem? hs t = set_else hs x.0 t (some x.1)
@@ -145,7 +147,8 @@ module _ (S : Type 0) where
       (λ no. let ih = takings f n (suc a) hs (omega arith)
       (λ t i. let g = i.0 in let g2 = i.1 in home t (omega arith, omega arith, i.2)) in record {
         list = ih.list;
-        tags = ih.tags ∙ ap (λ (b : Bool). cond b (a ∷ tags_from f (suc a) n) (tags_from f (suc a) n)) (sym (ne_eqb (f a) 1 no));
+        tags = ih.tags ∙ ap (λ (b : Bool). cond b (a ∷ tags_from f (suc a) n) (tags_from f (suc a) n))
+          (sym (ne_eqb (f a) 1 no));
         valid = ih.valid;
         here = λ t i. ih.here t
             (dite (ℕ_discrete t a) (λ (same : t ≡ a). absurd (no (ap f (sym same) ∙ i.2)))
@@ -165,7 +168,8 @@ module _ (S : Type 0) where
           ∙ mine.1 in record {
             list = (a, mine.0) ∷ ih.list;
             tags = ap (λ (l : List ℕ). a ∷ l) ih.tags
-                ∙ ap (λ (b : Bool). cond b (a ∷ tags_from f (suc a) n) (tags_from f (suc a) n)) (sym (eq-eqb (f a) 1 one));
+                ∙ ap (λ (b : Bool). cond b (a ∷ tags_from f (suc a) n) (tags_from f (suc a) n))
+                  (sym (eq-eqb (f a) 1 one));
             valid = (ih.valid, still);
             here = λ t i. dite (ℕ_discrete t a)
                 (λ (same : t ≡ a). (
@@ -184,7 +188,8 @@ module _ (S : Type 0) where
                   set_else hs1 a t none ne ∙ w.3,
                 ));
             away = λ t o. let ne : t ≢ a = (λ (z : t ≡ a). o (omega arith, omega arith, ap f z ∙ one)) in
-                set_else hs1 a t none ne ∙ ih.away t (λ i. let g = i.0 in let g2 = i.1 in o (omega arith, omega arith, i.2));
+                set_else hs1 a t none ne ∙ ih.away t (λ i. let g = i.0 in let g2 = i.1 in
+                  o (omega arith, omega arith, i.2));
             long = length-set hs1 a none ∙ ih.long;
           }
 
@@ -202,7 +207,8 @@ module _ (S : Type 0) where
         → (v : S) × (value_of cs t ≡ some v) × (get_elem? (homes_after hs cs act) t ≡ some (some v))
     pub same : (t : ℕ) → t < n → f t ≢ 1 → f' t ≢ 1 → get_elem? (homes_after hs cs act) t ≡ get_elem? hs t
     pub kept : (t : ℕ) → t < n → f t ≡ 1 → f' t ≡ 1 → (v : S) × (value_of cs t ≡ some v) × (value_of list t ≡ some v)
-    pub taken : (t : ℕ) → t < n → f t ≢ 1 → f' t ≡ 1 → (v : S) × (get_elem? hs t ≡ some (some v)) × (value_of list t ≡ some v)
+    pub taken : (t : ℕ) → t < n → f t ≢ 1 → f' t ≡ 1 → (v : S) × (get_elem? hs t ≡ some (some v))
+      × (value_of list t ≡ some v)
     pub long : length (homes_after hs cs act) ≡ length hs
 
   -- there is such an act where the slots to be taken are at home
@@ -231,7 +237,8 @@ module _ (S : Type 0) where
         out = λ t l o. ap (λ (z : Homes). get_elem? z t) after ∙ (k.here t (in_all f' t l o)).3;
         returned = λ t l o no. let w = (p t).inside (in_all f t l o) in
             (w.0, w.1, ap (λ (z : Homes). get_elem? z t) after ∙ k.away t (off f' t no) ∙ w.2);
-        same = λ t l no no'. ap (λ (z : Homes). get_elem? z t) after ∙ k.away t (off f' t no') ∙ (p t).outside (off f t no);
+        same = λ t l no no'. ap (λ (z : Homes). get_elem? z t) after ∙ k.away t (off f' t no')
+          ∙ (p t).outside (off f t no);
         kept = λ t l o o'. let w = (p t).inside (in_all f t l o) in let g = k.here t (in_all f' t l o') in
             let one : g.0 ≡ w.0 = some-injective g.0 w.0 (some-injective (some g.0) (some w.0) (sym g.1 ∙ w.2)) in
             (w.0, w.1, g.2 ∙ ap some one);

@@ -37,13 +37,16 @@ module _ {R : Type 0} (m : Map R) (w : Caller R) (own : IsCallerOf m w) where
 
   -- what the table asks of a step at this place
   pub asked : (id : ℕ) (me : Me R (View R)) (at place : ℕ) (f : ℕ → ℕ) (a b : ℕ)
-      (then : table.Step R → Me R (View R) → ℕ → Me R (View R) → Type 0) → place ≡ at → at < table_width w.shape.value.layout
-      → Allows (Shown w.shape.value) w.shape.value.layout.depth id me at f (then (step w.shape.value.layout.depth at a b none) me)
+      (then : table.Step R → Me R (View R) → ℕ → Me R (View R) → Type 0) → place ≡ at
+        → at < table_width w.shape.value.layout
+      → Allows (Shown w.shape.value) w.shape.value.layout.depth id me at f
+        (then (step w.shape.value.layout.depth at a b none) me)
       → (place < m.table.shared.table_id.words) × Allows
       (Shown m.table.shared.key) m.table.shared.table_id.slots id me place f
       (then (step m.table.shared.table_id.slots place a b none) me)
   asked id me at place f a b then is low allowed = (
-    subst (λ (z : ℕ × ℕ). z.0 < z.1) (λ j. (sym is j, (ap (λ (z : Shape). table_width z.layout) own.1 ∙ sym m.wide.0) j)) low,
+    subst (λ (z : ℕ × ℕ). z.0 < z.1)
+      (λ j. (sym is j, (ap (λ (z : Shape). table_width z.layout) own.1 ∙ sym m.wide.0) j)) low,
     subst (λ (z : Shape × ℕ × ℕ). Allows (Shown z.0) z.1 id me z.2 f (then (step z.1 z.2 a b none) me))
         (λ j. ((own.1 ∙ sym m.told) j, (ap (λ (z : Shape). z.layout.depth) own.1 ∙ sym m.wide.1) j, sym is j)) allowed,
   )
@@ -51,7 +54,8 @@ module _ {R : Type 0} (m : Map R) (w : Caller R) (own : IsCallerOf m w) where
 module _ {R : Type 0} (w : Caller R) (st : Step R) (me' : Me R (View R)) (did : Stepped st (record_of w) w.seat.me me')
     (held' : List ℕ) (won' back' : ℕ)
     (held_is : held_after w.shape.value.layout st w.held.items ≡ held')
-    (swept_is : swept_after st (replicate {A = ℕ} (words w.shape.value.layout) 0) ≡ replicate (words w.shape.value.layout) 0)
+    (swept_is : swept_after st (replicate {A = ℕ} (words w.shape.value.layout) 0)
+      ≡ replicate (words w.shape.value.layout) 0)
     (won_is : w.won + won_by (event_of w.shape.value.layout w.number st) ≡ won')
     (back_is : w.back + back_by (event_of w.shape.value.layout w.number st) ≡ back') where
   -- the record that the new fields give
@@ -93,20 +97,23 @@ module _ {R : Type 0} (w : Caller R) (st : Step R) (me' : Me R (View R)) (did : 
   few = subst (λ (z : ℕ). z ≤ w.shape.value.callers * MOST_WON) back_is did.few_back
 
   -- the slots of tags that it keeps have their values
-  pub slots : (tag : ℕ) → Holds w tag → (tag < w.shape.value.layout.depth) × (tag_bit w.shape.value.layout held' tag ≡ 1)
+  pub slots : (tag : ℕ) → Holds w tag → (tag < w.shape.value.layout.depth)
+    × (tag_bit w.shape.value.layout held' tag ≡ 1)
       → value_of me'.1 tag ≡ value_of w.seat.me.1 tag
   slots tag was is = did.values tag was.0 was.1 (ap (λ (z : List ℕ). tag_bit w.shape.value.layout z tag) held_is ∙ is.1)
 
 -- after a step one history shows what the caller knows
 pub shows : {R : Type 0} (st : Step R) (r : Record R) (me me' : Me R (View R)) → Stepped st r me me' → (q : Record R)
     → me'.0 ≡ alone q → ∥ HasHistory r.shape q ∥₁
-shows st r me me' did q is = ∣ subst (HasHistory r.shape) (same_record (record_after st r) q (sym did.view ∙ is)) did.shown ∣₁
+shows st r me me' did q is = ∣ subst (HasHistory r.shape)
+    (same_record (record_after st r) q (sym did.view ∙ is)) did.shown ∣₁
 
 -- what a caller may have given back in all
 pub bounded : {R : Type 0} (m : Map R) (w : Caller R) → IsCallerOf m w → (n : ℕ) → n ≤ w.shape.value.callers * MOST_WON
     → n ≤ MAX_CALLERS * MOST_WON
 bounded m w own n h =
-    let few : w.shape.value.callers ≤ MAX_CALLERS = subst (λ (z : Shape). z.callers ≤ MAX_CALLERS) (sym own.1) m.few.1 in
+    let few : w.shape.value.callers ≤ MAX_CALLERS =
+      subst (λ (z : Shape). z.callers ≤ MAX_CALLERS) (sym own.1) m.few.1 in
     let more : w.shape.value.callers * MOST_WON ≤ MAX_CALLERS * MOST_WON = mul-le-mul_right MOST_WON few in omega arith
 
 pub plus_none : (n : ℕ) → n + 0 ≡ n

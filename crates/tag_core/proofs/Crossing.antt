@@ -1,5 +1,6 @@
 -- Where the slots' values may go to any thread, a map, its callers and a gathering may, and threads may share a caller;
--- where any thread may share them too, threads may share a map. A layer above cites the row of a value that it passes on,
+-- where any thread may share them too, threads may share a map. A layer above cites the row of a value that it
+-- passes on,
 -- and the field's row of one that a struct of its own has.
 use denote.RattleType.{RattleType}
 use denote.Param.Send.{IsSend, IsSync, recorded_sync, struct_sync, sendable}

@@ -115,18 +115,21 @@ module _ (R : Type 0) (k : Shape) (s : State R (View R)) (sh : Shown k s) (r : R
 
   -- the slots move with the step's tags
   pub moved : Moved R f f' k.layout.depth s.homes cs
-  moved = moves R f f' k.layout.depth s.homes cs (let e : length s.homes ≡ k.layout.depth = deep in omega arith) carries was_home
+  moved = moves R f f' k.layout.depth s.homes cs (let e : length s.homes ≡ k.layout.depth = deep in
+    omega arith) carries was_home
 
   slots_after : (t : ℕ) → t < k.layout.depth → SlotIs (get_elem? (homes_after s.homes cs moved.act) t) (p t)
   slots_after t l = dite (ℕ_discrete (f' t) 1)
       (λ (aye : f' t ≡ 1). subst (SlotIs (get_elem? (homes_after s.homes cs moved.act) t)) (sym (is_mine t l aye))
       (moved.out t l aye))
       (λ (non' : f' t ≢ 1). dite (ℕ_discrete (f t) 1)
-      (λ (aye : f t ≡ 1). let w = moved.returned t l aye non' in slot_some R _ (p t) (λ d e. dite (ℕ_discrete d r.number)
+      (λ (aye : f t ≡ 1). let w = moved.returned t l aye non' in
+        slot_some R _ (p t) (λ d e. dite (ℕ_discrete d r.number)
       (λ (same : d ≡ r.number). not_is t l non' (e ∙ ap held same))
       (λ (n : d ≢ r.number). n (two_holders d r.number (q t) (others t l d n e) (was_mine t l aye)))) (w.0, w.2))
       (λ (non : f t ≢ 1). subst (λ z. SlotIs z (p t)) (sym (moved.same t l non non')) (⊎_elim
-      (λ (w : (d : ℕ) × (p t ≡ held d)). let n : w.0 ≢ r.number = (λ (z : w.0 ≡ r.number). not_is t l non' (w.1 ∙ ap held z)) in
+      (λ (w : (d : ℕ) × (p t ≡ held d)). let n : w.0 ≢ r.number =
+        (λ (z : w.0 ≡ r.number). not_is t l non' (w.1 ∙ ap held z)) in
       subst (SlotIs (get_elem? s.homes t)) (others t l w.0 n w.1 ∙ sym w.1) (sh.slots t l))
       (λ (o : (d : ℕ) → p t ≢ held d). slot_some R _ (p t) o
       (home_of R _ (q t) (sh.slots t l) (λ d e. dite (ℕ_discrete d r.number)
@@ -140,7 +143,8 @@ module _ (R : Type 0) (k : Shape) (s : State R (View R)) (sh : Shown k s) (r : R
     posts_after : (t : ℕ) → t < k.layout.depth → p t ≡ posted
         → get_elem? (homes_after s.homes cs moved.act) t ≡ some (last_post t ((r.number, st) ∷ sh.history))
     posts_after t l e =
-        let non' : f' t ≢ 1 = (λ (z : f' t ≡ 1). let two : posted ≡ held r.number = sym e ∙ is_mine t l z in cc) in ⊎_elim
+        let non' : f' t ≢ 1 = (λ (z : f' t ≡ 1). let two : posted ≡ held r.number = sym e ∙ is_mine t l z in cc) in
+        ⊎_elim
         (λ (w : (q t ≡ posted) × (last_post t ((r.number, st) ∷ sh.history) ≡ last_post t sh.history)).
         let non : f t ≢ 1 = (λ (z : f t ≡ 1). let two : posted ≡ held r.number = sym w.0 ∙ was_mine t l z in cc) in
         moved.same t l non non' ∙ sh.posts t l w.0 ∙ ap some (sym w.1))
@@ -175,9 +179,12 @@ module _ (R : Type 0) (k : Shape) (s : State R (View R)) (sh : Shown k s) (r : R
               (λ t l a b. let g = moved.kept t l a b in ap (λ (z : List (ℕ × R)). value_of z t) list ∙ g.2 ∙ sym g.1
               ∙ ap (λ (z : List (ℕ × R)). value_of z t) (sym e));
           few_back = subst (λ (z : Shape). r.back + back_by (event_of z.layout r.number st) ≤ z.callers * MOST_WON) same
-              (let few = back-history k.layout k.callers (events_of k.layout ((r.number, st) ∷ sh.history)) (opening_world k)
+              (let few = back-history k.layout k.callers (events_of k.layout ((r.number, st) ∷ sh.history))
+                (opening_world k)
               (owed.needs, sh.lawful.happens) sh.opening.unspent (opening_even k sh.opening) r.number ok.number in
-              let now = (own_counts k.layout r.number st (world_of k sh.history).back).1 in let before = ok.back in omega arith);
-          shown = subst (λ (z : Shape). HasHistory z (record_after st r)) same (seen_in R k _ (kept id at) id (record_after st r)
+              let now = (own_counts k.layout r.number st (world_of k sh.history).back).1 in
+              let before = ok.back in omega arith);
+          shown = subst (λ (z : Shape). HasHistory z (record_after st r)) same
+            (seen_in R k _ (kept id at) id (record_after st r)
               (set_here s.views id (alone (record_after st r)) (within s.views id _ at)));
         }

@@ -49,11 +49,13 @@ module _ (R : Type 0) (k : Shape) (narrow : k.layout.shift ≤ 6) (s : State R (
       let inside : word_at i < length s.words = subst (λ (z : ℕ). word_at i < z) (sym sh.cells.wide)
       (word_in k.layout i h) in record {
         wide = length-set s.words (word_at i) x ∙ sh.cells.wide;
-        word = λ j l. set_spread s.words word_at now_cells.words.word (words k.layout) i x word_at_one inside sh.cells.word j l
+        word = λ j l. set_spread s.words word_at now_cells.words.word (words k.layout) i x word_at_one
+          inside sh.cells.word j l
             ∙ ap (λ (z : ℕ). changed_at now_cells.words.word i z j) same;
         aside = λ j l. get_or-set_other s.words (word_at i) (aside_at j) x 0 (λ e. word_no_aside i j (sym e))
             ∙ sh.cells.aside j l;
-        state = λ t l. get_or-set_other s.words (word_at i) (state_at k.layout t) x 0 (λ e. word_no_state k.layout i t h (sym e))
+        state = λ t l. get_or-set_other s.words (word_at i) (state_at k.layout t) x 0
+          (λ e. word_no_state k.layout i t h (sym e))
             ∙ sh.cells.state t l;
         word_within = changed_within k narrow now_cells.words.word i x' fits sh.cells.word_within;
         aside_within = sh.cells.aside_within;
@@ -71,7 +73,8 @@ module _ (R : Type 0) (k : Shape) (narrow : k.layout.shift ≤ 6) (s : State R (
         aside = λ j l. set_spread s.words aside_at now_cells.words.aside
             (words k.layout) i x aside_at_one inside sh.cells.aside j l
             ∙ ap (λ (z : ℕ). changed_at now_cells.words.aside i z j) same;
-        state = λ t l. get_or-set_other s.words (aside_at i) (state_at k.layout t) x 0 (λ e. aside_no_state k.layout i t h (sym e))
+        state = λ t l. get_or-set_other s.words (aside_at i) (state_at k.layout t) x 0
+          (λ e. aside_no_state k.layout i t h (sym e))
             ∙ sh.cells.state t l;
         word_within = sh.cells.word_within;
         aside_within = changed_within k narrow now_cells.words.aside i x' fits sh.cells.aside_within;
@@ -84,16 +87,20 @@ module _ (R : Type 0) (k : Shape) (narrow : k.layout.shift ≤ 6) (s : State R (
       let inside : state_at k.layout u < length s.words = subst (λ (z : ℕ). state_at k.layout u < z) (sym sh.cells.wide)
       (state_in k.layout u h) in record {
         wide = length-set s.words (state_at k.layout u) x ∙ sh.cells.wide;
-        word = λ j l. get_or-set_other s.words (state_at k.layout u) (word_at j) x 0 (word_no_state k.layout j u l) ∙ sh.cells.word j l;
-        aside = λ j l. get_or-set_other s.words (state_at k.layout u) (aside_at j) x 0 (aside_no_state k.layout j u l) ∙ sh.cells.aside j l;
-        state = set_spread s.words (state_at k.layout) now_cells.state k.layout.depth u x (state_at_one k.layout) inside sh.cells.state;
+        word = λ j l. get_or-set_other s.words (state_at k.layout u) (word_at j) x 0 (word_no_state k.layout j u l)
+          ∙ sh.cells.word j l;
+        aside = λ j l. get_or-set_other s.words (state_at k.layout u) (aside_at j) x 0 (aside_no_state k.layout j u l)
+          ∙ sh.cells.aside j l;
+        state = set_spread s.words (state_at k.layout) now_cells.state k.layout.depth u x
+          (state_at_one k.layout) inside sh.cells.state;
         word_within = sh.cells.word_within;
         aside_within = sh.cells.aside_within;
       }
 
   -- nobody has won too much yet
   unspent : (c : ℕ) → now_world.won c ≤ MOST_WON
-  unspent = won-history k.layout k.callers (events_of k.layout sh.history) (opening_world k) sh.lawful.happens sh.opening.unspent
+  unspent = won-history k.layout k.callers (events_of k.layout sh.history)
+    (opening_world k) sh.lawful.happens sh.opening.unspent
 
   -- a step that wins nothing passes no limit
   pub none_more : (c : ℕ) → now_world.won c + 0 ≤ MOST_WON
@@ -122,7 +129,8 @@ module _ (R : Type 0) (k : Shape) (narrow : k.layout.shift ≤ 6) (s : State R (
         (small_word k narrow i (now_cells.words.word i) (sh.cells.word_within i inside))) (place_small k narrow t))
 
     claim_tags : (t : ℕ) → t < k.layout.depth
-        → Shows r.number (now_world.place t) (cond (is_in_mask k.layout i (without m n) t) (held r.number) (now_world.place t))
+        → Shows r.number (now_world.place t) (cond (is_in_mask k.layout i (without m n) t)
+          (held r.number) (now_world.place t))
         (bit_at (changed_at now_cells.words.word i (bit_or (now_cells.words.word i) m) (t / 2 ^ k.layout.shift))
         (t % 2 ^ k.layout.shift))
         (bit_at (now_cells.words.aside (t / 2 ^ k.layout.shift)) (t % 2 ^ k.layout.shift)) (now_cells.state t)
@@ -145,12 +153,14 @@ module _ (R : Type 0) (k : Shape) (narrow : k.layout.shift ≤ 6) (s : State R (
         (λ ne. reshow c q _ _ _ _ _ _ _ _ _ _ _ _ (stays c q)
         (ap (λ (z : ℕ). pick z (held c) q) (among_else k narrow i (without m n) t ne)
         ∙ pick_among k.layout i (without m n) t (held c) q)
-        (tag.word ∙ changed_else k narrow now_cells.words.word i (bit_or (now_cells.words.word i) m) t ne) tag.aside tag.posted
+        (tag.word ∙ changed_else k narrow now_cells.words.word i (bit_or (now_cells.words.word i) m) t ne) tag.aside
+          tag.posted
         (ok.held t l ∙ mask_else k narrow r.held i (bit_or (get_or r.held i 0) (without m n)) t ne) (ok.swept t l))
 
     -- a claim
     pub claim_owed : Owed R k s sh r (Word (Claimed i m n)) (set s.words (word_at i) (bit_or n m))
-    claim_owed = let x : ℕ = bit_or (now_cells.words.word i) m in let same : bit_or n m ≡ x = ap (λ (z : ℕ). bit_or z m) found in
+    claim_owed = let x : ℕ = bit_or (now_cells.words.word i) m in
+        let same : bit_or n m ≡ x = ap (λ (z : ℕ). bit_or z m) found in
         record {
           finds = found;
           value = tt;
@@ -161,7 +171,8 @@ module _ (R : Type 0) (k : Shape) (narrow : k.layout.shift ≤ 6) (s : State R (
                 let few : count_ones (without m n) ≤ count_ones m = ones_minus m n in omega arith);
             places = λ t l named. let a = among_one k.layout i (without m n) t named in
                 free_from (now_world.place t) (dite (ℕ_discrete (t / 2 ^ k.layout.shift) i)
-                (λ e. let one : min (bit_at m (t % 2 ^ k.layout.shift)) (1 - word_bit (now_world.place t)) ≡ 1 = new_bit t l e
+                (λ e. let one : min (bit_at m (t % 2 ^ k.layout.shift)) (1 - word_bit (now_world.place t)) ≡ 1 =
+                  new_bit t l e
                 ∙ among_here k narrow i (without m n) t e ∙ a in omega arith)
                 (λ ne. let none_there : 0 ≡ among k.layout.shift i (without m n) t = among_else k narrow i
                 (without m n) t ne in absurd (omega arith)));
@@ -198,8 +209,10 @@ module _ (R : Type 0) (k : Shape) (narrow : k.layout.shift ≤ 6) (s : State R (
     -- a give of held tags
     pub give_owed : Owed R k s sh r (Word (Give i m (get_or s.words (word_at i) 0)))
         (set s.words (word_at i) (without (get_or s.words (word_at i) 0) m))
-    give_owed = let n : ℕ = get_or s.words (word_at i) 0 in let found : n ≡ now_cells.words.word i = sh.cells.word i inside in
-        let x : ℕ = without (now_cells.words.word i) m in let same : without n m ≡ x = ap (λ (z : ℕ). without z m) found in
+    give_owed = let n : ℕ = get_or s.words (word_at i) 0 in
+        let found : n ≡ now_cells.words.word i = sh.cells.word i inside in
+        let x : ℕ = without (now_cells.words.word i) m in
+        let same : without n m ≡ x = ap (λ (z : ℕ). without z m) found in
         record {
           finds = found;
           value = tt;
@@ -219,7 +232,8 @@ module _ (R : Type 0) (k : Shape) (narrow : k.layout.shift ≤ 6) (s : State R (
               (gives r.number q (among k.layout.shift i m t) (among_small k narrow i m t) (is_held i m t has l))
               (pick_among k.layout i m t free q)
               (ap (λ (z : ℕ). min z (1 - among k.layout.shift i m t)) tag.word
-              ∙ minus_bit k narrow now_cells.words.word i m t fits) tag.aside tag.posted (held_minus i m t inside l fits)
+              ∙ minus_bit k narrow now_cells.words.word i m t fits) tag.aside tag.posted
+                (held_minus i m t inside l fits)
               (ok.swept t l);
         }
 
@@ -268,6 +282,8 @@ module _ (R : Type 0) (k : Shape) (narrow : k.layout.shift ≤ 6) (s : State R (
   held_shown t l has =
       let is : now_world.place t ≡ held r.number = held_from r.number (now_world.place t) (ok.held t l ∙ has) in
       let i : ℕ = word_of k.layout t in let inside = word_of-below k.layout t l in (
-        ap (λ (z : ℕ). bit_at z (place_of k.layout t)) (sh.cells.word i inside) ∙ sym (sh.tags t l).word ∙ ap word_bit is,
-        ap (λ (z : ℕ). bit_at z (place_of k.layout t)) (sh.cells.aside i inside) ∙ sym (sh.tags t l).aside ∙ ap aside_bit is,
+        ap (λ (z : ℕ). bit_at z (place_of k.layout t)) (sh.cells.word i inside)
+          ∙ sym (sh.tags t l).word ∙ ap word_bit is,
+        ap (λ (z : ℕ). bit_at z (place_of k.layout t)) (sh.cells.aside i inside)
+          ∙ sym (sh.tags t l).aside ∙ ap aside_bit is,
       )

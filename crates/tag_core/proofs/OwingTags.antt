@@ -40,23 +40,27 @@ module _ (R : Type 0) (k : Shape) (narrow : k.layout.shift ≤ 6) (s : State R (
 
   -- ---- steps on one tag
 
-  held_tag : (u t : ℕ) → tag_bit k.layout r.held u ≡ 1 → u < k.layout.depth → only t u ≡ 1 → now_world.place t ≡ held r.number
+  held_tag : (u t : ℕ) → tag_bit k.layout r.held u ≡ 1 → u < k.layout.depth → only t u ≡ 1
+    → now_world.place t ≡ held r.number
   held_tag u t has l a =
       subst (λ (z : ℕ). now_world.place z ≡ held r.number) (sym (only_is k narrow t u a))
       (held_from r.number (now_world.place u) (ok.held u l ∙ has))
 
   held_without : (u t : ℕ) → u < k.layout.depth → t < k.layout.depth
       → min (held_bit r.number (now_world.place t)) (1 - only t u) ≡ tag_bit k.layout
-      (set r.held (u / 2 ^ k.layout.shift) (without (get_or r.held (u / 2 ^ k.layout.shift) 0) (2 ^ (u % 2 ^ k.layout.shift)))) t
+      (set r.held (u / 2 ^ k.layout.shift) (without (get_or r.held (u / 2 ^ k.layout.shift) 0)
+        (2 ^ (u % 2 ^ k.layout.shift)))) t
   held_without u t lu l = ap (λ (z : ℕ). min (held_bit r.number (now_world.place t)) (1 - z)) (only_among k narrow u t)
       ∙ held_minus R k narrow s sh r ok (u / 2 ^ k.layout.shift) (2 ^ (u % 2 ^ k.layout.shift)) t
       (word_of-below k.layout u lu) l (tag_mask k narrow u)
 
   held_with : (u t : ℕ) → u < k.layout.depth → t < k.layout.depth
       → max (held_bit r.number (now_world.place t)) (only t u) ≡ tag_bit k.layout
-      (set r.held (u / 2 ^ k.layout.shift) (bit_or (get_or r.held (u / 2 ^ k.layout.shift) 0) (2 ^ (u % 2 ^ k.layout.shift)))) t
+      (set r.held (u / 2 ^ k.layout.shift) (bit_or (get_or r.held (u / 2 ^ k.layout.shift) 0)
+        (2 ^ (u % 2 ^ k.layout.shift)))) t
   held_with u t lu l = ap (max (held_bit r.number (now_world.place t))) (only_among k narrow u t)
-      ∙ held_or R k narrow s sh r ok (u / 2 ^ k.layout.shift) (2 ^ (u % 2 ^ k.layout.shift)) t (word_of-below k.layout u lu) l
+      ∙ held_or R k narrow s sh r ok (u / 2 ^ k.layout.shift) (2 ^ (u % 2 ^ k.layout.shift)) t
+        (word_of-below k.layout u lu) l
 
   -- a put of a held tag
   pub put_owed : (u : ℕ) → u < k.layout.depth → tag_bit k.layout r.held u ≡ 1
@@ -67,7 +71,8 @@ module _ (R : Type 0) (k : Shape) (narrow : k.layout.shift ≤ 6) (s : State R (
   put_owed u lu has =
       let i : ℕ = u / 2 ^ k.layout.shift in let m : ℕ = 2 ^ (u % 2 ^ k.layout.shift) in
       let n : ℕ = get_or s.words (aside_at i) 0 in let inside : i < words k.layout = word_of-below k.layout u lu in
-      let found : n ≡ now_cells.words.aside i = sh.cells.aside i inside in let x : ℕ = bit_or (now_cells.words.aside i) m in
+      let found : n ≡ now_cells.words.aside i = sh.cells.aside i inside in
+      let x : ℕ = bit_or (now_cells.words.aside i) m in
       let same : bit_or n m ≡ x = ap (λ (z : ℕ). bit_or z m) found in
       record {
         finds = found;
@@ -76,7 +81,8 @@ module _ (R : Type 0) (k : Shape) (narrow : k.layout.shift ≤ 6) (s : State R (
           in_layout = subst (λ (z : ℕ). z < k.layout.depth) (sym (tag_named k narrow u)) lu;
           caller = ok.number;
           unspent = none_more R k narrow s sh r ok r.number;
-          places = λ t l is. held_tag u t has lu (only_one t u (sym (ap (λ (z : ℕ). nat_eq t z) (tag_named k narrow u)) ∙ is));
+          places = λ t l is. held_tag u t has lu (only_one t u (sym (ap (λ (z : ℕ). nat_eq t z) (tag_named k narrow u))
+            ∙ is));
         };
         cells = aside_cells R k narrow s sh r ok i (bit_or n m) x inside same
             (or_lt (word_depth k.layout i) (now_cells.words.aside i) m (sh.cells.aside_within i inside)
@@ -86,7 +92,8 @@ module _ (R : Type 0) (k : Shape) (narrow : k.layout.shift ≤ 6) (s : State R (
             reshow r.number q _ _ _ _ _ _ _ _ _ _ _ _
             (puts r.number q (only t u) (only_small k narrow t u) (held_tag u t has lu))
             (pick_only t u aside q ∙ ap (λ (z : ℕ). cond (nat_eq t z) aside q) (sym (tag_named k narrow u))) tag.word
-            ((λ z. max (tag.aside z) (only_among k narrow u t z)) ∙ or_bit k narrow now_cells.words.aside i m t) tag.posted
+            ((λ z. max (tag.aside z) (only_among k narrow u t z))
+              ∙ or_bit k narrow now_cells.words.aside i m t) tag.posted
             (held_without u t lu l) (ok.swept t l);
       }
 
@@ -107,7 +114,8 @@ module _ (R : Type 0) (k : Shape) (narrow : k.layout.shift ≤ 6) (s : State R (
     tags = λ t l. let tag = sh.tags t l in
         let q : Place = now_world.place t in
         reshow r.number q _ _ _ _ _ _ _ _ _ _ _ _
-        (posts r.number q (only t u) (only_small k narrow t u) (held_tag u t has lu)) (pick_only t u posted q) tag.word tag.aside
+        (posts r.number q (only t u) (only_small k narrow t u) (held_tag u t has lu))
+          (pick_only t u posted q) tag.word tag.aside
         (dite (ℕ_discrete t u) (λ e. let one : only t u ≡ 1 = ap one_if (eq-eqb t u e) in let small = posted_small q in
         (let z : max (posted_bit q) (only t u) ≡ 1 = omega arith in z
         ∙ ap (λ (b : Bool). cond b 1 (now_cells.state t)) (sym (eq-eqb t u e))))
@@ -119,7 +127,8 @@ module _ (R : Type 0) (k : Shape) (narrow : k.layout.shift ≤ 6) (s : State R (
 
   -- a compare-exchange of 1 by 0 that found the state 1
   pub take_owed : (u f : ℕ) (y : R) → u < k.layout.depth → get_or s.words (state_at k.layout u) 0 ≡ suc f → f ≡ 0
-      → last_post u sh.history ≡ some y → Owed R k s sh r (Take u (suc f) (Some y)) (set s.words (state_at k.layout u) 0)
+      → last_post u sh.history ≡ some y
+        → Owed R k s sh r (Take u (suc f) (Some y)) (set s.words (state_at k.layout u) 0)
   take_owed u f y lu is one last = let shown : now_cells.state u ≡ suc f = sym (sh.cells.state u lu) ∙ is in
       let its : now_world.place u ≡ posted = posted_from (now_world.place u)
       ((sh.tags u lu).posted ∙ shown ∙ ap suc one) in record {
@@ -130,14 +139,17 @@ module _ (R : Type 0) (k : Shape) (narrow : k.layout.shift ≤ 6) (s : State R (
           caller = ok.number;
           unspent = none_more R k narrow s sh r ok r.number;
           places =
-              λ t l is. subst (λ (z : ℕ). now_world.place z ≡ posted) (sym (only_is k narrow t u (only_one t u is))) its;
+              λ t l is. subst (λ (z : ℕ). now_world.place z ≡ posted)
+                (sym (only_is k narrow t u (only_one t u is))) its;
         };
         cells = state_cells R k narrow s sh r ok u 0 lu;
-        tags = λ t l. let tag = sh.tags t l in let q : Place = now_world.place t in reshow r.number q _ _ _ _ _ _ _ _ _ _ _ _
+        tags = λ t l. let tag = sh.tags t l in let q : Place = now_world.place t in
+        reshow r.number q _ _ _ _ _ _ _ _ _ _ _ _
             (takes r.number q (only t u) (only_small k narrow t u)
             (λ a. subst (λ (z : ℕ). now_world.place z ≡ posted) (sym (only_is k narrow t u a)) its))
             (pick_only t u (held r.number) q) tag.word tag.aside
-            (dite (ℕ_discrete t u) (λ e. let one' : only t u ≡ 1 = ap one_if (eq-eqb t u e) in let small = posted_small q in
+            (dite (ℕ_discrete t u) (λ e. let one' : only t u ≡ 1 = ap one_if (eq-eqb t u e) in
+              let small = posted_small q in
             (let z : min (posted_bit q) (1 - only t u) ≡ 0 = omega arith in z
             ∙ ap (λ (b : Bool). cond b 0 (now_cells.state t)) (sym (eq-eqb t u e))))
             (λ n. let none_here : only t u ≡ 0 = ap one_if (ne_eqb t u n) in
@@ -156,7 +168,8 @@ module _ (R : Type 0) (k : Shape) (narrow : k.layout.shift ≤ 6) (s : State R (
   pub swap_owed : (i : ℕ) → i < words k.layout
       → Owed R k s sh r (Word (Swap i (get_or s.words (aside_at i) 0))) (set s.words (aside_at i) 0)
   swap_owed i inside =
-      let f : ℕ = get_or s.words (aside_at i) 0 in let found : f ≡ now_cells.words.aside i = sh.cells.aside i inside in record {
+      let f : ℕ = get_or s.words (aside_at i) 0 in let found : f ≡ now_cells.words.aside i = sh.cells.aside i inside in
+      record {
         finds = found;
         value = tt;
         needs = record {
@@ -171,10 +184,12 @@ module _ (R : Type 0) (k : Shape) (narrow : k.layout.shift ≤ 6) (s : State R (
             reshow r.number q _ _ _ _ _ _ _ _ _ _ _ _
             (gathers r.number q (only (t / 2 ^ k.layout.shift) i) (in_small k narrow t i))
             (pick_swept (t / 2 ^ k.layout.shift) i r.number q) tag.word
-            (none_left k narrow now_cells.words.aside i t (aside_bit q) (aside_small q) tag.aside) tag.posted (ok.held t l)
+            (none_left k narrow now_cells.words.aside i t (aside_bit q) (aside_small q) tag.aside)
+              tag.posted (ok.held t l)
             ((λ z. max (ok.swept t l z)
             (among_as k narrow i f t (aside_bit q) (aside_small q)
-            (λ e. (λ z. bit_at (found z) b) ∙ ap (λ (j : ℕ). bit_at (now_cells.words.aside j) b) (sym e) ∙ sym tag.aside) z))
+            (λ e. (λ z. bit_at (found z) b) ∙ ap (λ (j : ℕ). bit_at (now_cells.words.aside j) b) (sym e)
+              ∙ sym tag.aside) z))
             ∙ or_bit k narrow (λ j. get_or r.swept j 0) i f t ∙ list_bit k narrow r.swept i _ t (swept_long i inside));
       }
 
@@ -185,7 +200,8 @@ module _ (R : Type 0) (k : Shape) (narrow : k.layout.shift ≤ 6) (s : State R (
     -- a spill of what was swept
     pub spill_owed : Owed R k s sh r (Word (Spill i mask (get_or s.words (word_at i) 0)))
         (set s.words (word_at i) (without (get_or s.words (word_at i) 0) mask))
-    spill_owed = let n : ℕ = get_or s.words (word_at i) 0 in let found : n ≡ now_cells.words.word i = sh.cells.word i inside in
+    spill_owed = let n : ℕ = get_or s.words (word_at i) 0 in
+        let found : n ≡ now_cells.words.word i = sh.cells.word i inside in
         let x : ℕ = without (now_cells.words.word i) mask in
         let same : without n mask ≡ x = ap (λ (z : ℕ). without z mask) found in
         record {
@@ -205,7 +221,8 @@ module _ (R : Type 0) (k : Shape) (narrow : k.layout.shift ≤ 6) (s : State R (
               (pick_spilled (t / 2 ^ k.layout.shift) i c q)
               ((λ z. min (tag.word z)
               (1 - among_as k narrow i mask t (sweep_bit c q) (sweep_small c q)
-              (λ e. ap (λ (j : ℕ). bit_at (get_or r.swept j 0) (t % 2 ^ k.layout.shift)) (sym e) ∙ sym (ok.swept t l)) z))
+              (λ e. ap (λ (j : ℕ). bit_at (get_or r.swept j 0) (t % 2 ^ k.layout.shift)) (sym e)
+                ∙ sym (ok.swept t l)) z))
               ∙ minus_bit k narrow now_cells.words.word i mask t fits)
               tag.aside tag.posted (ok.held t l)
               (none_left k narrow (λ j. get_or r.swept j 0) i t (sweep_bit c q) (sweep_small c q) (ok.swept t l)

@@ -33,7 +33,8 @@ no_bits l n t = sym (ap (λ (z : ℕ). bit_at z (place_of l t)) (zeros n (word_o
 pub starts : (k : Shape) → k.won_before.value.items ≡ [] → k.back_before.value.items ≡ [] → IsOpening k
 starts k won back = record {
   unspent = λ c. subst (λ (z : List ℕ). get_or z c 0 ≤ MOST_WON) (sym won) (omega arith);
-  even = sum_below-none (λ c. get_or k.won_before.value.items c 0) k.callers (λ c l. ap (λ (z : List ℕ). get_or z c 0) won)
+  even = sum_below-none (λ c. get_or k.won_before.value.items c 0) k.callers
+    (λ c l. ap (λ (z : List ℕ). get_or z c 0) won)
       ∙ sym (sum_below-none (λ c. get_or k.back_before.value.items c 0) k.callers
       (λ c l. ap (λ (z : List ℕ). get_or z c 0) back));
 }
@@ -128,7 +129,8 @@ module _ (R : Type 0) (k : Shape) where
           → get_elem? v.records.value n ≡ some r → IsKnown k [] r × (0 ≡ j) × (r.number ≡ n)
       only_one zero v n r e e' =
           let w = fresh_at k.callers 0 n r
-          (ap (λ (z : View R). get_elem? z.records.value n) (some-injective _ v e) ∙ e') in let z : 0 + n ≡ n = omega arith in
+          (ap (λ (z : View R). get_elem? z.records.value n) (some-injective _ v e) ∙ e') in
+          let z : 0 + n ≡ n = omega arith in
           let low : 0 + n < k.callers = (let l = w.0 in omega arith) in
           (subst (IsKnown k []) w.1 (fresh_ok (0 + n) low), refl, ap (λ (x : Record R). x.number) (sym w.1) ∙ z)
       only_one (suc j) v n r e e' = absurd (some-ne-none v (sym e))
@@ -146,7 +148,8 @@ module _ (R : Type 0) (k : Shape) where
       let position' : ℕ → ℕ = λ c. cond (nat_eq c r.number) 0
       (cond (nat_eq (sh.seat c) id) (sh.position c - 1) (sh.position c)) in
       let moved : (q : Record R) (j n j' n' : ℕ) → q.number ≢ r.number
-      → cond (nat_eq (sh.seat q.number) id) (sh.position q.number - 1) (sh.position q.number) ≡ n' → sh.seat q.number ≡ j'
+      → cond (nat_eq (sh.seat q.number) id) (sh.position q.number - 1) (sh.position q.number) ≡ n'
+        → sh.seat q.number ≡ j'
       → (seat' q.number ≡ j') × (position' q.number ≡ n')
       = (λ q j n j' n' far ep es. (
         ap (λ (b : Bool). cond b (length vs) (sh.seat q.number)) (ne_eqb q.number r.number far) ∙ es,
@@ -166,8 +169,10 @@ module _ (R : Type 0) (k : Shape) where
         records = λ j v' e n q e'. ⊎_elim
             (λ (old : get_elem? vs j ≡ some v'). ⊎_elim
             (λ (t : (j ≡ id) × (viewing rs ≡ v')).
-            let o = sh.records id (viewing (r ∷ rs)) here (suc n) q (ap (λ (z : View R). get_elem? z.records.value n) t.1 ∙ e') in
-            let far : q.number ≢ r.number = (λ z. let p = sym o.2 ∙ ap sh.position z ∙ first.2 in absurd (omega arith)) in
+            let o = sh.records id (viewing (r ∷ rs)) here (suc n) q
+              (ap (λ (z : View R). get_elem? z.records.value n) t.1 ∙ e') in
+            let far : q.number ≢ r.number = (λ z. let p = sym o.2 ∙ ap sh.position z ∙ first.2 in
+              absurd (omega arith)) in
             let p = o.2 in let less : sh.position q.number - 1 ≡ n = omega arith in
             let m = moved q j n j n far
             (ap (λ (b : Bool). cond b (sh.position q.number - 1) (sh.position q.number))
@@ -198,12 +203,14 @@ module _ (R : Type 0) (k : Shape) where
       first_only (suc n) a q e = absurd (some-ne-none q (sym e))
 
   -- the other's records stand behind those of the first
-  pub joins : (id : ℕ) (v : View R) (other : ℕ) (w : View R) → Joins (Shown k) id v other w (both_views v w) (viewing [])
+  pub joins : (id : ℕ) (v : View R) (other : ℕ) (w : View R)
+    → Joins (Shown k) id v other w (both_views v w) (viewing [])
   joins id v other w s sh at apart there =
       let both : View R = both_views v w in let vs : List (View R) = set s.views id both in
       let that : get_elem? s.views other ≡ some w = sym (set_else s.views id other both apart) ∙ there in
       let seat' : ℕ → ℕ = λ c. cond (nat_eq (sh.seat c) other) id (sh.seat c) in
-      let position' : ℕ → ℕ = λ c. cond (nat_eq (sh.seat c) other) (length v.records.value + sh.position c) (sh.position c) in
+      let position' : ℕ → ℕ = λ c. cond (nat_eq (sh.seat c) other) (length v.records.value + sh.position c)
+        (sh.position c) in
       let stays : (q : Record R) (j n : ℕ) → j ≢ other → sh.seat q.number ≡ j → sh.position q.number ≡ n
       → (seat' q.number ≡ j) × (position' q.number ≡ n) =
       (λ q j n far es ep. (
@@ -246,7 +253,8 @@ module _ (R : Type 0) (k : Shape) where
   pub next_fresh : (c n : ℕ) → c < n → fresh {R = R} k c (n - c) ≡ fresh_record k c ∷ fresh k (c + 1) (n - (c + 1))
   next_fresh c n h =
       let m : ℕ = n - (c + 1) in let e : n - c ≡ suc m = omega arith in
-      let e' : suc c ≡ c + 1 = omega arith in ap (fresh {R = R} k c) e ∙ ap (λ (z : ℕ). fresh_record {R = R} k c ∷ fresh k z m) e'
+      let e' : suc c ≡ c + 1 = omega arith in
+      ap (fresh {R = R} k c) e ∙ ap (λ (z : ℕ). fresh_record {R = R} k c ∷ fresh k z m) e'
 
   -- the first record may go to a seat of its own
   pub hands_first : (id : ℕ) (v : View R) (r : Record R) (rs : List (Record R)) → v ≡ viewing (r ∷ rs)

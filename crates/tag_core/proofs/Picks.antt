@@ -89,9 +89,13 @@ spilled c aside = refl
 spilled c (sweep d) = by_bool (nat_eq d c) free (sweep d)
 
 -- a choice by the bits of a sweep
-pub pick_swept : (t u c : ℕ) (p : Place) → pick (only t u) (pick (aside_bit p) (sweep c) p) p ≡ cond (t == u) (swept_by c p) p
-pick_swept t u c p = pick_only t u (pick (aside_bit p) (sweep c) p) p ∙ ap (λ (x : Place). cond (t == u) x p) (swept c p)
+pub pick_swept : (t u c : ℕ) (p : Place) → pick (only t u) (pick (aside_bit p) (sweep c) p) p
+    ≡ cond (t == u) (swept_by c p) p
+pick_swept t u c p = pick_only t u (pick (aside_bit p) (sweep c) p) p
+    ∙ ap (λ (x : Place). cond (t == u) x p) (swept c p)
 
 -- a choice by the bits of a spill
-pub pick_spilled : (t u c : ℕ) (p : Place) → pick (only t u) (pick (sweep_bit c p) free p) p ≡ cond (t == u) (spilled_by c p) p
-pick_spilled t u c p = pick_only t u (pick (sweep_bit c p) free p) p ∙ ap (λ (x : Place). cond (t == u) x p) (spilled c p)
+pub pick_spilled : (t u c : ℕ) (p : Place)
+    → pick (only t u) (pick (sweep_bit c p) free p) p ≡ cond (t == u) (spilled_by c p) p
+pick_spilled t u c p = pick_only t u (pick (sweep_bit c p) free p) p
+    ∙ ap (λ (x : Place). cond (t == u) x p) (spilled c p)

@@ -22,7 +22,8 @@ pub snoc_at : {A : Type 0} (l : List A) (a b : A) (j : ℕ) → get_elem? (l ++ 
 snoc_at [] a b zero e = inr (refl, some-injective a b e)
 snoc_at [] a b (suc j) e = absurd (some-ne-none b (sym e))
 snoc_at (x ∷ xs) a b zero e = inl e
-snoc_at (x ∷ xs) a b (suc j) e = ⊎_elim inl (λ (t : (j ≡ length xs) × (a ≡ b)). inr (ap suc t.0, t.1)) (snoc_at xs a b j e)
+snoc_at (x ∷ xs) a b (suc j) e =
+    ⊎_elim inl (λ (t : (j ≡ length xs) × (a ≡ b)). inr (ap suc t.0, t.1)) (snoc_at xs a b j e)
 
 -- the last entry of a longer list
 pub snoc_here : {A : Type 0} (l : List A) (a : A) → get_elem? (l ++ a ∷ []) (length l) ≡ some a
@@ -42,7 +43,8 @@ append_at (x ∷ xs) m b (suc j) e =
 pub append_second : {A : Type 0} (l m : List A) (i : ℕ) → get_elem? (l ++ m) (length l + i) ≡ get_elem? m i
 append_second [] m i = let e : 0 + i ≡ i = omega arith in ap (get_elem? m) e
 append_second (x ∷ xs) m i =
-    let e : suc (length xs) + i ≡ suc (length xs + i) = omega arith in ap (get_elem? ((x ∷ xs) ++ m)) e ∙ append_second xs m i
+    let e : suc (length xs) + i ≡ suc (length xs + i) = omega arith in
+    ap (get_elem? ((x ∷ xs) ++ m)) e ∙ append_second xs m i
 
 module _ (R : Type 0) (n : ℕ) (views : List (View R)) (seat position : ℕ → ℕ) where
   first : (i : ℕ) (a q : Record R) → get_elem? (a ∷ []) i ≡ some q → (i ≡ 0) × (a ≡ q)
@@ -92,7 +94,8 @@ module _ (R : Type 0) (n : ℕ) (views : List (View R)) (seat position : ℕ →
       = ap (λ (b : Bool). cond b 0 (cond (nat_eq (seat c) id) (position c - 1) (position c))) (ne_eqb c r.number ne) in
       dite (ℕ_discrete (seat c) id)
       (λ (es : seat c ≡ id).
-      let one : viewing (r ∷ rs) ≡ w.0 = some-injective (viewing (r ∷ rs)) w.0 (sym at ∙ ap (get_elem? views) (sym es) ∙ w.2) in
+      let one : viewing (r ∷ rs) ≡ w.0 = some-injective (viewing (r ∷ rs)) w.0 (sym at
+        ∙ ap (get_elem? views) (sym es) ∙ w.2) in
       let q = behind (position c) r rs w.1 (λ z. ne (sym w.4 ∙ ap (λ (x : Record R). x.number) (sym z)))
       (ap (λ (z : View R). get_elem? z.records.value (position c)) one ∙ w.3) in (
         viewing rs,
@@ -100,7 +103,8 @@ module _ (R : Type 0) (n : ℕ) (views : List (View R)) (seat position : ℕ →
         ap (get_elem? (vs ++ alone r ∷ [])) (seat_is ∙ es)
             ∙ at_longer vs (alone r ∷ []) id (viewing rs)
             (set_here views id (viewing rs) (within views id (viewing (r ∷ rs)) at)),
-        ap (get_elem? rs) (place_is ∙ ap (λ (b : Bool). cond b (position c - 1) (position c)) (eq-eqb (seat c) id es)) ∙ q,
+        ap (get_elem? rs) (place_is ∙ ap (λ (b : Bool). cond b (position c - 1) (position c)) (eq-eqb (seat c) id es))
+          ∙ q,
         w.4,
       ))
       (λ (far : seat c ≢ id). (
@@ -133,7 +137,8 @@ module _ (R : Type 0) (n : ℕ) (views : List (View R)) (seat position : ℕ →
       let one : w ≡ x.0 = some-injective w x.0 (sym that ∙ ap (get_elem? views) (sym es) ∙ x.2) in (
         both,
         x.1,
-        ap (λ (b : Bool). get_elem? (set vs other (viewing [])) (cond b id (seat c))) (eq-eqb (seat c) other es) ∙ there,
+        ap (λ (b : Bool). get_elem? (set vs other (viewing [])) (cond b id (seat c))) (eq-eqb (seat c) other es)
+          ∙ there,
         ap (λ (b : Bool). get_elem? (v.records.value ++ w.records.value)
             (cond b (length v.records.value + position c) (position c))) (eq-eqb (seat c) other es)
             ∙ append_second v.records.value w.records.value (position c)

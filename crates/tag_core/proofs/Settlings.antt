@@ -20,7 +20,8 @@ use Rattle.tag_core.proofs.Seats.{within, snoc_at}
 use Rattle.tag_core.proofs.Fronts.{idle}
 use Rattle.tag_core.proofs.Ends.{few_records, won_all, back_all, held_all, even_all}
 
-module _ {R : Type 0} (k : Shape) (s : State R (View R)) (sh : Shown k s) (id : ℕ) (v : View R) (at : get_elem? s.views id ≡ some v)
+module _ {R : Type 0} (k : Shape) (s : State R (View R)) (sh : Shown k s) (id : ℕ) (v : View R)
+    (at : get_elem? s.views id ≡ some v)
     (all : HasRecords k.callers v.records.value) where
   -- what the records tell, and the posted tags of the world
   abbrev totals_there : Totals
@@ -39,7 +40,8 @@ module _ {R : Type 0} (k : Shape) (s : State R (View R)) (sh : Shown k s) (id : 
         history = sh.history;
         lawful = sh.lawful;
         each = λ i r e. (sh.records id v at i r e).0;
-        once = λ i j r q e f same. sym (sh.records id v at i r e).2 ∙ ap sh.position same ∙ (sh.records id v at j q f).2;
+        once = λ i j r q e f same. sym (sh.records id v at i r e).2 ∙ ap sh.position same
+          ∙ (sh.records id v at j q f).2;
         every = all;
         few = few_records k s sh id v at;
         got = refl;
@@ -61,7 +63,8 @@ settle_allowed R k d id me s sh deep at _ = (
     refl,
     λ r e.
         let is : r.shape ≡ k = (sh.records id me.0 at 0 r e).0.shape in
-        subst (λ (z : Shape). HasRecords z.callers me.0.records.value → (totals : Totals) × AreSettled z me.0.records.value totals)
+        subst (λ (z : Shape). HasRecords z.callers me.0.records.value → (totals : Totals)
+          × AreSettled z me.0.records.value totals)
         (sym is) (λ all. (totals_there k s sh id me.0 at all, settled_there k s sh id me.0 at all)),
   ),
 )
@@ -95,7 +98,8 @@ module _ {R : Type 0} where
       ∙ append_assoc (map record_of front) (record_of last ∷ []) rs
 
   -- callers that are as they were have the records that they had
-  pub unchanged-records : (olds news : List (Caller R)) → AreUnchanged olds news → map record_of news ≡ map record_of olds
+  pub unchanged-records : (olds news : List (Caller R)) → AreUnchanged olds news
+    → map record_of news ≡ map record_of olds
   unchanged-records [] [] same = refl
   unchanged-records [] (b ∷ news) same = let e = same.count in absurd (omega arith)
   unchanged-records (a ∷ olds) [] same = let e = same.count in absurd (omega arith)
@@ -111,5 +115,6 @@ module _ {R : Type 0} where
       let a = known.got in let b = known.back in let d = known.held in let even = known.balance in
       let same_got : t.got ≡ u.got = omega arith in let same_back : t.back ≡ u.back = omega arith in
       let same_held : t.held ≡ u.held = omega arith in let same_posted : t.posted ≡ u.posted = omega arith in
-      subst (AreSettled k rs) (λ j. record { got = same_got j; back = same_back j; held = same_held j; posted = same_posted j })
+      subst (AreSettled k rs) (λ j. record { got = same_got j; back = same_back j; held = same_held j;
+        posted = same_posted j })
       known

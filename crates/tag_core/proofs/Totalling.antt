@@ -30,6 +30,7 @@ total_of-taken f (y ∷ xs) (suc i) x e =
     ∙ (let z : f y + total_of f (take (i + 1) xs) ≡ f y + total_of f (take i xs) + f x = omega arith in z)
 
 -- the total of what a function makes of each element
-pub total_of-map : {A B : Type 0} (f : B → ℕ) (g : A → B) (xs : List A) → total_of f (map g xs) ≡ total_of (λ x. f (g x)) xs
+pub total_of-map : {A B : Type 0} (f : B → ℕ) (g : A → B) (xs : List A)
+    → total_of f (map g xs) ≡ total_of (λ x. f (g x)) xs
 total_of-map f g [] = refl
 total_of-map f g (x ∷ xs) = ap (λ (z : ℕ). f (g x) + z) (total_of-map f g xs)

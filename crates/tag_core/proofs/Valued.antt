@@ -7,8 +7,10 @@ use Rattle.tag_core.specs.Records.{tags_from, value_of}
 use Rattle.tag_core.proofs.Acts.{moves}
 
 -- each tag that is carried has a value
-pub valued : {S : Type 0} (f : ℕ → ℕ) (n : ℕ) (cs : List (ℕ × S)) → map (λ x. x.0) cs ≡ tags_from f 0 n → (u : ℕ) → u < n
+pub valued : {S : Type 0} (f : ℕ → ℕ) (n : ℕ) (cs : List (ℕ × S)) → map (λ x. x.0) cs ≡ tags_from f 0 n → (u : ℕ)
+    → u < n
     → f u ≡ 1 → (v : S) × (value_of cs u ≡ some v)
 valued {S} f n cs tags u l has =
     let homes : List (maybe.Option S) = replicate n none in let long : length homes ≡ n = length-replicate n none in
-    let k = moves S f f n homes cs (omega arith) tags (λ t low no is. absurd (no is)) in let w = k.kept u l has has in (w.0, w.1)
+    let k = moves S f f n homes cs (omega arith) tags (λ t low no is. absurd (no is)) in let w = k.kept u l has has in
+    (w.0, w.1)

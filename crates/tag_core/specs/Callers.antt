@@ -33,12 +33,14 @@ record_of caller = record {
 
 -- the caller holds the tag
 abbrev pub Holds : {R : Type 0} → Caller R → ℕ → Type 0
-Holds caller tag = (tag < caller.shape.value.layout.depth) × (tag_bit caller.shape.value.layout caller.held.items tag ≡ 1)
+Holds caller tag = (tag < caller.shape.value.layout.depth)
+    × (tag_bit caller.shape.value.layout caller.held.items tag ≡ 1)
 
 -- no two of the callers have one number
 abbrev pub HaveOwnNumbers : {R : Type 0} → List (Caller R) → Type 0
 HaveOwnNumbers {R} callers =
-    (i j : ℕ) (a b : Caller R) → get_elem? callers i ≡ some a → get_elem? callers j ≡ some b → a.number ≡ b.number → i ≡ j
+    (i j : ℕ) (a b : Caller R) → get_elem? callers i ≡ some a → get_elem? callers j ≡ some b
+      → a.number ≡ b.number → i ≡ j
 
 -- the value of the slot of a tag that the caller holds
 abbrev pub slot_of : {R : Type 0} → Caller R → ℕ → maybe.Option R

@@ -39,8 +39,11 @@ won_along {R} epochs = total_of (λ (e : Epoch R). total_of won_by (events_of e.
 abbrev pub back_along : {R : Type 0} → List (Epoch R) → ℕ
 back_along {R} epochs = total_of (λ (e : Epoch R). total_of back_by (events_of e.shape.layout e.history)) epochs
 
--- a chain leads to this map, and along each such chain the totals are what its steps and those of this map won and gave back
+-- a chain leads to this map, and along each such chain the totals are what its steps and those of this map won and
+-- gave back
 pub record CountsChain {R : Type 0} (k : Shape) (h : History R) (totals : Totals) : Type 0 where
   pub leads : HasChain R k
-  pub got : (older : List (Epoch R)) → IsChain k older → totals.got ≡ won_along (record { shape = k; history = h } ∷ older)
-  pub back : (older : List (Epoch R)) → IsChain k older → totals.back ≡ back_along (record { shape = k; history = h } ∷ older)
+  pub got : (older : List (Epoch R)) → IsChain k older
+    → totals.got ≡ won_along (record { shape = k; history = h } ∷ older)
+  pub back : (older : List (Epoch R)) → IsChain k older
+    → totals.back ≡ back_along (record { shape = k; history = h } ∷ older)

@@ -18,7 +18,8 @@ use Rattle.tag_core.specs.Histories.{History, IsLawful, world_of, steps_by, last
 use Rattle.tag_core.specs.Sizes.{total_of, size_of}
 use Rattle.tag_core.specs.Chain.{CountsChain}
 
--- the totals are the sums over these records, those of the world that one history of all their steps leaves, and what was
+-- the totals are the sums over these records, those of the world that one history of all their steps leaves, and
+-- what was
 -- won and given back in this map and in those before it
 pub record IsGathered {R : Type 0} (k : Shape) (rs : List (Record R)) (closed : Closed R) : Type 0 where
   pub history : History R

@@ -97,12 +97,14 @@ abbrev pub FindsPost : {R : Type 0} → Step R → History R → Type 0
 FindsPost (Word step) older = Unit {0}
 FindsPost (Post tag value) older = Unit {0}
 FindsPost (Take tag zero value) older = Unit {0}
-FindsPost {R} (Take tag (suc found) value) older = (posted : R) × (value ≡ Some posted) × (last_post tag older ≡ some posted)
+FindsPost {R} (Take tag (suc found) value) older = (posted : R) × (value ≡ Some posted)
+    × (last_post tag older ≡ some posted)
 
 -- each step is by a caller of the map, and found what the older ones left
 abbrev pub EachFinds : {R : Type 0} → ℕ → History R → Type 0
 EachFinds callers [] = Unit {0}
-EachFinds callers (x ∷ older) = (x.0 < callers) × FindsIn x.1 (cells_of older) × FindsPost x.1 older × EachFinds callers older
+EachFinds callers (x ∷ older) = (x.0 < callers) × FindsIn x.1 (cells_of older) × FindsPost x.1 older
+    × EachFinds callers older
 
 -- each step found what the older ones left, and its event could happen in their world
 pub record IsLawful {R : Type 0} (k : Shape) (h : History R) : Type 0 where

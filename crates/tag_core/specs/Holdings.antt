@@ -15,7 +15,8 @@ pub record Releases {R : Type 0} (released : ℕ → Type 0) (old new : Caller R
   pub kept : (tag : ℕ) → ¬ (released tag) → Holds old tag → Holds new tag × (slot_of new tag ≡ slot_of old tag)
   pub none_else : (tag : ℕ) → Holds new tag → Holds old tag
 
--- the caller holds these tags, of which it held none before, and what it held, with the values of the slots, and no more
+-- the caller holds these tags, of which it held none before, and what it held, with the values of the slots, and no
+-- more
 pub record Acquires {R : Type 0} (acquired : ℕ → Type 0) (old new : Caller R) : Type 0 where
   pub fresh : (tag : ℕ) → acquired tag → ¬ (Holds old tag)
   pub joined : (tag : ℕ) → acquired tag → Holds new tag

@@ -7,7 +7,8 @@ use Rattle.tag_core.specs.Histories.{History, cells_of, world_of, IsLawful}
 use Rattle.tag_core.specs.Records.{tag_bit}
 use Rattle.tag_core.specs.Rule.{ShowsTag, IsKnown}
 
--- one lawful history shows the record: its world has its held set and counts, its list is its caller's steps in it, and the
+-- one lawful history shows the record: its world has its held set and counts, its list is its caller's steps in it,
+-- and the
 -- words show the place that each tag has in that world, and have no bit outside the layout
 pub record HasHistory {R : Type 0} (k : Shape) (r : Record R) : Type 0 where
   pub history : History R
@@ -17,7 +18,8 @@ pub record HasHistory {R : Type 0} (k : Shape) (r : Record R) : Type 0 where
   pub word_within : (i : ℕ) → i < words k.layout → IsWithin k.layout i ((cells_of history).words.word i)
   pub aside_within : (i : ℕ) → i < words k.layout → IsWithin k.layout i ((cells_of history).words.aside i)
 
--- one lawful history shows both records: its world has their held sets and counts, and their lists are their steps in it
+-- one lawful history shows both records: its world has their held sets and counts, and their lists are their steps
+-- in it
 pub record ShareHistory {R : Type 0} (k : Shape) (first second : Record R) : Type 0 where
   pub history : History R
   pub lawful : IsLawful k history

@@ -21,7 +21,8 @@ use Rattle.tag_core.specs.Views.{viewing, alone}
 use Rattle.tag_core.specs.Meeting.{HasHistory, ShareHistory, AreApart}
 use Rattle.tag_core.specs.Settling.{HasRecords, AreSettled}
 
--- the caller of this record made the step: the slots of its tags are with it, and those of tags that it keeps have their values
+-- the caller of this record made the step: the slots of its tags are with it, and those of tags that it keeps have
+-- their values
 pub record Stepped {R : Type 0} (step : Step R) (r : Record R) (me me' : Me R (View R)) : Type 0 where
   pub view : me'.0 ≡ alone (record_after step r)
   pub carries : Carries r.shape.layout (held_after r.shape.layout step r.held) me'.1
@@ -81,10 +82,12 @@ module _ {R : Type 0} (st : table.Step R) (me : Me R (View R)) (found : ℕ) (me
   -- a store of 1 in a held tag's state
   abbrev pub posted : Type 0
   posted =
-      (tag : ℕ) (value : R) (r : Record R) → st.word ≡ state_at r.shape.layout tag → value_of me.1 tag ≡ some value → me.0 ≡ alone r
+      (tag : ℕ) (value : R) (r : Record R) → st.word ≡ state_at r.shape.layout tag
+        → value_of me.1 tag ≡ some value → me.0 ≡ alone r
       → Stepped (Post tag value) r me me'
 
-  -- an exchange of a state's 1 for 0: where it was 1, the slot that came has the value of the tag's last Post, and the tag was
+  -- an exchange of a state's 1 for 0: where it was 1, the slot that came has the value of the tag's last Post, and
+  -- the tag was
   -- not the caller's
   abbrev pub took : Type 0
   took =
@@ -98,7 +101,8 @@ module _ {R : Type 0} (st : table.Step R) (me : Me R (View R)) (found : ℕ) (me
   fronted =
       (tag : ℕ) (r : Record R) → st.word ≡ state_at r.shape.layout tag → me.0 ≡ alone r
       → tag < r.shape.layout.depth → tag_bit r.shape.layout r.held tag ≡ 1
-      → (value : R) × (slots : List (ℕ × R)) × (me'.0 ≡ me.0) × (me'.1 ≡ (tag, value) ∷ slots) × (value_of me.1 tag ≡ some value)
+      → (value : R) × (slots : List (ℕ × R)) × (me'.0 ≡ me.0) × (me'.1 ≡ (tag, value) ∷ slots)
+        × (value_of me.1 tag ≡ some value)
       × (map (λ x. x.0) slots ≡ tags_from (but (tag_bit r.shape.layout r.held) tag) 0 r.shape.layout.depth)
       × ((other : ℕ) → other < r.shape.layout.depth → other ≢ tag → tag_bit r.shape.layout r.held other ≡ 1
       → value_of slots other ≡ value_of me.1 other)
@@ -106,7 +110,8 @@ module _ {R : Type 0} (st : table.Step R) (me : Me R (View R)) (found : ℕ) (me
   -- a load that puts it back into its order
   abbrev pub ordered : Type 0
   ordered =
-      (tag : ℕ) (value : R) (slots : List (ℕ × R)) (r : Record R) → st.word ≡ state_at r.shape.layout tag → me.0 ≡ alone r
+      (tag : ℕ) (value : R) (slots : List (ℕ × R)) (r : Record R)
+        → st.word ≡ state_at r.shape.layout tag → me.0 ≡ alone r
       → me.1 ≡ (tag, value) ∷ slots
       → map (λ x. x.0) slots ≡ tags_from (but (tag_bit r.shape.layout r.held) tag) 0 r.shape.layout.depth
       → tag_bit r.shape.layout r.held tag ≡ 1
@@ -116,7 +121,8 @@ module _ {R : Type 0} (st : table.Step R) (me : Me R (View R)) (found : ℕ) (me
 
   -- a load by a seat that has several callers' records: there are no more than the map has callers
   abbrev pub counted : Type 0
-  counted = (me' ≡ me) × ((r : Record R) (rs : List (Record R)) → me.0 ≡ viewing (r ∷ rs) → length (r ∷ rs) ≤ r.shape.callers)
+  counted = (me' ≡ me) × ((r : Record R) (rs : List (Record R)) → me.0 ≡ viewing (r ∷ rs)
+    → length (r ∷ rs) ≤ r.shape.callers)
 
   -- a load by a seat that has two callers' records: they are of two callers, who hold no tag in common, in one history
   abbrev pub met : Type 0

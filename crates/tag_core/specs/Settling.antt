@@ -12,14 +12,16 @@ use Rattle.tag_core.specs.Sizes.{total_of, size_of}
 
 -- each caller of so many has its record among these
 abbrev pub HasRecords : {R : Type 0} → ℕ → List (Record R) → Type 0
-HasRecords {R} callers rs = (n : ℕ) → n < callers → (i : ℕ) × (r : Record R) × (get_elem? rs i ≡ some r) × (r.number ≡ n)
+HasRecords {R} callers rs = (n : ℕ) → n < callers → (i : ℕ) × (r : Record R)
+    × (get_elem? rs i ≡ some r) × (r.number ≡ n)
 
 -- these are the records of all callers, each once; one lawful history shows them all, and these totals are its world's
 pub record AreSettled {R : Type 0} (k : Shape) (rs : List (Record R)) (totals : Totals) : Type 0 where
   pub history : History R
   pub lawful : IsLawful k history
   pub each : (i : ℕ) (r : Record R) → get_elem? rs i ≡ some r → IsKnown k history r
-  pub once : (i j : ℕ) (r q : Record R) → get_elem? rs i ≡ some r → get_elem? rs j ≡ some q → r.number ≡ q.number → i ≡ j
+  pub once : (i j : ℕ) (r q : Record R) → get_elem? rs i ≡ some r → get_elem? rs j ≡ some q
+    → r.number ≡ q.number → i ≡ j
   pub every : HasRecords k.callers rs
   pub few : length rs ≤ k.callers
   pub got : totals.got ≡ total_of (λ (r : Record R). r.won) rs

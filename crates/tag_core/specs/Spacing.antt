@@ -1,4 +1,5 @@
--- Where the words, the cleared sets and the states stand in the table, 64 bytes apart: a spare word at 0, each word with
+-- Where the words, the cleared sets and the states stand in the table, 64 bytes apart: a spare word at 0, each word
+-- with
 -- its cleared set behind it, and then the states.
 use Rattle.std.specs.Prelude.{ℕ, ◌+◌, ◌*◌}
 use Rattle.tag_layout.specs.Layout.{Layout, words}

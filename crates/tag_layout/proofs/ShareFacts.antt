@@ -13,7 +13,8 @@ pub div-is : (n d q : ℕ) → 0 < d → q * d ≤ n → n < suc q * d → n / d
 div-is n d q pos low high =
     let whole : n / d * d + n % d ≡ n = div-add-mod' n d in let rest : n % d < d = mod_below n d pos in
     let at_least : q ≤ n / d = le-div q n d pos low in
-    let at_most : n / d < suc q = dite (dec_lt (n / d) (suc q)) (λ h. h) (λ no. let over : suc q * d ≤ n / d * d = mul-le-mul_right d (omega arith) in absurd (omega arith)) in
+    let at_most : n / d < suc q = dite (dec_lt (n / d) (suc q)) (λ h. h) (λ no. let over : suc q * d ≤ n / d * d =
+      mul-le-mul_right d (omega arith) in absurd (omega arith)) in
     omega arith
 
 pub div-le-div : (m n d : ℕ) → 0 < d → m ≤ n → m / d ≤ n / d
@@ -22,7 +23,8 @@ div-le-div m n d pos h = let whole : m / d * d + m % d ≡ m = div-add-mod' m d 
 module _ (l : Layout) (s : ℕ) where
   -- more tags have no smaller share
   pub share-mono : (a b : ℕ) → 0 < l.depth → a ≤ b → share l s a ≤ share l s b
-  share-mono a b pos h = div-le-div (min s l.depth * a) (min s l.depth * b) l.depth pos (mul-le-mul_left (min s l.depth) h)
+  share-mono a b pos h = div-le-div (min s l.depth * a) (min s l.depth * b) l.depth pos
+    (mul-le-mul_left (min s l.depth) h)
 
   pub share-none : 0 < l.depth → share l s 0 ≡ 0
   share-none pos = div-is (min s l.depth * 0) l.depth 0 pos (omega arith) (omega arith)
@@ -35,30 +37,37 @@ module _ (l : Layout) (s : ℕ) where
   pub share-more : (a w : ℕ) → 0 < l.depth → share l s (a + w) ≤ share l s a + w
   share-more a w pos =
       let m : ℕ = min s l.depth in let d : ℕ = l.depth in
-      let whole : m * a / d * d + m * a % d ≡ m * a = div-add-mod' (m * a) d in let rest : m * a % d < d = mod_below (m * a) d pos in
+      let whole : m * a / d * d + m * a % d ≡ m * a = div-add-mod' (m * a) d in
+      let rest : m * a % d < d = mod_below (m * a) d pos in
       let most : m * w ≤ d * w = mul-le-mul_right w (omega arith) in
       let spread : m * (a + w) ≡ m * a + m * w = omega arith in
       let more : (m * a / d + w) * d ≡ m * a / d * d + d * w = omega arith in
-      let up : m * (a + w) / d ≤ ((m * a / d + w) * d + (m * a % d)) / d = div-le-div (m * (a + w)) ((m * a / d + w) * d + (m * a % d)) d pos (omega arith) in
-      let is : ((m * a / d + w) * d + (m * a % d)) / d ≡ m * a / d + w = div-mul-add (m * a / d + w) d (m * a % d) rest in omega arith
+      let up : m * (a + w) / d ≤ ((m * a / d + w) * d + (m * a % d)) / d =
+        div-le-div (m * (a + w)) ((m * a / d + w) * d + (m * a % d)) d pos (omega arith) in
+      let is : ((m * a / d + w) * d + (m * a % d)) / d ≡ m * a / d + w =
+        div-mul-add (m * a / d + w) d (m * a % d) rest in omega arith
 
   pub shallow_limit-le : (word : ℕ) → 0 < l.depth → shallow_limit l word s ≤ word_depth l word
   shallow_limit-le word pos = let more = share-more (word * word_bits l) (word_depth l word) pos in omega arith
 
   -- the first so many words have the share of the first so many tags
-  pub sum_below-shallow_limit : (n : ℕ) → 0 < l.depth → sum_below (λ w. shallow_limit l w s) n ≡ share l s (min (n * word_bits l) l.depth)
-  sum_below-shallow_limit zero pos = let z : min (0 * word_bits l) l.depth ≡ 0 = omega arith in sym (ap (share l s) z ∙ share-none pos)
+  pub sum_below-shallow_limit : (n : ℕ) → 0 < l.depth
+    → sum_below (λ w. shallow_limit l w s) n ≡ share l s (min (n * word_bits l) l.depth)
+  sum_below-shallow_limit zero pos = let z : min (0 * word_bits l) l.depth ≡ 0 = omega arith in
+    sym (ap (share l s) z ∙ share-none pos)
   sum_below-shallow_limit (suc n) pos =
       let p : ℕ = word_bits l in let before = sum_below-shallow_limit n pos in
       let next : suc n * p ≡ n * p + p = omega arith in
       dite (dec_lt (n * p) l.depth)
       (λ (inside : n * p < l.depth).
-      let here : min (n * p) l.depth ≡ n * p = omega arith in let there : min (suc n * p) l.depth ≡ n * p + word_depth l n = omega arith in
+      let here : min (n * p) l.depth ≡ n * p = omega arith in
+      let there : min (suc n * p) l.depth ≡ n * p + word_depth l n = omega arith in
       let a : share l s (min (n * p) l.depth) ≡ share l s (n * p) = ap (share l s) here in
       let b : share l s (min (suc n * p) l.depth) ≡ share l s (n * p + word_depth l n) = ap (share l s) there in
       let up = share-mono (n * p) (n * p + word_depth l n) pos (omega arith) in omega arith)
       (λ outside.
-      let here : min (n * p) l.depth ≡ l.depth = omega arith in let there : min (suc n * p) l.depth ≡ l.depth = omega arith in
+      let here : min (n * p) l.depth ≡ l.depth = omega arith in
+      let there : min (suc n * p) l.depth ≡ l.depth = omega arith in
       let none : n * p + word_depth l n ≡ n * p = omega arith in
       let a : share l s (min (n * p) l.depth) ≡ share l s l.depth = ap (share l s) here in
       let b : share l s (min (suc n * p) l.depth) ≡ share l s l.depth = ap (share l s) there in
@@ -70,13 +79,16 @@ module _ (l : Layout) (s : ℕ) where
       (λ (pos : 0 < l.depth).
       let sum = sum_below-shallow_limit (words l) pos in let room = depth-le-words l in
       let all : min (words l * word_bits l) l.depth ≡ l.depth = omega arith in
-      let a : share l s (min (words l * word_bits l) l.depth) ≡ share l s l.depth = ap (share l s) all in let b = share-all pos in omega arith)
+      let a : share l s (min (words l * word_bits l) l.depth) ≡ share l s l.depth = ap (share l s) all in
+      let b = share-all pos in omega arith)
       (λ empty.
-      let none : words l ≡ 0 = div-is (l.depth + word_bits l - 1) (word_bits l) 0 (word_bits-pos l) (omega arith) (omega (arith, word_bits-pos l)) in
+      let none : words l ≡ 0 = div-is (l.depth + word_bits l - 1) (word_bits l) 0 (word_bits-pos l) (omega arith)
+        (omega (arith, word_bits-pos l)) in
       ap (sum_below (λ w. shallow_limit l w s)) none ∙ omega arith)
 
 pub mul-le-mul : (a b m n : ℕ) → a ≤ m → b ≤ n → a * b ≤ m * n
-mul-le-mul a b m n h g = let x : a * b ≤ m * b = mul-le-mul_right b h in let y : m * b ≤ m * n = mul-le-mul_left m g in omega arith
+mul-le-mul a b m n h g = let x : a * b ≤ m * b = mul-le-mul_right b h in let y : m * b ≤ m * n = mul-le-mul_left m g in
+    omega arith
 
 -- A quotient by one multiplication: the reciprocal of d, scaled and rounded up, is exact for numbers up to d * d.
 module _ (n d : ℕ) (pos : 0 < d) (small : d ≤ 10240) (fits : n ≤ d * d) where
@@ -88,7 +100,8 @@ module _ (n d : ℕ) (pos : 0 < d) (small : d ≤ 10240) (fits : n ≤ d * d) wh
   excess = d - 2 ^ 40 % d
 
   scaled : d * reciprocal ≡ 2 ^ 40 + excess
-  scaled = let whole : 2 ^ 40 / d * d + 2 ^ 40 % d ≡ 2 ^ 40 = div-add-mod' (2 ^ 40) d in let low : 2 ^ 40 % d < d = mod_below (2 ^ 40) d pos in omega arith
+  scaled = let whole : 2 ^ 40 / d * d + 2 ^ 40 % d ≡ 2 ^ 40 = div-add-mod' (2 ^ 40) d in
+    let low : 2 ^ 40 % d < d = mod_below (2 ^ 40) d pos in omega arith
 
   square : d * d ≤ 10240 * 10240
   square = mul-le-mul d d 10240 10240 small small
@@ -98,11 +111,13 @@ module _ (n d : ℕ) (pos : 0 < d) (small : d ≤ 10240) (fits : n ≤ d * d) wh
       let more : n * reciprocal ≤ d * d * reciprocal = mul-le-mul_right reciprocal fits in
       let turned : d * d * reciprocal ≡ d * (d * reciprocal) = omega arith in
       let is = scaled in
-      let most : d * (d * reciprocal) ≤ 10240 * (2 ^ 40 + 10240) = mul-le-mul d (d * reciprocal) 10240 (2 ^ 40 + 10240) small (omega arith) in omega arith
+      let most : d * (d * reciprocal) ≤ 10240 * (2 ^ 40 + 10240) =
+        mul-le-mul d (d * reciprocal) 10240 (2 ^ 40 + 10240) small (omega arith) in omega arith
 
   few : n / d ≤ d
   few = dite (dec_lt d (n / d))
-      (λ (over : d < n / d). let whole : n / d * d + n % d ≡ n = div-add-mod' n d in let more : suc d * d ≤ n / d * d = mul-le-mul_right d over in absurd (omega arith))
+      (λ (over : d < n / d). let whole : n / d * d + n % d ≡ n = div-add-mod' n d in
+        let more : suc d * d ≤ n / d * d = mul-le-mul_right d over in absurd (omega arith))
       (λ no. omega arith)
 
   pub div-by_reciprocal : n * reciprocal / 2 ^ 40 ≡ n / d

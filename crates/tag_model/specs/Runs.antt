@@ -16,7 +16,8 @@ MayRun l callers w [] = Unit {0}
 MayRun l callers w (event ∷ events) = MayHappen l callers w event × MayRun l callers (after l event w) events
 
 -- the event at this place is the first that can't happen, and this is the cause
-pub record StopsAt (l : Layout) (callers : ℕ) (w : World) (events : List Event) (place : ℕ) (fault : EventFault) : Type 0 where
+pub record StopsAt (l : Layout) (callers : ℕ) (w : World) (events : List Event) (place : ℕ)
+    (fault : EventFault) : Type 0 where
   pub before : List Event
   pub event : Event
   pub rest : List Event
@@ -33,4 +34,5 @@ after_history l (event ∷ older) w = after l event (after_history l older w)
 -- each event of a history could happen in the world that the older ones left
 abbrev pub IsHistory : Layout → ℕ → World → List Event → Type 0
 IsHistory l callers w [] = Unit {0}
-IsHistory l callers w (event ∷ older) = MayHappen l callers (after_history l older w) event × IsHistory l callers w older
+IsHistory l callers w (event ∷ older) = MayHappen l callers (after_history l older w) event
+    × IsHistory l callers w older

@@ -56,13 +56,15 @@ missing_of _ = NotHeld
 -- nothing is wrong with the event but where the tags are that it names
 abbrev pub IsMisplaced : Layout → ℕ → World → Event → Type 0
 IsMisplaced l callers w event =
-    IsInLayout l event × (caller_of event < callers) × (w.won (caller_of event) + won_by event ≤ MOST_WON) × Misses l w event
+    IsInLayout l event × (caller_of event < callers) × (w.won (caller_of event) + won_by event ≤ MOST_WON)
+      × Misses l w event
 
 -- the first cause, in their order, for which the event can't happen
 abbrev pub IsFirstFault : Layout → ℕ → World → Event → EventFault → Type 0
 IsFirstFault l callers w event NoSuchTag = ¬ (IsInLayout l event)
 IsFirstFault l callers w event NoSuchCaller = IsInLayout l event × (callers ≤ caller_of event)
-IsFirstFault l callers w event Spent = IsInLayout l event × (caller_of event < callers) × (MOST_WON < w.won (caller_of event) + won_by event)
+IsFirstFault l callers w event Spent = IsInLayout l event × (caller_of event < callers)
+    × (MOST_WON < w.won (caller_of event) + won_by event)
 IsFirstFault l callers w event NotFree = IsMisplaced l callers w event × (missing_of event ≡ NotFree)
 IsFirstFault l callers w event NotHeld = IsMisplaced l callers w event × (missing_of event ≡ NotHeld)
 IsFirstFault l callers w event NotPosted = IsMisplaced l callers w event × (missing_of event ≡ NotPosted)

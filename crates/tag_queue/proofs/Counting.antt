@@ -16,7 +16,8 @@ use Rattle.tag_queue.specs.Agents.{SameCounts, waiter_of, book_steps, group_step
 use Rattle.tag_queue.specs.Clears.{Follows, FindsNobody, Charges, Counts}
 
 -- after a charge that was not won no step follows
-pub follows_none : (batch : ℕ) (charge : Charge) (steps : List GroupStep) → ((start : ℕ) → charge ≡ Won start → ⊥) → Follows batch charge steps steps 0
+pub follows_none : (batch : ℕ) (charge : Charge) (steps : List GroupStep) → ((start : ℕ) → charge ≡ Won start → ⊥)
+    → Follows batch charge steps steps 0
 follows_none batch Full steps h = (refl, refl)
 follows_none batch Below steps h = (refl, refl)
 follows_none batch (Won start) steps h = absurd (h start refl)
@@ -24,7 +25,8 @@ follows_none batch Busy steps h = (refl, refl)
 
 module _ {R : Type 0} (queue : Queue R) (n : ℕ) where
   -- steps of the map alone before it change nothing of it
-  pub counts_after : (old mid new : Agent R) (woken : ℕ) → SameCounts old mid → Counts queue n mid new woken → Counts queue n old new woken
+  pub counts_after : (old mid new : Agent R) (woken : ℕ) → SameCounts old mid → Counts queue n mid new woken
+    → Counts queue n old new woken
   counts_after old mid new woken same c = record {
     counts = ⊎_elim (λ (f : FindsNobody mid new woken). inl (record {
       teller = f.teller ∙ same.0;
@@ -34,8 +36,10 @@ module _ {R : Type 0} (queue : Queue R) (n : ℕ) where
       active = f.active;
       some = f.some;
       charge = f.charge;
-      lawful = subst (λ (t : Teller). IsCharge (cap_of queue) (batch_of queue) n (book.steps_of t) (book_steps new) f.charge) same.0 f.lawful;
-      follows = subst (λ (w : Waiter). Follows (batch_of queue) f.charge (Look active_at f.active ∷ groups.steps_of w) (group_steps new) woken) same.1 f.follows;
+      lawful = subst (λ (t : Teller). IsCharge (cap_of queue) (batch_of queue) n (book.steps_of t)
+        (book_steps new) f.charge) same.0 f.lawful;
+      follows = subst (λ (w : Waiter). Follows (batch_of queue) f.charge (Look active_at f.active ∷ groups.steps_of w)
+        (group_steps new) woken) same.1 f.follows;
     })) c.counts;
     stands = subst (λ (w : Waiter). groups.StandsAsBefore w (waiter_of new)) same.1 c.stands;
   }

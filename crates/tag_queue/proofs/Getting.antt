@@ -8,12 +8,14 @@ use Rattle.tag_core.specs.Callers.{record_of}
 use Rattle.tag_core.specs.Records.{record_after}
 use Rattle.tag_search.specs.Shared.{Makes, record_after_all}
 
-steps_after : {R : Type 0} (steps : List WordStep) (r : Record R) → length (record_after_all steps r).steps ≡ length steps + length r.steps
+steps_after : {R : Type 0} (steps : List WordStep) (r : Record R)
+    → length (record_after_all steps r).steps ≡ length steps + length r.steps
 steps_after [] r = omega arith
 steps_after (x ∷ steps) r = let h = steps_after steps (record_after (Word x) r) in omega arith
 
 -- a get's steps are few
-pub few_steps : {R : Type 0} {fact : List WordStep → Type 0} {old new : Caller R} (most : ℕ) → ((steps : List WordStep) → fact steps → length steps ≤ most)
+pub few_steps : {R : Type 0} {fact : List WordStep → Type 0} {old new : Caller R} (most : ℕ)
+    → ((steps : List WordStep) → fact steps → length steps ≤ most)
     → Makes old new fact → length (record_of new).steps ≤ most + length (record_of old).steps
 few_steps {old = old} most h m =
     let e = ap (λ (r : Record _). length r.steps) m.added.known in let n = steps_after m.steps (record_of old) in

@@ -28,22 +28,27 @@ use Rattle.tag_search.proofs.Claims.{count_ones-pow}
 use Rattle.tag_queue.specs.Batches.{Run, AreRuns, EndsElsewhere, GivesAll, record_after_runs}
 
 -- one more bit is one more, in a word of any width
-one_bit_more : (width mask p : ℕ) → mask < 2 ^ width → p < width → bit_at mask p ≡ 0 → count_ones (bit_or mask (2 ^ p)) ≡ count_ones mask + 1
+one_bit_more : (width mask p : ℕ) → mask < 2 ^ width → p < width → bit_at mask p ≡ 0
+    → count_ones (bit_or mask (2 ^ p)) ≡ count_ones mask + 1
 one_bit_more width mask p fits low none =
     let bit : 2 ^ p < 2 ^ width = pow_below p width low in
     let both = sum_below-bits width (bit_or mask (2 ^ p)) (or_lt width mask (2 ^ p) fits bit) in
-    let before = sum_below-bits width mask fits in let one = sum_below-bits width (2 ^ p) bit in let pow = count_ones-pow p in
+    let before = sum_below-bits width mask fits in let one = sum_below-bits width (2 ^ p) bit in
+    let pow = count_ones-pow p in
     let sum = sum_below-add (bit_at (bit_or mask (2 ^ p))) (bit_at mask) (bit_at (2 ^ p)) width
-    (λ j h. let o = bit_at_or mask (2 ^ p) j in let a = bit_at-lt mask j in let b = bit_at-lt (2 ^ p) j in dite (ℕ_discrete j p)
+    (λ j h. let o = bit_at_or mask (2 ^ p) j in let a = bit_at-lt mask j in
+      let b = bit_at-lt (2 ^ p) j in dite (ℕ_discrete j p)
     (λ (e : j ≡ p). let z : bit_at mask j ≡ 0 = ap (bit_at mask) e ∙ none in omega arith)
     (λ (ne : j ≢ p). let z = bit_at-pow_other p j ne in omega arith)) in omega arith
 
 -- one more bit is one more
-pub ones_more : (mask p : ℕ) → mask < 2 ^ 64 → p < 64 → bit_at mask p ≡ 0 → count_ones (bit_or mask (2 ^ p)) ≡ count_ones mask + 1
+pub ones_more : (mask p : ℕ) → mask < 2 ^ 64 → p < 64 → bit_at mask p ≡ 0
+    → count_ones (bit_or mask (2 ^ p)) ≡ count_ones mask + 1
 ones_more mask p fits low none = one_bit_more 64 mask p fits low none
 
 -- a number that differs from those before it is none of them
-pub not_before : (tags : List ℕ) (i : ℕ) → i < length tags → AllPairs (λ a b. a ≢ b) tags → ¬ (Contains (take i tags) (get_or tags i 0))
+pub not_before : (tags : List ℕ) (i : ℕ) → i < length tags → AllPairs (λ a b. a ≢ b) tags
+    → ¬ (Contains (take i tags) (get_or tags i 0))
 not_before tags i within differ c =
     let x : ℕ = get_or tags i 0 in let less : c.0 < i = let l = length-take i tags in let w = c.1 in omega arith in
     differ c.0 i x less within (sym (get_or-take i tags c.0 x less) ∙ c.2 ∙ sym (get_or_default_zero tags i x within))
@@ -57,17 +62,21 @@ module _ (k : Shape) (narrow : k.layout.shift ≤ 6) where
   abbrev pub IsMaskOf : List ℕ → ℕ → ℕ → Type 0
   IsMaskOf tags word mask = (t : ℕ) → (among k.layout.shift word mask t ≡ 1) ↔ Contains tags t
 
-  among_or : (i m n t : ℕ) → among k.layout.shift i (bit_or m n) t ≡ max (among k.layout.shift i m t) (among k.layout.shift i n t)
+  among_or : (i m n t : ℕ) → among k.layout.shift i (bit_or m n) t
+    ≡ max (among k.layout.shift i m t) (among k.layout.shift i n t)
   among_or i m n t = dite (ℕ_discrete (t / 2 ^ k.layout.shift) i)
-      (λ e. let a = among_here k narrow i m t e in let b = among_here k narrow i n t e in let c = among_here k narrow i (bit_or m n) t e in
+      (λ e. let a = among_here k narrow i m t e in let b = among_here k narrow i n t e in
+        let c = among_here k narrow i (bit_or m n) t e in
       let o = bit_at_or m n (t % 2 ^ k.layout.shift) in omega arith)
-      (λ e. let a = among_else k narrow i m t e in let b = among_else k narrow i n t e in let c = among_else k narrow i (bit_or m n) t e in omega arith)
+      (λ e. let a = among_else k narrow i m t e in let b = among_else k narrow i n t e in
+        let c = among_else k narrow i (bit_or m n) t e in omega arith)
 
   -- no tag is in an empty mask
   pub mask_of_none : (word : ℕ) → IsMaskOf [] word 0
   mask_of_none word t = (
     (λ a. dite (ℕ_discrete (t / 2 ^ k.layout.shift) word)
-        (λ e. let b = among_here k narrow word 0 t e in let z = bit_at-zero (t % 2 ^ k.layout.shift) in absurd (omega arith))
+        (λ e. let b = among_here k narrow word 0 t e in let z = bit_at-zero (t % 2 ^ k.layout.shift) in
+          absurd (omega arith))
         (λ e. let b = among_else k narrow word 0 t e in absurd (omega arith))),
     (λ c. absurd (none_in t c)),
   )
@@ -81,8 +90,10 @@ module _ (k : Shape) (narrow : k.layout.shift ≤ 6) where
   -- a mask of one tag
   pub mask_of_one : (u : ℕ) → IsMaskOf (u ∷ []) (word_of k.layout u) (2 ^ place_of k.layout u)
   mask_of_one u t = (
-    (λ a. let e : t ≡ u = only_is k narrow t u (only_among k narrow u t ∙ a) in subst (Contains (u ∷ [])) (sym e) (Contains-push [] u)),
-    (λ c. let e : u ≡ t = ⊎_elim (λ (n : Contains [] t). absurd (none_in t n)) (λ (e : u ≡ t). e) (Contains-push_cases [] u t c) in
+    (λ a. let e : t ≡ u = only_is k narrow t u (only_among k narrow u t ∙ a) in
+      subst (Contains (u ∷ [])) (sym e) (Contains-push [] u)),
+    (λ c. let e : u ≡ t = ⊎_elim (λ (n : Contains [] t). absurd (none_in t n)) (λ (e : u ≡ t). e)
+      (Contains-push_cases [] u t c) in
         sym (only_among k narrow u t) ∙ only_here t u (sym e)),
   )
 
@@ -92,20 +103,24 @@ module _ (k : Shape) (narrow : k.layout.shift ≤ 6) where
   mask_of_more tags word mask u here is t =
       let m : ℕ = 2 ^ place_of k.layout u in
       let both = among_or word mask m t in
-      let one : among k.layout.shift word m t ≡ only t u = ap (λ (w : ℕ). among k.layout.shift w m t) here ∙ sym (only_among k narrow u t) in
+      let one : among k.layout.shift word m t ≡ only t u = ap (λ (w : ℕ). among k.layout.shift w m t) here
+        ∙ sym (only_among k narrow u t) in
       let small = among_small k narrow word mask t in (
         (λ a. dite (ℕ_discrete t u)
             (λ (e : t ≡ u). subst (Contains (tags ++ u ∷ [])) (sym e) (Contains-push tags u))
             (λ (ne : t ≢ u). let z = only_else t u ne in let old : among k.layout.shift word mask t ≡ 1 = omega arith in
             Contains-append_left tags (u ∷ []) t ((is t).0 old))),
-        (λ c. ⊎_elim (λ (before : Contains tags t). let old = (is t).1 before in let tiny = among_small k narrow word m t in
+        (λ c. ⊎_elim (λ (before : Contains tags t). let old = (is t).1 before in
+          let tiny = among_small k narrow word m t in
             let z : among k.layout.shift word (bit_or mask m) t ≡ 1 = omega arith in z)
-            (λ (e : u ≡ t). let z = only_here t u (sym e) in let y : among k.layout.shift word (bit_or mask m) t ≡ 1 = omega arith in y)
+            (λ (e : u ≡ t). let z = only_here t u (sym e) in
+              let y : among k.layout.shift word (bit_or mask m) t ≡ 1 = omega arith in y)
             (Contains-push_cases tags u t c)),
       )
 
   -- a tag that is not in the list has no bit in its mask
-  pub bit_of_other : (tags : List ℕ) (word mask u : ℕ) → word ≡ word_of k.layout u → IsMaskOf tags word mask → ¬ (Contains tags u)
+  pub bit_of_other : (tags : List ℕ) (word mask u : ℕ) → word ≡ word_of k.layout u
+    → IsMaskOf tags word mask → ¬ (Contains tags u)
       → bit_at mask (place_of k.layout u) ≡ 0
   bit_of_other tags word mask u here is other =
       let low = bit_at-lt mask (place_of k.layout u) in let a = among_here k narrow word mask u (sym here) in
@@ -114,15 +129,19 @@ module _ (k : Shape) (narrow : k.layout.shift ≤ 6) where
 module _ {R : Type 0} (map : Map R) (old now next : Caller R) where
   -- one run more is given back
   abbrev pub gives_more : (done run : List ℕ) (word mask found : ℕ) → 1 ≤ length run
-      → IsMaskOf map.shape map.small.1 run word mask → (given : GivesAll map.shape.layout done old now) → EndsElsewhere word given.runs
+      → IsMaskOf map.shape map.small.1 run word mask → (given : GivesAll map.shape.layout done old now)
+        → EndsElsewhere word given.runs
       → Adds (Word (Give word mask found)) now next → Releases (IsInMask map.shape.layout word mask) now next
       → GivesAll map.shape.layout (done ++ run) old next
   gives_more done run word mask found some is given turns adds less =
-      let in_run : (t : ℕ) → IsInMask map.shape.layout word mask t → Contains run t = λ t h. (is t).0 (among_one map.shape.layout word mask t h) in
-      let in_mask : (t : ℕ) → Contains run t → IsInMask map.shape.layout word mask t = λ t c. one_among map.shape.layout word mask t ((is t).1 c) in
+      let in_run : (t : ℕ) → IsInMask map.shape.layout word mask t
+        → Contains run t = λ t h. (is t).0 (among_one map.shape.layout word mask t h) in
+      let in_mask : (t : ℕ) → Contains run t
+        → IsInMask map.shape.layout word mask t = λ t c. one_among map.shape.layout word mask t ((is t).1 c) in
       record {
         less = record {
-          gone = λ t n h. ⊎_elim (λ (d : Contains done t). given.less.gone t d (less.none_else t h)) (λ (r : Contains run t). less.gone t (in_mask t r) h)
+          gone = λ t n h. ⊎_elim (λ (d : Contains done t). given.less.gone t d (less.none_else t h))
+            (λ (r : Contains run t). less.gone t (in_mask t r) h)
               (Contains-append_cases done run t n);
           kept = λ t n h. let a = given.less.kept t (λ d. n (Contains-append_left done run t d)) h in
               let b = less.kept t (λ m. n (Contains-append_right done run t (in_run t m))) a.0 in (b.0, b.1 ∙ a.1);
@@ -148,10 +167,12 @@ gives_none l caller = record {
 runs_few : (l : Layout) (tags : List ℕ) (runs : List Run) → AreRuns l tags runs → length runs ≤ length tags
 runs_few l tags [] cut = omega arith
 runs_few l tags (run ∷ runs) cut =
-    let few = runs_few l cut.0 runs cut.4 in let long : length tags ≡ length cut.0 + length run.tags = ap length cut.1 ∙ length-append cut.0 run.tags in
+    let few = runs_few l cut.0 runs cut.4 in let long : length tags ≡ length cut.0 + length run.tags = ap length cut.1
+      ∙ length-append cut.0 run.tags in
     let some = cut.2.some in omega arith
 
-steps_after : {R : Type 0} (runs : List Run) (r : Record R) → length (record_after_runs runs r).steps ≡ length runs + length r.steps
+steps_after : {R : Type 0} (runs : List Run) (r : Record R)
+    → length (record_after_runs runs r).steps ≡ length runs + length r.steps
 steps_after [] r = omega arith
 steps_after (run ∷ runs) r = let h = steps_after runs r in omega arith
 

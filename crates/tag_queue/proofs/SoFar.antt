@@ -20,8 +20,10 @@ use Rattle.tag_search.proofs.SharedFacts.{count_ones-zero}
 use Rattle.tag_queue.specs.Batches.{AreHeldOnce, EndsElsewhere, GivesAll}
 use Rattle.tag_queue.proofs.Giving.{IsMaskOf, ones_more, not_before, none_in, mask_of_none, mask_of_one, mask_of_more, bit_of_other, gives_more, gives_none}
 
--- of the first so many tags all are given back but those of the last run, which are held still and stand in the mask of their word
-pub record SoFar {R : Type 0} (map : Map R) (tags : List ℕ) (count : ℕ) (old now : Caller R) (word mask : ℕ) : Type 0 where
+-- of the first so many tags all are given back but those of the last run, which are held still and stand in the mask
+-- of their word
+pub record SoFar {R : Type 0} (map : Map R) (tags : List ℕ) (count : ℕ) (old now : Caller R)
+    (word mask : ℕ) : Type 0 where
   pub caller : IsCallerOf map now
   pub done : List ℕ
   pub run : List ℕ
@@ -43,7 +45,8 @@ take_all (x ∷ tags) zero h = absurd (omega arith)
 take_all (x ∷ tags) (suc i) h = ap (λ (l : List ℕ). x ∷ l) (take_all tags i (omega arith))
 
 -- before the first tag nothing is given back
-pub begins : {R : Type 0} (map : Map R) (tags : List ℕ) (old : Caller R) (word : ℕ) → IsCallerOf map old → word < words map.shape.layout
+pub begins : {R : Type 0} (map : Map R) (tags : List ℕ) (old : Caller R) (word : ℕ) → IsCallerOf map old
+    → word < words map.shape.layout
     → word ≡ word_of map.shape.layout (get_or tags 0 0) → SoFar map tags 0 old old word 0
 begins map tags old word own there is = record {
   caller = own;
@@ -61,7 +64,8 @@ begins map tags old word own there is = record {
   some = inr (refl, is);
 }
 
-module _ {R : Type 0} (map : Map R) (tags : List ℕ) (i : ℕ) (old now : Caller R) (word mask : ℕ) (so : SoFar map tags i old now word mask) where
+module _ {R : Type 0} (map : Map R) (tags : List ℕ) (i : ℕ) (old now : Caller R) (word mask : ℕ)
+    (so : SoFar map tags i old now word mask) where
   fits : mask < 2 ^ 64
   fits = small_word map.shape map.small.1 word mask so.within
 
@@ -73,26 +77,32 @@ module _ {R : Type 0} (map : Map R) (tags : List ℕ) (i : ℕ) (old now : Calle
   module _ (next : Caller R) (found : ℕ) (adds : Adds (Word (Give word mask found)) now next)
       (less : Releases (IsInMask map.shape.layout word mask) now next) (some : 1 ≤ length so.run) where
     abbrev all_gives : GivesAll map.shape.layout (so.done ++ so.run) old next
-    all_gives = gives_more map old now next so.done so.run word mask found some so.mask_is so.given so.elsewhere adds less
+    all_gives = gives_more map old now next so.done so.run word mask found some so.mask_is
+      so.given so.elsewhere adds less
 
     all_back : (record_of next).back ≡ (record_of old).back + length (so.done ++ so.run)
     all_back = let step = ap (λ (r : Record R). r.back) adds.known in let before = so.back in let ones = so.ones in
         let long = length-append so.done so.run in omega arith
 
-    pub ends : length tags ≤ i → GivesAll map.shape.layout tags old next × ((record_of next).back ≡ (record_of old).back + length tags)
+    pub ends : length tags ≤ i → GivesAll map.shape.layout tags old next
+      × ((record_of next).back ≡ (record_of old).back + length tags)
     ends past = let all : so.done ++ so.run ≡ tags = so.together ∙ take_all tags i past in
-        subst (λ (l : List ℕ). GivesAll map.shape.layout l old next × ((record_of next).back ≡ (record_of old).back + length l)) all (all_gives, all_back)
+        subst (λ (l : List ℕ). GivesAll map.shape.layout l old next
+          × ((record_of next).back ≡ (record_of old).back + length l)) all (all_gives, all_back)
 
-  module _ (inside : i < length tags) (held : AreHeldOnce old tags) (room : place_of map.shape.layout (get_or tags i 0) < word_depth map.shape.layout (word_of map.shape.layout (get_or tags i 0)))
+  module _ (inside : i < length tags) (held : AreHeldOnce old tags) (room : place_of map.shape.layout (get_or tags i 0)
+    < word_depth map.shape.layout (word_of map.shape.layout (get_or tags i 0)))
       (near : word_of map.shape.layout (get_or tags i 0) < words map.shape.layout) where
     fresh : ¬ (Contains (take i tags) (get_or tags i 0))
     fresh = not_before tags i inside held.1
 
     not_done : ¬ (Contains so.done (get_or tags i 0))
-    not_done d = fresh (subst (λ (l : List ℕ). Contains l (get_or tags i 0)) so.together (Contains-append_left so.done so.run (get_or tags i 0) d))
+    not_done d = fresh (subst (λ (l : List ℕ). Contains l (get_or tags i 0)) so.together
+      (Contains-append_left so.done so.run (get_or tags i 0) d))
 
     not_run : ¬ (Contains so.run (get_or tags i 0))
-    not_run r = fresh (subst (λ (l : List ℕ). Contains l (get_or tags i 0)) so.together (Contains-append_right so.done so.run (get_or tags i 0) r))
+    not_run r = fresh (subst (λ (l : List ℕ). Contains l (get_or tags i 0)) so.together
+      (Contains-append_right so.done so.run (get_or tags i 0) r))
 
     still : Holds now (get_or tags i 0)
     still = (so.given.less.kept (get_or tags i 0) not_done (held.0 i 0 inside)).0
@@ -100,8 +110,10 @@ module _ {R : Type 0} (map : Map R) (tags : List ℕ) (i : ℕ) (old now : Calle
     low : place_of map.shape.layout (get_or tags i 0) < 64
     low = place_small map.shape map.small.1 (get_or tags i 0)
 
-    bit_fits : IsWithin map.shape.layout (word_of map.shape.layout (get_or tags i 0)) (2 ^ place_of map.shape.layout (get_or tags i 0))
-    bit_fits = pow_below (place_of map.shape.layout (get_or tags i 0)) (word_depth map.shape.layout (word_of map.shape.layout (get_or tags i 0))) room
+    bit_fits : IsWithin map.shape.layout (word_of map.shape.layout (get_or tags i 0))
+      (2 ^ place_of map.shape.layout (get_or tags i 0))
+    bit_fits = pow_below (place_of map.shape.layout (get_or tags i 0))
+      (word_depth map.shape.layout (word_of map.shape.layout (get_or tags i 0))) room
 
     one_more : take (i + 1) tags ≡ take i tags ++ get_or tags i 0 ∷ []
     one_more = take_more tags i 0 inside
@@ -113,16 +125,20 @@ module _ {R : Type 0} (map : Map R) (tags : List ℕ) (i : ℕ) (old now : Calle
       caller = so.caller;
       done = so.done;
       run = so.run ++ u ∷ [];
-      together = sym (append_assoc so.done so.run (u ∷ [])) ∙ ap (λ (l : List ℕ). l ++ u ∷ []) so.together ∙ sym one_more;
+      together = sym (append_assoc so.done so.run (u ∷ [])) ∙ ap (λ (l : List ℕ). l ++ u ∷ []) so.together
+        ∙ sym one_more;
       given = so.given;
       back = so.back;
       elsewhere = so.elsewhere;
       there = so.there;
-      within = or_lt (word_depth l word) mask (2 ^ place_of l u) so.within (subst (λ (w : ℕ). IsWithin l w (2 ^ place_of l u)) (sym here) bit_fits);
+      within = or_lt (word_depth l word) mask (2 ^ place_of l u) so.within
+        (subst (λ (w : ℕ). IsWithin l w (2 ^ place_of l u)) (sym here) bit_fits);
       mask_is = mask_of_more map.shape map.small.1 so.run word mask u here so.mask_is;
-      ones = let one = ones_more mask (place_of l u) fits low (bit_of_other map.shape map.small.1 so.run word mask u here so.mask_is not_run) in
+      ones = let one = ones_more mask (place_of l u) fits low
+        (bit_of_other map.shape map.small.1 so.run word mask u here so.mask_is not_run) in
           let before = so.ones in let long = length-append so.run (u ∷ []) in omega arith;
-      held = λ t n. ⊎_elim (λ (r : Contains so.run t). so.held t r) (λ (e : u ≡ t). subst (Holds now) e still) (Contains-push_cases so.run u t n);
+      held = λ t n. ⊎_elim (λ (r : Contains so.run t). so.held t r) (λ (e : u ≡ t). subst (Holds now) e still)
+        (Contains-push_cases so.run u t n);
       some = inl (let long = length-append so.run (u ∷ []) in omega arith);
     }
 
@@ -130,9 +146,11 @@ module _ {R : Type 0} (map : Map R) (tags : List ℕ) (i : ℕ) (old now : Calle
     pub begins_run : (next : Caller R) (found : ℕ) → IsCallerOf map next → Adds (Word (Give word mask found)) now next
         → Releases (IsInMask map.shape.layout word mask) now next
         → word ≢ word_of map.shape.layout (get_or tags i 0)
-        → SoFar map tags (i + 1) old next (word_of map.shape.layout (get_or tags i 0)) (2 ^ place_of map.shape.layout (get_or tags i 0))
+        → SoFar map tags (i + 1) old next (word_of map.shape.layout (get_or tags i 0))
+          (2 ^ place_of map.shape.layout (get_or tags i 0))
     begins_run next found next_is adds less other = let u : ℕ = get_or tags i 0 in let l = map.shape.layout in
-        let some : 1 ≤ length so.run = ⊎_elim (λ (h : 1 ≤ length so.run). h) (λ (first : (i ≡ 0) × (word ≡ word_of l (get_or tags 0 0))).
+        let some : 1 ≤ length so.run =
+          ⊎_elim (λ (h : 1 ≤ length so.run). h) (λ (first : (i ≡ 0) × (word ≡ word_of l (get_or tags 0 0))).
         absurd (other (first.1 ∙ ap (λ (j : ℕ). word_of l (get_or tags j 0)) (sym first.0)))) so.some in
         let all = all_gives next found adds less some in record {
           caller = next_is;
@@ -148,6 +166,7 @@ module _ {R : Type 0} (map : Map R) (tags : List ℕ) (i : ℕ) (old now : Calle
           ones = count_ones-pow (place_of l u);
           held = λ t n. ⊎_elim (λ (z : Contains [] t). absurd (none_in t z))
               (λ (e : u ≡ t). subst (Holds next) e (all.less.kept u
-              (λ c. fresh (subst (λ (l : List ℕ). Contains l u) so.together c)) (held.0 i 0 inside)).0) (Contains-push_cases [] u t n);
+              (λ c. fresh (subst (λ (l : List ℕ). Contains l u) so.together c)) (held.0 i 0 inside)).0)
+                (Contains-push_cases [] u t n);
           some = inl (omega arith);
         }

@@ -45,7 +45,8 @@ fill_of queue = queue.fill
 
 -- the agent is one of the queue's own
 abbrev pub IsAgentOf : {R : Type 0} → Queue R → Agent R → Type 0
-IsAgentOf queue agent = core.IsCallerOf queue.map agent.caller × book.IsTellerOf queue.book agent.teller × groups.IsWaiterOf queue.groups agent.waiter
+IsAgentOf queue agent = core.IsCallerOf queue.map agent.caller × book.IsTellerOf queue.book agent.teller
+    × groups.IsWaiterOf queue.groups agent.waiter
 
 -- the agent as a caller of the map
 abbrev pub caller_of : {R : Type 0} → Agent R → Caller R

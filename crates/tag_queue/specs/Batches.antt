@@ -45,7 +45,8 @@ EndsElsewhere word (run ∷ runs) = run.word ≢ word
 -- the list, cut wherever its word changes, is these runs, the latest first
 abbrev pub AreRuns : Layout → List ℕ → List Run → Type 0
 AreRuns l tags [] = tags ≡ []
-AreRuns l tags (run ∷ runs) = (before : List ℕ) × (tags ≡ before ++ run.tags) × IsRun l run × EndsElsewhere run.word runs × AreRuns l before runs
+AreRuns l tags (run ∷ runs) = (before : List ℕ) × (tags ≡ before ++ run.tags) × IsRun l run
+    × EndsElsewhere run.word runs × AreRuns l before runs
 
 -- the record after a give of each run, the latest first
 abbrev pub record_after_runs : {R : Type 0} → List Run → Record R → Record R

@@ -15,7 +15,8 @@ use Rattle.tag_queue.specs.Agents.{teller_of, waiter_of, shape_of, records_of}
 
 -- the agents that came together are the queue's own
 abbrev pub IsTogetherOf : {R : Type 0} → Queue R → Together R → Type 0
-IsTogetherOf queue together = tags.IsGatheringOf queue.map together.callers × book.IsGatheringOf queue.book together.tellers
+IsTogetherOf queue together = tags.IsGatheringOf queue.map together.callers
+    × book.IsGatheringOf queue.book together.tellers
     × groups.IsGatheringOf queue.groups together.waiters
 
 -- these agents came together, the last of them first
@@ -24,7 +25,8 @@ pub record AreTogether {R : Type 0} (agents : List (Agent R)) (together : Togeth
   pub tellers : book.gathered together.tellers ≡ book.records_of (map teller_of agents)
   pub waiters : groups.gathered together.waiters ≡ groups.records_of (map waiter_of agents)
 
--- the totals are those of the map and of those before it, of the book and of the groups; issued is at most charged, that
+-- the totals are those of the map and of those before it, of the book and of the groups; issued is at most charged,
+-- that
 -- at most counted, and that at most back
 pub record IsGathered {R : Type 0} (queue : Queue R) (agents : List (Agent R)) (totals : QueueTotals) : Type 0 where
   pub closed : Closed R

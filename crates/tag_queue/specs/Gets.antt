@@ -18,9 +18,11 @@ use Rattle.tag_search.specs.Follows.{HintFollows, BatchFollows}
 use Rattle.tag_queue.specs.declared.agent.Agent.{Agent}
 use Rattle.tag_queue.specs.Agents.{caller_of, hint_of, SameCounts, SameElse}
 
--- the caller gains the tag answered, and nothing else, by a lawful search of these visits, and its hint follows; where it is the
+-- the caller gains the tag answered, and nothing else, by a lawful search of these visits, and its hint follows;
+-- where it is the
 -- only caller, the answer is the choice
-pub record Searches {R : Type 0} (l : Layout) (visits : List Visit) (answer : Option ℕ) (old new : Caller R) (before after : Hint) : Type 0 where
+pub record Searches {R : Type 0} (l : Layout) (visits : List Visit) (answer : Option ℕ) (old new : Caller R)
+    (before after : Hint) : Type 0 where
   pub gains : Gains l answer old new
   pub steps : Makes old new (IsGet l visits answer)
   pub alone : IsAlone old → Chooses l visits answer old new
@@ -28,7 +30,8 @@ pub record Searches {R : Type 0} (l : Layout) (visits : List Visit) (answer : Op
 
 -- a plain search from the hint
 abbrev pub SearchesPlain : {R : Type 0} → Layout → Option ℕ → Caller R → Caller R → Hint → Hint → Type 0
-SearchesPlain l answer old new before after = Searches l (plain_visits l before.round_robin (reduced l.depth before.at)) answer old new before after
+SearchesPlain l answer old new before after = Searches l (plain_visits l before.round_robin (reduced l.depth before.at))
+    answer old new before after
 
 -- a plain get
 pub record GetsPlain {R : Type 0} (l : Layout) (answer : Option ℕ) (old new : Agent R) : Type 0 where
@@ -45,8 +48,10 @@ pub record GetsShallow {R : Type 0} (l : Layout) (depth : ℕ) (answer : Option 
 -- a batch get of n: the agent gains the tags of a run, and nothing else, by a lawful search for it
 pub record GetsBatch {R : Type 0} (l : Layout) (n : ℕ) (answer : Option (ℕ × ℕ)) (old new : Agent R) : Type 0 where
   pub gains : GainsRun l answer (caller_of old) (caller_of new)
-  pub steps : Makes (caller_of old) (caller_of new) (IsBatchGet l n (word_of l (reduced l.depth (hint_of old).at)) answer)
-  pub alone : IsAlone (caller_of old) → ChoosesRun l n (word_of l (reduced l.depth (hint_of old).at)) answer (caller_of old) (caller_of new)
+  pub steps : Makes (caller_of old) (caller_of new)
+    (IsBatchGet l n (word_of l (reduced l.depth (hint_of old).at)) answer)
+  pub alone : IsAlone (caller_of old)
+    → ChoosesRun l n (word_of l (reduced l.depth (hint_of old).at)) answer (caller_of old) (caller_of new)
   pub hint : BatchFollows l.depth n (hint_of old) (hint_of new) answer
   pub others : SameCounts old new
 

@@ -8,7 +8,8 @@ use Rattle.tag_queue.specs.Agents.{caller_of}
 abbrev pub HoldsLess : {R : Type 0} → (ℕ → Type 0) → Agent R → Agent R → Type 0
 HoldsLess named old new = Releases named (caller_of old) (caller_of new)
 
--- the agent holds the named tags, which it did not hold before, every other tag as before, with the value of its slot, and none besides
+-- the agent holds the named tags, which it did not hold before, every other tag as before, with the value of its
+-- slot, and none besides
 abbrev pub HoldsMore : {R : Type 0} → (ℕ → Type 0) → Agent R → Agent R → Type 0
 HoldsMore named old new = Acquires named (caller_of old) (caller_of new)
 

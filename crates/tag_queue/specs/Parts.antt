@@ -24,10 +24,12 @@ pub record Fits {R : Type 0} (number : ℕ) (caller : Caller R) (teller : Teller
 -- at each place of the lists the three can be parts of the agent of that number
 abbrev pub FitTogether : {R : Type 0} → List (Caller R) → List Teller → List Waiter → Type 0
 FitTogether {R} callers tellers waiters = (n : ℕ) (caller : Caller R) (teller : Teller) (waiter : Waiter)
-    → get_elem? callers n ≡ some caller → get_elem? tellers n ≡ some teller → get_elem? waiters n ≡ some waiter → Fits n caller teller waiter
+    → get_elem? callers n ≡ some caller → get_elem? tellers n ≡ some teller → get_elem? waiters n ≡ some waiter
+      → Fits n caller teller waiter
 
 -- these are the parts of the agents, in their order
-pub record AreParts {R : Type 0} (agents : List (Agent R)) (callers : List (Caller R)) (tellers : List Teller) (waiters : List Waiter) : Type 0 where
+pub record AreParts {R : Type 0} (agents : List (Agent R)) (callers : List (Caller R)) (tellers : List Teller)
+    (waiters : List Waiter) : Type 0 where
   pub callers_are : map caller_of agents ≡ callers
   pub tellers_are : map teller_of agents ≡ tellers
   pub waiters_are : map waiter_of agents ≡ waiters

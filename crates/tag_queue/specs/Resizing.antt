@@ -39,7 +39,8 @@ MayResize queue agents depth = HasMap queue agents depth × AreUnused agents × 
 
 -- so many tags are held and so many posted, and these are not none
 abbrev pub AreUsed : {R : Type 0} → List (Agent R) → ℕ → ℕ → Type 0
-AreUsed agents held posted = (held ≡ held_in (records_of agents)) × (posted ≡ posted_in (records_of agents)) × ¬ (AreUnused agents)
+AreUsed agents held posted = (held ≡ held_in (records_of agents)) × (posted ≡ posted_in (records_of agents))
+    × ¬ (AreUnused agents)
 
 -- no tag is in use, and so many agents stand in a group, which is not none
 abbrev pub AreWaiting : {R : Type 0} → List (Agent R) → ℕ → Type 0
@@ -65,10 +66,12 @@ IsRefusedAs result cause = IsErrAnd result (λ fault. fault.cause ≡ cause)
 
 -- the next map goes on from any history in which these records stand when their callers settle
 abbrev pub GoesOnAfter : {R : Type 0} → Shape → List (Record R) → Shape → Type 0
-GoesOnAfter k rs next = (totals : Totals) (known : AreSettled k rs totals) → GoesOn (record { shape = k; history = known.history }) next
+GoesOnAfter k rs next = (totals : Totals) (known : AreSettled k rs totals)
+    → GoesOn (record { shape = k; history = known.history }) next
 
 -- in the same order the callers go on with a next map of this layout, whose tags are free
-pub record MoveOn {R : Type 0} (layout : Layout) (old : Map R) (before : List (Caller R)) (new : Map R) (after : List (Caller R)) : Type 0 where
+pub record MoveOn {R : Type 0} (layout : Layout) (old : Map R) (before : List (Caller R)) (new : Map R)
+    (after : List (Caller R)) : Type 0 where
   pub next : IsNext layout old.shape new.shape
   pub goes_on : GoesOnAfter old.shape (map record_of before) new.shape
   pub callers : AreReopened new before after
@@ -88,9 +91,11 @@ pub record KeepsRest {R : Type 0} (old new : Queue R) : Type 0 where
   pub min_shallow : min_shallow_of new ≡ min_shallow_of old
   pub fill : fill_of new ≡ fill_of old
 
--- in the same order the agents go on with a next map of free tags: their numbers, their counts, where they stand, and their
+-- in the same order the agents go on with a next map of free tags: their numbers, their counts, where they stand,
+-- and their
 -- hints are as they were, and they hold nothing
-pub record IsResized {R : Type 0} (old : Queue R) (agents : List (Agent R)) (depth : ℕ) (new : Queue R) (resized : List (Agent R)) : Type 0 where
+pub record IsResized {R : Type 0} (old : Queue R) (agents : List (Agent R)) (depth : ℕ) (new : Queue R)
+    (resized : List (Agent R)) : Type 0 where
   pub callers : MoveOn (layout_at old depth) old.map (map caller_of agents) new.map (map caller_of resized)
   pub tellers : map teller_of resized ≡ map teller_of agents
   pub waiters : map waiter_of resized ≡ map waiter_of agents

@@ -14,4 +14,5 @@ abbrev pub FitShells : {R : Type 0} → List (Caller R) → List Shell → Type 
 FitShells [] [] = Unit {0}
 FitShells [] (shell ∷ shells) = ⊥
 FitShells (caller ∷ callers) [] = ⊥
-FitShells (caller ∷ callers) (shell ∷ shells) = Fits shell.number caller shell.teller shell.waiter × FitShells callers shells
+FitShells (caller ∷ callers) (shell ∷ shells) = Fits shell.number caller shell.teller shell.waiter
+    × FitShells callers shells

@@ -10,20 +10,26 @@ use crate::agent::Agent;
 use crate::queue::Queue;
 use std::alloc::Global;
 use tag_layout::{Layout, LayoutFault};
+use thiserror::Error;
 use wake_book::Groups;
 
 /// Why a queue isn't resized. The causes are looked at in the order in which they stand here.
-#[derive(Clone, Copy, Debug, PartialEq, Eq)]
+#[derive(Clone, Copy, Debug, PartialEq, Eq, Error)]
 pub enum ResizeCause {
     /// The least number of an agent that wasn't handed in.
+    #[error("caller {0} is missing")]
     Missing(u32),
     /// More than 10,240 tags.
+    #[error("the number of tags is out of range")]
     DepthTooLarge,
     /// Tags are held or posted: how many are held, and how many posted.
+    #[error("{0} tags are held and {1} are posted")]
     InUse(u64, u64),
     /// Agents stand in a group: how many.
+    #[error("{0} callers wait")]
     Waiting(u32),
     /// An allocation was refused.
+    #[error("out of memory")]
     Memory,
 }
 

@@ -4,6 +4,7 @@ mod calls;
 mod clears;
 mod crowd;
 mod example;
+mod faults;
 mod gathering;
 mod gets;
 mod long_run;

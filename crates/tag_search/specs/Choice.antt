@@ -45,17 +45,23 @@ IsFull p visit = All (IsBusy p visit.word) visit.rank
 abbrev pub words_in : List Visit → List ℕ
 words_in visits = map (λ visit. visit.word) visits
 
--- the first word with a free place or one set aside in its rank gives the answer: its first free place, and where there is
--- none the first set aside; none where there is no such word. Each word passed has its set aside places freed, and so has
+-- the first word with a free place or one set aside in its rank gives the answer: its first free place, and where
+-- there is
+-- none the first set aside; none where there is no such word. Each word passed has its set aside places freed, and
+-- so has
 -- a word that answers one of them; the place answered is free no more
 pub data IsChoice (l : Layout) (old : Pool) : List Visit → Option ℕ → Pool → Type 0 where
-  nothing : {visits : List Visit} → All (IsFull old) visits → IsChoice l old visits None (freed_in (words_in visits) old)
+  nothing : {visits : List Visit} → All (IsFull old) visits
+    → IsChoice l old visits None (freed_in (words_in visits) old)
   chosen_free : (full behind : List Visit) (visit : Visit) {place : ℕ} → All (IsFull old) full
       → IsFirst (IsFree old visit.word) (IsSet old visit.word) visit.rank place
-      → IsChoice l old (full ++ visit ∷ behind) (Some (tag_at l visit.word place)) (taken_at visit.word place (freed_in (words_in full) old))
+      → IsChoice l old (full ++ visit ∷ behind) (Some (tag_at l visit.word place))
+        (taken_at visit.word place (freed_in (words_in full) old))
   chosen_aside : (full behind : List Visit) (visit : Visit) {place : ℕ} → All (IsFull old) full
-      → All (IsSet old visit.word) visit.rank → IsFirst (IsAside old visit.word) (IsBusy old visit.word) visit.rank place
-      → IsChoice l old (full ++ visit ∷ behind) (Some (tag_at l visit.word place)) (taken_at visit.word place (freed_in (visit.word ∷ words_in full) old))
+      → All (IsSet old visit.word) visit.rank
+        → IsFirst (IsAside old visit.word) (IsBusy old visit.word) visit.rank place
+      → IsChoice l old (full ++ visit ∷ behind) (Some (tag_at l visit.word place))
+        (taken_at visit.word place (freed_in (visit.word ∷ words_in full) old))
 
 -- the place is the least of the word's first so many that is free or set aside
 pub record IsLeastOpen (p : Pool) (word depth place : ℕ) : Type 0 where
@@ -73,9 +79,12 @@ pub record IsOpenRun (l : Layout) (n : ℕ) (p : Pool) (word place bits : ℕ) :
   pub fits : place + n ≤ word_depth l word
   pub won : (k : ℕ) → bit_at bits k ≡ 1 ↔ (k < n) × IsOpen p word (place + k)
 
--- the first word with n places from its least open one on answers those among them that are open; none where there is no such
+-- the first word with n places from its least open one on answers those among them that are open; none where there
+-- is no such
 -- word. Each word up to the answer's has its set aside places freed, and the n places are free no more
 pub data IsBatchChoice (l : Layout) (n : ℕ) (old : Pool) : List ℕ → Option (ℕ × ℕ) → Pool → Type 0 where
   no_batch : {words : List ℕ} → All (HasNoRun l n old) words → IsBatchChoice l n old words None (freed_in words old)
-  batch : (passed behind : List ℕ) (word : ℕ) {place bits : ℕ} → All (HasNoRun l n old) passed → IsOpenRun l n old word place bits
-      → IsBatchChoice l n old (passed ++ word ∷ behind) (Some (tag_at l word place, bits)) (taken_from word place n (freed_in (word ∷ passed) old))
+  batch : (passed behind : List ℕ) (word : ℕ) {place bits : ℕ} → All (HasNoRun l n old) passed
+    → IsOpenRun l n old word place bits
+      → IsBatchChoice l n old (passed ++ word ∷ behind) (Some (tag_at l word place, bits))
+        (taken_from word place n (freed_in (word ∷ passed) old))

@@ -7,8 +7,10 @@ use Rattle.tag_search.specs.Pool.{pool_of}
 use Rattle.tag_search.specs.Choice.{IsChoice}
 use Rattle.tag_search.specs.Search.{Visit, IsSearch}
 
--- the steps are these visits and give this answer; where nobody else stepped it is the choice, and what they leave is what
--- the choice leaves; and they are at most two claims of each tag and four steps more a word, not counting loads that stand in
+-- the steps are these visits and give this answer; where nobody else stepped it is the choice, and what they leave
+-- is what
+-- the choice leaves; and they are at most two claims of each tag and four steps more a word, not counting loads that
+-- stand in
 -- no list
 pub record IsGet (l : Layout) (visits : List Visit) (answer : Option ℕ) (steps : List WordStep) : Type 0 where
   pub search : IsSearch l visits steps answer

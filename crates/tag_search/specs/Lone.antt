@@ -27,7 +27,8 @@ is_own c tag =
     is_busy (pool_left c) (word_of c.shape.value.layout tag) (place_of c.shape.value.layout tag) && not
     (is_posted c tag)
 
--- over the places that the caller's own steps left, the answer is the choice, and what is left is what the choice leaves; no tag
+-- over the places that the caller's own steps left, the answer is the choice, and what is left is what the choice
+-- leaves; no tag
 -- is posted or taken
 pub record Chooses {R : Type 0} (l : Layout) (visits : List Visit) (answer : Option ℕ)
     (old new : Caller R) : Type 0 where

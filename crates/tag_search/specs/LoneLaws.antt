@@ -1,4 +1,5 @@
--- Laws of gets on a map of one caller: nobody else steps, so each get is the choice over what its caller's earlier steps left.
+-- Laws of gets on a map of one caller: nobody else steps, so each get is the choice over what its caller's earlier
+-- steps left.
 use Rattle.std.specs.Prelude.{◌≡◌, ℕ, List, [], ◌∷◌, ◌++◌, map, Option}
 use Rattle.tag_layout.specs.Layout.{Layout}
 use Rattle.tag_core.specs.declared.shape.Shape.{Shape}
@@ -26,13 +27,16 @@ abbrev pub own_after : {R : Type 0} → List WordStep → List (Step R) → List
 own_after [] older = older
 own_after (step ∷ steps) older = own_after steps (Word step ∷ older)
 
--- of the history of a map of one caller: the caller took these steps on words right after the older ones, whatever it did since
-pub record IsLone {R : Type 0} (k : Shape) (h : History R) (newer older : List (Step R)) (steps : List WordStep) : Type 0 where
+-- of the history of a map of one caller: the caller took these steps on words right after the older ones, whatever
+-- it did since
+pub record IsLone {R : Type 0} (k : Shape) (h : History R) (newer older : List (Step R))
+    (steps : List WordStep) : Type 0 where
   pub one : k.callers ≡ 1
   pub lawful : IsLawful k h
   pub own : steps_by 0 h ≡ newer ++ own_after steps older
 
--- a get by a map's one caller answers the choice over what the caller's older steps left, and leaves what the choice leaves
+-- a get by a map's one caller answers the choice over what the caller's older steps left, and leaves what the choice
+-- leaves
 abbrev pub LoneGetsChoose : Type 0 → Type 0
 LoneGetsChoose R =
     (k : Shape) (h : History R) (newer older : List (Step R)) (steps : List WordStep) → IsLone k h newer older steps
@@ -44,4 +48,5 @@ abbrev pub LoneBatchesChoose : Type 0 → Type 0
 LoneBatchesChoose R =
     (k : Shape) (h : History R) (newer older : List (Step R)) (steps : List WordStep) → IsLone k h newer older steps
     → (l : Layout) (n first : ℕ) (answer : Option (ℕ × ℕ)) → IsBatchGet l n first answer steps
-    → IsBatchChoice l n (pool_of (words_left older)) (batch_words l first) answer (pool_of (words_left (own_after steps older)))
+    → IsBatchChoice l n (pool_of (words_left older)) (batch_words l first) answer
+      (pool_of (words_left (own_after steps older)))

@@ -15,7 +15,8 @@ pub record Plain : Type 0 where
 abbrev pub words_of : Plain → Words
 words_of p = record { word = λ i. slice_index p.word i; aside = λ i. slice_index p.aside i }
 
--- nobody else steps: each step finds what the words and the earlier steps leave, and the words after them are what they leave
+-- nobody else steps: each step finds what the words and the earlier steps leave, and the words after them are what
+-- they leave
 pub record RunsAlone (old : Plain) (steps : List WordStep) (new : Plain) : Type 0 where
   pub layout : new.layout ≡ old.layout
   pub quiet : Quiet steps (words_of old)

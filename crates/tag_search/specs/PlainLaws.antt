@@ -6,12 +6,14 @@ use Rattle.tag_core.specs.Steps.{Words, Quiet, words_after, words_after_all}
 use Rattle.tag_search.specs.Plain.{Plain, words_of, RunsAlone}
 
 -- the words after two lists are those after the second from those after the first
-pub words_after-append : (xs ys : List WordStep) (w : Words) → words_after_all (xs ++ ys) w ≡ words_after_all ys (words_after_all xs w)
+pub words_after-append : (xs ys : List WordStep) (w : Words)
+    → words_after_all (xs ++ ys) w ≡ words_after_all ys (words_after_all xs w)
 words_after-append [] ys w = refl
 words_after-append (x ∷ xs) ys w = words_after-append xs ys (words_after x w)
 
 -- a list that is quiet where a quiet one ended makes one quiet list with it
-pub quiet-append : (xs ys : List WordStep) (w : Words) → Quiet xs w → Quiet ys (words_after_all xs w) → Quiet (xs ++ ys) w
+pub quiet-append : (xs ys : List WordStep) (w : Words) → Quiet xs w
+    → Quiet ys (words_after_all xs w) → Quiet (xs ++ ys) w
 quiet-append [] ys w quiet more = more
 quiet-append (x ∷ xs) ys w quiet more = (quiet.0, quiet-append xs ys (words_after x w) quiet.1 more)
 

@@ -34,7 +34,8 @@ FindsHeldBy c (Claimed i mask found) =
     → bit_at found (place_of c.shape.value.layout tag) ≡ 1
 FindsHeldBy c _ = Unit {0}
 
--- the steps join the caller's own list, and their events change its record; it keeps each tag that it held, with the value of
+-- the steps join the caller's own list, and their events change its record; it keeps each tag that it held, with the
+-- value of
 -- its slot, and no claim found such a tag's bit clear
 pub record AddsAll {R : Type 0} (steps : List WordStep) (old new : Caller R) : Type 0 where
   pub known : record_of new ≡ record_after_all steps (record_of old)

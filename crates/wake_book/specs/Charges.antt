@@ -83,12 +83,14 @@ covers y (LookWakeups found) = 0
 covers y (Add n found) = 0
 covers y (Advance start end found) = cond (nat_eq found start) (min 1 (end - y) - min 1 (start - y)) 0
 
--- each step finds what the steps before it left; no teller counts past the cap; an interval is at most 8 long and was counted before
+-- each step finds what the steps before it left; no teller counts past the cap; an interval is at most 8 long and
+-- was counted before
 abbrev pub MayStep : Limits → ℕ → BookStep → List (ℕ × BookStep) → Type 0
 MayStep k c (LookCompletions found) h = found ≡ completions_in h
 MayStep k c (LookWakeups found) h = found ≡ wakeups_in h
 MayStep k c (Add n found) h = (found ≡ completions_in h) × (total added (own_steps c h) + n ≤ k.cap)
-MayStep k c (Advance start end found) h = (found ≡ wakeups_in h) × (start < end) × (end ≤ start + 8) × (end ≤ completions_in h)
+MayStep k c (Advance start end found) h = (found ≡ wakeups_in h) × (start < end) × (end ≤ start + 8)
+    × (end ≤ completions_in h)
 
 -- the rule of the table
 abbrev pub BookRule : {S : Type 0} → Limits → State S (View BookStep) → Type 0
@@ -102,7 +104,8 @@ all_fresh k = viewing (fresh 0 k.tellers)
 module _ {S : Type 0} where
   -- the completions are at least what the teller counted, and the wakeups that it just found
   abbrev pub looked_completions : table.Step S → Me S (View BookStep) → ℕ → Me S (View BookStep) → Type 0
-  looked_completions step m found m' = Stepped (LookCompletions found) m m' × (found < 2 ^ 63) × (total added (steps_of m.0) ≤ found)
+  looked_completions step m found m' = Stepped (LookCompletions found) m m' × (found < 2 ^ 63)
+    × (total added (steps_of m.0) ≤ found)
       × ((wakeups : ℕ) (before : List BookStep) → steps_of m.0 ≡ LookWakeups wakeups ∷ before → wakeups ≤ found)
 
   -- the wakeups are found

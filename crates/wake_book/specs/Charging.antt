@@ -43,6 +43,7 @@ IsCharge cap batch n steps steps' Full = (cap < total added steps + n) × (steps
 IsCharge cap batch n steps steps' Below = (before : List BookStep) × CountsAndLoses cap batch n steps before
     × (start : ℕ) × (completions : ℕ) × (completions < start + batch) × (steps' ≡ looked start completions before)
 IsCharge cap batch n steps steps' (Won start) = (before : List BookStep) × CountsAndLoses cap batch n steps before
-    × (completions : ℕ) × (start + batch ≤ completions) × (steps' ≡ Advance start (start + batch) start ∷ looked start completions before)
+    × (completions : ℕ) × (start + batch ≤ completions)
+      × (steps' ≡ Advance start (start + batch) start ∷ looked start completions before)
 IsCharge cap batch n steps steps' Busy = (total added steps + n ≤ cap) × (found : ℕ) × (tries : ℕ) × (tries ≡ 16)
     × LosesTries tries batch (Add n found ∷ steps) steps'

@@ -62,7 +62,8 @@ waiters_of groups = groups.waiters
 
 -- it is the same waiter, and stands where it stood
 abbrev pub StandsAsBefore : Waiter → Waiter → Type 0
-StandsAsBefore old new = (number_of new ≡ number_of old) × (standing_of new ≡ standing_of old) × (wait_index_of new ≡ wait_index_of old)
+StandsAsBefore old new = (number_of new ≡ number_of old) × (standing_of new ≡ standing_of old)
+    × (wait_index_of new ≡ wait_index_of old)
 
 -- it is the same waiter, and stands next where it would have
 abbrev pub SameWaiter : Waiter → Waiter → Type 0

@@ -10,4 +10,5 @@ stand_code (Some group) = suc group
 
 -- the steps say the same, and that the waiter is active where it stands
 abbrev pub StandsSo : Option ℕ → List GroupStep → Type 0
-StandsSo standing steps = (stand_code standing ≡ stand steps) × (raised steps ≡ min 1 (stand_code standing)) × (stand_code standing ≤ 8)
+StandsSo standing steps = (stand_code standing ≡ stand steps) × (raised steps ≡ min 1 (stand_code standing))
+    × (stand_code standing ≤ 8)

@@ -61,9 +61,11 @@ words_after (Look place found) ws = ws
 words_after (Raise found) ws = slice_set ws active_at (slice_index ws active_at + 1)
 words_after (Lower found) ws = slice_set ws active_at (slice_index ws active_at - 1)
 words_after (Enter g found) ws = slice_set ws (group_at g) (word ws g + one_waiting)
-words_after (Grant g expected count found) ws = slice_set ws (group_at g) (exchange_to expected (moved_in expected count) (word ws g))
+words_after (Grant g expected count found) ws =
+    slice_set ws (group_at g) (exchange_to expected (moved_in expected count) (word ws g))
 words_after (Use g expected found) ws = slice_set ws (group_at g) (exchange_to expected (expected - 1) (word ws g))
-words_after (Withdraw g expected found) ws = slice_set ws (group_at g) (exchange_to expected (expected - one_waiting) (word ws g))
+words_after (Withdraw g expected found) ws =
+    slice_set ws (group_at g) (exchange_to expected (expected - one_waiting) (word ws g))
 words_after (Store index) ws = slice_set ws index_at index
 
 -- the words that a history leaves
@@ -108,16 +110,21 @@ abbrev pub used_by : GroupStep → ℕ
 used_by (Use g expected found) = cond (nat_eq found expected) 1 0
 used_by _ = 0
 
--- each step finds what the steps before it left; a waiter waits where it is active, leaves as it stands, and moves at most 2^56 in all
+-- each step finds what the steps before it left; a waiter waits where it is active, leaves as it stands, and moves
+-- at most 2^56 in all
 abbrev pub MayStep : ℕ → GroupStep → List (ℕ × GroupStep) → Type 0
 MayStep c (Look place found) h = found ≡ slice_index (words_in h) place
 MayStep c (Raise found) h = (found ≡ slice_index (words_in h) active_at) × (raised (own_steps c h) ≡ 0)
-MayStep c (Lower found) h = (found ≡ slice_index (words_in h) active_at) × (raised (own_steps c h) ≡ 1) × (stand (own_steps c h) ≡ 0)
-MayStep c (Enter g found) h = (found ≡ word (words_in h) g) × (g < 8) × (raised (own_steps c h) ≡ 1) × (stand (own_steps c h) ≡ 0)
+MayStep c (Lower found) h = (found ≡ slice_index (words_in h) active_at) × (raised (own_steps c h) ≡ 1)
+    × (stand (own_steps c h) ≡ 0)
+MayStep c (Enter g found) h = (found ≡ word (words_in h) g) × (g < 8) × (raised (own_steps c h) ≡ 1)
+    × (stand (own_steps c h) ≡ 0)
 MayStep c (Grant g expected count found) h = (found ≡ word (words_in h) g) × (g < 8) × (count ≤ waiting expected)
     × (total moved_by (own_steps c h) + count ≤ 2 ^ 56)
-MayStep c (Use g expected found) h = (found ≡ word (words_in h) g) × (g < 8) × (0 < granted expected) × (stand (own_steps c h) ≡ suc g)
-MayStep c (Withdraw g expected found) h = (found ≡ word (words_in h) g) × (g < 8) × (granted expected ≡ 0) × (stand (own_steps c h) ≡ suc g)
+MayStep c (Use g expected found) h = (found ≡ word (words_in h) g) × (g < 8) × (0 < granted expected)
+    × (stand (own_steps c h) ≡ suc g)
+MayStep c (Withdraw g expected found) h = (found ≡ word (words_in h) g) × (g < 8) × (granted expected ≡ 0)
+    × (stand (own_steps c h) ≡ suc g)
 MayStep c (Store index) h = index < 8
 
 -- the rule of the table

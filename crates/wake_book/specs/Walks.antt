@@ -25,7 +25,8 @@ LosesAndLooks g most steps steps' found = (tries : ℕ) × (tries < 4) × (befor
 
 -- a visit found nobody waiting
 abbrev pub FindsNobody : ℕ → ℕ → List GroupStep → List GroupStep → ℕ → Type 0
-FindsNobody g most steps steps' moved = (found : ℕ) × LosesAndLooks g most steps steps' found × (waiting found ≡ 0) × (moved ≡ 0)
+FindsNobody g most steps steps' moved = (found : ℕ) × LosesAndLooks g most steps steps' found
+    × (waiting found ≡ 0) × (moved ≡ 0)
 
 -- a visit won a try, and moved the lesser of what waited and the most asked for
 abbrev pub WinsGrant : ℕ → ℕ → List GroupStep → List GroupStep → ℕ → Type 0
@@ -54,7 +55,8 @@ AreVisits (suc visits) first nr steps steps' left next = (before : List GroupSte
 abbrev pub WalksOn : ℕ → List GroupStep → List GroupStep → ℕ → Type 0
 WalksOn nr steps steps' moved = (active : ℕ) × (1 ≤ active) × (first : ℕ) × (visits : ℕ) × (visits ≤ 8)
     × (before : List GroupStep) × (left : ℕ) × (next : ℕ)
-    × AreVisits visits first nr (Look index_at first ∷ Look active_at active ∷ steps) before left next × ((left ≡ 0) ⊎ (visits ≡ 8))
+    × AreVisits visits first nr (Look index_at first ∷ Look active_at active ∷ steps) before left next
+      × ((left ≡ 0) ⊎ (visits ≡ 8))
     × (steps' ≡ Store next ∷ before) × (moved ≡ nr - left)
 
 -- a walk for nr makes no step where its waiter's moves could pass 2^56, and ends where it finds nobody active
@@ -72,17 +74,21 @@ IsCalledFor g found seen step = ((0 < granted found) × (step ≡ Use g found se
 abbrev pub Idles : ℕ → ℕ → List GroupStep → List GroupStep → Type 0
 Idles zero g steps steps' = steps' ≡ steps
 Idles (suc idles) g steps steps' = (found : ℕ) × (seen : ℕ) × (step : GroupStep) × (before : List GroupStep)
-    × Idles idles g steps before × IsCalledFor g found seen step × (seen ≢ found) × (steps' ≡ step ∷ looked g found before)
+    × Idles idles g steps before × IsCalledFor g found seen step × (seen ≢ found)
+      × (steps' ≡ step ∷ looked g found before)
 
 -- after idles the waiter looked at its group, and found this word
 abbrev pub IdlesAndLooks : ℕ → List GroupStep → List GroupStep → ℕ → Type 0
-IdlesAndLooks g steps steps' found = (idles : ℕ) × (before : List GroupStep) × Idles idles g steps before × (steps' ≡ looked g found before)
+IdlesAndLooks g steps steps' found = (idles : ℕ) × (before : List GroupStep) × Idles idles g steps before
+    × (steps' ≡ looked g found before)
 
 -- the waiter left the group by a grant that stood there, or where it found none
 abbrev pub IsLeave : ℕ → List GroupStep → List GroupStep → Left → Type 0
-IsLeave g steps steps' Woken = (active : ℕ) × (found : ℕ) × (before : List GroupStep) × IdlesAndLooks g steps before found
+IsLeave g steps steps' Woken = (active : ℕ) × (found : ℕ) × (before : List GroupStep)
+    × IdlesAndLooks g steps before found
     × (0 < granted found) × (steps' ≡ Lower active ∷ Use g found found ∷ before)
-IsLeave g steps steps' Unwoken = (active : ℕ) × (found : ℕ) × (before : List GroupStep) × IdlesAndLooks g steps before found
+IsLeave g steps steps' Unwoken = (active : ℕ) × (found : ℕ) × (before : List GroupStep)
+    × IdlesAndLooks g steps before found
     × (granted found ≡ 0) × (steps' ≡ Lower active ∷ Withdraw g found found ∷ before)
 
 -- that many looks at the group, none of which found a grant

@@ -13,7 +13,8 @@ use Rattle.tag_core.proofs.gather.count_posted.Goals as goal
 pub word-requires : goal.word-requires
 word-requires g c = let l : c.loop-tag.tag < c.args.layout.depth = search rules in (
   subst (λ (z : ℕ). z < slots_len c.args.ended.now.words) (sym c.state_spot.ensures)
-      (subst (λ (z : ℕ). state_at c.args.layout c.loop-tag.tag < z) (sym c.requires.1) (state_in c.args.layout c.loop-tag.tag l)),
+      (subst (λ (z : ℕ). state_at c.args.layout c.loop-tag.tag < z) (sym c.requires.1)
+        (state_in c.args.layout c.loop-tag.tag l)),
   c.requires.0,
 )
 
@@ -29,7 +30,8 @@ ones l ws n = sum_below (λ t. one_if (nat_eq (get_or ws (state_at l t) 0) 1)) n
 
 pub loop-tag-preserved : goal.loop-tag-preserved
 loop-tag-preserved g c =
-    let l = c.args.layout in let ws = slots_items c.args.ended.now.words in let t : ℕ = c.loop-tag.tag in let inv = c.loop-tag.invariant in
+    let l = c.args.layout in let ws = slots_items c.args.ended.now.words in let t : ℕ = c.loop-tag.tag in
+    let inv = c.loop-tag.invariant in
     let next : suc t ≡ t + 1 = omega arith in
     let is : get_or ws (state_at l t) 0 ≡ c.word.result = ap (λ (z : ℕ). get_or ws z 0) (sym c.state_spot.ensures)
     ∙ read ws c.state_spot.result c.word.result c.word.ensures in

@@ -1,3 +1,5 @@
+-- The closed table hands out its words together with the rule, so the history that shows them is at hand. The sums over
+-- the records are those of that history, and the states that are 1 are its posted tags.
 use Rattle.std.proofs.Common.{arith, ℕ, List, nat_eq, slice_index, refl, sym, ap, ◌∙◌, subst}
 use mathlib.Core.Option.{some-injective}
 use lib.ListN.{get_elem?}
@@ -28,7 +30,8 @@ returns g c =
     let back = a.sums.1 ∙ back_all k s sh a.seat.id v at c.requires.all in
     let held = a.sums.2 ∙ held_all k s sh a.seat.id v at c.requires.all in
     let posted = c.count_posted-posted.ensures.value
-    ∙ ap (λ (z : List ℕ). sum_below (λ t. one_if (nat_eq (slice_index z (state_at k.layout t)) 1)) k.layout.depth) (sym last.2)
+    ∙ ap (λ (z : List ℕ). sum_below (λ t. one_if (nat_eq (slice_index z (state_at k.layout t)) 1)) k.layout.depth)
+      (sym last.2)
     ∙ posted_all k s sh a.seat.id v at in
     let even = even_all k s sh a.seat.id v at in record {
       history = sh.history;
@@ -40,7 +43,8 @@ returns g c =
       held = a.sums.2;
       totals = record { got = got; back = back; held = held; posted = posted };
       chain = count_chain k sh.history
-          (record { got = a.won; back = a.back; held = a.held; posted = c.count_posted-posted.result }) m.chain sh.lawful
+          (record { got = a.won; back = a.back; held = a.held; posted = c.count_posted-posted.result }) m.chain
+            sh.lawful
           (record { got = got; back = back; held = held; posted = posted });
       balance = omega arith;
       slots = c.take_out-slots.ensures.len ∙ c.close_with-ended.ensures.counts.1 ∙ m.wide.1;

@@ -26,13 +26,16 @@ loop-i-preserved g c =
     let fs : List Bool = slots_filled c.loop-i.ended.slots in let pushed = c.push_reserved.ensures in
     let off : (n : ℕ) → n ≢ i
     → slice_index_or (slots_filled c.take.new.self.slots) n false ≡ slice_index_or fs n false =
-    (λ n ne. ap (λ (z : List Bool). slice_index_or z n false) others.1 ∙ get_or-set_other fs i n false false ne) in record {
+    (λ n ne. ap (λ (z : List Bool). slice_index_or z n false) others.1 ∙ get_or-set_other fs i n false false ne) in
+    record {
       empty = λ n l. dite (ℕ_discrete n i)
           (λ (e : n ≡ i). ap (λ (z : List Bool). slice_index_or z n false) others.1
           ∙ ap (λ (z : ℕ). slice_index_or (set fs i false) z false) e ∙ put_out fs i)
           (λ (ne : n ≢ i). off n ne ∙ inv.empty n (omega arith));
-      full = λ n le l. off n (λ (e : n ≡ i). omega arith) ∙ inv.full n (omega arith) (subst (λ (z : ℕ). n < z) others.2 l);
-      near = (let low : c.loop-i.i < slots_len c.loop-i.ended.slots = search rules in let same = others.2 in omega arith);
+      full = λ n le l. off n (λ (e : n ≡ i). omega arith)
+        ∙ inv.full n (omega arith) (subst (λ (z : ℕ). n < z) others.2 l);
+      near = (let low : c.loop-i.i < slots_len c.loop-i.ended.slots = search rules in
+        let same = others.2 in omega arith);
       items = others.0 ∙ inv.items;
       len = others.2 ∙ inv.len;
       capacity = pushed.capacity ∙ inv.capacity;

@@ -19,7 +19,8 @@ returns-in-None-clause-succeeds g c = (
 -- the least number that is missing
 least : {g : given.Over} (c : In-Some g)
     → IsLeastMissing (numbers_of c.args.callers.items) c.args.tags.shape.callers c.in-Some.number
-least {g} c = subst (λ (z : List (Caller g.row.R.Denot)). IsLeastMissing (numbers_of z) c.args.tags.shape.callers c.in-Some.number)
+least {g} c = subst (λ (z : List (Caller g.row.R.Denot)). IsLeastMissing
+    (numbers_of z) c.args.tags.shape.callers c.in-Some.number)
     c.as_slice.ensures.value c.in-Some.ensures
 
 pub returns-in-Some-clause-succeeds : goal.returns-in-Some-clause-succeeds

@@ -1,3 +1,5 @@
+-- Each turn splits the seat once more: the caller made last has the next number and a fresh record, those before it keep
+-- theirs, and what is left of the seat is still to be handed out.
 use Rattle.std.proofs.Common.{rules, ◌≡◌, ℕ, ◌+◌, List, [], ◌∷◌, ◌++◌, length, All, length-append, sym, ap, ◌∙◌, subst, ⊎_elim}
 use mathlib.Core.Option.{some}
 use Rattle.std.proofs.lemmas.List.Elements.{All-push}
@@ -10,7 +12,8 @@ use Rattle.tag_core.proofs.opens.hand_out.Goals as goal
 
 pub loop-number-preserved : goal.loop-number-preserved
 loop-number-preserved g c =
-    let inv = c.loop-number.invariant in let m = c.args.map.now in let R = g.row.R.Denot in let new = c.in_ok-caller.caller in
+    let inv = c.loop-number.invariant in let m = c.args.map.now in let R = g.row.R.Denot in
+    let new = c.in_ok-caller.caller in
     let items : c.push.new.self.items ≡ c.loop-number.callers.items ++ new ∷ [] = search rules in
     let n = c.loop-number.number in record {
       seat = c.in_ok-caller.ensures.rest.0 ∙ inv.seat;

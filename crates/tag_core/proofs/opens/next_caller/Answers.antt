@@ -51,7 +51,8 @@ none_before k n won back j =
 pub invariant_of-result : goal.invariant_of-result
 invariant_of-result g c = let k = c.args.map.now.shape in let n : ℕ = c.args.number in let R = g.row.R.Denot in
     let is = ap (λ x. x.0) c.requires.rest ∙ ap viewing (next_fresh R k n k.callers c.requires.number) in
-    let blank : c.in_ok-held.held.items ≡ replicate (words k.layout) 0 = search rules in let now = c.split_seat-seat.ensures.4 in
+    let blank : c.in_ok-held.held.items ≡ replicate (words k.layout) 0 = search rules in
+    let now = c.split_seat-seat.ensures.4 in
     let alone_is = ap (λ x. x.0) now ∙ ap first_view is
     ∙ ap alone (none_before {R = R} k n c.requires.blank.0 c.requires.blank.1) in record {
       told = search rules;
@@ -71,7 +72,8 @@ invariant_of-result g c = let k = c.args.map.now.shape in let n : ℕ = c.args.n
           (fresh_history R k n c.requires.number)) ∣₁;
       carries = subst (λ (z : Shape × List ℕ × List (ℕ × R)). Carries z.0.layout z.1 z.2)
           (λ j. (sym c.of.ensures j, sym blank j, sym (ap (λ x. x.1) now) j)) (carries_none R k (words k.layout));
-      wide = ap length blank ∙ length-replicate (words k.layout) 0 ∙ ap (λ (z : Shape). words z.layout) (sym c.of.ensures);
+      wide = ap length blank ∙ length-replicate (words k.layout) 0
+        ∙ ap (λ (z : Shape). words z.layout) (sym c.of.ensures);
       unspent = (omega arith, c.args.map.now.few.2);
       few_back = omega arith;
     }
@@ -98,4 +100,5 @@ returns-clause-caller g c = let k = c.args.map.now.shape in let n : ℕ = c.args
 pub returns-clause-rest : goal.returns-clause-rest
 returns-clause-rest g c = let k = c.args.map.now.shape in let n : ℕ = c.args.number in let R = g.row.R.Denot in
     let is = ap (λ x. x.0) c.requires.rest ∙ ap viewing (next_fresh R k n k.callers c.requires.number) in
-    (c.split_seat-seat.ensures.0, c.split_seat-seat.ensures.2 ∙ (λ j. (ap other_views is j, ap (λ x. x.1) c.requires.rest j)))
+    (c.split_seat-seat.ensures.0, c.split_seat-seat.ensures.2
+      ∙ (λ j. (ap other_views is j, ap (λ x. x.1) c.requires.rest j)))

@@ -14,14 +14,16 @@ use Rattle.tag_core.proofs.reopens.place_of.Goals as goal
 -- the number that stands at this place
 number_here : {g : given.Over} (c : After-index-callers-i g)
     → get_elem? (numbers_of c.args.callers.now) c.loop-i.i ≡ some c.index-callers-i.result.number
-number_here {g} c = at_map (λ (x : Caller g.row.R.Denot). x.number) c.args.callers.now c.loop-i.i c.index-callers-i.result
+number_here {g} c = at_map (λ (x : Caller g.row.R.Denot). x.number) c.args.callers.now c.loop-i.i
+    c.index-callers-i.result
     (at_index c.args.callers.now c.loop-i.i c.index-callers-i.result c.loop-i-test.true c.index-callers-i.is)
 
 pub returns-then-caller-number-clause-some : goal.returns-then-caller-number-clause-some
 returns-then-caller-number-clause-some g c = number_here c.before ∙ ap some c.if-caller-number.true
 
 pub loop-i-preserved : goal.loop-i-preserved
-loop-i-preserved g c = below_more (λ (k : ℕ). get_elem? (numbers_of c.args.callers.now) k ≢ some c.args.number) c.loop-i.i
+loop-i-preserved g c = below_more (λ (k : ℕ). get_elem? (numbers_of c.args.callers.now) k
+    ≢ some c.args.number) c.loop-i.i
     c.loop-i.invariant (λ e. c.if-caller-number.false (some-injective _ _ (sym (number_here c.before) ∙ e)))
 
 pub returns-clause-none : goal.returns-clause-none

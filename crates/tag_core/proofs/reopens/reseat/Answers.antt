@@ -23,10 +23,12 @@ module _ {R : Type 0} (k : Shape) (old : Caller R) where
 
 pub split_seat-requires : goal.split_seat-requires
 split_seat-requires g c =
-    let R = g.row.R.Denot in let m = c.args.tags.now in let k = m.shape in let old = c.args.caller.now in let rest = c.args.rest.now in (
+    let R = g.row.R.Denot in let m = c.args.tags.now in let k = m.shape in let old = c.args.caller.now in
+    let rest = c.args.rest.now in (
       c.requires.seat,
       some_words m,
-      splits_off m rest.id rest.me.0 (fresh_record k old.number) (fresh k (old.number + 1) (k.callers - (old.number + 1)))
+      splits_off m rest.id rest.me.0 (fresh_record k old.number)
+        (fresh k (old.number + 1) (k.callers - (old.number + 1)))
           (first_is k old rest.me.0 c.requires.number (ap (λ x. x.0) c.requires.rest)),
     )
 
@@ -61,8 +63,10 @@ invariant_of-caller g c =
           (sym (ap (λ x. x.0) c.split_seat.ensures.4 ∙ ap first_view is) ∙ e))
           (fresh_history R k old.number c.requires.number)) ∣₁;
       carries = subst (λ (z : Shape × List ℕ × List (ℕ × R)). Carries z.0.layout z.1 z.2)
-          (λ j. (sym of j, sym c.requires.held j, sym (ap (λ x. x.1) c.split_seat.ensures.4) j)) (carries_none R k (words k.layout));
-      wide = ap length c.requires.held ∙ length-replicate (words k.layout) 0 ∙ ap (λ (z : Shape). words z.layout) (sym of);
+          (λ j. (sym of j, sym c.requires.held j, sym (ap (λ x. x.1) c.split_seat.ensures.4) j))
+            (carries_none R k (words k.layout));
+      wide = ap length c.requires.held ∙ length-replicate (words k.layout) 0
+        ∙ ap (λ (z : Shape). words z.layout) (sym of);
       unspent = old.unspent;
       few_back = old.few_back;
     }

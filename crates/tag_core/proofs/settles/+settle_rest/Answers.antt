@@ -67,4 +67,5 @@ returns-clause-unchanged g t c =
     (λ j. (sym c.in-Some.ensures.items j, sym c.push_reserved.ensures.items j))
     (unchanged-more c.pop.new.self.items c.settle_rest-loans.new.callers.items last c.give_back-last.result
     c.settle_rest-loans.ensures.unchanged
-    (subst (λ (z : Caller R). IsUnchanged z c.give_back-last.result) c.lend-lender.ensures.lender c.give_back-last.ensures.unchanged))
+    (subst (λ (z : Caller R). IsUnchanged z c.give_back-last.result) c.lend-lender.ensures.lender
+      c.give_back-last.ensures.unchanged))

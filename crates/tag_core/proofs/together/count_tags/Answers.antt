@@ -1,3 +1,4 @@
+-- The sum over the masks seen so far grows by the next mask's bits, at most 64 of them, so it never overflows.
 use Rattle.std.proofs.Common.{arith, ℕ, ◌+◌, ◌<◌, ◌^◌, List, length, slice_index, count_ones, sym, ap, ◌∙◌}
 use Rattle.std.proofs.lemmas.Nat.{ones-le}
 use Rattle.tag_core.proofs.Totalling.{total_of-next}

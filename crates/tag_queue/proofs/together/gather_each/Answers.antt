@@ -27,14 +27,16 @@ add-requires-clause-own g c =
 
 pub loop-agent-preserved : goal.loop-agent-preserved
 loop-agent-preserved g c =
-    let R = g.row.R.Denot in let P : Agent R → Type 0 = IsAgentOf c.args.queue.now in let e = c.in-Some-pop.ensures.items in
+    let R = g.row.R.Denot in let P : Agent R → Type 0 = IsAgentOf c.args.queue.now in
+    let e = c.in-Some-pop.ensures.items in
     let inv = c.loop-agent.invariant in let left : List (Agent R) = c.pop-in-loop-agent.new.self.items in
     let agent = c.in-Some-pop.agent in record {
       queue = c.add.ensures.queue;
       own = all_front P left agent (subst (All P) e inv.own);
       came = (
         agent ∷ inv.came.0,
-        sym (append_assoc left (agent ∷ []) inv.came.0) ∙ ap (λ (z : List (Agent R)). z ++ inv.came.0) (sym e) ∙ inv.came.1,
+        sym (append_assoc left (agent ∷ []) inv.came.0) ∙ ap (λ (z : List (Agent R)). z ++ inv.came.0) (sym e)
+          ∙ inv.came.1,
         c.add.ensures.more inv.came.0 inv.came.2,
       );
     }

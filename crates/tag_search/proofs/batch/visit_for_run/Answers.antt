@@ -27,7 +27,8 @@ returns-then-place-n-clause-visit g c =
     record {
       steps = a.steps;
       added = a.added;
-      holds = no_run a.holds (λ place other. let same = same_first_clear found d c.in_ok-place.place place first other in
+      holds = no_run a.holds (λ place other. let same =
+        same_first_clear found d c.in_ok-place.place place first other in
           omega arith);
     }
 

@@ -1,3 +1,5 @@
+-- The step sets the mask's bits in the word and wins those that it found 0. There is room for all of them by the test
+-- before it, the caller's mask gains what was won, and its seat the slots of these tags.
 use Rattle.std.proofs.Common.{rules, arith, ◌≡◌, ℕ, ◌+◌, ◌<◌, ◌≤◌, List, slice_index, slice_set, length-set, bit_or, count_ones, refl, sym, ap, ◌∙◌, subst}
 use Rattle.std.proofs.lemmas.List.{get_or_read}
 use Rattle.std.specs.Int.{bit_at}
@@ -39,7 +41,8 @@ invariant_of-caller g c =
     let held_is : slice_set w.held.items i (bit_or (slice_index w.held.items i) (without c.args.mask f)) ≡ held = ap
     (λ (z : ℕ). slice_set w.held.items i (bit_or z (without c.args.mask f))) (sym was) in
     let few : count_ones (without c.args.mask f) ≤ count_ones c.args.mask = ones_minus c.args.mask f in
-    let roomy : w.won + count_ones c.args.mask ≤ k.life = c.room.ensures.0 (search rules) in let told = w.told.1 in record {
+    let roomy : w.won + count_ones c.args.mask ≤ k.life = c.room.ensures.0 (search rules) in
+    let told = w.told.1 in record {
       told = w.told;
       knows = knows w (Word (Claimed i c.args.mask f)) c.fetch_or-found.new.seat.me did held
           (w.won + count_ones (without c.args.mask f)) w.back held_is refl refl (plus_none w.back);

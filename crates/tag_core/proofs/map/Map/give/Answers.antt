@@ -1,3 +1,5 @@
+-- The step clears the mask's bits in the word, which the rule allows since the caller holds these tags. Its mask loses
+-- them, and their slots stay behind in the table.
 use Rattle.std.proofs.Common.{◌≡◌, ℕ, ◌+◌, ◌-◌, ◌^◌, ◌<◌, List, slice_index, slice_set, length-set, bit_and, count_ones, refl, sym, ap, ◌∙◌, subst}
 use Rattle.std.proofs.lemmas.List.{get_or_read}
 use Rattle.tag_layout.specs.Layout.{IsWithin}
@@ -26,7 +28,8 @@ fetch_and-requires g c =
     (give_allowed R k (narrow m w own) w.seat.id w.seat.me (record_of w) w.knows w.carries i x inside
     (subst (λ (z : Shape). IsWithin z.layout i x) same c.requires.within.1) c.ranges.mask.fits
     (λ t l a. (c.requires.held t (subst (λ (z : Shape). t < z.layout.depth) own.1 l)
-    (one_among m.shape.layout i x t (subst (λ (z : Shape). among z.layout.shift i x t ≡ 1) own.1 a))).1)) in (own.0, a.0, a.1)
+    (one_among m.shape.layout i x t (subst (λ (z : Shape). among z.layout.shift i x t ≡ 1) own.1 a))).1)) in
+      (own.0, a.0, a.1)
 
 pub invariant_of-caller : goal.invariant_of-caller
 invariant_of-caller g c =
@@ -76,4 +79,5 @@ returns-clause-step g c =
 pub returns-clause-released : goal.returns-clause-released
 returns-clause-released g c =
     let m = c.args.self.now in let w = c.args.caller.now in let own = c.requires.caller in
-    adds_releases m w _ own _ (returns-clause-step g c).1 c.args.word c.args.mask c.requires.within.0 c.requires.within.1 refl
+    adds_releases m w _ own _ (returns-clause-step g c).1 c.args.word c.args.mask c.requires.within.0
+      c.requires.within.1 refl

@@ -1,3 +1,4 @@
+-- A load changes no word; the record gains the step with what it found, which has the bit of each tag that the caller holds.
 use Rattle.std.proofs.Common.{◌≡◌, ℕ, refl, ap, ◌∙◌, subst}
 use Rattle.std.specs.Int.{bit_at}
 use Rattle.tag_layout.specs.Layout.{word_of, place_of}
@@ -19,12 +20,14 @@ load-requires g c =
     let R = g.row.R.Denot in let i : ℕ = c.args.word in let inside = in_words m w own i c.requires.within in
     let a = asked m w own w.seat.id w.seat.me (word_at i) c.word_spot.result (λ n. n) 0 0 looked c.word_spot.ensures
     (word_in k.layout i inside)
-    (look_allowed R k (narrow m w own) w.seat.id w.seat.me (record_of w) w.knows w.carries i inside) in (own.0, a.0, a.1)
+    (look_allowed R k (narrow m w own) w.seat.id w.seat.me (record_of w) w.knows w.carries i inside) in
+    (own.0, a.0, a.1)
 
 pub invariant_of-caller : goal.invariant_of-caller
 invariant_of-caller g c =
     let m = c.args.self.now in let w = c.args.caller.now in let k = w.shape.value in let own = c.requires.caller in
-    let R = g.row.R.Denot in let i : ℕ = c.args.word in let did = c.load.ensures.2 i (record_of w) c.word_spot.ensures w.knows in
+    let R = g.row.R.Denot in let i : ℕ = c.args.word in
+    let did = c.load.ensures.2 i (record_of w) c.word_spot.ensures w.knows in
     record {
       told = w.told;
       knows = knows w
@@ -42,7 +45,8 @@ invariant_of-caller g c =
 pub returns-clause-step : goal.returns-clause-step
 returns-clause-step g c =
     let m = c.args.self.now in let w = c.args.caller.now in let k = w.shape.value in let own = c.requires.caller in
-    let R = g.row.R.Denot in let i : ℕ = c.args.word in let did = c.load.ensures.2 i (record_of w) c.word_spot.ensures w.knows in
+    let R = g.row.R.Denot in let i : ℕ = c.args.word in
+    let did = c.load.ensures.2 i (record_of w) c.word_spot.ensures w.knows in
     record {
       known = recorded w (Word (Look i c.load.result)) c.load.new.seat.me did.0 w.held.items w.won w.back refl refl
           (plus_none w.won) (plus_none w.back);

@@ -1,3 +1,4 @@
+-- A load changes no word; the record gains the step with what it found, and all else of the caller stays.
 use Rattle.std.proofs.Common.{◌≡◌, ℕ, refl, ap, ◌∙◌, subst}
 use Rattle.std.specs.Int.{bit_at}
 use Rattle.tag_layout.specs.Layout.{word_of, place_of}
@@ -19,16 +20,19 @@ load-requires g c =
     let R = g.row.R.Denot in let i : ℕ = c.args.word in let inside = in_words m w own i c.requires.within in
     let a = asked m w own w.seat.id w.seat.me (aside_at i) c.aside_spot.result
     (λ n. n) 0 0 looked_aside c.aside_spot.ensures (aside_in k.layout i inside)
-    (look_aside_allowed R k (narrow m w own) w.seat.id w.seat.me (record_of w) w.knows w.carries i inside) in (own.0, a.0, a.1)
+    (look_aside_allowed R k (narrow m w own) w.seat.id w.seat.me (record_of w) w.knows w.carries i inside) in
+    (own.0, a.0, a.1)
 
 pub invariant_of-caller : goal.invariant_of-caller
 invariant_of-caller g c =
     let m = c.args.self.now in let w = c.args.caller.now in let k = w.shape.value in let own = c.requires.caller in
-    let R = g.row.R.Denot in let i : ℕ = c.args.word in let did = c.load.ensures.2 i (record_of w) c.aside_spot.ensures w.knows in
+    let R = g.row.R.Denot in let i : ℕ = c.args.word in
+    let did = c.load.ensures.2 i (record_of w) c.aside_spot.ensures w.knows in
     record {
       told = w.told;
       knows = knows w
-          (Word (LookAside i c.load.result)) c.load.new.seat.me did.0 w.held.items w.won w.back refl refl (plus_none w.won)
+          (Word (LookAside i c.load.result)) c.load.new.seat.me did.0 w.held.items w.won w.back
+            refl refl (plus_none w.won)
           (plus_none w.back);
       shown = shows (Word (LookAside i c.load.result)) (record_of w) w.seat.me c.load.new.seat.me did.0;
       carries =
@@ -42,10 +46,12 @@ invariant_of-caller g c =
 pub returns-clause-step : goal.returns-clause-step
 returns-clause-step g c =
     let m = c.args.self.now in let w = c.args.caller.now in let k = w.shape.value in let own = c.requires.caller in
-    let R = g.row.R.Denot in let i : ℕ = c.args.word in let did = c.load.ensures.2 i (record_of w) c.aside_spot.ensures w.knows in
+    let R = g.row.R.Denot in let i : ℕ = c.args.word in
+    let did = c.load.ensures.2 i (record_of w) c.aside_spot.ensures w.knows in
     record {
       known = recorded w
-          (Word (LookAside i c.load.result)) c.load.new.seat.me did.0 w.held.items w.won w.back refl refl (plus_none w.won)
+          (Word (LookAside i c.load.result)) c.load.new.seat.me did.0 w.held.items w.won w.back
+            refl refl (plus_none w.won)
           (plus_none w.back);
       slots =
           slots w (Word (LookAside i c.load.result)) c.load.new.seat.me did.0 w.held.items w.won w.back refl refl

@@ -1,3 +1,5 @@
+-- A load of the tag's state brings its slot to the front of the seat, the exchange changes that one value, and a second
+-- load puts the slot back to its place among the others.
 use Rattle.std.proofs.Common.{◌≡◌, ℕ, List, ◌∷◌, replicate, sym, ap, ◌∙◌}
 use mathlib.Core.Option.{some}
 use Rattle.tag_layout.specs.Layout.{words}
@@ -19,21 +21,24 @@ load-requires g c =
     let m = c.args.self.now in let w = c.args.caller.now in let k = w.shape.value in let own = c.requires.caller in
     let R = g.row.R.Denot in let u : ℕ = c.args.tag in let lu = c.requires.held.0 in let has = c.requires.held.1 in
     let a = asked m w own w.seat.id w.seat.me (state_at k.layout u) c.state_spot-spot.result
-    (λ n. n) 0 0 fronted (c.state_spot-spot.ensures ∙ ap (λ (z : Layout). state_at z u) w.told.0) (state_in k.layout u lu)
+    (λ n. n) 0 0 fronted (c.state_spot-spot.ensures ∙ ap (λ (z : Layout). state_at z u) w.told.0)
+      (state_in k.layout u lu)
     (front_allowed R k w.seat.id w.seat.me (record_of w) w.knows u lu has w.carries) in (own.0, a.0, a.1)
 
 pub exchange-old-requires : goal.exchange-old-requires
 exchange-old-requires g c =
     let m = c.args.self.now in let w = c.args.caller.now in let k = w.shape.value in let own = c.requires.caller in
     let R = g.row.R.Denot in let u : ℕ = c.args.tag in let lu = c.requires.held.0 in let has = c.requires.held.1 in
-    let first = c.load.ensures.2 u (record_of w) (c.state_spot-spot.ensures ∙ ap (λ (z : Layout). state_at z u) w.told.0) w.knows lu has in
+    let first = c.load.ensures.2 u (record_of w) (c.state_spot-spot.ensures
+      ∙ ap (λ (z : Layout). state_at z u) w.told.0) w.knows lu has in
     (c.load.ensures.0 ∙ own.0, (first.0, first.3 ∙ (λ j. (u, first.0) ∷ rest (sym first.3 j))))
 
 pub load-requires-2 : goal.load-requires-2
 load-requires-2 g c =
     let m = c.args.self.now in let w = c.args.caller.now in let k = w.shape.value in let own = c.requires.caller in
     let R = g.row.R.Denot in let u : ℕ = c.args.tag in let lu = c.requires.held.0 in let has = c.requires.held.1 in
-    let first = c.load.ensures.2 u (record_of w) (c.state_spot-spot.ensures ∙ ap (λ (z : Layout). state_at z u) w.told.0) w.knows lu has in
+    let first = c.load.ensures.2 u (record_of w) (c.state_spot-spot.ensures
+      ∙ ap (λ (z : Layout). state_at z u) w.told.0) w.knows lu has in
     let got : first.0 ≡ c.exchange-old.result = ap (λ (z : ℕ × R). z.1)
     (some-injective (u, first.0) (u, c.exchange-old.result)
     (ap (λ (z : List (ℕ × R)). get_elem? z 0) (sym first.3 ∙ c.exchange-old.ensures.2))) in
@@ -42,7 +47,8 @@ load-requires-2 g c =
     ∙ ap (λ (z : List (ℕ × R)). (u, c.args.new) ∷ rest z) first.3 in
     let seat = c.exchange-old.new.seat in
     let a = asked m w own seat.id seat.me (state_at k.layout u) c.state_spot-spot.result
-    (λ n. n) 0 0 ordered (c.state_spot-spot.ensures ∙ ap (λ (z : Layout). state_at z u) w.told.0) (state_in k.layout u lu)
+    (λ n. n) 0 0 ordered (c.state_spot-spot.ensures ∙ ap (λ (z : Layout). state_at z u) w.told.0)
+      (state_in k.layout u lu)
     (order_allowed R k seat.id seat.me (record_of w) (view ∙ w.knows) u lu has c.args.new first.1 now first.5) in
     (c.exchange-old.ensures.0 ∙ c.load.ensures.0 ∙ own.0, a.0, a.1)
 
@@ -50,14 +56,16 @@ pub invariant_of-caller : goal.invariant_of-caller
 invariant_of-caller g c =
     let m = c.args.self.now in let w = c.args.caller.now in let k = w.shape.value in let own = c.requires.caller in
     let R = g.row.R.Denot in let u : ℕ = c.args.tag in let lu = c.requires.held.0 in let has = c.requires.held.1 in
-    let first = c.load.ensures.2 u (record_of w) (c.state_spot-spot.ensures ∙ ap (λ (z : Layout). state_at z u) w.told.0) w.knows lu has in
+    let first = c.load.ensures.2 u (record_of w) (c.state_spot-spot.ensures
+      ∙ ap (λ (z : Layout). state_at z u) w.told.0) w.knows lu has in
     let got : first.0 ≡ c.exchange-old.result = ap (λ (z : ℕ × R). z.1)
     (some-injective (u, first.0) (u, c.exchange-old.result)
     (ap (λ (z : List (ℕ × R)). get_elem? z 0) (sym first.3 ∙ c.exchange-old.ensures.2))) in
     let view : c.exchange-old.new.seat.me.0 ≡ w.seat.me.0 = ap (λ z. z.0) c.exchange-old.ensures.3 ∙ first.2 in
     let now : c.exchange-old.new.seat.me.1 ≡ (u, c.args.new) ∷ first.1 = ap (λ z. z.1) c.exchange-old.ensures.3
     ∙ ap (λ (z : List (ℕ × R)). (u, c.args.new) ∷ rest z) first.3 in
-    let last = c.load-2.ensures.2 u c.args.new first.1 (record_of w) (c.state_spot-spot.ensures ∙ ap (λ (z : Layout). state_at z u) w.told.0) (view ∙ w.knows) now first.5 has in
+    let last = c.load-2.ensures.2 u c.args.new first.1 (record_of w) (c.state_spot-spot.ensures
+      ∙ ap (λ (z : Layout). state_at z u) w.told.0) (view ∙ w.knows) now first.5 has in
     let same = last.0 ∙ view in
     record {
       told = w.told;
@@ -83,7 +91,8 @@ pub returns-clause-found : goal.returns-clause-found
 returns-clause-found g c =
     let m = c.args.self.now in let w = c.args.caller.now in let k = w.shape.value in let own = c.requires.caller in
     let R = g.row.R.Denot in let u : ℕ = c.args.tag in let lu = c.requires.held.0 in let has = c.requires.held.1 in
-    let first = c.load.ensures.2 u (record_of w) (c.state_spot-spot.ensures ∙ ap (λ (z : Layout). state_at z u) w.told.0) w.knows lu has in
+    let first = c.load.ensures.2 u (record_of w) (c.state_spot-spot.ensures
+      ∙ ap (λ (z : Layout). state_at z u) w.told.0) w.knows lu has in
     let got : first.0 ≡ c.exchange-old.result = ap (λ (z : ℕ × R). z.1)
     (some-injective (u, first.0) (u, c.exchange-old.result)
     (ap (λ (z : List (ℕ × R)). get_elem? z 0) (sym first.3 ∙ c.exchange-old.ensures.2))) in
@@ -96,14 +105,16 @@ pub returns-clause-put : goal.returns-clause-put
 returns-clause-put g c =
     let m = c.args.self.now in let w = c.args.caller.now in let k = w.shape.value in let own = c.requires.caller in
     let R = g.row.R.Denot in let u : ℕ = c.args.tag in let lu = c.requires.held.0 in let has = c.requires.held.1 in
-    let first = c.load.ensures.2 u (record_of w) (c.state_spot-spot.ensures ∙ ap (λ (z : Layout). state_at z u) w.told.0) w.knows lu has in
+    let first = c.load.ensures.2 u (record_of w) (c.state_spot-spot.ensures
+      ∙ ap (λ (z : Layout). state_at z u) w.told.0) w.knows lu has in
     let got : first.0 ≡ c.exchange-old.result = ap (λ (z : ℕ × R). z.1)
     (some-injective (u, first.0) (u, c.exchange-old.result)
     (ap (λ (z : List (ℕ × R)). get_elem? z 0) (sym first.3 ∙ c.exchange-old.ensures.2))) in
     let view : c.exchange-old.new.seat.me.0 ≡ w.seat.me.0 = ap (λ z. z.0) c.exchange-old.ensures.3 ∙ first.2 in
     let now : c.exchange-old.new.seat.me.1 ≡ (u, c.args.new) ∷ first.1 = ap (λ z. z.1) c.exchange-old.ensures.3
     ∙ ap (λ (z : List (ℕ × R)). (u, c.args.new) ∷ rest z) first.3 in
-    let last = c.load-2.ensures.2 u c.args.new first.1 (record_of w) (c.state_spot-spot.ensures ∙ ap (λ (z : Layout). state_at z u) w.told.0) (view ∙ w.knows) now first.5 has in
+    let last = c.load-2.ensures.2 u c.args.new first.1 (record_of w) (c.state_spot-spot.ensures
+      ∙ ap (λ (z : Layout). state_at z u) w.told.0) (view ∙ w.knows) now first.5 has in
     let same = last.0 ∙ view in
     last.2
 
@@ -111,14 +122,16 @@ pub returns-clause-others : goal.returns-clause-others
 returns-clause-others g c =
     let m = c.args.self.now in let w = c.args.caller.now in let k = w.shape.value in let own = c.requires.caller in
     let R = g.row.R.Denot in let u : ℕ = c.args.tag in let lu = c.requires.held.0 in let has = c.requires.held.1 in
-    let first = c.load.ensures.2 u (record_of w) (c.state_spot-spot.ensures ∙ ap (λ (z : Layout). state_at z u) w.told.0) w.knows lu has in
+    let first = c.load.ensures.2 u (record_of w) (c.state_spot-spot.ensures
+      ∙ ap (λ (z : Layout). state_at z u) w.told.0) w.knows lu has in
     let got : first.0 ≡ c.exchange-old.result = ap (λ (z : ℕ × R). z.1)
     (some-injective (u, first.0) (u, c.exchange-old.result)
     (ap (λ (z : List (ℕ × R)). get_elem? z 0) (sym first.3 ∙ c.exchange-old.ensures.2))) in
     let view : c.exchange-old.new.seat.me.0 ≡ w.seat.me.0 = ap (λ z. z.0) c.exchange-old.ensures.3 ∙ first.2 in
     let now : c.exchange-old.new.seat.me.1 ≡ (u, c.args.new) ∷ first.1 = ap (λ z. z.1) c.exchange-old.ensures.3
     ∙ ap (λ (z : List (ℕ × R)). (u, c.args.new) ∷ rest z) first.3 in
-    let last = c.load-2.ensures.2 u c.args.new first.1 (record_of w) (c.state_spot-spot.ensures ∙ ap (λ (z : Layout). state_at z u) w.told.0) (view ∙ w.knows) now first.5 has in
+    let last = c.load-2.ensures.2 u c.args.new first.1 (record_of w) (c.state_spot-spot.ensures
+      ∙ ap (λ (z : Layout). state_at z u) w.told.0) (view ∙ w.knows) now first.5 has in
     let same = last.0 ∙ view in
     λ t held ne. last.3 t held.0 ne held.1 ∙ first.6 t held.0 ne held.1
 
@@ -126,14 +139,16 @@ pub returns-clause-unchanged : goal.returns-clause-unchanged
 returns-clause-unchanged g c =
     let m = c.args.self.now in let w = c.args.caller.now in let k = w.shape.value in let own = c.requires.caller in
     let R = g.row.R.Denot in let u : ℕ = c.args.tag in let lu = c.requires.held.0 in let has = c.requires.held.1 in
-    let first = c.load.ensures.2 u (record_of w) (c.state_spot-spot.ensures ∙ ap (λ (z : Layout). state_at z u) w.told.0) w.knows lu has in
+    let first = c.load.ensures.2 u (record_of w) (c.state_spot-spot.ensures
+      ∙ ap (λ (z : Layout). state_at z u) w.told.0) w.knows lu has in
     let got : first.0 ≡ c.exchange-old.result = ap (λ (z : ℕ × R). z.1)
     (some-injective (u, first.0) (u, c.exchange-old.result)
     (ap (λ (z : List (ℕ × R)). get_elem? z 0) (sym first.3 ∙ c.exchange-old.ensures.2))) in
     let view : c.exchange-old.new.seat.me.0 ≡ w.seat.me.0 = ap (λ z. z.0) c.exchange-old.ensures.3 ∙ first.2 in
     let now : c.exchange-old.new.seat.me.1 ≡ (u, c.args.new) ∷ first.1 = ap (λ z. z.1) c.exchange-old.ensures.3
     ∙ ap (λ (z : List (ℕ × R)). (u, c.args.new) ∷ rest z) first.3 in
-    let last = c.load-2.ensures.2 u c.args.new first.1 (record_of w) (c.state_spot-spot.ensures ∙ ap (λ (z : Layout). state_at z u) w.told.0) (view ∙ w.knows) now first.5 has in
+    let last = c.load-2.ensures.2 u c.args.new first.1 (record_of w) (c.state_spot-spot.ensures
+      ∙ ap (λ (z : Layout). state_at z u) w.told.0) (view ∙ w.knows) now first.5 has in
     let same = last.0 ∙ view in (
       (λ j. record {
         shape = k;

@@ -1,3 +1,4 @@
+-- The caller's record leaves its seat by a split, and the seat keeps its number and slots.
 use Rattle.std.proofs.Common.{ℕ, ◌<◌, [], sym, subst}
 use Rattle.atomic_table.specs.Table.{Splits}
 use Rattle.tag_core.specs.declared.shape.Shape.{Shape}

@@ -28,7 +28,8 @@ swap-mask-requires g c =
     let R = g.row.R.Denot in let i : ℕ = c.args.word in let inside = in_words m w own i c.requires.within in
     let a = asked m w own w.seat.id w.seat.me (aside_at i) c.aside_spot.result (λ _. 0) 0 0 swapped c.aside_spot.ensures
     (aside_in k.layout i inside)
-    (swap_allowed R k (narrow m w own) w.seat.id w.seat.me (record_of w) w.knows w.carries i inside) in (own.0, a.0, a.1)
+    (swap_allowed R k (narrow m w own) w.seat.id w.seat.me (record_of w) w.knows w.carries i inside) in
+    (own.0, a.0, a.1)
 
 pub invariant_of-caller : goal.invariant_of-caller
 invariant_of-caller g c =
@@ -100,7 +101,8 @@ both w i f n me' inside did j = let mask = mask_of (words w.shape.value.layout) 
   shape = w.shape.value;
   number = w.number;
   held = w.held.items;
-  swept = sym (clean (words w.shape.value.layout) i (bit_or (get_or (replicate (words w.shape.value.layout) 0) i 0) f)) j;
+  swept = sym (clean (words w.shape.value.layout) i (bit_or (get_or (replicate (words w.shape.value.layout) 0) i 0) f))
+    j;
   won = twice w.won j;
   back = twice w.back j;
   steps = (ap steps_of did ∙ (λ z. Word (Spill i (mask z) n) ∷ Word (Swap i f) ∷ steps_of w.seat.me.0)) j;

@@ -1,4 +1,5 @@
--- The counts with which the next map opens are those of the callers that settled, and so those of the history that showed them.
+-- The counts with which the next map opens are those of the callers that settled, and so those of the history that
+-- showed them.
 use Rattle.std.proofs.Common.{arith, List, get_or, sym, ap, ◌∙◌, subst}
 use Rattle.tag_core.specs.declared.shape.Shape.{Shape}
 use Rattle.tag_core.specs.declared.caller.Caller.{Caller}
@@ -10,12 +11,14 @@ use Rattle.tag_core.proofs.settled.Settled.reopen.Goals as goal
 
 pub new_map-requires-clause-opening : goal.new_map-requires-clause-opening
 new_map-requires-clause-opening g c =
-    let s = c.args.self in let made = c.in-Ok.ensures in may_open s.tags.shape s.callers.items s.totals s.known c.args.layout
+    let s = c.args.self in let made = c.in-Ok.ensures in
+    may_open s.tags.shape s.callers.items s.totals s.known c.args.layout
     c.in-Ok.shape made.next made.counts made.wide c.requires.unused.0 c.requires.unused.1
 
 pub new_map-requires-clause-chain : goal.new_map-requires-clause-chain
 new_map-requires-clause-chain g c =
-    let s = c.args.self in let made = c.in-Ok.ensures in chain_on s.tags.shape s.callers.items s.totals s.known c.args.layout
+    let s = c.args.self in let made = c.in-Ok.ensures in
+    chain_on s.tags.shape s.callers.items s.totals s.known c.args.layout
     c.in-Ok.shape made.next made.counts s.tags.chain c.requires.unused.0 c.requires.unused.1
 
 pub reseat_all-requires-clause-every : goal.reseat_all-requires-clause-every
@@ -33,7 +36,8 @@ reseat_all-requires-clause-below g c i x at =
 
 pub reseat_all-requires-clause-life : goal.reseat_all-requires-clause-life
 reseat_all-requires-clause-life g c i x at =
-    let s = c.args.self in let own = all_at (λ (z : Caller g.row.R.Denot). IsCallerOf s.tags z) s.callers.items s.own i x at in
+    let s = c.args.self in let own =
+      all_at (λ (z : Caller g.row.R.Denot). IsCallerOf s.tags z) s.callers.items s.own i x at in
     x.told.1 ∙ ap (λ (z : Shape). z.life) own.1
     ∙ sym (ap (λ (z : Shape). z.life) c.in-Ok-new_map.ensures.map ∙ c.in-Ok.ensures.next.life_is)
 
@@ -47,12 +51,15 @@ returns-clause-own g c i d l =
 pub returns-clause-goes_on : goal.returns-clause-goes_on
 returns-clause-goes_on g c known =
     let s = c.args.self in let made = c.in-Ok.ensures in
-    subst (λ (z : Shape). GoesOn (record { shape = s.tags.shape; history = known.history }) z) (sym c.in-Ok-new_map.ensures.map)
-    (goes_on s.tags.shape s.callers.items s.totals known c.in-Ok.shape made.counts c.args.layout made.next c.requires.unused.0
+    subst (λ (z : Shape). GoesOn (record { shape = s.tags.shape; history = known.history }) z)
+      (sym c.in-Ok-new_map.ensures.map)
+    (goes_on s.tags.shape s.callers.items s.totals known c.in-Ok.shape made.counts c.args.layout
+      made.next c.requires.unused.0
     c.requires.unused.1)
 
 pub returns-clause-free : goal.returns-clause-free
 returns-clause-free g c =
     let s = c.args.self in free_again s.tags.shape s.callers.items s.totals s.known c.in-Ok-new_map.made.0
-    c.reseat_all.new.callers.items (ap (λ (z : Shape). z.callers) c.in-Ok-new_map.ensures.map ∙ c.in-Ok.ensures.next.callers_is)
+    c.reseat_all.new.callers.items (ap (λ (z : Shape). z.callers) c.in-Ok-new_map.ensures.map
+      ∙ c.in-Ok.ensures.next.callers_is)
     c.reseat_all.ensures

@@ -14,7 +14,8 @@ use Rattle.tag_core.proofs.Stand.{same_tag, tag_mask_within}
 use Rattle.tag_core.proofs.tests.hands.give_tag.Goals as goal
 
 -- one tag alone is in the mask of its bit
-only_tag_in : (l : Layout) (tag other : ℕ) → IsTrue (is_in_mask l (word_of l tag) (2 ^ place_of l tag) other) → tag ≡ other
+only_tag_in : (l : Layout) (tag other : ℕ) → IsTrue (is_in_mask l (word_of l tag) (2 ^ place_of l tag) other)
+    → tag ≡ other
 only_tag_in l tag other inside =
     let mask : ℕ = 2 ^ place_of l tag in let one = among_one l (word_of l tag) mask other inside in
     dite (ℕ_discrete (word_of l other) (word_of l tag))
@@ -30,7 +31,8 @@ only_tag_in l tag other inside =
     absurd (omega arith))
 
 -- the mask of the tag's bit
-mask_is : (l other : Layout) (word place tag : ℕ) → other ≡ l → word ≡ word_of other tag → place ≡ place_of other tag → place < 64
+mask_is : (l other : Layout) (word place tag : ℕ) → other ≡ l → word ≡ word_of other tag
+    → place ≡ place_of other tag → place < 64
     → (word ≡ word_of l tag) × (1 * 2 ^ place % 2 ^ 64 ≡ 2 ^ place_of l tag)
 mask_is l other word place tag same word_is place_is low = (
   word_is ∙ ap (λ (z : Layout). word_of z tag) same,
@@ -39,7 +41,8 @@ mask_is l other word place tag same word_is place_is low = (
 
 pub give-requires-clause-within : goal.give-requires-clause-within
 give-requires-clause-within c = let l : Layout = c.args.map.now.shape.layout in let tag : ℕ = c.args.tag in
-    let is = mask_is l c.layout-layout.result c.word_of.result c.place_of.result tag c.layout-layout.ensures c.word_of.ensures.value c.place_of.ensures.value c.place_of.ensures.bound in
+    let is = mask_is l c.layout-layout.result c.word_of.result c.place_of.result tag c.layout-layout.ensures
+      c.word_of.ensures.value c.place_of.ensures.value c.place_of.ensures.bound in
     let held = c.if-not-has.ensures refl in
     let low : tag < l.depth = subst (λ (z : Shape). tag < z.layout.depth) c.requires.1 held.0 in (
       subst (λ (z : ℕ). z < words l) (sym is.0) (word_of-below l tag low),
@@ -47,8 +50,11 @@ give-requires-clause-within c = let l : Layout = c.args.map.now.shape.layout in 
     )
 
 pub give-requires-clause-held : goal.give-requires-clause-held
-give-requires-clause-held c other low inside = let l : Layout = c.args.map.now.shape.layout in let tag : ℕ = c.args.tag in
-    let is = mask_is l c.layout-layout.result c.word_of.result c.place_of.result tag c.layout-layout.ensures c.word_of.ensures.value c.place_of.ensures.value c.place_of.ensures.bound in
+give-requires-clause-held c other low inside = let l : Layout = c.args.map.now.shape.layout in
+    let tag : ℕ = c.args.tag in
+    let is = mask_is l c.layout-layout.result c.word_of.result c.place_of.result tag c.layout-layout.ensures
+      c.word_of.ensures.value c.place_of.ensures.value c.place_of.ensures.bound in
     let held = c.if-not-has.ensures refl in
     subst (Holds c.args.caller.now)
-    (only_tag_in l tag other (subst (λ (z : ℕ × ℕ). IsTrue (is_in_mask l z.0 z.1 other)) (λ j. (is.0 j, is.1 j)) inside)) held
+    (only_tag_in l tag other (subst (λ (z : ℕ × ℕ). IsTrue (is_in_mask l z.0 z.1 other))
+      (λ j. (is.0 j, is.1 j)) inside)) held

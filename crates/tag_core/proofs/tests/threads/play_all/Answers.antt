@@ -1,3 +1,4 @@
+-- The threads share the map and are each sent a caller of their own: both follow from the rows of `Crossing`.
 use denote.Param.Send.{sendable}
 use Rattle.std.proofs.Crossing.{crosses}
 use Rattle.tag_core.proofs.Crossing.{caller_send, map_sync}

@@ -7,15 +7,18 @@ use Rattle.tag_layout.specs.Layout.{IsDefaultShift}
 use Rattle.tag_layout.proofs.layout.Layout.default_shift.Goals as goal
 
 -- the floor of the logarithm, cut to 6
-is_default : (depth log : ℕ) → 4 ≤ depth → 2 ^ log ≤ depth / 4 → depth / 4 < 2 * 2 ^ log → IsDefaultShift depth (min log 6)
+is_default : (depth log : ℕ) → 4 ≤ depth → 2 ^ log ≤ depth / 4 → depth / 4 < 2 * 2 ^ log
+    → IsDefaultShift depth (min log 6)
 is_default depth log deep low high = record {
   within = omega arith;
   four_words = λ _. (let fits : 2 ^ min log 6 ≤ 2 ^ log = pow-le-pow_right (omega arith) (omega arith) in omega arith);
   greatest = λ _ other small fits. dite (dec_lt log other)
-      (λ (over : log < other). let more : 2 ^ suc log ≤ 2 ^ other = pow-le-pow_right (omega arith) over in let next = pow-suc 2 log in absurd (omega arith))
+      (λ (over : log < other). let more : 2 ^ suc log ≤ 2 ^ other = pow-le-pow_right (omega arith) over in
+        let next = pow-suc 2 log in absurd (omega arith))
       (λ no. omega arith);
   few = λ h. absurd (omega arith);
 }
 
 pub returns : goal.returns
-returns c = subst (IsDefaultShift c.args.depth) (sym c.min.ensures) (is_default c.args.depth c.ilog2.result (omega arith) c.ilog2.ensures.power_le c.ilog2.ensures.next_power_gt)
+returns c = subst (IsDefaultShift c.args.depth) (sym c.min.ensures)
+    (is_default c.args.depth c.ilog2.result (omega arith) c.ilog2.ensures.power_le c.ilog2.ensures.next_power_gt)

@@ -5,4 +5,5 @@ use Rattle.tag_model.specs.Totals.{is_posted, count_below}
 use Rattle.tag_model.proofs.entries.Entries.posted.Given as goal
 
 abbrev pub invariant-loop-tag : goal.invariant-loop-tag
-invariant-loop-tag l = (l.posted ≡ count_below (λ tag. is_posted (get_or l.self.places tag Free)) l.tag) × (l.posted ≤ l.tag)
+invariant-loop-tag l = (l.posted ≡ count_below (λ tag. is_posted (get_or l.self.places tag Free)) l.tag)
+    × (l.posted ≤ l.tag)

@@ -1,4 +1,5 @@
--- Of the tags that were visited, each one that the event names is where the event needs it, and its next place is ready.
+-- Of the tags that were visited, each one that the event names is where the event needs it, and its next place is
+-- ready.
 use Rattle.std.proofs.Common.{◌≡◌, ℕ, ◌<◌, IsTrue, get_or}
 use Rattle.tag_model.specs.declared.place.Place.TheVariants.{Free}
 use Rattle.tag_model.specs.Event.{names, Needs, brings}
@@ -9,5 +10,6 @@ abbrev pub invariant-loop-tag : goal.invariant-loop-tag
 invariant-loop-tag l = record {
   same : SamePlaces l.initial.self l.self;
   ready : (k : ℕ) → k < l.tag → k < l.layout.depth → IsTrue (names l.layout l.event k)
-      → Needs l.event (get_or l.initial.self.places k Free) × (get_or l.self.ready k Free ≡ brings l.event (get_or l.initial.self.places k Free));
+      → Needs l.event (get_or l.initial.self.places k Free)
+        × (get_or l.self.ready k Free ≡ brings l.event (get_or l.initial.self.places k Free));
 }

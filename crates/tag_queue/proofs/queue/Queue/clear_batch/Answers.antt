@@ -4,4 +4,5 @@ use Rattle.tag_queue.proofs.Counting.{counts_after}
 use Rattle.tag_queue.proofs.queue.Queue.clear_batch.Goals as goal
 
 pub returns-clause-counts : goal.returns-clause-counts
-returns-clause-counts g c = counts_after c.args.self.now (length c.args.tags.now) c.args.agent.now c.give_back.new.agent c.complete.new.agent c.complete.result c.give_back.ensures.others c.complete.ensures.counts
+returns-clause-counts g c = counts_after c.args.self.now (length c.args.tags.now) c.args.agent.now c.give_back.new.agent
+    c.complete.new.agent c.complete.result c.give_back.ensures.others c.complete.ensures.counts

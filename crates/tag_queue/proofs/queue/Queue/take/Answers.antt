@@ -3,7 +3,8 @@ use Rattle.std.proofs.Common.{rules, IsTrue, refl}
 use Rattle.tag_queue.proofs.queue.Queue.take.Goals as goal
 
 pub returns-clause-takes : goal.returns-clause-takes
-returns-clause-takes g c = let found : IsTrue c.take.result = search rules in let won = c.take.ensures.won found in record {
+returns-clause-takes g c = let found : IsTrue c.take.result = search rules in
+    let won = c.take.ensures.won found in record {
   value = won.0;
   slot = won.1;
   step = won.2;

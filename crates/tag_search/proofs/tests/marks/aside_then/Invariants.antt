@@ -7,5 +7,6 @@ use Rattle.tag_search.proofs.tests.marks.aside_then.Given as goal
 abbrev pub invariant-loop-tag : goal.invariant-loop-tag
 invariant-loop-tag l = record {
   count : length l.marks.items ≡ l.tag;
-  each : (tag : ℕ) → tag < l.tag → get_or l.marks.items tag false ≡ aside_then l.aside l.swept tag (word_of l.layout tag);
+  each : (tag : ℕ) → tag < l.tag
+    → get_or l.marks.items tag false ≡ aside_then l.aside l.swept tag (word_of l.layout tag);
 }

@@ -7,5 +7,6 @@ use Rattle.tag_search.proofs.tests.slow.first_marked.Goals as goal
 pub returns-then-mark_at : goal.returns-then-mark_at
 returns-then-mark_at c =
     let place = get_or c.args.rank.now c.loop-place.place-index 0 in
-    first_at (mark_at c.args.layout c.args.marks.now c.args.word) c.args.rank.now c.loop-place.place-index place c.loop-place-test.true (λ _. place) c.loop-place.invariant
+    first_at (mark_at c.args.layout c.args.marks.now c.args.word) c.args.rank.now c.loop-place.place-index place
+      c.loop-place-test.true (λ _. place) c.loop-place.invariant
     (sym c.mark_at.ensures ∙ c.if-mark_at.true)

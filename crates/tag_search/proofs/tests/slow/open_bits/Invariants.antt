@@ -6,4 +6,5 @@ use Rattle.tag_search.specs.Marks.{pool_of_marks}
 use Rattle.tag_search.proofs.tests.slow.open_bits.Given as goal
 
 abbrev pub invariant-loop-k : goal.invariant-loop-k
-invariant-loop-k l = (j : ℕ) → bit_at l.bits j ≡ 1 ↔ (j < l.k) × IsOpen (pool_of_marks l.layout l.free l.aside) l.word (l.place + j)
+invariant-loop-k l = (j : ℕ) → bit_at l.bits j ≡ 1 ↔ (j < l.k)
+    × IsOpen (pool_of_marks l.layout l.free l.aside) l.word (l.place + j)

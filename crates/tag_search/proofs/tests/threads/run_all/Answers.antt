@@ -21,4 +21,5 @@ for_each_mut-requires-sync-F g c κs within = search (sendable, crosses, map_syn
 
 pub returns : goal.returns
 returns g c = λ k d h.
-    let inside : k < length c.args.callers.now = omega arith in let at = (c.for_each_mut.ensures k d inside).1 in (search rules, search rules)
+    let inside : k < length c.args.callers.now = omega arith in let at = (c.for_each_mut.ensures k d inside).1 in
+    (search rules, search rules)
