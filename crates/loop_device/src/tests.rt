@@ -1,5 +1,7 @@
 //! The rows that were worked by hand, and what happens without memory.
 mod logs;
+mod memory;
+mod overlap;
 mod plays;
 mod requests;
 

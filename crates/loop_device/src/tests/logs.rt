@@ -22,6 +22,14 @@ fn fault_of(alloc: Global, text: &[u8]) -> Option<LogFault> {
     }
 }
 
+// The fault of a line that has no such form.
+fn bad_line(line: u64) -> Option<LogFault> {
+    Some(LogFault {
+        line,
+        cause: LogCause::BadLine,
+    })
+}
+
 #[test]
 fn a_small_log(rt: HostRuntime) -> Result<(), Fail> {
     let Ok(log) = Log::read(rt.alloc(), SMALL) else {
@@ -86,6 +94,19 @@ fn faulty_logs(rt: HostRuntime) -> Result<(), Fail> {
         (b"a shut\n".as_slice(), 2, LogCause::BadLine),
         (b"a add 0 0\n".as_slice(), 2, LogCause::BadLine),
         (b"a read x 0\n".as_slice(), 2, LogCause::BadNumber),
+        (b"a read 0 0 0".as_slice(), 2, LogCause::BadLine),
+        (b"\n".as_slice(), 2, LogCause::BadLine),
+        (b" add".as_slice(), 2, LogCause::BadLine),
+        (b"a add\r\n".as_slice(), 2, LogCause::BadLine),
+        (b"fio version 2 iolog".as_slice(), 2, LogCause::BadLine),
+        (b"a read 0 +1".as_slice(), 2, LogCause::BadNumber),
+        (
+            b"a wait 0 9223372036854775808".as_slice(),
+            2,
+            LogCause::BadNumber,
+        ),
+        (b"ab add\na open".as_slice(), 3, LogCause::UnknownName),
+        (b"a add\nab open".as_slice(), 3, LogCause::UnknownName),
     ] {
         let text = behind_header(rt.alloc(), lines)?;
         assert_eq!(rt; fault_of(rt.alloc(), &text), Some(LogFault { line, cause }));
@@ -104,6 +125,8 @@ fn headers(rt: HostRuntime) -> Result<(), Fail> {
         b"\n".as_slice(),
         b"fio version 3 iolog\n".as_slice(),
         b" fio version 2 iolog".as_slice(),
+        b"fio version 2 iolog \n".as_slice(),
+        b"fio version 2 iolog\r\n".as_slice(),
     ] {
         assert_eq!(rt; fault_of(rt.alloc(), text), missing);
     }
@@ -131,15 +154,67 @@ fn seventeen_names(rt: HostRuntime) -> Result<(), Fail> {
 }
 
 #[test]
+fn long_lines(rt: HostRuntime) -> Result<(), Fail> {
+    let name = vec![in rt.alloc(); b'n'; 1_048_576]?;
+    let mut text = behind_header(rt.alloc(), &name)?;
+    text.extend_from_slice(b" add\n")?;
+    text.extend_from_slice(&name)?;
+    text.extend_from_slice(b" read 0 512\n")?;
+    let Ok(log) = Log::read(rt.alloc(), &text) else {
+        return Err(Fail::new("a log was not read"));
+    };
+    assert_eq!(rt; log.names.len(), 1);
+    assert_eq!(rt; log.names[0].as_slice(), name.as_slice());
+    assert_eq!(rt; log.ios.len(), 1);
+    let line = vec![in rt.alloc(); b'n'; 16_777_216]?;
+    let text = behind_header(rt.alloc(), &line)?;
+    assert_eq!(rt; fault_of(rt.alloc(), &text), bad_line(2));
+    Ok(())
+}
+
+#[test]
+fn random_bytes(rt: HostRuntime) -> Result<(), Fail> {
+    let mut state = 1u64;
+    let mut text = behind_header(rt.alloc(), b"")?;
+    for _ in 0..500 {
+        state = state
+            .wrapping_mul(6_364_136_223_846_793_005)
+            .wrapping_add(1);
+        text.push((state >> 56) as u8)?;
+        assert_eq!(rt; fault_of(rt.alloc(), &text), bad_line(2));
+    }
+    Ok(())
+}
+
+// How many bytes of the small log end a line, with its line feed or without, or a number that is cut short.
+const WHOLE: [(usize, usize); 7] = [
+    (19, 20),
+    (34, 35),
+    (50, 51),
+    (71, 75),
+    (98, 102),
+    (121, 125),
+    (144, 145),
+];
+
+#[test]
 fn each_prefix_is_read_or_is_faulty_in_its_last_line(rt: HostRuntime) -> Result<(), Fail> {
-    let mut whole = 0u32;
     for end in 0..SMALL.len() {
         let lines = SMALL[..end].iter().filter(|byte| **byte == b'\n').count() as u64;
-        match fault_of(rt.alloc(), &SMALL[..end]) {
-            Some(fault) => assert_eq!(rt; Some(fault.line), lines.checked_add(1)),
-            None => whole = whole.saturating_add(1),
-        }
+        let owed = if WHOLE
+            .iter()
+            .any(|(first, last)| *first <= end && end <= *last)
+        {
+            None
+        } else if lines == 0 {
+            Some(LogFault {
+                line: 1,
+                cause: LogCause::NoHeader,
+            })
+        } else {
+            bad_line(lines.saturating_add(1))
+        };
+        assert_eq!(rt; fault_of(rt.alloc(), &SMALL[..end]), owed);
     }
-    assert_eq!(rt; whole, 23);
     Ok(())
 }

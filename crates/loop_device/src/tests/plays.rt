@@ -8,11 +8,11 @@ use std::sync::atomic::Ordering::SeqCst;
 use std::test::Fail;
 use std::thread;
 
-// The most turns for which a gate holds a thread.
-const TURNS: u32 = 1_000_000;
+/// The most turns for which a gate holds a thread.
+pub(crate) const TURNS: u32 = 10_000_000;
 
-// Four ordinary tags, and one thread of each role.
-const SETUP: Setup = Setup {
+/// Four ordinary tags, and one thread of each role.
+pub(crate) const SETUP: Setup = Setup {
     total: 4,
     reserved: 0,
     shift: None,
@@ -40,11 +40,27 @@ fn a_small_log_is_played(rt: HostRuntime) -> Result<(), Fail> {
 }
 
 #[test]
+fn an_empty_log_is_played(rt: HostRuntime) -> Result<(), Fail> {
+    let log = Log::read(rt.alloc(), b"fio version 2 iolog")?;
+    let Ok(report) = play(&rt, rt.alloc(), &log, SETUP, &OpenGate) else {
+        return Err(Fail::new("the log was not played"));
+    };
+    assert_eq!(rt; report.done.len(), 0);
+    assert_eq!(rt; (report.totals.got, report.totals.back), (0, 0));
+    assert_eq!(rt; (report.totals.held, report.totals.posted), (0, 0));
+    Ok(())
+}
+
+#[test]
 fn illegal_setups(rt: HostRuntime) -> Result<(), Fail> {
     let log = small_log(rt.alloc())?;
     for setup in [
         Setup {
             reserved: 4,
+            ..SETUP
+        },
+        Setup {
+            submitters: 0,
             ..SETUP
         },
         Setup {

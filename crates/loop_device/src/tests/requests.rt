@@ -9,7 +9,7 @@ use std::sync::Mutex;
 use std::sync::atomic::AtomicU64;
 use std::sync::atomic::Ordering::SeqCst;
 use std::test::Fail;
-use tag_sets::{Hand, Options, Tags};
+use tag_sets::{Hand, Options, SetFault, Tags};
 
 // Records the line that was about to be carried out last.
 #[derive(Drop)]
@@ -25,8 +25,8 @@ impl Gate for Recorder {
     }
 }
 
-// Four ordinary tags with one hand.
-fn opened(alloc: Global) -> Result<(Tags<u64>, Hand<u64>), Fail>
+/// Four ordinary tags with one hand.
+pub(crate) fn opened(alloc: Global) -> Result<(Tags<u64>, Hand<u64>), SetFault>
     ensures { IfOk result (λ opened. IsHandOf opened.0 opened.1) }
 {
     let options = Options {
@@ -37,11 +37,9 @@ fn opened(alloc: Global) -> Result<(Tags<u64>, Hand<u64>), Fail>
         life: 1 << 48,
         cap: 1 << 56,
     };
-    let Ok((tags, mut hands)) = Tags::open(alloc, 4, 0, options, 0u64) else {
-        return Err(Fail::new("no tags were opened"));
-    };
+    let (tags, mut hands) = Tags::open(alloc, 4, 0, options, 0u64)?;
     let Some(hand) = hands.pop() else {
-        return Err(Fail::new("no hand"));
+        unreachable!()
     };
     Ok((tags, hand))
 }
