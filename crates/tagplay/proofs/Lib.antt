@@ -1,1 +1,2 @@
 pub mod InputFacts
+pub mod ReportFacts

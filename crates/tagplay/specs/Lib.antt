@@ -1,3 +1,4 @@
 pub mod Input
+pub mod Reports
 pub mod Runs
 pub mod Status

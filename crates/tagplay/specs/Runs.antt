@@ -6,17 +6,20 @@ use Rattle.tag_script.specs.declared.ending.Ending.{Ending}
 use Rattle.tag_script.specs.Check.{Tells}
 use Rattle.tag_script.specs.Script.{Owed}
 use Rattle.tagplay.specs.declared.choice.Choice.{Choice}
-use Rattle.tagplay.specs.declared.choice.Choice.TheVariants.{Script, Check}
+use Rattle.tagplay.specs.declared.choice.Choice.TheVariants.{Script, Check, Play}
+use Rattle.tagplay.specs.Reports.{Reports}
 
 -- the subcommand's name
 abbrev pub name_of : Choice → List ℕ
 name_of (Script options) = codes "script"
 name_of (Check options) = codes "check"
+name_of (Play options) = codes "play"
 
 -- what the run that was chosen owes
 abbrev pub owed_by : Choice → List ℕ → List ℕ → Ending → Type 0
 owed_by (Script options) = Owed options
 owed_by (Check options) = Tells options
+owed_by (Play options) = Reports options
 
 -- the text is owed to some bytes, which are the reader's where those are known
 pub record Answers (owes : List ℕ → List ℕ → Ending → Type 0) (input : Option (List ℕ)) (text : List ℕ) (ending : Ending)

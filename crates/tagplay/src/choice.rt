@@ -4,7 +4,8 @@ ghost use Rattle.clap.specs.Matches.{subcommand_name_of};
 ghost use Rattle.tagplay.specs.Runs.{name_of};
 ghost use Rattle.tagplay.specs.declared.choice.Choice.{Choice};
 
-use crate::options::{check_options, script_options};
+use crate::options::{check_options, play_options, script_options};
+use crate::play_options::PlayOptions;
 use clap::ArgMatches;
 use tag_script::{CheckOptions, ScriptOptions};
 
@@ -15,6 +16,8 @@ pub enum Choice {
     Script(ScriptOptions),
     /// A list of events is checked.
     Check(CheckOptions),
+    /// A log is played.
+    Play(PlayOptions),
 }
 
 impl Choice {
@@ -28,6 +31,8 @@ impl Choice {
             Some(Choice::Script(script_options(options)))
         } else if name == "check" {
             Some(Choice::Check(check_options(options)))
+        } else if name == "play" {
+            Some(Choice::Play(play_options(options)))
         } else {
             None
         }

@@ -12,6 +12,8 @@ use std::convert::AsStr;
 use std::env;
 use std::io::{Read, Write};
 use std::rt::Env;
+use std::sync::Wait;
+use std::thread::Threads;
 use tag_script::Ending;
 
 /// The words of the process's own command line.
@@ -23,17 +25,19 @@ pub(crate) fn words<R: AllocGlobal + Env>(rt: &R) -> Result<Vec<String>, RunFaul
 }
 
 /// Runs what the words ask for. Help goes to standard output, a mistake of the words to standard error.
-pub(crate) fn play<P: AllocGlobal + Print + Eprint, S: AsStr, R: Read, W: Write>(
-    rt: &P,
-    words: &[S],
-    reader: &mut R,
-    writer: &mut W,
-) -> Result<Ending, Stop>
+pub(crate) fn play<
+    P: AllocGlobal + Print + Eprint + Threads + Wait + Sync,
+    S: AsStr,
+    R: Read,
+    W: Write,
+>(rt: &P, words: &[S], reader: &mut R, writer: &mut W) -> Result<Ending, Stop>
     ensures { IfOk result (λ ending. (choice : Chosen)
         × Writes (owed_by choice) (R.remaining reader.old) (W.contents writer.old) (W.contents writer.new) ending) }
 {
     let choice = chosen(rt, words)?;
-    choice.run(rt.alloc(), reader, writer).map_err(Stop::Run)
+    choice
+        .run(rt, rt.alloc(), reader, writer)
+        .map_err(Stop::Run)
 }
 
 /// What the words ask for.

@@ -1,11 +1,14 @@
-//! The program: scripts and lists of events in, texts out.
+//! The program: scripts, lists of events and I/O logs in, texts out.
 #![tactic(auto)]
 
 mod choice;
 mod command_line;
 mod fault;
 mod input;
+mod log_answer;
 mod options;
+mod play_options;
+mod report;
 mod run;
 mod stop;
 #[cfg(test)]
@@ -13,7 +16,8 @@ mod tests;
 
 use command_line::{play, words};
 pub use fault::RunFault;
-pub use run::{run_check, run_script};
+pub use play_options::PlayOptions;
+pub use run::{run_check, run_play, run_script};
 use std::io;
 use std::process::ExitCode;
 use stop::{Stop, status};

@@ -1,4 +1,5 @@
 //! The command line: its subcommands, their options and their help.
+use crate::play_options::PlayOptions;
 use clap::{Arg, ArgAction, ArgMatches, Command, value_parser};
 use std::alloc::{AllocError, Global};
 use tag_script::{CheckOptions, ScriptOptions};
@@ -11,11 +12,13 @@ pub(crate) fn command<'a>(alloc: Global) -> Result<Command<'a>, AllocError> {
     let script = Command::new(alloc, "script")
         .about("Carries out a script, one command a line, such as '0 get'")
         .arg(tags(alloc))?
-        .arg(reserved(alloc))?
+        .arg(count(alloc, "reserved", "R", "0").help(
+            "Number of reserved tags; so far any number but 0 is refused",
+        ))?
         .arg(shift(alloc))?
         .arg(round_robin(alloc))?
         .arg(min_shallow(alloc))?
-        .arg(callers(alloc).help(
+        .arg(count(alloc, "callers", "C", "1").help(
             "Number of callers; a script runs for caller 0 alone so far, and any number but 1 is refused",
         ))?
         .arg(life(alloc))?
@@ -30,7 +33,7 @@ pub(crate) fn command<'a>(alloc: Global) -> Result<Command<'a>, AllocError> {
         )
         .arg(tags(alloc))?
         .arg(shift(alloc))?
-        .arg(callers(alloc).help("Number of callers, 1 to 64, numbered from 0"))?
+        .arg(count(alloc, "callers", "C", "1").help("Number of callers, 1 to 64, numbered from 0"))?
         .after_help(
             "Each line is look, win C W M, give C W M, put C T, sweep C W, spill C W, post C T or take C T:\n\
             caller C, word W, tag T, and decimal mask M, whose lowest bit is the word's first tag.\n\
@@ -43,7 +46,32 @@ pub(crate) fn command<'a>(alloc: Global) -> Result<Command<'a>, AllocError> {
         )
         .subcommand_required(true)
         .subcommand(script)?
-        .subcommand(check)
+        .subcommand(check)?
+        .subcommand(play_command(alloc)?)
+}
+
+fn play_command<'a>(alloc: Global) -> Result<Command<'a>, AllocError> {
+    let play = Command::new(alloc, "play")
+        .about(
+            "Carries out a fio I/O log, version 2, on a block device in memory, by threads that share tags",
+        )
+        .arg(tags(alloc))?
+        .arg(count(alloc, "reserved", "R", "0").help(
+            "Number of tags set apart, fewer than N; no line is carried out under one",
+        ))?
+        .arg(shift(alloc))?
+        .arg(count(alloc, "submitters", "A", "1").help("Threads that submit lines, 1 to 16"))?
+        .arg(count(alloc, "completers", "B", "1").help("Threads that complete requests, 1 to 16"))?
+        .arg(count(alloc, "queue", "Q", "64").help(
+            "Requests for which the queue between them has room, 1 to 10240; a submitter that finds it full completes its own",
+        ))?
+        .after_help(
+            "The log is what fio writes with write_iolog: 'fio version 2 iolog', then NAME add, NAME open, NAME close,\n\
+            and NAME read, write, trim, sync, datasync or wait with an offset and a length in bytes.\n\
+            Lines are carried out as fast as they can be, in no promised order; a wait is counted, and waits for nothing.\n\
+            Exit status: 0 each line carried out once, 1 refused, 2 mistaken command line, 3 out of memory, input too long, or a read or write fault.",
+        );
+    Ok(play)
 }
 
 /// The options that a command line of `script` gives.
@@ -69,6 +97,18 @@ pub(crate) fn check_options(matches: &ArgMatches) -> CheckOptions {
     }
 }
 
+/// The options that a command line of `play` gives.
+pub(crate) fn play_options(matches: &ArgMatches) -> PlayOptions {
+    PlayOptions {
+        tags: matches.get_one::<u32>("tags").unwrap_or(0),
+        reserved: matches.get_one::<u32>("reserved").unwrap_or(0),
+        shift: matches.get_one::<u32>("shift"),
+        submitters: matches.get_one::<u32>("submitters").unwrap_or(1),
+        completers: matches.get_one::<u32>("completers").unwrap_or(1),
+        queue: matches.get_one::<u32>("queue").unwrap_or(64),
+    }
+}
+
 fn tags<'a>(alloc: Global) -> Arg<'a> {
     Arg::new(alloc, "tags")
         .long("tags")
@@ -88,21 +128,18 @@ fn shift<'a>(alloc: Global) -> Arg<'a> {
         )
 }
 
-fn callers<'a>(alloc: Global) -> Arg<'a> {
-    Arg::new(alloc, "callers")
-        .long("callers")
-        .value_name("C")
+// An option that has a number, and a default for it.
+fn count<'a>(
+    alloc: Global,
+    name: &'static str,
+    letter: &'static str,
+    default: &'static str,
+) -> Arg<'a> {
+    Arg::new(alloc, name)
+        .long(name)
+        .value_name(letter)
         .value_parser(value_parser!(u32))
-        .default_value("1")
-}
-
-fn reserved<'a>(alloc: Global) -> Arg<'a> {
-    Arg::new(alloc, "reserved")
-        .long("reserved")
-        .value_name("R")
-        .value_parser(value_parser!(u32))
-        .default_value("0")
-        .help("Number of reserved tags; so far any number but 0 is refused")
+        .default_value(default)
 }
 
 fn round_robin<'a>(alloc: Global) -> Arg<'a> {

@@ -3,19 +3,25 @@ ghost use Rattle.std.specs.Prelude.{◌≡◌, ◌≢◌, IfOk, IfErr, IsErrOf};
 ghost use Rattle.tag_script.specs.Check.{Tells};
 ghost use Rattle.tag_script.specs.Script.{Owed};
 ghost use Rattle.tagplay.specs.Input.{Stops};
+ghost use Rattle.tagplay.specs.Reports.{Reports};
 ghost use Rattle.tagplay.specs.Runs.{owed_by, HasAnswer, Writes};
 
 use crate::choice::Choice;
 use crate::fault::RunFault;
 use crate::input::read_whole;
+use crate::log_answer::answer_log;
+use crate::play_options::PlayOptions;
 use std::alloc::Global;
 use std::io::{Read, Write};
+use std::sync::Wait;
+use std::thread::Threads;
 use tag_script::{CheckOptions, Ending, ScriptOptions, answer_script, verdict_on};
 
 impl Choice {
     /// Makes the run that was chosen.
-    pub(crate) fn run<R: Read, W: Write>(
+    pub(crate) fn run<T: Threads + Wait + Sync, R: Read, W: Write>(
         &self,
+        rt: &T,
         alloc: Global,
         reader: &mut R,
         writer: &mut W,
@@ -29,6 +35,7 @@ impl Choice {
         match self {
             Choice::Script(options) => run_script(alloc, options, reader, writer),
             Choice::Check(options) => run_check(alloc, options, reader, writer),
+            Choice::Play(options) => run_play(rt, alloc, options, reader, writer),
         }
     }
 }
@@ -79,6 +86,31 @@ pub fn run_check<R: Read, W: Write>(
         return Err(RunFault::Memory);
     };
     let ending = verdict.ending();
+    match writer.write_all(&text) {
+        Ok(()) => Ok(ending),
+        Err(_) => Err(RunFault::Write),
+    }
+}
+
+/// Reads a fio log, carries out its I/O lines on a device in memory by threads that share tags, and writes the report: what
+/// was carried out and the totals of the tags; or the line that says what is wrong.
+pub fn run_play<T: Threads + Wait + Sync, R: Read, W: Write>(
+    rt: &T,
+    alloc: Global,
+    options: &PlayOptions,
+    reader: &mut R,
+    writer: &mut W,
+) -> Result<Ending, RunFault>
+    ensures written { IfOk result (Writes (Reports options.now) (R.remaining reader.old)
+        (W.contents writer.old) (W.contents writer.new)) }
+    ensures untouched { IfErr result (λ fault. fault ≢ RunFault.Write → writer.new ≡ writer.old) }
+    ensures stopped { IfErr result (λ fault. Stops fault (R.remaining reader.old) (R.remaining reader.new)) }
+    ensures answered { IsErrOf result RunFault.Write → HasAnswer (Reports options.now) (R.remaining reader.old) }
+{
+    let input = read_whole(alloc, reader)?;
+    let Ok((text, ending)) = answer_log(rt, alloc, options, &input) else {
+        return Err(RunFault::Memory);
+    };
     match writer.write_all(&text) {
         Ok(()) => Ok(ending),
         Err(_) => Err(RunFault::Write),

@@ -1,3 +1,4 @@
 //! Tests of what no clause says.
 mod command_lines;
 mod ends;
+mod plays;

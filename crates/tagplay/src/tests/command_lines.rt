@@ -1,13 +1,16 @@
 //! Command lines with their exit statuses.
+use crate::PlayOptions;
 use crate::choice::Choice;
 use crate::command_line::{chosen, play};
 use crate::stop::status;
 use std::process::Abort;
+use std::sync::Wait;
 use std::test::*;
+use std::thread::Threads;
 use tag_script::{CheckOptions, ScriptOptions};
 
 // Plays a command line on an input, and compares the exit status and the text.
-fn expect<R: Abort + AllocGlobal + Print + Eprint>(
+fn expect<R: Abort + AllocGlobal + Print + Eprint + Threads + Wait + Sync>(
     rt: &R,
     words: &[&str],
     input: &str,
@@ -31,6 +34,11 @@ fn each_subcommand_runs_and_ends_with_its_status(rt: HostRuntime) {
     expect(&rt, check, "look\n", 0, checked);
     expect(&rt, check, "0 get\n", 1, "line 1 refused 1\n");
     expect(&rt, check, "put 0 3\n", 1, "event 1 refused 4\n");
+    let play = ["tagplay", "play", "--tags", "4"].as_slice();
+    let idle = "names=0\nreads=0\nwrites=0\ntrims=0\nsyncs=0\ndatasyncs=0\nwaits=0\n\
+        got=0\nback=0\nheld=0\nposted=0\n";
+    expect(&rt, play, "fio version 2 iolog\n", 0, idle);
+    expect(&rt, play, "look\n", 1, "line 1 refused 1\n");
 }
 
 #[test]
@@ -111,5 +119,45 @@ fn each_option_reaches_its_run(rt: HostRuntime) -> Result<(), Fail> {
         callers: 4,
     };
     assert_eq!(rt; chosen(&rt, &check)?, Choice::Check(options));
+    Ok(())
+}
+
+#[test]
+fn each_option_reaches_its_play(rt: HostRuntime) -> Result<(), Fail> {
+    let play = [
+        "tagplay",
+        "play",
+        "--tags",
+        "9",
+        "--reserved",
+        "1",
+        "--shift",
+        "2",
+        "--submitters",
+        "3",
+        "--completers",
+        "4",
+        "--queue",
+        "5",
+    ];
+    let options = PlayOptions {
+        tags: 9,
+        reserved: 1,
+        shift: Some(2),
+        submitters: 3,
+        completers: 4,
+        queue: 5,
+    };
+    assert_eq!(rt; chosen(&rt, &play)?, Choice::Play(options));
+    let options = PlayOptions {
+        tags: 9,
+        reserved: 0,
+        shift: None,
+        submitters: 1,
+        completers: 1,
+        queue: 64,
+    };
+    let play = ["tagplay", "play", "--tags", "9"];
+    assert_eq!(rt; chosen(&rt, &play)?, Choice::Play(options));
     Ok(())
 }

@@ -1,5 +1,5 @@
 //! Readers and writers that fail, and inputs at the bound.
-use crate::{RunFault, run_check, run_script};
+use crate::{PlayOptions, RunFault, run_check, run_play, run_script};
 use std::io;
 use std::io::{Read, Write};
 use std::test::*;
@@ -20,6 +20,15 @@ const PLAIN_FOUR: ScriptOptions = ScriptOptions {
     callers: 1,
     life: 1,
     plain: true,
+};
+
+const PLAYED_FOUR: PlayOptions = PlayOptions {
+    tags: 4,
+    reserved: 0,
+    shift: None,
+    submitters: 1,
+    completers: 1,
+    queue: 1,
 };
 
 // Gives one byte a call, and an error at the call of this number, from 0.
@@ -44,6 +53,15 @@ impl<'a> Read for Failing<'a> {
             _ => Ok(0),
         }
     }
+}
+
+// As many bytes as an input may have, and one more.
+const MOST: usize = 16_777_216;
+
+const TOO_MANY: usize = 16_777_217;
+
+fn sevens(left: usize) -> Repeats {
+    Repeats { byte: b'7', left }
 }
 
 // Gives so many bytes in all, the same each time.
@@ -111,6 +129,22 @@ fn an_error_at_any_call_of_the_reader_leaves_no_answer(rt: HostRuntime) {
 }
 
 #[test]
+fn an_error_at_any_call_of_the_reader_leaves_no_report(rt: HostRuntime) {
+    let text = b"fio version 2 iolog\na add\n".as_slice();
+    for fails_at in 0..=text.len() {
+        let mut reader = Failing {
+            text,
+            at: 0,
+            fails_at,
+        };
+        let mut written = Vec::new(rt.alloc());
+        let outcome = run_play(&rt, rt.alloc(), &PLAYED_FOUR, &mut reader, &mut written);
+        assert_eq!(rt; outcome, Err(RunFault::Read), "at {fails_at}");
+        assert!(rt; written.is_empty(), "at {fails_at}");
+    }
+}
+
+#[test]
 fn an_error_of_the_writer_is_told(rt: HostRuntime) {
     let outcome = run_check(rt.alloc(), &FOUR, &mut b"look\n".as_slice(), &mut Shut);
     assert_eq!(rt; outcome, Err(RunFault::Write));
@@ -121,33 +155,59 @@ fn an_error_of_the_writer_is_told(rt: HostRuntime) {
         &mut Shut,
     );
     assert_eq!(rt; outcome, Err(RunFault::Write));
+    let outcome = run_play(
+        &rt,
+        rt.alloc(),
+        &PLAYED_FOUR,
+        &mut b"fio version 2 iolog\n".as_slice(),
+        &mut Shut,
+    );
+    assert_eq!(rt; outcome, Err(RunFault::Write));
 }
 
 #[test]
 fn an_input_of_16_mib_is_read_and_one_byte_more_is_too_long(rt: HostRuntime) {
-    let mut longest = Repeats {
-        byte: b'7',
-        left: 16_777_216,
-    };
     let mut written = Vec::new(rt.alloc());
-    let outcome = run_check(rt.alloc(), &FOUR, &mut longest, &mut written);
+    let outcome = run_check(rt.alloc(), &FOUR, &mut sevens(TOO_MANY), &mut written);
+    assert_eq!(rt; outcome, Err(RunFault::TooLong));
+    assert!(rt; written.is_empty());
+    let outcome = run_check(rt.alloc(), &FOUR, &mut sevens(MOST), &mut written);
     assert_eq!(rt; outcome, Ok(Ending::Refused));
     assert_eq!(rt; written.as_slice(), b"line 1 refused 1\n".as_slice());
-    let mut too_long = Repeats {
-        byte: b'7',
-        left: 16_777_217,
-    };
+}
+
+#[test]
+fn a_script_of_16_mib_is_read_and_one_byte_more_is_too_long(rt: HostRuntime) {
     let mut written = Vec::new(rt.alloc());
-    let outcome = run_check(rt.alloc(), &FOUR, &mut too_long, &mut written);
+    let outcome = run_script(rt.alloc(), &PLAIN_FOUR, &mut sevens(TOO_MANY), &mut written);
     assert_eq!(rt; outcome, Err(RunFault::TooLong));
     assert!(rt; written.is_empty());
-    let mut too_long = Repeats {
-        byte: b'7',
-        left: 16_777_217,
-    };
-    let outcome = run_script(rt.alloc(), &PLAIN_FOUR, &mut too_long, &mut written);
+    let outcome = run_script(rt.alloc(), &PLAIN_FOUR, &mut sevens(MOST), &mut written);
+    assert_eq!(rt; outcome, Ok(Ending::Refused));
+    assert_eq!(rt; written.as_slice(), b"line 1 refused 1\n".as_slice());
+}
+
+#[test]
+fn a_log_of_16_mib_is_read_and_one_byte_more_is_too_long(rt: HostRuntime) {
+    let mut written = Vec::new(rt.alloc());
+    let outcome = run_play(
+        &rt,
+        rt.alloc(),
+        &PLAYED_FOUR,
+        &mut sevens(TOO_MANY),
+        &mut written,
+    );
     assert_eq!(rt; outcome, Err(RunFault::TooLong));
     assert!(rt; written.is_empty());
+    let outcome = run_play(
+        &rt,
+        rt.alloc(),
+        &PLAYED_FOUR,
+        &mut sevens(MOST),
+        &mut written,
+    );
+    assert_eq!(rt; outcome, Ok(Ending::Refused));
+    assert_eq!(rt; written.as_slice(), b"line 1 refused 1\n".as_slice());
 }
 
 #[test]
@@ -174,6 +234,24 @@ fn want_of_memory_leaves_no_answer(rt: HostRuntime) {
         rt.alloc(),
         &PLAIN_FOUR,
         &mut b"0 get\n0 show\n0 clear 0\n".as_slice(),
+        &mut written,
+    ) {
+        Ok(ending) => assert_eq!(rt; ending, Ending::Done),
+        Err(fault) => {
+            assert!(rt; fault == RunFault::Memory || fault == RunFault::Write);
+            assert!(rt; fault == RunFault::Write || written.is_empty());
+        }
+    }
+}
+
+#[test]
+fn want_of_memory_leaves_no_report(rt: HostRuntime) {
+    let mut written = Vec::new(rt.alloc());
+    match run_play(
+        &rt,
+        rt.alloc(),
+        &PLAYED_FOUR,
+        &mut b"fio version 2 iolog\na add\na write 0 512\n".as_slice(),
         &mut written,
     ) {
         Ok(ending) => assert_eq!(rt; ending, Ending::Done),

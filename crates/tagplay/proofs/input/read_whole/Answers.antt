@@ -1,5 +1,5 @@
 -- What was read before came off the front, and the last piece after it.
-use Rattle.std.proofs.Common.{◌≡◌, ◌≤◌, length, take, rules, arith}
+use Rattle.std.proofs.Common.{take, arith}
 use Rattle.tagplay.specs.declared.fault.RunFault.TheVariants.{Memory}
 use Rattle.tagplay.proofs.InputFacts.{consumes_once, reads_both, stops_long, stops_short}
 use Rattle.tagplay.proofs.input.read_whole.Goals as goal
