@@ -29,39 +29,47 @@ module _ {T : Type 0} where
 module _ {T : Type 0} where
   pub fresh_at : (m c i : ℕ) (r : Record T) → get_elem? (fresh c m) i ≡ some r → (i < m) × (fresh_record (c + i) ≡ r)
   fresh_at zero c i r e = absurd (some-ne-none r (sym e))
-  fresh_at (suc m) c zero r e = (omega arith, (let z : c + 0 ≡ c = omega arith in ap (fresh_record {T = T}) z)
-    ∙ some-injective _ r e)
+  fresh_at (suc m) c zero r e = (
+    omega arith,
+    (let z : c + 0 ≡ c = omega arith in ap (fresh_record {T = T}) z)
+        ∙ some-injective _ r e,
+  )
   fresh_at (suc m) c (suc i) r e = let w = fresh_at m (suc c) i r e in let l = w.0 in
-    (omega arith, (let z : c + suc i ≡ suc c + i = omega arith in ap (fresh_record {T = T}) z) ∙ w.1)
+      (omega arith, (let z : c + suc i ≡ suc c + i = omega arith in ap (fresh_record {T = T}) z) ∙ w.1)
 
   pub at_fresh : (m c i : ℕ) → i < m → get_elem? (fresh {T = T} c m) i ≡ some (fresh_record (c + i))
   at_fresh zero c i h = absurd (omega arith)
   at_fresh (suc m) c zero h = let z : c ≡ c + 0 = omega arith in ap (λ (x : ℕ). some (fresh_record {T = T} x)) z
   at_fresh (suc m) c (suc i) h = at_fresh m (suc c) i (omega arith) ∙ (let z : suc c + i ≡ c + suc i = omega arith in
-    ap (λ (x : ℕ). some (fresh_record {T = T} x)) z)
+      ap (λ (x : ℕ). some (fresh_record {T = T} x)) z)
 
   pub next_fresh : (c m : ℕ) → c < m → fresh {T = T} c (m - c) ≡ fresh_record c ∷ fresh (c + 1) (m - (c + 1))
   next_fresh c m h = let d : ℕ = m - (c + 1) in let e : m - c ≡ suc d = omega arith in
-    let e' : suc c ≡ c + 1 = omega arith in
-    ap (fresh {T = T} c) e ∙ ap (λ (z : ℕ). fresh_record {T = T} c ∷ fresh z d) e'
+      let e' : suc c ≡ c + 1 = omega arith in
+      ap (fresh {T = T} c) e ∙ ap (λ (z : ℕ). fresh_record {T = T} c ∷ fresh z d) e'
 
   pub fresh_longer : (c m : ℕ) → fresh {T = T} c m ++ fresh_record (c + m) ∷ [] ≡ fresh c (m + 1)
   fresh_longer c zero = let z : c + 0 ≡ c = omega arith in ap (λ (x : ℕ). fresh_record {T = T} x ∷ []) z
   fresh_longer c (suc m) = let z : c + suc m ≡ suc c + m = omega arith in
-    let y : suc m + 1 ≡ suc (m + 1) = omega arith in
+      let y : suc m + 1 ≡ suc (m + 1) = omega arith in
       ap (λ (x : ℕ). fresh_record {T = T} c ∷ (fresh {T = T} (suc c) m ++ fresh_record x ∷ [])) z
-        ∙ ap (λ (l : List (Record T)). fresh_record c ∷ l) (fresh_longer (suc c) m) ∙ ap (fresh {T = T} c) (sym y)
+      ∙ ap (λ (l : List (Record T)). fresh_record c ∷ l) (fresh_longer (suc c) m) ∙ ap (fresh {T = T} c) (sym y)
 
 module _ {S T : Type 0} where
   -- what a member knows after a step
   pub pushed : (m m' : Me S (View T)) (r : Record T) (x : T) → m ≡ (alone r, []) → Stepped x m m'
-    → m' ≡ (alone (with_step x r), [])
+      → m' ≡ (alone (with_step x r), [])
   pushed m m' r x is did = did ∙ ap (λ (z : Me S (View T)). (push x z.0, z.1)) is
 
   pub settled : (m : Me S (View T)) (r : Record T) → m ≡ (alone r, [])
-    → m ≡ (alone (record { number = r.number; steps = steps_of m.0 }), [])
-  settled m r is = is ∙ (λ j. (alone (record { number = r.number;
-    steps = sym (ap (λ (z : Me S (View T)). steps_of z.0) is) j }), []))
+      → m ≡ (alone (record { number = r.number; steps = steps_of m.0 }), [])
+  settled m r is = is ∙ (λ j. (
+    alone (record {
+      number = r.number;
+      steps = sym (ap (λ (z : Me S (View T)). steps_of z.0) is) j;
+    }),
+    [],
+  ))
 
 module _ {S T : Type 0} (n : ℕ) (start : List ℕ) (after : T → List ℕ → List ℕ) (MayStep : ℕ → T
     → List (ℕ × T) → Type 0) where
@@ -69,12 +77,12 @@ module _ {S T : Type 0} (n : ℕ) (start : List ℕ) (after : T → List ℕ →
   Rule s = Ledger n start after MayStep s
 
   module _ (s : State S (View T)) (k : Rule s) (r : Record T) (id : ℕ) (at : get_elem? s.views id
-    ≡ some (alone r)) where
+      ≡ some (alone r)) where
     pub known : (r.number < n) × (r.steps ≡ own_steps r.number k.history)
     known = let o = k.records id (alone r) at 0 r refl in (o.0, o.1)
 
     module _ (x : T) (can : MayStep r.number x k.history) (ws : List ℕ) (hs : List _) (words : ws
-      ≡ after x (words_of start after k.history)) where
+        ≡ after x (words_of start after k.history)) where
       -- one more step of one member
       pub advances : Rule record { words = ws; homes = hs; views = set s.views id (alone (with_step x r)) }
       advances = let own = k.records id (alone r) at 0 r refl in record {
@@ -89,40 +97,43 @@ module _ {S T : Type 0} (n : ℕ) (start : List ℕ) (after : T → List ℕ →
             let num : r.number ≡ q.number = ap (λ (z : Record T). z.number) f.1 in (
               subst (λ (z : ℕ). z < n) num own.0,
               subst (λ (z : Record T). z.steps ≡ own_steps z.number ((r.number, x) ∷ k.history)) f.1
-                (ap (λ (l : List T). x ∷ l) own.1 ∙ sym (own_here r.number x k.history)),
+                  (ap (λ (l : List T). x ∷ l) own.1 ∙ sym (own_here r.number x k.history)),
               ap k.seat (sym num) ∙ own.2 ∙ sym t.0,
               ap k.position (sym num) ∙ own.3 ∙ sym f.0,
             ))
-            (λ (t : (j ≢ id) × (get_elem? s.views j ≡ some v)). let o = k.records j v t.1 i q e' in
-            (o.0, o.1 ∙ sym (own_else q.number r.number x k.history (λ e. t.0 (sym o.2 ∙ ap k.seat e ∙ own.2))), o.2,
-              o.3))
+            (λ (t : (j ≢ id) × (get_elem? s.views j ≡ some v)). let o = k.records j v t.1 i q e' in (
+              o.0,
+              o.1 ∙ sym (own_else q.number r.number x k.history (λ e. t.0 (sym o.2 ∙ ap k.seat e ∙ own.2))),
+              o.2,
+              o.3,
+            ))
             (at_set s.views id j (alone (with_step x r)) v e);
         each = everyone_same T n s.views k.seat k.position id r (with_step x r) at refl k.each;
       }
 
   -- a step of one member is allowed where it can happen
   pub allows : (slots id : ℕ) (m : Me S (View T)) (r : Record T) → m.0 ≡ alone r
-    → (i : ℕ) (f : ℕ → ℕ) (x : ℕ → T) (Also : ℕ → Type 0)
+      → (i : ℕ) (f : ℕ → ℕ) (x : ℕ → T) (Also : ℕ → Type 0)
       → ((h : List (ℕ × T)) → Lawful n MayStep h → r.number < n → r.steps ≡ own_steps r.number h
-        → get_or (words_of start after h) i 0 < 18446744073709551616
+      → get_or (words_of start after h) i 0 < 18446744073709551616
       → MayStep r.number (x (get_or (words_of start after h) i 0)) h
-        × (set (words_of start after h) i (f (get_or (words_of start after h) i 0))
-        ≡ after (x (get_or (words_of start after h) i 0)) (words_of start after h))
-        × Also (get_or (words_of start after h) i 0))
+      × (set (words_of start after h) i (f (get_or (words_of start after h) i 0))
+      ≡ after (x (get_or (words_of start after h) i 0)) (words_of start after h))
+      × Also (get_or (words_of start after h) i 0))
       → Allows Rule slots id m i f (λ (v : ℕ) (m' : Me S (View T)). (Stepped (x v) m m') × Also v)
   allows slots id m r is i f x Also owes s k deep at low = let at' : get_elem? s.views id ≡ some (alone r) = at
-    ∙ ap some is in let own = known s k r id at' in
+      ∙ ap some is in let own = known s k r id at' in
       let same : get_or s.words i 0 ≡ get_or (words_of start after k.history) i 0 =
-        ap (λ (l : List ℕ). get_or l i 0) k.words_are in
+      ap (λ (l : List ℕ). get_or l i 0) k.words_are in
       let o = owes k.history k.lawful own.0 own.1 (subst (λ (z : ℕ). z < 18446744073709551616) same low) in
       let v : ℕ = get_or s.words i 0 in (
         alone (with_step (x v) r),
         keeps,
         tt,
         advances s k r id at' (x v) (subst (λ (z : ℕ). MayStep r.number (x z) k.history) (sym same) o.0)
-          (set s.words i (f v)) s.homes
+            (set s.words i (f v)) s.homes
             ((λ j. set (k.words_are j) i (f (same j))) ∙ o.1
-              ∙ ap (λ (z : ℕ). after (x z) (words_of start after k.history)) (sym same)),
+            ∙ ap (λ (z : ℕ). after (x z) (words_of start after k.history)) (sym same)),
         (ap (λ (z : View T). (push (x v) z, m.1)) (sym is), subst Also (sym same) o.2),
       )
 
@@ -136,35 +147,41 @@ module _ {S T : Type 0} (n : ℕ) (start : List ℕ) (after : T → List ℕ →
     seat = λ c. 0;
     position = λ c. c;
     records = λ j v e i r e'. only_one j v i r e e';
-    each = λ c l. (viewing (fresh 0 n), fresh_record c, refl, at_fresh n 0 c l ∙ (let z : 0 + c ≡ c = omega arith in
-      ap (λ (x : ℕ). some (fresh_record {T = T} x)) z), refl);
+    each = λ c l. (
+      viewing (fresh 0 n),
+      fresh_record c,
+      refl,
+      at_fresh n 0 c l ∙ (let z : 0 + c ≡ c = omega arith in
+          ap (λ (x : ℕ). some (fresh_record {T = T} x)) z),
+      refl,
+    );
   }
     where
       only_one : (j : ℕ) (v : View T) (i : ℕ) (r : Record T) → get_elem? (viewing (fresh 0 n) ∷ []) j ≡ some v
-        → get_elem? v.records.value i ≡ some r → (r.number < n) × (r.steps ≡ []) × (0 ≡ j) × (r.number ≡ i)
+          → get_elem? v.records.value i ≡ some r → (r.number < n) × (r.steps ≡ []) × (0 ≡ j) × (r.number ≡ i)
       only_one zero v i r e e' = let w =
-        fresh_at n 0 i r (ap (λ (z : View T). get_elem? z.records.value i) (some-injective _ v e) ∙ e') in
-        let l = w.0 in
+          fresh_at n 0 i r (ap (λ (z : View T). get_elem? z.records.value i) (some-injective _ v e) ∙ e') in
+          let l = w.0 in
           let same : 0 + i ≡ r.number = ap (λ (z : Record T). z.number) w.1 in let num : i ≡ r.number = omega arith in
           (subst (λ (z : ℕ). z < n) num l, ap (λ (z : Record T). z.steps) (sym w.1), refl, sym num)
       only_one (suc j) v i r e e' = absurd (some-ne-none v (sym e))
 
   -- the first record goes to a new seat
   splits_from : (id : ℕ) (v : View T) (r : Record T) (rs : List (Record T)) → v ≡ viewing (r ∷ rs)
-    → Splits Rule id v (viewing rs) (alone r)
+      → Splits Rule id v (viewing rs) (alone r)
   splits_from id v r rs is s sh at = let here : get_elem? s.views id ≡ some (viewing (r ∷ rs)) = at ∙ ap some is in
-    let first = sh.records id (viewing (r ∷ rs)) here 0 r refl in
+      let first = sh.records id (viewing (r ∷ rs)) here 0 r refl in
       let vs : List (View T) = set s.views id (viewing rs) in
       let seat' : ℕ → ℕ = λ c. cond (nat_eq c r.number) (length vs) (sh.seat c) in
       let position' : ℕ → ℕ = λ c. cond (nat_eq c r.number) 0
-        (cond (nat_eq (sh.seat c) id) (sh.position c - 1) (sh.position c)) in
+      (cond (nat_eq (sh.seat c) id) (sh.position c - 1) (sh.position c)) in
       let moved : (q : Record T) (j' n' : ℕ) → q.number ≢ r.number
-        → cond (nat_eq (sh.seat q.number) id) (sh.position q.number - 1) (sh.position q.number) ≡ n'
-        → sh.seat q.number ≡ j' → (seat' q.number ≡ j') × (position' q.number ≡ n')
+      → cond (nat_eq (sh.seat q.number) id) (sh.position q.number - 1) (sh.position q.number) ≡ n'
+      → sh.seat q.number ≡ j' → (seat' q.number ≡ j') × (position' q.number ≡ n')
       = (λ q j' n' far ep es. (
         ap (λ (b : Bool). cond b (length vs) (sh.seat q.number)) (ne_eqb q.number r.number far) ∙ es,
         ap (λ (b : Bool). cond b 0 (cond (nat_eq (sh.seat q.number) id) (sh.position q.number - 1)
-          (sh.position q.number))) (ne_eqb q.number r.number far) ∙ ep,
+            (sh.position q.number))) (ne_eqb q.number r.number far) ∙ ep,
       )) in record {
         history = sh.history;
         lawful = sh.lawful;
@@ -175,17 +192,17 @@ module _ {S T : Type 0} (n : ℕ) (start : List ℕ) (after : T → List ℕ →
             (λ (old : get_elem? vs j ≡ some v'). ⊎_elim
             (λ (t : (j ≡ id) × (viewing rs ≡ v')).
             let o = sh.records id (viewing (r ∷ rs)) here (suc i) q
-              (ap (λ (z : View T). get_elem? z.records.value i) t.1 ∙ e') in
+            (ap (λ (z : View T). get_elem? z.records.value i) t.1 ∙ e') in
             let p = o.3 in let far : q.number ≢ r.number = (λ z. let p2 = sym o.3 ∙ ap sh.position z ∙ first.3 in
-              absurd (omega arith)) in
+            absurd (omega arith)) in
             let less : sh.position q.number - 1 ≡ i = omega arith in
             let m = moved q j i far (ap (λ (b : Bool). cond b (sh.position q.number - 1) (sh.position q.number))
-              (eq-eqb (sh.seat q.number) id o.2) ∙ less) (o.2 ∙ sym t.0) in (o.0, o.1, m.0, m.1))
+            (eq-eqb (sh.seat q.number) id o.2) ∙ less) (o.2 ∙ sym t.0) in (o.0, o.1, m.0, m.1))
             (λ (t : (j ≢ id) × (get_elem? s.views j ≡ some v')).
             let o = sh.records j v' t.1 i q e' in
             let far : q.number ≢ r.number = (λ z. t.0 (sym o.2 ∙ ap sh.seat z ∙ first.2)) in
             let m = moved q j i far (ap (λ (b : Bool). cond b (sh.position q.number - 1) (sh.position q.number))
-              (ne_eqb (sh.seat q.number) id (λ z. t.0 (sym o.2 ∙ z))) ∙ o.3) o.2 in (o.0, o.1, m.0, m.1))
+            (ne_eqb (sh.seat q.number) id (λ z. t.0 (sym o.2 ∙ z))) ∙ o.3) o.2 in (o.0, o.1, m.0, m.1))
             (at_set s.views id j (viewing rs) v' old))
             (λ (t : (j ≡ length vs) × (alone r ≡ v')).
             let o = only_first i r q (ap (λ (z : View T). get_elem? z.records.value i) t.1 ∙ e') in
@@ -194,17 +211,17 @@ module _ {S T : Type 0} (n : ℕ) (start : List ℕ) (after : T → List ℕ →
               subst (λ (z : Record T). z.steps ≡ own_steps z.number sh.history) o.1 first.1,
               ap (λ (b : Bool). cond b (length vs) (sh.seat q.number)) (eq-eqb q.number r.number num) ∙ sym t.0,
               ap (λ (b : Bool). cond b 0 (cond (nat_eq (sh.seat q.number) id) (sh.position q.number - 1)
-                (sh.position q.number))) (eq-eqb q.number r.number num) ∙ sym o.0,
+                  (sh.position q.number))) (eq-eqb q.number r.number num) ∙ sym o.0,
             ))
             (snoc_at vs (alone r) v' j e);
         each = everyone_split T n s.views sh.seat sh.position id r rs here
-          (λ q i e. (sh.records id (viewing (r ∷ rs)) here i q e).3) first.3 sh.each;
+            (λ q i e. (sh.records id (viewing (r ∷ rs)) here i q e).3) first.3 sh.each;
       }
 
   pub splits : (id : ℕ) (v : View T) (r : Record T) (rs : List (Record T)) → v ≡ viewing (r ∷ rs)
-    → Splits Rule id v (other_views v) (first_view v)
+      → Splits Rule id v (other_views v) (first_view v)
   splits id v r rs is = subst (λ (z : View T × View T). Splits Rule id v z.0 z.1)
-    (λ j. (ap other_views (sym is) j, ap first_view (sym is) j)) (splits_from id v r rs is)
+      (λ j. (ap other_views (sym is) j, ap first_view (sym is) j)) (splits_from id v r rs is)
 
   -- the other's records stand behind those of the first
   pub joins : (id : ℕ) (v : View T) (other : ℕ) (w : View T) → Joins Rule id v other w (both_views v w) (viewing [])
@@ -213,13 +230,13 @@ module _ {S T : Type 0} (n : ℕ) (start : List ℕ) (after : T → List ℕ →
       let that : get_elem? s.views other ≡ some w = sym (set_else s.views id other both apart) ∙ there in
       let seat' : ℕ → ℕ = λ c. cond (nat_eq (sh.seat c) other) id (sh.seat c) in
       let position' : ℕ → ℕ = λ c. cond (nat_eq (sh.seat c) other) (length v.records.value + sh.position c)
-        (sh.position c) in
+      (sh.position c) in
       let stays : (q : Record T) (j i : ℕ) → j ≢ other → sh.seat q.number ≡ j → sh.position q.number ≡ i
-        → (seat' q.number ≡ j) × (position' q.number ≡ i) =
+      → (seat' q.number ≡ j) × (position' q.number ≡ i) =
       (λ q j i far es ep. (
         ap (λ (b : Bool). cond b id (sh.seat q.number)) (ne_eqb (sh.seat q.number) other (λ z. far (sym es ∙ z))) ∙ es,
         ap (λ (b : Bool). cond b (length v.records.value + sh.position q.number) (sh.position q.number))
-          (ne_eqb (sh.seat q.number) other (λ z. far (sym es ∙ z))) ∙ ep,
+            (ne_eqb (sh.seat q.number) other (λ z. far (sym es ∙ z))) ∙ ep,
       )) in record {
         history = sh.history;
         lawful = sh.lawful;
@@ -228,22 +245,22 @@ module _ {S T : Type 0} (n : ℕ) (start : List ℕ) (after : T → List ℕ →
         position = position';
         records = λ j v' e i q e'. ⊎_elim
             (λ (t : (j ≡ other) × (viewing [] ≡ v')). absurd
-              (some-ne-none q (sym (ap (λ (z : View T). get_elem? z.records.value i) t.1 ∙ e'))))
+            (some-ne-none q (sym (ap (λ (z : View T). get_elem? z.records.value i) t.1 ∙ e'))))
             (λ (t : (j ≢ other) × (get_elem? vs j ≡ some v')). ⊎_elim
             (λ (u : (j ≡ id) × (both ≡ v')). ⊎_elim
             (λ (own : get_elem? v.records.value i ≡ some q). let o = sh.records id v at i q own in
-              let m = stays q j i t.0 (o.2 ∙ sym u.0) o.3 in (o.0, o.1, m.0, m.1))
+            let m = stays q j i t.0 (o.2 ∙ sym u.0) o.3 in (o.0, o.1, m.0, m.1))
             (λ (his : (a : ℕ) × (i ≡ length v.records.value + a) × (get_elem? w.records.value a ≡ some q)). let o =
-              sh.records other w that his.0 q his.2 in (
+            sh.records other w that his.0 q his.2 in (
               o.0,
               o.1,
               ap (λ (b : Bool). cond b id (sh.seat q.number)) (eq-eqb (sh.seat q.number) other o.2) ∙ sym u.0,
               ap (λ (b : Bool). cond b (length v.records.value + sh.position q.number) (sh.position q.number))
-                (eq-eqb (sh.seat q.number) other o.2) ∙ ap (λ (z : ℕ). length v.records.value + z) o.3 ∙ sym his.1,
+                  (eq-eqb (sh.seat q.number) other o.2) ∙ ap (λ (z : ℕ). length v.records.value + z) o.3 ∙ sym his.1,
             ))
             (append_at v.records.value w.records.value q i (ap (λ (z : View T). get_elem? z.records.value i) u.1 ∙ e')))
             (λ (u : (j ≢ id) × (get_elem? s.views j ≡ some v')). let o = sh.records j v' u.1 i q e' in
-              let m = stays q j i t.0 o.2 o.3 in (o.0, o.1, m.0, m.1))
+            let m = stays q j i t.0 o.2 o.3 in (o.0, o.1, m.0, m.1))
             (at_set s.views id j both v' t.1))
             (at_set vs other j (viewing []) v' e);
         each = everyone_join T n s.views sh.seat sh.position id other v w at that apart sh.each;

@@ -15,7 +15,7 @@ pub sum_grows : (f g : ℕ → ℕ) (c a n : ℕ) → c < n → g c ≡ a + f c 
 sum_grows f g c a zero l e o = absurd (omega arith)
 sum_grows f g c a (suc n) l e o = dite (ℕ_discrete c n)
     (λ (same : c ≡ n). let x : sum_to g n ≡ sum_to f n = sum_same g f n (λ d k. o d (λ z. let y = z ∙ same in
-      absurd (omega arith))) in let y : g n ≡ a + f n = subst (λ (z : ℕ). g z ≡ a + f z) same e in omega arith)
+    absurd (omega arith))) in let y : g n ≡ a + f n = subst (λ (z : ℕ). g z ≡ a + f z) same e in omega arith)
     (λ (ne : c ≢ n). let x = sum_grows f g c a n (omega arith) e o in let y = o n (λ z. ne (sym z)) in omega arith)
 
 pub sum_none : (n : ℕ) → ◌≡◌ {A = ℕ} (sum_to (λ c. 0) n) 0
@@ -30,11 +30,11 @@ sum_most f b (suc n) h = let a = sum_most f b n (λ c l. h c (omega arith)) in l
 module _ {T : Type 0} (n : ℕ) (MayStep : ℕ → T → List (ℕ × T) → Type 0) where
   -- what all steps add up to is the sum over the members
   pub totals : (f : T → ℕ) (h : List (ℕ × T)) → Lawful n MayStep h
-    → sum_to (λ c. total f (own_steps c h)) n ≡ total_all f h
+      → sum_to (λ c. total f (own_steps c h)) n ≡ total_all f h
   totals f [] l = sum_none n
   totals f (x ∷ h) l = sum_grows (λ c. total f (own_steps c h)) (λ c. total f (own_steps c (x ∷ h))) x.0 (f x.1) n l.0
-    (ap (total f) (own_here x.0 x.1 h)) (λ d ne. ap (total f) (own_else d x.0 x.1 h ne))
-    ∙ ap (λ (z : ℕ). f x.1 + z) (totals f h l.2)
+      (ap (total f) (own_here x.0 x.1 h)) (λ d ne. ap (total f) (own_else d x.0 x.1 h ne))
+      ∙ ap (λ (z : ℕ). f x.1 + z) (totals f h l.2)
 
 pub sum_zero : (f : ℕ → ℕ) (n : ℕ) → ((c : ℕ) → c < n → f c ≡ 0) → sum_to f n ≡ 0
 sum_zero f zero h = refl
@@ -49,9 +49,9 @@ pub sum_only : (f : ℕ → ℕ) (n c : ℕ) → c < n → ((d : ℕ) → d < n 
 sum_only f zero c h z = absurd (omega arith)
 sum_only f (suc n) c h z = dite (ℕ_discrete c n)
     (λ (e : c ≡ n). let a = sum_zero f n (λ d l. z d (omega arith) (λ s. omega arith)) in
-      let b : f n ≡ f c = ap f (sym e) in omega arith)
+    let b : f n ≡ f c = ap f (sym e) in omega arith)
     (λ (ne : c ≢ n). let a = sum_only f n c (omega arith) (λ d l. z d (omega arith)) in
-      let b = z n (omega arith) (λ s. ne (sym s)) in omega arith)
+    let b = z n (omega arith) (λ s. ne (sym s)) in omega arith)
 
 pub sum_swap : (f : ℕ → ℕ → ℕ) (m n : ℕ) → sum_to (λ i. sum_to (λ c. f c i) n) m ≡ sum_to (λ c. sum_to (f c) m) n
 sum_swap f zero n = sym (sum_zero (λ c. sum_to (f c) zero) n (λ c l. refl))
@@ -69,16 +69,16 @@ pub sum_turned : (f place number : ℕ → ℕ) (m n : ℕ) → ((i : ℕ) → i
 sum_turned f place number m n one all =
     let F : ℕ → ℕ → ℕ = λ c i. cond (nat_eq (number i) c) (f c) 0 in
     let hit : (c i : ℕ) → number i ≡ c
-      → F c i ≡ f c = (λ c i e. ap (λ (b : Bool). cond b (f c) 0) (eq-eqb (number i) c e)) in
+    → F c i ≡ f c = (λ c i e. ap (λ (b : Bool). cond b (f c) 0) (eq-eqb (number i) c e)) in
     let miss : (c i : ℕ) → number i ≢ c
-      → F c i ≡ 0 = (λ c i e. ap (λ (b : Bool). cond b (f c) 0) (ne_eqb (number i) c e)) in
+    → F c i ≡ 0 = (λ c i e. ap (λ (b : Bool). cond b (f c) 0) (ne_eqb (number i) c e)) in
     sum_same (λ i. f (number i)) (λ i. sum_to (λ c. F c i) n) m
-      (λ i l. sym (sum_only (λ c. F c i) n (number i) (one i l).0 (λ c k ne. miss c i (λ z. ne (sym z)))
-      ∙ hit (number i) i refl))
+    (λ i l. sym (sum_only (λ c. F c i) n (number i) (one i l).0 (λ c k ne. miss c i (λ z. ne (sym z)))
+    ∙ hit (number i) i refl))
     ∙ sum_swap F m n
     ∙ sum_same (λ c. sum_to (F c) m) f n (λ c k. let w = all c k in
     sum_only (F c) m w.0 w.1 (λ i l ne. miss c i (λ z. ne (sym (one i l).1 ∙ ap place (z ∙ sym w.2) ∙ (one w.0 w.1).1)))
-      ∙ hit c w.0 w.2)
+    ∙ hit c w.0 w.2)
 
 -- a value is at most the sum
 pub sum_has : (f : ℕ → ℕ) (c n : ℕ) → c < n → f c ≤ sum_to f n

@@ -36,7 +36,7 @@ module _ {A : Type 0} where
 
   pub all_front : (P : A → Type 0) (xs : List A) (x : A) → All P (xs ++ x ∷ []) → All P xs
   all_front P xs x h k d l = subst P (get_front xs (x ∷ []) k d l) (h k d (let e = length-append xs (x ∷ []) in
-    omega arith))
+      omega arith))
 
   pub all_last : (P : A → Type 0) (xs : List A) (x : A) → All P (xs ++ x ∷ []) → P x
   all_last P xs x h = subst P (get_last xs x x) (h (length xs) x (let e = length-append xs (x ∷ []) in omega arith))
@@ -70,9 +70,9 @@ module _ {T : Type 0} where
 
   -- where one member's seat was joined to another, its record is the newest
   pub joined : (v w now : View T) (r : Record T) → now ≡ both_views v w → w ≡ alone r
-    → turned now.records.value ≡ r ∷ turned v.records.value
+      → turned now.records.value ≡ r ∷ turned v.records.value
   joined v w now r is one = ap (λ (z : View T). turned z.records.value) (is ∙ ap (both_views v) one)
-    ∙ turned_last v.records.value r
+      ∙ turned_last v.records.value r
 
   pub sum_joined : (f : List T → ℕ) (v w now : View T) (r : Record T) → now ≡ both_views v w → w ≡ alone r
       → sum_over f now.records.value ≡ sum_over f v.records.value + f r.steps
@@ -81,20 +81,20 @@ module _ {T : Type 0} where
 
   -- whose record stands at a place
   pub number_at : (rs : List (Record T)) (i c : ℕ) → get_elem? (numbers rs) i ≡ some c
-    → (r : Record T) × (get_elem? rs i ≡ some r) × (r.number ≡ c)
+      → (r : Record T) × (get_elem? rs i ≡ some r) × (r.number ≡ c)
   number_at [] i c e = absurd (some-ne-none c (sym e))
   number_at (r ∷ rs) zero c e = (r, refl, some-injective r.number c e)
   number_at (r ∷ rs) (suc i) c e = number_at rs i c e
 
   pub at_number : (rs : List (Record T)) (i : ℕ) (r : Record T) → get_elem? rs i ≡ some r
-    → get_elem? (numbers rs) i ≡ some r.number
+      → get_elem? (numbers rs) i ≡ some r.number
   at_number [] i r e = absurd (some-ne-none r (sym e))
   at_number (q ∷ rs) zero r e = ap (λ (x : Record T). some x.number) (some-injective q r e)
   at_number (q ∷ rs) (suc i) r e = at_number rs i r e
 
   pub has_turned : (rs : List (Record T)) (c : ℕ) → Has (numbers rs) c → Has (numbers (turned rs)) c
   has_turned rs c h = let a = number_at rs h.0 c h.1 in let b = at_turned rs h.0 a.0 a.1 in
-    (b.0, at_number (turned rs) b.0 a.0 b.1 ∙ ap some a.2)
+      (b.0, at_number (turned rs) b.0 a.0 b.1 ∙ ap some a.2)
 
 -- what stands at no place isn't there
 pub nowhere : (ns : List ℕ) (c : ℕ) → ((i : ℕ) → i < length ns → get_elem? ns i ≢ some c) → ¬ Has ns c

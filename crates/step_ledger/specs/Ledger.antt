@@ -22,6 +22,6 @@ pub record Ledger {S T : Type 0} (n : ℕ) (start : List ℕ) (after : T → Lis
   pub seat : ℕ → ℕ
   pub position : ℕ → ℕ
   pub records : (j : ℕ) (v : View T) → get_elem? s.views j ≡ some v → (i : ℕ) (r : Record T)
-    → get_elem? v.records.value i ≡ some r
+      → get_elem? v.records.value i ≡ some r
       → (r.number < n) × (r.steps ≡ own_steps r.number history) × (seat r.number ≡ j) × (position r.number ≡ i)
   pub each : Everyone n s.views seat position

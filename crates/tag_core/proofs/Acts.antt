@@ -100,8 +100,12 @@ module _ (S : Type 0) where
           (λ (same : t ≡ a). let back : get_elem? (put_all hs1 cs) t ≡ some (some x.1) = ih.outside
           (λ i. let g = i.0 in absurd (omega arith)) ∙ ap (get_elem? hs1) (same ∙ sym hd)
           ∙ set_here hs x.0 (some x.1) (omega arith) in record {
-            inside = λ i. (x.1, ap (λ (b : Bool). cond b (some x.1) (value_of cs t))
-              (eq-eqb x.0 t (hd ∙ sym same)), back);
+            inside = λ i. (
+              x.1,
+              ap (λ (b : Bool). cond b (some x.1) (value_of cs t))
+                  (eq-eqb x.0 t (hd ∙ sym same)),
+              back,
+            );
             outside = λ o. absurd (o (omega arith, omega arith, ap f same ∙ one));
           })
           (λ (ne : t ≢ a). let off : get_elem? hs1 t ≡ get_elem? hs t = set_else hs x.0 t (some x.1)
@@ -148,7 +152,7 @@ module _ (S : Type 0) where
       (λ t i. let g = i.0 in let g2 = i.1 in home t (omega arith, omega arith, i.2)) in record {
         list = ih.list;
         tags = ih.tags ∙ ap (λ (b : Bool). cond b (a ∷ tags_from f (suc a) n) (tags_from f (suc a) n))
-          (sym (ne_eqb (f a) 1 no));
+            (sym (ne_eqb (f a) 1 no));
         valid = ih.valid;
         here = λ t i. ih.here t
             (dite (ℕ_discrete t a) (λ (same : t ≡ a). absurd (no (ap f (sym same) ∙ i.2)))
@@ -169,7 +173,7 @@ module _ (S : Type 0) where
             list = (a, mine.0) ∷ ih.list;
             tags = ap (λ (l : List ℕ). a ∷ l) ih.tags
                 ∙ ap (λ (b : Bool). cond b (a ∷ tags_from f (suc a) n) (tags_from f (suc a) n))
-                  (sym (eq-eqb (f a) 1 one));
+                (sym (eq-eqb (f a) 1 one));
             valid = (ih.valid, still);
             here = λ t i. dite (ℕ_discrete t a)
                 (λ (same : t ≡ a). (
@@ -189,7 +193,7 @@ module _ (S : Type 0) where
                 ));
             away = λ t o. let ne : t ≢ a = (λ (z : t ≡ a). o (omega arith, omega arith, ap f z ∙ one)) in
                 set_else hs1 a t none ne ∙ ih.away t (λ i. let g = i.0 in let g2 = i.1 in
-                  o (omega arith, omega arith, i.2));
+                o (omega arith, omega arith, i.2));
             long = length-set hs1 a none ∙ ih.long;
           }
 
@@ -208,7 +212,7 @@ module _ (S : Type 0) where
     pub same : (t : ℕ) → t < n → f t ≢ 1 → f' t ≢ 1 → get_elem? (homes_after hs cs act) t ≡ get_elem? hs t
     pub kept : (t : ℕ) → t < n → f t ≡ 1 → f' t ≡ 1 → (v : S) × (value_of cs t ≡ some v) × (value_of list t ≡ some v)
     pub taken : (t : ℕ) → t < n → f t ≢ 1 → f' t ≡ 1 → (v : S) × (get_elem? hs t ≡ some (some v))
-      × (value_of list t ≡ some v)
+        × (value_of list t ≡ some v)
     pub long : length (homes_after hs cs act) ≡ length hs
 
   -- there is such an act where the slots to be taken are at home
@@ -238,7 +242,7 @@ module _ (S : Type 0) where
         returned = λ t l o no. let w = (p t).inside (in_all f t l o) in
             (w.0, w.1, ap (λ (z : Homes). get_elem? z t) after ∙ k.away t (off f' t no) ∙ w.2);
         same = λ t l no no'. ap (λ (z : Homes). get_elem? z t) after ∙ k.away t (off f' t no')
-          ∙ (p t).outside (off f t no);
+            ∙ (p t).outside (off f t no);
         kept = λ t l o o'. let w = (p t).inside (in_all f t l o) in let g = k.here t (in_all f' t l o') in
             let one : g.0 ≡ w.0 = some-injective g.0 w.0 (some-injective (some g.0) (some w.0) (sym g.1 ∙ w.2)) in
             (w.0, w.1, g.2 ∙ ap some one);

@@ -43,7 +43,7 @@ module _ (R : Type 0) (k : Shape) where
         (tag_bit k.layout (swept_after st r.swept) t)
 
   module _ (s : TableState) (sh : Shown k s) (r : Record R) (st : Step R) (words' : List ℕ)
-    (homes' : List (maybe.Option R))
+      (homes' : List (maybe.Option R))
       (owed : Owed s sh r st words')
       (slots' : (t : ℕ) → t < k.layout.depth
       → SlotIs (get_elem? homes' t) (placed k.layout (event_of k.layout r.number st) (world_of k sh.history).place t))
@@ -68,7 +68,7 @@ module _ (R : Type 0) (k : Shape) where
       held = λ t l. (owed.tags t l).held ∙ ap (λ (z : Layout). tag_bit k.layout (held_after z st r.held) t) (sym same);
       swept = λ t l. (owed.tags t l).swept;
       won = (λ j. ok.won j + won_by (event_of (same j) r.number st))
-        ∙ sym (own_counts k.layout r.number st (world_of k h).won).0;
+          ∙ sym (own_counts k.layout r.number st (world_of k h).won).0;
       back = (λ j. ok.back j + back_by (event_of (same j) r.number st))
           ∙ sym (own_counts k.layout r.number st (world_of k h).back).1;
       steps = ap (λ (z : List (Step R)). st ∷ z) ok.steps ∙ sym (steps_here k.layout r.number st h);
@@ -99,8 +99,12 @@ module _ (R : Type 0) (k : Shape) where
             (owed.needs, sh.lawful.happens);
       };
       cells = owed.cells;
-      tags = λ t l. record { word = (owed.tags t l).word; aside = (owed.tags t l).aside; posted =
-        (owed.tags t l).posted };
+      tags = λ t l. record {
+        word = (owed.tags t l).word;
+        aside = (owed.tags t l).aside;
+        posted =
+            (owed.tags t l).posted;
+      };
       slots = slots';
       posts = posts';
       seat = sh.seat;

@@ -67,14 +67,14 @@ module _ (R : Type 0) (k : Shape) (narrow : k.layout.shift ≤ 6) (id : ℕ) (me
   Posts s sh st = (t : ℕ) → t < k.layout.depth
       → placed k.layout (event_of k.layout r.number st) (world_of k sh.history).place t ≡ posted
       → (((world_of k sh.history).place t ≡ posted)
-        × (last_post t ((r.number, st) ∷ sh.history) ≡ last_post t sh.history))
+      × (last_post t ((r.number, st) ∷ sh.history) ≡ last_post t sh.history))
       ⊎ (((world_of k sh.history).place t ≡ held r.number)
-        × (last_post t ((r.number, st) ∷ sh.history) ≡ value_of me.1 t))
+      × (last_post t ((r.number, st) ∷ sh.history) ≡ value_of me.1 t))
 
   abbrev Answer : (s : State R (View R)) → Step R → List ℕ → Type 0
   Answer s st words' = (w : View R) × (a : Act R) × Valid s.homes me.1 a × Shown k record
       { words = words'; homes = homes_after s.homes me.1 a; views = set s.views id w }
-        × Stepped st r me (w, carried_after me.1 a)
+      × Stepped st r me (w, carried_after me.1 a)
 
   module _ (s : State R (View R)) (sh : Shown k s) (deep : length s.homes ≡ k.layout.depth)
       (at : get_elem? s.views id ≡ some me.0) where
@@ -95,7 +95,7 @@ module _ (R : Type 0) (k : Shape) (narrow : k.layout.shift ≤ 6) (id : ℕ) (me
 
     -- the same where the words stay
     still : (st : Step R) (i : ℕ) → Owed R k s sh r st s.words → Posts s sh st
-      → Answer s st (set s.words i (get_or s.words i 0))
+        → Answer s st (set s.words i (get_or s.words i 0))
     still st i owed posts =
         answer st (set s.words i (get_or s.words i 0))
         (subst (λ (ws : List ℕ). Owed R k s sh r st ws) (sym (set-get_or s.words i 0)) owed) posts
@@ -121,7 +121,7 @@ module _ (R : Type 0) (k : Shape) (narrow : k.layout.shift ≤ 6) (id : ℕ) (me
   -- the table allows a load of a word
   pub look_allowed : (i : ℕ) → i < words k.layout
       → Allows (Shown k) k.layout.depth id me (word_at i) (λ n. n)
-        (looked (step k.layout.depth (word_at i) 0 0 none) me)
+      (looked (step k.layout.depth (word_at i) 0 0 none) me)
   look_allowed i inside s sh deep at _ = let n : ℕ = get_or s.words (word_at i) 0 in let o = ok s sh deep at in
       let z = still s sh deep at (Word (Look i n)) (word_at i) (look_owed R k narrow s sh r o i inside)
       (λ t l e. inl (e, refl)) in (
@@ -131,14 +131,14 @@ module _ (R : Type 0) (k : Shape) (narrow : k.layout.shift ≤ 6) (id : ℕ) (me
         z.3,
         λ i' r' ei er. subst
             (λ (x : ℕ × Record R). Stepped (Word (Look x.0 n)) x.1 me (z.0, carried_after me.1 z.1)
-              × FindsHeld x.1 x.0 n 1)
+            × FindsHeld x.1 x.0 n 1)
             (λ j. (word_at_one i i' ei j, same_record r r' (sym mine ∙ er) j)) (z.4, (found_held s sh o i).0),
       )
 
   -- a load of a cleared set
   pub look_aside_allowed : (i : ℕ) → i < words k.layout
       → Allows (Shown k) k.layout.depth id me (aside_at i) (λ n. n)
-        (looked_aside (step k.layout.depth (aside_at i) 0 0 none) me)
+      (looked_aside (step k.layout.depth (aside_at i) 0 0 none) me)
   look_aside_allowed i inside s sh deep at _ = let n : ℕ = get_or s.words (aside_at i) 0 in let o = ok s sh deep at in
       let z = still s sh deep at (Word (LookAside i n)) (aside_at i) (look_aside_owed R k narrow s sh r o i inside)
       (λ t l e. inl (e, refl)) in (
@@ -166,9 +166,9 @@ module _ (R : Type 0) (k : Shape) (narrow : k.layout.shift ≤ 6) (id : ℕ) (me
         z.3,
         λ i' r' ei er. subst
             (λ (x : ℕ × Record R). Stepped (Word (Claimed x.0 m n)) x.1 me (z.0, carried_after me.1 z.1)
-              × FindsHeld x.1 x.0 n 1)
+            × FindsHeld x.1 x.0 n 1)
             (λ j. (word_at_one i i' ei j, same_record r r' (sym mine ∙ er) j))
-              (z.4, (found_held s sh (ok s sh deep at) i).0),
+            (z.4, (found_held s sh (ok s sh deep at) i).0),
       )
 
   -- an and-not of a word, of held tags
@@ -192,12 +192,15 @@ module _ (R : Type 0) (k : Shape) (narrow : k.layout.shift ≤ 6) (id : ℕ) (me
   -- a swap of a cleared set
   pub swap_allowed : (i : ℕ) → i < words k.layout
       → Allows (Shown k) k.layout.depth id me (aside_at i) (λ _. 0)
-        (swapped (step k.layout.depth (aside_at i) 0 0 none) me)
+      (swapped (step k.layout.depth (aside_at i) 0 0 none) me)
   swap_allowed i inside s sh deep at _ = let n : ℕ = get_or s.words (aside_at i) 0 in
       let z = answer s sh deep at (Word (Swap i n)) (set s.words (aside_at i) 0)
       (swap_owed R k narrow s sh r (ok s sh deep at) i inside)
-      (λ t l e. inl (unposted _ (swept_by r.number (G s sh t)) (G s sh t)
-        (swept_no_post r.number (G s sh t)) e, refl)) in (
+      (λ t l e. inl (
+        unposted _ (swept_by r.number (G s sh t)) (G s sh t)
+            (swept_no_post r.number (G s sh t)) e,
+        refl,
+      )) in (
         z.0,
         z.1,
         z.2,
@@ -212,18 +215,20 @@ module _ (R : Type 0) (k : Shape) (narrow : k.layout.shift ≤ 6) (id : ℕ) (me
       → Allows (Shown k) k.layout.depth id me (word_at i) (λ n. bit_and n (2 ^ 64 - 1 - get_or r.swept i 0))
       (spilled (step k.layout.depth (word_at i) (2 ^ 64 - 1 - get_or r.swept i 0) 0 none) me)
   spill_allowed i inside fits s sh deep at _ = let n : ℕ = get_or s.words (word_at i) 0 in
-    let m : ℕ = get_or r.swept i 0 in
+      let m : ℕ = get_or r.swept i 0 in
       let z = answer s sh deep at (Word (Spill i m n)) (set s.words (word_at i) (without n m))
       (spill_owed R k narrow s sh r (ok s sh deep at) i inside fits)
-      (λ t l e. inl (unposted _ (spilled_by r.number (G s sh t)) (G s sh t) (spilled_no_post r.number (G s sh t)) e,
-        refl)) in (
+      (λ t l e. inl (
+        unposted _ (spilled_by r.number (G s sh t)) (G s sh t) (spilled_no_post r.number (G s sh t)) e,
+        refl,
+      )) in (
         z.0,
         z.1,
         z.2,
         z.3,
         λ i' r' ei er. subst
             (λ (x : ℕ × Record R). Stepped (Word (Spill x.0 (get_or x.1.swept x.0 0) n)) x.1 me
-              (z.0, carried_after me.1 z.1))
+            (z.0, carried_after me.1 z.1))
             (λ j. (word_at_one i i' ei j, same_record r r' (sym mine ∙ er) j)) z.4,
       )
 
@@ -233,13 +238,13 @@ module _ (R : Type 0) (k : Shape) (narrow : k.layout.shift ≤ 6) (id : ℕ) (me
       (λ _. plays.posted (step k.layout.depth (state_at k.layout u) 1 0 none) me 1)
   post_allowed u y lu has val s sh deep at _ = let o = ok s sh deep at in
       let z = answer s sh deep at (Post u y) (set s.words (state_at k.layout u) 1)
-        (post_owed R k narrow s sh r o u y lu has)
+      (post_owed R k narrow s sh r o u y lu has)
       (λ t l e. dite (ℕ_discrete t u)
       (λ (same : t ≡ u). inr (
         held_from r.number _ (o.held t l ∙ ap (tag_bit k.layout r.held) same ∙ has),
         ap
             (λ (b : Bool). cond b (some y) (last_post t sh.history)) (eq-eqb t u same) ∙ sym val
-              ∙ ap (value_of me.1) (sym same),
+            ∙ ap (value_of me.1) (sym same),
       ))
       (λ (n : t ≢ u). inl (
         ap (λ (b : Bool). cond b posted (G s sh t)) (sym (ne_eqb t u n))
@@ -251,12 +256,12 @@ module _ (R : Type 0) (k : Shape) (narrow : k.layout.shift ≤ 6) (id : ℕ) (me
         z.2,
         z.3,
         λ u' y' r' eu ey er. subst (λ (x : ℕ × R × Record R). Stepped (Post x.0 x.1) x.2 me
-          (z.0, carried_after me.1 z.1))
+            (z.0, carried_after me.1 z.1))
             (λ j. (
               same_state k r r' u u' o.shape (same_record r r' (sym mine ∙ er)) eu j,
               some-injective y y'
                   (sym val ∙ ap (value_of me.1) (same_state k r r' u u' o.shape (same_record r r' (sym mine ∙ er)) eu)
-                    ∙ ey) j,
+                  ∙ ey) j,
               same_record r r' (sym mine ∙ er) j,
             )) z.4,
       )
@@ -287,7 +292,7 @@ module _ (R : Type 0) (k : Shape) (narrow : k.layout.shift ≤ 6) (id : ℕ) (me
   unfolding answer
   take_allowed u lu s sh deep at _ = let n : ℕ = get_or s.words (state_at k.layout u) 0 in let o = ok s sh deep at in
       let shows : posted_bit ((world_of k sh.history).place u) ≡ n = (sh.tags u lu).posted
-        ∙ sym (sh.cells.state u lu) in
+      ∙ sym (sh.cells.state u lu) in
       let small = posted_small ((world_of k sh.history).place u) in
       exchanged n 1 0 (λ x. (w : View R) × (a : Act R) × Valid s.homes me.1 a × Shown k record
       { words = set s.words (state_at k.layout u) x; homes = homes_after s.homes me.1 a; views = set s.views id w }
@@ -299,7 +304,7 @@ module _ (R : Type 0) (k : Shape) (narrow : k.layout.shift ≤ 6) (id : ℕ) (me
       let z = answer s sh deep at (Take u 1 (Some last.0)) (set s.words (state_at k.layout u) 0) owed
       (λ t l e. inl (unposted _ (held r.number) (G s sh t) (held_no_post r.number (G s sh t)) e, refl)) in
       let go = moved R k s sh r (Take u 1 (Some last.0)) (set s.words (state_at k.layout u) 0)
-        owed o me.1 carries deep in
+      owed o me.1 carries deep in
       let one : (u == u) ≡ true = eq-eqb u u refl in
       let not_mine : tag_bit k.layout r.held u ≢ 1 =
       (λ (e : tag_bit k.layout r.held u ≡ 1). let b : held_bit r.number posted ≡ 1 = ap (held_bit r.number) (sym its)
@@ -310,7 +315,7 @@ module _ (R : Type 0) (k : Shape) (narrow : k.layout.shift ≤ 6) (id : ℕ) (me
       ∙ ap one_if (eq-eqb r.number r.number refl) in
       let came = go.taken u lu not_mine now_mine in
       let val : value_of (carried_after me.1 go.act) u ≡ some last.0 =
-        ap (λ (l : List (ℕ × R)). value_of l u) go.list_is
+      ap (λ (l : List (ℕ × R)). value_of l u) go.list_is
       ∙ came.2 ∙ some-injective _ _ (sym came.1 ∙ sh.posts u lu its) ∙ last.1 in (
         z.0,
         z.1,
@@ -320,13 +325,18 @@ module _ (R : Type 0) (k : Shape) (narrow : k.layout.shift ≤ 6) (id : ℕ) (me
           λ h. (
             last.0,
             subst (λ (x : ℕ). value_of (carried_after me.1 go.act) x ≡ some last.0)
-              (same_state k r r' u u' o.shape (same_record r r' (sym mine ∙ er)) eu) val,
+                (same_state k r r' u u' o.shape (same_record r r' (sym mine ∙ er)) eu) val,
             subst (λ (x : ℕ × Record R). Stepped (Take x.0 1 (Some last.0)) x.1 me (z.0, carried_after me.1 z.1))
-                (λ j. (same_state k r r' u u' o.shape (same_record r r' (sym mine ∙ er)) eu j, same_record r r'
-                  (sym mine ∙ er) j)) z.4,
+                (λ j. (
+                  same_state k r r' u u' o.shape (same_record r r' (sym mine ∙ er)) eu j,
+                  same_record r r'
+                      (sym mine ∙ er) j,
+                )) z.4,
             subst (λ (x : ℕ × Record R). tag_bit x.1.shape.layout x.1.held x.0 ≢ 1)
-                (λ j. (same_state k r r' u u' o.shape (same_record r r' (sym mine ∙ er)) eu j,
-                  same_record r r' (sym mine ∙ er) j))
+                (λ j. (
+                  same_state k r r' u u' o.shape (same_record r r' (sym mine ∙ er)) eu j,
+                  same_record r r' (sym mine ∙ er) j,
+                ))
                 (subst (λ (z : Shape). tag_bit z.layout r.held u ≢ 1) (sym o.shape) not_mine),
           ),
           λ h. absurd (h hit),
@@ -344,8 +354,11 @@ module _ (R : Type 0) (k : Shape) (narrow : k.layout.shift ≤ 6) (id : ℕ) (me
           λ h. (
             zero_there,
             subst (λ (x : ℕ × Record R). Stepped (Take x.0 0 None) x.1 me (z.0, carried_after me.1 z.1))
-                (λ j. (same_state k r r' u u' o.shape (same_record r r' (sym mine ∙ er)) eu j, same_record r r'
-                  (sym mine ∙ er) j)) z.4,
+                (λ j. (
+                  same_state k r r' u u' o.shape (same_record r r' (sym mine ∙ er)) eu j,
+                  same_record r r'
+                      (sym mine ∙ er) j,
+                )) z.4,
           ),
         ),
       ))

@@ -38,15 +38,15 @@ module _ {R : Type 0} (m : Map R) (w : Caller R) (own : IsCallerOf m w) where
   -- what the table asks of a step at this place
   pub asked : (id : ℕ) (me : Me R (View R)) (at place : ℕ) (f : ℕ → ℕ) (a b : ℕ)
       (then : table.Step R → Me R (View R) → ℕ → Me R (View R) → Type 0) → place ≡ at
-        → at < table_width w.shape.value.layout
+      → at < table_width w.shape.value.layout
       → Allows (Shown w.shape.value) w.shape.value.layout.depth id me at f
-        (then (step w.shape.value.layout.depth at a b none) me)
+      (then (step w.shape.value.layout.depth at a b none) me)
       → (place < m.table.shared.table_id.words) × Allows
       (Shown m.table.shared.key) m.table.shared.table_id.slots id me place f
       (then (step m.table.shared.table_id.slots place a b none) me)
   asked id me at place f a b then is low allowed = (
     subst (λ (z : ℕ × ℕ). z.0 < z.1)
-      (λ j. (sym is j, (ap (λ (z : Shape). table_width z.layout) own.1 ∙ sym m.wide.0) j)) low,
+        (λ j. (sym is j, (ap (λ (z : Shape). table_width z.layout) own.1 ∙ sym m.wide.0) j)) low,
     subst (λ (z : Shape × ℕ × ℕ). Allows (Shown z.0) z.1 id me z.2 f (then (step z.1 z.2 a b none) me))
         (λ j. ((own.1 ∙ sym m.told) j, (ap (λ (z : Shape). z.layout.depth) own.1 ∙ sym m.wide.1) j, sym is j)) allowed,
   )
@@ -55,7 +55,7 @@ module _ {R : Type 0} (w : Caller R) (st : Step R) (me' : Me R (View R)) (did : 
     (held' : List ℕ) (won' back' : ℕ)
     (held_is : held_after w.shape.value.layout st w.held.items ≡ held')
     (swept_is : swept_after st (replicate {A = ℕ} (words w.shape.value.layout) 0)
-      ≡ replicate (words w.shape.value.layout) 0)
+    ≡ replicate (words w.shape.value.layout) 0)
     (won_is : w.won + won_by (event_of w.shape.value.layout w.number st) ≡ won')
     (back_is : w.back + back_by (event_of w.shape.value.layout w.number st) ≡ back') where
   -- the record that the new fields give
@@ -98,7 +98,7 @@ module _ {R : Type 0} (w : Caller R) (st : Step R) (me' : Me R (View R)) (did : 
 
   -- the slots of tags that it keeps have their values
   pub slots : (tag : ℕ) → Holds w tag → (tag < w.shape.value.layout.depth)
-    × (tag_bit w.shape.value.layout held' tag ≡ 1)
+      × (tag_bit w.shape.value.layout held' tag ≡ 1)
       → value_of me'.1 tag ≡ value_of w.seat.me.1 tag
   slots tag was is = did.values tag was.0 was.1 (ap (λ (z : List ℕ). tag_bit w.shape.value.layout z tag) held_is ∙ is.1)
 
@@ -113,7 +113,7 @@ pub bounded : {R : Type 0} (m : Map R) (w : Caller R) → IsCallerOf m w → (n 
     → n ≤ MAX_CALLERS * MOST_WON
 bounded m w own n h =
     let few : w.shape.value.callers ≤ MAX_CALLERS =
-      subst (λ (z : Shape). z.callers ≤ MAX_CALLERS) (sym own.1) m.few.1 in
+    subst (λ (z : Shape). z.callers ≤ MAX_CALLERS) (sym own.1) m.few.1 in
     let more : w.shape.value.callers * MOST_WON ≤ MAX_CALLERS * MOST_WON = mul-le-mul_right MOST_WON few in omega arith
 
 pub plus_none : (n : ℕ) → n + 0 ≡ n

@@ -33,27 +33,27 @@ back_grows l callers (e ∷ h) w is =
 module _ {R : Type 0} where
   -- a map opens with what was won in the maps before it
   won_before : (k : Shape) (older : List (Epoch R)) → IsChain k older
-    → got_in k.callers (opening_world k) ≡ won_along older
+      → got_in k.callers (opening_world k) ≡ won_along older
   won_before k [] is = sum_below-none (opening_world k).won k.callers (λ c l. ap (λ (z : List ℕ). get_or z c 0) is.0)
   won_before k (last ∷ older) is =
       let on = is.0 in let before = won_before last.shape older is.1 in
       let grown = won_grows last.shape.layout last.shape.callers (events_of last.shape.layout last.history)
       (opening_world last.shape) on.lawful.happens in
       let same = sum_below-same (opening_world k).won (world_of last.shape last.history).won
-        last.shape.callers on.won in
+      last.shape.callers on.won in
       ap (λ (z : ℕ). got_in z (opening_world k)) on.callers
       ∙ (let e : got_in last.shape.callers (opening_world k) ≡ won_along (last ∷ older) = omega arith in e)
 
   -- and with what was given back in them
   back_before : (k : Shape) (older : List (Epoch R)) → IsChain k older
-    → back_in k.callers (opening_world k) ≡ back_along older
+      → back_in k.callers (opening_world k) ≡ back_along older
   back_before k [] is = sum_below-none (opening_world k).back k.callers (λ c l. ap (λ (z : List ℕ). get_or z c 0) is.1)
   back_before k (last ∷ older) is =
       let on = is.0 in let before = back_before last.shape older is.1 in
       let grown = back_grows last.shape.layout last.shape.callers (events_of last.shape.layout last.history)
       (opening_world last.shape) on.lawful.happens in
       let same = sum_below-same (opening_world k).back (world_of last.shape last.history).back
-        last.shape.callers on.back in
+      last.shape.callers on.back in
       ap (λ (z : ℕ). back_in z (opening_world k)) on.callers
       ∙ (let e : back_in last.shape.callers (opening_world k) ≡ back_along (last ∷ older) = omega arith in e)
 

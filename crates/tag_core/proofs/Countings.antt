@@ -25,6 +25,6 @@ count_allowed R k d id me s sh deep at _ = (
         let here : get_elem? s.views id ≡ some (viewing (r ∷ rs)) = at ∙ ap some e in
         let known = sh.records id (viewing (r ∷ rs)) here 0 r refl in
         subst (λ (z : Shape). length (r ∷ rs) ≤ z.callers) (sym known.0.shape)
-          (few_records k s sh id (viewing (r ∷ rs)) here),
+        (few_records k s sh id (viewing (r ∷ rs)) here),
   ),
 )

@@ -86,7 +86,7 @@ module _ {R : Type 0} where
   number_at (r ∷ rs) (suc n) = number_at rs n
 
   nth : (rs : List (Record R)) (n : ℕ) → n < length rs → (r : Record R) × (get_elem? rs n ≡ some r)
-    × (r.number ≡ number_at rs n)
+      × (r.number ≡ number_at rs n)
   nth [] n h = absurd (omega arith)
   nth (x ∷ rs) zero h = (x, refl, refl)
   nth (x ∷ rs) (suc n) h = nth rs n (omega arith)
@@ -147,7 +147,7 @@ module _ (k : Shape) where
   known_after event.Look q t d h e = inl e
   known_after (event.Win c i m) q t d h e =
       ⊎_elim inl (λ (z : held c ≡ held d). inr (same_holder c d k.callers h z))
-        (came (is_in_mask k.layout i m t) (held c) q d e)
+      (came (is_in_mask k.layout i m t) (held c) q d e)
   known_after (event.Put c u) q t d h e = ⊎_elim inl (λ (z : aside ≡ held d). absurd cc) (came (t == u) aside q d e)
   known_after (event.Give c i m) q t d h e =
       ⊎_elim inl (λ (z : free ≡ held d). absurd cc) (came (is_in_mask k.layout i m t) free q d e)
@@ -164,11 +164,11 @@ module _ (k : Shape) where
   known [] w start is t d e = start t d e
   known (x ∷ h) w start is t d e =
       ⊎_elim (known h w start is.1 t d) (λ z. z)
-        (known_after x ((after_history k.layout h w).place t) t d is.0.caller e)
+      (known_after x ((after_history k.layout h w).place t) t d is.0.caller e)
 
   -- the callers' bits of one place
   holders : (q : Place) → ((d : ℕ) → q ≡ held d → d < k.callers)
-    → sum_below (λ c. held_bit c q) k.callers ≡ one_if (is_held q)
+      → sum_below (λ c. held_bit c q) k.callers ≡ one_if (is_held q)
   holders free h = sum_below-none (λ c. 0) k.callers (λ c l. refl)
   holders (held d) h = sum_below-only (λ c. held_bit c (held d)) k.callers d (h d refl)
       (λ c l ne. ap one_if (ne_eqb d c (λ z. ne (sym z)))) ∙ ap one_if (eq-eqb d d refl)
@@ -178,11 +178,11 @@ module _ (k : Shape) where
 
   here_among : (i m t : ℕ) → t / 2 ^ k.layout.shift ≡ i → among k.layout.shift i m t ≡ bit_at m (t % 2 ^ k.layout.shift)
   here_among i m t e = ap (λ (b : Bool). cond b (bit_at m (t % 2 ^ k.layout.shift)) 0)
-    (eq-eqb (t / 2 ^ k.layout.shift) i e)
+      (eq-eqb (t / 2 ^ k.layout.shift) i e)
 
   else_among : (i m t : ℕ) → t / 2 ^ k.layout.shift ≢ i → among k.layout.shift i m t ≡ 0
   else_among i m t e = ap (λ (b : Bool). cond b (bit_at m (t % 2 ^ k.layout.shift)) 0)
-    (ne_eqb (t / 2 ^ k.layout.shift) i e)
+      (ne_eqb (t / 2 ^ k.layout.shift) i e)
 
   -- the bits of one mask for each word, counted by tags
   by_tags : (ms : List ℕ) → length ms ≡ words k.layout
@@ -203,7 +203,7 @@ module _ (k : Shape) where
       ∙ here_among (word_of k.layout t) (get_or ms (word_of k.layout t) 0) t refl)
 
   module _ {R : Type 0} (s : State R (View R)) (sh : Shown k s) (id : ℕ) (v : View R)
-    (at : get_elem? s.views id ≡ some v) where
+      (at : get_elem? s.views id ≡ some v) where
     each_once : (n : ℕ) → n < length v.records.value
         → (number_at v.records.value n < k.callers) × (sh.position (number_at v.records.value n) ≡ n)
     each_once n l =
@@ -236,7 +236,7 @@ module _ (k : Shape) where
 
       -- what is held
       pub held_all : total_of (λ (r : Record R). size_of r.held) v.records.value
-        ≡ held_in k.layout (world_of k sh.history)
+          ≡ held_in k.layout (world_of k sh.history)
       held_all = let w : World = world_of k sh.history in
           records_as (λ c. sum_below (λ t. held_bit c (w.place t)) k.layout.depth)
           (λ (r : Record R). size_of r.held) v.records.value
@@ -244,14 +244,14 @@ module _ (k : Shape) where
           ∙ sum_below-same (tag_bit k.layout r.held) (λ t. held_bit r.number (w.place t)) k.layout.depth
           (λ t l. sym (o.held t l)))
           ∙ perm_sum (λ c. sum_below (λ t. held_bit c (w.place t)) k.layout.depth)
-            (number_at v.records.value) sh.position
+          (number_at v.records.value) sh.position
           (length v.records.value) k.callers each_once all_there
           ∙ sym (sum_below-swap (λ c t. held_bit c (w.place t)) k.layout.depth k.callers)
           ∙ sum_below-same (λ t. sum_below (λ c. held_bit c (w.place t)) k.callers)
           (λ t. one_if (is_held (w.place t))) k.layout.depth
           (λ t l. holders (w.place t)
           (λ d e. known (events_of k.layout sh.history) (opening_world k) (λ t' d' e'. absurd cc)
-            sh.lawful.happens t d e))
+          sh.lawful.happens t d e))
 
     zero_or_one : (q : Place) → one_if (nat_eq (posted_bit q) 1) ≡ one_if (is_posted q)
     zero_or_one free = refl
@@ -263,7 +263,7 @@ module _ (k : Shape) where
     -- the states that are 1
     pub posted_all : sum_below
         (λ t. one_if (nat_eq (get_or s.words (state_at k.layout t) 0) 1)) k.layout.depth
-          ≡ posted_in k.layout (world_of k sh.history)
+        ≡ posted_in k.layout (world_of k sh.history)
     posted_all = sum_below-same (λ t. one_if (nat_eq (get_or s.words (state_at k.layout t) 0) 1))
         (λ t. one_if (is_posted ((world_of k sh.history).place t))) k.layout.depth
         (λ t l. ap (λ (z : ℕ). one_if (nat_eq z 1)) (sh.cells.state t l ∙ sym (sh.tags t l).posted)

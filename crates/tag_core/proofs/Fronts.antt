@@ -150,10 +150,10 @@ module _ (R : Type 0) (k : Shape) (id : ℕ) (me : Me R (View R)) (r : Record R)
   -- the table allows a load that brings a held tag's slot to the front
   pub front_allowed : Carries k.layout r.held me.1
       → Allows (Shown k) k.layout.depth id me (state_at k.layout u) (λ n. n)
-        (fronted (step k.layout.depth (state_at k.layout u) 0 0 none) me)
+      (fronted (step k.layout.depth (state_at k.layout u) 0 0 none) me)
   front_allowed carries s sh deep at _ =
       let go = fronts R k.layout.depth (tag_bit k.layout r.held) u lu has s.homes deep
-        (out_there s sh at) me.1 carries in
+      (out_there s sh at) me.1 carries in
       let shape = (ok s sh at).shape in (
         me.0,
         go.act,
@@ -165,13 +165,15 @@ module _ (R : Type 0) (k : Shape) (id : ℕ) (me : Me R (View R)) (r : Record R)
             × (map (λ y. y.0) slots ≡ tags_from (but (tag_bit x.1.shape.layout x.1.held) x.0) 0 x.1.shape.layout.depth)
             × ((t : ℕ) → t < x.1.shape.layout.depth → t ≢ x.0 → tag_bit x.1.shape.layout x.1.held t ≡ 1
             → value_of slots t ≡ value_of me.1 t))
-              (λ j. (same_state k r r' u u' shape (same_record r r' (sym mine ∙ er)) eu j,
-              same_record r r' (sym mine ∙ er) j))
+            (λ j. (
+              same_state k r r' u u' shape (same_record r r' (sym mine ∙ er)) eu j,
+              same_record r r' (sym mine ∙ er) j,
+            ))
             (subst (λ (z : Shape). (value : R) × (slots : List (ℕ × R)) × (me.0 ≡ me.0) ×
             (carried_after me.1 go.act ≡ (u, value) ∷ slots) × (value_of me.1 u ≡ some value)
             × (map (λ y. y.0) slots ≡ tags_from (but (tag_bit z.layout r.held) u) 0 z.layout.depth)
             × ((t : ℕ) → t < z.layout.depth → t ≢ u → tag_bit z.layout r.held t ≡ 1
-              → value_of slots t ≡ value_of me.1 t))
+            → value_of slots t ≡ value_of me.1 t))
             (sym shape) (go.value, go.slots, refl, go.list, go.was, go.tags, go.others)),
       )
 
@@ -179,12 +181,11 @@ module _ (R : Type 0) (k : Shape) (id : ℕ) (me : Me R (View R)) (r : Record R)
   pub order_allowed : (value : R) (slots : List (ℕ × R)) → me.1 ≡ (u, value) ∷ slots
       → map (λ x. x.0) slots ≡ tags_from (but (tag_bit k.layout r.held) u) 0 k.layout.depth
       → Allows (Shown k) k.layout.depth id me (state_at k.layout u) (λ n. n)
-        (ordered (step k.layout.depth (state_at k.layout u) 0 0 none) me)
+      (ordered (step k.layout.depth (state_at k.layout u) 0 0 none) me)
   order_allowed value slots list tags s sh deep at _ = let shape = (ok s sh at).shape in
       let go = subst (Order R k.layout.depth (tag_bit k.layout r.held) u lu has s.homes deep
       (out_there s sh at) value slots) (sym list)
-      (orders R k.layout.depth (tag_bit k.layout r.held) u lu has s.homes deep (out_there s sh at) value slots tags) in
-      (
+      (orders R k.layout.depth (tag_bit k.layout r.held) u lu has s.homes deep (out_there s sh at) value slots tags) in (
         me.0,
         go.act,
         go.valid,
@@ -197,13 +198,18 @@ module _ (R : Type 0) (k : Shape) (id : ℕ) (me : Me R (View R)) (r : Record R)
             (carried_after me.1 go.act) × (value_of (carried_after me.1 go.act) x.0 ≡ some x.2)
             × ((t : ℕ) → t < x.1.shape.layout.depth → t ≢ x.0 → tag_bit x.1.shape.layout x.1.held t ≡ 1
             → value_of (carried_after me.1 go.act) t ≡ value_of x.3 t))
-            (λ j. (same_state k r r' u u' shape (same_record r r' (sym mine ∙ er)) eu j, same_record r r' (sym mine
-              ∙ er) j, same_value j, same_slots j))
+            (λ j. (
+              same_state k r r' u u' shape (same_record r r' (sym mine ∙ er)) eu j,
+              same_record r r' (sym mine
+                  ∙ er) j,
+              same_value j,
+              same_slots j,
+            ))
             (subst (λ (z : Shape). (me.0 ≡ me.0) × Carries z.layout r.held (carried_after me.1 go.act) ×
             (value_of (carried_after me.1 go.act) u ≡ some value)
             × ((t : ℕ) → t < z.layout.depth → t ≢ u → tag_bit z.layout r.held t ≡ 1
             → value_of (carried_after me.1 go.act) t ≡ value_of slots t)) (sym shape)
-              (refl, go.tags, go.now, go.others)),
+            (refl, go.tags, go.now, go.others)),
       )
     where
       rest_of : List (ℕ × R) → List (ℕ × R)

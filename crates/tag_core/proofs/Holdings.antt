@@ -47,7 +47,7 @@ pub not_found : (k : Shape) → k.layout.shift ≤ 6 → (i m found t : ℕ) →
 not_found k narrow i m found t fits named taken = let one = among_one k.layout i (without m found) t named in
     dite (ℕ_discrete (t / 2 ^ k.layout.shift) i)
     (λ (e : t / 2 ^ k.layout.shift ≡ i). let b =
-      bit_minus m found (t % 2 ^ k.layout.shift) fits (place_small k narrow t) in
+    bit_minus m found (t % 2 ^ k.layout.shift) fits (place_small k narrow t) in
     let a = among_here k narrow i (without m found) t e in let f = taken e in omega arith)
     (λ (n : t / 2 ^ k.layout.shift ≢ i). let none = among_else k narrow i (without m found) t n in omega arith)
 

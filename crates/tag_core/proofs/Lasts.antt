@@ -15,7 +15,7 @@ module _ {A : Type 0} where
   -- what holds of each element holds of each but the last
   pub all_front : (P : A → Type 0) (xs : List A) (x : A) → All P (xs ++ x ∷ []) → All P xs
   all_front P xs x h k d l = subst P (get_front xs (x ∷ []) k d l) (h k d (let e = length-append xs (x ∷ []) in
-    omega arith))
+      omega arith))
 
   -- and of the last
   pub all_last : (P : A → Type 0) (xs : List A) (x : A) → All P (xs ++ x ∷ []) → P x

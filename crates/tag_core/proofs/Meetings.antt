@@ -41,14 +41,18 @@ module _ {R : Type 0} (k : Shape) (s : State R (View R)) (sh : Shown k s) (id : 
   -- no tag is in both held sets
   pub no_common_tag : AreApart k first second
   no_common_tag tag low in_first in_second =
-    one_holder ((world_of k sh.history).place tag) first.number second.number two_numbers
+      one_holder ((world_of k sh.history).place tag) first.number second.number two_numbers
       (first_stands.0.held tag low ∙ in_first)
       (second_stands.0.held tag low ∙ in_second)
 
   -- one history shows both
   pub one_history : ShareHistory k first second
-  one_history = record { history = sh.history; lawful = sh.lawful; first_known = first_stands.0;
-    second_known = second_stands.0 }
+  one_history = record {
+    history = sh.history;
+    lawful = sh.lawful;
+    first_known = first_stands.0;
+    second_known = second_stands.0;
+  }
 
   -- the first record knows the shape
   pub shape_of_first : k ≡ first.shape
@@ -67,8 +71,10 @@ meet_allowed R k slots id me s sh deep at _ = (
     λ first second e.
         let here : get_elem? s.views id ≡ some (viewing (first ∷ second ∷ [])) = at ∙ ap some e in
         subst (λ (z : Shape). (first.number ≢ second.number) × AreApart z first second × ShareHistory z first second)
-        (shape_of_first k s sh id first second here)
-        (two_numbers k s sh id first second here, no_common_tag k s sh id first second here,
-          one_history k s sh id first second here),
+        (shape_of_first k s sh id first second here) (
+          two_numbers k s sh id first second here,
+          no_common_tag k s sh id first second here,
+          one_history k s sh id first second here,
+        ),
   ),
 )

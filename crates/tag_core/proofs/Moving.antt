@@ -116,7 +116,7 @@ module _ (R : Type 0) (k : Shape) (s : State R (View R)) (sh : Shown k s) (r : R
   -- the slots move with the step's tags
   pub moved : Moved R f f' k.layout.depth s.homes cs
   moved = moves R f f' k.layout.depth s.homes cs (let e : length s.homes ≡ k.layout.depth = deep in
-    omega arith) carries was_home
+      omega arith) carries was_home
 
   slots_after : (t : ℕ) → t < k.layout.depth → SlotIs (get_elem? (homes_after s.homes cs moved.act) t) (p t)
   slots_after t l = dite (ℕ_discrete (f' t) 1)
@@ -124,12 +124,12 @@ module _ (R : Type 0) (k : Shape) (s : State R (View R)) (sh : Shown k s) (r : R
       (moved.out t l aye))
       (λ (non' : f' t ≢ 1). dite (ℕ_discrete (f t) 1)
       (λ (aye : f t ≡ 1). let w = moved.returned t l aye non' in
-        slot_some R _ (p t) (λ d e. dite (ℕ_discrete d r.number)
+      slot_some R _ (p t) (λ d e. dite (ℕ_discrete d r.number)
       (λ (same : d ≡ r.number). not_is t l non' (e ∙ ap held same))
       (λ (n : d ≢ r.number). n (two_holders d r.number (q t) (others t l d n e) (was_mine t l aye)))) (w.0, w.2))
       (λ (non : f t ≢ 1). subst (λ z. SlotIs z (p t)) (sym (moved.same t l non non')) (⊎_elim
       (λ (w : (d : ℕ) × (p t ≡ held d)). let n : w.0 ≢ r.number =
-        (λ (z : w.0 ≡ r.number). not_is t l non' (w.1 ∙ ap held z)) in
+      (λ (z : w.0 ≡ r.number). not_is t l non' (w.1 ∙ ap held z)) in
       subst (SlotIs (get_elem? s.homes t)) (others t l w.0 n w.1 ∙ sym w.1) (sh.slots t l))
       (λ (o : (d : ℕ) → p t ≢ held d). slot_some R _ (p t) o
       (home_of R _ (q t) (sh.slots t l) (λ d e. dite (ℕ_discrete d r.number)
@@ -180,11 +180,11 @@ module _ (R : Type 0) (k : Shape) (s : State R (View R)) (sh : Shown k s) (r : R
               ∙ ap (λ (z : List (ℕ × R)). value_of z t) (sym e));
           few_back = subst (λ (z : Shape). r.back + back_by (event_of z.layout r.number st) ≤ z.callers * MOST_WON) same
               (let few = back-history k.layout k.callers (events_of k.layout ((r.number, st) ∷ sh.history))
-                (opening_world k)
+              (opening_world k)
               (owed.needs, sh.lawful.happens) sh.opening.unspent (opening_even k sh.opening) r.number ok.number in
               let now = (own_counts k.layout r.number st (world_of k sh.history).back).1 in
               let before = ok.back in omega arith);
           shown = subst (λ (z : Shape). HasHistory z (record_after st r)) same
-            (seen_in R k _ (kept id at) id (record_after st r)
+              (seen_in R k _ (kept id at) id (record_after st r)
               (set_here s.views id (alone (record_after st r)) (within s.views id _ at)));
         }

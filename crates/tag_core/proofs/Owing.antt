@@ -50,12 +50,12 @@ module _ (R : Type 0) (k : Shape) (narrow : k.layout.shift ≤ 6) (s : State R (
       (word_in k.layout i h) in record {
         wide = length-set s.words (word_at i) x ∙ sh.cells.wide;
         word = λ j l. set_spread s.words word_at now_cells.words.word (words k.layout) i x word_at_one
-          inside sh.cells.word j l
+            inside sh.cells.word j l
             ∙ ap (λ (z : ℕ). changed_at now_cells.words.word i z j) same;
         aside = λ j l. get_or-set_other s.words (word_at i) (aside_at j) x 0 (λ e. word_no_aside i j (sym e))
             ∙ sh.cells.aside j l;
         state = λ t l. get_or-set_other s.words (word_at i) (state_at k.layout t) x 0
-          (λ e. word_no_state k.layout i t h (sym e))
+            (λ e. word_no_state k.layout i t h (sym e))
             ∙ sh.cells.state t l;
         word_within = changed_within k narrow now_cells.words.word i x' fits sh.cells.word_within;
         aside_within = sh.cells.aside_within;
@@ -74,7 +74,7 @@ module _ (R : Type 0) (k : Shape) (narrow : k.layout.shift ≤ 6) (s : State R (
             (words k.layout) i x aside_at_one inside sh.cells.aside j l
             ∙ ap (λ (z : ℕ). changed_at now_cells.words.aside i z j) same;
         state = λ t l. get_or-set_other s.words (aside_at i) (state_at k.layout t) x 0
-          (λ e. aside_no_state k.layout i t h (sym e))
+            (λ e. aside_no_state k.layout i t h (sym e))
             ∙ sh.cells.state t l;
         word_within = sh.cells.word_within;
         aside_within = changed_within k narrow now_cells.words.aside i x' fits sh.cells.aside_within;
@@ -88,11 +88,11 @@ module _ (R : Type 0) (k : Shape) (narrow : k.layout.shift ≤ 6) (s : State R (
       (state_in k.layout u h) in record {
         wide = length-set s.words (state_at k.layout u) x ∙ sh.cells.wide;
         word = λ j l. get_or-set_other s.words (state_at k.layout u) (word_at j) x 0 (word_no_state k.layout j u l)
-          ∙ sh.cells.word j l;
+            ∙ sh.cells.word j l;
         aside = λ j l. get_or-set_other s.words (state_at k.layout u) (aside_at j) x 0 (aside_no_state k.layout j u l)
-          ∙ sh.cells.aside j l;
+            ∙ sh.cells.aside j l;
         state = set_spread s.words (state_at k.layout) now_cells.state k.layout.depth u x
-          (state_at_one k.layout) inside sh.cells.state;
+            (state_at_one k.layout) inside sh.cells.state;
         word_within = sh.cells.word_within;
         aside_within = sh.cells.aside_within;
       }
@@ -100,7 +100,7 @@ module _ (R : Type 0) (k : Shape) (narrow : k.layout.shift ≤ 6) (s : State R (
   -- nobody has won too much yet
   unspent : (c : ℕ) → now_world.won c ≤ MOST_WON
   unspent = won-history k.layout k.callers (events_of k.layout sh.history)
-    (opening_world k) sh.lawful.happens sh.opening.unspent
+      (opening_world k) sh.lawful.happens sh.opening.unspent
 
   -- a step that wins nothing passes no limit
   pub none_more : (c : ℕ) → now_world.won c + 0 ≤ MOST_WON
@@ -130,7 +130,7 @@ module _ (R : Type 0) (k : Shape) (narrow : k.layout.shift ≤ 6) (s : State R (
 
     claim_tags : (t : ℕ) → t < k.layout.depth
         → Shows r.number (now_world.place t) (cond (is_in_mask k.layout i (without m n) t)
-          (held r.number) (now_world.place t))
+        (held r.number) (now_world.place t))
         (bit_at (changed_at now_cells.words.word i (bit_or (now_cells.words.word i) m) (t / 2 ^ k.layout.shift))
         (t % 2 ^ k.layout.shift))
         (bit_at (now_cells.words.aside (t / 2 ^ k.layout.shift)) (t % 2 ^ k.layout.shift)) (now_cells.state t)
@@ -154,7 +154,7 @@ module _ (R : Type 0) (k : Shape) (narrow : k.layout.shift ≤ 6) (s : State R (
         (ap (λ (z : ℕ). pick z (held c) q) (among_else k narrow i (without m n) t ne)
         ∙ pick_among k.layout i (without m n) t (held c) q)
         (tag.word ∙ changed_else k narrow now_cells.words.word i (bit_or (now_cells.words.word i) m) t ne) tag.aside
-          tag.posted
+        tag.posted
         (ok.held t l ∙ mask_else k narrow r.held i (bit_or (get_or r.held i 0) (without m n)) t ne) (ok.swept t l))
 
     -- a claim
@@ -172,7 +172,7 @@ module _ (R : Type 0) (k : Shape) (narrow : k.layout.shift ≤ 6) (s : State R (
             places = λ t l named. let a = among_one k.layout i (without m n) t named in
                 free_from (now_world.place t) (dite (ℕ_discrete (t / 2 ^ k.layout.shift) i)
                 (λ e. let one : min (bit_at m (t % 2 ^ k.layout.shift)) (1 - word_bit (now_world.place t)) ≡ 1 =
-                  new_bit t l e
+                new_bit t l e
                 ∙ among_here k narrow i (without m n) t e ∙ a in omega arith)
                 (λ ne. let none_there : 0 ≡ among k.layout.shift i (without m n) t = among_else k narrow i
                 (without m n) t ne in absurd (omega arith)));
@@ -233,7 +233,7 @@ module _ (R : Type 0) (k : Shape) (narrow : k.layout.shift ≤ 6) (s : State R (
               (pick_among k.layout i m t free q)
               (ap (λ (z : ℕ). min z (1 - among k.layout.shift i m t)) tag.word
               ∙ minus_bit k narrow now_cells.words.word i m t fits) tag.aside tag.posted
-                (held_minus i m t inside l fits)
+              (held_minus i m t inside l fits)
               (ok.swept t l);
         }
 
@@ -283,7 +283,7 @@ module _ (R : Type 0) (k : Shape) (narrow : k.layout.shift ≤ 6) (s : State R (
       let is : now_world.place t ≡ held r.number = held_from r.number (now_world.place t) (ok.held t l ∙ has) in
       let i : ℕ = word_of k.layout t in let inside = word_of-below k.layout t l in (
         ap (λ (z : ℕ). bit_at z (place_of k.layout t)) (sh.cells.word i inside)
-          ∙ sym (sh.tags t l).word ∙ ap word_bit is,
+            ∙ sym (sh.tags t l).word ∙ ap word_bit is,
         ap (λ (z : ℕ). bit_at z (place_of k.layout t)) (sh.cells.aside i inside)
-          ∙ sym (sh.tags t l).aside ∙ ap aside_bit is,
+            ∙ sym (sh.tags t l).aside ∙ ap aside_bit is,
       )

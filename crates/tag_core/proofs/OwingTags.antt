@@ -41,7 +41,7 @@ module _ (R : Type 0) (k : Shape) (narrow : k.layout.shift ≤ 6) (s : State R (
   -- ---- steps on one tag
 
   held_tag : (u t : ℕ) → tag_bit k.layout r.held u ≡ 1 → u < k.layout.depth → only t u ≡ 1
-    → now_world.place t ≡ held r.number
+      → now_world.place t ≡ held r.number
   held_tag u t has l a =
       subst (λ (z : ℕ). now_world.place z ≡ held r.number) (sym (only_is k narrow t u a))
       (held_from r.number (now_world.place u) (ok.held u l ∙ has))
@@ -49,7 +49,7 @@ module _ (R : Type 0) (k : Shape) (narrow : k.layout.shift ≤ 6) (s : State R (
   held_without : (u t : ℕ) → u < k.layout.depth → t < k.layout.depth
       → min (held_bit r.number (now_world.place t)) (1 - only t u) ≡ tag_bit k.layout
       (set r.held (u / 2 ^ k.layout.shift) (without (get_or r.held (u / 2 ^ k.layout.shift) 0)
-        (2 ^ (u % 2 ^ k.layout.shift)))) t
+      (2 ^ (u % 2 ^ k.layout.shift)))) t
   held_without u t lu l = ap (λ (z : ℕ). min (held_bit r.number (now_world.place t)) (1 - z)) (only_among k narrow u t)
       ∙ held_minus R k narrow s sh r ok (u / 2 ^ k.layout.shift) (2 ^ (u % 2 ^ k.layout.shift)) t
       (word_of-below k.layout u lu) l (tag_mask k narrow u)
@@ -57,10 +57,10 @@ module _ (R : Type 0) (k : Shape) (narrow : k.layout.shift ≤ 6) (s : State R (
   held_with : (u t : ℕ) → u < k.layout.depth → t < k.layout.depth
       → max (held_bit r.number (now_world.place t)) (only t u) ≡ tag_bit k.layout
       (set r.held (u / 2 ^ k.layout.shift) (bit_or (get_or r.held (u / 2 ^ k.layout.shift) 0)
-        (2 ^ (u % 2 ^ k.layout.shift)))) t
+      (2 ^ (u % 2 ^ k.layout.shift)))) t
   held_with u t lu l = ap (max (held_bit r.number (now_world.place t))) (only_among k narrow u t)
       ∙ held_or R k narrow s sh r ok (u / 2 ^ k.layout.shift) (2 ^ (u % 2 ^ k.layout.shift)) t
-        (word_of-below k.layout u lu) l
+      (word_of-below k.layout u lu) l
 
   -- a put of a held tag
   pub put_owed : (u : ℕ) → u < k.layout.depth → tag_bit k.layout r.held u ≡ 1
@@ -82,7 +82,7 @@ module _ (R : Type 0) (k : Shape) (narrow : k.layout.shift ≤ 6) (s : State R (
           caller = ok.number;
           unspent = none_more R k narrow s sh r ok r.number;
           places = λ t l is. held_tag u t has lu (only_one t u (sym (ap (λ (z : ℕ). nat_eq t z) (tag_named k narrow u))
-            ∙ is));
+              ∙ is));
         };
         cells = aside_cells R k narrow s sh r ok i (bit_or n m) x inside same
             (or_lt (word_depth k.layout i) (now_cells.words.aside i) m (sh.cells.aside_within i inside)
@@ -93,7 +93,7 @@ module _ (R : Type 0) (k : Shape) (narrow : k.layout.shift ≤ 6) (s : State R (
             (puts r.number q (only t u) (only_small k narrow t u) (held_tag u t has lu))
             (pick_only t u aside q ∙ ap (λ (z : ℕ). cond (nat_eq t z) aside q) (sym (tag_named k narrow u))) tag.word
             ((λ z. max (tag.aside z) (only_among k narrow u t z))
-              ∙ or_bit k narrow now_cells.words.aside i m t) tag.posted
+            ∙ or_bit k narrow now_cells.words.aside i m t) tag.posted
             (held_without u t lu l) (ok.swept t l);
       }
 
@@ -115,7 +115,7 @@ module _ (R : Type 0) (k : Shape) (narrow : k.layout.shift ≤ 6) (s : State R (
         let q : Place = now_world.place t in
         reshow r.number q _ _ _ _ _ _ _ _ _ _ _ _
         (posts r.number q (only t u) (only_small k narrow t u) (held_tag u t has lu))
-          (pick_only t u posted q) tag.word tag.aside
+        (pick_only t u posted q) tag.word tag.aside
         (dite (ℕ_discrete t u) (λ e. let one : only t u ≡ 1 = ap one_if (eq-eqb t u e) in let small = posted_small q in
         (let z : max (posted_bit q) (only t u) ≡ 1 = omega arith in z
         ∙ ap (λ (b : Bool). cond b 1 (now_cells.state t)) (sym (eq-eqb t u e))))
@@ -128,7 +128,7 @@ module _ (R : Type 0) (k : Shape) (narrow : k.layout.shift ≤ 6) (s : State R (
   -- a compare-exchange of 1 by 0 that found the state 1
   pub take_owed : (u f : ℕ) (y : R) → u < k.layout.depth → get_or s.words (state_at k.layout u) 0 ≡ suc f → f ≡ 0
       → last_post u sh.history ≡ some y
-        → Owed R k s sh r (Take u (suc f) (Some y)) (set s.words (state_at k.layout u) 0)
+      → Owed R k s sh r (Take u (suc f) (Some y)) (set s.words (state_at k.layout u) 0)
   take_owed u f y lu is one last = let shown : now_cells.state u ≡ suc f = sym (sh.cells.state u lu) ∙ is in
       let its : now_world.place u ≡ posted = posted_from (now_world.place u)
       ((sh.tags u lu).posted ∙ shown ∙ ap suc one) in record {
@@ -140,16 +140,16 @@ module _ (R : Type 0) (k : Shape) (narrow : k.layout.shift ≤ 6) (s : State R (
           unspent = none_more R k narrow s sh r ok r.number;
           places =
               λ t l is. subst (λ (z : ℕ). now_world.place z ≡ posted)
-                (sym (only_is k narrow t u (only_one t u is))) its;
+              (sym (only_is k narrow t u (only_one t u is))) its;
         };
         cells = state_cells R k narrow s sh r ok u 0 lu;
         tags = λ t l. let tag = sh.tags t l in let q : Place = now_world.place t in
-        reshow r.number q _ _ _ _ _ _ _ _ _ _ _ _
+            reshow r.number q _ _ _ _ _ _ _ _ _ _ _ _
             (takes r.number q (only t u) (only_small k narrow t u)
             (λ a. subst (λ (z : ℕ). now_world.place z ≡ posted) (sym (only_is k narrow t u a)) its))
             (pick_only t u (held r.number) q) tag.word tag.aside
             (dite (ℕ_discrete t u) (λ e. let one' : only t u ≡ 1 = ap one_if (eq-eqb t u e) in
-              let small = posted_small q in
+            let small = posted_small q in
             (let z : min (posted_bit q) (1 - only t u) ≡ 0 = omega arith in z
             ∙ ap (λ (b : Bool). cond b 0 (now_cells.state t)) (sym (eq-eqb t u e))))
             (λ n. let none_here : only t u ≡ 0 = ap one_if (ne_eqb t u n) in
@@ -185,11 +185,11 @@ module _ (R : Type 0) (k : Shape) (narrow : k.layout.shift ≤ 6) (s : State R (
             (gathers r.number q (only (t / 2 ^ k.layout.shift) i) (in_small k narrow t i))
             (pick_swept (t / 2 ^ k.layout.shift) i r.number q) tag.word
             (none_left k narrow now_cells.words.aside i t (aside_bit q) (aside_small q) tag.aside)
-              tag.posted (ok.held t l)
+            tag.posted (ok.held t l)
             ((λ z. max (ok.swept t l z)
             (among_as k narrow i f t (aside_bit q) (aside_small q)
             (λ e. (λ z. bit_at (found z) b) ∙ ap (λ (j : ℕ). bit_at (now_cells.words.aside j) b) (sym e)
-              ∙ sym tag.aside) z))
+            ∙ sym tag.aside) z))
             ∙ or_bit k narrow (λ j. get_or r.swept j 0) i f t ∙ list_bit k narrow r.swept i _ t (swept_long i inside));
       }
 
@@ -222,7 +222,7 @@ module _ (R : Type 0) (k : Shape) (narrow : k.layout.shift ≤ 6) (s : State R (
               ((λ z. min (tag.word z)
               (1 - among_as k narrow i mask t (sweep_bit c q) (sweep_small c q)
               (λ e. ap (λ (j : ℕ). bit_at (get_or r.swept j 0) (t % 2 ^ k.layout.shift)) (sym e)
-                ∙ sym (ok.swept t l)) z))
+              ∙ sym (ok.swept t l)) z))
               ∙ minus_bit k narrow now_cells.words.word i mask t fits)
               tag.aside tag.posted (ok.held t l)
               (none_left k narrow (λ j. get_or r.swept j 0) i t (sweep_bit c q) (sweep_small c q) (ok.swept t l)

@@ -34,7 +34,7 @@ pub starts : (k : Shape) → k.won_before.value.items ≡ [] → k.back_before.v
 starts k won back = record {
   unspent = λ c. subst (λ (z : List ℕ). get_or z c 0 ≤ MOST_WON) (sym won) (omega arith);
   even = sum_below-none (λ c. get_or k.won_before.value.items c 0) k.callers
-    (λ c l. ap (λ (z : List ℕ). get_or z c 0) won)
+      (λ c l. ap (λ (z : List ℕ). get_or z c 0) won)
       ∙ sym (sum_below-none (λ c. get_or k.back_before.value.items c 0) k.callers
       (λ c l. ap (λ (z : List ℕ). get_or z c 0) back));
 }
@@ -149,7 +149,7 @@ module _ (R : Type 0) (k : Shape) where
       (cond (nat_eq (sh.seat c) id) (sh.position c - 1) (sh.position c)) in
       let moved : (q : Record R) (j n j' n' : ℕ) → q.number ≢ r.number
       → cond (nat_eq (sh.seat q.number) id) (sh.position q.number - 1) (sh.position q.number) ≡ n'
-        → sh.seat q.number ≡ j'
+      → sh.seat q.number ≡ j'
       → (seat' q.number ≡ j') × (position' q.number ≡ n')
       = (λ q j n j' n' far ep es. (
         ap (λ (b : Bool). cond b (length vs) (sh.seat q.number)) (ne_eqb q.number r.number far) ∙ es,
@@ -170,9 +170,9 @@ module _ (R : Type 0) (k : Shape) where
             (λ (old : get_elem? vs j ≡ some v'). ⊎_elim
             (λ (t : (j ≡ id) × (viewing rs ≡ v')).
             let o = sh.records id (viewing (r ∷ rs)) here (suc n) q
-              (ap (λ (z : View R). get_elem? z.records.value n) t.1 ∙ e') in
+            (ap (λ (z : View R). get_elem? z.records.value n) t.1 ∙ e') in
             let far : q.number ≢ r.number = (λ z. let p = sym o.2 ∙ ap sh.position z ∙ first.2 in
-              absurd (omega arith)) in
+            absurd (omega arith)) in
             let p = o.2 in let less : sh.position q.number - 1 ≡ n = omega arith in
             let m = moved q j n j n far
             (ap (λ (b : Bool). cond b (sh.position q.number - 1) (sh.position q.number))
@@ -204,13 +204,13 @@ module _ (R : Type 0) (k : Shape) where
 
   -- the other's records stand behind those of the first
   pub joins : (id : ℕ) (v : View R) (other : ℕ) (w : View R)
-    → Joins (Shown k) id v other w (both_views v w) (viewing [])
+      → Joins (Shown k) id v other w (both_views v w) (viewing [])
   joins id v other w s sh at apart there =
       let both : View R = both_views v w in let vs : List (View R) = set s.views id both in
       let that : get_elem? s.views other ≡ some w = sym (set_else s.views id other both apart) ∙ there in
       let seat' : ℕ → ℕ = λ c. cond (nat_eq (sh.seat c) other) id (sh.seat c) in
       let position' : ℕ → ℕ = λ c. cond (nat_eq (sh.seat c) other) (length v.records.value + sh.position c)
-        (sh.position c) in
+      (sh.position c) in
       let stays : (q : Record R) (j n : ℕ) → j ≢ other → sh.seat q.number ≡ j → sh.position q.number ≡ n
       → (seat' q.number ≡ j) × (position' q.number ≡ n) =
       (λ q j n far es ep. (

@@ -33,7 +33,7 @@ use Rattle.tag_core.proofs.Seats.{within}
 module _ {R : Type 0} where
   -- no history but that of no steps shows that nobody has made a step
   none_done : (k : Shape) (rs : List (Record R))
-    → ((c : ℕ) → c < k.callers → ¬ (¬ ((i : ℕ) × (r : Record R) × (get_elem? rs i ≡ some r) × (r.number ≡ c))))
+      → ((c : ℕ) → c < k.callers → ¬ (¬ ((i : ℕ) × (r : Record R) × (get_elem? rs i ≡ some r) × (r.number ≡ c))))
       → ((i : ℕ) (r : Record R) → get_elem? rs i ≡ some r → r.steps ≡ []) → AllFree k rs
   none_done k rs all none [] lawful own tag = refl
   none_done k rs all none (x ∷ older) lawful own tag = absurd (all x.0 lawful.finds.0
@@ -87,7 +87,7 @@ module _ {R : Type 0} (k : Shape) (callers : List (Caller R)) (totals : Totals) 
 
       -- as many were given back as were won, where nothing is held or posted
       even_of : totals.held ≡ 0 → totals.posted ≡ 0
-        → got_in k.callers (opening_world next) ≡ back_in k.callers (opening_world next)
+          → got_in k.callers (opening_world next) ≡ back_in k.callers (opening_world next)
       even_of no_held no_posted =
           let got = sum_below-same (opening_world next).won (world_of k known.history).won k.callers won_at in
           let back = sum_below-same (opening_world next).back (world_of k known.history).back k.callers back_at in

@@ -95,7 +95,7 @@ module _ (R : Type 0) (n : ℕ) (views : List (View R)) (seat position : ℕ →
       dite (ℕ_discrete (seat c) id)
       (λ (es : seat c ≡ id).
       let one : viewing (r ∷ rs) ≡ w.0 = some-injective (viewing (r ∷ rs)) w.0 (sym at
-        ∙ ap (get_elem? views) (sym es) ∙ w.2) in
+      ∙ ap (get_elem? views) (sym es) ∙ w.2) in
       let q = behind (position c) r rs w.1 (λ z. ne (sym w.4 ∙ ap (λ (x : Record R). x.number) (sym z)))
       (ap (λ (z : View R). get_elem? z.records.value (position c)) one ∙ w.3) in (
         viewing rs,
@@ -104,7 +104,7 @@ module _ (R : Type 0) (n : ℕ) (views : List (View R)) (seat position : ℕ →
             ∙ at_longer vs (alone r ∷ []) id (viewing rs)
             (set_here views id (viewing rs) (within views id (viewing (r ∷ rs)) at)),
         ap (get_elem? rs) (place_is ∙ ap (λ (b : Bool). cond b (position c - 1) (position c)) (eq-eqb (seat c) id es))
-          ∙ q,
+            ∙ q,
         w.4,
       ))
       (λ (far : seat c ≢ id). (
@@ -138,7 +138,7 @@ module _ (R : Type 0) (n : ℕ) (views : List (View R)) (seat position : ℕ →
         both,
         x.1,
         ap (λ (b : Bool). get_elem? (set vs other (viewing [])) (cond b id (seat c))) (eq-eqb (seat c) other es)
-          ∙ there,
+            ∙ there,
         ap (λ (b : Bool). get_elem? (v.records.value ++ w.records.value)
             (cond b (length v.records.value + position c) (position c))) (eq-eqb (seat c) other es)
             ∙ append_second v.records.value w.records.value (position c)

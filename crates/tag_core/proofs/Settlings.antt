@@ -41,7 +41,7 @@ module _ {R : Type 0} (k : Shape) (s : State R (View R)) (sh : Shown k s) (id : 
         lawful = sh.lawful;
         each = λ i r e. (sh.records id v at i r e).0;
         once = λ i j r q e f same. sym (sh.records id v at i r e).2 ∙ ap sh.position same
-          ∙ (sh.records id v at j q f).2;
+            ∙ (sh.records id v at j q f).2;
         every = all;
         few = few_records k s sh id v at;
         got = refl;
@@ -64,7 +64,7 @@ settle_allowed R k d id me s sh deep at _ = (
     λ r e.
         let is : r.shape ≡ k = (sh.records id me.0 at 0 r e).0.shape in
         subst (λ (z : Shape). HasRecords z.callers me.0.records.value → (totals : Totals)
-          × AreSettled z me.0.records.value totals)
+        × AreSettled z me.0.records.value totals)
         (sym is) (λ all. (totals_there k s sh id me.0 at all, settled_there k s sh id me.0 at all)),
   ),
 )
@@ -99,7 +99,7 @@ module _ {R : Type 0} where
 
   -- callers that are as they were have the records that they had
   pub unchanged-records : (olds news : List (Caller R)) → AreUnchanged olds news
-    → map record_of news ≡ map record_of olds
+      → map record_of news ≡ map record_of olds
   unchanged-records [] [] same = refl
   unchanged-records [] (b ∷ news) same = let e = same.count in absurd (omega arith)
   unchanged-records (a ∷ olds) [] same = let e = same.count in absurd (omega arith)
@@ -115,6 +115,10 @@ module _ {R : Type 0} where
       let a = known.got in let b = known.back in let d = known.held in let even = known.balance in
       let same_got : t.got ≡ u.got = omega arith in let same_back : t.back ≡ u.back = omega arith in
       let same_held : t.held ≡ u.held = omega arith in let same_posted : t.posted ≡ u.posted = omega arith in
-      subst (AreSettled k rs) (λ j. record { got = same_got j; back = same_back j; held = same_held j;
-        posted = same_posted j })
+      subst (AreSettled k rs) (λ j. record {
+        got = same_got j;
+        back = same_back j;
+        held = same_held j;
+        posted = same_posted j;
+      })
       known

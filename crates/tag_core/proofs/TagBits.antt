@@ -31,14 +31,14 @@ module _ (k : Shape) (narrow : k.layout.shift ≤ 6) where
 
   -- bit of a mask at a tag in its word, and in another
   pub among_here : (i m t : ℕ) → t / 2 ^ k.layout.shift ≡ i
-    → bit_at m (t % 2 ^ k.layout.shift) ≡ among k.layout.shift i m t
+      → bit_at m (t % 2 ^ k.layout.shift) ≡ among k.layout.shift i m t
   among_here i m t e = ap (λ (b : Bool). cond b (bit_at m (t % 2 ^ k.layout.shift)) 0)
-    (sym (eq-eqb (t / 2 ^ k.layout.shift) i e))
+      (sym (eq-eqb (t / 2 ^ k.layout.shift) i e))
 
   -- and in another word
   pub among_else : (i m t : ℕ) → t / 2 ^ k.layout.shift ≢ i → 0 ≡ among k.layout.shift i m t
   among_else i m t e = ap (λ (b : Bool). cond b (bit_at m (t % 2 ^ k.layout.shift)) 0)
-    (sym (ne_eqb (t / 2 ^ k.layout.shift) i e))
+      (sym (ne_eqb (t / 2 ^ k.layout.shift) i e))
 
   -- a tag's bit in the word that was changed
   pub changed_here : (g : ℕ → ℕ) (i x t : ℕ) → t / 2 ^ k.layout.shift ≡ i
@@ -50,7 +50,7 @@ module _ (k : Shape) (narrow : k.layout.shift ≤ 6) where
   -- and in another word
   pub changed_else : (g : ℕ → ℕ) (i x t : ℕ) → t / 2 ^ k.layout.shift ≢ i
       → bit_at (g (t / 2 ^ k.layout.shift)) (t % 2 ^ k.layout.shift)
-        ≡ bit_at (changed_at g i x (t / 2 ^ k.layout.shift))
+      ≡ bit_at (changed_at g i x (t / 2 ^ k.layout.shift))
       (t % 2 ^ k.layout.shift)
   changed_else g i x t e =
       ap (λ (b : Bool). bit_at (cond b x (g (t / 2 ^ k.layout.shift))) (t % 2 ^ k.layout.shift))
@@ -65,7 +65,7 @@ module _ (k : Shape) (narrow : k.layout.shift ≤ 6) where
 
   -- and where another word's was
   pub mask_else : (l : List ℕ) (i x t : ℕ) → t / 2 ^ k.layout.shift ≢ i
-    → tag_bit k.layout l t ≡ tag_bit k.layout (set l i x) t
+      → tag_bit k.layout l t ≡ tag_bit k.layout (set l i x) t
   mask_else l i x t e =
       ap (λ (z : ℕ). bit_at z (t % 2 ^ k.layout.shift)) (sym (get_or-set_other l i (t / 2 ^ k.layout.shift) x 0 e))
 
@@ -117,7 +117,7 @@ module _ (k : Shape) (narrow : k.layout.shift ≤ 6) where
   -- the bit of one tag is its bit in a mask of it alone
   pub only_among : (u t : ℕ) → only t u ≡ among k.layout.shift (u / 2 ^ k.layout.shift) (2 ^ (u % 2 ^ k.layout.shift)) t
   only_among u t = let p : ℕ = 2 ^ k.layout.shift in let i : ℕ = u / p in
-    let m : ℕ = 2 ^ (u % p) in dite (ℕ_discrete t u)
+      let m : ℕ = 2 ^ (u % p) in dite (ℕ_discrete t u)
       (λ e. ap one_if (eq-eqb t u e) ∙ sym (ap (bit_at m) (ap (λ (z : ℕ). z % p) e) ∙ bit_at-pow_same (u % p))
       ∙ among_here i m t (ap (λ (z : ℕ). z / p) e))
       (λ n. ap one_if (ne_eqb t u n) ∙ dite (ℕ_discrete (t / p) i)
@@ -136,12 +136,12 @@ module _ (k : Shape) (narrow : k.layout.shift ≤ 6) where
   -- it is 1 at that tag alone
   pub only_is : (t u : ℕ) → only t u ≡ 1 → t ≡ u
   only_is t u e = dite (ℕ_discrete t u) (λ z. z) (λ n. let z : only t u ≡ 0 = ap one_if (ne_eqb t u n) in
-    absurd (omega arith))
+      absurd (omega arith))
 
   -- the tag that a put's mask names
   pub tag_named : (u : ℕ) → tag_at k.layout (word_of k.layout u) (trailing_zeros w64 (2 ^ place_of k.layout u)) ≡ u
   tag_named u = let p : ℕ = place_of k.layout u in
-    let low = bit_at-trailing_zeros w64 (2 ^ p) (pow_pos p) (tag_mask u) in
+      let low = bit_at-trailing_zeros w64 (2 ^ p) (pow_pos p) (tag_mask u) in
       let is : trailing_zeros w64 (2 ^ p) ≡ p = dite (ℕ_discrete p (trailing_zeros w64 (2 ^ p))) (λ e. sym e)
       (λ ne. let none_there = bit_at-pow_other p (trailing_zeros w64 (2 ^ p)) (λ e. ne (sym e)) in
       let one = low.1 in absurd (omega arith)) in
@@ -170,7 +170,7 @@ module _ (k : Shape) (narrow : k.layout.shift ≤ 6) where
   -- a mask that is emptied
   pub none_left : (g : ℕ → ℕ) (i t y : ℕ) → y < 2 → y ≡ bit_at (g (t / 2 ^ k.layout.shift)) (t % 2 ^ k.layout.shift)
       → min y (1 - only (t / 2 ^ k.layout.shift) i) ≡ bit_at (changed_at g i 0 (t / 2 ^ k.layout.shift))
-        (t % 2 ^ k.layout.shift)
+      (t % 2 ^ k.layout.shift)
   none_left g i t y h is = dite (ℕ_discrete (t / 2 ^ k.layout.shift) i)
       (λ e. let o = in_word t i e in
       let z : min y (1 - only (t / 2 ^ k.layout.shift) i) ≡ 0 = omega arith in z

@@ -105,7 +105,7 @@ claims c q (suc (suc x)) h = absurd (omega arith)
 -- bit x of a mask of held tags that are given back
 pub gives : (c : ℕ) (q : Place) (x : ℕ) → x < 2 → (x ≡ 1 → q ≡ held c) →
     Shows c q (pick x free q) (min (word_bit q) (1 - x)) (aside_bit q) (posted_bit q)
-      (min (held_bit c q) (1 - x)) (sweep_bit c q)
+    (min (held_bit c q) (1 - x)) (sweep_bit c q)
 gives c q zero h mine =
     record {
       word = omega (arith, word_small q);
@@ -158,7 +158,7 @@ pub held_from : (c : ℕ) (q : Place) → held_bit c q ≡ 1 → q ≡ held c
 held_from c free e = absurd (omega arith)
 held_from c (held d) e =
     dite (ℕ_discrete d c) (ap held) (λ n. let z : one_if (nat_eq d c) ≡ 0 = ap one_if (ne_eqb d c n) in
-      absurd (omega arith))
+    absurd (omega arith))
 held_from c posted e = absurd (omega arith)
 held_from c aside e = absurd (omega arith)
 held_from c (sweep d) e = absurd (omega arith)
@@ -191,13 +191,20 @@ sweep_small a (sweep c) = one_small (nat_eq c a)
 pub unchanged : (c : ℕ) (q : Place) (w a s h v : ℕ) → word_bit q ≡ w → aside_bit q ≡ a → posted_bit q ≡ s
     → held_bit c q ≡ h → sweep_bit c q ≡ v → Shows c q q w a s h v
 unchanged c q w a s h v ew ea es eh ev =
-    record { word = ew; aside = ea; posted = es; held = eh; swept = ev; others_hold = λ b n. refl;
-      others_sweep = λ b n. refl }
+    record {
+      word = ew;
+      aside = ea;
+      posted = es;
+      held = eh;
+      swept = ev;
+      others_hold = λ b n. refl;
+      others_sweep = λ b n. refl;
+    }
 
 -- a held tag is set aside
 pub puts : (c : ℕ) (q : Place) (x : ℕ) → x < 2 → (x ≡ 1 → q ≡ held c)
     → Shows c q (pick x aside q) (word_bit q) (max (aside_bit q) x) (posted_bit q)
-      (min (held_bit c q) (1 - x)) (sweep_bit c q)
+    (min (held_bit c q) (1 - x)) (sweep_bit c q)
 puts c q zero h mine = unchanged c q _ _ _ _ _ refl (omega arith) refl (omega (arith, held_small c q)) refl
 puts c q (suc zero) h mine = let e = sym (mine refl) in
     subst (λ (q : Place). Shows c q aside (word_bit q) (max (aside_bit q) 1) (posted_bit q) (min (held_bit c q) 0)
@@ -217,7 +224,7 @@ puts c q (suc (suc x)) h mine = absurd (omega arith)
 -- a held tag is posted
 pub posts : (c : ℕ) (q : Place) (x : ℕ) → x < 2 → (x ≡ 1 → q ≡ held c)
     → Shows c q (pick x posted q) (word_bit q) (aside_bit q) (max (posted_bit q) x)
-      (min (held_bit c q) (1 - x)) (sweep_bit c q)
+    (min (held_bit c q) (1 - x)) (sweep_bit c q)
 posts c q zero h mine = unchanged c q _ _ _ _ _ refl refl (omega arith) (omega (arith, held_small c q)) refl
 posts c q (suc zero) h mine = let e = sym (mine refl) in
     subst (λ (q : Place). Shows c q posted (word_bit q) (aside_bit q) (max (posted_bit q) 1) (min (held_bit c q) 0)
@@ -237,7 +244,7 @@ posts c q (suc (suc x)) h mine = absurd (omega arith)
 -- a posted tag is taken
 pub takes : (c : ℕ) (q : Place) (x : ℕ) → x < 2 → (x ≡ 1 → q ≡ posted)
     → Shows c q (pick x (held c) q) (word_bit q) (aside_bit q) (min (posted_bit q) (1 - x))
-      (max (held_bit c q) x) (sweep_bit c q)
+    (max (held_bit c q) x) (sweep_bit c q)
 takes c q zero h its = unchanged c q _ _ _ _ _ refl refl (omega (arith, posted_small q)) (omega arith) refl
 takes c q (suc zero) h its = let e = sym (its refl) in
     subst (λ (q : Place). Shows c q (held c) (word_bit q) (aside_bit q) (min (posted_bit q) 0) (max (held_bit c q) 1)

@@ -25,12 +25,12 @@ module _ (l : Layout) where
       (λ e. subst (λ (z : ℕ). get_or (set m i x) z 0 < 2 ^ word_depth l z) (sym e)
       (let low : i < words l = subst (λ (z : ℕ). z < words l) e h in
       subst (λ (z : ℕ). z < 2 ^ word_depth l i)
-        (sym (get_or-set_same m i x 0 (subst (λ (z : ℕ). i < z) (sym long) low)))
+      (sym (get_or-set_same m i x 0 (subst (λ (z : ℕ). i < z) (sym long) low)))
       (new low)))
       (λ n. subst (λ (z : ℕ). z < 2 ^ word_depth l j) (sym (get_or-set_other m i j x 0 n)) (fits j h))
 
   parted_within : (m : List ℕ) (i x : ℕ) → length m ≡ words l → AllWithin m
-    → AllWithin (set m i (without (get_or m i 0) x))
+      → AllWithin (set m i (without (get_or m i 0) x))
   parted_within m i x long fits =
       set_within m i (without (get_or m i 0) x) long fits
       (λ h. let a = minus_le (get_or m i 0) x in let b = fits i h in omega arith)

@@ -40,7 +40,7 @@ Holds caller tag = (tag < caller.shape.value.layout.depth)
 abbrev pub HaveOwnNumbers : {R : Type 0} → List (Caller R) → Type 0
 HaveOwnNumbers {R} callers =
     (i j : ℕ) (a b : Caller R) → get_elem? callers i ≡ some a → get_elem? callers j ≡ some b
-      → a.number ≡ b.number → i ≡ j
+    → a.number ≡ b.number → i ≡ j
 
 -- the value of the slot of a tag that the caller holds
 abbrev pub slot_of : {R : Type 0} → Caller R → ℕ → maybe.Option R

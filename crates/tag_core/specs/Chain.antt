@@ -44,6 +44,6 @@ back_along {R} epochs = total_of (λ (e : Epoch R). total_of back_by (events_of 
 pub record CountsChain {R : Type 0} (k : Shape) (h : History R) (totals : Totals) : Type 0 where
   pub leads : HasChain R k
   pub got : (older : List (Epoch R)) → IsChain k older
-    → totals.got ≡ won_along (record { shape = k; history = h } ∷ older)
+      → totals.got ≡ won_along (record { shape = k; history = h } ∷ older)
   pub back : (older : List (Epoch R)) → IsChain k older
-    → totals.back ≡ back_along (record { shape = k; history = h } ∷ older)
+      → totals.back ≡ back_along (record { shape = k; history = h } ∷ older)

@@ -83,7 +83,7 @@ module _ {R : Type 0} (st : table.Step R) (me : Me R (View R)) (found : ℕ) (me
   abbrev pub posted : Type 0
   posted =
       (tag : ℕ) (value : R) (r : Record R) → st.word ≡ state_at r.shape.layout tag
-        → value_of me.1 tag ≡ some value → me.0 ≡ alone r
+      → value_of me.1 tag ≡ some value → me.0 ≡ alone r
       → Stepped (Post tag value) r me me'
 
   -- an exchange of a state's 1 for 0: where it was 1, the slot that came has the value of the tag's last Post, and
@@ -102,7 +102,7 @@ module _ {R : Type 0} (st : table.Step R) (me : Me R (View R)) (found : ℕ) (me
       (tag : ℕ) (r : Record R) → st.word ≡ state_at r.shape.layout tag → me.0 ≡ alone r
       → tag < r.shape.layout.depth → tag_bit r.shape.layout r.held tag ≡ 1
       → (value : R) × (slots : List (ℕ × R)) × (me'.0 ≡ me.0) × (me'.1 ≡ (tag, value) ∷ slots)
-        × (value_of me.1 tag ≡ some value)
+      × (value_of me.1 tag ≡ some value)
       × (map (λ x. x.0) slots ≡ tags_from (but (tag_bit r.shape.layout r.held) tag) 0 r.shape.layout.depth)
       × ((other : ℕ) → other < r.shape.layout.depth → other ≢ tag → tag_bit r.shape.layout r.held other ≡ 1
       → value_of slots other ≡ value_of me.1 other)
@@ -111,7 +111,7 @@ module _ {R : Type 0} (st : table.Step R) (me : Me R (View R)) (found : ℕ) (me
   abbrev pub ordered : Type 0
   ordered =
       (tag : ℕ) (value : R) (slots : List (ℕ × R)) (r : Record R)
-        → st.word ≡ state_at r.shape.layout tag → me.0 ≡ alone r
+      → st.word ≡ state_at r.shape.layout tag → me.0 ≡ alone r
       → me.1 ≡ (tag, value) ∷ slots
       → map (λ x. x.0) slots ≡ tags_from (but (tag_bit r.shape.layout r.held) tag) 0 r.shape.layout.depth
       → tag_bit r.shape.layout r.held tag ≡ 1
@@ -122,7 +122,7 @@ module _ {R : Type 0} (st : table.Step R) (me : Me R (View R)) (found : ℕ) (me
   -- a load by a seat that has several callers' records: there are no more than the map has callers
   abbrev pub counted : Type 0
   counted = (me' ≡ me) × ((r : Record R) (rs : List (Record R)) → me.0 ≡ viewing (r ∷ rs)
-    → length (r ∷ rs) ≤ r.shape.callers)
+      → length (r ∷ rs) ≤ r.shape.callers)
 
   -- a load by a seat that has two callers' records: they are of two callers, who hold no tag in common, in one history
   abbrev pub met : Type 0

@@ -52,9 +52,9 @@ pub record IsKnown {R : Type 0} (k : Shape) (h : History R) (r : Record R) : Typ
   pub swept_wide : length r.swept ≡ words k.layout
   pub within : (i : ℕ) → i < words k.layout → IsWithin k.layout i (slice_index r.held i)
   pub held : (tag : ℕ) → tag < k.layout.depth
-    → held_bit r.number ((world_of k h).place tag) ≡ tag_bit k.layout r.held tag
+      → held_bit r.number ((world_of k h).place tag) ≡ tag_bit k.layout r.held tag
   pub swept : (tag : ℕ) → tag < k.layout.depth
-    → sweep_bit r.number ((world_of k h).place tag) ≡ tag_bit k.layout r.swept tag
+      → sweep_bit r.number ((world_of k h).place tag) ≡ tag_bit k.layout r.swept tag
   pub won : r.won ≡ (world_of k h).won r.number
   pub back : r.back ≡ (world_of k h).back r.number
   pub steps : r.steps ≡ steps_by r.number h
@@ -82,6 +82,6 @@ pub record Shown {R : Type 0} (k : Shape) (s : State R (View R)) : Type 0 where
   pub position : ℕ → ℕ
   pub records :
       (j : ℕ) (v : View R) → get_elem? s.views j ≡ some v → (n : ℕ) (r : Record R)
-        → get_elem? v.records.value n ≡ some r
+      → get_elem? v.records.value n ≡ some r
       → IsKnown k history r × (seat r.number ≡ j) × (position r.number ≡ n)
   pub each : EachStands k.callers s.views seat position

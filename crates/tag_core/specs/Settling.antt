@@ -21,7 +21,7 @@ pub record AreSettled {R : Type 0} (k : Shape) (rs : List (Record R)) (totals : 
   pub lawful : IsLawful k history
   pub each : (i : ℕ) (r : Record R) → get_elem? rs i ≡ some r → IsKnown k history r
   pub once : (i j : ℕ) (r q : Record R) → get_elem? rs i ≡ some r → get_elem? rs j ≡ some q
-    → r.number ≡ q.number → i ≡ j
+      → r.number ≡ q.number → i ≡ j
   pub every : HasRecords k.callers rs
   pub few : length rs ≤ k.callers
   pub got : totals.got ≡ total_of (λ (r : Record R). r.won) rs

@@ -14,7 +14,7 @@ pub word-start : (l : Layout) (word : ℕ) → word < words l → word * word_bi
 word-start l word h =
     let p : ℕ = word_bits l in let pos : 0 < p = word_bits-pos l in
     let whole : (l.depth + p - 1) / p * p + (l.depth + p - 1) % p ≡ l.depth + p - 1 =
-      div-add-mod' (l.depth + p - 1) p in
+    div-add-mod' (l.depth + p - 1) p in
     let next : suc word * p ≤ words l * p = mul-le-mul_right p h in omega arith
 
 -- a word that begins before the depth
@@ -28,7 +28,7 @@ pub depth-le-words : (l : Layout) → l.depth ≤ words l * word_bits l
 depth-le-words l =
     let p : ℕ = word_bits l in let pos : 0 < p = word_bits-pos l in
     let whole : (l.depth + p - 1) / p * p + (l.depth + p - 1) % p ≡ l.depth + p - 1 =
-      div-add-mod' (l.depth + p - 1) p in
+    div-add-mod' (l.depth + p - 1) p in
     let rest : (l.depth + p - 1) % p < p = mod_below (l.depth + p - 1) p pos in omega arith
 
 -- a tag is where its word and its place say
@@ -41,7 +41,7 @@ word_of-below l tag h = let is = tag_at-back l tag in word-below l (word_of l ta
 pub place_of-below : (l : Layout) (tag : ℕ) → tag < l.depth → place_of l tag < word_depth l (word_of l tag)
 place_of-below l tag h =
     let is = tag_at-back l tag in let low : place_of l tag < word_bits l =
-      mod_below tag (word_bits l) (word_bits-pos l) in omega arith
+    mod_below tag (word_bits l) (word_bits-pos l) in omega arith
 
 pub word_of-tag_at : (l : Layout) (word place : ℕ) → place < word_bits l → word_of l (tag_at l word place) ≡ word
 word_of-tag_at l word place h = div-mul-add word (word_bits l) place h

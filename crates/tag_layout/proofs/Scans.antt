@@ -28,7 +28,7 @@ module _ (word from limit : ℕ) (fits : word < 2 ^ 64) (start : from < limit) (
 
   -- no place below the lowest 1 is clear
   set_below : (place : ℕ) → from ≤ place → place < from + lowest → place < 64 → bit_at clear_bits (place - from) ≡ 0
-    → bit_at word place ≡ 1
+      → bit_at word place ≡ 1
   set_below place h1 h2 h3 none =
       let k : ℕ = place - from in let e : from + k ≡ place = omega arith in
       let bit = clear_bit k (omega arith) in
@@ -63,4 +63,4 @@ module _ (word from limit : ℕ) (fits : word < 2 ^ 64) (start : from < limit) (
       let zero_bits : clear_bits ≡ 0 = omega arith in
       let all : lowest ≡ 64 = ap (trailing_zeros w64) zero_bits in
       set_below place h1 (omega arith) (omega arith) (ap (λ n. bit_at n (place - from)) zero_bits
-        ∙ bit_at-zero (place - from)))
+      ∙ bit_at-zero (place - from)))

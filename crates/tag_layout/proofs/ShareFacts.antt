@@ -14,7 +14,7 @@ div-is n d q pos low high =
     let whole : n / d * d + n % d ≡ n = div-add-mod' n d in let rest : n % d < d = mod_below n d pos in
     let at_least : q ≤ n / d = le-div q n d pos low in
     let at_most : n / d < suc q = dite (dec_lt (n / d) (suc q)) (λ h. h) (λ no. let over : suc q * d ≤ n / d * d =
-      mul-le-mul_right d (omega arith) in absurd (omega arith)) in
+    mul-le-mul_right d (omega arith) in absurd (omega arith)) in
     omega arith
 
 pub div-le-div : (m n d : ℕ) → 0 < d → m ≤ n → m / d ≤ n / d
@@ -24,7 +24,7 @@ module _ (l : Layout) (s : ℕ) where
   -- more tags have no smaller share
   pub share-mono : (a b : ℕ) → 0 < l.depth → a ≤ b → share l s a ≤ share l s b
   share-mono a b pos h = div-le-div (min s l.depth * a) (min s l.depth * b) l.depth pos
-    (mul-le-mul_left (min s l.depth) h)
+      (mul-le-mul_left (min s l.depth) h)
 
   pub share-none : 0 < l.depth → share l s 0 ≡ 0
   share-none pos = div-is (min s l.depth * 0) l.depth 0 pos (omega arith) (omega arith)
@@ -43,18 +43,18 @@ module _ (l : Layout) (s : ℕ) where
       let spread : m * (a + w) ≡ m * a + m * w = omega arith in
       let more : (m * a / d + w) * d ≡ m * a / d * d + d * w = omega arith in
       let up : m * (a + w) / d ≤ ((m * a / d + w) * d + (m * a % d)) / d =
-        div-le-div (m * (a + w)) ((m * a / d + w) * d + (m * a % d)) d pos (omega arith) in
+      div-le-div (m * (a + w)) ((m * a / d + w) * d + (m * a % d)) d pos (omega arith) in
       let is : ((m * a / d + w) * d + (m * a % d)) / d ≡ m * a / d + w =
-        div-mul-add (m * a / d + w) d (m * a % d) rest in omega arith
+      div-mul-add (m * a / d + w) d (m * a % d) rest in omega arith
 
   pub shallow_limit-le : (word : ℕ) → 0 < l.depth → shallow_limit l word s ≤ word_depth l word
   shallow_limit-le word pos = let more = share-more (word * word_bits l) (word_depth l word) pos in omega arith
 
   -- the first so many words have the share of the first so many tags
   pub sum_below-shallow_limit : (n : ℕ) → 0 < l.depth
-    → sum_below (λ w. shallow_limit l w s) n ≡ share l s (min (n * word_bits l) l.depth)
+      → sum_below (λ w. shallow_limit l w s) n ≡ share l s (min (n * word_bits l) l.depth)
   sum_below-shallow_limit zero pos = let z : min (0 * word_bits l) l.depth ≡ 0 = omega arith in
-    sym (ap (share l s) z ∙ share-none pos)
+      sym (ap (share l s) z ∙ share-none pos)
   sum_below-shallow_limit (suc n) pos =
       let p : ℕ = word_bits l in let before = sum_below-shallow_limit n pos in
       let next : suc n * p ≡ n * p + p = omega arith in
@@ -83,7 +83,7 @@ module _ (l : Layout) (s : ℕ) where
       let b = share-all pos in omega arith)
       (λ empty.
       let none : words l ≡ 0 = div-is (l.depth + word_bits l - 1) (word_bits l) 0 (word_bits-pos l) (omega arith)
-        (omega (arith, word_bits-pos l)) in
+      (omega (arith, word_bits-pos l)) in
       ap (sum_below (λ w. shallow_limit l w s)) none ∙ omega arith)
 
 pub mul-le-mul : (a b m n : ℕ) → a ≤ m → b ≤ n → a * b ≤ m * n
@@ -101,7 +101,7 @@ module _ (n d : ℕ) (pos : 0 < d) (small : d ≤ 10240) (fits : n ≤ d * d) wh
 
   scaled : d * reciprocal ≡ 2 ^ 40 + excess
   scaled = let whole : 2 ^ 40 / d * d + 2 ^ 40 % d ≡ 2 ^ 40 = div-add-mod' (2 ^ 40) d in
-    let low : 2 ^ 40 % d < d = mod_below (2 ^ 40) d pos in omega arith
+      let low : 2 ^ 40 % d < d = mod_below (2 ^ 40) d pos in omega arith
 
   square : d * d ≤ 10240 * 10240
   square = mul-le-mul d d 10240 10240 small small
@@ -112,12 +112,12 @@ module _ (n d : ℕ) (pos : 0 < d) (small : d ≤ 10240) (fits : n ≤ d * d) wh
       let turned : d * d * reciprocal ≡ d * (d * reciprocal) = omega arith in
       let is = scaled in
       let most : d * (d * reciprocal) ≤ 10240 * (2 ^ 40 + 10240) =
-        mul-le-mul d (d * reciprocal) 10240 (2 ^ 40 + 10240) small (omega arith) in omega arith
+      mul-le-mul d (d * reciprocal) 10240 (2 ^ 40 + 10240) small (omega arith) in omega arith
 
   few : n / d ≤ d
   few = dite (dec_lt d (n / d))
       (λ (over : d < n / d). let whole : n / d * d + n % d ≡ n = div-add-mod' n d in
-        let more : suc d * d ≤ n / d * d = mul-le-mul_right d over in absurd (omega arith))
+      let more : suc d * d ≤ n / d * d = mul-le-mul_right d over in absurd (omega arith))
       (λ no. omega arith)
 
   pub div-by_reciprocal : n * reciprocal / 2 ^ 40 ≡ n / d

@@ -28,9 +28,9 @@ pub sum_below-only : (f : ℕ → ℕ) (n k : ℕ) → k < n → ((j : ℕ) → 
 sum_below-only f zero k h others = absurd (omega arith)
 sum_below-only f (suc n) k h others = dite (ℕ_discrete k n)
     (λ (e : k ≡ n). let before = sum_below-none f n (λ j l. others j (omega arith) (λ s. omega arith)) in
-      let last : f n ≡ f k = ap f (sym e) in omega arith)
+    let last : f n ≡ f k = ap f (sym e) in omega arith)
     (λ (ne : k ≢ n). let before = sum_below-only f n k (omega arith) (λ j l. others j (omega arith)) in
-      let last = others n (omega arith) (λ s. ne (sym s)) in omega arith)
+    let last = others n (omega arith) (λ s. ne (sym s)) in omega arith)
 
 -- the first a terms, and the w after them
 pub sum_below-split : (f : ℕ → ℕ) (a w : ℕ) → sum_below f (a + w) ≡ sum_below f a + sum_below (λ k. f (a + k)) w

@@ -24,7 +24,7 @@ sum_below-plus_at f n here more h =
     sum_below-add (plus_at here more f) f (λ k. cond (k == here) more 0) n (λ k h2. refl)
     ∙ ap (λ (z : ℕ). sum_below f n + z)
     (sum_below-only (λ k. cond (k == here) more 0) n here h (λ k h2 ne. ap (λ (b : Bool). cond b more 0)
-      (ne_eqb k here ne)) ∙ ap (λ (b : Bool). cond b more 0) (eq-eqb here here refl))
+    (ne_eqb k here ne)) ∙ ap (λ (b : Bool). cond b more 0) (eq-eqb here here refl))
 
 -- one tag is one
 sum_below-one : (n tag : ℕ) → tag < n → sum_below (λ t. one_if (t == tag)) n ≡ 1
@@ -78,53 +78,53 @@ module _ (l : Layout) where
   module _ (callers : ℕ) (w : World) where
     -- what the event does to the number of tags that are out
     outs-after : (event : Event) → MayHappen l callers w event
-      → outs (after l event w) + back_by event ≡ outs w + won_by event
+        → outs (after l event w) + back_by event ≡ outs w + won_by event
     outs-after Look may = refl
     outs-after (Win caller word mask) may =
         let more = sum_below-add (λ t. out (place_after l (Win caller word mask) t (w.place t))) (λ t. out (w.place t))
-          (λ t. one_if (is_in_mask l word mask t)) l.depth
+        (λ t. one_if (is_in_mask l word mask t)) l.depth
         (λ t h. comes (is_in_mask l word mask t) (w.place t) (Held caller)
-          (λ named. ap out (may.places t h named)) refl) in
+        (λ named. ap out (may.places t h named)) refl) in
         let size = sum_below-mask l word mask may.in_layout.0 may.in_layout.1 in omega arith
     outs-after (Put caller tag) may =
         let less = sum_below-add (λ t. out (w.place t)) (λ t. out (place_after l (Put caller tag) t (w.place t)))
-          (λ t. one_if (t == tag)) l.depth
+        (λ t. one_if (t == tag)) l.depth
         (λ t h. goes (t == tag) (w.place t) Aside (λ named. ap out (may.places t h named)) refl) in
         let size = sum_below-one l.depth tag may.in_layout in omega arith
     outs-after (Give caller word mask) may =
         let less = sum_below-add (λ t. out (w.place t)) (λ t. out (place_after l (Give caller word mask) t (w.place t)))
-          (λ t. one_if (is_in_mask l word mask t)) l.depth
+        (λ t. one_if (is_in_mask l word mask t)) l.depth
         (λ t h. goes (is_in_mask l word mask t) (w.place t) Free (λ named. ap out (may.places t h named)) refl) in
         let size = sum_below-mask l word mask may.in_layout.0 may.in_layout.1 in omega arith
     outs-after (Sweep caller word) may =
         let same = sum_below-same (λ t. out (place_after l (Sweep caller word) t (w.place t)))
-          (λ t. out (w.place t)) l.depth
+        (λ t. out (w.place t)) l.depth
         (λ t h. stays (names l (Sweep caller word) t) (w.place t) (swept_by caller (w.place t))
-          (λ named. out-swept caller (w.place t))) in omega arith
+        (λ named. out-swept caller (w.place t))) in omega arith
     outs-after (Spill caller word) may =
         let same = sum_below-same (λ t. out (place_after l (Spill caller word) t (w.place t)))
-          (λ t. out (w.place t)) l.depth
+        (λ t. out (w.place t)) l.depth
         (λ t h. stays (names l (Spill caller word) t) (w.place t) (spilled_by caller (w.place t))
-          (λ named. out-spilled caller (w.place t))) in omega arith
+        (λ named. out-spilled caller (w.place t))) in omega arith
     outs-after (Post caller tag) may =
         let same = sum_below-same (λ t. out (place_after l (Post caller tag) t (w.place t)))
-          (λ t. out (w.place t)) l.depth
+        (λ t. out (w.place t)) l.depth
         (λ t h. stays (t == tag) (w.place t) Posted (λ named. sym (ap out (may.places t h named)))) in omega arith
     outs-after (Take caller tag) may =
         let same = sum_below-same (λ t. out (place_after l (Take caller tag) t (w.place t)))
-          (λ t. out (w.place t)) l.depth
+        (λ t. out (w.place t)) l.depth
         (λ t h. stays (t == tag) (w.place t) (Held caller) (λ named. sym (ap out (may.places t h named)))) in
         omega arith
 
   -- a tag that is out is held or posted
   outs-split : (w : World) → outs w ≡ held_in l w + posted_in l w
   outs-split w = sum_below-add (λ tag. out (w.place tag)) (λ tag. one_if (is_held (w.place tag)))
-    (λ tag. one_if (is_posted (w.place tag))) l.depth (λ tag h. refl)
+      (λ tag. one_if (is_posted (w.place tag))) l.depth (λ tag h. refl)
 
   module _ (callers : ℕ) where
     -- an event that can happen keeps the balance
     pub balances-after : (event : Event) (w : World) → MayHappen l callers w event → Balances l callers w
-      → Balances l callers (after l event w)
+        → Balances l callers (after l event w)
     balances-after event w may balance =
         let moved = outs-after callers w event may in let before = outs-split w in
         let behind = outs-split (after l event w) in
@@ -132,16 +132,16 @@ module _ (l : Layout) where
         let back = sum_below-plus_at w.back callers (caller_of event) (back_by event) may.caller in omega arith
 
     pub balances-run : (events : List Event) (w : World) → MayRun l callers w events → Balances l callers w
-      → Balances l callers (after_all l events w)
+        → Balances l callers (after_all l events w)
     balances-run [] w may balance = balance
     balances-run (event ∷ events) w may balance =
-      balances-run events (after l event w) may.1 (balances-after event w may.0 balance)
+        balances-run events (after l event w) may.1 (balances-after event w may.0 balance)
 
     pub balances-history : (history : List Event) (w : World) → IsHistory l callers w history → Balances l callers w
-      → Balances l callers (after_history l history w)
+        → Balances l callers (after_history l history w)
     balances-history [] w is balance = balance
     balances-history (event ∷ older) w is balance = balances-after event (after_history l older w) is.0
-      (balances-history older w is.1 balance)
+        (balances-history older w is.1 balance)
 
     pub balances-opened : Balances l callers opened
     balances-opened =

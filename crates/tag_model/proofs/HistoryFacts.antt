@@ -39,22 +39,22 @@ sum-le f m (suc n) h = let before = sum-le f m n h in let last = h n in let e : 
 
 module _ (l : Layout) (callers : ℕ) where
   won-after : (e : Event) (w : World) → MayHappen l callers w e → ((c : ℕ) → w.won c ≤ MOST_WON) → (c : ℕ)
-    → (after l e w).won c ≤ MOST_WON
+      → (after l e w).won c ≤ MOST_WON
   won-after e w may small c = dite (ℕ_discrete c (caller_of e))
       (λ (is : c ≡ caller_of e). let here = plus_at-here w.won (caller_of e) (won_by e) in
-        let same = ap (plus_at (caller_of e) (won_by e) w.won) is in let fits = may.unspent in omega arith)
+      let same = ap (plus_at (caller_of e) (won_by e) w.won) is in let fits = may.unspent in omega arith)
       (λ (far : c ≢ caller_of e). let there = plus_at-else w.won (caller_of e) (won_by e) c far in
-        let few = small c in omega arith)
+      let few = small c in omega arith)
 
   -- each caller's wins after a history
   pub won-history : (h : List Event) (w : World) → IsHistory l callers w h → ((c : ℕ) → w.won c ≤ MOST_WON) → (c : ℕ)
-    → (after_history l h w).won c ≤ MOST_WON
+      → (after_history l h w).won c ≤ MOST_WON
   won-history [] w is small c = small c
   won-history (e ∷ older) w is small c = won-after e (after_history l older w) is.0 (won-history older w is.1 small) c
 
   -- what each caller gave back after a history
   pub back-history : (h : List Event) (w : World) → IsHistory l callers w h → ((c : ℕ) → w.won c ≤ MOST_WON)
-    → Balances l callers w → (c : ℕ) → c < callers → (after_history l h w).back c ≤ callers * MOST_WON
+      → Balances l callers w → (c : ℕ) → c < callers → (after_history l h w).back c ≤ callers * MOST_WON
   back-history h w is small balance c low =
       let even = balances-history l callers h w is balance in
       let one = entry-le (after_history l h w).back callers c low in

@@ -31,7 +31,7 @@ sum_by-below {X} f xs d = ap (sum_by f) (sym (take-length xs)) ∙ up_to (length
     up_to (suc n) h =
         let before = up_to n (omega arith) in let more = sum_by_more f xs n d (omega arith) in
         (let e : suc n ≡ n + 1 = omega arith in ap (λ (k : ℕ). sum_by f (take k xs)) e) ∙ more
-          ∙ ap (λ (z : ℕ). z + f (get_or xs n d)) before
+        ∙ ap (λ (z : ℕ). z + f (get_or xs n d)) before
 
 pub sum-below : (xs : List ℕ) → sum xs ≡ sum_below (λ k. get_or xs k 0) (length xs)
 sum-below xs = sum_by-below (λ x. x) xs 0
@@ -73,12 +73,12 @@ pub get_or-plus_at : (counts : List ℕ) (caller more k : ℕ) → caller < leng
 get_or-plus_at counts caller more k h = dite (ℕ_discrete k caller)
     (λ (e : k ≡ caller).
     ap (λ (j : ℕ). get_or (set counts caller (get_or counts caller 0 + more)) j 0) e
-      ∙ get_or-set_same counts caller (get_or counts caller 0 + more) 0 h
+    ∙ get_or-set_same counts caller (get_or counts caller 0 + more) 0 h
     ∙ ap (λ (j : ℕ). get_or counts j 0 + more) (sym e) ∙ ap (λ (b : Bool). get_or counts k 0 + cond b more 0)
-      (sym (eq-eqb k caller e)))
+    (sym (eq-eqb k caller e)))
     (λ (ne : k ≢ caller).
     get_or-set_other counts caller k (get_or counts caller 0 + more) 0 ne
-      ∙ (let z : get_or counts k 0 ≡ get_or counts k 0 + 0 = omega arith in z)
+    ∙ (let z : get_or counts k 0 ≡ get_or counts k 0 + 0 = omega arith in z)
     ∙ ap (λ (b : Bool). get_or counts k 0 + cond b more 0) (sym (ne_eqb k caller ne)))
 
 -- the places after an event, at every tag
@@ -89,16 +89,19 @@ moved-everywhere l event old new within long moves tag = dite (dec_lt tag l.dept
     (λ (h : tag < l.depth). moves.moved tag h)
     (λ past.
     let long_new = moves.tags in get_or_past new tag Free (omega arith)
-      ∙ sym (free-past l event tag within (omega arith))
+    ∙ sym (free-past l event tag within (omega arith))
     ∙ ap (place_after l event tag) (sym (get_or_past old tag Free (omega arith))))
 
 -- the lists after an event hold the world after it
 pub world-after :
     (l : Layout) (event : Event) (old new : List Place) (won back : List ℕ) → IsInLayout l event → length old ≡ l.depth
-      → MovesTags l event old new
+    → MovesTags l event old new
     → caller_of event < length won → caller_of event < length back
-    → (let w : World = record { place = λ t. get_or old t Free; won = λ c. get_or won c 0;
-      back = λ c. get_or back c 0 } in
+    → (let w : World = record {
+      place = λ t. get_or old t Free;
+      won = λ c. get_or won c 0;
+      back = λ c. get_or back c 0;
+    } in
     let v : World = record {
       place = λ t. get_or new t Free;
       won = λ c. get_or (set won (caller_of event) (get_or won (caller_of event) 0 + won_by event)) c 0;
@@ -112,15 +115,18 @@ world-after l event old new won back within long moves in_won in_back =
 
 -- the lists of an opened world hold it
 pub world-opened : (depth callers : ℕ)
-    → (let v : World = record { place = λ t. get_or (replicate depth Free) t Free;
-      won = λ c. get_or (replicate callers 0) c 0; back = λ c. get_or (replicate callers 0) c 0 } in v ≡ opened)
+    → (let v : World = record {
+      place = λ t. get_or (replicate depth Free) t Free;
+      won = λ c. get_or (replicate callers 0) c 0;
+      back = λ c. get_or (replicate callers 0) c 0;
+    } in v ≡ opened)
 world-opened depth callers =
     let places = fun_ext (λ t. same depth t Free) in let counts = fun_ext (λ c. same callers c 0) in
     λ i. record { place = places i; won = counts i; back = counts i }
   where
     same : {X : Type 0} (n k : ℕ) (x : X) → get_or (replicate n x) k x ≡ x
     same n k x = dite (dec_lt k n) (λ (h : k < n). get_or-replicate n k x x h)
-      (λ no. get_or_past (replicate n x) k x (let e = length-replicate n x in omega arith))
+        (λ no. get_or_past (replicate n x) k x (let e = length-replicate n x in omega arith))
 
 -- a term is within the sum
 pub le-sum_below : (f : ℕ → ℕ) (n k : ℕ) → k < n → f k ≤ sum_below f n
@@ -141,7 +147,7 @@ module _ (kept : KeptWorld) (sound : IsSound kept) where
 
   pub back_of-fits : (caller : ℕ) → caller < length kept.won → get_or kept.back caller 0 ≤ 64 * 281474976710656
   back_of-fits caller h = let one = le-sum_below (λ c. get_or kept.back c 0) (length kept.won) caller h in
-    let all = back-fits in omega arith
+      let all = back-fits in omega arith
 
 -- what is kept after an event that brings the tags to these places
 abbrev pub kept_after : KeptWorld → Event → List Place → KeptWorld
@@ -160,15 +166,15 @@ module _ (old : KeptWorld) (event : Event) (places : List Place) (sound : IsSoun
     setup = record { layout = refl; callers = length-set old.won (caller_of event) _ };
     could = may;
     world = world-after old.layout event old.places places old.won old.back may.in_layout sound.tags moves may.caller
-      (subst (λ (n : ℕ). caller_of event < n) (sym sound.both_counts) may.caller);
+        (subst (λ (n : ℕ). caller_of event < n) (sym sound.both_counts) may.caller);
   }
 
   pub sound-kept : IsSound (kept_after old event places)
   sound-kept =
       let same : length (set old.won (caller_of event) (get_or old.won (caller_of event) 0 + won_by event))
-        ≡ length old.won = length-set old.won (caller_of event) _ in
+      ≡ length old.won = length-set old.won (caller_of event) _ in
       let same_back : length (set old.back (caller_of event) (get_or old.back (caller_of event) 0 + back_by event))
-        ≡ length old.back = length-set old.back (caller_of event) _ in
+      ≡ length old.back = length-set old.back (caller_of event) _ in
       let both = sound.both_counts in let some = sound.some_caller in let few = sound.few_callers in
       let long = sound.tags in let long_new = moves.tags in
       record {
@@ -180,27 +186,35 @@ module _ (old : KeptWorld) (event : Event) (places : List Place) (sound : IsSoun
             (λ (e : caller ≡ caller_of event).
             let is = get_or-plus_at old.won (caller_of event) (won_by event) caller may.caller in
             let here : get_or old.won caller 0 ≡ get_or old.won (caller_of event) 0 =
-              ap (λ (k : ℕ). get_or old.won k 0) e in
+            ap (λ (k : ℕ). get_or old.won k 0) e in
             let counted : cond (caller == caller_of event) (won_by event) 0 ≡ won_by event =
-              ap (λ (b : Bool). cond b (won_by event) 0) (eq-eqb caller (caller_of event) e) in
+            ap (λ (b : Bool). cond b (won_by event) 0) (eq-eqb caller (caller_of event) e) in
             let most = may.unspent in omega arith)
             (λ (ne : caller ≢ caller_of event).
             let other = get_or-set_other old.won (caller_of event) caller
-              (get_or old.won (caller_of event) 0 + won_by event) 0 ne in
+            (get_or old.won (caller_of event) 0 + won_by event) 0 ne in
             let most = sound.unspent caller (omega arith) in omega arith);
         balances =
             subst (λ (n : ℕ). Balances old.layout n (world_of (kept_after old event places))) (sym same)
             (subst (Balances old.layout (callers_of old)) (sym happens-kept.world)
-              (balances-after old.layout (callers_of old) event (world_of old) may sound.balances));
+            (balances-after old.layout (callers_of old) event (world_of old) may sound.balances));
       }
 
 -- an opened world is kept soundly
 pub sound-opened : (l : Layout) (callers : ℕ) → 1 ≤ callers → callers ≤ 64
-    → IsSound (record { layout = l; places = replicate l.depth Free; won = replicate callers 0;
-    back = replicate callers 0 })
+    → IsSound (record {
+      layout = l;
+      places = replicate l.depth Free;
+      won = replicate callers 0;
+      back = replicate callers 0;
+    })
 sound-opened l callers some few =
-    let kept : KeptWorld = record { layout = l; places = replicate l.depth Free; won = replicate callers 0;
-      back = replicate callers 0 } in
+    let kept : KeptWorld = record {
+      layout = l;
+      places = replicate l.depth Free;
+      won = replicate callers 0;
+      back = replicate callers 0;
+    } in
     let long : length (replicate {A = ℕ} callers 0) ≡ callers = length-replicate callers 0 in
     record {
       tags = length-replicate l.depth Free;
@@ -208,26 +222,31 @@ sound-opened l callers some few =
       few_callers = omega arith;
       both_counts = refl;
       unspent = λ caller h. (let within : caller < callers = subst (λ (n : ℕ). caller < n) long h in
-        let none : get_or (replicate {A = ℕ} callers 0) caller 0 ≡ 0 = get_or-replicate callers caller 0 0 within in
-        omega arith);
+          let none : get_or (replicate {A = ℕ} callers 0) caller 0 ≡ 0 = get_or-replicate callers caller 0 0 within in
+          omega arith);
       balances = subst (Balances l (callers_of kept)) (sym (world-opened l.depth callers))
-        (balances-opened l (callers_of kept));
+          (balances-opened l (callers_of kept));
     }
 
 -- the vectors written over hold what is kept after the event
 pub written-after :
     (old : KeptWorld) (event : Event) (layout : Layout) (won back : Vec ℕ Global) (moved : List Place)
-      (more_won more_back : List ℕ)
+    (more_won more_back : List ℕ)
     → layout ≡ old.layout → won.items ≡ old.won → back.items ≡ old.back
-      → more_won ≡ set old.won (caller_of event) (get_or old.won (caller_of event) 0 + won_by event)
+    → more_won ≡ set old.won (caller_of event) (get_or old.won (caller_of event) 0 + won_by event)
     → more_back ≡ set old.back (caller_of event) (get_or old.back (caller_of event) 0 + back_by event)
-    → (let v : KeptWorld = record { layout = layout; places = moved; won = (with_items won more_won).items; back =
-      (with_items back more_back).items } in v ≡ kept_after old event moved)
+    → (let v : KeptWorld = record {
+      layout = layout;
+      places = moved;
+      won = (with_items won more_won).items;
+      back =
+          (with_items back more_back).items;
+    } in v ≡ kept_after old event moved)
 written-after old event layout won back moved more_won more_back same is_won is_back to_won to_back =
     let long_won : length more_won ≡ won.len = ap length to_won ∙ length-set old.won (caller_of event) _
-      ∙ ap length (sym is_won) ∙ sym won.ok.0 in
+    ∙ ap length (sym is_won) ∙ sym won.ok.0 in
     let long_back : length more_back ≡ back.len = ap length to_back ∙ length-set old.back (caller_of event) _
-      ∙ ap length (sym is_back) ∙ sym back.ok.0 in
+    ∙ ap length (sym is_back) ∙ sym back.ok.0 in
     let w = with_items_is won more_won long_won ∙ to_won in
     let b = with_items_is back more_back long_back ∙ to_back in
     λ i. record { layout = same i; places = moved; won = w i; back = b i }

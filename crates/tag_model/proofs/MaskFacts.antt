@@ -31,24 +31,24 @@ sum_below-bits (suc width) mask h =
     let half : mask / 2 < 2 ^ width = omega (arith, pow-suc 2 width) in
     let rest = sum_below-bits width (mask / 2) half in let step = ones_step mask in
     let shifted = sum_below-same (λ b. bit_at mask (1 + b)) (bit_at (mask / 2)) width (λ b h2. (let z : 1 + b ≡ suc b =
-      omega arith in ap (bit_at mask) z) ∙ bit_at-suc mask b) in
+    omega arith in ap (bit_at mask) z) ∙ bit_at-suc mask b) in
     ap (sum_below (bit_at mask)) e ∙ omega arith
 
 module _ (l : Layout) (word mask : ℕ) where
   -- in the mask's word the tag's bit decides
   pub in_mask-here : (tag : ℕ) → word_of l tag ≡ word
-    → one_if (is_in_mask l word mask tag) ≡ bit_at mask (place_of l tag)
+      → one_if (is_in_mask l word mask tag) ≡ bit_at mask (place_of l tag)
   in_mask-here tag here =
       ap (λ (b : Bool). one_if (b && (bit_at mask (place_of l tag) == 1))) (eq-eqb (word_of l tag) word here)
-        ∙ one_if-bit (bit_at mask (place_of l tag)) (bit_at-lt mask (place_of l tag))
+      ∙ one_if-bit (bit_at mask (place_of l tag)) (bit_at-lt mask (place_of l tag))
 
   pub in_mask-else : (tag : ℕ) → word_of l tag ≢ word → one_if (is_in_mask l word mask tag) ≡ 0
   in_mask-else tag else_where = ap (λ (b : Bool). one_if (b && (bit_at mask (place_of l tag) == 1)))
-    (ne_eqb (word_of l tag) word else_where)
+      (ne_eqb (word_of l tag) word else_where)
 
   -- a word's tags have as many of the mask's bits as the mask has
   pub sum_below-mask : word < words l → IsWithin l word mask
-    → sum_below (λ tag. one_if (is_in_mask l word mask tag)) l.depth ≡ count_ones mask
+      → sum_below (λ tag. one_if (is_in_mask l word mask tag)) l.depth ≡ count_ones mask
   sum_below-mask there within =
       let p : ℕ = word_bits l in let start = word-start l word there in let pos = word_bits-pos l in
       let bit = λ (tag : ℕ). one_if (is_in_mask l word mask tag) in
@@ -57,10 +57,10 @@ module _ (l : Layout) (word mask : ℕ) where
       let is = tag_at-back l tag in let same : word_of l tag * p ≡ word * p = ap (λ (z : ℕ). z * p) here in
       let low : place_of l tag < p = omega arith in
       ⊎_elim (λ (before : tag < word * p). absurd (omega arith))
-        (λ (behind : word * p + word_depth l word ≤ tag). absurd (omega arith)) out))
+      (λ (behind : word * p + word_depth l word ≤ tag). absurd (omega arith)) out))
       ∙ sum_below-same (λ b. bit (word * p + b)) (bit_at mask) (word_depth l word)
       (λ b h. in_mask-here (word * p + b) (word_of-tag_at l word b (omega arith))
-        ∙ ap (bit_at mask) (place_of-tag_at l word b (omega arith)))
+      ∙ ap (bit_at mask) (place_of-tag_at l word b (omega arith)))
       ∙ sum_below-bits (word_depth l word) mask within
 
   -- no tag past the depth is in a mask of usable bits
@@ -70,30 +70,30 @@ module _ (l : Layout) (word mask : ℕ) where
       let p : ℕ = word_bits l in let is = tag_at-back l tag in
       let same : word_of l tag * p ≡ word * p = ap (λ (z : ℕ). z * p) here in
       let none : bit_at mask (place_of l tag) ≡ 0 =
-        bit_at_above mask (word_depth l word) (place_of l tag) within (omega arith) in
+      bit_at_above mask (word_depth l word) (place_of l tag) within (omega arith) in
       ap (λ (b : Bool). b && (bit_at mask (place_of l tag) == 1)) (eq-eqb (word_of l tag) word here)
-        ∙ ap (λ (x : ℕ). x == 1) none)
+      ∙ ap (λ (x : ℕ). x == 1) none)
       (λ (else_where : word_of l tag ≢ word). ap (λ (b : Bool). b && (bit_at mask (place_of l tag) == 1))
-        (ne_eqb (word_of l tag) word else_where))
+      (ne_eqb (word_of l tag) word else_where))
 
 -- an event that names one tag names those of its bit
 pub names-one : (l : Layout) (tag t : ℕ) → (t == tag) ≡ is_in_mask l (word_of l tag) (2 ^ place_of l tag) t
 names-one l tag t = dite (ℕ_discrete t tag)
     (λ (e : t ≡ tag).
     eq-eqb t tag e ∙ sym (ap (λ (b : Bool). b && (bit_at (2 ^ place_of l tag) (place_of l t) == 1))
-      (eq-eqb (word_of l t) (word_of l tag) (ap (word_of l) e))
+    (eq-eqb (word_of l t) (word_of l tag) (ap (word_of l) e))
     ∙ ap (λ (x : ℕ). x == 1) (ap (bit_at (2 ^ place_of l tag)) (ap (place_of l) e) ∙ bit_at-pow_same (place_of l tag))))
     (λ (ne : t ≢ tag). ne_eqb t tag ne ∙ sym (dite (ℕ_discrete (word_of l t) (word_of l tag))
     (λ (here : word_of l t ≡ word_of l tag).
     let far : place_of l t ≢ place_of l tag =
     λ e. ne (sym (tag_at-back l t) ∙ ap (λ (w : ℕ). tag_at l w (place_of l t)) here ∙ ap (tag_at l (word_of l tag)) e
-      ∙ tag_at-back l tag) in
+    ∙ tag_at-back l tag) in
     ap (λ (b : Bool). b && (bit_at (2 ^ place_of l tag) (place_of l t) == 1))
-      (eq-eqb (word_of l t) (word_of l tag) here)
+    (eq-eqb (word_of l t) (word_of l tag) here)
     ∙ ap (λ (x : ℕ). x == 1) (bit_at-pow_other (place_of l tag) (place_of l t) far))
     (λ (else_where : word_of l t ≢ word_of l tag). ap
-      (λ (b : Bool). b && (bit_at (2 ^ place_of l tag) (place_of l t) == 1))
-      (ne_eqb (word_of l t) (word_of l tag) else_where))))
+    (λ (b : Bool). b && (bit_at (2 ^ place_of l tag) (place_of l t) == 1))
+    (ne_eqb (word_of l t) (word_of l tag) else_where))))
 
 -- an event that names a whole word names those of all its bits
 pub names-word : (l : Layout) (word mask t : ℕ) → ((place : ℕ) → place < word_depth l word → bit_at mask place ≡ 1)
@@ -101,9 +101,9 @@ pub names-word : (l : Layout) (word mask t : ℕ) → ((place : ℕ) → place <
 names-word l word mask t usable h = dite (ℕ_discrete (word_of l t) word)
     (λ (here : word_of l t ≡ word).
     let low : place_of l t < word_depth l word = subst (λ (w : ℕ). place_of l t < word_depth l w) here
-      (place_of-below l t h) in
+    (place_of-below l t h) in
     eq-eqb (word_of l t) word here
-      ∙ sym (ap (λ (b : Bool). b && (bit_at mask (place_of l t) == 1)) (eq-eqb (word_of l t) word here)
-      ∙ ap (λ (x : ℕ). x == 1) (usable (place_of l t) low)))
+    ∙ sym (ap (λ (b : Bool). b && (bit_at mask (place_of l t) == 1)) (eq-eqb (word_of l t) word here)
+    ∙ ap (λ (x : ℕ). x == 1) (usable (place_of l t) low)))
     (λ (else_where : word_of l t ≢ word). ne_eqb (word_of l t) word else_where
-      ∙ sym (ap (λ (b : Bool). b && (bit_at mask (place_of l t) == 1)) (ne_eqb (word_of l t) word else_where)))
+    ∙ sym (ap (λ (b : Bool). b && (bit_at mask (place_of l t) == 1)) (ne_eqb (word_of l t) word else_where)))

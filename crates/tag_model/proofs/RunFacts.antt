@@ -11,34 +11,34 @@ use Rattle.tag_model.specs.Laws.{RunsJoin}
 
 module _ (l : Layout) where
   pub after_all-append : (first second : List Event) (w : World)
-    → after_all l (first ++ second) w ≡ after_all l second (after_all l first w)
+      → after_all l (first ++ second) w ≡ after_all l second (after_all l first w)
   after_all-append [] second w = refl
   after_all-append (event ∷ first) second w = after_all-append first second (after l event w)
 
   module _ (callers : ℕ) where
     pub may_run-append : (first second : List Event) (w : World) → MayRun l callers w first
-      → MayRun l callers (after_all l first w) second → MayRun l callers w (first ++ second)
+        → MayRun l callers (after_all l first w) second → MayRun l callers w (first ++ second)
     may_run-append [] second w one two = two
     may_run-append (event ∷ first) second w one two = (one.0, may_run-append first second (after l event w) one.1 two)
 
     pub may_run-first : (first second : List Event) (w : World) → MayRun l callers w (first ++ second)
-      → MayRun l callers w first
+        → MayRun l callers w first
     may_run-first [] second w run = tt
     may_run-first (event ∷ first) second w run = (run.0, may_run-first first second (after l event w) run.1)
 
     pub may_run-second : (first second : List Event) (w : World) → MayRun l callers w (first ++ second)
-      → MayRun l callers (after_all l first w) second
+        → MayRun l callers (after_all l first w) second
     may_run-second [] second w run = run
     may_run-second (event ∷ first) second w run = may_run-second first second (after l event w) run.1
 
     stops_in_first : (first second : List Event) (w : World) (place : ℕ) (fault : EventFault)
-      → StopsAt l callers w first place fault → StopsAt l callers w (first ++ second) place fault
+        → StopsAt l callers w first place fault → StopsAt l callers w (first ++ second) place fault
     stops_in_first first second w place fault stop = record {
       before = stop.before;
       event = stop.event;
       rest = stop.rest ++ second;
       parts = ap (λ (xs : List Event). xs ++ second) stop.parts
-        ∙ append_assoc stop.before (stop.event ∷ stop.rest) second;
+          ∙ append_assoc stop.before (stop.event ∷ stop.rest) second;
       place_is = stop.place_is;
       may_run = stop.may_run;
       fault_is = stop.fault_is;
@@ -47,24 +47,27 @@ module _ (l : Layout) where
     stops_in_second :
         (first second : List Event) (w : World) (place : ℕ) (fault : EventFault) → MayRun l callers w first
         → StopsAt l callers (after_all l first w) second place fault
-          → StopsAt l callers w (first ++ second) (length first + place) fault
+        → StopsAt l callers w (first ++ second) (length first + place) fault
     stops_in_second first second w place fault run stop = record {
       before = first ++ stop.before;
       event = stop.event;
       rest = stop.rest;
       parts = ap (λ (xs : List Event). first ++ xs) stop.parts
-        ∙ sym (append_assoc first stop.before (stop.event ∷ stop.rest));
+          ∙ sym (append_assoc first stop.before (stop.event ∷ stop.rest));
       place_is = ap (λ (n : ℕ). length first + n) stop.place_is ∙ sym (length-append first stop.before);
       may_run = may_run-append first stop.before w run stop.may_run;
       fault_is = subst (λ (v : World). IsFirstFault l callers v stop.event fault)
-        (sym (after_all-append first stop.before w)) stop.fault_is;
+          (sym (after_all-append first stop.before w)) stop.fault_is;
     }
 
     pub joins : (w : World) (first second : List Event) → RunsJoin l callers w first second
     joins w first second = record {
       world = after_all-append first second w;
-      may_run = (λ run. (may_run-first first second w run, may_run-second first second w run), λ runs. may_run-append
-        first second w runs.0 runs.1);
+      may_run = (
+        λ run. (may_run-first first second w run, may_run-second first second w run),
+        λ runs. may_run-append
+            first second w runs.0 runs.1,
+      );
       stops_in_first = stops_in_first first second w;
       stops_in_second = stops_in_second first second w;
     }
@@ -90,7 +93,7 @@ module _ (old now : KeptWorld) (before : List Event) (event : Event) (ran : Ran 
       let may : MayHappen old.layout (callers_of old) (after_all old.layout before (world_of old)) event =
       subst (λ (w : World). MayHappen old.layout (callers_of old) w event) world
       (subst (λ (n : ℕ). MayHappen old.layout n (world_of now) event) callers
-        (subst (λ (l : Layout). MayHappen l (callers_of now) (world_of now) event) layout happens.could)) in
+      (subst (λ (l : Layout). MayHappen l (callers_of now) (world_of now) event) layout happens.could)) in
       record {
         setup = record { layout = happens.setup.layout ∙ layout; callers = happens.setup.callers ∙ callers };
         could = may_run-append old.layout (callers_of old) before (event ∷ []) (world_of old) ran.could (may, tt);
@@ -100,14 +103,14 @@ module _ (old now : KeptWorld) (before : List Event) (event : Event) (ran : Ran 
       }
 
   fault-moved : (fault : EventFault) → IsFirstFault now.layout (callers_of now) (world_of now) event fault
-    → IsFirstFault old.layout (callers_of old) (after_all old.layout before (world_of old)) event fault
+      → IsFirstFault old.layout (callers_of old) (after_all old.layout before (world_of old)) event fault
   fault-moved fault is =
       subst (λ (w : World). IsFirstFault old.layout (callers_of old) w event fault) ran.world
       (subst (λ (n : ℕ). IsFirstFault old.layout n (world_of now) event fault) ran.setup.callers
-        (subst (λ (l : Layout). IsFirstFault l (callers_of now) (world_of now) event fault) ran.setup.layout is))
+      (subst (λ (l : Layout). IsFirstFault l (callers_of now) (world_of now) event fault) ran.setup.layout is))
 
   pub stops-here : (rest : List Event) (fault : EventFault)
-    → IsFirstFault now.layout (callers_of now) (world_of now) event fault
+      → IsFirstFault now.layout (callers_of now) (world_of now) event fault
       → StopsAt old.layout (callers_of old) (world_of old) (before ++ event ∷ rest) (length before) fault
   stops-here rest fault is = record {
     before = before;
@@ -120,7 +123,7 @@ module _ (old now : KeptWorld) (before : List Event) (event : Event) (ran : Ran 
   }
 
   pub cannot-stop : (rest : List Event) (fault : EventFault)
-    → MayRun old.layout (callers_of old) (world_of old) (before ++ event ∷ rest)
+      → MayRun old.layout (callers_of old) (world_of old) (before ++ event ∷ rest)
       → IsFirstFault now.layout (callers_of now) (world_of now) event fault → ⊥
   cannot-stop rest fault may is =
       may-has_no_fault old.layout (callers_of old) (after_all old.layout before (world_of old)) event fault

@@ -22,14 +22,14 @@ is_turned l turned tag = bit_at (slice_index turned (word_of l tag)) (place_of l
 abbrev pub chosen : Layout → List ℕ → List Place → List Place → List Place
 chosen l turned first second =
     map (λ tag. cond (is_turned l turned tag) (slice_index_or second tag Free) (slice_index_or first tag Free))
-      (range_with_len 0 l.depth)
+    (range_with_len 0 l.depth)
 
 -- there is a place ready for each tag that the event names: where the event brings it from where it has to be
 abbrev pub AreReady : Event → KeptEntries → Type 0
 AreReady event kept =
     (tag : ℕ) → tag < kept.layout.depth → IsTrue (names kept.layout event tag)
     → Needs event (slice_index_or kept.places tag Free)
-      × (slice_index_or kept.ready tag Free ≡ brings event (slice_index_or kept.places tag Free))
+    × (slice_index_or kept.ready tag Free ≡ brings event (slice_index_or kept.places tag Free))
 
 -- nothing changed but what is ready
 pub record SamePlaces (old new : KeptEntries) : Type 0 where
@@ -43,7 +43,7 @@ pub record Turns (word mask : ℕ) (old new : KeptEntries) : Type 0 where
   pub moved :
       (tag : ℕ) → tag < old.layout.depth
       → slice_index_or new.places tag Free ≡ cond (is_in_mask old.layout word mask tag)
-        (slice_index_or old.ready tag Free) (slice_index_or old.places tag Free)
+      (slice_index_or old.ready tag Free) (slice_index_or old.places tag Free)
 
 -- the event names no tag
 abbrev pub NamesNone : Layout → Event → Type 0

@@ -57,7 +57,7 @@ HasFault kept event fault = IsFirstFault kept.layout (callers_of kept) (world_of
 abbrev pub IsInRoom : KeptWorld → Event → Type 0
 IsInRoom kept event =
     IsInLayout kept.layout event × (caller_of event < callers_of kept)
-      × ((world_of kept).won (caller_of event) + won_by event ≤ MOST_WON)
+    × ((world_of kept).won (caller_of event) + won_by event ≤ MOST_WON)
 
 -- each event can happen in turn
 abbrev pub CanRun : KeptWorld → List Event → Type 0
@@ -97,4 +97,4 @@ MissesOne l event places =
 pub record MovesTags (l : Layout) (event : Event) (old new : List Place) : Type 0 where
   pub tags : length new ≡ length old
   pub moved : (tag : ℕ) → tag < l.depth
-    → slice_index_or new tag Free ≡ place_after l event tag (slice_index_or old tag Free)
+      → slice_index_or new tag Free ≡ place_after l event tag (slice_index_or old tag Free)

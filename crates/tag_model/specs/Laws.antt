@@ -18,12 +18,12 @@ RunsBalance = (l : Layout) (callers : ℕ) (events : List Event) → MayRun l ca
 pub record RunsJoin (l : Layout) (callers : ℕ) (w : World) (first second : List Event) : Type 0 where
   pub world : after_all l (first ++ second) w ≡ after_all l second (after_all l first w)
   pub may_run : MayRun l callers w (first ++ second) ↔ (MayRun l callers w first
-    × MayRun l callers (after_all l first w) second)
+      × MayRun l callers (after_all l first w) second)
   pub stops_in_first : (place : ℕ) (fault : EventFault) → StopsAt l callers w first place fault
-    → StopsAt l callers w (first ++ second) place fault
+      → StopsAt l callers w (first ++ second) place fault
   pub stops_in_second :
       (place : ℕ) (fault : EventFault) → MayRun l callers w first
-        → StopsAt l callers (after_all l first w) second place fault
+      → StopsAt l callers (after_all l first w) second place fault
       → StopsAt l callers w (first ++ second) (length first + place) fault
 
 -- no event by one caller moves a tag that another holds

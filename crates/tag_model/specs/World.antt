@@ -57,7 +57,7 @@ missing_of _ = NotHeld
 abbrev pub IsMisplaced : Layout → ℕ → World → Event → Type 0
 IsMisplaced l callers w event =
     IsInLayout l event × (caller_of event < callers) × (w.won (caller_of event) + won_by event ≤ MOST_WON)
-      × Misses l w event
+    × Misses l w event
 
 -- the first cause, in their order, for which the event can't happen
 abbrev pub IsFirstFault : Layout → ℕ → World → Event → EventFault → Type 0

@@ -26,7 +26,7 @@ follows_none batch Busy steps h = (refl, refl)
 module _ {R : Type 0} (queue : Queue R) (n : ℕ) where
   -- steps of the map alone before it change nothing of it
   pub counts_after : (old mid new : Agent R) (woken : ℕ) → SameCounts old mid → Counts queue n mid new woken
-    → Counts queue n old new woken
+      → Counts queue n old new woken
   counts_after old mid new woken same c = record {
     counts = ⊎_elim (λ (f : FindsNobody mid new woken). inl (record {
       teller = f.teller ∙ same.0;
@@ -37,9 +37,9 @@ module _ {R : Type 0} (queue : Queue R) (n : ℕ) where
       some = f.some;
       charge = f.charge;
       lawful = subst (λ (t : Teller). IsCharge (cap_of queue) (batch_of queue) n (book.steps_of t)
-        (book_steps new) f.charge) same.0 f.lawful;
+          (book_steps new) f.charge) same.0 f.lawful;
       follows = subst (λ (w : Waiter). Follows (batch_of queue) f.charge (Look active_at f.active ∷ groups.steps_of w)
-        (group_steps new) woken) same.1 f.follows;
+          (group_steps new) woken) same.1 f.follows;
     })) c.counts;
     stands = subst (λ (w : Waiter). groups.StandsAsBefore w (waiter_of new)) same.1 c.stands;
   }

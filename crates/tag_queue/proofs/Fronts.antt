@@ -11,7 +11,7 @@ module _ {A B : Type 0} (f : A → B) where
 
   -- the part that comes next is the one of the number that were made
   pub at_next : (made : List A) (x : B) (left before all : List B) (n : ℕ) → map f made ++ before ≡ all
-    → before ≡ x ∷ left → length made ≡ n
+      → before ≡ x ∷ left → length made ≡ n
       → get_elem? all n ≡ some x
   at_next made x left before all n parts next count =
       subst (λ (l : List B). get_elem? l n ≡ some x) (ap (λ (l : List B). map f made ++ l) (sym next) ∙ parts)
@@ -19,9 +19,9 @@ module _ {A B : Type 0} (f : A → B) where
 
   -- and then one more is made
   pub goes_on : (made more : List A) (a : A) (x : B) (left before all : List B)
-    → map f made ++ before ≡ all → before ≡ x ∷ left
+      → map f made ++ before ≡ all → before ≡ x ∷ left
       → more ≡ made ++ a ∷ [] → f a ≡ x → map f more ++ left ≡ all
   goes_on made more a x left before all parts next pushed is =
       ap (λ (l : List A). map f l ++ left) pushed ∙ ap (λ (l : List B). l ++ left) (map-append f made (a ∷ []))
-        ∙ append_assoc (map f made) (f a ∷ []) left
+      ∙ append_assoc (map f made) (f a ∷ []) left
       ∙ ap (λ (y : B). map f made ++ y ∷ left) is ∙ ap (λ (l : List B). map f made ++ l) (sym next) ∙ parts

@@ -23,13 +23,13 @@ use Rattle.tag_queue.specs.Gathering.{IsGathered}
 module _ {R : Type 0} where
   -- what all moved is at most what all charged
   issued-le : (agents : List (Agent R)) → sum_over (total moved_by) (groups.records_of (map waiter_of agents))
-    ≤ sum_over (total taken) (book.records_of (map teller_of agents))
+      ≤ sum_over (total taken) (book.records_of (map teller_of agents))
   issued-le [] = omega arith
   issued-le (a ∷ agents) = let rest = issued-le agents in let own = a.wakes in omega arith
 
   -- what all counted is at most what all gave back
   counted-le : (agents : List (Agent R)) → sum_over (total added) (book.records_of (map teller_of agents))
-    ≤ total_of (λ (r : Record R). r.back) (records_of agents)
+      ≤ total_of (λ (r : Record R). r.back) (records_of agents)
   counted-le [] = omega arith
   counted-le (a ∷ agents) = let rest = counted-le agents in let own = a.counts in omega arith
 
@@ -45,7 +45,7 @@ module _ {R : Type 0} where
       ∙ ap (λ (l : List ℕ). book.number_of a.teller ∷ l) (teller_numbers agents)
 
   pub waiter_numbers : (agents : List (Agent R))
-    → numbers_of agents ≡ numbers (groups.records_of (map waiter_of agents))
+      → numbers_of agents ≡ numbers (groups.records_of (map waiter_of agents))
   waiter_numbers [] = refl
   waiter_numbers (a ∷ agents) = ap (λ (n : ℕ). n ∷ numbers_of agents) (sym a.numbers.2)
       ∙ ap (λ (l : List ℕ). groups.number_of a.waiter ∷ l) (waiter_numbers agents)

@@ -37,7 +37,7 @@ one_bit_more width mask p fits low none =
     let pow = count_ones-pow p in
     let sum = sum_below-add (bit_at (bit_or mask (2 ^ p))) (bit_at mask) (bit_at (2 ^ p)) width
     (λ j h. let o = bit_at_or mask (2 ^ p) j in let a = bit_at-lt mask j in
-      let b = bit_at-lt (2 ^ p) j in dite (ℕ_discrete j p)
+    let b = bit_at-lt (2 ^ p) j in dite (ℕ_discrete j p)
     (λ (e : j ≡ p). let z : bit_at mask j ≡ 0 = ap (bit_at mask) e ∙ none in omega arith)
     (λ (ne : j ≢ p). let z = bit_at-pow_other p j ne in omega arith)) in omega arith
 
@@ -63,20 +63,20 @@ module _ (k : Shape) (narrow : k.layout.shift ≤ 6) where
   IsMaskOf tags word mask = (t : ℕ) → (among k.layout.shift word mask t ≡ 1) ↔ Contains tags t
 
   among_or : (i m n t : ℕ) → among k.layout.shift i (bit_or m n) t
-    ≡ max (among k.layout.shift i m t) (among k.layout.shift i n t)
+      ≡ max (among k.layout.shift i m t) (among k.layout.shift i n t)
   among_or i m n t = dite (ℕ_discrete (t / 2 ^ k.layout.shift) i)
       (λ e. let a = among_here k narrow i m t e in let b = among_here k narrow i n t e in
-        let c = among_here k narrow i (bit_or m n) t e in
+      let c = among_here k narrow i (bit_or m n) t e in
       let o = bit_at_or m n (t % 2 ^ k.layout.shift) in omega arith)
       (λ e. let a = among_else k narrow i m t e in let b = among_else k narrow i n t e in
-        let c = among_else k narrow i (bit_or m n) t e in omega arith)
+      let c = among_else k narrow i (bit_or m n) t e in omega arith)
 
   -- no tag is in an empty mask
   pub mask_of_none : (word : ℕ) → IsMaskOf [] word 0
   mask_of_none word t = (
     (λ a. dite (ℕ_discrete (t / 2 ^ k.layout.shift) word)
         (λ e. let b = among_here k narrow word 0 t e in let z = bit_at-zero (t % 2 ^ k.layout.shift) in
-          absurd (omega arith))
+        absurd (omega arith))
         (λ e. let b = among_else k narrow word 0 t e in absurd (omega arith))),
     (λ c. absurd (none_in t c)),
   )
@@ -91,9 +91,9 @@ module _ (k : Shape) (narrow : k.layout.shift ≤ 6) where
   pub mask_of_one : (u : ℕ) → IsMaskOf (u ∷ []) (word_of k.layout u) (2 ^ place_of k.layout u)
   mask_of_one u t = (
     (λ a. let e : t ≡ u = only_is k narrow t u (only_among k narrow u t ∙ a) in
-      subst (Contains (u ∷ [])) (sym e) (Contains-push [] u)),
+        subst (Contains (u ∷ [])) (sym e) (Contains-push [] u)),
     (λ c. let e : u ≡ t = ⊎_elim (λ (n : Contains [] t). absurd (none_in t n)) (λ (e : u ≡ t). e)
-      (Contains-push_cases [] u t c) in
+        (Contains-push_cases [] u t c) in
         sym (only_among k narrow u t) ∙ only_here t u (sym e)),
   )
 
@@ -104,23 +104,23 @@ module _ (k : Shape) (narrow : k.layout.shift ≤ 6) where
       let m : ℕ = 2 ^ place_of k.layout u in
       let both = among_or word mask m t in
       let one : among k.layout.shift word m t ≡ only t u = ap (λ (w : ℕ). among k.layout.shift w m t) here
-        ∙ sym (only_among k narrow u t) in
+      ∙ sym (only_among k narrow u t) in
       let small = among_small k narrow word mask t in (
         (λ a. dite (ℕ_discrete t u)
             (λ (e : t ≡ u). subst (Contains (tags ++ u ∷ [])) (sym e) (Contains-push tags u))
             (λ (ne : t ≢ u). let z = only_else t u ne in let old : among k.layout.shift word mask t ≡ 1 = omega arith in
             Contains-append_left tags (u ∷ []) t ((is t).0 old))),
         (λ c. ⊎_elim (λ (before : Contains tags t). let old = (is t).1 before in
-          let tiny = among_small k narrow word m t in
+            let tiny = among_small k narrow word m t in
             let z : among k.layout.shift word (bit_or mask m) t ≡ 1 = omega arith in z)
             (λ (e : u ≡ t). let z = only_here t u (sym e) in
-              let y : among k.layout.shift word (bit_or mask m) t ≡ 1 = omega arith in y)
+            let y : among k.layout.shift word (bit_or mask m) t ≡ 1 = omega arith in y)
             (Contains-push_cases tags u t c)),
       )
 
   -- a tag that is not in the list has no bit in its mask
   pub bit_of_other : (tags : List ℕ) (word mask u : ℕ) → word ≡ word_of k.layout u
-    → IsMaskOf tags word mask → ¬ (Contains tags u)
+      → IsMaskOf tags word mask → ¬ (Contains tags u)
       → bit_at mask (place_of k.layout u) ≡ 0
   bit_of_other tags word mask u here is other =
       let low = bit_at-lt mask (place_of k.layout u) in let a = among_here k narrow word mask u (sym here) in
@@ -130,18 +130,18 @@ module _ {R : Type 0} (map : Map R) (old now next : Caller R) where
   -- one run more is given back
   abbrev pub gives_more : (done run : List ℕ) (word mask found : ℕ) → 1 ≤ length run
       → IsMaskOf map.shape map.small.1 run word mask → (given : GivesAll map.shape.layout done old now)
-        → EndsElsewhere word given.runs
+      → EndsElsewhere word given.runs
       → Adds (Word (Give word mask found)) now next → Releases (IsInMask map.shape.layout word mask) now next
       → GivesAll map.shape.layout (done ++ run) old next
   gives_more done run word mask found some is given turns adds less =
       let in_run : (t : ℕ) → IsInMask map.shape.layout word mask t
-        → Contains run t = λ t h. (is t).0 (among_one map.shape.layout word mask t h) in
+      → Contains run t = λ t h. (is t).0 (among_one map.shape.layout word mask t h) in
       let in_mask : (t : ℕ) → Contains run t
-        → IsInMask map.shape.layout word mask t = λ t c. one_among map.shape.layout word mask t ((is t).1 c) in
+      → IsInMask map.shape.layout word mask t = λ t c. one_among map.shape.layout word mask t ((is t).1 c) in
       record {
         less = record {
           gone = λ t n h. ⊎_elim (λ (d : Contains done t). given.less.gone t d (less.none_else t h))
-            (λ (r : Contains run t). less.gone t (in_mask t r) h)
+              (λ (r : Contains run t). less.gone t (in_mask t r) h)
               (Contains-append_cases done run t n);
           kept = λ t n h. let a = given.less.kept t (λ d. n (Contains-append_left done run t d)) h in
               let b = less.kept t (λ m. n (Contains-append_right done run t (in_run t m))) a.0 in (b.0, b.1 ∙ a.1);
@@ -168,7 +168,7 @@ runs_few : (l : Layout) (tags : List ℕ) (runs : List Run) → AreRuns l tags r
 runs_few l tags [] cut = omega arith
 runs_few l tags (run ∷ runs) cut =
     let few = runs_few l cut.0 runs cut.4 in let long : length tags ≡ length cut.0 + length run.tags = ap length cut.1
-      ∙ length-append cut.0 run.tags in
+    ∙ length-append cut.0 run.tags in
     let some = cut.2.some in omega arith
 
 steps_after : {R : Type 0} (runs : List Run) (r : Record R)

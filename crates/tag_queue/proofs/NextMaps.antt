@@ -20,7 +20,7 @@ use Rattle.tag_queue.specs.Using.{posted_in, NoneInUse}
 module _ {R : Type 0} where
   -- what the totals say of tags in use is a sum over the records
   pub posted_is : (k : Shape) (rs : List (Record R)) (totals : Totals) → AreSettled k rs totals
-    → totals.posted ≡ posted_in rs
+      → totals.posted ≡ posted_in rs
   posted_is k rs totals known =
       let a = known.got in let b = known.back in let d = known.held in let even = known.balance in omega arith
 
@@ -42,19 +42,19 @@ module _ {R : Type 0} where
 
   -- the list of each stands in the history that led on
   pub leads_after : (old next : Map R) (olds mids : List (Caller R)) → AreUnchanged olds mids → LeadsOn old mids next
-    → LeadsOn old olds next
+      → LeadsOn old olds next
   leads_after old next olds mids same on = record {
     history = on.history;
     lists = λ n c at.
         let low = within olds n c at in let long = same.count in let mid = entry mids n (omega arith) in
         let is = (same.each n c mid.0 at mid.1).known in
         ap (λ (r : Record R). r.steps) (sym is) ∙ on.lists n mid.0 mid.1
-          ∙ ap (λ (r : Record R). steps_by r.number on.history) is;
+        ∙ ap (λ (r : Record R). steps_by r.number on.history) is;
     chain = on.chain;
   }
 
   module _ (k : Shape) (rs : List (Record R)) (t u : Totals) (known : AreSettled k rs t)
-    (told : AreSettled k rs u) where
+      (told : AreSettled k rs u) where
     -- the records have one set of totals
     same_totals : t ≡ u
     same_totals =
@@ -70,12 +70,12 @@ module _ {R : Type 0} where
       → GoesOnFrom s next → GoesOnAfter old.shape (map record_of callers) next
   goes_on_after s old callers next is same told from totals known =
       let records : map record_of s.callers.items ≡ map record_of callers =
-        unchanged-records callers s.callers.items same in
+      unchanged-records callers s.callers.items same in
       let shape : s.tags.shape ≡ old.shape = ap (λ (z : Map R). z.shape) is in
       let told_here : AreSettled old.shape (map record_of callers) s.totals =
       subst (λ (z : Shape × List (Record R)). AreSettled z.0 z.1 s.totals) (λ j. (shape j, records j)) told in
       let totals_are : totals ≡ s.totals =
-        same_totals old.shape (map record_of callers) totals s.totals known told_here in
+      same_totals old.shape (map record_of callers) totals s.totals known told_here in
       subst (λ (z : Shape × List (Record R) × Totals). (h : AreSettled z.0 z.1 z.2)
-        → GoesOn (record { shape = z.0; history = h.history }) next)
+      → GoesOn (record { shape = z.0; history = h.history }) next)
       (λ j. (shape j, records j, sym totals_are j)) from known

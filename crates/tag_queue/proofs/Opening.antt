@@ -36,18 +36,18 @@ module _ {T : Type 0} where
   fresh_at : (c n i : ℕ) (r : Record T) → get_elem? (fresh c n) i ≡ some r → r ≡ fresh_record (c + i)
   fresh_at c zero i r e = absurd (some-ne-none r (sym e))
   fresh_at c (suc n) zero r e = sym (some-injective (fresh_record c) r e)
-    ∙ ap fresh_record (let z : c ≡ c + 0 = omega arith in z)
+      ∙ ap fresh_record (let z : c ≡ c + 0 = omega arith in z)
   fresh_at c (suc n) (suc i) r e = fresh_at (suc c) n i r e
-    ∙ ap fresh_record (let z : suc c + i ≡ c + suc i = omega arith in z)
+      ∙ ap fresh_record (let z : suc c + i ≡ c + suc i = omega arith in z)
 
   -- as many members as records, where these are fresh
   pub fresh_count : {A : Type 0} (f : A → Record T) (xs : List A) (n : ℕ) → map f xs ≡ fresh 0 n → length xs ≡ n
   fresh_count f xs n e = sym (length-map xs f) ∙ ap length e ∙ fresh_length T 0 n
 
   member_is : {A : Type 0} (f : A → Record T) (xs : List A) (n i : ℕ) (x : A) → map f xs ≡ fresh 0 n
-    → get_elem? xs i ≡ some x → f x ≡ fresh_record i
+      → get_elem? xs i ≡ some x → f x ≡ fresh_record i
   member_is f xs n i x all e = fresh_at 0 n i (f x) (subst (λ (l : List (Record T)). get_elem? l i
-    ≡ some (f x)) all (at_map f xs i x e))
+      ≡ some (f x)) all (at_map f xs i x e))
       ∙ ap fresh_record (let z : 0 + i ≡ i = omega arith in z)
 
 there : {A : Type 0} (xs : List A) (i : ℕ) (x : A) → get_elem? xs i ≡ some x → i < length xs
@@ -62,9 +62,9 @@ all-map P f xs h k d l = subst P (get_or-map f xs k d (f d) l) (h k (f d) (let z
 module _ {R : Type 0} where
   -- the parts of a new queue fit together
   pub fit_new : (m : Map R) (b : Book) (s : Groups) (callers : List (Caller R)) (tellers : List Teller)
-    (waiters : List Waiter) (batch count cap : ℕ)
+      (waiters : List Waiter) (batch count cap : ℕ)
       → AreNew m callers → book.IsOpenBook batch count cap b tellers → groups.AreOpenGroups count s waiters
-        → FitTogether callers tellers waiters
+      → FitTogether callers tellers waiters
   fit_new m b s callers tellers waiters batch count cap new opened stands n x t w ex et ew =
       let own = new.each n x ex in
       let t_is = member_is book.record_of tellers count n t opened.fresh_all et in
@@ -75,18 +75,18 @@ module _ {R : Type 0} where
         teller_is = ap (λ (r : Record BookStep). r.number) t_is;
         waiter_is = ap (λ (r : Record GroupStep). r.number) w_is;
         below = subst (λ (k : Shape). n < k.callers) (sym own.0.1) (let a = there callers n x ex in
-          let z = new.count in omega arith);
+            let z = new.count in omega arith);
         counts = omega arith;
         wakes = omega arith;
       }
 
   -- and its agents are its own
   pub own_all : (m : Map R) (b : Book) (s : Groups) (agents : List (Agent R)) (callers : List (Caller R))
-    (tellers : List Teller) (waiters : List Waiter)
+      (tellers : List Teller) (waiters : List Waiter)
       → AreParts agents callers tellers waiters → All (IsCallerOf m) callers → All (book.IsTellerOf b) tellers
-        → All (groups.IsWaiterOf s) waiters
+      → All (groups.IsWaiterOf s) waiters
       → All (λ (a : Agent R). IsCallerOf m (caller_of a) × book.IsTellerOf b (teller_of a)
-        × groups.IsWaiterOf s (waiter_of a)) agents
+      × groups.IsWaiterOf s (waiter_of a)) agents
   own_all m b s agents callers tellers waiters parts c t w k d l = (
     all-map (IsCallerOf m) caller_of agents (subst (All (IsCallerOf m)) (sym parts.callers_are) c) k d l,
     all-map (book.IsTellerOf b) teller_of agents (subst (All (book.IsTellerOf b)) (sym parts.tellers_are) t) k d l,

@@ -43,11 +43,11 @@ module _ {R : Type 0} where
 
   abbrev pub AllServe : List (Agent R) → List (Caller R) → Type 0
   AllServe agents callers = (n : ℕ) (a : Agent R) (c : Caller R) → get_elem? agents n ≡ some a
-    → get_elem? callers n ≡ some c → Serves a c
+      → get_elem? callers n ≡ some c → Serves a c
 
   -- such callers fit what is left of the agents
   pub fit_shells : (agents : List (Agent R)) (callers : List (Caller R)) → length callers ≡ length agents
-    → AllServe agents callers
+      → AllServe agents callers
       → FitShells callers (map shell_of agents)
   fit_shells [] [] long serve = tt
   fit_shells [] (c ∷ callers) long serve = absurd (omega arith)
@@ -66,7 +66,7 @@ module _ {R : Type 0} where
 
   -- callers that are as they were can
   pub same_serve : (agents : List (Agent R)) (callers : List (Caller R))
-    → core.AreUnchanged (map caller_of agents) callers → AllServe agents callers
+      → core.AreUnchanged (map caller_of agents) callers → AllServe agents callers
   same_serve agents callers same n a c p q =
       let known = (same.each n a.caller c (at_map caller_of agents n a p) q).known in record {
         number = ap (λ (r : Record R). r.number) known ∙ a.numbers.0;
@@ -76,7 +76,7 @@ module _ {R : Type 0} where
 
   -- and so can those that went on
   pub moved_serve : (old next : Map R) (layout : Layout) (agents : List (Agent R)) (callers : List (Caller R))
-    → All (IsCallerOf old) (map caller_of agents)
+      → All (IsCallerOf old) (map caller_of agents)
       → IsNext layout old.shape next.shape → AreReopened next (map caller_of agents) callers → AllServe agents callers
   moved_serve old next layout agents callers own is on n a c p q =
       let at = at_map caller_of agents n a p in let went = on.each n a.caller c at q in
@@ -96,32 +96,34 @@ module _ {R : Type 0} where
 
     -- an agent's shell is what it was
     shell_same : (n : ℕ) (a b : Agent R) → get_elem? agents n ≡ some a → get_elem? news n ≡ some b
-      → shell_of b ≡ shell_of a
+        → shell_of b ≡ shell_of a
     shell_same n a b p q = some-injective (shell_of b) (shell_of a)
         (sym (at_map shell_of news n b q) ∙ ap (λ (l : List Shell). get_elem? l n) shells
-          ∙ at_map shell_of agents n a p)
+        ∙ at_map shell_of agents n a p)
 
     -- agents whose callers are as they were are as they were
     pub agents_same : (callers : List (Caller R)) → map caller_of news ≡ callers
-      → core.AreUnchanged (map caller_of agents) callers → AreUnchanged agents news
+        → core.AreUnchanged (map caller_of agents) callers → AreUnchanged agents news
     agents_same callers is same = record {
       count = count_same;
       each = λ n a b p q.
           let one = same.each n a.caller b.caller (at_map caller_of agents n a p)
           (subst (λ (l : List (Caller R)). get_elem? l n ≡ some b.caller) is (at_map caller_of news n b q)) in
           let shell = shell_same n a b p q in
-          agent_same a b one (ap (λ (s : Shell). s.hint) shell,
-            (ap (λ (s : Shell). s.teller) shell, ap (λ (s : Shell). s.waiter) shell));
+          agent_same a b one (
+            ap (λ (s : Shell). s.hint) shell,
+            (ap (λ (s : Shell). s.teller) shell, ap (λ (s : Shell). s.waiter) shell),
+          );
     }
 
   of_shells : {B : Type 0} (f : Shell → B) (agents : List (Agent R))
-    → map f (map shell_of agents) ≡ map (λ (a : Agent R). f (shell_of a)) agents
+      → map f (map shell_of agents) ≡ map (λ (a : Agent R). f (shell_of a)) agents
   of_shells f [] = refl
   of_shells {B} f (a ∷ agents) = ap (λ (l : List B). f (shell_of a) ∷ l) (of_shells f agents)
 
   module _ (agents news : List (Agent R)) (shells : map shell_of news ≡ map shell_of agents) where
     part_same : {B : Type 0} (f : Shell → B)
-      → map (λ (a : Agent R). f (shell_of a)) news ≡ map (λ (a : Agent R). f (shell_of a)) agents
+        → map (λ (a : Agent R). f (shell_of a)) news ≡ map (λ (a : Agent R). f (shell_of a)) agents
     part_same f = sym (of_shells f news) ∙ ap (map f) shells ∙ of_shells f agents
 
     pub tellers_same : map teller_of news ≡ map teller_of agents
@@ -138,27 +140,27 @@ module _ {R : Type 0} where
 
     -- they are a queue's own where their callers are its map's, and its book and groups are those that were
     pub own_again : (queue : Queue R) (m : Map R) (b : Book) (s : Groups) (callers : List (Caller R))
-      → All (IsAgentOf queue) agents
+        → All (IsAgentOf queue) agents
         → map caller_of news ≡ callers → All (IsCallerOf m) callers → b.table ≡ queue.book.table → s ≡ queue.groups
         → All (λ (a : Agent R). IsCallerOf m (caller_of a) × book.IsTellerOf b (teller_of a)
-          × groups.IsWaiterOf s (waiter_of a)) news
+        × groups.IsWaiterOf s (waiter_of a)) news
     own_again queue m b s callers own is mine books all =
-      own_all m b s news callers (map teller_of agents) (map waiter_of agents)
+        own_all m b s news callers (map teller_of agents) (map waiter_of agents)
         (record { callers_are = is; tellers_are = tellers_same; waiters_are = waiters_same }) mine
         (All-map (book.IsTellerOf b) teller_of agents (λ k d l. (own k d l).1 ∙ (λ j. (sym books j).shared.table_id)))
         (All-map (groups.IsWaiterOf s) waiter_of agents (λ k d l. (own k d l).2
-          ∙ ap (λ (z : Groups). z.table.shared.table_id) (sym all)))
+        ∙ ap (λ (z : Groups). z.table.shared.table_id) (sym all)))
 
     -- what a resize leaves, where the callers moved on and the rest was kept
     pub is_resized : (old new : Queue R) (depth : ℕ) (layout : Layout) (callers : List (Caller R))
-      → All (IsAgentOf old) agents
+        → All (IsAgentOf old) agents
         → map caller_of news ≡ callers → layout ≡ layout_at old depth
-          → MoveOn layout old.map (map caller_of agents) new.map callers → KeepsRest old new
+        → MoveOn layout old.map (map caller_of agents) new.map callers → KeepsRest old new
         → IsResized old agents depth new news
     is_resized old new depth layout callers own is laid on rest =
         let moved : MoveOn (layout_at old depth) old.map (map caller_of agents) new.map (map caller_of news) =
         subst (λ (z : Layout × List (Caller R)). MoveOn z.0 old.map (map caller_of agents) new.map z.1)
-          (λ j. (laid j, sym is j)) on in record {
+        (λ j. (laid j, sym is j)) on in record {
           callers = moved;
           tellers = tellers_same;
           waiters = waiters_same;
@@ -175,9 +177,9 @@ module _ {R : Type 0} (queue : Queue R) (agents : List (Agent R)) where
 
   -- and are there where the agents are
   pub callers_there : (count : ℕ) → HasAll (numbers_of agents) count
-    → HasAll (tags.numbers_of (map caller_of agents)) count
+      → HasAll (tags.numbers_of (map caller_of agents)) count
   callers_there count = subst (λ (l : List ℕ). HasAll l count) (caller_numbers agents
-    ∙ numbers-records (map caller_of agents))
+      ∙ numbers-records (map caller_of agents))
 
 module _ {R : Type 0} (queue : Queue R) where
   -- the queue with this map
@@ -206,7 +208,7 @@ module _ {R : Type 0} (queue : Queue R) where
       × (queue.callers ≡ m.shape.callers)) → with_map m b n a ≡ queue
   same_queue m e b n = subst (λ (m : Map R). (a : (book.tellers_of queue.book ≡ m.shape.callers)
       × (groups.waiters_of queue.groups ≡ m.shape.callers) × (queue.callers ≡ m.shape.callers))
-        → with_map m b n a ≡ queue)
+      → with_map m b n a ≡ queue)
       (sym e) (λ a. λ j. with_map queue.map (ℕ_set _ _ b queue.batch_is j)
       (le_prop n.0 queue.narrow.0 j, le_prop n.1 queue.narrow.1 j, le_prop n.2 queue.narrow.2 j)
       (ℕ_set _ _ a.0 queue.as_many.0 j, ℕ_set _ _ a.1 queue.as_many.1 j, ℕ_set _ _ a.2 queue.as_many.2 j))
@@ -226,10 +228,10 @@ module _ {R : Type 0} (queue : Queue R) (agents : List (Agent R)) (own : All (Is
 
     -- and the agents go on with them
     pub resized_here : (new : Queue R) (news : List (Agent R)) → next ≡ new.map → map caller_of news ≡ callers
-      → map shell_of news ≡ shells
+        → map shell_of news ≡ shells
         → layout.shift ≡ (layout_of queue).shift → KeepsRest queue new → IsResized queue agents layout.depth new news
     resized_here new news at is same shift rest =
-      is_resized agents news (same ∙ left) queue new layout.depth layout callers own is
+        is_resized agents news (same ∙ left) queue new layout.depth layout callers own is
         (λ j. record { depth = layout.depth; shift = shift j })
         (subst (λ (z : Map R). MoveOn layout queue.map (map caller_of agents) z callers) at on_here) rest
 
@@ -240,9 +242,9 @@ module _ {R : Type 0} (queue : Queue R) (agents : List (Agent R)) (own : All (Is
     -- so do those that came back
     pub fit_back : FitShells callers shells
     fit_back = subst (FitShells callers) (sym left) (fit_shells agents callers (same_here.count
-      ∙ length-map agents caller_of)
+        ∙ length-map agents caller_of)
         (same_serve agents callers same_here))
 
     pub back_here : (news : List (Agent R)) → map caller_of news ≡ callers → map shell_of news ≡ shells
-      → AreUnchanged agents news
+        → AreUnchanged agents news
     back_here news is shells_are = agents_same agents news (shells_are ∙ left) callers is same_here

@@ -52,18 +52,18 @@ module _ {R : Type 0} (queue : Queue R) (agents : List (Agent R)) (depth : ℕ) 
   is_too_deep Memory is deep = absurd (not_too_deep depth is.0.1 deep.1)
 
   is_in_use : (cause : ResizeCause) → Refused cause → (held posted : ℕ) → HasMap queue agents depth
-    → AreUsed agents held posted
+      → AreUsed agents held posted
       → cause ≡ InUse held posted
   is_in_use (Missing m) is held posted fits used =
-    absurd (none_missing (numbers_of agents) (agents_of queue) m fits.0 is)
+      absurd (none_missing (numbers_of agents) (agents_of queue) m fits.0 is)
   is_in_use DepthTooLarge is held posted fits used = absurd (not_too_deep depth fits.1 is.1)
   is_in_use (InUse h p) is held posted fits used = let a = is.1.0 ∙ sym used.0 in
-    let b = is.1.1 ∙ sym used.1 in λ j. InUse (a j) (b j)
+      let b = is.1.1 ∙ sym used.1 in λ j. InUse (a j) (b j)
   is_in_use (Waiting count) is held posted fits used = absurd (used.2 is.1.0)
   is_in_use Memory is held posted fits used = absurd (used.2 is.1)
 
   is_waiting : (cause : ResizeCause) → Refused cause → (n : ℕ) → HasMap queue agents depth
-    → AreWaiting agents n → cause ≡ Waiting n
+      → AreWaiting agents n → cause ≡ Waiting n
   is_waiting (Missing m) is n fits some = absurd (none_missing (numbers_of agents) (agents_of queue) m fits.0 is)
   is_waiting DepthTooLarge is n fits some = absurd (not_too_deep depth fits.1 is.1)
   is_waiting (InUse h p) is n fits some = absurd (is.1.2 some.0)
@@ -89,7 +89,7 @@ module _ {R : Type 0} (queue : Queue R) (agents : List (Agent R)) (depth : ℕ) 
 
   -- nothing but memory is in the way
   pub told_free : {A : Type 0} (r : Result A (ResizeFault R)) → MayResize queue agents depth
-    → IfErr r (λ fault. fault.cause ≡ Memory) → AreTold (IsRefusedAs r)
+      → IfErr r (λ fault. fault.cause ≡ Memory) → AreTold (IsRefusedAs r)
   told_free (Ok x) may memory = record {
     missing = λ n. ((λ e. absurd e), λ least. none_missing (numbers_of agents) (agents_of queue) n may.0.0 least);
     too_deep = ((λ e. absurd e), λ deep. not_too_deep depth may.0.1 deep.1);

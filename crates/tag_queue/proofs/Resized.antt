@@ -61,7 +61,7 @@ module _ {R : Type 0} where
       (bc.same_else.0 ∙ ab.same_else.0, (bc.same_else.1.0 ∙ ab.same_else.1.0, bc.same_else.1.1 ∙ ab.same_else.1.1))
 
   pub unchanged-trans : (olds mids news : List (Agent R)) → AreUnchanged olds mids → AreUnchanged mids news
-    → AreUnchanged olds news
+      → AreUnchanged olds news
   unchanged-trans olds mids news first then = record {
     count = then.count ∙ first.count;
     each = λ n a c p q.
@@ -71,18 +71,18 @@ module _ {R : Type 0} where
 
   -- so are their callers
   pub unchanged-callers : (olds news : List (Agent R)) → AreUnchanged olds news
-    → core.AreUnchanged (map caller_of olds) (map caller_of news)
+      → core.AreUnchanged (map caller_of olds) (map caller_of news)
   unchanged-callers olds news same = record {
     count = length-map news caller_of ∙ same.count ∙ sym (length-map olds caller_of);
     each = λ n x y p q.
         let a = entry_of_map caller_of olds n x p in let b = entry_of_map caller_of news n y q in
         subst (λ (z : Caller R × Caller R). core.IsUnchanged z.0 z.1) (λ j. (a.2 j, b.2 j))
-          (same.each n a.0 b.0 a.1 b.1).caller;
+        (same.each n a.0 b.0 a.1 b.1).caller;
   }
 
   -- and their other parts
   part_same : {B : Type 0} (f : Agent R → B) → ((a b : Agent R) → IsUnchanged a b → f b ≡ f a)
-    → (olds news : List (Agent R)) → AreUnchanged olds news
+      → (olds news : List (Agent R)) → AreUnchanged olds news
       → map f news ≡ map f olds
   part_same f is [] [] same = refl
   part_same f is [] (b ∷ news) same = let e = same.count in absurd (omega arith)
@@ -95,28 +95,28 @@ module _ {R : Type 0} where
   pub unchanged-numbers : (olds news : List (Agent R)) → AreUnchanged olds news → numbers_of news ≡ numbers_of olds
   unchanged-numbers olds news same =
       caller_numbers news ∙ ap (λ (z : List (Record R)). numbers z) (unchanged-records olds news same)
-        ∙ sym (caller_numbers olds)
+      ∙ sym (caller_numbers olds)
 
   -- none of them is missing
   pub unchanged-there : (olds news : List (Agent R)) → AreUnchanged olds news → (count : ℕ)
-    → HasAll (numbers_of olds) count
+      → HasAll (numbers_of olds) count
       → HasAll (numbers_of news) count
   unchanged-there olds news same count = subst (λ (z : List ℕ). HasAll z count) (sym (unchanged-numbers olds news same))
 
   -- a resize of agents that are as they were is one of those that they were
   pub resized_from : (queue : Queue R) (olds mids : List (Agent R)) (depth : ℕ) (new : Queue R)
-    (resized : List (Agent R)) → AreUnchanged olds mids
+      (resized : List (Agent R)) → AreUnchanged olds mids
       → IsResized queue mids depth new resized → IsResized queue olds depth new resized
   resized_from queue olds mids depth new resized same is = record {
     callers = record {
       next = is.callers.next;
       goes_on = subst (λ (z : List (Record R)). GoesOnAfter (shape_of queue) z (shape_of new))
-        (unchanged-records olds mids same) is.callers.goes_on;
+          (unchanged-records olds mids same) is.callers.goes_on;
       callers = reopened_after new.map (map caller_of olds) (map caller_of mids) (map caller_of resized)
-        (unchanged-callers olds mids same) is.callers.callers;
+          (unchanged-callers olds mids same) is.callers.callers;
       own = is.callers.own;
       leads = leads_after queue.map new.map (map caller_of olds) (map caller_of mids)
-        (unchanged-callers olds mids same) is.callers.leads;
+          (unchanged-callers olds mids same) is.callers.leads;
       free = is.callers.free;
     };
     tellers = is.tellers ∙ part_same teller_of (λ a b u. u.same_else.1.0) olds mids same;

@@ -78,31 +78,31 @@ module _ {R : Type 0} (map : Map R) (tags : List ℕ) (i : ℕ) (old now : Calle
       (less : Releases (IsInMask map.shape.layout word mask) now next) (some : 1 ≤ length so.run) where
     abbrev all_gives : GivesAll map.shape.layout (so.done ++ so.run) old next
     all_gives = gives_more map old now next so.done so.run word mask found some so.mask_is
-      so.given so.elsewhere adds less
+        so.given so.elsewhere adds less
 
     all_back : (record_of next).back ≡ (record_of old).back + length (so.done ++ so.run)
     all_back = let step = ap (λ (r : Record R). r.back) adds.known in let before = so.back in let ones = so.ones in
         let long = length-append so.done so.run in omega arith
 
     pub ends : length tags ≤ i → GivesAll map.shape.layout tags old next
-      × ((record_of next).back ≡ (record_of old).back + length tags)
+        × ((record_of next).back ≡ (record_of old).back + length tags)
     ends past = let all : so.done ++ so.run ≡ tags = so.together ∙ take_all tags i past in
         subst (λ (l : List ℕ). GivesAll map.shape.layout l old next
-          × ((record_of next).back ≡ (record_of old).back + length l)) all (all_gives, all_back)
+        × ((record_of next).back ≡ (record_of old).back + length l)) all (all_gives, all_back)
 
   module _ (inside : i < length tags) (held : AreHeldOnce old tags) (room : place_of map.shape.layout (get_or tags i 0)
-    < word_depth map.shape.layout (word_of map.shape.layout (get_or tags i 0)))
+      < word_depth map.shape.layout (word_of map.shape.layout (get_or tags i 0)))
       (near : word_of map.shape.layout (get_or tags i 0) < words map.shape.layout) where
     fresh : ¬ (Contains (take i tags) (get_or tags i 0))
     fresh = not_before tags i inside held.1
 
     not_done : ¬ (Contains so.done (get_or tags i 0))
     not_done d = fresh (subst (λ (l : List ℕ). Contains l (get_or tags i 0)) so.together
-      (Contains-append_left so.done so.run (get_or tags i 0) d))
+        (Contains-append_left so.done so.run (get_or tags i 0) d))
 
     not_run : ¬ (Contains so.run (get_or tags i 0))
     not_run r = fresh (subst (λ (l : List ℕ). Contains l (get_or tags i 0)) so.together
-      (Contains-append_right so.done so.run (get_or tags i 0) r))
+        (Contains-append_right so.done so.run (get_or tags i 0) r))
 
     still : Holds now (get_or tags i 0)
     still = (so.given.less.kept (get_or tags i 0) not_done (held.0 i 0 inside)).0
@@ -111,9 +111,9 @@ module _ {R : Type 0} (map : Map R) (tags : List ℕ) (i : ℕ) (old now : Calle
     low = place_small map.shape map.small.1 (get_or tags i 0)
 
     bit_fits : IsWithin map.shape.layout (word_of map.shape.layout (get_or tags i 0))
-      (2 ^ place_of map.shape.layout (get_or tags i 0))
+        (2 ^ place_of map.shape.layout (get_or tags i 0))
     bit_fits = pow_below (place_of map.shape.layout (get_or tags i 0))
-      (word_depth map.shape.layout (word_of map.shape.layout (get_or tags i 0))) room
+        (word_depth map.shape.layout (word_of map.shape.layout (get_or tags i 0))) room
 
     one_more : take (i + 1) tags ≡ take i tags ++ get_or tags i 0 ∷ []
     one_more = take_more tags i 0 inside
@@ -126,19 +126,19 @@ module _ {R : Type 0} (map : Map R) (tags : List ℕ) (i : ℕ) (old now : Calle
       done = so.done;
       run = so.run ++ u ∷ [];
       together = sym (append_assoc so.done so.run (u ∷ [])) ∙ ap (λ (l : List ℕ). l ++ u ∷ []) so.together
-        ∙ sym one_more;
+          ∙ sym one_more;
       given = so.given;
       back = so.back;
       elsewhere = so.elsewhere;
       there = so.there;
       within = or_lt (word_depth l word) mask (2 ^ place_of l u) so.within
-        (subst (λ (w : ℕ). IsWithin l w (2 ^ place_of l u)) (sym here) bit_fits);
+          (subst (λ (w : ℕ). IsWithin l w (2 ^ place_of l u)) (sym here) bit_fits);
       mask_is = mask_of_more map.shape map.small.1 so.run word mask u here so.mask_is;
       ones = let one = ones_more mask (place_of l u) fits low
-        (bit_of_other map.shape map.small.1 so.run word mask u here so.mask_is not_run) in
+          (bit_of_other map.shape map.small.1 so.run word mask u here so.mask_is not_run) in
           let before = so.ones in let long = length-append so.run (u ∷ []) in omega arith;
       held = λ t n. ⊎_elim (λ (r : Contains so.run t). so.held t r) (λ (e : u ≡ t). subst (Holds now) e still)
-        (Contains-push_cases so.run u t n);
+          (Contains-push_cases so.run u t n);
       some = inl (let long = length-append so.run (u ∷ []) in omega arith);
     }
 
@@ -147,10 +147,10 @@ module _ {R : Type 0} (map : Map R) (tags : List ℕ) (i : ℕ) (old now : Calle
         → Releases (IsInMask map.shape.layout word mask) now next
         → word ≢ word_of map.shape.layout (get_or tags i 0)
         → SoFar map tags (i + 1) old next (word_of map.shape.layout (get_or tags i 0))
-          (2 ^ place_of map.shape.layout (get_or tags i 0))
+        (2 ^ place_of map.shape.layout (get_or tags i 0))
     begins_run next found next_is adds less other = let u : ℕ = get_or tags i 0 in let l = map.shape.layout in
         let some : 1 ≤ length so.run =
-          ⊎_elim (λ (h : 1 ≤ length so.run). h) (λ (first : (i ≡ 0) × (word ≡ word_of l (get_or tags 0 0))).
+        ⊎_elim (λ (h : 1 ≤ length so.run). h) (λ (first : (i ≡ 0) × (word ≡ word_of l (get_or tags 0 0))).
         absurd (other (first.1 ∙ ap (λ (j : ℕ). word_of l (get_or tags j 0)) (sym first.0)))) so.some in
         let all = all_gives next found adds less some in record {
           caller = next_is;
@@ -167,6 +167,6 @@ module _ {R : Type 0} (map : Map R) (tags : List ℕ) (i : ℕ) (old now : Calle
           held = λ t n. ⊎_elim (λ (z : Contains [] t). absurd (none_in t z))
               (λ (e : u ≡ t). subst (Holds next) e (all.less.kept u
               (λ c. fresh (subst (λ (l : List ℕ). Contains l u) so.together c)) (held.0 i 0 inside)).0)
-                (Contains-push_cases [] u t n);
+              (Contains-push_cases [] u t n);
           some = inl (omega arith);
         }

@@ -45,14 +45,14 @@ module _ {R : Type 0} where
 
   -- a caller with the same record holds the same tags
   pub holds_same : (old new : Caller R) → record_of new ≡ record_of old → (tag : ℕ)
-    → core.Holds new tag ↔ core.Holds old tag
+      → core.Holds new tag ↔ core.Holds old tag
   holds_same old new e tag =
       let P : Record R → Type 0 = λ r. (tag < r.shape.layout.depth) × (tag_bit r.shape.layout r.held tag ≡ 1) in
       (subst P e, subst P (sym e))
 
   -- an agent whose caller is as it was, and whose other parts were not touched
   pub agent_same : (old new : Agent R) → core.IsUnchanged (caller_of old) (caller_of new)
-    → SameElse old new → IsUnchanged old new
+      → SameElse old new → IsUnchanged old new
   agent_same old new one else = record {
     caller = one;
     holds = holds_same (caller_of old) (caller_of new) one.known;
@@ -61,12 +61,12 @@ module _ {R : Type 0} where
 
   -- what holds of all holds once one more is pushed
   pub all_pushed : (P : Agent R → Type 0) (news rest : List (Agent R)) (back : Agent R) → news ≡ rest ++ back ∷ []
-    → All P rest → P back → All P news
+      → All P rest → P back → All P news
   all_pushed P news rest back pushed all one = subst (All P) (sym pushed) (All-push P rest back all one)
 
   -- the last agent came off the end, and stands there again
   pub unchanged-back : (olds front news rest : List (Agent R)) (last back : Agent R) → olds ≡ front ++ last ∷ []
-    → news ≡ rest ++ back ∷ []
+      → news ≡ rest ++ back ∷ []
       → AreUnchanged front rest → IsUnchanged last back → AreUnchanged olds news
   unchanged-back olds front news rest last back taken pushed same one =
       subst (λ (z : List (Agent R) × List (Agent R)). AreUnchanged z.0 z.1) (λ j. (sym taken j, sym pushed j))
@@ -91,8 +91,10 @@ module _ {R : Type 0} where
   standing_same (a ∷ olds) [] same = let e = same.count in absurd (omega arith)
   standing_same (a ∷ olds) (b ∷ news) same = let e = same.count in
       let waiter = (same.each 0 a b refl refl).same_else.1.1 in
-      let rest = standing_same olds news record { count = omega arith;
-        each = λ n x y p q. same.each (suc n) x y p q } in
+      let rest = standing_same olds news record {
+        count = omega arith;
+        each = λ n x y p q. same.each (suc n) x y p q;
+      } in
       λ j. cond (is_some (standing_of_waiter (waiter j))) (1 + rest j) (rest j)
 
   standing-count : (agents : List (Agent R)) → standing agents ≡ standing_count agents
@@ -100,7 +102,7 @@ module _ {R : Type 0} where
 
   -- as many of them stand in a group
   pub unchanged-standing : (olds news : List (Agent R)) → AreUnchanged olds news
-    → standing_count news ≡ standing_count olds
+      → standing_count news ≡ standing_count olds
   unchanged-standing olds news same = sym (standing-count news) ∙ standing_same olds news same ∙ standing-count olds
 
   -- as many records as agents

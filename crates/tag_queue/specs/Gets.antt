@@ -49,9 +49,9 @@ pub record GetsShallow {R : Type 0} (l : Layout) (depth : ℕ) (answer : Option 
 pub record GetsBatch {R : Type 0} (l : Layout) (n : ℕ) (answer : Option (ℕ × ℕ)) (old new : Agent R) : Type 0 where
   pub gains : GainsRun l answer (caller_of old) (caller_of new)
   pub steps : Makes (caller_of old) (caller_of new)
-    (IsBatchGet l n (word_of l (reduced l.depth (hint_of old).at)) answer)
+      (IsBatchGet l n (word_of l (reduced l.depth (hint_of old).at)) answer)
   pub alone : IsAlone (caller_of old)
-    → ChoosesRun l n (word_of l (reduced l.depth (hint_of old).at)) answer (caller_of old) (caller_of new)
+      → ChoosesRun l n (word_of l (reduced l.depth (hint_of old).at)) answer (caller_of old) (caller_of new)
   pub hint : BatchFollows l.depth n (hint_of old) (hint_of new) answer
   pub others : SameCounts old new
 

@@ -38,7 +38,7 @@ pub record IsOpen {R : Type 0} (options : Options) (queue : Queue R) (agents : L
   pub tags : IsNew (layout_of queue) options.callers options.life queue.map
   pub callers : AreNew queue.map (map caller_of agents)
   pub book : IsOpenBook (wake_batch (layout_of queue) options.min_shallow) options.callers options.cap
-    queue.book (map teller_of agents)
+      queue.book (map teller_of agents)
   pub groups : AreOpenGroups options.callers queue.groups (map waiter_of agents)
   pub own : All (IsAgentOf queue) agents
   pub hints : All (HasHint (first_hint options.round_robin)) agents

@@ -25,7 +25,7 @@ pub record Fits {R : Type 0} (number : ℕ) (caller : Caller R) (teller : Teller
 abbrev pub FitTogether : {R : Type 0} → List (Caller R) → List Teller → List Waiter → Type 0
 FitTogether {R} callers tellers waiters = (n : ℕ) (caller : Caller R) (teller : Teller) (waiter : Waiter)
     → get_elem? callers n ≡ some caller → get_elem? tellers n ≡ some teller → get_elem? waiters n ≡ some waiter
-      → Fits n caller teller waiter
+    → Fits n caller teller waiter
 
 -- these are the parts of the agents, in their order
 pub record AreParts {R : Type 0} (agents : List (Agent R)) (callers : List (Caller R)) (tellers : List Teller)

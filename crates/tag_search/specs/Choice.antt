@@ -52,16 +52,16 @@ words_in visits = map (λ visit. visit.word) visits
 -- a word that answers one of them; the place answered is free no more
 pub data IsChoice (l : Layout) (old : Pool) : List Visit → Option ℕ → Pool → Type 0 where
   nothing : {visits : List Visit} → All (IsFull old) visits
-    → IsChoice l old visits None (freed_in (words_in visits) old)
+      → IsChoice l old visits None (freed_in (words_in visits) old)
   chosen_free : (full behind : List Visit) (visit : Visit) {place : ℕ} → All (IsFull old) full
       → IsFirst (IsFree old visit.word) (IsSet old visit.word) visit.rank place
       → IsChoice l old (full ++ visit ∷ behind) (Some (tag_at l visit.word place))
-        (taken_at visit.word place (freed_in (words_in full) old))
+      (taken_at visit.word place (freed_in (words_in full) old))
   chosen_aside : (full behind : List Visit) (visit : Visit) {place : ℕ} → All (IsFull old) full
       → All (IsSet old visit.word) visit.rank
-        → IsFirst (IsAside old visit.word) (IsBusy old visit.word) visit.rank place
+      → IsFirst (IsAside old visit.word) (IsBusy old visit.word) visit.rank place
       → IsChoice l old (full ++ visit ∷ behind) (Some (tag_at l visit.word place))
-        (taken_at visit.word place (freed_in (visit.word ∷ words_in full) old))
+      (taken_at visit.word place (freed_in (visit.word ∷ words_in full) old))
 
 -- the place is the least of the word's first so many that is free or set aside
 pub record IsLeastOpen (p : Pool) (word depth place : ℕ) : Type 0 where
@@ -85,6 +85,6 @@ pub record IsOpenRun (l : Layout) (n : ℕ) (p : Pool) (word place bits : ℕ) :
 pub data IsBatchChoice (l : Layout) (n : ℕ) (old : Pool) : List ℕ → Option (ℕ × ℕ) → Pool → Type 0 where
   no_batch : {words : List ℕ} → All (HasNoRun l n old) words → IsBatchChoice l n old words None (freed_in words old)
   batch : (passed behind : List ℕ) (word : ℕ) {place bits : ℕ} → All (HasNoRun l n old) passed
-    → IsOpenRun l n old word place bits
+      → IsOpenRun l n old word place bits
       → IsBatchChoice l n old (passed ++ word ∷ behind) (Some (tag_at l word place, bits))
-        (taken_from word place n (freed_in (word ∷ passed) old))
+      (taken_from word place n (freed_in (word ∷ passed) old))

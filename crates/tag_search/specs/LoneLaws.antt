@@ -49,4 +49,4 @@ LoneBatchesChoose R =
     (k : Shape) (h : History R) (newer older : List (Step R)) (steps : List WordStep) → IsLone k h newer older steps
     → (l : Layout) (n first : ℕ) (answer : Option (ℕ × ℕ)) → IsBatchGet l n first answer steps
     → IsBatchChoice l n (pool_of (words_left older)) (batch_words l first) answer
-      (pool_of (words_left (own_after steps older)))
+    (pool_of (words_left (own_after steps older)))

@@ -20,7 +20,7 @@ pool_of_marks l free aside = record { free = mark_at l free; aside = mark_at l a
 abbrev pub free_then : Layout → List Bool → List Bool → List ℕ → ℕ → ℕ → ℕ → ℕ → ℕ → ℕ → Bool
 free_then l free aside swept word place n tag i k =
     (slice_index_or free tag false || (is_in i swept && slice_index_or aside tag false))
-      && not (nat_eq i word && (nat_le place k && nat_lt k (place + n)))
+    && not (nat_eq i word && (nat_le place k && nat_lt k (place + n)))
 
 -- and of one that is still set aside
 abbrev pub aside_then : List Bool → List ℕ → ℕ → ℕ → Bool

@@ -57,5 +57,7 @@ aside_at word place p = record p { aside = λ other at. p.aside other at || (nat
 
 -- the places of the mask are free in the word
 abbrev pub free_at : ℕ → ℕ → Pool → Pool
-free_at word mask p = record p { free = λ other place. p.free other place
-    || (nat_eq other word && nat_lt place 64 && nat_eq (bit_at mask place) 1) }
+free_at word mask p = record p {
+  free = λ other place. p.free other place
+      || (nat_eq other word && nat_lt place 64 && nat_eq (bit_at mask place) 1);
+}

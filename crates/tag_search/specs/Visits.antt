@@ -21,8 +21,10 @@ shallow_reach l depth hint = record { start = place_of l hint; limit = λ i. sha
 
 -- the visit of a word: the first word is begun at the start, each other at its place 0
 abbrev pub visit_of : ℕ → Reach → ℕ → Visit
-visit_of first reach i = record { word = i;
-    rank = scan_order (cond (nat_eq i first) reach.start 0) (reach.limit i) reach.wrap }
+visit_of first reach i = record {
+  word = i;
+  rank = scan_order (cond (nat_eq i first) reach.start 0) (reach.limit i) reach.wrap;
+}
 
 -- a visit of each word, in cyclic order from the first
 abbrev pub visits : Layout → ℕ → Reach → List Visit

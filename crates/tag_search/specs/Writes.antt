@@ -21,7 +21,7 @@ pub record IsTidy (p : Plain) : Type 0 where
   pub aside_count : length p.aside ≡ words p.layout
   pub within : (word place : ℕ) → bit_at (slice_index p.word word) place ≡ 1 → place < word_depth p.layout word
   pub taken : (word place : ℕ) → bit_at (slice_index p.aside word) place ≡ 1
-    → bit_at (slice_index p.word word) place ≡ 1
+      → bit_at (slice_index p.word word) place ≡ 1
 
 -- each of the 64 places of every word is free, and none is set aside
 pub record IsAllFree (p : Pool) : Type 0 where

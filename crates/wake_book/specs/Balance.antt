@@ -16,10 +16,10 @@ pub record IsBalanced (n : ℕ) (waiters : List (Record GroupStep)) (totals : Gr
   pub lawful : Lawful n MayStep history
   pub lists : AreListsOf history waiters
   pub standing : (g : ℕ) → g < 8 → waiting (word (words_in history) g) + granted (word (words_in history) g)
-    ≡ sum_over (stands_in g) waiters
+      ≡ sum_over (stands_in g) waiters
   pub active : slice_index (words_in history) active_at ≡ sum_over raised waiters
   pub active_all : (i : ℕ) (r : Record GroupStep) → get_elem? waiters i ≡ some r
-    → 1 ≤ stand r.steps → raised r.steps ≡ 1
+      → 1 ≤ stand r.steps → raised r.steps ≡ 1
   pub issued : totals.issued ≡ sum_over (total moved_by) waiters
   pub used : totals.used ≡ sum_over (total used_by) waiters
   pub granted_all : totals.granted ≡ sum_to (λ g. granted (word (words_in history) g)) 8

@@ -105,7 +105,7 @@ module _ {S : Type 0} where
   -- the completions are at least what the teller counted, and the wakeups that it just found
   abbrev pub looked_completions : table.Step S → Me S (View BookStep) → ℕ → Me S (View BookStep) → Type 0
   looked_completions step m found m' = Stepped (LookCompletions found) m m' × (found < 2 ^ 63)
-    × (total added (steps_of m.0) ≤ found)
+      × (total added (steps_of m.0) ≤ found)
       × ((wakeups : ℕ) (before : List BookStep) → steps_of m.0 ≡ LookWakeups wakeups ∷ before → wakeups ≤ found)
 
   -- the wakeups are found

@@ -44,6 +44,6 @@ IsCharge cap batch n steps steps' Below = (before : List BookStep) × CountsAndL
     × (start : ℕ) × (completions : ℕ) × (completions < start + batch) × (steps' ≡ looked start completions before)
 IsCharge cap batch n steps steps' (Won start) = (before : List BookStep) × CountsAndLoses cap batch n steps before
     × (completions : ℕ) × (start + batch ≤ completions)
-      × (steps' ≡ Advance start (start + batch) start ∷ looked start completions before)
+    × (steps' ≡ Advance start (start + batch) start ∷ looked start completions before)
 IsCharge cap batch n steps steps' Busy = (total added steps + n ≤ cap) × (found : ℕ) × (tries : ℕ) × (tries ≡ 16)
     × LosesTries tries batch (Add n found ∷ steps) steps'

@@ -56,7 +56,7 @@ abbrev pub WalksOn : ℕ → List GroupStep → List GroupStep → ℕ → Type 
 WalksOn nr steps steps' moved = (active : ℕ) × (1 ≤ active) × (first : ℕ) × (visits : ℕ) × (visits ≤ 8)
     × (before : List GroupStep) × (left : ℕ) × (next : ℕ)
     × AreVisits visits first nr (Look index_at first ∷ Look active_at active ∷ steps) before left next
-      × ((left ≡ 0) ⊎ (visits ≡ 8))
+    × ((left ≡ 0) ⊎ (visits ≡ 8))
     × (steps' ≡ Store next ∷ before) × (moved ≡ nr - left)
 
 -- a walk for nr makes no step where its waiter's moves could pass 2^56, and ends where it finds nobody active
@@ -75,7 +75,7 @@ abbrev pub Idles : ℕ → ℕ → List GroupStep → List GroupStep → Type 0
 Idles zero g steps steps' = steps' ≡ steps
 Idles (suc idles) g steps steps' = (found : ℕ) × (seen : ℕ) × (step : GroupStep) × (before : List GroupStep)
     × Idles idles g steps before × IsCalledFor g found seen step × (seen ≢ found)
-      × (steps' ≡ step ∷ looked g found before)
+    × (steps' ≡ step ∷ looked g found before)
 
 -- after idles the waiter looked at its group, and found this word
 abbrev pub IdlesAndLooks : ℕ → List GroupStep → List GroupStep → ℕ → Type 0

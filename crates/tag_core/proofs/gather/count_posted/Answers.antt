@@ -14,7 +14,7 @@ pub word-requires : goal.word-requires
 word-requires g c = let l : c.loop-tag.tag < c.args.layout.depth = search rules in (
   subst (λ (z : ℕ). z < slots_len c.args.ended.now.words) (sym c.state_spot.ensures)
       (subst (λ (z : ℕ). state_at c.args.layout c.loop-tag.tag < z) (sym c.requires.1)
-        (state_in c.args.layout c.loop-tag.tag l)),
+      (state_in c.args.layout c.loop-tag.tag l)),
   c.requires.0,
 )
 

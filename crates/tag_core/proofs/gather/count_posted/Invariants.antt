@@ -8,5 +8,5 @@ use Rattle.tag_core.proofs.gather.count_posted.Given as goal
 abbrev pub invariant-loop-tag : goal.invariant-loop-tag
 invariant-loop-tag g l =
     (l.posted ≡ sum_below (λ t. one_if (nat_eq (slice_index (slots_items l.ended.words) (state_at l.layout t)) 1))
-      l.tag) ×
+    l.tag) ×
     (l.posted ≤ l.tag)

@@ -31,7 +31,7 @@ returns g c =
     let held = a.sums.2 ∙ held_all k s sh a.seat.id v at c.requires.all in
     let posted = c.count_posted-posted.ensures.value
     ∙ ap (λ (z : List ℕ). sum_below (λ t. one_if (nat_eq (slice_index z (state_at k.layout t)) 1)) k.layout.depth)
-      (sym last.2)
+    (sym last.2)
     ∙ posted_all k s sh a.seat.id v at in
     let even = even_all k s sh a.seat.id v at in record {
       history = sh.history;
@@ -44,7 +44,7 @@ returns g c =
       totals = record { got = got; back = back; held = held; posted = posted };
       chain = count_chain k sh.history
           (record { got = a.won; back = a.back; held = a.held; posted = c.count_posted-posted.result }) m.chain
-            sh.lawful
+          sh.lawful
           (record { got = got; back = back; held = held; posted = posted });
       balance = omega arith;
       slots = c.take_out-slots.ensures.len ∙ c.close_with-ended.ensures.counts.1 ∙ m.wide.1;

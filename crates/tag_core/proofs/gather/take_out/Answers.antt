@@ -33,9 +33,9 @@ loop-i-preserved g c =
           ∙ ap (λ (z : ℕ). slice_index_or (set fs i false) z false) e ∙ put_out fs i)
           (λ (ne : n ≢ i). off n ne ∙ inv.empty n (omega arith));
       full = λ n le l. off n (λ (e : n ≡ i). omega arith)
-        ∙ inv.full n (omega arith) (subst (λ (z : ℕ). n < z) others.2 l);
+          ∙ inv.full n (omega arith) (subst (λ (z : ℕ). n < z) others.2 l);
       near = (let low : c.loop-i.i < slots_len c.loop-i.ended.slots = search rules in
-        let same = others.2 in omega arith);
+          let same = others.2 in omega arith);
       items = others.0 ∙ inv.items;
       len = others.2 ∙ inv.len;
       capacity = pushed.capacity ∙ inv.capacity;

@@ -73,7 +73,7 @@ invariant_of-result g c = let k = c.args.map.now.shape in let n : ℕ = c.args.n
       carries = subst (λ (z : Shape × List ℕ × List (ℕ × R)). Carries z.0.layout z.1 z.2)
           (λ j. (sym c.of.ensures j, sym blank j, sym (ap (λ x. x.1) now) j)) (carries_none R k (words k.layout));
       wide = ap length blank ∙ length-replicate (words k.layout) 0
-        ∙ ap (λ (z : Shape). words z.layout) (sym c.of.ensures);
+          ∙ ap (λ (z : Shape). words z.layout) (sym c.of.ensures);
       unspent = (omega arith, c.args.map.now.few.2);
       few_back = omega arith;
     }
@@ -99,6 +99,8 @@ returns-clause-caller g c = let k = c.args.map.now.shape in let n : ℕ = c.args
 
 pub returns-clause-rest : goal.returns-clause-rest
 returns-clause-rest g c = let k = c.args.map.now.shape in let n : ℕ = c.args.number in let R = g.row.R.Denot in
-    let is = ap (λ x. x.0) c.requires.rest ∙ ap viewing (next_fresh R k n k.callers c.requires.number) in
-    (c.split_seat-seat.ensures.0, c.split_seat-seat.ensures.2
-      ∙ (λ j. (ap other_views is j, ap (λ x. x.1) c.requires.rest j)))
+    let is = ap (λ x. x.0) c.requires.rest ∙ ap viewing (next_fresh R k n k.callers c.requires.number) in (
+      c.split_seat-seat.ensures.0,
+      c.split_seat-seat.ensures.2
+          ∙ (λ j. (ap other_views is j, ap (λ x. x.1) c.requires.rest j)),
+    )

@@ -13,14 +13,14 @@ use Rattle.tag_core.proofs.reopens.next_shape.Goals as goal
 pub index_mut-requires : goal.index_mut-requires
 index_mut-requires g c =
     let here = at_index c.args.callers.now c.loop-caller.caller-index c.caller-item.result
-      c.loop-caller-test.true c.caller-item.is in
+    c.loop-caller-test.true c.caller-item.is in
     let low = c.requires.below c.loop-caller.caller-index c.caller-item.result here in
     let long = c.loop-caller.invariant.long.0 in search rules
 
 pub index_mut-requires-in-loop-caller : goal.index_mut-requires-in-loop-caller
 index_mut-requires-in-loop-caller g c =
     let here = at_index c.args.callers.now c.loop-caller.caller-index c.caller-item.result
-      c.loop-caller-test.true c.caller-item.is in
+    c.loop-caller-test.true c.caller-item.is in
     let low = c.requires.below c.loop-caller.caller-index c.caller-item.result here in
     let long = c.loop-caller.invariant.long.1 in search rules
 
@@ -30,7 +30,7 @@ more : {R : Type 0} (f : Caller R → ℕ) (callers : List (Caller R)) (counts :
     → ((i : ℕ) (y : Caller R) → i < n → get_elem? callers i ≡ some y → get_or counts y.number 0 ≡ f y)
     → HaveOwnNumbers callers
     → (i : ℕ) (y : Caller R) → i < n + 1 → get_elem? callers i ≡ some y
-      → get_or (set counts x.number (f x)) y.number 0 ≡ f y
+    → get_or (set counts x.number (f x)) y.number 0 ≡ f y
 more f callers counts n x here low before once i y l at = dite (ℕ_discrete i n)
     (λ (same : i ≡ n). let is : x ≡ y = some-injective x y (sym here ∙ ap (get_elem? callers) (sym same) ∙ at) in
     subst (λ (z : Caller _). get_or (set counts x.number (f x)) z.number 0 ≡ f z) is
@@ -49,10 +49,10 @@ loop-caller-preserved g c =
         length-set c.loop-caller.back.items x.number x.back ∙ inv.long.1,
       );
       won = more (λ (z : Caller R). z.won) xs c.loop-caller.won.items n x here (let e = inv.long.0 in
-        omega arith) inv.won
+          omega arith) inv.won
           c.requires.once;
       back = more (λ (z : Caller R). z.back) xs c.loop-caller.back.items n x here (let e = inv.long.1 in
-        omega arith) inv.back
+          omega arith) inv.back
           c.requires.once;
     }
 

@@ -28,7 +28,7 @@ split_seat-requires g c =
       c.requires.seat,
       some_words m,
       splits_off m rest.id rest.me.0 (fresh_record k old.number)
-        (fresh k (old.number + 1) (k.callers - (old.number + 1)))
+          (fresh k (old.number + 1) (k.callers - (old.number + 1)))
           (first_is k old rest.me.0 c.requires.number (ap (λ x. x.0) c.requires.rest)),
     )
 
@@ -64,9 +64,9 @@ invariant_of-caller g c =
           (fresh_history R k old.number c.requires.number)) ∣₁;
       carries = subst (λ (z : Shape × List ℕ × List (ℕ × R)). Carries z.0.layout z.1 z.2)
           (λ j. (sym of j, sym c.requires.held j, sym (ap (λ x. x.1) c.split_seat.ensures.4) j))
-            (carries_none R k (words k.layout));
+          (carries_none R k (words k.layout));
       wide = ap length c.requires.held ∙ length-replicate (words k.layout) 0
-        ∙ ap (λ (z : Shape). words z.layout) (sym of);
+          ∙ ap (λ (z : Shape). words z.layout) (sym of);
       unspent = old.unspent;
       few_back = old.few_back;
     }

@@ -25,10 +25,10 @@ module _ {R : Type 0} (m : Map R) (old cur : List (Caller R)) (n : ℕ) (long : 
     (gone : (j : ℕ) (a b : Caller R) → get_elem? old j ≡ some a → get_elem? cur j ≡ some b → a.number < n
     → IsCallerOf m b × (record_of b ≡ reopened_record m.shape (record_of a)))
     (stays : (j : ℕ) (a b : Caller R) → get_elem? old j ≡ some a → get_elem? cur j ≡ some b
-      → n ≤ a.number → b ≡ a) where
+    → n ≤ a.number → b ≡ a) where
   -- the caller of the next number is as it was
   mine : (i : ℕ) (x : Caller R) → get_elem? cur i ≡ some x → x.number ≡ n
-    → (a : Caller R) × (get_elem? old i ≡ some a) × (x ≡ a)
+      → (a : Caller R) × (get_elem? old i ≡ some a) × (x ≡ a)
   mine i x at is =
       let low = within cur i x at in let a = entry old i (omega arith) in dite (dec_lt a.0.number n)
       (λ (lt : a.0.number < n).
@@ -47,23 +47,23 @@ module _ {R : Type 0} (m : Map R) (old cur : List (Caller R)) (n : ℕ) (long : 
       (new : IsCallerOf m x' × (record_of x' ≡ reopened_record m.shape (record_of x))) where
     -- one caller more goes on
     gone_more : (j : ℕ) (a b : Caller R) → get_elem? old j ≡ some a
-      → get_elem? (set cur i x') j ≡ some b → a.number < n + 1
+        → get_elem? (set cur i x') j ≡ some b → a.number < n + 1
         → IsCallerOf m b × (record_of b ≡ reopened_record m.shape (record_of a))
     gone_more j a b e f l = let w = mine i x at is in ⊎_elim
         (λ (t : (j ≡ i) × (x' ≡ b)).
         let same : x ≡ a = w.2 ∙ some-injective w.0 a (sym w.1 ∙ ap (get_elem? old) (sym t.0) ∙ e) in
         subst (λ (z : Caller R × Caller R). IsCallerOf m z.1
-          × (record_of z.1 ≡ reopened_record m.shape (record_of z.0)))
+        × (record_of z.1 ≡ reopened_record m.shape (record_of z.0)))
         (λ j. (same j, t.1 j)) new)
         (λ (t : (j ≢ i) × (get_elem? cur j ≡ some b)). gone j a b e t.1
         (let far : a.number ≢ n = (λ z. t.0 (once j i a w.0 e w.1 (z ∙ sym is
-          ∙ ap (λ (y : Caller R). y.number) w.2))) in
+        ∙ ap (λ (y : Caller R). y.number) w.2))) in
         omega arith))
         (at_set cur i j x' b f)
 
     -- the others stay
     stays_more : (j : ℕ) (a b : Caller R) → get_elem? old j ≡ some a → get_elem? (set cur i x') j ≡ some b
-      → n + 1 ≤ a.number → b ≡ a
+        → n + 1 ≤ a.number → b ≡ a
     stays_more j a b e f l = let w = mine i x at is in ⊎_elim
         (λ (t : (j ≡ i) × (x' ≡ b)).
         let same : x ≡ a = w.2 ∙ some-injective w.0 a (sym w.1 ∙ ap (get_elem? old) (sym t.0) ∙ e) in
@@ -88,7 +88,7 @@ pub index_mut-requires : goal.index_mut-requires
 index_mut-requires g c =
     let cur : List (Caller g.row.R.Denot) = c.loop-number.callers.items in
     let x = found cur c.as_slice.result.now c.in-Some.i c.loop-number.number c.as_slice.ensures.value
-      c.in-Some.ensures.some in
+    c.in-Some.ensures.some in
     let low = within cur c.in-Some.i x.0 x.1 in search rules
 
 -- the caller that is lent is the one found
@@ -99,18 +99,18 @@ lent {g} c =
     let R = g.row.R.Denot in let lent : Caller R = c.index_mut.result.now in
     let cur : List (Caller R) = c.loop-number.callers.items in
     let x = found cur c.as_slice.result.now c.in-Some.i c.loop-number.number c.as_slice.ensures.value
-      c.in-Some.ensures.some in
+    c.in-Some.ensures.some in
     let here = at_index cur c.in-Some.i lent (within cur c.in-Some.i x.0 x.1) c.index_mut.ensures.value in
     (here, ap (λ (z : Caller R). z.number) (some-injective lent x.0 (sym here ∙ x.1)) ∙ x.2)
 
 -- it is as it was
 as_it_was : {g : given.Over} (c : After-index_mut g)
     → (a : Caller g.row.R.Denot) × (get_elem? c.args.callers.now.items c.in-Some.i ≡ some a)
-      × (c.index_mut.result.now ≡ a)
+    × (c.index_mut.result.now ≡ a)
 as_it_was {g} c =
     let inv = c.loop-number.invariant in
     mine c.args.tags.now c.args.callers.now.items c.loop-number.callers.items c.loop-number.number
-      inv.long inv.gone inv.stays
+    inv.long inv.gone inv.stays
     c.in-Some.i c.index_mut.result.now (lent c).0 (lent c).1
 
 pub reseat-requires-clause-number : goal.reseat-requires-clause-number
@@ -125,7 +125,7 @@ pub reseat-requires-clause-counts : goal.reseat-requires-clause-counts
 reseat-requires-clause-counts g c =
     let R = g.row.R.Denot in let k = c.args.tags.now.shape in let a = as_it_was c in
     subst (λ (z : Caller R). (get_or k.won_before.value.items z.number 0 ≡ z.won)
-      × (get_or k.back_before.value.items z.number 0 ≡ z.back))
+    × (get_or k.back_before.value.items z.number 0 ≡ z.back))
     (sym a.2) (c.requires.counts.won c.in-Some.i a.0 a.1, c.requires.counts.back c.in-Some.i a.0 a.1)
 
 pub reseat-requires-clause-life : goal.reseat-requires-clause-life
@@ -137,7 +137,7 @@ reseat-requires-clause-held g c =
     let l = c.args.tags.now.shape.layout in
     all_last (λ (z : Vec ℕ Global). z.items ≡ replicate (words l) 0) c.pop.new.self.items c.in-Some-pop.held
     (subst (All (λ (z : Vec ℕ Global). z.items ≡ replicate (words l) 0)) c.in-Some-pop.ensures.items
-      c.loop-number.invariant.blank)
+    c.loop-number.invariant.blank)
 
 pub loop-number-preserved : goal.loop-number-preserved
 loop-number-preserved g c =
@@ -152,13 +152,13 @@ loop-number-preserved g c =
       left = (let less = ap length took ∙ length-append c.pop.new.self.items (c.in-Some-pop.held ∷ []) in
           let all = inv.left in omega arith);
       blank = all_front (λ (z : Vec ℕ Global). z.items ≡ replicate (words k.layout) 0)
-        c.pop.new.self.items c.in-Some-pop.held
+          c.pop.new.self.items c.in-Some-pop.held
           (subst (All (λ (z : Vec ℕ Global). z.items ≡ replicate (words k.layout) 0)) took inv.blank);
       long = length-set cur c.in-Some.i x' ∙ inv.long;
       gone = gone_more m c.args.callers.now.items cur n inv.long inv.gone inv.stays c.requires.once
-        c.in-Some.i x x' is.0 is.1
+          c.in-Some.i x x' is.0 is.1
           c.reseat.ensures.caller;
       stays = stays_more m c.args.callers.now.items cur n inv.long inv.gone inv.stays c.requires.once
-        c.in-Some.i x x' is.0 is.1
+          c.in-Some.i x x' is.0 is.1
           c.reseat.ensures.caller;
     }

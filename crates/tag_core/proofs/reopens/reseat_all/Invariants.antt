@@ -16,9 +16,9 @@ invariant-loop-number g l = record {
   blank : All (λ m. m.items ≡ replicate (words l.tags.shape.layout) 0) l.masks.items;
   long : length l.callers.items ≡ length l.fn.callers.items;
   gone : (j : ℕ) (a b : Caller g.row.R.Denot) → get_elem? l.fn.callers.items j ≡ some a
-    → get_elem? l.callers.items j ≡ some b
+      → get_elem? l.callers.items j ≡ some b
       → a.number < l.number → IsCallerOf l.tags b × (record_of b ≡ reopened_record l.tags.shape (record_of a));
   stays : (j : ℕ) (a b : Caller g.row.R.Denot) → get_elem? l.fn.callers.items j ≡ some a
-    → get_elem? l.callers.items j ≡ some b
+      → get_elem? l.callers.items j ≡ some b
       → l.number ≤ a.number → b ≡ a;
 }

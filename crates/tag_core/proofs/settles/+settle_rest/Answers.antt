@@ -68,4 +68,4 @@ returns-clause-unchanged g t c =
     (unchanged-more c.pop.new.self.items c.settle_rest-loans.new.callers.items last c.give_back-last.result
     c.settle_rest-loans.ensures.unchanged
     (subst (λ (z : Caller R). IsUnchanged z c.give_back-last.result) c.lend-lender.ensures.lender
-      c.give_back-last.ensures.unchanged))
+    c.give_back-last.ensures.unchanged))

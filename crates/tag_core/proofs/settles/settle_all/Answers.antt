@@ -32,7 +32,7 @@ module _ {R : Type 0} (olds front news rest : List (Caller R)) (last back : Call
     -- each is as it was
     all_same : AreUnchanged olds news
     all_same = subst (λ (z : List (Caller R) × List (Caller R)). AreUnchanged z.0 z.1)
-      (λ j. (sym taken j, sym pushed j))
+        (λ j. (sym taken j, sym pushed j))
         (unchanged-more front rest last back same (subst (λ (z : Caller R). IsUnchanged z back) is one))
 
     -- and their records are those that one history showed
@@ -73,7 +73,7 @@ returns-clause-own g c =
 pub returns-clause-unchanged : goal.returns-clause-unchanged
 returns-clause-unchanged g c =
     all_same c.args.callers.now.items c.pop.new.self.items c.push_reserved.new.self.items
-      c.settle_rest-loans.new.callers.items
+    c.settle_rest-loans.new.callers.items
     c.in-Some.last c.give_back-last.result _ c.in-Some.ensures.items c.start_lending-all.ensures.gathered _
     c.start_lending-all.ensures.lender c.give_back-last.ensures.unchanged c.settle_rest-loans.ensures.unchanged
     c.push_reserved.ensures.items
@@ -81,7 +81,7 @@ returns-clause-unchanged g c =
 pub returns-clause-settled : goal.returns-clause-settled
 returns-clause-settled g c =
     all_settled c.args.callers.now.items c.pop.new.self.items c.push_reserved.new.self.items
-      c.settle_rest-loans.new.callers.items
+    c.settle_rest-loans.new.callers.items
     c.in-Some.last c.give_back-last.result _ c.in-Some.ensures.items c.start_lending-all.ensures.gathered _
     c.start_lending-all.ensures.lender c.give_back-last.ensures.unchanged c.settle_rest-loans.ensures.unchanged
     c.push_reserved.ensures.items c.args.tags.now.shape c.settle_rest-loans.result.1 c.settle_rest-loans.ensures.settled

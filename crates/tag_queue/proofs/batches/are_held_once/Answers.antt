@@ -12,8 +12,11 @@ pub returns-then-not-holds : goal.returns-then-not-holds
 returns-then-not-holds g c = let tags = c.args.tags.now in let i : ℕ = c.loop-i.i in
     let within : i < length tags = search rules in
     elim c.then-not-holds.branch [
-      | then-not-holds-via-then-not-holds w ↦ (λ t. cc, λ h. absurd (let e = c.holds.ensures.1 (h.0 i 0 within) in
-        let n = w.if-not-holds.true in cc))
+      | then-not-holds-via-then-not-holds w ↦ (
+        λ t. cc,
+        λ h. absurd (let e = c.holds.ensures.1 (h.0 i 0 within) in
+            let n = w.if-not-holds.true in cc),
+      )
       | then-not-holds-via-else-not-holds+then-contains w ↦ (
         λ t. cc,
         λ h. absurd (let found = w.if-contains.ensures.cases in
@@ -31,9 +34,9 @@ loop-i-preserved g c = let tags = c.args.tags.now in let i : ℕ = c.loop-i.i in
     let same = eq-eqb (get_or (take i tags) j 0) (get_or tags i 0) (get_or-take i tags j 0 less ∙ e) in cc in
     record {
       held = below_more (λ (k : ℕ). Holds c.args.caller.now (get_or tags k 0)) i inv.held
-        (c.holds.ensures.0 (search rules));
+          (c.holds.ensures.0 (search rules));
       once = λ j k less l. dite (ℕ_discrete k i) (λ (e : k ≡ i). λ same. new j (omega arith) (same
-        ∙ ap (λ (n : ℕ). get_or tags n 0) e))
+          ∙ ap (λ (n : ℕ). get_or tags n 0) e))
           (λ (ne : k ≢ i). inv.once j k less (omega arith));
     }
 
@@ -42,7 +45,7 @@ returns g c = let tags = c.args.tags.now in let stop = c.loop-i-test.false in le
   λ t. (
     λ k d l. subst (Holds c.args.caller.now) (sym (get_or_default_zero tags k d l)) (inv.held k (omega arith)),
     λ j k d less l e. inv.once j k less (omega arith) (sym (get_or_default_zero tags j d (omega arith)) ∙ e
-      ∙ get_or_default_zero tags k d l),
+        ∙ get_or_default_zero tags k d l),
   ),
   λ h. search rules,
 )

@@ -31,14 +31,14 @@ loop-tag-preserved g c =
     let inside : i < length tags = search rules in let u : ℕ = get_or tags i 0 in
     let lay : c.layout-layout.result ≡ l = c.layout-layout.ensures in
     let here_is : c.word_of-here.result ≡ word_of l u = c.word_of-here.ensures.value
-      ∙ ap (λ (x : Layout). word_of x u) lay in
+    ∙ ap (λ (x : Layout). word_of x u) lay in
     let place_is : c.place_of.result ≡ place_of l u = c.place_of.ensures.value
-      ∙ ap (λ (x : Layout). place_of x u) lay in
+    ∙ ap (λ (x : Layout). place_of x u) lay in
     let bit : 1 * 2 ^ c.place_of.result % 2 ^ 64 ≡ 2 ^ place_of l u =
-      one_shl c.place_of.result 64 c.place_of.ensures.bound ∙ ap (λ (x : ℕ). 2 ^ x) place_is in
+    one_shl c.place_of.result 64 c.place_of.ensures.bound ∙ ap (λ (x : ℕ). 2 ^ x) place_is in
     let near : word_of l u < words l =
-      subst (λ (x : ℕ). x < words l) here_is
-      (subst (λ (x : Layout). c.word_of-here.result < words x) lay c.word_of-here.ensures.within) in
+    subst (λ (x : ℕ). x < words l) here_is
+    (subst (λ (x : Layout). c.word_of-here.result < words x) lay c.word_of-here.ensures.within) in
     let room : place_of l u < word_depth l (word_of l u) = subst (λ (x : ℕ). x < word_depth l (word_of l u)) place_is
     (subst (λ (x : Layout). c.place_of.result < word_depth x (word_of x u)) lay c.place_of.ensures.within) in
     let P : Caller g.row.R.Denot × ℕ × ℕ → Type 0 = λ x. SoFar map tags (i + 1) old x.0 x.1 x.2 in
@@ -54,7 +54,7 @@ loop-tag-preserved g c =
           let mask_is : c.if-here-word.mask ≡ 2 ^ place_of l u = w.mask-is ∙ bit in
           subst P (λ z. (sym w.caller-is z, sym word_to z, sym mask_is z))
           (begins_run map tags i old now word mask so inside c.requires.held room near w.give.new.caller
-            w.give.ensures.step.0 w.give.ensures.caller w.give.ensures.step.1 w.give.ensures.released other)
+          w.give.ensures.step.0 w.give.ensures.caller w.give.ensures.step.1 w.give.ensures.released other)
     ]
 
 pub returns : goal.returns
@@ -63,9 +63,9 @@ returns g c =
     let i : ℕ = c.loop-tag.tag-index in
     let stop : length tags ≤ i = search rules in let long : 1 ≤ length tags = c.requires.some in
     let some : 1 ≤ length so.run = ⊎_elim (λ (h : 1 ≤ length so.run). h) (λ (first : (i ≡ 0) × _). absurd (let none =
-      first.0 in omega arith)) so.some in
+    first.0 in omega arith)) so.some in
     let all = ends map tags i c.args.caller.now c.loop-tag.caller c.loop-tag.word c.loop-tag.mask so c.give-2.new.caller
-      c.give-2.ensures.step.0 c.give-2.ensures.step.1 c.give-2.ensures.released some stop in record {
+    c.give-2.ensures.step.0 c.give-2.ensures.step.1 c.give-2.ensures.released some stop in record {
       caller = c.give-2.ensures.caller;
       gives = all.0;
       back = all.1;

@@ -27,9 +27,9 @@ returns-in-Ok-reopen-clause-ok g c =
     let next : Map g.row.R.Denot = c.in-Ok-reopen.reopened.0 in record {
       next = subst (λ (z : Map g.row.R.Denot). IsNext c.args.layout z.shape next.shape) told.map went.next;
       goes_on = goes_on_after s c.args.tags c.args.callers.items next.shape told.map told.callers
-        told.settled went.goes_on;
+          told.settled went.goes_on;
       callers = reopened_after next c.args.callers.items s.callers.items c.in-Ok-reopen.reopened.1.items
-        told.callers went.callers;
+          told.callers went.callers;
       own = went.own;
       leads = leads_on c.args.tags next c.args.callers.items s told.map told.callers told.settled went.goes_on;
       free = went.free;

@@ -27,15 +27,15 @@ returns-clause-open g c = let parts = c.in_ok-agents.ensures.parts in let option
       tags = subst (λ (l : Layout). IsNew l options.callers options.life c.in-Ok.map) (sym new.layout_is) new;
       callers = subst (AreNew c.in-Ok.map) (sym parts.callers_are) c.in-Ok.ensures.callers;
       book = subst (λ (l : Layout). book.IsOpenBook (wake_batch l options.min_shallow) options.callers options.cap
-        c.in-Ok-open.book (map teller_of c.in_ok-agents.agents.items)) (sym new.layout_is)
+          c.in-Ok-open.book (map teller_of c.in_ok-agents.agents.items)) (sym new.layout_is)
           (subst (λ (n : ℕ). book.IsOpenBook n options.callers options.cap c.in-Ok-open.book
-            (map teller_of c.in_ok-agents.agents.items)) c.wake_batch-batch.ensures.value
+          (map teller_of c.in_ok-agents.agents.items)) c.wake_batch-batch.ensures.value
           (subst (λ (l : List Teller). book.IsOpenBook c.wake_batch-batch.result options.callers options.cap
-            c.in-Ok-open.book l) (sym parts.tellers_are) b));
+          c.in-Ok-open.book l) (sym parts.tellers_are) b));
       groups = subst (λ (l : List Waiter). groups.AreOpenGroups options.callers c.in-Ok-open-2.groups l)
-        (sym parts.waiters_are) s;
+          (sym parts.waiters_are) s;
       own = own_all c.in-Ok.map c.in-Ok-open.book c.in-Ok-open-2.groups c.in_ok-agents.agents.items _ _ _ parts
-        c.in-Ok.ensures.own b.own s.own;
+          c.in-Ok.ensures.own b.own s.own;
       hints = c.in_ok-agents.ensures.hints;
       least = search rules;
       min_shallow = search rules;

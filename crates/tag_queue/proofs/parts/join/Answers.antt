@@ -19,15 +19,15 @@ loop-number-preserved g c = let inv = c.loop-number.invariant in let made = c.lo
     let agent = c.agent_of.result in let of = c.agent_of.ensures in
     let pushed : c.push.new.self.items ≡ made ++ agent ∷ [] = c.in_ok-push.ensures.items in record {
       callers = goes_on caller_of made _ agent c.in-Some.caller _ _ _ inv.callers
-        c.in-Some.ensures.items pushed of.parts.0;
+          c.in-Some.ensures.items pushed of.parts.0;
       tellers = goes_on teller_of made _ agent c.in-Some-next.teller _ _ _ inv.tellers
-        c.in-Some-next.ensures.items pushed of.parts.1;
+          c.in-Some-next.ensures.items pushed of.parts.1;
       waiters = goes_on waiter_of made _ agent c.in-Some-next-2.waiter _ _ _ inv.waiters
-        c.in-Some-next-2.ensures.items pushed of.parts.2;
+          c.in-Some-next-2.ensures.items pushed of.parts.2;
       made = ap length pushed ∙ length-append made (agent ∷ []) ∙ ap (λ (n : ℕ). n + 1) inv.made;
       callers_left = (let a = c.in-Some.ensures.len in let b = inv.callers_left in omega arith);
       tellers_left = (let a = c.in-Some-next.ensures.len in let b = inv.tellers_left in omega arith);
       waiters_left = (let a = c.in-Some-next-2.ensures.len in let b = inv.waiters_left in omega arith);
       hints = subst (All (HasHint c.args.hint)) (sym pushed)
-        (All-push (HasHint c.args.hint) made agent inv.hints of.hint);
+          (All-push (HasHint c.args.hint) made agent inv.hints of.hint);
     }

@@ -36,7 +36,7 @@ loop-agent-preserved g c =
       came = (
         agent ∷ inv.came.0,
         sym (append_assoc left (agent ∷ []) inv.came.0) ∙ ap (λ (z : List (Agent R)). z ++ inv.came.0) (sym e)
-          ∙ inv.came.1,
+            ∙ inv.came.1,
         c.add.ensures.more inv.came.0 inv.came.2,
       );
     }

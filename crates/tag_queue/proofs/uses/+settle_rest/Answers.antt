@@ -17,7 +17,7 @@ settle-requires-clause-all g t c =
     let R = g.row.R.Denot in let rs : List (Record R) = gathered c.args.all in
     let none : c.args.agents.now.items ≡ [] = search rules in
     subst (λ (z : List (Agent R)). HasAll (numbers (records_of z ++ rs)) (agents_of c.args.queue.now)) none
-      c.requires.every
+    c.requires.every
 
 pub lend-lender-requires-clause-caller : goal.lend-lender-requires-clause-caller
 lend-lender-requires-clause-caller g t c =
@@ -64,14 +64,14 @@ returns-clause-own g t c =
     let P : Agent g.row.R.Denot → Type 0 = IsAgentOf c.args.queue.now in
     let mine = all_last P c.pop.new.self.items c.in-Some.last (subst (All P) c.in-Some.ensures.items c.requires.own) in
     all_pushed P _ _ _ c.push_reserved.ensures.items c.settle_rest-loans.ensures.own
-      (c.give_back-caller.ensures.caller, mine.1, mine.2)
+    (c.give_back-caller.ensures.caller, mine.1, mine.2)
 
 pub returns-clause-unchanged : goal.returns-clause-unchanged
 returns-clause-unchanged g t c =
     unchanged-back c.args.agents.now.items c.pop.new.self.items _ _ c.in-Some.last _ c.in-Some.ensures.items
-      c.push_reserved.ensures.items
+    c.push_reserved.ensures.items
     c.settle_rest-loans.ensures.unchanged
     (agent_same c.in-Some.last _
     (subst (λ (z : Caller g.row.R.Denot). IsUnchanged z c.give_back-caller.result) c.lend-lender.ensures.lender
-      c.give_back-caller.ensures.unchanged)
+    c.give_back-caller.ensures.unchanged)
     (refl, (refl, refl)))

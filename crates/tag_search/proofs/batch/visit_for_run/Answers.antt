@@ -28,7 +28,7 @@ returns-then-place-n-clause-visit g c =
       steps = a.steps;
       added = a.added;
       holds = no_run a.holds (λ place other. let same =
-        same_first_clear found d c.in_ok-place.place place first other in
+          same_first_clear found d c.in_ok-place.place place first other in
           omega arith);
     }
 

@@ -29,7 +29,7 @@ fetch_and-requires g c =
     (subst (λ (z : Shape). IsWithin z.layout i x) same c.requires.within.1) c.ranges.mask.fits
     (λ t l a. (c.requires.held t (subst (λ (z : Shape). t < z.layout.depth) own.1 l)
     (one_among m.shape.layout i x t (subst (λ (z : Shape). among z.layout.shift i x t ≡ 1) own.1 a))).1)) in
-      (own.0, a.0, a.1)
+    (own.0, a.0, a.1)
 
 pub invariant_of-caller : goal.invariant_of-caller
 invariant_of-caller g c =
@@ -80,4 +80,4 @@ pub returns-clause-released : goal.returns-clause-released
 returns-clause-released g c =
     let m = c.args.self.now in let w = c.args.caller.now in let own = c.requires.caller in
     adds_releases m w _ own _ (returns-clause-step g c).1 c.args.word c.args.mask c.requires.within.0
-      c.requires.within.1 refl
+    c.requires.within.1 refl

@@ -32,7 +32,7 @@ invariant_of-caller g c =
       told = w.told;
       knows = knows w
           (Word (LookAside i c.load.result)) c.load.new.seat.me did.0 w.held.items w.won w.back
-            refl refl (plus_none w.won)
+          refl refl (plus_none w.won)
           (plus_none w.back);
       shown = shows (Word (LookAside i c.load.result)) (record_of w) w.seat.me c.load.new.seat.me did.0;
       carries =
@@ -51,7 +51,7 @@ returns-clause-step g c =
     record {
       known = recorded w
           (Word (LookAside i c.load.result)) c.load.new.seat.me did.0 w.held.items w.won w.back
-            refl refl (plus_none w.won)
+          refl refl (plus_none w.won)
           (plus_none w.back);
       slots =
           slots w (Word (LookAside i c.load.result)) c.load.new.seat.me did.0 w.held.items w.won w.back refl refl

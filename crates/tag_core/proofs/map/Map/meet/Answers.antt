@@ -12,7 +12,7 @@ use Rattle.tag_core.proofs.map.Map.meet.Goals as goal
 -- the records of two callers come into one view
 two_records : {R : Type 0} (first second : Caller R) (one other both : View R) → one ≡ first_view first.seat.me.0
     → other ≡ first_view second.seat.me.0 → both ≡ both_views one other
-      → both ≡ viewing (record_of first ∷ record_of second ∷ [])
+    → both ≡ viewing (record_of first ∷ record_of second ∷ [])
 two_records first second one other both is_one is_other is_both =
     is_both ∙ (λ j. both_views (is_one j) (is_other j))
     ∙ (λ j. both_views (first_view (first.knows j)) (first_view (second.knows j)))
@@ -34,12 +34,12 @@ split_seat-other-requires g c = let m = c.args.self.now in let w = c.args.second
 pub join_seat-requires : goal.join_seat-requires
 join_seat-requires g c = let m = c.args.self.now in let one = c.split_seat-both.result in
     let two = c.split_seat-other.result in (
-  c.split_seat-both.ensures.3 ∙ c.requires.callers.0.0,
-  c.split_seat-other.ensures.3 ∙ c.requires.callers.1.0,
-  ap (λ z. z.1) c.split_seat-other.ensures.4,
-  some_words m,
-  joins_in m one.id one.me.0 two.id two.me.0,
-)
+      c.split_seat-both.ensures.3 ∙ c.requires.callers.0.0,
+      c.split_seat-other.ensures.3 ∙ c.requires.callers.1.0,
+      ap (λ z. z.1) c.split_seat-other.ensures.4,
+      some_words m,
+      joins_in m one.id one.me.0 two.id two.me.0,
+    )
 
 pub load-requires : goal.load-requires
 load-requires g c = let m = c.args.self.now in let both = c.join_seat.new.seat in (
@@ -86,7 +86,7 @@ join_seat-requires-3 g c =
 pub returns-clause-apart : goal.returns-clause-apart
 returns-clause-apart g c tag has_first has_second = let first = c.args.first.now in let second = c.args.second.now in
     let view = two_records first second c.split_seat-both.result.me.0 c.split_seat-other.result.me.0
-      c.join_seat.new.seat.me.0
+    c.join_seat.new.seat.me.0
     (ap (λ z. z.0) c.split_seat-both.ensures.4) (ap (λ z. z.0) c.split_seat-other.ensures.4)
     (ap (λ z. z.0) c.join_seat.ensures.2) in
     (c.load.ensures.2.1 (record_of first) (record_of second) view).1 tag has_first.0 has_first.1
@@ -96,7 +96,7 @@ returns-clause-apart g c tag has_first has_second = let first = c.args.first.now
 pub returns-clause-numbers : goal.returns-clause-numbers
 returns-clause-numbers g c = let first = c.args.first.now in let second = c.args.second.now in
     let view = two_records first second c.split_seat-both.result.me.0 c.split_seat-other.result.me.0
-      c.join_seat.new.seat.me.0
+    c.join_seat.new.seat.me.0
     (ap (λ z. z.0) c.split_seat-both.ensures.4) (ap (λ z. z.0) c.split_seat-other.ensures.4)
     (ap (λ z. z.0) c.join_seat.ensures.2) in
     (c.load.ensures.2.1 (record_of first) (record_of second) view).0

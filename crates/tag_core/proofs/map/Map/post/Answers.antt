@@ -30,7 +30,7 @@ store-requires g c =
     let val = valued (tag_bit k.layout w.held.items) k.layout.depth w.seat.me.1 w.carries u has.0 has.1 in
     let a = asked m w own w.seat.id w.seat.me (state_at k.layout u) c.state_spot.result (λ _. 1) 1 0
     (λ st me n. posted st me 1) (c.state_spot.ensures ∙ ap (λ (z : Layout). state_at z u) lay)
-      (state_in k.layout u has.0)
+    (state_in k.layout u has.0)
     (post_allowed R k (narrow m w own) w.seat.id w.seat.me (record_of w) w.knows w.carries u val.0 has.0 has.1 val.1) in
     (own.0, a.0, a.1)
 
@@ -45,10 +45,10 @@ invariant_of-caller g c =
     let has = c.requires.held in
     let val = valued (tag_bit k.layout w.held.items) k.layout.depth w.seat.me.1 w.carries u has.0 has.1 in
     let did = c.store.ensures.2 u val.0 (record_of w) (c.state_spot.ensures
-      ∙ ap (λ (z : Layout). state_at z u) lay) val.1 w.knows in
+    ∙ ap (λ (z : Layout). state_at z u) lay) val.1 w.knows in
     let was : c.index.result.now ≡ slice_index w.held.items i = get_or_read w.held.items i c.index.result.now
     (subst (λ (z : ℕ × ℕ). z.0 < z.1) (λ j. (sym i_is j, sym w.wide j)) (word_of-below k.layout u has.0))
-      c.index.ensures 0 in
+    c.index.ensures 0 in
     let held : List ℕ = slice_set w.held.items i (without c.index.result.now (1 * 2 ^ b % 2 ^ 64)) in
     let held_is : slice_set w.held.items (word_of k.layout u)
     (without (slice_index w.held.items (word_of k.layout u)) (2 ^ place_of k.layout u)) ≡ held =
@@ -57,7 +57,7 @@ invariant_of-caller g c =
     record {
       told = w.told;
       knows = knows w (Post u val.0) c.store.new.seat.me did held w.won w.back held_is refl
-        (plus_none w.won) (plus_none w.back);
+          (plus_none w.won) (plus_none w.back);
       shown = shows (Post u val.0) (record_of w) w.seat.me c.store.new.seat.me did;
       carries = carries w (Post u val.0) c.store.new.seat.me did held w.won w.back held_is refl (plus_none w.won)
           (plus_none w.back);
@@ -77,10 +77,10 @@ returns-clause-step g c =
     let has = c.requires.held in
     let val = valued (tag_bit k.layout w.held.items) k.layout.depth w.seat.me.1 w.carries u has.0 has.1 in
     let did = c.store.ensures.2 u val.0 (record_of w) (c.state_spot.ensures
-      ∙ ap (λ (z : Layout). state_at z u) lay) val.1 w.knows in
+    ∙ ap (λ (z : Layout). state_at z u) lay) val.1 w.knows in
     let was : c.index.result.now ≡ slice_index w.held.items i = get_or_read w.held.items i c.index.result.now
     (subst (λ (z : ℕ × ℕ). z.0 < z.1) (λ j. (sym i_is j, sym w.wide j)) (word_of-below k.layout u has.0))
-      c.index.ensures 0 in
+    c.index.ensures 0 in
     let held : List ℕ = slice_set w.held.items i (without c.index.result.now (1 * 2 ^ b % 2 ^ 64)) in
     let held_is : slice_set w.held.items (word_of k.layout u)
     (without (slice_index w.held.items (word_of k.layout u)) (2 ^ place_of k.layout u)) ≡ held =

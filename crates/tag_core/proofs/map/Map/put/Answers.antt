@@ -38,7 +38,7 @@ fetch_or-requires g c =
     (subst (λ (z : ℕ). Allows (Shown k) k.layout.depth w.seat.id w.seat.me (aside_at (word_of k.layout u))
     (λ n. bit_or n z) (put_aside (step k.layout.depth (aside_at (word_of k.layout u)) z 0 none) w.seat.me)) (sym b_is)
     (put_allowed R k (narrow m w own) w.seat.id w.seat.me (record_of w) w.knows w.carries u has.0 has.1)) in
-      (own.0, a.0, a.1)
+    (own.0, a.0, a.1)
 
 pub invariant_of-caller : goal.invariant_of-caller
 invariant_of-caller g c =
@@ -55,7 +55,7 @@ invariant_of-caller g c =
     (c.fetch_or.ensures.2 (word_of k.layout u) (record_of w) (c.aside_spot.ensures ∙ ap aside_at i_is) w.knows) in
     let was : c.index.result.now ≡ slice_index w.held.items i = get_or_read w.held.items i c.index.result.now
     (subst (λ (z : ℕ × ℕ). z.0 < z.1) (λ j. (sym i_is j, sym w.wide j)) (word_of-below k.layout u has.0))
-      c.index.ensures 0 in
+    c.index.ensures 0 in
     let held : List ℕ = slice_set w.held.items i (without c.index.result.now (1 * 2 ^ b % 2 ^ 64)) in
     let held_is : slice_set w.held.items (word_of k.layout u)
     (without (slice_index w.held.items (word_of k.layout u)) (2 ^ place_of k.layout u)) ≡ held =
@@ -64,10 +64,10 @@ invariant_of-caller g c =
     record {
       told = w.told;
       knows = knows w (Word (Put (word_of k.layout u) (2 ^ place_of k.layout u) n))
-        c.fetch_or.new.seat.me did held w.won
+          c.fetch_or.new.seat.me did held w.won
           (w.back + 1) held_is refl (plus_none w.won) refl;
       shown = shows (Word (Put (word_of k.layout u) (2 ^ place_of k.layout u) n)) (record_of w) w.seat.me
-        c.fetch_or.new.seat.me did;
+          c.fetch_or.new.seat.me did;
       carries = carries w (Word
           (Put (word_of k.layout u) (2 ^ place_of k.layout u) n)) c.fetch_or.new.seat.me did held w.won
           (w.back + 1) held_is refl (plus_none w.won) refl;
@@ -93,7 +93,7 @@ returns-clause-step g c =
     (c.fetch_or.ensures.2 (word_of k.layout u) (record_of w) (c.aside_spot.ensures ∙ ap aside_at i_is) w.knows) in
     let was : c.index.result.now ≡ slice_index w.held.items i = get_or_read w.held.items i c.index.result.now
     (subst (λ (z : ℕ × ℕ). z.0 < z.1) (λ j. (sym i_is j, sym w.wide j)) (word_of-below k.layout u has.0))
-      c.index.ensures 0 in
+    c.index.ensures 0 in
     let held : List ℕ = slice_set w.held.items i (without c.index.result.now (1 * 2 ^ b % 2 ^ 64)) in
     let held_is : slice_set w.held.items (word_of k.layout u)
     (without (slice_index w.held.items (word_of k.layout u)) (2 ^ place_of k.layout u)) ≡ held =
@@ -105,7 +105,7 @@ returns-clause-step g c =
             (Put (word_of k.layout u) (2 ^ place_of k.layout u) n)) c.fetch_or.new.seat.me did held w.won
             (w.back + 1) held_is refl (plus_none w.won) refl
             ∙ ap (λ (z : Shape). record_after (Word (Put (word_of z.layout u) (2 ^ place_of z.layout u) n))
-              (record_of w)) own.1;
+            (record_of w)) own.1;
         slots = slots w (Word
             (Put (word_of k.layout u) (2 ^ place_of k.layout u) n)) c.fetch_or.new.seat.me did held w.won
             (w.back + 1) held_is refl (plus_none w.won) refl;
@@ -118,4 +118,4 @@ returns-clause-released g c =
     let m = c.args.self.now in let w = c.args.caller.now in let own = c.requires.caller in
     adds_releases_one m w _ own _ (returns-clause-step g c).1 c.args.tag c.requires.held.0
     (ap (λ (z : Shape). parted w.held.items (word_of z.layout c.args.tag) (2 ^ place_of z.layout c.args.tag))
-      (sym own.1))
+    (sym own.1))

@@ -22,7 +22,7 @@ load-requires g c =
     let R = g.row.R.Denot in let u : ℕ = c.args.tag in let lu = c.requires.held.0 in let has = c.requires.held.1 in
     let a = asked m w own w.seat.id w.seat.me (state_at k.layout u) c.state_spot-spot.result
     (λ n. n) 0 0 fronted (c.state_spot-spot.ensures ∙ ap (λ (z : Layout). state_at z u) w.told.0)
-      (state_in k.layout u lu)
+    (state_in k.layout u lu)
     (front_allowed R k w.seat.id w.seat.me (record_of w) w.knows u lu has w.carries) in (own.0, a.0, a.1)
 
 pub exchange-old-requires : goal.exchange-old-requires
@@ -30,7 +30,7 @@ exchange-old-requires g c =
     let m = c.args.self.now in let w = c.args.caller.now in let k = w.shape.value in let own = c.requires.caller in
     let R = g.row.R.Denot in let u : ℕ = c.args.tag in let lu = c.requires.held.0 in let has = c.requires.held.1 in
     let first = c.load.ensures.2 u (record_of w) (c.state_spot-spot.ensures
-      ∙ ap (λ (z : Layout). state_at z u) w.told.0) w.knows lu has in
+    ∙ ap (λ (z : Layout). state_at z u) w.told.0) w.knows lu has in
     (c.load.ensures.0 ∙ own.0, (first.0, first.3 ∙ (λ j. (u, first.0) ∷ rest (sym first.3 j))))
 
 pub load-requires-2 : goal.load-requires-2
@@ -38,7 +38,7 @@ load-requires-2 g c =
     let m = c.args.self.now in let w = c.args.caller.now in let k = w.shape.value in let own = c.requires.caller in
     let R = g.row.R.Denot in let u : ℕ = c.args.tag in let lu = c.requires.held.0 in let has = c.requires.held.1 in
     let first = c.load.ensures.2 u (record_of w) (c.state_spot-spot.ensures
-      ∙ ap (λ (z : Layout). state_at z u) w.told.0) w.knows lu has in
+    ∙ ap (λ (z : Layout). state_at z u) w.told.0) w.knows lu has in
     let got : first.0 ≡ c.exchange-old.result = ap (λ (z : ℕ × R). z.1)
     (some-injective (u, first.0) (u, c.exchange-old.result)
     (ap (λ (z : List (ℕ × R)). get_elem? z 0) (sym first.3 ∙ c.exchange-old.ensures.2))) in
@@ -48,7 +48,7 @@ load-requires-2 g c =
     let seat = c.exchange-old.new.seat in
     let a = asked m w own seat.id seat.me (state_at k.layout u) c.state_spot-spot.result
     (λ n. n) 0 0 ordered (c.state_spot-spot.ensures ∙ ap (λ (z : Layout). state_at z u) w.told.0)
-      (state_in k.layout u lu)
+    (state_in k.layout u lu)
     (order_allowed R k seat.id seat.me (record_of w) (view ∙ w.knows) u lu has c.args.new first.1 now first.5) in
     (c.exchange-old.ensures.0 ∙ c.load.ensures.0 ∙ own.0, a.0, a.1)
 
@@ -57,7 +57,7 @@ invariant_of-caller g c =
     let m = c.args.self.now in let w = c.args.caller.now in let k = w.shape.value in let own = c.requires.caller in
     let R = g.row.R.Denot in let u : ℕ = c.args.tag in let lu = c.requires.held.0 in let has = c.requires.held.1 in
     let first = c.load.ensures.2 u (record_of w) (c.state_spot-spot.ensures
-      ∙ ap (λ (z : Layout). state_at z u) w.told.0) w.knows lu has in
+    ∙ ap (λ (z : Layout). state_at z u) w.told.0) w.knows lu has in
     let got : first.0 ≡ c.exchange-old.result = ap (λ (z : ℕ × R). z.1)
     (some-injective (u, first.0) (u, c.exchange-old.result)
     (ap (λ (z : List (ℕ × R)). get_elem? z 0) (sym first.3 ∙ c.exchange-old.ensures.2))) in
@@ -65,7 +65,7 @@ invariant_of-caller g c =
     let now : c.exchange-old.new.seat.me.1 ≡ (u, c.args.new) ∷ first.1 = ap (λ z. z.1) c.exchange-old.ensures.3
     ∙ ap (λ (z : List (ℕ × R)). (u, c.args.new) ∷ rest z) first.3 in
     let last = c.load-2.ensures.2 u c.args.new first.1 (record_of w) (c.state_spot-spot.ensures
-      ∙ ap (λ (z : Layout). state_at z u) w.told.0) (view ∙ w.knows) now first.5 has in
+    ∙ ap (λ (z : Layout). state_at z u) w.told.0) (view ∙ w.knows) now first.5 has in
     let same = last.0 ∙ view in
     record {
       told = w.told;
@@ -92,7 +92,7 @@ returns-clause-found g c =
     let m = c.args.self.now in let w = c.args.caller.now in let k = w.shape.value in let own = c.requires.caller in
     let R = g.row.R.Denot in let u : ℕ = c.args.tag in let lu = c.requires.held.0 in let has = c.requires.held.1 in
     let first = c.load.ensures.2 u (record_of w) (c.state_spot-spot.ensures
-      ∙ ap (λ (z : Layout). state_at z u) w.told.0) w.knows lu has in
+    ∙ ap (λ (z : Layout). state_at z u) w.told.0) w.knows lu has in
     let got : first.0 ≡ c.exchange-old.result = ap (λ (z : ℕ × R). z.1)
     (some-injective (u, first.0) (u, c.exchange-old.result)
     (ap (λ (z : List (ℕ × R)). get_elem? z 0) (sym first.3 ∙ c.exchange-old.ensures.2))) in
@@ -106,7 +106,7 @@ returns-clause-put g c =
     let m = c.args.self.now in let w = c.args.caller.now in let k = w.shape.value in let own = c.requires.caller in
     let R = g.row.R.Denot in let u : ℕ = c.args.tag in let lu = c.requires.held.0 in let has = c.requires.held.1 in
     let first = c.load.ensures.2 u (record_of w) (c.state_spot-spot.ensures
-      ∙ ap (λ (z : Layout). state_at z u) w.told.0) w.knows lu has in
+    ∙ ap (λ (z : Layout). state_at z u) w.told.0) w.knows lu has in
     let got : first.0 ≡ c.exchange-old.result = ap (λ (z : ℕ × R). z.1)
     (some-injective (u, first.0) (u, c.exchange-old.result)
     (ap (λ (z : List (ℕ × R)). get_elem? z 0) (sym first.3 ∙ c.exchange-old.ensures.2))) in
@@ -114,7 +114,7 @@ returns-clause-put g c =
     let now : c.exchange-old.new.seat.me.1 ≡ (u, c.args.new) ∷ first.1 = ap (λ z. z.1) c.exchange-old.ensures.3
     ∙ ap (λ (z : List (ℕ × R)). (u, c.args.new) ∷ rest z) first.3 in
     let last = c.load-2.ensures.2 u c.args.new first.1 (record_of w) (c.state_spot-spot.ensures
-      ∙ ap (λ (z : Layout). state_at z u) w.told.0) (view ∙ w.knows) now first.5 has in
+    ∙ ap (λ (z : Layout). state_at z u) w.told.0) (view ∙ w.knows) now first.5 has in
     let same = last.0 ∙ view in
     last.2
 
@@ -123,7 +123,7 @@ returns-clause-others g c =
     let m = c.args.self.now in let w = c.args.caller.now in let k = w.shape.value in let own = c.requires.caller in
     let R = g.row.R.Denot in let u : ℕ = c.args.tag in let lu = c.requires.held.0 in let has = c.requires.held.1 in
     let first = c.load.ensures.2 u (record_of w) (c.state_spot-spot.ensures
-      ∙ ap (λ (z : Layout). state_at z u) w.told.0) w.knows lu has in
+    ∙ ap (λ (z : Layout). state_at z u) w.told.0) w.knows lu has in
     let got : first.0 ≡ c.exchange-old.result = ap (λ (z : ℕ × R). z.1)
     (some-injective (u, first.0) (u, c.exchange-old.result)
     (ap (λ (z : List (ℕ × R)). get_elem? z 0) (sym first.3 ∙ c.exchange-old.ensures.2))) in
@@ -131,7 +131,7 @@ returns-clause-others g c =
     let now : c.exchange-old.new.seat.me.1 ≡ (u, c.args.new) ∷ first.1 = ap (λ z. z.1) c.exchange-old.ensures.3
     ∙ ap (λ (z : List (ℕ × R)). (u, c.args.new) ∷ rest z) first.3 in
     let last = c.load-2.ensures.2 u c.args.new first.1 (record_of w) (c.state_spot-spot.ensures
-      ∙ ap (λ (z : Layout). state_at z u) w.told.0) (view ∙ w.knows) now first.5 has in
+    ∙ ap (λ (z : Layout). state_at z u) w.told.0) (view ∙ w.knows) now first.5 has in
     let same = last.0 ∙ view in
     λ t held ne. last.3 t held.0 ne held.1 ∙ first.6 t held.0 ne held.1
 
@@ -140,7 +140,7 @@ returns-clause-unchanged g c =
     let m = c.args.self.now in let w = c.args.caller.now in let k = w.shape.value in let own = c.requires.caller in
     let R = g.row.R.Denot in let u : ℕ = c.args.tag in let lu = c.requires.held.0 in let has = c.requires.held.1 in
     let first = c.load.ensures.2 u (record_of w) (c.state_spot-spot.ensures
-      ∙ ap (λ (z : Layout). state_at z u) w.told.0) w.knows lu has in
+    ∙ ap (λ (z : Layout). state_at z u) w.told.0) w.knows lu has in
     let got : first.0 ≡ c.exchange-old.result = ap (λ (z : ℕ × R). z.1)
     (some-injective (u, first.0) (u, c.exchange-old.result)
     (ap (λ (z : List (ℕ × R)). get_elem? z 0) (sym first.3 ∙ c.exchange-old.ensures.2))) in
@@ -148,7 +148,7 @@ returns-clause-unchanged g c =
     let now : c.exchange-old.new.seat.me.1 ≡ (u, c.args.new) ∷ first.1 = ap (λ z. z.1) c.exchange-old.ensures.3
     ∙ ap (λ (z : List (ℕ × R)). (u, c.args.new) ∷ rest z) first.3 in
     let last = c.load-2.ensures.2 u c.args.new first.1 (record_of w) (c.state_spot-spot.ensures
-      ∙ ap (λ (z : Layout). state_at z u) w.told.0) (view ∙ w.knows) now first.5 has in
+    ∙ ap (λ (z : Layout). state_at z u) w.told.0) (view ∙ w.knows) now first.5 has in
     let same = last.0 ∙ view in (
       (λ j. record {
         shape = k;

@@ -102,7 +102,7 @@ both w i f n me' inside did j = let mask = mask_of (words w.shape.value.layout) 
   number = w.number;
   held = w.held.items;
   swept = sym (clean (words w.shape.value.layout) i (bit_or (get_or (replicate (words w.shape.value.layout) 0) i 0) f))
-    j;
+      j;
   won = twice w.won j;
   back = twice w.back j;
   steps = (ap steps_of did ∙ (λ z. Word (Spill i (mask z) n) ∷ Word (Swap i f) ∷ steps_of w.seat.me.0)) j;

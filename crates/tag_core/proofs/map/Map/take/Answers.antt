@@ -28,7 +28,7 @@ compare_exchange-found-requires g c =
     let lu : u < k.layout.depth = subst (λ (z : Shape). u < z.layout.depth) (sym own.1) c.requires.within in
     let a = asked m w own w.seat.id w.seat.me (state_at k.layout u) c.state_spot-state.result
     (λ n. either (eqb n 1) 0 n) 1 0 took (c.state_spot-state.ensures ∙ ap (λ (z : Layout). state_at z u) lay)
-      (state_in k.layout u lu)
+    (state_in k.layout u lu)
     (take_allowed R k (narrow m w own) w.seat.id w.seat.me (record_of w) w.knows w.carries u lu) in (own.0, a.0, a.1)
 
 pub invariant_of-caller : goal.invariant_of-caller
@@ -41,12 +41,12 @@ invariant_of-caller g c =
     ∙ ap (λ (z : ℕ). 2 ^ z) (c.place_of.ensures.value ∙ ap (λ (z : Layout). place_of z u) lay) in
     let lu : u < k.layout.depth = subst (λ (z : Shape). u < z.layout.depth) (sym own.1) c.requires.within in
     let did = c.compare_exchange-found.ensures.2 u (record_of w) (c.state_spot-state.ensures
-      ∙ ap (λ (z : Layout). state_at z u) lay) w.knows in
+    ∙ ap (λ (z : Layout). state_at z u) lay) w.knows in
     let miss = (did.1 c.if-found-ne1.true).1 in record {
       told = w.told;
       knows = knows w
           (Take u 0 None) c.compare_exchange-found.new.seat.me miss w.held.items w.won w.back
-            refl refl (plus_none w.won)
+          refl refl (plus_none w.won)
           (plus_none w.back);
       shown = shows (Take u 0 None) (record_of w) w.seat.me c.compare_exchange-found.new.seat.me miss;
       carries = miss.carries;
@@ -65,16 +65,16 @@ returns-then-found-ne1-clause-missed g c =
     ∙ ap (λ (z : ℕ). 2 ^ z) (c.place_of.ensures.value ∙ ap (λ (z : Layout). place_of z u) lay) in
     let lu : u < k.layout.depth = subst (λ (z : Shape). u < z.layout.depth) (sym own.1) c.requires.within in
     let did = c.compare_exchange-found.ensures.2 u (record_of w) (c.state_spot-state.ensures
-      ∙ ap (λ (z : Layout). state_at z u) lay) w.knows in
+    ∙ ap (λ (z : Layout). state_at z u) lay) w.knows in
     let miss = (did.1 c.if-found-ne1.true).1 in
     λ _. record {
       known = recorded w
           (Take u 0 None) c.compare_exchange-found.new.seat.me miss w.held.items w.won w.back
-            refl refl (plus_none w.won)
+          refl refl (plus_none w.won)
           (plus_none w.back);
       slots =
           slots w (Take u 0 None) c.compare_exchange-found.new.seat.me miss w.held.items w.won w.back
-            refl refl (plus_none w.won)
+          refl refl (plus_none w.won)
           (plus_none w.back);
       same_map = c.compare_exchange-found.ensures.0;
     }
@@ -82,7 +82,7 @@ returns-then-found-ne1-clause-missed g c =
 pub returns-then-found-ne1-clause-kept : goal.returns-then-found-ne1-clause-kept
 returns-then-found-ne1-clause-kept g c = λ missed.
     adds_keeps c.args.self.now c.args.caller.now _ c.requires.caller _
-      (returns-then-found-ne1-clause-missed g c missed) refl
+    (returns-then-found-ne1-clause-missed g c missed) refl
 
 pub invariant_of-caller-2 : goal.invariant_of-caller-2
 invariant_of-caller-2 g c =
@@ -94,11 +94,11 @@ invariant_of-caller-2 g c =
     ∙ ap (λ (z : ℕ). 2 ^ z) (c.place_of.ensures.value ∙ ap (λ (z : Layout). place_of z u) lay) in
     let lu : u < k.layout.depth = subst (λ (z : Shape). u < z.layout.depth) (sym own.1) c.requires.within in
     let did = c.compare_exchange-found.ensures.2 u (record_of w) (c.state_spot-state.ensures
-      ∙ ap (λ (z : Layout). state_at z u) lay) w.knows in
+    ∙ ap (λ (z : Layout). state_at z u) lay) w.knows in
     let got = did.0 (search rules) in
     let was : c.index.result.now ≡ slice_index w.held.items i = get_or_read w.held.items i c.index.result.now
     (subst (λ (z : ℕ × ℕ). z.0 < z.1) (λ j. (sym i_is j, sym w.wide j)) (word_of-below k.layout u lu)) c.index.ensures
-      0 in
+    0 in
     let held : List ℕ = slice_set w.held.items i (bit_or c.index.result.now (1 * 2 ^ b % 2 ^ 64)) in
     let held_is : slice_set w.held.items (word_of k.layout u)
     (bit_or (slice_index w.held.items (word_of k.layout u)) (2 ^ place_of k.layout u)) ≡ held =
@@ -110,7 +110,7 @@ invariant_of-caller-2 g c =
           (plus_none w.won) (plus_none w.back);
       shown = shows (Take u 1 (Some got.0)) (record_of w) w.seat.me c.compare_exchange-found.new.seat.me got.2;
       carries = carries w (Take u 1 (Some got.0)) c.compare_exchange-found.new.seat.me got.2 held
-        w.won w.back held_is refl
+          w.won w.back held_is refl
           (plus_none w.won) (plus_none w.back);
       wide = length-set w.held.items i _ ∙ w.wide;
       unspent = w.unspent;
@@ -127,11 +127,11 @@ returns-clause-won g c =
     ∙ ap (λ (z : ℕ). 2 ^ z) (c.place_of.ensures.value ∙ ap (λ (z : Layout). place_of z u) lay) in
     let lu : u < k.layout.depth = subst (λ (z : Shape). u < z.layout.depth) (sym own.1) c.requires.within in
     let did = c.compare_exchange-found.ensures.2 u (record_of w) (c.state_spot-state.ensures
-      ∙ ap (λ (z : Layout). state_at z u) lay) w.knows in
+    ∙ ap (λ (z : Layout). state_at z u) lay) w.knows in
     let got = did.0 (search rules) in
     let was : c.index.result.now ≡ slice_index w.held.items i = get_or_read w.held.items i c.index.result.now
     (subst (λ (z : ℕ × ℕ). z.0 < z.1) (λ j. (sym i_is j, sym w.wide j)) (word_of-below k.layout u lu)) c.index.ensures
-      0 in
+    0 in
     let held : List ℕ = slice_set w.held.items i (bit_or c.index.result.now (1 * 2 ^ b % 2 ^ 64)) in
     let held_is : slice_set w.held.items (word_of k.layout u)
     (bit_or (slice_index w.held.items (word_of k.layout u)) (2 ^ place_of k.layout u)) ≡ held =
@@ -142,11 +142,11 @@ returns-clause-won g c =
       got.1,
       record {
         known = recorded w (Take u 1 (Some got.0)) c.compare_exchange-found.new.seat.me got.2 held
-          w.won w.back held_is refl
+            w.won w.back held_is refl
             (plus_none w.won) (plus_none w.back);
         slots =
             slots w (Take u 1 (Some got.0)) c.compare_exchange-found.new.seat.me got.2 held w.won w.back
-              held_is refl (plus_none w.won)
+            held_is refl (plus_none w.won)
             (plus_none w.back);
         same_map = c.compare_exchange-found.ensures.0;
       },
@@ -157,7 +157,7 @@ returns-clause-acquired g c =
     let m = c.args.self.now in let w = c.args.caller.now in let k = w.shape.value in let own = c.requires.caller in
     let u : ℕ = c.args.tag in let lay : w.layout ≡ k.layout = w.told.0 in
     let did = c.compare_exchange-found.ensures.2 u (record_of w) (c.state_spot-state.ensures
-      ∙ ap (λ (z : Layout). state_at z u) lay) w.knows in
+    ∙ ap (λ (z : Layout). state_at z u) lay) w.knows in
     let got = did.0 (search rules) in
     let lu : u < k.layout.depth = subst (λ (z : Shape). u < z.layout.depth) (sym own.1) c.requires.within in
     λ true. adds_acquires_one m w _ own _ (returns-clause-won g c true).2 u lu (λ h. got.3 h.1) refl

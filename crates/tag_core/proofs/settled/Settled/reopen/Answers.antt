@@ -37,7 +37,7 @@ reseat_all-requires-clause-below g c i x at =
 pub reseat_all-requires-clause-life : goal.reseat_all-requires-clause-life
 reseat_all-requires-clause-life g c i x at =
     let s = c.args.self in let own =
-      all_at (λ (z : Caller g.row.R.Denot). IsCallerOf s.tags z) s.callers.items s.own i x at in
+    all_at (λ (z : Caller g.row.R.Denot). IsCallerOf s.tags z) s.callers.items s.own i x at in
     x.told.1 ∙ ap (λ (z : Shape). z.life) own.1
     ∙ sym (ap (λ (z : Shape). z.life) c.in-Ok-new_map.ensures.map ∙ c.in-Ok.ensures.next.life_is)
 
@@ -52,14 +52,14 @@ pub returns-clause-goes_on : goal.returns-clause-goes_on
 returns-clause-goes_on g c known =
     let s = c.args.self in let made = c.in-Ok.ensures in
     subst (λ (z : Shape). GoesOn (record { shape = s.tags.shape; history = known.history }) z)
-      (sym c.in-Ok-new_map.ensures.map)
+    (sym c.in-Ok-new_map.ensures.map)
     (goes_on s.tags.shape s.callers.items s.totals known c.in-Ok.shape made.counts c.args.layout
-      made.next c.requires.unused.0
+    made.next c.requires.unused.0
     c.requires.unused.1)
 
 pub returns-clause-free : goal.returns-clause-free
 returns-clause-free g c =
     let s = c.args.self in free_again s.tags.shape s.callers.items s.totals s.known c.in-Ok-new_map.made.0
     c.reseat_all.new.callers.items (ap (λ (z : Shape). z.callers) c.in-Ok-new_map.ensures.map
-      ∙ c.in-Ok.ensures.next.callers_is)
+    ∙ c.in-Ok.ensures.next.callers_is)
     c.reseat_all.ensures

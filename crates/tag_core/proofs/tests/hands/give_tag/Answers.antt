@@ -42,7 +42,7 @@ mask_is l other word place tag same word_is place_is low = (
 pub give-requires-clause-within : goal.give-requires-clause-within
 give-requires-clause-within c = let l : Layout = c.args.map.now.shape.layout in let tag : ℕ = c.args.tag in
     let is = mask_is l c.layout-layout.result c.word_of.result c.place_of.result tag c.layout-layout.ensures
-      c.word_of.ensures.value c.place_of.ensures.value c.place_of.ensures.bound in
+    c.word_of.ensures.value c.place_of.ensures.value c.place_of.ensures.bound in
     let held = c.if-not-has.ensures refl in
     let low : tag < l.depth = subst (λ (z : Shape). tag < z.layout.depth) c.requires.1 held.0 in (
       subst (λ (z : ℕ). z < words l) (sym is.0) (word_of-below l tag low),
@@ -53,8 +53,8 @@ pub give-requires-clause-held : goal.give-requires-clause-held
 give-requires-clause-held c other low inside = let l : Layout = c.args.map.now.shape.layout in
     let tag : ℕ = c.args.tag in
     let is = mask_is l c.layout-layout.result c.word_of.result c.place_of.result tag c.layout-layout.ensures
-      c.word_of.ensures.value c.place_of.ensures.value c.place_of.ensures.bound in
+    c.word_of.ensures.value c.place_of.ensures.value c.place_of.ensures.bound in
     let held = c.if-not-has.ensures refl in
     subst (Holds c.args.caller.now)
     (only_tag_in l tag other (subst (λ (z : ℕ × ℕ). IsTrue (is_in_mask l z.0 z.1 other))
-      (λ j. (is.0 j, is.1 j)) inside)) held
+    (λ j. (is.0 j, is.1 j)) inside)) held

@@ -14,7 +14,7 @@ is_default depth log deep low high = record {
   four_words = λ _. (let fits : 2 ^ min log 6 ≤ 2 ^ log = pow-le-pow_right (omega arith) (omega arith) in omega arith);
   greatest = λ _ other small fits. dite (dec_lt log other)
       (λ (over : log < other). let more : 2 ^ suc log ≤ 2 ^ other = pow-le-pow_right (omega arith) over in
-        let next = pow-suc 2 log in absurd (omega arith))
+      let next = pow-suc 2 log in absurd (omega arith))
       (λ no. omega arith);
   few = λ h. absurd (omega arith);
 }

@@ -11,7 +11,7 @@ returns-clause-value c = low_bits c.args.tag c.self.inside.shift c.self.invarian
 pub returns-clause-within : goal.returns-clause-within
 returns-clause-within c =
     subst (λ (x : ℕ). x < word_depth c.args.self (word_of c.args.self c.args.tag)) (sym (returns-clause-value c))
-      (place_of-below c.args.self c.args.tag c.requires)
+    (place_of-below c.args.self c.args.tag c.requires)
 
 pub returns-clause-back : goal.returns-clause-back
 returns-clause-back c = ap (tag_at c.args.self (word_of c.args.self c.args.tag)) (returns-clause-value c)

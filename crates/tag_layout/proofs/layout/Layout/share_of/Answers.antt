@@ -7,7 +7,7 @@ pub overflow_mul-result : goal.overflow_mul-result
 overflow_mul-result c =
     let d : ℕ = c.args.self.depth in
     let fits : c.from.result * c.from-2.result ≤ d * d =
-      mul-le-mul c.from.result c.from-2.result d d (omega arith) (omega arith) in
+    mul-le-mul c.from.result c.from-2.result d d (omega arith) (omega arith) in
     let below = product_fits (c.from.result * c.from-2.result) d c.requires.depth (omega arith) fits in
     let is = ap (λ r. c.from.result * c.from-2.result * r) c.requires.reciprocal in omega arith
 
@@ -15,7 +15,7 @@ pub returns : goal.returns
 returns c =
     let d : ℕ = c.args.self.depth in
     let fits : c.from.result * c.from-2.result ≤ d * d =
-      mul-le-mul c.from.result c.from-2.result d d (omega arith) (omega arith) in
+    mul-le-mul c.from.result c.from-2.result d d (omega arith) (omega arith) in
     let shallow : c.from.result ≡ min c.args.shallow d = omega arith in
     let tags : c.from-2.result ≡ c.args.tags = omega arith in
     ap (λ r. c.from.result * c.from-2.result * r / 2 ^ 40) c.requires.reciprocal

@@ -12,6 +12,8 @@ returns-clause-back c =
     let bits : 2 ^ c.self.inside.shift ≡ word_bits l = ap (λ (s : Layout). word_bits s) c.self.view_is in
     let first : word * 2 ^ c.self.inside.shift ≡ word * word_bits l = ap (λ (p : ℕ). word * p) bits in
     let value : word * 2 ^ c.self.inside.shift % 4294967296 + place ≡ tag_at l word place = omega arith in
-    let within : place < word_bits l = omega (arith, c.requires.place) in
-    (ap (word_of l) value ∙ word_of-tag_at l word place within, ap (place_of l) value
-      ∙ place_of-tag_at l word place within)
+    let within : place < word_bits l = omega (arith, c.requires.place) in (
+      ap (word_of l) value ∙ word_of-tag_at l word place within,
+      ap (place_of l) value
+          ∙ place_of-tag_at l word place within,
+    )

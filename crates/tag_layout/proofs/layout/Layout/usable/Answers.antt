@@ -17,14 +17,14 @@ pub returns-clause-value : goal.returns-clause-value
 returns-clause-value c =
     let is = mask c.word_depth.result c.word_depth.ensures.within.1 in let some = pow_pos c.word_depth.result in
     let e : 2 ^ c.word_depth.result ≡ 2 ^ word_depth c.args.self c.args.word =
-      ap (λ d. 2 ^ d) c.word_depth.ensures.value in omega arith
+    ap (λ d. 2 ^ d) c.word_depth.ensures.value in omega arith
 
 pub returns-clause-bits : goal.returns-clause-bits
 returns-clause-bits c place =
     let is = mask c.word_depth.result c.word_depth.ensures.within.1 in
     let value = c.word_depth.ensures.value in (
       λ set. dite (dec_lt place c.word_depth.result) (λ h. omega arith) (λ no. let none =
-        bit_at_ones_above c.word_depth.result place (omega arith) in let bit = ap (λ m. bit_at m place) is in
-        absurd (omega arith)),
+          bit_at_ones_above c.word_depth.result place (omega arith) in let bit = ap (λ m. bit_at m place) is in
+          absurd (omega arith)),
       λ h. ap (λ m. bit_at m place) is ∙ bit_at_ones c.word_depth.result place (omega arith),
     )

@@ -11,5 +11,5 @@ invariant-loop-tag l = record {
   same : SamePlaces l.initial.self l.self;
   ready : (k : ℕ) → k < l.tag → k < l.layout.depth → IsTrue (names l.layout l.event k)
       → Needs l.event (get_or l.initial.self.places k Free)
-        × (get_or l.self.ready k Free ≡ brings l.event (get_or l.initial.self.places k Free));
+      × (get_or l.self.ready k Free ≡ brings l.event (get_or l.initial.self.places k Free));
 }

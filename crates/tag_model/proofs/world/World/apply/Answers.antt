@@ -10,53 +10,69 @@ use Rattle.tag_model.proofs.world.World.apply.Goals as goal
 
 may-happen : (kept : KeptWorld) (event : Event) → IsInRoom kept event → AreAccepted kept.layout event kept.places
     → MayHappen kept.layout (callers_of kept) (world_of kept) event
-may-happen kept event room accepted = record { in_layout = room.0; caller = room.1;
-    unspent = room.2; places = accepted }
+may-happen kept event room accepted = record {
+  in_layout = room.0;
+  caller = room.1;
+  unspent = room.2;
+  places = accepted;
+}
 
 pub add_at-requires-2-clause-room : goal.add_at-requires-2-clause-room
 add_at-requires-2-clause-room c =
-    let old : KeptWorld = record { layout = c.self.inside.entries.layout; places = c.self.inside.entries.places;
-      won = c.self.inside.won.items; back = c.self.inside.back.items } in
+    let old : KeptWorld = record {
+      layout = c.self.inside.entries.layout;
+      places = c.self.inside.entries.places;
+      won = c.self.inside.won.items;
+      back = c.self.inside.back.items;
+    } in
     let room : IsInRoom old c.args.event = subst (λ (kept : KeptWorld). IsInRoom kept c.args.event)
-      (sym c.self.view_is) c.in_ok-test.ensures.ok in
+    (sym c.self.view_is) c.in_ok-test.ensures.ok in
     let few = back_of-fits old c.self.invariant (caller_of c.args.event) room.1 in
     let here : get_or c.deref_mut-2.result.now c.caller-2.result 0
-      ≡ get_or c.self.inside.back.items (caller_of c.args.event) 0 =
+    ≡ get_or c.self.inside.back.items (caller_of c.args.event) 0 =
     ap (λ (xs : List ℕ). get_or xs c.caller-2.result 0) c.deref_mut-2.ensures.value
-      ∙ ap (λ (k : ℕ). get_or c.self.inside.back.items k 0) c.caller-2.ensures in
+    ∙ ap (λ (k : ℕ). get_or c.self.inside.back.items k 0) c.caller-2.ensures in
     omega arith
 
 pub invariant_of-self-2 : goal.invariant_of-self-2
 invariant_of-self-2 c =
-    let old : KeptWorld = record { layout = c.self.inside.entries.layout; places = c.self.inside.entries.places;
-      won = c.self.inside.won.items; back = c.self.inside.back.items } in
+    let old : KeptWorld = record {
+      layout = c.self.inside.entries.layout;
+      places = c.self.inside.entries.places;
+      won = c.self.inside.won.items;
+      back = c.self.inside.back.items;
+    } in
     let room : IsInRoom old c.args.event = subst (λ (kept : KeptWorld). IsInRoom kept c.args.event)
-      (sym c.self.view_is) c.in_ok-test.ensures.ok in
+    (sym c.self.view_is) c.in_ok-test.ensures.ok in
     let did = c.if-not-bring.ensures.moved in
     let won : c.add_at.new.counts ≡ set old.won (caller_of c.args.event)
-      (get_or old.won (caller_of c.args.event) 0 + won_by c.args.event) = cc in
+    (get_or old.won (caller_of c.args.event) 0 + won_by c.args.event) = cc in
     let back : c.add_at-2.new.counts
-      ≡ set old.back (caller_of c.args.event) (get_or old.back (caller_of c.args.event) 0 + back_by c.args.event) =
-      cc in
+    ≡ set old.back (caller_of c.args.event) (get_or old.back (caller_of c.args.event) 0 + back_by c.args.event) =
+    cc in
     subst IsSound
     (sym (written-after old c.args.event c.bring.new.self.layout c.self.inside.won c.self.inside.back
-      c.bring.new.self.places c.add_at.new.counts c.add_at-2.new.counts c.if-not-bring.ensures.layout refl refl won
-      back))
+    c.bring.new.self.places c.add_at.new.counts c.add_at-2.new.counts c.if-not-bring.ensures.layout refl refl won
+    back))
     (sound-kept old c.args.event c.bring.new.self.places c.self.invariant
-      (may-happen old c.args.event room did.0) did.1)
+    (may-happen old c.args.event room did.0) did.1)
 
 pub returns-clause-ok : goal.returns-clause-ok
 returns-clause-ok c =
-    let old : KeptWorld = record { layout = c.self.inside.entries.layout; places = c.self.inside.entries.places;
-      won = c.self.inside.won.items; back = c.self.inside.back.items } in
+    let old : KeptWorld = record {
+      layout = c.self.inside.entries.layout;
+      places = c.self.inside.entries.places;
+      won = c.self.inside.won.items;
+      back = c.self.inside.back.items;
+    } in
     let room : IsInRoom old c.args.event = subst (λ (kept : KeptWorld). IsInRoom kept c.args.event)
-      (sym c.self.view_is) c.in_ok-test.ensures.ok in
+    (sym c.self.view_is) c.in_ok-test.ensures.ok in
     let did = c.if-not-bring.ensures.moved in
     let won : c.add_at.new.counts ≡ set old.won (caller_of c.args.event)
-      (get_or old.won (caller_of c.args.event) 0 + won_by c.args.event) = cc in
+    (get_or old.won (caller_of c.args.event) 0 + won_by c.args.event) = cc in
     let back : c.add_at-2.new.counts
-      ≡ set old.back (caller_of c.args.event) (get_or old.back (caller_of c.args.event) 0 + back_by c.args.event) =
-      cc in
+    ≡ set old.back (caller_of c.args.event) (get_or old.back (caller_of c.args.event) 0 + back_by c.args.event) =
+    cc in
     let new : KeptWorld = record {
       layout = c.bring.new.self.layout;
       places = c.bring.new.self.places;
@@ -66,7 +82,7 @@ returns-clause-ok c =
     subst (λ (k : KeptWorld). Happens k c.args.event new) c.self.view_is
     (subst (Happens old c.args.event)
     (sym (written-after old c.args.event c.bring.new.self.layout c.self.inside.won c.self.inside.back
-      c.bring.new.self.places c.add_at.new.counts c.add_at-2.new.counts c.if-not-bring.ensures.layout refl refl won
-      back))
+    c.bring.new.self.places c.add_at.new.counts c.add_at-2.new.counts c.if-not-bring.ensures.layout refl refl won
+    back))
     (happens-kept old c.args.event c.bring.new.self.places c.self.invariant
-      (may-happen old c.args.event room did.0) did.1))
+    (may-happen old c.args.event room did.0) did.1))

@@ -14,32 +14,32 @@ parts : (events : List Event) (place : ℕ) → place < length events
 parts events place h =
     ap (λ (xs : List Event). take place events ++ xs)
     ((let e : place + 1 ≡ suc place = omega arith in ap (λ (n : ℕ). get_or events place Look ∷ drop n events) e)
-      ∙ sym (drop-cons events place Look h))
+    ∙ sym (drop-cons events place Look h))
     ∙ take-append-drop place events
 
 pub returns-in-Err-clause-succeeds : goal.returns-in-Err-clause-succeeds
 returns-in-Err-clause-succeeds c may =
     let events : List Event = c.args.events.now in let place : ℕ = c.loop-place.place in
     absurd (cannot-stop c.args.self.now c.loop-place.self (take place events) (get_or events place Look)
-      c.loop-place.invariant (drop (place + 1) events) c.in-Err.fault
+    c.loop-place.invariant (drop (place + 1) events) c.in-Err.fault
     (subst (MayRun c.args.self.now.layout (callers_of c.args.self.now) (world_of c.args.self.now))
-      (sym (parts events place c.loop-place-test.true)) may) c.in-Err.ensures.fault)
+    (sym (parts events place c.loop-place-test.true)) may) c.in-Err.ensures.fault)
 
 pub returns-in-Err-clause-fault : goal.returns-in-Err-clause-fault
 returns-in-Err-clause-fault c =
     let events : List Event = c.args.events.now in let place : ℕ = c.loop-place.place in
     let old : KeptWorld = c.args.self.now in
     let here = stops-here old c.loop-place.self (take place events) (get_or events place Look) c.loop-place.invariant
-      (drop (place + 1) events) c.in-Err.fault c.in-Err.ensures.fault in
+    (drop (place + 1) events) c.in-Err.fault c.in-Err.ensures.fault in
     subst (λ (n : ℕ). StopsAt old.layout (callers_of old) (world_of old) events n c.in-Err.fault)
-      (length-take-le place events (omega arith))
+    (length-take-le place events (omega arith))
     (subst (λ (xs : List Event). StopsAt old.layout (callers_of old) (world_of old) xs (length (take place events))
-      c.in-Err.fault) (parts events place c.loop-place-test.true) here)
+    c.in-Err.fault) (parts events place c.loop-place-test.true) here)
 
 pub loop-place-preserved : goal.loop-place-preserved
 loop-place-preserved c =
     let events : List Event = c.args.events.now in let place : ℕ = c.loop-place.place in
     subst (λ (xs : List Event). Ran c.args.self.now xs c.apply.new.self)
-      (sym (take_more events place Look c.loop-place-test.true))
+    (sym (take_more events place Look c.loop-place-test.true))
     (ran-more c.args.self.now c.loop-place.self (take place events) (get_or events place Look) c.loop-place.invariant
-      c.apply.new.self c.in_default.ensures.ok)
+    c.apply.new.self c.in_default.ensures.ok)

@@ -17,10 +17,10 @@ returns-then-totals-ne0-clause-cause g c =
     let news : List (Agent R) = c.settle-totals.new.agents.items in
     let same : records_of news ≡ records_of olds = unchanged-records olds news s.unchanged in
     let held : totals.held ≡ held_in (records_of olds) = s.settled.held
-      ∙ ap (λ (z : List (Record R)). held_in z) same in
+    ∙ ap (λ (z : List (Record R)). held_in z) same in
     let posted : totals.posted ≡ posted_in (records_of olds) =
     posted_is (shape_of c.args.self.now) (records_of news) totals s.settled
-      ∙ ap (λ (z : List (Record R)). posted_in z) same in (
+    ∙ ap (λ (z : List (Record R)). posted_in z) same in (
       held,
       posted,
       λ none. elim c.then-totals-ne0.branch [
@@ -36,12 +36,12 @@ returns-then-waiting-ne0-clause-cause g c =
     let news : List (Agent R) = c.settle-totals.new.agents.items in
     let same : records_of news ≡ records_of olds = unchanged-records olds news s.unchanged in
     let held : totals.held ≡ held_in (records_of olds) = s.settled.held
-      ∙ ap (λ (z : List (Record R)). held_in z) same in
+    ∙ ap (λ (z : List (Record R)). held_in z) same in
     let posted : totals.posted ≡ posted_in (records_of olds) =
     posted_is (shape_of c.args.self.now) (records_of news) totals s.settled
-      ∙ ap (λ (z : List (Record R)). posted_in z) same in
+    ∙ ap (λ (z : List (Record R)). posted_in z) same in
     let count = c.count_standing-waiting.ensures
-      ∙ ap (λ (z : List (Agent R)). standing_count z) c.as_slice.ensures.value
+    ∙ ap (λ (z : List (Agent R)). standing_count z) c.as_slice.ensures.value
     ∙ unchanged-standing olds news s.unchanged in let some = c.if-waiting-ne0.true in (
       (sym held ∙ c.if-totals-ne0.false, sym posted ∙ c.if-totals-ne0-2.false),
       count,
@@ -55,12 +55,12 @@ returns-clause-cause g c =
     let news : List (Agent R) = c.settle-totals.new.agents.items in
     let same : records_of news ≡ records_of olds = unchanged-records olds news s.unchanged in
     let held : totals.held ≡ held_in (records_of olds) = s.settled.held
-      ∙ ap (λ (z : List (Record R)). held_in z) same in
+    ∙ ap (λ (z : List (Record R)). held_in z) same in
     let posted : totals.posted ≡ posted_in (records_of olds) =
     posted_is (shape_of c.args.self.now) (records_of news) totals s.settled
-      ∙ ap (λ (z : List (Record R)). posted_in z) same in
+    ∙ ap (λ (z : List (Record R)). posted_in z) same in
     let count = c.count_standing-waiting.ensures
-      ∙ ap (λ (z : List (Agent R)). standing_count z) c.as_slice.ensures.value
+    ∙ ap (λ (z : List (Agent R)). standing_count z) c.as_slice.ensures.value
     ∙ unchanged-standing olds news s.unchanged in (
       (sym held ∙ c.if-totals-ne0.false, sym posted ∙ c.if-totals-ne0-2.false),
       sym count ∙ c.if-waiting-ne0.false,

@@ -22,33 +22,33 @@ finish-requires-clause-all g c =
     subst (λ (z : List ℕ). HasAll z (agents_of c.args.self))
     (caller_numbers c.args.agents.items
     ∙ ap (λ (z : List (Record g.row.R.Denot)). tags.numbers z) (sym c.gather_each-callers.ensures.all.callers))
-      c.requires.all
+    c.requires.all
 
 pub finish-requires-2-clause-all : goal.finish-requires-2-clause-all
 finish-requires-2-clause-all g c =
     subst (λ (n : ℕ). HasAll (numbers (book.gathered c.gather_each-callers.result.tellers)) n)
-      (sym c.args.self.as_many.0)
+    (sym c.args.self.as_many.0)
     (subst (λ (z : List ℕ). HasAll z (agents_of c.args.self))
     (teller_numbers c.args.agents.items
     ∙ ap (λ (z : List (ledger.Record BookStep)). numbers z) (sym c.gather_each-callers.ensures.all.tellers))
-      c.requires.all)
+    c.requires.all)
 
 pub finish-requires-3-clause-all : goal.finish-requires-3-clause-all
 finish-requires-3-clause-all g c =
     subst (λ (n : ℕ). HasAll (numbers (groups.gathered c.gather_each-callers.result.waiters)) n)
-      (sym c.args.self.as_many.1)
+    (sym c.args.self.as_many.1)
     (subst (λ (z : List ℕ). HasAll z (agents_of c.args.self))
     (waiter_numbers c.args.agents.items
     ∙ ap (λ (z : List (ledger.Record GroupStep)). numbers z) (sym c.gather_each-callers.ensures.all.waiters))
-      c.requires.all)
+    c.requires.all)
 
 pub returns : goal.returns
 returns g c =
     let q = c.args.self in let all = c.gather_each-callers.ensures.all in
     gathers q c.args.agents.items c.finish.result c.finish-2.result c.finish-3.result
     (subst (λ (z : List (Record g.row.R.Denot)). tags.IsGathered q.map.shape z c.finish.result)
-      all.callers c.finish.ensures)
+    all.callers c.finish.ensures)
     (subst (λ (z : List (ledger.Record BookStep)). IsBooked (book.limits_of q.book) z c.finish-2.result)
-      all.tellers c.finish-2.ensures)
+    all.tellers c.finish-2.ensures)
     (subst (λ (z : List (ledger.Record GroupStep)). IsBalanced (groups.waiters_of q.groups) z c.finish-3.result)
-      all.waiters c.finish-3.ensures)
+    all.waiters c.finish-3.ensures)

@@ -21,11 +21,11 @@ returns-in-Won-clause-counts g c = record {
     some = omega (arith, c.if-active-eq0.false);
     charge = Won c.in-Won.field-0;
     lawful = subst (λ (z : Charge). IsCharge (cap_of c.args.self.now) (batch_of c.args.self.now) c.args.n
-      (book_steps c.args.agent.now) (book.steps_of c.count.new.teller) z) c.in-Won.is c.count.ensures.lawful;
+        (book_steps c.args.agent.now) (book.steps_of c.count.new.teller) z) c.in-Won.is c.count.ensures.lawful;
     follows = subst (λ (z : List GroupStep). IsWalk (batch_of c.args.self.now) z (groups.steps_of c.wake.new.waiter)
-      c.wake.result) c.active.ensures.step
+        c.wake.result) c.active.ensures.step
         (subst (λ (z : ℕ). IsWalk z (groups.steps_of c.active.new.waiter) (groups.steps_of c.wake.new.waiter)
-          c.wake.result) (sym c.args.self.now.batch_is) c.wake.ensures.lawful);
+        c.wake.result) (sym c.args.self.now.batch_is) c.wake.ensures.lawful);
   });
   stands = search rules;
 }
@@ -38,9 +38,9 @@ returns-in_default-clause-counts g c = record {
     charge = c.count.result;
     lawful = c.count.ensures.lawful;
     follows = subst (λ (z : List GroupStep). Follows (batch_of c.args.self.now) c.count.result z
-      (groups.steps_of c.active.new.waiter) 0) c.active.ensures.step
+        (groups.steps_of c.active.new.waiter) 0) c.active.ensures.step
         (follows_none (batch_of c.args.self.now) c.count.result
-          (groups.steps_of c.active.new.waiter) c.in_default.not-Won);
+        (groups.steps_of c.active.new.waiter) c.in_default.not-Won);
   });
   stands = search rules;
 }

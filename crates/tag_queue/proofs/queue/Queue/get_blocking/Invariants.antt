@@ -11,5 +11,5 @@ invariant-loop g l = record {
   counts : teller_of l.agent ≡ teller_of l.fn.agent;
   out : standing_of l.agent ≡ None;
   none : (tries : ℕ) × FindNone tries (layout_of l.self) (caller_of l.fn.agent) (hint_of l.fn.agent)
-    (caller_of l.agent) (hint_of l.agent);
+      (caller_of l.agent) (hint_of l.agent);
 }

@@ -11,12 +11,12 @@ pub invariant_of-agent : goal.invariant_of-agent
 invariant_of-agent g c = let agent = c.args.agent.now in let gives = c.give_all.ensures.gives in record {
   numbers = (
     ap (λ (r : Record g.row.R.Denot). r.number) gives.known ∙ same_number gives.runs (record_of agent.caller)
-      ∙ agent.numbers.0,
+        ∙ agent.numbers.0,
     agent.numbers.1,
     agent.numbers.2,
   );
   below = subst (λ (s : Shape). agent.number < s.callers) (sym (ap (λ (r : Record g.row.R.Denot). r.shape) gives.known
-    ∙ same_shape gives.runs (record_of agent.caller))) agent.below;
+      ∙ same_shape gives.runs (record_of agent.caller))) agent.below;
   counts = let back = c.give_all.ensures.back in let own = agent.counts in omega arith;
   wakes = agent.wakes;
 }

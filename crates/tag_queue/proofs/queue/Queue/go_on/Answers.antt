@@ -9,7 +9,7 @@ pub returns-in-Ok-clause-rest : goal.returns-in-Ok-clause-rest
 returns-in-Ok-clause-rest g c =
     let batch : c.wake_batch-batch.result ≡ wake_batch c.in-Ok.map.shape.layout c.args.self.min_shallow =
     c.wake_batch-batch.ensures.value ∙ ap (λ (l : Layout). wake_batch l c.args.self.min_shallow)
-      (sym c.in-Ok.ensures.ok.next.layout_is) in
+    (sym c.in-Ok.ensures.ok.next.layout_is) in
     record {
       book = subst (λ (n : ℕ). Rebatches c.args.self.book c.rebatch.new.self n) batch c.rebatch.ensures;
       groups = refl;

@@ -12,31 +12,34 @@ returns-in-Some-clause-unchanged g c = unchanged-refl c.args.agents.now.items
 pub returns-in-Some-clause-cause : goal.returns-in-Some-clause-cause
 returns-in-Some-clause-cause g c =
     subst (λ (z : List (Agent g.row.R.Denot)). IsLeastMissing (numbers_of z)
-      (agents_of c.args.self.now) c.in-Some.number)
+    (agents_of c.args.self.now) c.in-Some.number)
     c.as_slice.ensures.value c.in-Some.ensures
 
 pub returns-in-Err-DepthTooLarge-clause-cause : goal.returns-in-Err-DepthTooLarge-clause-cause
 returns-in-Err-DepthTooLarge-clause-cause g c = (
   subst (λ (z : List (Agent g.row.R.Denot)). HasAll (numbers_of z) (agents_of c.args.self.now))
-    c.as_slice.ensures.value c.in_default.ensures,
+      c.as_slice.ensures.value c.in_default.ensures,
   c.in-Err-DepthTooLarge.ensures.too_deep.0 (let is = c.in-Err-DepthTooLarge.field-0-is in cc),
 )
 
 pub returns-in-Some-busy-clause-cause : goal.returns-in-Some-busy-clause-cause
 returns-in-Some-busy-clause-cause g c =
     let there = subst (λ (z : List (Agent g.row.R.Denot)). HasAll (numbers_of z) (agents_of c.args.self.now))
-      c.as_slice.ensures.value c.in_default.ensures in
+    c.as_slice.ensures.value c.in_default.ensures in
     refused_for c.args.self.now c.args.agents.now.items c.args.depth c.in-Some-busy.cause
     (there, depth_fits _ _ c.args.depth c.in-Ok.ensures.too_deep) c.in-Some-busy.ensures.cause
 
 pub returns-in-None-clause-may : goal.returns-in-None-clause-may
 returns-in-None-clause-may g c =
     let there = subst (λ (z : List (Agent g.row.R.Denot)). HasAll (numbers_of z) (agents_of c.args.self.now))
-      c.as_slice.ensures.value c.in_default.ensures in
-    λ ok. ((there, depth_fits _ _ c.args.depth c.in-Ok.ensures.too_deep), c.in-None.ensures.cause.0,
-      c.in-None.ensures.cause.1)
+    c.as_slice.ensures.value c.in_default.ensures in
+    λ ok. (
+      (there, depth_fits _ _ c.args.depth c.in-Ok.ensures.too_deep),
+      c.in-None.ensures.cause.0,
+      c.in-None.ensures.cause.1,
+    )
 
 pub busy-requires-clause-every : goal.busy-requires-clause-every
 busy-requires-clause-every g c =
     subst (λ (z : List (Agent g.row.R.Denot)). HasAll (numbers_of z) (agents_of c.args.self.now))
-      c.as_slice.ensures.value c.in_default.ensures
+    c.as_slice.ensures.value c.in_default.ensures

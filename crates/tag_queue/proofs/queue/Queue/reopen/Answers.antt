@@ -18,41 +18,41 @@ go_on-requires-clause-own g c =
 pub go_on-requires-clause-every : goal.go_on-requires-clause-every
 go_on-requires-clause-every g c =
     subst (λ (z : List (Caller g.row.R.Denot)). HasAll (tags.numbers_of z) (agents_of c.args.self))
-      (sym c.part-callers.ensures.callers)
+    (sym c.part-callers.ensures.callers)
     (callers_there c.args.self c.args.agents.items (agents_of c.args.self) c.requires.every)
 
 pub go_on-requires-clause-unused : goal.go_on-requires-clause-unused
 go_on-requires-clause-unused g c =
     subst (λ (z : List (Caller g.row.R.Denot)). NoneInUse (map record_of z))
-      (sym c.part-callers.ensures.callers) c.requires.unused
+    (sym c.part-callers.ensures.callers) c.requires.unused
 
 pub unite-requires-clause-fit : goal.unite-requires-clause-fit
 unite-requires-clause-fit g c =
     fit_moved c.args.self c.args.agents.items c.requires.own _ _ _ c.part-callers.ensures.callers
-      c.part-callers.ensures.shells
+    c.part-callers.ensures.shells
     c.args.layout c.in-Ok-go_on.queue.map c.in-Ok-go_on.ensures.ok
 
 pub unite-requires-in-Err-clause-fit : goal.unite-requires-in-Err-clause-fit
 unite-requires-in-Err-clause-fit g c =
     fit_back c.args.self c.args.agents.items c.requires.own c.part-callers.result.0.items c.in-Err.callers.items
-      c.part-callers.result.1.items
+    c.part-callers.result.1.items
     c.part-callers.ensures.callers c.part-callers.ensures.shells c.in-Err.ensures.err.1
 
 pub returns-in-Ok-go_on-clause-ok : goal.returns-in-Ok-go_on-clause-ok
 returns-in-Ok-go_on-clause-ok g c =
     let next = c.in-Ok-go_on.queue in
     resized_here c.args.self c.args.agents.items c.requires.own c.part-callers.result.0.items
-      c.in-Ok-go_on.callers.items
+    c.in-Ok-go_on.callers.items
     c.part-callers.result.1.items c.part-callers.ensures.callers c.part-callers.ensures.shells c.args.layout next.map
     c.in-Ok-go_on.ensures.ok next c.unite.result.items refl c.unite.ensures.callers
-      c.unite.ensures.shells c.requires.shift
+    c.unite.ensures.shells c.requires.shift
     c.in-Ok-go_on.ensures.rest
 
 pub returns-in-Err-clause-err : goal.returns-in-Err-clause-err
 returns-in-Err-clause-err g c = (
   c.in-Err.ensures.err.0,
   back_here c.args.self c.args.agents.items c.requires.own c.part-callers.result.0.items c.in-Err.callers.items
-    c.part-callers.result.1.items
+      c.part-callers.result.1.items
       c.part-callers.ensures.callers c.part-callers.ensures.shells c.in-Err.ensures.err.1
       c.unite-in-Err.result.items c.unite-in-Err.ensures.callers c.unite-in-Err.ensures.shells,
 )
@@ -61,6 +61,6 @@ pub returns-in-Err-clause-own : goal.returns-in-Err-clause-own
 returns-in-Err-clause-own g c =
     let same = c.in-Err.ensures.err.0 in let here = c.in-Err.queue in
     own_again c.args.agents.items c.unite-in-Err.result.items (c.unite-in-Err.ensures.shells
-      ∙ c.part-callers.ensures.shells)
+    ∙ c.part-callers.ensures.shells)
     c.args.self here.map here.book here.groups c.in-Err.callers.items c.requires.own c.unite-in-Err.ensures.callers
     c.in-Err.ensures.own (λ j. (same j).book.table) (λ j. (same j).groups)

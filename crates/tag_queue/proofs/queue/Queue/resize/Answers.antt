@@ -14,14 +14,14 @@ use Rattle.tag_queue.proofs.queue.Queue.resize.Goals as goal
 pub reopen-requires-clause-every : goal.reopen-requires-clause-every
 reopen-requires-clause-every g c =
     unchanged-there c.args.agents.items c.next_layout.new.agents.items c.next_layout.ensures.unchanged
-      (agents_of c.args.queue)
+    (agents_of c.args.queue)
     (c.in-Ok.ensures.may refl).0.0
 
 pub reopen-requires-clause-unused : goal.reopen-requires-clause-unused
 reopen-requires-clause-unused g c =
     subst (λ (z : List (Record g.row.R.Denot)). NoneInUse z)
     (sym (unchanged-records c.args.agents.items c.next_layout.new.agents.items c.next_layout.ensures.unchanged))
-      (c.in-Ok.ensures.may refl).1
+    (c.in-Ok.ensures.may refl).1
 
 pub returns-in-Ok-clause-ok : goal.returns-in-Ok-clause-ok
 returns-in-Ok-clause-ok g c =
@@ -40,22 +40,22 @@ returns-in-Ok-clause-may g c = λ ok. c.in-Ok.ensures.may refl
 pub returns-in-Ok-clause-missing : goal.returns-in-Ok-clause-missing
 returns-in-Ok-clause-missing g c =
     (told_free c.args.queue c.args.agents.items c.args.depth c.reopen.result (c.in-Ok.ensures.may refl)
-      c.reopen.ensures.cause).missing
+    c.reopen.ensures.cause).missing
 
 pub returns-in-Ok-clause-too_deep : goal.returns-in-Ok-clause-too_deep
 returns-in-Ok-clause-too_deep g c =
     (told_free c.args.queue c.args.agents.items c.args.depth c.reopen.result (c.in-Ok.ensures.may refl)
-      c.reopen.ensures.cause).too_deep
+    c.reopen.ensures.cause).too_deep
 
 pub returns-in-Ok-clause-in_use : goal.returns-in-Ok-clause-in_use
 returns-in-Ok-clause-in_use g c =
     (told_free c.args.queue c.args.agents.items c.args.depth c.reopen.result (c.in-Ok.ensures.may refl)
-      c.reopen.ensures.cause).in_use
+    c.reopen.ensures.cause).in_use
 
 pub returns-in-Ok-clause-waiting : goal.returns-in-Ok-clause-waiting
 returns-in-Ok-clause-waiting g c =
     (told_free c.args.queue c.args.agents.items c.args.depth c.reopen.result (c.in-Ok.ensures.may refl)
-      c.reopen.ensures.cause).waiting
+    c.reopen.ensures.cause).waiting
 
 pub returns-in-Ok-clause-memory : goal.returns-in-Ok-clause-memory
 returns-in-Ok-clause-memory g c = λ told. c.in-Ok.ensures.may refl

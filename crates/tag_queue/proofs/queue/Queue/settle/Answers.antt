@@ -41,16 +41,16 @@ returns-clause-own g c =
     let P : Agent g.row.R.Denot → Type 0 = IsAgentOf c.args.self.now in
     let mine = all_last P c.pop.new.self.items c.in-Some.last (subst (All P) c.in-Some.ensures.items c.requires.own) in
     all_pushed P _ _ _ c.push_reserved.ensures.items c.settle_rest-loans.ensures.own
-      (c.give_back-caller.ensures.caller, mine.1, mine.2)
+    (c.give_back-caller.ensures.caller, mine.1, mine.2)
 
 pub returns-clause-unchanged : goal.returns-clause-unchanged
 returns-clause-unchanged g c =
     unchanged-back c.args.agents.now.items c.pop.new.self.items _ _ c.in-Some.last _ c.in-Some.ensures.items
-      c.push_reserved.ensures.items
+    c.push_reserved.ensures.items
     c.settle_rest-loans.ensures.unchanged
     (agent_same c.in-Some.last _
     (subst (λ (z : Caller g.row.R.Denot). IsUnchanged z c.give_back-caller.result) c.start_lending-all.ensures.lender
-      c.give_back-caller.ensures.unchanged)
+    c.give_back-caller.ensures.unchanged)
     (refl, (refl, refl)))
 
 pub returns-clause-settled : goal.returns-clause-settled
@@ -59,8 +59,8 @@ returns-clause-settled g c =
     c.start_lending-all.ensures.gathered
     (agent_same c.in-Some.last _
     (subst (λ (z : Caller g.row.R.Denot). IsUnchanged z c.give_back-caller.result) c.start_lending-all.ensures.lender
-      c.give_back-caller.ensures.unchanged)
+    c.give_back-caller.ensures.unchanged)
     (refl, (refl, refl)))
     c.settle_rest-loans.ensures.unchanged c.push_reserved.ensures.items (shape_of c.args.self.now)
-      c.settle_rest-loans.result.1
+    c.settle_rest-loans.result.1
     c.settle_rest-loans.ensures.settled

@@ -8,5 +8,5 @@ abbrev pub invariant-loop-tag : goal.invariant-loop-tag
 invariant-loop-tag l = record {
   count : length l.marks.items ≡ l.tag;
   each : (tag : ℕ) → tag < l.tag
-    → get_or l.marks.items tag false ≡ aside_then l.aside l.swept tag (word_of l.layout tag);
+      → get_or l.marks.items tag false ≡ aside_then l.aside l.swept tag (word_of l.layout tag);
 }

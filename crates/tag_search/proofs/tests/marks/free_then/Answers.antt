@@ -18,14 +18,14 @@ loop-tag-preserved c =
     let at : c.place_of-at.result ≡ place_of l tag = c.place_of-at.ensures.value in
     let is_swept : c.is_in.result ≡ is_in (word_of l tag) swept = c.is_in.ensures ∙ ap (λ (x : ℕ). is_in x swept) of in
     let is_taken : c.is_among-is_taken.result
-      ≡ (nat_eq (word_of l tag) word && (nat_le place (place_of l tag) && nat_lt (place_of l tag) (place + n))) =
+    ≡ (nat_eq (word_of l tag) word && (nat_le place (place_of l tag) && nat_lt (place_of l tag) (place + n))) =
     c.is_among-is_taken.ensures ∙ (λ z. nat_eq (of z) word && (nat_le place (at z) && nat_lt (at z) (place + n))) in
     let is : is_free ≡ F tag =
     c.is_free_then-is_free.ensures ∙ (λ z. (get_or free tag false || (is_swept z && get_or aside tag false))
-      && not (is_taken z)) in
+    && not (is_taken z)) in
     record {
       count = marks_count c.loop-tag.marks.items c.push.new.self.items is_free tag c.in_ok-push.ensures.items
-        c.loop-tag.invariant.count;
+          c.loop-tag.invariant.count;
       each = mark_more F c.loop-tag.marks.items c.push.new.self.items is_free tag c.in_ok-push.ensures.items
-        c.loop-tag.invariant.count c.loop-tag.invariant.each is;
+          c.loop-tag.invariant.count c.loop-tag.invariant.each is;
     }

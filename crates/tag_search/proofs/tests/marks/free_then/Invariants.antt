@@ -9,5 +9,5 @@ invariant-loop-tag l = record {
   count : length l.marks.items ≡ l.tag;
   each : (tag : ℕ) → tag < l.tag
       → get_or l.marks.items tag false ≡ free_then l.layout l.free l.aside l.swept l.fn.taken.0 l.fn.taken.1
-        l.fn.taken.2 tag (word_of l.layout tag) (place_of l.layout tag);
+      l.fn.taken.2 tag (word_of l.layout tag) (place_of l.layout tag);
 }

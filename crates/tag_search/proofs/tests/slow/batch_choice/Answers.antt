@@ -18,12 +18,12 @@ run_in-requires-clause-word c =
     let items = c.deref-word-items.result.now in let at = c.loop-word.word-index in
     let shift : c.shift.result ≡ l.shift = c.shift.ensures.value in
     let whole : 1 * 2 ^ c.shift.result % 2 ^ 32 ≡ 2 ^ l.shift = one_shl c.shift.result 32 (omega arith)
-      ∙ ap (λ (x : ℕ). 2 ^ x) shift in
+    ∙ ap (λ (x : ℕ). 2 ^ x) shift in
     let hint : c.reduced.result ≡ reduced l.depth c.args.hint.at = c.reduced.ensures
-      ∙ ap (λ (x : ℕ). reduced x c.args.hint.at) c.depth.ensures.value in
+    ∙ ap (λ (x : ℕ). reduced x c.args.hint.at) c.depth.ensures.value in
     let order : items ≡ batch_words l first =
     c.deref-word-items.ensures.value ∙ c.in_ok-order.ensures
-      ∙ (λ z. scan_order (hint z / whole z) (c.words.ensures.value z) true) in
+    ∙ (λ z. scan_order (hint z / whole z) (c.words.ensures.value z) true) in
     order_within first (words l) items order at c.loop-word-test.true
 
 pub loop-word-preserved : goal.loop-word-preserved
@@ -33,9 +33,9 @@ loop-word-preserved c =
     let items = c.deref-word-items.result.now in let at = c.loop-word.word-index in
     record {
       swept = swept_more items c.loop-word.swept.items c.push.new.self.items at c.loop-word-test.true
-        c.loop-word.invariant.swept c.in_ok-push.ensures.items;
+          c.loop-word.invariant.swept c.in_ok-push.ensures.items;
       passed = all_more (HasNoRun l c.args.n p) items at c.loop-word-test.true c.loop-word.invariant.passed
-        c.in_default.ensures.run;
+          c.in_default.ensures.run;
     }
 
 pub returns-in-Some-clause-choice : goal.returns-in-Some-clause-choice
@@ -45,23 +45,26 @@ returns-in-Some-clause-choice c =
     let items = c.deref-word-items.result.now in let at = c.loop-word.word-index in
     let shift : c.shift.result ≡ l.shift = c.shift.ensures.value in
     let whole : 1 * 2 ^ c.shift.result % 2 ^ 32 ≡ 2 ^ l.shift = one_shl c.shift.result 32 (omega arith)
-      ∙ ap (λ (x : ℕ). 2 ^ x) shift in
+    ∙ ap (λ (x : ℕ). 2 ^ x) shift in
     let hint : c.reduced.result ≡ reduced l.depth c.args.hint.at = c.reduced.ensures
-      ∙ ap (λ (x : ℕ). reduced x c.args.hint.at) c.depth.ensures.value in
+    ∙ ap (λ (x : ℕ). reduced x c.args.hint.at) c.depth.ensures.value in
     let order : items ≡ batch_words l first =
     c.deref-word-items.ensures.value ∙ c.in_ok-order.ensures
-      ∙ (λ z. scan_order (hint z / whole z) (c.words.ensures.value z) true) in
+    ∙ (λ z. scan_order (hint z / whole z) (c.words.ensures.value z) true) in
     let word : ℕ = get_or items at 0 in let place = c.in-Some.place in let bits = c.open_bits-bits.result in
-    let run : IsOpenRun l c.args.n p word place bits = record { least = c.in-Some.ensures.run;
-      fits = c.in-Some.ensures.fits; won = c.open_bits-bits.ensures } in
+    let run : IsOpenRun l c.args.n p word place bits = record {
+      least = c.in-Some.ensures.run;
+      fits = c.in-Some.ensures.fits;
+      won = c.open_bits-bits.ensures;
+    } in
     let new : Pool = pool_of_marks l c.in_ok-marks.marks.free.items c.in_ok-marks.marks.aside.items in
     let swept : c.deref.result.now ≡ word ∷ take at items =
     c.deref.ensures.value ∙ c.in_ok-insert.ensures.items ∙ insert_first c.loop-word.swept.items word
-      ∙ ap (λ (xs : List ℕ). word ∷ xs) c.loop-word.invariant.swept in
+    ∙ ap (λ (xs : List ℕ). word ∷ xs) c.loop-word.invariant.swept in
     subst (λ (t : ℕ). IsBatchChoice l c.args.n p (batch_words l first) (Some (t, bits)) new)
-      (sym c.tag_at.ensures.value)
+    (sym c.tag_at.ensures.value)
     (slow_batch l p c.args.n first items c.deref.result.now order at word place bits new c.loop-word-test.true
-      (λ _. word) c.loop-word.invariant.passed swept run c.in_ok-marks.ensures.pool)
+    (λ _. word) c.loop-word.invariant.passed swept run c.in_ok-marks.ensures.pool)
 
 pub returns-clause-choice : goal.returns-clause-choice
 returns-clause-choice c =
@@ -70,12 +73,12 @@ returns-clause-choice c =
     let items = c.deref-word-items.result.now in let at = c.loop-word.word-index in
     let shift : c.shift.result ≡ l.shift = c.shift.ensures.value in
     let whole : 1 * 2 ^ c.shift.result % 2 ^ 32 ≡ 2 ^ l.shift = one_shl c.shift.result 32 (omega arith)
-      ∙ ap (λ (x : ℕ). 2 ^ x) shift in
+    ∙ ap (λ (x : ℕ). 2 ^ x) shift in
     let hint : c.reduced.result ≡ reduced l.depth c.args.hint.at = c.reduced.ensures
-      ∙ ap (λ (x : ℕ). reduced x c.args.hint.at) c.depth.ensures.value in
+    ∙ ap (λ (x : ℕ). reduced x c.args.hint.at) c.depth.ensures.value in
     let order : items ≡ batch_words l first =
     c.deref-word-items.ensures.value ∙ c.in_ok-order.ensures
-      ∙ (λ z. scan_order (hint z / whole z) (c.words.ensures.value z) true) in
+    ∙ (λ z. scan_order (hint z / whole z) (c.words.ensures.value z) true) in
     slow_no_batch l p c.args.n first items c.deref-2.result.now order at
-      (pool_of_marks l c.in_ok-marks-2.marks.free.items c.in_ok-marks-2.marks.aside.items) c.loop-word-test.false
+    (pool_of_marks l c.in_ok-marks-2.marks.free.items c.in_ok-marks-2.marks.aside.items) c.loop-word-test.false
     (c.deref-2.ensures.value ∙ c.loop-word.invariant.swept) c.loop-word.invariant.passed c.in_ok-marks-2.ensures.pool

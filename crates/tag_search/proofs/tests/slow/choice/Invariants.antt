@@ -8,6 +8,9 @@ use Rattle.tag_search.proofs.tests.slow.choice.Given as goal
 abbrev pub invariant-loop-word : goal.invariant-loop-word
 invariant-loop-word l = record {
   swept : l.swept.items ≡ take l.word-index l.word-items;
-  passed : HavePassed (pool_of_marks l.layout l.free l.aside) l.way.first (record { start = l.way.start;
-    limit = limit_of l.layout l.way.shallow; wrap = l.way.wrap }) (take l.word-index l.word-items);
+  passed : HavePassed (pool_of_marks l.layout l.free l.aside) l.way.first (record {
+    start = l.way.start;
+    limit = limit_of l.layout l.way.shallow;
+    wrap = l.way.wrap;
+  }) (take l.word-index l.word-items);
 }

@@ -9,4 +9,4 @@ gather-requires g c =
     let map = c.in_ok-map.map in let callers = c.in_ok-map.callers in let ran = c.run_all.new.callers in
     All-take (IsCallerOf map) callers.len (ran ++ drop (length ran) callers.items)
     (All-append (IsCallerOf map) ran (drop (length ran) callers.items) c.run_all.ensures
-      (All-drop (IsCallerOf map) (length ran) callers.items c.in_ok-map.ensures))
+    (All-drop (IsCallerOf map) (length ran) callers.items c.in_ok-map.ensures))

@@ -22,8 +22,7 @@ compare_exchange-found-requires c = let b = c.args.self.now in let t = c.args.te
     )
 
 pub returns-then-found-start-clause-lost : goal.returns-then-found-start-clause-lost
-returns-then-found-start-clause-lost c _ = let t = c.args.teller.now in let did = c.compare_exchange-found.ensures.2 in
-    (
+returns-then-found-start-clause-lost c _ = let t = c.args.teller.now in let did = c.compare_exchange-found.ensures.2 in (
   refl,
   (
     c.compare_exchange-found.result,
