@@ -44,7 +44,7 @@ module _ (number : ℕ → ℕ) where
       (λ (ne : number n ≢ c). let nothing = miss c n ne in
       let before = at_most_once n c (λ j k less low. differ j k less (omega arith)) in omega arith)
 
-  few_below : (count most : ℕ) → ((n : ℕ) → n < count → number n < most) → ((j k : ℕ) → j < k → k < count → number j ≢ number k) → count ≤ most
+  pub few_below : (count most : ℕ) → ((n : ℕ) → n < count → number n < most) → ((j k : ℕ) → j < k → k < count → number j ≢ number k) → count ≤ most
   few_below count most low differ =
       let ones = sum_below-same (λ n. 1) (λ n. sum_below (λ c. hits c n) most) count
       (λ n less. sym (sum_below-only (λ c. hits c n) most (number n) (low n less) (λ c l ne. miss c n (λ e. ne (sym e))) ∙ hit (number n) n refl)) in
@@ -99,7 +99,7 @@ module _ {R : Type 0} where
   ordinary_numbers [] = refl
   ordinary_numbers (hand ∷ hands) = ap (λ (ns : List ℕ). number_of hand ∷ ns) (ordinary_numbers hands)
 
-  won-le : (agents : List (Agent R)) → total_of (λ (r : Record R). r.won) (queue.records_of agents) ≤ length agents * MOST_WON
+  pub won-le : (agents : List (Agent R)) → total_of (λ (r : Record R). r.won) (queue.records_of agents) ≤ length agents * MOST_WON
   won-le [] = omega arith
   won-le (a ∷ agents) = let rest = won-le agents in let own = a.caller.unspent in
       let next : length (a ∷ agents) * MOST_WON ≡ length agents * MOST_WON + MOST_WON = suc-mul (length agents) MOST_WON in omega arith

@@ -14,3 +14,7 @@ pub mod Writings
 pub mod Ranges
 pub mod Marking
 pub mod Listing
+pub mod Reuniting
+pub mod Settling
+pub mod Refusing
+pub mod Regrowing

@@ -27,7 +27,7 @@ use Rattle.tag_sets.specs.Hands.{agent_of, split_of, reserved_of}
 use Rattle.tag_sets.specs.Opening.{reserved_part, ordinary_part, AreParts, HoldsNone, IsOpen}
 
 -- of the images of all, and so of all
-all_part : {A B : Type 0} (P : B → Type 0) (f : A → B) (xs : List A) → All P (map f xs) → (k : ℕ) (d : A) → k < length xs → P (f (get_or xs k d))
+pub all_part : {A B : Type 0} (P : B → Type 0) (f : A → B) (xs : List A) → All P (map f xs) → (k : ℕ) (d : A) → k < length xs → P (f (get_or xs k d))
 all_part P f xs h k d l = subst P (get_or-map f xs k d (f d) l) (h k (f d) (let z = length-map xs f in omega arith))
 
 module _ {R : Type 0} where

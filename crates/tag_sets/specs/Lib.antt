@@ -16,3 +16,4 @@ pub mod Texts
 pub mod Bits
 pub mod Busy
 pub mod Dumps
+pub mod Resizing

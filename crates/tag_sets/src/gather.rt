@@ -46,7 +46,7 @@ impl<R: Copy> Tags<R> {
         requires all { HasAll (numbers_of hands.items) (hands_of self) }
         ensures { IsGathered self hands.items result }
     {
-        let hands = self.tell_few(hands);
+        let mut hands = self.tell_few(hands);
         let Tags {
             reserved,
             ordinary,
@@ -55,7 +55,7 @@ impl<R: Copy> Tags<R> {
             ordinary_layout: _,
             rooms,
         } = self;
-        let (agents, others) = rooms.part(hands);
+        let (agents, others) = rooms.part(&mut hands);
         let Ok(special) = Queue::gather(reserved, agents) else {
             unreachable!()
         };

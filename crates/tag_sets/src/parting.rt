@@ -1,25 +1,26 @@
-//! Hands that are parted into the agents of both sets.
-ghost use Rattle.std.specs.Prelude.{◌≡◌, ◌≤◌, length, map};
-ghost use Rattle.tag_sets.specs.Opening.{reserved_part, ordinary_part};
+//! Hands taken apart into the agents of both sets, and put together again.
+ghost use Rattle.std.specs.Prelude.{◌≡◌, ◌≤◌, [], length, map, vec_capacity};
+ghost use Rattle.tag_sets.specs.Opening.{reserved_part, ordinary_part, AreParts};
 
 use crate::hand::Hand;
 use crate::rooms::Rooms;
 use tag_queue::Agent;
 
 impl<R> Rooms<R> {
-    /// The reserved agents and the ordinary ones of these hands, in their order.
-    pub(crate) fn part(self, hands: Vec<Hand<R>>) -> (Vec<Agent<R>>, Vec<Agent<R>>)
-        requires { length hands.items ≤ self.count }
-        ensures reserved { result.0.items ≡ map reserved_part hands.items }
-        ensures ordinary { result.1.items ≡ map ordinary_part hands.items }
+    /// The reserved agents and the ordinary ones of these hands, in order. The hands leave their room behind.
+    pub(crate) fn part(self, hands: &mut Vec<Hand<R>>) -> (Vec<Agent<R>>, Vec<Agent<R>>)
+        requires { length hands.old.items ≤ self.count }
+        ensures reserved { result.0.items ≡ map reserved_part hands.old.items }
+        ensures ordinary { result.1.items ≡ map ordinary_part hands.old.items }
+        ensures empty { hands.new.items ≡ [] }
+        ensures room { vec_capacity hands.new ≡ vec_capacity hands.old }
     {
         let Rooms {
             reserved: mut agents,
             ordinary: mut others,
             count: _,
         } = self;
-        let mut hands = hands.into_iter();
-        while let Some(hand) = hands.next() {
+        while let Some(hand) = hands.pop() {
             let Hand {
                 reserved,
                 ordinary,
@@ -28,7 +29,41 @@ impl<R> Rooms<R> {
             agents.push_reserved(reserved);
             others.push_reserved(ordinary);
         }
-        hands.destroy_empty();
+        agents.reverse();
+        others.reverse();
         (agents, others)
+    }
+
+    /// The hands of these agents, in order, and the room that the agents leave behind.
+    pub(crate) fn unite(
+        reserved_count: u32,
+        mut agents: Vec<Agent<R>>,
+        mut others: Vec<Agent<R>>,
+        hands: &mut Vec<Hand<R>>,
+        count: u32,
+    ) -> Rooms<R>
+        requires pairs { length agents.items ≡ length others.items }
+        requires count { count ≤ length agents.items }
+        requires empty { hands.old.items ≡ [] }
+        requires room { length agents.items ≤ vec_capacity hands.old }
+        ensures parts { AreParts reserved_count agents.items others.items hands.new.items }
+        ensures count { result.count ≡ count }
+    {
+        while let Some(reserved) = agents.pop() {
+            let Some(ordinary) = others.pop() else {
+                unreachable!()
+            };
+            hands.push_reserved(Hand {
+                reserved,
+                ordinary,
+                reserved_count,
+            });
+        }
+        hands.reverse();
+        Rooms {
+            reserved: agents,
+            ordinary: others,
+            count,
+        }
     }
 }

@@ -1,12 +1,15 @@
-//! What no clause says: worked answers on both sides of the border between the sets,
-//! and want of memory.
+//! What no clause says: worked answers on both sides of the border between the sets, want of memory, and threads at work.
+mod calls;
 mod clears;
+mod crowd;
 mod example;
+mod excerpts;
+mod gathering;
 mod gets;
 mod hands;
-mod meets;
 mod memory;
 mod opening;
 mod outputs;
+mod resizing;
 mod slots;
-mod waits;
+mod stage;

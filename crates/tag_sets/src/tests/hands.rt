@@ -1,33 +1,38 @@
-//! Two sets of tags, and their hands, for tests.
-ghost use Rattle.std.specs.Prelude.{◌≡◌, ◌<◌, All, IfOk};
-ghost use Rattle.tag_sets.specs.Hands.{IsHandOf, total_of};
+//! Tags and hands for tests. What a call asks for is looked at when it runs.
+ghost use Rattle.std.specs.Prelude.{◌≡◌, All, IfOk, IsTrue};
+ghost use Rattle.tag_sets.specs.Hands.{IsHandOf, Holds, total_of};
 
 use crate::hand::Hand;
 use crate::tags::Tags;
 use std::alloc::Global;
 use std::test::Fail;
-use tag_queue::Options;
+use tag_queue::{Options, QueueTotals};
 
-/// Two hands, with room for whatever a test does.
-pub(crate) const OPTIONS: Options = Options {
-    shift: None,
-    round_robin: false,
-    min_shallow: None,
-    callers: 2,
-    life: 100,
-    cap: 100,
-};
+/// With what each slot begins.
+pub(crate) const FILL: u64 = 9;
 
-/// Two sets with two hands, whose slots are 0.
-pub(crate) fn two_sets(
+/// Words of the default size, and room for whatever a test does.
+pub(crate) fn options(callers: u32) -> Options {
+    Options {
+        shift: None,
+        round_robin: false,
+        min_shallow: None,
+        callers,
+        life: 1 << 48,
+        cap: 1 << 56,
+    }
+}
+
+/// Tags, and their hands in the order of their numbers.
+pub(crate) fn opened(
     alloc: Global,
     total: u32,
     reserved: u32,
+    options: Options,
 ) -> Result<(Tags<u64>, Vec<Hand<u64>>), Fail>
-    ensures own { IfOk result (λ p. All (IsHandOf p.0) p.1.items) }
-    ensures total { IfOk result (λ p. total_of p.0 ≡ total) }
+    ensures { IfOk result (λ p. All (IsHandOf p.0) p.1.items) }
 {
-    Ok(Tags::open(alloc, total, reserved, OPTIONS, 0)?)
+    Ok(Tags::open(alloc, total, reserved, options, FILL)?)
 }
 
 /// The last of the hands.
@@ -42,10 +47,27 @@ pub(crate) fn next_hand(tags: &Tags<u64>, hands: &mut Vec<Hand<u64>>) -> Result<
     }
 }
 
-/// Whether the hand holds a tag of the range.
-pub(crate) fn has(tags: &Tags<u64>, hand: &Hand<u64>, tag: u32) -> bool
-    requires hand { IsHandOf tags.now hand.now }
-    requires tag { tag < total_of tags.now }
+/// Gathers all hands.
+pub(crate) fn close(tags: Tags<u64>, hands: Vec<Hand<u64>>) -> Result<QueueTotals, Fail>
+    requires { All (IsHandOf tags) hands.items }
 {
-    hand.holds(tag)
+    match Tags::gather(tags, hands) {
+        Ok(totals) => Ok(totals),
+        Err(_) => Err(Fail::new("a hand is missing")),
+    }
+}
+
+/// How many tags there are, in both sets.
+pub(crate) fn total(tags: &Tags<u64>) -> u32
+    ensures { result ≡ total_of tags.now }
+{
+    tags.reserved_count + tags.ordinary_layout.depth()
+}
+
+/// Whether there is such a tag and the hand holds it.
+pub(crate) fn has(tags: &Tags<u64>, hand: &Hand<u64>, tag: u32) -> bool
+    requires { IsHandOf tags.now hand.now }
+    ensures { IsTrue result → Holds hand.now tag }
+{
+    tag < total(tags) && hand.holds(tag)
 }

@@ -1,8 +1,7 @@
 //! Two sets as they open.
 use crate::tags::Tags;
-use crate::tests::hands::OPTIONS;
+use crate::tests::hands::options;
 use std::alloc::Global;
-use std::test::Fail;
 use tag_queue::{Options, SetFault};
 
 /// How two sets with these options are refused.
@@ -14,35 +13,35 @@ fn refusal(alloc: Global, total: u32, reserved: u32, options: Options) -> Option
 }
 
 #[test]
-fn an_opening_tells_its_first_cause(rt: HostRuntime) -> Result<(), Fail> {
-    let alloc = rt.alloc();
-    let long = Options {
+fn two_sets_are_refused_for_their_first_fault(rt: HostRuntime) {
+    let capped = Options {
         cap: (1 << 56) + 1,
-        ..OPTIONS
+        ..options(1)
     };
-    assert_eq!(rt; refusal(alloc, 4, 1, long), Some(SetFault::CapTooLarge));
-    let long = Options {
+    let lasting = Options {
         life: (1 << 48) + 1,
-        ..long
+        ..capped
     };
-    assert_eq!(rt; refusal(alloc, 4, 1, long), Some(SetFault::LifeTooLong));
-    let many = Options {
+    let crowded = Options {
         callers: 65,
-        ..long
+        ..lasting
     };
-    assert_eq!(rt; refusal(alloc, 4, 1, many), Some(SetFault::CallerCount));
     let wide = Options {
         shift: Some(7),
-        ..many
+        ..crowded
     };
-    assert_eq!(rt; refusal(alloc, 4, 1, wide), Some(SetFault::ShiftTooLarge));
-    assert_eq!(rt;
-        refusal(alloc, 4, 5, wide),
-        Some(SetFault::ReservedTooLarge)
-    );
-    assert_eq!(rt;
-        refusal(alloc, 10_241, 10_242, wide),
-        Some(SetFault::TotalTooLarge)
-    );
-    Ok(())
+    for (total, reserved, options, fault) in [
+        (10_241, 10_242, wide, SetFault::TotalTooLarge),
+        (4, 5, wide, SetFault::ReservedTooLarge),
+        (4, 1, wide, SetFault::ShiftTooLarge),
+        (4, 1, crowded, SetFault::CallerCount),
+        (4, 1, lasting, SetFault::LifeTooLong),
+        (4, 1, capped, SetFault::CapTooLarge),
+    ] {
+        assert_eq!(rt;
+            refusal(rt.alloc(), total, reserved, options),
+            Some(fault),
+            "with {reserved} of {total} reserved and {options:?}"
+        );
+    }
 }

@@ -1,107 +1,116 @@
-//! What shows, lists and dumps tell, how they are written, and what a gather adds up.
-ghost use Rattle.std.specs.Prelude.{◌≡◌, All, IfOk};
-ghost use Rattle.tag_sets.specs.Hands.{IsHandOf, total_of};
-
-use crate::hand::Hand;
+//! What shows, lists and dumps tell, and how they are written.
 use crate::kind::Kind;
 use crate::shown::Shown;
-use crate::tags::Tags;
+use crate::tests::calls::Answer;
+use crate::tests::calls::Call::{Clear, GetReserved, Show};
+use crate::tests::hands::options;
+use crate::tests::stage::Stage;
 use crate::texts::{write_dump, write_show};
-use std::alloc::Global;
 use std::test::Fail;
-use step_ledger::GatherCause;
-use tag_model::Totals;
 use tag_queue::Options;
 
-const OPTIONS: Options = Options {
-    shift: None,
-    round_robin: false,
-    min_shallow: None,
-    callers: 1,
-    life: 100,
-    cap: 100,
-};
-
-/// Two sets with one hand, whose slots are 0.
-fn one_hand(
-    alloc: Global,
-    total: u32,
-    reserved: u32,
-    shift: Option<u32>,
-) -> Result<(Tags<u64>, Vec<Hand<u64>>), Fail>
-    ensures own { IfOk result (λ p. All (IsHandOf p.0) p.1.items) }
-    ensures total { IfOk result (λ p. total_of p.0 ≡ total) }
-{
-    let options = Options { shift, ..OPTIONS };
-    Ok(Tags::open(alloc, total, reserved, options, 0)?)
-}
-
-/// The last of the hands.
-fn next_hand(tags: &Tags<u64>, hands: &mut Vec<Hand<u64>>) -> Result<Hand<u64>, Fail>
-    requires { All (IsHandOf tags.now) hands.old.items }
-    ensures own { All (IsHandOf tags.now) hands.new.items }
-    ensures hand { IfOk result (IsHandOf tags.now) }
-{
-    match hands.pop() {
-        Some(hand) => Ok(hand),
-        None => Err(Fail::new("no hand is left")),
+/// Words of four tags, and one hand.
+fn words_of_four() -> Options {
+    Options {
+        shift: Some(2),
+        ..options(1)
     }
-}
-
-/// Takes so many ordinary tags, and gives this one back.
-fn take_some(tags: &Tags<u64>, hand: &mut Hand<u64>, count: u32, back: u32) -> Result<(), Fail>
-    requires { IsHandOf tags.now hand.old }
-    ensures { IsHandOf tags.now hand.new }
-{
-    for _ in 0..count {
-        tags.get(hand)?;
-    }
-    tags.clear(hand, back)?;
-    Ok(())
 }
 
 #[test]
 fn a_show_counts_what_is_busy_and_what_is_aside(rt: HostRuntime) -> Result<(), Fail> {
-    let (tags, mut hands) = one_hand(rt.alloc(), 8, 0, Some(2))?;
-    let mut hand = next_hand(&tags, &mut hands)?;
-    take_some(&tags, &mut hand, 3, 1)?;
-    let shown = tags.show(&mut hand, Kind::Ordinary);
-    let sums = Shown {
+    let mut stage = Stage::open(rt.alloc(), 9, 1, words_of_four())?;
+    assert_eq!(rt; stage.gets(&rt, 0, 3), 3);
+    let ordinary = Shown {
         depth: 8,
         busy: 2,
         cleared: 1,
         bits_per_word: 4,
         map_nr: 2,
     };
-    assert_eq!(rt; shown, sums);
-    let mut text = Vec::new(rt.alloc());
-    write_show(&shown, &mut text)?;
-    let lines = b"depth=8\nbusy=2\ncleared=1\nbits_per_word=4\nmap_nr=2\n";
-    assert_eq!(rt; text.as_slice(), lines.as_slice());
+    let reserved = Shown {
+        depth: 1,
+        busy: 1,
+        cleared: 0,
+        bits_per_word: 4,
+        map_nr: 1,
+    };
+    assert_eq!(rt;
+        stage.wrong(
+            &rt,
+            &[
+                (0, GetReserved, Answer::Tag(0)),
+                (0, Clear(2), Answer::Woken(0)),
+                (0, Show(Kind::Ordinary), Answer::Shown(ordinary)),
+                (0, Show(Kind::Reserved), Answer::Shown(reserved)),
+            ]
+        ),
+        None
+    );
+    Ok(())
+}
+
+#[test]
+fn a_set_without_tags_shows_a_map_without_words(rt: HostRuntime) -> Result<(), Fail> {
+    let mut stage = Stage::open(rt.alloc(), 8, 0, options(1))?;
+    let none = Shown {
+        depth: 0,
+        busy: 0,
+        cleared: 0,
+        bits_per_word: 64,
+        map_nr: 0,
+    };
+    assert_eq!(rt;
+        stage.wrong(&rt, &[(0, Show(Kind::Reserved), Answer::Shown(none))]),
+        None
+    );
+    assert_eq!(rt; stage.dump(0, Kind::Reserved), Some((0, [0xaa; 3])));
     Ok(())
 }
 
 #[test]
 fn busy_tags_of_both_sets_are_listed(rt: HostRuntime) -> Result<(), Fail> {
-    let (tags, mut hands) = one_hand(rt.alloc(), 70, 3, None)?;
-    let mut hand = next_hand(&tags, &mut hands)?;
-    tags.get_reserved(&mut hand)?;
-    take_some(&tags, &mut hand, 62, 4)?;
-    let mut bits = [u64::MAX; 2];
-    assert_eq!(rt; tags.busy(&mut hand, &mut bits), 62);
-    assert_eq!(rt; bits, [0xffff_ffff_ffff_ffe9, 1]);
+    let mut stage = Stage::open(rt.alloc(), 70, 3, options(1))?;
+    assert_eq!(rt; stage.gets(&rt, 0, 62), 62);
+    assert_eq!(rt;
+        stage.wrong(
+            &rt,
+            &[
+                (0, GetReserved, Answer::Tag(0)),
+                (0, Clear(4), Answer::Woken(0)),
+            ]
+        ),
+        None
+    );
+    assert_eq!(rt; stage.busy(0), Some((62, [0xffff_ffff_ffff_ffe9, 1])));
     Ok(())
 }
 
 #[test]
 fn a_dump_packs_the_low_bit_first(rt: HostRuntime) -> Result<(), Fail> {
-    let (tags, mut hands) = one_hand(rt.alloc(), 10, 0, Some(2))?;
-    let mut hand = next_hand(&tags, &mut hands)?;
-    take_some(&tags, &mut hand, 10, 1)?;
-    let mut bytes = [0xaa; 3];
-    assert_eq!(rt; tags.dump(&mut hand, Kind::Ordinary, &mut bytes), 2);
-    assert_eq!(rt; bytes, [0xfd, 0x03, 0xaa]);
-    assert_eq!(rt; tags.dump(&mut hand, Kind::Reserved, &mut bytes), 0);
+    let mut stage = Stage::open(rt.alloc(), 10, 0, words_of_four())?;
+    assert_eq!(rt; stage.gets(&rt, 0, 10), 10);
+    assert_eq!(rt; stage.wrong(&rt, &[(0, Clear(1), Answer::Woken(0))]), None);
+    assert_eq!(rt;
+        stage.dump(0, Kind::Ordinary),
+        Some((2, [0xfd, 0x03, 0xaa]))
+    );
+    Ok(())
+}
+
+#[test]
+fn a_show_is_written_in_five_lines(rt: HostRuntime) -> Result<(), Fail> {
+    let shown = Shown {
+        depth: 8,
+        busy: 2,
+        cleared: 1,
+        bits_per_word: 4,
+        map_nr: 2,
+    };
+    let mut text = Vec::new(rt.alloc());
+    write_show(&shown, &mut text)?;
+    let lines = b"depth=8\nbusy=2\ncleared=1\nbits_per_word=4\nmap_nr=2\n";
+    assert_eq!(rt; text.as_slice(), lines.as_slice());
     Ok(())
 }
 
@@ -115,34 +124,5 @@ fn a_dump_is_written_sixteen_bytes_a_line(rt: HostRuntime) -> Result<(), Fail> {
     let lines =
         b"00000000: 0102\n00000000: ff00 07\n00000000: ffff ffff ffff ffff ffff ffff ffff ffff\n00000010: ff\n";
     assert_eq!(rt; text.as_slice(), lines.as_slice());
-    Ok(())
-}
-
-#[test]
-fn a_gather_adds_up_both_sets(rt: HostRuntime) -> Result<(), Fail> {
-    let (tags, mut hands) = one_hand(rt.alloc(), 6, 2, None)?;
-    let mut hand = next_hand(&tags, &mut hands)?;
-    tags.get_reserved(&mut hand)?;
-    take_some(&tags, &mut hand, 3, 2)?;
-    tags.post(&mut hand, 3)?;
-    let Err(fault) = Tags::gather(tags, hands) else {
-        return Err(Fail::new("gathered without a hand"));
-    };
-    assert_eq!(rt;
-        (fault.cause, fault.hands.len()),
-        (GatherCause::Missing(0), 0)
-    );
-    let mut hands = fault.hands;
-    hands.push(hand)?;
-    let Ok(totals) = Tags::gather(fault.tags, hands) else {
-        return Err(Fail::new("a hand is missing"));
-    };
-    let tags = Totals {
-        got: 4,
-        back: 1,
-        held: 2,
-        posted: 1,
-    };
-    assert_eq!(rt; totals.tags, tags);
     Ok(())
 }

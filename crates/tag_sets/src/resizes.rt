@@ -1,0 +1,84 @@
+//! Resizes: the ordinary set continues with another number of tags.
+ghost use Rattle.std.specs.Prelude.{◌≡◌, ◌↔◌, ◌≤◌, ℕ, length, All, IfOk, IfErr, IsOk, MatchOption};
+ghost use Rattle.step_ledger.specs.Views.{HasAll, IsLeastMissing};
+ghost use Rattle.tag_sets.specs.Hands.{IsHandOf, reserved_of};
+ghost use Rattle.tag_sets.specs.Gathering.{hands_of, numbers_of};
+ghost use Rattle.tag_sets.specs.Opening.{HasRange};
+ghost use Rattle.tag_sets.specs.Resizing.{AreSame, AreUnchanged, IsResized, MayResize, HasMap};
+ghost use Rattle.tag_sets.specs.Resizing.{AreUsed, AreUnused, AreWaiting, IsOutOfRange, IsRefusedAs, IsRefusedFor};
+
+use crate::hand::Hand;
+use crate::tags::Tags;
+use std::alloc::Global;
+use step_ledger::least_missing;
+use tag_layout::MAX_DEPTH;
+use tag_queue::ResizeCause;
+
+/// Why tags weren't resized, with all that was handed in.
+#[derive(Drop)]
+pub struct TagsResizeFault<R> {
+    /// `DepthTooLarge`: the total is over 10,240 or below the number of reserved tags. `InUse` counts both sets.
+    pub cause: ResizeCause,
+    pub tags: Tags<R>,
+    /// In the order in which they were handed in.
+    pub hands: Vec<Hand<R>>,
+}
+
+impl<R: Copy> Tags<R> {
+    /// All hands, handed in in any order, continue with `total` tags. The ordinary ones are new and free; the reserved ones
+    /// stay as they are. A refusal hands everything back.
+    pub fn resize(
+        alloc: Global,
+        tags: Tags<R>,
+        hands: Vec<Hand<R>>,
+        total: u32,
+    ) -> Result<(Tags<R>, Vec<Hand<R>>), TagsResizeFault<R>>
+        requires { All (IsHandOf tags) hands.items }
+        ensures ok { IfOk result (λ p. IsResized tags hands.items total p.0 p.1.items) }
+        ensures may { IsOk result → MayResize tags hands.items total }
+
+        // The causes are looked at in this order, and memory last.
+        ensures missing { (n : ℕ) → IsRefusedAs result (ResizeCause.Missing n)
+            ↔ IsLeastMissing (numbers_of hands.items) (hands_of tags) n }
+        ensures too_deep { IsRefusedAs result ResizeCause.DepthTooLarge
+            ↔ (HasAll (numbers_of hands.items) (hands_of tags) × IsOutOfRange total (reserved_of tags)) }
+        ensures in_use { (held posted : ℕ) → IsRefusedAs result (ResizeCause.InUse held posted)
+            ↔ (HasMap tags hands.items total × AreUsed hands.items held posted) }
+        ensures waiting { (n : ℕ) → IsRefusedAs result (ResizeCause.Waiting n)
+            ↔ (HasMap tags hands.items total × AreWaiting hands.items n) }
+        ensures memory { IsRefusedAs result ResizeCause.Memory → MayResize tags hands.items total }
+        ensures err { IfErr result (λ fault. AreSame tags fault.tags × AreUnchanged hands.items fault.hands.items) }
+        ensures own { IfErr result (λ fault. All (IsHandOf fault.tags) fault.hands.items) }
+    {
+        let mut hands = tags.tell_few(hands);
+        let (tags, obstacle) = tags.obstacle(&mut hands, total);
+        match obstacle {
+            None => tags.go_on(alloc, hands, total),
+            Some(cause) => Err(TagsResizeFault { cause, tags, hands }),
+        }
+    }
+
+    // The same tags; what prevents a resize, apart from waits and memory.
+    fn obstacle(self, hands: &mut Vec<Hand<R>>, total: u32) -> (Tags<R>, Option<ResizeCause>)
+        requires own { All (IsHandOf self) hands.old.items }
+        requires few { length hands.old.items ≤ hands_of self }
+        ensures same { AreSame self result.0 }
+        ensures own { All (IsHandOf result.0) hands.new.items }
+        ensures unchanged { AreUnchanged hands.old.items hands.new.items }
+        ensures cause { MatchOption result.1 (HasMap self hands.old.items total × AreUnused hands.old.items)
+            (IsRefusedFor self hands.old.items total) }
+    {
+        if let Some(number) = least_missing(hands.as_slice(), self.rooms.count) {
+            return (self, Some(ResizeCause::Missing(number)));
+        }
+        let reserved = self.reserved_count;
+        if total > MAX_DEPTH || total < reserved {
+            return (self, Some(ResizeCause::DepthTooLarge));
+        }
+        let (tags, held, posted) = self.settle(hands);
+        if held != 0 || posted != 0 {
+            return (tags, Some(ResizeCause::InUse(held, posted)));
+        }
+        (tags, None)
+    }
+}

@@ -1,0 +1,159 @@
+//! Hands that are missing, that were lost, and that meet; and what a gather adds up.
+use crate::tests::calls::Answer::{Done, Group, Left, Nothing, Tag, Woken};
+use crate::tests::calls::Call::{Clear, FinishWait, Get, GetReserved, Post, PrepareWait};
+use crate::tests::hands::options;
+use crate::tests::stage::Stage;
+use std::test::Fail;
+use step_ledger::GatherCause;
+use tag_model::Totals;
+use tag_queue::QueueTotals;
+use wake_book::{BookTotals, GroupTotals, Left as Leave};
+
+const NOTHING: QueueTotals = QueueTotals {
+    tags: Totals {
+        got: 0,
+        back: 0,
+        held: 0,
+        posted: 0,
+    },
+    book: BookTotals {
+        counted: 0,
+        charged: 0,
+        charges: 0,
+    },
+    groups: GroupTotals {
+        issued: 0,
+        used: 0,
+        granted: 0,
+        waiting: 0,
+    },
+};
+
+#[test]
+fn gather_without_a_hand_is_refused(rt: HostRuntime) -> Result<(), Fail> {
+    let mut stage = Stage::open(rt.alloc(), 4, 1, options(2))?;
+    stage.send_away(1)?;
+    stage.send_away(0)?;
+    let (cause, mut stage) = stage.missing()?;
+    assert_eq!(rt; (cause, stage.count()), (GatherCause::Missing(0), 0));
+    stage.bring_back()?;
+    let (cause, mut stage) = stage.missing()?;
+    assert_eq!(rt;
+        (cause, stage.number(0)),
+        (GatherCause::Missing(1), Some(0))
+    );
+    stage.bring_back()?;
+    stage.send_away(0)?;
+    stage.bring_back()?;
+    assert_eq!(rt; (stage.number(0), stage.number(1)), (Some(1), Some(0)));
+    assert_eq!(rt; stage.close()?, NOTHING);
+    Ok(())
+}
+
+#[test]
+fn a_refused_gather_succeeds_with_the_missing_hand(rt: HostRuntime) -> Result<(), Fail> {
+    let mut stage = Stage::open(rt.alloc(), 4, 2, options(3))?;
+    assert_eq!(rt;
+        stage.wrong(&rt, &[(1, Get, Tag(2)), (1, GetReserved, Tag(0))]),
+        None
+    );
+    stage.send_away(1)?;
+    stage.send_away(0)?;
+    stage.bring_back()?;
+    let (cause, mut stage) = stage.missing()?;
+    assert_eq!(rt; (cause, stage.count()), (GatherCause::Missing(1), 2));
+    assert_eq!(rt; (stage.number(0), stage.number(1)), (Some(2), Some(0)));
+    stage.bring_back()?;
+    let totals = stage.close()?;
+    assert_eq!(rt; (totals.tags.got, totals.tags.held), (2, 2));
+    Ok(())
+}
+
+#[test]
+fn a_lost_hand_keeps_its_tags(rt: HostRuntime) -> Result<(), Fail> {
+    let mut stage = Stage::open(rt.alloc(), 4, 2, options(2))?;
+    assert_eq!(rt;
+        stage.wrong(&rt, &[(1, Get, Tag(2)), (1, GetReserved, Tag(0))]),
+        None
+    );
+    stage.lose(1);
+    assert_eq!(rt;
+        stage.wrong(
+            &rt,
+            &[
+                (0, Get, Tag(3)),
+                (0, Get, Nothing),
+                (0, GetReserved, Tag(1)),
+                (0, GetReserved, Nothing),
+            ]
+        ),
+        None
+    );
+    let (cause, _) = stage.missing()?;
+    assert_eq!(rt; cause, GatherCause::Missing(1));
+    Ok(())
+}
+
+#[test]
+fn two_hands_meet_and_go_on(rt: HostRuntime) -> Result<(), Fail> {
+    let mut stage = Stage::open(rt.alloc(), 3, 1, options(2))?;
+    assert_eq!(rt;
+        stage.wrong(&rt, &[(0, Get, Tag(1)), (0, GetReserved, Tag(0))]),
+        None
+    );
+    assert!(rt; stage.apart(0, 0)?);
+    assert!(rt; stage.apart(0, 1)?);
+    assert_eq!(rt; stage.wrong(&rt, &[(1, Get, Tag(2))]), None);
+    assert!(rt; stage.meet(0)?);
+    assert_eq!(rt;
+        stage.wrong(&rt, &[(0, Clear(1), Woken(0)), (1, Get, Tag(1))]),
+        None
+    );
+    let totals = stage.close()?;
+    assert_eq!(rt; (totals.tags.got, totals.tags.held), (4, 3));
+    Ok(())
+}
+
+#[test]
+fn a_gather_adds_up_both_sets(rt: HostRuntime) -> Result<(), Fail> {
+    let mut stage = Stage::open(rt.alloc(), 6, 2, options(2))?;
+    assert_eq!(rt;
+        stage.wrong(
+            &rt,
+            &[
+                (0, GetReserved, Tag(0)),
+                (0, Get, Tag(2)),
+                (0, Get, Tag(3)),
+                (0, Get, Tag(4)),
+                (1, PrepareWait, Group(0)),
+                (0, Clear(2), Woken(1)),
+                (0, Post(3), Done),
+                (1, FinishWait, Left(Leave::Woken)),
+            ]
+        ),
+        None
+    );
+    assert_eq!(rt;
+        stage.close()?,
+        QueueTotals {
+            tags: Totals {
+                got: 4,
+                back: 1,
+                held: 2,
+                posted: 1
+            },
+            book: BookTotals {
+                counted: 1,
+                charged: 1,
+                charges: 1
+            },
+            groups: GroupTotals {
+                issued: 1,
+                used: 1,
+                granted: 0,
+                waiting: 0
+            },
+        }
+    );
+    Ok(())
+}
