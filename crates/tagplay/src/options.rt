@@ -53,23 +53,31 @@ pub(crate) fn command<'a>(alloc: Global) -> Result<Command<'a>, AllocError> {
 fn play_command<'a>(alloc: Global) -> Result<Command<'a>, AllocError> {
     let play = Command::new(alloc, "play")
         .about(
-            "Carries out a fio I/O log, version 2, on a block device in memory, by threads that share tags",
+            "Carries out an I/O log of fio on a block device in memory, by threads that share tags",
         )
         .arg(tags(alloc))?
         .arg(count(alloc, "reserved", "R", "0").help(
-            "Number of tags set apart, fewer than N; no line is carried out under one",
+            "How many of the N tags are set apart, fewer than N; no line uses them",
         ))?
         .arg(shift(alloc))?
-        .arg(count(alloc, "submitters", "A", "1").help("Threads that submit lines, 1 to 16"))?
-        .arg(count(alloc, "completers", "B", "1").help("Threads that complete requests, 1 to 16"))?
+        .arg(count(alloc, "submitters", "A", "1").help(
+            "Threads that submit lines, 1 to 16; each takes every A-th I/O line of the log",
+        ))?
+        .arg(count(alloc, "completers", "B", "1").help(
+            "Threads that carry out what was submitted, 1 to 16",
+        ))?
         .arg(count(alloc, "queue", "Q", "64").help(
-            "Requests for which the queue between them has room, 1 to 10240; a submitter that finds it full completes its own",
+            "Lines that wait for a completer at most, 1 to 10240; beyond that a submitter carries out its own line",
         ))?
         .after_help(
-            "The log is what fio writes with write_iolog: 'fio version 2 iolog', then NAME add, NAME open, NAME close,\n\
-            and NAME read, write, trim, sync, datasync or wait with an offset and a length in bytes.\n\
-            Lines are carried out as fast as they can be, in no promised order; a wait is counted, and waits for nothing.\n\
-            Exit status: 0 each line carried out once, 1 refused, 2 mistaken command line, 3 out of memory, input too long, or a read or write fault.",
+            "The log is of version 2: 'fio version 2 iolog', then lines NAME add, NAME open, NAME close, and NAME read, write,\n\
+            trim, sync, datasync or wait with an offset and a length in bytes; it has 16 names at most.\n\
+            fio writes a log with --write_iolog. Since fio 3.31 it is of version 3, with a time before each line; to play it:\n\
+            sed 's/^fio version 3/fio version 2/; s/^[0-9]* //' LOG | tagplay play --tags 64\n\
+            At most N - R lines are under way at once, as with fio's iodepth. No order of lines is promised, and a wait is\n\
+            counted but waits for nothing. The report counts the lines by kind, and the tags.\n\
+            Exit status: 0 each line carried out once, 1 refused, 2 mistaken command line, 3 out of memory, input too long, or a\n\
+            read or write fault.",
         );
     Ok(play)
 }
