@@ -28,7 +28,7 @@ pub(crate) struct Pipes {
 }
 
 impl Pipes {
-    /// Ways for so many threads.
+    /// Ways for this number of threads.
     pub(crate) fn open(alloc: Global, threads: u32) -> Result<Pipes, AllocError> {
         let mut cells = Vec::new(alloc);
         for _ in 0..threads.min(64) as usize * ROOM {

@@ -59,7 +59,7 @@ fn run_depth<R: AllocGlobal + Print + Clock + CpuClock>(
     Ok(())
 }
 
-// A map of this depth of which so many tags stay free.
+// A map of this depth, with all but a given number of its tags taken.
 fn prepare(alloc: Global, depth: u32, free: u32) -> Result<PlainPort, Failed> {
     let mut port = PlainPort::open(alloc, Layout::new(depth, None)?)?;
     let mut hint = first_hint();
@@ -77,7 +77,7 @@ fn first_hint() -> Hint {
     }
 }
 
-// Gets a tag and clears it, so many times. Answers how many tags were got.
+// Gets a tag and clears it, once a round. Returns the number of tags got.
 #[inline(never)]
 fn pairs(port: &mut PlainPort, rounds: u32) -> u32 {
     let mut hint = first_hint();

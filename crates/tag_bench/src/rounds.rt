@@ -30,7 +30,7 @@ impl<T: Tags> Job<T> for Pairs {
     }
 }
 
-/// Each thread holds so many tags, clears the oldest and gets another in turn. In the end it clears all.
+/// Each thread holds a fixed number of tags, clears the oldest and gets another in turn. In the end it clears all.
 #[derive(Drop)]
 pub(crate) struct Ring {
     /// Tags that a thread holds, 1 to 10,240.

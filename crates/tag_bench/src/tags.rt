@@ -18,7 +18,7 @@ pub(crate) trait Tags {
     /// The hand holds the tag.
     ghost holds: { Self.Hand → ℕ → Type 0 };
 
-    /// So many new tags, and a hand for each of so many threads.
+    /// New tags, and a hand for each thread.
     fn open(alloc: Global, depth: u32, threads: u32) -> Result<(Self, Vec<Self::Hand>), Failed>
         ensures { IfOk result (λ opened. All (is_own opened.0) opened.1.items) };
 

@@ -131,7 +131,7 @@ fn time_counts<R: Threads + Sync + Clock + CpuClock>(
     Ok(runs)
 }
 
-// Looks at the active count so many times.
+// Looks at the active count, once a round.
 fn look_often(groups: &Groups, waiter: &mut Waiter, rounds: u32)
     requires { IsWaiterOf groups.now waiter.old }
     ensures { IsWaiterOf groups.now waiter.new }
@@ -141,7 +141,7 @@ fn look_often(groups: &Groups, waiter: &mut Waiter, rounds: u32)
     }
 }
 
-// Counts one completion so many times.
+// Counts one completion a round.
 fn count_often(book: &Book, teller: &mut Teller, rounds: u32)
     requires { IsTellerOf book.now teller.old }
     ensures { IsTellerOf book.now teller.new }

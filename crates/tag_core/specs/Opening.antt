@@ -8,7 +8,7 @@ use Rattle.tag_core.specs.declared.map.Map.{Map}
 use Rattle.tag_core.specs.Records.{fresh_record}
 use Rattle.tag_core.specs.Callers.{IsCallerOf, record_of}
 
--- the map has this layout, so many callers and this life, and nobody won a tag before
+-- the map has this layout, number of callers and life, and nobody has won a tag before
 pub record IsNew {R : Type 0} (layout : Layout) (callers life : ℕ) (map : Map R) : Type 0 where
   pub layout_is : map.shape.layout ≡ layout
   pub callers_is : map.shape.callers ≡ callers

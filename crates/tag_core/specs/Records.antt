@@ -84,7 +84,7 @@ abbrev pub value_of : {R : Type 0} → List (ℕ × R) → ℕ → maybe.Option 
 value_of [] tag = none
 value_of (x ∷ slots) tag = cond (nat_eq x.0 tag) (some x.1) (value_of slots tag)
 
--- of so many tags from the first on, those whose bit is 1, in order
+-- of `count` tags from the first on, those whose bit is 1, in order
 abbrev pub tags_from : (ℕ → ℕ) → ℕ → ℕ → List ℕ
 tags_from bit first zero = []
 tags_from bit first (suc count) =

@@ -10,7 +10,7 @@ use Rattle.tag_core.specs.Histories.{History, IsLawful, world_of}
 use Rattle.tag_core.specs.Rule.{IsKnown}
 use Rattle.tag_core.specs.Sizes.{total_of, size_of}
 
--- each caller of so many has its record among these
+-- each caller below a bound has its record among these
 abbrev pub HasRecords : {R : Type 0} → ℕ → List (Record R) → Type 0
 HasRecords {R} callers rs = (n : ℕ) → n < callers → (i : ℕ) × (r : Record R)
     × (get_elem? rs i ≡ some r) × (r.number ≡ n)

@@ -23,7 +23,7 @@ steps_in (r ∷ rs) = r.steps
 abbrev pub steps_of : {R : Type 0} → View R → List (Step R)
 steps_of v = steps_in v.records.value
 
--- the records of so many callers of a new map, from this number on
+-- the records of the callers of a new map, from this number on
 abbrev pub fresh : {R : Type 0} → Shape → ℕ → ℕ → List (Record R)
 fresh k caller zero = []
 fresh k caller (suc count) = fresh_record k caller ∷ fresh k (suc caller) count

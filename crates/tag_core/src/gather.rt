@@ -80,7 +80,7 @@ fn end<R>(map: Map<R>, all: Gathering<R>) -> Closed<R>
 }
 
 impl<R> Map<R> {
-    /// Ends the map once each of its callers was gathered, and tells their totals.
+    /// Ends the map once all its callers are gathered, and returns their totals.
     pub fn finish(self, gathering: Gathering<R>) -> Closed<R>
         requires map { IsGatheringOf self gathering }
         requires all { HasAll (numbers (gathered gathering)) self.shape.callers }
@@ -91,7 +91,7 @@ impl<R> Map<R> {
 }
 
 impl<R: Drop> Map<R> {
-    /// Ends the map where all its callers are handed in, in any order, and tells their totals.
+    /// Ends the map if all its callers are present, in any order, and returns their totals.
     pub fn gather(self, callers: Vec<Caller<R>>) -> Result<Closed<R>, GatherFault<R>>
         requires { All (λ c. IsCallerOf self c) callers.items }
         ensures ok { IfOk result (λ closed. IsGathered self.shape (map record_of callers.items) closed) }

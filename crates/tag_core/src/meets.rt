@@ -9,7 +9,7 @@ use crate::plays::{Collect, HandOut, Meeting};
 use crate::spots::SPARE;
 
 impl<R> Map<R> {
-    /// Shows that two callers in hand hold no tag in common. Its seven loads, of the spare word, change no place and stand
+    /// Establishes that two callers hold no tag in common. Its seven loads, of the spare word, change no place and stand
     /// in no list.
     pub fn meet(&self, first: &mut Caller<R>, second: &mut Caller<R>)
         requires callers { IsCallerOf self.now first.old × IsCallerOf self.now second.old }
@@ -29,8 +29,8 @@ impl<R> Map<R> {
         table.join_seat::<Collect>(&mut second.seat, both);
     }
 
-    /// Shows that the second caller doesn't hold a tag of the first. It makes no load: the second's own mask has not the
-    /// tag, since two callers who both held it could not meet.
+    /// Establishes that the second caller doesn't hold a tag that the first holds. It makes no load: the second's own mask
+    /// doesn't have the tag, since two callers that both held it could not meet.
     pub fn apart(&self, first: &mut Caller<R>, second: &mut Caller<R>, tag: u32)
         requires callers { IsCallerOf self.now first.old × IsCallerOf self.now second.old }
         requires held { Holds first.old tag }
@@ -45,7 +45,7 @@ impl<R> Map<R> {
 }
 
 impl<R> Caller<R> {
-    /// Shows that one lawful history has the caller's record. It makes no load: each step of the caller showed it.
+    /// Establishes that one lawful history has the caller's record. It makes no load: each step of the caller showed it.
     pub fn history(&self)
         ensures { ∥ HasHistory (record_of self.now).shape (record_of self.now) ∥₁ }
     {}

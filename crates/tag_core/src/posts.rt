@@ -27,7 +27,7 @@ impl<R> Map<R> {
         caller.held[word] = held;
     }
 
-    /// Takes a posted tag, with its slot. False where the tag was not posted.
+    /// Takes a posted tag, with its slot. Returns false if the tag was not posted.
     pub fn take(&self, caller: &mut Caller<R>, tag: u32) -> bool
         requires caller { IsCallerOf self.now caller.old }
         requires within { tag < (layout_of self.now).depth }

@@ -35,7 +35,7 @@ fn place_of<R>(callers: &[Caller<R>], number: u32) -> Option<usize>
     None
 }
 
-/// A mask of no tags for each word, for so many callers.
+/// For each caller, an empty mask for each word.
 fn spare_masks(alloc: Global, count: usize, words: usize) -> Result<Vec<Vec<u64>>, AllocError>
     requires { words ≤ MAX_DEPTH }
     ensures { IfOk result (λ masks. (length masks.items ≡ count) × All (λ m. m.items ≡ replicate words 0) masks.items) }
@@ -150,8 +150,8 @@ fn prepare<R>(
 }
 
 impl<R: Drop> Settled<R> {
-    /// The callers go on with a new map of free tags, with what they won and gave back. Refused for want of memory alone:
-    /// then all comes back.
+    /// The callers continue on a new map of free tags, and keep their counts of tags won and given back. Only want of memory
+    /// refuses it; everything is then handed back.
     pub fn reopen(
         self,
         alloc: Global,

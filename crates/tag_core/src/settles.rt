@@ -63,7 +63,7 @@ fn settle_all<R>(tags: &Map<R>, callers: &mut Vec<Caller<R>>) -> Totals
 }
 
 impl<R: Drop> Map<R> {
-    /// Brings all callers together, in any order, so that nobody else acts. Where one is missing all come back. Its loads
+    /// Brings all callers together, in any order, so that nobody else acts. If one is missing, all are handed back. Its loads
     /// of the spare word, `5 n - 1` for `n` callers, change no place and stand in no list.
     pub fn settle(self, callers: Vec<Caller<R>>) -> Result<Settled<R>, GatherFault<R>>
         requires { All (λ c. IsCallerOf self c) callers.items }

@@ -14,7 +14,7 @@ use crate::spots::state_spot;
 use atomic_table::{Seat, Shared};
 
 impl<R> Map<R> {
-    /// Exchanges the value of a held tag's slot, and answers the one before. Its two loads, of the state that only the
+    /// Exchanges the value of a held tag's slot, and returns the former one. Its two loads, of the state that only the
     /// tag's holder writes, change no place and stand in no list.
     pub fn slot(&self, caller: &mut Caller<R>, tag: u32, new: R) -> R
         requires caller { IsCallerOf self.now caller.old }

@@ -12,7 +12,8 @@ use crate::plays::{Spilling, Swapping};
 use crate::spots::{aside_spot, word_spot};
 
 impl<R> Map<R> {
-    /// Empties the word's cleared set and then frees what stood in it: two steps. False, after the first, where it was empty.
+    /// Empties the word's cleared set and then frees what stood in it: two steps. Returns false, after the first, if it was
+    /// empty.
     pub fn sweep(&self, caller: &mut Caller<R>, word: u32) -> bool
         requires caller { IsCallerOf self.now caller.old }
         requires within { word < words (layout_of self.now) }

@@ -45,7 +45,7 @@ pub record IsDefaultShift (depth shift : ℕ) : Type 0 where
 abbrev pub HasShift : ℕ → Option ℕ → ℕ → Type 0
 HasShift depth asked shift = MatchOption asked (IsDefaultShift depth shift) (λ s. shift ≡ s)
 
--- the part of a shallow depth that the first so many tags have, rounded down
+-- the part of a shallow depth that falls to the first tags, rounded down
 abbrev pub share : Layout → ℕ → ℕ → ℕ
 share l shallow tags = min shallow l.depth * tags / l.depth
 

@@ -5,7 +5,7 @@ ghost use Rattle.tag_layout.specs.Sums.{sum_below};
 
 use crate::layout::Layout;
 
-/// Scale of the reciprocal of a depth: with so many bits the shares of every map are exact.
+/// Bits of the scaled reciprocal of a depth: enough for the shares of every map to be exact.
 const SCALE_BITS: u32 = 40;
 
 impl Layout {

@@ -35,7 +35,7 @@ pub enum Event {
 pub enum EventFault {
     /// It names a tag, a word or a bit of a mask that the layout has not.
     NoSuchTag,
-    /// Its caller's number is that of nobody.
+    /// No caller has this number.
     NoSuchCaller,
     /// Its caller would have won more than `MOST_WON` tags.
     Spent,

@@ -92,7 +92,7 @@ Holds agent tag = core.Holds agent.caller tag
 abbrev pub slot_of : {R : Type 0} → Agent R → ℕ → maybe.Option R
 slot_of agent tag = core.slot_of agent.caller tag
 
--- the agent may win so many tags more
+-- the agent may win that many more tags
 abbrev pub HasRoom : {R : Type 0} → Agent R → ℕ → Type 0
 HasRoom agent n = search.HasRoom agent.caller n
 

@@ -37,12 +37,12 @@ HasMap queue agents depth = HasAll (numbers_of agents) (agents_of queue) × (dep
 abbrev pub MayResize : {R : Type 0} → Queue R → List (Agent R) → ℕ → Type 0
 MayResize queue agents depth = HasMap queue agents depth × AreUnused agents × (standing_count agents ≡ 0)
 
--- so many tags are held and so many posted, and these are not none
+-- that many tags are held and that many posted, and not both numbers are 0
 abbrev pub AreUsed : {R : Type 0} → List (Agent R) → ℕ → ℕ → Type 0
 AreUsed agents held posted = (held ≡ held_in (records_of agents)) × (posted ≡ posted_in (records_of agents))
     × ¬ (AreUnused agents)
 
--- no tag is in use, and so many agents stand in a group, which is not none
+-- no tag is in use, and that many agents stand in a group, at least one
 abbrev pub AreWaiting : {R : Type 0} → List (Agent R) → ℕ → Type 0
 AreWaiting agents count = AreUnused agents × (count ≡ standing_count agents) × (1 ≤ count)
 

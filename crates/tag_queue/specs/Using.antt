@@ -8,7 +8,7 @@ use Rattle.tag_queue.specs.declared.agent.Agent.{Agent}
 use Rattle.tag_queue.specs.declared.queue.Queue.{Queue}
 use Rattle.tag_queue.specs.Agents.{shape_of, records_of}
 
--- one lawful history shows all agents, and so many tags are held and posted in its world
+-- one lawful history shows all agents, and that many tags are held and posted in its world
 pub record AreInUse {R : Type 0} (queue : Queue R) (agents : List (Agent R)) (held posted : ℕ) : Type 0 where
   pub totals : Totals
   pub held_is : held ≡ totals.held

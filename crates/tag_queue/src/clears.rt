@@ -77,7 +77,7 @@ impl<R: Copy> Queue<R> {
         after_clear(&mut agent.hint, tag);
     }
 
-    /// Counts tags that came back where someone is active, and wakes up to a batch of waiters where it charged one.
+    /// Counts tags that came back if anybody waits, and wakes up to a batch of waiters if it charged one.
     pub(crate) fn complete(&self, agent: &mut Agent<R>, n: u32) -> u32
         requires agent { IsAgentOf self.now agent.old }
         requires within { (1 ≤ n) × (n ≤ 64) }

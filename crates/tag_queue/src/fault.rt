@@ -2,7 +2,7 @@
 
 use thiserror::Error;
 
-/// Why a queue or a set of tags can't be opened. Memory is reported last, the others in the order in which they stand here.
+/// Why a queue or a set of tags can't be opened. The causes are checked in this order, except that memory comes last.
 #[derive(Clone, Copy, Debug, PartialEq, Eq, Error)]
 pub enum SetFault {
     /// An allocation was refused.
@@ -49,7 +49,7 @@ pub enum TagFault {
     /// A shallow depth of 0, or below the least one allowed.
     #[error("the depth is 0, or below the minimum shallow depth")]
     TooShallow,
-    /// The tags asked for could bring the caller past its life, the most that it may win.
+    /// The tags asked for could exceed the caller's life, the most tags that it may win.
     #[error("the caller could win more tags than its life allows")]
     Spent,
     /// The caller stands in a wait group already.

@@ -33,7 +33,7 @@ pub struct QueueGatherFault<R> {
 }
 
 impl<R: Copy> Queue<R> {
-    /// Ends the queue where all its agents are handed in, in any order, also those that stand.
+    /// Ends the queue if all its agents are present, in any order, including those that stand in a group.
     pub fn gather(
         queue: Queue<R>,
         agents: Vec<Agent<R>>,

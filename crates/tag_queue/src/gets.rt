@@ -25,7 +25,7 @@ impl<R: Copy> Queue<R> {
         Ok(answer)
     }
 
-    /// As `get`, over `depth` tags of the whole queue alone, of which each word has its share. Some words may have none.
+    /// As `get`, limited to `depth` tags, shared out over the words. A word's share may be none.
     pub fn get_shallow(&self, agent: &mut Agent<R>, depth: u32) -> Result<Option<u32>, TagFault>
         requires agent { IsAgentOf self.now agent.old }
         ensures agent { IsAgentOf self.now agent.new }

@@ -10,7 +10,7 @@ use std::alloc::Global;
 use tag_core::{Caller, Map};
 use tag_layout::Layout;
 
-/// All callers go on with a map of this layout, or back to their own where there is no memory.
+/// All callers continue on a map of this layout, or return to their own map if memory runs out.
 pub(crate) fn next_map<R: Copy>(
     alloc: Global,
     tags: Map<R>,

@@ -18,7 +18,7 @@ use tag_core::Caller;
 use tag_layout::Layout;
 
 impl<R: Copy> Queue<R> {
-    /// All agents go on with a map of this layout. What can fail is made before they come apart, but for the map itself.
+    /// All agents continue on a map of this layout. All that can fail, except for the map itself, comes before they are taken apart.
     pub(crate) fn reopen(
         self,
         alloc: Global,

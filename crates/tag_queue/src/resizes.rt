@@ -13,7 +13,7 @@ use tag_layout::{Layout, LayoutFault};
 use thiserror::Error;
 use wake_book::Groups;
 
-/// Why a queue isn't resized. The causes are looked at in the order in which they stand here.
+/// Why a queue isn't resized. The causes are checked in this order.
 #[derive(Clone, Copy, Debug, PartialEq, Eq, Error)]
 pub enum ResizeCause {
     /// The least number of an agent that wasn't handed in.
@@ -43,8 +43,8 @@ pub struct ResizeFault<R> {
 }
 
 impl<R: Copy> Queue<R> {
-    /// The agents, handed in in any order, go on with a map of this depth, whose tags are free. All comes back where it is
-    /// refused.
+    /// All agents, handed in in any order, continue on a map of this depth, whose tags are free. A refusal hands everything
+    /// back.
     pub fn resize(
         alloc: Global,
         queue: Queue<R>,

@@ -102,7 +102,7 @@ impl<R> Queue<R> {
 }
 
 impl<R: Copy> Queue<R> {
-    /// How many tags are held and how many posted, where all agents are handed in, in any order. It takes no memory, and its
+    /// How many tags are held and how many are posted, if all agents are present, in any order. It allocates nothing, and its
     /// loads, of a spare word, stand in no list.
     pub fn in_use(
         queue: Queue<R>,

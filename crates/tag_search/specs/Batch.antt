@@ -10,7 +10,7 @@ use Rattle.tag_search.specs.Choice.{IsBatchChoice}
 use Rattle.tag_search.specs.Order.{scan_order}
 use Rattle.tag_search.specs.Search.{IsSweep}
 
--- so many bits from a place on
+-- that many bits from a place on
 abbrev pub run_mask : ℕ → ℕ → ℕ
 run_mask n place = (2 ^ n - 1) * 2 ^ place
 

@@ -63,7 +63,7 @@ pub data IsChoice (l : Layout) (old : Pool) : List Visit → Option ℕ → Pool
       → IsChoice l old (full ++ visit ∷ behind) (Some (tag_at l visit.word place))
       (taken_at visit.word place (freed_in (visit.word ∷ words_in full) old))
 
--- the place is the least of the word's first so many that is free or set aside
+-- the place is the least below a bound that is free or set aside
 pub record IsLeastOpen (p : Pool) (word depth place : ℕ) : Type 0 where
   pub within : place < depth
   pub is : IsOpen p word place

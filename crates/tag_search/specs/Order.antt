@@ -1,7 +1,7 @@
 -- In which order a search looks at words, and at the places of a word.
 use Rattle.std.specs.Prelude.{ℕ, zero, suc, ◌+◌, ◌-◌, min, List, [], ◌∷◌, ◌++◌, Bool, cond}
 
--- so many numbers, from one on
+-- that many numbers, from one on
 abbrev pub numbers_from : ℕ → ℕ → List ℕ
 numbers_from first zero = []
 numbers_from first (suc count) = first ∷ numbers_from (first + 1) count

@@ -47,7 +47,7 @@ taken_in word these p = record p { free = λ other place. p.free other place && 
 abbrev pub taken_at : ℕ → ℕ → Pool → Pool
 taken_at word place p = taken_in word (nat_eq place) p
 
--- so many places of the word, from one on, are free no more
+-- that many places of the word, from one on, are no longer free
 abbrev pub taken_from : ℕ → ℕ → ℕ → Pool → Pool
 taken_from word place n p = taken_in word (λ other. nat_le place other && nat_lt other (place + n)) p
 

@@ -13,7 +13,7 @@ use Rattle.tag_core.specs.Records.{record_after}
 use Rattle.tag_search.specs.declared.shared.Shared.{Shared}
 use Rattle.tag_search.specs.Added.{Adds}
 
--- the caller may win so many tags more
+-- the caller may win that many more tags
 abbrev pub HasRoom : {R : Type 0} → Caller R → ℕ → Type 0
 HasRoom c n = (record_of c).won + n ≤ (record_of c).shape.life
 

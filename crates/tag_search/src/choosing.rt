@@ -31,7 +31,7 @@ impl PlainPort {
         answer
     }
 
-    /// As `choose`, over so many tags of the whole map alone.
+    /// As `choose`, limited to `depth` tags, shared out over the words.
     pub fn choose_shallow(&mut self, hint: &mut Hint, depth: u32) -> Option<u32>
         ensures layout { self.new.layout ≡ self.old.layout }
         ensures choice { let l = self.old.layout in

@@ -46,8 +46,7 @@ pub fn get<R>(map: &Map<R>, caller: &mut Caller<R>, hint: &mut Hint) -> Result<O
     search::get(&mut Shared::new(map, caller), hint)
 }
 
-/// As `get`, over so many tags of the whole map alone, of which each word has its share. Some words may have
-/// none.
+/// As `get`, limited to `depth` tags, shared out over the words. A word's share may be none.
 #[inline]
 pub fn get_shallow<R>(
     map: &Map<R>,

@@ -18,7 +18,7 @@ pub trait Port {
     /// The port may be used: a condition of each call, which keeps it.
     ghost ready: { Self → Type 0 };
 
-    /// There is room for so many more tags.
+    /// There is room for that many more tags.
     ghost has_room: { Self → ℕ → Type 0 };
 
     /// The steps that the port made between the two states, the oldest first.
@@ -29,7 +29,7 @@ pub trait Port {
         requires port { ready self.now }
         ensures value { result ≡ sizes self.now };
 
-    /// Whether so many tags more could be won.
+    /// Whether that many more tags could be won.
     fn room(&self, n: u32) -> bool
         requires port { ready self.now }
         ensures value { IsTrue result ↔ has_room self.now n };

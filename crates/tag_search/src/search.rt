@@ -79,7 +79,7 @@ fn search_scan<P: Port>(port: &mut P, layout: Layout, round_robin: bool, from: u
     Scan::plain(layout, round_robin, from).search(port)
 }
 
-/// As `get`, over so many tags of the whole map alone, of which each word has its share. Some words may have none.
+/// As `get`, limited to `depth` tags, shared out over the words. A word's share may be none.
 pub fn get_shallow<P: Port>(port: &mut P, hint: &mut Hint, depth: u32) -> Result<Option<u32>, Spent>
     requires port { P.ready port.old }
     ensures port { P.ready port.new }

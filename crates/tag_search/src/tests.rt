@@ -87,7 +87,7 @@ fn set_aside(port: &mut Counting, tag: u32) {
     }
 }
 
-/// A batch get, where so many tags fit a word.
+/// A batch get, if that many tags fit in a word.
 #[tactic(auto, using(std::proofs::lemmas::Nat::one_shl))]
 fn batch(port: &mut Counting, hint: &mut Hint, n: u32) -> Result<Option<(u32, u64)>, Spent> {
     let bits = 1u32 << port.layout().shift();
@@ -192,7 +192,7 @@ fn a_tag_given_back_is_free_at_once(rt: HostRuntime) -> Result<(), Fail> {
     Ok(())
 }
 
-/// The choice of a batch, where so many tags fit a word.
+/// The choice of a batch, if that many tags fit in a word.
 #[tactic(auto, using(std::proofs::lemmas::Nat::one_shl))]
 fn chosen_batch(port: &mut PlainPort, hint: &mut Hint, n: u32) -> Option<(u32, u64)> {
     let bits = 1u32 << port.layout().shift();

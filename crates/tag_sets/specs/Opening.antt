@@ -25,7 +25,7 @@ reserved_part hand = hand.reserved
 abbrev pub ordinary_part : {R : Type 0} → Hand R → Agent R
 ordinary_part hand = hand.ordinary
 
--- so many tags of the hand's range are reserved
+-- that many tags of the hand's range are reserved
 abbrev pub IsSplitAt : {R : Type 0} → ℕ → Hand R → Type 0
 IsSplitAt reserved hand = split_of hand ≡ reserved
 

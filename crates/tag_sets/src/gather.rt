@@ -21,8 +21,8 @@ pub struct TagsGatherFault<R> {
 }
 
 impl<R: Copy> Tags<R> {
-    /// Ends both sets where all hands are handed in, in any order, also those that stand in a group. The tags are counted
-    /// over both sets; completions and waits are those of the ordinary one.
+    /// Ends both sets if all hands are present, in any order, including those that stand in a group. Tags are counted over
+    /// both sets; completions and waits are those of the ordinary one.
     pub fn gather(tags: Tags<R>, hands: Vec<Hand<R>>) -> Result<QueueTotals, TagsGatherFault<R>>
         requires { All (IsHandOf tags) hands.items }
         ensures ok { IfOk result (λ totals. IsGathered tags hands.items totals) }

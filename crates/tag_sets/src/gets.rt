@@ -44,7 +44,7 @@ impl<R: Copy> Tags<R> {
         self.reserved.get(&mut hand.reserved)
     }
 
-    /// As `get`, over `depth` of the ordinary tags alone, of which each word has its share. Some words may have none.
+    /// As `get`, limited to `depth` of the ordinary tags, shared out over the words. A word's share may be none.
     pub fn get_shallow(&self, hand: &mut Hand<R>, depth: u32) -> Result<Option<u32>, TagFault>
         requires hand { IsHandOf self.now hand.old }
         ensures hand { IsHandOf self.now hand.new }

@@ -19,7 +19,7 @@ pub(crate) struct SetTag {
 }
 
 impl SetTag {
-    /// Where so many tags are reserved: they come first, and the ordinary ones follow.
+    /// The set of a tag and its number there. The reserved tags come first, and the ordinary ones follow.
     pub(crate) fn of(tag: u32, reserved: u32) -> SetTag
         ensures kind { result.kind ≡ kind_of reserved tag }
         ensures number { result.number ≡ number_in_set reserved tag }

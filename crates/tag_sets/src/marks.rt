@@ -3,7 +3,7 @@ ghost use Rattle.std.specs.Prelude.{◌≡◌, ◌+◌, ◌*◌, ◌^◌, ◌<�
 ghost use Rattle.std.specs.Int.{bit_at};
 ghost use Rattle.tag_sets.specs.Bits.{Marks};
 
-/// Sets the bits of a mask, which has so many places, from the bit `first` on.
+/// Copies the low `width` bits of a mask to the bits from `first` on.
 pub(crate) fn mark(into: &mut [u64], first: u32, width: u32, mask: u64)
     requires width { width ≤ 64 }
     requires room { first + width ≤ 64 * length into.old }

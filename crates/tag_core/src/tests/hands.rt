@@ -1,4 +1,4 @@
-//! Maps and callers for tests. What a call asks of its caller is looked at when it runs: false and None say that it
+//! Maps and callers for tests. Preconditions are checked at run time: false and None say that it
 //! wasn't so, and that nothing was done.
 ghost use Rattle.std.specs.Prelude.{◌≡◌, ℕ, ◌<◌, All, IsTrue};
 ghost use Rattle.tag_core.specs.Callers.{IsCallerOf, Holds};

@@ -1,4 +1,4 @@
-//! Queues and agents for tests. What a call asks for is looked at when it runs.
+//! Queues and agents for tests. Preconditions are checked at run time.
 ghost use Rattle.std.specs.Prelude.{All, IfOk, IsTrue};
 ghost use Rattle.tag_queue.specs.Agents.{IsAgentOf, Holds};
 

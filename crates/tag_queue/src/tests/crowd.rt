@@ -185,7 +185,7 @@ impl Stage {
         }
     }
 
-    /// The agents that are there go on with so many tags. Those that are away are lost.
+    /// The agents that are present continue with another number of tags. Those that are away are lost.
     pub(crate) fn resize(self, alloc: Global, depth: u32) -> Result<Stage, (ResizeCause, Stage)> {
         let Stage {
             queue,

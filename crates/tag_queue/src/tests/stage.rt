@@ -48,7 +48,7 @@ impl Stage {
         Some(self.agents.get(at)?.number())
     }
 
-    /// How many of so many gets won a tag.
+    /// How many of these gets won a tag.
     pub(crate) fn gets(&mut self, at: usize, count: u32) -> u32 {
         let mut won = 0u32;
         for _ in 0..count {

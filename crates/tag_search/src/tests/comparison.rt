@@ -86,7 +86,7 @@ fn give(pair: &mut Pair, word: u32, mask: u64) {
     }
 }
 
-/// A map of this layout in a random state: about so many of eight tags taken, and of those so many of eight aside.
+/// A map of this layout in a random state: about `taken` of eight tags taken, and of those `aside` of eight set aside.
 fn random_pair(
     alloc: Global,
     layout: Layout,
@@ -192,7 +192,7 @@ fn same_call(alloc: Global, pair: &mut Pair, draws: &mut Draws) -> Result<bool, 
     Ok(same && agree(pair))
 }
 
-/// A map in a random state and so many calls on it.
+/// A map in a random state, and calls on it.
 fn same_calls(
     alloc: Global,
     depth: u32,

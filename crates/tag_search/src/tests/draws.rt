@@ -24,7 +24,7 @@ impl Draws {
         (self.state >> 33) as u32 % bound
     }
 
-    /// Whether so many of eight are drawn.
+    /// Draws true with this probability in eighths.
     pub(crate) fn eighths(&mut self, of_eight: u32) -> bool {
         self.below(8) < of_eight
     }

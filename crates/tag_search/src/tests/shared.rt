@@ -171,7 +171,7 @@ fn call_plain(plain: &mut PlainPort, hint: &mut Hint, call: Call) -> Option<(u32
     }
 }
 
-// Whether each of so many calls of a script answers the same over both, and leaves the same hint.
+// Whether each call of a script answers the same over both, and leaves the same hint.
 fn agree(
     map: &Map<u64>,
     caller: &mut Caller<u64>,

@@ -83,7 +83,7 @@ fn run_in(layout: Layout, free: &[bool], aside: &[bool], word: u32, n: u32) -> O
     }
 }
 
-/// Which of so many places from one on are free or set aside, the first one's bit lowest.
+/// Which of the `n` places from `place` on are free or set aside, the first one's bit lowest.
 fn open_bits(layout: Layout, free: &[bool], aside: &[bool], word: u32, place: u32, n: u32) -> u64
     requires marks { AreMarks layout free.now aside.now }
     requires word { word < words layout }

@@ -1,4 +1,4 @@
-//! Tags and hands for tests. What a call asks for is looked at when it runs.
+//! Tags and hands for tests. Preconditions are checked at run time.
 ghost use Rattle.std.specs.Prelude.{◌≡◌, All, IfOk, IsTrue};
 ghost use Rattle.tag_sets.specs.Hands.{IsHandOf, Holds, total_of};
 

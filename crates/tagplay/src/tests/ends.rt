@@ -64,7 +64,7 @@ fn sevens(left: usize) -> Repeats {
     Repeats { byte: b'7', left }
 }
 
-// Gives so many bytes in all, the same each time.
+// Gives a number of equal bytes.
 #[derive(Drop)]
 struct Repeats {
     byte: u8,
