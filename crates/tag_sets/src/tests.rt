@@ -13,3 +13,4 @@ mod outputs;
 mod resizing;
 mod slots;
 mod stage;
+mod threads;
