@@ -4,4 +4,5 @@ pub mod WordFacts
 pub mod EventLineFacts
 pub mod OrderLineFacts
 pub mod ReadingFacts
+pub mod KnownFacts
 pub mod NumberFacts

@@ -3,9 +3,10 @@ use Rattle.std.proofs.Common.{◌≡◌, ℕ, ◌^◌, Bool, true, false, List, 
 use Rattle.std.specs.Prelude.{codes}
 use Rattle.std.specs.Str.{bytes_eq}
 use Rattle.std.specs.List.{slice_split, onto_first}
+use Rattle.tag_lines.specs.declared.dialect.Dialect.{Dialect}
 use Rattle.tag_lines.specs.declared.fault.LineFault.TheVariants.{BadLine}
 use Rattle.tag_lines.specs.Lines.{LacksByte, parts_of, has_gap, words_of, number_below, numbers_below}
-use Rattle.tag_lines.specs.ScriptLines.{order_of, numbered_of, numbered_line, one_number_line, listed_line}
+use Rattle.tag_lines.specs.ScriptLines.{order_of, numbered_of, worded_of, word_line, one_word_line, listed_line}
 use Rattle.tag_lines.proofs.WordFacts.{after_two, three_words, after_three}
 
 -- a text that is split has a first word
@@ -22,41 +23,41 @@ split_some (x ∷ xs) =
     elim (x == 32) as (λ test. HasWord (cond test ([] ∷ slice_split (λ y. y == 32) xs) (onto_first x (slice_split (λ y. y == 32) xs))))
     [ true ↦ ([], slice_split (λ y. y == 32) xs, refl) | false ↦ onto_some x (slice_split (λ y. y == 32) xs) ]
 
-named : (callers : ℕ) (a b d : List ℕ) (more : List (List ℕ)) (test : Bool) → bytes_eq b (codes "clear-batch") ≡ test
-    → order_of callers (a ∷ b ∷ d ∷ more) ≡ cond test (listed_line callers (number_below (2 ^ 32) a) (numbers_below (2 ^ 32) (d ∷ more))) (one_number_line callers (numbered_of b) a d more)
-named callers a b d more test is =
-    ap (λ t. cond t (listed_line callers (number_below (2 ^ 32) a) (numbers_below (2 ^ 32) (d ∷ more))) (one_number_line callers (numbered_of b) a d more)) is
+named : (dialect : Dialect) (callers : ℕ) (a b d : List ℕ) (more : List (List ℕ)) (test : Bool) → bytes_eq b (codes "clear-batch") ≡ test
+    → order_of dialect callers (a ∷ b ∷ d ∷ more) ≡ cond test (listed_line callers (number_below (2 ^ 32) a) (numbers_below (2 ^ 32) (d ∷ more))) (one_word_line dialect callers a b d more)
+named dialect callers a b d more test is =
+    ap (λ t. cond t (listed_line callers (number_below (2 ^ 32) a) (numbers_below (2 ^ 32) (d ∷ more))) (one_word_line dialect callers a b d more)) is
 
-listed_parts : (callers : ℕ) (a b : List ℕ) (parts : List (List ℕ)) → HasWord parts → bytes_eq b (codes "clear-batch") ≡ true
-    → order_of callers (a ∷ b ∷ parts) ≡ listed_line callers (number_below (2 ^ 32) a) (numbers_below (2 ^ 32) parts)
-listed_parts callers a b parts some is =
-    ap (λ ws. order_of callers (a ∷ b ∷ ws)) some.2 ∙ named callers a b some.0 some.1 true is
+listed_parts : (dialect : Dialect) (callers : ℕ) (a b : List ℕ) (parts : List (List ℕ)) → HasWord parts → bytes_eq b (codes "clear-batch") ≡ true
+    → order_of dialect callers (a ∷ b ∷ parts) ≡ listed_line callers (number_below (2 ^ 32) a) (numbers_below (2 ^ 32) parts)
+listed_parts dialect callers a b parts some is =
+    ap (λ ws. order_of dialect callers (a ∷ b ∷ ws)) some.2 ∙ named dialect callers a b some.0 some.1 true is
     ∙ ap (λ ws. listed_line callers (number_below (2 ^ 32) a) (numbers_below (2 ^ 32) ws)) (sym some.2)
 
 -- a list of numbers
-pub listed_words : (callers : ℕ) (line : List ℕ) → has_gap (parts_of line) ≡ false → (a rest b rest' : List ℕ) → LacksByte 32 a → line ≡ a ++ 32 ∷ rest → LacksByte 32 b
+pub listed_words : (dialect : Dialect) (callers : ℕ) (line : List ℕ) → has_gap (parts_of line) ≡ false → (a rest b rest' : List ℕ) → LacksByte 32 a → line ≡ a ++ 32 ∷ rest → LacksByte 32 b
     → rest ≡ b ++ 32 ∷ rest' → bytes_eq b (codes "clear-batch") ≡ true
-    → order_of callers (words_of line) ≡ listed_line callers (number_below (2 ^ 32) a) (numbers_below (2 ^ 32) (parts_of rest'))
-listed_words callers line full a rest b rest' lacks_a whole lacks_b rest_is is =
-    after_two (order_of callers) line full a rest b rest' lacks_a whole lacks_b rest_is
-    ∙ listed_parts callers a b (parts_of rest') (split_some rest') is
+    → order_of dialect callers (words_of line) ≡ listed_line callers (number_below (2 ^ 32) a) (numbers_below (2 ^ 32) (parts_of rest'))
+listed_words dialect callers line full a rest b rest' lacks_a whole lacks_b rest_is is =
+    after_two (order_of dialect callers) line full a rest b rest' lacks_a whole lacks_b rest_is
+    ∙ listed_parts dialect callers a b (parts_of rest') (split_some rest') is
 
--- one number
-pub number_words : (callers : ℕ) (line : List ℕ) → has_gap (parts_of line) ≡ false → (a rest b rest' d : List ℕ) → LacksByte 32 a → line ≡ a ++ 32 ∷ rest → LacksByte 32 b
+-- one word behind the name
+pub word_words : (dialect : Dialect) (callers : ℕ) (line : List ℕ) → has_gap (parts_of line) ≡ false → (a rest b rest' d : List ℕ) → LacksByte 32 a → line ≡ a ++ 32 ∷ rest → LacksByte 32 b
     → rest ≡ b ++ 32 ∷ rest' → LacksByte 32 d → rest' ≡ d → bytes_eq b (codes "clear-batch") ≡ false
-    → order_of callers (words_of line) ≡ numbered_line callers (numbered_of b) (number_below (2 ^ 32) a) (number_below (2 ^ 32) d)
-number_words callers line full a rest b rest' d lacks_a whole lacks_b rest_is lacks_d last is =
-    three_words (order_of callers) line full a rest b rest' d lacks_a whole lacks_b rest_is lacks_d last ∙ named callers a b d [] false is
+    → order_of dialect callers (words_of line) ≡ word_line callers (worded_of dialect b d) (numbered_of dialect b) (number_below (2 ^ 32) a) (number_below (2 ^ 32) d)
+word_words dialect callers line full a rest b rest' d lacks_a whole lacks_b rest_is lacks_d last is =
+    three_words (order_of dialect callers) line full a rest b rest' d lacks_a whole lacks_b rest_is lacks_d last ∙ named dialect callers a b d [] false is
 
-four_parts : (callers : ℕ) (a b d : List ℕ) (parts : List (List ℕ)) → HasWord parts → bytes_eq b (codes "clear-batch") ≡ false
-    → order_of callers (a ∷ b ∷ d ∷ parts) ≡ Err BadLine
-four_parts callers a b d parts some is =
-    ap (λ ws. order_of callers (a ∷ b ∷ d ∷ ws)) some.2 ∙ named callers a b d (some.0 ∷ some.1) false is
+four_parts : (dialect : Dialect) (callers : ℕ) (a b d : List ℕ) (parts : List (List ℕ)) → HasWord parts → bytes_eq b (codes "clear-batch") ≡ false
+    → order_of dialect callers (a ∷ b ∷ d ∷ parts) ≡ Err BadLine
+four_parts dialect callers a b d parts some is =
+    ap (λ ws. order_of dialect callers (a ∷ b ∷ d ∷ ws)) some.2 ∙ named dialect callers a b d (some.0 ∷ some.1) false is
 
 -- four words or more that are no list spell no order
-pub more_words : (callers : ℕ) (line : List ℕ) → has_gap (parts_of line) ≡ false → (a rest b rest' d rest'' : List ℕ) → LacksByte 32 a → line ≡ a ++ 32 ∷ rest → LacksByte 32 b
+pub more_words : (dialect : Dialect) (callers : ℕ) (line : List ℕ) → has_gap (parts_of line) ≡ false → (a rest b rest' d rest'' : List ℕ) → LacksByte 32 a → line ≡ a ++ 32 ∷ rest → LacksByte 32 b
     → rest ≡ b ++ 32 ∷ rest' → LacksByte 32 d → rest' ≡ d ++ 32 ∷ rest'' → bytes_eq b (codes "clear-batch") ≡ false
-    → order_of callers (words_of line) ≡ Err BadLine
-more_words callers line full a rest b rest' d rest'' lacks_a whole lacks_b rest_is lacks_d last is =
-    after_three (order_of callers) line full a rest b rest' d rest'' lacks_a whole lacks_b rest_is lacks_d last
-    ∙ four_parts callers a b d (parts_of rest'') (split_some rest'') is
+    → order_of dialect callers (words_of line) ≡ Err BadLine
+more_words dialect callers line full a rest b rest' d rest'' lacks_a whole lacks_b rest_is lacks_d last is =
+    after_three (order_of dialect callers) line full a rest b rest' d rest'' lacks_a whole lacks_b rest_is lacks_d last
+    ∙ four_parts dialect callers a b d (parts_of rest'') (split_some rest'') is

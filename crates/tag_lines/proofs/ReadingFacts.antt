@@ -1,9 +1,12 @@
 -- What the lines of a text say, one after another.
-use Rattle.std.proofs.Common.{◌≡◌, ℕ, ◌+◌, List, [], ◌∷◌, ◌++◌, map, length, Ok, Err, Result, ap, sym, ◌∙◌, append_assoc}
+use Rattle.std.proofs.Common.{◌≡◌, ℕ, ◌+◌, List, [], ◌∷◌, ◌++◌, map, length, Ok, Err, Result, ap, sym, subst, ◌∙◌, append_assoc}
+use Rattle.std.specs.Prelude.{IfOk}
+use Rattle.std.specs.List.{All, AllByRecursion}
 use Rattle.std.proofs.lemmas.List.{map-append}
+use Rattle.std.proofs.lemmas.List.Elements.{All-from_recursion}
 use Rattle.tag_lines.specs.declared.fault.LineFault.{LineFault}
 use Rattle.tag_lines.specs.Lines.{lines_of, words_of}
-use Rattle.tag_lines.specs.Readings.{readings, IsFirstFaulty}
+use Rattle.tag_lines.specs.Readings.{readings, AreReadings, IsFirstFaulty}
 
 -- the first line, and then the others
 first_reading : {A : Type 0} (says : List (List ℕ)
@@ -34,3 +37,18 @@ first_faulty says text rest line more items cause number said lines e place = re
   parts = sym said ∙ ap (λ back. map Ok items ++ back) (first_reading says rest line more (Err cause) lines e);
   number = place;
 }
+
+module _ {A : Type 0} (P : A → Type 0) (says : List (List ℕ) → Result A LineFault) (each : (words : List (List ℕ)) → IfOk (says words) P) where
+  each_line : (lines : List (List ℕ)) → AllByRecursion (λ (said : Result A LineFault). IfOk said P) (map (λ line. says (words_of line)) lines)
+  each_line [] = tt
+  each_line (line ∷ lines) = (each (words_of line), each_line lines)
+
+  each_item : (items : List A) → AllByRecursion (λ (said : Result A LineFault). IfOk said P) (map Ok items) → AllByRecursion P items
+  each_item [] h = tt
+  each_item (item ∷ items) (first, others) = (first, each_item items others)
+
+  -- what holds of all that a line may say holds of all that lines say
+  pub all_said : (text : List ℕ) (items : List A) → AreReadings says text items → All P items
+  all_said text items said =
+      All-from_recursion P items
+      (each_item items (subst (AllByRecursion (λ (s : Result A LineFault). IfOk s P)) said (each_line (lines_of text))))

@@ -1,35 +1,88 @@
 -- The table of lines that spell the orders of a script.
-use Rattle.std.specs.Prelude.{ℕ, ◌^◌, List, [], ◌∷◌, if◌then◌else◌, nat_lt, Option, Some, None, Result, Ok, Err, codes}
+use Rattle.std.specs.Prelude.{ℕ, ◌^◌, ◌<◌, List, [], ◌∷◌, if◌then◌else◌, nat_lt, Option, Some, None, Result, Ok, Err, codes}
 use Rattle.std.specs.Str.{bytes_eq}
+use Rattle.tag_lines.specs.declared.dialect.Dialect.{Dialect}
+use Rattle.tag_lines.specs.declared.dialect.Dialect.TheVariants.{Plain, Shared}
 use Rattle.tag_lines.specs.declared.fault.LineFault.{LineFault}
 use Rattle.tag_lines.specs.declared.fault.LineFault.TheVariants.{BadLine, BadNumber, NoSuchCaller}
 use Rattle.tag_lines.specs.declared.order.Command.{Command}
 use Rattle.tag_lines.specs.declared.order.Command.TheVariants as commands
 use Rattle.tag_lines.specs.declared.order.Numbered.{Numbered}
-use Rattle.tag_lines.specs.declared.order.Numbered.TheVariants.{Shallow, Batch, Clear}
+use Rattle.tag_lines.specs.declared.order.Numbered.TheVariants.{Shallow, Batch, Clear, Post, Take, Resize}
 use Rattle.tag_lines.specs.declared.order.Order.{Order}
+use Rattle.tag_lines.specs.Dialects.{only_shared}
 use Rattle.tag_lines.specs.Lines.{number_below, numbers_below}
 
 -- the commands that stand alone
-abbrev pub lone_of : List ℕ → Option Command
-lone_of name =
+abbrev pub lone_of : Dialect → List ℕ → Option Command
+lone_of dialect name =
     if bytes_eq name (codes "get") then Some commands.Get else
     (if bytes_eq name (codes "show") then Some commands.Show else
     (if bytes_eq name (codes "busy") then Some commands.Busy else
-    (if bytes_eq name (codes "dump") then Some commands.Dump else None)))
+    (if bytes_eq name (codes "dump") then Some commands.Dump else
+    (if bytes_eq name (codes "get-reserved") then only_shared dialect commands.GetReserved else
+    (if bytes_eq name (codes "wait") then only_shared dialect commands.Wait else
+    (if bytes_eq name (codes "leave") then only_shared dialect commands.Leave else
+    (if bytes_eq name (codes "wakes") then only_shared dialect commands.Wakes else None)))))))
 
 -- the commands that a number follows
-abbrev pub numbered_of : List ℕ → Option Numbered
-numbered_of name =
+abbrev pub numbered_of : Dialect → List ℕ → Option Numbered
+numbered_of dialect name =
     if bytes_eq name (codes "shallow") then Some Shallow else
     (if bytes_eq name (codes "batch") then Some Batch else
-    (if bytes_eq name (codes "clear") then Some Clear else None))
+    (if bytes_eq name (codes "clear") then Some Clear else
+    (if bytes_eq name (codes "post") then only_shared dialect Post else
+    (if bytes_eq name (codes "take") then only_shared dialect Take else
+    (if bytes_eq name (codes "resize") then only_shared dialect Resize else None)))))
+
+-- the commands that the word `reserved` follows
+abbrev pub reserved_of : Dialect → List ℕ → Option Command
+reserved_of dialect name =
+    if bytes_eq name (codes "show") then only_shared dialect commands.ShowReserved else
+    (if bytes_eq name (codes "dump") then only_shared dialect commands.DumpReserved else None)
+
+-- the command of a name and another word that is no number
+abbrev pub worded_of : Dialect → List ℕ → List ℕ → Option Command
+worded_of dialect name word = if bytes_eq word (codes "reserved") then reserved_of dialect name else None
 
 -- the command with its number
 abbrev pub numbered_command : Numbered → ℕ → Command
 numbered_command Shallow number = commands.Shallow number
 numbered_command Batch number = commands.Batch number
 numbered_command Clear number = commands.Clear number
+numbered_command Post number = commands.Post number
+numbered_command Take number = commands.Take number
+numbered_command Resize number = commands.Resize number
+
+-- a plain script has the command
+abbrev pub IsPlain : Command → Type 0
+IsPlain commands.Get = Unit {0}
+IsPlain commands.GetReserved = ⊥
+IsPlain (commands.Shallow depth) = Unit {0}
+IsPlain (commands.Batch n) = Unit {0}
+IsPlain (commands.Clear tag) = Unit {0}
+IsPlain (commands.ClearBatch tags) = Unit {0}
+IsPlain (commands.Post tag) = ⊥
+IsPlain (commands.Take tag) = ⊥
+IsPlain commands.Wait = ⊥
+IsPlain commands.Leave = ⊥
+IsPlain commands.Wakes = ⊥
+IsPlain commands.Show = Unit {0}
+IsPlain commands.ShowReserved = ⊥
+IsPlain commands.Busy = Unit {0}
+IsPlain commands.Dump = Unit {0}
+IsPlain commands.DumpReserved = ⊥
+IsPlain (commands.Resize total) = ⊥
+
+-- a script of the dialect has the command
+abbrev pub IsCommandOf : Dialect → Command → Type 0
+IsCommandOf Plain command = IsPlain command
+IsCommandOf Shared command = Unit {0}
+
+-- a script of the dialect has the order's command, and the order's caller is one of so many
+pub record IsOrderOf (dialect : Dialect) (callers : ℕ) (order : Order) : Type 0 where
+  pub command : IsCommandOf dialect order.command
+  pub caller : order.caller < callers
 
 -- the order, if there is such a caller
 abbrev pub ordered : ℕ → ℕ → Command → Result Order LineFault
@@ -54,17 +107,22 @@ listed_line callers None tags = Err BadNumber
 listed_line callers (Some caller) None = Err BadNumber
 listed_line callers (Some caller) (Some tags) = ordered callers caller (commands.ClearBatch tags)
 
--- one number and no word behind it
-abbrev pub one_number_line : ℕ → Option Numbered → List ℕ → List ℕ → List (List ℕ) → Result Order LineFault
-one_number_line callers kind caller number [] =
-    numbered_line callers kind (number_below (2 ^ 32) caller) (number_below (2 ^ 32) number)
-one_number_line callers kind caller number (word ∷ more) = Err BadLine
+-- a command that one word follows: a command of two words, or else one with a number
+abbrev pub word_line : ℕ → Option Command → Option Numbered → Option ℕ → Option ℕ → Result Order LineFault
+word_line callers (Some command) kind caller number = lone_line callers (Some command) caller
+word_line callers None kind caller number = numbered_line callers kind caller number
+
+-- one word and no other behind it
+abbrev pub one_word_line : Dialect → ℕ → List ℕ → List ℕ → List ℕ → List (List ℕ) → Result Order LineFault
+one_word_line dialect callers caller name word [] =
+    word_line callers (worded_of dialect name word) (numbered_of dialect name) (number_below (2 ^ 32) caller) (number_below (2 ^ 32) word)
+one_word_line dialect callers caller name word (next ∷ more) = Err BadLine
 
 -- the order that the words of a line spell, by one of so many callers. A line with an empty word has no words
-abbrev pub order_of : ℕ → List (List ℕ) → Result Order LineFault
-order_of callers [] = Err BadLine
-order_of callers (caller ∷ []) = Err BadLine
-order_of callers (caller ∷ name ∷ []) = lone_line callers (lone_of name) (number_below (2 ^ 32) caller)
-order_of callers (caller ∷ name ∷ number ∷ more) =
-    if bytes_eq name (codes "clear-batch") then listed_line callers (number_below (2 ^ 32) caller) (numbers_below (2 ^ 32) (number ∷ more))
-    else one_number_line callers (numbered_of name) caller number more
+abbrev pub order_of : Dialect → ℕ → List (List ℕ) → Result Order LineFault
+order_of dialect callers [] = Err BadLine
+order_of dialect callers (caller ∷ []) = Err BadLine
+order_of dialect callers (caller ∷ name ∷ []) = lone_line callers (lone_of dialect name) (number_below (2 ^ 32) caller)
+order_of dialect callers (caller ∷ name ∷ word ∷ more) =
+    if bytes_eq name (codes "clear-batch") then listed_line callers (number_below (2 ^ 32) caller) (numbers_below (2 ^ 32) (word ∷ more))
+    else one_word_line dialect callers caller name word more

@@ -1,6 +1,7 @@
 //! How lines read: the words of a line, the numbers, orders and events that they spell.
 #![tactic(auto)]
 
+mod dialect;
 mod event_list;
 mod fault;
 mod lines;
@@ -9,6 +10,7 @@ mod order;
 mod order_list;
 mod tag_list;
 
+pub use dialect::Dialect;
 pub use event_list::events;
 pub use fault::{FaultyLine, LineFault, ListFault};
 pub use lines::{BLANK, LINE_FEED, MAX_INPUT, cut, has_gap};

@@ -1,8 +1,10 @@
 //! The orders of a script, a line each.
 ghost use Rattle.std.specs.Prelude.{◌≡◌, ◌^◌, [], ◌∷◌, IfOk};
 ghost use Rattle.tag_lines.specs.Lines.{words_of, number_below};
-ghost use Rattle.tag_lines.specs.ScriptLines.{order_of, lone_of, numbered_of, numbered_command, numbered_line, listed_line, ordered};
+ghost use Rattle.tag_lines.specs.ScriptLines.{order_of, lone_of, numbered_of, worded_of, numbered_command};
+ghost use Rattle.tag_lines.specs.ScriptLines.{lone_line, word_line, numbered_line, listed_line, ordered};
 
+use crate::dialect::Dialect;
 use crate::fault::LineFault;
 use crate::lines::{BLANK, cut, has_gap};
 use crate::numbers::short_number;
@@ -14,6 +16,8 @@ use std::alloc::{AllocError, Global};
 pub enum Command {
     /// A free tag.
     Get,
+    /// A free reserved tag.
+    GetReserved,
     /// A free tag among so many of the whole map.
     Shallow(u32),
     /// So many tags side by side, as far as they are free.
@@ -22,12 +26,28 @@ pub enum Command {
     Clear(u32),
     /// These tags are given back at once.
     ClearBatch(TagList),
+    /// This tag is left for any caller to take.
+    Post(u32),
+    /// This tag, which was posted.
+    Take(u32),
+    /// The caller enters a group of those who wait for a tag.
+    Wait,
+    /// The caller leaves that group.
+    Leave,
+    /// What was counted and charged, and where waiters stand.
+    Wakes,
     /// The sizes of the map, and how many of its tags are busy and how many are set aside.
     Show,
+    /// The same of the reserved tags.
+    ShowReserved,
     /// The tags that are busy.
     Busy,
     /// The tags that are busy, as bits.
     Dump,
+    /// The same of the reserved tags.
+    DumpReserved,
+    /// So many tags in all from now on.
+    Resize(u32),
 }
 
 /// A command, and the caller who gives it.
@@ -41,8 +61,8 @@ pub struct Order {
 
 impl Command {
     /// The command that goes by this name alone.
-    fn named(name: &[u8]) -> Option<Command>
-        ensures { result ≡ lone_of name.now }
+    fn named(dialect: Dialect, name: &[u8]) -> Option<Command>
+        ensures { result ≡ lone_of dialect name.now }
     {
         if name == b"get".as_slice() {
             Some(Command::Get)
@@ -52,6 +72,29 @@ impl Command {
             Some(Command::Busy)
         } else if name == b"dump".as_slice() {
             Some(Command::Dump)
+        } else if name == b"get-reserved".as_slice() {
+            dialect.only_shared(Command::GetReserved)
+        } else if name == b"wait".as_slice() {
+            dialect.only_shared(Command::Wait)
+        } else if name == b"leave".as_slice() {
+            dialect.only_shared(Command::Leave)
+        } else if name == b"wakes".as_slice() {
+            dialect.only_shared(Command::Wakes)
+        } else {
+            None
+        }
+    }
+
+    /// The command that goes by this name and the word behind it, where that is no number.
+    fn worded(dialect: Dialect, name: &[u8], word: &[u8]) -> Option<Command>
+        ensures { result ≡ worded_of dialect name.now word.now }
+    {
+        if word != b"reserved".as_slice() {
+            None
+        } else if name == b"show".as_slice() {
+            dialect.only_shared(Command::ShowReserved)
+        } else if name == b"dump".as_slice() {
+            dialect.only_shared(Command::DumpReserved)
         } else {
             None
         }
@@ -67,12 +110,18 @@ pub enum Numbered {
     Batch,
     /// The number is a tag.
     Clear,
+    /// The number is a tag.
+    Post,
+    /// The number is a tag.
+    Take,
+    /// The number is a count of tags in all.
+    Resize,
 }
 
 impl Numbered {
     /// The kind that goes by this name.
-    fn named(name: &[u8]) -> Option<Numbered>
-        ensures { result ≡ numbered_of name.now }
+    fn named(dialect: Dialect, name: &[u8]) -> Option<Numbered>
+        ensures { result ≡ numbered_of dialect name.now }
     {
         if name == b"shallow".as_slice() {
             Some(Numbered::Shallow)
@@ -80,6 +129,12 @@ impl Numbered {
             Some(Numbered::Batch)
         } else if name == b"clear".as_slice() {
             Some(Numbered::Clear)
+        } else if name == b"post".as_slice() {
+            dialect.only_shared(Numbered::Post)
+        } else if name == b"take".as_slice() {
+            dialect.only_shared(Numbered::Take)
+        } else if name == b"resize".as_slice() {
+            dialect.only_shared(Numbered::Resize)
         } else {
             None
         }
@@ -93,6 +148,9 @@ impl Numbered {
             Numbered::Shallow => Command::Shallow(number),
             Numbered::Batch => Command::Batch(number),
             Numbered::Clear => Command::Clear(number),
+            Numbered::Post => Command::Post(number),
+            Numbered::Take => Command::Take(number),
+            Numbered::Resize => Command::Resize(number),
         }
     }
 }
@@ -100,10 +158,11 @@ impl Numbered {
 /// The order that a line spells, by one of so many callers, or what is wrong with the line.
 pub fn read_order(
     alloc: Global,
+    dialect: Dialect,
     callers: u32,
     line: &[u8],
 ) -> Result<Result<Order, LineFault>, AllocError>
-    ensures { IfOk result (λ said. said ≡ order_of callers (words_of line.now)) }
+    ensures { IfOk result (λ said. said ≡ order_of dialect callers (words_of line.now)) }
 {
     if has_gap(line) {
         return Ok(Err(LineFault::BadLine));
@@ -116,36 +175,52 @@ pub fn read_order(
     let (name, rest) = cut(rest, BLANK);
     let words = match rest {
         Some(words) => words,
-        None => return Ok(lone_order(callers, caller, name)),
+        None => return Ok(lone_order(callers, caller, Command::named(dialect, name))),
     };
     if name == b"clear-batch".as_slice() {
         let tags = read_tags(alloc, words)?;
         return Ok(listed_order(callers, caller, tags));
     }
-    let (number, more) = cut(words, BLANK);
+    let (word, more) = cut(words, BLANK);
     match more {
         Some(_) => Ok(Err(LineFault::BadLine)),
-        None => Ok(numbered_order(callers, caller, name, number)),
+        None => Ok(word_order(dialect, callers, caller, name, word)),
     }
 }
 
-fn lone_order(callers: u32, caller: &[u8], name: &[u8]) -> Result<Order, LineFault>
-    ensures { result ≡ order_of callers (caller.now ∷ name.now ∷ []) }
+fn lone_order(callers: u32, caller: &[u8], command: Option<Command>) -> Result<Order, LineFault>
+    ensures { result ≡ lone_line callers command (number_below (2 ^ 32) caller.now) }
 {
-    let command = Command::named(name).ok_or(LineFault::BadLine)?;
+    let command = command.ok_or(LineFault::BadLine)?;
     let caller = short_number(caller).ok_or(LineFault::BadNumber)?;
     ordered(callers, caller, command)
+}
+
+fn word_order(
+    dialect: Dialect,
+    callers: u32,
+    caller: &[u8],
+    name: &[u8],
+    word: &[u8],
+) -> Result<Order, LineFault>
+    ensures { result ≡ word_line callers (worded_of dialect name.now word.now) (numbered_of dialect name.now)
+        (number_below (2 ^ 32) caller.now) (number_below (2 ^ 32) word.now) }
+{
+    match Command::worded(dialect, name, word) {
+        Some(command) => lone_order(callers, caller, Some(command)),
+        None => numbered_order(callers, caller, Numbered::named(dialect, name), word),
+    }
 }
 
 fn numbered_order(
     callers: u32,
     caller: &[u8],
-    name: &[u8],
+    kind: Option<Numbered>,
     number: &[u8],
 ) -> Result<Order, LineFault>
-    ensures { result ≡ numbered_line callers (numbered_of name.now) (number_below (2 ^ 32) caller.now) (number_below (2 ^ 32) number.now) }
+    ensures { result ≡ numbered_line callers kind (number_below (2 ^ 32) caller.now) (number_below (2 ^ 32) number.now) }
 {
-    let kind = Numbered::named(name).ok_or(LineFault::BadLine)?;
+    let kind = kind.ok_or(LineFault::BadLine)?;
     let caller = short_number(caller).ok_or(LineFault::BadNumber)?;
     let number = short_number(number).ok_or(LineFault::BadNumber)?;
     ordered(callers, caller, kind.command(number))

@@ -3,22 +3,29 @@ ghost use Rattle.std.specs.Prelude.{◌≡◌, ◌≤◌, length, vec_len, IfOk,
 ghost use Rattle.tag_lines.specs.Readings.{AreReadings, IsListFault};
 ghost use Rattle.tag_lines.specs.ScriptLines.{order_of};
 
+use crate::dialect::Dialect;
 use crate::fault::{FaultyLine, ListFault};
 use crate::lines::{LINE_FEED, cut};
 use crate::order::{Order, read_order};
 use std::alloc::Global;
 
-/// The orders that the lines of a script spell, in order, or the first line that spells none. `callers` bounds the callers' numbers.
-pub fn orders(alloc: Global, callers: u32, text: &[u8]) -> Result<Vec<Order>, ListFault>
-    ensures orders { IfOk result (λ orders. AreReadings (order_of callers) text.now orders.items) }
+/// The orders that the lines of a script spell, in order, or the first line that spells none. `dialect` tells which commands there
+/// are, and `callers` bounds the callers' numbers.
+pub fn orders(
+    alloc: Global,
+    dialect: Dialect,
+    callers: u32,
+    text: &[u8],
+) -> Result<Vec<Order>, ListFault>
+    ensures orders { IfOk result (λ orders. AreReadings (order_of dialect callers) text.now orders.items) }
     ensures few { IfOk result (λ orders. vec_len orders ≤ length text.now) }
-    ensures fault { IfErr result (IsListFault (order_of callers) text.now) }
+    ensures fault { IfErr result (IsListFault (order_of dialect callers) text.now) }
 {
     let mut orders = Vec::new(alloc);
     let mut rest = text;
     while !rest.is_empty() {
         let (line, after) = cut(rest, LINE_FEED);
-        let order = match read_order(alloc, callers, line) {
+        let order = match read_order(alloc, dialect, callers, line) {
             Ok(Ok(order)) => order,
             Ok(Err(cause)) => {
                 let number = orders.len() as u64 + 1;

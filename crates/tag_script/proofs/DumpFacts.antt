@@ -1,19 +1,8 @@
--- Bytes of bits, and their hexadecimal digits.
-use Rattle.std.proofs.Common.{◌≡◌, ℕ, zero, suc, ◌+◌, ◌*◌, ◌/◌, ◌%◌, ◌^◌, ◌<◌, ◌≤◌, Bool, true, false, cond, [], ◌∷◌, ◌++◌, ap, ◌∙◌, arith}
-use Rattle.std.specs.Fmt.{digit_glyph}
-use Rattle.std.proofs.lemmas.Nat.{shr-shr}
+-- Bytes of bits.
+use Rattle.std.proofs.Common.{◌≡◌, ℕ, zero, suc, ◌+◌, ◌*◌, ◌^◌, ◌<◌, ◌≤◌, Bool, true, false, cond, ap, arith}
 use Rattle.tag_layout.specs.Sums.{sum_below}
-use Rattle.tag_script.specs.Dump.{bit_value, is_held_tag, hex_digits}
+use Rattle.tag_script.specs.Dump.{bit_value, is_held_tag}
 use Rattle.tag_script.specs.Solo.{Solo}
-
--- one more digit
-pub hex_digits-next : (n i k : ℕ) → hex_digits (i + 1) (n / 2 ^ (4 * k)) ≡ hex_digits i (n / 2 ^ (4 * (k + 1))) ++ digit_glyph false (n / 2 ^ (4 * k) % 16) ∷ []
-hex_digits-next n i k =
-    let e : i + 1 ≡ suc i = omega arith in
-    let more : 4 * k + 4 ≡ 4 * (k + 1) = omega arith in
-    let m : ℕ = n / 2 ^ (4 * k) in
-    ap (λ (w : ℕ). hex_digits w m) e
-    ∙ ap (λ (x : ℕ). hex_digits i x ++ digit_glyph false (m % 16) ∷ []) (shr-shr n (4 * k) 4 ∙ ap (λ (x : ℕ). n / 2 ^ x) more)
 
 value_le : (b : Bool) (x : ℕ) → cond b x 0 ≤ x
 value_le true x = omega arith

@@ -1,22 +1,56 @@
 -- Orders one after another, and what the words of a player stand for.
-use Rattle.std.proofs.Common.{◌≡◌, ℕ, ◌+◌, ◌≤◌, true, false, arith, Option, Some, None, is_some, List, [], ◌∷◌, ◌++◌, refl, sym, subst, append_assoc, append-nil}
-use Rattle.tag_search.specs.Plain.{Plain, words_of}
-use Rattle.tag_script.specs.Commands.{Obeys, Plays, over, obeyed}
+use Rattle.std.proofs.Common.{◌≡◌, ℕ, ◌+◌, ◌≤◌, true, false, arith, Option, Some, None, is_some, List, [], ◌∷◌, ◌++◌, refl, ap, ◌∙◌, append-nil}
+use Rattle.std.proofs.lemmas.List.Concat.{flat_map-append}
 use Rattle.tag_lines.specs.declared.order.Order.{Order}
+use Rattle.tag_script.specs.declared.answer.Answer.{Answer}
 use Rattle.tag_script.specs.declared.player.Player.{Player}
+use Rattle.tag_script.specs.Answers.{line_of, text_of}
+use Rattle.tag_script.specs.Commands.{ObeysOrder, AreTotals}
 use Rattle.tag_script.specs.Players.{solo_of}
+use Rattle.tag_script.specs.Plays.{Plays, over, obeyed, IsPlayed}
+use Rattle.tag_script.specs.Solo.{won_by}
+use Rattle.tag_search.specs.Plain.{Plain, words_of}
 use Rattle.tag_search.specs.Pool.{pool_of}
-use Rattle.tag_script.specs.Solo.{Solo, won_by}
 
 -- one more order, in the world that those before it left
-pub plays_more : {old between new : Solo} {done : List Order} {text : List ℕ} (order : Order) (more : List ℕ)
-    → Plays old done text between → Obeys order.command between more new → Plays old (done ++ order ∷ []) (text ++ more) new
-plays_more {old} {between} {new} order more over obeys =
-    let P : List ℕ → Type 0 = λ t. Plays old (order ∷ []) t new in
-    subst P (append-nil more) (obeyed more [] obeys over)
-plays_more {old} {between} {new} order more (obeyed {order = first} {orders = orders} text rest first_obeys plays) obeys =
-    let P : List ℕ → Type 0 = λ t. Plays old (first ∷ (orders ++ order ∷ [])) t new in
-    subst P (sym (append_assoc text rest more)) (obeyed text (rest ++ more) first_obeys (plays_more order more plays obeys))
+pub plays_more : {W : Type 0} (answers : W → Order → Answer → W → Type 0) {old between new : W} {done : List Order} {said : List Answer}
+    (order : Order) (answer : Answer) → Plays answers old done said between → answers between order answer new
+    → Plays answers old (done ++ order ∷ []) (said ++ answer ∷ []) new
+plays_more answers order answer over now = obeyed now over
+plays_more answers order answer (obeyed first plays) now = obeyed first (plays_more answers order answer plays now)
+
+-- one more line
+pub text_more : (said : List Answer) (answer : Answer) → text_of (said ++ answer ∷ []) ≡ text_of said ++ line_of answer
+text_more said answer = flat_map-append line_of said (answer ∷ []) ∙ ap (λ (t : List ℕ). text_of said ++ t) (append-nil (line_of answer))
+
+-- the orders are played, and the text has their lines
+pub record HasPlayed {W : Type 0} (answers : W → Order → Answer → W → Type 0) (orders : List Order) (first last : W) (text : List ℕ)
+    : Type 0 where
+  pub said : List Answer
+  pub text_is : text ≡ text_of said
+  pub plays : Plays answers first orders said last
+
+-- what is played on worlds is played on what these stand for
+pub plays_as : {A B : Type 0} (R : A → Order → Answer → A → Type 0) (S : B → Order → Answer → B → Type 0) (f : A → B)
+    → ((p q : A) (order : Order) (answer : Answer) → R p order answer q → S (f p) order answer (f q))
+    → {p q : A} {orders : List Order} {said : List Answer} → Plays R p orders said q → Plays S (f p) orders said (f q)
+plays_as R S f carry over = over
+plays_as R S f carry (obeyed {old = p} {between = q} {order = order} {answer = answer} first plays) =
+    obeyed (carry p q order answer first) (plays_as R S f carry plays)
+
+-- what a player has played is played in its world
+pub played_alone : (p : Player) (orders : List Order) (text : List ℕ)
+    → IsPlayed (λ q order answer r. ObeysOrder (solo_of q) order answer (solo_of r)) (λ q totals. AreTotals (solo_of q) totals) p orders text
+    → IsPlayed ObeysOrder AreTotals (solo_of p) orders text
+played_alone p orders text told = record {
+  said = told.said;
+  last = solo_of told.last;
+  totals = told.totals;
+  plays = plays_as (λ (q : Player) order answer (r : Player). ObeysOrder (solo_of q) order answer (solo_of r)) ObeysOrder solo_of
+      (λ q r order answer h. h) told.plays;
+  counted = told.counted;
+  text_is = told.text_is;
+}
 
 -- a player whose words are the same has the same world
 pub same_world : (p : Player) (q : Plain) → q.layout ≡ p.port.layout → words_of q ≡ words_of p.port → solo_of (record p { port = q }) ≡ solo_of p

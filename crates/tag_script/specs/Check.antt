@@ -8,30 +8,34 @@ use Rattle.tag_model.specs.World.{World, opened}
 use Rattle.tag_model.specs.Runs.{after_all, MayRun, StopsAt}
 use Rattle.tag_model.specs.Totals.{AreTotals}
 use Rattle.tag_script.specs.declared.options.CheckOptions.{CheckOptions}
-use Rattle.tag_script.specs.declared.fault.SetupFault.{SetupFault}
-use Rattle.tag_script.specs.declared.fault.SetupFault.TheVariants.{TotalTooLarge, ReservedTooLarge, ShiftTooLarge, CallerCount}
+use Rattle.tag_queue.specs.declared.fault.SetFault.{SetFault}
+use Rattle.tag_queue.specs.declared.fault.SetFault.TheVariants as faults
 use Rattle.tag_script.specs.declared.ending.Ending.{Ending}
 use Rattle.tag_script.specs.declared.ending.Ending.TheVariants.{Done, Refused}
-use Rattle.tag_script.specs.declared.fault.Closed.{Closed}
-use Rattle.tag_script.specs.declared.fault.Closed.TheVariants as closed
 use Rattle.tag_script.specs.declared.check.Verdict.{Verdict}
 use Rattle.tag_script.specs.declared.check.Verdict.TheVariants.{Faulty, Setup, Stopped, Legal}
+use Rattle.tag_script.specs.declared.fault.Closed.{Closed}
+use Rattle.tag_script.specs.declared.fault.Closed.TheVariants as closed
 use Rattle.tag_script.specs.Faults.{number_of_event_fault}
 use Rattle.tag_lines.specs.Readings.{AreReadings, IsFirstFaulty}
 use Rattle.tag_lines.specs.EventList.{event_of}
 use Rattle.tag_script.specs.Setups.{IsLayoutOf}
-use Rattle.tag_script.specs.Texts.{field, totals_text, faulty_text, setup_text}
+use Rattle.tag_script.specs.Texts.{totals_text, faulty_text, setup_text}
+use Rattle.tag_sets.specs.Texts.{field}
 
 -- there are as many callers as a world can have
 abbrev pub HasCallers : CheckOptions → Type 0
 HasCallers o = (1 ≤ o.callers) × (o.callers ≤ MAX_CALLERS)
 
 -- the first cause for which there is no such world
-abbrev pub IsSetupFault : CheckOptions → SetupFault → Type 0
-IsSetupFault o TotalTooLarge = MAX_DEPTH < o.tags
-IsSetupFault o ReservedTooLarge = ⊥
-IsSetupFault o ShiftTooLarge = (o.tags ≤ MAX_DEPTH) × IsSomeAnd o.shift (λ s. MAX_SHIFT < s)
-IsSetupFault o CallerCount = (l : Layout) × IsLayoutOf o.tags o.shift l × ((o.callers ≡ 0) ⊎ (MAX_CALLERS < o.callers))
+abbrev pub IsSetupFault : CheckOptions → SetFault → Type 0
+IsSetupFault o faults.Memory = ⊥
+IsSetupFault o faults.TotalTooLarge = MAX_DEPTH < o.tags
+IsSetupFault o faults.ReservedTooLarge = ⊥
+IsSetupFault o faults.ShiftTooLarge = (o.tags ≤ MAX_DEPTH) × IsSomeAnd o.shift (λ s. MAX_SHIFT < s)
+IsSetupFault o faults.CallerCount = (l : Layout) × IsLayoutOf o.tags o.shift l × ((o.callers ≡ 0) ⊎ (MAX_CALLERS < o.callers))
+IsSetupFault o faults.LifeTooLong = ⊥
+IsSetupFault o faults.CapTooLarge = ⊥
 
 -- no memory, or such a cause
 abbrev pub IsClosed : CheckOptions → Closed → Type 0

@@ -1,31 +1,49 @@
--- The numbers by which texts tell refused setups, events and commands.
+-- The numbers by which texts tell refused setups, events, commands and resizes.
 use Rattle.std.specs.Prelude.{ℕ}
 use Rattle.tag_model.specs.declared.event.EventFault.{EventFault}
-use Rattle.tag_model.specs.declared.event.EventFault.TheVariants.{NoSuchTag, NotFree, NotHeld, NotPosted, Spent, NoSuchCaller as Nobody}
-use Rattle.tag_script.specs.declared.fault.SetupFault.{SetupFault}
-use Rattle.tag_script.specs.declared.fault.TagFault.{TagFault}
-use Rattle.tag_script.specs.declared.fault.TagFault.TheVariants.{NoSuchTag as NoTag, NotHeld as NotTheirs, BadCount, TooShallow}
-use Rattle.tag_script.specs.declared.fault.SetupFault.TheVariants.{TotalTooLarge, ReservedTooLarge, ShiftTooLarge, CallerCount}
+use Rattle.tag_model.specs.declared.event.EventFault.TheVariants as events
+use Rattle.tag_queue.specs.declared.fault.SetFault.{SetFault}
+use Rattle.tag_queue.specs.declared.fault.SetFault.TheVariants as setups
+use Rattle.tag_queue.specs.declared.fault.TagFault.{TagFault}
+use Rattle.tag_queue.specs.declared.fault.TagFault.TheVariants as tags
+use Rattle.tag_queue.specs.declared.resizes.ResizeCause.{ResizeCause}
+use Rattle.tag_queue.specs.declared.resizes.ResizeCause.TheVariants as resizes
 
 -- of a setup
-abbrev pub number_of_setup_fault : SetupFault → ℕ
-number_of_setup_fault TotalTooLarge = 2
-number_of_setup_fault ReservedTooLarge = 3
-number_of_setup_fault ShiftTooLarge = 4
-number_of_setup_fault CallerCount = 5
+abbrev pub number_of_setup_fault : SetFault → ℕ
+number_of_setup_fault setups.Memory = 1
+number_of_setup_fault setups.TotalTooLarge = 2
+number_of_setup_fault setups.ReservedTooLarge = 3
+number_of_setup_fault setups.ShiftTooLarge = 4
+number_of_setup_fault setups.CallerCount = 5
+number_of_setup_fault setups.LifeTooLong = 6
+number_of_setup_fault setups.CapTooLarge = 7
 
 -- of an event
 abbrev pub number_of_event_fault : EventFault → ℕ
-number_of_event_fault NoSuchTag = 1
-number_of_event_fault Nobody = 2
-number_of_event_fault NotFree = 3
-number_of_event_fault NotHeld = 4
-number_of_event_fault NotPosted = 5
-number_of_event_fault Spent = 6
+number_of_event_fault events.NoSuchTag = 1
+number_of_event_fault events.NoSuchCaller = 2
+number_of_event_fault events.NotFree = 3
+number_of_event_fault events.NotHeld = 4
+number_of_event_fault events.NotPosted = 5
+number_of_event_fault events.Spent = 6
 
 -- of a command
 abbrev pub number_of_tag_fault : TagFault → ℕ
-number_of_tag_fault NoTag = 1
-number_of_tag_fault NotTheirs = 3
-number_of_tag_fault BadCount = 5
-number_of_tag_fault TooShallow = 6
+number_of_tag_fault tags.NoSuchTag = 1
+number_of_tag_fault tags.NoReserved = 2
+number_of_tag_fault tags.NotHeld = 3
+number_of_tag_fault tags.NotPosted = 4
+number_of_tag_fault tags.BadCount = 5
+number_of_tag_fault tags.TooShallow = 6
+number_of_tag_fault tags.Spent = 7
+number_of_tag_fault tags.Waiting = 8
+number_of_tag_fault tags.NotWaiting = 9
+
+-- of a resize
+abbrev pub number_of_resize_cause : ResizeCause → ℕ
+number_of_resize_cause (resizes.Missing number) = 1
+number_of_resize_cause resizes.Memory = 3
+number_of_resize_cause (resizes.InUse held posted) = 4
+number_of_resize_cause resizes.DepthTooLarge = 5
+number_of_resize_cause (resizes.Waiting count) = 6

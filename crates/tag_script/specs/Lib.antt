@@ -4,12 +4,16 @@ pub mod Setups
 pub mod Check
 pub mod Solo
 pub mod Dump
+pub mod Answers
 pub mod Commands
+pub mod Plays
 pub mod Players
+pub mod PlayerLaws
 pub mod Script
 pub use Rattle.tag_lines.specs.Lines
 pub use Rattle.tag_lines.specs.Readings
 pub use Rattle.tag_lines.specs.EventList
+pub use Rattle.tag_lines.specs.Dialects
 pub use Rattle.tag_lines.specs.ScriptLines
 pub use Rattle.tag_model.specs.Event
 pub use Rattle.tag_model.specs.World
@@ -22,3 +26,4 @@ pub use Rattle.tag_search.specs.Choice
 pub use Rattle.tag_search.specs.Visits
 pub use Rattle.tag_search.specs.Hints
 pub use Rattle.tag_search.specs.Follows
+pub use Rattle.tag_sets.specs.Texts as SetTexts

@@ -1,11 +1,9 @@
 -- What a `Player` stands for.
-use Rattle.std.specs.Prelude.{◌≡◌, ℕ, ◌+◌, ◌*◌, ◌^◌, ◌<◌, ◌≤◌, cond}
-use Rattle.std.specs.Int.{bit_at}
-use Rattle.tag_layout.specs.Layout.{word_depth, tag_at}
+use Rattle.std.specs.Prelude.{ℕ, ◌+◌, ◌*◌, ◌^◌, ◌<◌, ◌≤◌}
 use Rattle.tag_search.specs.Plain.{words_of}
 use Rattle.tag_script.specs.declared.player.Player.{Player}
 use Rattle.tag_search.specs.Pool.{pool_of}
-use Rattle.tag_script.specs.Solo.{Solo, is_held}
+use Rattle.tag_script.specs.Solo.{Solo}
 
 -- the world of its caller
 abbrev pub solo_of : Player → Solo
@@ -27,7 +25,3 @@ pub record IsReadyFor (n : ℕ) (w : Solo) : Type 0 where
 pub record Counted (old new : Solo) : Type 0 where
   pub won : new.won ≤ old.won + 64
   pub back : new.back ≤ old.back + 64
-
--- the mask has the bits of the word's places that the caller holds
-pub record IsHeldMask (w : Solo) (word mask : ℕ) : Type 0 where
-  pub bits : (place : ℕ) → place < word_depth w.layout word → cond (is_held w (tag_at w.layout word place)) 1 0 ≡ bit_at mask place

@@ -11,8 +11,8 @@ use Rattle.tag_search.specs.Search.{Visit}
 use Rattle.tag_search.specs.Visits.{shallow_visits}
 use Rattle.tag_search.specs.Pool.{Pool, is_busy, aside_at}
 use Rattle.tag_search.specs.Choice.{IsChoice, IsBatchChoice}
-use Rattle.tag_script.specs.declared.fault.TagFault.{TagFault}
-use Rattle.tag_script.specs.declared.fault.TagFault.TheVariants.{NoSuchTag, NotHeld, BadCount, TooShallow}
+use Rattle.tag_queue.specs.declared.fault.TagFault.{TagFault}
+use Rattle.tag_queue.specs.declared.fault.TagFault.TheVariants.{NoSuchTag, NotHeld, BadCount, TooShallow}
 
 -- the sizes, the least depth of a shallow get, which places are free or set aside, the caller's hint, and how many tags it
 -- won and gave back

@@ -8,13 +8,14 @@ ghost use Rattle.tag_model.specs.Kept.{callers_of, world_of};
 ghost use Rattle.tag_model.specs.World.{opened};
 
 use crate::ending::Ending;
-use crate::fault::{Closed, SetupFault};
+use crate::fault::Closed;
 use crate::options::CheckOptions;
 use crate::text::{end_line, push_faulty, push_field, push_setup, push_totals};
 use std::alloc::{AllocError, Global};
 use tag_layout::{Layout, LayoutFault};
 use tag_lines::{FaultyLine, ListFault, events};
 use tag_model::{Event, EventFault, ModelFault, Totals, World};
+use tag_sets::SetFault;
 
 /// The verdict on a list of events.
 #[derive(Clone, Copy, Debug, PartialEq, Eq)]
@@ -22,7 +23,7 @@ pub enum Verdict {
     /// The first line that spells no event.
     Faulty(FaultyLine),
     /// There is no such world. Every line spells an event.
-    Setup(SetupFault),
+    Setup(SetFault),
     /// The line of the first event that can't happen, from 1, and why it can't.
     Stopped(u64, EventFault),
     /// Each event can happen: how many there are, and the totals after them.
@@ -55,13 +56,13 @@ fn open(alloc: Global, options: &CheckOptions) -> Result<World, Closed>
 {
     let layout = match Layout::new(options.tags, options.shift) {
         Ok(layout) => layout,
-        Err(LayoutFault::DepthTooLarge) => return Err(Closed::Setup(SetupFault::TotalTooLarge)),
-        Err(LayoutFault::ShiftTooLarge) => return Err(Closed::Setup(SetupFault::ShiftTooLarge)),
+        Err(LayoutFault::DepthTooLarge) => return Err(Closed::Setup(SetFault::TotalTooLarge)),
+        Err(LayoutFault::ShiftTooLarge) => return Err(Closed::Setup(SetFault::ShiftTooLarge)),
     };
     match World::open(alloc, layout, options.callers) {
         Ok(world) => Ok(world),
         Err(ModelFault::Memory) => Err(Closed::Memory),
-        Err(ModelFault::CallerCount) => Err(Closed::Setup(SetupFault::CallerCount)),
+        Err(ModelFault::CallerCount) => Err(Closed::Setup(SetFault::CallerCount)),
     }
 }
 

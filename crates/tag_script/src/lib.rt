@@ -1,21 +1,28 @@
 //! What scripts and lists of events answer.
 #![tactic(auto)]
 
+mod answer;
 mod check;
 mod clearing;
 mod commands;
-mod dump;
 mod ending;
 mod fault;
+mod lines;
+mod listing;
 mod options;
 mod player;
+mod playing;
 mod script;
 #[cfg(test)]
 mod tests;
 mod text;
+mod world;
 
+pub use answer::{Answer, BusyTags, DumpBytes};
 pub use check::{Verdict, verdict_on};
 pub use ending::Ending;
-pub use fault::{SetupFault, TagFault};
 pub use options::{CheckOptions, ScriptOptions};
+pub use playing::play;
 pub use script::answer_script;
+pub use text::{faulty_text, setup_text};
+pub use world::World;

@@ -1,38 +1,25 @@
 //! One caller alone with a map, as a script moves it.
 ghost use Rattle.std.specs.Prelude.{◌≡◌, ◌+◌, ◌*◌, ◌^◌, ◌<◌, ◌≤◌, IfOk, ◌↔◌, IsTrue};
 ghost use Rattle.tag_script.specs.Solo.{opened, Gets, GetsShallow, Batches, Clears, ClearsBatch, won_in, held_in, aside_in};
-ghost use Rattle.tag_layout.specs.Layout.{words, word_bits};
+ghost use Rattle.tag_layout.specs.Layout.{word_bits};
 ghost use Rattle.tag_script.specs.Commands.{get_visits, shown_of};
 ghost use Rattle.tag_script.specs.Dump.{is_held_tag};
-ghost use Rattle.tag_script.specs.Players.{solo_of, IsReadyFor, Counted, IsHeldMask};
+ghost use Rattle.tag_script.specs.Players.{solo_of, IsReadyFor, Counted};
 
 use crate::clearing::{are_below, are_held_once, give_all};
-use crate::fault::TagFault;
 use std::alloc::{AllocError, Global};
 use tag_layout::Layout;
 use tag_search::{Hint, PlainPort, Port, after_clear};
+use tag_sets::{Shown, TagFault};
 
 /// The most tags of a list that are given back at once.
 const MAX_LIST: usize = 64;
 
-/// The sizes of a map and the sums of its words.
-#[derive(Clone, Copy, Debug, PartialEq, Eq)]
-pub struct Shown {
-    /// Tags in all.
-    pub depth: u64,
-    /// Tags that are held.
-    pub busy: u64,
-    /// Tags that are set aside.
-    pub cleared: u64,
-    /// Bits in a whole word.
-    pub bits_per_word: u64,
-    /// Words in all.
-    pub map_nr: u64,
-}
-
 /// One caller alone with a map. A clause sees its world by `solo_of`.
 #[derive(Drop)]
 pub(crate) struct Player {
+    /// Where its answers are kept.
+    alloc: Global,
     port: PlainPort,
     /// The least depth of a shallow get, 1 at least.
     least: u32,
@@ -56,12 +43,18 @@ impl Player {
         let port = PlainPort::open(alloc, layout)?;
         let hint = Hint { at: 0, round_robin };
         Ok(Player {
+            alloc,
             port,
             least,
             hint,
             won: 0,
             back: 0,
         })
+    }
+
+    /// Where its answers are kept.
+    pub(crate) fn alloc(&self) -> Global {
+        self.alloc
     }
 
     /// Tags won so far.
@@ -111,7 +104,7 @@ impl Player {
         ensures batch { Batches n (solo_of self.old) result (solo_of self.new) }
         ensures counted { Counted (solo_of self.old) (solo_of self.new) }
     {
-        if n == 0 || u64::from(n) > bits_per_word(self.port.layout()) {
+        if n == 0 || n > bits_per_word(self.port.layout()) {
             return Err(TagFault::BadCount);
         }
         if self.hint.round_robin {
@@ -160,34 +153,22 @@ impl Player {
     }
 
     /// How many tags the caller holds, and how many are set aside.
-    pub(crate) fn counts(&mut self) -> (u64, u64)
+    pub(crate) fn counts(&mut self) -> (u32, u32)
         ensures same { solo_of self.new ≡ solo_of self.old }
         ensures held { result.0 ≡ held_in (solo_of self.old) }
         ensures aside { result.1 ≡ aside_in (solo_of self.old) }
     {
         let layout = self.port.layout();
-        let mut held = 0u64;
-        let mut aside = 0u64;
+        let mut held = 0u32;
+        let mut aside = 0u32;
         for word in 0..layout.words() {
             let usable = layout.usable(word);
             let set = self.port.look(word);
             let cleared = self.port.look_aside(word);
-            held += u64::from((set & usable & !cleared).count_ones());
-            aside += u64::from((cleared & usable).count_ones());
+            held += (set & usable & !cleared).count_ones();
+            aside += (cleared & usable).count_ones();
         }
         (held, aside)
-    }
-
-    /// The tags of a word that the caller holds, as a mask.
-    pub(crate) fn look_held(&mut self, word: u32) -> u64
-        requires { word < words (solo_of self.old).layout }
-        ensures same { solo_of self.new ≡ solo_of self.old }
-        ensures held { IsHeldMask (solo_of self.old) word result }
-    {
-        let usable = self.port.layout().usable(word);
-        let set = self.port.look(word);
-        let cleared = self.port.look_aside(word);
-        set & usable & !cleared
     }
 
     /// The caller holds the tag. None behind the last is held.
@@ -212,11 +193,11 @@ impl Player {
         let (busy, cleared) = self.counts();
         let layout = self.port.layout();
         Shown {
-            depth: u64::from(layout.depth()),
+            depth: layout.depth(),
             busy,
             cleared,
             bits_per_word: bits_per_word(layout),
-            map_nr: u64::from(layout.words()),
+            map_nr: layout.words(),
         }
     }
 }
@@ -233,7 +214,7 @@ fn won_in(answer: Option<(u32, u64)>) -> u64
 }
 
 // The bits in a whole word.
-fn bits_per_word(layout: Layout) -> u64
+fn bits_per_word(layout: Layout) -> u32
     ensures { result ≡ word_bits layout }
 {
     1 << layout.shift()

@@ -1,12 +1,14 @@
 //! Texts, put together from words and numbers.
-ghost use Rattle.std.specs.Prelude.{◌≡◌, ◌++◌, OnOk, codes};
-ghost use Rattle.tag_script.specs.Texts.{field, totals_text, faulty_text, setup_text};
+ghost use Rattle.std.specs.Prelude.{◌≡◌, ◌++◌, IfOk, OnOk, codes};
+ghost use Rattle.tag_script.specs.Faults.{number_of_setup_fault};
+ghost use Rattle.tag_script.specs.Texts.{totals_text, faulty_text, setup_text};
+ghost use Rattle.tag_sets.specs.Texts.{field};
 
-use crate::fault::SetupFault;
 use itoa::Buffer;
-use std::alloc::AllocError;
+use std::alloc::{AllocError, Global};
 use tag_lines::{FaultyLine, LINE_FEED};
 use tag_model::Totals;
+use tag_sets::SetFault;
 
 /// Adds words, and a number after them.
 pub(crate) fn push_field(text: &mut Vec<u8>, words: &[u8], number: u64) -> Result<(), AllocError>
@@ -29,7 +31,16 @@ pub(crate) fn push_totals(text: &mut Vec<u8>, totals: Totals) -> Result<(), Allo
     Ok(())
 }
 
-/// Adds the line that tells a faulty line.
+/// The line that tells a faulty line.
+pub fn faulty_text(alloc: Global, fault: FaultyLine) -> Result<Vec<u8>, AllocError>
+    ensures { IfOk result (λ text. text.items ≡ faulty_text fault) }
+{
+    let mut text = Vec::new(alloc);
+    push_faulty(&mut text, fault)?;
+    Ok(text)
+}
+
+/// Adds that line.
 pub(crate) fn push_faulty(text: &mut Vec<u8>, fault: FaultyLine) -> Result<(), AllocError>
     ensures ok { OnOk result (text.new.items ≡ text.old.items ++ faulty_text fault) }
 {
@@ -38,12 +49,36 @@ pub(crate) fn push_faulty(text: &mut Vec<u8>, fault: FaultyLine) -> Result<(), A
     end_line(text)
 }
 
-/// Adds the line that tells a refused setup.
-pub(crate) fn push_setup(text: &mut Vec<u8>, fault: SetupFault) -> Result<(), AllocError>
+/// The line that tells a refused setup.
+pub fn setup_text(alloc: Global, fault: SetFault) -> Result<Vec<u8>, AllocError>
+    ensures { IfOk result (λ text. text.items ≡ setup_text fault) }
+{
+    let mut text = Vec::new(alloc);
+    push_setup(&mut text, fault)?;
+    Ok(text)
+}
+
+/// Adds that line.
+pub(crate) fn push_setup(text: &mut Vec<u8>, fault: SetFault) -> Result<(), AllocError>
     ensures ok { OnOk result (text.new.items ≡ text.old.items ++ setup_text fault) }
 {
-    push_field(text, b"setup refused ", fault.number())?;
+    push_field(text, b"setup refused ", number_of_setup(fault))?;
     end_line(text)
+}
+
+// The number of a refused setup in texts.
+fn number_of_setup(fault: SetFault) -> u64
+    ensures { result ≡ number_of_setup_fault fault }
+{
+    match fault {
+        SetFault::Memory => 1,
+        SetFault::TotalTooLarge => 2,
+        SetFault::ReservedTooLarge => 3,
+        SetFault::ShiftTooLarge => 4,
+        SetFault::CallerCount => 5,
+        SetFault::LifeTooLong => 6,
+        SetFault::CapTooLarge => 7,
+    }
 }
 
 /// Ends a line.

@@ -18,7 +18,7 @@ use Rattle.loop_device.specs.Setups.{IsLegal}
 use Rattle.tag_model.specs.declared.totals.Totals.{Totals}
 use Rattle.tag_script.specs.declared.ending.Ending.{Ending}
 use Rattle.tag_script.specs.declared.ending.Ending.TheVariants as endings
-use Rattle.tag_script.specs.Texts.{field}
+use Rattle.tag_sets.specs.Texts.{field}
 use Rattle.tagplay.specs.declared.play_options.PlayOptions.{PlayOptions}
 
 -- the setup that is asked for

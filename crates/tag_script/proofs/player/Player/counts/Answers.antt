@@ -25,19 +25,21 @@ loop-word-preserved c =
     let set_is : c.look-set.result ≡ slice_index p.word i = one.quiet.0 in
     let cleared_is : c.look_aside-cleared.result ≡ slice_index p.aside i = two.quiet.0 ∙ ap (λ w. w.aside i) one.leaves in
     let fits : slice_index p.aside i < 2 ^ 64 = omega arith in
-    let held_ones : c.from-held.result ≡ count_ones (bit_and (bit_and (slice_index p.word i) u) (bit_not w64 (slice_index p.aside i))) =
-    c.from-held.ensures ∙ ap (λ (x : ℕ). count_ones (bit_and (bit_and x u) (bit_not w64 c.look_aside-cleared.result))) set_is
+    let h : ℕ = count_ones (bit_and (bit_and c.look-set.result u) (bit_not w64 c.look_aside-cleared.result)) in
+    let a : ℕ = count_ones (bit_and c.look_aside-cleared.result u) in
+    let held_ones : h ≡ count_ones (bit_and (bit_and (slice_index p.word i) u) (bit_not w64 (slice_index p.aside i))) =
+    ap (λ (x : ℕ). count_ones (bit_and (bit_and x u) (bit_not w64 c.look_aside-cleared.result))) set_is
     ∙ ap (λ (x : ℕ). count_ones (bit_and (bit_and (slice_index p.word i) u) (bit_not w64 x))) cleared_is in
-    let aside_ones : c.from-aside.result ≡ count_ones (bit_and (slice_index p.aside i) u) =
-    c.from-aside.ensures ∙ ap (λ (x : ℕ). count_ones (bit_and x u)) cleared_is in
+    let aside_ones : a ≡ count_ones (bit_and (slice_index p.aside i) u) =
+    ap (λ (x : ℕ). count_ones (bit_and x u)) cleared_is in
     let held = count_held p i u there narrow usable bits fits in
     let aside = count_aside p i u there narrow usable bits in
     let few = ones-le 64 (bit_and (bit_and (slice_index p.word i) u) (bit_not w64 (slice_index p.aside i)))
     (omega (arith, and_le_l (bit_and (slice_index p.word i) u) (bit_not w64 (slice_index p.aside i)), and_le_r (slice_index p.word i) u)) in
     let few' = ones-le 64 (bit_and (slice_index p.aside i) u) (omega (arith, and_le_r (slice_index p.aside i) u)) in
-    let all_held : c.loop-word.held + c.from-held.result ≡ count_below (is_held (solo_of c.loop-word.self)) (min ((i + 1) * word_bits p.layout) p.layout.depth) =
+    let all_held : c.loop-word.held + h ≡ count_below (is_held (solo_of c.loop-word.self)) (min ((i + 1) * word_bits p.layout) p.layout.depth) =
     omega (arith, held, c.loop-word.invariant.held, held_ones) in
-    let all_aside : c.loop-word.aside + c.from-aside.result ≡ count_below (is_aside (solo_of c.loop-word.self)) (min ((i + 1) * word_bits p.layout) p.layout.depth) =
+    let all_aside : c.loop-word.aside + a ≡ count_below (is_aside (solo_of c.loop-word.self)) (min ((i + 1) * word_bits p.layout) p.layout.depth) =
     omega (arith, aside, c.loop-word.invariant.aside, aside_ones) in
     record {
       same = e ∙ c.loop-word.invariant.same;

@@ -1,6 +1,7 @@
 -- A byte has room for eight bits.
-use Rattle.std.proofs.Common.{◌≡◌, ◌*◌, ◌%◌, ◌^◌, ◌<◌, ap, ◌∙◌, arith}
-use Rattle.std.proofs.lemmas.Nat.{one_shl, pow_below}
+use Rattle.std.proofs.Common.{◌≡◌, ◌*◌, ◌%◌, ◌^◌, ◌<◌, ◌≤◌, ap, ◌∙◌, arith}
+use Rattle.std.proofs.Math.Nat.{pow-le-pow_right}
+use Rattle.std.proofs.lemmas.Nat.{one_shl}
 use Rattle.tag_layout.specs.Sums.{sum_below}
 use Rattle.tag_script.specs.Dump.{bit_value}
 use Rattle.tag_script.specs.Players.{solo_of}
@@ -11,8 +12,8 @@ pub overflow_add-byte : goal.overflow_add-byte
 overflow_add-byte c =
     let n = c.loop-bit.bit in
     let few : n < 8 = omega arith in
-    let bit : 1 * 2 ^ n % 2 ^ 32 ≡ 2 ^ n = one_shl n 32 (omega arith) in
-    let low = pow_below n 8 few in
+    let bit : 1 * 2 ^ n % 2 ^ 8 ≡ 2 ^ n = one_shl n 8 (omega arith) in
+    let low : 2 ^ n ≤ 2 ^ 7 = pow-le-pow_right {n = 2} (omega arith) {i = n} {j = 7} (omega arith) in
     let before = bits-below (solo_of c.args.self.now) c.args.offset n in
     omega (arith, c.loop-bit.invariant)
 

@@ -1,0 +1,49 @@
+//! The held tags, as a list and as bytes.
+ghost use Rattle.std.specs.Prelude.{◌≡◌, ◌^◌, ◌<◌, IfOk};
+ghost use Rattle.tag_script.specs.Commands.{busy_tags, dump_bytes};
+ghost use Rattle.tag_script.specs.Dump.{held_byte};
+ghost use Rattle.tag_script.specs.Players.{solo_of};
+
+use crate::answer::{BusyTags, DumpBytes};
+use crate::player::Player;
+use std::alloc::AllocError;
+
+impl Player {
+    /// The tags that the caller holds, ascending.
+    pub(crate) fn busy(&self) -> Result<BusyTags, AllocError>
+        ensures { IfOk result (λ tags. tags ≡ busy_tags (solo_of self.now)) }
+    {
+        let mut tags = Vec::new(self.alloc());
+        for tag in 0..self.layout().depth() {
+            if self.holds(tag) {
+                tags.push(tag)?;
+            }
+        }
+        Ok(BusyTags::new(tags))
+    }
+
+    /// The bits of all tags, low bit first. A bit is 1 where its tag is held.
+    pub(crate) fn dump(&self) -> Result<DumpBytes, AllocError>
+        ensures { IfOk result (λ bytes. bytes ≡ dump_bytes (solo_of self.now)) }
+    {
+        let mut bytes = Vec::new(self.alloc());
+        for offset in 0..self.layout().depth().div_ceil(8) {
+            bytes.push(self.held_byte(offset))?;
+        }
+        Ok(DumpBytes::new(bytes))
+    }
+
+    // Eight tags, the first at the low bit.
+    fn held_byte(&self, offset: u32) -> u8
+        requires { offset < 2 ^ 29 }
+        ensures { result ≡ held_byte (solo_of self.now) offset }
+    {
+        let mut byte = 0u8;
+        for bit in 0..8 {
+            if self.holds(8 * offset + bit) {
+                byte += 1 << bit;
+            }
+        }
+        byte
+    }
+}

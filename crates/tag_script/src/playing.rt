@@ -1,0 +1,41 @@
+//! Orders carried out one after another.
+ghost use Rattle.std.specs.Prelude.{◌≡◌, ◌++◌, length, IfOk, OnOk};
+ghost use Rattle.std.specs.List.{All};
+ghost use Rattle.tag_script.specs.Plays.{IsPlayed};
+ghost use Rattle.tag_script.specs.Texts.{total_line};
+
+use crate::text::{end_line, push_totals};
+use crate::world::World;
+use std::alloc::{AllocError, Global};
+use tag_lines::Order;
+use tag_model::Totals;
+
+/// Carries the orders out one after another. The text is what they answer, and the totals at the end.
+pub fn play<W: World + Drop>(
+    alloc: Global,
+    world: W,
+    orders: &[Order],
+) -> Result<Vec<u8>, AllocError>
+    requires ready { W.ready world (length orders.now) }
+    requires known { All (W.knows world) orders.now }
+    ensures { IfOk result (λ text. IsPlayed W.answers W.counts world orders.now text.items) }
+{
+    let mut text = Vec::new(alloc);
+    let mut world = world;
+    for order in orders {
+        let (answer, next) = world.obey(order)?;
+        answer.push_to(&mut text)?;
+        world = next;
+    }
+    push_total(&mut text, world.totals())?;
+    Ok(text)
+}
+
+// The last line of a script.
+fn push_total(text: &mut Vec<u8>, totals: Totals) -> Result<(), AllocError>
+    ensures ok { OnOk result (text.new.items ≡ text.old.items ++ total_line totals) }
+{
+    text.extend_from_slice(b"total")?;
+    push_totals(text, totals)?;
+    end_line(text)
+}
