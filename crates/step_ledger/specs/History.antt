@@ -15,28 +15,28 @@ module _ {T : Type 0} where
   own_steps c [] = []
   own_steps c (x ∷ h) = cond (nat_eq x.0 c) (x.1 ∷ own_steps c h) (own_steps c h)
 
-  -- what a list of steps adds up to
+  -- the sum of f over a list of steps
   abbrev pub total : (T → ℕ) → List T → ℕ
   total f [] = 0
   total f (x ∷ xs) = f x + total f xs
 
-  -- what a history adds up to
+  -- the sum of f over all steps of a history
   abbrev pub total_all : (T → ℕ) → List (ℕ × T) → ℕ
   total_all f [] = 0
   total_all f (x ∷ h) = f x.1 + total_all f h
 
-  -- each of these records has the list of its member's steps in the history
+  -- the list in each record consists of its member's steps in the history
   abbrev pub AreListsOf : List (ℕ × T) → List (Record T) → Type 0
   AreListsOf h rs = (i : ℕ) (r : Record T) → get_elem? rs i ≡ some r → r.steps ≡ own_steps r.number h
 
   module _ (start : List ℕ) (after : T → List ℕ → List ℕ) where
-    -- the words that a history leaves of the opening ones
+    -- the words after a history, starting from the opening ones
     abbrev pub words_of : List (ℕ × T) → List ℕ
     words_of [] = start
     words_of (x ∷ h) = after x.1 (words_of h)
 
   module _ (n : ℕ) (MayStep : ℕ → T → List (ℕ × T) → Type 0) where
-    -- each step is by one of n members, and might happen after those before it
+    -- each step is made by one of n members, and may happen after the steps before it
     abbrev pub Lawful : List (ℕ × T) → Type 0
     Lawful [] = Unit {0}
     Lawful (x ∷ h) = (x.0 < n) × MayStep x.0 x.1 h × Lawful h

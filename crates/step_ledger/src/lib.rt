@@ -1,4 +1,4 @@
-//! Members who step on one table, each with a list of its own steps, in one history.
+//! Members that make steps on one table: each has a list of its own steps, and all steps form one history.
 #![tactic(auto)]
 
 mod numbered;

@@ -1,15 +1,15 @@
-//! Who is missing where members of one table come together.
+//! Which member is missing when the members of a table come together.
 ghost use Rattle.std.specs.Prelude.{◌≡◌, ◌↔◌, map, IsTrue, MatchOption};
 ghost use Rattle.step_ledger.specs.Views.{Has, HasAll, IsLeastMissing};
 
-/// Why members don't come together.
+/// Why members cannot come together.
 #[derive(Clone, Copy, Debug, PartialEq, Eq)]
 pub enum GatherCause {
-    /// The least number of a member that wasn't handed in.
+    /// A member wasn't passed in; this is the least such number.
     Missing(u32),
 }
 
-/// A member of a table, by its number from 0.
+/// A member of a table, numbered from 0.
 pub trait Numbered {
     ghost use Rattle.std.specs.Prelude.{ℕ};
 

@@ -1,15 +1,15 @@
-//! What a member's seat knows. These types are for the proofs alone: no value of them is made.
+//! What a member's seat knows. These types exist only for proofs: no value of them is ever made.
 use std::snapshot::Snapshot;
 
-/// What one member did on the table. A clause reads an array as a list, of any length.
+/// What one member did on the table. Clauses see an array as a list of any length, so `[T; 0]` stands for any list.
 pub struct Record<T> {
-    /// The member, from 0.
+    /// The member's number, from 0.
     pub number: u64,
     /// Its own steps, newest first.
     pub steps: [T; 0],
 }
 
-/// The records that stand with one seat: one while its member runs, several while members are handed out or gathered.
+/// The records in one seat's view: one while its member runs, several while members are handed out or gathered.
 pub struct View<T> {
     pub records: Snapshot<[Record<T>; 0]>,
 }

@@ -185,7 +185,7 @@ module _ (k : Shape) where
       (ne_eqb (t / 2 ^ k.layout.shift) i e)
 
   -- the bits of one mask for each word, counted by tags
-  by_tags : (ms : List ℕ) → length ms ≡ words k.layout
+  pub by_tags : (ms : List ℕ) → length ms ≡ words k.layout
       → ((i : ℕ) → i < words k.layout → IsWithin k.layout i (get_or ms i 0))
       → size_of ms ≡ sum_below (tag_bit k.layout ms) k.layout.depth
   by_tags ms long fits =

@@ -28,9 +28,26 @@ impl<R: Copy> Queue<R> {
             ↔ (CountsTags tags.now × AreTags (layout_of self.now) tags.now × ¬ (AreHeldOnce (caller_of agent.old) tags.now)) }
         ensures succeeds { IsOk result ↔ (CountsTags tags.now × AreHeldOnce (caller_of agent.old) tags.now) }
         ensures gives { OnOk result (GivesBack (layout_of self.now) tags.now agent.old agent.new) }
+        ensures back { OnOk result ((record_of (caller_of agent.new)).back ≡ (record_of (caller_of agent.old)).back + length tags.now) }
         ensures counts { IfOk result (λ woken. Counts self.now (length tags.now) agent.old agent.new woken) }
         ensures bound { OnOk result (step_count agent.new ≤ length tags.now + 117 + step_count agent.old) }
         ensures err { OnErr result (agent.new ≡ agent.old) }
+    {
+        self.find_all_held(agent, tags)?;
+        self.give_back(agent, tags);
+        Ok(self.ring(self.complete(agent, tags.len() as u32)))
+    }
+
+    /// Whether there are 1 to 64 such tags, and the agent holds each, none named twice.
+    pub(crate) fn find_all_held(&self, agent: &Agent<R>, tags: &[u32]) -> Result<(), TagFault>
+        requires agent { IsAgentOf self.now agent.now }
+
+        // The causes are looked at in this order, each for the whole list.
+        ensures bad_count { (result ≡ Err TagFault.BadCount) ↔ ¬ (CountsTags tags.now) }
+        ensures no_such_tag { (result ≡ Err TagFault.NoSuchTag) ↔ (CountsTags tags.now × ¬ (AreTags (layout_of self.now) tags.now)) }
+        ensures not_held { (result ≡ Err TagFault.NotHeld)
+            ↔ (CountsTags tags.now × AreTags (layout_of self.now) tags.now × ¬ (AreHeldOnce (caller_of agent.now) tags.now)) }
+        ensures succeeds { IsOk result ↔ (CountsTags tags.now × AreHeldOnce (caller_of agent.now) tags.now) }
     {
         if tags.is_empty() || tags.len() > MAX_TAGS {
             return Err(TagFault::BadCount);
@@ -41,12 +58,11 @@ impl<R: Copy> Queue<R> {
         if !are_held_once(&agent.caller, tags) {
             return Err(TagFault::NotHeld);
         }
-        self.give_back(agent, tags);
-        Ok(self.complete(agent, tags.len() as u32))
+        Ok(())
     }
 
-    // Gives held tags back, and moves the hint.
-    fn give_back(&self, agent: &mut Agent<R>, tags: &[u32])
+    /// Gives held tags back, and moves the hint.
+    pub(crate) fn give_back(&self, agent: &mut Agent<R>, tags: &[u32])
         requires agent { IsAgentOf self.now agent.old }
         requires some { 1 ≤ length tags.now }
         requires held { AreHeldOnce (caller_of agent.old) tags.now }

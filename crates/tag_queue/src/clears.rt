@@ -9,7 +9,13 @@ use crate::agent::Agent;
 use crate::fault::TagFault;
 use crate::queue::Queue;
 use tag_search::after_clear;
-use wake_book::Charge;
+use wake_book::{Charge, Walked};
+
+/// No wakeup granted.
+const NOBODY: Walked = Walked {
+    woken: 0,
+    groups: 0,
+};
 
 impl<R: Copy> Queue<R> {
     /// Gives a held tag back, counts it if anybody waits, and returns how many waiters it woke. The tag is set aside: it is
@@ -27,7 +33,7 @@ impl<R: Copy> Queue<R> {
     {
         self.find_held(agent, tag)?;
         self.put(agent, tag);
-        Ok(self.complete(agent, 1))
+        Ok(self.ring(self.complete(agent, 1)))
     }
 
     /// As `clear`, but counts and wakes nothing.
@@ -63,8 +69,8 @@ impl<R: Copy> Queue<R> {
         Ok(())
     }
 
-    // Sets a held tag aside, and moves the hint.
-    fn put(&self, agent: &mut Agent<R>, tag: u32)
+    /// Sets a held tag aside, and moves the hint.
+    pub(crate) fn put(&self, agent: &mut Agent<R>, tag: u32)
         requires agent { IsAgentOf self.now agent.old }
         requires held { Holds agent.old tag }
         ensures agent { IsAgentOf self.now agent.new }
@@ -77,22 +83,32 @@ impl<R: Copy> Queue<R> {
         after_clear(&mut agent.hint, tag);
     }
 
-    /// Counts tags that came back if anybody waits, and wakes up to a batch of waiters if it charged one.
-    pub(crate) fn complete(&self, agent: &mut Agent<R>, n: u32) -> u32
+    /// Counts tags that came back if anybody waits, and grants up to a batch of wakeups if it charged one.
+    pub(crate) fn complete(&self, agent: &mut Agent<R>, n: u32) -> Walked
         requires agent { IsAgentOf self.now agent.old }
         requires within { (1 ≤ n) × (n ≤ 64) }
         requires came_back { counted_by (teller_of agent.old) + n ≤ (record_of (caller_of agent.old)).back }
         ensures agent { IsAgentOf self.now agent.new }
-        ensures counts { Counts self.now n agent.old agent.new result }
+        ensures counts { Counts self.now n agent.old agent.new result.woken }
         ensures others { (caller_of agent.new ≡ caller_of agent.old) × (hint_of agent.new ≡ hint_of agent.old) }
         ensures bound { step_count agent.new ≤ 117 + step_count agent.old }
     {
         if self.groups.active(&mut agent.waiter) == 0 {
-            return 0;
+            return NOBODY;
         }
         match self.book.count(&mut agent.teller, n) {
-            Charge::Won(_) => self.groups.wake(&mut agent.waiter, self.batch),
-            _ => 0,
+            Charge::Won(_) => self.groups.walk(&mut agent.waiter, self.batch),
+            _ => NOBODY,
         }
+    }
+
+    /// Wakes those who sleep in the groups of a walk, and answers how many it granted a wakeup.
+    pub(crate) fn ring(&self, walked: Walked) -> u32
+        ensures { result ≡ walked.woken }
+    {
+        if walked.groups != 0 {
+            self.groups.ring(walked.groups);
+        }
+        walked.woken
     }
 }

@@ -19,6 +19,7 @@ mod queue;
 mod reopens;
 mod resizes;
 mod shells;
+mod silent;
 mod slots;
 #[cfg(test)]
 mod tests;

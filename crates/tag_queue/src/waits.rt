@@ -1,7 +1,7 @@
 //! Waiting for a tag.
-ghost use Rattle.std.specs.Prelude.{◌≡◌, ℕ, ◌+◌, ◌≤◌, ◌<◌, ◌↔◌, ◌∷◌, IfOk, IfErr, IsOk, IsSome, OnErr, Some, None};
+ghost use Rattle.std.specs.Prelude.{◌≡◌, ℕ, ◌+◌, ◌≤◌, ◌<◌, ◌↔◌, ◌∷◌, IfOk, IfErr, IfSome, IfNone, IsOk, IsSome, OnErr, Some, None};
 ghost use Rattle.wake_book.specs.Waits.{active_at, index_at};
-ghost use Rattle.wake_book.specs.Groups.{LeavesAs, StandsAsBefore};
+ghost use Rattle.wake_book.specs.Groups.{LeavesAs, IdlesOnce, StandsAsBefore};
 ghost use Rattle.wake_book.specs.Book.{counted_by};
 ghost use Rattle.wake_book.specs.declared.steps.BookStep.TheVariants.{LookCompletions, LookWakeups};
 ghost use Rattle.wake_book.specs.declared.steps.GroupStep.TheVariants.{Look};
@@ -58,6 +58,25 @@ impl<R: Copy> Queue<R> {
             return Err(TagFault::NotWaiting);
         }
         Ok(self.groups.leave(rt, &mut agent.waiter))
+    }
+
+    /// As `finish_wait`, by one try, so that it returns at once and takes no `rt`. `None` says that the group's word changed
+    /// meanwhile, and that the agent stands there still.
+    pub fn try_finish_wait(&self, agent: &mut Agent<R>) -> Result<Option<Left>, TagFault>
+        requires agent { IsAgentOf self.now agent.old }
+        ensures agent { IsAgentOf self.now agent.new }
+        ensures stands { IsOk result ↔ IsSome (standing_of agent.old) }
+        ensures leaves { IfOk result (λ answer. IfSome answer (LeavesAs (waiter_of agent.old) (waiter_of agent.new))) }
+        ensures out { IfOk result (λ answer. IfSome answer (λ _. standing_of agent.new ≡ None)) }
+        ensures stays { IfOk result (λ answer. IfNone answer (standing_of agent.new ≡ standing_of agent.old)) }
+        ensures idle { IfOk result (λ answer. IfNone answer (IdlesOnce (waiter_of agent.old) (waiter_of agent.new))) }
+        ensures same { SameTags agent.old agent.new }
+        ensures err { IfErr result (λ fault. (fault ≡ TagFault.NotWaiting) × (agent.new ≡ agent.old)) }
+    {
+        if Groups::standing(&agent.waiter).is_none() {
+            return Err(TagFault::NotWaiting);
+        }
+        Ok(self.groups.try_leave(&mut agent.waiter))
     }
 
     /// What the agent finds of the counts and of the groups, by four loads at four moments.

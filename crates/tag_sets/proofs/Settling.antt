@@ -1,5 +1,5 @@
 -- How many tags are in use in one set, and why its resize can still fail where none is.
-use Rattle.std.proofs.Common.{◌≡◌, ℕ, ◌*◌, ◌^◌, ◌<◌, ◌≤◌, List, length, arith, refl, sym, ap, ◌∙◌}
+use Rattle.std.proofs.Common.{◌≡◌, ℕ, ◌*◌, ◌^◌, ◌<◌, ◌≤◌, List, length, arith, refl, sym, ap, ◌∙◌, subst}
 use Rattle.std.proofs.Common.{mul-le-mul_right}
 use mathlib.Core.Logic.{dite}
 use mathlib.Core.Option.{some, some-injective}
@@ -19,7 +19,7 @@ use Rattle.tag_queue.specs.Using.{AreInUse, held_in, posted_in}
 use Rattle.tag_queue.proofs.NextMaps.{posted_is}
 use Rattle.tag_queue.proofs.Refusals.{AreTold}
 use Rattle.tag_queue.proofs.Unchanged.{unchanged-records, length-records}
-use Rattle.tag_sets.specs.Resizing.{MayStillFail}
+use Rattle.tag_sets.specs.Resizing.{Balance, MayStillFail}
 use Rattle.tag_sets.proofs.Gathering.{won-le, few_below}
 
 module _ {R : Type 0} (q : Queue R) (olds news : List (Agent R)) (held posted : ℕ)
@@ -48,6 +48,13 @@ module _ {R : Type 0} (q : Queue R) (olds news : List (Agent R)) (held posted : 
         ∙ ap (λ (rs : List (Record R)). posted_in rs) records,
     let e = used.posted_is in let b = used.settled.balance in let m = most in omega arith,
   )
+
+  -- each tag that was won is somewhere
+  pub balance_is : Balance (records_of olds)
+  balance_is =
+      let got = used.settled.got in let back = used.settled.back in let held = used.settled.held in
+      let even = used.settled.balance in
+      subst (λ (rs : List (Record R)). Balance rs) records (omega arith)
 
 -- if all agents are there, the depth has a layout and no tag is in use, a resize fails only for waits or memory
 pub still_fails : {R : Type 0} (q : Queue R) (agents : List (Agent R)) (depth : ℕ) (cause : ResizeCause)

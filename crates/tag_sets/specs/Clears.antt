@@ -1,5 +1,6 @@
 -- What clears do to the hand that makes them.
 use Rattle.std.specs.Prelude.{◌≡◌, ℕ}
+use Rattle.tag_core.specs.Callers.{record_of}
 use Rattle.tag_queue.specs.Agents as queue
 use Rattle.tag_queue.specs.Clears as queue_clears
 use Rattle.tag_sets.specs.declared.hand.Hand.{Hand}
@@ -18,3 +19,7 @@ pub record Clears {R : Type 0} (tags : Tags R) (tag : ℕ) (old new : Hand R) : 
 abbrev pub Counts : {R : Type 0} → Tags R → Kind → ℕ → Hand R → Hand R → ℕ → Type 0
 Counts tags Ordinary n old new woken = queue_clears.Counts tags.ordinary n (agent_of old Ordinary) (agent_of new Ordinary) woken
 Counts tags Reserved n old new woken = (woken ≡ 0) × queue.SameCounts (agent_of old Reserved) (agent_of new Reserved)
+
+-- tags of a set that the hand put or gave back
+abbrev pub back_of : {R : Type 0} → Hand R → Kind → ℕ
+back_of hand kind = (record_of (queue.caller_of (agent_of hand kind))).back

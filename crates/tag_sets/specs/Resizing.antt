@@ -4,6 +4,8 @@ use mathlib.Core.Option.{some}
 use lib.ListN.{get_elem?}
 use Rattle.step_ledger.specs.Views.{HasAll, IsLeastMissing}
 use Rattle.tag_layout.specs.declared.layout.TheConstants.{MAX_DEPTH}
+use Rattle.tag_core.specs.declared.record.Record.{Record}
+use Rattle.tag_core.specs.Sizes.{total_of as sum_of}
 use Rattle.tag_queue.specs.declared.agent.Agent.{Agent}
 use Rattle.tag_queue.specs.declared.queue.Queue.{Queue}
 use Rattle.tag_queue.specs.declared.resizes.ResizeCause.{ResizeCause}
@@ -39,6 +41,16 @@ held_in_both hands = held_in (queue.records_of (map ordinary_part hands))
 abbrev pub posted_in_both : {R : Type 0} → List (Hand R) → ℕ
 posted_in_both hands = posted_in (queue.records_of (map ordinary_part hands))
     + posted_in (queue.records_of (map reserved_part hands))
+
+-- each tag that these callers won was given back, is held or is posted
+abbrev pub Balance : {R : Type 0} → List (Record R) → Type 0
+Balance {R} rs =
+    sum_of (λ (r : Record R). r.won) rs ≡ sum_of (λ (r : Record R). r.back) rs + held_in rs + posted_in rs
+
+-- so it is in each set
+abbrev pub BalanceInBoth : {R : Type 0} → List (Hand R) → Type 0
+BalanceInBoth hands = Balance (queue.records_of (map ordinary_part hands))
+    × Balance (queue.records_of (map reserved_part hands))
 
 -- how many of these hands stand in a group
 abbrev pub standing_count : {R : Type 0} → List (Hand R) → ℕ

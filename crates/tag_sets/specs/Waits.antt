@@ -1,7 +1,7 @@
 -- How hands wait.
 use Rattle.std.specs.Prelude.{◌≡◌, ℕ, Some}
 use Rattle.wake_book.specs.declared.waiting.Left.{Left}
-use Rattle.wake_book.specs.Groups.{LeavesAs, StandsAsBefore}
+use Rattle.wake_book.specs.Groups.{LeavesAs, IdlesOnce, StandsAsBefore}
 use Rattle.tag_queue.specs.declared.agent.Agent.{Agent}
 use Rattle.tag_queue.specs.Agents.{caller_of, hint_of, waiter_of}
 use Rattle.tag_queue.specs.Waits as queue
@@ -24,6 +24,16 @@ AgentLeaves left old new = LeavesAs (waiter_of old) (waiter_of new) left × queu
 pub record Leaves {R : Type 0} (left : Left) (old new : Hand R) : Type 0 where
   pub same : HoldsSame old new
   pub set : Changes Ordinary (AgentLeaves left) old new
+
+-- the agent stands where it stood, since its group's word changed meanwhile, and keeps its tags, hint and counts
+abbrev pub AgentStandsOn : {R : Type 0} → Agent R → Agent R → Type 0
+AgentStandsOn old new = IdlesOnce (waiter_of old) (waiter_of new) × queue.SameTags old new
+
+-- the hand stands where it stood, since its group's word changed meanwhile
+pub record StandsOn {R : Type 0} (old new : Hand R) : Type 0 where
+  pub stands : standing_of new ≡ standing_of old
+  pub same : HoldsSame old new
+  pub set : Changes Ordinary AgentStandsOn old new
 
 -- the agent keeps its tags and its hint, and stands where it stood
 abbrev pub AgentStays : {R : Type 0} → Agent R → Agent R → Type 0

@@ -2,7 +2,7 @@
 ghost use Rattle.std.specs.Prelude.{◌≡◌, ◌+◌, ◌≤◌, ◌↔◌, length, take, All, IfOk, IfSome, IsOk, IsSome, OnOk, OnErr};
 ghost use Rattle.tag_sets.specs.Hands.{IsHandOf, step_count};
 ghost use Rattle.tag_sets.specs.Batches.{CountsTags, AreOrdinary, AreHeldOnce, GivesBack, numbers_of};
-ghost use Rattle.tag_sets.specs.Clears.{Counts};
+ghost use Rattle.tag_sets.specs.Clears.{Counts, back_of};
 ghost use Rattle.tag_sets.specs.declared.kind.Kind.TheVariants.{Ordinary};
 
 use crate::hand::Hand;
@@ -10,7 +10,7 @@ use crate::tags::Tags;
 use tag_queue::TagFault;
 
 /// Most tags that one call gives back.
-const MAX_TAGS: usize = 64;
+pub(crate) const MAX_TAGS: usize = 64;
 
 impl<R: Copy> Tags<R> {
     /// Gives 1 to 64 held ordinary tags back at once, counts them together if anybody waits, and returns how many waiters
@@ -28,6 +28,7 @@ impl<R: Copy> Tags<R> {
         ensures succeeds { IsOk result
             ↔ (CountsTags tags.now × AreOrdinary self.now tags.now × AreHeldOnce hand.old tags.now) }
         ensures gives { OnOk result (GivesBack self.now tags.now hand.old hand.new) }
+        ensures back { OnOk result (back_of hand.new Ordinary ≡ back_of hand.old Ordinary + length tags.now) }
         ensures counts { IfOk result (λ woken. Counts self.now Ordinary (length tags.now) hand.old hand.new woken) }
         ensures bound { OnOk result (step_count hand.new ≤ length tags.now + 117 + step_count hand.old) }
         ensures err { OnErr result (hand.new ≡ hand.old) }
@@ -43,8 +44,8 @@ impl<R: Copy> Tags<R> {
     }
 }
 
-// The numbers of ordinary tags in their set, in the order of the list. `None` where one of the list is reserved.
-fn ordinary_numbers(tags: &[u32], reserved: u32) -> Option<[u32; MAX_TAGS]>
+/// The numbers of ordinary tags in their set, in the order of the list. `None` where one of the list is reserved.
+pub(crate) fn ordinary_numbers(tags: &[u32], reserved: u32) -> Option<[u32; MAX_TAGS]>
     requires { length tags.now ≤ 64 }
     ensures ordinary { IsSome result ↔ All (λ tag. reserved ≤ tag) tags.now }
     ensures numbers { IfSome result (λ numbers. take (length tags.now) numbers ≡ numbers_of reserved tags.now) }

@@ -21,6 +21,7 @@ mod resizes;
 mod rooms;
 mod shown;
 mod shows;
+mod silent;
 mod slots;
 mod tags;
 #[cfg(test)]

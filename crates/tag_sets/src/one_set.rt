@@ -11,7 +11,7 @@ ghost use Rattle.tag_sets.specs.Hands.{IsHandOf, reserved_of};
 ghost use Rattle.tag_sets.specs.Gathering.{hands_of, numbers_of};
 ghost use Rattle.tag_sets.specs.Opening.{AreParts, HasRange};
 ghost use Rattle.tag_sets.specs.Resizing.{AreSame, AreUnchanged, AreUnused, held_in_both, posted_in_both};
-ghost use Rattle.tag_sets.specs.Resizing.{IsResized, IsRefusedFor, MayResize, MayStillFail};
+ghost use Rattle.tag_sets.specs.Resizing.{Balance, BalanceInBoth, IsResized, IsRefusedFor, MayResize, MayStillFail};
 
 use crate::hand::Hand;
 use crate::resizes::TagsResizeFault;
@@ -75,6 +75,7 @@ impl<R: Copy> OneSet<R> {
         ensures agents { AgentsUnchanged agents.items result.0.agents.items }
         ensures held { (result.1 ≡ held_in (records_of agents.items)) × (result.1 < 2 ^ 63) }
         ensures posted { (result.2 ≡ posted_in (records_of agents.items)) × (result.2 < 2 ^ 63) }
+        ensures balance { Balance (records_of agents.items) }
     {
         let Ok(usage) = Queue::in_use(queue, agents) else {
             unreachable!()
@@ -146,6 +147,7 @@ impl<R: Copy> Tags<R> {
         ensures unchanged { AreUnchanged hands.old.items hands.new.items }
         ensures held { result.1 ≡ held_in_both hands.old.items }
         ensures posted { result.2 ≡ posted_in_both hands.old.items }
+        ensures balance { BalanceInBoth hands.old.items }
     {
         let Tags {
             reserved,

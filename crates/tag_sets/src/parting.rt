@@ -4,6 +4,7 @@ ghost use Rattle.tag_sets.specs.Opening.{reserved_part, ordinary_part, AreParts}
 
 use crate::hand::Hand;
 use crate::rooms::Rooms;
+use crate::tags::Tags;
 use tag_queue::Agent;
 
 impl<R> Rooms<R> {
@@ -65,5 +66,22 @@ impl<R> Rooms<R> {
             ordinary: others,
             count,
         }
+    }
+}
+
+impl<R: Copy> Tags<R> {
+    /// Lets both sets go, with all that lies in them and no totals.
+    pub fn discard(self) {
+        let Tags {
+            reserved,
+            ordinary,
+            reserved_count: _,
+            reserved_layout: _,
+            ordinary_layout: _,
+            rooms,
+        } = self;
+        drop(reserved);
+        drop(ordinary);
+        drop(rooms);
     }
 }

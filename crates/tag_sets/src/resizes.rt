@@ -4,7 +4,7 @@ ghost use Rattle.step_ledger.specs.Views.{HasAll, IsLeastMissing};
 ghost use Rattle.tag_sets.specs.Hands.{IsHandOf, reserved_of};
 ghost use Rattle.tag_sets.specs.Gathering.{hands_of, numbers_of};
 ghost use Rattle.tag_sets.specs.Opening.{HasRange};
-ghost use Rattle.tag_sets.specs.Resizing.{AreSame, AreUnchanged, IsResized, MayResize, HasMap};
+ghost use Rattle.tag_sets.specs.Resizing.{AreSame, AreUnchanged, BalanceInBoth, IsResized, MayResize, HasMap};
 ghost use Rattle.tag_sets.specs.Resizing.{AreUsed, AreUnused, AreWaiting, IsOutOfRange, IsRefusedAs, IsRefusedFor};
 
 use crate::hand::Hand;
@@ -47,6 +47,8 @@ impl<R: Copy> Tags<R> {
         ensures waiting { (n : ℕ) → IsRefusedAs result (ResizeCause.Waiting n)
             ↔ (HasMap tags hands.items total × AreWaiting hands.items n) }
         ensures memory { IsRefusedAs result ResizeCause.Memory → MayResize tags hands.items total }
+
+        ensures balance { (held posted : ℕ) → IsRefusedAs result (ResizeCause.InUse held posted) → BalanceInBoth hands.items }
         ensures err { IfErr result (λ fault. AreSame tags fault.tags × AreUnchanged hands.items fault.hands.items) }
         ensures own { IfErr result (λ fault. All (IsHandOf fault.tags) fault.hands.items) }
     {
@@ -67,6 +69,8 @@ impl<R: Copy> Tags<R> {
         ensures unchanged { AreUnchanged hands.old.items hands.new.items }
         ensures cause { MatchOption result.1 (HasMap self hands.old.items total × AreUnused hands.old.items)
             (IsRefusedFor self hands.old.items total) }
+        ensures balance { (held posted : ℕ) → result.1 ≡ Some (ResizeCause.InUse held posted)
+            → BalanceInBoth hands.old.items }
     {
         if let Some(number) = least_missing(hands.as_slice(), self.rooms.count) {
             return (self, Some(ResizeCause::Missing(number)));

@@ -1,5 +1,5 @@
 //! Waiting for an ordinary tag.
-ghost use Rattle.std.specs.Prelude.{◌≡◌, ◌+◌, ◌≤◌, ◌<◌, ◌↔◌, ◌∷◌, IfOk, IfErr, IsOk, IsSome, OnErr, None};
+ghost use Rattle.std.specs.Prelude.{◌≡◌, ◌+◌, ◌≤◌, ◌<◌, ◌↔◌, ◌∷◌, IfOk, IfErr, IfSome, IfNone, IsOk, IsSome, OnErr, None};
 ghost use Rattle.wake_book.specs.Waits.{active_at, index_at};
 ghost use Rattle.wake_book.specs.Book.{counted_by};
 ghost use Rattle.wake_book.specs.declared.steps.BookStep.TheVariants.{LookCompletions, LookWakeups};
@@ -7,7 +7,7 @@ ghost use Rattle.wake_book.specs.declared.steps.GroupStep.TheVariants.{Look};
 ghost use Rattle.tag_queue.specs.Agents.{teller_of};
 ghost use Rattle.tag_sets.specs.Hands.{reserved_of, total_of, IsHandOf, HasRoom, agent_of, standing_of, book_steps, group_steps};
 ghost use Rattle.tag_sets.specs.Gets.{BlockingGets};
-ghost use Rattle.tag_sets.specs.Waits.{Enters, Leaves, Stays};
+ghost use Rattle.tag_sets.specs.Waits.{Enters, Leaves, StandsOn, Stays};
 ghost use Rattle.tag_sets.specs.declared.kind.Kind.TheVariants.{Ordinary};
 
 use crate::hand::Hand;
@@ -38,6 +38,20 @@ impl<R: Copy> Tags<R> {
         ensures err { IfErr result (λ fault. (fault ≡ TagFault.NotWaiting) × (hand.new ≡ hand.old)) }
     {
         self.ordinary.finish_wait(rt, &mut hand.ordinary)
+    }
+
+    /// As `finish_wait`, by one try, so that it returns at once and takes no `rt`. `None` says that the group's word changed
+    /// meanwhile, and that the hand stands there still.
+    pub fn try_finish_wait(&self, hand: &mut Hand<R>) -> Result<Option<Left>, TagFault>
+        requires hand { IsHandOf self.now hand.old }
+        ensures hand { IsHandOf self.now hand.new }
+        ensures stands { IsOk result ↔ IsSome (standing_of hand.old) }
+        ensures leaves { IfOk result (λ answer. IfSome answer (λ left. Leaves left hand.old hand.new)) }
+        ensures out { IfOk result (λ answer. IfSome answer (λ _. standing_of hand.new ≡ None)) }
+        ensures stays { IfOk result (λ answer. IfNone answer (StandsOn hand.old hand.new)) }
+        ensures err { IfErr result (λ fault. (fault ≡ TagFault.NotWaiting) × (hand.new ≡ hand.old)) }
+    {
+        self.ordinary.try_finish_wait(&mut hand.ordinary)
     }
 
     /// What the hand finds of the counts and of the groups, by four loads at four moments.

@@ -12,7 +12,8 @@ use Rattle.wake_book.specs.declared.steps.GroupStep.{GroupStep}
 use Rattle.wake_book.specs.Waits.{stand, opening_words, words_after, word, granted, waiting, raised, stands_in}
 use Rattle.wake_book.specs.Waits.{moved_by, used_by, MayStep, GroupsRule}
 use Rattle.wake_book.specs.Balance.{IsBalanced}
-use Rattle.wake_book.proofs.Standing.{balanced, balance, active_is, all_issued, moved_capped, who_stands}
+use Rattle.wake_book.proofs.Standing.{balanced, balance, active_is}
+use Rattle.wake_book.proofs.AllGroups.{all_issued, moved_capped, who_stands}
 
 module _ {S : Type 0} (n : ℕ) (few : n ≤ 64) (id : ℕ) (v : View GroupStep) (ws : List ℕ) (xs : List S)
     (waiters : List (Record GroupStep)) (moved granted_now waiting_now : ℕ)

@@ -1,7 +1,9 @@
 pub mod Counting
 pub mod BookKeeps
 pub mod Ending
+pub mod GroupSteps
 pub mod Standing
+pub mod AllGroups
 pub mod GroupKeeps
 pub mod Lengths
 pub mod GroupsEnding

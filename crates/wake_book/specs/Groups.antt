@@ -10,7 +10,7 @@ use Rattle.wake_book.specs.declared.steps.GroupStep.{GroupStep}
 use Rattle.wake_book.specs.declared.steps.GroupStep.TheVariants.{Lower}
 use Rattle.wake_book.specs.declared.waiting.Left.{Left}
 use Rattle.wake_book.specs.Waits.{moved_by}
-use Rattle.wake_book.specs.Walks.{IsLeave, IsSleep}
+use Rattle.wake_book.specs.Walks.{Idles, IsLeave, IsSleep}
 
 -- the waiter came from the opening of these groups
 abbrev pub IsWaiterOf : Groups → Waiter → Type 0
@@ -76,6 +76,10 @@ LeavesBy step old new = (standing_of new ≡ None) × (active : ℕ) × (steps_o
 -- the waiter left the group in which it stood, as the answer says
 abbrev pub LeavesAs : Waiter → Waiter → Left → Type 0
 LeavesAs old new left = (group : ℕ) × (standing_of old ≡ Some group) × IsLeave group (steps_of old) (steps_of new) left
+
+-- in the group in which the waiter stood its exchange found another word than its look
+abbrev pub IdlesOnce : Waiter → Waiter → Type 0
+IdlesOnce old new = (group : ℕ) × (standing_of old ≡ Some group) × Idles 1 group (steps_of old) (steps_of new)
 
 -- the waiter slept in the group in which it stands, until it found a grant
 abbrev pub Sleeps : Waiter → Waiter → Type 0

@@ -27,3 +27,4 @@ pub use groups::{GroupTotals, Groups, Waiter, WaiterGathering};
 pub use groups_closing::GroupsGatherFault;
 pub use step_ledger::{GatherCause, Numbered};
 pub use waiting::Left;
+pub use walk::Walked;

@@ -1,8 +1,8 @@
 //! How a waiter comes, looks, and goes.
-ghost use Rattle.std.specs.Prelude.{◌≡◌, ℕ, ◌+◌, ◌%◌, ◌<◌, ◌≤◌, ◌∷◌, length, IsTrue, IsFalse, Some, None, IsSome};
+ghost use Rattle.std.specs.Prelude.{◌≡◌, ℕ, ◌+◌, ◌%◌, ◌<◌, ◌≤◌, ◌∷◌, length, IsTrue, IsFalse, Some, None, IsSome, IfSome, IfNone};
 ghost use Rattle.wake_book.specs.Waits.{active_at, index_at, group_at, granted, waiting};
 ghost use Rattle.wake_book.specs.Groups.{IsWaiterOf, steps_of, number_of, standing_of, wait_index_of, moved_of};
-ghost use Rattle.wake_book.specs.Groups.{StandsAsBefore, SameWaiter, LeavesBy, LeavesAs, Loses};
+ghost use Rattle.wake_book.specs.Groups.{StandsAsBefore, SameWaiter, LeavesBy, LeavesAs, IdlesOnce, Loses};
 ghost use Rattle.wake_book.specs.declared.steps.GroupStep.TheVariants.{Look, Raise, Enter, Use, Withdraw};
 
 use crate::group_plays::{
@@ -97,6 +97,33 @@ impl Groups {
             }
         }
         unreachable!()
+    }
+
+    /// As `leave`, by one look and one try, so that it returns at once. `None` says that the group's word changed between the two, and
+    /// that the waiter stands there still.
+    pub fn try_leave(&self, waiter: &mut Waiter) -> Option<Left>
+        requires groups { IsWaiterOf self.now waiter.old }
+        requires stands { IsSome (standing_of waiter.old) }
+        ensures groups { IsWaiterOf self.now waiter.new × (number_of waiter.new ≡ number_of waiter.old) }
+        ensures index { wait_index_of waiter.new ≡ wait_index_of waiter.old }
+        ensures moved { moved_of waiter.new ≡ moved_of waiter.old }
+        ensures out { IfSome result (λ _. standing_of waiter.new ≡ None) }
+        ensures left { IfSome result (λ left. LeavesAs waiter.old waiter.new left) }
+        ensures stays { IfNone result (standing_of waiter.new ≡ standing_of waiter.old) }
+        ensures idle { IfNone result (IdlesOnce waiter.old waiter.new) }
+    {
+        let Some(group) = waiter.standing else {
+            unreachable!()
+        };
+        let found = self.look_group(waiter, group);
+        if found % WAITING > 0 {
+            if self.use_grant(waiter, group, found) {
+                return Some(Left::Woken);
+            }
+        } else if self.withdraw(waiter, group, found) {
+            return Some(Left::Unwoken);
+        }
+        None
     }
 
     pub(crate) fn look_group(&self, waiter: &mut Waiter, group: u32) -> u64

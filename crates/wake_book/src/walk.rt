@@ -14,8 +14,23 @@ const TRIES: u32 = 4;
 /// Most moves to granted of one waiter.
 const MAX_MOVED: u64 = 1 << 56;
 
+/// What a walk granted.
+#[derive(Clone, Copy, Debug, PartialEq, Eq)]
+pub struct Walked {
+    /// How many it moved from waiting to granted.
+    pub woken: u32,
+    /// In which groups, of each of which the bit is set.
+    pub groups: u32,
+}
+
+/// No grant.
+const NOBODY: Walked = Walked {
+    woken: 0,
+    groups: 0,
+};
+
 impl Groups {
-    /// Moves up to `nr`, 1 to 8, of those who wait to granted, and answers how many.
+    /// Moves up to `nr`, 1 to 8, of those who wait to granted, wakes the sleepers of their groups, and answers how many it moved.
     /// At most 67 steps stand in the waiter's list; the body makes no load of the table beside them.
     pub fn wake(&self, waiter: &mut Waiter, nr: u32) -> u32
         requires groups { IsWaiterOf self.now waiter.old }
@@ -26,22 +41,52 @@ impl Groups {
         ensures lawful { IsWalk nr (steps_of waiter.old) (steps_of waiter.new) result }
         ensures bound { length (steps_of waiter.new) ≤ 67 + length (steps_of waiter.old) }
     {
+        let Walked { woken, groups } = self.walk(waiter, nr);
+        self.ring(groups);
+        woken
+    }
+
+    /// As `wake`, but leaves the sleepers to its caller: `ring` wakes them, or something of the caller's own.
+    pub fn walk(&self, waiter: &mut Waiter, nr: u32) -> Walked
+        requires groups { IsWaiterOf self.now waiter.old }
+        requires within { (1 ≤ nr) × (nr ≤ 8) }
+        ensures groups { IsWaiterOf self.now waiter.new × StandsAsBefore waiter.old waiter.new }
+        ensures most { result.woken ≤ nr }
+        ensures moved { moved_of waiter.new ≡ moved_of waiter.old + result.woken }
+        ensures lawful { IsWalk nr (steps_of waiter.old) (steps_of waiter.new) result.woken }
+        ensures bound { length (steps_of waiter.new) ≤ 67 + length (steps_of waiter.old) }
+    {
         if waiter.moved + nr as u64 > MAX_MOVED || self.active(waiter) == 0 {
-            return 0;
+            return NOBODY;
         }
         let mut group = self.index(waiter);
         let mut left = nr;
         let mut visits = 0u32;
+        let mut groups = 0u32;
         while left > 0 && visits < GROUPS {
-            left -= self.visit(waiter, group, left);
+            let moved = self.visit(waiter, group, left);
+            groups |= moved.min(1) << group;
+            left -= moved;
             group = (group + 1) % GROUPS;
             visits += 1;
         }
         self.store_index(waiter, group);
-        nr - left
+        Walked {
+            woken: nr - left,
+            groups,
+        }
     }
 
-    // Moves up to `most` of those who wait in a group, and wakes its sleepers.
+    /// Wakes the sleepers of the groups whose bits are set. No clause speaks of sleepers.
+    pub fn ring(&self, groups: u32) {
+        for group in 0..GROUPS {
+            if groups >> group & 1 == 1 {
+                self.bells[group as usize].notify_all();
+            }
+        }
+    }
+
+    // Moves up to `most` of those who wait in a group.
     fn visit(&self, waiter: &mut Waiter, group: u32, most: u32) -> u32
         requires groups { IsWaiterOf self.now waiter.old }
         requires within { (group < 8) × (waiter.old.moved + most ≤ 2 ^ 56) }
@@ -57,7 +102,6 @@ impl Groups {
             }
             let count = waiting.min(most as u64);
             if self.grant(waiter, group, found, count) {
-                self.bells[group as usize].notify_all();
                 return count as u32;
             }
         }

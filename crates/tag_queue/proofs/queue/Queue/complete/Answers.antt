@@ -22,10 +22,10 @@ returns-in-Won-clause-counts g c = record {
     charge = Won c.in-Won.field-0;
     lawful = subst (λ (z : Charge). IsCharge (cap_of c.args.self.now) (batch_of c.args.self.now) c.args.n
         (book_steps c.args.agent.now) (book.steps_of c.count.new.teller) z) c.in-Won.is c.count.ensures.lawful;
-    follows = subst (λ (z : List GroupStep). IsWalk (batch_of c.args.self.now) z (groups.steps_of c.wake.new.waiter)
-        c.wake.result) c.active.ensures.step
-        (subst (λ (z : ℕ). IsWalk z (groups.steps_of c.active.new.waiter) (groups.steps_of c.wake.new.waiter)
-        c.wake.result) (sym c.args.self.now.batch_is) c.wake.ensures.lawful);
+    follows = subst (λ (z : List GroupStep). IsWalk (batch_of c.args.self.now) z (groups.steps_of c.walk.new.waiter)
+        c.walk.result.woken) c.active.ensures.step
+        (subst (λ (z : ℕ). IsWalk z (groups.steps_of c.active.new.waiter) (groups.steps_of c.walk.new.waiter)
+        c.walk.result.woken) (sym c.args.self.now.batch_is) c.walk.ensures.lawful);
   });
   stands = search rules;
 }

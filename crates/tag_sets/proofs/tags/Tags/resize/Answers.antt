@@ -1,12 +1,12 @@
 -- Each refusal comes for its cause alone; if nothing prevents it, the hands continue as they were handed in.
-use Rattle.std.proofs.Common.{◌≡◌, List, All, sym, ap, subst}
+use Rattle.std.proofs.Common.{◌≡◌, List, All, None, Some, sym, ap, ◌∙◌, subst}
 use Rattle.std.specs.Prelude.{Option, MatchOption}
 use Rattle.std.proofs.lemmas.Result.{IfOk-weaker, IfErr-weaker}
 use Rattle.step_ledger.specs.Views.{HasAll}
 use Rattle.tag_queue.specs.declared.resizes.ResizeCause.{ResizeCause}
 use Rattle.tag_sets.specs.declared.hand.Hand.{Hand}
 use Rattle.tag_sets.specs.Hands.{IsHandOf}
-use Rattle.tag_sets.specs.Resizing.{AreSame, AreUnchanged, AreUnused, HasMap, IsResized, IsRefusedFor, IsRefusedAs}
+use Rattle.tag_sets.specs.Resizing.{AreSame, AreUnchanged, AreUnused, BalanceInBoth, HasMap, IsResized, IsRefusedFor, IsRefusedAs}
 use Rattle.tag_sets.proofs.Refusing.{Facts, facts_of, AreTold, told_err, Refused, refused_in}
 use Rattle.tag_sets.proofs.Regrowing.{same_facts, regrown, kept_from, may_from, told_from, back_from}
 use Rattle.tag_sets.proofs.tags.Tags.resize.Given as given
@@ -18,13 +18,12 @@ obstacle-tags-requires-clause-own g c =
     subst (λ v. All (IsHandOf c.args.tags) v.items) (sym c.tell_few-hands.ensures.same) c.requires
 
 -- nothing was found that prevents it
+unhindered : (P : Type 0) (Q : ResizeCause → Type 0) (found : Option ResizeCause) → found ≡ None → MatchOption found P Q → P
+unhindered P Q found none told = subst (λ (o : Option ResizeCause). MatchOption o P Q) none told
+
 free : (g : given.Over) (c : In-None g)
     → HasMap c.args.tags c.tell_few-hands.result.items c.args.total × AreUnused c.tell_few-hands.result.items
-free g c =
-    let seen = c.tell_few-hands.result.items in
-    subst (λ (o : Option ResizeCause).
-    MatchOption o (HasMap c.args.tags seen c.args.total × AreUnused seen) (IsRefusedFor c.args.tags seen c.args.total))
-    c.in-None.is c.obstacle-tags.ensures.cause
+free g c = unhindered _ _ c.obstacle-tags.result.1 c.in-None.is c.obstacle-tags.ensures.cause
 
 -- nor did the search for it change anything
 facts : (g : given.Over) (c : In-None g)
@@ -115,3 +114,13 @@ returns-in-Some-clause-waiting g c = (refused_early g c).waiting
 
 pub returns-in-Some-clause-memory : goal.returns-in-Some-clause-memory
 returns-in-Some-clause-memory g c = (refused_early g c).memory
+
+pub returns-in-None-clause-balance : goal.returns-in-None-clause-balance
+returns-in-None-clause-balance g c = λ held posted is.
+    absurd ((((refused_late g c).in_use held posted).0 is).1.2 (subst (λ v. AreUnused v.items) c.tell_few-hands.ensures.same
+    (unhindered _ _ c.obstacle-tags.result.1 c.in-None.is c.obstacle-tags.ensures.cause).1))
+
+pub returns-in-Some-clause-balance : goal.returns-in-Some-clause-balance
+returns-in-Some-clause-balance g c = λ held posted is.
+    subst (λ v. BalanceInBoth v.items) c.tell_few-hands.ensures.same
+    (c.obstacle-tags.ensures.balance held posted (c.in-Some.is ∙ ap Some is))

@@ -9,6 +9,7 @@ use Rattle.tag_queue.proofs.Resized.{unchanged-numbers}
 use Rattle.tag_sets.specs.Hands.{number_of, reserved_of}
 use Rattle.tag_sets.specs.Opening.{reserved_part, ordinary_part, IsSplitAt}
 use Rattle.tag_sets.specs.Gathering.{hands_of, numbers_of}
+use Rattle.tag_sets.specs.Resizing.{Balance}
 use Rattle.tag_sets.proofs.Gathering.{reserved_own, ordinary_own, reserved_numbers, ordinary_numbers}
 use Rattle.tag_sets.proofs.Regrowing.{part_kept}
 use Rattle.tag_sets.proofs.Reuniting.{all_unchanged, split_at}
@@ -77,3 +78,10 @@ returns-clause-unchanged g c =
     c.part-agents.ensures.reserved c.settle-reserved.ensures.agents parts.reserved_are)
     (part_kept ordinary_part olds news c.part-agents.result.1.items c.settle-ordinary.result.0.agents.items
     c.part-agents.ensures.ordinary c.settle-ordinary.ensures.agents parts.ordinary_are)
+
+pub returns-clause-balance : goal.returns-clause-balance
+returns-clause-balance g c =
+    let P : List (Agent g.row.R.Denot) → Type 0 = λ l. Balance (queue.records_of l) in (
+      subst P c.part-agents.ensures.ordinary c.settle-ordinary.ensures.balance,
+      subst P c.part-agents.ensures.reserved c.settle-reserved.ensures.balance,
+    )

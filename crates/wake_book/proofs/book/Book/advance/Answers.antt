@@ -7,7 +7,7 @@ use Rattle.wake_book.specs.declared.book.Limits.{Limits}
 use Rattle.wake_book.specs.declared.steps.BookStep.TheVariants.{Advance}
 use Rattle.wake_book.specs.Charges.{taken}
 use Rattle.wake_book.proofs.BookKeeps as keeps
-use Rattle.wake_book.proofs.Standing.{yes_of, no_of}
+use Rattle.wake_book.proofs.GroupSteps.{yes_of, no_of}
 use Rattle.wake_book.proofs.book.Book.advance.Goals as goal
 
 pub compare_exchange-found-requires : goal.compare_exchange-found-requires

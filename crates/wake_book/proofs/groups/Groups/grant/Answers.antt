@@ -10,7 +10,7 @@ use Rattle.wake_book.specs.declared.steps.GroupStep.{GroupStep}
 use Rattle.wake_book.specs.declared.steps.GroupStep.TheVariants.{Grant}
 use Rattle.wake_book.specs.Waits.{one_waiting, moved_in, stand, raised, moved_by}
 use Rattle.wake_book.specs.WaitPlays.{granting}
-use Rattle.wake_book.proofs.Standing.{yes_of, no_of}
+use Rattle.wake_book.proofs.GroupSteps.{yes_of, no_of}
 use Rattle.wake_book.proofs.GroupKeeps as keeps
 use Rattle.wake_book.proofs.groups.Groups.grant.Goals as goal
 

@@ -11,7 +11,7 @@ use Rattle.wake_book.specs.declared.steps.GroupStep.TheVariants.{Lower, Use}
 use Rattle.wake_book.specs.Waits.{stand, raised, moved_by}
 use Rattle.wake_book.specs.WaitPlays.{using}
 use Rattle.wake_book.specs.Stands.{stand_code}
-use Rattle.wake_book.proofs.Standing.{yes_of, no_of}
+use Rattle.wake_book.proofs.GroupSteps.{yes_of, no_of}
 use Rattle.wake_book.proofs.GroupKeeps as keeps
 use Rattle.wake_book.proofs.groups.Groups.use_grant.Goals as goal
 

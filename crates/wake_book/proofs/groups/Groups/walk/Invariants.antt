@@ -3,7 +3,7 @@ use Rattle.wake_book.specs.declared.steps.GroupStep.TheVariants.{Look}
 use Rattle.wake_book.specs.Groups.{IsWaiterOf, steps_of, StandsAsBefore}
 use Rattle.wake_book.specs.Walks.{AreVisits}
 use Rattle.wake_book.specs.Waits.{active_at, index_at}
-use Rattle.wake_book.proofs.groups.Groups.wake.Given as goal
+use Rattle.wake_book.proofs.groups.Groups.walk.Given as goal
 
 abbrev pub invariant-loop-left : goal.invariant-loop-left
 invariant-loop-left l = record {

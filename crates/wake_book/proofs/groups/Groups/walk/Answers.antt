@@ -5,10 +5,10 @@ use Rattle.wake_book.specs.Groups.{steps_of}
 use Rattle.wake_book.specs.Walks.{AreVisits}
 use Rattle.wake_book.proofs.Lengths.{visits_long}
 use Rattle.wake_book.specs.Waits.{active_at, index_at}
-use Rattle.wake_book.proofs.groups.Groups.wake.Goals as goal
+use Rattle.wake_book.proofs.groups.Groups.walk.Goals as goal
 
 pub loop-left-preserved : goal.loop-left-preserved
-loop-left-preserved c = let inv = c.loop-left.invariant in let e = c.visit-left.ensures in let walk = inv.walk in
+loop-left-preserved c = let inv = c.loop-left.invariant in let e = c.visit-moved.ensures in let walk = inv.walk in
     let some = c.loop-left-test.true in let v : ℕ = c.loop-left.visits in let next : suc v ≡ v + 1 = omega arith in
     let few = inv.few.0 in let more = c.if-visits-lt-GROUPS.true in let moved = e.moved in let before = inv.moved in
     let start = Look index_at walk.0 ∷ Look active_at walk.1 ∷ steps_of c.args.waiter.now in record {
@@ -27,12 +27,12 @@ loop-left-preserved c = let inv = c.loop-left.invariant in let e = c.visit-left.
         walk.0,
         walk.1,
         walk.2,
-        subst (λ (z : ℕ). AreVisits z walk.0 c.args.nr start (steps_of c.visit-left.new.waiter)
-            (c.loop-left.left - c.visit-left.result) ((c.loop-left.group + 1) % 8)) next (
+        subst (λ (z : ℕ). AreVisits z walk.0 c.args.nr start (steps_of c.visit-moved.new.waiter)
+            (c.loop-left.left - c.visit-moved.result) ((c.loop-left.group + 1) % 8)) next (
               steps_of c.loop-left.waiter,
               c.loop-left.left,
               c.loop-left.group,
-              c.visit-left.result,
+              c.visit-moved.result,
               walk.3,
               some,
               e.visit,

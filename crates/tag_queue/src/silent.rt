@@ -1,0 +1,52 @@
+//! How tags come back where nobody may be woken.
+ghost use Rattle.std.specs.Prelude.{◌≡◌, ◌+◌, ◌<◌, ◌≤◌, ◌↔◌, length, IfOk, IsOk, OnOk, OnErr};
+ghost use Rattle.tag_queue.specs.Agents.{layout_of, IsAgentOf, Holds, step_count, caller_of};
+ghost use Rattle.tag_queue.specs.Batches.{CountsTags, AreTags, AreHeldOnce, GivesBack};
+ghost use Rattle.tag_queue.specs.Clears.{Puts, Counts};
+
+use crate::agent::Agent;
+use crate::fault::TagFault;
+use crate::queue::Queue;
+use wake_book::Walked;
+
+impl<R: Copy> Queue<R> {
+    /// As `clear`, but leaves it to the caller to wake those who sleep: it rings no bell, and links none.
+    pub fn clear_silently(&self, agent: &mut Agent<R>, tag: u32) -> Result<u32, TagFault>
+        requires agent { IsAgentOf self.now agent.old }
+        ensures agent { IsAgentOf self.now agent.new }
+        ensures no_such_tag { (result ≡ Err TagFault.NoSuchTag) ↔ ((layout_of self.now).depth ≤ tag) }
+        ensures not_held { (result ≡ Err TagFault.NotHeld) ↔ ((tag < (layout_of self.now).depth) × ¬ (Holds agent.old tag)) }
+        ensures succeeds { Holds agent.old tag → IsOk result }
+        ensures puts { OnOk result (Puts (layout_of self.now) tag agent.old agent.new) }
+        ensures counts { IfOk result (λ woken. Counts self.now 1 agent.old agent.new woken) }
+        ensures bound { step_count agent.new ≤ 118 + step_count agent.old }
+        ensures err { OnErr result (agent.new ≡ agent.old) }
+    {
+        self.find_held(agent, tag)?;
+        self.put(agent, tag);
+        let Walked { woken, .. } = self.complete(agent, 1);
+        Ok(woken)
+    }
+
+    /// As `clear_batch`, but leaves it to the caller to wake those who sleep: it rings no bell, and links none.
+    pub fn clear_batch_silently(&self, agent: &mut Agent<R>, tags: &[u32]) -> Result<u32, TagFault>
+        requires agent { IsAgentOf self.now agent.old }
+        ensures agent { IsAgentOf self.now agent.new }
+
+        // The causes are looked at in this order, each for the whole list.
+        ensures bad_count { (result ≡ Err TagFault.BadCount) ↔ ¬ (CountsTags tags.now) }
+        ensures no_such_tag { (result ≡ Err TagFault.NoSuchTag) ↔ (CountsTags tags.now × ¬ (AreTags (layout_of self.now) tags.now)) }
+        ensures not_held { (result ≡ Err TagFault.NotHeld)
+            ↔ (CountsTags tags.now × AreTags (layout_of self.now) tags.now × ¬ (AreHeldOnce (caller_of agent.old) tags.now)) }
+        ensures succeeds { IsOk result ↔ (CountsTags tags.now × AreHeldOnce (caller_of agent.old) tags.now) }
+        ensures gives { OnOk result (GivesBack (layout_of self.now) tags.now agent.old agent.new) }
+        ensures counts { IfOk result (λ woken. Counts self.now (length tags.now) agent.old agent.new woken) }
+        ensures bound { OnOk result (step_count agent.new ≤ length tags.now + 117 + step_count agent.old) }
+        ensures err { OnErr result (agent.new ≡ agent.old) }
+    {
+        self.find_all_held(agent, tags)?;
+        self.give_back(agent, tags);
+        let Walked { woken, .. } = self.complete(agent, tags.len() as u32);
+        Ok(woken)
+    }
+}

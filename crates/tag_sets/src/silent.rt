@@ -1,0 +1,65 @@
+//! How tags come back where nobody may be woken.
+ghost use Rattle.std.specs.Prelude.{◌≡◌, ◌+◌, ◌<◌, ◌≤◌, ◌↔◌, length, IfOk, IsOk, OnOk, OnErr};
+ghost use Rattle.tag_sets.specs.Sets.{kind_of};
+ghost use Rattle.tag_sets.specs.Hands.{reserved_of, total_of, IsHandOf, Holds, step_count};
+ghost use Rattle.tag_sets.specs.Batches.{CountsTags, AreOrdinary, AreHeldOnce, GivesBack};
+ghost use Rattle.tag_sets.specs.Clears.{Clears, Counts};
+ghost use Rattle.tag_sets.specs.declared.kind.Kind.TheVariants.{Ordinary};
+
+use crate::batches::{MAX_TAGS, ordinary_numbers};
+use crate::hand::Hand;
+use crate::kind::{Kind, SetTag};
+use crate::tags::Tags;
+use tag_queue::TagFault;
+
+impl<R: Copy> Tags<R> {
+    /// As `clear`, but leaves it to the caller to wake those who sleep: it rings no bell, and links none.
+    pub fn clear_silently(&self, hand: &mut Hand<R>, tag: u32) -> Result<u32, TagFault>
+        requires hand { IsHandOf self.now hand.old }
+        ensures hand { IsHandOf self.now hand.new }
+        ensures no_such_tag { (result ≡ Err TagFault.NoSuchTag) ↔ (total_of self.now ≤ tag) }
+        ensures not_held { (result ≡ Err TagFault.NotHeld) ↔ ((tag < total_of self.now) × ¬ (Holds hand.old tag)) }
+        ensures succeeds { Holds hand.old tag → IsOk result }
+        ensures clears { OnOk result (Clears self.now tag hand.old hand.new) }
+        ensures counts { IfOk result (λ woken. Counts self.now (kind_of (reserved_of self.now) tag) 1 hand.old hand.new woken) }
+        ensures bound { step_count hand.new ≤ 118 + step_count hand.old }
+        ensures err { OnErr result (hand.new ≡ hand.old) }
+    {
+        let SetTag { kind, number } = SetTag::of(tag, self.reserved_count);
+        match kind {
+            Kind::Ordinary => self.ordinary.clear_silently(&mut hand.ordinary, number),
+            Kind::Reserved => {
+                self.reserved.clear_uncounted(&mut hand.reserved, number)?;
+                Ok(0)
+            }
+        }
+    }
+
+    /// As `clear_batch`, but leaves it to the caller to wake those who sleep: it rings no bell, and links none.
+    pub fn clear_batch_silently(&self, hand: &mut Hand<R>, tags: &[u32]) -> Result<u32, TagFault>
+        requires hand { IsHandOf self.now hand.old }
+        ensures hand { IsHandOf self.now hand.new }
+
+        // The causes are looked at in this order, each for the whole list.
+        ensures bad_count { (result ≡ Err TagFault.BadCount) ↔ ¬ (CountsTags tags.now) }
+        ensures no_such_tag { (result ≡ Err TagFault.NoSuchTag)
+            ↔ (CountsTags tags.now × ¬ (AreOrdinary self.now tags.now)) }
+        ensures not_held { (result ≡ Err TagFault.NotHeld)
+            ↔ (CountsTags tags.now × AreOrdinary self.now tags.now × ¬ (AreHeldOnce hand.old tags.now)) }
+        ensures succeeds { IsOk result
+            ↔ (CountsTags tags.now × AreOrdinary self.now tags.now × AreHeldOnce hand.old tags.now) }
+        ensures gives { OnOk result (GivesBack self.now tags.now hand.old hand.new) }
+        ensures counts { IfOk result (λ woken. Counts self.now Ordinary (length tags.now) hand.old hand.new woken) }
+        ensures bound { OnOk result (step_count hand.new ≤ length tags.now + 117 + step_count hand.old) }
+        ensures err { OnErr result (hand.new ≡ hand.old) }
+    {
+        if tags.is_empty() || tags.len() > MAX_TAGS {
+            return Err(TagFault::BadCount);
+        }
+        let Some(numbers) = ordinary_numbers(tags, self.reserved_count) else {
+            return Err(TagFault::NoSuchTag);
+        };
+        self.ordinary
+            .clear_batch_silently(&mut hand.ordinary, &numbers[..tags.len()])
+    }
+}
