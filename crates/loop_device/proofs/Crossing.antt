@@ -33,9 +33,19 @@ log_shared = search (sendable, crosses) depth 60
 layer_goes : (i : the_members) → Sends knot.ring i
 layer_goes member-Stamps = record {
   send = λ h all.
-      let s : IsSend (row (declared (knot.type-Stamps (h member-Stamps) (h member-Stamps)))) = variants_send (knot.type-Stamps (h member-Stamps) (h member-Stamps)) (
+      let s : IsSend (row (declared (knot.type-Stamps (h member-Stamps) (h member-Stamps)))) =
+      variants_send (knot.type-Stamps (h member-Stamps) (h member-Stamps)) (
         (search sendable, tt),
-        ((search sendable, (search (all member-Stamps, sendable, crosses) depth 40, (search (all member-Stamps, sendable, crosses) depth 40, tt))), tt),
+        (
+          (
+            search sendable,
+            (
+              search (all member-Stamps, sendable, crosses) depth 40,
+              (search (all member-Stamps, sendable, crosses) depth 40, tt),
+            ),
+          ),
+          tt,
+        ),
       ) in
       record { owned = s.owned; leaving = s.leaving };
 }
@@ -56,4 +66,5 @@ pub flag_shared : IsSync flag.the_row
 flag_shared = search (sendable, crosses) depth 60
 
 pub pass_goes : IsSend (seat.the_row (option.the_row u32-field.row) (doing.the_row u32-field.row worker.the_row))
-pass_goes = seat_send (option.the_row u32-field.row) (doing.the_row u32-field.row worker.the_row) (search (sendable, crosses) depth 40)
+pass_goes = seat_send (option.the_row u32-field.row) (doing.the_row u32-field.row worker.the_row)
+    (search (sendable, crosses) depth 40)

@@ -29,20 +29,25 @@ pub record IsReadTo (lines : List (List ℕ)) (p : Progress) (rest : List (List 
   pub number : p.number ≡ length entries + 2
 
 -- before the first line
-pub begun : (lines : List (List ℕ)) (p : Progress) → p ≡ record { number = 2; names = []; ios = []; waits = 0 } → IsReadTo lines p lines
+pub begun : (lines : List (List ℕ)) (p : Progress) → p ≡ record { number = 2; names = []; ios = []; waits = 0 }
+    → IsReadTo lines p lines
 begun lines p e =
-    subst (λ q. IsReadTo lines q lines) (sym e) (record { entries = []; said = refl; names = refl; ios = refl; waits = refl; number = refl })
+    subst (λ q. IsReadTo lines q lines) (sym e)
+    (record { entries = []; said = refl; names = refl; ios = refl; waits = refl; number = refl })
 
-said_on : (lines : List (List ℕ)) (p q : Progress) (line : List ℕ) (rest : List (List ℕ)) (entries : List Entry) (entry : Entry)
+said_on : (lines : List (List ℕ)) (p q : Progress) (line : List ℕ) (rest : List (List ℕ)) (entries : List Entry)
+    (entry : Entry)
     → map Ok entries ++ entries_of p.names p.number (line ∷ rest) ≡ entries_of [] 2 lines
-    → entry_of p.names p.number (words_of line) ≡ Ok entry → q.number ≡ p.number + 1 → q.names ≡ names_after p.names (words_of line)
+    → entry_of p.names p.number (words_of line) ≡ Ok entry → q.number ≡ p.number + 1
+    → q.names ≡ names_after p.names (words_of line)
     → map Ok (entries ++ entry ∷ []) ++ entries_of q.names q.number rest ≡ entries_of [] 2 lines
 said_on lines p q line rest entries entry said e number names =
     ap (λ front. front ++ entries_of q.names q.number rest) (map-append Ok entries (entry ∷ []))
     ∙ append_assoc (map Ok entries) (Ok entry ∷ []) (entries_of q.names q.number rest)
     ∙ ap (λ known. map Ok entries ++ Ok entry ∷ entries_of known q.number rest) names
     ∙ ap (λ n. map Ok entries ++ Ok entry ∷ entries_of (names_after p.names (words_of line)) n rest) number
-    ∙ ap (λ first. map Ok entries ++ first ∷ entries_of (names_after p.names (words_of line)) (p.number + 1) rest) (sym e) ∙ said
+    ∙ ap (λ first. map Ok entries ++ first ∷ entries_of (names_after p.names (words_of line)) (p.number + 1) rest)
+    (sym e) ∙ said
 
 -- a line that is read goes from the rest to what was read
 pub read_on : (lines : List (List ℕ)) (p q : Progress) (line : List ℕ) (rest : List (List ℕ))
@@ -111,24 +116,28 @@ some_header [] same = absurd (search (rules, same))
 some_header (b ∷ bytes) same = omega arith
 
 -- what its lines say is what the text spells
-pub log_in : (text : List ℕ) (lines : List (List ℕ)) (result : Result Log LogFault) → body_of (lines_of text) ≡ Some lines
+pub log_in : (text : List ℕ) (lines : List (List ℕ)) (result : Result Log LogFault)
+    → body_of (lines_of text) ≡ Some lines
     → IfOk result (Says lines) → IfOk result (IsLogOf text)
 log_in text lines (Ok log) e says = subst (λ o. IsSomeAnd o (λ ls. Says ls log)) (sym e) says
 log_in text lines (Err fault) e says = tt
 
-pub fault_in : (text : List ℕ) (lines : List (List ℕ)) (result : Result Log LogFault) → body_of (lines_of text) ≡ Some lines
+pub fault_in : (text : List ℕ) (lines : List (List ℕ)) (result : Result Log LogFault)
+    → body_of (lines_of text) ≡ Some lines
     → IfErr result (IsFaultOf lines) → IfErr result (IsLogFault text)
 fault_in text lines (Ok log) e told = tt
 fault_in text lines (Err fault) e told =
     subst (λ o. MatchOption o (fault ≡ record { line = 1; cause = NoHeader }) (λ ls. IsFaultOf ls fault)) (sym e) told
 
-pub no_log : (text : List ℕ) (fault : LogFault) → body_of (lines_of text) ≡ None → fault ≡ record { line = 1; cause = NoHeader }
+pub no_log : (text : List ℕ) (fault : LogFault) → body_of (lines_of text) ≡ None
+    → fault ≡ record { line = 1; cause = NoHeader }
     → IsLogFault text fault
 no_log text fault e same =
     subst (λ o. MatchOption o (fault ≡ record { line = 1; cause = NoHeader }) (λ ls. IsFaultOf ls fault)) (sym e) same
 
 -- the same where a reader tells it
-pub faulty_in : (lines : List (List ℕ)) (p : Progress) (line : List ℕ) (rest : List (List ℕ)) (result : Result Log LogFault)
+pub faulty_in : (lines : List (List ℕ)) (p : Progress) (line : List ℕ) (rest : List (List ℕ))
+    (result : Result Log LogFault)
     → IsReadTo lines p (line ∷ rest) → IfErr result (Fails p line) → IfErr result (IsFaultOf lines)
 faulty_in lines p line rest (Ok log) before told = tt
 faulty_in lines p line rest (Err fault) before told = faulty lines p line rest fault before told

@@ -27,10 +27,12 @@ range_parts names number a b parts some =
 
 -- what stands behind a name and an action is a range
 pub range_said : (names : List (List ℕ)) (number : ℕ) (a b rest : List ℕ)
-    → entry_of names number (a ∷ b ∷ parts_of rest) ≡ range_words number (range_action b) (parts_of rest) (place_of names a)
+    → entry_of names number (a ∷ b ∷ parts_of rest) ≡ range_words number (range_action b) (parts_of rest)
+    (place_of names a)
 range_said names number a b rest = range_parts names number a b (parts_of rest) (split_some rest)
 
-same_names : (names : List (List ℕ)) (a b : List ℕ) (parts : List (List ℕ)) → HasWord parts → names_after names (a ∷ b ∷ parts) ≡ names
+same_names : (names : List (List ℕ)) (a b : List ℕ) (parts : List (List ℕ)) → HasWord parts
+    → names_after names (a ∷ b ∷ parts) ≡ names
 same_names names a b parts some = ap (λ ws. names_after names (a ∷ b ∷ ws)) some.2
 
 -- a range adds no name
@@ -51,12 +53,15 @@ pub on_ok : {A E P : Type 0} (result : Result A E) → P → OnOk result P
 on_ok (Ok entry) p = p
 on_ok (Err cause) p = tt
 
-passed-map : {A B : Type 0} (f : A → B) (p : B → Bool) (xs : List A) → prefix_len p (map f xs) ≡ prefix_len (λ x. p (f x)) xs
+passed-map : {A B : Type 0} (f : A → B) (p : B → Bool) (xs : List A)
+    → prefix_len p (map f xs) ≡ prefix_len (λ x. p (f x)) xs
 passed-map f p [] = refl
 passed-map f p (x ∷ xs) = ap (λ n. cond (p (f x)) (1 + n) 0) (passed-map f p xs)
 
 -- the first place at which the values pass
-pub position-map : {A B : Type 0} (f : A → B) (p : B → Bool) (xs : List A) → position p (map f xs) ≡ position (λ x. p (f x)) xs
+pub position-map : {A B : Type 0} (f : A → B) (p : B → Bool) (xs : List A)
+    → position p (map f xs) ≡ position (λ x. p (f x)) xs
 position-map f p xs =
     ap (λ n. cond (nat_lt n (length (map f xs))) (Some n) None) (passed-map f (λ y. not (p y)) xs)
-    ∙ ap (λ n. cond (nat_lt (position_or_len (λ x. p (f x)) xs) n) (Some (position_or_len (λ x. p (f x)) xs)) None) (length-map xs f)
+    ∙ ap (λ n. cond (nat_lt (position_or_len (λ x. p (f x)) xs) n) (Some (position_or_len (λ x. p (f x)) xs)) None)
+    (length-map xs f)

@@ -10,4 +10,5 @@ use Rattle.loop_device.specs.Playing.{Promises}
 
 pub kept : (tags : Tags ℕ) (old new : List (PromisedHandle Worked HandsBack)) (handle : PromisedHandle Worked HandsBack)
     → All (Promises tags) old → Promises tags handle → new ≡ old ++ handle ∷ [] → All (Promises tags) new
-kept tags old new handle were is joined = subst (All (Promises tags)) (sym joined) (All-push (Promises tags) old handle were is)
+kept tags old new handle were is joined =
+    subst (All (Promises tags)) (sym joined) (All-push (Promises tags) old handle were is)

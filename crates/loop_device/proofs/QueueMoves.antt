@@ -102,5 +102,8 @@ pops total pass v x items workers h at =
 -- a thread more
 pub forks : (total pass : ℕ) (v r : Worker) → Forks (AreHandedOn total) pass v v r
 forks total pass v r items workers h at number has =
-    let was = h number has in
-    (was.0, pushed_wider (set workers pass v) r number (pushed_still workers pass v v number at (λ m. m) (λ m. m) was.1))
+    let was = h number has in (
+      was.0,
+      pushed_wider (set workers pass v) r number
+          (pushed_still workers pass v v number at (λ m. m) (λ m. m) was.1),
+    )

@@ -1,10 +1,10 @@
--- The rule of the device queue, by which submitters hand tags to completers.
+-- The rule of the device queue, through which submitters pass tags to completers.
 use Rattle.std.specs.Prelude.{◌≡◌, ℕ, ◌<◌, Bool, true, List, Contains}
 use mathlib.Core.Option.{some}
 use lib.ListN.{get_elem?}
 use Rattle.loop_device.specs.declared.device_queue.Worker.{Worker}
 
--- a thread of one role, and the numbers that it has pushed, newest first
+-- what the rule knows of a thread: whether it submits, and the numbers that it has pushed, newest first
 abbrev pub worker : Bool → List ℕ → Worker
 worker submits pushed = record { submits = submits; pushed = pushed }
 
@@ -20,7 +20,7 @@ pub record WasPushed (workers : List Worker) (number : ℕ) : Type 0 where
 abbrev pub AreHandedOn : ℕ → List ℕ → List Worker → Type 0
 AreHandedOn total numbers workers = (number : ℕ) → Contains numbers number → (number < total) × WasPushed workers number
 
--- the number is below the total, and a submitter had pushed it
+-- the number is below the total, and a submitter has pushed it
 pub record IsHandedOn (total number : ℕ) : Type 0 where
   pub below : number < total
   pub workers : List Worker

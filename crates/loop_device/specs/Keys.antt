@@ -1,4 +1,4 @@
--- Where the sectors of each name stand in one row, and what the row's stamps say of a history.
+-- Where each name's sectors are in the one row, and how the row's stamps relate to a history.
 use Rattle.std.specs.Prelude.{◌≡◌, ℕ, ◌+◌, ◌*◌, ◌^◌, ◌<◌, true, nat_lt, List, ◌∷◌, ◌++◌, [], if◌then◌else◌}
 use Rattle.loop_device.specs.declared.io.Io.{Io}
 use Rattle.loop_device.specs.declared.io.Done.{Done}
@@ -6,11 +6,11 @@ use Rattle.loop_device.specs.declared.halving.Stamps.{Stamps}
 use Rattle.loop_device.specs.Halving.{stamp_at, is_sound, IsStampedWithin}
 use Rattle.loop_device.specs.History.{first_of, last_of, stamp_of, done_of, Answers, IsHistory}
 
--- the place of a name's sector
+-- the position of a name's sector in the row
 abbrev pub key : ℕ → ℕ → ℕ
 key name sector = name * 2 ^ 56 + sector
 
--- the place of the first sector that the line covers, and the place after the last one
+-- the position of the first sector that the line covers, and the position after the last one
 abbrev pub first_key : Io → ℕ
 first_key io = key io.name (first_of io)
 
@@ -26,19 +26,21 @@ pub record IsSmall (io : Io) : Type 0 where
 -- the row has the stamps of the history
 abbrev pub AreStampsOf : List Done → Stamps → Type 0
 AreStampsOf history stamps =
-    (name sector : ℕ) → name < 2 ^ 32 → sector < 2 ^ 56 → stamp_at (2 ^ 88) stamps (key name sector) ≡ stamp_of history name sector
+    (name sector : ℕ) → name < 2 ^ 32 → sector < 2 ^ 56
+    → stamp_at (2 ^ 88) stamps (key name sector) ≡ stamp_of history name sector
 
--- what a store keeps
+-- the invariant of a store
 pub record IsKept (history : List Done) (stamps : Stamps) : Type 0 where
   pub sound : is_sound (2 ^ 88) stamps ≡ true
   pub stamps_are : AreStampsOf history stamps
   pub lawful : IsHistory history
 
--- the sectors that the line covers have its stamp, and the others are as they were
+-- the sectors that the line covers have its number as their stamp, and the others are unchanged
 abbrev pub LeavesStamp : Stamps → Stamps → Io → Type 0
-LeavesStamp old new io = IsStampedWithin (stamp_at (2 ^ 88) old) (stamp_at (2 ^ 88) new) (2 ^ 88) (first_key io) (end_key io) io.line
+LeavesStamp old new io = IsStampedWithin (stamp_at (2 ^ 88) old) (stamp_at (2 ^ 88) new) (2 ^ 88) (first_key io)
+    (end_key io) io.line
 
--- the line answers this after each history of the old stamps, and leaves the stamps that are then due
+-- after any history with the old stamps the line answers this, and the new stamps are those of that history plus it
 pub record Carries (old new : Stamps) (io : Io) (stamp : ℕ) : Type 0 where
   pub sound : is_sound (2 ^ 88) new ≡ true
   pub stamps_are : (history : List Done) → AreStampsOf history old → AreStampsOf (history ++ done_of io stamp ∷ []) new

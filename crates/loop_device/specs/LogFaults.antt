@@ -1,9 +1,9 @@
--- The number by which a text tells what is wrong with a line of a log.
+-- The number that stands for the cause of a log's faulty line in the output.
 use Rattle.std.specs.Prelude.{ℕ}
 use Rattle.loop_device.specs.declared.fault.LogCause.{LogCause}
 use Rattle.loop_device.specs.declared.fault.LogCause.TheVariants.{NoHeader, BadLine, BadNumber, UnknownName, TooManyNames, Memory}
 
--- of a cause
+-- the number of a cause
 abbrev pub number_of_cause : LogCause → ℕ
 number_of_cause NoHeader = 1
 number_of_cause BadLine = 2

@@ -1,4 +1,4 @@
--- How far the lines of an I/O log are read.
+-- Progress in reading an I/O log.
 use Rattle.std.specs.Prelude.{◌≡◌, ℕ, ◌+◌, List, [], ◌∷◌, ◌++◌, filter_map, count_by, Ok}
 use Rattle.tag_lines.specs.Lines.{words_of}
 use Rattle.loop_device.specs.declared.fault.LogFault.{LogFault}
@@ -8,18 +8,18 @@ use Rattle.loop_device.specs.declared.log_reader.Reader.{Reader}
 use Rattle.loop_device.specs.LogLines.{names_of, entry_of, names_after, Tells}
 use Rattle.loop_device.specs.Logs.{io_in, is_wait}
 
--- the number of the next line, and the names, the I/O lines and the waits of those before it
+-- the number of the next line, and the names, the I/O lines and the waits of the lines before it
 pub record Progress : Type 0 where
   pub number : ℕ
   pub names : List (List ℕ)
   pub ios : List Io
   pub waits : ℕ
 
--- those of a reader
+-- the progress of a reader
 abbrev pub progress_of : Reader → Progress
 progress_of r = record { number = r.number; names = names_of r.names.items; ios = r.ios.items; waits = r.waits }
 
--- the line says this, and is read
+-- the line is not faulty, and was read
 pub record Reads (old : Progress) (line : List ℕ) (new : Progress) : Type 0 where
   pub entry : Entry
   pub said : entry_of old.names old.number (words_of line) ≡ Ok entry
@@ -28,7 +28,7 @@ pub record Reads (old : Progress) (line : List ℕ) (new : Progress) : Type 0 wh
   pub ios : new.ios ≡ old.ios ++ filter_map io_in (entry ∷ [])
   pub waits : new.waits ≡ old.waits + count_by is_wait (entry ∷ [])
 
--- the line is faulty, and this is the cause, or there was no memory for it
+-- the line is faulty for this cause, or memory ran out while it was read
 pub record Fails (old : Progress) (line : List ℕ) (fault : LogFault) : Type 0 where
   pub number : fault.line ≡ old.number
   pub cause : Tells (entry_of old.names old.number (words_of line)) fault.cause

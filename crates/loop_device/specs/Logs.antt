@@ -17,7 +17,7 @@ abbrev pub body_of : List (List ℕ) → Option (List (List ℕ))
 body_of [] = None
 body_of (line ∷ lines) = if bytes_eq line (codes "fio version 2 iolog") then Some lines else None
 
--- what each line says, where these names are known before the first, which has this number
+-- what each line says, if these names are known before the first line, which has this number
 abbrev pub entries_of : List (List ℕ) → ℕ → List (List ℕ) → List (Result Entry LogCause)
 entries_of names number [] = []
 entries_of names number (line ∷ lines) =
@@ -27,19 +27,19 @@ entries_of names number (line ∷ lines) =
 abbrev pub names_in : List (List ℕ) → List (List ℕ) → List (List ℕ)
 names_in names lines = fold (λ known line. names_after known (words_of line)) names lines
 
--- the I/O line that an entry is
+-- the I/O line of an entry, if it is one
 abbrev pub io_in : Entry → Option Io
 io_in Name = None
 io_in Wait = None
 io_in (Carry io) = Some io
 
--- the entry asks to wait
+-- the entry is a wait
 abbrev pub is_wait : Entry → Bool
 is_wait Name = false
 is_wait Wait = true
 is_wait (Carry io) = false
 
--- each line says something, and the log has the names, the I/O lines and the waits of them all
+-- no line is faulty, and the log has the names, the I/O lines and the waits of all lines
 pub record Says (lines : List (List ℕ)) (log : Log) : Type 0 where
   pub entries : List Entry
   pub said : entries_of [] 2 lines ≡ map Ok entries
@@ -47,7 +47,7 @@ pub record Says (lines : List (List ℕ)) (log : Log) : Type 0 where
   pub ios : log.ios.items ≡ filter_map io_in entries
   pub waits : log.waits ≡ count_by is_wait entries
 
--- the lines before this one say something; it is faulty, and this is the cause, or there was no memory for it
+-- no line before this one is faulty, and this one is, for this cause, or memory ran out while it was read
 pub record IsFaultOf (lines : List (List ℕ)) (fault : LogFault) : Type 0 where
   pub before : List Entry
   pub said : Result Entry LogCause
@@ -56,10 +56,11 @@ pub record IsFaultOf (lines : List (List ℕ)) (fault : LogFault) : Type 0 where
   pub number : fault.line ≡ length before + 2
   pub cause : Tells said fault.cause
 
--- the log that a text spells
+-- the log that a text describes
 abbrev pub IsLogOf : List ℕ → Log → Type 0
 IsLogOf text log = IsSomeAnd (body_of (lines_of text)) (λ lines. Says lines log)
 
--- why a text spells none: it has no header, or a line after it is faulty
+-- why a text is not a log: it has no header, or a line after the header is faulty
 abbrev pub IsLogFault : List ℕ → LogFault → Type 0
-IsLogFault text fault = MatchOption (body_of (lines_of text)) (fault ≡ record { line = 1; cause = NoHeader }) (λ lines. IsFaultOf lines fault)
+IsLogFault text fault = MatchOption (body_of (lines_of text)) (fault ≡ record { line = 1; cause = NoHeader })
+    (λ lines. IsFaultOf lines fault)

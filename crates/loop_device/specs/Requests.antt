@@ -10,7 +10,7 @@ use Rattle.loop_device.specs.declared.io.Io.{Io}
 use Rattle.loop_device.specs.declared.fault.PlayFault.{PlayFault}
 use Rattle.loop_device.specs.declared.fault.PlayFault.TheVariants.{Memory, Setup, Lost, Twice, Stranger}
 
--- an I/O line of the log has the number
+-- some I/O line of the log has this number
 abbrev pub IsLineOf : List Io → ℕ → Type 0
 IsLineOf ios line = (io : Io) × Contains ios io × (io.line ≡ line)
 
@@ -27,7 +27,7 @@ pub record Completes (tags : Tags ℕ) (tag line : ℕ) (old new : Hand ℕ) : T
   pub takes : Takes tag old taken
   pub ends : Ends tags tag line taken new
 
--- what the fault tells of the line in the slot: that the log has it not, or that the store had no memory for it
+-- what the fault says of the line in the slot: the log does not have it, or the store had no memory for it
 abbrev pub IsCarryFault : List Io → ℕ → PlayFault → Type 0
 IsCarryFault ios line Memory = IsLineOf ios line
 IsCarryFault ios line Setup = ⊥
@@ -42,16 +42,17 @@ pub record EndsWithout (tags : Tags ℕ) (ios : List Io) (tag : ℕ) (fault : Pl
   pub ends : Ends tags tag line old new
 
 -- the line in the slot was not carried out, and the tag was taken, read and cleared all the same
-pub record CompletesWithout (tags : Tags ℕ) (ios : List Io) (tag : ℕ) (fault : PlayFault) (old new : Hand ℕ) : Type 0 where
+pub record CompletesWithout (tags : Tags ℕ) (ios : List Io) (tag : ℕ) (fault : PlayFault)
+    (old new : Hand ℕ) : Type 0 where
   pub line : ℕ
   pub tells : IsCarryFault ios line fault
   pub completes : Completes tags tag line old new
 
--- there is no such tag, or it was found not posted, by a step that changes no place
+-- there is no such tag, or it was found not posted, by a step that moves no tag
 abbrev pub IsNotPosted : Tags ℕ → ℕ → Hand ℕ → Hand ℕ → Type 0
 IsNotPosted tags tag old new = ((total_of tags ≤ tag) × (new ≡ old)) ⊎ ((tag < total_of tags) × Misses tag old new)
 
--- what a fault of `complete` tells, and what it leaves
+-- what a fault of `complete` means, and what it leaves behind
 abbrev pub IsRequestFault : Tags ℕ → List Io → ℕ → PlayFault → Hand ℕ → Hand ℕ → Type 0
 IsRequestFault tags ios tag fault old new =
     ((fault ≡ Stranger) × IsNotPosted tags tag old new) ⊎ CompletesWithout tags ios tag fault old new

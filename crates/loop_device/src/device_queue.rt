@@ -1,4 +1,4 @@
-//! The device queue, by which submitters hand tags to completers.
+//! The device queue, through which submitters pass tags to completers.
 ghost use Rattle.std.specs.Prelude.{◌≡◌, ◌<◌, true, ℕ, IfSome, IfErr, List};
 ghost use Rattle.crossbeam_queue.specs.Passes.{view, IsPassOf};
 ghost use Rattle.loop_device.specs.DeviceQueue.{IsHandedOn};
@@ -9,7 +9,7 @@ use std::collections::LinkedList;
 use std::marker::{Brand, PhantomData};
 use std::sync::Wait;
 
-/// How many tags there are in a play, reserved and ordinary ones.
+/// How many tags a play has, reserved and ordinary ones together.
 pub trait Tagged {
     ghost total: { ℕ };
 }
@@ -18,7 +18,7 @@ impl Tagged for Brand {
     ghost total = { 0 };
 }
 
-/// What the rule knows of a thread. No value of it is made.
+/// What the rule knows of a thread. No value of this type is ever made.
 pub struct Worker {
     /// Whether the thread is a submitter.
     pub submits: bool,
@@ -94,10 +94,10 @@ impl<B: Tagged> Lesson<u32, Worker> for Pops<B> {
     ghost fact = { λ v numbers. Unit {0} };
 }
 
-/// The queue of the tags that are posted and not yet taken.
+/// The queue of tags that are posted and not yet taken.
 pub(crate) type DeviceQueue<B> = RuledArrayQueue<u32, Worker, HandedOn<B>>;
 
-/// Hands a tag on. Where the queue is full the tag comes back.
+/// Pushes a tag. If the queue is full, the tag is returned as the error.
 pub(crate) fn push<B: Tagged, W: Wait>(
     rt: &W,
     queue: &DeviceQueue<B>,
@@ -114,7 +114,7 @@ pub(crate) fn push<B: Tagged, W: Wait>(
     queue.push_as::<Pushes, W>(rt, pass, tag)
 }
 
-/// The oldest tag that was handed on.
+/// Pops the oldest tag of the queue, if there is one.
 pub(crate) fn pop<B: Tagged, W: Wait>(
     rt: &W,
     queue: &DeviceQueue<B>,

@@ -1,15 +1,15 @@
-//! Where the threads of a play tell how far they are.
+//! Hooks that the threads of a play call as they make progress.
 
-/// Is called by the threads that carry a log out. A test's gate may hold them.
+/// Hooks called by the threads that carry out a log. A test's gate may hold them up.
 pub trait Gate: Sync {
-    /// The line of this number was submitted.
+    /// Called after the line with this number was submitted.
     fn after_submit(&self, line: u64);
 
-    /// The line of this number is about to be carried out.
+    /// Called before the line with this number is carried out.
     fn before_complete(&self, line: u64);
 }
 
-/// Holds no thread.
+/// A gate that holds up no thread.
 #[derive(Clone, Copy, Debug, PartialEq, Eq)]
 pub struct OpenGate;
 

@@ -1,15 +1,15 @@
-//! The stamps of a row of sectors, halved where they differ.
+//! The stamps of a row of sectors, as a segment tree that is split where stamps differ.
 ghost use Rattle.std.specs.Prelude.{◌≡◌, ℕ, true, ◌≤◌, ◌<◌, OnOk};
 ghost use Rattle.loop_device.specs.Halving.{stamp_at, greatest_of, is_sound, is_cut, IsGreatestWithin, IsStampedWithin, IsRefined};
 
 use std::alloc::{AllocError, Global};
 
-/// The stamps of sectors 0, 1, 2, .. of a row. Its width is kept by the caller, and halved on each way down.
+/// The stamps of sectors 0, 1, 2, .. of a row. The caller keeps the row's width, which is halved at each level.
 #[derive(Drop)]
 pub(crate) enum Stamps {
-    /// Each sector has this stamp.
+    /// All sectors have this stamp.
     Even(u64),
-    /// The greatest stamp, and the stamps of the lower and of the upper half.
+    /// The greatest stamp, and the stamps of the lower and the upper half.
     Split(u64, Box<Stamps>, Box<Stamps>),
 }
 
@@ -24,7 +24,7 @@ impl Stamps {
         }
     }
 
-    /// The greatest stamp of the sectors from `first` up to `end`, 0 if there are none.
+    /// The greatest stamp of the sectors from `first` up to but not including `end`, 0 if there are none.
     pub(crate) fn greatest(&self, width: u128, first: u128, end: u128) -> u64
         requires sound { is_sound width self.now ≡ true }
         requires within { end ≤ width }
@@ -51,7 +51,7 @@ impl Stamps {
         }
     }
 
-    /// Halves the row until no part of one stamp goes on across `at`. No stamp changes.
+    /// Splits the row until no part with a single stamp extends across `at`. No stamp changes.
     pub(crate) fn cut(&mut self, alloc: Global, width: u128, at: u128) -> Result<(), AllocError>
         requires sound { is_sound width self.old ≡ true }
         requires within { at ≤ width }
@@ -85,7 +85,7 @@ impl Stamps {
         }
     }
 
-    /// Stamps the sectors from `first` up to `end`.
+    /// Stamps the sectors from `first` up to but not including `end`.
     pub(crate) fn fill(&mut self, width: u128, first: u128, end: u128, stamp: u64)
         requires sound { is_sound width self.old ≡ true }
         requires within { end ≤ width }

@@ -1,4 +1,4 @@
-//! The lines of an I/O log, and what is kept of one that was carried out.
+//! The lines of an I/O log, and what is kept of a line that was carried out.
 ghost use Rattle.std.specs.Prelude.{◌≡◌};
 ghost use Rattle.loop_device.specs.Lines.{LinesAscend};
 ghost use Rattle.loop_device.specs.History.{leaves_stamp};
@@ -6,7 +6,7 @@ ghost use Rattle.loop_device.specs.History.{leaves_stamp};
 /// What an I/O line asks for.
 #[derive(Clone, Copy, Debug, PartialEq, Eq)]
 pub enum IoKind {
-    /// Tells the stamps of sectors.
+    /// Returns the greatest stamp of its sectors.
     Read,
     /// Stamps sectors.
     Write,
@@ -19,7 +19,7 @@ pub enum IoKind {
 }
 
 impl IoKind {
-    // Whether lines of the kind leave their stamp on the sectors that they cover.
+    // Whether lines of this kind leave their stamp on the sectors that they cover.
     pub(crate) fn leaves_stamp(self) -> bool
         ensures { result ≡ leaves_stamp self }
     {
@@ -34,11 +34,11 @@ pub struct Io {
     pub line: u64,
     /// What the line asks for.
     pub kind: IoKind,
-    /// The place of the line's name in the log's `names`, from 0.
+    /// The index of the line's name in the log's `names`.
     pub name: u32,
-    /// Where it begins, in bytes.
+    /// Where its range starts, in bytes.
     pub offset: u64,
-    /// How many bytes it covers.
+    /// The length of its range, in bytes.
     pub length: u64,
 }
 
@@ -47,7 +47,7 @@ pub struct Io {
 pub struct Done {
     /// The line.
     pub io: Io,
-    /// Of a write or a trim its line, of a read the greatest stamp of its sectors, of the others 0.
+    /// For a write or a trim its line number, for a read the greatest stamp of its sectors, otherwise 0.
     pub stamp: u64,
 }
 
@@ -58,7 +58,7 @@ pub struct Log {
     pub names: Vec<Vec<u8>>,
     /// The I/O lines, in order.
     pub ios: Vec<Io>,
-    /// How many lines ask to wait.
+    /// The number of `wait` lines.
     pub waits: u64,
     ghost ascend: { LinesAscend ios.items },
 }

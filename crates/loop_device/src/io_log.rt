@@ -10,7 +10,7 @@ use std::alloc::Global;
 use tag_lines::{LINE_FEED, cut};
 
 impl Log {
-    /// The log that a text spells, or the first line that is faulty, and why.
+    /// Reads a log from its text, or reports the first faulty line and why.
     pub fn read(alloc: Global, text: &[u8]) -> Result<Log, LogFault>
         ensures log { IfOk result (IsLogOf text.now) }
         ensures fault { IfErr result (IsLogFault text.now) }
@@ -29,7 +29,7 @@ impl Log {
     }
 }
 
-// The lines after the header, one after another.
+// Reads the lines after the header, one after another.
 fn read_lines(alloc: Global, body: &[u8]) -> Result<Log, LogFault>
     ensures log { IfOk result (Says (lines_of body.now)) }
     ensures fault { IfErr result (IsFaultOf (lines_of body.now)) }

@@ -8,8 +8,8 @@ use crate::fault::PlayFault;
 use crate::io::{Done, Io, Log};
 use std::alloc::Global;
 
-/// Whether the items carry each I/O line of the log out once, and no other. Of several faults the first is told, in the
-/// order Memory, Stranger, Twice, Lost. Takes `n log n` steps, and memory for a number per I/O line.
+/// Whether the items carry out each I/O line of the log once, and no other line. Of several faults the first in the
+/// order Memory, Stranger, Twice, Lost is reported. Takes `n log n` steps, and memory for one number per I/O line.
 pub fn verdict(alloc: Global, log: &Log, done: &[Done]) -> Result<(), PlayFault>
     ensures ok { OnOk result (CarriesEachOnce log.now.ios.items done.now) }
     ensures fault { IfErr result (IsPlayFault log.now.ios.items done.now) }
@@ -24,7 +24,7 @@ pub fn verdict(alloc: Global, log: &Log, done: &[Done]) -> Result<(), PlayFault>
     Ok(())
 }
 
-// The first place with more than 1.
+// The first index with a count above 1.
 fn first_above_one(counts: &[usize]) -> Option<usize>
     ensures found { IfSome result (λ place. place < length counts.now × 1 < slice_index counts.now place) }
     ensures before { IfSome result (λ place. AllWithin (λ n. n ≤ 1) counts.now 0 place) }
@@ -33,7 +33,7 @@ fn first_above_one(counts: &[usize]) -> Option<usize>
     counts.iter().position(|count| *count > 1)
 }
 
-// The first place with 0.
+// The first index with a count of 0.
 fn first_zero(counts: &[usize]) -> Option<usize>
     ensures found { IfSome result (λ place. place < length counts.now × slice_index counts.now place ≡ 0) }
     ensures before { IfSome result (λ place. AllWithin (λ n. 0 < n) counts.now 0 place) }
@@ -42,7 +42,7 @@ fn first_zero(counts: &[usize]) -> Option<usize>
     counts.iter().position(|count| *count == 0)
 }
 
-// How many items carry each of the lines out.
+// Counts how many items carry out each line.
 fn tally(alloc: Global, ios: &[Io], done: &[Done]) -> Result<Vec<usize>, PlayFault>
     requires { LinesAscend ios.now }
     ensures known { OnOk result (AreOfLog ios.now done.now) }
@@ -61,7 +61,7 @@ fn tally(alloc: Global, ios: &[Io], done: &[Done]) -> Result<Vec<usize>, PlayFau
     Ok(counts)
 }
 
-// Where the line stands among these.
+// The index of the line among these.
 fn place_of(ios: &[Io], io: &Io) -> Option<usize>
     requires { LinesAscend ios.now }
     ensures found { IfSome result (λ place. place < length ios.now × HoldsAt (λ found. found ≡ io.now) ios.now place) }

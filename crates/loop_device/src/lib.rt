@@ -1,4 +1,4 @@
-//! I/O logs, a store in memory that carries their lines out under tags, and the verdict on what was carried out.
+//! I/O logs, an in-memory store that carries out their lines under tags, and the verdict on what was carried out.
 #![tactic(auto)]
 
 mod device_queue;

@@ -10,7 +10,7 @@ use crate::io::{Io, IoKind};
 use std::alloc::Global;
 use tag_lines::{BLANK, cut, has_gap, number};
 
-/// The most names of a log.
+/// The most names that a log may have.
 pub(crate) const MAX_NAMES: usize = 16;
 
 /// The greatest offset and length: 2^63 - 1.
@@ -19,27 +19,27 @@ const MAX_EXTENT: u64 = 9_223_372_036_854_775_807;
 /// What a line says.
 #[derive(Clone, Copy, Debug, PartialEq, Eq)]
 pub(crate) enum Entry {
-    /// Its name is added, opened or closed.
+    /// It adds, opens or closes its name.
     Name,
-    /// It asks to wait.
+    /// It is a wait.
     Wait,
     /// It is an I/O line.
     Carry(Io),
 }
 
-/// The actions on a name alone.
+/// The actions that take only a name.
 #[derive(Clone, Copy, Debug, PartialEq, Eq)]
 pub(crate) enum NameAction {
     /// The name is known from here on.
     Add,
-    /// Of a known name; nothing is done.
+    /// The name must be known; nothing is done.
     Open,
-    /// Of a known name; nothing is done.
+    /// The name must be known; nothing is done.
     Close,
 }
 
 impl NameAction {
-    /// The action that goes by this name.
+    /// The action with this name.
     fn named(action: &[u8]) -> Option<NameAction>
         ensures { result ≡ name_action action.now }
     {
@@ -55,17 +55,17 @@ impl NameAction {
     }
 }
 
-/// The actions on a range of bytes.
+/// The actions that take a range of bytes.
 #[derive(Clone, Copy, Debug, PartialEq, Eq)]
 pub(crate) enum RangeAction {
     /// An I/O line of this kind.
     Carry(IoKind),
-    /// A wait, which is counted alone.
+    /// A wait, which is only counted.
     Wait,
 }
 
 impl RangeAction {
-    /// The action that goes by this name.
+    /// The action with this name.
     fn named(action: &[u8]) -> Option<RangeAction>
         ensures { result ≡ range_action action.now }
     {
@@ -87,7 +87,7 @@ impl RangeAction {
     }
 }
 
-/// What the line of this number says. The name of an `add` is among the names afterwards.
+/// What the line with this number says. Afterwards `names` includes the name of an `add`.
 pub(crate) fn read_line(
     alloc: Global,
     names: &mut Vec<Vec<u8>>,
@@ -160,7 +160,7 @@ fn add_name(alloc: Global, names: &mut Vec<Vec<u8>>, name: &[u8]) -> Result<(), 
     }
 }
 
-// The place of a name among those that are known.
+// The index of a name among the known ones.
 fn place_of(names: &[Vec<u8>], name: &[u8]) -> Option<u32>
     requires { length names.now ≤ MAX_NAMES }
     ensures { result ≡ place_of (names_of names.now) name.now }
@@ -223,7 +223,7 @@ fn range_entry(
     }))
 }
 
-// The offset or the length that a word spells.
+// Parses an offset or a length.
 fn extent(word: &[u8]) -> Option<u64>
     ensures { result ≡ number_below (2 ^ 63) word.now }
 {

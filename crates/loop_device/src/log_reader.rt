@@ -1,4 +1,4 @@
-//! How far the lines of an I/O log are read.
+//! The state of reading an I/O log, line by line.
 ghost use Rattle.std.specs.Prelude.{◌≡◌, ◌≤◌, ◌<◌, ◌-◌, ◌^◌, [], length, All, IfErr, OnOk};
 ghost use Rattle.loop_device.specs.declared.log_line.TheConstants.{MAX_NAMES};
 ghost use Rattle.loop_device.specs.Lines.{LinesAscend};
@@ -8,7 +8,7 @@ use crate::io::{Io, Log};
 use crate::log_line::{Entry, read_line};
 use std::alloc::Global;
 
-/// What the lines so far say.
+/// What the lines read so far say.
 #[derive(Drop)]
 pub(crate) struct Reader {
     alloc: Global,
@@ -27,7 +27,7 @@ impl Reader {
     ghost use Rattle.loop_device.specs.LogLines.{names_of};
     ghost use Rattle.loop_device.specs.LogProgress.{progress_of, Reads, Fails};
 
-    /// A reader before the line after the header.
+    /// A reader at the first line after the header.
     pub(crate) fn new(alloc: Global) -> Reader
         ensures { progress_of result ≡ record { number = 2; names = []; ios = []; waits = 0 } }
     {
@@ -70,7 +70,7 @@ impl Reader {
         Ok(())
     }
 
-    /// The log that the lines so far make.
+    /// The log that the lines read so far make up.
     pub(crate) fn log(self) -> Log
         ensures names { names_of result.names.items ≡ (progress_of self).names }
         ensures ios { result.ios.items ≡ (progress_of self).ios }

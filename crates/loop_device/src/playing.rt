@@ -1,4 +1,4 @@
-//! A log played: carried out by threads that share tags.
+//! Plays a log: threads that share tags carry it out.
 ghost use Rattle.std.specs.Prelude.{◌≡◌, ◌≢◌, ◌+◌, ◌<◌, ◌↔◌, All, length, IfOk, IfErr};
 ghost use Rattle.crossbeam_queue.specs.Passes.{IsPassOf};
 ghost use Rattle.tag_sets.specs.Hands.{IsHandOf, total_of};
@@ -26,9 +26,10 @@ use std::thread::Threads;
 use tag_model::Totals;
 use tag_sets::{Hand, Options, Tags};
 
-/// Carries each I/O line of the log out once, by threads that share tags, and joins them all. `Setup` is told before anything
-/// runs. Of the other faults the first is told, in the order Memory, Stranger, Twice, Lost. Memory also tells that a thread
-/// could not be started, and Stranger that the totals of the tags are not one tag taken and given back for each line.
+/// Carries out each I/O line of the log once, in threads that share tags, and joins them all. `Setup` is reported
+/// before anything runs, and of several other faults the first in the order Memory, Stranger, Twice, Lost. Memory also
+/// means that a thread could not be started; Stranger also means (checked last) that the totals are not one tag got
+/// and given back for each line.
 pub fn play<G: Gate, R: Threads + Wait + Sync>(
     rt: &R,
     alloc: Global,
@@ -50,14 +51,14 @@ pub fn play<G: Gate, R: Threads + Wait + Sync>(
         life: 1 << 48,
         cap: 1 << 56,
     };
-    // A legal setup is refused for want of memory alone.
+    // A legal setup is refused only if memory runs out.
     let Ok((tags, hands)) = Tags::open(alloc, setup.total, setup.reserved, options, 0u64) else {
         return Err(PlayFault::Memory);
     };
     play_under::<Brand, G, R>(rt, alloc, log, setup, gate, tags, hands)
 }
 
-// Plays under these tags.
+// Plays the log with these tags.
 fn play_under<B: Tagged + Send + Sync, G: Gate, R: Threads + Wait + Sync>(
     rt: &R,
     alloc: Global,
@@ -94,14 +95,14 @@ fn play_under<B: Tagged + Send + Sync, G: Gate, R: Threads + Wait + Sync>(
         return Err(PlayFault::Memory);
     };
     let done = store.into_inner().into_history();
-    // A hand is missing only where its thread could not be started.
+    // A hand is missing only if its thread could not be started.
     let Ok(totals) = Tags::gather(tags, hands) else {
         return Err(PlayFault::Memory);
     };
     judge(alloc, log, totals.tags, done, faults)
 }
 
-// Carries the log out by threads that all have ended as it returns.
+// Carries out the log in threads, all of which have ended when it returns.
 fn carry_in_scope<B: Tagged + Send + Sync, G: Gate, R: Threads + Wait + Sync>(
     rt: &R,
     alloc: Global,
@@ -147,7 +148,7 @@ fn carry_in_scope<B: Tagged + Send + Sync, G: Gate, R: Threads + Wait + Sync>(
     )
 }
 
-// What the play tells, after the joins.
+// The outcome of the play, determined after the joins.
 fn judge(
     alloc: Global,
     log: &Log,

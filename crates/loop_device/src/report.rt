@@ -3,7 +3,7 @@
 use crate::io::Done;
 use tag_model::Totals;
 
-/// What a play carried out, and what its tags add up to.
+/// What a play carried out, and the totals of its tags.
 #[derive(Drop)]
 pub struct Report {
     /// The totals of both sets of tags.

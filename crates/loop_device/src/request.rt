@@ -1,4 +1,4 @@
-//! One request completed.
+//! Completing one request.
 ghost use Rattle.std.specs.Prelude.{◌≡◌, IfOk, IfErr, IfSome, IsNone, OnOk};
 ghost use Rattle.std.specs.List.{Contains};
 ghost use Rattle.tag_sets.specs.Hands.{IsHandOf, Holds};
@@ -13,10 +13,10 @@ use crate::store::Store;
 use std::sync::{Mutex, Wait};
 use tag_sets::{Hand, Tags};
 
-/// Completes the request of a posted tag: takes the tag, carries the line in its slot out and clears the tag. It returns
-/// the line. `Stranger` tells that there is no such tag, that it was found not posted (a step in the hand's list), or that
-/// the log has no I/O line of the number in its slot; `Memory`, that the store had no memory for the line. A tag that was
-/// taken is cleared whatever became of its line. No clause says what the store holds.
+/// Completes the request of a posted tag: takes the tag, carries out the line in its slot, clears the tag and returns
+/// the line. `Stranger` means that there is no such tag, that it was found not posted (a step in the hand's list), or
+/// that the log has no I/O line with the number in its slot; `Memory` means that the store had no memory for the line.
+/// A tag that was taken is cleared whatever became of its line. No clause says what the store holds.
 pub fn complete<G: Gate, W: Wait>(
     rt: &W,
     tags: &Tags<u64>,
@@ -69,7 +69,7 @@ pub(crate) fn finish<G: Gate, W: Wait>(
     }
 }
 
-// Carries the line of this number out, under the store's lock.
+// Carries out the line with this number, under the store's lock.
 fn carry_out<G: Gate, W: Wait>(
     rt: &W,
     line: u64,
@@ -91,7 +91,7 @@ fn carry_out<G: Gate, W: Wait>(
     }
 }
 
-// The I/O line of this number.
+// The I/O line with this number.
 fn line_of(ios: &[Io], line: u64) -> Option<Io>
     requires { LinesAscend ios.now }
     ensures found { IfSome result (λ io. Contains ios.now io × (io.line ≡ line)) }

@@ -7,17 +7,17 @@ use tag_layout::{MAX_DEPTH, MAX_SHIFT};
 /// How a log is played.
 #[derive(Clone, Copy, Debug, PartialEq, Eq)]
 pub struct Setup {
-    /// Tags in all, at most 10,240.
+    /// The total number of tags, at most 10,240.
     pub total: u32,
-    /// Reserved tags, the first of them, fewer than there are in all. No line is carried out under one.
+    /// How many tags, from tag 0 on, are reserved: fewer than the total. No line is carried out under a reserved tag.
     pub reserved: u32,
-    /// Binary logarithm of the bits in a whole word, at most 6. Without one, each set of tags has the default for its depth.
+    /// Binary logarithm of the bits in a whole word, at most 6. If `None`, each set of tags uses its default.
     pub shift: Option<u32>,
-    /// Threads that submit, 1 to 16.
+    /// The number of threads that submit, 1 to 16.
     pub submitters: u32,
-    /// Threads that complete, 1 to 16.
+    /// The number of threads that complete, 1 to 16.
     pub completers: u32,
-    /// Tags for which the device queue has room, 1 to 10,240.
+    /// The capacity of the device queue, in tags, 1 to 10,240.
     pub queue: u32,
 }
 
@@ -25,7 +25,7 @@ pub struct Setup {
 const MAX_THREADS: u32 = 16;
 
 impl Setup {
-    // Whether each number is within its limits, and an ordinary tag is there.
+    // Whether each number is within its limits, and at least one tag is ordinary.
     pub(crate) fn is_legal(&self) -> bool
         ensures { IsTrue result ↔ IsLegal self.now }
     {
@@ -48,7 +48,7 @@ impl Setup {
     }
 }
 
-// Whether the number is at least 1 and at most the other one.
+// Whether the number is from 1 to `most`.
 fn is_count(number: u32, most: u32) -> bool
     ensures { IsTrue result ↔ (1 ≤ number) × (number ≤ most) }
 {

@@ -1,4 +1,4 @@
-//! A store in memory: what was carried out, and the stamps of its sectors.
+//! An in-memory store: what was carried out, and the stamps of its sectors.
 ghost use Rattle.std.specs.Prelude.{◌≡◌, ◌≤◌, ◌^◌, ◌++◌, ◌∷◌, [], true, IfOk, OnOk, OnErr};
 ghost use Rattle.loop_device.specs.Halving.{is_sound, IsRefined};
 ghost use Rattle.loop_device.specs.History.{Answers, IsHistory, done_of};
@@ -12,7 +12,7 @@ use std::marker::Model;
 /// Bytes in a sector.
 const SECTOR: u128 = 512;
 
-/// Sectors of one name, all names' side by side in one row: no offset and length of 64 bits reach further.
+/// Sectors per name; all names lie side by side in one row. No 64-bit offset and length reach beyond them.
 const SECTORS_PER_NAME: u128 = 1 << 56;
 
 /// Sectors in the row.
@@ -39,7 +39,7 @@ impl Model for Store {
 }
 
 impl Store {
-    /// A store on which nothing was carried out. Each sector's stamp is 0.
+    /// A store on which nothing has been carried out: every sector's stamp is 0.
     pub fn open(alloc: Global) -> Store
         ensures { result ≡ [] }
     {
@@ -58,7 +58,7 @@ impl Store {
         self.done.as_slice()
     }
 
-    /// What was carried out, in order, where nothing more is to be.
+    /// Consumes the store and returns what was carried out, in order.
     pub(crate) fn into_history(self) -> Vec<Done>
         ensures same { result.items ≡ self }
         ensures lawful { IsHistory result.items }
@@ -71,9 +71,9 @@ impl Store {
         done
     }
 
-    /// Carries a line out, and tells its stamp: of a write or a trim its line, of a read the greatest stamp of its sectors,
-    /// where a sector's stamp is the line of the last write or trim that covered it, and 0 before the first. The others
-    /// answer 0. Out of memory, nothing changes.
+    /// Carries out a line and returns its stamp: for a write or a trim its line number, for a read the greatest stamp
+    /// of its sectors, otherwise 0. A sector's stamp is the line number of the last write or trim that covered it, or 0
+    /// if there was none. If memory runs out, nothing changes.
     pub fn carry(&mut self, io: &Io) -> Result<u64, AllocError>
         ensures ok { IfOk result (λ stamp. self.new ≡ self.old ++ done_of io.now stamp ∷ []) }
         ensures stamp { IfOk result (Answers self.old io.now) }
@@ -120,7 +120,7 @@ fn leave_stamp(stamps: &mut Stamps, alloc: Global, io: &Io) -> Result<(), AllocE
     Ok(())
 }
 
-// Where the sectors that the line covers begin in the row, and where they end.
+// The position in the row of the first sector that the line covers, and the position after the last one.
 fn span(io: &Io) -> (u128, u128)
     ensures first { result.0 ≡ first_key io.now }
     ensures end { result.1 ≡ end_key io.now }

@@ -1,4 +1,4 @@
-//! The rows that were worked by hand, and what happens without memory.
+//! Examples worked out by hand, and what happens when memory runs out.
 mod logs;
 mod memory;
 mod overlap;

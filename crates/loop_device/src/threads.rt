@@ -14,7 +14,7 @@ use std::sync::atomic::Ordering::SeqCst;
 use std::thread::{Promise, PromisedHandle, Scope, Threads};
 use tag_sets::{Hand, Tags};
 
-/// The promise of a thread to hand back a hand of these tags.
+/// A thread's promise to return a hand of these tags.
 #[derive(Clone, Copy)]
 pub(crate) struct HandsBack<'a>(&'a Tags<u64>);
 
@@ -26,8 +26,8 @@ impl<'a> Promise<Worked> for HandsBack<'a> {
 
 type Handle<'s> = PromisedHandle<Worked, HandsBack<'s>>;
 
-/// Carries the log out: so many of the hands complete, and the others submit, each in a thread of its own. It returns the
-/// hands that came back, which are all but those of threads that could not be started.
+/// Carries out the log: `wanted` of the hands complete and the others submit, each in a thread of its own. Returns the
+/// hands that came back: all but those of threads that could not be started.
 pub(crate) fn carry_by_threads<'s, E, B: Tagged + Send + Sync, G: Gate, R: Threads + Wait + Sync>(
     scope: &Scope<'s, E>,
     rt: &'s R,
@@ -67,7 +67,7 @@ pub(crate) fn carry_by_threads<'s, E, B: Tagged + Send + Sync, G: Gate, R: Threa
     Ok((back, faults))
 }
 
-// Starts the completers and then the submitters, and stops at the first that can't be started. It tells whether all were.
+// Starts the completers and then the submitters, up to the first that can't be started. Returns whether all were.
 fn start_all<'s, E, B: Tagged + Send + Sync, G: Gate, R: Wait + Sync>(
     scope: &Scope<'s, E>,
     rt: &'s R,
@@ -225,7 +225,7 @@ fn start_submitter<'s, E, B: Tagged + Send + Sync, G: Gate, R: Wait + Sync>(
     }
 }
 
-// Joins the threads, and keeps the hands that they hand back.
+// Joins the threads, and collects the hands that they return.
 fn join_all<'s, R: Threads>(
     rt: &R,
     tags: &Tags<u64>,

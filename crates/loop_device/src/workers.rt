@@ -24,23 +24,23 @@ pub(crate) struct Shared<'a, B: Tagged, G> {
     pub(crate) tags: &'a Tags<u64>,
     pub(crate) queue: &'a DeviceQueue<B>,
     pub(crate) store: &'a Mutex<Store>,
-    /// Whether nothing more is to be submitted, since a thread could not be started.
+    /// Set if nothing more is to be submitted because a thread could not be started.
     pub(crate) stopped: &'a AtomicBool,
-    /// Whether all submitters have ended.
+    /// Set once all submitters have ended.
     pub(crate) closed: &'a AtomicBool,
 }
 
-/// What threads met that the store's history does not show.
+/// Faults that threads ran into and that the store's history does not show.
 #[derive(Clone, Copy, Debug, PartialEq, Eq)]
 pub(crate) struct Faults {
-    /// There was no memory for a line, or for a thread.
+    /// Memory ran out for a line, or a thread could not be started.
     pub(crate) memory: bool,
     /// A tag was handed on that is not posted or has no I/O line in its slot.
     pub(crate) stranger: bool,
 }
 
 impl Faults {
-    /// None so far.
+    /// No faults so far.
     pub(crate) fn none() -> Faults {
         Faults {
             memory: false,
@@ -48,13 +48,13 @@ impl Faults {
         }
     }
 
-    /// Those of another thread too.
+    /// Adds the faults of another thread.
     pub(crate) fn add(&mut self, other: Faults) {
         self.memory |= other.memory;
         self.stranger |= other.stranger;
     }
 
-    // What became of one line. A line that was not submitted is missing from the history.
+    // Notes what became of one line. A line that was not submitted is missing from the history.
     fn note(&mut self, done: Result<u64, PlayFault>) {
         match done {
             Err(PlayFault::Memory) => self.memory = true,
@@ -64,7 +64,7 @@ impl Faults {
     }
 }
 
-/// What a thread hands back.
+/// What a thread returns.
 #[derive(Drop)]
 pub(crate) struct Worked {
     pub(crate) hand: Hand<u64>,
@@ -84,7 +84,7 @@ pub(crate) fn complete_all<B: Tagged, G: Gate, W: Wait>(
 {
     let mut faults = Faults::none();
     for _ in rt.forever() {
-        // The flag is read first: what was pushed before it was set is found by the pop.
+        // The flag is read first, so that the pop finds what was pushed before it was set.
         let closed = shared.closed.load(SeqCst);
         match pop(rt, shared.queue, &mut pass) {
             Some(tag) => {
@@ -110,8 +110,8 @@ pub(crate) fn complete_all<B: Tagged, G: Gate, W: Wait>(
     Worked { hand, faults }
 }
 
-/// Submits its share of the I/O lines in their order, until nothing more is to be submitted: of so many submitters, each has
-/// every such line, the first one from the first on.
+/// Submits this thread's share of the I/O lines in order, until nothing more is to be submitted: number `number` of
+/// `submitters` threads, counted from 0, has every `submitters`-th line, starting with the line at index `number`.
 pub(crate) fn submit_all<B: Tagged, G: Gate, W: Wait>(
     rt: &W,
     shared: &Shared<'_, B, G>,
@@ -141,7 +141,7 @@ pub(crate) fn submit_all<B: Tagged, G: Gate, W: Wait>(
     Worked { hand, faults }
 }
 
-// Hands one line on to the completers, or completes it where the queue is full.
+// Passes one line on to the completers, or completes it if the queue is full.
 fn submit<B: Tagged, G: Gate, W: Wait>(
     rt: &W,
     shared: &Shared<'_, B, G>,
@@ -180,7 +180,7 @@ fn submit<B: Tagged, G: Gate, W: Wait>(
     )
 }
 
-// Posts a tag with the line in its slot.
+// Gets a tag, writes the line into its slot, and posts it.
 fn post_line<W: Wait>(
     rt: &W,
     tags: &Tags<u64>,

@@ -7,7 +7,8 @@ use Rattle.tag_lines.specs.EventList.{event_of}
 use Rattle.tag_lines.proofs.LineFacts.{words_cut, words_alone}
 use Rattle.tag_lines.proofs.WordFacts.{after_three}
 
-onto_fifth : (a b c d : List ℕ) (x : ℕ) (parts : List (List ℕ)) → event_of (a ∷ b ∷ c ∷ d ∷ onto_first x parts) ≡ Err BadLine
+onto_fifth : (a b c d : List ℕ) (x : ℕ) (parts : List (List ℕ))
+    → event_of (a ∷ b ∷ c ∷ d ∷ onto_first x parts) ≡ Err BadLine
 onto_fifth a b c d x [] = refl
 onto_fifth a b c d x (part ∷ parts) = refl
 
@@ -20,7 +21,8 @@ five_words a b c d (x ∷ xs) =
     [ true ↦ refl | false ↦ onto_fifth a b c d x (slice_split (λ y. y == 32) xs) ]
 
 -- four words
-pub four_words : (line : List ℕ) → has_gap (parts_of line) ≡ false → (a rest b rest' d rest'' e : List ℕ) → LacksByte 32 a → line ≡ a ++ 32 ∷ rest → LacksByte 32 b
+pub four_words : (line : List ℕ) → has_gap (parts_of line) ≡ false → (a rest b rest' d rest'' e : List ℕ)
+    → LacksByte 32 a → line ≡ a ++ 32 ∷ rest → LacksByte 32 b
     → rest ≡ b ++ 32 ∷ rest'
     → LacksByte 32 d → rest' ≡ d ++ 32 ∷ rest'' → LacksByte 32 e → rest'' ≡ e
     → event_of (words_of line) ≡ event_of (a ∷ b ∷ d ∷ e ∷ [])
@@ -30,7 +32,8 @@ four_words line full a rest b rest' d rest'' e lacks_a whole lacks_b rest_is lac
     ∙ ap (λ words. event_of (a ∷ b ∷ d ∷ words)) (words_alone e lacks_e)
 
 -- more than four words
-pub more_words : (line : List ℕ) → has_gap (parts_of line) ≡ false → (a rest b rest' d rest'' e more : List ℕ) → LacksByte 32 a → line ≡ a ++ 32 ∷ rest → LacksByte 32 b
+pub more_words : (line : List ℕ) → has_gap (parts_of line) ≡ false → (a rest b rest' d rest'' e more : List ℕ)
+    → LacksByte 32 a → line ≡ a ++ 32 ∷ rest → LacksByte 32 b
     → rest ≡ b ++ 32 ∷ rest' → LacksByte 32 d → rest' ≡ d ++ 32 ∷ rest'' → LacksByte 32 e → rest'' ≡ e ++ 32 ∷ more
     → event_of (words_of line) ≡ Err BadLine
 more_words line full a rest b rest' d rest'' e more lacks_a whole lacks_b rest_is lacks_d last lacks_e end =

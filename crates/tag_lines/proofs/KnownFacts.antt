@@ -21,7 +21,8 @@ use Rattle.tag_lines.specs.ScriptLines.{IsPlain, IsCommandOf, IsOrderOf}
 use Rattle.tag_lines.proofs.ReadingFacts.{all_said}
 
 -- a choice between two that are so
-either_some : {A : Type 0} (P : A → Type 0) (b : Bool) (x y : Option A) → IfSome x P → IfSome y P → IfSome (cond b x y) P
+either_some : {A : Type 0} (P : A → Type 0) (b : Bool) (x y : Option A) → IfSome x P → IfSome y P
+    → IfSome (cond b x y) P
 either_some P true x y h k = h
 either_some P false x y h k = k
 
@@ -41,7 +42,8 @@ shared_command Shared command = tt
 abbrev IsKindOf : Dialect → Numbered → Type 0
 IsKindOf dialect kind = (n : ℕ) → IsCommandOf dialect (numbered_command kind n)
 
-plain_kind : (dialect : Dialect) (kind : Numbered) → ((n : ℕ) → IsPlain (numbered_command kind n)) → IsKindOf dialect kind
+plain_kind : (dialect : Dialect) (kind : Numbered) → ((n : ℕ) → IsPlain (numbered_command kind n))
+    → IsKindOf dialect kind
 plain_kind dialect kind h n = plain_command dialect (numbered_command kind n) (h n)
 
 shared_kind : (dialect : Dialect) (kind : Numbered) → IfSome (only_shared dialect kind) (IsKindOf dialect)
@@ -97,13 +99,16 @@ module _ (dialect : Dialect) (callers : ℕ) where
   numbered_line_known (Some kind) (Some caller) (Some number) h =
       ordered_known caller (numbered_command kind number) (h number) (nat_lt caller callers) refl
 
-  listed_line_known : (caller : Option ℕ) (tags : Option (List ℕ)) → IfOk (listed_line callers caller tags) (IsOrderOf dialect callers)
+  listed_line_known : (caller : Option ℕ) (tags : Option (List ℕ))
+      → IfOk (listed_line callers caller tags) (IsOrderOf dialect callers)
   listed_line_known None tags = tt
   listed_line_known (Some caller) None = tt
   listed_line_known (Some caller) (Some tags) =
-      ordered_known caller (commands.ClearBatch tags) (plain_command dialect (commands.ClearBatch tags) tt) (nat_lt caller callers) refl
+      ordered_known caller (commands.ClearBatch tags) (plain_command dialect (commands.ClearBatch tags) tt)
+      (nat_lt caller callers) refl
 
-  word_line_known : (command : Option Command) (kind : Option Numbered) (caller number : Option ℕ) → IfSome command (IsCommandOf dialect)
+  word_line_known : (command : Option Command) (kind : Option Numbered) (caller number : Option ℕ)
+      → IfSome command (IsCommandOf dialect)
       → IfSome kind (IsKindOf dialect) → IfOk (word_line callers command kind caller number) (IsOrderOf dialect callers)
   word_line_known (Some command) kind caller number h k = lone_line_known (Some command) caller h
   word_line_known None kind caller number h k = numbered_line_known kind caller number k
@@ -111,7 +116,8 @@ module _ (dialect : Dialect) (callers : ℕ) where
   one_word_known : (caller name word : List ℕ) (more : List (List ℕ))
       → IfOk (one_word_line dialect callers caller name word more) (IsOrderOf dialect callers)
   one_word_known caller name word [] =
-      word_line_known (worded_of dialect name word) (numbered_of dialect name) (number_below (2 ^ 32) caller) (number_below (2 ^ 32) word)
+      word_line_known (worded_of dialect name word) (numbered_of dialect name) (number_below (2 ^ 32) caller)
+      (number_below (2 ^ 32) word)
       (worded_known name word) (numbered_known name)
   one_word_known caller name word (next ∷ more) = tt
 
@@ -119,12 +125,15 @@ module _ (dialect : Dialect) (callers : ℕ) where
   pub order_known : (words : List (List ℕ)) → IfOk (order_of dialect callers words) (IsOrderOf dialect callers)
   order_known [] = tt
   order_known (caller ∷ []) = tt
-  order_known (caller ∷ name ∷ []) = lone_line_known (lone_of dialect name) (number_below (2 ^ 32) caller) (lone_known name)
+  order_known (caller ∷ name ∷ []) = lone_line_known (lone_of dialect name) (number_below (2 ^ 32) caller)
+      (lone_known name)
   order_known (caller ∷ name ∷ word ∷ more) =
       either_ok (IsOrderOf dialect callers) (bytes_eq name (codes "clear-batch")) _ _
-      (listed_line_known (number_below (2 ^ 32) caller) (numbers_below (2 ^ 32) (word ∷ more))) (one_word_known caller name word more)
+      (listed_line_known (number_below (2 ^ 32) caller) (numbers_below (2 ^ 32) (word ∷ more)))
+      (one_word_known caller name word more)
 
   -- so has each order of a script
   pub orders_known : (text : List ℕ) (orders : List Order) → AreReadings (order_of dialect callers) text orders
       → All (IsOrderOf dialect callers) orders
-  orders_known text orders said = all_said (IsOrderOf dialect callers) (order_of dialect callers) order_known text orders said
+  orders_known text orders said =
+      all_said (IsOrderOf dialect callers) (order_of dialect callers) order_known text orders said

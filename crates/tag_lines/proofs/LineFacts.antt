@@ -21,7 +21,8 @@ line_alone b (c ∷ bytes) (not_feed, others) =
     ∙ ap (onto_first b) (line_alone c bytes others)
 
 -- a text begins with the part before its first line feed
-pub lines_of-cut : (text line rest : List ℕ) → LacksByte 10 line → text ≡ line ++ 10 ∷ rest → lines_of text ≡ line ∷ lines_of rest
+pub lines_of-cut : (text line rest : List ℕ) → LacksByte 10 line → text ≡ line ++ 10 ∷ rest
+    → lines_of text ≡ line ∷ lines_of rest
 lines_of-cut text line rest lacks parts = ap lines_of parts ∙ line_cut line rest (recursion_from_All _ line lacks)
 
 -- a text without a line feed is one line
@@ -42,24 +43,31 @@ words_alone line lacks = slice_split_none (λ b. b == 32) line lacks
 pub is_whole : {A : Type 0} (o : Option A) (view : A → List ℕ) (text part : List ℕ) (at : ℕ)
     → MatchOption o (text ≡ part) (λ rest. text ≡ part ++ at ∷ view rest) → o ≡ None → text ≡ part
 is_whole {A} o view text part at cut e =
-    let P : Option A → Type 0 = λ x. MatchOption x (text ≡ part) (λ rest. text ≡ part ++ at ∷ view rest) in subst P e cut
+    let P : Option A → Type 0 = λ x. MatchOption x (text ≡ part) (λ rest. text ≡ part ++ at ∷ view rest) in
+    subst P e cut
 
 -- what a cut says where the byte is there
 pub has_rest : {A : Type 0} (o : Option A) (view : A → List ℕ) (text part : List ℕ) (at : ℕ) (rest : A)
-    → MatchOption o (text ≡ part) (λ rest. text ≡ part ++ at ∷ view rest) → o ≡ Some rest → text ≡ part ++ at ∷ view rest
+    → MatchOption o (text ≡ part) (λ rest. text ≡ part ++ at ∷ view rest) → o ≡ Some rest
+    → text ≡ part ++ at ∷ view rest
 has_rest {A} o view text part at rest cut e =
-    let P : Option A → Type 0 = λ x. MatchOption x (text ≡ part) (λ rest. text ≡ part ++ at ∷ view rest) in subst P e cut
+    let P : Option A → Type 0 = λ x. MatchOption x (text ≡ part) (λ rest. text ≡ part ++ at ∷ view rest) in
+    subst P e cut
 
 -- a text that isn't empty has a first line
-pub has_line : {A : Type 0} (o : Option A) (view : A → List ℕ) (text line : List ℕ) → 0 < length text → LacksByte 10 line
-    → MatchOption o (text ≡ line) (λ rest. text ≡ line ++ 10 ∷ view rest) → (more : List (List ℕ)) × (lines_of text ≡ line ∷ more)
+pub has_line : {A : Type 0} (o : Option A) (view : A → List ℕ) (text line : List ℕ) → 0 < length text
+    → LacksByte 10 line
+    → MatchOption o (text ≡ line) (λ rest. text ≡ line ++ 10 ∷ view rest) → (more : List (List ℕ))
+    × (lines_of text ≡ line ∷ more)
 has_line None view text line some lacks whole =
     let P : List ℕ → Type 0 = λ t. LacksByte 10 t in
     ([], lines_of-alone text some (subst P (sym whole) lacks) ∙ ap (λ t. t ∷ []) whole)
-has_line (Some rest) view text line some lacks whole = (lines_of (view rest), lines_of-cut text line (view rest) lacks whole)
+has_line (Some rest) view text line some lacks whole =
+    (lines_of (view rest), lines_of-cut text line (view rest) lacks whole)
 
 -- the last line, where no line feed ends it
-pub last_line : (text line : List ℕ) → 0 < length text → LacksByte 10 line → text ≡ line → lines_of text ≡ line ∷ lines_of []
+pub last_line : (text line : List ℕ) → 0 < length text → LacksByte 10 line → text ≡ line
+    → lines_of text ≡ line ∷ lines_of []
 last_line text line some lacks whole =
     let P : List ℕ → Type 0 = λ t. LacksByte 10 t in
     lines_of-alone text some (subst P (sym whole) lacks) ∙ ap (λ t. t ∷ []) whole

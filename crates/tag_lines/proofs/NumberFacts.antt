@@ -15,7 +15,8 @@ and_false : (a b : Bool) → b ≡ false → (a && b) ≡ false
 and_false true b h = h
 and_false false b h = refl
 
-chosen : (limit value : ℕ) (numeral below : Bool) → (numeral && below) ≡ false → cond (numeral && below) (Some value) None ≡ None
+chosen : (limit value : ℕ) (numeral below : Bool) → (numeral && below) ≡ false
+    → cond (numeral && below) (Some value) None ≡ None
 chosen limit value numeral below h = ap (λ test. cond test (Some value) None) h
 
 -- a word that has another byte spells no number
@@ -39,10 +40,12 @@ small_enough limit word digits below =
     ∙ ap (λ test. cond test (Some (digits_value 10 word)) None) fits
 
 -- a digit that doesn't fit makes the number too large
-pub overflows : (word : List ℕ) (i value : ℕ) → i < length word → digits_value_after 10 value (drop i word) ≡ digits_value 10 word
+pub overflows : (word : List ℕ) (i value : ℕ) → i < length word
+    → digits_value_after 10 value (drop i word) ≡ digits_value 10 word
     → 2 ^ 64 ≤ value * 10 + digit_value (get_or word i 0) → number_below (2 ^ 64) word ≡ None
 overflows word i value within so_far large =
-    let step : digits_value_after 10 value (drop i word) ≡ digits_value_after 10 value (get_or word i 0 ∷ drop (i + 1) word) =
+    let step : digits_value_after 10 value (drop i word) ≡ digits_value_after 10 value
+    (get_or word i 0 ∷ drop (i + 1) word) =
     at_drop_more (digits_value_after 10 value) word i 0 within in
     let grow : value * 10 + digit_value (get_or word i 0) ≤ digits_value_after 10 (value * 10 + digit_value
     (get_or word i 0)) (drop (i + 1) word) =
@@ -51,7 +54,8 @@ overflows word i value within so_far large =
 
 -- when no digit is left the number is read
 pub is_read : (word : List ℕ) (i value : ℕ) → length word ≤ i → value < 2 ^ 64
-    → digits_value_after 10 value (drop i word) ≡ digits_value 10 word → all_ascii_digits (drop i word) ≡ all_ascii_digits word
+    → digits_value_after 10 value (drop i word) ≡ digits_value 10 word
+    → all_ascii_digits (drop i word) ≡ all_ascii_digits word
     → number_below (2 ^ 64) word ≡ Some value
 is_read word i value done fits so_far digits =
     let number : value ≡ digits_value 10 word = sym (at_drop_all (digits_value_after 10 value) word i done) ∙ so_far in

@@ -11,12 +11,14 @@ use Rattle.tag_lines.specs.Readings.{readings, AreReadings, IsFirstFaulty}
 -- the first line, and then the others
 first_reading : {A : Type 0} (says : List (List ℕ)
     → Result A LineFault) (text line : List ℕ) (more : List (List ℕ)) (said : Result A LineFault)
-    → lines_of text ≡ line ∷ more → says (words_of line) ≡ said → readings says text ≡ said ∷ map (λ l. says (words_of l)) more
+    → lines_of text ≡ line ∷ more → says (words_of line) ≡ said
+    → readings says text ≡ said ∷ map (λ l. says (words_of l)) more
 first_reading says text line more said lines e =
     ap (map (λ l. says (words_of l))) lines ∙ ap (λ first. first ∷ map (λ l. says (words_of l)) more) e
 
 -- a line that says something goes from the rest to what was said
-pub said_on : {A : Type 0} (says : List (List ℕ) → Result A LineFault) (text rest line rest' : List ℕ) (items : List A) (item : A)
+pub said_on : {A : Type 0} (says : List (List ℕ) → Result A LineFault) (text rest line rest' : List ℕ) (items : List A)
+    (item : A)
     → map Ok items ++ readings says rest ≡ readings says text → lines_of rest ≡ line ∷ lines_of rest'
     → says (words_of line) ≡ Ok item
     → map Ok (items ++ item ∷ []) ++ readings says rest' ≡ readings says text
@@ -28,7 +30,8 @@ said_on says text rest line rest' items item said lines e =
 -- a line that says nothing is the first faulty one
 pub first_faulty : {A : Type 0} (says : List (List ℕ)
     → Result A LineFault) (text rest line : List ℕ) (more : List (List ℕ)) (items : List A)
-    (cause : LineFault) (number : ℕ) → map Ok items ++ readings says rest ≡ readings says text → lines_of rest ≡ line ∷ more
+    (cause : LineFault) (number : ℕ) → map Ok items ++ readings says rest ≡ readings says text
+    → lines_of rest ≡ line ∷ more
     → says (words_of line) ≡ Err cause → number ≡ length items + 1
     → IsFirstFaulty says text (record { number = number; cause = cause })
 first_faulty says text rest line more items cause number said lines e place = record {
@@ -38,12 +41,15 @@ first_faulty says text rest line more items cause number said lines e place = re
   number = place;
 }
 
-module _ {A : Type 0} (P : A → Type 0) (says : List (List ℕ) → Result A LineFault) (each : (words : List (List ℕ)) → IfOk (says words) P) where
-  each_line : (lines : List (List ℕ)) → AllByRecursion (λ (said : Result A LineFault). IfOk said P) (map (λ line. says (words_of line)) lines)
+module _ {A : Type 0} (P : A → Type 0) (says : List (List ℕ) → Result A LineFault)
+    (each : (words : List (List ℕ)) → IfOk (says words) P) where
+  each_line : (lines : List (List ℕ))
+      → AllByRecursion (λ (said : Result A LineFault). IfOk said P) (map (λ line. says (words_of line)) lines)
   each_line [] = tt
   each_line (line ∷ lines) = (each (words_of line), each_line lines)
 
-  each_item : (items : List A) → AllByRecursion (λ (said : Result A LineFault). IfOk said P) (map Ok items) → AllByRecursion P items
+  each_item : (items : List A) → AllByRecursion (λ (said : Result A LineFault). IfOk said P) (map Ok items)
+      → AllByRecursion P items
   each_item [] h = tt
   each_item (item ∷ items) (first, others) = (first, each_item items others)
 

@@ -1,4 +1,4 @@
--- The table of lines that spell events.
+-- The table of event lines.
 use Rattle.std.specs.Prelude.{ℕ, ◌^◌, List, [], ◌∷◌, if◌then◌else◌, Option, Some, None, Result, Ok, Err, codes}
 use Rattle.std.specs.Str.{bytes_eq}
 use Rattle.tag_model.specs.declared.event.Event.{Event}
@@ -11,7 +11,7 @@ use Rattle.tag_lines.specs.declared.event_list.Masked.{Masked}
 use Rattle.tag_lines.specs.declared.event_list.Masked.TheVariants.{Win, Give}
 use Rattle.tag_lines.specs.Lines.{number_below}
 
--- the names of the events on a tag or a word
+-- the kind of event with this name, among those on one tag or one word
 abbrev pub single_of : List ℕ → Option Single
 single_of name =
     if bytes_eq name (codes "put") then Some Put else
@@ -20,9 +20,10 @@ single_of name =
     (if bytes_eq name (codes "post") then Some Post else
     (if bytes_eq name (codes "take") then Some Take else None))))
 
--- the names of the events on a mask
+-- the kind of event with this name, among those on a mask
 abbrev pub masked_of : List ℕ → Option Masked
-masked_of name = if bytes_eq name (codes "win") then Some Win else (if bytes_eq name (codes "give") then Some Give else None)
+masked_of name = if bytes_eq name (codes "win") then Some Win else
+    (if bytes_eq name (codes "give") then Some Give else None)
 
 -- the event of a caller on a tag or a word
 abbrev pub single_event : Single → ℕ → ℕ → Event
@@ -37,7 +38,7 @@ abbrev pub masked_event : Masked → ℕ → ℕ → ℕ → Event
 masked_event Win caller word mask = events.Win caller word mask
 masked_event Give caller word mask = events.Give caller word mask
 
--- an unknown name is told before a number
+-- an unknown name is reported before a bad number
 abbrev pub single_line : Option Single → Option ℕ → Option ℕ → Result Event LineFault
 single_line None caller on = Err BadLine
 single_line (Some kind) None on = Err BadNumber
@@ -51,12 +52,14 @@ masked_line (Some kind) (Some caller) None mask = Err BadNumber
 masked_line (Some kind) (Some caller) (Some word) None = Err BadNumber
 masked_line (Some kind) (Some caller) (Some word) (Some mask) = Ok (masked_event kind caller word mask)
 
--- the event that the words of a line spell. A line with an empty word has no words
+-- the event that the words of a line describe; a line with an empty word counts as having no words
 abbrev pub event_of : List (List ℕ) → Result Event LineFault
 event_of [] = Err BadLine
 event_of (name ∷ []) = if bytes_eq name (codes "look") then Ok events.Look else Err BadLine
 event_of (name ∷ caller ∷ []) = Err BadLine
-event_of (name ∷ caller ∷ on ∷ []) = single_line (single_of name) (number_below (2 ^ 32) caller) (number_below (2 ^ 32) on)
+event_of (name ∷ caller ∷ on ∷ []) = single_line (single_of name) (number_below (2 ^ 32) caller)
+    (number_below (2 ^ 32) on)
 event_of (name ∷ caller ∷ word ∷ mask ∷ []) =
-    masked_line (masked_of name) (number_below (2 ^ 32) caller) (number_below (2 ^ 32) word) (number_below (2 ^ 64) mask)
+    masked_line (masked_of name) (number_below (2 ^ 32) caller) (number_below (2 ^ 32) word)
+    (number_below (2 ^ 64) mask)
 event_of (name ∷ caller ∷ word ∷ mask ∷ more ∷ rest) = Err BadLine

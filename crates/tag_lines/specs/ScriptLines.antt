@@ -1,4 +1,4 @@
--- The table of lines that spell the orders of a script.
+-- The table of the lines of a script, one order per line.
 use Rattle.std.specs.Prelude.{ℕ, ◌^◌, ◌<◌, List, [], ◌∷◌, if◌then◌else◌, nat_lt, Option, Some, None, Result, Ok, Err, codes}
 use Rattle.std.specs.Str.{bytes_eq}
 use Rattle.tag_lines.specs.declared.dialect.Dialect.{Dialect}
@@ -13,7 +13,7 @@ use Rattle.tag_lines.specs.declared.order.Order.{Order}
 use Rattle.tag_lines.specs.Dialects.{only_shared}
 use Rattle.tag_lines.specs.Lines.{number_below, numbers_below}
 
--- the commands that stand alone
+-- the command with this name, among those without an argument
 abbrev pub lone_of : Dialect → List ℕ → Option Command
 lone_of dialect name =
     if bytes_eq name (codes "get") then Some commands.Get else
@@ -25,7 +25,7 @@ lone_of dialect name =
     (if bytes_eq name (codes "leave") then only_shared dialect commands.Leave else
     (if bytes_eq name (codes "wakes") then only_shared dialect commands.Wakes else None)))))))
 
--- the commands that a number follows
+-- the kind of command with this name, among those with a number as their argument
 abbrev pub numbered_of : Dialect → List ℕ → Option Numbered
 numbered_of dialect name =
     if bytes_eq name (codes "shallow") then Some Shallow else
@@ -35,17 +35,17 @@ numbered_of dialect name =
     (if bytes_eq name (codes "take") then only_shared dialect Take else
     (if bytes_eq name (codes "resize") then only_shared dialect Resize else None)))))
 
--- the commands that the word `reserved` follows
+-- the command with this name, among those with the word `reserved` as their argument
 abbrev pub reserved_of : Dialect → List ℕ → Option Command
 reserved_of dialect name =
     if bytes_eq name (codes "show") then only_shared dialect commands.ShowReserved else
     (if bytes_eq name (codes "dump") then only_shared dialect commands.DumpReserved else None)
 
--- the command of a name and another word that is no number
+-- the command with this name and this argument, which is not a number
 abbrev pub worded_of : Dialect → List ℕ → List ℕ → Option Command
 worded_of dialect name word = if bytes_eq word (codes "reserved") then reserved_of dialect name else None
 
--- the command with its number
+-- the command of this kind with this number
 abbrev pub numbered_command : Numbered → ℕ → Command
 numbered_command Shallow number = commands.Shallow number
 numbered_command Batch number = commands.Batch number
@@ -54,7 +54,7 @@ numbered_command Post number = commands.Post number
 numbered_command Take number = commands.Take number
 numbered_command Resize number = commands.Resize number
 
--- a plain script has the command
+-- a plain script may use the command
 abbrev pub IsPlain : Command → Type 0
 IsPlain commands.Get = Unit {0}
 IsPlain commands.GetReserved = ⊥
@@ -74,12 +74,12 @@ IsPlain commands.Dump = Unit {0}
 IsPlain commands.DumpReserved = ⊥
 IsPlain (commands.Resize total) = ⊥
 
--- a script of the dialect has the command
+-- a script in the dialect may use the command
 abbrev pub IsCommandOf : Dialect → Command → Type 0
 IsCommandOf Plain command = IsPlain command
 IsCommandOf Shared command = Unit {0}
 
--- a script of the dialect has the order's command, and the order's caller is one of so many
+-- a script in the dialect may use the order's command, and the caller's number is below `callers`
 pub record IsOrderOf (dialect : Dialect) (callers : ℕ) (order : Order) : Type 0 where
   pub command : IsCommandOf dialect order.command
   pub caller : order.caller < callers
@@ -89,7 +89,7 @@ abbrev pub ordered : ℕ → ℕ → Command → Result Order LineFault
 ordered callers caller command =
     if nat_lt caller callers then Ok (record { caller = caller; command = command }) else Err NoSuchCaller
 
--- an unknown name is told before a number, and a number before the caller
+-- an unknown name is reported before a bad number, and a bad number before an unknown caller
 abbrev pub lone_line : ℕ → Option Command → Option ℕ → Result Order LineFault
 lone_line callers None caller = Err BadLine
 lone_line callers (Some command) None = Err BadNumber
@@ -101,28 +101,30 @@ numbered_line callers (Some kind) None number = Err BadNumber
 numbered_line callers (Some kind) (Some caller) None = Err BadNumber
 numbered_line callers (Some kind) (Some caller) (Some number) = ordered callers caller (numbered_command kind number)
 
--- the same of a list of numbers
+-- the same for a list of numbers
 abbrev pub listed_line : ℕ → Option ℕ → Option (List ℕ) → Result Order LineFault
 listed_line callers None tags = Err BadNumber
 listed_line callers (Some caller) None = Err BadNumber
 listed_line callers (Some caller) (Some tags) = ordered callers caller (commands.ClearBatch tags)
 
--- a command that one word follows: a command of two words, or else one with a number
+-- a command with one argument: the word `reserved` if the command takes it, otherwise a number
 abbrev pub word_line : ℕ → Option Command → Option Numbered → Option ℕ → Option ℕ → Result Order LineFault
 word_line callers (Some command) kind caller number = lone_line callers (Some command) caller
 word_line callers None kind caller number = numbered_line callers kind caller number
 
--- one word and no other behind it
+-- exactly one argument
 abbrev pub one_word_line : Dialect → ℕ → List ℕ → List ℕ → List ℕ → List (List ℕ) → Result Order LineFault
 one_word_line dialect callers caller name word [] =
-    word_line callers (worded_of dialect name word) (numbered_of dialect name) (number_below (2 ^ 32) caller) (number_below (2 ^ 32) word)
+    word_line callers (worded_of dialect name word) (numbered_of dialect name) (number_below (2 ^ 32) caller)
+    (number_below (2 ^ 32) word)
 one_word_line dialect callers caller name word (next ∷ more) = Err BadLine
 
--- the order that the words of a line spell, by one of so many callers. A line with an empty word has no words
+-- the order that a line's words describe, by a caller below `callers`; an empty word leaves the line without words
 abbrev pub order_of : Dialect → ℕ → List (List ℕ) → Result Order LineFault
 order_of dialect callers [] = Err BadLine
 order_of dialect callers (caller ∷ []) = Err BadLine
 order_of dialect callers (caller ∷ name ∷ []) = lone_line callers (lone_of dialect name) (number_below (2 ^ 32) caller)
 order_of dialect callers (caller ∷ name ∷ word ∷ more) =
-    if bytes_eq name (codes "clear-batch") then listed_line callers (number_below (2 ^ 32) caller) (numbers_below (2 ^ 32) (word ∷ more))
+    if bytes_eq name (codes "clear-batch") then listed_line callers (number_below (2 ^ 32) caller)
+    (numbers_below (2 ^ 32) (word ∷ more))
     else one_word_line dialect callers caller name word more

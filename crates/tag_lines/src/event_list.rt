@@ -1,4 +1,4 @@
-//! Lists of events, a line each.
+//! Lists of events, one per line.
 ghost use Rattle.std.specs.Prelude.{◌≡◌, ◌^◌, [], ◌∷◌, IfOk, IfErr};
 ghost use Rattle.tag_lines.specs.Lines.{words_of};
 ghost use Rattle.tag_lines.specs.Readings.{AreReadings, IsListFault};
@@ -10,23 +10,23 @@ use crate::numbers::{number, short_number};
 use std::alloc::Global;
 use tag_model::Event;
 
-/// The kinds of event that name a caller, and one tag or one word.
+/// The kinds of event that name a caller and one tag or one word.
 #[derive(Clone, Copy, Debug, PartialEq, Eq)]
 pub enum Single {
-    /// Of a tag that the caller holds.
+    /// On a tag that the caller holds.
     Put,
-    /// Of a word.
+    /// On a word.
     Sweep,
-    /// Of a word.
+    /// On a word.
     Spill,
-    /// Of a tag that the caller holds.
+    /// On a tag that the caller holds.
     Post,
-    /// Of a posted tag.
+    /// On a posted tag.
     Take,
 }
 
 impl Single {
-    /// The kind that goes by this name.
+    /// The kind with this name.
     fn named(name: &[u8]) -> Option<Single>
         ensures { result ≡ single_of name.now }
     {
@@ -62,14 +62,14 @@ impl Single {
 /// The kinds of event that name a caller, a word and a mask.
 #[derive(Clone, Copy, Debug, PartialEq, Eq)]
 pub enum Masked {
-    /// Of free tags.
+    /// On free tags.
     Win,
-    /// Of tags that the caller holds.
+    /// On tags that the caller holds.
     Give,
 }
 
 impl Masked {
-    /// The kind that goes by this name.
+    /// The kind with this name.
     fn named(name: &[u8]) -> Option<Masked>
         ensures { result ≡ masked_of name.now }
     {
@@ -93,7 +93,7 @@ impl Masked {
     }
 }
 
-/// The events that the lines of a text spell, in order, or the first line that spells none.
+/// Reads a list of events, one per line: the events in order, or the first malformed line.
 pub fn events(alloc: Global, text: &[u8]) -> Result<Vec<Event>, ListFault>
     ensures events { IfOk result (λ events. AreReadings event_of text.now events.items) }
     ensures fault { IfErr result (IsListFault event_of text.now) }
@@ -120,7 +120,7 @@ pub fn events(alloc: Global, text: &[u8]) -> Result<Vec<Event>, ListFault>
     Ok(events)
 }
 
-// The event that a line spells.
+// Parses one line.
 fn event(line: &[u8]) -> Result<Event, LineFault>
     ensures { result ≡ event_of (words_of line.now) }
 {

@@ -2,19 +2,19 @@
 ghost use Rattle.std.specs.Prelude.{◌≡◌};
 ghost use Rattle.tag_lines.specs.Faults.{number_of_line_fault};
 
-/// What is wrong with a line. The causes are looked for in the order in which they stand here.
+/// What is wrong with a line. The causes are checked in this order.
 #[derive(Clone, Copy, Debug, PartialEq, Eq)]
 pub enum LineFault {
-    /// An empty word, too few words, an unknown command, or a wrong number of words after it.
+    /// An empty word, too few words, an unknown command, or the wrong number of words after it.
     BadLine,
-    /// A word in a number's place isn't all digits, or spells a number over its bound.
+    /// A word where a number is expected isn't all digits, or the number is over its bound.
     BadNumber,
-    /// No caller has the number.
+    /// There is no caller with this number.
     NoSuchCaller,
 }
 
 impl LineFault {
-    /// Its number in texts.
+    /// The number that stands for it in the output.
     pub fn number(self) -> u64
         ensures { result ≡ number_of_line_fault self }
     {
@@ -26,7 +26,7 @@ impl LineFault {
     }
 }
 
-/// The first line with a fault.
+/// The first malformed line.
 #[derive(Clone, Copy, Debug, PartialEq, Eq)]
 pub struct FaultyLine {
     /// The line's number, from 1.
@@ -38,8 +38,8 @@ pub struct FaultyLine {
 /// Why the lines of a text were not read.
 #[derive(Clone, Copy, Debug, PartialEq, Eq)]
 pub enum ListFault {
-    /// There was no memory for what they say.
+    /// Memory ran out.
     Memory,
-    /// This line, the first with a fault, says nothing.
+    /// This is the first malformed line.
     Faulty(FaultyLine),
 }

@@ -1,4 +1,4 @@
-//! How lines read: the words of a line, the numbers, orders and events that they spell.
+//! Parses lines: a line into words, and words into numbers, orders and events.
 #![tactic(auto)]
 
 mod dialect;

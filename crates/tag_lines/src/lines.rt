@@ -1,17 +1,17 @@
-//! Lines of a text and words of a line, one after another.
+//! Splits a text into lines, and a line into words.
 ghost use Rattle.std.specs.Prelude.{◌≡◌, ◌<◌, ◌++◌, [], ◌∷◌, length, IfSome, MatchOption};
 ghost use Rattle.tag_lines.specs.Lines.{parts_of, has_gap, LacksByte};
 
-/// The most bytes of a text that is read: 16 MiB.
+/// The largest text that is read, in bytes: 16 MiB.
 pub const MAX_INPUT: usize = 16_777_216;
 
-/// What ends a line.
+/// The byte that ends a line.
 pub const LINE_FEED: u8 = b'\n';
 
-/// What parts two words of a line.
+/// The byte that separates the words of a line.
 pub const BLANK: u8 = b' ';
 
-/// The part of the text before the first such byte, and the part after that byte, if it occurs.
+/// Splits the text at the first byte `at` into what precedes and what follows it. Without one: all of it, and `None`.
 pub fn cut(text: &[u8], at: u8) -> (&[u8], Option<&[u8]>)
     ensures part { LacksByte at result.0.now }
     ensures whole { MatchOption result.1 (text.now ≡ result.0.now) (λ rest. text.now ≡ result.0.now ++ at ∷ rest.now) }
@@ -23,7 +23,7 @@ pub fn cut(text: &[u8], at: u8) -> (&[u8], Option<&[u8]>)
     }
 }
 
-/// Whether the line has an empty part: a blank begins or ends it, or two blanks stand together. An empty line is one empty part.
+/// Whether the line has an empty part: it is empty, starts or ends with a blank, or has two blanks in a row.
 pub fn has_gap(line: &[u8]) -> bool
     ensures { result ≡ has_gap (parts_of line.now) }
 {

@@ -1,8 +1,8 @@
-//! Numbers as words spell them.
+//! Decimal numbers.
 ghost use Rattle.std.specs.Prelude.{◌≡◌, ◌+◌, ◌*◌, ◌^◌, ◌≤◌, MatchOption};
 ghost use Rattle.tag_lines.specs.Lines.{number_below};
 
-/// The number that a word spells in decimal digits alone, if it fits 64 bits. No word of a line is empty.
+/// Parses a word of decimal digits only, if its value fits in 64 bits. The words of a line are never empty.
 pub fn number(word: &[u8]) -> Option<u64>
     ensures { result ≡ number_below (2 ^ 64) word.now }
 {
@@ -29,7 +29,7 @@ fn with_digit(value: u64, digit: u8) -> Option<u64>
     }
 }
 
-/// The number that a word spells in decimal digits alone, if it fits 32 bits.
+/// Parses a word of decimal digits only, if its value fits in 32 bits.
 pub fn short_number(word: &[u8]) -> Option<u32>
     ensures { result ≡ number_below (2 ^ 32) word.now }
 {

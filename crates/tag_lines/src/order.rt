@@ -1,4 +1,4 @@
-//! The orders of a script, a line each.
+//! The orders of a script, one per line.
 ghost use Rattle.std.specs.Prelude.{◌≡◌, ◌^◌, [], ◌∷◌, IfOk};
 ghost use Rattle.tag_lines.specs.Lines.{words_of, number_below};
 ghost use Rattle.tag_lines.specs.ScriptLines.{order_of, lone_of, numbered_of, worded_of, numbered_command};
@@ -14,43 +14,43 @@ use std::alloc::{AllocError, Global};
 /// What a caller asks for.
 #[derive(Debug, Drop)]
 pub enum Command {
-    /// A free tag.
+    /// Gets a free tag.
     Get,
-    /// A free reserved tag.
+    /// Gets a free reserved tag.
     GetReserved,
-    /// A free tag among so many of the whole map.
+    /// Gets a free tag, limited to this many tags of the whole map.
     Shallow(u32),
-    /// So many tags side by side, as far as they are free.
+    /// Gets this many adjacent tags, or those of them that are free.
     Batch(u32),
-    /// This tag is given back.
+    /// Gives this tag back.
     Clear(u32),
-    /// These tags are given back at once.
+    /// Gives these tags back at once.
     ClearBatch(TagList),
-    /// This tag is left for any caller to take.
+    /// Leaves this tag for any caller to take.
     Post(u32),
-    /// This tag, which was posted.
+    /// Takes this tag, which was posted.
     Take(u32),
-    /// The caller enters a group of those who wait for a tag.
+    /// Enters a group of callers that wait for a tag.
     Wait,
-    /// The caller leaves that group.
+    /// Leaves that group.
     Leave,
-    /// What was counted and charged, and where waiters stand.
+    /// Shows what was counted and charged, the group to be woken next, and how many wait.
     Wakes,
-    /// The sizes of the map, and how many of its tags are busy and how many are set aside.
+    /// Shows the sizes of the map, and how many of its tags are busy and how many are set aside.
     Show,
-    /// The same of the reserved tags.
+    /// The same for the reserved tags.
     ShowReserved,
-    /// The tags that are busy.
+    /// Lists the busy tags.
     Busy,
-    /// The tags that are busy, as bits.
+    /// Shows the busy tags as bits.
     Dump,
-    /// The same of the reserved tags.
+    /// The same for the reserved tags.
     DumpReserved,
-    /// So many tags in all from now on.
+    /// Resizes to this many tags in all.
     Resize(u32),
 }
 
-/// A command, and the caller who gives it.
+/// A command and the caller that gives it.
 #[derive(Debug, Drop)]
 pub struct Order {
     /// The caller's number, from 0.
@@ -60,7 +60,7 @@ pub struct Order {
 }
 
 impl Command {
-    /// The command that goes by this name alone.
+    /// The command with this name and no argument.
     fn named(dialect: Dialect, name: &[u8]) -> Option<Command>
         ensures { result ≡ lone_of dialect name.now }
     {
@@ -85,7 +85,7 @@ impl Command {
         }
     }
 
-    /// The command that goes by this name and the word behind it, where that is no number.
+    /// The command with this name and this argument, which is not a number.
     fn worded(dialect: Dialect, name: &[u8], word: &[u8]) -> Option<Command>
         ensures { result ≡ worded_of dialect name.now word.now }
     {
@@ -101,7 +101,7 @@ impl Command {
     }
 }
 
-/// The kinds of command that a number follows.
+/// The kinds of command with a number as their argument.
 #[derive(Clone, Copy, Debug, PartialEq, Eq)]
 pub enum Numbered {
     /// The number is a depth.
@@ -114,12 +114,12 @@ pub enum Numbered {
     Post,
     /// The number is a tag.
     Take,
-    /// The number is a count of tags in all.
+    /// The number is the total number of tags.
     Resize,
 }
 
 impl Numbered {
-    /// The kind that goes by this name.
+    /// The kind with this name.
     fn named(dialect: Dialect, name: &[u8]) -> Option<Numbered>
         ensures { result ≡ numbered_of dialect name.now }
     {
@@ -140,7 +140,7 @@ impl Numbered {
         }
     }
 
-    /// The command of this kind with the number.
+    /// The command of this kind with this number.
     fn command(self, number: u32) -> Command
         ensures { result ≡ numbered_command self number }
     {
@@ -155,7 +155,7 @@ impl Numbered {
     }
 }
 
-/// The order that a line spells, by one of so many callers, or what is wrong with the line.
+/// Parses a line as an order by a caller below `callers`, or reports what is wrong with the line.
 pub fn read_order(
     alloc: Global,
     dialect: Dialect,

@@ -1,4 +1,4 @@
-//! All lines of a script, before any is carried out.
+//! Reads all lines of a script before any is carried out.
 ghost use Rattle.std.specs.Prelude.{◌≡◌, ◌≤◌, length, vec_len, IfOk, IfErr};
 ghost use Rattle.tag_lines.specs.Readings.{AreReadings, IsListFault};
 ghost use Rattle.tag_lines.specs.ScriptLines.{order_of};
@@ -9,8 +9,8 @@ use crate::lines::{LINE_FEED, cut};
 use crate::order::{Order, read_order};
 use std::alloc::Global;
 
-/// The orders that the lines of a script spell, in order, or the first line that spells none. `dialect` tells which commands there
-/// are, and `callers` bounds the callers' numbers.
+/// Reads a script, one order per line: the orders in order, or the first malformed line. `dialect` says which commands
+/// there are, and `callers` bounds the callers' numbers.
 pub fn orders(
     alloc: Global,
     dialect: Dialect,

@@ -1,4 +1,4 @@
-//! Lists of tags, as a line names them.
+//! Lists of tags, as they appear in a line.
 ghost use Rattle.std.specs.Prelude.{◌≡◌, ◌^◌, IfOk};
 ghost use Rattle.tag_lines.specs.Lines.{parts_of, numbers_below};
 
@@ -7,7 +7,7 @@ use crate::numbers::short_number;
 use std::alloc::{AllocError, Global};
 use std::marker::Model;
 
-/// A list of tags. A clause sees the list. It is boxed, so that the orders of a script, most of which have none, are small.
+/// A list of tags. Contracts see the list itself. It is boxed because most orders have none, so that orders stay small.
 #[derive(Debug, Drop)]
 pub struct TagList(Box<Vec<u32>>);
 
@@ -28,7 +28,7 @@ impl TagList {
     }
 }
 
-/// The numbers that words spell, one blank between two of them, if each spells one that fits 32 bits.
+/// Parses numbers separated by single blanks, if each fits in 32 bits.
 pub fn read_tags(alloc: Global, words: &[u8]) -> Result<Option<TagList>, AllocError>
     ensures { IfOk result (λ tags. tags ≡ numbers_below (2 ^ 32) (parts_of words.now)) }
 {

@@ -1,4 +1,4 @@
-//! I/O logs that were read by hand.
+//! I/O logs whose reading was worked out by hand.
 
 use crate::{Io, IoKind, Log, LogCause, LogFault};
 use std::alloc::{AllocError, Global};
@@ -8,7 +8,7 @@ const SMALL: &[u8] =
     b"fio version 2 iolog\n/dev/loop0 add\n/dev/loop0 open\n/dev/loop0 write 0 4096\n\
 /dev/loop0 write 4096 4096\n/dev/loop0 read 0 8192\n/dev/loop0 sync 0 0\n/dev/loop0 close";
 
-// The lines behind a header.
+// The lines after a header.
 fn behind_header(alloc: Global, lines: &[u8]) -> Result<Vec<u8>, AllocError> {
     let mut text = b"fio version 2 iolog\n".to_vec(alloc)?;
     text.extend_from_slice(lines)?;
@@ -22,7 +22,7 @@ fn fault_of(alloc: Global, text: &[u8]) -> Option<LogFault> {
     }
 }
 
-// The fault of a line that has no such form.
+// A fault `BadLine` at this line.
 fn bad_line(line: u64) -> Option<LogFault> {
     Some(LogFault {
         line,

@@ -1,4 +1,4 @@
-//! Want of memory. Run with each allocation refused in turn, these tests still pass.
+//! Running out of memory. These tests must also pass with any one allocation refused (`rt try --test --fail-alloc N`).
 
 use crate::tests::plays::SETUP;
 use crate::tests::requests::opened;

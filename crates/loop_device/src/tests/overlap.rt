@@ -36,7 +36,7 @@ impl Began {
         }
     }
 
-    // Holds the caller until the mark is set. It fails where it isn't by the last turn.
+    // Holds the caller until the mark is set, and fails if it isn't by the last turn.
     fn hold_until(&self, mark: &AtomicBool) {
         for _ in 0..TURNS {
             if mark.load(SeqCst) {
@@ -58,7 +58,7 @@ fn mark_beside(marks: &[AtomicBool; 2], line: u64) -> &AtomicBool {
     if line == 3 { &marks[1] } else { &marks[0] }
 }
 
-// Holds the submitter of line 3 until its completion begins, and that until line 4 was submitted.
+// Holds the submitter of line 3 until its completion begins, and that completion until line 4 was submitted.
 #[derive(Drop)]
 struct Crossing(Began);
 
@@ -94,7 +94,7 @@ impl Gate for SideBySide {
     }
 }
 
-// Holds the first completion for all its turns. It fails where the other line was submitted meanwhile.
+// Holds the first completion for all its turns, and fails if the other line was submitted meanwhile.
 #[derive(Drop)]
 struct OneAtATime(Began);
 

@@ -16,7 +16,8 @@ loop-rest-init c = record {
 
 pub loop-rest-preserved-in-Some : goal.loop-rest-preserved-in-Some
 loop-rest-preserved-in-Some c =
-    let reads : Reads (progress_of c.loop-rest.reader) c.cut.result.0.now (progress_of c.read.new.self) = search rules in
+    let reads : Reads (progress_of c.loop-rest.reader) c.cut.result.0.now (progress_of c.read.new.self) =
+    search rules in
     let whole = has_rest c.cut.result.1 (λ r. r.now) c.loop-rest.rest.now c.cut.result.0.now 10 c.in-Some.after
     c.cut.ensures.whole c.in-Some.is in
     let lines = lines_of-cut c.loop-rest.rest.now c.cut.result.0.now c.in-Some.after.now c.cut.ensures.part whole in
@@ -24,30 +25,38 @@ loop-rest-preserved-in-Some c =
     record {
       read = read_on (lines_of c.args.body.now) (progress_of c.loop-rest.reader) (progress_of c.read.new.self)
           c.cut.result.0.now (lines_of c.in-Some.after.now)
-          (subst (λ ls. IsReadTo (lines_of c.args.body.now) (progress_of c.loop-rest.reader) ls) lines c.loop-rest.invariant.read) reads;
+          (subst (λ ls. IsReadTo (lines_of c.args.body.now)
+          (progress_of c.loop-rest.reader) ls) lines c.loop-rest.invariant.read) reads;
       room = omega (arith, reads.number, shorter, c.loop-rest.invariant.room);
     }
 
 pub loop-rest-preserved : goal.loop-rest-preserved
 loop-rest-preserved c =
-    let reads : Reads (progress_of c.loop-rest.reader) c.cut.result.0.now (progress_of c.read.new.self) = search rules in
+    let reads : Reads (progress_of c.loop-rest.reader) c.cut.result.0.now (progress_of c.read.new.self) =
+    search rules in
     let some : 0 < length c.loop-rest.rest.now = search rules in
-    let whole = is_whole c.cut.result.1 (λ r. r.now) c.loop-rest.rest.now c.cut.result.0.now 10 c.cut.ensures.whole c.in-None.is in
+    let whole = is_whole c.cut.result.1
+    (λ r. r.now) c.loop-rest.rest.now c.cut.result.0.now 10 c.cut.ensures.whole c.in-None.is in
     let lines = last_line c.loop-rest.rest.now c.cut.result.0.now some c.cut.ensures.part whole in
     record {
       read = read_on (lines_of c.args.body.now) (progress_of c.loop-rest.reader) (progress_of c.read.new.self)
           c.cut.result.0.now (lines_of [])
-          (subst (λ ls. IsReadTo (lines_of c.args.body.now) (progress_of c.loop-rest.reader) ls) lines c.loop-rest.invariant.read) reads;
+          (subst (λ ls. IsReadTo (lines_of c.args.body.now)
+          (progress_of c.loop-rest.reader) ls) lines c.loop-rest.invariant.read) reads;
       room = omega (arith, reads.number, some, c.loop-rest.invariant.room);
     }
 
 pub returns-in_err-read-clause-fault : goal.returns-in_err-read-clause-fault
 returns-in_err-read-clause-fault c =
     let some : 0 < length c.loop-rest.rest.now = search rules in
-    let lines = has_line c.cut.result.1 (λ r. r.now) c.loop-rest.rest.now c.cut.result.0.now some c.cut.ensures.part c.cut.ensures.whole in
-    let told : IfErr c.from_residual.result (Fails (progress_of c.loop-rest.reader) c.cut.result.0.now) = search rules in
-    faulty_in (lines_of c.args.body.now) (progress_of c.loop-rest.reader) c.cut.result.0.now lines.0 c.from_residual.result
-    (subst (λ ls. IsReadTo (lines_of c.args.body.now) (progress_of c.loop-rest.reader) ls) lines.1 c.loop-rest.invariant.read) told
+    let lines = has_line c.cut.result.1
+    (λ r. r.now) c.loop-rest.rest.now c.cut.result.0.now some c.cut.ensures.part c.cut.ensures.whole in
+    let told : IfErr c.from_residual.result (Fails (progress_of c.loop-rest.reader) c.cut.result.0.now) =
+    search rules in
+    faulty_in (lines_of c.args.body.now)
+    (progress_of c.loop-rest.reader) c.cut.result.0.now lines.0 c.from_residual.result
+    (subst (λ ls. IsReadTo (lines_of c.args.body.now)
+    (progress_of c.loop-rest.reader) ls) lines.1 c.loop-rest.invariant.read) told
 
 pub returns-clause-log : goal.returns-clause-log
 returns-clause-log c =

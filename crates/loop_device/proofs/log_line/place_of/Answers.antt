@@ -8,14 +8,16 @@ use Rattle.loop_device.proofs.log_line.place_of.Goals as goal
 
 pub returns-in_err-place : goal.returns-in_err-place
 returns-in_err-place c =
-    let found = position_from_yields_List (λ known. bytes_eq known.items c.args.name.now) _ _ c.position.result c.position.ensures.ran
+    let found = position_from_yields_List
+    (λ known. bytes_eq known.items c.args.name.now) _ _ c.position.result c.position.ensures.ran
     (YieldsList-from_slice c.args.names.now c.iter.ensures.rest) (λ x b q k. search (rules, tests)) in
     c.from_residual.ensures ∙ sym c.in_err-place.was ∙ found
     ∙ sym (position-map (λ known. known.items) (λ known. bytes_eq known c.args.name.now) c.args.names.now)
 
 pub returns : goal.returns
 returns c =
-    let found = position_from_yields_List (λ known. bytes_eq known.items c.args.name.now) _ _ c.position.result c.position.ensures.ran
+    let found = position_from_yields_List
+    (λ known. bytes_eq known.items c.args.name.now) _ _ c.position.result c.position.ensures.ran
     (YieldsList-from_slice c.args.names.now c.iter.ensures.rest) (λ x b q k. search (rules, tests)) in
     sym c.in_ok-place.was ∙ found
     ∙ sym (position-map (λ known. known.items) (λ known. bytes_eq known c.args.name.now) c.args.names.now)

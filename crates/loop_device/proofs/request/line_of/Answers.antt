@@ -22,4 +22,5 @@ returns-in-Err-clause-absent c none has =
     let parted : IsBinarySearchResult (λ (found : Io). nat_cmp found.line c.args.line) ios (Err gap) =
     c.in-Err.ensures.position (λ found. found.line) (answers_always _ _ _ (λ f a r g called. search rules)) in
     absent_between ios c.requires has.0 gap
-    (subst (λ line. IsBinarySearchResult (λ (found : Io). nat_cmp found.line line) ios (Err gap)) (sym has.2) parted) has.1
+    (subst (λ line. IsBinarySearchResult (λ (found : Io). nat_cmp found.line line) ios (Err gap))
+    (sym has.2) parted) has.1

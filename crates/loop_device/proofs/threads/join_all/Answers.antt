@@ -12,11 +12,13 @@ loop-handle-preserved g c =
     let tags = c.args.tags.now in
     let whole = subst (All (Promises tags)) c.in-Some.ensures.steps.0 was.rest in
     let hand = c.join-worked.result.hand in
-    let own : IsHandOf tags hand = subst (λ t. IsHandOf t hand) (whole 0 c.in-Some.handle (omega arith)) c.join-worked.ensures in
+    let own : IsHandOf tags hand =
+    subst (λ t. IsHandOf t hand) (whole 0 c.in-Some.handle (omega arith)) c.join-worked.ensures in
     let fewer = ap length c.in-Some.ensures.steps.0 in
     record {
       steps = (tt, tt);
-      back = subst (All (IsHandOf tags)) (sym c.push_reserved.ensures.items) (All-push (IsHandOf tags) c.loop-handle.back.items hand was.back own);
+      back = subst (All (IsHandOf tags)) (sym c.push_reserved.ensures.items)
+          (All-push (IsHandOf tags) c.loop-handle.back.items hand was.back own);
       rest = λ k d low. whole (suc k) d (omega arith);
       room = omega arith;
       len = omega arith;

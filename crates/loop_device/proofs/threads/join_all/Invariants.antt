@@ -7,7 +7,8 @@ use Rattle.loop_device.proofs.threads.join_all.Given as goal
 
 abbrev pub invariant-loop-handle : goal.invariant-loop-handle
 invariant-loop-handle g l = record {
-  steps : (goal.iterator-loop-handle g).can_next l.handle-iterator × (goal.iterator-loop-handle g).is_finite l.handle-iterator;
+  steps : (goal.iterator-loop-handle g).can_next l.handle-iterator
+      × (goal.iterator-loop-handle g).is_finite l.handle-iterator;
   back : All (IsHandOf l.tags) l.back.items;
   rest : All (Promises l.tags) (into_iter_items l.handle-iterator);
   room : vec_len l.back + into_iter_len l.handle-iterator ≤ vec_capacity l.back;

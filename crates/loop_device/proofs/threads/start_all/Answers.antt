@@ -19,33 +19,43 @@ loop-hand-preserved g c =
     elim c.if-len-wanted.branch [
       | then-len-wanted w ↦ let started = w.start_completer-started in
           let one : vec_len c.if-len-wanted.completers ≡ vec_len started.new.handles = ap vec_len w.completers-is in
-          let room : vec_capacity c.if-len-wanted.completers ≡ vec_capacity started.new.handles = ap vec_capacity w.completers-is in
-          let other : vec_len c.if-len-wanted.submitters ≡ vec_len c.loop-hand.submitters = ap vec_len w.submitters-is in
-          let other_room : vec_capacity c.if-len-wanted.submitters ≡ vec_capacity c.loop-hand.submitters = ap vec_capacity w.submitters-is in
+          let room : vec_capacity c.if-len-wanted.completers ≡ vec_capacity started.new.handles =
+          ap vec_capacity w.completers-is in
+          let other : vec_len c.if-len-wanted.submitters ≡ vec_len c.loop-hand.submitters =
+          ap vec_len w.submitters-is in
+          let other_room : vec_capacity c.if-len-wanted.submitters ≡ vec_capacity c.loop-hand.submitters =
+          ap vec_capacity w.submitters-is in
           let longer = started.ensures.len in
           let same = started.ensures.capacity in
           record {
             steps = (tt, tt);
             rest = λ k d low. whole (suc k) d (omega arith);
             pass = subst (IsPassOf shared.queue.now) (sym w.pass-is) started.ensures.pass;
-            completers = subst (λ (v : Vec (PromisedHandle Worked HandsBack) Global). All (Promises shared.tags.now) v.items) (sym w.completers-is) started.ensures.handles;
-            submitters = subst (λ (v : Vec (PromisedHandle Worked HandsBack) Global). All (Promises shared.tags.now) v.items) (sym w.submitters-is) was.submitters;
+            completers = subst (λ (v : Vec (PromisedHandle Worked HandsBack) Global).
+                All (Promises shared.tags.now) v.items) (sym w.completers-is) started.ensures.handles;
+            submitters = subst (λ (v : Vec (PromisedHandle Worked HandsBack) Global).
+                All (Promises shared.tags.now) v.items) (sym w.submitters-is) was.submitters;
             room = (omega arith, omega arith);
             len = omega arith;
           }
       | else-len-wanted w ↦ let started = w.start_submitter-started in
           let one : vec_len c.if-len-wanted.submitters ≡ vec_len started.new.handles = ap vec_len w.submitters-is in
-          let room : vec_capacity c.if-len-wanted.submitters ≡ vec_capacity started.new.handles = ap vec_capacity w.submitters-is in
-          let other : vec_len c.if-len-wanted.completers ≡ vec_len c.loop-hand.completers = ap vec_len w.completers-is in
-          let other_room : vec_capacity c.if-len-wanted.completers ≡ vec_capacity c.loop-hand.completers = ap vec_capacity w.completers-is in
+          let room : vec_capacity c.if-len-wanted.submitters ≡ vec_capacity started.new.handles =
+          ap vec_capacity w.submitters-is in
+          let other : vec_len c.if-len-wanted.completers ≡ vec_len c.loop-hand.completers =
+          ap vec_len w.completers-is in
+          let other_room : vec_capacity c.if-len-wanted.completers ≡ vec_capacity c.loop-hand.completers =
+          ap vec_capacity w.completers-is in
           let longer = started.ensures.len in
           let same = started.ensures.capacity in
           record {
             steps = (tt, tt);
             rest = λ k d low. whole (suc k) d (omega arith);
             pass = subst (IsPassOf shared.queue.now) (sym w.pass-is) started.ensures.pass;
-            completers = subst (λ (v : Vec (PromisedHandle Worked HandsBack) Global). All (Promises shared.tags.now) v.items) (sym w.completers-is) was.completers;
-            submitters = subst (λ (v : Vec (PromisedHandle Worked HandsBack) Global). All (Promises shared.tags.now) v.items) (sym w.submitters-is) started.ensures.handles;
+            completers = subst (λ (v : Vec (PromisedHandle Worked HandsBack) Global).
+                All (Promises shared.tags.now) v.items) (sym w.completers-is) was.completers;
+            submitters = subst (λ (v : Vec (PromisedHandle Worked HandsBack) Global).
+                All (Promises shared.tags.now) v.items) (sym w.submitters-is) started.ensures.handles;
             room = (omega arith, omega arith);
             len = omega arith;
           }

@@ -1,4 +1,5 @@
--- The new pass keeps the rule of the queue, what the thread has may go to it, and the new handle promises what the others do.
+-- The new pass keeps the rule of the queue, what the thread has may go to it, and the new handle promises what the
+-- others do.
 use contract.Lifetimes.{Lfts}
 use denote.Param.{param}
 use denote.Param.Send.{IsSend, IsSync, param_send, sendable}
@@ -30,7 +31,10 @@ pub another-mine-requires-clause-rule : goal.another-mine-requires-clause-rule
 another-mine-requires-clause-rule g c = forks _ _ _ _
 
 abbrev queue_row : Over → RattleType
-queue_row g = slotted.the_row (option.the_row u32-field.row) (doing.the_row u32-field.row worker.the_row) (turns.the_row (handed.the_row (param 1 g.row.B))) global.the_row (ruling.ghosts u32-field.row worker.the_row (handed.the_row (param 1 g.row.B)) (proto.ghosts (param 1 g.row.B) g.B.Tagged proto.no_dict) ruling.no_dict) heap.ghosts
+queue_row g = slotted.the_row (option.the_row u32-field.row) (doing.the_row u32-field.row worker.the_row)
+    (turns.the_row (handed.the_row (param 1 g.row.B))) global.the_row
+    (ruling.ghosts u32-field.row worker.the_row (handed.the_row (param 1 g.row.B))
+    (proto.ghosts (param 1 g.row.B) g.B.Tagged proto.no_dict) ruling.no_dict) heap.ghosts
 
 queue_shared : (g : Over) → IsSend (rows.B-row g.row.E g.row.B g.row.G g.row.R)
     → IsSync (rows.B-row g.row.E g.row.B g.row.G g.row.R) → IsSync (queue_row g)
@@ -39,42 +43,48 @@ queue_shared g sb yb = search (table_sync, sendable, crosses) depth 60
 goes : (g : Over) (κs : Lfts 14) → IsSend (rows.B-row g.row.E g.row.B g.row.G g.row.R)
     → IsSync (rows.B-row g.row.E g.row.B g.row.G g.row.R) → IsSync (rows.G-row g.row.E g.row.B g.row.G g.row.R)
     → IsSync (rows.R-row g.row.E g.row.B g.row.G g.row.R)
-    → IsSend (param 2 (lts.arg-1-2 g.row.E g.row.B g.row.G g.row.R g.E.laws g.B.laws g.G.laws g.R.laws g.B.Tagged g.B.Tagged-dict g.G.Gate g.G.Gate-dict g.R.Wait g.R.Wait-dict κs))
-goes g κs sb yb yg yr = param_send 2 (lts.arg-1-2 g.row.E g.row.B g.row.G g.row.R g.E.laws g.B.laws g.G.laws g.R.laws g.B.Tagged g.B.Tagged-dict g.G.Gate g.G.Gate-dict g.R.Wait g.R.Wait-dict κs) record {
-  owned = λ x vs vss. (
-    tt,
-    (
-      (tt, log_shared.shared x.0.now x.0.ref_ptr.0 x.0.ref_ptr.1 κs.1.1.1.1.1.1.0),
-      (
-        (tt, yg.shared x.1.now x.1.ref_ptr.0 x.1.ref_ptr.1 κs.1.1.1.1.1.1.1.0),
+    → IsSend (param 2 (lts.arg-1-2 g.row.E g.row.B g.row.G g.row.R g.E.laws g.B.laws g.G.laws g.R.laws g.B.Tagged
+    g.B.Tagged-dict g.G.Gate g.G.Gate-dict g.R.Wait g.R.Wait-dict κs))
+goes g κs sb yb yg yr = param_send 2
+    (lts.arg-1-2 g.row.E g.row.B g.row.G g.row.R g.E.laws g.B.laws g.G.laws g.R.laws g.B.Tagged g.B.Tagged-dict
+    g.G.Gate g.G.Gate-dict g.R.Wait g.R.Wait-dict κs) record {
+      owned = λ x vs vss. (
+        tt,
         (
-          (tt, tags_shared.shared x.2.now x.2.ref_ptr.0 x.2.ref_ptr.1 κs.1.1.1.1.1.1.1.1.0),
+          (tt, log_shared.shared x.0.now x.0.ref_ptr.0 x.0.ref_ptr.1 κs.1.1.1.1.1.1.0),
           (
-            (tt, (queue_shared g sb yb).shared x.3.now x.3.ref_ptr.0 x.3.ref_ptr.1 κs.1.1.1.1.1.1.1.1.1.0),
+            (tt, yg.shared x.1.now x.1.ref_ptr.0 x.1.ref_ptr.1 κs.1.1.1.1.1.1.1.0),
             (
-              (tt, store_shared.shared x.4.now x.4.ref_ptr.0 x.4.ref_ptr.1 κs.1.1.1.1.1.1.1.1.1.1.0),
+              (tt, tags_shared.shared x.2.now x.2.ref_ptr.0 x.2.ref_ptr.1 κs.1.1.1.1.1.1.1.1.0),
               (
-                (tt, flag_shared.shared x.5.now x.5.ref_ptr.0 x.5.ref_ptr.1 κs.1.1.1.1.1.1.1.1.1.1.1.0),
+                (tt, (queue_shared g sb yb).shared x.3.now x.3.ref_ptr.0 x.3.ref_ptr.1 κs.1.1.1.1.1.1.1.1.1.0),
                 (
-                  (tt, flag_shared.shared x.6.now x.6.ref_ptr.0 x.6.ref_ptr.1 κs.1.1.1.1.1.1.1.1.1.1.1.1.0),
+                  (tt, store_shared.shared x.4.now x.4.ref_ptr.0 x.4.ref_ptr.1 κs.1.1.1.1.1.1.1.1.1.1.0),
                   (
-                    (tt, yr.shared x.7.now x.7.ref_ptr.0 x.7.ref_ptr.1 κs.1.1.1.1.1.1.1.1.1.1.1.1.1.0),
-                    (hand_goes.owned x.8 vss.1.1.1.1.1.1.1.1.0, (pass_goes.owned x.9 vss.1.1.1.1.1.1.1.1.1.0, tt)),
+                    (tt, flag_shared.shared x.5.now x.5.ref_ptr.0 x.5.ref_ptr.1 κs.1.1.1.1.1.1.1.1.1.1.1.0),
+                    (
+                      (tt, flag_shared.shared x.6.now x.6.ref_ptr.0 x.6.ref_ptr.1 κs.1.1.1.1.1.1.1.1.1.1.1.1.0),
+                      (
+                        (tt, yr.shared x.7.now x.7.ref_ptr.0 x.7.ref_ptr.1 κs.1.1.1.1.1.1.1.1.1.1.1.1.1.0),
+                        (hand_goes.owned x.8 vss.1.1.1.1.1.1.1.1.0, (pass_goes.owned x.9 vss.1.1.1.1.1.1.1.1.1.0, tt)),
+                      ),
+                    ),
                   ),
                 ),
               ),
             ),
           ),
         ),
-      ),
-    ),
-  );
-  leaving = λ k x w. (tt, (tt, (tt, (tt, (tt, (tt, (tt, (tt, (hand_goes.leaving k x.8 _, (tt, tt))))))))));
-}
+      );
+      leaving = λ k x w. (tt, (tt, (tt, (tt, (tt, (tt, (tt, (tt, (hand_goes.leaving k x.8 _, (tt, tt))))))))));
+    }
 
 pub spawn_with-started-requires-send-F : goal.spawn_with-started-requires-send-F
-spawn_with-started-requires-send-F g c κs within = goes g κs c.type_bounds.send-B c.type_bounds.sync-B c.type_bounds.sync-G c.type_bounds.sync-R
+spawn_with-started-requires-send-F g c κs within =
+    goes g κs c.type_bounds.send-B c.type_bounds.sync-B c.type_bounds.sync-G c.type_bounds.sync-R
 
 pub returns-in-Ok-clause-handles : goal.returns-in-Ok-clause-handles
-returns-in-Ok-clause-handles g c = kept c.args.shared.now.tags.now c.args.handles.now.items c.push_reserved.new.self.items
-    c.in-Ok.handle c.requires.handles (ap (λ (promise : HandsBack). promise.0.now) c.in-Ok.ensures.ok) c.push_reserved.ensures.items
+returns-in-Ok-clause-handles g c =
+    kept c.args.shared.now.tags.now c.args.handles.now.items c.push_reserved.new.self.items
+    c.in-Ok.handle c.requires.handles
+    (ap (λ (promise : HandsBack). promise.0.now) c.in-Ok.ensures.ok) c.push_reserved.ensures.items

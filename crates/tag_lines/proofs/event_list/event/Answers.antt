@@ -9,7 +9,8 @@ use Rattle.tag_lines.proofs.event_list.event.Goals as goal
 pub returns-in-None : goal.returns-in-None
 returns-in-None c =
     let full = sym c.has_gap.ensures ∙ c.if-has_gap.false in
-    let whole = is_whole c.cut.result.1 (λ r. r.now) c.args.line.now c.cut.result.0.now 32 c.cut.ensures.whole c.in-None.is in
+    let whole = is_whole c.cut.result.1
+    (λ r. r.now) c.args.line.now c.cut.result.0.now 32 c.cut.ensures.whole c.in-None.is in
     c.lone_event.ensures ∙ sym (one_word event_of c.args.line.now full c.cut.result.0.now c.cut.ensures.part whole)
 
 pub returns-in-None-rest : goal.returns-in-None-rest

@@ -13,7 +13,8 @@ returns-in-Err-clause-fault c =
     c.cut.ensures.whole in
     first_faulty event_of c.args.text.now c.loop-rest.rest.now c.cut.result.0.now lines.0 c.loop-rest.events.items
     c.in-Err.cause (c.len.result + 1)
-    c.loop-rest.invariant.said lines.1 (sym c.event.ensures ∙ c.in-Err.is) (omega (arith, c.len.ensures, c.loop-rest.events.ok.0))
+    c.loop-rest.invariant.said lines.1 (sym c.event.ensures ∙ c.in-Err.is)
+    (omega (arith, c.len.ensures, c.loop-rest.events.ok.0))
 
 pub loop-rest-preserved-in-Some : goal.loop-rest-preserved-in-Some
 loop-rest-preserved-in-Some c =

@@ -13,7 +13,8 @@ use Rattle.tag_lines.proofs.order.read_order.Goals as goal
 pub returns-in-None : goal.returns-in-None
 returns-in-None c =
     let full = sym c.has_gap.ensures ∙ c.if-has_gap.false in
-    let whole = is_whole c.cut.result.1 (λ r. r.now) c.args.line.now c.cut.result.0.now 32 c.cut.ensures.whole c.in-None.is in
+    let whole = is_whole c.cut.result.1
+    (λ r. r.now) c.args.line.now c.cut.result.0.now 32 c.cut.ensures.whole c.in-None.is in
     sym (one_word (order_of c.args.dialect c.args.callers) c.args.line.now full c.cut.result.0.now c.cut.ensures.part whole)
 
 pub returns-in-None-rest : goal.returns-in-None-rest

@@ -14,7 +14,8 @@ returns-in-Ok-Err-clause-fault c =
     c.cut.ensures.whole in
     first_faulty (order_of c.args.dialect c.args.callers) c.args.text.now c.loop-rest.rest.now c.cut.result.0.now lines.0 c.loop-rest.orders.items
     c.in-Ok-Err.cause (c.len.result + 1)
-    c.loop-rest.invariant.said lines.1 (sym c.in-Ok-Err.ensures ∙ is_err) (omega (arith, c.len.ensures, c.loop-rest.orders.ok.0))
+    c.loop-rest.invariant.said lines.1 (sym c.in-Ok-Err.ensures ∙ is_err)
+    (omega (arith, c.len.ensures, c.loop-rest.orders.ok.0))
 
 pub loop-rest-preserved-in-Some : goal.loop-rest-preserved-in-Some
 loop-rest-preserved-in-Some c =

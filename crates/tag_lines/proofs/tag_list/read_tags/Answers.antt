@@ -6,21 +6,27 @@ use Rattle.tag_lines.proofs.tag_list.read_tags.Goals as goal
 
 pub returns-in-None : goal.returns-in-None
 returns-in-None c =
-    let words = first_word c.cut.result.1 (λ r. r.now) c.loop-tag.rest.now c.cut.result.0.now c.cut.ensures.part c.cut.ensures.whole in
+    let words = first_word c.cut.result.1
+    (λ r. r.now) c.loop-tag.rest.now c.cut.result.0.now c.cut.ensures.part c.cut.ensures.whole in
     sym (sym c.loop-tag.invariant
-    ∙ no_number c.loop-tag.tags.items c.loop-tag.rest.now c.cut.result.0.now words.0 words.1 (sym c.short_number.ensures ∙ c.in-None.is))
+    ∙ no_number c.loop-tag.tags.items c.loop-tag.rest.now c.cut.result.0.now words.0 words.1
+    (sym c.short_number.ensures ∙ c.in-None.is))
 
 pub returns-in-None-after : goal.returns-in-None-after
 returns-in-None-after c =
-    let boxed : c.in_ok-new-in-None-after.field-0.value.items ≡ c.loop-tag.tags.items ++ c.in-Some.tag ∷ [] = search rules in
-    let whole = is_whole c.cut.result.1 (λ r. r.now) c.loop-tag.rest.now c.cut.result.0.now 32 c.cut.ensures.whole c.in-None-after.is in
+    let boxed : c.in_ok-new-in-None-after.field-0.value.items ≡ c.loop-tag.tags.items ++ c.in-Some.tag ∷ [] =
+    search rules in
+    let whole = is_whole c.cut.result.1
+    (λ r. r.now) c.loop-tag.rest.now c.cut.result.0.now 32 c.cut.ensures.whole c.in-None-after.is in
     rw boxed (sym (sym c.loop-tag.invariant
-    ∙ number_last c.loop-tag.tags.items c.loop-tag.rest.now c.cut.result.0.now c.in-Some.tag c.cut.ensures.part whole (sym c.short_number.ensures ∙ c.in-Some.is)))
+    ∙ number_last c.loop-tag.tags.items c.loop-tag.rest.now c.cut.result.0.now c.in-Some.tag c.cut.ensures.part whole
+    (sym c.short_number.ensures ∙ c.in-Some.is)))
 
 pub loop-tag-preserved : goal.loop-tag-preserved
 loop-tag-preserved c =
     let pushed : c.push.new.self.items ≡ c.loop-tag.tags.items ++ c.in-Some.tag ∷ [] = search rules in
-    let whole = has_rest c.cut.result.1 (λ r. r.now) c.loop-tag.rest.now c.cut.result.0.now 32 c.in-Some-after.after c.cut.ensures.whole c.in-Some-after.is in
+    let whole = has_rest c.cut.result.1
+    (λ r. r.now) c.loop-tag.rest.now c.cut.result.0.now 32 c.in-Some-after.after c.cut.ensures.whole c.in-Some-after.is in
     ap (λ t. behind t (numbers_in c.in-Some-after.after.now)) pushed
     ∙ number_more c.loop-tag.tags.items c.loop-tag.rest.now c.cut.result.0.now c.in-Some-after.after.now c.in-Some.tag c.cut.ensures.part whole
     (sym c.short_number.ensures ∙ c.in-Some.is) ∙ c.loop-tag.invariant

@@ -10,13 +10,15 @@ use Rattle.loop_device.proofs.io.Log.read.Goals as goal
 pub returns-then-ne-clause-fault : goal.returns-then-ne-clause-fault
 returns-then-ne-clause-fault c =
     let other : bytes_eq c.cut.result.0.now (codes "fio version 2 iolog") ≡ false = search rules in
-    no_log c.args.text.now _ (no_header c.cut.result.1 (λ r. r.now) c.args.text.now c.cut.result.0.now c.cut.ensures.part
+    no_log c.args.text.now _ (no_header c.cut.result.1
+    (λ r. r.now) c.args.text.now c.cut.result.0.now c.cut.ensures.part
     c.cut.ensures.whole other) refl
 
 pub returns-in-Some-clause-log : goal.returns-in-Some-clause-log
 returns-in-Some-clause-log c =
     let same : bytes_eq c.cut.result.0.now (codes "fio version 2 iolog") ≡ true = search rules in
-    let whole = has_rest c.cut.result.1 (λ r. r.now) c.args.text.now c.cut.result.0.now 10 c.in-Some.body c.cut.ensures.whole c.in-Some.is in
+    let whole = has_rest c.cut.result.1
+    (λ r. r.now) c.args.text.now c.cut.result.0.now 10 c.in-Some.body c.cut.ensures.whole c.in-Some.is in
     let lines = lines_of-cut c.args.text.now c.cut.result.0.now c.in-Some.body.now c.cut.ensures.part whole in
     log_in c.args.text.now (lines_of c.in-Some.body.now) c.read_lines.result
     (has_body c.args.text.now c.cut.result.0.now (lines_of c.in-Some.body.now) lines same) c.read_lines.ensures.log
@@ -24,7 +26,8 @@ returns-in-Some-clause-log c =
 pub returns-in-Some-clause-fault : goal.returns-in-Some-clause-fault
 returns-in-Some-clause-fault c =
     let same : bytes_eq c.cut.result.0.now (codes "fio version 2 iolog") ≡ true = search rules in
-    let whole = has_rest c.cut.result.1 (λ r. r.now) c.args.text.now c.cut.result.0.now 10 c.in-Some.body c.cut.ensures.whole c.in-Some.is in
+    let whole = has_rest c.cut.result.1
+    (λ r. r.now) c.args.text.now c.cut.result.0.now 10 c.in-Some.body c.cut.ensures.whole c.in-Some.is in
     let lines = lines_of-cut c.args.text.now c.cut.result.0.now c.in-Some.body.now c.cut.ensures.part whole in
     fault_in c.args.text.now (lines_of c.in-Some.body.now) c.read_lines.result
     (has_body c.args.text.now c.cut.result.0.now (lines_of c.in-Some.body.now) lines same) c.read_lines.ensures.fault
@@ -32,7 +35,8 @@ returns-in-Some-clause-fault c =
 pub returns-in-None-clause-log : goal.returns-in-None-clause-log
 returns-in-None-clause-log c =
     let same : bytes_eq c.cut.result.0.now (codes "fio version 2 iolog") ≡ true = search rules in
-    let whole = is_whole c.cut.result.1 (λ r. r.now) c.args.text.now c.cut.result.0.now 10 c.cut.ensures.whole c.in-None.is in
+    let whole = is_whole c.cut.result.1
+    (λ r. r.now) c.args.text.now c.cut.result.0.now 10 c.cut.ensures.whole c.in-None.is in
     let some : 0 < length c.args.text.now = omega (arith, ap length whole, some_header c.cut.result.0.now same) in
     let lines = last_line c.args.text.now c.cut.result.0.now some c.cut.ensures.part whole in
     log_in c.args.text.now (lines_of []) c.read_lines-in-None.result
@@ -41,7 +45,8 @@ returns-in-None-clause-log c =
 pub returns-in-None-clause-fault : goal.returns-in-None-clause-fault
 returns-in-None-clause-fault c =
     let same : bytes_eq c.cut.result.0.now (codes "fio version 2 iolog") ≡ true = search rules in
-    let whole = is_whole c.cut.result.1 (λ r. r.now) c.args.text.now c.cut.result.0.now 10 c.cut.ensures.whole c.in-None.is in
+    let whole = is_whole c.cut.result.1
+    (λ r. r.now) c.args.text.now c.cut.result.0.now 10 c.cut.ensures.whole c.in-None.is in
     let some : 0 < length c.args.text.now = omega (arith, ap length whole, some_header c.cut.result.0.now same) in
     let lines = last_line c.args.text.now c.cut.result.0.now some c.cut.ensures.part whole in
     fault_in c.args.text.now (lines_of []) c.read_lines-in-None.result
