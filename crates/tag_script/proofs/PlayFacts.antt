@@ -2,10 +2,10 @@
 use Rattle.std.proofs.Common.{◌≡◌, ℕ, ◌+◌, ◌≤◌, true, false, arith, Option, Some, None, is_some, List, [], ◌∷◌, ◌++◌, refl, ap, ◌∙◌, append-nil}
 use Rattle.std.proofs.lemmas.List.Concat.{flat_map-append}
 use Rattle.tag_lines.specs.declared.order.Order.{Order}
+use Rattle.tag_model.specs.declared.totals.Totals.{Totals}
 use Rattle.tag_script.specs.declared.answer.Answer.{Answer}
 use Rattle.tag_script.specs.declared.player.Player.{Player}
 use Rattle.tag_script.specs.Answers.{line_of, text_of}
-use Rattle.tag_script.specs.Commands.{ObeysOrder, AreTotals}
 use Rattle.tag_script.specs.Players.{solo_of}
 use Rattle.tag_script.specs.Plays.{Plays, over, obeyed, IsPlayed}
 use Rattle.tag_script.specs.Solo.{won_by}
@@ -38,16 +38,16 @@ plays_as R S f carry over = over
 plays_as R S f carry (obeyed {old = p} {between = q} {order = order} {answer = answer} first plays) =
     obeyed (carry p q order answer first) (plays_as R S f carry plays)
 
--- what a player has played is played in its world
-pub played_alone : (p : Player) (orders : List Order) (text : List ℕ)
-    → IsPlayed (λ q order answer r. ObeysOrder (solo_of q) order answer (solo_of r)) (λ q totals. AreTotals (solo_of q) totals) p orders text
-    → IsPlayed ObeysOrder AreTotals (solo_of p) orders text
-played_alone p orders text told = record {
+-- and so is its text
+pub played_as : {A B : Type 0} (S : B → Order → Answer → B → Type 0) (counts : B → Totals → Type 0) (f : A → B) (p : A)
+    (orders : List Order) (text : List ℕ)
+    → IsPlayed (λ q order answer r. S (f q) order answer (f r)) (λ q totals. counts (f q) totals) p orders text
+    → IsPlayed S counts (f p) orders text
+played_as S counts f p orders text told = record {
   said = told.said;
-  last = solo_of told.last;
+  last = f told.last;
   totals = told.totals;
-  plays = plays_as (λ (q : Player) order answer (r : Player). ObeysOrder (solo_of q) order answer (solo_of r)) ObeysOrder solo_of
-      (λ q r order answer h. h) told.plays;
+  plays = plays_as (λ q order answer r. S (f q) order answer (f r)) S f (λ q r order answer h. h) told.plays;
   counted = told.counted;
   text_is = told.text_is;
 }

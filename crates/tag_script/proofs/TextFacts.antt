@@ -1,5 +1,5 @@
 -- Texts that are put together from parts, and lists of what is below a number.
-use Rattle.std.proofs.Common.{◌≡◌, ℕ, suc, ◌+◌, Bool, true, false, cond, List, [], ◌∷◌, ◌++◌, map, ap, ◌∙◌, append_assoc, append-nil, arith}
+use Rattle.std.proofs.Common.{◌≡◌, ℕ, zero, suc, ◌+◌, ◌<◌, Bool, true, false, cond, List, [], ◌∷◌, ◌++◌, map, ap, ◌∙◌, append_assoc, append-nil, arith}
 use Rattle.std.specs.Prelude.{filter}
 use Rattle.std.proofs.lemmas.List.{map-append}
 use Rattle.std.proofs.lemmas.List.Elements.{filter-append}
@@ -26,3 +26,13 @@ filter_range-pass test n e = filter_range-next test n ∙ ap (λ (b : Bool). fil
 pub filter_range-fail : (test : ℕ → Bool) (n : ℕ) → test n ≡ false → filter test (range (n + 1)) ≡ filter test (range n)
 filter_range-fail test n e =
     filter_range-next test n ∙ ap (λ (b : Bool). filter test (range n) ++ cond b (n ∷ []) []) e ∙ append-nil (filter test (range n))
+
+-- numbers of which none passes add nothing
+pub filter_range-none : (test : ℕ → Bool) (n count : ℕ) → ((k : ℕ) → k < count → test (n + k) ≡ false)
+    → filter test (range (n + count)) ≡ filter test (range n)
+filter_range-none test n zero none =
+    let same : n + 0 ≡ n = omega arith in ap (λ (m : ℕ). filter test (range m)) same
+filter_range-none test n (suc count) none =
+    let last : n + suc count ≡ n + count + 1 = omega arith in
+    ap (λ (m : ℕ). filter test (range m)) last ∙ filter_range-fail test (n + count) (none count (omega arith))
+    ∙ filter_range-none test n count (λ k less. none k (omega arith))

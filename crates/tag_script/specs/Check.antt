@@ -14,8 +14,6 @@ use Rattle.tag_script.specs.declared.ending.Ending.{Ending}
 use Rattle.tag_script.specs.declared.ending.Ending.TheVariants.{Done, Refused}
 use Rattle.tag_script.specs.declared.check.Verdict.{Verdict}
 use Rattle.tag_script.specs.declared.check.Verdict.TheVariants.{Faulty, Setup, Stopped, Legal}
-use Rattle.tag_script.specs.declared.fault.Closed.{Closed}
-use Rattle.tag_script.specs.declared.fault.Closed.TheVariants as closed
 use Rattle.tag_script.specs.Faults.{number_of_event_fault}
 use Rattle.tag_lines.specs.Readings.{AreReadings, IsFirstFaulty}
 use Rattle.tag_lines.specs.EventList.{event_of}
@@ -36,11 +34,6 @@ IsSetupFault o faults.ShiftTooLarge = (o.tags ≤ MAX_DEPTH) × IsSomeAnd o.shif
 IsSetupFault o faults.CallerCount = (l : Layout) × IsLayoutOf o.tags o.shift l × ((o.callers ≡ 0) ⊎ (MAX_CALLERS < o.callers))
 IsSetupFault o faults.LifeTooLong = ⊥
 IsSetupFault o faults.CapTooLarge = ⊥
-
--- no memory, or such a cause
-abbrev pub IsClosed : CheckOptions → Closed → Type 0
-IsClosed o closed.Memory = Unit {0}
-IsClosed o (closed.Setup fault) = IsSetupFault o fault
 
 -- what a run of events says: line n has the event at place n - 1
 abbrev pub IsRunVerdict : Layout → ℕ → World → List Event → Verdict → Type 0

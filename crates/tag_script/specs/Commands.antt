@@ -15,20 +15,14 @@ use Rattle.tag_search.specs.Search.{Visit}
 use Rattle.tag_search.specs.Visits.{plain_visits}
 use Rattle.tag_sets.specs.declared.shown.Shown.{Shown}
 
--- what a get answers, or why it is refused
-abbrev pub get_answer : Result (Option ℕ) TagFault → Answer
-get_answer (Ok tag) = answers.Tag tag
-get_answer (Err fault) = answers.Refused fault
+-- what tells the outcome of a call: its answer, or why it is refused
+abbrev pub told : {A : Type 0} → (A → Answer) → Result A TagFault → Answer
+told tell (Ok outcome) = tell outcome
+told tell (Err fault) = answers.Refused fault
 
--- the same of a batch
-abbrev pub batch_answer : Result (Option (ℕ × ℕ)) TagFault → Answer
-batch_answer (Ok won) = answers.Batch won
-batch_answer (Err fault) = answers.Refused fault
-
--- the same of a clear, which has nobody to wake
-abbrev pub clear_answer : Result (Unit {0}) TagFault → Answer
-clear_answer (Ok done) = answers.Done 0
-clear_answer (Err fault) = answers.Refused fault
+-- the answer tells one of the outcomes that a call may have
+abbrev pub TellsOutcome : {A : Type 0} → (A → Answer) → (Result A TagFault → Type 0) → Answer → Type 0
+TellsOutcome {A} tell may answer = (outcome : Result A TagFault) × may outcome × (answer ≡ told tell outcome)
 
 -- what there is to show of a world
 abbrev pub shown_of : Solo → Shown
@@ -55,14 +49,12 @@ get_visits w = plain_visits w.layout w.hint.round_robin (reduced w.layout.depth 
 -- what a command answers in a world, and the world after it; a plain script has no other commands
 abbrev pub Obeys : Command → Solo → Answer → Solo → Type 0
 Obeys commands.Get old answer new = (tag : Option ℕ) × Gets (get_visits old) old tag new × (answer ≡ answers.Tag tag)
-Obeys (commands.Shallow depth) old answer new =
-    (outcome : Result (Option ℕ) TagFault) × GetsShallow depth old outcome new × (answer ≡ get_answer outcome)
-Obeys (commands.Batch n) old answer new =
-    (outcome : Result (Option (ℕ × ℕ)) TagFault) × Batches n old outcome new × (answer ≡ batch_answer outcome)
+Obeys (commands.Shallow depth) old answer new = TellsOutcome answers.Tag (λ outcome. GetsShallow depth old outcome new) answer
+Obeys (commands.Batch n) old answer new = TellsOutcome answers.Batch (λ outcome. Batches n old outcome new) answer
 Obeys (commands.Clear tag) old answer new =
-    (outcome : Result (Unit {0}) TagFault) × Clears tag old outcome new × (answer ≡ clear_answer outcome)
+    TellsOutcome (λ done. answers.Done 0) (λ outcome. Clears tag old outcome new) answer
 Obeys (commands.ClearBatch tags) old answer new =
-    (outcome : Result (Unit {0}) TagFault) × ClearsBatch tags old outcome new × (answer ≡ clear_answer outcome)
+    TellsOutcome (λ done. answers.Done 0) (λ outcome. ClearsBatch tags old outcome new) answer
 Obeys commands.Show old answer new = (new ≡ old) × (answer ≡ answers.Shown (shown_of old))
 Obeys commands.Busy old answer new = (new ≡ old) × (answer ≡ answers.Busy (busy_tags old))
 Obeys commands.Dump old answer new = (new ≡ old) × (answer ≡ answers.Dump (dump_bytes old))

@@ -9,6 +9,9 @@ pub mod Commands
 pub mod Plays
 pub mod Players
 pub mod PlayerLaws
+pub mod PlainScript
+pub mod SharedCommands
+pub mod SharedScript
 pub mod Script
 pub use Rattle.tag_lines.specs.Lines
 pub use Rattle.tag_lines.specs.Readings
@@ -27,3 +30,10 @@ pub use Rattle.tag_search.specs.Visits
 pub use Rattle.tag_search.specs.Hints
 pub use Rattle.tag_search.specs.Follows
 pub use Rattle.tag_sets.specs.Texts as SetTexts
+pub use Rattle.tag_board.specs.Boards
+pub use Rattle.tag_board.specs.Closing
+pub use Rattle.tag_board.specs.Looks
+pub use Rattle.tag_board.specs.Opening
+pub use Rattle.tag_board.specs.Replays
+pub use Rattle.tag_board.specs.Resizes
+pub use Rattle.tag_board.specs.States

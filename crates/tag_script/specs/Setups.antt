@@ -1,7 +1,10 @@
--- Which setups there are.
+-- Which setups there are, and why there is no world.
 use Rattle.std.specs.Prelude.{◌≡◌, ℕ, ◌≤◌, Option, IfSome}
 use Rattle.tag_layout.specs.Layout.{Layout, HasShift}
 use Rattle.tag_layout.specs.declared.layout.TheConstants.{MAX_DEPTH, MAX_SHIFT}
+use Rattle.tag_queue.specs.declared.fault.SetFault.{SetFault}
+use Rattle.tag_script.specs.declared.fault.Closed.{Closed}
+use Rattle.tag_script.specs.declared.fault.Closed.TheVariants.{Memory, Setup}
 
 -- so many tags, in words of the shift that was asked for, or of the default one
 pub record IsLayoutOf (tags : ℕ) (shift : Option ℕ) (l : Layout) : Type 0 where
@@ -9,3 +12,8 @@ pub record IsLayoutOf (tags : ℕ) (shift : Option ℕ) (l : Layout) : Type 0 wh
   pub few : tags ≤ MAX_DEPTH
   pub has_shift : HasShift tags shift l.shift
   pub narrow : IfSome shift (λ s. s ≤ MAX_SHIFT)
+
+-- no memory, or one of these causes
+abbrev pub IsClosed : (SetFault → Type 0) → Closed → Type 0
+IsClosed refuses Memory = Unit {0}
+IsClosed refuses (Setup fault) = refuses fault

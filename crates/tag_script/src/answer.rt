@@ -1,5 +1,6 @@
 //! What the commands of a script answer.
 
+use std::alloc::{AllocError, Global};
 use std::marker::Model;
 use tag_queue::ResizeCause;
 use tag_sets::{Left, Shown, TagFault, Wakes};
@@ -44,7 +45,29 @@ impl Model for BusyTags {
 }
 
 impl BusyTags {
-    ghost use Rattle.std.specs.Prelude.{◌≡◌};
+    ghost use Rattle.std.specs.Prelude.{◌≡◌, ◌^◌, ◌≤◌, length, IfOk};
+    ghost use Rattle.tag_script.specs.SharedCommands.{tags_in};
+
+    /// The numbers of the bits that are set.
+    pub fn of_bits(alloc: Global, bits: &[u64]) -> Result<BusyTags, AllocError>
+        requires { length bits.now ≤ 2 ^ 26 }
+        ensures { IfOk result (λ tags. tags ≡ tags_in bits.now) }
+    {
+        let mut tags = Vec::new(alloc);
+        for index in 0..bits.len() {
+            let word = bits[index];
+            // Most words of a large map have no busy tag.
+            if word == 0 {
+                continue;
+            }
+            for place in 0..64 {
+                if word & (1 << place) != 0 {
+                    tags.push((64 * index + place) as u32)?;
+                }
+            }
+        }
+        Ok(BusyTags::new(tags))
+    }
 
     /// These tags.
     pub fn new(tags: Vec<u32>) -> BusyTags

@@ -1,8 +1,8 @@
 //! Lists of events: whether they could have happened.
 ghost use Rattle.std.specs.Prelude.{◌≡◌, ◌++◌, IfOk, IfErr, OnOk};
 ghost use Rattle.tag_script.specs.Faults.{number_of_event_fault};
-ghost use Rattle.tag_script.specs.Setups.{IsLayoutOf};
-ghost use Rattle.tag_script.specs.Check.{HasCallers, IsClosed, IsRunVerdict, IsVerdict};
+ghost use Rattle.tag_script.specs.Setups.{IsClosed, IsLayoutOf};
+ghost use Rattle.tag_script.specs.Check.{HasCallers, IsRunVerdict, IsSetupFault, IsVerdict};
 ghost use Rattle.tag_script.specs.Check.{verdict_text, ending_of};
 ghost use Rattle.tag_model.specs.Kept.{callers_of, world_of};
 ghost use Rattle.tag_model.specs.World.{opened};
@@ -52,7 +52,7 @@ fn open(alloc: Global, options: &CheckOptions) -> Result<World, Closed>
     ensures layout { IfOk result (λ world. IsLayoutOf options.now.tags options.now.shift world.layout) }
     ensures callers { IfOk result (λ world. HasCallers options.now × (callers_of world ≡ options.now.callers)) }
     ensures all_free { IfOk result (λ world. world_of world ≡ opened) }
-    ensures fault { IfErr result (IsClosed options.now) }
+    ensures fault { IfErr result (IsClosed (IsSetupFault options.now)) }
 {
     let layout = match Layout::new(options.tags, options.shift) {
         Ok(layout) => layout,

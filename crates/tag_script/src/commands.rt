@@ -1,7 +1,7 @@
 //! The commands of a plain script.
 ghost use Rattle.std.specs.Prelude.{◌≡◌, ◌≤◌, IfOk, OnOk};
 ghost use Rattle.tag_lines.specs.ScriptLines.{IsPlain};
-ghost use Rattle.tag_script.specs.Commands.{Obeys, ObeysOrder, AreTotals, get_answer, batch_answer, clear_answer};
+ghost use Rattle.tag_script.specs.Commands.{Obeys, ObeysOrder, AreTotals};
 ghost use Rattle.tag_script.specs.Players.{solo_of, IsReadyFor, Counted};
 
 use crate::answer::Answer;
@@ -10,7 +10,6 @@ use crate::world::World;
 use std::alloc::AllocError;
 use tag_lines::{Command, Order};
 use tag_model::Totals;
-use tag_sets::TagFault;
 
 impl World for Player {
     ghost use Rattle.tag_script.specs.PlayerLaws.{ready_for_fewer};
@@ -53,42 +52,14 @@ impl Player {
     {
         match command {
             Command::Get => Ok(Answer::Tag(self.get())),
-            Command::Shallow(depth) => Ok(to_get(self.get_shallow(*depth))),
-            Command::Batch(n) => Ok(to_batch(self.get_batch(*n))),
-            Command::Clear(tag) => Ok(to_clear(self.clear(*tag))),
-            Command::ClearBatch(tags) => Ok(to_clear(self.clear_batch(tags.as_slice()))),
+            Command::Shallow(depth) => Ok(Answer::to_get(self.get_shallow(*depth))),
+            Command::Batch(n) => Ok(Answer::to_batch(self.get_batch(*n))),
+            Command::Clear(tag) => Ok(Answer::to_done(self.clear(*tag))),
+            Command::ClearBatch(tags) => Ok(Answer::to_done(self.clear_batch(tags.as_slice()))),
             Command::Show => Ok(Answer::Shown(self.shown())),
             Command::Busy => Ok(Answer::Busy(self.busy()?)),
             Command::Dump => Ok(Answer::Dump(self.dump()?)),
             _ => unreachable!(),
         }
-    }
-}
-
-fn to_get(outcome: Result<Option<u32>, TagFault>) -> Answer
-    ensures { result ≡ get_answer outcome }
-{
-    match outcome {
-        Ok(tag) => Answer::Tag(tag),
-        Err(fault) => Answer::Refused(fault),
-    }
-}
-
-fn to_batch(outcome: Result<Option<(u32, u64)>, TagFault>) -> Answer
-    ensures { result ≡ batch_answer outcome }
-{
-    match outcome {
-        Ok(won) => Answer::Batch(won),
-        Err(fault) => Answer::Refused(fault),
-    }
-}
-
-// Nobody waits in a plain script, so nobody is woken.
-fn to_clear(outcome: Result<(), TagFault>) -> Answer
-    ensures { result ≡ clear_answer outcome }
-{
-    match outcome {
-        Ok(()) => Answer::Done(0),
-        Err(fault) => Answer::Refused(fault),
     }
 }

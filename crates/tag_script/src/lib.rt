@@ -2,6 +2,7 @@
 #![tactic(auto)]
 
 mod answer;
+mod callers;
 mod check;
 mod clearing;
 mod commands;
@@ -10,9 +11,12 @@ mod fault;
 mod lines;
 mod listing;
 mod options;
+mod outcomes;
+mod plain;
 mod player;
 mod playing;
 mod script;
+mod shared;
 #[cfg(test)]
 mod tests;
 mod text;

@@ -10,12 +10,9 @@ use std::alloc::{AllocError, Global};
 use tag_lines::Order;
 use tag_model::Totals;
 
-/// Carries the orders out one after another. The text is what they answer, and the totals at the end.
-pub fn play<W: World + Drop>(
-    alloc: Global,
-    world: W,
-    orders: &[Order],
-) -> Result<Vec<u8>, AllocError>
+/// Carries the orders out one after another. The text is what they answer, and the totals at the end. Where memory runs out, the
+/// world still ends by its totals: it may own what can't be dropped.
+pub fn play<W: World>(alloc: Global, world: W, orders: &[Order]) -> Result<Vec<u8>, AllocError>
     requires ready { W.ready world (length orders.now) }
     requires known { All (W.knows world) orders.now }
     ensures { IfOk result (λ text. IsPlayed W.answers W.counts world orders.now text.items) }
@@ -24,8 +21,13 @@ pub fn play<W: World + Drop>(
     let mut world = world;
     for order in orders {
         let (answer, next) = world.obey(order)?;
-        answer.push_to(&mut text)?;
-        world = next;
+        match answer.push_to(&mut text) {
+            Ok(()) => world = next,
+            Err(fault) => {
+                next.totals();
+                return Err(fault);
+            }
+        }
     }
     push_total(&mut text, world.totals())?;
     Ok(text)

@@ -1,23 +1,23 @@
-//! Scripts: the commands of one caller, carried out one after another.
-ghost use Rattle.std.specs.Prelude.{◌≡◌, ◌≤◌, length, IfOk, IfErr};
-ghost use Rattle.tag_script.specs.Players.{solo_of};
-ghost use Rattle.tag_script.specs.Script.{IsSetup, IsUnopened, least_depth, Owed};
-ghost use Rattle.tag_script.specs.Solo.{opened};
+//! Scripts: commands of callers, carried out one after another.
+ghost use Rattle.std.specs.Prelude.{◌≤◌, length, IfOk, IfErr, All};
+ghost use Rattle.tag_lines.specs.ScriptLines.{IsOrderOf};
+ghost use Rattle.tag_script.specs.Script.{IsTold, IsRefusedSetup, Owed, dialect_of};
+ghost use Rattle.tag_script.specs.Setups.{IsClosed};
 
 use crate::ending::Ending;
 use crate::fault::Closed;
 use crate::options::ScriptOptions;
-use crate::player::Player;
-use crate::playing::play;
+use crate::plain::play_alone;
+use crate::shared::play_shared;
 use crate::text::{faulty_text, setup_text};
 use std::alloc::{AllocError, Global};
-use tag_layout::{Layout, MAX_DEPTH};
-use tag_lines::{Dialect, ListFault, MAX_INPUT, orders};
-use tag_sets::SetFault;
+use std::sync::Wait;
+use tag_lines::{ListFault, MAX_INPUT, Order, orders};
 
 /// What a script answers, and how it ended: the text of its first faulty line, else of a refused setup, else of its commands
 /// one after another, with the totals at the end. All lines are looked at before the setup, and both before any command.
-pub fn answer_script(
+pub fn answer_script<W: Wait>(
+    rt: &W,
     alloc: Global,
     options: &ScriptOptions,
     script: &[u8],
@@ -25,40 +25,33 @@ pub fn answer_script(
     requires { length script.now ≤ MAX_INPUT }
     ensures { IfOk result (λ (text, ending). Owed options.now script.now text.items ending) }
 {
-    let orders = match orders(alloc, Dialect::Plain, options.callers, script) {
+    let orders = match orders(alloc, options.dialect(), options.callers, script) {
         Ok(orders) => orders,
         Err(ListFault::Memory) => return Err(AllocError),
         Err(ListFault::Faulty(fault)) => return Ok((faulty_text(alloc, fault)?, Ending::Refused)),
     };
-    match open(alloc, options) {
-        Ok(player) => Ok((play(alloc, player, &orders)?, Ending::Done)),
+    match carry_out(rt, alloc, options, &orders) {
+        Ok(text) => Ok((text, Ending::Done)),
         Err(Closed::Memory) => Err(AllocError),
         Err(Closed::Setup(fault)) => Ok((setup_text(alloc, fault)?, Ending::Refused)),
     }
 }
 
-// The world that the options ask for: one caller, all tags free.
-fn open(alloc: Global, options: &ScriptOptions) -> Result<Player, Closed>
-    ensures setup { IfOk result (λ player. IsSetup options.now (solo_of player).layout) }
-    ensures opened { IfOk result (λ player. solo_of player
-        ≡ opened (solo_of player).layout options.now.round_robin (least_depth options.now.min_shallow)) }
-    ensures fault { IfErr result (IsUnopened options.now) }
+// What the orders are told, in the world that the options ask for.
+fn carry_out<W: Wait>(
+    rt: &W,
+    alloc: Global,
+    options: &ScriptOptions,
+    orders: &[Order],
+) -> Result<Vec<u8>, Closed>
+    requires known { All (IsOrderOf (dialect_of options.now.plain) options.now.callers) orders.now }
+    requires few { length orders.now ≤ MAX_INPUT }
+    ensures told { IfOk result (λ text. IsTold options.now.plain options.now orders.now text.items) }
+    ensures fault { IfErr result (IsClosed (IsRefusedSetup options.now.plain options.now)) }
 {
-    if options.tags > MAX_DEPTH {
-        return Err(Closed::Setup(SetFault::TotalTooLarge));
-    }
-    if options.reserved > 0 {
-        return Err(Closed::Setup(SetFault::ReservedTooLarge));
-    }
-    let Ok(layout) = Layout::new(options.tags, options.shift) else {
-        return Err(Closed::Setup(SetFault::ShiftTooLarge));
-    };
-    if options.callers != 1 {
-        return Err(Closed::Setup(SetFault::CallerCount));
-    }
-    let least = options.min_shallow.unwrap_or(1).max(1);
-    match Player::open(alloc, layout, options.round_robin, least) {
-        Ok(player) => Ok(player),
-        Err(_) => Err(Closed::Memory),
+    if options.plain {
+        play_alone(alloc, options, orders)
+    } else {
+        play_shared(rt, alloc, options, orders)
     }
 }

@@ -3,3 +3,4 @@ mod dumps;
 mod lists;
 mod refusals;
 mod scripts;
+mod shared;

@@ -10,21 +10,23 @@ const DEFAULT_LIFE: u64 = 281_474_976_710_656;
 /// The command line that the program takes.
 pub(crate) fn command<'a>(alloc: Global) -> Result<Command<'a>, AllocError> {
     let script = Command::new(alloc, "script")
-        .about("Carries out a script, one command a line, such as '0 get'")
+        .about(
+            "Carries out a script of callers that share tags, one command a line, such as '0 get'",
+        )
         .arg(tags(alloc))?
         .arg(count(alloc, "reserved", "R", "0").help(
-            "Number of reserved tags; so far any number but 0 is refused",
+            "How many of the N tags, the first ones, are reserved: only get-reserved takes them",
         ))?
         .arg(shift(alloc))?
         .arg(round_robin(alloc))?
         .arg(min_shallow(alloc))?
-        .arg(count(alloc, "callers", "C", "1").help(
-            "Number of callers; a script runs for caller 0 alone so far, and any number but 1 is refused",
-        ))?
+        .arg(count(alloc, "callers", "C", "1").help("Number of callers, 1 to 64, numbered from 0"))?
         .arg(life(alloc))?
         .arg(plain(alloc))?
         .after_help(
-            "Each line is the caller, 0, and a command: get, shallow D, batch N, clear T, clear-batch T1 T2 .., busy, show or dump.\n\
+            "Each line is a caller's number and a command: get, get-reserved, shallow D, batch N, clear T, clear-batch T1 T2 ..,\n\
+            post T, take T, wait, leave, wakes, busy, show, show reserved, dump, dump reserved or resize N.\n\
+            With --plain: get, shallow D, batch N, clear T, clear-batch T1 T2 .., busy, show or dump, all by caller 0.\n\
             Exit status: 0 done, 1 refused, 2 mistaken command line, 3 out of memory, input too long, or a read or write fault.",
         );
     let check = Command::new(alloc, "check")
@@ -171,14 +173,14 @@ fn life<'a>(alloc: Global) -> Arg<'a> {
         .value_name("L")
         .value_parser(value_parser!(u64))
         .default_value("281474976710656")
-        .help("Most tags that a caller may win; not enforced so far")
+        .help(
+            "Most tags of each set that a caller may win, at most 2^48; without effect under --plain",
+        )
 }
 
 fn plain<'a>(alloc: Global) -> Arg<'a> {
     Arg::new(alloc, "plain")
         .long("plain")
         .action(ArgAction::SetTrue)
-        .help(
-            "Runs over the plain words of one caller; so far a script does so without this option too",
-        )
+        .help("Runs over the plain words of one caller: no reserved tags, posts, waits or resizes")
 }

@@ -33,7 +33,7 @@ impl Choice {
         ensures answered { IsErrOf result RunFault.Write → HasAnswer (owed_by self.now) (R.remaining reader.old) }
     {
         match self {
-            Choice::Script(options) => run_script(alloc, options, reader, writer),
+            Choice::Script(options) => run_script(rt, alloc, options, reader, writer),
             Choice::Check(options) => run_check(alloc, options, reader, writer),
             Choice::Play(options) => run_play(rt, alloc, options, reader, writer),
         }
@@ -42,7 +42,8 @@ impl Choice {
 
 /// Reads a script, a command a line, and writes what the commands answer, a line or more each, with the totals at the
 /// end.
-pub fn run_script<R: Read, W: Write>(
+pub fn run_script<T: Wait, R: Read, W: Write>(
+    rt: &T,
     alloc: Global,
     options: &ScriptOptions,
     reader: &mut R,
@@ -55,7 +56,7 @@ pub fn run_script<R: Read, W: Write>(
     ensures answered { IsErrOf result RunFault.Write → HasAnswer (Owed options.now) (R.remaining reader.old) }
 {
     let input = read_whole(alloc, reader)?;
-    let Ok((text, ending)) = answer_script(alloc, options, &input) else {
+    let Ok((text, ending)) = answer_script(rt, alloc, options, &input) else {
         return Err(RunFault::Memory);
     };
     match writer.write_all(&text) {

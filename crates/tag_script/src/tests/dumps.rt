@@ -1,11 +1,12 @@
 //! The bits that a dump tells.
 use crate::ScriptOptions;
-use crate::tests::scripts::{expect, options};
+use crate::tests::scripts::{expect_both, options};
 use std::process::Abort;
+use std::sync::Wait;
 use std::test::*;
 
 // Takes so many tags of a map, gives some back, and compares the text behind the answers.
-fn expect_dump<R: Abort + AllocGlobal>(
+fn expect_dump<R: Abort + AllocGlobal + Wait>(
     rt: &R,
     map: &ScriptOptions,
     got: u32,
@@ -27,7 +28,7 @@ fn expect_dump<R: Abort + AllocGlobal>(
     let back = clears.len();
     let held = (got as usize).saturating_sub(back);
     write!(text, "total got={got} back={back} held={held} posted=0\n")?;
-    expect(rt, map, &script, &text)
+    expect_both(rt, map, &script, &text)
 }
 
 #[test]
@@ -52,7 +53,7 @@ fn a_dump_behind_batches(rt: HostRuntime) -> Result<(), Fail> {
     let text = "mask 18446744073709551615 at 0\nmask 18446744073709551615 at 64\n128\nok\n\
         00000000: fffd ffff ffff ffff ffff ffff ffff ffff\n00000010: 0100\n\
         total got=129 back=1 held=128 posted=0\n";
-    expect(&rt, &options(140, Some(6)), script, text)
+    expect_both(&rt, &options(140, Some(6)), script, text)
 }
 
 #[test]
@@ -70,11 +71,11 @@ fn offsets_are_hexadecimal(rt: HostRuntime) -> Result<(), Fail> {
         00000080: 0000 0000 0000 0000 0000 0000 0000 0000\n\
         00000090: 0000 0000 0000 0000 0000 0000 0000 0000\n\
         000000a0: 0000 00\ntotal got=8 back=0 held=8 posted=0\n";
-    expect(&rt, &options(1300, Some(6)), script, text)
+    expect_both(&rt, &options(1300, Some(6)), script, text)
 }
 
 #[test]
 fn a_dump_has_no_number(rt: HostRuntime) -> Result<(), Fail> {
-    expect(&rt, &options(8, None), "0 dump 1\n", "line 1 refused 1\n")?;
-    expect(&rt, &options(8, None), "0 dumps\n", "line 1 refused 1\n")
+    expect_both(&rt, &options(8, None), "0 dump 1\n", "line 1 refused 1\n")?;
+    expect_both(&rt, &options(8, None), "0 dumps\n", "line 1 refused 1\n")
 }

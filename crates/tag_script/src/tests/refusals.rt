@@ -1,5 +1,5 @@
 //! Scripts that are refused: a faulty line, and then the setup.
-use crate::tests::scripts::{expect, options};
+use crate::tests::scripts::{expect, expect_both, options};
 use crate::{Ending, ScriptOptions, answer_script};
 use std::test::*;
 use tag_lines::MAX_INPUT;
@@ -46,16 +46,21 @@ fn faulty_lines(rt: HostRuntime) -> Result<(), Fail> {
         ("0 get x", "line 1 refused 1\n"),
         ("0 clear x", "line 1 refused 2\n"),
         ("5 get", "line 1 refused 3\n"),
-        ("", "setup refused 5\n"),
     ] {
-        expect(&rt, &two, script, text)?;
+        expect_both(&rt, &two, script, text)?;
     }
+    let nothing = "total got=0 back=0 held=0 posted=0\n";
+    expect(&rt, &two, "", "setup refused 5\n")?;
     expect(
         &rt,
-        &options(4, None),
+        &ScriptOptions {
+            plain: false,
+            ..two
+        },
         "",
-        "total got=0 back=0 held=0 posted=0\n",
-    )
+        nothing,
+    )?;
+    expect(&rt, &options(4, None), "", nothing)
 }
 
 #[test]
@@ -76,12 +81,25 @@ fn malformed_scripts(rt: HostRuntime) -> Result<(), Fail> {
         ("0\r get\n", "line 1 refused 2\n"),
         ("0\tget\n", "line 1 refused 1\n"),
         ("0 get\n0 get \n0 clear x\n", "line 2 refused 1\n"),
-        ("0 post 0\n", "line 1 refused 1\n"),
-        ("0 show reserved\n", "line 1 refused 1\n"),
         ("0\n", "line 1 refused 1\n"),
         ("0 clear\n", "line 1 refused 1\n"),
+        ("0 show x\n", "line 1 refused 1\n"),
     ] {
-        expect(&rt, &options(4, None), script, text)?;
+        expect_both(&rt, &options(4, None), script, text)?;
+    }
+    Ok(())
+}
+
+// What a plain script doesn't know is told as a faulty line.
+#[test]
+fn a_plain_script_knows_fewer_commands(rt: HostRuntime) -> Result<(), Fail> {
+    for script in [
+        "0 post 0\n",
+        "0 show reserved\n",
+        "0 wait\n",
+        "0 resize 4\n",
+    ] {
+        expect(&rt, &options(4, None), script, "line 1 refused 1\n")?;
     }
     Ok(())
 }
@@ -122,9 +140,9 @@ fn an_empty_word_is_told_first(rt: HostRuntime) -> Result<(), Fail> {
         "x clear-batch x ",
         "7 clear-batch 0  1",
     ] {
-        expect(&rt, &options(4, None), line, "line 1 refused 1\n")?;
+        expect_both(&rt, &options(4, None), line, "line 1 refused 1\n")?;
     }
-    expect(
+    expect_both(
         &rt,
         &options(4, None),
         "0 get\n0 clear 0\n0 clear \n0 clear x\n",
@@ -147,7 +165,7 @@ fn any_other_byte_stands_in_a_word(rt: HostRuntime) -> Result<(), Fail> {
         (b"0\xA0get", b"line 1 refused 1\n"),
     ] {
         assert!(rt; script.len() <= MAX_INPUT);
-        let (written, ending) = answer_script(rt.alloc(), &options(4, None), script)?;
+        let (written, ending) = answer_script(&rt, rt.alloc(), &options(4, None), script)?;
         assert_eq!(rt; written.as_slice(), text, "at {script:?}");
         assert_eq!(rt; ending, Ending::Refused, "at {script:?}");
     }
@@ -156,7 +174,7 @@ fn any_other_byte_stands_in_a_word(rt: HostRuntime) -> Result<(), Fail> {
 
 #[test]
 fn a_line_is_looked_at_before_the_setup(rt: HostRuntime) -> Result<(), Fail> {
-    expect(&rt, &options(8, Some(7)), "0 gets\n", "line 1 refused 1\n")
+    expect_both(&rt, &options(8, Some(7)), "0 gets\n", "line 1 refused 1\n")
 }
 
 #[test]
@@ -170,7 +188,7 @@ fn malformed_lists(rt: HostRuntime) -> Result<(), Fail> {
         ("1 clear-batch 0 1", "line 1 refused 3\n"),
         ("0 clear-batches 0 1", "line 1 refused 1\n"),
     ] {
-        expect(&rt, &options(4, None), script, text)?;
+        expect_both(&rt, &options(4, None), script, text)?;
     }
     Ok(())
 }

@@ -29,6 +29,9 @@ fn each_subcommand_runs_and_ends_with_its_status(rt: HostRuntime) {
     let played = "0\ntotal got=1 back=0 held=1 posted=0\n";
     expect(&rt, script, "0 get\n", 0, played);
     expect(&rt, script, "look\n", 1, "line 1 refused 1\n");
+    let shared = ["tagplay", "script", "--tags", "4", "--callers", "2"].as_slice();
+    let played = "0\nrefused 3\ntotal got=1 back=0 held=1 posted=0\n";
+    expect(&rt, shared, "0 get\n1 clear 0\n", 0, played);
     let check = ["tagplay", "check", "--tags", "4"].as_slice();
     let checked = "ok events=1 got=0 back=0 held=0 posted=0\n";
     expect(&rt, check, "look\n", 0, checked);

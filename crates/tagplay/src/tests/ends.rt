@@ -22,6 +22,11 @@ const PLAIN_FOUR: ScriptOptions = ScriptOptions {
     plain: true,
 };
 
+const SHARED_FOUR: ScriptOptions = ScriptOptions {
+    plain: false,
+    ..PLAIN_FOUR
+};
+
 const PLAYED_FOUR: PlayOptions = PlayOptions {
     tags: 4,
     reserved: 0,
@@ -115,16 +120,18 @@ fn an_error_at_any_call_of_the_reader_leaves_no_output(rt: HostRuntime) {
 #[test]
 fn an_error_at_any_call_of_the_reader_leaves_no_answer(rt: HostRuntime) {
     let text = b"0 get\n0 clear 0\n".as_slice();
-    for fails_at in 0..=text.len() {
-        let mut reader = Failing {
-            text,
-            at: 0,
-            fails_at,
-        };
-        let mut written = Vec::new(rt.alloc());
-        let outcome = run_script(rt.alloc(), &PLAIN_FOUR, &mut reader, &mut written);
-        assert_eq!(rt; outcome, Err(RunFault::Read), "at {fails_at}");
-        assert!(rt; written.is_empty(), "at {fails_at}");
+    for options in [PLAIN_FOUR, SHARED_FOUR] {
+        for fails_at in 0..=text.len() {
+            let mut reader = Failing {
+                text,
+                at: 0,
+                fails_at,
+            };
+            let mut written = Vec::new(rt.alloc());
+            let outcome = run_script(&rt, rt.alloc(), &options, &mut reader, &mut written);
+            assert_eq!(rt; outcome, Err(RunFault::Read), "at {fails_at}");
+            assert!(rt; written.is_empty(), "at {fails_at}");
+        }
     }
 }
 
@@ -148,13 +155,16 @@ fn an_error_at_any_call_of_the_reader_leaves_no_report(rt: HostRuntime) {
 fn an_error_of_the_writer_is_told(rt: HostRuntime) {
     let outcome = run_check(rt.alloc(), &FOUR, &mut b"look\n".as_slice(), &mut Shut);
     assert_eq!(rt; outcome, Err(RunFault::Write));
-    let outcome = run_script(
-        rt.alloc(),
-        &PLAIN_FOUR,
-        &mut b"0 get\n".as_slice(),
-        &mut Shut,
-    );
-    assert_eq!(rt; outcome, Err(RunFault::Write));
+    for options in [PLAIN_FOUR, SHARED_FOUR] {
+        let outcome = run_script(
+            &rt,
+            rt.alloc(),
+            &options,
+            &mut b"0 get\n".as_slice(),
+            &mut Shut,
+        );
+        assert_eq!(rt; outcome, Err(RunFault::Write));
+    }
     let outcome = run_play(
         &rt,
         rt.alloc(),
@@ -178,13 +188,16 @@ fn an_input_of_16_mib_is_read_and_one_byte_more_is_too_long(rt: HostRuntime) {
 
 #[test]
 fn a_script_of_16_mib_is_read_and_one_byte_more_is_too_long(rt: HostRuntime) {
-    let mut written = Vec::new(rt.alloc());
-    let outcome = run_script(rt.alloc(), &PLAIN_FOUR, &mut sevens(TOO_MANY), &mut written);
-    assert_eq!(rt; outcome, Err(RunFault::TooLong));
-    assert!(rt; written.is_empty());
-    let outcome = run_script(rt.alloc(), &PLAIN_FOUR, &mut sevens(MOST), &mut written);
-    assert_eq!(rt; outcome, Ok(Ending::Refused));
-    assert_eq!(rt; written.as_slice(), b"line 1 refused 1\n".as_slice());
+    for options in [PLAIN_FOUR, SHARED_FOUR] {
+        let mut written = Vec::new(rt.alloc());
+        let mut long = sevens(TOO_MANY);
+        let outcome = run_script(&rt, rt.alloc(), &options, &mut long, &mut written);
+        assert_eq!(rt; outcome, Err(RunFault::TooLong));
+        assert!(rt; written.is_empty());
+        let outcome = run_script(&rt, rt.alloc(), &options, &mut sevens(MOST), &mut written);
+        assert_eq!(rt; outcome, Ok(Ending::Refused));
+        assert_eq!(rt; written.as_slice(), b"line 1 refused 1\n".as_slice());
+    }
 }
 
 #[test]
@@ -229,17 +242,16 @@ fn want_of_memory_leaves_no_output(rt: HostRuntime) {
 
 #[test]
 fn want_of_memory_leaves_no_answer(rt: HostRuntime) {
-    let mut written = Vec::new(rt.alloc());
-    match run_script(
-        rt.alloc(),
-        &PLAIN_FOUR,
-        &mut b"0 get\n0 show\n0 clear 0\n".as_slice(),
-        &mut written,
-    ) {
-        Ok(ending) => assert_eq!(rt; ending, Ending::Done),
-        Err(fault) => {
-            assert!(rt; fault == RunFault::Memory || fault == RunFault::Write);
-            assert!(rt; fault == RunFault::Write || written.is_empty());
+    let plain = b"0 get\n0 show\n0 busy\n0 dump\n0 clear-batch 0\n".as_slice();
+    let shared = b"0 get\n0 show\n0 busy\n0 dump\n0 clear-batch 0\n0 resize 5\n".as_slice();
+    for (options, mut script) in [(PLAIN_FOUR, plain), (SHARED_FOUR, shared)] {
+        let mut written = Vec::new(rt.alloc());
+        match run_script(&rt, rt.alloc(), &options, &mut script, &mut written) {
+            Ok(ending) => assert_eq!(rt; ending, Ending::Done),
+            Err(fault) => {
+                assert!(rt; fault == RunFault::Memory || fault == RunFault::Write);
+                assert!(rt; fault == RunFault::Write || written.is_empty());
+            }
         }
     }
 }

@@ -25,7 +25,7 @@ loop-order-preserved g c =
     record {
       played = record {
         said = so_far.said ++ answer ∷ [];
-        text_is = c.in_ok-push_to.ensures.ok ∙ ap (λ (t : List ℕ). t ++ line_of answer) so_far.text_is ∙ sym (text_more so_far.said answer);
+        text_is = c.in-Ok.ensures.ok ∙ ap (λ (t : List ℕ). t ++ line_of answer) so_far.text_is ∙ sym (text_more so_far.said answer);
         plays = subst (λ (os : List Order). Plays g.W.World.answers c.args.world os (so_far.said ++ answer ∷ []) next) (sym e)
             (plays_more g.W.World.answers order answer so_far.plays c.in_ok-answer.ensures.answers);
       };
@@ -40,9 +40,9 @@ returns g c =
     record {
       said = so_far.said;
       last = c.loop-order.world;
-      totals = c.totals.result;
+      totals = c.totals-2.result;
       plays = subst (λ (os : List Order). Plays g.W.World.answers c.args.world os so_far.said c.loop-order.world)
           (take_all c.loop-order.order-index orders stop) so_far.plays;
-      counted = c.totals.ensures.counts;
-      text_is = c.in_ok-push_total.ensures.ok ∙ ap (λ (t : List ℕ). t ++ total_line c.totals.result) so_far.text_is;
+      counted = c.totals-2.ensures.counts;
+      text_is = c.in_ok-push_total.ensures.ok ∙ ap (λ (t : List ℕ). t ++ total_line c.totals-2.result) so_far.text_is;
     }

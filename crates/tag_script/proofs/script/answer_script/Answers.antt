@@ -1,49 +1,47 @@
 -- Each way to a text is one of those that a script is owed.
-use Rattle.std.proofs.Common.{ℕ, ◌<◌, List, length, slice_index_or, sym, ap, subst, ◌∙◌}
-use Rattle.tag_lines.specs.declared.dialect.Dialect.TheVariants.{Plain}
+use Rattle.std.proofs.Common.{ℕ, List, sym, ap, subst, ◌∙◌}
+use Rattle.std.specs.List.{All}
+use Rattle.tag_lines.specs.declared.dialect.Dialect.{Dialect}
 use Rattle.tag_lines.specs.declared.fault.ListFault.{ListFault}
 use Rattle.tag_lines.specs.declared.order.Order.{Order}
-use Rattle.tag_lines.specs.Readings.{IsListFault}
-use Rattle.tag_lines.specs.ScriptLines.{order_of, IsPlain}
+use Rattle.tag_lines.specs.Readings.{AreReadings, IsFirstFaulty, IsListFault}
+use Rattle.tag_lines.specs.ScriptLines.{order_of, IsOrderOf}
 use Rattle.tag_lines.proofs.KnownFacts.{orders_known}
 use Rattle.tag_script.specs.declared.ending.Ending.TheVariants.{Refused}
 use Rattle.tag_script.specs.declared.fault.Closed.{Closed}
-use Rattle.tag_script.specs.Commands.{ObeysOrder, AreTotals}
-use Rattle.tag_script.specs.Players.{solo_of}
-use Rattle.tag_script.specs.Plays.{IsPlayed}
-use Rattle.tag_script.specs.Script.{IsUnopened, Owed, faulty, refused, played}
-use Rattle.tag_script.specs.Solo.{Solo}
+use Rattle.tag_script.specs.Script.{IsRefusedSetup, IsTold, Owed, dialect_of, faulty, refused, played}
+use Rattle.tag_script.specs.Setups.{IsClosed}
 use Rattle.tag_script.specs.Texts.{faulty_text, setup_text}
-use Rattle.tag_script.proofs.PlayFacts.{played_alone}
 use Rattle.tag_script.proofs.script.answer_script.Goals as goal
 
 pub returns-in-Err-Faulty : goal.returns-in-Err-Faulty
-returns-in-Err-Faulty c =
+returns-in-Err-Faulty g c =
     let fault = c.in-Err-Faulty.fault in let o = c.args.options.now in let script = c.args.script.now in
     let text_is = c.in_ok-faulty_text-in-Err-Faulty.ensures ∙ ap faulty_text c.in-Err-Faulty.fault-is in
-    let first = subst (λ (f : ListFault). IsListFault (order_of Plain o.callers) script f) c.in-Err-Faulty.field-0-is c.in-Err-Faulty.ensures.fault in
-    subst (λ (t : List ℕ). Owed o script t Refused) (sym text_is) (faulty fault first)
+    let first = subst (λ (f : ListFault). IsListFault (order_of c.dialect.result o.callers) script f) c.in-Err-Faulty.field-0-is
+    c.in-Err-Faulty.ensures.fault in
+    let of_kind = subst (λ (d : Dialect). IsFirstFaulty (order_of d o.callers) script fault) c.dialect.ensures first in
+    subst (λ (t : List ℕ). Owed o script t Refused) (sym text_is) (faulty fault of_kind)
 
-pub play-requires-clause-known : goal.play-requires-clause-known
-play-requires-clause-known c =
-    let known = orders_known Plain c.args.options.now.callers c.args.script.now c.in-Ok.orders.items c.in-Ok.ensures.orders in
-    subst (λ (os : List Order). (k : ℕ) (d : Order) → k < length os → IsPlain (slice_index_or os k d).command) (sym c.deref.ensures.value)
-    (λ k d less. (known k d less).command)
+pub carry_out-requires-clause-known : goal.carry_out-requires-clause-known
+carry_out-requires-clause-known g c =
+    let o = c.args.options.now in let orders : List Order = c.in-Ok.orders.items in
+    let known = orders_known c.dialect.result o.callers c.args.script.now orders c.in-Ok.ensures.orders in
+    let of_kind = subst (λ (d : Dialect). All (IsOrderOf d o.callers) orders) c.dialect.ensures known in
+    subst (λ (os : List Order). All (IsOrderOf (dialect_of o.plain) o.callers) os) (sym c.deref.ensures.value) of_kind
 
-pub returns-in-Ok-open : goal.returns-in-Ok-open
-returns-in-Ok-open c =
-    let orders : List Order = c.in-Ok.orders.items in let text : List ℕ = c.in_ok-play-in-Ok-open.field-0.items in
-    let alone = played_alone c.in-Ok-open.player c.deref.result.now text c.in_ok-play-in-Ok-open.ensures in
-    let told = subst (λ (os : List Order). IsPlayed ObeysOrder AreTotals (solo_of c.in-Ok-open.player) os text) c.deref.ensures.value alone in
-    played orders text c.in-Ok.ensures.orders (record {
-      layout = (solo_of c.in-Ok-open.player).layout;
-      setup = c.in-Ok-open.ensures.setup;
-      played = subst (λ (w : Solo). IsPlayed ObeysOrder AreTotals w orders text) c.in-Ok-open.ensures.opened told;
-    })
+pub returns-in-Ok-carry_out : goal.returns-in-Ok-carry_out
+returns-in-Ok-carry_out g c =
+    let o = c.args.options.now in let script = c.args.script.now in
+    let orders : List Order = c.in-Ok.orders.items in let text : List ℕ = c.in-Ok-carry_out.text.items in
+    let says = subst (λ (d : Dialect). AreReadings (order_of d o.callers) script orders) c.dialect.ensures c.in-Ok.ensures.orders in
+    played orders text says (subst (λ (os : List Order). IsTold o.plain o os text) c.deref.ensures.value c.in-Ok-carry_out.ensures.told)
 
 pub returns : goal.returns
-returns c =
+returns g c =
     let fault = c.in-Err-Setup.fault in let o = c.args.options.now in let script = c.args.script.now in
+    let orders : List Order = c.in-Ok.orders.items in
     let text_is = c.in_ok-setup_text-in-Err-Setup.ensures ∙ ap setup_text c.in-Err-Setup.fault-is in
-    let why = subst (λ (f : Closed). IsUnopened o f) c.in-Err-Setup.field-0-is c.in-Err-Setup.ensures.fault in
-    subst (λ (t : List ℕ). Owed o script t Refused) (sym text_is) (refused c.in-Ok.orders.items fault c.in-Ok.ensures.orders why)
+    let says = subst (λ (d : Dialect). AreReadings (order_of d o.callers) script orders) c.dialect.ensures c.in-Ok.ensures.orders in
+    let why = subst (λ (f : Closed). IsClosed (IsRefusedSetup o.plain o) f) c.in-Err-Setup.field-0-is c.in-Err-Setup.ensures.fault in
+    subst (λ (t : List ℕ). Owed o script t Refused) (sym text_is) (refused orders fault says why)

@@ -1,0 +1,262 @@
+-- What a resize leaves of the world, and why it is refused.
+use Rattle.std.proofs.Common.{◌≡◌, ◌≢◌, ℕ, zero, suc, ◌+◌, ◌<◌, ◌≤◌, true, false, List, [], ◌∷◌, length, map, get_or, replicate, All, is_some, refl, sym, ap, ◌∙◌, arith, ⊎_elim}
+use Rattle.std.proofs.lemmas.Bool.{cases_lt}
+use Rattle.std.proofs.lemmas.List.{length-map, get_or-map, get_or_past}
+use mathlib.Core.Option.{some, some-injective}
+use lib.ListN.{get_elem?}
+use Rattle.atomic_table.proofs.Lists.{at_map}
+use Rattle.step_ledger.specs.Views.{HasAll}
+use Rattle.tag_layout.specs.Layout.{word_bits, words}
+use Rattle.tag_core.specs.declared.record.Record.{Record}
+use Rattle.tag_core.specs.Sizes.{total_of as sum_of, size_of}
+use Rattle.tag_core.specs.Reopening.{reopened_record}
+use Rattle.tag_core.proofs.Entries.{entry, entry_or, all_at}
+use Rattle.tag_core.proofs.Seats.{within}
+use Rattle.tag_search.specs.declared.hint.Hint.{Hint}
+use Rattle.tag_search.proofs.SharedFacts.{count_ones-zero}
+use Rattle.wake_book.specs.declared.groups.Waiter.{Waiter}
+use Rattle.tag_queue.specs.declared.queue.Queue.{Queue}
+use Rattle.tag_queue.specs.declared.resizes.ResizeCause.{ResizeCause}
+use Rattle.tag_queue.specs.declared.resizes.ResizeCause.TheVariants.{Missing, DepthTooLarge, InUse, Waiting, Memory}
+use Rattle.tag_queue.specs.Agents as queue
+use Rattle.tag_queue.proofs.Resized.{unchanged-numbers}
+use Rattle.tag_sets.specs.declared.hand.Hand.{Hand}
+use Rattle.tag_sets.specs.declared.kind.Kind.{Kind}
+use Rattle.tag_sets.specs.declared.kind.Kind.TheVariants.{Ordinary, Reserved}
+use Rattle.tag_sets.specs.declared.tags.Tags.{Tags}
+use Rattle.tag_sets.specs.Hands.{IsHandOf, layout_of, queue_of, total_of, number_of}
+use Rattle.tag_sets.specs.Gathering.{hands_of, numbers_of}
+use Rattle.tag_sets.specs.Meeting.{IsUnchanged}
+use Rattle.tag_sets.specs.Opening.{reserved_part, ordinary_part}
+use Rattle.tag_sets.specs.Resizing as sets
+use Rattle.tag_sets.specs.Resizing.{BalanceInBoth}
+use Rattle.tag_sets.proofs.Gathering.{ordinary_numbers}
+use Rattle.tag_sets.proofs.Refusing.{facts_of, AreTold}
+use Rattle.tag_sets.proofs.Reuniting.{ordinary_unchanged}
+use Rattle.tag_board.specs.Parts.{record_in, holds, part_of, state_of_all, AreOrdered}
+use Rattle.tag_board.specs.Replays.{NobodyHolds}
+use Rattle.tag_board.specs.Resizes.{AreUnused, RefusesResize, MayResize}
+use Rattle.tag_board.specs.States.{Part, idle}
+use Rattle.tag_board.proofs.Adding.{both_sets, add_up, posted_up}
+use Rattle.tag_board.proofs.Holdings.{holds_same}
+use Rattle.tag_board.proofs.Sizings.{holds_none}
+
+-- an empty mask for each word has no bit
+size_none : (n : ℕ) → size_of (replicate n 0) ≡ 0
+size_none zero = refl
+size_none (suc n) = let one = count_ones-zero in let rest = size_none n in omega arith
+
+module _ {A : Type 0} where
+  -- where a sum is 0, each number is
+  all_none : (f : A → ℕ) (xs : List A) → sum_of f xs ≡ 0 → All (λ x. f x ≡ 0) xs
+  all_none f [] none k d low = absurd (omega arith)
+  all_none f (x ∷ xs) none zero d low = omega arith
+  all_none f (x ∷ xs) none (suc k) d low = all_none f xs (omega arith) k d (omega arith)
+
+module _ {R : Type 0} where
+  -- parts that are one by one the same are those of one world
+  same_parts : (old new : List (Hand R)) → length new ≡ length old
+      → ((n : ℕ) (a b : Hand R) → get_elem? old n ≡ some a → get_elem? new n ≡ some b → part_of b ≡ part_of a)
+      → (caller : ℕ) → get_or (map part_of new) caller (idle false) ≡ get_or (map part_of old) caller (idle false)
+  same_parts old new long each caller = ⊎_elim
+      (λ (low : caller < length old).
+      let a = entry old caller low in let b = entry new caller (omega arith) in
+      get_or-map part_of new caller b.0 (idle false) (omega arith)
+      ∙ each caller (get_or old caller a.0) (get_or new caller b.0)
+      (entry_or old caller a.0 low) (entry_or new caller b.0 (omega arith))
+      ∙ sym (get_or-map part_of old caller a.0 (idle false) low))
+      (λ (high : length old ≤ caller).
+      get_or_past (map part_of new) caller (idle false) (let z = length-map new part_of in omega arith)
+      ∙ sym (get_or_past (map part_of old) caller (idle false) (let z = length-map old part_of in omega arith)))
+      (cases_lt caller (length old))
+
+  -- how many tags of a set a caller may win
+  abbrev life_of : Tags R → Kind → ℕ
+  life_of tags kind = (queue.shape_of (queue_of tags kind)).life
+
+  -- hands with the numbers that they had stand as they stood
+  pub order_kept : (old new : List (Hand R)) → numbers_of new ≡ numbers_of old → AreOrdered old
+      → (length new ≡ length old) × AreOrdered new
+  order_kept old new same ordered =
+      let long : length new ≡ length old = sym (length-map new number_of)
+      ∙ ap (λ (ns : List ℕ). length ns) same ∙ length-map old number_of in
+      (long, λ n low. ap (λ (ns : List ℕ). get_or ns n 0) same ∙ ordered n (omega arith))
+
+  -- a hand that is as it was has the part and the number that it had
+  same_part : (a b : Hand R) → IsUnchanged a b → part_of b ≡ part_of a
+  same_part a b u =
+      let held = holds_same a b u.same in
+      let one = (u.sets Ordinary).caller.known in let other = (u.sets Reserved).caller.known in
+      let x = ap (λ (r : Record R). r.back) one in let y = ap (λ (r : Record R). r.back) other in
+      let back : (part_of b).back ≡ (part_of a).back = omega arith in
+      let won : (kind : Kind) → (record_in b kind).won ≡ (record_in a kind).won =
+      elim [ Ordinary ↦ ap (λ (r : Record R). r.won) one | Reserved ↦ ap (λ (r : Record R). r.won) other ] in
+      λ j. record {
+        held = λ tag. held tag j;
+        won = λ kind. won kind j;
+        back = back j;
+        stands = ap (λ (w : Waiter). is_some w.standing) (u.sets Ordinary).same_else.1.1 j;
+        round_robin = ap (λ (h : Hint). h.round_robin) (u.sets Ordinary).same_else.0 j;
+      }
+
+  module _ (old new : Tags R) (olds news : List (Hand R)) (same : sets.AreSame old new)
+      (kept : sets.AreUnchanged olds news) where
+    -- as many tags
+    pub total_kept : total_of new ≡ total_of old
+    total_kept = λ j. same.split j + (queue.layout_of (same.ordinary j)).depth
+
+    -- the world of hands that are as they were is as it was
+    pub world_kept : state_of_all new news ≡ state_of_all old olds
+    world_kept =
+        let part = same_parts olds news kept.count (λ n a b p q. same_part a b (kept.each n a b p q)) in
+        let life : (kind : Kind) → life_of new kind ≡ life_of old kind = elim [
+          | Ordinary ↦ ap (λ (q : Queue R). (queue.shape_of q).life) same.ordinary
+          | Reserved ↦ ap (λ (q : Queue R). (queue.shape_of q).life) same.reserved
+        ] in let bits : (kind : Kind) → word_bits (layout_of new kind) ≡ word_bits (layout_of old kind) = elim [
+          | Ordinary ↦ ap (λ (q : Queue R). word_bits (queue.layout_of q)) same.ordinary
+          | Reserved ↦ ap (λ (q : Queue R). word_bits (queue.layout_of q)) same.reserved
+        ] in λ j. record {
+          terms = record {
+            reserved = same.split j;
+            callers = kept.count j;
+            life = λ kind. life kind j;
+            least = queue.least_of (same.ordinary j);
+            bits = λ kind. bits kind j;
+          };
+          total = total_kept j;
+          part = λ caller. part caller j;
+        }
+
+    -- and the hands have their numbers
+    pub numbers_kept : numbers_of news ≡ numbers_of olds
+    numbers_kept = sym (ordinary_numbers news)
+        ∙ unchanged-numbers (map ordinary_part olds) (map ordinary_part news) (ordinary_unchanged olds news kept)
+        ∙ ordinary_numbers olds
+
+-- what stands at one place of two lists that a function makes equal
+same_at : {A B : Type 0} (f : A → B) (xs ys : List A) (n : ℕ) (x y : A) → map f ys ≡ map f xs
+    → get_elem? xs n ≡ some x → get_elem? ys n ≡ some y → f y ≡ f x
+same_at {A} {B} f xs ys n x y same p q = some-injective (f y) (f x)
+    (sym (at_map f ys n y q) ∙ ap (λ (l : List B). get_elem? l n) same ∙ at_map f xs n x p)
+
+-- nobody holds a tag where no hand does
+nobody_holds : {R : Type 0} (tags : Tags R) (hands : List (Hand R))
+    → ((n : ℕ) (hand : Hand R) → get_elem? hands n ≡ some hand → (tag : ℕ) → holds hand tag ≡ false)
+    → NobodyHolds (state_of_all tags hands) (λ tag. true)
+nobody_holds tags hands none caller tag named = ⊎_elim
+    (λ (low : caller < length hands). let hand = entry hands caller low in
+    ap (λ (p : Part). p.held tag) (get_or-map part_of hands caller hand.0 (idle false) low)
+    ∙ none caller (get_or hands caller hand.0) (entry_or hands caller hand.0 low) tag)
+    (λ (high : length hands ≤ caller).
+    ap (λ (p : Part). p.held tag)
+    (get_or_past (map part_of hands) caller (idle false) (let z = length-map hands part_of in omega arith)))
+    (cases_lt caller (length hands))
+
+-- a hand that goes on holds nothing, as before, and has its counts
+record GoesOn {R : Type 0} (a b : Hand R) : Type 0 where
+  none : (tag : ℕ) → holds b tag ≡ false
+  part : part_of b ≡ part_of a
+
+module _ {R : Type 0} (old new : Tags R) (olds news : List (Hand R)) (total : ℕ)
+    (is : sets.IsResized old olds total new news) (unused : sets.held_in_both olds ≡ 0) where
+  goes_on : (n : ℕ) (a b : Hand R) → get_elem? olds n ≡ some a → get_elem? news n ≡ some b → GoesOn a b
+  goes_on n a b p q =
+      let before = map ordinary_part olds in let after = map ordinary_part news in
+      let here = at_map ordinary_part olds n a p in let there = at_map ordinary_part news n b q in
+      let known : record_in b Ordinary ≡ reopened_record (queue.shape_of new.ordinary) (record_in a Ordinary) =
+      (is.ordinary.callers.callers.each n (queue.caller_of a.ordinary) (queue.caller_of b.ordinary)
+      (at_map queue.caller_of before n a.ordinary here) (at_map queue.caller_of after n b.ordinary there)).1 in
+      let other : record_in b Reserved ≡ record_in a Reserved = (is.reserved_agents.each n a.reserved b.reserved
+      (at_map reserved_part olds n a p) (at_map reserved_part news n b q)).caller.known in
+      let empty : size_of (record_in a Ordinary).held + size_of (record_in a Reserved).held ≡ 0 =
+      all_at (λ (h : Hand R). size_of (record_in h Ordinary).held + size_of (record_in h Reserved).held ≡ 0) olds
+      (all_none (λ (h : Hand R). size_of (record_in h Ordinary).held + size_of (record_in h Reserved).held) olds
+      (both_sets (λ r. size_of r.held) olds ∙ unused)) n a p in
+      let free : (tag : ℕ) → holds b tag ≡ false = holds_none b
+      (ap (λ (r : Record R). size_of r.held) known ∙ size_none (words (queue.layout_of new.ordinary)))
+      (ap (λ (r : Record R). size_of r.held) other ∙ omega arith) in
+      let none : (tag : ℕ) → holds a tag ≡ false = holds_none a (omega arith) (omega arith) in
+      let x = ap (λ (r : Record R). r.back) known in let y = ap (λ (r : Record R). r.back) other in
+      let back : (part_of b).back ≡ (part_of a).back = omega arith in
+      let won : (kind : Kind) → (record_in b kind).won ≡ (record_in a kind).won =
+      elim [ Ordinary ↦ ap (λ (r : Record R). r.won) known | Reserved ↦ ap (λ (r : Record R). r.won) other ] in
+      let waiter = same_at queue.waiter_of before after n a.ordinary b.ordinary is.ordinary.waiters here there in
+      let hint = same_at queue.hint_of before after n a.ordinary b.ordinary is.ordinary.hints here there in record {
+        none = free;
+        part = λ j. record {
+          held = λ tag. (free tag ∙ sym (none tag)) j;
+          won = λ kind. won kind j;
+          back = back j;
+          stands = ap (λ (w : Waiter). is_some w.standing) waiter j;
+          round_robin = ap (λ (h : Hint). h.round_robin) hint j;
+        };
+      }
+
+  -- as many hands, in their order
+  long : length news ≡ length olds
+  long = sym (length-map news number_of) ∙ ap (λ (ns : List ℕ). length ns) is.numbers ∙ length-map olds number_of
+
+  -- the world is as it was, but for its total
+  pub world_resized : state_of_all new news ≡ record (state_of_all old olds) { total = total }
+  world_resized =
+      let part = same_parts olds news long (λ n a b p q. (goes_on n a b p q).part) in
+      let life : (kind : Kind) → life_of new kind ≡ life_of old kind = elim [
+        | Ordinary ↦ is.ordinary.callers.next.life_is
+        | Reserved ↦ ap (λ (q : Queue R). (queue.shape_of q).life) is.reserved
+      ] in let bits : (kind : Kind) → word_bits (layout_of new kind) ≡ word_bits (layout_of old kind) = elim [
+        | Ordinary ↦ ap word_bits is.ordinary.callers.next.layout_is
+        | Reserved ↦ ap (λ (q : Queue R). word_bits (queue.layout_of q)) is.reserved
+      ] in λ j. record {
+        terms = record {
+          reserved = is.split j;
+          callers = long j;
+          life = λ kind. life kind j;
+          least = is.ordinary.rest.least j;
+          bits = λ kind. bits kind j;
+        };
+        total = is.total_is j;
+        part = λ caller. part caller j;
+      }
+
+  -- its tags are free
+  pub world_free : NobodyHolds (state_of_all new news) (λ tag. true)
+  world_free = nobody_holds new news (λ n b q.
+      let a = entry olds n (let low = within news n b q in let same = long in omega arith) in
+      (goes_on n a.0 b a.1 q).none)
+
+  -- all hands are there
+  pub every_there : length olds ≡ hands_of old → length news ≡ hands_of new
+  every_there all = long ∙ all ∙ sym is.ordinary.callers.next.callers_is
+
+module _ {R : Type 0} (tags : Tags R) (hands : List (Hand R)) (own : All (IsHandOf tags) hands) where
+  -- the world has no tag in use where the hands have none
+  unused : sets.AreUnused hands → AreUnused (state_of_all tags hands)
+  unused none = let sums = add_up tags hands own in
+      let got = sums.got in let back = sums.back in let held = sums.held in
+      let a = none.0 in let b = none.1 in (omega arith, omega arith)
+
+  used : BalanceInBoth hands → AreUnused (state_of_all tags hands) → sets.AreUnused hands
+  used even none = (sym (add_up tags hands own).held ∙ none.0, sym (posted_up tags hands own even) ∙ none.1)
+
+  -- nothing is in the way of a resize of the world
+  pub may_resize : (total : ℕ) → sets.MayResize tags hands total → MayResize (state_of_all tags hands) total
+  may_resize total may = (may.0.1, unused may.1, (add_up tags hands own).standing ∙ may.2)
+
+  -- what is in the way of one of the hands is in the way of one of the world
+  pub refuses : (total : ℕ) (told : ResizeCause → Type 0) → AreTold (facts_of tags hands) total told
+      → ((held posted : ℕ) → told (InUse held posted) → BalanceInBoth hands)
+      → HasAll (numbers_of hands) (hands_of tags) → (cause : ResizeCause) → cause ≢ Memory → told cause
+      → RefusesResize (state_of_all tags hands) total cause
+  refuses total told are even all (Missing n) other is =
+      let least = (are.missing n).0 is in absurd (least.1 (all n least.0))
+  refuses total told are even all DepthTooLarge other is = (are.too_deep.0 is).1
+  refuses total told are even all (InUse held posted) other is =
+      let cause = (are.in_use held posted).0 is in let balance = even held posted is in (
+        cause.0.1,
+        (λ none. cause.1.2 (used balance none)),
+        cause.1.0 ∙ sym (add_up tags hands own).held,
+        cause.1.1 ∙ sym (posted_up tags hands own balance),
+      )
+  refuses total told are even all (Waiting count) other is = let cause = (are.waiting count).0 is in
+      (cause.0.1, unused cause.1.0, cause.1.1 ∙ sym (add_up tags hands own).standing, cause.1.2)
+  refuses total told are even all Memory other is = absurd (other refl)

@@ -1,0 +1,97 @@
+-- What looks tell of the world.
+use Rattle.std.proofs.Common.{◌≡◌, ◌≢◌, ne_eqb, ℕ, zero, suc, ◌+◌, ◌-◌, ◌*◌, ◌/◌, ◌<◌, ◌≤◌, ◌&&◌, Bool, true, false, cond, if◌then◌else◌, nat_lt, nat_eq, List, [], ◌++◌, length, take, drop, sym, ap, ◌∙◌, arith}
+use mathlib.Core.Logic.{dite}
+use native.Mathlib.Decide.{ℕ_discrete}
+use Rattle.std.proofs.lemmas.Bool.{le-ltb}
+use Rattle.tag_search.proofs.Pools.{and_false}
+use Rattle.std.proofs.lemmas.List.{append-nil, drop_all, take_at}
+use Rattle.std.specs.Int.{bit_at}
+use Rattle.tag_layout.specs.Layout.{Layout, word_of, place_of}
+use Rattle.tag_model.specs.Totals.{count_below}
+use Rattle.tag_sets.specs.declared.hand.Hand.{Hand}
+use Rattle.tag_sets.specs.declared.kind.Kind.{Kind}
+use Rattle.tag_sets.specs.declared.kind.Kind.TheVariants.{Ordinary, Reserved}
+use Rattle.tag_sets.specs.declared.shown.Shown.{Shown}
+use Rattle.tag_sets.specs.declared.tags.Tags.{Tags}
+use Rattle.tag_sets.specs.Bits.{bit_in}
+use Rattle.tag_sets.specs.Busy as busy
+use Rattle.tag_sets.specs.Dumps as dumps
+use Rattle.tag_sets.specs.Hands.{layout_of, reserved_of, total_of}
+use Rattle.tag_sets.specs.Looks.{is_busy_in, is_aside_in, word_in}
+use Rattle.tag_sets.specs.Shows as shows
+use Rattle.tag_board.specs.Looks.{depth_of}
+use Rattle.tag_board.specs.Parts.{state_of_all}
+
+-- what a test counts
+abbrev one_if : Bool → ℕ
+one_if b = cond b 1 0
+
+at_most_one : (b : Bool) → one_if b ≤ 1
+at_most_one true = omega arith
+at_most_one false = omega arith
+
+-- a bit that is 0 is not 1
+not_both : (a : Bool) (n : ℕ) → one_if (a && nat_eq n 0) + one_if (nat_eq n 1) ≤ 1
+not_both a n = dite (ℕ_discrete n 1)
+    (λ (is : n ≡ 1). let none : one_if (a && nat_eq n 0) ≡ 0 =
+    ap (λ (t : Bool). one_if (a && t)) (ne_eqb n 0 (λ z. absurd (omega arith))) ∙ ap one_if (and_false a) in
+    let few : one_if (nat_eq n 1) ≤ 1 = at_most_one (nat_eq n 1) in omega arith)
+    (λ (ne : n ≢ 1). let none : one_if (nat_eq n 1) ≡ 0 = ap one_if (ne_eqb n 1 ne) in
+    let few : one_if (a && nat_eq n 0) ≤ 1 = at_most_one (a && nat_eq n 0) in omega arith)
+
+-- no tag is both busy and set aside
+few_shown : (l : Layout) (found : List (ℕ × ℕ)) (n : ℕ) → count_below (is_busy_in l found) n + count_below (is_aside_in l found) n ≤ n
+few_shown l found zero = omega arith
+few_shown l found (suc n) =
+    let before = few_shown l found n in let pair = word_in found (word_of l n) in
+    let one = not_both (nat_eq (bit_at pair.0 (place_of l n)) 1) (bit_at pair.1 (place_of l n)) in omega arith
+
+module _ {R : Type 0} (tags : Tags R) (hands : List (Hand R)) where
+  -- tags of a set
+  pub depth_is : (kind : Kind) → (layout_of tags kind).depth ≡ depth_of (state_of_all tags hands) kind
+  depth_is Ordinary = omega arith
+  depth_is Reserved = tags.reserved_is
+
+  module _ (old new : Hand R) where
+    -- no bit behind the last tag is set
+    pub busy_there : (bits : List ℕ) (count tag : ℕ) → busy.ListsBusy tags bits count old new → total_of tags ≤ tag → tag < 64 * length bits
+        → bit_in 64 bits tag ≡ 0
+    busy_there bits count tag b high low =
+        let few : nat_lt tag (reserved_of tags) ≡ false = le-ltb tag (reserved_of tags) (omega arith) in
+        let none : nat_lt tag (total_of tags) ≡ false = le-ltb tag (total_of tags) high in
+        let l = is_busy_in (layout_of tags Ordinary) b.ordinary (tag - reserved_of tags) in
+        b.bits_are tag low
+        ∙ ap (λ (t : Bool). cond (if t then is_busy_in (layout_of tags Reserved) b.reserved tag else (nat_lt tag (total_of tags) && l)) 1 0) few
+        ∙ ap (λ (t : Bool). cond (t && l) 1 0) none
+
+    pub show_depth : (kind : Kind) (shown : Shown) → shows.Shows tags kind shown old new → shown.depth ≡ depth_of (state_of_all tags hands) kind
+    show_depth kind shown s = ap (λ (x : Shown). x.depth) s.shown_is ∙ depth_is kind
+
+    pub show_words : (kind : Kind) (shown : Shown) → shows.Shows tags kind shown old new
+        → shown.map_nr ≡ (depth_of (state_of_all tags hands) kind + (state_of_all tags hands).terms.bits kind - 1) / (state_of_all tags hands).terms.bits kind
+    show_words kind shown s = ap (λ (x : Shown). x.map_nr) s.shown_is
+        ∙ ap (λ (d : ℕ). (d + (state_of_all tags hands).terms.bits kind - 1) / (state_of_all tags hands).terms.bits kind) (depth_is kind)
+
+    pub show_few : (kind : Kind) (shown : Shown) → shows.Shows tags kind shown old new
+        → shown.busy + shown.cleared ≤ depth_of (state_of_all tags hands) kind
+    show_few kind shown s =
+        let few = few_shown (layout_of tags kind) s.found (layout_of tags kind).depth in let d = depth_is kind in
+        let b = ap (λ (x : Shown). x.busy) s.shown_is in let a = ap (λ (x : Shown). x.cleared) s.shown_is in omega arith
+
+    pub dump_there : (kind : Kind) (bytes : List ℕ) (tag : ℕ) → dumps.Packs (layout_of tags kind) kind bytes old new
+        → depth_of (state_of_all tags hands) kind ≤ tag → bit_in 8 bytes tag ≡ 0
+    dump_there kind bytes tag p high =
+        let d = depth_is kind in let none : nat_lt tag (layout_of tags kind).depth ≡ false = le-ltb tag (layout_of tags kind).depth (omega arith) in
+        p.bits_are tag ∙ ap (λ (t : Bool). cond (t && is_busy_in (layout_of tags kind) p.found tag) 1 0) none
+
+-- what a call left in the whole of a list
+pub whole_list : (items into : List ℕ) (n : ℕ) → length into ≡ n → take n (into ++ drop (length into) items) ≡ into
+whole_list items into n long = take_at into (drop (length into) items) n long
+
+-- what a call left of a list that it filled whole
+pub filled : (items into bytes : List ℕ) (n count : ℕ) → length items ≡ n → into ≡ bytes ++ drop count items → length bytes ≡ count
+    → count ≡ n → bytes ≡ take n (into ++ drop (length into) items)
+filled items into bytes n count long is few same =
+    let none : drop count items ≡ [] = drop_all count items (omega arith) in
+    let e : into ≡ bytes = is ∙ ap (λ (l : List ℕ). bytes ++ l) none ∙ append-nil bytes in
+    sym (whole_list items into n (ap length e ∙ few ∙ same) ∙ e)

@@ -1,0 +1,90 @@
+-- New tags: their world is open, and nothing has been done in it.
+use Rattle.std.proofs.Common.{◌≡◌, ℕ, ◌+◌, ◌-◌, ◌<◌, false, List, length, map, get_or, is_some, None, refl, sym, ap, ◌∙◌, arith}
+use Rattle.std.proofs.lemmas.List.{get_or-map}
+use mathlib.Core.Option.{some}
+use lib.ListN.{get_elem?}
+use Rattle.atomic_table.proofs.Lists.{at_map}
+use Rattle.tag_layout.specs.Layout.{HasShift}
+use Rattle.tag_core.specs.declared.record.Record.{Record}
+use Rattle.tag_core.specs.Callers.{record_of}
+use Rattle.tag_core.proofs.Entries.{entry, entry_or}
+use Rattle.tag_search.specs.declared.hint.Hint.{Hint}
+use Rattle.tag_queue.specs.declared.agent.Agent.{Agent}
+use Rattle.tag_queue.specs.declared.queue.Options.{Options}
+use Rattle.tag_queue.specs.declared.queue.Queue.{Queue}
+use Rattle.tag_queue.specs.Agents as queue
+use Rattle.tag_queue.specs.Opening as queue_opening
+use Rattle.wake_book.specs.Groups.{IsNew}
+use Rattle.tag_sets.specs.declared.hand.Hand.{Hand}
+use Rattle.tag_sets.specs.declared.kind.Kind.{Kind}
+use Rattle.tag_sets.specs.declared.kind.Kind.TheVariants.{Ordinary, Reserved}
+use Rattle.tag_sets.specs.declared.tags.Tags.{Tags}
+use Rattle.tag_sets.specs.Hands.{layout_of, reserved_of, total_of, standing_of, hint_of, number_of}
+use Rattle.tag_sets.specs.Opening.{reserved_part, ordinary_part, IsOpen as AreOpen}
+use Rattle.tag_sets.proofs.Opening.{all_part}
+use Rattle.tag_board.specs.Opening.{IsOpen}
+use Rattle.tag_board.specs.Parts.{record_in, part_of, state_of_all, AreOrdered}
+use Rattle.tag_board.specs.States.{idle}
+use Rattle.tag_board.proofs.Holdings.{not_holds}
+
+module _ {R : Type 0} where
+  -- a new agent has counted nothing
+  none_counted : (options : Options) (q : Queue R) (agents : List (Agent R)) (n : ℕ) (a : Agent R)
+      → queue_opening.IsOpen options q agents → get_elem? agents n ≡ some a
+      → ((record_of (queue.caller_of a)).won ≡ 0) × ((record_of (queue.caller_of a)).back ≡ 0)
+  none_counted options q agents n a opened at =
+      let fresh = (opened.callers.each n (queue.caller_of a) (at_map queue.caller_of agents n a at)).1 in (
+        ap (λ (r : Record R). r.won) fresh ∙ ap (λ (ns : List ℕ). get_or ns n 0) opened.tags.won_before,
+        ap (λ (r : Record R). r.back) fresh ∙ ap (λ (ns : List ℕ). get_or ns n 0) opened.tags.back_before,
+      )
+
+  module _ (options : Options) (tags : Tags R) (hands : List (Hand R)) (opened : AreOpen options tags hands) where
+    -- a new hand is a caller who has done nothing
+    part_idle : (k : ℕ) (d : Hand R) → k < length hands → part_of (get_or hands k d) ≡ idle options.round_robin
+    part_idle k d low =
+        let hand = get_or hands k d in let at = entry_or hands k d low in
+        let one = none_counted options tags.ordinary (map ordinary_part hands) k hand.ordinary opened.ordinary
+        (at_map ordinary_part hands k hand at) in
+        let other = none_counted (record options { min_shallow = None }) tags.reserved (map reserved_part hands) k
+        hand.reserved opened.reserved (at_map reserved_part hands k hand at) in
+        let out : standing_of hand ≡ None = (all_part (λ (a : Agent R). IsNew (queue.waiter_of a)) ordinary_part hands
+        (all_part IsNew queue.waiter_of (map ordinary_part hands) opened.ordinary.groups.new) k d low).0 in
+        let first : Hint = queue_opening.first_hint options.round_robin in
+        let hint : hint_of hand Ordinary ≡ first =
+        all_part (λ (a : Agent R). queue.hint_of a ≡ first) ordinary_part hands opened.ordinary.hints k d low in
+        let back : (record_in hand Ordinary).back + (record_in hand Reserved).back ≡ 0 =
+        let a = one.1 in let b = other.1 in omega arith in
+        let won : (kind : Kind) → (record_in hand kind).won ≡ 0 = elim [ Ordinary ↦ one.0 | Reserved ↦ other.0 ] in
+        λ j. record {
+          held = λ tag. not_holds hand tag (opened.none_held k d low tag) j;
+          won = λ kind. won kind j;
+          back = back j;
+          stands = ap is_some out j;
+          round_robin = ap (λ (h : Hint). h.round_robin) hint j;
+        }
+
+    -- their world is open
+    pub opens : (total reserved : ℕ) → total_of tags ≡ total → reserved_of tags ≡ reserved
+        → HasShift (total - reserved) options.shift (layout_of tags Ordinary).shift
+        → HasShift reserved options.shift (layout_of tags Reserved).shift
+        → IsOpen total reserved options (state_of_all tags hands)
+    opens total reserved is split one other = record {
+      total_is = is;
+      reserved_is = split;
+      callers_are = opened.count;
+      life_is = elim [ Ordinary ↦ opened.ordinary.tags.life_is | Reserved ↦ opened.reserved.tags.life_is ];
+      least_is = opened.ordinary.least;
+      ordinary_bits = ((layout_of tags Ordinary).shift, one, refl);
+      reserved_bits = ((layout_of tags Reserved).shift, other, refl);
+      idle_all = λ caller low. let hand = entry hands caller low in
+          get_or-map part_of hands caller hand.0 (idle false) low ∙ part_idle caller hand.0 low;
+    }
+
+    -- as many hands as callers, in the order of their numbers
+    pub every : length hands ≡ queue.agents_of tags.ordinary
+    every = opened.count ∙ sym opened.ordinary.tags.callers_is
+
+    pub in_order : AreOrdered hands
+    in_order n low = let hand = entry hands n low in
+        get_or-map number_of hands n hand.0 0 low
+        ∙ opened.ordered n (get_or hands n hand.0) (entry_or hands n hand.0 low)

@@ -1,0 +1,55 @@
+-- What clauses on answers give.
+use Rattle.std.proofs.Common.{◌≡◌, true, false, Option, Some, None, is_some, IsSome, Result, Ok, Err, OnOk, OnErr, IfOk, IfErr, IsOk, refl, ap}
+
+-- what is known of the value of an answer
+pub ok_map : {A E : Type 0} {P Q : A → Type 0} (r : Result A E) → IfOk r P → ((a : A) → P a → Q a) → IfOk r Q
+ok_map (Ok a) p f = f a p
+ok_map (Err e) p f = tt
+
+pub both_ok : {A E P : Type 0} {Q T : A → Type 0} (r : Result A E) → OnOk r P → IfOk r Q → ((a : A) → P → Q a → T a) → IfOk r T
+both_ok (Ok a) p q f = f a p q
+both_ok (Err e) p q f = tt
+
+pub ok_only : {A E : Type 0} (P : Type 0) (r : Result A E) → IfOk r (λ a. P) → OnOk r P
+ok_only P (Ok a) p = p
+ok_only P (Err e) p = tt
+
+pub err_same : {A E : Type 0} (X : Type 0) (f : E) (r : Result A E) → IfErr r (λ fault. (fault ≡ f) × X) → OnErr r X
+err_same X f (Ok a) h = tt
+err_same X f (Err e) h = h.1
+
+-- a refusal for the only cause that there may be
+pub err_since : {A E : Type 0} (X : Type 0) (f : E) (r : Result A E) → IfErr r (λ fault. (fault ≡ f) × X) → ¬ (IsOk r) → r ≡ Err f
+err_since X f (Ok a) h bad = absurd (bad refl)
+err_since X f (Err e) h bad = ap Err h.0
+
+-- standing in a group, as a test and as a fact
+pub none_since : {A : Type 0} (o : Option A) → is_some o ≡ false → o ≡ None
+none_since None e = refl
+none_since (Some a) e = absurd cc
+
+pub some_since : {A : Type 0} (o : Option A) → is_some o ≡ true → ¬ (o ≡ None)
+some_since None e n = cc
+some_since (Some a) e n = cc
+
+pub not_some_since : {A : Type 0} (o : Option A) → is_some o ≡ false → ¬ (IsSome o)
+not_some_since None e n = cc
+not_some_since (Some a) e n = cc
+
+pub both_on : {A E : Type 0} (P Q : Type 0) (r : Result A E) → OnOk r P → OnOk r Q → OnOk r (P × Q)
+both_on P Q (Ok a) p q = (p, q)
+both_on P Q (Err e) p q = tt
+
+-- an answer that is a value
+pub ok_since : {A E : Type 0} (r : Result A E) (a : A) → r ≡ Ok a → IsOk r
+ok_since (Ok b) a e = refl
+ok_since (Err f) a e = absurd (cc)
+
+-- what follows from a value, whichever it is
+pub on_map : {A E Q : Type 0} (P : Type 0) (r : Result A E) → OnOk r P → (P → Q) → IfOk r (λ a. Q)
+on_map P (Ok a) p f = f p
+on_map P (Err e) p f = tt
+
+pub either_way : {A E P : Type 0} (r : Result A E) → OnOk r P → OnErr r P → P
+either_way (Ok a) p q = p
+either_way (Err e) p q = q

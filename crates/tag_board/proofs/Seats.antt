@@ -1,0 +1,108 @@
+-- The world after a call of one hand.
+use Rattle.std.proofs.Common.{◌≡◌, ◌≢◌, ℕ, ◌+◌, ◌<◌, ◌≤◌, ⊎_elim, List, length, map, get_or, set, refl, sym, ap, ◌∙◌, subst, arith, true, false, is_some, All, get_or-set_other, get_or-set_same, length-set}
+use mathlib.Core.Logic.{dite}
+use native.Mathlib.Decide.{ℕ_discrete}
+use Rattle.std.proofs.lemmas.Bool.{both_ways, cases_lt}
+use Rattle.std.proofs.lemmas.List.{map-set, set-get_or, length-map, get_or-map}
+use Rattle.tag_sets.specs.declared.hand.Hand.{Hand}
+use Rattle.tag_sets.specs.declared.kind.Kind.{Kind}
+use Rattle.tag_sets.specs.declared.kind.Kind.TheVariants.{Ordinary, Reserved}
+use Rattle.tag_sets.specs.declared.tags.Tags.{Tags}
+use Rattle.tag_core.specs.declared.shape.Shape.{Shape}
+use Rattle.tag_sets.specs.Hands.{number_of, Holds, standing_of, hint_of, HasRoom, IsHandOf}
+use Rattle.tag_board.specs.Parts.{part_of, record_in, terms_of, state_of_all, AreOrdered}
+use Rattle.tag_board.specs.Refusals.{IsSpent}
+use Rattle.tag_board.specs.Replays.{Changes}
+use Rattle.tag_board.specs.States.{Part, State, idle}
+use Rattle.tag_board.proofs.Holdings.{holds_true, true_holds}
+
+module _ {R : Type 0} (tags : Tags R) (hands : List (Hand R)) (i : ℕ) (old new : Hand R) (within : i < length hands)
+    (here : old ≡ get_or hands i old) where
+  -- a caller's part is that of the hand at its place
+  pub part_here : (state_of_all tags hands).part i ≡ part_of old
+  part_here = get_or-map part_of hands i old (idle false) within ∙ ap part_of (sym here)
+
+  pub held_here : (tag : ℕ) → ((state_of_all tags hands).part i).held tag ≡ true → Holds old tag
+  held_here tag e = holds_true old tag (sym (ap (λ (p : Part). p.held tag) part_here) ∙ e)
+
+  pub here_held : (tag : ℕ) → Holds old tag → ((state_of_all tags hands).part i).held tag ≡ true
+  here_held tag h = ap (λ (p : Part). p.held tag) part_here ∙ true_holds old tag h
+
+  pub none_here : (tag : ℕ) → ((state_of_all tags hands).part i).held tag ≡ false → ¬ (Holds old tag)
+  none_here tag e h = both_ways _ e (here_held tag h)
+
+  -- where the hand stands
+  pub stands_here : is_some (standing_of old) ≡ ((state_of_all tags hands).part i).stands
+  stands_here = sym (ap (λ (p : Part). p.stands) part_here)
+
+  -- the hand's part changed so, and nothing else of the world
+  pub changes : (change : Part → Part) → part_of new ≡ change (part_of old)
+      → Changes i change (state_of_all tags hands) (state_of_all tags (set hands i new))
+  changes change e =
+      let moved : map part_of (set hands i new) ≡ set (map part_of hands) i (part_of new) = map-set part_of hands i new in
+      let long : i < length (map part_of hands) = let l = length-map hands part_of in omega arith in record {
+        terms = ap (terms_of tags) (length-set hands i new);
+        total = refl;
+        own = ap (λ (ps : List Part). get_or ps i (idle false)) moved ∙ get_or-set_same (map part_of hands) i (part_of new) (idle false) long
+            ∙ e ∙ ap change (sym part_here);
+        others = λ other ne. ap (λ (ps : List Part). get_or ps other (idle false)) moved
+            ∙ get_or-set_other (map part_of hands) i other (part_of new) (idle false) ne;
+      }
+
+  -- and the hands stand in the order of their numbers as before
+  pub ordered : AreOrdered hands → number_of new ≡ number_of old → AreOrdered (set hands i new)
+  ordered before same n low =
+      let moved : map number_of (set hands i new) ≡ set (map number_of hands) i (number_of new) = map-set number_of hands i new in
+      let at : number_of new ≡ get_or (map number_of hands) i 0 =
+      same ∙ ap number_of here ∙ sym (get_or-map number_of hands i old 0 within) in
+      let back : set (map number_of hands) i (number_of new) ≡ map number_of hands =
+      ap (set (map number_of hands) i) at ∙ set-get_or (map number_of hands) i 0 in
+      ap (λ (ns : List ℕ). get_or ns n 0) (moved ∙ back) ∙ before n (let l = length-set hands i new in omega arith)
+
+  -- a hand that is as it was leaves the hands as they were
+  pub unmoved : new ≡ old → set hands i new ≡ hands
+  unmoved same = ap (set hands i) (same ∙ here) ∙ set-get_or hands i old
+
+-- a hand of the list is one of the tags' own
+pub own_here : {R : Type 0} (tags : Tags R) (hands : List (Hand R)) (i : ℕ) (old : Hand R) → i < length hands → old ≡ get_or hands i old
+    → All (IsHandOf tags) hands → IsHandOf tags old
+own_here tags hands i old within here own = subst (IsHandOf tags) (sym here) (own i old within)
+
+-- a world in which a caller did not change is as it was
+pub same_state : (old new : State) (i : ℕ) → Changes i (λ (p : Part). p) old new → new ≡ old
+same_state old new i c = λ j. record {
+  terms = c.terms j;
+  total = c.total j;
+  part = λ other. dite (ℕ_discrete other i)
+      (λ (e : other ≡ i). subst (λ (k : ℕ). new.part k ≡ old.part k) (sym e) c.own)
+      (λ (ne : other ≢ i). c.others other ne) j;
+}
+
+module _ {R : Type 0} (tags : Tags R) (hands : List (Hand R)) (i : ℕ) (old : Hand R) (within : i < length hands)
+    (here : old ≡ get_or hands i old) (own : IsHandOf tags old) where
+  -- how many tags of a set the hand may win
+  life_here : (kind : Kind) → (record_in old kind).shape.life ≡ (state_of_all tags hands).terms.life kind
+  life_here Ordinary = ap (λ (k : Shape). k.life) own.1.0.1
+  life_here Reserved = ap (λ (k : Shape). k.life) own.0.0.1
+
+  won_here : (kind : Kind) → ((state_of_all tags hands).part i).won kind ≡ (record_in old kind).won
+  won_here kind = ap (λ (p : Part). p.won kind) (part_here tags hands i old old within here)
+
+  -- the hand has room where it is not spent
+  pub spent_here : (kind : Kind) (n : ℕ) → IsSpent (state_of_all tags hands) i kind n → ¬ (HasRoom old kind n)
+  spent_here kind n spent room = let life = life_here kind in let won = won_here kind in absurd (omega arith)
+
+  pub room_here : (kind : Kind) (n : ℕ) → ¬ (IsSpent (state_of_all tags hands) i kind n) → HasRoom old kind n
+  room_here kind n unspent = let life = life_here kind in let won = won_here kind in ⊎_elim
+      (λ (less : (record_in old kind).shape.life < (record_in old kind).won + n). absurd (unspent (omega arith)))
+      (λ (fits : (record_in old kind).won + n ≤ (record_in old kind).shape.life). fits)
+      (cases_lt (record_in old kind).shape.life ((record_in old kind).won + n))
+
+  pub spent_since : (kind : Kind) (n : ℕ) → ¬ (HasRoom old kind n) → IsSpent (state_of_all tags hands) i kind n
+  spent_since kind n full = let life = life_here kind in let won = won_here kind in ⊎_elim
+      (λ (less : (record_in old kind).shape.life < (record_in old kind).won + n). omega arith)
+      (λ (fits : (record_in old kind).won + n ≤ (record_in old kind).shape.life). absurd (full fits))
+      (cases_lt (record_in old kind).shape.life ((record_in old kind).won + n))
+
+  pub round_here : ((state_of_all tags hands).part i).round_robin ≡ (hint_of old Ordinary).round_robin
+  round_here = ap (λ (p : Part). p.round_robin) (part_here tags hands i old old within here)

@@ -1,0 +1,116 @@
+-- How many tags a hand holds: as many as bits of its masks are 1.
+use Rattle.std.proofs.Common.{◌≡◌, ℕ, zero, suc, ◌+◌, ◌<◌, ◌≤◌, Bool, false, cond, ◌&&◌, nat_eq, refl, sym, ap, ◌∙◌, arith, ⊎_elim}
+use Rattle.std.proofs.Math.Logic.{∥∥₁_elim}
+use native.Mathlib.Nat.{ℕ_set}
+use Rattle.std.proofs.lemmas.Bool.{lt-ltb, le-ltb, cases_lt}
+use Rattle.std.proofs.lemmas.Nat.Bits.{bit_at-lt}
+use Rattle.tag_layout.specs.Sums.{sum_below}
+use Rattle.tag_layout.proofs.SumFacts.{sum_below-same, sum_below-split}
+use Rattle.tag_model.specs.Totals.{count_below}
+use Rattle.tag_core.specs.declared.caller.Caller.{Caller}
+use Rattle.tag_core.specs.declared.record.Record.{Record}
+use Rattle.tag_core.specs.declared.shape.Shape.{Shape}
+use Rattle.tag_core.specs.Callers.{record_of}
+use Rattle.tag_core.specs.Records.{tag_bit}
+use Rattle.tag_core.specs.Sizes.{size_of}
+use Rattle.tag_core.proofs.Ends.{by_tags}
+use Rattle.tag_queue.specs.Agents as queue
+use Rattle.tag_sets.specs.declared.hand.Hand.{Hand}
+use Rattle.tag_sets.specs.declared.kind.Kind.{Kind}
+use Rattle.tag_sets.specs.declared.kind.Kind.TheVariants.{Ordinary, Reserved}
+use Rattle.tag_sets.specs.declared.tags.Tags.{Tags}
+use Rattle.tag_sets.specs.Hands.{IsHandOf, layout_of, reserved_of, total_of, split_of}
+use Rattle.tag_sets.specs.Sets.{kind_of, number_in_set}
+use Rattle.tag_sets.proofs.Numbering.{reserved_below, ordinary_above}
+use Rattle.tag_board.specs.Parts.{record_in, has, holds}
+
+one_bit : (b : ℕ) → b < 2 → cond (nat_eq b 1) 1 0 ≡ b
+one_bit zero low = refl
+one_bit (suc zero) low = refl
+one_bit (suc (suc b)) low = absurd (omega arith)
+
+-- where a sum is 0, so is each part of it
+pub none_below : (f : ℕ → ℕ) (n : ℕ) → sum_below f n ≡ 0 → (k : ℕ) → k < n → f k ≡ 0
+none_below f zero none k low = absurd (omega arith)
+none_below f (suc n) none k low = ⊎_elim
+    (λ (less : k < n). none_below f n (omega arith) k less)
+    (λ (last : n ≤ k). let e : k ≡ n = omega arith in let z : f n ≡ 0 = omega arith in ap f e ∙ z)
+    (cases_lt k n)
+
+module _ {R : Type 0} where
+  -- the tag's bit in the masks of a record, and how many tags there are
+  abbrev bit_in : Record R → ℕ → ℕ
+  bit_in r n = tag_bit r.shape.layout r.held n
+
+  abbrev depth_in : Record R → ℕ
+  depth_in r = r.shape.layout.depth
+
+  -- the bits of a caller's masks, counted by tags
+  bits_are : (c : Caller R) → size_of (record_of c).held ≡ sum_below (bit_in (record_of c)) (depth_in (record_of c))
+  bits_are c = ∥∥₁_elim (c.shown (record_of c) c.knows) (ℕ_set _ _)
+      (λ h. by_tags c.shape.value (record_of c).held h.known.held_wide h.known.within)
+
+  has_bit : (r : Record R) (n : ℕ) → n < depth_in r → cond (has r n) 1 0 ≡ bit_in r n
+  has_bit r n low = ap (λ (b : Bool). cond (b && nat_eq (bit_in r n) 1) 1 0) (lt-ltb n (depth_in r) low)
+      ∙ one_bit (bit_in r n) (bit_at-lt _ _)
+
+  -- as many tags of a set pass the test as the caller's masks have bits
+  size_has : (c : Caller R) → count_below (has (record_of c)) (depth_in (record_of c)) ≡ size_of (record_of c).held
+  size_has c = let r = record_of c in
+      sum_below-same (λ n. cond (has r n) 1 0) (bit_in r) (depth_in r) (has_bit r) ∙ sym (bits_are c)
+
+  -- a caller whose masks are empty has no tag
+  has_none : (c : Caller R) → size_of (record_of c).held ≡ 0 → (n : ℕ) → has (record_of c) n ≡ false
+  has_none c none n = let r = record_of c in ⊎_elim
+      (λ (low : n < depth_in r). let zero_bit = none_below (bit_in r) (depth_in r) (sym (bits_are c) ∙ none) n low in
+      ap (λ (b : Bool). b && nat_eq (bit_in r n) 1) (lt-ltb n (depth_in r) low) ∙ ap (λ (b : ℕ). nat_eq b 1) zero_bit)
+      (λ (high : depth_in r ≤ n). ap (λ (b : Bool). b && nat_eq (bit_in r n) 1) (le-ltb n (depth_in r) high))
+      (cases_lt n (depth_in r))
+
+  -- a hand whose masks of both sets are empty holds no tag
+  pub holds_none : (hand : Hand R) → size_of (record_in hand Ordinary).held ≡ 0
+      → size_of (record_in hand Reserved).held ≡ 0 → (tag : ℕ) → holds hand tag ≡ false
+  holds_none hand one other tag =
+      let n : ℕ = number_in_set (split_of hand) tag in
+      elim (kind_of (split_of hand) tag) as (λ (k : Kind). has (record_in hand k) n ≡ false) [
+        | Ordinary ↦ has_none (queue.caller_of hand.ordinary) one n
+        | Reserved ↦ has_none (queue.caller_of hand.reserved) other n
+      ]
+
+  module _ (tags : Tags R) (hand : Hand R) (own : IsHandOf tags hand) where
+    -- a reserved tag, and an ordinary one
+    holds_reserved : (tag : ℕ) → tag < reserved_of tags → holds hand tag ≡ has (record_in hand Reserved) tag
+    holds_reserved tag low = let is = reserved_below (reserved_of tags) tag low in
+        ap (λ (s : ℕ). has (record_in hand (kind_of s tag)) (number_in_set s tag)) own.2
+        ∙ (λ j. has (record_in hand (is.kind j)) (is.number j))
+
+    holds_ordinary : (n : ℕ) → holds hand (reserved_of tags + n) ≡ has (record_in hand Ordinary) n
+    holds_ordinary n = let tag : ℕ = reserved_of tags + n in
+        let is = ordinary_above (reserved_of tags) tag (omega arith) in
+        let number : number_in_set (reserved_of tags) tag ≡ n = let e = is.number in omega arith in
+        ap (λ (s : ℕ). has (record_in hand (kind_of s tag)) (number_in_set s tag)) own.2
+        ∙ (λ j. has (record_in hand (is.kind j)) (number j))
+
+    reserved_deep : (record_in hand Reserved).shape.layout.depth ≡ reserved_of tags
+    reserved_deep = ap (λ (k : Shape). k.layout.depth) own.0.0.1 ∙ tags.reserved_is
+
+    ordinary_deep : (record_in hand Ordinary).shape.layout.depth ≡ (layout_of tags Ordinary).depth
+    ordinary_deep = ap (λ (k : Shape). k.layout.depth) own.1.0.1
+
+    -- as many tags of the range pass the test as the masks of both sets have bits
+    pub size_holds : count_below (holds hand) (total_of tags)
+        ≡ size_of (record_in hand Ordinary).held + size_of (record_in hand Reserved).held
+    size_holds =
+        let r : ℕ = reserved_of tags in let n : ℕ = (layout_of tags Ordinary).depth in
+        let split = sum_below-split (λ tag. cond (holds hand tag) 1 0) r n in
+        let first = sum_below-same (λ tag. cond (holds hand tag) 1 0)
+        (λ tag. cond (has (record_in hand Reserved) tag) 1 0) r
+        (λ tag low. ap (λ (b : Bool). cond b 1 0) (holds_reserved tag low)) in
+        let second = sum_below-same (λ k. cond (holds hand (r + k)) 1 0)
+        (λ k. cond (has (record_in hand Ordinary) k) 1 0) n
+        (λ k low. ap (λ (b : Bool). cond b 1 0) (holds_ordinary k)) in
+        let one = ap (count_below (has (record_in hand Reserved))) (sym reserved_deep)
+        ∙ size_has (queue.caller_of hand.reserved) in
+        let other = ap (count_below (has (record_in hand Ordinary))) (sym ordinary_deep)
+        ∙ size_has (queue.caller_of hand.ordinary) in
+        omega arith

@@ -1,0 +1,142 @@
+-- What a call counts of its agent: tags that it won and that it gave back.
+use Rattle.std.proofs.Common.{◌≡◌, ℕ, ◌+◌, suc, List, [], ◌∷◌, length, Option, refl, ap, ◌∙◌, arith}
+use Rattle.tag_layout.specs.Layout.{Layout}
+use Rattle.tag_core.specs.declared.record.Record.{Record}
+use Rattle.tag_core.specs.declared.step.Step.TheVariants.{Word}
+use Rattle.tag_core.specs.declared.word_step.WordStep.TheVariants.{Look, LookAside}
+use Rattle.tag_core.specs.Callers.{record_of}
+use Rattle.tag_core.specs.Records.{record_after}
+use Rattle.tag_search.specs.Gains.{count_of, count_of_run}
+use Rattle.tag_search.specs.Shared.{record_after_all}
+use Rattle.tag_queue.specs.declared.agent.Agent.{Agent}
+use Rattle.tag_queue.specs.Agents.{caller_of, standing_of, hint_of, SameElse}
+use Rattle.tag_queue.specs.Batches.{Run, GivesBack, record_after_runs}
+use Rattle.tag_queue.specs.Clears.{Puts}
+use Rattle.tag_queue.specs.Gets.{GetsPlain, GetsShallow, GetsBatch}
+use Rattle.tag_queue.specs.Slots.{Posts, Takes, Misses}
+use Rattle.tag_queue.proofs.Giving.{same_number}
+use Rattle.tag_sets.specs.Looks.{Finds, looks_from}
+
+-- one record counts so many tags more than another of the same caller
+pub record Counts {R : Type 0} (won back : ℕ) (old new : Record R) : Type 0 where
+  pub won_is : new.won ≡ old.won + won
+  pub back_is : new.back ≡ old.back + back
+  pub number_is : new.number ≡ old.number
+
+-- the agent counts so many tags more; it stands where it stood, and its gets go round as before
+pub record Tallies {R : Type 0} (won back : ℕ) (old new : Agent R) : Type 0 where
+  pub counts : Counts won back (record_of (caller_of old)) (record_of (caller_of new))
+  pub stands : standing_of new ≡ standing_of old
+  pub round : (hint_of new).round_robin ≡ (hint_of old).round_robin
+
+module _ {R : Type 0} where
+  -- the agent stands where it stood, and its gets go round as before
+  still : (old new : Agent R) → SameElse old new → (standing_of new ≡ standing_of old) × ((hint_of new).round_robin ≡ (hint_of old).round_robin)
+  still old new same = (ap (λ w. w.standing) same.1.1, ap (λ h. h.round_robin) same.0)
+
+  pub nothing_counted : (r : Record R) → Counts 0 0 r r
+  nothing_counted r = record { won_is = omega arith; back_is = omega arith; number_is = refl }
+
+  -- looks count nothing
+  looks_count : (found : List (ℕ × ℕ)) (word : ℕ) (r : Record R) → Counts 0 0 r (record_after_all (looks_from word found) r)
+  looks_count [] word r = nothing_counted r
+  looks_count (pair ∷ found) word r =
+      let s : Record R = record_after (Word (LookAside word pair.1)) (record_after (Word (Look word pair.0)) r) in
+      let rest = looks_count found (suc word) s in let won = rest.won_is in let back = rest.back_is in
+      record { won_is = omega arith; back_is = omega arith; number_is = rest.number_is }
+
+  runs_won : (runs : List Run) (r : Record R) → (record_after_runs runs r).won ≡ r.won
+  runs_won [] r = refl
+  runs_won (run ∷ runs) r = let rest = runs_won runs r in omega arith
+
+  module _ (l : Layout) (old new : Agent R) where
+    pub gets_plain : (answer : Option ℕ) → GetsPlain l answer old new → Tallies (count_of answer) 0 old new
+    gets_plain answer g = let gains = g.searches.gains in let back = gains.back in record {
+      counts = record { won_is = gains.count; back_is = omega arith; number_is = gains.number };
+      stands = ap (λ w. w.standing) g.others.1;
+      round = g.searches.hint.round_robin;
+    }
+
+    pub gets_shallow : (depth : ℕ) (answer : Option ℕ) → GetsShallow l depth answer old new → Tallies (count_of answer) 0 old new
+    gets_shallow depth answer g = let gains = g.searches.gains in let back = gains.back in record {
+      counts = record { won_is = gains.count; back_is = omega arith; number_is = gains.number };
+      stands = ap (λ w. w.standing) g.others.1;
+      round = g.searches.hint.round_robin;
+    }
+
+    pub gets_batch : (n : ℕ) (answer : Option (ℕ × ℕ)) → GetsBatch l n answer old new → Tallies (count_of_run answer) 0 old new
+    gets_batch n answer g = let back = g.gains.back in record {
+      counts = record { won_is = g.gains.count; back_is = omega arith; number_is = g.gains.number };
+      stands = ap (λ w. w.standing) g.others.1;
+      round = g.hint.round_robin;
+    }
+
+    pub puts : (tag : ℕ) → standing_of new ≡ standing_of old → Puts l tag old new → Tallies 0 1 old new
+    puts tag stands p = record {
+      counts = record {
+        won_is = ap (λ (r : Record R). r.won) p.put.known;
+        back_is = ap (λ (r : Record R). r.back) p.put.known;
+        number_is = ap (λ (r : Record R). r.number) p.put.known;
+      };
+      stands = stands;
+      round = p.hint.round_robin;
+    }
+
+    pub gives : (tags : List ℕ) → standing_of new ≡ standing_of old
+        → (record_of (caller_of new)).back ≡ (record_of (caller_of old)).back + length tags → GivesBack l tags old new
+        → Tallies 0 (length tags) old new
+    gives tags stands back g = let r = record_of (caller_of old) in
+        let won = ap (λ (r : Record R). r.won) g.gives.known ∙ runs_won g.gives.runs r in record {
+          counts = record {
+            won_is = omega arith;
+            back_is = back;
+            number_is = ap (λ (r : Record R). r.number) g.gives.known ∙ same_number g.gives.runs r;
+          };
+          stands = stands;
+          round = g.hint.round_robin;
+        }
+
+  module _ (old new : Agent R) where
+    pub finds : (found : List (ℕ × ℕ)) → Finds (looks_from 0 found) old new → Tallies 0 0 old new
+    finds found f = let all = looks_count found 0 (record_of (caller_of old)) in let s = still old new f.same_else in record {
+      counts = record {
+        won_is = ap (λ (r : Record R). r.won) f.known ∙ all.won_is;
+        back_is = ap (λ (r : Record R). r.back) f.known ∙ all.back_is;
+        number_is = ap (λ (r : Record R). r.number) f.known ∙ all.number_is;
+      };
+      stands = s.0;
+      round = s.1;
+    }
+
+    pub posts : (tag : ℕ) → Posts tag old new → Tallies 0 0 old new
+    posts tag p = let s = still old new p.same_else in record {
+      counts = record {
+        won_is = ap (λ (r : Record R). r.won) p.step.known;
+        back_is = ap (λ (r : Record R). r.back) p.step.known;
+        number_is = ap (λ (r : Record R). r.number) p.step.known;
+      };
+      stands = s.0;
+      round = s.1;
+    }
+
+    pub takes : (tag : ℕ) → Takes tag old new → Tallies 0 0 old new
+    takes tag t = let s = still old new t.same_else in record {
+      counts = record {
+        won_is = ap (λ (r : Record R). r.won) t.step.known;
+        back_is = ap (λ (r : Record R). r.back) t.step.known;
+        number_is = ap (λ (r : Record R). r.number) t.step.known;
+      };
+      stands = s.0;
+      round = s.1;
+    }
+
+    pub misses : (tag : ℕ) → Misses tag old new → Tallies 0 0 old new
+    misses tag m = let s = still old new m.same_else in record {
+      counts = record {
+        won_is = ap (λ (r : Record R). r.won) m.step.known;
+        back_is = ap (λ (r : Record R). r.back) m.step.known;
+        number_is = ap (λ (r : Record R). r.number) m.step.known;
+      };
+      stands = s.0;
+      round = s.1;
+    }

@@ -1,0 +1,53 @@
+-- The bits are those that the call found, and nothing changes but the caller's own lists.
+use Rattle.std.proofs.Common.{◌≡◌, ℕ, List, length, ap, sym, ◌∙◌, subst, arith, set, length-set}
+use Rattle.std.proofs.lemmas.List.Elements.{All-set}
+use Rattle.tag_sets.specs.Hands.{IsHandOf}
+use Rattle.std.specs.Int.{div_ceil}
+use Rattle.tag_board.specs.Boards.{state_of, lones_of}
+use Rattle.tag_board.specs.Parts.{state_of_all, lones_of_all}
+use Rattle.tag_board.specs.Looks.{ListsBusy}
+use Rattle.tag_board.proofs.Moves.{look_moves, looks_moves, as_before}
+use Rattle.tag_board.proofs.Seats.{own_here, changes, ordered, same_state, held_here}
+use Rattle.tag_board.proofs.Lookings.{busy_there, whole_list}
+use Rattle.tag_board.specs.Lones.{LoneListsBusy}
+use Rattle.tag_board.proofs.Solitary.{lones_moved}
+use Rattle.tag_board.proofs.SoloShows.{lists_alone}
+use Rattle.tag_board.proofs.board.Board.busy.Goals as goal
+
+pub invariant_of-self : goal.invariant_of-self
+invariant_of-self c =
+    let b = c.args.self.now in let i : ℕ = c.args.caller in let old = c.index_mut.result.now in let new = c.busy.new.hand in record {
+      own = All-set (IsHandOf b.tags) b.hands.items i new c.busy.ensures.hand b.own;
+      ordered = ordered b.tags b.hands.items i old new c.requires c.index_mut.ensures.value b.ordered
+          (let l = c.busy.ensures.lists in
+          (looks_moves old l.between new (look_moves old l.between _ _ _ l.first) (look_moves l.between new _ _ _ l.second)).number);
+      every = length-set b.hands.items i new ∙ b.every;
+      sizes = b.sizes;
+    }
+
+pub returns-clause-answers : goal.returns-clause-answers
+returns-clause-answers c =
+    let b = c.args.self.now in let i : ℕ = c.args.caller in let old = c.index_mut.result.now in let new = c.busy.new.hand in
+    let hands = b.hands.items in let here = c.index_mut.ensures.value in let l = c.busy.ensures.lists in
+    let moves = looks_moves old l.between new (look_moves old l.between _ _ _ l.first) (look_moves l.between new _ _ _ l.second) in
+    let into = c.busy.new.into in let bits = c.in_ok-bits.bits in
+    let long : length into ≡ bits.len = let e = c.busy.ensures.room in let f = ap length c.deref_mut.ensures.value in let g = bits.ok in omega arith in
+    let P : List ℕ → Type 0 = λ x. ListsBusy i (state_of b) x (state_of_all b.tags (set hands i new)) in
+    subst P (sym (whole_list bits.items into bits.len long)) record {
+      long = let few = c.in_ok-bits.ensures.len in let d = c.div_ceil.ensures in
+          let z = ap (λ (n : ℕ). div_ceil n 64) b.sizes.0 in omega arith;
+      held = λ tag h. c.busy.ensures.held tag (held_here b.tags hands i old new c.requires here tag h);
+      there = λ tag high low. busy_there b.tags hands old new into c.busy.result tag l high low;
+      same = same_state (state_of b) _ i (changes b.tags hands i old new c.requires here as_before moves.part);
+    }
+
+pub returns-clause-alone : goal.returns-clause-alone
+returns-clause-alone c = λ one.
+    let b = c.args.self.now in let i : ℕ = c.args.caller in let old = c.index_mut.result.now in let new = c.busy.new.hand in
+    let hands = b.hands.items in let here = c.index_mut.ensures.value in let own = own_here b.tags hands i old c.requires here b.own in
+    let into = c.busy.new.into in let bits = c.in_ok-bits.bits in
+    let long : length into ≡ bits.len = let e = c.busy.ensures.room in let f = ap length c.deref_mut.ensures.value in let g = bits.ok in omega arith in
+    let P : List ℕ → Type 0 = λ x. LoneListsBusy (lones_of b) x (lones_of_all (set hands i new)) in
+    subst P (sym (whole_list bits.items into bits.len long))
+    (lones_moved hands i old new one c.requires here (λ x y. LoneListsBusy x into y)
+    (lists_alone b.tags old new own (sym b.every ∙ one) into c.busy.result c.busy.ensures.lists))

@@ -1,0 +1,11 @@
+-- The callers are all there, and the sums over them are those over both sets.
+use Rattle.std.proofs.lemmas.Bool.{false≢true}
+use Rattle.tag_board.proofs.Endings.{all_there, totals_are}
+use Rattle.tag_board.proofs.board.Board.close.Goals as goal
+
+pub unreachable-requires : goal.unreachable-requires
+unreachable-requires c = let b = c.args.self in
+    false≢true (c.in_default.ensures.succeeds.1 (all_there b.tags b.hands.items b.ordered b.every))
+
+pub returns : goal.returns
+returns c = let b = c.args.self in totals_are b.tags b.hands.items c.in-Ok.totals b.own c.in-Ok.ensures.ok

@@ -1,0 +1,22 @@
+-- The hands of new tags have done nothing, and stand in the order of their numbers; a single one has touched nothing.
+use Rattle.tag_board.proofs.Newcomers.{opens, every, in_order}
+use Rattle.tag_board.proofs.SoloOpens.{opens_alone}
+use Rattle.tag_board.proofs.board.Board.open.Goals as goal
+
+pub invariant_of-result : goal.invariant_of-result
+invariant_of-result c = let o = c.in_ok-tags in let is = o.ensures.ok in record {
+  own = is.own;
+  ordered = in_order c.args.options o.tags o.hands.items is;
+  every = every c.args.options o.tags o.hands.items is;
+  sizes = o.ensures.range;
+}
+
+pub returns-clause-ok : goal.returns-clause-ok
+returns-clause-ok c = let o = c.in_ok-tags in let e = o.ensures in
+    opens c.args.options o.tags o.hands.items e.ok c.args.total c.args.reserved e.range.0 e.range.1
+    e.ordinary_shift e.reserved_shift
+
+pub returns-clause-alone : goal.returns-clause-alone
+returns-clause-alone c = λ one. let o = c.in_ok-tags in let e = o.ensures in
+    opens_alone c.args.options o.tags o.hands.items e.ok one c.args.total c.args.reserved e.range.0 e.range.1
+    e.ordinary_shift e.reserved_shift

@@ -1,0 +1,68 @@
+-- All callers are handed in, so only the total, tags in use, waits and memory are in the way. What was in use is told by the
+-- sums over both sets, which balance.
+use Rattle.std.proofs.Common.{◌≡◌, refl, sym, ap, ◌∙◌}
+use Rattle.tag_queue.specs.Agents as queue
+use Rattle.tag_board.proofs.Continuing.{order_kept, every_there, world_resized, world_free, total_kept, world_kept, numbers_kept, may_resize, refuses}
+use Rattle.tag_board.proofs.Endings.{all_there}
+use Rattle.tag_board.proofs.SoloResizes.{resizes_alone, unchanged_alone}
+use Rattle.tag_board.proofs.board.Board.resize.Goals as goal
+
+pub invariant_of-result : goal.invariant_of-result
+invariant_of-result c =
+    let b = c.args.self in let tags = c.in-Ok.tags in let hands = c.in-Ok.hands.items in
+    let is = c.in-Ok.ensures.ok in record {
+      own = is.own;
+      ordered = (order_kept b.hands.items hands is.numbers b.ordered).1;
+      every = every_there b.tags tags b.hands.items hands c.args.total is (c.in-Ok.ensures.may refl).1.0 b.every;
+      sizes = (is.total_is, is.split ∙ b.sizes.1);
+    }
+
+pub returns-in-Ok-clause-answers : goal.returns-in-Ok-clause-answers
+returns-in-Ok-clause-answers c =
+    let b = c.args.self in let tags = c.in-Ok.tags in let hands = c.in-Ok.hands.items in let is = c.in-Ok.ensures.ok in
+    let may = c.in-Ok.ensures.may refl in let none = may.1.0 in (
+      may_resize b.tags b.hands.items b.own c.args.total may,
+      world_resized b.tags tags b.hands.items hands c.args.total is none,
+      world_free b.tags tags b.hands.items hands c.args.total is none,
+    )
+
+pub invariant_of-board : goal.invariant_of-board
+invariant_of-board c =
+    let b = c.args.self in let fault = c.in-Err.field-0 in let back = c.in-Err.ensures.err in
+    let kept = order_kept b.hands.items fault.hands.items
+    (numbers_kept b.tags fault.tags b.hands.items fault.hands.items back.0 back.1) b.ordered in record {
+      own = c.in-Err.ensures.own;
+      ordered = kept.1;
+      every = kept.0 ∙ b.every ∙ sym (ap queue.agents_of back.0.ordinary);
+      sizes = (
+        total_kept b.tags fault.tags b.hands.items fault.hands.items back.0 back.1 ∙ b.sizes.0,
+        back.0.split ∙ b.sizes.1,
+      );
+    }
+
+pub returns-in-Memory-clause-memory : goal.returns-in-Memory-clause-memory
+returns-in-Memory-clause-memory c = λ out. let b = c.args.self in
+    may_resize b.tags b.hands.items b.own c.args.total (c.in-Err.ensures.memory c.in-Memory.is)
+
+pub returns-in_default-clause-answers : goal.returns-in_default-clause-answers
+returns-in_default-clause-answers c =
+    let b = c.args.self in let fault = c.in-Err.field-0 in let e = c.in-Err.ensures in let hands = b.hands.items in (
+      refuses b.tags hands b.own c.args.total (λ cause. fault.cause ≡ cause)
+          record {
+            missing = e.missing;
+            too_deep = e.too_deep;
+            in_use = e.in_use;
+            waiting = e.waiting;
+            memory = e.memory;
+          } e.balance (all_there b.tags hands b.ordered b.every) fault.cause c.in_default.not-Memory refl,
+      world_kept b.tags fault.tags hands fault.hands.items e.err.0 e.err.1,
+    )
+
+pub returns-in-Ok-clause-alone : goal.returns-in-Ok-clause-alone
+returns-in-Ok-clause-alone c = λ one. let b = c.args.self in
+    resizes_alone b.tags c.in-Ok.tags b.hands.items c.in-Ok.hands.items c.args.total b.own (sym b.every ∙ one) one
+    c.in-Ok.ensures.ok
+
+pub returns-in_default-clause-alone : goal.returns-in_default-clause-alone
+returns-in_default-clause-alone c = λ one. let b = c.args.self in
+    unchanged_alone b.hands.items c.in-Err.field-0.hands.items one c.in-Err.ensures.err.1

@@ -1,0 +1,62 @@
+-- Each bit of the mask stands for a tag that the caller holds, and it is asked of each in turn.
+use Rattle.std.proofs.Common.{◌≡◌, ◌≢◌, ℕ, ◌+◌, ◌*◌, ◌%◌, ◌^◌, ◌<◌, nat_eq, bit_and, sym, ap, ◌∙◌, subst, arith}
+use Rattle.std.proofs.lemmas.Nat.{one_shl}
+use Rattle.std.specs.Int.{bit_at}
+use mathlib.Core.Logic.{dite}
+use native.Mathlib.Decide.{ℕ_discrete}
+use Rattle.tag_search.proofs.PlainFacts.{clear_of_mask, taken_of_mask}
+use Rattle.tag_board.specs.declared.board.Board.{Board}
+use Rattle.tag_board.specs.Boards.{state_of}
+use Rattle.tag_board.specs.Replays.{NobodyElseHolds}
+use Rattle.tag_board.proofs.Batching.{in_run, all_in_run}
+use Rattle.tag_board.proofs.Holders.{holder}
+use Rattle.tag_board.proofs.Ranges.{tag_low}
+use Rattle.tag_board.proofs.Seats.{own_here}
+use Rattle.tag_board.proofs.board.Board.tell_each_alone.Goals as goal
+use Rattle.tag_board.proofs.board.Board.tell_each_alone.Goals.{then-mask-place-ne0, else-mask-place-ne0}
+
+-- the mask has a bit at this place
+bit_there : (mask place : ℕ) → place < 64 → bit_and mask (1 * 2 ^ place % 2 ^ 64) ≢ 0 → bit_at mask place ≡ 1
+bit_there mask place low some = taken_of_mask mask place (λ z. some (ap (bit_and mask) (one_shl place 64 low) ∙ z))
+
+-- or it has none
+no_bit_there : (mask place : ℕ) → place < 64 → bit_and mask (1 * 2 ^ place % 2 ^ 64) ≡ 0 → bit_at mask place ≡ 0
+no_bit_there mask place low none = clear_of_mask mask place (sym (ap (bit_and mask) (one_shl place 64 low)) ∙ none)
+
+pub overflow_add-first : goal.overflow_add-first
+overflow_add-first c =
+    let b = c.args.self.now in let hands = b.hands.items in let place : ℕ = c.loop-place.place in let first : ℕ = c.args.first in
+    let one = bit_there c.args.mask place c.loop-place-test.true c.if-mask-place-ne0.true in
+    let h = holder hands c.args.caller (first + place) (c.requires.held (first + place) (in_run first c.args.mask place one)) in
+    let low = tag_low b.tags h.hand (own_here b.tags hands c.args.caller h.hand h.within h.here b.own) (first + place) h.holds in
+    let fits = b.tags.fits in omega arith
+
+pub tell_alone-requires-clause-held : goal.tell_alone-requires-clause-held
+tell_alone-requires-clause-held c =
+    let place : ℕ = c.loop-place.place in let first : ℕ = c.args.first in
+    let one = bit_there c.args.mask place c.loop-place-test.true c.if-mask-place-ne0.true in
+    ap (λ (b : Board). ((state_of b).part c.args.caller).held (first + place)) c.loop-place.invariant.same
+    ∙ c.requires.held (first + place) (in_run first c.args.mask place one)
+
+pub loop-place-preserved : goal.loop-place-preserved
+loop-place-preserved c = let place : ℕ = c.loop-place.place in let inv = c.loop-place.invariant in
+    elim c.if-mask-place-ne0.branch [
+      | then-mask-place-ne0 w ↦ record {
+        same = w.self-is ∙ w.tell_alone.ensures.same ∙ inv.same;
+        alone = λ k less one. dite (ℕ_discrete k place)
+            (λ (is : k ≡ place). subst (λ (n : ℕ). NobodyElseHolds (state_of c.args.self.now) c.args.caller (nat_eq (c.args.first + n))) (sym is)
+            (subst (λ (b : Board). NobodyElseHolds (state_of b) c.args.caller (nat_eq (c.args.first + place))) inv.same w.tell_alone.ensures.alone))
+            (λ (far : k ≢ place). inv.alone k (omega arith) one);
+      }
+      | else-mask-place-ne0 w ↦ record {
+        same = w.self-is ∙ inv.same;
+        alone = λ k less one. let none = no_bit_there c.args.mask place c.loop-place-test.true w.if-mask-place-ne0.false in dite (ℕ_discrete k place)
+            (λ (is : k ≡ place). let e : bit_at c.args.mask k ≡ 0 = ap (bit_at c.args.mask) is ∙ none in absurd (omega arith))
+            (λ (far : k ≢ place). inv.alone k (omega arith) one);
+      }
+    ]
+
+pub returns-clause-alone : goal.returns-clause-alone
+returns-clause-alone c = let end = c.loop-place-test.false in
+    all_in_run c.args.first c.args.mask (state_of c.args.self.now) c.args.caller (omega arith)
+    (λ k low one. c.loop-place.invariant.alone k (omega arith) one)

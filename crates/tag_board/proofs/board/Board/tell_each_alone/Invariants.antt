@@ -1,0 +1,13 @@
+-- The tags of the batch so far are held by nobody else, and the board is as it was.
+use Rattle.std.proofs.Common.{◌≡◌, ℕ, ◌+◌, ◌<◌}
+use Rattle.std.specs.Int.{bit_at}
+use Rattle.std.specs.Prelude.{nat_eq}
+use Rattle.tag_board.specs.Boards.{state_of}
+use Rattle.tag_board.specs.Replays.{NobodyElseHolds}
+use Rattle.tag_board.proofs.board.Board.tell_each_alone.Given as goal
+
+abbrev pub invariant-loop-place : goal.invariant-loop-place
+invariant-loop-place l = record {
+  same : l.self ≡ l.initial.self;
+  alone : (k : ℕ) → k < l.place → bit_at l.mask k ≡ 1 → NobodyElseHolds (state_of l.initial.self) l.caller (nat_eq (l.first + k));
+}

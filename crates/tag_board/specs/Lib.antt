@@ -1,0 +1,10 @@
+pub mod States
+pub mod Lones
+pub mod Parts
+pub mod Boards
+pub mod Refusals
+pub mod Replays
+pub mod Looks
+pub mod Opening
+pub mod Closing
+pub mod Resizes

@@ -1,0 +1,192 @@
+-- What the only caller of a board makes of each set by its own steps, and what its commands answer by that.
+use Rattle.std.specs.Prelude.{◌≡◌, ℕ, ◌-◌, ◌<◌, ◌*◌, Bool, true, false, not, ◌&&◌, ◌||◌, nat_eq, nat_lt, cond, if◌then◌else◌, List, length, slice_index, map, Option, None, Result, Ok, Err}
+use Rattle.std.specs.List.{list_any}
+use Rattle.tag_layout.specs.Layout.{Layout, word_of, place_of}
+use Rattle.tag_model.specs.Totals.{count_below}
+use Rattle.tag_search.specs.declared.hint.Hint.{Hint}
+use Rattle.tag_search.specs.Batch.{batch_words}
+use Rattle.tag_search.specs.Choice.{IsChoice, IsBatchChoice}
+use Rattle.tag_search.specs.Follows.{HintFollows, BatchFollows}
+use Rattle.tag_search.specs.Hints.{reduced}
+use Rattle.tag_search.specs.Pool.{Pool, is_busy, aside_at}
+use Rattle.tag_search.specs.Search.{Visit}
+use Rattle.tag_search.specs.Visits.{plain_visits, shallow_visits}
+use Rattle.tag_queue.specs.declared.fault.TagFault.{TagFault}
+use Rattle.tag_queue.specs.declared.queue.Options.{Options}
+use Rattle.tag_queue.specs.declared.resizes.ResizeCause.{ResizeCause}
+use Rattle.tag_queue.specs.Opening.{IsLaidOut}
+use Rattle.tag_queue.specs.declared.fault.TagFault.TheVariants.{NotPosted}
+use Rattle.tag_sets.specs.declared.kind.Kind.{Kind}
+use Rattle.tag_sets.specs.declared.kind.Kind.TheVariants.{Ordinary, Reserved}
+use Rattle.tag_sets.specs.declared.shown.Shown.{Shown}
+use Rattle.tag_sets.specs.Bits.{bit_in}
+use Rattle.tag_sets.specs.Gets.{whole, whole_run}
+use Rattle.tag_sets.specs.Sets.{kind_of, number_in_set, other_kind}
+
+-- a set as its only caller leaves it: its sizes, which places are free and which set aside, which tags are posted, and where the
+-- caller's next get begins
+pub record Lone : Type 0 where
+  pub layout : Layout
+  pub pool : Pool
+  pub posted : ℕ → Bool
+  pub hint : Hint
+
+-- a set that nobody touched: each of the 64 places of each word is free
+abbrev pub untouched : Layout → Bool → Lone
+untouched layout round_robin = record {
+  layout = layout;
+  pool = record { free = λ word place. nat_lt place 64; aside = λ word place. false };
+  posted = λ tag. false;
+  hint = record { at = 0; round_robin = round_robin };
+}
+
+-- both sets
+abbrev pub Lones : Type 0
+Lones = Kind → Lone
+
+-- how many tags are reserved, the first of the range
+abbrev pub split_in : Lones → ℕ
+split_in sets = (sets Reserved).layout.depth
+
+-- the first tag of a set
+abbrev pub first_in : Lones → Kind → ℕ
+first_in sets Ordinary = split_in sets
+first_in sets Reserved = 0
+
+-- one set changed so, and the other is as it was
+abbrev pub ChangesSet : Kind → (Lone → Lone → Type 0) → Lones → Lones → Type 0
+ChangesSet kind change old new = change (old kind) (new kind) × (new (other_kind kind) ≡ old (other_kind kind))
+
+-- the set of a tag changed so, where the tag has this number
+abbrev pub ChangesSetOf : ℕ → (ℕ → Lone → Lone → Type 0) → Lones → Lones → Type 0
+ChangesSetOf tag change old new = ChangesSet (kind_of (split_in old) tag) (change (number_in_set (split_in old) tag)) old new
+
+-- a refused command leaves both sets as they were, and any other does this
+abbrev pub Does : {A : Type 0} → (A → Lones → Lones → Type 0) → Lones → Result A TagFault → Lones → Type 0
+Does done old (Ok answer) new = done answer old new
+Does done old (Err fault) new = new ≡ old
+
+-- the visits of a plain get, from the hint on
+abbrev pub plain : Lone → List Visit
+plain w = plain_visits w.layout w.hint.round_robin (reduced w.layout.depth w.hint.at)
+
+-- those of a shallow get of this depth
+abbrev pub shallow : ℕ → Lone → List Visit
+shallow depth w = shallow_visits w.layout depth (reduced w.layout.depth w.hint.at)
+
+-- the number answered is the choice of these visits, what is left is what the choice leaves, and the hint follows
+pub record Chooses (visits : Lone → List Visit) (answer : Option ℕ) (old new : Lone) : Type 0 where
+  pub layout : new.layout ≡ old.layout
+  pub choice : IsChoice old.layout old.pool (visits old) answer new.pool
+  pub posted : new.posted ≡ old.posted
+  pub hint : HintFollows old.layout.depth old.hint new.hint answer
+
+-- the same of n tags side by side, from the word of the hint on
+pub record ChoosesRun (n : ℕ) (answer : Option (ℕ × ℕ)) (old new : Lone) : Type 0 where
+  pub layout : new.layout ≡ old.layout
+  pub choice : IsBatchChoice old.layout n old.pool (batch_words old.layout (word_of old.layout (reduced old.layout.depth old.hint.at))) answer new.pool
+  pub posted : new.posted ≡ old.posted
+  pub hint : BatchFollows old.layout.depth n old.hint new.hint answer
+
+-- the tag answered is the set's choice
+abbrev pub LoneGets : Kind → (Lone → List Visit) → Option ℕ → Lones → Lones → Type 0
+LoneGets kind visits answer old new = (number : Option ℕ) × (answer ≡ whole (first_in old kind) number) × ChangesSet kind (Chooses visits number) old new
+
+-- the tags answered are the ordinary set's choice; where gets go round there are none, and nothing is done
+pub record LoneBatch (n : ℕ) (answer : Option (ℕ × ℕ)) (old new : Lones) : Type 0 where
+  pub around : (old Ordinary).hint.round_robin ≡ true → (answer ≡ None) × (new ≡ old)
+  pub choice : (old Ordinary).hint.round_robin ≡ false
+      → (number : Option (ℕ × ℕ)) × (answer ≡ whole_run (split_in old) number) × ChangesSet Ordinary (ChoosesRun n number) old new
+
+-- the hint after a clear of this tag
+abbrev pub hint_at : ℕ → Hint → Hint
+hint_at number h = record h { at = if h.round_robin then h.at else number }
+
+-- the tag is set aside, and the hint is at it, but not where gets go round
+abbrev pub put_back : ℕ → Lone → Lone
+put_back number w =
+    record w { pool = aside_at (word_of w.layout number) (place_of w.layout number) w.pool; hint = hint_at number w.hint }
+
+-- the place is that of a tag of the list
+abbrev pub is_named : Layout → List ℕ → ℕ → ℕ → Bool
+is_named l numbers word place = list_any (λ number. nat_eq word (word_of l number) && nat_eq place (place_of l number)) numbers
+
+-- the tags of the list are free, and the hint is at the last of them, but not where gets go round
+abbrev pub give_back : List ℕ → Lone → Lone
+give_back numbers w = record w {
+  pool = record w.pool { free = λ word place. w.pool.free word place || is_named w.layout numbers word place };
+  hint = hint_at (slice_index numbers (length numbers - 1)) w.hint;
+}
+
+-- the tag is posted too
+abbrev pub post_in : ℕ → Lone → Lone
+post_in number w = record w { posted = λ other. w.posted other || nat_eq other number }
+
+-- the tag is posted no more
+abbrev pub take_in : ℕ → Lone → Lone
+take_in number w = record w { posted = λ other. w.posted other && not (nat_eq other number) }
+
+-- the tag is posted in its set
+abbrev pub is_posted : Lones → ℕ → Bool
+is_posted sets tag = (sets (kind_of (split_in sets) tag)).posted (number_in_set (split_in sets) tag)
+
+-- a clear
+abbrev pub LoneClears : ℕ → Lones → Lones → Type 0
+LoneClears tag = ChangesSetOf tag (λ number old new. new ≡ put_back number old)
+
+-- a clear of a list of ordinary tags
+abbrev pub LoneClearsList : List ℕ → Lones → Lones → Type 0
+LoneClearsList tags old = ChangesSet Ordinary (λ before after. after ≡ give_back (map (λ tag. tag - split_in old) tags) before) old
+
+-- a post
+abbrev pub LonePosts : ℕ → Lones → Lones → Type 0
+LonePosts tag = ChangesSetOf tag (λ number old new. new ≡ post_in number old)
+
+-- a take, which finds the tag where it is posted, and only there
+abbrev pub LoneTakes : ℕ → Lones → Result (Unit {0}) TagFault → Lones → Type 0
+LoneTakes tag old (Ok done) new = (is_posted old tag ≡ true) × ChangesSetOf tag (λ number before after. after ≡ take_in number before) old new
+LoneTakes tag old (Err NotPosted) new = (is_posted old tag ≡ false) × (new ≡ old)
+LoneTakes tag old (Err fault) new = new ≡ old
+
+-- the tag of a set is neither free nor set aside
+abbrev pub is_busy_in : Lone → ℕ → Bool
+is_busy_in w number = nat_lt number w.layout.depth && is_busy w.pool (word_of w.layout number) (place_of w.layout number)
+
+-- the tag of a set is set aside
+abbrev pub is_aside_in : Lone → ℕ → Bool
+is_aside_in w number = nat_lt number w.layout.depth && w.pool.aside (word_of w.layout number) (place_of w.layout number)
+
+-- the tag is busy in its set
+abbrev pub is_busy_tag : Lones → ℕ → Bool
+is_busy_tag sets tag = is_busy_in (sets (kind_of (split_in sets) tag)) (number_in_set (split_in sets) tag)
+
+-- the bits are set of the busy tags, and no other
+pub record LoneListsBusy (old : Lones) (bits : List ℕ) (new : Lones) : Type 0 where
+  pub bits_are : (tag : ℕ) → tag < 64 * length bits → bit_in 64 bits tag ≡ cond (is_busy_tag old tag) 1 0
+  pub same : new ≡ old
+
+-- the numbers of busy tags and of those set aside
+pub record LoneShows (kind : Kind) (old : Lones) (shown : Shown) (new : Lones) : Type 0 where
+  pub busy : shown.busy ≡ count_below (is_busy_in (old kind)) (old kind).layout.depth
+  pub cleared : shown.cleared ≡ count_below (is_aside_in (old kind)) (old kind).layout.depth
+  pub same : new ≡ old
+
+-- the bits are set of the busy tags of a set, and no other
+pub record LoneDumps (kind : Kind) (old : Lones) (bytes : List ℕ) (new : Lones) : Type 0 where
+  pub bits_are : (tag : ℕ) → bit_in 8 bytes tag ≡ cond (is_busy_in (old kind) tag) 1 0
+  pub same : new ≡ old
+
+-- both sets as the options say, and nobody touched them
+pub record AreUntouched (total reserved : ℕ) (options : Options) (sets : Lones) : Type 0 where
+  pub ordinary_layout : IsLaidOut (total - reserved) options (sets Ordinary).layout
+  pub reserved_layout : IsLaidOut reserved options (sets Reserved).layout
+  pub untouched : (kind : Kind) → sets kind ≡ untouched (sets kind).layout options.round_robin
+
+-- the set continues with so many tags, all of them free, in words of as many bits; the hint stays
+abbrev pub resized : ℕ → Lone → Lone
+resized depth w = record (untouched (record { depth = depth; shift = w.layout.shift }) false) { hint = w.hint }
+
+-- a resize to so many tags in both sets
+abbrev pub LoneResizes : ℕ → Lones → Result (Unit {0}) ResizeCause → Lones → Type 0
+LoneResizes total old (Ok done) new = ChangesSet Ordinary (λ before after. after ≡ resized (total - split_in old) before) old new
+LoneResizes total old (Err cause) new = new ≡ old

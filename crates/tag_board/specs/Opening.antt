@@ -1,0 +1,22 @@
+-- A new world.
+use Rattle.std.specs.Prelude.{◌≡◌, ℕ, ◌-◌, ◌^◌, ◌<◌, max, unwrap_or}
+use Rattle.tag_layout.specs.Layout.{HasShift}
+use Rattle.tag_queue.specs.declared.queue.Options.{Options}
+use Rattle.tag_sets.specs.declared.kind.Kind.{Kind}
+use Rattle.tag_sets.specs.declared.kind.Kind.TheVariants.{Ordinary, Reserved}
+use Rattle.tag_board.specs.States.{State, idle}
+
+-- the words of a set of so many tags have 2 ^ shift bits, where the shift is the one that the options give, or the default one
+abbrev pub HasBits : Options → ℕ → ℕ → Type 0
+HasBits options depth bits = (shift : ℕ) × HasShift depth options.shift shift × (bits ≡ 2 ^ shift)
+
+-- the world of these options, in which nothing has been done
+pub record IsOpen (total reserved : ℕ) (options : Options) (s : State) : Type 0 where
+  pub total_is : s.total ≡ total
+  pub reserved_is : s.terms.reserved ≡ reserved
+  pub callers_are : s.terms.callers ≡ options.callers
+  pub life_is : (kind : Kind) → s.terms.life kind ≡ options.life
+  pub least_is : s.terms.least ≡ max (unwrap_or options.min_shallow 1) 1
+  pub ordinary_bits : HasBits options (total - reserved) (s.terms.bits Ordinary)
+  pub reserved_bits : HasBits options reserved (s.terms.bits Reserved)
+  pub idle_all : (caller : ℕ) → caller < s.terms.callers → s.part caller ≡ idle options.round_robin

@@ -1,0 +1,78 @@
+-- The hands of shared tags as the callers of a script.
+use Rattle.std.specs.Prelude.{◌≡◌, ℕ, ◌+◌, ◌<◌, Bool, false, ◌&&◌, nat_eq, nat_lt, List, length, map, slice_index, slice_index_or, is_some}
+use Rattle.tag_layout.specs.Layout.{word_bits}
+use Rattle.tag_core.specs.declared.record.Record.{Record}
+use Rattle.tag_core.specs.Callers.{record_of}
+use Rattle.tag_core.specs.Records.{tag_bit}
+use Rattle.tag_search.specs.Lone.{pool_left, is_posted}
+use Rattle.tag_queue.specs.declared.agent.Agent.{Agent}
+use Rattle.tag_queue.specs.Agents as queue
+use Rattle.tag_sets.specs.declared.hand.Hand.{Hand}
+use Rattle.tag_sets.specs.declared.kind.Kind.{Kind}
+use Rattle.tag_sets.specs.declared.kind.Kind.TheVariants.{Ordinary, Reserved}
+use Rattle.tag_sets.specs.declared.tags.Tags.{Tags}
+use Rattle.tag_sets.specs.Sets.{kind_of, number_in_set}
+use Rattle.tag_sets.specs.Hands.{agent_of, queue_of, layout_of, reserved_of, total_of, least_of, split_of, standing_of, hint_of, number_of}
+use Rattle.tag_board.specs.Lones.{Lone, Lones, untouched}
+use Rattle.tag_board.specs.States.{Terms, Part, State, idle}
+
+-- what is known of the hand as a caller of a set's map
+abbrev pub record_in : {R : Type 0} → Hand R → Kind → Record R
+record_in hand kind = record_of (queue.caller_of (agent_of hand kind))
+
+-- whether a record has the tag of this number among its held ones
+abbrev pub has : {R : Type 0} → Record R → ℕ → Bool
+has r number = nat_lt number r.shape.layout.depth && nat_eq (tag_bit r.shape.layout r.held number) 1
+
+-- whether the hand holds the tag
+abbrev pub holds : {R : Type 0} → Hand R → ℕ → Bool
+holds hand tag = has (record_in hand (kind_of (split_of hand) tag)) (number_in_set (split_of hand) tag)
+
+-- the hand as a caller of a script
+abbrev pub part_of : {R : Type 0} → Hand R → Part
+part_of hand = record {
+  held = holds hand;
+  won = λ kind. (record_in hand kind).won;
+  back = (record_in hand Ordinary).back + (record_in hand Reserved).back;
+  stands = is_some (standing_of hand);
+  round_robin = (hint_of hand Ordinary).round_robin;
+}
+
+-- what never changes of these tags and of so many hands
+abbrev pub terms_of : {R : Type 0} → Tags R → ℕ → Terms
+terms_of tags callers = record {
+  reserved = reserved_of tags;
+  callers = callers;
+  life = λ kind. (queue.shape_of (queue_of tags kind)).life;
+  least = least_of tags;
+  bits = λ kind. word_bits (layout_of tags kind);
+}
+
+-- the world of these tags and hands: the caller of a number is the hand at that place
+abbrev pub state_of_all : {R : Type 0} → Tags R → List (Hand R) → State
+state_of_all tags hands = record {
+  terms = terms_of tags (length hands);
+  total = total_of tags;
+  part = λ caller. slice_index_or (map part_of hands) caller (idle false);
+}
+
+-- the hands stand in the order of their numbers
+abbrev pub AreOrdered : {R : Type 0} → List (Hand R) → Type 0
+AreOrdered hands = (n : ℕ) → n < length hands → slice_index (map number_of hands) n ≡ n
+
+-- a set as the steps of its only agent leave it
+abbrev pub lone_of : {R : Type 0} → Agent R → Lone
+lone_of agent = record {
+  layout = (queue.caller_of agent).shape.value.layout;
+  pool = pool_left (queue.caller_of agent);
+  posted = is_posted (queue.caller_of agent);
+  hint = queue.hint_of agent;
+}
+
+-- both sets as the steps of the only hand leave them
+abbrev pub lones_in : {R : Type 0} → Hand R → Lones
+lones_in hand = λ kind. lone_of (agent_of hand kind)
+
+-- both sets as the steps of the first of the hands leave them
+abbrev pub lones_of_all : {R : Type 0} → List (Hand R) → Lones
+lones_of_all hands = slice_index_or (map lones_in hands) 0 (λ kind. untouched (record { depth = 0; shift = 0 }) false)

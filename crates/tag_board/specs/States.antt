@@ -1,0 +1,54 @@
+-- The world of a script over shared tags, as far as its answers tell it.
+use Rattle.std.specs.Prelude.{ℕ, ◌+◌, ◌-◌, Bool, false}
+use Rattle.tag_layout.specs.Sums.{sum_below}
+use Rattle.tag_model.specs.Totals.{count_below}
+use Rattle.tag_sets.specs.declared.kind.Kind.{Kind}
+use Rattle.tag_sets.specs.declared.kind.Kind.TheVariants.{Ordinary, Reserved}
+
+-- what never changes: how many tags are reserved, the first of the range; how many callers there are; how many tags of a set a
+-- caller may win; the least depth of a shallow get; and the bits in a word of a set
+pub record Terms : Type 0 where
+  pub reserved : ℕ
+  pub callers : ℕ
+  pub life : Kind → ℕ
+  pub least : ℕ
+  pub bits : Kind → ℕ
+
+-- a caller: which tags it holds, how many it won of each set, how many it cleared, whether it stands in a wait group, and whether
+-- its gets go round
+pub record Part : Type 0 where
+  pub held : ℕ → Bool
+  pub won : Kind → ℕ
+  pub back : ℕ
+  pub stands : Bool
+  pub round_robin : Bool
+
+-- what never changes, how many tags there are in both sets, and each caller
+pub record State : Type 0 where
+  pub terms : Terms
+  pub total : ℕ
+  pub part : ℕ → Part
+
+-- a caller who has done nothing
+abbrev pub idle : Bool → Part
+idle round_robin = record { held = λ tag. false; won = λ kind. 0; back = 0; stands = false; round_robin = round_robin }
+
+-- tags that the gets of all callers returned
+abbrev pub got_in : State → ℕ
+got_in s = sum_below (λ caller. (s.part caller).won Ordinary + (s.part caller).won Reserved) s.terms.callers
+
+-- tags that were cleared
+abbrev pub back_in : State → ℕ
+back_in s = sum_below (λ caller. (s.part caller).back) s.terms.callers
+
+-- tags that callers hold
+abbrev pub held_in : State → ℕ
+held_in s = sum_below (λ caller. count_below (s.part caller).held s.total) s.terms.callers
+
+-- the rest: tags that are posted
+abbrev pub posted_in : State → ℕ
+posted_in s = got_in s - (back_in s + held_in s)
+
+-- callers that stand in a wait group
+abbrev pub standing_in : State → ℕ
+standing_in s = count_below (λ caller. (s.part caller).stands) s.terms.callers

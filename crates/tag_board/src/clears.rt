@@ -1,0 +1,30 @@
+//! How callers give tags back.
+ghost use Rattle.tag_board.specs.Boards.{state_of, lones_of, IsCallerOf, IsAlone};
+ghost use Rattle.tag_board.specs.Lones.{Does, LoneClears, LoneClearsList};
+ghost use Rattle.tag_board.specs.Replays.{Clears, ClearsList};
+
+use crate::board::Board;
+use tag_sets::TagFault;
+
+impl Board {
+    /// Gives a held tag back, and tells how many waiters that woke.
+    pub fn clear(&mut self, caller: u32, tag: u32) -> Result<u32, TagFault>
+        requires { IsCallerOf self.old caller }
+        ensures answers { Clears tag caller (state_of self.old) result (state_of self.new) }
+        ensures alone { IsAlone self.old
+            → Does (λ woken. LoneClears tag) (lones_of self.old) result (lones_of self.new) }
+    {
+        self.tags.clear(&mut self.hands[caller as usize], tag)
+    }
+
+    /// Gives 1 to 64 held ordinary tags back at once, and tells how many waiters that woke.
+    pub fn clear_batch(&mut self, caller: u32, tags: &[u32]) -> Result<u32, TagFault>
+        requires { IsCallerOf self.old caller }
+        ensures answers { ClearsList tags.now caller (state_of self.old) result (state_of self.new) }
+        ensures alone { IsAlone self.old
+            → Does (λ woken. LoneClearsList tags.now) (lones_of self.old) result (lones_of self.new) }
+    {
+        self.tags
+            .clear_batch(&mut self.hands[caller as usize], tags)
+    }
+}

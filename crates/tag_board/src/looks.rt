@@ -1,0 +1,49 @@
+//! Looks at the tags.
+ghost use Rattle.std.specs.Prelude.{IfOk};
+ghost use Rattle.tag_board.specs.Boards.{state_of, lones_of, IsCallerOf, IsAlone};
+ghost use Rattle.tag_board.specs.Lones.{LoneListsBusy, LoneShows, LoneDumps};
+ghost use Rattle.tag_board.specs.Looks.{ListsBusy, Shows, Dumps};
+
+use crate::board::Board;
+use std::alloc::{AllocError, Global};
+use tag_sets::{Kind, Shown};
+
+impl Board {
+    /// Which tags are busy: tag `t` by the bit `t % 64` of the word `t / 64`.
+    pub fn busy(&mut self, alloc: Global, caller: u32) -> Result<Vec<u64>, AllocError>
+        requires { IsCallerOf self.old caller }
+        ensures answers { IfOk result (λ bits. ListsBusy caller (state_of self.old) bits.items (state_of self.new)) }
+        ensures alone { IsAlone self.old
+            → IfOk result (λ bits. LoneListsBusy (lones_of self.old) bits.items (lones_of self.new)) }
+    {
+        let mut bits = vec![in alloc; 0u64; self.total.div_ceil(64) as usize]?;
+        self.tags.busy(&mut self.hands[caller as usize], &mut bits);
+        Ok(bits)
+    }
+
+    /// The sizes and the sums of a set.
+    pub fn show(&mut self, caller: u32, kind: Kind) -> Shown
+        requires { IsCallerOf self.old caller }
+        ensures answers { Shows kind (state_of self.old) result (state_of self.new) }
+        ensures alone { IsAlone self.old → LoneShows kind (lones_of self.old) result (lones_of self.new) }
+    {
+        self.tags.show(&mut self.hands[caller as usize], kind)
+    }
+
+    /// Which tags of a set are busy, eight a byte, low bit first.
+    pub fn dump(&mut self, alloc: Global, caller: u32, kind: Kind) -> Result<Vec<u8>, AllocError>
+        requires { IsCallerOf self.old caller }
+        ensures answers { IfOk result (λ bytes. Dumps kind (state_of self.old) bytes.items (state_of self.new)) }
+        ensures alone { IsAlone self.old
+            → IfOk result (λ bytes. LoneDumps kind (lones_of self.old) bytes.items (lones_of self.new)) }
+    {
+        let depth = match kind {
+            Kind::Ordinary => self.total - self.reserved,
+            Kind::Reserved => self.reserved,
+        };
+        let mut bytes = vec![in alloc; 0u8; depth.div_ceil(8) as usize]?;
+        self.tags
+            .dump(&mut self.hands[caller as usize], kind, &mut bytes);
+        Ok(bytes)
+    }
+}

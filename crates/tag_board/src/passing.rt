@@ -1,0 +1,30 @@
+//! How tags pass from caller to caller.
+ghost use Rattle.tag_board.specs.Boards.{state_of, lones_of, IsCallerOf, IsAlone};
+ghost use Rattle.tag_board.specs.Lones.{Does, LonePosts, LoneTakes};
+ghost use Rattle.tag_board.specs.Replays.{Posts, Takes};
+
+use crate::board::Board;
+use tag_sets::TagFault;
+
+impl Board {
+    /// Hands a held tag on to whoever takes it first.
+    pub fn post(&mut self, caller: u32, tag: u32) -> Result<(), TagFault>
+        requires { IsCallerOf self.old caller }
+        ensures answers { Posts tag caller (state_of self.old) result (state_of self.new) }
+        ensures alone { IsAlone self.old
+            → Does (λ done. LonePosts tag) (lones_of self.old) result (lones_of self.new) }
+    {
+        self.tags.post(&mut self.hands[caller as usize], tag)
+    }
+
+    /// Takes a posted tag, which nobody held.
+    pub fn take(&mut self, caller: u32, tag: u32) -> Result<(), TagFault>
+        requires { IsCallerOf self.old caller }
+        ensures answers { Takes tag caller (state_of self.old) result (state_of self.new) }
+        ensures alone { IsAlone self.old → LoneTakes tag (lones_of self.old) result (lones_of self.new) }
+    {
+        self.tags.take(&mut self.hands[caller as usize], tag)?;
+        self.tell_free(caller, Some(tag));
+        Ok(())
+    }
+}

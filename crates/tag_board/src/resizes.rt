@@ -1,0 +1,54 @@
+//! How a world continues with another number of tags.
+ghost use Rattle.std.specs.Prelude.{IfOk, IsErr};
+ghost use Rattle.tag_board.specs.Boards.{state_of, lones_of, IsAlone};
+ghost use Rattle.tag_board.specs.Lones.{LoneResizes};
+ghost use Rattle.tag_board.specs.Resizes.{Resizes, MayResize};
+
+use crate::board::Board;
+use std::alloc::{AllocError, Global};
+use tag_sets::{ResizeCause, Tags, TagsResizeFault};
+
+impl Board {
+    /// All callers continue with `total` tags, of which as many are reserved as before. The world comes back with the answer;
+    /// a refusal leaves it as it was.
+    pub fn resize(
+        self,
+        alloc: Global,
+        total: u32,
+    ) -> Result<(Result<(), ResizeCause>, Board), AllocError>
+        ensures answers { IfOk result (λ resized. Resizes total (state_of self) resized.0 (state_of resized.1)) }
+        ensures alone { IfOk result (λ resized. IsAlone self
+            → LoneResizes total (lones_of self) resized.0 (lones_of resized.1)) }
+        ensures memory { IsErr result → MayResize (state_of self) total }
+    {
+        let Board {
+            tags,
+            hands,
+            total: before,
+            reserved,
+        } = self;
+        match Tags::resize(alloc, tags, hands, total) {
+            Ok((tags, hands)) => Ok((
+                Ok(()),
+                Board {
+                    tags,
+                    hands,
+                    total,
+                    reserved,
+                },
+            )),
+            Err(TagsResizeFault { cause, tags, hands }) => match cause {
+                ResizeCause::Memory => Err(AllocError),
+                _ => {
+                    let board = Board {
+                        tags,
+                        hands,
+                        total: before,
+                        reserved,
+                    };
+                    Ok((Err(cause), board))
+                }
+            },
+        }
+    }
+}

@@ -1,0 +1,4 @@
+//! Worked answers of several callers.
+mod calls;
+mod memory;
+mod scripts;

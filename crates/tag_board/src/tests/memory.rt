@@ -1,0 +1,24 @@
+//! Want of memory. Run with each allocation refused in turn, this test still passes.
+use crate::board::Board;
+use crate::tests::calls::options;
+use std::test::Fail;
+use tag_sets::SetFault;
+
+#[test]
+fn want_of_memory_is_told(rt: HostRuntime) -> Result<(), Fail> {
+    let mut board = match Board::open(rt.alloc(), 8, 3, options(2)) {
+        Ok(board) => board,
+        Err(fault) => {
+            assert_eq!(rt; fault, SetFault::Memory);
+            return Ok(());
+        }
+    };
+    if let Ok(bits) = board.busy(rt.alloc(), 0) {
+        assert_eq!(rt; bits.as_slice(), [0u64].as_slice());
+    }
+    if let Ok((resized, board)) = board.resize(rt.alloc(), 16) {
+        assert_eq!(rt; resized, Ok(()));
+        assert_eq!(rt; board.close().got, 0);
+    }
+    Ok(())
+}

@@ -1,0 +1,163 @@
+//! Scripts of several callers, command by command.
+use crate::board::Board;
+use crate::tests::calls::Answer::{
+    Batch, Done, Found, Group, Left, NotResized, Nothing, Refused, Tag, Woken,
+};
+use crate::tests::calls::Call::{
+    Clear, ClearBoth, Get, GetBatch, GetReserved, GetShallow, Leave, Post, Resize, Take, Wait,
+    Wakes,
+};
+use crate::tests::calls::{Answer, Call, options, replay};
+use std::alloc::Global;
+use std::sync::Wait as Blocks;
+use std::test::Fail;
+use tag_model::Totals;
+use tag_sets::Left::{Unwoken, Woken as ByGrant};
+use tag_sets::ResizeCause::{DepthTooLarge, InUse, Waiting};
+use tag_sets::TagFault;
+
+// What a world with so many tags, reserved tags and callers answers otherwise than said, and its totals at the end.
+fn played<W: Blocks>(
+    rt: &W,
+    alloc: Global,
+    (total, reserved, callers): (u32, u32, u32),
+    said: &[(u32, Call, Answer)],
+) -> Result<(Option<(Call, Answer)>, Totals), Fail> {
+    let board = Board::open(alloc, total, reserved, options(callers))?;
+    let (wrong, board) = replay(rt, alloc, board, said)?;
+    Ok((wrong, board.close()))
+}
+
+fn totals(got: u64, back: u64, held: u64, posted: u64) -> Totals {
+    Totals {
+        got,
+        back,
+        held,
+        posted,
+    }
+}
+
+#[test]
+fn a_tag_is_handed_over(rt: HostRuntime) -> Result<(), Fail> {
+    let (wrong, sums) = played(
+        &rt,
+        rt.alloc(),
+        (4, 0, 2),
+        &[
+            (0, Get, Tag(0)),
+            (1, Clear(0), Refused(TagFault::NotHeld)),
+            (0, Post(0), Done),
+            (1, Take(0), Done),
+            (0, Take(0), Refused(TagFault::NotPosted)),
+            (0, Clear(0), Refused(TagFault::NotHeld)),
+            (1, Clear(0), Woken(0)),
+            (0, Clear(4), Refused(TagFault::NoSuchTag)),
+        ],
+    )?;
+    assert_eq!(rt; wrong, None);
+    assert_eq!(rt; sums, totals(1, 1, 0, 0));
+    Ok(())
+}
+
+#[test]
+fn a_posted_tag_is_counted_at_the_end(rt: HostRuntime) -> Result<(), Fail> {
+    let (wrong, sums) = played(
+        &rt,
+        rt.alloc(),
+        (18, 2, 2),
+        &[
+            (0, GetReserved, Tag(0)),
+            (1, GetReserved, Tag(1)),
+            (0, GetReserved, Nothing),
+            (1, Post(1), Done),
+            (0, GetBatch(3), Batch(2, 7)),
+            (0, ClearBoth(3, 4), Woken(0)),
+            (1, Resize(20), NotResized(InUse(2, 1))),
+        ],
+    )?;
+    assert_eq!(rt; wrong, None);
+    assert_eq!(rt; sums, totals(5, 2, 2, 1));
+    Ok(())
+}
+
+#[test]
+fn waits_are_woken_by_batches(rt: HostRuntime) -> Result<(), Fail> {
+    let (wrong, sums) = played(
+        &rt,
+        rt.alloc(),
+        (16, 0, 2),
+        &[
+            (0, Get, Tag(0)),
+            (0, Get, Tag(1)),
+            (0, Get, Tag(2)),
+            (1, Wait, Group(0)),
+            (0, Clear(0), Woken(0)),
+            (0, Clear(1), Woken(1)),
+            (0, Clear(2), Woken(0)),
+            (0, Wakes, Found(3, 2, 0, 1)),
+            (1, Leave, Left(ByGrant)),
+            (1, Wait, Group(1)),
+            (1, Leave, Left(Unwoken)),
+            (0, Get, Tag(3)),
+            (0, Clear(3), Woken(0)),
+            (0, Wakes, Found(3, 2, 0, 0)),
+        ],
+    )?;
+    assert_eq!(rt; wrong, None);
+    assert_eq!(rt; sums, totals(4, 4, 0, 0));
+    Ok(())
+}
+
+#[test]
+fn waits_and_tags_in_use_forbid_a_resize(rt: HostRuntime) -> Result<(), Fail> {
+    let (wrong, sums) = played(
+        &rt,
+        rt.alloc(),
+        (16, 0, 2),
+        &[
+            (0, Get, Tag(0)),
+            (0, Get, Tag(1)),
+            (0, Get, Tag(2)),
+            (1, Wait, Group(0)),
+            (0, Resize(8), NotResized(InUse(3, 0))),
+            (0, Clear(0), Woken(0)),
+            (0, Clear(1), Woken(1)),
+            (1, Leave, Left(ByGrant)),
+            (0, Clear(2), Woken(0)),
+            (1, Wait, Group(1)),
+            (0, Resize(8), NotResized(Waiting(1))),
+            (1, Leave, Left(Unwoken)),
+            (0, Resize(10_241), NotResized(DepthTooLarge)),
+            (0, Resize(8), Done),
+            (1, Wait, Group(2)),
+            (0, Get, Tag(0)),
+            (0, Clear(0), Woken(1)),
+            (0, Wakes, Found(3, 3, 3, 1)),
+            (1, Leave, Left(ByGrant)),
+        ],
+    )?;
+    assert_eq!(rt; wrong, None);
+    assert_eq!(rt; sums, totals(4, 4, 0, 0));
+    Ok(())
+}
+
+#[test]
+fn a_resize_keeps_the_reserved_tags(rt: HostRuntime) -> Result<(), Fail> {
+    let (wrong, sums) = played(
+        &rt,
+        rt.alloc(),
+        (6, 2, 1),
+        &[
+            (0, Resize(1), NotResized(DepthTooLarge)),
+            (0, GetReserved, Tag(0)),
+            (0, Resize(4), NotResized(InUse(1, 0))),
+            (0, Clear(0), Woken(0)),
+            (0, Resize(2), Done),
+            (0, Get, Nothing),
+            (0, GetShallow(0), Refused(TagFault::TooShallow)),
+        ],
+    )?;
+    assert_eq!(rt; wrong, None);
+    assert_eq!(rt; sums, totals(1, 1, 0, 0));
+    Ok(())
+}

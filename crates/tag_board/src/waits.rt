@@ -1,0 +1,39 @@
+//! How callers wait.
+ghost use Rattle.std.specs.Prelude.{◌≡◌, ◌≤◌, true};
+ghost use Rattle.tag_board.specs.Boards.{state_of, lones_of, IsCallerOf, IsAlone};
+ghost use Rattle.tag_board.specs.Replays.{Waits, Leaves};
+
+use crate::board::Board;
+use std::sync::Wait;
+use tag_sets::{Left, TagFault, Wakes};
+
+impl Board {
+    /// Enters a wait group, and tells its number.
+    pub fn wait(&mut self, caller: u32) -> Result<u32, TagFault>
+        requires { IsCallerOf self.old caller }
+        ensures answers { Waits caller (state_of self.old) result (state_of self.new) }
+        ensures alone { IsAlone self.old → lones_of self.new ≡ lones_of self.old }
+    {
+        self.tags.prepare_wait(&mut self.hands[caller as usize])
+    }
+
+    /// Leaves the wait group, and tells whether a wakeup was there. It never sleeps.
+    pub fn leave<W: Wait>(&mut self, rt: &W, caller: u32) -> Result<Left, TagFault>
+        requires { IsCallerOf self.old caller }
+        ensures answers { Leaves caller (state_of self.old) result (state_of self.new) }
+        ensures alone { IsAlone self.old → lones_of self.new ≡ lones_of self.old }
+    {
+        self.tags.finish_wait(rt, &mut self.hands[caller as usize])
+    }
+
+    /// The counts of completions and of wakeups, the wake index, and how many are active.
+    pub fn wakes(&mut self, caller: u32) -> Wakes
+        requires { IsCallerOf self.old caller }
+        ensures ordered { result.charged ≤ result.counted }
+        ensures active { ((state_of self.old).part caller).stands ≡ true → 1 ≤ result.active }
+        ensures same { state_of self.new ≡ state_of self.old }
+        ensures alone { IsAlone self.old → lones_of self.new ≡ lones_of self.old }
+    {
+        self.tags.wakes(&mut self.hands[caller as usize])
+    }
+}

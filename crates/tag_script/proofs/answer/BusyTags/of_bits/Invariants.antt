@@ -1,0 +1,12 @@
+-- The tags of the words so far whose bits are set stand in the list, and those of the places so far of the next word.
+use Rattle.std.proofs.Common.{◌≡◌, ◌+◌, ◌*◌}
+use Rattle.std.specs.Prelude.{filter}
+use Rattle.tag_script.specs.Dump.{range}
+use Rattle.tag_script.specs.SharedCommands.{is_marked}
+use Rattle.tag_script.proofs.answer.BusyTags.of_bits.Given as goal
+
+abbrev pub invariant-loop-index : goal.invariant-loop-index
+invariant-loop-index l = l.tags.items ≡ filter (is_marked l.bits) (range (64 * l.index))
+
+abbrev pub invariant-loop-place : goal.invariant-loop-place
+invariant-loop-place l = l.tags.items ≡ filter (is_marked l.bits) (range (64 * l.index + l.place))

@@ -1,0 +1,42 @@
+-- What a script is owed where one caller is alone with plain words.
+use Rattle.std.specs.Prelude.{◌≡◌, ◌≢◌, ℕ, ◌<◌, ◌≤◌, List, max, unwrap_or, Option, IsSomeAnd}
+use Rattle.tag_layout.specs.Layout.{Layout}
+use Rattle.tag_layout.specs.declared.layout.TheConstants.{MAX_DEPTH, MAX_SHIFT}
+use Rattle.tag_lines.specs.declared.order.Order.{Order}
+use Rattle.tag_queue.specs.declared.fault.SetFault.{SetFault}
+use Rattle.tag_queue.specs.declared.fault.SetFault.TheVariants as faults
+use Rattle.tag_script.specs.declared.options.ScriptOptions.{ScriptOptions}
+use Rattle.tag_script.specs.Commands.{ObeysOrder, AreTotals}
+use Rattle.tag_script.specs.Plays.{IsPlayed}
+use Rattle.tag_script.specs.Setups.{IsLayoutOf}
+use Rattle.tag_script.specs.Solo.{opened}
+
+-- there is a layout of so many tags, none of them reserved
+pub record IsMapOf (o : ScriptOptions) (l : Layout) : Type 0 where
+  pub none_reserved : o.reserved ≡ 0
+  pub layout : IsLayoutOf o.tags o.shift l
+
+-- the first cause for which there is no such world
+abbrev pub IsRefusedAlone : ScriptOptions → SetFault → Type 0
+IsRefusedAlone o faults.Memory = ⊥
+IsRefusedAlone o faults.TotalTooLarge = MAX_DEPTH < o.tags
+IsRefusedAlone o faults.ReservedTooLarge = (o.tags ≤ MAX_DEPTH) × (0 < o.reserved)
+IsRefusedAlone o faults.ShiftTooLarge = (o.tags ≤ MAX_DEPTH) × (o.reserved ≡ 0) × IsSomeAnd o.shift (λ s. MAX_SHIFT < s)
+IsRefusedAlone o faults.CallerCount = (l : Layout) × IsMapOf o l × (o.callers ≢ 1)
+IsRefusedAlone o faults.LifeTooLong = ⊥
+IsRefusedAlone o faults.CapTooLarge = ⊥
+
+-- a map for one caller
+pub record IsSetup (o : ScriptOptions) (l : Layout) : Type 0 where
+  pub map : IsMapOf o l
+  pub alone : o.callers ≡ 1
+
+-- the least depth of a shallow get: what was asked for, and 1 at least
+abbrev pub least_depth : Option ℕ → ℕ
+least_depth asked = max 1 (unwrap_or asked 1)
+
+-- what orders are told
+pub record IsToldAlone (o : ScriptOptions) (orders : List Order) (text : List ℕ) : Type 0 where
+  pub layout : Layout
+  pub setup : IsSetup o layout
+  pub played : IsPlayed ObeysOrder AreTotals (opened layout o.round_robin (least_depth o.min_shallow)) orders text

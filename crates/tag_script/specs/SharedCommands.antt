@@ -1,0 +1,120 @@
+-- What each command of a script over shared tags answers, and what it leaves. With one caller the answers are those of plain words.
+use Rattle.std.specs.Prelude.{◌≡◌, ◌≢◌, ℕ, ◌*◌, ◌≤◌, Bool, true, List, length, filter, nat_eq, Result, Ok, Err}
+use Rattle.tag_board.specs.declared.board.Board.{Board}
+use Rattle.tag_board.specs.Boards.{state_of, lones_of}
+use Rattle.tag_board.specs.Closing.{totals_in}
+use Rattle.tag_board.specs.Lones.{Lones, Does, plain, shallow, LoneGets, LoneBatch, LoneClears, LoneClearsList, LonePosts, LoneTakes}
+use Rattle.tag_board.specs.Lones.{LoneListsBusy, LoneShows, LoneDumps, LoneResizes}
+use Rattle.tag_board.specs.Looks.{ListsBusy, Shows, Dumps}
+use Rattle.tag_board.specs.Replays.{Gets, GetsShallow, GetsBatch, Clears, ClearsList, Posts, Takes, Waits, Leaves}
+use Rattle.tag_board.specs.Resizes.{Resizes}
+use Rattle.tag_board.specs.States.{State}
+use Rattle.tag_lines.specs.declared.order.Command.{Command}
+use Rattle.tag_lines.specs.declared.order.Command.TheVariants as commands
+use Rattle.tag_lines.specs.declared.order.Order.{Order}
+use Rattle.tag_model.specs.declared.totals.Totals.{Totals}
+use Rattle.tag_queue.specs.declared.fault.TagFault.{TagFault}
+use Rattle.tag_queue.specs.declared.resizes.ResizeCause.{ResizeCause}
+use Rattle.tag_queue.specs.declared.waits.Wakes.{Wakes}
+use Rattle.tag_script.specs.declared.answer.Answer.{Answer}
+use Rattle.tag_script.specs.declared.answer.Answer.TheVariants as answers
+use Rattle.tag_script.specs.Commands.{TellsOutcome}
+use Rattle.tag_script.specs.Dump.{range}
+use Rattle.tag_sets.specs.declared.kind.Kind.TheVariants.{Ordinary, Reserved}
+use Rattle.tag_sets.specs.declared.shown.Shown.{Shown}
+use Rattle.tag_sets.specs.Bits.{bit_in}
+
+-- what tells the outcome of a resize
+abbrev pub resize_answer : Result (Unit {0}) ResizeCause → Answer
+resize_answer (Ok done) = answers.Done 0
+resize_answer (Err cause) = answers.NotResized cause
+
+-- what is known of shared tags: what the answers tell of all callers, and both sets as a caller alone leaves them
+pub record Scene : Type 0 where
+  pub state : State
+  pub sets : Lones
+
+-- what is known of a board
+abbrev pub scene_of : Board → Scene
+scene_of board = record { state = state_of board; sets = lones_of board }
+
+-- there is one caller
+abbrev pub IsAlone : Scene → Type 0
+IsAlone s = s.state.terms.callers ≡ 1
+
+-- what holds of this outcome for any callers, and what holds besides where one is alone
+abbrev pub Both : {A : Type 0} → (State → A → State → Type 0) → (Lones → A → Lones → Type 0) → Scene → A → Scene → Type 0
+Both any alone old outcome new = any old.state outcome new.state × (IsAlone old → alone old.sets outcome new.sets)
+
+-- both sets stay as they are
+abbrev pub Stay : {A : Type 0} → Lones → A → Lones → Type 0
+Stay old outcome new = new ≡ old
+
+-- the answer tells one of the outcomes that a resize may have
+abbrev pub TellsResize : ℕ → Scene → Answer → Scene → Type 0
+TellsResize total old answer new = (outcome : Result (Unit {0}) ResizeCause)
+    × Both (Resizes total) (LoneResizes total) old outcome new × (answer ≡ resize_answer outcome)
+
+-- the tag's bit is set
+abbrev pub is_marked : List ℕ → ℕ → Bool
+is_marked bits tag = nat_eq (bit_in 64 bits tag) 1
+
+-- the tags whose bits are set, ascending
+abbrev pub tags_in : List ℕ → List ℕ
+tags_in bits = filter (is_marked bits) (range (64 * length bits))
+
+-- the tags listed are those of the bits found
+abbrev pub ListsTags : ℕ → Scene → List ℕ → Scene → Type 0
+ListsTags caller old tags new = (bits : List ℕ) × Both (ListsBusy caller) LoneListsBusy old bits new × (tags ≡ tags_in bits)
+
+-- the counts that a caller finds: wakeups are at most the completions, and a caller who stands in a group is active
+pub record FindsWakes (caller : ℕ) (old : State) (wakes : Wakes) (new : State) : Type 0 where
+  pub ordered : wakes.charged ≤ wakes.counted
+  pub active : (old.part caller).stands ≡ true → 1 ≤ wakes.active
+  pub same : new ≡ old
+
+-- the answer tells one of the outcomes that a caller's call may have, for any callers and for one alone
+abbrev pub TellsBoth : {A : Type 0} → (A → Answer) → (State → Result A TagFault → State → Type 0)
+    → (Lones → Result A TagFault → Lones → Type 0) → Scene → Answer → Scene → Type 0
+TellsBoth tell any alone old answer new = TellsOutcome tell (λ outcome. Both any alone old outcome new) answer
+
+-- what a caller's command answers, and what is known after it
+abbrev pub ObeysBy : ℕ → Command → Scene → Answer → Scene → Type 0
+ObeysBy caller commands.Get old answer new = TellsBoth answers.Tag (Gets Ordinary caller) (Does (LoneGets Ordinary plain)) old answer new
+ObeysBy caller commands.GetReserved old answer new = TellsBoth answers.Tag (Gets Reserved caller) (Does (LoneGets Reserved plain)) old answer new
+ObeysBy caller (commands.Shallow depth) old answer new =
+    TellsBoth answers.Tag (GetsShallow depth caller) (Does (LoneGets Ordinary (shallow depth))) old answer new
+ObeysBy caller (commands.Batch n) old answer new = TellsBoth answers.Batch (GetsBatch n caller) (Does (LoneBatch n)) old answer new
+ObeysBy caller (commands.Clear tag) old answer new = TellsBoth answers.Done (Clears tag caller) (Does (λ woken. LoneClears tag)) old answer new
+ObeysBy caller (commands.ClearBatch tags) old answer new =
+    TellsBoth answers.Done (ClearsList tags caller) (Does (λ woken. LoneClearsList tags)) old answer new
+ObeysBy caller (commands.Post tag) old answer new =
+    TellsBoth (λ done. answers.Done 0) (Posts tag caller) (Does (λ done. LonePosts tag)) old answer new
+ObeysBy caller (commands.Take tag) old answer new = TellsBoth (λ done. answers.Done 0) (Takes tag caller) (LoneTakes tag) old answer new
+ObeysBy caller commands.Wait old answer new = TellsBoth answers.Group (Waits caller) Stay old answer new
+ObeysBy caller commands.Leave old answer new = TellsBoth answers.Left (Leaves caller) Stay old answer new
+ObeysBy caller commands.Wakes old answer new =
+    (wakes : Wakes) × Both (FindsWakes caller) Stay old wakes new × (answer ≡ answers.Wakes wakes)
+ObeysBy caller commands.Show old answer new =
+    (shown : Shown) × Both (Shows Ordinary) (LoneShows Ordinary) old shown new × (answer ≡ answers.Shown shown)
+ObeysBy caller commands.ShowReserved old answer new =
+    (shown : Shown) × Both (Shows Reserved) (LoneShows Reserved) old shown new × (answer ≡ answers.Shown shown)
+ObeysBy caller commands.Busy old answer new =
+    (tags : List ℕ) × ListsTags caller old tags new × (answer ≡ answers.Busy tags)
+ObeysBy caller commands.Dump old answer new =
+    (bytes : List ℕ) × Both (Dumps Ordinary) (LoneDumps Ordinary) old bytes new × (answer ≡ answers.Dump bytes)
+ObeysBy caller commands.DumpReserved old answer new =
+    (bytes : List ℕ) × Both (Dumps Reserved) (LoneDumps Reserved) old bytes new × (answer ≡ answers.Dump bytes)
+ObeysBy caller (commands.Resize total) old answer new = TellsResize total old answer new
+
+-- the command is no resize
+abbrev pub IsNoResize : Command → Type 0
+IsNoResize command = (total : ℕ) → command ≢ commands.Resize total
+
+-- the order's caller obeys it
+abbrev pub ObeysShared : Scene → Order → Answer → Scene → Type 0
+ObeysShared old order answer new = ObeysBy order.caller order.command old answer new
+
+-- the totals: the sums over all callers and both sets
+abbrev pub AreSharedTotals : Scene → Totals → Type 0
+AreSharedTotals s totals = totals ≡ totals_in s.state

@@ -1,0 +1,56 @@
+-- What a script is owed where its callers share tags.
+use Rattle.std.specs.Prelude.{ℕ, ◌^◌, ◌<◌, ◌≤◌, List, IsSomeAnd}
+use Rattle.tag_layout.specs.declared.layout.TheConstants.{MAX_DEPTH, MAX_SHIFT}
+use Rattle.tag_lines.specs.declared.order.Order.{Order}
+use Rattle.tag_model.specs.declared.world.TheConstants.{MOST_WON}
+use Rattle.tag_queue.specs.declared.fault.SetFault.{SetFault}
+use Rattle.tag_queue.specs.declared.fault.SetFault.TheVariants as faults
+use Rattle.tag_queue.specs.declared.queue.Options.{Options}
+use Rattle.tag_queue.specs.Opening.{MiscountsAgents, CountsAgents}
+use Rattle.tag_sets.specs.Opening.{HasRange, HasLayouts}
+use Rattle.tag_board.specs.Lones.{AreUntouched}
+use Rattle.tag_board.specs.Opening.{IsOpen}
+use Rattle.tag_script.specs.declared.options.ScriptOptions.{ScriptOptions}
+use Rattle.tag_script.specs.Plays.{IsPlayed}
+use Rattle.tag_script.specs.SharedCommands.{Scene, IsAlone, ObeysShared, AreSharedTotals}
+
+-- what the tags are opened with; each caller may count as many completions as any may
+abbrev pub tag_options : ScriptOptions → Options
+tag_options o = record {
+  shift = o.shift;
+  round_robin = o.round_robin;
+  min_shallow = o.min_shallow;
+  callers = o.callers;
+  life = o.life;
+  cap = 2 ^ 56;
+}
+
+-- both sets have layouts
+abbrev pub HasSets : ScriptOptions → Type 0
+HasSets o = HasLayouts o.tags o.reserved (tag_options o)
+
+-- the first cause for which there is no such world
+abbrev pub IsRefusedShared : ScriptOptions → SetFault → Type 0
+IsRefusedShared o faults.Memory = ⊥
+IsRefusedShared o faults.TotalTooLarge = MAX_DEPTH < o.tags
+IsRefusedShared o faults.ReservedTooLarge = (o.tags ≤ MAX_DEPTH) × (o.tags < o.reserved)
+IsRefusedShared o faults.ShiftTooLarge = HasRange o.tags o.reserved × IsSomeAnd o.shift (λ s. MAX_SHIFT < s)
+IsRefusedShared o faults.CallerCount = HasSets o × MiscountsAgents (tag_options o)
+IsRefusedShared o faults.LifeTooLong = HasSets o × CountsAgents (tag_options o) × (MOST_WON < o.life)
+IsRefusedShared o faults.CapTooLarge = ⊥
+
+-- there is no such cause
+abbrev pub IsAllowed : ScriptOptions → Type 0
+IsAllowed o = (fault : SetFault) → ¬ (IsRefusedShared o fault)
+
+-- new tags as the options say, which nobody touched
+pub record IsNew (o : ScriptOptions) (s : Scene) : Type 0 where
+  pub opened : IsOpen o.tags o.reserved (tag_options o) s.state
+  pub untouched : IsAlone s → AreUntouched o.tags o.reserved (tag_options o) s.sets
+
+-- what orders are told: those options are allowed, and over new tags one order after another is answered
+pub record IsToldShared (o : ScriptOptions) (orders : List Order) (text : List ℕ) : Type 0 where
+  pub first : Scene
+  pub allowed : IsAllowed o
+  pub new : IsNew o first
+  pub played : IsPlayed ObeysShared AreSharedTotals first orders text

@@ -1,0 +1,122 @@
+//! Callers that share tags, as a script moves them.
+ghost use Rattle.std.specs.Prelude.{◌≡◌, IfOk};
+ghost use Rattle.tag_board.specs.Boards.{IsCallerOf};
+ghost use Rattle.tag_board.specs.Looks.{Dumps};
+ghost use Rattle.tag_board.specs.Lones.{LoneDumps};
+ghost use Rattle.tag_script.specs.SharedCommands.{ObeysBy, ObeysShared, AreSharedTotals};
+ghost use Rattle.tag_script.specs.SharedCommands.{scene_of, Both, IsNoResize, ListsTags};
+
+use crate::answer::{Answer, BusyTags, DumpBytes};
+use crate::world::World;
+use std::alloc::{AllocError, Global};
+use std::sync::Wait;
+use tag_board::Board;
+use tag_lines::{Command, Order};
+use tag_model::Totals;
+use tag_sets::Kind;
+
+/// Callers that share tags. A clause sees what is known of their board, its `scene_of`.
+pub(crate) struct Callers<'a, W> {
+    /// What a leave takes; it never sleeps.
+    rt: &'a W,
+    /// Where answers are kept.
+    alloc: Global,
+    board: Board,
+}
+
+impl<'a, W: Wait> World for Callers<'a, W> {
+    ghost ready = { λ p n. Unit {0} };
+
+    ghost knows = { λ p order. IsCallerOf p.board order.caller };
+
+    ghost answers = { λ p order answer q. ObeysShared (scene_of p.board) order answer (scene_of q.board) };
+
+    ghost counts = { λ p totals. AreSharedTotals (scene_of p.board) totals };
+
+    ghost ready_fewer = { λ p m n few ready. tt };
+
+    fn obey(self, order: &Order) -> Result<(Answer, Callers<'a, W>), AllocError> {
+        if let Command::Resize(total) = order.command {
+            let Callers { rt, alloc, board } = self;
+            let (outcome, board) = board.resize(alloc, total)?;
+            return Ok((Answer::to_resize(outcome), Callers { rt, alloc, board }));
+        }
+        let mut callers = self;
+        match callers.answer(order.caller, &order.command) {
+            Ok(answer) => Ok((answer, callers)),
+            Err(fault) => {
+                callers.totals();
+                Err(fault)
+            }
+        }
+    }
+
+    fn totals(self) -> Totals {
+        let Callers {
+            rt: _,
+            alloc: _,
+            board,
+        } = self;
+        board.close()
+    }
+}
+
+impl<'a, W: Wait> Callers<'a, W> {
+    /// The callers of this board.
+    pub(crate) fn new(rt: &'a W, alloc: Global, board: Board) -> Callers<'a, W>
+        ensures { result.board ≡ board }
+    {
+        Callers { rt, alloc, board }
+    }
+
+    // Carries a caller's command out, but no resize, which makes another board.
+    fn answer(&mut self, caller: u32, command: &Command) -> Result<Answer, AllocError>
+        requires caller { IsCallerOf self.old.board caller }
+        requires no_resize { IsNoResize command.now }
+        ensures { IfOk result (λ answer.
+            ObeysBy caller command.now (scene_of self.old.board) answer (scene_of self.new.board)) }
+    {
+        let board = &mut self.board;
+        match command {
+            Command::Get => Ok(Answer::to_get(board.get(caller))),
+            Command::GetReserved => Ok(Answer::to_get(board.get_reserved(caller))),
+            Command::Shallow(depth) => Ok(Answer::to_get(board.get_shallow(caller, *depth))),
+            Command::Batch(n) => Ok(Answer::to_batch(board.get_batch(caller, *n))),
+            Command::Clear(tag) => Ok(Answer::to_clear(board.clear(caller, *tag))),
+            Command::ClearBatch(tags) => {
+                Ok(Answer::to_clear(board.clear_batch(caller, tags.as_slice())))
+            }
+            Command::Post(tag) => Ok(Answer::to_done(board.post(caller, *tag))),
+            Command::Take(tag) => Ok(Answer::to_done(board.take(caller, *tag))),
+            Command::Wait => Ok(Answer::to_wait(board.wait(caller))),
+            Command::Leave => Ok(Answer::to_leave(board.leave(self.rt, caller))),
+            Command::Wakes => Ok(Answer::Wakes(board.wakes(caller))),
+            Command::Show => Ok(Answer::Shown(board.show(caller, Kind::Ordinary))),
+            Command::ShowReserved => Ok(Answer::Shown(board.show(caller, Kind::Reserved))),
+            Command::Busy => Ok(Answer::Busy(self.busy(caller)?)),
+            Command::Dump => Ok(Answer::Dump(self.dump(caller, Kind::Ordinary)?)),
+            Command::DumpReserved => Ok(Answer::Dump(self.dump(caller, Kind::Reserved)?)),
+            Command::Resize(_) => unreachable!(),
+        }
+    }
+
+    // The tags that are busy, ascending.
+    fn busy(&mut self, caller: u32) -> Result<BusyTags, AllocError>
+        requires { IsCallerOf self.old.board caller }
+        ensures { IfOk result (λ tags.
+            ListsTags caller (scene_of self.old.board) tags (scene_of self.new.board)) }
+    {
+        let bits = self.board.busy(self.alloc, caller)?;
+        BusyTags::of_bits(self.alloc, &bits)
+    }
+
+    // The tags of a set that are busy, as bits.
+    fn dump(&mut self, caller: u32, kind: Kind) -> Result<DumpBytes, AllocError>
+        requires { IsCallerOf self.old.board caller }
+        ensures { IfOk result (λ bytes.
+            Both (Dumps kind) (LoneDumps kind) (scene_of self.old.board) bytes (scene_of self.new.board)) }
+    {
+        let bytes = self.board.dump(self.alloc, caller, kind)?;
+        Ok(DumpBytes::new(bytes))
+    }
+}

@@ -1,0 +1,60 @@
+//! The outcomes of calls, as answers.
+ghost use Rattle.std.specs.Prelude.{◌≡◌};
+ghost use Rattle.tag_script.specs.Commands.{told};
+ghost use Rattle.tag_script.specs.SharedCommands.{resize_answer};
+ghost use Rattle.tag_script.specs.declared.answer.Answer.TheVariants as answers;
+
+use crate::answer::Answer;
+use tag_queue::ResizeCause;
+use tag_sets::{Left, TagFault};
+
+impl Answer {
+    /// To a get.
+    pub(crate) fn to_get(outcome: Result<Option<u32>, TagFault>) -> Answer
+        ensures { result ≡ told answers.Tag outcome }
+    {
+        outcome.map_or_else(Answer::Refused, Answer::Tag)
+    }
+
+    /// To a batch.
+    pub(crate) fn to_batch(outcome: Result<Option<(u32, u64)>, TagFault>) -> Answer
+        ensures { result ≡ told answers.Batch outcome }
+    {
+        outcome.map_or_else(Answer::Refused, Answer::Batch)
+    }
+
+    /// To a call that wakes waiters: how many.
+    pub(crate) fn to_clear(outcome: Result<u32, TagFault>) -> Answer
+        ensures { result ≡ told answers.Done outcome }
+    {
+        outcome.map_or_else(Answer::Refused, Answer::Done)
+    }
+
+    /// To a call that wakes nobody.
+    pub(crate) fn to_done(outcome: Result<(), TagFault>) -> Answer
+        ensures { result ≡ told (λ done. answers.Done 0) outcome }
+    {
+        outcome.map_or_else(Answer::Refused, |()| Answer::Done(0))
+    }
+
+    /// To a wait.
+    pub(crate) fn to_wait(outcome: Result<u32, TagFault>) -> Answer
+        ensures { result ≡ told answers.Group outcome }
+    {
+        outcome.map_or_else(Answer::Refused, Answer::Group)
+    }
+
+    /// To a leave.
+    pub(crate) fn to_leave(outcome: Result<Left, TagFault>) -> Answer
+        ensures { result ≡ told answers.Left outcome }
+    {
+        outcome.map_or_else(Answer::Refused, Answer::Left)
+    }
+
+    /// To a resize.
+    pub(crate) fn to_resize(outcome: Result<(), ResizeCause>) -> Answer
+        ensures { result ≡ resize_answer outcome }
+    {
+        outcome.map_or_else(Answer::NotResized, |()| Answer::Done(0))
+    }
+}
