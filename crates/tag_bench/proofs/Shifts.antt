@@ -7,7 +7,8 @@ use Rattle.std.proofs.lemmas.Nat.{pow_pos, div-add-mod'}
 use Rattle.std.proofs.lemmas.Nat.Bits.{bit_at-zero, bit_at_cat_low, bit_at_cat_high}
 
 -- a bit of a mask shifted within 64 bits is one of the mask
-pub bit-of_shifted : (bits p q : ℕ) → q < 64 → bit_at (bits * 2 ^ p % 2 ^ 64) q ≡ 1 → (p ≤ q) × (bit_at bits (q - p) ≡ 1)
+pub bit-of_shifted : (bits p q : ℕ) → q < 64 → bit_at (bits * 2 ^ p % 2 ^ 64) q ≡ 1
+    → (p ≤ q) × (bit_at bits (q - p) ≡ 1)
 bit-of_shifted bits p q small one =
     let n : ℕ = bits * 2 ^ p in
     let whole : bit_at n q ≡ 1 = ap (λ (x : ℕ). bit_at x q) (sym (div-add-mod' n (2 ^ 64)))

@@ -11,6 +11,9 @@ const BY_DEPTHS: &str = "Tags of the map [default: 64, 1024 and 10240 in turn]";
 /// The workloads of a queue, as the command line has them.
 const QUEUED: [&str; 5] = ["pair", "ring", "full", "pass", "waiters"];
 
+/// Those of tag sets.
+const DRIVEN: [&str; 4] = ["pair", "ring", "full", "pass"];
+
 /// The command line that the program takes.
 pub(crate) fn command<'a>(alloc: Global) -> Result<Command<'a>, AllocError> {
     let mut command = program(alloc)?;
@@ -39,6 +42,7 @@ fn subcommand<'a>(alloc: Global, workload: Workload) -> Result<Command<'a>, Allo
         Workload::Traffic(traffic) => driver(alloc, traffic),
         Workload::Batch => batch(alloc),
         Workload::Queue(_) => queue(alloc),
+        Workload::Sets(_) => sets(alloc),
     }
 }
 
@@ -86,11 +90,19 @@ fn batch<'a>(alloc: Global) -> Result<Command<'a>, AllocError> {
 fn queue<'a>(alloc: Global) -> Result<Command<'a>, AllocError> {
     Command::new(alloc, "queue")
         .about("pair, ring, full and pass over a queue, and gets that wait for a tag")
-        .arg(queue_workload(alloc))?
+        .arg(one_of(alloc, &QUEUED))?
         .arg(depth(
             alloc,
             "Tags of the queue [default: 64, 1024 and 10240 in turn; of waiters half as many as threads]",
         ))?
+        .arg(threads(alloc))
+}
+
+fn sets<'a>(alloc: Global) -> Result<Command<'a>, AllocError> {
+    Command::new(alloc, "sets")
+        .about("pair, ring, full and pass over tag sets without reserved tags")
+        .arg(one_of(alloc, &DRIVEN))?
+        .arg(depth(alloc, BY_DEPTHS))?
         .arg(threads(alloc))
 }
 
@@ -137,8 +149,8 @@ fn threads<'a>(alloc: Global) -> Arg<'a> {
         .help("Threads at once [default: 1, 2 and 4 in turn]")
 }
 
-fn queue_workload<'a>(alloc: Global) -> Arg<'a> {
+fn one_of<'a>(alloc: Global, workloads: &'static [&'static str]) -> Arg<'a> {
     Arg::new(alloc, "workload")
-        .value_parser(ValueParser::Names(&QUEUED))
+        .value_parser(ValueParser::Names(workloads))
         .help("Runs this workload alone")
 }

@@ -1,5 +1,5 @@
 //! Threads at work on tags that they share.
-ghost use Rattle.std.specs.Prelude.{All, IfOk};
+ghost use Rattle.std.specs.Prelude.{All};
 
 use crate::measure::{Failed, RUNS, Run, Times, Watch};
 use crate::tags::Tags;
@@ -58,7 +58,7 @@ pub(crate) struct Outcome {
 /// Has a job done on new tags, several times.
 pub(crate) fn carry_out<
     R: AllocGlobal + Threads + Sync + Clock + CpuClock,
-    T: Tags + Sync + Drop,
+    T: Tags + Sync,
     J: Job<T> + Sync,
 >(rt: &R, plan: Plan, job: &J) -> Result<Outcome, Failed>
 where
@@ -68,8 +68,10 @@ where
     if plan.stride > 0 {
         work_all(rt, &tags, &mut hands, Plan { threads: 1, ..plan }, &Placing);
     }
-    let runs = time_runs(rt, &tags, &mut hands, plan, job)?;
+    // Tags end by a gather alone, also where the clock failed.
+    let runs = time_runs(rt, &tags, &mut hands, plan, job);
     let totals = tags.gather(hands)?;
+    let runs = runs?;
     let shares = RUNS as u64 * u64::from(plan.winners.max(1));
     Ok(Outcome {
         times: Times {
@@ -100,7 +102,7 @@ fn time_runs<R: Threads + Sync + Clock + CpuClock, T: Tags + Sync, J: Job<T> + S
 where
     T::Hand: Send,
     requires own { All (T.is_own tags.now) hands.old.items }
-    ensures { IfOk result (λ _. All (T.is_own tags.now) hands.new.items) }
+    ensures { All (T.is_own tags.now) hands.new.items }
 {
     let mut runs = [Run::ZERO; RUNS];
     for run in runs.iter_mut() {

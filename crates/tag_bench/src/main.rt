@@ -16,6 +16,7 @@ mod plain;
 mod rounds;
 mod shared_map;
 mod shared_queue;
+mod shared_sets;
 mod tags;
 mod traffic;
 mod waits;
@@ -33,6 +34,7 @@ use std::thread::Threads;
 use std::time::{Clock, CpuClock};
 use tag_core::Map;
 use tag_queue::Queue;
+use tag_sets::Tags as TagSets;
 
 fn main(rt: HostRuntime) -> ExitCode {
     match play(&rt) {
@@ -90,6 +92,7 @@ fn run_workload<R: AllocGlobal + Threads + Wait + Sync + Clock + CpuClock + Prin
         Workload::Traffic(traffic) => run_on_map(rt, options, traffic),
         Workload::Batch => batches::run(rt, options),
         Workload::Queue(queued) => run_queue(rt, options, queued),
+        Workload::Sets(traffic) => run_sets(rt, options, traffic),
     }
 }
 
@@ -109,6 +112,30 @@ fn run_on_queue<R: AllocGlobal + Threads + Sync + Clock + CpuClock + Print>(
     traffic: Traffic,
 ) -> Result<(), Failed> {
     traffic::run::<R, Queue<u64>>(rt, options, "queue ", traffic)
+}
+
+// Runs a workload over tag sets without reserved tags.
+fn run_on_sets<R: AllocGlobal + Threads + Sync + Clock + CpuClock + Print>(
+    rt: &R,
+    options: &Options,
+    traffic: Traffic,
+) -> Result<(), Failed> {
+    traffic::run::<R, TagSets<u64>>(rt, options, "sets ", traffic)
+}
+
+// Runs the workload of tag sets that was asked for, or each.
+fn run_sets<R: AllocGlobal + Threads + Sync + Clock + CpuClock + Print>(
+    rt: &R,
+    options: &Options,
+    traffic: Option<Traffic>,
+) -> Result<(), Failed> {
+    if let Some(traffic) = traffic {
+        return run_on_sets(rt, options, traffic);
+    }
+    for traffic in TRAFFIC {
+        run_on_sets(rt, options, traffic)?;
+    }
+    Ok(())
 }
 
 // Runs the workload of the queue that was asked for, or each.

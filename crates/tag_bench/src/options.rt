@@ -25,10 +25,12 @@ pub(crate) enum Workload {
     Batch,
     /// The same over a queue: one of its workloads, or each.
     Queue(Option<Queued>),
+    /// The same over tag sets: one of these workloads, or each.
+    Sets(Option<Traffic>),
 }
 
 /// Each of them, in the order in which they run.
-pub(crate) const WORKLOADS: [Workload; 10] = [
+pub(crate) const WORKLOADS: [Workload; 11] = [
     Workload::Plain,
     Workload::Map,
     Workload::Shared,
@@ -39,6 +41,7 @@ pub(crate) const WORKLOADS: [Workload; 10] = [
     Workload::Traffic(Traffic::Pass),
     Workload::Batch,
     Workload::Queue(None),
+    Workload::Sets(None),
 ];
 
 /// What can be run over a queue.
@@ -80,6 +83,7 @@ pub(crate) struct Options {
 pub(crate) fn read(alloc: Global, matches: &ArgMatches) -> Result<Options, AllocError> {
     let (workload, chosen) = match matches.subcommand() {
         Some(("queue", chosen)) => (Some(Workload::Queue(queued_of(chosen))), chosen),
+        Some(("sets", chosen)) => (Some(Workload::Sets(driven_by(chosen))), chosen),
         Some((name, chosen)) => (workload_of(name), chosen),
         None => (None, matches),
     };
@@ -122,6 +126,11 @@ fn queued_of(chosen: &ArgMatches) -> Option<Queued> {
         "waiters" => Some(Queued::Waiters),
         name => traffic_of(name).map(Queued::Traffic),
     }
+}
+
+// The workload of tag sets that was named.
+fn driven_by(chosen: &ArgMatches) -> Option<Traffic> {
+    traffic_of(chosen.get_str("workload")?)
 }
 
 // The traffic of this name.

@@ -60,10 +60,12 @@ impl Traffic {
 }
 
 /// Runs each case of one workload. The prefix stands before its name.
-pub(crate) fn run<
-    R: AllocGlobal + Threads + Sync + Print + Clock + CpuClock,
-    T: Tags + Sync + Drop,
->(rt: &R, options: &Options, prefix: &str, traffic: Traffic) -> Result<(), Failed>
+pub(crate) fn run<R: AllocGlobal + Threads + Sync + Print + Clock + CpuClock, T: Tags + Sync>(
+    rt: &R,
+    options: &Options,
+    prefix: &str,
+    traffic: Traffic,
+) -> Result<(), Failed>
 where
     T::Hand: Send + Drop,
 {
@@ -75,7 +77,7 @@ where
 }
 
 // Runs one case, with the job that its workload has. `pass` wants an even number of threads.
-fn run_plan<R: AllocGlobal + Threads + Sync + Print + Clock + CpuClock, T: Tags + Sync + Drop>(
+fn run_plan<R: AllocGlobal + Threads + Sync + Print + Clock + CpuClock, T: Tags + Sync>(
     rt: &R,
     options: &Options,
     workload: impl Display + Drop,
@@ -137,7 +139,7 @@ fn add_plans(plans: &mut Vec<Plan>, options: &Options, depth: u32) -> Result<(),
 /// Has a job done as planned, and prints the line of the case.
 pub(crate) fn run_case<
     R: AllocGlobal + Threads + Sync + Print + Clock + CpuClock,
-    T: Tags + Sync + Drop,
+    T: Tags + Sync,
     J: Job<T> + Sync,
 >(
     rt: &R,

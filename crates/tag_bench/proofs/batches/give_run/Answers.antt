@@ -11,9 +11,11 @@ use Rattle.tag_bench.proofs.batches.give_run.Goals as goal
 
 pub give-requires-clause-held : goal.give-requires-clause-held
 give-requires-clause-held c = λ tag below named.
-    let l = layout_of c.args.map.now in let first = c.args.first in let p = c.place_of.result in let q = place_of l tag in
+    let l = layout_of c.args.map.now in let first = c.args.first in let p = c.place_of.result in
+    let q = place_of l tag in
     let same : c.layout-layout.result ≡ l = c.layout-layout.ensures in
-    let word : c.word_of-word.result ≡ word_of l first = c.word_of-word.ensures.value ∙ ap (λ (x : Layout). word_of x first) same in
+    let word : c.word_of-word.result ≡ word_of l first = c.word_of-word.ensures.value
+    ∙ ap (λ (x : Layout). word_of x first) same in
     let at : p ≡ place_of l first = c.place_of.ensures.value ∙ ap (λ (x : Layout). place_of x first) same in
     let both = both_true (word_of l tag == c.word_of-word.result) (bit_at (c.args.won * 2 ^ p % 2 ^ 64) q == 1) named in
     let here : word_of l tag ≡ word_of l first = eqb-true (word_of l tag) c.word_of-word.result both.0 ∙ word in
@@ -22,5 +24,6 @@ give-requires-clause-held c = λ tag below named.
     let bit = bit-of_shifted c.args.won p q small (eqb-true (bit_at (c.args.won * 2 ^ p % 2 ^ 64) q) 1 both.1) in
     let is : tag ≡ first + (q - p) =
     let ours = tag_at-back l tag in let theirs = tag_at-back l first in
-    let one : word_of l tag * word_bits l ≡ word_of l first * word_bits l = ap (λ (w : ℕ). w * word_bits l) here in omega (arith, bit.0) in
+    let one : word_of l tag * word_bits l ≡ word_of l first * word_bits l = ap (λ (w : ℕ). w * word_bits l) here in
+    omega (arith, bit.0) in
     subst (λ (t : ℕ). Holds c.args.caller.now t) (sym is) (c.requires.held (q - p) bit.1)

@@ -4,4 +4,5 @@ use Rattle.tag_bench.proofs.Gained.{holds_answer}
 use Rattle.tag_bench.proofs.shared_map.MapU64Tags.get.Goals as goal
 
 pub returns-clause-held : goal.returns-clause-held
-returns-clause-held c = IfOk-weaker c.get.result _ _ (λ answer gains. holds_answer _ answer _ _ gains) c.get.ensures.gains
+returns-clause-held c = IfOk-weaker c.get.result _ _
+    (λ answer gains. holds_answer _ answer _ _ gains) c.get.ensures.gains

@@ -1,0 +1,11 @@
+-- Hands go to threads that share the tags.
+use denote.Param.Send.{sendable}
+use Rattle.std.proofs.Crossing.{crosses}
+use Rattle.tag_sets.proofs.Crossing.{hand_send, tags_sync}
+use Rattle.tag_bench.proofs.run_on_sets.Goals as goal
+
+pub run-requires-send-T-Hand : goal.run-requires-send-T-Hand
+run-requires-send-T-Hand g c κs within = search (hand_send, sendable) depth 40
+
+pub run-requires-sync-T : goal.run-requires-sync-T
+run-requires-sync-T g c κs within = search (tags_sync, sendable, crosses) depth 40
