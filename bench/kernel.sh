@@ -11,6 +11,7 @@ out=bench/out
 workloads=(pair ring full pass batch)
 bench=crates/tag_bench/out/tag_bench
 
+c/library.sh build > /dev/null
 bench/kernel/build.sh "$out"
 (cd crates/tag_bench && rt run > /dev/null)
 

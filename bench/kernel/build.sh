@@ -1,6 +1,6 @@
 #!/usr/bin/env bash
 # build.sh OUT: builds what kernel.sh measures as OUT/contenders. The kernel's files and crossbeam's come from Debian's
-# packages, and are compiled as they are.
+# packages, and are compiled as they are. The C library is in c/out already.
 set -euo pipefail
 here=$(cd "$(dirname "$0")" && pwd)
 out=$(mkdir -p "$1" && cd "$1" && pwd)
@@ -62,5 +62,5 @@ library crossbeam_utils "$(basename "$crates"/crossbeam-utils-*)" --cfg 'feature
 library crossbeam_queue "$(basename "$crates"/crossbeam-queue-*)" --cfg 'feature="std"' --cfg 'feature="alloc"' \
   --extern "cfg_if=$out/libcfg_if.rlib" --extern "crossbeam_utils=$out/libcrossbeam_utils.rlib"
 rust --edition 2021 --cap-lints warn --crate-name contenders --extern "crossbeam_queue=$out/libcrossbeam_queue.rlib" \
-  -l static=sbitmap "$here/main.rs"
+  -L "native=$here/../../c/out" -l static=sbitmap -l static=tags "$here/main.rs"
 echo "$linux $(dpkg-deb -f "$out/$linux"_*.deb Version)" > "$out/version"

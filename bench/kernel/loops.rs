@@ -29,8 +29,22 @@ pub trait Tags: Sync {
 
     fn get(&self, user: &mut Self::User) -> Option<u32>;
 
+    /// Exchanges the number beside a tag that this user has. Most know no slots, so it is one of these.
+    #[inline]
+    fn touch(&self, _user: &mut Self::User, slots: &Slots, tag: u32, value: u64) {
+        slots.touch(tag, value);
+    }
+
     /// Clears a tag that this user got, or one that another user got and handed on.
     fn clear(&self, user: &mut Self::User, tag: u32);
+
+    /// What handing a tag on takes beside sending its number.
+    #[inline]
+    fn post(&self, _user: &mut Self::User, _tag: u32) {}
+
+    /// What taking a tag over takes beside its number.
+    #[inline]
+    fn take(&self, _user: &mut Self::User, _tag: u32) {}
 
     /// Some tags of up to a batch.
     fn get_batch(&self, user: &mut Self::User, tags: &mut [u32; BATCH]) -> usize;
@@ -136,7 +150,7 @@ impl Way {
 fn win<T: Tags>(tags: &T, user: &mut T::User, slots: &Slots, value: u64) -> u32 {
     loop {
         if let Some(tag) = tags.get(user) {
-            slots.touch(tag, value);
+            tags.touch(user, slots, tag, value);
             return tag;
         }
     }
@@ -176,7 +190,7 @@ pub fn batches<T: Tags>(tags: &T, user: &mut T::User, slots: &Slots, rounds: u64
     for round in 0..rounds / BATCH as u64 {
         let count = tags.get_batch(user, &mut batch);
         for &tag in &batch[..count] {
-            slots.touch(tag, round);
+            tags.touch(user, slots, tag, round);
         }
         tags.clear_batch(user, &batch[..count]);
         won += count as u64;
@@ -189,6 +203,7 @@ pub fn batches<T: Tags>(tags: &T, user: &mut T::User, slots: &Slots, rounds: u64
 pub fn send<T: Tags>(tags: &T, user: &mut T::User, slots: &Slots, way: &Way, rounds: u64) -> u64 {
     for round in 0..rounds {
         let tag = win(tags, user, slots, round);
+        tags.post(user, tag);
         way.exchange(round, false, u64::from(tag) + 1);
     }
     rounds
@@ -205,7 +220,8 @@ pub fn receive<T: Tags>(
 ) -> u64 {
     for round in 0..rounds {
         let tag = way.exchange(round, true, 0) as u32 - 1;
-        slots.touch(tag, round);
+        tags.take(user, tag);
+        tags.touch(user, slots, tag, round);
         tags.clear(user, tag);
     }
     rounds

@@ -2,7 +2,8 @@
 
 A figure is the median over the repetitions. A ratio is one of times by the clock, to the kernel's time with hints apart in
 the same repetition; less is better. The last columns are a ratio of processor time, and the nanoseconds that an operation over
-tag_queue takes more than one over the map alone, in the same repetition, with hints apart."""
+tag_queue takes more than one over the map alone, and one through C more than one over tag_queue, in the same repetition, with
+hints apart."""
 import json
 import statistics
 import sys
@@ -11,11 +12,14 @@ from math import log2
 KERNEL = ("kernel", "apart")
 OURS = ("tag_bench", "apart")
 QUEUE = ("tag_queue", "apart")
+THROUGH_C = ("tag_c", "apart")
 COLUMNS = [
     ("tag_bench", OURS),
     ("tag_bench, from 0", ("tag_bench", "from 0")),
     ("tag_queue", QUEUE),
     ("tag_queue, from 0", ("tag_queue", "from 0")),
+    ("tag_c", THROUGH_C),
+    ("tag_c, from 0", ("tag_c", "from 0")),
     ("kernel, from 0", ("kernel", "from 0")),
     ("queue", ("queue", None)),
     ("locked list", ("locked list", None)),
@@ -61,11 +65,11 @@ def ratio(case, who, what="ns"):
     return statistics.median(ratios) if ratios else None
 
 
-def queue_costs(case):
-    """The median of what the queue takes more than the map in the same repetition, in nanoseconds."""
-    queue, ours = case.get(QUEUE, {}), case.get(OURS, {})
-    costs = [queue[at]["ns"] - ours[at]["ns"] for at in queue if at in ours]
-    return statistics.median(costs) if costs else None
+def costs(case, upper, lower):
+    """The median of what an upper layer takes more than a lower one in the same repetition, in nanoseconds."""
+    above, below = case.get(upper, {}), case.get(lower, {})
+    more = [above[at]["ns"] - below[at]["ns"] for at in above if at in below]
+    return statistics.median(more) if more else None
 
 
 def median(case, who):
@@ -74,15 +78,16 @@ def median(case, who):
 
 def print_table(figures):
     head = ["workload", "depth", "threads", "kernel, ns"]
-    head += [title for title, _ in COLUMNS] + ["tag_bench, processor", "tag_queue over tag_bench, ns"]
+    head += [title for title, _ in COLUMNS] + ["tag_bench, processor"]
+    head += ["tag_queue over tag_bench, ns", "tag_c over tag_queue, ns"]
     print("| " + " | ".join(head) + " |")
     print("|" + "---|" * len(head))
     for (workload, depth, threads), case in figures.items():
         ratios = [ratio(case, who) for _, who in COLUMNS] + [ratio(case, OURS, "processor")]
         row = [workload, str(depth), str(threads), f"{median(case, KERNEL):.1f}" if KERNEL in case else ""]
         row += ["" if value is None else f"{value:.2f}" for value in ratios]
-        cost = queue_costs(case)
-        row.append("" if cost is None else f"{cost:+.1f}")
+        more = [costs(case, QUEUE, OURS), costs(case, THROUGH_C, QUEUE)]
+        row += ["" if cost is None else f"{cost:+.1f}" for cost in more]
         print("| " + " | ".join(row) + " |")
 
 

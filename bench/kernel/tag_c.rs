@@ -1,0 +1,161 @@
+//! The tags of this repository as a C program has them: each call crosses the C interface, and the slots are the pool's own.
+use crate::loops::{Slots, Tags, BATCH};
+use std::ffi::c_void;
+use std::ptr::null_mut;
+use std::sync::{Mutex, MutexGuard, PoisonError};
+
+/// A struct tags_pool or a struct tags_hand.
+#[repr(C)]
+struct Handle {
+    full: u64,
+    object: *mut c_void,
+}
+
+// SAFETY: a handle may go to any thread, and here one call at a time has it.
+unsafe impl Send for Handle {}
+
+const EMPTY: Handle = Handle {
+    full: 0,
+    object: null_mut(),
+};
+
+/// A struct tags_options.
+#[repr(C)]
+struct Options {
+    total: u32,
+    reserved: u32,
+    shift: i32,
+    min_shallow: u32,
+    hands: u32,
+    flags: u32,
+}
+
+/// A hand's gets go on where they left off, and not in a part of its own.
+const STAY: u32 = 1;
+
+unsafe extern "C" {
+    fn tags_library_open(pool: *mut Handle, options: *const Options) -> i32;
+    fn tags_library_join(pool: *mut Handle, hand: *mut Handle, flags: u32) -> i32;
+    fn tags_library_leave(hand: *mut Handle) -> i32;
+    fn tags_library_close(pool: *mut Handle, sums: *mut [u64; 8]) -> i32;
+    fn tags_library_get(hand: *mut Handle) -> i32;
+    fn tags_library_get_batch(hand: *mut Handle, n: u32, won: *mut u64) -> i32;
+    fn tags_library_clear(hand: *mut Handle, tag: u32) -> i32;
+    fn tags_library_clear_batch(hand: *mut Handle, tags: *const u32, count: usize) -> i32;
+    fn tags_library_write(hand: *mut Handle, tag: u32, value: u64, former: *mut u64) -> i32;
+    fn tags_library_post(hand: *mut Handle, tag: u32) -> i32;
+    fn tags_library_take(hand: *mut Handle, tag: u32) -> i32;
+}
+
+/// A pool from its open to its close.
+pub struct TagC {
+    pool: Mutex<Handle>,
+    flags: u32,
+}
+
+impl TagC {
+    fn pool(&self) -> MutexGuard<'_, Handle> {
+        self.pool.lock().unwrap_or_else(PoisonError::into_inner)
+    }
+}
+
+/// A hand of one thread for one run.
+pub struct Hand(Handle);
+
+impl Drop for Hand {
+    fn drop(&mut self) {
+        // SAFETY: the handle is this thread's alone, as it is in each call below.
+        unsafe { tags_library_leave(&mut self.0) };
+    }
+}
+
+impl Tags for TagC {
+    const NAME: &'static str = "tag_c";
+    type User = Hand;
+
+    fn open(depth: u32, threads: u32, stride: u32) -> TagC {
+        let options = Options {
+            total: depth,
+            reserved: 0,
+            shift: -1,
+            min_shallow: 0,
+            hands: threads,
+            flags: 0,
+        };
+        let mut pool = EMPTY;
+        // SAFETY: both are this function's own.
+        let status = unsafe { tags_library_open(&mut pool, &options) };
+        assert_eq!(status, 0, "the pool is not opened");
+        TagC {
+            pool: Mutex::new(pool),
+            flags: if stride == 0 { STAY } else { 0 },
+        }
+    }
+
+    fn enter(&self, _index: u32) -> Hand {
+        let mut hand = EMPTY;
+        // SAFETY: the lock keeps the pool's handle to this call.
+        let status = unsafe { tags_library_join(&mut *self.pool(), &mut hand, self.flags) };
+        assert_eq!(status, 0, "there is no hand for this thread");
+        Hand(hand)
+    }
+
+    #[inline]
+    fn get(&self, hand: &mut Hand) -> Option<u32> {
+        // SAFETY: as of `drop`.
+        u32::try_from(unsafe { tags_library_get(&mut hand.0) }).ok()
+    }
+
+    #[inline]
+    fn touch(&self, hand: &mut Hand, _slots: &Slots, tag: u32, value: u64) {
+        let mut former = 0;
+        // SAFETY: as of `drop`.
+        unsafe { tags_library_write(&mut hand.0, tag, value, &mut former) };
+    }
+
+    #[inline]
+    fn clear(&self, hand: &mut Hand, tag: u32) {
+        // SAFETY: as of `drop`.
+        unsafe { tags_library_clear(&mut hand.0, tag) };
+    }
+
+    #[inline]
+    fn post(&self, hand: &mut Hand, tag: u32) {
+        // SAFETY: as of `drop`.
+        unsafe { tags_library_post(&mut hand.0, tag) };
+    }
+
+    #[inline]
+    fn take(&self, hand: &mut Hand, tag: u32) {
+        // SAFETY: as of `drop`.
+        unsafe { tags_library_take(&mut hand.0, tag) };
+    }
+
+    #[inline]
+    fn get_batch(&self, hand: &mut Hand, tags: &mut [u32; BATCH]) -> usize {
+        let mut won = 0;
+        // SAFETY: as of `drop`.
+        let first = unsafe { tags_library_get_batch(&mut hand.0, BATCH as u32, &mut won) };
+        let mut count = 0;
+        while first >= 0 && won != 0 {
+            tags[count] = first as u32 + won.trailing_zeros();
+            won &= won - 1;
+            count += 1;
+        }
+        count
+    }
+
+    #[inline]
+    fn clear_batch(&self, hand: &mut Hand, tags: &[u32]) {
+        // SAFETY: as of `drop`, and the slice has so many tags.
+        unsafe { tags_library_clear_batch(&mut hand.0, tags.as_ptr(), tags.len()) };
+    }
+
+    fn close(self) {
+        let mut sums = [0; 8];
+        // SAFETY: no thread has a hand any more, and a struct tags_sums is eight numbers.
+        let status = unsafe { tags_library_close(&mut *self.pool(), &mut sums) };
+        let [got, back, ..] = sums;
+        assert_eq!((status, got), (0, back), "a tag was not cleared");
+    }
+}

@@ -1,0 +1,274 @@
+//! What one thread takes tags with.
+use crate::error::{number, Result};
+use crate::options::{Counts, Kind, Sizes};
+use crate::pool::Shared;
+use crate::raw::{self, Handle};
+use crate::tag::{Batch, Tag};
+use std::cell::UnsafeCell;
+use std::fmt;
+use std::sync::Arc;
+
+/// What a get answers that found no tag, and a finish that is to be repeated.
+const NO_TAG: i32 = -10;
+const AGAIN: i32 = -11;
+
+/// What one thread takes tags with. It may go to another thread, and no two threads use it at once.
+///
+/// ```compile_fail
+/// fn share<T: Sync>() {}
+/// share::<tags::Hand>();
+/// ```
+///
+/// ```compile_fail
+/// fn send<T: Send>() {}
+/// send::<tags::Tag<'static>>();
+/// ```
+///
+/// ```
+/// fn send<T: Send>() {}
+/// send::<tags::Hand>();
+/// ```
+pub struct Hand {
+    handle: UnsafeCell<Handle>,
+    shared: Arc<Shared>,
+}
+
+impl Hand {
+    pub(crate) fn new(handle: Handle, shared: Arc<Shared>) -> Hand {
+        Hand {
+            handle: UnsafeCell::new(handle),
+            shared,
+        }
+    }
+
+    // A hand is not `Sync`, and no call calls back: so each call below has the handle for itself.
+    fn raw(&self) -> *mut Handle {
+        self.handle.get()
+    }
+
+    fn tag(&self, answer: i32) -> Result<Option<Tag<'_>>> {
+        if answer == NO_TAG {
+            return Ok(None);
+        }
+        Ok(Some(Tag::new(self, number(answer)?)))
+    }
+
+    /// Takes a free ordinary tag. `None` says that each tag was found taken at some moment of the call, not that all were at
+    /// one moment.
+    ///
+    /// ```
+    /// # use tags::{Options, Pool};
+    /// # fn main() -> tags::Result<()> {
+    /// let pool = Pool::open(&Options::new(1, 1))?;
+    /// let hand = pool.join()?;
+    /// let tag = hand.get()?;
+    /// assert!(tag.is_some() && hand.get()?.is_none());
+    /// drop(tag);
+    /// assert!(hand.get()?.is_some());
+    /// # Ok(())
+    /// # }
+    /// ```
+    #[inline]
+    pub fn get(&self) -> Result<Option<Tag<'_>>> {
+        // SAFETY: as of `raw`.
+        self.tag(unsafe { raw::tags_library_get(self.raw()) })
+    }
+
+    /// Takes a free reserved tag.
+    #[inline]
+    pub fn get_reserved(&self) -> Result<Option<Tag<'_>>> {
+        // SAFETY: as of `raw`.
+        self.tag(unsafe { raw::tags_library_get_reserved(self.raw()) })
+    }
+
+    /// Takes one of so many ordinary tags, which are shared out over the words; a word's share can be 0.
+    #[inline]
+    pub fn get_shallow(&self, depth: u32) -> Result<Option<Tag<'_>>> {
+        // SAFETY: as of `raw`.
+        self.tag(unsafe { raw::tags_library_get_shallow(self.raw(), depth) })
+    }
+
+    /// Takes up to `n` ordinary tags that lie side by side, 1 to the tags in a word. Under round robin it finds none.
+    ///
+    /// ```
+    /// # use tags::{Options, Pool};
+    /// # fn main() -> tags::Result<()> {
+    /// let pool = Pool::open(&Options::new(16, 1))?;
+    /// let hand = pool.join()?;
+    /// let batch = hand.get_batch(3)?.unwrap();
+    /// assert!(batch.numbers().eq([0, 1, 2]));
+    /// # Ok(())
+    /// # }
+    /// ```
+    pub fn get_batch(&self, n: u32) -> Result<Option<Batch<'_>>> {
+        let mut won = 0;
+        // SAFETY: as of `raw`.
+        let answer = unsafe { raw::tags_library_get_batch(self.raw(), n, &mut won) };
+        if answer == NO_TAG {
+            return Ok(None);
+        }
+        Ok(Some(Batch::new(self, number(answer)?, won)))
+    }
+
+    /// Takes a free ordinary tag, and sleeps while there is none. A thread must not sleep while it holds the tags that the
+    /// others wait for. To be woken is tested, and not proved.
+    pub fn get_blocking(&self) -> Result<Tag<'_>> {
+        // SAFETY: as of `raw`, and the bell is only ever touched by atomic steps.
+        let answer = unsafe { raw::tags_get_blocking(self.raw(), self.shared.bell.as_ptr()) };
+        Ok(Tag::new(self, number(answer)?))
+    }
+
+    /// Takes a tag that a hand of this pool has [posted](Tag::post), with its slot.
+    ///
+    /// ```
+    /// # use tags::{Error, Options, Pool};
+    /// # fn main() -> tags::Result<()> {
+    /// let pool = Pool::open(&Options::new(4, 2))?;
+    /// let (first, second) = (pool.join()?, pool.join()?);
+    /// let tag = first.get_blocking()?;
+    /// tag.write(70);
+    /// let number = tag.post();
+    /// assert_eq!(second.take(number)?.read(), 70);
+    /// assert_eq!(second.take(number).unwrap_err(), Error::NotPosted);
+    /// # Ok(())
+    /// # }
+    /// ```
+    pub fn take(&self, number: u32) -> Result<Tag<'_>> {
+        // SAFETY: as of `raw`.
+        self::number(unsafe { raw::tags_library_take(self.raw(), number) })?;
+        Ok(Tag::new(self, number))
+    }
+
+    /// Sets the bit `t % 64` of `into[t / 64]` for each busy tag `t`, and no other, and tells how many there are.
+    pub fn busy(&self, into: &mut [u64]) -> Result<u32> {
+        // SAFETY: as of `raw`, and the slice has so many words.
+        number(unsafe { raw::tags_library_busy(self.raw(), into.as_mut_ptr(), into.len()) })
+    }
+
+    /// The sizes of a set of tags.
+    pub fn show(&self, kind: Kind) -> Sizes {
+        let mut sizes = Sizes::default();
+        // SAFETY: as of `raw`.
+        Hand::expect(unsafe { raw::tags_library_show(self.raw(), kind as u32, &mut sizes) });
+        sizes
+    }
+
+    /// The counts of completions and of waiters.
+    pub fn wakes(&self) -> Counts {
+        let mut counts = Counts::default();
+        // SAFETY: as of `raw`.
+        Hand::expect(unsafe { raw::tags_library_wakes(self.raw(), &mut counts) });
+        counts
+    }
+
+    /// Enters a wait group, for a wait of the caller's own. Try a get once more before you sleep.
+    ///
+    /// ```
+    /// # use tags::{Error, Options, Pool};
+    /// # fn main() -> tags::Result<()> {
+    /// let pool = Pool::open(&Options::new(1, 2))?;
+    /// let (first, second) = (pool.join()?, pool.join()?);
+    /// let tag = first.get_blocking()?;
+    /// let wait = second.prepare()?;
+    /// assert_eq!(second.prepare().unwrap_err(), Error::Waiting);
+    /// drop(tag);
+    /// assert!(wait.finish());
+    /// # Ok(())
+    /// # }
+    /// ```
+    pub fn prepare(&self) -> Result<Wait<'_>> {
+        // SAFETY: as of `raw`.
+        number(unsafe { raw::tags_library_prepare(self.raw()) })?;
+        Ok(Wait { hand: self })
+    }
+
+    fn leave_group(&self) -> bool {
+        loop {
+            // SAFETY: as of `raw`.
+            match unsafe { raw::tags_library_finish(self.raw()) } {
+                AGAIN => {}
+                answer => return answer == 1,
+            }
+        }
+    }
+
+    /// Gives a held tag back, and wakes those who were granted a wakeup.
+    pub(crate) fn clear(&self, number: u32) {
+        // SAFETY: as of `raw`.
+        self.ring(unsafe { raw::tags_library_clear(self.raw(), number) });
+    }
+
+    /// Gives held ordinary tags back together.
+    pub(crate) fn clear_batch(&self, numbers: &[u32]) {
+        // SAFETY: as of `raw`, and the slice has so many numbers.
+        self.ring(unsafe {
+            raw::tags_library_clear_batch(self.raw(), numbers.as_ptr(), numbers.len())
+        });
+    }
+
+    fn ring(&self, woken: i32) {
+        // SAFETY: the bell is only ever touched by atomic steps.
+        Hand::expect(unsafe { raw::tags_ring(self.shared.bell.as_ptr(), woken) });
+    }
+
+    pub(crate) fn read(&self, number: u32) -> u64 {
+        let mut value = 0;
+        // SAFETY: as of `raw`.
+        Hand::expect(unsafe { raw::tags_library_read(self.raw(), number, &mut value) });
+        value
+    }
+
+    pub(crate) fn write(&self, number: u32, value: u64) -> u64 {
+        let mut former = 0;
+        // SAFETY: as of `raw`.
+        Hand::expect(unsafe { raw::tags_library_write(self.raw(), number, value, &mut former) });
+        former
+    }
+
+    pub(crate) fn post(&self, number: u32) {
+        // SAFETY: as of `raw`.
+        Hand::expect(unsafe { raw::tags_library_post(self.raw(), number) });
+    }
+
+    // A tag is held as long as its guard lives, so no such call is refused.
+    fn expect(answer: i32) {
+        if let Err(error) = number(answer) {
+            unreachable!("{error}");
+        }
+    }
+}
+
+impl Drop for Hand {
+    fn drop(&mut self) {
+        // SAFETY: as of `raw`.
+        unsafe { raw::tags_library_leave(self.raw()) };
+    }
+}
+
+impl fmt::Debug for Hand {
+    fn fmt(&self, f: &mut fmt::Formatter<'_>) -> fmt::Result {
+        f.debug_struct("Hand").finish_non_exhaustive()
+    }
+}
+
+/// A hand in a wait group, which it leaves when this is dropped.
+#[derive(Debug)]
+#[must_use = "the hand leaves the group at once"]
+pub struct Wait<'a> {
+    hand: &'a Hand,
+}
+
+impl Wait<'_> {
+    /// Leaves the group. Whether a clear granted a wakeup, which is used up so.
+    pub fn finish(self) -> bool {
+        let hand = self.hand;
+        std::mem::forget(self);
+        hand.leave_group()
+    }
+}
+
+impl Drop for Wait<'_> {
+    fn drop(&mut self) {
+        self.hand.leave_group();
+    }
+}

@@ -1,0 +1,119 @@
+//! What opens tags and hands their hands out.
+use crate::error::{number, CloseError, Result};
+use crate::hand::Hand;
+use crate::options::{Options, Totals};
+use crate::raw::{tags_library_close, tags_library_join, tags_library_open, Handle, STAY};
+use std::fmt;
+use std::sync::atomic::AtomicU32;
+use std::sync::{Arc, Mutex, MutexGuard, PoisonError};
+
+/// Tags that threads share, each through a [`Hand`] of its own.
+///
+/// A pool that is dropped lives on until its last hand is dropped; only [`close`](Pool::close) tells the totals.
+pub struct Pool {
+    shared: Arc<Shared>,
+}
+
+/// A pool's handle, which is in one call at a time, and the bell of those who wait.
+pub(crate) struct Shared {
+    handle: Mutex<Handle>,
+    pub bell: AtomicU32,
+}
+
+impl Shared {
+    fn handle(&self) -> MutexGuard<'_, Handle> {
+        self.handle.lock().unwrap_or_else(PoisonError::into_inner)
+    }
+
+    fn close(&self) -> Result<Totals> {
+        let mut totals = Totals::default();
+        // SAFETY: the lock keeps the handle to this call.
+        number(unsafe { tags_library_close(&mut *self.handle(), &mut totals) })?;
+        Ok(totals)
+    }
+}
+
+impl Drop for Shared {
+    fn drop(&mut self) {
+        // Each hand shares this and left before, so the pool ends here, unless it is closed already.
+        let _ = self.close();
+    }
+}
+
+impl Pool {
+    /// A pool of free tags, whose slots are 0.
+    ///
+    /// ```
+    /// use tags::{Error, Options, Pool};
+    ///
+    /// assert_eq!(Pool::open(&Options::new(10_241, 1)).unwrap_err(), Error::TotalTooLarge);
+    /// ```
+    pub fn open(options: &Options) -> Result<Pool> {
+        let mut handle = Handle::EMPTY;
+        // SAFETY: both are this function's own.
+        number(unsafe { tags_library_open(&mut handle, &options.to_raw()) })?;
+        let shared = Shared {
+            handle: Mutex::new(handle),
+            bell: AtomicU32::new(0),
+        };
+        Ok(Pool {
+            shared: Arc::new(shared),
+        })
+    }
+
+    /// A hand for one thread. Its gets begin in a part of the tags of its own, so that threads meet less.
+    ///
+    /// ```
+    /// # use tags::{Error, Options, Pool};
+    /// # fn main() -> tags::Result<()> {
+    /// let pool = Pool::open(&Options::new(4, 1))?;
+    /// let hand = pool.join()?;
+    /// assert_eq!(pool.join().unwrap_err(), Error::NoHand);
+    /// drop(hand);
+    /// assert!(pool.join().is_ok());
+    /// # Ok(())
+    /// # }
+    /// ```
+    pub fn join(&self) -> Result<Hand> {
+        self.join_by(0)
+    }
+
+    /// As [`join`](Pool::join), but its gets go on where this hand's gets left off, at tag 0 at first.
+    pub fn join_in_place(&self) -> Result<Hand> {
+        self.join_by(STAY)
+    }
+
+    fn join_by(&self, flags: u32) -> Result<Hand> {
+        let mut hand = Handle::EMPTY;
+        // SAFETY: the lock keeps the pool's handle to this call, and the other is this function's own.
+        number(unsafe { tags_library_join(&mut *self.shared.handle(), &mut hand, flags) })?;
+        Ok(Hand::new(hand, Arc::clone(&self.shared)))
+    }
+
+    /// Ends a pool whose hands are all dropped.
+    ///
+    /// ```
+    /// # use tags::{Error, Options, Pool};
+    /// # fn main() -> Result<(), Box<dyn std::error::Error>> {
+    /// let pool = Pool::open(&Options::new(4, 1))?;
+    /// let hand = pool.join()?;
+    /// let refused = pool.close().unwrap_err();
+    /// assert_eq!(refused.error, Error::HandsOut);
+    /// drop(hand);
+    /// assert_eq!(refused.pool.close()?.got, 0);
+    /// # Ok(())
+    /// # }
+    /// ```
+    pub fn close(self) -> std::result::Result<Totals, CloseError> {
+        match self.shared.close() {
+            Ok(totals) => Ok(totals),
+            Err(error) => Err(CloseError { error, pool: self }),
+        }
+    }
+}
+
+impl fmt::Debug for Pool {
+    fn fmt(&self, f: &mut fmt::Formatter<'_>) -> fmt::Result {
+        f.debug_struct("Pool").finish_non_exhaustive()
+    }
+}

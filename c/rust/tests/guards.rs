@@ -1,0 +1,90 @@
+//! What guards give back, and what is refused.
+use std::thread;
+use tags::{Counts, Error, Kind, Options, Pool};
+
+fn open(total: u32, reserved: u32, hands: u32) -> Pool {
+    let options = Options {
+        reserved,
+        ..Options::new(total, hands)
+    };
+    Pool::open(&options).unwrap()
+}
+
+#[test]
+fn each_guard_gives_its_tags_back() {
+    let pool = open(16, 2, 1);
+    let hand = pool.join().unwrap();
+    let mut bits = [0];
+    let tag = hand.get().unwrap().unwrap();
+    let reserved = hand.get_reserved().unwrap().unwrap();
+    let batch = hand.get_batch(2).unwrap().unwrap();
+    assert_eq!(hand.busy(&mut bits), Ok(4));
+    assert_eq!(bits, [0b11_0101]);
+    drop((tag, reserved, batch));
+    assert_eq!(hand.busy(&mut bits), Ok(0));
+    assert_eq!(hand.show(Kind::Ordinary).depth, 14);
+    assert_eq!(hand.wakes(), Counts::default());
+    drop(hand);
+    let totals = pool.close().unwrap();
+    assert_eq!((totals.got, totals.back, totals.held), (4, 4, 0));
+}
+
+#[test]
+fn refusals_have_names() {
+    let wrong = |options| Pool::open(&options).unwrap_err();
+    let good = Options::new(4, 1);
+    assert_eq!(
+        wrong(Options {
+            reserved: 5,
+            ..good
+        }),
+        Error::ReservedTooLarge
+    );
+    assert_eq!(
+        wrong(Options {
+            shift: Some(7),
+            ..good
+        }),
+        Error::ShiftTooLarge
+    );
+    assert_eq!(wrong(Options { hands: 65, ..good }), Error::BadHandCount);
+    let pool = Pool::open(&good).unwrap();
+    let hand = pool.join().unwrap();
+    assert_eq!(hand.get_reserved().unwrap_err(), Error::NoReserved);
+    assert_eq!(hand.get_shallow(0).unwrap_err(), Error::TooShallow);
+    assert_eq!(hand.get_batch(0).unwrap_err(), Error::BadCount);
+    assert_eq!(hand.take(4).unwrap_err(), Error::NoSuchTag);
+    assert_eq!(hand.busy(&mut []).unwrap_err(), Error::TooSmall);
+    assert_eq!(Error::NoHand.to_string(), "all hands of the pool are out");
+    assert_eq!(
+        (Error::NoHand.status(), Error::Unexpected(-99).status()),
+        (-14, -99)
+    );
+}
+
+#[test]
+fn a_pool_outlives_its_own_value() {
+    let pool = open(4, 0, 2);
+    let hand = pool.join_in_place().unwrap();
+    drop(pool);
+    let number = thread::spawn(move || hand.get_blocking().unwrap().number());
+    assert_eq!(number.join().unwrap(), 0);
+}
+
+#[test]
+fn a_waiter_gets_the_only_tag() {
+    let pool = open(1, 0, 4);
+    thread::scope(|scope| {
+        for _ in 0..4 {
+            let hand = pool.join().unwrap();
+            scope.spawn(move || {
+                for _ in 0..500 {
+                    let tag = hand.get_blocking().unwrap();
+                    thread::yield_now();
+                    drop(tag);
+                }
+            });
+        }
+    });
+    assert_eq!(pool.close().unwrap().back, 2_000);
+}

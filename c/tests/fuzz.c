@@ -1,0 +1,462 @@
+/*
+ * Random calls with random arguments, by several handles of several pools, and
+ * the model beside them: each answer, and whatever a call fills in, is the
+ * model's. fuzz [CALLS [SEED]]
+ */
+#include <inttypes.h>
+#include <stdio.h>
+#include <stdlib.h>
+#include <string.h>
+
+#include "model.h"
+
+enum {
+	HANDLES = 12,
+	/* an array for the busy tags, with a word that no call may touch */
+	WORDS = TAGS_MAX_TOTAL / 64 + 4
+};
+
+/* One that is filled in by a call, as either kind. */
+union handle {
+	struct tags_pool pool;
+	struct tags_hand hand;
+};
+
+static union handle handles[HANDLES];
+static struct model models[HANDLES];
+
+static uint64_t state = 1;
+static uint64_t calls;
+static uint64_t refused;
+
+static uint32_t draw(void)
+{
+	state = state * 6364136223846793005u + 1442695040888963407u;
+	return (uint32_t)(state >> 33);
+}
+
+static uint32_t below(uint32_t bound)
+{
+	return draw() % bound;
+}
+
+/* One of so many times. */
+static bool seldom(uint32_t times)
+{
+	return below(times) == 0;
+}
+
+static void fail(const char *call, const char *what, int64_t found, int64_t wanted)
+{
+	fprintf(stderr, "call %" PRIu64 ", %s: %s %" PRId64 ", not %" PRId64 "\n", calls, call,
+		what, found, wanted);
+	exit(1);
+}
+
+static void compare(const char *call, int32_t found, int32_t wanted)
+{
+	if (found != wanted)
+		fail(call, "answered", found, wanted);
+	calls++;
+	refused += wanted < 0;
+}
+
+static void compare_filled(const char *call, const void *found, const void *wanted, size_t size)
+{
+	if (memcmp(found, wanted, size) != 0)
+		fail(call, "what it filled in is", 0, 1);
+}
+
+/*
+ * Arguments
+ */
+
+static uint32_t any_handle(void)
+{
+	return below(HANDLES);
+}
+
+/* Mostly that of a hand. */
+static uint32_t hand_handle(void)
+{
+	uint32_t at = any_handle();
+
+	for (int i = 0; i < 8 && !is_hand(&models[at]) && !seldom(20); i++)
+		at = any_handle();
+	return at;
+}
+
+/* Mostly that of a pool. */
+static uint32_t pool_handle(void)
+{
+	uint32_t at = any_handle();
+
+	for (int i = 0; i < 12 && !(models[at].pool && !is_hand(&models[at])); i++)
+		at = any_handle();
+	return at;
+}
+
+/* Mostly an empty one. */
+static uint32_t empty_handle(void)
+{
+	uint32_t at = any_handle();
+
+	for (int i = 0; i < 12 && models[at].pool; i++)
+		at = any_handle();
+	return at;
+}
+
+static uint32_t count_pools(void)
+{
+	uint32_t count = 0;
+
+	for (uint32_t at = 0; at < HANDLES; at++)
+		count += models[at].pool && !is_hand(&models[at]);
+	return count;
+}
+
+static uint32_t odd_number(void)
+{
+	static const uint32_t odd[] = {
+		0, 1, 63, 64, 65, 10239, 10240, INT32_MAX, 1u << 31, UINT32_MAX,
+	};
+
+	return odd[below(sizeof(odd) / sizeof(*odd))];
+}
+
+static uint32_t total_behind(uint32_t at)
+{
+	const struct pool *pool = models[at].pool;
+
+	return pool ? pool->set[0].depth + pool->set[1].depth : 8;
+}
+
+/* Mostly one of the pool, and often one that the hand holds. */
+static uint32_t any_tag(uint32_t at)
+{
+	uint32_t total = total_behind(at) + 2;
+	uint32_t tag = below(total);
+
+	if (seldom(50))
+		return odd_number();
+	for (uint32_t i = 0; i < 60 && !seldom(40); i++) {
+		if (model_holds(&models[at], tag) == 1)
+			break;
+		tag = (tag + 1) % total;
+	}
+	return tag;
+}
+
+static uint32_t any_total(void)
+{
+	if (seldom(40))
+		return below(TAGS_MAX_TOTAL + 2);
+	return seldom(2) ? below(12) : below(150);
+}
+
+static struct tags_options any_options(void)
+{
+	struct tags_options options = {
+		.total = any_total(),
+		.shift = (int32_t)below(9) - 1,
+		.hands = 1 + below(HANDLES),
+	};
+
+	options.reserved = seldom(2) ? 0 : below(options.total / 3 + 2);
+	if (seldom(3))
+		options.shift = seldom(5) ? INT32_MIN : TAGS_DEFAULT_SHIFT;
+	if (seldom(3))
+		options.min_shallow = below(options.total + 2);
+	if (seldom(4))
+		options.flags = seldom(8) ? odd_number() : TAGS_ROUND_ROBIN;
+	if (seldom(30))
+		options.hands = odd_number();
+	if (seldom(60))
+		options.total = odd_number();
+	return options;
+}
+
+/*
+ * Pools and hands
+ */
+
+static void try_open(void)
+{
+	uint32_t at = seldom(20) ? any_handle() : empty_handle();
+	struct tags_options options = any_options();
+
+	if (count_pools() >= 3 && !seldom(60))
+		return;
+	compare("open", tags_open(&handles[at].pool, &options), model_open(&models[at], &options));
+}
+
+static void try_join(void)
+{
+	uint32_t pool = pool_handle();
+	uint32_t hand = seldom(20) ? any_handle() : empty_handle();
+	uint32_t flags = seldom(20) ? odd_number() : below(2);
+
+	compare("join", tags_join(&handles[pool].pool, &handles[hand].hand, flags),
+		model_join(&models[pool], &models[hand], flags));
+}
+
+static void try_leave(void)
+{
+	uint32_t at = any_handle();
+
+	if (seldom(12))
+		compare("leave", tags_leave(&handles[at].hand), model_leave(&models[at]));
+}
+
+static void close_one(uint32_t at)
+{
+	struct tags_sums found = { 0 };
+	struct tags_sums wanted = { 0 };
+
+	compare("close", tags_close(&handles[at].pool, &found), model_close(&models[at], &wanted));
+	compare_filled("close", &found, &wanted, sizeof(found));
+}
+
+static void try_close(void)
+{
+	if (seldom(3))
+		close_one(seldom(4) ? any_handle() : pool_handle());
+}
+
+/*
+ * Gets and clears
+ */
+
+static void try_get(void)
+{
+	uint32_t at = hand_handle();
+
+	compare("get", tags_get(&handles[at].hand), model_get(&models[at]));
+}
+
+static void try_get_reserved(void)
+{
+	uint32_t at = hand_handle();
+
+	compare("get_reserved", tags_get_reserved(&handles[at].hand),
+		model_get_reserved(&models[at]));
+}
+
+static void try_get_shallow(void)
+{
+	uint32_t at = hand_handle();
+	uint32_t depth = seldom(20) ? odd_number() : below(total_behind(at) + 2);
+
+	compare("get_shallow", tags_get_shallow(&handles[at].hand, depth),
+		model_get_shallow(&models[at], depth));
+}
+
+static void try_get_batch(void)
+{
+	uint32_t at = hand_handle();
+	uint32_t n = seldom(20) ? odd_number() : below(20);
+	uint64_t found = 5;
+	uint64_t wanted = 5;
+
+	compare("get_batch", tags_get_batch(&handles[at].hand, n, &found),
+		model_get_batch(&models[at], n, &wanted));
+	compare_filled("get_batch", &found, &wanted, sizeof(found));
+}
+
+static void try_clear(void)
+{
+	uint32_t at = hand_handle();
+	uint32_t tag = any_tag(at);
+
+	compare("clear", tags_clear(&handles[at].hand, tag), model_clear(&models[at], tag));
+}
+
+/* Some held tags, from @tag on. */
+static size_t list_held(uint32_t at, uint32_t *tags, size_t most)
+{
+	uint32_t total = total_behind(at);
+	size_t n = 0;
+
+	for (uint32_t tag = total ? below(total) : 0; tag < total && n < most; tag++)
+		if (model_holds(&models[at], tag) == 1 && !seldom(6))
+			tags[n++] = tag;
+	return n;
+}
+
+static void try_clear_batch(void)
+{
+	uint32_t tags[TAGS_MAX_BATCH] = { 0 };
+	uint32_t at = hand_handle();
+	size_t n = list_held(at, tags, below(TAGS_MAX_BATCH + 1));
+
+	if (n > 0 && seldom(8))
+		tags[below((uint32_t)n)] = any_tag(at);
+	if (n > 1 && seldom(8))
+		tags[n - 1] = tags[0];
+	/* a longer list is refused before it is read */
+	if (seldom(20))
+		n = seldom(2) ? TAGS_MAX_BATCH + 1 : SIZE_MAX / 8;
+	compare("clear_batch", tags_clear_batch(&handles[at].hand, tags, n),
+		model_clear_batch(&models[at], tags, n));
+}
+
+/*
+ * Slots
+ */
+
+static void try_read(void)
+{
+	uint32_t at = hand_handle();
+	uint32_t tag = any_tag(at);
+	uint64_t found = 5;
+	uint64_t wanted = 5;
+
+	compare("read", tags_read(&handles[at].hand, tag, &found),
+		model_read(&models[at], tag, &wanted));
+	compare_filled("read", &found, &wanted, sizeof(found));
+}
+
+static void try_write(void)
+{
+	uint32_t at = hand_handle();
+	uint32_t tag = any_tag(at);
+	uint64_t value = (uint64_t)draw() << 32 | draw();
+	uint64_t found = 5;
+	uint64_t wanted = 5;
+
+	compare("write", tags_write(&handles[at].hand, tag, value, &found),
+		model_write(&models[at], tag, value, &wanted));
+	compare_filled("write", &found, &wanted, sizeof(found));
+}
+
+static void try_post(void)
+{
+	uint32_t at = hand_handle();
+	uint32_t tag = any_tag(at);
+
+	compare("post", tags_post(&handles[at].hand, tag), model_post(&models[at], tag));
+}
+
+static void try_take(void)
+{
+	uint32_t at = hand_handle();
+	uint32_t tag = below(total_behind(at) + 2);
+
+	if (seldom(50))
+		tag = odd_number();
+	compare("take", tags_take(&handles[at].hand, tag), model_take(&models[at], tag));
+}
+
+static void try_holds(void)
+{
+	uint32_t at = hand_handle();
+	uint32_t tag = any_tag(at);
+
+	compare("holds", tags_holds(&handles[at].hand, tag), model_holds(&models[at], tag));
+}
+
+/*
+ * Waits and looks
+ */
+
+static void try_prepare(void)
+{
+	uint32_t at = hand_handle();
+
+	compare("prepare", tags_prepare(&handles[at].hand), model_prepare(&models[at]));
+}
+
+static void try_finish(void)
+{
+	uint32_t at = hand_handle();
+
+	compare("finish", tags_finish(&handles[at].hand), model_finish(&models[at]));
+}
+
+static void try_busy(void)
+{
+	uint64_t found[WORDS];
+	uint64_t wanted[WORDS];
+	uint32_t at = hand_handle();
+	size_t words = below((total_behind(at) + 63) / 64 + 3);
+
+	memset(found, 0x5a, sizeof(found));
+	memset(wanted, 0x5a, sizeof(wanted));
+	compare("busy", tags_busy(&handles[at].hand, found, words),
+		model_busy(&models[at], wanted, words));
+	compare_filled("busy", found, wanted, sizeof(found));
+}
+
+static void try_show(void)
+{
+	uint32_t at = hand_handle();
+	uint32_t kind = seldom(10) ? odd_number() : below(2);
+	struct tags_sizes found = { .depth = 5 };
+	struct tags_sizes wanted = { .depth = 5 };
+
+	compare("show", tags_show(&handles[at].hand, kind, &found),
+		model_show(&models[at], kind, &wanted));
+	compare_filled("show", &found, &wanted, sizeof(found));
+}
+
+static void try_wakes(void)
+{
+	uint32_t at = hand_handle();
+	struct tags_counts found;
+	struct tags_counts wanted;
+
+	memset(&found, 0, sizeof(found));
+	memset(&wanted, 0, sizeof(wanted));
+	compare("wakes", tags_wakes(&handles[at].hand, &found), model_wakes(&models[at], &wanted));
+	if (found.counted != wanted.counted || found.charged != wanted.charged)
+		fail("wakes", "counted", (int64_t)found.counted, (int64_t)wanted.counted);
+	if (found.active != wanted.active || found.index != wanted.index)
+		fail("wakes", "active", (int64_t)found.active, (int64_t)wanted.active);
+}
+
+/* Each call, and how often it is tried in so many turns. */
+static const struct {
+	void (*make)(void);
+	uint32_t turns;
+} tries[] = {
+	{ try_open, 2 },	  { try_join, 2 },	   { try_leave, 1 },
+	{ try_close, 1 },	  { try_get, 4 },	   { try_get_reserved, 1 },
+	{ try_get_shallow, 1 },	  { try_get_batch, 1 },	   { try_clear, 4 },
+	{ try_clear_batch, 1 },	  { try_read, 1 },	   { try_write, 1 },
+	{ try_post, 1 },	  { try_take, 3 },	   { try_holds, 1 },
+	{ try_prepare, 1 },	  { try_finish, 1 },	   { try_busy, 1 },
+	{ try_show, 1 },	  { try_wakes, 1 },
+};
+
+static void try_any(void)
+{
+	uint32_t turn = below(30);
+	size_t at = 0;
+
+	while (turn >= tries[at].turns)
+		turn -= tries[at++].turns;
+	tries[at].make();
+}
+
+/* All hands leave, and each pool has the sums of the model. */
+static void close_all(void)
+{
+	for (uint32_t at = 0; at < HANDLES; at++)
+		compare("leave", tags_leave(&handles[at].hand), model_leave(&models[at]));
+	for (uint32_t at = 0; at < HANDLES; at++)
+		close_one(at);
+}
+
+int main(int argc, char **argv)
+{
+	uint64_t most = argc > 1 ? strtoull(argv[1], NULL, 10) : 3000000;
+
+	if (argc > 2)
+		state = strtoull(argv[2], NULL, 10);
+	while (calls < most)
+		try_any();
+	close_all();
+	printf("%" PRIu64 " calls as the model says\n", calls);
+	fprintf(stderr, "%" PRIu64 " of them refused\n", refused);
+	return 0;
+}

@@ -1,0 +1,128 @@
+/*
+ * Each allocation refused in turn: the call says so, its handle stays empty, and
+ * nothing of it is kept. Built with --wrap for malloc, realloc and free.
+ */
+#include <stdio.h>
+#include <stdlib.h>
+
+#include "../tags.h"
+
+static int wrong;
+
+/* Allocations until one is refused, and those that were not freed. */
+static long left = -1;
+static long kept;
+
+void *__real_malloc(size_t size);
+void *__real_realloc(void *old, size_t size);
+void __real_free(void *old);
+void *__wrap_malloc(size_t size);
+void *__wrap_realloc(void *old, size_t size);
+void __wrap_free(void *old);
+
+static int is_refused(void)
+{
+	return left > 0 && --left == 0;
+}
+
+void *__wrap_malloc(size_t size)
+{
+	void *new = is_refused() ? NULL : __real_malloc(size);
+
+	kept += new != NULL;
+	return new;
+}
+
+void *__wrap_realloc(void *old, size_t size)
+{
+	void *new = is_refused() ? NULL : __real_realloc(old, size);
+
+	kept += !old && new;
+	return new;
+}
+
+void __wrap_free(void *old)
+{
+	kept -= old != NULL;
+	__real_free(old);
+}
+
+static void check(const char *what, int is_well)
+{
+	if (is_well)
+		return;
+	wrong++;
+	printf("wrong: %s\n", what);
+}
+
+/* Opens a pool, with the allocation of this number refused. */
+static int32_t open_refused(struct tags_pool *pool, long number)
+{
+	struct tags_options options = {
+		.total = 100,
+		.reserved = 10,
+		.shift = TAGS_DEFAULT_SHIFT,
+		.hands = 3,
+	};
+	int32_t status;
+
+	left = number;
+	status = tags_open(pool, &options);
+	left = -1;
+	return status;
+}
+
+static int32_t join_refused(struct tags_pool *pool, struct tags_hand *hand, long number)
+{
+	int32_t status;
+
+	left = number;
+	status = tags_join(pool, hand, 0);
+	left = -1;
+	return status;
+}
+
+/* Three hands can still join a pool that refused some. */
+static void fill(struct tags_pool *pool)
+{
+	struct tags_hand hands[3] = { TAGS_EMPTY, TAGS_EMPTY, TAGS_EMPTY };
+
+	for (int i = 0; i < 3; i++)
+		check("a hand was lost", tags_join(pool, &hands[i], 0) == TAGS_OK);
+	for (int i = 0; i < 3; i++)
+		check("a hand cannot leave", tags_leave(&hands[i]) == TAGS_OK);
+}
+
+static void refuse_joins(struct tags_pool *pool)
+{
+	struct tags_hand hand = TAGS_EMPTY;
+	long number = 1;
+	long before = kept;
+
+	while (join_refused(pool, &hand, number) == TAGS_NO_MEMORY) {
+		check("a refused hand is kept", hand.full == 0 && kept == before);
+		number++;
+	}
+	check("a join takes no memory", number > 1);
+	check("the hand is of use", tags_get(&hand) >= 0);
+	check("the hand cannot leave", tags_leave(&hand) == TAGS_OK && kept == before);
+}
+
+int main(void)
+{
+	struct tags_pool pool = TAGS_EMPTY;
+	struct tags_sums sums;
+	long number = 1;
+
+	while (open_refused(&pool, number) == TAGS_NO_MEMORY) {
+		check("a refused pool is kept", pool.full == 0 && kept == 0);
+		number++;
+	}
+	check("a pool takes no memory", number > 10);
+	refuse_joins(&pool);
+	fill(&pool);
+	check("the pool cannot be closed", tags_close(&pool, &sums) == TAGS_OK && sums.held == 1);
+	check("memory is kept", kept == 0);
+	printf("%ld allocations of a pool, %d wrong\n", number - 1, wrong);
+	return wrong != 0;
+}

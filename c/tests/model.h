@@ -1,0 +1,130 @@
+/*
+ * What the calls answer while one thread makes them all: a pool as a list of
+ * where each tag is. It is written from the rules, which docs/DESIGN.md tells.
+ */
+#ifndef MODEL_H
+#define MODEL_H
+
+#include <stdbool.h>
+#include "../tags.h"
+
+enum place {
+	FREE,
+	/** given back, and not yet swept for reuse */
+	ASIDE,
+	HELD,
+	POSTED
+};
+
+enum {
+	GROUPS = 8,
+	NOBODY = -1,
+	NOWHERE = -1
+};
+
+/* Ordinary or reserved tags. */
+struct set {
+	/* its first tag is this one of the pool */
+	uint32_t first;
+	uint32_t depth;
+	uint32_t shift;
+	bool round_robin;
+	enum place place[TAGS_MAX_TOTAL];
+	/* of a held tag */
+	int holder[TAGS_MAX_TOTAL];
+	uint64_t slot[TAGS_MAX_TOTAL];
+};
+
+/* What the pool knows of a hand, whether a thread has it or not. */
+struct member {
+	/* where its next get begins, by kind of tags */
+	uint32_t hint[2];
+	/* the group that it stands in, or NOWHERE */
+	int standing;
+	uint32_t next_group;
+};
+
+struct pool {
+	/* by enum tags_kind */
+	struct set set[2];
+	uint32_t least;
+	uint32_t batch;
+	uint32_t hands;
+	struct member member[TAGS_MAX_HANDS];
+	/* hands that no thread has, or NOBODY; the last one goes out first */
+	int berth[TAGS_MAX_HANDS];
+	uint32_t waiting[GROUPS];
+	uint32_t granted[GROUPS];
+	struct tags_counts counts;
+	struct tags_sums sums;
+};
+
+/* What a handle should have: nothing, a pool, or a hand of a pool. */
+struct model {
+	struct pool *pool;
+	int number;
+};
+
+enum { THE_POOL = -1 };
+
+static inline uint32_t least_of(uint32_t a, uint32_t b)
+{
+	return a < b ? a : b;
+}
+
+static inline bool is_hand(const struct model *handle)
+{
+	return handle->pool && handle->number != THE_POOL;
+}
+
+static inline struct member *member_of(const struct model *hand)
+{
+	return &hand->pool->member[hand->number];
+}
+
+static inline uint32_t total_of(const struct model *hand)
+{
+	return hand->pool->set[TAGS_RESERVED].depth + hand->pool->set[TAGS_ORDINARY].depth;
+}
+
+static inline enum tags_kind kind_of(const struct model *hand, uint32_t tag)
+{
+	return tag < hand->pool->set[TAGS_RESERVED].depth ? TAGS_RESERVED : TAGS_ORDINARY;
+}
+
+static inline struct set *set_of(const struct model *hand, uint32_t tag)
+{
+	return &hand->pool->set[kind_of(hand, tag)];
+}
+
+static inline uint32_t words_of(const struct set *set)
+{
+	return (set->depth + (1u << set->shift) - 1) >> set->shift;
+}
+
+int32_t model_open(struct model *handle, const struct tags_options *options);
+int32_t model_join(struct model *handle, struct model *hand, uint32_t flags);
+int32_t model_leave(struct model *hand);
+int32_t model_close(struct model *handle, struct tags_sums *sums);
+
+int32_t model_get(struct model *hand);
+int32_t model_get_reserved(struct model *hand);
+int32_t model_get_shallow(struct model *hand, uint32_t depth);
+int32_t model_get_batch(struct model *hand, uint32_t n, uint64_t *won);
+int32_t model_clear(struct model *hand, uint32_t tag);
+int32_t model_clear_batch(struct model *hand, const uint32_t *tags, size_t count);
+
+int32_t model_read(struct model *hand, uint32_t tag, uint64_t *value);
+int32_t model_write(struct model *hand, uint32_t tag, uint64_t value, uint64_t *former);
+int32_t model_post(struct model *hand, uint32_t tag);
+int32_t model_take(struct model *hand, uint32_t tag);
+int32_t model_holds(struct model *hand, uint32_t tag);
+
+int32_t model_prepare(struct model *hand);
+int32_t model_finish(struct model *hand);
+
+int32_t model_busy(struct model *hand, uint64_t *into, size_t words);
+int32_t model_show(struct model *hand, uint32_t kind, struct tags_sizes *sizes);
+int32_t model_wakes(struct model *hand, struct tags_counts *counts);
+
+#endif

@@ -1,0 +1,133 @@
+/* How pools are opened and closed, and how their hands go out and come back. */
+#include "model.h"
+
+#include <stdlib.h>
+
+static bool is_pool(const struct model *handle)
+{
+	return handle->pool && handle->number == THE_POOL;
+}
+
+static uint32_t default_shift(uint32_t depth)
+{
+	uint32_t shift = TAGS_MAX_SHIFT;
+
+	while (depth >= 4 && 4u << shift > depth)
+		shift--;
+	return shift;
+}
+
+static void open_set(struct set *set, uint32_t first, uint32_t depth,
+		     const struct tags_options *options)
+{
+	set->first = first;
+	set->depth = depth;
+	set->shift = options->shift < 0 ? default_shift(depth) : (uint32_t)options->shift;
+	set->round_robin = options->flags == TAGS_ROUND_ROBIN;
+}
+
+static uint32_t batch_of(uint32_t depth, uint32_t min_shallow)
+{
+	uint32_t eighth = (min_shallow ? least_of(min_shallow, depth) : depth) / 8;
+
+	return eighth < 1 ? 1 : least_of(eighth, 8);
+}
+
+static int32_t find_fault(const struct tags_options *options)
+{
+	if (options->flags > TAGS_ROUND_ROBIN)
+		return TAGS_BAD_FLAG;
+	if (options->total > TAGS_MAX_TOTAL)
+		return TAGS_TOTAL_TOO_LARGE;
+	if (options->reserved > options->total)
+		return TAGS_RESERVED_TOO_LARGE;
+	if (options->shift > TAGS_MAX_SHIFT)
+		return TAGS_SHIFT_TOO_LARGE;
+	if (options->hands == 0 || options->hands > TAGS_MAX_HANDS)
+		return TAGS_BAD_HAND_COUNT;
+	return TAGS_OK;
+}
+
+int32_t model_open(struct model *handle, const struct tags_options *options)
+{
+	int32_t fault = handle->pool ? (int32_t)TAGS_NOT_EMPTY : find_fault(options);
+	uint32_t ordinary = options->total - options->reserved;
+	struct pool *pool;
+
+	if (fault)
+		return fault;
+	pool = calloc(1, sizeof(*pool));
+	if (!pool)
+		abort();
+	open_set(&pool->set[TAGS_ORDINARY], options->reserved, ordinary, options);
+	open_set(&pool->set[TAGS_RESERVED], 0, options->reserved, options);
+	pool->least = options->min_shallow ? options->min_shallow : 1;
+	pool->batch = batch_of(ordinary, options->min_shallow);
+	pool->hands = options->hands;
+	for (uint32_t i = 0; i < pool->hands; i++) {
+		pool->berth[i] = (int)(pool->hands - 1 - i);
+		pool->member[i].standing = NOWHERE;
+	}
+	handle->pool = pool;
+	handle->number = THE_POOL;
+	return TAGS_OK;
+}
+
+static int take_from_berth(struct pool *pool)
+{
+	for (uint32_t i = pool->hands; i-- > 0;) {
+		int number = pool->berth[i];
+
+		pool->berth[i] = NOBODY;
+		if (number != NOBODY)
+			return number;
+	}
+	return NOBODY;
+}
+
+int32_t model_join(struct model *handle, struct model *hand, uint32_t flags)
+{
+	int number;
+
+	if (hand->pool)
+		return TAGS_NOT_EMPTY;
+	if (!is_pool(handle))
+		return TAGS_BAD_HANDLE;
+	if (flags > TAGS_STAY)
+		return TAGS_BAD_FLAG;
+	number = take_from_berth(handle->pool);
+	if (number == NOBODY)
+		return TAGS_NO_HAND;
+	hand->pool = handle->pool;
+	hand->number = number;
+	for (int kind = 0; kind < 2 && flags != TAGS_STAY; kind++)
+		member_of(hand)->hint[kind] =
+			(uint32_t)number * hand->pool->set[kind].depth / hand->pool->hands;
+	return TAGS_OK;
+}
+
+int32_t model_leave(struct model *hand)
+{
+	uint32_t i = 0;
+
+	if (!is_hand(hand))
+		return TAGS_BAD_HANDLE;
+	while (hand->pool->berth[i] != NOBODY)
+		i++;
+	hand->pool->berth[i] = hand->number;
+	hand->pool = NULL;
+	return TAGS_OK;
+}
+
+int32_t model_close(struct model *handle, struct tags_sums *sums)
+{
+	if (!is_pool(handle))
+		return TAGS_BAD_HANDLE;
+	for (uint32_t i = 0; i < handle->pool->hands; i++)
+		if (handle->pool->berth[i] == NOBODY)
+			return TAGS_HANDS_OUT;
+	*sums = handle->pool->sums;
+	free(handle->pool);
+	handle->pool = NULL;
+	return TAGS_OK;
+}

@@ -1,0 +1,148 @@
+/* Held tags: their slots, how they come back, and whom that wakes. */
+#include "model.h"
+
+/* TAGS_OK if the hand holds the tag. */
+static int32_t find_held(const struct model *hand, uint32_t tag)
+{
+	const struct set *set;
+
+	if (!is_hand(hand))
+		return TAGS_BAD_HANDLE;
+	if (tag >= total_of(hand))
+		return TAGS_NO_SUCH_TAG;
+	set = set_of(hand, tag);
+	if (set->place[tag - set->first] != HELD || set->holder[tag - set->first] != hand->number)
+		return TAGS_NOT_HELD;
+	return TAGS_OK;
+}
+
+int32_t model_holds(struct model *hand, uint32_t tag)
+{
+	int32_t status = find_held(hand, tag);
+
+	return status == TAGS_OK ? 1 : status == TAGS_NOT_HELD ? 0 : status;
+}
+
+/* Grants up to a batch of wakeups, group by group, and answers how many. */
+static uint32_t walk(struct pool *pool)
+{
+	uint32_t left = pool->batch;
+
+	for (int visit = 0; visit < GROUPS && left > 0; visit++) {
+		uint32_t group = pool->counts.index;
+		uint32_t moved = least_of(pool->waiting[group], left);
+
+		pool->waiting[group] -= moved;
+		pool->granted[group] += moved;
+		left -= moved;
+		pool->counts.index = (group + 1) % GROUPS;
+	}
+	pool->sums.issued += pool->batch - left;
+	return pool->batch - left;
+}
+
+static int32_t count(struct pool *pool, uint32_t n)
+{
+	if (pool->counts.active == 0)
+		return 0;
+	pool->counts.counted += n;
+	pool->sums.counted += n;
+	if (pool->counts.counted - pool->counts.charged < pool->batch)
+		return 0;
+	pool->counts.charged += pool->batch;
+	pool->sums.charged += pool->batch;
+	return (int32_t)walk(pool);
+}
+
+static void give(struct model *hand, uint32_t tag, enum place place)
+{
+	struct set *set = set_of(hand, tag);
+
+	set->place[tag - set->first] = place;
+	hand->pool->sums.held--;
+	hand->pool->sums.back++;
+	if (!set->round_robin)
+		member_of(hand)->hint[kind_of(hand, tag)] = tag - set->first;
+}
+
+int32_t model_clear(struct model *hand, uint32_t tag)
+{
+	int32_t status = find_held(hand, tag);
+
+	if (status)
+		return status;
+	give(hand, tag, ASIDE);
+	return kind_of(hand, tag) == TAGS_RESERVED ? 0 : count(hand->pool, 1);
+}
+
+static bool is_named_before(const uint32_t *tags, size_t at)
+{
+	for (size_t i = 0; i < at; i++)
+		if (tags[i] == tags[at])
+			return true;
+	return false;
+}
+
+int32_t model_clear_batch(struct model *hand, const uint32_t *tags, size_t n)
+{
+	if (!is_hand(hand))
+		return TAGS_BAD_HANDLE;
+	if (n == 0 || n > TAGS_MAX_BATCH)
+		return TAGS_BAD_COUNT;
+	for (size_t i = 0; i < n; i++)
+		if (tags[i] >= total_of(hand) || kind_of(hand, tags[i]) == TAGS_RESERVED)
+			return TAGS_NO_SUCH_TAG;
+	for (size_t i = 0; i < n; i++)
+		if (find_held(hand, tags[i]) || is_named_before(tags, i))
+			return TAGS_NOT_HELD;
+	for (size_t i = 0; i < n; i++)
+		give(hand, tags[i], FREE);
+	return count(hand->pool, (uint32_t)n);
+}
+
+int32_t model_read(struct model *hand, uint32_t tag, uint64_t *value)
+{
+	int32_t status = find_held(hand, tag);
+
+	if (!status)
+		*value = set_of(hand, tag)->slot[tag - set_of(hand, tag)->first];
+	return status;
+}
+
+int32_t model_write(struct model *hand, uint32_t tag, uint64_t value, uint64_t *former)
+{
+	int32_t status = model_read(hand, tag, former);
+
+	if (!status)
+		set_of(hand, tag)->slot[tag - set_of(hand, tag)->first] = value;
+	return status;
+}
+
+int32_t model_post(struct model *hand, uint32_t tag)
+{
+	int32_t status = find_held(hand, tag);
+
+	if (status)
+		return status;
+	set_of(hand, tag)->place[tag - set_of(hand, tag)->first] = POSTED;
+	hand->pool->sums.held--;
+	hand->pool->sums.posted++;
+	return TAGS_OK;
+}
+
+int32_t model_take(struct model *hand, uint32_t tag)
+{
+	int32_t status = find_held(hand, tag);
+	struct set *set;
+
+	if (status == TAGS_BAD_HANDLE || status == TAGS_NO_SUCH_TAG)
+		return status;
+	set = set_of(hand, tag);
+	if (set->place[tag - set->first] != POSTED)
+		return TAGS_NOT_POSTED;
+	set->place[tag - set->first] = HELD;
+	set->holder[tag - set->first] = hand->number;
+	hand->pool->sums.posted--;
+	hand->pool->sums.held++;
+	return TAGS_OK;
+}

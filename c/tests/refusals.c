@@ -1,0 +1,323 @@
+/*
+ * Each refusal by its number, and that a refused call leaves all as it was.
+ * Not here: TAGS_NO_MEMORY is in memory.c, TAGS_SPENT takes 2^48 gets, TAGS_AGAIN
+ * comes from threads alone, and nothing that C can ask for is answered with
+ * TAGS_NO_BERTH, TAGS_HAND_LOST, TAGS_LIFE_TOO_LONG or TAGS_CAP_TOO_LARGE.
+ */
+#include <stdio.h>
+#include <string.h>
+
+#include "../tags.h"
+
+static int wanted;
+static int wrong;
+
+static void want(const char *call, int32_t found, int32_t status)
+{
+	wanted++;
+	if (found == status)
+		return;
+	wrong++;
+	printf("%s: %d (%s), not %d\n", call, (int)found, tags_strerror(found), (int)status);
+}
+
+#define WANT(call, status) want(#call, call, status)
+
+/* Ten ordinary tags behind two reserved ones, in words of four, for two hands. */
+static const struct tags_options twelve = {
+	.total = 12,
+	.reserved = 2,
+	.shift = 2,
+	.min_shallow = 3,
+	.hands = 2,
+};
+
+static struct tags_pool *as_pool(struct tags_hand *hand)
+{
+	return (struct tags_pool *)(void *)hand;
+}
+
+static struct tags_hand *as_hand(struct tags_pool *pool)
+{
+	return (struct tags_hand *)(void *)pool;
+}
+
+/* NULL in the place of each pointer. */
+static void refuse_null(struct tags_pool *pool, struct tags_hand *hand)
+{
+	struct tags_bell bell = TAGS_BELL;
+	uint64_t value = 5;
+
+	WANT(tags_open(NULL, &twelve), -28);
+	WANT(tags_open(pool, NULL), -28);
+	WANT(tags_join(NULL, hand, 0), -28);
+	WANT(tags_join(pool, NULL, 0), -28);
+	WANT(tags_leave(NULL), -28);
+	WANT(tags_close(pool, NULL), -28);
+	WANT(tags_get(NULL), -28);
+	WANT(tags_get_reserved(NULL), -28);
+	WANT(tags_get_shallow(NULL, 3), -28);
+	WANT(tags_get_batch(NULL, 1, &value), -28);
+	WANT(tags_get_batch(hand, 1, NULL), -28);
+	WANT(tags_clear(NULL, 2), -28);
+	WANT(tags_clear_batch(hand, NULL, 0), -28);
+	WANT(tags_read(hand, 2, NULL), -28);
+	WANT(tags_write(hand, 2, 1, NULL), -28);
+	WANT(tags_post(NULL, 2), -28);
+	WANT(tags_take(NULL, 2), -28);
+	WANT(tags_holds(NULL, 2), -28);
+	WANT(tags_busy(hand, NULL, 1), -28);
+	WANT(tags_show(hand, TAGS_ORDINARY, NULL), -28);
+	WANT(tags_wakes(hand, NULL), -28);
+	WANT(tags_prepare(NULL), -28);
+	WANT(tags_finish(NULL), -28);
+	WANT(tags_get_blocking(NULL, &bell), -28);
+	WANT(tags_get_blocking(hand, NULL), -28);
+	WANT(tags_ring(NULL, 1), -28);
+}
+
+static void refuse_options(void)
+{
+	struct tags_pool pool = TAGS_EMPTY;
+	struct tags_options options = twelve;
+
+	options.total = TAGS_MAX_TOTAL + 1;
+	WANT(tags_open(&pool, &options), -22);
+	options.total = UINT32_MAX;
+	WANT(tags_open(&pool, &options), -22);
+	options = twelve;
+	options.reserved = 13;
+	WANT(tags_open(&pool, &options), -23);
+	options = twelve;
+	options.shift = 7;
+	WANT(tags_open(&pool, &options), -24);
+	options.shift = INT32_MAX;
+	WANT(tags_open(&pool, &options), -24);
+	options = twelve;
+	options.hands = 0;
+	WANT(tags_open(&pool, &options), -25);
+	options.hands = TAGS_MAX_HANDS + 1;
+	WANT(tags_open(&pool, &options), -25);
+	options = twelve;
+	options.flags = 2;
+	WANT(tags_open(&pool, &options), -18);
+	WANT(pool.full == 0 && pool.object == NULL, 1);
+}
+
+/* Every call through a handle that is empty, or of a pool. */
+static void refuse_handle(struct tags_hand *hand)
+{
+	struct tags_sizes sizes;
+	struct tags_counts counts;
+	const uint32_t tag = 2;
+	uint64_t value = 5;
+
+	WANT(tags_get(hand), -12);
+	WANT(tags_get_reserved(hand), -12);
+	WANT(tags_get_shallow(hand, 3), -12);
+	WANT(tags_get_batch(hand, 1, &value), -12);
+	WANT(tags_clear(hand, tag), -12);
+	WANT(tags_clear_batch(hand, &tag, 1), -12);
+	WANT(tags_read(hand, tag, &value), -12);
+	WANT(tags_write(hand, tag, 1, &value), -12);
+	WANT(tags_post(hand, tag), -12);
+	WANT(tags_take(hand, tag), -12);
+	WANT(tags_holds(hand, tag), -12);
+	WANT(tags_busy(hand, &value, 1), -12);
+	WANT(tags_show(hand, TAGS_ORDINARY, &sizes), -12);
+	WANT(tags_wakes(hand, &counts), -12);
+	WANT(tags_prepare(hand), -12);
+	WANT(tags_finish(hand), -12);
+	WANT(tags_leave(hand), -12);
+	WANT(value == 5, 1);
+}
+
+static void refuse_handles(struct tags_pool *pool, struct tags_hand *hand)
+{
+	struct tags_pool none = TAGS_EMPTY;
+	struct tags_hand idle = TAGS_EMPTY;
+	struct tags_bell bell = TAGS_BELL;
+	struct tags_sums sums;
+
+	refuse_handle(&idle);
+	refuse_handle(as_hand(pool));
+	WANT(tags_get_blocking(&idle, &bell), -12);
+	WANT(tags_get_blocking(as_hand(pool), &bell), -12);
+	WANT(tags_open(pool, &twelve), -13);
+	WANT(tags_open(as_pool(hand), &twelve), -13);
+	WANT(tags_join(pool, hand, 0), -13);
+	WANT(tags_join(&none, &idle, 0), -12);
+	WANT(tags_join(as_pool(hand), &idle, 0), -12);
+	WANT(tags_join(&none, as_hand(&none), 0), -12);
+	WANT(tags_join(pool, as_hand(pool), 0), -13);
+	WANT(tags_join(pool, &idle, 2), -18);
+	WANT(tags_join(pool, &idle, 0), -14);
+	WANT(tags_close(&none, &sums), -12);
+	WANT(tags_close(as_pool(hand), &sums), -12);
+	WANT(tags_close(pool, &sums), -15);
+}
+
+/* Tags that are out of range, not held, or not posted. */
+static void refuse_tags(struct tags_hand *hand, struct tags_hand *other)
+{
+	static const uint32_t numbers[] = { 12, 13, 10240, 1u << 31, UINT32_MAX };
+	uint64_t value = 5;
+
+	for (size_t i = 0; i < sizeof(numbers) / sizeof(*numbers); i++) {
+		WANT(tags_clear(hand, numbers[i]), -1);
+		WANT(tags_read(hand, numbers[i], &value), -1);
+		WANT(tags_write(hand, numbers[i], 1, &value), -1);
+		WANT(tags_post(hand, numbers[i]), -1);
+		WANT(tags_take(hand, numbers[i]), -1);
+		WANT(tags_holds(hand, numbers[i]), -1);
+	}
+	WANT(tags_get(other), 2);
+	WANT(tags_clear(hand, 2), -3);
+	WANT(tags_read(hand, 2, &value), -3);
+	WANT(tags_write(hand, 2, 1, &value), -3);
+	WANT(tags_post(hand, 2), -3);
+	WANT(tags_take(hand, 2), -4);
+	WANT(tags_holds(hand, 2), 0);
+	WANT(tags_clear(other, 2), 0);
+	WANT(tags_clear(other, 2), -3);
+	WANT(value == 5, 1);
+}
+
+static void refuse_counts(struct tags_hand *hand)
+{
+	uint32_t list[TAGS_MAX_BATCH + 1] = { 2, 3, 2 };
+	uint64_t won;
+
+	WANT(tags_get_batch(hand, 0, &won), -5);
+	WANT(tags_get_batch(hand, 5, &won), -5);
+	WANT(tags_get_batch(hand, UINT32_MAX, &won), -5);
+	WANT(tags_get_shallow(hand, 0), -6);
+	WANT(tags_get_shallow(hand, 2), -6);
+	WANT(tags_get_batch(hand, 2, &won), 2);
+	WANT(tags_clear_batch(hand, list, 0), -5);
+	WANT(tags_clear_batch(hand, list, TAGS_MAX_BATCH + 1), -5);
+	WANT(tags_clear_batch(hand, list, SIZE_MAX / 4), -5);
+	WANT(tags_clear_batch(hand, list, 3), -3);
+	list[1] = 1;
+	WANT(tags_clear_batch(hand, list, 2), -1);
+	list[1] = 3;
+	WANT(tags_clear_batch(hand, list, 2), 0);
+}
+
+static void refuse_sizes(struct tags_hand *hand)
+{
+	struct tags_sizes sizes = { .depth = 5 };
+	uint64_t bits = 5;
+
+	WANT(tags_busy(hand, &bits, 0), -17);
+	WANT(bits == 5, 1);
+	WANT(tags_busy(hand, &bits, 1), 0);
+	WANT(tags_show(hand, 2, &sizes), -16);
+	WANT(tags_show(hand, UINT32_MAX, &sizes), -16);
+	WANT(sizes.depth == 5, 1);
+}
+
+static void refuse_waits(struct tags_hand *hand)
+{
+	WANT(tags_finish(hand), -9);
+	WANT(tags_prepare(hand), 0);
+	WANT(tags_prepare(hand), -8);
+	WANT(tags_finish(hand), 0);
+	WANT(tags_finish(hand), -9);
+}
+
+static void use_up(struct tags_hand *hand)
+{
+	struct tags_bell bell = TAGS_BELL;
+	int32_t tag;
+
+	while ((tag = tags_get_reserved(hand)) >= 0)
+		;
+	WANT(tag, -10);
+	while ((tag = tags_get(hand)) >= 0)
+		;
+	WANT(tag, -10);
+	WANT(tags_prepare(hand), 1);
+	WANT(tags_get_blocking(hand, &bell), -8);
+	WANT(tags_finish(hand), 0);
+}
+
+/* A pool without reserved tags, and one without ordinary ones. */
+static void refuse_kinds(void)
+{
+	struct tags_options options = { .total = 4, .shift = TAGS_DEFAULT_SHIFT, .hands = 1 };
+	struct tags_pool pool = TAGS_EMPTY;
+	struct tags_hand hand = TAGS_EMPTY;
+	struct tags_bell bell = TAGS_BELL;
+	struct tags_sums sums;
+
+	WANT(tags_open(&pool, &options), 0);
+	WANT(tags_join(&pool, &hand, 0), 0);
+	WANT(tags_get_reserved(&hand), -2);
+	WANT(tags_leave(&hand), 0);
+	WANT(tags_close(&pool, &sums), 0);
+	options.reserved = 4;
+	WANT(tags_open(&pool, &options), 0);
+	WANT(tags_join(&pool, &hand, 0), 0);
+	WANT(tags_get(&hand), -10);
+	WANT(tags_get_blocking(&hand, &bell), -1);
+	WANT(tags_leave(&hand), 0);
+	WANT(tags_close(&pool, &sums), 0);
+}
+
+/* A hand of one pool leaves to that pool, while another is open. */
+static void part_two_pools(void)
+{
+	struct tags_pool pools[2] = { TAGS_EMPTY, TAGS_EMPTY };
+	struct tags_hand hand = TAGS_EMPTY;
+	struct tags_sums sums;
+
+	WANT(tags_open(&pools[0], &twelve), 0);
+	WANT(tags_open(&pools[1], &twelve), 0);
+	WANT(tags_join(&pools[0], &hand, TAGS_STAY), 0);
+	WANT(tags_get(&hand), 2);
+	WANT(tags_close(&pools[1], &sums), 0);
+	WANT(tags_close(&pools[0], &sums), -15);
+	WANT(tags_leave(&hand), 0);
+	WANT(tags_close(&pools[0], &sums), 0);
+	WANT(sums.got == 1 && sums.held == 1, 1);
+}
+
+static void name_statuses(void)
+{
+	for (int32_t status = TAGS_NULL; status < 0; status++)
+		for (int32_t other = status + 1; other <= 0; other++)
+			WANT(strcmp(tags_strerror(status), tags_strerror(other)) != 0, 1);
+	WANT(strcmp(tags_strerror(7), tags_strerror(TAGS_OK)), 0);
+	WANT(strcmp(tags_strerror(INT32_MIN), tags_strerror(TAGS_NULL - 1)), 0);
+}
+
+int main(void)
+{
+	struct tags_pool pool = TAGS_EMPTY;
+	struct tags_hand hand = TAGS_EMPTY;
+	struct tags_hand other = TAGS_EMPTY;
+	struct tags_sums sums;
+
+	refuse_options();
+	WANT(tags_open(&pool, &twelve), 0);
+	WANT(tags_join(&pool, &hand, TAGS_STAY), 0);
+	WANT(tags_join(&pool, &other, TAGS_STAY), 0);
+	refuse_null(&pool, &hand);
+	refuse_handles(&pool, &hand);
+	refuse_tags(&hand, &other);
+	refuse_counts(&hand);
+	refuse_sizes(&hand);
+	refuse_waits(&hand);
+	use_up(&hand);
+	WANT(tags_leave(&hand), 0);
+	WANT(tags_leave(&other), 0);
+	WANT(tags_close(&pool, &sums), 0);
+	WANT(sums.got == 15 && sums.back == 3 && sums.held == 12 && sums.posted == 0, 1);
+	WANT(tags_close(&pool, &sums), -12);
+	refuse_kinds();
+	part_two_pools();
+	name_statuses();
+	printf("%d answers, %d wrong\n", wanted, wrong);
+	return wrong != 0;
+}

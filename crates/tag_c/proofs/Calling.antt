@@ -1,0 +1,68 @@
+-- A call through a handle is a call of what lies behind it, and that of an object one of its hand.
+use Rattle.std.proofs.Common.{◌≡◌, ℕ, ◌<◌, ℤ, Option, Some, None, Result, Ok, Err, IfOk, refl, sym, subst, ◌∙◌}
+use lib.Signed.{mag}
+use mir.Syntax.{w32}
+use mir.Val.{to_z, of_z}
+use Rattle.std.proofs.lemmas.Int.{to_z-of_z}
+use Rattle.std.specs.Arc.{arc_value}
+use Rattle.tag_sets.specs.declared.hand.Hand.{Hand}
+use Rattle.tag_sets.specs.declared.tags.Tags.{Tags}
+use Rattle.tag_sets.specs.Hands.{IsHandOf}
+use Rattle.tag_c.specs.declared.member.Member.{Member}
+use Rattle.tag_c.specs.declared.object.Kind.{Kind}
+use Rattle.tag_c.specs.declared.object.Kind.TheVariants.{Pool as IsPool, Member as IsMember}
+use Rattle.tag_c.specs.declared.object.Object.{Object}
+use Rattle.tag_c.specs.declared.pool.Pool.{Pool}
+use Rattle.tag_c.specs.declared.shared.Shared.{Shared}
+use Rattle.tag_c.specs.declared.status.Status.TheVariants.{BadHandle}
+use Rattle.tag_c.specs.Calls.{Calls, CallsAs, CallsBy, Through}
+use Rattle.tag_c.specs.Codes.{code_of}
+
+module _ (change : Member → Member → Type 0) (code : ℤ) where
+  -- through a full handle
+  pub called : (before after : Option Object) (old new : Object)
+      → before ≡ Some old → after ≡ Some new → Calls change code old new → CallsBy change code before after
+  called before after old new b a call =
+      subst (λ (x : Option Object). CallsBy change code x after) (sym b)
+      (subst (λ (x : Option Object). CallsBy change code (Some old) x) (sym a) call)
+
+  -- through an empty one
+  pub not_called : (before after : Option Object)
+      → before ≡ None → after ≡ None → code ≡ code_of BadHandle → CallsBy change code before after
+  not_called before after b a is =
+      subst (λ (x : Option Object). CallsBy change code x after) (sym b)
+      (subst (λ (x : Option Object). CallsBy change code None x) (sym a) is)
+
+  -- through a hand
+  pub by_member : (before after : Kind) (old new : Member)
+      → before ≡ IsMember old → after ≡ IsMember new → new.shared ≡ old.shared → change old new → CallsAs change code before after
+  by_member before after old new b a shared changed =
+      subst (λ (x : Kind). CallsAs change code x after) (sym b)
+      (subst (λ (x : Kind). CallsAs change code (IsMember old) x) (sym a) (shared, changed))
+
+  -- through a pool
+  pub by_pool : (before after : Kind) (pool : Pool) → before ≡ IsPool pool → after ≡ IsPool pool → code ≡ code_of BadHandle → CallsAs change code before after
+  by_pool before after pool b a is =
+      subst (λ (x : Kind). CallsAs change code x after) (sym b)
+      (subst (λ (x : Kind). CallsAs change code (IsPool pool) x) (sym a) (is, refl))
+
+-- the number of an answer, as it is stored in 32 bits
+pub stored : (code : ℤ) → mag code < 2147483648 → to_z w32 (of_z w32 code) ≡ code
+stored code small = to_z-of_z w32 code record { sfits = small }
+
+-- through a hand: what its tags did, and the number that they answered
+pub by_hand : {A : Type 0} (does : Tags ℕ → A → Hand ℕ → Hand ℕ → Type 0) (number : A → ℤ) (code raw : ℤ)
+    (before : Kind) (member : Member) (hand : Hand ℕ) (own : IsHandOf (arc_value member.shared).tags hand)
+    (shared : Shared) (answer : A)
+    → before ≡ IsMember member → raw ≡ number answer → code ≡ raw → shared ≡ arc_value member.shared
+    → does shared.tags answer member.hand hand
+    → CallsAs (Through does number code) code before (IsMember (record { shared = member.shared; hand = hand; own = own }))
+by_hand does number code raw before member hand own shared answer b is same at did =
+    subst (λ (x : Kind). CallsAs (Through does number code) code x (IsMember (record { shared = member.shared; hand = hand; own = own })))
+    (sym b)
+    (refl, (answer, same ∙ is, subst (λ (s : Shared). does s.tags answer member.hand hand) at did))
+
+-- two facts of an answer together
+pub both_ok : {A E : Type 0} (P Q : A → Type 0) (answer : Result A E) → IfOk answer P → IfOk answer Q → IfOk answer (λ x. P x × Q x)
+both_ok P Q (Ok x) p q = (p, q)
+both_ok P Q (Err e) p q = tt

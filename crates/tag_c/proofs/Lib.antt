@@ -1,0 +1,7 @@
+pub mod Calling
+pub mod Flags
+pub mod Owners
+pub mod Refusing
+pub mod Runs
+pub mod Sent
+pub mod Words

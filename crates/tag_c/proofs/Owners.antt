@@ -1,0 +1,35 @@
+-- Hands of one object belong to the same tags.
+use Rattle.std.proofs.Common.{arith, ℕ, suc, List, [], ◌∷◌, ◌++◌, All, sym, ◌∙◌}
+use Rattle.tag_queue.specs.declared.agent.Agent.{Agent}
+use Rattle.tag_queue.specs.declared.queue.Queue.{Queue}
+use Rattle.tag_queue.specs.Agents.{IsAgentOf}
+use Rattle.tag_sets.specs.declared.hand.Hand.{Hand}
+use Rattle.tag_sets.specs.declared.tags.Tags.{Tags}
+use Rattle.tag_sets.specs.Hands.{IsHandOf}
+use Rattle.tag_c.specs.Sharing.{SharesTags}
+
+-- an agent of the queue to which another one belongs belongs to each queue of that one
+one_queue : (queue other : Queue ℕ) (berth agent : Agent ℕ) → IsAgentOf other berth → IsAgentOf other agent → IsAgentOf queue berth → IsAgentOf queue agent
+one_queue queue other berth agent b a own = (
+  (a.0.0 ∙ sym b.0.0 ∙ own.0.0, a.0.1 ∙ sym b.0.1 ∙ own.0.1),
+  a.1 ∙ sym b.1 ∙ own.1,
+  a.2 ∙ sym b.2 ∙ own.2,
+)
+
+-- a hand that shares the tags of a berth belongs to the tags of the berth
+pub one_owner : (tags : Tags ℕ) (berth hand : Hand ℕ) → SharesTags berth hand → IsHandOf tags berth → IsHandOf tags hand
+one_owner tags berth hand shares own = let other = shares.0 in let b = shares.1 in let h = shares.2 in (
+  one_queue tags.reserved other.reserved berth.reserved hand.reserved b.0 h.0 own.0,
+  one_queue tags.ordinary other.ordinary berth.ordinary hand.ordinary b.1 h.1 own.1,
+  h.2 ∙ sym b.2 ∙ own.2,
+  h.3,
+)
+
+-- two hands of the same tags share them
+pub sharing : (tags : Tags ℕ) (berth hand : Hand ℕ) → IsHandOf tags berth → IsHandOf tags hand → SharesTags berth hand
+sharing tags berth hand b h = (tags, b, h)
+
+-- what holds of each of a list holds of its last
+pub last_of : {X : Type 0} (P : X → Type 0) (xs : List X) (x : X) → All P (xs ++ (x ∷ [])) → P x
+last_of P [] x all = all 0 x (omega arith)
+last_of P (y ∷ ys) x all = last_of P ys x (λ k d low. all (suc k) d (omega arith))

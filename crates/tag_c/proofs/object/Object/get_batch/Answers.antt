@@ -1,0 +1,30 @@
+-- The hand does what its tags say of a batch get; the mask was written exactly where there is a run.
+use Rattle.std.proofs.Common.{arith, rules, sym, subst}
+use Rattle.tag_sets.specs.Hands.{IsHandOf}
+use Rattle.tag_c.specs.declared.shared.Shared.{Shared}
+use Rattle.tag_c.specs.Calls.{DoesGetBatch}
+use Rattle.tag_c.specs.Codes.{code_of_batch}
+use Rattle.tag_c.proofs.Calling.{by_hand, stored}
+use Rattle.tag_c.proofs.Runs.{run_fits}
+use Rattle.tag_c.proofs.object.Object.get_batch.Goals as goal
+use Rattle.tag_c.proofs.object.Object.get_batch.Goals.{in-Ok-Some}
+
+pub batch_code-requires : goal.batch_code-requires
+batch_code-requires c = let shared = c.deref.result.now in let e = c.get_batch-answer.ensures in
+    let own = subst (λ (s : Shared). IsHandOf s.tags c.in-Member.member.hand) (sym c.deref.ensures) c.in-Member.member.own in
+    run_fits shared.tags c.in-Member.member.hand c.get_batch-answer.new.hand own c.args.n c.get_batch-answer.result
+    (omega (arith, shared.total_is.0, shared.total_is.1)) e.bad_count e.round_robin e.gets
+
+pub returns-clause-calls : goal.returns-clause-calls
+returns-clause-calls c = let e = c.get_batch-answer.ensures in
+    by_hand (DoesGetBatch c.args.n c.match-answer.won) code_of_batch _ c.batch_code.result c.args.self.now.kind
+    c.in-Member.member _ _ c.deref.result.now c.get_batch-answer.result c.in-Member.is c.batch_code.ensures
+    (stored c.batch_code.result c.batch_code.type_inv) c.deref.ensures record {
+      bad_count = e.bad_count;
+      round_robin = e.round_robin;
+      spent = e.spent;
+      succeeds = e.succeeds;
+      gets = e.gets;
+      mask = elim c.match-answer.branch [ in-Ok-Some w ↦ search rules | w ↦ search rules ];
+      err = e.err;
+    }

@@ -1,0 +1,10 @@
+-- A pool is one of its tags.
+use Rattle.std.proofs.Common.{refl, sym, subst}
+use Rattle.std.specs.Arc.{arc_value}
+use Rattle.tag_c.specs.declared.object.Kind.{Kind}
+use Rattle.tag_c.specs.Exports.{IsPoolIn}
+use Rattle.tag_c.proofs.object.Object.is_alone.Goals as goal
+
+pub returns-in-Pool-clause-ok : goal.returns-in-Pool-clause-ok
+returns-in-Pool-clause-ok c = let tags = (arc_value c.in-Pool.pool.shared).tags in
+    (tags, subst (λ (kind : Kind). IsPoolIn tags kind) (sym c.in-Pool.is) refl)

@@ -1,0 +1,10 @@
+-- A hand is one of the tags that it came with.
+use Rattle.std.proofs.Common.{refl, sym, subst}
+use Rattle.std.specs.Arc.{arc_value}
+use Rattle.tag_c.specs.declared.object.Kind.{Kind}
+use Rattle.tag_c.specs.Exports.{IsMemberIn}
+use Rattle.tag_c.proofs.object.Object.is_hand.Goals as goal
+
+pub returns-in-Member : goal.returns-in-Member
+returns-in-Member c = let tags = (arc_value c.in-Member.field-0.shared).tags in
+    ((λ _. (tags, subst (λ (kind : Kind). IsMemberIn tags kind) (sym c.in-Member.is) refl)), (λ _. refl))

@@ -1,0 +1,16 @@
+-- The hands that are not yet in berths, and those that are, are those of the tags.
+use Rattle.std.proofs.Common.{◌+◌, ◌≤◌, vec_len, vec_capacity}
+use Rattle.std.specs.Prelude.{All}
+use Rattle.tag_sets.specs.Hands.{IsHandOf}
+use Rattle.tag_c.proofs.pool.Pool.open.Given as goal
+
+abbrev pub invariant-loop-hand : goal.invariant-loop-hand
+invariant-loop-hand l = record {
+  berths : All (IsHandOf l.tags) l.berths.items;
+  hands : All (IsHandOf l.tags) l.hands.items;
+  room : vec_len l.berths + vec_len l.hands ≤ vec_capacity l.hands;
+  fit : vec_len l.berths + vec_len l.hands ≤ vec_capacity l.berths;
+}
+
+abbrev pub decreases-loop-hand : goal.decreases-loop-hand
+decreases-loop-hand l = vec_len l.hands

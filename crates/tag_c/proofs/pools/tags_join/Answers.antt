@@ -1,0 +1,59 @@
+-- What lies behind the first handle is a pool that gives a hand, or the call is refused.
+use Rattle.std.proofs.Common.{rules, ◌≡◌, Option, Some, None, inl, inr, refl, sym, subst, ◌∙◌}
+use Rattle.std.specs.Arc.{arc_value}
+use Rattle.tag_queue.specs.declared.fault.SetFault.TheVariants.{Memory}
+use Rattle.tag_c.specs.declared.object.Object.{Object}
+use Rattle.tag_c.specs.declared.status.Status.TheVariants.{BadHandle, NotEmpty, NotOpened}
+use Rattle.tag_c.specs.Exports.{RefusesJoin, IsPoolIn, IsPoolOf, IsMemberIn, IsHandIn}
+use Rattle.tag_c.proofs.Refusing.{refuses, refused, no_pool, join_below, refuses_join}
+use Rattle.tag_c.proofs.Flags.{is_some_of, not_some_of}
+use Rattle.tag_c.proofs.pools.tags_join.Goals as goal
+
+pub returns-then-hand-ne0-clause-why : goal.returns-then-hand-ne0-clause-why
+returns-then-hand-ne0-clause-why c = λ _. let hand = c.args.hand.now in
+    refuses (RefusesJoin c.args.pool.now.object.value hand.object.value c.args.flags) NotEmpty c.code.result c.code.ensures c.code.type_inv
+    (inl (refl, is_some_of hand.object.value (λ none. c.if-hand-ne0.true (hand.held ∙ none))))
+
+pub returns-in_default-clause-why : goal.returns-in_default-clause-why
+returns-in_default-clause-why c = λ _. let value = c.args.pool.now.object.value in let none : value ≡ None = search rules in
+    let code = c.code-in_default in
+    refuses (RefusesJoin value c.args.hand.now.object.value c.args.flags) BadHandle code.result code.ensures code.type_inv
+    (inr (inl (refl, no_pool value none)))
+
+pub returns-in-Err-clause-joins : goal.returns-in-Err-clause-joins
+returns-in-Err-clause-joins c = λ zero. let code = c.code-in-Err in let status = c.in-Err.status in
+    absurd (refused status code.result code.ensures code.type_inv
+    (join_below c.deref.result.now c.args.flags status c.in-Err.ensures.why) zero)
+
+pub returns-in-Err-clause-why : goal.returns-in-Err-clause-why
+returns-in-Err-clause-why c = λ _. let pool = c.args.pool.now.object.value in let hand = c.args.hand.now.object.value in
+    let code = c.code-in-Err in let status = c.in-Err.status in
+    refuses (RefusesJoin pool hand c.args.flags) status code.result code.ensures code.type_inv
+    (refuses_join c.deref.result.now c.args.flags status pool hand
+    (subst (λ (x : Object). pool ≡ Some x) (sym c.deref.ensures) c.in-Some.ensures.some) c.in-Err.ensures.why)
+
+pub leave-requires : goal.leave-requires
+leave-requires c = let tags = (arc_value c.in-Ok.member.shared).tags in
+    (tags, subst (λ (x : Object). IsMemberIn tags x.kind) (sym c.in-Err-new.ensures.value_returned) refl)
+
+pub returns-in-Ok-new-clause-joins : goal.returns-in-Ok-new-clause-joins
+returns-in-Ok-new-clause-joins c = λ _. let tags = (arc_value c.in-Ok.member.shared).tags in (
+  tags,
+  subst (λ (x : Option Object). IsPoolOf tags x) (sym c.in-Some.ensures.some)
+      (subst (λ (x : Object). IsPoolIn tags x.kind) c.deref.ensures c.in-Ok.ensures.ok),
+  subst (λ (x : Option Object). IsHandIn tags x) (sym c.of-in-Ok-new.ensures)
+      (subst (λ (x : Object). IsMemberIn tags x.kind) (sym c.in-Ok-new.ensures.ok) refl),
+)
+
+pub returns-in-Ok-new-clause-not_empty : goal.returns-in-Ok-new-clause-not_empty
+returns-in-Ok-new-clause-not_empty c = λ full. let hand = c.args.hand.now in
+    absurd (not_some_of hand.object.value (sym hand.held ∙ c.if-hand-ne0.false) full)
+
+pub returns-in-Err-new-clause-not_empty : goal.returns-in-Err-new-clause-not_empty
+returns-in-Err-new-clause-not_empty c = λ full. let hand = c.args.hand.now in
+    absurd (not_some_of hand.object.value (sym hand.held ∙ c.if-hand-ne0.false) full)
+
+pub returns-in-Err-new-clause-why : goal.returns-in-Err-new-clause-why
+returns-in-Err-new-clause-why c = λ _. let code = c.code-in-Err-new in
+    refuses (RefusesJoin c.args.pool.now.object.value c.args.hand.now.object.value c.args.flags) (NotOpened Memory)
+    code.result code.ensures code.type_inv (inr (inr (inr (inr refl))))

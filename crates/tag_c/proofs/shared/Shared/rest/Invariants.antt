@@ -1,0 +1,6 @@
+-- Each full berth hands the hand back.
+use Rattle.std.proofs.Common.{◌≡◌}
+use Rattle.tag_c.proofs.shared.Shared.rest.Given as goal
+
+abbrev pub invariant-loop-i : goal.invariant-loop-i
+invariant-loop-i l = l.hand ≡ l.fn.hand

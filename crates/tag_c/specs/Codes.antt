@@ -1,0 +1,84 @@
+-- The numbers by which the header names how a call ended: negsuc n is -(n + 1).
+use Rattle.std.specs.Prelude.{ℕ, ℤ, pos, negsuc, min, Option, Some, None, Result, Ok, Err, ⊤}
+use Rattle.wake_book.specs.declared.waiting.Left.{Left}
+use Rattle.wake_book.specs.declared.waiting.Left.TheVariants.{Woken, Unwoken}
+use Rattle.tag_layout.specs.declared.layout.TheConstants.{MAX_DEPTH}
+use Rattle.tag_queue.specs.declared.fault.SetFault.{SetFault}
+use Rattle.tag_queue.specs.declared.fault.SetFault.TheVariants.{Memory, TotalTooLarge, ReservedTooLarge, ShiftTooLarge, CallerCount, LifeTooLong, CapTooLarge}
+use Rattle.tag_queue.specs.declared.fault.TagFault.{TagFault}
+use Rattle.tag_queue.specs.declared.fault.TagFault.TheVariants.{NoSuchTag, NoReserved, NotHeld, NotPosted, BadCount, TooShallow, Spent, Waiting, NotWaiting}
+use Rattle.tag_c.specs.declared.status.Status.{Status}
+use Rattle.tag_c.specs.declared.status.Status.TheVariants.{Done, Refused, NoTag, Again, BadHandle, NotEmpty, NoHand, HandsOut, BadKind, TooSmall, BadFlag, NotOpened, NoBerth, HandLost}
+
+-- the number is that of a refusal
+abbrev pub IsRefusal : ℤ → Type 0
+IsRefusal (pos n) = ⊥
+IsRefusal (negsuc n) = ⊤
+
+-- the number of a refusal of the tags
+abbrev pub code_of_fault : TagFault → ℤ
+code_of_fault NoSuchTag = negsuc 0
+code_of_fault NoReserved = negsuc 1
+code_of_fault NotHeld = negsuc 2
+code_of_fault NotPosted = negsuc 3
+code_of_fault BadCount = negsuc 4
+code_of_fault TooShallow = negsuc 5
+code_of_fault Spent = negsuc 6
+code_of_fault Waiting = negsuc 7
+code_of_fault NotWaiting = negsuc 8
+
+-- the number of the reason why tags could not be opened
+abbrev pub code_of_set_fault : SetFault → ℤ
+code_of_set_fault Memory = negsuc 20
+code_of_set_fault TotalTooLarge = negsuc 21
+code_of_set_fault ReservedTooLarge = negsuc 22
+code_of_set_fault ShiftTooLarge = negsuc 23
+code_of_set_fault CallerCount = negsuc 24
+code_of_set_fault LifeTooLong = negsuc 25
+code_of_set_fault CapTooLarge = negsuc 26
+
+-- the number of a status
+abbrev pub code_of : Status → ℤ
+code_of Done = pos 0
+code_of (Refused fault) = code_of_fault fault
+code_of NoTag = negsuc 9
+code_of Again = negsuc 10
+code_of BadHandle = negsuc 11
+code_of NotEmpty = negsuc 12
+code_of NoHand = negsuc 13
+code_of HandsOut = negsuc 14
+code_of BadKind = negsuc 15
+code_of TooSmall = negsuc 16
+code_of BadFlag = negsuc 17
+code_of (NotOpened fault) = code_of_set_fault fault
+code_of NoBerth = negsuc 18
+code_of HandLost = negsuc 19
+
+-- the tag, or why there is none
+abbrev pub code_of_get : Result (Option ℕ) TagFault → ℤ
+code_of_get (Ok (Some tag)) = pos tag
+code_of_get (Ok None) = code_of NoTag
+code_of_get (Err fault) = code_of_fault fault
+
+-- the first tag of a batch, or why there is none
+abbrev pub code_of_batch : Result (Option (ℕ × ℕ)) TagFault → ℤ
+code_of_batch (Ok (Some won)) = pos won.0
+code_of_batch (Ok None) = code_of NoTag
+code_of_batch (Err fault) = code_of_fault fault
+
+-- a count, which is far below the bound, or why there is none
+abbrev pub code_of_count : Result ℕ TagFault → ℤ
+code_of_count (Ok count) = pos (min count MAX_DEPTH)
+code_of_count (Err fault) = code_of_fault fault
+
+-- that it is done, or why not
+abbrev pub code_of_done : {A : Type 0} → Result A TagFault → ℤ
+code_of_done (Ok done) = pos 0
+code_of_done (Err fault) = code_of_fault fault
+
+-- 1 for a wait that used a grant and 0 for one that found none, or why it is not over
+abbrev pub code_of_finish : Result (Option Left) TagFault → ℤ
+code_of_finish (Ok (Some Woken)) = pos 1
+code_of_finish (Ok (Some Unwoken)) = pos 0
+code_of_finish (Ok None) = code_of Again
+code_of_finish (Err fault) = code_of_fault fault

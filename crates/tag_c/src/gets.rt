@@ -1,0 +1,107 @@
+//! How tags are taken through a hand's handle.
+ghost use Rattle.std.specs.Prelude.{◌≡◌};
+ghost use Rattle.tag_c.specs.Calls.{Calls, CallsBy, Through, DoesGet, DoesGetReserved, DoesGetShallow, DoesGetBatch};
+ghost use Rattle.tag_c.specs.Codes.{IsRefusal, code_of_get, code_of_batch};
+
+use crate::codes::{batch_code, get_code};
+use crate::handle::Handle;
+use crate::object::{Kind, Object};
+use crate::status::Status;
+use std::alloc::Global;
+
+impl Object {
+    #[inline]
+    pub fn get(&mut self) -> i32
+        ensures { Calls (Through DoesGet code_of_get result) result self.old self.new }
+    {
+        let Kind::Member(member) = &mut self.kind else {
+            return Status::BadHandle.code();
+        };
+        get_code(member.shared.tags.get(&mut member.hand))
+    }
+
+    #[inline]
+    pub fn get_reserved(&mut self) -> i32
+        ensures { Calls (Through DoesGetReserved code_of_get result) result self.old self.new }
+    {
+        let Kind::Member(member) = &mut self.kind else {
+            return Status::BadHandle.code();
+        };
+        get_code(member.shared.tags.get_reserved(&mut member.hand))
+    }
+
+    #[inline]
+    pub fn get_shallow(&mut self, depth: u32) -> i32
+        ensures { Calls (Through (DoesGetShallow depth) code_of_get result) result self.old self.new }
+    {
+        let Kind::Member(member) = &mut self.kind else {
+            return Status::BadHandle.code();
+        };
+        get_code(member.shared.tags.get_shallow(&mut member.hand, depth))
+    }
+
+    /// Writes the mask of the tags won where there are any.
+    #[inline]
+    pub fn get_batch(&mut self, n: u32, won: &mut u64) -> i32
+        ensures calls { Calls (Through (DoesGetBatch n won.new) code_of_batch result) result self.old self.new }
+        ensures kept { IsRefusal result → won.new ≡ won.old }
+    {
+        let Kind::Member(member) = &mut self.kind else {
+            return Status::BadHandle.code();
+        };
+        let answer = member.shared.tags.get_batch(&mut member.hand, n);
+        if let Ok(Some((_, mask))) = answer {
+            *won = mask;
+        }
+        batch_code(answer)
+    }
+}
+
+#[unsafe(no_mangle)]
+pub extern "C" fn tags_get(alloc: Global, hand: &mut Handle) -> i32
+    ensures { CallsBy (Through DoesGet code_of_get result) result hand.old.object.value hand.new.object.value }
+{
+    let Some(mut object) = hand.take(alloc) else {
+        return Status::BadHandle.code();
+    };
+    let code = object.get();
+    *hand = Handle::of(object);
+    code
+}
+
+#[unsafe(no_mangle)]
+pub extern "C" fn tags_get_reserved(alloc: Global, hand: &mut Handle) -> i32
+    ensures { CallsBy (Through DoesGetReserved code_of_get result) result hand.old.object.value hand.new.object.value }
+{
+    let Some(mut object) = hand.take(alloc) else {
+        return Status::BadHandle.code();
+    };
+    let code = object.get_reserved();
+    *hand = Handle::of(object);
+    code
+}
+
+#[unsafe(no_mangle)]
+pub extern "C" fn tags_get_shallow(alloc: Global, hand: &mut Handle, depth: u32) -> i32
+    ensures { CallsBy (Through (DoesGetShallow depth) code_of_get result) result hand.old.object.value hand.new.object.value }
+{
+    let Some(mut object) = hand.take(alloc) else {
+        return Status::BadHandle.code();
+    };
+    let code = object.get_shallow(depth);
+    *hand = Handle::of(object);
+    code
+}
+
+#[unsafe(no_mangle)]
+pub extern "C" fn tags_get_batch(alloc: Global, hand: &mut Handle, n: u32, won: &mut u64) -> i32
+    ensures calls { CallsBy (Through (DoesGetBatch n won.new) code_of_batch result) result hand.old.object.value hand.new.object.value }
+    ensures kept { IsRefusal result → won.new ≡ won.old }
+{
+    let Some(mut object) = hand.take(alloc) else {
+        return Status::BadHandle.code();
+    };
+    let code = object.get_batch(n, won);
+    *hand = Handle::of(object);
+    code
+}

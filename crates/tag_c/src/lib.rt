@@ -1,0 +1,22 @@
+//! Tags for C programs: a handle for a pool of tags, and a handle for each thread that takes tags from it.
+#![tactic(auto)]
+
+mod berths;
+mod codes;
+mod gets;
+mod gives;
+mod handle;
+mod hidden;
+mod looks;
+mod loose;
+mod member;
+mod object;
+mod options;
+mod pool;
+mod pools;
+mod shared;
+mod status;
+#[cfg(test)]
+mod tests;
+mod values;
+mod wishes;

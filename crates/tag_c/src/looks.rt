@@ -1,0 +1,165 @@
+//! What a hand sees of its tags through its handle.
+ghost use Rattle.std.specs.Prelude.{◌≡◌};
+ghost use Rattle.tag_c.specs.Calls.{Calls, CallsBy};
+ghost use Rattle.tag_c.specs.Codes.{IsRefusal};
+ghost use Rattle.tag_c.specs.Views.{SaysHeld, SaysBusy, SaysShown, SaysWakes};
+
+use crate::codes::number_code;
+use crate::handle::Handle;
+use crate::object::{Kind as Behind, Object};
+use crate::status::Status;
+use std::alloc::Global;
+use tag_sets::{Kind, TagFault};
+
+/// The sizes of a set of tags, and the sums over its words.
+#[repr(C)]
+#[derive(Clone, Copy, Debug, PartialEq, Eq)]
+pub struct Sizes {
+    /// Tags in all.
+    pub depth: u32,
+    /// Tags found taken, and then not set aside.
+    pub busy: u32,
+    /// Tags found set aside.
+    pub cleared: u32,
+    /// Bits in a whole word.
+    pub bits_per_word: u32,
+    /// Words in all.
+    pub words: u32,
+}
+
+/// Counts of completions and of waiters.
+#[repr(C)]
+#[derive(Clone, Copy, Debug, PartialEq, Eq)]
+pub struct Counts {
+    /// Completions counted.
+    pub counted: u64,
+    /// Completions charged.
+    pub charged: u64,
+    /// Hands that wait, or are about to.
+    pub active: u64,
+    /// The group that the next walk visits first, below 8.
+    pub index: u32,
+}
+
+impl Object {
+    /// 1 where the hand holds the tag, and 0 where it does not.
+    #[inline]
+    pub fn holds(&mut self, tag: u32) -> i32
+        ensures { Calls (SaysHeld tag result) result self.old self.new }
+    {
+        let Behind::Member(member) = &mut self.kind else {
+            return Status::BadHandle.code();
+        };
+        if tag >= member.shared.total {
+            return Status::Refused(TagFault::NoSuchTag).code();
+        }
+        if member.hand.holds(tag) { 1 } else { 0 }
+    }
+
+    /// How many tags are busy, each of which gets its bit.
+    pub fn busy(&mut self, into: &mut [u64]) -> i32
+        ensures calls { Calls (SaysBusy into.old into.new result) result self.old self.new }
+        ensures kept { IsRefusal result → into.new ≡ into.old }
+    {
+        let Behind::Member(member) = &mut self.kind else {
+            return Status::BadHandle.code();
+        };
+        if (member.shared.total as usize).div_ceil(64) > into.len() {
+            return Status::TooSmall.code();
+        }
+        number_code(member.shared.tags.busy(&mut member.hand, into))
+    }
+
+    /// The sizes of the ordinary tags, kind 0, or of the reserved ones, kind 1.
+    pub fn show(&mut self, kind: u32, sizes: &mut Sizes) -> i32
+        ensures calls { Calls (SaysShown kind sizes.new result) result self.old self.new }
+        ensures kept { IsRefusal result → sizes.new ≡ sizes.old }
+    {
+        let Behind::Member(member) = &mut self.kind else {
+            return Status::BadHandle.code();
+        };
+        let kind = match kind {
+            0 => Kind::Ordinary,
+            1 => Kind::Reserved,
+            _ => return Status::BadKind.code(),
+        };
+        let shown = member.shared.tags.show(&mut member.hand, kind);
+        *sizes = Sizes {
+            depth: shown.depth,
+            busy: shown.busy,
+            cleared: shown.cleared,
+            bits_per_word: shown.bits_per_word,
+            words: shown.map_nr,
+        };
+        0
+    }
+
+    /// The counts of completions and of waiters.
+    pub fn wakes(&mut self, counts: &mut Counts) -> i32
+        ensures calls { Calls (SaysWakes counts.new result) result self.old self.new }
+        ensures kept { IsRefusal result → counts.new ≡ counts.old }
+    {
+        let Behind::Member(member) = &mut self.kind else {
+            return Status::BadHandle.code();
+        };
+        let wakes = member.shared.tags.wakes(&mut member.hand);
+        *counts = Counts {
+            counted: wakes.counted,
+            charged: wakes.charged,
+            active: wakes.active,
+            index: wakes.index,
+        };
+        0
+    }
+}
+
+#[unsafe(no_mangle)]
+pub extern "C" fn tags_holds(alloc: Global, hand: &mut Handle, tag: u32) -> i32
+    ensures { CallsBy (SaysHeld tag result) result hand.old.object.value hand.new.object.value }
+{
+    let Some(mut object) = hand.take(alloc) else {
+        return Status::BadHandle.code();
+    };
+    let code = object.holds(tag);
+    *hand = Handle::of(object);
+    code
+}
+
+#[unsafe(no_mangle)]
+pub extern "C" fn tags_busy(alloc: Global, hand: &mut Handle, into: &mut [u64]) -> i32
+    ensures calls { CallsBy (SaysBusy into.old into.new result) result hand.old.object.value hand.new.object.value }
+    ensures kept { IsRefusal result → into.new ≡ into.old }
+{
+    let Some(mut object) = hand.take(alloc) else {
+        return Status::BadHandle.code();
+    };
+    let code = object.busy(into);
+    *hand = Handle::of(object);
+    code
+}
+
+#[unsafe(no_mangle)]
+pub extern "C" fn tags_show(alloc: Global, hand: &mut Handle, kind: u32, sizes: &mut Sizes) -> i32
+    ensures calls { CallsBy (SaysShown kind sizes.new result) result hand.old.object.value hand.new.object.value }
+    ensures kept { IsRefusal result → sizes.new ≡ sizes.old }
+{
+    let Some(mut object) = hand.take(alloc) else {
+        return Status::BadHandle.code();
+    };
+    let code = object.show(kind, sizes);
+    *hand = Handle::of(object);
+    code
+}
+
+#[unsafe(no_mangle)]
+pub extern "C" fn tags_wakes(alloc: Global, hand: &mut Handle, counts: &mut Counts) -> i32
+    ensures calls { CallsBy (SaysWakes counts.new result) result hand.old.object.value hand.new.object.value }
+    ensures kept { IsRefusal result → counts.new ≡ counts.old }
+{
+    let Some(mut object) = hand.take(alloc) else {
+        return Status::BadHandle.code();
+    };
+    let code = object.wakes(counts);
+    *hand = Handle::of(object);
+    code
+}

@@ -1,0 +1,89 @@
+//! What opens tags, hands their hands out, and ends them.
+ghost use Rattle.std.specs.Prelude.{◌≡◌, ◌≤◌, [], IfOk, IfErr, IfSome, vec_len, vec_capacity};
+ghost use Rattle.std.specs.Arc.{arc_value};
+ghost use Rattle.tag_c.specs.Pools.{Opens, IsCause, LacksHand, Gathers};
+
+use crate::berths::berth_of;
+use crate::member::Member;
+use crate::shared::Shared;
+use crate::status::Status;
+use std::alloc::Global;
+use std::sync::Arc;
+use tag_sets::{Hand, Options, QueueTotals, SetFault, Tags};
+
+/// Tags, and room for all their hands.
+#[derive(Drop)]
+pub struct Pool {
+    pub shared: Arc<Shared, Global>,
+    pub room: Vec<Hand<u64>>,
+    ghost roomy: { (room.items ≡ []) × (vec_len (arc_value shared).berths ≤ vec_capacity room) },
+}
+
+impl Pool {
+    pub fn open(
+        alloc: Global,
+        total: u32,
+        reserved: u32,
+        options: Options,
+    ) -> Result<Pool, SetFault>
+        ensures ok { IfOk result (λ pool. Opens total reserved options (arc_value pool.shared).tags) }
+        ensures cause { IfErr result (IsCause total reserved options) }
+    {
+        let (tags, hands) = Tags::open(alloc, total, reserved, options, 0)?;
+        let mut hands = hands;
+        let Ok(mut berths) = Vec::with_capacity(alloc, hands.len()) else {
+            tags.discard();
+            return Err(SetFault::Memory);
+        };
+        while let Some(hand) = hands.pop() {
+            berths.push_reserved(berth_of(hand));
+        }
+        let shared = Shared {
+            tags,
+            total,
+            berths,
+        };
+        match Arc::new(alloc, shared) {
+            Ok(shared) => Ok(Pool {
+                shared,
+                room: hands,
+            }),
+            Err(_) => Err(SetFault::Memory),
+        }
+    }
+
+    /// A hand that no thread has. Placed, it begins its next gets in its own part of the tags.
+    pub fn join(&self, placed: bool) -> Result<Member, Status>
+        ensures ok { IfOk result (λ member. arc_value member.shared ≡ arc_value self.now.shared) }
+        ensures why { IfErr result LacksHand }
+    {
+        let Ok(shared) = Arc::try_clone(&self.shared) else {
+            return Err(Status::NotOpened(SetFault::Memory));
+        };
+        let Some(mut hand) = shared.take_hand() else {
+            return Err(Status::NoHand);
+        };
+        if placed {
+            shared.tags.place(&mut hand);
+        }
+        Ok(Member { shared, hand })
+    }
+
+    /// Whether all hands are back.
+    pub fn is_alone(&self) -> bool {
+        Arc::strong_count(&self.shared) == 1
+    }
+
+    /// Ends the tags where all hands are back, and hands the pool back where one is out. `None` says that a hand is missing, which
+    /// does not happen.
+    pub fn close(self) -> Result<Option<QueueTotals>, Pool>
+        ensures ok { IfOk result (λ totals. IfSome totals (Gathers (arc_value self.shared).tags)) }
+        ensures err { IfErr result (λ back. back ≡ self) }
+    {
+        let Pool { shared, room } = self;
+        match Arc::try_unwrap(shared) {
+            Ok(shared) => Ok(shared.gather(room)),
+            Err(shared) => Err(Pool { shared, room }),
+        }
+    }
+}

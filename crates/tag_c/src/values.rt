@@ -1,0 +1,114 @@
+//! The values beside a hand's tags, and how tags pass from hand to hand, through its handle.
+ghost use Rattle.std.specs.Prelude.{◌≡◌};
+ghost use Rattle.tag_c.specs.Calls.{Calls, CallsBy, Through, DoesRead, DoesWrite, DoesPost, DoesTake};
+ghost use Rattle.tag_c.specs.Codes.{IsRefusal, code_of_done};
+
+use crate::codes::{done_code, value_code};
+use crate::handle::Handle;
+use crate::object::{Kind, Object};
+use crate::status::Status;
+use std::alloc::Global;
+
+impl Object {
+    #[inline]
+    pub fn read(&mut self, tag: u32, value: &mut u64) -> i32
+        ensures calls { Calls (Through (DoesRead tag value.new) code_of_done result) result self.old self.new }
+        ensures kept { IsRefusal result → value.new ≡ value.old }
+    {
+        let Kind::Member(member) = &mut self.kind else {
+            return Status::BadHandle.code();
+        };
+        value_code(member.shared.tags.read(&mut member.hand, tag), value)
+    }
+
+    #[inline]
+    pub fn write(&mut self, tag: u32, value: u64, former: &mut u64) -> i32
+        ensures calls { Calls (Through (DoesWrite tag value former.new) code_of_done result) result self.old self.new }
+        ensures kept { IsRefusal result → former.new ≡ former.old }
+    {
+        let Kind::Member(member) = &mut self.kind else {
+            return Status::BadHandle.code();
+        };
+        value_code(
+            member.shared.tags.write(&mut member.hand, tag, value),
+            former,
+        )
+    }
+
+    #[inline]
+    pub fn post(&mut self, tag: u32) -> i32
+        ensures { Calls (Through (DoesPost tag) code_of_done result) result self.old self.new }
+    {
+        let Kind::Member(member) = &mut self.kind else {
+            return Status::BadHandle.code();
+        };
+        done_code(member.shared.tags.post(&mut member.hand, tag))
+    }
+
+    #[inline]
+    pub fn take(&mut self, tag: u32) -> i32
+        ensures { Calls (Through (DoesTake tag) code_of_done result) result self.old self.new }
+    {
+        let Kind::Member(member) = &mut self.kind else {
+            return Status::BadHandle.code();
+        };
+        done_code(member.shared.tags.take(&mut member.hand, tag))
+    }
+}
+
+#[unsafe(no_mangle)]
+pub extern "C" fn tags_read(alloc: Global, hand: &mut Handle, tag: u32, value: &mut u64) -> i32
+    ensures calls { CallsBy (Through (DoesRead tag value.new) code_of_done result) result hand.old.object.value hand.new.object.value }
+    ensures kept { IsRefusal result → value.new ≡ value.old }
+{
+    let Some(mut object) = hand.take(alloc) else {
+        return Status::BadHandle.code();
+    };
+    let code = object.read(tag, value);
+    *hand = Handle::of(object);
+    code
+}
+
+#[unsafe(no_mangle)]
+pub extern "C" fn tags_write(
+    alloc: Global,
+    hand: &mut Handle,
+    tag: u32,
+    value: u64,
+    former: &mut u64,
+) -> i32
+    ensures calls { CallsBy (Through (DoesWrite tag value former.new) code_of_done result) result
+        hand.old.object.value hand.new.object.value }
+    ensures kept { IsRefusal result → former.new ≡ former.old }
+{
+    let Some(mut object) = hand.take(alloc) else {
+        return Status::BadHandle.code();
+    };
+    let code = object.write(tag, value, former);
+    *hand = Handle::of(object);
+    code
+}
+
+#[unsafe(no_mangle)]
+pub extern "C" fn tags_post(alloc: Global, hand: &mut Handle, tag: u32) -> i32
+    ensures { CallsBy (Through (DoesPost tag) code_of_done result) result hand.old.object.value hand.new.object.value }
+{
+    let Some(mut object) = hand.take(alloc) else {
+        return Status::BadHandle.code();
+    };
+    let code = object.post(tag);
+    *hand = Handle::of(object);
+    code
+}
+
+#[unsafe(no_mangle)]
+pub extern "C" fn tags_take(alloc: Global, hand: &mut Handle, tag: u32) -> i32
+    ensures { CallsBy (Through (DoesTake tag) code_of_done result) result hand.old.object.value hand.new.object.value }
+{
+    let Some(mut object) = hand.take(alloc) else {
+        return Status::BadHandle.code();
+    };
+    let code = object.take(tag);
+    *hand = Handle::of(object);
+    code
+}
