@@ -72,7 +72,8 @@ add_up {R} tags hands own = record {
   standing = sym (parts_sum (λ hand. stands_one hand.ordinary) (λ p. cond p.stands 1 0) hands (λ k d l. refl))
       ∙ standing_sum hands
       ∙ is_count_by (sum_of stands_one) (λ agent. is_some (standing_of_agent agent)) refl
-      (λ agent agents. one_more (is_some (standing_of_agent agent)) (sum_of stands_one agents)) (map ordinary_part hands);
+      (λ agent agents. one_more (is_some (standing_of_agent agent)) (sum_of stands_one agents))
+      (map ordinary_part hands);
 }
   where
     one_more : (b : Bool) (n : ℕ) → cond b 1 0 + n ≡ cond b (1 + n) n

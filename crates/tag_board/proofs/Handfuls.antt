@@ -14,7 +14,8 @@ use Rattle.tag_board.specs.Parts.{holds, record_in, part_of}
 use Rattle.tag_board.specs.Replays.{won_more, joined, won, left, cleared, standing}
 use Rattle.tag_board.proofs.Tallies.{Tallies}
 
--- the caller counts so many tags more, won of one set and given back; it stands where it stood, and its gets go round as before
+-- the caller counts so many tags more, won of one set and given back; it stands where it stood, and its gets go round
+-- as before
 pub record PartTallies {R : Type 0} (kind : Kind) (n back : ℕ) (old new : Hand R) : Type 0 where
   pub won_is : (k : Kind) → (part_of new).won k ≡ won_more kind n (part_of old).won k
   pub back_is : (part_of new).back ≡ (part_of old).back + back
@@ -27,7 +28,8 @@ module _ {R : Type 0} (old new : Hand R) where
   pub part_tallies : (kind : Kind) (n back : ℕ) → Tallies n back (agent_of old kind) (agent_of new kind)
       → agent_of new (other_kind kind) ≡ agent_of old (other_kind kind) → PartTallies kind n back old new
   part_tallies Ordinary n back t other =
-      let same : record_in new Reserved ≡ record_in old Reserved = ap (λ (a : Agent R). record_of (queue.caller_of a)) other in
+      let same : record_in new Reserved ≡ record_in old Reserved =
+      ap (λ (a : Agent R). record_of (queue.caller_of a)) other in
       let even = ap (λ (r : Record R). r.back) same in let more = t.counts.back_is in record {
         won_is = elim [ Ordinary ↦ t.counts.won_is | Reserved ↦ ap (λ (r : Record R). r.won) same ];
         back_is = omega arith;
@@ -36,7 +38,8 @@ module _ {R : Type 0} (old new : Hand R) where
         number = sym new.ordinary.numbers.0 ∙ t.counts.number_is ∙ old.ordinary.numbers.0;
       }
   part_tallies Reserved n back t other =
-      let same : record_in new Ordinary ≡ record_in old Ordinary = ap (λ (a : Agent R). record_of (queue.caller_of a)) other in
+      let same : record_in new Ordinary ≡ record_in old Ordinary =
+      ap (λ (a : Agent R). record_of (queue.caller_of a)) other in
       let even = ap (λ (r : Record R). r.back) same in let more = t.counts.back_is in record {
         won_is = elim [ Ordinary ↦ ap (λ (r : Record R). r.won) same | Reserved ↦ t.counts.won_is ];
         back_is = omega arith;
@@ -55,18 +58,20 @@ module _ {R : Type 0} (old new : Hand R) where
   module _ (kind : Kind) (test : ℕ → Bool) where
     pub part_won : (n : ℕ) → PartTallies kind n 0 old new → ((tag : ℕ) → holds new tag ≡ (holds old tag || test tag))
         → part_of new ≡ won kind test n (part_of old)
-    part_won n t held = let back : (part_of new).back ≡ (part_of old).back = let e = t.back_is in omega arith in λ j. record {
-      held = λ tag. held tag j;
-      won = λ k. t.won_is k j;
-      back = back j;
-      stands = t.stands j;
-      round_robin = t.round j;
-    }
+    part_won n t held = let back : (part_of new).back ≡ (part_of old).back = let e = t.back_is in omega arith in
+        λ j. record {
+          held = λ tag. held tag j;
+          won = λ k. t.won_is k j;
+          back = back j;
+          stands = t.stands j;
+          round_robin = t.round j;
+        }
 
     pub part_joined : PartTallies kind 0 0 old new → ((tag : ℕ) → holds new tag ≡ (holds old tag || test tag))
         → part_of new ≡ joined test (part_of old)
     part_joined t held = let back : (part_of new).back ≡ (part_of old).back = let e = t.back_is in omega arith in
-        let same : (k : Kind) → (part_of new).won k ≡ (part_of old).won k = λ k. t.won_is k ∙ none_more kind (part_of old).won k in λ j. record {
+        let same : (k : Kind) → (part_of new).won k ≡ (part_of old).won k =
+        λ k. t.won_is k ∙ none_more kind (part_of old).won k in λ j. record {
           held = λ tag. held tag j;
           won = λ k. same k j;
           back = back j;
@@ -77,7 +82,8 @@ module _ {R : Type 0} (old new : Hand R) where
     pub part_left : PartTallies kind 0 0 old new → ((tag : ℕ) → holds new tag ≡ (holds old tag && not (test tag)))
         → part_of new ≡ left test (part_of old)
     part_left t held = let back : (part_of new).back ≡ (part_of old).back = let e = t.back_is in omega arith in
-        let same : (k : Kind) → (part_of new).won k ≡ (part_of old).won k = λ k. t.won_is k ∙ none_more kind (part_of old).won k in λ j. record {
+        let same : (k : Kind) → (part_of new).won k ≡ (part_of old).won k =
+        λ k. t.won_is k ∙ none_more kind (part_of old).won k in λ j. record {
           held = λ tag. held tag j;
           won = λ k. same k j;
           back = back j;
@@ -85,10 +91,12 @@ module _ {R : Type 0} (old new : Hand R) where
           round_robin = t.round j;
         }
 
-    pub part_cleared : (n : ℕ) → PartTallies kind 0 n old new → ((tag : ℕ) → holds new tag ≡ (holds old tag && not (test tag)))
+    pub part_cleared : (n : ℕ) → PartTallies kind 0 n old new
+        → ((tag : ℕ) → holds new tag ≡ (holds old tag && not (test tag)))
         → part_of new ≡ cleared test n (part_of old)
     part_cleared n t held =
-        let same : (k : Kind) → (part_of new).won k ≡ (part_of old).won k = λ k. t.won_is k ∙ none_more kind (part_of old).won k in λ j. record {
+        let same : (k : Kind) → (part_of new).won k ≡ (part_of old).won k =
+        λ k. t.won_is k ∙ none_more kind (part_of old).won k in λ j. record {
           held = λ tag. held tag j;
           won = λ k. same k j;
           back = t.back_is j;
@@ -97,9 +105,11 @@ module _ {R : Type 0} (old new : Hand R) where
         }
 
   -- a caller that counts no tag more, and holds what it held, is as it was
-  pub part_same : (kind : Kind) → PartTallies kind 0 0 old new → ((tag : ℕ) → holds new tag ≡ holds old tag) → part_of new ≡ part_of old
+  pub part_same : (kind : Kind) → PartTallies kind 0 0 old new → ((tag : ℕ) → holds new tag ≡ holds old tag)
+      → part_of new ≡ part_of old
   part_same kind t held = let back : (part_of new).back ≡ (part_of old).back = let e = t.back_is in omega arith in
-      let same : (k : Kind) → (part_of new).won k ≡ (part_of old).won k = λ k. t.won_is k ∙ none_more kind (part_of old).won k in λ j. record {
+      let same : (k : Kind) → (part_of new).won k ≡ (part_of old).won k =
+      λ k. t.won_is k ∙ none_more kind (part_of old).won k in λ j. record {
         held = λ tag. held tag j;
         won = λ k. same k j;
         back = back j;
@@ -108,12 +118,14 @@ module _ {R : Type 0} (old new : Hand R) where
       }
 
   -- a caller whose agent in the ordinary set keeps its tags, its hint and its counts changes at most in where it stands
-  pub part_standing : (stands : Bool) → queue.caller_of new.ordinary ≡ queue.caller_of old.ordinary → hint_of new Ordinary ≡ hint_of old Ordinary
+  pub part_standing : (stands : Bool) → queue.caller_of new.ordinary ≡ queue.caller_of old.ordinary
+      → hint_of new Ordinary ≡ hint_of old Ordinary
       → new.reserved ≡ old.reserved → ((tag : ℕ) → holds new tag ≡ holds old tag) → is_some (standing_of new) ≡ stands
       → (part_of new ≡ standing stands (part_of old)) × (number_of new ≡ number_of old)
   part_standing stands caller hint other held is =
       let here : record_in new Ordinary ≡ record_in old Ordinary = ap (λ (c : Caller R). record_of c) caller in
-      let there : record_in new Reserved ≡ record_in old Reserved = ap (λ (a : Agent R). record_of (queue.caller_of a)) other in
+      let there : record_in new Reserved ≡ record_in old Reserved =
+      ap (λ (a : Agent R). record_of (queue.caller_of a)) other in
       let one = ap (λ (r : Record R). r.back) here in let two = ap (λ (r : Record R). r.back) there in
       let back : (part_of new).back ≡ (part_of old).back = omega arith in
       let same : (k : Kind) → (part_of new).won k ≡ (part_of old).won k =

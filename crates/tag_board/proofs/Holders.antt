@@ -18,22 +18,27 @@ pub record HoldsAt {R : Type 0} (hands : List (Hand R)) (place tag : ℕ) : Type
   pub holds : Holds hand tag
 
 -- a caller that holds a tag is the hand at its place
-pub holder : {R : Type 0} (hands : List (Hand R)) (place tag : ℕ) → (get_or (map part_of hands) place (idle false)).held tag ≡ true
+pub holder : {R : Type 0} (hands : List (Hand R)) (place tag : ℕ)
+    → (get_or (map part_of hands) place (idle false)).held tag ≡ true
     → HoldsAt hands place tag
 holder [] place tag e = absurd (cc)
-holder (hand ∷ hands) zero tag e = record { hand = hand; within = omega arith; here = refl; holds = holds_true hand tag e }
+holder (hand ∷ hands) zero tag e = record
+    { hand = hand; within = omega arith; here = refl; holds = holds_true hand tag e }
 holder (hand ∷ hands) (suc place) tag e = let h = holder hands place tag e in let within = h.within in
     record { hand = h.hand; within = omega arith; here = h.here; holds = h.holds }
 
 -- what is true of two places is true of the later and of the earlier
 pub at_both : (P : ℕ → Type 0) (a b : ℕ) → P a → P b → P (max a b) × P (min a b)
 at_both P a b one other = dite (dec_lt a b)
-    (λ (less : a < b). let high : b ≡ max a b = omega arith in let low : a ≡ min a b = omega arith in (subst P high other, subst P low one))
-    (λ no. let high : a ≡ max a b = omega arith in let low : b ≡ min a b = omega arith in (subst P high one, subst P low other))
+    (λ (less : a < b). let high : b ≡ max a b = omega arith in
+    let low : a ≡ min a b = omega arith in (subst P high other, subst P low one))
+    (λ no. let high : a ≡ max a b = omega arith in
+    let low : b ≡ min a b = omega arith in (subst P high one, subst P low other))
 
 -- a hand that doesn't hold the tag is a caller that doesn't
 pub unheld_at : {R : Type 0} (tags : Tags R) (hands : List (Hand R)) (place : ℕ) (hand : Hand R) → place < length hands
-    → hand ≡ get_or hands place hand → (tag : ℕ) → ¬ (Holds hand tag) → ((state_of_all tags hands).part place).held tag ≡ false
+    → hand ≡ get_or hands place hand → (tag : ℕ) → ¬ (Holds hand tag)
+    → ((state_of_all tags hands).part place).held tag ≡ false
 unheld_at tags hands place hand within here tag free =
     ap (λ (p : Part). p.held tag) (part_here tags hands place hand hand within here) ∙ not_holds hand tag free
 
@@ -41,7 +46,8 @@ unheld_at tags hands place hand within here tag free =
 module _ {R : Type 0} (tags : Tags R) (hands : List (Hand R)) (own : All (IsHandOf tags) hands) (tag a b : ℕ)
     (one : (a < length hands) × (((state_of_all tags hands).part a).held tag ≡ true))
     (other : (b < length hands) × (((state_of_all tags hands).part b).held tag ≡ true)) where
-  own_holder : (place : ℕ) (hand : Hand R) → (place < length hands) × (((state_of_all tags hands).part place).held tag ≡ true)
+  own_holder : (place : ℕ) (hand : Hand R) → (place < length hands)
+      × (((state_of_all tags hands).part place).held tag ≡ true)
       → hand ≡ get_or hands place hand → IsHandOf tags hand × Holds hand tag
   own_holder place hand at here =
       (own_here tags hands place hand at.0 here own, held_here tags hands place hand hand at.0 here tag at.1)

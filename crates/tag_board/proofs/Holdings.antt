@@ -42,10 +42,12 @@ module _ {R : Type 0} where
 
     pub holds_less : HoldsLess named old new → (tag : ℕ) → holds new tag ≡ (holds old tag && not (test tag))
     holds_less less tag = same_test (holds new tag) (holds old tag && not (test tag))
-        (λ e. let h = holds_true new tag e in and_from (holds old tag) (not (test tag)) (true_holds old tag (less.none_else tag h))
+        (λ e. let h = holds_true new tag e in
+        and_from (holds old tag) (not (test tag)) (true_holds old tag (less.none_else tag h))
         (not_from_false (test tag) (false_from_ne_true (test tag) (λ t. less.gone tag ((names tag).0 t) h))))
         (λ e. let both = and_parts (holds old tag) (not (test tag)) e in
-        true_holds new tag (less.kept tag (λ n. both_ways (test tag) (not-true (test tag) both.1) ((names tag).1 n)) (holds_true old tag both.0)).0)
+        true_holds new tag (less.kept tag (λ n. both_ways (test tag) (not-true (test tag) both.1) ((names tag).1 n))
+        (holds_true old tag both.0)).0)
 
   pub holds_same : (old new : Hand R) → HoldsSame old new → (tag : ℕ) → holds new tag ≡ holds old tag
   holds_same old new same tag = same_test (holds new tag) (holds old tag)

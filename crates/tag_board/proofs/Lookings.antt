@@ -40,7 +40,8 @@ not_both a n = dite (ℕ_discrete n 1)
     let few : one_if (a && nat_eq n 0) ≤ 1 = at_most_one (a && nat_eq n 0) in omega arith)
 
 -- no tag is both busy and set aside
-few_shown : (l : Layout) (found : List (ℕ × ℕ)) (n : ℕ) → count_below (is_busy_in l found) n + count_below (is_aside_in l found) n ≤ n
+few_shown : (l : Layout) (found : List (ℕ × ℕ)) (n : ℕ)
+    → count_below (is_busy_in l found) n + count_below (is_aside_in l found) n ≤ n
 few_shown l found zero = omega arith
 few_shown l found (suc n) =
     let before = few_shown l found n in let pair = word_in found (word_of l n) in
@@ -54,23 +55,28 @@ module _ {R : Type 0} (tags : Tags R) (hands : List (Hand R)) where
 
   module _ (old new : Hand R) where
     -- no bit behind the last tag is set
-    pub busy_there : (bits : List ℕ) (count tag : ℕ) → busy.ListsBusy tags bits count old new → total_of tags ≤ tag → tag < 64 * length bits
+    pub busy_there : (bits : List ℕ) (count tag : ℕ) → busy.ListsBusy tags bits count old new → total_of tags ≤ tag
+        → tag < 64 * length bits
         → bit_in 64 bits tag ≡ 0
     busy_there bits count tag b high low =
         let few : nat_lt tag (reserved_of tags) ≡ false = le-ltb tag (reserved_of tags) (omega arith) in
         let none : nat_lt tag (total_of tags) ≡ false = le-ltb tag (total_of tags) high in
         let l = is_busy_in (layout_of tags Ordinary) b.ordinary (tag - reserved_of tags) in
         b.bits_are tag low
-        ∙ ap (λ (t : Bool). cond (if t then is_busy_in (layout_of tags Reserved) b.reserved tag else (nat_lt tag (total_of tags) && l)) 1 0) few
+        ∙ ap (λ (t : Bool). cond (if t then is_busy_in (layout_of tags Reserved) b.reserved tag else
+        (nat_lt tag (total_of tags) && l)) 1 0) few
         ∙ ap (λ (t : Bool). cond (t && l) 1 0) none
 
-    pub show_depth : (kind : Kind) (shown : Shown) → shows.Shows tags kind shown old new → shown.depth ≡ depth_of (state_of_all tags hands) kind
+    pub show_depth : (kind : Kind) (shown : Shown) → shows.Shows tags kind shown old new
+        → shown.depth ≡ depth_of (state_of_all tags hands) kind
     show_depth kind shown s = ap (λ (x : Shown). x.depth) s.shown_is ∙ depth_is kind
 
     pub show_words : (kind : Kind) (shown : Shown) → shows.Shows tags kind shown old new
-        → shown.map_nr ≡ (depth_of (state_of_all tags hands) kind + (state_of_all tags hands).terms.bits kind - 1) / (state_of_all tags hands).terms.bits kind
+        → shown.map_nr ≡ (depth_of (state_of_all tags hands) kind + (state_of_all tags hands).terms.bits kind - 1)
+        / (state_of_all tags hands).terms.bits kind
     show_words kind shown s = ap (λ (x : Shown). x.map_nr) s.shown_is
-        ∙ ap (λ (d : ℕ). (d + (state_of_all tags hands).terms.bits kind - 1) / (state_of_all tags hands).terms.bits kind) (depth_is kind)
+        ∙ ap (λ (d : ℕ). (d + (state_of_all tags hands).terms.bits kind - 1)
+        / (state_of_all tags hands).terms.bits kind) (depth_is kind)
 
     pub show_few : (kind : Kind) (shown : Shown) → shows.Shows tags kind shown old new
         → shown.busy + shown.cleared ≤ depth_of (state_of_all tags hands) kind
@@ -81,7 +87,8 @@ module _ {R : Type 0} (tags : Tags R) (hands : List (Hand R)) where
     pub dump_there : (kind : Kind) (bytes : List ℕ) (tag : ℕ) → dumps.Packs (layout_of tags kind) kind bytes old new
         → depth_of (state_of_all tags hands) kind ≤ tag → bit_in 8 bytes tag ≡ 0
     dump_there kind bytes tag p high =
-        let d = depth_is kind in let none : nat_lt tag (layout_of tags kind).depth ≡ false = le-ltb tag (layout_of tags kind).depth (omega arith) in
+        let d = depth_is kind in let none : nat_lt tag (layout_of tags kind).depth ≡ false =
+        le-ltb tag (layout_of tags kind).depth (omega arith) in
         p.bits_are tag ∙ ap (λ (t : Bool). cond (t && is_busy_in (layout_of tags kind) p.found tag) 1 0) none
 
 -- what a call left in the whole of a list
@@ -89,7 +96,8 @@ pub whole_list : (items into : List ℕ) (n : ℕ) → length into ≡ n → tak
 whole_list items into n long = take_at into (drop (length into) items) n long
 
 -- what a call left of a list that it filled whole
-pub filled : (items into bytes : List ℕ) (n count : ℕ) → length items ≡ n → into ≡ bytes ++ drop count items → length bytes ≡ count
+pub filled : (items into bytes : List ℕ) (n count : ℕ) → length items ≡ n → into ≡ bytes ++ drop count items
+    → length bytes ≡ count
     → count ≡ n → bytes ≡ take n (into ++ drop (length into) items)
 filled items into bytes n count long is few same =
     let none : drop count items ≡ [] = drop_all count items (omega arith) in

@@ -40,7 +40,8 @@ abbrev pub as_before : Part → Part
 as_before p = p
 
 -- the number is as before, whether the call is refused or not
-pub same_number : {R A E : Type 0} (old new : Hand R) (r : Result A E) → OnOk r (number_of new ≡ number_of old) → OnErr r (new ≡ old)
+pub same_number : {R A E : Type 0} (old new : Hand R) (r : Result A E) → OnOk r (number_of new ≡ number_of old)
+    → OnErr r (new ≡ old)
     → number_of new ≡ number_of old
 same_number old new (Ok a) moved same = moved
 same_number old new (Err e) moved same = ap number_of same
@@ -56,7 +57,8 @@ names_answer (Some answer) tag = (λ e. eqb-true tag answer e, λ e. eq-eqb tag 
 pub names_run : (answer : Option (ℕ × ℕ)) → Names (is_in_run answer) (gets.IsInRun answer)
 names_run None tag = (λ e. absurd cc, λ n. absurd n)
 names_run (Some run) tag = (
-  (λ e. let both = and_parts (nat_le run.0 tag) (nat_eq (bit_at run.1 (tag - run.0)) 1) e in let le = leb-true run.0 tag both.0 in
+  (λ e. let both = and_parts (nat_le run.0 tag) (nat_eq (bit_at run.1 (tag - run.0)) 1) e in
+      let le = leb-true run.0 tag both.0 in
       (tag - run.0, omega arith, eqb-true (bit_at run.1 (tag - run.0)) 1 both.1)),
   (λ n. let e = n.1 in let less : tag - run.0 ≡ n.0 = omega arith in
       and_from (nat_le run.0 tag) (nat_eq (bit_at run.1 (tag - run.0)) 1) (le-leb run.0 tag (omega arith))
@@ -76,7 +78,8 @@ same_count : (reserved : ℕ) (number : Option ℕ) → count_of (gets.whole res
 same_count reserved None = refl
 same_count reserved (Some n) = refl
 
-same_run_count : (reserved : ℕ) (number : Option (ℕ × ℕ)) → count_of_run (gets.whole_run reserved number) ≡ count_of_run number
+same_run_count : (reserved : ℕ) (number : Option (ℕ × ℕ))
+    → count_of_run (gets.whole_run reserved number) ≡ count_of_run number
 same_run_count reserved None = refl
 same_run_count reserved (Some run) = refl
 
@@ -84,9 +87,12 @@ module _ {R : Type 0} (old new : Hand R) where
   pub get_moves : (tags : Tags R) (answer : Option ℕ) → gets.Gets tags answer old new
       → Moves (won Ordinary (is_answer answer) (count_of answer)) old new
   get_moves tags answer g =
-      let same : count_of answer ≡ count_of g.number = ap count_of g.answer_is ∙ same_count (reserved_of tags) g.number in
-      let t : PartTallies Ordinary (count_of answer) 0 old new = subst (λ (n : ℕ). PartTallies Ordinary n 0 old new) (sym same)
-      (part_tallies old new Ordinary (count_of g.number) 0 (tallies.gets_plain _ _ _ g.number g.set.changed) g.set.other) in record {
+      let same : count_of answer ≡ count_of g.number =
+      ap count_of g.answer_is ∙ same_count (reserved_of tags) g.number in
+      let t : PartTallies Ordinary (count_of answer) 0 old new =
+      subst (λ (n : ℕ). PartTallies Ordinary n 0 old new) (sym same)
+      (part_tallies old new Ordinary (count_of g.number) 0 (tallies.gets_plain _ _ _ g.number g.set.changed)
+      g.set.other) in record {
         part = part_won old new Ordinary (is_answer answer) (count_of answer) t
             (holds_more old new (is_answer answer) (gets.IsAnswer answer) (names_answer answer) g.more);
         number = t.number;
@@ -95,9 +101,12 @@ module _ {R : Type 0} (old new : Hand R) where
   pub shallow_moves : (tags : Tags R) (depth : ℕ) (answer : Option ℕ) → gets.GetsShallow tags depth answer old new
       → Moves (won Ordinary (is_answer answer) (count_of answer)) old new
   shallow_moves tags depth answer g =
-      let same : count_of answer ≡ count_of g.number = ap count_of g.answer_is ∙ same_count (reserved_of tags) g.number in
-      let t : PartTallies Ordinary (count_of answer) 0 old new = subst (λ (n : ℕ). PartTallies Ordinary n 0 old new) (sym same)
-      (part_tallies old new Ordinary (count_of g.number) 0 (tallies.gets_shallow _ _ _ depth g.number g.set.changed) g.set.other) in record {
+      let same : count_of answer ≡ count_of g.number =
+      ap count_of g.answer_is ∙ same_count (reserved_of tags) g.number in
+      let t : PartTallies Ordinary (count_of answer) 0 old new =
+      subst (λ (n : ℕ). PartTallies Ordinary n 0 old new) (sym same)
+      (part_tallies old new Ordinary (count_of g.number) 0 (tallies.gets_shallow _ _ _ depth g.number g.set.changed)
+      g.set.other) in record {
         part = part_won old new Ordinary (is_answer answer) (count_of answer) t
             (holds_more old new (is_answer answer) (gets.IsAnswer answer) (names_answer answer) g.more);
         number = t.number;
@@ -107,7 +116,8 @@ module _ {R : Type 0} (old new : Hand R) where
       → Moves (won Reserved (is_answer answer) (count_of answer)) old new
   reserved_moves tags answer g =
       let t : PartTallies Reserved (count_of answer) 0 old new =
-      part_tallies old new Reserved (count_of answer) 0 (tallies.gets_plain _ _ _ answer g.set.changed) g.set.other in record {
+      part_tallies old new Reserved (count_of answer) 0 (tallies.gets_plain _ _ _ answer g.set.changed) g.set.other in
+      record {
         part = part_won old new Reserved (is_answer answer) (count_of answer) t
             (holds_more old new (is_answer answer) (gets.IsAnswer answer) (names_answer answer) g.more);
         number = t.number;
@@ -116,9 +126,12 @@ module _ {R : Type 0} (old new : Hand R) where
   pub batch_moves : (tags : Tags R) (n : ℕ) (answer : Option (ℕ × ℕ)) → gets.GetsBatch tags n answer old new
       → Moves (won Ordinary (is_in_run answer) (count_of_run answer)) old new
   batch_moves tags n answer g =
-      let same : count_of_run answer ≡ count_of_run g.number = ap count_of_run g.answer_is ∙ same_run_count (reserved_of tags) g.number in
-      let t : PartTallies Ordinary (count_of_run answer) 0 old new = subst (λ (n : ℕ). PartTallies Ordinary n 0 old new) (sym same)
-      (part_tallies old new Ordinary (count_of_run g.number) 0 (tallies.gets_batch _ _ _ n g.number g.set.changed) g.set.other) in record {
+      let same : count_of_run answer ≡ count_of_run g.number =
+      ap count_of_run g.answer_is ∙ same_run_count (reserved_of tags) g.number in
+      let t : PartTallies Ordinary (count_of_run answer) 0 old new =
+      subst (λ (n : ℕ). PartTallies Ordinary n 0 old new) (sym same)
+      (part_tallies old new Ordinary (count_of_run g.number) 0 (tallies.gets_batch _ _ _ n g.number g.set.changed)
+      g.set.other) in record {
         part = part_won old new Ordinary (is_in_run answer) (count_of_run answer) t
             (holds_more old new (is_in_run answer) (gets.IsInRun answer) (names_run answer) g.more);
         number = t.number;
@@ -137,20 +150,24 @@ module _ {R : Type 0} (old new : Hand R) where
       let counted : clears.Counts tags kind 1 old new woken =
       subst (λ (r : ℕ). clears.Counts tags (kind_of r tag) 1 old new woken) (sym split) counts in
       let t : PartTallies kind 0 1 old new =
-      part_tallies old new kind 0 1 (tallies.puts _ _ _ number (stands_there tags kind 1 woken counted) c.set.changed) c.set.other in record {
-        part = part_cleared old new kind (nat_eq tag) 1 t (holds_less old new (nat_eq tag) (λ other. other ≡ tag) (names_one tag) c.less);
+      part_tallies old new kind 0 1 (tallies.puts _ _ _ number (stands_there tags kind 1 woken counted) c.set.changed)
+      c.set.other in record {
+        part = part_cleared old new kind (nat_eq tag) 1 t
+            (holds_less old new (nat_eq tag) (λ other. other ≡ tag) (names_one tag) c.less);
         number = t.number;
       }
 
   pub list_moves : (tags : Tags R) (list : List ℕ) (woken : ℕ) → batches.GivesBack tags list old new
       → clears.back_of new Ordinary ≡ clears.back_of old Ordinary + length list
-      → clears.Counts tags Ordinary (length list) old new woken → Moves (cleared (is_in_list list) (length list)) old new
+      → clears.Counts tags Ordinary (length list) old new woken
+      → Moves (cleared (is_in_list list) (length list)) old new
   list_moves tags list woken g back counts =
       let numbers : List ℕ = batches.numbers_of (reserved_of tags) list in
       let long : length numbers ≡ length list = length-map list (λ (tag : ℕ). tag - reserved_of tags) in
       let stands = stands_there tags Ordinary (length list) woken counts in
       let t : PartTallies Ordinary 0 (length list) old new = subst (λ (n : ℕ). PartTallies Ordinary 0 n old new) long
-      (part_tallies old new Ordinary 0 (length numbers) (tallies.gives _ _ _ numbers stands (omega arith) g.set.changed) g.set.other) in record {
+      (part_tallies old new Ordinary 0 (length numbers) (tallies.gives _ _ _ numbers stands (omega arith) g.set.changed)
+      g.set.other) in record {
         part = part_cleared old new Ordinary (is_in_list list) (length list) t
             (holds_less old new (is_in_list list) (Contains list) (names_list list) g.less);
         number = t.number;
@@ -159,37 +176,45 @@ module _ {R : Type 0} (old new : Hand R) where
   pub post_moves : (tag : ℕ) → slots.Posts tag old new → Moves (parted (nat_eq tag)) old new
   post_moves tag p =
       let kind = kind_of (split_of old) tag in let number : ℕ = number_in_set (split_of old) tag in
-      let t : PartTallies kind 0 0 old new = part_tallies old new kind 0 0 (tallies.posts _ _ number p.set.changed) p.set.other in record {
-        part = part_left old new kind (nat_eq tag) t (holds_less old new (nat_eq tag) (λ other. other ≡ tag) (names_one tag) p.less);
+      let t : PartTallies kind 0 0 old new =
+      part_tallies old new kind 0 0 (tallies.posts _ _ number p.set.changed) p.set.other in record {
+        part = part_left old new kind (nat_eq tag) t
+            (holds_less old new (nat_eq tag) (λ other. other ≡ tag) (names_one tag) p.less);
         number = t.number;
       }
 
   pub take_moves : (tag : ℕ) → slots.Takes tag old new → Moves (joined (nat_eq tag)) old new
   take_moves tag m =
       let kind = kind_of (split_of old) tag in let number : ℕ = number_in_set (split_of old) tag in
-      let t : PartTallies kind 0 0 old new = part_tallies old new kind 0 0 (tallies.takes _ _ number m.set.changed) m.set.other in record {
-        part = part_joined old new kind (nat_eq tag) t (holds_more old new (nat_eq tag) (λ other. other ≡ tag) (names_one tag) m.more);
+      let t : PartTallies kind 0 0 old new =
+      part_tallies old new kind 0 0 (tallies.takes _ _ number m.set.changed) m.set.other in record {
+        part = part_joined old new kind (nat_eq tag) t
+            (holds_more old new (nat_eq tag) (λ other. other ≡ tag) (names_one tag) m.more);
         number = t.number;
       }
 
   pub miss_moves : (tag : ℕ) → slots.Misses tag old new → Moves as_before old new
   miss_moves tag m =
       let kind = kind_of (split_of old) tag in let number : ℕ = number_in_set (split_of old) tag in
-      let t : PartTallies kind 0 0 old new = part_tallies old new kind 0 0 (tallies.misses _ _ number m.set.changed) m.set.other in record {
+      let t : PartTallies kind 0 0 old new =
+      part_tallies old new kind 0 0 (tallies.misses _ _ number m.set.changed) m.set.other in record {
         part = part_same old new kind t (holds_same old new m.same);
         number = t.number;
       }
 
-  pub look_moves : (l : Layout) (kind : Kind) (found : List (ℕ × ℕ)) → LooksAround l kind found old new → Moves as_before old new
+  pub look_moves : (l : Layout) (kind : Kind) (found : List (ℕ × ℕ)) → LooksAround l kind found old new
+      → Moves as_before old new
   look_moves l kind found a =
-      let t : PartTallies kind 0 0 old new = part_tallies old new kind 0 0 (tallies.finds _ _ found a.looks.changed) a.looks.other in record {
+      let t : PartTallies kind 0 0 old new =
+      part_tallies old new kind 0 0 (tallies.finds _ _ found a.looks.changed) a.looks.other in record {
         part = part_same old new kind t (holds_same old new a.same);
         number = t.number;
       }
 
   pub wait_moves : (group : ℕ) → waits.Enters group old new → Moves (standing true) old new
   wait_moves group e = let same = e.set.changed.same in
-      let both = part_standing old new true same.0 same.1 e.set.other (holds_same old new e.same) (ap is_some e.stands) in
+      let both = part_standing old new true same.0 same.1 e.set.other (holds_same old new e.same) (ap is_some e.stands)
+      in
       record { part = both.0; number = both.1 }
 
   pub leave_moves : (left : Left) → waits.Leaves left old new → standing_of new ≡ None → Moves (standing false) old new
@@ -199,11 +224,13 @@ module _ {R : Type 0} (old new : Hand R) where
 
   pub stay_moves : waits.Stays old new → Moves as_before old new
   stay_moves s = let same = s.set.changed in
-      let both = part_standing old new (part_of old).stands same.0 same.1 s.set.other (holds_same old new s.same) (ap is_some same.2.1) in
+      let both = part_standing old new (part_of old).stands same.0 same.1 s.set.other (holds_same old new s.same)
+      (ap is_some same.2.1) in
       record { part = both.0; number = both.1 }
 
 -- one look after another
-pub looks_moves : {R : Type 0} (old mid new : Hand R) → Moves as_before old mid → Moves as_before mid new → Moves as_before old new
+pub looks_moves : {R : Type 0} (old mid new : Hand R) → Moves as_before old mid → Moves as_before mid new
+    → Moves as_before old new
 looks_moves old mid new a b = record { part = b.part ∙ a.part; number = b.number ∙ a.number }
 
 module _ {R : Type 0} (old new : Hand R) where
@@ -216,4 +243,5 @@ module _ {R : Type 0} (old new : Hand R) where
       → tag < reserved_of tags → woken ≡ 0
   none_woken tags tag woken counts low =
       let c : clears.Counts tags Reserved 1 old new woken =
-      subst (λ (k : Kind). clears.Counts tags k 1 old new woken) (reserved_below (reserved_of tags) tag low).kind counts in c.0
+      subst (λ (k : Kind). clears.Counts tags k 1 old new woken) (reserved_below (reserved_of tags) tag low).kind counts
+      in c.0

@@ -6,7 +6,8 @@ pub ok_map : {A E : Type 0} {P Q : A → Type 0} (r : Result A E) → IfOk r P �
 ok_map (Ok a) p f = f a p
 ok_map (Err e) p f = tt
 
-pub both_ok : {A E P : Type 0} {Q T : A → Type 0} (r : Result A E) → OnOk r P → IfOk r Q → ((a : A) → P → Q a → T a) → IfOk r T
+pub both_ok : {A E P : Type 0} {Q T : A → Type 0} (r : Result A E) → OnOk r P → IfOk r Q → ((a : A) → P → Q a → T a)
+    → IfOk r T
 both_ok (Ok a) p q f = f a p q
 both_ok (Err e) p q f = tt
 
@@ -19,7 +20,8 @@ err_same X f (Ok a) h = tt
 err_same X f (Err e) h = h.1
 
 -- a refusal for the only cause that there may be
-pub err_since : {A E : Type 0} (X : Type 0) (f : E) (r : Result A E) → IfErr r (λ fault. (fault ≡ f) × X) → ¬ (IsOk r) → r ≡ Err f
+pub err_since : {A E : Type 0} (X : Type 0) (f : E) (r : Result A E) → IfErr r (λ fault. (fault ≡ f) × X) → ¬ (IsOk r)
+    → r ≡ Err f
 err_since X f (Ok a) h bad = absurd (bad refl)
 err_since X f (Err e) h bad = ap Err h.0
 

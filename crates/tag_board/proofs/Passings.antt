@@ -29,8 +29,10 @@ module _ {R : Type 0} (old new : Hand R) (tag : ℕ) where
   take_number (Err fault) takes refuses = refused_number fault refuses
 
   -- it is refused for a tag that is not there, or for one that is not posted
-  pub cause_of_take : (total : ℕ) (fault : TagFault) → (fault ≡ NoSuchTag → total ≤ tag) → (total ≤ tag → fault ≡ NoSuchTag)
-      → slots.RefusesTake tag fault old new → ((fault ≡ NoSuchTag) × (total ≤ tag)) ⊎ ((fault ≡ NotPosted) × (tag < total))
+  pub cause_of_take : (total : ℕ) (fault : TagFault) → (fault ≡ NoSuchTag → total ≤ tag)
+      → (total ≤ tag → fault ≡ NoSuchTag)
+      → slots.RefusesTake tag fault old new → ((fault ≡ NoSuchTag) × (total ≤ tag))
+      ⊎ ((fault ≡ NotPosted) × (tag < total))
   cause_of_take total fault there back (inl none) = inl (none.0, there none.0)
   cause_of_take total fault there back (inr missed) = inr (
     missed.0,
@@ -39,14 +41,19 @@ module _ {R : Type 0} (old new : Hand R) (tag : ℕ) where
   )
 
 -- a take that is refused leaves the world
-pub missed_state : {R : Type 0} (tags : Tags R) (hands : List (Hand R)) (i : ℕ) (old new : Hand R) → i < length hands → old ≡ get_or hands i old
-    → (tag : ℕ) (fault : TagFault) → slots.RefusesTake tag fault old new → state_of_all tags (set hands i new) ≡ state_of_all tags hands
-missed_state tags hands i old new within here tag fault (inl none) = ap (state_of_all tags) (unmoved tags hands i old new within here none.1)
-missed_state tags hands i old new within here tag fault (inr missed) = same_state (state_of_all tags hands) (state_of_all tags (set hands i new)) i
+pub missed_state : {R : Type 0} (tags : Tags R) (hands : List (Hand R)) (i : ℕ) (old new : Hand R) → i < length hands
+    → old ≡ get_or hands i old
+    → (tag : ℕ) (fault : TagFault) → slots.RefusesTake tag fault old new
+    → state_of_all tags (set hands i new) ≡ state_of_all tags hands
+missed_state tags hands i old new within here tag fault (inl none) =
+    ap (state_of_all tags) (unmoved tags hands i old new within here none.1)
+missed_state tags hands i old new within here tag fault (inr missed) =
+    same_state (state_of_all tags hands) (state_of_all tags (set hands i new)) i
     (changes tags hands i old new within here as_before (miss_moves old new tag missed.1).part)
 
 -- so the answer is the refusal of a take
-pub refused_take : (tag caller : ℕ) (r : Result (Unit {0}) TagFault) (fault : TagFault) → IsErr r → IfErr r (λ f. f ≡ fault) → (s t : State) → t ≡ s
+pub refused_take : (tag caller : ℕ) (r : Result (Unit {0}) TagFault) (fault : TagFault) → IsErr r
+    → IfErr r (λ f. f ≡ fault) → (s t : State) → t ≡ s
     → ((fault ≡ NoSuchTag) × (s.total ≤ tag)) ⊎ ((fault ≡ NotPosted) × (tag < s.total)) → Takes tag caller s r t
 refused_take tag caller (Ok done) fault bad told s t same cause = absurd (cc)
 refused_take tag caller (Err f) fault bad told s t same (inl none) =
@@ -55,14 +62,19 @@ refused_take tag caller (Err f) fault bad told s t same (inr missed) =
     subst (λ (x : TagFault). Takes tag caller s (Err x) t) (sym (told ∙ missed.0)) (missed.1, same)
 
 -- a take of the only caller that is refused leaves both sets, and finds the tag posted nowhere
-pub lone_refused : {R : Type 0} (tags : Tags R) (hands : List (Hand R)) (i : ℕ) (old new : Hand R) → length hands ≡ hands_of tags → length hands ≡ 1
-    → i < length hands → old ≡ get_or hands i old → IsHandOf tags old → (tag : ℕ) (r : Result (Unit {0}) TagFault) (fault : TagFault) → IsErr r
-    → IfErr r (λ f. f ≡ fault) → slots.RefusesTake tag fault old new → LoneTakes tag (lones_of_all hands) r (lones_of_all (set hands i new))
+pub lone_refused : {R : Type 0} (tags : Tags R) (hands : List (Hand R)) (i : ℕ) (old new : Hand R)
+    → length hands ≡ hands_of tags → length hands ≡ 1
+    → i < length hands → old ≡ get_or hands i old → IsHandOf tags old
+    → (tag : ℕ) (r : Result (Unit {0}) TagFault) (fault : TagFault) → IsErr r
+    → IfErr r (λ f. f ≡ fault) → slots.RefusesTake tag fault old new
+    → LoneTakes tag (lones_of_all hands) r (lones_of_all (set hands i new))
 lone_refused tags hands i old new every one within here own tag (Ok done) fault bad told refuses = absurd (cc)
 lone_refused tags hands i old new every one within here own tag (Err f) fault bad told (inl none) =
-    subst (λ (x : TagFault). LoneTakes tag (lones_of_all hands) (Err x) (lones_of_all (set hands i new))) (sym (told ∙ none.0))
+    subst (λ (x : TagFault). LoneTakes tag (lones_of_all hands) (Err x) (lones_of_all (set hands i new)))
+    (sym (told ∙ none.0))
     (lones_moved hands i old new one within here (λ a b. b ≡ a) (ap lones_in none.1))
 lone_refused tags hands i old new every one within here own tag (Err f) fault bad told (inr missed) =
-    subst (λ (x : TagFault). LoneTakes tag (lones_of_all hands) (Err x) (lones_of_all (set hands i new))) (sym (told ∙ missed.0))
+    subst (λ (x : TagFault). LoneTakes tag (lones_of_all hands) (Err x) (lones_of_all (set hands i new)))
+    (sym (told ∙ missed.0))
     (lones_moved hands i old new one within here (λ a b. (is_posted a tag ≡ false) × (b ≡ a))
     (miss_alone tags old new own (sym every ∙ one) tag missed.1))

@@ -12,21 +12,24 @@ use Rattle.tag_sets.proofs.Numbering.{IsReserved, IsOrdinary, stands}
 
 module _ {R : Type 0} (tags : Tags R) where
   -- the depth of a hand's set is that of the tags'
-  depth_there : (hand : Hand R) → IsHandOf tags hand → (kind : Kind) → queue.depth_of (agent_of hand kind) ≡ (layout_of tags kind).depth
+  depth_there : (hand : Hand R) → IsHandOf tags hand → (kind : Kind)
+      → queue.depth_of (agent_of hand kind) ≡ (layout_of tags kind).depth
   depth_there hand own Ordinary = ap (λ (k : Shape). k.layout.depth) own.1.0.1
   depth_there hand own Reserved = ap (λ (k : Shape). k.layout.depth) own.0.0.1
 
   -- the number and the kind of a tag are the same for each hand
   range_there : (hand : Hand R) → IsHandOf tags hand → (tag : ℕ)
       → (number_in_set (split_of hand) tag ≡ number_in_set (reserved_of tags) tag)
-      × (queue.depth_of (agent_of hand (kind_of (split_of hand) tag)) ≡ (layout_of tags (kind_of (reserved_of tags) tag)).depth)
+      × (queue.depth_of (agent_of hand (kind_of (split_of hand) tag))
+      ≡ (layout_of tags (kind_of (reserved_of tags) tag)).depth)
   range_there hand own tag = (
     ap (λ (r : ℕ). number_in_set r tag) own.2,
     depth_there hand own (kind_of (split_of hand) tag) ∙ ap (λ (r : ℕ). (layout_of tags (kind_of r tag)).depth) own.2,
   )
 
   -- a tag that one hand holds is one of each hand's range
-  pub tag_there : (one other : Hand R) → IsHandOf tags one → IsHandOf tags other → (tag : ℕ) → Holds one tag → IsTagOf other tag
+  pub tag_there : (one other : Hand R) → IsHandOf tags one → IsHandOf tags other → (tag : ℕ) → Holds one tag
+      → IsTagOf other tag
   tag_there one other own own' tag h =
       let a = range_there one own tag in let b = range_there other own' tag in let low = h.0 in
       let m = a.0 in let n = b.0 in let d = a.1 in let e = b.1 in omega arith

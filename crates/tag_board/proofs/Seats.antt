@@ -39,11 +39,13 @@ module _ {R : Type 0} (tags : Tags R) (hands : List (Hand R)) (i : ℕ) (old new
   pub changes : (change : Part → Part) → part_of new ≡ change (part_of old)
       → Changes i change (state_of_all tags hands) (state_of_all tags (set hands i new))
   changes change e =
-      let moved : map part_of (set hands i new) ≡ set (map part_of hands) i (part_of new) = map-set part_of hands i new in
+      let moved : map part_of (set hands i new) ≡ set (map part_of hands) i (part_of new) =
+      map-set part_of hands i new in
       let long : i < length (map part_of hands) = let l = length-map hands part_of in omega arith in record {
         terms = ap (terms_of tags) (length-set hands i new);
         total = refl;
-        own = ap (λ (ps : List Part). get_or ps i (idle false)) moved ∙ get_or-set_same (map part_of hands) i (part_of new) (idle false) long
+        own = ap (λ (ps : List Part). get_or ps i (idle false)) moved
+            ∙ get_or-set_same (map part_of hands) i (part_of new) (idle false) long
             ∙ e ∙ ap change (sym part_here);
         others = λ other ne. ap (λ (ps : List Part). get_or ps other (idle false)) moved
             ∙ get_or-set_other (map part_of hands) i other (part_of new) (idle false) ne;
@@ -52,7 +54,8 @@ module _ {R : Type 0} (tags : Tags R) (hands : List (Hand R)) (i : ℕ) (old new
   -- and the hands stand in the order of their numbers as before
   pub ordered : AreOrdered hands → number_of new ≡ number_of old → AreOrdered (set hands i new)
   ordered before same n low =
-      let moved : map number_of (set hands i new) ≡ set (map number_of hands) i (number_of new) = map-set number_of hands i new in
+      let moved : map number_of (set hands i new) ≡ set (map number_of hands) i (number_of new) =
+      map-set number_of hands i new in
       let at : number_of new ≡ get_or (map number_of hands) i 0 =
       same ∙ ap number_of here ∙ sym (get_or-map number_of hands i old 0 within) in
       let back : set (map number_of hands) i (number_of new) ≡ map number_of hands =
@@ -64,7 +67,8 @@ module _ {R : Type 0} (tags : Tags R) (hands : List (Hand R)) (i : ℕ) (old new
   unmoved same = ap (set hands i) (same ∙ here) ∙ set-get_or hands i old
 
 -- a hand of the list is one of the tags' own
-pub own_here : {R : Type 0} (tags : Tags R) (hands : List (Hand R)) (i : ℕ) (old : Hand R) → i < length hands → old ≡ get_or hands i old
+pub own_here : {R : Type 0} (tags : Tags R) (hands : List (Hand R)) (i : ℕ) (old : Hand R) → i < length hands
+    → old ≡ get_or hands i old
     → All (IsHandOf tags) hands → IsHandOf tags old
 own_here tags hands i old within here own = subst (IsHandOf tags) (sym here) (own i old within)
 

@@ -18,7 +18,8 @@ use Rattle.tag_board.specs.Lones.{Lones, Does, split_in, Chooses, ChoosesRun, Lo
 use Rattle.tag_board.specs.Parts.{lone_of, lones_in, lones_of_all}
 
 -- the sets of the board are those of its only hand, before a call and after it
-module _ {R : Type 0} (hands : List (Hand R)) (i : ℕ) (old new : Hand R) (one : length hands ≡ 1) (within : i < length hands)
+module _ {R : Type 0} (hands : List (Hand R)) (i : ℕ) (old new : Hand R) (one : length hands ≡ 1)
+    (within : i < length hands)
     (here : old ≡ get_or hands i old) where
   first : 0 ≡ i
   first = omega arith
@@ -32,12 +33,14 @@ module _ {R : Type 0} (hands : List (Hand R)) (i : ℕ) (old new : Hand R) (one 
       (let long = length-set hands i new in omega arith)
       ∙ ap lones_in (ap (λ (n : ℕ). get_or (set hands i new) n new) first ∙ get_or-set_same hands i new new within)
 
-  pub lones_moved : (Q : Lones → Lones → Type 0) → Q (lones_in old) (lones_in new) → Q (lones_of_all hands) (lones_of_all (set hands i new))
+  pub lones_moved : (Q : Lones → Lones → Type 0) → Q (lones_in old) (lones_in new)
+      → Q (lones_of_all hands) (lones_of_all (set hands i new))
   lones_moved Q q = subst (λ (s : Lones). Q s (lones_of_all (set hands i new))) (sym lones_here)
       (subst (λ (s : Lones). Q (lones_in old) s) (sym lones_now) q)
 
   -- a refused command leaves both sets
-  pub does_moved : {A : Type 0} (done : A → Lones → Lones → Type 0) (r : Result A TagFault) → IfOk r (λ a. done a (lones_in old) (lones_in new))
+  pub does_moved : {A : Type 0} (done : A → Lones → Lones → Type 0) (r : Result A TagFault)
+      → IfOk r (λ a. done a (lones_in old) (lones_in new))
       → OnErr r (new ≡ old) → Does done (lones_of_all hands) r (lones_of_all (set hands i new))
   does_moved done (Ok a) d same = lones_moved (done a) d
   does_moved done (Err fault) d same = lones_moved (λ a b. b ≡ a) (ap lones_in same)
@@ -56,10 +59,12 @@ module _ {R : Type 0} (tags : Tags R) (old new : Hand R) (own : IsHandOf tags ol
   pub split_is : reserved_of tags ≡ split_in (lones_in old)
   split_is = sym tags.reserved_is ∙ ap (λ (l : Layout). l.depth) (layout_in Reserved)
 
-  plain_chooses : (kind : Kind) (number : Option ℕ) → queue_gets.GetsPlain (layout_of tags kind) number (agent_of old kind) (agent_of new kind)
+  plain_chooses : (kind : Kind) (number : Option ℕ)
+      → queue_gets.GetsPlain (layout_of tags kind) number (agent_of old kind) (agent_of new kind)
       → Chooses plain number (lones_in old kind) (lones_in new kind)
   plain_chooses kind number g =
-      let h = subst (λ (l : Layout). queue_gets.GetsPlain l number (agent_of old kind) (agent_of new kind)) (layout_in kind) g in
+      let h = subst (λ (l : Layout). queue_gets.GetsPlain l number (agent_of old kind) (agent_of new kind))
+      (layout_in kind) g in
       let s = h.searches in let a = s.alone (alone_in kind) in record {
         layout = ap (λ (k : Shape). k.layout) s.gains.shape;
         choice = a.choice;
@@ -67,10 +72,12 @@ module _ {R : Type 0} (tags : Tags R) (old new : Hand R) (own : IsHandOf tags ol
         hint = s.hint;
       }
 
-  shallow_chooses : (depth : ℕ) (number : Option ℕ) → queue_gets.GetsShallow (layout_of tags Ordinary) depth number old.ordinary new.ordinary
+  shallow_chooses : (depth : ℕ) (number : Option ℕ)
+      → queue_gets.GetsShallow (layout_of tags Ordinary) depth number old.ordinary new.ordinary
       → Chooses (shallow depth) number (lones_in old Ordinary) (lones_in new Ordinary)
   shallow_chooses depth number g =
-      let h = subst (λ (l : Layout). queue_gets.GetsShallow l depth number old.ordinary new.ordinary) (layout_in Ordinary) g in
+      let h = subst (λ (l : Layout). queue_gets.GetsShallow l depth number old.ordinary new.ordinary)
+      (layout_in Ordinary) g in
       let s = h.searches in let a = s.alone (alone_in Ordinary) in record {
         layout = ap (λ (k : Shape). k.layout) s.gains.shape;
         choice = a.choice;
@@ -78,10 +85,12 @@ module _ {R : Type 0} (tags : Tags R) (old new : Hand R) (own : IsHandOf tags ol
         hint = s.hint;
       }
 
-  run_chooses : (n : ℕ) (number : Option (ℕ × ℕ)) → queue_gets.GetsBatch (layout_of tags Ordinary) n number old.ordinary new.ordinary
+  run_chooses : (n : ℕ) (number : Option (ℕ × ℕ))
+      → queue_gets.GetsBatch (layout_of tags Ordinary) n number old.ordinary new.ordinary
       → ChoosesRun n number (lones_in old Ordinary) (lones_in new Ordinary)
   run_chooses n number g =
-      let h = subst (λ (l : Layout). queue_gets.GetsBatch l n number old.ordinary new.ordinary) (layout_in Ordinary) g in
+      let h = subst (λ (l : Layout). queue_gets.GetsBatch l n number old.ordinary new.ordinary) (layout_in Ordinary) g
+      in
       let a = h.alone (alone_in Ordinary) in record {
         layout = ap (λ (k : Shape). k.layout) h.gains.shape;
         choice = a.choice;
@@ -89,7 +98,8 @@ module _ {R : Type 0} (tags : Tags R) (old new : Hand R) (own : IsHandOf tags ol
         hint = h.hint;
       }
 
-  pub get_alone : (answer : Option ℕ) → gets.Gets tags answer old new → LoneGets Ordinary plain answer (lones_in old) (lones_in new)
+  pub get_alone : (answer : Option ℕ) → gets.Gets tags answer old new
+      → LoneGets Ordinary plain answer (lones_in old) (lones_in new)
   get_alone answer g = (
     g.number,
     g.answer_is ∙ ap (λ (r : ℕ). gets.whole r g.number) split_is,
@@ -109,11 +119,18 @@ module _ {R : Type 0} (tags : Tags R) (old new : Hand R) (own : IsHandOf tags ol
   from_none None = refl
   from_none (Some n) = let e : n ≡ 0 + n = omega arith in ap Some e
 
-  pub reserved_alone : (answer : Option ℕ) → gets.GetsReserved tags answer old new → LoneGets Reserved plain answer (lones_in old) (lones_in new)
-  reserved_alone answer g = (answer, from_none answer, (plain_chooses Reserved answer g.set.changed, ap lone_of g.set.other))
+  pub reserved_alone : (answer : Option ℕ) → gets.GetsReserved tags answer old new
+      → LoneGets Reserved plain answer (lones_in old) (lones_in new)
+  reserved_alone answer g = (
+    answer,
+    from_none answer,
+    (plain_chooses Reserved answer g.set.changed, ap lone_of g.set.other),
+  )
 
-  pub batch_alone : (n : ℕ) (answer : Option (ℕ × ℕ)) → ((hint_of old Ordinary).round_robin ≡ true → (answer ≡ None) × (new ≡ old))
-      → ((hint_of old Ordinary).round_robin ≡ false → gets.GetsBatch tags n answer old new) → LoneBatch n answer (lones_in old) (lones_in new)
+  pub batch_alone : (n : ℕ) (answer : Option (ℕ × ℕ))
+      → ((hint_of old Ordinary).round_robin ≡ true → (answer ≡ None) × (new ≡ old))
+      → ((hint_of old Ordinary).round_robin ≡ false → gets.GetsBatch tags n answer old new)
+      → LoneBatch n answer (lones_in old) (lones_in new)
   batch_alone n answer around straight = record {
     around = λ t. let none = around t in (none.0, ap lones_in none.1);
     choice = λ f. let g = straight f in (

@@ -32,17 +32,20 @@ use Rattle.tag_board.specs.Parts.{lone_of, lones_in, lones_of_all}
 use Rattle.tag_board.proofs.Solitary.{layout_in}
 
 -- each place of a map without steps is free
-pub blank_pool : (R : Type 0) (l : Layout) (round_robin : Bool) → pool_of (words_left {R = R} []) ≡ (untouched l round_robin).pool
+pub blank_pool : (R : Type 0) (l : Layout) (round_robin : Bool)
+    → pool_of (words_left {R = R} []) ≡ (untouched l round_robin).pool
 blank_pool R l round_robin = pool_ext (pool_of (words_left {R = R} [])) (untouched l round_robin).pool
     (λ i k. ap (λ (x : ℕ). nat_lt k 64 && nat_eq x 0) (bit_at-zero k) ∙ and_true (nat_lt k 64))
     (λ i k. ap (λ (x : ℕ). nat_lt k 64 && nat_eq x 1) (bit_at-zero k) ∙ and_false (nat_lt k 64))
 
 module _ {R : Type 0} where
   -- an agent without steps has touched nothing
-  pub lone_untouched : (a : Agent R) (round_robin : Bool) → (record_of (queue.caller_of a)).steps ≡ [] → queue.hint_of a ≡ queue_opening.first_hint round_robin
+  pub lone_untouched : (a : Agent R) (round_robin : Bool) → (record_of (queue.caller_of a)).steps ≡ []
+      → queue.hint_of a ≡ queue_opening.first_hint round_robin
       → lone_of a ≡ untouched (lone_of a).layout round_robin
   lone_untouched a round_robin none hint =
-      let pool = ap (λ (s : List (Step R)). pool_of (words_left s)) none ∙ blank_pool R (lone_of a).layout round_robin in λ j. record {
+      let pool = ap (λ (s : List (Step R)). pool_of (words_left s)) none
+      ∙ blank_pool R (lone_of a).layout round_robin in λ j. record {
         layout = (lone_of a).layout;
         pool = pool j;
         posted = λ tag. nat_eq ((cells_left (none j)).state tag) 1;
@@ -53,9 +56,11 @@ module _ {R : Type 0} where
   no_steps : (options : Options) (q : Queue R) (agents : List (Agent R)) (n : ℕ) (a : Agent R)
       → queue_opening.IsOpen options q agents → get_elem? agents n ≡ some a → (record_of (queue.caller_of a)).steps ≡ []
   no_steps options q agents n a opened at =
-      ap (λ (r : Record R). r.steps) (opened.callers.each n (queue.caller_of a) (at_map queue.caller_of agents n a at)).1
+      ap (λ (r : Record R). r.steps) (opened.callers.each n (queue.caller_of a)
+      (at_map queue.caller_of agents n a at)).1
 
-  module _ (options : Options) (tags : Tags R) (hands : List (Hand R)) (opened : AreOpen options tags hands) (one : length hands ≡ 1) where
+  module _ (options : Options) (tags : Tags R) (hands : List (Hand R)) (opened : AreOpen options tags hands)
+      (one : length hands ≡ 1) where
     abbrev some_hand : Hand R
     some_hand = (entry hands 0 (omega arith)).0
 
@@ -69,27 +74,33 @@ module _ {R : Type 0} where
     agents = opened.ordinary.tags.callers_is ∙ sym opened.count ∙ one
 
     only_is : lones_of_all hands ≡ lones_in only
-    only_is = get_or-map lones_in hands 0 some_hand (λ kind. untouched (record { depth = 0; shift = 0 }) false) (omega arith)
+    only_is = get_or-map lones_in hands 0 some_hand (λ kind. untouched (record { depth = 0; shift = 0 }) false)
+        (omega arith)
 
     untouched_in : (kind : Kind) → lones_in only kind ≡ untouched (lones_in only kind).layout options.round_robin
     untouched_in Ordinary = lone_untouched only.ordinary options.round_robin
         (no_steps options tags.ordinary (map ordinary_part hands) 0 only.ordinary opened.ordinary
         (at_map ordinary_part hands 0 only (entry_or hands 0 some_hand (omega arith))))
-        (all_part (λ (a : Agent R). queue.hint_of a ≡ queue_opening.first_hint options.round_robin) ordinary_part hands opened.ordinary.hints 0 some_hand
+        (all_part (λ (a : Agent R). queue.hint_of a ≡ queue_opening.first_hint options.round_robin) ordinary_part hands
+        opened.ordinary.hints 0 some_hand
         (omega arith))
     untouched_in Reserved = lone_untouched only.reserved options.round_robin
         (no_steps _ tags.reserved (map reserved_part hands) 0 only.reserved opened.reserved
         (at_map reserved_part hands 0 only (entry_or hands 0 some_hand (omega arith))))
-        (all_part (λ (a : Agent R). queue.hint_of a ≡ queue_opening.first_hint options.round_robin) reserved_part hands opened.reserved.hints 0 some_hand
+        (all_part (λ (a : Agent R). queue.hint_of a ≡ queue_opening.first_hint options.round_robin) reserved_part hands
+        opened.reserved.hints 0 some_hand
         (omega arith))
 
     pub opens_alone : (total reserved : ℕ) → total_of tags ≡ total → reserved_of tags ≡ reserved
-        → HasShift (total - reserved) options.shift (layout_of tags Ordinary).shift → HasShift reserved options.shift (layout_of tags Reserved).shift
+        → HasShift (total - reserved) options.shift (layout_of tags Ordinary).shift
+        → HasShift reserved options.shift (layout_of tags Reserved).shift
         → AreUntouched total reserved options (lones_of_all hands)
-    opens_alone total reserved whole split first second = subst (λ (s : Lones). AreUntouched total reserved options s) (sym only_is) (record {
-      ordinary_layout = subst (λ (l : Layout). (l.depth ≡ total - reserved) × HasShift (total - reserved) options.shift l.shift)
-          (layout_in tags only only own agents Ordinary) (omega arith, first);
-      reserved_layout = subst (λ (l : Layout). (l.depth ≡ reserved) × HasShift reserved options.shift l.shift)
-          (layout_in tags only only own agents Reserved) (tags.reserved_is ∙ split, second);
-      untouched = untouched_in;
-    })
+    opens_alone total reserved whole split first second =
+        subst (λ (s : Lones). AreUntouched total reserved options s) (sym only_is) (record {
+          ordinary_layout = subst (λ (l : Layout). (l.depth ≡ total - reserved)
+              × HasShift (total - reserved) options.shift l.shift)
+              (layout_in tags only only own agents Ordinary) (omega arith, first);
+          reserved_layout = subst (λ (l : Layout). (l.depth ≡ reserved) × HasShift reserved options.shift l.shift)
+              (layout_in tags only only own agents Reserved) (tags.reserved_is ∙ split, second);
+          untouched = untouched_in;
+        })

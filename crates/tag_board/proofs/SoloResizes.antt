@@ -36,7 +36,8 @@ laid_out depth shift = record { depth = depth; shift = shift }
 
 module _ {R : Type 0} where
   -- an agent with the record and the hint of another has its set
-  lone_known : (a b : Agent R) → record_of (queue.caller_of b) ≡ record_of (queue.caller_of a) → queue.hint_of b ≡ queue.hint_of a → lone_of b ≡ lone_of a
+  lone_known : (a b : Agent R) → record_of (queue.caller_of b) ≡ record_of (queue.caller_of a)
+      → queue.hint_of b ≡ queue.hint_of a → lone_of b ≡ lone_of a
   lone_known a b known hint = λ j. record {
     layout = (known j).shape.layout;
     pool = pool_of (words_left (known j).steps);
@@ -45,7 +46,8 @@ module _ {R : Type 0} where
   }
 
   -- an agent without steps in a map of this layout
-  lone_fresh : (b : Agent R) (l : Layout) (h : Hint) → (lone_of b).layout ≡ l → (record_of (queue.caller_of b)).steps ≡ [] → queue.hint_of b ≡ h
+  lone_fresh : (b : Agent R) (l : Layout) (h : Hint) → (lone_of b).layout ≡ l
+      → (record_of (queue.caller_of b)).steps ≡ [] → queue.hint_of b ≡ h
       → lone_of b ≡ record (untouched l false) { hint = h }
   lone_fresh b l h layout none hint =
       let pool = ap (λ (s : List (Step R)). pool_of (words_left s)) none ∙ blank_pool R l false in λ j. record {
@@ -57,34 +59,45 @@ module _ {R : Type 0} where
 
   -- the only hand of a list
   only_is : (hands : List (Hand R)) (d : Hand R) → length hands ≡ 1 → lones_of_all hands ≡ lones_in (get_or hands 0 d)
-  only_is hands d one = get_or-map lones_in hands 0 d (λ kind. untouched (record { depth = 0; shift = 0 }) false) (omega arith)
+  only_is hands d one = get_or-map lones_in hands 0 d (λ kind. untouched (record { depth = 0; shift = 0 }) false)
+      (omega arith)
 
   -- hands that are as they were have both sets as they were
-  pub unchanged_alone : (old new : List (Hand R)) → length old ≡ 1 → AreUnchanged old new → lones_of_all new ≡ lones_of_all old
+  pub unchanged_alone : (old new : List (Hand R)) → length old ≡ 1 → AreUnchanged old new
+      → lones_of_all new ≡ lones_of_all old
   unchanged_alone old new one same =
-      let long = same.count in let a : Hand R = (entry old 0 (omega arith)).0 in let b : Hand R = (entry new 0 (omega arith)).0 in
-      let u = same.each 0 (get_or old 0 a) (get_or new 0 b) (entry_or old 0 a (omega arith)) (entry_or new 0 b (omega arith)) in
+      let long = same.count in let a : Hand R = (entry old 0 (omega arith)).0 in
+      let b : Hand R = (entry new 0 (omega arith)).0 in
+      let u = same.each 0 (get_or old 0 a) (get_or new 0 b) (entry_or old 0 a (omega arith))
+      (entry_or new 0 b (omega arith)) in
       let each : (k : Kind) → lones_in (get_or new 0 b) k ≡ lones_in (get_or old 0 a) k = elim [
-        | Ordinary ↦ lone_known (get_or old 0 a).ordinary (get_or new 0 b).ordinary (u.sets Ordinary).caller.known (u.sets Ordinary).same_else.0
-        | Reserved ↦ lone_known (get_or old 0 a).reserved (get_or new 0 b).reserved (u.sets Reserved).caller.known (u.sets Reserved).same_else.0
+        | Ordinary ↦ lone_known (get_or old 0 a).ordinary (get_or new 0 b).ordinary (u.sets Ordinary).caller.known
+            (u.sets Ordinary).same_else.0
+        | Reserved ↦ lone_known (get_or old 0 a).reserved (get_or new 0 b).reserved (u.sets Reserved).caller.known
+            (u.sets Reserved).same_else.0
       ] in only_is new b (omega arith) ∙ (λ j. λ k. each k j) ∙ sym (only_is old a one)
 
-  module _ (old new : Tags R) (hands after : List (Hand R)) (total : ℕ) (own : All (IsHandOf old) hands) (agents : hands_of old ≡ 1)
+  module _ (old new : Tags R) (hands after : List (Hand R)) (total : ℕ) (own : All (IsHandOf old) hands)
+      (agents : hands_of old ≡ 1)
       (one : length hands ≡ 1) (r : IsResized old hands total new after) where
     long : length after ≡ 1
-    long = sym (length-map after number_of) ∙ ap (λ (ns : List ℕ). length ns) r.numbers ∙ length-map hands number_of ∙ one
+    long = sym (length-map after number_of) ∙ ap (λ (ns : List ℕ). length ns) r.numbers ∙ length-map hands number_of
+        ∙ one
 
     module _ (a b : Hand R) where
       -- the ordinary set continues
-      ordinary_goes_on : lone_of (get_or after 0 b).ordinary ≡ resized (total - reserved_of old) (lone_of (get_or hands 0 a).ordinary)
+      ordinary_goes_on : lone_of (get_or after 0 b).ordinary
+          ≡ resized (total - reserved_of old) (lone_of (get_or hands 0 a).ordinary)
       ordinary_goes_on =
           let before : Hand R = get_or hands 0 a in let now : Hand R = get_or after 0 b in
           let there = at_map ordinary_part hands 0 before (entry_or hands 0 a (omega arith)) in
           let here = at_map ordinary_part after 0 now (entry_or after 0 b (let l = long in omega arith)) in
-          let fresh = (r.ordinary.callers.callers.each 0 (queue.caller_of before.ordinary) (queue.caller_of now.ordinary)
+          let fresh = (r.ordinary.callers.callers.each 0 (queue.caller_of before.ordinary)
+          (queue.caller_of now.ordinary)
           (at_map queue.caller_of (map ordinary_part hands) 0 before.ordinary there)
           (at_map queue.caller_of (map ordinary_part after) 0 now.ordinary here)).1 in
-          let shift = ap (λ (l : Layout). l.shift) (layout_in old before before (own 0 a (omega arith)) agents Ordinary) in
+          let shift = ap (λ (l : Layout). l.shift) (layout_in old before before (own 0 a (omega arith)) agents Ordinary)
+          in
           let hint : queue.hint_of now.ordinary ≡ queue.hint_of before.ordinary =
           sym (get_or-map queue.hint_of (map ordinary_part after) 0 now.ordinary (queue.hint_of now.ordinary)
           (let l = long in let m = length-map after ordinary_part in omega arith)
@@ -93,7 +106,11 @@ module _ {R : Type 0} where
           ∙ get_or-map queue.hint_of (map ordinary_part hands) 0 before.ordinary (queue.hint_of now.ordinary)
           (let m = length-map hands ordinary_part in omega arith)
           ∙ ap queue.hint_of (get_or-map ordinary_part hands 0 a before.ordinary (omega arith)) in
-          lone_fresh now.ordinary (record { depth = total - reserved_of old; shift = (lone_of before.ordinary).layout.shift }) (queue.hint_of before.ordinary)
+          lone_fresh now.ordinary (record {
+            depth = total - reserved_of old;
+            shift =
+                (lone_of before.ordinary).layout.shift;
+          }) (queue.hint_of before.ordinary)
           (ap (λ (x : Record R). x.shape.layout) fresh ∙ r.ordinary.callers.next.layout_is
           ∙ ap (λ (s : ℕ). laid_out (total - reserved_of old) s) shift)
           (ap (λ (x : Record R). x.steps) fresh) hint
@@ -109,10 +126,13 @@ module _ {R : Type 0} where
 
     pub resizes_alone : LoneResizes total (lones_of_all hands) (Ok tt) (lones_of_all after)
     resizes_alone =
-        let a : Hand R = (entry hands 0 (omega arith)).0 in let b : Hand R = (entry after 0 (let l = long in omega arith)).0 in
+        let a : Hand R = (entry hands 0 (omega arith)).0 in
+        let b : Hand R = (entry after 0 (let l = long in omega arith)).0 in
         subst (λ (s : Lones). LoneResizes total s (Ok tt) (lones_of_all after)) (sym (only_is hands a one))
         (subst (λ (s : Lones). LoneResizes total (lones_in (get_or hands 0 a)) (Ok tt) s) (sym (only_is after b long)) (
-          subst (λ (n : ℕ). lone_of (get_or after 0 b).ordinary ≡ resized (total - n) (lone_of (get_or hands 0 a).ordinary))
-              (split_is old (get_or hands 0 a) (get_or hands 0 a) (own 0 a (omega arith)) agents) (ordinary_goes_on a b),
+          subst (λ (n : ℕ). lone_of (get_or after 0 b).ordinary
+              ≡ resized (total - n) (lone_of (get_or hands 0 a).ordinary))
+              (split_is old (get_or hands 0 a) (get_or hands 0 a) (own 0 a (omega arith)) agents)
+              (ordinary_goes_on a b),
           reserved_stays a b,
         ))

@@ -94,14 +94,17 @@ module _ {R : Type 0} where
   pick l false step rest here older = older
 
   -- the gives of a lawful history are within their words
-  each_within : (l : Layout) (callers : ℕ) (w : World) (h : History R) → IsHistory l callers w (events_of l h) → AreGivesWithin l (steps_by 0 h)
+  each_within : (l : Layout) (callers : ℕ) (w : World) (h : History R) → IsHistory l callers w (events_of l h)
+      → AreGivesWithin l (steps_by 0 h)
   each_within l callers w [] happens = tt
-  each_within l callers w (x ∷ older) happens = pick l (nat_eq x.0 0) x.1 (steps_by 0 older) (step_within l x.0 x.1 happens.0.in_layout)
+  each_within l callers w (x ∷ older) happens =
+      pick l (nat_eq x.0 0) x.1 (steps_by 0 older) (step_within l x.0 x.1 happens.0.in_layout)
       (each_within l callers w older happens.1)
 
   shown_within : (k : Shape) (r : Record R) → k.callers ≡ 1 → HasHistory k r → AreGivesWithin k.layout r.steps
   shown_within k r one h = let low = h.known.number in let is : r.number ≡ 0 = omega arith in
-      subst (λ (s : List (Step R)). AreGivesWithin k.layout s) (sym (h.known.steps ∙ ap (λ (n : ℕ). steps_by n h.history) is))
+      subst (λ (s : List (Step R)). AreGivesWithin k.layout s)
+      (sym (h.known.steps ∙ ap (λ (n : ℕ). steps_by n h.history) is))
       (each_within k.layout k.callers (opening_world k) h.history h.lawful.happens)
 
   own_within : (c : Caller R) → IsAlone c → AreGivesWithin c.shape.value.layout (record_of c).steps
@@ -119,11 +122,13 @@ AreRunsWithin l [] = Unit {0}
 AreRunsWithin l (run ∷ runs) = (run.mask < 2 ^ word_depth l run.word) × AreRunsWithin l runs
 
 module _ {R : Type 0} (l : Layout) where
-  runs_within : (runs : List Run) (r : Record R) → AreGivesWithin l (record_after_runs runs r).steps → AreRunsWithin l runs
+  runs_within : (runs : List Run) (r : Record R) → AreGivesWithin l (record_after_runs runs r).steps
+      → AreRunsWithin l runs
   runs_within [] r all = tt
   runs_within (run ∷ runs) r all = (ltb-true run.mask (2 ^ word_depth l run.word) all.0, runs_within runs r all.1)
 
-  runs_posted : (runs : List Run) (r : Record R) → (cells_left (record_after_runs runs r).steps).state ≡ (cells_left r.steps).state
+  runs_posted : (runs : List Run) (r : Record R)
+      → (cells_left (record_after_runs runs r).steps).state ≡ (cells_left r.steps).state
   runs_posted [] r = refl
   runs_posted (run ∷ runs) r = runs_posted runs r
 
@@ -140,73 +145,96 @@ module _ (k : Shape) (narrow : k.layout.shift ≤ 6) where
       → pool_of (words_left (record_after_runs runs r).steps) ≡ freed_by runs (pool_of (words_left r.steps))
   runs_pool [] r within = refl
   runs_pool (run ∷ runs) r within =
-      give_pool (words_left (record_after_runs runs r).steps) run.word run.mask run.found (small_word k narrow run.word run.mask within.0)
+      give_pool (words_left (record_after_runs runs r).steps) run.word run.mask run.found
+      (small_word k narrow run.word run.mask within.0)
       ∙ ap (free_at run.word run.mask) (runs_pool runs r within.1)
 
-  module _ (run : Run) (is : IsRun k.layout run) (within : run.mask < 2 ^ word_depth k.layout run.word) (word place : ℕ) where
-    -- a bit of the run's mask is the place of one of its tags
-    bit_named : (nat_eq word run.word && nat_lt place 64 && nat_eq (bit_at run.mask place) 1) ≡ true → is_named k.layout run.tags word place ≡ true
-    bit_named e =
-        let l : Layout = k.layout in
-        let one = and_parts (nat_eq word run.word && nat_lt place 64) (nat_eq (bit_at run.mask place) 1) e in
-        let two = and_parts (nat_eq word run.word) (nat_lt place 64) one.0 in
-        let here : word ≡ run.word = eqb-true word run.word two.0 in let set : bit_at run.mask place ≡ 1 = eqb-true (bit_at run.mask place) 1 one.1 in
-        let low : place < word_depth l run.word = ⊎_elim (λ (h : place < word_depth l run.word). h)
-        (λ (h : word_depth l run.word ≤ place). let none = bit_at_above run.mask (word_depth l run.word) place within h in absurd (omega arith))
-        (cases_lt place (word_depth l run.word)) in
-        let small : place < word_bits l = omega arith in
-        let tag : ℕ = tag_at l word place in let w = word_of-tag_at l word place small in let p = place_of-tag_at l word place small in
-        let c = (is.mask_is tag).0 (and_from (nat_eq (word_of l tag) run.word) (nat_eq (bit_at run.mask (place_of l tag)) 1)
-        (eq-eqb (word_of l tag) run.word (w ∙ here)) (eq-eqb (bit_at run.mask (place_of l tag)) 1 (ap (bit_at run.mask) p ∙ set))) in
-        list_any-from_Any (λ t. nat_eq word (word_of l t) && nat_eq place (place_of l t)) run.tags (
-          c.0,
-          tag,
-          c.1,
-          c.2,
-          and_from (nat_eq word (word_of l tag)) (nat_eq place (place_of l tag))
-              (eq-eqb word (word_of l tag) (sym w)) (eq-eqb place (place_of l tag) (sym p)),
-        )
+  module _ (run : Run) (is : IsRun k.layout run) (within : run.mask < 2 ^ word_depth k.layout run.word) (word place : ℕ)
+    where
+      -- a bit of the run's mask is the place of one of its tags
+      bit_named : (nat_eq word run.word && nat_lt place 64 && nat_eq (bit_at run.mask place) 1) ≡ true
+          → is_named k.layout run.tags word place ≡ true
+      bit_named e =
+          let l : Layout = k.layout in
+          let one = and_parts (nat_eq word run.word && nat_lt place 64) (nat_eq (bit_at run.mask place) 1) e in
+          let two = and_parts (nat_eq word run.word) (nat_lt place 64) one.0 in
+          let here : word ≡ run.word = eqb-true word run.word two.0 in
+          let set : bit_at run.mask place ≡ 1 = eqb-true (bit_at run.mask place) 1 one.1 in
+          let low : place < word_depth l run.word = ⊎_elim (λ (h : place < word_depth l run.word). h)
+          (λ (h : word_depth l run.word ≤ place). let none =
+          bit_at_above run.mask (word_depth l run.word) place within h in absurd (omega arith))
+          (cases_lt place (word_depth l run.word)) in
+          let small : place < word_bits l = omega arith in
+          let tag : ℕ = tag_at l word place in let w = word_of-tag_at l word place small in
+          let p = place_of-tag_at l word place small in
+          let c = (is.mask_is tag).0 (and_from (nat_eq (word_of l tag) run.word)
+          (nat_eq (bit_at run.mask (place_of l tag)) 1)
+          (eq-eqb (word_of l tag) run.word (w ∙ here))
+          (eq-eqb (bit_at run.mask (place_of l tag)) 1 (ap (bit_at run.mask) p ∙ set))) in
+          list_any-from_Any (λ t. nat_eq word (word_of l t) && nat_eq place (place_of l t)) run.tags (
+            c.0,
+            tag,
+            c.1,
+            c.2,
+            and_from (nat_eq word (word_of l tag)) (nat_eq place (place_of l tag))
+                (eq-eqb word (word_of l tag) (sym w)) (eq-eqb place (place_of l tag) (sym p)),
+          )
 
-    -- and the place of each of its tags is a bit of its mask
-    named_bit : is_named k.layout run.tags word place ≡ true → (nat_eq word run.word && nat_lt place 64 && nat_eq (bit_at run.mask place) 1) ≡ true
-    named_bit e =
-        let l : Layout = k.layout in
-        let a = Any-from_list_any (λ t. nat_eq word (word_of l t) && nat_eq place (place_of l t)) run.tags e in
-        let tag : ℕ = a.1 in
-        let at = and_parts (nat_eq word (word_of l tag)) (nat_eq place (place_of l tag)) a.4 in
-        let w : word ≡ word_of l tag = eqb-true word (word_of l tag) at.0 in let p : place ≡ place_of l tag = eqb-true place (place_of l tag) at.1 in
-        let m = and_parts (nat_eq (word_of l tag) run.word) (nat_eq (bit_at run.mask (place_of l tag)) 1) ((is.mask_is tag).1 (a.0, a.2, a.3)) in
-        let set : bit_at run.mask place ≡ 1 = ap (bit_at run.mask) p ∙ eqb-true (bit_at run.mask (place_of l tag)) 1 m.1 in
-        let fits = small_word k narrow run.word run.mask within in
-        let low : place < 64 = ⊎_elim (λ (h : place < 64). h)
-        (λ (h : 64 ≤ place). let none = bit_at_above run.mask 64 place fits h in absurd (omega arith)) (cases_lt place 64) in
-        and_from (nat_eq word run.word && nat_lt place 64) (nat_eq (bit_at run.mask place) 1)
-        (and_from (nat_eq word run.word) (nat_lt place 64) (eq-eqb word run.word (w ∙ eqb-true (word_of l tag) run.word m.0)) (lt-ltb place 64 low))
-        (eq-eqb (bit_at run.mask place) 1 set)
+      -- and the place of each of its tags is a bit of its mask
+      named_bit : is_named k.layout run.tags word place ≡ true
+          → (nat_eq word run.word && nat_lt place 64 && nat_eq (bit_at run.mask place) 1) ≡ true
+      named_bit e =
+          let l : Layout = k.layout in
+          let a = Any-from_list_any (λ t. nat_eq word (word_of l t) && nat_eq place (place_of l t)) run.tags e in
+          let tag : ℕ = a.1 in
+          let at = and_parts (nat_eq word (word_of l tag)) (nat_eq place (place_of l tag)) a.4 in
+          let w : word ≡ word_of l tag = eqb-true word (word_of l tag) at.0 in
+          let p : place ≡ place_of l tag = eqb-true place (place_of l tag) at.1 in
+          let m = and_parts (nat_eq (word_of l tag) run.word) (nat_eq (bit_at run.mask (place_of l tag)) 1)
+          ((is.mask_is tag).1 (a.0, a.2, a.3)) in
+          let set : bit_at run.mask place ≡ 1 =
+          ap (bit_at run.mask) p ∙ eqb-true (bit_at run.mask (place_of l tag)) 1 m.1 in
+          let fits = small_word k narrow run.word run.mask within in
+          let low : place < 64 = ⊎_elim (λ (h : place < 64). h)
+          (λ (h : 64 ≤ place). let none = bit_at_above run.mask 64 place fits h in absurd (omega arith))
+          (cases_lt place 64) in
+          and_from (nat_eq word run.word && nat_lt place 64) (nat_eq (bit_at run.mask place) 1)
+          (and_from (nat_eq word run.word) (nat_lt place 64)
+          (eq-eqb word run.word (w ∙ eqb-true (word_of l tag) run.word m.0)) (lt-ltb place 64 low))
+          (eq-eqb (bit_at run.mask place) 1 set)
 
-    run_named : (nat_eq word run.word && nat_lt place 64 && nat_eq (bit_at run.mask place) 1) ≡ is_named k.layout run.tags word place
-    run_named = same_test (nat_eq word run.word && nat_lt place 64 && nat_eq (bit_at run.mask place) 1) (is_named k.layout run.tags word place)
-        bit_named named_bit
+      run_named : (nat_eq word run.word && nat_lt place 64 && nat_eq (bit_at run.mask place) 1)
+          ≡ is_named k.layout run.tags word place
+      run_named = same_test (nat_eq word run.word && nat_lt place 64 && nat_eq (bit_at run.mask place) 1)
+          (is_named k.layout run.tags word place)
+          bit_named named_bit
 
   -- the runs free the places of their tags
-  runs_named : (runs : List Run) (tags : List ℕ) → AreRuns k.layout tags runs → AreRunsWithin k.layout runs → (p : Pool) (word place : ℕ)
+  runs_named : (runs : List Run) (tags : List ℕ) → AreRuns k.layout tags runs → AreRunsWithin k.layout runs
+      → (p : Pool) (word place : ℕ)
       → (freed_by runs p).free word place ≡ (p.free word place || is_named k.layout tags word place)
   runs_named [] tags none within p word place =
-      sym (ap (λ (ts : List ℕ). p.free word place || is_named k.layout ts word place) none ∙ or_false (p.free word place))
+      sym (ap (λ (ts : List ℕ). p.free word place || is_named k.layout ts word place) none
+      ∙ or_false (p.free word place))
   runs_named (run ∷ runs) tags cut within p word place =
-      let before = cut.0 in let test : ℕ → Bool = λ t. nat_eq word (word_of k.layout t) && nat_eq place (place_of k.layout t) in
+      let before = cut.0 in let test : ℕ → Bool =
+      λ t. nat_eq word (word_of k.layout t) && nat_eq place (place_of k.layout t) in
       (λ j. runs_named runs before cut.4 within.1 p word place j || run_named run cut.2 within.0 word place j)
       ∙ or_assoc (p.free word place) (is_named k.layout before word place) (is_named k.layout run.tags word place)
       ∙ ap (λ (b : Bool). p.free word place || b) (sym (list_any-append test before run.tags)
       ∙ ap (λ (ts : List ℕ). list_any test ts) (sym cut.1))
 
 module _ {R : Type 0} (old new : Agent R) (one : IsAlone (caller_of old)) (numbers : List ℕ) where
-  pub lone_give : (lone_of old).layout.shift ≤ 6 → GivesBack (lone_of old).layout numbers old new → lone_of new ≡ give_back numbers (lone_of old)
+  pub lone_give : (lone_of old).layout.shift ≤ 6 → GivesBack (lone_of old).layout numbers old new
+      → lone_of new ≡ give_back numbers (lone_of old)
   lone_give narrow g =
-      let k : Shape = (caller_of old).shape.value in let r : Record R = record_of (caller_of old) in let runs : List Run = g.gives.runs in
-      let made = ap (λ (s : Record R). s.steps) g.gives.known in let shape = ap (λ (s : Record R). s.shape) g.gives.known ∙ same_shape runs r in
+      let k : Shape = (caller_of old).shape.value in let r : Record R = record_of (caller_of old) in
+      let runs : List Run = g.gives.runs in
+      let made = ap (λ (s : Record R). s.steps) g.gives.known in
+      let shape = ap (λ (s : Record R). s.shape) g.gives.known ∙ same_shape runs r in
       let after : IsAlone (caller_of new) = ap (λ (s : Shape). s.callers) shape ∙ one in
-      let all = subst (λ (s : Shape). AreGivesWithin s.layout (record_of (caller_of new)).steps) shape (own_within (caller_of new) after) in
+      let all = subst (λ (s : Shape). AreGivesWithin s.layout (record_of (caller_of new)).steps) shape
+      (own_within (caller_of new) after) in
       let within = runs_within k.layout runs r (subst (λ (s : List (Step R)). AreGivesWithin k.layout s) made all) in
       let pool = ap (λ (s : List (Step R)). pool_of (words_left s)) made ∙ runs_pool k narrow runs r within
       ∙ pool_ext (freed_by runs (lone_of old).pool) (give_back numbers (lone_of old)).pool

@@ -23,75 +23,96 @@ use Rattle.tag_board.proofs.SoloSteps.{lone_same, lone_post, lone_take, lone_mis
 
 module _ {R : Type 0} (old new : Hand R) where
   -- both sets are as before
-  pub both_same : (kind : Kind) → lone_of (agent_of new kind) ≡ lone_of (agent_of old kind) → agent_of new (other_kind kind) ≡ agent_of old (other_kind kind)
+  pub both_same : (kind : Kind) → lone_of (agent_of new kind) ≡ lone_of (agent_of old kind)
+      → agent_of new (other_kind kind) ≡ agent_of old (other_kind kind)
       → lones_in new ≡ lones_in old
-  both_same Ordinary here other = let each : (k : Kind) → lones_in new k ≡ lones_in old k = elim [ Ordinary ↦ here | Reserved ↦ ap lone_of other ] in
+  both_same Ordinary here other = let each : (k : Kind) → lones_in new k ≡ lones_in old k =
+      elim [ Ordinary ↦ here | Reserved ↦ ap lone_of other ] in
       λ j. λ k. each k j
-  both_same Reserved here other = let each : (k : Kind) → lones_in new k ≡ lones_in old k = elim [ Ordinary ↦ ap lone_of other | Reserved ↦ here ] in
+  both_same Reserved here other = let each : (k : Kind) → lones_in new k ≡ lones_in old k =
+      elim [ Ordinary ↦ ap lone_of other | Reserved ↦ here ] in
       λ j. λ k. each k j
 
   -- waits and looks at the counts leave both sets
   pub enter_alone : (group : ℕ) → waits.Enters group old new → lones_in new ≡ lones_in old
-  enter_alone group e = let same = e.set.changed.same in both_same Ordinary (lone_same old.ordinary new.ordinary same.0 same.1) e.set.other
+  enter_alone group e = let same = e.set.changed.same in
+      both_same Ordinary (lone_same old.ordinary new.ordinary same.0 same.1) e.set.other
 
   pub leave_alone : (left : Left) → waits.Leaves left old new → lones_in new ≡ lones_in old
-  leave_alone left l = let same = l.set.changed.1 in both_same Ordinary (lone_same old.ordinary new.ordinary same.0 same.1) l.set.other
+  leave_alone left l = let same = l.set.changed.1 in
+      both_same Ordinary (lone_same old.ordinary new.ordinary same.0 same.1) l.set.other
 
   pub stay_alone : waits.Stays old new → lones_in new ≡ lones_in old
-  stay_alone s = let same = s.set.changed in both_same Ordinary (lone_same old.ordinary new.ordinary same.0 same.1) s.set.other
+  stay_alone s = let same = s.set.changed in
+      both_same Ordinary (lone_same old.ordinary new.ordinary same.0 same.1) s.set.other
 
 -- words have at most 64 bits
 pub narrow_of : {R : Type 0} (tags : Tags R) (kind : Kind) → (layout_of tags kind).shift ≤ 6
 narrow_of tags Ordinary = tags.ordinary.map.small.1
 narrow_of tags Reserved = tags.reserved.map.small.1
 
-module _ {R : Type 0} (tags : Tags R) (old new : Hand R) (own : IsHandOf tags old) (one : hands_of tags ≡ 1) (tag : ℕ) where
-  -- the tag's set changed so
-  set_of : (change : ℕ → Lone → Lone → Type 0) → change (number_in_set (split_of old) tag) (lones_in old (kind_of (split_of old) tag)) (lones_in new (kind_of (split_of old) tag))
-      → agent_of new (other_kind (kind_of (split_of old) tag)) ≡ agent_of old (other_kind (kind_of (split_of old) tag))
-      → ChangesSetOf tag change (lones_in old) (lones_in new)
-  set_of change here other = subst (λ (r : ℕ). ChangesSet (kind_of r tag) (change (number_in_set r tag)) (lones_in old) (lones_in new))
-      (own.2 ∙ split_is tags old new own one) (here, ap lone_of other)
+module _ {R : Type 0} (tags : Tags R) (old new : Hand R) (own : IsHandOf tags old) (one : hands_of tags ≡ 1) (tag : ℕ)
+  where
+    -- the tag's set changed so
+    set_of : (change : ℕ → Lone → Lone → Type 0)
+        → change (number_in_set (split_of old) tag) (lones_in old (kind_of (split_of old) tag))
+        (lones_in new (kind_of (split_of old) tag))
+        → agent_of new (other_kind (kind_of (split_of old) tag)) ≡ agent_of old (other_kind (kind_of (split_of old) tag))
+        → ChangesSetOf tag change (lones_in old) (lones_in new)
+    set_of change here other = subst (λ (r : ℕ). ChangesSet (kind_of r tag) (change (number_in_set r tag)) (lones_in old)
+        (lones_in new))
+        (own.2 ∙ split_is tags old new own one) (here, ap lone_of other)
 
-  pub post_alone : slots.Posts tag old new → LonePosts tag (lones_in old) (lones_in new)
-  post_alone p = let kind = kind_of (split_of old) tag in set_of (λ number a b. b ≡ post_in number a)
-      (lone_post (agent_of old kind) (agent_of new kind) (alone_in tags old new own one kind) (number_in_set (split_of old) tag) p.set.changed) p.set.other
+    pub post_alone : slots.Posts tag old new → LonePosts tag (lones_in old) (lones_in new)
+    post_alone p = let kind = kind_of (split_of old) tag in set_of (λ number a b. b ≡ post_in number a)
+        (lone_post (agent_of old kind) (agent_of new kind) (alone_in tags old new own one kind)
+        (number_in_set (split_of old) tag) p.set.changed) p.set.other
 
-  pub take_alone : slots.Takes tag old new
-      → (is_posted (lones_in old) tag ≡ true) × ChangesSetOf tag (λ number a b. b ≡ take_in number a) (lones_in old) (lones_in new)
-  take_alone t =
-      let kind = kind_of (split_of old) tag in
-      let both = lone_take (agent_of old kind) (agent_of new kind) (alone_in tags old new own one kind) (number_in_set (split_of old) tag) t.set.changed in (
-        subst (λ (r : ℕ). (lones_in old (kind_of r tag)).posted (number_in_set r tag) ≡ true) (own.2 ∙ split_is tags old new own one) both.0,
-        set_of (λ number a b. b ≡ take_in number a) both.1 t.set.other,
-      )
+    pub take_alone : slots.Takes tag old new
+        → (is_posted (lones_in old) tag ≡ true)
+        × ChangesSetOf tag (λ number a b. b ≡ take_in number a) (lones_in old) (lones_in new)
+    take_alone t =
+        let kind = kind_of (split_of old) tag in
+        let both = lone_take (agent_of old kind) (agent_of new kind) (alone_in tags old new own one kind)
+        (number_in_set (split_of old) tag) t.set.changed in (
+          subst (λ (r : ℕ). (lones_in old (kind_of r tag)).posted (number_in_set r tag) ≡ true)
+              (own.2 ∙ split_is tags old new own one) both.0,
+          set_of (λ number a b. b ≡ take_in number a) both.1 t.set.other,
+        )
 
-  pub miss_alone : slots.Misses tag old new → (is_posted (lones_in old) tag ≡ false) × (lones_in new ≡ lones_in old)
-  miss_alone m =
-      let kind = kind_of (split_of old) tag in
-      let both = lone_miss (agent_of old kind) (agent_of new kind) (alone_in tags old new own one kind) (number_in_set (split_of old) tag) m.set.changed in (
-        subst (λ (r : ℕ). (lones_in old (kind_of r tag)).posted (number_in_set r tag) ≡ false) (own.2 ∙ split_is tags old new own one) both.0,
-        both_same old new kind both.1 m.set.other,
-      )
+    pub miss_alone : slots.Misses tag old new → (is_posted (lones_in old) tag ≡ false) × (lones_in new ≡ lones_in old)
+    miss_alone m =
+        let kind = kind_of (split_of old) tag in
+        let both = lone_miss (agent_of old kind) (agent_of new kind) (alone_in tags old new own one kind)
+        (number_in_set (split_of old) tag) m.set.changed in (
+          subst (λ (r : ℕ). (lones_in old (kind_of r tag)).posted (number_in_set r tag) ≡ false)
+              (own.2 ∙ split_is tags old new own one) both.0,
+          both_same old new kind both.1 m.set.other,
+        )
 
-  narrow_in : (kind : Kind) → (lones_in old kind).layout.shift ≤ 6
-  narrow_in kind = subst (λ (l : Layout). l.shift ≤ 6) (layout_in tags old new own one kind) (narrow_of tags kind)
+    narrow_in : (kind : Kind) → (lones_in old kind).layout.shift ≤ 6
+    narrow_in kind = subst (λ (l : Layout). l.shift ≤ 6) (layout_in tags old new own one kind) (narrow_of tags kind)
 
-  pub clear_alone : clears.Clears tags tag old new → LoneClears tag (lones_in old) (lones_in new)
-  clear_alone p = let kind = kind_of (split_of old) tag in let number : ℕ = number_in_set (split_of old) tag in
-      set_of (λ number a b. b ≡ put_back number a)
-      (lone_put (agent_of old kind) (agent_of new kind) (alone_in tags old new own one kind) number (narrow_in kind)
-      (subst (λ (l : Layout). queue_clears.Puts l number (agent_of old kind) (agent_of new kind)) (layout_in tags old new own one kind) p.set.changed))
-      p.set.other
+    pub clear_alone : clears.Clears tags tag old new → LoneClears tag (lones_in old) (lones_in new)
+    clear_alone p = let kind = kind_of (split_of old) tag in let number : ℕ = number_in_set (split_of old) tag in
+        set_of (λ number a b. b ≡ put_back number a)
+        (lone_put (agent_of old kind) (agent_of new kind) (alone_in tags old new own one kind) number (narrow_in kind)
+        (subst (λ (l : Layout). queue_clears.Puts l number (agent_of old kind) (agent_of new kind))
+        (layout_in tags old new own one kind) p.set.changed))
+        p.set.other
 
 -- a list of ordinary tags that the only hand gives back
-pub list_alone : {R : Type 0} (tags : Tags R) (old new : Hand R) → IsHandOf tags old → hands_of tags ≡ 1 → (list : List ℕ)
+pub list_alone : {R : Type 0} (tags : Tags R) (old new : Hand R) → IsHandOf tags old → hands_of tags ≡ 1
+    → (list : List ℕ)
     → batches.GivesBack tags list old new → LoneClearsList list (lones_in old) (lones_in new)
 list_alone tags old new own one list g = (
-  subst (λ (r : ℕ). lone_of new.ordinary ≡ give_back (map (λ (tag : ℕ). tag - r) list) (lone_of old.ordinary)) (split_is tags old new own one)
-      (lone_give old.ordinary new.ordinary (alone_in tags old new own one Ordinary) (batches.numbers_of (reserved_of tags) list)
+  subst (λ (r : ℕ). lone_of new.ordinary ≡ give_back (map (λ (tag : ℕ). tag - r) list) (lone_of old.ordinary))
+      (split_is tags old new own one)
+      (lone_give old.ordinary new.ordinary (alone_in tags old new own one Ordinary)
+      (batches.numbers_of (reserved_of tags) list)
       (subst (λ (l : Layout). l.shift ≤ 6) (layout_in tags old new own one Ordinary) (narrow_of tags Ordinary))
-      (subst (λ (l : Layout). queue_batches.GivesBack l (batches.numbers_of (reserved_of tags) list) old.ordinary new.ordinary)
+      (subst (λ (l : Layout). queue_batches.GivesBack l (batches.numbers_of (reserved_of tags) list) old.ordinary
+      new.ordinary)
       (layout_in tags old new own one Ordinary) g.set.changed)),
   ap lone_of g.set.other,
 )

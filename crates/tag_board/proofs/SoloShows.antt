@@ -27,17 +27,22 @@ module _ {R : Type 0} (tags : Tags R) (old new : Hand R) (own : IsHandOf tags ol
   module _ (kind : Kind) (found : List (ℕ × ℕ)) (a : shows.LooksAround (layout_of tags kind) kind found old new) where
     -- both sets are as before
     pub looked_same : lones_in new ≡ lones_in old
-    looked_same = both_same old new kind (lone_looked (agent_of old kind) (agent_of new kind) (alone_in tags old new own one kind) found a.looks.changed)
+    looked_same = both_same old new kind (lone_looked (agent_of old kind) (agent_of new kind)
+        (alone_in tags old new own one kind) found a.looks.changed)
         a.looks.other
 
-    pub busy_there : (number : ℕ) → (nat_lt number (layout_of tags kind).depth && looks.is_busy_in (layout_of tags kind) found number)
+    pub busy_there : (number : ℕ) → (nat_lt number (layout_of tags kind).depth
+        && looks.is_busy_in (layout_of tags kind) found number)
         ≡ is_busy_in (lones_in old kind) number
-    busy_there = lone_busy (agent_of old kind) (agent_of new kind) (alone_in tags old new own one kind) found a.looks.changed
+    busy_there = lone_busy (agent_of old kind) (agent_of new kind) (alone_in tags old new own one kind) found
+        a.looks.changed
         (layout_of tags kind) (layout_in tags old new own one kind) (narrow_of tags kind) a.each
 
-    pub aside_there : (number : ℕ) → (nat_lt number (layout_of tags kind).depth && looks.is_aside_in (layout_of tags kind) found number)
+    pub aside_there : (number : ℕ) → (nat_lt number (layout_of tags kind).depth
+        && looks.is_aside_in (layout_of tags kind) found number)
         ≡ is_aside_in (lones_in old kind) number
-    aside_there = lone_aside (agent_of old kind) (agent_of new kind) (alone_in tags old new own one kind) found a.looks.changed
+    aside_there = lone_aside (agent_of old kind) (agent_of new kind) (alone_in tags old new own one kind) found
+        a.looks.changed
         (layout_of tags kind) (layout_in tags old new own one kind) (narrow_of tags kind) a.each
 
     -- as many numbers of the set pass one test as the other
@@ -47,12 +52,15 @@ module _ {R : Type 0} (tags : Tags R) (old new : Hand R) (own : IsHandOf tags ol
         (λ k low. ap (λ (b : Bool). b && f k) (sym (lt-ltb k (layout_of tags kind).depth low)) ∙ same k)
         ∙ ap (λ (l : Layout). count_below g l.depth) (layout_in tags old new own one kind)
 
-  pub shows_alone : (kind : Kind) (shown : Shown) → shows.Shows tags kind shown old new → LoneShows kind (lones_in old) shown (lones_in new)
+  pub shows_alone : (kind : Kind) (shown : Shown) → shows.Shows tags kind shown old new
+      → LoneShows kind (lones_in old) shown (lones_in new)
   shows_alone kind shown s = record {
     busy = ap (λ (x : Shown). x.busy) s.shown_is
-        ∙ counted kind s.found s.around (looks.is_busy_in (layout_of tags kind) s.found) (is_busy_in (lones_in old kind)) (busy_there kind s.found s.around);
+        ∙ counted kind s.found s.around (looks.is_busy_in (layout_of tags kind) s.found)
+        (is_busy_in (lones_in old kind)) (busy_there kind s.found s.around);
     cleared = ap (λ (x : Shown). x.cleared) s.shown_is
-        ∙ counted kind s.found s.around (looks.is_aside_in (layout_of tags kind) s.found) (is_aside_in (lones_in old kind)) (aside_there kind s.found s.around);
+        ∙ counted kind s.found s.around (looks.is_aside_in (layout_of tags kind) s.found)
+        (is_aside_in (lones_in old kind)) (aside_there kind s.found s.around);
     same = looked_same kind s.found s.around;
   }
 
@@ -64,18 +72,23 @@ module _ {R : Type 0} (tags : Tags R) (old new : Hand R) (own : IsHandOf tags ol
   }
 
 -- a number of the ordinary set is below its depth where its tag is below the total
-above_split : (reserved depth tag number : ℕ) → number + reserved ≡ tag → nat_lt tag (reserved + depth) ≡ nat_lt number depth
+above_split : (reserved depth tag number : ℕ) → number + reserved ≡ tag
+    → nat_lt tag (reserved + depth) ≡ nat_lt number depth
 above_split reserved depth tag number is = ⊎_elim
-    (λ (t : nat_lt number depth ≡ true). let low = ltb-true number depth t in lt-ltb tag (reserved + depth) (omega arith) ∙ sym t)
-    (λ (f : nat_lt number depth ≡ false). let high = ltb-false number depth f in le-ltb tag (reserved + depth) (omega arith) ∙ sym f)
+    (λ (t : nat_lt number depth ≡ true). let low = ltb-true number depth t in
+    lt-ltb tag (reserved + depth) (omega arith) ∙ sym t)
+    (λ (f : nat_lt number depth ≡ false). let high = ltb-false number depth f in
+    le-ltb tag (reserved + depth) (omega arith) ∙ sym f)
     (cases_Bool (nat_lt number depth))
 
 module _ {R : Type 0} (tags : Tags R) (old between new : Hand R) (own : IsHandOf tags old) (one : hands_of tags ≡ 1)
-    (reserved ordinary : List (ℕ × ℕ)) (first : shows.LooksAround (layout_of tags Reserved) Reserved reserved old between)
+    (reserved ordinary : List (ℕ × ℕ)) (first : shows.LooksAround (layout_of tags Reserved) Reserved reserved old
+    between)
     (second : shows.LooksAround (layout_of tags Ordinary) Ordinary ordinary between new) where
   -- the ordinary set is the same when its look begins
   then_found : looks.Finds (looks.looks_from 0 ordinary) old.ordinary new.ordinary
-  then_found = subst (λ (a : Agent R). looks.Finds (looks.looks_from 0 ordinary) a new.ordinary) first.looks.other second.looks.changed
+  then_found = subst (λ (a : Agent R). looks.Finds (looks.looks_from 0 ordinary) a new.ordinary) first.looks.other
+      second.looks.changed
 
   -- a tag was found busy where it is
   found_tag : (tag : ℕ) → busy.is_busy_tag tags reserved ordinary tag ≡ is_busy_tag (lones_in old) tag
@@ -86,7 +99,8 @@ module _ {R : Type 0} (tags : Tags R) (old between new : Hand R) (own : IsHandOf
       ⊎_elim
       (λ (is : IsReserved split tag). let t = lt-ltb tag split is.below in
       ap (λ (b : Bool). if b then here else there) t
-      ∙ ap (λ (b : Bool). b && here) (sym (lt-ltb tag r.depth (let e = tags.reserved_is in let low = is.below in omega arith)))
+      ∙ ap (λ (b : Bool). b && here) (sym (lt-ltb tag r.depth
+      (let e = tags.reserved_is in let low = is.below in omega arith)))
       ∙ busy_there tags old between own one Reserved reserved first tag
       ∙ ap (λ (n : ℕ). is_busy_in (lones_in old Reserved) n) (sym is.number)
       ∙ ap (λ (k : Kind). is_busy_in (lones_in old k) (number_in_set split tag)) (sym is.kind)
@@ -96,7 +110,8 @@ module _ {R : Type 0} (tags : Tags R) (old between new : Hand R) (own : IsHandOf
       ap (λ (b : Bool). if b then here else there) f
       ∙ ap (λ (n : ℕ). nat_lt tag (total_of tags) && looks.is_busy_in o ordinary n) same
       ∙ ap (λ (b : Bool). b && looks.is_busy_in o ordinary number) (above_split split o.depth tag number is.number)
-      ∙ lone_busy old.ordinary new.ordinary (alone_in tags old new own one Ordinary) ordinary then_found o (layout_in tags old new own one Ordinary)
+      ∙ lone_busy old.ordinary new.ordinary (alone_in tags old new own one Ordinary) ordinary then_found o
+      (layout_in tags old new own one Ordinary)
       (narrow_of tags Ordinary) second.each number
       ∙ ap (λ (k : Kind). is_busy_in (lones_in old k) number) (sym is.kind)
       ∙ ap (λ (n : ℕ). is_busy_in (lones_in old (kind_of n tag)) (number_in_set n tag)) (split_is tags old new own one))
@@ -106,14 +121,17 @@ module _ {R : Type 0} (tags : Tags R) (old between new : Hand R) (own : IsHandOf
   both_looked = let each : (k : Kind) → lones_in new k ≡ lones_in old k = elim [
     | Ordinary ↦ lone_looked old.ordinary new.ordinary (alone_in tags old new own one Ordinary) ordinary then_found
     | Reserved ↦ ap lone_of second.looks.other
-        ∙ lone_looked old.reserved between.reserved (alone_in tags old new own one Reserved) reserved first.looks.changed
+        ∙ lone_looked old.reserved between.reserved (alone_in tags old new own one Reserved) reserved
+        first.looks.changed
   ] in λ j. λ k. each k j
 
 -- the bits of the call that lists both sets
-pub lists_alone : {R : Type 0} (tags : Tags R) (old new : Hand R) → IsHandOf tags old → hands_of tags ≡ 1 → (bits : List ℕ) (count : ℕ)
+pub lists_alone : {R : Type 0} (tags : Tags R) (old new : Hand R) → IsHandOf tags old → hands_of tags ≡ 1
+    → (bits : List ℕ) (count : ℕ)
     → busy.ListsBusy tags bits count old new → LoneListsBusy (lones_in old) bits (lones_in new)
 lists_alone tags old new own one bits count l = record {
   bits_are = λ tag low. l.bits_are tag low
-      ∙ ap (λ (b : Bool). cond b 1 0) (found_tag tags old l.between new own one l.reserved l.ordinary l.first l.second tag);
+      ∙ ap (λ (b : Bool). cond b 1 0) (found_tag tags old l.between new own one l.reserved l.ordinary l.first l.second
+      tag);
   same = both_looked tags old l.between new own one l.reserved l.ordinary l.first l.second;
 }

@@ -45,7 +45,8 @@ module _ {R : Type 0} (old new : Agent R) where
     lone_post p =
         let next = ap (λ (r : Record R). r.steps) p.step.known in
         let pool = own_post (caller_of old) (caller_of new) number p.value p.step in
-        let posted : (other : ℕ) → is_posted (caller_of new) other ≡ (is_posted (caller_of old) other || nat_eq other number) = λ other.
+        let posted : (other : ℕ) → is_posted (caller_of new) other
+        ≡ (is_posted (caller_of old) other || nat_eq other number) = λ other.
         ap (λ (s : List (Step R)). nat_eq ((cells_left s).state other) 1) next
         ∙ posted_bit (nat_eq other number) ((cells_left (record_of (caller_of old)).steps).state other) in λ j. record {
           layout = (p.step.known j).shape.layout;
@@ -54,12 +55,14 @@ module _ {R : Type 0} (old new : Agent R) where
           hint = p.same_else.0 j;
         }
 
-    pub lone_take : slots.Takes number old new → (is_posted (caller_of old) number ≡ true) × (lone_of new ≡ take_in number (lone_of old))
+    pub lone_take : slots.Takes number old new → (is_posted (caller_of old) number ≡ true)
+        × (lone_of new ≡ take_in number (lone_of old))
     lone_take t =
         let next = ap (λ (r : Record R). r.steps) t.step.known in
         let after : IsAlone (caller_of new) = ap (λ (r : Record R). r.shape.callers) t.step.known ∙ one in
         let pool = own_take (caller_of old) (caller_of new) number 1 (Some t.value) t.step in
-        let posted : (other : ℕ) → is_posted (caller_of new) other ≡ (is_posted (caller_of old) other && not (nat_eq other number)) = λ other.
+        let posted : (other : ℕ) → is_posted (caller_of new) other
+        ≡ (is_posted (caller_of old) other && not (nat_eq other number)) = λ other.
         ap (λ (s : List (Step R)). nat_eq ((cells_left s).state other) 1) next
         ∙ taken_bit (nat_eq other number) ((cells_left (record_of (caller_of old)).steps).state other) in (
           sym (own_took (caller_of old) (caller_of new) number 1 (Some t.value) after t.step),
@@ -71,7 +74,8 @@ module _ {R : Type 0} (old new : Agent R) where
           },
         )
 
-    pub lone_miss : slots.Misses number old new → (is_posted (caller_of old) number ≡ false) × (lone_of new ≡ lone_of old)
+    pub lone_miss : slots.Misses number old new → (is_posted (caller_of old) number ≡ false)
+        × (lone_of new ≡ lone_of old)
     lone_miss m =
         let next = ap (λ (r : Record R). r.steps) m.step.known in
         let after : IsAlone (caller_of new) = ap (λ (r : Record R). r.shape.callers) m.step.known ∙ one in
@@ -91,10 +95,12 @@ module _ {R : Type 0} (old new : Agent R) where
     place_low : (l : Layout) → l.shift ≤ 6 → place_of l number < 64
     place_low l narrow = let few = word_bits-le l narrow in let pos : 0 < word_bits l = pow_pos l.shift in omega arith
 
-    pub lone_put : (lone_of old).layout.shift ≤ 6 → clears.Puts (lone_of old).layout number old new → lone_of new ≡ put_back number (lone_of old)
+    pub lone_put : (lone_of old).layout.shift ≤ 6 → clears.Puts (lone_of old).layout number old new
+        → lone_of new ≡ put_back number (lone_of old)
     lone_put narrow p =
         let l : Layout = (lone_of old).layout in
-        let left = own_put (caller_of old) (caller_of new) (word_of l number) (place_of l number) p.found (place_low l narrow) p.put in λ j. record {
+        let left = own_put (caller_of old) (caller_of new) (word_of l number) (place_of l number) p.found
+        (place_low l narrow) p.put in λ j. record {
           layout = (p.put.known j).shape.layout;
           pool = left.pool_is j;
           posted = λ other. left.posted other j;

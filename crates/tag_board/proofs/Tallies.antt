@@ -31,14 +31,16 @@ pub record Tallies {R : Type 0} (won back : ℕ) (old new : Agent R) : Type 0 wh
 
 module _ {R : Type 0} where
   -- the agent stands where it stood, and its gets go round as before
-  still : (old new : Agent R) → SameElse old new → (standing_of new ≡ standing_of old) × ((hint_of new).round_robin ≡ (hint_of old).round_robin)
+  still : (old new : Agent R) → SameElse old new → (standing_of new ≡ standing_of old)
+      × ((hint_of new).round_robin ≡ (hint_of old).round_robin)
   still old new same = (ap (λ w. w.standing) same.1.1, ap (λ h. h.round_robin) same.0)
 
   pub nothing_counted : (r : Record R) → Counts 0 0 r r
   nothing_counted r = record { won_is = omega arith; back_is = omega arith; number_is = refl }
 
   -- looks count nothing
-  looks_count : (found : List (ℕ × ℕ)) (word : ℕ) (r : Record R) → Counts 0 0 r (record_after_all (looks_from word found) r)
+  looks_count : (found : List (ℕ × ℕ)) (word : ℕ) (r : Record R)
+      → Counts 0 0 r (record_after_all (looks_from word found) r)
   looks_count [] word r = nothing_counted r
   looks_count (pair ∷ found) word r =
       let s : Record R = record_after (Word (LookAside word pair.1)) (record_after (Word (Look word pair.0)) r) in
@@ -57,14 +59,16 @@ module _ {R : Type 0} where
       round = g.searches.hint.round_robin;
     }
 
-    pub gets_shallow : (depth : ℕ) (answer : Option ℕ) → GetsShallow l depth answer old new → Tallies (count_of answer) 0 old new
+    pub gets_shallow : (depth : ℕ) (answer : Option ℕ) → GetsShallow l depth answer old new
+        → Tallies (count_of answer) 0 old new
     gets_shallow depth answer g = let gains = g.searches.gains in let back = gains.back in record {
       counts = record { won_is = gains.count; back_is = omega arith; number_is = gains.number };
       stands = ap (λ w. w.standing) g.others.1;
       round = g.searches.hint.round_robin;
     }
 
-    pub gets_batch : (n : ℕ) (answer : Option (ℕ × ℕ)) → GetsBatch l n answer old new → Tallies (count_of_run answer) 0 old new
+    pub gets_batch : (n : ℕ) (answer : Option (ℕ × ℕ)) → GetsBatch l n answer old new
+        → Tallies (count_of_run answer) 0 old new
     gets_batch n answer g = let back = g.gains.back in record {
       counts = record { won_is = g.gains.count; back_is = omega arith; number_is = g.gains.number };
       stands = ap (λ w. w.standing) g.others.1;
@@ -98,15 +102,16 @@ module _ {R : Type 0} where
 
   module _ (old new : Agent R) where
     pub finds : (found : List (ℕ × ℕ)) → Finds (looks_from 0 found) old new → Tallies 0 0 old new
-    finds found f = let all = looks_count found 0 (record_of (caller_of old)) in let s = still old new f.same_else in record {
-      counts = record {
-        won_is = ap (λ (r : Record R). r.won) f.known ∙ all.won_is;
-        back_is = ap (λ (r : Record R). r.back) f.known ∙ all.back_is;
-        number_is = ap (λ (r : Record R). r.number) f.known ∙ all.number_is;
-      };
-      stands = s.0;
-      round = s.1;
-    }
+    finds found f = let all = looks_count found 0 (record_of (caller_of old)) in
+        let s = still old new f.same_else in record {
+          counts = record {
+            won_is = ap (λ (r : Record R). r.won) f.known ∙ all.won_is;
+            back_is = ap (λ (r : Record R). r.back) f.known ∙ all.back_is;
+            number_is = ap (λ (r : Record R). r.number) f.known ∙ all.number_is;
+          };
+          stands = s.0;
+          round = s.1;
+        }
 
     pub posts : (tag : ℕ) → Posts tag old new → Tallies 0 0 old new
     posts tag p = let s = still old new p.same_else in record {

@@ -11,11 +11,13 @@ use Rattle.tag_board.specs.Replays.{Answers}
 
 -- the answer is a refusal for a cause that there is, or none, and there is no cause
 abbrev pub IsVerdict : {A : Type 0} → (TagFault → Type 0) → Result A TagFault → Type 0
-IsVerdict refuses r = ((fault : TagFault) × (r ≡ Err fault) × refuses fault) ⊎ (IsOk r × ((fault : TagFault) → ¬ (refuses fault)))
+IsVerdict refuses r = ((fault : TagFault) × (r ≡ Err fault) × refuses fault)
+    ⊎ (IsOk r × ((fault : TagFault) → ¬ (refuses fault)))
 
 module _ {A : Type 0} (refuses : TagFault → Type 0) (done : A → Type 0) (old new : State) where
   -- the answer is as the command answers
-  pub answers : (r : Result A TagFault) → IsVerdict refuses r → IfOk r done → OnErr r (new ≡ old) → Answers refuses done old r new
+  pub answers : (r : Result A TagFault) → IsVerdict refuses r → IfOk r done → OnErr r (new ≡ old)
+      → Answers refuses done old r new
   answers (Ok a) (inl bad) d same = let e = bad.1 in absurd cc
   answers (Ok a) (inr good) d same = (good.1, d)
   answers (Err fault) (inl bad) d same = let e = bad.1 in let is : bad.0 ≡ fault = cc in (subst refuses is bad.2, same)
@@ -23,12 +25,14 @@ module _ {A : Type 0} (refuses : TagFault → Type 0) (done : A → Type 0) (old
 
 module _ {A : Type 0} (s : State) (caller : ℕ) (r : Result A TagFault) where
   module _ (tag : ℕ) where
-    no_tag_cause : tag < s.total → (s.part caller).held tag ≡ true → (fault : TagFault) → ¬ (RefusesTag s caller tag fault)
+    no_tag_cause : tag < s.total → (s.part caller).held tag ≡ true → (fault : TagFault)
+        → ¬ (RefusesTag s caller tag fault)
     no_tag_cause low held NoSuchTag h = absurd (omega arith)
     no_tag_cause low held NotHeld h = both_ways ((s.part caller).held tag) h.1 held
     no_tag_cause low held _ h = h
 
-    pub tag_verdict : (s.total ≤ tag → r ≡ Err NoSuchTag) → (tag < s.total → (s.part caller).held tag ≡ false → r ≡ Err NotHeld)
+    pub tag_verdict : (s.total ≤ tag → r ≡ Err NoSuchTag)
+        → (tag < s.total → (s.part caller).held tag ≡ false → r ≡ Err NotHeld)
         → ((s.part caller).held tag ≡ true → IsOk r) → IsVerdict (RefusesTag s caller tag) r
     tag_verdict none not_held succeeds = ⊎_elim
         (λ (low : tag < s.total). ⊎_elim
@@ -42,7 +46,8 @@ module _ {A : Type 0} (s : State) (caller : ℕ) (r : Result A TagFault) where
   no_wait_cause out Waiting h = both_ways (s.part caller).stands out h
   no_wait_cause out _ h = h
 
-  pub wait_verdict : ((s.part caller).stands ≡ true → r ≡ Err Waiting) → ((s.part caller).stands ≡ false → IsOk r) → IsVerdict (RefusesWait s caller) r
+  pub wait_verdict : ((s.part caller).stands ≡ true → r ≡ Err Waiting) → ((s.part caller).stands ≡ false → IsOk r)
+      → IsVerdict (RefusesWait s caller) r
   wait_verdict refused succeeds = ⊎_elim
       (λ (t : (s.part caller).stands ≡ true). inl (Waiting, refused t, t))
       (λ (f : (s.part caller).stands ≡ false). inr (succeeds f, no_wait_cause f))
@@ -52,7 +57,8 @@ module _ {A : Type 0} (s : State) (caller : ℕ) (r : Result A TagFault) where
   no_leave_cause here NotWaiting h = both_ways (s.part caller).stands h here
   no_leave_cause here _ h = h
 
-  pub leave_verdict : ((s.part caller).stands ≡ false → r ≡ Err NotWaiting) → ((s.part caller).stands ≡ true → IsOk r) → IsVerdict (RefusesLeave s caller) r
+  pub leave_verdict : ((s.part caller).stands ≡ false → r ≡ Err NotWaiting) → ((s.part caller).stands ≡ true → IsOk r)
+      → IsVerdict (RefusesLeave s caller) r
   leave_verdict refused succeeds = ⊎_elim
       (λ (t : (s.part caller).stands ≡ true). inr (succeeds t, no_leave_cause t))
       (λ (f : (s.part caller).stands ≡ false). inl (NotWaiting, refused f, f))
@@ -63,51 +69,60 @@ module _ (s : State) (caller : ℕ) where
   no_get_cause room Spent h = room h
   no_get_cause room _ h = h
 
-  no_reserved_cause : 1 ≤ s.terms.reserved → ¬ (IsSpent s caller Reserved 1) → (fault : TagFault) → ¬ (RefusesGet s caller Reserved fault)
+  no_reserved_cause : 1 ≤ s.terms.reserved → ¬ (IsSpent s caller Reserved 1) → (fault : TagFault)
+      → ¬ (RefusesGet s caller Reserved fault)
   no_reserved_cause some room NoReserved h = absurd (omega arith)
   no_reserved_cause some room Spent h = room h.1
   no_reserved_cause some room _ h = h
 
-  no_shallow_cause : (depth : ℕ) → s.terms.least ≤ depth → ¬ (IsSpent s caller Ordinary 1) → (fault : TagFault) → ¬ (RefusesShallow s caller depth fault)
+  no_shallow_cause : (depth : ℕ) → s.terms.least ≤ depth → ¬ (IsSpent s caller Ordinary 1) → (fault : TagFault)
+      → ¬ (RefusesShallow s caller depth fault)
   no_shallow_cause depth deep room TooShallow h = absurd (omega arith)
   no_shallow_cause depth deep room Spent h = room h.1
   no_shallow_cause depth deep room _ h = h
 
 module _ {A : Type 0} (s : State) (caller : ℕ) where
   -- by the answer: it is a value where there is no cause, and each refusal has its cause
-  pub by_answer : (refuses : TagFault → Type 0) (r : Result A TagFault) → (IsOk r → (fault : TagFault) → ¬ (refuses fault))
+  pub by_answer : (refuses : TagFault → Type 0) (r : Result A TagFault)
+      → (IsOk r → (fault : TagFault) → ¬ (refuses fault))
       → ((fault : TagFault) → r ≡ Err fault → refuses fault) → IsVerdict refuses r
   by_answer refuses (Ok a) good bad = inr (refl, good refl)
   by_answer refuses (Err fault) good bad = inl (fault, refl, bad fault refl)
 
-  pub get_verdict : (r : Result A TagFault) → (IsSpent s caller Ordinary 1 → r ≡ Err Spent) → (¬ (IsSpent s caller Ordinary 1) → IsOk r)
+  pub get_verdict : (r : Result A TagFault) → (IsSpent s caller Ordinary 1 → r ≡ Err Spent)
+      → (¬ (IsSpent s caller Ordinary 1) → IsOk r)
       → IsVerdict (RefusesGet s caller Ordinary) r
   get_verdict r spent room = ⊎_elim
       (λ (less : s.terms.life Ordinary < (s.part caller).won Ordinary + 1). inl (Spent, spent less, less))
-      (λ (fits : (s.part caller).won Ordinary + 1 ≤ s.terms.life Ordinary). let none : ¬ (IsSpent s caller Ordinary 1) = λ less. absurd (omega arith) in
+      (λ (fits : (s.part caller).won Ordinary + 1 ≤ s.terms.life Ordinary). let none : ¬ (IsSpent s caller Ordinary 1) =
+      λ less. absurd (omega arith) in
       inr (room none, no_get_cause s caller none))
       (cases_lt (s.terms.life Ordinary) ((s.part caller).won Ordinary + 1))
 
   pub reserved_verdict : (r : Result A TagFault) → (s.terms.reserved ≡ 0 → r ≡ Err NoReserved)
-      → (1 ≤ s.terms.reserved → IsSpent s caller Reserved 1 → r ≡ Err Spent) → (1 ≤ s.terms.reserved → ¬ (IsSpent s caller Reserved 1) → IsOk r)
+      → (1 ≤ s.terms.reserved → IsSpent s caller Reserved 1 → r ≡ Err Spent)
+      → (1 ≤ s.terms.reserved → ¬ (IsSpent s caller Reserved 1) → IsOk r)
       → IsVerdict (RefusesGet s caller Reserved) r
   reserved_verdict r none spent room = ⊎_elim
       (λ (zero_is : s.terms.reserved ≡ 0). inl (NoReserved, none zero_is, zero_is))
       (λ (ne : s.terms.reserved ≢ 0). let some : 1 ≤ s.terms.reserved = omega arith in ⊎_elim
       (λ (less : s.terms.life Reserved < (s.part caller).won Reserved + 1). inl (Spent, spent some less, (some, less)))
-      (λ (fits : (s.part caller).won Reserved + 1 ≤ s.terms.life Reserved). let open_ : ¬ (IsSpent s caller Reserved 1) = λ less. absurd (omega arith) in
+      (λ (fits : (s.part caller).won Reserved + 1 ≤ s.terms.life Reserved). let open_ : ¬
+      (IsSpent s caller Reserved 1) = λ less. absurd (omega arith) in
       inr (room some open_, no_reserved_cause s caller some open_))
       (cases_lt (s.terms.life Reserved) ((s.part caller).won Reserved + 1)))
       (cases_eq s.terms.reserved 0)
 
   pub shallow_verdict : (depth : ℕ) (r : Result A TagFault) → (depth < s.terms.least → r ≡ Err TooShallow)
-      → (s.terms.least ≤ depth → IsSpent s caller Ordinary 1 → r ≡ Err Spent) → (s.terms.least ≤ depth → ¬ (IsSpent s caller Ordinary 1) → IsOk r)
+      → (s.terms.least ≤ depth → IsSpent s caller Ordinary 1 → r ≡ Err Spent)
+      → (s.terms.least ≤ depth → ¬ (IsSpent s caller Ordinary 1) → IsOk r)
       → IsVerdict (RefusesShallow s caller depth) r
   shallow_verdict depth r shallow spent room = ⊎_elim
       (λ (low : depth < s.terms.least). inl (TooShallow, shallow low, low))
       (λ (deep : s.terms.least ≤ depth). ⊎_elim
       (λ (less : s.terms.life Ordinary < (s.part caller).won Ordinary + 1). inl (Spent, spent deep less, (deep, less)))
-      (λ (fits : (s.part caller).won Ordinary + 1 ≤ s.terms.life Ordinary). let open_ : ¬ (IsSpent s caller Ordinary 1) = λ less. absurd (omega arith) in
+      (λ (fits : (s.part caller).won Ordinary + 1 ≤ s.terms.life Ordinary). let open_ : ¬
+      (IsSpent s caller Ordinary 1) = λ less. absurd (omega arith) in
       inr (room deep open_, no_shallow_cause s caller depth deep open_))
       (cases_lt (s.terms.life Ordinary) ((s.part caller).won Ordinary + 1)))
       (cases_lt depth s.terms.least)
@@ -116,12 +131,14 @@ module _ {A : Type 0} (s : State) (caller : ℕ) where
       (around : ¬ (Miscounts s n) → (s.part caller).round_robin ≡ true → IsOk r)
       (spent : ¬ (Miscounts s n) → (s.part caller).round_robin ≡ false → IsSpent s caller Ordinary n → r ≡ Err Spent)
       (room : ¬ (Miscounts s n) → ¬ (IsSpent s caller Ordinary n) → IsOk r) where
-    none_around : ¬ (Miscounts s n) → (s.part caller).round_robin ≡ true → (fault : TagFault) → ¬ (RefusesBatch s caller n fault)
+    none_around : ¬ (Miscounts s n) → (s.part caller).round_robin ≡ true → (fault : TagFault)
+        → ¬ (RefusesBatch s caller n fault)
     none_around fits round BadCount h = fits h
     none_around fits round Spent h = both_ways (s.part caller).round_robin h.1 round
     none_around fits round _ h = h
 
-    none_in_room : ¬ (Miscounts s n) → ¬ (IsSpent s caller Ordinary n) → (fault : TagFault) → ¬ (RefusesBatch s caller n fault)
+    none_in_room : ¬ (Miscounts s n) → ¬ (IsSpent s caller Ordinary n) → (fault : TagFault)
+        → ¬ (RefusesBatch s caller n fault)
     none_in_room fits open_ BadCount h = fits h
     none_in_room fits open_ Spent h = open_ h.2
     none_in_room fits open_ _ h = h
@@ -130,8 +147,10 @@ module _ {A : Type 0} (s : State) (caller : ℕ) where
     counted fits = ⊎_elim
         (λ (t : (s.part caller).round_robin ≡ true). inr (around fits t, none_around fits t))
         (λ (f : (s.part caller).round_robin ≡ false). ⊎_elim
-        (λ (less : s.terms.life Ordinary < (s.part caller).won Ordinary + n). inl (Spent, spent fits f less, (fits, f, less)))
-        (λ (some : (s.part caller).won Ordinary + n ≤ s.terms.life Ordinary). let open_ : ¬ (IsSpent s caller Ordinary n) = λ less. absurd (omega arith) in
+        (λ (less : s.terms.life Ordinary < (s.part caller).won Ordinary + n). inl
+        (Spent, spent fits f less, (fits, f, less)))
+        (λ (some : (s.part caller).won Ordinary + n ≤ s.terms.life Ordinary). let open_ : ¬
+        (IsSpent s caller Ordinary n) = λ less. absurd (omega arith) in
         inr (room fits open_, none_in_room fits open_))
         (cases_lt (s.terms.life Ordinary) ((s.part caller).won Ordinary + n)))
         (cases_Bool (s.part caller).round_robin)
@@ -141,7 +160,8 @@ module _ {A : Type 0} (s : State) (caller : ℕ) where
         (λ (none : n ≡ 0). inl (BadCount, miscounts (inl none), inl none))
         (λ (some : n ≢ 0). ⊎_elim
         (λ (wide : s.terms.bits Ordinary < n). inl (BadCount, miscounts (inr wide), inr wide))
-        (λ (fits : n ≤ s.terms.bits Ordinary). counted (⊎_elim (λ (none : n ≡ 0). some none) (λ (wide : s.terms.bits Ordinary < n). absurd (omega arith))))
+        (λ (fits : n ≤ s.terms.bits Ordinary). counted
+        (⊎_elim (λ (none : n ≡ 0). some none) (λ (wide : s.terms.bits Ordinary < n). absurd (omega arith))))
         (cases_lt (s.terms.bits Ordinary) n))
         (cases_eq n 0)
 
@@ -158,11 +178,14 @@ module _ {A : Type 0} (s : State) (caller : ℕ) where
     -- no other refusal comes
     three : (fault : TagFault) → r ≡ Err fault → fault ≢ BadCount → fault ≢ NoSuchTag → fault ≢ NotHeld → ⊥
     three fault e not_bad not_none not_free =
-        let counts : ¬ (¬ (CountsTags tags)) = λ no_count. let f = bad.1 no_count in let same : fault ≡ BadCount = cc in not_bad same in
-        counts (λ count. let all : ¬ (¬ (AreOrdinary s tags)) = λ no_all. let f = none.1 (count, no_all) in let same : fault ≡ NoSuchTag = cc in not_none same in
+        let counts : ¬ (¬ (CountsTags tags)) = λ no_count. let f = bad.1 no_count in
+        let same : fault ≡ BadCount = cc in not_bad same in
+        counts (λ count. let all : ¬ (¬ (AreOrdinary s tags)) = λ no_all. let f = none.1 (count, no_all) in
+        let same : fault ≡ NoSuchTag = cc in not_none same in
         all (λ there. let held : ¬ (¬ (AreHeldOnce s caller tags)) = λ no_held.
         let f = free.1 (count, there, no_held) in let same : fault ≡ NotHeld = cc in not_free same in
-        held (λ once. let ok = succeeds.1 (count, there, once) in let P : Result A TagFault → Type 0 = λ x. IsOk x in let wrong = subst P e ok in cc)))
+        held (λ once. let ok = succeeds.1 (count, there, once) in let P : Result A TagFault → Type 0 = λ x. IsOk x in
+        let wrong = subst P e ok in cc)))
 
     list_bad : (fault : TagFault) → r ≡ Err fault → RefusesList s caller tags fault
     list_bad BadCount e = bad.0 e

@@ -27,7 +27,8 @@ abbrev pub Joins : (ℕ → Bool) → (Part → Part) → Type 0
 Joins named change = (p : Part) (tag : ℕ) → (change p).held tag ≡ (p.held tag || named tag)
 
 module _ {R : Type 0} (tags : Tags R) (hands : List (Hand R)) (i : ℕ) (old new : Hand R) (within : i < length hands)
-    (here : old ≡ get_or hands i old) (named : ℕ → Bool) (change : Part → Part) (moved : part_of new ≡ change (part_of old)) where
+    (here : old ≡ get_or hands i old) (named : ℕ → Bool) (change : Part → Part)
+    (moved : part_of new ≡ change (part_of old)) where
   -- the caller holds what it won
   pub holds_won : Joins named change → HoldsAll (state_of_all tags (set hands i new)) i named
   holds_won joins tag is = let c = changes tags hands i old new within here change moved in
@@ -88,12 +89,14 @@ module _ {R : Type 0} (tags : Tags R) (hands : List (Hand R)) (old new : Hand R)
   }
 
   -- a batch wins nothing where gets go round
-  pub batch_wins : (n : ℕ) (answer : Option (ℕ × ℕ)) → ((hint_of old Ordinary).round_robin ≡ true → (answer ≡ None) × (new ≡ old))
+  pub batch_wins : (n : ℕ) (answer : Option (ℕ × ℕ))
+      → ((hint_of old Ordinary).round_robin ≡ true → (answer ≡ None) × (new ≡ old))
       → ((hint_of old Ordinary).round_robin ≡ false → gets.GetsBatch tags n answer old new)
       → HandWins (state_of_all tags hands) Ordinary (is_in_run answer) (count_of_run answer) old new
   batch_wins n answer around straight = ⊎_elim
       (λ (t : (hint_of old Ordinary).round_robin ≡ true). let none = around t in
-      subst (λ (o : Option (ℕ × ℕ)). HandWins (state_of_all tags hands) Ordinary (is_in_run o) (count_of_run o) old new) (sym none.0)
+      subst (λ (o : Option (ℕ × ℕ)). HandWins (state_of_all tags hands) Ordinary (is_in_run o) (count_of_run o) old new)
+      (sym none.0)
       (subst (λ (h : Hand R). HandWins (state_of_all tags hands) Ordinary (is_in_run None) 0 old h) (sym none.1)
       (record { moves = none_won; fresh = λ tag e. absurd (cc); there = λ tag e. absurd (cc) })))
       (λ (f : (hint_of old Ordinary).round_robin ≡ false). let g = straight f in record {
@@ -105,17 +108,20 @@ module _ {R : Type 0} (tags : Tags R) (hands : List (Hand R)) (old new : Hand R)
 
 module _ {R : Type 0} (tags : Tags R) (hands : List (Hand R)) (old new : Hand R) (n : ℕ) where
   -- a batch that is answered was counted right, so where gets go round there is none
-  pub none_around : (answer : Option (ℕ × ℕ)) (r : Result (Option (ℕ × ℕ)) TagFault) → r ≡ Ok answer → (r ≡ Err BadCount) ↔ gets.MiscountsBatch tags n
+  pub none_around : (answer : Option (ℕ × ℕ)) (r : Result (Option (ℕ × ℕ)) TagFault) → r ≡ Ok answer
+      → (r ≡ Err BadCount) ↔ gets.MiscountsBatch tags n
       → (¬ (gets.MiscountsBatch tags n) → IsTrue (hint_of old Ordinary).round_robin → (r ≡ Ok None) × (new ≡ old))
       → (hint_of old Ordinary).round_robin ≡ true → (answer ≡ None) × (new ≡ old)
   none_around answer r is bad around round = let none = around (λ m. let e = bad.1 m in cc) round in
       (let same = none.0 in cc, none.1)
 
-  pub batch_of_answer : (answer : Option (ℕ × ℕ)) (r : Result (Option (ℕ × ℕ)) TagFault) → r ≡ Ok answer → (r ≡ Err BadCount) ↔ gets.MiscountsBatch tags n
+  pub batch_of_answer : (answer : Option (ℕ × ℕ)) (r : Result (Option (ℕ × ℕ)) TagFault) → r ≡ Ok answer
+      → (r ≡ Err BadCount) ↔ gets.MiscountsBatch tags n
       → (¬ (gets.MiscountsBatch tags n) → IsTrue (hint_of old Ordinary).round_robin → (r ≡ Ok None) × (new ≡ old))
       → ((hint_of old Ordinary).round_robin ≡ false → gets.GetsBatch tags n answer old new)
       → HandWins (state_of_all tags hands) Ordinary (is_in_run answer) (count_of_run answer) old new
-  batch_of_answer answer r is bad around straight = batch_wins tags hands old new n answer (none_around answer r is bad around) straight
+  batch_of_answer answer r is bad around straight =
+      batch_wins tags hands old new n answer (none_around answer r is bad around) straight
 
 -- the number is as before a batch, whatever it is answered
 pub batch_number : {R : Type 0} (tags : Tags R) (old new : Hand R) (n : ℕ) (r : Result (Option (ℕ × ℕ)) TagFault)
@@ -123,7 +129,8 @@ pub batch_number : {R : Type 0} (tags : Tags R) (old new : Hand R) (n : ℕ) (r 
     → (¬ (gets.MiscountsBatch tags n) → IsTrue (hint_of old Ordinary).round_robin → (r ≡ Ok None) × (new ≡ old))
     → ((hint_of old Ordinary).round_robin ≡ false → IfOk r (λ answer. gets.GetsBatch tags n answer old new))
     → OnOk r (number_of new ≡ number_of old)
-batch_number tags old new n (Ok answer) bad around straight = (batch_of_answer tags [] old new n answer (Ok answer) refl bad around straight).moves.number
+batch_number tags old new n (Ok answer) bad around straight =
+    (batch_of_answer tags [] old new n answer (Ok answer) refl bad around straight).moves.number
 batch_number tags old new n (Err fault) bad around straight = tt
 
 module _ {R : Type 0} (tags : Tags R) (hands : List (Hand R)) (i : ℕ) (old new : Hand R) (within : i < length hands)

@@ -23,7 +23,8 @@ use Rattle.tag_sets.specs.Bits.{bit_in}
 use Rattle.tag_sets.specs.Gets.{whole, whole_run}
 use Rattle.tag_sets.specs.Sets.{kind_of, number_in_set, other_kind}
 
--- a set as its only caller leaves it: its sizes, which places are free and which set aside, which tags are posted, and where the
+-- a set as its only caller leaves it: its sizes, which places are free and which set aside, which tags are posted, and
+-- where the
 -- caller's next get begins
 pub record Lone : Type 0 where
   pub layout : Layout
@@ -59,7 +60,8 @@ ChangesSet kind change old new = change (old kind) (new kind) × (new (other_kin
 
 -- the set of a tag changed so, where the tag has this number
 abbrev pub ChangesSetOf : ℕ → (ℕ → Lone → Lone → Type 0) → Lones → Lones → Type 0
-ChangesSetOf tag change old new = ChangesSet (kind_of (split_in old) tag) (change (number_in_set (split_in old) tag)) old new
+ChangesSetOf tag change old new = ChangesSet (kind_of (split_in old) tag) (change (number_in_set (split_in old) tag))
+    old new
 
 -- a refused command leaves both sets as they were, and any other does this
 abbrev pub Does : {A : Type 0} → (A → Lones → Lones → Type 0) → Lones → Result A TagFault → Lones → Type 0
@@ -84,19 +86,22 @@ pub record Chooses (visits : Lone → List Visit) (answer : Option ℕ) (old new
 -- the same of n tags side by side, from the word of the hint on
 pub record ChoosesRun (n : ℕ) (answer : Option (ℕ × ℕ)) (old new : Lone) : Type 0 where
   pub layout : new.layout ≡ old.layout
-  pub choice : IsBatchChoice old.layout n old.pool (batch_words old.layout (word_of old.layout (reduced old.layout.depth old.hint.at))) answer new.pool
+  pub choice : IsBatchChoice old.layout n old.pool
+      (batch_words old.layout (word_of old.layout (reduced old.layout.depth old.hint.at))) answer new.pool
   pub posted : new.posted ≡ old.posted
   pub hint : BatchFollows old.layout.depth n old.hint new.hint answer
 
 -- the tag answered is the set's choice
 abbrev pub LoneGets : Kind → (Lone → List Visit) → Option ℕ → Lones → Lones → Type 0
-LoneGets kind visits answer old new = (number : Option ℕ) × (answer ≡ whole (first_in old kind) number) × ChangesSet kind (Chooses visits number) old new
+LoneGets kind visits answer old new = (number : Option ℕ) × (answer ≡ whole (first_in old kind) number)
+    × ChangesSet kind (Chooses visits number) old new
 
 -- the tags answered are the ordinary set's choice; where gets go round there are none, and nothing is done
 pub record LoneBatch (n : ℕ) (answer : Option (ℕ × ℕ)) (old new : Lones) : Type 0 where
   pub around : (old Ordinary).hint.round_robin ≡ true → (answer ≡ None) × (new ≡ old)
   pub choice : (old Ordinary).hint.round_robin ≡ false
-      → (number : Option (ℕ × ℕ)) × (answer ≡ whole_run (split_in old) number) × ChangesSet Ordinary (ChoosesRun n number) old new
+      → (number : Option (ℕ × ℕ)) × (answer ≡ whole_run (split_in old) number)
+      × ChangesSet Ordinary (ChoosesRun n number) old new
 
 -- the hint after a clear of this tag
 abbrev pub hint_at : ℕ → Hint → Hint
@@ -105,11 +110,16 @@ hint_at number h = record h { at = if h.round_robin then h.at else number }
 -- the tag is set aside, and the hint is at it, but not where gets go round
 abbrev pub put_back : ℕ → Lone → Lone
 put_back number w =
-    record w { pool = aside_at (word_of w.layout number) (place_of w.layout number) w.pool; hint = hint_at number w.hint }
+    record w {
+      pool = aside_at (word_of w.layout number) (place_of w.layout number) w.pool;
+      hint =
+          hint_at number w.hint;
+    }
 
 -- the place is that of a tag of the list
 abbrev pub is_named : Layout → List ℕ → ℕ → ℕ → Bool
-is_named l numbers word place = list_any (λ number. nat_eq word (word_of l number) && nat_eq place (place_of l number)) numbers
+is_named l numbers word place = list_any (λ number. nat_eq word (word_of l number) && nat_eq place (place_of l number))
+    numbers
 
 -- the tags of the list are free, and the hint is at the last of them, but not where gets go round
 abbrev pub give_back : List ℕ → Lone → Lone
@@ -136,7 +146,8 @@ LoneClears tag = ChangesSetOf tag (λ number old new. new ≡ put_back number ol
 
 -- a clear of a list of ordinary tags
 abbrev pub LoneClearsList : List ℕ → Lones → Lones → Type 0
-LoneClearsList tags old = ChangesSet Ordinary (λ before after. after ≡ give_back (map (λ tag. tag - split_in old) tags) before) old
+LoneClearsList tags old = ChangesSet Ordinary
+    (λ before after. after ≡ give_back (map (λ tag. tag - split_in old) tags) before) old
 
 -- a post
 abbrev pub LonePosts : ℕ → Lones → Lones → Type 0
@@ -144,13 +155,15 @@ LonePosts tag = ChangesSetOf tag (λ number old new. new ≡ post_in number old)
 
 -- a take, which finds the tag where it is posted, and only there
 abbrev pub LoneTakes : ℕ → Lones → Result (Unit {0}) TagFault → Lones → Type 0
-LoneTakes tag old (Ok done) new = (is_posted old tag ≡ true) × ChangesSetOf tag (λ number before after. after ≡ take_in number before) old new
+LoneTakes tag old (Ok done) new = (is_posted old tag ≡ true)
+    × ChangesSetOf tag (λ number before after. after ≡ take_in number before) old new
 LoneTakes tag old (Err NotPosted) new = (is_posted old tag ≡ false) × (new ≡ old)
 LoneTakes tag old (Err fault) new = new ≡ old
 
 -- the tag of a set is neither free nor set aside
 abbrev pub is_busy_in : Lone → ℕ → Bool
-is_busy_in w number = nat_lt number w.layout.depth && is_busy w.pool (word_of w.layout number) (place_of w.layout number)
+is_busy_in w number = nat_lt number w.layout.depth
+    && is_busy w.pool (word_of w.layout number) (place_of w.layout number)
 
 -- the tag of a set is set aside
 abbrev pub is_aside_in : Lone → ℕ → Bool
@@ -188,5 +201,6 @@ resized depth w = record (untouched (record { depth = depth; shift = w.layout.sh
 
 -- a resize to so many tags in both sets
 abbrev pub LoneResizes : ℕ → Lones → Result (Unit {0}) ResizeCause → Lones → Type 0
-LoneResizes total old (Ok done) new = ChangesSet Ordinary (λ before after. after ≡ resized (total - split_in old) before) old new
+LoneResizes total old (Ok done) new = ChangesSet Ordinary
+    (λ before after. after ≡ resized (total - split_in old) before) old new
 LoneResizes total old (Err cause) new = new ≡ old

@@ -6,7 +6,8 @@ use Rattle.tag_sets.specs.declared.kind.Kind.{Kind}
 use Rattle.tag_sets.specs.declared.kind.Kind.TheVariants.{Ordinary, Reserved}
 use Rattle.tag_board.specs.States.{State, idle}
 
--- the words of a set of so many tags have 2 ^ shift bits, where the shift is the one that the options give, or the default one
+-- the words of a set of so many tags have 2 ^ shift bits, where the shift is the one that the options give, or the
+-- default one
 abbrev pub HasBits : Options → ℕ → ℕ → Type 0
 HasBits options depth bits = (shift : ℕ) × HasShift depth options.shift shift × (bits ≡ 2 ^ shift)
 

@@ -81,12 +81,14 @@ is_in_list tags tag = list_any (nat_eq tag) tags
 -- a get of a set
 abbrev pub Gets : Kind → ℕ → State → Result (Option ℕ) TagFault → State → Type 0
 Gets kind caller old result new =
-    Answers (RefusesGet old caller kind) (λ answer. Wins caller kind (is_answer answer) (count_of answer) old new) old result new
+    Answers (RefusesGet old caller kind) (λ answer. Wins caller kind (is_answer answer) (count_of answer) old new) old
+    result new
 
 -- a shallow get of this depth
 abbrev pub GetsShallow : ℕ → ℕ → State → Result (Option ℕ) TagFault → State → Type 0
 GetsShallow depth caller old result new =
-    Answers (RefusesShallow old caller depth) (λ answer. Wins caller Ordinary (is_answer answer) (count_of answer) old new) old result new
+    Answers (RefusesShallow old caller depth)
+    (λ answer. Wins caller Ordinary (is_answer answer) (count_of answer) old new) old result new
 
 -- a batch of n, which finds none where gets go round
 abbrev pub GetsBatch : ℕ → ℕ → State → Result (Option (ℕ × ℕ)) TagFault → State → Type 0
@@ -106,22 +108,26 @@ ClearsList tags caller old result new = Answers (RefusesList old caller tags)
 
 -- a post
 abbrev pub Posts : ℕ → ℕ → State → Result (Unit {0}) TagFault → State → Type 0
-Posts tag caller old result new = Answers (RefusesTag old caller tag) (λ done. Changes caller (left (nat_eq tag)) old new) old result new
+Posts tag caller old result new = Answers (RefusesTag old caller tag)
+    (λ done. Changes caller (left (nat_eq tag)) old new) old result new
 
 -- a take: of a tag that is there, which nobody held; the answers alone don't tell when it is posted
 abbrev pub Takes : ℕ → ℕ → State → Result (Unit {0}) TagFault → State → Type 0
-Takes tag caller old (Ok done) new = (tag < old.total) × NobodyHolds old (nat_eq tag) × Changes caller (joined (nat_eq tag)) old new
+Takes tag caller old (Ok done) new = (tag < old.total) × NobodyHolds old (nat_eq tag)
+    × Changes caller (joined (nat_eq tag)) old new
 Takes tag caller old (Err NoSuchTag) new = (old.total ≤ tag) × (new ≡ old)
 Takes tag caller old (Err NotPosted) new = (tag < old.total) × (new ≡ old)
 Takes tag caller old (Err fault) new = ⊥
 
 -- a wait, and the group that the caller entered
 abbrev pub Waits : ℕ → State → Result ℕ TagFault → State → Type 0
-Waits caller old result new = Answers (RefusesWait old caller) (λ group. (group < 8) × Changes caller (standing true) old new) old result new
+Waits caller old result new = Answers (RefusesWait old caller)
+    (λ group. (group < 8) × Changes caller (standing true) old new) old result new
 
 -- the end of a wait
 abbrev pub Leaves : {L : Type 0} → ℕ → State → Result L TagFault → State → Type 0
-Leaves caller old result new = Answers (RefusesLeave old caller) (λ left. Changes caller (standing false) old new) old result new
+Leaves caller old result new = Answers (RefusesLeave old caller) (λ left. Changes caller (standing false) old new) old
+    result new
 
 -- no other caller holds one of the named tags
 abbrev pub NobodyElseHolds : State → ℕ → (ℕ → Bool) → Type 0

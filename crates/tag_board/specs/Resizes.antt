@@ -11,7 +11,8 @@ use Rattle.tag_board.specs.Replays.{NobodyHolds}
 abbrev pub AreUnused : State → Type 0
 AreUnused s = (held_in s ≡ 0) × (posted_in s ≡ 0)
 
--- of several causes to refuse a resize the first in this order: the total, tags in use, callers that stand in a wait group
+-- of several causes to refuse a resize the first in this order: the total, tags in use, callers that stand in a wait
+-- group
 abbrev pub RefusesResize : State → ℕ → ResizeCause → Type 0
 RefusesResize s total DepthTooLarge = IsOutOfRange total s.terms.reserved
 RefusesResize s total (InUse held posted) =

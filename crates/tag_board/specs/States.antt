@@ -5,7 +5,8 @@ use Rattle.tag_model.specs.Totals.{count_below}
 use Rattle.tag_sets.specs.declared.kind.Kind.{Kind}
 use Rattle.tag_sets.specs.declared.kind.Kind.TheVariants.{Ordinary, Reserved}
 
--- what never changes: how many tags are reserved, the first of the range; how many callers there are; how many tags of a set a
+-- what never changes: how many tags are reserved, the first of the range; how many callers there are; how many tags of
+-- a set a
 -- caller may win; the least depth of a shallow get; and the bits in a word of a set
 pub record Terms : Type 0 where
   pub reserved : ℕ
@@ -14,7 +15,8 @@ pub record Terms : Type 0 where
   pub least : ℕ
   pub bits : Kind → ℕ
 
--- a caller: which tags it holds, how many it won of each set, how many it cleared, whether it stands in a wait group, and whether
+-- a caller: which tags it holds, how many it won of each set, how many it cleared, whether it stands in a wait group,
+-- and whether
 -- its gets go round
 pub record Part : Type 0 where
   pub held : ℕ → Bool

@@ -35,13 +35,15 @@ module _ (change : Member → Member → Type 0) (code : ℤ) where
 
   -- through a hand
   pub by_member : (before after : Kind) (old new : Member)
-      → before ≡ IsMember old → after ≡ IsMember new → new.shared ≡ old.shared → change old new → CallsAs change code before after
+      → before ≡ IsMember old → after ≡ IsMember new → new.shared ≡ old.shared → change old new
+      → CallsAs change code before after
   by_member before after old new b a shared changed =
       subst (λ (x : Kind). CallsAs change code x after) (sym b)
       (subst (λ (x : Kind). CallsAs change code (IsMember old) x) (sym a) (shared, changed))
 
   -- through a pool
-  pub by_pool : (before after : Kind) (pool : Pool) → before ≡ IsPool pool → after ≡ IsPool pool → code ≡ code_of BadHandle → CallsAs change code before after
+  pub by_pool : (before after : Kind) (pool : Pool) → before ≡ IsPool pool → after ≡ IsPool pool
+      → code ≡ code_of BadHandle → CallsAs change code before after
   by_pool before after pool b a is =
       subst (λ (x : Kind). CallsAs change code x after) (sym b)
       (subst (λ (x : Kind). CallsAs change code (IsPool pool) x) (sym a) (is, refl))
@@ -56,13 +58,16 @@ pub by_hand : {A : Type 0} (does : Tags ℕ → A → Hand ℕ → Hand ℕ → 
     (shared : Shared) (answer : A)
     → before ≡ IsMember member → raw ≡ number answer → code ≡ raw → shared ≡ arc_value member.shared
     → does shared.tags answer member.hand hand
-    → CallsAs (Through does number code) code before (IsMember (record { shared = member.shared; hand = hand; own = own }))
+    → CallsAs (Through does number code) code before
+    (IsMember (record { shared = member.shared; hand = hand; own = own }))
 by_hand does number code raw before member hand own shared answer b is same at did =
-    subst (λ (x : Kind). CallsAs (Through does number code) code x (IsMember (record { shared = member.shared; hand = hand; own = own })))
+    subst (λ (x : Kind). CallsAs (Through does number code) code x
+    (IsMember (record { shared = member.shared; hand = hand; own = own })))
     (sym b)
     (refl, (answer, same ∙ is, subst (λ (s : Shared). does s.tags answer member.hand hand) at did))
 
 -- two facts of an answer together
-pub both_ok : {A E : Type 0} (P Q : A → Type 0) (answer : Result A E) → IfOk answer P → IfOk answer Q → IfOk answer (λ x. P x × Q x)
+pub both_ok : {A E : Type 0} (P Q : A → Type 0) (answer : Result A E) → IfOk answer P → IfOk answer Q
+    → IfOk answer (λ x. P x × Q x)
 both_ok P Q (Ok x) p q = (p, q)
 both_ok P Q (Err e) p q = tt

@@ -9,7 +9,8 @@ use Rattle.tag_sets.specs.Hands.{IsHandOf}
 use Rattle.tag_c.specs.Sharing.{SharesTags}
 
 -- an agent of the queue to which another one belongs belongs to each queue of that one
-one_queue : (queue other : Queue ℕ) (berth agent : Agent ℕ) → IsAgentOf other berth → IsAgentOf other agent → IsAgentOf queue berth → IsAgentOf queue agent
+one_queue : (queue other : Queue ℕ) (berth agent : Agent ℕ) → IsAgentOf other berth → IsAgentOf other agent
+    → IsAgentOf queue berth → IsAgentOf queue agent
 one_queue queue other berth agent b a own = (
   (a.0.0 ∙ sym b.0.0 ∙ own.0.0, a.0.1 ∙ sym b.0.1 ∙ own.0.1),
   a.1 ∙ sym b.1 ∙ own.1,

@@ -52,10 +52,12 @@ pub no_pool : (value : Option Object) → value ≡ None → ¬ (HasPool value)
 no_pool value none has = subst (λ (x : Option Object). IsPoolOf has.0 x) none has.1
 
 -- what lies behind a handle that has a hand is one, and so of a pool
-pub hand_there : (value : Option Object) (object : Object) → value ≡ Some object → HasHand value → (tags : Tags ℕ) × IsMemberIn tags object.kind
+pub hand_there : (value : Option Object) (object : Object) → value ≡ Some object → HasHand value → (tags : Tags ℕ)
+    × IsMemberIn tags object.kind
 hand_there value object some has = (has.0, subst (λ (x : Option Object). IsHandIn has.0 x) some has.1)
 
-pub pool_there : (value : Option Object) (object : Object) → value ≡ Some object → HasPool value → (tags : Tags ℕ) × IsPoolIn tags object.kind
+pub pool_there : (value : Option Object) (object : Object) → value ≡ Some object → HasPool value → (tags : Tags ℕ)
+    × IsPoolIn tags object.kind
 pool_there value object some has = (has.0, subst (λ (x : Option Object). IsPoolOf has.0 x) some has.1)
 
 -- a pool that is gathered has ended
@@ -74,7 +76,8 @@ closes_of pool object some totals sums ends is =
 -- why a pool is not closed is a refusal
 pub close_below : (pool : Option Object) (status : Status) → RefusesClose pool status → IsRefusal (code_of status)
 close_below pool status why = ⊎_elim (λ (no : (status ≡ BadHandle) × ¬ (HasPool pool)). below status BadHandle no.0 tt)
-    (λ (rest : (status ≡ HandsOut) ⊎ (status ≡ HandLost)). ⊎_elim (λ (is : status ≡ HandsOut). below status HandsOut is tt)
+    (λ (rest : (status ≡ HandsOut) ⊎ (status ≡ HandLost)). ⊎_elim
+    (λ (is : status ≡ HandsOut). below status HandsOut is tt)
     (λ (is : status ≡ HandLost). below status HandLost is tt) rest) why
 
 module _ (object : Object) (flags : ℕ) (status : Status) where
@@ -85,12 +88,15 @@ module _ (object : Object) (flags : ℕ) (status : Status) where
   -- why an object gives no hand is a refusal
   pub join_below : NoPool ⊎ RefusesHand flags status → IsRefusal (code_of status)
   join_below why = ⊎_elim (λ (no : NoPool). below status BadHandle no.0 tt) (λ (hand : RefusesHand flags status).
-      ⊎_elim (λ (flag : (status ≡ BadFlag) × (1 < flags)). below status BadFlag flag.0 tt) (λ (lacks : LacksHand status).
-      ⊎_elim (λ (is : status ≡ NoHand). below status NoHand is tt) (λ (is : status ≡ NotOpened Memory). below status (NotOpened Memory) is tt)
+      ⊎_elim (λ (flag : (status ≡ BadFlag) × (1 < flags)). below status BadFlag flag.0 tt)
+      (λ (lacks : LacksHand status).
+      ⊎_elim (λ (is : status ≡ NoHand). below status NoHand is tt)
+      (λ (is : status ≡ NotOpened Memory). below status (NotOpened Memory) is tt)
       lacks) hand) why
 
   -- and the call is refused for the same reason
-  pub refuses_join : (pool hand : Option Object) → pool ≡ Some object → NoPool ⊎ RefusesHand flags status → RefusesJoin pool hand flags status
+  pub refuses_join : (pool hand : Option Object) → pool ≡ Some object → NoPool ⊎ RefusesHand flags status
+      → RefusesJoin pool hand flags status
   refuses_join pool hand is why = ⊎_elim
       (λ (no : NoPool). inr (inl (no.0, λ has. no.1 (pool_there pool object is has))))
       (λ (hand : RefusesHand flags status). inr (inr hand)) why

@@ -17,7 +17,8 @@ module _ (tags : Tags ℕ) (old new : Hand ℕ) (own : IsHandOf tags old) (n : �
   low_by won None is gets = absurd (let no = is in cc)
   low_by won (Some run) is gets =
       let low = batch_low tags old new.ordinary own n run gets in
-      let first : won.0 ≡ reserved_of tags + run.0 = ap (λ (o : Option (ℕ × ℕ)). (unwrap_or o (0, 0)).0) is in omega arith
+      let first : won.0 ≡ reserved_of tags + run.0 = ap (λ (o : Option (ℕ × ℕ)). (unwrap_or o (0, 0)).0) is in
+      omega arith
 
   -- what a batch get answers, where it answers a run, begins with a tag
   pub run_fits : (answer : Result (Option (ℕ × ℕ)) TagFault) → total_of tags ≤ MAX_DEPTH
@@ -28,7 +29,8 @@ module _ (tags : Tags ℕ) (old new : Hand ℕ) (own : IsHandOf tags old) (n : �
   run_fits (Err fault) few bad_count round_robin gets = tt
   run_fits (Ok None) few bad_count round_robin gets = tt
   run_fits (Ok (Some run)) few bad_count round_robin gets =
-      elim ((hint_of old Ordinary).round_robin) as (λ (b : Bool). (hint_of old Ordinary).round_robin ≡ b → run.0 ≤ MAX_DEPTH) [
+      elim ((hint_of old Ordinary).round_robin) as
+      (λ (b : Bool). (hint_of old Ordinary).round_robin ≡ b → run.0 ≤ MAX_DEPTH) [
         | true ↦ (λ t. absurd (let none = (round_robin (λ m. let bad = bad_count.1 m in cc) t).0 in cc))
         | false ↦ (λ f. let g = gets f in let low = low_by run g.number g.answer_is g.set.changed in omega arith)
       ] refl

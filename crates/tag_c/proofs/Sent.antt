@@ -27,7 +27,8 @@ resting_goes : IsSend resting.the_row
 resting_goes = recorded_send _ _ _ resting.the_type.to_one (struct_send (fields_of resting.the_type) (hand_field, tt))
 
 resting_shared : IsSync resting.the_row
-resting_shared = recorded_sync _ _ _ resting.the_type.to_one (struct_sync (fields_of resting.the_type) (hand_field_shared, tt))
+resting_shared = recorded_sync _ _ _ resting.the_type.to_one
+    (struct_sync (fields_of resting.the_type) (hand_field_shared, tt))
 
 shared_field : IsSend shared.the_field.row
 shared_field = struct_send (fields_of shared.the_type) (
@@ -55,8 +56,10 @@ member_field = struct_send (fields_of member.the_type)
     (search (shared_goes, shared_shared, sendable, crosses) depth 60, (hand_field, tt))
 
 pool_field : IsSend pool.the_field.row
-pool_field = struct_send (fields_of pool.the_type)
-    (search (shared_goes, shared_shared, sendable, crosses) depth 60, (search (hand_goes, sendable, crosses) depth 60, tt))
+pool_field = struct_send (fields_of pool.the_type) (
+  search (shared_goes, shared_shared, sendable, crosses) depth 60,
+  (search (hand_goes, sendable, crosses) depth 60, tt),
+)
 
 pub object_goes : IsSend object.the_row
 object_goes = recorded_send _ _ _ object.the_type.to_one (struct_send (fields_of object.the_type) (

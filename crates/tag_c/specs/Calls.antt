@@ -26,7 +26,8 @@ use Rattle.tag_c.specs.Codes.{code_of}
 abbrev pub tags_of : Member → Tags ℕ
 tags_of member = (arc_value member.shared).tags
 
--- a hand belongs to the tags that it belonged to and changes so; through a pool the call is refused, and nothing changes
+-- a hand belongs to the tags that it belonged to and changes so; through a pool the call is refused, and nothing
+-- changes
 abbrev pub CallsAs : (Member → Member → Type 0) → ℤ → Kind → Kind → Type 0
 CallsAs change code (IsMember old) (IsMember new) = (new.shared ≡ old.shared) × change old new
 CallsAs change code (IsMember old) (IsPool new) = ⊥
@@ -46,7 +47,8 @@ CallsBy change code (Some old) (Some new) = Calls change code old new
 
 -- the call answered the number of some answer of the tags, and did what comes with that answer
 abbrev pub Through : {A : Type 0} → (Tags ℕ → A → Hand ℕ → Hand ℕ → Type 0) → (A → ℤ) → ℤ → Member → Member → Type 0
-Through {A} does number code old new = (answer : A) × (code ≡ number answer) × does (tags_of old) answer old.hand new.hand
+Through {A} does number code old new = (answer : A) × (code ≡ number answer)
+    × does (tags_of old) answer old.hand new.hand
 
 -- an ordinary tag is got
 pub record DoesGet (tags : Tags ℕ) (answer : Result (Option ℕ) TagFault) (old new : Hand ℕ) : Type 0 where
@@ -63,17 +65,20 @@ pub record DoesGetReserved (tags : Tags ℕ) (answer : Result (Option ℕ) TagFa
   pub err : OnErr answer (new ≡ old)
 
 -- an ordinary tag is got of so many
-pub record DoesGetShallow (depth : ℕ) (tags : Tags ℕ) (answer : Result (Option ℕ) TagFault) (old new : Hand ℕ) : Type 0 where
-  pub too_shallow : (answer ≡ Err TooShallow) ↔ (depth < least_of tags)
-  pub spent : (answer ≡ Err Spent) ↔ ((least_of tags ≤ depth) × ¬ (HasRoom old Ordinary 1))
-  pub succeeds : IsOk answer ↔ ((least_of tags ≤ depth) × HasRoom old Ordinary 1)
-  pub gets : IfOk answer (λ tag. GetsShallow tags depth tag old new)
-  pub err : OnErr answer (new ≡ old)
+pub record DoesGetShallow (depth : ℕ) (tags : Tags ℕ) (answer : Result (Option ℕ) TagFault) (old new : Hand ℕ) : Type 0
+  where
+    pub too_shallow : (answer ≡ Err TooShallow) ↔ (depth < least_of tags)
+    pub spent : (answer ≡ Err Spent) ↔ ((least_of tags ≤ depth) × ¬ (HasRoom old Ordinary 1))
+    pub succeeds : IsOk answer ↔ ((least_of tags ≤ depth) × HasRoom old Ordinary 1)
+    pub gets : IfOk answer (λ tag. GetsShallow tags depth tag old new)
+    pub err : OnErr answer (new ≡ old)
 
 -- up to n ordinary tags are got, and the mask of those won is written where there are any
-pub record DoesGetBatch (n won : ℕ) (tags : Tags ℕ) (answer : Result (Option (ℕ × ℕ)) TagFault) (old new : Hand ℕ) : Type 0 where
+pub record DoesGetBatch (n won : ℕ) (tags : Tags ℕ) (answer : Result (Option (ℕ × ℕ)) TagFault)
+    (old new : Hand ℕ) : Type 0 where
   pub bad_count : (answer ≡ Err BadCount) ↔ MiscountsBatch tags n
-  pub round_robin : ¬ (MiscountsBatch tags n) → IsTrue (hint_of old Ordinary).round_robin → (answer ≡ Ok None) × (new ≡ old)
+  pub round_robin : ¬ (MiscountsBatch tags n) → IsTrue (hint_of old Ordinary).round_robin → (answer ≡ Ok None)
+      × (new ≡ old)
   pub spent : (answer ≡ Err Spent)
       ↔ (¬ (MiscountsBatch tags n) × ((hint_of old Ordinary).round_robin ≡ false) × ¬ (HasRoom old Ordinary n))
   pub succeeds : ¬ (MiscountsBatch tags n) → HasRoom old Ordinary n → IsOk answer
@@ -110,13 +115,14 @@ pub record DoesRead (tag value : ℕ) (tags : Tags ℕ) (answer : Result ℕ Tag
   pub err : OnErr answer (new ≡ old)
 
 -- the value beside a tag is written, and its former value told
-pub record DoesWrite (tag value former : ℕ) (tags : Tags ℕ) (answer : Result ℕ TagFault) (old new : Hand ℕ) : Type 0 where
-  pub no_such_tag : (answer ≡ Err NoSuchTag) ↔ (total_of tags ≤ tag)
-  pub not_held : (answer ≡ Err NotHeld) ↔ ((tag < total_of tags) × ¬ (Holds old tag))
-  pub succeeds : Holds old tag → IsOk answer
-  pub found : IfOk answer (λ found. (slot_of old tag ≡ some found) × (former ≡ found))
-  pub writes : OnOk answer (Writes tag value old new)
-  pub err : OnErr answer (new ≡ old)
+pub record DoesWrite (tag value former : ℕ) (tags : Tags ℕ) (answer : Result ℕ TagFault) (old new : Hand ℕ) : Type 0
+  where
+    pub no_such_tag : (answer ≡ Err NoSuchTag) ↔ (total_of tags ≤ tag)
+    pub not_held : (answer ≡ Err NotHeld) ↔ ((tag < total_of tags) × ¬ (Holds old tag))
+    pub succeeds : Holds old tag → IsOk answer
+    pub found : IfOk answer (λ found. (slot_of old tag ≡ some found) × (former ≡ found))
+    pub writes : OnOk answer (Writes tag value old new)
+    pub err : OnErr answer (new ≡ old)
 
 -- a tag is posted
 pub record DoesPost (tag : ℕ) (tags : Tags ℕ) (answer : Result ⊤ TagFault) (old new : Hand ℕ) : Type 0 where

@@ -83,7 +83,8 @@ Refuses reason code = (status : Status) × (code ≡ code_of status) × reason s
 
 -- the handle has a pool of new tags
 abbrev pub OpensPool : Wishes → Option Object → Type 0
-OpensPool wishes value = (tags : Tags ℕ) × Opens wishes.total wishes.reserved (options_of wishes) tags × IsPoolOf tags value
+OpensPool wishes value = (tags : Tags ℕ) × Opens wishes.total wishes.reserved (options_of wishes) tags
+    × IsPoolOf tags value
 
 -- no pool is opened into a full handle, with unknown flags or past a limit, and none where memory runs out
 abbrev pub RefusesOpen : Option Object → Wishes → Status → Type 0
@@ -114,7 +115,8 @@ Ends kind totals = (tags : Tags ℕ) × IsPoolIn tags kind × Gathers tags total
 
 -- the handle's tags were gathered with these sums
 abbrev pub ClosesPool : Option Object → Sums → Type 0
-ClosesPool pool sums = (tags : Tags ℕ) × (totals : QueueTotals) × IsPoolOf tags pool × Gathers tags totals × (sums ≡ sums_of totals)
+ClosesPool pool sums = (tags : Tags ℕ) × (totals : QueueTotals) × IsPoolOf tags pool × Gathers tags totals
+    × (sums ≡ sums_of totals)
 
 -- what is no pool is not closed; nothing can be said of which hands are out
 abbrev pub RefusesClose : Option Object → Status → Type 0

@@ -22,12 +22,15 @@ use Rattle.tag_c.specs.Codes.{code_of}
 -- whether the hand holds the tag, where there is one of this number; the hand is as before
 pub record SaysHeld (tag : ℕ) (code : ℤ) (old new : Member) : Type 0 where
   pub no_such_tag : total_of (tags_of old) ≤ tag → code ≡ code_of (Refused NoSuchTag)
-  pub held : tag < total_of (tags_of old) → ((code ≡ pos 1) × Holds old.hand tag) ⊎ ((code ≡ pos 0) × ¬ (Holds old.hand tag))
+  pub held : tag < total_of (tags_of old) → ((code ≡ pos 1) × Holds old.hand tag)
+      ⊎ ((code ≡ pos 0) × ¬ (Holds old.hand tag))
   pub same : new.hand ≡ old.hand
 
--- a list with too few bits is refused and kept; else each busy tag has its bit there, each other bit is 0, and their count is told
+-- a list with too few bits is refused and kept; else each busy tag has its bit there, each other bit is 0, and their
+-- count is told
 pub record SaysBusy (before after : List ℕ) (code : ℤ) (old new : Member) : Type 0 where
-  pub too_small : 64 * length before < total_of (tags_of old) → (code ≡ code_of TooSmall) × (after ≡ before) × (new.hand ≡ old.hand)
+  pub too_small : 64 * length before < total_of (tags_of old) → (code ≡ code_of TooSmall) × (after ≡ before)
+      × (new.hand ≡ old.hand)
   pub lists : total_of (tags_of old) ≤ 64 * length before
       → (count : ℕ) × (code ≡ pos (min count MAX_DEPTH)) × ListsBusy (tags_of old) after count old.hand new.hand
   pub held : total_of (tags_of old) ≤ 64 * length before → (tag : ℕ) → Holds old.hand tag → bit_in 64 after tag ≡ 1

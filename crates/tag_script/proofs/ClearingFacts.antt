@@ -36,13 +36,16 @@ bit_of_place place at low = dite (ℕ_discrete at place)
     (λ (e : at ≡ place).
     let set : bit_at (2 ^ place) at ≡ 1 = ap (bit_at (2 ^ place)) e ∙ bit_at-pow_same place in
     let near : nat_lt at 64 ≡ true = ap (λ (x : ℕ). nat_lt x 64) e ∙ lt-ltb place 64 low in
-    ap (λ (b : Bool). b && nat_eq (bit_at (2 ^ place) at) 1) near ∙ eq-eqb (bit_at (2 ^ place) at) 1 set ∙ sym (eq-eqb at place e))
+    ap (λ (b : Bool). b && nat_eq (bit_at (2 ^ place) at) 1) near ∙ eq-eqb (bit_at (2 ^ place) at) 1 set
+    ∙ sym (eq-eqb at place e))
     (λ (ne : at ≢ place).
-    ap (λ (x : ℕ). nat_lt at 64 && nat_eq x 1) (bit_at-pow_other place at ne) ∙ and_false (nat_lt at 64) ∙ sym (ne_eqb at place ne))
+    ap (λ (x : ℕ). nat_lt at 64 && nat_eq x 1) (bit_at-pow_other place at ne) ∙ and_false (nat_lt at 64)
+    ∙ sym (ne_eqb at place ne))
 
 -- a mask and one place more
 bits_more : (mask place at : ℕ) → place < 64
-    → (nat_lt at 64 && nat_eq (bit_at (bit_or mask (2 ^ place)) at) 1) ≡ ((nat_lt at 64 && nat_eq (bit_at mask at) 1) || nat_eq at place)
+    → (nat_lt at 64 && nat_eq (bit_at (bit_or mask (2 ^ place)) at) 1)
+    ≡ ((nat_lt at 64 && nat_eq (bit_at mask at) 1) || nat_eq at place)
 bits_more mask place at low =
     ap (λ (x : ℕ). nat_lt at 64 && nat_eq x 1) (bit_at_or mask (2 ^ place) at)
     ∙ or_one (nat_lt at 64) (bit_at mask at) (bit_at (2 ^ place) at) (bit_at-lt mask at) (bit_at-lt (2 ^ place) at)
@@ -62,26 +65,33 @@ or_assoc true b c = refl
 or_assoc false b c = refl
 
 -- a mask with one place more frees that place too
-pub free_more : (p : Pool) (word mask place : ℕ) → place < 64 → free_at word (bit_or mask (2 ^ place)) p ≡ with_place word place (free_at word mask p)
-free_more p word mask place low = pool_ext (free_at word (bit_or mask (2 ^ place)) p) (with_place word place (free_at word mask p))
-    (λ other at. ap (λ (b : Bool). p.free other at || b) (and_assoc (nat_eq other word) (nat_lt at 64) (nat_eq (bit_at (bit_or mask (2 ^ place)) at) 1))
+pub free_more : (p : Pool) (word mask place : ℕ) → place < 64
+    → free_at word (bit_or mask (2 ^ place)) p ≡ with_place word place (free_at word mask p)
+free_more p word mask place low = pool_ext (free_at word (bit_or mask (2 ^ place)) p)
+    (with_place word place (free_at word mask p))
+    (λ other at. ap (λ (b : Bool). p.free other at || b)
+    (and_assoc (nat_eq other word) (nat_lt at 64) (nat_eq (bit_at (bit_or mask (2 ^ place)) at) 1))
     ∙ ap (λ (b : Bool). p.free other at || (nat_eq other word && b)) (bits_more mask place at low)
     ∙ either (p.free other at) (nat_eq other word) (nat_lt at 64 && nat_eq (bit_at mask at) 1) (nat_eq at place)
-    ∙ ap (λ (b : Bool). (p.free other at || b) || (nat_eq other word && nat_eq at place)) (sym (and_assoc (nat_eq other word) (nat_lt at 64) (nat_eq (bit_at mask at) 1)))) (λ other at. refl)
+    ∙ ap (λ (b : Bool). (p.free other at || b) || (nat_eq other word && nat_eq at place))
+    (sym (and_assoc (nat_eq other word) (nat_lt at 64) (nat_eq (bit_at mask at) 1)))) (λ other at. refl)
 
 -- a mask of one place frees it alone
 pub free_one : (p : Pool) (word place : ℕ) → place < 64 → free_at word (2 ^ place) p ≡ with_place word place p
 free_one p word place low = pool_ext (free_at word (2 ^ place) p) (with_place word place p)
-    (λ other at. ap (λ (b : Bool). p.free other at || b) (and_assoc (nat_eq other word) (nat_lt at 64) (nat_eq (bit_at (2 ^ place) at) 1))
+    (λ other at. ap (λ (b : Bool). p.free other at || b)
+    (and_assoc (nat_eq other word) (nat_lt at 64) (nat_eq (bit_at (2 ^ place) at) 1))
     ∙ ap (λ (b : Bool). p.free other at || (nat_eq other word && b)) (bit_of_place place at low)) (λ other at. refl)
 
 -- no bit of 0 frees a place
 pub free_none : (p : Pool) (word : ℕ) → free_at word 0 p ≡ p
 free_none p word = pool_ext (free_at word 0 p) p
-    (λ other at. ap (λ (b : Bool). p.free other at || b) (and_assoc (nat_eq other word) (nat_lt at 64) (nat_eq (bit_at 0 at) 1))
+    (λ other at. ap (λ (b : Bool). p.free other at || b)
+    (and_assoc (nat_eq other word) (nat_lt at 64) (nat_eq (bit_at 0 at) 1))
     ∙ ap (λ (x : ℕ). p.free other at || (nat_eq other word && (nat_lt at 64 && nat_eq x 1))) (bit_at-zero at)
     ∙ ap (λ (b : Bool). p.free other at || (nat_eq other word && b)) (and_false (nat_lt at 64))
-    ∙ ap (λ (b : Bool). p.free other at || b) (and_false (nat_eq other word)) ∙ or_false (p.free other at)) (λ other at. refl)
+    ∙ ap (λ (b : Bool). p.free other at || b) (and_false (nat_eq other word)) ∙ or_false (p.free other at))
+    (λ other at. refl)
 
 -- an empty list frees nothing
 pub freed_none : (l : Layout) (p : Pool) → freed l [] p ≡ p
@@ -89,28 +99,36 @@ freed_none l p = pool_ext (freed l [] p) p (λ other at. or_false (p.free other 
 
 module _ (l : Layout) (tags : List ℕ) (i : ℕ) (p : Pool) (within : i < length tags) where
   -- one tag more
-  pub freed_more : freed l (take (i + 1) tags) p ≡ with_place (word_of l (get_or tags i 0)) (place_of l (get_or tags i 0)) (freed l (take i tags) p)
+  pub freed_more : freed l (take (i + 1) tags) p
+      ≡ with_place (word_of l (get_or tags i 0)) (place_of l (get_or tags i 0)) (freed l (take i tags) p)
   freed_more =
       let tag = get_or tags i 0 in
       pool_ext (freed l (take (i + 1) tags) p) (with_place (word_of l tag) (place_of l tag) (freed l (take i tags) p))
       (λ other at. ap (λ (b : Bool). p.free other at || b)
       (list_any_more (λ (t : ℕ). nat_eq other (word_of l t) && nat_eq at (place_of l t)) tags i 0 within)
-      ∙ or_assoc (p.free other at) (is_named l (take i tags) other at) (nat_eq other (word_of l tag) && nat_eq at (place_of l tag))) (λ other at. refl)
+      ∙ or_assoc (p.free other at) (is_named l (take i tags) other at)
+      (nat_eq other (word_of l tag) && nat_eq at (place_of l tag))) (λ other at. refl)
 
-apart : (l : Layout) (a b : ℕ) → a ≢ b → (nat_eq (word_of l b) (word_of l a) && nat_eq (place_of l b) (place_of l a)) ≡ false
+apart : (l : Layout) (a b : ℕ) → a ≢ b → (nat_eq (word_of l b) (word_of l a) && nat_eq (place_of l b) (place_of l a))
+    ≡ false
 apart l a b differ = dite (ℕ_discrete (word_of l b) (word_of l a))
     (λ (e : word_of l b ≡ word_of l a). dite (ℕ_discrete (place_of l b) (place_of l a))
-    (λ (f : place_of l b ≡ place_of l a). absurd (differ (sym (tag_at-back l a) ∙ (λ z. tag_at l (sym e z) (sym f z)) ∙ tag_at-back l b)))
-    (λ ne. ap (λ (t : Bool). nat_eq (word_of l b) (word_of l a) && t) (ne_eqb (place_of l b) (place_of l a) ne) ∙ and_false (nat_eq (word_of l b) (word_of l a))))
+    (λ (f : place_of l b ≡ place_of l a). absurd
+    (differ (sym (tag_at-back l a) ∙ (λ z. tag_at l (sym e z) (sym f z)) ∙ tag_at-back l b)))
+    (λ ne. ap (λ (t : Bool). nat_eq (word_of l b) (word_of l a) && t) (ne_eqb (place_of l b) (place_of l a) ne)
+    ∙ and_false (nat_eq (word_of l b) (word_of l a))))
     (λ ne. ap (λ (t : Bool). t && nat_eq (place_of l b) (place_of l a)) (ne_eqb (word_of l b) (word_of l a) ne))
 
 -- a tag that differs from those before it stays held where they are freed
-pub still_held : (l : Layout) (tags : List ℕ) (i : ℕ) (p : Pool) → i ≤ length tags → (tag : ℕ) → ((j : ℕ) → j < i → get_or tags j 0 ≢ tag)
-    → is_busy p (word_of l tag) (place_of l tag) ≡ true → is_busy (freed l (take i tags) p) (word_of l tag) (place_of l tag) ≡ true
+pub still_held : (l : Layout) (tags : List ℕ) (i : ℕ) (p : Pool) → i ≤ length tags → (tag : ℕ)
+    → ((j : ℕ) → j < i → get_or tags j 0 ≢ tag)
+    → is_busy p (word_of l tag) (place_of l tag) ≡ true
+    → is_busy (freed l (take i tags) p) (word_of l tag) (place_of l tag) ≡ true
 still_held l tags i p within tag differ held =
     let free = p.free (word_of l tag) (place_of l tag) in let aside = p.aside (word_of l tag) (place_of l tag) in
     let none : is_named l (take i tags) (word_of l tag) (place_of l tag) ≡ false =
-    list_any_none (λ (t : ℕ). nat_eq (word_of l tag) (word_of l t) && nat_eq (place_of l tag) (place_of l t)) (take i tags) (λ k d h.
+    list_any_none (λ (t : ℕ). nat_eq (word_of l tag) (word_of l t) && nat_eq (place_of l tag) (place_of l t))
+    (take i tags) (λ k d h.
     let less : k < i = omega (arith, length-take i tags) in
     ap (λ (t : ℕ). nat_eq (word_of l tag) (word_of l t) && nat_eq (place_of l tag) (place_of l t))
     (get_or-take i tags k d less ∙ get_or_default_zero tags k d (omega arith))
@@ -124,23 +142,28 @@ less_free false false a h = h
 
 -- what is held once more places are free is held
 pub held_before : (p : Pool) (word mask i k : ℕ) → is_busy (free_at word mask p) i k ≡ true → is_busy p i k ≡ true
-held_before p word mask i k h = less_free (p.free i k) ((nat_eq i word && nat_lt k 64) && nat_eq (bit_at mask k) 1) (p.aside i k) h
+held_before p word mask i k h = less_free (p.free i k) ((nat_eq i word && nat_lt k 64) && nat_eq (bit_at mask k) 1)
+    (p.aside i k) h
 
 module _ (q : Plain) (word place : ℕ) (here : IsTaken q word place) where
   -- the places of a mask and one more are taken
-  pub taken_more : (mask : ℕ) → ((at : ℕ) → bit_at mask at ≡ 1 → IsTaken q word at) → (at : ℕ) → bit_at (bit_or mask (2 ^ place)) at ≡ 1 → IsTaken q word at
+  pub taken_more : (mask : ℕ) → ((at : ℕ) → bit_at mask at ≡ 1 → IsTaken q word at) → (at : ℕ)
+      → bit_at (bit_or mask (2 ^ place)) at ≡ 1 → IsTaken q word at
   taken_more mask all at one = dite (ℕ_discrete at place)
       (λ (e : at ≡ place). subst (IsTaken q word) (sym e) here)
-      (λ (ne : at ≢ place). let both = bit_at_or mask (2 ^ place) at in let none = bit_at-pow_other place at ne in all at (omega arith))
+      (λ (ne : at ≢ place). let both = bit_at_or mask (2 ^ place) at in
+      let none = bit_at-pow_other place at ne in all at (omega arith))
 
   -- the place of a mask of one bit is taken
   pub taken_one : (at : ℕ) → bit_at (2 ^ place) at ≡ 1 → IsTaken q word at
   taken_one at one = subst (IsTaken q word) (sym (one_place place at one)) here
 
 -- the same, said of what is equal
-pub taken_as : (q q' : Plain) (w w' m m' : ℕ) → q' ≡ q → w' ≡ w → m' ≡ m → ((at : ℕ) → bit_at m at ≡ 1 → IsTaken q w at) → (at : ℕ) → bit_at m' at ≡ 1 → IsTaken q' w' at
+pub taken_as : (q q' : Plain) (w w' m m' : ℕ) → q' ≡ q → w' ≡ w → m' ≡ m → ((at : ℕ) → bit_at m at ≡ 1 → IsTaken q w at)
+    → (at : ℕ) → bit_at m' at ≡ 1 → IsTaken q' w' at
 taken_as q q' w w' m m' e f g all at one =
-    subst (λ (x : Plain). IsTaken x w' at) (sym e) (subst (λ (x : ℕ). IsTaken q x at) (sym f) (all at (sym (ap (λ (x : ℕ). bit_at x at) g) ∙ one)))
+    subst (λ (x : Plain). IsTaken x w' at) (sym e)
+    (subst (λ (x : ℕ). IsTaken q x at) (sym f) (all at (sym (ap (λ (x : ℕ). bit_at x at) g) ∙ one)))
 
 pub within_as : (l : Layout) (w w' m m' : ℕ) → w' ≡ w → m' ≡ m → IsWithin l w m → IsWithin l w' m'
 within_as l w w' m m' f g h = subst (λ (x : ℕ). IsWithin l x m') (sym f) (subst (λ (x : ℕ). IsWithin l w x) (sym g) h)

@@ -51,7 +51,8 @@ module _ (l : Layout) (test : ℕ → Bool) where
   -- the tags up to the end of a word that pass a test are those before it, and the bits of the word's mask
   pub count_word : (i mask : ℕ) → i < words l → mask < 2 ^ word_depth l i
       → ((place : ℕ) → place < word_depth l i → cond (test (tag_at l i place)) 1 0 ≡ bit_at mask place)
-      → count_below test (min ((i + 1) * word_bits l) l.depth) ≡ count_below test (min (i * word_bits l) l.depth) + count_ones mask
+      → count_below test (min ((i + 1) * word_bits l) l.depth) ≡ count_below test (min (i * word_bits l) l.depth)
+      + count_ones mask
   count_word i mask there within each =
       let f : ℕ → ℕ = λ k. cond (test k) 1 0 in
       let start = word-start l i there in
@@ -65,10 +66,12 @@ module _ (l : Layout) (test : ℕ → Bool) where
       ap (count_below test) next ∙ omega arith
 
 module _ (p : Plain) (i u : ℕ) (there : i < words p.layout) (narrow : word_depth p.layout i ≤ 64)
-    (usable : u + 1 ≡ 2 ^ word_depth p.layout i) (bits : (place : ℕ) → place < word_depth p.layout i → bit_at u place ≡ 1) where
+    (usable : u + 1 ≡ 2 ^ word_depth p.layout i)
+    (bits : (place : ℕ) → place < word_depth p.layout i → bit_at u place ≡ 1) where
   -- the bit of a tag that the caller holds
   pub held_place : slice_index p.aside i < 2 ^ 64 → (place : ℕ) → place < word_depth p.layout i
-      → cond (is_busy (pool_of (words_of p)) (word_of p.layout (tag_at p.layout i place)) (place_of p.layout (tag_at p.layout i place))) 1 0
+      → cond (is_busy (pool_of (words_of p)) (word_of p.layout (tag_at p.layout i place))
+      (place_of p.layout (tag_at p.layout i place))) 1 0
       ≡ bit_at (bit_and (bit_and (slice_index p.word i) u) (bit_not w64 (slice_index p.aside i))) place
   held_place fits place h =
       let w = word_of-tag_at p.layout i place (omega arith) in let k = place_of-tag_at p.layout i place (omega arith) in
@@ -78,8 +81,10 @@ module _ (p : Plain) (i u : ℕ) (there : i < words p.layout) (narrow : word_dep
 
   -- the tags that the caller holds
   pub count_held : slice_index p.aside i < 2 ^ 64
-      → count_below (λ tag. is_busy (pool_of (words_of p)) (word_of p.layout tag) (place_of p.layout tag)) (min ((i + 1) * word_bits p.layout) p.layout.depth)
-      ≡ count_below (λ tag. is_busy (pool_of (words_of p)) (word_of p.layout tag) (place_of p.layout tag)) (min (i * word_bits p.layout) p.layout.depth)
+      → count_below (λ tag. is_busy (pool_of (words_of p)) (word_of p.layout tag) (place_of p.layout tag))
+      (min ((i + 1) * word_bits p.layout) p.layout.depth)
+      ≡ count_below (λ tag. is_busy (pool_of (words_of p)) (word_of p.layout tag) (place_of p.layout tag))
+      (min (i * word_bits p.layout) p.layout.depth)
       + count_ones (bit_and (bit_and (slice_index p.word i) u) (bit_not w64 (slice_index p.aside i)))
   count_held fits =
       let n : ℕ = slice_index p.word i in let a : ℕ = slice_index p.aside i in
@@ -89,8 +94,10 @@ module _ (p : Plain) (i u : ℕ) (there : i < words p.layout) (narrow : word_dep
 
   -- the tags that are set aside
   pub count_aside :
-      count_below (λ tag. (pool_of (words_of p)).aside (word_of p.layout tag) (place_of p.layout tag)) (min ((i + 1) * word_bits p.layout) p.layout.depth)
-      ≡ count_below (λ tag. (pool_of (words_of p)).aside (word_of p.layout tag) (place_of p.layout tag)) (min (i * word_bits p.layout) p.layout.depth)
+      count_below (λ tag. (pool_of (words_of p)).aside (word_of p.layout tag) (place_of p.layout tag))
+      (min ((i + 1) * word_bits p.layout) p.layout.depth)
+      ≡ count_below (λ tag. (pool_of (words_of p)).aside (word_of p.layout tag) (place_of p.layout tag))
+      (min (i * word_bits p.layout) p.layout.depth)
       + count_ones (bit_and (slice_index p.aside i) u)
   count_aside =
       let a : ℕ = slice_index p.aside i in let le = and_le_r a u in
@@ -104,10 +111,12 @@ module _ (p : Plain) (i u : ℕ) (there : i < words p.layout) (narrow : word_dep
 -- a mask of 64 bits has no place behind them
 pub narrow_word : (u depth : ℕ) → u < 2 ^ 64 → ((place : ℕ) → place < depth → bit_at u place ≡ 1) → depth ≤ 64
 narrow_word u depth fits bits = dite (dec_lt 64 depth)
-    (λ (h : 64 < depth). absurd (let one = bits 64 h in let none = bit_at_above u 64 64 fits (omega arith) in omega arith))
+    (λ (h : 64 < depth). absurd (let one = bits 64 h in
+    let none = bit_at_above u 64 64 fits (omega arith) in omega arith))
     (λ no. omega arith)
 
 -- the tags of all words are all tags
 pub all_words : (l : Layout) (n : ℕ) → words l ≤ n → min (n * word_bits l) l.depth ≡ l.depth
 all_words l n h =
-    let room = depth-le-words l in let more : words l * word_bits l ≤ n * word_bits l = mul-le-mul_right (word_bits l) h in omega arith
+    let room = depth-le-words l in let more : words l * word_bits l ≤ n * word_bits l =
+    mul-le-mul_right (word_bits l) h in omega arith

@@ -9,7 +9,8 @@ value_le true x = omega arith
 value_le false x = omega arith
 
 -- one more bit
-pub bits-next : (w : Solo) (offset n : ℕ) → sum_below (bit_value w offset) (n + 1) ≡ sum_below (bit_value w offset) n + bit_value w offset n
+pub bits-next : (w : Solo) (offset n : ℕ)
+    → sum_below (bit_value w offset) (n + 1) ≡ sum_below (bit_value w offset) n + bit_value w offset n
 bits-next w offset n = let e : n + 1 ≡ suc n = omega arith in ap (sum_below (bit_value w offset)) e
 
 -- so many bits are below their power of two

@@ -13,7 +13,8 @@ use Rattle.tag_search.specs.Plain.{Plain, words_of}
 use Rattle.tag_search.specs.Pool.{pool_of}
 
 -- one more order, in the world that those before it left
-pub plays_more : {W : Type 0} (answers : W → Order → Answer → W → Type 0) {old between new : W} {done : List Order} {said : List Answer}
+pub plays_more : {W : Type 0} (answers : W → Order → Answer → W → Type 0) {old between new : W} {done : List Order}
+    {said : List Answer}
     (order : Order) (answer : Answer) → Plays answers old done said between → answers between order answer new
     → Plays answers old (done ++ order ∷ []) (said ++ answer ∷ []) new
 plays_more answers order answer over now = obeyed now over
@@ -21,10 +22,12 @@ plays_more answers order answer (obeyed first plays) now = obeyed first (plays_m
 
 -- one more line
 pub text_more : (said : List Answer) (answer : Answer) → text_of (said ++ answer ∷ []) ≡ text_of said ++ line_of answer
-text_more said answer = flat_map-append line_of said (answer ∷ []) ∙ ap (λ (t : List ℕ). text_of said ++ t) (append-nil (line_of answer))
+text_more said answer = flat_map-append line_of said (answer ∷ [])
+    ∙ ap (λ (t : List ℕ). text_of said ++ t) (append-nil (line_of answer))
 
 -- the orders are played, and the text has their lines
-pub record HasPlayed {W : Type 0} (answers : W → Order → Answer → W → Type 0) (orders : List Order) (first last : W) (text : List ℕ)
+pub record HasPlayed {W : Type 0} (answers : W → Order → Answer → W → Type 0) (orders : List Order) (first last : W)
+    (text : List ℕ)
     : Type 0 where
   pub said : List Answer
   pub text_is : text ≡ text_of said
@@ -53,7 +56,8 @@ played_as S counts f p orders text told = record {
 }
 
 -- a player whose words are the same has the same world
-pub same_world : (p : Player) (q : Plain) → q.layout ≡ p.port.layout → words_of q ≡ words_of p.port → solo_of (record p { port = q }) ≡ solo_of p
+pub same_world : (p : Player) (q : Plain) → q.layout ≡ p.port.layout → words_of q ≡ words_of p.port
+    → solo_of (record p { port = q }) ≡ solo_of p
 same_world p q layout words = λ z. record {
   layout = layout z;
   least = p.least;

@@ -6,7 +6,8 @@ use Rattle.std.proofs.lemmas.List.Elements.{filter-append}
 use Rattle.tag_script.specs.Dump.{range}
 
 -- a part behind a part
-pub after : (old between new first second : List ℕ) → between ≡ old ++ first → new ≡ between ++ second → new ≡ old ++ (first ++ second)
+pub after : (old between new first second : List ℕ) → between ≡ old ++ first → new ≡ between ++ second → new ≡ old
+    ++ (first ++ second)
 after old between new first second one two = two ∙ ap (λ t. t ++ second) one ∙ append_assoc old first second
 
 -- one more number
@@ -16,16 +17,19 @@ range-next n = let e : n + 1 ≡ suc n = omega arith in ap range e
 pub map_range-next : (f : ℕ → ℕ) (n : ℕ) → map f (range (n + 1)) ≡ map f (range n) ++ f n ∷ []
 map_range-next f n = ap (map f) (range-next n) ∙ map-append f (range n) (n ∷ [])
 
-pub filter_range-next : (test : ℕ → Bool) (n : ℕ) → filter test (range (n + 1)) ≡ filter test (range n) ++ cond (test n) (n ∷ []) []
+pub filter_range-next : (test : ℕ → Bool) (n : ℕ) → filter test (range (n + 1)) ≡ filter test (range n)
+    ++ cond (test n) (n ∷ []) []
 filter_range-next test n = ap (filter test) (range-next n) ∙ filter-append test (range n) (n ∷ [])
 
 -- a number that passes stands in the list, and one that doesn't isn't there
-pub filter_range-pass : (test : ℕ → Bool) (n : ℕ) → test n ≡ true → filter test (range (n + 1)) ≡ filter test (range n) ++ n ∷ []
+pub filter_range-pass : (test : ℕ → Bool) (n : ℕ) → test n ≡ true → filter test (range (n + 1)) ≡ filter test (range n)
+    ++ n ∷ []
 filter_range-pass test n e = filter_range-next test n ∙ ap (λ (b : Bool). filter test (range n) ++ cond b (n ∷ []) []) e
 
 pub filter_range-fail : (test : ℕ → Bool) (n : ℕ) → test n ≡ false → filter test (range (n + 1)) ≡ filter test (range n)
 filter_range-fail test n e =
-    filter_range-next test n ∙ ap (λ (b : Bool). filter test (range n) ++ cond b (n ∷ []) []) e ∙ append-nil (filter test (range n))
+    filter_range-next test n ∙ ap (λ (b : Bool). filter test (range n) ++ cond b (n ∷ []) []) e
+    ∙ append-nil (filter test (range n))
 
 -- numbers of which none passes add nothing
 pub filter_range-none : (test : ℕ → Bool) (n count : ℕ) → ((k : ℕ) → k < count → test (n + k) ≡ false)

@@ -31,7 +31,8 @@ IsSetupFault o faults.Memory = ⊥
 IsSetupFault o faults.TotalTooLarge = MAX_DEPTH < o.tags
 IsSetupFault o faults.ReservedTooLarge = ⊥
 IsSetupFault o faults.ShiftTooLarge = (o.tags ≤ MAX_DEPTH) × IsSomeAnd o.shift (λ s. MAX_SHIFT < s)
-IsSetupFault o faults.CallerCount = (l : Layout) × IsLayoutOf o.tags o.shift l × ((o.callers ≡ 0) ⊎ (MAX_CALLERS < o.callers))
+IsSetupFault o faults.CallerCount = (l : Layout) × IsLayoutOf o.tags o.shift l
+    × ((o.callers ≡ 0) ⊎ (MAX_CALLERS < o.callers))
 IsSetupFault o faults.LifeTooLong = ⊥
 IsSetupFault o faults.CapTooLarge = ⊥
 
@@ -39,7 +40,8 @@ IsSetupFault o faults.CapTooLarge = ⊥
 abbrev pub IsRunVerdict : Layout → ℕ → World → List Event → Verdict → Type 0
 IsRunVerdict l callers w events (Faulty fault) = ⊥
 IsRunVerdict l callers w events (Setup fault) = ⊥
-IsRunVerdict l callers w events (Stopped line fault) = (place : ℕ) × (line ≡ place + 1) × StopsAt l callers w events place fault
+IsRunVerdict l callers w events (Stopped line fault) =
+    (place : ℕ) × (line ≡ place + 1) × StopsAt l callers w events place fault
 IsRunVerdict l callers w events (Legal count totals) =
     (count ≡ length events) × MayRun l callers w events × AreTotals l callers (after_all l events w) totals
 

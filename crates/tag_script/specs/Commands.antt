@@ -49,7 +49,8 @@ get_visits w = plain_visits w.layout w.hint.round_robin (reduced w.layout.depth 
 -- what a command answers in a world, and the world after it; a plain script has no other commands
 abbrev pub Obeys : Command → Solo → Answer → Solo → Type 0
 Obeys commands.Get old answer new = (tag : Option ℕ) × Gets (get_visits old) old tag new × (answer ≡ answers.Tag tag)
-Obeys (commands.Shallow depth) old answer new = TellsOutcome answers.Tag (λ outcome. GetsShallow depth old outcome new) answer
+Obeys (commands.Shallow depth) old answer new =
+    TellsOutcome answers.Tag (λ outcome. GetsShallow depth old outcome new) answer
 Obeys (commands.Batch n) old answer new = TellsOutcome answers.Batch (λ outcome. Batches n old outcome new) answer
 Obeys (commands.Clear tag) old answer new =
     TellsOutcome (λ done. answers.Done 0) (λ outcome. Clears tag old outcome new) answer

@@ -6,4 +6,5 @@ use Rattle.tag_script.specs.Solo.{Solo}
 
 -- room for the counts of some commands is room for those of fewer
 pub ready_for_fewer : (w : Solo) (m n : ℕ) → m ≤ n → IsReadyFor n w → IsReadyFor m w
-ready_for_fewer w m n few ready = record { won = Prim.omega (arith, few, ready.won); back = Prim.omega (arith, few, ready.back) }
+ready_for_fewer w m n few ready = record
+    { won = Prim.omega (arith, few, ready.won); back = Prim.omega (arith, few, ready.back) }

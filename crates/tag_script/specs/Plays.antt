@@ -7,9 +7,12 @@ use Rattle.tag_script.specs.Answers.{text_of}
 use Rattle.tag_script.specs.Texts.{total_line}
 
 -- the orders one after another, each answered in the world that those before it left
-pub data Plays {W : Type 0} (answers : W → Order → Answer → W → Type 0) : W → List Order → List Answer → W → Type 0 where
+pub data Plays {W : Type 0} (answers : W → Order → Answer → W → Type 0) : W → List Order → List Answer → W
+    → Type 0 where
   over : {w : W} → Plays answers w [] [] w
-  obeyed : {old between new : W} {order : Order} {orders : List Order} {answer : Answer} {rest : List Answer} → answers old order answer between → Plays answers between orders rest new → Plays answers old (order ∷ orders) (answer ∷ rest) new
+  obeyed : {old between new : W} {order : Order} {orders : List Order} {answer : Answer} {rest : List Answer}
+      → answers old order answer between → Plays answers between orders rest new
+      → Plays answers old (order ∷ orders) (answer ∷ rest) new
 
 -- the text of orders: the lines of their answers, and the totals of the world that they leave
 pub record IsPlayed {W : Type 0} (answers : W → Order → Answer → W → Type 0) (counts : W → Totals → Type 0) (first : W)

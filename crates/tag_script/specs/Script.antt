@@ -29,12 +29,14 @@ abbrev pub IsTold : Bool → ScriptOptions → List Order → List ℕ → Type 
 IsTold true = IsToldAlone
 IsTold false = IsToldShared
 
--- the text that a script is owed, and whether it is a refusal: the first faulty line, else why there is no world, else what its
+-- the text that a script is owed, and whether it is a refusal: the first faulty line, else why there is no world, else
+-- what its
 -- orders are told
 pub data Owed (o : ScriptOptions) (script : List ℕ) : List ℕ → Ending → Type 0 where
   faulty : (fault : FaultyLine) → IsFirstFaulty (order_of (dialect_of o.plain) o.callers) script fault
       → Owed o script (faulty_text fault) Refused
-  refused : (orders : List Order) (fault : SetFault) → AreReadings (order_of (dialect_of o.plain) o.callers) script orders
+  refused : (orders : List Order) (fault : SetFault)
+      → AreReadings (order_of (dialect_of o.plain) o.callers) script orders
       → IsRefusedSetup o.plain o fault → Owed o script (setup_text fault) Refused
   played : (orders : List Order) (text : List ℕ) → AreReadings (order_of (dialect_of o.plain) o.callers) script orders
       → IsTold o.plain o orders text → Owed o script text Done

@@ -1,4 +1,5 @@
--- What each command of a script over shared tags answers, and what it leaves. With one caller the answers are those of plain words.
+-- What each command of a script over shared tags answers, and what it leaves. With one caller the answers are those of
+-- plain words.
 use Rattle.std.specs.Prelude.{◌≡◌, ◌≢◌, ℕ, ◌*◌, ◌≤◌, Bool, true, List, length, filter, nat_eq, Result, Ok, Err}
 use Rattle.tag_board.specs.declared.board.Board.{Board}
 use Rattle.tag_board.specs.Boards.{state_of, lones_of}
@@ -43,7 +44,8 @@ abbrev pub IsAlone : Scene → Type 0
 IsAlone s = s.state.terms.callers ≡ 1
 
 -- what holds of this outcome for any callers, and what holds besides where one is alone
-abbrev pub Both : {A : Type 0} → (State → A → State → Type 0) → (Lones → A → Lones → Type 0) → Scene → A → Scene → Type 0
+abbrev pub Both : {A : Type 0} → (State → A → State → Type 0) → (Lones → A → Lones → Type 0) → Scene → A → Scene
+    → Type 0
 Both any alone old outcome new = any old.state outcome new.state × (IsAlone old → alone old.sets outcome new.sets)
 
 -- both sets stay as they are
@@ -65,7 +67,8 @@ tags_in bits = filter (is_marked bits) (range (64 * length bits))
 
 -- the tags listed are those of the bits found
 abbrev pub ListsTags : ℕ → Scene → List ℕ → Scene → Type 0
-ListsTags caller old tags new = (bits : List ℕ) × Both (ListsBusy caller) LoneListsBusy old bits new × (tags ≡ tags_in bits)
+ListsTags caller old tags new = (bits : List ℕ) × Both (ListsBusy caller) LoneListsBusy old bits new
+    × (tags ≡ tags_in bits)
 
 -- the counts that a caller finds: wakeups are at most the completions, and a caller who stands in a group is active
 pub record FindsWakes (caller : ℕ) (old : State) (wakes : Wakes) (new : State) : Type 0 where
@@ -80,17 +83,22 @@ TellsBoth tell any alone old answer new = TellsOutcome tell (λ outcome. Both an
 
 -- what a caller's command answers, and what is known after it
 abbrev pub ObeysBy : ℕ → Command → Scene → Answer → Scene → Type 0
-ObeysBy caller commands.Get old answer new = TellsBoth answers.Tag (Gets Ordinary caller) (Does (LoneGets Ordinary plain)) old answer new
-ObeysBy caller commands.GetReserved old answer new = TellsBoth answers.Tag (Gets Reserved caller) (Does (LoneGets Reserved plain)) old answer new
+ObeysBy caller commands.Get old answer new =
+    TellsBoth answers.Tag (Gets Ordinary caller) (Does (LoneGets Ordinary plain)) old answer new
+ObeysBy caller commands.GetReserved old answer new =
+    TellsBoth answers.Tag (Gets Reserved caller) (Does (LoneGets Reserved plain)) old answer new
 ObeysBy caller (commands.Shallow depth) old answer new =
     TellsBoth answers.Tag (GetsShallow depth caller) (Does (LoneGets Ordinary (shallow depth))) old answer new
-ObeysBy caller (commands.Batch n) old answer new = TellsBoth answers.Batch (GetsBatch n caller) (Does (LoneBatch n)) old answer new
-ObeysBy caller (commands.Clear tag) old answer new = TellsBoth answers.Done (Clears tag caller) (Does (λ woken. LoneClears tag)) old answer new
+ObeysBy caller (commands.Batch n) old answer new =
+    TellsBoth answers.Batch (GetsBatch n caller) (Does (LoneBatch n)) old answer new
+ObeysBy caller (commands.Clear tag) old answer new =
+    TellsBoth answers.Done (Clears tag caller) (Does (λ woken. LoneClears tag)) old answer new
 ObeysBy caller (commands.ClearBatch tags) old answer new =
     TellsBoth answers.Done (ClearsList tags caller) (Does (λ woken. LoneClearsList tags)) old answer new
 ObeysBy caller (commands.Post tag) old answer new =
     TellsBoth (λ done. answers.Done 0) (Posts tag caller) (Does (λ done. LonePosts tag)) old answer new
-ObeysBy caller (commands.Take tag) old answer new = TellsBoth (λ done. answers.Done 0) (Takes tag caller) (LoneTakes tag) old answer new
+ObeysBy caller (commands.Take tag) old answer new =
+    TellsBoth (λ done. answers.Done 0) (Takes tag caller) (LoneTakes tag) old answer new
 ObeysBy caller commands.Wait old answer new = TellsBoth answers.Group (Waits caller) Stay old answer new
 ObeysBy caller commands.Leave old answer new = TellsBoth answers.Left (Leaves caller) Stay old answer new
 ObeysBy caller commands.Wakes old answer new =

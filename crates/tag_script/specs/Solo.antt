@@ -14,7 +14,8 @@ use Rattle.tag_search.specs.Choice.{IsChoice, IsBatchChoice}
 use Rattle.tag_queue.specs.declared.fault.TagFault.{TagFault}
 use Rattle.tag_queue.specs.declared.fault.TagFault.TheVariants.{NoSuchTag, NotHeld, BadCount, TooShallow}
 
--- the sizes, the least depth of a shallow get, which places are free or set aside, the caller's hint, and how many tags it
+-- the sizes, the least depth of a shallow get, which places are free or set aside, the caller's hint, and how many tags
+-- it
 -- won and gave back
 pub record Solo : Type 0 where
   pub layout : Layout
@@ -31,7 +32,15 @@ all_free = record { free = λ word place. nat_lt place 64; aside = λ word place
 -- a caller who begins
 abbrev pub opened : Layout → Bool → ℕ → Solo
 opened l round_robin least =
-    record { layout = l; least = least; pool = all_free; hint = record { at = 0; round_robin = round_robin }; won = 0; back = 0 }
+    record {
+      layout = l;
+      least = least;
+      pool = all_free;
+      hint = record { at = 0; round_robin = round_robin };
+      won =
+          0;
+      back = 0;
+    }
 
 -- the caller holds the tag
 abbrev pub is_held : Solo → ℕ → Bool
@@ -71,13 +80,15 @@ pub record Gets (visits : List Visit) (old : Solo) (answer : Option ℕ) (new : 
 pub data GetsShallow (depth : ℕ) (old : Solo) : Result (Option ℕ) TagFault → Solo → Type 0 where
   too_shallow : depth < old.least → GetsShallow depth old (Err TooShallow) old
   deep_enough : (answer : Option ℕ) (new : Solo) → old.least ≤ depth
-      → Gets (shallow_visits old.layout depth (reduced old.layout.depth old.hint.at)) old answer new → GetsShallow depth old (Ok answer) new
+      → Gets (shallow_visits old.layout depth (reduced old.layout.depth old.hint.at)) old answer new
+      → GetsShallow depth old (Ok answer) new
 
 -- a batch from the words behind the hint: what the choice leaves, with the hint behind it and the tags counted
 pub record GetsBatch (n : ℕ) (old : Solo) (answer : Option (ℕ × ℕ)) (new : Solo) : Type 0 where
   pub layout : new.layout ≡ old.layout
   pub least : new.least ≡ old.least
-  pub choice : IsBatchChoice old.layout n old.pool (batch_words old.layout (word_of old.layout (reduced old.layout.depth old.hint.at))) answer new.pool
+  pub choice : IsBatchChoice old.layout n old.pool
+      (batch_words old.layout (word_of old.layout (reduced old.layout.depth old.hint.at))) answer new.pool
   pub hint : BatchFollows old.layout.depth n old.hint new.hint answer
   pub won : new.won ≡ old.won + won_in answer
   pub back : new.back ≡ old.back
@@ -86,7 +97,8 @@ pub record GetsBatch (n : ℕ) (old : Solo) (answer : Option (ℕ × ℕ)) (new 
 pub data Batches (n : ℕ) (old : Solo) : Result (Option (ℕ × ℕ)) TagFault → Solo → Type 0 where
   bad_count : (n ≡ 0) ⊎ (word_bits old.layout < n) → Batches n old (Err BadCount) old
   none_around : 1 ≤ n → n ≤ word_bits old.layout → old.hint.round_robin ≡ true → Batches n old (Ok None) old
-  side_by_side : (answer : Option (ℕ × ℕ)) (new : Solo) → 1 ≤ n → n ≤ word_bits old.layout → old.hint.round_robin ≡ false
+  side_by_side : (answer : Option (ℕ × ℕ)) (new : Solo) → 1 ≤ n → n ≤ word_bits old.layout
+      → old.hint.round_robin ≡ false
       → GetsBatch n old answer new → Batches n old (Ok answer) new
 
 -- the tag is set aside and counted, and the hint is at it, but not under round robin
@@ -126,8 +138,10 @@ NamesTwice tags = (i j : ℕ) × (i < j) × (j < length tags) × (slice_index ta
 -- a clear of a list: 1 to 64 tags, which are there, are held and differ
 pub data ClearsBatch (tags : List ℕ) (w : Solo) : Result (Unit {0}) TagFault → Solo → Type 0 where
   bad_count : (length tags ≡ 0) ⊎ (64 < length tags) → ClearsBatch tags w (Err BadCount) w
-  no_such_tag : 1 ≤ length tags → length tags ≤ 64 → Any (λ tag. w.layout.depth ≤ tag) tags → ClearsBatch tags w (Err NoSuchTag) w
+  no_such_tag : 1 ≤ length tags → length tags ≤ 64 → Any (λ tag. w.layout.depth ≤ tag) tags
+      → ClearsBatch tags w (Err NoSuchTag) w
   not_held : 1 ≤ length tags → length tags ≤ 64 → All (λ tag. tag < w.layout.depth) tags
       → Any (λ tag. is_held w tag ≡ false) tags ⊎ NamesTwice tags → ClearsBatch tags w (Err NotHeld) w
-  cleared : 1 ≤ length tags → length tags ≤ 64 → All (λ tag. tag < w.layout.depth) tags → All (λ tag. is_held w tag ≡ true) tags
+  cleared : 1 ≤ length tags → length tags ≤ 64 → All (λ tag. tag < w.layout.depth) tags
+      → All (λ tag. is_held w tag ≡ true) tags
       → AllPairs (λ a b. a ≢ b) tags → ClearsBatch tags w (Ok tt) (give_back tags w)

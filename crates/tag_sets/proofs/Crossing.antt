@@ -1,4 +1,5 @@
--- Where the slots' values may go to any thread, a hand and tags may; where any thread may share them too, threads may share
+-- Where the slots' values may go to any thread, a hand and tags may; where any thread may share them too, threads may
+-- share
 -- both.
 use denote.RattleType.{RattleType}
 use denote.Param.Send.{IsSend, IsSync, recorded_send, struct_send, recorded_sync, struct_sync, sendable}
@@ -38,12 +39,16 @@ pub hand_sync : (R : RattleType) → IsSend R → IsSync (hand.the_row R)
 hand_sync R sent = recorded_sync _ _ _ (hand.the_type R).to_one (hand_field_sync R sent)
 
 rooms_field_sync : (R : RattleType) → IsSend R → IsSync (rooms.the_field R).row
-rooms_field_sync R sent = let agents = agent_sync R sent in struct_sync (fields_of (rooms.the_type R))
-    (search (agents, sendable, crosses) depth 40, (search (agents, sendable, crosses) depth 40, (search (sendable, crosses) depth 40, tt)))
+rooms_field_sync R sent = let agents = agent_sync R sent in struct_sync (fields_of (rooms.the_type R)) (
+  search (agents, sendable, crosses) depth 40,
+  (search (agents, sendable, crosses) depth 40, (search (sendable, crosses) depth 40, tt)),
+)
 
 rooms_field_send : (R : RattleType) → IsSend R → IsSend (rooms.the_field R).row
-rooms_field_send R sent = let agents = agent_send R sent in struct_send (fields_of (rooms.the_type R))
-    (search (agents, sendable, crosses) depth 40, (search (agents, sendable, crosses) depth 40, (search (sendable, crosses) depth 40, tt)))
+rooms_field_send R sent = let agents = agent_send R sent in struct_send (fields_of (rooms.the_type R)) (
+  search (agents, sendable, crosses) depth 40,
+  (search (agents, sendable, crosses) depth 40, (search (sendable, crosses) depth 40, tt)),
+)
 
 pub tags_field_send : (R : RattleType) → IsSend R → IsSend (tags.the_field R).row
 tags_field_send R sent = struct_send (fields_of (tags.the_type R)) (

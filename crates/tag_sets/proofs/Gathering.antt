@@ -40,14 +40,17 @@ module _ (number : ℕ → ℕ) where
   at_most_once zero c differ = omega arith
   at_most_once (suc n) c differ = dite (ℕ_discrete (number n) c)
       (λ (e : number n ≡ c). let one = hit c n e in
-      let none = sum_below-none (hits c) n (λ k less. miss c k (λ is. differ k n less (omega arith) (is ∙ sym e))) in omega arith)
+      let none = sum_below-none (hits c) n (λ k less. miss c k (λ is. differ k n less (omega arith) (is ∙ sym e))) in
+      omega arith)
       (λ (ne : number n ≢ c). let nothing = miss c n ne in
       let before = at_most_once n c (λ j k less low. differ j k less (omega arith)) in omega arith)
 
-  pub few_below : (count most : ℕ) → ((n : ℕ) → n < count → number n < most) → ((j k : ℕ) → j < k → k < count → number j ≢ number k) → count ≤ most
+  pub few_below : (count most : ℕ) → ((n : ℕ) → n < count → number n < most)
+      → ((j k : ℕ) → j < k → k < count → number j ≢ number k) → count ≤ most
   few_below count most low differ =
       let ones = sum_below-same (λ n. 1) (λ n. sum_below (λ c. hits c n) most) count
-      (λ n less. sym (sum_below-only (λ c. hits c n) most (number n) (low n less) (λ c l ne. miss c n (λ e. ne (sym e))) ∙ hit (number n) n refl)) in
+      (λ n less. sym (sum_below-only (λ c. hits c n) most (number n) (low n less) (λ c l ne. miss c n (λ e. ne (sym e)))
+      ∙ hit (number n) n refl)) in
       let turned = sum_below-swap (λ c n. hits c n) count most in
       let less = sum_below-le (λ c. sum_below (hits c) count) (λ c. 1) most (λ c l. at_most_once count c differ) in
       let long = all_ones count in let wide = all_ones most in omega arith
@@ -58,11 +61,13 @@ module _ (number : ℕ → ℕ) where
 
 few_distinct : (numbers : List ℕ) (most : ℕ) → AreDistinct numbers → All (λ n. n < most) numbers → length numbers ≤ most
 few_distinct numbers most differ low =
-    few_below (λ n. get_or numbers n 0) (length numbers) most (λ n less. low n 0 less) (λ j k less l. differ j k 0 less l)
+    few_below (λ n. get_or numbers n 0) (length numbers) most (λ n less. low n 0 less)
+    (λ j k less l. differ j k 0 less l)
 
 module _ {R : Type 0} where
   number_low : (tags : Tags R) (hand : Hand R) → IsHandOf tags hand → number_of hand < hands_of tags
-  number_low tags hand own = let below = hand.ordinary.below in subst (λ (s : Shape). number_of hand < s.callers) own.1.0.1 below
+  number_low tags hand own = let below = hand.ordinary.below in
+      subst (λ (s : Shape). number_of hand < s.callers) own.1.0.1 below
 
   -- hands whose numbers differ are no more than the tags have
   pub few_hands : (tags : Tags R) (hands : List (Hand R)) → All (IsHandOf tags) hands → AreDistinct (numbers_of hands)
@@ -75,7 +80,8 @@ module _ {R : Type 0} where
 
   -- a hand that is as it was has the number that it had
   pub same_number : (old new : Hand R) → IsUnchanged old new → number_of new ≡ number_of old
-  same_number old new u = sym new.ordinary.numbers.0 ∙ ap (λ (r : Record R). r.number) (u.sets Ordinary).caller.known ∙ old.ordinary.numbers.0
+  same_number old new u = sym new.ordinary.numbers.0 ∙ ap (λ (r : Record R). r.number) (u.sets Ordinary).caller.known
+      ∙ old.ordinary.numbers.0
 
   -- the agents of one set belong to it, and have the numbers of the hands
   pub reserved_own : (tags : Tags R) (hands : List (Hand R)) → All (IsHandOf tags) hands
@@ -99,10 +105,12 @@ module _ {R : Type 0} where
   ordinary_numbers [] = refl
   ordinary_numbers (hand ∷ hands) = ap (λ (ns : List ℕ). number_of hand ∷ ns) (ordinary_numbers hands)
 
-  pub won-le : (agents : List (Agent R)) → total_of (λ (r : Record R). r.won) (queue.records_of agents) ≤ length agents * MOST_WON
+  pub won-le : (agents : List (Agent R)) → total_of (λ (r : Record R). r.won) (queue.records_of agents) ≤ length agents
+      * MOST_WON
   won-le [] = omega arith
   won-le (a ∷ agents) = let rest = won-le agents in let own = a.caller.unspent in
-      let next : length (a ∷ agents) * MOST_WON ≡ length agents * MOST_WON + MOST_WON = suc-mul (length agents) MOST_WON in omega arith
+      let next : length (a ∷ agents) * MOST_WON ≡ length agents * MOST_WON + MOST_WON =
+      suc-mul (length agents) MOST_WON in omega arith
 
   -- what so few agents won, gave back, hold and posted
   pub small_totals : (q : Queue R) (agents : List (Agent R)) (t : QueueTotals) → length agents ≤ 64
@@ -117,7 +125,8 @@ module _ {R : Type 0} where
   balances q agents t g = subst (λ (s : Totals). s.got ≡ s.back + s.held + s.posted) (sym g.tags_are) g.tags.balance
 
   -- both sets are gathered
-  pub gathers : (tags : Tags R) (hands : List (Hand R)) (one other : QueueTotals) (sums : Totals) → sums ≡ totals_of_both one.tags other.tags
+  pub gathers : (tags : Tags R) (hands : List (Hand R)) (one other : QueueTotals) (sums : Totals)
+      → sums ≡ totals_of_both one.tags other.tags
       → queue_gathering.IsGathered tags.ordinary (map ordinary_part hands) one
       → queue_gathering.IsGathered tags.reserved (map reserved_part hands) other
       → IsGathered tags hands (record { tags = sums; book = one.book; groups = one.groups })

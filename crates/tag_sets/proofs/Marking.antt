@@ -22,12 +22,14 @@ marks-none w first test old = record {
 -- a bit that isn't to be set stays
 pub marks-skip : (w first : ℕ) (test : ℕ → Bool) (old : List ℕ) → test 0 ≡ false → Marks w first 1 test old old
 marks-skip w first test old off = record {
-  inside = λ k less. let z : k ≡ 0 = omega arith in let c : one_if (test k) ≡ 0 = ap (λ (j : ℕ). one_if (test j)) z ∙ ap (λ (b : Bool). one_if b) off in omega arith;
+  inside = λ k less. let z : k ≡ 0 = omega arith in
+      let c : one_if (test k) ≡ 0 = ap (λ (j : ℕ). one_if (test j)) z ∙ ap (λ (b : Bool). one_if b) off in omega arith;
   outside = λ n out. refl;
 }
 
 -- the same bits, named in another way
-pub marks-like : (w first count : ℕ) (test other : ℕ → Bool) (old new : List ℕ) → ((k : ℕ) → k < count → one_if (test k) ≡ one_if (other k))
+pub marks-like : (w first count : ℕ) (test other : ℕ → Bool) (old new : List ℕ)
+    → ((k : ℕ) → k < count → one_if (test k) ≡ one_if (other k))
     → Marks w first count test old new → Marks w first count other old new
 marks-like w first count test other old new like m = record {
   inside = λ k less. let a = m.inside k less in let b = like k less in omega arith;
@@ -35,21 +37,26 @@ marks-like w first count test other old new like m = record {
 }
 
 -- some bits, and those behind them
-pub marks-then : (w first a b : ℕ) (test more : ℕ → Bool) (old mid new : List ℕ) → Marks w first a test old mid → Marks w (first + a) b more mid new
+pub marks-then : (w first a b : ℕ) (test more : ℕ → Bool) (old mid new : List ℕ) → Marks w first a test old mid
+    → Marks w (first + a) b more mid new
     → ((k : ℕ) → k < b → one_if (more k) ≡ one_if (test (a + k))) → Marks w first (a + b) test old new
 marks-then w first a b test more old mid new one two like = record {
   inside = λ k less. dite (dec_lt k a)
       (λ (h : k < a). let x = one.inside k h in let y = two.outside (first + k) (inl (omega arith)) in omega arith)
-      (λ no. let j : ℕ = k - a in let is : a + j ≡ k = omega arith in let there : first + a + j ≡ first + k = omega arith in
-      let x = two.inside j (omega arith) in let y = one.outside (first + k) (inr (omega arith)) in let t = like j (omega arith) in
+      (λ no. let j : ℕ = k - a in let is : a + j ≡ k = omega arith in
+      let there : first + a + j ≡ first + k = omega arith in
+      let x = two.inside j (omega arith) in let y = one.outside (first + k) (inr (omega arith)) in
+      let t = like j (omega arith) in
       let same = ap (λ (i : ℕ). one_if (test i)) is in
-      let now = ap (λ (n : ℕ). bit_in w new n) there in let before = ap (λ (n : ℕ). bit_in w mid n) there in omega arith);
+      let now = ap (λ (n : ℕ). bit_in w new n) there in
+      let before = ap (λ (n : ℕ). bit_in w mid n) there in omega arith);
   outside = λ n out. ⊎_elim
       (λ (h : n < first). two.outside n (inl (omega arith)) ∙ one.outside n (inl h))
       (λ (h : first + (a + b) ≤ n). two.outside n (inr (omega arith)) ∙ one.outside n (inr (omega arith))) out;
 }
 
-module _ (w : ℕ) (one_number : (m n : ℕ) → m / w ≡ n / w → m % w ≡ n % w → m ≡ n) (old : List ℕ) (bit : ℕ) (there : bit / w < length old) where
+module _ (w : ℕ) (one_number : (m n : ℕ) → m / w ≡ n / w → m % w ≡ n % w → m ≡ n) (old : List ℕ) (bit : ℕ)
+    (there : bit / w < length old) where
   abbrev now : List ℕ
   now = slice_set old (bit / w) (bit_or (get_or old (bit / w) 0) (2 ^ (bit % w)))
 
@@ -57,7 +64,8 @@ module _ (w : ℕ) (one_number : (m n : ℕ) → m / w ≡ n / w → m % w ≡ n
   here =
       let both = bit_at_or (get_or old (bit / w) 0) (2 ^ (bit % w)) (bit % w) in let one = bit_at-pow_same (bit % w) in
       let low = bit_at-lt (get_or old (bit / w) 0) (bit % w) in
-      ap (λ (x : ℕ). bit_at x (bit % w)) (get_or-set_same old (bit / w) (bit_or (get_or old (bit / w) 0) (2 ^ (bit % w))) 0 there) ∙ omega arith
+      ap (λ (x : ℕ). bit_at x (bit % w)) (get_or-set_same old (bit / w)
+      (bit_or (get_or old (bit / w) 0) (2 ^ (bit % w))) 0 there) ∙ omega arith
 
   else : (n : ℕ) → n ≢ bit → bit_in w now n ≡ bit_in w old n
   else n far = dite (ℕ_discrete (n / w) (bit / w))
@@ -65,8 +73,10 @@ module _ (w : ℕ) (one_number : (m n : ℕ) → m / w ≡ n / w → m % w ≡ n
       let other = bit_at-pow_other (bit % w) (n % w) (λ same. far (one_number n bit e same)) in
       let both = bit_at_or (get_or old (bit / w) 0) (2 ^ (bit % w)) (n % w) in
       ap (λ (i : ℕ). bit_at (get_or now i 0) (n % w)) e
-      ∙ ap (λ (x : ℕ). bit_at x (n % w)) (get_or-set_same old (bit / w) (bit_or (get_or old (bit / w) 0) (2 ^ (bit % w))) 0 there)
-      ∙ (let z : bit_at (bit_or (get_or old (bit / w) 0) (2 ^ (bit % w))) (n % w) ≡ bit_at (get_or old (bit / w) 0) (n % w) = omega arith in z)
+      ∙ ap (λ (x : ℕ). bit_at x (n % w)) (get_or-set_same old (bit / w)
+      (bit_or (get_or old (bit / w) 0) (2 ^ (bit % w))) 0 there)
+      ∙ (let z : bit_at (bit_or (get_or old (bit / w) 0) (2 ^ (bit % w))) (n % w)
+      ≡ bit_at (get_or old (bit / w) 0) (n % w) = omega arith in z)
       ∙ ap (λ (i : ℕ). bit_at (get_or old i 0) (n % w)) (sym e))
       (λ (ne : n / w ≢ bit / w). ap (λ (x : ℕ). bit_at x (n % w))
       (get_or-set_other old (bit / w) (n / w) (bit_or (get_or old (bit / w) 0) (2 ^ (bit % w))) 0 ne))
@@ -76,7 +86,9 @@ module _ (w : ℕ) (one_number : (m n : ℕ) → m / w ≡ n / w → m % w ≡ n
   marks-one test on = record {
     inside = λ k less. let z : bit + k ≡ bit = omega arith in let z0 : k ≡ 0 = omega arith in
         let c : one_if (test k) ≡ 1 = ap (λ (j : ℕ). one_if (test j)) z0 ∙ ap (λ (b : Bool). one_if b) on in
-        let set = here in let same = ap (λ (n : ℕ). bit_in w now n) z in let before = ap (λ (n : ℕ). bit_in w old n) z in
+        let set = here in let same = ap (λ (n : ℕ). bit_in w now n) z in
+        let before = ap (λ (n : ℕ). bit_in w old n) z in
         let low = bit_at-lt (get_or old (bit / w) 0) (bit % w) in omega arith;
-    outside = λ n out. else n (λ e. ⊎_elim (λ (h : n < bit). absurd (omega arith)) (λ (h : bit + 1 ≤ n). absurd (omega arith)) out);
+    outside = λ n out. else n (λ e. ⊎_elim (λ (h : n < bit). absurd (omega arith))
+        (λ (h : bit + 1 ≤ n). absurd (omega arith)) out);
   }

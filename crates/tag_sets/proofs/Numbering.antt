@@ -33,22 +33,28 @@ ordinary_above reserved tag above = let f = le-ltb tag reserved above in record 
 
 -- each tag is of one kind
 pub stands : (reserved tag : ℕ) → IsReserved reserved tag ⊎ IsOrdinary reserved tag
-stands reserved tag = elim (nat_lt tag reserved) as (λ (b : Bool). nat_lt tag reserved ≡ b → IsReserved reserved tag ⊎ IsOrdinary reserved tag) [
-  | true ↦ (λ t. inl (reserved_below reserved tag (ltb-true tag reserved t)))
-  | false ↦ (λ f. inr (ordinary_above reserved tag (ltb-false tag reserved f)))
-] refl
+stands reserved tag = elim (nat_lt tag reserved) as
+    (λ (b : Bool). nat_lt tag reserved ≡ b → IsReserved reserved tag ⊎ IsOrdinary reserved tag) [
+      | true ↦ (λ t. inl (reserved_below reserved tag (ltb-true tag reserved t)))
+      | false ↦ (λ f. inr (ordinary_above reserved tag (ltb-false tag reserved f)))
+    ] refl
 
 pub reserved_at : (reserved tag : ℕ) → kind_of reserved tag ≡ Reserved → IsReserved reserved tag
-reserved_at reserved tag e = ⊎_elim (λ (r : IsReserved reserved tag). r) (λ (o : IsOrdinary reserved tag). let k = o.kind in absurd (cc)) (stands reserved tag)
+reserved_at reserved tag e = ⊎_elim (λ (r : IsReserved reserved tag). r)
+    (λ (o : IsOrdinary reserved tag). let k = o.kind in absurd (cc)) (stands reserved tag)
 
 pub ordinary_at : (reserved tag : ℕ) → kind_of reserved tag ≡ Ordinary → IsOrdinary reserved tag
-ordinary_at reserved tag e = ⊎_elim (λ (r : IsReserved reserved tag). let k = r.kind in absurd (cc)) (λ (o : IsOrdinary reserved tag). o) (stands reserved tag)
+ordinary_at reserved tag e = ⊎_elim (λ (r : IsReserved reserved tag). let k = r.kind in absurd (cc))
+    (λ (o : IsOrdinary reserved tag). o) (stands reserved tag)
 
 -- a set and a number there are those of one tag
-pub one_tag : (reserved a b : ℕ) → kind_of reserved a ≡ kind_of reserved b → number_in_set reserved a ≡ number_in_set reserved b → a ≡ b
+pub one_tag : (reserved a b : ℕ) → kind_of reserved a ≡ kind_of reserved b
+    → number_in_set reserved a ≡ number_in_set reserved b → a ≡ b
 one_tag reserved a b kinds numbers = ⊎_elim
-    (λ (r : IsReserved reserved b). let s = reserved_at reserved a (kinds ∙ r.kind) in sym s.number ∙ numbers ∙ r.number)
-    (λ (o : IsOrdinary reserved b). let s = ordinary_at reserved a (kinds ∙ o.kind) in let x = s.number in let y = o.number in omega (arith, numbers))
+    (λ (r : IsReserved reserved b). let s = reserved_at reserved a (kinds ∙ r.kind) in
+    sym s.number ∙ numbers ∙ r.number)
+    (λ (o : IsOrdinary reserved b). let s = ordinary_at reserved a (kinds ∙ o.kind) in let x = s.number in
+    let y = o.number in omega (arith, numbers))
     (stands reserved b)
 
 -- a set is this one or the other

@@ -27,46 +27,61 @@ use Rattle.tag_sets.specs.Hands.{agent_of, split_of, reserved_of}
 use Rattle.tag_sets.specs.Opening.{reserved_part, ordinary_part, AreParts, HoldsNone, IsOpen}
 
 -- of the images of all, and so of all
-pub all_part : {A B : Type 0} (P : B → Type 0) (f : A → B) (xs : List A) → All P (map f xs) → (k : ℕ) (d : A) → k < length xs → P (f (get_or xs k d))
+pub all_part : {A B : Type 0} (P : B → Type 0) (f : A → B) (xs : List A) → All P (map f xs) → (k : ℕ) (d : A)
+    → k < length xs → P (f (get_or xs k d))
 all_part P f xs h k d l = subst P (get_or-map f xs k d (f d) l) (h k (f d) (let z = length-map xs f in omega arith))
 
 module _ {R : Type 0} where
   -- a new agent has the number of its place, and holds nothing
-  new_number : (m : Map R) (agents : List (Agent R)) (n : ℕ) (a : Agent R) → AreNew m (map queue.caller_of agents) → get_elem? agents n ≡ some a
+  new_number : (m : Map R) (agents : List (Agent R)) (n : ℕ) (a : Agent R) → AreNew m (map queue.caller_of agents)
+      → get_elem? agents n ≡ some a
       → queue.number_of a ≡ n
-  new_number m agents n a new e = sym a.numbers.0 ∙ ap (λ (r : Record R). r.number) (new.each n (queue.caller_of a) (at_map queue.caller_of agents n a e)).1
+  new_number m agents n a new e = sym a.numbers.0
+      ∙ ap (λ (r : Record R). r.number) (new.each n (queue.caller_of a) (at_map queue.caller_of agents n a e)).1
 
-  new_holds_none : (m : Map R) (agents : List (Agent R)) (n : ℕ) (a : Agent R) → AreNew m (map queue.caller_of agents) → get_elem? agents n ≡ some a
+  new_holds_none : (m : Map R) (agents : List (Agent R)) (n : ℕ) (a : Agent R) → AreNew m (map queue.caller_of agents)
+      → get_elem? agents n ≡ some a
       → (tag : ℕ) → ¬ (queue.Holds a tag)
   new_holds_none m agents n a new e tag h =
       let fresh = (new.each n (queue.caller_of a) (at_map queue.caller_of agents n a e)).1 in
-      let bit : tag_bit m.shape.layout (replicate (words m.shape.layout) 0) tag ≡ 1 = subst (λ (r : Record R). tag_bit r.shape.layout r.held tag ≡ 1) fresh h.1 in
-      let none = ap (λ (w : ℕ). bit_at w (place_of m.shape.layout tag)) (zeros (words m.shape.layout) (word_of m.shape.layout tag)) in
+      let bit : tag_bit m.shape.layout (replicate (words m.shape.layout) 0) tag ≡ 1 =
+      subst (λ (r : Record R). tag_bit r.shape.layout r.held tag ≡ 1) fresh h.1 in
+      let none = ap (λ (w : ℕ). bit_at w (place_of m.shape.layout tag))
+      (zeros (words m.shape.layout) (word_of m.shape.layout tag)) in
       let zero_bit = bit_at-zero (place_of m.shape.layout tag) in absurd (omega (arith, sym none ∙ bit))
 
   -- a queue has as many agents as its options say
-  pub as_many : (options : Options) (q : Queue R) (agents : List (Agent R)) → queue_opening.IsOpen options q agents → length agents ≡ options.callers
-  as_many options q agents opened = sym (length-map agents queue.caller_of) ∙ opened.callers.count ∙ opened.tags.callers_is
+  pub as_many : (options : Options) (q : Queue R) (agents : List (Agent R)) → queue_opening.IsOpen options q agents
+      → length agents ≡ options.callers
+  as_many options q agents opened = sym (length-map agents queue.caller_of) ∙ opened.callers.count
+      ∙ opened.tags.callers_is
 
-  none_of_both : (hand : Hand R) → ((tag : ℕ) → ¬ (queue.Holds hand.reserved tag)) → ((tag : ℕ) → ¬ (queue.Holds hand.ordinary tag)) → HoldsNone hand
-  none_of_both hand r o tag = elim (kind_of (split_of hand) tag) as (λ (k : Kind). ¬ (queue.Holds (agent_of hand k) (number_in_set (split_of hand) tag))) [
-    | Ordinary ↦ o (number_in_set (split_of hand) tag)
-    | Reserved ↦ r (number_in_set (split_of hand) tag)
-  ]
+  none_of_both : (hand : Hand R) → ((tag : ℕ) → ¬ (queue.Holds hand.reserved tag))
+      → ((tag : ℕ) → ¬ (queue.Holds hand.ordinary tag)) → HoldsNone hand
+  none_of_both hand r o tag = elim (kind_of (split_of hand) tag) as
+      (λ (k : Kind). ¬ (queue.Holds (agent_of hand k) (number_in_set (split_of hand) tag))) [
+        | Ordinary ↦ o (number_in_set (split_of hand) tag)
+        | Reserved ↦ r (number_in_set (split_of hand) tag)
+      ]
 
-  module _ (options : Options) (tags : Tags R) (hands : List (Hand R)) (reserved ordinary : List (Agent R)) (parts : AreParts (reserved_of tags) reserved ordinary hands)
-      (one : queue_opening.IsOpen (record options { min_shallow = None }) tags.reserved reserved) (other : queue_opening.IsOpen options tags.ordinary ordinary) where
+  module _ (options : Options) (tags : Tags R) (hands : List (Hand R)) (reserved ordinary : List (Agent R))
+      (parts : AreParts (reserved_of tags) reserved ordinary hands)
+      (one : queue_opening.IsOpen (record options { min_shallow = None }) tags.reserved reserved)
+      (other : queue_opening.IsOpen options tags.ordinary ordinary) where
     set_one : queue_opening.IsOpen (record options { min_shallow = None }) tags.reserved (map reserved_part hands)
-    set_one = subst (queue_opening.IsOpen (record options { min_shallow = None }) tags.reserved) (sym parts.reserved_are) one
+    set_one = subst (queue_opening.IsOpen (record options { min_shallow = None }) tags.reserved)
+        (sym parts.reserved_are) one
 
     set_other : queue_opening.IsOpen options tags.ordinary (map ordinary_part hands)
     set_other = subst (queue_opening.IsOpen options tags.ordinary) (sym parts.ordinary_are) other
 
     reserved_number : (n : ℕ) (hand : Hand R) → get_elem? hands n ≡ some hand → queue.number_of hand.reserved ≡ n
-    reserved_number n hand e = new_number tags.reserved.map (map reserved_part hands) n hand.reserved set_one.callers (at_map reserved_part hands n hand e)
+    reserved_number n hand e = new_number tags.reserved.map (map reserved_part hands) n hand.reserved set_one.callers
+        (at_map reserved_part hands n hand e)
 
     ordinary_number : (n : ℕ) (hand : Hand R) → get_elem? hands n ≡ some hand → queue.number_of hand.ordinary ≡ n
-    ordinary_number n hand e = new_number tags.ordinary.map (map ordinary_part hands) n hand.ordinary set_other.callers (at_map ordinary_part hands n hand e)
+    ordinary_number n hand e = new_number tags.ordinary.map (map ordinary_part hands) n hand.ordinary set_other.callers
+        (at_map ordinary_part hands n hand e)
 
     -- the sets are open, and their hands new
     pub opens : IsOpen options tags hands
@@ -80,8 +95,11 @@ module _ {R : Type 0} where
         reserved_number k (get_or hands k d) e ∙ sym (ordinary_number k (get_or hands k d) e),
       );
       none_held = λ k d l. let e = entry_or hands k d l in let hand = get_or hands k d in none_of_both hand
-          (new_holds_none tags.reserved.map (map reserved_part hands) k hand.reserved set_one.callers (at_map reserved_part hands k hand e))
-          (new_holds_none tags.ordinary.map (map ordinary_part hands) k hand.ordinary set_other.callers (at_map ordinary_part hands k hand e));
-      count = sym (length-map hands ordinary_part) ∙ sym (length-map (map ordinary_part hands) queue.caller_of) ∙ set_other.callers.count ∙ set_other.tags.callers_is;
+          (new_holds_none tags.reserved.map (map reserved_part hands) k hand.reserved set_one.callers
+          (at_map reserved_part hands k hand e))
+          (new_holds_none tags.ordinary.map (map ordinary_part hands) k hand.ordinary set_other.callers
+          (at_map ordinary_part hands k hand e));
+      count = sym (length-map hands ordinary_part) ∙ sym (length-map (map ordinary_part hands) queue.caller_of)
+          ∙ set_other.callers.count ∙ set_other.tags.callers_is;
       ordered = ordinary_number;
     }

@@ -25,7 +25,8 @@ use Rattle.tag_sets.specs.Slots.{Reads, Posts, Takes, Misses, RefusesTake}
 use Rattle.tag_sets.proofs.Lifting.{less, more, same, less_like, more_like, one_like}
 
 -- what a result keeps of two facts
-both : {T E : Type 0} (r : Result T E) (P Q S : T → Type 0) → ((v : T) → P v → Q v → S v) → IfOk r P → IfOk r Q → IfOk r S
+both : {T E : Type 0} (r : Result T E) (P Q S : T → Type 0) → ((v : T) → P v → Q v → S v) → IfOk r P → IfOk r Q
+    → IfOk r S
 both (Ok v) P Q S h p q = h v p q
 both (Err e) P Q S h p q = tt
 
@@ -36,12 +37,14 @@ pub record IsAt {R : Type 0} (hand : Hand R) (tag : ℕ) (kind : Kind) (number :
 
 module _ {R : Type 0} where
   -- what is held is known of the record alone
-  holds_by : (old new : Agent R) (n : ℕ) → record_of (queue.caller_of new) ≡ record_of (queue.caller_of old) → queue.Holds old n → queue.Holds new n
+  holds_by : (old new : Agent R) (n : ℕ) → record_of (queue.caller_of new) ≡ record_of (queue.caller_of old)
+      → queue.Holds old n → queue.Holds new n
   holds_by old new n known h =
       subst (λ (r : Record R). (n < r.shape.layout.depth) × (tag_bit r.shape.layout r.held n ≡ 1)) (sym known) h
 
   -- a slot that is written as it was found is as it was
-  pub writes_back : (old new : Agent R) (n : ℕ) (value : R) → queue.slot_of old n ≡ some value → queue_slots.Writes n value old new
+  pub writes_back : (old new : Agent R) (n : ℕ) (value : R) → queue.slot_of old n ≡ some value
+      → queue_slots.Writes n value old new
       → queue_holding.HoldsSame old new
   writes_back old new n value found w = record {
     kept = λ m h. (
@@ -54,87 +57,111 @@ module _ {R : Type 0} where
   }
 
   -- the set that has the tag, and its number there, as the code finds them
-  pub placed : (tags : Tags R) (hand : Hand R) (tag : ℕ) (found : SetTag) (kind : Kind) → IsHandOf tags hand → found.kind ≡ kind
-      → found.kind ≡ kind_of (reserved_of tags) tag → found.number ≡ number_in_set (reserved_of tags) tag → IsAt hand tag kind found.number
+  pub placed : (tags : Tags R) (hand : Hand R) (tag : ℕ) (found : SetTag) (kind : Kind) → IsHandOf tags hand
+      → found.kind ≡ kind
+      → found.kind ≡ kind_of (reserved_of tags) tag → found.number ≡ number_in_set (reserved_of tags) tag
+      → IsAt hand tag kind found.number
   placed tags hand tag found kind own is k n = record {
     kind_is = sym is ∙ k ∙ ap (λ (s : ℕ). kind_of s tag) (sym own.2);
     number_is = n ∙ ap (λ (s : ℕ). number_in_set s tag) (sym own.2);
   }
 
   module _ (old new : Hand R) (kind : Kind) (number tag : ℕ) (at : IsAt old tag kind number)
-      (other : agent_of new (other_kind kind) ≡ agent_of old (other_kind kind)) (split : split_of new ≡ split_of old) where
-    -- a change in the set of a tag, by the set and the tag's number there
-    pub changes_at : (change : Kind → ℕ → Agent R → Agent R → Type 0) → change kind number (agent_of old kind) (agent_of new kind) → ChangesAt tag change old new
-    changes_at change h = subst (λ (m : ℕ). Changes (kind_of (split_of old) tag) (change (kind_of (split_of old) tag) m) old new) at.number_is
-        (subst (λ (j : Kind). Changes j (change j number) old new) at.kind_is (record { changed = h; other = other; split = split }))
+      (other : agent_of new (other_kind kind) ≡ agent_of old (other_kind kind)) (split : split_of new ≡ split_of old)
+    where
+      -- a change in the set of a tag, by the set and the tag's number there
+      pub changes_at : (change : Kind → ℕ → Agent R → Agent R → Type 0)
+          → change kind number (agent_of old kind) (agent_of new kind) → ChangesAt tag change old new
+      changes_at change h = subst (λ (m : ℕ). Changes (kind_of (split_of old) tag) (change (kind_of (split_of old) tag) m)
+          old new) at.number_is
+          (subst (λ (j : Kind). Changes j (change j number) old new) at.kind_is
+          (record { changed = h; other = other; split = split }))
 
-    slot_before : queue.slot_of (agent_of old kind) number ≡ slot_of old tag
-    slot_before = ap (queue.slot_of (agent_of old kind)) at.number_is ∙ ap (λ (j : Kind). queue.slot_of (agent_of old j) (number_in_set (split_of old) tag)) at.kind_is
+      slot_before : queue.slot_of (agent_of old kind) number ≡ slot_of old tag
+      slot_before = ap (queue.slot_of (agent_of old kind)) at.number_is
+          ∙ ap (λ (j : Kind). queue.slot_of (agent_of old j) (number_in_set (split_of old) tag)) at.kind_is
 
-    slot_now : queue.slot_of (agent_of new kind) number ≡ slot_of new tag
-    slot_now = ap (queue.slot_of (agent_of new kind)) at.number_is ∙ ap (λ (j : Kind). queue.slot_of (agent_of new j) (number_in_set (split_of old) tag)) at.kind_is
-        ∙ sym (ap (λ (s : ℕ). queue.slot_of (agent_of new (kind_of s tag)) (number_in_set s tag)) split)
+      slot_now : queue.slot_of (agent_of new kind) number ≡ slot_of new tag
+      slot_now = ap (queue.slot_of (agent_of new kind)) at.number_is
+          ∙ ap (λ (j : Kind). queue.slot_of (agent_of new j) (number_in_set (split_of old) tag)) at.kind_is
+          ∙ sym (ap (λ (s : ℕ). queue.slot_of (agent_of new (kind_of s tag)) (number_in_set s tag)) split)
 
-    pub reads_at : (value : R) → queue.slot_of (agent_of old kind) number ≡ some value → queue_slots.Writes number value (agent_of old kind) (agent_of new kind)
-        → Reads tag value old new
-    reads_at value found w = record {
-      same = same old new kind other split (writes_back (agent_of old kind) (agent_of new kind) number value found w);
-      set = changes_at (λ j m. queue_slots.Writes m value) w;
-    }
+      pub reads_at : (value : R) → queue.slot_of (agent_of old kind) number ≡ some value
+          → queue_slots.Writes number value (agent_of old kind) (agent_of new kind)
+          → Reads tag value old new
+      reads_at value found w = record {
+        same = same old new kind other split (writes_back (agent_of old kind) (agent_of new kind) number value found w);
+        set = changes_at (λ j m. queue_slots.Writes m value) w;
+      }
 
-    pub posts_at : queue_slots.Posts number (agent_of old kind) (agent_of new kind) → Posts tag old new
-    posts_at p = record {
-      value = p.value;
-      slot = sym slot_before ∙ p.slot;
-      less = less_like _ _ old new (one_like old kind number tag at.kind_is at.number_is) (less old new kind other split (λ m. m ≡ number) p.less);
-      set = changes_at (λ j m. queue_slots.Posts m) p;
-    }
+      pub posts_at : queue_slots.Posts number (agent_of old kind) (agent_of new kind) → Posts tag old new
+      posts_at p = record {
+        value = p.value;
+        slot = sym slot_before ∙ p.slot;
+        less = less_like _ _ old new (one_like old kind number tag at.kind_is at.number_is)
+            (less old new kind other split (λ m. m ≡ number) p.less);
+        set = changes_at (λ j m. queue_slots.Posts m) p;
+      }
 
-    pub clears_at : (tags : Tags R) → queue_clears.Puts (layout_of tags kind) number (agent_of old kind) (agent_of new kind) → Clears tags tag old new
-    clears_at tags p = record {
-      less = less_like _ _ old new (one_like old kind number tag at.kind_is at.number_is) (less old new kind other split (λ m. m ≡ number) p.less);
-      set = changes_at (λ j m. queue_clears.Puts (layout_of tags j) m) p;
-    }
+      pub clears_at : (tags : Tags R) → queue_clears.Puts (layout_of tags kind) number (agent_of old kind)
+          (agent_of new kind) → Clears tags tag old new
+      clears_at tags p = record {
+        less = less_like _ _ old new (one_like old kind number tag at.kind_is at.number_is)
+            (less old new kind other split (λ m. m ≡ number) p.less);
+        set = changes_at (λ j m. queue_clears.Puts (layout_of tags j) m) p;
+      }
 
-    pub takes_at : queue_slots.Takes number (agent_of old kind) (agent_of new kind) → Takes tag old new
-    takes_at t = record {
-      value = t.value;
-      slot = sym slot_now ∙ t.slot;
-      more = more_like _ _ old new (one_like old kind number tag at.kind_is at.number_is) (more old new kind other split (λ m. m ≡ number) t.more);
-      set = changes_at (λ j m. queue_slots.Takes m) t;
-    }
+      pub takes_at : queue_slots.Takes number (agent_of old kind) (agent_of new kind) → Takes tag old new
+      takes_at t = record {
+        value = t.value;
+        slot = sym slot_now ∙ t.slot;
+        more = more_like _ _ old new (one_like old kind number tag at.kind_is at.number_is)
+            (more old new kind other split (λ m. m ≡ number) t.more);
+        set = changes_at (λ j m. queue_slots.Takes m) t;
+      }
 
-    misses_at : queue_slots.Misses number (agent_of old kind) (agent_of new kind) → Misses tag old new
-    misses_at m = record {
-      same = same old new kind other split m.same;
-      set = changes_at (λ j m. queue_slots.Misses m) m;
-    }
+      misses_at : queue_slots.Misses number (agent_of old kind) (agent_of new kind) → Misses tag old new
+      misses_at m = record {
+        same = same old new kind other split m.same;
+        set = changes_at (λ j m. queue_slots.Misses m) m;
+      }
 
-    -- what a refused take leaves, where the hand is as it was if its agent is
-    pub refuses_at : (fault : TagFault) → (agent_of new kind ≡ agent_of old kind → new ≡ old)
-        → queue_slots.RefusesTake number fault (agent_of old kind) (agent_of new kind) → RefusesTake tag fault old new
-    refuses_at fault whole r = ⊎_elim
-        (λ (a : (fault ≡ NoSuchTag) × (agent_of new kind ≡ agent_of old kind)). inl (a.0, whole a.1))
-        (λ (b : (fault ≡ NotPosted) × queue_slots.Misses number (agent_of old kind) (agent_of new kind)). inr (b.0, misses_at b.1)) r
+      -- what a refused take leaves, where the hand is as it was if its agent is
+      pub refuses_at : (fault : TagFault) → (agent_of new kind ≡ agent_of old kind → new ≡ old)
+          → queue_slots.RefusesTake number fault (agent_of old kind) (agent_of new kind) → RefusesTake tag fault old new
+      refuses_at fault whole r = ⊎_elim
+          (λ (a : (fault ≡ NoSuchTag) × (agent_of new kind ≡ agent_of old kind)). inl (a.0, whole a.1))
+          (λ (b : (fault ≡ NotPosted) × queue_slots.Misses number (agent_of old kind) (agent_of new kind)). inr
+          (b.0, misses_at b.1)) r
 
-    module _ (T : Type 0) (r : Result T TagFault) where
-      pub reads_on : (value : T → R) → IfOk r (λ v. queue.slot_of (agent_of old kind) number ≡ some (value v))
-          → IfOk r (λ v. queue_slots.Writes number (value v) (agent_of old kind) (agent_of new kind)) → IfOk r (λ v. Reads tag (value v) old new)
-      reads_on value found w = both r (λ v. queue.slot_of (agent_of old kind) number ≡ some (value v))
-          (λ v. queue_slots.Writes number (value v) (agent_of old kind) (agent_of new kind)) (λ v. Reads tag (value v) old new) (λ v a b. reads_at (value v) a b) found w
+      module _ (T : Type 0) (r : Result T TagFault) where
+        pub reads_on : (value : T → R) → IfOk r (λ v. queue.slot_of (agent_of old kind) number ≡ some (value v))
+            → IfOk r (λ v. queue_slots.Writes number (value v) (agent_of old kind) (agent_of new kind))
+            → IfOk r (λ v. Reads tag (value v) old new)
+        reads_on value found w = both r (λ v. queue.slot_of (agent_of old kind) number ≡ some (value v))
+            (λ v. queue_slots.Writes number (value v) (agent_of old kind) (agent_of new kind))
+            (λ v. Reads tag (value v) old new) (λ v a b. reads_at (value v) a b) found w
 
-      pub posts_on : OnOk r (queue_slots.Posts number (agent_of old kind) (agent_of new kind)) → OnOk r (Posts tag old new)
-      posts_on h = IfOk-weaker r (λ _. queue_slots.Posts number (agent_of old kind) (agent_of new kind)) (λ _. Posts tag old new) (λ _ p. posts_at p) h
+        pub posts_on : OnOk r (queue_slots.Posts number (agent_of old kind) (agent_of new kind))
+            → OnOk r (Posts tag old new)
+        posts_on h = IfOk-weaker r (λ _. queue_slots.Posts number (agent_of old kind) (agent_of new kind))
+            (λ _. Posts tag old new) (λ _ p. posts_at p) h
 
-      pub takes_on : OnOk r (queue_slots.Takes number (agent_of old kind) (agent_of new kind)) → OnOk r (Takes tag old new)
-      takes_on h = IfOk-weaker r (λ _. queue_slots.Takes number (agent_of old kind) (agent_of new kind)) (λ _. Takes tag old new) (λ _ p. takes_at p) h
+        pub takes_on : OnOk r (queue_slots.Takes number (agent_of old kind) (agent_of new kind))
+            → OnOk r (Takes tag old new)
+        takes_on h = IfOk-weaker r (λ _. queue_slots.Takes number (agent_of old kind) (agent_of new kind))
+            (λ _. Takes tag old new) (λ _ p. takes_at p) h
 
-      pub refuses_on : (agent_of new kind ≡ agent_of old kind → new ≡ old)
-          → IfErr r (λ fault. queue_slots.RefusesTake number fault (agent_of old kind) (agent_of new kind)) → IfErr r (λ fault. RefusesTake tag fault old new)
-      refuses_on whole h = IfErr-weaker r (λ fault. queue_slots.RefusesTake number fault (agent_of old kind) (agent_of new kind))
-          (λ fault. RefusesTake tag fault old new) (λ fault p. refuses_at fault whole p) h
+        pub refuses_on : (agent_of new kind ≡ agent_of old kind → new ≡ old)
+            → IfErr r (λ fault. queue_slots.RefusesTake number fault (agent_of old kind) (agent_of new kind))
+            → IfErr r (λ fault. RefusesTake tag fault old new)
+        refuses_on whole h = IfErr-weaker r (λ fault. queue_slots.RefusesTake number fault (agent_of old kind)
+            (agent_of new kind))
+            (λ fault. RefusesTake tag fault old new) (λ fault p. refuses_at fault whole p) h
 
-      pub clears_on : (tags : Tags R) → OnOk r (queue_clears.Puts (layout_of tags kind) number (agent_of old kind) (agent_of new kind))
-          → OnOk r (Clears tags tag old new)
-      clears_on tags h = IfOk-weaker r (λ _. queue_clears.Puts (layout_of tags kind) number (agent_of old kind) (agent_of new kind))
-          (λ _. Clears tags tag old new) (λ _ p. clears_at tags p) h
+        pub clears_on : (tags : Tags R) → OnOk r
+            (queue_clears.Puts (layout_of tags kind) number (agent_of old kind) (agent_of new kind))
+            → OnOk r (Clears tags tag old new)
+        clears_on tags h = IfOk-weaker r (λ _. queue_clears.Puts (layout_of tags kind) number (agent_of old kind)
+            (agent_of new kind))
+            (λ _. Clears tags tag old new) (λ _ p. clears_at tags p) h

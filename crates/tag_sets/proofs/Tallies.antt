@@ -49,7 +49,8 @@ module _ (l : Layout) (test : ℕ → Bool) where
   -- the tags up to the end of a word that pass a test are those before it, and the bits of the word's mask
   count_word : (i mask : ℕ) → i < words l → mask < 2 ^ word_depth l i
       → ((place : ℕ) → place < word_depth l i → cond (test (tag_at l i place)) 1 0 ≡ bit_at mask place)
-      → count_below test (min ((i + 1) * word_bits l) l.depth) ≡ count_below test (min (i * word_bits l) l.depth) + count_ones mask
+      → count_below test (min ((i + 1) * word_bits l) l.depth) ≡ count_below test (min (i * word_bits l) l.depth)
+      + count_ones mask
   count_word i mask there within each =
       let f : ℕ → ℕ = λ k. cond (test k) 1 0 in
       let start = word-start l i there in
@@ -65,36 +66,45 @@ module _ (l : Layout) (test : ℕ → Bool) where
 -- a mask of 64 bits has no place behind them
 narrow_word : (u depth : ℕ) → u < 2 ^ 64 → ((place : ℕ) → place < depth → bit_at u place ≡ 1) → depth ≤ 64
 narrow_word u depth fits bits = dite (dec_lt 64 depth)
-    (λ (h : 64 < depth). absurd (let one = bits 64 h in let none = bit_at_above u 64 64 fits (omega arith) in omega arith))
+    (λ (h : 64 < depth). absurd (let one = bits 64 h in
+    let none = bit_at_above u 64 64 fits (omega arith) in omega arith))
     (λ no. omega arith)
 
 -- the tags of all words are all tags
 pub all_words : (l : Layout) (n : ℕ) → words l ≤ n → min (n * word_bits l) l.depth ≡ l.depth
 all_words l n h =
-    let room = depth-le-words l in let more : words l * word_bits l ≤ n * word_bits l = mul-le-mul_right (word_bits l) h in omega arith
+    let room = depth-le-words l in let more : words l * word_bits l ≤ n * word_bits l =
+    mul-le-mul_right (word_bits l) h in omega arith
 
 -- a tag before a word is one of an earlier word
 earlier : (l : Layout) (i tag : ℕ) → tag < min (i * word_bits l) l.depth → word_of l tag < i
 earlier l i tag low = dite (dec_lt (word_of l tag) i) (λ (h : word_of l tag < i). h)
     (λ no. absurd (let back = tag_at-back l tag in
-    let much : i * word_bits l ≤ word_of l tag * word_bits l = mul-le-mul_right (word_bits l) (omega arith) in omega arith))
+    let much : i * word_bits l ≤ word_of l tag * word_bits l = mul-le-mul_right (word_bits l) (omega arith) in
+    omega arith))
 
 module _ (l : Layout) (found : List (ℕ × ℕ)) (pair : ℕ × ℕ) (i : ℕ) (count : length found ≡ i) where
   -- one word more tells nothing else of the words before it
-  word_before : (tag : ℕ) → tag < min (i * word_bits l) l.depth → word_in (found ++ pair ∷ []) (word_of l tag) ≡ word_in found (word_of l tag)
-  word_before tag low = get_or_append_left found (pair ∷ []) (0, 0) (word_of l tag) (let e = earlier l i tag low in omega arith)
+  word_before : (tag : ℕ) → tag < min (i * word_bits l) l.depth
+      → word_in (found ++ pair ∷ []) (word_of l tag) ≡ word_in found (word_of l tag)
+  word_before tag low = get_or_append_left found (pair ∷ []) (0, 0) (word_of l tag)
+      (let e = earlier l i tag low in omega arith)
 
   word_here : (place : ℕ) → place < word_bits l → word_in (found ++ pair ∷ []) (word_of l (tag_at l i place)) ≡ pair
-  word_here place low = get_or_push found pair (0, 0) (word_of l (tag_at l i place)) (count ∙ sym (word_of-tag_at l i place low))
+  word_here place low = get_or_push found pair (0, 0) (word_of l (tag_at l i place))
+      (count ∙ sym (word_of-tag_at l i place low))
 
   busy_before : count_below (is_busy_in l (found ++ pair ∷ [])) (min (i * word_bits l) l.depth)
       ≡ count_below (is_busy_in l found) (min (i * word_bits l) l.depth)
-  busy_before = sum_below-same (λ tag. cond (is_busy_in l (found ++ pair ∷ []) tag) 1 0) (λ tag. cond (is_busy_in l found tag) 1 0) (min (i * word_bits l) l.depth)
-      (λ tag low. ap (λ (w : ℕ × ℕ). cond (nat_eq (bit_at w.0 (place_of l tag)) 1 && nat_eq (bit_at w.1 (place_of l tag)) 0) 1 0) (word_before tag low))
+  busy_before = sum_below-same (λ tag. cond (is_busy_in l (found ++ pair ∷ []) tag) 1 0)
+      (λ tag. cond (is_busy_in l found tag) 1 0) (min (i * word_bits l) l.depth)
+      (λ tag low. ap (λ (w : ℕ × ℕ). cond (nat_eq (bit_at w.0 (place_of l tag)) 1
+      && nat_eq (bit_at w.1 (place_of l tag)) 0) 1 0) (word_before tag low))
 
   aside_before : count_below (is_aside_in l (found ++ pair ∷ [])) (min (i * word_bits l) l.depth)
       ≡ count_below (is_aside_in l found) (min (i * word_bits l) l.depth)
-  aside_before = sum_below-same (λ tag. cond (is_aside_in l (found ++ pair ∷ []) tag) 1 0) (λ tag. cond (is_aside_in l found tag) 1 0) (min (i * word_bits l) l.depth)
+  aside_before = sum_below-same (λ tag. cond (is_aside_in l (found ++ pair ∷ []) tag) 1 0)
+      (λ tag. cond (is_aside_in l found tag) 1 0) (min (i * word_bits l) l.depth)
       (λ tag low. ap (λ (w : ℕ × ℕ). cond (nat_eq (bit_at w.1 (place_of l tag)) 1) 1 0) (word_before tag low))
 
   module _ (u : ℕ) (there : i < words l) (small : u < 2 ^ 64) (usable : u + 1 ≡ 2 ^ word_depth l i)
@@ -104,29 +114,35 @@ module _ (l : Layout) (found : List (ℕ × ℕ)) (pair : ℕ × ℕ) (i : ℕ) 
 
     -- the tag of this place was found busy
     pub busy_here : pair.1 < 2 ^ 64 → (place : ℕ) → place < word_depth l i
-        → cond (is_busy_in l (found ++ pair ∷ []) (tag_at l i place)) 1 0 ≡ bit_at (bit_and (bit_and pair.0 u) (bit_not w64 pair.1)) place
+        → cond (is_busy_in l (found ++ pair ∷ []) (tag_at l i place)) 1 0
+        ≡ bit_at (bit_and (bit_and pair.0 u) (bit_not w64 pair.1)) place
     busy_here fits place low =
         let deep = narrow in let one = bits place low in
         let both = bit_at_and (bit_and pair.0 u) (bit_not w64 pair.1) place in let used = bit_at_and pair.0 u place in
         let other = bit_at_not w64 pair.1 place fits (omega arith) in let b = bit_at-lt pair.0 place in
-        ap (λ (w : ℕ × ℕ). cond (nat_eq (bit_at w.0 (place_of l (tag_at l i place))) 1 && nat_eq (bit_at w.1 (place_of l (tag_at l i place))) 0) 1 0)
+        ap (λ (w : ℕ × ℕ). cond (nat_eq (bit_at w.0 (place_of l (tag_at l i place))) 1
+        && nat_eq (bit_at w.1 (place_of l (tag_at l i place))) 0) 1 0)
         (word_here place (omega arith))
-        ∙ ap (λ (k : ℕ). cond (nat_eq (bit_at pair.0 k) 1 && nat_eq (bit_at pair.1 k) 0) 1 0) (place_of-tag_at l i place (omega arith))
+        ∙ ap (λ (k : ℕ). cond (nat_eq (bit_at pair.0 k) 1 && nat_eq (bit_at pair.1 k) 0) 1 0)
+        (place_of-tag_at l i place (omega arith))
         ∙ busy_bits (bit_at pair.0 place) (bit_at pair.1 place) b (bit_at-lt pair.1 place) ∙ omega arith
 
     pub count_busy : pair.1 < 2 ^ 64
         → count_below (is_busy_in l (found ++ pair ∷ [])) (min ((i + 1) * word_bits l) l.depth)
-        ≡ count_below (is_busy_in l found) (min (i * word_bits l) l.depth) + count_ones (bit_and (bit_and pair.0 u) (bit_not w64 pair.1))
+        ≡ count_below (is_busy_in l found) (min (i * word_bits l) l.depth)
+        + count_ones (bit_and (bit_and pair.0 u) (bit_not w64 pair.1))
     count_busy fits =
         let le = and_le_l (bit_and pair.0 u) (bit_not w64 pair.1) in let le' = and_le_r pair.0 u in
-        count_word l (is_busy_in l (found ++ pair ∷ [])) i (bit_and (bit_and pair.0 u) (bit_not w64 pair.1)) there (omega arith) (busy_here fits)
+        count_word l (is_busy_in l (found ++ pair ∷ [])) i (bit_and (bit_and pair.0 u) (bit_not w64 pair.1)) there
+        (omega arith) (busy_here fits)
         ∙ ap (λ (n : ℕ). n + count_ones (bit_and (bit_and pair.0 u) (bit_not w64 pair.1))) busy_before
 
     aside_here : (place : ℕ) → place < word_depth l i
         → cond (is_aside_in l (found ++ pair ∷ []) (tag_at l i place)) 1 0 ≡ bit_at (bit_and pair.1 u) place
     aside_here place low =
         let one = bits place low in let used = bit_at_and pair.1 u place in let b = bit_at-lt pair.1 place in
-        ap (λ (w : ℕ × ℕ). cond (nat_eq (bit_at w.1 (place_of l (tag_at l i place))) 1) 1 0) (word_here place (omega arith))
+        ap (λ (w : ℕ × ℕ). cond (nat_eq (bit_at w.1 (place_of l (tag_at l i place))) 1) 1 0)
+        (word_here place (omega arith))
         ∙ ap (λ (k : ℕ). cond (nat_eq (bit_at pair.1 k) 1) 1 0) (place_of-tag_at l i place (omega arith))
         ∙ aside_bits (bit_at pair.1 place) b ∙ omega arith
 
@@ -141,27 +157,35 @@ module _ (l : Layout) (found : List (ℕ × ℕ)) (pair : ℕ × ℕ) (i : ℕ) 
 -- the sums over one word more
 pub record Counted (l : Layout) (found : List (ℕ × ℕ)) (pair : ℕ × ℕ) (i u : ℕ) : Type 0 where
   pub busy : count_below (is_busy_in l (found ++ pair ∷ [])) (min ((i + 1) * word_bits l) l.depth)
-      ≡ count_below (is_busy_in l found) (min (i * word_bits l) l.depth) + count_ones (bit_and (bit_and pair.0 u) (bit_not w64 pair.1))
+      ≡ count_below (is_busy_in l found) (min (i * word_bits l) l.depth)
+      + count_ones (bit_and (bit_and pair.0 u) (bit_not w64 pair.1))
   pub aside : count_below (is_aside_in l (found ++ pair ∷ [])) (min ((i + 1) * word_bits l) l.depth)
       ≡ count_below (is_aside_in l found) (min (i * word_bits l) l.depth) + count_ones (bit_and pair.1 u)
   pub few_busy : count_below (is_busy_in l (found ++ pair ∷ [])) (min ((i + 1) * word_bits l) l.depth) ≤ l.depth
   pub few_aside : count_below (is_aside_in l (found ++ pair ∷ [])) (min ((i + 1) * word_bits l) l.depth) ≤ l.depth
 
-pub counted : (layout l : Layout) → layout ≡ l → (found : List (ℕ × ℕ)) (pair : ℕ × ℕ) (i u : ℕ) → length found ≡ i → i < words layout → u < 2 ^ 64
-    → u + 1 ≡ 2 ^ word_depth layout i → ((place : ℕ) → (bit_at u place ≡ 1) ↔ (place < word_depth layout i)) → pair.1 < 2 ^ 64
+pub counted : (layout l : Layout) → layout ≡ l → (found : List (ℕ × ℕ)) (pair : ℕ × ℕ) (i u : ℕ) → length found ≡ i
+    → i < words layout → u < 2 ^ 64
+    → u + 1 ≡ 2 ^ word_depth layout i → ((place : ℕ) → (bit_at u place ≡ 1) ↔ (place < word_depth layout i))
+    → pair.1 < 2 ^ 64
     → Counted l found pair i u
-counted layout l is found pair i u count there small usable bits fits = subst (λ (s : Layout). Counted s found pair i u) is (record {
-  busy = count_busy layout found pair i count u there small usable (λ place low. (bits place).1 low) fits;
-  aside = count_aside layout found pair i count u there small usable (λ place low. (bits place).1 low);
-  few_busy = (let le = count_le (is_busy_in layout (found ++ pair ∷ [])) (min ((i + 1) * word_bits layout) layout.depth) in omega arith);
-  few_aside = (let le = count_le (is_aside_in layout (found ++ pair ∷ [])) (min ((i + 1) * word_bits layout) layout.depth) in omega arith);
-})
+counted layout l is found pair i u count there small usable bits fits =
+    subst (λ (s : Layout). Counted s found pair i u) is (record {
+      busy = count_busy layout found pair i count u there small usable (λ place low. (bits place).1 low) fits;
+      aside = count_aside layout found pair i count u there small usable (λ place low. (bits place).1 low);
+      few_busy = (let le = count_le (is_busy_in layout (found ++ pair ∷ [])) (min ((i + 1) * word_bits layout) layout.depth)
+          in omega arith);
+      few_aside = (let le = count_le (is_aside_in layout (found ++ pair ∷ []))
+          (min ((i + 1) * word_bits layout) layout.depth) in omega arith);
+    })
 
 -- the tags of one word more are marked
-pub marks_word : (w : ℕ) (l : Layout) (found : List (ℕ × ℕ)) (pair : ℕ × ℕ) (i : ℕ) → length found ≡ i → (u : ℕ) → i < words l → u < 2 ^ 64
+pub marks_word : (w : ℕ) (l : Layout) (found : List (ℕ × ℕ)) (pair : ℕ × ℕ) (i : ℕ) → length found ≡ i → (u : ℕ)
+    → i < words l → u < 2 ^ 64
     → u + 1 ≡ 2 ^ word_depth l i → ((place : ℕ) → (bit_at u place ≡ 1) ↔ (place < word_depth l i)) → pair.1 < 2 ^ 64
     → (first : ℕ) (old mid new : List ℕ) → Marks w first (min (i * word_bits l) l.depth) (is_busy_in l found) old mid
-    → Marks w (first + tag_at l i 0) (word_depth l i) (λ k. nat_eq (bit_at (bit_and (bit_and pair.0 u) (bit_not w64 pair.1)) k) 1) mid new
+    → Marks w (first + tag_at l i 0) (word_depth l i)
+    (λ k. nat_eq (bit_at (bit_and (bit_and pair.0 u) (bit_not w64 pair.1)) k) 1) mid new
     → Marks w first (min ((i + 1) * word_bits l) l.depth) (is_busy_in l (found ++ pair ∷ [])) old new
 marks_word w l found pair i count u there small usable bits fits first old mid new one two =
     let start = word-start l i there in
@@ -170,21 +194,28 @@ marks_word w l found pair i count u there small usable bits fits first old mid n
     let next : i * word_bits l + word_depth l i ≡ min ((i + 1) * word_bits l) l.depth = omega arith in
     let at : tag_at l i 0 ≡ i * word_bits l = omega arith in
     let mask : ℕ = bit_and (bit_and pair.0 u) (bit_not w64 pair.1) in
-    let before = marks-like w first (min (i * word_bits l) l.depth) (is_busy_in l found) (is_busy_in l (found ++ pair ∷ [])) old mid
-    (λ k less. sym (ap (λ (x : ℕ × ℕ). one_if (nat_eq (bit_at x.0 (place_of l k)) 1 && nat_eq (bit_at x.1 (place_of l k)) 0)) (word_before l found pair i count k less))) one in
+    let before = marks-like w first (min (i * word_bits l) l.depth) (is_busy_in l found)
+    (is_busy_in l (found ++ pair ∷ [])) old mid
+    (λ k less. sym (ap (λ (x : ℕ × ℕ). one_if
+    (nat_eq (bit_at x.0 (place_of l k)) 1 && nat_eq (bit_at x.1 (place_of l k)) 0))
+    (word_before l found pair i count k less))) one in
     subst (λ (n : ℕ). Marks w first n (is_busy_in l (found ++ pair ∷ [])) old new) next
-    (marks-then w first (i * word_bits l) (word_depth l i) (is_busy_in l (found ++ pair ∷ [])) (λ k. nat_eq (bit_at mask k) 1) old mid new
+    (marks-then w first (i * word_bits l) (word_depth l i) (is_busy_in l (found ++ pair ∷ []))
+    (λ k. nat_eq (bit_at mask k) 1) old mid new
     (subst (λ (n : ℕ). Marks w first n (is_busy_in l (found ++ pair ∷ [])) old mid) here before)
     (subst (λ (n : ℕ). Marks w (first + n) (word_depth l i) (λ k. nat_eq (bit_at mask k) 1) mid new) at two)
-    (λ k less. aside_bits (bit_at mask k) (bit_at-lt mask k) ∙ sym (busy_here l found pair i count u there small usable (λ place low. (bits place).1 low) fits k less)))
+    (λ k less. aside_bits (bit_at mask k) (bit_at-lt mask k)
+    ∙ sym (busy_here l found pair i count u there small usable (λ place low. (bits place).1 low) fits k less)))
 
 -- the tags held so far were found busy, and so are those of one word more
 pub held_word : (l : Layout) (found : List (ℕ × ℕ)) (pair : ℕ × ℕ) (i : ℕ) → length found ≡ i → (holds : ℕ → Type 0)
     → ((tag : ℕ) → holds tag → word_of l tag < i → is_busy_in l found tag ≡ true)
-    → ((tag : ℕ) → holds tag → word_of l tag ≡ i → (bit_at pair.0 (place_of l tag) ≡ 1) × (bit_at pair.1 (place_of l tag) ≡ 0))
+    → ((tag : ℕ) → holds tag → word_of l tag ≡ i → (bit_at pair.0 (place_of l tag) ≡ 1)
+    × (bit_at pair.1 (place_of l tag) ≡ 0))
     → (tag : ℕ) → holds tag → word_of l tag < i + 1 → is_busy_in l (found ++ pair ∷ []) tag ≡ true
 held_word l found pair i count holds before here tag h low = dite (dec_lt (word_of l tag) i)
-    (λ (less : word_of l tag < i). ap (λ (w : ℕ × ℕ). nat_eq (bit_at w.0 (place_of l tag)) 1 && nat_eq (bit_at w.1 (place_of l tag)) 0)
+    (λ (less : word_of l tag < i). ap (λ (w : ℕ × ℕ). nat_eq (bit_at w.0 (place_of l tag)) 1
+    && nat_eq (bit_at w.1 (place_of l tag)) 0)
     (get_or_append_left found (pair ∷ []) (0, 0) (word_of l tag) (omega arith)) ∙ before tag h less)
     (λ no. let is : word_of l tag ≡ i = omega arith in let f = here tag h is in
     ap (λ (w : ℕ × ℕ). nat_eq (bit_at w.0 (place_of l tag)) 1 && nat_eq (bit_at w.1 (place_of l tag)) 0)

@@ -25,15 +25,19 @@ module _ {R : Type 0} where
     none_else = λ tag h. s.none_else tag (t.none_else tag h);
   }
 
-  each_set : (hand : Hand R) (reserved ordinary : Agent R) → queue.IsUnchanged hand.reserved reserved → queue.IsUnchanged hand.ordinary ordinary
-      → (kind : Kind) → queue.IsUnchanged (agent_of hand kind) (agent_of (record hand { reserved = reserved; ordinary = ordinary }) kind)
+  each_set : (hand : Hand R) (reserved ordinary : Agent R) → queue.IsUnchanged hand.reserved reserved
+      → queue.IsUnchanged hand.ordinary ordinary
+      → (kind : Kind) → queue.IsUnchanged (agent_of hand kind)
+      (agent_of (record hand { reserved = reserved; ordinary = ordinary }) kind)
   each_set hand reserved ordinary r o Ordinary = o
   each_set hand reserved ordinary r o Reserved = r
 
-  pub unchanged : (hand : Hand R) (reserved ordinary : Agent R) → queue.IsUnchanged hand.reserved reserved → queue.IsUnchanged hand.ordinary ordinary
+  pub unchanged : (hand : Hand R) (reserved ordinary : Agent R) → queue.IsUnchanged hand.reserved reserved
+      → queue.IsUnchanged hand.ordinary ordinary
       → IsUnchanged hand (record hand { reserved = reserved; ordinary = ordinary })
   unchanged hand reserved ordinary r o =
-      let mid = record hand { reserved = reserved } in let new = record hand { reserved = reserved; ordinary = ordinary } in record {
+      let mid = record hand { reserved = reserved } in
+      let new = record hand { reserved = reserved; ordinary = ordinary } in record {
         same = twice_same hand mid new (same hand mid Reserved refl refl (agent_same hand.reserved reserved r))
             (same mid new Ordinary refl refl (agent_same hand.ordinary ordinary o));
         sets = each_set hand reserved ordinary r o;

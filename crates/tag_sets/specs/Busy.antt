@@ -19,7 +19,8 @@ is_busy_tag tags reserved ordinary tag =
     else (nat_lt tag (total_of tags) && is_busy_in (layout_of tags Ordinary) ordinary (tag - reserved_of tags))
 
 -- the bits are set of the tags of one set that the call found busy, the first tag of the set having this bit
-pub record ListsSet {R : Type 0} (l : Layout) (kind : Kind) (first : ℕ) (before after : List ℕ) (count : ℕ) (old new : Hand R) : Type 0 where
+pub record ListsSet {R : Type 0} (l : Layout) (kind : Kind) (first : ℕ) (before after : List ℕ) (count : ℕ)
+    (old new : Hand R) : Type 0 where
   pub found : List (ℕ × ℕ)
   pub around : LooksAround l kind found old new
   pub marks : Marks 64 first l.depth (is_busy_in l found) before after
@@ -33,5 +34,6 @@ pub record ListsBusy {R : Type 0} (tags : Tags R) (bits : List ℕ) (count : ℕ
   pub between : Hand R
   pub first : LooksAround (layout_of tags Reserved) Reserved reserved old between
   pub second : LooksAround (layout_of tags Ordinary) Ordinary ordinary between new
-  pub bits_are : (tag : ℕ) → tag < 64 * length bits → bit_in 64 bits tag ≡ cond (is_busy_tag tags reserved ordinary tag) 1 0
+  pub bits_are : (tag : ℕ) → tag < 64 * length bits
+      → bit_in 64 bits tag ≡ cond (is_busy_tag tags reserved ordinary tag) 1 0
   pub count_is : count ≡ count_below (is_busy_tag tags reserved ordinary) (total_of tags)

@@ -17,7 +17,8 @@ pub record Clears {R : Type 0} (tags : Tags R) (tag : ℕ) (old new : Hand R) : 
 
 -- what n tags of a set that come back count and wake: reserved ones nothing
 abbrev pub Counts : {R : Type 0} → Tags R → Kind → ℕ → Hand R → Hand R → ℕ → Type 0
-Counts tags Ordinary n old new woken = queue_clears.Counts tags.ordinary n (agent_of old Ordinary) (agent_of new Ordinary) woken
+Counts tags Ordinary n old new woken = queue_clears.Counts tags.ordinary n (agent_of old Ordinary)
+    (agent_of new Ordinary) woken
 Counts tags Reserved n old new woken = (woken ≡ 0) × queue.SameCounts (agent_of old Reserved) (agent_of new Reserved)
 
 -- tags of a set that the hand put or gave back

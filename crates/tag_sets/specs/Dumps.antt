@@ -15,9 +15,10 @@ pub record Packs {R : Type 0} (l : Layout) (kind : Kind) (bytes : List ℕ) (old
   pub bits_are : (tag : ℕ) → bit_in 8 bytes tag ≡ cond (nat_lt tag l.depth && is_busy_in l found tag) 1 0
 
 -- so many of the bytes are those of the set, and those behind them are as they were
-pub record Dumps {R : Type 0} (l : Layout) (kind : Kind) (before after : List ℕ) (count : ℕ) (old new : Hand R) : Type 0 where
-  pub bytes : List ℕ
-  pub packed : Packs l kind bytes old new
-  pub count_is : count ≡ div_ceil l.depth 8
-  pub long : length bytes ≡ count
-  pub after_is : after ≡ bytes ++ drop count before
+pub record Dumps {R : Type 0} (l : Layout) (kind : Kind) (before after : List ℕ) (count : ℕ) (old new : Hand R) : Type 0
+  where
+    pub bytes : List ℕ
+    pub packed : Packs l kind bytes old new
+    pub count_is : count ≡ div_ceil l.depth 8
+    pub long : length bytes ≡ count
+    pub after_is : after ≡ bytes ++ drop count before

@@ -23,7 +23,8 @@ AreDistinct numbers = AllPairs (λ a b. a ≢ b) numbers
 
 -- the list has one number at both places
 abbrev pub AreTwins : List ℕ → ℕ → ℕ → Type 0
-AreTwins numbers first second = (first < second) × (second < length numbers) × (slice_index numbers first ≡ slice_index numbers second)
+AreTwins numbers first second = (first < second) × (second < length numbers)
+    × (slice_index numbers first ≡ slice_index numbers second)
 
 -- the sums over both sets
 abbrev pub totals_of_both : Totals → Totals → Totals

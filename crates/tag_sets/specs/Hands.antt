@@ -97,4 +97,5 @@ pub record Changes {R : Type 0} (kind : Kind) (change : Agent R → Agent R → 
 
 -- the hand changed so in the set of this tag, where the tag has this number, and in the other set it is as it was
 abbrev pub ChangesAt : {R : Type 0} → ℕ → (Kind → ℕ → Agent R → Agent R → Type 0) → Hand R → Hand R → Type 0
-ChangesAt tag change old new = let kind = kind_of (split_of old) tag in Changes kind (change kind (number_in_set (split_of old) tag)) old new
+ChangesAt tag change old new = let kind = kind_of (split_of old) tag in
+    Changes kind (change kind (number_in_set (split_of old) tag)) old new

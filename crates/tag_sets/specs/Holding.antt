@@ -9,7 +9,8 @@ pub record HoldsLess {R : Type 0} (named : ℕ → Type 0) (old new : Hand R) : 
   pub kept : (tag : ℕ) → ¬ (named tag) → Holds old tag → Holds new tag × (slot_of new tag ≡ slot_of old tag)
   pub none_else : (tag : ℕ) → Holds new tag → Holds old tag
 
--- the hand holds the named tags, which it did not hold before, every other tag as before, with the value of its slot, and none besides
+-- the hand holds the named tags, which it did not hold before, every other tag as before, with the value of its slot,
+-- and none besides
 pub record HoldsMore {R : Type 0} (named : ℕ → Type 0) (old new : Hand R) : Type 0 where
   pub fresh : (tag : ℕ) → named tag → ¬ (Holds old tag)
   pub joined : (tag : ℕ) → named tag → Holds new tag

@@ -21,7 +21,8 @@ looks_from word (pair ∷ found) = Look word pair.0 ∷ LookAside word pair.1 �
 -- the tag was found taken, and then not set aside
 abbrev pub is_busy_in : Layout → List (ℕ × ℕ) → ℕ → Bool
 is_busy_in l found tag =
-    nat_eq (bit_at (word_in found (word_of l tag)).0 (place_of l tag)) 1 && nat_eq (bit_at (word_in found (word_of l tag)).1 (place_of l tag)) 0
+    nat_eq (bit_at (word_in found (word_of l tag)).0 (place_of l tag)) 1
+    && nat_eq (bit_at (word_in found (word_of l tag)).1 (place_of l tag)) 0
 
 -- the tag was found set aside
 abbrev pub is_aside_in : Layout → List (ℕ × ℕ) → ℕ → Bool

@@ -12,7 +12,8 @@ use Rattle.tag_sets.specs.Holding.{HoldsSame}
 -- in each set the steps of both hands stand in one history
 abbrev pub ShareHistories : {R : Type 0} → Tags R → Hand R → Hand R → Type 0
 ShareHistories tags first second = (kind : Kind)
-    → ShareHistory (queue.shape_of (queue_of tags kind)) (record_of (queue.caller_of (agent_of first kind))) (record_of (queue.caller_of (agent_of second kind)))
+    → ShareHistory (queue.shape_of (queue_of tags kind)) (record_of (queue.caller_of (agent_of first kind)))
+    (record_of (queue.caller_of (agent_of second kind)))
 
 -- the hand is as it was: its tags with their slots, and in each set its own steps and all else
 pub record IsUnchanged {R : Type 0} (old new : Hand R) : Type 0 where

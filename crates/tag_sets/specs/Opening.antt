@@ -39,7 +39,8 @@ pub record AreParts {R : Type 0} (count : ℕ) (reserved ordinary : List (Agent 
 abbrev pub HoldsNone : {R : Type 0} → Hand R → Type 0
 HoldsNone hand = (tag : ℕ) → ¬ (Holds hand tag)
 
--- both sets are as the options say, the least shallow depth being that of the ordinary one; the hands stand in the order of
+-- both sets are as the options say, the least shallow depth being that of the ordinary one; the hands stand in the
+-- order of
 -- their numbers and have done nothing
 pub record IsOpen {R : Type 0} (options : Options) (tags : Tags R) (hands : List (Hand R)) : Type 0 where
   pub ordinary : queue.IsOpen options tags.ordinary (map ordinary_part hands)

@@ -8,4 +8,5 @@ use Rattle.tag_sets.specs.Hands.{agent_of}
 -- in this set the hand's tags and steps are as they were, and so are its counts and its standing
 abbrev pub SameButHint : {R : Type 0} → Kind → Hand R → Hand R → Type 0
 SameButHint kind old new =
-    (queue.caller_of (agent_of new kind) ≡ queue.caller_of (agent_of old kind)) × queue.SameCounts (agent_of old kind) (agent_of new kind)
+    (queue.caller_of (agent_of new kind) ≡ queue.caller_of (agent_of old kind))
+    × queue.SameCounts (agent_of old kind) (agent_of new kind)

@@ -32,7 +32,8 @@ end_text count offset = if offset % 16 == 15 || offset + 1 == count then codes "
 
 -- what stands for the byte at an offset
 abbrev pub byte_text : List ℕ → ℕ → List ℕ
-byte_text bytes offset = head_text offset ++ gap_text offset ++ hex_digits 2 (slice_index bytes offset) ++ end_text (length bytes) offset
+byte_text bytes offset = head_text offset ++ gap_text offset ++ hex_digits 2 (slice_index bytes offset)
+    ++ end_text (length bytes) offset
 
 -- the texts of the bytes before an offset, one behind the other
 abbrev pub texts_below : List ℕ → ℕ → List ℕ

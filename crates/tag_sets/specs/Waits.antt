@@ -37,7 +37,8 @@ pub record StandsOn {R : Type 0} (old new : Hand R) : Type 0 where
 
 -- the agent keeps its tags and its hint, and stands where it stood
 abbrev pub AgentStays : {R : Type 0} → Agent R → Agent R → Type 0
-AgentStays old new = (caller_of new ≡ caller_of old) × (hint_of new ≡ hint_of old) × StandsAsBefore (waiter_of old) (waiter_of new)
+AgentStays old new = (caller_of new ≡ caller_of old) × (hint_of new ≡ hint_of old)
+    × StandsAsBefore (waiter_of old) (waiter_of new)
 
 -- the hand keeps its tags and its hints, and stands where it stood
 pub record Stays {R : Type 0} (old new : Hand R) : Type 0 where

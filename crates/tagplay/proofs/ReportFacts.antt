@@ -50,7 +50,8 @@ owes_report o input before text log report outcome spelt is played_well refuses 
 
 -- the line of a play's fault
 pub owes_fault : (o : PlayOptions) (input before text : List ℕ) (log : Log) (fault : PlayFault)
-    (outcome : Result Report PlayFault) → IsLogOf input log → outcome ≡ Err fault → fault ≢ Memory → RefusesSetup o outcome
+    (outcome : Result Report PlayFault) → IsLogOf input log → outcome ≡ Err fault → fault ≢ Memory
+    → RefusesSetup o outcome
     → before ≡ [] → text ≡ before ++ play_fault_text fault → Reports o input text Refused
 owes_fault o input before text log fault outcome spelt is other refuses none text_is =
     let same : text ≡ play_fault_text fault = text_is ∙ ap (λ front. front ++ play_fault_text fault) none in

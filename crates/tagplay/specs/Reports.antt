@@ -83,7 +83,8 @@ play_fault_text (Lost line) = field (codes "play refused ") 3 ++ line_of (codes 
 play_fault_text (Twice line) = field (codes "play refused ") 4 ++ line_of (codes " line ") line
 play_fault_text Stranger = line_of (codes "play refused ") 5
 
--- what a play may come to: a report on all I/O lines, the setup refused exactly if it is not legal, or another fault but memory
+-- what a play may come to: a report on all I/O lines, the setup refused exactly if it is not legal, or another fault
+-- but memory
 pub record MayComeTo (setup : SetupAsked) (ios : List Io) (outcome : Result Report PlayFault) : Type 0 where
   pub played : IfOk outcome (IsPlayed ios)
   pub setup_refused : (outcome ≡ Err Setup) ↔ ¬ (IsLegal setup)
@@ -99,9 +100,11 @@ abbrev pub ending_of : Result Report PlayFault → Ending
 ending_of (Ok report) = endings.Done
 ending_of (Err fault) = endings.Refused
 
--- the text that an input is answered, and whether it is a refusal: its first faulty line, otherwise the outcome of a play of its log
+-- the text that an input is answered, and whether it is a refusal: its first faulty line, otherwise the outcome of a
+-- play of its log
 pub data Reports (o : PlayOptions) (input : List ℕ) : List ℕ → Ending → Type 0 where
   faulty : (fault : LogFault) → IsLogFault input fault → fault.cause ≢ causes.Memory
       → Reports o input (log_fault_text fault) endings.Refused
-  played : (log : Log) (outcome : Result Report PlayFault) → IsLogOf input log → MayComeTo (setup_of o) log.ios.items outcome
+  played : (log : Log) (outcome : Result Report PlayFault) → IsLogOf input log
+      → MayComeTo (setup_of o) log.ios.items outcome
       → Reports o input (outcome_text log outcome) (ending_of outcome)

@@ -22,7 +22,8 @@ owed_by (Check options) = Tells options
 owed_by (Play options) = Reports options
 
 -- the text is owed to some bytes, which are the reader's where those are known
-pub record Answers (owes : List ℕ → List ℕ → Ending → Type 0) (input : Option (List ℕ)) (text : List ℕ) (ending : Ending)
+pub record Answers (owes : List ℕ → List ℕ → Ending → Type 0) (input : Option (List ℕ)) (text : List ℕ)
+    (ending : Ending)
     : Type 0 where
   pub bytes : List ℕ
   pub short : length bytes ≤ MAX_INPUT

@@ -5,4 +5,5 @@ use Rattle.tag_c.specs.Sharing.{SharesTags}
 use Rattle.tag_c.proofs.berths.take_from.Goals as goal
 
 pub returns : goal.returns
-returns c = subst (λ (tag : Hand ℕ). SharesTags tag c.in_ok-hand.field-0.hand) c.turn-found.ensures.2 c.in_ok-hand.ensures
+returns c = subst (λ (tag : Hand ℕ). SharesTags tag c.in_ok-hand.field-0.hand) c.turn-found.ensures.2
+    c.in_ok-hand.ensures

@@ -8,7 +8,8 @@ use Rattle.tag_c.proofs.pools.tags_close.Goals as goal
 use Rattle.tag_c.proofs.pools.tags_close.Goals.{in-Ok-false, in-Err}
 
 pub returns-in_default-clause-why : goal.returns-in_default-clause-why
-returns-in_default-clause-why c = λ _. let value = c.args.pool.now.object.value in let none : value ≡ None = search rules in
+returns-in_default-clause-why c = λ _. let value = c.args.pool.now.object.value in
+    let none : value ≡ None = search rules in
     refuses (RefusesClose value) BadHandle c.code.result c.code.ensures c.code.type_inv (inl (refl, no_pool value none))
 
 pub returns-in_default-close-clause-why : goal.returns-in_default-close-clause-why
@@ -40,4 +41,5 @@ returns-clause-closes c = λ zero. let code = c.code-2 in let status = c.match-i
 
 pub returns-clause-why : goal.returns-clause-why
 returns-clause-why c = λ _. let code = c.code-2 in
-    refuses (RefusesClose c.args.pool.now.object.value) c.match-is_alone.refused code.result code.ensures code.type_inv (left c)
+    refuses (RefusesClose c.args.pool.now.object.value) c.match-is_alone.refused code.result code.ensures code.type_inv
+    (left c)

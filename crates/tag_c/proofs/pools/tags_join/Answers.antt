@@ -11,13 +11,16 @@ use Rattle.tag_c.proofs.pools.tags_join.Goals as goal
 
 pub returns-then-hand-ne0-clause-why : goal.returns-then-hand-ne0-clause-why
 returns-then-hand-ne0-clause-why c = λ _. let hand = c.args.hand.now in
-    refuses (RefusesJoin c.args.pool.now.object.value hand.object.value c.args.flags) NotEmpty c.code.result c.code.ensures c.code.type_inv
+    refuses (RefusesJoin c.args.pool.now.object.value hand.object.value c.args.flags) NotEmpty c.code.result
+    c.code.ensures c.code.type_inv
     (inl (refl, is_some_of hand.object.value (λ none. c.if-hand-ne0.true (hand.held ∙ none))))
 
 pub returns-in_default-clause-why : goal.returns-in_default-clause-why
-returns-in_default-clause-why c = λ _. let value = c.args.pool.now.object.value in let none : value ≡ None = search rules in
+returns-in_default-clause-why c = λ _. let value = c.args.pool.now.object.value in
+    let none : value ≡ None = search rules in
     let code = c.code-in_default in
-    refuses (RefusesJoin value c.args.hand.now.object.value c.args.flags) BadHandle code.result code.ensures code.type_inv
+    refuses (RefusesJoin value c.args.hand.now.object.value c.args.flags) BadHandle code.result code.ensures
+    code.type_inv
     (inr (inl (refl, no_pool value none)))
 
 pub returns-in-Err-clause-joins : goal.returns-in-Err-clause-joins

@@ -26,17 +26,20 @@ returns-in-Err-clause-opens c = λ zero. let code = c.code-in-Err in let fault =
     absurd (refused (NotOpened fault) code.result code.ensures code.type_inv (fault_below fault) zero)
 
 pub returns-in-Err-clause-why : goal.returns-in-Err-clause-why
-returns-in-Err-clause-why c = λ _. let code = c.code-in-Err in let wishes = c.args.wishes.now in let fault = c.in-Err.fault in
+returns-in-Err-clause-why c = λ _. let code = c.code-in-Err in let wishes = c.args.wishes.now in
+    let fault = c.in-Err.fault in
     refuses (RefusesOpen c.args.pool.now.object.value wishes) (NotOpened fault) code.result code.ensures code.type_inv
     (inr (inr (
       fault,
       refl,
-      subst (λ (o : Options). IsCause wishes.total wishes.reserved o fault) c.read_options.ensures c.in-Err.ensures.cause,
+      subst (λ (o : Options). IsCause wishes.total wishes.reserved o fault) c.read_options.ensures
+          c.in-Err.ensures.cause,
     )))
 
 pub returns-in_default-clause-why : goal.returns-in_default-clause-why
 returns-in_default-clause-why c = λ _. let code = c.code-in_default in
-    refuses (RefusesOpen c.args.pool.now.object.value c.args.wishes.now) (NotOpened Memory) code.result code.ensures code.type_inv
+    refuses (RefusesOpen c.args.pool.now.object.value c.args.wishes.now) (NotOpened Memory) code.result code.ensures
+    code.type_inv
     (inr (inr (Memory, refl, tt)))
 
 pub returns-clause-opens : goal.returns-clause-opens

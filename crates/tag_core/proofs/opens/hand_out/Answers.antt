@@ -1,4 +1,5 @@
--- Each turn splits the seat once more: the caller made last has the next number and a fresh record, those before it keep
+-- Each turn splits the seat once more: the caller made last has the next number and a fresh record, those before it
+-- keep
 -- theirs, and what is left of the seat is still to be handed out.
 use Rattle.std.proofs.Common.{rules, ◌≡◌, ℕ, ◌+◌, List, [], ◌∷◌, ◌++◌, length, All, length-append, sym, ap, ◌∙◌, subst, ⊎_elim}
 use mathlib.Core.Option.{some}

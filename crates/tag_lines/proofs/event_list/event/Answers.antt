@@ -20,7 +20,8 @@ returns-in-None-rest c =
     c.cut.ensures.whole c.in-Some.is in
     let second = is_whole c.cut-2.result.1 (λ r. r.now) c.in-Some.rest.now c.cut-2.result.0.now 32 c.cut-2.ensures.whole
     c.in-None-rest.is in
-    sym (two_words event_of c.args.line.now full c.cut.result.0.now c.in-Some.rest.now c.cut-2.result.0.now c.cut.ensures.part first
+    sym (two_words event_of c.args.line.now full c.cut.result.0.now c.in-Some.rest.now c.cut-2.result.0.now
+    c.cut.ensures.part first
     c.cut-2.ensures.part second)
 
 pub returns-in-None-rest-2 : goal.returns-in-None-rest-2
@@ -32,7 +33,8 @@ returns-in-None-rest-2 c =
     c.cut-2.ensures.whole c.in-Some-rest.is in
     let third = is_whole c.cut-3.result.1 (λ r. r.now) c.in-Some-rest.rest.now c.cut-3.result.0.now 32
     c.cut-3.ensures.whole c.in-None-rest-2.is in
-    c.single_event.ensures ∙ sym (three_words event_of c.args.line.now full c.cut.result.0.now c.in-Some.rest.now c.cut-2.result.0.now
+    c.single_event.ensures ∙ sym (three_words event_of c.args.line.now full c.cut.result.0.now c.in-Some.rest.now
+    c.cut-2.result.0.now
     c.in-Some-rest.rest.now
     c.cut-3.result.0.now c.cut.ensures.part first c.cut-2.ensures.part second c.cut-3.ensures.part third)
 
@@ -47,9 +49,11 @@ returns-in-None-rest-3 c =
     c.in-Some-rest-2.rest c.cut-3.ensures.whole c.in-Some-rest-2.is in
     let fourth = is_whole c.cut-4.result.1 (λ r. r.now) c.in-Some-rest-2.rest.now c.cut-4.result.0.now 32
     c.cut-4.ensures.whole c.in-None-rest-3.is in
-    c.masked_event.ensures ∙ sym (four_words c.args.line.now full c.cut.result.0.now c.in-Some.rest.now c.cut-2.result.0.now
+    c.masked_event.ensures ∙ sym (four_words c.args.line.now full c.cut.result.0.now c.in-Some.rest.now
+    c.cut-2.result.0.now
     c.in-Some-rest.rest.now
-    c.cut-3.result.0.now c.in-Some-rest-2.rest.now c.cut-4.result.0.now c.cut.ensures.part first c.cut-2.ensures.part second
+    c.cut-3.result.0.now c.in-Some-rest-2.rest.now c.cut-4.result.0.now c.cut.ensures.part first c.cut-2.ensures.part
+    second
     c.cut-3.ensures.part third c.cut-4.ensures.part fourth)
 
 pub returns-in-Some-rest-3 : goal.returns-in-Some-rest-3
@@ -63,7 +67,8 @@ returns-in-Some-rest-3 c =
     c.in-Some-rest-2.rest c.cut-3.ensures.whole c.in-Some-rest-2.is in
     let fourth = has_rest c.cut-4.result.1 (λ r. r.now) c.in-Some-rest-2.rest.now c.cut-4.result.0.now 32
     c.in-Some-rest-3.field-0 c.cut-4.ensures.whole c.in-Some-rest-3.is in
-    sym (more_words c.args.line.now full c.cut.result.0.now c.in-Some.rest.now c.cut-2.result.0.now c.in-Some-rest.rest.now
+    sym (more_words c.args.line.now full c.cut.result.0.now c.in-Some.rest.now c.cut-2.result.0.now
+    c.in-Some-rest.rest.now
     c.cut-3.result.0.now c.in-Some-rest-2.rest.now c.cut-4.result.0.now c.in-Some-rest-3.field-0.now
     c.cut.ensures.part first c.cut-2.ensures.part second
     c.cut-3.ensures.part third c.cut-4.ensures.part fourth)

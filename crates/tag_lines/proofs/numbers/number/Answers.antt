@@ -11,6 +11,7 @@ returns c =
 
 pub returns-in-None : goal.returns-in-None
 returns-in-None c =
-    let digit = digit_value_digit (get_or c.args.word.now c.loop-byte.byte-index 0) c.if-not-is_ascii_digit.ensures.cases in
+    let digit = digit_value_digit (get_or c.args.word.now c.loop-byte.byte-index 0)
+    c.if-not-is_ascii_digit.ensures.cases in
     sym (overflows c.args.word.now c.loop-byte.byte-index c.loop-byte.value (omega arith) c.loop-byte.invariant.value
     (omega (arith, c.in-None.ensures, digit)))

@@ -15,7 +15,8 @@ returns-in-None c =
     let full = sym c.has_gap.ensures ∙ c.if-has_gap.false in
     let whole = is_whole c.cut.result.1
     (λ r. r.now) c.args.line.now c.cut.result.0.now 32 c.cut.ensures.whole c.in-None.is in
-    sym (one_word (order_of c.args.dialect c.args.callers) c.args.line.now full c.cut.result.0.now c.cut.ensures.part whole)
+    sym (one_word (order_of c.args.dialect c.args.callers) c.args.line.now full c.cut.result.0.now c.cut.ensures.part
+    whole)
 
 pub returns-in-None-rest : goal.returns-in-None-rest
 returns-in-None-rest c =
@@ -39,7 +40,8 @@ returns-then-eq c =
     let name : bytes_eq c.cut-2.result.0.now (codes "clear-batch") ≡ true = search rules in
     c.listed_order.ensures
     ∙ ap (listed_line c.args.callers (number_below (2 ^ 32) c.cut.result.0.now)) c.in_ok-tags.ensures
-    ∙ sym (listed_words c.args.dialect c.args.callers c.args.line.now full c.cut.result.0.now c.in-Some.rest.now c.cut-2.result.0.now
+    ∙ sym (listed_words c.args.dialect c.args.callers c.args.line.now full c.cut.result.0.now c.in-Some.rest.now
+    c.cut-2.result.0.now
     c.in-Some-rest.words.now c.cut.ensures.part first c.cut-2.ensures.part second name)
 
 pub returns-in-Some-more : goal.returns-in-Some-more
@@ -52,7 +54,8 @@ returns-in-Some-more c =
     let third = has_rest c.cut-3.result.1 (λ r. r.now) c.in-Some-rest.words.now c.cut-3.result.0.now 32
     c.in-Some-more.field-0 c.cut-3.ensures.whole c.in-Some-more.is in
     let name : bytes_eq c.cut-2.result.0.now (codes "clear-batch") ≡ false = search rules in
-    sym (more_words c.args.dialect c.args.callers c.args.line.now full c.cut.result.0.now c.in-Some.rest.now c.cut-2.result.0.now
+    sym (more_words c.args.dialect c.args.callers c.args.line.now full c.cut.result.0.now c.in-Some.rest.now
+    c.cut-2.result.0.now
     c.in-Some-rest.words.now c.cut-3.result.0.now c.in-Some-more.field-0.now
     c.cut.ensures.part first c.cut-2.ensures.part second c.cut-3.ensures.part third name)
 

@@ -12,7 +12,8 @@ returns-in-Ok-Err-clause-fault c =
     let some : 0 < length c.loop-rest.rest.now = search rules in
     let lines = has_line c.cut.result.1 (λ r. r.now) c.loop-rest.rest.now c.cut.result.0.now some c.cut.ensures.part
     c.cut.ensures.whole in
-    first_faulty (order_of c.args.dialect c.args.callers) c.args.text.now c.loop-rest.rest.now c.cut.result.0.now lines.0 c.loop-rest.orders.items
+    first_faulty (order_of c.args.dialect c.args.callers) c.args.text.now c.loop-rest.rest.now c.cut.result.0.now
+    lines.0 c.loop-rest.orders.items
     c.in-Ok-Err.cause (c.len.result + 1)
     c.loop-rest.invariant.said lines.1 (sym c.in-Ok-Err.ensures ∙ is_err)
     (omega (arith, c.len.ensures, c.loop-rest.orders.ok.0))
@@ -25,7 +26,8 @@ loop-rest-preserved-in-Some c =
     c.cut.ensures.whole c.in-Some.is in
     let lines = lines_of-cut c.loop-rest.rest.now c.cut.result.0.now c.in-Some.after.now c.cut.ensures.part whole in
     record {
-      said = rw pushed (said_on (order_of c.args.dialect c.args.callers) c.args.text.now c.loop-rest.rest.now c.cut.result.0.now c.in-Some.after.now
+      said = rw pushed (said_on (order_of c.args.dialect c.args.callers) c.args.text.now c.loop-rest.rest.now
+          c.cut.result.0.now c.in-Some.after.now
           c.loop-rest.orders.items c.in-Ok-Ok.order
           c.loop-rest.invariant.said lines (sym c.in-Ok-Ok.ensures ∙ is_ok));
       room = first_of (search rules, grind (arith, common_steps));
@@ -40,7 +42,8 @@ loop-rest-preserved c =
     c.in-None.is in
     let lines = last_line c.loop-rest.rest.now c.cut.result.0.now some c.cut.ensures.part whole in
     record {
-      said = rw pushed (said_on (order_of c.args.dialect c.args.callers) c.args.text.now c.loop-rest.rest.now c.cut.result.0.now []
+      said = rw pushed (said_on (order_of c.args.dialect c.args.callers) c.args.text.now c.loop-rest.rest.now
+          c.cut.result.0.now []
           c.loop-rest.orders.items c.in-Ok-Ok.order
           c.loop-rest.invariant.said lines (sym c.in-Ok-Ok.ensures ∙ is_ok));
       room = first_of (search rules, grind (arith, common_steps));

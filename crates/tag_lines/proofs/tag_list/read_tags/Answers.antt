@@ -26,7 +26,9 @@ pub loop-tag-preserved : goal.loop-tag-preserved
 loop-tag-preserved c =
     let pushed : c.push.new.self.items ≡ c.loop-tag.tags.items ++ c.in-Some.tag ∷ [] = search rules in
     let whole = has_rest c.cut.result.1
-    (λ r. r.now) c.loop-tag.rest.now c.cut.result.0.now 32 c.in-Some-after.after c.cut.ensures.whole c.in-Some-after.is in
+    (λ r. r.now) c.loop-tag.rest.now c.cut.result.0.now 32 c.in-Some-after.after c.cut.ensures.whole c.in-Some-after.is
+    in
     ap (λ t. behind t (numbers_in c.in-Some-after.after.now)) pushed
-    ∙ number_more c.loop-tag.tags.items c.loop-tag.rest.now c.cut.result.0.now c.in-Some-after.after.now c.in-Some.tag c.cut.ensures.part whole
+    ∙ number_more c.loop-tag.tags.items c.loop-tag.rest.now c.cut.result.0.now c.in-Some-after.after.now c.in-Some.tag
+    c.cut.ensures.part whole
     (sym c.short_number.ensures ∙ c.in-Some.is) ∙ c.loop-tag.invariant

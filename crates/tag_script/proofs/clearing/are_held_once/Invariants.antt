@@ -8,6 +8,7 @@ use Rattle.tag_script.proofs.clearing.are_held_once.Given as goal
 -- the tags so far are held, and differ
 abbrev pub invariant-loop-i : goal.invariant-loop-i
 invariant-loop-i l = record {
-  held : (k : ℕ) → k < l.i → is_busy (pool_of (words_of l.port)) (word_of l.port.layout (get_or l.tags k 0)) (place_of l.port.layout (get_or l.tags k 0)) ≡ true;
+  held : (k : ℕ) → k < l.i → is_busy (pool_of (words_of l.port)) (word_of l.port.layout (get_or l.tags k 0))
+      (place_of l.port.layout (get_or l.tags k 0)) ≡ true;
   once : (j k : ℕ) → j < k → k < l.i → get_or l.tags j 0 ≢ get_or l.tags k 0;
 }

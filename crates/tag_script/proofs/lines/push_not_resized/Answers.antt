@@ -15,7 +15,8 @@ returns c =
     let second : List ℕ = hindrance_text c.args.cause in
     let head : c.push_field.new.text.items ≡ t ++ first =
     c.in_ok-push_field.ensures.ok ∙ ap (λ (n : ℕ). t ++ field (codes "resize refused ") n) c.number_of_cause.ensures in
-    let two = after t c.push_field.new.text.items c.push_hindrance.new.text.items first second head c.in_ok-push_hindrance.ensures.ok in
+    let two = after t c.push_field.new.text.items c.push_hindrance.new.text.items first second head
+    c.in_ok-push_hindrance.ensures.ok in
     record {
       ok = on_ok_weaker c.end_line.result
           (after t c.push_hindrance.new.text.items c.end_line.new.text.items (first ++ second) (codes "\n") two) c.end_line.ensures.ok;

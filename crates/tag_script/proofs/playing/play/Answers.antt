@@ -11,13 +11,15 @@ use Rattle.tag_script.proofs.playing.play.Goals as goal
 pub loop-order-init : goal.loop-order-init
 loop-order-init g c = record {
   played = record { said = []; text_is = c.new-text.ensures.items; plays = over };
-  ready = λ n few. g.met.W.World.ready_fewer c.args.world n (length c.args.orders.now) (omega (arith, few)) c.requires.ready;
+  ready = λ n few. g.met.W.World.ready_fewer c.args.world n (length c.args.orders.now) (omega (arith, few))
+      c.requires.ready;
   known = c.requires.known;
 }
 
 pub loop-order-preserved : goal.loop-order-preserved
 loop-order-preserved g c =
-    let so_far = c.loop-order.invariant.played in let i = c.loop-order.order-index in let orders : List Order = c.args.orders.now in
+    let so_far = c.loop-order.invariant.played in let i = c.loop-order.order-index in
+    let orders : List Order = c.args.orders.now in
     let there : i < length orders = search rules in
     let order : Order = c.order-item.result in let answer = c.in_ok-answer.answer in let next = c.in_ok-answer.next in
     let e : take (i + 1) orders ≡ take i orders ++ order ∷ [] =
@@ -25,8 +27,10 @@ loop-order-preserved g c =
     record {
       played = record {
         said = so_far.said ++ answer ∷ [];
-        text_is = c.in-Ok.ensures.ok ∙ ap (λ (t : List ℕ). t ++ line_of answer) so_far.text_is ∙ sym (text_more so_far.said answer);
-        plays = subst (λ (os : List Order). Plays g.W.World.answers c.args.world os (so_far.said ++ answer ∷ []) next) (sym e)
+        text_is = c.in-Ok.ensures.ok ∙ ap (λ (t : List ℕ). t ++ line_of answer) so_far.text_is
+            ∙ sym (text_more so_far.said answer);
+        plays = subst (λ (os : List Order). Plays g.W.World.answers c.args.world os (so_far.said ++ answer ∷ []) next)
+            (sym e)
             (plays_more g.W.World.answers order answer so_far.plays c.in_ok-answer.ensures.answers);
       };
       ready = λ n few. c.in_ok-answer.ensures.ready n (c.loop-order.invariant.ready (n + 1) (omega (arith, few)));

@@ -18,7 +18,8 @@ pub returns-in-Err-Faulty : goal.returns-in-Err-Faulty
 returns-in-Err-Faulty g c =
     let fault = c.in-Err-Faulty.fault in let o = c.args.options.now in let script = c.args.script.now in
     let text_is = c.in_ok-faulty_text-in-Err-Faulty.ensures ∙ ap faulty_text c.in-Err-Faulty.fault-is in
-    let first = subst (λ (f : ListFault). IsListFault (order_of c.dialect.result o.callers) script f) c.in-Err-Faulty.field-0-is
+    let first = subst (λ (f : ListFault). IsListFault (order_of c.dialect.result o.callers) script f)
+    c.in-Err-Faulty.field-0-is
     c.in-Err-Faulty.ensures.fault in
     let of_kind = subst (λ (d : Dialect). IsFirstFaulty (order_of d o.callers) script fault) c.dialect.ensures first in
     subst (λ (t : List ℕ). Owed o script t Refused) (sym text_is) (faulty fault of_kind)
@@ -34,14 +35,18 @@ pub returns-in-Ok-carry_out : goal.returns-in-Ok-carry_out
 returns-in-Ok-carry_out g c =
     let o = c.args.options.now in let script = c.args.script.now in
     let orders : List Order = c.in-Ok.orders.items in let text : List ℕ = c.in-Ok-carry_out.text.items in
-    let says = subst (λ (d : Dialect). AreReadings (order_of d o.callers) script orders) c.dialect.ensures c.in-Ok.ensures.orders in
-    played orders text says (subst (λ (os : List Order). IsTold o.plain o os text) c.deref.ensures.value c.in-Ok-carry_out.ensures.told)
+    let says = subst (λ (d : Dialect). AreReadings (order_of d o.callers) script orders) c.dialect.ensures
+    c.in-Ok.ensures.orders in
+    played orders text says (subst (λ (os : List Order). IsTold o.plain o os text) c.deref.ensures.value
+    c.in-Ok-carry_out.ensures.told)
 
 pub returns : goal.returns
 returns g c =
     let fault = c.in-Err-Setup.fault in let o = c.args.options.now in let script = c.args.script.now in
     let orders : List Order = c.in-Ok.orders.items in
     let text_is = c.in_ok-setup_text-in-Err-Setup.ensures ∙ ap setup_text c.in-Err-Setup.fault-is in
-    let says = subst (λ (d : Dialect). AreReadings (order_of d o.callers) script orders) c.dialect.ensures c.in-Ok.ensures.orders in
-    let why = subst (λ (f : Closed). IsClosed (IsRefusedSetup o.plain o) f) c.in-Err-Setup.field-0-is c.in-Err-Setup.ensures.fault in
+    let says = subst (λ (d : Dialect). AreReadings (order_of d o.callers) script orders) c.dialect.ensures
+    c.in-Ok.ensures.orders in
+    let why = subst (λ (f : Closed). IsClosed (IsRefusedSetup o.plain o) f) c.in-Err-Setup.field-0-is
+    c.in-Err-Setup.ensures.fault in
     subst (λ (t : List ℕ). Owed o script t Refused) (sym text_is) (refused orders fault says why)

@@ -6,11 +6,13 @@ use Rattle.tag_script.proofs.script.carry_out.Goals as goal
 pub returns-then-options-clause-told : goal.returns-then-options-clause-told
 returns-then-options-clause-told g c =
     let o = c.args.options.now in
-    subst (λ (plain : Bool). IfOk c.play_alone.result (λ text. IsTold plain o c.args.orders.now text.items)) (sym c.if-options.true)
+    subst (λ (plain : Bool). IfOk c.play_alone.result (λ text. IsTold plain o c.args.orders.now text.items))
+    (sym c.if-options.true)
     c.play_alone.ensures.told
 
 pub returns-else-options-clause-told : goal.returns-else-options-clause-told
 returns-else-options-clause-told g c =
     let o = c.args.options.now in
-    subst (λ (plain : Bool). IfOk c.play_shared.result (λ text. IsTold plain o c.args.orders.now text.items)) (sym c.if-options.false)
+    subst (λ (plain : Bool). IfOk c.play_shared.result (λ text. IsTold plain o c.args.orders.now text.items))
+    (sym c.if-options.false)
     c.play_shared.ensures.told

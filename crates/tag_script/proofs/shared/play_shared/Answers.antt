@@ -9,9 +9,11 @@ use Rattle.tag_script.proofs.shared.play_shared.Goals as goal
 pub returns-in-Ok-clause-told : goal.returns-in-Ok-clause-told
 returns-in-Ok-clause-told g c =
     let orders : List Order = c.args.orders.now in let text : List ℕ = c.in-Ok.text.items in
-    let told = played_as ObeysShared AreSharedTotals (λ p. scene_of p.board) c.new.result orders text c.in-Ok.ensures in record {
+    let told = played_as ObeysShared AreSharedTotals (λ p. scene_of p.board) c.new.result orders text c.in-Ok.ensures in
+    record {
       first = scene_of c.in_ok-board.board;
       allowed = c.in_ok-board.ensures.allowed;
       new = c.in_ok-board.ensures.new;
-      played = subst (λ (s : Scene). IsPlayed ObeysShared AreSharedTotals s orders text) (ap scene_of c.new.ensures) told;
+      played = subst (λ (s : Scene). IsPlayed ObeysShared AreSharedTotals s orders text) (ap scene_of c.new.ensures)
+          told;
     }

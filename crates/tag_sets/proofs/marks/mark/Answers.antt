@@ -15,13 +15,16 @@ one_number m n over rest = omega arith
 pub loop-place-preserved : goal.loop-place-preserved
 loop-place-preserved c =
     let place : ℕ = c.loop-place.place in let bit : ℕ = c.args.first + place in let mask : ℕ = c.args.mask in
-    let old : List ℕ = c.args.into.now in let mid : List ℕ = c.loop-place.into in let new : List ℕ = c.if-mask-place-ne0.into in
-    let inv = c.loop-place.invariant in let on = c.loop-place-test.true in let width = c.requires.width in let room = c.requires.room in let same = inv.room in
+    let old : List ℕ = c.args.into.now in let mid : List ℕ = c.loop-place.into in
+    let new : List ℕ = c.if-mask-place-ne0.into in
+    let inv = c.loop-place.invariant in let on = c.loop-place-test.true in let width = c.requires.width in
+    let room = c.requires.room in let same = inv.room in
     let shift : 1 * 2 ^ place % 2 ^ 64 ≡ 2 ^ place = one_shl place 64 (omega arith) in
     let low : 1 * 2 ^ (bit % 64) % 2 ^ 64 ≡ 2 ^ (bit % 64) = one_shl (bit % 64) 64 (omega arith) in
     let there : bit / 64 < length mid = omega arith in
     let test : ℕ → Bool = λ k. nat_eq (bit_at mask k) 1 in
-    let like : (b : Bool) → nat_eq (bit_at mask place) 1 ≡ b → (k : ℕ) → k < 1 → one_if b ≡ one_if (test (place + k)) = λ b is k less.
+    let like : (b : Bool) → nat_eq (bit_at mask place) 1 ≡ b → (k : ℕ) → k < 1 → one_if b ≡ one_if (test (place + k)) =
+    λ b is k less.
     let z : place ≡ place + k = omega arith in ap one_if (sym is ∙ ap test z) in
     elim c.if-mask-place-ne0.branch [
       | then-mask-place-ne0 w ↦ (
@@ -29,15 +32,18 @@ loop-place-preserved c =
           let set = marks-one 64 one_number mid bit there (λ k. true) refl in
           let is : new ≡ slice_set mid (bit / 64) (bit_or (slice_index mid (bit / 64)) (2 ^ (bit % 64))) = w.into-is
           ∙ ap (λ (m : ℕ). slice_set mid (bit / 64) (bit_or (slice_index mid (bit / 64)) m)) low in record {
-            room = ap (λ (l : List ℕ). length l) is ∙ length-set mid (bit / 64) (bit_or (slice_index mid (bit / 64)) (2 ^ (bit % 64))) ∙ same;
-            marks = marks-then 64 c.args.first place 1 test (λ k. true) old mid new inv.marks (subst (Marks 64 bit 1 (λ k. true) mid) (sym is) set)
+            room = ap (λ (l : List ℕ). length l) is
+                ∙ length-set mid (bit / 64) (bit_or (slice_index mid (bit / 64)) (2 ^ (bit % 64))) ∙ same;
+            marks = marks-then 64 c.args.first place 1 test (λ k. true) old mid new inv.marks
+                (subst (Marks 64 bit 1 (λ k. true) mid) (sym is) set)
                 (like true (eq-eqb (bit_at mask place) 1 one));
           })
       | else-mask-place-ne0 w ↦ (
           let none = clear_of_mask mask place (sym (ap (bit_and mask) shift) ∙ w.if-mask-place-ne0.false) in
           let skip = marks-skip 64 bit (λ k. false) mid refl in record {
             room = ap (λ (l : List ℕ). length l) w.into-is ∙ same;
-            marks = marks-then 64 c.args.first place 1 test (λ k. false) old mid new inv.marks (subst (Marks 64 bit 1 (λ k. false) mid) (sym w.into-is) skip)
+            marks = marks-then 64 c.args.first place 1 test (λ k. false) old mid new inv.marks
+                (subst (Marks 64 bit 1 (λ k. false) mid) (sym w.into-is) skip)
                 (like false (ap (λ (x : ℕ). nat_eq x 1) none));
           })
     ]

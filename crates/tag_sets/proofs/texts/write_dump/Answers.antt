@@ -12,18 +12,24 @@ pub loop-offset-preserved : goal.loop-offset-preserved
 loop-offset-preserved g c =
     let bytes = c.args.bytes.now in let k = c.loop-offset.offset in let next : k + 1 ≡ suc k = omega arith in
     let old = g.W.Write.contents c.args.writer.now in let new = g.W.Write.contents c.write_end.new.writer in
-    let hex = subst (λ (x : ℕ). Appends (g.W.Write.contents c.write_gap.new.writer) (g.W.Write.contents c.write_hex.new.writer) (hex_digits 2 x))
+    let hex = subst (λ (x : ℕ). Appends (g.W.Write.contents c.write_gap.new.writer)
+    (g.W.Write.contents c.write_hex.new.writer) (hex_digits 2 x))
     c.from.ensures c.in_ok-write_hex.ensures in
     let start = g.W.Write.contents c.loop-offset.writer in let digits = hex_digits 2 (slice_index bytes k) in
-    let two = appends_then start (g.W.Write.contents c.write_head.new.writer) (g.W.Write.contents c.write_gap.new.writer) (head_text k) (gap_text k)
+    let two = appends_then start (g.W.Write.contents c.write_head.new.writer)
+    (g.W.Write.contents c.write_gap.new.writer) (head_text k) (gap_text k)
     c.in_ok-write_head.ensures c.in_ok-write_gap.ensures in
-    let three = appends_then start (g.W.Write.contents c.write_gap.new.writer) (g.W.Write.contents c.write_hex.new.writer) (head_text k ++ gap_text k) digits two hex in
-    let here = appends_then start (g.W.Write.contents c.write_hex.new.writer) new (head_text k ++ gap_text k ++ digits) (end_text (length bytes) k)
+    let three = appends_then start (g.W.Write.contents c.write_gap.new.writer)
+    (g.W.Write.contents c.write_hex.new.writer) (head_text k ++ gap_text k) digits two hex in
+    let here = appends_then start (g.W.Write.contents c.write_hex.new.writer) new (head_text k ++ gap_text k ++ digits)
+    (end_text (length bytes) k)
     three c.in_ok-write_end.ensures in
     subst (λ (n : ℕ). Appends old new (texts_below bytes n)) (sym next)
     (appends_then old start new (texts_below bytes k) (byte_text bytes k) c.loop-offset.invariant here)
 
 pub returns : goal.returns
 returns g c =
-    let bytes = c.args.bytes.now in let stop = c.loop-offset-test.false in let all : c.loop-offset.offset ≡ length bytes = omega arith in
-    subst (λ (n : ℕ). Appends (g.W.Write.contents c.args.writer.now) (g.W.Write.contents c.loop-offset.writer) (texts_below bytes n)) all c.loop-offset.invariant
+    let bytes = c.args.bytes.now in let stop = c.loop-offset-test.false in
+    let all : c.loop-offset.offset ≡ length bytes = omega arith in
+    subst (λ (n : ℕ). Appends (g.W.Write.contents c.args.writer.now) (g.W.Write.contents c.loop-offset.writer)
+    (texts_below bytes n)) all c.loop-offset.invariant

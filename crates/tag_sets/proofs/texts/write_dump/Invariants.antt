@@ -4,4 +4,5 @@ use Rattle.tag_sets.specs.Texts.{texts_below}
 use Rattle.tag_sets.proofs.texts.write_dump.Given as goal
 
 abbrev pub invariant-loop-offset : goal.invariant-loop-offset
-invariant-loop-offset g l = Appends (g.W.Write.contents l.fn.writer) (g.W.Write.contents l.writer) (texts_below l.bytes l.offset)
+invariant-loop-offset g l = Appends (g.W.Write.contents l.fn.writer) (g.W.Write.contents l.writer)
+    (texts_below l.bytes l.offset)

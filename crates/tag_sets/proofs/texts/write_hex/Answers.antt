@@ -26,7 +26,8 @@ loop-done-preserved g c =
 pub returns : goal.returns
 returns g c =
     let n = c.args.number in let w : ℕ = c.args.width in let stop = c.loop-done-test.false in
-    let all : c.loop-done.done ≡ w = omega arith in let none : w - w ≡ 0 = omega arith in let whole : n / 2 ^ (4 * 0) ≡ n = omega arith in
+    let all : c.loop-done.done ≡ w = omega arith in let none : w - w ≡ 0 = omega arith in
+    let whole : n / 2 ^ (4 * 0) ≡ n = omega arith in
     subst (Appends (g.W.Write.contents c.args.writer.now) (g.W.Write.contents c.loop-done.writer))
     (ap (λ (d : ℕ). hex_digits d (n / 2 ^ (4 * (w - d)))) all ∙ ap (λ (z : ℕ). hex_digits w (n / 2 ^ (4 * z))) none
     ∙ ap (λ (x : ℕ). hex_digits w x) whole) c.loop-done.invariant

@@ -14,12 +14,15 @@ loop-first-preserved g c =
     let one = c.index-hands-first.result in let other = c.index-hands-second.result in
     let in_second = c.loop-second-test.true in let in_first = c.loop-first-test.true in
     let a : get_or (numbers_of hands) first 0 ≡ c.number.result =
-    get_or-map number_of hands first one 0 (omega arith) ∙ ap number_of (sym c.index-hands-first.is) ∙ sym c.number.ensures in
+    get_or-map number_of hands first one 0 (omega arith) ∙ ap number_of (sym c.index-hands-first.is)
+    ∙ sym c.number.ensures in
     let b : get_or (numbers_of hands) second 0 ≡ c.number-in-loop-first.result =
-    get_or-map number_of hands second other 0 (omega arith) ∙ ap number_of (sym c.index-hands-second.is) ∙ sym c.number-in-loop-first.ensures in
+    get_or-map number_of hands second other 0 (omega arith) ∙ ap number_of (sym c.index-hands-second.is)
+    ∙ sym c.number-in-loop-first.ensures in
     record {
       next = λ j less e. dite (ℕ_discrete j first)
-          (λ (is : j ≡ first). c.if-number.false (sym a ∙ ap (λ (n : ℕ). get_or (numbers_of hands) n 0) (sym is) ∙ e ∙ b))
+          (λ (is : j ≡ first). c.if-number.false
+          (sym a ∙ ap (λ (n : ℕ). get_or (numbers_of hands) n 0) (sym is) ∙ e ∙ b))
           (λ (ne : j ≢ first). c.loop-first.invariant.next j (omega arith) e);
     }
 

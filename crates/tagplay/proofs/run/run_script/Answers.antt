@@ -14,19 +14,22 @@ returns-clause-stopped g c = search (rules, stops_short)
 
 pub returns-in-Ok-write_all-clause-written : goal.returns-in-Ok-write_all-clause-written
 returns-in-Ok-write_all-clause-written g c =
-    let o = c.args.options.now in let bytes : List ℕ = c.in_ok-input.input.items in let text : List ℕ = c.in-Ok.text.items in
+    let o = c.args.options.now in let bytes : List ℕ = c.in_ok-input.input.items in
+    let text : List ℕ = c.in-Ok.text.items in
     let short : length bytes ≤ MAX_INPUT = search rules in
     let owed = subst (λ (s : List ℕ). Owed o s text c.in-Ok.ending) c.deref.ensures.value c.in-Ok.ensures in
     record {
       text = text;
       answers = record { bytes = bytes; short = short; read = c.in_ok-input.ensures.whole; owed = owed };
-      written = subst (Appends (g.W.Write.contents c.args.writer.now) (g.W.Write.contents c.write_all.new.self)) c.deref-2.ensures.value
+      written = subst (Appends (g.W.Write.contents c.args.writer.now) (g.W.Write.contents c.write_all.new.self))
+          c.deref-2.ensures.value
           c.in-Ok-write_all.ensures.bytes;
     }
 
 pub returns-clause-answered : goal.returns-clause-answered
 returns-clause-answered g c =
-    let o = c.args.options.now in let bytes : List ℕ = c.in_ok-input.input.items in let text : List ℕ = c.in-Ok.text.items in
+    let o = c.args.options.now in let bytes : List ℕ = c.in_ok-input.input.items in
+    let text : List ℕ = c.in-Ok.text.items in
     let short : length bytes ≤ MAX_INPUT = search rules in
     let owed = subst (λ (s : List ℕ). Owed o s text c.in-Ok.ending) c.deref.ensures.value c.in-Ok.ensures in
     λ written. record {

@@ -16,22 +16,27 @@ use Rattle.tag_board.proofs.board.Board.busy.Goals as goal
 
 pub invariant_of-self : goal.invariant_of-self
 invariant_of-self c =
-    let b = c.args.self.now in let i : ℕ = c.args.caller in let old = c.index_mut.result.now in let new = c.busy.new.hand in record {
+    let b = c.args.self.now in let i : ℕ = c.args.caller in let old = c.index_mut.result.now in
+    let new = c.busy.new.hand in record {
       own = All-set (IsHandOf b.tags) b.hands.items i new c.busy.ensures.hand b.own;
       ordered = ordered b.tags b.hands.items i old new c.requires c.index_mut.ensures.value b.ordered
           (let l = c.busy.ensures.lists in
-          (looks_moves old l.between new (look_moves old l.between _ _ _ l.first) (look_moves l.between new _ _ _ l.second)).number);
+          (looks_moves old l.between new (look_moves old l.between _ _ _ l.first)
+          (look_moves l.between new _ _ _ l.second)).number);
       every = length-set b.hands.items i new ∙ b.every;
       sizes = b.sizes;
     }
 
 pub returns-clause-answers : goal.returns-clause-answers
 returns-clause-answers c =
-    let b = c.args.self.now in let i : ℕ = c.args.caller in let old = c.index_mut.result.now in let new = c.busy.new.hand in
+    let b = c.args.self.now in let i : ℕ = c.args.caller in let old = c.index_mut.result.now in
+    let new = c.busy.new.hand in
     let hands = b.hands.items in let here = c.index_mut.ensures.value in let l = c.busy.ensures.lists in
-    let moves = looks_moves old l.between new (look_moves old l.between _ _ _ l.first) (look_moves l.between new _ _ _ l.second) in
+    let moves = looks_moves old l.between new (look_moves old l.between _ _ _ l.first)
+    (look_moves l.between new _ _ _ l.second) in
     let into = c.busy.new.into in let bits = c.in_ok-bits.bits in
-    let long : length into ≡ bits.len = let e = c.busy.ensures.room in let f = ap length c.deref_mut.ensures.value in let g = bits.ok in omega arith in
+    let long : length into ≡ bits.len = let e = c.busy.ensures.room in let f = ap length c.deref_mut.ensures.value in
+    let g = bits.ok in omega arith in
     let P : List ℕ → Type 0 = λ x. ListsBusy i (state_of b) x (state_of_all b.tags (set hands i new)) in
     subst P (sym (whole_list bits.items into bits.len long)) record {
       long = let few = c.in_ok-bits.ensures.len in let d = c.div_ceil.ensures in
@@ -43,10 +48,13 @@ returns-clause-answers c =
 
 pub returns-clause-alone : goal.returns-clause-alone
 returns-clause-alone c = λ one.
-    let b = c.args.self.now in let i : ℕ = c.args.caller in let old = c.index_mut.result.now in let new = c.busy.new.hand in
-    let hands = b.hands.items in let here = c.index_mut.ensures.value in let own = own_here b.tags hands i old c.requires here b.own in
+    let b = c.args.self.now in let i : ℕ = c.args.caller in let old = c.index_mut.result.now in
+    let new = c.busy.new.hand in
+    let hands = b.hands.items in let here = c.index_mut.ensures.value in
+    let own = own_here b.tags hands i old c.requires here b.own in
     let into = c.busy.new.into in let bits = c.in_ok-bits.bits in
-    let long : length into ≡ bits.len = let e = c.busy.ensures.room in let f = ap length c.deref_mut.ensures.value in let g = bits.ok in omega arith in
+    let long : length into ≡ bits.len = let e = c.busy.ensures.room in let f = ap length c.deref_mut.ensures.value in
+    let g = bits.ok in omega arith in
     let P : List ℕ → Type 0 = λ x. LoneListsBusy (lones_of b) x (lones_of_all (set hands i new)) in
     subst P (sym (whole_list bits.items into bits.len long))
     (lones_moved hands i old new one c.requires here (λ x y. LoneListsBusy x into y)

@@ -19,33 +19,44 @@ use Rattle.tag_board.proofs.board.Board.clear.Goals as goal
 
 pub invariant_of-self : goal.invariant_of-self
 invariant_of-self c =
-    let b = c.args.self.now in let i : ℕ = c.args.caller in let old = c.index_mut.result.now in let new = c.clear.new.hand in record {
+    let b = c.args.self.now in let i : ℕ = c.args.caller in let old = c.index_mut.result.now in
+    let new = c.clear.new.hand in record {
       own = All-set (IsHandOf b.tags) b.hands.items i new c.clear.ensures.hand b.own;
       ordered = ordered b.tags b.hands.items i old new c.requires c.index_mut.ensures.value b.ordered
-          (same_number old new c.clear.result (ok_only _ c.clear.result (both_ok c.clear.result c.clear.ensures.clears c.clear.ensures.counts
-          (λ woken p q. (clear_moves old new b.tags c.args.tag woken (own_here b.tags b.hands.items i old c.requires c.index_mut.ensures.value b.own).2 p q).number))) c.clear.ensures.err);
+          (same_number old new c.clear.result (ok_only _ c.clear.result
+          (both_ok c.clear.result c.clear.ensures.clears c.clear.ensures.counts
+          (λ woken p q. (clear_moves old new b.tags c.args.tag woken
+          (own_here b.tags b.hands.items i old c.requires c.index_mut.ensures.value b.own).2 p q).number)))
+          c.clear.ensures.err);
       every = length-set b.hands.items i new ∙ b.every;
       sizes = b.sizes;
     }
 
 pub returns-clause-answers : goal.returns-clause-answers
 returns-clause-answers c =
-    let b = c.args.self.now in let i : ℕ = c.args.caller in let old = c.index_mut.result.now in let new = c.clear.new.hand in
+    let b = c.args.self.now in let i : ℕ = c.args.caller in let old = c.index_mut.result.now in
+    let new = c.clear.new.hand in
     let hands = b.hands.items in let here = c.index_mut.ensures.value in let s = state_of b in
     let tag : ℕ = c.args.tag in let own = own_here b.tags hands i old c.requires here b.own in
-    answers (RefusesTag s i tag) (λ (woken : ℕ). (tag < reserved_of b.tags → woken ≡ 0) × Changes i (cleared (nat_eq tag) 1) s _) s _ c.clear.result
+    answers (RefusesTag s i tag) (λ (woken : ℕ). (tag < reserved_of b.tags → woken ≡ 0)
+    × Changes i (cleared (nat_eq tag) 1) s _) s _ c.clear.result
     (tag_verdict s i c.clear.result tag c.clear.ensures.no_such_tag.1
     (λ low none. c.clear.ensures.not_held.1 (low, none_here b.tags hands i old new c.requires here tag none))
     (λ held. c.clear.ensures.succeeds (held_here b.tags hands i old new c.requires here tag held)))
     (both_ok c.clear.result c.clear.ensures.clears c.clear.ensures.counts (λ woken p q. (
       none_woken old new b.tags tag woken q,
-      changes b.tags hands i old new c.requires here (cleared (nat_eq tag) 1) (clear_moves old new b.tags tag woken own.2 p q).part,
+      changes b.tags hands i old new c.requires here (cleared (nat_eq tag) 1)
+          (clear_moves old new b.tags tag woken own.2 p q).part,
     )))
-    (on_err_weaker c.clear.result (λ e. ap (state_of_all b.tags) (unmoved b.tags hands i old new c.requires here e)) c.clear.ensures.err)
+    (on_err_weaker c.clear.result (λ e. ap (state_of_all b.tags) (unmoved b.tags hands i old new c.requires here e))
+    c.clear.ensures.err)
 
 pub returns-clause-alone : goal.returns-clause-alone
 returns-clause-alone c = λ one.
-    let b = c.args.self.now in let i : ℕ = c.args.caller in let old = c.index_mut.result.now in let new = c.clear.new.hand in
-    let hands = b.hands.items in let here = c.index_mut.ensures.value in let own = own_here b.tags hands i old c.requires here b.own in
+    let b = c.args.self.now in let i : ℕ = c.args.caller in let old = c.index_mut.result.now in
+    let new = c.clear.new.hand in
+    let hands = b.hands.items in let here = c.index_mut.ensures.value in
+    let own = own_here b.tags hands i old c.requires here b.own in
     does_moved hands i old new one c.requires here (λ woken. LoneClears c.args.tag) c.clear.result
-    (ok_map c.clear.result c.clear.ensures.clears (λ woken p. clear_alone b.tags old new own (sym b.every ∙ one) c.args.tag p)) c.clear.ensures.err
+    (ok_map c.clear.result c.clear.ensures.clears
+    (λ woken p. clear_alone b.tags old new own (sym b.every ∙ one) c.args.tag p)) c.clear.ensures.err

@@ -18,36 +18,65 @@ use Rattle.tag_board.proofs.board.Board.clear_batch.Goals as goal
 
 pub invariant_of-self : goal.invariant_of-self
 invariant_of-self c =
-    let b = c.args.self.now in let i : ℕ = c.args.caller in let old = c.index_mut.result.now in let new = c.clear_batch.new.hand in record {
+    let b = c.args.self.now in let i : ℕ = c.args.caller in let old = c.index_mut.result.now in
+    let new = c.clear_batch.new.hand in record {
       own = All-set (IsHandOf b.tags) b.hands.items i new c.clear_batch.ensures.hand b.own;
       ordered = ordered b.tags b.hands.items i old new c.requires c.index_mut.ensures.value b.ordered
           (same_number old new c.clear_batch.result (ok_only _ c.clear_batch.result (both_ok c.clear_batch.result
-          (both_on _ _ c.clear_batch.result c.clear_batch.ensures.gives c.clear_batch.ensures.back) c.clear_batch.ensures.counts
-          (λ woken p q. (list_moves old new b.tags c.args.tags.now woken p.0 p.1 q).number))) c.clear_batch.ensures.err);
+          (both_on _ _ c.clear_batch.result c.clear_batch.ensures.gives c.clear_batch.ensures.back)
+          c.clear_batch.ensures.counts
+          (λ woken p q. (list_moves old new b.tags c.args.tags.now woken p.0 p.1 q).number)))
+          c.clear_batch.ensures.err);
       every = length-set b.hands.items i new ∙ b.every;
       sizes = b.sizes;
     }
 
 pub returns-clause-answers : goal.returns-clause-answers
 returns-clause-answers c =
-    let b = c.args.self.now in let i : ℕ = c.args.caller in let old = c.index_mut.result.now in let new = c.clear_batch.new.hand in
-    let hands = b.hands.items in let here = c.index_mut.ensures.value in let s = state_of b in let tags = c.args.tags.now in
+    let b = c.args.self.now in let i : ℕ = c.args.caller in let old = c.index_mut.result.now in
+    let new = c.clear_batch.new.hand in
+    let hands = b.hands.items in let here = c.index_mut.ensures.value in let s = state_of b in
+    let tags = c.args.tags.now in
     let r = c.clear_batch.result in let e = c.clear_batch.ensures in
     answers (RefusesList s i tags) (λ (woken : ℕ). Changes i (cleared (is_in_list tags) (length tags)) s _) s _ r
     (list_verdict s i tags r e.bad_count e.no_such_tag (
-      (λ x. let h = e.not_held.0 x in (h.0, h.1, λ m. h.2 (λ k d l. held_here b.tags hands i old new c.requires here _ (m.0 k d l), m.1))),
-      (λ y. e.not_held.1 (y.0, y.1, λ h. y.2 (λ k d l. here_held b.tags hands i old new c.requires here _ (h.0 k d l), h.1))),
+      (λ x. let h = e.not_held.0 x in (
+        h.0,
+        h.1,
+        λ m. h.2 (λ k d l. held_here b.tags hands i old new c.requires here _ (m.0 k d l), m.1),
+      )),
+      (λ y. e.not_held.1 (
+        y.0,
+        y.1,
+        λ h. y.2
+            (λ k d l. here_held b.tags hands i old new c.requires here _ (h.0 k d l), h.1),
+      )),
     ) (
-      (λ x. let h = e.succeeds.0 x in (h.0, h.1, (λ k d l. here_held b.tags hands i old new c.requires here _ (h.2.0 k d l), h.2.1))),
-      (λ y. e.succeeds.1 (y.0, y.1, (λ k d l. held_here b.tags hands i old new c.requires here _ (y.2.0 k d l), y.2.1))),
+      (λ x. let h = e.succeeds.0 x in (
+        h.0,
+        h.1,
+        (λ k d l. here_held b.tags hands i old new c.requires here _ (h.2.0 k d l), h.2.1),
+      )),
+      (λ y. e.succeeds.1 (
+        y.0,
+        y.1,
+        (
+          λ k d l. held_here b.tags hands i old new c.requires here _ (y.2.0 k d l),
+          y.2.1,
+        ),
+      )),
     ))
     (both_ok r (both_on _ _ r e.gives e.back) e.counts (λ woken p q.
-    changes b.tags hands i old new c.requires here (cleared (is_in_list tags) (length tags)) (list_moves old new b.tags tags woken p.0 p.1 q).part))
+    changes b.tags hands i old new c.requires here (cleared (is_in_list tags) (length tags))
+    (list_moves old new b.tags tags woken p.0 p.1 q).part))
     (on_err_weaker r (λ x. ap (state_of_all b.tags) (unmoved b.tags hands i old new c.requires here x)) e.err)
 
 pub returns-clause-alone : goal.returns-clause-alone
 returns-clause-alone c = λ one.
-    let b = c.args.self.now in let i : ℕ = c.args.caller in let old = c.index_mut.result.now in let new = c.clear_batch.new.hand in
-    let hands = b.hands.items in let here = c.index_mut.ensures.value in let own = own_here b.tags hands i old c.requires here b.own in
+    let b = c.args.self.now in let i : ℕ = c.args.caller in let old = c.index_mut.result.now in
+    let new = c.clear_batch.new.hand in
+    let hands = b.hands.items in let here = c.index_mut.ensures.value in
+    let own = own_here b.tags hands i old c.requires here b.own in
     does_moved hands i old new one c.requires here (λ woken. LoneClearsList c.args.tags.now) c.clear_batch.result
-    (on_map _ c.clear_batch.result c.clear_batch.ensures.gives (λ g. list_alone b.tags old new own (sym b.every ∙ one) c.args.tags.now g)) c.clear_batch.ensures.err
+    (on_map _ c.clear_batch.result c.clear_batch.ensures.gives
+    (λ g. list_alone b.tags old new own (sym b.every ∙ one) c.args.tags.now g)) c.clear_batch.ensures.err

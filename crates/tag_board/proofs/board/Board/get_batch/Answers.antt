@@ -20,11 +20,13 @@ use Rattle.tag_board.proofs.board.Board.get_batch.Goals as goal
 
 pub invariant_of-self : goal.invariant_of-self
 invariant_of-self c =
-    let b = c.args.self.now in let i : ℕ = c.args.caller in let old = c.index_mut.result.now in let new = c.get_batch.new.hand in
+    let b = c.args.self.now in let i : ℕ = c.args.caller in let old = c.index_mut.result.now in
+    let new = c.get_batch.new.hand in
     let r = c.get_batch.result in record {
       own = All-set (IsHandOf b.tags) b.hands.items i new c.get_batch.ensures.hand b.own;
       ordered = ordered b.tags b.hands.items i old new c.requires c.index_mut.ensures.value b.ordered
-          (same_number old new r (batch_number b.tags old new c.args.n r c.get_batch.ensures.bad_count c.get_batch.ensures.round_robin c.get_batch.ensures.gets)
+          (same_number old new r (batch_number b.tags old new c.args.n r c.get_batch.ensures.bad_count
+          c.get_batch.ensures.round_robin c.get_batch.ensures.gets)
           c.get_batch.ensures.err);
       every = length-set b.hands.items i new ∙ b.every;
       sizes = b.sizes;
@@ -32,16 +34,20 @@ invariant_of-self c =
 
 pub tell_run_free-requires-clause-held : goal.tell_run_free-requires-clause-held
 tell_run_free-requires-clause-held c =
-    let b = c.args.self.now in let i : ℕ = c.args.caller in let old = c.index_mut.result.now in let new = c.get_batch.new.hand in
+    let b = c.args.self.now in let i : ℕ = c.args.caller in let old = c.index_mut.result.now in
+    let new = c.get_batch.new.hand in
     let hands = b.hands.items in let a : Option (ℕ × ℕ) = c.in_ok-answer.answer in
     holds_wins b.tags hands i old new c.requires c.index_mut.ensures.value Ordinary (is_in_run a) (count_of_run a)
-    (batch_of_answer b.tags hands old new c.args.n a (Ok a) refl c.in_ok-answer.ensures.bad_count c.in_ok-answer.ensures.round_robin
+    (batch_of_answer b.tags hands old new c.args.n a (Ok a) refl c.in_ok-answer.ensures.bad_count
+    c.in_ok-answer.ensures.round_robin
     c.in_ok-answer.ensures.gets)
 
 pub returns-clause-answers : goal.returns-clause-answers
 returns-clause-answers c =
-    let b = c.args.self.now in let i : ℕ = c.args.caller in let old = c.index_mut.result.now in let new = c.get_batch.new.hand in
-    let hands = b.hands.items in let here = c.index_mut.ensures.value in let s = state_of b in let a : Option (ℕ × ℕ) = c.in_ok-answer.answer in
+    let b = c.args.self.now in let i : ℕ = c.args.caller in let old = c.index_mut.result.now in
+    let new = c.get_batch.new.hand in
+    let hands = b.hands.items in let here = c.index_mut.ensures.value in let s = state_of b in
+    let a : Option (ℕ × ℕ) = c.in_ok-answer.answer in
     let own = own_here b.tags hands i old c.requires here b.own in let e = c.in_ok-answer.ensures in
     let n : ℕ = c.args.n in let round = round_here b.tags hands i old c.requires here own in
     let t : State = state_of_all b.tags (set hands i new) in
@@ -50,18 +56,25 @@ returns-clause-answers c =
     × Wins i Ordinary (is_in_run o) (count_of_run o) s t) s t (Ok a)
     (batch_verdict s i n (Ok a) e.bad_count.1
     (λ fits round. refl)
-    (λ fits straight spent. e.spent.1 (fits, sym round ∙ straight, spent_here b.tags hands i old c.requires here own Ordinary n spent))
+    (λ fits straight spent. e.spent.1 (
+      fits,
+      sym round ∙ straight,
+      spent_here b.tags hands i old c.requires here own Ordinary n spent,
+    ))
     (λ fits unspent. e.succeeds fits (room_here b.tags hands i old c.requires here own Ordinary n unspent))) (
       (λ t. (none_around b.tags hands old new n a (Ok a) refl e.bad_count e.round_robin (sym round ∙ t)).0),
       wins b.tags hands i old new c.requires here Ordinary (is_in_run a) (count_of_run a)
-          (batch_of_answer b.tags hands old new n a (Ok a) refl e.bad_count e.round_robin e.gets) c.tell_run_free.ensures.alone,
+          (batch_of_answer b.tags hands old new n a (Ok a) refl e.bad_count e.round_robin e.gets)
+          c.tell_run_free.ensures.alone,
     )
     tt)
 
 pub returns-clause-alone : goal.returns-clause-alone
 returns-clause-alone c = λ one.
-    let b = c.args.self.now in let i : ℕ = c.args.caller in let old = c.index_mut.result.now in let new = c.get_batch.new.hand in
-    let hands = b.hands.items in let here = c.index_mut.ensures.value in let a : Option (ℕ × ℕ) = c.in_ok-answer.answer in let e = c.in_ok-answer.ensures in
+    let b = c.args.self.now in let i : ℕ = c.args.caller in let old = c.index_mut.result.now in
+    let new = c.get_batch.new.hand in
+    let hands = b.hands.items in let here = c.index_mut.ensures.value in
+    let a : Option (ℕ × ℕ) = c.in_ok-answer.answer in let e = c.in_ok-answer.ensures in
     subst (λ (x : Board). Does (LoneBatch c.args.n) (lones_of b) (Ok a) (lones_of x)) (sym c.tell_run_free.ensures.same)
     (lones_moved hands i old new one c.requires here (LoneBatch c.args.n a)
     (batch_alone b.tags old new (own_here b.tags hands i old c.requires here b.own) (sym b.every ∙ one) c.args.n a

@@ -21,11 +21,13 @@ use Rattle.tag_board.proofs.board.Board.get_reserved.Goals as goal
 
 pub invariant_of-self : goal.invariant_of-self
 invariant_of-self c =
-    let b = c.args.self.now in let i : ℕ = c.args.caller in let old = c.index_mut.result.now in let new = c.get_reserved.new.hand in
+    let b = c.args.self.now in let i : ℕ = c.args.caller in let old = c.index_mut.result.now in
+    let new = c.get_reserved.new.hand in
     let r = c.get_reserved.result in record {
       own = All-set (IsHandOf b.tags) b.hands.items i new c.get_reserved.ensures.hand b.own;
       ordered = ordered b.tags b.hands.items i old new c.requires c.index_mut.ensures.value b.ordered
-          (same_number old new r (ok_only _ r (ok_map r c.get_reserved.ensures.gets (λ answer g. (reserved_moves old new b.tags answer g).number)))
+          (same_number old new r (ok_only _ r (ok_map r c.get_reserved.ensures.gets
+          (λ answer g. (reserved_moves old new b.tags answer g).number)))
           c.get_reserved.ensures.err);
       every = length-set b.hands.items i new ∙ b.every;
       sizes = b.sizes;
@@ -33,15 +35,18 @@ invariant_of-self c =
 
 pub tell_free-requires-clause-held : goal.tell_free-requires-clause-held
 tell_free-requires-clause-held c =
-    let b = c.args.self.now in let i : ℕ = c.args.caller in let old = c.index_mut.result.now in let new = c.get_reserved.new.hand in
+    let b = c.args.self.now in let i : ℕ = c.args.caller in let old = c.index_mut.result.now in
+    let new = c.get_reserved.new.hand in
     let hands = b.hands.items in let a : Option ℕ = c.in_ok-answer.answer in
     holds_wins b.tags hands i old new c.requires c.index_mut.ensures.value Reserved (is_answer a) (count_of a)
     (reserved_wins b.tags hands old new a c.in_ok-answer.ensures.gets)
 
 pub returns-clause-answers : goal.returns-clause-answers
 returns-clause-answers c =
-    let b = c.args.self.now in let i : ℕ = c.args.caller in let old = c.index_mut.result.now in let new = c.get_reserved.new.hand in
-    let hands = b.hands.items in let here = c.index_mut.ensures.value in let s = state_of b in let a : Option ℕ = c.in_ok-answer.answer in
+    let b = c.args.self.now in let i : ℕ = c.args.caller in let old = c.index_mut.result.now in
+    let new = c.get_reserved.new.hand in
+    let hands = b.hands.items in let here = c.index_mut.ensures.value in let s = state_of b in
+    let a : Option ℕ = c.in_ok-answer.answer in
     let own = own_here b.tags hands i old c.requires here b.own in let e = c.in_ok-answer.ensures in
     let t : State = state_of_all b.tags (set hands i new) in
     subst (λ (x : Board). Gets Reserved i s (Ok a) (state_of x)) (sym c.tell_free.ensures.same)
@@ -49,13 +54,17 @@ returns-clause-answers c =
     (reserved_verdict s i (Ok a) e.no_reserved.1
     (λ some spent. e.spent.1 (some, spent_here b.tags hands i old c.requires here own Reserved 1 spent))
     (λ some unspent. e.succeeds.1 (some, room_here b.tags hands i old c.requires here own Reserved 1 unspent)))
-    (wins b.tags hands i old new c.requires here Reserved (is_answer a) (count_of a) (reserved_wins b.tags hands old new a e.gets) c.tell_free.ensures.alone)
+    (wins b.tags hands i old new c.requires here Reserved (is_answer a) (count_of a)
+    (reserved_wins b.tags hands old new a e.gets) c.tell_free.ensures.alone)
     tt)
 
 pub returns-clause-alone : goal.returns-clause-alone
 returns-clause-alone c = λ one.
-    let b = c.args.self.now in let i : ℕ = c.args.caller in let old = c.index_mut.result.now in let new = c.get_reserved.new.hand in
-    let hands = b.hands.items in let here = c.index_mut.ensures.value in let a : Option ℕ = c.in_ok-answer.answer in let e = c.in_ok-answer.ensures in
-    subst (λ (x : Board). Does (LoneGets Reserved plain) (lones_of b) (Ok a) (lones_of x)) (sym c.tell_free.ensures.same)
+    let b = c.args.self.now in let i : ℕ = c.args.caller in let old = c.index_mut.result.now in
+    let new = c.get_reserved.new.hand in
+    let hands = b.hands.items in let here = c.index_mut.ensures.value in let a : Option ℕ = c.in_ok-answer.answer in
+    let e = c.in_ok-answer.ensures in
+    subst (λ (x : Board). Does (LoneGets Reserved plain) (lones_of b) (Ok a) (lones_of x))
+    (sym c.tell_free.ensures.same)
     (lones_moved hands i old new one c.requires here (LoneGets Reserved plain a)
     (reserved_alone b.tags old new (own_here b.tags hands i old c.requires here b.own) (sym b.every ∙ one) a e.gets))

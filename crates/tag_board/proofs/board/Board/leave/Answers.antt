@@ -20,11 +20,13 @@ use Rattle.tag_board.proofs.board.Board.leave.Goals as goal
 
 pub invariant_of-self : goal.invariant_of-self
 invariant_of-self g c =
-    let b = c.args.self.now in let i : ℕ = c.args.caller in let old = c.index_mut.result.now in let new = c.finish_wait.new.hand in record {
+    let b = c.args.self.now in let i : ℕ = c.args.caller in let old = c.index_mut.result.now in
+    let new = c.finish_wait.new.hand in record {
       own = All-set (IsHandOf b.tags) b.hands.items i new c.finish_wait.ensures.hand b.own;
       ordered = ordered b.tags b.hands.items i old new c.requires c.index_mut.ensures.value b.ordered
           (same_number old new c.finish_wait.result
-          (ok_only _ c.finish_wait.result (ok_map c.finish_wait.result c.finish_wait.ensures.leaves (λ left l. (leave_moves old new left l c.finish_wait.ensures.out).number)))
+          (ok_only _ c.finish_wait.result (ok_map c.finish_wait.result c.finish_wait.ensures.leaves
+          (λ left l. (leave_moves old new left l c.finish_wait.ensures.out).number)))
           (err_same _ _ c.finish_wait.result c.finish_wait.ensures.err));
       every = length-set b.hands.items i new ∙ b.every;
       sizes = b.sizes;
@@ -32,20 +34,25 @@ invariant_of-self g c =
 
 pub returns-clause-answers : goal.returns-clause-answers
 returns-clause-answers g c =
-    let b = c.args.self.now in let i : ℕ = c.args.caller in let old = c.index_mut.result.now in let new = c.finish_wait.new.hand in
+    let b = c.args.self.now in let i : ℕ = c.args.caller in let old = c.index_mut.result.now in
+    let new = c.finish_wait.new.hand in
     let hands = b.hands.items in let here = c.index_mut.ensures.value in let s = state_of b in
     let stands = stands_here b.tags hands i old new c.requires here in let r = c.finish_wait.result in
     answers (RefusesLeave s i) (λ (left : Left). Changes i (standing false) s _) s _ r
     (leave_verdict s i r
-    (λ f. err_since _ _ r c.finish_wait.ensures.err (λ ok. not_some_since (standing_of old) (stands ∙ f) (c.finish_wait.ensures.stands.0 ok)))
+    (λ f. err_since _ _ r c.finish_wait.ensures.err
+    (λ ok. not_some_since (standing_of old) (stands ∙ f) (c.finish_wait.ensures.stands.0 ok)))
     (λ t. c.finish_wait.ensures.stands.1 (stands ∙ t)))
     (ok_map r c.finish_wait.ensures.leaves (λ left l.
-    changes b.tags hands i old new c.requires here (standing false) (leave_moves old new left l c.finish_wait.ensures.out).part))
-    (on_err_weaker r (λ e. ap (state_of_all b.tags) (unmoved b.tags hands i old new c.requires here e)) (err_same _ _ r c.finish_wait.ensures.err))
+    changes b.tags hands i old new c.requires here (standing false)
+    (leave_moves old new left l c.finish_wait.ensures.out).part))
+    (on_err_weaker r (λ e. ap (state_of_all b.tags) (unmoved b.tags hands i old new c.requires here e))
+    (err_same _ _ r c.finish_wait.ensures.err))
 
 pub returns-clause-alone : goal.returns-clause-alone
 returns-clause-alone g c = λ one.
-    let b = c.args.self.now in let i : ℕ = c.args.caller in let old = c.index_mut.result.now in let new = c.finish_wait.new.hand in
+    let b = c.args.self.now in let i : ℕ = c.args.caller in let old = c.index_mut.result.now in
+    let new = c.finish_wait.new.hand in
     let r = c.finish_wait.result in let e = c.finish_wait.ensures in
     lones_moved b.hands.items i old new one c.requires c.index_mut.ensures.value (λ x y. y ≡ x)
     (either_way r (ok_only _ r (ok_map r e.leaves (λ left l. leave_alone old new left l)))

@@ -15,8 +15,10 @@ pub holds-requires : goal.holds-requires
 holds-requires c =
     let b = c.args.self.now in let hands = b.hands.items in let h = holder hands c.args.caller c.args.tag c.requires in
     let ok = b.hands.ok in let other = c.index.result.now in
-    let there : IsHandOf b.tags other = own_here b.tags hands c.loop-other.other other (omega arith) c.index.ensures b.own in
-    tag_there b.tags h.hand other (own_here b.tags hands c.args.caller h.hand h.within h.here b.own) there c.args.tag h.holds
+    let there : IsHandOf b.tags other = own_here b.tags hands c.loop-other.other other (omega arith) c.index.ensures
+    b.own in
+    tag_there b.tags h.hand other (own_here b.tags hands c.args.caller h.hand h.within h.here b.own) there c.args.tag
+    h.holds
 
 pub loop-other-preserved : goal.loop-other-preserved
 loop-other-preserved c = λ k less ne. let b = c.args.self.now in let ok = b.hands.ok in
@@ -24,8 +26,10 @@ loop-other-preserved c = λ k less ne. let b = c.args.self.now in let ok = b.han
       | else-other-caller-via-then-other-caller+else-holds w ↦ dite (ℕ_discrete k c.loop-other.other)
           (λ (is : k ≡ c.loop-other.other). subst (λ (n : ℕ). ((state_of b).part n).held c.args.tag ≡ false) (sym is)
           (unheld_at b.tags b.hands.items c.loop-other.other w.index.result.now (omega arith) w.index.ensures c.args.tag
-          (λ (h : Holds w.index.result.now c.args.tag). both_ways w.holds.result w.if-holds.false (w.holds.ensures.1 h))))
+          (λ (h : Holds w.index.result.now c.args.tag). both_ways w.holds.result w.if-holds.false
+          (w.holds.ensures.1 h))))
           (λ (far : k ≢ c.loop-other.other). c.loop-other.invariant k (omega arith) ne)
-      | else-other-caller-via-else-other-caller w ↦ let is : c.loop-other.other ≡ c.args.caller = w.if-other-caller.false in
+      | else-other-caller-via-else-other-caller w ↦ let is : c.loop-other.other ≡ c.args.caller =
+          w.if-other-caller.false in
           c.loop-other.invariant k (omega arith) ne
     ]

@@ -18,10 +18,12 @@ use Rattle.tag_board.proofs.board.Board.post.Goals as goal
 
 pub invariant_of-self : goal.invariant_of-self
 invariant_of-self c =
-    let b = c.args.self.now in let i : ℕ = c.args.caller in let old = c.index_mut.result.now in let new = c.post.new.hand in record {
+    let b = c.args.self.now in let i : ℕ = c.args.caller in let old = c.index_mut.result.now in
+    let new = c.post.new.hand in record {
       own = All-set (IsHandOf b.tags) b.hands.items i new c.post.ensures.hand b.own;
       ordered = ordered b.tags b.hands.items i old new c.requires c.index_mut.ensures.value b.ordered
-          (same_number old new c.post.result (on_ok_weaker c.post.result (λ p. (post_moves old new c.args.tag p).number) c.post.ensures.posts)
+          (same_number old new c.post.result (on_ok_weaker c.post.result (λ p. (post_moves old new c.args.tag p).number)
+          c.post.ensures.posts)
           c.post.ensures.err);
       every = length-set b.hands.items i new ∙ b.every;
       sizes = b.sizes;
@@ -29,18 +31,24 @@ invariant_of-self c =
 
 pub returns-clause-answers : goal.returns-clause-answers
 returns-clause-answers c =
-    let b = c.args.self.now in let i : ℕ = c.args.caller in let tag : ℕ = c.args.tag in let old = c.index_mut.result.now in let new = c.post.new.hand in
+    let b = c.args.self.now in let i : ℕ = c.args.caller in let tag : ℕ = c.args.tag in
+    let old = c.index_mut.result.now in let new = c.post.new.hand in
     let hands = b.hands.items in let here = c.index_mut.ensures.value in let s = state_of b in
     answers (RefusesTag s i tag) (λ done. Changes i (left (nat_eq tag)) s _) s _ c.post.result
     (tag_verdict s i c.post.result tag c.post.ensures.no_such_tag.1
     (λ low none. c.post.ensures.not_held.1 (low, none_here b.tags hands i old new c.requires here tag none))
     (λ held. c.post.ensures.succeeds (held_here b.tags hands i old new c.requires here tag held)))
-    (on_ok_weaker c.post.result (λ p. changes b.tags hands i old new c.requires here (left (nat_eq tag)) (post_moves old new tag p).part) c.post.ensures.posts)
-    (on_err_weaker c.post.result (λ e. ap (state_of_all b.tags) (unmoved b.tags hands i old new c.requires here e)) c.post.ensures.err)
+    (on_ok_weaker c.post.result (λ p. changes b.tags hands i old new c.requires here (left (nat_eq tag))
+    (post_moves old new tag p).part) c.post.ensures.posts)
+    (on_err_weaker c.post.result (λ e. ap (state_of_all b.tags) (unmoved b.tags hands i old new c.requires here e))
+    c.post.ensures.err)
 
 pub returns-clause-alone : goal.returns-clause-alone
 returns-clause-alone c = λ one.
-    let b = c.args.self.now in let i : ℕ = c.args.caller in let old = c.index_mut.result.now in let new = c.post.new.hand in
-    let hands = b.hands.items in let here = c.index_mut.ensures.value in let own = own_here b.tags hands i old c.requires here b.own in
+    let b = c.args.self.now in let i : ℕ = c.args.caller in let old = c.index_mut.result.now in
+    let new = c.post.new.hand in
+    let hands = b.hands.items in let here = c.index_mut.ensures.value in
+    let own = own_here b.tags hands i old c.requires here b.own in
     does_moved hands i old new one c.requires here (λ done. LonePosts c.args.tag) c.post.result
-    (on_map _ c.post.result c.post.ensures.posts (λ p. post_alone b.tags old new own (sym b.every ∙ one) c.args.tag p)) c.post.ensures.err
+    (on_map _ c.post.result c.post.ensures.posts (λ p. post_alone b.tags old new own (sym b.every ∙ one) c.args.tag p))
+    c.post.ensures.err

@@ -1,4 +1,5 @@
--- All callers are handed in, so only the total, tags in use, waits and memory are in the way. What was in use is told by the
+-- All callers are handed in, so only the total, tags in use, waits and memory are in the way. What was in use is told
+-- by the
 -- sums over both sets, which balance.
 use Rattle.std.proofs.Common.{◌≡◌, refl, sym, ap, ◌∙◌}
 use Rattle.tag_queue.specs.Agents as queue

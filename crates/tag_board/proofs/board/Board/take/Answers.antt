@@ -17,7 +17,8 @@ use Rattle.tag_board.proofs.board.Board.take.Goals as goal
 
 pub invariant_of-self : goal.invariant_of-self
 invariant_of-self c =
-    let b = c.args.self.now in let i : ℕ = c.args.caller in let old = c.index_mut.result.now in let new = c.take.new.hand in record {
+    let b = c.args.self.now in let i : ℕ = c.args.caller in let old = c.index_mut.result.now in
+    let new = c.take.new.hand in record {
       own = All-set (IsHandOf b.tags) b.hands.items i new c.take.ensures.hand b.own;
       ordered = ordered b.tags b.hands.items i old new c.requires c.index_mut.ensures.value b.ordered
           (take_number old new c.args.tag c.take.result c.take.ensures.takes c.take.ensures.refuses);
@@ -36,7 +37,8 @@ tell_free-requires-clause-held c = λ other named.
 pub returns-clause-answers : goal.returns-clause-answers
 returns-clause-answers c =
     let b = c.args.self.now in let i : ℕ = c.args.caller in let tag : ℕ = c.args.tag in
-    let old = c.index_mut.result.now in let new = c.take.new.hand in let hands = b.hands.items in let here = c.index_mut.ensures.value in
+    let old = c.index_mut.result.now in let new = c.take.new.hand in let hands = b.hands.items in
+    let here = c.index_mut.ensures.value in
     let takes = c.in_ok-take.ensures.takes in let moves = take_moves old new tag takes in
     subst (λ (x : Board). Takes tag i (state_of b) (Ok tt) (state_of x)) (sym c.tell_free.ensures.same) (
       tag_low b.tags new c.take.ensures.hand tag (takes.more.joined tag refl),
@@ -49,25 +51,32 @@ returns-clause-answers c =
 pub returns-in_err-take-clause-answers : goal.returns-in_err-take-clause-answers
 returns-in_err-take-clause-answers c =
     let b = c.args.self.now in let i : ℕ = c.args.caller in let tag : ℕ = c.args.tag in
-    let old = c.index_mut.result.now in let new = c.take.new.hand in let hands = b.hands.items in let here = c.index_mut.ensures.value in
+    let old = c.index_mut.result.now in let new = c.take.new.hand in let hands = b.hands.items in
+    let here = c.index_mut.ensures.value in
     let e = c.in_err-take.ensures in
     let told : IfErr c.from_residual.result (λ fault. fault ≡ c.in_err-take.field-0.0) = search rules in
     refused_take tag i c.from_residual.result c.in_err-take.field-0.0 c.from_residual.ensures.0 told (state_of b) _
     (missed_state b.tags hands i old new c.requires here tag c.in_err-take.field-0.0 e.refuses)
-    (cause_of_take old new tag _ c.in_err-take.field-0.0 (λ f. e.no_such_tag.0 (ap Err f)) (λ high. let none = e.no_such_tag.1 high in cc) e.refuses)
+    (cause_of_take old new tag _ c.in_err-take.field-0.0 (λ f. e.no_such_tag.0 (ap Err f))
+    (λ high. let none = e.no_such_tag.1 high in cc) e.refuses)
 
 pub returns-clause-alone : goal.returns-clause-alone
 returns-clause-alone c = λ one.
-    let b = c.args.self.now in let i : ℕ = c.args.caller in let old = c.index_mut.result.now in let new = c.take.new.hand in
-    let hands = b.hands.items in let here = c.index_mut.ensures.value in let own = own_here b.tags hands i old c.requires here b.own in
+    let b = c.args.self.now in let i : ℕ = c.args.caller in let old = c.index_mut.result.now in
+    let new = c.take.new.hand in
+    let hands = b.hands.items in let here = c.index_mut.ensures.value in
+    let own = own_here b.tags hands i old c.requires here b.own in
     subst (λ (x : Board). LoneTakes c.args.tag (lones_of b) (Ok tt) (lones_of x)) (sym c.tell_free.ensures.same)
     (lones_moved hands i old new one c.requires here (λ x y. LoneTakes c.args.tag x (Ok tt) y)
     (take_alone b.tags old new own (sym b.every ∙ one) c.args.tag c.in_ok-take.ensures.takes))
 
 pub returns-in_err-take-clause-alone : goal.returns-in_err-take-clause-alone
 returns-in_err-take-clause-alone c = λ one.
-    let b = c.args.self.now in let i : ℕ = c.args.caller in let old = c.index_mut.result.now in let new = c.take.new.hand in
-    let hands = b.hands.items in let here = c.index_mut.ensures.value in let own = own_here b.tags hands i old c.requires here b.own in
+    let b = c.args.self.now in let i : ℕ = c.args.caller in let old = c.index_mut.result.now in
+    let new = c.take.new.hand in
+    let hands = b.hands.items in let here = c.index_mut.ensures.value in
+    let own = own_here b.tags hands i old c.requires here b.own in
     let told : IfErr c.from_residual.result (λ fault. fault ≡ c.in_err-take.field-0.0) = search rules in
-    lone_refused b.tags hands i old new b.every one c.requires here own c.args.tag c.from_residual.result c.in_err-take.field-0.0
+    lone_refused b.tags hands i old new b.every one c.requires here own c.args.tag c.from_residual.result
+    c.in_err-take.field-0.0
     c.from_residual.ensures.0 told c.in_err-take.ensures.refuses

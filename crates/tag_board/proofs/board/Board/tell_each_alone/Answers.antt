@@ -25,10 +25,13 @@ no_bit_there mask place low none = clear_of_mask mask place (sym (ap (bit_and ma
 
 pub overflow_add-first : goal.overflow_add-first
 overflow_add-first c =
-    let b = c.args.self.now in let hands = b.hands.items in let place : ℕ = c.loop-place.place in let first : ℕ = c.args.first in
+    let b = c.args.self.now in let hands = b.hands.items in let place : ℕ = c.loop-place.place in
+    let first : ℕ = c.args.first in
     let one = bit_there c.args.mask place c.loop-place-test.true c.if-mask-place-ne0.true in
-    let h = holder hands c.args.caller (first + place) (c.requires.held (first + place) (in_run first c.args.mask place one)) in
-    let low = tag_low b.tags h.hand (own_here b.tags hands c.args.caller h.hand h.within h.here b.own) (first + place) h.holds in
+    let h = holder hands c.args.caller (first + place)
+    (c.requires.held (first + place) (in_run first c.args.mask place one)) in
+    let low = tag_low b.tags h.hand (own_here b.tags hands c.args.caller h.hand h.within h.here b.own) (first + place)
+    h.holds in
     let fits = b.tags.fits in omega arith
 
 pub tell_alone-requires-clause-held : goal.tell_alone-requires-clause-held
@@ -44,14 +47,18 @@ loop-place-preserved c = let place : ℕ = c.loop-place.place in let inv = c.loo
       | then-mask-place-ne0 w ↦ record {
         same = w.self-is ∙ w.tell_alone.ensures.same ∙ inv.same;
         alone = λ k less one. dite (ℕ_discrete k place)
-            (λ (is : k ≡ place). subst (λ (n : ℕ). NobodyElseHolds (state_of c.args.self.now) c.args.caller (nat_eq (c.args.first + n))) (sym is)
-            (subst (λ (b : Board). NobodyElseHolds (state_of b) c.args.caller (nat_eq (c.args.first + place))) inv.same w.tell_alone.ensures.alone))
+            (λ (is : k ≡ place). subst (λ (n : ℕ). NobodyElseHolds (state_of c.args.self.now) c.args.caller
+            (nat_eq (c.args.first + n))) (sym is)
+            (subst (λ (b : Board). NobodyElseHolds (state_of b) c.args.caller (nat_eq (c.args.first + place))) inv.same
+            w.tell_alone.ensures.alone))
             (λ (far : k ≢ place). inv.alone k (omega arith) one);
       }
       | else-mask-place-ne0 w ↦ record {
         same = w.self-is ∙ inv.same;
-        alone = λ k less one. let none = no_bit_there c.args.mask place c.loop-place-test.true w.if-mask-place-ne0.false in dite (ℕ_discrete k place)
-            (λ (is : k ≡ place). let e : bit_at c.args.mask k ≡ 0 = ap (bit_at c.args.mask) is ∙ none in absurd (omega arith))
+        alone = λ k less one. let none = no_bit_there c.args.mask place c.loop-place-test.true w.if-mask-place-ne0.false
+            in dite (ℕ_discrete k place)
+            (λ (is : k ≡ place). let e : bit_at c.args.mask k ≡ 0 = ap (bit_at c.args.mask) is ∙ none in
+            absurd (omega arith))
             (λ (far : k ≢ place). inv.alone k (omega arith) one);
       }
     ]

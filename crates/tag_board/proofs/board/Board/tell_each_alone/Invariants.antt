@@ -9,5 +9,6 @@ use Rattle.tag_board.proofs.board.Board.tell_each_alone.Given as goal
 abbrev pub invariant-loop-place : goal.invariant-loop-place
 invariant-loop-place l = record {
   same : l.self ≡ l.initial.self;
-  alone : (k : ℕ) → k < l.place → bit_at l.mask k ≡ 1 → NobodyElseHolds (state_of l.initial.self) l.caller (nat_eq (l.first + k));
+  alone : (k : ℕ) → k < l.place → bit_at l.mask k ≡ 1
+      → NobodyElseHolds (state_of l.initial.self) l.caller (nat_eq (l.first + k));
 }

@@ -19,11 +19,13 @@ use Rattle.tag_board.proofs.board.Board.wait.Goals as goal
 
 pub invariant_of-self : goal.invariant_of-self
 invariant_of-self c =
-    let b = c.args.self.now in let i : ℕ = c.args.caller in let old = c.index_mut.result.now in let new = c.prepare_wait.new.hand in record {
+    let b = c.args.self.now in let i : ℕ = c.args.caller in let old = c.index_mut.result.now in
+    let new = c.prepare_wait.new.hand in record {
       own = All-set (IsHandOf b.tags) b.hands.items i new c.prepare_wait.ensures.hand b.own;
       ordered = ordered b.tags b.hands.items i old new c.requires c.index_mut.ensures.value b.ordered
           (same_number old new c.prepare_wait.result
-          (ok_only _ c.prepare_wait.result (ok_map c.prepare_wait.result c.prepare_wait.ensures.enters (λ group e. (wait_moves old new group e).number)))
+          (ok_only _ c.prepare_wait.result (ok_map c.prepare_wait.result c.prepare_wait.ensures.enters
+          (λ group e. (wait_moves old new group e).number)))
           (err_same _ _ c.prepare_wait.result c.prepare_wait.ensures.err));
       every = length-set b.hands.items i new ∙ b.every;
       sizes = b.sizes;
@@ -31,22 +33,26 @@ invariant_of-self c =
 
 pub returns-clause-answers : goal.returns-clause-answers
 returns-clause-answers c =
-    let b = c.args.self.now in let i : ℕ = c.args.caller in let old = c.index_mut.result.now in let new = c.prepare_wait.new.hand in
+    let b = c.args.self.now in let i : ℕ = c.args.caller in let old = c.index_mut.result.now in
+    let new = c.prepare_wait.new.hand in
     let hands = b.hands.items in let here = c.index_mut.ensures.value in let s = state_of b in
     let stands = stands_here b.tags hands i old new c.requires here in let r = c.prepare_wait.result in
     answers (RefusesWait s i) (λ (group : ℕ). (group < 8) × Changes i (standing true) s _) s _ r
     (wait_verdict s i r
-    (λ t. err_since _ _ r c.prepare_wait.ensures.err (λ ok. some_since (standing_of old) (stands ∙ t) (c.prepare_wait.ensures.out.0 ok)))
+    (λ t. err_since _ _ r c.prepare_wait.ensures.err
+    (λ ok. some_since (standing_of old) (stands ∙ t) (c.prepare_wait.ensures.out.0 ok)))
     (λ f. c.prepare_wait.ensures.out.1 (none_since (standing_of old) (stands ∙ f))))
     (ok_map r c.prepare_wait.ensures.enters (λ group e. (
       low_group old new group e,
       changes b.tags hands i old new c.requires here (standing true) (wait_moves old new group e).part,
     )))
-    (on_err_weaker r (λ e. ap (state_of_all b.tags) (unmoved b.tags hands i old new c.requires here e)) (err_same _ _ r c.prepare_wait.ensures.err))
+    (on_err_weaker r (λ e. ap (state_of_all b.tags) (unmoved b.tags hands i old new c.requires here e))
+    (err_same _ _ r c.prepare_wait.ensures.err))
 
 pub returns-clause-alone : goal.returns-clause-alone
 returns-clause-alone c = λ one.
-    let b = c.args.self.now in let i : ℕ = c.args.caller in let old = c.index_mut.result.now in let new = c.prepare_wait.new.hand in
+    let b = c.args.self.now in let i : ℕ = c.args.caller in let old = c.index_mut.result.now in
+    let new = c.prepare_wait.new.hand in
     let r = c.prepare_wait.result in let e = c.prepare_wait.ensures in
     lones_moved b.hands.items i old new one c.requires c.index_mut.ensures.value (λ x y. y ≡ x)
     (either_way r (ok_only _ r (ok_map r e.enters (λ group e. enter_alone old new group e)))

@@ -11,7 +11,8 @@ use Rattle.tag_board.proofs.board.Board.wakes.Goals as goal
 
 pub invariant_of-self : goal.invariant_of-self
 invariant_of-self c =
-    let b = c.args.self.now in let i : ℕ = c.args.caller in let old = c.index_mut.result.now in let new = c.wakes.new.hand in record {
+    let b = c.args.self.now in let i : ℕ = c.args.caller in let old = c.index_mut.result.now in
+    let new = c.wakes.new.hand in record {
       own = All-set (IsHandOf b.tags) b.hands.items i new c.wakes.ensures.hand b.own;
       ordered = ordered b.tags b.hands.items i old new c.requires c.index_mut.ensures.value b.ordered
           (stay_moves old new c.wakes.ensures.same).number;
@@ -21,16 +22,21 @@ invariant_of-self c =
 
 pub returns-clause-active : goal.returns-clause-active
 returns-clause-active c =
-    let b = c.args.self.now in let i : ℕ = c.args.caller in let old = c.index_mut.result.now in let new = c.wakes.new.hand in
+    let b = c.args.self.now in let i : ℕ = c.args.caller in let old = c.index_mut.result.now in
+    let new = c.wakes.new.hand in
     λ t. c.wakes.ensures.active (stands_here b.tags b.hands.items i old new c.requires c.index_mut.ensures.value ∙ t)
 
 pub returns-clause-same : goal.returns-clause-same
 returns-clause-same c =
-    let b = c.args.self.now in let i : ℕ = c.args.caller in let old = c.index_mut.result.now in let new = c.wakes.new.hand in
+    let b = c.args.self.now in let i : ℕ = c.args.caller in let old = c.index_mut.result.now in
+    let new = c.wakes.new.hand in
     same_state (state_of b) _ i
-    (changes b.tags b.hands.items i old new c.requires c.index_mut.ensures.value as_before (stay_moves old new c.wakes.ensures.same).part)
+    (changes b.tags b.hands.items i old new c.requires c.index_mut.ensures.value as_before
+    (stay_moves old new c.wakes.ensures.same).part)
 
 pub returns-clause-alone : goal.returns-clause-alone
 returns-clause-alone c = λ one.
-    let b = c.args.self.now in let i : ℕ = c.args.caller in let old = c.index_mut.result.now in let new = c.wakes.new.hand in
-    lones_moved b.hands.items i old new one c.requires c.index_mut.ensures.value (λ x y. y ≡ x) (stay_alone old new c.wakes.ensures.same)
+    let b = c.args.self.now in let i : ℕ = c.args.caller in let old = c.index_mut.result.now in
+    let new = c.wakes.new.hand in
+    lones_moved b.hands.items i old new one c.requires c.index_mut.ensures.value (λ x y. y ≡ x)
+    (stay_alone old new c.wakes.ensures.same)

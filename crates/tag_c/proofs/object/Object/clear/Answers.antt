@@ -5,7 +5,8 @@ use Rattle.tag_c.proofs.Calling.{by_hand, stored}
 use Rattle.tag_c.proofs.object.Object.clear.Goals as goal
 
 pub returns : goal.returns
-returns c = let e = c.clear_silently.ensures in by_hand (DoesClear c.args.tag) code_of_count _ c.count_code.result c.args.self.now.kind
+returns c = let e = c.clear_silently.ensures in
+    by_hand (DoesClear c.args.tag) code_of_count _ c.count_code.result c.args.self.now.kind
     c.in-Member.member _ _ c.deref.result.now c.clear_silently.result c.in-Member.is c.count_code.ensures
     (stored c.count_code.result c.count_code.type_inv) c.deref.ensures record {
       no_such_tag = e.no_such_tag;

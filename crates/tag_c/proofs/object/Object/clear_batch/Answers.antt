@@ -5,7 +5,8 @@ use Rattle.tag_c.proofs.Calling.{by_hand, stored}
 use Rattle.tag_c.proofs.object.Object.clear_batch.Goals as goal
 
 pub returns : goal.returns
-returns c = let e = c.clear_batch_silently.ensures in by_hand (DoesClearBatch c.args.tags.now) code_of_count _ c.count_code.result c.args.self.now.kind
+returns c = let e = c.clear_batch_silently.ensures in
+    by_hand (DoesClearBatch c.args.tags.now) code_of_count _ c.count_code.result c.args.self.now.kind
     c.in-Member.member _ _ c.deref.result.now c.clear_batch_silently.result c.in-Member.is c.count_code.ensures
     (stored c.count_code.result c.count_code.type_inv) c.deref.ensures record {
       bad_count = e.bad_count;

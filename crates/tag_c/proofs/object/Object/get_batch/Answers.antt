@@ -11,7 +11,8 @@ use Rattle.tag_c.proofs.object.Object.get_batch.Goals.{in-Ok-Some}
 
 pub batch_code-requires : goal.batch_code-requires
 batch_code-requires c = let shared = c.deref.result.now in let e = c.get_batch-answer.ensures in
-    let own = subst (λ (s : Shared). IsHandOf s.tags c.in-Member.member.hand) (sym c.deref.ensures) c.in-Member.member.own in
+    let own = subst (λ (s : Shared). IsHandOf s.tags c.in-Member.member.hand) (sym c.deref.ensures)
+    c.in-Member.member.own in
     run_fits shared.tags c.in-Member.member.hand c.get_batch-answer.new.hand own c.args.n c.get_batch-answer.result
     (omega (arith, shared.total_is.0, shared.total_is.1)) e.bad_count e.round_robin e.gets
 

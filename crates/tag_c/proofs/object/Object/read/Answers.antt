@@ -8,7 +8,8 @@ use Rattle.tag_c.proofs.Calling.{by_hand, stored, both_ok}
 use Rattle.tag_c.proofs.object.Object.read.Goals as goal
 
 pub returns-clause-calls : goal.returns-clause-calls
-returns-clause-calls c = let e = c.read.ensures in by_hand (DoesRead c.args.tag c.value_code.new.value) code_of_done _ c.value_code.result c.args.self.now.kind
+returns-clause-calls c = let e = c.read.ensures in
+    by_hand (DoesRead c.args.tag c.value_code.new.value) code_of_done _ c.value_code.result c.args.self.now.kind
     c.in-Member.member _ _ c.deref.result.now c.read.result c.in-Member.is c.value_code.ensures.code
     (stored c.value_code.result c.value_code.type_inv) c.deref.ensures record {
       no_such_tag = e.no_such_tag;

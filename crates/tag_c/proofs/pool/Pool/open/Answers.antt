@@ -17,7 +17,8 @@ loop-hand-preserved c = let was = c.loop-hand.invariant in let own = IsHandOf c.
     let hand = last_of own c.pop.new.self.items c.in-Some.hand whole in
     let berth = subst own (sym c.berth_of.ensures) hand in
     let push = c.push_reserved.ensures in record {
-      berths = subst (All own) (sym push.items) (All-push own c.loop-hand.berths.items c.berth_of.result was.berths berth);
+      berths = subst (All own) (sym push.items)
+          (All-push own c.loop-hand.berths.items c.berth_of.result was.berths berth);
       hands = subst (All own) (sym c.pop.ensures.rest) (All-take own _ c.loop-hand.hands.items was.hands);
       room = omega (arith, was.room, push.len, c.pop.ensures.capacity, c.in-Some.ensures.cases);
       fit = omega (arith, was.fit, push.len, push.capacity, c.in-Some.ensures.cases);

@@ -9,11 +9,18 @@ pub loop-berth-preserved-in-Some-hand_of : goal.loop-berth-preserved-in-Some-han
 loop-berth-preserved-in-Some-hand_of c = let was = c.loop-berth.invariant in let own = IsHandOf c.args.self.tags in
     let whole = subst (All own) c.in-Some.ensures.items was.berths in
     let berth = last_of own c.pop.new.self.items c.in-Some.berth whole in
-    let hand = one_owner c.args.self.tags c.in-Some.berth c.in-Some-hand_of.hand c.in-Some-hand_of.ensures berth in record {
+    let hand = one_owner c.args.self.tags c.in-Some.berth c.in-Some-hand_of.hand c.in-Some-hand_of.ensures berth in
+    record {
       berths = subst (All own) (sym c.pop.ensures.rest) (All-take own _ c.loop-berth.berths.items was.berths);
       hands = subst (All own) (sym c.push_reserved.ensures.items)
           (All-push own c.loop-berth.hands.items c.in-Some-hand_of.hand was.hands hand);
-      room = omega (arith, was.room, c.push_reserved.ensures.len, c.push_reserved.ensures.capacity, c.in-Some.ensures.cases);
+      room = omega (
+        arith,
+        was.room,
+        c.push_reserved.ensures.len,
+        c.push_reserved.ensures.capacity,
+        c.in-Some.ensures.cases,
+      );
     }
 
 pub loop-berth-preserved : goal.loop-berth-preserved

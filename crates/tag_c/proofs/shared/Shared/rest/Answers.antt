@@ -11,4 +11,5 @@ put_into-requires c = let tags = c.args.self.now.tags in let at = c.index.ensure
     let own = All-get_or (IsHandOf tags) c.args.self.now.berths.items c.loop-i.i c.index.result.now
     (omega (arith, c.loop-i-test.true, c.len-i-end.ensures)) c.args.self.now.own in
     let berth : IsHandOf tags c.index.result.now = subst (λ (hand : Hand ℕ). IsHandOf tags hand) (sym at) own in
-    sharing tags c.index.result.now c.loop-i.hand berth (subst (λ (hand : Hand ℕ). IsHandOf tags hand) (sym c.loop-i.invariant) c.requires)
+    sharing tags c.index.result.now c.loop-i.hand berth
+    (subst (λ (hand : Hand ℕ). IsHandOf tags hand) (sym c.loop-i.invariant) c.requires)

@@ -1,4 +1,5 @@
--- The step stores 1 in the tag's state, which the rule allows to the tag's holder. From then on the tag is nobody's: the
+-- The step stores 1 in the tag's state, which the rule allows to the tag's holder. From then on the tag is nobody's:
+-- the
 -- caller's mask loses its bit, and the slot stays in the table for whoever takes the tag.
 use Rattle.std.proofs.Common.{◌≡◌, ℕ, ◌*◌, ◌%◌, ◌^◌, ◌<◌, List, slice_index, slice_set, length-set, refl, sym, ap, ◌∙◌, subst}
 use Rattle.std.proofs.lemmas.List.{get_or_read}

@@ -1,4 +1,5 @@
--- An exchange that finds 1 makes the caller the holder: its mask gains the tag's bit and its seat the slot. One that finds
+-- An exchange that finds 1 makes the caller the holder: its mask gains the tag's bit and its seat the slot. One that
+-- finds
 -- 0 changes nothing and stands in the record as a look.
 use Rattle.std.proofs.Common.{rules, ◌≡◌, ℕ, ◌*◌, ◌%◌, ◌^◌, ◌<◌, List, slice_index, slice_set, length-set, bit_or, eqb, refl, sym, ap, ◌∙◌, subst, Some, None}
 use prog.Atomic.{either}

@@ -41,10 +41,12 @@ loop-place-preserved c =
     elim c.if-word-place-ne0.branch [
       | then-word-place-ne0+in_ok-push w ↦ (
           let set = taken_of_mask word place (λ z. w.if-word-place-ne0.true (ap (bit_and word) shift ∙ z)) in
-          ap (λ v. v.items) w.tags-is ∙ w.in_ok-push.ensures.items ∙ ap (λ (t : List ℕ). t ++ tag ∷ []) c.loop-place.invariant
+          ap (λ v. v.items) w.tags-is ∙ w.in_ok-push.ensures.items
+          ∙ ap (λ (t : List ℕ). t ++ tag ∷ []) c.loop-place.invariant
           ∙ sym (filter_range-pass (is_marked bits) tag (eq-eqb _ 1 (bit_of bits index place low ∙ set))) ∙ next)
       | else-word-place-ne0 w ↦ (
           let clear = clear_of_mask word place (sym (ap (bit_and word) shift) ∙ w.if-word-place-ne0.false) in
           ap (λ v. v.items) w.tags-is ∙ c.loop-place.invariant
-          ∙ sym (filter_range-fail (is_marked bits) tag (ap (λ (x : ℕ). nat_eq x 1) (bit_of bits index place low ∙ clear))) ∙ next)
+          ∙ sym (filter_range-fail (is_marked bits) tag
+          (ap (λ (x : ℕ). nat_eq x 1) (bit_of bits index place low ∙ clear))) ∙ next)
     ]

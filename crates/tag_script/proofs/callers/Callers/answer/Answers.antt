@@ -8,9 +8,12 @@ use Rattle.tag_script.proofs.callers.Callers.answer.Goals as goal
 
 pub returns-in-ClearBatch : goal.returns-in-ClearBatch
 returns-in-ClearBatch g c =
-    let caller = c.args.caller in let old = scene_of c.args.self.now.board in let new = scene_of c.clear_batch.new.self in
+    let caller = c.args.caller in let old = scene_of c.args.self.now.board in
+    let new = scene_of c.clear_batch.new.self in
     let cleared = subst
-    (λ (tags : List ℕ). Both (ClearsList tags caller) (Does (λ woken. LoneClearsList tags)) old c.clear_batch.result new)
+    (λ (tags : List ℕ). Both (ClearsList tags caller) (Does (λ woken. LoneClearsList tags)) old c.clear_batch.result
+    new)
     c.as_slice.ensures (c.clear_batch.ensures.answers, c.clear_batch.ensures.alone) in
-    subst (λ (command : Command). ObeysBy caller command old c.to_clear-in-ClearBatch.result new) (sym c.in-ClearBatch.is)
+    subst (λ (command : Command). ObeysBy caller command old c.to_clear-in-ClearBatch.result new)
+    (sym c.in-ClearBatch.is)
     (c.clear_batch.result, cleared, c.to_clear-in-ClearBatch.ensures)

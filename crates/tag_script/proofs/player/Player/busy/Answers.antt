@@ -11,7 +11,8 @@ loop-tag-preserved c =
     let test = is_held_tag (solo_of c.args.self.now) in let k = c.loop-tag.tag in
     elim c.if-holds.branch [
       | then-holds+in_ok-push w ↦ ap (λ v. v.items) w.tags-is ∙ w.in_ok-push.ensures.items
-          ∙ ap (λ (t : List ℕ). t ++ k ∷ []) c.loop-tag.invariant ∙ sym (filter_range-pass test k (sym c.holds.ensures ∙ w.if-holds.true))
+          ∙ ap (λ (t : List ℕ). t ++ k ∷ []) c.loop-tag.invariant
+          ∙ sym (filter_range-pass test k (sym c.holds.ensures ∙ w.if-holds.true))
       | else-holds w ↦ ap (λ v. v.items) w.tags-is ∙ c.loop-tag.invariant
           ∙ sym (filter_range-fail test k (sym c.holds.ensures ∙ w.if-holds.false))
     ]

@@ -17,13 +17,15 @@ returns-then-tag-depth c =
 pub returns-then-not-taken : goal.returns-then-not-taken
 returns-then-not-taken c =
     let depth = c.depth.ensures.value ∙ ap (λ (l : Layout). l.depth) c.layout.ensures.value in
-    not_held (omega arith) (false_from_ne_true _ (λ is. false≢true (sym c.if-not-taken.true ∙ c.taken.ensures.busy.1 is)))
+    not_held (omega arith) (false_from_ne_true _
+    (λ is. false≢true (sym c.if-not-taken.true ∙ c.taken.ensures.busy.1 is)))
 
 pub returns : goal.returns
 returns c =
     let q = c.put.new.self in
     let held : IsTrue c.taken.result = c.if-not-taken.false in
-    let hint : c.after_clear.new.hint ≡ record c.args.self.now.hint { at = if c.args.self.now.hint.round_robin then c.args.self.now.hint.at else c.args.tag } =
+    let hint : c.after_clear.new.hint ≡ record c.args.self.now.hint
+    { at = if c.args.self.now.hint.round_robin then c.args.self.now.hint.at else c.args.tag } =
     λ z. record { at = c.after_clear.ensures.at z; round_robin = c.after_clear.ensures.round_robin z } in
     let done : put_back c.args.tag (solo_of c.args.self.now) ≡ record {
       layout = q.layout;

@@ -14,29 +14,36 @@ use Rattle.tag_script.proofs.player.Player.clear_batch.Goals.{then-is_empty-via-
 pub returns-then-is_empty : goal.returns-then-is_empty
 returns-then-is_empty c = elim c.then-is_empty.branch [
   | then-is_empty-via-then-is_empty w ↦ bad_count (inl (search rules))
-  | then-is_empty-via-else-is_empty+then-tags-gt-MAX_LIST w ↦ bad_count (inr (omega (arith, w.if-tags-gt-MAX_LIST.true)))
+  | then-is_empty-via-else-is_empty+then-tags-gt-MAX_LIST w ↦ bad_count
+      (inr (omega (arith, w.if-tags-gt-MAX_LIST.true)))
 ]
 
 pub returns-then-not-are_below : goal.returns-then-not-are_below
 returns-then-not-are_below c =
     let tags = c.args.tags.now in let some : 0 < length c.args.tags.now = search rules in
     let depth = c.depth.ensures.value ∙ ap (λ (l : Layout). l.depth) c.layout.ensures.value in
-    let which : Any (λ (tag : ℕ). c.depth.result ≤ tag) tags = if_false _ _ c.are_below.result c.if-not-are_below.true c.are_below.ensures in
-    no_such_tag (omega (arith, some)) (omega (arith, c.if-tags-gt-MAX_LIST.false)) (subst (λ (d : ℕ). Any (λ (tag : ℕ). d ≤ tag) tags) depth which)
+    let which : Any (λ (tag : ℕ). c.depth.result ≤ tag) tags =
+    if_false _ _ c.are_below.result c.if-not-are_below.true c.are_below.ensures in
+    no_such_tag (omega (arith, some)) (omega (arith, c.if-tags-gt-MAX_LIST.false))
+    (subst (λ (d : ℕ). Any (λ (tag : ℕ). d ≤ tag) tags) depth which)
 
 pub returns-then-not-are_held_once : goal.returns-then-not-are_held_once
 returns-then-not-are_held_once c =
     let tags = c.args.tags.now in let some : 0 < length c.args.tags.now = search rules in
     let depth = c.depth.ensures.value ∙ ap (λ (l : Layout). l.depth) c.layout.ensures.value in
-    let below : All (λ (tag : ℕ). tag < c.depth.result) tags = if_true _ _ c.are_below.result c.if-not-are_below.false c.are_below.ensures in
-    not_held (omega (arith, some)) (omega (arith, c.if-tags-gt-MAX_LIST.false)) (subst (λ (d : ℕ). All (λ (tag : ℕ). tag < d) tags) depth below)
+    let below : All (λ (tag : ℕ). tag < c.depth.result) tags =
+    if_true _ _ c.are_below.result c.if-not-are_below.false c.are_below.ensures in
+    not_held (omega (arith, some)) (omega (arith, c.if-tags-gt-MAX_LIST.false))
+    (subst (λ (d : ℕ). All (λ (tag : ℕ). tag < d) tags) depth below)
     (if_false _ _ c.are_held_once.result c.if-not-are_held_once.true c.are_held_once.ensures)
 
 pub returns : goal.returns
 returns c =
-    let p = c.args.self.now.port in let tags = c.args.tags.now in let some : 0 < length c.args.tags.now = search rules in let q = c.give_all.new.port in
+    let p = c.args.self.now.port in let tags = c.args.tags.now in
+    let some : 0 < length c.args.tags.now = search rules in let q = c.give_all.new.port in
     let depth = c.depth.ensures.value ∙ ap (λ (l : Layout). l.depth) c.layout.ensures.value in
-    let below : All (λ (tag : ℕ). tag < c.depth.result) tags = if_true _ _ c.are_below.result c.if-not-are_below.false c.are_below.ensures in
+    let below : All (λ (tag : ℕ). tag < c.depth.result) tags =
+    if_true _ _ c.are_below.result c.if-not-are_below.false c.are_below.ensures in
     let held = if_true _ _ c.are_held_once.result c.if-not-are_held_once.false c.are_held_once.ensures in
     let hint : c.after_clear.new.hint ≡ record c.args.self.now.hint {
       at = if c.args.self.now.hint.round_robin then c.args.self.now.hint.at else get_or tags (length tags - 1) 0;
@@ -57,4 +64,5 @@ returns c =
       back = c.args.self.now.back + length tags;
     } in
     let P : Solo → Type 0 = λ w. ClearsBatch tags (solo_of c.args.self.now) (Ok tt) w in
-    subst P done (cleared (omega (arith, some)) (omega (arith, c.if-tags-gt-MAX_LIST.false)) (subst (λ (d : ℕ). All (λ (tag : ℕ). tag < d) tags) depth below) held.0 held.1)
+    subst P done (cleared (omega (arith, some)) (omega (arith, c.if-tags-gt-MAX_LIST.false))
+    (subst (λ (d : ℕ). All (λ (tag : ℕ). tag < d) tags) depth below) held.0 held.1)

@@ -10,8 +10,10 @@ use Rattle.tag_script.proofs.player.Player.counts.Given as goal
 abbrev pub invariant-loop-word : goal.invariant-loop-word
 invariant-loop-word l = record {
   same : solo_of l.self ≡ solo_of l.fn.self;
-  held : l.held ≡ count_below (is_held (solo_of l.self)) (min (l.word * word_bits l.self.port.layout) l.self.port.layout.depth);
-  aside : l.aside ≡ count_below (is_aside (solo_of l.self)) (min (l.word * word_bits l.self.port.layout) l.self.port.layout.depth);
+  held : l.held ≡ count_below (is_held (solo_of l.self))
+      (min (l.word * word_bits l.self.port.layout) l.self.port.layout.depth);
+  aside : l.aside ≡ count_below (is_aside (solo_of l.self))
+      (min (l.word * word_bits l.self.port.layout) l.self.port.layout.depth);
   few_held : l.held ≤ 64 * l.word;
   few_aside : l.aside ≤ 64 * l.word;
 }

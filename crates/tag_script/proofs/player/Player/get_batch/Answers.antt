@@ -9,18 +9,21 @@ pub returns-then-n-eq0-clause-batch : goal.returns-then-n-eq0-clause-batch
 returns-then-n-eq0-clause-batch c = elim c.then-n-eq0.branch [
   | then-n-eq0-via-then-n-eq0 w ↦ bad_count (inl w.if-n-eq0.true)
   | then-n-eq0-via-else-n-eq0+then-n-bits_per_word w ↦
-      let bits : word_bits w.layout.result ≡ word_bits c.args.self.now.port.layout = ap word_bits w.layout.ensures.value in
+      let bits : word_bits w.layout.result ≡ word_bits c.args.self.now.port.layout =
+      ap word_bits w.layout.ensures.value in
       bad_count (inr (omega (arith, bits, w.bits_per_word.ensures, w.if-n-bits_per_word.true)))
 ]
 
 pub returns-then-self-clause-batch : goal.returns-then-self-clause-batch
 returns-then-self-clause-batch c =
-    let bits : word_bits c.layout.result ≡ word_bits c.args.self.now.port.layout = ap word_bits c.layout.ensures.value in
+    let bits : word_bits c.layout.result ≡ word_bits c.args.self.now.port.layout =
+    ap word_bits c.layout.ensures.value in
     none_around (omega arith) (omega (arith, bits, c.bits_per_word.ensures, c.if-n-bits_per_word.false)) c.if-self.true
 
 pub returns-clause-batch : goal.returns-clause-batch
 returns-clause-batch c =
-    let bits : word_bits c.layout.result ≡ word_bits c.args.self.now.port.layout = ap word_bits c.layout.ensures.value in
+    let bits : word_bits c.layout.result ≡ word_bits c.args.self.now.port.layout =
+    ap word_bits c.layout.ensures.value in
     side_by_side c.choose_batch-answer.result _ (omega arith)
     (omega (arith, bits, c.bits_per_word.ensures, c.if-n-bits_per_word.false)) c.if-self.false (record {
       layout = c.choose_batch-answer.ensures.layout;

@@ -7,15 +7,19 @@ use Rattle.tag_sets.proofs.Listing.{no_bit, lists, held_bit}
 use Rattle.tag_sets.proofs.tags.Tags.busy.Goals as goal
 
 pub returns-clause-lists : goal.returns-clause-lists
-returns-clause-lists g c = lists c.args.self.now c.fill.new.self c.list_set-reserved.new.into c.list_set-ordinary.new.into c.list_set-reserved.result c.list_set-ordinary.result
+returns-clause-lists g c = lists c.args.self.now c.fill.new.self c.list_set-reserved.new.into
+    c.list_set-ordinary.new.into c.list_set-reserved.result c.list_set-ordinary.result
     c.args.hand.now c.list_set-reserved.new.hand c.list_set-ordinary.new.hand
-    (no_bit 64 c.fill.new.self (λ i. ap (λ (l : List ℕ). get_or l i 0) (c.fill.ensures.after (λ y e. e)) ∙ zeros (length c.args.into.now) i))
+    (no_bit 64 c.fill.new.self (λ i. ap (λ (l : List ℕ). get_or l i 0) (c.fill.ensures.after (λ y e. e))
+    ∙ zeros (length c.args.into.now) i))
     c.list_set-reserved.ensures.lists c.list_set-ordinary.ensures.lists
 
 pub returns-clause-held : goal.returns-clause-held
-returns-clause-held g c = held_bit c.args.self.now c.fill.new.self c.list_set-reserved.new.into c.list_set-ordinary.new.into c.list_set-reserved.result c.list_set-ordinary.result
+returns-clause-held g c = held_bit c.args.self.now c.fill.new.self c.list_set-reserved.new.into
+    c.list_set-ordinary.new.into c.list_set-reserved.result c.list_set-ordinary.result
     c.args.hand.now c.list_set-reserved.new.hand c.list_set-ordinary.new.hand
-    (no_bit 64 c.fill.new.self (λ i. ap (λ (l : List ℕ). get_or l i 0) (c.fill.ensures.after (λ y e. e)) ∙ zeros (length c.args.into.now) i))
+    (no_bit 64 c.fill.new.self (λ i. ap (λ (l : List ℕ). get_or l i 0) (c.fill.ensures.after (λ y e. e))
+    ∙ zeros (length c.args.into.now) i))
     c.list_set-reserved.ensures.lists c.list_set-ordinary.ensures.lists c.requires.hand
 
 pub returns-clause-bound : goal.returns-clause-bound

@@ -5,11 +5,17 @@ use Rattle.tag_sets.proofs.Passing.{placed, clears_at, clears_on}
 use Rattle.tag_sets.proofs.tags.Tags.clear_silently.Goals as goal
 
 pub returns-in-Ordinary-clause-clears : goal.returns-in-Ordinary-clause-clears
-returns-in-Ordinary-clause-clears g c = let hand = c.args.hand.now in let new = record hand { ordinary = c.clear_silently.new.agent } in
-    let at = placed c.args.self.now hand c.args.tag c.of-kind.result Ordinary c.requires.hand c.in-Ordinary.is c.of-kind.ensures.kind c.of-kind.ensures.number in
-    clears_on hand new Ordinary _ c.args.tag at refl refl _ c.clear_silently.result c.args.self.now c.clear_silently.ensures.puts
+returns-in-Ordinary-clause-clears g c = let hand = c.args.hand.now in
+    let new = record hand { ordinary = c.clear_silently.new.agent } in
+    let at = placed c.args.self.now hand c.args.tag c.of-kind.result Ordinary c.requires.hand c.in-Ordinary.is
+    c.of-kind.ensures.kind c.of-kind.ensures.number in
+    clears_on hand new Ordinary _ c.args.tag at refl refl _ c.clear_silently.result c.args.self.now
+    c.clear_silently.ensures.puts
 
 pub returns-in_ok-clear_uncounted-in-Reserved-clause-clears : goal.returns-in_ok-clear_uncounted-in-Reserved-clause-clears
-returns-in_ok-clear_uncounted-in-Reserved-clause-clears g c = let hand = c.args.hand.now in let new = record hand { reserved = c.clear_uncounted.new.agent } in
-    let at = placed c.args.self.now hand c.args.tag c.of-kind.result Reserved c.requires.hand c.in-Reserved.is c.of-kind.ensures.kind c.of-kind.ensures.number in
-    clears_at hand new Reserved _ c.args.tag at refl refl c.args.self.now c.in_ok-clear_uncounted-in-Reserved.ensures.puts
+returns-in_ok-clear_uncounted-in-Reserved-clause-clears g c = let hand = c.args.hand.now in
+    let new = record hand { reserved = c.clear_uncounted.new.agent } in
+    let at = placed c.args.self.now hand c.args.tag c.of-kind.result Reserved c.requires.hand c.in-Reserved.is
+    c.of-kind.ensures.kind c.of-kind.ensures.number in
+    clears_at hand new Reserved _ c.args.tag at refl refl c.args.self.now
+    c.in_ok-clear_uncounted-in-Reserved.ensures.puts

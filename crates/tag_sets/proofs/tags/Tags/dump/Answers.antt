@@ -5,5 +5,6 @@ use Rattle.tag_sets.proofs.tags.Tags.dump.Goals as goal
 
 pub returns-clause-bound : goal.returns-clause-bound
 returns-clause-bound g c =
-    let p = c.pack.ensures.packs in let made = few_looks c.args.kind p.found c.args.hand.now c.pack.new.hand p.around.looks in
+    let p = c.pack.ensures.packs in let made =
+    few_looks c.args.kind p.found c.args.hand.now c.pack.new.hand p.around.looks in
     let each = p.around.each in omega arith

@@ -9,15 +9,19 @@ use Rattle.tag_sets.proofs.tags.Tags.get.Goals as goal
 
 pub returns-in_default-clause-gets : goal.returns-in_default-clause-gets
 returns-in_default-clause-gets g c = let tags = c.args.self.now in let none : c.in_ok-number.field-0 ≡ None = cc in
-    gets_of tags c.args.hand.now c.get.new.agent c.requires.hand c.in_ok-number.field-0 None (ap (whole (reserved_of tags)) (sym none)) c.in_ok-number.ensures.gets
+    gets_of tags c.args.hand.now c.get.new.agent c.requires.hand c.in_ok-number.field-0 None
+    (ap (whole (reserved_of tags)) (sym none)) c.in_ok-number.ensures.gets
 
 pub overflow_add-result : goal.overflow_add-result
 overflow_add-result g c = let tags = c.args.self.now in let hand = c.args.hand.now in
-    let low : c.in-Some.number < (layout_of tags Ordinary).depth = number_low tags hand c.get.new.agent c.requires.hand c.in-Some.number
-    (subst (λ (o : Option ℕ). GetsPlain (layout_of tags Ordinary) o hand.ordinary c.get.new.agent) c.in-Some.is c.in_ok-number.ensures.gets) in
+    let low : c.in-Some.number < (layout_of tags Ordinary).depth =
+    number_low tags hand c.get.new.agent c.requires.hand c.in-Some.number
+    (subst (λ (o : Option ℕ). GetsPlain (layout_of tags Ordinary) o hand.ordinary c.get.new.agent) c.in-Some.is
+    c.in_ok-number.ensures.gets) in
     let fits = tags.fits in omega arith
 
 pub returns-clause-gets : goal.returns-clause-gets
 returns-clause-gets g c = let tags = c.args.self.now in
-    gets_of tags c.args.hand.now c.get.new.agent c.requires.hand c.in_ok-number.field-0 (Some (reserved_of tags + c.in-Some.number))
+    gets_of tags c.args.hand.now c.get.new.agent c.requires.hand c.in_ok-number.field-0
+    (Some (reserved_of tags + c.in-Some.number))
     (ap (whole (reserved_of tags)) (sym c.in-Some.is)) c.in_ok-number.ensures.gets

@@ -3,4 +3,5 @@ use Rattle.tag_sets.proofs.Getting.{blocking_of}
 use Rattle.tag_sets.proofs.tags.Tags.get_blocking.Goals as goal
 
 pub returns-clause-gets : goal.returns-clause-gets
-returns-clause-gets g c = blocking_of c.args.self.now c.args.hand.now c.get_blocking.new.agent c.requires.hand c.in_ok-number.number c.in_ok-number.ensures.gets
+returns-clause-gets g c = blocking_of c.args.self.now c.args.hand.now c.get_blocking.new.agent c.requires.hand
+    c.in_ok-number.number c.in_ok-number.ensures.gets

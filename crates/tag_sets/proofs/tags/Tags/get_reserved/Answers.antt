@@ -3,4 +3,5 @@ use Rattle.tag_sets.proofs.Getting.{reserved_gets_on}
 use Rattle.tag_sets.proofs.tags.Tags.get_reserved.Goals as goal
 
 pub returns-clause-gets : goal.returns-clause-gets
-returns-clause-gets g c = reserved_gets_on c.args.self.now c.args.hand.now c.get.new.agent c.requires.hand c.get.result c.get.ensures.gets
+returns-clause-gets g c = reserved_gets_on c.args.self.now c.args.hand.now c.get.new.agent c.requires.hand c.get.result
+    c.get.ensures.gets

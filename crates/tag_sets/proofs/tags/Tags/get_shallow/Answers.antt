@@ -9,17 +9,20 @@ use Rattle.tag_sets.proofs.tags.Tags.get_shallow.Goals as goal
 
 pub returns-in_default-clause-gets : goal.returns-in_default-clause-gets
 returns-in_default-clause-gets g c = let tags = c.args.self.now in let none : c.in_ok-found.field-0 ≡ None = cc in
-    shallow_of tags c.args.hand.now c.get_shallow.new.agent c.requires.hand c.args.depth c.in_ok-found.field-0 None (ap (whole (reserved_of tags)) (sym none))
+    shallow_of tags c.args.hand.now c.get_shallow.new.agent c.requires.hand c.args.depth c.in_ok-found.field-0 None
+    (ap (whole (reserved_of tags)) (sym none))
     c.in_ok-found.ensures.gets
 
 pub overflow_add-result : goal.overflow_add-result
 overflow_add-result g c = let tags = c.args.self.now in let hand = c.args.hand.now in
     let low : c.in-Some.found < (layout_of tags Ordinary).depth =
     shallow_low tags hand c.get_shallow.new.agent c.requires.hand c.args.depth c.in-Some.found
-    (subst (λ (o : Option ℕ). GetsShallow (layout_of tags Ordinary) c.args.depth o hand.ordinary c.get_shallow.new.agent) c.in-Some.is c.in_ok-found.ensures.gets) in
+    (subst (λ (o : Option ℕ). GetsShallow (layout_of tags Ordinary) c.args.depth o hand.ordinary
+    c.get_shallow.new.agent) c.in-Some.is c.in_ok-found.ensures.gets) in
     let fits = tags.fits in omega arith
 
 pub returns-clause-gets : goal.returns-clause-gets
 returns-clause-gets g c = let tags = c.args.self.now in
-    shallow_of tags c.args.hand.now c.get_shallow.new.agent c.requires.hand c.args.depth c.in_ok-found.field-0 (Some (reserved_of tags + c.in-Some.found))
+    shallow_of tags c.args.hand.now c.get_shallow.new.agent c.requires.hand c.args.depth c.in_ok-found.field-0
+    (Some (reserved_of tags + c.in-Some.found))
     (ap (whole (reserved_of tags)) (sym c.in-Some.is)) c.in_ok-found.ensures.gets

@@ -16,5 +16,6 @@ invariant-loop-word g l = let sizes = l.layout in record {
   found : (found : List (ℕ × ℕ)) × SoFar l.kind l.word found l.fn.hand l.hand
       × (l.count ≡ count_below (is_busy_in sizes found) (min (l.word * word_bits sizes) sizes.depth))
       × Marks 64 l.first (min (l.word * word_bits sizes) sizes.depth) (is_busy_in sizes found) l.fn.into l.into
-      × ((tag : ℕ) → Holds (agent_of l.fn.hand l.kind) tag → word_of sizes tag < l.word → is_busy_in sizes found tag ≡ true);
+      × ((tag : ℕ) → Holds (agent_of l.fn.hand l.kind) tag → word_of sizes tag < l.word
+      → is_busy_in sizes found tag ≡ true);
 }

@@ -5,11 +5,15 @@ use Rattle.tag_sets.proofs.Passing.{placed, posts_on}
 use Rattle.tag_sets.proofs.tags.Tags.post.Goals as goal
 
 pub returns-in-Ordinary-clause-posts : goal.returns-in-Ordinary-clause-posts
-returns-in-Ordinary-clause-posts g c = let hand = c.args.hand.now in let new = record hand { ordinary = c.post.new.agent } in
-    let at = placed c.args.self.now hand c.args.tag c.of-kind.result Ordinary c.requires.hand c.in-Ordinary.is c.of-kind.ensures.kind c.of-kind.ensures.number in
+returns-in-Ordinary-clause-posts g c = let hand = c.args.hand.now in
+    let new = record hand { ordinary = c.post.new.agent } in
+    let at = placed c.args.self.now hand c.args.tag c.of-kind.result Ordinary c.requires.hand c.in-Ordinary.is
+    c.of-kind.ensures.kind c.of-kind.ensures.number in
     posts_on hand new Ordinary _ c.args.tag at refl refl _ c.post.result c.post.ensures.posts
 
 pub returns-in-Reserved-clause-posts : goal.returns-in-Reserved-clause-posts
-returns-in-Reserved-clause-posts g c = let hand = c.args.hand.now in let new = record hand { reserved = c.post-in-Reserved.new.agent } in
-    let at = placed c.args.self.now hand c.args.tag c.of-kind.result Reserved c.requires.hand c.in-Reserved.is c.of-kind.ensures.kind c.of-kind.ensures.number in
+returns-in-Reserved-clause-posts g c = let hand = c.args.hand.now in
+    let new = record hand { reserved = c.post-in-Reserved.new.agent } in
+    let at = placed c.args.self.now hand c.args.tag c.of-kind.result Reserved c.requires.hand c.in-Reserved.is
+    c.of-kind.ensures.kind c.of-kind.ensures.number in
     posts_on hand new Reserved _ c.args.tag at refl refl _ c.post-in-Reserved.result c.post-in-Reserved.ensures.posts

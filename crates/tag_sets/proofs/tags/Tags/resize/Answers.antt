@@ -18,7 +18,8 @@ obstacle-tags-requires-clause-own g c =
     subst (λ v. All (IsHandOf c.args.tags) v.items) (sym c.tell_few-hands.ensures.same) c.requires
 
 -- nothing was found that prevents it
-unhindered : (P : Type 0) (Q : ResizeCause → Type 0) (found : Option ResizeCause) → found ≡ None → MatchOption found P Q → P
+unhindered : (P : Type 0) (Q : ResizeCause → Type 0) (found : Option ResizeCause) → found ≡ None → MatchOption found P Q
+    → P
 unhindered P Q found none told = subst (λ (o : Option ResizeCause). MatchOption o P Q) none told
 
 free : (g : given.Over) (c : In-None g)
@@ -30,7 +31,8 @@ facts : (g : given.Over) (c : In-None g)
     → facts_of c.obstacle-tags.result.0 c.obstacle-tags.new.hands.items
     ≡ facts_of c.args.tags c.tell_few-hands.result.items
 facts g c = same_facts c.args.tags c.obstacle-tags.result.0
-    c.tell_few-hands.result.items c.obstacle-tags.new.hands.items c.obstacle-tags.ensures.same c.obstacle-tags.ensures.unchanged
+    c.tell_few-hands.result.items c.obstacle-tags.new.hands.items c.obstacle-tags.ensures.same
+    c.obstacle-tags.ensures.unchanged
 
 pub go_on-requires-clause-every : goal.go_on-requires-clause-every
 go_on-requires-clause-every g c = subst (λ (f : Facts). HasAll f.numbers f.count) (sym (facts g c)) (free g c).0.0
@@ -117,7 +119,8 @@ returns-in-Some-clause-memory g c = (refused_early g c).memory
 
 pub returns-in-None-clause-balance : goal.returns-in-None-clause-balance
 returns-in-None-clause-balance g c = λ held posted is.
-    absurd ((((refused_late g c).in_use held posted).0 is).1.2 (subst (λ v. AreUnused v.items) c.tell_few-hands.ensures.same
+    absurd ((((refused_late g c).in_use held posted).0 is).1.2
+    (subst (λ v. AreUnused v.items) c.tell_few-hands.ensures.same
     (unhindered _ _ c.obstacle-tags.result.1 c.in-None.is c.obstacle-tags.ensures.cause).1))
 
 pub returns-in-Some-clause-balance : goal.returns-in-Some-clause-balance

@@ -10,7 +10,8 @@ use Rattle.tag_sets.proofs.tags.Tags.tell_few.Goals as goal
 pub meet-requires : goal.meet-requires
 meet-requires g c =
     let hands = c.args.hands.items in let numbers = numbers_of hands in
-    let twins = subst (λ (z : List (Hand g.row.R.Denot)). AreTwins (numbers_of z) c.in-Some.first c.in-Some.second) c.as_slice.ensures.value c.in-Some.ensures in
+    let twins = subst (λ (z : List (Hand g.row.R.Denot)). AreTwins (numbers_of z) c.in-Some.first c.in-Some.second)
+    c.as_slice.ensures.value c.in-Some.ensures in
     let less = twins.0 in let within = twins.1 in let long = length-map hands number_of in
     let later = c.remove-later.result in let earlier = c.remove-earlier.result in
     let one : earlier ≡ get_or hands c.in-Some.first earlier = c.remove-earlier.ensures.value
@@ -18,14 +19,16 @@ meet-requires g c =
     record {
       hands = (
         subst (IsHandOf c.args.self.now) (sym one) (c.requires c.in-Some.first earlier (omega arith)),
-        subst (IsHandOf c.args.self.now) (sym c.remove-later.ensures.value) (c.requires c.in-Some.second later (omega arith)),
+        subst (IsHandOf c.args.self.now) (sym c.remove-later.ensures.value)
+            (c.requires c.in-Some.second later (omega arith)),
       );
     }
 
 pub unreachable-requires : goal.unreachable-requires
 unreachable-requires g c =
     let hands = c.args.hands.items in
-    let twins = subst (λ (z : List (Hand g.row.R.Denot)). AreTwins (numbers_of z) c.in-Some.first c.in-Some.second) c.as_slice.ensures.value c.in-Some.ensures in
+    let twins = subst (λ (z : List (Hand g.row.R.Denot)). AreTwins (numbers_of z) c.in-Some.first c.in-Some.second)
+    c.as_slice.ensures.value c.in-Some.ensures in
     let less = twins.0 in let within = twins.1 in let long = length-map hands number_of in
     let later = c.remove-later.result in let earlier = c.remove-earlier.result in
     let one : earlier ≡ get_or hands c.in-Some.first earlier = c.remove-earlier.ensures.value
@@ -33,11 +36,13 @@ unreachable-requires g c =
     let a : get_or (numbers_of hands) c.in-Some.first 0 ≡ number_of earlier =
     get_or-map number_of hands c.in-Some.first earlier 0 (omega arith) ∙ ap number_of (sym one) in
     let b : get_or (numbers_of hands) c.in-Some.second 0 ≡ number_of later =
-    get_or-map number_of hands c.in-Some.second later 0 (omega arith) ∙ ap number_of (sym c.remove-later.ensures.value) in
+    get_or-map number_of hands c.in-Some.second later 0 (omega arith)
+    ∙ ap number_of (sym c.remove-later.ensures.value) in
     c.meet.ensures.numbers
     (same_number earlier c.meet.new.first c.meet.ensures.unchanged.0 ∙ sym a ∙ twins.2 ∙ b
     ∙ sym (same_number later c.meet.new.second c.meet.ensures.unchanged.1))
 
 pub returns-clause-few : goal.returns-clause-few
 returns-clause-few g c = few_hands c.args.self.now c.args.hands.items c.requires
-    (subst (λ (z : List (Hand g.row.R.Denot)). AreDistinct (numbers_of z)) c.as_slice.ensures.value c.in_default.ensures)
+    (subst (λ (z : List (Hand g.row.R.Denot)). AreDistinct (numbers_of z)) c.as_slice.ensures.value
+    c.in_default.ensures)

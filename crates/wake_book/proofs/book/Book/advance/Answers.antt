@@ -22,15 +22,16 @@ compare_exchange-found-requires c = let b = c.args.self.now in let t = c.args.te
     )
 
 pub returns-then-found-start-clause-lost : goal.returns-then-found-start-clause-lost
-returns-then-found-start-clause-lost c _ = let t = c.args.teller.now in let did = c.compare_exchange-found.ensures.2 in (
-  refl,
-  (
-    c.compare_exchange-found.result,
-    c.if-found-start.true,
-    ap (λ z. steps_of z.0) did ∙ ap
-        (λ z. steps_of (push (Advance c.args.start c.args.end c.compare_exchange-found.result) z.0)) t.knows,
-  ),
-)
+returns-then-found-start-clause-lost c _ = let t = c.args.teller.now in
+    let did = c.compare_exchange-found.ensures.2 in (
+      refl,
+      (
+        c.compare_exchange-found.result,
+        c.if-found-start.true,
+        ap (λ z. steps_of z.0) did ∙ ap
+            (λ z. steps_of (push (Advance c.args.start c.args.end c.compare_exchange-found.result) z.0)) t.knows,
+      ),
+    )
 
 pub returns-clause-won : goal.returns-clause-won
 returns-clause-won c _ = let t = c.args.teller.now in let did = c.compare_exchange-found.ensures.2 in
