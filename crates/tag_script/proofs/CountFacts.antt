@@ -1,11 +1,12 @@
 -- How many tags are held or set aside, counted a word at a time.
-use Rattle.std.proofs.Common.{◌≡◌, ℕ, zero, suc, ◌+◌, ◌-◌, ◌*◌, ◌^◌, ◌<◌, ◌≤◌, min, Bool, true, not, ◌&&◌, ◌||◌, nat_eq, nat_lt, cond, bit_and, count_ones, slice_index, refl, ap, ◌∙◌, arith, rules}
+use Rattle.std.proofs.Common.{◌≡◌, ℕ, zero, suc, ◌+◌, ◌-◌, ◌*◌, ◌^◌, ◌<◌, ◌≤◌, min, Bool, true, false, not, ◌&&◌, ◌||◌, nat_eq, nat_lt, cond, bit_and, count_ones, slice_index, refl, sym, ap, ◌∙◌, arith, rules}
 use Rattle.std.specs.Int.{bit_at, bit_not, w64}
+use Rattle.std.proofs.lemmas.Bool.{eqb-true}
 use Rattle.std.proofs.lemmas.Nat.{and_le_l, and_le_r}
 use mathlib.Core.Logic.{dite}
 use native.Mathlib.Decide.{dec_lt}
 use Rattle.std.proofs.Math.Nat.{mul-le-mul_right}
-use Rattle.std.proofs.lemmas.Nat.Bits.{bit_at-lt, bit_at_and, bit_at_not, bit_at_above}
+use Rattle.std.proofs.lemmas.Nat.Bits.{bit_at-zero, bit_at-lt, bit_at_and, bit_at_not, bit_at_above}
 use Rattle.tag_layout.specs.Layout.{Layout, word_bits, words, word_of, place_of, tag_at, word_depth}
 use Rattle.tag_layout.proofs.SumFacts.{sum_below-same, sum_below-split}
 use Rattle.tag_layout.proofs.PlaceFacts.{word-start, depth-le-words, word_of-tag_at, place_of-tag_at}
@@ -23,6 +24,14 @@ busy_bits (suc zero) (suc zero) h k = refl
 busy_bits (suc (suc b)) a h k = absurd (omega arith)
 busy_bits zero (suc (suc a)) h k = absurd (omega arith)
 busy_bits (suc zero) (suc (suc a)) h k = absurd (omega arith)
+
+-- a bit that is clear or aside
+idle_bits : (b a : ℕ) → b < 2 → a < 2 → min b (1 - a) ≡ 0 → not (nat_eq b 0 || nat_eq a 1) ≡ false
+idle_bits zero a h k e = refl
+idle_bits (suc zero) (suc zero) h k e = refl
+idle_bits (suc zero) zero h k e = absurd (omega arith)
+idle_bits (suc (suc b)) a h k e = absurd (omega arith)
+idle_bits (suc zero) (suc (suc a)) h k e = absurd (omega arith)
 
 aside_bits : (a : ℕ) → a < 2 → cond (nat_eq a 1) 1 0 ≡ a
 aside_bits zero h = refl
@@ -46,6 +55,27 @@ aside_place a u place low one =
     let below : nat_lt place 64 ≡ true = search (rules, low) in
     let used = bit_at_and a u place in let b = bit_at-lt a place in
     ap (λ (t : Bool). cond (t && nat_eq (bit_at a place) 1) 1 0) below ∙ aside_bits (bit_at a place) b ∙ omega arith
+
+-- a number that is not found different from 0
+pub zero_of : (x : ℕ) → not (nat_eq x 0) ≡ false → x ≡ 0
+zero_of x e = eqb-true x 0 (true_of (nat_eq x 0) e)
+  where
+    true_of : (b : Bool) → not b ≡ false → b ≡ true
+    true_of true f = refl
+    true_of false f = sym f
+
+-- where no bit is both set and not aside, no place is busy
+pub idle_place : (p : Plain) (i place : ℕ) → place < 64 → slice_index p.aside i < 2 ^ 64
+    → bit_and (slice_index p.word i) (bit_not w64 (slice_index p.aside i)) ≡ 0
+    → is_busy (pool_of (words_of p)) i place ≡ false
+idle_place p i place low fits none =
+    let n : ℕ = slice_index p.word i in let a : ℕ = slice_index p.aside i in
+    let below : nat_lt place 64 ≡ true = search (rules, low) in
+    let both = bit_at_and n (bit_not w64 a) place in let other = bit_at_not w64 a place fits low in
+    let zero_bit : bit_at (bit_and n (bit_not w64 a)) place ≡ 0 =
+    ap (λ (x : ℕ). bit_at x place) none ∙ bit_at-zero place in
+    ap (λ (t : Bool). not ((t && nat_eq (bit_at n place) 0) || (t && nat_eq (bit_at a place) 1))) below
+    ∙ idle_bits (bit_at n place) (bit_at a place) (bit_at-lt n place) (bit_at-lt a place) (omega arith)
 
 module _ (l : Layout) (test : ℕ → Bool) where
   -- the tags up to the end of a word that pass a test are those before it, and the bits of the word's mask

@@ -1,5 +1,5 @@
 //! The held tags, as a list and as bytes.
-ghost use Rattle.std.specs.Prelude.{◌≡◌, ◌^◌, ◌<◌, IfOk};
+ghost use Rattle.std.specs.Prelude.{ℕ, false, ◌≡◌, ◌^◌, ◌<◌, IfOk};
 ghost use Rattle.tag_script.specs.Commands.{busy_tags, dump_bytes};
 ghost use Rattle.tag_script.specs.Dump.{held_byte};
 ghost use Rattle.tag_script.specs.Players.{solo_of};
@@ -10,13 +10,21 @@ use std::alloc::AllocError;
 
 impl Player {
     /// The tags that the caller holds, ascending.
-    pub(crate) fn busy(&self) -> Result<BusyTags, AllocError>
-        ensures { IfOk result (λ tags. tags ≡ busy_tags (solo_of self.now)) }
+    pub(crate) fn busy(&mut self) -> Result<BusyTags, AllocError>
+        ensures same { solo_of self.new ≡ solo_of self.old }
+        ensures tags { IfOk result (λ tags. tags ≡ busy_tags (solo_of self.old)) }
     {
+        let layout = self.layout();
         let mut tags = Vec::new(self.alloc());
-        for tag in 0..self.layout().depth() {
-            if self.holds(tag) {
-                tags.push(tag)?;
+        for word in 0..layout.words() {
+            if !self.holds_any(word) {
+                continue;
+            }
+            for place in 0..layout.word_depth(word) {
+                let tag = layout.tag_at(word, place);
+                if self.holds(tag) {
+                    tags.push(tag)?;
+                }
             }
         }
         Ok(BusyTags::new(tags))

@@ -1,7 +1,7 @@
 //! One caller alone with a map, as a script moves it.
-ghost use Rattle.std.specs.Prelude.{◌≡◌, ◌+◌, ◌*◌, ◌^◌, ◌<◌, ◌≤◌, IfOk, ◌↔◌, IsTrue};
+ghost use Rattle.std.specs.Prelude.{ℕ, false, min, ◌≡◌, ◌+◌, ◌*◌, ◌^◌, ◌<◌, ◌≤◌, IfOk, ◌↔◌, IsTrue};
 ghost use Rattle.tag_script.specs.Solo.{opened, Gets, GetsShallow, Batches, Clears, ClearsBatch, won_in, held_in, aside_in};
-ghost use Rattle.tag_layout.specs.Layout.{word_bits};
+ghost use Rattle.tag_layout.specs.Layout.{word_bits, words, tag_at};
 ghost use Rattle.tag_script.specs.Commands.{get_visits, shown_of};
 ghost use Rattle.tag_script.specs.Dump.{is_held_tag};
 ghost use Rattle.tag_script.specs.Players.{solo_of, IsReadyFor, Counted};
@@ -169,6 +169,16 @@ impl Player {
             aside += (cleared & usable).count_ones();
         }
         (held, aside)
+    }
+
+    /// Whether the caller holds a tag of the word. Where it does not, no tag of the word is listed.
+    pub(crate) fn holds_any(&mut self, word: u32) -> bool
+        requires { word < words (solo_of self.old).layout }
+        ensures same { solo_of self.new ≡ solo_of self.old }
+        ensures none { result ≡ false → (place : ℕ) → place < min 64 (word_bits (solo_of self.old).layout)
+            → is_held_tag (solo_of self.old) (tag_at (solo_of self.old).layout word place) ≡ false }
+    {
+        self.port.look(word) & !self.port.look_aside(word) != 0
     }
 
     /// The caller holds the tag. None behind the last is held.

@@ -1,10 +1,21 @@
--- The held tags so far stand in the list.
-use Rattle.std.proofs.Common.{◌≡◌}
+-- The held tags of the words so far stand in the list, and those of the places so far of the next word.
+use Rattle.std.proofs.Common.{◌≡◌, ◌+◌, ◌*◌, min}
 use Rattle.std.specs.Prelude.{filter}
+use Rattle.tag_layout.specs.Layout.{word_bits}
 use Rattle.tag_script.specs.Dump.{range, is_held_tag}
 use Rattle.tag_script.specs.Players.{solo_of}
 use Rattle.tag_script.proofs.player.Player.busy.Given as goal
 
--- the held tags so far stand in the list
-abbrev pub invariant-loop-tag : goal.invariant-loop-tag
-invariant-loop-tag l = l.tags.items ≡ filter (is_held_tag (solo_of l.fn.self)) (range l.tag)
+abbrev pub invariant-loop-word : goal.invariant-loop-word
+invariant-loop-word l = record {
+  same : solo_of l.self ≡ solo_of l.fn.self;
+  listed : l.tags.items ≡ filter (is_held_tag (solo_of l.fn.self))
+      (range (min (l.word * word_bits (solo_of l.fn.self).layout) (solo_of l.fn.self).layout.depth));
+}
+
+abbrev pub invariant-loop-place : goal.invariant-loop-place
+invariant-loop-place l = record {
+  same : solo_of l.self ≡ solo_of l.fn.self;
+  listed : l.tags.items ≡ filter (is_held_tag (solo_of l.fn.self))
+      (range (l.word * word_bits (solo_of l.fn.self).layout + l.place));
+}
