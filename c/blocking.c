@@ -1,16 +1,15 @@
 /*
  * Threads that sleep until a tag is free.
  *
- * The library cannot sleep, but it counts who waits, and a clear answers how
- * many it granted a wakeup. Whoever is about to sleep reads the bell first,
- * enters a wait group next, and then tries once more. So each tag that this try
- * found taken is cleared after the hand entered the group, and is counted; and
- * each ring after the bell was read ends the sleep, or keeps it from beginning.
+ * The library cannot sleep, but it counts the waiters, and a clear returns how
+ * many of them it granted a wakeup. A thread that is about to sleep first reads
+ * the bell, then enters a wait group, and then tries once more. So each tag that
+ * this try found taken is cleared after the hand entered the group, and is
+ * counted; and each ring after the bell was read ends the sleep or prevents it.
  *
- * A ring wakes all who sleep, since the answer of a clear does not tell in which
- * groups the grants stand. To wake as many threads as there are grants could
- * leave asleep one whose group has a grant, which no later clear would grant to
- * again.
+ * A ring wakes all sleepers, since a clear does not report which groups got the
+ * grants. Waking only as many threads as there are grants could leave a thread
+ * asleep whose group has a grant, and no later clear would grant it another.
  */
 #define _GNU_SOURCE
 #include "tags.h"
@@ -20,7 +19,7 @@
 #include <sys/syscall.h>
 #include <unistd.h>
 
-/* The kernel compares the word with @rings, so no ring is missed on the way. */
+/* The kernel compares the word with @rings before it sleeps, so no ring is missed. */
 static void sleep_until_rung(struct tags_bell *bell, uint32_t rings)
 {
 	while (__atomic_load_n(&bell->rings, __ATOMIC_SEQ_CST) == rings)
@@ -33,7 +32,7 @@ static void leave_group(struct tags_hand *hand)
 		;
 }
 
-/* Without ordinary tags a wait would never end. */
+/* Refuses a pool without ordinary tags, where a wait would never end. */
 static int32_t find_ordinary(struct tags_hand *hand)
 {
 	struct tags_sizes sizes;
@@ -44,7 +43,7 @@ static int32_t find_ordinary(struct tags_hand *hand)
 	return status;
 }
 
-/* The tag, or TAGS_NO_TAG after a sleep. */
+/* Returns a tag, or TAGS_NO_TAG after a sleep. */
 static int32_t get_or_sleep(struct tags_hand *hand, struct tags_bell *bell)
 {
 	uint32_t rings = __atomic_load_n(&bell->rings, __ATOMIC_SEQ_CST);

@@ -1,4 +1,4 @@
-/* A sentence for each status. */
+/* A description of each status. */
 #include "tags.h"
 
 static const char *const sentences[] = {

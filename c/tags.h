@@ -1,36 +1,34 @@
 /*
  * tags.h - a pool of tags that threads share without a lock
  *
- * A tag is a small number, and beside it lies a slot of 64 bits. A tag is free,
- * held by one hand, or posted. Each thread works through a hand of its own, and
- * a pool has 1 to 64 of them. The first tags of a pool can be reserved: only
- * tags_get_reserved() takes these.
+ * A tag is a small number with a slot of 64 bits. It is free, held by one hand,
+ * or posted. Each thread uses a hand of its own, and a pool has 1 to 64 hands.
+ * The first tags of a pool can be reserved: only tags_get_reserved() takes them.
  *
  * The library is proved: under every schedule of the threads no tag and no slot
  * ever has two holders, no call changes what another hand holds, and the sums
- * that tags_close() fills in balance. The functions of this header that are
- * written in C, tags_get_blocking(), tags_ring() and tags_strerror(), are
- * tested and not proved.
+ * that tags_close() fills in balance. tags_get_blocking(), tags_ring() and
+ * tags_strerror() are written in C; they are tested, not proved.
  *
  * Threads
- *   A handle, which is a struct tags_pool or a struct tags_hand, is in one call
- *   at a time. It may pass from thread to thread, ordered as by a mutex or by
+ *   A handle, a struct tags_pool or a struct tags_hand, may be in one call at a
+ *   time. It may be passed to another thread, synchronized as by a mutex or by
  *   pthread_join(). Handles of one pool may be in calls at once, on any threads.
  *   Only tags_get_blocking() blocks, and only tags_open() and tags_join() take
  *   memory. No call may be made from a signal handler, or in the forked child of
  *   a process with threads.
  *
  * Arguments
- *   Each pointer is NULL, or points to an object of its type that overlaps no
- *   other. A handle is not copied: the copy would be a second owner. Beyond that
- *   no argument leads to undefined behaviour. NULL, an empty handle, a handle of
- *   the other kind, a tag that is out of range or not held and a list of a wrong
- *   size are refused by a status, and a refused call changes nothing. NULL is
- *   refused before anything else, by TAGS_NULL.
+ *   Each pointer must be NULL or point to an object of its type that overlaps no
+ *   other. A handle must not be copied, since the copy would be a second owner.
+ *   Within these rules no argument leads to undefined behaviour. NULL, an empty
+ *   handle, a handle of the other kind, a tag that is out of range or not held
+ *   and a list of a wrong size are refused with a negative status, and a refused
+ *   call changes nothing. NULL is checked first, and refused with TAGS_NULL.
  *
  * Numbers
- *   A pool has at most 10,240 tags. A hand may take 2^48 tags of each set in its
- *   life, and count 2^56 completions.
+ *   A pool has at most 10,240 tags. In its life, a hand may take up to 2^48 tags
+ *   of each set and count up to 2^56 completions.
  */
 #ifndef TAGS_H
 #define TAGS_H
@@ -52,35 +50,35 @@ extern "C" {
 #define TAGS_CHECKED static inline
 #endif
 
-/** enum tags_status - how a call ended that has no number to answer */
+/** enum tags_status - what a call returns that has no tag and no count to return */
 enum tags_status {
 	/** done */
 	TAGS_OK = 0,
-	/** the pool has no such tag, or no such ordinary tag where one is asked for */
+	/** the pool has no such tag, or no such ordinary tag if the call needs one */
 	TAGS_NO_SUCH_TAG = -1,
 	/** the pool was opened without reserved tags */
 	TAGS_NO_RESERVED = -2,
 	/** this hand does not hold the tag */
 	TAGS_NOT_HELD = -3,
-	/** nobody has posted the tag, or another hand was first */
+	/** the tag is not posted, or another hand has taken it first */
 	TAGS_NOT_POSTED = -4,
-	/** a batch of no tag, or of more than fit */
+	/** a batch of 0 tags, or of more than the call allows */
 	TAGS_BAD_COUNT = -5,
 	/** a depth of 0, or below the pool's min_shallow */
 	TAGS_TOO_SHALLOW = -6,
-	/** the hand might take more tags than its life allows */
+	/** the call could take the hand past its limit of 2^48 tags */
 	TAGS_SPENT = -7,
-	/** the hand stands in a wait group already */
+	/** the hand is already in a wait group */
 	TAGS_WAITING = -8,
-	/** the hand stands in no wait group */
+	/** the hand is in no wait group */
 	TAGS_NOT_WAITING = -9,
-	/** each tag that was looked at was taken at some moment of the call */
+	/** no free tag was found: each tag checked was taken at some moment of the call */
 	TAGS_NO_TAG = -10,
 	/** the wait group changed during the call: try again */
 	TAGS_AGAIN = -11,
 	/** the handle is empty, or of the other kind */
 	TAGS_BAD_HANDLE = -12,
-	/** the handle that is to be filled is not empty */
+	/** the handle to be filled is not empty */
 	TAGS_NOT_EMPTY = -13,
 	/** all hands of the pool are out */
 	TAGS_NO_HAND = -14,
@@ -92,11 +90,11 @@ enum tags_status {
 	TAGS_TOO_SMALL = -17,
 	/** a flag that the call does not know */
 	TAGS_BAD_FLAG = -18,
-	/** a hand that came back found no room; it is not expected */
+	/** the pool has no room for the hand that leaves; this is not expected */
 	TAGS_NO_BERTH = -19,
 	/** a hand was missing at the end, and there are no sums; it is not expected */
 	TAGS_HAND_LOST = -20,
-	/** the system has no memory to give */
+	/** out of memory */
 	TAGS_NO_MEMORY = -21,
 	/** more than TAGS_MAX_TOTAL tags */
 	TAGS_TOTAL_TOO_LARGE = -22,
@@ -104,11 +102,11 @@ enum tags_status {
 	TAGS_RESERVED_TOO_LARGE = -23,
 	/** a shift above TAGS_MAX_SHIFT */
 	TAGS_SHIFT_TOO_LARGE = -24,
-	/** no hand, or more than TAGS_MAX_HANDS */
+	/** 0 hands, or more than TAGS_MAX_HANDS */
 	TAGS_BAD_HAND_COUNT = -25,
-	/** a life above 2^48; no call of this header asks for one */
+	/** a limit above 2^48 tags per hand; no call of this header sets one */
 	TAGS_LIFE_TOO_LONG = -26,
-	/** a cap above 2^56; no call of this header asks for one */
+	/** a limit above 2^56 completions per hand; no call of this header sets one */
 	TAGS_CAP_TOO_LARGE = -27,
 	/** a pointer is NULL */
 	TAGS_NULL = -28
@@ -125,52 +123,52 @@ enum {
 	TAGS_MAX_BATCH = 64
 };
 
-/** struct tags_pool - the handle of a pool; all bytes 0 is an empty one */
+/** struct tags_pool - the handle of a pool; it is empty if all bytes are 0 */
 struct tags_pool {
-	/** @full: the library's own, as is @object */
+	/** @full: private to the library, as is @object */
 	uint64_t full;
 	void *object;
 };
 
-/** struct tags_hand - the handle of a hand; all bytes 0 is an empty one */
+/** struct tags_hand - the handle of a hand; it is empty if all bytes are 0 */
 struct tags_hand {
-	/** @full: the library's own, as is @object */
+	/** @full: private to the library, as is @object */
 	uint64_t full;
 	void *object;
 };
 
-/** struct tags_bell - what threads that wait for a tag sleep on; all bytes 0 is a new one */
+/** struct tags_bell - the futex on which threads wait for a tag; initially all bytes 0 */
 struct tags_bell {
-	/** @rings: how often it rang; the library's own */
+	/** @rings: how often it rang; private to the library */
 	uint32_t rings;
 };
 
-/** what an empty handle is initialized with */
+/** initializer of an empty handle */
 #define TAGS_EMPTY { 0, 0 }
 
-/** what a bell is initialized with */
+/** initializer of a bell */
 #define TAGS_BELL { 0 }
 
-/** @shift of struct tags_options: the largest words that still give the pool four */
+/** @shift of struct tags_options: the largest that gives a set of 4 tags or more 4 whole words */
 #define TAGS_DEFAULT_SHIFT (-1)
 
 /** enum tags_option_flags - @flags of struct tags_options */
 enum tags_option_flags {
-	/** each get begins behind the last tag won, so a tag is reused as late as possible */
+	/** each get begins after the last tag won, so a tag is reused as late as possible */
 	TAGS_ROUND_ROBIN = 1
 };
 
-/** struct tags_options - how a pool is opened */
+/** struct tags_options - the options of tags_open() */
 struct tags_options {
-	/** @total: tags in all, at most TAGS_MAX_TOTAL */
+	/** @total: number of tags, at most TAGS_MAX_TOTAL */
 	uint32_t total;
-	/** @reserved: how many of them, from tag 0 on, are reserved */
+	/** @reserved: how many of them are reserved, from tag 0 */
 	uint32_t reserved;
-	/** @shift: binary logarithm of the tags in a word, at most 6, or TAGS_DEFAULT_SHIFT */
+	/** @shift: log2(tags per word), at most 6, or TAGS_DEFAULT_SHIFT */
 	int32_t shift;
-	/** @min_shallow: the least depth that tags_get_shallow() will be given; 0: it may be any */
+	/** @min_shallow: the least depth that may be passed to tags_get_shallow(); 0 is as 1 */
 	uint32_t min_shallow;
-	/** @hands: threads that take tags, 1 to TAGS_MAX_HANDS */
+	/** @hands: number of hands, 1 to TAGS_MAX_HANDS */
 	uint32_t hands;
 	/** @flags: 0, or TAGS_ROUND_ROBIN */
 	uint32_t flags;
@@ -178,7 +176,7 @@ struct tags_options {
 
 /** enum tags_join_flags - flags of tags_join() */
 enum tags_join_flags {
-	/** the hand's gets go on where they left off, at tag 0 at first, and not in its own part */
+	/** the hand's gets go on where they left off, first at tag 0, instead of in its own part */
 	TAGS_STAY = 1
 };
 
@@ -188,33 +186,33 @@ enum tags_kind {
 	TAGS_RESERVED = 1
 };
 
-/** struct tags_sizes - what tags_show() tells of a set */
+/** struct tags_sizes - what tags_show() reports of a set */
 struct tags_sizes {
-	/** @depth: tags of the set */
+	/** @depth: number of tags in the set */
 	uint32_t depth;
 	/** @busy: tags found held or posted */
 	uint32_t busy;
 	/** @cleared: tags found given back, and not yet swept for reuse */
 	uint32_t cleared;
-	/** @bits_per_word: tags in a whole word */
+	/** @bits_per_word: tags per word; the last word can have fewer */
 	uint32_t bits_per_word;
-	/** @words: words of the set */
+	/** @words: number of words of the set */
 	uint32_t words;
 };
 
-/** struct tags_counts - what tags_wakes() tells of completions and waiters */
+/** struct tags_counts - what tags_wakes() reports of completions and waiters */
 struct tags_counts {
-	/** @counted: tags given back while a hand stood in a wait group */
+	/** @counted: ordinary tags given back while some hand was in a wait group */
 	uint64_t counted;
-	/** @charged: those of them that are charged to a batch of wakeups, at most @counted */
+	/** @charged: those charged so far, a batch at a time; at most @counted */
 	uint64_t charged;
-	/** @active: hands that stand in a wait group */
+	/** @active: hands in a wait group */
 	uint64_t active;
-	/** @index: the wait group that the next wakeups begin at, below 8 */
+	/** @index: the wait group that the next wakeup visits first, below 8 */
 	uint32_t index;
 };
 
-/** struct tags_sums - what all hands of a pool did: got == back + held + posted */
+/** struct tags_sums - sums over all hands of a pool: got == back + held + posted */
 struct tags_sums {
 	/** @got: tags taken from the pool */
 	uint64_t got;
@@ -222,22 +220,22 @@ struct tags_sums {
 	uint64_t back;
 	/** @held: tags that a hand still holds */
 	uint64_t held;
-	/** @posted: tags that are posted still */
+	/** @posted: tags that are still posted */
 	uint64_t posted;
 	/** @counted: completions counted: issued <= charged <= counted <= back */
 	uint64_t counted;
-	/** @charged: completions charged to a batch of wakeups */
+	/** @charged: completions charged, a batch at a time */
 	uint64_t charged;
 	/** @issued: wakeups granted */
 	uint64_t issued;
-	/** @used: wakeups that a tags_finish() found */
+	/** @used: wakeups that tags_finish() used up */
 	uint64_t used;
 };
 
 /*
- * What the library exports. It takes no NULL, so each of these is called through
- * a function below, which costs nothing where a compiler sees that a pointer is
- * not NULL.
+ * The exports of the library. They must not be given NULL, so each of them is
+ * called through a function below. Its check costs nothing if the compiler sees
+ * that a pointer is not NULL.
  */
 int32_t tags_library_open(struct tags_pool *pool, const struct tags_options *options);
 int32_t tags_library_join(struct tags_pool *pool, struct tags_hand *hand, uint32_t flags);
@@ -267,10 +265,10 @@ int32_t tags_library_finish(struct tags_hand *hand);
 /**
  * tags_open() - fill an empty handle with a new pool
  * @pool: an empty handle
- * @options: how it is opened
+ * @options: its options
  *
- * All tags are free and all slots are 0. All memory of the pool is taken here,
- * but for some 500 bytes a hand.
+ * All tags are free and all slots are 0. All memory of the pool is allocated
+ * here, except for some 500 bytes per hand, which tags_join() allocates.
  *
  * Return: TAGS_OK. Otherwise the first of TAGS_NOT_EMPTY, TAGS_BAD_FLAG,
  * TAGS_TOTAL_TOO_LARGE, TAGS_RESERVED_TOO_LARGE, TAGS_SHIFT_TOO_LARGE,
@@ -291,10 +289,10 @@ TAGS_CHECKED int32_t tags_open(struct tags_pool *pool, const struct tags_options
  * @hand: an empty handle
  * @flags: 0, or TAGS_STAY
  *
- * A hand that left and joins again still holds what it held. Without TAGS_STAY
- * its gets begin in a part of the tags of its own, so that threads meet less.
+ * A hand that left and joins again still holds its tags. Without TAGS_STAY its
+ * gets begin in its own part of the tags, which reduces contention.
  *
- * Threads: it is a call on both handles, so two threads join in turn.
+ * Threads: this is a call on both handles, so threads must join one at a time.
  *
  * Return: TAGS_OK. Otherwise the first of TAGS_NOT_EMPTY, TAGS_BAD_HANDLE (of
  * @pool), TAGS_BAD_FLAG, TAGS_NO_HAND and TAGS_NO_MEMORY that applies.
@@ -311,12 +309,12 @@ TAGS_CHECKED int32_t tags_join(struct tags_pool *pool, struct tags_hand *hand, u
 }
 
 /**
- * tags_leave() - bring a hand back to its pool, and empty its handle
+ * tags_leave() - return a hand to its pool, and empty its handle
  * @hand: the hand
  *
- * What the hand holds stays held, by this hand alone, until some thread joins
- * as this hand again. The hand goes back to the pool that it came from, whatever
- * became of the pool's own handle.
+ * The hand keeps the tags that it holds, and the next thread that joins as this
+ * hand can use them. The hand goes back to the pool that it came from, whatever
+ * has become of the pool's own handle.
  *
  * Return: TAGS_OK, or TAGS_BAD_HANDLE.
  *
@@ -332,7 +330,7 @@ TAGS_CALL int32_t tags_leave(struct tags_hand *hand)
 /**
  * tags_close() - end a pool whose hands are all back, and empty its handle
  * @pool: the pool
- * @sums: is filled in with what the hands did
+ * @sums: filled in with the sums over all hands
  *
  * Return: TAGS_OK, TAGS_BAD_HANDLE, or TAGS_HANDS_OUT, after which the pool is
  * as it was.
@@ -347,18 +345,18 @@ TAGS_CHECKED int32_t tags_close(struct tags_pool *pool, struct tags_sums *sums)
 }
 
 /*
- * Tags are taken
+ * Taking tags
  */
 
 /**
  * tags_get() - take a free ordinary tag
- * @hand: whose the tag is from now on
+ * @hand: the hand that gets the tag
  *
- * What the slot of the tag has is not said: write it before you read it.
+ * The value of the tag's slot is unspecified: write it before you read it.
  *
- * Return: the tag. TAGS_NO_TAG says that each tag was found taken at some
- * moment of the call, not that all were at one moment. TAGS_BAD_HANDLE or
- * TAGS_SPENT.
+ * Return: the tag. TAGS_NO_TAG means that each tag was found taken at some
+ * moment of the call, not that all were taken at one moment. Otherwise
+ * TAGS_BAD_HANDLE or TAGS_SPENT.
  *
  * Since: 0.1
  */
@@ -371,9 +369,9 @@ TAGS_CHECKED int32_t tags_get(struct tags_hand *hand)
 
 /**
  * tags_get_reserved() - take a free reserved tag
- * @hand: whose the tag is from now on
+ * @hand: the hand that gets the tag
  *
- * Return: the tag, or TAGS_NO_TAG as from tags_get(). TAGS_BAD_HANDLE,
+ * Return: the tag, or TAGS_NO_TAG as from tags_get(). Otherwise TAGS_BAD_HANDLE,
  * TAGS_NO_RESERVED or TAGS_SPENT.
  *
  * Since: 0.1
@@ -386,15 +384,15 @@ TAGS_CHECKED int32_t tags_get_reserved(struct tags_hand *hand)
 }
 
 /**
- * tags_get_shallow() - take one of so many ordinary tags
- * @hand: whose the tag is from now on
- * @depth: how many of the ordinary tags may be taken by such calls
+ * tags_get_shallow() - take an ordinary tag within a limit
+ * @hand: the hand that gets the tag
+ * @depth: how many of the ordinary tags calls with this depth may use, at least 1
  *
- * For work of a lower class, which leaves the other tags to tags_get(). The
- * depth is shared out over the words, and a word's share can be 0.
+ * For requests of lower priority, which leave the other tags to tags_get(). The
+ * depth is distributed over the words, and the share of a word can be 0.
  *
- * Return: the tag, or TAGS_NO_TAG, which says it of this share. TAGS_BAD_HANDLE,
- * TAGS_TOO_SHALLOW or TAGS_SPENT.
+ * Return: the tag, or TAGS_NO_TAG as from tags_get(), but of the tags within the
+ * limit. Otherwise TAGS_BAD_HANDLE, TAGS_TOO_SHALLOW or TAGS_SPENT.
  *
  * Since: 0.1
  */
@@ -406,17 +404,18 @@ TAGS_CHECKED int32_t tags_get_shallow(struct tags_hand *hand, uint32_t depth)
 }
 
 /**
- * tags_get_batch() - take up to @n ordinary tags that lie side by side
- * @hand: whose the tags are from now on
- * @n: how many, 1 to the tags in a word
- * @won: where there is a tag, is filled in with a mask of the tags won
+ * tags_get_batch() - take up to @n ordinary tags out of a run of @n
+ * @hand: the hand that gets the tags
+ * @n: how many, from 1 to the number of tags per word
+ * @won: filled in with the mask of the tags won, if there are any
  *
- * The lowest bit of the mask stands for the tag that is returned, the next one
- * for the tag after it. A batch can be smaller than asked for, even while more
- * tags are free. Under TAGS_ROUND_ROBIN there is never one.
+ * Bit i of the mask is 1 if the hand won the tag with the number returned plus i.
+ * The batch can be smaller than @n, even while more tags are free, and another
+ * thread may have taken the first tag of the run. With TAGS_ROUND_ROBIN there is
+ * never a batch.
  *
- * Return: the first tag, or TAGS_NO_TAG. TAGS_BAD_HANDLE, TAGS_BAD_COUNT or
- * TAGS_SPENT.
+ * Return: the first tag of the run, or TAGS_NO_TAG. Otherwise TAGS_BAD_HANDLE,
+ * TAGS_BAD_COUNT or TAGS_SPENT.
  *
  * Since: 0.1
  */
@@ -428,17 +427,18 @@ TAGS_CHECKED int32_t tags_get_batch(struct tags_hand *hand, uint32_t n, uint64_t
 }
 
 /*
- * Tags come back
+ * Giving tags back
  */
 
 /**
  * tags_clear() - give a held tag back
- * @hand: who holds it
+ * @hand: the hand that holds it
  * @tag: the tag
  *
  * Return: how many waiters were granted a wakeup, which is 0 unless some hand
- * stands in a wait group: pass it to tags_ring() if threads wait by
- * tags_get_blocking(). TAGS_BAD_HANDLE, TAGS_NO_SUCH_TAG or TAGS_NOT_HELD.
+ * is in a wait group. Pass it to tags_ring() if threads wait with
+ * tags_get_blocking(). Otherwise TAGS_BAD_HANDLE, TAGS_NO_SUCH_TAG or
+ * TAGS_NOT_HELD.
  *
  * Since: 0.1
  */
@@ -450,17 +450,17 @@ TAGS_CALL int32_t tags_clear(struct tags_hand *hand, uint32_t tag)
 }
 
 /**
- * tags_clear_batch() - give ordinary tags back at once
- * @hand: who holds them
+ * tags_clear_batch() - give several ordinary tags back
+ * @hand: the hand that holds them
  * @tags: the tags, each of them once
  * @count: how many, 1 to TAGS_MAX_BATCH
  *
- * Tags of one word that follow each other in the list are given back by one
- * step. They need not have come from one batch.
+ * Consecutive tags of the list that belong to one word are given back in one
+ * step. The tags need not come from one batch.
  *
- * Return: as tags_clear(). The first of TAGS_BAD_HANDLE, TAGS_BAD_COUNT,
- * TAGS_NO_SUCH_TAG and TAGS_NOT_HELD that applies to any of the list; then none
- * is given back.
+ * Return: as tags_clear(). Otherwise the first of TAGS_BAD_HANDLE,
+ * TAGS_BAD_COUNT, TAGS_NO_SUCH_TAG and TAGS_NOT_HELD that applies to any tag of
+ * the list; then no tag is given back.
  *
  * Since: 0.1
  */
@@ -472,16 +472,16 @@ TAGS_CALL int32_t tags_clear_batch(struct tags_hand *hand, const uint32_t *tags,
 }
 
 /*
- * Slots, and tags from hand to hand
+ * Using slots, and passing tags from hand to hand
  */
 
 /**
  * tags_read() - read the slot of a held tag
- * @hand: who holds it
+ * @hand: the hand that holds it
  * @tag: the tag
- * @value: is filled in
+ * @value: filled in with the value
  *
- * Return: TAGS_OK. TAGS_BAD_HANDLE, TAGS_NO_SUCH_TAG or TAGS_NOT_HELD.
+ * Return: TAGS_OK. Otherwise TAGS_BAD_HANDLE, TAGS_NO_SUCH_TAG or TAGS_NOT_HELD.
  *
  * Since: 0.1
  */
@@ -494,12 +494,12 @@ TAGS_CALL int32_t tags_read(struct tags_hand *hand, uint32_t tag, uint64_t *valu
 
 /**
  * tags_write() - write the slot of a held tag
- * @hand: who holds it
+ * @hand: the hand that holds it
  * @tag: the tag
- * @value: a number, or a pointer by way of uintptr_t
- * @former: is filled in with what the slot had
+ * @value: a number, or a pointer cast to uintptr_t
+ * @former: filled in with the former value
  *
- * Return: TAGS_OK. TAGS_BAD_HANDLE, TAGS_NO_SUCH_TAG or TAGS_NOT_HELD.
+ * Return: TAGS_OK. Otherwise TAGS_BAD_HANDLE, TAGS_NO_SUCH_TAG or TAGS_NOT_HELD.
  *
  * Since: 0.1
  */
@@ -512,14 +512,14 @@ TAGS_CALL int32_t tags_write(struct tags_hand *hand, uint32_t tag, uint64_t valu
 }
 
 /**
- * tags_post() - hand a held tag on, with its slot
- * @hand: who holds it until then
+ * tags_post() - offer a held tag, with its slot, to all hands of the pool
+ * @hand: the hand that holds it
  * @tag: the tag
  *
- * The tag is posted until some hand of the pool takes it. Whatever the poster
- * wrote before, to the slot or to memory that it names, is seen by the taker.
+ * The tag is posted until some hand of the pool takes it. That hand sees
+ * whatever the poster wrote before, to the slot or to memory that it points to.
  *
- * Return: TAGS_OK. TAGS_BAD_HANDLE, TAGS_NO_SUCH_TAG or TAGS_NOT_HELD.
+ * Return: TAGS_OK. Otherwise TAGS_BAD_HANDLE, TAGS_NO_SUCH_TAG or TAGS_NOT_HELD.
  *
  * Since: 0.1
  */
@@ -532,10 +532,11 @@ TAGS_CALL int32_t tags_post(struct tags_hand *hand, uint32_t tag)
 
 /**
  * tags_take() - take a posted tag, with its slot
- * @hand: who holds it from now on
+ * @hand: the hand that gets it
  * @tag: the tag
  *
- * Return: TAGS_OK. TAGS_BAD_HANDLE, TAGS_NO_SUCH_TAG or TAGS_NOT_POSTED.
+ * Return: TAGS_OK. Otherwise TAGS_BAD_HANDLE, TAGS_NO_SUCH_TAG or
+ * TAGS_NOT_POSTED.
  *
  * Since: 0.1
  */
@@ -551,7 +552,7 @@ TAGS_CHECKED int32_t tags_take(struct tags_hand *hand, uint32_t tag)
  * @hand: the hand
  * @tag: the tag
  *
- * Return: 1 or 0. TAGS_BAD_HANDLE or TAGS_NO_SUCH_TAG.
+ * Return: 1 or 0. Otherwise TAGS_BAD_HANDLE or TAGS_NO_SUCH_TAG.
  *
  * Since: 0.1
  */
@@ -563,17 +564,17 @@ TAGS_CHECKED int32_t tags_holds(struct tags_hand *hand, uint32_t tag)
 }
 
 /*
- * Looks. Each loads one word after another: while other threads work, the answer
- * is of no single moment.
+ * Reports. Each call loads one word after another, so while other threads work,
+ * its answer is not that of a single moment.
  */
 
 /**
- * tags_busy() - which tags of both sets are held or posted
- * @hand: who looks
- * @into: bit t % 64 of into[t / 64] becomes 1 if tag t is, and each other bit 0
- * @words: how many there are, at least a 64th of the tags, rounded up
+ * tags_busy() - report which tags of both sets are busy, that is held or posted
+ * @hand: a hand of the pool
+ * @into: bit t % 64 of into[t / 64] becomes 1 if tag t is busy, every other bit 0
+ * @words: length of @into, at least a 64th of the pool's tags, rounded up
  *
- * Return: how many tags are. TAGS_BAD_HANDLE or TAGS_TOO_SMALL.
+ * Return: how many tags are busy. Otherwise TAGS_BAD_HANDLE or TAGS_TOO_SMALL.
  *
  * Since: 0.1
  */
@@ -585,12 +586,12 @@ TAGS_CALL int32_t tags_busy(struct tags_hand *hand, uint64_t *into, size_t words
 }
 
 /**
- * tags_show() - the sizes of a set of tags
- * @hand: who looks
+ * tags_show() - report the sizes of a set of tags
+ * @hand: a hand of the pool
  * @kind: TAGS_ORDINARY or TAGS_RESERVED
- * @sizes: is filled in
+ * @sizes: filled in
  *
- * Return: TAGS_OK. TAGS_BAD_HANDLE or TAGS_BAD_KIND.
+ * Return: TAGS_OK. Otherwise TAGS_BAD_HANDLE or TAGS_BAD_KIND.
  *
  * Since: 0.1
  */
@@ -602,9 +603,9 @@ TAGS_CALL int32_t tags_show(struct tags_hand *hand, uint32_t kind, struct tags_s
 }
 
 /**
- * tags_wakes() - the counts of completions and of waiters
- * @hand: who looks
- * @counts: is filled in
+ * tags_wakes() - report the counts of completions and of waiters
+ * @hand: a hand of the pool
+ * @counts: filled in
  *
  * Return: TAGS_OK or TAGS_BAD_HANDLE.
  *
@@ -618,26 +619,26 @@ TAGS_CALL int32_t tags_wakes(struct tags_hand *hand, struct tags_counts *counts)
 }
 
 /*
- * Waits for an ordinary tag
+ * Waiting for an ordinary tag
  */
 
 /**
  * tags_get_blocking() - take a free ordinary tag, and sleep while there is none
- * @hand: whose the tag is from now on
+ * @hand: the hand that gets the tag
  * @bell: the pool's bell
  *
  * A pool has one bell, for all threads that wait for its tags. Each thread that
- * gives ordinary tags back passes the answer of tags_clear() or
- * tags_clear_batch() to tags_ring() with that bell.
+ * gives ordinary tags back must pass what tags_clear() or tags_clear_batch()
+ * returned to tags_ring(), with that bell.
  *
  * A thread must not sleep while it holds the tags that the others wait for.
- * Clears are counted by batches of up to 8, so a waiter can sleep on while some
- * tag is free, as long as other tags are still to come back. To be woken is
- * tested, and not proved.
+ * Completions are charged in batches of up to 8, so a waiter may stay asleep
+ * while some tag is free, as long as other tags are still to be given back. That
+ * a waiter is woken is tested, not proved.
  *
- * Return: the tag. TAGS_BAD_HANDLE, TAGS_SPENT, TAGS_NO_SUCH_TAG where the pool
- * has no ordinary tag, or TAGS_WAITING where the hand would have to wait and
- * stands in a wait group already.
+ * Return: the tag. Otherwise TAGS_BAD_HANDLE, TAGS_SPENT, TAGS_NO_SUCH_TAG if
+ * the pool has no ordinary tag, or TAGS_WAITING if the hand would have to wait
+ * but is already in a wait group.
  *
  * Since: 0.1
  */
@@ -646,9 +647,9 @@ int32_t tags_get_blocking(struct tags_hand *hand, struct tags_bell *bell);
 /**
  * tags_ring() - wake the threads that sleep, if a clear granted a wakeup
  * @bell: the pool's bell
- * @woken: what tags_clear() or tags_clear_batch() answered
+ * @woken: what tags_clear() or tags_clear_batch() returned
  *
- * Write it round the clear: tags_ring(&bell, tags_clear(&hand, tag)).
+ * Wrap it around the clear: tags_ring(&bell, tags_clear(&hand, tag)).
  *
  * Return: @woken.
  *
@@ -657,14 +658,14 @@ int32_t tags_get_blocking(struct tags_hand *hand, struct tags_bell *bell);
 int32_t tags_ring(struct tags_bell *bell, int32_t woken);
 
 /**
- * tags_prepare() - enter a wait group, for a wait of the caller's own
- * @hand: who waits
+ * tags_prepare() - enter a wait group, for callers that sleep by other means
+ * @hand: the hand that waits
  *
  * From now on each clear of an ordinary tag is counted. Try tags_get() once
- * more before you sleep: a tag that was cleared just before may have been
- * counted for nobody.
+ * more before you sleep: the clear of a tag just before may not have been
+ * counted.
  *
- * Return: the group, below 8. TAGS_BAD_HANDLE or TAGS_WAITING.
+ * Return: the group, below 8. Otherwise TAGS_BAD_HANDLE or TAGS_WAITING.
  *
  * Since: 0.1
  */
@@ -677,11 +678,11 @@ TAGS_CHECKED int32_t tags_prepare(struct tags_hand *hand)
 
 /**
  * tags_finish() - leave the wait group
- * @hand: who waits
+ * @hand: the hand that waits
  *
- * Return: 1 if a wakeup was granted to the group, which is used up so, and 0 if
- * not. TAGS_AGAIN if other threads changed the group meanwhile: call it again.
- * TAGS_BAD_HANDLE or TAGS_NOT_WAITING.
+ * Return: 1 if the group had been granted a wakeup, which this call uses up, and
+ * 0 if not. TAGS_AGAIN if other threads changed the group meanwhile: call it
+ * again. Otherwise TAGS_BAD_HANDLE or TAGS_NOT_WAITING.
  *
  * Since: 0.1
  */
@@ -697,11 +698,11 @@ TAGS_CALL int32_t tags_finish(struct tags_hand *hand)
  */
 
 /**
- * tags_strerror() - a sentence for a status
- * @status: what a call answered
+ * tags_strerror() - describe a status
+ * @status: what a call returned
  *
- * Return: a string that is never freed. Numbers from 0 up have the sentence of
- * TAGS_OK, and a number that is no status has one of its own.
+ * Return: a static string. It is that of TAGS_OK for all numbers from 0, and
+ * says so for a negative number that is no status.
  *
  * Since: 0.1
  */

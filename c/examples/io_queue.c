@@ -17,17 +17,17 @@ enum {
 	THREADS = SUBMITTERS + COMPLETERS,
 	REQUESTS = 60000,
 	TAGS = 16,
-	/* what a completer finds once the device is closed and empty */
+	/* what device_pop() returns once the device is closed and empty */
 	CLOSED = -1
 };
 
 struct request {
 	uint32_t bytes;
-	/* how often it was carried out */
+	/* how often the request was carried out */
 	uint32_t done;
 };
 
-/* Tags on their way to the completers. There are never more than there are tags. */
+/* A queue of tags on their way to the completers. It never holds more than TAGS. */
 struct device {
 	pthread_mutex_t lock;
 	pthread_cond_t filled;
@@ -50,7 +50,7 @@ static struct device device = {
 };
 static struct tags_bell bell = TAGS_BELL;
 
-/* A call that is not refused as it is used here. */
+/* Exits if a call was refused, which none of the calls here should be. */
 static int32_t must(const char *call, int32_t answer)
 {
 	if (answer < 0) {

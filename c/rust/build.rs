@@ -1,4 +1,4 @@
-//! Links libtags.a, which `library.sh build` makes. `TAGS_LIB_DIR` names another folder that has it.
+//! Links libtags.a, which `library.sh build` makes in `c/out`. `TAGS_LIB_DIR` names another folder to take it from.
 use std::env;
 use std::path::PathBuf;
 

@@ -1,7 +1,7 @@
 /*
- * Random calls with random arguments, by several handles of several pools, and
- * the model beside them: each answer, and whatever a call fills in, is the
- * model's. fuzz [CALLS [SEED]]
+ * Makes random calls with random arguments, through several handles of several
+ * pools, and compares whatever a call returns and fills in with the model.
+ * fuzz [CALLS [SEED]]
  */
 #include <inttypes.h>
 #include <stdio.h>
@@ -12,11 +12,11 @@
 
 enum {
 	HANDLES = 12,
-	/* an array for the busy tags, with a word that no call may touch */
+	/* length of an array for the busy tags, with room beyond what a call may write */
 	WORDS = TAGS_MAX_TOTAL / 64 + 4
 };
 
-/* One that is filled in by a call, as either kind. */
+/* A handle of either kind, which calls fill in. */
 union handle {
 	struct tags_pool pool;
 	struct tags_hand hand;
@@ -40,7 +40,7 @@ static uint32_t below(uint32_t bound)
 	return draw() % bound;
 }
 
-/* One of so many times. */
+/* True once in @times calls, on average. */
 static bool seldom(uint32_t times)
 {
 	return below(times) == 0;
@@ -76,7 +76,7 @@ static uint32_t any_handle(void)
 	return below(HANDLES);
 }
 
-/* Mostly that of a hand. */
+/* Picks a handle, most often that of a hand. */
 static uint32_t hand_handle(void)
 {
 	uint32_t at = any_handle();
@@ -86,7 +86,7 @@ static uint32_t hand_handle(void)
 	return at;
 }
 
-/* Mostly that of a pool. */
+/* Picks a handle, most often that of a pool. */
 static uint32_t pool_handle(void)
 {
 	uint32_t at = any_handle();
@@ -96,7 +96,7 @@ static uint32_t pool_handle(void)
 	return at;
 }
 
-/* Mostly an empty one. */
+/* Picks a handle, most often an empty one. */
 static uint32_t empty_handle(void)
 {
 	uint32_t at = any_handle();
@@ -131,7 +131,7 @@ static uint32_t total_behind(uint32_t at)
 	return pool ? pool->set[0].depth + pool->set[1].depth : 8;
 }
 
-/* Mostly one of the pool, and often one that the hand holds. */
+/* Picks a number, most often a tag of the pool, and often one that the hand holds. */
 static uint32_t any_tag(uint32_t at)
 {
 	uint32_t total = total_behind(at) + 2;
@@ -271,7 +271,7 @@ static void try_clear(void)
 	compare("clear", tags_clear(&handles[at].hand, tag), model_clear(&models[at], tag));
 }
 
-/* Some held tags, from @tag on. */
+/* Lists some of the tags that the hand holds. */
 static size_t list_held(uint32_t at, uint32_t *tags, size_t most)
 {
 	uint32_t total = total_behind(at);
@@ -356,7 +356,7 @@ static void try_holds(void)
 }
 
 /*
- * Waits and looks
+ * Waits and reports
  */
 
 static void try_prepare(void)
@@ -414,7 +414,7 @@ static void try_wakes(void)
 		fail("wakes", "active", (int64_t)found.active, (int64_t)wanted.active);
 }
 
-/* Each call, and how often it is tried in so many turns. */
+/* Each call, and its weight among the calls. */
 static const struct {
 	void (*make)(void);
 	uint32_t turns;
@@ -438,7 +438,7 @@ static void try_any(void)
 	tries[at].make();
 }
 
-/* All hands leave, and each pool has the sums of the model. */
+/* Lets all hands leave, closes each pool and compares its sums with those of the model. */
 static void close_all(void)
 {
 	for (uint32_t at = 0; at < HANDLES; at++)

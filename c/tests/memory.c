@@ -1,6 +1,6 @@
 /*
- * Each allocation refused in turn: the call says so, its handle stays empty, and
- * nothing of it is kept. Built with --wrap for malloc, realloc and free.
+ * Refuses each allocation in turn: the call reports it, its handle stays empty,
+ * and no memory leaks. Built with --wrap for malloc, realloc and free.
  */
 #include <stdio.h>
 #include <stdlib.h>
@@ -9,7 +9,7 @@
 
 static int wrong;
 
-/* Allocations until one is refused, and those that were not freed. */
+/* Allocations until one is refused, and blocks that are not freed yet. */
 static long left = -1;
 static long kept;
 
@@ -55,7 +55,7 @@ static void check(const char *what, int is_well)
 	printf("wrong: %s\n", what);
 }
 
-/* Opens a pool, with the allocation of this number refused. */
+/* Opens a pool while the allocation with this number is refused. */
 static int32_t open_refused(struct tags_pool *pool, long number)
 {
 	struct tags_options options = {
@@ -82,7 +82,7 @@ static int32_t join_refused(struct tags_pool *pool, struct tags_hand *hand, long
 	return status;
 }
 
-/* Three hands can still join a pool that refused some. */
+/* Shows that three hands can still join a pool after some joins were refused. */
 static void fill(struct tags_pool *pool)
 {
 	struct tags_hand hands[3] = { TAGS_EMPTY, TAGS_EMPTY, TAGS_EMPTY };

@@ -1,6 +1,6 @@
 /*
- * What the calls answer while one thread makes them all: a pool as a list of
- * where each tag is. It is written from the rules, which docs/DESIGN.md tells.
+ * What the calls return while one thread makes them all. A pool is a list that
+ * says where each tag is. It follows the rules that docs/DESIGN.md describes.
  */
 #ifndef MODEL_H
 #define MODEL_H
@@ -24,22 +24,22 @@ enum {
 
 /* Ordinary or reserved tags. */
 struct set {
-	/* its first tag is this one of the pool */
+	/* the pool's number of its first tag */
 	uint32_t first;
 	uint32_t depth;
 	uint32_t shift;
 	bool round_robin;
 	enum place place[TAGS_MAX_TOTAL];
-	/* of a held tag */
+	/* the hand that holds the tag, while it is held */
 	int holder[TAGS_MAX_TOTAL];
 	uint64_t slot[TAGS_MAX_TOTAL];
 };
 
-/* What the pool knows of a hand, whether a thread has it or not. */
+/* The state of a hand, whether a thread has it or not. */
 struct member {
-	/* where its next get begins, by kind of tags */
+	/* where its next get begins, by enum tags_kind */
 	uint32_t hint[2];
-	/* the group that it stands in, or NOWHERE */
+	/* the wait group that it is in, or NOWHERE */
 	int standing;
 	uint32_t next_group;
 };
@@ -59,7 +59,7 @@ struct pool {
 	struct tags_sums sums;
 };
 
-/* What a handle should have: nothing, a pool, or a hand of a pool. */
+/* What is behind a handle: nothing, a pool, or a hand of a pool. */
 struct model {
 	struct pool *pool;
 	int number;

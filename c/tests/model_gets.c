@@ -1,4 +1,4 @@
-/* Which tag a get finds: the first free one of a scan that begins at the hint. */
+/* The model of gets: a get finds the first free tag of a scan that begins at the hint. */
 #include "model.h"
 
 static uint32_t begin_of(const struct set *set, uint32_t word)
@@ -11,7 +11,7 @@ static uint32_t end_of(const struct set *set, uint32_t word)
 	return least_of((word + 1) << set->shift, set->depth);
 }
 
-/* Tags of a word that shallow gets of a depth may take. */
+/* How many tags of a word shallow gets of this depth may take. */
 static uint32_t share_of(const struct set *set, uint32_t word, uint32_t depth)
 {
 	uint64_t most = least_of(depth, set->depth);
@@ -20,7 +20,7 @@ static uint32_t share_of(const struct set *set, uint32_t word, uint32_t depth)
 			  most * begin_of(set, word) / set->depth);
 }
 
-/* Makes what is aside in a word free, and tells whether anything was. */
+/* Frees the tags that are set aside in a word, and returns whether there were any. */
 static bool sweep(struct set *set, uint32_t word)
 {
 	bool any = false;
@@ -33,7 +33,7 @@ static bool sweep(struct set *set, uint32_t word)
 	return any;
 }
 
-/* The first free tag from @from up to @to, or @to. */
+/* Returns the first free tag in [@from, @to), or @to. */
 static uint32_t find_free(const struct set *set, uint32_t from, uint32_t to)
 {
 	while (from < to && set->place[from] != FREE)
@@ -41,16 +41,16 @@ static uint32_t find_free(const struct set *set, uint32_t from, uint32_t to)
 	return from < to ? from : to;
 }
 
-/* How a get goes through the words. */
+/* How a get searches the words. */
 struct search {
 	uint32_t from;
-	/* of a shallow get; else UINT32_MAX */
+	/* the depth of a shallow get, otherwise UINT32_MAX */
 	uint32_t depth;
 	bool starts_at_hint;
 	bool wraps;
 };
 
-/* A free tag among the first of a word, from @start on, or NOWHERE. */
+/* Returns a free tag among the first @limit of a word, from @start on, or NOWHERE. */
 static int32_t pass(const struct set *set, uint32_t word, uint32_t start, uint32_t limit,
 		    bool wraps)
 {
@@ -147,7 +147,7 @@ int32_t model_get_shallow(struct model *hand, uint32_t depth)
 	return get_of(hand, TAGS_ORDINARY, least_of(depth, TAGS_MAX_TOTAL));
 }
 
-/* The first tag of a run of @n in a word, of which it wins those that are free. */
+/* Finds a run of @n tags in a word, takes those that are free, and returns the run's first tag. */
 static int32_t run_in(struct model *hand, struct set *set, uint32_t word, uint32_t n, uint64_t *won)
 {
 	uint32_t end = end_of(set, word);

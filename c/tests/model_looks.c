@@ -1,4 +1,4 @@
-/* Waits, and what a hand sees of its pool. */
+/* The model of waits and reports. */
 #include "model.h"
 
 #include <string.h>

@@ -1,4 +1,4 @@
-/* How pools are opened and closed, and how their hands go out and come back. */
+/* The model of pools: how they are opened and closed, and how their hands join and leave. */
 #include "model.h"
 
 #include <stdlib.h>

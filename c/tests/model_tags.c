@@ -1,7 +1,7 @@
-/* Held tags: their slots, how they come back, and whom that wakes. */
+/* The model of held tags: their slots, clears, and the wakeups that clears grant. */
 #include "model.h"
 
-/* TAGS_OK if the hand holds the tag. */
+/* Returns TAGS_OK if the hand holds the tag, otherwise why it does not. */
 static int32_t find_held(const struct model *hand, uint32_t tag)
 {
 	const struct set *set;
@@ -23,7 +23,7 @@ int32_t model_holds(struct model *hand, uint32_t tag)
 	return status == TAGS_OK ? 1 : status == TAGS_NOT_HELD ? 0 : status;
 }
 
-/* Grants up to a batch of wakeups, group by group, and answers how many. */
+/* Grants up to a batch of wakeups, group by group, and returns how many. */
 static uint32_t walk(struct pool *pool)
 {
 	uint32_t left = pool->batch;

@@ -1,7 +1,7 @@
 /*
- * Each refusal by its number, and that a refused call leaves all as it was.
- * Not here: TAGS_NO_MEMORY is in memory.c, TAGS_SPENT takes 2^48 gets, TAGS_AGAIN
- * comes from threads alone, and nothing that C can ask for is answered with
+ * Provokes each refusal, checks its number, and that a refused call changes
+ * nothing. Not here: TAGS_NO_MEMORY is in memory.c, TAGS_SPENT takes 2^48 gets,
+ * TAGS_AGAIN needs other threads, and no call from C is known to return
  * TAGS_NO_BERTH, TAGS_HAND_LOST, TAGS_LIFE_TOO_LONG or TAGS_CAP_TOO_LARGE.
  */
 #include <stdio.h>
@@ -23,7 +23,7 @@ static void want(const char *call, int32_t found, int32_t status)
 
 #define WANT(call, status) want(#call, call, status)
 
-/* Ten ordinary tags behind two reserved ones, in words of four, for two hands. */
+/* Two reserved tags, then ten ordinary ones in words of four, for two hands. */
 static const struct tags_options twelve = {
 	.total = 12,
 	.reserved = 2,
@@ -42,7 +42,7 @@ static struct tags_hand *as_hand(struct tags_pool *pool)
 	return (struct tags_hand *)(void *)pool;
 }
 
-/* NULL in the place of each pointer. */
+/* Passes NULL for each pointer in turn. */
 static void refuse_null(struct tags_pool *pool, struct tags_hand *hand)
 {
 	struct tags_bell bell = TAGS_BELL;
@@ -104,7 +104,7 @@ static void refuse_options(void)
 	WANT(pool.full == 0 && pool.object == NULL, 1);
 }
 
-/* Every call through a handle that is empty, or of a pool. */
+/* Makes each call through a handle that is empty, or of a pool. */
 static void refuse_handle(struct tags_hand *hand)
 {
 	struct tags_sizes sizes;
@@ -157,7 +157,7 @@ static void refuse_handles(struct tags_pool *pool, struct tags_hand *hand)
 	WANT(tags_close(pool, &sums), -15);
 }
 
-/* Tags that are out of range, not held, or not posted. */
+/* Passes tags that are out of range, not held, or not posted. */
 static void refuse_tags(struct tags_hand *hand, struct tags_hand *other)
 {
 	static const uint32_t numbers[] = { 12, 13, 10240, 1u << 31, UINT32_MAX };
@@ -242,7 +242,7 @@ static void use_up(struct tags_hand *hand)
 	WANT(tags_finish(hand), 0);
 }
 
-/* A pool without reserved tags, and one without ordinary ones. */
+/* Uses a pool without reserved tags, and one without ordinary ones. */
 static void refuse_kinds(void)
 {
 	struct tags_options options = { .total = 4, .shift = TAGS_DEFAULT_SHIFT, .hands = 1 };
@@ -265,7 +265,7 @@ static void refuse_kinds(void)
 	WANT(tags_close(&pool, &sums), 0);
 }
 
-/* A hand of one pool leaves to that pool, while another is open. */
+/* Shows that a hand leaves to its own pool while another pool is open. */
 static void part_two_pools(void)
 {
 	struct tags_pool pools[2] = { TAGS_EMPTY, TAGS_EMPTY };

@@ -1,8 +1,8 @@
 /*
- * Threads that would sleep for ever if a wakeup were lost. In a crowd there are
- * more threads than tags, and the last clear has to wake the last sleeper. In a
- * duel each round has one clear and one thread that waits for it, and the clear
- * comes a little earlier or later each time. sleepers [ROUNDS]
+ * Runs threads that would sleep for ever if a wakeup were lost. In a crowd there
+ * are more threads than tags, and the last clear has to wake the last sleeper.
+ * In a duel each round has one clear and one thread that waits for it, and the
+ * clear comes a little earlier or later each time. sleepers [ROUNDS]
  */
 #include <inttypes.h>
 #include <pthread.h>
@@ -18,7 +18,7 @@ enum { THREADS = 24 };
 struct thread {
 	pthread_t id;
 	struct tags_hand hand;
-	/* whether tags come back by tags_clear_batch() */
+	/* whether the thread gives its tags back with tags_clear_batch() */
 	bool by_batch;
 };
 
@@ -26,7 +26,7 @@ static long rounds = 500;
 static struct tags_bell bell = TAGS_BELL;
 static uint64_t wrong;
 
-/* Threads that have a tag, which are never more than there are tags. */
+/* Number of threads that have a tag. It never exceeds the number of tags. */
 static uint32_t inside;
 static uint32_t tags_in_all;
 
@@ -59,7 +59,7 @@ static void *run(void *argument)
 	return NULL;
 }
 
-/* All threads on so many tags: each gets a tag as often as it asks. */
+/* Lets all threads compete for @tags tags; each gets one as often as it asks. */
 static void crowd(uint32_t tags, uint32_t reserved)
 {
 	static struct thread threads[THREADS];
@@ -93,7 +93,7 @@ static void crowd(uint32_t tags, uint32_t reserved)
 }
 
 /*
- * The duel. Each word has the number of the round that it stands for.
+ * The duel. Each word has the number of the latest round in which it was set.
  */
 static struct tags_hand waiter = TAGS_EMPTY;
 static long called;
@@ -160,7 +160,7 @@ int main(int argc, char **argv)
 	crowd(1, 0);
 	crowd(2, 3);
 	crowd(7, 0);
-	/* a batch of two wakeups */
+	/* 16 tags make the wakeup batch 2 */
 	crowd(16, 1);
 	duel();
 	printf("%" PRIu64 " wrong\n", wrong);

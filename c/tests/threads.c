@@ -1,6 +1,7 @@
 /*
- * Threads that get, post, take and clear at random: no tag has two holders, a
- * slot has what its holder wrote, and the sums are exact. threads [ROUNDS]
+ * Runs threads that get, post, take and clear at random, and checks that no tag
+ * has two holders, a slot has what its holder wrote, and the sums are exact.
+ * threads [ROUNDS]
  */
 #include <inttypes.h>
 #include <pthread.h>
@@ -14,7 +15,7 @@ enum {
 	THREADS = 8,
 	TAGS = 70,
 	RESERVED = 6,
-	/* the most tags that one thread holds */
+	/* the most tags that a thread holds at once */
 	MOST = 12
 };
 
@@ -32,7 +33,7 @@ struct thread {
 
 static long rounds = 200000;
 
-/* Who holds a tag: 0 is nobody. Only a second holder would find it otherwise. */
+/* The thread that holds each tag, or 0. Only a second holder would find another number here. */
 static uint32_t holder[TAGS];
 static uint64_t wrong;
 
@@ -53,7 +54,7 @@ static uint64_t value_of(const struct thread *self, uint32_t tag)
 	return (uint64_t)self->number << 32 | tag;
 }
 
-/* A tag that came by a get or by a take. */
+/* Records a tag that a get or a take returned, and writes its slot. */
 static void own(struct thread *self, uint32_t tag)
 {
 	uint64_t value = 0;
@@ -63,7 +64,7 @@ static void own(struct thread *self, uint32_t tag)
 	self->held[self->count++] = tag;
 }
 
-/* One of those held, which is to go. */
+/* Picks a held tag to give up, checks its slot and forgets it. */
 static uint32_t disown(struct thread *self)
 {
 	uint32_t at = draw(self) % self->count;

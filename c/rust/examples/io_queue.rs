@@ -15,7 +15,7 @@ const TAGS: u32 = 16;
 
 struct Request {
     bytes: u32,
-    /// How often it was carried out.
+    /// How often the request was carried out.
     done: AtomicU32,
 }
 
@@ -38,7 +38,7 @@ impl Device {
         self.filled.notify_one();
     }
 
-    /// The next tag, or `None` once the device is closed and empty.
+    /// Waits for the next tag, and returns `None` once the device is closed and empty.
     fn pop(&self) -> Option<u32> {
         let queue = self.queue.lock().unwrap();
         let is_idle = |queue: &mut Queue| queue.tags.is_empty() && !queue.closed;

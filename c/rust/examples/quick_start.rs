@@ -1,4 +1,4 @@
-//! One thread takes a tag, uses the slot beside it, and gives it back.
+//! One thread takes a tag, uses its slot, and gives the tag back.
 use std::error::Error;
 use tags::{Options, Pool};
 

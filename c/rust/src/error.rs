@@ -1,37 +1,37 @@
-//! Why a call was refused.
+//! Errors: the reasons why calls are refused.
 use crate::pool::Pool;
 use crate::raw::tags_strerror;
 use std::ffi::CStr;
 use std::fmt;
 
-/// What a call answers that can be refused.
+/// The result of a call that can be refused.
 pub type Result<T> = std::result::Result<T, Error>;
 
-/// Why a call was refused. A refused call changes nothing.
+/// The reason why a call was refused. A refused call changes nothing.
 #[derive(Clone, Copy, Debug, PartialEq, Eq, Hash)]
 #[non_exhaustive]
 pub enum Error {
-    /// The pool has no such tag, or no ordinary tag at all where one is waited for.
+    /// The pool has no such tag, or it has no ordinary tags at all and the call would wait for one.
     NoSuchTag,
     /// The pool was opened without reserved tags.
     NoReserved,
-    /// Nobody has posted the tag, or another hand was first.
+    /// The tag is not posted, or another hand has taken it first.
     NotPosted,
-    /// A batch of no tag, or of more than a word has.
+    /// A batch of 0 tags, or of more than a word has.
     BadCount,
-    /// A depth of 0, or below the pool's least one.
+    /// A depth of 0, or below the pool's [`min_shallow`](crate::Options::min_shallow).
     TooShallow,
-    /// The hand may take no more tags in its life.
+    /// The call could take the hand past its limit of 2^48 tags.
     Spent,
-    /// The hand stands in a wait group already.
+    /// The hand is already in a wait group.
     Waiting,
     /// All hands of the pool are out.
     NoHand,
     /// Not all hands of the pool are back.
     HandsOut,
-    /// A slice with fewer bits than there are tags.
+    /// A slice with fewer bits than the pool has tags.
     TooSmall,
-    /// There is no memory.
+    /// Out of memory.
     NoMemory,
     /// More than 10,240 tags.
     TotalTooLarge,
@@ -39,13 +39,13 @@ pub enum Error {
     ReservedTooLarge,
     /// A shift above 6.
     ShiftTooLarge,
-    /// No hand, or more than 64.
+    /// 0 hands, or more than 64.
     BadHandCount,
-    /// A status that no call of this crate expects.
+    /// A status that no call of this crate should return.
     Unexpected(i32),
 }
 
-/// The number of each in tags.h.
+/// The status of each error in tags.h.
 const NUMBERS: [(Error, i32); 15] = [
     (Error::NoSuchTag, -1),
     (Error::NoReserved, -2),
@@ -65,7 +65,7 @@ const NUMBERS: [(Error, i32); 15] = [
 ];
 
 impl Error {
-    /// The status that tags.h has for it.
+    /// Returns the status of this error in tags.h.
     pub fn status(self) -> i32 {
         let Error::Unexpected(status) = self else {
             let mut numbers = NUMBERS.iter();
@@ -84,7 +84,7 @@ impl Error {
 
 impl fmt::Display for Error {
     fn fmt(&self, f: &mut fmt::Formatter<'_>) -> fmt::Result {
-        // SAFETY: the answer is a string that ends in a zero byte and is never freed.
+        // SAFETY: the function returns a static string that ends in a zero byte.
         let sentence = unsafe { CStr::from_ptr(tags_strerror(self.status())) };
         f.write_str(&sentence.to_string_lossy())
     }
@@ -92,16 +92,16 @@ impl fmt::Display for Error {
 
 impl std::error::Error for Error {}
 
-/// The number that a call answered, or why it was refused.
+/// Returns the number that a call returned, or the error that a negative number stands for.
 #[inline]
 pub(crate) fn number(answer: i32) -> Result<u32> {
     u32::try_from(answer).map_err(|_| Error::of(answer))
 }
 
-/// A pool that could not be closed, and is as it was.
+/// A pool that could not be closed. The pool is unchanged.
 #[derive(Debug)]
 pub struct CloseError {
-    /// Why.
+    /// The reason.
     pub error: Error,
     /// The pool.
     pub pool: Pool,

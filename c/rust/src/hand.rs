@@ -1,4 +1,4 @@
-//! What one thread takes tags with.
+//! The hand with which a thread takes tags.
 use crate::error::{number, Result};
 use crate::options::{Counts, Kind, Sizes};
 use crate::pool::Shared;
@@ -8,11 +8,12 @@ use std::cell::UnsafeCell;
 use std::fmt;
 use std::sync::Arc;
 
-/// What a get answers that found no tag, and a finish that is to be repeated.
+/// The status of a get that found no tag, and of a finish that has to be repeated.
 const NO_TAG: i32 = -10;
 const AGAIN: i32 = -11;
 
-/// What one thread takes tags with. It may go to another thread, and no two threads use it at once.
+/// A hand, with which one thread takes tags. It is `Send`, but not `Sync`: no two threads use it at once. It leaves its
+/// pool when it is dropped.
 ///
 /// ```compile_fail
 /// fn share<T: Sync>() {}
@@ -41,7 +42,7 @@ impl Hand {
         }
     }
 
-    // A hand is not `Sync`, and no call calls back: so each call below has the handle for itself.
+    // A hand is not `Sync`, and the library does not call back, so each call below has the handle to itself.
     fn raw(&self) -> *mut Handle {
         self.handle.get()
     }
@@ -53,8 +54,8 @@ impl Hand {
         Ok(Some(Tag::new(self, number(answer)?)))
     }
 
-    /// Takes a free ordinary tag. `None` says that each tag was found taken at some moment of the call, not that all were at
-    /// one moment.
+    /// Takes a free ordinary tag. `None` means that each tag was found taken at some moment of the call, not that all
+    /// were taken at one moment.
     ///
     /// ```
     /// # use tags::{Options, Pool};
@@ -74,21 +75,23 @@ impl Hand {
         self.tag(unsafe { raw::tags_library_get(self.raw()) })
     }
 
-    /// Takes a free reserved tag.
+    /// Takes a free reserved tag. `None` is as from [`get`](Hand::get).
     #[inline]
     pub fn get_reserved(&self) -> Result<Option<Tag<'_>>> {
         // SAFETY: as of `raw`.
         self.tag(unsafe { raw::tags_library_get_reserved(self.raw()) })
     }
 
-    /// Takes one of so many ordinary tags, which are shared out over the words; a word's share can be 0.
+    /// Takes a free ordinary tag within a limit: `depth` is how many ordinary tags such calls may use. It is
+    /// distributed over the words, and the share of a word can be 0.
     #[inline]
     pub fn get_shallow(&self, depth: u32) -> Result<Option<Tag<'_>>> {
         // SAFETY: as of `raw`.
         self.tag(unsafe { raw::tags_library_get_shallow(self.raw(), depth) })
     }
 
-    /// Takes up to `n` ordinary tags that lie side by side, 1 to the tags in a word. Under round robin it finds none.
+    /// Takes up to `n` ordinary tags out of a run of `n`, from 1 to the number of tags per word. With round robin it
+    /// returns `None`.
     ///
     /// ```
     /// # use tags::{Options, Pool};
@@ -110,10 +113,10 @@ impl Hand {
         Ok(Some(Batch::new(self, number(answer)?, won)))
     }
 
-    /// Takes a free ordinary tag, and sleeps while there is none. A thread must not sleep while it holds the tags that the
-    /// others wait for. To be woken is tested, and not proved.
+    /// Takes a free ordinary tag, and sleeps while there is none. A thread must not sleep while it holds the tags that
+    /// the others wait for. That a sleeper is woken is tested, not proved.
     pub fn get_blocking(&self) -> Result<Tag<'_>> {
-        // SAFETY: as of `raw`, and the bell is only ever touched by atomic steps.
+        // SAFETY: as of `raw`, and the bell is only accessed by atomic operations.
         let answer = unsafe { raw::tags_get_blocking(self.raw(), self.shared.bell.as_ptr()) };
         Ok(Tag::new(self, number(answer)?))
     }
@@ -139,13 +142,14 @@ impl Hand {
         Ok(Tag::new(self, number))
     }
 
-    /// Sets the bit `t % 64` of `into[t / 64]` for each busy tag `t`, and no other, and tells how many there are.
+    /// Sets bit `t % 64` of `into[t / 64]` for each busy tag `t`, clears every other bit, and returns how many tags are
+    /// busy.
     pub fn busy(&self, into: &mut [u64]) -> Result<u32> {
-        // SAFETY: as of `raw`, and the slice has so many words.
+        // SAFETY: as of `raw`, and the length is that of the slice.
         number(unsafe { raw::tags_library_busy(self.raw(), into.as_mut_ptr(), into.len()) })
     }
 
-    /// The sizes of a set of tags.
+    /// Returns the sizes of a set of tags.
     pub fn show(&self, kind: Kind) -> Sizes {
         let mut sizes = Sizes::default();
         // SAFETY: as of `raw`.
@@ -153,7 +157,7 @@ impl Hand {
         sizes
     }
 
-    /// The counts of completions and of waiters.
+    /// Returns the counts of completions and of waiters.
     pub fn wakes(&self) -> Counts {
         let mut counts = Counts::default();
         // SAFETY: as of `raw`.
@@ -161,7 +165,7 @@ impl Hand {
         counts
     }
 
-    /// Enters a wait group, for a wait of the caller's own. Try a get once more before you sleep.
+    /// Enters a wait group, for callers that sleep by other means. Try a get once more before you sleep.
     ///
     /// ```
     /// # use tags::{Error, Options, Pool};
@@ -192,7 +196,7 @@ impl Hand {
         }
     }
 
-    /// Gives a held tag back, and wakes those who were granted a wakeup.
+    /// Gives a held tag back, and wakes the sleepers if waiters were granted a wakeup.
     pub(crate) fn clear(&self, number: u32) {
         // SAFETY: as of `raw`.
         self.ring(unsafe { raw::tags_library_clear(self.raw(), number) });
@@ -200,14 +204,14 @@ impl Hand {
 
     /// Gives held ordinary tags back together.
     pub(crate) fn clear_batch(&self, numbers: &[u32]) {
-        // SAFETY: as of `raw`, and the slice has so many numbers.
+        // SAFETY: as of `raw`, and the length is that of the slice.
         self.ring(unsafe {
             raw::tags_library_clear_batch(self.raw(), numbers.as_ptr(), numbers.len())
         });
     }
 
     fn ring(&self, woken: i32) {
-        // SAFETY: the bell is only ever touched by atomic steps.
+        // SAFETY: the bell is only accessed by atomic operations.
         Hand::expect(unsafe { raw::tags_ring(self.shared.bell.as_ptr(), woken) });
     }
 
@@ -259,7 +263,7 @@ pub struct Wait<'a> {
 }
 
 impl Wait<'_> {
-    /// Leaves the group. Whether a clear granted a wakeup, which is used up so.
+    /// Leaves the group. Returns whether the group had been granted a wakeup, which this call uses up.
     pub fn finish(self) -> bool {
         let hand = self.hand;
         std::mem::forget(self);

@@ -1,8 +1,8 @@
 //! A pool of tags that threads share without a lock.
 //!
-//! A tag is a small number, and beside it lies a slot of 64 bits. A [`Pool`] has them, each thread takes them through a
-//! [`Hand`] of its own, and a [`Tag`] goes back when it is dropped. The library below is proved: under every schedule no tag
-//! and no slot ever has two holders. This crate is thin code over its C interface, and is tested.
+//! A tag is a small number with a slot of 64 bits. Each thread takes tags from a [`Pool`] through a [`Hand`] of its
+//! own, and a [`Tag`] is given back when it is dropped. The library below is proved: under every schedule no tag and no
+//! slot ever has two holders. This crate is a thin layer over its C interface, and is tested.
 //!
 //! ```
 //! use tags::{Options, Pool};
@@ -21,7 +21,7 @@
 //! # }
 //! ```
 //!
-//! Threads that hand requests on, and wait while no tag is free: `examples/io_queue.rs`.
+//! In `examples/io_queue.rs`, threads pass requests to other threads, and wait while no tag is free.
 
 mod error;
 mod hand;

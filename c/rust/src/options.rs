@@ -1,25 +1,26 @@
-//! How a pool is opened, and what can be told of it.
+//! The options of a pool, and what its calls report.
 use crate::raw::{RawOptions, ROUND_ROBIN};
 
-/// How a pool is opened.
+/// The options of a new pool.
 #[derive(Clone, Copy, Debug, PartialEq, Eq)]
 pub struct Options {
-    /// Tags in all, at most 10,240.
+    /// Number of tags, at most 10,240.
     pub total: u32,
-    /// How many of them, from tag 0 on, are reserved.
+    /// How many of them are reserved, from tag 0.
     pub reserved: u32,
-    /// Binary logarithm of the tags in a word, at most 6. `None`: the largest words that still give the pool four.
+    /// Binary logarithm of the tags per word, at most 6. `None` chooses the largest that gives a set of 4 tags or more
+    /// 4 whole words.
     pub shift: Option<u32>,
-    /// The least depth of a [`get_shallow`](crate::Hand::get_shallow). `None`: it may be any.
+    /// The least depth that may be passed to [`get_shallow`](crate::Hand::get_shallow). `None` is as 1.
     pub min_shallow: Option<u32>,
-    /// Threads that take tags, 1 to 64.
+    /// Number of hands, 1 to 64.
     pub hands: u32,
-    /// Whether each get begins behind the last tag won, so that a tag is reused as late as possible.
+    /// Whether each get begins after the last tag won, so that a tag is reused as late as possible.
     pub round_robin: bool,
 }
 
 impl Options {
-    /// So many ordinary tags, for so many threads.
+    /// Options for `total` ordinary tags and `hands` hands, with defaults for the rest.
     pub fn new(total: u32, hands: u32) -> Options {
         Options {
             total,
@@ -48,25 +49,25 @@ impl Options {
 /// One of the two sets of a pool's tags.
 #[derive(Clone, Copy, Debug, PartialEq, Eq)]
 pub enum Kind {
-    /// What [`get`](crate::Hand::get) takes.
+    /// The tags that [`get`](crate::Hand::get) takes.
     Ordinary = 0,
-    /// What [`get_reserved`](crate::Hand::get_reserved) takes.
+    /// The tags that [`get_reserved`](crate::Hand::get_reserved) takes.
     Reserved = 1,
 }
 
-/// The sizes of a set, found word by word.
+/// The sizes of a set, and sums over its words.
 #[repr(C)]
 #[derive(Clone, Copy, Debug, Default, PartialEq, Eq)]
 pub struct Sizes {
-    /// Tags of the set.
+    /// Number of tags in the set.
     pub depth: u32,
     /// Tags found held or posted.
     pub busy: u32,
     /// Tags found given back, and not yet swept for reuse.
     pub cleared: u32,
-    /// Tags in a whole word.
+    /// Tags per word. The last word can have fewer.
     pub bits_per_word: u32,
-    /// Words of the set.
+    /// Number of words of the set.
     pub words: u32,
 }
 
@@ -74,17 +75,17 @@ pub struct Sizes {
 #[repr(C)]
 #[derive(Clone, Copy, Debug, Default, PartialEq, Eq)]
 pub struct Counts {
-    /// Tags given back while a hand stood in a wait group.
+    /// Ordinary tags given back while some hand was in a wait group.
     pub counted: u64,
-    /// Those of them that are charged to a batch of wakeups.
+    /// Those charged so far, a batch at a time.
     pub charged: u64,
-    /// Hands that stand in a wait group.
+    /// Hands in a wait group.
     pub active: u64,
-    /// The wait group that the next wakeups begin at, below 8.
+    /// The wait group that the next wakeup visits first, below 8.
     pub index: u32,
 }
 
-/// What all hands of a pool did: `got == back + held + posted`.
+/// Sums over all hands of a pool: `got == back + held + posted`.
 #[repr(C)]
 #[derive(Clone, Copy, Debug, Default, PartialEq, Eq)]
 pub struct Totals {
@@ -94,14 +95,14 @@ pub struct Totals {
     pub back: u64,
     /// Tags that a hand still holds.
     pub held: u64,
-    /// Tags that are posted still.
+    /// Tags that are still posted.
     pub posted: u64,
     /// Completions counted: `issued <= charged <= counted <= back`.
     pub counted: u64,
-    /// Completions charged to a batch of wakeups.
+    /// Completions charged, a batch at a time.
     pub charged: u64,
     /// Wakeups granted.
     pub issued: u64,
-    /// Wakeups that a waiter found.
+    /// Wakeups that waiters used up.
     pub used: u64,
 }

@@ -9,12 +9,12 @@ use std::sync::{Arc, Mutex, MutexGuard, PoisonError};
 
 /// Tags that threads share, each through a [`Hand`] of its own.
 ///
-/// A pool that is dropped lives on until its last hand is dropped; only [`close`](Pool::close) tells the totals.
+/// A pool that is dropped lives on until its last hand is dropped. Only [`close`](Pool::close) returns the totals.
 pub struct Pool {
     shared: Arc<Shared>,
 }
 
-/// A pool's handle, which is in one call at a time, and the bell of those who wait.
+/// A pool's handle, which may be in one call at a time, and the bell of its waiters.
 pub(crate) struct Shared {
     handle: Mutex<Handle>,
     pub bell: AtomicU32,
@@ -27,7 +27,7 @@ impl Shared {
 
     fn close(&self) -> Result<Totals> {
         let mut totals = Totals::default();
-        // SAFETY: the lock keeps the handle to this call.
+        // SAFETY: the lock reserves the handle for this call.
         number(unsafe { tags_library_close(&mut *self.handle(), &mut totals) })?;
         Ok(totals)
     }
@@ -35,13 +35,13 @@ impl Shared {
 
 impl Drop for Shared {
     fn drop(&mut self) {
-        // Each hand shares this and left before, so the pool ends here, unless it is closed already.
+        // Each hand shares this and has left before, so the pool is closed here, unless it was closed already.
         let _ = self.close();
     }
 }
 
 impl Pool {
-    /// A pool of free tags, whose slots are 0.
+    /// Opens a pool. All tags are free, and all slots are 0.
     ///
     /// ```
     /// use tags::{Error, Options, Pool};
@@ -50,7 +50,7 @@ impl Pool {
     /// ```
     pub fn open(options: &Options) -> Result<Pool> {
         let mut handle = Handle::EMPTY;
-        // SAFETY: both are this function's own.
+        // SAFETY: both are local to this function.
         number(unsafe { tags_library_open(&mut handle, &options.to_raw()) })?;
         let shared = Shared {
             handle: Mutex::new(handle),
@@ -61,7 +61,7 @@ impl Pool {
         })
     }
 
-    /// A hand for one thread. Its gets begin in a part of the tags of its own, so that threads meet less.
+    /// Returns a hand for one thread. Its gets begin in its own part of the tags, which reduces contention.
     ///
     /// ```
     /// # use tags::{Error, Options, Pool};
@@ -78,19 +78,19 @@ impl Pool {
         self.join_by(0)
     }
 
-    /// As [`join`](Pool::join), but its gets go on where this hand's gets left off, at tag 0 at first.
+    /// Like [`join`](Pool::join), but the hand's gets go on where they left off, first at tag 0.
     pub fn join_in_place(&self) -> Result<Hand> {
         self.join_by(STAY)
     }
 
     fn join_by(&self, flags: u32) -> Result<Hand> {
         let mut hand = Handle::EMPTY;
-        // SAFETY: the lock keeps the pool's handle to this call, and the other is this function's own.
+        // SAFETY: the lock reserves the pool's handle for this call, and the other is local to this function.
         number(unsafe { tags_library_join(&mut *self.shared.handle(), &mut hand, flags) })?;
         Ok(Hand::new(hand, Arc::clone(&self.shared)))
     }
 
-    /// Ends a pool whose hands are all dropped.
+    /// Closes a pool whose hands are all dropped, and returns its totals. On failure the error contains the pool.
     ///
     /// ```
     /// # use tags::{Error, Options, Pool};

@@ -1,4 +1,4 @@
-//! The exports of the library, and what tags.h has of C.
+//! The exports of the library, and the types of tags.h that they take.
 use crate::options::{Counts, Sizes, Totals};
 use std::ffi::{c_char, c_void};
 use std::ptr::null_mut;
@@ -10,7 +10,7 @@ pub struct Handle {
     object: *mut c_void,
 }
 
-// SAFETY: what a handle has may go to any thread, as the library states it; only one call at a time has the handle.
+// SAFETY: the object behind a handle may be sent to any thread, as the library proves, and is in one call at a time.
 unsafe impl Send for Handle {}
 
 impl Handle {

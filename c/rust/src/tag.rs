@@ -2,10 +2,10 @@
 use crate::hand::Hand;
 use std::mem::forget;
 
-/// Most tags of a word.
+/// The most tags of a word.
 const MOST: usize = 64;
 
-/// A tag that a hand holds. It goes back when this is dropped.
+/// A tag that a hand holds. It is given back when it is dropped.
 #[derive(Debug)]
 #[must_use = "the tag goes back at once"]
 pub struct Tag<'a> {
@@ -18,18 +18,18 @@ impl<'a> Tag<'a> {
         Tag { hand, number }
     }
 
-    /// Its number, below the pool's total.
+    /// Returns the number of the tag, below the pool's total.
     #[inline]
     pub fn number(&self) -> u32 {
         self.number
     }
 
-    /// What its slot has. What that is of a tag just won is not said.
+    /// Returns the value of its slot. It is unspecified for a tag that was just won.
     pub fn read(&self) -> u64 {
         self.hand.read(self.number)
     }
 
-    /// Writes its slot, and tells what it had.
+    /// Writes its slot, and returns the former value.
     ///
     /// ```
     /// # use tags::{Options, Pool};
@@ -46,7 +46,7 @@ impl<'a> Tag<'a> {
         self.hand.write(self.number, value)
     }
 
-    /// Hands the tag on, with its slot, to whichever hand of the pool [takes](Hand::take) this number first.
+    /// Offers the tag, with its slot, to all hands of the pool: the first that [takes](Hand::take) this number gets it.
     #[must_use = "the tag stays posted until a hand takes this number"]
     pub fn post(self) -> u32 {
         self.hand.post(self.number);
@@ -62,13 +62,13 @@ impl Drop for Tag<'_> {
     }
 }
 
-/// Tags of one word that a hand holds. They go back together when this is dropped.
+/// Tags of one word that a hand holds. They are given back together when the batch is dropped.
 #[derive(Debug)]
 #[must_use = "the tags go back at once"]
 pub struct Batch<'a> {
     hand: &'a Hand,
     first: u32,
-    /// The lowest bit stands for the first tag. It is not 0.
+    /// Bit `i` is 1 if the hand won the tag `first + i`. At least one bit is 1.
     won: u64,
 }
 
@@ -77,7 +77,7 @@ impl<'a> Batch<'a> {
         Batch { hand, first, won }
     }
 
-    /// The numbers of the tags, in order.
+    /// Returns the numbers of the tags, in ascending order.
     pub fn numbers(&self) -> impl Iterator<Item = u32> {
         let (first, won) = (self.first, self.won);
         (0..u64::BITS)
@@ -85,7 +85,7 @@ impl<'a> Batch<'a> {
             .map(move |bit| first + bit)
     }
 
-    /// The tags one by one, each of which goes back on its own.
+    /// Returns the tags one by one. Each is given back on its own.
     ///
     /// ```
     /// # use tags::{Options, Pool};

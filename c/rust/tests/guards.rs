@@ -1,4 +1,4 @@
-//! What guards give back, and what is refused.
+//! Guards that give their tags back, and refused calls.
 use std::thread;
 use tags::{Counts, Error, Kind, Options, Pool};
 

@@ -1,10 +1,10 @@
 //! The threads of a play: how they are started and joined.
-ghost use Rattle.std.specs.Prelude.{◌≡◌, ◌+◌, ◌<◌, ◌≤◌, All, true, vec_len, vec_capacity, IfOk, []};
+ghost use Rattle.std.specs.Prelude.{◌≡◌, ◌+◌, ◌<◌, ◌≤◌, All, true, IsTrue, vec_len, vec_capacity, IfOk, IfSome, []};
 ghost use Rattle.crossbeam_queue.specs.Passes.{view, IsPassOf};
 ghost use Rattle.tag_sets.specs.Hands.{IsHandOf, total_of};
 ghost use Rattle.loop_device.specs.Playing.{Promises};
 
-use crate::device_queue::{Completer, Submitter, Tagged, Worker};
+use crate::device_queue::{Completer, DeviceQueue, Submitter, Tagged, Worker};
 use crate::gate::Gate;
 use crate::workers::{Faults, Shared, Worked, complete_all, submit_all};
 use crossbeam_queue::Pass;
@@ -91,17 +91,10 @@ fn start_all<'s, E, B: Tagged + Send + Sync, G: Gate, R: Wait + Sync>(
     let count = hands.len();
     for hand in hands {
         let started = if completers.len() < wanted {
-            start_completer(scope, rt, shared, hand, &mut pass, completers)
+            start(scope, rt, shared, hand, &mut pass, completers, None)
         } else {
-            start_submitter(
-                scope,
-                rt,
-                shared,
-                hand,
-                &mut pass,
-                submitters,
-                count - wanted,
-            )
+            let count = Some(count - wanted);
+            start(scope, rt, shared, hand, &mut pass, submitters, count)
         };
         if !started {
             return false;
@@ -110,75 +103,38 @@ fn start_all<'s, E, B: Tagged + Send + Sync, G: Gate, R: Wait + Sync>(
     true
 }
 
-// Starts a completer with this hand, if a thread can be started.
-fn start_completer<'s, E, B: Tagged + Send + Sync, G: Gate, R: Wait + Sync>(
-    scope: &Scope<'s, E>,
-    rt: &'s R,
-    shared: &Shared<'s, B, G>,
-    hand: Hand<u64>,
+// A pass of its own for one more thread, which may push if it is to submit.
+fn pass_for<B: Tagged>(
+    queue: &DeviceQueue<B>,
     pass: &mut Pass<u32, Worker>,
-    handles: &mut Vec<Handle<'s>>,
-) -> bool
-    requires hand { IsHandOf shared.now.tags.now hand }
-    requires pass { IsPassOf shared.now.queue.now pass.old }
-    requires handles { All (Promises shared.now.tags.now) handles.old.items }
-    requires room { vec_len handles.old < vec_capacity handles.old }
-    ensures pass { IsPassOf shared.now.queue.now pass.new }
-    ensures handles { All (Promises shared.now.tags.now) handles.new.items }
-    ensures len { vec_len handles.new ≤ vec_len handles.old + 1 }
-    ensures capacity { vec_capacity handles.new ≡ vec_capacity handles.old }
+    submits: bool,
+) -> Pass<u32, Worker>
+    requires { IsPassOf queue.now pass.old }
+    ensures pass { IsPassOf queue.now pass.new }
+    ensures result { IsPassOf queue.now result }
+    ensures submits { IsTrue submits → (view result).submits ≡ true }
 {
-    let mine = shared.queue.another::<Completer>(pass);
-    let Shared {
-        log,
-        gate,
-        tags,
-        queue,
-        store,
-        stopped,
-        closed,
-    } = *shared;
-    let started = scope.spawn_with(
-        HandsBack(tags),
-        move || -> Worked
-            requires { IsHandOf tags.now hand × IsPassOf queue.now mine }
-            ensures { IsHandOf tags.entry.now result.hand }
-        {
-            let shared = Shared {
-                log,
-                gate,
-                tags,
-                queue,
-                store,
-                stopped,
-                closed,
-            };
-            complete_all(rt, &shared, hand, mine)
-        },
-    );
-    match started {
-        Ok(handle) => {
-            handles.push_reserved(handle);
-            true
-        }
-        Err(_) => false,
+    if submits {
+        queue.another::<Submitter>(pass)
+    } else {
+        queue.another::<Completer>(pass)
     }
 }
 
-// Starts the next submitter with this hand, if a thread can be started.
-fn start_submitter<'s, E, B: Tagged + Send + Sync, G: Gate, R: Wait + Sync>(
+// Starts a thread with this hand, if one can be started: the next of so many submitters, or a completer.
+fn start<'s, E, B: Tagged + Send + Sync, G: Gate, R: Wait + Sync>(
     scope: &Scope<'s, E>,
     rt: &'s R,
     shared: &Shared<'s, B, G>,
     hand: Hand<u64>,
     pass: &mut Pass<u32, Worker>,
     handles: &mut Vec<Handle<'s>>,
-    submitters: usize,
+    submitters: Option<usize>,
 ) -> bool
     requires hand { IsHandOf shared.now.tags.now hand }
     requires pass { IsPassOf shared.now.queue.now pass.old }
     requires total { total_of shared.now.tags.now ≡ B.total }
-    requires submitters { 0 < submitters }
+    requires submitters { IfSome submitters (λ count. 0 < count) }
     requires handles { All (Promises shared.now.tags.now) handles.old.items }
     requires room { vec_len handles.old < vec_capacity handles.old }
     ensures pass { IsPassOf shared.now.queue.now pass.new }
@@ -186,7 +142,7 @@ fn start_submitter<'s, E, B: Tagged + Send + Sync, G: Gate, R: Wait + Sync>(
     ensures len { vec_len handles.new ≤ vec_len handles.old + 1 }
     ensures capacity { vec_capacity handles.new ≡ vec_capacity handles.old }
 {
-    let mine = shared.queue.another::<Submitter>(pass);
+    let mine = pass_for(shared.queue, pass, submitters.is_some());
     let number = handles.len();
     let Shared {
         log,
@@ -200,8 +156,8 @@ fn start_submitter<'s, E, B: Tagged + Send + Sync, G: Gate, R: Wait + Sync>(
     let started = scope.spawn_with(
         HandsBack(tags),
         move || -> Worked
-            requires { IsHandOf tags.now hand × IsPassOf queue.now mine × ((view mine).submits ≡ true)
-                × (total_of tags.now ≡ B.total) × (0 < submitters) }
+            requires { IsHandOf tags.now hand × IsPassOf queue.now mine × (total_of tags.now ≡ B.total)
+                × IfSome submitters (λ count. ((view mine).submits ≡ true) × (0 < count)) }
             ensures { IsHandOf tags.entry.now result.hand }
         {
             let shared = Shared {
@@ -213,7 +169,10 @@ fn start_submitter<'s, E, B: Tagged + Send + Sync, G: Gate, R: Wait + Sync>(
                 stopped,
                 closed,
             };
-            submit_all(rt, &shared, hand, mine, number, submitters)
+            match submitters {
+                Some(count) => submit_all(rt, &shared, hand, mine, number, count),
+                None => complete_all(rt, &shared, hand, mine),
+            }
         },
     );
     match started {

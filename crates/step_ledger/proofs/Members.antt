@@ -1,6 +1,6 @@
 -- Steps of members, and records that pass from seat to seat, keep the rule of a ledger. Nothing here depends on what
 -- the steps are.
-use Rattle.std.proofs.Common.{◌≡◌, ◌≢◌, ℕ, zero, suc, ◌+◌, ◌-◌, ◌<◌, List, [], ◌∷◌, ◌++◌, length, get_or, set, nat_eq, Bool, cond, arith, refl, sym, ap, ◌∙◌, subst, ⊎_elim, eq-eqb, ne_eqb}
+use Rattle.std.proofs.Common.{◌≡◌, ◌≢◌, ℕ, zero, suc, ◌+◌, ◌-◌, ◌<◌, List, [], ◌∷◌, ◌++◌, get_or, set, Bool, cond, arith, refl, sym, ap, ◌∙◌, subst, ⊎_elim, eq-eqb, ne_eqb}
 use mathlib.Core.Option.{some, some-injective, some-ne-none}
 use lib.ListN.{get_elem?}
 use Rattle.atomic_table.specs.Table.{State, Me, opening, Allows, keeps, Splits, Joins}
@@ -10,7 +10,7 @@ use Rattle.step_ledger.specs.declared.record.View.{View}
 use Rattle.step_ledger.specs.Views.{viewing, alone, with_step, push, fresh_record, fresh, first_view, other_views, both_views, steps_of, Stepped}
 use Rattle.step_ledger.specs.History.{own_steps, words_of, Lawful}
 use Rattle.step_ledger.specs.Ledger.{Ledger}
-use Rattle.step_ledger.proofs.Seats.{snoc_at, append_at, everyone_same, everyone_split, everyone_join}
+use Rattle.step_ledger.proofs.Seats.{Standing, each_same, split, join}
 
 module _ {T : Type 0} where
   pub own_here : (c : ℕ) (x : T) (h : List (ℕ × T)) → own_steps c ((c, x) ∷ h) ≡ x ∷ own_steps c h
@@ -71,6 +71,11 @@ module _ {S T : Type 0} where
     [],
   ))
 
+-- where the members' records stand, each with its own steps of this history
+abbrev Stand : {T : Type 0} → ℕ → List (ℕ × T) → List (View T) → Type 0
+Stand {T} n h views = Standing (λ (v : View T). v.records.value) (λ (r : Record T). r.number)
+    (λ r. (r.number < n) × (r.steps ≡ own_steps r.number h)) n views
+
 module _ {S T : Type 0} (n : ℕ) (start : List ℕ) (after : T → List ℕ → List ℕ) (MayStep : ℕ → T
     → List (ℕ × T) → Type 0) where
   abbrev Rule : State S (View T) → Type 0
@@ -108,7 +113,8 @@ module _ {S T : Type 0} (n : ℕ) (start : List ℕ) (after : T → List ℕ →
               o.3,
             ))
             (at_set s.views id j (alone (with_step x r)) v e);
-        each = everyone_same T n s.views k.seat k.position id r (with_step x r) at refl k.each;
+        each = each_same (λ (v : View T). v.records.value) (λ (r : Record T). r.number) n s.views k.seat
+            k.position id (alone r) (alone (with_step x r)) r (with_step x r) refl refl at refl k.each;
       }
 
   -- a step of one member is allowed where it can happen
@@ -166,57 +172,33 @@ module _ {S T : Type 0} (n : ℕ) (start : List ℕ) (after : T → List ℕ →
           (subst (λ (z : ℕ). z < n) num l, ap (λ (z : Record T). z.steps) (sym w.1), refl, sym num)
       only_one (suc j) v i r e e' = absurd (some-ne-none v (sym e))
 
+  -- as the rule has them
+  standing : (s : State S (View T)) (k : Rule s) → Stand n k.history s.views
+  standing s k = record {
+    seat = k.seat;
+    position = k.position;
+    records = λ j v e i r e'. let o = k.records j v e i r e' in ((o.0, o.1), o.2, o.3);
+    each = k.each;
+  }
+
+  -- the rule holds where these records stand in other views
+  reseated : (s : State S (View T)) (k : Rule s) (views : List (View T)) → Stand n k.history views
+      → Rule record { words = s.words; homes = s.homes; views = views }
+  reseated s k views now = record {
+    history = k.history;
+    lawful = k.lawful;
+    words_are = k.words_are;
+    seat = now.seat;
+    position = now.position;
+    records = λ j v e i r e'. let o = now.records j v e i r e' in (o.0.0, o.0.1, o.1, o.2);
+    each = now.each;
+  }
+
   -- the first record goes to a new seat
   splits_from : (id : ℕ) (v : View T) (r : Record T) (rs : List (Record T)) → v ≡ viewing (r ∷ rs)
       → Splits Rule id v (viewing rs) (alone r)
-  splits_from id v r rs is s sh at = let here : get_elem? s.views id ≡ some (viewing (r ∷ rs)) = at ∙ ap some is in
-      let first = sh.records id (viewing (r ∷ rs)) here 0 r refl in
-      let vs : List (View T) = set s.views id (viewing rs) in
-      let seat' : ℕ → ℕ = λ c. cond (nat_eq c r.number) (length vs) (sh.seat c) in
-      let position' : ℕ → ℕ = λ c. cond (nat_eq c r.number) 0
-      (cond (nat_eq (sh.seat c) id) (sh.position c - 1) (sh.position c)) in
-      let moved : (q : Record T) (j' n' : ℕ) → q.number ≢ r.number
-      → cond (nat_eq (sh.seat q.number) id) (sh.position q.number - 1) (sh.position q.number) ≡ n'
-      → sh.seat q.number ≡ j' → (seat' q.number ≡ j') × (position' q.number ≡ n')
-      = (λ q j' n' far ep es. (
-        ap (λ (b : Bool). cond b (length vs) (sh.seat q.number)) (ne_eqb q.number r.number far) ∙ es,
-        ap (λ (b : Bool). cond b 0 (cond (nat_eq (sh.seat q.number) id) (sh.position q.number - 1)
-            (sh.position q.number))) (ne_eqb q.number r.number far) ∙ ep,
-      )) in record {
-        history = sh.history;
-        lawful = sh.lawful;
-        words_are = sh.words_are;
-        seat = seat';
-        position = position';
-        records = λ j v' e i q e'. ⊎_elim
-            (λ (old : get_elem? vs j ≡ some v'). ⊎_elim
-            (λ (t : (j ≡ id) × (viewing rs ≡ v')).
-            let o = sh.records id (viewing (r ∷ rs)) here (suc i) q
-            (ap (λ (z : View T). get_elem? z.records.value i) t.1 ∙ e') in
-            let p = o.3 in let far : q.number ≢ r.number = (λ z. let p2 = sym o.3 ∙ ap sh.position z ∙ first.3 in
-            absurd (omega arith)) in
-            let less : sh.position q.number - 1 ≡ i = omega arith in
-            let m = moved q j i far (ap (λ (b : Bool). cond b (sh.position q.number - 1) (sh.position q.number))
-            (eq-eqb (sh.seat q.number) id o.2) ∙ less) (o.2 ∙ sym t.0) in (o.0, o.1, m.0, m.1))
-            (λ (t : (j ≢ id) × (get_elem? s.views j ≡ some v')).
-            let o = sh.records j v' t.1 i q e' in
-            let far : q.number ≢ r.number = (λ z. t.0 (sym o.2 ∙ ap sh.seat z ∙ first.2)) in
-            let m = moved q j i far (ap (λ (b : Bool). cond b (sh.position q.number - 1) (sh.position q.number))
-            (ne_eqb (sh.seat q.number) id (λ z. t.0 (sym o.2 ∙ z))) ∙ o.3) o.2 in (o.0, o.1, m.0, m.1))
-            (at_set s.views id j (viewing rs) v' old))
-            (λ (t : (j ≡ length vs) × (alone r ≡ v')).
-            let o = only_first i r q (ap (λ (z : View T). get_elem? z.records.value i) t.1 ∙ e') in
-            let num : q.number ≡ r.number = ap (λ (x : Record T). x.number) (sym o.1) in (
-              subst (λ (z : Record T). z.number < n) o.1 first.0,
-              subst (λ (z : Record T). z.steps ≡ own_steps z.number sh.history) o.1 first.1,
-              ap (λ (b : Bool). cond b (length vs) (sh.seat q.number)) (eq-eqb q.number r.number num) ∙ sym t.0,
-              ap (λ (b : Bool). cond b 0 (cond (nat_eq (sh.seat q.number) id) (sh.position q.number - 1)
-                  (sh.position q.number))) (eq-eqb q.number r.number num) ∙ sym o.0,
-            ))
-            (snoc_at vs (alone r) v' j e);
-        each = everyone_split T n s.views sh.seat sh.position id r rs here
-            (λ q i e. (sh.records id (viewing (r ∷ rs)) here i q e).3) first.3 sh.each;
-      }
+  splits_from id v r rs is s sh at = reseated s sh _ (split _ _ _ n s.views (standing s sh) id (viewing (r ∷ rs))
+      (viewing rs) (alone r) r rs refl refl refl (at ∙ ap some is))
 
   pub splits : (id : ℕ) (v : View T) (r : Record T) (rs : List (Record T)) → v ≡ viewing (r ∷ rs)
       → Splits Rule id v (other_views v) (first_view v)
@@ -225,43 +207,5 @@ module _ {S T : Type 0} (n : ℕ) (start : List ℕ) (after : T → List ℕ →
 
   -- the other's records stand behind those of the first
   pub joins : (id : ℕ) (v : View T) (other : ℕ) (w : View T) → Joins Rule id v other w (both_views v w) (viewing [])
-  joins id v other w s sh at apart there =
-      let both : View T = both_views v w in let vs : List (View T) = set s.views id both in
-      let that : get_elem? s.views other ≡ some w = sym (set_else s.views id other both apart) ∙ there in
-      let seat' : ℕ → ℕ = λ c. cond (nat_eq (sh.seat c) other) id (sh.seat c) in
-      let position' : ℕ → ℕ = λ c. cond (nat_eq (sh.seat c) other) (length v.records.value + sh.position c)
-      (sh.position c) in
-      let stays : (q : Record T) (j i : ℕ) → j ≢ other → sh.seat q.number ≡ j → sh.position q.number ≡ i
-      → (seat' q.number ≡ j) × (position' q.number ≡ i) =
-      (λ q j i far es ep. (
-        ap (λ (b : Bool). cond b id (sh.seat q.number)) (ne_eqb (sh.seat q.number) other (λ z. far (sym es ∙ z))) ∙ es,
-        ap (λ (b : Bool). cond b (length v.records.value + sh.position q.number) (sh.position q.number))
-            (ne_eqb (sh.seat q.number) other (λ z. far (sym es ∙ z))) ∙ ep,
-      )) in record {
-        history = sh.history;
-        lawful = sh.lawful;
-        words_are = sh.words_are;
-        seat = seat';
-        position = position';
-        records = λ j v' e i q e'. ⊎_elim
-            (λ (t : (j ≡ other) × (viewing [] ≡ v')). absurd
-            (some-ne-none q (sym (ap (λ (z : View T). get_elem? z.records.value i) t.1 ∙ e'))))
-            (λ (t : (j ≢ other) × (get_elem? vs j ≡ some v')). ⊎_elim
-            (λ (u : (j ≡ id) × (both ≡ v')). ⊎_elim
-            (λ (own : get_elem? v.records.value i ≡ some q). let o = sh.records id v at i q own in
-            let m = stays q j i t.0 (o.2 ∙ sym u.0) o.3 in (o.0, o.1, m.0, m.1))
-            (λ (his : (a : ℕ) × (i ≡ length v.records.value + a) × (get_elem? w.records.value a ≡ some q)). let o =
-            sh.records other w that his.0 q his.2 in (
-              o.0,
-              o.1,
-              ap (λ (b : Bool). cond b id (sh.seat q.number)) (eq-eqb (sh.seat q.number) other o.2) ∙ sym u.0,
-              ap (λ (b : Bool). cond b (length v.records.value + sh.position q.number) (sh.position q.number))
-                  (eq-eqb (sh.seat q.number) other o.2) ∙ ap (λ (z : ℕ). length v.records.value + z) o.3 ∙ sym his.1,
-            ))
-            (append_at v.records.value w.records.value q i (ap (λ (z : View T). get_elem? z.records.value i) u.1 ∙ e')))
-            (λ (u : (j ≢ id) × (get_elem? s.views j ≡ some v')). let o = sh.records j v' u.1 i q e' in
-            let m = stays q j i t.0 o.2 o.3 in (o.0, o.1, m.0, m.1))
-            (at_set s.views id j both v' t.1))
-            (at_set vs other j (viewing []) v' e);
-        each = everyone_join T n s.views sh.seat sh.position id other v w at that apart sh.each;
-      }
+  joins id v other w s sh at apart there = reseated s sh _ (join _ _ _ n s.views (standing s sh) id other v w
+      (both_views v w) (viewing []) refl refl at (sym (set_else s.views id other (both_views v w) apart) ∙ there) apart)

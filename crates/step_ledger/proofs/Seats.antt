@@ -1,15 +1,12 @@
--- Where each member's record stands, as views pass from seat to seat.
-use Rattle.std.proofs.Common.{◌≡◌, ◌≢◌, ℕ, zero, suc, ◌+◌, ◌-◌, ◌<◌, ◌⊎◌, List, [], ◌∷◌, ◌++◌, length, set, nat_eq, Bool, cond, arith, refl, sym, ap, ◌∙◌, ⊎_elim, inl, inr, eq-eqb, ne_eqb}
+-- Where each member's record stands, as views pass from seat to seat. Nothing here depends on what a record tells.
+use Rattle.std.proofs.Common.{◌≡◌, ◌≢◌, ℕ, zero, suc, ◌+◌, ◌-◌, ◌<◌, ◌⊎◌, List, [], ◌∷◌, ◌++◌, length, set, nat_eq, Bool, cond, arith, refl, sym, ap, ◌∙◌, subst, ⊎_elim, inl, inr, eq-eqb, ne_eqb}
 use mathlib.Core.Option.{some, some-injective, some-ne-none}
 use mathlib.Core.Logic.{dite}
 use native.Mathlib.Decide.{ℕ_discrete}
 use lib.ListN.{get_elem?}
-use Rattle.atomic_table.proofs.Lists.{set_here, set_else, at_longer}
-use Rattle.step_ledger.specs.declared.record.Record.{Record}
-use Rattle.step_ledger.specs.declared.record.View.{View}
-use Rattle.step_ledger.specs.Views.{viewing, alone, both_views}
-use Rattle.step_ledger.specs.Ledger.{Everyone}
+use Rattle.atomic_table.proofs.Lists.{at_set, set_here, set_else, at_longer}
 
+-- an entry stands below the length
 pub within : {A : Type 0} (l : List A) (i : ℕ) (a : A) → get_elem? l i ≡ some a → i < length l
 within [] i a e = absurd (some-ne-none a (sym e))
 within (x ∷ xs) zero a e = omega arith
@@ -24,146 +21,230 @@ snoc_at (x ∷ xs) a b zero e = inl e
 snoc_at (x ∷ xs) a b (suc j) e =
     ⊎_elim inl (λ (t : (j ≡ length xs) × (a ≡ b)). inr (ap suc t.0, t.1)) (snoc_at xs a b j e)
 
+-- the last entry of a longer list
 pub snoc_here : {A : Type 0} (l : List A) (a : A) → get_elem? (l ++ a ∷ []) (length l) ≡ some a
 snoc_here [] a = refl
 snoc_here (x ∷ xs) a = snoc_here xs a
 
-pub append_at : {A : Type 0} (l m : List A) (b : A) (j : ℕ) → get_elem? (l ++ m) j ≡ some b → (get_elem? l j ≡ some b)
-    ⊎ ((i : ℕ) × (j ≡ length l + i) × (get_elem? m i ≡ some b))
+-- an entry of two lists is one of the first or of the second
+pub append_at : {A : Type 0} (l m : List A) (b : A) (j : ℕ) → get_elem? (l ++ m) j ≡ some b
+    → (get_elem? l j ≡ some b) ⊎ ((i : ℕ) × (j ≡ length l + i) × (get_elem? m i ≡ some b))
 append_at [] m b j e = inr (j, omega arith, e)
 append_at (x ∷ xs) m b zero e = inl e
 append_at (x ∷ xs) m b (suc j) e =
-    ⊎_elim inl (λ (t : (i : ℕ) × (j ≡ length xs + i) × (get_elem? m i ≡ some b)). inr (
-      t.0,
-      ap suc t.1
-          ∙ omega arith,
-      t.2,
-    )) (append_at xs m b j e)
+    ⊎_elim inl (λ (t : (i : ℕ) × (j ≡ length xs + i) × (get_elem? m i ≡ some b)). inr
+    (t.0, ap suc t.1 ∙ omega arith, t.2)) (append_at xs m b j e)
 
+-- an entry of the second of two lists
 pub append_second : {A : Type 0} (l m : List A) (i : ℕ) → get_elem? (l ++ m) (length l + i) ≡ get_elem? m i
 append_second [] m i = let e : 0 + i ≡ i = omega arith in ap (get_elem? m) e
-append_second (x ∷ xs) m i = let e : suc (length xs) + i ≡ suc (length xs + i) = omega arith in
+append_second (x ∷ xs) m i =
+    let e : suc (length xs) + i ≡ suc (length xs + i) = omega arith in
     ap (get_elem? ((x ∷ xs) ++ m)) e ∙ append_second xs m i
 
-module _ (R : Type 0) (n : ℕ) (views : List (View R)) (seat position : ℕ → ℕ) where
-  first : (i : ℕ) (a q : Record R) → get_elem? (a ∷ []) i ≡ some q → (i ≡ 0) × (a ≡ q)
-  first zero a q e = (refl, some-injective a q e)
-  first (suc i) a q e = absurd (some-ne-none q (sym e))
+-- what holds of each pair of entries holds with one pair more
+pub pairs_more : {A : Type 0} (P : A → A → Type 0) (olds news : List A) (a b : A) → length news ≡ length olds
+    → ((n : ℕ) (x y : A) → get_elem? olds n ≡ some x → get_elem? news n ≡ some y → P x y) → P a b
+    → (n : ℕ) (x y : A) → get_elem? (olds ++ a ∷ []) n ≡ some x → get_elem? (news ++ b ∷ []) n ≡ some y → P x y
+pairs_more {A} P olds news a b long same one n x y e f = ⊎_elim
+    (λ (old : get_elem? olds n ≡ some x). ⊎_elim
+    (λ (new : get_elem? news n ≡ some y). same n x y old new)
+    (λ (t : (n ≡ length news) × (b ≡ y)). let low = within olds n x old in let here = t.0 in absurd (omega arith))
+    (snoc_at news b y n f))
+    (λ (t : (n ≡ length olds) × (a ≡ x)). ⊎_elim
+    (λ (new : get_elem? news n ≡ some y). let low = within news n y new in let here = t.0 in absurd (omega arith))
+    (λ (u : (n ≡ length news) × (b ≡ y)). subst (λ (z : A × A). P z.0 z.1) (λ j. (t.1 j, u.1 j)) one)
+    (snoc_at news b y n f))
+    (snoc_at olds a x n e)
 
-  -- a record of the same caller takes the place of the only one
-  pub everyone_same : (id : ℕ) (r r' : Record R) → get_elem? views id ≡ some (alone r) → r'.number ≡ r.number
-      → Everyone n views seat position → Everyone n (set views id (alone r')) seat position
-  everyone_same id r r' at same each c l = let w = each c l in dite (ℕ_discrete (seat c) id)
+first_only : {A : Type 0} (i : ℕ) (a q : A) → get_elem? (a ∷ []) i ≡ some q → (i ≡ 0) × (a ≡ q)
+first_only zero a q e = (refl, some-injective a q e)
+first_only (suc i) a q e = absurd (some-ne-none q (sym e))
+
+behind : {A : Type 0} (i : ℕ) (a : A) (qs : List A) (q : A) → (a ≢ q) → get_elem? (a ∷ qs) i ≡ some q
+    → get_elem? qs (i - 1) ≡ some q
+behind zero a qs q ne e = absurd (ne (some-injective a q e))
+behind (suc i) a qs q ne e = (let z : suc i - 1 ≡ i = omega arith in ap (get_elem? qs) z) ∙ e
+
+module _ {V A : Type 0} (items : V → List A) (number : A → ℕ) where
+  -- each number below n has a record in some view
+  abbrev pub EachStands : ℕ → List V → (ℕ → ℕ) → (ℕ → ℕ) → Type 0
+  EachStands n views seat position = (c : ℕ) → c < n → (v : V) × (r : A) × (get_elem? views (seat c) ≡ some v)
+      × (get_elem? (items v) (position c) ≡ some r) × (number r ≡ c)
+
+  -- where the records stand: each number has one seat and one position there, and what is known of its record
+  pub record Standing (Known : A → Type 0) (n : ℕ) (views : List V) : Type 0 where
+    pub seat : ℕ → ℕ
+    pub position : ℕ → ℕ
+    pub records : (j : ℕ) (v : V) → get_elem? views j ≡ some v → (i : ℕ) (r : A) → get_elem? (items v) i ≡ some r
+        → Known r × (seat (number r) ≡ j) × (position (number r) ≡ i)
+    pub each : EachStands n views seat position
+
+  -- a record of the same number takes the place of the only one
+  pub each_same : (n : ℕ) (views : List V) (seat position : ℕ → ℕ) (id : ℕ) (v v' : V) (r r' : A)
+      → items v ≡ r ∷ [] → items v' ≡ r' ∷ []
+      → get_elem? views id ≡ some v → number r' ≡ number r → EachStands n views seat position
+      → EachStands n (set views id v') seat position
+  each_same n views seat position id v v' r r' is is' at same each c l = let w = each c l in
+      dite (ℕ_discrete (seat c) id)
       (λ (es : seat c ≡ id).
-      let one : alone r ≡ w.0 = some-injective (alone r) w.0 (sym at ∙ ap (get_elem? views) (sym es) ∙ w.2) in
-      let f = first (position c) r w.1 (ap (λ (z : View R). get_elem? z.records.value (position c)) one ∙ w.3) in (
-        alone r',
+      let one : v ≡ w.0 = some-injective v w.0 (sym at ∙ ap (get_elem? views) (sym es) ∙ w.2) in
+      let f = first_only (position c) r w.1 (ap (λ (z : List A). get_elem? z (position c)) (sym is ∙ ap items one)
+      ∙ w.3) in (
+        v',
         r',
-        ap (get_elem? (set views id (alone r'))) es
-            ∙ set_here views id (alone r') (within views id (alone r) at),
-        ap (get_elem? (r' ∷ [])) f.0,
-        same
-            ∙ ap (λ (z : Record R). z.number) f.1 ∙ w.4,
+        ap (get_elem? (set views id v')) es ∙ set_here views id v' (within views id v at),
+        ap (λ (z : List A). get_elem? z (position c)) is' ∙ ap (get_elem? (r' ∷ [])) f.0,
+        same ∙ ap number f.1 ∙ w.4,
       ))
-      (λ (far : seat c ≢ id). (w.0, w.1, set_else views id (seat c) (alone r') far ∙ w.2, w.3, w.4))
+      (λ (far : seat c ≢ id). (w.0, w.1, set_else views id (seat c) v' far ∙ w.2, w.3, w.4))
 
-  pub everyone_split : (id : ℕ) (r : Record R) (rs : List (Record R)) → get_elem? views id ≡ some (viewing (r ∷ rs))
-      → ((q : Record R) (i : ℕ) → get_elem? (r ∷ rs) i ≡ some q → position q.number ≡ i) → position r.number ≡ 0
-      → Everyone n views seat position
-      → Everyone n (set views id (viewing rs) ++ alone r ∷ [])
-      (λ c. cond (nat_eq c r.number) (length (set views id (viewing rs))) (seat c))
-      (λ c. cond (nat_eq c r.number) 0 (cond (nat_eq (seat c) id) (position c - 1) (position c)))
-  everyone_split id r rs at places zero_there each c l = let vs : List (View R) = set views id (viewing rs) in
-      let w = each c l in dite (ℕ_discrete c r.number)
-      (λ (e : c ≡ r.number). (
-        alone r,
-        r,
-        ap (λ (b : Bool). get_elem? (vs ++ alone r ∷ []) (cond b (length vs) (seat c))) (eq-eqb c r.number e)
-            ∙ snoc_here vs (alone r),
-        ap (λ (b : Bool). get_elem? (r ∷ []) (cond b 0 (cond (nat_eq (seat c) id) (position c - 1) (position c))))
-            (eq-eqb c r.number e),
-        sym e,
-      ))
-      (λ (ne : c ≢ r.number).
-      let seat_is : cond (nat_eq c r.number) (length vs) (seat c) ≡ seat c =
-      ap (λ (b : Bool). cond b (length vs) (seat c)) (ne_eqb c r.number ne) in
-      let place_is : cond (nat_eq c r.number) 0 (cond (nat_eq (seat c) id) (position c - 1) (position c))
-      ≡ cond (nat_eq (seat c) id) (position c - 1) (position c)
-      = ap (λ (b : Bool). cond b 0 (cond (nat_eq (seat c) id) (position c - 1) (position c))) (ne_eqb c r.number ne) in
-      dite (ℕ_discrete (seat c) id)
-      (λ (es : seat c ≡ id).
-      let one : viewing (r ∷ rs) ≡ w.0 = some-injective (viewing (r ∷ rs)) w.0 (sym at
-      ∙ ap (get_elem? views) (sym es) ∙ w.2) in
-      let q = behind (position c) r rs w.1 (λ z. ne (sym w.4 ∙ ap (λ (x : Record R). x.number) (sym z)))
-      (ap (λ (z : View R). get_elem? z.records.value (position c)) one ∙ w.3) in (
-        viewing rs,
-        w.1,
-        ap (get_elem? (vs ++ alone r ∷ [])) (seat_is ∙ es)
-            ∙ at_longer vs (alone r ∷ []) id (viewing rs)
-            (set_here views id (viewing rs) (within views id (viewing (r ∷ rs)) at)),
-        ap (get_elem? rs) (place_is ∙ ap (λ (b : Bool). cond b (position c - 1) (position c)) (eq-eqb (seat c) id es))
-            ∙ q,
-        w.4,
-      ))
-      (λ (far : seat c ≢ id). (
-        w.0,
-        w.1,
-        ap (get_elem? (vs ++ alone r ∷ [])) seat_is
-            ∙ at_longer vs (alone r ∷ []) (seat c) w.0 (set_else views id (seat c) (viewing rs) far ∙ w.2),
-        ap (get_elem? w.0.records.value) (place_is ∙ ap (λ (b : Bool). cond b (position c - 1) (position c))
-            (ne_eqb (seat c) id far)) ∙ w.3,
-        w.4,
-      )))
-    where
-      behind : (i : ℕ) (a : Record R) (qs : List (Record R)) (q : Record R) → (a ≢ q) → get_elem? (a ∷ qs) i ≡ some q
-          → get_elem? qs (i - 1) ≡ some q
-      behind zero a qs q ne e = absurd (ne (some-injective a q e))
-      behind (suc i) a qs q ne e = (let z : suc i - 1 ≡ i = omega arith in ap (get_elem? qs) z) ∙ e
+  module _ (Known : A → Type 0) (n : ℕ) (views : List V) (s : Standing Known n views) where
+    module _ (id : ℕ) (v left one : V) (r : A) (rs : List A) (is : items v ≡ r ∷ rs) (left_is : items left ≡ rs)
+        (one_is : items one ≡ r ∷ []) (at : get_elem? views id ≡ some v) where
+      abbrev vs : List V
+      vs = set views id left
 
-  pub everyone_join : (id other : ℕ) (v w : View R) → get_elem? views id ≡ some v → get_elem? views other ≡ some w
-      → ¬ (other ≡ id) → Everyone n views seat position
-      → Everyone n (set (set views id (both_views v w)) other (viewing []))
-      (λ c. cond (nat_eq (seat c) other) id (seat c))
-      (λ c. cond (nat_eq (seat c) other) (length v.records.value + position c) (position c))
-  everyone_join id other v w at that apart each c l =
-      let both : View R = both_views v w in let vs : List (View R) = set views id both in let x = each c l in
-      let there : get_elem? (set vs other (viewing [])) id ≡ some both =
-      set_else vs other id (viewing []) (λ (z : id ≡ other). apart (sym z))
-      ∙ set_here views id both (within views id v at) in
-      dite (ℕ_discrete (seat c) other)
-      (λ (es : seat c ≡ other).
-      let one : w ≡ x.0 = some-injective w x.0 (sym that ∙ ap (get_elem? views) (sym es) ∙ x.2) in (
-        both,
-        x.1,
-        ap (λ (b : Bool). get_elem? (set vs other (viewing [])) (cond b id (seat c))) (eq-eqb (seat c) other es)
-            ∙ there,
-        ap (λ (b : Bool). get_elem? (v.records.value ++ w.records.value) (cond b (length v.records.value + position c)
-            (position c))) (eq-eqb (seat c) other es)
-            ∙ append_second v.records.value w.records.value (position c)
-            ∙ ap (λ (z : View R). get_elem? z.records.value (position c)) one ∙ x.3,
-        x.4,
-      ))
-      (λ (far : seat c ≢ other).
-      let seat_is : cond (nat_eq (seat c) other) id (seat c) ≡ seat c =
-      ap (λ (b : Bool). cond b id (seat c)) (ne_eqb (seat c) other far) in
-      let place_is : cond (nat_eq (seat c) other) (length v.records.value + position c) (position c) ≡ position c =
-      ap (λ (b : Bool). cond b (length v.records.value + position c) (position c)) (ne_eqb (seat c) other far) in
-      dite (ℕ_discrete (seat c) id)
-      (λ (es : seat c ≡ id).
-      let one : v ≡ x.0 = some-injective v x.0 (sym at ∙ ap (get_elem? views) (sym es) ∙ x.2) in (
-        both,
-        x.1,
-        ap (get_elem? (set vs other (viewing []))) (seat_is ∙ es) ∙ there,
-        ap (get_elem? (v.records.value ++ w.records.value)) place_is
-            ∙ at_longer v.records.value w.records.value (position c) x.1
-            (ap (λ (z : View R). get_elem? z.records.value (position c)) one ∙ x.3),
-        x.4,
-      ))
-      (λ (off : seat c ≢ id). (
-        x.0,
-        x.1,
-        ap (get_elem? (set vs other (viewing []))) seat_is ∙ set_else vs other (seat c) (viewing []) far
-            ∙ set_else views id (seat c) both off ∙ x.2,
-        ap (get_elem? x.0.records.value) place_is ∙ x.3,
-        x.4,
-      )))
+      -- the first record passes to a new seat
+      pub split : Standing Known n (set views id left ++ one ∷ [])
+      split =
+          let first = s.records id v at 0 r (ap (λ (z : List A). get_elem? z 0) is) in
+          let seat' : ℕ → ℕ = λ c. cond (nat_eq c (number r)) (length vs) (s.seat c) in
+          let before : ℕ → ℕ = λ c. cond (nat_eq (s.seat c) id) (s.position c - 1) (s.position c) in
+          let position' : ℕ → ℕ = λ c. cond (nat_eq c (number r)) 0 (before c) in
+          let stays : (c : ℕ) → c ≢ number r → (seat' c ≡ s.seat c) × (position' c ≡ before c) = (λ c far. (
+            ap (λ (b : Bool). cond b (length vs) (s.seat c)) (ne_eqb c (number r) far),
+            ap (λ (b : Bool). cond b 0 (before c)) (ne_eqb c (number r) far),
+          )) in
+          let goes : (c : ℕ) → c ≡ number r → (seat' c ≡ length vs) × (position' c ≡ 0) = (λ c here. (
+            ap (λ (b : Bool). cond b (length vs) (s.seat c)) (eq-eqb c (number r) here),
+            ap (λ (b : Bool). cond b 0 (before c)) (eq-eqb c (number r) here),
+          )) in
+          let here : (c : ℕ) → s.seat c ≡ id → before c ≡ s.position c - 1 =
+          (λ c e. ap (λ (b : Bool). cond b (s.position c - 1) (s.position c)) (eq-eqb (s.seat c) id e)) in
+          let else : (c : ℕ) → s.seat c ≢ id → before c ≡ s.position c =
+          (λ c e. ap (λ (b : Bool). cond b (s.position c - 1) (s.position c)) (ne_eqb (s.seat c) id e)) in record {
+            seat = seat';
+            position = position';
+            records = λ j v' e i q e'. ⊎_elim
+                (λ (old : get_elem? vs j ≡ some v'). ⊎_elim
+                (λ (t : (j ≡ id) × (left ≡ v')).
+                let o = s.records id v at (suc i) q (ap (λ (z : List A). get_elem? z (suc i)) is
+                ∙ ap (λ (z : List A). get_elem? z i) (sym left_is ∙ ap items t.1) ∙ e') in
+                let far : number q ≢ number r = (λ z. let p = sym o.2 ∙ ap s.position z ∙ first.2 in
+                absurd (omega arith)) in
+                let p = o.2 in let less : s.position (number q) - 1 ≡ i = omega arith in
+                let m = stays (number q) far in
+                (o.0, m.0 ∙ o.1 ∙ sym t.0, m.1 ∙ here (number q) o.1 ∙ less))
+                (λ (t : (j ≢ id) × (get_elem? views j ≡ some v')).
+                let o = s.records j v' t.1 i q e' in
+                let m = stays (number q) (λ z. t.0 (sym o.1 ∙ ap s.seat z ∙ first.1)) in
+                (o.0, m.0 ∙ o.1, m.1 ∙ else (number q) (λ z. t.0 (sym o.1 ∙ z)) ∙ o.2))
+                (at_set views id j left v' old))
+                (λ (t : (j ≡ length vs) × (one ≡ v')).
+                let o = first_only i r q (ap (λ (z : List A). get_elem? z i) (sym one_is ∙ ap items t.1) ∙ e') in
+                let m = goes (number q) (ap number (sym o.1)) in
+                (subst Known o.1 first.0, m.0 ∙ sym t.0, m.1 ∙ sym o.0))
+                (snoc_at vs one v' j e);
+            each = λ c l. let w = s.each c l in dite (ℕ_discrete c (number r))
+                (λ (e : c ≡ number r). let m = goes c e in (
+                  one,
+                  r,
+                  ap (get_elem? (vs ++ one ∷ [])) m.0 ∙ snoc_here vs one,
+                  ap (get_elem? (items one)) m.1 ∙ ap (λ (z : List A). get_elem? z 0) one_is,
+                  sym e,
+                ))
+                (λ (ne : c ≢ number r). let m = stays c ne in dite (ℕ_discrete (s.seat c) id)
+                (λ (es : s.seat c ≡ id).
+                let same : v ≡ w.0 = some-injective v w.0 (sym at ∙ ap (get_elem? views) (sym es) ∙ w.2) in
+                let q = behind (s.position c) r rs w.1 (λ z. ne (sym w.4 ∙ ap number (sym z)))
+                (ap (λ (z : List A). get_elem? z (s.position c)) (sym is ∙ ap items same) ∙ w.3) in (
+                  left,
+                  w.1,
+                  ap (get_elem? (vs ++ one ∷ [])) (m.0 ∙ es) ∙ at_longer vs (one ∷ []) id left
+                      (set_here views id left (within views id v at)),
+                  ap (get_elem? (items left)) (m.1 ∙ here c es)
+                      ∙ ap (λ (z : List A). get_elem? z (s.position c - 1)) left_is ∙ q,
+                  w.4,
+                ))
+                (λ (far : s.seat c ≢ id). (
+                  w.0,
+                  w.1,
+                  ap (get_elem? (vs ++ one ∷ [])) m.0 ∙ at_longer vs (one ∷ []) (s.seat c) w.0
+                      (set_else views id (s.seat c) left far ∙ w.2),
+                  ap (get_elem? (items w.0)) (m.1 ∙ else c far) ∙ w.3,
+                  w.4,
+                )));
+          }
+
+    module _ (id other : ℕ) (v w both none : V) (both_is : items both ≡ items v ++ items w) (none_is : items none ≡ [])
+        (at : get_elem? views id ≡ some v) (that : get_elem? views other ≡ some w) (apart : ¬ (other ≡ id)) where
+      abbrev us : List V
+      us = set views id both
+
+      -- one seat's records pass behind another's
+      pub join : Standing Known n (set (set views id both) other none)
+      join =
+          let many : ℕ = length (items v) in
+          let seat' : ℕ → ℕ = λ c. cond (nat_eq (s.seat c) other) id (s.seat c) in
+          let position' : ℕ → ℕ = λ c. cond (nat_eq (s.seat c) other) (many + s.position c) (s.position c) in
+          let stays : (c : ℕ) → s.seat c ≢ other → (seat' c ≡ s.seat c) × (position' c ≡ s.position c) = (λ c far. (
+            ap (λ (b : Bool). cond b id (s.seat c)) (ne_eqb (s.seat c) other far),
+            ap (λ (b : Bool). cond b (many + s.position c) (s.position c)) (ne_eqb (s.seat c) other far),
+          )) in
+          let goes : (c : ℕ) → s.seat c ≡ other → (seat' c ≡ id) × (position' c ≡ many + s.position c) = (λ c here. (
+            ap (λ (b : Bool). cond b id (s.seat c)) (eq-eqb (s.seat c) other here),
+            ap (λ (b : Bool). cond b (many + s.position c) (s.position c)) (eq-eqb (s.seat c) other here),
+          )) in
+          let there : get_elem? (set us other none) id ≡ some both =
+          set_else us other id none (λ (z : id ≡ other). apart (sym z)) ∙ set_here views id both (within views id v at)
+          in record {
+            seat = seat';
+            position = position';
+            records = λ j v' e i q e'. ⊎_elim
+                (λ (t : (j ≡ other) × (none ≡ v')). absurd (some-ne-none q
+                (sym (ap (λ (z : List A). get_elem? z i) (sym none_is ∙ ap items t.1) ∙ e'))))
+                (λ (t : (j ≢ other) × (get_elem? us j ≡ some v')). ⊎_elim
+                (λ (u : (j ≡ id) × (both ≡ v')). ⊎_elim
+                (λ (own : get_elem? (items v) i ≡ some q). let o = s.records id v at i q own in
+                let m = stays (number q) (λ z. t.0 (u.0 ∙ sym o.1 ∙ z)) in (o.0, m.0 ∙ o.1 ∙ sym u.0, m.1 ∙ o.2))
+                (λ (his : (a : ℕ) × (i ≡ many + a) × (get_elem? (items w) a ≡ some q)).
+                let o = s.records other w that his.0 q his.2 in let m = goes (number q) o.1 in
+                (o.0, m.0 ∙ sym u.0, m.1 ∙ ap (λ (z : ℕ). many + z) o.2 ∙ sym his.1))
+                (append_at (items v) (items w) q i
+                (ap (λ (z : List A). get_elem? z i) (sym both_is ∙ ap items u.1) ∙ e')))
+                (λ (u : (j ≢ id) × (get_elem? views j ≡ some v')). let o = s.records j v' u.1 i q e' in
+                let m = stays (number q) (λ z. t.0 (sym o.1 ∙ z)) in (o.0, m.0 ∙ o.1, m.1 ∙ o.2))
+                (at_set views id j both v' t.1))
+                (at_set us other j none v' e);
+            each = λ c l. let x = s.each c l in dite (ℕ_discrete (s.seat c) other)
+                (λ (es : s.seat c ≡ other). let m = goes c es in
+                let same : w ≡ x.0 = some-injective w x.0 (sym that ∙ ap (get_elem? views) (sym es) ∙ x.2) in (
+                  both,
+                  x.1,
+                  ap (get_elem? (set us other none)) m.0 ∙ there,
+                  ap (get_elem? (items both)) m.1 ∙ ap (λ (z : List A). get_elem? z (many + s.position c)) both_is
+                      ∙ append_second (items v) (items w) (s.position c)
+                      ∙ ap (λ (z : V). get_elem? (items z) (s.position c)) same ∙ x.3,
+                  x.4,
+                ))
+                (λ (far : s.seat c ≢ other). let m = stays c far in dite (ℕ_discrete (s.seat c) id)
+                (λ (es : s.seat c ≡ id).
+                let same : v ≡ x.0 = some-injective v x.0 (sym at ∙ ap (get_elem? views) (sym es) ∙ x.2) in (
+                  both,
+                  x.1,
+                  ap (get_elem? (set us other none)) (m.0 ∙ es) ∙ there,
+                  ap (get_elem? (items both)) m.1 ∙ ap (λ (z : List A). get_elem? z (s.position c)) both_is
+                      ∙ at_longer (items v) (items w) (s.position c) x.1
+                      (ap (λ (z : V). get_elem? (items z) (s.position c)) same ∙ x.3),
+                  x.4,
+                ))
+                (λ (off : s.seat c ≢ id). (
+                  x.0,
+                  x.1,
+                  ap (get_elem? (set us other none)) m.0 ∙ set_else us other (s.seat c) none far
+                      ∙ set_else views id (s.seat c) both off ∙ x.2,
+                  ap (get_elem? (items x.0)) m.1 ∙ x.3,
+                  x.4,
+                )));
+          }

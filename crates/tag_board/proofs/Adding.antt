@@ -1,4 +1,4 @@
--- What hands count, summed up over both sets, is what the callers of their world count.
+-- The counts of all hands, summed over both sets, are the sums over all callers of the state.
 use Rattle.std.proofs.Common.{◌≡◌, ℕ, suc, ◌+◌, Bool, true, false, cond, List, [], ◌∷◌, length, map, get_or, All, is_some, refl, sym, ap, ◌∙◌, arith}
 use Rattle.std.proofs.lemmas.List.Recursion.{is_count_by}
 use Rattle.tag_layout.specs.Sums.{sum_below}
@@ -19,7 +19,7 @@ use Rattle.tag_board.specs.States.{Part, idle, got_in, back_in, held_in, posted_
 use Rattle.tag_board.proofs.Sizings.{size_holds}
 
 module _ {R : Type 0} where
-  -- a number of each hand is that of its caller, and so is the sum
+  -- a number of each hand is that of its caller, so the sums are equal
   parts_sum : (f : Hand R → ℕ) (g : Part → ℕ) (hands : List (Hand R))
       → All (λ (hand : Hand R). f hand ≡ g (part_of hand)) hands
       → sum_of f hands ≡ sum_below (λ caller. g (get_or (map part_of hands) caller (idle false))) (length hands)
@@ -35,11 +35,11 @@ module _ {R : Type 0} where
       let e : suc len ≡ 1 + len = omega arith in
       (let all : f hand + sum_of f hands ≡ sum_below F (1 + len) = omega arith in all ∙ ap (sum_below F) (sym e))
 
-  -- a number of each agent's record, summed up over both sets
+  -- a number of each agent's record, summed over both sets
   abbrev pub sum_over : (Record R → ℕ) → List (Hand R) → ℕ
   sum_over n hands = sum_of n (records_of (map ordinary_part hands)) + sum_of n (records_of (map reserved_part hands))
 
-  -- it is the sum over the hands of what both agents of each count
+  -- that sum is the sum over the hands of the numbers of both their agents
   pub both_sets : (n : Record R → ℕ) (hands : List (Hand R))
       → sum_of (λ (hand : Hand R). n (record_in hand Ordinary) + n (record_in hand Reserved)) hands ≡ sum_over n hands
   both_sets n [] = refl
@@ -80,7 +80,7 @@ add_up {R} tags hands own = record {
     one_more true n = refl
     one_more false n = omega arith
 
--- where each tag that was won is somewhere, as many tags are posted as of both sets
+-- if the tags of both sets balance, as many tags are posted as in both sets
 pub posted_up : {R : Type 0} (tags : Tags R) (hands : List (Hand R)) → All (IsHandOf tags) hands → BalanceInBoth hands
     → posted_in (state_of_all tags hands) ≡ posted_in_both hands
 posted_up tags hands own even = let sums = add_up tags hands own in

@@ -8,11 +8,11 @@ use Rattle.tag_board.specs.States.{State}
 use Rattle.tag_board.proofs.Moves.{names_run}
 
 module _ (first mask : ℕ) where
-  -- a bit of the mask stands for a tag of the batch
+  -- a one in the mask is a tag of the batch
   pub in_run : (k : ℕ) → bit_at mask k ≡ 1 → is_in_run (Some (first, mask)) (first + k) ≡ true
   in_run k one = (names_run (Some (first, mask)) (first + k)).1 (k, refl, one)
 
-  -- what is so of each bit of the mask is so of the batch
+  -- what holds for each one of the mask holds for the batch
   pub all_in_run : (s : State) (caller : ℕ) → mask < 2 ^ 64
       → ((k : ℕ) → k < 64 → bit_at mask k ≡ 1 → NobodyElseHolds s caller (nat_eq (first + k)))
       → NobodyElseHolds s caller (is_in_run (Some (first, mask)))

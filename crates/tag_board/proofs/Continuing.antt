@@ -1,4 +1,4 @@
--- What a resize leaves of the world, and why it is refused.
+-- The state after a resize, and why a resize is refused.
 use Rattle.std.proofs.Common.{◌≡◌, ◌≢◌, ℕ, zero, suc, ◌+◌, ◌<◌, ◌≤◌, true, false, List, [], ◌∷◌, length, map, get_or, replicate, All, is_some, refl, sym, ap, ◌∙◌, arith, ⊎_elim}
 use Rattle.std.proofs.lemmas.Bool.{cases_lt}
 use Rattle.std.proofs.lemmas.List.{length-map, get_or-map, get_or_past}
@@ -11,7 +11,7 @@ use Rattle.tag_core.specs.declared.record.Record.{Record}
 use Rattle.tag_core.specs.Sizes.{total_of as sum_of, size_of}
 use Rattle.tag_core.specs.Reopening.{reopened_record}
 use Rattle.tag_core.proofs.Entries.{entry, entry_or, all_at}
-use Rattle.tag_core.proofs.Seats.{within}
+use Rattle.step_ledger.proofs.Seats.{within}
 use Rattle.tag_search.specs.declared.hint.Hint.{Hint}
 use Rattle.tag_search.proofs.SharedFacts.{count_ones-zero}
 use Rattle.wake_book.specs.declared.groups.Waiter.{Waiter}
@@ -41,20 +41,20 @@ use Rattle.tag_board.proofs.Adding.{both_sets, add_up, posted_up}
 use Rattle.tag_board.proofs.Holdings.{holds_same}
 use Rattle.tag_board.proofs.Sizings.{holds_none}
 
--- an empty mask for each word has no bit
+-- a list of zero masks has no bit
 size_none : (n : ℕ) → size_of (replicate n 0) ≡ 0
 size_none zero = refl
 size_none (suc n) = let one = count_ones-zero in let rest = size_none n in omega arith
 
 module _ {A : Type 0} where
-  -- where a sum is 0, each number is
+  -- the terms of a sum that is 0 are all 0
   all_none : (f : A → ℕ) (xs : List A) → sum_of f xs ≡ 0 → All (λ x. f x ≡ 0) xs
   all_none f [] none k d low = absurd (omega arith)
   all_none f (x ∷ xs) none zero d low = omega arith
   all_none f (x ∷ xs) none (suc k) d low = all_none f xs (omega arith) k d (omega arith)
 
 module _ {R : Type 0} where
-  -- parts that are one by one the same are those of one world
+  -- hands with equal parts make up the same state
   same_parts : (old new : List (Hand R)) → length new ≡ length old
       → ((n : ℕ) (a b : Hand R) → get_elem? old n ≡ some a → get_elem? new n ≡ some b → part_of b ≡ part_of a)
       → (caller : ℕ) → get_or (map part_of new) caller (idle false) ≡ get_or (map part_of old) caller (idle false)
@@ -70,11 +70,11 @@ module _ {R : Type 0} where
       ∙ sym (get_or_past (map part_of old) caller (idle false) (let z = length-map old part_of in omega arith)))
       (cases_lt caller (length old))
 
-  -- how many tags of a set a caller may win
+  -- the most tags of a set that a caller may win
   abbrev life_of : Tags R → Kind → ℕ
   life_of tags kind = (queue.shape_of (queue_of tags kind)).life
 
-  -- hands with the numbers that they had stand as they stood
+  -- hands with the same numbers as before are in the same order
   pub order_kept : (old new : List (Hand R)) → numbers_of new ≡ numbers_of old → AreOrdered old
       → (length new ≡ length old) × AreOrdered new
   order_kept old new same ordered =
@@ -82,7 +82,7 @@ module _ {R : Type 0} where
       ∙ ap (λ (ns : List ℕ). length ns) same ∙ length-map old number_of in
       (long, λ n low. ap (λ (ns : List ℕ). get_or ns n 0) same ∙ ordered n (omega arith))
 
-  -- a hand that is as it was has the part and the number that it had
+  -- an unchanged hand has the same part
   same_part : (a b : Hand R) → IsUnchanged a b → part_of b ≡ part_of a
   same_part a b u =
       let held = holds_same a b u.same in
@@ -101,11 +101,11 @@ module _ {R : Type 0} where
 
   module _ (old new : Tags R) (olds news : List (Hand R)) (same : sets.AreSame old new)
       (kept : sets.AreUnchanged olds news) where
-    -- as many tags
+    -- the total is unchanged
     pub total_kept : total_of new ≡ total_of old
     total_kept = λ j. same.split j + (queue.layout_of (same.ordinary j)).depth
 
-    -- the world of hands that are as they were is as it was
+    -- unchanged hands make up the same state
     pub world_kept : state_of_all new news ≡ state_of_all old olds
     world_kept =
         let part = same_parts olds news kept.count (λ n a b p q. same_part a b (kept.each n a b p q)) in
@@ -127,19 +127,19 @@ module _ {R : Type 0} where
           part = λ caller. part caller j;
         }
 
-    -- and the hands have their numbers
+    -- the hands keep their numbers
     pub numbers_kept : numbers_of news ≡ numbers_of olds
     numbers_kept = sym (ordinary_numbers news)
         ∙ unchanged-numbers (map ordinary_part olds) (map ordinary_part news) (ordinary_unchanged olds news kept)
         ∙ ordinary_numbers olds
 
--- what stands at one place of two lists that a function makes equal
+-- two lists that a function maps to the same list have equal images at each index
 same_at : {A B : Type 0} (f : A → B) (xs ys : List A) (n : ℕ) (x y : A) → map f ys ≡ map f xs
     → get_elem? xs n ≡ some x → get_elem? ys n ≡ some y → f y ≡ f x
 same_at {A} {B} f xs ys n x y same p q = some-injective (f y) (f x)
     (sym (at_map f ys n y q) ∙ ap (λ (l : List B). get_elem? l n) same ∙ at_map f xs n x p)
 
--- nobody holds a tag where no hand does
+-- no caller holds a tag if no hand does
 nobody_holds : {R : Type 0} (tags : Tags R) (hands : List (Hand R))
     → ((n : ℕ) (hand : Hand R) → get_elem? hands n ≡ some hand → (tag : ℕ) → holds hand tag ≡ false)
     → NobodyHolds (state_of_all tags hands) (λ tag. true)
@@ -152,7 +152,7 @@ nobody_holds tags hands none caller tag named = ⊎_elim
     (get_or_past (map part_of hands) caller (idle false) (let z = length-map hands part_of in omega arith)))
     (cases_lt caller (length hands))
 
--- a hand that goes on holds nothing, as before, and has its counts
+-- a hand that continues holds nothing, as before, and keeps its counts
 record GoesOn {R : Type 0} (a b : Hand R) : Type 0 where
   none : (tag : ℕ) → holds b tag ≡ false
   part : part_of b ≡ part_of a
@@ -192,11 +192,11 @@ module _ {R : Type 0} (old new : Tags R) (olds news : List (Hand R)) (total : �
         };
       }
 
-  -- as many hands, in their order
+  -- there are as many hands as before
   long : length news ≡ length olds
   long = sym (length-map news number_of) ∙ ap (λ (ns : List ℕ). length ns) is.numbers ∙ length-map olds number_of
 
-  -- the world is as it was, but for its total
+  -- only the total of the state changes
   pub world_resized : state_of_all new news ≡ record (state_of_all old olds) { total = total }
   world_resized =
       let part = same_parts olds news long (λ n a b p q. (goes_on n a b p q).part) in
@@ -218,18 +218,18 @@ module _ {R : Type 0} (old new : Tags R) (olds news : List (Hand R)) (total : �
         part = λ caller. part caller j;
       }
 
-  -- its tags are free
+  -- no caller holds a tag
   pub world_free : NobodyHolds (state_of_all new news) (λ tag. true)
   world_free = nobody_holds new news (λ n b q.
       let a = entry olds n (let low = within news n b q in let same = long in omega arith) in
       (goes_on n a.0 b a.1 q).none)
 
-  -- all hands are there
+  -- all hands are present
   pub every_there : length olds ≡ hands_of old → length news ≡ hands_of new
   every_there all = long ∙ all ∙ sym is.ordinary.callers.next.callers_is
 
 module _ {R : Type 0} (tags : Tags R) (hands : List (Hand R)) (own : All (IsHandOf tags) hands) where
-  -- the world has no tag in use where the hands have none
+  -- no tag is in use if the hands have none in use
   unused : sets.AreUnused hands → AreUnused (state_of_all tags hands)
   unused none = let sums = add_up tags hands own in
       let got = sums.got in let back = sums.back in let held = sums.held in
@@ -238,11 +238,11 @@ module _ {R : Type 0} (tags : Tags R) (hands : List (Hand R)) (own : All (IsHand
   used : BalanceInBoth hands → AreUnused (state_of_all tags hands) → sets.AreUnused hands
   used even none = (sym (add_up tags hands own).held ∙ none.0, sym (posted_up tags hands own even) ∙ none.1)
 
-  -- nothing is in the way of a resize of the world
+  -- no cause refuses the resize of the board if none refuses that of the tags
   pub may_resize : (total : ℕ) → sets.MayResize tags hands total → MayResize (state_of_all tags hands) total
   may_resize total may = (may.0.1, unused may.1, (add_up tags hands own).standing ∙ may.2)
 
-  -- what is in the way of one of the hands is in the way of one of the world
+  -- a cause that refuses the resize of the tags refuses that of the board
   pub refuses : (total : ℕ) (told : ResizeCause → Type 0) → AreTold (facts_of tags hands) total told
       → ((held posted : ℕ) → told (InUse held posted) → BalanceInBoth hands)
       → HasAll (numbers_of hands) (hands_of tags) → (cause : ResizeCause) → cause ≢ Memory → told cause

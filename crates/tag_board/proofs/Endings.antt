@@ -1,4 +1,4 @@
--- All hands are there, and the totals over them are those of their world.
+-- A board has all its hands, and their totals are those of its state.
 use Rattle.std.proofs.Common.{◌≡◌, ◌+◌, List, length, map, All, sym, ap, ◌∙◌, subst, arith}
 use Rattle.std.proofs.lemmas.List.{length-map}
 use mathlib.Core.Option.{some}
@@ -21,14 +21,14 @@ use Rattle.tag_board.specs.Closing.{totals_in}
 use Rattle.tag_board.specs.Parts.{AreOrdered, state_of_all}
 use Rattle.tag_board.proofs.Adding.{add_up}
 
--- hands in the order of their numbers, as many as the tags have, are all hands
+-- hands in the order of their numbers, as many as the tags have, are all the hands
 pub all_there : {R : Type 0} (tags : Tags R) (hands : List (Hand R)) → AreOrdered hands → length hands ≡ hands_of tags
     → HasAll (numbers_of hands) (hands_of tags)
 all_there tags hands ordered every n low =
     let long = length-map hands number_of in
     (n, entry_or (map number_of hands) n 0 (omega arith) ∙ ap some (ordered n (omega arith)))
 
--- these are the totals of callers with these records
+-- the totals of callers with these records
 record AreSums {R : Type 0} (rs : List (Record R)) (t : Totals) : Type 0 where
   got : t.got ≡ sum_of (λ (r : Record R). r.won) rs
   back : t.back ≡ sum_of (λ (r : Record R). r.back) rs
@@ -45,7 +45,7 @@ module _ {R : Type 0} where
     balance = g.tags.balance;
   }
 
-  -- what a gather of all hands tells
+  -- the totals that a gather of all hands returns
   pub totals_are : (tags : Tags R) (hands : List (Hand R)) (totals : QueueTotals) → All (IsHandOf tags) hands
       → IsGathered tags hands totals → totals.tags ≡ totals_in (state_of_all tags hands)
   totals_are tags hands totals own g =

@@ -1,4 +1,4 @@
--- What a call changes of a caller of a script, from what it changed of the hand's agent in one set.
+-- How a call changes the part of a caller, from how it changed the hand's agent in one set.
 use Rattle.std.proofs.Common.{◌≡◌, ℕ, ◌+◌, Bool, not, ◌&&◌, ◌||◌, is_some, refl, sym, ap, ◌∙◌, arith}
 use Rattle.tag_core.specs.declared.caller.Caller.{Caller}
 use Rattle.tag_core.specs.declared.record.Record.{Record}
@@ -14,8 +14,8 @@ use Rattle.tag_board.specs.Parts.{holds, record_in, part_of}
 use Rattle.tag_board.specs.Replays.{won_more, joined, won, left, cleared, standing}
 use Rattle.tag_board.proofs.Tallies.{Tallies}
 
--- the caller counts so many tags more, won of one set and given back; it stands where it stood, and its gets go round
--- as before
+-- the caller counts this many more tags, won of one set and given back; its wait group and its round robin are
+-- unchanged
 pub record PartTallies {R : Type 0} (kind : Kind) (n back : ℕ) (old new : Hand R) : Type 0 where
   pub won_is : (k : Kind) → (part_of new).won k ≡ won_more kind n (part_of old).won k
   pub back_is : (part_of new).back ≡ (part_of old).back + back
@@ -24,7 +24,7 @@ pub record PartTallies {R : Type 0} (kind : Kind) (n back : ℕ) (old new : Hand
   pub number : number_of new ≡ number_of old
 
 module _ {R : Type 0} (old new : Hand R) where
-  -- what the hand's agent in one set counts, the hand does, where its other agent is as it was
+  -- what the hand's agent in one set counts, the hand counts, if its other agent is unchanged
   pub part_tallies : (kind : Kind) (n back : ℕ) → Tallies n back (agent_of old kind) (agent_of new kind)
       → agent_of new (other_kind kind) ≡ agent_of old (other_kind kind) → PartTallies kind n back old new
   part_tallies Ordinary n back t other =
@@ -48,7 +48,7 @@ module _ {R : Type 0} (old new : Hand R) where
         number = ap queue.number_of other;
       }
 
-  -- no tag more of either set is none more
+  -- no more tags of either set leave the counts unchanged
   pub none_more : (kind : Kind) (w : Kind → ℕ) (k : Kind) → won_more kind 0 w k ≡ w k
   none_more Ordinary w Ordinary = omega arith
   none_more Ordinary w Reserved = refl
@@ -104,7 +104,7 @@ module _ {R : Type 0} (old new : Hand R) where
           round_robin = t.round j;
         }
 
-  -- a caller that counts no tag more, and holds what it held, is as it was
+  -- a caller that counts no more tags, and holds what it held, is unchanged
   pub part_same : (kind : Kind) → PartTallies kind 0 0 old new → ((tag : ℕ) → holds new tag ≡ holds old tag)
       → part_of new ≡ part_of old
   part_same kind t held = let back : (part_of new).back ≡ (part_of old).back = let e = t.back_is in omega arith in
@@ -117,7 +117,7 @@ module _ {R : Type 0} (old new : Hand R) where
         round_robin = t.round j;
       }
 
-  -- a caller whose agent in the ordinary set keeps its tags, its hint and its counts changes at most in where it stands
+  -- a caller whose ordinary agent keeps its tags, its hint and its counts changes at most its wait group
   pub part_standing : (stands : Bool) → queue.caller_of new.ordinary ≡ queue.caller_of old.ordinary
       → hint_of new Ordinary ≡ hint_of old Ordinary
       → new.reserved ≡ old.reserved → ((tag : ℕ) → holds new tag ≡ holds old tag) → is_some (standing_of new) ≡ stands

@@ -1,4 +1,4 @@
--- Which hands hold a tag, by their places.
+-- The callers that hold a tag, as hands at their indexes.
 use Rattle.std.proofs.Common.{◌≡◌, ℕ, zero, suc, ◌<◌, max, min, true, false, List, [], ◌∷◌, length, map, get_or, All, refl, ap, ◌∙◌, subst, arith}
 use mathlib.Core.Logic.{dite}
 use native.Mathlib.Decide.{dec_lt}
@@ -10,14 +10,14 @@ use Rattle.tag_board.specs.States.{Part, idle}
 use Rattle.tag_board.proofs.Holdings.{holds_true, not_holds}
 use Rattle.tag_board.proofs.Seats.{part_here, own_here, held_here}
 
--- the hand at this place holds the tag
+-- the hand at this index holds the tag
 pub record HoldsAt {R : Type 0} (hands : List (Hand R)) (place tag : ℕ) : Type 0 where
   pub hand : Hand R
   pub within : place < length hands
   pub here : hand ≡ get_or hands place hand
   pub holds : Holds hand tag
 
--- a caller that holds a tag is the hand at its place
+-- a caller that holds a tag is the hand at its index
 pub holder : {R : Type 0} (hands : List (Hand R)) (place tag : ℕ)
     → (get_or (map part_of hands) place (idle false)).held tag ≡ true
     → HoldsAt hands place tag
@@ -27,7 +27,7 @@ holder (hand ∷ hands) zero tag e = record
 holder (hand ∷ hands) (suc place) tag e = let h = holder hands place tag e in let within = h.within in
     record { hand = h.hand; within = omega arith; here = h.here; holds = h.holds }
 
--- what is true of two places is true of the later and of the earlier
+-- a fact about two numbers is one about the greater and the lesser
 pub at_both : (P : ℕ → Type 0) (a b : ℕ) → P a → P b → P (max a b) × P (min a b)
 at_both P a b one other = dite (dec_lt a b)
     (λ (less : a < b). let high : b ≡ max a b = omega arith in
@@ -35,14 +35,14 @@ at_both P a b one other = dite (dec_lt a b)
     (λ no. let high : a ≡ max a b = omega arith in
     let low : b ≡ min a b = omega arith in (subst P high one, subst P low other))
 
--- a hand that doesn't hold the tag is a caller that doesn't
+-- a hand that does not hold the tag is a caller that does not
 pub unheld_at : {R : Type 0} (tags : Tags R) (hands : List (Hand R)) (place : ℕ) (hand : Hand R) → place < length hands
     → hand ≡ get_or hands place hand → (tag : ℕ) → ¬ (Holds hand tag)
     → ((state_of_all tags hands).part place).held tag ≡ false
 unheld_at tags hands place hand within here tag free =
     ap (λ (p : Part). p.held tag) (part_here tags hands place hand hand within here) ∙ not_holds hand tag free
 
--- of two callers that hold a tag the later hand and the earlier one are the tags' own and hold it
+-- two hands that hold a tag, the later and the earlier in the list
 module _ {R : Type 0} (tags : Tags R) (hands : List (Hand R)) (own : All (IsHandOf tags) hands) (tag a b : ℕ)
     (one : (a < length hands) × (((state_of_all tags hands).part a).held tag ≡ true))
     (other : (b < length hands) × (((state_of_all tags hands).part b).held tag ≡ true)) where

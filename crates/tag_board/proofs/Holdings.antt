@@ -1,4 +1,4 @@
--- What a hand holds, as a test.
+-- Whether a hand holds a tag, as a test.
 use Rattle.std.proofs.Common.{◌≡◌, ℕ, Bool, true, false, not, ◌&&◌, ◌||◌, nat_eq, nat_lt, ⊎_elim, eq-eqb, eqb-true}
 use Rattle.std.proofs.lemmas.Bool.{ltb-true, lt-ltb, and_parts, and_from, or_cases, or_left, or_right, both_ways, not-true, not_from_false, false_from_ne_true}
 use Rattle.tag_core.specs.Records.{tag_bit}
@@ -9,12 +9,12 @@ use Rattle.tag_sets.specs.Sets.{kind_of, number_in_set}
 use Rattle.tag_board.specs.Parts.{holds, record_in}
 use Rattle.tag_board.proofs.Truths.{same_test}
 
--- the tags of the test and those named are the same
+-- the test is true of exactly the named tags
 abbrev pub Names : (ℕ → Bool) → (ℕ → Type 0) → Type 0
 Names test named = (tag : ℕ) → (test tag ≡ true → named tag) × (named tag → test tag ≡ true)
 
 module _ {R : Type 0} where
-  -- the test is true of the tags that the hand holds, and of no other
+  -- the test is true of exactly the tags that the hand holds
   pub holds_true : (hand : Hand R) (tag : ℕ) → holds hand tag ≡ true → Holds hand tag
   holds_true hand tag e =
       let r = record_in hand (kind_of (split_of hand) tag) in let n : ℕ = number_in_set (split_of hand) tag in

@@ -1,4 +1,4 @@
--- What looks tell of the world.
+-- What looks report of the state.
 use Rattle.std.proofs.Common.{◌≡◌, ◌≢◌, ne_eqb, ℕ, zero, suc, ◌+◌, ◌-◌, ◌*◌, ◌/◌, ◌<◌, ◌≤◌, ◌&&◌, Bool, true, false, cond, if◌then◌else◌, nat_lt, nat_eq, List, [], ◌++◌, length, take, drop, sym, ap, ◌∙◌, arith}
 use mathlib.Core.Logic.{dite}
 use native.Mathlib.Decide.{ℕ_discrete}
@@ -22,7 +22,7 @@ use Rattle.tag_sets.specs.Shows as shows
 use Rattle.tag_board.specs.Looks.{depth_of}
 use Rattle.tag_board.specs.Parts.{state_of_all}
 
--- what a test counts
+-- 1 if the test holds, otherwise 0
 abbrev one_if : Bool → ℕ
 one_if b = cond b 1 0
 
@@ -48,13 +48,13 @@ few_shown l found (suc n) =
     let one = not_both (nat_eq (bit_at pair.0 (place_of l n)) 1) (bit_at pair.1 (place_of l n)) in omega arith
 
 module _ {R : Type 0} (tags : Tags R) (hands : List (Hand R)) where
-  -- tags of a set
+  -- the number of tags of a set
   pub depth_is : (kind : Kind) → (layout_of tags kind).depth ≡ depth_of (state_of_all tags hands) kind
   depth_is Ordinary = omega arith
   depth_is Reserved = tags.reserved_is
 
   module _ (old new : Hand R) where
-    -- no bit behind the last tag is set
+    -- each bit past the last tag is 0
     pub busy_there : (bits : List ℕ) (count tag : ℕ) → busy.ListsBusy tags bits count old new → total_of tags ≤ tag
         → tag < 64 * length bits
         → bit_in 64 bits tag ≡ 0
@@ -91,11 +91,11 @@ module _ {R : Type 0} (tags : Tags R) (hands : List (Hand R)) where
         le-ltb tag (layout_of tags kind).depth (omega arith) in
         p.bits_are tag ∙ ap (λ (t : Bool). cond (t && is_busy_in (layout_of tags kind) p.found tag) 1 0) none
 
--- what a call left in the whole of a list
+-- what a call left in a list that it filled whole
 pub whole_list : (items into : List ℕ) (n : ℕ) → length into ≡ n → take n (into ++ drop (length into) items) ≡ into
 whole_list items into n long = take_at into (drop (length into) items) n long
 
--- what a call left of a list that it filled whole
+-- the same, for a list with this many items
 pub filled : (items into bytes : List ℕ) (n count : ℕ) → length items ≡ n → into ≡ bytes ++ drop count items
     → length bytes ≡ count
     → count ≡ n → bytes ≡ take n (into ++ drop (length into) items)

@@ -1,4 +1,4 @@
--- What each call makes of its caller.
+-- How each call changes the part of its caller.
 use Rattle.std.proofs.Common.{◌≡◌, ℕ, zero, suc, [], ◌∷◌, get_or, ◌+◌, ◌-◌, ◌<◌, nat_eq, nat_le, true, false, List, length, Option, Some, None, is_some, Result, Ok, Err, OnOk, OnErr, refl, sym, ap, ◌∙◌, subst, arith, eq-eqb, eqb-true}
 use Rattle.std.proofs.lemmas.Bool.{and_parts, and_from, or_left, or_right, le-leb, leb-true}
 use Rattle.std.proofs.lemmas.List.{length-map}
@@ -30,23 +30,23 @@ use Rattle.tag_board.proofs.Holdings.{Names, holds_more, holds_less, holds_same}
 use Rattle.tag_board.proofs.Tallies as tallies
 use Rattle.tag_board.proofs.Handfuls.{PartTallies, part_tallies, part_won, part_left, part_cleared, part_joined, part_same, part_standing}
 
--- the hand's part changed so, and its number is as before
+-- the hand's part changed so, and its number is unchanged
 pub record Moves {R : Type 0} (change : Part → Part) (old new : Hand R) : Type 0 where
   pub part : part_of new ≡ change (part_of old)
   pub number : number_of new ≡ number_of old
 
--- a part that is as before
+-- an unchanged part
 abbrev pub as_before : Part → Part
 as_before p = p
 
--- the number is as before, whether the call is refused or not
+-- the number is unchanged, whether or not the call is refused
 pub same_number : {R A E : Type 0} (old new : Hand R) (r : Result A E) → OnOk r (number_of new ≡ number_of old)
     → OnErr r (new ≡ old)
     → number_of new ≡ number_of old
 same_number old new (Ok a) moved same = moved
 same_number old new (Err e) moved same = ap number_of same
 
--- the test of one tag names it
+-- the test for equality with a tag names exactly that tag
 pub names_one : (tag : ℕ) → Names (nat_eq tag) (λ other. other ≡ tag)
 names_one tag other = (λ e. sym (eqb-true tag other e), λ e. eq-eqb tag other (sym e))
 
@@ -73,7 +73,7 @@ names_list tags tag = (λ e. Contains-from_any eqb-true tag tags e, λ c. found 
     found (x ∷ xs) zero low e = or_left (nat_eq tag x) (list_any (nat_eq tag) xs) (eq-eqb tag x (sym e))
     found (x ∷ xs) (suc k) low e = or_right (nat_eq tag x) (list_any (nat_eq tag) xs) (found xs k (omega arith) e)
 
--- the number of tags answered is that of the set's answer
+-- the number of tags answered, none or one, is that of the set's answer
 same_count : (reserved : ℕ) (number : Option ℕ) → count_of (gets.whole reserved number) ≡ count_of number
 same_count reserved None = refl
 same_count reserved (Some n) = refl
@@ -137,7 +137,7 @@ module _ {R : Type 0} (old new : Hand R) where
         number = t.number;
       }
 
-  -- where the agent of a set stands, after what it counted
+  -- an agent that only counted is in the same wait group as before
   stands_there : (tags : Tags R) (kind : Kind) (n woken : ℕ) → clears.Counts tags kind n old new woken
       → queue.standing_of (agent_of new kind) ≡ queue.standing_of (agent_of old kind)
   stands_there tags Ordinary n woken c = c.stands.1
@@ -228,13 +228,13 @@ module _ {R : Type 0} (old new : Hand R) where
       (ap is_some same.2.1) in
       record { part = both.0; number = both.1 }
 
--- one look after another
+-- two looks in a row leave the part unchanged
 pub looks_moves : {R : Type 0} (old mid new : Hand R) → Moves as_before old mid → Moves as_before mid new
     → Moves as_before old new
 looks_moves old mid new a b = record { part = b.part ∙ a.part; number = b.number ∙ a.number }
 
 module _ {R : Type 0} (old new : Hand R) where
-  -- the groups are eight
+  -- there are eight groups
   pub low_group : (group : ℕ) → waits.Enters group old new → group < 8
   low_group group e = let low = old.ordinary.waiter.within in let is = e.set.changed.group_is in omega arith
 

@@ -1,4 +1,4 @@
--- New tags: their world is open, and nothing has been done in it.
+-- The state of new tags, on which nothing has been done.
 use Rattle.std.proofs.Common.{◌≡◌, ℕ, ◌+◌, ◌-◌, ◌<◌, false, List, length, map, get_or, is_some, None, refl, sym, ap, ◌∙◌, arith}
 use Rattle.std.proofs.lemmas.List.{get_or-map}
 use mathlib.Core.Option.{some}
@@ -39,7 +39,7 @@ module _ {R : Type 0} where
       )
 
   module _ (options : Options) (tags : Tags R) (hands : List (Hand R)) (opened : AreOpen options tags hands) where
-    -- a new hand is a caller who has done nothing
+    -- a new hand is a caller that has done nothing
     part_idle : (k : ℕ) (d : Hand R) → k < length hands → part_of (get_or hands k d) ≡ idle options.round_robin
     part_idle k d low =
         let hand = get_or hands k d in let at = entry_or hands k d low in
@@ -63,7 +63,7 @@ module _ {R : Type 0} where
           round_robin = ap (λ (h : Hint). h.round_robin) hint j;
         }
 
-    -- their world is open
+    -- the state of a board that was just opened
     pub opens : (total reserved : ℕ) → total_of tags ≡ total → reserved_of tags ≡ reserved
         → HasShift (total - reserved) options.shift (layout_of tags Ordinary).shift
         → HasShift reserved options.shift (layout_of tags Reserved).shift
@@ -80,7 +80,7 @@ module _ {R : Type 0} where
           get_or-map part_of hands caller hand.0 (idle false) low ∙ part_idle caller hand.0 low;
     }
 
-    -- as many hands as callers, in the order of their numbers
+    -- there are as many hands as callers, in the order of their numbers
     pub every : length hands ≡ queue.agents_of tags.ordinary
     every = opened.count ∙ sym opened.ordinary.tags.callers_is
 

@@ -1,7 +1,7 @@
--- What clauses on answers give.
+-- What follows from clauses on results.
 use Rattle.std.proofs.Common.{◌≡◌, true, false, Option, Some, None, is_some, IsSome, Result, Ok, Err, OnOk, OnErr, IfOk, IfErr, IsOk, refl, ap}
 
--- what is known of the value of an answer
+-- a fact about the value implies another
 pub ok_map : {A E : Type 0} {P Q : A → Type 0} (r : Result A E) → IfOk r P → ((a : A) → P a → Q a) → IfOk r Q
 ok_map (Ok a) p f = f a p
 ok_map (Err e) p f = tt
@@ -19,13 +19,13 @@ pub err_same : {A E : Type 0} (X : Type 0) (f : E) (r : Result A E) → IfErr r 
 err_same X f (Ok a) h = tt
 err_same X f (Err e) h = h.1
 
--- a refusal for the only cause that there may be
+-- a result that is not a value is the only fault that it may be
 pub err_since : {A E : Type 0} (X : Type 0) (f : E) (r : Result A E) → IfErr r (λ fault. (fault ≡ f) × X) → ¬ (IsOk r)
     → r ≡ Err f
 err_since X f (Ok a) h bad = absurd (bad refl)
 err_since X f (Err e) h bad = ap Err h.0
 
--- standing in a group, as a test and as a fact
+-- the test for a wait group, and the fact
 pub none_since : {A : Type 0} (o : Option A) → is_some o ≡ false → o ≡ None
 none_since None e = refl
 none_since (Some a) e = absurd cc
@@ -42,12 +42,12 @@ pub both_on : {A E : Type 0} (P Q : Type 0) (r : Result A E) → OnOk r P → On
 both_on P Q (Ok a) p q = (p, q)
 both_on P Q (Err e) p q = tt
 
--- an answer that is a value
+-- a result with a value is `Ok`
 pub ok_since : {A E : Type 0} (r : Result A E) (a : A) → r ≡ Ok a → IsOk r
 ok_since (Ok b) a e = refl
 ok_since (Err f) a e = absurd (cc)
 
--- what follows from a value, whichever it is
+-- a fact that holds for any value
 pub on_map : {A E Q : Type 0} (P : Type 0) (r : Result A E) → OnOk r P → (P → Q) → IfOk r (λ a. Q)
 on_map P (Ok a) p f = f p
 on_map P (Err e) p f = tt

@@ -1,4 +1,4 @@
--- What takes leave, and why one is refused.
+-- The state after a take, and why a take is refused.
 use Rattle.std.proofs.Common.{◌≡◌, ℕ, false, ◌<◌, ◌≤◌, ◌⊎◌, inl, inr, ⊎_elim, List, length, get_or, set, Result, Ok, Err, OnOk, IfErr, IsErr, sym, ap, ◌∙◌, subst}
 use Rattle.std.proofs.lemmas.Bool.{cases_lt}
 use Rattle.tag_queue.specs.declared.fault.TagFault.{TagFault}
@@ -18,7 +18,7 @@ use Rattle.tag_board.proofs.Solitary.{lones_moved}
 use Rattle.tag_board.proofs.SoloSets.{miss_alone}
 
 module _ {R : Type 0} (old new : Hand R) (tag : ℕ) where
-  -- a take that is refused leaves the number
+  -- a refused take leaves the number unchanged
   refused_number : (fault : TagFault) → slots.RefusesTake tag fault old new → number_of new ≡ number_of old
   refused_number fault (inl none) = ap number_of none.1
   refused_number fault (inr missed) = (miss_moves old new tag missed.1).number
@@ -28,7 +28,7 @@ module _ {R : Type 0} (old new : Hand R) (tag : ℕ) where
   take_number (Ok a) takes refuses = (take_moves old new tag takes).number
   take_number (Err fault) takes refuses = refused_number fault refuses
 
-  -- it is refused for a tag that is not there, or for one that is not posted
+  -- a take is refused for a tag out of range, or for one that is not posted
   pub cause_of_take : (total : ℕ) (fault : TagFault) → (fault ≡ NoSuchTag → total ≤ tag)
       → (total ≤ tag → fault ≡ NoSuchTag)
       → slots.RefusesTake tag fault old new → ((fault ≡ NoSuchTag) × (total ≤ tag))
@@ -40,7 +40,7 @@ module _ {R : Type 0} (old new : Hand R) (tag : ℕ) where
         (λ (high : total ≤ tag). let none = back high in let posted = missed.0 in absurd (cc)) (cases_lt tag total),
   )
 
--- a take that is refused leaves the world
+-- a refused take leaves the state unchanged
 pub missed_state : {R : Type 0} (tags : Tags R) (hands : List (Hand R)) (i : ℕ) (old new : Hand R) → i < length hands
     → old ≡ get_or hands i old
     → (tag : ℕ) (fault : TagFault) → slots.RefusesTake tag fault old new
@@ -51,7 +51,7 @@ missed_state tags hands i old new within here tag fault (inr missed) =
     same_state (state_of_all tags hands) (state_of_all tags (set hands i new)) i
     (changes tags hands i old new within here as_before (miss_moves old new tag missed.1).part)
 
--- so the answer is the refusal of a take
+-- so the answer is a lawful refusal of a take
 pub refused_take : (tag caller : ℕ) (r : Result (Unit {0}) TagFault) (fault : TagFault) → IsErr r
     → IfErr r (λ f. f ≡ fault) → (s t : State) → t ≡ s
     → ((fault ≡ NoSuchTag) × (s.total ≤ tag)) ⊎ ((fault ≡ NotPosted) × (tag < s.total)) → Takes tag caller s r t
@@ -61,7 +61,7 @@ refused_take tag caller (Err f) fault bad told s t same (inl none) =
 refused_take tag caller (Err f) fault bad told s t same (inr missed) =
     subst (λ (x : TagFault). Takes tag caller s (Err x) t) (sym (told ∙ missed.0)) (missed.1, same)
 
--- a take of the only caller that is refused leaves both sets, and finds the tag posted nowhere
+-- with one caller, a refused take leaves both sets unchanged, and the tag is not posted
 pub lone_refused : {R : Type 0} (tags : Tags R) (hands : List (Hand R)) (i : ℕ) (old new : Hand R)
     → length hands ≡ hands_of tags → length hands ≡ 1
     → i < length hands → old ≡ get_or hands i old → IsHandOf tags old

@@ -1,4 +1,4 @@
--- All hands of one board have one range of tags.
+-- All hands of a board have the same range of tags.
 use Rattle.std.proofs.Common.{◌≡◌, ℕ, ◌<◌, ⊎_elim, ap, ◌∙◌, arith}
 use Rattle.tag_core.specs.declared.shape.Shape.{Shape}
 use Rattle.tag_queue.specs.Agents as queue
@@ -11,13 +11,13 @@ use Rattle.tag_sets.specs.Sets.{kind_of, number_in_set}
 use Rattle.tag_sets.proofs.Numbering.{IsReserved, IsOrdinary, stands}
 
 module _ {R : Type 0} (tags : Tags R) where
-  -- the depth of a hand's set is that of the tags'
+  -- the depth of a hand's set is that of the tags' set
   depth_there : (hand : Hand R) → IsHandOf tags hand → (kind : Kind)
       → queue.depth_of (agent_of hand kind) ≡ (layout_of tags kind).depth
   depth_there hand own Ordinary = ap (λ (k : Shape). k.layout.depth) own.1.0.1
   depth_there hand own Reserved = ap (λ (k : Shape). k.layout.depth) own.0.0.1
 
-  -- the number and the kind of a tag are the same for each hand
+  -- the number and the kind of a tag are the same for every hand
   range_there : (hand : Hand R) → IsHandOf tags hand → (tag : ℕ)
       → (number_in_set (split_of hand) tag ≡ number_in_set (reserved_of tags) tag)
       × (queue.depth_of (agent_of hand (kind_of (split_of hand) tag))
@@ -27,14 +27,14 @@ module _ {R : Type 0} (tags : Tags R) where
     depth_there hand own (kind_of (split_of hand) tag) ∙ ap (λ (r : ℕ). (layout_of tags (kind_of r tag)).depth) own.2,
   )
 
-  -- a tag that one hand holds is one of each hand's range
+  -- a tag that one hand holds is in the range of every hand
   pub tag_there : (one other : Hand R) → IsHandOf tags one → IsHandOf tags other → (tag : ℕ) → Holds one tag
       → IsTagOf other tag
   tag_there one other own own' tag h =
       let a = range_there one own tag in let b = range_there other own' tag in let low = h.0 in
       let m = a.0 in let n = b.0 in let d = a.1 in let e = b.1 in omega arith
 
-  -- a tag that a hand holds is one of both sets
+  -- a tag that a hand holds is below the total
   pub tag_low : (hand : Hand R) → IsHandOf tags hand → (tag : ℕ) → Holds hand tag → tag < total_of tags
   tag_low hand own tag h = let low = h.0 in let at = range_there hand own tag in let n = at.0 in let d = at.1 in ⊎_elim
       (λ (r : IsReserved (reserved_of tags) tag). let below = r.below in omega arith)

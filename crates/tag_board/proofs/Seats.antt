@@ -1,4 +1,4 @@
--- The world after a call of one hand.
+-- The state of a board after a call on one hand.
 use Rattle.std.proofs.Common.{◌≡◌, ◌≢◌, ℕ, ◌+◌, ◌<◌, ◌≤◌, ⊎_elim, List, length, map, get_or, set, refl, sym, ap, ◌∙◌, subst, arith, true, false, is_some, All, get_or-set_other, get_or-set_same, length-set}
 use mathlib.Core.Logic.{dite}
 use native.Mathlib.Decide.{ℕ_discrete}
@@ -18,7 +18,7 @@ use Rattle.tag_board.proofs.Holdings.{holds_true, true_holds}
 
 module _ {R : Type 0} (tags : Tags R) (hands : List (Hand R)) (i : ℕ) (old new : Hand R) (within : i < length hands)
     (here : old ≡ get_or hands i old) where
-  -- a caller's part is that of the hand at its place
+  -- a caller's part is that of the hand at its index
   pub part_here : (state_of_all tags hands).part i ≡ part_of old
   part_here = get_or-map part_of hands i old (idle false) within ∙ ap part_of (sym here)
 
@@ -31,11 +31,11 @@ module _ {R : Type 0} (tags : Tags R) (hands : List (Hand R)) (i : ℕ) (old new
   pub none_here : (tag : ℕ) → ((state_of_all tags hands).part i).held tag ≡ false → ¬ (Holds old tag)
   none_here tag e h = both_ways _ e (here_held tag h)
 
-  -- where the hand stands
+  -- whether the hand is in a wait group
   pub stands_here : is_some (standing_of old) ≡ ((state_of_all tags hands).part i).stands
   stands_here = sym (ap (λ (p : Part). p.stands) part_here)
 
-  -- the hand's part changed so, and nothing else of the world
+  -- the hand's part changed so, and the rest of the state is unchanged
   pub changes : (change : Part → Part) → part_of new ≡ change (part_of old)
       → Changes i change (state_of_all tags hands) (state_of_all tags (set hands i new))
   changes change e =
@@ -51,7 +51,7 @@ module _ {R : Type 0} (tags : Tags R) (hands : List (Hand R)) (i : ℕ) (old new
             ∙ get_or-set_other (map part_of hands) i other (part_of new) (idle false) ne;
       }
 
-  -- and the hands stand in the order of their numbers as before
+  -- the hands are still in the order of their numbers
   pub ordered : AreOrdered hands → number_of new ≡ number_of old → AreOrdered (set hands i new)
   ordered before same n low =
       let moved : map number_of (set hands i new) ≡ set (map number_of hands) i (number_of new) =
@@ -62,17 +62,17 @@ module _ {R : Type 0} (tags : Tags R) (hands : List (Hand R)) (i : ℕ) (old new
       ap (set (map number_of hands) i) at ∙ set-get_or (map number_of hands) i 0 in
       ap (λ (ns : List ℕ). get_or ns n 0) (moved ∙ back) ∙ before n (let l = length-set hands i new in omega arith)
 
-  -- a hand that is as it was leaves the hands as they were
+  -- an unchanged hand leaves the hands unchanged
   pub unmoved : new ≡ old → set hands i new ≡ hands
   unmoved same = ap (set hands i) (same ∙ here) ∙ set-get_or hands i old
 
--- a hand of the list is one of the tags' own
+-- a hand of the list is a hand of these tags
 pub own_here : {R : Type 0} (tags : Tags R) (hands : List (Hand R)) (i : ℕ) (old : Hand R) → i < length hands
     → old ≡ get_or hands i old
     → All (IsHandOf tags) hands → IsHandOf tags old
 own_here tags hands i old within here own = subst (IsHandOf tags) (sym here) (own i old within)
 
--- a world in which a caller did not change is as it was
+-- a state in which one part was replaced by itself is unchanged
 pub same_state : (old new : State) (i : ℕ) → Changes i (λ (p : Part). p) old new → new ≡ old
 same_state old new i c = λ j. record {
   terms = c.terms j;
@@ -84,7 +84,7 @@ same_state old new i c = λ j. record {
 
 module _ {R : Type 0} (tags : Tags R) (hands : List (Hand R)) (i : ℕ) (old : Hand R) (within : i < length hands)
     (here : old ≡ get_or hands i old) (own : IsHandOf tags old) where
-  -- how many tags of a set the hand may win
+  -- the most tags of a set that the hand may win
   life_here : (kind : Kind) → (record_in old kind).shape.life ≡ (state_of_all tags hands).terms.life kind
   life_here Ordinary = ap (λ (k : Shape). k.life) own.1.0.1
   life_here Reserved = ap (λ (k : Shape). k.life) own.0.0.1
@@ -92,7 +92,7 @@ module _ {R : Type 0} (tags : Tags R) (hands : List (Hand R)) (i : ℕ) (old : H
   won_here : (kind : Kind) → ((state_of_all tags hands).part i).won kind ≡ (record_in old kind).won
   won_here kind = ap (λ (p : Part). p.won kind) (part_here tags hands i old old within here)
 
-  -- the hand has room where it is not spent
+  -- a spent hand has no room
   pub spent_here : (kind : Kind) (n : ℕ) → IsSpent (state_of_all tags hands) i kind n → ¬ (HasRoom old kind n)
   spent_here kind n spent room = let life = life_here kind in let won = won_here kind in absurd (omega arith)
 

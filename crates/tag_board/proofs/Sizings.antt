@@ -1,4 +1,4 @@
--- How many tags a hand holds: as many as bits of its masks are 1.
+-- The number of tags that a hand holds is the number of ones in its masks.
 use Rattle.std.proofs.Common.{◌≡◌, ℕ, zero, suc, ◌+◌, ◌<◌, ◌≤◌, Bool, false, cond, ◌&&◌, nat_eq, refl, sym, ap, ◌∙◌, arith, ⊎_elim}
 use Rattle.std.proofs.Math.Logic.{∥∥₁_elim}
 use native.Mathlib.Nat.{ℕ_set}
@@ -29,7 +29,7 @@ one_bit zero low = refl
 one_bit (suc zero) low = refl
 one_bit (suc (suc b)) low = absurd (omega arith)
 
--- where a sum is 0, so is each part of it
+-- the terms of a sum that is 0 are 0
 pub none_below : (f : ℕ → ℕ) (n : ℕ) → sum_below f n ≡ 0 → (k : ℕ) → k < n → f k ≡ 0
 none_below f zero none k low = absurd (omega arith)
 none_below f (suc n) none k low = ⊎_elim
@@ -38,14 +38,14 @@ none_below f (suc n) none k low = ⊎_elim
     (cases_lt k n)
 
 module _ {R : Type 0} where
-  -- the tag's bit in the masks of a record, and how many tags there are
+  -- the tag's bit in the masks of a record, and the number of tags
   abbrev bit_in : Record R → ℕ → ℕ
   bit_in r n = tag_bit r.shape.layout r.held n
 
   abbrev depth_in : Record R → ℕ
   depth_in r = r.shape.layout.depth
 
-  -- the bits of a caller's masks, counted by tags
+  -- the ones in a caller's masks, summed over its tags
   bits_are : (c : Caller R) → size_of (record_of c).held ≡ sum_below (bit_in (record_of c)) (depth_in (record_of c))
   bits_are c = ∥∥₁_elim (c.shown (record_of c) c.knows) (ℕ_set _ _)
       (λ h. by_tags c.shape.value (record_of c).held h.known.held_wide h.known.within)
@@ -54,12 +54,12 @@ module _ {R : Type 0} where
   has_bit r n low = ap (λ (b : Bool). cond (b && nat_eq (bit_in r n) 1) 1 0) (lt-ltb n (depth_in r) low)
       ∙ one_bit (bit_in r n) (bit_at-lt _ _)
 
-  -- as many tags of a set pass the test as the caller's masks have bits
+  -- as many tags of a set pass the test as the caller's masks have ones
   size_has : (c : Caller R) → count_below (has (record_of c)) (depth_in (record_of c)) ≡ size_of (record_of c).held
   size_has c = let r = record_of c in
       sum_below-same (λ n. cond (has r n) 1 0) (bit_in r) (depth_in r) (has_bit r) ∙ sym (bits_are c)
 
-  -- a caller whose masks are empty has no tag
+  -- a caller whose masks are zero has no tag
   has_none : (c : Caller R) → size_of (record_of c).held ≡ 0 → (n : ℕ) → has (record_of c) n ≡ false
   has_none c none n = let r = record_of c in ⊎_elim
       (λ (low : n < depth_in r). let zero_bit = none_below (bit_in r) (depth_in r) (sym (bits_are c) ∙ none) n low in
@@ -67,7 +67,7 @@ module _ {R : Type 0} where
       (λ (high : depth_in r ≤ n). ap (λ (b : Bool). b && nat_eq (bit_in r n) 1) (le-ltb n (depth_in r) high))
       (cases_lt n (depth_in r))
 
-  -- a hand whose masks of both sets are empty holds no tag
+  -- a hand whose masks of both sets are zero holds no tag
   pub holds_none : (hand : Hand R) → size_of (record_in hand Ordinary).held ≡ 0
       → size_of (record_in hand Reserved).held ≡ 0 → (tag : ℕ) → holds hand tag ≡ false
   holds_none hand one other tag =
@@ -78,7 +78,7 @@ module _ {R : Type 0} where
       ]
 
   module _ (tags : Tags R) (hand : Hand R) (own : IsHandOf tags hand) where
-    -- a reserved tag, and an ordinary one
+    -- the test of a reserved tag is that of the reserved set, and the test of an ordinary tag that of the ordinary set
     holds_reserved : (tag : ℕ) → tag < reserved_of tags → holds hand tag ≡ has (record_in hand Reserved) tag
     holds_reserved tag low = let is = reserved_below (reserved_of tags) tag low in
         ap (λ (s : ℕ). has (record_in hand (kind_of s tag)) (number_in_set s tag)) own.2
@@ -97,7 +97,7 @@ module _ {R : Type 0} where
     ordinary_deep : (record_in hand Ordinary).shape.layout.depth ≡ (layout_of tags Ordinary).depth
     ordinary_deep = ap (λ (k : Shape). k.layout.depth) own.1.0.1
 
-    -- as many tags of the range pass the test as the masks of both sets have bits
+    -- as many tags of the range pass the test as the masks of both sets have ones
     pub size_holds : count_below (holds hand) (total_of tags)
         ≡ size_of (record_in hand Ordinary).held + size_of (record_in hand Reserved).held
     size_holds =

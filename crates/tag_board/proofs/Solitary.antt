@@ -1,4 +1,4 @@
--- What the only hand of a board makes of each set by its own steps.
+-- How the steps of the only hand of a board determine both sets.
 use Rattle.std.proofs.Common.{◌≡◌, ℕ, ◌+◌, ◌<◌, true, false, List, length, get_or, set, Option, Some, None, Result, Ok, Err, IfOk, OnErr, refl, sym, ap, ◌∙◌, subst, arith}
 use Rattle.std.proofs.lemmas.List.{get_or-map, get_or-set_same, length-set}
 use Rattle.tag_layout.specs.Layout.{Layout}
@@ -17,7 +17,7 @@ use Rattle.tag_sets.specs.Hands.{agent_of, hint_of, layout_of, reserved_of, IsHa
 use Rattle.tag_board.specs.Lones.{Lones, Does, split_in, Chooses, ChoosesRun, LoneGets, LoneBatch, plain, shallow, untouched}
 use Rattle.tag_board.specs.Parts.{lone_of, lones_in, lones_of_all}
 
--- the sets of the board are those of its only hand, before a call and after it
+-- the sets of the board are those of its only hand, before and after a call
 module _ {R : Type 0} (hands : List (Hand R)) (i : ℕ) (old new : Hand R) (one : length hands ≡ 1)
     (within : i < length hands)
     (here : old ≡ get_or hands i old) where
@@ -38,7 +38,7 @@ module _ {R : Type 0} (hands : List (Hand R)) (i : ℕ) (old new : Hand R) (one 
   lones_moved Q q = subst (λ (s : Lones). Q s (lones_of_all (set hands i new))) (sym lones_here)
       (subst (λ (s : Lones). Q (lones_in old) s) (sym lones_now) q)
 
-  -- a refused command leaves both sets
+  -- a refused command leaves both sets unchanged
   pub does_moved : {A : Type 0} (done : A → Lones → Lones → Type 0) (r : Result A TagFault)
       → IfOk r (λ a. done a (lones_in old) (lones_in new))
       → OnErr r (new ≡ old) → Does done (lones_of_all hands) r (lones_of_all (set hands i new))
@@ -114,7 +114,7 @@ module _ {R : Type 0} (tags : Tags R) (old new : Hand R) (own : IsHandOf tags ol
     (shallow_chooses depth g.number g.set.changed, ap lone_of g.set.other),
   )
 
-  -- a reserved tag is its own number
+  -- without reserved tags, the number in the set is the tag
   from_none : (answer : Option ℕ) → answer ≡ gets.whole 0 answer
   from_none None = refl
   from_none (Some n) = let e : n ≡ 0 + n = omega arith in ap Some e

@@ -1,4 +1,4 @@
--- What looks of a set's only agent find of it.
+-- What the looks of a set's only agent find in it.
 use Rattle.std.proofs.Common.{◌≡◌, ℕ, zero, suc, ◌+◌, ◌<◌, ◌≤◌, Bool, true, false, not, ◌&&◌, ◌||◌, cond, nat_eq, nat_lt, List, [], ◌∷◌, length, get_or, refl, sym, ap, ◌∙◌, subst, arith}
 use Rattle.std.proofs.lemmas.Bool.{ltb-true, lt-ltb}
 use Rattle.std.proofs.lemmas.Nat.Bits.{bit_at-lt}
@@ -23,12 +23,12 @@ use Rattle.tag_sets.specs.Looks as looks
 use Rattle.tag_board.specs.Lones.{is_busy_in, is_aside_in}
 use Rattle.tag_board.specs.Parts.{lone_of}
 
--- looks leave the words
+-- looks leave the words unchanged
 looks_leave : (found : List (ℕ × ℕ)) (word : ℕ) (w : Words) → words_after_all (looks.looks_from word found) w ≡ w
 looks_leave [] word w = refl
 looks_leave (pair ∷ found) word w = looks_leave found (suc word) w
 
--- and each finds what stands there
+-- each look finds the current word
 looks_found : (found : List (ℕ × ℕ)) (word : ℕ) (w : Words) → Quiet (looks.looks_from word found) w → (k : ℕ)
     → k < length found
     → ((get_or found k (0, 0)).0 ≡ w.word (word + k)) × ((get_or found k (0, 0)).1 ≡ w.aside (word + k))
@@ -40,7 +40,7 @@ looks_found (pair ∷ found) word w q (suc k) low =
     let is : suc word + k ≡ word + suc k = omega arith in
     (rest.0 ∙ ap w.word is, rest.1 ∙ ap w.aside is)
 
--- a place below 64 is busy where its bit is 1 and it isn't set aside
+-- a place below 64 is busy exactly if its bit is 1 and it is not set aside
 busy_bits : (near : Bool) (x y : ℕ) → near ≡ true → x < 2 → y < 2
     → (nat_eq x 1 && nat_eq y 0) ≡ not ((near && nat_eq x 0) || (near && nat_eq y 1))
 busy_bits false x y e h g = absurd (let no : false ≡ true = e in cc)
@@ -50,16 +50,16 @@ busy_bits true (suc zero) (suc zero) e h g = refl
 busy_bits true (suc zero) (suc (suc y)) e h g = absurd (omega arith)
 busy_bits true (suc (suc x)) y e h g = absurd (omega arith)
 
--- tests that are one where a condition holds
+-- two tests that agree under a condition are equal in conjunction with it
 and_under : (b x y : Bool) → (b ≡ true → x ≡ y) → (b && x) ≡ (b && y)
 and_under true x y e = e refl
 and_under false x y e = refl
 
--- what a test counts
+-- 1 if the test holds, otherwise 0
 abbrev one_if : Bool → ℕ
 one_if b = cond b 1 0
 
--- as many numbers pass tests that are one
+-- tests that agree count the same
 pub same_counts : (f g : ℕ → Bool) (n : ℕ) → ((k : ℕ) → k < n → f k ≡ g k) → count_below f n ≡ count_below g n
 same_counts f g zero same = refl
 same_counts f g (suc n) same = let rest = same_counts f g n (λ k low. same k (omega arith)) in
@@ -73,7 +73,7 @@ module _ {R : Type 0} (old new : Agent R) (one : IsAlone (caller_of old)) (found
   shape : (caller_of new).shape.value ≡ (caller_of old).shape.value
   shape = ap (λ (r : Record R). r.shape) f.known ∙ shape_after (looks.looks_from 0 found) (record_of (caller_of old))
 
-  -- the set is as before
+  -- the set is unchanged
   pub lone_looked : lone_of new ≡ lone_of old
   lone_looked =
       let older : List (Step R) = (record_of (caller_of old)).steps in

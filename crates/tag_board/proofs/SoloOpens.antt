@@ -1,4 +1,4 @@
--- New sets, as their only hand has them.
+-- New sets of a board with one caller.
 use Rattle.std.proofs.Common.{◌≡◌, ℕ, ◌+◌, ◌-◌, ◌<◌, Bool, true, false, ◌&&◌, nat_eq, nat_lt, List, [], length, map, get_or, refl, sym, ap, ◌∙◌, subst, arith}
 use Rattle.std.proofs.lemmas.List.{get_or-map}
 use Rattle.std.proofs.lemmas.Nat.Bits.{bit_at-zero}
@@ -39,7 +39,7 @@ blank_pool R l round_robin = pool_ext (pool_of (words_left {R = R} [])) (untouch
     (λ i k. ap (λ (x : ℕ). nat_lt k 64 && nat_eq x 1) (bit_at-zero k) ∙ and_false (nat_lt k 64))
 
 module _ {R : Type 0} where
-  -- an agent without steps has touched nothing
+  -- an agent without steps has an untouched set
   pub lone_untouched : (a : Agent R) (round_robin : Bool) → (record_of (queue.caller_of a)).steps ≡ []
       → queue.hint_of a ≡ queue_opening.first_hint round_robin
       → lone_of a ≡ untouched (lone_of a).layout round_robin

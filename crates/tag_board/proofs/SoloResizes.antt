@@ -1,4 +1,4 @@
--- What a resize leaves of both sets of the only hand.
+-- How a resize changes both sets of a board with one caller.
 use Rattle.std.proofs.Common.{◌≡◌, ℕ, ◌-◌, ◌<◌, Bool, false, nat_eq, List, [], length, map, get_or, All, Result, Ok, Err, refl, sym, ap, ◌∙◌, subst, arith}
 use Rattle.std.proofs.lemmas.List.{get_or-map, length-map}
 use mathlib.Core.Option.{some}
@@ -35,7 +35,7 @@ abbrev laid_out : ℕ → ℕ → Layout
 laid_out depth shift = record { depth = depth; shift = shift }
 
 module _ {R : Type 0} where
-  -- an agent with the record and the hint of another has its set
+  -- an agent with the record and the hint of another has the same set
   lone_known : (a b : Agent R) → record_of (queue.caller_of b) ≡ record_of (queue.caller_of a)
       → queue.hint_of b ≡ queue.hint_of a → lone_of b ≡ lone_of a
   lone_known a b known hint = λ j. record {
@@ -45,7 +45,7 @@ module _ {R : Type 0} where
     hint = hint j;
   }
 
-  -- an agent without steps in a map of this layout
+  -- the set of an agent without steps on a map of this layout
   lone_fresh : (b : Agent R) (l : Layout) (h : Hint) → (lone_of b).layout ≡ l
       → (record_of (queue.caller_of b)).steps ≡ [] → queue.hint_of b ≡ h
       → lone_of b ≡ record (untouched l false) { hint = h }
@@ -57,12 +57,12 @@ module _ {R : Type 0} where
         hint = hint j;
       }
 
-  -- the only hand of a list
+  -- the sets of a list of one hand are those of the hand
   only_is : (hands : List (Hand R)) (d : Hand R) → length hands ≡ 1 → lones_of_all hands ≡ lones_in (get_or hands 0 d)
   only_is hands d one = get_or-map lones_in hands 0 d (λ kind. untouched (record { depth = 0; shift = 0 }) false)
       (omega arith)
 
-  -- hands that are as they were have both sets as they were
+  -- unchanged hands leave both sets unchanged
   pub unchanged_alone : (old new : List (Hand R)) → length old ≡ 1 → AreUnchanged old new
       → lones_of_all new ≡ lones_of_all old
   unchanged_alone old new one same =
@@ -85,7 +85,7 @@ module _ {R : Type 0} where
         ∙ one
 
     module _ (a b : Hand R) where
-      -- the ordinary set continues
+      -- the ordinary set continues with its new depth
       ordinary_goes_on : lone_of (get_or after 0 b).ordinary
           ≡ resized (total - reserved_of old) (lone_of (get_or hands 0 a).ordinary)
       ordinary_goes_on =
@@ -115,7 +115,7 @@ module _ {R : Type 0} where
           ∙ ap (λ (s : ℕ). laid_out (total - reserved_of old) s) shift)
           (ap (λ (x : Record R). x.steps) fresh) hint
 
-      -- the reserved set stays
+      -- the reserved set is unchanged
       reserved_stays : lone_of (get_or after 0 b).reserved ≡ lone_of (get_or hands 0 a).reserved
       reserved_stays =
           let before : Hand R = get_or hands 0 a in let now : Hand R = get_or after 0 b in

@@ -1,4 +1,4 @@
--- What a list of tags that a set's only agent gives back leaves of it.
+-- How the only agent of a set changes it by giving back a list of tags.
 use Rattle.std.proofs.Common.{◌≡◌, ℕ, ◌+◌, ◌^◌, ◌<◌, ◌≤◌, Bool, true, false, ◌&&◌, ◌||◌, ◌==◌, cond, nat_eq, nat_lt, List, [], ◌∷◌, ◌++◌, length, get_or, ⊎_elim, refl, sym, ap, ◌∙◌, subst, arith, eq-eqb, eqb-true}
 use Rattle.std.proofs.Math.Logic.{∥∥₁_elim}
 use Rattle.std.proofs.lemmas.Bool.{and_parts, and_from, cases_lt, lt-ltb, ltb-true}
@@ -36,7 +36,7 @@ use Rattle.tag_board.specs.Lones.{Lone, is_named, give_back}
 use Rattle.tag_board.specs.Parts.{lone_of}
 use Rattle.tag_board.proofs.Truths.{same_test}
 
--- a give names bits of its word alone
+-- a give frees only bits of its word
 abbrev IsGiveWithin : Layout → WordStep → Type 0
 IsGiveWithin l (Look i found) = Unit {0}
 IsGiveWithin l (LookAside i found) = Unit {0}
@@ -180,7 +180,7 @@ module _ (k : Shape) (narrow : k.layout.shift ≤ 6) where
                 (eq-eqb word (word_of l tag) (sym w)) (eq-eqb place (place_of l tag) (sym p)),
           )
 
-      -- and the place of each of its tags is a bit of its mask
+      -- the place of each tag of the run is a bit of its mask
       named_bit : is_named k.layout run.tags word place ≡ true
           → (nat_eq word run.word && nat_lt place 64 && nat_eq (bit_at run.mask place) 1) ≡ true
       named_bit e =

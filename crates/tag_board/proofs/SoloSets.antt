@@ -1,4 +1,4 @@
--- What calls of the only hand on one tag leave of both sets.
+-- How calls of the only hand on one tag change both sets.
 use Rattle.std.proofs.Common.{◌≡◌, ℕ, ◌≤◌, true, false, ap, ◌∙◌, subst, List, map, ◌-◌}
 use Rattle.tag_layout.specs.Layout.{Layout}
 use Rattle.tag_queue.specs.Clears as queue_clears
@@ -22,7 +22,7 @@ use Rattle.tag_board.proofs.SoloRuns.{lone_give}
 use Rattle.tag_board.proofs.SoloSteps.{lone_same, lone_post, lone_take, lone_miss, lone_put}
 
 module _ {R : Type 0} (old new : Hand R) where
-  -- both sets are as before
+  -- both sets are unchanged
   pub both_same : (kind : Kind) → lone_of (agent_of new kind) ≡ lone_of (agent_of old kind)
       → agent_of new (other_kind kind) ≡ agent_of old (other_kind kind)
       → lones_in new ≡ lones_in old
@@ -33,7 +33,7 @@ module _ {R : Type 0} (old new : Hand R) where
       elim [ Ordinary ↦ ap lone_of other | Reserved ↦ here ] in
       λ j. λ k. each k j
 
-  -- waits and looks at the counts leave both sets
+  -- waits, and looks at the counts, leave both sets unchanged
   pub enter_alone : (group : ℕ) → waits.Enters group old new → lones_in new ≡ lones_in old
   enter_alone group e = let same = e.set.changed.same in
       both_same Ordinary (lone_same old.ordinary new.ordinary same.0 same.1) e.set.other
@@ -101,7 +101,7 @@ module _ {R : Type 0} (tags : Tags R) (old new : Hand R) (own : IsHandOf tags ol
         (layout_in tags old new own one kind) p.set.changed))
         p.set.other
 
--- a list of ordinary tags that the only hand gives back
+-- the only hand gives back a list of ordinary tags
 pub list_alone : {R : Type 0} (tags : Tags R) (old new : Hand R) → IsHandOf tags old → hands_of tags ≡ 1
     → (list : List ℕ)
     → batches.GivesBack tags list old new → LoneClearsList list (lones_in old) (lones_in new)

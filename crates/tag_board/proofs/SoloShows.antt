@@ -1,4 +1,4 @@
--- What looks of the only hand tell of both sets.
+-- What the looks of the only hand find in both sets.
 use Rattle.std.proofs.Common.{◌≡◌, ℕ, ◌+◌, ◌-◌, Bool, true, false, ◌&&◌, cond, if◌then◌else◌, nat_lt, List, ⊎_elim, sym, ap, ◌∙◌, subst, arith}
 use Rattle.std.proofs.lemmas.Bool.{cases_Bool, lt-ltb, le-ltb, ltb-true, ltb-false}
 use Rattle.tag_layout.specs.Layout.{Layout}
@@ -25,7 +25,7 @@ use Rattle.tag_board.proofs.SoloSets.{both_same, narrow_of}
 
 module _ {R : Type 0} (tags : Tags R) (old new : Hand R) (own : IsHandOf tags old) (one : hands_of tags ≡ 1) where
   module _ (kind : Kind) (found : List (ℕ × ℕ)) (a : shows.LooksAround (layout_of tags kind) kind found old new) where
-    -- both sets are as before
+    -- both sets are unchanged
     pub looked_same : lones_in new ≡ lones_in old
     looked_same = both_same old new kind (lone_looked (agent_of old kind) (agent_of new kind)
         (alone_in tags old new own one kind) found a.looks.changed)
@@ -45,7 +45,7 @@ module _ {R : Type 0} (tags : Tags R) (old new : Hand R) (own : IsHandOf tags ol
         a.looks.changed
         (layout_of tags kind) (layout_in tags old new own one kind) (narrow_of tags kind) a.each
 
-    -- as many numbers of the set pass one test as the other
+    -- two tests that agree on the numbers of a set count the same
     counted : (f g : ℕ → Bool) → ((number : ℕ) → (nat_lt number (layout_of tags kind).depth && f number) ≡ g number)
         → count_below f (layout_of tags kind).depth ≡ count_below g (lones_in old kind).layout.depth
     counted f g same = same_counts f g (layout_of tags kind).depth
@@ -71,7 +71,7 @@ module _ {R : Type 0} (tags : Tags R) (old new : Hand R) (own : IsHandOf tags ol
     same = looked_same kind p.found p.around;
   }
 
--- a number of the ordinary set is below its depth where its tag is below the total
+-- a number is below the depth of the ordinary set exactly if its tag is below the total
 above_split : (reserved depth tag number : ℕ) → number + reserved ≡ tag
     → nat_lt tag (reserved + depth) ≡ nat_lt number depth
 above_split reserved depth tag number is = ⊎_elim
@@ -85,12 +85,12 @@ module _ {R : Type 0} (tags : Tags R) (old between new : Hand R) (own : IsHandOf
     (reserved ordinary : List (ℕ × ℕ)) (first : shows.LooksAround (layout_of tags Reserved) Reserved reserved old
     between)
     (second : shows.LooksAround (layout_of tags Ordinary) Ordinary ordinary between new) where
-  -- the ordinary set is the same when its look begins
+  -- the ordinary set is unchanged when its look begins
   then_found : looks.Finds (looks.looks_from 0 ordinary) old.ordinary new.ordinary
   then_found = subst (λ (a : Agent R). looks.Finds (looks.looks_from 0 ordinary) a new.ordinary) first.looks.other
       second.looks.changed
 
-  -- a tag was found busy where it is
+  -- a tag is found busy exactly if it is busy
   found_tag : (tag : ℕ) → busy.is_busy_tag tags reserved ordinary tag ≡ is_busy_tag (lones_in old) tag
   found_tag tag =
       let split : ℕ = reserved_of tags in let r = layout_of tags Reserved in let o = layout_of tags Ordinary in
@@ -125,7 +125,7 @@ module _ {R : Type 0} (tags : Tags R) (old between new : Hand R) (own : IsHandOf
         first.looks.changed
   ] in λ j. λ k. each k j
 
--- the bits of the call that lists both sets
+-- the bits that `busy` returns
 pub lists_alone : {R : Type 0} (tags : Tags R) (old new : Hand R) → IsHandOf tags old → hands_of tags ≡ 1
     → (bits : List ℕ) (count : ℕ)
     → busy.ListsBusy tags bits count old new → LoneListsBusy (lones_in old) bits (lones_in new)

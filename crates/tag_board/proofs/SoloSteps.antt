@@ -1,4 +1,4 @@
--- What single steps of a set's only agent leave of it.
+-- How single steps of a set's only agent change it.
 use Rattle.std.proofs.Common.{◌≡◌, ℕ, ◌<◌, ◌≤◌, Bool, true, false, not, ◌&&◌, ◌||◌, cond, nat_eq, List, Some, None, refl, sym, ap, ◌∙◌, arith}
 use Rattle.std.proofs.lemmas.Nat.{pow_pos}
 use Rattle.tag_layout.specs.Layout.{Layout, word_of, place_of, word_bits}
@@ -21,7 +21,7 @@ or_true : (a : Bool) → (a || true) ≡ true
 or_true true = refl
 or_true false = refl
 
--- a state that becomes 1 at one tag, and one that becomes 0
+-- a number that becomes 1 at one tag, and one that becomes 0
 posted_bit : (b : Bool) (x : ℕ) → nat_eq (cond b 1 x) 1 ≡ (nat_eq x 1 || b)
 posted_bit true x = sym (or_true (nat_eq x 1))
 posted_bit false x = sym (or_false (nat_eq x 1))
@@ -91,7 +91,7 @@ module _ {R : Type 0} (old new : Agent R) where
           },
         )
 
-    -- a place is one of at most 64
+    -- a place is below 64
     place_low : (l : Layout) → l.shift ≤ 6 → place_of l number < 64
     place_low l narrow = let few = word_bits-le l narrow in let pos : 0 < word_bits l = pow_pos l.shift in omega arith
 

@@ -1,4 +1,4 @@
--- What a call counts of its agent: tags that it won and that it gave back.
+-- What a call adds to the counts of its agent: tags won and tags given back.
 use Rattle.std.proofs.Common.{◌≡◌, ℕ, ◌+◌, suc, List, [], ◌∷◌, length, Option, refl, ap, ◌∙◌, arith}
 use Rattle.tag_layout.specs.Layout.{Layout}
 use Rattle.tag_core.specs.declared.record.Record.{Record}
@@ -17,20 +17,20 @@ use Rattle.tag_queue.specs.Slots.{Posts, Takes, Misses}
 use Rattle.tag_queue.proofs.Giving.{same_number}
 use Rattle.tag_sets.specs.Looks.{Finds, looks_from}
 
--- one record counts so many tags more than another of the same caller
+-- the record counts this many more tags won and given back than the other, for the same caller
 pub record Counts {R : Type 0} (won back : ℕ) (old new : Record R) : Type 0 where
   pub won_is : new.won ≡ old.won + won
   pub back_is : new.back ≡ old.back + back
   pub number_is : new.number ≡ old.number
 
--- the agent counts so many tags more; it stands where it stood, and its gets go round as before
+-- the agent counts this many more tags; its wait group and its round robin are unchanged
 pub record Tallies {R : Type 0} (won back : ℕ) (old new : Agent R) : Type 0 where
   pub counts : Counts won back (record_of (caller_of old)) (record_of (caller_of new))
   pub stands : standing_of new ≡ standing_of old
   pub round : (hint_of new).round_robin ≡ (hint_of old).round_robin
 
 module _ {R : Type 0} where
-  -- the agent stands where it stood, and its gets go round as before
+  -- the agent's wait group and its round robin are unchanged
   still : (old new : Agent R) → SameElse old new → (standing_of new ≡ standing_of old)
       × ((hint_of new).round_robin ≡ (hint_of old).round_robin)
   still old new same = (ap (λ w. w.standing) same.1.1, ap (λ h. h.round_robin) same.0)
@@ -38,7 +38,7 @@ module _ {R : Type 0} where
   pub nothing_counted : (r : Record R) → Counts 0 0 r r
   nothing_counted r = record { won_is = omega arith; back_is = omega arith; number_is = refl }
 
-  -- looks count nothing
+  -- looks add nothing to the counts
   looks_count : (found : List (ℕ × ℕ)) (word : ℕ) (r : Record R)
       → Counts 0 0 r (record_after_all (looks_from word found) r)
   looks_count [] word r = nothing_counted r

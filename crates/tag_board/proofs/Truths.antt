@@ -1,7 +1,7 @@
--- Tests that say the same.
+-- Equal tests.
 use Rattle.std.proofs.Common.{◌≡◌, Bool, true, false, refl, sym}
 
--- two tests that follow from each other are one
+-- two tests that imply each other are equal
 pub same_test : (a b : Bool) → (a ≡ true → b ≡ true) → (b ≡ true → a ≡ true) → a ≡ b
 same_test true true there back = refl
 same_test true false there back = sym (there refl)

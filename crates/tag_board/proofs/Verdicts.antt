@@ -1,4 +1,4 @@
--- Which refusals come, and that no other does.
+-- Each refusal has its cause, and there is no other refusal.
 use Rattle.std.proofs.Common.{◌≡◌, ◌≢◌, ◌⊎◌, ℕ, ◌+◌, ◌<◌, ◌≤◌, ◌↔◌, true, false, inl, inr, ⊎_elim, Result, Ok, Err, IfOk, OnErr, IsOk, refl, subst, arith, List}
 use Rattle.std.proofs.lemmas.Bool.{cases_lt, cases_Bool, cases_eq, both_ways}
 use Rattle.tag_queue.specs.declared.fault.TagFault.{TagFault}
@@ -9,13 +9,13 @@ use Rattle.tag_board.specs.States.{State}
 use Rattle.tag_board.specs.Refusals.{IsSpent, RefusesGet, RefusesShallow, RefusesBatch, RefusesTag, RefusesList, RefusesWait, RefusesLeave, Miscounts, AreOrdinary, AreHeldOnce}
 use Rattle.tag_board.specs.Replays.{Answers}
 
--- the answer is a refusal for a cause that there is, or none, and there is no cause
+-- the result is a fault whose cause holds, or a value and no cause holds
 abbrev pub IsVerdict : {A : Type 0} → (TagFault → Type 0) → Result A TagFault → Type 0
 IsVerdict refuses r = ((fault : TagFault) × (r ≡ Err fault) × refuses fault)
     ⊎ (IsOk r × ((fault : TagFault) → ¬ (refuses fault)))
 
 module _ {A : Type 0} (refuses : TagFault → Type 0) (done : A → Type 0) (old new : State) where
-  -- the answer is as the command answers
+  -- such a result is the answer of the command
   pub answers : (r : Result A TagFault) → IsVerdict refuses r → IfOk r done → OnErr r (new ≡ old)
       → Answers refuses done old r new
   answers (Ok a) (inl bad) d same = let e = bad.1 in absurd cc
@@ -82,7 +82,7 @@ module _ (s : State) (caller : ℕ) where
   no_shallow_cause depth deep room _ h = h
 
 module _ {A : Type 0} (s : State) (caller : ℕ) where
-  -- by the answer: it is a value where there is no cause, and each refusal has its cause
+  -- the result is a value if no cause holds, and the cause of each fault holds
   pub by_answer : (refuses : TagFault → Type 0) (r : Result A TagFault)
       → (IsOk r → (fault : TagFault) → ¬ (refuses fault))
       → ((fault : TagFault) → r ≡ Err fault → refuses fault) → IsVerdict refuses r
@@ -175,7 +175,7 @@ module _ {A : Type 0} (s : State) (caller : ℕ) where
     list_good ok NotHeld h = h.2 (succeeds.0 ok).2
     list_good ok _ h = h
 
-    -- no other refusal comes
+    -- there is no other fault
     three : (fault : TagFault) → r ≡ Err fault → fault ≢ BadCount → fault ≢ NoSuchTag → fault ≢ NotHeld → ⊥
     three fault e not_bad not_none not_free =
         let counts : ¬ (¬ (CountsTags tags)) = λ no_count. let f = bad.1 no_count in

@@ -1,4 +1,4 @@
--- What a get, a batch or a take wins, nobody held: neither the others nor its caller.
+-- No caller held a tag that a get, a batch or a take wins: not the others, and not the caller itself.
 use Rattle.std.proofs.Common.{◌≡◌, ◌≢◌, ℕ, ◌<◌, Bool, true, false, ◌||◌, List, length, get_or, set, [], Option, None, Result, Ok, Err, OnOk, IfOk, ◌↔◌, ⊎_elim, refl, sym, ap, ◌∙◌, subst}
 use Rattle.std.proofs.lemmas.Bool.{or_right, cases_Bool}
 use Rattle.std.specs.Prelude.{IsTrue}
@@ -22,7 +22,7 @@ use Rattle.tag_board.proofs.Holdings.{not_holds}
 use Rattle.tag_board.proofs.Moves.{Moves, get_moves, shallow_moves, reserved_moves, batch_moves, names_answer, names_run}
 use Rattle.tag_board.proofs.Seats.{changes, part_here}
 
--- the named tags join those that a caller holds
+-- the named tags are added to those that a caller holds
 abbrev pub Joins : (ℕ → Bool) → (Part → Part) → Type 0
 Joins named change = (p : Part) (tag : ℕ) → (change p).held tag ≡ (p.held tag || named tag)
 
@@ -35,7 +35,7 @@ module _ {R : Type 0} (tags : Tags R) (hands : List (Hand R)) (i : ℕ) (old new
       let before : Part = (state_of_all tags hands).part i in
       ap (λ (p : Part). p.held tag) c.own ∙ joins before tag ∙ or_right (before.held tag) (named tag) is
 
-  -- what was fresh to the caller, and what no other holds now, nobody held
+  -- tags that the caller did not hold before, and no other holds now, had no holder
   pub free_before : ((tag : ℕ) → named tag ≡ true → ¬ (Holds old tag))
       → NobodyElseHolds (state_of_all tags (set hands i new)) i named → NobodyHolds (state_of_all tags hands) named
   free_before fresh alone caller tag is = let c = changes tags hands i old new within here change moved in
@@ -44,7 +44,7 @@ module _ {R : Type 0} (tags : Tags R) (hands : List (Hand R)) (i : ℕ) (old new
       (ap (λ (p : Part). p.held tag) (part_here tags hands i old new within here) ∙ not_holds old tag (fresh tag is)))
       (λ (ne : caller ≢ i). sym (ap (λ (p : Part). p.held tag) (c.others caller ne)) ∙ alone caller tag ne is)
 
--- the hand won the named tags, so many of this set, which it did not hold
+-- the hand won the named tags, n of this set, and held none of them before
 pub record HandWins {R : Type 0} (s : State) (kind : Kind) (named : ℕ → Bool) (n : ℕ) (old new : Hand R) : Type 0 where
   pub moves : Moves (won kind named n) old new
   pub fresh : (tag : ℕ) → named tag ≡ true → ¬ (Holds old tag)
@@ -75,7 +75,7 @@ module _ {R : Type 0} (tags : Tags R) (hands : List (Hand R)) (old new : Hand R)
     there = λ tag e. g.reserved tag ((names_answer answer tag).0 e);
   }
 
-  -- nothing is won
+  -- no answer wins no tag
   none_won : Moves (won Ordinary (is_in_run None) 0) old old
   none_won = record {
     part = λ j. record {
@@ -88,7 +88,7 @@ module _ {R : Type 0} (tags : Tags R) (hands : List (Hand R)) (old new : Hand R)
     number = refl;
   }
 
-  -- a batch wins nothing where gets go round
+  -- a batch wins nothing under round robin
   pub batch_wins : (n : ℕ) (answer : Option (ℕ × ℕ))
       → ((hint_of old Ordinary).round_robin ≡ true → (answer ≡ None) × (new ≡ old))
       → ((hint_of old Ordinary).round_robin ≡ false → gets.GetsBatch tags n answer old new)
@@ -107,7 +107,7 @@ module _ {R : Type 0} (tags : Tags R) (hands : List (Hand R)) (old new : Hand R)
       (cases_Bool (hint_of old Ordinary).round_robin)
 
 module _ {R : Type 0} (tags : Tags R) (hands : List (Hand R)) (old new : Hand R) (n : ℕ) where
-  -- a batch that is answered was counted right, so where gets go round there is none
+  -- a batch that is answered has a legal count, so under round robin it has no tags
   pub none_around : (answer : Option (ℕ × ℕ)) (r : Result (Option (ℕ × ℕ)) TagFault) → r ≡ Ok answer
       → (r ≡ Err BadCount) ↔ gets.MiscountsBatch tags n
       → (¬ (gets.MiscountsBatch tags n) → IsTrue (hint_of old Ordinary).round_robin → (r ≡ Ok None) × (new ≡ old))
@@ -123,7 +123,7 @@ module _ {R : Type 0} (tags : Tags R) (hands : List (Hand R)) (old new : Hand R)
   batch_of_answer answer r is bad around straight =
       batch_wins tags hands old new n answer (none_around answer r is bad around) straight
 
--- the number is as before a batch, whatever it is answered
+-- the number is unchanged by a batch, whatever its answer
 pub batch_number : {R : Type 0} (tags : Tags R) (old new : Hand R) (n : ℕ) (r : Result (Option (ℕ × ℕ)) TagFault)
     → (r ≡ Err BadCount) ↔ gets.MiscountsBatch tags n
     → (¬ (gets.MiscountsBatch tags n) → IsTrue (hint_of old Ordinary).round_robin → (r ≡ Ok None) × (new ≡ old))
@@ -140,7 +140,7 @@ module _ {R : Type 0} (tags : Tags R) (hands : List (Hand R)) (i : ℕ) (old new
   pub holds_wins : HoldsAll (state_of_all tags (set hands i new)) i named
   holds_wins = holds_won tags hands i old new within here named (won kind named n) w.moves.part (λ p tag. refl)
 
-  -- and nobody held it, since nobody else does now
+  -- no caller held what it won, since no other caller holds it now
   pub wins : NobodyElseHolds (state_of_all tags (set hands i new)) i named
       → Wins i kind named n (state_of_all tags hands) (state_of_all tags (set hands i new))
   wins alone = record {

@@ -1,22 +1,22 @@
--- What a board stands for.
+-- What a contract sees of a board.
 use Rattle.std.specs.Prelude.{◌≡◌, ℕ, ◌<◌}
 use Rattle.tag_board.specs.declared.board.Board.{Board}
 use Rattle.tag_board.specs.Lones.{Lones}
 use Rattle.tag_board.specs.States.{State}
 use Rattle.tag_board.specs.Parts.{state_of_all, lones_of_all}
 
--- the world of a board
+-- the state of a board
 abbrev pub state_of : Board → State
 state_of board = state_of_all board.tags board.hands.items
 
--- the board has a caller of this number
+-- the board has a caller with this number
 abbrev pub IsCallerOf : Board → ℕ → Type 0
 IsCallerOf board caller = caller < (state_of board).terms.callers
 
--- the board has one caller
+-- the board has exactly one caller
 abbrev pub IsAlone : Board → Type 0
 IsAlone board = (state_of board).terms.callers ≡ 1
 
--- both sets as the first caller's own steps leave them
+-- both sets, as the steps of the first caller determine them
 abbrev pub lones_of : Board → Lones
 lones_of board = lones_of_all board.hands.items

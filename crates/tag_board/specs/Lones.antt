@@ -1,4 +1,4 @@
--- What the only caller of a board makes of each set by its own steps, and what its commands answer by that.
+-- Both sets of a board with one caller, as its steps determine them, and the answers of its commands.
 use Rattle.std.specs.Prelude.{◌≡◌, ℕ, ◌-◌, ◌<◌, ◌*◌, Bool, true, false, not, ◌&&◌, ◌||◌, nat_eq, nat_lt, cond, if◌then◌else◌, List, length, slice_index, map, Option, None, Result, Ok, Err}
 use Rattle.std.specs.List.{list_any}
 use Rattle.tag_layout.specs.Layout.{Layout, word_of, place_of}
@@ -23,16 +23,15 @@ use Rattle.tag_sets.specs.Bits.{bit_in}
 use Rattle.tag_sets.specs.Gets.{whole, whole_run}
 use Rattle.tag_sets.specs.Sets.{kind_of, number_in_set, other_kind}
 
--- a set as its only caller leaves it: its sizes, which places are free and which set aside, which tags are posted, and
--- where the
--- caller's next get begins
+-- a set with one caller: its layout, which places are free and which set aside, which tags are posted, and where the
+-- next get begins
 pub record Lone : Type 0 where
   pub layout : Layout
   pub pool : Pool
   pub posted : ℕ → Bool
   pub hint : Hint
 
--- a set that nobody touched: each of the 64 places of each word is free
+-- a set without any step: each of the 64 places of each word is free
 abbrev pub untouched : Layout → Bool → Lone
 untouched layout round_robin = record {
   layout = layout;
@@ -45,7 +44,7 @@ untouched layout round_robin = record {
 abbrev pub Lones : Type 0
 Lones = Kind → Lone
 
--- how many tags are reserved, the first of the range
+-- the number of reserved tags, which are the lowest of the range
 abbrev pub split_in : Lones → ℕ
 split_in sets = (sets Reserved).layout.depth
 
@@ -54,16 +53,16 @@ abbrev pub first_in : Lones → Kind → ℕ
 first_in sets Ordinary = split_in sets
 first_in sets Reserved = 0
 
--- one set changed so, and the other is as it was
+-- one set changed so, and the other is unchanged
 abbrev pub ChangesSet : Kind → (Lone → Lone → Type 0) → Lones → Lones → Type 0
 ChangesSet kind change old new = change (old kind) (new kind) × (new (other_kind kind) ≡ old (other_kind kind))
 
--- the set of a tag changed so, where the tag has this number
+-- the set of this tag changed so, for the tag's number in that set
 abbrev pub ChangesSetOf : ℕ → (ℕ → Lone → Lone → Type 0) → Lones → Lones → Type 0
 ChangesSetOf tag change old new = ChangesSet (kind_of (split_in old) tag) (change (number_in_set (split_in old) tag))
     old new
 
--- a refused command leaves both sets as they were, and any other does this
+-- a refused command leaves both sets unchanged, and any other changes them so
 abbrev pub Does : {A : Type 0} → (A → Lones → Lones → Type 0) → Lones → Result A TagFault → Lones → Type 0
 Does done old (Ok answer) new = done answer old new
 Does done old (Err fault) new = new ≡ old
@@ -72,18 +71,18 @@ Does done old (Err fault) new = new ≡ old
 abbrev pub plain : Lone → List Visit
 plain w = plain_visits w.layout w.hint.round_robin (reduced w.layout.depth w.hint.at)
 
--- those of a shallow get of this depth
+-- the visits of a shallow get of this depth, from the hint on
 abbrev pub shallow : ℕ → Lone → List Visit
 shallow depth w = shallow_visits w.layout depth (reduced w.layout.depth w.hint.at)
 
--- the number answered is the choice of these visits, what is left is what the choice leaves, and the hint follows
+-- the answer is the choice of these visits, the pool is what the choice leaves, and the hint moves by its rule
 pub record Chooses (visits : Lone → List Visit) (answer : Option ℕ) (old new : Lone) : Type 0 where
   pub layout : new.layout ≡ old.layout
   pub choice : IsChoice old.layout old.pool (visits old) answer new.pool
   pub posted : new.posted ≡ old.posted
   pub hint : HintFollows old.layout.depth old.hint new.hint answer
 
--- the same of n tags side by side, from the word of the hint on
+-- the same for n adjacent tags, from the hint's word on
 pub record ChoosesRun (n : ℕ) (answer : Option (ℕ × ℕ)) (old new : Lone) : Type 0 where
   pub layout : new.layout ≡ old.layout
   pub choice : IsBatchChoice old.layout n old.pool
@@ -91,23 +90,23 @@ pub record ChoosesRun (n : ℕ) (answer : Option (ℕ × ℕ)) (old new : Lone) 
   pub posted : new.posted ≡ old.posted
   pub hint : BatchFollows old.layout.depth n old.hint new.hint answer
 
--- the tag answered is the set's choice
+-- the tag answered is the choice of its set
 abbrev pub LoneGets : Kind → (Lone → List Visit) → Option ℕ → Lones → Lones → Type 0
 LoneGets kind visits answer old new = (number : Option ℕ) × (answer ≡ whole (first_in old kind) number)
     × ChangesSet kind (Chooses visits number) old new
 
--- the tags answered are the ordinary set's choice; where gets go round there are none, and nothing is done
+-- the tags answered are the choice of the ordinary set; under round robin there are none, and nothing changes
 pub record LoneBatch (n : ℕ) (answer : Option (ℕ × ℕ)) (old new : Lones) : Type 0 where
   pub around : (old Ordinary).hint.round_robin ≡ true → (answer ≡ None) × (new ≡ old)
   pub choice : (old Ordinary).hint.round_robin ≡ false
       → (number : Option (ℕ × ℕ)) × (answer ≡ whole_run (split_in old) number)
       × ChangesSet Ordinary (ChoosesRun n number) old new
 
--- the hint after a clear of this tag
+-- the hint after a clear of this tag, which leaves it alone under round robin
 abbrev pub hint_at : ℕ → Hint → Hint
 hint_at number h = record h { at = if h.round_robin then h.at else number }
 
--- the tag is set aside, and the hint is at it, but not where gets go round
+-- the tag is set aside, and the hint moves to it, except under round robin
 abbrev pub put_back : ℕ → Lone → Lone
 put_back number w =
     record w {
@@ -121,18 +120,18 @@ abbrev pub is_named : Layout → List ℕ → ℕ → ℕ → Bool
 is_named l numbers word place = list_any (λ number. nat_eq word (word_of l number) && nat_eq place (place_of l number))
     numbers
 
--- the tags of the list are free, and the hint is at the last of them, but not where gets go round
+-- the tags of the list are free, and the hint moves to the last of them, except under round robin
 abbrev pub give_back : List ℕ → Lone → Lone
 give_back numbers w = record w {
   pool = record w.pool { free = λ word place. w.pool.free word place || is_named w.layout numbers word place };
   hint = hint_at (slice_index numbers (length numbers - 1)) w.hint;
 }
 
--- the tag is posted too
+-- the tag becomes posted
 abbrev pub post_in : ℕ → Lone → Lone
 post_in number w = record w { posted = λ other. w.posted other || nat_eq other number }
 
--- the tag is posted no more
+-- the tag is no longer posted
 abbrev pub take_in : ℕ → Lone → Lone
 take_in number w = record w { posted = λ other. w.posted other && not (nat_eq other number) }
 
@@ -153,7 +152,7 @@ LoneClearsList tags old = ChangesSet Ordinary
 abbrev pub LonePosts : ℕ → Lones → Lones → Type 0
 LonePosts tag = ChangesSetOf tag (λ number old new. new ≡ post_in number old)
 
--- a take, which finds the tag where it is posted, and only there
+-- a take, which finds the tag exactly if it is posted
 abbrev pub LoneTakes : ℕ → Lones → Result (Unit {0}) TagFault → Lones → Type 0
 LoneTakes tag old (Ok done) new = (is_posted old tag ≡ true)
     × ChangesSetOf tag (λ number before after. after ≡ take_in number before) old new
@@ -173,7 +172,7 @@ is_aside_in w number = nat_lt number w.layout.depth && w.pool.aside (word_of w.l
 abbrev pub is_busy_tag : Lones → ℕ → Bool
 is_busy_tag sets tag = is_busy_in (sets (kind_of (split_in sets) tag)) (number_in_set (split_in sets) tag)
 
--- the bits are set of the busy tags, and no other
+-- the bit of each tag is 1 exactly if the tag is busy
 pub record LoneListsBusy (old : Lones) (bits : List ℕ) (new : Lones) : Type 0 where
   pub bits_are : (tag : ℕ) → tag < 64 * length bits → bit_in 64 bits tag ≡ cond (is_busy_tag old tag) 1 0
   pub same : new ≡ old
@@ -184,22 +183,22 @@ pub record LoneShows (kind : Kind) (old : Lones) (shown : Shown) (new : Lones) :
   pub cleared : shown.cleared ≡ count_below (is_aside_in (old kind)) (old kind).layout.depth
   pub same : new ≡ old
 
--- the bits are set of the busy tags of a set, and no other
+-- the bit of each tag of the set is 1 exactly if the tag is busy
 pub record LoneDumps (kind : Kind) (old : Lones) (bytes : List ℕ) (new : Lones) : Type 0 where
   pub bits_are : (tag : ℕ) → bit_in 8 bytes tag ≡ cond (is_busy_in (old kind) tag) 1 0
   pub same : new ≡ old
 
--- both sets as the options say, and nobody touched them
+-- both sets have the layouts that the options determine, and no step was made in them
 pub record AreUntouched (total reserved : ℕ) (options : Options) (sets : Lones) : Type 0 where
   pub ordinary_layout : IsLaidOut (total - reserved) options (sets Ordinary).layout
   pub reserved_layout : IsLaidOut reserved options (sets Reserved).layout
   pub untouched : (kind : Kind) → sets kind ≡ untouched (sets kind).layout options.round_robin
 
--- the set continues with so many tags, all of them free, in words of as many bits; the hint stays
+-- the set continues with `depth` tags, all of them free; the shift and the hint stay
 abbrev pub resized : ℕ → Lone → Lone
 resized depth w = record (untouched (record { depth = depth; shift = w.layout.shift }) false) { hint = w.hint }
 
--- a resize to so many tags in both sets
+-- a resize to `total` tags in both sets
 abbrev pub LoneResizes : ℕ → Lones → Result (Unit {0}) ResizeCause → Lones → Type 0
 LoneResizes total old (Ok done) new = ChangesSet Ordinary
     (λ before after. after ≡ resized (total - split_in old) before) old new

@@ -1,4 +1,4 @@
--- What looks at the tags tell, which change nothing of the world.
+-- What lists and counts of busy tags report. They leave the state unchanged.
 use Rattle.std.specs.Prelude.{◌≡◌, ℕ, ◌+◌, ◌-◌, ◌*◌, ◌/◌, ◌<◌, ◌≤◌, true, List, length}
 use Rattle.std.specs.Int.{div_ceil}
 use Rattle.tag_sets.specs.declared.kind.Kind.{Kind}
@@ -7,19 +7,19 @@ use Rattle.tag_sets.specs.declared.shown.Shown.{Shown}
 use Rattle.tag_sets.specs.Bits.{bit_in}
 use Rattle.tag_board.specs.States.{State}
 
--- tags of a set
+-- the number of tags of a set
 abbrev pub depth_of : State → Kind → ℕ
 depth_of s Ordinary = s.total - s.terms.reserved
 depth_of s Reserved = s.terms.reserved
 
--- the bits are set of tags that are there, and of each tag that the caller holds
+-- the bit of each tag that the caller holds is 1, and each bit past the last tag is 0
 pub record ListsBusy (caller : ℕ) (old : State) (bits : List ℕ) (new : State) : Type 0 where
   pub long : length bits ≡ div_ceil old.total 64
   pub held : (tag : ℕ) → (old.part caller).held tag ≡ true → bit_in 64 bits tag ≡ 1
   pub there : (tag : ℕ) → old.total ≤ tag → tag < 64 * length bits → bit_in 64 bits tag ≡ 0
   pub same : new ≡ old
 
--- the sizes of a set; there are no more tags busy and set aside than it has
+-- the sizes of a set; its busy tags and those set aside are together at most its depth
 pub record Shows (kind : Kind) (old : State) (shown : Shown) (new : State) : Type 0 where
   pub depth : shown.depth ≡ depth_of old kind
   pub bits_per_word : shown.bits_per_word ≡ old.terms.bits kind
@@ -27,7 +27,7 @@ pub record Shows (kind : Kind) (old : State) (shown : Shown) (new : State) : Typ
   pub busy : shown.busy + shown.cleared ≤ depth_of old kind
   pub same : new ≡ old
 
--- a bit for each tag of a set, eight a byte
+-- a bit for each tag of a set, eight per byte; each bit past the last tag is 0
 pub record Dumps (kind : Kind) (old : State) (bytes : List ℕ) (new : State) : Type 0 where
   pub long : length bytes ≡ div_ceil (depth_of old kind) 8
   pub there : (tag : ℕ) → depth_of old kind ≤ tag → bit_in 8 bytes tag ≡ 0

@@ -1,4 +1,4 @@
--- A new world.
+-- A board as it is opened.
 use Rattle.std.specs.Prelude.{◌≡◌, ℕ, ◌-◌, ◌^◌, ◌<◌, max, unwrap_or}
 use Rattle.tag_layout.specs.Layout.{HasShift}
 use Rattle.tag_queue.specs.declared.queue.Options.{Options}
@@ -6,12 +6,11 @@ use Rattle.tag_sets.specs.declared.kind.Kind.{Kind}
 use Rattle.tag_sets.specs.declared.kind.Kind.TheVariants.{Ordinary, Reserved}
 use Rattle.tag_board.specs.States.{State, idle}
 
--- the words of a set of so many tags have 2 ^ shift bits, where the shift is the one that the options give, or the
--- default one
+-- the words of a set of this depth have 2 ^ shift bits, by the shift of the options or else the default one
 abbrev pub HasBits : Options → ℕ → ℕ → Type 0
 HasBits options depth bits = (shift : ℕ) × HasShift depth options.shift shift × (bits ≡ 2 ^ shift)
 
--- the world of these options, in which nothing has been done
+-- the state of a board with these options before any command
 pub record IsOpen (total reserved : ℕ) (options : Options) (s : State) : Type 0 where
   pub total_is : s.total ≡ total
   pub reserved_is : s.terms.reserved ≡ reserved

@@ -1,4 +1,4 @@
--- The hands of shared tags as the callers of a script.
+-- The hands of shared tags, as the callers of a board.
 use Rattle.std.specs.Prelude.{◌≡◌, ℕ, ◌+◌, ◌<◌, Bool, false, ◌&&◌, nat_eq, nat_lt, List, length, map, slice_index, slice_index_or, is_some}
 use Rattle.tag_layout.specs.Layout.{word_bits}
 use Rattle.tag_core.specs.declared.record.Record.{Record}
@@ -16,11 +16,11 @@ use Rattle.tag_sets.specs.Hands.{agent_of, queue_of, layout_of, reserved_of, tot
 use Rattle.tag_board.specs.Lones.{Lone, Lones, untouched}
 use Rattle.tag_board.specs.States.{Terms, Part, State, idle}
 
--- what is known of the hand as a caller of a set's map
+-- the record of the hand's caller on the map of a set
 abbrev pub record_in : {R : Type 0} → Hand R → Kind → Record R
 record_in hand kind = record_of (queue.caller_of (agent_of hand kind))
 
--- whether a record has the tag of this number among its held ones
+-- a record's masks have the bit of this tag
 abbrev pub has : {R : Type 0} → Record R → ℕ → Bool
 has r number = nat_lt number r.shape.layout.depth && nat_eq (tag_bit r.shape.layout r.held number) 1
 
@@ -28,7 +28,7 @@ has r number = nat_lt number r.shape.layout.depth && nat_eq (tag_bit r.shape.lay
 abbrev pub holds : {R : Type 0} → Hand R → ℕ → Bool
 holds hand tag = has (record_in hand (kind_of (split_of hand) tag)) (number_in_set (split_of hand) tag)
 
--- the hand as a caller of a script
+-- the hand as a caller of a board
 abbrev pub part_of : {R : Type 0} → Hand R → Part
 part_of hand = record {
   held = holds hand;
@@ -38,7 +38,7 @@ part_of hand = record {
   round_robin = (hint_of hand Ordinary).round_robin;
 }
 
--- what never changes of these tags and of so many hands
+-- the terms of these tags with this many hands
 abbrev pub terms_of : {R : Type 0} → Tags R → ℕ → Terms
 terms_of tags callers = record {
   reserved = reserved_of tags;
@@ -48,7 +48,7 @@ terms_of tags callers = record {
   bits = λ kind. word_bits (layout_of tags kind);
 }
 
--- the world of these tags and hands: the caller of a number is the hand at that place
+-- the state of these tags and hands: caller n is the hand at index n
 abbrev pub state_of_all : {R : Type 0} → Tags R → List (Hand R) → State
 state_of_all tags hands = record {
   terms = terms_of tags (length hands);
@@ -56,11 +56,11 @@ state_of_all tags hands = record {
   part = λ caller. slice_index_or (map part_of hands) caller (idle false);
 }
 
--- the hands stand in the order of their numbers
+-- the hand at each index has that number
 abbrev pub AreOrdered : {R : Type 0} → List (Hand R) → Type 0
 AreOrdered hands = (n : ℕ) → n < length hands → slice_index (map number_of hands) n ≡ n
 
--- a set as the steps of its only agent leave it
+-- a set, as the steps of its only agent determine it
 abbrev pub lone_of : {R : Type 0} → Agent R → Lone
 lone_of agent = record {
   layout = (queue.caller_of agent).shape.value.layout;
@@ -69,10 +69,10 @@ lone_of agent = record {
   hint = queue.hint_of agent;
 }
 
--- both sets as the steps of the only hand leave them
+-- both sets, as the steps of the only hand determine them
 abbrev pub lones_in : {R : Type 0} → Hand R → Lones
 lones_in hand = λ kind. lone_of (agent_of hand kind)
 
--- both sets as the steps of the first of the hands leave them
+-- both sets, as the steps of the first hand determine them
 abbrev pub lones_of_all : {R : Type 0} → List (Hand R) → Lones
 lones_of_all hands = slice_index_or (map lones_in hands) 0 (λ kind. untouched (record { depth = 0; shift = 0 }) false)

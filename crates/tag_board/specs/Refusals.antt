@@ -1,4 +1,4 @@
--- Which commands are refused: of several causes the first in the order of the commands' own, told for each cause.
+-- Which commands are refused, and with which fault: the first cause that holds, in the order of the command.
 use Rattle.std.specs.Prelude.{◌≡◌, ◌≢◌, ◌⊎◌, ℕ, ◌+◌, ◌<◌, ◌≤◌, true, false, List, All, AllPairs}
 use Rattle.tag_queue.specs.declared.fault.TagFault.{TagFault}
 use Rattle.tag_queue.specs.declared.fault.TagFault.TheVariants.{NoSuchTag, NoReserved, NotHeld, BadCount, TooShallow, Spent, Waiting, NotWaiting}
@@ -7,11 +7,11 @@ use Rattle.tag_sets.specs.declared.kind.Kind.{Kind}
 use Rattle.tag_sets.specs.declared.kind.Kind.TheVariants.{Ordinary, Reserved}
 use Rattle.tag_board.specs.States.{State}
 
--- so many tags more of a set could bring the caller past its life
+-- winning n more tags of a set could exceed the caller's life
 abbrev pub IsSpent : State → ℕ → Kind → ℕ → Type 0
 IsSpent s caller kind n = s.terms.life kind < (s.part caller).won kind + n
 
--- a get of a set
+-- a get from a set
 abbrev pub RefusesGet : State → ℕ → Kind → TagFault → Type 0
 RefusesGet s caller Ordinary Spent = IsSpent s caller Ordinary 1
 RefusesGet s caller Reserved NoReserved = s.terms.reserved ≡ 0
@@ -24,11 +24,11 @@ RefusesShallow s caller depth TooShallow = depth < s.terms.least
 RefusesShallow s caller depth Spent = (s.terms.least ≤ depth) × IsSpent s caller Ordinary 1
 RefusesShallow s caller depth fault = ⊥
 
--- a count that no batch has
+-- a count that no batch may have: 0, or more than the bits of a word
 abbrev pub Miscounts : State → ℕ → Type 0
 Miscounts s n = (n ≡ 0) ⊎ (s.terms.bits Ordinary < n)
 
--- a batch of n
+-- a batch get of n tags
 abbrev pub RefusesBatch : State → ℕ → ℕ → TagFault → Type 0
 RefusesBatch s caller n BadCount = Miscounts s n
 RefusesBatch s caller n Spent = ¬ (Miscounts s n) × ((s.part caller).round_robin ≡ false) × IsSpent s caller Ordinary n
@@ -44,7 +44,7 @@ RefusesTag s caller tag fault = ⊥
 abbrev pub AreOrdinary : State → List ℕ → Type 0
 AreOrdinary s tags = All (λ tag. (s.terms.reserved ≤ tag) × (tag < s.total)) tags
 
--- the caller holds each tag of the list, and none is named twice
+-- the caller holds each tag of the list, and the tags are distinct
 abbrev pub AreHeldOnce : State → ℕ → List ℕ → Type 0
 AreHeldOnce s caller tags = All (λ tag. (s.part caller).held tag ≡ true) tags × AllPairs (λ a b. a ≢ b) tags
 

@@ -1,4 +1,4 @@
--- What each command answers, and what it leaves of the world.
+-- The answer of each command, and the state that it leaves.
 use Rattle.std.specs.Prelude.{◌≡◌, ◌≢◌, ℕ, ◌+◌, ◌-◌, ◌<◌, ◌≤◌, Bool, true, false, not, ◌&&◌, ◌||◌, nat_eq, nat_le, IsTrue, List, length, Option, Some, None, Result, Ok, Err}
 use Rattle.std.specs.Int.{bit_at}
 use Rattle.std.specs.List.{list_any}
@@ -10,75 +10,75 @@ use Rattle.tag_sets.specs.declared.kind.Kind.TheVariants.{Ordinary, Reserved}
 use Rattle.tag_board.specs.States.{Part, State}
 use Rattle.tag_board.specs.Refusals.{RefusesGet, RefusesShallow, RefusesBatch, RefusesTag, RefusesList, RefusesWait, RefusesLeave}
 
--- a command is refused and changes nothing, or there is no reason to refuse it and this is done
+-- the command is refused for a cause that holds, and changes nothing; or no cause holds, and `done` holds of the answer
 abbrev pub Answers : {A : Type 0} → (TagFault → Type 0) → (A → Type 0) → State → Result A TagFault → State → Type 0
 Answers refuses done old (Ok answer) new = ((fault : TagFault) → ¬ (refuses fault)) × done answer
 Answers refuses done old (Err fault) new = refuses fault × (new ≡ old)
 
--- this caller changed so, and nothing else of the world
+-- the part of this caller changed so, and the rest of the state is unchanged
 pub record Changes (caller : ℕ) (change : Part → Part) (old new : State) : Type 0 where
   pub terms : new.terms ≡ old.terms
   pub total : new.total ≡ old.total
   pub own : new.part caller ≡ change (old.part caller)
   pub others : (other : ℕ) → other ≢ caller → new.part other ≡ old.part other
 
--- the number of tags won of each set, after so many more of this one
+-- the number of tags won of each set, after n more of this one
 abbrev pub won_more : Kind → ℕ → (Kind → ℕ) → Kind → ℕ
 won_more Ordinary n won Ordinary = won Ordinary + n
 won_more Ordinary n won Reserved = won Reserved
 won_more Reserved n won Ordinary = won Ordinary
 won_more Reserved n won Reserved = won Reserved + n
 
--- the caller holds the named tags too
+-- the caller also holds the named tags
 abbrev pub joined : (ℕ → Bool) → Part → Part
 joined named p = record p { held = λ tag. p.held tag || named tag }
 
--- the caller won the named tags, so many of this set
+-- the caller won the named tags, n of this set
 abbrev pub won : Kind → (ℕ → Bool) → ℕ → Part → Part
 won kind named n p = record (joined named p) { won = won_more kind n p.won }
 
--- the caller holds the named tags no more
+-- the caller no longer holds the named tags
 abbrev pub left : (ℕ → Bool) → Part → Part
 left named p = record p { held = λ tag. p.held tag && not (named tag) }
 
--- the caller cleared the named tags, so many
+-- the caller gave back the named tags, n of them
 abbrev pub cleared : (ℕ → Bool) → ℕ → Part → Part
 cleared named n p = record (left named p) { back = p.back + n }
 
--- the caller stands in a wait group, or in none
+-- the caller is in a wait group, or in none
 abbrev pub standing : Bool → Part → Part
 standing stands p = record p { stands = stands }
 
--- no caller holds one of the named tags
+-- no caller holds a named tag
 abbrev pub NobodyHolds : State → (ℕ → Bool) → Type 0
 NobodyHolds s named = (caller tag : ℕ) → IsTrue (named tag) → (s.part caller).held tag ≡ false
 
--- the tag is one of this set
+-- the tag is in this set
 abbrev pub IsOf : State → Kind → ℕ → Type 0
 IsOf s Ordinary tag = (s.terms.reserved ≤ tag) × (tag < s.total)
 IsOf s Reserved tag = tag < s.terms.reserved
 
--- the caller won the named tags, so many of this set, which nobody held
+-- the caller won the named tags, n of this set, and no caller held one of them
 pub record Wins (caller : ℕ) (kind : Kind) (named : ℕ → Bool) (n : ℕ) (old new : State) : Type 0 where
   pub free : NobodyHolds old named
   pub there : (tag : ℕ) → IsTrue (named tag) → IsOf old kind tag
   pub change : Changes caller (won kind named n) old new
 
--- the tag answered
+-- the tag answered, as a test
 abbrev pub is_answer : Option ℕ → ℕ → Bool
 is_answer None tag = false
 is_answer (Some answer) tag = nat_eq tag answer
 
--- the tags that a batch answers: the lowest bit of its mask stands for its first tag
+-- the tags of an answered batch, as a test: bit k of the mask is the tag `first + k`
 abbrev pub is_in_run : Option (ℕ × ℕ) → ℕ → Bool
 is_in_run None tag = false
 is_in_run (Some run) tag = nat_le run.0 tag && nat_eq (bit_at run.1 (tag - run.0)) 1
 
--- the tags of a list
+-- the tags of a list, as a test
 abbrev pub is_in_list : List ℕ → ℕ → Bool
 is_in_list tags tag = list_any (nat_eq tag) tags
 
--- a get of a set
+-- a get from a set
 abbrev pub Gets : Kind → ℕ → State → Result (Option ℕ) TagFault → State → Type 0
 Gets kind caller old result new =
     Answers (RefusesGet old caller kind) (λ answer. Wins caller kind (is_answer answer) (count_of answer) old new) old
@@ -90,13 +90,13 @@ GetsShallow depth caller old result new =
     Answers (RefusesShallow old caller depth)
     (λ answer. Wins caller Ordinary (is_answer answer) (count_of answer) old new) old result new
 
--- a batch of n, which finds none where gets go round
+-- a batch get of n tags, which finds none under round robin
 abbrev pub GetsBatch : ℕ → ℕ → State → Result (Option (ℕ × ℕ)) TagFault → State → Type 0
 GetsBatch n caller old result new = Answers (RefusesBatch old caller n)
     (λ answer. ((old.part caller).round_robin ≡ true → answer ≡ None)
     × Wins caller Ordinary (is_in_run answer) (count_of_run answer) old new) old result new
 
--- a clear, and how many waiters it woke: of a reserved tag none
+-- a clear, with the number of waiters woken, which is 0 for a reserved tag
 abbrev pub Clears : ℕ → ℕ → State → Result ℕ TagFault → State → Type 0
 Clears tag caller old result new = Answers (RefusesTag old caller tag)
     (λ woken. (tag < old.terms.reserved → woken ≡ 0) × Changes caller (cleared (nat_eq tag) 1) old new) old result new
@@ -111,7 +111,7 @@ abbrev pub Posts : ℕ → ℕ → State → Result (Unit {0}) TagFault → Stat
 Posts tag caller old result new = Answers (RefusesTag old caller tag)
     (λ done. Changes caller (left (nat_eq tag)) old new) old result new
 
--- a take: of a tag that is there, which nobody held; the answers alone don't tell when it is posted
+-- a take: of a tag in range that no caller held; the answers alone do not determine which tags are posted
 abbrev pub Takes : ℕ → ℕ → State → Result (Unit {0}) TagFault → State → Type 0
 Takes tag caller old (Ok done) new = (tag < old.total) × NobodyHolds old (nat_eq tag)
     × Changes caller (joined (nat_eq tag)) old new
@@ -119,7 +119,7 @@ Takes tag caller old (Err NoSuchTag) new = (old.total ≤ tag) × (new ≡ old)
 Takes tag caller old (Err NotPosted) new = (tag < old.total) × (new ≡ old)
 Takes tag caller old (Err fault) new = ⊥
 
--- a wait, and the group that the caller entered
+-- a wait, with the group that the caller entered
 abbrev pub Waits : ℕ → State → Result ℕ TagFault → State → Type 0
 Waits caller old result new = Answers (RefusesWait old caller)
     (λ group. (group < 8) × Changes caller (standing true) old new) old result new
@@ -129,7 +129,7 @@ abbrev pub Leaves : {L : Type 0} → ℕ → State → Result L TagFault → Sta
 Leaves caller old result new = Answers (RefusesLeave old caller) (λ left. Changes caller (standing false) old new) old
     result new
 
--- no other caller holds one of the named tags
+-- no other caller holds a named tag
 abbrev pub NobodyElseHolds : State → ℕ → (ℕ → Bool) → Type 0
 NobodyElseHolds s caller named = (other tag : ℕ) → other ≢ caller → IsTrue (named tag) → (s.part other).held tag ≡ false
 

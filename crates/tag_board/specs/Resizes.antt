@@ -1,4 +1,4 @@
--- Resizes of the world: why they are refused, and what they leave.
+-- Resizes: which are refused, and the state after one.
 use Rattle.std.specs.Prelude.{◌≡◌, ℕ, ◌≤◌, true, Result, Ok, Err}
 use Rattle.tag_queue.specs.declared.resizes.ResizeCause.{ResizeCause}
 use Rattle.tag_queue.specs.declared.resizes.ResizeCause.TheVariants.{DepthTooLarge, InUse, Waiting}
@@ -11,8 +11,7 @@ use Rattle.tag_board.specs.Replays.{NobodyHolds}
 abbrev pub AreUnused : State → Type 0
 AreUnused s = (held_in s ≡ 0) × (posted_in s ≡ 0)
 
--- of several causes to refuse a resize the first in this order: the total, tags in use, callers that stand in a wait
--- group
+-- the first cause that holds, in this order: the total out of range, tags in use, callers in a wait group
 abbrev pub RefusesResize : State → ℕ → ResizeCause → Type 0
 RefusesResize s total DepthTooLarge = IsOutOfRange total s.terms.reserved
 RefusesResize s total (InUse held posted) =
@@ -21,11 +20,11 @@ RefusesResize s total (Waiting count) =
     HasRange total s.terms.reserved × AreUnused s × (count ≡ standing_in s) × (1 ≤ count)
 RefusesResize s total cause = ⊥
 
--- nothing is in the way of a resize
+-- no cause to refuse the resize holds
 abbrev pub MayResize : State → ℕ → Type 0
 MayResize s total = HasRange total s.terms.reserved × AreUnused s × (standing_in s ≡ 0)
 
--- a resize: the world is as it was but for its total, and its tags are free
+-- a resize: only the total changes, and no caller holds a tag; a refusal changes nothing
 abbrev pub Resizes : ℕ → State → Result (Unit {0}) ResizeCause → State → Type 0
 Resizes total old (Ok done) new =
     MayResize old total × (new ≡ record old { total = total }) × NobodyHolds new (λ tag. true)

@@ -1,13 +1,12 @@
--- The world of a script over shared tags, as far as its answers tell it.
+-- The state of a board, as far as the answers determine it.
 use Rattle.std.specs.Prelude.{ℕ, ◌+◌, ◌-◌, Bool, false}
 use Rattle.tag_layout.specs.Sums.{sum_below}
 use Rattle.tag_model.specs.Totals.{count_below}
 use Rattle.tag_sets.specs.declared.kind.Kind.{Kind}
 use Rattle.tag_sets.specs.declared.kind.Kind.TheVariants.{Ordinary, Reserved}
 
--- what never changes: how many tags are reserved, the first of the range; how many callers there are; how many tags of
--- a set a
--- caller may win; the least depth of a shallow get; and the bits in a word of a set
+-- what never changes: the number of reserved tags, which are the lowest; the number of callers; the most tags of a set
+-- that a caller may win; the least depth of a shallow get; and the bits per word of a set
 pub record Terms : Type 0 where
   pub reserved : ℕ
   pub callers : ℕ
@@ -15,9 +14,8 @@ pub record Terms : Type 0 where
   pub least : ℕ
   pub bits : Kind → ℕ
 
--- a caller: which tags it holds, how many it won of each set, how many it cleared, whether it stands in a wait group,
--- and whether
--- its gets go round
+-- a caller: which tags it holds, how many it won of each set, how many it gave back, whether it is in a wait group, and
+-- whether its gets are round robin
 pub record Part : Type 0 where
   pub held : ℕ → Bool
   pub won : Kind → ℕ
@@ -25,32 +23,32 @@ pub record Part : Type 0 where
   pub stands : Bool
   pub round_robin : Bool
 
--- what never changes, how many tags there are in both sets, and each caller
+-- what never changes, the number of tags in both sets, and each caller
 pub record State : Type 0 where
   pub terms : Terms
   pub total : ℕ
   pub part : ℕ → Part
 
--- a caller who has done nothing
+-- a caller that has done nothing
 abbrev pub idle : Bool → Part
 idle round_robin = record { held = λ tag. false; won = λ kind. 0; back = 0; stands = false; round_robin = round_robin }
 
--- tags that the gets of all callers returned
+-- the number of tags that the gets of all callers returned
 abbrev pub got_in : State → ℕ
 got_in s = sum_below (λ caller. (s.part caller).won Ordinary + (s.part caller).won Reserved) s.terms.callers
 
--- tags that were cleared
+-- the number of tags given back
 abbrev pub back_in : State → ℕ
 back_in s = sum_below (λ caller. (s.part caller).back) s.terms.callers
 
--- tags that callers hold
+-- the number of tags that callers hold
 abbrev pub held_in : State → ℕ
 held_in s = sum_below (λ caller. count_below (s.part caller).held s.total) s.terms.callers
 
--- the rest: tags that are posted
+-- the number of posted tags: those won that are neither given back nor held
 abbrev pub posted_in : State → ℕ
 posted_in s = got_in s - (back_in s + held_in s)
 
--- callers that stand in a wait group
+-- the number of callers in a wait group
 abbrev pub standing_in : State → ℕ
 standing_in s = count_below (λ caller. (s.part caller).stands) s.terms.callers

@@ -6,15 +6,16 @@ ghost use Rattle.tag_board.specs.Parts.{AreOrdered};
 
 use tag_sets::{Hand, Tags};
 
-/// Shared tags with all their hands, each the caller of its number. A clause sees the world that their answers tell of.
+/// Shared tags and all their hands: the hand at index `n` is caller `n`. A contract sees a board as its `State`, which
+/// is what the answers so far determine.
 #[derive(Drop)]
 pub struct Board {
     pub(crate) tags: Tags<u64>,
-    /// In the order of their numbers.
+    /// One hand per caller, in the order of their numbers.
     pub(crate) hands: Vec<Hand<u64>>,
-    /// Tags in both sets, at most 10,240.
+    /// Number of tags in both sets, at most 10,240.
     pub(crate) total: u32,
-    /// Reserved tags, the first of the range.
+    /// Number of reserved tags, the lowest of the range, at most `total`.
     pub(crate) reserved: u32,
     ghost own: { All (IsHandOf tags) hands.items },
     ghost ordered: { AreOrdered hands.items },

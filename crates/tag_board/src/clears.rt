@@ -1,4 +1,4 @@
-//! How callers give tags back.
+//! Commands that give tags back.
 ghost use Rattle.tag_board.specs.Boards.{state_of, lones_of, IsCallerOf, IsAlone};
 ghost use Rattle.tag_board.specs.Lones.{Does, LoneClears, LoneClearsList};
 ghost use Rattle.tag_board.specs.Replays.{Clears, ClearsList};
@@ -7,7 +7,8 @@ use crate::board::Board;
 use tag_sets::TagFault;
 
 impl Board {
-    /// Gives a held tag back, and tells how many waiters that woke.
+    /// Gives a held tag back, and returns the number of waiters woken: 0 for a reserved tag. `NoSuchTag` for a tag past
+    /// the last, `NotHeld` for one that the caller does not hold.
     pub fn clear(&mut self, caller: u32, tag: u32) -> Result<u32, TagFault>
         requires { IsCallerOf self.old caller }
         ensures answers { Clears tag caller (state_of self.old) result (state_of self.new) }
@@ -17,7 +18,8 @@ impl Board {
         self.tags.clear(&mut self.hands[caller as usize], tag)
     }
 
-    /// Gives 1 to 64 held ordinary tags back at once, and tells how many waiters that woke.
+    /// Gives back 1 to 64 distinct held ordinary tags at once, and returns the number of waiters woken. `BadCount` for
+    /// another number of tags, `NoSuchTag` if one is not ordinary, `NotHeld` if one is not held or is named twice.
     pub fn clear_batch(&mut self, caller: u32, tags: &[u32]) -> Result<u32, TagFault>
         requires { IsCallerOf self.old caller }
         ensures answers { ClearsList tags.now caller (state_of self.old) result (state_of self.new) }

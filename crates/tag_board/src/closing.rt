@@ -1,4 +1,4 @@
-//! The end of a world.
+//! Closing a board.
 ghost use Rattle.std.specs.Prelude.{◌≡◌};
 ghost use Rattle.tag_board.specs.Boards.{state_of};
 ghost use Rattle.tag_board.specs.Closing.{totals_in};
@@ -8,7 +8,7 @@ use tag_model::Totals;
 use tag_sets::Tags;
 
 impl Board {
-    /// All callers come together: what they won, cleared and hold, and what is posted.
+    /// Gathers all callers. Returns the totals over both sets: tags got, given back, held and posted.
     pub fn close(self) -> Totals
         ensures { result ≡ totals_in (state_of self) }
     {

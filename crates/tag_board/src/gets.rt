@@ -1,4 +1,4 @@
-//! How callers take tags.
+//! Commands that take tags.
 ghost use Rattle.tag_sets.specs.declared.kind.Kind.TheVariants.{Ordinary, Reserved};
 ghost use Rattle.tag_board.specs.Boards.{state_of, lones_of, IsCallerOf, IsAlone};
 ghost use Rattle.tag_board.specs.Lones.{Does, LoneGets, LoneBatch, plain, shallow};
@@ -8,7 +8,8 @@ use crate::board::Board;
 use tag_sets::TagFault;
 
 impl Board {
-    /// An ordinary tag that nobody held.
+    /// Takes an ordinary tag that no caller held, or `None` if the search found none. `Spent` if winning one more tag
+    /// could exceed the caller's life.
     pub fn get(&mut self, caller: u32) -> Result<Option<u32>, TagFault>
         requires { IsCallerOf self.old caller }
         ensures answers { Gets Ordinary caller (state_of self.old) result (state_of self.new) }
@@ -20,7 +21,8 @@ impl Board {
         Ok(answer)
     }
 
-    /// A reserved tag that nobody held.
+    /// Takes a reserved tag that no caller held, or `None` if the search found none. `NoReserved` if the board has no
+    /// reserved tags; otherwise as `get`.
     pub fn get_reserved(&mut self, caller: u32) -> Result<Option<u32>, TagFault>
         requires { IsCallerOf self.old caller }
         ensures answers { Gets Reserved caller (state_of self.old) result (state_of self.new) }
@@ -32,7 +34,8 @@ impl Board {
         Ok(answer)
     }
 
-    /// An ordinary tag that nobody held, among `depth` of them.
+    /// As `get`, limited to `depth` tags, which are distributed over the words. `TooShallow` if `depth` is below the
+    /// least depth of the options.
     pub fn get_shallow(&mut self, caller: u32, depth: u32) -> Result<Option<u32>, TagFault>
         requires { IsCallerOf self.old caller }
         ensures answers { GetsShallow depth caller (state_of self.old) result (state_of self.new) }
@@ -46,7 +49,9 @@ impl Board {
         Ok(answer)
     }
 
-    /// Up to `n` ordinary tags side by side that nobody held: the first, and a mask whose lowest bit stands for it.
+    /// Takes up to `n` adjacent ordinary tags that no caller held: the first, and a mask in which it is the lowest bit.
+    /// `BadCount` unless `n` is 1 to the bits of a word; `None` under round robin; otherwise as `get`, for `n` more
+    /// tags.
     pub fn get_batch(&mut self, caller: u32, n: u32) -> Result<Option<(u32, u64)>, TagFault>
         requires { IsCallerOf self.old caller }
         ensures answers { GetsBatch n caller (state_of self.old) result (state_of self.new) }

@@ -1,4 +1,4 @@
-//! The world of a script over shared tags: what each command of each caller answers, and what it leaves.
+//! The world of a script over shared tags: the answer of each command of each caller, and the state after it.
 #![tactic(auto)]
 
 mod board;

@@ -1,4 +1,4 @@
-//! Looks at the tags.
+//! Commands that list and count busy tags.
 ghost use Rattle.std.specs.Prelude.{IfOk};
 ghost use Rattle.tag_board.specs.Boards.{state_of, lones_of, IsCallerOf, IsAlone};
 ghost use Rattle.tag_board.specs.Lones.{LoneListsBusy, LoneShows, LoneDumps};
@@ -9,7 +9,7 @@ use std::alloc::{AllocError, Global};
 use tag_sets::{Kind, Shown};
 
 impl Board {
-    /// Which tags are busy: tag `t` by the bit `t % 64` of the word `t / 64`.
+    /// Returns a bit for each tag, 1 for a busy one: tag `t` is the bit `t % 64` of the word `t / 64`.
     pub fn busy(&mut self, alloc: Global, caller: u32) -> Result<Vec<u64>, AllocError>
         requires { IsCallerOf self.old caller }
         ensures answers { IfOk result (λ bits. ListsBusy caller (state_of self.old) bits.items (state_of self.new)) }
@@ -21,7 +21,7 @@ impl Board {
         Ok(bits)
     }
 
-    /// The sizes and the sums of a set.
+    /// Returns the sizes of a set, and how many of its tags are busy and how many set aside.
     pub fn show(&mut self, caller: u32, kind: Kind) -> Shown
         requires { IsCallerOf self.old caller }
         ensures answers { Shows kind (state_of self.old) result (state_of self.new) }
@@ -30,7 +30,7 @@ impl Board {
         self.tags.show(&mut self.hands[caller as usize], kind)
     }
 
-    /// Which tags of a set are busy, eight a byte, low bit first.
+    /// Returns a bit for each tag of a set, 1 for a busy one, eight per byte, low bit first.
     pub fn dump(&mut self, alloc: Global, caller: u32, kind: Kind) -> Result<Vec<u8>, AllocError>
         requires { IsCallerOf self.old caller }
         ensures answers { IfOk result (λ bytes. Dumps kind (state_of self.old) bytes.items (state_of self.new)) }

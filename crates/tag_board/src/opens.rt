@@ -1,4 +1,4 @@
-//! A new world.
+//! Opening a board.
 ghost use Rattle.std.specs.Prelude.{◌≡◌, ◌^◌, ◌<◌, ◌≤◌, ◌↔◌, IfOk, IsSomeAnd};
 ghost use Rattle.tag_layout.specs.declared.layout.TheConstants.{MAX_DEPTH, MAX_SHIFT};
 ghost use Rattle.tag_model.specs.declared.world.TheConstants.{MOST_WON};
@@ -13,7 +13,7 @@ use std::alloc::Global;
 use tag_sets::{Options, SetFault, Tags};
 
 impl Board {
-    /// A world of free tags, of which the first `reserved` are the reserved ones.
+    /// Opens a board whose tags are all free. The lowest `reserved` of the `total` tags are the reserved ones.
     pub fn open(
         alloc: Global,
         total: u32,
@@ -23,7 +23,7 @@ impl Board {
         ensures ok { IfOk result (λ board. IsOpen total reserved options (state_of board)) }
         ensures alone { IfOk result (λ board. IsAlone board → AreUntouched total reserved options (lones_of board)) }
 
-        // The causes are looked at in this order, and memory last.
+        // The causes are tested in this order, and memory comes last.
         ensures total { (result ≡ Err SetFault.TotalTooLarge) ↔ (MAX_DEPTH < total) }
         ensures reserved { (result ≡ Err SetFault.ReservedTooLarge) ↔ ((total ≤ MAX_DEPTH) × (total < reserved)) }
         ensures shift { (result ≡ Err SetFault.ShiftTooLarge)

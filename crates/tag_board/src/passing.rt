@@ -1,4 +1,4 @@
-//! How tags pass from caller to caller.
+//! Commands that pass a tag from one caller to another.
 ghost use Rattle.tag_board.specs.Boards.{state_of, lones_of, IsCallerOf, IsAlone};
 ghost use Rattle.tag_board.specs.Lones.{Does, LonePosts, LoneTakes};
 ghost use Rattle.tag_board.specs.Replays.{Posts, Takes};
@@ -7,7 +7,8 @@ use crate::board::Board;
 use tag_sets::TagFault;
 
 impl Board {
-    /// Hands a held tag on to whoever takes it first.
+    /// Hands a held tag on, to whichever caller takes it first. `NoSuchTag` for a tag past the last, `NotHeld` for one
+    /// that the caller does not hold.
     pub fn post(&mut self, caller: u32, tag: u32) -> Result<(), TagFault>
         requires { IsCallerOf self.old caller }
         ensures answers { Posts tag caller (state_of self.old) result (state_of self.new) }
@@ -17,7 +18,8 @@ impl Board {
         self.tags.post(&mut self.hands[caller as usize], tag)
     }
 
-    /// Takes a posted tag, which nobody held.
+    /// Takes a posted tag, which no caller held. `NoSuchTag` for a tag past the last, `NotPosted` if the call did not
+    /// find it posted.
     pub fn take(&mut self, caller: u32, tag: u32) -> Result<(), TagFault>
         requires { IsCallerOf self.old caller }
         ensures answers { Takes tag caller (state_of self.old) result (state_of self.new) }

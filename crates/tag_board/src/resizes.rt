@@ -1,4 +1,4 @@
-//! How a world continues with another number of tags.
+//! Resizing a board.
 ghost use Rattle.std.specs.Prelude.{IfOk, IsErr};
 ghost use Rattle.tag_board.specs.Boards.{state_of, lones_of, IsAlone};
 ghost use Rattle.tag_board.specs.Lones.{LoneResizes};
@@ -9,8 +9,8 @@ use std::alloc::{AllocError, Global};
 use tag_sets::{ResizeCause, Tags, TagsResizeFault};
 
 impl Board {
-    /// All callers continue with `total` tags, of which as many are reserved as before. The world comes back with the answer;
-    /// a refusal leaves it as it was.
+    /// Continues with `total` tags, as many of them reserved as before, and with all callers. Returns the board with
+    /// the answer; a refusal leaves it unchanged. If memory runs out, the board is lost.
     pub fn resize(
         self,
         alloc: Global,

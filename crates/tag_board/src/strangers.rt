@@ -1,4 +1,4 @@
-//! A tag that a caller holds is held by nobody else.
+//! No tag has two holders: a tag that one caller holds is held by no other.
 ghost use Rattle.std.specs.Prelude.{◌≡◌, nat_eq, true, Some, MatchOption};
 ghost use Rattle.tag_board.specs.Boards.{state_of, IsCallerOf};
 ghost use Rattle.tag_board.specs.Replays.{is_answer, is_in_run, NobodyElseHolds, IsOtherHolder, HoldsAll};
@@ -6,7 +6,7 @@ ghost use Rattle.tag_board.specs.Replays.{is_answer, is_in_run, NobodyElseHolds,
 use crate::board::Board;
 
 impl Board {
-    // Another caller that holds the tag, if there is one: a test of a bit for each.
+    // Returns another caller that holds the tag, if there is one. It tests one bit per caller.
     fn other_holder(&self, caller: u32, tag: u32) -> Option<usize>
         requires { ((state_of self.now).part caller).held tag ≡ true }
         ensures { MatchOption result (NobodyElseHolds (state_of self.now) caller (nat_eq tag))
@@ -20,7 +20,8 @@ impl Board {
         None
     }
 
-    // Establishes that no other caller holds a tag that this one holds: two would differ where they meet.
+    // Establishes that no other caller holds a tag that this one holds. If another did, `apart` on the two hands would
+    // refute it, so that branch is unreachable.
     fn tell_alone(&mut self, caller: u32, tag: u32)
         requires caller { IsCallerOf self.old caller }
         requires held { ((state_of self.old).part caller).held tag ≡ true }
@@ -36,7 +37,7 @@ impl Board {
         }
     }
 
-    /// Establishes that no other caller holds the tag answered, if there is one.
+    /// Establishes that no caller but this one holds the answered tag, if there is one.
     pub(crate) fn tell_free(&mut self, caller: u32, answer: Option<u32>)
         requires caller { IsCallerOf self.old caller }
         requires held { HoldsAll (state_of self.old) caller (is_answer answer) }
@@ -48,7 +49,7 @@ impl Board {
         }
     }
 
-    // Establishes the same of each tag of a run: the lowest bit of the mask stands for the first.
+    // Establishes the same for each tag of a run. The lowest bit of the mask is the tag `first`.
     fn tell_each_alone(&mut self, caller: u32, first: u32, mask: u64)
         requires caller { IsCallerOf self.old caller }
         requires held { HoldsAll (state_of self.old) caller (is_in_run (Some (first, mask))) }
@@ -62,7 +63,7 @@ impl Board {
         }
     }
 
-    /// Establishes that no other caller holds a tag of the batch answered, if there is one.
+    /// Establishes that no caller but this one holds a tag of the answered batch, if there is one.
     pub(crate) fn tell_run_free(&mut self, caller: u32, answer: Option<(u32, u64)>)
         requires caller { IsCallerOf self.old caller }
         requires held { HoldsAll (state_of self.old) caller (is_in_run answer) }

@@ -1,4 +1,4 @@
-//! Worked answers of several callers.
+//! Scripts of several callers with answers worked out on paper.
 mod calls;
 mod memory;
 mod scripts;

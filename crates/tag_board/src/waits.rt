@@ -1,4 +1,4 @@
-//! How callers wait.
+//! Commands that wait.
 ghost use Rattle.std.specs.Prelude.{◌≡◌, ◌≤◌, true};
 ghost use Rattle.tag_board.specs.Boards.{state_of, lones_of, IsCallerOf, IsAlone};
 ghost use Rattle.tag_board.specs.Replays.{Waits, Leaves};
@@ -8,7 +8,7 @@ use std::sync::Wait;
 use tag_sets::{Left, TagFault, Wakes};
 
 impl Board {
-    /// Enters a wait group, and tells its number.
+    /// Enters a wait group, and returns its number, below 8. `Waiting` if the caller is in one already.
     pub fn wait(&mut self, caller: u32) -> Result<u32, TagFault>
         requires { IsCallerOf self.old caller }
         ensures answers { Waits caller (state_of self.old) result (state_of self.new) }
@@ -17,7 +17,8 @@ impl Board {
         self.tags.prepare_wait(&mut self.hands[caller as usize])
     }
 
-    /// Leaves the wait group, and tells whether a wakeup was there. It never sleeps.
+    /// Leaves the wait group, and returns whether the caller used a wakeup. It never sleeps. `NotWaiting` if the caller
+    /// is in no group.
     pub fn leave<W: Wait>(&mut self, rt: &W, caller: u32) -> Result<Left, TagFault>
         requires { IsCallerOf self.old caller }
         ensures answers { Leaves caller (state_of self.old) result (state_of self.new) }
@@ -26,7 +27,7 @@ impl Board {
         self.tags.finish_wait(rt, &mut self.hands[caller as usize])
     }
 
-    /// The counts of completions and of wakeups, the wake index, and how many are active.
+    /// Returns the completions counted, the wakeups charged, the wake index, and the number of active waiters.
     pub fn wakes(&mut self, caller: u32) -> Wakes
         requires { IsCallerOf self.old caller }
         ensures ordered { result.charged ≤ result.counted }

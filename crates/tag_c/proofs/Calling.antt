@@ -1,4 +1,4 @@
--- A call through a handle is a call of what lies behind it, and that of an object one of its hand.
+-- A call through a handle is a call of the object behind it, and a call of an object is one of its hand.
 use Rattle.std.proofs.Common.{◌≡◌, ℕ, ◌<◌, ℤ, Option, Some, None, Result, Ok, Err, IfOk, refl, sym, subst, ◌∙◌}
 use lib.Signed.{mag}
 use mir.Syntax.{w32}
@@ -19,21 +19,21 @@ use Rattle.tag_c.specs.Calls.{Calls, CallsAs, CallsBy, Through}
 use Rattle.tag_c.specs.Codes.{code_of}
 
 module _ (change : Member → Member → Type 0) (code : ℤ) where
-  -- through a full handle
+  -- a call through a full handle
   pub called : (before after : Option Object) (old new : Object)
       → before ≡ Some old → after ≡ Some new → Calls change code old new → CallsBy change code before after
   called before after old new b a call =
       subst (λ (x : Option Object). CallsBy change code x after) (sym b)
       (subst (λ (x : Option Object). CallsBy change code (Some old) x) (sym a) call)
 
-  -- through an empty one
+  -- a call through an empty handle
   pub not_called : (before after : Option Object)
       → before ≡ None → after ≡ None → code ≡ code_of BadHandle → CallsBy change code before after
   not_called before after b a is =
       subst (λ (x : Option Object). CallsBy change code x after) (sym b)
       (subst (λ (x : Option Object). CallsBy change code None x) (sym a) is)
 
-  -- through a hand
+  -- a call of an object that is a hand
   pub by_member : (before after : Kind) (old new : Member)
       → before ≡ IsMember old → after ≡ IsMember new → new.shared ≡ old.shared → change old new
       → CallsAs change code before after
@@ -41,18 +41,18 @@ module _ (change : Member → Member → Type 0) (code : ℤ) where
       subst (λ (x : Kind). CallsAs change code x after) (sym b)
       (subst (λ (x : Kind). CallsAs change code (IsMember old) x) (sym a) (shared, changed))
 
-  -- through a pool
+  -- a call of an object that is a pool
   pub by_pool : (before after : Kind) (pool : Pool) → before ≡ IsPool pool → after ≡ IsPool pool
       → code ≡ code_of BadHandle → CallsAs change code before after
   by_pool before after pool b a is =
       subst (λ (x : Kind). CallsAs change code x after) (sym b)
       (subst (λ (x : Kind). CallsAs change code (IsPool pool) x) (sym a) (is, refl))
 
--- the number of an answer, as it is stored in 32 bits
+-- a number below 2^31 in magnitude keeps its value when it is stored in 32 bits
 pub stored : (code : ℤ) → mag code < 2147483648 → to_z w32 (of_z w32 code) ≡ code
 stored code small = to_z-of_z w32 code record { sfits = small }
 
--- through a hand: what its tags did, and the number that they answered
+-- a call of a hand: the call of `tag_sets` changed the hand, and its answer has this number
 pub by_hand : {A : Type 0} (does : Tags ℕ → A → Hand ℕ → Hand ℕ → Type 0) (number : A → ℤ) (code raw : ℤ)
     (before : Kind) (member : Member) (hand : Hand ℕ) (own : IsHandOf (arc_value member.shared).tags hand)
     (shared : Shared) (answer : A)
@@ -66,7 +66,7 @@ by_hand does number code raw before member hand own shared answer b is same at d
     (sym b)
     (refl, (answer, same ∙ is, subst (λ (s : Shared). does s.tags answer member.hand hand) at did))
 
--- two facts of an answer together
+-- two facts about an answer hold together
 pub both_ok : {A E : Type 0} (P Q : A → Type 0) (answer : Result A E) → IfOk answer P → IfOk answer Q
     → IfOk answer (λ x. P x × Q x)
 both_ok P Q (Ok x) p q = (p, q)

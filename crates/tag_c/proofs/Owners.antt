@@ -1,4 +1,4 @@
--- Hands of one object belong to the same tags.
+-- A hand that shares its tags with a berth belongs to whatever tags the berth belongs to.
 use Rattle.std.proofs.Common.{arith, ℕ, suc, List, [], ◌∷◌, ◌++◌, All, sym, ◌∙◌}
 use Rattle.tag_queue.specs.declared.agent.Agent.{Agent}
 use Rattle.tag_queue.specs.declared.queue.Queue.{Queue}
@@ -8,7 +8,7 @@ use Rattle.tag_sets.specs.declared.tags.Tags.{Tags}
 use Rattle.tag_sets.specs.Hands.{IsHandOf}
 use Rattle.tag_c.specs.Sharing.{SharesTags}
 
--- an agent of the queue to which another one belongs belongs to each queue of that one
+-- of two agents of one queue, the second belongs to every queue that the first belongs to
 one_queue : (queue other : Queue ℕ) (berth agent : Agent ℕ) → IsAgentOf other berth → IsAgentOf other agent
     → IsAgentOf queue berth → IsAgentOf queue agent
 one_queue queue other berth agent b a own = (
@@ -17,7 +17,7 @@ one_queue queue other berth agent b a own = (
   a.2 ∙ sym b.2 ∙ own.2,
 )
 
--- a hand that shares the tags of a berth belongs to the tags of the berth
+-- a hand that shares its tags with a berth belongs to every tags that the berth belongs to
 pub one_owner : (tags : Tags ℕ) (berth hand : Hand ℕ) → SharesTags berth hand → IsHandOf tags berth → IsHandOf tags hand
 one_owner tags berth hand shares own = let other = shares.0 in let b = shares.1 in let h = shares.2 in (
   one_queue tags.reserved other.reserved berth.reserved hand.reserved b.0 h.0 own.0,
@@ -26,11 +26,11 @@ one_owner tags berth hand shares own = let other = shares.0 in let b = shares.1 
   h.3,
 )
 
--- two hands of the same tags share them
+-- two hands of the same tags share their tags
 pub sharing : (tags : Tags ℕ) (berth hand : Hand ℕ) → IsHandOf tags berth → IsHandOf tags hand → SharesTags berth hand
 sharing tags berth hand b h = (tags, b, h)
 
--- what holds of each of a list holds of its last
+-- what holds for all elements of a list holds for the last
 pub last_of : {X : Type 0} (P : X → Type 0) (xs : List X) (x : X) → All P (xs ++ (x ∷ [])) → P x
 last_of P [] x all = all 0 x (omega arith)
 last_of P (y ∷ ys) x all = last_of P ys x (λ k d low. all (suc k) d (omega arith))

@@ -1,4 +1,4 @@
--- Why calls on pools, and on what is none, are refused.
+-- The reasons why calls on pools are refused, and that each has a negative number.
 use Rattle.std.proofs.Common.{◌≡◌, ◌≢◌, ℕ, ◌<◌, ◌⊎◌, ⊎_elim, inl, inr, ℤ, pos, Option, Some, None, IfSome, refl, sym, subst, ◌∙◌}
 use lib.Signed.{mag}
 use mir.Syntax.{w32}
@@ -20,21 +20,21 @@ use Rattle.tag_c.specs.Exports.{HasHand, HasPool, IsHandIn, IsPoolOf, IsMemberIn
 use Rattle.tag_c.specs.Pools.{LacksHand, Gathers}
 use Rattle.tag_c.proofs.Calling.{stored}
 
--- the number is that of the status, as it is stored in 32 bits
+-- a status is returned in 32 bits with its own number
 pub refuses : (reason : Status → Type 0) (status : Status) (raw : ℤ) → raw ≡ code_of status → mag raw < 2147483648
     → reason status → Refuses reason (to_z w32 (of_z w32 raw))
 refuses reason status raw is small why = (status, stored raw small ∙ is, why)
 
--- the number of a refusal is not 0, as it is stored in 32 bits
+-- the number of a refusal, stored in 32 bits, is not 0
 pub refused : (status : Status) (raw : ℤ) → raw ≡ code_of status → mag raw < 2147483648
     → IsRefusal (code_of status) → to_z w32 (of_z w32 raw) ≢ pos 0
 refused status raw is small below zero = subst IsRefusal (sym (stored raw small ∙ is) ∙ zero) below
 
--- a status is a refusal where it is one that is known to be
+-- a status that equals a known refusal is a refusal
 below : (status known : Status) → status ≡ known → IsRefusal (code_of known) → IsRefusal (code_of status)
 below status known is refusal = subst (λ (s : Status). IsRefusal (code_of s)) (sym is) refusal
 
--- the reason why tags could not be opened is a refusal
+-- each reason why tags could not be opened is a refusal
 pub fault_below : (fault : SetFault) → IsRefusal (code_of_set_fault fault)
 fault_below Memory = tt
 fault_below TotalTooLarge = tt
@@ -44,36 +44,38 @@ fault_below CallerCount = tt
 fault_below LifeTooLong = tt
 fault_below CapTooLarge = tt
 
--- an empty handle has no hand and no pool
+-- an empty handle has no hand
 pub no_hand : (value : Option Object) → value ≡ None → ¬ (HasHand value)
 no_hand value none has = subst (λ (x : Option Object). IsHandIn has.0 x) none has.1
 
+-- an empty handle has no pool
 pub no_pool : (value : Option Object) → value ≡ None → ¬ (HasPool value)
 no_pool value none has = subst (λ (x : Option Object). IsPoolOf has.0 x) none has.1
 
--- what lies behind a handle that has a hand is one, and so of a pool
+-- the object behind a handle that has a hand is a hand
 pub hand_there : (value : Option Object) (object : Object) → value ≡ Some object → HasHand value → (tags : Tags ℕ)
     × IsMemberIn tags object.kind
 hand_there value object some has = (has.0, subst (λ (x : Option Object). IsHandIn has.0 x) some has.1)
 
+-- the object behind a handle that has a pool is a pool
 pub pool_there : (value : Option Object) (object : Object) → value ≡ Some object → HasPool value → (tags : Tags ℕ)
     × IsPoolIn tags object.kind
 pool_there value object some has = (has.0, subst (λ (x : Option Object). IsPoolOf has.0 x) some has.1)
 
--- a pool that is gathered has ended
+-- the totals of a gathered pool are those of an object that is this pool
 pub ends_of : (kind : Kind) (pool : Pool) → kind ≡ IsPool pool → (totals : Option QueueTotals)
     → IfSome totals (Gathers (arc_value pool.shared).tags) → IfSome totals (Ends kind)
 ends_of kind pool is None gathers = tt
 ends_of kind pool is (Some totals) gathers = let tags = (arc_value pool.shared).tags in
     (tags, subst (λ (k : Kind). IsPoolIn tags k) (sym is) refl, gathers)
 
--- its handle had it
+-- the handle that had this object is closed with the same totals
 pub closes_of : (pool : Option Object) (object : Object) → pool ≡ Some object → (totals : QueueTotals) (sums : Sums)
     → Ends object.kind totals → sums ≡ sums_of totals → ClosesPool pool sums
 closes_of pool object some totals sums ends is =
     (ends.0, totals, subst (λ (x : Option Object). IsPoolOf ends.0 x) (sym some) ends.1, ends.2, is)
 
--- why a pool is not closed is a refusal
+-- each reason why a pool is not closed is a refusal
 pub close_below : (pool : Option Object) (status : Status) → RefusesClose pool status → IsRefusal (code_of status)
 close_below pool status why = ⊎_elim (λ (no : (status ≡ BadHandle) × ¬ (HasPool pool)). below status BadHandle no.0 tt)
     (λ (rest : (status ≡ HandsOut) ⊎ (status ≡ HandLost)). ⊎_elim
@@ -81,11 +83,11 @@ close_below pool status why = ⊎_elim (λ (no : (status ≡ BadHandle) × ¬ (H
     (λ (is : status ≡ HandLost). below status HandLost is tt) rest) why
 
 module _ (object : Object) (flags : ℕ) (status : Status) where
-  -- what lies there is no pool
+  -- the object is no pool, and the status says so
   abbrev NoPool : Type 0
   NoPool = (status ≡ BadHandle) × ¬ ((tags : Tags ℕ) × IsPoolIn tags object.kind)
 
-  -- why an object gives no hand is a refusal
+  -- each reason why an object gives no hand is a refusal
   pub join_below : NoPool ⊎ RefusesHand flags status → IsRefusal (code_of status)
   join_below why = ⊎_elim (λ (no : NoPool). below status BadHandle no.0 tt) (λ (hand : RefusesHand flags status).
       ⊎_elim (λ (flag : (status ≡ BadFlag) × (1 < flags)). below status BadFlag flag.0 tt)
@@ -94,7 +96,7 @@ module _ (object : Object) (flags : ℕ) (status : Status) where
       (λ (is : status ≡ NotOpened Memory). below status (NotOpened Memory) is tt)
       lacks) hand) why
 
-  -- and the call is refused for the same reason
+  -- the join is refused for the same reason
   pub refuses_join : (pool hand : Option Object) → pool ≡ Some object → NoPool ⊎ RefusesHand flags status
       → RefusesJoin pool hand flags status
   refuses_join pool hand is why = ⊎_elim

@@ -1,4 +1,4 @@
--- The first tag of a batch is a tag.
+-- The first tag of a batch is below the total, so its number fits.
 use Rattle.std.proofs.Common.{arith, ◌≡◌, ℕ, ◌+◌, ◌<◌, ◌≤◌, ◌↔◌, Bool, true, false, Option, Some, None, Result, Ok, Err, IfOk, IfSome, IsTrue, ap, refl, unwrap_or}
 use Rattle.tag_layout.specs.declared.layout.TheConstants.{MAX_DEPTH}
 use Rattle.tag_queue.specs.declared.fault.TagFault.{TagFault}
@@ -20,7 +20,7 @@ module _ (tags : Tags ℕ) (old new : Hand ℕ) (own : IsHandOf tags old) (n : �
       let first : won.0 ≡ reserved_of tags + run.0 = ap (λ (o : Option (ℕ × ℕ)). (unwrap_or o (0, 0)).0) is in
       omega arith
 
-  -- what a batch get answers, where it answers a run, begins with a tag
+  -- if a batch get answers a run, the first tag of the run is at most `MAX_DEPTH`
   pub run_fits : (answer : Result (Option (ℕ × ℕ)) TagFault) → total_of tags ≤ MAX_DEPTH
       → ((answer ≡ Err BadCount) ↔ MiscountsBatch tags n)
       → (¬ (MiscountsBatch tags n) → IsTrue (hint_of old Ordinary).round_robin → (answer ≡ Ok None) × (new ≡ old))

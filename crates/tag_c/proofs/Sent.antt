@@ -1,4 +1,4 @@
--- What lies behind a handle may go to any thread.
+-- An object may be sent to any thread, since each of its fields may, down to the berths.
 use denote.Param.Send.{IsSend, IsSync, recorded_send, recorded_sync, struct_send, struct_sync, enum_send, sendable}
 use denote.Enum.Declared.{shape as choices_of}
 use denote.Struct.Declared.{shape as fields_of}

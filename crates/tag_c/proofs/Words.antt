@@ -1,4 +1,4 @@
--- The machine values of a `Loose` and of a `Hidden`. Assumes `Logic`.
+-- The machine values of a `Loose` and of a `Hidden`: a pointer and an allocator, in this order. Assumes `Logic`.
 use Rattle.std.proofs.Common.{◌≡◌, ℕ, List, [], ◌∷◌, ◌++◌, Option, Some, refl, subst}
 use mathlib.Core.Bool.{Bool, true, false, ◌&&◌}
 use lib.Dec.{T}

@@ -1,4 +1,4 @@
--- What a call through a hand's handle does, in the terms of the tags.
+-- What a call through the handle of a hand does, in terms of `tag_sets`.
 use Rattle.std.specs.Prelude.{◌≡◌, ℕ, ◌≤◌, ◌<◌, ◌↔◌, ℤ, false, IsTrue, List, length, Option, Some, None, Result, Ok, Err, IfOk, IfErr, IfSome, IfNone, IsOk, IsSome, OnOk, OnErr, ⊤}
 use mathlib.Core.Option.{some}
 use Rattle.std.specs.Arc.{arc_value}
@@ -22,41 +22,40 @@ use Rattle.tag_c.specs.declared.object.Object.{Object}
 use Rattle.tag_c.specs.declared.status.Status.TheVariants.{BadHandle}
 use Rattle.tag_c.specs.Codes.{code_of}
 
--- the tags whose hand it is
+-- the tags that the member's hand belongs to
 abbrev pub tags_of : Member → Tags ℕ
 tags_of member = (arc_value member.shared).tags
 
--- a hand belongs to the tags that it belonged to and changes so; through a pool the call is refused, and nothing
--- changes
+-- a hand stays one of the same pool and changes by this relation; a call on a pool is refused and changes nothing
 abbrev pub CallsAs : (Member → Member → Type 0) → ℤ → Kind → Kind → Type 0
 CallsAs change code (IsMember old) (IsMember new) = (new.shared ≡ old.shared) × change old new
 CallsAs change code (IsMember old) (IsPool new) = ⊥
 CallsAs change code (IsPool old) (IsMember new) = ⊥
 CallsAs change code (IsPool old) (IsPool new) = (code ≡ code_of BadHandle) × (new ≡ old)
 
--- the same of what lies behind a handle
+-- the same for the object behind a handle
 abbrev pub Calls : (Member → Member → Type 0) → ℤ → Object → Object → Type 0
 Calls change code old new = CallsAs change code old.kind new.kind
 
--- the same of a handle, through an empty one of which the call is refused, and nothing changes
+-- the same for a handle; a call on an empty handle is refused, and the handle stays empty
 abbrev pub CallsBy : (Member → Member → Type 0) → ℤ → Option Object → Option Object → Type 0
 CallsBy change code None None = code ≡ code_of BadHandle
 CallsBy change code None (Some new) = ⊥
 CallsBy change code (Some old) None = ⊥
 CallsBy change code (Some old) (Some new) = Calls change code old new
 
--- the call answered the number of some answer of the tags, and did what comes with that answer
+-- the number returned is that of an answer of `tag_sets`, and the hand changed as the contract says for that answer
 abbrev pub Through : {A : Type 0} → (Tags ℕ → A → Hand ℕ → Hand ℕ → Type 0) → (A → ℤ) → ℤ → Member → Member → Type 0
 Through {A} does number code old new = (answer : A) × (code ≡ number answer)
     × does (tags_of old) answer old.hand new.hand
 
--- an ordinary tag is got
+-- gets an ordinary tag
 pub record DoesGet (tags : Tags ℕ) (answer : Result (Option ℕ) TagFault) (old new : Hand ℕ) : Type 0 where
   pub room : IsOk answer ↔ HasRoom old Ordinary 1
   pub gets : IfOk answer (λ tag. Gets tags tag old new)
   pub err : IfErr answer (λ fault. (fault ≡ Spent) × (new ≡ old))
 
--- a reserved tag is got
+-- gets a reserved tag
 pub record DoesGetReserved (tags : Tags ℕ) (answer : Result (Option ℕ) TagFault) (old new : Hand ℕ) : Type 0 where
   pub no_reserved : (answer ≡ Err NoReserved) ↔ (reserved_of tags ≡ 0)
   pub spent : (answer ≡ Err Spent) ↔ ((1 ≤ reserved_of tags) × ¬ (HasRoom old Reserved 1))
@@ -64,7 +63,7 @@ pub record DoesGetReserved (tags : Tags ℕ) (answer : Result (Option ℕ) TagFa
   pub gets : IfOk answer (λ tag. GetsReserved tags tag old new)
   pub err : OnErr answer (new ≡ old)
 
--- an ordinary tag is got of so many
+-- gets an ordinary tag within the shares of a shallow depth
 pub record DoesGetShallow (depth : ℕ) (tags : Tags ℕ) (answer : Result (Option ℕ) TagFault) (old new : Hand ℕ) : Type 0
   where
     pub too_shallow : (answer ≡ Err TooShallow) ↔ (depth < least_of tags)
@@ -73,7 +72,7 @@ pub record DoesGetShallow (depth : ℕ) (tags : Tags ℕ) (answer : Result (Opti
     pub gets : IfOk answer (λ tag. GetsShallow tags depth tag old new)
     pub err : OnErr answer (new ≡ old)
 
--- up to n ordinary tags are got, and the mask of those won is written where there are any
+-- gets up to n ordinary tags, and writes the mask of those won, if there are any
 pub record DoesGetBatch (n won : ℕ) (tags : Tags ℕ) (answer : Result (Option (ℕ × ℕ)) TagFault)
     (old new : Hand ℕ) : Type 0 where
   pub bad_count : (answer ≡ Err BadCount) ↔ MiscountsBatch tags n
@@ -86,7 +85,7 @@ pub record DoesGetBatch (n won : ℕ) (tags : Tags ℕ) (answer : Result (Option
   pub mask : IfOk answer (λ run. IfSome run (λ first. won ≡ first.1))
   pub err : OnErr answer (new ≡ old)
 
--- a tag is cleared
+-- clears a tag
 pub record DoesClear (tag : ℕ) (tags : Tags ℕ) (answer : Result ℕ TagFault) (old new : Hand ℕ) : Type 0 where
   pub no_such_tag : (answer ≡ Err NoSuchTag) ↔ (total_of tags ≤ tag)
   pub not_held : (answer ≡ Err NotHeld) ↔ ((tag < total_of tags) × ¬ (Holds old tag))
@@ -95,7 +94,7 @@ pub record DoesClear (tag : ℕ) (tags : Tags ℕ) (answer : Result ℕ TagFault
   pub counts : IfOk answer (λ woken. Counts tags (kind_of (reserved_of tags) tag) 1 old new woken)
   pub err : OnErr answer (new ≡ old)
 
--- the tags of a list are given back
+-- gives back the tags of a list
 pub record DoesClearBatch (list : List ℕ) (tags : Tags ℕ) (answer : Result ℕ TagFault) (old new : Hand ℕ) : Type 0 where
   pub bad_count : (answer ≡ Err BadCount) ↔ ¬ (CountsTags list)
   pub no_such_tag : (answer ≡ Err NoSuchTag) ↔ (CountsTags list × ¬ (AreOrdinary tags list))
@@ -105,7 +104,7 @@ pub record DoesClearBatch (list : List ℕ) (tags : Tags ℕ) (answer : Result �
   pub counts : IfOk answer (λ woken. Counts tags Ordinary (length list) old new woken)
   pub err : OnErr answer (new ≡ old)
 
--- the value beside a tag is read
+-- reads the slot of a tag
 pub record DoesRead (tag value : ℕ) (tags : Tags ℕ) (answer : Result ℕ TagFault) (old new : Hand ℕ) : Type 0 where
   pub no_such_tag : (answer ≡ Err NoSuchTag) ↔ (total_of tags ≤ tag)
   pub not_held : (answer ≡ Err NotHeld) ↔ ((tag < total_of tags) × ¬ (Holds old tag))
@@ -114,7 +113,7 @@ pub record DoesRead (tag value : ℕ) (tags : Tags ℕ) (answer : Result ℕ Tag
   pub reads : IfOk answer (λ found. Reads tag found old new)
   pub err : OnErr answer (new ≡ old)
 
--- the value beside a tag is written, and its former value told
+-- writes the slot of a tag, and returns its former value
 pub record DoesWrite (tag value former : ℕ) (tags : Tags ℕ) (answer : Result ℕ TagFault) (old new : Hand ℕ) : Type 0
   where
     pub no_such_tag : (answer ≡ Err NoSuchTag) ↔ (total_of tags ≤ tag)
@@ -124,7 +123,7 @@ pub record DoesWrite (tag value former : ℕ) (tags : Tags ℕ) (answer : Result
     pub writes : OnOk answer (Writes tag value old new)
     pub err : OnErr answer (new ≡ old)
 
--- a tag is posted
+-- posts a tag
 pub record DoesPost (tag : ℕ) (tags : Tags ℕ) (answer : Result ⊤ TagFault) (old new : Hand ℕ) : Type 0 where
   pub no_such_tag : (answer ≡ Err NoSuchTag) ↔ (total_of tags ≤ tag)
   pub not_held : (answer ≡ Err NotHeld) ↔ ((tag < total_of tags) × ¬ (Holds old tag))
@@ -132,19 +131,19 @@ pub record DoesPost (tag : ℕ) (tags : Tags ℕ) (answer : Result ⊤ TagFault)
   pub posts : OnOk answer (Posts tag old new)
   pub err : OnErr answer (new ≡ old)
 
--- a posted tag is taken
+-- takes a posted tag
 pub record DoesTake (tag : ℕ) (tags : Tags ℕ) (answer : Result ⊤ TagFault) (old new : Hand ℕ) : Type 0 where
   pub no_such_tag : (answer ≡ Err NoSuchTag) ↔ (total_of tags ≤ tag)
   pub takes : OnOk answer (Takes tag old new)
   pub refuses : IfErr answer (λ fault. RefusesTake tag fault old new)
 
--- a group is entered
+-- enters a wait group
 pub record DoesPrepare (tags : Tags ℕ) (answer : Result ℕ TagFault) (old new : Hand ℕ) : Type 0 where
   pub out : IsOk answer ↔ (standing_of old ≡ None)
   pub enters : IfOk answer (λ group. Enters group old new)
   pub err : IfErr answer (λ fault. (fault ≡ Waiting) × (new ≡ old))
 
--- a group is left, or stood in still where it changed meanwhile
+-- leaves the wait group, or stays in it because the group changed meanwhile
 pub record DoesFinish (tags : Tags ℕ) (answer : Result (Option Left) TagFault) (old new : Hand ℕ) : Type 0 where
   pub stands : IsOk answer ↔ IsSome (standing_of old)
   pub leaves : IfOk answer (λ left. IfSome left (λ how. Leaves how old new))

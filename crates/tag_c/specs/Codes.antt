@@ -1,4 +1,4 @@
--- The numbers by which the header names how a call ended: negsuc n is -(n + 1).
+-- The numbers that calls return, as tags.h names them; negsuc n is -(n + 1).
 use Rattle.std.specs.Prelude.{ℕ, ℤ, pos, negsuc, min, Option, Some, None, Result, Ok, Err, ⊤}
 use Rattle.wake_book.specs.declared.waiting.Left.{Left}
 use Rattle.wake_book.specs.declared.waiting.Left.TheVariants.{Woken, Unwoken}
@@ -10,12 +10,12 @@ use Rattle.tag_queue.specs.declared.fault.TagFault.TheVariants.{NoSuchTag, NoRes
 use Rattle.tag_c.specs.declared.status.Status.{Status}
 use Rattle.tag_c.specs.declared.status.Status.TheVariants.{Done, Refused, NoTag, Again, BadHandle, NotEmpty, NoHand, HandsOut, BadKind, TooSmall, BadFlag, NotOpened, NoBerth, HandLost}
 
--- the number is that of a refusal
+-- the number is negative, so it is a refusal
 abbrev pub IsRefusal : ℤ → Type 0
 IsRefusal (pos n) = ⊥
 IsRefusal (negsuc n) = ⊤
 
--- the number of a refusal of the tags
+-- the number of a refusal by `tag_sets`
 abbrev pub code_of_fault : TagFault → ℤ
 code_of_fault NoSuchTag = negsuc 0
 code_of_fault NoReserved = negsuc 1
@@ -27,7 +27,7 @@ code_of_fault Spent = negsuc 6
 code_of_fault Waiting = negsuc 7
 code_of_fault NotWaiting = negsuc 8
 
--- the number of the reason why tags could not be opened
+-- the number of the reason why the tags could not be opened
 abbrev pub code_of_set_fault : SetFault → ℤ
 code_of_set_fault Memory = negsuc 20
 code_of_set_fault TotalTooLarge = negsuc 21
@@ -54,7 +54,7 @@ code_of (NotOpened fault) = code_of_set_fault fault
 code_of NoBerth = negsuc 18
 code_of HandLost = negsuc 19
 
--- the tag, or why there is none
+-- the tag, or the reason why there is none
 abbrev pub code_of_get : Result (Option ℕ) TagFault → ℤ
 code_of_get (Ok (Some tag)) = pos tag
 code_of_get (Ok None) = code_of NoTag
@@ -66,17 +66,17 @@ code_of_batch (Ok (Some won)) = pos won.0
 code_of_batch (Ok None) = code_of NoTag
 code_of_batch (Err fault) = code_of_fault fault
 
--- a count, which is far below the bound, or why there is none
+-- the count, which never exceeds the bound, or the reason why there is none
 abbrev pub code_of_count : Result ℕ TagFault → ℤ
 code_of_count (Ok count) = pos (min count MAX_DEPTH)
 code_of_count (Err fault) = code_of_fault fault
 
--- that it is done, or why not
+-- 0 on success, or the reason for the refusal
 abbrev pub code_of_done : {A : Type 0} → Result A TagFault → ℤ
 code_of_done (Ok done) = pos 0
 code_of_done (Err fault) = code_of_fault fault
 
--- 1 for a wait that used a grant and 0 for one that found none, or why it is not over
+-- 1 for a wait that used a grant, 0 for one that found none, or the reason why it is not over
 abbrev pub code_of_finish : Result (Option Left) TagFault → ℤ
 code_of_finish (Ok (Some Woken)) = pos 1
 code_of_finish (Ok (Some Unwoken)) = pos 0

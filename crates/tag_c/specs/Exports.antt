@@ -1,4 +1,4 @@
--- What opens and closes pools, and hands their hands out, through handles.
+-- What the calls do that open, join, leave and close pools through their handles.
 use Rattle.std.specs.Prelude.{◌≡◌, ℕ, zero, suc, ℤ, pos, negsuc, nat_eq, ◌^◌, ◌<◌, ◌⊎◌, Option, Some, None, IsSome}
 use Rattle.std.specs.Arc.{arc_value}
 use Rattle.tag_queue.specs.declared.fault.SetFault.{SetFault}
@@ -15,22 +15,22 @@ use Rattle.tag_c.specs.declared.wishes.Wishes.{Wishes}
 use Rattle.tag_c.specs.Codes.{code_of}
 use Rattle.tag_c.specs.Pools.{Opens, IsCause, LacksHand, Gathers}
 
--- what lies there is a pool of these tags
+-- this is a pool of these tags
 abbrev pub IsPoolIn : Tags ℕ → Kind → Type 0
 IsPoolIn tags (IsPool pool) = (arc_value pool.shared).tags ≡ tags
 IsPoolIn tags (IsMember member) = ⊥
 
--- what lies there is a hand of these tags
+-- this is a hand of these tags
 abbrev pub IsMemberIn : Tags ℕ → Kind → Type 0
 IsMemberIn tags (IsPool pool) = ⊥
 IsMemberIn tags (IsMember member) = (arc_value member.shared).tags ≡ tags
 
--- the object is a pool of these tags
+-- the handle has a pool of these tags
 abbrev pub IsPoolOf : Tags ℕ → Option Object → Type 0
 IsPoolOf tags None = ⊥
 IsPoolOf tags (Some object) = IsPoolIn tags object.kind
 
--- the object is a hand of these tags
+-- the handle has a hand of these tags
 abbrev pub IsHandIn : Tags ℕ → Option Object → Type 0
 IsHandIn tags None = ⊥
 IsHandIn tags (Some object) = IsMemberIn tags object.kind
@@ -43,17 +43,17 @@ HasPool value = (tags : Tags ℕ) × IsPoolOf tags value
 abbrev pub HasHand : Option Object → Type 0
 HasHand value = (tags : Tags ℕ) × IsHandIn tags value
 
--- a number, where it is not below 0
+-- the number, if it is not negative
 abbrev pub unless_negative : ℤ → Option ℕ
 unless_negative (pos n) = Some n
 unless_negative (negsuc n) = None
 
--- a number, where it is not 0
+-- the number, if it is not 0
 abbrev pub unless_zero : ℕ → Option ℕ
 unless_zero zero = None
 unless_zero (suc n) = Some (suc n)
 
--- the options that C asks for: each hand may win 2^48 tags and count 2^56
+-- the options that C asks for; each hand may win 2^48 tags of each set and count 2^56 completions
 abbrev pub options_of : Wishes → Options
 options_of wishes = record {
   shift = unless_negative wishes.shift;
@@ -64,7 +64,7 @@ options_of wishes = record {
   cap = 2 ^ 56;
 }
 
--- the totals that C is told
+-- the totals as C sees them
 abbrev pub sums_of : QueueTotals → Sums
 sums_of totals = record {
   got = totals.tags.got;
@@ -77,47 +77,47 @@ sums_of totals = record {
   used = totals.groups.used;
 }
 
--- the number is that of a status, and there is this reason for it
+-- the number is that of a status with this reason
 abbrev pub Refuses : (Status → Type 0) → ℤ → Type 0
 Refuses reason code = (status : Status) × (code ≡ code_of status) × reason status
 
--- the handle has a pool of new tags
+-- the handle has a new pool, opened with these options
 abbrev pub OpensPool : Wishes → Option Object → Type 0
 OpensPool wishes value = (tags : Tags ℕ) × Opens wishes.total wishes.reserved (options_of wishes) tags
     × IsPoolOf tags value
 
--- no pool is opened into a full handle, with unknown flags or past a limit, and none where memory runs out
+-- an open is refused for a full handle, unknown flags, a limit exceeded, or lack of memory
 abbrev pub RefusesOpen : Option Object → Wishes → Status → Type 0
 RefusesOpen old wishes status =
     ((status ≡ NotEmpty) × IsSome old) ⊎ ((status ≡ BadFlag) × (1 < wishes.flags))
     ⊎ ((fault : SetFault) × (status ≡ NotOpened fault) × IsCause wishes.total wishes.reserved (options_of wishes) fault)
 
--- the second handle has a hand of the first one's tags
+-- the second handle has a hand of the first one's pool
 abbrev pub JoinsPool : Option Object → Option Object → Type 0
 JoinsPool pool hand = (tags : Tags ℕ) × IsPoolOf tags pool × IsHandIn tags hand
 
--- a pool gives no hand with unknown flags
+-- a pool gives no hand for unknown flags, nor if it lacks one
 abbrev pub RefusesHand : ℕ → Status → Type 0
 RefusesHand flags status = ((status ≡ BadFlag) × (1 < flags)) ⊎ LacksHand status
 
--- no hand joins into a full handle, from what is no pool, or where the pool gives none
+-- a join is refused for a full handle, for a handle without a pool, and if the pool gives no hand
 abbrev pub RefusesJoin : Option Object → Option Object → ℕ → Status → Type 0
 RefusesJoin pool hand flags status =
     ((status ≡ NotEmpty) × IsSome hand) ⊎ ((status ≡ BadHandle) × ¬ (HasPool pool)) ⊎ RefusesHand flags status
 
--- what is no hand does not leave; nothing can be said of berths
+-- a leave is refused for a handle without a hand; when berths are free is not specified
 abbrev pub RefusesLeave : Option Object → Status → Type 0
 RefusesLeave hand status = ((status ≡ BadHandle) × ¬ (HasHand hand)) ⊎ (status ≡ NoBerth)
 
--- a pool of this kind ended with these totals
+-- this was a pool, and its tags were gathered with these totals
 abbrev pub Ends : Kind → QueueTotals → Type 0
 Ends kind totals = (tags : Tags ℕ) × IsPoolIn tags kind × Gathers tags totals
 
--- the handle's tags were gathered with these sums
+-- the tags of the handle's pool were gathered with these sums
 abbrev pub ClosesPool : Option Object → Sums → Type 0
 ClosesPool pool sums = (tags : Tags ℕ) × (totals : QueueTotals) × IsPoolOf tags pool × Gathers tags totals
     × (sums ≡ sums_of totals)
 
--- what is no pool is not closed; nothing can be said of which hands are out
+-- a close is refused for a handle without a pool; which hands are out is not specified
 abbrev pub RefusesClose : Option Object → Status → Type 0
 RefusesClose pool status = ((status ≡ BadHandle) × ¬ (HasPool pool)) ⊎ (status ≡ HandsOut) ⊎ (status ≡ HandLost)

@@ -1,4 +1,4 @@
--- What opens a pool, and ends it.
+-- When a pool opens, gives a hand and closes.
 use Rattle.std.specs.Prelude.{◌≡◌, ℕ, ◌^◌, ◌<◌, ◌⊎◌, List, IsSomeAnd, ⊤}
 use Rattle.tag_layout.specs.declared.layout.TheConstants.{MAX_DEPTH, MAX_SHIFT}
 use Rattle.tag_model.specs.declared.world.TheConstants.{MOST_WON}
@@ -15,14 +15,14 @@ use Rattle.tag_sets.specs.Gathering.{IsGathered}
 use Rattle.tag_c.specs.declared.status.Status.{Status}
 use Rattle.tag_c.specs.declared.status.Status.TheVariants.{NoHand, NotOpened}
 
--- the tags are newly opened so, with some hands
+-- the tags are newly opened with these options, together with some hands
 pub record Opens (total reserved : ℕ) (options : Options) (tags : Tags ℕ) : Type 0 where
   pub hands : List (Hand ℕ)
   pub opened : IsOpen options tags hands
   pub total_is : total_of tags ≡ total
   pub reserved_is : reserved_of tags ≡ reserved
 
--- the limit that is passed where tags are not opened; nothing can be said of memory
+-- the limit that was exceeded when tags were not opened; when memory runs out is not specified
 abbrev pub IsCause : ℕ → ℕ → Options → SetFault → Type 0
 IsCause total reserved options Memory = ⊤
 IsCause total reserved options TotalTooLarge = MAX_DEPTH < total
@@ -32,10 +32,10 @@ IsCause total reserved options CallerCount = MiscountsAgents options
 IsCause total reserved options LifeTooLong = MOST_WON < options.life
 IsCause total reserved options CapTooLarge = 2 ^ 56 < options.cap
 
--- a pool gives no hand; nothing can be said of whether all are out, or memory ran out
+-- a pool gives no hand; when all are out, and when memory runs out, is not specified
 abbrev pub LacksHand : Status → Type 0
 LacksHand status = (status ≡ NoHand) ⊎ (status ≡ NotOpened Memory)
 
--- all hands of the tags came together with these totals
+-- all hands of the tags were gathered, with these totals
 abbrev pub Gathers : Tags ℕ → QueueTotals → Type 0
 Gathers tags totals = (hands : List (Hand ℕ)) × IsGathered tags hands totals

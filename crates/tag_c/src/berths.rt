@@ -1,20 +1,20 @@
-//! Where the hands of a pool rest while no thread has them.
+//! The places in which a pool keeps the hands that no thread has.
 ghost use Rattle.std.specs.Prelude.{◌≡◌, IfSome, IfErr};
 ghost use Rattle.tag_c.specs.Sharing.{SharesTags};
 
 use counted_slot::{Counted, Fits};
 use tag_sets::Hand;
 
-/// The word of a berth with no hand.
+/// The state of a berth without a hand.
 const VACANT: u64 = 0;
 
-/// The word of a berth with one.
+/// The state of a berth with a hand.
 const OCCUPIED: u64 = 1 << 32;
 
-/// What is added to the word while a thread moves a hand in or out.
+/// Added to the state while a thread moves a hand in or out.
 const MOVING: u64 = 3;
 
-/// A hand that no thread has.
+/// A hand in its berth.
 #[derive(Drop)]
 pub struct Resting {
     pub hand: Hand<u64>,
@@ -26,21 +26,22 @@ impl Fits for Resting {
     ghost fits = { λ witness resting. SharesTags witness resting.hand };
 }
 
-/// A place for one hand. In a clause it is some hand of the tags whose hands rest there.
+/// A place for one hand. A contract sees it as the hand that it was made for, even when that hand is out: only hands of
+/// the same tags fit in.
 pub type Berth = Counted<Option<Resting>>;
 
-/// A berth with this hand.
+/// Returns a new berth with this hand in it.
 pub fn berth_of(hand: Hand<u64>) -> Berth
     requires { SharesTags hand hand }
     ensures { result ≡ hand }
 {
     let berth = Counted::new(None, &hand);
-    // Nobody else has the berth, so there is room.
+    // No other thread has the berth yet, so it is empty.
     let _ = put_into(&berth, hand);
     berth
 }
 
-/// The hand of a berth that is taken apart, where there is one.
+/// Takes a berth apart and returns its hand, if it has one.
 pub fn hand_of(berth: Berth) -> Option<Hand<u64>>
     ensures { IfSome result (SharesTags berth) }
 {
@@ -48,7 +49,7 @@ pub fn hand_of(berth: Berth) -> Option<Hand<u64>>
     Some(hand)
 }
 
-/// Takes the hand out of a berth, where there is one.
+/// Takes the hand out of a berth. `None` if it has none, or if another thread is moving a hand in or out.
 pub fn take_from(berth: &Berth) -> Option<Hand<u64>>
     ensures { IfSome result (SharesTags berth.now) }
 {
@@ -64,7 +65,7 @@ pub fn take_from(berth: &Berth) -> Option<Hand<u64>>
     Some(hand)
 }
 
-/// Puts a hand into a berth, or hands it back where the berth has one already.
+/// Puts a hand into a berth. Returns it if the berth is not empty, or if another thread is moving a hand in or out.
 pub fn put_into(berth: &Berth, hand: Hand<u64>) -> Result<(), Hand<u64>>
     requires { SharesTags berth.now hand }
     ensures { IfErr result (λ back. back ≡ hand) }

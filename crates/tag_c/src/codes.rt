@@ -1,4 +1,4 @@
-//! Answers of the tags as the numbers that C sees.
+//! Turns the answers of `tag_sets` into the numbers that C sees. An error becomes its negative status of tags.h.
 ghost use Rattle.std.specs.Prelude.{◌≡◌, ◌≤◌, IfOk, IfSome, pos, min};
 ghost use Rattle.tag_layout.specs.declared.layout.TheConstants.{MAX_DEPTH};
 ghost use Rattle.tag_c.specs.Codes.{IsRefusal, code_of_get, code_of_batch, code_of_count, code_of_done, code_of_finish};
@@ -7,7 +7,7 @@ use crate::status::{Status, fault_code};
 use tag_layout::MAX_DEPTH;
 use tag_sets::{Left, TagFault};
 
-/// Of a get.
+/// Returns the tag, `NoTag` if none was found, or the status of the error.
 #[inline]
 pub fn get_code(answer: Result<Option<u32>, TagFault>) -> i32
     requires { IfOk answer (λ found. IfSome found (λ tag. tag ≤ MAX_DEPTH)) }
@@ -20,7 +20,7 @@ pub fn get_code(answer: Result<Option<u32>, TagFault>) -> i32
     }
 }
 
-/// Of a batch get: the number of its first tag.
+/// Returns the first tag of the run, `NoTag` if there is none, or the status of the error.
 #[inline]
 pub fn batch_code(answer: Result<Option<(u32, u64)>, TagFault>) -> i32
     requires { IfOk answer (λ found. IfSome found (λ run. run.0 ≤ MAX_DEPTH)) }
@@ -33,7 +33,7 @@ pub fn batch_code(answer: Result<Option<(u32, u64)>, TagFault>) -> i32
     }
 }
 
-/// A count, which is far below the bound.
+/// Returns the count. The bound serves the proof alone: no count of the tags is larger.
 #[inline]
 pub fn number_code(count: u32) -> i32
     ensures { result ≡ pos (min count MAX_DEPTH) }
@@ -41,7 +41,7 @@ pub fn number_code(count: u32) -> i32
     count.min(MAX_DEPTH) as i32
 }
 
-/// Of a call that counts.
+/// Returns the count, or the status of the error.
 #[inline]
 pub fn count_code(answer: Result<u32, TagFault>) -> i32
     ensures { result ≡ code_of_count answer }
@@ -52,7 +52,7 @@ pub fn count_code(answer: Result<u32, TagFault>) -> i32
     }
 }
 
-/// Of a call that has nothing to tell.
+/// Returns 0, or the status of the error.
 #[inline]
 pub fn done_code(answer: Result<(), TagFault>) -> i32
     ensures { result ≡ code_of_done answer }
@@ -63,7 +63,8 @@ pub fn done_code(answer: Result<(), TagFault>) -> i32
     }
 }
 
-/// Of the end of a wait.
+/// Returns 1 for a wait that used a grant, 0 for one that found none, `Again` if the wait group changed meanwhile, or
+/// the status of the error.
 #[inline]
 pub fn finish_code(answer: Result<Option<Left>, TagFault>) -> i32
     ensures { result ≡ code_of_finish answer }
@@ -76,7 +77,7 @@ pub fn finish_code(answer: Result<Option<Left>, TagFault>) -> i32
     }
 }
 
-/// Of a call that tells a value, which it writes where there is one.
+/// Writes the value and returns 0, or returns the status of the error and leaves `value` unchanged.
 #[inline]
 pub fn value_code(answer: Result<u64, TagFault>, value: &mut u64) -> i32
     ensures code { result ≡ code_of_done answer }

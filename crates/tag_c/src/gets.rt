@@ -1,4 +1,4 @@
-//! How tags are taken through a hand's handle.
+//! Takes tags through the handle of a hand. Each call is described in tags.h.
 ghost use Rattle.std.specs.Prelude.{◌≡◌};
 ghost use Rattle.tag_c.specs.Calls.{Calls, CallsBy, Through, DoesGet, DoesGetReserved, DoesGetShallow, DoesGetBatch};
 ghost use Rattle.tag_c.specs.Codes.{IsRefusal, code_of_get, code_of_batch};
@@ -11,6 +11,7 @@ use std::alloc::Global;
 
 impl Object {
     #[inline]
+    /// Takes a free ordinary tag and returns it.
     pub fn get(&mut self) -> i32
         ensures { Calls (Through DoesGet code_of_get result) result self.old self.new }
     {
@@ -21,6 +22,7 @@ impl Object {
     }
 
     #[inline]
+    /// Takes a free reserved tag and returns it.
     pub fn get_reserved(&mut self) -> i32
         ensures { Calls (Through DoesGetReserved code_of_get result) result self.old self.new }
     {
@@ -31,6 +33,7 @@ impl Object {
     }
 
     #[inline]
+    /// Takes a free ordinary tag within the words' shares of `depth` and returns it.
     pub fn get_shallow(&mut self, depth: u32) -> i32
         ensures { Calls (Through (DoesGetShallow depth) code_of_get result) result self.old self.new }
     {
@@ -40,7 +43,8 @@ impl Object {
         get_code(member.shared.tags.get_shallow(&mut member.hand, depth))
     }
 
-    /// Writes the mask of the tags won where there are any.
+    /// Takes up to `n` ordinary tags of one word, and returns the first tag of their run. Bit 0 of `won` becomes 1 if
+    /// that tag was won, bit 1 if the next one was, and so on. If no tag was won, `won` keeps its value.
     #[inline]
     pub fn get_batch(&mut self, n: u32, won: &mut u64) -> i32
         ensures calls { Calls (Through (DoesGetBatch n won.new) code_of_batch result) result self.old self.new }

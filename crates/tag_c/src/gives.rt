@@ -1,4 +1,4 @@
-//! How a hand's tags come back through its handle, and how it waits.
+//! Gives tags back and waits for them, through the handle of a hand. Each call is described in tags.h.
 ghost use Rattle.tag_c.specs.Calls.{Calls, CallsBy, Through, DoesClear, DoesClearBatch, DoesPrepare, DoesFinish};
 ghost use Rattle.tag_c.specs.Codes.{code_of_count, code_of_finish};
 
@@ -10,6 +10,7 @@ use std::alloc::Global;
 
 impl Object {
     #[inline]
+    /// Gives a held tag back, and returns how many waiters were granted a wakeup.
     pub fn clear(&mut self, tag: u32) -> i32
         ensures { Calls (Through (DoesClear tag) code_of_count result) result self.old self.new }
     {
@@ -20,6 +21,7 @@ impl Object {
     }
 
     #[inline]
+    /// Gives held ordinary tags back, and returns how many waiters were granted a wakeup.
     pub fn clear_batch(&mut self, tags: &[u32]) -> i32
         ensures { Calls (Through (DoesClearBatch tags.now) code_of_count result) result self.old self.new }
     {
@@ -35,6 +37,7 @@ impl Object {
     }
 
     #[inline]
+    /// Enters a wait group, and returns its index, below 8.
     pub fn prepare(&mut self) -> i32
         ensures { Calls (Through DoesPrepare code_of_count result) result self.old self.new }
     {
@@ -45,6 +48,7 @@ impl Object {
     }
 
     #[inline]
+    /// Leaves the wait group, and returns 1 if the wait used a grant, and 0 if it found none.
     pub fn finish(&mut self) -> i32
         ensures { Calls (Through DoesFinish code_of_finish result) result self.old self.new }
     {

@@ -1,4 +1,4 @@
-//! What C has of a pool or of a hand.
+//! The handle by which C refers to a pool or a hand.
 ghost use Rattle.std.specs.Prelude.{◌≡◌, Some, None, IfSome, IfNone};
 ghost use Rattle.tag_c.specs.Held.{flag_of};
 
@@ -8,17 +8,18 @@ use crate::object::Object;
 use std::alloc::Global;
 use std::mem::replace;
 
-/// A flag and a pointer. All bytes 0 is an empty handle.
+/// A flag and a pointer to the object that the handle owns. If all bytes are 0, the handle is empty.
 #[repr(C)]
 #[derive(Drop)]
 pub struct Handle {
-    /// 1 is full, 0 is empty.
+    /// 1 if there is an object, 0 if the handle is empty.
     pub full: u64,
     pub object: Hidden,
     ghost held: { full ≡ flag_of object.value },
 }
 
 impl Handle {
+    /// Returns an empty handle.
     pub fn empty(alloc: Global) -> Handle
         ensures { result.object.value ≡ None }
     {
@@ -28,6 +29,7 @@ impl Handle {
         }
     }
 
+    /// Returns a handle that owns this object.
     pub fn of(object: Box<Object, Global>) -> Handle
         ensures { result.object.value ≡ Some object.value }
     {
@@ -37,6 +39,7 @@ impl Handle {
         }
     }
 
+    /// Returns the object, or `None` if the handle is empty.
     pub fn into_box(self) -> Option<Box<Object, Global>>
         ensures some { IfSome result (λ object. self.object.value ≡ Some object.value) }
         ensures none { IfNone result (self.object.value ≡ None) }
@@ -49,7 +52,7 @@ impl Handle {
         }
     }
 
-    /// Takes the object out, and leaves the handle empty.
+    /// Takes the object out and leaves the handle empty. Returns `None` if it was empty before.
     pub fn take(&mut self, alloc: Global) -> Option<Box<Object, Global>>
         ensures some { IfSome result (λ object. self.old.object.value ≡ Some object.value) }
         ensures none { IfNone result (self.old.object.value ≡ None) }

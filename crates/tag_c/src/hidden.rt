@@ -1,4 +1,4 @@
-//! A pointer to an object.
+//! A pointer to an object, without its type.
 ghost use Rattle.std.specs.Prelude.{◌≡◌, Option, Some, None};
 ghost use Rattle.tag_c.specs.Held.{held};
 ghost use Rattle.tag_c.specs.declared.object.Object.{Object};
@@ -8,7 +8,7 @@ use crate::object::Object;
 use std::alloc::Global;
 use std::marker::Model;
 
-/// One object, or none, behind a pointer that does not say what it points to, so that it may cross to C.
+/// An object or none, behind a pointer to bytes, which a struct of C can hold.
 #[repr(C)]
 #[derive(Drop)]
 pub struct Hidden {
@@ -22,6 +22,7 @@ impl Model for Hidden {
 }
 
 impl Hidden {
+    /// Returns a null pointer, with no object.
     pub fn empty(alloc: Global) -> Hidden
         ensures { result.value ≡ None }
     {
@@ -31,6 +32,7 @@ impl Hidden {
         }
     }
 
+    /// Drops the type of the pointer, and keeps the object.
     pub fn hide(loose: Loose<Object, Global>) -> Hidden
         ensures { result.value ≡ Some loose.value }
     {
@@ -41,6 +43,7 @@ impl Hidden {
         }
     }
 
+    /// Gives the pointer its type back. There must be an object.
     pub fn show(self) -> Loose<Object, Global>
         requires { (x : Object) × (self.value ≡ Some x) }
         ensures { self.value ≡ Some result.value }

@@ -1,4 +1,5 @@
-//! What a hand sees of its tags through its handle.
+//! Reports which tags are held or busy, the sizes of a set, and the counts, through the handle of a hand. Each call is
+//! described in tags.h.
 ghost use Rattle.std.specs.Prelude.{◌≡◌};
 ghost use Rattle.tag_c.specs.Calls.{Calls, CallsBy};
 ghost use Rattle.tag_c.specs.Codes.{IsRefusal};
@@ -11,19 +12,19 @@ use crate::status::Status;
 use std::alloc::Global;
 use tag_sets::{Kind, TagFault};
 
-/// The sizes of a set of tags, and the sums over its words.
+/// The sizes of a set, and sums over its words, each of which was loaded once.
 #[repr(C)]
 #[derive(Clone, Copy, Debug, PartialEq, Eq)]
 pub struct Sizes {
-    /// Tags in all.
+    /// Number of tags.
     pub depth: u32,
-    /// Tags found taken, and then not set aside.
+    /// Tags found taken (their bit is 1) and not set aside.
     pub busy: u32,
     /// Tags found set aside.
     pub cleared: u32,
-    /// Bits in a whole word.
+    /// Bits per word. The last word can have fewer.
     pub bits_per_word: u32,
-    /// Words in all.
+    /// Number of words.
     pub words: u32,
 }
 
@@ -35,14 +36,14 @@ pub struct Counts {
     pub counted: u64,
     /// Completions charged.
     pub charged: u64,
-    /// Hands that wait, or are about to.
+    /// Hands in a wait group.
     pub active: u64,
-    /// The group that the next walk visits first, below 8.
+    /// The wait group that the next wakeup starts at, below 8.
     pub index: u32,
 }
 
 impl Object {
-    /// 1 where the hand holds the tag, and 0 where it does not.
+    /// Returns 1 if the hand holds the tag, and 0 if not.
     #[inline]
     pub fn holds(&mut self, tag: u32) -> i32
         ensures { Calls (SaysHeld tag result) result self.old self.new }
@@ -56,7 +57,8 @@ impl Object {
         if member.hand.holds(tag) { 1 } else { 0 }
     }
 
-    /// How many tags are busy, each of which gets its bit.
+    /// Returns how many tags of both sets are busy. Bit `tag % 64` of `into[tag / 64]` becomes 1 for each of them, and
+    /// every other bit becomes 0.
     pub fn busy(&mut self, into: &mut [u64]) -> i32
         ensures calls { Calls (SaysBusy into.old into.new result) result self.old self.new }
         ensures kept { IsRefusal result → into.new ≡ into.old }
@@ -70,7 +72,7 @@ impl Object {
         number_code(member.shared.tags.busy(&mut member.hand, into))
     }
 
-    /// The sizes of the ordinary tags, kind 0, or of the reserved ones, kind 1.
+    /// Writes the sizes of the ordinary set if `kind` is 0, and of the reserved set if it is 1.
     pub fn show(&mut self, kind: u32, sizes: &mut Sizes) -> i32
         ensures calls { Calls (SaysShown kind sizes.new result) result self.old self.new }
         ensures kept { IsRefusal result → sizes.new ≡ sizes.old }
@@ -94,7 +96,7 @@ impl Object {
         0
     }
 
-    /// The counts of completions and of waiters.
+    /// Writes the counts of completions and of waiters, each from a load of its own.
     pub fn wakes(&mut self, counts: &mut Counts) -> i32
         ensures calls { Calls (SaysWakes counts.new result) result self.old self.new }
         ensures kept { IsRefusal result → counts.new ≡ counts.old }

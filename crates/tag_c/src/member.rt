@@ -1,4 +1,4 @@
-//! What one thread of C works with.
+//! A hand that a thread of the C program has.
 ghost use Rattle.std.specs.Prelude.{◌≡◌, IfErr};
 ghost use Rattle.std.specs.Arc.{arc_value};
 ghost use Rattle.tag_sets.specs.Hands.{IsHandOf};
@@ -8,7 +8,7 @@ use std::alloc::Global;
 use std::sync::Arc;
 use tag_sets::Hand;
 
-/// A hand out of its berth, with the tags whose hand it is.
+/// A hand outside its berth, and the pool that it belongs to.
 #[derive(Drop)]
 pub struct Member {
     pub shared: Arc<Shared, Global>,
@@ -17,7 +17,8 @@ pub struct Member {
 }
 
 impl Member {
-    /// Brings the hand back to the berths of its own tags. Where none is free, which does not happen, it stays out.
+    /// Puts the hand into a free berth of its pool, or returns it if none is free. A pool has a berth for each of its
+    /// hands, so that is not expected, but it is not ruled out by a proof.
     pub fn leave(self) -> Result<(), Member>
         ensures { IfErr result (λ back. back ≡ self) }
     {

@@ -1,4 +1,4 @@
-//! What lies behind a handle.
+//! The object behind a handle.
 use crate::member::Member;
 use crate::pool::Pool;
 
@@ -9,7 +9,7 @@ pub enum Kind {
     Member(Member),
 }
 
-/// What lies behind a handle.
+/// The object that a full handle owns.
 #[derive(Drop)]
 pub struct Object {
     pub kind: Kind,
@@ -19,7 +19,7 @@ fn must_send<T: Send>(value: T) -> T {
     value
 }
 
-/// What lies behind a handle may go to another thread.
+/// Shows that an object may be sent to another thread: `must_send` takes only what is `Send`.
 pub fn sends_object(object: Object) -> Object {
     must_send(object)
 }

@@ -1,11 +1,12 @@
-//! What C asks for, and what it is told, in the terms of the tags.
+//! Converts the options that C passes and the totals that it gets.
 ghost use Rattle.std.specs.Prelude.{◌≡◌};
 ghost use Rattle.tag_c.specs.Exports.{options_of, sums_of};
 
 use crate::wishes::{CAP, LIFE, ROUND_ROBIN, Sums, Wishes};
 use tag_sets::{Options, QueueTotals};
 
-/// The options that C asks for.
+/// Returns the options as `tag_sets` takes them. A negative shift and a `min_shallow` of 0 become `None`, and each hand
+/// may win and count as much as the limits allow.
 pub fn read_options(wishes: &Wishes) -> Options
     ensures { result ≡ options_of wishes.now }
 {
@@ -29,7 +30,7 @@ pub fn read_options(wishes: &Wishes) -> Options
     }
 }
 
-/// The totals that C is told.
+/// Returns the totals of a pool as C sees them.
 pub fn read_sums(totals: QueueTotals) -> Sums
     ensures { result ≡ sums_of totals }
 {

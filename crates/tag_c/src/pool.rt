@@ -1,4 +1,4 @@
-//! What opens tags, hands their hands out, and ends them.
+//! Opens and closes the tags of a pool, and gives out its hands.
 ghost use Rattle.std.specs.Prelude.{◌≡◌, ◌≤◌, [], IfOk, IfErr, IfSome, vec_len, vec_capacity};
 ghost use Rattle.std.specs.Arc.{arc_value};
 ghost use Rattle.tag_c.specs.Pools.{Opens, IsCause, LacksHand, Gathers};
@@ -11,7 +11,7 @@ use std::alloc::Global;
 use std::sync::Arc;
 use tag_sets::{Hand, Options, QueueTotals, SetFault, Tags};
 
-/// Tags, and room for all their hands.
+/// An open pool, with room for the list of its hands when it is closed.
 #[derive(Drop)]
 pub struct Pool {
     pub shared: Arc<Shared, Global>,
@@ -20,6 +20,7 @@ pub struct Pool {
 }
 
 impl Pool {
+    /// Opens a pool whose tags are all free and whose slots are all 0, with each hand in a berth.
     pub fn open(
         alloc: Global,
         total: u32,
@@ -52,7 +53,8 @@ impl Pool {
         }
     }
 
-    /// A hand that no thread has. Placed, it begins its next gets in its own part of the tags.
+    /// Takes out a hand that no thread has. If `placed`, its next gets begin in its own part of the tags, and otherwise
+    /// where its last get left off. Fails if all hands are out, or if the pool cannot be shared once more.
     pub fn join(&self, placed: bool) -> Result<Member, Status>
         ensures ok { IfOk result (λ member. arc_value member.shared ≡ arc_value self.now.shared) }
         ensures why { IfErr result LacksHand }
@@ -69,13 +71,13 @@ impl Pool {
         Ok(Member { shared, hand })
     }
 
-    /// Whether all hands are back.
+    /// Returns whether all hands are back.
     pub fn is_alone(&self) -> bool {
         Arc::strong_count(&self.shared) == 1
     }
 
-    /// Ends the tags where all hands are back, and hands the pool back where one is out. `None` says that a hand is missing, which
-    /// does not happen.
+    /// Closes the pool if all its hands are back, and otherwise returns it. `Ok(None)` means that a hand was missing
+    /// from the berths. That is not expected, but it is not ruled out by a proof.
     pub fn close(self) -> Result<Option<QueueTotals>, Pool>
         ensures ok { IfOk result (λ totals. IfSome totals (Gathers (arc_value self.shared).tags)) }
         ensures err { IfErr result (λ back. back ≡ self) }

@@ -1,4 +1,4 @@
-//! How a pool is opened and closed through its handle, and how its hands go out and come back.
+//! Opens and closes pools, and gives out and takes back their hands, through handles. Each call is described in tags.h.
 ghost use Rattle.std.specs.Prelude.{◌≡◌, ◌≢◌, ℕ, ◌⊎◌, ◌↔◌, pos, IsSome, None, IfOk, IfErr, IfSome, IsTrue};
 ghost use Rattle.std.specs.Arc.{arc_value};
 ghost use Rattle.tag_sets.specs.declared.tags.Tags.{Tags};
@@ -17,11 +17,11 @@ use crate::wishes::{ROUND_ROBIN, Sums, Wishes};
 use std::alloc::Global;
 use tag_sets::{QueueTotals, SetFault};
 
-/// The hand begins where it left off.
+/// The flag for a hand whose gets go on where they left off.
 const STAY: u32 = 1;
 
 impl Object {
-    /// A hand of this pool.
+    /// Takes out a hand of this pool. Fails if this is a hand, if the flags are unknown, or if the pool gives no hand.
     pub fn join(&self, flags: u32) -> Result<Member, Status>
         ensures ok { IfOk result (λ member. IsPoolIn (arc_value member.shared).tags self.now.kind) }
         ensures why { IfErr result (λ status.
@@ -36,7 +36,7 @@ impl Object {
         pool.join(flags == 0)
     }
 
-    /// Whether this is a hand, and no pool.
+    /// Returns whether this is a hand.
     pub fn is_hand(&self) -> bool
         ensures { IsTrue result ↔ ((tags : Tags ℕ) × IsMemberIn tags self.now.kind) }
     {
@@ -46,7 +46,7 @@ impl Object {
         }
     }
 
-    /// Brings a hand back.
+    /// Puts the hand back into a berth of its pool. `NoBerth` if none is free.
     pub fn leave(self) -> Status
         requires { (tags : Tags ℕ) × IsMemberIn tags self.kind }
         ensures { (result ≡ Done) ⊎ (result ≡ NoBerth) }
@@ -61,7 +61,7 @@ impl Object {
         }
     }
 
-    /// Whether this is a pool all of whose hands are back.
+    /// Returns whether all hands of this pool are back. Fails if this is a hand.
     pub fn is_alone(&self) -> Result<bool, Status>
         ensures ok { IfOk result (λ _. (tags : Tags ℕ) × IsPoolIn tags self.now.kind) }
         ensures err { IfErr result (λ status. (status ≡ BadHandle) × ¬ ((tags : Tags ℕ) × IsPoolIn tags self.now.kind)) }
@@ -72,7 +72,7 @@ impl Object {
         }
     }
 
-    /// Ends a pool.
+    /// Closes the pool and returns its totals. `None` if this is a hand, or if a hand of the pool is out or missing.
     pub fn close(self) -> Option<QueueTotals>
         ensures { IfSome result (Ends self.kind) }
     {

@@ -1,4 +1,4 @@
-//! What all hands of a pool share.
+//! The part of a pool that all its hands share.
 ghost use Rattle.std.specs.Prelude.{◌≡◌, ◌≤◌, [], All, IfSome, IfErr, vec_len, vec_capacity};
 ghost use Rattle.tag_layout.specs.declared.layout.TheConstants.{MAX_DEPTH};
 ghost use Rattle.tag_sets.specs.Hands.{IsHandOf, total_of};
@@ -18,7 +18,8 @@ pub struct Shared {
 }
 
 impl Shared {
-    /// A hand that no thread has, the one with the least number where nobody came or went.
+    /// Takes a hand out of its berth, if there is one. Until the first hand leaves, they go out in the order of their
+    /// numbers.
     #[tactic(auto, using(crate::proofs::Owners::one_owner))]
     pub fn take_hand(&self) -> Option<Hand<u64>>
         ensures { IfSome result (IsHandOf self.now.tags) }
@@ -31,7 +32,7 @@ impl Shared {
         None
     }
 
-    /// Has a hand of these tags rest in a free berth, or hands it back where there is none.
+    /// Puts a hand of these tags into the first free berth, or returns it if none is free.
     pub fn rest(&self, hand: Hand<u64>) -> Result<(), Hand<u64>>
         requires { IsHandOf self.now.tags hand }
         ensures { IfErr result (λ back. back ≡ hand) }
@@ -46,7 +47,8 @@ impl Shared {
         Err(hand)
     }
 
-    /// Ends the tags with all their hands, for which there is room. `None` where a hand is missing.
+    /// Closes the tags and returns their totals, or `None` if a hand is missing. The hands are collected in `room`, so
+    /// that closing takes no memory.
     pub fn gather(self, room: Vec<Hand<u64>>) -> Option<QueueTotals>
         requires room { (room.items ≡ []) × (vec_len self.berths ≤ vec_capacity room) }
         ensures { IfSome result (Gathers self.tags) }

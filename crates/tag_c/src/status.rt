@@ -1,19 +1,19 @@
-//! What calls answer to C.
+//! The statuses that calls return to C.
 ghost use Rattle.std.specs.Prelude.{◌≡◌};
 ghost use Rattle.tag_c.specs.Codes.{code_of, code_of_fault, code_of_set_fault};
 
 use tag_sets::{SetFault, TagFault};
 
-/// How a call ended, where it has no number to answer.
+/// How a call ended that has no tag or count to return.
 #[derive(Clone, Copy, Debug, PartialEq, Eq)]
 pub enum Status {
-    /// It is done.
+    /// Success.
     Done,
-    /// A refusal of the tags.
+    /// `tag_sets` refused the call.
     Refused(TagFault),
     /// No free tag was found.
     NoTag,
-    /// The wait group changed during the call; the hand stands there still.
+    /// The wait group changed during the call. The hand is still in it.
     Again,
     /// The handle is empty, or of the other kind.
     BadHandle,
@@ -23,11 +23,11 @@ pub enum Status {
     NoHand,
     /// Not all hands of the pool are back.
     HandsOut,
-    /// A number that stands for no kind of tags.
+    /// The number names no set: 0 is the ordinary one, and 1 the reserved one.
     BadKind,
-    /// A list with fewer bits than there are tags.
+    /// The list has fewer bits than the pool has tags.
     TooSmall,
-    /// A flag that no call knows.
+    /// The call does not know the flag.
     BadFlag,
     /// The tags could not be opened.
     NotOpened(SetFault),
@@ -38,7 +38,7 @@ pub enum Status {
 }
 
 impl Status {
-    /// Its number in the header, negative but for `Done`.
+    /// Returns the number of the status in tags.h: 0 for `Done`, and a negative one for each other.
     pub fn code(self) -> i32
         ensures { result ≡ code_of self }
     {
@@ -61,7 +61,7 @@ impl Status {
     }
 }
 
-/// The number of a refusal of the tags.
+/// Returns the number of a refusal by `tag_sets`.
 pub fn fault_code(fault: TagFault) -> i32
     ensures { result ≡ code_of_fault fault }
 {
@@ -78,7 +78,7 @@ pub fn fault_code(fault: TagFault) -> i32
     }
 }
 
-/// The number of the reason why tags could not be opened.
+/// Returns the number of the reason why the tags could not be opened.
 pub fn set_fault_code(fault: SetFault) -> i32
     ensures { result ≡ code_of_set_fault fault }
 {

@@ -1,4 +1,4 @@
-//! What no clause says: worked answers, one for each call.
+//! One run through all calls with worked answers, which no clause determines.
 use crate::gets::{tags_get, tags_get_batch, tags_get_reserved, tags_get_shallow};
 use crate::gives::{tags_clear, tags_clear_batch, tags_finish, tags_prepare};
 use crate::handle::Handle;
@@ -8,7 +8,7 @@ use crate::values::{tags_post, tags_read, tags_take, tags_write};
 use crate::wishes::{Sums, Wishes};
 use std::test::Fail;
 
-// Ten ordinary tags behind two reserved ones, in words of four, for two hands.
+// Two reserved tags, then ten ordinary ones in words of four, for two hands.
 const WISHES: Wishes = Wishes {
     total: 12,
     reserved: 2,

@@ -1,4 +1,5 @@
-//! The values beside a hand's tags, and how tags pass from hand to hand, through its handle.
+//! Reads and writes the slots of held tags, and passes tags to other hands, through the handle of a hand. Each call is
+//! described in tags.h.
 ghost use Rattle.std.specs.Prelude.{◌≡◌};
 ghost use Rattle.tag_c.specs.Calls.{Calls, CallsBy, Through, DoesRead, DoesWrite, DoesPost, DoesTake};
 ghost use Rattle.tag_c.specs.Codes.{IsRefusal, code_of_done};
@@ -11,6 +12,7 @@ use std::alloc::Global;
 
 impl Object {
     #[inline]
+    /// Reads the slot of a held tag into `value`.
     pub fn read(&mut self, tag: u32, value: &mut u64) -> i32
         ensures calls { Calls (Through (DoesRead tag value.new) code_of_done result) result self.old self.new }
         ensures kept { IsRefusal result → value.new ≡ value.old }
@@ -22,6 +24,7 @@ impl Object {
     }
 
     #[inline]
+    /// Writes the slot of a held tag, and what it held before into `former`.
     pub fn write(&mut self, tag: u32, value: u64, former: &mut u64) -> i32
         ensures calls { Calls (Through (DoesWrite tag value former.new) code_of_done result) result self.old self.new }
         ensures kept { IsRefusal result → former.new ≡ former.old }
@@ -36,6 +39,7 @@ impl Object {
     }
 
     #[inline]
+    /// Posts a held tag, so that any hand of the pool can take it.
     pub fn post(&mut self, tag: u32) -> i32
         ensures { Calls (Through (DoesPost tag) code_of_done result) result self.old self.new }
     {
@@ -46,6 +50,7 @@ impl Object {
     }
 
     #[inline]
+    /// Takes a posted tag.
     pub fn take(&mut self, tag: u32) -> i32
         ensures { Calls (Through (DoesTake tag) code_of_done result) result self.old self.new }
     {

@@ -1,32 +1,32 @@
-//! How C asks for a pool, and what it is told at its end.
-/// The most that each hand may win: 2^48.
+//! The options and the sums of a pool, laid out as in tags.h.
+/// The most tags of each set that a hand may win: 2^48.
 pub const LIFE: u64 = 1 << 48;
 
-/// The most that each hand may count: 2^56.
+/// The most completions that a hand may count: 2^56.
 pub const CAP: u64 = 1 << 56;
 
-/// Each get begins behind the last tag won.
+/// The flag for gets that each begin after the last tag won.
 pub const ROUND_ROBIN: u32 = 1;
 
-/// How a pool is opened.
+/// The options of a new pool.
 #[repr(C)]
 #[derive(Clone, Copy)]
 pub struct Wishes {
-    /// Tags in all, at most 10,240.
+    /// Number of tags, reserved and ordinary, at most 10,240.
     pub total: u32,
-    /// The first tags, so many, are reserved.
+    /// Number of reserved tags, at most `total`. They come first, from tag 0.
     pub reserved: u32,
-    /// Binary logarithm of the bits in a whole word, at most 6. Below 0: the default for the depth.
+    /// Binary logarithm of the bits per word, at most 6. A negative shift chooses the default for the depth.
     pub shift: i32,
-    /// The least depth of a shallow get. 0: none.
+    /// The least depth that a shallow get may ask for. 0 allows every depth from 1.
     pub min_shallow: u32,
-    /// Hands, 1 to 64.
+    /// Number of hands, 1 to 64.
     pub hands: u32,
-    /// 1: round robin.
+    /// 0, or `ROUND_ROBIN`.
     pub flags: u32,
 }
 
-/// Sums over all hands of a pool that is closed.
+/// The sums over all hands of a closed pool.
 #[repr(C)]
 #[derive(Clone, Copy)]
 pub struct Sums {
@@ -40,16 +40,16 @@ pub struct Sums {
     pub posted: u64,
     /// Completions counted.
     pub counted: u64,
-    /// Completions charged.
+    /// Completions charged, a batch at a time.
     pub charged: u64,
-    /// Wakeups granted.
+    /// Wakeups granted to waiters.
     pub issued: u64,
-    /// Wakeups used.
+    /// Wakeups that waiters used.
     pub used: u64,
 }
 
 impl Sums {
-    /// Sums of nothing.
+    /// All sums 0.
     pub const NONE: Sums = Sums {
         got: 0,
         back: 0,

@@ -21,7 +21,7 @@ use Rattle.tag_core.specs.Rule.{HasCells, SlotIs, IsKnown, Shown}
 use Rattle.tag_core.proofs.Picks.{placed}
 use Rattle.tag_core.proofs.Turns.{Shows}
 use Rattle.tag_core.proofs.Within.{held_within}
-use Rattle.tag_core.proofs.Seats.{everyone_same}
+use Rattle.step_ledger.proofs.Seats.{each_same}
 use Rattle.tag_core.proofs.Counts.{own_counts, other_counts, steps_here, steps_else, held_long, swept_long}
 
 module _ (R : Type 0) (k : Shape) where
@@ -114,7 +114,8 @@ module _ (R : Type 0) (k : Shape) where
           (λ (t : (j ≢ id) × (get_elem? s.views j ≡ some v)). let o = sh.records j v t.1 n q e' in
           (other q (λ e. t.0 (sym o.1 ∙ ap sh.seat e ∙ mine_ok.1)) o.0, o.1, o.2))
           (at_set s.views id j (alone (record_after st r)) v e);
-      each = everyone_same R k.callers s.views sh.seat sh.position id r (record_after st r) at refl sh.each;
+      each = each_same (λ (v : View R). v.records.value) (λ (r : Record R). r.number) k.callers s.views sh.seat
+          sh.position id (alone r) (alone (record_after st r)) r (record_after st r) refl refl at refl sh.each;
     }
       where
         first : (n : ℕ) (a q : Record R) → get_elem? (a ∷ []) n ≡ some q → (n ≡ 0) × (a ≡ q)

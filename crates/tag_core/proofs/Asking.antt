@@ -23,6 +23,13 @@ use Rattle.tag_core.specs.Meeting.{HasHistory}
 use Rattle.tag_core.proofs.Singles.{same_record}
 use Rattle.tag_core.specs.Callers.{IsCallerOf, record_of, Holds}
 
+-- what the table asks of a step at this place
+abbrev pub Asks : {R : Type 0} → Map R → ℕ → Me R (View R) → ℕ → (ℕ → ℕ) → ℕ → ℕ
+    → (table.Step R → Me R (View R) → ℕ → Me R (View R) → Type 0) → Type 0
+Asks m id me place f a b then = (place < m.table.shared.table_id.words) × Allows
+    (Shown m.table.shared.key) m.table.shared.table_id.slots id me place f
+    (then (step m.table.shared.table_id.slots place a b none) me)
+
 module _ {R : Type 0} (m : Map R) (w : Caller R) (own : IsCallerOf m w) where
   abbrev k : Shape
   k = w.shape.value
@@ -35,15 +42,13 @@ module _ {R : Type 0} (m : Map R) (w : Caller R) (own : IsCallerOf m w) where
   pub in_words : (i : ℕ) → i < words m.shape.layout → i < words w.shape.value.layout
   in_words i = subst (λ (z : Shape). i < words z.layout) (sym own.1)
 
-  -- what the table asks of a step at this place
+  -- the table has it, if the caller's record allows the step
   pub asked : (id : ℕ) (me : Me R (View R)) (at place : ℕ) (f : ℕ → ℕ) (a b : ℕ)
       (then : table.Step R → Me R (View R) → ℕ → Me R (View R) → Type 0) → place ≡ at
       → at < table_width w.shape.value.layout
       → Allows (Shown w.shape.value) w.shape.value.layout.depth id me at f
       (then (step w.shape.value.layout.depth at a b none) me)
-      → (place < m.table.shared.table_id.words) × Allows
-      (Shown m.table.shared.key) m.table.shared.table_id.slots id me place f
-      (then (step m.table.shared.table_id.slots place a b none) me)
+      → Asks m id me place f a b then
   asked id me at place f a b then is low allowed = (
     subst (λ (z : ℕ × ℕ). z.0 < z.1)
         (λ j. (sym is j, (ap (λ (z : Shape). table_width z.layout) own.1 ∙ sym m.wide.0) j)) low,
@@ -51,13 +56,38 @@ module _ {R : Type 0} (m : Map R) (w : Caller R) (own : IsCallerOf m w) where
         (λ j. ((own.1 ∙ sym m.told) j, (ap (λ (z : Shape). z.layout.depth) own.1 ∙ sym m.wide.1) j, sym is j)) allowed,
   )
 
-module _ {R : Type 0} (w : Caller R) (st : Step R) (me' : Me R (View R)) (did : Stepped st (record_of w) w.seat.me me')
-    (held' : List ℕ) (won' back' : ℕ)
-    (held_is : held_after w.shape.value.layout st w.held.items ≡ held')
-    (swept_is : swept_after st (replicate {A = ℕ} (words w.shape.value.layout) 0)
-    ≡ replicate (words w.shape.value.layout) 0)
-    (won_is : w.won + won_by (event_of w.shape.value.layout w.number st) ≡ won')
-    (back_is : w.back + back_by (event_of w.shape.value.layout w.number st) ≡ back') where
+-- after a step one history shows what the caller knows
+pub shows : {R : Type 0} (st : Step R) (r : Record R) (me me' : Me R (View R)) → Stepped st r me me' → (q : Record R)
+    → me'.0 ≡ alone q → ∥ HasHistory r.shape q ∥₁
+shows st r me me' did q is = ∣ subst (HasHistory r.shape)
+    (same_record (record_after st r) q (sym did.view ∙ is)) did.shown ∣₁
+
+-- what a call leaves of its caller: a seat that made this step, and the fields that the record has after it
+pub record Left {R : Type 0} (w : Caller R) (st : Step R) (me' : Me R (View R)) (held' : List ℕ) (won' back' : ℕ)
+    : Type 0 where
+  pub did : Stepped st (record_of w) w.seat.me me'
+  pub held_is : held_after w.shape.value.layout st w.held.items ≡ held'
+  pub swept_is : swept_after st (replicate {A = ℕ} (words w.shape.value.layout) 0)
+      ≡ replicate (words w.shape.value.layout) 0
+  pub won_is : w.won + won_by (event_of w.shape.value.layout w.number st) ≡ won'
+  pub back_is : w.back + back_by (event_of w.shape.value.layout w.number st) ≡ back'
+
+-- it leaves the fields to which the step leads
+pub left : {R : Type 0} (w : Caller R) {st : Step R} {me' : Me R (View R)} {held' : List ℕ} {won' back' : ℕ}
+    → Stepped st (record_of w) w.seat.me me' → held_after w.shape.value.layout st w.held.items ≡ held'
+    → swept_after st (replicate {A = ℕ} (words w.shape.value.layout) 0) ≡ replicate (words w.shape.value.layout) 0
+    → w.won + won_by (event_of w.shape.value.layout w.number st) ≡ won'
+    → w.back + back_by (event_of w.shape.value.layout w.number st) ≡ back' → Left w st me' held' won' back'
+left w did held_is swept_is won_is back_is = record {
+  did = did;
+  held_is = held_is;
+  swept_is = swept_is;
+  won_is = won_is;
+  back_is = back_is;
+}
+
+module _ {R : Type 0} {w : Caller R} {st : Step R} {me' : Me R (View R)} {held' : List ℕ} {won' back' : ℕ}
+    (l : Left w st me' held' won' back') where
   -- the record that the new fields give
   abbrev pub now : Record R
   now = record {
@@ -76,37 +106,35 @@ module _ {R : Type 0} (w : Caller R) (st : Step R) (me' : Me R (View R)) (did : 
   recorded j = record {
     shape = w.shape.value;
     number = w.number;
-    held = sym held_is j;
-    swept = sym swept_is j;
-    won = sym won_is j;
-    back =
-        sym back_is j;
-    steps = steps_of (did.view j);
+    held = sym l.held_is j;
+    swept = sym l.swept_is j;
+    won = sym l.won_is j;
+    back = sym l.back_is j;
+    steps = steps_of (l.did.view j);
   }
 
   -- the seat has the record that the new fields give
   pub knows : me'.0 ≡ alone now
-  knows = did.view ∙ sym (ap alone recorded)
+  knows = l.did.view ∙ sym (ap alone recorded)
 
   -- it carries the slots of the tags that it holds now
   pub carries : Carries w.shape.value.layout held' me'.1
-  carries = subst (λ (z : List ℕ). Carries w.shape.value.layout z me'.1) held_is did.carries
+  carries = subst (λ (z : List ℕ). Carries w.shape.value.layout z me'.1) l.held_is l.did.carries
+
+  -- one history shows what the caller knows now
+  pub shown : (q : Record R) → me'.0 ≡ alone q → ∥ HasHistory w.shape.value q ∥₁
+  shown = shows st (record_of w) w.seat.me me' l.did
 
   -- it gave back no more than all callers may win
   pub few : back' ≤ w.shape.value.callers * MOST_WON
-  few = subst (λ (z : ℕ). z ≤ w.shape.value.callers * MOST_WON) back_is did.few_back
+  few = subst (λ (z : ℕ). z ≤ w.shape.value.callers * MOST_WON) l.back_is l.did.few_back
 
   -- the slots of tags that it keeps have their values
   pub slots : (tag : ℕ) → Holds w tag → (tag < w.shape.value.layout.depth)
       × (tag_bit w.shape.value.layout held' tag ≡ 1)
       → value_of me'.1 tag ≡ value_of w.seat.me.1 tag
-  slots tag was is = did.values tag was.0 was.1 (ap (λ (z : List ℕ). tag_bit w.shape.value.layout z tag) held_is ∙ is.1)
-
--- after a step one history shows what the caller knows
-pub shows : {R : Type 0} (st : Step R) (r : Record R) (me me' : Me R (View R)) → Stepped st r me me' → (q : Record R)
-    → me'.0 ≡ alone q → ∥ HasHistory r.shape q ∥₁
-shows st r me me' did q is = ∣ subst (HasHistory r.shape)
-    (same_record (record_after st r) q (sym did.view ∙ is)) did.shown ∣₁
+  slots tag was is = l.did.values tag was.0 was.1
+      (ap (λ (z : List ℕ). tag_bit w.shape.value.layout z tag) l.held_is ∙ is.1)
 
 -- what a caller may have given back in all
 pub bounded : {R : Type 0} (m : Map R) (w : Caller R) → IsCallerOf m w → (n : ℕ) → n ≤ w.shape.value.callers * MOST_WON

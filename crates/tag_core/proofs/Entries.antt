@@ -2,7 +2,7 @@
 use Rattle.std.proofs.Common.{◌≡◌, ℕ, zero, suc, ◌<◌, List, [], ◌∷◌, map, length, get_or, All, arith, refl, sym, subst}
 use mathlib.Core.Option.{some, some-injective, some-ne-none}
 use lib.ListN.{get_elem?}
-use Rattle.tag_core.proofs.Seats.{within}
+use Rattle.step_ledger.proofs.Seats.{within}
 
 module _ {A : Type 0} where
   -- below the length there is an entry

@@ -4,7 +4,6 @@ pub mod Masks
 pub mod Stand
 pub mod Singles
 pub mod Counts
-pub mod Seats
 pub mod Within
 pub mod Advance
 pub mod TagBits
@@ -15,6 +14,8 @@ pub mod Moving
 pub mod Allowed
 pub mod Passing
 pub mod Asking
+pub mod Marking
+pub mod InFront
 pub mod Sweepings
 pub mod Valued
 pub mod Fronts
@@ -23,7 +24,6 @@ pub mod Countings
 pub mod Meetings
 pub mod Crossing
 pub mod Totalling
-pub mod Lasts
 pub mod Entries
 pub mod SeatMoves
 pub mod Settlings

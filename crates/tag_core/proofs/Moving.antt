@@ -26,7 +26,7 @@ use Rattle.tag_core.specs.Plays.{Stepped}
 use Rattle.tag_core.proofs.Picks.{placed}
 use Rattle.atomic_table.proofs.Lists.{set_here}
 use Rattle.tag_core.specs.Meeting.{HasHistory}
-use Rattle.tag_core.proofs.Seats.{within}
+use Rattle.step_ledger.proofs.Seats.{within}
 use Rattle.tag_core.proofs.Showings.{seen_in}
 use Rattle.tag_core.proofs.Counts.{own_counts}
 use Rattle.tag_core.proofs.Turns.{held_from}

@@ -1,24 +1,25 @@
 -- Records pass from one seat to another.
-use Rattle.std.proofs.Common.{◌≡◌, ◌≢◌, ℕ, zero, suc, ◌+◌, ◌-◌, ◌%◌, ◌^◌, ◌<◌, ◌≤◌, List, [], ◌∷◌, map, length, get_or, set, replicate, nat_eq, Bool, cond, arith, refl, sym, ap, ◌∙◌, subst, ⊎_elim, eq-eqb, ne_eqb, length-set}
+use Rattle.std.proofs.Common.{◌≡◌, ℕ, zero, suc, ◌+◌, ◌-◌, ◌%◌, ◌^◌, ◌<◌, ◌≤◌, List, [], ◌∷◌, map, length, get_or, replicate, Bool, cond, arith, refl, sym, ap, ◌∙◌, subst, ne_eqb}
 use mathlib.Core.Option.{some, some-injective, some-ne-none}
 use lib.ListN.{get_elem?, length-replicate}
 use Rattle.std.specs.Int.{bit_at}
 use Rattle.std.proofs.lemmas.Nat.{pow_pos}
 use Rattle.std.proofs.lemmas.Nat.Bits.{bit_at-zero}
-use Rattle.atomic_table.specs.Table.{opening, Splits, Joins}
-use Rattle.atomic_table.proofs.Lists.{at_set, set_else}
+use Rattle.atomic_table.specs.Table.{State, opening, Splits, Joins}
+use Rattle.atomic_table.proofs.Lists.{set_else}
 use Rattle.tag_layout.specs.Layout.{Layout, words, word_depth, word_of, place_of}
 use Rattle.tag_layout.proofs.SumFacts.{sum_below-none}
 use Rattle.tag_model.specs.declared.world.TheConstants.{MOST_WON}
 use Rattle.tag_core.specs.declared.shape.Shape.{Shape}
 use Rattle.tag_core.specs.declared.record.Record.{Record}
 use Rattle.tag_core.specs.declared.record.View.{View}
+use Rattle.tag_core.specs.Histories.{History}
 use Rattle.tag_core.specs.Spacing.{word_at, aside_at, state_at, table_width}
 use Rattle.tag_core.specs.Records.{fresh_record, tag_bit, tags_from}
 use Rattle.tag_core.specs.Views.{viewing, alone, fresh, all_fresh, first_view, other_views, both_views}
 use Rattle.tag_core.specs.Rule.{IsOpening, IsKnown, Shown}
 use Rattle.tag_core.specs.Meeting.{HasHistory}
-use Rattle.tag_core.proofs.Seats.{within, snoc_at, append_at, everyone_split, everyone_join}
+use Rattle.step_ledger.proofs.Seats.{Standing, split, join}
 
 -- each of so many zeros is 0
 pub zeros : (n i : ℕ) → ◌≡◌ {A = ℕ} (get_or (replicate n 0) i 0) 0
@@ -135,119 +136,41 @@ module _ (R : Type 0) (k : Shape) where
           (subst (IsKnown k []) w.1 (fresh_ok (0 + n) low), refl, ap (λ (x : Record R). x.number) (sym w.1) ∙ z)
       only_one (suc j) v n r e e' = absurd (some-ne-none v (sym e))
 
+  -- where the callers' records stand, each as this history has it
+  abbrev Stand : History R → List (View R) → Type 0
+  Stand h views = Standing (λ (v : View R). v.records.value) (λ (r : Record R). r.number) (IsKnown k h) k.callers views
+
+  standing : (s : State R (View R)) (sh : Shown k s) → Stand sh.history s.views
+  standing s sh = record { seat = sh.seat; position = sh.position; records = sh.records; each = sh.each }
+
+  -- the rule holds where these records stand in other views
+  reseated : (s : State R (View R)) (sh : Shown k s) (views : List (View R)) → Stand sh.history views
+      → Shown k record { words = s.words; homes = s.homes; views = views }
+  reseated s sh views now = record {
+    opening = sh.opening;
+    history = sh.history;
+    lawful = sh.lawful;
+    cells = sh.cells;
+    tags = sh.tags;
+    slots = sh.slots;
+    posts = sh.posts;
+    seat = now.seat;
+    position = now.position;
+    records = now.records;
+    each = now.each;
+  }
+
   -- the first record goes to a new seat
   pub splits : (id : ℕ) (v : View R) (r : Record R) (rs : List (Record R)) → v ≡ viewing (r ∷ rs)
       → Splits (Shown k) id v (viewing rs) (alone r)
-  splits id v r rs is s sh at =
-      let here : get_elem? s.views id ≡ some (viewing (r ∷ rs)) = at ∙ ap some is in
-      let first = sh.records id (viewing (r ∷ rs)) here 0 r refl in
-      let vs : List (View R) = set s.views id (viewing rs) in
-      let long : length vs ≡ length s.views = length-set s.views id (viewing rs) in
-      let low : id < length s.views = within s.views id _ here in
-      let seat' : ℕ → ℕ = λ c. cond (nat_eq c r.number) (length vs) (sh.seat c) in
-      let position' : ℕ → ℕ = λ c. cond (nat_eq c r.number) 0
-      (cond (nat_eq (sh.seat c) id) (sh.position c - 1) (sh.position c)) in
-      let moved : (q : Record R) (j n j' n' : ℕ) → q.number ≢ r.number
-      → cond (nat_eq (sh.seat q.number) id) (sh.position q.number - 1) (sh.position q.number) ≡ n'
-      → sh.seat q.number ≡ j'
-      → (seat' q.number ≡ j') × (position' q.number ≡ n')
-      = (λ q j n j' n' far ep es. (
-        ap (λ (b : Bool). cond b (length vs) (sh.seat q.number)) (ne_eqb q.number r.number far) ∙ es,
-        ap (λ (b : Bool). cond b 0
-            (cond (nat_eq (sh.seat q.number) id) (sh.position q.number - 1) (sh.position q.number)))
-            (ne_eqb q.number r.number far) ∙ ep,
-      )) in record {
-        opening = sh.opening;
-        history = sh.history;
-        lawful = sh.lawful;
-        cells = sh.cells;
-        tags = sh.tags;
-        slots = sh.slots;
-        posts = sh.posts;
-        seat = seat';
-        position = position';
-        records = λ j v' e n q e'. ⊎_elim
-            (λ (old : get_elem? vs j ≡ some v'). ⊎_elim
-            (λ (t : (j ≡ id) × (viewing rs ≡ v')).
-            let o = sh.records id (viewing (r ∷ rs)) here (suc n) q
-            (ap (λ (z : View R). get_elem? z.records.value n) t.1 ∙ e') in
-            let far : q.number ≢ r.number = (λ z. let p = sym o.2 ∙ ap sh.position z ∙ first.2 in
-            absurd (omega arith)) in
-            let p = o.2 in let less : sh.position q.number - 1 ≡ n = omega arith in
-            let m = moved q j n j n far
-            (ap (λ (b : Bool). cond b (sh.position q.number - 1) (sh.position q.number))
-            (eq-eqb (sh.seat q.number) id o.1) ∙ less) (o.1 ∙ sym t.0) in (o.0, m.0, m.1))
-            (λ (t : (j ≢ id) × (get_elem? s.views j ≡ some v')).
-            let o = sh.records j v' t.1 n q e' in
-            let far : q.number ≢ r.number = (λ z. t.0 (sym o.1 ∙ ap sh.seat z ∙ first.1)) in
-            let m = moved q j n j n far
-            (ap (λ (b : Bool). cond b (sh.position q.number - 1) (sh.position q.number))
-            (ne_eqb (sh.seat q.number) id (λ z. t.0 (sym o.1 ∙ z))) ∙ o.2) o.1 in (o.0, m.0, m.1))
-            (at_set s.views id j (viewing rs) v' old))
-            (λ (t : (j ≡ length vs) × (alone r ≡ v')).
-            let o = first_only n r q (ap (λ (z : View R). get_elem? z.records.value n) t.1 ∙ e') in (
-              subst (IsKnown k sh.history) o.1 first.0,
-              ap (λ (b : Bool). cond b (length vs) (sh.seat q.number))
-                  (eq-eqb q.number r.number (ap (λ (x : Record R). x.number) (sym o.1))) ∙ sym t.0,
-              ap (λ (b : Bool). cond b 0
-                  (cond (nat_eq (sh.seat q.number) id) (sh.position q.number - 1) (sh.position q.number)))
-                  (eq-eqb q.number r.number (ap (λ (x : Record R). x.number) (sym o.1))) ∙ sym o.0,
-            ))
-            (snoc_at vs (alone r) v' j e);
-        each = everyone_split R k.callers s.views sh.seat sh.position id r rs here
-            (λ q n e. (sh.records id (viewing (r ∷ rs)) here n q e).2) first.2 sh.each;
-      }
-    where
-      first_only : (n : ℕ) (a q : Record R) → get_elem? (a ∷ []) n ≡ some q → (n ≡ 0) × (a ≡ q)
-      first_only zero a q e = (refl, some-injective a q e)
-      first_only (suc n) a q e = absurd (some-ne-none q (sym e))
+  splits id v r rs is s sh at = reseated s sh _ (split _ _ _ k.callers s.views (standing s sh) id (viewing (r ∷ rs))
+      (viewing rs) (alone r) r rs refl refl refl (at ∙ ap some is))
 
   -- the other's records stand behind those of the first
   pub joins : (id : ℕ) (v : View R) (other : ℕ) (w : View R)
       → Joins (Shown k) id v other w (both_views v w) (viewing [])
-  joins id v other w s sh at apart there =
-      let both : View R = both_views v w in let vs : List (View R) = set s.views id both in
-      let that : get_elem? s.views other ≡ some w = sym (set_else s.views id other both apart) ∙ there in
-      let seat' : ℕ → ℕ = λ c. cond (nat_eq (sh.seat c) other) id (sh.seat c) in
-      let position' : ℕ → ℕ = λ c. cond (nat_eq (sh.seat c) other) (length v.records.value + sh.position c)
-      (sh.position c) in
-      let stays : (q : Record R) (j n : ℕ) → j ≢ other → sh.seat q.number ≡ j → sh.position q.number ≡ n
-      → (seat' q.number ≡ j) × (position' q.number ≡ n) =
-      (λ q j n far es ep. (
-        ap (λ (b : Bool). cond b id (sh.seat q.number)) (ne_eqb (sh.seat q.number) other (λ z. far (sym es ∙ z))) ∙ es,
-        ap (λ (b : Bool). cond b (length v.records.value + sh.position q.number) (sh.position q.number))
-            (ne_eqb (sh.seat q.number) other (λ z. far (sym es ∙ z))) ∙ ep,
-      )) in record {
-        opening = sh.opening;
-        history = sh.history;
-        lawful = sh.lawful;
-        cells = sh.cells;
-        tags = sh.tags;
-        slots = sh.slots;
-        posts = sh.posts;
-        seat = seat';
-        position = position';
-        records = λ j v' e n q e'. ⊎_elim
-            (λ (t : (j ≡ other) × (viewing [] ≡ v')). absurd
-            (some-ne-none q (sym (ap (λ (z : View R). get_elem? z.records.value n) t.1 ∙ e'))))
-            (λ (t : (j ≢ other) × (get_elem? vs j ≡ some v')). ⊎_elim
-            (λ (u : (j ≡ id) × (both ≡ v')). ⊎_elim
-            (λ (own : get_elem? v.records.value n ≡ some q). let o = sh.records id v at n q own in
-            let m = stays q j n t.0 (o.1 ∙ sym u.0) o.2 in (o.0, m.0, m.1))
-            (λ (his : (i : ℕ) × (n ≡ length v.records.value + i) ×
-            (get_elem? w.records.value i ≡ some q)). let o = sh.records other w that his.0 q his.2 in (
-              o.0,
-              ap (λ (b : Bool). cond b id (sh.seat q.number)) (eq-eqb (sh.seat q.number) other o.1) ∙ sym u.0,
-              ap (λ (b : Bool). cond b (length v.records.value + sh.position q.number) (sh.position q.number))
-                  (eq-eqb (sh.seat q.number) other o.1) ∙ ap (λ (z : ℕ). length v.records.value + z) o.2 ∙ sym his.1,
-            ))
-            (append_at v.records.value w.records.value q n (ap (λ (z : View R). get_elem? z.records.value n) u.1 ∙ e')))
-            (λ (u : (j ≢ id) × (get_elem? s.views j ≡ some v')). let o = sh.records j v' u.1 n q e' in
-            let m = stays q j n t.0 o.1 o.2 in (o.0, m.0, m.1))
-            (at_set s.views id j both v' t.1))
-            (at_set vs other j (viewing []) v' e);
-        each = everyone_join R k.callers s.views sh.seat sh.position id other v w at that apart sh.each;
-      }
+  joins id v other w s sh at apart there = reseated s sh _ (join _ _ _ k.callers s.views (standing s sh) id other v w
+      (both_views v w) (viewing []) refl refl at (sym (set_else s.views id other (both_views v w) apart) ∙ there) apart)
 
   -- the next caller of those that are still to come
   pub next_fresh : (c n : ℕ) → c < n → fresh {R = R} k c (n - c) ≡ fresh_record k c ∷ fresh k (c + 1) (n - (c + 1))

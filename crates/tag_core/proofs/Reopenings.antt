@@ -28,7 +28,7 @@ use Rattle.tag_core.specs.Settling.{AreSettled}
 use Rattle.tag_core.specs.Reopening.{IsNext, HasCounts, AreReopened, GoesOnFrom, AllFree, LeadsOn}
 use Rattle.tag_core.specs.Chain.{Epoch, GoesOn, IsChain, HasChain}
 use Rattle.tag_core.proofs.Entries.{entry, entry_of_map}
-use Rattle.tag_core.proofs.Seats.{within}
+use Rattle.step_ledger.proofs.Seats.{within}
 
 module _ {R : Type 0} where
   -- no history but that of no steps shows that nobody has made a step

@@ -1,5 +1,5 @@
 -- A seat that has the records of all callers.
-use Rattle.std.proofs.Common.{◌≡◌, ℕ, suc, ◌+◌, List, [], ◌∷◌, ◌++◌, map, length, arith, refl, sym, ap, ◌∙◌, subst, ⊎_elim, length-append, append_assoc}
+use Rattle.std.proofs.Common.{◌≡◌, ℕ, suc, ◌+◌, List, [], ◌∷◌, ◌++◌, map, arith, refl, sym, ap, ◌∙◌, subst, length-append, append_assoc}
 use Rattle.std.proofs.lemmas.List.{map-append}
 use mathlib.Core.Option.{some, none}
 use lib.ListN.{get_elem?}
@@ -16,7 +16,7 @@ use Rattle.tag_core.specs.Rule.{Shown}
 use Rattle.tag_core.specs.Settling.{HasRecords, AreSettled}
 use Rattle.tag_core.specs.Plays.{settled}
 use Rattle.tag_core.specs.Callers.{record_of, IsUnchanged, AreUnchanged}
-use Rattle.tag_core.proofs.Seats.{within, snoc_at}
+use Rattle.step_ledger.proofs.Seats.{pairs_more}
 use Rattle.tag_core.proofs.Fronts.{idle}
 use Rattle.tag_core.proofs.Ends.{few_records, won_all, back_all, held_all, even_all}
 
@@ -75,19 +75,7 @@ module _ {R : Type 0} where
       → AreUnchanged (olds ++ a ∷ []) (news ++ b ∷ [])
   unchanged-more olds news a b same one = record {
     count = length-append news (b ∷ []) ∙ ap (λ (z : ℕ). z + 1) same.count ∙ sym (length-append olds (a ∷ []));
-    each = λ n x y e f. ⊎_elim
-        (λ (old : get_elem? olds n ≡ some x). ⊎_elim
-        (λ (new : get_elem? news n ≡ some y). same.each n x y old new)
-        (λ (t : (n ≡ length news) × (b ≡ y)).
-        let low = within olds n x old in let long = same.count in let here = t.0 in absurd (omega arith))
-        (snoc_at news b y n f))
-        (λ (t : (n ≡ length olds) × (a ≡ x)). ⊎_elim
-        (λ (new : get_elem? news n ≡ some y).
-        let low = within news n y new in let long = same.count in let here = t.0 in absurd (omega arith))
-        (λ (u : (n ≡ length news) × (b ≡ y)).
-        subst (λ (z : Caller R × Caller R). IsUnchanged z.0 z.1) (λ j. (t.1 j, u.1 j)) one)
-        (snoc_at news b y n f))
-        (snoc_at olds a x n e);
+    each = pairs_more IsUnchanged olds news a b same.count same.each one;
   }
 
   -- the last caller's record comes before the others'

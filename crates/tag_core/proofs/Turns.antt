@@ -44,56 +44,37 @@ pub record Shows (c : ℕ) (q p : Place) (w a s h v : ℕ) : Type 0 where
   pub others_hold : (b : ℕ) → b ≢ c → held_bit b p ≡ held_bit b q
   pub others_sweep : (b : ℕ) → b ≢ c → sweep_bit b p ≡ sweep_bit b q
 
+-- such a move, by its parts in this order
+shown : {c : ℕ} {q p : Place} {w a s h v : ℕ} → word_bit p ≡ w → aside_bit p ≡ a → posted_bit p ≡ s → held_bit c p ≡ h
+    → sweep_bit c p ≡ v → ((b : ℕ) → b ≢ c → held_bit b p ≡ held_bit b q)
+    → ((b : ℕ) → b ≢ c → sweep_bit b p ≡ sweep_bit b q) → Shows c q p w a s h v
+shown ew ea es eh ev hold sweep_else = record {
+  word = ew;
+  aside = ea;
+  posted = es;
+  held = eh;
+  swept = ev;
+  others_hold = hold;
+  others_sweep = sweep_else;
+}
+
+-- what a place shows is read off where it stays
+pub unchanged : (c : ℕ) (q : Place) (w a s h v : ℕ) → word_bit q ≡ w → aside_bit q ≡ a → posted_bit q ≡ s
+    → held_bit c q ≡ h → sweep_bit c q ≡ v → Shows c q q w a s h v
+unchanged c q w a s h v ew ea es eh ev = shown ew ea es eh ev (λ b n. refl) (λ b n. refl)
+
 -- a place that stays shows the same
 pub stays : (c : ℕ) (q : Place) → Shows c q q (word_bit q) (aside_bit q) (posted_bit q) (held_bit c q) (sweep_bit c q)
-stays c q = record {
-  word = refl;
-  aside = refl;
-  posted = refl;
-  held = refl;
-  swept = refl;
-  others_hold = λ b n. refl;
-  others_sweep = λ b n. refl;
-}
+stays c q = unchanged c q _ _ _ _ _ refl refl refl refl refl
 
 -- bit x of a claim's mask, where the place shows w
 pub claims : (c : ℕ) (q : Place) (x : ℕ) → x < 2 →
     Shows c q (pick (min x (1 - word_bit q)) (held c) q) (max (word_bit q) x) (aside_bit q) (posted_bit q)
     (max (held_bit c q) (min x (1 - word_bit q))) (sweep_bit c q)
 claims c free zero h = stays c free
-claims c free (suc zero) h =
-    record {
-      word = refl;
-      aside = refl;
-      posted = refl;
-      held = same c;
-      swept = refl;
-      others_hold =
-          λ b n. apart c b n;
-      others_sweep = λ b n. refl;
-    }
-claims c (held d) zero h =
-    record {
-      word = refl;
-      aside = refl;
-      posted = refl;
-      held = omega arith;
-      swept = refl;
-      others_hold =
-          λ b n. refl;
-      others_sweep = λ b n. refl;
-    }
-claims c (held d) (suc zero) h =
-    record {
-      word = refl;
-      aside = refl;
-      posted = refl;
-      held = omega arith;
-      swept = refl;
-      others_hold =
-          λ b n. refl;
-      others_sweep = λ b n. refl;
-    }
+claims c free (suc zero) h = shown refl refl refl (same c) refl (apart c) (λ b n. refl)
+claims c (held d) zero h = unchanged c (held d) _ _ _ _ _ refl refl refl (omega arith) refl
+claims c (held d) (suc zero) h = unchanged c (held d) _ _ _ _ _ refl refl refl (omega arith) refl
 claims c posted zero h = stays c posted
 claims c posted (suc zero) h = stays c posted
 claims c aside zero h = stays c aside
@@ -107,43 +88,20 @@ pub gives : (c : ℕ) (q : Place) (x : ℕ) → x < 2 → (x ≡ 1 → q ≡ hel
     Shows c q (pick x free q) (min (word_bit q) (1 - x)) (aside_bit q) (posted_bit q)
     (min (held_bit c q) (1 - x)) (sweep_bit c q)
 gives c q zero h mine =
-    record {
-      word = omega (arith, word_small q);
-      aside = refl;
-      posted = refl;
-      held = omega
-          (arith, held_small c q);
-      swept = refl;
-      others_hold = λ b n. refl;
-      others_sweep = λ b n. refl;
-    }
+    unchanged c q _ _ _ _ _ (omega (arith, word_small q)) refl refl (omega (arith, held_small c q)) refl
 gives c q (suc zero) h mine = let e = sym (mine refl) in
     subst (λ (q : Place). Shows c q free (min (word_bit q) 0) (aside_bit q) (posted_bit q) (min (held_bit c q) 0)
     (sweep_bit c q)) e
-    record {
-      word = refl;
-      aside = refl;
-      posted = refl;
-      held = omega arith;
-      swept = refl;
-      others_hold = λ b n. sym
-          (apart c b n);
-      others_sweep = λ b n. refl;
-    }
+    (shown refl refl refl (omega arith) refl (λ b n. sym (apart c b n)) (λ b n. refl))
 gives c q (suc (suc x)) h mine = absurd (omega arith)
 
 -- the same, by equal numbers
 pub reshow : (c : ℕ) (q p p' : Place) (w w' a a' s s' h h' v v' : ℕ) → Shows c q p w a s h v → p ≡ p' → w ≡ w' → a ≡ a'
     → s ≡ s' → h ≡ h' → v ≡ v' → Shows c q p' w' a' s' h' v'
-reshow c q p p' w w' a a' s s' h h' v v' x ep ew ea es eh ev = record {
-  word = ap word_bit (sym ep) ∙ x.word ∙ ew;
-  aside = ap aside_bit (sym ep) ∙ x.aside ∙ ea;
-  posted = ap posted_bit (sym ep) ∙ x.posted ∙ es;
-  held = ap (held_bit c) (sym ep) ∙ x.held ∙ eh;
-  swept = ap (sweep_bit c) (sym ep) ∙ x.swept ∙ ev;
-  others_hold = λ b n. ap (held_bit b) (sym ep) ∙ x.others_hold b n;
-  others_sweep = λ b n. ap (sweep_bit b) (sym ep) ∙ x.others_sweep b n;
-}
+reshow c q p p' w w' a a' s s' h h' v v' x ep ew ea es eh ev = shown (ap word_bit (sym ep) ∙ x.word ∙ ew)
+    (ap aside_bit (sym ep) ∙ x.aside ∙ ea) (ap posted_bit (sym ep) ∙ x.posted ∙ es)
+    (ap (held_bit c) (sym ep) ∙ x.held ∙ eh) (ap (sweep_bit c) (sym ep) ∙ x.swept ∙ ev)
+    (λ b n. ap (held_bit b) (sym ep) ∙ x.others_hold b n) (λ b n. ap (sweep_bit b) (sym ep) ∙ x.others_sweep b n)
 
 -- a tag whose bit in the word is 0 is free
 pub free_from : (q : Place) → word_bit q ≡ 0 → q ≡ free
@@ -187,20 +145,6 @@ sweep_small a posted = omega arith
 sweep_small a aside = omega arith
 sweep_small a (sweep c) = one_small (nat_eq c a)
 
--- what a place shows is read off where it stays
-pub unchanged : (c : ℕ) (q : Place) (w a s h v : ℕ) → word_bit q ≡ w → aside_bit q ≡ a → posted_bit q ≡ s
-    → held_bit c q ≡ h → sweep_bit c q ≡ v → Shows c q q w a s h v
-unchanged c q w a s h v ew ea es eh ev =
-    record {
-      word = ew;
-      aside = ea;
-      posted = es;
-      held = eh;
-      swept = ev;
-      others_hold = λ b n. refl;
-      others_sweep = λ b n. refl;
-    }
-
 -- a held tag is set aside
 pub puts : (c : ℕ) (q : Place) (x : ℕ) → x < 2 → (x ≡ 1 → q ≡ held c)
     → Shows c q (pick x aside q) (word_bit q) (max (aside_bit q) x) (posted_bit q)
@@ -209,16 +153,7 @@ puts c q zero h mine = unchanged c q _ _ _ _ _ refl (omega arith) refl (omega (a
 puts c q (suc zero) h mine = let e = sym (mine refl) in
     subst (λ (q : Place). Shows c q aside (word_bit q) (max (aside_bit q) 1) (posted_bit q) (min (held_bit c q) 0)
     (sweep_bit c q)) e
-    record {
-      word = refl;
-      aside = refl;
-      posted = refl;
-      held = omega arith;
-      swept = refl;
-      others_hold = λ b n. sym
-          (apart c b n);
-      others_sweep = λ b n. refl;
-    }
+    (shown refl refl refl (omega arith) refl (λ b n. sym (apart c b n)) (λ b n. refl))
 puts c q (suc (suc x)) h mine = absurd (omega arith)
 
 -- a held tag is posted
@@ -229,16 +164,7 @@ posts c q zero h mine = unchanged c q _ _ _ _ _ refl refl (omega arith) (omega (
 posts c q (suc zero) h mine = let e = sym (mine refl) in
     subst (λ (q : Place). Shows c q posted (word_bit q) (aside_bit q) (max (posted_bit q) 1) (min (held_bit c q) 0)
     (sweep_bit c q)) e
-    record {
-      word = refl;
-      aside = refl;
-      posted = refl;
-      held = omega arith;
-      swept = refl;
-      others_hold = λ b n. sym
-          (apart c b n);
-      others_sweep = λ b n. refl;
-    }
+    (shown refl refl refl (omega arith) refl (λ b n. sym (apart c b n)) (λ b n. refl))
 posts c q (suc (suc x)) h mine = absurd (omega arith)
 
 -- a posted tag is taken
@@ -249,16 +175,7 @@ takes c q zero h its = unchanged c q _ _ _ _ _ refl refl (omega (arith, posted_s
 takes c q (suc zero) h its = let e = sym (its refl) in
     subst (λ (q : Place). Shows c q (held c) (word_bit q) (aside_bit q) (min (posted_bit q) 0) (max (held_bit c q) 1)
     (sweep_bit c q)) e
-    record {
-      word = refl;
-      aside = refl;
-      posted = refl;
-      held = same c;
-      swept = refl;
-      others_hold =
-          λ b n. apart c b n;
-      others_sweep = λ b n. refl;
-    }
+    (shown refl refl refl (same c) refl (apart c) (λ b n. refl))
 takes c q (suc (suc x)) h its = absurd (omega arith)
 
 -- a word's tags that are aside go into a sweep; x is 1 in the word
@@ -269,17 +186,7 @@ gathers c q zero h = unchanged c q _ _ _ _ _ refl (omega (arith, aside_small q))
 gathers c free (suc zero) h = stays c free
 gathers c (held d) (suc zero) h = stays c (held d)
 gathers c posted (suc zero) h = stays c posted
-gathers c aside (suc zero) h =
-    record {
-      word = refl;
-      aside = refl;
-      posted = refl;
-      held = refl;
-      swept = same c;
-      others_hold = λ b n. refl;
-      others_sweep =
-          λ b n. apart c b n;
-    }
+gathers c aside (suc zero) h = shown refl refl refl refl (same c) (λ b n. refl) (apart c)
 gathers c (sweep d) (suc zero) h = unchanged c (sweep d) _ _ _ _ _ refl refl refl refl (omega arith)
 gathers c q (suc (suc x)) h = absurd (omega arith)
 
@@ -296,16 +203,7 @@ spills c aside (suc zero) h = stays c aside
 spills c (sweep d) (suc zero) h = dite (ℕ_discrete d c)
     (λ (e : d ≡ c). let own : one_if (nat_eq d c) ≡ 1 = ap one_if (eq-eqb d c e) in
     reshow c (sweep d) free _ _ _ _ _ _ _ _ _ _ _
-    (record {
-      word = refl;
-      aside = refl;
-      posted = refl;
-      held = refl;
-      swept = refl;
-      others_hold = λ b n. refl;
-      others_sweep =
-          λ b n. sym (apart d b (λ z. n (z ∙ e)));
-    })
+    (shown refl refl refl refl refl (λ b n. refl) (λ b n. sym (apart d b (λ z. n (z ∙ e)))))
     (ap (λ (z : ℕ). pick z free (sweep d)) (sym own)) (omega arith) refl refl refl (omega arith))
     (λ (n : d ≢ c). let not : one_if (nat_eq d c) ≡ 0 = ap one_if (ne_eqb d c n) in
     reshow c (sweep d) (sweep d) _ _ _ _ _ _ _ _ _ _ _ (stays c (sweep d))

@@ -3,7 +3,9 @@ use Rattle.std.proofs.Common.{◌≡◌, ℕ, ◌<◌, List, map, replicate, len
 use mathlib.Core.Option.{some, none}
 use mathlib.Core.Option as maybe
 use lib.ListN.{length-replicate}
-use Rattle.tag_core.specs.Records.{tags_from, value_of}
+use Rattle.tag_core.specs.declared.caller.Caller.{Caller}
+use Rattle.tag_core.specs.Records.{tag_bit, tags_from, value_of}
+use Rattle.tag_core.specs.Callers.{Holds, slot_of}
 use Rattle.tag_core.proofs.Acts.{moves}
 
 -- each tag that is carried has a value
@@ -14,3 +16,8 @@ valued {S} f n cs tags u l has =
     let homes : List (maybe.Option S) = replicate n none in let long : length homes ≡ n = length-replicate n none in
     let k = moves S f f n homes cs (omega arith) tags (λ t low no is. absurd (no is)) in let w = k.kept u l has has in
     (w.0, w.1)
+
+-- each tag that a caller holds has one
+pub slot_held : {R : Type 0} (w : Caller R) (u : ℕ) → Holds w u → (v : R) × (slot_of w u ≡ some v)
+slot_held w u has =
+    valued (tag_bit w.shape.value.layout w.held.items) w.shape.value.layout.depth w.seat.me.1 w.carries u has.0 has.1

@@ -1,4 +1,4 @@
--- What tags that come back count and wake.
+-- What is counted for tags that are given back, and how many waiters are woken.
 use Rattle.std.proofs.Common.{◌≡◌, ℕ, List, ◌∷◌, refl, ap, ◌∙◌, subst, inl, inr, ⊎_elim}
 use Rattle.wake_book.specs.declared.book.Teller.{Teller}
 use Rattle.wake_book.specs.declared.groups.Waiter.{Waiter}
@@ -15,7 +15,7 @@ use Rattle.tag_queue.specs.declared.queue.Queue.{Queue}
 use Rattle.tag_queue.specs.Agents.{SameCounts, waiter_of, book_steps, group_steps, batch_of, cap_of}
 use Rattle.tag_queue.specs.Clears.{Follows, FindsNobody, Charges, Counts}
 
--- after a charge that was not won no step follows
+-- a charge that was not won is followed by no step
 pub follows_none : (batch : ℕ) (charge : Charge) (steps : List GroupStep) → ((start : ℕ) → charge ≡ Won start → ⊥)
     → Follows batch charge steps steps 0
 follows_none batch Full steps h = (refl, refl)
@@ -24,7 +24,7 @@ follows_none batch (Won start) steps h = absurd (h start refl)
 follows_none batch Busy steps h = (refl, refl)
 
 module _ {R : Type 0} (queue : Queue R) (n : ℕ) where
-  -- steps of the map alone before it change nothing of it
+  -- steps on the map alone, made before, change nothing about it
   pub counts_after : (old mid new : Agent R) (woken : ℕ) → SameCounts old mid → Counts queue n mid new woken
       → Counts queue n old new woken
   counts_after old mid new woken same c = record {

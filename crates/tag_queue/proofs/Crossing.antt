@@ -1,5 +1,5 @@
--- Where the slots' values may go to any thread, an agent and a queue may; where any thread may share them too,
--- threads may share a queue.
+-- Agents and queues may go to another thread if the slots' values may; threads that may share these values may share a
+-- queue.
 use denote.RattleType.{RattleType}
 use denote.Param.Send.{IsSend, IsSync, recorded_send, struct_send, recorded_sync, struct_sync, sendable}
 use denote.Struct.Declared.{shape as fields_of}

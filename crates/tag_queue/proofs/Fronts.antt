@@ -1,4 +1,4 @@
--- Lists of parts, as they come off the front one by one.
+-- Lists of parts that are taken from the front one by one.
 use Rattle.std.proofs.Common.{◌≡◌, ℕ, List, [], ◌∷◌, ◌++◌, map, length, append_assoc, refl, sym, ap, ◌∙◌, subst}
 use mathlib.Core.List.{map-append}
 use mathlib.Core.Option.{some}
@@ -9,7 +9,7 @@ module _ {A B : Type 0} (f : A → B) where
   at_middle [] x left = refl
   at_middle (a ∷ made) x left = at_middle made x left
 
-  -- the part that comes next is the one of the number that were made
+  -- the next part is the one whose place is the number of agents made so far
   pub at_next : (made : List A) (x : B) (left before all : List B) (n : ℕ) → map f made ++ before ≡ all
       → before ≡ x ∷ left → length made ≡ n
       → get_elem? all n ≡ some x
@@ -17,7 +17,7 @@ module _ {A B : Type 0} (f : A → B) where
       subst (λ (l : List B). get_elem? l n ≡ some x) (ap (λ (l : List B). map f made ++ l) (sym next) ∙ parts)
       (subst (λ (k : ℕ). get_elem? (map f made ++ x ∷ left) k ≡ some x) count (at_middle made x left))
 
-  -- and then one more is made
+  -- one more is made
   pub goes_on : (made more : List A) (a : A) (x : B) (left before all : List B)
       → map f made ++ before ≡ all → before ≡ x ∷ left
       → more ≡ made ++ a ∷ [] → f a ≡ x → map f more ++ left ≡ all

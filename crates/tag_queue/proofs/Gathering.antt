@@ -1,4 +1,4 @@
--- All agents come together: who is there, and the sums over them.
+-- All agents together: which are present, and the sums over them.
 use Rattle.std.proofs.Common.{◌≡◌, ℕ, ◌≤◌, List, [], ◌∷◌, map, arith, refl, sym, ap, ◌∙◌}
 use Rattle.step_ledger.specs.Views.{numbers, sum_over}
 use Rattle.step_ledger.specs.History.{total}
@@ -21,13 +21,13 @@ use Rattle.tag_queue.specs.Agents.{teller_of, waiter_of, numbers_of, records_of}
 use Rattle.tag_queue.specs.Gathering.{IsGathered}
 
 module _ {R : Type 0} where
-  -- what all moved is at most what all charged
+  -- all agents together moved at most as many waiters as they charged completions
   issued-le : (agents : List (Agent R)) → sum_over (total moved_by) (groups.records_of (map waiter_of agents))
       ≤ sum_over (total taken) (book.records_of (map teller_of agents))
   issued-le [] = omega arith
   issued-le (a ∷ agents) = let rest = issued-le agents in let own = a.wakes in omega arith
 
-  -- what all counted is at most what all gave back
+  -- all agents together counted at most as many completions as they gave back tags
   counted-le : (agents : List (Agent R)) → sum_over (total added) (book.records_of (map teller_of agents))
       ≤ total_of (λ (r : Record R). r.back) (records_of agents)
   counted-le [] = omega arith
@@ -50,7 +50,7 @@ module _ {R : Type 0} where
   waiter_numbers (a ∷ agents) = ap (λ (n : ℕ). n ∷ numbers_of agents) (sym a.numbers.2)
       ∙ ap (λ (l : List ℕ). groups.number_of a.waiter ∷ l) (waiter_numbers agents)
 
-  -- what the map, the book and the groups tell as they end
+  -- the totals of the map, the book and the groups make those of the queue
   pub gathers : (queue : Queue R) (agents : List (Agent R)) (closed : Closed R) (b : BookTotals) (g : GroupTotals)
       → tags.IsGathered queue.map.shape (records_of agents) closed
       → IsBooked (book.limits_of queue.book) (book.records_of (map teller_of agents)) b

@@ -13,7 +13,7 @@ steps_after : {R : Type 0} (steps : List WordStep) (r : Record R)
 steps_after [] r = omega arith
 steps_after (x ∷ steps) r = let h = steps_after steps (record_after (Word x) r) in omega arith
 
--- a get's steps are few
+-- a get adds at most this many steps
 pub few_steps : {R : Type 0} {fact : List WordStep → Type 0} {old new : Caller R} (most : ℕ)
     → ((steps : List WordStep) → fact steps → length steps ≤ most)
     → Makes old new fact → length (record_of new).steps ≤ most + length (record_of old).steps

@@ -1,4 +1,4 @@
--- Tags that are given back one after another, a mask for those of one word.
+-- Tags that are freed one after another, with one mask for successive tags of a word.
 use Rattle.std.proofs.Common.{◌≡◌, ◌≢◌, ℕ, ◌+◌, ◌/◌, ◌%◌, ◌^◌, ◌<◌, ◌≤◌, ◌↔◌, max, List, [], ◌∷◌, ◌++◌, length, length-append, take, get_or, bit_or, count_ones, refl, sym, ap, ◌∙◌, subst, ⊎_elim, eq-eqb, ne_eqb, arith}
 use mathlib.Core.Logic.{dite}
 use native.Mathlib.Decide.{ℕ_discrete}
@@ -27,7 +27,7 @@ use Rattle.tag_core.proofs.TagBits.{among_here, among_else, among_small, only_am
 use Rattle.tag_search.proofs.Claims.{count_ones-pow}
 use Rattle.tag_queue.specs.Batches.{Run, AreRuns, EndsElsewhere, GivesAll, record_after_runs}
 
--- one more bit is one more, in a word of any width
+-- setting one more bit adds one to the number of set bits, in a word of any width
 one_bit_more : (width mask p : ℕ) → mask < 2 ^ width → p < width → bit_at mask p ≡ 0
     → count_ones (bit_or mask (2 ^ p)) ≡ count_ones mask + 1
 one_bit_more width mask p fits low none =
@@ -41,12 +41,12 @@ one_bit_more width mask p fits low none =
     (λ (e : j ≡ p). let z : bit_at mask j ≡ 0 = ap (bit_at mask) e ∙ none in omega arith)
     (λ (ne : j ≢ p). let z = bit_at-pow_other p j ne in omega arith)) in omega arith
 
--- one more bit is one more
+-- setting one more bit adds one to the number of set bits
 pub ones_more : (mask p : ℕ) → mask < 2 ^ 64 → p < 64 → bit_at mask p ≡ 0
     → count_ones (bit_or mask (2 ^ p)) ≡ count_ones mask + 1
 ones_more mask p fits low none = one_bit_more 64 mask p fits low none
 
--- a number that differs from those before it is none of them
+-- an entry that differs from those before it is not among them
 pub not_before : (tags : List ℕ) (i : ℕ) → i < length tags → AllPairs (λ a b. a ≢ b) tags
     → ¬ (Contains (take i tags) (get_or tags i 0))
 not_before tags i within differ c =
@@ -58,7 +58,7 @@ pub none_in : (t : ℕ) → ¬ (Contains [] t)
 none_in t c = let w = c.1 in absurd (omega arith)
 
 module _ (k : Shape) (narrow : k.layout.shift ≤ 6) where
-  -- the mask of this word has the bits of these tags, and no other
+  -- the mask of this word has exactly the bits of these tags
   abbrev pub IsMaskOf : List ℕ → ℕ → ℕ → Type 0
   IsMaskOf tags word mask = (t : ℕ) → (among k.layout.shift word mask t ≡ 1) ↔ Contains tags t
 
@@ -71,7 +71,7 @@ module _ (k : Shape) (narrow : k.layout.shift ≤ 6) where
       (λ e. let a = among_else k narrow i m t e in let b = among_else k narrow i n t e in
       let c = among_else k narrow i (bit_or m n) t e in omega arith)
 
-  -- no tag is in an empty mask
+  -- the empty mask is that of no tags
   pub mask_of_none : (word : ℕ) → IsMaskOf [] word 0
   mask_of_none word t = (
     (λ a. dite (ℕ_discrete (t / 2 ^ k.layout.shift) word)
@@ -87,7 +87,7 @@ module _ (k : Shape) (narrow : k.layout.shift ≤ 6) where
   only_else : (t u : ℕ) → t ≢ u → only t u ≡ 0
   only_else t u e = ap one_if (ne_eqb t u e)
 
-  -- a mask of one tag
+  -- the mask of one tag
   pub mask_of_one : (u : ℕ) → IsMaskOf (u ∷ []) (word_of k.layout u) (2 ^ place_of k.layout u)
   mask_of_one u t = (
     (λ a. let e : t ≡ u = only_is k narrow t u (only_among k narrow u t ∙ a) in
@@ -97,7 +97,7 @@ module _ (k : Shape) (narrow : k.layout.shift ≤ 6) where
         sym (only_among k narrow u t) ∙ only_here t u (sym e)),
   )
 
-  -- a mask and one tag more of its word
+  -- the mask of some tags and one more tag of the same word
   pub mask_of_more : (tags : List ℕ) (word mask u : ℕ) → word ≡ word_of k.layout u → IsMaskOf tags word mask
       → IsMaskOf (tags ++ u ∷ []) word (bit_or mask (2 ^ place_of k.layout u))
   mask_of_more tags word mask u here is t =
@@ -127,7 +127,7 @@ module _ (k : Shape) (narrow : k.layout.shift ≤ 6) where
       let ne : bit_at mask (place_of k.layout u) ≢ 1 = λ e. other ((is u).0 (sym a ∙ e)) in omega arith
 
 module _ {R : Type 0} (map : Map R) (old now next : Caller R) where
-  -- one run more is given back
+  -- one more run is freed
   abbrev pub gives_more : (done run : List ℕ) (word mask found : ℕ) → 1 ≤ length run
       → IsMaskOf map.shape map.small.1 run word mask → (given : GivesAll map.shape.layout done old now)
       → EndsElsewhere word given.runs
@@ -153,7 +153,7 @@ module _ {R : Type 0} (map : Map R) (old now next : Caller R) where
         same_map = adds.same_map ∙ given.same_map;
       }
 
--- an empty list takes no step
+-- freeing an empty list takes no step
 abbrev pub gives_none : {R : Type 0} (l : Layout) (caller : Caller R) → GivesAll l [] caller caller
 gives_none l caller = record {
   less = record { gone = λ t n h. none_in t n; kept = λ t n h. (h, refl); none_else = λ t h. h };
@@ -163,7 +163,7 @@ gives_none l caller = record {
   same_map = refl;
 }
 
--- the runs of a list are no more than its tags
+-- a list has at most as many runs as tags
 runs_few : (l : Layout) (tags : List ℕ) (runs : List Run) → AreRuns l tags runs → length runs ≤ length tags
 runs_few l tags [] cut = omega arith
 runs_few l tags (run ∷ runs) cut =
@@ -176,14 +176,14 @@ steps_after : {R : Type 0} (runs : List Run) (r : Record R)
 steps_after [] r = omega arith
 steps_after (run ∷ runs) r = let h = steps_after runs r in omega arith
 
--- a list takes at most a step for each of its tags
+-- freeing a list takes at most one step for each tag
 pub few_gives : {R : Type 0} (l : Layout) (tags : List ℕ) (old new : Caller R) → GivesAll l tags old new
     → length (record_of new).steps ≤ length tags + length (record_of old).steps
 few_gives l tags old new gives =
     let few = runs_few l tags gives.runs gives.cut in let e = ap (λ (r : Record _). length r.steps) gives.known in
     let long = steps_after gives.runs (record_of old) in omega arith
 
--- and leaves its caller's number and map
+-- and leaves the caller's number and map unchanged
 pub same_number : {R : Type 0} (runs : List Run) (r : Record R) → (record_after_runs runs r).number ≡ r.number
 same_number [] r = refl
 same_number (run ∷ runs) r = same_number runs r

@@ -1,4 +1,4 @@
--- All callers settle, and go on with a next map.
+-- All callers settle, and then continue on a next map.
 use Rattle.std.proofs.Common.{◌≡◌, List, map, arith, sym, ap, ◌∙◌, subst}
 use Rattle.tag_model.specs.declared.totals.Totals.{Totals}
 use Rattle.tag_core.specs.declared.caller.Caller.{Caller}
@@ -12,24 +12,24 @@ use Rattle.tag_core.specs.Histories.{steps_by}
 use Rattle.tag_core.specs.Reopening.{AreReopened, GoesOnFrom, LeadsOn, reopened_record}
 use Rattle.tag_core.specs.Settling.{AreSettled}
 use Rattle.tag_core.proofs.Entries.{entry}
-use Rattle.tag_core.proofs.Seats.{within}
+use Rattle.step_ledger.proofs.Seats.{within}
 use Rattle.tag_core.proofs.Settlings.{unchanged-records}
 use Rattle.tag_queue.specs.Resizing.{GoesOnAfter}
 use Rattle.tag_queue.specs.Using.{posted_in, NoneInUse}
 
 module _ {R : Type 0} where
-  -- what the totals say of tags in use is a sum over the records
+  -- the totals of tags in use are sums over the records
   pub posted_is : (k : Shape) (rs : List (Record R)) (totals : Totals) → AreSettled k rs totals
       → totals.posted ≡ posted_in rs
   posted_is k rs totals known =
       let a = known.got in let b = known.back in let d = known.held in let even = known.balance in omega arith
 
-  -- where none is in use, the totals say so
+  -- if no tag is in use, the totals are 0
   pub none_used : (k : Shape) (rs : List (Record R)) (totals : Totals) → AreSettled k rs totals → NoneInUse rs
       → (totals.held ≡ 0) × (totals.posted ≡ 0)
   none_used k rs totals known none = (known.held ∙ none.0, posted_is k rs totals known ∙ none.1)
 
-  -- callers that are as they were, and then go on, go on
+  -- a move of unchanged callers is a move of the callers before
   pub reopened_after : (m : Map R) (olds mids news : List (Caller R)) → AreUnchanged olds mids → AreReopened m mids news
       → AreReopened m olds news
   reopened_after m olds mids news same on = record {
@@ -40,7 +40,7 @@ module _ {R : Type 0} where
         (went.0, went.1 ∙ ap (reopened_record m.shape) (same.each n a mid.0 p mid.1).known);
   }
 
-  -- the list of each stands in the history that led on
+  -- each caller's list is part of the history that leads to the next map
   pub leads_after : (old next : Map R) (olds mids : List (Caller R)) → AreUnchanged olds mids → LeadsOn old mids next
       → LeadsOn old olds next
   leads_after old next olds mids same on = record {
@@ -63,7 +63,7 @@ module _ {R : Type 0} where
         let posted : t.posted ≡ u.posted = posted_is k rs t known ∙ sym (posted_is k rs u told) in
         λ j. record { got = got j; back = back j; held = held j; posted = posted j }
 
-  -- the history that showed these callers shows them as they settled, and the next map goes on from it
+  -- the history that accounts for these callers accounts for them as they settled, and the next map continues it
   pub goes_on_after : (s : Settled R) (old : Map R) (callers : List (Caller R)) (next : Shape)
       → s.tags ≡ old → AreUnchanged callers s.callers.items
       → AreSettled s.tags.shape (map record_of s.callers.items) s.totals

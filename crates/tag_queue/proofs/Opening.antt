@@ -1,4 +1,4 @@
--- A new queue: its parts fit together.
+-- The parts of a new queue fit together.
 use Rattle.std.proofs.Common.{◌≡◌, ℕ, zero, suc, ◌+◌, ◌<◌, List, [], ◌∷◌, map, length, arith, refl, sym, ap, ◌∙◌, subst}
 use Rattle.std.specs.Prelude.{All}
 use Rattle.std.proofs.lemmas.List.{length-map, get_or-map}
@@ -40,7 +40,7 @@ module _ {T : Type 0} where
   fresh_at c (suc n) (suc i) r e = fresh_at (suc c) n i r e
       ∙ ap fresh_record (let z : suc c + i ≡ c + suc i = omega arith in z)
 
-  -- as many members as records, where these are fresh
+  -- there are as many members as fresh records
   pub fresh_count : {A : Type 0} (f : A → Record T) (xs : List A) (n : ℕ) → map f xs ≡ fresh 0 n → length xs ≡ n
   fresh_count f xs n e = sym (length-map xs f) ∙ ap length e ∙ fresh_length T 0 n
 
@@ -55,7 +55,7 @@ there [] i x e = absurd (some-ne-none x (sym e))
 there (y ∷ xs) zero x e = omega arith
 there (y ∷ xs) (suc i) x e = let h = there xs i x e in omega arith
 
--- of the images of all, and so of all
+-- what holds of all images holds of the image of each entry
 all-map : {A B : Type 0} (P : B → Type 0) (f : A → B) (xs : List A) → All P (map f xs) → All (λ x. P (f x)) xs
 all-map P f xs h k d l = subst P (get_or-map f xs k d (f d) l) (h k (f d) (let z = length-map xs f in omega arith))
 
@@ -80,7 +80,7 @@ module _ {R : Type 0} where
         wakes = omega arith;
       }
 
-  -- and its agents are its own
+  -- and its agents belong to it
   pub own_all : (m : Map R) (b : Book) (s : Groups) (agents : List (Agent R)) (callers : List (Caller R))
       (tellers : List Teller) (waiters : List Waiter)
       → AreParts agents callers tellers waiters → All (IsCallerOf m) callers → All (book.IsTellerOf b) tellers

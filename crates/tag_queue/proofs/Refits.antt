@@ -1,4 +1,4 @@
--- Agents whose callers went apart, and came back or on.
+-- Agents whose callers were taken out, and were returned or moved to the next map.
 use Rattle.std.proofs.Common.{◌≡◌, ℕ, suc, ◌<◌, ◌≤◌, List, [], ◌∷◌, map, length, arith, refl, sym, ap, ◌∙◌, subst}
 use Rattle.std.specs.Prelude.{All}
 use Rattle.std.proofs.lemmas.List.{length-map}
@@ -35,7 +35,7 @@ use Rattle.tag_queue.proofs.Opening.{own_all}
 use Rattle.tag_queue.proofs.Unchanged.{agent_same}
 
 module _ {R : Type 0} where
-  -- the caller can take the place of the agent's own
+  -- the caller can replace the agent's own
   pub record Serves (agent : Agent R) (caller : Caller R) : Type 0 where
     pub number : (record_of caller).number ≡ agent.number
     pub below : agent.number < (record_of caller).shape.callers
@@ -45,7 +45,7 @@ module _ {R : Type 0} where
   AllServe agents callers = (n : ℕ) (a : Agent R) (c : Caller R) → get_elem? agents n ≡ some a
       → get_elem? callers n ≡ some c → Serves a c
 
-  -- such callers fit what is left of the agents
+  -- such callers fit the agents' shells
   pub fit_shells : (agents : List (Agent R)) (callers : List (Caller R)) → length callers ≡ length agents
       → AllServe agents callers
       → FitShells callers (map shell_of agents)
@@ -64,7 +64,7 @@ module _ {R : Type 0} where
     fit_shells agents callers (omega arith) (λ n x y p q. serve (suc n) x y p q),
   )
 
-  -- callers that are as they were can
+  -- unchanged callers can replace the agents' own
   pub same_serve : (agents : List (Agent R)) (callers : List (Caller R))
       → core.AreUnchanged (map caller_of agents) callers → AllServe agents callers
   same_serve agents callers same n a c p q =
@@ -74,7 +74,7 @@ module _ {R : Type 0} where
         back = ap (λ (r : Record R). r.back) known;
       }
 
-  -- and so can those that went on
+  -- and so can callers that moved to the next map
   pub moved_serve : (old next : Map R) (layout : Layout) (agents : List (Agent R)) (callers : List (Caller R))
       → All (IsCallerOf old) (map caller_of agents)
       → IsNext layout old.shape next.shape → AreReopened next (map caller_of agents) callers → AllServe agents callers
@@ -90,18 +90,18 @@ module _ {R : Type 0} where
       }
 
   module _ (agents news : List (Agent R)) (shells : map shell_of news ≡ map shell_of agents) where
-    -- as many agents as before
+    -- there are as many agents as before
     count_same : length news ≡ length agents
     count_same = sym (length-map news shell_of) ∙ ap length shells ∙ length-map agents shell_of
 
-    -- an agent's shell is what it was
+    -- each agent's shell is unchanged
     shell_same : (n : ℕ) (a b : Agent R) → get_elem? agents n ≡ some a → get_elem? news n ≡ some b
         → shell_of b ≡ shell_of a
     shell_same n a b p q = some-injective (shell_of b) (shell_of a)
         (sym (at_map shell_of news n b q) ∙ ap (λ (l : List Shell). get_elem? l n) shells
         ∙ at_map shell_of agents n a p)
 
-    -- agents whose callers are as they were are as they were
+    -- agents whose callers are unchanged are unchanged
     pub agents_same : (callers : List (Caller R)) → map caller_of news ≡ callers
         → core.AreUnchanged (map caller_of agents) callers → AreUnchanged agents news
     agents_same callers is same = record {
@@ -138,7 +138,7 @@ module _ {R : Type 0} where
     pub numbers_same : numbers_of news ≡ numbers_of agents
     numbers_same = part_same (λ (s : Shell). s.number)
 
-    -- they are a queue's own where their callers are its map's, and its book and groups are those that were
+    -- the agents belong to a queue if their callers belong to its map, and its book and groups are the same as before
     pub own_again : (queue : Queue R) (m : Map R) (b : Book) (s : Groups) (callers : List (Caller R))
         → All (IsAgentOf queue) agents
         → map caller_of news ≡ callers → All (IsCallerOf m) callers → b.table ≡ queue.book.table → s ≡ queue.groups
@@ -151,7 +151,7 @@ module _ {R : Type 0} where
         (All-map (groups.IsWaiterOf s) waiter_of agents (λ k d l. (own k d l).2
         ∙ ap (λ (z : Groups). z.table.shared.table_id) (sym all)))
 
-    -- what a resize leaves, where the callers moved on and the rest was kept
+    -- the queue is resized if the callers moved to the next map and the rest was kept
     pub is_resized : (old new : Queue R) (depth : ℕ) (layout : Layout) (callers : List (Caller R))
         → All (IsAgentOf old) agents
         → map caller_of news ≡ callers → layout ≡ layout_at old depth
@@ -171,18 +171,18 @@ module _ {R : Type 0} where
         }
 
 module _ {R : Type 0} (queue : Queue R) (agents : List (Agent R)) where
-  -- the agents' callers are the map's own
+  -- the agents' callers belong to the map
   pub callers_own : All (IsAgentOf queue) agents → All (IsCallerOf queue.map) (map caller_of agents)
   callers_own own = All-map (IsCallerOf queue.map) caller_of agents (λ k d l. (own k d l).0)
 
-  -- and are there where the agents are
+  -- and all callers are present if all agents are
   pub callers_there : (count : ℕ) → HasAll (numbers_of agents) count
       → HasAll (tags.numbers_of (map caller_of agents)) count
   callers_there count = subst (λ (l : List ℕ). HasAll l count) (caller_numbers agents
       ∙ numbers-records (map caller_of agents))
 
 module _ {R : Type 0} (queue : Queue R) where
-  -- the queue with this map
+  -- the queue with this map in place of its own
   abbrev with_map : (m : Map R) → book.batch_of queue.book ≡ queue.batch
       → (1 ≤ queue.batch) × (queue.batch ≤ 8) × (1 ≤ queue.least)
       → (book.tellers_of queue.book ≡ m.shape.callers) × (groups.waiters_of queue.groups ≡ m.shape.callers)
@@ -201,7 +201,7 @@ module _ {R : Type 0} (queue : Queue R) where
     as_many = a;
   }
 
-  -- with its own it is the same queue
+  -- with its own map it is the same queue
   pub same_queue : (m : Map R) → m ≡ queue.map → (b : book.batch_of queue.book ≡ queue.batch)
       (n : (1 ≤ queue.batch) × (queue.batch ≤ 8) × (1 ≤ queue.least))
       (a : (book.tellers_of queue.book ≡ m.shape.callers) × (groups.waiters_of queue.groups ≡ m.shape.callers)
@@ -220,13 +220,13 @@ module _ {R : Type 0} (queue : Queue R) (agents : List (Agent R)) (own : All (Is
     on_here : MoveOn layout queue.map (map caller_of agents) next callers
     on_here = subst (λ (z : List (Caller R)). MoveOn layout queue.map z next callers) apart on
 
-    -- callers that moved on fit what is left of the agents
+    -- callers that moved to the next map fit the agents' shells
     pub fit_moved : FitShells callers shells
     fit_moved = subst (FitShells callers) (sym left) (fit_shells agents callers
         (on_here.callers.count ∙ length-map agents caller_of)
         (moved_serve queue.map next layout agents callers (callers_own queue agents own) on_here.next on_here.callers))
 
-    -- and the agents go on with them
+    -- and with them the agents are resized
     pub resized_here : (new : Queue R) (news : List (Agent R)) → next ≡ new.map → map caller_of news ≡ callers
         → map shell_of news ≡ shells
         → layout.shift ≡ (layout_of queue).shift → KeepsRest queue new → IsResized queue agents layout.depth new news
@@ -239,7 +239,7 @@ module _ {R : Type 0} (queue : Queue R) (agents : List (Agent R)) (own : All (Is
     same_here : core.AreUnchanged (map caller_of agents) callers
     same_here = subst (λ (z : List (Caller R)). core.AreUnchanged z callers) apart same
 
-    -- so do those that came back
+    -- callers that were returned fit the agents' shells, too
     pub fit_back : FitShells callers shells
     fit_back = subst (FitShells callers) (sym left) (fit_shells agents callers (same_here.count
         ∙ length-map agents caller_of)

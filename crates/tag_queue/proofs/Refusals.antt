@@ -1,4 +1,4 @@
--- No two of the causes hold at once, so a resize is refused for each exactly where it holds.
+-- No two causes of a refusal hold at once, so a resize is refused for each cause exactly if it holds.
 use Rattle.std.proofs.Common.{◌≡◌, ℕ, ◌<◌, ◌≤◌, List, arith, refl, sym, ap, ◌∙◌, subst, ⊎_elim, Ok, Err, Result}
 use Rattle.std.specs.Prelude.{◌↔◌, IfErr}
 use Rattle.std.proofs.lemmas.Bool.{cases_lt}
@@ -12,7 +12,7 @@ use Rattle.tag_queue.specs.declared.resizes.ResizeFault.{ResizeFault}
 use Rattle.tag_queue.specs.Agents.{numbers_of, agents_of}
 use Rattle.tag_queue.specs.Resizing.{HasMap, MayResize, AreUsed, AreWaiting, IsRefusedFor, IsRefusedAs}
 
--- one number is the least that is missing
+-- the least missing number is unique
 one_least : (ns : List ℕ) (count m n : ℕ) → IsLeastMissing ns count m → IsLeastMissing ns count n → m ≡ n
 one_least ns count m n first second = ⊎_elim
     (λ (below : m < n). absurd (first.1 (second.2 m below)))
@@ -20,7 +20,7 @@ one_least ns count m n first second = ⊎_elim
     (λ (below : n < m). absurd (second.1 (first.2 n below)))
     (λ (same : m ≤ n). omega arith) (cases_lt n m)) (cases_lt m n)
 
--- where all are there, none is missing
+-- if all are present, none is missing
 none_missing : (ns : List ℕ) (count n : ℕ) → HasAll ns count → IsLeastMissing ns count n → ⊥
 none_missing ns count n all least = least.1 (all n least.0)
 
@@ -70,7 +70,7 @@ module _ {R : Type 0} (queue : Queue R) (agents : List (Agent R)) (depth : ℕ) 
   is_waiting (Waiting count) is n fits some = ap Waiting (is.1.1 ∙ sym some.1)
   is_waiting Memory is n fits some = let none = is.2 in let count = some.1 in let least = some.2 in absurd (omega arith)
 
-  -- each refusal comes exactly for its cause, and that of memory only where nothing is in the way
+  -- each refusal is returned exactly for its cause, and the one for memory only if nothing else prevents the resize
   pub record AreTold (told : ResizeCause → Type 0) : Type 0 where
     pub missing : (n : ℕ) → told (Missing n) ↔ IsMissing n
     pub too_deep : told DepthTooLarge ↔ IsTooDeep
@@ -87,7 +87,7 @@ module _ {R : Type 0} (queue : Queue R) (agents : List (Agent R)) (depth : ℕ) 
     memory = λ e. subst Refused e is;
   }
 
-  -- nothing but memory is in the way
+  -- nothing but memory can prevent the resize
   pub told_free : {A : Type 0} (r : Result A (ResizeFault R)) → MayResize queue agents depth
       → IfErr r (λ fault. fault.cause ≡ Memory) → AreTold (IsRefusedAs r)
   told_free (Ok x) may memory = record {

@@ -1,4 +1,4 @@
--- Agents that settled, and are as they were, go on as those that were handed in.
+-- Agents are unchanged when they settle, so a resize of them is one of the agents passed in.
 use Rattle.std.proofs.Common.{◌≡◌, ℕ, suc, ◌<◌, ◌≤◌, List, [], ◌∷◌, map, arith, refl, sym, ap, ◌∙◌, subst, ⊎_elim, Ok, Err, Result}
 use Rattle.std.specs.Prelude.{◌↔◌, is_ok}
 use Rattle.std.proofs.lemmas.Bool.{cases_lt, false≢true}
@@ -10,7 +10,7 @@ use Rattle.tag_core.specs.declared.caller.Caller.{Caller}
 use Rattle.tag_core.specs.declared.record.Record.{Record}
 use Rattle.tag_core.specs.Callers as core
 use Rattle.tag_core.proofs.Entries.{entry, entry_of_map}
-use Rattle.tag_core.proofs.Seats.{within}
+use Rattle.step_ledger.proofs.Seats.{within}
 use Rattle.tag_queue.specs.declared.agent.Agent.{Agent}
 use Rattle.tag_queue.specs.declared.queue.Queue.{Queue}
 use Rattle.tag_queue.specs.declared.resizes.ResizeCause.{ResizeCause}
@@ -22,7 +22,7 @@ use Rattle.tag_queue.proofs.Gathering.{caller_numbers}
 use Rattle.tag_queue.proofs.NextMaps.{reopened_after, leads_after}
 use Rattle.tag_queue.proofs.Unchanged.{agent_same, unchanged-records}
 
--- a layout was made, so there is one of the depth
+-- a layout was made, so the depth is in range
 pub depth_fits : {L E : Type 0} (layout : L) (fault : E) (depth : ℕ)
     → ((◌≡◌ {A = Result L E} (Ok layout) (Err fault)) ↔ (MAX_DEPTH < depth))
     → depth ≤ MAX_DEPTH
@@ -30,7 +30,7 @@ depth_fits {L} {E} layout fault depth told = ⊎_elim
     (λ (deep : MAX_DEPTH < depth). absurd (false≢true (sym (ap (λ (r : Result L E). is_ok r) (told.1 deep)))))
     (λ (fits : depth ≤ MAX_DEPTH). fits) (cases_lt MAX_DEPTH depth)
 
--- tags in use, or agents that wait, refuse a resize to a depth that there is
+-- tags in use, or agents that wait, are causes to refuse a resize to a depth in range
 pub refused_for : {R : Type 0} (queue : Queue R) (agents : List (Agent R)) (depth : ℕ) (cause : ResizeCause)
     → HasMap queue agents depth
     → IsBusyFor agents cause → IsRefusedFor queue agents depth cause
@@ -44,7 +44,7 @@ module _ {R : Type 0} where
   one_refl : (a : Agent R) → IsUnchanged a a
   one_refl a = agent_same a a (record { known = refl; slots = λ tag. refl; same_map = refl }) (refl, (refl, refl))
 
-  -- agents are as they were
+  -- agents are unchanged from themselves
   pub unchanged-refl : (agents : List (Agent R)) → AreUnchanged agents agents
   unchanged-refl agents = record {
     count = refl;
@@ -69,7 +69,7 @@ module _ {R : Type 0} where
         one_trans a mid.0 c (first.each n a mid.0 p mid.1) (then.each n mid.0 c mid.1 q);
   }
 
-  -- so are their callers
+  -- the callers of unchanged agents are unchanged
   pub unchanged-callers : (olds news : List (Agent R)) → AreUnchanged olds news
       → core.AreUnchanged (map caller_of olds) (map caller_of news)
   unchanged-callers olds news same = record {
@@ -80,7 +80,7 @@ module _ {R : Type 0} where
         (same.each n a.0 b.0 a.1 b.1).caller;
   }
 
-  -- and their other parts
+  -- and so are their other parts
   part_same : {B : Type 0} (f : Agent R → B) → ((a b : Agent R) → IsUnchanged a b → f b ≡ f a)
       → (olds news : List (Agent R)) → AreUnchanged olds news
       → map f news ≡ map f olds
@@ -91,7 +91,7 @@ module _ {R : Type 0} where
       (λ j. is a b (same.each 0 a b refl refl) j
       ∷ part_same f is olds news record { count = omega arith; each = λ n x y p q. same.each (suc n) x y p q } j)
 
-  -- and their numbers
+  -- and so are their numbers
   pub unchanged-numbers : (olds news : List (Agent R)) → AreUnchanged olds news → numbers_of news ≡ numbers_of olds
   unchanged-numbers olds news same =
       caller_numbers news ∙ ap (λ (z : List (Record R)). numbers z) (unchanged-records olds news same)
@@ -103,7 +103,7 @@ module _ {R : Type 0} where
       → HasAll (numbers_of news) count
   unchanged-there olds news same count = subst (λ (z : List ℕ). HasAll z count) (sym (unchanged-numbers olds news same))
 
-  -- a resize of agents that are as they were is one of those that they were
+  -- a resize of unchanged agents is a resize of the agents before
   pub resized_from : (queue : Queue R) (olds mids : List (Agent R)) (depth : ℕ) (new : Queue R)
       (resized : List (Agent R)) → AreUnchanged olds mids
       → IsResized queue mids depth new resized → IsResized queue olds depth new resized

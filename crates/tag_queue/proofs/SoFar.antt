@@ -1,4 +1,4 @@
--- How far a list of tags is given back, tag by tag.
+-- How far a list of tags is freed, tag by tag.
 use Rattle.std.proofs.Common.{◌≡◌, ◌≢◌, ℕ, zero, suc, ◌+◌, ◌^◌, ◌<◌, ◌≤◌, ◌⊎◌, ◌++◌, List, [], ◌∷◌, length, length-append, take, get_or, bit_or, count_ones, append_assoc, IsTrue, refl, sym, ap, ◌∙◌, subst, inl, inr, ⊎_elim, arith}
 use Rattle.std.specs.Prelude.{Contains}
 use Rattle.std.proofs.lemmas.List.{take_more}
@@ -20,8 +20,8 @@ use Rattle.tag_search.proofs.SharedFacts.{count_ones-zero}
 use Rattle.tag_queue.specs.Batches.{AreHeldOnce, EndsElsewhere, GivesAll}
 use Rattle.tag_queue.proofs.Giving.{IsMaskOf, ones_more, not_before, none_in, mask_of_none, mask_of_one, mask_of_more, bit_of_other, gives_more, gives_none}
 
--- of the first so many tags all are given back but those of the last run, which are held still and stand in the mask
--- of their word
+-- of the first `count` tags, all are freed except those of the last run, which are still held and are in the mask of
+-- their word
 pub record SoFar {R : Type 0} (map : Map R) (tags : List ℕ) (count : ℕ) (old now : Caller R)
     (word mask : ℕ) : Type 0 where
   pub caller : IsCallerOf map now
@@ -44,7 +44,7 @@ take_all [] (suc i) h = refl
 take_all (x ∷ tags) zero h = absurd (omega arith)
 take_all (x ∷ tags) (suc i) h = ap (λ (l : List ℕ). x ∷ l) (take_all tags i (omega arith))
 
--- before the first tag nothing is given back
+-- before the first tag nothing is freed
 pub begins : {R : Type 0} (map : Map R) (tags : List ℕ) (old : Caller R) (word : ℕ) → IsCallerOf map old
     → word < words map.shape.layout
     → word ≡ word_of map.shape.layout (get_or tags 0 0) → SoFar map tags 0 old old word 0
@@ -69,11 +69,11 @@ module _ {R : Type 0} (map : Map R) (tags : List ℕ) (i : ℕ) (old now : Calle
   fits : mask < 2 ^ 64
   fits = small_word map.shape map.small.1 word mask so.within
 
-  -- a give of the mask is one of tags that are held
+  -- the tags in the mask are held, so the give is allowed
   pub gives_held : (t : ℕ) → t < map.shape.layout.depth → IsTrue (is_in_mask map.shape.layout word mask t) → Holds now t
   gives_held t l h = so.held t ((so.mask_is t).0 (among_one map.shape.layout word mask t h))
 
-  -- once the last run is given back, all of them are
+  -- once the last run is freed, all tags so far are
   module _ (next : Caller R) (found : ℕ) (adds : Adds (Word (Give word mask found)) now next)
       (less : Releases (IsInMask map.shape.layout word mask) now next) (some : 1 ≤ length so.run) where
     abbrev all_gives : GivesAll map.shape.layout (so.done ++ so.run) old next
@@ -142,7 +142,7 @@ module _ {R : Type 0} (map : Map R) (tags : List ℕ) (i : ℕ) (old now : Calle
       some = inl (let long = length-append so.run (u ∷ []) in omega arith);
     }
 
-    -- a tag of another word begins the next run, once the last is given back
+    -- a tag of another word begins the next run, once the last one is freed
     pub begins_run : (next : Caller R) (found : ℕ) → IsCallerOf map next → Adds (Word (Give word mask found)) now next
         → Releases (IsInMask map.shape.layout word mask) now next
         → word ≢ word_of map.shape.layout (get_or tags i 0)

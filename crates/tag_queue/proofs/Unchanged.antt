@@ -1,4 +1,4 @@
--- Agents that are as they were.
+-- Unchanged agents.
 use Rattle.std.proofs.Common.{◌≡◌, ℕ, suc, ◌+◌, ◌<◌, List, [], ◌∷◌, ◌++◌, length, arith, refl, sym, ap, ◌∙◌, subst, ⊎_elim, length-append, append_assoc}
 use Rattle.std.specs.Prelude.{◌↔◌, All, cond, is_some}
 use Rattle.std.proofs.lemmas.List.Elements.{All-push}
@@ -15,32 +15,22 @@ use Rattle.tag_core.specs.Callers.{record_of}
 use Rattle.tag_core.specs.Records.{tag_bit}
 use Rattle.tag_core.specs.Gathering.{numbers}
 use Rattle.tag_core.specs.Settling.{AreSettled}
-use Rattle.tag_core.proofs.Seats.{within, snoc_at}
+use Rattle.step_ledger.proofs.Seats.{pairs_more}
 use Rattle.tag_queue.specs.declared.agent.Agent.{Agent}
 use Rattle.tag_queue.specs.Agents.{caller_of, waiter_of, numbers_of, records_of, SameElse, IsUnchanged, AreUnchanged}
 use Rattle.wake_book.specs.Groups.{standing_of as standing_of_waiter}
 use Rattle.tag_queue.specs.Resizing.{standing_count}
+use Rattle.tag_queue.specs.Using.{held_in, posted_in}
+use Rattle.tag_queue.proofs.NextMaps.{posted_is}
 use Rattle.tag_queue.proofs.Gathering.{caller_numbers}
 
 module _ {R : Type 0} where
-  -- one agent more is as it was
+  -- one more agent is unchanged
   pub unchanged-more : (olds news : List (Agent R)) (a b : Agent R) → AreUnchanged olds news → IsUnchanged a b
       → AreUnchanged (olds ++ a ∷ []) (news ++ b ∷ [])
   unchanged-more olds news a b same one = record {
     count = length-append news (b ∷ []) ∙ ap (λ (z : ℕ). z + 1) same.count ∙ sym (length-append olds (a ∷ []));
-    each = λ n x y e f. ⊎_elim
-        (λ (old : get_elem? olds n ≡ some x). ⊎_elim
-        (λ (new : get_elem? news n ≡ some y). same.each n x y old new)
-        (λ (t : (n ≡ length news) × (b ≡ y)).
-        let low = within olds n x old in let long = same.count in let here = t.0 in absurd (omega arith))
-        (snoc_at news b y n f))
-        (λ (t : (n ≡ length olds) × (a ≡ x)). ⊎_elim
-        (λ (new : get_elem? news n ≡ some y).
-        let low = within news n y new in let long = same.count in let here = t.0 in absurd (omega arith))
-        (λ (u : (n ≡ length news) × (b ≡ y)).
-        subst (λ (z : Agent R × Agent R). IsUnchanged z.0 z.1) (λ j. (t.1 j, u.1 j)) one)
-        (snoc_at news b y n f))
-        (snoc_at olds a x n e);
+    each = pairs_more IsUnchanged olds news a b same.count same.each one;
   }
 
   -- a caller with the same record holds the same tags
@@ -50,7 +40,7 @@ module _ {R : Type 0} where
       let P : Record R → Type 0 = λ r. (tag < r.shape.layout.depth) × (tag_bit r.shape.layout r.held tag ≡ 1) in
       (subst P e, subst P (sym e))
 
-  -- an agent whose caller is as it was, and whose other parts were not touched
+  -- an agent is unchanged if its caller is, and its other parts are the same
   pub agent_same : (old new : Agent R) → core.IsUnchanged (caller_of old) (caller_of new)
       → SameElse old new → IsUnchanged old new
   agent_same old new one else = record {
@@ -59,12 +49,12 @@ module _ {R : Type 0} where
     same_else = else;
   }
 
-  -- what holds of all holds once one more is pushed
+  -- what holds of all agents still holds once one more is pushed
   pub all_pushed : (P : Agent R → Type 0) (news rest : List (Agent R)) (back : Agent R) → news ≡ rest ++ back ∷ []
       → All P rest → P back → All P news
   all_pushed P news rest back pushed all one = subst (All P) (sym pushed) (All-push P rest back all one)
 
-  -- the last agent came off the end, and stands there again
+  -- the last agent was taken off the end, and is there again
   pub unchanged-back : (olds front news rest : List (Agent R)) (last back : Agent R) → olds ≡ front ++ last ∷ []
       → news ≡ rest ++ back ∷ []
       → AreUnchanged front rest → IsUnchanged last back → AreUnchanged olds news
@@ -72,7 +62,7 @@ module _ {R : Type 0} where
       subst (λ (z : List (Agent R) × List (Agent R)). AreUnchanged z.0 z.1) (λ j. (sym taken j, sym pushed j))
       (unchanged-more front rest last back same one)
 
-  -- agents that are as they were have the records that they had
+  -- unchanged agents have the same records
   pub unchanged-records : (olds news : List (Agent R)) → AreUnchanged olds news → records_of news ≡ records_of olds
   unchanged-records [] [] same = refl
   unchanged-records [] (b ∷ news) same = let e = same.count in absurd (omega arith)
@@ -80,6 +70,15 @@ module _ {R : Type 0} where
   unchanged-records (a ∷ olds) (b ∷ news) same = let e = same.count in
       (λ j. (same.each 0 a b refl refl).caller.known j
       ∷ unchanged-records olds news record { count = omega arith; each = λ n x y p q. same.each (suc n) x y p q } j)
+
+  -- what was counted of them is what was there before
+  pub counted : (k : Shape) (olds news : List (Agent R)) (totals : Totals) → AreUnchanged olds news
+      → AreSettled k (records_of news) totals
+      → (totals.held ≡ held_in (records_of olds)) × (totals.posted ≡ posted_in (records_of olds))
+  counted k olds news totals same settled = let back = unchanged-records olds news same in (
+    settled.held ∙ ap (λ (z : List (Record R)). held_in z) back,
+    posted_is k (records_of news) totals settled ∙ ap (λ (z : List (Record R)). posted_in z) back,
+  )
 
   abbrev standing : List (Agent R) → ℕ
   standing [] = 0
@@ -100,12 +99,12 @@ module _ {R : Type 0} where
   standing-count : (agents : List (Agent R)) → standing agents ≡ standing_count agents
   standing-count = is_count_by standing (λ agent. is_some (standing_of_waiter (waiter_of agent))) refl (λ x xs. refl)
 
-  -- as many of them stand in a group
+  -- as many unchanged agents are in a wait group
   pub unchanged-standing : (olds news : List (Agent R)) → AreUnchanged olds news
       → standing_count news ≡ standing_count olds
   unchanged-standing olds news same = sym (standing-count news) ∙ standing_same olds news same ∙ standing-count olds
 
-  -- as many records as agents
+  -- there are as many records as agents
   pub length-records : (agents : List (Agent R)) → length (records_of agents) ≡ length agents
   length-records [] = refl
   length-records (a ∷ agents) = ap suc (length-records agents)
@@ -128,17 +127,17 @@ module _ {R : Type 0} (olds front news rest : List (Agent R)) (last back : Agent
   all_records = ap (λ (z : List (Agent R)). records_of z) taken ∙ records-append front (last ∷ [])
       ∙ ap (λ (z : List (Record R)). records_of front ++ z) (sym came)
 
-  -- so none is missing
+  -- so no agent is missing
   pub all_numbers : (count : ℕ) → HasAll (numbers_of olds) count → HasAll (numbers (records_of front ++ rs)) count
   all_numbers count all = subst (λ (z : List ℕ). HasAll z count)
       (caller_numbers olds ∙ ap (λ (z : List (Record R)). numbers z) all_records) all
 
   module _ (one : IsUnchanged last back) (same : AreUnchanged front rest) (pushed : news ≡ rest ++ back ∷ []) where
-    -- each is as it was
+    -- each agent is unchanged
     pub all_same : AreUnchanged olds news
     all_same = unchanged-back olds front news rest last back taken pushed same one
 
-    -- and their records are those that one history showed
+    -- and their records are those for which one history accounts
     pub all_settled : (k : Shape) (totals : Totals) → AreSettled k (records_of front ++ rs) totals
         → AreSettled k (records_of news) totals
     all_settled k totals = subst (λ (z : List (Record R)). AreSettled k z totals)

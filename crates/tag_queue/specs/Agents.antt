@@ -1,4 +1,4 @@
--- What contracts see of a queue and of its agents.
+-- The terms in which contracts speak about a queue and its agents.
 use Rattle.std.specs.Prelude.{◌≡◌, ℕ, ◌+◌, ◌↔◌, List, length, map, Option}
 use mathlib.Core.Option as maybe
 use mathlib.Core.Option.{some}
@@ -23,7 +23,7 @@ use Rattle.tag_queue.specs.declared.queue.Queue.{Queue}
 abbrev pub layout_of : {R : Type 0} → Queue R → Layout
 layout_of queue = core.layout_of queue.map
 
--- the completions that one charge takes
+-- how many completions one charge takes
 abbrev pub batch_of : {R : Type 0} → Queue R → ℕ
 batch_of queue = book.batch_of queue.book
 
@@ -31,19 +31,19 @@ batch_of queue = book.batch_of queue.book
 abbrev pub cap_of : {R : Type 0} → Queue R → ℕ
 cap_of queue = book.cap_of queue.book
 
--- the least depth of a shallow get
+-- the minimum shallow depth in force, at least 1
 abbrev pub least_of : {R : Type 0} → Queue R → ℕ
 least_of queue = queue.least
 
--- the least depth of a shallow get as it was asked for
+-- the minimum shallow depth as the options gave it
 abbrev pub min_shallow_of : {R : Type 0} → Queue R → Option ℕ
 min_shallow_of queue = queue.min_shallow
 
--- with what each slot begins
+-- the initial value of each slot
 abbrev pub fill_of : {R : Type 0} → Queue R → R
 fill_of queue = queue.fill
 
--- the agent is one of the queue's own
+-- the agent belongs to the queue
 abbrev pub IsAgentOf : {R : Type 0} → Queue R → Agent R → Type 0
 IsAgentOf queue agent = core.IsCallerOf queue.map agent.caller × book.IsTellerOf queue.book agent.teller
     × groups.IsWaiterOf queue.groups agent.waiter
@@ -60,7 +60,7 @@ teller_of agent = agent.teller
 abbrev pub waiter_of : {R : Type 0} → Agent R → Waiter
 waiter_of agent = agent.waiter
 
--- where the agent's next get begins
+-- where the agent's next get starts
 abbrev pub hint_of : {R : Type 0} → Agent R → Hint
 hint_of agent = agent.hint
 
@@ -76,11 +76,11 @@ book_steps agent = book.steps_of agent.teller
 abbrev pub group_steps : {R : Type 0} → Agent R → List GroupStep
 group_steps agent = groups.steps_of agent.waiter
 
--- how many steps the agent has made
+-- how many steps the agent has made on the map, the book and the groups
 abbrev pub step_count : {R : Type 0} → Agent R → ℕ
 step_count agent = length (core.record_of agent.caller).steps + length (book_steps agent) + length (group_steps agent)
 
--- how many tags there are where the agent is at work
+-- how many tags the agent's map has
 abbrev pub depth_of : {R : Type 0} → Agent R → ℕ
 depth_of agent = (core.record_of agent.caller).shape.layout.depth
 
@@ -88,7 +88,7 @@ depth_of agent = (core.record_of agent.caller).shape.layout.depth
 abbrev pub Holds : {R : Type 0} → Agent R → ℕ → Type 0
 Holds agent tag = core.Holds agent.caller tag
 
--- the value of the slot of a tag that the agent holds
+-- the value in the slot of a tag, if the agent holds it
 abbrev pub slot_of : {R : Type 0} → Agent R → ℕ → maybe.Option R
 slot_of agent tag = core.slot_of agent.caller tag
 
@@ -96,30 +96,30 @@ slot_of agent tag = core.slot_of agent.caller tag
 abbrev pub HasRoom : {R : Type 0} → Agent R → ℕ → Type 0
 HasRoom agent n = search.HasRoom agent.caller n
 
--- the group in which the agent stands
+-- the wait group that the agent is in, if any
 abbrev pub standing_of : {R : Type 0} → Agent R → Option ℕ
 standing_of agent = groups.standing_of agent.waiter
 
--- the agent's counts, grants and standing are as before
+-- the agent's completions, grants and wait group are as before
 abbrev pub SameCounts : {R : Type 0} → Agent R → Agent R → Type 0
 SameCounts old new = (teller_of new ≡ teller_of old) × (waiter_of new ≡ waiter_of old)
 
--- all of the agent but its tags and its steps on the map is as before
+-- everything but the agent's tags and its steps on the map is as before
 abbrev pub SameElse : {R : Type 0} → Agent R → Agent R → Type 0
 SameElse old new = (hint_of new ≡ hint_of old) × SameCounts old new
 
--- the agent is as it was: its tags with their slots, its own steps, and all else
+-- the agent is unchanged: its tags with their slots, its own steps, and everything else
 pub record IsUnchanged {R : Type 0} (old new : Agent R) : Type 0 where
   pub caller : core.IsUnchanged (caller_of old) (caller_of new)
   pub holds : (tag : ℕ) → Holds new tag ↔ Holds old tag
   pub same_else : SameElse old new
 
--- one by one, in the same order, each agent is as it was
+-- the agents are in the same order, and each of them is unchanged
 pub record AreUnchanged {R : Type 0} (old new : List (Agent R)) : Type 0 where
   pub count : length new ≡ length old
   pub each : (n : ℕ) (a b : Agent R) → get_elem? old n ≡ some a → get_elem? new n ≡ some b → IsUnchanged a b
 
--- what the queue's map was opened with
+-- the parameters with which the queue's map was opened
 abbrev pub shape_of : {R : Type 0} → Queue R → Shape
 shape_of queue = queue.map.shape
 
@@ -131,6 +131,6 @@ agents_of queue = queue.map.shape.callers
 abbrev pub numbers_of : {R : Type 0} → List (Agent R) → List ℕ
 numbers_of agents = map number_of agents
 
--- what is known of several agents as callers of the map
+-- the records of several agents as callers of the map
 abbrev pub records_of : {R : Type 0} → List (Agent R) → List (Record R)
 records_of agents = map core.record_of (map caller_of agents)

@@ -1,4 +1,4 @@
--- What clears do to the agent that makes them.
+-- The effect of clears on the agent that makes them.
 use Rattle.std.specs.Prelude.{◌≡◌, ℕ, ◌^◌, ◌≤◌, ◌⊎◌, List, ◌∷◌}
 use Rattle.tag_layout.specs.Layout.{Layout, word_of, place_of}
 use Rattle.tag_core.specs.declared.step.Step.TheVariants.{Word}
@@ -18,27 +18,27 @@ use Rattle.tag_queue.specs.declared.queue.Queue.{Queue}
 use Rattle.tag_queue.specs.Holding.{HoldsLess}
 use Rattle.tag_queue.specs.Agents.{caller_of, teller_of, waiter_of, hint_of, book_steps, group_steps, batch_of, cap_of}
 
--- the tag is set aside by one put and held no more, and the hint follows
+-- one put sets the tag aside, the agent no longer holds it, and the hint follows
 pub record Puts {R : Type 0} (l : Layout) (tag : ℕ) (old new : Agent R) : Type 0 where
   pub found : ℕ
   pub put : Adds (Word (Put (word_of l tag) (2 ^ place_of l tag) found)) (caller_of old) (caller_of new)
   pub less : HoldsLess (λ other. other ≡ tag) old new
   pub hint : ClearFollows tag (hint_of old) (hint_of new)
 
--- what follows a charge: a lawful walk for one batch where it was won, else no step
+-- what follows a charge: a lawful walk for one batch if it was won, otherwise no step
 abbrev pub Follows : ℕ → Charge → List GroupStep → List GroupStep → ℕ → Type 0
 Follows batch Full steps steps' woken = (steps' ≡ steps) × (woken ≡ 0)
 Follows batch Below steps steps' woken = (steps' ≡ steps) × (woken ≡ 0)
 Follows batch (Won start) steps steps' woken = IsWalk batch steps steps' woken
 Follows batch Busy steps steps' woken = (steps' ≡ steps) × (woken ≡ 0)
 
--- nobody is found active, and nothing is counted
+-- no agent is found active, so nothing is counted and nobody is woken
 pub record FindsNobody {R : Type 0} (old new : Agent R) (woken : ℕ) : Type 0 where
   pub teller : teller_of new ≡ teller_of old
   pub looks : group_steps new ≡ Look active_at 0 ∷ group_steps old
   pub none : woken ≡ 0
 
--- someone is found active: a lawful charge of n, and what follows it
+-- some agent is found active: there is a lawful charge of n, and what follows it
 pub record Charges {R : Type 0} (queue : Queue R) (n : ℕ) (old new : Agent R) (woken : ℕ) : Type 0 where
   pub active : ℕ
   pub some : 1 ≤ active
@@ -46,7 +46,7 @@ pub record Charges {R : Type 0} (queue : Queue R) (n : ℕ) (old new : Agent R) 
   pub lawful : IsCharge (cap_of queue) (batch_of queue) n (book_steps old) (book_steps new) charge
   pub follows : Follows (batch_of queue) charge (Look active_at active ∷ group_steps old) (group_steps new) woken
 
--- what n tags that come back count and wake
+-- what is counted for n tags that were given back, and how many waiters are woken
 pub record Counts {R : Type 0} (queue : Queue R) (n : ℕ) (old new : Agent R) (woken : ℕ) : Type 0 where
   pub counts : FindsNobody old new woken ⊎ Charges queue n old new woken
   pub stands : StandsAsBefore (waiter_of old) (waiter_of new)

@@ -1,4 +1,4 @@
--- How agents come together, and what a queue's totals say of them all.
+-- How agents are gathered, and what a queue's totals say about all of them.
 use Rattle.std.specs.Prelude.{◌≡◌, ◌≤◌, List, map}
 use Rattle.tag_core.specs.declared.closed.Closed.{Closed}
 use Rattle.tag_core.specs.Gathering as tags
@@ -13,21 +13,20 @@ use Rattle.tag_queue.specs.declared.gather.QueueTotals.{QueueTotals}
 use Rattle.tag_queue.specs.declared.together.Together.{Together}
 use Rattle.tag_queue.specs.Agents.{teller_of, waiter_of, shape_of, records_of}
 
--- the agents that came together are the queue's own
+-- the gathered agents belong to the queue
 abbrev pub IsTogetherOf : {R : Type 0} → Queue R → Together R → Type 0
 IsTogetherOf queue together = tags.IsGatheringOf queue.map together.callers
     × book.IsGatheringOf queue.book together.tellers
     × groups.IsGatheringOf queue.groups together.waiters
 
--- these agents came together, the last of them first
+-- these are the agents gathered, the last one added first
 pub record AreTogether {R : Type 0} (agents : List (Agent R)) (together : Together R) : Type 0 where
   pub callers : tags.gathered together.callers ≡ records_of agents
   pub tellers : book.gathered together.tellers ≡ book.records_of (map teller_of agents)
   pub waiters : groups.gathered together.waiters ≡ groups.records_of (map waiter_of agents)
 
--- the totals are those of the map and of those before it, of the book and of the groups; issued is at most charged,
--- that
--- at most counted, and that at most back
+-- the totals are those of the chain of maps, of the book and of the groups; at most as many wakeups were issued as
+-- completions charged, at most what was counted was charged, and at most what was given back was counted
 pub record IsGathered {R : Type 0} (queue : Queue R) (agents : List (Agent R)) (totals : QueueTotals) : Type 0 where
   pub closed : Closed R
   pub tags_are : totals.tags ≡ closed.totals

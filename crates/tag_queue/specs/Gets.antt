@@ -1,4 +1,4 @@
--- What gets do to the agent that makes them.
+-- The effect of gets on the agent that makes them.
 use Rattle.std.specs.Prelude.{◌≡◌, ℕ, ◌+◌, ◌*◌, ◌<◌, ◌⊎◌, List, Option}
 use Rattle.tag_layout.specs.Layout.{Layout, words, word_bits, word_of}
 use Rattle.tag_core.specs.declared.word_step.WordStep.{WordStep}
@@ -18,9 +18,8 @@ use Rattle.tag_search.specs.Follows.{HintFollows, BatchFollows}
 use Rattle.tag_queue.specs.declared.agent.Agent.{Agent}
 use Rattle.tag_queue.specs.Agents.{caller_of, hint_of, SameCounts, SameElse}
 
--- the caller gains the tag answered, and nothing else, by a lawful search of these visits, and its hint follows;
--- where it is the
--- only caller, the answer is the choice
+-- the caller gains the tag returned, and nothing else, by a lawful search with these visits, and its hint follows;
+-- if it is the only caller, the answer is the choice
 pub record Searches {R : Type 0} (l : Layout) (visits : List Visit) (answer : Option ℕ) (old new : Caller R)
     (before after : Hint) : Type 0 where
   pub gains : Gains l answer old new
@@ -45,7 +44,7 @@ pub record GetsShallow {R : Type 0} (l : Layout) (depth : ℕ) (answer : Option 
       (hint_of old) (hint_of new)
   pub others : SameCounts old new
 
--- a batch get of n: the agent gains the tags of a run, and nothing else, by a lawful search for it
+-- a batch get of n: the agent gains the tags won of one run, and nothing else, by a lawful search for it
 pub record GetsBatch {R : Type 0} (l : Layout) (n : ℕ) (answer : Option (ℕ × ℕ)) (old new : Agent R) : Type 0 where
   pub gains : GainsRun l answer (caller_of old) (caller_of new)
   pub steps : Makes (caller_of old) (caller_of new)
@@ -55,15 +54,15 @@ pub record GetsBatch {R : Type 0} (l : Layout) (n : ℕ) (answer : Option (ℕ �
   pub hint : BatchFollows l.depth n (hint_of old) (hint_of new) answer
   pub others : SameCounts old new
 
--- a count that no batch has
+-- a count that no batch can have: 0, or more than the bits of a word
 abbrev pub MiscountsBatch : Layout → ℕ → Type 0
 MiscountsBatch l n = (n ≡ 0) ⊎ (word_bits l < n)
 
--- the most steps of a get
+-- the most steps that a get adds to the agent's list
 abbrev pub most_steps : Layout → ℕ
 most_steps l = 2 * l.depth + 4 * words l
 
--- the agent made this step on a word, which changes nothing else of it
+-- the agent made this step on a word, and nothing else of it changed
 pub record Looks {R : Type 0} (step : WordStep) (old new : Agent R) : Type 0 where
   pub step_is : Adds (Word step) (caller_of old) (caller_of new)
   pub same_else : SameElse old new

@@ -4,15 +4,15 @@ use Rattle.tag_core.specs.Holdings.{Releases, Acquires, KeepsAll}
 use Rattle.tag_queue.specs.declared.agent.Agent.{Agent}
 use Rattle.tag_queue.specs.Agents.{caller_of}
 
--- the agent holds the named tags no more, every other tag as before, with the value of its slot, and none besides
+-- the agent no longer holds the named tags; it keeps every other tag with the value of its slot, and gains none
 abbrev pub HoldsLess : {R : Type 0} → (ℕ → Type 0) → Agent R → Agent R → Type 0
 HoldsLess named old new = Releases named (caller_of old) (caller_of new)
 
--- the agent holds the named tags, which it did not hold before, every other tag as before, with the value of its
--- slot, and none besides
+-- the agent holds the named tags, which it did not hold before; it keeps every other tag with the value of its slot,
+-- and gains no other
 abbrev pub HoldsMore : {R : Type 0} → (ℕ → Type 0) → Agent R → Agent R → Type 0
 HoldsMore named old new = Acquires named (caller_of old) (caller_of new)
 
--- the agent holds the tags that it held, with the values of their slots, and none besides
+-- the agent holds exactly the tags that it held, with the values of their slots
 abbrev pub HoldsSame : {R : Type 0} → Agent R → Agent R → Type 0
 HoldsSame old new = KeepsAll (caller_of old) (caller_of new)

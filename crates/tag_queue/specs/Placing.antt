@@ -1,11 +1,11 @@
--- Where an agent's gets begin.
+-- Where an agent's gets start.
 use Rattle.std.specs.Prelude.{ℕ, ◌*◌, ◌/◌}
 use Rattle.tag_search.specs.declared.hint.Hint.{Hint}
 use Rattle.tag_queue.specs.declared.agent.Agent.{Agent}
 use Rattle.tag_queue.specs.declared.queue.Queue.{Queue}
 use Rattle.tag_queue.specs.Agents.{layout_of, agents_of, number_of, hint_of}
 
--- the agent's hint, at the first tag of the agent's own part: each agent has one of the equal parts of the map
+-- the agent's hint, moved to the first tag of its own part, where the map is divided equally among the agents
 abbrev pub hint_in_part : {R : Type 0} → Queue R → Agent R → Hint
 hint_in_part queue agent = record {
   at = (number_of agent * (layout_of queue).depth) / agents_of queue;

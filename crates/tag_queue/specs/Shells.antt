@@ -1,4 +1,4 @@
--- Agents whose callers stand apart.
+-- Agents taken apart into callers and shells.
 use Rattle.std.specs.Prelude.{List, [], ◌∷◌}
 use Rattle.tag_core.specs.declared.caller.Caller.{Caller}
 use Rattle.tag_queue.specs.declared.agent.Agent.{Agent}
@@ -9,7 +9,7 @@ use Rattle.tag_queue.specs.Parts.{Fits}
 abbrev pub shell_of : {R : Type 0} → Agent R → Shell
 shell_of agent = record { teller = agent.teller; waiter = agent.waiter; hint = agent.hint; number = agent.number }
 
--- one by one, these callers can be those of the agents that are left
+-- there are as many callers as shells, and each caller can be the one of its shell's agent
 abbrev pub FitShells : {R : Type 0} → List (Caller R) → List Shell → Type 0
 FitShells [] [] = Unit {0}
 FitShells [] (shell ∷ shells) = ⊥

@@ -8,18 +8,18 @@ use Rattle.tag_queue.specs.declared.agent.Agent.{Agent}
 use Rattle.tag_queue.specs.declared.queue.Queue.{Queue}
 use Rattle.tag_queue.specs.Agents.{shape_of, records_of}
 
--- one lawful history shows all agents, and that many tags are held and posted in its world
+-- one lawful history accounts for all agents, and in its world this many tags are held and this many are posted
 pub record AreInUse {R : Type 0} (queue : Queue R) (agents : List (Agent R)) (held posted : ℕ) : Type 0 where
   pub totals : Totals
   pub held_is : held ≡ totals.held
   pub posted_is : posted ≡ totals.posted
   pub settled : AreSettled (shape_of queue) (records_of agents) totals
 
--- tags that callers with these records hold
+-- the number of tags that callers with these records hold
 abbrev pub held_in : {R : Type 0} → List (Record R) → ℕ
 held_in {R} rs = total_of (λ (r : Record R). size_of r.held) rs
 
--- tags that they won, and neither gave back nor hold: where they are all callers of a map, those that are posted
+-- the number of tags that they won and neither gave back nor hold: those posted, if these are all callers of a map
 abbrev pub posted_in : {R : Type 0} → List (Record R) → ℕ
 posted_in {R} rs = total_of (λ (r : Record R). r.won) rs - (total_of (λ (r : Record R). r.back) rs + held_in rs)
 

@@ -1,4 +1,4 @@
-//! An agent of a queue.
+//! The handle through which one thread uses a queue.
 ghost use Rattle.std.specs.Prelude.{◌≡◌, ◌<◌, ◌≤◌};
 ghost use Rattle.tag_core.specs.Callers.{record_of};
 ghost use Rattle.wake_book.specs.Book.{number_of as teller_number, counted_by, charged_by};
@@ -9,21 +9,21 @@ use tag_core::Caller;
 use tag_search::Hint;
 use wake_book::{Teller, Waiter};
 
-/// One thread's part in a queue: it holds tags, counts completions, wakes and waits.
+/// One thread's handle on a queue. It holds tags, counts completions, wakes other agents, and waits.
 #[derive(Drop)]
 pub struct Agent<R> {
-    /// Where its next get begins.
+    /// Where its next get starts.
     pub(crate) hint: Hint,
-    /// From 0, the same in the map, the book and the groups.
+    /// Its number, from 0, which is the same in the map, the book and the groups.
     pub(crate) number: u32,
     pub(crate) teller: Teller,
     pub(crate) waiter: Waiter,
-    /// The last field, for the unused words at its end: agents side by side in memory share no line.
+    /// Must be the last field: it ends with padding, so that agents that are adjacent in memory share no cache line.
     pub(crate) caller: Caller<R>,
     ghost numbers: { ((record_of caller).number ≡ number) × (teller_number teller ≡ number) × (waiter_number waiter ≡ number) },
     ghost below: { number < (record_of caller).shape.callers },
 
-    // It counts only tags that it gave back, and wakes only for completions that it charged.
+    // It counts only tags that it gave back, and grants at most as many wakeups as it charged completions.
     ghost counts: { counted_by teller ≤ (record_of caller).back },
     ghost wakes: { moved_of waiter ≤ charged_by teller },
 }
@@ -40,7 +40,7 @@ impl<R> Agent<R> {
     ghost use Rattle.std.specs.Prelude.{◌↔◌, IsTrue};
     ghost use Rattle.tag_queue.specs.Agents.{Holds, depth_of};
 
-    /// Whether the agent holds the tag. It makes no step.
+    /// Returns whether the agent holds the tag. This makes no step.
     pub fn holds(&self, tag: u32) -> bool
         requires { tag < depth_of self.now }
         ensures { IsTrue result ↔ Holds self.now tag }

@@ -1,4 +1,4 @@
-//! How many tags come back at once.
+//! Clears of several tags at once.
 ghost use Rattle.std.specs.Prelude.{◌≡◌, ◌≢◌, ℕ, ◌+◌, ◌<◌, ◌≤◌, ◌↔◌, length, All, IfOk, IsOk, OnOk, OnErr, IsTrue};
 ghost use Rattle.tag_core.specs.Callers.{IsCallerOf, record_of, layout_of as layout_of_map};
 ghost use Rattle.tag_queue.specs.Agents.{layout_of, IsAgentOf, step_count, caller_of, SameCounts};
@@ -11,17 +11,18 @@ use crate::queue::Queue;
 use tag_core::{Caller, Map};
 use tag_search::after_clear;
 
-/// Most tags that one call gives back.
+/// The most tags that one call clears.
 const MAX_TAGS: usize = 64;
 
 impl<R: Copy> Queue<R> {
-    /// Gives held tags back at once, counts them together where someone is active, and answers how many waiters it woke.
-    /// They are free, and not set aside as after `clear`. Tags of one word that follow each other are one step.
+    /// Clears 1 to 64 held tags, counts them together if any agent waits, and returns how many waiters it woke. Like
+    /// `sbitmap_queue_clear_batch` (lib/sbitmap.c) it frees them at once, where `clear` only sets its tag aside.
+    /// Successive tags of the list that lie in one word take one step. `NotHeld` also means that a tag is named twice.
     pub fn clear_batch(&self, agent: &mut Agent<R>, tags: &[u32]) -> Result<u32, TagFault>
         requires agent { IsAgentOf self.now agent.old }
         ensures agent { IsAgentOf self.now agent.new }
 
-        // The causes are looked at in this order, each for the whole list.
+        // The causes are checked in this order, each for the whole list.
         ensures bad_count { (result ≡ Err TagFault.BadCount) ↔ ¬ (CountsTags tags.now) }
         ensures no_such_tag { (result ≡ Err TagFault.NoSuchTag) ↔ (CountsTags tags.now × ¬ (AreTags (layout_of self.now) tags.now)) }
         ensures not_held { (result ≡ Err TagFault.NotHeld)
@@ -38,11 +39,11 @@ impl<R: Copy> Queue<R> {
         Ok(self.ring(self.complete(agent, tags.len() as u32)))
     }
 
-    /// Whether there are 1 to 64 such tags, and the agent holds each, none named twice.
+    /// Checks that the list has 1 to 64 tags, that the agent holds each of them, and that none is named twice.
     pub(crate) fn find_all_held(&self, agent: &Agent<R>, tags: &[u32]) -> Result<(), TagFault>
         requires agent { IsAgentOf self.now agent.now }
 
-        // The causes are looked at in this order, each for the whole list.
+        // The causes are checked in this order, each for the whole list.
         ensures bad_count { (result ≡ Err TagFault.BadCount) ↔ ¬ (CountsTags tags.now) }
         ensures no_such_tag { (result ≡ Err TagFault.NoSuchTag) ↔ (CountsTags tags.now × ¬ (AreTags (layout_of self.now) tags.now)) }
         ensures not_held { (result ≡ Err TagFault.NotHeld)
@@ -61,7 +62,7 @@ impl<R: Copy> Queue<R> {
         Ok(())
     }
 
-    /// Gives held tags back, and moves the hint.
+    /// Frees held tags, and moves the hint to the last of them, unless it is round robin.
     pub(crate) fn give_back(&self, agent: &mut Agent<R>, tags: &[u32])
         requires agent { IsAgentOf self.now agent.old }
         requires some { 1 ≤ length tags.now }
@@ -77,7 +78,7 @@ impl<R: Copy> Queue<R> {
     }
 }
 
-// Whether each number of the list is below the depth.
+// Returns whether each number in the list is below the depth.
 fn are_below(tags: &[u32], depth: u32) -> bool
     ensures { IsTrue result ↔ All (λ tag. tag < depth) tags.now }
 {
@@ -89,8 +90,8 @@ fn are_below(tags: &[u32], depth: u32) -> bool
     true
 }
 
-// Whether each tag of the list is held, and none is named twice.
-// Each is compared with those before it: of 64 tags, 2,016 comparisons at most.
+// Returns whether each tag in the list is held, and none is named twice.
+// Each is compared with those before it: at most 2,016 comparisons for 64 tags.
 fn are_held_once<R>(caller: &Caller<R>, tags: &[u32]) -> bool
     requires { AreTags (caller.now.shape.value.layout) tags.now }
     ensures { IsTrue result ↔ AreHeldOnce caller.now tags.now }
@@ -103,7 +104,7 @@ fn are_held_once<R>(caller: &Caller<R>, tags: &[u32]) -> bool
     true
 }
 
-// Gives held tags back. Those of one word that follow each other are one step.
+// Frees held tags. Successive tags of the list that lie in one word take one step.
 fn give_all<R>(map: &Map<R>, caller: &mut Caller<R>, tags: &[u32])
     requires caller { IsCallerOf map.now caller.old }
     requires some { 1 ≤ length tags.now }

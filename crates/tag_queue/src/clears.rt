@@ -1,4 +1,4 @@
-//! How tags come back.
+//! Clears: tags are given back, counted, and waiters woken.
 ghost use Rattle.std.specs.Prelude.{◌≡◌, ℕ, ◌+◌, ◌<◌, ◌≤◌, ◌↔◌, IfOk, IsOk, OnOk, OnErr};
 ghost use Rattle.tag_core.specs.Callers.{record_of};
 ghost use Rattle.wake_book.specs.Book.{counted_by};
@@ -11,15 +11,15 @@ use crate::queue::Queue;
 use tag_search::after_clear;
 use wake_book::{Charge, Walked};
 
-/// No wakeup granted.
+/// The outcome of a completion that granted no wakeup.
 const NOBODY: Walked = Walked {
     woken: 0,
     groups: 0,
 };
 
 impl<R: Copy> Queue<R> {
-    /// Gives a held tag back, counts it if anybody waits, and returns how many waiters it woke. The tag is set aside: it is
-    /// free after the next sweep of its word.
+    /// Clears a held tag, counts it if any agent waits, and returns how many waiters it woke. As in
+    /// `sbitmap_queue_clear` (lib/sbitmap.c) the tag is only set aside: the next sweep of its word frees it.
     pub fn clear(&self, agent: &mut Agent<R>, tag: u32) -> Result<u32, TagFault>
         requires agent { IsAgentOf self.now agent.old }
         ensures agent { IsAgentOf self.now agent.new }
@@ -36,7 +36,7 @@ impl<R: Copy> Queue<R> {
         Ok(self.ring(self.complete(agent, 1)))
     }
 
-    /// As `clear`, but counts and wakes nothing.
+    /// Like `clear`, but counts nothing and wakes nobody.
     pub fn clear_uncounted(&self, agent: &mut Agent<R>, tag: u32) -> Result<(), TagFault>
         requires agent { IsAgentOf self.now agent.old }
         ensures agent { IsAgentOf self.now agent.new }
@@ -53,7 +53,7 @@ impl<R: Copy> Queue<R> {
         Ok(())
     }
 
-    /// Whether there is such a tag and the agent holds it.
+    /// Checks that the number is a tag's and that the agent holds that tag.
     pub(crate) fn find_held(&self, agent: &Agent<R>, tag: u32) -> Result<(), TagFault>
         requires agent { IsAgentOf self.now agent.now }
         ensures held { IsOk result ↔ Holds agent.now tag }
@@ -69,7 +69,7 @@ impl<R: Copy> Queue<R> {
         Ok(())
     }
 
-    /// Sets a held tag aside, and moves the hint.
+    /// Sets a held tag aside, and moves the hint to it, unless it is round robin.
     pub(crate) fn put(&self, agent: &mut Agent<R>, tag: u32)
         requires agent { IsAgentOf self.now agent.old }
         requires held { Holds agent.old tag }
@@ -83,7 +83,7 @@ impl<R: Copy> Queue<R> {
         after_clear(&mut agent.hint, tag);
     }
 
-    /// Counts tags that came back if anybody waits, and grants up to a batch of wakeups if it charged one.
+    /// Counts `n` tags given back if anybody is active, and grants up to a batch of wakeups if it charged one.
     pub(crate) fn complete(&self, agent: &mut Agent<R>, n: u32) -> Walked
         requires agent { IsAgentOf self.now agent.old }
         requires within { (1 ≤ n) × (n ≤ 64) }
@@ -102,7 +102,7 @@ impl<R: Copy> Queue<R> {
         }
     }
 
-    /// Wakes those who sleep in the groups of a walk, and answers how many it granted a wakeup.
+    /// Wakes the sleepers in the groups of a walk, and returns how many waiters the walk granted a wakeup.
     pub(crate) fn ring(&self, walked: Walked) -> u32
         ensures { result ≡ walked.woken }
     {

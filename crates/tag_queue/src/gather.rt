@@ -1,4 +1,4 @@
-//! All agents come together, and the queue ends.
+//! Gathers all agents and closes the queue.
 ghost use Rattle.std.specs.Prelude.{◌≡◌, ◌↔◌, All, IfOk, IfErr, IsOk};
 ghost use Rattle.step_ledger.specs.Views.{HasAll};
 ghost use Rattle.step_ledger.specs.Gather.{IsCauseOf};
@@ -12,28 +12,29 @@ use step_ledger::GatherCause;
 use tag_model::Totals;
 use wake_book::{BookTotals, GroupTotals};
 
-/// What a queue saw in all, once its agents are gathered.
+/// The totals of a queue, known once all its agents are gathered.
 #[derive(Clone, Copy, Debug, PartialEq, Eq)]
 pub struct QueueTotals {
-    /// What its agents won, gave back, hold and posted.
+    /// Tags won and given back since the queue was opened, over all its resizes, and tags now held and posted.
     pub tags: Totals,
-    /// What they counted and charged.
+    /// Completions counted and charged.
     pub book: BookTotals,
-    /// Whom they woke, and who waits.
+    /// Wakeups granted and used, and agents that still wait.
     pub groups: GroupTotals,
 }
 
-/// Why a queue wasn't gathered, with all that was handed in.
+/// The reason why `gather` or `in_use` failed, with the queue and the agents that were passed in.
 #[derive(Drop)]
 pub struct QueueGatherFault<R> {
     pub cause: GatherCause,
     pub queue: Queue<R>,
-    /// In the order in which they were handed in.
+    /// In the order in which they were passed in.
     pub agents: Vec<Agent<R>>,
 }
 
 impl<R: Copy> Queue<R> {
-    /// Ends the queue if all its agents are present, in any order, including those that stand in a group.
+    /// Closes the queue and returns its totals, if all its agents are passed in, in any order, even those that are in a
+    /// wait group or hold tags. Otherwise it names the least missing number and hands everything back.
     pub fn gather(
         queue: Queue<R>,
         agents: Vec<Agent<R>>,
@@ -54,7 +55,7 @@ impl<R: Copy> Queue<R> {
         Ok(queue.close(agents))
     }
 
-    // Ends the queue with all its agents.
+    // Closes the queue with all its agents.
     fn close(self, agents: Vec<Agent<R>>) -> QueueTotals
         requires own { All (IsAgentOf self) agents.items }
         requires all { HasAll (numbers_of agents.items) (agents_of self) }

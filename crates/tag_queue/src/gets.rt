@@ -1,4 +1,4 @@
-//! How tags are taken.
+//! Gets: the calls that take tags.
 ghost use Rattle.std.specs.Prelude.{◌≡◌, ◌+◌, ◌<◌, ◌≤◌, ◌↔◌, false, IfOk, IfErr, OnErr, IsOk, IsTrue, None};
 ghost use Rattle.tag_queue.specs.Agents.{layout_of, least_of, IsAgentOf, HasRoom, hint_of, step_count};
 ghost use Rattle.tag_queue.specs.Gets.{GetsPlain, GetsShallow, GetsBatch, MiscountsBatch, most_steps};
@@ -9,8 +9,9 @@ use crate::queue::Queue;
 use tag_search::on_map;
 
 impl<R: Copy> Queue<R> {
-    /// Takes a free tag for this agent alone, until it is cleared or posted. `None` says that each place looked at was
-    /// found taken at some moment of the call, not that all were taken at one moment.
+    /// Takes a free tag, which this agent alone holds until it clears or posts the tag. `None` means that each tag that
+    /// the search looked at was found taken at some moment of the call, not that all were taken at the same moment.
+    /// `Spent` means that the agent's life is used up.
     pub fn get(&self, agent: &mut Agent<R>) -> Result<Option<u32>, TagFault>
         requires agent { IsAgentOf self.now agent.old }
         ensures agent { IsAgentOf self.now agent.new }
@@ -25,12 +26,13 @@ impl<R: Copy> Queue<R> {
         Ok(answer)
     }
 
-    /// As `get`, limited to `depth` tags, shared out over the words. A word's share may be none.
+    /// Like `get`, but limited to `depth` tags of the map, which are shared out among the words in proportion. A word's
+    /// share may be 0. `TooShallow` means that `depth` is 0 or below the minimum shallow depth.
     pub fn get_shallow(&self, agent: &mut Agent<R>, depth: u32) -> Result<Option<u32>, TagFault>
         requires agent { IsAgentOf self.now agent.old }
         ensures agent { IsAgentOf self.now agent.new }
 
-        // The depth is looked at first.
+        // The depth is checked first.
         ensures too_shallow { (result ≡ Err TagFault.TooShallow) ↔ (depth < least_of self.now) }
         ensures spent { (result ≡ Err TagFault.Spent) ↔ ((least_of self.now ≤ depth) × ¬ (HasRoom agent.old 1)) }
         ensures succeeds { IsOk result ↔ ((least_of self.now ≤ depth) × HasRoom agent.old 1) }
@@ -48,14 +50,15 @@ impl<R: Copy> Queue<R> {
         Ok(answer)
     }
 
-    /// Takes up to `n` free tags side by side in one word, 1 to the bits of a word: the first tag, and the mask of those
-    /// won, whose lowest bit stands for the first tag. Under round robin it finds none and makes no step.
+    /// Takes up to `n` free tags out of `n` consecutive ones of one word, where `n` is 1 to the bits of a word. Returns
+    /// the first of them and the mask of those won, in which bit 0 is that first tag. Under round robin it returns
+    /// `None` and makes no step, as in the kernel (lib/sbitmap.c).
     #[tactic(auto, using(std::proofs::lemmas::Nat::one_shl))]
     pub fn get_batch(&self, agent: &mut Agent<R>, n: u32) -> Result<Option<(u32, u64)>, TagFault>
         requires agent { IsAgentOf self.now agent.old }
         ensures agent { IsAgentOf self.now agent.new }
 
-        // The count is looked at first, round robin next.
+        // The count is checked first, then round robin.
         ensures bad_count { (result ≡ Err TagFault.BadCount) ↔ MiscountsBatch (layout_of self.now) n }
         ensures round_robin { ¬ (MiscountsBatch (layout_of self.now) n) → IsTrue (hint_of agent.old).round_robin
             → (result ≡ Ok None) × (agent.new ≡ agent.old) }

@@ -1,5 +1,5 @@
-//! Tags that threads share, with completions counted in batches and waiters woken by them: one map, one charge book and
-//! one set of wait groups behind one handle for each thread.
+//! Tags shared by threads, with completions counted in batches that wake waiters: one map, one charge book and one set
+//! of wait groups, behind one handle for each thread. It is modelled on Linux's `sbitmap_queue`.
 #![tactic(auto)]
 
 mod agent;

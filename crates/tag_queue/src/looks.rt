@@ -1,4 +1,4 @@
-//! Looks at single words.
+//! Loads of single words.
 ghost use Rattle.std.specs.Prelude.{◌≡◌, ℕ, ◌<◌};
 ghost use Rattle.std.specs.Int.{bit_at};
 ghost use Rattle.tag_layout.specs.Layout.{words, word_of, place_of};
@@ -11,7 +11,7 @@ use crate::agent::Agent;
 use crate::queue::Queue;
 
 impl<R: Copy> Queue<R> {
-    /// A word's bits: 1 is taken. Each tag that the agent holds is found taken.
+    /// Loads the bits of a word: 1 is taken. Each tag of the word that the agent holds is found taken.
     pub fn look(&self, agent: &mut Agent<R>, word: u32) -> u64
         requires agent { IsAgentOf self.now agent.old }
         requires within { word < words (layout_of self.now) }
@@ -24,7 +24,8 @@ impl<R: Copy> Queue<R> {
         self.map.look(&mut agent.caller, word)
     }
 
-    /// A word's cleared bits: 1 is set aside, given back and not free yet. No tag that the agent holds is found there.
+    /// Loads the cleared set of a word: 1 is set aside, that is, cleared but not free yet. No tag that the agent holds
+    /// is found set aside.
     pub fn look_aside(&self, agent: &mut Agent<R>, word: u32) -> u64
         requires agent { IsAgentOf self.now agent.old }
         requires within { word < words (layout_of self.now) }

@@ -1,4 +1,4 @@
-//! Two agents in hand.
+//! What two agents that are passed in together can prove.
 ghost use Rattle.std.specs.Prelude.{◌≡◌, ◌≢◌, ℕ};
 ghost use Rattle.tag_core.specs.Callers.{record_of};
 ghost use Rattle.tag_core.specs.Meeting.{ShareHistory};
@@ -8,8 +8,8 @@ use crate::agent::Agent;
 use crate::queue::Queue;
 
 impl<R: Copy> Queue<R> {
-    /// Establishes that two agents hold no tag in common, and that their own steps stand in one history of the map.
-    /// It changes nothing. Its loads, of a spare word, stand in no list.
+    /// Establishes that two agents hold no tag in common, and that their own steps are part of one history of the map.
+    /// It changes nothing. Its loads, of a spare word, are in no agent's list.
     pub fn meet(&self, first: &mut Agent<R>, second: &mut Agent<R>)
         requires agents { IsAgentOf self.now first.old × IsAgentOf self.now second.old }
         ensures agents { IsAgentOf self.now first.new × IsAgentOf self.now second.new }
@@ -21,7 +21,7 @@ impl<R: Copy> Queue<R> {
         self.map.meet(&mut first.caller, &mut second.caller);
     }
 
-    /// Establishes that the second agent doesn't hold a tag that the first holds. It makes no step.
+    /// Establishes that the second agent does not hold a tag that the first one holds. This makes no step.
     pub fn apart(&self, first: &mut Agent<R>, second: &mut Agent<R>, tag: u32)
         requires agents { IsAgentOf self.now first.old × IsAgentOf self.now second.old }
         requires held { Holds first.old tag }

@@ -1,4 +1,4 @@
-//! Callers that go on with a next map.
+//! Moves callers to the next map.
 ghost use Rattle.std.specs.Prelude.{◌≡◌, All, IfOk, IfErr, length, map};
 ghost use Rattle.step_ledger.specs.Views.{HasAll};
 ghost use Rattle.tag_core.specs.Callers.{IsCallerOf, AreUnchanged, record_of};
@@ -10,7 +10,7 @@ use std::alloc::Global;
 use tag_core::{Caller, Map};
 use tag_layout::Layout;
 
-/// All callers continue on a map of this layout, or return to their own map if memory runs out.
+/// Moves all callers to a new map of this layout, or returns them to their own map if memory runs out.
 pub(crate) fn next_map<R: Copy>(
     alloc: Global,
     tags: Map<R>,

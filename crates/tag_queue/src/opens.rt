@@ -1,4 +1,4 @@
-//! A new queue, and its agents.
+//! Opens a queue with its agents.
 ghost use Rattle.std.specs.Prelude.{◌≡◌, ◌≢◌, ℕ, ◌^◌, ◌<◌, ◌≤◌, ◌↔◌, List, [], All, IfOk, IsSomeAnd};
 ghost use Rattle.tag_layout.specs.declared.layout.TheConstants.{MAX_DEPTH, MAX_SHIFT};
 ghost use Rattle.tag_model.specs.declared.world.TheConstants.{MAX_CALLERS, MOST_WON};
@@ -16,11 +16,12 @@ use tag_model::{MAX_CALLERS, MOST_WON};
 use tag_search::Hint;
 use wake_book::{Book, Groups};
 
-/// Highest cap, 2^56.
+/// The highest cap, in completions: 2^56.
 const MAX_CAP: u64 = 72_057_594_037_927_936;
 
 impl<R: Copy> Queue<R> {
-    /// A queue of free tags, with a slot of the value `fill` for each. The agents stand in the order of their numbers.
+    /// Opens a queue of `depth` free tags, at most 10,240, each with a slot that contains `fill`, and returns it with
+    /// its agents in the order of their numbers.
     pub fn open(
         alloc: Global,
         depth: u32,
@@ -31,7 +32,7 @@ impl<R: Copy> Queue<R> {
         ensures layout { IfOk result (λ opened. IsLaidOut depth options (layout_of opened.0)) }
         ensures fill { IfOk result (λ opened. fill_of opened.0 ≡ fill) }
 
-        // The causes are looked at in this order, and memory last.
+        // The causes are checked in this order, and memory comes last.
         ensures total { (result ≡ Err SetFault.TotalTooLarge) ↔ (MAX_DEPTH < depth) }
         ensures shift { (result ≡ Err SetFault.ShiftTooLarge) ↔ ((depth ≤ MAX_DEPTH) × IsSomeAnd options.shift (λ s. MAX_SHIFT < s)) }
         ensures callers { (result ≡ Err SetFault.CallerCount) ↔ (HasLayout depth options × MiscountsAgents options) }
@@ -61,7 +62,7 @@ impl<R: Copy> Queue<R> {
     }
 }
 
-// A queue and its agents, where nothing is to be refused but for want of memory.
+// Allocates a queue and its agents for arguments that are valid, so it fails only if memory runs out.
 fn lay_out<R: Copy>(
     alloc: Global,
     layout: Layout,

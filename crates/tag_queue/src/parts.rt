@@ -1,4 +1,4 @@
-//! How agents are put together.
+//! Puts agents together from their parts.
 ghost use Rattle.std.specs.Prelude.{◌≡◌, ℕ, ◌≤◌, List, length, All, IfOk, map};
 ghost use mathlib.Core.Option.{some};
 ghost use lib.ListN.{get_elem?};
@@ -13,7 +13,7 @@ use tag_core::Caller;
 use tag_search::Hint;
 use wake_book::{Teller, Waiter};
 
-/// The agents of these parts, in their order.
+/// Puts the agents together from these parts, in the same order.
 pub(crate) fn join<R>(
     alloc: Global,
     count: u32,

@@ -1,4 +1,4 @@
-//! Where an agent's gets begin.
+//! Where an agent's gets start.
 ghost use Rattle.std.specs.Prelude.{◌≡◌};
 ghost use Rattle.tag_queue.specs.Agents.{IsAgentOf, SameCounts, caller_of, hint_of};
 ghost use Rattle.tag_queue.specs.Placing.{hint_in_part};
@@ -7,8 +7,9 @@ use crate::agent::Agent;
 use crate::queue::Queue;
 
 impl<R: Copy> Queue<R> {
-    /// Has the agent's next get begin in its own part of the map: at its number times the depth, divided by the number of agents.
-    /// Every hint begins at 0, so threads meet there; agents placed apart meet only where their parts are full. It makes no step.
+    /// Moves the agent's hint to the start of its own part of the map: its number times the depth, divided by the
+    /// number of agents. All hints start at 0, where threads would contend; once placed, agents meet only when their
+    /// parts are full. This makes no step.
     pub fn place(&self, agent: &mut Agent<R>)
         requires { IsAgentOf self.now agent.old }
         ensures agent { IsAgentOf self.now agent.new }

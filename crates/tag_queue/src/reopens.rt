@@ -1,4 +1,4 @@
-//! The agents go on with a next map, or back where there is no memory.
+//! Moves the agents to the next map, or hands them back if memory runs out.
 ghost use Rattle.std.specs.Prelude.{◌≡◌, All, IfOk, IfErr, length, map};
 ghost use Rattle.step_ledger.specs.Views.{HasAll};
 ghost use Rattle.tag_core.specs.Callers.{IsCallerOf, record_of};
@@ -18,7 +18,8 @@ use tag_core::Caller;
 use tag_layout::Layout;
 
 impl<R: Copy> Queue<R> {
-    /// All agents continue on a map of this layout. All that can fail, except for the map itself, comes before they are taken apart.
+    /// Moves all agents to a new map of this layout. Everything that can fail, except opening the map itself, comes
+    /// before the agents are taken apart.
     pub(crate) fn reopen(
         self,
         alloc: Global,
@@ -59,7 +60,7 @@ impl<R: Copy> Queue<R> {
         }
     }
 
-    // The queue with a next map for its callers, or as it was.
+    // Returns the queue with a new map and its callers on it, or the queue as it was.
     fn go_on(
         self,
         alloc: Global,

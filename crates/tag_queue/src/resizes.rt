@@ -1,4 +1,4 @@
-//! A queue goes on with another depth.
+//! Resizes a queue to another depth.
 ghost use Rattle.std.specs.Prelude.{◌≡◌, ◌<◌, ◌↔◌, ℕ, All, IfOk, IfErr, IsOk, MatchOption, MatchResult};
 ghost use Rattle.step_ledger.specs.Views.{HasAll, IsLeastMissing};
 ghost use Rattle.tag_layout.specs.declared.layout.TheConstants.{MAX_DEPTH};
@@ -13,38 +13,39 @@ use tag_layout::{Layout, LayoutFault};
 use thiserror::Error;
 use wake_book::Groups;
 
-/// Why a queue isn't resized. The causes are checked in this order.
+/// Why a queue can't be resized. The causes are checked in this order.
 #[derive(Clone, Copy, Debug, PartialEq, Eq, Error)]
 pub enum ResizeCause {
-    /// The least number of an agent that wasn't handed in.
+    /// An agent was not passed in: the least such number.
     #[error("caller {0} is missing")]
     Missing(u32),
-    /// More than 10,240 tags.
+    /// There would be more than 10,240 tags.
     #[error("the number of tags is out of range")]
     DepthTooLarge,
-    /// Tags are held or posted: how many are held, and how many posted.
+    /// Tags are in use: how many are held, and how many posted.
     #[error("{0} tags are held and {1} are posted")]
     InUse(u64, u64),
-    /// Agents stand in a group: how many.
+    /// Agents are in a wait group: how many.
     #[error("{0} callers wait")]
     Waiting(u32),
-    /// An allocation was refused.
+    /// Out of memory.
     #[error("out of memory")]
     Memory,
 }
 
-/// Why a queue wasn't resized, with all that was handed in.
+/// The reason why `resize` failed, with the queue and the agents that were passed in.
 #[derive(Drop)]
 pub struct ResizeFault<R> {
     pub cause: ResizeCause,
     pub queue: Queue<R>,
-    /// In the order in which they were handed in.
+    /// In the order in which they were passed in.
     pub agents: Vec<Agent<R>>,
 }
 
 impl<R: Copy> Queue<R> {
-    /// All agents, handed in in any order, continue on a map of this depth, whose tags are free. A refusal hands everything
-    /// back.
+    /// Replaces the map by one of `depth` free tags and moves all agents to it. All agents must be passed in, in any
+    /// order; no tag may be held or posted, and no agent may be in a wait group. A refusal hands everything back. Slots
+    /// start again with the queue's initial value.
     pub fn resize(
         alloc: Global,
         queue: Queue<R>,
@@ -55,7 +56,7 @@ impl<R: Copy> Queue<R> {
         ensures ok { IfOk result (λ p. IsResized queue agents.items depth p.0 p.1.items) }
         ensures may { IsOk result → MayResize queue agents.items depth }
 
-        // The causes are looked at in this order, and memory last.
+        // The causes are checked in this order, and memory comes last.
         ensures missing { (n : ℕ) → IsRefusedAs result (ResizeCause.Missing n)
             ↔ IsLeastMissing (numbers_of agents.items) (agents_of queue) n }
         ensures too_deep { IsRefusedAs result ResizeCause.DepthTooLarge
@@ -89,7 +90,7 @@ fn count_standing<R>(agents: &[Agent<R>]) -> usize
 }
 
 impl<R> Queue<R> {
-    // The layout of this depth, where nothing but memory is in the way.
+    // Returns the layout for this depth, if nothing but memory can prevent the resize.
     fn next_layout(&self, agents: &mut Vec<Agent<R>>, depth: u32) -> Result<Layout, ResizeCause>
         requires own { All (IsAgentOf self.now) agents.old.items }
         ensures own { All (IsAgentOf self.now) agents.new.items }
@@ -112,7 +113,7 @@ impl<R> Queue<R> {
         }
     }
 
-    // Why it can't be resized now that all agents are there, unless for want of memory.
+    // Returns what prevents the resize while all agents are present: tags in use, or agents that wait.
     fn busy(&self, agents: &mut Vec<Agent<R>>) -> Option<ResizeCause>
         requires own { All (IsAgentOf self.now) agents.old.items }
         requires every { HasAll (numbers_of agents.old.items) (agents_of self.now) }

@@ -1,4 +1,4 @@
-//! Agents whose callers stand apart, while these settle and go on with a next map.
+//! Takes agents apart into callers, which can move to the next map, and shells, and puts them together again.
 ghost use Rattle.std.specs.Prelude.{◌≡◌, ◌≤◌, [], length, map, IfOk, vec_capacity};
 ghost use Rattle.tag_queue.specs.Agents.{caller_of};
 ghost use Rattle.tag_queue.specs.Shells.{shell_of, FitShells};
@@ -19,7 +19,8 @@ pub(crate) struct Shell {
     pub(crate) number: u32,
 }
 
-/// Room for the parts of all agents and for the agents again, and the slots of the next map: what can fail before they move.
+/// Room for the parts of all agents and for the agents put together again, and the slots of the next map: the
+/// allocations that are made before the agents are taken apart.
 #[derive(Drop)]
 pub(crate) struct Rooms<R> {
     pub(crate) callers: Vec<Caller<R>>,
@@ -30,6 +31,7 @@ pub(crate) struct Rooms<R> {
 }
 
 impl<R: Copy> Rooms<R> {
+    /// Reserves room for `count` agents, and makes `depth` slots that contain `fill`.
     pub(crate) fn open(
         alloc: Global,
         count: usize,
@@ -53,7 +55,7 @@ impl<R: Copy> Rooms<R> {
     }
 }
 
-/// The callers of the agents, and what is left of these, in their order.
+/// Takes the agents apart into their callers and their shells, both in the agents' order.
 pub(crate) fn part<R>(
     agents: Vec<Agent<R>>,
     mut callers: Vec<Caller<R>>,
@@ -85,7 +87,7 @@ pub(crate) fn part<R>(
     (callers, shells)
 }
 
-/// The agents of these callers, in their order.
+/// Puts the agents together from these callers and shells, in the same order.
 pub(crate) fn unite<R>(
     callers: Vec<Caller<R>>,
     shells: Vec<Shell>,

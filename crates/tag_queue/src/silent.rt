@@ -1,4 +1,4 @@
-//! How tags come back where nobody may be woken.
+//! Clears that wake no sleeper, for callers that wake threads by their own means.
 ghost use Rattle.std.specs.Prelude.{◌≡◌, ◌+◌, ◌<◌, ◌≤◌, ◌↔◌, length, IfOk, IsOk, OnOk, OnErr};
 ghost use Rattle.tag_queue.specs.Agents.{layout_of, IsAgentOf, Holds, step_count, caller_of};
 ghost use Rattle.tag_queue.specs.Batches.{CountsTags, AreTags, AreHeldOnce, GivesBack};
@@ -10,7 +10,8 @@ use crate::queue::Queue;
 use wake_book::Walked;
 
 impl<R: Copy> Queue<R> {
-    /// As `clear`, but leaves it to the caller to wake those who sleep: it rings no bell, and links none.
+    /// Like `clear`, but wakes no sleeper, and so links nothing that does. It returns how many waiters it granted a
+    /// wakeup, and leaves waking them to the caller.
     pub fn clear_silently(&self, agent: &mut Agent<R>, tag: u32) -> Result<u32, TagFault>
         requires agent { IsAgentOf self.now agent.old }
         ensures agent { IsAgentOf self.now agent.new }
@@ -28,12 +29,13 @@ impl<R: Copy> Queue<R> {
         Ok(woken)
     }
 
-    /// As `clear_batch`, but leaves it to the caller to wake those who sleep: it rings no bell, and links none.
+    /// Like `clear_batch`, but wakes no sleeper, and so links nothing that does. It returns how many waiters it granted
+    /// a wakeup, and leaves waking them to the caller.
     pub fn clear_batch_silently(&self, agent: &mut Agent<R>, tags: &[u32]) -> Result<u32, TagFault>
         requires agent { IsAgentOf self.now agent.old }
         ensures agent { IsAgentOf self.now agent.new }
 
-        // The causes are looked at in this order, each for the whole list.
+        // The causes are checked in this order, each for the whole list.
         ensures bad_count { (result ≡ Err TagFault.BadCount) ↔ ¬ (CountsTags tags.now) }
         ensures no_such_tag { (result ≡ Err TagFault.NoSuchTag) ↔ (CountsTags tags.now × ¬ (AreTags (layout_of self.now) tags.now)) }
         ensures not_held { (result ≡ Err TagFault.NotHeld)

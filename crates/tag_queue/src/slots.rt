@@ -1,4 +1,4 @@
-//! The values beside held tags, and how tags pass from agent to agent.
+//! The slots of held tags, and how tags pass from agent to agent.
 ghost use Rattle.std.specs.Prelude.{◌≡◌, ◌<◌, ◌≤◌, ◌↔◌, IfOk, IfErr, IsOk, OnOk, OnErr};
 ghost use mathlib.Core.Option.{some};
 ghost use Rattle.tag_queue.specs.Agents.{layout_of, IsAgentOf, Holds, slot_of, step_count};
@@ -9,7 +9,7 @@ use crate::fault::TagFault;
 use crate::queue::Queue;
 
 impl<R: Copy> Queue<R> {
-    /// The value in a held tag's slot.
+    /// Returns the value in the slot of a held tag.
     pub fn read(&self, agent: &mut Agent<R>, tag: u32) -> Result<R, TagFault>
         requires agent { IsAgentOf self.now agent.old }
         ensures agent { IsAgentOf self.now agent.new }
@@ -24,7 +24,7 @@ impl<R: Copy> Queue<R> {
         Ok(self.map.read(&mut agent.caller, tag))
     }
 
-    /// Writes a held tag's slot, and returns its former value.
+    /// Writes the slot of a held tag, and returns its former value.
     pub fn write(&self, agent: &mut Agent<R>, tag: u32, value: R) -> Result<R, TagFault>
         requires agent { IsAgentOf self.now agent.old }
         ensures agent { IsAgentOf self.now agent.new }
@@ -39,7 +39,7 @@ impl<R: Copy> Queue<R> {
         Ok(self.map.slot(&mut agent.caller, tag, value))
     }
 
-    /// Hands a held tag on, with its slot, to whichever agent takes it first.
+    /// Gives up a held tag with its slot, so that another agent can `take` it. Whichever agent takes it first gets it.
     pub fn post(&self, agent: &mut Agent<R>, tag: u32) -> Result<(), TagFault>
         requires agent { IsAgentOf self.now agent.old }
         ensures agent { IsAgentOf self.now agent.new }
@@ -54,7 +54,7 @@ impl<R: Copy> Queue<R> {
         Ok(())
     }
 
-    /// Takes a posted tag, with its slot. `NotPosted` leaves the agent as it was but for one step in its list.
+    /// Takes a posted tag with its slot. `NotPosted` leaves the agent unchanged except for one step in its list.
     pub fn take(&self, agent: &mut Agent<R>, tag: u32) -> Result<(), TagFault>
         requires agent { IsAgentOf self.now agent.old }
         ensures agent { IsAgentOf self.now agent.new }

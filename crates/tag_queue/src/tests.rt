@@ -1,4 +1,4 @@
-//! What no clause says: worked examples, want of memory, and threads that wait and wake.
+//! What no clause says: worked examples, running out of memory, and threads that wait and wake.
 mod agents;
 mod calls;
 mod clears;

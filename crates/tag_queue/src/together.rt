@@ -1,4 +1,4 @@
-//! Agents that come together, one after another.
+//! Gathers agents one after another.
 ghost use Rattle.std.specs.Prelude.{◌≡◌, [], ◌∷◌, List, All};
 ghost use Rattle.step_ledger.specs.Views.{Has};
 ghost use Rattle.tag_queue.specs.Agents.{IsAgentOf, numbers_of};
@@ -9,7 +9,7 @@ use crate::queue::Queue;
 use tag_core::Gathering;
 use wake_book::{TellerGathering, WaiterGathering};
 
-/// Agents that have come together.
+/// The agents gathered so far, as one gathering each of callers, tellers and waiters.
 #[derive(Drop)]
 pub(crate) struct Together<R> {
     pub(crate) callers: Gathering<R>,
@@ -17,7 +17,7 @@ pub(crate) struct Together<R> {
     pub(crate) waiters: WaiterGathering,
 }
 
-/// All agents that are handed in come together. The last of them is the first to be taken.
+/// Gathers all the agents, from the last to the first.
 pub(crate) fn gather_each<R>(queue: &Queue<R>, mut agents: Vec<Agent<R>>) -> Together<R>
     requires own { All (IsAgentOf queue.now) agents.items }
     requires some { Has (numbers_of agents.items) 0 }

@@ -1,4 +1,4 @@
-//! How many tags are held, and how many are posted.
+//! Counts the tags that are held and those that are posted.
 ghost use Rattle.std.specs.Prelude.{◌≡◌, ◌↔◌, ◌++◌, All, IfOk, IfErr, IsOk, vec_len, vec_capacity};
 ghost use Rattle.step_ledger.specs.Views.{HasAll};
 ghost use Rattle.step_ledger.specs.Gather.{IsCauseOf};
@@ -15,20 +15,20 @@ use step_ledger::GatherCause;
 use tag_core::{Gathering, Loans};
 use tag_model::Totals;
 
-/// A queue with all its agents, and how many of its tags are in use.
+/// A queue with all its agents, and the number of its tags that are in use.
 #[derive(Drop)]
 pub struct Usage<R> {
     pub queue: Queue<R>,
-    /// In the order in which they were handed in.
+    /// In the order in which they were passed in.
     pub agents: Vec<Agent<R>>,
-    /// Tags that an agent holds.
+    /// Tags that some agent holds.
     pub held: u64,
-    /// Tags that are posted.
+    /// Tags that are posted and not taken yet.
     pub posted: u64,
 }
 
-/// These agents lend their callers' records to those gathered. Once all are together one history shows them, and then each
-/// has its record back.
+/// Lends the records of these agents' callers to those gathered. Once all are lent, one history accounts for all of
+/// them; then each caller gets its record back.
 fn settle_rest<R>(
     queue: &Queue<R>,
     mut all: Gathering<R>,
@@ -69,7 +69,8 @@ fn settle_rest<R>(
 }
 
 impl<R> Queue<R> {
-    /// All agents come together and are as they were; what they won, gave back, hold and posted.
+    /// Brings the records of all agents together for a moment, and returns how many tags they won, gave back, hold and
+    /// posted. The agents are unchanged.
     pub(crate) fn settle(&self, agents: &mut Vec<Agent<R>>) -> Totals
         requires own { All (IsAgentOf self.now) agents.old.items }
         requires every { HasAll (numbers_of agents.old.items) (agents_of self.now) }
@@ -102,8 +103,8 @@ impl<R> Queue<R> {
 }
 
 impl<R: Copy> Queue<R> {
-    /// How many tags are held and how many are posted, if all agents are present, in any order. It allocates nothing, and its
-    /// loads, of a spare word, stand in no list.
+    /// Returns how many tags are held and how many are posted, if all agents are passed in, in any order. It allocates
+    /// nothing, and its loads, of a spare word, are in no agent's list.
     pub fn in_use(
         queue: Queue<R>,
         mut agents: Vec<Agent<R>>,

@@ -1,4 +1,4 @@
-//! Waiting for a tag.
+//! Waits for a tag.
 ghost use Rattle.std.specs.Prelude.{◌≡◌, ℕ, ◌+◌, ◌≤◌, ◌<◌, ◌↔◌, ◌∷◌, IfOk, IfErr, IfSome, IfNone, IsOk, IsSome, OnErr, Some, None};
 ghost use Rattle.wake_book.specs.Waits.{active_at, index_at};
 ghost use Rattle.wake_book.specs.Groups.{LeavesAs, IdlesOnce, StandsAsBefore};
@@ -16,21 +16,22 @@ use std::sync::Wait;
 use tag_search::on_map;
 use wake_book::{Groups, Left};
 
-/// What an agent finds of the counts and of the groups.
+/// The counts of a queue and the state of its wait groups, as one agent loaded them.
 #[derive(Clone, Copy, Debug, PartialEq, Eq)]
 pub struct Wakes {
     /// Completions counted.
     pub counted: u64,
-    /// Completions charged, which were looked at first and so are at most as many.
+    /// Completions charged. They are loaded before `counted`, so they are at most as many.
     pub charged: u64,
-    /// The group that the next walk visits first.
+    /// The wake index: the group that the next walk visits first, 0 to 7.
     pub index: u32,
-    /// How many are active.
+    /// Number of active agents: those that are in a wait group, or entering or leaving one.
     pub active: u64,
 }
 
 impl<R: Copy> Queue<R> {
-    /// Enters the group of the agent's wait index, and returns its number, below 8.
+    /// Enters the wait group of the agent's wait index, advances that index, and returns the group, 0 to 7. `Waiting`
+    /// means that the agent is already in a group.
     pub fn prepare_wait(&self, agent: &mut Agent<R>) -> Result<u32, TagFault>
         requires agent { IsAgentOf self.now agent.old }
         ensures agent { IsAgentOf self.now agent.new }
@@ -44,7 +45,8 @@ impl<R: Copy> Queue<R> {
         Ok(self.groups.enter(&mut agent.waiter))
     }
 
-    /// Leaves the group in which the agent stands: `Woken` if it used a grant, `Unwoken` if it found none.
+    /// Leaves the agent's wait group, and returns `Woken` if it used a grant there, `Unwoken` if it found none.
+    /// `NotWaiting` means that the agent is in no group.
     pub fn finish_wait<W: Wait>(&self, rt: &W, agent: &mut Agent<R>) -> Result<Left, TagFault>
         requires agent { IsAgentOf self.now agent.old }
         ensures agent { IsAgentOf self.now agent.new }
@@ -60,8 +62,8 @@ impl<R: Copy> Queue<R> {
         Ok(self.groups.leave(rt, &mut agent.waiter))
     }
 
-    /// As `finish_wait`, by one try, so that it returns at once and takes no `rt`. `None` says that the group's word changed
-    /// meanwhile, and that the agent stands there still.
+    /// Like `finish_wait`, but makes one try only, and so needs no `rt`. `None` means that the group's word changed
+    /// meanwhile and that the agent is still in the group.
     pub fn try_finish_wait(&self, agent: &mut Agent<R>) -> Result<Option<Left>, TagFault>
         requires agent { IsAgentOf self.now agent.old }
         ensures agent { IsAgentOf self.now agent.new }
@@ -79,7 +81,7 @@ impl<R: Copy> Queue<R> {
         Ok(self.groups.try_leave(&mut agent.waiter))
     }
 
-    /// What the agent finds of the counts and of the groups, by four loads at four moments.
+    /// Loads the counts and the state of the wait groups, in four loads at different moments.
     pub fn wakes(&self, agent: &mut Agent<R>) -> Wakes
         requires agent { IsAgentOf self.now agent.old }
         ensures agent { IsAgentOf self.now agent.new }
@@ -102,7 +104,9 @@ impl<R: Copy> Queue<R> {
         }
     }
 
-    /// Takes a free tag as `get` does, and waits while it finds none. Nothing promises that it returns.
+    /// Takes a free tag like `get`, and waits as long as it finds none. Nothing promises that it returns. `NoSuchTag`
+    /// means that the queue has no tags, `Waiting` that the agent is already in a wait group, `Spent` that its life is
+    /// used up.
     pub fn get_blocking<W: Wait>(&self, rt: &W, agent: &mut Agent<R>) -> Result<u32, TagFault>
         requires agent { IsAgentOf self.now agent.old }
         ensures agent { IsAgentOf self.now agent.new }
@@ -137,7 +141,7 @@ impl<R: Copy> Queue<R> {
         unreachable!()
     }
 
-    // A get by an agent that has room.
+    // Makes a get for an agent that may win one more tag.
     fn try_get(&self, agent: &mut Agent<R>) -> Option<u32>
         requires agent { IsAgentOf self.now agent.old }
         requires room { HasRoom agent.old 1 }

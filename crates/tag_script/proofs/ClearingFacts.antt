@@ -1,4 +1,4 @@
--- Tags that are freed one after another, a mask for those of one word.
+-- Freeing tags one after another, with one mask for neighbours in the same word.
 use Rattle.std.proofs.Common.{◌≡◌, ◌≢◌, ℕ, zero, suc, ◌+◌, ◌^◌, ◌<◌, ◌≤◌, max, Bool, true, false, not, ◌&&◌, ◌||◌, nat_eq, nat_lt, List, [], length, take, get_or, bit_or, refl, sym, ap, ◌∙◌, eq-eqb, ne_eqb, subst, arith}
 use mathlib.Core.Logic.{dite}
 use native.Mathlib.Decide.{ℕ_discrete}
@@ -17,7 +17,7 @@ use Rattle.tag_search.proofs.Pools.{pool_ext, or_false, and_false}
 use Rattle.tag_search.proofs.OneTag.{one_place}
 use Rattle.tag_script.specs.Solo.{freed, is_named}
 
--- one place more is free
+-- one more place is free
 abbrev pub with_place : ℕ → ℕ → Pool → Pool
 with_place word place p = record p { free = λ other at. p.free other at || (nat_eq other word && nat_eq at place) }
 
@@ -30,7 +30,7 @@ or_one true (suc zero) (suc zero) h k = refl
 or_one true (suc (suc a)) b h k = absurd (omega arith)
 or_one true a (suc (suc b)) h k = absurd (omega arith)
 
--- the one bit of a place
+-- the single one of a power of two
 bit_of_place : (place at : ℕ) → place < 64 → (nat_lt at 64 && nat_eq (bit_at (2 ^ place) at) 1) ≡ nat_eq at place
 bit_of_place place at low = dite (ℕ_discrete at place)
     (λ (e : at ≡ place).
@@ -42,7 +42,7 @@ bit_of_place place at low = dite (ℕ_discrete at place)
     ap (λ (x : ℕ). nat_lt at 64 && nat_eq x 1) (bit_at-pow_other place at ne) ∙ and_false (nat_lt at 64)
     ∙ sym (ne_eqb at place ne))
 
--- a mask and one place more
+-- a mask with one more place
 bits_more : (mask place at : ℕ) → place < 64
     → (nat_lt at 64 && nat_eq (bit_at (bit_or mask (2 ^ place)) at) 1)
     ≡ ((nat_lt at 64 && nat_eq (bit_at mask at) 1) || nat_eq at place)
@@ -64,7 +64,7 @@ or_assoc : (a b c : Bool) → (a || (b || c)) ≡ ((a || b) || c)
 or_assoc true b c = refl
 or_assoc false b c = refl
 
--- a mask with one place more frees that place too
+-- a mask with one more place frees that place too
 pub free_more : (p : Pool) (word mask place : ℕ) → place < 64
     → free_at word (bit_or mask (2 ^ place)) p ≡ with_place word place (free_at word mask p)
 free_more p word mask place low = pool_ext (free_at word (bit_or mask (2 ^ place)) p)
@@ -76,14 +76,14 @@ free_more p word mask place low = pool_ext (free_at word (bit_or mask (2 ^ place
     ∙ ap (λ (b : Bool). (p.free other at || b) || (nat_eq other word && nat_eq at place))
     (sym (and_assoc (nat_eq other word) (nat_lt at 64) (nat_eq (bit_at mask at) 1)))) (λ other at. refl)
 
--- a mask of one place frees it alone
+-- a mask of one place frees that place only
 pub free_one : (p : Pool) (word place : ℕ) → place < 64 → free_at word (2 ^ place) p ≡ with_place word place p
 free_one p word place low = pool_ext (free_at word (2 ^ place) p) (with_place word place p)
     (λ other at. ap (λ (b : Bool). p.free other at || b)
     (and_assoc (nat_eq other word) (nat_lt at 64) (nat_eq (bit_at (2 ^ place) at) 1))
     ∙ ap (λ (b : Bool). p.free other at || (nat_eq other word && b)) (bit_of_place place at low)) (λ other at. refl)
 
--- no bit of 0 frees a place
+-- a mask of 0 frees no place
 pub free_none : (p : Pool) (word : ℕ) → free_at word 0 p ≡ p
 free_none p word = pool_ext (free_at word 0 p) p
     (λ other at. ap (λ (b : Bool). p.free other at || b)
@@ -98,7 +98,7 @@ pub freed_none : (l : Layout) (p : Pool) → freed l [] p ≡ p
 freed_none l p = pool_ext (freed l [] p) p (λ other at. or_false (p.free other at)) (λ other at. refl)
 
 module _ (l : Layout) (tags : List ℕ) (i : ℕ) (p : Pool) (within : i < length tags) where
-  -- one tag more
+  -- one more tag
   pub freed_more : freed l (take (i + 1) tags) p
       ≡ with_place (word_of l (get_or tags i 0)) (place_of l (get_or tags i 0)) (freed l (take i tags) p)
   freed_more =
@@ -119,7 +119,7 @@ apart l a b differ = dite (ℕ_discrete (word_of l b) (word_of l a))
     ∙ and_false (nat_eq (word_of l b) (word_of l a))))
     (λ ne. ap (λ (t : Bool). t && nat_eq (place_of l b) (place_of l a)) (ne_eqb (word_of l b) (word_of l a) ne))
 
--- a tag that differs from those before it stays held where they are freed
+-- a tag that differs from the earlier ones is still held after they are freed
 pub still_held : (l : Layout) (tags : List ℕ) (i : ℕ) (p : Pool) → i ≤ length tags → (tag : ℕ)
     → ((j : ℕ) → j < i → get_or tags j 0 ≢ tag)
     → is_busy p (word_of l tag) (place_of l tag) ≡ true
@@ -140,13 +140,13 @@ less_free true x a h = h
 less_free false true a h = absurd (false≢true h)
 less_free false false a h = h
 
--- what is held once more places are free is held
+-- what is held after more places are freed was held before
 pub held_before : (p : Pool) (word mask i k : ℕ) → is_busy (free_at word mask p) i k ≡ true → is_busy p i k ≡ true
 held_before p word mask i k h = less_free (p.free i k) ((nat_eq i word && nat_lt k 64) && nat_eq (bit_at mask k) 1)
     (p.aside i k) h
 
 module _ (q : Plain) (word place : ℕ) (here : IsTaken q word place) where
-  -- the places of a mask and one more are taken
+  -- the places of a mask with one more place are taken
   pub taken_more : (mask : ℕ) → ((at : ℕ) → bit_at mask at ≡ 1 → IsTaken q word at) → (at : ℕ)
       → bit_at (bit_or mask (2 ^ place)) at ≡ 1 → IsTaken q word at
   taken_more mask all at one = dite (ℕ_discrete at place)
@@ -158,7 +158,7 @@ module _ (q : Plain) (word place : ℕ) (here : IsTaken q word place) where
   pub taken_one : (at : ℕ) → bit_at (2 ^ place) at ≡ 1 → IsTaken q word at
   taken_one at one = subst (IsTaken q word) (sym (one_place place at one)) here
 
--- the same, said of what is equal
+-- the same, with equal words and masks
 pub taken_as : (q q' : Plain) (w w' m m' : ℕ) → q' ≡ q → w' ≡ w → m' ≡ m → ((at : ℕ) → bit_at m at ≡ 1 → IsTaken q w at)
     → (at : ℕ) → bit_at m' at ≡ 1 → IsTaken q' w' at
 taken_as q q' w w' m m' e f g all at one =
@@ -168,7 +168,7 @@ taken_as q q' w w' m m' e f g all at one =
 pub within_as : (l : Layout) (w w' m m' : ℕ) → w' ≡ w → m' ≡ m → IsWithin l w m → IsWithin l w' m'
 within_as l w w' m m' f g h = subst (λ (x : ℕ). IsWithin l x m') (sym f) (subst (λ (x : ℕ). IsWithin l w x) (sym g) h)
 
--- what a test says where it is true, and where it is false
+-- the value of a test selects the case that holds
 pub if_true : (A B : Type 0) (b : Bool) → b ≡ true → MatchBool b A B → A
 if_true A B true e h = h
 if_true A B false e h = absurd (false≢true e)

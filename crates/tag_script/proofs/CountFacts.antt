@@ -1,4 +1,4 @@
--- How many tags are held or set aside, counted a word at a time.
+-- The numbers of tags held and set aside, counted word by word.
 use Rattle.std.proofs.Common.{◌≡◌, ℕ, zero, suc, ◌+◌, ◌-◌, ◌*◌, ◌^◌, ◌<◌, ◌≤◌, min, Bool, true, false, not, ◌&&◌, ◌||◌, nat_eq, nat_lt, cond, bit_and, count_ones, slice_index, refl, sym, ap, ◌∙◌, arith, rules}
 use Rattle.std.specs.Int.{bit_at, bit_not, w64}
 use Rattle.std.proofs.lemmas.Bool.{eqb-true}
@@ -15,7 +15,7 @@ use Rattle.tag_model.proofs.MaskFacts.{sum_below-bits}
 use Rattle.tag_search.specs.Plain.{Plain, words_of}
 use Rattle.tag_search.specs.Pool.{pool_of, is_busy}
 
--- a set bit that isn't aside
+-- a bit that is 1 and not aside
 busy_bits : (b a : ℕ) → b < 2 → a < 2 → cond (not (nat_eq b 0 || nat_eq a 1)) 1 0 ≡ min b (1 - a)
 busy_bits zero zero h k = refl
 busy_bits zero (suc zero) h k = refl
@@ -38,7 +38,7 @@ aside_bits zero h = refl
 aside_bits (suc zero) h = refl
 aside_bits (suc (suc a)) h = absurd (omega arith)
 
--- the bit of a place in the mask of the bits that are set and not aside
+-- the bit of a place in the mask of the bits that are 1 and not aside
 busy_place : (n a u place : ℕ) → place < 64 → a < 2 ^ 64 → bit_at u place ≡ 1
     → cond (not ((nat_lt place 64 && nat_eq (bit_at n place) 0) || (nat_lt place 64 && nat_eq (bit_at a place) 1))) 1 0
     ≡ bit_at (bit_and (bit_and n u) (bit_not w64 a)) place
@@ -56,7 +56,7 @@ aside_place a u place low one =
     let used = bit_at_and a u place in let b = bit_at-lt a place in
     ap (λ (t : Bool). cond (t && nat_eq (bit_at a place) 1) 1 0) below ∙ aside_bits (bit_at a place) b ∙ omega arith
 
--- a number that is not found different from 0
+-- a number that a test does not find different from 0 is 0
 pub zero_of : (x : ℕ) → not (nat_eq x 0) ≡ false → x ≡ 0
 zero_of x e = eqb-true x 0 (true_of (nat_eq x 0) e)
   where
@@ -64,7 +64,7 @@ zero_of x e = eqb-true x 0 (true_of (nat_eq x 0) e)
     true_of true f = refl
     true_of false f = sym f
 
--- where no bit is both set and not aside, no place is busy
+-- if no bit is both set and not aside, no place is busy
 pub idle_place : (p : Plain) (i place : ℕ) → place < 64 → slice_index p.aside i < 2 ^ 64
     → bit_and (slice_index p.word i) (bit_not w64 (slice_index p.aside i)) ≡ 0
     → is_busy (pool_of (words_of p)) i place ≡ false
@@ -78,7 +78,7 @@ idle_place p i place low fits none =
     ∙ idle_bits (bit_at n place) (bit_at a place) (bit_at-lt n place) (bit_at-lt a place) (omega arith)
 
 module _ (l : Layout) (test : ℕ → Bool) where
-  -- the tags up to the end of a word that pass a test are those before it, and the bits of the word's mask
+  -- the tags up to the end of a word that pass a test are those before the word, and the ones of the word's mask
   pub count_word : (i mask : ℕ) → i < words l → mask < 2 ^ word_depth l i
       → ((place : ℕ) → place < word_depth l i → cond (test (tag_at l i place)) 1 0 ≡ bit_at mask place)
       → count_below test (min ((i + 1) * word_bits l) l.depth) ≡ count_below test (min (i * word_bits l) l.depth)
@@ -138,7 +138,7 @@ module _ (p : Plain) (i u : ℕ) (there : i < words p.layout) (narrow : word_dep
       ∙ ap (λ (x : ℕ). cond ((pool_of (words_of p)).aside i x) 1 0) k
       ∙ aside_place a u place (omega arith) (bits place h))
 
--- a mask of 64 bits has no place behind them
+-- a mask of 64 bits has no more than 64 places
 pub narrow_word : (u depth : ℕ) → u < 2 ^ 64 → ((place : ℕ) → place < depth → bit_at u place ≡ 1) → depth ≤ 64
 narrow_word u depth fits bits = dite (dec_lt 64 depth)
     (λ (h : 64 < depth). absurd (let one = bits 64 h in

@@ -1,4 +1,4 @@
--- Bytes of bits.
+-- Bytes made of bits.
 use Rattle.std.proofs.Common.{◌≡◌, ℕ, zero, suc, ◌+◌, ◌*◌, ◌^◌, ◌<◌, ◌≤◌, Bool, true, false, cond, ap, arith}
 use Rattle.tag_layout.specs.Sums.{sum_below}
 use Rattle.tag_script.specs.Dump.{bit_value, is_held_tag}
@@ -13,7 +13,7 @@ pub bits-next : (w : Solo) (offset n : ℕ)
     → sum_below (bit_value w offset) (n + 1) ≡ sum_below (bit_value w offset) n + bit_value w offset n
 bits-next w offset n = let e : n + 1 ≡ suc n = omega arith in ap (sum_below (bit_value w offset)) e
 
--- so many bits are below their power of two
+-- the sum of the first n bits is below 2 ^ n
 pub bits-below : (w : Solo) (offset n : ℕ) → sum_below (bit_value w offset) n < 2 ^ n
 bits-below w offset zero = omega arith
 bits-below w offset (suc n) =

@@ -1,4 +1,4 @@
--- Orders one after another, and what the words of a player stand for.
+-- Orders played one after another, and the world of a player.
 use Rattle.std.proofs.Common.{◌≡◌, ℕ, ◌+◌, ◌≤◌, true, false, arith, Option, Some, None, is_some, List, [], ◌∷◌, ◌++◌, refl, ap, ◌∙◌, append-nil}
 use Rattle.std.proofs.lemmas.List.Concat.{flat_map-append}
 use Rattle.tag_lines.specs.declared.order.Order.{Order}
@@ -12,7 +12,7 @@ use Rattle.tag_script.specs.Solo.{won_by}
 use Rattle.tag_search.specs.Plain.{Plain, words_of}
 use Rattle.tag_search.specs.Pool.{pool_of}
 
--- one more order, in the world that those before it left
+-- one more order, in the world that the earlier ones left
 pub plays_more : {W : Type 0} (answers : W → Order → Answer → W → Type 0) {old between new : W} {done : List Order}
     {said : List Answer}
     (order : Order) (answer : Answer) → Plays answers old done said between → answers between order answer new
@@ -20,12 +20,12 @@ pub plays_more : {W : Type 0} (answers : W → Order → Answer → W → Type 0
 plays_more answers order answer over now = obeyed now over
 plays_more answers order answer (obeyed first plays) now = obeyed first (plays_more answers order answer plays now)
 
--- one more line
+-- the lines of one more answer
 pub text_more : (said : List Answer) (answer : Answer) → text_of (said ++ answer ∷ []) ≡ text_of said ++ line_of answer
 text_more said answer = flat_map-append line_of said (answer ∷ [])
     ∙ ap (λ (t : List ℕ). text_of said ++ t) (append-nil (line_of answer))
 
--- the orders are played, and the text has their lines
+-- the orders are played, and the text has the lines of their answers
 pub record HasPlayed {W : Type 0} (answers : W → Order → Answer → W → Type 0) (orders : List Order) (first last : W)
     (text : List ℕ)
     : Type 0 where
@@ -33,7 +33,7 @@ pub record HasPlayed {W : Type 0} (answers : W → Order → Answer → W → Ty
   pub text_is : text ≡ text_of said
   pub plays : Plays answers first orders said last
 
--- what is played on worlds is played on what these stand for
+-- a play on worlds is a play on their images, if each answer is
 pub plays_as : {A B : Type 0} (R : A → Order → Answer → A → Type 0) (S : B → Order → Answer → B → Type 0) (f : A → B)
     → ((p q : A) (order : Order) (answer : Answer) → R p order answer q → S (f p) order answer (f q))
     → {p q : A} {orders : List Order} {said : List Answer} → Plays R p orders said q → Plays S (f p) orders said (f q)
@@ -41,7 +41,7 @@ plays_as R S f carry over = over
 plays_as R S f carry (obeyed {old = p} {between = q} {order = order} {answer = answer} first plays) =
     obeyed (carry p q order answer first) (plays_as R S f carry plays)
 
--- and so is its text
+-- the same, for the output of the play
 pub played_as : {A B : Type 0} (S : B → Order → Answer → B → Type 0) (counts : B → Totals → Type 0) (f : A → B) (p : A)
     (orders : List Order) (text : List ℕ)
     → IsPlayed (λ q order answer r. S (f q) order answer (f r)) (λ q totals. counts (f q) totals) p orders text
@@ -55,7 +55,7 @@ played_as S counts f p orders text told = record {
   text_is = told.text_is;
 }
 
--- a player whose words are the same has the same world
+-- a player whose words are equal has the same world
 pub same_world : (p : Player) (q : Plain) → q.layout ≡ p.port.layout → words_of q ≡ words_of p.port
     → solo_of (record p { port = q }) ≡ solo_of p
 same_world p q layout words = λ z. record {
@@ -67,7 +67,7 @@ same_world p q layout words = λ z. record {
   back = p.back;
 }
 
--- a tag is counted, and none is not
+-- one tag is counted for an answer with a tag, and none for one without
 pub counts_one : (won : ℕ) (answer : Option ℕ) → is_some answer ≡ true → won + 1 ≡ won + won_by answer
 counts_one won None h = absurd (let wrong : false ≡ true = h in cc)
 counts_one won (Some tag) h = refl

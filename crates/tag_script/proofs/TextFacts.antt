@@ -1,11 +1,11 @@
--- Texts that are put together from parts, and lists of what is below a number.
+-- Texts that are appended part by part, and lists of the numbers below a bound.
 use Rattle.std.proofs.Common.{◌≡◌, ℕ, zero, suc, ◌+◌, ◌<◌, Bool, true, false, cond, List, [], ◌∷◌, ◌++◌, map, ap, ◌∙◌, append_assoc, append-nil, arith}
 use Rattle.std.specs.Prelude.{filter}
 use Rattle.std.proofs.lemmas.List.{map-append}
 use Rattle.std.proofs.lemmas.List.Elements.{filter-append}
 use Rattle.tag_script.specs.Dump.{range}
 
--- a part behind a part
+-- two parts appended one after the other
 pub after : (old between new first second : List ℕ) → between ≡ old ++ first → new ≡ between ++ second → new ≡ old
     ++ (first ++ second)
 after old between new first second one two = two ∙ ap (λ t. t ++ second) one ∙ append_assoc old first second
@@ -21,7 +21,7 @@ pub filter_range-next : (test : ℕ → Bool) (n : ℕ) → filter test (range (
     ++ cond (test n) (n ∷ []) []
 filter_range-next test n = ap (filter test) (range-next n) ∙ filter-append test (range n) (n ∷ [])
 
--- a number that passes stands in the list, and one that doesn't isn't there
+-- the next number is appended if it passes the test
 pub filter_range-pass : (test : ℕ → Bool) (n : ℕ) → test n ≡ true → filter test (range (n + 1)) ≡ filter test (range n)
     ++ n ∷ []
 filter_range-pass test n e = filter_range-next test n ∙ ap (λ (b : Bool). filter test (range n) ++ cond b (n ∷ []) []) e

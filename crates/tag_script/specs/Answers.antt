@@ -1,4 +1,4 @@
--- The line that tells what a command answers.
+-- The line of each answer.
 use Rattle.std.specs.Prelude.{ℕ, ◌==◌, if◌then◌else◌, List, [], ◌++◌, flat_map, Option, Some, None, codes}
 use Rattle.tag_queue.specs.declared.resizes.ResizeCause.{ResizeCause}
 use Rattle.tag_queue.specs.declared.resizes.ResizeCause.TheVariants.{Missing, DepthTooLarge, InUse, Waiting, Memory}
@@ -10,34 +10,36 @@ use Rattle.tag_sets.specs.Texts.{field, shown_text, dump_text}
 use Rattle.wake_book.specs.declared.waiting.Left.{Left}
 use Rattle.wake_book.specs.declared.waiting.Left.TheVariants.{Woken, Unwoken}
 
--- a tag alone, or none
+-- a tag, or `none`
 abbrev pub tag_line : Option ℕ → List ℕ
 tag_line None = codes "none\n"
 tag_line (Some tag) = field (codes "") tag ++ codes "\n"
 
--- a mask in decimal digits and the tag of its lowest bit, or none
+-- a mask in decimal digits and the tag of its lowest bit, or `none`
 abbrev pub batch_line : Option (ℕ × ℕ) → List ℕ
 batch_line None = codes "none\n"
 batch_line (Some won) = field (codes "mask ") won.1 ++ field (codes " at ") won.0 ++ codes "\n"
 
--- done, and how many were woken, if any
+-- `ok`, with the number of waiters woken if it is not 0
 abbrev pub done_line : ℕ → List ℕ
 done_line woken = if woken == 0 then codes "ok\n" else field (codes "ok woken ") woken ++ codes "\n"
 
+-- whether the caller used a wakeup
 abbrev pub left_line : Left → List ℕ
 left_line Woken = codes "woken\n"
 left_line Unwoken = codes "unwoken\n"
 
+-- completions counted, wakeups charged, the wake index and the number of active waiters
 abbrev pub wakes_line : Wakes → List ℕ
 wakes_line w =
     field (codes "counted=") w.counted ++ field (codes " charged=") w.charged ++ field (codes " index=") w.index
     ++ field (codes " active=") w.active ++ codes "\n"
 
--- each tag behind a blank
+-- each tag after a blank
 abbrev pub busy_line : List ℕ → List ℕ
 busy_line tags = codes "busy" ++ flat_map (field (codes " ")) tags ++ codes "\n"
 
--- what hinders a resize, in numbers
+-- the numbers of a refused resize: tags in use, or waiting callers
 abbrev pub hindrance_text : ResizeCause → List ℕ
 hindrance_text (Missing number) = []
 hindrance_text Memory = []
@@ -45,11 +47,11 @@ hindrance_text (InUse held posted) = field (codes " held=") held ++ field (codes
 hindrance_text DepthTooLarge = []
 hindrance_text (Waiting count) = field (codes " waiting=") count
 
--- why a resize is refused
+-- the line of a refused resize
 abbrev pub not_resized_line : ResizeCause → List ℕ
 not_resized_line cause = field (codes "resize refused ") (number_of_resize_cause cause) ++ hindrance_text cause ++ codes "\n"
 
--- the line of each answer; a show has five, and a dump as many as it takes
+-- the lines of each answer: a show has five, a dump one for every sixteen bytes, rounded up, and any other answer one
 abbrev pub line_of : Answer → List ℕ
 line_of (answers.Tag tag) = tag_line tag
 line_of (answers.Batch won) = batch_line won
@@ -63,6 +65,6 @@ line_of (answers.Dump bytes) = dump_text bytes
 line_of (answers.Refused fault) = field (codes "refused ") (number_of_tag_fault fault) ++ codes "\n"
 line_of (answers.NotResized cause) = not_resized_line cause
 
--- one line behind the other
+-- the lines of the answers in order
 abbrev pub text_of : List Answer → List ℕ
 text_of = flat_map line_of

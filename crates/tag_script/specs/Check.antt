@@ -1,4 +1,4 @@
--- What `check` says of a list of events.
+-- The verdict of `check` on a list of events.
 use Rattle.std.specs.Prelude.{◌≡◌, ◌⊎◌, ℕ, ◌+◌, ◌<◌, ◌≤◌, List, ◌++◌, length, IsSomeAnd, codes}
 use Rattle.tag_layout.specs.Layout.{Layout}
 use Rattle.tag_layout.specs.declared.layout.TheConstants.{MAX_DEPTH, MAX_SHIFT}
@@ -21,11 +21,11 @@ use Rattle.tag_script.specs.Setups.{IsLayoutOf}
 use Rattle.tag_script.specs.Texts.{totals_text, faulty_text, setup_text}
 use Rattle.tag_sets.specs.Texts.{field}
 
--- there are as many callers as a world can have
+-- the number of callers is legal
 abbrev pub HasCallers : CheckOptions → Type 0
 HasCallers o = (1 ≤ o.callers) × (o.callers ≤ MAX_CALLERS)
 
--- the first cause for which there is no such world
+-- the first cause that refuses the setup
 abbrev pub IsSetupFault : CheckOptions → SetFault → Type 0
 IsSetupFault o faults.Memory = ⊥
 IsSetupFault o faults.TotalTooLarge = MAX_DEPTH < o.tags
@@ -36,7 +36,7 @@ IsSetupFault o faults.CallerCount = (l : Layout) × IsLayoutOf o.tags o.shift l
 IsSetupFault o faults.LifeTooLong = ⊥
 IsSetupFault o faults.CapTooLarge = ⊥
 
--- what a run of events says: line n has the event at place n - 1
+-- the verdict on a run of events; the event at index n - 1 is in line n
 abbrev pub IsRunVerdict : Layout → ℕ → World → List Event → Verdict → Type 0
 IsRunVerdict l callers w events (Faulty fault) = ⊥
 IsRunVerdict l callers w events (Setup fault) = ⊥
@@ -45,7 +45,7 @@ IsRunVerdict l callers w events (Stopped line fault) =
 IsRunVerdict l callers w events (Legal count totals) =
     (count ≡ length events) × MayRun l callers w events × AreTotals l callers (after_all l events w) totals
 
--- each line is an event, and the world opens for them
+-- each line is an event, and the verdict is that of a run from a new world
 pub record IsRun (o : CheckOptions) (text : List ℕ) (verdict : Verdict) : Type 0 where
   pub events : List Event
   pub layout : Layout
@@ -54,14 +54,14 @@ pub record IsRun (o : CheckOptions) (text : List ℕ) (verdict : Verdict) : Type
   pub callers : HasCallers o
   pub run : IsRunVerdict layout o.callers opened events verdict
 
--- what there is to say of a text: its first faulty line, else why the setup is refused, else what the run says
+-- the verdict on a text: its first malformed line, else a refused setup, else the verdict on the run
 abbrev pub IsVerdict : CheckOptions → List ℕ → Verdict → Type 0
 IsVerdict o text (Faulty fault) = IsFirstFaulty event_of text fault
 IsVerdict o text (Setup fault) = (events : List Event) × AreReadings event_of text events × IsSetupFault o fault
 IsVerdict o text (Stopped line fault) = IsRun o text (Stopped line fault)
 IsVerdict o text (Legal count totals) = IsRun o text (Legal count totals)
 
--- the one line that tells a verdict
+-- the line that reports a verdict
 abbrev pub verdict_text : Verdict → List ℕ
 verdict_text (Faulty fault) = faulty_text fault
 verdict_text (Setup fault) = setup_text fault
@@ -69,14 +69,14 @@ verdict_text (Stopped line fault) =
     field (codes "event ") line ++ field (codes " refused ") (number_of_event_fault fault) ++ codes "\n"
 verdict_text (Legal count totals) = field (codes "ok events=") count ++ totals_text totals ++ codes "\n"
 
--- only a legal list is no refusal
+-- a legal list is done, and any other is refused
 abbrev pub ending_of : Verdict → Ending
 ending_of (Faulty fault) = Refused
 ending_of (Setup fault) = Refused
 ending_of (Stopped line fault) = Refused
 ending_of (Legal count totals) = Done
 
--- the text that a list is told, and whether it is a refusal: those of its verdict
+-- the output for a list, and whether it is a refusal, by its verdict
 pub record Tells (o : CheckOptions) (list text : List ℕ) (ending : Ending) : Type 0 where
   pub verdict : Verdict
   pub verdict_is : IsVerdict o list verdict

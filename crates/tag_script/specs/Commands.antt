@@ -1,4 +1,4 @@
--- What each command of a plain script answers, and what it leaves.
+-- The answer of each command of a plain script, and the world after it.
 use Rattle.std.specs.Prelude.{◌≡◌, ℕ, List, filter, map, Option, Result, Ok, Err}
 use Rattle.tag_layout.specs.Layout.{words, word_bits}
 use Rattle.tag_lines.specs.declared.order.Command.{Command}
@@ -15,16 +15,16 @@ use Rattle.tag_search.specs.Search.{Visit}
 use Rattle.tag_search.specs.Visits.{plain_visits}
 use Rattle.tag_sets.specs.declared.shown.Shown.{Shown}
 
--- what tells the outcome of a call: its answer, or why it is refused
+-- the answer for the result of a call: that of its value, or a refusal
 abbrev pub told : {A : Type 0} → (A → Answer) → Result A TagFault → Answer
 told tell (Ok outcome) = tell outcome
 told tell (Err fault) = answers.Refused fault
 
--- the answer tells one of the outcomes that a call may have
+-- the answer is that of a result which the call may have
 abbrev pub TellsOutcome : {A : Type 0} → (A → Answer) → (Result A TagFault → Type 0) → Answer → Type 0
 TellsOutcome {A} tell may answer = (outcome : Result A TagFault) × may outcome × (answer ≡ told tell outcome)
 
--- what there is to show of a world
+-- the sizes and counts that a show reports
 abbrev pub shown_of : Solo → Shown
 shown_of w = record {
   depth = w.layout.depth;
@@ -38,7 +38,7 @@ shown_of w = record {
 abbrev pub busy_tags : Solo → List ℕ
 busy_tags w = filter (is_held_tag w) (range w.layout.depth)
 
--- the same as bytes
+-- the same, as bytes
 abbrev pub dump_bytes : Solo → List ℕ
 dump_bytes w = map (held_byte w) (range (byte_count w))
 
@@ -46,7 +46,7 @@ dump_bytes w = map (held_byte w) (range (byte_count w))
 abbrev pub get_visits : Solo → List Visit
 get_visits w = plain_visits w.layout w.hint.round_robin (reduced w.layout.depth w.hint.at)
 
--- what a command answers in a world, and the world after it; a plain script has no other commands
+-- the answer of a command in a world, and the world after it; a plain script has no other commands
 abbrev pub Obeys : Command → Solo → Answer → Solo → Type 0
 Obeys commands.Get old answer new = (tag : Option ℕ) × Gets (get_visits old) old tag new × (answer ≡ answers.Tag tag)
 Obeys (commands.Shallow depth) old answer new =
@@ -69,7 +69,7 @@ Obeys commands.ShowReserved old answer new = ⊥
 Obeys commands.DumpReserved old answer new = ⊥
 Obeys (commands.Resize total) old answer new = ⊥
 
--- the caller obeys the order
+-- the answer of an order, and the world after it
 abbrev pub ObeysOrder : Solo → Order → Answer → Solo → Type 0
 ObeysOrder old order answer new = Obeys order.command old answer new
 

@@ -9,18 +9,18 @@ abbrev pub range : ℕ → List ℕ
 range zero = []
 range (suc n) = range n ++ n ∷ []
 
--- there is such a tag, and the caller holds it
+-- the tag is in range, and the caller holds it
 abbrev pub is_held_tag : Solo → ℕ → Bool
 is_held_tag w tag = nat_lt tag w.layout.depth && is_held w tag
 
--- what a bit of the byte at an offset counts: its tag is 8 * offset + bit
+-- the value of a bit of the byte at an offset: the bit is for the tag 8 * offset + bit
 abbrev pub bit_value : Solo → ℕ → ℕ → ℕ
 bit_value w offset bit = if is_held_tag w (8 * offset + bit) then 2 ^ bit else 0
 
--- eight tags as a byte
+-- eight tags as a byte, the first in the low bit
 abbrev pub held_byte : Solo → ℕ → ℕ
 held_byte w offset = sum_below (bit_value w offset) 8
 
--- how many bytes all tags make, the last filled up
+-- the number of bytes for all tags, the last of which is padded with zeros
 abbrev pub byte_count : Solo → ℕ
 byte_count w = div_ceil w.layout.depth 8

@@ -1,4 +1,4 @@
--- The numbers by which texts tell refused setups, events, commands and resizes.
+-- The numbers of refused setups, events, commands and resizes in the output.
 use Rattle.std.specs.Prelude.{ℕ}
 use Rattle.tag_model.specs.declared.event.EventFault.{EventFault}
 use Rattle.tag_model.specs.declared.event.EventFault.TheVariants as events

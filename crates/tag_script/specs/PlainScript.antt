@@ -1,4 +1,4 @@
--- What a script is owed where one caller is alone with plain words.
+-- The output of a script with one caller alone with plain words.
 use Rattle.std.specs.Prelude.{◌≡◌, ◌≢◌, ℕ, ◌<◌, ◌≤◌, List, max, unwrap_or, Option, IsSomeAnd}
 use Rattle.tag_layout.specs.Layout.{Layout}
 use Rattle.tag_layout.specs.declared.layout.TheConstants.{MAX_DEPTH, MAX_SHIFT}
@@ -11,12 +11,12 @@ use Rattle.tag_script.specs.Plays.{IsPlayed}
 use Rattle.tag_script.specs.Setups.{IsLayoutOf}
 use Rattle.tag_script.specs.Solo.{opened}
 
--- there is a layout of so many tags, none of them reserved
+-- the layout of this many tags, none of them reserved
 pub record IsMapOf (o : ScriptOptions) (l : Layout) : Type 0 where
   pub none_reserved : o.reserved ≡ 0
   pub layout : IsLayoutOf o.tags o.shift l
 
--- the first cause for which there is no such world
+-- the first cause that refuses the setup
 abbrev pub IsRefusedAlone : ScriptOptions → SetFault → Type 0
 IsRefusedAlone o faults.Memory = ⊥
 IsRefusedAlone o faults.TotalTooLarge = MAX_DEPTH < o.tags
@@ -31,11 +31,11 @@ pub record IsSetup (o : ScriptOptions) (l : Layout) : Type 0 where
   pub map : IsMapOf o l
   pub alone : o.callers ≡ 1
 
--- the least depth of a shallow get: what was asked for, and 1 at least
+-- the least depth of a shallow get: the option, but at least 1
 abbrev pub least_depth : Option ℕ → ℕ
 least_depth asked = max 1 (unwrap_or asked 1)
 
--- what orders are told
+-- the output of the orders
 pub record IsToldAlone (o : ScriptOptions) (orders : List Order) (text : List ℕ) : Type 0 where
   pub layout : Layout
   pub setup : IsSetup o layout

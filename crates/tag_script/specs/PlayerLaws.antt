@@ -4,7 +4,7 @@ use Rattle.std.proofs.Common.{arith}
 use Rattle.tag_script.specs.Players.{IsReadyFor}
 use Rattle.tag_script.specs.Solo.{Solo}
 
--- room for the counts of some commands is room for those of fewer
+-- room for the counts of n commands is room for those of fewer
 pub ready_for_fewer : (w : Solo) (m n : ℕ) → m ≤ n → IsReadyFor n w → IsReadyFor m w
 ready_for_fewer w m n few ready = record
     { won = Prim.omega (arith, few, ready.won); back = Prim.omega (arith, few, ready.back) }

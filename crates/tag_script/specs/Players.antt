@@ -1,11 +1,11 @@
--- What a `Player` stands for.
+-- What a contract sees of a `Player`.
 use Rattle.std.specs.Prelude.{ℕ, ◌+◌, ◌*◌, ◌^◌, ◌<◌, ◌≤◌}
 use Rattle.tag_search.specs.Plain.{words_of}
 use Rattle.tag_script.specs.declared.player.Player.{Player}
 use Rattle.tag_search.specs.Pool.{pool_of}
 use Rattle.tag_script.specs.Solo.{Solo}
 
--- the world of its caller
+-- the world of a player
 abbrev pub solo_of : Player → Solo
 solo_of p = record {
   layout = p.port.layout;
@@ -16,12 +16,12 @@ solo_of p = record {
   back = p.back;
 }
 
--- there is room for the counts of so many commands
+-- the counts have room for n more commands, each of which may add 64 to them
 pub record IsReadyFor (n : ℕ) (w : Solo) : Type 0 where
   pub won : w.won + 64 * n < 2 ^ 64
   pub back : w.back + 64 * n < 2 ^ 64
 
--- a command counts no more tags than a word has
+-- a command adds at most 64 to each count
 pub record Counted (old new : Solo) : Type 0 where
   pub won : new.won ≤ old.won + 64
   pub back : new.back ≤ old.back + 64

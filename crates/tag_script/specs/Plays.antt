@@ -1,4 +1,4 @@
--- What orders answer one after another, on any world.
+-- The output of orders, one after another, on any world.
 use Rattle.std.specs.Prelude.{◌≡◌, ℕ, List, [], ◌∷◌, ◌++◌}
 use Rattle.tag_lines.specs.declared.order.Order.{Order}
 use Rattle.tag_model.specs.declared.totals.Totals.{Totals}
@@ -6,7 +6,7 @@ use Rattle.tag_script.specs.declared.answer.Answer.{Answer}
 use Rattle.tag_script.specs.Answers.{text_of}
 use Rattle.tag_script.specs.Texts.{total_line}
 
--- the orders one after another, each answered in the world that those before it left
+-- the orders one after another, each answered in the world that the earlier ones left
 pub data Plays {W : Type 0} (answers : W → Order → Answer → W → Type 0) : W → List Order → List Answer → W
     → Type 0 where
   over : {w : W} → Plays answers w [] [] w
@@ -14,7 +14,7 @@ pub data Plays {W : Type 0} (answers : W → Order → Answer → W → Type 0) 
       → answers old order answer between → Plays answers between orders rest new
       → Plays answers old (order ∷ orders) (answer ∷ rest) new
 
--- the text of orders: the lines of their answers, and the totals of the world that they leave
+-- the output of orders: the lines of their answers, and the line of the totals of the last world
 pub record IsPlayed {W : Type 0} (answers : W → Order → Answer → W → Type 0) (counts : W → Totals → Type 0) (first : W)
     (orders : List Order) (text : List ℕ) : Type 0 where
   pub said : List Answer

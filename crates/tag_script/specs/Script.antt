@@ -1,4 +1,4 @@
--- What a script is owed: the text of its first faulty line, of a refused setup, or of its orders one after another.
+-- The output of a script: the line of its first malformed line, that of a refused setup, or the answers of its orders.
 use Rattle.std.specs.Prelude.{ℕ, Bool, true, false, List}
 use Rattle.tag_lines.specs.declared.dialect.Dialect.{Dialect}
 use Rattle.tag_lines.specs.declared.dialect.Dialect.TheVariants.{Plain, Shared}
@@ -14,24 +14,23 @@ use Rattle.tag_script.specs.PlainScript.{IsRefusedAlone, IsToldAlone}
 use Rattle.tag_script.specs.SharedScript.{IsRefusedShared, IsToldShared}
 use Rattle.tag_script.specs.Texts.{faulty_text, setup_text}
 
--- which commands a script knows: a plain one fewer
+-- the dialect of a script; a plain one has fewer commands
 abbrev pub dialect_of : Bool → Dialect
 dialect_of true = Plain
 dialect_of false = Shared
 
--- why there is no world for it
+-- the first cause that refuses the setup
 abbrev pub IsRefusedSetup : Bool → ScriptOptions → SetFault → Type 0
 IsRefusedSetup true = IsRefusedAlone
 IsRefusedSetup false = IsRefusedShared
 
--- what its orders are told
+-- the output of its orders
 abbrev pub IsTold : Bool → ScriptOptions → List Order → List ℕ → Type 0
 IsTold true = IsToldAlone
 IsTold false = IsToldShared
 
--- the text that a script is owed, and whether it is a refusal: the first faulty line, else why there is no world, else
--- what its
--- orders are told
+-- the output of a script, and whether it is a refusal: the line of its first malformed line, else that of a refused
+-- setup, else the output of its orders
 pub data Owed (o : ScriptOptions) (script : List ℕ) : List ℕ → Ending → Type 0 where
   faulty : (fault : FaultyLine) → IsFirstFaulty (order_of (dialect_of o.plain) o.callers) script fault
       → Owed o script (faulty_text fault) Refused

@@ -1,4 +1,4 @@
--- Which setups there are, and why there is no world.
+-- Which setups are legal.
 use Rattle.std.specs.Prelude.{◌≡◌, ℕ, ◌≤◌, Option, IfSome}
 use Rattle.tag_layout.specs.Layout.{Layout, HasShift}
 use Rattle.tag_layout.specs.declared.layout.TheConstants.{MAX_DEPTH, MAX_SHIFT}
@@ -6,14 +6,14 @@ use Rattle.tag_queue.specs.declared.fault.SetFault.{SetFault}
 use Rattle.tag_script.specs.declared.fault.Closed.{Closed}
 use Rattle.tag_script.specs.declared.fault.Closed.TheVariants.{Memory, Setup}
 
--- so many tags, in words of the shift that was asked for, or of the default one
+-- the layout of this many tags, with this shift or else the default one
 pub record IsLayoutOf (tags : ℕ) (shift : Option ℕ) (l : Layout) : Type 0 where
   pub depth : l.depth ≡ tags
   pub few : tags ≤ MAX_DEPTH
   pub has_shift : HasShift tags shift l.shift
   pub narrow : IfSome shift (λ s. s ≤ MAX_SHIFT)
 
--- no memory, or one of these causes
+-- out of memory, or one of these causes
 abbrev pub IsClosed : (SetFault → Type 0) → Closed → Type 0
 IsClosed refuses Memory = Unit {0}
 IsClosed refuses (Setup fault) = refuses fault

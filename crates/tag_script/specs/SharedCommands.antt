@@ -1,5 +1,5 @@
--- What each command of a script over shared tags answers, and what it leaves. With one caller the answers are those of
--- plain words.
+-- The answer of each command of a script over shared tags, and the state after it. With one caller the answers are
+-- those over plain words.
 use Rattle.std.specs.Prelude.{◌≡◌, ◌≢◌, ℕ, ◌*◌, ◌≤◌, Bool, true, List, length, filter, nat_eq, Result, Ok, Err}
 use Rattle.tag_board.specs.declared.board.Board.{Board}
 use Rattle.tag_board.specs.Boards.{state_of, lones_of}
@@ -25,12 +25,13 @@ use Rattle.tag_sets.specs.declared.kind.Kind.TheVariants.{Ordinary, Reserved}
 use Rattle.tag_sets.specs.declared.shown.Shown.{Shown}
 use Rattle.tag_sets.specs.Bits.{bit_in}
 
--- what tells the outcome of a resize
+-- the answer for the result of a resize
 abbrev pub resize_answer : Result (Unit {0}) ResizeCause → Answer
 resize_answer (Ok done) = answers.Done 0
 resize_answer (Err cause) = answers.NotResized cause
 
--- what is known of shared tags: what the answers tell of all callers, and both sets as a caller alone leaves them
+-- what is known of shared tags: the state of all callers, by their answers, and both sets, by the steps of a lone
+-- caller
 pub record Scene : Type 0 where
   pub state : State
   pub sets : Lones
@@ -43,45 +44,46 @@ scene_of board = record { state = state_of board; sets = lones_of board }
 abbrev pub IsAlone : Scene → Type 0
 IsAlone s = s.state.terms.callers ≡ 1
 
--- what holds of this outcome for any callers, and what holds besides where one is alone
+-- the first relation holds for any number of callers, and the second too if there is only one
 abbrev pub Both : {A : Type 0} → (State → A → State → Type 0) → (Lones → A → Lones → Type 0) → Scene → A → Scene
     → Type 0
 Both any alone old outcome new = any old.state outcome new.state × (IsAlone old → alone old.sets outcome new.sets)
 
--- both sets stay as they are
+-- both sets are unchanged
 abbrev pub Stay : {A : Type 0} → Lones → A → Lones → Type 0
 Stay old outcome new = new ≡ old
 
--- the answer tells one of the outcomes that a resize may have
+-- the answer is that of a result which the resize may have
 abbrev pub TellsResize : ℕ → Scene → Answer → Scene → Type 0
 TellsResize total old answer new = (outcome : Result (Unit {0}) ResizeCause)
     × Both (Resizes total) (LoneResizes total) old outcome new × (answer ≡ resize_answer outcome)
 
--- the tag's bit is set
+-- the tag's bit is 1
 abbrev pub is_marked : List ℕ → ℕ → Bool
 is_marked bits tag = nat_eq (bit_in 64 bits tag) 1
 
--- the tags whose bits are set, ascending
+-- the tags whose bits are 1, ascending
 abbrev pub tags_in : List ℕ → List ℕ
 tags_in bits = filter (is_marked bits) (range (64 * length bits))
 
--- the tags listed are those of the bits found
+-- the tags listed are those of some bits that `busy` may return
 abbrev pub ListsTags : ℕ → Scene → List ℕ → Scene → Type 0
 ListsTags caller old tags new = (bits : List ℕ) × Both (ListsBusy caller) LoneListsBusy old bits new
     × (tags ≡ tags_in bits)
 
--- the counts that a caller finds: wakeups are at most the completions, and a caller who stands in a group is active
+-- the counts that a caller finds: at most as many wakeups as completions, and at least one active waiter if it is
+-- waiting
 pub record FindsWakes (caller : ℕ) (old : State) (wakes : Wakes) (new : State) : Type 0 where
   pub ordered : wakes.charged ≤ wakes.counted
   pub active : (old.part caller).stands ≡ true → 1 ≤ wakes.active
   pub same : new ≡ old
 
--- the answer tells one of the outcomes that a caller's call may have, for any callers and for one alone
+-- the answer is that of a result which the caller's call may have, with any number of callers and with one
 abbrev pub TellsBoth : {A : Type 0} → (A → Answer) → (State → Result A TagFault → State → Type 0)
     → (Lones → Result A TagFault → Lones → Type 0) → Scene → Answer → Scene → Type 0
 TellsBoth tell any alone old answer new = TellsOutcome tell (λ outcome. Both any alone old outcome new) answer
 
--- what a caller's command answers, and what is known after it
+-- the answer of a caller's command, and what is known after it
 abbrev pub ObeysBy : ℕ → Command → Scene → Answer → Scene → Type 0
 ObeysBy caller commands.Get old answer new =
     TellsBoth answers.Tag (Gets Ordinary caller) (Does (LoneGets Ordinary plain)) old answer new
@@ -115,11 +117,11 @@ ObeysBy caller commands.DumpReserved old answer new =
     (bytes : List ℕ) × Both (Dumps Reserved) (LoneDumps Reserved) old bytes new × (answer ≡ answers.Dump bytes)
 ObeysBy caller (commands.Resize total) old answer new = TellsResize total old answer new
 
--- the command is no resize
+-- the command is not a resize
 abbrev pub IsNoResize : Command → Type 0
 IsNoResize command = (total : ℕ) → command ≢ commands.Resize total
 
--- the order's caller obeys it
+-- the answer of an order, and what is known after it
 abbrev pub ObeysShared : Scene → Order → Answer → Scene → Type 0
 ObeysShared old order answer new = ObeysBy order.caller order.command old answer new
 

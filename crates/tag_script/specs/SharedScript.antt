@@ -1,4 +1,4 @@
--- What a script is owed where its callers share tags.
+-- The output of a script whose callers share tags.
 use Rattle.std.specs.Prelude.{ℕ, ◌^◌, ◌<◌, ◌≤◌, List, IsSomeAnd}
 use Rattle.tag_layout.specs.declared.layout.TheConstants.{MAX_DEPTH, MAX_SHIFT}
 use Rattle.tag_lines.specs.declared.order.Order.{Order}
@@ -14,7 +14,7 @@ use Rattle.tag_script.specs.declared.options.ScriptOptions.{ScriptOptions}
 use Rattle.tag_script.specs.Plays.{IsPlayed}
 use Rattle.tag_script.specs.SharedCommands.{Scene, IsAlone, ObeysShared, AreSharedTotals}
 
--- what the tags are opened with; each caller may count as many completions as any may
+-- the options with which the tags are opened; each caller may count the most completions possible
 abbrev pub tag_options : ScriptOptions → Options
 tag_options o = record {
   shift = o.shift;
@@ -29,7 +29,7 @@ tag_options o = record {
 abbrev pub HasSets : ScriptOptions → Type 0
 HasSets o = HasLayouts o.tags o.reserved (tag_options o)
 
--- the first cause for which there is no such world
+-- the first cause that refuses the setup
 abbrev pub IsRefusedShared : ScriptOptions → SetFault → Type 0
 IsRefusedShared o faults.Memory = ⊥
 IsRefusedShared o faults.TotalTooLarge = MAX_DEPTH < o.tags
@@ -39,16 +39,16 @@ IsRefusedShared o faults.CallerCount = HasSets o × MiscountsAgents (tag_options
 IsRefusedShared o faults.LifeTooLong = HasSets o × CountsAgents (tag_options o) × (MOST_WON < o.life)
 IsRefusedShared o faults.CapTooLarge = ⊥
 
--- there is no such cause
+-- no cause refuses the setup
 abbrev pub IsAllowed : ScriptOptions → Type 0
 IsAllowed o = (fault : SetFault) → ¬ (IsRefusedShared o fault)
 
--- new tags as the options say, which nobody touched
+-- new tags with these options, on which nothing was done
 pub record IsNew (o : ScriptOptions) (s : Scene) : Type 0 where
   pub opened : IsOpen o.tags o.reserved (tag_options o) s.state
   pub untouched : IsAlone s → AreUntouched o.tags o.reserved (tag_options o) s.sets
 
--- what orders are told: those options are allowed, and over new tags one order after another is answered
+-- the output of the orders: the options are allowed, and the orders are answered one after another, from new tags on
 pub record IsToldShared (o : ScriptOptions) (orders : List Order) (text : List ℕ) : Type 0 where
   pub first : Scene
   pub allowed : IsAllowed o

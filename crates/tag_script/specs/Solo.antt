@@ -1,4 +1,4 @@
--- The world of a script: one caller alone with a map.
+-- The world of a plain script: one caller alone with a map.
 use Rattle.std.specs.Prelude.{◌≡◌, ℕ, ◌+◌, ◌<◌, ◌≤◌, ◌≢◌, List, length, Bool, true, false, if◌then◌else◌, Option, Some, None, Result, Ok, Err, nat_lt, nat_eq, count_ones, ◌&&◌, ◌||◌, ◌-◌, slice_index, ◌⊎◌}
 use Rattle.std.specs.List.{All, AllPairs, Any, list_any}
 use Rattle.tag_layout.specs.Layout.{Layout, word_bits, word_of, place_of}
@@ -14,9 +14,8 @@ use Rattle.tag_search.specs.Choice.{IsChoice, IsBatchChoice}
 use Rattle.tag_queue.specs.declared.fault.TagFault.{TagFault}
 use Rattle.tag_queue.specs.declared.fault.TagFault.TheVariants.{NoSuchTag, NotHeld, BadCount, TooShallow}
 
--- the sizes, the least depth of a shallow get, which places are free or set aside, the caller's hint, and how many tags
--- it
--- won and gave back
+-- the layout, the least depth of a shallow get, which places are free or set aside, the caller's hint, and how many
+-- tags it won and gave back
 pub record Solo : Type 0 where
   pub layout : Layout
   pub least : ℕ
@@ -29,7 +28,7 @@ pub record Solo : Type 0 where
 abbrev pub all_free : Pool
 all_free = record { free = λ word place. nat_lt place 64; aside = λ word place. false }
 
--- a caller who begins
+-- a caller that has done nothing
 abbrev pub opened : Layout → Bool → ℕ → Solo
 opened l round_robin least =
     record {
@@ -46,28 +45,29 @@ opened l round_robin least =
 abbrev pub is_held : Solo → ℕ → Bool
 is_held w tag = is_busy w.pool (word_of w.layout tag) (place_of w.layout tag)
 
--- the tag was given back and is not free yet
+-- the tag is set aside: given back, but not free yet
 abbrev pub is_aside : Solo → ℕ → Bool
 is_aside w tag = w.pool.aside (word_of w.layout tag) (place_of w.layout tag)
 
--- how many tags the caller holds, and how many are set aside
+-- the number of tags that the caller holds
 abbrev pub held_in : Solo → ℕ
 held_in w = count_below (is_held w) w.layout.depth
 
+-- the number of tags that are set aside
 abbrev pub aside_in : Solo → ℕ
 aside_in w = count_below (is_aside w) w.layout.depth
 
--- how many tags an answer gives
+-- the number of tags in the answer of a get
 abbrev pub won_by : Option ℕ → ℕ
 won_by None = 0
 won_by (Some tag) = 1
 
--- how many tags a batch gives: the bits of its mask
+-- the number of tags in the answer of a batch get: the ones of its mask
 abbrev pub won_in : Option (ℕ × ℕ) → ℕ
 won_in None = 0
 won_in (Some won) = count_ones won.1
 
--- a get that looks at these words: what the choice leaves, with the hint behind it and the tag counted
+-- a get with these visits: the pool is what the choice leaves, the hint moves by its rule, and the tag is counted
 pub record Gets (visits : List Visit) (old : Solo) (answer : Option ℕ) (new : Solo) : Type 0 where
   pub layout : new.layout ≡ old.layout
   pub least : new.least ≡ old.least
@@ -76,14 +76,15 @@ pub record Gets (visits : List Visit) (old : Solo) (answer : Option ℕ) (new : 
   pub won : new.won ≡ old.won + won_by answer
   pub back : new.back ≡ old.back
 
--- a shallow get: a depth below the least is refused
+-- a shallow get, which is refused below the least depth
 pub data GetsShallow (depth : ℕ) (old : Solo) : Result (Option ℕ) TagFault → Solo → Type 0 where
   too_shallow : depth < old.least → GetsShallow depth old (Err TooShallow) old
   deep_enough : (answer : Option ℕ) (new : Solo) → old.least ≤ depth
       → Gets (shallow_visits old.layout depth (reduced old.layout.depth old.hint.at)) old answer new
       → GetsShallow depth old (Ok answer) new
 
--- a batch from the words behind the hint: what the choice leaves, with the hint behind it and the tags counted
+-- a batch get from the word of the hint on: the pool is what the choice leaves, the hint moves by its rule, and the
+-- tags are counted
 pub record GetsBatch (n : ℕ) (old : Solo) (answer : Option (ℕ × ℕ)) (new : Solo) : Type 0 where
   pub layout : new.layout ≡ old.layout
   pub least : new.least ≡ old.least
@@ -93,7 +94,7 @@ pub record GetsBatch (n : ℕ) (old : Solo) (answer : Option (ℕ × ℕ)) (new 
   pub won : new.won ≡ old.won + won_in answer
   pub back : new.back ≡ old.back
 
--- a batch: no tag at all, or more than a word has, is refused; under round robin there is none
+-- a batch get: 0 tags or more than a word has are refused; under round robin it finds none
 pub data Batches (n : ℕ) (old : Solo) : Result (Option (ℕ × ℕ)) TagFault → Solo → Type 0 where
   bad_count : (n ≡ 0) ⊎ (word_bits old.layout < n) → Batches n old (Err BadCount) old
   none_around : 1 ≤ n → n ≤ word_bits old.layout → old.hint.round_robin ≡ true → Batches n old (Ok None) old
@@ -101,7 +102,7 @@ pub data Batches (n : ℕ) (old : Solo) : Result (Option (ℕ × ℕ)) TagFault 
       → old.hint.round_robin ≡ false
       → GetsBatch n old answer new → Batches n old (Ok answer) new
 
--- the tag is set aside and counted, and the hint is at it, but not under round robin
+-- the tag is set aside and counted, and the hint moves to it, except under round robin
 abbrev pub put_back : ℕ → Solo → Solo
 put_back tag w = record w {
   pool = aside_at (word_of w.layout tag) (place_of w.layout tag) w.pool;
@@ -109,7 +110,7 @@ put_back tag w = record w {
   back = w.back + 1;
 }
 
--- a clear: a tag that isn't there or isn't held is refused
+-- a clear, which is refused for a tag out of range or not held
 pub data Clears (tag : ℕ) (w : Solo) : Result (Unit {0}) TagFault → Solo → Type 0 where
   no_such_tag : w.layout.depth ≤ tag → Clears tag w (Err NoSuchTag) w
   not_held : tag < w.layout.depth → is_held w tag ≡ false → Clears tag w (Err NotHeld) w
@@ -119,11 +120,11 @@ pub data Clears (tag : ℕ) (w : Solo) : Result (Unit {0}) TagFault → Solo →
 abbrev pub is_named : Layout → List ℕ → ℕ → ℕ → Bool
 is_named l tags word place = list_any (λ tag. nat_eq word (word_of l tag) && nat_eq place (place_of l tag)) tags
 
--- the tags of the list are free, and what is set aside stays
+-- the tags of the list are free, and what is set aside is unchanged
 abbrev pub freed : Layout → List ℕ → Pool → Pool
 freed l tags p = record p { free = λ word place. p.free word place || is_named l tags word place }
 
--- the tags are free and counted, and the hint is at the last of them, but not under round robin
+-- the tags are free and counted, and the hint moves to the last of them, except under round robin
 abbrev pub give_back : List ℕ → Solo → Solo
 give_back tags w = record w {
   pool = freed w.layout tags w.pool;
@@ -131,11 +132,11 @@ give_back tags w = record w {
   back = w.back + length tags;
 }
 
--- two places of the list have one tag
+-- the list has the same tag at two indexes
 abbrev pub NamesTwice : List ℕ → Type 0
 NamesTwice tags = (i j : ℕ) × (i < j) × (j < length tags) × (slice_index tags i ≡ slice_index tags j)
 
--- a clear of a list: 1 to 64 tags, which are there, are held and differ
+-- a clear of a list of 1 to 64 distinct held tags in range; any other list is refused
 pub data ClearsBatch (tags : List ℕ) (w : Solo) : Result (Unit {0}) TagFault → Solo → Type 0 where
   bad_count : (length tags ≡ 0) ⊎ (64 < length tags) → ClearsBatch tags w (Err BadCount) w
   no_such_tag : 1 ≤ length tags → length tags ≤ 64 → Any (λ tag. w.layout.depth ≤ tag) tags

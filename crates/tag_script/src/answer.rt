@@ -1,38 +1,38 @@
-//! What the commands of a script answer.
+//! The answers of commands.
 
 use std::alloc::{AllocError, Global};
 use std::marker::Model;
 use tag_queue::ResizeCause;
 use tag_sets::{Left, Shown, TagFault, Wakes};
 
-/// What a command answers.
+/// The answer of a command.
 #[derive(Debug, Drop)]
 pub enum Answer {
-    /// To a get: the tag, or none.
+    /// Of a get: the tag, or none.
     Tag(Option<u32>),
-    /// To a batch: the tag of the mask's lowest bit, and the mask of the tags won; or none.
+    /// Of a batch get: the tag of the mask's lowest bit, and the mask of the tags won; or none.
     Batch(Option<(u32, u64)>),
-    /// Done: how many waiters were woken.
+    /// The command was carried out, and woke this many waiters.
     Done(u32),
-    /// To a wait: the group that the caller entered.
+    /// Of a wait: the number of the group that the caller entered, below 8.
     Group(u32),
-    /// To a leave: how the caller left its group.
+    /// Of the end of a wait: whether the caller used a wakeup.
     Left(Left),
-    /// To `wakes`: what the caller found.
+    /// Of `wakes`: the counts that the caller found.
     Wakes(Wakes),
-    /// To `busy`: the tags, ascending.
+    /// Of `busy`: the busy tags, ascending.
     Busy(BusyTags),
-    /// To a show.
+    /// Of a show: the sizes and the counts of a set.
     Shown(Shown),
-    /// To a dump: the busy tags as bits, eight to a byte.
+    /// Of a dump: a bit for each tag, 1 for a busy one, eight per byte.
     Dump(DumpBytes),
-    /// The command is refused.
+    /// The command was refused.
     Refused(TagFault),
-    /// A resize is refused.
+    /// A resize was refused.
     NotResized(ResizeCause),
 }
 
-/// The tags that are busy. A clause sees the list.
+/// A list of busy tags, ascending. A contract sees the list.
 #[derive(Debug, Drop)]
 pub struct BusyTags(Vec<u32>);
 
@@ -48,7 +48,7 @@ impl BusyTags {
     ghost use Rattle.std.specs.Prelude.{◌≡◌, ◌^◌, ◌≤◌, length, IfOk};
     ghost use Rattle.tag_script.specs.SharedCommands.{tags_in};
 
-    /// The numbers of the bits that are set.
+    /// Lists the numbers of the bits that are 1: bit `p` of word `w` is the tag `64 * w + p`.
     pub fn of_bits(alloc: Global, bits: &[u64]) -> Result<BusyTags, AllocError>
         requires { length bits.now ≤ 2 ^ 26 }
         ensures { IfOk result (λ tags. tags ≡ tags_in bits.now) }
@@ -69,14 +69,14 @@ impl BusyTags {
         Ok(BusyTags::new(tags))
     }
 
-    /// These tags.
+    /// Wraps a list of tags.
     pub fn new(tags: Vec<u32>) -> BusyTags
         ensures { result ≡ tags.items }
     {
         BusyTags(tags)
     }
 
-    /// The tags in order.
+    /// Returns the tags in order.
     pub fn as_slice(&self) -> &[u32]
         ensures { result.now ≡ self.now }
     {
@@ -84,7 +84,7 @@ impl BusyTags {
     }
 }
 
-/// The bytes of a dump. A clause sees the list.
+/// The bytes of a dump. A contract sees the list.
 #[derive(Debug, Drop)]
 pub struct DumpBytes(Vec<u8>);
 
@@ -99,14 +99,14 @@ impl Model for DumpBytes {
 impl DumpBytes {
     ghost use Rattle.std.specs.Prelude.{◌≡◌};
 
-    /// These bytes.
+    /// Wraps a list of bytes.
     pub fn new(bytes: Vec<u8>) -> DumpBytes
         ensures { result ≡ bytes.items }
     {
         DumpBytes(bytes)
     }
 
-    /// The bytes in order.
+    /// Returns the bytes in order.
     pub fn as_slice(&self) -> &[u8]
         ensures { result.now ≡ self.now }
     {

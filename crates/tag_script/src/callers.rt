@@ -1,4 +1,4 @@
-//! Callers that share tags, as a script moves them.
+//! The world of a script whose callers share tags.
 ghost use Rattle.std.specs.Prelude.{◌≡◌, IfOk};
 ghost use Rattle.tag_board.specs.Boards.{IsCallerOf};
 ghost use Rattle.tag_board.specs.Looks.{Dumps};
@@ -15,11 +15,11 @@ use tag_lines::{Command, Order};
 use tag_model::Totals;
 use tag_sets::Kind;
 
-/// Callers that share tags. A clause sees what is known of their board, its `scene_of`.
+/// Callers that share tags. A contract sees the `scene_of` their board.
 pub(crate) struct Callers<'a, W> {
-    /// What a leave takes; it never sleeps.
+    /// The runtime that a leave takes. A leave never sleeps.
     rt: &'a W,
-    /// Where answers are kept.
+    /// Allocator of the answers.
     alloc: Global,
     board: Board,
 }
@@ -62,14 +62,14 @@ impl<'a, W: Wait> World for Callers<'a, W> {
 }
 
 impl<'a, W: Wait> Callers<'a, W> {
-    /// The callers of this board.
+    /// Returns the world of this board.
     pub(crate) fn new(rt: &'a W, alloc: Global, board: Board) -> Callers<'a, W>
         ensures { result.board ≡ board }
     {
         Callers { rt, alloc, board }
     }
 
-    // Carries a caller's command out, but no resize, which makes another board.
+    // Carries out any command but a resize, which consumes the board.
     fn answer(&mut self, caller: u32, command: &Command) -> Result<Answer, AllocError>
         requires caller { IsCallerOf self.old.board caller }
         requires no_resize { IsNoResize command.now }
@@ -100,7 +100,7 @@ impl<'a, W: Wait> Callers<'a, W> {
         }
     }
 
-    // The tags that are busy, ascending.
+    // Lists the busy tags, ascending.
     fn busy(&mut self, caller: u32) -> Result<BusyTags, AllocError>
         requires { IsCallerOf self.old.board caller }
         ensures { IfOk result (λ tags.
@@ -110,7 +110,7 @@ impl<'a, W: Wait> Callers<'a, W> {
         BusyTags::of_bits(self.alloc, &bits)
     }
 
-    // The tags of a set that are busy, as bits.
+    // Returns a bit for each tag of a set, 1 for a busy one.
     fn dump(&mut self, caller: u32, kind: Kind) -> Result<DumpBytes, AllocError>
         requires { IsCallerOf self.old.board caller }
         ensures { IfOk result (λ bytes.

@@ -1,4 +1,4 @@
-//! Lists of events: whether they could have happened.
+//! Verdicts on lists of events.
 ghost use Rattle.std.specs.Prelude.{◌≡◌, ◌++◌, IfOk, IfErr, OnOk};
 ghost use Rattle.tag_script.specs.Faults.{number_of_event_fault};
 ghost use Rattle.tag_script.specs.Setups.{IsClosed, IsLayoutOf};
@@ -20,18 +20,18 @@ use tag_sets::SetFault;
 /// The verdict on a list of events.
 #[derive(Clone, Copy, Debug, PartialEq, Eq)]
 pub enum Verdict {
-    /// The first line that spells no event.
+    /// The first malformed line.
     Faulty(FaultyLine),
-    /// There is no such world. Every line spells an event.
+    /// The options describe no world. Every line is an event.
     Setup(SetFault),
-    /// The line of the first event that can't happen, from 1, and why it can't.
+    /// The line of the first event that cannot happen, counted from 1, and the reason.
     Stopped(u64, EventFault),
-    /// Each event can happen: how many there are, and the totals after them.
+    /// Every event can happen: the number of events, and the totals after them.
     Legal(u64, Totals),
 }
 
-/// Decides whether a list of events is possible: one event a line, one after another, from a world with all tags free.
-/// The first faulty line is told before the setup, and the setup before any event.
+/// Decides whether a list of events is possible, one event per line, from a world with all tags free. The first
+/// malformed line is reported before an illegal setup, and that before any event. `AllocError` if memory runs out.
 pub fn verdict_on(alloc: Global, options: &CheckOptions, text: &[u8]) -> Result<Verdict, AllocError>
     ensures { IfOk result (IsVerdict options.now text.now) }
 {
@@ -47,7 +47,7 @@ pub fn verdict_on(alloc: Global, options: &CheckOptions, text: &[u8]) -> Result<
     }
 }
 
-// The world that the options ask for, all tags free.
+// Opens the world that the options describe, with all tags free.
 fn open(alloc: Global, options: &CheckOptions) -> Result<World, Closed>
     ensures layout { IfOk result (λ world. IsLayoutOf options.now.tags options.now.shift world.layout) }
     ensures callers { IfOk result (λ world. HasCallers options.now × (callers_of world ≡ options.now.callers)) }
@@ -66,7 +66,7 @@ fn open(alloc: Global, options: &CheckOptions) -> Result<World, Closed>
     }
 }
 
-// The events one after another: line `n` has the event at place `n - 1`.
+// Runs the events one after another. The event at index `n - 1` is in line `n`.
 fn run(world: &mut World, events: &[Event]) -> Verdict
     ensures { IsRunVerdict world.old.layout (callers_of world.old) (world_of world.old) events.now result }
 {
@@ -77,7 +77,7 @@ fn run(world: &mut World, events: &[Event]) -> Verdict
 }
 
 impl Verdict {
-    /// The line that tells it.
+    /// Returns the line that reports the verdict.
     pub fn text(&self, alloc: Global) -> Result<Vec<u8>, AllocError>
         ensures { IfOk result (λ text. text.items ≡ verdict_text self.now) }
     {
@@ -105,7 +105,7 @@ impl Verdict {
         }
     }
 
-    /// Done where the list is legal, and refused else.
+    /// Returns `Done` if the list is legal, otherwise `Refused`.
     pub fn ending(&self) -> Ending
         ensures { result ≡ ending_of self.now }
     {
@@ -116,7 +116,7 @@ impl Verdict {
     }
 }
 
-// The number of an event's fault in texts.
+// The number of a refused event in the output.
 fn number_of(fault: EventFault) -> u64
     ensures { result ≡ number_of_event_fault fault }
 {

@@ -8,7 +8,7 @@ ghost use Rattle.tag_script.specs.Solo.{freed, NamesTwice};
 
 use tag_search::{PlainPort, Port};
 
-/// Whether each number of the list is below the depth.
+/// Returns whether each number of the list is below the depth.
 pub(crate) fn are_below(tags: &[u32], depth: u32) -> bool
     ensures { MatchBool result (All (λ tag. tag < depth) tags.now) (Any (λ tag. depth ≤ tag) tags.now) }
 {
@@ -20,8 +20,8 @@ pub(crate) fn are_below(tags: &[u32], depth: u32) -> bool
     true
 }
 
-/// Whether each tag of the list is held, and none stands there twice.
-// Each is compared with those before it: of 64 tags, 2,016 comparisons at most.
+/// Returns whether each tag of the list is held, and the tags are distinct.
+// Each tag is compared with those before it: at most 2,016 comparisons for 64 tags.
 pub(crate) fn are_held_once(port: &PlainPort, tags: &[u32]) -> bool
     requires { All (λ tag. tag < port.now.layout.depth) tags.now }
     ensures { let l = port.now.layout in let held = λ (tag : ℕ). is_busy (pool_of (words_of port.now)) (word_of l tag) (place_of l tag) in
@@ -37,7 +37,7 @@ pub(crate) fn are_held_once(port: &PlainPort, tags: &[u32]) -> bool
     true
 }
 
-/// Frees the tags of the list. Those of one word that follow each other are one step.
+/// Frees the tags of the list. Neighbours in the list that are in the same word take one step.
 pub(crate) fn give_all(port: &mut PlainPort, tags: &[u32])
     requires some { 1 ≤ length tags.now }
     requires there { All (λ tag. tag < port.old.layout.depth) tags.now }

@@ -5,6 +5,7 @@
 pub enum Ending {
     /// The input was carried out.
     Done,
-    /// The one line of output tells a faulty line, a refused setup or a refused event.
+    /// The input was refused. The output is one line, which reports a malformed line, a refused setup or a refused
+    /// event.
     Refused,
 }

@@ -1,11 +1,11 @@
-//! Why no world is opened.
+//! Why a world was not opened.
 use tag_sets::SetFault;
 
-/// Why no world was opened.
+/// Why a world was not opened.
 #[derive(Clone, Copy, Debug, PartialEq, Eq)]
 pub(crate) enum Closed {
-    /// There was no memory for it.
+    /// Out of memory.
     Memory,
-    /// The options ask for what there can't be.
+    /// The options are not legal.
     Setup(SetFault),
 }

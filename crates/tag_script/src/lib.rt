@@ -1,4 +1,4 @@
-//! What scripts and lists of events answer.
+//! The output of scripts, and verdicts on lists of events.
 #![tactic(auto)]
 
 mod answer;

@@ -1,4 +1,4 @@
-//! The lines that tell what commands answer.
+//! The lines of answers.
 ghost use Rattle.std.specs.Prelude.{◌≡◌, ◌++◌, OnOk, codes};
 ghost use Rattle.tag_sets.specs.Texts.{shown_text, dump_text, field};
 ghost use Rattle.tag_script.specs.Answers.{line_of, tag_line, batch_line, done_line, left_line, wakes_line, busy_line};
@@ -12,7 +12,7 @@ use tag_queue::ResizeCause;
 use tag_sets::{Left, Shown, TagFault, Wakes, write_dump, write_show};
 
 impl Answer {
-    /// Adds the line that tells it. A show has five lines, and a dump as many as it takes.
+    /// Appends the line of this answer. A show has five lines, and a dump one for every sixteen bytes, rounded up.
     pub fn push_to(&self, text: &mut Vec<u8>) -> Result<(), AllocError>
         ensures ok { OnOk result (text.new.items ≡ text.old.items ++ line_of self.now) }
     {
@@ -32,7 +32,7 @@ impl Answer {
     }
 }
 
-// Words, and a number after them, in a line of their own.
+// Appends words, a number and a line feed.
 fn push_line(text: &mut Vec<u8>, words: &[u8], number: u64) -> Result<(), AllocError>
     ensures ok { OnOk result (text.new.items ≡ text.old.items ++ (field words.now number ++ codes "\n")) }
 {
@@ -132,7 +132,7 @@ fn push_not_resized(text: &mut Vec<u8>, cause: ResizeCause) -> Result<(), AllocE
     end_line(text)
 }
 
-// What hinders a resize, in numbers.
+// Appends the numbers of a refused resize: tags in use, or waiting callers.
 fn push_hindrance(text: &mut Vec<u8>, cause: ResizeCause) -> Result<(), AllocError>
     ensures ok { OnOk result (text.new.items ≡ text.old.items ++ hindrance_text cause) }
 {
@@ -150,7 +150,7 @@ fn push_in_use(text: &mut Vec<u8>, held: u64, posted: u64) -> Result<(), AllocEr
     push_field(text, b" posted=", posted)
 }
 
-// The number of a refused resize in texts.
+// The number of a refused resize in the output.
 fn number_of_cause(cause: ResizeCause) -> u64
     ensures { result ≡ number_of_resize_cause cause }
 {
@@ -163,7 +163,7 @@ fn number_of_cause(cause: ResizeCause) -> u64
     }
 }
 
-// The number of a refusal in texts.
+// The number of a refused command in the output.
 fn number_of(fault: TagFault) -> u64
     ensures { result ≡ number_of_tag_fault fault }
 {

@@ -9,7 +9,7 @@ use crate::player::Player;
 use std::alloc::AllocError;
 
 impl Player {
-    /// The tags that the caller holds, ascending.
+    /// Lists the tags that the caller holds, ascending.
     pub(crate) fn busy(&mut self) -> Result<BusyTags, AllocError>
         ensures same { solo_of self.new ≡ solo_of self.old }
         ensures tags { IfOk result (λ tags. tags ≡ busy_tags (solo_of self.old)) }
@@ -30,7 +30,7 @@ impl Player {
         Ok(BusyTags::new(tags))
     }
 
-    /// The bits of all tags, low bit first. A bit is 1 where its tag is held.
+    /// Returns a bit for each tag, 1 if it is held, eight to a byte, the lowest tag in bit 0 of the first byte.
     pub(crate) fn dump(&self) -> Result<DumpBytes, AllocError>
         ensures { IfOk result (λ bytes. bytes ≡ dump_bytes (solo_of self.now)) }
     {
@@ -41,7 +41,7 @@ impl Player {
         Ok(DumpBytes::new(bytes))
     }
 
-    // Eight tags, the first at the low bit.
+    // The bits of eight tags, the first in bit 0.
     fn held_byte(&self, offset: u32) -> u8
         requires { offset < 2 ^ 29 }
         ensures { result ≡ held_byte (solo_of self.now) offset }

@@ -1,4 +1,4 @@
-//! What is asked of a run beside its input.
+//! Options of a run.
 ghost use Rattle.std.specs.Prelude.{◌≡◌};
 ghost use Rattle.tag_script.specs.Script.{dialect_of};
 ghost use Rattle.tag_script.specs.SharedScript.{tag_options};
@@ -6,32 +6,32 @@ ghost use Rattle.tag_script.specs.SharedScript.{tag_options};
 use tag_lines::Dialect;
 use tag_sets::Options;
 
-/// The most completions that a caller may count: 2^56.
+/// Most completions that a caller may count: 2^56.
 const CAP: u64 = 72_057_594_037_927_936;
 
-/// What a script is carried out on.
+/// The world of a script.
 #[derive(Clone, Copy, Debug, PartialEq, Eq)]
 pub struct ScriptOptions {
-    /// Tags of the world, at most 10,240.
+    /// Number of tags, reserved ones included, at most 10,240.
     pub tags: u32,
-    /// The first of them, kept for reserved gets. A plain script has none.
+    /// Number of reserved tags, the lowest ones, at most `tags`. A plain script has none.
     pub reserved: u32,
-    /// Binary logarithm of the bits in a whole word. None: the default for so many tags.
+    /// Binary logarithm of the bits in a whole word, at most 6. `None` selects the default for the number of tags.
     pub shift: Option<u32>,
-    /// Whether gets go round: each begins behind the last tag won.
+    /// Whether gets are round robin: each begins after the last tag won.
     pub round_robin: bool,
-    /// The least depth of a shallow get. None: 1.
+    /// Least depth of a shallow get. `None` is 1, and so is 0.
     pub min_shallow: Option<u32>,
-    /// Callers of the world, 1 to 64. A plain script has one.
+    /// Number of callers, 1 to 64. A plain script has one.
     pub callers: u32,
-    /// How many tags of each set a caller may win, at most 2^48. A plain script has no such bound.
+    /// Most tags of each set that a caller may win, at most 2^48. A plain script ignores it.
     pub life: u64,
-    /// Whether one caller is alone with plain words. Else all callers share tags.
+    /// Whether the world is one caller alone with plain words. Otherwise all callers share tags.
     pub plain: bool,
 }
 
 impl ScriptOptions {
-    /// Which commands the script knows.
+    /// Returns the dialect of the script, which determines its commands.
     pub(crate) fn dialect(&self) -> Dialect
         ensures { result ≡ dialect_of self.now.plain }
     {
@@ -42,7 +42,7 @@ impl ScriptOptions {
         }
     }
 
-    /// What shared tags are opened with.
+    /// Returns the options with which shared tags are opened.
     pub(crate) fn tag_options(&self) -> Options
         ensures { result ≡ tag_options self.now }
     {
@@ -57,13 +57,13 @@ impl ScriptOptions {
     }
 }
 
-/// The world that a list of events is checked against.
+/// The world against which a list of events is checked.
 #[derive(Clone, Copy, Debug, PartialEq, Eq)]
 pub struct CheckOptions {
-    /// Tags of the world.
+    /// Number of tags, at most 10,240.
     pub tags: u32,
-    /// Binary logarithm of the bits in a whole word. None: the default for so many tags.
+    /// Binary logarithm of the bits in a whole word, at most 6. `None` selects the default for the number of tags.
     pub shift: Option<u32>,
-    /// Callers of the world.
+    /// Number of callers, 1 to 64.
     pub callers: u32,
 }

@@ -9,49 +9,49 @@ use tag_queue::ResizeCause;
 use tag_sets::{Left, TagFault};
 
 impl Answer {
-    /// To a get.
+    /// The answer of a get.
     pub(crate) fn to_get(outcome: Result<Option<u32>, TagFault>) -> Answer
         ensures { result ≡ told answers.Tag outcome }
     {
         outcome.map_or_else(Answer::Refused, Answer::Tag)
     }
 
-    /// To a batch.
+    /// The answer of a batch get.
     pub(crate) fn to_batch(outcome: Result<Option<(u32, u64)>, TagFault>) -> Answer
         ensures { result ≡ told answers.Batch outcome }
     {
         outcome.map_or_else(Answer::Refused, Answer::Batch)
     }
 
-    /// To a call that wakes waiters: how many.
+    /// The answer of a call that wakes waiters, with their number.
     pub(crate) fn to_clear(outcome: Result<u32, TagFault>) -> Answer
         ensures { result ≡ told answers.Done outcome }
     {
         outcome.map_or_else(Answer::Refused, Answer::Done)
     }
 
-    /// To a call that wakes nobody.
+    /// The answer of a call that wakes nobody.
     pub(crate) fn to_done(outcome: Result<(), TagFault>) -> Answer
         ensures { result ≡ told (λ done. answers.Done 0) outcome }
     {
         outcome.map_or_else(Answer::Refused, |()| Answer::Done(0))
     }
 
-    /// To a wait.
+    /// The answer of a wait.
     pub(crate) fn to_wait(outcome: Result<u32, TagFault>) -> Answer
         ensures { result ≡ told answers.Group outcome }
     {
         outcome.map_or_else(Answer::Refused, Answer::Group)
     }
 
-    /// To a leave.
+    /// The answer of the end of a wait.
     pub(crate) fn to_leave(outcome: Result<Left, TagFault>) -> Answer
         ensures { result ≡ told answers.Left outcome }
     {
         outcome.map_or_else(Answer::Refused, Answer::Left)
     }
 
-    /// To a resize.
+    /// The answer of a resize.
     pub(crate) fn to_resize(outcome: Result<(), ResizeCause>) -> Answer
         ensures { result ≡ resize_answer outcome }
     {

@@ -1,4 +1,4 @@
-//! Plain scripts: one caller alone with plain words.
+//! Plain scripts: one caller on plain words.
 ghost use Rattle.std.specs.Prelude.{◌≡◌, ◌≤◌, length, IfOk, IfErr, All};
 ghost use Rattle.tag_lines.specs.ScriptLines.{IsPlain};
 ghost use Rattle.tag_script.specs.Players.{solo_of};
@@ -15,7 +15,7 @@ use tag_layout::{Layout, MAX_DEPTH};
 use tag_lines::{MAX_INPUT, Order};
 use tag_sets::SetFault;
 
-/// What the orders of one caller are told.
+/// Carries out the orders of one caller and returns the output, or the reason why the setup was refused.
 pub(crate) fn play_alone(
     alloc: Global,
     options: &ScriptOptions,
@@ -33,7 +33,7 @@ pub(crate) fn play_alone(
     }
 }
 
-// The world that the options ask for: one caller, all tags free.
+// Opens the world with these options: one caller, and all tags free. The first limit exceeded is the reason.
 fn open(alloc: Global, options: &ScriptOptions) -> Result<Player, Closed>
     ensures setup { IfOk result (λ player. IsSetup options.now (solo_of player).layout) }
     ensures opened { IfOk result (λ player. solo_of player

@@ -1,4 +1,4 @@
-//! One caller alone with a map, as a script moves it.
+//! The world of a plain script: a map with only one caller.
 ghost use Rattle.std.specs.Prelude.{ℕ, false, min, ◌≡◌, ◌+◌, ◌*◌, ◌^◌, ◌<◌, ◌≤◌, IfOk, ◌↔◌, IsTrue};
 ghost use Rattle.tag_script.specs.Solo.{opened, Gets, GetsShallow, Batches, Clears, ClearsBatch, won_in, held_in, aside_in};
 ghost use Rattle.tag_layout.specs.Layout.{word_bits, words, tag_at};
@@ -15,13 +15,13 @@ use tag_sets::{Shown, TagFault};
 /// The most tags of a list that are given back at once.
 const MAX_LIST: usize = 64;
 
-/// One caller alone with a map. A clause sees its world by `solo_of`.
+/// A map, its only caller, and the caller's counts. A contract sees the `solo_of` a player.
 #[derive(Drop)]
 pub(crate) struct Player {
-    /// Where its answers are kept.
+    /// Allocator of the answers.
     alloc: Global,
     port: PlainPort,
-    /// The least depth of a shallow get, 1 at least.
+    /// The least depth of a shallow get, at least 1.
     least: u32,
     hint: Hint,
     /// Tags won so far.
@@ -31,7 +31,7 @@ pub(crate) struct Player {
 }
 
 impl Player {
-    /// A caller who begins, with all tags free.
+    /// Opens a map whose tags are all free. Nothing is counted yet, and the hint is at tag 0.
     pub(crate) fn open(
         alloc: Global,
         layout: Layout,
@@ -52,26 +52,26 @@ impl Player {
         })
     }
 
-    /// Where its answers are kept.
+    /// Returns the allocator of the answers.
     pub(crate) fn alloc(&self) -> Global {
         self.alloc
     }
 
-    /// Tags won so far.
+    /// Returns the number of tags won so far.
     pub(crate) fn won(&self) -> u64
         ensures { result ≡ (solo_of self.now).won }
     {
         self.won
     }
 
-    /// Tags given back so far.
+    /// Returns the number of tags given back so far.
     pub(crate) fn back(&self) -> u64
         ensures { result ≡ (solo_of self.now).back }
     {
         self.back
     }
 
-    /// A free tag, or else one set aside.
+    /// Takes a free tag, or one set aside in a word that has no free one. `None` if none is found.
     pub(crate) fn get(&mut self) -> Option<u32>
         requires { IsReadyFor 1 (solo_of self.old) }
         ensures { Gets (get_visits (solo_of self.old)) (solo_of self.old) result (solo_of self.new) }
@@ -83,7 +83,7 @@ impl Player {
         answer
     }
 
-    /// The same over so many tags of the whole map alone.
+    /// Takes a tag as `get` does, within the words' shares of `depth`. Refused with `TooShallow` below the least depth.
     pub(crate) fn get_shallow(&mut self, depth: u32) -> Result<Option<u32>, TagFault>
         requires ready { IsReadyFor 1 (solo_of self.old) }
         ensures { GetsShallow depth (solo_of self.old) result (solo_of self.new) }
@@ -98,7 +98,9 @@ impl Player {
         Ok(answer)
     }
 
-    /// Free tags among so many side by side: the first tag, and the mask of those won, its bit lowest.
+    /// Takes the free tags of a run of `n` tags in one word. Returns the first tag of the run and the mask of those
+    /// won, with bit 0 for that tag, or `None`, as always under round robin. Refused with `BadCount` if `n` is 0 or
+    /// exceeds the bits per word.
     pub(crate) fn get_batch(&mut self, n: u32) -> Result<Option<(u32, u64)>, TagFault>
         requires ready { IsReadyFor 1 (solo_of self.old) }
         ensures batch { Batches n (solo_of self.old) result (solo_of self.new) }
@@ -115,7 +117,7 @@ impl Player {
         Ok(answer)
     }
 
-    /// Gives a tag back.
+    /// Sets a held tag aside for a later get. Refused with `NoSuchTag` from the depth on, and with `NotHeld`.
     pub(crate) fn clear(&mut self, tag: u32) -> Result<(), TagFault>
         requires { IsReadyFor 1 (solo_of self.old) }
         ensures { Clears tag (solo_of self.old) result (solo_of self.new) }
@@ -132,7 +134,8 @@ impl Player {
         Ok(())
     }
 
-    /// Gives tags back at once: they are free, and not set aside for a later get to free.
+    /// Frees held tags at once, without setting them aside. Refused with `BadCount` unless they are 1 to 64, then with
+    /// `NoSuchTag`, then with `NotHeld`, also if a tag is listed twice.
     pub(crate) fn clear_batch(&mut self, tags: &[u32]) -> Result<(), TagFault>
         requires { IsReadyFor 1 (solo_of self.old) }
         ensures { ClearsBatch tags.now (solo_of self.old) result (solo_of self.new) }
@@ -152,7 +155,7 @@ impl Player {
         Ok(())
     }
 
-    /// How many tags the caller holds, and how many are set aside.
+    /// Counts the tags that the caller holds, and those set aside.
     pub(crate) fn counts(&mut self) -> (u32, u32)
         ensures same { solo_of self.new ≡ solo_of self.old }
         ensures held { result.0 ≡ held_in (solo_of self.old) }
@@ -171,7 +174,7 @@ impl Player {
         (held, aside)
     }
 
-    /// Whether the caller holds a tag of the word. Where it does not, no tag of the word is listed.
+    /// Returns whether the word has a bit that is 1 and not set aside. If not, the caller holds no tag of the word.
     pub(crate) fn holds_any(&mut self, word: u32) -> bool
         requires { word < words (solo_of self.old).layout }
         ensures same { solo_of self.new ≡ solo_of self.old }
@@ -181,21 +184,21 @@ impl Player {
         self.port.look(word) & !self.port.look_aside(word) != 0
     }
 
-    /// The caller holds the tag. None behind the last is held.
+    /// Returns whether the caller holds the tag, which it does for no number from the depth on.
     pub(crate) fn holds(&self, tag: u32) -> bool
         ensures { result ≡ is_held_tag (solo_of self.now) tag }
     {
         tag < self.port.layout().depth() && self.port.taken(tag)
     }
 
-    /// The layout of the map.
+    /// Returns the layout of the map.
     pub(crate) fn layout(&self) -> Layout
         ensures { result ≡ (solo_of self.now).layout }
     {
         self.port.layout()
     }
 
-    /// What there is to show.
+    /// Returns the sizes of the map, with the numbers of tags held and set aside.
     pub(crate) fn shown(&mut self) -> Shown
         ensures same { solo_of self.new ≡ solo_of self.old }
         ensures shown { result ≡ shown_of (solo_of self.old) }
@@ -212,7 +215,7 @@ impl Player {
     }
 }
 
-// How many tags a batch gives.
+// The number of tags that a batch won.
 fn won_in(answer: Option<(u32, u64)>) -> u64
     ensures value { result ≡ won_in answer }
     ensures few { result ≤ 64 }
@@ -223,7 +226,7 @@ fn won_in(answer: Option<(u32, u64)>) -> u64
     }
 }
 
-// The bits in a whole word.
+// The number of bits per word; the last word may use fewer.
 fn bits_per_word(layout: Layout) -> u32
     ensures { result ≡ word_bits layout }
 {

@@ -1,4 +1,4 @@
-//! Orders carried out one after another.
+//! Playing a list of orders on a world.
 ghost use Rattle.std.specs.Prelude.{◌≡◌, ◌++◌, length, IfOk, OnOk};
 ghost use Rattle.std.specs.List.{All};
 ghost use Rattle.tag_script.specs.Plays.{IsPlayed};
@@ -10,8 +10,8 @@ use std::alloc::{AllocError, Global};
 use tag_lines::Order;
 use tag_model::Totals;
 
-/// Carries the orders out one after another. The text is what they answer, and the totals at the end. Where memory runs out, the
-/// world still ends by its totals: it may own what can't be dropped.
+/// Carries out the orders one after another. Returns the lines of their answers and the line of totals. The world is
+/// closed even if memory runs out, since it may own values that cannot be dropped.
 pub fn play<W: World>(alloc: Global, world: W, orders: &[Order]) -> Result<Vec<u8>, AllocError>
     requires ready { W.ready world (length orders.now) }
     requires known { All (W.knows world) orders.now }
@@ -33,7 +33,7 @@ pub fn play<W: World>(alloc: Global, world: W, orders: &[Order]) -> Result<Vec<u
     Ok(text)
 }
 
-// The last line of a script.
+// Appends the last line of a script.
 fn push_total(text: &mut Vec<u8>, totals: Totals) -> Result<(), AllocError>
     ensures ok { OnOk result (text.new.items ≡ text.old.items ++ total_line totals) }
 {

@@ -14,8 +14,9 @@ use std::alloc::{AllocError, Global};
 use std::sync::Wait;
 use tag_lines::{ListFault, MAX_INPUT, Order, orders};
 
-/// What a script answers, and how it ended: the text of its first faulty line, else of a refused setup, else of its commands
-/// one after another, with the totals at the end. All lines are looked at before the setup, and both before any command.
+/// Returns the output of a script, and whether it is a refusal. All lines are read before the world is opened, and that
+/// before any command: the output reports the first malformed line, or else a refused setup, or else has the answers of
+/// the commands and the totals. `AllocError` if memory runs out.
 pub fn answer_script<W: Wait>(
     rt: &W,
     alloc: Global,
@@ -37,7 +38,7 @@ pub fn answer_script<W: Wait>(
     }
 }
 
-// What the orders are told, in the world that the options ask for.
+// Plays the orders in the world that the options describe.
 fn carry_out<W: Wait>(
     rt: &W,
     alloc: Global,

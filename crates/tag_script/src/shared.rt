@@ -14,7 +14,7 @@ use tag_board::Board;
 use tag_lines::Order;
 use tag_sets::SetFault;
 
-/// What the orders of callers that share tags are told.
+/// Plays the orders of callers that share tags, and returns the output.
 pub(crate) fn play_shared<W: Wait>(
     rt: &W,
     alloc: Global,
@@ -32,7 +32,7 @@ pub(crate) fn play_shared<W: Wait>(
     }
 }
 
-// The world that the options ask for.
+// Opens the board that the options describe.
 fn open(alloc: Global, options: &ScriptOptions) -> Result<Board, Closed>
     ensures allowed { IfOk result (λ board. IsAllowed options.now) }
     ensures new { IfOk result (λ board. IsNew options.now (scene_of board)) }

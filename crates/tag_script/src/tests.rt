@@ -1,4 +1,4 @@
-//! Worked scripts and lists of events with the texts that they answer.
+//! Scripts and lists of events with outputs worked out on paper.
 mod dumps;
 mod lists;
 mod refusals;

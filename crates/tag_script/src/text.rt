@@ -1,4 +1,4 @@
-//! Texts, put together from words and numbers.
+//! Texts, built from words and numbers.
 ghost use Rattle.std.specs.Prelude.{◌≡◌, ◌++◌, IfOk, OnOk, codes};
 ghost use Rattle.tag_script.specs.Faults.{number_of_setup_fault};
 ghost use Rattle.tag_script.specs.Texts.{totals_text, faulty_text, setup_text};
@@ -10,7 +10,7 @@ use tag_lines::{FaultyLine, LINE_FEED};
 use tag_model::Totals;
 use tag_sets::SetFault;
 
-/// Adds words, and a number after them.
+/// Appends words and a number.
 pub(crate) fn push_field(text: &mut Vec<u8>, words: &[u8], number: u64) -> Result<(), AllocError>
     ensures ok { OnOk result (text.new.items ≡ text.old.items ++ field words.now number) }
 {
@@ -20,7 +20,7 @@ pub(crate) fn push_field(text: &mut Vec<u8>, words: &[u8], number: u64) -> Resul
     Ok(())
 }
 
-/// Adds the four sums, each behind its name.
+/// Appends the four totals, each after its name.
 pub(crate) fn push_totals(text: &mut Vec<u8>, totals: Totals) -> Result<(), AllocError>
     ensures ok { OnOk result (text.new.items ≡ text.old.items ++ totals_text totals) }
 {
@@ -31,7 +31,7 @@ pub(crate) fn push_totals(text: &mut Vec<u8>, totals: Totals) -> Result<(), Allo
     Ok(())
 }
 
-/// The line that tells a faulty line.
+/// Returns the line that reports a malformed line.
 pub fn faulty_text(alloc: Global, fault: FaultyLine) -> Result<Vec<u8>, AllocError>
     ensures { IfOk result (λ text. text.items ≡ faulty_text fault) }
 {
@@ -40,7 +40,7 @@ pub fn faulty_text(alloc: Global, fault: FaultyLine) -> Result<Vec<u8>, AllocErr
     Ok(text)
 }
 
-/// Adds that line.
+/// Appends the line that reports a malformed line.
 pub(crate) fn push_faulty(text: &mut Vec<u8>, fault: FaultyLine) -> Result<(), AllocError>
     ensures ok { OnOk result (text.new.items ≡ text.old.items ++ faulty_text fault) }
 {
@@ -49,7 +49,7 @@ pub(crate) fn push_faulty(text: &mut Vec<u8>, fault: FaultyLine) -> Result<(), A
     end_line(text)
 }
 
-/// The line that tells a refused setup.
+/// Returns the line that reports a refused setup.
 pub fn setup_text(alloc: Global, fault: SetFault) -> Result<Vec<u8>, AllocError>
     ensures { IfOk result (λ text. text.items ≡ setup_text fault) }
 {
@@ -58,7 +58,7 @@ pub fn setup_text(alloc: Global, fault: SetFault) -> Result<Vec<u8>, AllocError>
     Ok(text)
 }
 
-/// Adds that line.
+/// Appends the line that reports a refused setup.
 pub(crate) fn push_setup(text: &mut Vec<u8>, fault: SetFault) -> Result<(), AllocError>
     ensures ok { OnOk result (text.new.items ≡ text.old.items ++ setup_text fault) }
 {
@@ -66,7 +66,7 @@ pub(crate) fn push_setup(text: &mut Vec<u8>, fault: SetFault) -> Result<(), Allo
     end_line(text)
 }
 
-// The number of a refused setup in texts.
+// The number of a refused setup in the output.
 fn number_of_setup(fault: SetFault) -> u64
     ensures { result ≡ number_of_setup_fault fault }
 {
@@ -81,7 +81,7 @@ fn number_of_setup(fault: SetFault) -> u64
     }
 }
 
-/// Ends a line.
+/// Appends a line feed.
 pub(crate) fn end_line(text: &mut Vec<u8>) -> Result<(), AllocError>
     ensures ok { OnOk result (text.new.items ≡ text.old.items ++ codes "\n") }
 {

@@ -1,4 +1,4 @@
-//! What a script is carried out on.
+//! The worlds on which scripts are played.
 ghost use Rattle.std.specs.Prelude.{ℕ, ◌+◌, ◌≤◌, IfOk};
 ghost use Rattle.tag_lines.specs.declared.order.Order.{Order as Line};
 ghost use Rattle.tag_model.specs.declared.totals.Totals.{Totals as Sums};
@@ -9,21 +9,21 @@ use std::alloc::AllocError;
 use tag_lines::Order;
 use tag_model::Totals;
 
-/// What a script is carried out on. A clause sees its answers as a relation, so texts and loops are proved once for all worlds.
+/// A world on which a script is played. Its answers are a relation, so texts and loops are proved once for all worlds.
 pub trait World {
-    /// There is room for the counts of so many orders more.
+    /// The counts have room for those of this many more orders.
     ghost ready: { Self → ℕ → Type 0 };
 
-    /// The world knows the order's caller and its command.
+    /// The world has the order's caller and its command.
     ghost knows: { Self → Line → Type 0 };
 
-    /// To this order the first world may answer so, and is the second one then.
+    /// The first world may give this answer to the order, and is then the second one.
     ghost answers: { Self → Line → Said → Self → Type 0 };
 
-    /// The totals that the last line of a script tells.
+    /// The totals in the last line of a script.
     ghost counts: { Self → Sums → Type 0 };
 
-    /// Carries an order out. Only want of memory stops it: a refusal is an answer.
+    /// Carries out an order. It fails only if memory runs out: a refusal is an answer.
     fn obey(self, order: &Order) -> Result<(Answer, Self), AllocError>
         requires ready { ready self 1 }
         requires known { knows self order.now }
@@ -31,11 +31,11 @@ pub trait World {
         ensures ready { IfOk result (λ (answer, new). (n : ℕ) → ready self (n + 1) → ready new n) }
         ensures known { IfOk result (λ (answer, new). (o : Line) → knows self o → knows new o) };
 
-    /// The totals, when the script is at its end.
+    /// Closes the world at the end of a script, and returns the totals.
     fn totals(self) -> Totals
         requires ready { ready self 0 }
         ensures counts { counts self result };
 
-    /// Room for orders is room for fewer.
+    /// Room for a number of orders is room for fewer.
     ghost ready_fewer: { (w : Self) (m n : ℕ) → m ≤ n → ready w n → ready w m };
 }

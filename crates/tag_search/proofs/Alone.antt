@@ -1,4 +1,4 @@
--- What passes and visits tell where nobody else steps.
+-- The effect of passes and visits if no other caller steps.
 use Rattle.std.proofs.Common.{◌≡◌, ℕ, ◌<◌, Bool, ◌||◌, List, [], ◌∷◌, ◌++◌, get_or, Option, Some, None, arith, refl}
 use Rattle.std.proofs.Common.{sym, ap, ◌∙◌, subst}
 use Rattle.std.specs.Prelude.{All}
@@ -16,13 +16,13 @@ use Rattle.tag_search.proofs.Passes.{all_behind}
 use Rattle.tag_search.proofs.Pools.{free_here, aside_of_open}
 use Rattle.tag_search.proofs.Sweeps.{clear_of, set_of, none_of, claim_one, sweep_pool, sweep_none}
 
--- the parts of a quiet list are quiet, the second from what the first leaves
+-- the parts of a quiet list are quiet, the second from the words that the first leaves
 pub quiet-split : (xs ys : List WordStep) (w : Words) → Quiet (xs ++ ys) w → Quiet xs w
     × Quiet ys (words_after_all xs w)
 quiet-split [] ys w quiet = (tt, quiet)
 quiet-split (x ∷ xs) ys w quiet = let rest = quiet-split xs ys (words_after x w) quiet.1 in ((quiet.0, rest.0), rest.1)
 
--- a pass alone: none of the rank is free and nothing changed, or the first free place is won and taken
+-- the effect of a quiet pass: no place of the rank is free and nothing changed, or the first free place is taken
 abbrev pub PassTells : Words → ℕ → List ℕ → Option ℕ → Words → Type 0
 PassTells w i rank None left = All (IsSet (pool_of w) i) rank × (left ≡ w)
 PassTells w i rank (Some place) left = IsFirst (IsFree (pool_of w) i) (IsSet (pool_of w) i) rank place
@@ -60,13 +60,13 @@ pub pass_alone : {i : ℕ} {rank : List ℕ} {steps : List WordStep} {answer : O
     → (w : Words) → All (λ b. b < 64) rank → Quiet steps w → PassTells w i rank answer (words_after_all steps w)
 pass_alone (pass tries) w within quiet = tries_alone tries w quiet.0 within quiet.1
 
--- a visit won a place: a free one, or where none is free one that its sweep freed
+-- a visit won a place: a free one or, if none is free, one that its sweep freed
 pub data Wins (p : Pool) (i : ℕ) (rank : List ℕ) (place : ℕ) (left : Pool) : Type 0 where
   wins_free : IsFirst (IsFree p i) (IsSet p i) rank place → left ≡ taken_at i place p → Wins p i rank place left
   wins_aside : All (IsSet p i) rank → IsFirst (IsAside p i) (IsBusy p i) rank place
       → left ≡ taken_at i place (freed_in (i ∷ []) p) → Wins p i rank place left
 
--- a visit alone: all of the rank is busy and the word was swept, or a place is won
+-- the effect of a quiet visit: all of the rank is busy and the word was swept, or a place is won
 abbrev pub VisitTells : Pool → ℕ → List ℕ → Option ℕ → Pool → Type 0
 VisitTells p i rank None left = All (IsBusy p i) rank × (left ≡ freed_in (i ∷ []) p)
 VisitTells p i rank (Some place) left = Wins p i rank place left
@@ -76,13 +76,13 @@ all_before P [] ys h = All-nil P
 all_before P (x ∷ xs) ys h = All-cons P x xs (All-head P x (xs ++ ys) h)
     (all_before P xs ys (All-tail P x (xs ++ ys) h))
 
--- a place that isn't free once its word is swept is busy
+-- a place that is not free after its word is swept is busy
 all_busy : (p mid : Pool) (i : ℕ) (places : List ℕ) → mid ≡ freed_in (i ∷ []) p → All (IsSet mid i) places
     → All (IsBusy p i) places
 all_busy p mid i places e set = λ k d h. let place = get_or places k d in
     sym (free_here p i place) ∙ ap (λ (q : Pool). q.free i place) (sym e) ∙ set k d h
 
--- the second pass, after a sweep, wins the first place set aside
+-- the second pass, after a sweep, wins the first place that was set aside
 second_tells : (p mid : Pool) (w left : Words) (i : ℕ) (rank : List ℕ) (answer : Option ℕ) → pool_of w ≡ mid
     → mid ≡ freed_in (i ∷ []) p → All (IsSet p i) rank
     → PassTells w i rank answer left → VisitTells p i rank answer (pool_of left)

@@ -1,4 +1,4 @@
--- A search for several tags where nobody else steps answers the choice.
+-- If no other caller steps, a search for several tags answers the choice.
 use Rattle.std.proofs.Common.{◌≡◌, ◌≢◌, ◌↔◌, ℕ, ◌+◌, ◌-◌, ◌*◌, ◌^◌, ◌<◌, ◌≤◌, min, Bool, true, ◌&&◌, nat_eq, nat_lt}
 use Rattle.std.proofs.Common.{nat_le, List, [], ◌∷◌, ◌++◌, get_or, Option, Some, None, arith, sym, ap, ◌∙◌, subst}
 use mathlib.Core.Logic.{dite}
@@ -90,7 +90,7 @@ won_clear n place found small fits k = (
         ∙ ap (λ (b : ℕ). min b (bit_at (2 ^ 64 - 1 - found) (place + k))) (run_above n place (place + k) (omega arith))
         ∙ omega arith
 
--- a sweep and a load alone free the word's places set aside, and find it
+-- a quiet sweep and load free the word's aside places, and the load finds the word after that
 swept_look_alone : {i found : ℕ} {steps : List WordStep} → IsSweptLook i found steps → (w : Words) → Quiet steps w
     → (pool_of (words_after_all steps w) ≡ freed_in (i ∷ []) (pool_of w)) × (found ≡ (words_after_all steps w).word i)
     × (found < 2 ^ 64)
@@ -100,7 +100,7 @@ swept_look_alone {i = i} {found = found} (swept_look {sweep = sweep} s fits) w q
     (Look i found ∷ []) w in
     (ap pool_of e ∙ sweep_pool s w parts.0, parts.1.0 ∙ ap (λ (x : Words). x.word i) (sym e), fits)
 
--- so it finds the open places clear
+-- so the load finds exactly the open places clear
 look_open : (w left : Words) (i found k : ℕ) → pool_of left ≡ freed_in (i ∷ []) (pool_of w) → found ≡ left.word i
     → is_open (pool_of w) i k ≡ is_clear found k
 look_open w left i found k e f = sym (free_here (pool_of w) i k) ∙ ap (λ (q : Pool). q.free i k) (sym e)
@@ -123,12 +123,12 @@ clear_of_least p i depth found place small open_is least = let within = least.wi
   first = λ k low h. bit_of_set found k (omega arith) (sym (open_is k) ∙ least.least k h);
 }
 
--- a visit alone: the word was swept and has no run, or its run is won
+-- the effect of a quiet visit: the word was swept and has no run, or its run is won
 abbrev BatchTells : Layout → ℕ → Pool → ℕ → Option (ℕ × ℕ) → Pool → Type 0
 BatchTells l n p i None left = HasNoRun l n p i × (left ≡ freed_in (i ∷ []) p)
 BatchTells l n p i (Some won) left = IsOpenRun l n p i won.0 won.1 × (left ≡ taken_from i won.0 n (freed_in (i ∷ []) p))
 
--- a claim from a clear place on wins something
+-- a claim from a clear place on wins at least one bit
 wins_some : (n place found : ℕ) → 1 ≤ n → found < 2 ^ 64 → place < 64 → bit_at found place ≡ 0
     → without (run_mask n place) found ≢ 0
 wins_some n place found some small h clear none =
@@ -176,7 +176,7 @@ batch_visit_alone l n {i = i} (run_taken {found = found} {place = place} {steps 
           ∙ ap (taken_from i place n) a.0,
     )
 
--- a run is the same where another word is freed
+-- freeing another word changes no run
 no_run_still : (l : Layout) (n x : ℕ) (p : Pool) (i : ℕ) → HasNoRun l n (freed_in (x ∷ []) p) i → HasNoRun l n p i
 no_run_still l n x p i none place least = none place (least_same p (freed_in (x ∷ []) p) i (word_depth l i) place
     (λ k. sym (open_freed (x ∷ []) p i k)) least)
@@ -194,7 +194,7 @@ run_still l n x p i place bits run = record {
       (λ one. let is = tells.0 one in (is.0, sym same ∙ is.1), λ is. tells.1 (is.0, same ∙ is.1));
 }
 
--- a choice behind a word that has no run, and was swept
+-- a choice that passes over a word without a run, which was swept
 batch_behind : (l : Layout) (n : ℕ) (p : Pool) (i : ℕ) {is : List ℕ} {answer : Option (ℕ × ℕ)} {left : Pool}
     → HasNoRun l n p i
     → IsBatchChoice l n (freed_in (i ∷ []) p) is answer left → IsBatchChoice l n p (i ∷ is) answer left
@@ -207,7 +207,7 @@ batch_behind l n p i none (batch passed behind word {place = place} {bits = bits
     (batch (i ∷ passed) behind word (All-cons (HasNoRun l n p) i passed none (none_still l n i p passed all))
     (run_still l n i p word place bits run))
 
--- a search for a batch alone is a choice
+-- a quiet batch search is a choice
 pub batch_alone : (l : Layout) (n : ℕ) {is : List ℕ} {steps : List WordStep} {answer : Option (ℕ × ℕ)}
     → IsBatchSearch l n is steps answer → 1 ≤ n → word_bits l ≤ 64
     → (w : Words) → Quiet steps w → IsBatchChoice l n (pool_of w) is answer (pool_of (words_after_all steps w))

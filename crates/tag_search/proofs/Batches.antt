@@ -21,26 +21,26 @@ use Rattle.tag_search.proofs.BatchAlone.{batch_alone}
 use Rattle.tag_search.proofs.Bounds.{sweep_bound}
 use Rattle.tag_search.proofs.Orders.{length-numbers}
 
--- what a sweep adds, whether or not it found a mask
+-- the steps of a sweep, whether or not it found a mask
 pub swept_any : {Port : Type 0} (adds : Port → List WordStep → Port → Type 0) (p q : Port) (i : ℕ) (b : Bool)
     → MatchBool b ((mask : ℕ) × (mask ≢ 0) × Adds adds p q (IsSweep i mask)) (Adds adds p q (IsSweep i 0))
     → Adds adds p q (λ xs. (mask : ℕ) × IsSweep i mask xs)
 swept_any adds p q i true h = record { steps = h.2.steps; added = h.2.added; holds = (h.0, h.2.holds) }
 swept_any adds p q i false h = record { steps = h.steps; added = h.added; holds = (0, h.holds) }
 
--- where all is taken there is no run
+-- a word without a clear place has no run
 pub no_first_clear : (found depth n : ℕ) → AllSet found 0 depth → (place : ℕ) → IsFirstClear found 0 depth place
     → depth < place + n
 no_first_clear found depth n set place first = absurd (let a = set place (omega arith) first.within in
     let b = first.clear in omega arith)
 
--- the first clear place is one
+-- the first clear place is unique
 pub same_first_clear : (found depth a b : ℕ) → IsFirstClear found 0 depth a → IsFirstClear found 0 depth b → a ≤ b
 same_first_clear found depth a b x y = dite (dec_lt b a)
     (λ (less : b < a). absurd (let t = x.first b (omega arith) less in let f = y.clear in omega arith))
     (λ (no : b < a → ⊥). omega arith)
 
--- a search of the words that are left, put behind these steps, is a search of all
+-- these steps, followed by a search of the words left, are a search of all words
 abbrev pub IsBatchBegun : Layout → ℕ → List ℕ → List ℕ → List WordStep → Type 0
 IsBatchBegun l n all left steps = (rest : List WordStep) (answer : Option (ℕ × ℕ)) → IsBatchSearch l n left rest answer
     → IsBatchSearch l n all (steps ++ rest) answer
@@ -58,7 +58,7 @@ batch_ends l n all left steps e begun =
     subst (λ xs. IsBatchSearch l n all xs None) (append-nil steps)
     (begun [] None (subst (λ is. IsBatchSearch l n is [] None) (sym e) batch_over))
 
--- a search that was answered doesn't look at further words
+-- a search that has an answer visits no further words
 pub batch_stops : (l : Layout) (n : ℕ) {is : List ℕ} {steps : List WordStep} (won : ℕ × ℕ) (answer : Option (ℕ × ℕ))
     (more : List ℕ) → answer ≡ Some won
     → IsBatchSearch l n is steps answer → IsBatchSearch l n (is ++ more) steps answer
@@ -66,7 +66,7 @@ batch_stops l n won answer more e batch_over = absurd (let no : None ≡ Some wo
 batch_stops l n won answer more e (batch_won v) = batch_won v
 batch_stops l n won answer more e (batch_passed v search) = batch_passed v (batch_stops l n won answer more e search)
 
--- a search that was not answered goes on with further words
+-- a search without an answer goes on with further words
 pub batch_goes_on : (l : Layout) (n : ℕ) {is : List ℕ} {steps : List WordStep} (first : Option (ℕ × ℕ)) (more : List ℕ)
     (rest : List WordStep) (answer : Option (ℕ × ℕ))
     → first ≡ None → IsBatchSearch l n is steps first → IsBatchSearch l n more rest answer
@@ -122,7 +122,7 @@ hint_word-le l at = cases l.depth refl
     cases (suc d) e = let low : at % suc d < suc d = mod_below at (suc d) (omega arith) in
         let below = word_of-below l (at % suc d) (subst (λ (x : ℕ). at % suc d < x) (sym e) low) in omega arith
 
--- the same by other names of the sizes and the first word
+-- the same, with equal layouts and first words
 pub batch_get_at : (l sizes : Layout) (n first word : ℕ) → 1 ≤ n → sizes.shift ≤ 6 → l ≡ sizes → first ≡ word
     → word ≤ words sizes → (answer : Option (ℕ × ℕ)) (steps : List WordStep)
     → IsBatchSearch l n (scan_order first (words l) true) steps answer → IsBatchGet sizes n word answer steps
@@ -130,3 +130,15 @@ batch_get_at l sizes n first word some narrow e f h answer steps search =
     let a = subst (λ (x : Layout). IsBatchSearch x n (scan_order first (words x) true) steps answer) e search in
     batch_get sizes n word some narrow h answer steps
     (subst (λ (x : ℕ). IsBatchSearch sizes n (scan_order x (words sizes) true) steps answer) f a)
+
+-- the search from the word of a reduced hint is the batch get
+pub batch_get_from : (l sizes : Layout) (n at depth from shift : ℕ) → 1 ≤ n → shift ≤ 6 → l ≡ sizes → depth ≡ l.depth
+    → shift ≡ l.shift → from ≡ reduced depth at → (answer : Option (ℕ × ℕ)) (steps : List WordStep)
+    → IsBatchSearch l n (scan_order (from / 2 ^ shift) (words l) true) steps answer
+    → IsBatchGet sizes n (word_of sizes (reduced sizes.depth at)) answer steps
+batch_get_from l sizes n at depth from shift some narrow same deep wide hint =
+    let is : shift ≡ sizes.shift = wide ∙ ap (λ (x : Layout). x.shift) same in
+    let start : from ≡ reduced sizes.depth at = hint
+    ∙ ap (λ (d : ℕ). reduced d at) (deep ∙ ap (λ (x : Layout). x.depth) same) in
+    batch_get_at l sizes n (from / 2 ^ shift) (word_of sizes (reduced sizes.depth at)) some (omega arith) same
+    (λ z. start z / 2 ^ is z) (hint_word-le sizes at)

@@ -1,4 +1,4 @@
--- How many steps a search makes.
+-- Bounds on the number of steps of a search.
 use Rattle.std.proofs.Common.{◌≡◌, ℕ, ◌+◌, ◌*◌, ◌<◌, ◌≤◌, cond, nat_eq, List, [], ◌∷◌, ◌++◌, length, map, Option, arith}
 use Rattle.std.proofs.Common.{ap, ◌∙◌}
 use Rattle.std.specs.Prelude.{All}
@@ -28,7 +28,7 @@ pub pass_bound : {i : ℕ} {rank : List ℕ} {steps : List WordStep} {answer : O
     → length steps ≤ length rank + 1
 pass_bound (pass tries) = let less = tries_bound tries in omega arith
 
--- a sweep is a swap, and a spill where it found a mask
+-- a sweep is a swap and, if it found a mask, a spill
 pub sweep_bound : {i mask : ℕ} {steps : List WordStep} → IsSweep i mask steps → length steps ≤ 2
 sweep_bound empty = omega arith
 sweep_bound (spilled some fits) = omega arith
@@ -39,7 +39,7 @@ retry_bound (nothing_aside sweep) = let a = sweep_bound sweep in omega arith
 retry_bound (swept {sweep = first} {second = second} some sweep again) =
     let a = sweep_bound sweep in let b = pass_bound again in let e = length-append first second in omega arith
 
--- a visit has two passes at most, a swap and a spill
+-- a visit is at most two passes, a swap and a spill
 pub visit_bound : {i : ℕ} {rank : List ℕ} {steps : List WordStep} {answer : Option ℕ} → IsVisit i rank steps answer
     → length steps ≤ 2 * length rank + 4
 visit_bound (at_once once) = let a = pass_bound once in omega arith
@@ -70,7 +70,7 @@ most_steps-map of f (i ∷ is) h =
     let P : ℕ → Type 0 = λ i. 2 * length (of i).rank + 4 ≤ f i in
     let first = All-head P i is h in let rest = most_steps-map of f is (All-tail P i is h) in omega arith
 
--- all visits of a search make at most two claims of each tag and four steps more a word
+-- all visits of a search make at most two claims of each tag and four more steps for each word
 pub visits_bound : (l : Layout) (first : ℕ) (reach : Reach) → first ≤ words l
     → ((i : ℕ) → i < words l → reach.limit i ≤ word_depth l i)
     → most_steps (visits l first reach) ≤ 2 * l.depth + 4 * words l

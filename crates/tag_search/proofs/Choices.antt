@@ -1,4 +1,4 @@
--- A search where nobody else steps answers the choice.
+-- If no other caller steps, a search answers the choice.
 use Rattle.std.proofs.Common.{◌≡◌, ◌≢◌, ℕ, zero, suc, ◌+◌, ◌-◌, ◌<◌, ◌≤◌, min, true, cond, nat_eq, List, [], ◌∷◌, ◌++◌}
 use Rattle.std.proofs.Common.{map, get_or, Option, Some, None, arith, sym, ap, ◌∙◌, subst}
 use Rattle.std.specs.Prelude.{All}
@@ -20,12 +20,12 @@ use Rattle.tag_search.proofs.Passes.{all_behind}
 use Rattle.tag_search.proofs.Pools.{open_freed, free_elsewhere, aside_elsewhere, freed_none, freed_before}
 use Rattle.tag_search.proofs.Pools.{freed_between}
 
--- no two visits are of one word
+-- no two visits are of the same word
 abbrev pub Distinct : List Visit → Type 0
 Distinct [] = Unit {0}
 Distinct (visit ∷ visits) = All (λ other. other.word ≢ visit.word) visits × Distinct visits
 
--- each place is one of 64
+-- each place is below 64
 abbrev pub InWords : Visit → Type 0
 InWords visit = All (λ b. b < 64) visit.rank
 
@@ -37,7 +37,7 @@ busy_still : (x : ℕ) (p : Pool) (i : ℕ) (places : List ℕ) → All (IsBusy 
     → All (IsBusy p i) places
 busy_still x p i places busy = λ k d h. sym (open_freed (x ∷ []) p i (get_or places k d)) ∙ busy k d h
 
--- a place that is free, or set aside, is so where another word is freed
+-- freeing another word changes no free or aside place of this one
 first_elsewhere : (x : ℕ) (p : Pool) (i : ℕ) (rank : List ℕ) (place : ℕ) → i ≢ x
     → IsFirst (IsFree (freed_in (x ∷ []) p) i) (IsSet (freed_in (x ∷ []) p) i) rank place
     → IsFirst (IsFree p i) (IsSet p i) rank place
@@ -64,7 +64,7 @@ full_still : (x : ℕ) (p : Pool) (visits : List Visit) → All (IsFull (freed_i
     → All (IsFull p) visits
 full_still x p visits full = λ k d h. let visit = get_or visits k d in busy_still x p visit.word visit.rank (full k d h)
 
--- a choice behind a word that is full, and was swept
+-- a choice that passes over a full word, which was swept
 choice_behind : (p : Pool) (first : Visit) {l : Layout} {vs : List Visit} {answer : Option ℕ} {left : Pool}
     → IsFull p first → All (λ other. other.word ≢ first.word) vs
     → IsChoice l (freed_in (first.word ∷ []) p) vs answer left → IsChoice l p (first ∷ vs) answer left
@@ -97,7 +97,7 @@ choice_here l p left visit more place (wins_aside set first e) =
     subst (IsChoice l p (visit ∷ more) (Some (tag_at l visit.word place))) (sym e)
     (chosen_aside [] more visit (All-nil (IsFull p)) set first)
 
--- a search alone is a choice
+-- a quiet search is a choice
 pub search_alone : {l : Layout} {vs : List Visit} {steps : List WordStep} {answer : Option ℕ}
     → IsSearch l vs steps answer → (w : Words) → Distinct vs → All InWords vs
     → Quiet steps w → IsChoice l (pool_of w) vs answer (pool_of (words_after_all steps w))
@@ -116,7 +116,7 @@ search_alone {l = l} (passed {visit = visit} {visits = more} {steps = first} {re
     choice_behind (pool_of w) visit tells.0 distinct.0
     (subst (λ (p : Pool). IsChoice l p more answer (pool_of (words_after_all (first ++ rest) w))) tells.1 b)
 
--- no number stands twice
+-- the numbers are distinct
 abbrev Apart : List ℕ → Type 0
 Apart [] = Unit {0}
 Apart (x ∷ xs) = All (λ y. y ≢ x) xs × Apart xs
@@ -138,7 +138,7 @@ distinct_map first reach (x ∷ xs) a = (
   distinct_map first reach xs a.1,
 )
 
--- where nobody else steps a search over all words answers the choice
+-- a quiet search over all words answers the choice
 pub search_chooses : (l : Layout) (first : ℕ) (reach : Reach) → l.shift ≤ 6 → first ≤ words l
     → ((i : ℕ) → i < words l → reach.limit i ≤ word_depth l i)
     → (answer : Option ℕ) (steps : List WordStep) → IsSearch l (visits l first reach) steps answer → (w : Words)

@@ -1,4 +1,4 @@
--- What a claim of one place tells.
+-- What a claim of one place found.
 use Rattle.std.proofs.Common.{◌≡◌, ◌≢◌, ◌↔◌, ℕ, zero, suc, ◌+◌, ◌-◌, ◌*◌, ◌^◌, ◌<◌, count_ones, arith, refl, ap, ◌∙◌}
 use Rattle.std.specs.Int.{bit_at, w64}
 use Rattle.std.proofs.lemmas.Nat.{and_comm, ones_cat, pow_pos}
@@ -7,12 +7,12 @@ use lib.Count.{ones}
 use Rattle.tag_core.specs.Steps.{without}
 use Rattle.tag_search.specs.Added.{SameRoom}
 
--- a mask of one place has one bit
+-- a power of two has one bit
 pub count_ones-pow : (k : ℕ) → count_ones (2 ^ k) ≡ 1
 unfolding ones
 count_ones-pow k = let e : 2 ^ k ≡ 1 * 2 ^ k + 0 = omega arith in ap count_ones e ∙ ones_cat k 1 0 (pow_pos k)
 
--- what a claim of one place won, by what it found there
+-- the mask that a claim of one place won, by the bit that it found there
 pub without-pow : (found k : ℕ) → found < 2 ^ 64 → k < 64 → without (2 ^ k) found ≡ (1 - bit_at found k) * 2 ^ k
 without-pow found k fits h =
     and_comm (2 ^ k) (2 ^ 64 - 1 - found) ∙ and_pow (2 ^ 64 - 1 - found) k
@@ -27,7 +27,7 @@ clear_where_won found k fits h won = cases (bit_at found k) refl (bit_at-lt foun
     cases (suc zero) e l = absurd (won (without-pow found k fits h ∙ ap (λ (x : ℕ). (1 - x) * 2 ^ k) e ∙ omega arith))
     cases (suc (suc b)) e l = absurd (omega arith)
 
--- a claim that won nothing found it taken
+-- a claim that won nothing found the place taken
 pub taken_where_lost : (found k : ℕ) → found < 2 ^ 64 → k < 64 → without (2 ^ k) found ≡ 0 → bit_at found k ≡ 1
 taken_where_lost found k fits h lost = cases (bit_at found k) refl (bit_at-lt found k)
   where
@@ -42,7 +42,7 @@ count_ones-zero : count_ones 0 ≡ 0
 unfolding ones
 count_ones-zero = refl
 
--- room is used by what was won alone
+-- a claim that won nothing keeps the room
 pub same_where_lost : {Port : Type 0} (room : Port → ℕ → Type 0) (old new : Port) (won : ℕ) → won ≡ 0
     → ((n : ℕ) → room new n ↔ room old (count_ones won + n)) → SameRoom room old new
 same_where_lost room old new won e uses n =

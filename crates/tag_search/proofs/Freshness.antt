@@ -1,4 +1,4 @@
--- What a search wins its caller did not hold: each claim found the caller's own tags taken.
+-- A search wins no tag that its caller held, since each claim found the caller's own tags taken.
 use Rattle.std.proofs.Common.{◌≡◌, ℕ, ◌+◌, ◌^◌, ◌<◌, ◌≤◌, List, [], ◌∷◌, ◌++◌, Option, arith, sym, ap, ◌∙◌}
 use Rattle.std.specs.Prelude.{All, IfSome}
 use Rattle.std.specs.List.{AllByRecursion}
@@ -27,12 +27,12 @@ module _ {R : Type 0} (c : Caller R) where
   abbrev Blocks : List WordStep → Type 0
   Blocks steps = AllByRecursion (FindsHeldBy c) steps
 
-  -- no tag that is held stands at this place of the word
+  -- the caller holds no tag at this place of the word
   abbrev IsNew : ℕ → ℕ → Type 0
   IsNew i place = (tag : ℕ) → Holds c tag → word_of c.shape.value.layout tag ≡ i
       → ¬ (place_of c.shape.value.layout tag ≡ place)
 
-  -- what holds of each step of two lists holds of each step of either
+  -- a fact of each step of a concatenation is one of each step of both lists
   blocks-split : (xs ys : List WordStep) → Blocks (xs ++ ys) → Blocks xs × Blocks ys
   blocks-split [] ys h = (tt, h)
   blocks-split (x ∷ xs) ys h = let rest = blocks-split xs ys h.1 in ((h.0, rest.0), rest.1)
@@ -89,7 +89,7 @@ module _ {R : Type 0} (c : Caller R) where
       (bit_at-shr (without (run_mask n place) found) place k) ∙ one in
       let less = bit_minus (run_mask n place) found (place + k) small (omega arith) in (low, omega arith)
 
-  -- no tag that is held stands at a place of this word's run
+  -- the caller holds no tag at a place of this run of the word
   abbrev IsNewRun : ℕ → ℕ → ℕ × ℕ → Type 0
   IsNewRun i depth run = (k : ℕ) → bit_at run.1 k ≡ 1 → (run.0 + k < depth) × IsNew i (run.0 + k)
 

@@ -10,7 +10,7 @@ use Rattle.tag_search.specs.Visits.{Reach, visits, plain_reach, shallow_reach}
 use Rattle.tag_search.proofs.Choices.{search_chooses}
 use Rattle.tag_search.proofs.Bounds.{search_bound, visits_bound}
 
--- a search with limits within the words has few steps
+-- a search whose limits are within the words has a bounded number of steps
 pub get_of_search : (l : Layout) (first : ℕ) (reach : Reach) → l.shift ≤ 6 → first ≤ words l
     → ((i : ℕ) → i < words l → reach.limit i ≤ word_depth l i)
     → (answer : Option ℕ) (steps : List WordStep) → IsSearch l (visits l first reach) steps answer
@@ -22,18 +22,18 @@ get_of_search l first reach narrow h within answer steps search =
       bound = let a = search_bound search in let b = visits_bound l first reach h within in omega arith;
     }
 
--- a plain search takes no place behind a word's
+-- a plain search has no place past a word's depth
 pub plain_within : (l : Layout) (round_robin : Bool) (hint i : ℕ) → i < words l
     → (plain_reach l round_robin hint).limit i ≤ word_depth l i
 plain_within l true hint i h = omega arith
 plain_within l false hint i h = omega arith
 
--- neither does a shallow one
+-- a shallow search has none either
 pub shallow_within : (l : Layout) (depth hint i : ℕ) → i < words l → (shallow_reach l depth hint).limit i
     ≤ word_depth l i
 shallow_within l depth hint i h = let start = word-start l i h in shallow_limit-le l depth i (omega arith)
 
--- the same by other names of the sizes, the first word and the reach
+-- the same, with equal layouts, first words and reaches
 pub get_at : (l sizes : Layout) (first word : ℕ) (reach wanted : Reach) → l ≡ sizes → first ≡ word → reach ≡ wanted
     → sizes.shift ≤ 6 → word ≤ words sizes
     → ((i : ℕ) → i < words sizes → wanted.limit i ≤ word_depth sizes i)

@@ -1,4 +1,4 @@
--- Where no place is free and set aside at once, what a choice answers is held, and still no place is both.
+-- If no place is both free and set aside, the answer of a choice is held afterwards, and still no place is both.
 use Rattle.std.proofs.Common.{◌≡◌, ℕ, ◌+◌, ◌<◌, ◌≤◌, Bool, true, false, not, ◌&&◌, ◌||◌, cond, nat_eq, nat_lt, nat_le}
 use Rattle.std.proofs.Common.{List, ◌∷◌, ◌++◌, map, Option, IfSome, arith, refl, sym, ◌∙◌, subst, eq-eqb}
 use Rattle.std.specs.Prelude.{All}
@@ -33,7 +33,7 @@ taken_bits true a true e = e
 taken_bits true a false e = refl
 taken_bits false a t e = refl
 
--- no place becomes free and set aside at once
+-- freeing keeps the two sets disjoint
 apart_freed : (xs : List ℕ) (p : Pool) → IsApart p → IsApart (freed_in xs p)
 apart_freed xs p apart i k = freed_bits (p.free i k) (p.aside i k) (is_in i xs) (apart i k)
 
@@ -57,7 +57,7 @@ open_bits true a b c here e = refl
 open_bits false a true c here e = e
 open_bits false a false c here e = absurd (let no : false ≡ true = here in cc)
 
--- a place that is open is free once its word is freed
+-- an open place is free once its word is freed
 free_after : (i : ℕ) (xs : List ℕ) (p : Pool) (k : ℕ) → IsOpen p i k → (freed_in (i ∷ xs) p).free i k ≡ true
 free_after i xs p k e = open_bits (p.free i k) (p.aside i k) (nat_eq i i) (is_in i xs) (eq-eqb i i refl) e
 
@@ -73,7 +73,7 @@ or_right false a e = e
 held_at : (l : Layout) (p : Pool) (i k : ℕ) → k < word_bits l → IsBusy p i k → IsHeld l p (tag_at l i k)
 held_at l p i k h busy = (λ z. is_open p (word_of-tag_at l i k h z) (place_of-tag_at l i k h z)) ∙ busy
 
--- each place is one of its word's
+-- each place of the visit is below the word's size
 abbrev pub InDepth : Layout → Visit → Type 0
 InDepth l visit = All (λ k. k < word_bits l) visit.rank
 

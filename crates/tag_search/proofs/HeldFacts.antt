@@ -1,4 +1,4 @@
--- Which tags are held once a get has won: those that were held, and those that it answers.
+-- After a get its caller holds the tags that it held before and those answered.
 use Rattle.std.proofs.Common.{◌≡◌, ℕ, ◌+◌, ◌-◌, ◌*◌, ◌^◌, ◌<◌, ◌≤◌, ◌==◌, Option, Some, None, eqb-true, eq-eqb, arith}
 use Rattle.std.proofs.Common.{sym, ap, ◌∙◌, subst, inl}
 use Rattle.std.specs.Prelude.{IfSome}
@@ -73,7 +73,7 @@ module _ {R : Type 0} (old new : Caller R) (narrow : old.shape.value.layout.shif
   abbrev sizes : Layout
   sizes = old.shape.value.layout
 
-  -- what a get acquires
+  -- the tags that a get acquires
   pub acquires_answer : (answer : Option ℕ) → Won sizes answer (record_of old) (record_of new)
       → IfSome answer (λ tag. ¬ (Holds old tag))
       → ((tag : ℕ) → Holds old tag → Holds new tag → slot_of new tag ≡ slot_of old tag)
@@ -93,7 +93,7 @@ module _ {R : Type 0} (old new : Caller R) (narrow : old.shape.value.layout.shif
       (λ tag named. subst (λ (t : ℕ). ¬ (Holds old t)) (sym (to tag named)) fresh)
       (λ tag named. subst (λ (t : ℕ). t < sizes.depth) (sym (to tag named)) gained.tag) gained.held)
 
-  -- what a batch get acquires
+  -- the tags that a batch get acquires
   pub acquires_run : (answer : Option (ℕ × ℕ)) → WonRun sizes answer (record_of old) (record_of new)
       → ((tag : ℕ) → IsInRun answer tag → ¬ (Holds old tag))
       → ((tag : ℕ) → Holds old tag → Holds new tag → slot_of new tag ≡ slot_of old tag)

@@ -29,3 +29,4 @@ pub mod LoneCallers
 pub mod Freshness
 pub mod HeldFacts
 pub mod MapGets
+pub mod Seen

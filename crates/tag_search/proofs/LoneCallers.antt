@@ -1,5 +1,5 @@
--- The one caller of a map: its own steps tell the words, so gets are choices, and what it holds is what is busy and not
--- posted.
+-- The only caller of a map: its own steps determine the words, so gets are choices, and it holds exactly the tags that
+-- are busy and not posted.
 use Rattle.std.proofs.Common.{◌≡◌, ℕ, zero, suc, ◌<◌, ◌≤◌, ◌^◌, Bool, true, false, not, ◌&&◌, ◌||◌, ◌==◌, cond, nat_eq}
 use Rattle.std.proofs.Common.{nat_lt, List, [], ◌∷◌, replicate, ◌↔◌, eq-eqb, eqb-true, arith, refl, sym, ap, ◌∙◌, subst}
 use Rattle.std.proofs.Math.Logic.{∥∥₁_elim}
@@ -42,7 +42,7 @@ use Rattle.tag_search.specs.Shared.{AddsAll}
 use Rattle.tag_search.proofs.LoneFacts.{EachFound, own_of_record, same_cells, each_found, found_quiet, left_after}
 use Rattle.tag_search.proofs.PlainPools.{put_pool, give_pool}
 
--- that a step found what stands there has one proof
+-- that a step found the current word has at most one proof
 finds_prop : (step : WordStep) (w : Words) → IsProp (Finds step w)
 finds_prop (Look i found) w = ℕ_set found (w.word i)
 finds_prop (LookAside i found) w = ℕ_set found (w.aside i)
@@ -62,7 +62,7 @@ found_prop [] = hlevel
 found_prop (step ∷ older) = hlevel (step_prop step (cells_left older), found_prop older)
 
 module _ {R : Type 0} where
-  -- the history that shows a lone caller's record is its own list
+  -- the history behind a lone caller's record is the caller's own list
   own_list : (k : Shape) (r : Record R) (h : HasHistory k r) → k.callers ≡ 1 → r.steps ≡ steps_by 0 h.history
   own_list k r h one = let low = h.known.number in let is : r.number ≡ 0 = omega arith in
       h.known.steps ∙ ap (λ (n : ℕ). steps_by n h.history) is
@@ -70,7 +70,7 @@ module _ {R : Type 0} where
   finds_one : (k : Shape) (r : Record R) (h : HasHistory k r) → k.callers ≡ 1 → EachFinds 1 h.history
   finds_one k r h one = subst (λ (n : ℕ). EachFinds n h.history) one h.lawful.finds
 
-  -- each step of a lone caller found what its own older ones left
+  -- each step of a lone caller found what its own earlier ones left
   pub own_found : (c : Caller R) → IsAlone c → EachFound (record_of c).steps
   own_found c one = ∥∥₁_elim (c.shown (record_of c) c.knows) (found_prop (record_of c).steps)
       (λ h. subst (λ (own : List (Step R)). EachFound own) (sym (own_list c.shape.value (record_of c) h one))
@@ -126,7 +126,7 @@ module _ {R : Type 0} where
     posted = λ tag. ap (λ (s : List (Step R)). nat_eq ((cells_left s).state tag) 1) next;
   }
 
-  -- a post and a take leave the words
+  -- neither a post nor a take changes the pool
   pub own_post : (old new : Caller R) (tag : ℕ) (value : R) → Adds (Post tag value) old new
       → pool_left new ≡ pool_left old
   own_post old new tag value adds = ap (λ (s : List (Step R)). pool_of (words_left s))
@@ -143,7 +143,7 @@ module _ {R : Type 0} where
       ap (λ (s : List (Step R)). pool_of (words_left s)) (own_next (Take tag found value) old new adds)
       ∙ ap pool_of (take_words tag found value (record_of old).steps)
 
-  -- a take of a lone caller finds the tag posted exactly where its own steps posted it
+  -- a take by a lone caller finds the tag posted exactly if its own steps posted it
   pub own_took : (old new : Caller R) (tag found : ℕ) (value : Option R) → IsAlone new
       → Adds (Take tag found value) old new
       → nat_eq found 1 ≡ is_posted old tag
@@ -152,7 +152,7 @@ module _ {R : Type 0} where
       (own_found new one) in
       ap (λ (n : ℕ). nat_eq n 1) f.0
 
-  -- a look finds the word that its own steps left, and leaves the pool
+  -- a look finds the word that the caller's own steps left, and leaves the pool unchanged
   pub own_look : (old new : Caller R) (i found : ℕ) → IsAlone new → Adds (Word (Look i found)) old new
       → (found ≡ (words_left (record_of old).steps).word i) × (pool_left new ≡ pool_left old)
   own_look old new i found one adds = let next = own_next (Word (Look i found)) old new adds in (
@@ -167,7 +167,7 @@ module _ {R : Type 0} where
     ap (λ (s : List (Step R)). pool_of (words_left s)) next,
   )
 
--- steps on words leave what is posted
+-- steps on words leave the posted tags unchanged
 module _ {R : Type 0} where
   pub state_after : (steps : List WordStep) (older : List (Step R))
       → (cells_left (own_after steps older)).state ≡ (cells_left older).state
@@ -181,7 +181,7 @@ module _ {R : Type 0} where
       (ap (λ (r : Record R). r.steps) all.known ∙ own_of_record steps (record_of old))
       ∙ ap (λ (f : ℕ → ℕ). nat_eq (f tag) 1) (state_after steps (record_of old).steps)
 
-  -- two looks find what the caller's own steps left, and leave it
+  -- two looks find what the caller's own steps left, and leave it unchanged
   pub own_looks : (old mid new : Caller R) (i found set : ℕ) → IsAlone old → Adds (Word (Look i found)) old mid
       → Adds (Word (LookAside i set)) mid new
       → (found ≡ (words_left (record_of old).steps).word i) × (set ≡ (words_left (record_of old).steps).aside i)
@@ -245,7 +245,7 @@ module _ {R : Type 0} (l : Layout) where
   brings_own (Take tag zero value) q o = o
   brings_own (Take tag (suc found) value) q o = refl
 
--- in a history of one caller each tag is nobody's or that caller's
+-- in a history of one caller each tag is held by that caller or by none
 place_own : {R : Type 0} (k : Shape) (h : History R) → EachFinds 1 h → (tag : ℕ) → IsOwnPlace ((world_of k h).place tag)
 place_own k [] finds tag = tt
 place_own k (x ∷ older) finds tag =
@@ -256,7 +256,7 @@ place_own k (x ∷ older) finds tag =
     (pick_own (names k.layout (event_of k.layout 0 x.1) tag) (brings (event_of k.layout 0 x.1) q) q
     (brings_own k.layout x.1 q before) before)
 
--- what a place shows that is caller 0's or nobody's, with nothing in a sweep
+-- the bits of a place that is caller 0's or nobody's, with nothing in a sweep
 shows_own : (q : Place) → IsOwnPlace q → sweep_bit 0 q ≡ 0
     → nat_eq (held_bit 0 q) 1 ≡ (not (nat_eq (word_bit q) 0 || nat_eq (aside_bit q) 1) && not (nat_eq (posted_bit q) 1))
 shows_own free o s = refl
@@ -300,7 +300,7 @@ module _ {R : Type 0} where
       (nat_eq (bit_at ((words_left r.steps).word (word_of l tag)) (place_of l tag)) 0)
       (nat_eq (bit_at ((words_left r.steps).aside (word_of l tag)) (place_of l tag)) 1) near))
 
-  -- a lone caller's held set has the tags that are busy and not posted
+  -- a lone caller's held set has exactly the tags that are busy and not posted
   pub own_holds : (c : Caller R) → IsAlone c → (tag : ℕ) → tag < c.shape.value.layout.depth
       → c.shape.value.layout.shift ≤ 6
       → nat_eq (tag_bit c.shape.value.layout c.held.items tag) 1 ≡ is_own c tag
@@ -322,7 +322,7 @@ module _ {R : Type 0} (map : Map R) (c : Caller R) (own : IsCallerOf map c) (one
   own_low : tag < c.shape.value.layout.depth
   own_low = subst (λ (k : Shape). tag < k.layout.depth) (sym own.1) low
 
-  -- a tag is held exactly where it is busy and not posted
+  -- a tag is held exactly if it is busy and not posted
   pub holds_own : Holds c tag ↔ IsTrue (is_own c tag)
   holds_own = let is = own_holds c one tag own_low own_narrow in (
     λ holds. sym is ∙ eq-eqb (tag_bit c.shape.value.layout c.held.items tag) 1 holds.1,

@@ -1,4 +1,4 @@
--- What a get through the port of a map's caller does to it.
+-- How a get through the port of a map's caller changes the caller.
 use Rattle.std.proofs.Common.{◌≡◌, ℕ, ◌<◌, ◌≤◌, Bool, List, Option, None, Result, Ok, arith, refl, sym, ap, subst, inl}
 use Rattle.std.proofs.Common.{◌∙◌}
 use Rattle.std.specs.Prelude.{IfOk}
@@ -28,13 +28,13 @@ use Rattle.tag_search.proofs.LoneCallers.{alone_still, own_choice, own_batch, ow
 use Rattle.tag_search.proofs.RunFacts.{WonRun, batch_wins}
 use Rattle.tag_search.proofs.SharedFacts.{Won, search_wins, visits_inside}
 
--- a get that makes these visits did to its caller what the calls on a map say
+-- the effect of a get with these visits on its caller, in the form of the clauses of `on_map`
 pub record Got {R : Type 0} (l : Layout) (visits : List Visit) (answer : Option ℕ) (old new : Caller R) : Type 0 where
   pub gains : Gains l answer old new
   pub steps : Makes old new (IsGet l visits answer)
   pub alone : IsAlone old → Chooses l visits answer old new
 
--- so did a get of several tags at once
+-- the same for a get of several tags
 pub record GotRun {R : Type 0} (l : Layout) (n first : ℕ) (answer : Option (ℕ × ℕ)) (old new : Caller R) : Type 0 where
   pub gains : GainsRun l answer old new
   pub steps : Makes old new (IsBatchGet l n first answer)
@@ -47,7 +47,7 @@ module _ {R : Type 0} (map : Map R) (caller now : Caller R) (own : IsCallerOf ma
   narrow : sizes.shift ≤ 6
   narrow = subst (λ (k : Shape). k.layout.shift ≤ 6) (sym own.1) map.small.1
 
-  -- a get from what its steps are
+  -- a get, from its steps
   got : (first : ℕ) (reach : Reach) (answer : Option ℕ)
       → ((i : ℕ) → i < words sizes → reach.limit i ≤ word_depth sizes i)
       → Makes caller now (IsGet sizes (visits sizes first reach) answer)
@@ -77,7 +77,7 @@ module _ {R : Type 0} (map : Map R) (caller now : Caller R) (own : IsCallerOf ma
         };
       }
 
-  -- a batch get from what its steps are
+  -- a batch get, from its steps
   got_run : (n first : ℕ) (answer : Option (ℕ × ℕ)) → Makes caller now (IsBatchGet sizes n first answer)
       → GotRun sizes n first answer caller now
   got_run n first answer made =
@@ -107,11 +107,11 @@ module _ {R : Type 0} (map : Map R) (caller now : Caller R) (own : IsCallerOf ma
 module _ {R : Type 0} (map : Map R) (caller : Caller R) (old new : Shared R) (map_is : old.map.now ≡ map)
     (caller_is : old.caller.now ≡ caller)
     (own : IsCallerOf map caller) where
-  -- the port's sizes are the caller's
+  -- the port's layout is that of the caller
   same_sizes : layout_of old.map.now ≡ caller.shape.value.layout
   same_sizes = ap (λ (m : Map R). layout_of m) map_is ∙ sym (ap (λ (k : Shape). k.layout) own.1)
 
-  -- what the port added its caller made
+  -- the steps that the port added were made by its caller
   made : (fact : Layout → List WordStep → Type 0) → Ports AddsThrough old new (fact (layout_of old.map.now))
       → Makes caller new.caller.now (fact caller.shape.value.layout)
   made fact a = record {
@@ -120,7 +120,7 @@ module _ {R : Type 0} (map : Map R) (caller : Caller R) (old new : Shared R) (ma
     holds = subst (λ (l : Layout). fact l a.steps) same_sizes a.holds;
   }
 
-  -- what is told by the caller's sizes is told by the map's
+  -- a fact about the caller's layout is one about the map's
   of_map : (fact : Layout → Type 0) → fact caller.shape.value.layout → fact (layout_of map)
   of_map fact = subst (λ (k : Shape). fact k.layout) own.1
 
@@ -157,7 +157,7 @@ module _ {R : Type 0} (map : Map R) (caller : Caller R) (old new : Shared R) (ma
       (got_run map caller new.caller.now own n (word_of l (reduced l.depth at)) answer
       (made (λ k. IsBatchGet k n (word_of k (reduced k.depth at)) answer) a))
 
--- a batch that answers none without a step
+-- a batch get that answers none without a step
 pub none_got : {R : Type 0} (l : Layout) (answer : Result (Option (ℕ × ℕ)) Spent) (old new : Caller R)
     → answer ≡ Ok None → new ≡ old
     → IfOk answer (λ won. GainsRun l won old new)

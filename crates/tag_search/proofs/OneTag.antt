@@ -1,15 +1,15 @@
--- The bit of a mask of one bit, and two tests at once.
+-- The bit of a mask of one bit, and the conjunction of two tests.
 use Rattle.std.proofs.Common.{◌≡◌, ℕ, ◌^◌, Bool, true, false, ◌&&◌, arith, refl}
 use mathlib.Core.Logic.{dite}
 use native.Mathlib.Decide.{ℕ_discrete}
 use Rattle.std.specs.Int.{bit_at}
 use Rattle.std.proofs.lemmas.Nat.Bits.{bit_at-pow_other}
 
--- a number of one bit has it at its own place
+-- the only bit of a power of two is at its exponent
 pub one_place : (k i : ℕ) → bit_at (2 ^ k) i ≡ 1 → i ≡ k
 one_place k i one = dite (ℕ_discrete i k) (λ e. e) (λ ne. absurd (let none = bit_at-pow_other k i ne in omega arith))
 
--- two tests at once, and each of them
+-- a conjunction is true only if both tests are
 pub both_true : (a b : Bool) → (a && b) ≡ true → (a ≡ true) × (b ≡ true)
 both_true true true h = (refl, refl)
 both_true true false h = absurd cc

@@ -1,4 +1,4 @@
--- Numbers in order: the parts of a list of them, and what holds of each.
+-- Consecutive numbers: the parts of a list of them, and facts of each.
 use Rattle.std.proofs.Common.{◌≡◌, ℕ, zero, suc, ◌+◌, ◌-◌, ◌<◌, ◌≤◌, min, List, [], ◌∷◌, ◌++◌, length, arith, refl, sym}
 use Rattle.std.proofs.Common.{ap, ◌∙◌, append_assoc}
 use Rattle.std.specs.Prelude.{All, Bool, true, false}
@@ -6,15 +6,15 @@ use Rattle.std.proofs.lemmas.List.Elements.{All-nil, All-cons, All-append}
 use Rattle.std.proofs.lemmas.List.{length-append}
 use Rattle.tag_search.specs.Order.{numbers_from, numbers, scan_order}
 
--- the list ends where it does not begin
+-- a list whose end is not above its start is empty
 pub numbers-none : (a b : ℕ) → b ≤ a → numbers a b ≡ []
 numbers-none a b h = let e : b - a ≡ 0 = omega arith in ap (numbers_from a) e
 
--- the first number, and those behind it
+-- the first number, and those after it
 pub numbers-cons : (a b : ℕ) → a < b → numbers a b ≡ a ∷ numbers (a + 1) b
 numbers-cons a b h = let e : b - a ≡ suc (b - (a + 1)) = omega arith in ap (numbers_from a) e
 
--- so many numbers, and then more
+-- m + n numbers are m numbers followed by n more
 numbers_from-add : (a m n : ℕ) → numbers_from a (m + n) ≡ numbers_from a m ++ numbers_from (a + m) n
 numbers_from-add a zero n =
     let e : zero + n ≡ n = omega arith in let e' : a ≡ a + zero = omega arith in
@@ -25,25 +25,25 @@ numbers_from-add a (suc m) n =
     ap (numbers_from a) e ∙ ap (λ (xs : List ℕ). a ∷ xs)
     (rest ∙ ap (λ (x : ℕ). numbers_from (a + 1) m ++ numbers_from x n) e')
 
--- the numbers up to one, and those from it on
+-- the numbers before one, and those from it on
 pub numbers-split : (a b c : ℕ) → a ≤ b → b ≤ c → numbers a c ≡ numbers a b ++ numbers b c
 numbers-split a b c h k =
     let e : c - a ≡ (b - a) + (c - b) = omega arith in let e' : a + (b - a) ≡ b = omega arith in
     ap (numbers_from a) e ∙ numbers_from-add a (b - a) (c - b)
     ∙ ap (λ (x : ℕ). numbers a b ++ numbers_from x (c - b)) e'
 
--- the numbers up to one, that one, and those behind it
+-- the numbers before one, that one, and those after it
 pub numbers-at : (a b c : ℕ) → a ≤ b → b < c → numbers a c ≡ numbers a b ++ b ∷ numbers (b + 1) c
 numbers-at a b c h k = numbers-split a b c h (omega arith) ∙ ap (λ (xs : List ℕ). numbers a b ++ xs)
     (numbers-cons b c k)
 
--- so many numbers from one on
+-- a fact of n consecutive numbers holds of each in their list
 pub all_from : (P : ℕ → Type 0) (a n : ℕ) → ((k : ℕ) → a ≤ k → k < a + n → P k) → All P (numbers_from a n)
 all_from P a zero h = All-nil P
 all_from P a (suc n) h = All-cons P a (numbers_from (a + 1) n) (h a (omega arith) (omega arith))
     (all_from P (a + 1) n (λ k l m. h k (omega arith) (omega arith)))
 
--- what holds of each number in the range holds of each in the list
+-- a fact of each number in the range holds of each in the list
 pub all_numbers : (P : ℕ → Type 0) (a b : ℕ) → ((k : ℕ) → a ≤ k → k < b → P k) → All P (numbers a b)
 all_numbers P a b h = all_from P a (b - a) (λ k l m. h k l (omega arith))
 
@@ -54,7 +54,7 @@ length_from a (suc n) = ap suc (length_from (a + 1) n)
 pub length-numbers : (a b : ℕ) → length (numbers a b) ≡ b - a
 length-numbers a b = length_from a (b - a)
 
--- a scan looks at no place twice, so it has at most as many as its limit
+-- a scan has no place twice, so at most as many as its limit
 pub length-scan_order : (start limit : ℕ) (wrap : Bool) → length (scan_order start limit wrap) ≤ limit
 length-scan_order start limit true =
     let e = length-append (numbers start limit) (numbers 0 (min start limit)) in
@@ -62,7 +62,7 @@ length-scan_order start limit true =
 length-scan_order start limit false =
     let e = length-append {A = ℕ} (numbers start limit) [] in let a = length-numbers start limit in omega arith
 
--- what holds below the limit holds of each place of a scan
+-- a fact of each place below the limit holds of each place of a scan
 pub all_scan : (P : ℕ → Type 0) (start limit : ℕ) (wrap : Bool) → ((k : ℕ) → k < limit → P k)
     → All P (scan_order start limit wrap)
 all_scan P start limit true h =
@@ -76,14 +76,14 @@ pub numbers-push : (a b : ℕ) → a ≤ b → numbers a (b + 1) ≡ numbers a b
 numbers-push a b h = numbers-at a b (b + 1) h (omega arith) ∙ ap (λ (xs : List ℕ). numbers a b ++ b ∷ xs)
     (numbers-none (b + 1) (b + 1) (omega arith))
 
--- the same where the numbers are those below a limit
+-- the same, for numbers below a limit
 pub numbers_more : (a b limit : ℕ) → a ≤ b → b < limit → numbers a (min b limit) ++ b ∷ [] ≡ numbers a
     (min (b + 1) limit)
 numbers_more a b limit h k =
     let here : min b limit ≡ b = omega arith in let next : b + 1 ≡ min (b + 1) limit = omega arith in
     ap (λ (x : ℕ). numbers a x ++ b ∷ []) here ∙ sym (numbers-push a b h) ∙ ap (numbers a) next
 
--- and behind other numbers
+-- the same, after other numbers
 pub numbers_behind : (xs : List ℕ) (b : ℕ) → (xs ++ numbers 0 b) ++ b ∷ [] ≡ xs ++ numbers 0 (b + 1)
 numbers_behind xs b = append_assoc xs (numbers 0 b) (b ∷ [])
     ∙ ap (λ (ys : List ℕ). xs ++ ys) (sym (numbers-push 0 b (omega arith)))

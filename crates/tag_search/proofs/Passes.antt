@@ -1,4 +1,4 @@
--- What is known in the middle of a pass.
+-- The state in the middle of a pass.
 use Rattle.std.proofs.Common.{◌≡◌, ℕ, suc, ◌+◌, ◌^◌, ◌<◌, List, [], ◌∷◌, ◌++◌, length, Option, arith, sym, ap, ◌∙◌}
 use Rattle.std.proofs.Common.{subst}
 use Rattle.std.specs.Prelude.{All}
@@ -9,12 +9,12 @@ use Rattle.tag_core.specs.declared.word_step.WordStep.{WordStep}
 use Rattle.tag_core.specs.declared.word_step.WordStep.TheVariants.{Claimed}
 use Rattle.tag_search.specs.Search.{IsFirstInRank, IsTries, IsPass, loses}
 
--- tries of the places that are left, put behind these steps, are a pass over the rank
+-- these steps, followed by tries of the places left, are a pass over the rank
 abbrev pub IsPassBegun : ℕ → List ℕ → List ℕ → ℕ → List WordStep → Type 0
 IsPassBegun i rank left found steps = (tries : List WordStep) (answer : Option ℕ) → IsTries i left found tries answer
     → IsPass i rank (steps ++ tries) answer
 
--- a lost claim goes on with the places behind it
+-- after a lost claim the pass goes on with the places after it
 pub begun_further : (i : ℕ) (rank left behind : List ℕ) (found next place : ℕ) (steps : List WordStep)
     → IsPassBegun i rank left found steps
     → IsFirstInRank found left place behind → bit_at next place ≡ 1
@@ -23,20 +23,20 @@ begun_further i rank left behind found next place steps begun first taken tries 
     subst (λ xs. IsPass i rank xs answer) (sym (append_assoc steps (Claimed i (2 ^ place) next ∷ []) tries))
     (begun (Claimed i (2 ^ place) next ∷ tries) answer (loses first taken rest))
 
--- what holds of each element holds of one in the middle, and of those behind it
+-- a fact of each element holds of one in the middle, and of those after it
 pub all_behind : {X : Type 0} (P : X → Type 0) (xs : List X) (y : X) (ys : List X) → All P (xs ++ y ∷ ys) → P y
     × All P ys
 all_behind P [] y ys h = (All-head P y ys h, All-tail P y ys h)
 all_behind P (x ∷ xs) y ys h = all_behind P xs y ys (All-tail P x (xs ++ y ∷ ys) h)
 
--- fewer places are left behind the first clear one
+-- fewer places are left after the first clear one
 pub fewer_left : (found : ℕ) (left behind : List ℕ) (place : ℕ) → IsFirstInRank found left place behind
     → length behind < length left
 fewer_left found left behind place first =
     let e : length left ≡ length first.before + suc (length behind) = ap length first.order
     ∙ length-append first.before (place ∷ behind) in omega arith
 
--- what holds of each place left holds of the first clear one, and of those behind it
+-- a fact of each place left holds of the first clear one, and of those after it
 pub all_left : (P : ℕ → Type 0) (found : ℕ) (left behind : List ℕ) (place : ℕ) → IsFirstInRank found left place behind
     → All P left → P place × All P behind
 all_left P found left behind place first h = all_behind P first.before place behind (subst (All P) first.order h)

@@ -1,6 +1,6 @@
--- What one write to the plain words leaves of all words.
+-- All plain words after a write to one of them.
 use Rattle.std.proofs.Common.{◌≡◌, ◌≢◌, ℕ, zero, suc, ◌*◌, ◌^◌, ◌<◌, List, [], ◌∷◌, length, get_or, set, nat_eq, cond}
-use Rattle.std.proofs.Common.{Bool, true, false, bit_and, bit_or, arith, refl, sym, ap, ◌∙◌, get_or-set_other}
+use Rattle.std.proofs.Common.{Bool, true, false, bit_and, bit_or, arith, refl, sym, ap, ◌∙◌, subst, get_or-set_other}
 use Rattle.std.proofs.Common.{get_or-set_same, eq-eqb, ne_eqb, eqb-true, ◌↔◌}
 use mathlib.Core.Logic.{dite}
 use Rattle.std.specs.Prelude.{IsTrue, not}
@@ -62,7 +62,15 @@ ran_put p i mask found h e = record {
   };
 }
 
--- a sweep that finds nothing writes what stands there
+-- the same, where the set and the bit have other names
+pub ran_put_at : (p : Plain) (i r place bit found : ℕ) → r ≡ i → bit ≡ 2 ^ place → r < length p.aside
+    → found ≡ get_or p.aside r 0
+    → RunsAlone p (Put i (2 ^ place) found ∷ []) (record p { aside = set p.aside r (bit_or found bit) })
+ran_put_at p i r place bit found e b h is =
+    subst (λ (x : ℕ × ℕ). RunsAlone p (Put x.0 x.1 found ∷ []) (record p { aside = set p.aside r (bit_or found bit) }))
+    (λ j. (e j, b j)) (ran_put p r bit found h is)
+
+-- a sweep that finds nothing writes what was there
 pub ran_empty : (p : Plain) (i : ℕ) → get_or p.aside i 0 ≡ 0 → RunsAlone p (Swap i 0 ∷ []) p
 ran_empty p i e = record {
   layout = refl;
@@ -91,7 +99,7 @@ ran_sweep p i mask found h k e f = record {
   };
 }
 
--- a bit that is masked out is 0 exactly where the place is clear
+-- a word masked with one bit is 0 exactly if the bit is clear
 pub clear_of_mask : (n k : ℕ) → bit_and n (2 ^ k) ≡ 0 → bit_at n k ≡ 0
 clear_of_mask n k e = cases (bit_at n k) refl (bit_at-lt n k)
   where
@@ -113,7 +121,7 @@ taken_of_mask n k ne = cases (bit_at n k) refl (bit_at-lt n k)
     cases (suc zero) f l = f
     cases (suc (suc b)) f l = absurd (omega arith)
 
--- a place whose bit is set is taken exactly where it isn't set aside
+-- a place whose bit is set is taken exactly if it is not set aside
 pub tells_taken : (p : Plain) (i k n a bit : ℕ) → bit ≡ 2 ^ k → n ≡ get_or p.word i 0 → a ≡ get_or p.aside i 0
     → bit_and n bit ≢ 0
     → IsTrue (nat_eq (bit_and a bit) 0) ↔ IsTaken p i k

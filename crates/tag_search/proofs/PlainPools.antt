@@ -1,4 +1,4 @@
--- What a put, a give and an opening make of the pool of plain words.
+-- The pool of plain words after a put, a give and an opening.
 use Rattle.std.proofs.Common.{◌≡◌, ◌≢◌, ◌↔◌, ℕ, zero, suc, ◌-◌, ◌^◌, ◌<◌, ◌≤◌, min, max, length, replicate, Bool, true}
 use Rattle.std.proofs.Common.{false, ◌&&◌, ◌||◌, cond, nat_eq, nat_lt, List, [], ◌∷◌, get_or, bit_or, arith, refl, sym}
 use Rattle.std.proofs.Common.{ap, ◌∙◌, inl, inr, eq-eqb, ne_eqb, eqb-true}
@@ -18,7 +18,7 @@ use Rattle.tag_search.proofs.Pools.{pool_ext, or_false, and_false}
 use Rattle.tag_search.proofs.Sweeps.{is_clear, is_one, clear_of, set_of, none_of, bit_without}
 use Rattle.tag_search.proofs.Writings.{bit_is}
 
--- what is one of two words is one of either
+-- a bit of two words or-ed together is 1 exactly if it is 1 in one of them
 or_one : (t : Bool) (a b : ℕ) → a < 2 → b < 2 → (t && nat_eq (max a b) 1) ≡ ((t && nat_eq a 1) || (t && nat_eq b 1))
 or_one false a b h k = refl
 or_one true zero zero h k = refl
@@ -32,7 +32,7 @@ one_or : (n m k : ℕ) → is_one (bit_or n m) k ≡ (is_one n k || is_one m k)
 one_or n m k = ap (λ (x : ℕ). nat_lt k 64 && nat_eq x 1) (bit_at_or n m k)
     ∙ or_one (nat_lt k 64) (bit_at n k) (bit_at m k) (bit_at-lt n k) (bit_at-lt m k)
 
--- the one bit of a place
+-- the single one of a power of two
 one_pow : (place k : ℕ) → place < 64 → is_one (2 ^ place) k ≡ nat_eq k place
 one_pow place k low = dite (ℕ_discrete k place)
     (λ (e : k ≡ place).
@@ -55,7 +55,7 @@ put_pool w i place found low = pool_ext (pool_of (words_after (Put i (2 ^ place)
     (aside_at i place (pool_of w))
     (λ j k. refl) (λ j k. put_bit (nat_eq j i) (w.aside i) (w.aside j) place k low (λ t. ap w.aside (eqb-true j i t)))
 
--- what a mask takes out is clear
+-- a bit of a word without a mask is 0 exactly if it was 0 or is in the mask
 out_one : (a b : ℕ) → a < 2 → b < 2 → nat_eq (min a (1 - b)) 0 ≡ (nat_eq a 0 || nat_eq b 1)
 out_one zero zero h k = refl
 out_one zero (suc zero) h k = refl
@@ -84,7 +84,7 @@ pub give_pool : (w : Words) (i mask found : ℕ) → mask < 2 ^ 64 → pool_of (
 give_pool w i mask found fits = pool_ext (pool_of (words_after (Give i mask found) w)) (free_at i mask (pool_of w))
     (λ j k. give_bit (nat_eq j i) (w.word i) (w.word j) mask k fits (λ t. ap w.word (eqb-true j i t))) (λ j k. refl)
 
--- the same, said of what was run alone
+-- the same, for a put that ran alone
 pub ran_put_pool : (old new : Plain) (i place found : ℕ) → place < 64 → RunsAlone old (Put i (2 ^ place) found ∷ []) new
     → pool_of (words_of new) ≡ aside_at i place (pool_of (words_of old))
 ran_put_pool old new i place found low ran = ap pool_of ran.leaves ∙ put_pool (words_of old) i place found low
@@ -93,7 +93,7 @@ pub ran_give_pool : (old new : Plain) (i mask found : ℕ) → mask < 2 ^ 64 →
     → pool_of (words_of new) ≡ free_at i mask (pool_of (words_of old))
 ran_give_pool old new i mask found fits ran = ap pool_of ran.leaves ∙ give_pool (words_of old) i mask found fits
 
--- a place below 64 is busy where its bit is 1 and it isn't set aside
+-- a place below 64 is busy exactly if its bit is 1 and it is not set aside
 busy_test : (l c a : Bool) → l ≡ true → not ((l && c) || (l && a)) ≡ (not c && not a)
 busy_test true true a e = refl
 busy_test true false a e = refl
@@ -121,7 +121,7 @@ taken_of_busy p i k low busy =
     split (suc zero) (suc (suc b)) h g e = absurd (omega arith)
     split (suc (suc a)) b h g e = absurd (omega arith)
 
--- in tidy words no place is free and set aside at once
+-- in tidy words no place is both free and set aside
 pub tidy_apart : (p : Plain) → IsTidy p → IsApart (pool_of (words_of p))
 tidy_apart p tidy i k = elim (bit_is (get_or p.aside i 0) k) [
   | inl one ↦ ap (λ (b : Bool). b && is_one (get_or p.aside i 0) k) (set_of (get_or p.word i 0) k (tidy.taken i k one))
@@ -146,7 +146,7 @@ all_free p n e f = record {
       ∙ ap (λ (x : ℕ). bit_at x k) (zeros n i) ∙ bit_at-zero k);
 }
 
--- a test that tells what is taken tells what is busy
+-- a test of whether a place is taken is one of whether it is busy
 pub busy_iff : (p : Plain) (i k : ℕ) (b : Bool) → k < 64 → IsTrue b ↔ IsTaken p i k
     → IsTrue b ↔ IsTrue (is_busy (pool_of (words_of p)) i k)
 busy_iff p i k b low tells = (λ t. busy_of_taken p i k low (tells.0 t), λ busy. tells.1 (taken_of_busy p i k low busy))

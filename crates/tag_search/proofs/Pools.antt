@@ -1,10 +1,10 @@
--- Pools: when they are the same, and what freeing twice comes to.
+-- Equal pools, and pools freed in several words.
 use Rattle.std.proofs.Common.{◌≡◌, ◌≢◌, ℕ, Bool, true, false, not, ◌&&◌, ◌||◌, nat_eq, List, [], ◌∷◌, refl, sym, ap}
 use Rattle.std.proofs.Common.{◌∙◌, eq-eqb, ne_eqb}
 use Rattle.tag_search.specs.Choice.{IsLeastOpen}
 use Rattle.tag_search.specs.Pool.{Pool, is_open, is_in, freed_in, taken_in}
 
--- pools with the same places are the same
+-- pools with the same places are equal
 pub pool_ext : (p q : Pool) → ((i k : ℕ) → p.free i k ≡ q.free i k) → ((i k : ℕ) → p.aside i k ≡ q.aside i k) → p ≡ q
 pool_ext p q free aside = λ z. record { free = λ i k. free i k z; aside = λ i k. aside i k z }
 
@@ -35,7 +35,7 @@ aside_twice a true false = refl
 aside_twice a false true = refl
 aside_twice a false false = refl
 
--- freed in some words and then in others is freed in all of them
+-- freeing in some words and then in others frees in all of them
 pub freed_twice : (xs ys zs : List ℕ) (p : Pool) → ((i : ℕ) → (is_in i xs || is_in i ys) ≡ is_in i zs)
     → freed_in ys (freed_in xs p) ≡ freed_in zs p
 freed_twice xs ys zs p both = pool_ext (freed_in ys (freed_in xs p)) (freed_in zs p)
@@ -59,11 +59,11 @@ pub freed_between : (x y : ℕ) (ys : List ℕ) (p : Pool) → freed_in (y ∷ y
 freed_between x y ys p = freed_twice (x ∷ []) (y ∷ ys) (y ∷ x ∷ ys) p
     (λ i. swapped (nat_eq i x) (nat_eq i y) (is_in i ys))
 
--- no word
+-- no words
 pub freed_none : (p : Pool) → freed_in [] p ≡ p
 freed_none p = pool_ext (freed_in [] p) p (λ i k. or_false (p.free i k)) (λ i k. refl)
 
--- the same places, taken
+-- taking the same places
 pub taken_same : (i : ℕ) (these those : ℕ → Bool) (p : Pool) → ((k : ℕ) → these k ≡ those k)
     → taken_in i these p ≡ taken_in i those p
 taken_same i these those p same = λ z. taken_in i (λ k. same k z) p
@@ -75,15 +75,15 @@ open_still false true false = refl
 open_still false false true = refl
 open_still false false false = refl
 
--- a place that is open stays so where words are freed, and no other is
+-- freeing words changes no place from open to busy or back
 pub open_freed : (xs : List ℕ) (p : Pool) (i k : ℕ) → is_open (freed_in xs p) i k ≡ is_open p i k
 open_freed xs p i k = open_still (p.free i k) (p.aside i k) (is_in i xs)
 
--- in the word that was freed the free places are those that were open
+-- after a word is freed, its free places are those that were open
 pub free_here : (p : Pool) (i k : ℕ) → (freed_in (i ∷ []) p).free i k ≡ is_open p i k
 free_here p i k = ap (λ (b : Bool). p.free i k || ((b || false) && p.aside i k)) (eq-eqb i i refl)
 
--- and in another word they are the same
+-- the free places of other words are unchanged
 pub free_elsewhere : (x : ℕ) (p : Pool) (i k : ℕ) → i ≢ x → (freed_in (x ∷ []) p).free i k ≡ p.free i k
 free_elsewhere x p i k ne = ap (λ (b : Bool). p.free i k || ((b || false) && p.aside i k)) (ne_eqb i x ne)
     ∙ or_false (p.free i k)
@@ -100,7 +100,7 @@ least_same p q i depth place same least = record {
   least = λ k h. sym (same k) ∙ least.least k h;
 }
 
--- a place that is not free and is open is set aside
+-- a place that is open but not free is set aside
 pub aside_of_open : (f a : Bool) → f ≡ false → (f || a) ≡ true → a ≡ true
 aside_of_open true a e may = absurd (let no : true ≡ false = e in cc)
 aside_of_open false a e may = may

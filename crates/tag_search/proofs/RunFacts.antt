@@ -1,4 +1,4 @@
--- What a batch get over a shared map does to its caller: it holds the tags that it won, and what it held.
+-- A batch get over a shared map adds the tags that it won to its caller's held set, and keeps the rest.
 use Rattle.std.proofs.Common.{◌≡◌, ℕ, ◌+◌, ◌-◌, ◌*◌, ◌%◌, ◌^◌, ◌<◌, ◌≤◌, List, [], ◌∷◌, Option, Some, None, get_or, set}
 use Rattle.std.proofs.Common.{bit_and, count_ones, arith, refl, sym, ap, ◌∙◌, subst, ⊎_elim}
 use Rattle.std.specs.Prelude.{IfSome}
@@ -27,7 +27,7 @@ use Rattle.tag_search.specs.SharedLaws.{record_after-append}
 use Rattle.tag_search.proofs.Runs.{run_below}
 use Rattle.tag_search.proofs.SharedFacts.{Took, took_more, took_look, sweep_took, count_ones-zero}
 
--- the bits of a run that were won, put back to their places, are what was won
+-- the bits of a run that were won, shifted back to their places, are the mask that was won
 module _ (n place found : ℕ) where
   abbrev taken : ℕ
   taken = without (run_mask n place) found
@@ -47,7 +47,7 @@ module _ (n place found : ℕ) where
       let b : ℕ = run_won n place found in let e : taken ≡ b * 2 ^ place + 0 = let z = back in omega arith in
       let sum = ones_cat place b 0 (pow_pos place) in let none = count_ones-zero in ap count_ones e ∙ sum ∙ omega arith
 
-  -- a bit won is one of the word
+  -- a bit won is a place within the word's depth
   pub inside : (depth k : ℕ) → place + n ≤ depth → bit_at (run_won n place found) k ≡ 1 → place + k < depth
   inside depth k fits one = ⊎_elim (λ (h : place + k < depth). h)
       (λ (past : depth ≤ place + k). absurd (
@@ -56,16 +56,16 @@ module _ (n place found : ℕ) where
       let here : bit_at taken (place + k) ≡ 1 = sym (bit_at-shr taken place k) ∙ one in
       let none = bit_at_above taken depth (place + k) small past in omega arith)) (cases_lt (place + k) depth)
 
--- the held set and the run of a word that was won, where there is one
+-- the held set with the run won in a word, if there is one
 abbrev run_at : ℕ → Option (ℕ × ℕ) → List ℕ → List ℕ
 run_at i None held = held
 run_at i (Some won) held = joined held i (won.1 * 2 ^ won.0)
 
--- the run lies below the depth of its word
+-- the run is below the depth of its word
 abbrev pub IsBelow : ℕ → ℕ × ℕ → Type 0
 IsBelow depth won = (won.0 < depth) × ((k : ℕ) → bit_at won.1 k ≡ 1 → won.0 + k < depth)
 
--- the caller won this run of the word, where there is one, and nothing else, and gave none back
+-- the caller won this run of the word, if there is one, and nothing else, and gave none back
 record TookRun {R : Type 0} (depth i : ℕ) (answer : Option (ℕ × ℕ)) (old new : Record R) : Type 0 where
   shape : new.shape ≡ old.shape
   number : new.number ≡ old.number
@@ -75,7 +75,7 @@ record TookRun {R : Type 0} (depth i : ℕ) (answer : Option (ℕ × ℕ)) (old 
   below : IfSome answer (IsBelow depth)
 
 module _ {R : Type 0} (depth i : ℕ) (narrow : depth ≤ 64) where
-  -- after steps that took nothing, a last one
+  -- steps that took nothing, followed by one more
   run_after : (r s t : Record R) (answer : Option (ℕ × ℕ)) → Took depth i None r s → TookRun depth i answer s t
       → TookRun depth i answer r t
   run_after r s t answer a b = record {
@@ -139,7 +139,7 @@ module _ {R : Type 0} (depth i : ℕ) (narrow : depth ≤ 64) where
       (run_after r s t (Some (place, run_won n place next)) (swept_took r sweep)
       (claim_won n place next s run.first.within run.fits))
 
--- as `GainsRun` says it of the records alone, with tags of one word
+-- as `GainsRun`, for the records alone, with tags of one word
 pub record WonRun {R : Type 0} (l : Layout) (answer : Option (ℕ × ℕ)) (old new : Record R) : Type 0 where
   pub shape : new.shape ≡ old.shape
   pub number : new.number ≡ old.number

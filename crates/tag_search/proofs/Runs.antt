@@ -1,4 +1,4 @@
--- Masks of several bits side by side.
+-- Masks of several adjacent bits.
 use Rattle.std.proofs.Common.{◌≡◌, ℕ, zero, suc, ◌+◌, ◌-◌, ◌*◌, ◌/◌, ◌%◌, ◌^◌, ◌<◌, ◌≤◌, count_ones, arith, refl, ap}
 use Rattle.std.proofs.Common.{◌∙◌}
 use Rattle.std.proofs.lemmas.Nat.{ones_cat, pow_pos, shl_whole, shl_below}
@@ -24,14 +24,14 @@ ones-low (suc n) =
     let sum = ones_cat n 1 (2 ^ n - 1) low in let rest = ones-low n in
     let one = ones-one in ap count_ones e ∙ sum ∙ omega arith
 
--- a run has as many bits as it should
+-- a run of n places has n bits
 pub ones-run : (n place : ℕ) → count_ones (run_mask n place) ≡ n
 ones-run n place =
     let e : run_mask n place ≡ (2 ^ n - 1) * 2 ^ place + 0 = omega arith in
     let sum = ones_cat place (2 ^ n - 1) 0 (pow_pos place) in let low = ones-low n in let none = ones-zero in
     ap count_ones e ∙ sum ∙ omega arith
 
--- the run, as the code shifts it
+-- the mask of a run, as the code shifts it
 pub run_shifted : (n place : ℕ) → n ≤ 64 → place + n ≤ 64 → (2 ^ 64 - 1) / 2 ^ (64 - n) * 2 ^ place % 2 ^ 64
     ≡ run_mask n place
 run_shifted n place h fits =
@@ -40,7 +40,7 @@ run_shifted n place h fits =
     let high : (2 ^ 64 - 1) / 2 ^ (64 - n) ≡ 2 ^ n - 1 = ones_shr 64 (64 - n) (omega arith) ∙ ap (λ k. 2 ^ k - 1) e in
     ap (λ (x : ℕ). x * 2 ^ place % 2 ^ 64) high ∙ shl_whole (2 ^ n - 1) n place 64 low (omega arith)
 
--- a run that ends within a depth is a mask of it
+-- a run that ends within a depth is a mask of this depth
 pub run_below : (n place depth : ℕ) → place + n ≤ depth → run_mask n place < 2 ^ depth
 run_below n place depth fits =
     let pos : 0 < 2 ^ n = pow_pos n in let low : 2 ^ n - 1 < 2 ^ n = omega arith in

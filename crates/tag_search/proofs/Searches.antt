@@ -1,4 +1,4 @@
--- What is known in the middle of a search.
+-- The state in the middle of a search.
 use Rattle.std.proofs.Common.{◌≡◌, ℕ, ◌≤◌, List, [], ◌∷◌, ◌++◌, map, min, Option, Some, None, arith, sym, ap, ◌∙◌}
 use Rattle.std.proofs.Common.{subst}
 use Rattle.std.proofs.lemmas.List.{append_assoc, append-nil, map-append}
@@ -8,12 +8,12 @@ use Rattle.tag_search.specs.Order.{numbers}
 use Rattle.tag_search.specs.Visits.{Reach, visit_of, visits}
 use Rattle.tag_search.specs.Search.{Visit, IsVisit, IsSearch, over, won, passed}
 
--- a search of the visits that are left, put behind these steps, is a search of all
+-- these steps, followed by a search of the visits left, are a search of all visits
 abbrev pub IsSearchBegun : Layout → List Visit → List Visit → List WordStep → Type 0
 IsSearchBegun l all left steps = (rest : List WordStep) (answer : Option ℕ) → IsSearch l left rest answer
     → IsSearch l all (steps ++ rest) answer
 
--- a visit that won nothing goes on with those behind it
+-- after a visit that won nothing the search goes on with those after it
 pub search_further : (l : Layout) (all behind : List Visit) (visit : Visit) (steps more : List WordStep)
     → IsSearchBegun l all (visit ∷ behind) steps
     → IsVisit visit.word visit.rank more None → IsSearchBegun l all behind (steps ++ more)
@@ -28,7 +28,7 @@ search_over l all left steps e begun =
     subst (λ xs. IsSearch l all xs None) (append-nil steps)
     (begun [] None (subst (λ vs. IsSearch l vs [] None) (sym e) over))
 
--- a search that was answered doesn't look at further words
+-- a search that has an answer makes no further visits
 pub search_stops : {l : Layout} {visits : List Visit} {steps : List WordStep} (tag : ℕ) (answer : Option ℕ)
     (more : List Visit) → answer ≡ Some tag
     → IsSearch l visits steps answer → IsSearch l (visits ++ more) steps answer
@@ -37,7 +37,7 @@ search_stops tag answer more e (won {visit = visit} {place = place} v) = won {vi
 search_stops tag answer more e (passed {visit = visit} v search) = passed {visit = visit} v
     (search_stops tag answer more e search)
 
--- a search that was not answered goes on with further words
+-- a search without an answer goes on with further visits
 pub search_goes_on : (l : Layout) {visits : List Visit} {steps : List WordStep} (first : Option ℕ) (more : List Visit)
     (rest : List WordStep) (answer : Option ℕ)
     → first ≡ None → IsSearch l visits steps first → IsSearch l more rest answer

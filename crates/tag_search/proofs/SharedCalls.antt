@@ -1,4 +1,4 @@
--- What the calls of a shared map add, as the port's clauses say it.
+-- The steps that calls on a shared map add, in the form of the port's clauses.
 use Rattle.std.proofs.Common.{◌≡◌, ◌≢◌, ℕ, ◌^◌, ◌<◌, Bool, true, false, List, [], ◌∷◌, length, get_or, bit_or}
 use Rattle.std.proofs.Common.{get_or-set_same, get_or-set_other, arith, refl, sym, ap, ◌∙◌}
 use Rattle.std.specs.Prelude.{IsTrue, IsFalse, MatchBool}
@@ -20,7 +20,7 @@ use Rattle.tag_search.specs.Added.{Adds as Ports}
 use Rattle.tag_search.specs.Search.{IsSweep, empty, spilled}
 use Rattle.tag_search.specs.Shared.{FindsWord, FindsHeldBy, AddsAll, AddsThrough}
 
--- a tag's bit stays where bits join a word
+-- adding bits to a word keeps the bit of a tag
 pub bit_kept : (l : Layout) (held : List ℕ) (i mask tag : ℕ) → i < length held → tag_bit l held tag ≡ 1
     → tag_bit l (joined held i mask) tag ≡ 1
 bit_kept l held i mask tag h one = dite (ℕ_discrete (word_of l tag) i)
@@ -34,7 +34,7 @@ bit_kept l held i mask tag h one = dite (ℕ_discrete (word_of l tag) i)
     (λ ne. ap (λ (x : ℕ). bit_at x (place_of l tag))
     (get_or-set_other held i (word_of l tag) (bit_or (get_or held i 0) mask) 0 ne) ∙ one)
 
--- a caller holds a tag whose bit is in the held set that it has by now
+-- a caller holds a tag whose bit is in its new held set
 holds_by : {R : Type 0} (old new : Caller R) (held : List ℕ) (tag : ℕ) → new.shape.value ≡ old.shape.value
     → new.held.items ≡ held
     → Holds old tag → tag_bit old.shape.value.layout held tag ≡ 1 → Holds new tag
@@ -46,7 +46,7 @@ holds_by old new held tag shape items was bit =
           ∙ bit,
     )
 
--- one step after which each tag is held that was held before
+-- one step that keeps all tags held
 pub adds_one : {R : Type 0} (step : WordStep) (old new : Caller R) → Adds (Word step) old new → FindsWord step
     → FindsHeldBy old step
     → ((tag : ℕ) → tag_bit old.shape.value.layout old.held.items tag ≡ 1 → tag_bit old.shape.value.layout
@@ -63,7 +63,7 @@ adds_one {R} step old new a fits found_held keeps = record {
   same_map = a.same_map;
 }
 
--- a swap and a spill of what it found
+-- a swap, and a spill of the mask that it found
 pub adds_two : {R : Type 0} (i mask found : ℕ) (old new : Caller R)
     → AddsTwo (Word (Swap i mask)) (Word (Spill i mask found)) old new
     → AddsAll (Swap i mask ∷ Spill i mask found ∷ []) old new
@@ -78,7 +78,7 @@ adds_two {R} i mask found old new a = record {
   same_map = a.same_map;
 }
 
--- a claim of a word that the map has
+-- a claim in a word of the map
 pub adds_claim : {R : Type 0} (i mask found : ℕ) (old new : Caller R) → i < length old.held.items → found < 2 ^ 64
     → FindsHeldBy old (Claimed i mask found) → Adds (Word (Claimed i mask found)) old new
     → AddsAll (Claimed i mask found ∷ []) old new

@@ -1,4 +1,4 @@
--- What a get over a shared map does to its caller: it holds the tag that it won, and what it held.
+-- A get over a shared map adds the tag that it won to its caller's held set, and keeps the rest.
 use Rattle.std.proofs.Common.{◌≡◌, ℕ, ◌+◌, ◌-◌, ◌*◌, ◌^◌, ◌<◌, ◌≤◌, true, cond, nat_eq, List, [], ◌∷◌, ◌++◌, Option}
 use Rattle.std.proofs.Common.{Some, None, get_or, set, count_ones, arith, refl, sym, ap, ◌∙◌, subst}
 use Rattle.std.specs.Prelude.{All, IfSome}
@@ -27,12 +27,12 @@ use Rattle.tag_search.proofs.Claims.{count_ones-pow, without-pow}
 use Rattle.tag_search.proofs.Orders.{all_scan}
 use Rattle.tag_search.proofs.Passes.{all_left}
 
--- the held set and the place of a word that was won, where there is one
+-- the held set with the place won in a word, if there is one
 abbrev pub held_at : ℕ → Option ℕ → List ℕ → List ℕ
 held_at i None held = held
 held_at i (Some place) held = joined held i (2 ^ place)
 
--- the caller won this place of the word below the bound, where there is one, and no other, and gave none back
+-- the caller won this place of the word, below the bound, if there is one, and no other, and gave none back
 pub record Took {R : Type 0} (bits i : ℕ) (answer : Option ℕ) (old new : Record R) : Type 0 where
   pub shape : new.shape ≡ old.shape
   pub number : new.number ≡ old.number
@@ -51,7 +51,7 @@ finds-split [] ys h = (tt, h)
 finds-split (x ∷ xs) ys h = let rest = finds-split xs ys h.1 in ((h.0, rest.0), rest.1)
 
 module _ {R : Type 0} (bits i : ℕ) where
-  -- what took nothing, and then what took something
+  -- steps that took nothing, followed by steps that took something
   took_on : (r s t : Record R) (answer : Option ℕ) → Took bits i None r s → Took bits i answer s t
       → Took bits i answer r t
   took_on r s t answer a b = record {
@@ -170,7 +170,7 @@ module _ {R : Type 0} (bits i : ℕ) (narrow : bits ≤ 64) where
       took_more bits i r first rest answer (pass_took r once split.0 small)
       (retry_took (record_after_all first r) again split.1 small)
 
--- as `Gains` says it of the records alone, with a tag of the map
+-- as `Gains`, for the records alone, with a tag of the map
 pub record Won {R : Type 0} (l : Layout) (answer : Option ℕ) (old new : Record R) : Type 0 where
   pub shape : new.shape ≡ old.shape
   pub number : new.number ≡ old.number
@@ -179,7 +179,7 @@ pub record Won {R : Type 0} (l : Layout) (answer : Option ℕ) (old new : Record
   pub back : new.back ≡ old.back
   pub tag : IfSome answer (λ tag. tag < l.depth)
 
--- each place of the visit is one of its word
+-- each place of the visit is below the word's depth
 abbrev pub IsInside : Layout → Visit → Type 0
 IsInside l visit = All (λ place. place < word_depth l visit.word) visit.rank
 
@@ -234,7 +234,7 @@ module _ {R : Type 0} (l : Layout) (narrow : word_bits l ≤ 64) where
       (visit_wins visit r v split.0 (All-head (IsInside l) visit more inside))
       (search_wins s search split.1 (All-tail (IsInside l) visit more inside)))
 
--- the visits of a get are inside their words
+-- the visits of a get are within their words
 pub visits_inside : (l : Layout) (first : ℕ) (reach : Reach) → ((i : ℕ) → i < words l → reach.limit i ≤ word_depth l i)
     → All (IsInside l) (visits l first reach)
 visits_inside l first reach within =

@@ -1,4 +1,4 @@
--- What the slow search of the tests finds and leaves, as the definitions of a choice say it.
+-- The answer of the slow search of the tests, and the marks after it, in terms of a choice.
 use Rattle.std.proofs.Common.{◌≡◌, ◌≢◌, ◌↔◌, ℕ, ◌+◌, ◌*◌, ◌%◌, ◌^◌, ◌<◌, ◌≤◌, Bool, true, false, ◌&&◌, ◌||◌, List, []}
 use Rattle.std.proofs.Common.{◌∷◌, ◌++◌, map, length, get_or, take, drop, bit_or, Some, None, arith, refl, sym, ap, ◌∙◌}
 use Rattle.std.proofs.Common.{subst}
@@ -25,7 +25,7 @@ use Rattle.tag_search.specs.Search.{Visit}
 use Rattle.tag_search.specs.Visits.{Reach, visit_of, visits}
 use Rattle.tag_search.proofs.Orders.{all_scan}
 
--- one place from a place on is that place
+-- a run of one place is that place
 one_place : (k o : ℕ) → (nat_le k o && nat_lt o (k + 1)) ≡ nat_eq k o
 one_place k o = grind (arith, nat_tests)
 
@@ -50,7 +50,7 @@ taken_from-none w k p = λ z. record { free = λ i o. each i o z; aside = p.asid
     each i o = ap (λ (b : Bool). p.free i o && not (nat_eq i w && b)) (no_place k o)
         ∙ ap (λ (b : Bool). p.free i o && not b) (false_behind (nat_eq i w)) ∙ true_behind (p.free i o)
 
--- where there is no such place nothing is marked
+-- the marks of a place past the word's depth are false
 free_here : (b n f a s t : Bool) → (b ≡ true → n ≡ ((f || (s && a)) && not t))
     → (b && n) ≡ (((b && f) || (s && (b && a))) && not t)
 free_here true n f a s t h = h refl
@@ -60,7 +60,7 @@ aside_here : (b n a s : Bool) → (b ≡ true → n ≡ (not s && a)) → (b && 
 aside_here true n a s h = h refl
 aside_here false n a s h = sym (false_behind (not s))
 
--- the marks after a change tell the pool after it
+-- the marks after a change describe the pool after it
 pub marks_then : (l : Layout) (free aside free' aside' : List Bool) (swept : List ℕ) (word place n : ℕ)
     → ((t : ℕ) → t < l.depth → get_or free' t false ≡ free_then l free aside swept word place n t (word_of l t)
     (place_of l t))
@@ -91,7 +91,7 @@ marks_then l free aside free' aside' swept word place n each each' = λ z. recor
         (λ e. let below = at i k e in let t : ℕ = tag_at l i k in let in_word : k < word_bits l = omega arith in
         each' t (tag_at-below l i k below) ∙ (λ z. aside_then aside swept t (word_of-tag_at l i k in_word z)))
 
--- a list around one of its elements
+-- a list, split around one of its elements
 pub around : (xs : List ℕ) (n x : ℕ) → n < length xs → x ≡ get_or xs n 0 → xs ≡ take n xs ++ x ∷ drop (n + 1) xs
 around xs n x h e =
     sym (take-append-drop n xs) ∙ ap (λ (ys : List ℕ). take n xs ++ ys) (drop_more xs n 0 h)
@@ -101,7 +101,7 @@ words_of_visits : (first : ℕ) (reach : Reach) (xs : List ℕ) → words_in (ma
 words_of_visits first reach [] = refl
 words_of_visits first reach (x ∷ xs) = ap (λ (ys : List ℕ). x ∷ ys) (words_of_visits first reach xs)
 
--- a place of neither list
+-- a place that is neither free nor set aside is busy
 pub busy_all : (p : Pool) (w : ℕ) (rank : List ℕ) → All (IsSet p w) rank → All (λ k. p.aside w k ≡ false) rank
     → All (IsBusy p w) rank
 busy_all p w rank set out k d h = ap (λ (b : Bool). b || p.aside w (get_or rank k d)) (set k d h) ∙ out k d h
@@ -116,7 +116,7 @@ passed_visits p first reach passed full = All-map (IsFull p) (visit_of first rea
 
 module _ (l : Layout) (p : Pool) (first : ℕ) (reach : Reach) (order swept : List ℕ)
     (order_is : order ≡ scan_order first (words l) true) where
-  -- no word has a place
+  -- no word has an open place
   pub slow_nothing : (n : ℕ) (new : Pool) → length order ≤ n → swept ≡ take n order
       → HavePassed p first reach (take n order) → new ≡ taken_from 0 0 0 (freed_in swept p)
       → IsChoice l p (visits l first reach) None new
@@ -157,7 +157,7 @@ module _ (l : Layout) (p : Pool) (first : ℕ) (reach : Reach) (order swept : Li
         (subst (λ (vs : List Visit). IsChoice l p vs (Some (tag_at l word place))
         (taken_at word place (freed_in (words_in fulls) p))) split found)
 
-    -- this word has none, but one set aside
+    -- this word has no free place in its rank, but one set aside
     pub slow_aside : (new : Pool) → swept ≡ word ∷ take n order → All (IsSet p word) (visit_of first reach word).rank
         → IsFirst (IsAside p word) (IsBusy p word) (visit_of first reach word).rank place
         → new ≡ taken_from word place 1 (freed_in swept p)
@@ -176,12 +176,12 @@ module _ (l : Layout) (p : Pool) (first : ℕ) (reach : Reach) (order swept : Li
         (subst (λ (vs : List Visit). IsChoice l p vs (Some (tag_at l word place))
         (taken_at word place (freed_in (word ∷ words_in fulls) p))) split found)
 
--- what holds of a list holds of its front
+-- a fact of each element of a list is one of each element of its front
 front_all : (P : ℕ → Type 0) (xs ys : List ℕ) → All P (xs ++ ys) → All P xs
 front_all P [] ys h = All-nil P
 front_all P (x ∷ xs) ys h = All-cons P x xs (All-head P x (xs ++ ys) h) (front_all P xs ys (All-tail P x (xs ++ ys) h))
 
--- the first place set aside of a rank where none is free
+-- the first place set aside in a rank without free places
 pub first_aside : (p : Pool) (w : ℕ) (rank : List ℕ) (place : ℕ) → All (IsSet p w) rank
     → IsFirst (IsAside p w) (λ k. p.aside w k ≡ false) rank place → IsFirst (IsAside p w) (IsBusy p w) rank place
 first_aside p w rank place set is =
@@ -194,7 +194,7 @@ first_aside p w rank place set is =
       is = is.is;
     }
 
--- two least open places of a word are one
+-- the least open place of a word is unique
 least_same : (p : Pool) (w d a b : ℕ) → IsLeastOpen p w d a → IsLeastOpen p w d b → a ≡ b
 least_same p w d a b x y = dite (dec_lt a b)
     (λ (h : a < b). absurd (clash (is_open p w a) x.is (y.least a h)))
@@ -203,7 +203,7 @@ least_same p w d a b x y = dite (dec_lt a b)
     clash : (b : Bool) → b ≡ true → b ≡ false → ⊥
     clash b e f = let g : true ≡ false = sym e ∙ f in cc
 
--- a word whose least open place has too few behind it, or that has none
+-- a word with fewer than n places from its least open one on has no run
 pub no_run_from : (l : Layout) (n : ℕ) (p : Pool) (w place : ℕ) → IsLeastOpen p w (word_depth l w) place
     → word_depth l w < place + n → HasNoRun l n p w
 no_run_from l n p w place least few other is = let e = least_same p w (word_depth l w) other place is least in
@@ -255,7 +255,7 @@ first_at test rank n place h e before is = record {
   is = is;
 }
 
--- bits that tell which of the first places pass, and one place more
+-- the mask of the places so far that pass, with one more place
 pub bits_more : (P : ℕ → Type 0) (bits k : ℕ) → k < 64 → ((j : ℕ) → bit_at bits j ≡ 1 ↔ (j < k) × P j) → P k → (j : ℕ)
     → bit_at (bit_or bits (1 * 2 ^ k % 2 ^ 64)) j ≡ 1 ↔ (j < k + 1) × P j
 bits_more P bits k low tells passes j = dite (ℕ_discrete j k)
@@ -277,7 +277,7 @@ bits_skip P bits k tells fails j = (
       (λ (ne : j ≢ k). let less : j < k = omega arith in (tells j).1 (less, is.1))),
 )
 
--- one mark more
+-- one more mark
 pub mark_more : (F : ℕ → Bool) (xs ys : List Bool) (b : Bool) (n : ℕ) → ys ≡ xs ++ b ∷ [] → length xs ≡ n
     → ((t : ℕ) → t < n → get_or xs t false ≡ F t) → b ≡ F n
     → (t : ℕ) → t < n + 1 → get_or ys t false ≡ F t
@@ -289,7 +289,7 @@ mark_more F xs ys b n e long before here t h = ap (λ (zs : List Bool). get_or z
 pub marks_count : (xs ys : List Bool) (b : Bool) (n : ℕ) → ys ≡ xs ++ b ∷ [] → length xs ≡ n → length ys ≡ n + 1
 marks_count xs ys b n e long = ap length e ∙ length_push xs b ∙ ap (λ (x : ℕ). x + 1) long
 
--- each word of an order is one of the map's
+-- each number of a scan is below the number of words
 pub order_within : (first n : ℕ) (items : List ℕ) → items ≡ scan_order first n true → (k : ℕ) → k < length items
     → get_or items k 0 < n
 order_within first n items e k h = subst (All (λ i. i < n)) (sym e) (all_scan (λ i. i < n) first n true (λ i low. low))
@@ -299,7 +299,7 @@ pub insert_first : (xs : List ℕ) (x : ℕ) → insert xs 0 x ≡ x ∷ xs
 insert_first [] x = refl
 insert_first (y ∷ ys) x = refl
 
--- one word more is passed
+-- one more word is passed
 pub swept_more : (items swept swept' : List ℕ) (n : ℕ) → n < length items → swept ≡ take n items
     → swept' ≡ swept ++ get_or items n 0 ∷ [] → swept' ≡ take (n + 1) items
 swept_more items swept swept' n h e f = f ∙ ap (λ (xs : List ℕ). xs ++ get_or items n 0 ∷ []) e

@@ -1,4 +1,4 @@
--- What claims and sweeps make of the pool of the words.
+-- The pool of the words after claims and sweeps.
 use Rattle.std.proofs.Common.{◌≡◌, ℕ, zero, suc, ◌-◌, ◌^◌, ◌<◌, min, max, Bool, true, false, not, ◌&&◌, ◌||◌, cond}
 use Rattle.std.proofs.Common.{nat_eq, nat_lt, List, [], ◌∷◌, bit_or, arith, refl, sym, ap, ◌∙◌, eq-eqb, ne_eqb}
 use Rattle.std.proofs.Common.{eqb-true}
@@ -15,7 +15,7 @@ use Rattle.tag_search.specs.Pool.{pool_of, freed_in, taken_in, taken_at}
 use Rattle.tag_search.specs.Search.{IsSweep, empty, spilled}
 use Rattle.tag_search.proofs.Pools.{pool_ext, or_false, and_true, and_false, taken_same}
 
--- the place is one of 64, and its bit is 0, or 1
+-- the place is below 64, and its bit is 0 (or 1)
 abbrev pub is_clear : ℕ → ℕ → Bool
 is_clear n k = nat_lt k 64 && nat_eq (bit_at n k) 0
 
@@ -127,7 +127,7 @@ sweep_pool {i = i} {mask = mask} (spilled {found = found} some fits) w quiet =
     (λ t. ap w.aside (eqb-true j i t) ∙ sym quiet.0) fits)
     (λ j k. swap_bit (nat_eq j i) (w.aside j) k)
 
--- a sweep that found nothing found none set aside
+-- a sweep that found no mask found no place set aside
 pub sweep_none : {i : ℕ} {steps : List WordStep} → IsSweep i 0 steps → (w : Words) → Quiet steps w → w.aside i ≡ 0
 sweep_none empty w quiet = sym quiet.0
 sweep_none (spilled some fits) w quiet = sym quiet.0

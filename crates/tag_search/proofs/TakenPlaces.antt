@@ -11,7 +11,7 @@ use Rattle.tag_search.specs.Plain.{Plain, IsTaken}
 use Rattle.tag_search.specs.Writes.{IsTidy}
 use Rattle.tag_search.proofs.Writings.{bit_is}
 
--- a number whose bits are all below a place
+-- a number whose bits are all below a place is below that power of two
 pub below_of_bits : (n w : ℕ) → ((k : ℕ) → bit_at n k ≡ 1 → k < w) → n < 2 ^ w
 below_of_bits n w low =
     let none : (i : ℕ) → bit_at n (w + i) ≡ 0 = λ i. elim (bit_is n (w + i))
@@ -21,7 +21,7 @@ below_of_bits n w low =
     let rest : n % 2 ^ w < 2 ^ w = mod_below n (2 ^ w) (pow_pos w) in
     let z : n / 2 ^ w * 2 ^ w ≡ 0 = ap (λ (x : ℕ). x * 2 ^ w) high ∙ omega arith in omega arith
 
--- the bits of a word that are not in its cleared set, and in a mask
+-- the bits of a word that are in a mask and not in the cleared set
 abbrev pub held : ℕ → ℕ → ℕ → ℕ
 held n a mask = bit_and (bit_and n (2 ^ 64 - 1 - a)) mask
 
@@ -34,14 +34,14 @@ bit_held n a mask k fits fits' one =
     (λ (low : k < 64). let g = bit_at_not w64 a k fits' low in (omega arith, omega arith))
     (λ high. absurd (let z = bit_at_above n 64 k fits (omega arith) in omega arith))
 
--- they are within the word
+-- they are within the word's depth
 pub held_within : (p : Plain) (i n a mask : ℕ) → IsTidy p → n < 2 ^ 64 → a < 2 ^ 64 → n ≡ get_or p.word i 0
     → IsWithin p.layout i (held n a mask)
 held_within p i n a mask tidy fits fits' e =
     below_of_bits (held n a mask) (word_depth p.layout i) (λ k one. let b = bit_held n a mask k fits fits' one in
     tidy.within i k (sym (ap (λ (x : ℕ). bit_at x k) e) ∙ b.0))
 
--- and taken
+-- they are taken and not set aside
 pub held_taken : (p : Plain) (i n a mask k : ℕ) → n < 2 ^ 64 → a < 2 ^ 64 → n ≡ get_or p.word i 0
     → a ≡ get_or p.aside i 0 → bit_at (held n a mask) k ≡ 1 → IsTaken p i k
 held_taken p i n a mask k fits fits' e f one =

@@ -23,7 +23,7 @@ tally-from f a (suc n) =
     let e' : a + 1 ≡ suc a = omega arith in let t : sum_below f (a + 1) ≡ sum_below f a + f a = ap (sum_below f) e' in
     let rest = tally-from f (a + 1) n in omega arith
 
--- the words up to one and those from it on are all words
+-- the words from one on, and those before it, are all words
 pub tally-around : (f : ℕ → ℕ) (first n : ℕ) → first ≤ n → tally f (numbers first n) + tally f (numbers 0 first)
     ≡ sum_below f n
 tally-around f first n h =
@@ -34,11 +34,11 @@ tally-around f first n h =
     let low : sum_below f (0 + (first - 0)) ≡ sum_below f first = ap (sum_below f) e' in
     let front = tally-from f 0 (first - 0) in omega arith
 
--- twice a number and four more, summed
+-- the sum of twice a number and four
 pub sum_below-twice : (f : ℕ → ℕ) (n : ℕ) → sum_below (λ i. 2 * f i + 4) n ≡ 2 * sum_below f n + 4 * n
 sum_below-twice f zero = refl
 sum_below-twice f (suc n) = let before = sum_below-twice f n in omega arith
 
--- twice the depth of each word and four more
+-- the sum of twice the depth of each word and four
 pub steps-sum : (l : Layout) → sum_below (λ i. 2 * word_depth l i + 4) (words l) ≡ 2 * l.depth + 4 * words l
 steps-sum l = sum_below-twice (word_depth l) (words l) ∙ ap (λ (d : ℕ). 2 * d + 4 * words l) (word_depths-sum l)

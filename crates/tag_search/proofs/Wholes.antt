@@ -1,12 +1,11 @@
--- A plain search that does not go round, from its first word on.
-use Rattle.std.proofs.Common.{◌≡◌, ℕ, ◌+◌, ◌<◌, ◌≤◌, Bool, true, false, cond, nat_eq, List, [], ◌∷◌, ◌++◌, map, Option}
+-- A plain search without round robin, from its first word on.
+use Rattle.std.proofs.Common.{◌≡◌, ℕ, ◌+◌, ◌<◌, Bool, true, false, cond, nat_eq, List, ◌∷◌, ◌++◌, map, Option}
 use Rattle.std.proofs.Common.{Some, None, arith, refl, sym, ap, ◌∙◌, subst}
-use Rattle.std.proofs.lemmas.List.{append_assoc}
 use Rattle.tag_core.specs.declared.word_step.WordStep.{WordStep}
 use Rattle.tag_layout.specs.Layout.{Layout, words, word_depth, tag_at}
 use Rattle.tag_search.specs.Order.{numbers, scan_order}
 use Rattle.tag_search.specs.Visits.{Reach, visit_of, visits, plain_reach}
-use Rattle.tag_search.specs.Search.{Visit, IsPass, IsRetry, IsVisit, at_once, retried, IsSearch, won, passed}
+use Rattle.tag_search.specs.Search.{Visit, IsVisit, IsSearch, won, passed}
 use Rattle.tag_search.proofs.Orders.{numbers-cons}
 use Rattle.tag_search.proofs.Searches.{visits-split}
 
@@ -14,7 +13,7 @@ start-same : (b : Bool) → let z : ℕ = 0 in z ≡ cond b z z
 start-same true = refl
 start-same false = refl
 
--- a search as the scan has it
+-- a search in the terms of the scan
 pub scanned : (m l : Layout) (one first : ℕ) (had reach : Reach) (a e end : ℕ) (steps : List WordStep)
     (answer : Option ℕ) → m ≡ l → one ≡ first → had ≡ reach → e ≡ end
     → IsSearch m (map (visit_of one had) (numbers a e)) steps answer
@@ -45,14 +44,14 @@ module _ (l : Layout) (first : ℕ) (h : first < words l) where
       visits-split l first (plain_reach l false 0) (omega arith)
       ∙ ap (λ (is : List ℕ). map of is ++ map of (numbers 0 first)) (numbers-cons first (words l) h)
 
-  -- the first word has the tag
+  -- the visit of the first word won a tag
   pub whole_won : (steps : List WordStep) (place : ℕ) → IsVisit first places steps (Some place)
       → IsSearch l (visits l first (plain_reach l false 0)) steps (Some (tag_at l first place))
   whole_won steps place v =
       subst (λ vs. IsSearch l vs steps (Some (tag_at l first place))) (sym visits-are)
       (won {visit = of first} (visit-is steps (Some place) v))
 
-  -- it has none
+  -- the visit of the first word won nothing
   pub whole_passed : (steps more : List WordStep) (answer : Option ℕ) → IsVisit first places steps None
       → IsSearch l others more answer
       → IsSearch l (visits l first (plain_reach l false 0)) (steps ++ more) answer

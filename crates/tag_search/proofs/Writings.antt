@@ -1,4 +1,4 @@
--- What one write to a list of words leaves of their bits, and that the words stay tidy.
+-- The bits of a list of words after one write, and that the words stay tidy.
 use Rattle.std.proofs.Common.{◌≡◌, ◌≢◌, ℕ, zero, suc, ◌-◌, ◌^◌, ◌<◌, ◌⊎◌, min, List, length, get_or, set, bit_or, arith}
 use Rattle.std.proofs.Common.{refl, sym, ap, ◌∙◌, subst, inl, inr, get_or-set_other, get_or-set_same}
 use mathlib.Core.Logic.{dite}
@@ -21,7 +21,7 @@ bit_is n k = cases (bit_at n k) refl (bit_at-lt n k)
     cases (suc zero) e l = inl e
     cases (suc (suc b)) e l = absurd (omega arith)
 
--- what isn't in a mask has 0 there
+-- a bit that is not in a mask is 0 there
 pub bit_out : (mask k : ℕ) → ¬ IsIn mask k → bit_at mask k ≡ 0
 bit_out mask k out = elim (bit_is mask k) [ inl one ↦ absurd (out one) | inr none ↦ none ]
 
@@ -30,7 +30,7 @@ pub in_below : (mask depth k : ℕ) → mask < 2 ^ depth → IsIn mask k → k <
 in_below mask depth k fits one = dite (dec_lt k depth) (λ h. h)
     (λ no. let none = bit_at_above mask depth k fits (omega arith) in absurd (omega arith))
 
--- one entry is written, the others stay
+-- one entry is written, and the others are unchanged
 other_entries : (xs : List ℕ) (i v j : ℕ) → j ≢ i → get_or (set xs i v) j 0 ≡ get_or xs j 0
 other_entries xs i v j ne = get_or-set_other xs i j v 0 ne
 
@@ -56,7 +56,7 @@ bit_at_without v mask k fits narrow = dite (dec_lt k 64)
     (λ high. let none = bit_at_above v 64 k fits (omega arith) in let b = bit_at_and v (2 ^ 64 - 1 - mask) k in
     omega arith)
 
--- bits taken out of a word
+-- bits removed from a word
 pub writes_without : (xs : List ℕ) (i v mask : ℕ) → i < length xs → v ≡ get_or xs i 0 → v < 2 ^ 64 → mask < 2 ^ 64
     → Writes xs (set xs i (without v mask)) i (IsIn mask) 0
 writes_without xs i v mask h e fits narrow =
@@ -70,7 +70,7 @@ writes_without xs i v mask h e fits narrow =
       others = λ j ne. other_entries xs i (without v mask) j ne;
     }
 
--- a word emptied
+-- a word set to 0
 pub writes_zero : (xs : List ℕ) (i : ℕ) (P : ℕ → Type 0) → i < length xs
     → ((k : ℕ) → ¬ P k → bit_at (get_or xs i 0) k ≡ 0) → Writes xs (set xs i 0) i P 0
 writes_zero xs i P h out =
@@ -81,7 +81,7 @@ writes_zero xs i P h out =
       others = λ j ne. other_entries xs i 0 j ne;
     }
 
--- nothing is written where no place is meant
+-- writing no place
 pub writes_nothing : (xs : List ℕ) (i : ℕ) (P : ℕ → Type 0) (b : ℕ) → ((k : ℕ) → ¬ P k) → Writes xs xs i P b
 writes_nothing xs i P b none = record {
   there = λ k one. absurd (none k one);
@@ -89,7 +89,7 @@ writes_nothing xs i P b none = record {
   others = λ j _. refl;
 }
 
--- the same places, said otherwise
+-- an equivalent set of places
 pub writes_where : (xs ys : List ℕ) (i b : ℕ) (P Q : ℕ → Type 0) → ((k : ℕ) → Q k → P k) → ((k : ℕ) → P k → Q k)
     → Writes xs ys i P b → Writes xs ys i Q b
 writes_where xs ys i b P Q f g w = record {
@@ -98,7 +98,7 @@ writes_where xs ys i b P Q f g w = record {
   others = w.others;
 }
 
--- the one place of a mask of one bit
+-- the only place of a mask of one bit
 pub is_place : (place k : ℕ) → IsIn (2 ^ place) k → k ≡ place
 is_place place k one = dite (ℕ_discrete k place) (λ e. e) (λ ne. let none = bit_at-pow_other place k ne in
     absurd (omega arith))
@@ -106,7 +106,7 @@ is_place place k one = dite (ℕ_discrete k place) (λ e. e) (λ ne. let none = 
 pub place_is : (place k : ℕ) → k ≡ place → IsIn (2 ^ place) k
 place_is place k e = ap (bit_at (2 ^ place)) e ∙ bit_at-pow_same place
 
--- a claim of places that the word uses
+-- a claim of places within the word's depth
 pub tidy_claim : (p : Plain) (new : List ℕ) (i mask : ℕ) → IsTidy p → length new ≡ length p.word
     → IsWithin p.layout i mask → Writes p.word new i (IsIn mask) 1 → IsTidy (record p { word = new })
 tidy_claim p new i mask tidy long fits w = record {
@@ -130,7 +130,7 @@ tidy_claim p new i mask tidy long fits w = record {
       (λ ne. ap (λ (x : ℕ). bit_at x k) (w.others j ne) ∙ was);
 }
 
--- places cleared, none of which is set aside any more
+-- places cleared, none of which is still set aside
 pub tidy_clear : (p : Plain) (new aside : List ℕ) (i mask : ℕ) → IsTidy p → length new ≡ length p.word
     → length aside ≡ length p.aside → Writes p.word new i (IsIn mask) 0
     → ((j k : ℕ) → bit_at (get_or aside j 0) k ≡ 1 → bit_at (get_or p.aside j 0) k ≡ 1)
@@ -172,7 +172,7 @@ tidy_put p aside i place tidy broad was w = record {
       (λ ne. tidy.taken j k (sym (ap (λ (x : ℕ). bit_at x k) (w.others j ne)) ∙ one));
 }
 
--- a bit or-ed into the word at an index, said of that index and that place
+-- a bit or-ed into a word, stated by the word's index and the bit's place
 pub writes_place : (xs : List ℕ) (r i found bit place : ℕ) → r ≡ i → bit ≡ 2 ^ place → r < length xs
     → found ≡ get_or xs r 0 → Writes xs (set xs r (bit_or found bit)) i (λ k. k ≡ place) 1
 writes_place xs r i found bit place e b h f =

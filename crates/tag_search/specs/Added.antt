@@ -1,14 +1,14 @@
--- What a call does to a port: the steps that it adds.
+-- The steps that a call adds through a port.
 use Rattle.std.specs.Prelude.{ℕ, List, ◌↔◌}
 use Rattle.tag_core.specs.declared.word_step.WordStep.{WordStep}
 
--- between the two states the port made some steps, and this holds of them
+-- the port made some steps between the two states, and the fact holds of them
 pub record Adds {Port : Type 0} (adds : Port → List WordStep → Port → Type 0) (old new : Port) (fact : List WordStep
     → Type 0) : Type 0 where
   pub steps : List WordStep
   pub added : adds old steps new
   pub holds : fact steps
 
--- whatever there was room for there is room for still, and for no more
+-- the room for tags is unchanged
 abbrev pub SameRoom : {Port : Type 0} → (Port → ℕ → Type 0) → Port → Port → Type 0
 SameRoom room old new = (n : ℕ) → room old n ↔ room new n

@@ -1,4 +1,4 @@
--- What a search answers where nobody else steps, and what it leaves: a choice over free places and places set aside.
+-- The answer of a search if no other caller steps, and the pool after it: a choice over free and aside places.
 use Rattle.std.specs.Prelude.{◌≡◌, ◌↔◌, ℕ, ◌+◌, ◌<◌, ◌≤◌, true, false, List, ◌∷◌, ◌++◌, map, All, Option, Some, None}
 use Rattle.std.specs.Int.{bit_at}
 use Rattle.tag_layout.specs.Layout.{Layout, word_of, place_of, word_depth, tag_at}
@@ -29,7 +29,7 @@ IsBusy p word place = is_open p word place ≡ false
 abbrev pub IsHeld : Layout → Pool → ℕ → Type 0
 IsHeld l p tag = IsBusy p (word_of l tag) (place_of l tag)
 
--- the place is in the rank, and the others hold of each place before it
+-- the place is in the rank, `This` holds of it, and `Others` of each place before it
 pub record IsFirst (This Others : ℕ → Type 0) (rank : List ℕ) (place : ℕ) : Type 0 where
   pub before : List ℕ
   pub behind : List ℕ
@@ -37,7 +37,7 @@ pub record IsFirst (This Others : ℕ → Type 0) (rank : List ℕ) (place : ℕ
   pub others : All Others before
   pub is : This place
 
--- no place of the rank of this word is free or set aside
+-- no place of this visit's rank is free or set aside
 abbrev pub IsFull : Pool → Visit → Type 0
 IsFull p visit = All (IsBusy p visit.word) visit.rank
 
@@ -45,11 +45,9 @@ IsFull p visit = All (IsBusy p visit.word) visit.rank
 abbrev pub words_in : List Visit → List ℕ
 words_in visits = map (λ visit. visit.word) visits
 
--- the first word with a free place or one set aside in its rank gives the answer: its first free place, and where
--- there is
--- none the first set aside; none where there is no such word. Each word passed has its set aside places freed, and
--- so has
--- a word that answers one of them; the place answered is free no more
+-- the first word with a free or aside place in its rank decides: the answer is its first free place or, if it has none,
+-- its first aside place; there is no answer if no word has one. The aside places of each word passed over are freed,
+-- and those of the deciding word if its answer was aside; the place answered is no longer free
 pub data IsChoice (l : Layout) (old : Pool) : List Visit → Option ℕ → Pool → Type 0 where
   nothing : {visits : List Visit} → All (IsFull old) visits
       → IsChoice l old visits None (freed_in (words_in visits) old)
@@ -69,19 +67,19 @@ pub record IsLeastOpen (p : Pool) (word depth place : ℕ) : Type 0 where
   pub is : IsOpen p word place
   pub least : (other : ℕ) → other < place → IsBusy p word other
 
--- from the word's least open place on there are fewer than n places, or it has none
+-- the word has no open place, or fewer than n places from its least open one on
 abbrev pub HasNoRun : Layout → ℕ → Pool → ℕ → Type 0
 HasNoRun l n p word = (place : ℕ) → IsLeastOpen p word (word_depth l word) place → word_depth l word < place + n
 
--- the word's n places from its least open one on, and the bits of those among them that are open
+-- the word's n places from its least open one on, and the mask of those among them that are open
 pub record IsOpenRun (l : Layout) (n : ℕ) (p : Pool) (word place bits : ℕ) : Type 0 where
   pub least : IsLeastOpen p word (word_depth l word) place
   pub fits : place + n ≤ word_depth l word
   pub won : (k : ℕ) → bit_at bits k ≡ 1 ↔ (k < n) × IsOpen p word (place + k)
 
--- the first word with n places from its least open one on answers those among them that are open; none where there
--- is no such
--- word. Each word up to the answer's has its set aside places freed, and the n places are free no more
+-- the first word with n places from its least open one on answers those among them that are open; there is no answer if
+-- there is no such word. The aside places of each word up to the answer's are freed, and the n places are no longer
+-- free
 pub data IsBatchChoice (l : Layout) (n : ℕ) (old : Pool) : List ℕ → Option (ℕ × ℕ) → Pool → Type 0 where
   no_batch : {words : List ℕ} → All (HasNoRun l n old) words → IsBatchChoice l n old words None (freed_in words old)
   batch : (passed behind : List ℕ) (word : ℕ) {place bits : ℕ} → All (HasNoRun l n old) passed

@@ -1,4 +1,4 @@
--- What a get does: its steps, and what they answer.
+-- The steps of a get, and its answer.
 use Rattle.std.specs.Prelude.{ℕ, ◌+◌, ◌*◌, ◌≤◌, List, length, Option}
 use Rattle.tag_layout.specs.Layout.{Layout, words}
 use Rattle.tag_core.specs.declared.word_step.WordStep.{WordStep}
@@ -7,11 +7,9 @@ use Rattle.tag_search.specs.Pool.{pool_of}
 use Rattle.tag_search.specs.Choice.{IsChoice}
 use Rattle.tag_search.specs.Search.{Visit, IsSearch}
 
--- the steps are these visits and give this answer; where nobody else stepped it is the choice, and what they leave
--- is what
--- the choice leaves; and they are at most two claims of each tag and four steps more a word, not counting loads that
--- stand in
--- no list
+-- the steps are these visits and give this answer; if no other caller stepped, the answer is the choice, and the steps
+-- leave what the choice leaves; and there are at most two claims of each tag and four more steps for each word, not
+-- counting loads that are in no list
 pub record IsGet (l : Layout) (visits : List Visit) (answer : Option ℕ) (steps : List WordStep) : Type 0 where
   pub search : IsSearch l visits steps answer
   pub alone : (w : Words) → Quiet steps w → IsChoice l (pool_of w) visits answer (pool_of (words_after_all steps w))

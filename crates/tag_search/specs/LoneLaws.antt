@@ -1,4 +1,4 @@
--- Laws of gets on a map of one caller: nobody else steps, so each get is the choice over what its caller's earlier
+-- Laws of gets on a map of one caller: no other caller steps, so each get is the choice over what the caller's earlier
 -- steps left.
 use Rattle.std.specs.Prelude.{◌≡◌, ℕ, List, [], ◌∷◌, ◌++◌, map, Option}
 use Rattle.tag_layout.specs.Layout.{Layout}
@@ -14,7 +14,7 @@ use Rattle.tag_search.specs.Gets.{IsGet}
 use Rattle.tag_search.specs.Pool.{pool_of}
 use Rattle.tag_search.specs.Search.{Visit}
 
--- the words and the states that one caller's steps, the newest first, leave of blank ones
+-- the words and slot states that one caller's steps, newest first, leave on a new map
 abbrev pub cells_left : {R : Type 0} → List (Step R) → Cells
 cells_left steps = cells_of (map (λ step. (0, step)) steps)
 
@@ -22,20 +22,19 @@ cells_left steps = cells_of (map (λ step. (0, step)) steps)
 abbrev pub words_left : {R : Type 0} → List (Step R) → Words
 words_left steps = (cells_left steps).words
 
--- a caller's own list, the newest first, after these steps on words, the oldest first
+-- a caller's list, newest first, after these steps on words, oldest first
 abbrev pub own_after : {R : Type 0} → List WordStep → List (Step R) → List (Step R)
 own_after [] older = older
 own_after (step ∷ steps) older = own_after steps (Word step ∷ older)
 
--- of the history of a map of one caller: the caller took these steps on words right after the older ones, whatever
--- it did since
+-- the history of a map of one caller, which made these steps on words right after the older ones, whatever it did since
 pub record IsLone {R : Type 0} (k : Shape) (h : History R) (newer older : List (Step R))
     (steps : List WordStep) : Type 0 where
   pub one : k.callers ≡ 1
   pub lawful : IsLawful k h
   pub own : steps_by 0 h ≡ newer ++ own_after steps older
 
--- a get by a map's one caller answers the choice over what the caller's older steps left, and leaves what the choice
+-- a get by the only caller of a map answers the choice over what its older steps left, and leaves what the choice
 -- leaves
 abbrev pub LoneGetsChoose : Type 0 → Type 0
 LoneGetsChoose R =
@@ -43,7 +42,7 @@ LoneGetsChoose R =
     → (l : Layout) (visits : List Visit) (answer : Option ℕ) → IsGet l visits answer steps
     → IsChoice l (pool_of (words_left older)) visits answer (pool_of (words_left (own_after steps older)))
 
--- a get of several tags by a map's one caller likewise
+-- the same for a get of several tags
 abbrev pub LoneBatchesChoose : Type 0 → Type 0
 LoneBatchesChoose R =
     (k : Shape) (h : History R) (newer older : List (Step R)) (steps : List WordStep) → IsLone k h newer older steps

@@ -1,11 +1,11 @@
--- What a contract sees of a `PlainPort`, and what its steps do.
+-- What a contract sees of a `PlainPort`, and the effect of its steps.
 use Rattle.std.specs.Prelude.{◌≡◌, ℕ, List, slice_index}
 use Rattle.std.specs.Int.{bit_at}
 use Rattle.tag_core.specs.declared.word_step.WordStep.{WordStep}
 use Rattle.tag_core.specs.Steps.{Words, Quiet, words_after_all}
 use Rattle.tag_layout.specs.Layout.{Layout}
 
--- the sizes, each word, and each word's cleared set, in order
+-- the layout, each word, and the cleared set of each word, in order
 pub record Plain : Type 0 where
   pub layout : Layout
   pub word : List ℕ
@@ -15,8 +15,8 @@ pub record Plain : Type 0 where
 abbrev pub words_of : Plain → Words
 words_of p = record { word = λ i. slice_index p.word i; aside = λ i. slice_index p.aside i }
 
--- nobody else steps: each step finds what the words and the earlier steps leave, and the words after them are what
--- they leave
+-- no other caller steps: each step finds what the earlier steps left of the words, and the words afterwards are what
+-- the steps leave
 pub record RunsAlone (old : Plain) (steps : List WordStep) (new : Plain) : Type 0 where
   pub layout : new.layout ≡ old.layout
   pub quiet : Quiet steps (words_of old)

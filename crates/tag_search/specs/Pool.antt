@@ -1,4 +1,4 @@
--- The tags of a map as two sets, by word and place: those that are free, and those that were set aside.
+-- The tags of a map as two sets of places: those that are free, and those that are set aside.
 use Rattle.std.specs.Prelude.{◌≡◌, ℕ, ◌+◌, Bool, false, not, ◌&&◌, ◌||◌, nat_eq, nat_lt, nat_le, List}
 use Rattle.std.specs.List.{list_any}
 use Rattle.std.specs.Int.{bit_at}
@@ -9,7 +9,7 @@ pub record Pool : Type 0 where
   pub free : ℕ → ℕ → Bool
   pub aside : ℕ → ℕ → Bool
 
--- of the 64 places of each word: a clear bit is free, and a bit of the cleared set is aside
+-- the pool of 64 places for each word: a clear bit is free, and a bit of the cleared set is aside
 abbrev pub pool_of : Words → Pool
 pool_of w = record {
   free = λ word place. nat_lt place 64 && nat_eq (bit_at (w.word word) place) 0;
@@ -20,11 +20,11 @@ pool_of w = record {
 abbrev pub is_open : Pool → ℕ → ℕ → Bool
 is_open p word place = p.free word place || p.aside word place
 
--- the place is neither free nor set aside: somebody holds it
+-- the place is neither free nor set aside: a caller holds it, or it is posted
 abbrev pub is_busy : Pool → ℕ → ℕ → Bool
 is_busy p word place = not (is_open p word place)
 
--- no place is free and set aside at once
+-- no place is both free and set aside
 abbrev pub IsApart : Pool → Type 0
 IsApart p = (word place : ℕ) → (p.free word place && p.aside word place) ≡ false
 
@@ -32,22 +32,22 @@ IsApart p = (word place : ℕ) → (p.free word place && p.aside word place) ≡
 abbrev pub is_in : ℕ → List ℕ → Bool
 is_in n list = list_any (nat_eq n) list
 
--- whatever is set aside in these words is free instead
+-- in these words, what is set aside becomes free
 abbrev pub freed_in : List ℕ → Pool → Pool
 freed_in words p = record {
   free = λ word place. p.free word place || (is_in word words && p.aside word place);
   aside = λ word place. not (is_in word words) && p.aside word place;
 }
 
--- these places of the word are free no more
+-- these places of the word are no longer free
 abbrev pub taken_in : ℕ → (ℕ → Bool) → Pool → Pool
 taken_in word these p = record p { free = λ other place. p.free other place && not (nat_eq other word && these place) }
 
--- this place of the word is free no more
+-- this place of the word is no longer free
 abbrev pub taken_at : ℕ → ℕ → Pool → Pool
 taken_at word place p = taken_in word (nat_eq place) p
 
--- that many places of the word, from one on, are no longer free
+-- n places of the word, from one on, are no longer free
 abbrev pub taken_from : ℕ → ℕ → ℕ → Pool → Pool
 taken_from word place n p = taken_in word (λ other. nat_le place other && nat_lt other (place + n)) p
 

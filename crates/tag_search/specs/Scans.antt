@@ -1,14 +1,14 @@
--- What the code's scan stands for.
+-- The scan of the code in terms of the specification.
 use Rattle.std.specs.Prelude.{ℕ, Option, Some, None}
 use Rattle.tag_layout.specs.Layout.{Layout, word_depth, shallow_limit}
 use Rattle.tag_search.specs.declared.scan.Scan.{Scan}
 use Rattle.tag_search.specs.Visits.{Reach}
 
--- how many places of a word may be taken
+-- the number of places of a word that may be taken
 abbrev pub limit_of : Layout → Option ℕ → ℕ → ℕ
 limit_of l None = word_depth l
 limit_of l (Some depth) = λ i. shallow_limit l i depth
 
--- which places a scan may take
+-- the places that a scan may take
 abbrev pub reach_of : Scan → Reach
 reach_of scan = record { start = scan.start; limit = limit_of scan.layout scan.shallow; wrap = scan.wrap }

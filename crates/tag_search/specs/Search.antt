@@ -1,4 +1,4 @@
--- Which steps are a search: passes over the places of a word, visits of words, and what they answer.
+-- Which steps are a search: passes over the places of a word, visits of words, and their answers.
 use Rattle.std.specs.Prelude.{◌≡◌, ◌≢◌, ℕ, ◌^◌, ◌<◌, List, [], ◌∷◌, ◌++◌, All, Option, Some, None}
 use Rattle.std.specs.Int.{bit_at}
 use Rattle.tag_layout.specs.Layout.{Layout, tag_at}
@@ -9,15 +9,15 @@ use Rattle.tag_core.specs.declared.word_step.WordStep.TheVariants.{Look, Claimed
 abbrev pub AllTaken : ℕ → List ℕ → Type 0
 AllTaken word places = All (λ place. bit_at word place ≡ 1) places
 
--- the place is the first of the rank that is clear in the word, and these are the places behind it
+-- the place is the first of the rank that is clear in the word, and `behind` are the places after it
 pub record IsFirstInRank (word : ℕ) (rank : List ℕ) (place : ℕ) (behind : List ℕ) : Type 0 where
   pub before : List ℕ
   pub order : rank ≡ before ++ place ∷ behind
   pub taken : AllTaken word before
   pub clear : bit_at word place ≡ 0
 
--- claims of one place each, with what the step before them found in the word: each is of the first place that was
--- clear there, behind those claimed before, and the first claim won is the last
+-- claims of one place each, after a step that found this word: each claims the first place that is clear in the word
+-- found last, among those after the places claimed before, and the first claim that wins is the last
 pub data IsTries (i : ℕ) : List ℕ → ℕ → List WordStep → Option ℕ → Type 0 where
   none_left : {rank : List ℕ} {found : ℕ} → AllTaken found rank → IsTries i rank found [] None
   wins :
@@ -29,37 +29,37 @@ pub data IsTries (i : ℕ) : List ℕ → ℕ → List WordStep → Option ℕ �
       → IsFirstInRank found rank place behind → bit_at next place ≡ 1 → IsTries i behind next rest answer
       → IsTries i rank found (Claimed i (2 ^ place) next ∷ rest) answer
 
--- a load of the word, and the claims that follow from it
+-- a load of the word, and the claims that follow it
 pub data IsPass (i : ℕ) (rank : List ℕ) : List WordStep → Option ℕ → Type 0 where
   pass :
       {found : ℕ} {tries : List WordStep} {answer : Option ℕ}
       → IsTries i rank found tries answer → IsPass i rank (Look i found ∷ tries) answer
 
--- the cleared set is swapped with 0, and a mask that stood in it is taken out of the word
+-- the cleared set is swapped with 0, and the mask that it had, if any, is removed from the word
 pub data IsSweep (i : ℕ) : ℕ → List WordStep → Type 0 where
   empty : IsSweep i 0 (Swap i 0 ∷ [])
   spilled : {mask found : ℕ} → mask ≢ 0 → mask < 2 ^ 64 → IsSweep i mask (Swap i mask ∷ Spill i mask found ∷ [])
 
--- a sweep, and where that found a mask a pass
+-- a sweep and, if it found a mask, a pass
 pub data IsRetry (i : ℕ) (rank : List ℕ) : List WordStep → Option ℕ → Type 0 where
   nothing_aside : {sweep : List WordStep} → IsSweep i 0 sweep → IsRetry i rank sweep None
   swept :
       {sweep second : List WordStep} {mask : ℕ} {answer : Option ℕ}
       → mask ≢ 0 → IsSweep i mask sweep → IsPass i rank second answer → IsRetry i rank (sweep ++ second) answer
 
--- a pass, and where that wins nothing a sweep with its second pass
+-- a pass and, if it wins nothing, a sweep with a second pass
 pub data IsVisit (i : ℕ) (rank : List ℕ) : List WordStep → Option ℕ → Type 0 where
   at_once : {steps : List WordStep} {place : ℕ} → IsPass i rank steps (Some place) → IsVisit i rank steps (Some place)
   retried :
       {first rest : List WordStep} {answer : Option ℕ}
       → IsPass i rank first None → IsRetry i rank rest answer → IsVisit i rank (first ++ rest) answer
 
--- a word, and in which order its places are looked at
+-- a word, and the places to try in it, in order
 pub record Visit : Type 0 where
   pub word : ℕ
   pub rank : List ℕ
 
--- the visits in order, up to the first that wins: its tag is the answer, and none only after the last visit
+-- the visits in order, up to the first that wins; the answer is its tag, or none after the last visit
 pub data IsSearch (l : Layout) : List Visit → List WordStep → Option ℕ → Type 0 where
   over : IsSearch l [] [] None
   won :

@@ -1,4 +1,4 @@
--- What steps through a port on a shared map do to the caller that makes them.
+-- What steps through a port on a shared map change of the caller that makes them.
 use Rattle.std.specs.Prelude.{◌≡◌, ℕ, ◌+◌, ◌^◌, ◌<◌, ◌≤◌, List, [], ◌∷◌}
 use Rattle.std.specs.List.{AllByRecursion}
 use Rattle.std.specs.Int.{bit_at}
@@ -13,30 +13,29 @@ use Rattle.tag_core.specs.Records.{record_after}
 use Rattle.tag_search.specs.declared.shared.Shared.{Shared}
 use Rattle.tag_search.specs.Added.{Adds}
 
--- the caller may win that many more tags
+-- the caller may win n more tags
 abbrev pub HasRoom : {R : Type 0} → Caller R → ℕ → Type 0
 HasRoom c n = (record_of c).won + n ≤ (record_of c).shape.life
 
--- the record after these steps on words, the oldest first
+-- the record after these steps on words, oldest first
 abbrev pub record_after_all : {R : Type 0} → List WordStep → Record R → Record R
 record_after_all [] r = r
 record_after_all (step ∷ steps) r = record_after_all steps (record_after (Word step) r)
 
--- what a claim found is a word of 64 bits
+-- a claim found a word of 64 bits
 abbrev pub FindsWord : WordStep → Type 0
 FindsWord (Claimed i mask found) = found < 2 ^ 64
 FindsWord _ = Unit {0}
 
--- a claim found the bit of each tag of its word that the caller holds
+-- a claim found the bit set of each tag of its word that the caller holds
 abbrev pub FindsHeldBy : {R : Type 0} → Caller R → WordStep → Type 0
 FindsHeldBy c (Claimed i mask found) =
     (tag : ℕ) → Holds c tag → word_of c.shape.value.layout tag ≡ i
     → bit_at found (place_of c.shape.value.layout tag) ≡ 1
 FindsHeldBy c _ = Unit {0}
 
--- the steps join the caller's own list, and their events change its record; it keeps each tag that it held, with the
--- value of
--- its slot, and no claim found such a tag's bit clear
+-- the steps are added to the caller's list, and its record is the one after them; the caller keeps each tag that it
+-- held, with the value of its slot, and no claim found the bit of such a tag clear
 pub record AddsAll {R : Type 0} (steps : List WordStep) (old new : Caller R) : Type 0 where
   pub known : record_of new ≡ record_after_all steps (record_of old)
   pub kept : (tag : ℕ) → Holds old tag → Holds new tag × (slot_of new tag ≡ slot_of old tag)
@@ -44,12 +43,12 @@ pub record AddsAll {R : Type 0} (steps : List WordStep) (old new : Caller R) : T
   pub finds_held : AllByRecursion (FindsHeldBy old) steps
   pub same_map : SameMap old new
 
--- the port's caller made the steps, and the port is that of the same caller and map
+-- the port's caller made the steps, and the port still is that caller's, on that map
 pub record AddsThrough {R : Type 0} (old : Shared R) (steps : List WordStep) (new : Shared R) : Type 0 where
   pub added : AddsAll steps old.caller.now new.caller.now
   pub map : new.map.now ≡ old.map.now
   pub lent : new.caller.ghost_name ≡ old.caller.ghost_name
 
--- the caller made some steps, and this holds of them
+-- the caller made some steps, and the fact holds of them
 abbrev pub Makes : {R : Type 0} → Caller R → Caller R → (List WordStep → Type 0) → Type 0
 Makes old new fact = Adds (λ before steps after. AddsAll steps before after) old new fact

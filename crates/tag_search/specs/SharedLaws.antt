@@ -1,4 +1,4 @@
--- Steps of one caller of a shared map, one list behind the other.
+-- Lists of steps by one caller of a shared map, one after the other.
 use Rattle.std.specs.Prelude.{◌≡◌, ℕ, List, [], ◌∷◌, ◌++◌, refl}
 use Rattle.std.specs.List.{AllByRecursion}
 use Rattle.std.proofs.Common.{sym, ap, ◌∙◌}
@@ -15,24 +15,24 @@ use Rattle.tag_core.specs.declared.shape.Shape.{Shape}
 use Rattle.tag_core.specs.declared.word_step.WordStep.TheVariants.{Look, LookAside, Claimed, Give, Put, Swap, Spill}
 use Rattle.tag_search.specs.Shared.{record_after_all, FindsWord, FindsHeldBy, AddsAll, AddsThrough}
 
--- the record after two lists is that after the second from that after the first
+-- the record after a concatenation is that after the second list, from that after the first
 pub record_after-append : {R : Type 0} (xs ys : List WordStep) (r : Record R)
     → record_after_all (xs ++ ys) r ≡ record_after_all ys (record_after_all xs r)
 record_after-append [] ys r = refl
 record_after-append (x ∷ xs) ys r = record_after-append xs ys (record_after (Word x) r)
 
--- what holds of each step of two lists holds of each step of both
+-- a fact of each step of two lists is one of each step of their concatenation
 pub finds-append : (xs ys : List WordStep) → AllByRecursion FindsWord xs → AllByRecursion FindsWord ys
     → AllByRecursion FindsWord (xs ++ ys)
 finds-append [] ys a b = b
 finds-append (x ∷ xs) ys a b = (a.0, finds-append xs ys a.1 b)
 
--- steps on words leave the shape
+-- steps on words leave the shape unchanged
 pub shape_after : {R : Type 0} (steps : List WordStep) (r : Record R) → (record_after_all steps r).shape ≡ r.shape
 shape_after [] r = refl
 shape_after (step ∷ steps) r = shape_after steps (record_after (Word step) r)
 
--- what a step found of the tags held later it found of those held before
+-- what a step found of all tags held later, it found of all tags held before
 held_earlier : {R : Type 0} (c d : Caller R) → d.shape.value ≡ c.shape.value → ((tag : ℕ) → Holds c tag → Holds d tag)
     → (step : WordStep)
     → FindsHeldBy d step → FindsHeldBy c step
@@ -53,11 +53,11 @@ all_earlier c d shape kept [] [] a b = tt
 all_earlier c d shape kept [] (y ∷ ys) a b = (held_earlier c d shape kept y b.0, all_earlier c d shape kept [] ys a b.1)
 all_earlier c d shape kept (x ∷ xs) ys a b = (a.0, all_earlier c d shape kept xs ys a.1 b)
 
--- no step leaves the caller as it is
+-- the empty list of steps leaves the caller unchanged
 pub adds_nothing : {R : Type 0} (c : Caller R) → AddsAll [] c c
 adds_nothing c = record { known = refl; kept = λ tag held. (held, refl); finds = tt; finds_held = tt; same_map = refl }
 
--- the steps of two calls
+-- the steps of two calls in a row
 pub adds_on : {R : Type 0} (c d e : Caller R) (xs ys : List WordStep) → AddsAll xs c d → AddsAll ys d e
     → AddsAll (xs ++ ys) c e
 adds_on c d e xs ys a b = record {
@@ -69,7 +69,7 @@ adds_on c d e xs ys a b = record {
   same_map = b.same_map ∙ a.same_map;
 }
 
--- no step leaves the port as it is
+-- the empty list of steps leads from a port to itself
 pub through_nothing : {R : Type 0} (p : Shared R) → AddsThrough p [] p
 through_nothing p = record { added = adds_nothing p.caller.now; map = refl; lent = refl }
 

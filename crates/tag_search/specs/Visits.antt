@@ -1,25 +1,26 @@
--- The visits of a search: which words in which order, and of each word which places in which order.
+-- The visits of a search: the order of the words, and the order of the places of each word.
 use Rattle.std.specs.Prelude.{ℕ, Bool, true, false, cond, nat_eq, List, map}
 use Rattle.tag_layout.specs.Layout.{Layout, words, word_of, place_of, word_depth, shallow_limit}
 use Rattle.tag_search.specs.Order.{scan_order}
 use Rattle.tag_search.specs.Search.{Visit}
 
--- where the first word is begun, how many places of each word may be taken, and whether those before the start follow
+-- the first place of the first word, the number of places of each word that may be taken, and whether the places before
+-- the start follow
 pub record Reach : Type 0 where
   pub start : ℕ
   pub limit : ℕ → ℕ
   pub wrap : Bool
 
--- a plain search takes any place of a word; under round robin it begins at the hint and takes none before it
+-- a plain search allows every place of a word; under round robin it begins at the hint and tries no place before it
 abbrev pub plain_reach : Layout → Bool → ℕ → Reach
 plain_reach l false hint = record { start = 0; limit = word_depth l; wrap = true }
 plain_reach l true hint = record { start = place_of l hint; limit = word_depth l; wrap = false }
 
--- a shallow search takes each word's share of its depth, from the hint on and then the places before it
+-- a shallow search allows each word's share of its depth, from the hint on and then the places before it
 abbrev pub shallow_reach : Layout → ℕ → ℕ → Reach
 shallow_reach l depth hint = record { start = place_of l hint; limit = λ i. shallow_limit l i depth; wrap = true }
 
--- the visit of a word: the first word is begun at the start, each other at its place 0
+-- the visit of a word: it begins at `start` in the first word, and at place 0 in every other
 abbrev pub visit_of : ℕ → Reach → ℕ → Visit
 visit_of first reach i = record {
   word = i;

@@ -1,21 +1,21 @@
--- What a call on plain words changes of them, bit by bit, and what is true of them between any two calls.
+-- How a call changes plain words, bit by bit, and the invariant of plain words.
 use Rattle.std.specs.Prelude.{◌≡◌, ◌≢◌, ℕ, ◌<◌, true, false, List, length, slice_index}
 use Rattle.std.specs.Int.{bit_at}
 use Rattle.tag_layout.specs.Layout.{words, word_depth}
 use Rattle.tag_search.specs.Plain.{Plain}
 use Rattle.tag_search.specs.Pool.{Pool}
 
--- in this word the places of the set have this bit, and every other bit of the list stays
+-- in this word the places of the set have this bit, and every other bit of the list is unchanged
 pub record Writes (old new : List ℕ) (word : ℕ) (Places : ℕ → Type 0) (bit : ℕ) : Type 0 where
   pub there : (place : ℕ) → Places place → bit_at (slice_index new word) place ≡ bit
   pub beside : (place : ℕ) → ¬ Places place → bit_at (slice_index new word) place ≡ bit_at (slice_index old word) place
   pub others : (other : ℕ) → other ≢ word → slice_index new other ≡ slice_index old other
 
--- the places of a mask
+-- the place is in the mask
 abbrev pub IsIn : ℕ → ℕ → Type 0
 IsIn mask place = bit_at mask place ≡ 1
 
--- there is an entry a word, no bit of a word stands where it uses none, and what is set aside is taken
+-- there is one entry for each word, no bit is set past a word's depth, and what is set aside is taken
 pub record IsTidy (p : Plain) : Type 0 where
   pub word_count : length p.word ≡ words p.layout
   pub aside_count : length p.aside ≡ words p.layout

@@ -1,4 +1,4 @@
-//! The search for several tags at once in one word.
+//! The search for several adjacent tags in one word, as in `__sbitmap_queue_get_batch` of lib/sbitmap.c.
 ghost use Rattle.std.specs.Prelude.{◌≡◌, ◌≢◌, ℕ, ◌+◌, ◌*◌, ◌/◌, ◌<◌, ◌≤◌, ◌^◌, [], ◌∷◌, IfOk, IfErr, IfSome, IfNone, true, count_ones};
 ghost use Rattle.tag_core.specs.Steps.{without};
 ghost use Rattle.tag_core.specs.declared.word_step.WordStep.TheVariants.{Claimed};
@@ -10,7 +10,7 @@ ghost use Rattle.tag_search.specs.Added.{Adds, SameRoom};
 use crate::port::Port;
 use tag_layout::{Layout, first_clear};
 
-/// So many bits from a place on.
+/// Returns the mask of `n` bits from a place on.
 #[inline]
 fn run_of(n: u32, place: u32) -> u64
     requires some { 1 ≤ n }
@@ -21,7 +21,8 @@ fn run_of(n: u32, place: u32) -> u64
     (u64::MAX >> (64 - n)) << place
 }
 
-/// Claims the run from a place on. What it won stands in the answer, the place's bit lowest.
+/// Claims `n` places from `place` on. Returns the mask of those won, whose lowest bit is `place`, or `None` if none was
+/// free.
 #[inline]
 fn claim_run<P: Port>(port: &mut P, word: u32, place: u32, n: u32) -> Option<u64>
     requires port { P.ready port.old }
@@ -46,7 +47,7 @@ fn claim_run<P: Port>(port: &mut P, word: u32, place: u32, n: u32) -> Option<u64
     Some(claim.won >> place)
 }
 
-/// Frees what was set aside in the word, and loads it.
+/// Frees what is set aside in the word, and then loads it.
 #[inline]
 fn sweep_and_look<P: Port>(port: &mut P, word: u32) -> u64
     requires port { P.ready port.old }
@@ -60,7 +61,7 @@ fn sweep_and_look<P: Port>(port: &mut P, word: u32) -> u64
     port.look(word)
 }
 
-/// Sweeps and loads the word, and claims the run from its first clear place where the word has room for it.
+/// Sweeps and loads the word, and claims `n` places from its first clear one on, if the word has that many.
 #[inline]
 fn visit_for_run<P: Port>(port: &mut P, layout: Layout, word: u32, n: u32) -> Option<(u32, u64)>
     requires port { P.ready port.old }
@@ -84,7 +85,7 @@ fn visit_for_run<P: Port>(port: &mut P, layout: Layout, word: u32, n: u32) -> Op
     Some((place, bits))
 }
 
-/// Visits the words from one on up to the end, until a claim wins.
+/// Visits the words `from .. end`, until a claim wins.
 #[inline]
 fn runs_between<P: Port>(
     port: &mut P,
@@ -112,7 +113,7 @@ fn runs_between<P: Port>(
     None
 }
 
-/// Visits all words in cyclic order from the first, until a claim wins.
+/// Visits all words in cyclic order from `first`, until a claim wins.
 #[inline]
 pub fn search_run<P: Port>(port: &mut P, layout: Layout, n: u32, first: u32) -> Option<(u32, u64)>
     requires port { P.ready port.old }

@@ -1,4 +1,4 @@
-//! Gets over plain words, where nobody else steps: what they answer and what they leave is the choice.
+//! Gets over plain words. No other caller steps, so the answer is always the choice.
 ghost use Rattle.std.specs.Prelude.{◌≡◌, ℕ, ◌+◌, ◌≤◌, false, IsTrue, IfSome};
 ghost use Rattle.std.specs.Int.{bit_at};
 ghost use Rattle.tag_layout.specs.Layout.{word_bits, word_of};
@@ -15,7 +15,7 @@ use crate::plain::PlainPort;
 use crate::search::{get, get_batch, get_shallow};
 
 impl PlainPort {
-    /// A free tag, or else one set aside, in the first word from the hint's on that has one. It is held from now on.
+    /// Takes a free tag, or else one set aside, of the first word from the hint on that has one. `None` if no word has.
     pub fn choose(&mut self, hint: &mut Hint) -> Option<u32>
         ensures layout { self.new.layout ≡ self.old.layout }
         ensures choice { let l = self.old.layout in
@@ -31,7 +31,7 @@ impl PlainPort {
         answer
     }
 
-    /// As `choose`, limited to `depth` tags, shared out over the words.
+    /// As `choose`, limited to `depth` tags, which are distributed over the words.
     pub fn choose_shallow(&mut self, hint: &mut Hint, depth: u32) -> Option<u32>
         ensures layout { self.new.layout ≡ self.old.layout }
         ensures choice { let l = self.old.layout in
@@ -47,8 +47,9 @@ impl PlainPort {
         answer
     }
 
-    /// The tags that are free or set aside among `n` side by side, in the first word from the hint's on that has `n` tags
-    /// from its first such tag on: that tag, and their mask, its bit lowest. Under round robin there are none.
+    /// Takes those of `n` adjacent tags that are free or set aside, in the first word from the hint on that has `n`
+    /// places from its first such tag on. Returns that tag and the mask of those taken, whose lowest bit is that tag.
+    /// Under round robin it takes none.
     pub fn choose_batch(&mut self, hint: &mut Hint, n: u32) -> Option<(u32, u64)>
         requires count { (1 ≤ n) × (n ≤ word_bits self.old.layout) }
         ensures layout { self.new.layout ≡ self.old.layout }

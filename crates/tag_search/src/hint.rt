@@ -1,18 +1,18 @@
-//! Where the next search begins.
+//! The tag at which the next search begins, with the rules of lib/sbitmap.c.
 ghost use Rattle.std.specs.Prelude.{◌≡◌, ℕ, ◌<◌, ◌≤◌, IfSome, if◌then◌else◌};
 ghost use Rattle.tag_search.specs.Hints.{reduced, hint_after_get, next_hint};
 
-/// Where one caller's next search begins.
+/// The tag at which a caller's next search begins.
 #[derive(Clone, Copy, Debug, PartialEq, Eq)]
 pub struct Hint {
-    /// The tag to begin at. One at or past the depth is reduced by it when a search begins.
+    /// The tag to begin at. A search reduces it modulo the depth if it is not below it.
     pub at: u32,
-    /// Whether searches go round: each begins behind the last tag won and takes no place before its hint.
+    /// Whether gets are round robin: each begins after the last tag won, and tries no earlier place of the hint's word.
     pub round_robin: bool,
 }
 
 impl Hint {
-    /// The hint as a search takes it.
+    /// Returns the tag at which a search of this depth begins, or 0 if there are no tags.
     #[inline]
     pub(crate) fn reduced(self, depth: u32) -> u32
         ensures { result ≡ reduced depth self.at }
@@ -38,7 +38,7 @@ impl Hint {
     }
 }
 
-/// Moves the hint of the caller who cleared a tag: to that tag, but not under round robin.
+/// Moves the hint of a caller that cleared a tag to that tag, except under round robin.
 #[inline]
 pub fn after_clear(hint: &mut Hint, tag: u32)
     ensures at { hint.new.at ≡ (if hint.old.round_robin then hint.old.at else tag) }
@@ -49,7 +49,7 @@ pub fn after_clear(hint: &mut Hint, tag: u32)
     }
 }
 
-/// A hint past the depth, as a search takes it.
+/// Reduces a hint at or past the depth modulo the depth, where lib/sbitmap.c draws a random tag instead.
 #[cold]
 fn reduce(at: u32, depth: u32) -> u32
     requires { depth ≤ at }
@@ -58,7 +58,7 @@ fn reduce(at: u32, depth: u32) -> u32
     if depth == 0 { 0 } else { at % depth }
 }
 
-/// The tag after this one, and 0 where only the last tag is left or none.
+/// Returns the tag after this one, or 0 if that would be the last tag or past it.
 fn next_hint(depth: u32, tag: u32) -> u32
     requires { tag < depth }
     ensures { result ≡ next_hint depth tag }

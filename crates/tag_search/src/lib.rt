@@ -1,4 +1,4 @@
-//! The search for free tags, written once for every kind of words.
+//! The search for free tags, written once over a port to the words.
 #![tactic(auto)]
 
 mod batch;

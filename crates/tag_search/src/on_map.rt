@@ -21,8 +21,8 @@ use crate::search;
 use crate::shared::Shared;
 use tag_core::{Caller, Map, Spent};
 
-/// A free tag, which the caller holds from now on. `None` says that each place was found taken at some moment of
-/// the call, not that all were taken at one moment. `Spent` where the caller's life leaves no room for one tag more.
+/// Takes a free tag for the caller. `None` means that each place tried was found taken at some moment of the call, not
+/// that all were taken at one moment. `Spent` if the caller's life has no room for one more tag.
 #[inline]
 pub fn get<R>(map: &Map<R>, caller: &mut Caller<R>, hint: &mut Hint) -> Result<Option<u32>, Spent>
     requires caller { IsCallerOf map.now caller.old }
@@ -34,7 +34,7 @@ pub fn get<R>(map: &Map<R>, caller: &mut Caller<R>, hint: &mut Hint) -> Result<O
         let visits = plain_visits l hint.old.round_robin (reduced l.depth hint.old.at) in
         Makes caller.old caller.new (IsGet l visits answer)) }
 
-    // Where the map has no other caller, the get is the choice over the words that its own steps left.
+    // If the map has no other caller, the get is the choice over the words that the caller's own steps left.
     ensures alone { IsAlone caller.old → IfOk result (λ answer.
         let l = layout_of map.now in
         let visits = plain_visits l hint.old.round_robin (reduced l.depth hint.old.at) in
@@ -46,7 +46,7 @@ pub fn get<R>(map: &Map<R>, caller: &mut Caller<R>, hint: &mut Hint) -> Result<O
     search::get(&mut Shared::new(map, caller), hint)
 }
 
-/// As `get`, limited to `depth` tags, shared out over the words. A word's share may be none.
+/// As `get`, limited to `depth` tags, which are distributed over the words. The share of a word may be 0.
 #[inline]
 pub fn get_shallow<R>(
     map: &Map<R>,
@@ -73,8 +73,8 @@ pub fn get_shallow<R>(
     search::get_shallow(&mut Shared::new(map, caller), hint, depth)
 }
 
-/// Up to `n` free tags side by side in one word, which the caller holds from now on: the first tag, and the mask of
-/// those won, that tag's bit lowest. Under round robin there are none, without a step.
+/// Takes up to `n` adjacent free tags of one word for the caller. Returns the first tag of the run and the mask of
+/// those won, whose lowest bit is that tag. Under round robin it returns `None` without a step.
 #[inline]
 pub fn get_batch<R>(
     map: &Map<R>,
@@ -105,7 +105,7 @@ pub fn get_batch<R>(
     search::get_batch(&mut Shared::new(map, caller), hint, n)
 }
 
-/// Sets a held tag aside: it is free after the next sweep of its word. The hint goes to the tag, but not under round
+/// Sets a held tag aside: it is free after the next sweep of its word. The hint moves to the tag, except under round
 /// robin.
 #[inline]
 pub fn put<R>(map: &Map<R>, caller: &mut Caller<R>, hint: &mut Hint, tag: u32)
@@ -123,7 +123,7 @@ pub fn put<R>(map: &Map<R>, caller: &mut Caller<R>, hint: &mut Hint, tag: u32)
     after_clear(hint, tag);
 }
 
-/// Frees a held tag at once. The hint goes to the tag, but not under round robin.
+/// Frees a held tag at once. The hint moves to the tag, except under round robin.
 #[inline]
 pub fn give<R>(map: &Map<R>, caller: &mut Caller<R>, hint: &mut Hint, tag: u32)
     requires caller { IsCallerOf map.now caller.old }

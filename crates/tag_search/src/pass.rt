@@ -1,4 +1,4 @@
-//! A pass over the places of one word, and a visit of it.
+//! Passes over the places of one word, and visits of a word.
 ghost use Rattle.std.specs.Prelude.{◌≡◌, ℕ, ◌<◌, ◌^◌, [], ◌∷◌, All, IfSome, IfNone, IfOk, IfErr};
 ghost use Rattle.std.specs.Int.{bit_at};
 ghost use Rattle.tag_core.specs.declared.word_step.WordStep.TheVariants.{Claimed};
@@ -10,7 +10,7 @@ ghost use Rattle.tag_search.specs.Places.{places_of};
 use crate::port::Port;
 use crate::rank::Rank;
 
-/// Claims one place. A lost claim tells what it found in the word.
+/// Claims one place. If the place was taken, returns the word as the claim found it.
 #[inline]
 fn claim_place<P: Port>(port: &mut P, word: u32, place: u32) -> Result<(), u64>
     requires port { P.ready port.old }
@@ -35,7 +35,8 @@ fn claim_place<P: Port>(port: &mut P, word: u32, place: u32) -> Result<(), u64>
     }
 }
 
-/// Loads the word and claims the first clear place of the rank, and after a lost claim the next one behind it.
+/// Loads the word and claims the first clear place of the rank. After a lost claim it goes on with the next place that
+/// is clear in the word as that claim found it.
 #[inline]
 pub fn pass<P: Port>(port: &mut P, word: u32, rank: Rank) -> Option<u32>
     requires port { P.ready port.old }
@@ -59,7 +60,7 @@ pub fn pass<P: Port>(port: &mut P, word: u32, rank: Rank) -> Option<u32>
     None
 }
 
-/// A pass and, where it wins nothing and something was set aside in the word, a sweep and a second pass.
+/// Passes over the word. If that wins nothing and something was set aside in the word, sweeps it and passes again.
 #[inline]
 pub fn visit<P: Port>(port: &mut P, word: u32, rank: Rank) -> Option<u32>
     requires port { P.ready port.old }
@@ -78,7 +79,7 @@ pub fn visit<P: Port>(port: &mut P, word: u32, rank: Rank) -> Option<u32>
     }
 }
 
-/// The part of a visit behind a pass that won nothing.
+/// Continues a visit after a pass that won nothing.
 #[inline]
 pub fn retry<P: Port>(port: &mut P, word: u32, rank: Rank) -> Option<u32>
     requires port { P.ready port.old }

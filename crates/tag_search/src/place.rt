@@ -4,7 +4,7 @@ ghost use Rattle.tag_layout.specs.Layout.{place_of};
 
 use tag_layout::Layout;
 
-/// The place of a number in its word, also where there is no such tag.
+/// Returns the place of a tag in its word, 0 to 63. Numbers past the depth have one too.
 #[inline]
 pub fn place_in_word(layout: Layout, tag: u32) -> u32
     ensures value { result ≡ place_of layout tag }
@@ -13,7 +13,7 @@ pub fn place_in_word(layout: Layout, tag: u32) -> u32
     tag & ((1 << layout.shift()) - 1)
 }
 
-/// The bit of a number in its word.
+/// Returns the mask with the bit of a tag in its word.
 #[inline]
 pub fn bit_of(layout: Layout, tag: u32) -> u64
     ensures value { result ≡ 2 ^ place_of layout tag }

@@ -1,4 +1,4 @@
-//! Plain words of one caller, with no atomics.
+//! The plain words of one caller, without atomics.
 ghost use Rattle.std.specs.Prelude.{◌≡◌, ℕ, ◌+◌, ◌^◌, ◌<◌, ◌↔◌, List, [], ◌∷◌, replicate, slice_index, IsTrue, IfOk};
 ghost use Rattle.std.specs.Int.{bit_at};
 ghost use Rattle.tag_layout.specs.Layout.{words, word_of, place_of, IsWithin};
@@ -12,13 +12,13 @@ use std::alloc::{AllocError, Global};
 use std::marker::Model;
 use tag_layout::Layout;
 
-/// The words of a map that one caller has alone. A contract sees the layout, each word and each cleared set.
+/// The words of a map that only one caller uses. A contract sees the layout, each word and each cleared set.
 #[derive(Drop)]
 pub struct PlainPort {
     pub(crate) layout: Layout,
-    /// Each word: 1 is taken.
+    /// The words: 1 is taken.
     pub(crate) word: Vec<u64>,
-    /// Each word's cleared set: 1 is set aside, given back and not yet taken out of the word.
+    /// The cleared set of each word: 1 is set aside, that is, given back but still taken in the word.
     pub(crate) cleared: Vec<u64>,
 }
 
@@ -34,7 +34,7 @@ impl Model for PlainPort {
 }
 
 impl PlainPort {
-    /// All tags free.
+    /// Opens words with all tags free.
     pub fn open(alloc: Global, layout: Layout) -> Result<PlainPort, AllocError>
         ensures layout { IfOk result (λ port. port.layout ≡ layout) }
         ensures words { IfOk result (λ port. port.word ≡ replicate (words layout) 0) }
@@ -51,7 +51,7 @@ impl PlainPort {
         })
     }
 
-    /// Whether the tag is taken and not set aside.
+    /// Returns whether the tag is taken and not set aside.
     pub fn taken(&self, tag: u32) -> bool
         requires { tag < self.now.layout.depth }
         ensures taken { IsTrue result ↔ IsTaken self.now (word_of self.now.layout tag) (place_of self.now.layout tag) }
@@ -63,7 +63,7 @@ impl PlainPort {
         self.word[word] & bit != 0 && self.cleared[word] & bit == 0
     }
 
-    /// The cleared set of a word: 1 is set aside.
+    /// Returns the cleared set of a word: 1 is set aside.
     pub fn look_aside(&mut self, word: u32) -> u64
         requires { word < words self.old.layout }
         ensures value { result ≡ slice_index self.old.aside word }

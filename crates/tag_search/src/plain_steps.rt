@@ -1,4 +1,4 @@
-//! The port to plain words: each call is its steps, which nobody else's come between.
+//! The port to plain words. No other caller steps between the steps of a call.
 ghost use Rattle.std.specs.Prelude.{◌≡◌, ◌≢◌, ℕ, ◌^◌, ◌<◌, ◌↔◌, ⊤, [], ◌∷◌, slice_index, IsTrue, IfOk, IsOkAnd, MatchBool};
 ghost use Rattle.tag_layout.specs.Layout.{words, IsWithin};
 ghost use Rattle.tag_core.specs.declared.word_step.WordStep.TheVariants.{Look, Claimed};

@@ -1,16 +1,16 @@
-//! The places of one word, in the order in which a pass looks at them.
+//! The places of one word, in the order in which a pass tries them.
 ghost use Rattle.std.specs.Prelude.{ℕ, ◌≤◌};
 
 use tag_layout::first_clear;
 
-/// What is left of a rank: the places `from .. limit`, and then `0 .. then`.
+/// The rest of a rank: the places `from .. limit`, and then `0 .. then`.
 #[derive(Clone, Copy)]
 pub struct Rank {
-    /// The next place to look at, 0 to 64.
+    /// The next place to try, 0 to 64.
     pub from: u32,
-    /// The place at which the first part ends, 0 to 64.
+    /// End of the first part, exclusive, 0 to 64.
     pub limit: u32,
-    /// The place at which the second part, from 0 on, ends. 0 is no such part.
+    /// End of the second part, which begins at place 0, exclusive, 0 to 64. 0 if there is no second part.
     pub then: u32,
     ghost ends: { limit ≤ 64 },
     ghost wraps: { then ≤ 64 },
@@ -22,7 +22,7 @@ impl Rank {
     ghost use Rattle.tag_search.specs.Search.{AllTaken, IsFirstInRank};
     ghost use Rattle.tag_search.specs.Places.{places_of};
 
-    /// The places from the start up to the limit and then, with wrap on, those before the start.
+    /// Returns the places from `start` to `limit` and then, if `wrap` is set, those before `start`.
     pub fn new(start: u32, limit: u32, wrap: bool) -> Rank
         requires { limit ≤ 64 }
         ensures { places_of result ≡ scan_order start limit wrap }
@@ -35,7 +35,7 @@ impl Rank {
         }
     }
 
-    /// Goes to the next place that is clear in the word, and leaves those behind it.
+    /// Advances to the next place whose bit is 0 in `word`, and returns it. `None` if all the rest are taken.
     #[inline]
     pub fn next(&mut self, word: u64) -> Option<u32>
         ensures next { MatchOption result (AllTaken word (places_of self.old)) (λ place.

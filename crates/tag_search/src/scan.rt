@@ -1,4 +1,4 @@
-//! The visits of a search over all words.
+//! The visits of a search over all words, in the order of lib/sbitmap.c.
 ghost use Rattle.std.specs.Prelude.{◌≡◌, ℕ, ◌<◌, ◌≤◌, ◌-◌, map, All, IfSome, IfNone, false};
 ghost use Rattle.tag_layout.specs.Layout.{words, word_of, word_depth};
 ghost use Rattle.tag_search.specs.Order.{numbers};
@@ -14,23 +14,23 @@ use crate::port::Port;
 use crate::rank::Rank;
 use tag_layout::Layout;
 
-/// How a search goes over the words: where it begins, and which places of each word it may take.
+/// Where a search begins, and which places of each word it may take.
 #[derive(Clone, Copy)]
 pub struct Scan {
-    /// The sizes of the map.
+    /// The layout of the map.
     pub layout: Layout,
-    /// The word that is visited first, by its index.
+    /// Index of the word that is visited first.
     pub first: u32,
-    /// The place at which the first word is begun, 0 to 63. The others are begun at 0.
+    /// Place at which the visit of the first word begins, 0 to 63. Every other visit begins at 0.
     pub start: u32,
-    /// The depth of a shallow search, in tags of the whole map. None is the whole of each word.
+    /// Depth of a shallow search, in tags of the whole map. `None` allows every place of each word.
     pub shallow: Option<u32>,
-    /// Whether the places before the start follow those behind it.
+    /// Whether the places before `start` follow those after it.
     pub wrap: bool,
 }
 
 impl Scan {
-    /// The scan of a plain search from a hint below the depth (0 where there are no tags).
+    /// Returns the scan of a plain search from a hint below the depth, or 0 if there are no tags.
     #[inline]
     pub fn plain(layout: Layout, round_robin: bool, from: u32) -> Scan
         requires { from ≤ layout.depth - 1 }
@@ -52,7 +52,7 @@ impl Scan {
         }
     }
 
-    /// The scan of whole words from one on.
+    /// Returns the scan of whole words from `first` on.
     pub fn of_words(layout: Layout, first: u32) -> Scan
         ensures layout { result.layout ≡ layout }
         ensures first { result.first ≡ first }
@@ -67,7 +67,7 @@ impl Scan {
         }
     }
 
-    /// The scan of a search of this depth, from a hint below the map's depth (0 where there are no tags).
+    /// Returns the scan of a search of this depth from a hint below the map's depth, or 0 if there are no tags.
     #[inline]
     pub fn shallow(layout: Layout, depth: u32, from: u32) -> Scan
         requires { from ≤ layout.depth - 1 }
@@ -85,7 +85,7 @@ impl Scan {
         }
     }
 
-    /// The places of a word that may be taken, in their order.
+    /// Returns the places of a word that may be taken, in order.
     #[inline]
     fn rank(&self, word: u32) -> Rank
         requires { word < words self.now.layout }
@@ -96,7 +96,7 @@ impl Scan {
         Rank::new(start, self.limit(word), self.wrap)
     }
 
-    /// How many places of a word may be taken.
+    /// Returns the number of places of a word that may be taken.
     #[inline]
     fn limit(&self, word: u32) -> u32
         requires { word < words self.now.layout }
@@ -111,7 +111,7 @@ impl Scan {
         }
     }
 
-    /// Visits the words from one on up to the end, until a visit wins a tag.
+    /// Visits the words `from .. end`, until a visit wins a tag.
     #[inline]
     pub fn visit_between<P: Port>(&self, port: &mut P, from: u32, end: u32) -> Option<u32>
         requires port { P.ready port.old }

@@ -17,8 +17,8 @@ use crate::whole::search_whole;
 use tag_core::Spent;
 use tag_layout::Layout;
 
-/// A free tag, which is the caller's from now on. `None` says that each place looked at was found taken during the
-/// call, not that all were taken at one moment.
+/// Takes a free tag for the caller. `None` means that each place tried was found taken at some moment of the call, not
+/// that all were taken at one moment. `Spent` if the port has no room for one more tag.
 pub fn get<P: Port>(port: &mut P, hint: &mut Hint) -> Result<Option<u32>, Spent>
     requires port { P.ready port.old }
     ensures port { P.ready port.new }
@@ -42,7 +42,7 @@ pub fn get<P: Port>(port: &mut P, hint: &mut Hint) -> Result<Option<u32>, Spent>
     Ok(answer)
 }
 
-/// The search of a plain get, from a hint below the depth (0 where there are no tags).
+/// Searches from a hint below the depth, or 0 if there are no tags.
 #[inline]
 fn search_plain<P: Port>(port: &mut P, layout: Layout, round_robin: bool, from: u32) -> Option<u32>
     requires port { P.ready port.old }
@@ -62,7 +62,7 @@ fn search_plain<P: Port>(port: &mut P, layout: Layout, round_robin: bool, from: 
     search_whole(port, layout, layout.word_of(from))
 }
 
-/// As `search_plain`, for every plain search.
+/// The same search out of line, for round robin and for maps without tags.
 #[inline(never)]
 fn search_scan<P: Port>(port: &mut P, layout: Layout, round_robin: bool, from: u32) -> Option<u32>
     requires port { P.ready port.old }
@@ -79,7 +79,7 @@ fn search_scan<P: Port>(port: &mut P, layout: Layout, round_robin: bool, from: u
     Scan::plain(layout, round_robin, from).search(port)
 }
 
-/// As `get`, limited to `depth` tags, shared out over the words. A word's share may be none.
+/// As `get`, limited to `depth` tags, which are distributed over the words. The share of a word may be 0.
 pub fn get_shallow<P: Port>(port: &mut P, hint: &mut Hint, depth: u32) -> Result<Option<u32>, Spent>
     requires port { P.ready port.old }
     ensures port { P.ready port.new }
@@ -103,8 +103,8 @@ pub fn get_shallow<P: Port>(port: &mut P, hint: &mut Hint, depth: u32) -> Result
     Ok(answer)
 }
 
-/// Up to `n` free tags side by side in one word: the first tag, and the mask of those won, that tag's bit lowest.
-/// Under round robin there are none, without a step.
+/// Takes up to `n` adjacent free tags of one word. Returns the first tag of the run and the mask of those won, whose
+/// lowest bit is that tag. Under round robin it returns `None` without a step.
 pub fn get_batch<P: Port>(
     port: &mut P,
     hint: &mut Hint,

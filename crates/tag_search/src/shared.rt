@@ -1,11 +1,11 @@
-//! The port to a map that callers share: each call is one of the map's, by one caller.
+//! The port to a shared map. Each call is the map's own, made by one of its callers.
 ghost use Rattle.std.specs.Prelude.{◌≡◌, ℕ, ◌+◌, ◌≤◌};
 
 use crate::port::Port;
 use tag_core::{Caller, Claim, Map, Spent};
 use tag_layout::Layout;
 
-/// One caller's way to the words of a map that other callers share with it.
+/// One caller's access to the words of a map that it shares with other callers.
 #[derive(Drop)]
 pub struct Shared<'a, R> {
     /// The map.
@@ -15,7 +15,7 @@ pub struct Shared<'a, R> {
 }
 
 impl<'a, R> Shared<'a, R> {
-    /// The port of this caller of the map.
+    /// Returns a port for `caller`, which is one of the callers of `map`.
     pub fn new(map: &'a Map<R>, caller: &'a mut Caller<R>) -> Shared<'a, R>
         ensures map { result.map.now ≡ map.now }
         ensures caller { result.caller.now ≡ caller.old }

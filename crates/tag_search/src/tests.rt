@@ -1,4 +1,4 @@
-//! Searches worked by hand, with their steps counted.
+//! Searches worked out on paper, with their steps counted.
 ghost use Rattle.std.specs.Prelude.{ℕ, ◌<◌};
 
 mod comparison;
@@ -22,7 +22,7 @@ use tag_layout::Layout;
 #[derive(Drop)]
 struct Counting {
     port: PlainPort,
-    /// Steps so far: loads, claims, swaps and spills.
+    /// Number of steps so far: loads, claims, swaps and spills.
     steps: u64,
 }
 
@@ -67,7 +67,7 @@ impl Port for Counting {
     }
 }
 
-/// Takes those tags of the mask that the word has.
+/// Takes the tags of the mask that are in the word.
 fn take(port: &mut Counting, word: u32, mask: u64) {
     let layout = port.layout();
     if word < layout.words() && mask <= layout.usable(word) {
@@ -75,19 +75,19 @@ fn take(port: &mut Counting, word: u32, mask: u64) {
     }
 }
 
-/// Whether there is such a tag, taken and not set aside.
+/// Returns whether the tag is in range, taken and not set aside.
 fn is_taken(port: &Counting, tag: u32) -> bool {
     tag < port.layout().depth() && port.port.taken(tag)
 }
 
-/// Sets a tag aside that is taken.
+/// Sets a tag aside, if it is taken.
 fn set_aside(port: &mut Counting, tag: u32) {
     if tag < port.layout().depth() && port.port.taken(tag) {
         port.port.put(tag);
     }
 }
 
-/// A batch get, if that many tags fit in a word.
+/// A batch get, if a word has that many tags; otherwise `None`.
 #[tactic(auto, using(std::proofs::lemmas::Nat::one_shl))]
 fn batch(port: &mut Counting, hint: &mut Hint, n: u32) -> Result<Option<(u32, u64)>, Spent> {
     let bits = 1u32 << port.layout().shift();
@@ -192,7 +192,7 @@ fn a_tag_given_back_is_free_at_once(rt: HostRuntime) -> Result<(), Fail> {
     Ok(())
 }
 
-/// The choice of a batch, if that many tags fit in a word.
+/// The choice of a batch, if a word has that many tags; otherwise `None`.
 #[tactic(auto, using(std::proofs::lemmas::Nat::one_shl))]
 fn chosen_batch(port: &mut PlainPort, hint: &mut Hint, n: u32) -> Option<(u32, u64)> {
     let bits = 1u32 << port.layout().shift();

@@ -1,4 +1,4 @@
-//! The plain search that does not go round: it takes any place of each word.
+//! The plain search without round robin, in which every place of each word is allowed.
 ghost use Rattle.std.specs.Prelude.{◌≡◌, ℕ, ◌+◌, ◌<◌, ◌≤◌, List, ◌++◌, map, All, IfSome, false, true, None};
 ghost use Rattle.tag_core.specs.declared.word_step.WordStep.{WordStep};
 ghost use Rattle.tag_layout.specs.Layout.{words, word_depth};
@@ -14,7 +14,7 @@ use crate::rank::Rank;
 use crate::scan::Scan;
 use tag_layout::Layout;
 
-/// All places of a word, in the order of their numbers.
+/// Returns all places of a word, in increasing order.
 #[inline]
 fn whole(layout: Layout, word: u32) -> Rank
     requires { word < words layout }
@@ -24,7 +24,7 @@ fn whole(layout: Layout, word: u32) -> Rank
     Rank::new(0, layout.word_depth(word), true)
 }
 
-/// Visits all words in cyclic order, each whole, until a visit wins a tag.
+/// Visits all words in cyclic order from `first`, until a visit wins a tag. Only the first visit is inlined.
 #[inline]
 pub fn search_whole<P: Port>(port: &mut P, layout: Layout, first: u32) -> Option<u32>
     requires port { P.ready port.old }
@@ -43,7 +43,7 @@ pub fn search_whole<P: Port>(port: &mut P, layout: Layout, first: u32) -> Option
     }
 }
 
-/// The part of the search behind a pass over the first word that won nothing.
+/// Continues the search after a pass over the first word that won nothing.
 #[inline]
 fn search_on<P: Port>(port: &mut P, layout: Layout, first: u32) -> Option<u32>
     requires port { P.ready port.old }
@@ -63,7 +63,7 @@ fn search_on<P: Port>(port: &mut P, layout: Layout, first: u32) -> Option<u32>
     }
 }
 
-/// Visits the words behind the first, and then those before it.
+/// Visits the words after the first, and then those before it.
 #[inline(never)]
 fn search_others<P: Port>(port: &mut P, layout: Layout, first: u32) -> Option<u32>
     requires port { P.ready port.old }

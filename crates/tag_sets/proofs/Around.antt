@@ -1,4 +1,4 @@
--- Looks at one word after another.
+-- Loads of one word of a set after another, and what they have found so far.
 use Rattle.std.proofs.Common.{◌≡◌, ℕ, suc, ◌+◌, ◌*◌, ◌<◌, List, [], ◌∷◌, ◌++◌, length, length-append, refl, sym, ap, ◌∙◌, subst, arith}
 use Rattle.tag_core.specs.declared.record.Record.{Record}
 use Rattle.tag_core.specs.declared.step.Step.TheVariants.{Word}
@@ -22,7 +22,7 @@ use Rattle.tag_sets.specs.Holding.{HoldsSame}
 use Rattle.tag_sets.specs.Looks.{Finds, looks_from}
 use Rattle.tag_sets.proofs.Uniting.{twice_same}
 
--- the words found so far, by these looks; the hand holds what it held
+-- the pairs found so far, up to this word, by these looks; the hand holds the same tags as before
 pub record SoFar {R : Type 0} (kind : Kind) (word : ℕ) (found : List (ℕ × ℕ)) (old now : Hand R) : Type 0 where
   pub count : length found ≡ word
   pub looks : Changes kind (Finds (looks_from 0 found)) old now
@@ -81,7 +81,7 @@ module _ {R : Type 0} where
     same = record { kept = λ tag h. (h, refl); none_else = λ tag h. h };
   }
 
-  -- and then one word more
+  -- one more word is looked at
   pub goes_on : (kind : Kind) (word : ℕ) (found : List (ℕ × ℕ)) (pair : ℕ × ℕ) (old mid new : Hand R)
       → SoFar kind word found old mid
       → Changes kind (Finds (looks_from word (pair ∷ []))) mid new → HoldsSame mid new
@@ -103,7 +103,7 @@ module _ {R : Type 0} where
   looks-keep word (x ∷ found) r = looks-keep (suc word) found
       (record_after (Word (LookAside word x.1)) (record_after (Word (Look word x.0)) r))
 
-  -- what was held is held after looks
+  -- looks change none of the tags that are held
   pub found_holds : (found : List (ℕ × ℕ)) (old new : Agent R) → Finds (looks_from 0 found) old new → (tag : ℕ)
       → queue.Holds old tag → queue.Holds new tag
   found_holds found old new f tag h =
@@ -122,7 +122,7 @@ module _ {R : Type 0} where
       let counts = ap (λ (t : Teller). length (book.steps_of t)) f.same_else.1.0 in
       let waits = ap (λ (w : Waiter). length (groups.steps_of w)) f.same_else.1.1 in omega arith
 
-  -- two steps a word
+  -- looking at the words of a set takes two steps a word
   pub few_looks : (kind : Kind) (found : List (ℕ × ℕ)) (old new : Hand R)
       → Changes kind (Finds (looks_from 0 found)) old new
       → step_count new ≡ 2 * length found + step_count old

@@ -1,4 +1,4 @@
--- A list of ordinary tags, by their numbers in the ordinary set.
+-- What the ordinary set answers for the numbers of a list holds for the ordinary tags of the list.
 use Rattle.std.proofs.Common.{◌≡◌, ℕ, ◌+◌, ◌-◌, ◌<◌, ◌≤◌, ◌↔◌, List, All, Contains, length, get_or, arith, refl, sym, ap, ◌∙◌, subst}
 use Rattle.std.proofs.lemmas.List.{length-map, get_or-map}
 use Rattle.tag_core.specs.declared.shape.Shape.{Shape}
@@ -54,7 +54,7 @@ module _ {R : Type 0} (tags : Tags R) (hand : Hand R) (own : IsHandOf tags hand)
   tags_back t k d l = let inside : k < length named = let same = same_count in omega arith in
       let at = at_place k d inside in let low = t k d inside in (above k d l, omega arith)
 
-  -- whether the hand holds an ordinary tag, by its number
+  -- the hand holds an ordinary tag exactly if its ordinary agent holds the tag's number
   holds_there : (tag n : ℕ) → n + reserved_of tags ≡ tag → Holds hand tag → queue.Holds hand.ordinary n
   holds_there tag n e h = let split = own.2 in
       let o = ordinary_above (split_of hand) tag (omega (arith, split)) in let x = o.number in
@@ -81,7 +81,7 @@ module _ {R : Type 0} (tags : Tags R) (hand : Hand R) (own : IsHandOf tags hand)
         h.1 j k d less (omega arith) (omega arith),
   )
 
-  -- what is held is a tag of the set
+  -- numbers that are held are tags of the set
   are_tags : queue_batches.AreHeldOnce (queue.caller_of hand.ordinary) named
       → queue_batches.AreTags (layout_of tags Ordinary) named
   are_tags h k d l = subst (λ (s : Shape). get_or named k d < s.layout.depth) own.1.0.1 (h.0 k d l).0
@@ -99,7 +99,7 @@ module _ {R : Type 0} (tags : Tags R) (hand : Hand R) (own : IsHandOf tags hand)
         set = record { changed = given; other = refl; split = refl };
       }
 
-  -- what is so of the numbers exactly where something is said, is so of the tags
+  -- what is said exactly if a condition on the numbers holds is said exactly if the same condition on the tags holds
   module _ (Said : Type 0) where
     pub no_such_tag :
         Said ↔ (queue_batches.CountsTags named × ¬ (queue_batches.AreTags (layout_of tags Ordinary) named))

@@ -1,6 +1,4 @@
--- Where the slots' values may go to any thread, a hand and tags may; where any thread may share them too, threads may
--- share
--- both.
+-- Hands and tags may go to another thread if the slots' values may; threads that may share these values may share tags.
 use denote.RattleType.{RattleType}
 use denote.Param.Send.{IsSend, IsSync, recorded_send, struct_send, recorded_sync, struct_sync, sendable}
 use denote.Struct.Declared.{shape as fields_of}
@@ -34,7 +32,7 @@ pub hand_field_sync : (R : RattleType) → IsSend R → IsSync (hand.the_field R
 hand_field_sync R sent = struct_sync (fields_of (hand.the_type R))
     (search (sendable, crosses) depth 40, (agent_field_sync R sent, (agent_field_sync R sent, tt)))
 
--- threads may share a hand: one that is only shared makes no step
+-- threads may share a hand, because a shared reference to a hand makes no step
 pub hand_sync : (R : RattleType) → IsSend R → IsSync (hand.the_row R)
 hand_sync R sent = recorded_sync _ _ _ (hand.the_type R).to_one (hand_field_sync R sent)
 

@@ -1,4 +1,4 @@
--- Hands that come together: how many they are at most, and the sums over both sets.
+-- All hands together: how many there can be, and the sums over both sets.
 use Rattle.std.proofs.Common.{◌≡◌, ◌≢◌, ℕ, zero, suc, ◌+◌, ◌*◌, ◌<◌, ◌≤◌, List, [], ◌∷◌, Bool, All, map, length, get_or, nat_eq, cond, arith, refl, sym, ap, ◌∙◌, subst, eq-eqb, ne_eqb, mul-le-mul_right}
 use Rattle.std.proofs.Math.Nat.{suc-mul}
 use Rattle.std.proofs.lemmas.List.{length-map}
@@ -25,7 +25,7 @@ use Rattle.tag_sets.specs.Meeting.{IsUnchanged}
 use Rattle.tag_sets.specs.Opening.{reserved_part, ordinary_part}
 use Rattle.tag_sets.specs.Gathering.{hands_of, numbers_of, AreDistinct, totals_of_both, IsSmall, IsGathered}
 
--- numbers that differ, each counted where it stands, are no more than there are
+-- there are at most `most` distinct numbers below `most`: counted by number, each occurs at most once
 module _ (number : ℕ → ℕ) where
   abbrev hits : ℕ → ℕ → ℕ
   hits c n = cond (nat_eq (number n) c) 1 0
@@ -69,7 +69,7 @@ module _ {R : Type 0} where
   number_low tags hand own = let below = hand.ordinary.below in
       subst (λ (s : Shape). number_of hand < s.callers) own.1.0.1 below
 
-  -- hands whose numbers differ are no more than the tags have
+  -- there are at most as many hands with distinct numbers as the tags were opened for
   pub few_hands : (tags : Tags R) (hands : List (Hand R)) → All (IsHandOf tags) hands → AreDistinct (numbers_of hands)
       → length hands ≤ hands_of tags
   few_hands tags hands own differ =
@@ -78,7 +78,7 @@ module _ {R : Type 0} where
       (All-weaker (IsHandOf tags) (λ h. number_of h < hands_of tags) (number_low tags) hands own) in
       let few = few_distinct (numbers_of hands) (hands_of tags) differ low in omega arith
 
-  -- a hand that is as it was has the number that it had
+  -- an unchanged hand has the same number
   pub same_number : (old new : Hand R) → IsUnchanged old new → number_of new ≡ number_of old
   same_number old new u = sym new.ordinary.numbers.0 ∙ ap (λ (r : Record R). r.number) (u.sets Ordinary).caller.known
       ∙ old.ordinary.numbers.0
@@ -112,7 +112,7 @@ module _ {R : Type 0} where
       let next : length (a ∷ agents) * MOST_WON ≡ length agents * MOST_WON + MOST_WON =
       suc-mul (length agents) MOST_WON in omega arith
 
-  -- what so few agents won, gave back, hold and posted
+  -- at most 64 agents won, gave back, hold and posted few enough tags for the sums over both sets to fit
   pub small_totals : (q : Queue R) (agents : List (Agent R)) (t : QueueTotals) → length agents ≤ 64
       → queue_gathering.IsGathered q agents t → IsSmall t.tags
   small_totals q agents t few g =

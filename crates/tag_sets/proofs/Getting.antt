@@ -1,4 +1,4 @@
--- The gets of an agent, as those of the hand.
+-- What a get of an agent is for its hand.
 use Rattle.std.proofs.Common.{◌≡◌, ℕ, zero, suc, ◌+◌, ◌<◌, ◌≤◌, ◌↔◌, inl, inr, Option, Some, None, Result, IfOk, IfSome, List, arith, refl, sym, ap, ◌∙◌, subst, ⊎_elim}
 use Rattle.std.proofs.lemmas.Result.{IfOk-weaker}
 use Rattle.tag_layout.specs.Layout.{Layout, word_depth}
@@ -48,7 +48,7 @@ like_answer : (answer : Option ℕ) (n tag : ℕ) → n ≡ tag → gains.IsAnsw
 like_answer None n tag e a = a
 like_answer (Some m) n tag e a = sym e ∙ a
 
--- an answer of the ordinary set, as one of the whole range
+-- the number that the ordinary set returns is that of the tag returned
 answer_there : (reserved : ℕ) (number : Option ℕ) (n : ℕ) → gains.IsAnswer number n
     → IsAnswer (whole reserved number) (reserved + n)
 answer_there reserved None n a = a
@@ -70,7 +70,7 @@ run_back reserved None tag a = absurd a
 run_back reserved (Some won) tag a = let e = a.1 in (won.0 + a.0, omega arith, (a.0, refl, a.2))
 
 module _ {R : Type 0} where
-  -- what is known of a set by its numbers is known of the ordinary tags
+  -- numbers of the ordinary set and the ordinary tags that they stand for
   pub ordinary_like : (hand : Hand R) (reserved : ℕ) (named Q : ℕ → Type 0) → split_of hand ≡ reserved
       → ((n : ℕ) → named n → Q (reserved + n))
       → ((tag : ℕ) → Q tag → (n : ℕ) × (tag ≡ reserved + n) × named n) → (tag : ℕ) → InSet hand Ordinary named tag
@@ -84,7 +84,7 @@ module _ {R : Type 0} where
         let e : b.0 ≡ number_in_set (split_of hand) tag = omega (arith, split) in (o.kind, subst named e b.2)),
   )
 
-  -- what was kept at first, and then more
+  -- a caller that keeps its tags and then acquires some has acquired those in all
   keeps_then : (named : ℕ → Type 0) (a b c : Caller R) → KeepsAll a b → Acquires named b c → Acquires named a c
   keeps_then named a b c k m = record {
     fresh = λ tag n h. m.fresh tag n (k.kept tag h).0;
@@ -94,7 +94,7 @@ module _ {R : Type 0} where
         (m.none_else tag h);
   }
 
-  -- searches that find none keep all
+  -- searches that find no tag keep all tags
   none_keeps : (tries : ℕ) (l : Layout) (a : Caller R) (hint : Hint) (b : Caller R) (after : Hint)
       → queue_waits.FindNone tries l a hint b after
       → KeepsAll a b × (b.shape.value ≡ a.shape.value)
@@ -124,7 +124,7 @@ module _ {R : Type 0} where
       subst (λ (s : Shape). n < s.layout.depth) (g.shape ∙ own.0.1) (g.acquires.joined n a).0
 
   module _ (tags : Tags R) (hand : Hand R) (agent : Agent R) (own : IsHandOf tags hand) where
-    -- more tags of the ordinary set
+    -- the hand gains the ordinary tags that its agent gains
     more_ordinary : (named Q : ℕ → Type 0) → ((n : ℕ) → named n → Q (reserved_of tags + n))
         → ((tag : ℕ) → Q tag → (n : ℕ) × (tag ≡ reserved_of tags + n) × named n)
         → Acquires named (queue.caller_of hand.ordinary) (queue.caller_of agent)
@@ -133,7 +133,7 @@ module _ {R : Type 0} where
         (ordinary_like hand (reserved_of tags) named Q own.2 there back)
         (more hand (record hand { ordinary = agent }) Ordinary refl refl named m)
 
-    -- and they are ordinary ones
+    -- and these are ordinary tags
     all_ordinary : (named Q : ℕ → Type 0) → ((tag : ℕ) → Q tag → (n : ℕ) × (tag ≡ reserved_of tags + n) × named n)
         → ((n : ℕ) → named n → n < (layout_of tags Ordinary).depth) → (tag : ℕ) → Q tag → IsOrdinaryTag tags tag
     all_ordinary named Q back within tag q =

@@ -1,4 +1,4 @@
--- What one agent of a hand does to the tags that it holds, and so the hand.
+-- What a change of the tags that one agent holds is for its hand.
 use Rattle.std.proofs.Common.{◌≡◌, ℕ, ◌↔◌, inl, inr, refl, sym, ap, ◌∙◌, subst, ⊎_elim}
 use Rattle.tag_queue.specs.declared.agent.Agent.{Agent}
 use Rattle.tag_queue.specs.Agents as queue
@@ -23,7 +23,7 @@ module _ {R : Type 0} where
   same_slot a b m n agents numbers = ap (λ (x : ℕ). queue.slot_of a x) numbers
       ∙ ap (λ (x : Agent R). queue.slot_of x n) agents
 
-  -- less, more and the same of tags that are named in another way
+  -- fewer or more tags, described by two equivalent conditions
   pub less_like : (P Q : ℕ → Type 0) (old new : Hand R) → ((tag : ℕ) → P tag ↔ Q tag) → HoldsLess P old new
       → HoldsLess Q old new
   less_like P Q old new like h = record {
@@ -42,7 +42,7 @@ module _ {R : Type 0} where
         (h.none_else tag n);
   }
 
-  -- one tag, by its set and its number there
+  -- the tag with this set and this number there is the only one
   pub one_like : (hand : Hand R) (kind : Kind) (number tag : ℕ) → kind ≡ kind_of (split_of hand) tag
       → number ≡ number_in_set (split_of hand) tag
       → (other : ℕ) → InSet hand kind (λ m. m ≡ number) other ↔ (other ≡ tag)
@@ -62,12 +62,12 @@ module _ {R : Type 0} where
     here : (hand : Hand R) (k : Kind) → k ≡ kind → agent_of hand k ≡ agent_of hand kind
     here hand k e = ap (agent_of hand) e
 
-    -- a tag of the other set stays as it was
+    -- the agent for a tag of the other set is unchanged
     elsewhere : (tag : ℕ) → kind_of (split_of old) tag ≡ other_kind kind
         → agent_of new (kind_of (split_of new) tag) ≡ agent_of old (kind_of (split_of old) tag)
     elsewhere tag e = ap (agent_of new) (same_kind tag ∙ e) ∙ other ∙ sym (ap (agent_of old) e)
 
-    -- what a tag of this set has now, and what it had
+    -- for a tag of this set, holding the tag and holding its number are the same, now and before
     now_in : (tag : ℕ) → kind_of (split_of old) tag ≡ kind → Holds new tag
         → queue.Holds (agent_of new kind) (number_in_set (split_of old) tag)
     now_in tag e h = same_holds _ _ _ _ (ap (agent_of new) (same_kind tag ∙ e)) (same_number tag) h
@@ -101,7 +101,7 @@ module _ {R : Type 0} where
     stayed : (tag : ℕ) → kind_of (split_of old) tag ≡ other_kind kind → Holds new tag → Holds old tag
     stayed tag e h = same_holds _ _ _ _ (elsewhere tag e) (same_number tag) h
 
-    -- the agent of one set holds fewer tags
+    -- if the agent of one set holds fewer tags, so does the hand
     pub less : (named : ℕ → Type 0) → queue_holding.HoldsLess named (agent_of old kind) (agent_of new kind)
         → HoldsLess (InSet old kind named) old new
     less named l = record {
@@ -119,7 +119,7 @@ module _ {R : Type 0} where
           (this_or_other (kind_of (split_of old) tag) kind);
     }
 
-    -- the agent of one set holds more tags
+    -- if the agent of one set holds more tags, so does the hand
     pub more : (named : ℕ → Type 0) → queue_holding.HoldsMore named (agent_of old kind) (agent_of new kind)
         → HoldsMore (InSet old kind named) old new
     more named m = record {
@@ -140,7 +140,7 @@ module _ {R : Type 0} where
           (this_or_other (kind_of (split_of old) tag) kind);
     }
 
-    -- the agent of one set holds the same tags
+    -- if the agent of one set holds the same tags, so does the hand
     pub same : queue_holding.HoldsSame (agent_of old kind) (agent_of new kind) → HoldsSame old new
     same s = record {
       kept = λ tag h. ⊎_elim

@@ -1,4 +1,4 @@
--- The busy tags of both sets, in one list of bits.
+-- The bits of the busy tags of both sets, put together in one list.
 use Rattle.std.proofs.Common.{◌≡◌, inl, inr, ℕ, ◌+◌, ◌-◌, ◌/◌, ◌%◌, ◌<◌, ◌≤◌, Bool, nat_lt, List, get_or, sym, ap, ◌∙◌, subst, ⊎_elim, arith}
 use Rattle.std.specs.Prelude.{◌&&◌, if◌then◌else◌}
 use Rattle.std.specs.Int.{bit_at}
@@ -23,7 +23,7 @@ use Rattle.tag_sets.proofs.Marking.{one_if}
 use Rattle.tag_sets.proofs.Numbering.{IsReserved, IsOrdinary, stands}
 use Rattle.tag_sets.proofs.Sizes.{held_low}
 
--- words that are 0 have no bit
+-- in a list of zeros every bit is 0
 pub no_bit : (w : ℕ) (words : List ℕ) → ((i : ℕ) → get_or words i 0 ≡ 0) → (n : ℕ) → bit_in w words n ≡ 0
 no_bit w words none n = ap (λ (x : ℕ). bit_at x (n % w)) (none (n / w)) ∙ bit_at-zero (n % w)
 
@@ -112,7 +112,7 @@ module _ {R : Type 0} (tags : Tags R) (zeros mid bits : List ℕ) (x y : ℕ) (o
         let c = count_both tags one.found two.found in omega arith;
   }
 
-  -- each tag that the hand held is among them
+  -- the bit of each tag that the hand held is set
   pub held_bit : IsHandOf tags old → (tag : ℕ) → Holds old tag → bit_in 64 bits tag ≡ 1
   held_bit own tag h = ⊎_elim
       (λ (r : IsReserved (split_of old) tag).

@@ -1,4 +1,4 @@
--- Bits that are set one after another.
+-- Setting bits one after another.
 use Rattle.std.proofs.Common.{◌≡◌, ◌≢◌, inl, inr, ℕ, ◌+◌, ◌-◌, ◌/◌, ◌%◌, ◌^◌, ◌<◌, ◌≤◌, Bool, true, false, cond, List, length, get_or, bit_or, refl, sym, ap, ◌∙◌, ⊎_elim, arith}
 use Rattle.std.specs.Prelude.{slice_set}
 use Rattle.std.specs.Int.{bit_at}
@@ -8,18 +8,18 @@ use mathlib.Core.Logic.{dite}
 use native.Mathlib.Decide.{dec_lt, ℕ_discrete}
 use Rattle.tag_sets.specs.Bits.{bit_in, Marks}
 
--- what a bit counts
+-- 1 if the test holds, else 0
 abbrev pub one_if : Bool → ℕ
 one_if b = cond b 1 0
 
--- no bit is set yet
+-- zero bits are marked in an unchanged list
 pub marks-none : (w first : ℕ) (test : ℕ → Bool) (old : List ℕ) → Marks w first 0 test old old
 marks-none w first test old = record {
   inside = λ k less. absurd (omega arith);
   outside = λ n out. refl;
 }
 
--- a bit that isn't to be set stays
+-- a bit whose test fails is marked by leaving it
 pub marks-skip : (w first : ℕ) (test : ℕ → Bool) (old : List ℕ) → test 0 ≡ false → Marks w first 1 test old old
 marks-skip w first test old off = record {
   inside = λ k less. let z : k ≡ 0 = omega arith in
@@ -27,7 +27,7 @@ marks-skip w first test old off = record {
   outside = λ n out. refl;
 }
 
--- the same bits, named in another way
+-- two tests that agree mark the same bits
 pub marks-like : (w first count : ℕ) (test other : ℕ → Bool) (old new : List ℕ)
     → ((k : ℕ) → k < count → one_if (test k) ≡ one_if (other k))
     → Marks w first count test old new → Marks w first count other old new
@@ -36,7 +36,7 @@ marks-like w first count test other old new like m = record {
   outside = m.outside;
 }
 
--- some bits, and those behind them
+-- marking some bits and then the bits after them marks all of these
 pub marks-then : (w first a b : ℕ) (test more : ℕ → Bool) (old mid new : List ℕ) → Marks w first a test old mid
     → Marks w (first + a) b more mid new
     → ((k : ℕ) → k < b → one_if (more k) ≡ one_if (test (a + k))) → Marks w first (a + b) test old new
@@ -81,7 +81,7 @@ module _ (w : ℕ) (one_number : (m n : ℕ) → m / w ≡ n / w → m % w ≡ n
       (λ (ne : n / w ≢ bit / w). ap (λ (x : ℕ). bit_at x (n % w))
       (get_or-set_other old (bit / w) (n / w) (bit_or (get_or old (bit / w) 0) (2 ^ (bit % w))) 0 ne))
 
-  -- one bit is set
+  -- setting one bit marks it
   pub marks-one : (test : ℕ → Bool) → test 0 ≡ true → Marks w bit 1 test old now
   marks-one test on = record {
     inside = λ k less. let z : bit + k ≡ bit = omega arith in let z0 : k ≡ 0 = omega arith in

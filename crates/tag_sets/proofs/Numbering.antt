@@ -1,17 +1,17 @@
--- A tag's set and its number there, and the tag that has them.
+-- Tags correspond one to one to pairs of a set and a number there.
 use Rattle.std.proofs.Common.{◌≡◌, ℕ, ◌+◌, ◌<◌, ◌≤◌, ◌⊎◌, inl, inr, Bool, true, false, nat_lt, if◌then◌else◌, arith, refl, sym, ap, ◌∙◌, ⊎_elim}
 use Rattle.std.proofs.lemmas.Bool.{ltb-true, ltb-false, lt-ltb, le-ltb}
 use Rattle.tag_sets.specs.declared.kind.Kind.{Kind}
 use Rattle.tag_sets.specs.declared.kind.Kind.TheVariants.{Ordinary, Reserved}
 use Rattle.tag_sets.specs.Sets.{kind_of, number_in_set, other_kind}
 
--- a reserved tag keeps its number
+-- a reserved tag has its own number in its set
 pub record IsReserved (reserved tag : ℕ) : Type 0 where
   pub below : tag < reserved
   pub kind : kind_of reserved tag ≡ Reserved
   pub number : number_in_set reserved tag ≡ tag
 
--- an ordinary tag is counted from the reserved ones on
+-- an ordinary tag is numbered from the first tag after the reserved ones
 pub record IsOrdinary (reserved tag : ℕ) : Type 0 where
   pub above : reserved ≤ tag
   pub kind : kind_of reserved tag ≡ Ordinary
@@ -31,7 +31,7 @@ ordinary_above reserved tag above = let f = le-ltb tag reserved above in record 
   number = grind (arith, f);
 }
 
--- each tag is of one kind
+-- each tag is reserved or ordinary
 pub stands : (reserved tag : ℕ) → IsReserved reserved tag ⊎ IsOrdinary reserved tag
 stands reserved tag = elim (nat_lt tag reserved) as
     (λ (b : Bool). nat_lt tag reserved ≡ b → IsReserved reserved tag ⊎ IsOrdinary reserved tag) [
@@ -47,7 +47,7 @@ pub ordinary_at : (reserved tag : ℕ) → kind_of reserved tag ≡ Ordinary →
 ordinary_at reserved tag e = ⊎_elim (λ (r : IsReserved reserved tag). let k = r.kind in absurd (cc))
     (λ (o : IsOrdinary reserved tag). o) (stands reserved tag)
 
--- a set and a number there are those of one tag
+-- two tags with the same set and the same number there are the same
 pub one_tag : (reserved a b : ℕ) → kind_of reserved a ≡ kind_of reserved b
     → number_in_set reserved a ≡ number_in_set reserved b → a ≡ b
 one_tag reserved a b kinds numbers = ⊎_elim
@@ -57,7 +57,7 @@ one_tag reserved a b kinds numbers = ⊎_elim
     let y = o.number in omega (arith, numbers))
     (stands reserved b)
 
--- a set is this one or the other
+-- there are only two sets
 pub this_or_other : (j k : Kind) → (j ≡ k) ⊎ (j ≡ other_kind k)
 this_or_other Ordinary Ordinary = inl refl
 this_or_other Ordinary Reserved = inr refl

@@ -1,4 +1,4 @@
--- New hands: they belong to the new sets, hold nothing, and stand in the order of their numbers.
+-- New hands belong to the new sets, hold no tag, and are in the order of their numbers.
 use Rattle.std.proofs.Common.{◌≡◌, ℕ, ◌<◌, List, All, map, length, get_or, None, replicate, arith, sym, ap, ◌∙◌, subst}
 use Rattle.std.specs.Int.{bit_at}
 use Rattle.std.proofs.lemmas.List.{length-map, get_or-map}
@@ -26,13 +26,13 @@ use Rattle.tag_sets.specs.Sets.{kind_of, number_in_set}
 use Rattle.tag_sets.specs.Hands.{agent_of, split_of, reserved_of}
 use Rattle.tag_sets.specs.Opening.{reserved_part, ordinary_part, AreParts, HoldsNone, IsOpen}
 
--- of the images of all, and so of all
+-- if P holds of all images, it holds of the image of each entry
 pub all_part : {A B : Type 0} (P : B → Type 0) (f : A → B) (xs : List A) → All P (map f xs) → (k : ℕ) (d : A)
     → k < length xs → P (f (get_or xs k d))
 all_part P f xs h k d l = subst P (get_or-map f xs k d (f d) l) (h k (f d) (let z = length-map xs f in omega arith))
 
 module _ {R : Type 0} where
-  -- a new agent has the number of its place, and holds nothing
+  -- a new agent's number is its place in the list, and it holds no tag
   new_number : (m : Map R) (agents : List (Agent R)) (n : ℕ) (a : Agent R) → AreNew m (map queue.caller_of agents)
       → get_elem? agents n ≡ some a
       → queue.number_of a ≡ n
@@ -83,7 +83,7 @@ module _ {R : Type 0} where
     ordinary_number n hand e = new_number tags.ordinary.map (map ordinary_part hands) n hand.ordinary set_other.callers
         (at_map ordinary_part hands n hand e)
 
-    -- the sets are open, and their hands new
+    -- both sets are open, and their hands are new
     pub opens : IsOpen options tags hands
     opens = record {
       ordinary = set_other;

@@ -1,4 +1,4 @@
--- Reads, posts and takes of an agent, as those of the hand.
+-- What clears, reads, writes, posts and takes of an agent are for its hand.
 use Rattle.std.proofs.lemmas.Result.{IfOk-weaker, IfErr-weaker}
 use Rattle.std.proofs.Common.{Result, Ok, Err, OnOk, IfOk, IfErr, ◌≡◌, ◌≢◌, ℕ, ◌<◌, inl, inr, sym, ap, ◌∙◌, subst, ⊎_elim}
 use mathlib.Core.Logic.{dite}
@@ -24,25 +24,25 @@ use Rattle.tag_sets.specs.Clears.{Clears}
 use Rattle.tag_sets.specs.Slots.{Reads, Posts, Takes, Misses, RefusesTake}
 use Rattle.tag_sets.proofs.Lifting.{less, more, same, less_like, more_like, one_like}
 
--- what a result keeps of two facts
+-- two facts about the value of a result, put together
 both : {T E : Type 0} (r : Result T E) (P Q S : T → Type 0) → ((v : T) → P v → Q v → S v) → IfOk r P → IfOk r Q
     → IfOk r S
 both (Ok v) P Q S h p q = h v p q
 both (Err e) P Q S h p q = tt
 
--- the tag is in this set, by this number
+-- the tag is in this set and has this number there
 pub record IsAt {R : Type 0} (hand : Hand R) (tag : ℕ) (kind : Kind) (number : ℕ) : Type 0 where
   pub kind_is : kind ≡ kind_of (split_of hand) tag
   pub number_is : number ≡ number_in_set (split_of hand) tag
 
 module _ {R : Type 0} where
-  -- what is held is known of the record alone
+  -- which tags an agent holds depends only on its record
   holds_by : (old new : Agent R) (n : ℕ) → record_of (queue.caller_of new) ≡ record_of (queue.caller_of old)
       → queue.Holds old n → queue.Holds new n
   holds_by old new n known h =
       subst (λ (r : Record R). (n < r.shape.layout.depth) × (tag_bit r.shape.layout r.held n ≡ 1)) (sym known) h
 
-  -- a slot that is written as it was found is as it was
+  -- writing back the value found leaves every slot unchanged
   pub writes_back : (old new : Agent R) (n : ℕ) (value : R) → queue.slot_of old n ≡ some value
       → queue_slots.Writes n value old new
       → queue_holding.HoldsSame old new
@@ -56,7 +56,7 @@ module _ {R : Type 0} where
     none_else = λ m h. holds_by new old m (sym w.known) h;
   }
 
-  -- the set that has the tag, and its number there, as the code finds them
+  -- the set and the number that the code computes are the tag's
   pub placed : (tags : Tags R) (hand : Hand R) (tag : ℕ) (found : SetTag) (kind : Kind) → IsHandOf tags hand
       → found.kind ≡ kind
       → found.kind ≡ kind_of (reserved_of tags) tag → found.number ≡ number_in_set (reserved_of tags) tag
@@ -126,7 +126,7 @@ module _ {R : Type 0} where
         set = changes_at (λ j m. queue_slots.Misses m) m;
       }
 
-      -- what a refused take leaves, where the hand is as it was if its agent is
+      -- the effect of a refused take, if the hand is unchanged whenever its agent is
       pub refuses_at : (fault : TagFault) → (agent_of new kind ≡ agent_of old kind → new ≡ old)
           → queue_slots.RefusesTake number fault (agent_of old kind) (agent_of new kind) → RefusesTake tag fault old new
       refuses_at fault whole r = ⊎_elim

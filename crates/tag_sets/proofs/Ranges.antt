@@ -1,4 +1,4 @@
--- The tags of the range are those of the hand's sets.
+-- A tag of the whole range is in the range of each hand that belongs to the tags.
 use Rattle.std.proofs.Common.{◌≡◌, ℕ, ◌<◌, arith, refl, sym, subst, ⊎_elim}
 use Rattle.tag_core.specs.declared.shape.Shape.{Shape}
 use Rattle.tag_queue.specs.Agents as queue
@@ -11,7 +11,7 @@ use Rattle.tag_sets.specs.Hands.{agent_of, split_of, layout_of, total_of, IsHand
 use Rattle.tag_sets.proofs.Numbering.{IsReserved, IsOrdinary, stands}
 
 module _ {R : Type 0} (hand : Hand R) (tag : ℕ) where
-  -- by the tag's set and its number there
+  -- the tag is in the hand's range if its number is below the depth of its set
   placed_in : (kind : Kind) (number : ℕ) → kind_of (split_of hand) tag ≡ kind
       → number_in_set (split_of hand) tag ≡ number → number < queue.depth_of (agent_of hand kind) → IsTagOf hand tag
   placed_in kind number k n low =

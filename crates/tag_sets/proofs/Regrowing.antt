@@ -1,4 +1,4 @@
--- Hands that settled are as they were handed in, so what is found of them holds of those handed in.
+-- Hands are unchanged when they settle, so what is found about them afterwards holds of the hands passed in.
 use Rattle.std.proofs.Common.{◌≡◌, ℕ, ◌+◌, ◌-◌, List, All, map, sym, ◌∙◌, subst, Result}
 use Rattle.std.specs.Prelude.{IfErr, IsOk}
 use Rattle.std.proofs.lemmas.Result.{IfErr-weaker}
@@ -47,7 +47,7 @@ module _ {R : Type 0} where
     split = then.split ∙ first.split;
   }
 
-  -- a resize of hands that are as they were is one of those that they were
+  -- a resize of unchanged hands is a resize of the hands passed in
   pub regrown : (old mid new : Tags R) (olds mids news : List (Hand R)) (total : ℕ) → AreSame old mid
       → AreUnchanged olds mids → IsResized mid mids total new news → IsResized old olds total new news
   regrown old mid new olds mids news total same kept is =
@@ -67,27 +67,27 @@ module _ {R : Type 0} where
         own = is.own;
       }
 
-  -- one set of hands that were taken apart and put together again
+  -- the agents in one set of hands that were taken apart and put together again
   pub part_kept : (f : Hand R → Agent R) (olds news : List (Hand R)) (before after : List (Agent R))
       → before ≡ map f olds → queue.AreUnchanged before after → map f news ≡ after
       → queue.AreUnchanged (map f olds) (map f news)
   part_kept f olds news before after parted same made =
       subst (λ (z : List (Agent R) × List (Agent R)). queue.AreUnchanged z.0 z.1) (λ j. (parted j, sym made j)) same
 
-  -- there was room for the hands, and then they settled
+  -- the hands were found to be few enough, and then they settled
   module _ (old mid : Tags R) (olds few mids : List (Hand R)) (told_few : few ≡ olds)
       (same : AreSame old mid) (settled : AreUnchanged few mids) where
     pub kept_from : AreUnchanged olds mids
     kept_from = subst (λ (l : List (Hand R)). AreUnchanged l mids) told_few settled
 
-    -- what decides on a resize is as it was
+    -- everything that decides on a resize is unchanged
     pub facts_from : facts_of mid mids ≡ facts_of old olds
     facts_from = same_facts old mid olds mids same kept_from
 
     pub may_from : (total : ℕ) → MayResize mid mids total → MayResize old olds total
     may_from total may = subst (λ (f : Facts). May f total) facts_from may
 
-    -- a refusal of the hands that settled is one of those handed in
+    -- a refusal for the hands after they settled is one for the hands passed in
     pub told_from : (total : ℕ) {A : Type 0} (r : Result A (TagsResizeFault R)) → (IsOk r → MayResize mid mids total)
         → IfErr r (λ fault. IsRefusedFor mid mids total fault.cause)
         → AreTold (facts_of old olds) total (IsRefusedAs r)
@@ -97,7 +97,7 @@ module _ {R : Type 0} where
         (λ fault is. subst (λ (f : Facts). Refused f total fault.cause) facts_from
         (refused_in mid mids total fault.cause is)) cause)
 
-    -- everything comes back as it was
+    -- everything is handed back unchanged
     pub back_from : (new : Tags R) (news : List (Hand R)) → All (IsHandOf old) olds
         → AreSame mid new × AreUnchanged mids news → AreSame old new × AreUnchanged olds news
     back_from new news own is = (

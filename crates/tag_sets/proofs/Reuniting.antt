@@ -1,4 +1,4 @@
--- Hands put together again from the agents into which they were taken apart.
+-- Hands that are put together again from the agents into which they were taken apart.
 use Rattle.std.proofs.Common.{◌≡◌, ℕ, ◌<◌, List, [], ◌∷◌, ◌++◌, All, map, reverse, length, get_or, append_assoc}
 use Rattle.std.proofs.Common.{arith, sym, ap, ◌∙◌, subst}
 use Rattle.std.proofs.lemmas.List.{reverse-append, length-map, get_or-map}
@@ -22,7 +22,7 @@ use Rattle.tag_sets.proofs.Uniting.{unchanged}
 turned : {A : Type 0} (made more : List A) (a : A) → more ≡ made ++ a ∷ [] → reverse more ≡ a ∷ reverse made
 turned {A} made more a pushed = ap (λ (l : List A). reverse l) pushed ∙ reverse-append made (a ∷ [])
 
--- the last part left the end of its list, and is now the first of the hands' parts
+-- the last entry of the list of parts becomes the first of the parts of the hands made
 pub came_off : {A B : Type 0} (f : A → B) (left before : List B) (made more : List A) (a : A) (x : B) (all : List B)
     → before ++ map f (reverse made) ≡ all → before ≡ left ++ x ∷ [] → more ≡ made ++ a ∷ [] → f a ≡ x
     → left ++ map f (reverse more) ≡ all
@@ -38,7 +38,7 @@ all_turned P made more a pushed one rest =
     subst (All P) (sym (turned made more a pushed)) (All-cons P a (reverse made) one rest)
 
 module _ {R : Type 0} where
-  -- as many agents of one set as of the other
+  -- there are as many agents of one set as of the other
   pub pairs : (reserved ordinary : List (Agent R)) → queue.numbers_of reserved ≡ queue.numbers_of ordinary
       → length reserved ≡ length ordinary
   pairs reserved ordinary same = sym (length-map reserved queue.number_of)
@@ -54,7 +54,7 @@ module _ {R : Type 0} where
   IsHandWith special usual count hand = queue.IsAgentOf special hand.reserved × queue.IsAgentOf usual hand.ordinary
       × (split_of hand ≡ count) × (queue.number_of hand.reserved ≡ queue.number_of hand.ordinary)
 
-  -- agents of both sets with the same numbers make hands of the tags
+  -- agents of both sets with the same numbers make hands that belong to the tags
   pub joins : (special usual : Queue R) (count : ℕ) (hands : List (Hand R)) (reserved ordinary : List (Agent R))
       → AreParts count reserved ordinary hands
       → All (queue.IsAgentOf special) reserved → All (queue.IsAgentOf usual) ordinary
@@ -73,14 +73,14 @@ module _ {R : Type 0} where
             ∙ number_in ordinary_part hands k d l,
       )
 
-  -- a hand whose agents are as they were
+  -- a hand whose two agents are unchanged is unchanged
   one_unchanged : (a b : Hand R) → queue.IsUnchanged (reserved_part a) (reserved_part b)
       → queue.IsUnchanged (ordinary_part a) (ordinary_part b) → split_of b ≡ split_of a → IsUnchanged a b
   one_unchanged a b r o split = subst (IsUnchanged a)
       (λ j. record { reserved = b.reserved; ordinary = b.ordinary; reserved_count = sym split j })
       (unchanged a b.reserved b.ordinary r o)
 
-  -- hands whose agents are as they were
+  -- hands whose agents are unchanged are unchanged
   pub all_unchanged : (count : ℕ) (olds news : List (Hand R)) → All (IsSplitAt count) olds → All (IsSplitAt count) news
       → queue.AreUnchanged (map reserved_part olds) (map reserved_part news)
       → queue.AreUnchanged (map ordinary_part olds) (map ordinary_part news) → AreUnchanged olds news
@@ -104,7 +104,7 @@ module _ {R : Type 0} where
         (is a.0 b.0 (same.each n a.0 b.0 a.1 b.1));
   }
 
-  -- the agents of hands that are as they were
+  -- the agents of unchanged hands are unchanged
   pub reserved_unchanged : (olds news : List (Hand R)) → AreUnchanged olds news
       → queue.AreUnchanged (map reserved_part olds) (map reserved_part news)
   reserved_unchanged = parts_unchanged reserved_part (λ a b u. u.sets Reserved)
@@ -129,7 +129,7 @@ module _ {R : Type 0} where
       (unchanged-trans (map ordinary_part olds) (map ordinary_part mids) (map ordinary_part news)
       (ordinary_unchanged olds mids first) (ordinary_unchanged mids news then))
 
-  -- each hand's range is split where that of the tags is
+  -- each hand knows the number of reserved tags
   pub split_at : (tags : Tags R) (hands : List (Hand R)) → All (IsHandOf tags) hands
       → All (IsSplitAt (reserved_of tags)) hands
   split_at tags hands own = All-weaker (IsHandOf tags) (IsSplitAt (reserved_of tags)) (λ h o. o.2) hands own

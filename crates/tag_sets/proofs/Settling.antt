@@ -1,4 +1,4 @@
--- How many tags are in use in one set, and why its resize can still fail where none is.
+-- How many tags of one set are in use, and why its resize can still fail if none is.
 use Rattle.std.proofs.Common.{◌≡◌, ℕ, ◌*◌, ◌^◌, ◌<◌, ◌≤◌, List, length, arith, refl, sym, ap, ◌∙◌, subst}
 use Rattle.std.proofs.Common.{mul-le-mul_right}
 use mathlib.Core.Logic.{dite}
@@ -8,7 +8,7 @@ use native.Mathlib.Decide.{dec_lt}
 use Rattle.step_ledger.specs.Views.{HasAll}
 use Rattle.tag_model.specs.declared.world.TheConstants.{MOST_WON}
 use Rattle.tag_core.specs.declared.record.Record.{Record}
-use Rattle.tag_core.proofs.Seats.{within}
+use Rattle.step_ledger.proofs.Seats.{within}
 use Rattle.tag_queue.specs.declared.agent.Agent.{Agent}
 use Rattle.tag_queue.specs.declared.queue.Queue.{Queue}
 use Rattle.tag_queue.specs.declared.resizes.ResizeCause.{ResizeCause}
@@ -34,14 +34,14 @@ module _ {R : Type 0} (q : Queue R) (olds news : List (Agent R)) (held posted : 
       let low : length news ≤ 64 = omega arith in
       let product : length news * MOST_WON ≤ 64 * MOST_WON = mul-le-mul_right MOST_WON low in omega arith
 
-  -- the tags held, by the records
+  -- the tags held are those of the records
   pub held_is : (held ≡ held_in (records_of olds)) × (held < 2 ^ 63)
   held_is = (
     used.held_is ∙ used.settled.held ∙ ap (λ (rs : List (Record R)). held_in rs) records,
     let e = used.held_is in let b = used.settled.balance in let m = most in omega arith,
   )
 
-  -- the tags posted
+  -- the tags posted are those that the records imply
   pub posted_are : (posted ≡ posted_in (records_of olds)) × (posted < 2 ^ 63)
   posted_are = (
     used.posted_is ∙ posted_is (shape_of q) (records_of news) used.totals used.settled
@@ -49,14 +49,14 @@ module _ {R : Type 0} (q : Queue R) (olds news : List (Agent R)) (held posted : 
     let e = used.posted_is in let b = used.settled.balance in let m = most in omega arith,
   )
 
-  -- each tag that was won is somewhere
+  -- each tag that was won was given back, is held or is posted
   pub balance_is : Balance (records_of olds)
   balance_is =
       let got = used.settled.got in let back = used.settled.back in let held = used.settled.held in
       let even = used.settled.balance in
       subst (λ (rs : List (Record R)). Balance rs) records (omega arith)
 
--- if all agents are there, the depth has a layout and no tag is in use, a resize fails only for waits or memory
+-- if all agents are present, the depth is in range and no tag is in use, a resize fails only for waits or memory
 pub still_fails : {R : Type 0} (q : Queue R) (agents : List (Agent R)) (depth : ℕ) (cause : ResizeCause)
     → HasMap q agents depth → AreUnused agents → AreTold q agents depth (λ other. cause ≡ other)
     → MayStillFail q agents depth cause
@@ -69,7 +69,7 @@ still_fails q agents depth (InUse held posted) fits unused told =
 still_fails q agents depth (Waiting n) fits unused told = ((told.waiting n).0 refl).1
 still_fails q agents depth Memory fits unused told = told.memory refl
 
--- a place at which a number of the list stands
+-- a place in the list for each number below the count
 place_in : (ns : List ℕ) (count : ℕ) → HasAll ns count → (n : ℕ) → (p : ℕ) × ((n < count) → get_elem? ns p ≡ some n)
 place_in ns count all n = dite (dec_lt n count)
     (λ (l : n < count). let h = all n l in (h.0, λ low. h.1)) (λ no. (0, λ low. absurd (no low)))

@@ -1,4 +1,4 @@
--- How many tags were found busy or set aside, counted a word at a time.
+-- The number of tags found busy or set aside, counted one word at a time.
 use Rattle.std.proofs.Common.{◌≡◌, ℕ, zero, suc, ◌+◌, ◌-◌, ◌*◌, ◌^◌, ◌<◌, ◌≤◌, min, Bool, true, false, cond, nat_eq, List, [], ◌∷◌, ◌++◌, length, bit_and, count_ones, refl, sym, ap, ◌∙◌, subst, arith}
 use Rattle.std.specs.Prelude.{◌&&◌, ◌↔◌}
 use Rattle.std.specs.Int.{bit_at, bit_not, w64}
@@ -17,7 +17,7 @@ use Rattle.tag_sets.specs.Bits.{Marks}
 use Rattle.tag_sets.proofs.Marking.{one_if, marks-like, marks-then}
 use Rattle.tag_sets.specs.Looks.{word_in, is_busy_in, is_aside_in}
 
--- a taken bit that isn't aside
+-- a tag is busy if its bit is taken and not set aside, as numbers
 busy_bits : (b a : ℕ) → b < 2 → a < 2 → cond (nat_eq b 1 && nat_eq a 0) 1 0 ≡ min b (1 - a)
 busy_bits zero zero h k = refl
 busy_bits zero (suc zero) h k = refl
@@ -32,7 +32,7 @@ aside_bits zero h = refl
 aside_bits (suc zero) h = refl
 aside_bits (suc (suc a)) h = absurd (omega arith)
 
--- no more numbers pass a test than there are
+-- a test counts at most 1
 bit_le : (b : Bool) → cond b 1 0 ≤ 1
 bit_le true = omega arith
 bit_le false = omega arith
@@ -42,11 +42,11 @@ count_le test zero = omega arith
 count_le test (suc n) = let before = count_le test n in let last = bit_le (test n) in omega arith
 
 module _ (l : Layout) (test : ℕ → Bool) where
-  -- before the first word there is none
+  -- before the first word nothing is counted
   pub none_yet : 0 ≡ count_below test (min (0 * word_bits l) l.depth)
   none_yet = let e : 0 ≡ min (0 * word_bits l) l.depth = omega arith in ap (count_below test) e
 
-  -- the tags up to the end of a word that pass a test are those before it, and the bits of the word's mask
+  -- the tags up to the end of a word that pass a test are those before the word and the bits set in the word's mask
   count_word : (i mask : ℕ) → i < words l → mask < 2 ^ word_depth l i
       → ((place : ℕ) → place < word_depth l i → cond (test (tag_at l i place)) 1 0 ≡ bit_at mask place)
       → count_below test (min ((i + 1) * word_bits l) l.depth) ≡ count_below test (min (i * word_bits l) l.depth)
@@ -63,20 +63,20 @@ module _ (l : Layout) (test : ℕ → Bool) where
       let before = ap (count_below test) here in
       ap (count_below test) next ∙ omega arith
 
--- a mask of 64 bits has no place behind them
+-- if the lowest `depth` bits of a 64-bit word are all 1, there are at most 64 of them
 narrow_word : (u depth : ℕ) → u < 2 ^ 64 → ((place : ℕ) → place < depth → bit_at u place ≡ 1) → depth ≤ 64
 narrow_word u depth fits bits = dite (dec_lt 64 depth)
     (λ (h : 64 < depth). absurd (let one = bits 64 h in
     let none = bit_at_above u 64 64 fits (omega arith) in omega arith))
     (λ no. omega arith)
 
--- the tags of all words are all tags
+-- the tags of all words are all tags of the set
 pub all_words : (l : Layout) (n : ℕ) → words l ≤ n → min (n * word_bits l) l.depth ≡ l.depth
 all_words l n h =
     let room = depth-le-words l in let more : words l * word_bits l ≤ n * word_bits l =
     mul-le-mul_right (word_bits l) h in omega arith
 
--- a tag before a word is one of an earlier word
+-- a tag below the first tag of a word is in an earlier word
 earlier : (l : Layout) (i tag : ℕ) → tag < min (i * word_bits l) l.depth → word_of l tag < i
 earlier l i tag low = dite (dec_lt (word_of l tag) i) (λ (h : word_of l tag < i). h)
     (λ no. absurd (let back = tag_at-back l tag in
@@ -84,7 +84,7 @@ earlier l i tag low = dite (dec_lt (word_of l tag) i) (λ (h : word_of l tag < i
     omega arith))
 
 module _ (l : Layout) (found : List (ℕ × ℕ)) (pair : ℕ × ℕ) (i : ℕ) (count : length found ≡ i) where
-  -- one word more tells nothing else of the words before it
+  -- one more pair changes nothing about the words before it
   word_before : (tag : ℕ) → tag < min (i * word_bits l) l.depth
       → word_in (found ++ pair ∷ []) (word_of l tag) ≡ word_in found (word_of l tag)
   word_before tag low = get_or_append_left found (pair ∷ []) (0, 0) (word_of l tag)
@@ -112,7 +112,7 @@ module _ (l : Layout) (found : List (ℕ × ℕ)) (pair : ℕ × ℕ) (i : ℕ) 
     narrow : word_depth l i ≤ 64
     narrow = narrow_word u (word_depth l i) small bits
 
-    -- the tag of this place was found busy
+    -- the tag at this place was found busy exactly if its bit is 1 in the mask
     pub busy_here : pair.1 < 2 ^ 64 → (place : ℕ) → place < word_depth l i
         → cond (is_busy_in l (found ++ pair ∷ []) (tag_at l i place)) 1 0
         ≡ bit_at (bit_and (bit_and pair.0 u) (bit_not w64 pair.1)) place
@@ -154,7 +154,7 @@ module _ (l : Layout) (found : List (ℕ × ℕ)) (pair : ℕ × ℕ) (i : ℕ) 
         count_word l (is_aside_in l (found ++ pair ∷ [])) i (bit_and pair.1 u) there (omega arith) aside_here
         ∙ ap (λ (n : ℕ). n + count_ones (bit_and pair.1 u)) aside_before
 
--- the sums over one word more
+-- the sums over one more word
 pub record Counted (l : Layout) (found : List (ℕ × ℕ)) (pair : ℕ × ℕ) (i u : ℕ) : Type 0 where
   pub busy : count_below (is_busy_in l (found ++ pair ∷ [])) (min ((i + 1) * word_bits l) l.depth)
       ≡ count_below (is_busy_in l found) (min (i * word_bits l) l.depth)
@@ -179,7 +179,7 @@ counted layout l is found pair i u count there small usable bits fits =
           (min ((i + 1) * word_bits layout) layout.depth) in omega arith);
     })
 
--- the tags of one word more are marked
+-- the tags of one more word are marked
 pub marks_word : (w : ℕ) (l : Layout) (found : List (ℕ × ℕ)) (pair : ℕ × ℕ) (i : ℕ) → length found ≡ i → (u : ℕ)
     → i < words l → u < 2 ^ 64
     → u + 1 ≡ 2 ^ word_depth l i → ((place : ℕ) → (bit_at u place ≡ 1) ↔ (place < word_depth l i)) → pair.1 < 2 ^ 64
@@ -207,7 +207,7 @@ marks_word w l found pair i count u there small usable bits fits first old mid n
     (λ k less. aside_bits (bit_at mask k) (bit_at-lt mask k)
     ∙ sym (busy_here l found pair i count u there small usable (λ place low. (bits place).1 low) fits k less)))
 
--- the tags held so far were found busy, and so are those of one word more
+-- the held tags of the words so far were found busy, and so are those of one more word
 pub held_word : (l : Layout) (found : List (ℕ × ℕ)) (pair : ℕ × ℕ) (i : ℕ) → length found ≡ i → (holds : ℕ → Type 0)
     → ((tag : ℕ) → holds tag → word_of l tag < i → is_busy_in l found tag ≡ true)
     → ((tag : ℕ) → holds tag → word_of l tag ≡ i → (bit_at pair.0 (place_of l tag) ≡ 1)

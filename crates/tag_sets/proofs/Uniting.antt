@@ -1,4 +1,4 @@
--- A hand whose agents are both as they were.
+-- A hand is unchanged if both its agents are.
 use Rattle.std.proofs.Common.{refl, ◌∙◌}
 use Rattle.tag_queue.specs.declared.agent.Agent.{Agent}
 use Rattle.tag_queue.specs.Agents as queue
@@ -18,7 +18,7 @@ module _ {R : Type 0} where
     none_else = λ tag h. (u.holds tag).0 h;
   }
 
-  -- what is kept twice is kept
+  -- holding the same tags is transitive
   pub twice_same : (a b c : Hand R) → HoldsSame a b → HoldsSame b c → HoldsSame a c
   twice_same a b c s t = record {
     kept = λ tag h. let x = s.kept tag h in let y = t.kept tag x.0 in (y.0, y.1 ∙ x.1);

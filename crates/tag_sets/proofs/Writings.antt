@@ -1,23 +1,23 @@
--- What a writer takes, piece by piece.
+-- Texts that are written piece by piece.
 use Rattle.std.proofs.Common.{◌≡◌, ℕ, suc, ◌+◌, ◌*◌, ◌/◌, ◌%◌, ◌^◌, false, Option, Some, None, List, [], ◌∷◌, ◌++◌, sym, ap, ◌∙◌, append_assoc, append-nil, arith}
 use Rattle.std.specs.Fmt.{digit_glyph}
 use Rattle.std.specs.Io.KnownBytes.{Appends}
 use Rattle.std.proofs.lemmas.Nat.{shr-shr}
 use Rattle.tag_sets.specs.Texts.{hex_digits}
 
--- nothing was written
+-- an unchanged writer has taken the empty text
 pub appends_none : (a : Option (List ℕ)) → Appends a a []
 appends_none None = tt
 appends_none (Some xs) = sym (append-nil xs)
 
--- one piece, and another behind it
+-- one piece, and then another
 pub appends_then : (a b c : Option (List ℕ)) (x y : List ℕ) → Appends a b x → Appends b c y → Appends a c (x ++ y)
 appends_then None b c x y one two = tt
 appends_then (Some xs) None c x y one two = absurd one
 appends_then (Some xs) (Some ys) None x y one two = absurd two
 appends_then (Some xs) (Some ys) (Some zs) x y one two = two ∙ ap (λ (t : List ℕ). t ++ y) one ∙ append_assoc xs x y
 
--- six pieces, one behind another
+-- six pieces, one after another
 pub appends_six : (a b c d e f g : Option (List ℕ)) (u v w x y z : List ℕ) → Appends a b u → Appends b c v
     → Appends c d w → Appends d e x
     → Appends e f y → Appends f g z → Appends a g (u ++ v ++ w ++ x ++ y ++ z)
@@ -26,7 +26,7 @@ appends_six a b c d e f g u v w x y z one two three four five six =
     (appends_then a e f (u ++ v ++ w ++ x) y (appends_then a d e (u ++ v ++ w) x
     (appends_then a c d (u ++ v) w (appends_then a b c u v one two) three) four) five) six
 
--- one more digit
+-- one more digit is the next place of the number
 pub hex_digits-next : (n i k : ℕ) → hex_digits (i + 1) (n / 2 ^ (4 * k)) ≡ hex_digits i (n / 2 ^ (4 * (k + 1)))
     ++ digit_glyph false (n / 2 ^ (4 * k) % 16) ∷ []
 hex_digits-next n i k =

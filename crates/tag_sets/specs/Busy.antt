@@ -18,7 +18,7 @@ is_busy_tag tags reserved ordinary tag =
     if nat_lt tag (reserved_of tags) then is_busy_in (layout_of tags Reserved) reserved tag
     else (nat_lt tag (total_of tags) && is_busy_in (layout_of tags Ordinary) ordinary (tag - reserved_of tags))
 
--- the bits are set of the tags of one set that the call found busy, the first tag of the set having this bit
+-- the bits of the tags of one set that the call found busy are set, where the first tag of the set has bit `first`
 pub record ListsSet {R : Type 0} (l : Layout) (kind : Kind) (first : ℕ) (before after : List ℕ) (count : ℕ)
     (old new : Hand R) : Type 0 where
   pub found : List (ℕ × ℕ)
@@ -27,7 +27,8 @@ pub record ListsSet {R : Type 0} (l : Layout) (kind : Kind) (first : ℕ) (befor
   pub count_is : count ≡ count_below (is_busy_in l found) l.depth
   pub held : (number : ℕ) → Holds (agent_of old kind) number → is_busy_in l found number ≡ true
 
--- the bits are set of the tags that this call found busy, first in the reserved set and then in the ordinary one
+-- exactly the bits of the tags that this call found busy are set; it looked at the reserved set first, then at the
+-- ordinary one
 pub record ListsBusy {R : Type 0} (tags : Tags R) (bits : List ℕ) (count : ℕ) (old new : Hand R) : Type 0 where
   pub reserved : List (ℕ × ℕ)
   pub ordinary : List (ℕ × ℕ)

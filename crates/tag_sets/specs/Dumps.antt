@@ -1,4 +1,4 @@
--- What dumps tell: the busy tags of a set as bytes.
+-- Dumps: the busy tags of a set as bytes.
 use Rattle.std.specs.Prelude.{◌≡◌, ℕ, List, ◌++◌, length, drop, cond, nat_lt, ◌&&◌}
 use Rattle.std.specs.Int.{div_ceil}
 use Rattle.tag_layout.specs.Layout.{Layout}
@@ -8,13 +8,13 @@ use Rattle.tag_sets.specs.Bits.{bit_in}
 use Rattle.tag_sets.specs.Looks.{is_busy_in}
 use Rattle.tag_sets.specs.Shows.{LooksAround}
 
--- the bytes have the bits of the tags that the call found busy, eight of them each, low bit first, and no other bit
+-- exactly the bits of the tags that the call found busy are set in the bytes, eight tags a byte, low bit first
 pub record Packs {R : Type 0} (l : Layout) (kind : Kind) (bytes : List ℕ) (old new : Hand R) : Type 0 where
   pub found : List (ℕ × ℕ)
   pub around : LooksAround l kind found old new
   pub bits_are : (tag : ℕ) → bit_in 8 bytes tag ≡ cond (nat_lt tag l.depth && is_busy_in l found tag) 1 0
 
--- so many of the bytes are those of the set, and those behind them are as they were
+-- the first `count` bytes are those of the set, and the bytes after them are unchanged
 pub record Dumps {R : Type 0} (l : Layout) (kind : Kind) (before after : List ℕ) (count : ℕ) (old new : Hand R) : Type 0
   where
     pub bytes : List ℕ

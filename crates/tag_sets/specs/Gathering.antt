@@ -1,4 +1,4 @@
--- How hands come together, and what the totals of both sets say of them all.
+-- How hands are gathered, and what the totals of both sets say about all of them.
 use Rattle.std.specs.Prelude.{◌≡◌, ◌≢◌, ℕ, ◌+◌, ◌^◌, ◌<◌, ◌≤◌, List, length, map, slice_index, AllPairs}
 use Rattle.tag_model.specs.declared.totals.Totals.{Totals}
 use Rattle.tag_queue.specs.declared.gather.QueueTotals.{QueueTotals}
@@ -17,11 +17,11 @@ hands_of tags = queue.agents_of tags.ordinary
 abbrev pub numbers_of : {R : Type 0} → List (Hand R) → List ℕ
 numbers_of hands = map number_of hands
 
--- no number stands twice in the list
+-- no number is in the list twice
 abbrev pub AreDistinct : List ℕ → Type 0
 AreDistinct numbers = AllPairs (λ a b. a ≢ b) numbers
 
--- the list has one number at both places
+-- the list has the same number at both places
 abbrev pub AreTwins : List ℕ → ℕ → ℕ → Type 0
 AreTwins numbers first second = (first < second) × (second < length numbers)
     × (slice_index numbers first ≡ slice_index numbers second)
@@ -35,11 +35,11 @@ totals_of_both one other = record {
   posted = one.posted + other.posted;
 }
 
--- each sum is less than half of what a word of 64 bits counts
+-- each sum is below 2^63, so that two of them cannot overflow 64 bits
 abbrev pub IsSmall : Totals → Type 0
 IsSmall t = (t.got < 2 ^ 63) × (t.back < 2 ^ 63) × (t.held < 2 ^ 63) × (t.posted < 2 ^ 63)
 
--- both sets are gathered: tags are counted over both, completions and waits in the ordinary one alone
+-- both sets are gathered: tags are counted over both, completions and waits only in the ordinary one
 pub record IsGathered {R : Type 0} (tags : Tags R) (hands : List (Hand R)) (totals : QueueTotals) : Type 0 where
   pub ordinary : QueueTotals
   pub reserved : QueueTotals

@@ -1,4 +1,4 @@
--- What contracts see of two sets of tags and of their hands.
+-- The terms in which contracts speak about two sets of tags and their hands.
 use Rattle.std.specs.Prelude.{◌≡◌, ℕ, ◌+◌, ◌<◌, List, Option}
 use mathlib.Core.Option as maybe
 use Rattle.tag_layout.specs.Layout.{Layout}
@@ -19,16 +19,16 @@ abbrev pub queue_of : {R : Type 0} → Tags R → Kind → Queue R
 queue_of tags Ordinary = tags.ordinary
 queue_of tags Reserved = tags.reserved
 
--- the hand as an agent of a set
+-- the hand's agent in a set
 abbrev pub agent_of : {R : Type 0} → Hand R → Kind → Agent R
 agent_of hand Ordinary = hand.ordinary
 agent_of hand Reserved = hand.reserved
 
--- how many tags are reserved, the first of the range
+-- the number of reserved tags, which are the first of the range
 abbrev pub reserved_of : {R : Type 0} → Tags R → ℕ
 reserved_of tags = tags.reserved_count
 
--- how many tags there are in both sets
+-- the number of tags in both sets together
 abbrev pub total_of : {R : Type 0} → Tags R → ℕ
 total_of tags = tags.reserved_count + (queue.layout_of tags.ordinary).depth
 
@@ -36,15 +36,15 @@ total_of tags = tags.reserved_count + (queue.layout_of tags.ordinary).depth
 abbrev pub layout_of : {R : Type 0} → Tags R → Kind → Layout
 layout_of tags kind = queue.layout_of (queue_of tags kind)
 
--- the least depth of a shallow get
+-- the minimum shallow depth of the ordinary set, at least 1
 abbrev pub least_of : {R : Type 0} → Tags R → ℕ
 least_of tags = queue.least_of tags.ordinary
 
--- the first tags of the hand's range, so many, are reserved
+-- the number of reserved tags, as the hand knows it
 abbrev pub split_of : {R : Type 0} → Hand R → ℕ
 split_of hand = hand.reserved_count
 
--- the hand is one of the tags' own
+-- the hand belongs to the tags
 abbrev pub IsHandOf : {R : Type 0} → Tags R → Hand R → Type 0
 IsHandOf tags hand = queue.IsAgentOf tags.reserved hand.reserved × queue.IsAgentOf tags.ordinary hand.ordinary
     × (split_of hand ≡ reserved_of tags) × (queue.number_of hand.reserved ≡ queue.number_of hand.ordinary)
@@ -53,31 +53,31 @@ IsHandOf tags hand = queue.IsAgentOf tags.reserved hand.reserved × queue.IsAgen
 abbrev pub number_of : {R : Type 0} → Hand R → ℕ
 number_of hand = queue.number_of hand.ordinary
 
--- the tag is one of the hand's range: its set has more tags than its number there
+-- the tag is in the hand's range: its number in its set is below the depth of the set
 abbrev pub IsTagOf : {R : Type 0} → Hand R → ℕ → Type 0
 IsTagOf hand tag = number_in_set (split_of hand) tag < queue.depth_of (agent_of hand (kind_of (split_of hand) tag))
 
--- the hand holds the tag: of the reserved tags one below their number, of the ordinary ones one counted from there
+-- the hand holds the tag: its agent in the tag's set holds the tag's number there
 abbrev pub Holds : {R : Type 0} → Hand R → ℕ → Type 0
 Holds hand tag = queue.Holds (agent_of hand (kind_of (split_of hand) tag)) (number_in_set (split_of hand) tag)
 
--- the value of the slot of a tag that the hand holds
+-- the value in the slot of a tag, if the hand holds it
 abbrev pub slot_of : {R : Type 0} → Hand R → ℕ → maybe.Option R
 slot_of hand tag = queue.slot_of (agent_of hand (kind_of (split_of hand) tag)) (number_in_set (split_of hand) tag)
 
--- where the hand's next get in this set begins
+-- where the hand's next get in this set starts
 abbrev pub hint_of : {R : Type 0} → Hand R → Kind → Hint
 hint_of hand kind = queue.hint_of (agent_of hand kind)
 
--- the hand may win so many tags more of this set
+-- the hand may win that many more tags of this set
 abbrev pub HasRoom : {R : Type 0} → Hand R → Kind → ℕ → Type 0
 HasRoom hand kind n = queue.HasRoom (agent_of hand kind) n
 
--- the group in which the hand stands
+-- the wait group that the hand is in, if any
 abbrev pub standing_of : {R : Type 0} → Hand R → Option ℕ
 standing_of hand = queue.standing_of hand.ordinary
 
--- the hand's own steps on the book of completions, newest first
+-- the hand's own steps on the charge book, newest first
 abbrev pub book_steps : {R : Type 0} → Hand R → List BookStep
 book_steps hand = queue.book_steps hand.ordinary
 
@@ -89,13 +89,13 @@ group_steps hand = queue.group_steps hand.ordinary
 abbrev pub step_count : {R : Type 0} → Hand R → ℕ
 step_count hand = queue.step_count hand.reserved + queue.step_count hand.ordinary
 
--- the hand changed so in one set, and in the other it is as it was
+-- the hand's agent in one set changed in this way, and its agent in the other set is unchanged
 pub record Changes {R : Type 0} (kind : Kind) (change : Agent R → Agent R → Type 0) (old new : Hand R) : Type 0 where
   pub changed : change (agent_of old kind) (agent_of new kind)
   pub other : agent_of new (other_kind kind) ≡ agent_of old (other_kind kind)
   pub split : split_of new ≡ split_of old
 
--- the hand changed so in the set of this tag, where the tag has this number, and in the other set it is as it was
+-- the hand's agent in the tag's set changed in this way for the tag's number there, and its other agent is unchanged
 abbrev pub ChangesAt : {R : Type 0} → ℕ → (Kind → ℕ → Agent R → Agent R → Type 0) → Hand R → Hand R → Type 0
 ChangesAt tag change old new = let kind = kind_of (split_of old) tag in
     Changes kind (change kind (number_in_set (split_of old) tag)) old new

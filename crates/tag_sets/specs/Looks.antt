@@ -1,4 +1,4 @@
--- What a call finds that looks at the words of a set.
+-- What a call finds that loads the words of a set.
 use Rattle.std.specs.Prelude.{◌≡◌, ℕ, suc, List, [], ◌∷◌, slice_index_or, Bool, nat_eq, ◌&&◌}
 use Rattle.std.specs.Int.{bit_at}
 use Rattle.tag_layout.specs.Layout.{Layout, word_of, place_of}
@@ -9,16 +9,16 @@ use Rattle.tag_search.specs.Shared.{record_after_all}
 use Rattle.tag_queue.specs.declared.agent.Agent.{Agent}
 use Rattle.tag_queue.specs.Agents.{caller_of, Holds, SameElse}
 
--- the words found, each with its cleared bits beside it: those of this word
+-- the pair found for this word: its bits (1 is taken) and its cleared set (1 is set aside)
 abbrev pub word_in : List (ℕ × ℕ) → ℕ → ℕ × ℕ
 word_in found word = slice_index_or found word (0, 0)
 
--- the looks that found these words, from this one on, the oldest first: at each word, and then at its cleared bits
+-- the looks that found these pairs, from this word on, oldest first: each word, and then its cleared set
 abbrev pub looks_from : ℕ → List (ℕ × ℕ) → List WordStep
 looks_from word [] = []
 looks_from word (pair ∷ found) = Look word pair.0 ∷ LookAside word pair.1 ∷ looks_from (suc word) found
 
--- the tag was found taken, and then not set aside
+-- the tag was found taken and then not set aside
 abbrev pub is_busy_in : Layout → List (ℕ × ℕ) → ℕ → Bool
 is_busy_in l found tag =
     nat_eq (bit_at (word_in found (word_of l tag)).0 (place_of l tag)) 1
@@ -28,13 +28,13 @@ is_busy_in l found tag =
 abbrev pub is_aside_in : Layout → List (ℕ × ℕ) → ℕ → Bool
 is_aside_in l found tag = nat_eq (bit_at (word_in found (word_of l tag)).1 (place_of l tag)) 1
 
--- the agent made these looks, one after another, which change nothing else of it
+-- the agent made these looks one after another, and nothing else of it changed
 pub record Finds {R : Type 0} (steps : List WordStep) (old new : Agent R) : Type 0 where
   pub known : record_of (caller_of new) ≡ record_after_all steps (record_of (caller_of old))
   pub same_map : SameMap (caller_of old) (caller_of new)
   pub same_else : SameElse old new
 
--- each tag of this word that the agent holds was found taken, and not set aside
+-- each tag of this word that the agent holds was found taken and not set aside
 abbrev pub FindsHeld : {R : Type 0} → Layout → Agent R → ℕ → ℕ × ℕ → Type 0
 FindsHeld l agent word pair = (tag : ℕ) → Holds agent tag → word_of l tag ≡ word
     → (bit_at pair.0 (place_of l tag) ≡ 1) × (bit_at pair.1 (place_of l tag) ≡ 0)

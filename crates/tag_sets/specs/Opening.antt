@@ -10,26 +10,27 @@ use Rattle.tag_sets.specs.declared.hand.Hand.{Hand}
 use Rattle.tag_sets.specs.declared.tags.Tags.{Tags}
 use Rattle.tag_sets.specs.Hands.{IsHandOf, Holds, number_of, split_of}
 
--- the totals are within their limits
+-- there are at most 10,240 tags, and at most as many reserved tags as tags
 abbrev pub HasRange : ℕ → ℕ → Type 0
 HasRange total reserved = (total ≤ MAX_DEPTH) × (reserved ≤ total)
 
--- and there are layouts for the options
+-- and there are layouts of both sets for the options
 abbrev pub HasLayouts : ℕ → ℕ → Options → Type 0
 HasLayouts total reserved options = HasRange total reserved × ¬ (IsSomeAnd options.shift (λ s. MAX_SHIFT < s))
 
--- the hand as an agent of the reserved set, and of the ordinary one
+-- the hand's agent in the reserved set
 abbrev pub reserved_part : {R : Type 0} → Hand R → Agent R
 reserved_part hand = hand.reserved
 
+-- the hand's agent in the ordinary set
 abbrev pub ordinary_part : {R : Type 0} → Hand R → Agent R
 ordinary_part hand = hand.ordinary
 
--- that many tags of the hand's range are reserved
+-- this many tags of the hand's range are reserved
 abbrev pub IsSplitAt : {R : Type 0} → ℕ → Hand R → Type 0
 IsSplitAt reserved hand = split_of hand ≡ reserved
 
--- these are the agents of the hands, in their order
+-- these are the agents of the hands, in the same order
 pub record AreParts {R : Type 0} (count : ℕ) (reserved ordinary : List (Agent R)) (hands : List (Hand R)) : Type 0 where
   pub reserved_are : map reserved_part hands ≡ reserved
   pub ordinary_are : map ordinary_part hands ≡ ordinary
@@ -39,9 +40,8 @@ pub record AreParts {R : Type 0} (count : ℕ) (reserved ordinary : List (Agent 
 abbrev pub HoldsNone : {R : Type 0} → Hand R → Type 0
 HoldsNone hand = (tag : ℕ) → ¬ (Holds hand tag)
 
--- both sets are as the options say, the least shallow depth being that of the ordinary one; the hands stand in the
--- order of
--- their numbers and have done nothing
+-- both sets are as the options say, where the minimum shallow depth applies to the ordinary one; the hands are in the
+-- order of their numbers, hold no tag and have made no step
 pub record IsOpen {R : Type 0} (options : Options) (tags : Tags R) (hands : List (Hand R)) : Type 0 where
   pub ordinary : queue.IsOpen options tags.ordinary (map ordinary_part hands)
   pub reserved : queue.IsOpen (record options { min_shallow = None }) tags.reserved (map reserved_part hands)

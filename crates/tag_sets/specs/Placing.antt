@@ -1,11 +1,11 @@
--- Where a hand's gets begin.
+-- Where a hand's gets start.
 use Rattle.std.specs.Prelude.{◌≡◌}
 use Rattle.tag_queue.specs.Agents as queue
 use Rattle.tag_sets.specs.declared.hand.Hand.{Hand}
 use Rattle.tag_sets.specs.declared.kind.Kind.{Kind}
 use Rattle.tag_sets.specs.Hands.{agent_of}
 
--- in this set the hand's tags and steps are as they were, and so are its counts and its standing
+-- in this set everything but the hand's hint is unchanged: its tags, steps, counts and wait group
 abbrev pub SameButHint : {R : Type 0} → Kind → Hand R → Hand R → Type 0
 SameButHint kind old new =
     (queue.caller_of (agent_of new kind) ≡ queue.caller_of (agent_of old kind))

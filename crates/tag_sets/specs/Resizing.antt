@@ -1,4 +1,4 @@
--- Resizes of the ordinary set: why they are refused, and what they leave.
+-- Resizes of the ordinary set: when they are refused, and what they change.
 use Rattle.std.specs.Prelude.{◌≡◌, ◌⊎◌, ℕ, ◌+◌, ◌-◌, ◌<◌, ◌≤◌, List, All, map, length, Result, IsErrAnd}
 use mathlib.Core.Option.{some}
 use lib.ListN.{get_elem?}
@@ -27,17 +27,17 @@ pub record AreSame {R : Type 0} (old new : Tags R) : Type 0 where
   pub ordinary : new.ordinary ≡ old.ordinary
   pub split : reserved_of new ≡ reserved_of old
 
--- one by one, in the same order, each hand is as it was
+-- the hands are in the same order, and each of them is unchanged
 pub record AreUnchanged {R : Type 0} (old new : List (Hand R)) : Type 0 where
   pub count : length new ≡ length old
   pub each : (n : ℕ) (a b : Hand R) → get_elem? old n ≡ some a → get_elem? new n ≡ some b → IsUnchanged a b
 
--- tags of both sets that these hands hold
+-- the number of tags of both sets that these hands hold
 abbrev pub held_in_both : {R : Type 0} → List (Hand R) → ℕ
 held_in_both hands = held_in (queue.records_of (map ordinary_part hands))
     + held_in (queue.records_of (map reserved_part hands))
 
--- tags of both sets that are posted, if these are all hands
+-- the number of tags of both sets that are posted, if these are all hands
 abbrev pub posted_in_both : {R : Type 0} → List (Hand R) → ℕ
 posted_in_both hands = posted_in (queue.records_of (map ordinary_part hands))
     + posted_in (queue.records_of (map reserved_part hands))
@@ -47,12 +47,12 @@ abbrev pub Balance : {R : Type 0} → List (Record R) → Type 0
 Balance {R} rs =
     sum_of (λ (r : Record R). r.won) rs ≡ sum_of (λ (r : Record R). r.back) rs + held_in rs + posted_in rs
 
--- so it is in each set
+-- this holds in each set
 abbrev pub BalanceInBoth : {R : Type 0} → List (Hand R) → Type 0
 BalanceInBoth hands = Balance (queue.records_of (map ordinary_part hands))
     × Balance (queue.records_of (map reserved_part hands))
 
--- how many of these hands stand in a group
+-- how many of these hands are in a wait group
 abbrev pub standing_count : {R : Type 0} → List (Hand R) → ℕ
 standing_count hands = queue_resizing.standing_count (map ordinary_part hands)
 
@@ -64,23 +64,23 @@ AreUnused hands = (held_in_both hands ≡ 0) × (posted_in_both hands ≡ 0)
 abbrev pub IsOutOfRange : ℕ → ℕ → Type 0
 IsOutOfRange total reserved = (MAX_DEPTH < total) ⊎ (total < reserved)
 
--- all hands are there, and the sets may have this total
+-- all hands are present, and both sets can have this total
 abbrev pub HasMap : {R : Type 0} → Tags R → List (Hand R) → ℕ → Type 0
 HasMap tags hands total = HasAll (numbers_of hands) (hands_of tags) × HasRange total (reserved_of tags)
 
--- nothing prevents a resize
+-- a resize can fail only for lack of memory
 abbrev pub MayResize : {R : Type 0} → Tags R → List (Hand R) → ℕ → Type 0
 MayResize tags hands total = HasMap tags hands total × AreUnused hands × (standing_count hands ≡ 0)
 
--- that many tags are held and that many posted, and not both numbers are 0
+-- this many tags are held and this many are posted, and at least one tag is either
 abbrev pub AreUsed : {R : Type 0} → List (Hand R) → ℕ → ℕ → Type 0
 AreUsed hands held posted = (held ≡ held_in_both hands) × (posted ≡ posted_in_both hands) × ¬ (AreUnused hands)
 
--- no tag is in use, and that many hands stand in a group, at least one
+-- no tag is in use, and this many hands are in a wait group, at least one
 abbrev pub AreWaiting : {R : Type 0} → List (Hand R) → ℕ → Type 0
 AreWaiting hands count = AreUnused hands × (count ≡ standing_count hands) × (1 ≤ count)
 
--- what a refusal of this cause says
+-- what holds if a resize is refused for this cause
 abbrev pub IsRefusedFor : {R : Type 0} → Tags R → List (Hand R) → ℕ → ResizeCause → Type 0
 IsRefusedFor tags hands total (Missing number) = IsLeastMissing (numbers_of hands) (hands_of tags) number
 IsRefusedFor tags hands total DepthTooLarge =
@@ -89,7 +89,7 @@ IsRefusedFor tags hands total (InUse held posted) = HasMap tags hands total × A
 IsRefusedFor tags hands total (Waiting count) = HasMap tags hands total × AreWaiting hands count
 IsRefusedFor tags hands total Memory = MayResize tags hands total
 
--- the answer is a refusal of this cause
+-- the result is a refusal for this cause
 abbrev pub IsRefusedAs : {R A : Type 0} → Result A (TagsResizeFault R) → ResizeCause → Type 0
 IsRefusedAs result cause = IsErrAnd result (λ fault. fault.cause ≡ cause)
 
@@ -99,8 +99,8 @@ MayStillFail queue agents depth (Waiting count) = queue_resizing.AreWaiting agen
 MayStillFail queue agents depth Memory = queue_resizing.MayResize queue agents depth
 MayStillFail queue agents depth _ = ⊥
 
--- in the same order the hands continue with this total: the ordinary set with what the reserved tags leave of it, the
--- reserved set as it was
+-- the hands continue, in the same order, with this total: the ordinary set has what the reserved tags leave of it, and
+-- the reserved set is unchanged
 pub record IsResized {R : Type 0} (old : Tags R) (hands : List (Hand R)) (total : ℕ)
     (new : Tags R) (resized : List (Hand R)) : Type 0 where
   pub total_is : total_of new ≡ total

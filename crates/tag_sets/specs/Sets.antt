@@ -1,9 +1,9 @@
--- How the numbers of the whole range fall into two sets.
+-- How the numbers of the range are divided between the two sets.
 use Rattle.std.specs.Prelude.{ℕ, ◌-◌, nat_lt, if◌then◌else◌}
 use Rattle.tag_sets.specs.declared.kind.Kind.{Kind}
 use Rattle.tag_sets.specs.declared.kind.Kind.TheVariants.{Ordinary, Reserved}
 
--- the set of a tag, where so many tags are reserved
+-- the set of a tag, if the first `reserved` tags are reserved
 abbrev pub kind_of : ℕ → ℕ → Kind
 kind_of reserved tag = if nat_lt tag reserved then Reserved else Ordinary
 

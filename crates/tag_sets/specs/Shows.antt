@@ -1,4 +1,4 @@
--- What shows tell: sizes, and sums over the words that the call found.
+-- Shows: sizes, and sums over the words that the call found.
 use Rattle.std.specs.Prelude.{◌≡◌, ℕ, List, length}
 use Rattle.tag_layout.specs.Layout.{Layout, words, word_bits}
 use Rattle.tag_model.specs.Totals.{count_below}
@@ -10,7 +10,7 @@ use Rattle.tag_sets.specs.Hands.{layout_of, Changes}
 use Rattle.tag_sets.specs.Holding.{HoldsSame}
 use Rattle.tag_sets.specs.Looks.{Finds, looks_from, is_busy_in, is_aside_in}
 
--- what there is to show of these words
+-- the show of these words
 abbrev pub shown_of : Layout → List (ℕ × ℕ) → Shown
 shown_of l found = record {
   depth = l.depth;
@@ -20,13 +20,13 @@ shown_of l found = record {
   map_nr = words l;
 }
 
--- the hand looked at each word of the set once, in turn, and found these; it holds what it held
+-- the hand looked once at each word of the set, in order, and found these; it holds the same tags as before
 pub record LooksAround {R : Type 0} (l : Layout) (kind : Kind) (found : List (ℕ × ℕ)) (old new : Hand R) : Type 0 where
   pub each : length found ≡ words l
   pub looks : Changes kind (Finds (looks_from 0 found)) old new
   pub same : HoldsSame old new
 
--- the show is of the words that this call found
+-- the show is the one of the words that this call found
 pub record Shows {R : Type 0} (tags : Tags R) (kind : Kind) (shown : Shown) (old new : Hand R) : Type 0 where
   pub found : List (ℕ × ℕ)
   pub around : LooksAround (layout_of tags kind) kind found old new

@@ -10,37 +10,37 @@ use Rattle.tag_sets.specs.declared.kind.Kind.TheVariants.{Ordinary}
 use Rattle.tag_sets.specs.Hands.{standing_of, Changes}
 use Rattle.tag_sets.specs.Holding.{HoldsSame}
 
--- the hand raised the active count and stands in the group of its wait index, which went on
+-- the hand raised the active count and entered the group of its wait index, which then advanced by one
 pub record Enters {R : Type 0} (group : ℕ) (old new : Hand R) : Type 0 where
   pub stands : standing_of new ≡ Some group
   pub same : HoldsSame old new
   pub set : Changes Ordinary (queue.Enters group) old new
 
--- the agent left its group as the answer says, and keeps its tags, hint and counts
+-- the agent left its group as the result says, and keeps its tags, hint and counts
 abbrev pub AgentLeaves : {R : Type 0} → Left → Agent R → Agent R → Type 0
 AgentLeaves left old new = LeavesAs (waiter_of old) (waiter_of new) left × queue.SameTags old new
 
--- the hand left its group as the answer says
+-- the hand left its group as the result says
 pub record Leaves {R : Type 0} (left : Left) (old new : Hand R) : Type 0 where
   pub same : HoldsSame old new
   pub set : Changes Ordinary (AgentLeaves left) old new
 
--- the agent stands where it stood, since its group's word changed meanwhile, and keeps its tags, hint and counts
+-- the agent is still in its group, because the group's word changed meanwhile, and keeps its tags, hint and counts
 abbrev pub AgentStandsOn : {R : Type 0} → Agent R → Agent R → Type 0
 AgentStandsOn old new = IdlesOnce (waiter_of old) (waiter_of new) × queue.SameTags old new
 
--- the hand stands where it stood, since its group's word changed meanwhile
+-- the hand is still in its group, because the group's word changed meanwhile
 pub record StandsOn {R : Type 0} (old new : Hand R) : Type 0 where
   pub stands : standing_of new ≡ standing_of old
   pub same : HoldsSame old new
   pub set : Changes Ordinary AgentStandsOn old new
 
--- the agent keeps its tags and its hint, and stands where it stood
+-- the agent keeps its tags, its hint, its wait group and its wait index
 abbrev pub AgentStays : {R : Type 0} → Agent R → Agent R → Type 0
 AgentStays old new = (caller_of new ≡ caller_of old) × (hint_of new ≡ hint_of old)
     × StandsAsBefore (waiter_of old) (waiter_of new)
 
--- the hand keeps its tags and its hints, and stands where it stood
+-- the hand keeps its tags, its hints, its wait group and its wait index
 pub record Stays {R : Type 0} (old new : Hand R) : Type 0 where
   pub same : HoldsSame old new
   pub set : Changes Ordinary AgentStays old new

@@ -1,4 +1,4 @@
-//! How many ordinary tags come back at once.
+//! Clears of several ordinary tags at once.
 ghost use Rattle.std.specs.Prelude.{◌≡◌, ◌+◌, ◌≤◌, ◌↔◌, length, take, All, IfOk, IfSome, IsOk, IsSome, OnOk, OnErr};
 ghost use Rattle.tag_sets.specs.Hands.{IsHandOf, step_count};
 ghost use Rattle.tag_sets.specs.Batches.{CountsTags, AreOrdinary, AreHeldOnce, GivesBack, numbers_of};
@@ -9,17 +9,19 @@ use crate::hand::Hand;
 use crate::tags::Tags;
 use tag_queue::TagFault;
 
-/// Most tags that one call gives back.
+/// The most tags that one call clears.
 pub(crate) const MAX_TAGS: usize = 64;
 
 impl<R: Copy> Tags<R> {
-    /// Gives 1 to 64 held ordinary tags back at once, counts them together if anybody waits, and returns how many waiters
-    /// it woke. They are free, not set aside as after `clear`. Tags of one word that follow each other are one step.
+    /// Clears 1 to 64 held ordinary tags, counts them together if anybody waits, and returns how many waiters it woke.
+    /// Like `sbitmap_queue_clear_batch` (lib/sbitmap.c) it frees them at once, where `clear` only sets its tag aside.
+    /// Successive tags of the list that lie in one word take one step. `NoSuchTag` also means that a tag is reserved,
+    /// `NotHeld` that one is not held or named twice.
     pub fn clear_batch(&self, hand: &mut Hand<R>, tags: &[u32]) -> Result<u32, TagFault>
         requires hand { IsHandOf self.now hand.old }
         ensures hand { IsHandOf self.now hand.new }
 
-        // The causes are looked at in this order, each for the whole list.
+        // The causes are checked in this order, each for the whole list.
         ensures bad_count { (result ≡ Err TagFault.BadCount) ↔ ¬ (CountsTags tags.now) }
         ensures no_such_tag { (result ≡ Err TagFault.NoSuchTag)
             ↔ (CountsTags tags.now × ¬ (AreOrdinary self.now tags.now)) }
@@ -44,7 +46,7 @@ impl<R: Copy> Tags<R> {
     }
 }
 
-/// The numbers of ordinary tags in their set, in the order of the list. `None` where one of the list is reserved.
+/// Returns the numbers of ordinary tags in their set, in the order of the list, or `None` if one of them is reserved.
 pub(crate) fn ordinary_numbers(tags: &[u32], reserved: u32) -> Option<[u32; MAX_TAGS]>
     requires { length tags.now ≤ 64 }
     ensures ordinary { IsSome result ↔ All (λ tag. reserved ≤ tag) tags.now }

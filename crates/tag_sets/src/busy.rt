@@ -1,4 +1,4 @@
-//! Which tags are busy.
+//! Lists the busy tags.
 ghost use Rattle.std.specs.Prelude.{◌≡◌, ℕ, ◌+◌, ◌*◌, ◌≤◌, length};
 ghost use Rattle.tag_layout.specs.Layout.{words};
 ghost use Rattle.tag_layout.specs.declared.layout.TheConstants.{MAX_DEPTH};
@@ -13,9 +13,10 @@ use crate::marks::mark;
 use crate::tags::Tags;
 
 impl<R: Copy> Tags<R> {
-    /// Sets bit `t % 64` of `into[t / 64]` for each busy tag `t`, clears all other bits, and returns how many tags are busy:
-    /// found taken, and then not set aside. `into` has a bit for each tag. Each word of both sets is looked at once, and then
-    /// its cleared bits: while others step, the list is of no single moment.
+    /// Sets bit `t % 64` of `into[t / 64]` for each busy tag `t`, clears all other bits, and returns the number of busy
+    /// tags. A tag is busy if it was found taken and then not set aside. `into` must have a bit for each tag of both
+    /// sets. Each word is loaded once, and then its cleared set; so while other hands act, the list is not a snapshot
+    /// of a single moment.
     pub fn busy(&self, hand: &mut Hand<R>, into: &mut [u64]) -> u32
         requires hand { IsHandOf self.now hand.old }
         requires room { total_of self.now ≤ 64 * length into.old }
@@ -32,7 +33,7 @@ impl<R: Copy> Tags<R> {
         reserved + ordinary
     }
 
-    // Marks the busy tags of a set, whose first one has the bit `first`, and counts them.
+    // Sets the bits of the busy tags of a set, whose first tag has bit `first`, and returns how many they are.
     fn list_set(&self, hand: &mut Hand<R>, kind: Kind, first: u32, into: &mut [u64]) -> u32
         requires hand { IsHandOf self.now hand.old }
         requires room { first + (layout_of self.now kind).depth ≤ 64 * length into.old }

@@ -1,4 +1,4 @@
-//! How tags come back.
+//! Clears of one tag.
 ghost use Rattle.std.specs.Prelude.{◌≡◌, ◌+◌, ◌<◌, ◌≤◌, ◌↔◌, IfOk, IsOk, OnOk, OnErr};
 ghost use Rattle.tag_sets.specs.Sets.{kind_of};
 ghost use Rattle.tag_sets.specs.Hands.{reserved_of, total_of, IsHandOf, Holds, step_count};
@@ -10,8 +10,9 @@ use crate::tags::Tags;
 use tag_queue::TagFault;
 
 impl<R: Copy> Tags<R> {
-    /// Gives a held tag back, counts an ordinary one if anybody waits, and returns how many waiters it woke. The tag is set
-    /// aside: it is free after the next sweep of its word.
+    /// Clears a held tag, counts an ordinary one if anybody waits, and returns how many waiters it woke, 0 for a
+    /// reserved tag. As in `sbitmap_queue_clear` (lib/sbitmap.c) the tag is only set aside: the next sweep of its word
+    /// frees it.
     pub fn clear(&self, hand: &mut Hand<R>, tag: u32) -> Result<u32, TagFault>
         requires hand { IsHandOf self.now hand.old }
         ensures hand { IsHandOf self.now hand.new }

@@ -1,4 +1,4 @@
-//! The busy tags of a set, packed.
+//! Packs the busy tags of a set into bytes.
 ghost use Rattle.std.specs.Prelude.{◌≡◌, ◌+◌, ◌*◌, ◌≤◌, length};
 ghost use Rattle.tag_layout.specs.Layout.{words};
 ghost use Rattle.tag_sets.specs.Hands.{IsHandOf, layout_of, step_count};
@@ -10,9 +10,10 @@ use crate::marks::mark_bytes;
 use crate::tags::Tags;
 
 impl<R: Copy> Tags<R> {
-    /// Packs a set into `into`, eight tags a byte, low bit first, where 1 is busy: found taken, and then not set aside. Returns
-    /// how many bytes they are, `ceil(depth / 8)`; the last is filled with zeros, and those behind it stay. Each word is
-    /// looked at once, and then its cleared bits: while others step, the bytes are of no single moment.
+    /// Packs a set into the first bytes of `into`, eight tags a byte, low bit first, where 1 is busy: found taken and
+    /// then not set aside. Returns the number of those bytes, `ceil(depth / 8)`. The last one is padded with zeros, and
+    /// the bytes after it are unchanged. Each word is loaded once, and then its cleared set; so while other hands act,
+    /// the bytes are not a snapshot of a single moment.
     pub fn dump(&self, hand: &mut Hand<R>, kind: Kind, into: &mut [u8]) -> u32
         requires hand { IsHandOf self.now hand.old }
         requires room { (layout_of self.now kind).depth ≤ 8 * length into.old }
@@ -25,7 +26,7 @@ impl<R: Copy> Tags<R> {
         count
     }
 
-    // Fills the bytes with the bits of a set.
+    // Sets the bits of the busy tags of a set, and clears all others.
     fn pack(&self, hand: &mut Hand<R>, kind: Kind, bytes: &mut [u8])
         requires hand { IsHandOf self.now hand.old }
         requires room { (layout_of self.now kind).depth ≤ 8 * length bytes.old }

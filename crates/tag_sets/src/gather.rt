@@ -1,4 +1,4 @@
-//! All hands come together, and both sets end.
+//! Gathers all hands and closes both sets.
 ghost use Rattle.std.specs.Prelude.{◌≡◌, ◌↔◌, All, IfOk, IfErr, IsOk};
 ghost use Rattle.step_ledger.specs.Views.{HasAll};
 ghost use Rattle.step_ledger.specs.Gather.{IsCauseOf};
@@ -11,18 +11,19 @@ use step_ledger::{GatherCause, least_missing};
 use tag_model::Totals;
 use tag_queue::{Queue, QueueTotals};
 
-/// Why tags weren't gathered, with all that was handed in.
+/// The reason why `gather` failed, with the tags and the hands that were passed in.
 #[derive(Drop)]
 pub struct TagsGatherFault<R> {
     pub cause: GatherCause,
     pub tags: Tags<R>,
-    /// In the order in which they were handed in.
+    /// In the order in which they were passed in.
     pub hands: Vec<Hand<R>>,
 }
 
 impl<R: Copy> Tags<R> {
-    /// Ends both sets if all hands are present, in any order, including those that stand in a group. Tags are counted over
-    /// both sets; completions and waits are those of the ordinary one.
+    /// Closes both sets and returns their totals, if all hands are passed in, in any order, even those that are in a
+    /// wait group or hold tags. Otherwise it names the least missing number and hands everything back. Tags are counted
+    /// over both sets; completions and waits are those of the ordinary set.
     pub fn gather(tags: Tags<R>, hands: Vec<Hand<R>>) -> Result<QueueTotals, TagsGatherFault<R>>
         requires { All (IsHandOf tags) hands.items }
         ensures ok { IfOk result (λ totals. IsGathered tags hands.items totals) }
@@ -40,7 +41,7 @@ impl<R: Copy> Tags<R> {
         Ok(tags.close(hands))
     }
 
-    // Ends both sets with all their hands.
+    // Closes both sets with all their hands.
     fn close(self, hands: Vec<Hand<R>>) -> QueueTotals
         requires own { All (IsHandOf self) hands.items }
         requires all { HasAll (numbers_of hands.items) (hands_of self) }
@@ -70,7 +71,7 @@ impl<R: Copy> Tags<R> {
     }
 }
 
-// The sums over both sets.
+// Returns the sums over both sets.
 fn add_up(one: Totals, other: Totals) -> Totals
     requires { IsSmall one × IsSmall other }
     ensures { result ≡ totals_of_both one other }

@@ -1,4 +1,4 @@
-//! How tags are taken.
+//! Gets: the calls that take tags.
 ghost use Rattle.std.specs.Prelude.{◌≡◌, ◌+◌, ◌<◌, ◌≤◌, ◌↔◌, false, IfOk, IfErr, OnErr, IsOk, IsTrue, None};
 ghost use Rattle.tag_sets.specs.Hands.{reserved_of, least_of, IsHandOf, HasRoom, hint_of, step_count};
 ghost use Rattle.tag_sets.specs.Gets.{Gets, GetsReserved, GetsShallow, GetsBatch, MiscountsBatch, most_steps, most_reserved_steps};
@@ -9,8 +9,9 @@ use crate::tags::Tags;
 use tag_queue::TagFault;
 
 impl<R: Copy> Tags<R> {
-    /// Takes a free ordinary tag for this hand alone, until it is cleared or posted. `None` says that each place looked at
-    /// was found taken at some moment of the call, not that all were taken at one moment.
+    /// Takes a free ordinary tag, which this hand alone holds until it clears or posts the tag. `None` means that each
+    /// tag that the search looked at was found taken at some moment of the call, not that all were taken at the same
+    /// moment. `Spent` means that the hand's life in the ordinary set is used up.
     pub fn get(&self, hand: &mut Hand<R>) -> Result<Option<u32>, TagFault>
         requires hand { IsHandOf self.now hand.old }
         ensures hand { IsHandOf self.now hand.new }
@@ -25,12 +26,12 @@ impl<R: Copy> Tags<R> {
         Ok(Some(self.reserved_count + number))
     }
 
-    /// As `get`, of a reserved tag.
+    /// Like `get`, but takes a reserved tag. `NoReserved` means that there are none.
     pub fn get_reserved(&self, hand: &mut Hand<R>) -> Result<Option<u32>, TagFault>
         requires hand { IsHandOf self.now hand.old }
         ensures hand { IsHandOf self.now hand.new }
 
-        // Whether there are any is looked at first.
+        // Whether there are reserved tags is checked first.
         ensures no_reserved { (result ≡ Err TagFault.NoReserved) ↔ (reserved_of self.now ≡ 0) }
         ensures spent { (result ≡ Err TagFault.Spent) ↔ ((1 ≤ reserved_of self.now) × ¬ (HasRoom hand.old Reserved 1)) }
         ensures succeeds { IsOk result ↔ ((1 ≤ reserved_of self.now) × HasRoom hand.old Reserved 1) }
@@ -44,12 +45,13 @@ impl<R: Copy> Tags<R> {
         self.reserved.get(&mut hand.reserved)
     }
 
-    /// As `get`, limited to `depth` of the ordinary tags, shared out over the words. A word's share may be none.
+    /// Like `get`, but limited to `depth` of the ordinary tags, which are shared out among the words in proportion. A
+    /// word's share may be 0. `TooShallow` means that `depth` is 0 or below the minimum shallow depth.
     pub fn get_shallow(&self, hand: &mut Hand<R>, depth: u32) -> Result<Option<u32>, TagFault>
         requires hand { IsHandOf self.now hand.old }
         ensures hand { IsHandOf self.now hand.new }
 
-        // The depth is looked at first.
+        // The depth is checked first.
         ensures too_shallow { (result ≡ Err TagFault.TooShallow) ↔ (depth < least_of self.now) }
         ensures spent { (result ≡ Err TagFault.Spent) ↔ ((least_of self.now ≤ depth) × ¬ (HasRoom hand.old Ordinary 1)) }
         ensures succeeds { IsOk result ↔ ((least_of self.now ≤ depth) × HasRoom hand.old Ordinary 1) }
@@ -63,13 +65,14 @@ impl<R: Copy> Tags<R> {
         Ok(Some(self.reserved_count + found))
     }
 
-    /// Takes up to `n` free ordinary tags side by side in one word, 1 to the bits of a word: the first tag, and the mask of
-    /// those won, whose lowest bit stands for the first tag. Under round robin it finds none and makes no step.
+    /// Takes up to `n` free ordinary tags out of `n` consecutive ones of one word, where `n` is 1 to the bits of a
+    /// word. Returns the first of them and the mask of those won, in which bit 0 is that first tag. Under round robin
+    /// it returns `None` and makes no step, as in the kernel (lib/sbitmap.c).
     pub fn get_batch(&self, hand: &mut Hand<R>, n: u32) -> Result<Option<(u32, u64)>, TagFault>
         requires hand { IsHandOf self.now hand.old }
         ensures hand { IsHandOf self.now hand.new }
 
-        // The count is looked at first, round robin next.
+        // The count is checked first, then round robin.
         ensures bad_count { (result ≡ Err TagFault.BadCount) ↔ MiscountsBatch self.now n }
         ensures round_robin { ¬ (MiscountsBatch self.now n) → IsTrue (hint_of hand.old Ordinary).round_robin
             → (result ≡ Ok None) × (hand.new ≡ hand.old) }

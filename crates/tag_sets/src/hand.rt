@@ -1,16 +1,16 @@
-//! A hand.
+//! The handle through which one thread uses both sets.
 ghost use Rattle.tag_queue.specs.Agents.{number_of};
 
 use step_ledger::Numbered;
 use tag_queue::Agent;
 
-/// One thread's part in both sets of tags.
+/// One thread's handle on both sets of tags.
 #[derive(Drop)]
 pub struct Hand<R> {
-    /// Reserved tags of the whole range, its first ones.
+    /// Number of reserved tags, which are the first of the range.
     pub(crate) reserved_count: u32,
     pub(crate) reserved: Agent<R>,
-    /// The last field: an agent ends in unused words, so hands side by side in memory share no line.
+    /// Must be the last field: an agent ends with padding, so hands that are adjacent in memory share no cache line.
     pub(crate) ordinary: Agent<R>,
 }
 

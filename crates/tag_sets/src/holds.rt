@@ -1,4 +1,4 @@
-//! Which tags a hand holds.
+//! Whether a hand holds a tag.
 ghost use Rattle.std.specs.Prelude.{◌↔◌, IsTrue};
 ghost use Rattle.tag_sets.specs.Hands.{Holds, IsTagOf};
 
@@ -6,7 +6,7 @@ use crate::hand::Hand;
 use crate::kind::{Kind, SetTag};
 
 impl<R> Hand<R> {
-    /// Whether the hand holds the tag. It makes no step.
+    /// Returns whether the hand holds the tag. This makes no step.
     pub fn holds(&self, tag: u32) -> bool
         requires { IsTagOf self.now tag }
         ensures { IsTrue result ↔ Holds self.now tag }

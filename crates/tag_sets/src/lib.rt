@@ -1,4 +1,5 @@
-//! Reserved and ordinary tags that threads share: one range of numbers over two queues, behind one handle for each thread.
+//! Reserved and ordinary tags shared by threads: one range of numbers over two queues, behind one handle for each
+//! thread, as in Linux's `blk_mq_tags`.
 #![tactic(auto)]
 
 mod batches;

@@ -1,4 +1,4 @@
-//! Looks at the words of a set.
+//! Loads of the words of a set.
 ghost use Rattle.std.specs.Prelude.{◌≡◌, ◌<◌, ◌∷◌, []};
 ghost use Rattle.tag_layout.specs.Layout.{words};
 ghost use Rattle.tag_core.specs.declared.word_step.WordStep.TheVariants.{Look, LookAside};
@@ -12,7 +12,7 @@ use crate::tags::Tags;
 use tag_layout::Layout;
 
 impl<R> Tags<R> {
-    /// How the tags of a set are numbered in words.
+    /// Returns the layout of a set: how its tags are arranged in words.
     pub(crate) fn layout(&self, kind: Kind) -> Layout
         ensures { result ≡ layout_of self.now kind }
     {
@@ -24,7 +24,7 @@ impl<R> Tags<R> {
 }
 
 impl<R: Copy> Tags<R> {
-    /// The bits of a word, 1 is taken, and then its cleared bits, 1 is set aside: two loads, one after the other.
+    /// Loads a word of a set (1 is taken) and then its cleared set (1 is set aside): two loads, one after the other.
     pub(crate) fn look_both(&self, hand: &mut Hand<R>, kind: Kind, word: u32) -> (u64, u64)
         requires hand { IsHandOf self.now hand.old }
         requires within { word < words (layout_of self.now kind) }

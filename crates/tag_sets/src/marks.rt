@@ -1,9 +1,9 @@
-//! Bits that are set in words side by side.
+//! Sets bits in slices of words and of bytes.
 ghost use Rattle.std.specs.Prelude.{◌≡◌, ◌+◌, ◌*◌, ◌^◌, ◌<◌, ◌≤◌, length, nat_eq};
 ghost use Rattle.std.specs.Int.{bit_at};
 ghost use Rattle.tag_sets.specs.Bits.{Marks};
 
-/// Copies the low `width` bits of a mask to the bits from `first` on.
+/// Sets bit `first + k` of the slice for each `k` below `width` whose bit is 1 in the mask. It clears no bit.
 pub(crate) fn mark(into: &mut [u64], first: u32, width: u32, mask: u64)
     requires width { width ≤ 64 }
     requires room { first + width ≤ 64 * length into.old }
@@ -19,7 +19,7 @@ pub(crate) fn mark(into: &mut [u64], first: u32, width: u32, mask: u64)
     }
 }
 
-/// The same in bytes.
+/// Like `mark`, but in bytes.
 pub(crate) fn mark_bytes(into: &mut [u8], first: u32, width: u32, mask: u64)
     requires width { width ≤ 64 }
     requires room { first + width ≤ 8 * length into.old }

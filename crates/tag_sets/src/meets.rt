@@ -1,4 +1,4 @@
-//! Two hands together.
+//! What two hands that are passed in together can prove.
 ghost use Rattle.std.specs.Prelude.{◌≡◌, ◌≢◌, ℕ};
 ghost use Rattle.tag_sets.specs.Hands.{Holds, IsHandOf, number_of};
 ghost use Rattle.tag_sets.specs.Meeting.{ShareHistories, IsUnchanged};
@@ -8,8 +8,8 @@ use crate::kind::{Kind, SetTag};
 use crate::tags::Tags;
 
 impl<R: Copy> Tags<R> {
-    /// Establishes that two hands hold no tag in common, and that in each set their own steps stand in one history.
-    /// It changes nothing. Its loads, of a spare word of each set, stand in no list.
+    /// Establishes that two hands hold no tag in common, and that in each set their own steps are part of one history.
+    /// It changes nothing. Its loads, of a spare word of each set, are in no hand's list.
     pub fn meet(&self, first: &mut Hand<R>, second: &mut Hand<R>)
         requires hands { IsHandOf self.now first.old × IsHandOf self.now second.old }
         ensures hands { IsHandOf self.now first.new × IsHandOf self.now second.new }
@@ -24,7 +24,7 @@ impl<R: Copy> Tags<R> {
             .meet(&mut first.ordinary, &mut second.ordinary);
     }
 
-    /// Establishes that the second hand doesn't hold a tag that the first holds. It makes no step.
+    /// Establishes that the second hand does not hold a tag that the first one holds. This makes no step.
     pub fn apart(&self, first: &mut Hand<R>, second: &mut Hand<R>, tag: u32)
         requires hands { IsHandOf self.now first.old × IsHandOf self.now second.old }
         requires held { Holds first.old tag }

@@ -1,4 +1,4 @@
-//! Each set with the agents of all hands, while the hands are taken apart: it is counted, or resized.
+//! One set with the agents of all hands, while the hands are taken apart: counting its tags in use, and resizing it.
 ghost use Rattle.std.specs.Prelude.{◌≡◌, ◌+◌, ◌≤◌, ◌<◌, ◌^◌, [], length, vec_capacity, All, IfOk, IfErr, IsOk};
 ghost use Rattle.step_ledger.specs.Views.{HasAll};
 ghost use Rattle.tag_layout.specs.declared.layout.TheConstants.{MAX_DEPTH};
@@ -32,7 +32,7 @@ pub(crate) struct OneSet<R> {
 }
 
 impl<R: Copy> OneSet<R> {
-    // The tags of both sets, and the hands put together again: at least as many as the tags have.
+    // Puts both sets and the hands together again. There are at least `count` hands, the number given to `open`.
     fn rejoin(self, ordinary: OneSet<R>, hands: &mut Vec<Hand<R>>, count: u32) -> Tags<R>
         requires numbers { agent_numbers self.agents.items ≡ agent_numbers ordinary.agents.items }
         requires fits { (layout_of self.queue).depth + (layout_of ordinary.queue).depth ≤ MAX_DEPTH }
@@ -66,7 +66,7 @@ impl<R: Copy> OneSet<R> {
         }
     }
 
-    // The same set; how many of its tags are held, and how many are posted.
+    // Returns the same set, and how many of its tags are held and how many posted.
     fn settle(queue: Queue<R>, agents: Vec<Agent<R>>, layout: Layout) -> (OneSet<R>, u64, u64)
         requires own { All (IsAgentOf queue) agents.items }
         requires every { HasAll (agent_numbers agents.items) (agents_of queue) }
@@ -94,7 +94,7 @@ impl<R: Copy> OneSet<R> {
         (set, held, posted)
     }
 
-    // The set with another depth; or why not, and the set as it was.
+    // Resizes the set to this depth, or returns the cause and the set as it was.
     fn resize(
         alloc: Global,
         queue: Queue<R>,
@@ -137,7 +137,7 @@ impl<R: Copy> OneSet<R> {
 }
 
 impl<R: Copy> Tags<R> {
-    /// The same sets and hands; how many tags of both sets are held, and how many are posted.
+    /// Returns the same sets, and how many of their tags are held and how many posted. The hands are unchanged.
     pub(crate) fn settle(self, hands: &mut Vec<Hand<R>>) -> (Tags<R>, u64, u64)
         requires own { All (IsHandOf self) hands.old.items }
         requires every { HasAll (numbers_of hands.old.items) (hands_of self) }
@@ -165,7 +165,8 @@ impl<R: Copy> Tags<R> {
         (tags, held + more_held, posted + more_posted)
     }
 
-    /// The ordinary set continues on a map of as many tags as the reserved ones leave of the total.
+    /// Resizes the ordinary set to the tags that the reserved ones leave of the total. No tag may be in use; it can
+    /// still fail because hands wait, or because memory runs out.
     pub(crate) fn go_on(
         self,
         alloc: Global,

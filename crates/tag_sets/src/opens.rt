@@ -1,4 +1,4 @@
-//! Two new sets of tags, and their hands.
+//! Opens two sets of tags with their hands.
 ghost use Rattle.std.specs.Prelude.{◌≡◌, ◌-◌, ◌^◌, ◌<◌, ◌≤◌, ◌↔◌, length, IfOk, IsSomeAnd};
 ghost use Rattle.tag_layout.specs.Layout.{HasShift};
 ghost use Rattle.tag_layout.specs.declared.layout.TheConstants.{MAX_DEPTH, MAX_SHIFT};
@@ -16,8 +16,9 @@ use tag_layout::{Layout, MAX_DEPTH};
 use tag_queue::{Agent, Options, Queue, SetFault};
 
 impl<R: Copy> Tags<R> {
-    /// Two sets of free tags, of which the first `reserved` are the reserved ones, with a slot of the value `fill` for each.
-    /// Without a shift each set has the default one of its own depth. The hands stand in the order of their numbers.
+    /// Opens two sets of `total` free tags together, at most 10,240, of which the first `reserved` are the reserved
+    /// ones. Each tag has a slot that contains `fill`. If the options have no shift, each set gets the default for its
+    /// own depth. The minimum shallow depth applies to the ordinary set. The hands are in the order of their numbers.
     pub fn open(
         alloc: Global,
         total: u32,
@@ -31,7 +32,7 @@ impl<R: Copy> Tags<R> {
             HasShift (total - reserved) options.shift (layout_of opened.0 Ordinary).shift) }
         ensures reserved_shift { IfOk result (λ opened. HasShift reserved options.shift (layout_of opened.0 Reserved).shift) }
 
-        // The causes are looked at in this order, and memory last.
+        // The causes are checked in this order, and memory comes last.
         ensures total { (result ≡ Err SetFault.TotalTooLarge) ↔ (MAX_DEPTH < total) }
         ensures reserved { (result ≡ Err SetFault.ReservedTooLarge) ↔ ((total ≤ MAX_DEPTH) × (total < reserved)) }
         ensures shift { (result ≡ Err SetFault.ShiftTooLarge)
@@ -74,7 +75,7 @@ impl<R: Copy> Tags<R> {
     }
 }
 
-// The layout of a set that is opened so.
+// Returns the layout of a set that was opened with this depth and these options.
 fn lay_out(depth: u32, options: Options) -> Layout
     requires { HasLayout depth options }
     ensures { IsLaidOut depth options result }
@@ -85,7 +86,7 @@ fn lay_out(depth: u32, options: Options) -> Layout
     layout
 }
 
-// The hands of these agents, in their order.
+// Puts hands together from these agents, in the same order.
 fn join<R>(
     alloc: Global,
     reserved_count: u32,

@@ -1,4 +1,4 @@
-//! Hands taken apart into the agents of both sets, and put together again.
+//! Takes hands apart into the agents of both sets, and puts them together again.
 ghost use Rattle.std.specs.Prelude.{◌≡◌, ◌≤◌, [], length, map, vec_capacity};
 ghost use Rattle.tag_sets.specs.Opening.{reserved_part, ordinary_part, AreParts};
 
@@ -8,7 +8,7 @@ use crate::tags::Tags;
 use tag_queue::Agent;
 
 impl<R> Rooms<R> {
-    /// The reserved agents and the ordinary ones of these hands, in order. The hands leave their room behind.
+    /// Takes the hands apart into reserved and ordinary agents, in order. The hands' vector keeps its capacity.
     pub(crate) fn part(self, hands: &mut Vec<Hand<R>>) -> (Vec<Agent<R>>, Vec<Agent<R>>)
         requires { length hands.old.items ≤ self.count }
         ensures reserved { result.0.items ≡ map reserved_part hands.old.items }
@@ -35,7 +35,7 @@ impl<R> Rooms<R> {
         (agents, others)
     }
 
-    /// The hands of these agents, in order, and the room that the agents leave behind.
+    /// Puts hands together from these agents, in order. The agents' vectors keep their capacity.
     pub(crate) fn unite(
         reserved_count: u32,
         mut agents: Vec<Agent<R>>,
@@ -70,7 +70,7 @@ impl<R> Rooms<R> {
 }
 
 impl<R: Copy> Tags<R> {
-    /// Lets both sets go, with all that lies in them and no totals.
+    /// Drops both sets with the values in their slots, without totals.
     pub fn discard(self) {
         let Tags {
             reserved,

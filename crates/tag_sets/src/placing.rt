@@ -1,4 +1,4 @@
-//! Where a hand's gets begin.
+//! Where a hand's gets start.
 ghost use Rattle.std.specs.Prelude.{◌≡◌};
 ghost use Rattle.tag_queue.specs.Placing.{hint_in_part};
 ghost use Rattle.tag_sets.specs.declared.kind.Kind.{Kind};
@@ -9,9 +9,9 @@ use crate::hand::Hand;
 use crate::tags::Tags;
 
 impl<R: Copy> Tags<R> {
-    /// Has the hand's next get in each set begin in its own part of it: at its number times the tags of the set, divided by the number
-    /// of hands. Every hint begins at the set's first tag, so threads meet there; hands placed apart meet only where their parts are
-    /// full. It makes no step.
+    /// Moves the hand's hint in each set to the start of its own part of the set: its number times the tags of the set,
+    /// divided by the number of hands. All hints start at the set's first tag, where threads would contend; once
+    /// placed, hands meet only when their parts are full. This makes no step.
     pub fn place(&self, hand: &mut Hand<R>)
         requires { IsHandOf self.now hand.old }
         ensures hand { IsHandOf self.now hand.new }

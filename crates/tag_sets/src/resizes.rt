@@ -1,4 +1,4 @@
-//! Resizes: the ordinary set continues with another number of tags.
+//! Resizes the ordinary set to another number of tags.
 ghost use Rattle.std.specs.Prelude.{◌≡◌, ◌↔◌, ◌≤◌, ℕ, length, All, IfOk, IfErr, IsOk, MatchOption};
 ghost use Rattle.step_ledger.specs.Views.{HasAll, IsLeastMissing};
 ghost use Rattle.tag_sets.specs.Hands.{IsHandOf, reserved_of};
@@ -14,19 +14,21 @@ use step_ledger::least_missing;
 use tag_layout::MAX_DEPTH;
 use tag_queue::ResizeCause;
 
-/// Why tags weren't resized, with all that was handed in.
+/// The reason why `resize` failed, with the tags and the hands that were passed in.
 #[derive(Drop)]
 pub struct TagsResizeFault<R> {
-    /// `DepthTooLarge`: the total is over 10,240 or below the number of reserved tags. `InUse` counts both sets.
+    /// `DepthTooLarge` also means that the total is below the number of reserved tags. `InUse` counts both sets.
     pub cause: ResizeCause,
     pub tags: Tags<R>,
-    /// In the order in which they were handed in.
+    /// In the order in which they were passed in.
     pub hands: Vec<Hand<R>>,
 }
 
 impl<R: Copy> Tags<R> {
-    /// All hands, handed in in any order, continue with `total` tags. The ordinary ones are new and free; the reserved ones
-    /// stay as they are. A refusal hands everything back.
+    /// Resizes the ordinary set so that there are `total` tags in both sets, and moves all hands to it. The ordinary
+    /// tags are new and free, and their slots contain the initial value; the reserved set is unchanged. All hands must
+    /// be passed in, in any order; no tag of either set may be held or posted, and no hand may wait. A refusal hands
+    /// everything back.
     pub fn resize(
         alloc: Global,
         tags: Tags<R>,
@@ -37,7 +39,7 @@ impl<R: Copy> Tags<R> {
         ensures ok { IfOk result (λ p. IsResized tags hands.items total p.0 p.1.items) }
         ensures may { IsOk result → MayResize tags hands.items total }
 
-        // The causes are looked at in this order, and memory last.
+        // The causes are checked in this order, and memory comes last.
         ensures missing { (n : ℕ) → IsRefusedAs result (ResizeCause.Missing n)
             ↔ IsLeastMissing (numbers_of hands.items) (hands_of tags) n }
         ensures too_deep { IsRefusedAs result ResizeCause.DepthTooLarge
@@ -60,7 +62,7 @@ impl<R: Copy> Tags<R> {
         }
     }
 
-    // The same tags; what prevents a resize, apart from waits and memory.
+    // Returns the same tags, and what prevents a resize, apart from waits and memory.
     fn obstacle(self, hands: &mut Vec<Hand<R>>, total: u32) -> (Tags<R>, Option<ResizeCause>)
         requires own { All (IsHandOf self) hands.old.items }
         requires few { length hands.old.items ≤ hands_of self }

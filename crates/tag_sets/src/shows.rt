@@ -1,4 +1,4 @@
-//! What the words of a set show.
+//! Shows the sizes and sums of a set.
 ghost use Rattle.std.specs.Prelude.{◌+◌, ◌*◌, ◌≤◌};
 ghost use Rattle.tag_layout.specs.Layout.{words};
 ghost use Rattle.tag_sets.specs.Hands.{IsHandOf, layout_of, step_count};
@@ -10,8 +10,8 @@ use crate::shown::Shown;
 use crate::tags::Tags;
 
 impl<R: Copy> Tags<R> {
-    /// The sizes of a set, and how many of its tags are busy and how many set aside. Each word is looked at once, and then its
-    /// cleared bits: while others step, the sums are of no single moment.
+    /// Returns the sizes of a set, and how many of its tags are busy and how many set aside. Each word is loaded once,
+    /// and then its cleared set; so while other hands act, the sums are not a snapshot of a single moment.
     pub fn show(&self, hand: &mut Hand<R>, kind: Kind) -> Shown
         requires hand { IsHandOf self.now hand.old }
         ensures hand { IsHandOf self.now hand.new }

@@ -1,4 +1,4 @@
-//! How tags come back where nobody may be woken.
+//! Clears that wake no sleeper, for callers that wake threads by their own means.
 ghost use Rattle.std.specs.Prelude.{◌≡◌, ◌+◌, ◌<◌, ◌≤◌, ◌↔◌, length, IfOk, IsOk, OnOk, OnErr};
 ghost use Rattle.tag_sets.specs.Sets.{kind_of};
 ghost use Rattle.tag_sets.specs.Hands.{reserved_of, total_of, IsHandOf, Holds, step_count};
@@ -13,7 +13,8 @@ use crate::tags::Tags;
 use tag_queue::TagFault;
 
 impl<R: Copy> Tags<R> {
-    /// As `clear`, but leaves it to the caller to wake those who sleep: it rings no bell, and links none.
+    /// Like `clear`, but wakes no sleeper, and so links nothing that does. It returns how many waiters it granted a
+    /// wakeup, and leaves waking them to the caller.
     pub fn clear_silently(&self, hand: &mut Hand<R>, tag: u32) -> Result<u32, TagFault>
         requires hand { IsHandOf self.now hand.old }
         ensures hand { IsHandOf self.now hand.new }
@@ -35,12 +36,13 @@ impl<R: Copy> Tags<R> {
         }
     }
 
-    /// As `clear_batch`, but leaves it to the caller to wake those who sleep: it rings no bell, and links none.
+    /// Like `clear_batch`, but wakes no sleeper, and so links nothing that does. It returns how many waiters it granted
+    /// a wakeup, and leaves waking them to the caller.
     pub fn clear_batch_silently(&self, hand: &mut Hand<R>, tags: &[u32]) -> Result<u32, TagFault>
         requires hand { IsHandOf self.now hand.old }
         ensures hand { IsHandOf self.now hand.new }
 
-        // The causes are looked at in this order, each for the whole list.
+        // The causes are checked in this order, each for the whole list.
         ensures bad_count { (result ≡ Err TagFault.BadCount) ↔ ¬ (CountsTags tags.now) }
         ensures no_such_tag { (result ≡ Err TagFault.NoSuchTag)
             ↔ (CountsTags tags.now × ¬ (AreOrdinary self.now tags.now)) }

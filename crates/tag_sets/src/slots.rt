@@ -1,4 +1,4 @@
-//! The values beside held tags, and how tags pass from hand to hand.
+//! The slots of held tags, and how tags pass from hand to hand.
 ghost use Rattle.std.specs.Prelude.{◌≡◌, ◌<◌, ◌≤◌, ◌↔◌, IfOk, IfErr, IsOk, OnOk, OnErr};
 ghost use mathlib.Core.Option.{some};
 ghost use Rattle.tag_sets.specs.Hands.{total_of, IsHandOf, Holds, slot_of};
@@ -10,7 +10,7 @@ use crate::tags::Tags;
 use tag_queue::TagFault;
 
 impl<R: Copy> Tags<R> {
-    /// The value in a held tag's slot.
+    /// Returns the value in the slot of a held tag.
     pub fn read(&self, hand: &mut Hand<R>, tag: u32) -> Result<R, TagFault>
         requires hand { IsHandOf self.now hand.old }
         ensures hand { IsHandOf self.now hand.new }
@@ -28,7 +28,7 @@ impl<R: Copy> Tags<R> {
         }
     }
 
-    /// Writes a held tag's slot, and returns its former value.
+    /// Writes the slot of a held tag, and returns its former value.
     pub fn write(&self, hand: &mut Hand<R>, tag: u32, value: R) -> Result<R, TagFault>
         requires hand { IsHandOf self.now hand.old }
         ensures hand { IsHandOf self.now hand.new }
@@ -46,7 +46,7 @@ impl<R: Copy> Tags<R> {
         }
     }
 
-    /// Hands a held tag on, with its slot, to whichever hand takes it first.
+    /// Gives up a held tag with its slot, so that another hand can `take` it. Whichever hand takes it first gets it.
     pub fn post(&self, hand: &mut Hand<R>, tag: u32) -> Result<(), TagFault>
         requires hand { IsHandOf self.now hand.old }
         ensures hand { IsHandOf self.now hand.new }
@@ -63,7 +63,7 @@ impl<R: Copy> Tags<R> {
         }
     }
 
-    /// Takes a posted tag, with its slot. `NotPosted` leaves the hand as it was but for one step in its list.
+    /// Takes a posted tag with its slot. `NotPosted` leaves the hand unchanged except for one step in its list.
     pub fn take(&self, hand: &mut Hand<R>, tag: u32) -> Result<(), TagFault>
         requires hand { IsHandOf self.now hand.old }
         ensures hand { IsHandOf self.now hand.new }

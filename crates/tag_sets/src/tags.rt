@@ -7,18 +7,18 @@ use crate::rooms::Rooms;
 use tag_layout::Layout;
 use tag_queue::Queue;
 
-/// Numbered slots for requests in two sets, which up to 64 hands share without a lock: the reserved tags are the first of
-/// the range, and the ordinary ones follow.
+/// Two sets of tags, each with a slot, shared by up to 64 hands without a lock. The reserved tags are the first of the
+/// range, and the ordinary ones follow.
 #[derive(Drop)]
 pub struct Tags<R> {
     pub(crate) reserved: Queue<R>,
     pub(crate) ordinary: Queue<R>,
-    /// Reserved tags, at most 10,240 together with the ordinary ones.
+    /// Number of reserved tags. Together with the ordinary ones there are at most 10,240.
     pub(crate) reserved_count: u32,
-    /// How the reserved tags are numbered in words, and the ordinary ones.
+    /// How the tags of each set are arranged in words.
     pub(crate) reserved_layout: Layout,
     pub(crate) ordinary_layout: Layout,
-    /// Room for the hands where they come together.
+    /// Room for the agents of the hands, for calls that take these apart.
     pub(crate) rooms: Rooms<R>,
     ghost reserved_is: { (layout_of reserved).depth ≡ reserved_count },
     ghost fits: { reserved_count + (layout_of ordinary).depth ≤ MAX_DEPTH },

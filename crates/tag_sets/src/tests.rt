@@ -1,4 +1,4 @@
-//! What no clause says: worked answers on both sides of the border between the sets, want of memory, and threads at work.
+//! What no clause says: worked examples on both sides of the border between the sets, no memory, and threads.
 mod calls;
 mod clears;
 mod crowd;

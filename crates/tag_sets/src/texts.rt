@@ -8,11 +8,11 @@ use crate::shown::Shown;
 use itoa::Buffer;
 use std::io::{Result, Write};
 
-/// Bytes in a line.
+/// Bytes in a line of a dump.
 const LINE_BYTES: usize = 16;
 
-/// Writes five lines: `depth=`, `busy=`, `cleared=`, `bits_per_word=` and `map_nr=`, each with its number. The only fault is
-/// the writer's, which may then have taken a part.
+/// Writes five lines: `depth=`, `busy=`, `cleared=`, `bits_per_word=` and `map_nr=`, each followed by its number. It
+/// fails only if the writer does, which may then have taken a part of the text.
 pub fn write_show<W: Write>(shown: &Shown, writer: &mut W) -> Result<()>
     ensures { OnOk result (Appends (W.contents writer.old) (W.contents writer.new) (shown_text shown.now)) }
 {
@@ -33,8 +33,9 @@ fn write_field<W: Write>(writer: &mut W, words: &[u8], number: u32) -> Result<()
     writer.write_all(buffer.format(number).as_bytes())
 }
 
-/// Writes the bytes in hexadecimal digits, sixteen in a line behind the offset of the first: a digit at a time, so hand it a
-/// buffered writer. The only fault is the writer's, which may then have taken a part.
+/// Writes the bytes in hexadecimal, sixteen in a line after the offset of the first, as `sbitmap_bitmap_show`
+/// (lib/sbitmap.c) does. It writes one digit at a time, so pass it a buffered writer. It fails only if the writer does,
+/// which may then have taken a part of the text.
 pub fn write_dump<W: Write>(bytes: &[u8], writer: &mut W) -> Result<()>
     ensures { OnOk result (Appends (W.contents writer.old) (W.contents writer.new) (dump_text bytes.now)) }
 {
@@ -77,7 +78,7 @@ fn write_end<W: Write>(writer: &mut W, count: usize, offset: usize) -> Result<()
     Ok(())
 }
 
-// The last digits of a number, the high one first.
+// Writes the last `width` hexadecimal digits of a number, the highest first.
 fn write_hex<W: Write>(writer: &mut W, number: u64, width: u32) -> Result<()>
     requires { width ≤ 8 }
     ensures { OnOk result (Appends (W.contents writer.old) (W.contents writer.new) (hex_digits width number)) }

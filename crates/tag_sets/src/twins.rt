@@ -1,4 +1,4 @@
-//! How many hands there are at most.
+//! At most as many hands exist as the tags were opened for.
 ghost use Rattle.std.specs.Prelude.{◌≡◌, ◌≤◌, length, All, MatchOption};
 ghost use Rattle.tag_sets.specs.Hands.{IsHandOf};
 ghost use Rattle.tag_sets.specs.Gathering.{hands_of, numbers_of, AreDistinct, AreTwins};
@@ -7,7 +7,8 @@ use crate::hand::Hand;
 use crate::tags::Tags;
 use step_ledger::Numbered;
 
-/// The places of two hands with one number, the earlier first, if there are any. Of 64 hands it compares 2,016 pairs.
+/// Returns the places of two hands with the same number, the earlier place first, or `None` if all numbers differ. It
+/// compares at most 2,016 pairs for 64 hands.
 fn twins<R>(hands: &[Hand<R>]) -> Option<(usize, usize)>
     ensures { MatchOption result (AreDistinct (numbers_of hands.now)) (λ places. AreTwins (numbers_of hands.now) places.0 places.1) }
 {
@@ -22,7 +23,8 @@ fn twins<R>(hands: &[Hand<R>]) -> Option<(usize, usize)>
 }
 
 impl<R: Copy> Tags<R> {
-    /// Establishes that there are no more hands than the tags were opened for: two of one number would differ where they meet.
+    /// Establishes that there are at most as many hands as the tags were opened for. If two of them had the same
+    /// number, `meet` would show that their numbers differ.
     pub(crate) fn tell_few(&self, mut hands: Vec<Hand<R>>) -> Vec<Hand<R>>
         requires { All (IsHandOf self.now) hands.items }
         ensures same { result ≡ hands }

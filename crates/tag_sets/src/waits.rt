@@ -1,4 +1,4 @@
-//! Waiting for an ordinary tag.
+//! Waits for an ordinary tag.
 ghost use Rattle.std.specs.Prelude.{◌≡◌, ◌+◌, ◌≤◌, ◌<◌, ◌↔◌, ◌∷◌, IfOk, IfErr, IfSome, IfNone, IsOk, IsSome, OnErr, None};
 ghost use Rattle.wake_book.specs.Waits.{active_at, index_at};
 ghost use Rattle.wake_book.specs.Book.{counted_by};
@@ -17,7 +17,8 @@ use tag_queue::{TagFault, Wakes};
 use wake_book::Left;
 
 impl<R: Copy> Tags<R> {
-    /// Enters the group of the hand's wait index, and returns its number, below 8.
+    /// Enters the wait group of the hand's wait index, advances that index, and returns the group, 0 to 7. `Waiting`
+    /// means that the hand is already in a group.
     pub fn prepare_wait(&self, hand: &mut Hand<R>) -> Result<u32, TagFault>
         requires hand { IsHandOf self.now hand.old }
         ensures hand { IsHandOf self.now hand.new }
@@ -28,7 +29,8 @@ impl<R: Copy> Tags<R> {
         self.ordinary.prepare_wait(&mut hand.ordinary)
     }
 
-    /// Leaves the group in which the hand stands: `Woken` if it used a grant, `Unwoken` if it found none.
+    /// Leaves the hand's wait group, and returns `Woken` if it used a grant there, `Unwoken` if it found none.
+    /// `NotWaiting` means that the hand is in no group.
     pub fn finish_wait<W: Wait>(&self, rt: &W, hand: &mut Hand<R>) -> Result<Left, TagFault>
         requires hand { IsHandOf self.now hand.old }
         ensures hand { IsHandOf self.now hand.new }
@@ -40,8 +42,8 @@ impl<R: Copy> Tags<R> {
         self.ordinary.finish_wait(rt, &mut hand.ordinary)
     }
 
-    /// As `finish_wait`, by one try, so that it returns at once and takes no `rt`. `None` says that the group's word changed
-    /// meanwhile, and that the hand stands there still.
+    /// Like `finish_wait`, but makes one try only, and so needs no `rt`. `None` means that the group's word changed
+    /// meanwhile and that the hand is still in the group.
     pub fn try_finish_wait(&self, hand: &mut Hand<R>) -> Result<Option<Left>, TagFault>
         requires hand { IsHandOf self.now hand.old }
         ensures hand { IsHandOf self.now hand.new }
@@ -54,7 +56,7 @@ impl<R: Copy> Tags<R> {
         self.ordinary.try_finish_wait(&mut hand.ordinary)
     }
 
-    /// What the hand finds of the counts and of the groups, by four loads at four moments.
+    /// Loads the counts of the ordinary set and the state of its wait groups, in four loads at different moments.
     pub fn wakes(&self, hand: &mut Hand<R>) -> Wakes
         requires hand { IsHandOf self.now hand.old }
         ensures hand { IsHandOf self.now hand.new }
@@ -68,12 +70,14 @@ impl<R: Copy> Tags<R> {
         self.ordinary.wakes(&mut hand.ordinary)
     }
 
-    /// Takes a free ordinary tag as `get` does, and waits while it finds none. Nothing promises that it returns.
+    /// Takes a free ordinary tag like `get`, and waits as long as it finds none. Nothing promises that it returns.
+    /// `NoSuchTag` means that there are no ordinary tags, `Waiting` that the hand is already in a wait group, `Spent`
+    /// that its life in the ordinary set is used up.
     pub fn get_blocking<W: Wait>(&self, rt: &W, hand: &mut Hand<R>) -> Result<u32, TagFault>
         requires hand { IsHandOf self.now hand.old }
         ensures hand { IsHandOf self.now hand.new }
 
-        // The causes are looked at in this order.
+        // The causes are checked in this order.
         ensures no_such_tag { (result ≡ Err TagFault.NoSuchTag) ↔ (total_of self.now ≡ reserved_of self.now) }
         ensures waiting { (result ≡ Err TagFault.Waiting)
             ↔ ((reserved_of self.now < total_of self.now) × IsSome (standing_of hand.old)) }

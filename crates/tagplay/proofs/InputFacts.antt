@@ -1,4 +1,4 @@
--- What a reader has given in several reads, and where reading stopped.
+-- What a reader has given after several reads, and when reading stops.
 use Rattle.std.proofs.Common.{◌≡◌, ◌≢◌, ℕ, ◌+◌, ◌<◌, ◌≤◌, List, [], ◌∷◌, ◌++◌, length, Option, Some, None, refl, sym, ap, ◌∙◌, append_assoc, arith}
 use Rattle.std.proofs.lemmas.List.{length-append}
 use Rattle.std.specs.Io.KnownBytes.{Consumes}
@@ -7,7 +7,7 @@ use Rattle.tagplay.specs.declared.fault.RunFault.{RunFault}
 use Rattle.tagplay.specs.declared.fault.RunFault.TheVariants.{TooLong}
 use Rattle.tagplay.specs.Input.{Reads, Stops}
 
--- two reads, one after the other
+-- two reads in a row give the concatenation of their bytes
 pub consumes_both : (before between after : Option (List ℕ)) (front part : List ℕ)
     → Consumes before between front → Consumes between after part → Consumes before after (front ++ part)
 consumes_both None between after front part first second = tt
@@ -16,7 +16,7 @@ consumes_both (Some xs) (Some ys) None front part first second = absurd second
 consumes_both (Some xs) (Some ys) (Some zs) front part first second =
     first ∙ ap (λ rest. front ++ rest) second ∙ sym (append_assoc front part zs)
 
--- a second read that gives nothing
+-- a second read that gives nothing adds nothing
 pub consumes_once : (before between after : Option (List ℕ)) (front part : List ℕ)
     → Consumes before between front → Consumes between after part → length part ≡ 0 → Consumes before after front
 consumes_once None between after front part first second none = tt
@@ -25,7 +25,7 @@ consumes_once (Some xs) (Some ys) None front part first second none = absurd sec
 consumes_once (Some xs) (Some ys) (Some zs) front [] first second none = first ∙ ap (λ rest. front ++ rest) second
 consumes_once (Some xs) (Some ys) (Some zs) front (b ∷ part) first second none = absurd (omega arith)
 
--- bytes that are not too many, and another fault
+-- bytes within the size limit, and a fault other than `TooLong`
 pub stops_short : (fault : RunFault) (before after : Option (List ℕ)) (bytes : List ℕ)
     → Reads before after bytes → fault ≢ TooLong → Stops fault before after
 stops_short fault before after bytes reads other = record {
@@ -34,7 +34,7 @@ stops_short fault before after bytes reads other = record {
   too_long = (λ e. absurd (other e), λ long. absurd (omega (arith, reads.short, long)));
 }
 
--- two reads that gave too much
+-- two reads that together exceed the size limit stop with `TooLong`
 pub stops_long : (before between after : Option (List ℕ)) (front part : List ℕ)
     → Consumes before between front → Consumes between after part → MAX_INPUT < length front + length part
     → Stops TooLong before after
@@ -44,7 +44,7 @@ stops_long before between after front part first second long = record {
   too_long = (λ e. rw (length-append front part) long, λ more. refl);
 }
 
--- two reads that gave no more than the most
+-- two reads that together stay within the size limit
 pub reads_both : (before between after : Option (List ℕ)) (front part : List ℕ)
     → Consumes before between front → Consumes between after part → length front + length part ≤ MAX_INPUT
     → Reads before after (front ++ part)

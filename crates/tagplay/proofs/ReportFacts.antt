@@ -1,4 +1,4 @@
--- What a log is answered, by what was read of it and what its play came to.
+-- The output for a log, from what was read of it and the outcome of its play.
 use Rattle.std.proofs.Common.{◌≡◌, ◌≢◌, ◌↔◌, ℕ, List, [], ◌++◌, Result, Ok, Err, refl, sym, ap, subst, ◌∙◌}
 use Rattle.loop_device.specs.declared.fault.LogCause.TheVariants as causes
 use Rattle.loop_device.specs.declared.fault.LogFault.{LogFault}
@@ -13,11 +13,11 @@ use Rattle.tag_script.specs.declared.ending.Ending.TheVariants.{Done, Refused}
 use Rattle.tagplay.specs.declared.play_options.PlayOptions.{PlayOptions}
 use Rattle.tagplay.specs.Reports.{Reports, faulty, played, setup_of, log_fault_text, play_fault_text, report_text}
 
--- the setup of the options is refused exactly where it is not legal
+-- the outcome is a refused setup exactly if the setup is not legal
 abbrev pub RefusesSetup : PlayOptions → Result Report PlayFault → Type 0
 RefusesSetup o outcome = (outcome ≡ Err Setup) ↔ ¬ (IsLegal (setup_of o))
 
--- another fault than want of memory
+-- an outcome with another fault than memory
 other_outcome : (fault : PlayFault) (outcome : Result Report PlayFault)
     → outcome ≡ Err fault → fault ≢ Memory → outcome ≢ Err Memory
 other_outcome Memory outcome is other e = absurd (other refl)
@@ -26,7 +26,7 @@ other_outcome (Lost line) outcome is other e = cc
 other_outcome (Twice line) outcome is other e = cc
 other_outcome Stranger outcome is other e = cc
 
--- the line of the first fault
+-- the line of the log's first fault is its output
 pub owes_line : (o : PlayOptions) (input before text : List ℕ) (fault : LogFault)
     → IsLogFault input fault → fault.cause ≢ causes.Memory → before ≡ []
     → text ≡ before ++ log_fault_text fault → Reports o input text Refused
@@ -34,7 +34,7 @@ owes_line o input before text fault is other none text_is =
     let same : text ≡ log_fault_text fault = text_is ∙ ap (λ front. front ++ log_fault_text fault) none in
     subst (λ t. Reports o input t Refused) (sym same) (faulty fault is other)
 
--- the report of a play that went well
+-- the report of a completed play is its output
 pub owes_report : (o : PlayOptions) (input before text : List ℕ) (log : Log) (report : Report)
     (outcome : Result Report PlayFault) → IsLogOf input log → outcome ≡ Ok report
     → IsPlayed log.ios.items report → RefusesSetup o outcome → before ≡ [] → text ≡ before ++ report_text log report
@@ -48,7 +48,7 @@ owes_report o input before text log report outcome spelt is played_well refuses 
       no_memory = λ e. cc;
     }))
 
--- the line of a play's fault
+-- the line of a play's fault is its output
 pub owes_fault : (o : PlayOptions) (input before text : List ℕ) (log : Log) (fault : PlayFault)
     (outcome : Result Report PlayFault) → IsLogOf input log → outcome ≡ Err fault → fault ≢ Memory
     → RefusesSetup o outcome

@@ -1,16 +1,16 @@
--- What the reader has given where reading ended.
+-- What the reader has given when reading ended.
 use Rattle.std.specs.Prelude.{◌≡◌, ◌↔◌, ℕ, ◌<◌, ◌≤◌, List, length, Option}
 use Rattle.std.specs.Io.KnownBytes.{Consumes}
 use Rattle.tag_lines.specs.declared.lines.TheConstants.{MAX_INPUT}
 use Rattle.tagplay.specs.declared.fault.RunFault.{RunFault}
 use Rattle.tagplay.specs.declared.fault.RunFault.TheVariants.{TooLong}
 
--- the reader gave these bytes, and they are not too many
+-- the reader gave these bytes, at most `MAX_INPUT` of them
 pub record Reads (before after : Option (List ℕ)) (bytes : List ℕ) : Type 0 where
   pub consumed : Consumes before after bytes
   pub short : length bytes ≤ MAX_INPUT
 
--- the reader gave some bytes before the fault, too many exactly where that is the fault
+-- the reader gave some bytes before the fault, more than `MAX_INPUT` exactly if the fault is `TooLong`
 pub record Stops (fault : RunFault) (before after : Option (List ℕ)) : Type 0 where
   pub taken : List ℕ
   pub consumed : Consumes before after taken

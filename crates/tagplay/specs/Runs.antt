@@ -1,4 +1,4 @@
--- What a run writes: the text that its input is owed.
+-- What a run writes: an output that its input specifies.
 use Rattle.std.specs.Prelude.{◌≡◌, ℕ, ◌≤◌, List, length, Option, IfSome, codes}
 use Rattle.std.specs.Io.KnownBytes.{Appends}
 use Rattle.tag_lines.specs.declared.lines.TheConstants.{MAX_INPUT}
@@ -9,19 +9,19 @@ use Rattle.tagplay.specs.declared.choice.Choice.{Choice}
 use Rattle.tagplay.specs.declared.choice.Choice.TheVariants.{Script, Check, Play}
 use Rattle.tagplay.specs.Reports.{Reports}
 
--- the subcommand's name
+-- the name of the subcommand, as it is typed
 abbrev pub name_of : Choice → List ℕ
 name_of (Script options) = codes "script"
 name_of (Check options) = codes "check"
 name_of (Play options) = codes "play"
 
--- what the run that was chosen owes
+-- the outputs that the chosen subcommand may give for an input
 abbrev pub owed_by : Choice → List ℕ → List ℕ → Ending → Type 0
 owed_by (Script options) = Owed options
 owed_by (Check options) = Tells options
 owed_by (Play options) = Reports options
 
--- the text is owed to some bytes, which are the reader's where those are known
+-- the text is an output for some bytes within the size limit, and these are the reader's bytes if those are known
 pub record Answers (owes : List ℕ → List ℕ → Ending → Type 0) (input : Option (List ℕ)) (text : List ℕ)
     (ending : Ending)
     : Type 0 where
@@ -30,7 +30,7 @@ pub record Answers (owes : List ℕ → List ℕ → Ending → Type 0) (input :
   pub read : IfSome input (λ known. bytes ≡ known)
   pub owed : owes bytes text ending
 
--- what the writer gained is such a text
+-- what was appended to the writer's contents is such a text
 pub record Writes (owes : List ℕ → List ℕ → Ending → Type 0) (input before after : Option (List ℕ)) (ending : Ending)
     : Type 0 where
   pub text : List ℕ

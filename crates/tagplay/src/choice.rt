@@ -9,19 +9,19 @@ use crate::play_options::PlayOptions;
 use clap::ArgMatches;
 use tag_script::{CheckOptions, ScriptOptions};
 
-/// What a command line asks for.
+/// A subcommand with its options.
 #[derive(Clone, Copy, Debug, PartialEq, Eq)]
 pub enum Choice {
-    /// A script is carried out.
+    /// Carry out a script.
     Script(ScriptOptions),
-    /// A list of events is checked.
+    /// Check a list of events.
     Check(CheckOptions),
-    /// A log is played.
+    /// Play a log.
     Play(PlayOptions),
 }
 
 impl Choice {
-    /// The run that the subcommand names, with its options.
+    /// Returns the subcommand given, with its options, or `None` if it is none of the three.
     pub(crate) fn named(matches: &ArgMatches) -> Option<Choice>
         ensures named { IfSome result (λ choice. subcommand_name_of matches.now ≡ Some (name_of choice)) }
         ensures none { IsNone result → (choice : Choice) → ¬ (subcommand_name_of matches.now ≡ Some (name_of choice)) }

@@ -1,4 +1,4 @@
-//! From the words of a command line to the run that they ask for.
+//! Parses a command line and runs the subcommand that it names.
 ghost use Rattle.std.specs.Prelude.{◌≡◌, IfOk};
 ghost use Rattle.tagplay.specs.declared.choice.Choice.{Choice as Chosen};
 ghost use Rattle.tagplay.specs.Runs.{owed_by, Writes};
@@ -16,7 +16,7 @@ use std::sync::Wait;
 use std::thread::Threads;
 use tag_script::Ending;
 
-/// The words of the process's own command line.
+/// Returns the arguments of the process, starting with the program's name. One that is not UTF-8 is a `Memory` fault.
 pub(crate) fn words<R: AllocGlobal + Env>(rt: &R) -> Result<Vec<String>, RunFault> {
     match env::args(rt) {
         Ok(args) => args.collect(rt.alloc()).map_err(|_| RunFault::Memory),
@@ -24,7 +24,7 @@ pub(crate) fn words<R: AllocGlobal + Env>(rt: &R) -> Result<Vec<String>, RunFaul
     }
 }
 
-/// Runs what the words ask for. Help goes to standard output, a mistake of the words to standard error.
+/// Runs the subcommand that `words` name. Help goes to standard output, a usage error to standard error.
 pub(crate) fn play<
     P: AllocGlobal + Print + Eprint + Threads + Wait + Sync,
     S: AsStr,
@@ -40,7 +40,7 @@ pub(crate) fn play<
         .map_err(Stop::Run)
 }
 
-/// What the words ask for.
+/// Parses `words`. Help, the version and usage errors are printed here, and end in `Stop::CommandLine`.
 pub(crate) fn chosen<P: AllocGlobal + Print + Eprint, S: AsStr>(
     rt: &P,
     words: &[S],

@@ -1,20 +1,20 @@
-//! Why a run gave no answer.
+//! Faults of a run.
 
 use thiserror::Error;
 
-/// Why a run gave no answer.
+/// Why a run failed.
 #[derive(Debug, PartialEq, Eq, Drop, Error)]
 pub enum RunFault {
-    /// There was no memory for it. Nothing was written.
+    /// Out of memory. Nothing was written.
     #[error("out of memory")]
     Memory,
     /// The reader failed. Nothing was written.
     #[error("read fault")]
     Read,
-    /// The writer failed. Nothing is said of how much went out.
+    /// The writer failed. Any part of the output may have been written.
     #[error("write fault")]
     Write,
-    /// The input has more than 16,777,216 bytes. Nothing was written.
+    /// The input is longer than 16,777,216 bytes. Nothing was written.
     #[error("input too long")]
     TooLong,
 }

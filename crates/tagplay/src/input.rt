@@ -1,4 +1,4 @@
-//! Input, read whole.
+//! Reading the whole input.
 ghost use Rattle.std.specs.Prelude.{◌≡◌, ◌≢◌, ◌≤◌, vec_len, IfOk, IfErr, IfSome};
 ghost use Rattle.tagplay.specs.Input.{Reads, Stops};
 
@@ -7,10 +7,10 @@ use std::alloc::Global;
 use std::io::Read;
 use tag_lines::MAX_INPUT;
 
-/// Bytes asked of the reader at a time.
+/// Bytes requested from the reader per call.
 const PIECE: usize = 16_384;
 
-/// All that the reader gives. Any error of the reader is `Read`, an interruption too.
+/// Reads to the end of the input. Any error of the reader is `Read`, an interruption too: there is no retry.
 pub(crate) fn read_whole<R: Read>(alloc: Global, reader: &mut R) -> Result<Vec<u8>, RunFault>
     ensures whole { IfOk result (λ input. IfSome (R.remaining reader.old) (λ bytes. input.items ≡ bytes)) }
     ensures short { IfOk result (λ input. vec_len input ≤ MAX_INPUT) }

@@ -1,4 +1,4 @@
-//! What a log is answered: its first faulty line, otherwise the outcome of its play.
+//! The output for a log: the line of its first fault, otherwise the outcome of its play.
 ghost use Rattle.std.specs.Prelude.{◌≡◌, [], IfOk};
 ghost use Rattle.tagplay.specs.Reports.{Reports};
 
@@ -10,7 +10,7 @@ use std::sync::Wait;
 use std::thread::Threads;
 use tag_script::Ending;
 
-/// The output that the input specifies, and whether it is a refusal.
+/// Returns the output that `input` specifies, and whether it is a refusal. `AllocError` if memory runs out.
 pub(crate) fn answer_log<T: Threads + Wait + Sync>(
     rt: &T,
     alloc: Global,
@@ -24,7 +24,7 @@ pub(crate) fn answer_log<T: Threads + Wait + Sync>(
     Ok((text, ending))
 }
 
-// All lines are read before any is carried out.
+// The whole log is read before any line is carried out, so a malformed log has no partial play.
 fn push_owed<T: Threads + Wait + Sync>(
     rt: &T,
     alloc: Global,

@@ -1,4 +1,4 @@
-//! The program: scripts, lists of events and I/O logs in, texts out.
+//! The program: it answers scripts, lists of events and I/O logs.
 #![tactic(auto)]
 
 mod choice;

@@ -4,10 +4,10 @@ use clap::{Arg, ArgAction, ArgMatches, Command, value_parser};
 use std::alloc::{AllocError, Global};
 use tag_script::{CheckOptions, ScriptOptions};
 
-/// How many tags a caller may win where nothing else is asked for: 2^48.
+/// Default for the most tags that a caller may win, 2^48.
 const DEFAULT_LIFE: u64 = 281_474_976_710_656;
 
-/// The command line that the program takes.
+/// Returns the parser of the command line.
 pub(crate) fn command<'a>(alloc: Global) -> Result<Command<'a>, AllocError> {
     let script = Command::new(alloc, "script")
         .about(
@@ -84,7 +84,7 @@ fn play_command<'a>(alloc: Global) -> Result<Command<'a>, AllocError> {
     Ok(play)
 }
 
-/// The options that a command line of `script` gives.
+/// Returns the options of a `script` command line.
 pub(crate) fn script_options(matches: &ArgMatches) -> ScriptOptions {
     ScriptOptions {
         tags: matches.get_one::<u32>("tags").unwrap_or(0),
@@ -98,7 +98,7 @@ pub(crate) fn script_options(matches: &ArgMatches) -> ScriptOptions {
     }
 }
 
-/// The options that a command line of `check` gives.
+/// Returns the options of a `check` command line.
 pub(crate) fn check_options(matches: &ArgMatches) -> CheckOptions {
     CheckOptions {
         tags: matches.get_one::<u32>("tags").unwrap_or(0),
@@ -107,7 +107,7 @@ pub(crate) fn check_options(matches: &ArgMatches) -> CheckOptions {
     }
 }
 
-/// The options that a command line of `play` gives.
+/// Returns the options of a `play` command line.
 pub(crate) fn play_options(matches: &ArgMatches) -> PlayOptions {
     PlayOptions {
         tags: matches.get_one::<u32>("tags").unwrap_or(0),
@@ -138,7 +138,7 @@ fn shift<'a>(alloc: Global) -> Arg<'a> {
         )
 }
 
-// An option that has a number, and a default for it.
+// Returns an option that takes a number and has a default.
 fn count<'a>(
     alloc: Global,
     name: &'static str,

@@ -7,22 +7,22 @@ use loop_device::Setup;
 /// How `run_play` plays a log.
 #[derive(Clone, Copy, Debug, PartialEq, Eq)]
 pub struct PlayOptions {
-    /// Tags in all, at most 10,240.
+    /// Number of tags, reserved ones included, at most 10,240.
     pub tags: u32,
-    /// Reserved tags, the first of them, fewer than there are in all. No line is carried out under one.
+    /// Number of reserved tags, the lowest ones, less than `tags`. No line is carried out under one.
     pub reserved: u32,
-    /// Binary logarithm of the bits in a whole word, at most 6. Without one, each set of tags has the default for its depth.
+    /// Binary logarithm of the bits in a whole word, at most 6. `None` selects the default of each set's depth.
     pub shift: Option<u32>,
-    /// Threads that submit, 1 to 16.
+    /// Number of submitting threads, 1 to 16.
     pub submitters: u32,
-    /// Threads that complete, 1 to 16.
+    /// Number of completing threads, 1 to 16.
     pub completers: u32,
-    /// Tags for which the device queue has room, 1 to 10,240.
+    /// Capacity of the device queue: the most lines that wait for a completer, 1 to 10,240.
     pub queue: u32,
 }
 
 impl PlayOptions {
-    // The setup that they ask for, legal or not.
+    // Returns the setup with these options, legal or not.
     pub(crate) fn setup(&self) -> Setup
         ensures { result ≡ setup_of self.now }
     {

@@ -10,7 +10,7 @@ use std::alloc::AllocError;
 use tag_lines::LINE_FEED;
 use tag_model::Totals;
 
-/// Adds the report on a log that was played.
+/// Appends the report on a log that was played.
 pub(crate) fn push_report(text: &mut Vec<u8>, log: &Log, report: &Report) -> Result<(), AllocError>
     ensures ok { OnOk result (text.new.items ≡ text.old.items ++ report_text log.now report.now) }
 {
@@ -20,7 +20,7 @@ pub(crate) fn push_report(text: &mut Vec<u8>, log: &Log, report: &Report) -> Res
     push_totals(text, report.totals)
 }
 
-// Adds the number of lines of each kind that were carried out.
+// Appends the number of lines carried out, by kind.
 fn push_kinds(text: &mut Vec<u8>, done: &[Done]) -> Result<(), AllocError>
     ensures ok { OnOk result (text.new.items ≡ text.old.items ++ kinds_lines done.now) }
 {
@@ -31,7 +31,7 @@ fn push_kinds(text: &mut Vec<u8>, done: &[Done]) -> Result<(), AllocError>
     push_line(text, b"datasyncs=", count_of(done, IoKind::Datasync))
 }
 
-// Adds the totals of the tags.
+// Appends the totals of the tags.
 fn push_totals(text: &mut Vec<u8>, totals: Totals) -> Result<(), AllocError>
     ensures ok { OnOk result (text.new.items ≡ text.old.items ++ totals_lines totals) }
 {
@@ -41,7 +41,7 @@ fn push_totals(text: &mut Vec<u8>, totals: Totals) -> Result<(), AllocError>
     push_line(text, b"posted=", totals.posted)
 }
 
-/// Adds the line that reports a faulty line of a log.
+/// Appends the line that reports a malformed line of a log.
 pub(crate) fn push_log_fault(text: &mut Vec<u8>, fault: LogFault) -> Result<(), AllocError>
     ensures ok { OnOk result (text.new.items ≡ text.old.items ++ log_fault_text fault) }
 {
@@ -49,7 +49,7 @@ pub(crate) fn push_log_fault(text: &mut Vec<u8>, fault: LogFault) -> Result<(), 
     push_line(text, b" refused ", fault.cause.number())
 }
 
-/// Adds the line that says why a log was not played. Running out of memory has none.
+/// Appends the line that says why a log was not played. `PlayFault::Memory` has no line: it returns `AllocError`.
 pub(crate) fn push_play_fault(text: &mut Vec<u8>, fault: PlayFault) -> Result<(), AllocError>
     ensures ok { OnOk result (text.new.items ≡ text.old.items ++ play_fault_text fault) }
     ensures told { OnOk result (fault ≢ PlayFault.Memory) }
@@ -69,7 +69,7 @@ pub(crate) fn push_play_fault(text: &mut Vec<u8>, fault: PlayFault) -> Result<()
     }
 }
 
-// How many items carry a line of the kind out.
+// Counts the items that carry out a line of this kind.
 fn count_of(done: &[Done], kind: IoKind) -> u64
     ensures { result ≡ count_of kind done.now }
 {
@@ -96,7 +96,7 @@ fn number_of(kind: IoKind) -> u8
     }
 }
 
-// Adds words, a number after them, and the end of the line.
+// Appends words, a number and a line feed.
 fn push_line(text: &mut Vec<u8>, words: &[u8], number: u64) -> Result<(), AllocError>
     ensures ok { OnOk result (text.new.items ≡ text.old.items ++ line_of words.now number) }
 {
@@ -105,7 +105,7 @@ fn push_line(text: &mut Vec<u8>, words: &[u8], number: u64) -> Result<(), AllocE
     Ok(())
 }
 
-// Adds words, and a number after them.
+// Appends words and a number.
 fn push_field(text: &mut Vec<u8>, words: &[u8], number: u64) -> Result<(), AllocError>
     ensures ok { OnOk result (text.new.items ≡ text.old.items ++ field words.now number) }
 {

@@ -1,4 +1,4 @@
-//! Runs: the input is read whole, then answered, and then the text is written.
+//! The three runs. Each reads its whole input, then computes the output, then writes it.
 ghost use Rattle.std.specs.Prelude.{◌≡◌, ◌≢◌, IfOk, IfErr, IsErrOf};
 ghost use Rattle.tag_script.specs.Check.{Tells};
 ghost use Rattle.tag_script.specs.Script.{Owed};
@@ -18,7 +18,7 @@ use std::thread::Threads;
 use tag_script::{CheckOptions, Ending, ScriptOptions, answer_script, verdict_on};
 
 impl Choice {
-    /// Makes the run that was chosen.
+    /// Runs the chosen subcommand.
     pub(crate) fn run<T: Threads + Wait + Sync, R: Read, W: Write>(
         &self,
         rt: &T,
@@ -40,8 +40,8 @@ impl Choice {
     }
 }
 
-/// Reads a script, a command a line, and writes what the commands answer, a line or more each, with the totals at the
-/// end.
+/// Reads a script, one command per line, and writes the answers, at least one line for each command, and the totals
+/// at the end.
 pub fn run_script<T: Wait, R: Read, W: Write>(
     rt: &T,
     alloc: Global,
@@ -65,8 +65,8 @@ pub fn run_script<T: Wait, R: Read, W: Write>(
     }
 }
 
-/// Reads a list of events, a line each, and writes whether it is possible: `ok` with the totals, or the line of the first
-/// event that can't happen, and why.
+/// Reads a list of events, one per line, and writes whether it is possible: `ok` with the totals, or the number of the
+/// first event that cannot happen and the reason.
 pub fn run_check<R: Read, W: Write>(
     alloc: Global,
     options: &CheckOptions,
@@ -93,8 +93,8 @@ pub fn run_check<R: Read, W: Write>(
     }
 }
 
-/// Reads a fio log, carries out its I/O lines on a device in memory by threads that share tags, and writes the report: what
-/// was carried out and the totals of the tags; or the line that says what is wrong.
+/// Reads a fio log and carries out its I/O lines on a device in memory, by threads that share tags. Writes the report,
+/// which counts the lines carried out and the tags, or one line that says what is wrong.
 pub fn run_play<T: Threads + Wait + Sync, R: Read, W: Write>(
     rt: &T,
     alloc: Global,

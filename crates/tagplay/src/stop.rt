@@ -5,16 +5,16 @@ ghost use Rattle.tagplay.specs.Status.{status_of};
 use crate::fault::RunFault;
 use tag_script::Ending;
 
-/// Why no run ended.
+/// Why the program ended without a completed run.
 #[derive(Debug, PartialEq, Eq, Drop)]
 pub(crate) enum Stop {
-    /// The command line asks for help, for the version, or for what there isn't. This is the exit status.
+    /// The command line asked for help or the version (status 0), or was not accepted (2).
     CommandLine(u8),
-    /// The run's own fault.
+    /// The run itself failed.
     Run(RunFault),
 }
 
-/// The exit status: 0 done, help or the version; 1 refused; 2 a mistake of the command line; 3 a fault of the run.
+/// Returns the exit status: 0 done, help or the version; 1 refused; 2 a usage error; 3 a fault of the run.
 pub(crate) fn status(outcome: &Result<Ending, Stop>) -> u8
     ensures { result ≡ status_of outcome.now }
 {

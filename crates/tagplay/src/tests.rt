@@ -1,4 +1,4 @@
-//! Tests of what no clause says.
+//! Tests of what no clause states.
 mod command_lines;
 mod ends;
 mod plays;

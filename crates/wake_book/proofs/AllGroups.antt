@@ -1,4 +1,4 @@
--- What all groups and all waiters of a lawful history add up to.
+-- Sums over all groups and all waiters of a lawful history.
 use Rattle.std.proofs.Common.{◌≡◌, ℕ, ◌+◌, ◌^◌, ◌≤◌, [], ◌∷◌}
 use Rattle.std.proofs.Common.{nat_eq, cond, arith, refl, sym, ◌∙◌}
 use mathlib.Core.Logic.{dite}
@@ -50,7 +50,7 @@ module _ (n : ℕ) where
       let s = sum_two (λ g. total_all (used g) (x ∷ h)) (λ g. used g x.1) (λ g. total_all (used g) h) 8 (λ g. refl) in
       omega arith
 
-  -- what was moved is used or stands granted
+  -- each waiter moved to granted has used its grant, or the grant is still unused
   pub all_issued : n ≤ 64 → (h : Hist) → Ok n h → total_all moved_by h ≡ total_all used_by h
       + sum_to (λ g. granted (word (words_in h) g)) 8
   all_issued few h l = let m = all_moved h l in let u = all_used h l in
@@ -72,7 +72,7 @@ module _ (n : ℕ) where
   moved_step c (Withdraw u old f) h can o = omega arith
   moved_step c (Store v) h can o = omega arith
 
-  -- no waiter moves more than its cap
+  -- no waiter moves more than 2^56
   pub moved_capped : (h : Hist) → Ok n h → (c : ℕ) → total moved_by (own_steps c h) ≤ 2 ^ 56
   moved_capped h l c = each n (λ s. total moved_by s ≤ 2 ^ 56) (omega arith) moved_step h l c
 
@@ -88,6 +88,6 @@ module _ (n : ℕ) where
   stands_up c (Withdraw u old f) h can o e = let at = can.3 in o (omega arith)
   stands_up c (Store v) h can o e = o e
 
-  -- who stands has raised the active count
+  -- a waiter that is in a group has raised the active count
   pub who_stands : (h : Hist) → Ok n h → (c : ℕ) → 1 ≤ stand (own_steps c h) → raised (own_steps c h) ≡ 1
   who_stands h l c = each n (λ s. 1 ≤ stand s → raised s ≡ 1) (λ e. absurd (omega arith)) stands_up h l c

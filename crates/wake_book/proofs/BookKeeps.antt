@@ -1,4 +1,4 @@
--- Each kind of step on the book keeps its rule, and tells what it tells.
+-- Each kind of step on the book preserves its rule, and the teller learns from it what its play says.
 use Rattle.std.proofs.Common.{◌≡◌, ℕ, ◌+◌, ◌*◌, ◌%◌, ◌^◌, ◌<◌, ◌≤◌, List, ◌∷◌, set, eqb, arith, refl, sym, ap, ◌∙◌}
 use Rattle.std.proofs.Common.{subst}
 use mathlib.Core.Option.{none}

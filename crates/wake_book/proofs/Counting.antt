@@ -1,4 +1,4 @@
--- What a lawful history of the book says.
+-- Facts about the lawful histories of a book.
 use Rattle.std.proofs.Common.{◌≡◌, ◌≢◌, ℕ, zero, suc, ◌+◌, ◌-◌, ◌*◌, ◌<◌, ◌≤◌, List, [], ◌∷◌, length, get_or, Bool}
 use Rattle.std.proofs.Common.{cond, min, arith, refl, sym, ap, ◌∙◌, subst, eq-eqb, ne_eqb, length-set, get_or-set_same}
 use Rattle.std.proofs.Common.{get_or-set_other}
@@ -100,7 +100,7 @@ module _ (k : Limits) where
       (count_step x.0 x.1 h l.1 (ih x.0))))
       (λ (ne : c ≢ x.0). subst (λ (z : List BookStep). total added z ≤ k.cap) (sym (own_else c x.0 x.1 h ne)) (ih c))
 
-  -- counted is the sum of the tellers' counts
+  -- the completions are the sum of the tellers' counts
   pub counted : (h : Hist) → Ok h → sum_to (λ c. own_count c h) k.tellers ≡ completions_in h
   counted h l = totals k.tellers (MayStep k) added h l ∙ sym (completions_are h)
 
@@ -117,13 +117,13 @@ module _ (k : Limits) where
       (λ e. let m = moves a b (wakeups_in h) e in omega arith)
       (λ ne. let m = misses a b (wakeups_in h) ne in omega arith)
 
-  -- what is charged was counted
+  -- at most what was counted is charged
   pub charged_le : (h : Hist) → Ok h → wakeups_in h ≤ completions_in h
   charged_le [] l = omega arith
   charged_le (x ∷ h) l = let a = wakeups_next x.0 x.1 h in let b = completions_next x.0 x.1 h in
       let z = le_step x.1 x.0 h l.1 (charged_le h l.2) in omega arith
 
-  -- completions found stay below
+  -- completions that a teller found are at most those now
   pub saw : (c d : ℕ) (rest : List BookStep) (h : Hist) → Ok h → own_steps c h ≡ LookCompletions d ∷ rest
       → d ≤ completions_in h
   saw c d rest [] l e = absurd (nothing e)
@@ -170,7 +170,7 @@ module _ (k : Limits) where
       (λ (ne : f ≢ a). let m = misses a b (wakeups_in h) (λ z. ne (found ∙ z)) in let w = ap one_if (ne_eqb f a ne) in
       omega arith)
 
-  -- each charge took something
+  -- each charge took at least one completion
   pub charges_le : (h : Hist) → Ok h → total_all charged h ≤ wakeups_in h
   charges_le [] l = omega arith
   charges_le (x ∷ h) l = let a = charges_le h l.2 in let b = wakeups_next x.0 x.1 h in
@@ -187,17 +187,17 @@ module _ (k : Limits) where
       (λ (ne : f ≢ a). let m = misses a b (wakeups_in h) (λ z. ne (found ∙ z)) in
       let w = ap (λ (z : Bool). cond z (b - a) 0) (ne_eqb f a ne) in omega arith)
 
-  -- what is charged is what the tellers took
+  -- the wakeups are the sum of what the tellers' charges took
   pub taken_is : (h : Hist) → Ok h → total_all taken h ≡ wakeups_in h
   taken_is [] l = omega arith
   taken_is (x ∷ h) l = let a = taken_is h l.2 in let b = wakeups_next x.0 x.1 h in let d = taken_step x.1 x.0 h l.1 in
       omega arith
 
-  -- what a teller counted is part of the completions
+  -- a teller's count is at most the completions
   pub own_le : (c : ℕ) (h : Hist) → Ok h → c < k.tellers → own_count c h ≤ completions_in h
   own_le c h l less = let a = counted h l in let b = sum_has (λ d. own_count d h) c k.tellers less in omega arith
 
-  -- wakeups found stay below
+  -- wakeups that a teller found are at most those now
   pub saw_wakeups : (c w : ℕ) (rest : List BookStep) (h : Hist) → Ok h → own_steps c h ≡ LookWakeups w ∷ rest
       → w ≤ wakeups_in h
   saw_wakeups c w rest [] l e = absurd (nothing e)
@@ -213,7 +213,7 @@ module _ (k : Limits) where
       (head_same x.1 (LookWakeups w) (own_steps x.0 h) rest heads) l.1 in omega arith)
       (λ (ne : c ≢ x.0). let ih = saw_wakeups c w rest h l.2 (sym (own_else c x.0 x.1 h ne) ∙ e) in omega arith)
 
--- three steps a try
+-- a lost try takes three steps
 pub lost_long : (k b : ℕ) (s s' : List BookStep) → LosesTries k b s s' → length s' ≡ 3 * k + length s
 lost_long zero b s s' l = ap length l ∙ omega arith
 lost_long (suc k) b s s' l = let ih = lost_long k b s l.3 l.4 in ap length l.7 ∙ omega arith

@@ -1,4 +1,4 @@
--- What the book's words say once no thread shares it.
+-- What the book's last words say once all tellers are gathered.
 use Rattle.std.proofs.Common.{◌≡◌, ℕ, zero, suc, ◌-◌, ◌^◌, ◌≤◌, min, List, [], ◌∷◌, get_or, arith, sym, ap, ◌∙◌}
 use mathlib.Core.Option.{some, some-injective, some-ne-none}
 use lib.ListN.{get_elem?}
@@ -18,7 +18,7 @@ use Rattle.wake_book.specs.Charges.{taken, MayStep, BookRule}
 use Rattle.wake_book.specs.Booked.{IsBooked}
 use Rattle.wake_book.proofs.Counting.{capped, counted, tiles, charged_le, charges_le, taken_is}
 
--- what an entry is, as a clause reads it
+-- an entry that is there is the one that a clause reads
 pub read : (l : List ℕ) (i x : ℕ) → get_elem? l i ≡ some x → get_or l i 0 ≡ x
 read [] i x e = absurd (some-ne-none x (sym e))
 read (a ∷ l) zero x e = some-injective a x e

@@ -1,4 +1,4 @@
--- Each kind of step on the groups keeps their rule, and tells what it tells.
+-- Each kind of step on the groups preserves their rule, and the waiter learns from it what its play says.
 use Rattle.std.proofs.Common.{◌≡◌, ℕ, suc, ◌+◌, ◌-◌, ◌%◌, ◌^◌, ◌<◌, ◌≤◌, List, get_or, set, eqb, arith, refl, sym, ap}
 use Rattle.std.proofs.Common.{◌∙◌, subst}
 use mathlib.Core.Option.{none}
@@ -27,12 +27,12 @@ module _ {S : Type 0} (n : ℕ) (few : n ≤ 64) (slots id : ℕ) (m : Me S (Vie
   own : r.steps ≡ steps_of m.0
   own = ap steps_of (sym is)
 
-  -- the waiting and the granted of a group are few
+  -- a group has at most 64 waiting and granted together
   small : (g : ℕ) → g < 8 → (h : List (ℕ × GroupStep)) → Lawful n MayStep h
       → waiting (word (words_in h) g) + granted (word (words_in h) g) ≤ 64
   small g s h l = let a = balance n g h l (balanced n few g s h l) in let b = few_stand n g h in omega arith
 
-  -- the word of a group may be named otherwise
+  -- a step on the word at a group's index is a step on that group's word
   pub placed : (i g : ℕ) → i ≡ group_at g
       → (f : ℕ → ℕ) (a b : ℕ) (then : Step S → Me S (View GroupStep) → ℕ → Me S (View GroupStep) → Type 0)
       → Allows (GroupsRule n) slots id m (group_at g) f (then (step slots (group_at g) a b none) m)

@@ -1,4 +1,4 @@
--- What a step of the groups changes: the word of a group, where its waiter stands, and what it raises.
+-- What a step changes: the word of a group, the group of its waiter, and the active count.
 use Rattle.std.proofs.Common.{◌≡◌, ◌≢◌, ℕ, zero, suc, ◌+◌, ◌-◌, ◌<◌, ◌≤◌, List, [], ◌∷◌, replicate}
 use Rattle.std.proofs.Common.{length, get_or, set, nat_eq, Bool, cond, arith, refl, sym, ap, ◌∙◌, subst, eq-eqb, ne_eqb}
 use Rattle.std.proofs.Common.{length-set, get_or-set_same, get_or-set_other}
@@ -16,11 +16,11 @@ use Rattle.wake_book.proofs.Counting.{moves, misses}
 abbrev pub Hist : Type 0
 Hist = List (ℕ × GroupStep)
 
--- n where the group is g and the word found was the one expected
+-- n if the group is g and the word found was the one expected, else 0
 abbrev pub at_group : ℕ → ℕ → ℕ → ℕ → ℕ → ℕ
 at_group g u found expected n = cond (nat_eq u g) (cond (nat_eq found expected) n 0) 0
 
--- 1 where s stands for the group
+-- 1 if the code s is that of the group, else 0
 abbrev pub here : ℕ → ℕ → ℕ
 here g s = cond (nat_eq s (suc g)) 1 0
 
@@ -80,7 +80,7 @@ pub long : (h : Hist) → length (words_in h) ≡ groups_width
 long [] = refl
 long (x ∷ h) = long_step x.1 (words_in h) ∙ long h
 
--- the word of the group g after a step, from that before
+-- the word of the group g after a step, as a function of its word before
 abbrev word_after : ℕ → GroupStep → ℕ → ℕ
 word_after g (Enter u f) w = cond (nat_eq u g) (w + one_waiting) w
 word_after g (Grant u old m f) w = cond (nat_eq u g) (exchange_to old (moved_in old m) w) w
@@ -88,7 +88,7 @@ word_after g (Use u old f) w = cond (nat_eq u g) (exchange_to old (old - 1) w) w
 word_after g (Withdraw u old f) w = cond (nat_eq u g) (exchange_to old (old - one_waiting) w) w
 word_after g _ w = w
 
--- a change of the group u, seen at the group g
+-- the word of the group g after a change of the group u
 set_group : (ws : List ℕ) (u g : ℕ) (f : ℕ → ℕ) → length ws ≡ groups_width → u < 8
     → word (set ws (group_at u) (f (word ws u))) g
     ≡ cond (nat_eq u g) (f (word ws g)) (word ws g)
@@ -113,7 +113,7 @@ word_step c g (Store v) h s can = get_or-set_other (words_in h) index_at (group_
 
 -- ---- one waiter
 
--- what is entered and not left is where it stands
+-- a waiter has entered a group once more than it has left it if it is in it, and otherwise as often
 abbrev pub Own : ℕ → List GroupStep → Type 0
 Own g l = total (entered g) l ≡ total (used g) l + total (withdrawn g) l + here g (stand l)
 
@@ -124,7 +124,7 @@ at_miss : (g u f old n : ℕ) → f ≢ old → at_group g u f old n ≡ 0
 at_miss g u f old n ne = ap (λ (z : ℕ). cond (nat_eq u g) z 0) (no_of f old n 0 ne)
     ∙ dite (ℕ_discrete u g) (λ e. yes_of u g 0 0 e) (λ z. no_of u g 0 0 z)
 
--- a waiter that stands in u is here in g where these are one
+-- a waiter that is in u is in g exactly if these are the same
 pub here_in : (g u s : ℕ) → s ≡ suc u → here g s ≡ cond (nat_eq u g) 1 0
 here_in g u s e = dite (ℕ_discrete u g)
     (λ (z : u ≡ g). yes_of s (suc g) 1 0 (e ∙ ap suc z) ∙ sym (yes_of u g 1 0 z))
@@ -163,7 +163,7 @@ up_step c (Use u old f) h can o = let a = o.0 in (omega arith, o.1)
 up_step c (Withdraw u old f) h can o = let a = o.0 in (omega arith, o.1)
 up_step c (Store v) h can o = let a = o.0 in (omega arith, o.1)
 
--- a compare_exchange of the word of u, seen at the group g
+-- the word of the group g after a compare-exchange of the word of u
 pub cas : (g u f old b a w : ℕ) (P : ℕ → ℕ → Type 0) → (u ≡ g → f ≡ w) → (u ≡ g → w ≡ old → P b a) → P w 0
     → P (cond (nat_eq u g) (exchange_to old b w) w) (at_group g u f old a)
 cas g u f old b a w P found hit miss = dite (ℕ_discrete u g)

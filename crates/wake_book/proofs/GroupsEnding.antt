@@ -1,4 +1,4 @@
--- What the groups' words say once no thread shares them.
+-- What the groups' last words say once all waiters are gathered.
 use Rattle.std.proofs.Common.{◌≡◌, ℕ, ◌+◌, ◌-◌, ◌^◌, ◌≤◌, min, List, arith, sym, ap, ◌∙◌, subst}
 use Rattle.atomic_table.specs.Table.{Final, Seen}
 use Rattle.step_ledger.specs.declared.record.Record.{Record}

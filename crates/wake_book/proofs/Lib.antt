@@ -8,3 +8,4 @@ pub mod GroupKeeps
 pub mod Lengths
 pub mod GroupsEnding
 pub mod Crossing
+pub mod Leaving

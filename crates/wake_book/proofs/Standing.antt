@@ -1,4 +1,4 @@
--- What a lawful history of the groups says of one group, of the active count and of the wake index.
+-- Facts about one group, the active count and the wake index in a lawful history.
 use Rattle.std.proofs.Common.{◌≡◌, ◌≢◌, ℕ, suc, ◌+◌, ◌-◌, ◌*◌, ◌/◌, ◌%◌, ◌<◌, ◌≤◌, List, [], ◌∷◌}
 use Rattle.std.proofs.Common.{get_or, arith, refl, sym, ap, ◌∙◌, subst}
 use Rattle.std.proofs.Common.{get_or-set_same, get_or-set_other}
@@ -19,7 +19,7 @@ module _ (n : ℕ) where
   abbrev pub Ok : Hist → Type 0
   Ok h = Lawful n MayStep h
 
-  -- a fact of each waiter's own steps, from one step on
+  -- what every step of a waiter preserves holds of each waiter's own steps
   pub each : (P : List GroupStep → Type 0) → P []
       → ((c : ℕ) (x : GroupStep) (h : Hist) → MayStep c x h → P (own_steps c h) → P (x ∷ own_steps c h)) → (h : Hist)
       → Ok h → (c : ℕ) → P (own_steps c h)
@@ -35,7 +35,7 @@ module _ (n : ℕ) where
   up : (h : Hist) → Ok h → (c : ℕ) → Up (own_steps c h)
   up h l c = each Up (omega arith, omega arith) up_step h l c
 
-  -- the number of waiters that stand in a group, and of those that have raised the active count
+  -- the number of waiters in a group, and of those that have raised the active count
   abbrev pub standing : ℕ → Hist → ℕ
   standing g h = sum_to (λ c. here g (stand (own_steps c h))) n
 
@@ -69,7 +69,7 @@ module _ (n : ℕ) where
   Bal g h = (granted (word (words_in h) g) + total_all (used g) h ≡ total_all (issued g) h)
       × (waiting (word (words_in h) g) + total_all (issued g) h + total_all (withdrawn g) h ≡ total_all (entered g) h)
 
-  -- what waits and what is granted is what stands
+  -- the waiting and the granted of a group are the waiters in it
   pub balance : (g : ℕ) (h : Hist) → Ok h → Bal g h → waiting (word (words_in h) g) + granted (word (words_in h) g)
       ≡ standing g h
   balance g h l b = let x = b.0 in let y = b.1 in let z = all_entered h l g in omega arith
@@ -160,7 +160,7 @@ module _ (n : ℕ) where
   pub active_is : (h : Hist) → Ok h → get_or (words_in h) active_at 0 ≡ up_now h
   active_is h l = let a = active_fold h l in let b = all_up h l in omega arith
 
-  -- one who stands is counted in its group, and one who has raised among the active
+  -- a waiter in a group is counted there, and one that has raised the active count is counted in it
   pub some_stand : (c g : ℕ) (h : Hist) → c < n → stand (own_steps c h) ≡ suc g → 1 ≤ standing g h
   some_stand c g h k e = let a = here_in g g (stand (own_steps c h)) e in let b = yes_of g g 1 0 refl in
       let has = sum_has (λ d. here g (stand (own_steps d h))) c n k in omega arith

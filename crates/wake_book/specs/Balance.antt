@@ -1,4 +1,4 @@
--- What the groups' totals say of all their waiters, once they are gathered.
+-- What the groups' totals say about all their waiters, once they are gathered.
 use Rattle.std.specs.Prelude.{◌≡◌, ℕ, ◌+◌, ◌<◌, ◌≤◌, List, slice_index}
 use mathlib.Core.Option.{some}
 use lib.ListN.{get_elem?}
@@ -9,8 +9,8 @@ use Rattle.wake_book.specs.declared.groups.GroupTotals.{GroupTotals}
 use Rattle.wake_book.specs.declared.steps.GroupStep.{GroupStep}
 use Rattle.wake_book.specs.Waits.{active_at, words_in, word, granted, waiting, raised, stand, stands_in, moved_by, used_by, MayStep}
 
--- the waiters' lists stand in one lawful history, whose words show who waits, who is granted and who is active;
--- who stands is active
+-- the waiters' lists are the parts of one lawful history, whose last words count the waiting, the grants and the
+-- active; a waiter that is in a group has raised the active count
 pub record IsBalanced (n : ℕ) (waiters : List (Record GroupStep)) (totals : GroupTotals) : Type 0 where
   pub history : List (ℕ × GroupStep)
   pub lawful : Lawful n MayStep history

@@ -1,4 +1,4 @@
--- Words about a book and its tellers, for public clauses.
+-- The terms of public clauses about a book and its tellers.
 use Rattle.std.specs.Prelude.{◌≡◌, ℕ, ◌≢◌, ◌^◌, ◌<◌, ◌≤◌, ◌⊎◌, List, ◌∷◌, All, map}
 use Rattle.step_ledger.specs.declared.record.Record.{Record}
 use Rattle.step_ledger.specs.Views as views
@@ -11,7 +11,7 @@ use Rattle.wake_book.specs.declared.steps.BookStep.{BookStep}
 use Rattle.wake_book.specs.declared.steps.BookStep.TheVariants.{LookCompletions, Advance}
 use Rattle.wake_book.specs.Charges.{added, taken}
 
--- the teller came from the book's opening
+-- the teller was opened with the book
 abbrev pub IsTellerOf : Book → Teller → Type 0
 IsTellerOf book teller = teller.seat.table_id ≡ book.table.shared.table_id
 
@@ -35,7 +35,7 @@ charged_by teller = total taken (steps_of teller)
 abbrev pub record_of : Teller → Record BookStep
 record_of teller = record { number = teller.number; steps = steps_of teller }
 
--- those of several tellers
+-- the records of several tellers
 abbrev pub records_of : List Teller → List (Record BookStep)
 records_of tellers = map record_of tellers
 
@@ -43,15 +43,15 @@ records_of tellers = map record_of tellers
 abbrev pub numbers_of : List Teller → List ℕ
 numbers_of tellers = map number_of tellers
 
--- these tellers came from the book's opening
+-- the gathered tellers were opened with the book
 abbrev pub IsGatheringOf : Book → TellerGathering → Type 0
 IsGatheringOf book gathering = gathering.seat.table_id ≡ book.table.shared.table_id
 
--- the records of the tellers gathered, the newest first
+-- the records of the tellers gathered, the last one added first
 abbrev pub gathered : TellerGathering → List (Record BookStep)
 gathered gathering = views.turned gathering.seat.me.0.records.value
 
--- what the book was told at its opening
+-- the parameters with which the book was opened
 abbrev pub limits_of : Book → Limits
 limits_of book = book.limits
 
@@ -67,26 +67,26 @@ cap_of book = book.limits.cap
 abbrev pub batch_of : Book → ℕ
 batch_of book = book.batch
 
--- the teller just looked, and found at least this many completions
+-- the teller's last step loaded the completions, and found at least this many
 abbrev pub JustSaw : Teller → ℕ → Type 0
 JustSaw teller most = (completions : ℕ) × (before : List BookStep)
     × (steps_of teller ≡ LookCompletions completions ∷ before) × (most ≤ completions)
 
--- the teller's exchange of the wakeups found another count than it expected
+-- the teller's exchange of the wakeups found a count other than the one expected
 abbrev pub LosesAdvance : ℕ → ℕ → Teller → Teller → Type 0
 LosesAdvance start end old new = (found : ℕ) × (found ≢ start) × (steps_of new ≡ Advance start end found ∷ steps_of old)
 
--- the book is changed in its batch alone
+-- only the book's batch is changed
 pub record Rebatches (old new : Book) (batch : ℕ) : Type 0 where
   pub batch_is : batch_of new ≡ batch
   pub table : new.table ≡ old.table
   pub limits : limits_of new ≡ limits_of old
 
--- a batch that isn't 1 to 8, or not 1 to 64 tellers
+-- the batch is not 1 to 8, or the number of tellers is not 1 to 64
 abbrev pub MiscountsBook : ℕ → ℕ → Type 0
 MiscountsBook batch tellers = (batch < 1) ⊎ (8 < batch) ⊎ (tellers < 1) ⊎ (64 < tellers)
 
--- a new book, whose tellers stand in the order of their numbers and have made no step
+-- a new book, whose tellers are in the order of their numbers and have made no step
 pub record IsOpenBook (batch tellers cap : ℕ) (book : Book) (all : List Teller) : Type 0 where
   pub counts : (1 ≤ batch) × (batch ≤ 8) × (1 ≤ tellers) × (tellers ≤ 64) × (cap ≤ 2 ^ 56)
   pub batch_is : batch_of book ≡ batch

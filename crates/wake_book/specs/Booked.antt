@@ -1,4 +1,4 @@
--- What the book's totals say of all its tellers, once they are gathered.
+-- What the book's totals say about all its tellers, once they are gathered.
 use Rattle.std.specs.Prelude.{◌≡◌, ℕ, ◌-◌, ◌≤◌, min, List}
 use Rattle.step_ledger.specs.declared.record.Record.{Record}
 use Rattle.step_ledger.specs.Views.{sum_over}
@@ -8,8 +8,8 @@ use Rattle.wake_book.specs.declared.book.BookTotals.{BookTotals}
 use Rattle.wake_book.specs.declared.steps.BookStep.{BookStep}
 use Rattle.wake_book.specs.Charges.{MayStep, added, charged, covers, taken}
 
--- the tellers' lists stand in one lawful history; their intervals have each number below charged once and no other;
--- what is charged was counted
+-- the tellers' lists are the parts of one lawful history; their intervals cover each number below charged exactly once,
+-- and no other number; at most what was counted is charged
 pub record IsBooked (k : Limits) (tellers : List (Record BookStep)) (totals : BookTotals) : Type 0 where
   pub history : List (ℕ × BookStep)
   pub lawful : Lawful k.tellers (MayStep k) history

@@ -1,4 +1,4 @@
--- Lawful charges: which steps a charge makes, and what it answers.
+-- Lawful charges: which steps a charge makes, and which outcome it returns.
 use Rattle.std.specs.Prelude.{◌≡◌, ◌≢◌, ℕ, zero, suc, ◌+◌, ◌<◌, ◌≤◌, List, ◌∷◌}
 use Rattle.step_ledger.specs.History.{total}
 use Rattle.wake_book.specs.declared.steps.BookStep.{BookStep}
@@ -7,21 +7,21 @@ use Rattle.wake_book.specs.declared.charge.Charge.{Charge}
 use Rattle.wake_book.specs.declared.charge.Charge.TheVariants.{Full, Below, Won, Busy}
 use Rattle.wake_book.specs.Charges.{added}
 
--- how many completions a charge of n counts, by its answer
+-- how many completions a charge of n counts, by its outcome
 abbrev pub counted_as : ℕ → Charge → ℕ
 counted_as n Full = 0
 counted_as n Below = n
 counted_as n (Won start) = n
 counted_as n Busy = n
 
--- how many completions a charge takes, by its answer
+-- how many completions a charge takes, by its outcome
 abbrev pub taken_as : ℕ → Charge → ℕ
 taken_as batch Full = 0
 taken_as batch Below = 0
 taken_as batch (Won start) = batch
 taken_as batch Busy = 0
 
--- the two looks of a try: wakeups first, then completions
+-- the two loads of a try: wakeups first, then completions
 abbrev pub looked : ℕ → ℕ → List BookStep → List BookStep
 looked start completions before = LookCompletions completions ∷ LookWakeups start ∷ before
 
@@ -32,12 +32,12 @@ LosesTries (suc tries) batch steps steps' = (start : ℕ) × (completions : ℕ)
     × LosesTries tries batch steps before × (start + batch ≤ completions) × (found ≢ start)
     × (steps' ≡ Advance start (start + batch) found ∷ looked start completions before)
 
--- n was counted, and then fewer than 16 tries were lost
+-- n completions were counted, and then fewer than 16 tries were lost
 abbrev pub CountsAndLoses : ℕ → ℕ → ℕ → List BookStep → List BookStep → Type 0
 CountsAndLoses cap batch n steps before = (total added steps + n ≤ cap) × (found : ℕ) × (tries : ℕ) × (tries < 16)
     × LosesTries tries batch (Add n found ∷ steps) before
 
--- what a charge of n did, by its answer
+-- the steps of a charge of n, by its outcome
 abbrev pub IsCharge : ℕ → ℕ → ℕ → List BookStep → List BookStep → Charge → Type 0
 IsCharge cap batch n steps steps' Full = (cap < total added steps + n) × (steps' ≡ steps)
 IsCharge cap batch n steps steps' Below = (before : List BookStep) × CountsAndLoses cap batch n steps before

@@ -1,4 +1,4 @@
--- What each kind of step on the wait groups tells.
+-- What a waiter learns from each kind of step on the wait groups.
 use Rattle.std.specs.Prelude.{◌≡◌, ℕ, suc, ◌<◌, ◌≤◌}
 use Rattle.atomic_table.specs.Table.{Me}
 use Rattle.atomic_table.specs.Table as table
@@ -9,7 +9,7 @@ use Rattle.wake_book.specs.declared.steps.GroupStep.TheVariants.{Look, Raise, Lo
 use Rattle.wake_book.specs.Waits.{active_at, index_at, group_at, granted, waiting, moved_in, raised, stand}
 
 module _ {S : Type 0} where
-  -- one who has raised the active count is counted in it
+  -- a waiter that has raised the active count is counted in it
   abbrev pub looked_active : table.Step S → Me S (View GroupStep) → ℕ → Me S (View GroupStep) → Type 0
   looked_active step m found m' = Stepped (Look active_at found) m m' × (raised (steps_of m.0) ≡ 1 → 1 ≤ found)
 
@@ -17,7 +17,7 @@ module _ {S : Type 0} where
   abbrev pub looked_index : table.Step S → Me S (View GroupStep) → ℕ → Me S (View GroupStep) → Type 0
   looked_index step m found m' = Stepped (Look index_at found) m m' × (found < 8)
 
-  -- one who stands in a group without a grant waits there
+  -- if the waiter is in this group and the group has no grant, somebody waits there
   abbrev pub looked_group : table.Step S → Me S (View GroupStep) → ℕ → Me S (View GroupStep) → Type 0
   looked_group step m found m' = Stepped (Look step.word found) m m'
       × ((g : ℕ) → step.word ≡ group_at g → stand (steps_of m.0) ≡ suc g → granted found ≡ 0 → 1 ≤ waiting found)
@@ -30,20 +30,20 @@ module _ {S : Type 0} where
   abbrev pub lowering : table.Step S → Me S (View GroupStep) → ℕ → Me S (View GroupStep) → Type 0
   lowering step m found m' = Stepped (Lower found) m m'
 
-  -- one more waits
+  -- a waiter enters a group
   abbrev pub entering : table.Step S → Me S (View GroupStep) → ℕ → Me S (View GroupStep) → Type 0
   entering step m found m' = (g : ℕ) → step.word ≡ group_at g → Stepped (Enter g found) m m'
 
-  -- some go from waiting to granted, where the word is what was expected
+  -- waiters move from waiting to granted, if the word is what was expected
   abbrev pub granting : table.Step S → Me S (View GroupStep) → ℕ → Me S (View GroupStep) → Type 0
   granting step m found m' = (g count : ℕ) → step.word ≡ group_at g → count ≤ waiting step.first
       → step.second ≡ moved_in step.first count → Stepped (Grant g step.first count found) m m'
 
-  -- a grant is used, where the word is what was expected
+  -- a grant is used, if the word is what was expected
   abbrev pub using : table.Step S → Me S (View GroupStep) → ℕ → Me S (View GroupStep) → Type 0
   using step m found m' = (g : ℕ) → step.word ≡ group_at g → Stepped (Use g step.first found) m m'
 
-  -- one waits no more, where the word is what was expected
+  -- a waiter withdraws, if the word is what was expected
   abbrev pub withdrawing : table.Step S → Me S (View GroupStep) → ℕ → Me S (View GroupStep) → Type 0
   withdrawing step m found m' = (g : ℕ) → step.word ≡ group_at g → Stepped (Withdraw g step.first found) m m'
 

@@ -11,23 +11,23 @@ use Rattle.wake_book.specs.declared.steps.GroupStep.{GroupStep}
 use Rattle.wake_book.specs.declared.steps.GroupStep.TheVariants.{Look, Raise, Lower, Enter, Grant, Use, Withdraw, Store}
 use Rattle.wake_book.specs.Charges.{exchange_to}
 
--- how far apart words that different threads write stand: 64 bytes
+-- the distance between words that different threads write: 64 bytes
 abbrev pub line : ℕ
 line = STRIDE
 
--- the place of a group's word: the spare word stands at 0, and then the eight groups
+-- the index of a group's word: the eight groups follow the spare word at 0
 abbrev pub group_at : ℕ → ℕ
 group_at group = line + line * group
 
--- the place of the active count, behind the groups
+-- the index of the active count, after the groups
 abbrev pub active_at : ℕ
 active_at = ACTIVE
 
--- the place of the wake index, behind the active count
+-- the index of the wake index, after the active count
 abbrev pub index_at : ℕ
 index_at = INDEX
 
--- words of the table: the last has 64 bytes of its own too
+-- the length of the table, in words; its last word also has 64 bytes of its own
 abbrev pub groups_width : ℕ
 groups_width = GROUP_WORDS
 
@@ -35,19 +35,19 @@ groups_width = GROUP_WORDS
 abbrev pub opening_words : List ℕ
 opening_words = replicate groups_width 0
 
--- one who waits, in a group's word: its low 32 bits count the granted, its high 32 bits the waiting
+-- one waiting waiter, in a group's word: its high 32 bits count the waiting, its low 32 bits the grants not used yet
 abbrev pub one_waiting : ℕ
 one_waiting = WAITING
 
--- how many are granted
+-- the number of grants not used yet
 abbrev pub granted : ℕ → ℕ
 granted word = word % one_waiting
 
--- how many wait without a grant
+-- the number of waiters that wait without a grant
 abbrev pub waiting : ℕ → ℕ
 waiting word = word / one_waiting
 
--- the word with this many gone from waiting to granted
+-- the word after this many have moved from waiting to granted
 abbrev pub moved_in : ℕ → ℕ → ℕ
 moved_in word count = word + count - one_waiting * count
 
@@ -55,7 +55,7 @@ moved_in word count = word + count - one_waiting * count
 abbrev pub word : List ℕ → ℕ → ℕ
 word ws group = slice_index ws (group_at group)
 
--- what a step leaves of the words
+-- the words after a step
 abbrev pub words_after : GroupStep → List ℕ → List ℕ
 words_after (Look place found) ws = ws
 words_after (Raise found) ws = slice_set ws active_at (slice_index ws active_at + 1)
@@ -68,11 +68,11 @@ words_after (Withdraw g expected found) ws =
     slice_set ws (group_at g) (exchange_to expected (expected - one_waiting) (word ws g))
 words_after (Store index) ws = slice_set ws index_at index
 
--- the words that a history leaves
+-- the words after a history, newest step first
 abbrev pub words_in : List (ℕ × GroupStep) → List ℕ
 words_in h = words_of opening_words words_after h
 
--- 1 where the waiter has raised the active count and not lowered it
+-- 1 if the waiter with these steps has raised the active count and not lowered it again, else 0
 abbrev pub raised : List GroupStep → ℕ
 raised [] = 0
 raised (Look place found ∷ steps) = raised steps
@@ -84,7 +84,7 @@ raised (Use g expected found ∷ steps) = raised steps
 raised (Withdraw g expected found ∷ steps) = raised steps
 raised (Store index ∷ steps) = raised steps
 
--- one more than the group in which the waiter stands, or 0
+-- one more than the group that the waiter with these steps is in, or 0 if it is in none
 abbrev pub stand : List GroupStep → ℕ
 stand [] = 0
 stand (Look place found ∷ steps) = stand steps
@@ -96,11 +96,11 @@ stand (Use g expected found ∷ steps) = cond (nat_eq found expected) 0 (stand s
 stand (Withdraw g expected found ∷ steps) = cond (nat_eq found expected) 0 (stand steps)
 stand (Store index ∷ steps) = stand steps
 
--- 1 where the waiter with these steps stands in the group
+-- 1 if the waiter with these steps is in the group, else 0
 abbrev pub stands_in : ℕ → List GroupStep → ℕ
 stands_in g steps = cond (nat_eq (stand steps) (suc g)) 1 0
 
--- how many the step moved from waiting to granted
+-- how many waiters the step moved from waiting to granted
 abbrev pub moved_by : GroupStep → ℕ
 moved_by (Grant g expected count found) = cond (nat_eq found expected) count 0
 moved_by _ = 0
@@ -110,8 +110,8 @@ abbrev pub used_by : GroupStep → ℕ
 used_by (Use g expected found) = cond (nat_eq found expected) 1 0
 used_by _ = 0
 
--- each step finds what the steps before it left; a waiter waits where it is active, leaves as it stands, and moves
--- at most 2^56 in all
+-- each step finds what the steps before it left; a waiter enters a group only while it is active and in none, leaves
+-- only the group that it is in, and moves at most 2^56 waiters in all
 abbrev pub MayStep : ℕ → GroupStep → List (ℕ × GroupStep) → Type 0
 MayStep c (Look place found) h = found ≡ slice_index (words_in h) place
 MayStep c (Raise found) h = (found ≡ slice_index (words_in h) active_at) × (raised (own_steps c h) ≡ 0)
@@ -131,6 +131,6 @@ MayStep c (Store index) h = index < 8
 abbrev pub GroupsRule : {S : Type 0} → ℕ → State S (View GroupStep) → Type 0
 GroupsRule waiters s = Ledger waiters opening_words words_after MayStep s
 
--- the first seat has the records of all waiters
+-- the records on the first seat: those of all waiters, without steps
 abbrev pub all_fresh : ℕ → View GroupStep
 all_fresh waiters = viewing (fresh 0 waiters)

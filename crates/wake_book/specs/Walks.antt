@@ -1,4 +1,4 @@
--- Lawful walks, and how a waiter comes and goes.
+-- Lawful walks, and how a waiter sleeps in a group and leaves it.
 use Rattle.std.specs.Prelude.{◌≡◌, ◌≢◌, ◌⊎◌, ℕ, zero, suc, ◌+◌, ◌-◌, ◌%◌, ◌^◌, ◌<◌, ◌≤◌, List, ◌∷◌, min}
 use Rattle.step_ledger.specs.History.{total}
 use Rattle.wake_book.specs.declared.steps.GroupStep.{GroupStep}
@@ -11,14 +11,14 @@ use Rattle.wake_book.specs.Waits.{active_at, index_at, group_at, granted, waitin
 abbrev pub looked : ℕ → ℕ → List GroupStep → List GroupStep
 looked g found before = Look (group_at g) found ∷ before
 
--- that many tries at a group, each of which found some waiting and lost its exchange
+-- that many tries at a group, each of which found somebody waiting and lost its exchange
 abbrev pub LosesGrants : ℕ → ℕ → ℕ → List GroupStep → List GroupStep → Type 0
 LosesGrants zero g most steps steps' = steps' ≡ steps
 LosesGrants (suc tries) g most steps steps' = (found : ℕ) × (seen : ℕ) × (before : List GroupStep)
     × LosesGrants tries g most steps before × (1 ≤ waiting found) × (seen ≢ found)
     × (steps' ≡ Grant g found (min (waiting found) most) seen ∷ looked g found before)
 
--- fewer than four tries were lost, and the next look found this word
+-- fewer than four tries were lost, and the next load found this word
 abbrev pub LosesAndLooks : ℕ → ℕ → List GroupStep → List GroupStep → ℕ → Type 0
 LosesAndLooks g most steps steps' found = (tries : ℕ) × (tries < 4) × (before : List GroupStep)
     × LosesGrants tries g most steps before × (steps' ≡ looked g found before)
@@ -28,7 +28,7 @@ abbrev pub FindsNobody : ℕ → ℕ → List GroupStep → List GroupStep → �
 FindsNobody g most steps steps' moved = (found : ℕ) × LosesAndLooks g most steps steps' found
     × (waiting found ≡ 0) × (moved ≡ 0)
 
--- a visit won a try, and moved the lesser of what waited and the most asked for
+-- a visit won a try, and moved all that waited, or the most asked for if that is less
 abbrev pub WinsGrant : ℕ → ℕ → List GroupStep → List GroupStep → ℕ → Type 0
 WinsGrant g most steps steps' moved = (found : ℕ) × (before : List GroupStep) × LosesAndLooks g most steps before found
     × (1 ≤ waiting found) × (moved ≡ min (waiting found) most) × (steps' ≡ Grant g found moved found ∷ before)
@@ -37,20 +37,20 @@ WinsGrant g most steps steps' moved = (found : ℕ) × (before : List GroupStep)
 abbrev pub LosesFour : ℕ → ℕ → List GroupStep → List GroupStep → ℕ → Type 0
 LosesFour g most steps steps' moved = (tries : ℕ) × (tries ≡ 4) × LosesGrants tries g most steps steps' × (moved ≡ 0)
 
--- a visit to a group for at most so many
+-- a visit to a group that moves at most this many
 abbrev pub IsVisit : ℕ → ℕ → List GroupStep → List GroupStep → ℕ → Type 0
 IsVisit g most steps steps' moved = FindsNobody g most steps steps' moved
     ⊎ (WinsGrant g most steps steps' moved ⊎ LosesFour g most steps steps' moved)
 
--- that many visits to groups in cyclic order from the first, each with some left to wake;
--- at the end so many are left, and that is the next group
+-- that many visits to groups in cyclic order from the first, each with at least one still to wake;
+-- they end with `left` still to wake and with the group `next`
 abbrev pub AreVisits : ℕ → ℕ → ℕ → List GroupStep → List GroupStep → ℕ → ℕ → Type 0
 AreVisits zero first nr steps steps' left next = (steps' ≡ steps) × (left ≡ nr) × (next ≡ first)
 AreVisits (suc visits) first nr steps steps' left next = (before : List GroupStep) × (most : ℕ) × (g : ℕ) × (moved : ℕ)
     × AreVisits visits first nr steps before most g × (1 ≤ most) × IsVisit g most before steps' moved
     × (left ≡ most - moved) × (next ≡ (g + 1) % 8)
 
--- the walk loads an active count that isn't 0 and the wake index, visits groups until nobody is left to wake or all
+-- the walk loads an active count other than 0 and the wake index, visits groups until none is left to wake or all
 -- eight were visited, and stores the next group
 abbrev pub WalksOn : ℕ → List GroupStep → List GroupStep → ℕ → Type 0
 WalksOn nr steps steps' moved = (active : ℕ) × (1 ≤ active) × (first : ℕ) × (visits : ℕ) × (visits ≤ 8)
@@ -59,30 +59,30 @@ WalksOn nr steps steps' moved = (active : ℕ) × (1 ≤ active) × (first : ℕ
     × ((left ≡ 0) ⊎ (visits ≡ 8))
     × (steps' ≡ Store next ∷ before) × (moved ≡ nr - left)
 
--- a walk for nr makes no step where its waiter's moves could pass 2^56, and ends where it finds nobody active
+-- a walk for nr makes no step if its waiter's moves could exceed 2^56, and ends at once if it finds nobody active
 abbrev pub IsWalk : ℕ → List GroupStep → List GroupStep → ℕ → Type 0
 IsWalk nr steps steps' moved = ((2 ^ 56 < total moved_by steps + nr) × (steps' ≡ steps) × (moved ≡ 0))
     ⊎ (((total moved_by steps + nr ≤ 2 ^ 56) × (steps' ≡ Look active_at 0 ∷ steps) × (moved ≡ 0))
     ⊎ ((total moved_by steps + nr ≤ 2 ^ 56) × WalksOn nr steps steps' moved))
 
--- the exchange that a look calls for: where it found a grant a use of it, else a withdrawal
+-- the exchange that follows a look: a use of a grant if the look found one, otherwise a withdrawal
 abbrev pub IsCalledFor : ℕ → ℕ → ℕ → GroupStep → Type 0
 IsCalledFor g found seen step = ((0 < granted found) × (step ≡ Use g found seen))
     ⊎ ((granted found ≡ 0) × (step ≡ Withdraw g found seen))
 
--- that many idles, each a look at the group and the exchange that it calls for, lost
+-- that many idles, each a look at the group and then its exchange, which was lost
 abbrev pub Idles : ℕ → ℕ → List GroupStep → List GroupStep → Type 0
 Idles zero g steps steps' = steps' ≡ steps
 Idles (suc idles) g steps steps' = (found : ℕ) × (seen : ℕ) × (step : GroupStep) × (before : List GroupStep)
     × Idles idles g steps before × IsCalledFor g found seen step × (seen ≢ found)
     × (steps' ≡ step ∷ looked g found before)
 
--- after idles the waiter looked at its group, and found this word
+-- after some idles the waiter looked at its group, and found this word
 abbrev pub IdlesAndLooks : ℕ → List GroupStep → List GroupStep → ℕ → Type 0
 IdlesAndLooks g steps steps' found = (idles : ℕ) × (before : List GroupStep) × Idles idles g steps before
     × (steps' ≡ looked g found before)
 
--- the waiter left the group by a grant that stood there, or where it found none
+-- the waiter left the group: by a grant that it found there, or by a withdrawal because it found none
 abbrev pub IsLeave : ℕ → List GroupStep → List GroupStep → Left → Type 0
 IsLeave g steps steps' Woken = (active : ℕ) × (found : ℕ) × (before : List GroupStep)
     × IdlesAndLooks g steps before found

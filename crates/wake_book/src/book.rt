@@ -10,25 +10,25 @@ use atomic_table::{Seat, Table, TableRule};
 use std::alloc::Global;
 use step_ledger::{Numbered, View};
 
-/// Place of the word that counts completions, behind the spare word at 0.
+/// Index of the word that counts completions. The spare word is at 0.
 pub(crate) const COMPLETIONS: usize = STRIDE;
 
-/// Place of the word that counts the completions charged.
+/// Index of the word that counts the completions charged.
 pub(crate) const WAKEUPS: usize = 2 * STRIDE;
 
-/// Words of the table: the last of the three has 64 bytes of its own too.
+/// Length of the table, in words: three spaced words, the last of which also has 64 bytes of its own.
 pub(crate) const BOOK_WORDS: usize = 3 * STRIDE;
 
-/// What the book's table is told once.
+/// The parameters of the book's table, fixed when it is opened.
 #[derive(Clone, Copy)]
 pub struct Limits {
-    /// Tellers, 1 to 64.
+    /// Number of tellers, 1 to 64.
     pub tellers: u32,
-    /// Completions that one teller may count, at most 2^56.
+    /// Completions that one teller may count in all, at most 2^56.
     pub cap: u64,
 }
 
-/// The rule of the book's table: some lawful history of the tellers' steps leaves its words.
+/// The rule of the book's table: its words are what some lawful history of the tellers' steps leaves.
 #[derive(Drop)]
 pub struct Charges;
 
@@ -40,12 +40,12 @@ impl TableRule<(), View<BookStep>, Limits> for Charges {
     ghost first = { λ k. all_fresh k };
 }
 
-/// Counts of completions and of wakeups, which up to 64 tellers share without a lock.
+/// The counts of completions and wakeups, shared by up to 64 tellers without a lock.
 #[derive(Drop)]
 pub struct Book {
     pub(crate) table: Table<(), View<BookStep>, Limits, Charges, Global>,
     pub(crate) limits: Limits,
-    /// Completions that one charge takes, 1 to 8.
+    /// Completions per charge, 1 to 8.
     pub(crate) batch: u32,
     ghost told: { table.shared.key ≡ limits },
     ghost wide: { (table.shared.table_id.words ≡ book_width) × (table.shared.table_id.slots ≡ 0) },
@@ -55,7 +55,7 @@ pub struct Book {
 impl Book {
     ghost use Rattle.wake_book.specs.Book.{batch_of, tellers_of};
 
-    /// Completions that one charge takes, 1 to 8.
+    /// Returns the number of completions that one charge takes, 1 to 8.
     pub fn batch(&self) -> u32
         ensures value { result ≡ batch_of self.now }
         ensures within { (1 ≤ result) × (result ≤ 8) }
@@ -63,7 +63,7 @@ impl Book {
         self.batch
     }
 
-    /// Tellers of the book, 1 to 64.
+    /// Returns the number of tellers, 1 to 64.
     pub fn tellers(&self) -> u32
         ensures value { result ≡ tellers_of self.now }
         ensures within { (1 ≤ result) × (result ≤ 64) }
@@ -72,15 +72,15 @@ impl Book {
     }
 }
 
-/// One who counts completions. A clause sees its number and the list of its own steps.
+/// A handle that counts completions. A contract sees its number and the list of its own steps.
 #[derive(Drop)]
 pub struct Teller {
     pub(crate) seat: Seat<(), View<BookStep>>,
-    /// From 0.
+    /// Its number, from 0.
     pub(crate) number: u32,
-    /// Completions counted, at most the cap.
+    /// Completions that it counted, at most the cap.
     pub(crate) count: u64,
-    /// Charges won, at most as many as completions counted.
+    /// Charges that it won, at most `count`.
     pub(crate) charges: u64,
     ghost knows: { seat.me ≡ (alone (record { number = number; steps = steps_of seat.me.0 }), []) },
     ghost counts: { (count ≡ total added (steps_of seat.me.0)) × (count ≤ 2 ^ 56) },
@@ -95,24 +95,24 @@ impl Numbered for Teller {
     }
 }
 
-/// Tellers that have come together, one after another. A clause sees the list of their records, the newest first.
+/// The tellers gathered so far. A contract sees the list of their records, the last one added first.
 #[derive(Drop)]
 pub struct TellerGathering {
-    /// It has all their records.
+    /// The seat that holds the records of these tellers.
     pub(crate) seat: Seat<(), View<BookStep>>,
-    /// Charges of these tellers. It never comes to the largest number, where it would stay.
+    /// Charges that these tellers won, as a saturating sum. 64 tellers of at most 2^56 charges each never saturate it.
     pub(crate) charges: u64,
     ghost empty: { seat.me.1 ≡ [] },
     ghost sum: { charges ≡ min (sum_over (total charged) seat.me.0.records.value) (2 ^ 64 - 1) },
 }
 
-/// What a book counted in all, once its tellers are gathered.
+/// The totals of a book, known once all its tellers are gathered.
 #[derive(Clone, Copy, Debug, PartialEq, Eq)]
 pub struct BookTotals {
     /// Completions counted.
     pub counted: u64,
     /// Completions charged, at most those counted.
     pub charged: u64,
-    /// Charges won, each of one batch.
+    /// Charges won, each of one batch of completions.
     pub charges: u64,
 }

@@ -1,4 +1,4 @@
-//! All tellers come together, and the book ends.
+//! Gathers all tellers and closes the book.
 ghost use Rattle.std.specs.Prelude.{◌≡◌, ◌↔◌, [], ◌∷◌, All, IfOk, IfErr, IsOk};
 ghost use Rattle.std.specs.Slots.{slots_len};
 ghost use Rattle.step_ledger.specs.Views.{Has, HasAll, numbers};
@@ -12,18 +12,18 @@ use atomic_table::Closed;
 use std::alloc::Global;
 use step_ledger::{Collect, GatherCause, least_missing};
 
-/// Why a book wasn't gathered, with all that was handed in.
+/// The reason why `gather` failed, with the book and the tellers that were passed in.
 #[derive(Drop)]
 pub struct BookGatherFault {
     pub cause: GatherCause,
     pub book: Book,
-    /// In the order in which they were handed in.
+    /// In the order in which they were passed in.
     pub tellers: Vec<Teller>,
 }
 
 impl Book {
-    /// Ends the book where all its tellers are handed in, in any order.
-    /// For each teller but the first it makes one load that stands in no list.
+    /// Closes the book and returns its totals, if all its tellers are passed in, in any order. Otherwise it names the
+    /// least missing number and hands everything back. For each teller but the first, one load is in no teller's list.
     pub fn gather(book: Book, tellers: Vec<Teller>) -> Result<BookTotals, BookGatherFault>
         requires { All (IsTellerOf book) tellers.items }
         ensures ok { IfOk result (λ totals. IsBooked (limits_of book) (records_of tellers.items) totals) }
@@ -59,7 +59,7 @@ impl Book {
         all
     }
 
-    /// The first of the tellers that come together.
+    /// Starts a gathering with its first teller.
     pub fn start_gathering(&self, teller: Teller) -> TellerGathering
         requires { IsTellerOf self.now teller }
         ensures book { IsGatheringOf self.now result }
@@ -74,7 +74,7 @@ impl Book {
         TellerGathering { seat, charges }
     }
 
-    /// Ends the book once each of its tellers was gathered.
+    /// Closes the book, once all its tellers are gathered, and returns its totals.
     pub fn finish(self, gathering: TellerGathering) -> BookTotals
         requires book { IsGatheringOf self gathering }
         requires all { HasAll (numbers (gathered gathering)) (tellers_of self) }
@@ -99,7 +99,7 @@ impl Book {
 }
 
 impl TellerGathering {
-    /// One more teller of the book comes to those gathered, by one load that stands in no list.
+    /// Adds a teller of the book to the gathering. The load that this takes is in no teller's list.
     pub fn add(&mut self, book: &Book, teller: Teller)
         requires own { IsTellerOf book.now teller }
         requires book { IsGatheringOf book.now self.old }
@@ -117,7 +117,7 @@ impl TellerGathering {
     }
 }
 
-/// The memory of a table without slots.
+/// Frees the memory of a closed table without slots.
 pub(crate) fn discard(closed: Closed<(), Global>)
     requires { slots_len closed.slots ≡ 0 }
 {

@@ -1,4 +1,4 @@
-//! A new book, and its tellers.
+//! Opens a book with its tellers.
 ghost use Rattle.std.specs.Prelude.{◌≡◌, ℕ, ◌+◌, ◌^◌, ◌<◌, ◌≤◌, ◌↔◌, ◌⊎◌, [], ◌∷◌, All, IfOk};
 ghost use Rattle.step_ledger.specs.Views.{fresh, fresh_record, still_to_come};
 ghost use Rattle.wake_book.specs.Charges.{all_fresh};
@@ -11,18 +11,18 @@ use atomic_table::{Seat, Table};
 use std::alloc::{AllocError, Global};
 use step_ledger::{HandOut, View};
 
-/// Most completions that one charge takes.
+/// The largest batch, in completions.
 const MAX_BATCH: u32 = 8;
 
-/// Most tellers of a book.
+/// The most tellers that a book can have.
 const MAX_TELLERS: u32 = 64;
 
-/// Highest cap, in completions.
+/// The highest cap, in completions.
 const MAX_CAP: u64 = 1 << 56;
 
 impl Book {
-    /// A book whose tellers count at most `cap` completions each, and of which a charge takes `batch`.
-    /// The tellers stand in the order of their numbers.
+    /// Opens a book with `tellers` tellers, 1 to 64, in the order of their numbers. Each of them may count up to `cap`
+    /// completions, at most 2^56, and a charge takes `batch` of them, 1 to 8.
     pub fn open(
         alloc: Global,
         batch: u32,
@@ -31,7 +31,7 @@ impl Book {
     ) -> Result<(Book, Vec<Teller>), BookFault>
         ensures ok { IfOk result (λ opened. IsOpenBook batch tellers cap opened.0 opened.1.items) }
 
-        // The counts are looked at first, and memory last.
+        // The counts are checked first, then the cap. `Memory` comes last.
         ensures count { (result ≡ Err BookFault.Count) ↔ MiscountsBook batch tellers }
         ensures cap { (result ≡ Err BookFault.CapTooLarge) ↔ ((1 ≤ batch) × (batch ≤ 8) × (1 ≤ tellers) × (tellers ≤ 64) × (2 ^ 56 < cap)) }
     {
@@ -79,7 +79,7 @@ impl Book {
         Ok(tellers)
     }
 
-    // The next teller, from the seat with the records of all that are still to come.
+    // Makes the next teller from the seat that holds its record and those of all later tellers.
     fn new_teller(&self, rest: &mut Seat<(), View<BookStep>>, number: u32) -> Teller
         requires comes { (number < self.now.limits.tellers) × (rest.old.table_id ≡ self.now.table.shared.table_id) }
         requires knows { rest.old.me ≡ (still_to_come number (tellers_of self.now), []) }

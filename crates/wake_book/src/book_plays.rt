@@ -1,4 +1,4 @@
-//! What each kind of step on the book tells. These types are for the proofs alone.
+//! What a teller learns from each kind of step on the book. These types exist only for the proofs.
 ghost use Rattle.wake_book.specs.Charges.{looked_completions, looked_wakeups, adding, advancing};
 
 use crate::steps::BookStep;

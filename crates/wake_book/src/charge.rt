@@ -1,4 +1,4 @@
-//! Counting completions, and charging a batch where one is open.
+//! Counts completions, and charges a batch of them if one is open.
 ghost use Rattle.std.specs.Prelude.{◌≡◌, ◌≢◌, ℕ, ◌+◌, ◌-◌, ◌^◌, ◌<◌, ◌≤◌, ◌↔◌, List, ◌∷◌, length, IsTrue, IsFalse};
 ghost use Rattle.wake_book.specs.Book.{IsTellerOf, steps_of, number_of, counted_by, charged_by, cap_of, batch_of, JustSaw, LosesAdvance, Rebatches};
 ghost use Rattle.wake_book.specs.Charging.{IsCharge, counted_as, taken_as};
@@ -8,24 +8,24 @@ use crate::book::{Book, COMPLETIONS, Teller, WAKEUPS};
 use crate::book_plays::{CountSome, MoveOn, SeeCompletions, SeeWakeups};
 use crate::steps::BookStep;
 
-/// Lost exchanges after which a charge leaves its batch to a later completion.
+/// Exchanges that a charge may lose before it leaves the batch to a later completion.
 const TRIES: u32 = 16;
 
-/// What came of a count.
+/// The outcome of a `count`. A batch is open if at least a batch of completions are not charged yet.
 #[derive(Clone, Copy, Debug, PartialEq, Eq)]
 pub enum Charge {
-    /// The teller's count would pass the cap. Nothing was counted.
+    /// The teller's count would exceed the cap. Nothing was counted, and no step was made.
     Full,
-    /// Less than a batch was found open.
+    /// The completions were counted, and no batch was open.
     Below,
-    /// The wakeup count went on by one batch from this number.
+    /// The completions were counted and one batch charged: the wakeup count advanced by a batch from this number.
     Won(u64),
-    /// Each try lost its exchange. The batch stands open for a later completion.
+    /// The completions were counted, but all 16 tries to charge a batch lost their exchange. Nothing was charged.
     Busy,
 }
 
 impl Book {
-    /// The batch of later charges, 1 to 8. The table and the limits stay the same, so counts and intervals go on.
+    /// Sets the batch of later charges, 1 to 8. The table and its limits are unchanged: counts and intervals continue.
     pub fn rebatch(&mut self, batch: u32)
         requires { (1 ≤ batch) × (batch ≤ 8) }
         ensures { Rebatches self.old self.new batch }
@@ -33,8 +33,9 @@ impl Book {
         self.batch = batch;
     }
 
-    /// Counts 1 to 64 completions, and charges one batch where one is open. Others may count and charge meanwhile.
-    /// At most 49 steps stand in the teller's list; the body makes no load beside them.
+    /// Counts `n` completions, 1 to 64, and charges one batch if one is open. Other tellers may count and charge
+    /// meanwhile. It is the counterpart of `sbitmap_queue_wake_up` (lib/sbitmap.c) up to the wakeups, with at most 16
+    /// tries. This adds at most 49 steps to the teller's list and makes no other load.
     pub fn count(&self, teller: &mut Teller, n: u32) -> Charge
         requires book { IsTellerOf self.now teller.old }
         requires within { (1 ≤ n) × (n ≤ 64) }
@@ -62,7 +63,7 @@ impl Book {
         Charge::Busy
     }
 
-    /// Completions, and wakeups, which are loaded first and so are at most as many.
+    /// Returns the completions and the wakeups. The wakeups are loaded first, so they are at most as many.
     pub fn counts(&self, teller: &mut Teller) -> (u64, u64)
         requires book { IsTellerOf self.now teller.old }
         ensures book { IsTellerOf self.now teller.new × (number_of teller.new ≡ number_of teller.old) }
@@ -112,7 +113,7 @@ impl Book {
         teller.count += n;
     }
 
-    // Moves the wakeup count on from `start`, where it is still that.
+    // Advances the wakeup count from `start` to `end` if it is still `start`.
     fn advance(&self, teller: &mut Teller, start: u64, end: u64) -> bool
         requires book { IsTellerOf self.now teller.old }
         requires batch { (start < end) × (end ≤ start + 8) }

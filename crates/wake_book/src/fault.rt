@@ -1,12 +1,12 @@
-//! Why a call of the crate refuses.
+//! The faults of opening a book or groups.
 
-/// Why a book or groups can't be opened, in the order in which the causes are looked at.
+/// Why a book or groups can't be opened, in the order in which the causes are checked.
 #[derive(Clone, Copy, Debug, PartialEq, Eq)]
 pub enum BookFault {
-    /// A batch that isn't 1 to 8, or not 1 to 64 tellers or waiters.
+    /// The batch is not 1 to 8, or the number of tellers or waiters is not 1 to 64.
     Count,
-    /// A cap above 2^56.
+    /// The cap is above 2^56.
     CapTooLarge,
-    /// No memory was found. It is told only after the other causes.
+    /// Out of memory. The arguments are valid.
     Memory,
 }

@@ -1,4 +1,4 @@
-//! What each kind of step on the groups tells. These types are for the proofs alone.
+//! What a waiter learns from each kind of step on the groups. These types exist only for the proofs.
 ghost use Rattle.wake_book.specs.WaitPlays.{looked_active, looked_index, looked_group, raising, lowering};
 ghost use Rattle.wake_book.specs.WaitPlays.{entering, granting, using, withdrawing, storing};
 

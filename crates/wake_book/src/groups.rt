@@ -1,4 +1,4 @@
-//! The wait groups: eight counts of those who wait and of those who are granted leave, and how many are active.
+//! The wait groups: eight words, each with a count of waiters and a count of grants, and the number of active waiters.
 ghost use Rattle.std.specs.Prelude.{◌≡◌, ◌-◌, ◌^◌, ◌<◌, ◌≤◌, [], min};
 ghost use Rattle.step_ledger.specs.Views.{alone, steps_of, sum_over};
 ghost use Rattle.step_ledger.specs.History.{total};
@@ -13,22 +13,22 @@ use crossbeam_utils::sync::EventCount;
 use std::alloc::Global;
 use step_ledger::{Numbered, View};
 
-/// Place of the word that counts the active, behind the spare word at 0 and the groups.
+/// Index of the word that counts active waiters, after the spare word at 0 and the eight groups.
 pub(crate) const ACTIVE: usize = 9 * STRIDE;
 
-/// Place of the word that says which group a walk visits first.
+/// Index of the word that holds the wake index: the group that the next walk visits first.
 pub(crate) const INDEX: usize = 10 * STRIDE;
 
-/// Words of the table: the last has 64 bytes of its own too.
+/// Length of the table, in words. Its last word also has 64 bytes of its own.
 pub(crate) const GROUP_WORDS: usize = 11 * STRIDE;
 
-/// Groups, among which waiters stand in turn.
+/// Number of groups. Each waiter enters them in turn.
 pub(crate) const GROUPS: u32 = 8;
 
-/// One who waits, in a group's word. Its low 32 bits count the granted.
+/// One waiter in a group's word, whose high 32 bits count those waiting and whose low 32 bits count unused grants.
 pub(crate) const WAITING: u64 = 1 << 32;
 
-/// The rule of the groups' table: some lawful history of the waiters' steps leaves its words.
+/// The rule of the groups' table: its words are what some lawful history of the waiters' steps leaves.
 #[derive(Drop)]
 pub struct Waits;
 
@@ -40,13 +40,13 @@ impl TableRule<(), View<GroupStep>, u32> for Waits {
     ghost first = { λ n. all_fresh n };
 }
 
-/// Eight groups in which up to 64 waiters stand, without a lock.
+/// Eight groups, shared by up to 64 waiters without a lock.
 #[derive(Drop)]
 pub struct Groups {
     pub(crate) table: Table<(), View<GroupStep>, u32, Waits, Global>,
-    /// Waiters, 1 to 64.
+    /// Number of waiters, 1 to 64.
     pub(crate) waiters: u32,
-    /// Where the sleepers of each group are woken. No clause speaks of it.
+    /// The event count of each group, on which its sleepers wait. No clause mentions it.
     pub(crate) bells: [CachePadded<EventCount>; 8],
     ghost told: { table.shared.key ≡ waiters },
     ghost wide: { (table.shared.table_id.words ≡ groups_width) × (table.shared.table_id.slots ≡ 0) },
@@ -56,7 +56,7 @@ pub struct Groups {
 impl Groups {
     ghost use Rattle.wake_book.specs.Groups.{waiters_of};
 
-    /// Waiters of the groups, 1 to 64.
+    /// Returns the number of waiters, 1 to 64.
     pub fn waiters(&self) -> u32
         ensures value { result ≡ waiters_of self.now }
         ensures within { (1 ≤ result) × (result ≤ 64) }
@@ -65,17 +65,17 @@ impl Groups {
     }
 }
 
-/// One who waits and wakes. A clause sees its number, where it stands, and the list of its own steps.
+/// A handle that waits and wakes others. A contract sees its number, group, wait index, and the list of its own steps.
 #[derive(Drop)]
 pub struct Waiter {
     pub(crate) seat: Seat<(), View<GroupStep>>,
-    /// From 0.
+    /// Its number, from 0.
     pub(crate) number: u32,
-    /// The group in which it stands, below 8.
+    /// The group that it is in, 0 to 7, or `None`.
     pub(crate) standing: Option<u32>,
-    /// The wait index: the group in which it stands next, below 8.
+    /// The wait index: the group that it enters next, 0 to 7.
     pub(crate) next: u32,
-    /// How many it moved to granted, at most 2^56.
+    /// Waiters that it moved from waiting to granted, at most 2^56.
     pub(crate) moved: u64,
     ghost knows: { seat.me ≡ (alone (record { number = number; steps = steps_of seat.me.0 }), []) },
     ghost stands: { StandsSo standing (steps_of seat.me.0) },
@@ -91,31 +91,31 @@ impl Numbered for Waiter {
     }
 }
 
-/// Waiters that have come together, one after another. A clause sees the list of their records, the newest first.
+/// The waiters gathered so far. A contract sees the list of their records, the last one added first.
 #[derive(Drop)]
 pub struct WaiterGathering {
-    /// It has all their records.
+    /// The seat that holds the records of these waiters.
     pub(crate) seat: Seat<(), View<GroupStep>>,
-    /// Moves to granted of these waiters. It never comes to the largest number, where it would stay.
+    /// Moves to granted by these waiters, as a saturating sum. 64 waiters of at most 2^56 moves each never saturate it.
     pub(crate) moved: u64,
     ghost empty: { seat.me.1 ≡ [] },
     ghost sum: { moved ≡ min (sum_over (total moved_by) seat.me.0.records.value) (2 ^ 64 - 1) },
 }
 
-/// What the groups saw in all, once their waiters are gathered.
+/// The totals of the groups, known once all their waiters are gathered.
 #[derive(Clone, Copy, Debug, PartialEq, Eq)]
 pub struct GroupTotals {
-    /// Waiters moved to granted.
+    /// Grants made: waiters moved from waiting to granted.
     pub issued: u64,
     /// Grants used.
     pub used: u64,
-    /// Grants that stand unused.
+    /// Grants not used yet.
     pub granted: u64,
-    /// Waiters that stand without a grant.
+    /// Waiters that are waiting without a grant.
     pub waiting: u64,
 }
 
-/// Place of a group's word.
+/// Returns the index of a group's word.
 pub(crate) fn place_of(group: u32) -> usize
     requires { group < 8 }
     ensures { result ≡ group_at group }

@@ -1,4 +1,4 @@
-//! All waiters come together, and the groups end.
+//! Gathers all waiters and closes the groups.
 ghost use Rattle.std.specs.Prelude.{◌≡◌, ◌↔◌, [], ◌∷◌, All, IfOk, IfErr, IsOk};
 ghost use Rattle.std.specs.Slots.{slots_len, slots_items, IsFull};
 ghost use Rattle.step_ledger.specs.Views.{Has, HasAll, numbers};
@@ -15,18 +15,19 @@ use atomic_table::Closed;
 use std::alloc::Global;
 use step_ledger::{Collect, GatherCause, least_missing};
 
-/// Why groups weren't gathered, with all that was handed in.
+/// The reason why `gather` failed, with the groups and the waiters that were passed in.
 #[derive(Drop)]
 pub struct GroupsGatherFault {
     pub cause: GatherCause,
     pub groups: Groups,
-    /// In the order in which they were handed in.
+    /// In the order in which they were passed in.
     pub waiters: Vec<Waiter>,
 }
 
 impl Groups {
-    /// Ends the groups where all their waiters are handed in, in any order, also those that stand.
-    /// For each waiter but the first it makes one load that stands in no list.
+    /// Closes the groups and returns their totals, if all their waiters are passed in, in any order, even those that
+    /// are in a group. Otherwise it names the least missing number and hands everything back. For each waiter but the
+    /// first, one load is in no waiter's list.
     pub fn gather(groups: Groups, waiters: Vec<Waiter>) -> Result<GroupTotals, GroupsGatherFault>
         requires { All (IsWaiterOf groups) waiters.items }
         ensures ok { IfOk result (λ totals. IsBalanced (waiters_of groups) (records_of waiters.items) totals) }
@@ -62,7 +63,7 @@ impl Groups {
         all
     }
 
-    /// The first of the waiters that come together.
+    /// Starts a gathering with its first waiter.
     pub fn start_gathering(&self, waiter: Waiter) -> WaiterGathering
         requires { IsWaiterOf self.now waiter }
         ensures groups { IsGatheringOf self.now result }
@@ -78,7 +79,7 @@ impl Groups {
         WaiterGathering { seat, moved }
     }
 
-    /// Ends the groups once each of their waiters was gathered, also those that stand.
+    /// Closes the groups, once all waiters are gathered, and returns their totals. Waiters may still be in a group.
     pub fn finish(self, gathering: WaiterGathering) -> GroupTotals
         requires groups { IsGatheringOf self gathering }
         requires all { HasAll (numbers (gathered gathering)) (waiters_of self) }
@@ -103,7 +104,7 @@ impl Groups {
 }
 
 impl WaiterGathering {
-    /// One more waiter of the groups comes to those gathered, by one load that stands in no list.
+    /// Adds a waiter of the groups to the gathering. The load that this takes is in no waiter's list.
     pub fn add(&mut self, groups: &Groups, waiter: Waiter)
         requires own { IsWaiterOf groups.now waiter }
         requires groups { IsGatheringOf groups.now self.old }
@@ -125,7 +126,7 @@ impl WaiterGathering {
     }
 }
 
-// The granted and the waiting of all groups.
+// Returns the grants and the waiting waiters of all groups together.
 fn counts_of(closed: &Closed<(), Global>) -> (u64, u64)
     requires { IsFull closed.now.words × (slots_len closed.now.words ≡ groups_width) }
     ensures granted { result.0 ≡ sum_to (λ g. granted (word (slots_items closed.now.words) g)) 8 }

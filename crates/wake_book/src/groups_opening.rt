@@ -1,4 +1,4 @@
-//! New groups, and their waiters.
+//! Opens wait groups with their waiters.
 ghost use Rattle.std.specs.Prelude.{◌≡◌, ◌≢◌, ℕ, ◌+◌, ◌<◌, ◌≤◌, ◌↔◌, ◌⊎◌, [], ◌∷◌, All, IfOk};
 ghost use Rattle.step_ledger.specs.Views.{fresh, fresh_record, still_to_come};
 ghost use Rattle.wake_book.specs.Waits.{all_fresh};
@@ -13,15 +13,15 @@ use crossbeam_utils::sync::EventCount;
 use std::alloc::{AllocError, Global};
 use step_ledger::{HandOut, View};
 
-/// Most waiters of groups.
+/// The most waiters that groups can have.
 const MAX_WAITERS: u32 = 64;
 
 impl Groups {
-    /// Groups in which nobody stands. The waiters stand in the order of their numbers.
+    /// Opens eight empty groups with `waiters` waiters, 1 to 64, in the order of their numbers.
     pub fn open(alloc: Global, waiters: u32) -> Result<(Groups, Vec<Waiter>), BookFault>
         ensures ok { IfOk result (λ opened. AreOpenGroups waiters opened.0 opened.1.items) }
 
-        // The count is looked at first.
+        // The count is checked before memory is asked for.
         ensures count { (result ≡ Err BookFault.Count) ↔ MiscountsGroups waiters }
         ensures no_cap { result ≢ Err BookFault.CapTooLarge }
     {
@@ -75,7 +75,7 @@ impl Groups {
         Ok(all)
     }
 
-    // The next waiter, from the seat with the records of all that are still to come.
+    // Makes the next waiter from the seat that holds its record and those of all later waiters.
     fn new_waiter(&self, rest: &mut Seat<(), View<GroupStep>>, number: u32) -> Waiter
         requires comes { (number < self.now.waiters) × (rest.old.table_id ≡ self.now.table.shared.table_id) }
         requires knows { rest.old.me ≡ (still_to_come number (waiters_of self.now), []) }

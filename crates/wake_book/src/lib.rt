@@ -1,4 +1,4 @@
-//! Completions charged in batches, and waiters in eight groups, over tables of atomic words.
+//! Charges completions in batches and wakes waiters in eight groups, over tables of atomic words.
 #![tactic(auto)]
 
 mod book;

@@ -1,4 +1,4 @@
-//! Sleeping until a grant stands in the waiter's group.
+//! Sleeps until there is a grant in the waiter's group.
 ghost use Rattle.std.specs.Prelude.{◌≡◌, IsSome};
 ghost use Rattle.wake_book.specs.Groups.{IsWaiterOf, standing_of, moved_of, StandsAsBefore, Sleeps};
 
@@ -6,7 +6,7 @@ use crate::groups::{Groups, WAITING, Waiter};
 use std::sync::Wait;
 
 impl Groups {
-    /// Sleeps until a grant is found in the waiter's group. Another of the group may use it first.
+    /// Sleeps until a look finds a grant in the waiter's group. Another waiter of the group may use that grant first.
     pub fn sleep<R: Wait>(&self, rt: &R, waiter: &mut Waiter)
         requires groups { IsWaiterOf self.now waiter.old }
         requires stands { IsSome (standing_of waiter.old) }
@@ -18,7 +18,7 @@ impl Groups {
             unreachable!()
         };
         for _ in rt.forever() {
-            // The sleep is announced before the look, so that a grant made after the look ends it.
+            // The sleep is announced before the look, so a grant made after the look ends the sleep.
             let key = self.bells[group as usize].prepare_wait();
             if self.look_group(waiter, group) % WAITING > 0 {
                 return;

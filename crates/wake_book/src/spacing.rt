@@ -1,4 +1,4 @@
-//! How far apart the words of both tables stand.
+//! The spacing of the words of both tables.
 
-/// Words of a table, of 8 bytes each, from one that threads write to the next: 64 bytes.
+/// Distance between two words that threads write, in words of 8 bytes: 64 bytes, a cache line.
 pub(crate) const STRIDE: usize = 8;

@@ -1,33 +1,34 @@
-//! The kinds of step on both tables, each with what it found. These types are for the proofs alone.
+//! The kinds of step on both tables, each with what it found. These types exist only for the proofs.
 
 /// A step of one teller on the charge book.
 pub enum BookStep {
-    /// A look at the completions: the count found.
+    /// A load of the completions: the count found.
     LookCompletions(u64),
-    /// A look at the wakeups: the count found.
+    /// A load of the wakeups: the count found.
     LookWakeups(u64),
-    /// Completions counted: how many, and the count found.
+    /// An addition to the completions: how many, and the count found before.
     Add(u64, u64),
-    /// An exchange of the wakeups: the count expected, the new one, and the count found.
+    /// A compare-exchange of the wakeups: the count expected, the new one, and the count found. It wins if it finds
+    /// what it expects, as do the exchanges below.
     Advance(u64, u64, u64),
 }
 
 /// A step of one waiter on the wait groups.
 pub enum GroupStep {
-    /// A look at a word: its place in the table, and what was found.
+    /// A load of a word: its index in the table, and the value found.
     Look(u64, u64),
-    /// The active count goes up by 1: the count found.
+    /// The active count goes up by 1: the count found before.
     Raise(u64),
-    /// The active count goes down by 1: the count found.
+    /// The active count goes down by 1: the count found before.
     Lower(u64),
-    /// One more waits: the group, and the word found.
+    /// The waiter enters a group and waits: the group, and the word found before.
     Enter(u64, u64),
-    /// Some go from waiting to granted: the group, the word expected, how many, and the word found.
+    /// An exchange that turns waiting into granted: the group, the word expected, how many, and the word found.
     Grant(u64, u64, u64, u64),
-    /// A grant is used: the group, the word expected, and the word found.
+    /// An exchange that uses a grant: the group, the word expected, and the word found.
     Use(u64, u64, u64),
-    /// One waits no more: the group, the word expected, and the word found.
+    /// An exchange by which a waiter without a grant leaves: the group, the word expected, and the word found.
     Withdraw(u64, u64, u64),
-    /// The wake index is stored.
+    /// A store of the wake index: the new value.
     Store(u64),
 }

@@ -1,4 +1,4 @@
-//! How a waiter comes, looks, and goes.
+//! How a waiter enters a group, looks at it, and leaves it.
 ghost use Rattle.std.specs.Prelude.{◌≡◌, ℕ, ◌+◌, ◌%◌, ◌<◌, ◌≤◌, ◌∷◌, length, IsTrue, IsFalse, Some, None, IsSome, IfSome, IfNone};
 ghost use Rattle.wake_book.specs.Waits.{active_at, index_at, group_at, granted, waiting};
 ghost use Rattle.wake_book.specs.Groups.{IsWaiterOf, steps_of, number_of, standing_of, wait_index_of, moved_of};
@@ -14,14 +14,15 @@ use std::sync::Wait;
 /// How a waiter left its group.
 #[derive(Clone, Copy, Debug, PartialEq, Eq)]
 pub enum Left {
-    /// By a grant, which it used.
+    /// It used a grant of its group.
     Woken,
-    /// With no grant standing in its group.
+    /// It found no grant in its group.
     Unwoken,
 }
 
 impl Groups {
-    /// How many have raised the active count and not lowered it, the caller among them.
+    /// Loads the active count: the number of waiters that have raised it and not lowered it yet. It is at least 1 if
+    /// this waiter is in a group.
     pub fn active(&self, waiter: &mut Waiter) -> u64
         requires groups { IsWaiterOf self.now waiter.old }
         ensures groups { IsWaiterOf self.now waiter.new × StandsAsBefore waiter.old waiter.new }
@@ -33,7 +34,7 @@ impl Groups {
             .load::<SeeActive>(&mut waiter.seat, ACTIVE)
     }
 
-    /// The group that the next walk visits first.
+    /// Loads the wake index: the group that the next walk visits first, 0 to 7.
     pub fn index(&self, waiter: &mut Waiter) -> u32
         requires groups { IsWaiterOf self.now waiter.old }
         ensures groups { IsWaiterOf self.now waiter.new × StandsAsBefore waiter.old waiter.new }
@@ -43,7 +44,7 @@ impl Groups {
         self.table.shared.load::<SeeIndex>(&mut waiter.seat, INDEX) as u32
     }
 
-    /// The group in which the waiter stands. It is known without a step.
+    /// Returns the group that the waiter is in, 0 to 7. This makes no step.
     pub fn standing(waiter: &Waiter) -> Option<u32>
         ensures { result ≡ standing_of waiter.now }
     {
@@ -51,8 +52,8 @@ impl Groups {
         *standing
     }
 
-    /// Raises the active count, and stands in the group of the wait index, which goes on by one. It makes these two steps,
-    /// and no load beside them.
+    /// Raises the active count, enters the group of the waiter's wait index, advances that index by one (modulo 8), and
+    /// returns the group. This takes exactly two steps and no other load.
     pub fn enter(&self, waiter: &mut Waiter) -> u32
         requires groups { IsWaiterOf self.now waiter.old }
         requires out { standing_of waiter.old ≡ None }
@@ -74,7 +75,8 @@ impl Groups {
         group
     }
 
-    /// Uses a grant where one stands in the waiter's group, whoever was meant, else waits no more; then the active count is lowered.
+    /// Leaves the waiter's group and lowers the active count. It uses a grant if it finds one there, whichever waiter
+    /// the grant was made for, and otherwise withdraws. A lost exchange is tried again, and no clause bounds the tries.
     pub fn leave<R: Wait>(&self, rt: &R, waiter: &mut Waiter) -> Left
         requires groups { IsWaiterOf self.now waiter.old }
         requires stands { IsSome (standing_of waiter.old) }
@@ -99,8 +101,8 @@ impl Groups {
         unreachable!()
     }
 
-    /// As `leave`, by one look and one try, so that it returns at once. `None` says that the group's word changed between the two, and
-    /// that the waiter stands there still.
+    /// Like `leave`, but makes one try only: one look and one exchange. `None` means that the group's word changed
+    /// between the two, and that the waiter is still in the group.
     pub fn try_leave(&self, waiter: &mut Waiter) -> Option<Left>
         requires groups { IsWaiterOf self.now waiter.old }
         requires stands { IsSome (standing_of waiter.old) }
@@ -126,6 +128,7 @@ impl Groups {
         None
     }
 
+    /// Loads the word of a group. If the waiter is in that group and finds no grant, it finds somebody waiting.
     pub(crate) fn look_group(&self, waiter: &mut Waiter, group: u32) -> u64
         requires groups { IsWaiterOf self.now waiter.old }
         requires within { group < 8 }
@@ -139,7 +142,7 @@ impl Groups {
             .load::<SeeGroup>(&mut waiter.seat, place_of(group))
     }
 
-    // Uses a grant, where the word is still what was found, and lowers the active count.
+    // Uses a grant and lowers the active count, if the group's word is still `found`.
     fn use_grant(&self, waiter: &mut Waiter, group: u32, found: u64) -> bool
         requires groups { IsWaiterOf self.now waiter.old }
         requires stands { (standing_of waiter.old ≡ Some group) × (0 < granted found) }
@@ -163,7 +166,7 @@ impl Groups {
         true
     }
 
-    // Takes one from those who wait, where the word is still what was found, and lowers the active count.
+    // Removes the waiter from those waiting and lowers the active count, if the group's word is still `found`.
     fn withdraw(&self, waiter: &mut Waiter, group: u32, found: u64) -> bool
         requires groups { IsWaiterOf self.now waiter.old }
         requires stands { (standing_of waiter.old ≡ Some group) × (granted found ≡ 0) × (1 ≤ waiting found) }

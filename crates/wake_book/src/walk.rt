@@ -1,4 +1,4 @@
-//! The walk that wakes: waiters go from waiting to granted, group by group.
+//! The wake walk: moves waiters from waiting to granted, group by group.
 ghost use Rattle.std.specs.Prelude.{◌≡◌, ◌+◌, ◌^◌, ◌<◌, ◌≤◌, ◌∷◌, length, IsTrue, IsFalse};
 ghost use Rattle.wake_book.specs.Waits.{waiting};
 ghost use Rattle.wake_book.specs.Walks.{IsVisit, IsWalk};
@@ -8,30 +8,31 @@ ghost use Rattle.wake_book.specs.declared.steps.GroupStep.TheVariants.{Grant, St
 use crate::group_plays::{GrantSome, StoreIndex};
 use crate::groups::{GROUPS, Groups, INDEX, WAITING, Waiter, place_of};
 
-/// Tries at one group, after which a walk goes on to the next.
+/// Exchanges that a walk may lose in one group before it goes on to the next.
 const TRIES: u32 = 4;
 
-/// Most moves to granted of one waiter.
+/// The most waiters that one waiter may move to granted in all.
 const MAX_MOVED: u64 = 1 << 56;
 
-/// What a walk granted.
+/// The outcome of a walk.
 #[derive(Clone, Copy, Debug, PartialEq, Eq)]
 pub struct Walked {
-    /// How many it moved from waiting to granted.
+    /// Waiters that it moved from waiting to granted, at most `nr`.
     pub woken: u32,
-    /// In which groups, of each of which the bit is set.
+    /// The groups in which it did so: bit `g` is 1 for group `g`, 0 to 7.
     pub groups: u32,
 }
 
-/// No grant.
+/// The outcome of a walk that granted nothing.
 const NOBODY: Walked = Walked {
     woken: 0,
     groups: 0,
 };
 
 impl Groups {
-    /// Moves up to `nr`, 1 to 8, of those who wait to granted, wakes the sleepers of their groups, and answers how many it moved.
-    /// At most 67 steps stand in the waiter's list; the body makes no load of the table beside them.
+    /// Moves up to `nr` waiters, 1 to 8, from waiting to granted, wakes the sleepers of their groups, and returns how
+    /// many it moved. Like `__sbitmap_queue_wake_up` (lib/sbitmap.c) it visits the groups in cyclic order from the wake
+    /// index, each at most once. This adds at most 67 steps to the waiter's list and makes no other load of the table.
     pub fn wake(&self, waiter: &mut Waiter, nr: u32) -> u32
         requires groups { IsWaiterOf self.now waiter.old }
         requires within { (1 ≤ nr) × (nr ≤ 8) }
@@ -46,7 +47,7 @@ impl Groups {
         woken
     }
 
-    /// As `wake`, but leaves the sleepers to its caller: `ring` wakes them, or something of the caller's own.
+    /// Like `wake`, but wakes no sleeper. The caller wakes them with `ring`, or by other means.
     pub fn walk(&self, waiter: &mut Waiter, nr: u32) -> Walked
         requires groups { IsWaiterOf self.now waiter.old }
         requires within { (1 ≤ nr) × (nr ≤ 8) }
@@ -77,7 +78,7 @@ impl Groups {
         }
     }
 
-    /// Wakes the sleepers of the groups whose bits are set. No clause speaks of sleepers.
+    /// Wakes the sleepers of the groups whose bits are 1 in `groups`. No clause mentions sleepers.
     pub fn ring(&self, groups: u32) {
         for group in 0..GROUPS {
             if groups >> group & 1 == 1 {
@@ -86,7 +87,7 @@ impl Groups {
         }
     }
 
-    // Moves up to `most` of those who wait in a group.
+    // Moves up to `most` waiters of a group from waiting to granted, and returns how many.
     fn visit(&self, waiter: &mut Waiter, group: u32, most: u32) -> u32
         requires groups { IsWaiterOf self.now waiter.old }
         requires within { (group < 8) × (waiter.old.moved + most ≤ 2 ^ 56) }
@@ -108,7 +109,7 @@ impl Groups {
         0
     }
 
-    // Moves some from waiting to granted, where the word is still what was found.
+    // Moves `count` waiters from waiting to granted, if the group's word is still `found`.
     fn grant(&self, waiter: &mut Waiter, group: u32, found: u64, count: u64) -> bool
         requires groups { IsWaiterOf self.now waiter.old }
         requires within { (group < 8) × (count ≤ waiting found) × (waiter.old.moved + count ≤ 2 ^ 56) }

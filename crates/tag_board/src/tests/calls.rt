@@ -1,4 +1,4 @@
-//! Commands of callers, one after another, and what each is answered.
+//! Commands of callers and their answers.
 use crate::board::Board;
 use std::alloc::{AllocError, Global};
 use std::sync::Wait;
@@ -22,7 +22,7 @@ pub(crate) enum Call {
     Resize(u32),
 }
 
-/// What a command answers.
+/// The answer of a command.
 #[derive(Clone, Copy, Debug, PartialEq, Eq)]
 pub(crate) enum Answer {
     Done,
@@ -33,11 +33,11 @@ pub(crate) enum Answer {
     Tag(u32),
     /// The first tag of a batch, and its mask.
     Batch(u32, u64),
-    /// Waiters woken.
+    /// The number of waiters woken.
     Woken(u32),
     Group(u32),
     Left(Left),
-    /// Completions counted and charged, the wake index, and the number of the active.
+    /// Completions counted, wakeups charged, the wake index, and the number of active waiters.
     Found(u64, u64, u32, u64),
     Refused(TagFault),
     NotResized(ResizeCause),
@@ -91,7 +91,7 @@ fn counts(found: Wakes) -> Answer {
     Answer::Found(found.counted, found.charged, found.index, found.active)
 }
 
-/// A world of so many callers, each of which may win any number of tags.
+/// Options for this many callers, each of which may win any number of tags.
 pub(crate) fn options(callers: u32) -> Options {
     Options {
         shift: None,
@@ -103,7 +103,7 @@ pub(crate) fn options(callers: u32) -> Options {
     }
 }
 
-// Any command but a resize.
+// Runs any command but a resize.
 fn act<W: Wait>(rt: &W, board: &mut Board, caller: u32, call: Call) -> Answer {
     if caller as usize >= board.hands.len() {
         return Answer::Nobody;
@@ -132,7 +132,7 @@ fn resize(board: Board, alloc: Global, total: u32) -> Result<(Answer, Board), Al
     }
 }
 
-/// Carries the commands out, and stops behind the first that is answered otherwise than said: what it was answered.
+/// Runs the commands, and stops after the first whose answer differs from the expected one. Returns that answer.
 pub(crate) fn replay<W: Wait>(
     rt: &W,
     alloc: Global,

@@ -1,4 +1,4 @@
-//! Want of memory. Run with each allocation refused in turn, this test still passes.
+//! Out of memory. This test passes whichever allocation is refused.
 use crate::board::Board;
 use crate::tests::calls::options;
 use std::test::Fail;

@@ -16,7 +16,8 @@ use tag_sets::Left::{Unwoken, Woken as ByGrant};
 use tag_sets::ResizeCause::{DepthTooLarge, InUse, Waiting};
 use tag_sets::TagFault;
 
-// What a world with so many tags, reserved tags and callers answers otherwise than said, and its totals at the end.
+// Runs a script on a board of `total` tags, `reserved` of them reserved, for `callers` callers. Returns the first
+// command whose answer differs from the expected one, with its answer, and the totals at the end.
 fn played<W: Blocks>(
     rt: &W,
     alloc: Global,

@@ -8,10 +8,10 @@ use crate::queue::{Options, Queue};
 use std::alloc::Global;
 use std::test::Fail;
 
-/// With what each slot begins.
+/// The initial value of each slot.
 pub(crate) const FILL: u64 = 9;
 
-/// Words of the default size, and room for whatever a test does.
+/// Options with words of the default size, and the highest life and cap.
 pub(crate) fn options(callers: u32) -> Options {
     Options {
         shift: None,
@@ -23,7 +23,7 @@ pub(crate) fn options(callers: u32) -> Options {
     }
 }
 
-/// Words of four tags, and room for whatever a test does.
+/// Options with words of four tags, and the highest life and cap.
 pub(crate) fn words_of_four(callers: u32) -> Options {
     Options {
         shift: Some(2),
@@ -31,7 +31,7 @@ pub(crate) fn words_of_four(callers: u32) -> Options {
     }
 }
 
-/// A queue, and its agents in the order of their numbers.
+/// Opens a queue, with its agents in the order of their numbers.
 pub(crate) fn opened(
     alloc: Global,
     depth: u32,
@@ -42,7 +42,7 @@ pub(crate) fn opened(
     Ok(Queue::open(alloc, depth, options, FILL)?)
 }
 
-/// Gathers all agents.
+/// Gathers all agents and closes the queue.
 pub(crate) fn close(queue: Queue<u64>, agents: Vec<Agent<u64>>) -> Result<QueueTotals, Fail>
     requires { All (IsAgentOf queue) agents.items }
 {
@@ -52,7 +52,7 @@ pub(crate) fn close(queue: Queue<u64>, agents: Vec<Agent<u64>>) -> Result<QueueT
     }
 }
 
-/// Whether there is such a tag and the agent holds it.
+/// Returns whether the number is a tag's and the agent holds that tag.
 pub(crate) fn has(queue: &Queue<u64>, agent: &Agent<u64>, tag: u32) -> bool
     requires { IsAgentOf queue.now agent.now }
     ensures { IsTrue result → Holds agent.now tag }
@@ -60,7 +60,7 @@ pub(crate) fn has(queue: &Queue<u64>, agent: &Agent<u64>, tag: u32) -> bool
     tag < queue.map.layout().depth() && agent.holds(tag)
 }
 
-/// The word and its cleared set: 1 is taken, and 1 is set aside. None where there is no such word.
+/// Loads the word (1 is taken) and its cleared set (1 is set aside). Returns `None` if there is no such word.
 pub(crate) fn look_at(queue: &Queue<u64>, agent: &mut Agent<u64>, word: u32) -> Option<(u64, u64)>
     requires { IsAgentOf queue.now agent.old }
     ensures { IsAgentOf queue.now agent.new }

@@ -1,4 +1,4 @@
-//! Calls that the agents of a stage make, one after another, and what each is answered.
+//! Calls that the agents of a stage make one after another, and the answer to each.
 ghost use Rattle.tag_queue.specs.Agents.{IsAgentOf};
 
 use crate::agent::Agent;
@@ -29,7 +29,7 @@ pub(crate) enum Call {
     Wakes,
 }
 
-/// What a call answers.
+/// The answer to a call.
 #[derive(Clone, Copy, Debug, PartialEq, Eq)]
 pub(crate) enum Answer {
     Done,
@@ -47,7 +47,7 @@ pub(crate) enum Answer {
     /// A word and its cleared set: 1 is taken, and 1 is set aside.
     Bits(u64, u64),
     Group(u32),
-    /// Completions counted and charged, the wake index, and the number of the active.
+    /// Completions counted and charged, the wake index, and the active count.
     Found(u64, u64, u32, u64),
     Refused(TagFault),
 }
@@ -134,12 +134,13 @@ fn act(queue: &Queue<u64>, agent: &mut Agent<u64>, call: Call) -> Answer
 }
 
 impl Stage {
-    /// What a call of the agent that stands there answers. None where nobody stands.
+    /// Makes a call with the agent at this place, and returns its answer, or `None` if there is no such agent.
     pub(crate) fn act(&mut self, at: usize, call: Call) -> Option<Answer> {
         Some(act(&self.queue, self.agents.get_mut(at)?, call))
     }
 
-    /// Makes the calls, up to the first that is answered otherwise than said: who made that one, and what it was answered.
+    /// Makes the calls in order, up to the first whose answer differs from the one expected. Returns that call, who
+    /// made it, and its answer.
     pub(crate) fn wrong(
         &mut self,
         said: &[(usize, Call, Answer)],

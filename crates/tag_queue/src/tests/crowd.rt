@@ -1,4 +1,4 @@
-//! How the agents of a stage meet, go away and come together.
+//! How the agents of a stage meet, leave, return, and are gathered.
 ghost use Rattle.std.specs.Prelude.{◌≡◌, All, IfSome};
 ghost use Rattle.tag_queue.specs.Agents.{IsAgentOf};
 
@@ -13,7 +13,7 @@ use std::mem::replace;
 use std::test::Fail;
 use step_ledger::GatherCause;
 
-/// The agent stands behind the others.
+/// Puts the agent after the others.
 fn put_back(queue: &Queue<u64>, agents: &mut Vec<Agent<u64>>, agent: Agent<u64>) -> Result<(), Fail>
     requires { All (IsAgentOf queue.now) agents.old.items × IsAgentOf queue.now agent }
     ensures { All (IsAgentOf queue.now) agents.new.items }
@@ -22,7 +22,7 @@ fn put_back(queue: &Queue<u64>, agents: &mut Vec<Agent<u64>>, agent: Agent<u64>)
     Ok(())
 }
 
-/// The other agent stands there now, and who stood there goes, if anybody did.
+/// Puts the other agent at this place and returns the one that was there, or the other one if there is no such place.
 fn trade(
     queue: &Queue<u64>,
     agents: &mut Vec<Agent<u64>>,
@@ -71,7 +71,7 @@ impl Stage {
         }
     }
 
-    /// The last agent meets another one.
+    /// Has the last agent meet another one.
     pub(crate) fn meet(&mut self, at: usize) -> Result<bool, Fail> {
         let Some(mut last) = self.take_last() else {
             return Ok(false);
@@ -95,7 +95,7 @@ impl Stage {
         }
     }
 
-    /// That the last agent doesn't hold a tag that another one holds.
+    /// Establishes that the last agent does not hold a tag that another one holds.
     pub(crate) fn apart(&mut self, at: usize, tag: u32) -> Result<bool, Fail> {
         let Some(mut last) = self.take_last() else {
             return Ok(false);
@@ -105,7 +105,7 @@ impl Stage {
         Ok(is_held)
     }
 
-    /// An agent goes away, and the last one takes its place.
+    /// Sends an agent away. The last one takes its place.
     pub(crate) fn send_away(&mut self, at: usize) -> Result<(), Fail> {
         if let Some(agent) = self.take_out(at) {
             put_back(&self.queue, &mut self.away, agent)?;
@@ -113,7 +113,7 @@ impl Stage {
         Ok(())
     }
 
-    /// Who went away last comes back, behind the others.
+    /// Brings the agent that went away last back, after the others.
     pub(crate) fn bring_back(&mut self) -> Result<(), Fail> {
         if let Some(agent) = self.away.pop() {
             put_back(&self.queue, &mut self.agents, agent)?;
@@ -121,12 +121,12 @@ impl Stage {
         Ok(())
     }
 
-    /// An agent is lost, and the last one takes its place.
+    /// Drops an agent. The last one takes its place.
     pub(crate) fn lose(&mut self, at: usize) {
         drop(self.take_out(at));
     }
 
-    /// How many agents are there.
+    /// Returns how many agents are present.
     pub(crate) fn count(&self) -> usize {
         self.agents.len()
     }
@@ -157,7 +157,7 @@ impl Stage {
         }
     }
 
-    /// How many tags are held, and how many posted.
+    /// Returns how many tags are held and how many are posted.
     pub(crate) fn in_use(self) -> Result<(u64, u64, Stage), (GatherCause, Stage)> {
         let Stage {
             queue,
@@ -185,7 +185,7 @@ impl Stage {
         }
     }
 
-    /// The agents that are present continue with another number of tags. Those that are away are lost.
+    /// Resizes the queue with the agents that are present. Those that are away are dropped.
     pub(crate) fn resize(self, alloc: Global, depth: u32) -> Result<Stage, (ResizeCause, Stage)> {
         let Stage {
             queue,
@@ -216,7 +216,7 @@ impl Stage {
         }
     }
 
-    /// Why a resize is refused, and who comes back.
+    /// Makes a resize that must be refused, and returns the cause, with the stage that was handed back.
     pub(crate) fn refused(self, alloc: Global, depth: u32) -> Result<(ResizeCause, Stage), Fail> {
         match self.resize(alloc, depth) {
             Ok(_) => Err(Fail::new("a resize is not refused")),

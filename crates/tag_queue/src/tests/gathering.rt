@@ -1,4 +1,4 @@
-//! Agents that are missing, that were lost, and that meet.
+//! Agents that are missing, that were dropped, and that meet.
 use crate::gather::QueueTotals;
 use crate::tests::agents::options;
 use crate::tests::calls::Answer::{Batch, Tag, Woken};

@@ -7,7 +7,7 @@ use crate::tests::calls::Call::{Clear, ClearBoth, Get, GetBatch, GetShallow, Pla
 use crate::tests::stage::Stage;
 use std::test::Fail;
 
-/// Words of four tags, in round-robin mode.
+/// Options with words of four tags and round robin.
 fn in_turn() -> Options {
     Options {
         round_robin: true,
@@ -18,7 +18,7 @@ fn in_turn() -> Options {
 #[test]
 fn a_get_goes_on_past_a_full_word(rt: HostRuntime) -> Result<(), Fail> {
     let mut stage = Stage::open(rt.alloc(), 8, words_of_four(1))?;
-    // Behind tag 6 the hint is 0 again, and tag 7 lies past a full word.
+    // After tag 6 the hint wraps to 0, and tag 7 lies behind a full word.
     assert_eq!(rt;
         stage.wrong(&[
             (0, Get, Tag(0)),

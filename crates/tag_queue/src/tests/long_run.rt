@@ -1,4 +1,4 @@
-//! Eight agents at work with every call, and a ninth that clears what would stand. Each slot names its holder.
+//! Eight agents that use every call, and a ninth that keeps taking and clearing tags. Each slot names its holder.
 ghost use Rattle.std.specs.Prelude.{◌≤◌, length};
 ghost use Rattle.tag_queue.specs.Agents.{IsAgentOf};
 
@@ -13,19 +13,19 @@ use std::test::Fail;
 use std::thread;
 use tag_model::Totals;
 
-/// Tags, in four words of four.
+/// Number of tags, in four words of four.
 const DEPTH: u32 = 16;
 
-/// Threads that take tags in every way.
+/// Threads that take and give back tags in every way.
 const WORKERS: usize = 8;
 
 /// Rounds of each of them.
 const ROUNDS: u32 = 40_000;
 
-/// What the threads saw.
+/// What the threads observed.
 #[derive(Drop)]
 struct Tally {
-    /// Tags won, by what each get answered.
+    /// Tags won, as the gets returned them.
     won: AtomicU64,
     /// Tags given back.
     back: AtomicU64,
@@ -33,11 +33,11 @@ struct Tally {
     posted: AtomicU64,
     /// Posted tags that were taken.
     taken: AtomicU64,
-    /// Waiters woken, by what each clear answered.
+    /// Waiters woken, as the clears returned them.
     woken: AtomicU64,
-    /// Slots that named another than the tag's holder, and calls that a holder could not make.
+    /// Slots that did not name the tag's holder, and calls of a holder that were refused.
     wrong: AtomicU64,
-    /// Workers that take no more.
+    /// Workers that have finished.
     finished: AtomicU64,
     /// What the last holder wrote into each tag's slot.
     written: Vec<AtomicU64>,
@@ -67,7 +67,7 @@ impl Tally {
         }
     }
 
-    // Tags that came back, and how many their clear woke.
+    // Counts tags that were cleared, and how many waiters their clear woke.
     fn cleared(&self, tags: u64, woken: Option<u32>) {
         match woken {
             Some(woken) => {
@@ -79,7 +79,7 @@ impl Tally {
     }
 }
 
-// A tag was won: its holder writes its slot.
+// Counts a tag that was won, and writes its slot.
 fn mark(queue: &Queue<u64>, agent: &mut Agent<u64>, tally: &Tally, tag: u32, value: u64)
     requires { IsAgentOf queue.now agent.old }
     ensures { IsAgentOf queue.now agent.new }
@@ -99,7 +99,7 @@ fn post(queue: &Queue<u64>, agent: &mut Agent<u64>, tally: &Tally, tag: u32)
     tally.check(queue.post(agent, tag).is_ok());
 }
 
-// A tag is marked, looked at again after another call, and then posted or cleared.
+// Marks a tag, reads its slot again after another call, and then posts or clears the tag.
 fn spend(queue: &Queue<u64>, agent: &mut Agent<u64>, tally: &Tally, tag: u32, value: u64)
     requires { IsAgentOf queue.now agent.old }
     ensures { IsAgentOf queue.now agent.new }
@@ -115,7 +115,7 @@ fn spend(queue: &Queue<u64>, agent: &mut Agent<u64>, tally: &Tally, tag: u32, va
     }
 }
 
-// Takes up to four tags at once, and clears them at once.
+// Takes up to three tags at once, and clears them at once.
 fn spend_batch(queue: &Queue<u64>, agent: &mut Agent<u64>, tally: &Tally, value: u64)
     requires { IsAgentOf queue.now agent.old }
     ensures { IsAgentOf queue.now agent.new }
@@ -155,7 +155,7 @@ fn take_posted(queue: &Queue<u64>, agent: &mut Agent<u64>, tally: &Tally)
     }
 }
 
-// Begins a wait and gives it up.
+// Starts a wait and gives it up.
 fn wait_in_vain<R: Wait>(rt: &R, queue: &Queue<u64>, agent: &mut Agent<u64>, tally: &Tally)
     requires { IsAgentOf queue.now agent.old }
     ensures { IsAgentOf queue.now agent.new }
@@ -164,7 +164,7 @@ fn wait_in_vain<R: Wait>(rt: &R, queue: &Queue<u64>, agent: &mut Agent<u64>, tal
     tally.check(queue.finish_wait(rt, agent).is_ok());
 }
 
-// One call, and what follows it. An agent that may sleep holds nothing.
+// Makes one kind of call, which `value` picks, and spends the tags that it won. An agent that may sleep holds nothing.
 fn act<R: Wait>(rt: &R, queue: &Queue<u64>, agent: &mut Agent<u64>, tally: &Tally, value: u64)
     requires { IsAgentOf queue.now agent.old }
     ensures { IsAgentOf queue.now agent.new }
@@ -200,7 +200,7 @@ fn work<R: Wait>(rt: &R, queue: &Queue<u64>, agent: &mut Agent<u64>, tally: &Tal
     tally.finished.fetch_add(1, SeqCst);
 }
 
-// Takes and clears until the workers have finished, so that none of them sleeps for ever.
+// Takes and clears tags until the workers have finished, so that none of them sleeps for ever.
 fn keep<R: Wait>(rt: &R, queue: &Queue<u64>, agent: &mut Agent<u64>, tally: &Tally)
     requires { IsAgentOf queue.now agent.old }
     ensures { IsAgentOf queue.now agent.new }

@@ -1,4 +1,4 @@
-//! A queue as it opens.
+//! Opening a queue.
 use crate::fault::SetFault;
 use crate::queue::{Options, Queue};
 use crate::tests::agents::options;

@@ -1,4 +1,4 @@
-//! Queues that go on with another depth.
+//! Resizes.
 use crate::queue::{Options, Queue};
 use crate::resizes::ResizeCause;
 use crate::tests::agents::{FILL, options};
@@ -143,7 +143,7 @@ fn held_and_posted_tags_are_told(rt: HostRuntime) -> Result<(), Fail> {
     Ok(())
 }
 
-// The first tag of a queue where all are free, whose slot is as it begins.
+// Gets the first tag of a queue whose tags are all free, finds its slot in the initial state, and clears the tag.
 fn won_and_back(stage: &mut Stage) -> Option<(usize, Call, Answer)> {
     stage.wrong(&[
         (0, Get, Tag(0)),
@@ -172,7 +172,7 @@ fn totals_go_on_through_three_depths(rt: HostRuntime) -> Result<(), Fail> {
     Ok(())
 }
 
-// Run with each allocation refused in turn, this test still passes.
+// This test also passes when each allocation in turn is made to fail.
 #[test]
 fn a_resize_without_memory_hands_all_back(rt: HostRuntime) -> Result<(), Fail> {
     let Ok((queue, agents)) = Queue::open(rt.alloc(), 8, options(3), FILL) else {

@@ -1,4 +1,4 @@
-//! The values beside tags, and tags that pass from agent to agent.
+//! Slots, and tags that pass from agent to agent.
 use crate::fault::TagFault::{NoSuchTag, NotHeld, NotPosted};
 use crate::tests::agents::{FILL, options};
 use crate::tests::calls::Answer::{Done, Held, Refused, Tag, Value, Woken};

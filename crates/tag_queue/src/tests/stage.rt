@@ -13,22 +13,22 @@ use std::test::Fail;
 use step_ledger::Numbered;
 use wake_book::Left;
 
-/// There is no such agent. No call of a queue is refused for this.
+/// Stands for "no such agent": no call of a queue returns this fault.
 pub(crate) const NOBODY: TagFault = TagFault::NoReserved;
 
-/// A queue and its agents, who go by where they stand, from 0.
+/// A queue and its agents, which tests name by their place in the list, from 0.
 #[derive(Drop)]
 pub(crate) struct Stage {
     pub(crate) queue: Queue<u64>,
     pub(crate) agents: Vec<Agent<u64>>,
-    /// Those who are not there when the others come together.
+    /// Agents that were sent away, and are absent when the others are gathered.
     pub(crate) away: Vec<Agent<u64>>,
     ghost own: { All (λ a. IsAgentOf queue a) agents.items },
     ghost own_away: { All (λ a. IsAgentOf queue a) away.items },
 }
 
 impl Stage {
-    /// Each slot begins as `FILL`.
+    /// Opens a queue whose slots contain `FILL`.
     pub(crate) fn open(alloc: Global, depth: u32, options: Options) -> Result<Stage, Fail> {
         let (queue, agents) = Queue::open(alloc, depth, options, FILL)?;
         Ok(Stage::of(alloc, queue, agents))
@@ -48,7 +48,7 @@ impl Stage {
         Some(self.agents.get(at)?.number())
     }
 
-    /// How many of these gets won a tag.
+    /// Makes this many gets, and returns how many of them won a tag.
     pub(crate) fn gets(&mut self, at: usize, count: u32) -> u32 {
         let mut won = 0u32;
         for _ in 0..count {

@@ -1,4 +1,4 @@
-//! Agents on threads of their own. That a blocked get is woken is shown here and in the long run alone.
+//! Agents on threads of their own. Only these tests and the long run show that a blocked get is woken.
 ghost use Rattle.tag_queue.specs.Agents.{IsAgentOf};
 
 use crate::agent::Agent;
@@ -16,14 +16,14 @@ const CALLERS: usize = 4;
 /// Gets of each of them.
 const ROUNDS: u32 = 10_000;
 
-/// What the threads saw.
+/// What the threads observed.
 #[derive(Drop)]
 struct Seen {
-    /// Tags that somebody has, a bit for each.
+    /// Tags that some thread has, one bit for each.
     taken: AtomicU64,
-    /// Tags that came while somebody had them, and calls that were refused.
+    /// Tags won while another thread had them, and calls that were refused.
     wrong: AtomicU64,
-    /// Threads that get no more.
+    /// Threads that have finished.
     finished: AtomicU64,
 }
 
@@ -52,7 +52,7 @@ impl Seen {
     }
 }
 
-// Gets and, where a tag came, clears it.
+// Gets, and clears the tag if it won one.
 fn get_and_clear(queue: &Queue<u64>, agent: &mut Agent<u64>, seen: &Seen)
     requires { IsAgentOf queue.now agent.old }
     ensures { IsAgentOf queue.now agent.new }
@@ -191,7 +191,7 @@ fn a_blocked_get_takes_the_tag_that_another_clears(rt: HostRuntime) -> Result<()
     Ok(())
 }
 
-// Gets, waiting as long as it takes, and clears.
+// Gets with `get_blocking`, and clears.
 fn take_turns<R: Wait>(rt: &R, queue: &Queue<u64>, agent: &mut Agent<u64>, seen: &Seen)
     requires { IsAgentOf queue.now agent.old }
     ensures { IsAgentOf queue.now agent.new }

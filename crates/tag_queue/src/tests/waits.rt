@@ -1,4 +1,4 @@
-//! Waits, and who is woken.
+//! Waits, and which agents are woken.
 use crate::fault::TagFault::{NoSuchTag, NotWaiting, Waiting};
 use crate::gather::QueueTotals;
 use crate::queue::Options;
@@ -129,7 +129,7 @@ fn a_blocking_get_of_a_free_tag_does_not_wait(rt: HostRuntime) -> Result<(), Fai
     assert_eq!(rt; stage.get_blocking(&rt, 0), Err(NoSuchTag));
     let mut stage = Stage::open(rt.alloc(), 1, options(1))?;
     assert_eq!(rt; stage.get_blocking(&rt, 0), Ok(0));
-    // The next wait is the first: none was begun.
+    // The next wait is in the first group: no wait was started before.
     assert_eq!(rt;
         stage.wrong(&[(0, Clear(0), Woken(0)), (0, PrepareWait, Group(0))]),
         None

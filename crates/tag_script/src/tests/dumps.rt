@@ -1,11 +1,11 @@
-//! The bits that a dump tells.
+//! The bits of a dump.
 use crate::ScriptOptions;
 use crate::tests::scripts::{expect_both, options};
 use std::process::Abort;
 use std::sync::Wait;
 use std::test::*;
 
-// Takes so many tags of a map, gives some back, and compares the text behind the answers.
+// Takes this many tags of a map, gives some back, and compares the text after the answers.
 fn expect_dump<R: Abort + AllocGlobal + Wait>(
     rt: &R,
     map: &ScriptOptions,

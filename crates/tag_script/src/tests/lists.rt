@@ -1,4 +1,4 @@
-//! Lists of events with the texts that are owed.
+//! Lists of events and their verdicts.
 use crate::{CheckOptions, Ending, verdict_on};
 use std::process::Abort;
 use std::test::*;
@@ -93,7 +93,7 @@ fn lines_are_bytes_and_the_last_may_lack_its_end(rt: HostRuntime) -> Result<(), 
     Ok(())
 }
 
-// An empty word is told before an unknown name and a number.
+// An empty word is reported before an unknown name or a number.
 #[test]
 fn an_empty_word_is_told_first(rt: HostRuntime) -> Result<(), Fail> {
     for line in [

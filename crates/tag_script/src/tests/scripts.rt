@@ -1,4 +1,4 @@
-//! Scripts with the texts that are owed.
+//! Scripts and their output.
 use crate::{Ending, ScriptOptions, answer_script};
 use itoa::Buffer;
 use std::process::Abort;
@@ -6,7 +6,7 @@ use std::sync::Wait;
 use std::test::*;
 use tag_lines::MAX_INPUT;
 
-/// Carries a script out, and compares the text and the ending.
+/// Plays a script, and compares the text and the ending.
 pub(crate) fn expect<R: Abort + AllocGlobal + Wait>(
     rt: &R,
     options: &ScriptOptions,
@@ -26,7 +26,7 @@ pub(crate) fn expect<R: Abort + AllocGlobal + Wait>(
     Ok(())
 }
 
-/// The same over plain words, and over shared tags.
+/// The same, both over plain words and over shared tags.
 pub(crate) fn expect_both<R: Abort + AllocGlobal + Wait>(
     rt: &R,
     options: &ScriptOptions,
@@ -39,7 +39,7 @@ pub(crate) fn expect_both<R: Abort + AllocGlobal + Wait>(
     Ok(())
 }
 
-/// One caller with a map of so many tags.
+/// Options for one caller with this many tags.
 pub(crate) fn options(tags: u32, shift: Option<u32>) -> ScriptOptions {
     ScriptOptions {
         tags,
@@ -233,7 +233,7 @@ fn cleared_lists_are_free_at_once(rt: HostRuntime) -> Result<(), Fail> {
     expect_both(&rt, &options(4, Some(2)), script, text)
 }
 
-// The lists of as many tags as a batch may have, and of one more.
+// Lists with as many tags as a batch clear allows, and with one more.
 #[test]
 fn long_lists(rt: HostRuntime) -> Result<(), Fail> {
     for (length, answer, totals) in [

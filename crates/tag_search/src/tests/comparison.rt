@@ -1,4 +1,4 @@
-//! The search over plain words beside the slow one, on pseudo-random states and calls.
+//! The search over plain words compared with the slow one, on pseudo-random states and calls.
 ghost use Rattle.std.specs.Prelude.{◌<◌, ◌≤◌, ◌≡◌, IsTrue};
 ghost use Rattle.tag_layout.specs.Layout.{words, word_bits};
 ghost use Rattle.tag_search.specs.Marks.{AreMarks};
@@ -12,7 +12,7 @@ use std::alloc::{AllocError, Global};
 use std::test::Fail;
 use tag_layout::Layout;
 
-/// A map in plain words, and the same in marks.
+/// A map in plain words, and the same map in marks.
 #[derive(Drop)]
 struct Pair {
     port: PlainPort,
@@ -20,7 +20,7 @@ struct Pair {
     hint: Hint,
 }
 
-/// Whether the words say what the marks say, and have no other bit.
+/// Returns whether the words have the bits of the marks, and no other bits.
 fn agree(pair: &mut Pair) -> bool {
     let layout = pair.port.layout();
     for word in 0..layout.words() {
@@ -44,7 +44,7 @@ fn agree(pair: &mut Pair) -> bool {
     true
 }
 
-/// Writes a mark, where there is such a tag.
+/// Sets the mark of a tag, if the tag is in range.
 fn mark(marks: &mut [bool], tag: u32, is: bool) {
     if (tag as usize) < marks.len() {
         marks[tag as usize] = is;
@@ -64,7 +64,7 @@ fn take(pair: &mut Pair, tag: u32) {
     }
 }
 
-/// Sets a tag aside, where it is taken.
+/// Sets a tag aside, if it is taken.
 fn put(pair: &mut Pair, tag: u32) {
     if tag < pair.port.layout().depth() && pair.port.taken(tag) {
         pair.port.put(tag);
@@ -72,7 +72,7 @@ fn put(pair: &mut Pair, tag: u32) {
     }
 }
 
-/// Gives back those tags of a word's mask that are taken and not set aside.
+/// Gives back the tags of a word's mask that are taken and not set aside.
 fn give(pair: &mut Pair, word: u32, mask: u64) {
     let layout = pair.port.layout();
     if word < layout.words() {
@@ -86,7 +86,7 @@ fn give(pair: &mut Pair, word: u32, mask: u64) {
     }
 }
 
-/// A map of this layout in a random state: about `taken` of eight tags taken, and of those `aside` of eight set aside.
+/// A map of this layout in a random state: about `taken` eighths of the tags taken, and `aside` eighths of these aside.
 fn random_pair(
     alloc: Global,
     layout: Layout,
@@ -117,7 +117,7 @@ fn random_pair(
     Ok(pair)
 }
 
-/// Whether there is a mark a tag.
+/// Returns whether there is one mark for each tag.
 fn fits(marks: &Marks, layout: Layout) -> bool
     ensures { IsTrue result → AreMarks layout marks.now.free.items marks.now.aside.items }
 {
@@ -125,7 +125,7 @@ fn fits(marks: &Marks, layout: Layout) -> bool
     marks.free.len() == depth && marks.aside.len() == depth
 }
 
-/// A get beside its slow one: whether answer and hint are the same.
+/// Makes a get on both, and returns whether the answer and the hint are the same.
 fn same_get(alloc: Global, pair: &mut Pair, shallow: Option<u32>) -> Result<bool, AllocError> {
     let layout = pair.port.layout();
     let old = pair.hint;
@@ -145,7 +145,7 @@ fn same_get(alloc: Global, pair: &mut Pair, shallow: Option<u32>) -> Result<bool
     Ok(answer == wanted && pair.hint == hint_after(layout.depth(), old, wanted))
 }
 
-/// A batch get beside its slow one.
+/// Makes a batch get on both, and returns whether the answer and the hint are the same.
 fn same_batch(alloc: Global, pair: &mut Pair, n: u32) -> Result<bool, AllocError> {
     let layout = pair.port.layout();
     let old = pair.hint;
@@ -167,7 +167,7 @@ fn same_batch(alloc: Global, pair: &mut Pair, n: u32) -> Result<bool, AllocError
     Ok(answer == wanted && pair.hint == hint_after_batch(layout.depth(), old, n, wanted))
 }
 
-/// A random call on both, and whether they still agree.
+/// Makes a random call on both, and returns whether they still agree.
 fn same_call(alloc: Global, pair: &mut Pair, draws: &mut Draws) -> Result<bool, AllocError> {
     let layout = pair.port.layout();
     let depth = layout.depth();
@@ -192,7 +192,7 @@ fn same_call(alloc: Global, pair: &mut Pair, draws: &mut Draws) -> Result<bool, 
     Ok(same && agree(pair))
 }
 
-/// A map in a random state, and calls on it.
+/// Makes a map in a random state, and random calls on it.
 fn same_calls(
     alloc: Global,
     depth: u32,
@@ -211,8 +211,8 @@ fn same_calls(
     Ok(true)
 }
 
-/// The depth and the shift of the first map where the search and the slow one differ: of each depth up to 70 and each
-/// shift eight states, and 25 calls on each.
+/// Returns the depth and the shift of the first map on which the two searches differ. For each depth up to 70 and each
+/// shift it tries eight states, with 25 calls on each.
 fn difference(alloc: Global, seed: u64) -> Result<Option<(u32, u32)>, Fail> {
     let mut draws = Draws::new(seed);
     for depth in 0..71 {
@@ -227,7 +227,7 @@ fn difference(alloc: Global, seed: u64) -> Result<Option<(u32, u32)>, Fail> {
     Ok(None)
 }
 
-// Three tests of 99,400 calls each, since one of all would run past the limit of a test.
+// Three tests of 99,400 calls each, since one test of all of them would run past the limit of a test.
 
 #[test]
 fn the_search_answers_the_slow_choice(rt: HostRuntime) -> Result<(), Fail> {

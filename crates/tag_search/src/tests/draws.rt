@@ -1,4 +1,4 @@
-//! Pseudo-random numbers for tests: the same ones for the same seed.
+//! Pseudo-random numbers for tests, determined by the seed.
 ghost use Rattle.std.specs.Prelude.{◌<◌};
 
 /// A linear congruential generator of 64 bits, of which the upper 31 are drawn.
@@ -12,7 +12,7 @@ impl Draws {
         Draws { state: seed }
     }
 
-    /// A number below the bound.
+    /// Draws a number below the bound.
     pub(crate) fn below(&mut self, bound: u32) -> u32
         requires { 0 < bound }
         ensures { result < bound }
@@ -24,7 +24,7 @@ impl Draws {
         (self.state >> 33) as u32 % bound
     }
 
-    /// Draws true with this probability in eighths.
+    /// Draws true with a probability of `of_eight` eighths.
     pub(crate) fn eighths(&mut self, of_eight: u32) -> bool {
         self.below(8) < of_eight
     }

@@ -5,14 +5,14 @@ ghost use Rattle.tag_search.specs.Hints.{reduced};
 
 use crate::hint::Hint;
 
-/// The hint as a search takes it.
+/// Returns the tag at which a search begins.
 pub(crate) fn reduced(depth: u32, hint: Hint) -> u32
     ensures { result ≡ reduced depth hint.at }
 {
     if depth == 0 { 0 } else { hint.at % depth }
 }
 
-/// The hint after a get from it.
+/// Returns the hint after a get that began at this one.
 pub(crate) fn hint_after(depth: u32, hint: Hint, answer: Option<u32>) -> Hint
     ensures { HintFollows depth hint result answer }
 {
@@ -29,7 +29,7 @@ pub(crate) fn hint_after(depth: u32, hint: Hint, answer: Option<u32>) -> Hint
     }
 }
 
-/// The hint after a batch get of `n` from it.
+/// Returns the hint after a batch get of `n` that began at this one.
 pub(crate) fn hint_after_batch(depth: u32, hint: Hint, n: u32, answer: Option<(u32, u64)>) -> Hint
     requires way { hint.round_robin ≡ false }
     requires answer { IfSome answer (λ won. (1 ≤ n) × (won.0 + n ≤ depth)) }

@@ -1,4 +1,4 @@
-//! Two marks a tag: whether it is free, and whether it is set aside.
+//! Two marks for each tag: whether it is free, and whether it is set aside.
 ghost use Rattle.std.specs.Prelude.{◌≡◌, ℕ, ◌+◌, ◌<◌, not, false, ◌&&◌, ◌||◌, nat_eq, nat_lt, nat_le, IfOk, length, slice_index_or};
 ghost use Rattle.tag_layout.specs.Layout.{words, word_of, place_of};
 ghost use Rattle.tag_search.specs.Marks.{AreMarks, mark_at, pool_of_marks, free_then, aside_then};
@@ -7,14 +7,14 @@ ghost use Rattle.tag_search.specs.Pool.{is_open, is_in, freed_in, taken_from};
 use std::alloc::{AllocError, Global};
 use tag_layout::Layout;
 
-/// One mark a tag: whether it is free, and whether it is set aside.
+/// Two marks for each tag: whether it is free, and whether it is set aside.
 #[derive(Drop)]
 pub(crate) struct Marks {
     pub(crate) free: Vec<bool>,
     pub(crate) aside: Vec<bool>,
 }
 
-/// The mark of a place.
+/// Returns the mark of a place, or false if the place is past the word's depth.
 pub(crate) fn mark_at(layout: Layout, marks: &[bool], word: u32, place: u32) -> bool
     requires marks { length marks.now ≡ layout.depth }
     requires word { word < words layout }
@@ -23,7 +23,7 @@ pub(crate) fn mark_at(layout: Layout, marks: &[bool], word: u32, place: u32) -> 
     place < layout.word_depth(word) && marks[layout.tag_at(word, place) as usize]
 }
 
-/// Whether a place is free or set aside.
+/// Returns whether a place is free or set aside.
 pub(crate) fn is_open(layout: Layout, free: &[bool], aside: &[bool], word: u32, place: u32) -> bool
     requires marks { AreMarks layout free.now aside.now }
     requires word { word < words layout }
@@ -32,28 +32,28 @@ pub(crate) fn is_open(layout: Layout, free: &[bool], aside: &[bool], word: u32, 
     mark_at(layout, free, word, place) | mark_at(layout, aside, word, place)
 }
 
-/// Whether the word is one of these.
+/// Returns whether the word is one of these.
 fn is_in(words: &[u32], word: u32) -> bool
     ensures { result ≡ is_in word words.now }
 {
     words.iter().any(|other| word == *other)
 }
 
-/// Whether a tag is free that was so before, or was set aside in a word that is swept, and isn't taken.
+/// Returns whether a tag is free after the change: it was free, or set aside in a swept word, and it is not taken.
 fn is_free_then(was_free: bool, was_aside: bool, is_swept: bool, is_taken: bool) -> bool
     ensures { result ≡ ((was_free || (is_swept && was_aside)) && not is_taken) }
 {
     (was_free || (is_swept && was_aside)) && !is_taken
 }
 
-/// Whether a place of a word is one of `n` from this one on.
+/// Returns whether this place is one of the `n` taken places.
 fn is_among(word: u32, place: u32, n: u32, of: u32, at: u32) -> bool
     ensures { result ≡ (nat_eq of word && (nat_le place at && nat_lt at (place + n))) }
 {
     of == word && (place <= at && u64::from(at) < u64::from(place) + u64::from(n))
 }
 
-/// Which tags are free once these words are swept and `n` places of a word taken.
+/// Returns which tags are free after these words are swept and `n` places of a word are taken.
 fn free_then(
     alloc: Global,
     layout: Layout,
@@ -83,7 +83,7 @@ fn free_then(
     Ok(marks)
 }
 
-/// Which tags are set aside once these words are swept.
+/// Returns which tags are set aside after these words are swept.
 fn aside_then(
     alloc: Global,
     layout: Layout,
@@ -103,7 +103,7 @@ fn aside_then(
     Ok(marks)
 }
 
-/// The marks once these words are swept and `n` places of a word taken.
+/// Returns the marks after these words are swept and `n` places of a word are taken.
 pub(crate) fn marks_then(
     alloc: Global,
     layout: Layout,

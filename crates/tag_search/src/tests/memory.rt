@@ -1,4 +1,4 @@
-//! Want of memory. Run with each allocation refused in turn, these tests still pass.
+//! Out of memory. These tests pass whichever allocation is refused.
 use crate::PlainPort;
 use std::alloc::AllocError;
 use tag_layout::Layout;

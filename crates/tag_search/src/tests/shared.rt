@@ -1,4 +1,4 @@
-//! Gets over a shared map by one thread answer as those over plain words.
+//! Gets over a shared map by one thread, compared with those over plain words.
 ghost use Rattle.std.specs.Prelude.{◌<◌, All, IsTrue, IfOk};
 ghost use Rattle.tag_layout.specs.Layout.{word_of, place_of};
 ghost use Rattle.tag_core.specs.Callers.{IsCallerOf, Holds};
@@ -10,7 +10,7 @@ use std::test::Fail;
 use tag_core::{Caller, Map, Spent};
 use tag_layout::Layout;
 
-/// A map of numbers, and its callers.
+/// Opens a map of numbers with its callers.
 pub(crate) fn opened(
     alloc: Global,
     layout: Layout,
@@ -23,7 +23,7 @@ pub(crate) fn opened(
     Ok(Map::open(alloc, layout, callers, life, slots)?)
 }
 
-/// Whether there is such a tag and the caller holds it.
+/// Returns whether the tag is in range and the caller holds it.
 fn is_held(map: &Map<u64>, caller: &Caller<u64>, tag: u32) -> bool
     requires { IsCallerOf map.now caller.now }
     ensures { IsTrue result → Holds caller.now tag }
@@ -31,7 +31,7 @@ fn is_held(map: &Map<u64>, caller: &Caller<u64>, tag: u32) -> bool
     tag < map.layout().depth() && caller.holds(tag)
 }
 
-// A batch get of any count: none where it is no count of a batch.
+// A batch get of any count: `None` if the count is 0 or more than the bits of a word.
 #[tactic(auto, using(std::proofs::lemmas::Nat::one_shl))]
 fn batch_within(
     map: &Map<u64>,
@@ -60,7 +60,7 @@ enum Call {
     Sweep(u32),
 }
 
-// The call that a number stands for.
+// Decodes a number into a call.
 fn call_of(number: u32) -> Call {
     let operand = (number >> 8) % 12;
     match number >> 29 {
@@ -73,7 +73,7 @@ fn call_of(number: u32) -> Call {
     }
 }
 
-// What a get answered, as a batch of one. 0 bits stand for `Spent`.
+// The answer of a get as a batch of one. A mask of 0 is `Spent`.
 fn told(answer: Result<Option<u32>, Spent>) -> Option<(u32, u64)> {
     match answer {
         Ok(Some(tag)) => Some((tag, 1)),
@@ -171,7 +171,7 @@ fn call_plain(plain: &mut PlainPort, hint: &mut Hint, call: Call) -> Option<(u32
     }
 }
 
-// Whether each call of a script answers the same over both, and leaves the same hint.
+// Returns whether each call of a script has the same answer on both, and leaves the same hint.
 fn agree(
     map: &Map<u64>,
     caller: &mut Caller<u64>,

@@ -1,4 +1,4 @@
-//! Gets worked out the slow way, by scans of two lists of marks. What they ensure is the definition of a choice.
+//! Gets computed the slow way, by scanning two lists of marks. Their contracts are the definitions of a choice.
 ghost use Rattle.std.specs.Prelude.{◌≡◌, ℕ, ◌+◌, ◌<◌, ◌≤◌, ◌↔◌, true, false, All, IfOk, IfSome, MatchOption, length};
 ghost use Rattle.std.specs.Int.{bit_at};
 ghost use Rattle.tag_layout.specs.Layout.{words, word_depth, word_of};
@@ -16,7 +16,7 @@ use crate::hint::Hint;
 use std::alloc::{AllocError, Global};
 use tag_layout::Layout;
 
-/// The numbers from the start up to the limit and then, with wrap on, those before the start.
+/// The numbers from `start` to `limit` and then, if `wrap` is set, those before `start`.
 fn in_order(alloc: Global, start: u32, limit: u32, wrap: bool) -> Result<Vec<u32>, AllocError>
     ensures { IfOk result (λ order. order.items ≡ scan_order start limit wrap) }
 {
@@ -32,7 +32,7 @@ fn in_order(alloc: Global, start: u32, limit: u32, wrap: bool) -> Result<Vec<u32
     Ok(order)
 }
 
-/// The first place of the rank that is marked.
+/// Returns the first marked place of the rank.
 fn first_marked(layout: Layout, marks: &[bool], word: u32, rank: &[u32]) -> Option<u32>
     requires marks { length marks.now ≡ layout.depth }
     requires word { word < words layout }
@@ -48,7 +48,7 @@ fn first_marked(layout: Layout, marks: &[bool], word: u32, rank: &[u32]) -> Opti
     None
 }
 
-/// The least place of a word that is free or set aside.
+/// Returns the least place of a word that is free or set aside.
 fn least_open(layout: Layout, free: &[bool], aside: &[bool], word: u32) -> Option<u32>
     requires marks { AreMarks layout free.now aside.now }
     requires word { word < words layout }
@@ -64,7 +64,7 @@ fn least_open(layout: Layout, free: &[bool], aside: &[bool], word: u32) -> Optio
     None
 }
 
-/// The least place of a word that is free or set aside, where `n` places from it on are the word's.
+/// Returns the least place of a word that is free or set aside, if the word has `n` places from it on.
 fn run_in(layout: Layout, free: &[bool], aside: &[bool], word: u32, n: u32) -> Option<u32>
     requires marks { AreMarks layout free.now aside.now }
     requires word { word < words layout }
@@ -83,7 +83,7 @@ fn run_in(layout: Layout, free: &[bool], aside: &[bool], word: u32, n: u32) -> O
     }
 }
 
-/// Which of the `n` places from `place` on are free or set aside, the first one's bit lowest.
+/// Returns the mask of the `n` places from `place` on that are free or set aside. Its lowest bit is `place`.
 fn open_bits(layout: Layout, free: &[bool], aside: &[bool], word: u32, place: u32, n: u32) -> u64
     requires marks { AreMarks layout free.now aside.now }
     requires word { word < words layout }
@@ -100,7 +100,7 @@ fn open_bits(layout: Layout, free: &[bool], aside: &[bool], word: u32, place: u3
     bits
 }
 
-/// How many places of a word may be taken.
+/// Returns the number of places of a word that may be taken.
 fn limit_in(layout: Layout, shallow: Option<u32>, word: u32) -> u32
     requires { word < words layout }
     ensures { result ≡ limit_of layout shallow word }
@@ -120,7 +120,7 @@ struct Way {
     wrap: bool,
 }
 
-/// The places of a word in the order in which a get looks at them.
+/// Returns the places of a word in the order in which a get tries them.
 fn rank_of(alloc: Global, layout: Layout, way: Way, word: u32) -> Result<Vec<u32>, AllocError>
     requires { word < words layout }
     ensures { IfOk result (λ rank. rank.items ≡ (visit_of way.first
@@ -130,7 +130,7 @@ fn rank_of(alloc: Global, layout: Layout, way: Way, word: u32) -> Result<Vec<u32
     in_order(alloc, start, limit_in(layout, way.shallow, word), way.wrap)
 }
 
-/// What a get answers, and the marks that it leaves.
+/// Returns the answer of a get, and the marks after it.
 fn choice(
     alloc: Global,
     layout: Layout,
@@ -163,7 +163,7 @@ fn choice(
     Ok((None, marks))
 }
 
-/// What a plain get answers, and the marks that it leaves.
+/// Returns the answer of a plain get, and the marks after it.
 pub(crate) fn plain_choice(
     alloc: Global,
     layout: Layout,
@@ -188,7 +188,7 @@ pub(crate) fn plain_choice(
     choice(alloc, layout, free, aside, way)
 }
 
-/// What a shallow get answers, and the marks that it leaves.
+/// Returns the answer of a shallow get, and the marks after it.
 pub(crate) fn shallow_choice(
     alloc: Global,
     layout: Layout,
@@ -214,7 +214,7 @@ pub(crate) fn shallow_choice(
     choice(alloc, layout, free, aside, way)
 }
 
-/// What a batch get answers, and the marks that it leaves.
+/// Returns the answer of a batch get, and the marks after it.
 pub(crate) fn batch_choice(
     alloc: Global,
     layout: Layout,

@@ -13,27 +13,27 @@ use std::thread::Threads;
 use tag_core::{Caller, Map};
 use tag_layout::Layout;
 
-/// Threads, each with a caller of its own.
+/// Number of threads, each with its own caller.
 const CALLERS: u32 = 4;
 
-/// Gets of each thread.
+/// Number of gets of each thread.
 const ROUNDS: u32 = 10_000;
 
 /// How a tag is given back.
 #[derive(Clone, Copy)]
 enum Clear {
-    /// It is free at once.
+    /// Freed at once.
     Give,
-    /// It is set aside for a sweep.
+    /// Set aside for a sweep.
     Put,
 }
 
-/// What the threads saw.
+/// What the threads observed.
 #[derive(Drop)]
 struct Seen {
-    /// Tags that somebody has, a bit for each.
+    /// Tags in use, one bit for each.
     taken: AtomicU64,
-    /// Tags that came while somebody had them.
+    /// How often a get returned a tag that was in use.
     clashes: AtomicU64,
 }
 
@@ -50,7 +50,7 @@ impl Seen {
     }
 }
 
-// One get and, where a tag came, its clear.
+// One get and, if it returned a tag, the clear of the tag.
 fn round(map: &Map<u64>, caller: &mut Caller<u64>, hint: &mut Hint, clear: Clear, seen: &Seen)
     requires { IsCallerOf map.now caller.old }
     ensures { IsCallerOf map.now caller.new }
@@ -78,7 +78,7 @@ fn rounds(map: &Map<u64>, caller: &mut Caller<u64>, clear: Clear, seen: &Seen)
     }
 }
 
-// The rounds of all callers, each on a thread of its own.
+// Runs the rounds of all callers, each on a thread of its own.
 fn run_all<R: Threads + Sync>(
     rt: &R,
     map: &Map<u64>,
@@ -97,7 +97,7 @@ fn run_all<R: Threads + Sync>(
     );
 }
 
-// Won less given back, held and posted after all rounds, and how many tags came while somebody had them.
+// Returns the tags won less those given back, the tags held and posted after all rounds, and the number of clashes.
 fn four_callers<R: Threads + Sync>(rt: &R, alloc: Global, clear: Clear) -> Result<[u64; 4], Fail> {
     let (map, mut callers) = opened(alloc, Layout::new(3, None)?, CALLERS, ROUNDS as u64)?;
     let seen = Seen {

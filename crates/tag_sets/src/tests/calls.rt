@@ -1,4 +1,4 @@
-//! Calls that the hands of a stage make, one after another, and what each is answered.
+//! Calls that the hands of a stage make one after another, and the answer to each.
 ghost use Rattle.tag_sets.specs.Hands.{IsHandOf};
 
 use crate::hand::Hand;
@@ -34,7 +34,7 @@ pub(crate) enum Call {
     Show(Kind),
 }
 
-/// What a call answers.
+/// The answer to a call.
 #[derive(Clone, Copy, Debug, PartialEq, Eq)]
 pub(crate) enum Answer {
     Done,
@@ -51,7 +51,7 @@ pub(crate) enum Answer {
     Held(bool),
     Group(u32),
     Left(Left),
-    /// Completions counted and charged, the wake index, and the number of the active.
+    /// Completions counted and charged, the wake index, and the active count.
     Found(u64, u64, u32, u64),
     Shown(Shown),
     Refused(TagFault),
@@ -141,12 +141,13 @@ fn act<W: Wait>(rt: &W, tags: &Tags<u64>, hand: &mut Hand<u64>, call: Call) -> A
 }
 
 impl Stage {
-    /// What a call of the hand that stands there answers. None where nobody stands.
+    /// Makes a call with the hand at this place, and returns its answer, or `None` if there is no such hand.
     pub(crate) fn act<W: Wait>(&mut self, rt: &W, at: usize, call: Call) -> Option<Answer> {
         Some(act(rt, &self.tags, self.hands.get_mut(at)?, call))
     }
 
-    /// Makes the calls, up to the first that is answered otherwise than said: who made that one, and what it was answered.
+    /// Makes the calls in order, up to the first whose answer differs from the one expected. Returns that call, who
+    /// made it, and its answer.
     pub(crate) fn wrong<W: Wait>(
         &mut self,
         rt: &W,
@@ -161,7 +162,7 @@ impl Stage {
         None
     }
 
-    /// How many of this many gets won an ordinary tag.
+    /// Makes this many gets, and returns how many of them won an ordinary tag.
     pub(crate) fn gets<W: Wait>(&mut self, rt: &W, at: usize, count: u32) -> u32 {
         let mut won = 0u32;
         for _ in 0..count {

@@ -1,4 +1,4 @@
-//! Batches that come back, and what clears count.
+//! Batch clears, and what clears count.
 use crate::tests::calls::Answer::{Batch, Found, Group, Left, Nothing, Refused, Tag, Woken};
 use crate::tests::calls::Call::{
     Clear, ClearBoth, FinishWait, Get, GetBatch, GetBlocking, GetReserved, PrepareWait, Wakes,

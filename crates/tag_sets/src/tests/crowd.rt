@@ -1,4 +1,4 @@
-//! How the hands of a stage meet, go away and come together.
+//! How the hands of a stage meet, leave, return, and are gathered.
 ghost use Rattle.std.specs.Prelude.{◌≡◌, All, IfSome};
 ghost use Rattle.tag_sets.specs.Hands.{IsHandOf};
 
@@ -12,7 +12,7 @@ use std::test::Fail;
 use step_ledger::GatherCause;
 use tag_queue::{QueueTotals, ResizeCause};
 
-/// The hand stands behind the others.
+/// Puts the hand after the others.
 fn put_back(tags: &Tags<u64>, hands: &mut Vec<Hand<u64>>, hand: Hand<u64>) -> Result<(), Fail>
     requires { All (IsHandOf tags.now) hands.old.items × IsHandOf tags.now hand }
     ensures { All (IsHandOf tags.now) hands.new.items }
@@ -21,7 +21,7 @@ fn put_back(tags: &Tags<u64>, hands: &mut Vec<Hand<u64>>, hand: Hand<u64>) -> Re
     Ok(())
 }
 
-/// The other hand stands there now, and who stood there goes, if anybody did.
+/// Puts the other hand at this place and returns the one that was there, or the other one if there is no such place.
 fn trade(tags: &Tags<u64>, hands: &mut Vec<Hand<u64>>, at: usize, other: Hand<u64>) -> Hand<u64>
     requires { All (IsHandOf tags.now) hands.old.items × IsHandOf tags.now other }
     ensures own { All (IsHandOf tags.now) hands.new.items }
@@ -33,7 +33,7 @@ fn trade(tags: &Tags<u64>, hands: &mut Vec<Hand<u64>>, at: usize, other: Hand<u6
     }
 }
 
-/// That the second hand doesn't hold a tag that the first holds, if it does.
+/// Establishes that the second hand does not hold the tag, if the first one does. Returns whether the first holds it.
 fn tell_apart(tags: &Tags<u64>, first: &mut Hand<u64>, second: &mut Hand<u64>, tag: u32) -> bool
     requires { IsHandOf tags.now first.old × IsHandOf tags.now second.old }
     ensures { IsHandOf tags.now first.new × IsHandOf tags.now second.new }
@@ -84,7 +84,7 @@ impl Stage {
         }
     }
 
-    /// The last hand meets another one.
+    /// Has the last hand meet another one.
     pub(crate) fn meet(&mut self, at: usize) -> Result<bool, Fail> {
         let Some(mut last) = self.take_last() else {
             return Ok(false);
@@ -105,7 +105,7 @@ impl Stage {
         }
     }
 
-    /// That the last hand doesn't hold a tag that another one holds.
+    /// Establishes that the last hand does not hold a tag that another one holds.
     pub(crate) fn apart(&mut self, at: usize, tag: u32) -> Result<bool, Fail> {
         let Some(mut last) = self.take_last() else {
             return Ok(false);
@@ -115,7 +115,7 @@ impl Stage {
         Ok(is_held)
     }
 
-    /// A hand goes away, and the last one takes its place.
+    /// Sends a hand away. The last one takes its place.
     pub(crate) fn send_away(&mut self, at: usize) -> Result<(), Fail> {
         if let Some(hand) = self.take_out(at) {
             put_back(&self.tags, &mut self.away, hand)?;
@@ -123,7 +123,7 @@ impl Stage {
         Ok(())
     }
 
-    /// Who went away last comes back, behind the others.
+    /// Brings the hand that went away last back, after the others.
     pub(crate) fn bring_back(&mut self) -> Result<(), Fail> {
         if let Some(hand) = self.call_back() {
             put_back(&self.tags, &mut self.hands, hand)?;
@@ -131,12 +131,12 @@ impl Stage {
         Ok(())
     }
 
-    /// A hand is lost, and the last one takes its place.
+    /// Drops a hand. The last one takes its place.
     pub(crate) fn lose(&mut self, at: usize) {
         drop(self.take_out(at));
     }
 
-    /// How many hands are there.
+    /// Returns how many hands are present.
     pub(crate) fn count(&self) -> usize {
         self.hands.len()
     }
@@ -163,7 +163,7 @@ impl Stage {
         }
     }
 
-    /// Why a gather is refused, and who comes back.
+    /// Makes a gather that must be refused, and returns the cause, with the stage that was handed back.
     pub(crate) fn missing(self) -> Result<(GatherCause, Stage), Fail> {
         match self.gather() {
             Ok(_) => Err(Fail::new("no hand is missing")),
@@ -171,7 +171,7 @@ impl Stage {
         }
     }
 
-    /// The hands that are there continue with this many tags. Those that are away are lost.
+    /// Resizes the tags with the hands that are present. Those that are away are dropped.
     pub(crate) fn resize(self, alloc: Global, total: u32) -> Result<Stage, (ResizeCause, Stage)> {
         let Stage { tags, hands, away } = self;
         match Tags::resize(alloc, tags, hands, total) {
@@ -194,7 +194,7 @@ impl Stage {
         }
     }
 
-    /// Why a resize is refused, and who comes back.
+    /// Makes a resize that must be refused, and returns the cause, with the stage that was handed back.
     pub(crate) fn refused(self, alloc: Global, total: u32) -> Result<(ResizeCause, Stage), Fail> {
         match self.resize(alloc, total) {
             Ok(_) => Err(Fail::new("a resize is not refused")),

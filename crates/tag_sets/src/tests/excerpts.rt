@@ -1,4 +1,4 @@
-//! What docs/USING.md shows, in the words of a caller.
+//! The code that docs/USING.md quotes, as a caller writes it.
 ghost use Rattle.std.specs.Prelude.{IfOk};
 ghost use Rattle.tag_sets.specs.Hands.{IsHandOf, Holds};
 
@@ -9,7 +9,7 @@ use std::test::Fail;
 use step_ledger::GatherCause;
 use tag_model::Totals;
 
-// An ordinary tag that the hand holds.
+// Gets an ordinary tag, which the hand then holds.
 fn win(tags: &Tags<u64>, hand: &mut Hand<u64>) -> Result<u32, Fail>
     requires { IsHandOf tags.now hand.old }
     ensures hand { IsHandOf tags.now hand.new }
@@ -21,7 +21,7 @@ fn win(tags: &Tags<u64>, hand: &mut Hand<u64>) -> Result<u32, Fail>
     }
 }
 
-// The first hand passes a tag on to the second, with a request's number beside it.
+// Passes a tag from the first hand to the second, with a request's number in its slot.
 fn pass_on(
     tags: &Tags<u64>,
     first: &mut Hand<u64>,
@@ -38,7 +38,7 @@ fn pass_on(
     tags.read(second, tag)
 }
 
-// One hand waits while another clears a tag.
+// Has one hand wait while another clears a tag.
 fn wait_for_clear<W: Wait>(
     rt: &W,
     tags: &Tags<u64>,

@@ -1,4 +1,4 @@
-//! Hands that are missing, that were lost, and that meet; and what a gather adds up.
+//! Hands that are missing, that were dropped, and that meet; and the totals of a gather.
 use crate::tests::calls::Answer::{Done, Group, Left, Nothing, Tag, Woken};
 use crate::tests::calls::Call::{Clear, FinishWait, Get, GetReserved, Post, PrepareWait};
 use crate::tests::hands::options;

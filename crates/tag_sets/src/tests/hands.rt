@@ -8,10 +8,10 @@ use std::alloc::Global;
 use std::test::Fail;
 use tag_queue::{Options, QueueTotals};
 
-/// With what each slot begins.
+/// The initial value of each slot.
 pub(crate) const FILL: u64 = 9;
 
-/// Words of the default size, and room for whatever a test does.
+/// Options with words of the default size, and the highest life and cap.
 pub(crate) fn options(callers: u32) -> Options {
     Options {
         shift: None,
@@ -23,7 +23,7 @@ pub(crate) fn options(callers: u32) -> Options {
     }
 }
 
-/// Tags, and their hands in the order of their numbers.
+/// Opens tags, with their hands in the order of their numbers.
 pub(crate) fn opened(
     alloc: Global,
     total: u32,
@@ -35,7 +35,7 @@ pub(crate) fn opened(
     Ok(Tags::open(alloc, total, reserved, options, FILL)?)
 }
 
-/// The last of the hands.
+/// Takes the last of the hands.
 pub(crate) fn next_hand(tags: &Tags<u64>, hands: &mut Vec<Hand<u64>>) -> Result<Hand<u64>, Fail>
     requires { All (IsHandOf tags.now) hands.old.items }
     ensures own { All (IsHandOf tags.now) hands.new.items }
@@ -47,7 +47,7 @@ pub(crate) fn next_hand(tags: &Tags<u64>, hands: &mut Vec<Hand<u64>>) -> Result<
     }
 }
 
-/// Gathers all hands.
+/// Gathers all hands and closes the tags.
 pub(crate) fn close(tags: Tags<u64>, hands: Vec<Hand<u64>>) -> Result<QueueTotals, Fail>
     requires { All (IsHandOf tags) hands.items }
 {
@@ -57,14 +57,14 @@ pub(crate) fn close(tags: Tags<u64>, hands: Vec<Hand<u64>>) -> Result<QueueTotal
     }
 }
 
-/// How many tags there are, in both sets.
+/// Returns the number of tags in both sets.
 pub(crate) fn total(tags: &Tags<u64>) -> u32
     ensures { result ≡ total_of tags.now }
 {
     tags.reserved_count + tags.ordinary_layout.depth()
 }
 
-/// Whether there is such a tag and the hand holds it.
+/// Returns whether the number is a tag's and the hand holds that tag.
 pub(crate) fn has(tags: &Tags<u64>, hand: &Hand<u64>, tag: u32) -> bool
     requires { IsHandOf tags.now hand.now }
     ensures { IsTrue result → Holds hand.now tag }

@@ -1,4 +1,4 @@
-//! Want of memory. Run with each allocation refused in turn, this test still passes.
+//! Out of memory. This test also passes when each allocation in turn is made to fail.
 use crate::tags::Tags;
 use crate::tests::hands::options;
 use std::test::Fail;

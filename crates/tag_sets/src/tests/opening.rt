@@ -1,10 +1,10 @@
-//! Two sets as they open.
+//! Opening two sets.
 use crate::tags::Tags;
 use crate::tests::hands::options;
 use std::alloc::Global;
 use tag_queue::{Options, SetFault};
 
-/// How two sets with these options are refused.
+/// Returns the fault of opening two sets with these options, or `None` if they open.
 fn refusal(alloc: Global, total: u32, reserved: u32, options: Options) -> Option<SetFault> {
     match Tags::open(alloc, total, reserved, options, 0u64) {
         Ok(_) => None,

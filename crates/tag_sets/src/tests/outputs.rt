@@ -1,4 +1,4 @@
-//! What shows, lists and dumps tell, and how they are written.
+//! Shows, lists and dumps, and how they are written.
 use crate::kind::Kind;
 use crate::shown::Shown;
 use crate::tests::calls::Answer;
@@ -9,7 +9,7 @@ use crate::texts::{write_dump, write_show};
 use std::test::Fail;
 use tag_queue::Options;
 
-/// Words of four tags, and one hand.
+/// Options with words of four tags, for one hand.
 fn words_of_four() -> Options {
     Options {
         shift: Some(2),

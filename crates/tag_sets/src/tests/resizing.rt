@@ -1,4 +1,4 @@
-//! Tags that continue with another total.
+//! Resizes.
 use crate::kind::Kind::{Ordinary, Reserved};
 use crate::shown::Shown as Sums;
 use crate::tags::Tags;
@@ -33,7 +33,7 @@ fn a_resize_keeps_the_reserved_set(rt: HostRuntime) -> Result<(), Fail> {
     assert_eq!(rt; cause, ResizeCause::InUse(1, 0));
     assert_eq!(rt; stage.wrong(&rt, &[(0, Clear(0), Woken(0))]), None);
     let mut stage = stage.resized(rt.alloc(), 2)?;
-    // Tag 0 is still set aside, so tag 1 comes first; then tag 0 comes with the value that it had.
+    // Tag 0 is still set aside, so the first get wins tag 1; the next wins tag 0, whose slot has the value that it had.
     assert_eq!(rt;
         stage.wrong(
             &rt,
@@ -119,7 +119,7 @@ fn counts_and_wait_indexes_go_on_in_the_ordinary_set(rt: HostRuntime) -> Result<
         None
     );
     let mut stage = stage.resized(rt.alloc(), 17)?;
-    // Now a batch is of two: the second clear completes one.
+    // The batch is two now, so the second clear completes one.
     assert_eq!(rt;
         stage.wrong(
             &rt,
@@ -141,7 +141,7 @@ fn counts_and_wait_indexes_go_on_in_the_ordinary_set(rt: HostRuntime) -> Result<
     Ok(())
 }
 
-// Run with each allocation refused in turn, this test still passes.
+// This test also passes when each allocation in turn is made to fail.
 #[test]
 fn a_resize_without_memory_hands_all_back(rt: HostRuntime) -> Result<(), Fail> {
     let Ok((tags, hands)) = Tags::open(rt.alloc(), 8, 3, options(2), FILL) else {

@@ -1,4 +1,4 @@
-//! Which tags a hand holds, and the values beside them.
+//! Which tags a hand holds, and their slots.
 use crate::tests::calls::Answer::{Done, Held, Refused, Tag, Value, Woken};
 use crate::tests::calls::Call::{Clear, Get, GetReserved, Holds, Post, Read, Take, Write};
 use crate::tests::hands::{FILL, options};

@@ -12,19 +12,19 @@ use std::test::Fail;
 use step_ledger::Numbered;
 use tag_queue::Options;
 
-/// Tags and their hands, who go by where they stand, from 0.
+/// Tags and their hands, which tests name by their place in the list, from 0.
 #[derive(Drop)]
 pub(crate) struct Stage {
     pub(crate) tags: Tags<u64>,
     pub(crate) hands: Vec<Hand<u64>>,
-    /// Those who are not there when the others come together.
+    /// Hands that were sent away, and are absent when the others are gathered.
     pub(crate) away: Vec<Hand<u64>>,
     ghost own: { All (λ h. IsHandOf tags h) hands.items },
     ghost own_away: { All (λ h. IsHandOf tags h) away.items },
 }
 
 impl Stage {
-    /// Each slot begins as `FILL`.
+    /// Opens tags whose slots contain `FILL`.
     pub(crate) fn open(
         alloc: Global,
         total: u32,
@@ -49,7 +49,7 @@ impl Stage {
         Some(self.hands.get(at)?.number())
     }
 
-    /// What a batch clear of these tags answers.
+    /// Clears these tags in a batch, and returns the answer.
     pub(crate) fn clear_batch(&mut self, at: usize, tags: &[u32]) -> Option<Answer> {
         match self.tags.clear_batch(self.hands.get_mut(at)?, tags) {
             Ok(woken) => Some(Answer::Woken(woken)),
@@ -57,7 +57,7 @@ impl Stage {
         }
     }
 
-    /// How many tags are busy, and which; none of more than 128 tags.
+    /// Returns how many tags are busy, and which, or `None` if there are more than 128 tags.
     pub(crate) fn busy(&mut self, at: usize) -> Option<(u32, [u64; 2])> {
         if total(&self.tags) > 128 {
             return None;
@@ -67,7 +67,7 @@ impl Stage {
         Some((count, bits))
     }
 
-    /// A set packed into three bytes, and how many of them it takes; none of more than 24 tags.
+    /// Packs a set into three bytes, and returns how many of them it takes, or `None` if the set has more than 24 tags.
     pub(crate) fn dump(&mut self, at: usize, kind: Kind) -> Option<(u32, [u8; 3])> {
         if self.tags.layout(kind).depth() > 24 {
             return None;

@@ -1,4 +1,4 @@
-//! Eight hands at work with every call, and a ninth that clears what would stand. Each slot names its holder.
+//! Eight hands that use nearly every call, and a ninth that keeps taking and clearing tags. Each slot names its holder.
 ghost use Rattle.std.specs.Prelude.{◌≤◌};
 ghost use Rattle.tag_sets.specs.Hands.{IsHandOf};
 
@@ -14,22 +14,22 @@ use std::test::Fail;
 use std::thread;
 use tag_model::Totals;
 
-/// Tags in both sets, of which four are reserved.
+/// Tags in both sets together.
 const TOTAL: u32 = 20;
 
-/// Reserved tags.
+/// How many of them are reserved.
 const RESERVED: u32 = 4;
 
-/// Threads that take tags in every way.
+/// Threads that take and give back tags in every way.
 const WORKERS: usize = 8;
 
 /// Rounds of each of them.
 const ROUNDS: u32 = 10_000;
 
-/// What the threads saw.
+/// What the threads observed.
 #[derive(Drop)]
 struct Tally {
-    /// Tags won, by what each get answered.
+    /// Tags won, as the gets returned them.
     won: AtomicU64,
     /// Tags given back.
     back: AtomicU64,
@@ -37,11 +37,11 @@ struct Tally {
     posted: AtomicU64,
     /// Posted tags that were taken.
     taken: AtomicU64,
-    /// Waiters woken, by what each clear answered.
+    /// Waiters woken, as the clears returned them.
     woken: AtomicU64,
-    /// Slots that named another than the tag's holder, and calls that a holder could not make.
+    /// Slots that did not name the tag's holder, and calls of a holder that were refused.
     wrong: AtomicU64,
-    /// Workers that take no more.
+    /// Workers that have finished.
     finished: AtomicU64,
     /// What the last holder wrote into each tag's slot.
     written: Vec<AtomicU64>,
@@ -71,7 +71,7 @@ impl Tally {
         }
     }
 
-    // Tags that came back, and how many their clear woke.
+    // Counts tags that were cleared, and how many waiters their clear woke.
     fn cleared(&self, tags: u64, woken: Option<u32>) {
         match woken {
             Some(woken) => {
@@ -83,7 +83,7 @@ impl Tally {
     }
 }
 
-// A tag was won: its holder writes its slot.
+// Counts a tag that was won, and writes its slot.
 fn mark(tags: &Tags<u64>, hand: &mut Hand<u64>, tally: &Tally, tag: u32, value: u64)
     requires { IsHandOf tags.now hand.old }
     ensures { IsHandOf tags.now hand.new }
@@ -95,7 +95,7 @@ fn mark(tags: &Tags<u64>, hand: &mut Hand<u64>, tally: &Tally, tag: u32, value: 
     }
 }
 
-// What shows, lists and dumps tell of a tag that the hand holds. They allow for what others do meanwhile.
+// Checks the list and the shows against a tag that the hand holds, whatever other hands do meanwhile.
 fn show(tags: &Tags<u64>, hand: &mut Hand<u64>, tally: &Tally, tag: u32)
     requires { IsHandOf tags.now hand.old }
     ensures { IsHandOf tags.now hand.new }
@@ -121,7 +121,7 @@ fn post(tags: &Tags<u64>, hand: &mut Hand<u64>, tally: &Tally, tag: u32)
     tally.check(tags.post(hand, tag).is_ok());
 }
 
-// A tag is marked, looked at again after other calls, and then posted or cleared.
+// Marks a tag, reads its slot again after other calls, and then posts or clears the tag.
 fn spend(tags: &Tags<u64>, hand: &mut Hand<u64>, tally: &Tally, tag: u32, value: u64)
     requires { IsHandOf tags.now hand.old }
     ensures { IsHandOf tags.now hand.new }
@@ -140,7 +140,7 @@ fn spend(tags: &Tags<u64>, hand: &mut Hand<u64>, tally: &Tally, tag: u32, value:
     }
 }
 
-// The tags of a batch of three, and how many they are.
+// Returns the tags of a batch of up to three, and how many they are.
 fn tags_of(first: u32, mask: u64) -> ([u32; 3], usize)
     ensures { result.1 ≤ 3 }
 {
@@ -189,7 +189,7 @@ fn take_posted(tags: &Tags<u64>, hand: &mut Hand<u64>, tally: &Tally)
     }
 }
 
-// Begins a wait and gives it up.
+// Starts a wait and gives it up.
 fn wait_in_vain<R: Wait>(rt: &R, tags: &Tags<u64>, hand: &mut Hand<u64>, tally: &Tally)
     requires { IsHandOf tags.now hand.old }
     ensures { IsHandOf tags.now hand.new }
@@ -198,7 +198,7 @@ fn wait_in_vain<R: Wait>(rt: &R, tags: &Tags<u64>, hand: &mut Hand<u64>, tally: 
     tally.check(tags.finish_wait(rt, hand).is_ok());
 }
 
-// One call, and what follows it. A hand that may sleep holds nothing.
+// Makes one kind of call, which `value` picks, and spends the tags that it won. A hand that may sleep holds nothing.
 fn act<R: Wait>(rt: &R, tags: &Tags<u64>, hand: &mut Hand<u64>, tally: &Tally, value: u64)
     requires { IsHandOf tags.now hand.old }
     ensures { IsHandOf tags.now hand.new }
@@ -230,7 +230,7 @@ fn work<R: Wait>(rt: &R, tags: &Tags<u64>, hand: &mut Hand<u64>, tally: &Tally, 
     tally.finished.fetch_add(1, SeqCst);
 }
 
-// Takes and clears until the workers have finished, so that none of them sleeps for ever.
+// Takes and clears tags until the workers have finished, so that none of them sleeps for ever.
 fn keep<R: Wait>(rt: &R, tags: &Tags<u64>, hand: &mut Hand<u64>, tally: &Tally)
     requires { IsHandOf tags.now hand.old }
     ensures { IsHandOf tags.now hand.new }

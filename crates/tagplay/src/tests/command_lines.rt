@@ -1,4 +1,4 @@
-//! Command lines with their exit statuses.
+//! Command lines and their exit statuses.
 use crate::PlayOptions;
 use crate::choice::Choice;
 use crate::command_line::{chosen, play};
@@ -9,7 +9,7 @@ use std::test::*;
 use std::thread::Threads;
 use tag_script::{CheckOptions, ScriptOptions};
 
-// Plays a command line on an input, and compares the exit status and the text.
+// Runs a command line on an input, and compares the exit status and the text.
 fn expect<R: Abort + AllocGlobal + Print + Eprint + Threads + Wait + Sync>(
     rt: &R,
     words: &[&str],

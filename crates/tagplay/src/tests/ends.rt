@@ -1,4 +1,4 @@
-//! Readers and writers that fail, and inputs at the bound.
+//! Readers and writers that fail, and inputs at the size limit.
 use crate::{PlayOptions, RunFault, run_check, run_play, run_script};
 use std::io;
 use std::io::{Read, Write};
@@ -36,7 +36,7 @@ const PLAYED_FOUR: PlayOptions = PlayOptions {
     queue: 1,
 };
 
-// Gives one byte a call, and an error at the call of this number, from 0.
+// A reader that gives one byte per call, and an error at the call with this number, counted from 0.
 #[derive(Drop)]
 struct Failing<'a> {
     text: &'a [u8],
@@ -60,7 +60,7 @@ impl<'a> Read for Failing<'a> {
     }
 }
 
-// As many bytes as an input may have, and one more.
+// The largest length of an input, in bytes.
 const MOST: usize = 16_777_216;
 
 const TOO_MANY: usize = 16_777_217;
@@ -69,7 +69,7 @@ fn sevens(left: usize) -> Repeats {
     Repeats { byte: b'7', left }
 }
 
-// Gives a number of equal bytes.
+// A reader that gives `left` copies of `byte`.
 #[derive(Drop)]
 struct Repeats {
     byte: u8,
@@ -87,7 +87,7 @@ impl Read for Repeats {
     }
 }
 
-// Takes nothing.
+// A writer that refuses every write.
 #[derive(Drop)]
 struct Shut;
 

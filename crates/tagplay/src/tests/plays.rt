@@ -1,4 +1,4 @@
-//! Logs that were worked by hand, played.
+//! Plays of logs whose reports were worked out on paper.
 use crate::{PlayOptions, run_play};
 use std::process::Abort;
 use std::sync::Wait;
@@ -53,7 +53,7 @@ fn a_small_log_is_reported(rt: HostRuntime) {
     expect(&rt, FOUR, SMALL.as_bytes(), Ending::Done, SMALL_REPORT);
 }
 
-// The prefixes of the small log that end in a line that is not whole: how many bytes the shortest and the longest have.
+// Prefixes of the small log that end in an incomplete line: the lengths of the shortest and the longest, in bytes.
 const CUT: [(usize, usize, &str); 8] = [
     (0, 18, "line 1 refused 1\n"),
     (21, 33, "line 2 refused 2\n"),
@@ -65,7 +65,8 @@ const CUT: [(usize, usize, &str); 8] = [
     (146, 160, "line 8 refused 2\n"),
 ];
 
-// The other prefixes, with the numbers of their names, reads, writes, syncs and tags. A number is whole from its first digit on.
+// The other prefixes, with the counts of names, reads, writes, syncs and tags. A number is whole from its first digit
+// on.
 const WHOLE: [(usize, usize, [u64; 5]); 8] = [
     (19, 20, [0, 0, 0, 0, 0]),
     (34, 35, [1, 0, 0, 0, 0]),
@@ -158,7 +159,7 @@ fn a_setup_beyond_its_limits_is_refused(rt: HostRuntime) {
         expect(&rt, options, header, Ending::Refused, "play refused 2\n");
     }
     expect(&rt, FOUR, header, Ending::Done, IDLE_REPORT);
-    // A faulty line is told before the setup.
+    // A malformed line is reported before an illegal setup.
     expect(
         &rt,
         PlayOptions { queue: 0, ..FOUR },

@@ -1,4 +1,4 @@
-//! Want of memory. Run with each allocation refused in turn, these tests still pass.
+//! Out of memory. These tests also pass when each allocation in turn is made to fail.
 use crate::book::Book;
 use crate::fault::BookFault;
 use crate::groups::Groups;

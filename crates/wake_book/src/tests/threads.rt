@@ -1,4 +1,4 @@
-//! Threads that wait and wake. That a sleeper is woken is shown here alone.
+//! Threads that wait and wake. Only these tests show that a sleeper is woken: no clause says so.
 ghost use Rattle.std.specs.Prelude.{◌≡◌, ◌≤◌, All, None, IfSome};
 ghost use Rattle.wake_book.specs.Groups.{IsWaiterOf, standing_of};
 
@@ -11,16 +11,16 @@ use std::sync::atomic::Ordering::SeqCst;
 use std::test::Fail;
 use std::thread;
 
-/// Rounds of two threads, one asleep and one waking.
+/// Rounds of two threads, one that sleeps and one that wakes it.
 const ROUNDS: u32 = 10_000;
 
-/// Threads that wait, and threads that wake, in the long run.
+/// Threads that wait in the long run, and as many that wake them.
 const WAITERS: usize = 8;
 
 /// Rounds of each thread that waits in the long run.
 const LONG_ROUNDS: u32 = 20_000;
 
-// Sleeps and leaves that many times, and counts how often it was woken.
+// Enters, sleeps and leaves that many times, and returns how often it was woken.
 fn sleep_often<R: Wait>(rt: &R, groups: &Groups, waiter: &mut Waiter, rounds: u32) -> u64
     requires groups { IsWaiterOf groups.now waiter.old }
     requires out { standing_of waiter.old ≡ None }
@@ -37,7 +37,7 @@ fn sleep_often<R: Wait>(rt: &R, groups: &Groups, waiter: &mut Waiter, rounds: u3
     woken
 }
 
-// Wakes one, that many times.
+// Wakes one waiter at a time, that many times.
 fn wake_often<R: Wait>(rt: &R, groups: &Groups, waiter: &mut Waiter, rounds: u32)
     requires groups { IsWaiterOf groups.now waiter.old }
     ensures groups { IsWaiterOf groups.now waiter.new }
@@ -69,18 +69,18 @@ fn each_sleeper_is_woken(rt: HostRuntime) -> Result<(), Fail> {
     Ok(())
 }
 
-/// What the threads of the long run saw of themselves.
+/// What the threads of the long run counted.
 #[derive(Drop)]
 struct Tally {
-    /// Threads that wait no more.
+    /// Waiting threads that have finished.
     finished: AtomicU64,
-    /// Waiters moved to granted, by what each `wake` answered.
+    /// Waiters moved to granted: the sum of what the calls of `wake` returned.
     issued: AtomicU64,
-    /// Grants used, by what each `leave` answered.
+    /// Grants used: how often `leave` returned `Woken`.
     used: AtomicU64,
 }
 
-// The first threads wait, the others wake until those have finished.
+// The first `WAITERS` threads wait; the others wake them until all of those have finished.
 fn wait_or_wake<R: Wait>(rt: &R, groups: &Groups, waiter: &mut Waiter, tally: &Tally, number: usize)
     requires groups { IsWaiterOf groups.now waiter.old }
     requires out { standing_of waiter.old ≡ None }

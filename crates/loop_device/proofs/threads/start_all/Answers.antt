@@ -17,7 +17,7 @@ loop-hand-preserved g c =
     let whole = subst (All (IsHandOf shared.tags.now)) c.in-Some.ensures.steps.0 was.rest in
     let fewer = ap length c.in-Some.ensures.steps.0 in
     elim c.if-len-wanted.branch [
-      | then-len-wanted w ↦ let started = w.start_completer-started in
+      | then-len-wanted w ↦ let started = w.start-started in
           let one : vec_len c.if-len-wanted.completers ≡ vec_len started.new.handles = ap vec_len w.completers-is in
           let room : vec_capacity c.if-len-wanted.completers ≡ vec_capacity started.new.handles =
           ap vec_capacity w.completers-is in
@@ -38,7 +38,7 @@ loop-hand-preserved g c =
             room = (omega arith, omega arith);
             len = omega arith;
           }
-      | else-len-wanted w ↦ let started = w.start_submitter-started in
+      | else-len-wanted w ↦ let started = w.start-started-else-len-wanted in
           let one : vec_len c.if-len-wanted.submitters ≡ vec_len started.new.handles = ap vec_len w.submitters-is in
           let room : vec_capacity c.if-len-wanted.submitters ≡ vec_capacity started.new.handles =
           ap vec_capacity w.submitters-is in

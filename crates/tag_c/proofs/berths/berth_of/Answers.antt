@@ -1,4 +1,4 @@
--- The berth was made for this hand.
+-- The berth was made for this hand, so the hand fits.
 use Rattle.std.proofs.Common.{ℕ, sym, subst}
 use Rattle.tag_sets.specs.declared.hand.Hand.{Hand}
 use Rattle.tag_c.specs.Sharing.{SharesTags}

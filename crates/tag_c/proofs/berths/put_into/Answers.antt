@@ -1,4 +1,4 @@
--- The word was that of a vacant berth, so this thread alone may put a value there.
+-- The turn found the berth vacant, so this thread alone may put a hand there, and this hand fits.
 use Rattle.std.proofs.Common.{ℕ, arith, refl, sym, subst}
 use Rattle.tag_sets.specs.declared.hand.Hand.{Hand}
 use Rattle.tag_c.specs.Sharing.{SharesTags}

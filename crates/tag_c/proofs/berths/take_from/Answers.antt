@@ -1,4 +1,4 @@
--- What was in the berth fits it, and the claim is the berth's.
+-- The hand that was in the berth fits the claim, and the claim is one of this berth, so both have the same tags.
 use Rattle.std.proofs.Common.{ℕ, subst}
 use Rattle.tag_sets.specs.declared.hand.Hand.{Hand}
 use Rattle.tag_c.specs.Sharing.{SharesTags}

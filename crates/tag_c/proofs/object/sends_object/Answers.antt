@@ -1,4 +1,4 @@
--- What lies behind a handle may go to any thread.
+-- `Object` is `Send`, which is what `must_send` asks of its type.
 use denote.Param.Send.{sendable}
 use Rattle.tag_c.proofs.Sent.{object_goes}
 use Rattle.tag_c.proofs.object.sends_object.Goals as goal

@@ -1,4 +1,4 @@
--- What lies behind the handle is a pool that ends with its totals, or the call is refused.
+-- Only an object that is a pool without hands out is taken apart; in all other cases the handle gets its object back.
 use Rattle.std.proofs.Common.{rules, ◌≡◌, Some, None, inl, inr, refl, sym, subst, ◌∙◌}
 use Rattle.tag_c.specs.declared.object.Object.{Object}
 use Rattle.tag_c.specs.declared.status.Status.TheVariants.{BadHandle, HandLost}
@@ -23,7 +23,7 @@ returns-in-Ok-true-clause-closes c = λ _. let totals = c.in-Some-close.totals i
   c.take.ensures.empty,
 )
 
--- what is left as it was is no pool, or a pool with hands out
+-- an object that is put back is no pool, or a pool with hands out
 left : (c : goal.After-code-2) → RefusesClose c.args.pool.now.object.value c.match-is_alone.refused
 left c = let value = c.args.pool.now.object.value in
     let some : value ≡ Some c.deref.result.now =

@@ -1,4 +1,4 @@
--- What lies behind the first handle is a pool that gives a hand, or the call is refused.
+-- The pool's handle gets its object back in every case; the other was empty, and is filled only with a hand of it.
 use Rattle.std.proofs.Common.{rules, ◌≡◌, Option, Some, None, inl, inr, refl, sym, subst, ◌∙◌}
 use Rattle.std.specs.Arc.{arc_value}
 use Rattle.tag_queue.specs.declared.fault.SetFault.TheVariants.{Memory}

@@ -1,4 +1,4 @@
--- What lies behind the handle is a hand, or the call is refused.
+-- Only an object that is a hand is taken apart; a pool is put back, and an empty handle stays empty.
 use Rattle.std.proofs.Common.{rules, ◌≡◌, ℕ, Option, None, inl, refl, sym, subst}
 use Rattle.tag_sets.specs.declared.tags.Tags.{Tags}
 use Rattle.tag_c.specs.declared.object.Object.{Object}

@@ -1,4 +1,4 @@
--- The options are those asked for, and the pool is made of the tags that they open, or the call is refused.
+-- The pool that fills the handle was opened with the converted options; each early return has a reason of its own.
 use Rattle.std.proofs.Common.{Option, inl, inr, refl, sym, subst, ◌∙◌}
 use Rattle.std.specs.Arc.{arc_value}
 use Rattle.tag_queue.specs.declared.fault.SetFault.TheVariants.{Memory}

@@ -8,7 +8,7 @@ use lib.ListN.{get_elem?}
 use Rattle.tag_core.specs.declared.caller.Caller.{Caller}
 use Rattle.tag_core.specs.Records.{fresh_record}
 use Rattle.tag_core.specs.Callers.{IsCallerOf, record_of}
-use Rattle.tag_core.proofs.Seats.{snoc_at}
+use Rattle.step_ledger.proofs.Seats.{snoc_at}
 use Rattle.tag_core.proofs.opens.hand_out.Goals as goal
 
 pub loop-number-preserved : goal.loop-number-preserved

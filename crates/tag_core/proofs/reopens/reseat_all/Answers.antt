@@ -15,8 +15,8 @@ use Rattle.tag_core.specs.Callers.{IsCallerOf, record_of, HaveOwnNumbers}
 use Rattle.tag_core.specs.Gathering.{numbers_of}
 use Rattle.tag_core.specs.Reopening.{reopened_record}
 use Rattle.tag_core.proofs.Entries.{entry, entry_of_map}
-use Rattle.tag_core.proofs.Lasts.{all_front, all_last}
-use Rattle.tag_core.proofs.Seats.{within}
+use Rattle.step_ledger.proofs.Turned.{all_front, all_last}
+use Rattle.step_ledger.proofs.Seats.{within}
 use Rattle.tag_core.proofs.reopens.reseat_all.Given as given
 use Rattle.tag_core.proofs.reopens.reseat_all.Goals.{After-index_mut}
 use Rattle.tag_core.proofs.reopens.reseat_all.Goals as goal

@@ -7,7 +7,7 @@ use Rattle.tag_core.specs.declared.caller.Caller.{Caller}
 use Rattle.tag_core.specs.declared.record.Record.{Record}
 use Rattle.tag_core.specs.Callers.{IsCallerOf, record_of, IsUnchanged, AreUnchanged}
 use Rattle.tag_core.specs.Gathering.{gathered, numbers}
-use Rattle.tag_core.proofs.Lasts.{all_front, all_last}
+use Rattle.step_ledger.proofs.Turned.{all_front, all_last}
 use Rattle.tag_core.proofs.Settlings.{unchanged-more, last_before}
 use Rattle.tag_core.proofs.settles.+settle_rest.Goals as goal
 

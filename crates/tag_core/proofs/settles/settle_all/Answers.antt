@@ -10,7 +10,7 @@ use Rattle.tag_core.specs.declared.shape.Shape.{Shape}
 use Rattle.tag_core.specs.Callers.{IsCallerOf, record_of, IsUnchanged, AreUnchanged}
 use Rattle.tag_core.specs.Gathering.{numbers, numbers_of}
 use Rattle.tag_core.specs.Settling.{AreSettled}
-use Rattle.tag_core.proofs.Lasts.{all_front, all_last, taken_first}
+use Rattle.step_ledger.proofs.Turned.{all_front, all_last, taken_first}
 use Rattle.tag_core.proofs.Numbers.{numbers-records}
 use Rattle.tag_core.proofs.Settlings.{unchanged-more, unchanged-records}
 use Rattle.tag_core.proofs.settles.settle_all.Goals as goal

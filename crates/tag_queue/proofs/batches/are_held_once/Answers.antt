@@ -1,4 +1,5 @@
--- A tag that is not held, or that stands among those before it, is told; where none is, all are held and differ.
+-- The loop ends early exactly at a tag that is not held or is among those before it; otherwise all are held and
+-- distinct.
 use Rattle.std.proofs.Common.{rules, arith, ◌≡◌, ◌≢◌, ℕ, ◌<◌, length, take, get_or, sym, ap, ◌∙◌, subst, below_more, eqb-true, eq-eqb}
 use mathlib.Core.Logic.{dite}
 use native.Mathlib.Decide.{ℕ_discrete}

@@ -1,4 +1,4 @@
--- The tags so far are held, and differ.
+-- The tags so far are held and distinct.
 use Rattle.std.proofs.Common.{◌≢◌, ℕ, ◌<◌, get_or}
 use Rattle.tag_core.specs.Callers.{Holds}
 use Rattle.tag_queue.proofs.batches.are_held_once.Given as goal

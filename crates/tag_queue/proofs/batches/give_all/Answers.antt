@@ -1,4 +1,4 @@
--- A tag joins the last run, or ends it: then the run is given back, and the tag begins the next.
+-- Each tag joins the last run or ends it; then one give frees that run, and the tag begins the next.
 use Rattle.std.proofs.Common.{rules, arith, ◌≡◌, ◌≢◌, ℕ, ◌+◌, ◌*◌, ◌%◌, ◌^◌, ◌<◌, ◌≤◌, length, get_or, bit_or, sym, ap, ◌∙◌, subst, ⊎_elim}
 use Rattle.std.proofs.lemmas.Nat.{one_shl}
 use Rattle.tag_layout.specs.Layout.{Layout, words, word_of, place_of, word_depth}

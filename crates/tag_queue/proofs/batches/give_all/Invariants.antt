@@ -1,4 +1,4 @@
--- Of the tags so far all are given back but those of the last run, which its mask has.
+-- Of the tags so far, all are freed except those of the last run, whose bits are in the mask.
 use Rattle.tag_queue.proofs.SoFar.{SoFar}
 use Rattle.tag_queue.proofs.batches.give_all.Given as goal
 

@@ -1,4 +1,4 @@
--- All callers settle, with no tag in use; then they go on, or back as they were.
+-- All callers settle with no tag in use; then they move to the next map, or are returned unchanged.
 use Rattle.std.proofs.Common.{rules, List, map, sym, subst}
 use Rattle.tag_core.specs.declared.record.Record.{Record}
 use Rattle.tag_core.specs.declared.map.Map.{Map}

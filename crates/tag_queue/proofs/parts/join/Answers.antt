@@ -1,5 +1,5 @@
--- The three lists are consumed in step, so agents made and parts left together are what was handed in, and the parts of
--- each agent fit each other.
+-- The three lists are consumed in step, so agents made and parts left are all that was passed in, and each agent's
+-- parts fit.
 use Rattle.std.proofs.Common.{arith, ◌≡◌, ℕ, ◌+◌, [], ◌∷◌, ◌++◌, All, length, length-append, ap, ◌∙◌, sym, subst}
 use Rattle.std.proofs.lemmas.List.Elements.{All-push}
 use Rattle.tag_queue.specs.Agents.{caller_of, teller_of, waiter_of}

@@ -1,3 +1,4 @@
+-- Each part passed in is either in an agent made so far or still in its iterator, in the same order.
 use Rattle.std.proofs.Common.{◌≡◌, ◌+◌, ◌++◌, All, map, length}
 use Rattle.std.specs.Vec.Iter.{into_iter_items, into_iter_len}
 use Rattle.tag_queue.specs.Agents.{caller_of, teller_of, waiter_of}

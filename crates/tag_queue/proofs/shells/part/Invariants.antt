@@ -1,3 +1,4 @@
+-- Each agent is either taken apart or still in the iterator, in the same order, and there is room for the rest.
 use Rattle.std.proofs.Common.{◌≡◌, ◌+◌, ◌≤◌, ◌++◌, map, vec_len, vec_capacity}
 use Rattle.std.specs.Vec.Iter.{into_iter_items, into_iter_len}
 use Rattle.tag_queue.specs.Agents.{caller_of}

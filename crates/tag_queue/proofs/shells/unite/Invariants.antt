@@ -1,3 +1,4 @@
+-- Each caller and shell is either in an agent or still in its iterator, and those that are left fit together.
 use Rattle.std.proofs.Common.{◌≡◌, ◌+◌, ◌≤◌, ◌++◌, map, vec_len, vec_capacity}
 use Rattle.std.specs.Vec.Iter.{into_iter_items, into_iter_len}
 use Rattle.tag_queue.specs.Agents.{caller_of}

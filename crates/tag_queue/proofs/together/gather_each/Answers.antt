@@ -1,6 +1,6 @@
--- Agents come off the end, so each stands before those that came earlier.
+-- Agents are taken from the end of the list and put in front of those gathered, so the order of the list is kept.
 use Rattle.std.proofs.Common.{List, [], ◌∷◌, ◌++◌, All, sym, ap, ◌∙◌, subst, append_assoc}
-use Rattle.tag_core.proofs.Lasts.{all_front, all_last}
+use Rattle.step_ledger.proofs.Turned.{all_front, all_last}
 use Rattle.tag_queue.specs.declared.agent.Agent.{Agent}
 use Rattle.tag_queue.specs.Agents.{IsAgentOf}
 use Rattle.tag_queue.proofs.together.gather_each.Goals as goal

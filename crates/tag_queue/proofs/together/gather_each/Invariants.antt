@@ -1,4 +1,4 @@
--- Those that came together are the last of the list; the others are still to come.
+-- The agents gathered so far are the last of the list; the others are still in it.
 use Rattle.std.proofs.Common.{◌≡◌, List, ◌++◌, All, length}
 use Rattle.tag_queue.specs.declared.agent.Agent.{Agent}
 use Rattle.tag_queue.specs.Agents.{IsAgentOf}

@@ -1,4 +1,4 @@
--- The last agent's record comes before those gathered; on the way back it is the latest again.
+-- The last agent's record goes in front of those gathered, so on the way back it is the first to be returned.
 use Rattle.std.proofs.Common.{rules, ◌≡◌, List, [], ◌++◌, All, refl, sym, ap, ◌∙◌, subst}
 use lib.ListN.{get_elem?}
 use Rattle.step_ledger.specs.Views.{HasAll}
@@ -6,7 +6,7 @@ use Rattle.tag_core.specs.declared.record.Record.{Record}
 use Rattle.tag_core.specs.declared.caller.Caller.{Caller}
 use Rattle.tag_core.specs.Callers.{IsCallerOf, IsUnchanged, record_of}
 use Rattle.tag_core.specs.Gathering.{gathered, numbers}
-use Rattle.tag_core.proofs.Lasts.{all_front, all_last}
+use Rattle.step_ledger.proofs.Turned.{all_front, all_last}
 use Rattle.tag_queue.specs.declared.agent.Agent.{Agent}
 use Rattle.tag_queue.specs.Agents.{IsAgentOf, caller_of, records_of, agents_of}
 use Rattle.tag_queue.proofs.Unchanged.{last_before, agent_same, all_pushed, unchanged-back}

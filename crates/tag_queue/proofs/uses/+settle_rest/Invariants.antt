@@ -1,3 +1,4 @@
+-- Each call takes one agent off the list, so the recursion ends.
 use Rattle.std.proofs.Common.{vec_len}
 use Rattle.tag_queue.proofs.uses.+settle_rest.Given as goal
 

@@ -1,11 +1,10 @@
--- The tags so far are held, and differ.
+-- The tags so far are held and distinct.
 use Rattle.std.proofs.Common.{◌≡◌, ◌≢◌, ℕ, ◌<◌, true, get_or}
 use Rattle.tag_layout.specs.Layout.{word_of, place_of}
 use Rattle.tag_search.specs.Plain.{words_of}
 use Rattle.tag_search.specs.Pool.{pool_of, is_busy}
 use Rattle.tag_script.proofs.clearing.are_held_once.Given as goal
 
--- the tags so far are held, and differ
 abbrev pub invariant-loop-i : goal.invariant-loop-i
 invariant-loop-i l = record {
   held : (k : ℕ) → k < l.i → is_busy (pool_of (words_of l.port)) (word_of l.port.layout (get_or l.tags k 0))

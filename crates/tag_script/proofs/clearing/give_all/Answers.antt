@@ -1,4 +1,4 @@
--- One tag more is free once the mask is: its bit joins the mask, or begins the next.
+-- Each tag adds its bit to the mask, or begins a new mask after a give, so freeing the mask frees one more tag.
 use Rattle.std.proofs.Common.{◌≡◌, ℕ, ◌+◌, ◌*◌, ◌%◌, ◌^◌, ◌<◌, true, take, get_or, length, bit_or, sym, ap, subst, ◌∙◌, arith, rules}
 use Rattle.std.specs.Int.{bit_at}
 use Rattle.std.proofs.lemmas.Nat.{one_shl, or_lt, pow_below, pow_pos}

@@ -1,4 +1,4 @@
--- With the places of the mask free, the tags so far are, and no other that was not.
+-- Once the places of the mask are freed, exactly the tags so far are free besides those that were free before.
 use Rattle.std.proofs.Common.{◌≡◌, ℕ, ◌<◌, take}
 use Rattle.std.specs.Int.{bit_at}
 use Rattle.tag_layout.specs.Layout.{words, IsWithin}
@@ -7,7 +7,6 @@ use Rattle.tag_search.specs.Pool.{pool_of, free_at}
 use Rattle.tag_script.specs.Solo.{freed}
 use Rattle.tag_script.proofs.clearing.give_all.Given as goal
 
--- with the places of the mask free, the tags so far are, and no other that was not
 abbrev pub invariant-loop-tag : goal.invariant-loop-tag
 invariant-loop-tag l = record {
   layout : l.port.layout ≡ l.fn.port.layout;

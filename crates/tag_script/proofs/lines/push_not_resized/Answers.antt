@@ -1,4 +1,4 @@
--- Each part stands behind those before it.
+-- The number of the cause, its own numbers and the line feed are appended in this order.
 use Rattle.std.proofs.Common.{◌≡◌, ℕ, List, ◌++◌, ap, ◌∙◌}
 use Rattle.std.proofs.lemmas.Result.{on_ok_weaker}
 use Rattle.std.specs.Prelude.{codes}

@@ -1,4 +1,4 @@
--- What is played by the player is played in its world.
+-- A play by the player is a play in its world, since each answer of the player is one in its world.
 use Rattle.std.proofs.Common.{ℕ, List, subst}
 use Rattle.tag_lines.specs.declared.order.Order.{Order}
 use Rattle.tag_script.specs.Commands.{ObeysOrder, AreTotals}

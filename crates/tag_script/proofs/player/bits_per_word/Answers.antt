@@ -1,4 +1,4 @@
--- A shift of one is a power of two.
+-- The shift is at most 6, so 1 shifted by it is 2^shift.
 use Rattle.std.proofs.Common.{◌^◌, ap, ◌∙◌, arith}
 use Rattle.std.proofs.lemmas.Nat.{one_shl}
 use Rattle.tag_script.proofs.player.bits_per_word.Goals as goal

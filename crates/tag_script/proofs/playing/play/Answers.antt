@@ -1,4 +1,4 @@
--- One more order is played in the world that those before it left.
+-- Each order is played in the world that the earlier ones left, and its lines follow theirs.
 use Rattle.std.proofs.Common.{◌≡◌, ℕ, ◌<◌, ◌≤◌, ◌+◌, List, [], ◌∷◌, ◌++◌, take, length, get_or, sym, ap, subst, ◌∙◌, arith, rules}
 use Rattle.std.proofs.lemmas.List.{take_more, take_all}
 use Rattle.tag_lines.specs.declared.order.Order.{Order}

@@ -1,4 +1,4 @@
--- Each way to a text is one of those that a script is owed.
+-- Each text is that of the first malformed line, of a refused setup, or of a play of the orders.
 use Rattle.std.proofs.Common.{ℕ, List, sym, ap, subst, ◌∙◌}
 use Rattle.std.specs.List.{All}
 use Rattle.tag_lines.specs.declared.dialect.Dialect.{Dialect}

@@ -1,4 +1,4 @@
--- What is told is that of the script's kind.
+-- The output is that of the kind of script that was played.
 use Rattle.std.proofs.Common.{Bool, IfOk, sym, subst}
 use Rattle.tag_script.specs.Script.{IsTold}
 use Rattle.tag_script.proofs.script.carry_out.Goals as goal

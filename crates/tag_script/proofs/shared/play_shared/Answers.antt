@@ -1,4 +1,4 @@
--- What is played on the callers' board is played in its scene.
+-- A play on the callers' board is a play in its scene, since each answer on the board is one in the scene.
 use Rattle.std.proofs.Common.{ℕ, List, ap, subst}
 use Rattle.tag_lines.specs.declared.order.Order.{Order}
 use Rattle.tag_script.specs.Plays.{IsPlayed}

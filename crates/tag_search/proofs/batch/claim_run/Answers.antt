@@ -1,4 +1,4 @@
--- The run has n bits, for which there is room.
+-- The run has n bits, so room for n tags suffices and the claim cannot be refused.
 use Rattle.std.proofs.Common.{◌≡◌, ◌/◌, ◌^◌, [], ◌∷◌, true, false, sym, ap, ◌∙◌, subst}
 use Rattle.tag_core.specs.declared.word_step.WordStep.TheVariants.{Claimed}
 use Rattle.tag_core.specs.Steps.{without}

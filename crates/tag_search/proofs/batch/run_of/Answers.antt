@@ -1,4 +1,4 @@
--- The shifts give the run.
+-- A word of ones, shifted right to n bits and then left to the place, is the mask of the run.
 use Rattle.std.proofs.Common.{count_ones, arith, ap, ◌∙◌}
 use Rattle.tag_search.proofs.Runs.{run_shifted, ones-run}
 use Rattle.tag_search.proofs.batch.run_of.Goals as goal

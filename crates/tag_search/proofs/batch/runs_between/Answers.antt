@@ -1,4 +1,4 @@
--- Each visit that wins nothing adds its steps, and the search goes on behind it.
+-- Each visit that wins nothing adds its steps, and the search goes on with the words after it.
 use Rattle.std.proofs.Common.{ℕ, ◌+◌, ◌∷◌, ◌++◌, Option, Some, None, sym, ◌∙◌, subst}
 use Rattle.tag_layout.specs.Layout.{word_depth, tag_at}
 use Rattle.tag_search.specs.Order.{numbers}

@@ -1,3 +1,4 @@
+-- So far every visit won nothing, and a search of the words left completes the search.
 use Rattle.std.proofs.Common.{◌≡◌}
 use Rattle.tag_search.specs.Added.{Adds, SameRoom}
 use Rattle.tag_search.specs.Order.{numbers}

@@ -1,4 +1,4 @@
--- The sweep's steps, and then the load.
+-- The steps of the sweep, whether or not it found a mask, are followed by the load.
 use Rattle.std.proofs.Common.{arith, [], ◌∷◌, ◌++◌}
 use Rattle.tag_core.specs.declared.word_step.WordStep.TheVariants.{Look}
 use Rattle.tag_search.specs.Batch.{swept_look}

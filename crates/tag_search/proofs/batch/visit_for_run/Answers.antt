@@ -1,4 +1,4 @@
--- One claim, where the run from the first clear place is the word's.
+-- There is one claim if the word has n places from its first clear one on, and otherwise none.
 use Rattle.std.proofs.Common.{ℕ, ◌+◌, ◌≤◌, [], ◌∷◌, ◌++◌, Some, arith, sym, subst}
 use Rattle.tag_core.specs.declared.word_step.WordStep.TheVariants.{Claimed}
 use Rattle.tag_layout.specs.Layout.{word_depth}

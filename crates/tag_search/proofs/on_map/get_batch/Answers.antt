@@ -1,4 +1,4 @@
--- What the port's steps did to the caller; under round robin there are none.
+-- The port added the steps of the batch to its caller, and they determine the tags gained; round robin has no steps.
 use Rattle.std.proofs.Common.{inl, inr, ap, ◌∙◌, rules}
 use Rattle.std.proofs.lemmas.Bool.{cases_Bool}
 use Rattle.std.proofs.lemmas.Result.{IfOk-weaker}

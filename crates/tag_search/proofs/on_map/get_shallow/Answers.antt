@@ -1,4 +1,4 @@
--- What the port's steps did to the caller.
+-- The port added the steps of the get to its caller, and they determine the tag that it gains.
 use Rattle.std.proofs.Common.{rules}
 use Rattle.std.proofs.lemmas.Result.{IfOk-weaker}
 use Rattle.tag_search.proofs.MapGets.{shallow_got}

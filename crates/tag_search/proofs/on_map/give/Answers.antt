@@ -1,4 +1,4 @@
--- The mask has the bit of the held tag alone, and the give joins the caller's own list.
+-- The mask is the bit of the held tag alone, and the step is added to the caller's own list.
 use Rattle.std.proofs.Common.{◌≡◌, ℕ, ◌^◌, ◌<◌, sym, ap, ◌∙◌, subst}
 use Rattle.std.proofs.Math.Pow.{pow-lt}
 use Rattle.tag_layout.specs.Layout.{Layout, words, word_of, place_of, IsWithin}

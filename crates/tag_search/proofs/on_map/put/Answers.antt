@@ -1,4 +1,4 @@
--- The put joins the caller's own list.
+-- On a map of one caller the put is the newest step of the whole history, so it sets its place aside in the pool.
 use Rattle.std.proofs.Common.{◌<◌, subst}
 use Rattle.tag_core.specs.declared.shape.Shape.{Shape}
 use Rattle.tag_layout.specs.Layout.{word_of, place_of}

@@ -1,4 +1,4 @@
--- The mask is one bit, so one tag of room is enough, and what was won tells what was found.
+-- The mask is one bit, so room for one tag suffices, and a claim wins exactly if it found the bit clear.
 use Rattle.std.proofs.Common.{◌≡◌, ◌^◌, ◌<◌, [], ◌∷◌, count_ones, arith, sym, ap, ◌∙◌, subst, true, false}
 use Rattle.std.proofs.lemmas.Nat.{one_shl, pow_below}
 use Rattle.tag_core.specs.declared.word_step.WordStep.TheVariants.{Claimed}

@@ -1,4 +1,4 @@
--- Each lost claim adds its step, and the pass goes on behind it.
+-- A lost claim adds its step, and the pass goes on with the places after it, in the word that the claim found.
 use Rattle.std.proofs.Common.{◌^◌, ◌<◌, List, [], ◌∷◌, ◌++◌, Some, None, ◌∙◌, subst}
 use Rattle.std.proofs.lemmas.List.{append-nil}
 use Rattle.tag_core.specs.declared.word_step.WordStep.{WordStep}

@@ -1,3 +1,4 @@
+-- So far every claim was lost, and tries of the places left complete the pass. Each round leaves fewer places.
 use Rattle.std.proofs.Common.{◌≡◌, ◌<◌, length}
 use Rattle.std.specs.Prelude.{All}
 use Rattle.tag_layout.specs.Layout.{word_depth}

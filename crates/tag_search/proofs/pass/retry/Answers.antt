@@ -1,4 +1,4 @@
--- A sweep that found a mask is followed by a pass, and one that found none by nothing.
+-- A sweep that found a mask is followed by a pass, and one that found none ends the visit.
 use Rattle.std.proofs.Common.{None}
 use Rattle.tag_search.specs.Search.{IsPass, IsSweep, IsRetry, nothing_aside, swept}
 use Rattle.tag_search.specs.Places.{places_of}

@@ -1,4 +1,4 @@
--- A pass that wins is the visit, and one that does not is followed by the retry.
+-- A pass that wins is the whole visit, and one that does not is followed by the retry.
 use Rattle.std.proofs.Common.{Some, None}
 use Rattle.tag_search.specs.Search.{IsPass, IsRetry, IsVisit, at_once, retried}
 use Rattle.tag_search.specs.Places.{places_of}

@@ -1,4 +1,4 @@
--- One bit, at the tag's place.
+-- The shift cannot overflow, since a place is below 64.
 use Rattle.std.proofs.Common.{◌^◌, ap, ◌∙◌}
 use Rattle.std.proofs.lemmas.Nat.{one_shl}
 use Rattle.tag_search.proofs.place.bit_of.Goals as goal

@@ -1,4 +1,4 @@
--- The low bits are what is left by the size of a word.
+-- The low `shift` bits of a number are its remainder modulo the bits of a word.
 use Rattle.std.proofs.Common.{◌^◌, arith}
 use Rattle.std.proofs.lemmas.Nat.{mod_below, pow_pos}
 use Rattle.tag_layout.proofs.PlaceFacts.{low_bits, word_bits-le}

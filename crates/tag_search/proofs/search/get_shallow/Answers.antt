@@ -1,4 +1,4 @@
--- The scan's search is the get.
+-- The scan makes the visits of the get, and as its limits are within the words, its steps are bounded.
 use Rattle.std.proofs.Common.{◌≡◌, ℕ, ◌≤◌, ap, ◌∙◌, subst}
 use Rattle.tag_layout.specs.Layout.{Layout, words, word_of}
 use Rattle.tag_search.specs.Gets.{IsGet}

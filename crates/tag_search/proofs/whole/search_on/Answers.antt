@@ -1,9 +1,7 @@
--- The second pass of the first word, and then the other words.
-use Rattle.std.proofs.Common.{◌≡◌, ℕ, List, ◌++◌, Some, None, true, false, sym, subst}
+-- The retry completes the visit of the first word, and the other words follow it.
+use Rattle.std.proofs.Common.{ℕ, List, ◌++◌, Some, None, false, sym, subst}
 use Rattle.std.proofs.lemmas.List.{append_assoc}
 use Rattle.tag_core.specs.declared.word_step.WordStep.{WordStep}
-use Rattle.tag_layout.specs.Layout.{word_depth, tag_at}
-use Rattle.tag_search.specs.Order.{scan_order}
 use Rattle.tag_search.specs.Search.{IsPass, IsRetry, IsSearch, retried}
 use Rattle.tag_search.specs.Visits.{visits, plain_reach}
 use Rattle.tag_search.proofs.Joined.{adds_joined, adds_weaker}

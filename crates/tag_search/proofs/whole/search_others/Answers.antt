@@ -1,10 +1,10 @@
--- The words behind the first, and then those before it.
-use Rattle.std.proofs.Common.{◌≡◌, ℕ, ◌+◌, ◌++◌, map, Some, None, false, refl, ap, ◌∙◌}
-use Rattle.tag_layout.specs.Layout.{Layout, words}
+-- The words after the first, and then those before it, are all other words in cyclic order.
+use Rattle.std.proofs.Common.{ℕ, ◌+◌, ◌++◌, map, Some, None, false, refl}
+use Rattle.tag_layout.specs.Layout.{words}
 use Rattle.tag_search.specs.Order.{numbers}
 use Rattle.tag_search.specs.Scans.{reach_of}
 use Rattle.tag_search.specs.Search.{Visit, IsSearch}
-use Rattle.tag_search.specs.Visits.{Reach, visit_of, plain_reach}
+use Rattle.tag_search.specs.Visits.{visit_of, plain_reach}
 use Rattle.tag_search.proofs.Joined.{adds_joined, adds_weaker}
 use Rattle.tag_search.proofs.Searches.{search_stops, search_goes_on}
 use Rattle.tag_search.proofs.Wholes.{scanned}

@@ -1,7 +1,7 @@
--- A pass that wins ends the search, and what goes on goes on behind one that does not.
-use Rattle.std.proofs.Common.{◌≡◌, ℕ, List, ◌++◌, Some, None, true, false, sym, subst}
+-- A pass that wins ends the search with the first word's tag, and one that does not is followed by `search_on`.
+use Rattle.std.proofs.Common.{ℕ, List, ◌++◌, Some, None, true, false, sym, subst}
 use Rattle.tag_core.specs.declared.word_step.WordStep.{WordStep}
-use Rattle.tag_layout.specs.Layout.{word_depth, tag_at}
+use Rattle.tag_layout.specs.Layout.{word_depth}
 use Rattle.tag_search.specs.Order.{scan_order}
 use Rattle.tag_search.specs.Search.{IsPass, IsSearch, at_once}
 use Rattle.tag_search.specs.Visits.{visits, plain_reach}

@@ -1,4 +1,4 @@
--- Each place is below the word's depth.
+-- The limit of the rank is the word's depth, so each place is below it.
 use Rattle.std.proofs.Common.{ℕ, ◌<◌, List, true, subst, sym, arith}
 use Rattle.std.specs.Prelude.{All}
 use Rattle.tag_layout.specs.Layout.{word_depth}

@@ -1,4 +1,4 @@
--- The next tag is an ordinary one, and its number stands behind the others.
+-- The subtraction succeeds exactly for an ordinary tag, and its result is the tag's number, stored after those so far.
 use Rattle.std.proofs.Common.{arith, ◌-◌, ◌<◌, ◌≤◌, ◌∷◌, ◌++◌, [], ℕ, List, length, take, sym, ap, ◌∙◌}
 use Rattle.std.proofs.lemmas.List.{length-set, take_more_set, map_more}
 use Rattle.std.proofs.lemmas.List.Elements.{All-more}

@@ -1,4 +1,4 @@
--- The tags so far are ordinary, and their numbers stand in order.
+-- The tags so far are ordinary, and the array begins with their numbers, in the order of the list.
 use Rattle.std.proofs.Common.{◌≡◌, ◌≤◌, All, take, length}
 use Rattle.tag_sets.specs.Batches.{numbers_of}
 use Rattle.tag_sets.proofs.batches.ordinary_numbers.Given as goal

@@ -1,4 +1,4 @@
--- One more bit of the mask is marked, or left out.
+-- A 1 in the mask sets exactly one bit of the list, at its own place, and a 0 changes nothing.
 use Rattle.std.proofs.Common.{arith, ◌≡◌, ℕ, ◌+◌, ◌*◌, ◌/◌, ◌%◌, ◌^◌, ◌<◌, Bool, true, false, nat_eq, List, length, slice_set, slice_index, bit_and, bit_or, refl, sym, ap, ◌∙◌, subst, eq-eqb}
 use Rattle.std.specs.Int.{bit_at}
 use Rattle.std.proofs.lemmas.Nat.{one_shl}

@@ -1,4 +1,4 @@
--- The places so far are marked.
+-- The bits of the places so far are marked, and no other bit has changed.
 use Rattle.std.proofs.Common.{◌≡◌, nat_eq, length}
 use Rattle.std.specs.Int.{bit_at}
 use Rattle.tag_sets.specs.Bits.{Marks}

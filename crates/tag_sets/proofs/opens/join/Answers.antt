@@ -1,4 +1,4 @@
--- The next two agents make the next hand.
+-- Each turn takes the next agent of both lists and makes the next hand, and both lists end together.
 use Rattle.std.proofs.Common.{arith, ◌≡◌, [], ◌∷◌, ◌++◌, All, refl, sym, subst}
 use Rattle.std.proofs.lemmas.List.Elements.{All-push}
 use Rattle.tag_queue.proofs.Fronts.{goes_on}

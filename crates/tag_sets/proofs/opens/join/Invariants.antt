@@ -1,4 +1,4 @@
--- The hands so far have the agents so far, in their order.
+-- The agents of the hands so far, followed by those still to come, are the agents passed in.
 use Rattle.std.proofs.Common.{◌≡◌, ◌++◌, All, map}
 use Rattle.std.specs.Vec.Iter.{into_iter_items, into_iter_len}
 use Rattle.tag_sets.specs.Opening.{reserved_part, ordinary_part, IsSplitAt}

@@ -1,4 +1,4 @@
--- One byte stands behind another.
+-- Each turn appends the text of one byte to those of the bytes before it.
 use Rattle.std.proofs.Common.{◌≡◌, ℕ, suc, ◌+◌, ◌++◌, sym, subst, slice_index, length, arith}
 use Rattle.std.specs.Io.KnownBytes.{Appends}
 use Rattle.tag_sets.specs.Texts.{texts_below, byte_text, hex_digits, head_text, gap_text, end_text}

@@ -1,4 +1,4 @@
--- The bytes so far are written.
+-- The texts of the bytes so far are written.
 use Rattle.std.specs.Io.KnownBytes.{Appends}
 use Rattle.tag_sets.specs.Texts.{texts_below}
 use Rattle.tag_sets.proofs.texts.write_dump.Given as goal

@@ -1,4 +1,4 @@
--- One more place of the number is one more digit.
+-- Each turn appends the digit of the next lower place of the number.
 use Rattle.std.proofs.Common.{◌≡◌, ℕ, ◌+◌, ◌-◌, ◌*◌, ◌/◌, ◌%◌, ◌^◌, false, [], ◌∷◌, sym, ap, ◌∙◌, subst, arith}
 use Rattle.std.specs.Fmt.{digit_glyph}
 use Rattle.std.specs.Io.KnownBytes.{Appends}

@@ -1,4 +1,4 @@
--- One field stands behind another.
+-- The five fields and the last line feed are written in the order of the text.
 use Rattle.std.specs.Prelude.{codes}
 use Rattle.tag_sets.specs.Texts.{field}
 use Rattle.tag_sets.proofs.Writings.{appends_six}

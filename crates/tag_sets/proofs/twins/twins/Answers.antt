@@ -1,4 +1,4 @@
--- Two numbers that are not the same differ; where no two are, all differ.
+-- Every pair of hands is compared, so the numbers all differ unless a pair with the same number is found.
 use Rattle.std.proofs.Common.{arith, ◌≡◌, ◌≢◌, ℕ, get_or, sym, ap, ◌∙◌}
 use Rattle.std.proofs.lemmas.Grind.{get_or_default_zero}
 use Rattle.std.proofs.lemmas.List.{length-map, get_or-map}

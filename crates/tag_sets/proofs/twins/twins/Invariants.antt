@@ -1,4 +1,4 @@
--- The numbers so far differ, and the next differs from the earlier ones so far.
+-- The numbers before `second` all differ, and the one at `second` differs from those before `first`.
 use Rattle.std.proofs.Common.{◌≢◌, ℕ, ◌<◌, get_or}
 use Rattle.tag_sets.specs.Gathering.{numbers_of}
 use Rattle.tag_sets.proofs.twins.twins.Given as goal

@@ -1,10 +1,10 @@
--- What was read before came off the front, and the last piece after it.
+-- The bytes read before the last piece are a prefix of the input, and the piece follows them.
 use Rattle.std.proofs.Common.{take, arith}
 use Rattle.tagplay.specs.declared.fault.RunFault.TheVariants.{Memory}
 use Rattle.tagplay.proofs.InputFacts.{consumes_once, reads_both, stops_long, stops_short}
 use Rattle.tagplay.proofs.input.read_whole.Goals as goal
 
--- the last read gave nothing
+-- the last read gave nothing, so the input is at its end
 pub returns-then-count-eq0-clause-read : goal.returns-then-count-eq0-clause-read
 returns-then-count-eq0-clause-read g c = record {
   consumed = consumes_once (g.R.Read.remaining c.args.reader.now) (g.R.Read.remaining c.loop-count.reader)
@@ -13,7 +13,7 @@ returns-then-count-eq0-clause-read g c = record {
   short = omega (arith, c.loop-count.invariant.short, c.loop-count.input.ok.0);
 }
 
--- the last piece went past the most
+-- the last piece exceeds the size limit
 pub returns-then-count-len-clause-stopped : goal.returns-then-count-len-clause-stopped
 returns-then-count-len-clause-stopped g c =
     stops_long (g.R.Read.remaining c.args.reader.now) (g.R.Read.remaining c.loop-count.reader)
@@ -28,7 +28,7 @@ returns-then-count-len-clause-stopped g c =
       c.in-Ok.ensures.bound.1,
     ))
 
--- the last piece had room, but for memory
+-- the last piece is within the size limit, so the fault is memory
 pub returns-then-is_err-clause-stopped : goal.returns-then-is_err-clause-stopped
 returns-then-is_err-clause-stopped g c =
     let before = g.R.Read.remaining c.args.reader.now in let after = g.R.Read.remaining c.read.new.self in

@@ -1,10 +1,10 @@
--- What was read and what is left are the input.
+-- The bytes read so far, followed by those that the reader still has, are the input.
 use Rattle.std.proofs.Common.{◌≤◌, ◌-◌, ◌+◌, vec_len}
 use Rattle.std.specs.Io.KnownBytes.{Consumes}
 use Rattle.tag_lines.specs.declared.lines.TheConstants.{MAX_INPUT}
 use Rattle.tagplay.proofs.input.read_whole.Given as goal
 
--- what was read came off the front of the input
+-- the bytes read so far are a prefix of the input
 abbrev pub invariant-loop-count : goal.invariant-loop-count
 invariant-loop-count g l = record {
   read : Consumes (g.R.Read.remaining l.fn.reader) (g.R.Read.remaining l.reader) l.input.items;

@@ -1,4 +1,4 @@
--- Each way to a text is one of those that a log is answered.
+-- Each text is the line of the log's first fault, the report of its play, or the line of its play's fault.
 use Rattle.std.proofs.Common.{◌≡◌, ◌≢◌, ◌↔◌, ◌++◌, Err, subst, rules}
 use Rattle.std.proofs.lemmas.Bool.{false≢true}
 use Rattle.loop_device.specs.declared.fault.LogCause.TheVariants as causes

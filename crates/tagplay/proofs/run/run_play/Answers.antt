@@ -1,4 +1,4 @@
--- Once the input is read whole, it was not too long.
+-- An input that was read whole is within the size limit, so no later fault is `TooLong`.
 use Rattle.std.proofs.Common.{rules}
 use Rattle.tagplay.proofs.InputFacts.{stops_short}
 use Rattle.tagplay.proofs.run.run_play.Goals as goal

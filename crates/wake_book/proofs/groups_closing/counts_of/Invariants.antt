@@ -1,3 +1,4 @@
+-- The sums are those of the groups so far. Each half of a word is below 2^32, so eight of them cannot overflow.
 use Rattle.std.proofs.Common.{◌≡◌, ◌*◌, ◌≤◌}
 use Rattle.std.specs.Slots.{slots_items}
 use Rattle.step_ledger.specs.History.{sum_to}

@@ -1,4 +1,4 @@
--- The bits are those that the call found, and nothing changes but the caller's own lists.
+-- The new list is filled whole, so its bits are those of the call; the loads change no part.
 use Rattle.std.proofs.Common.{◌≡◌, ℕ, List, length, ap, sym, ◌∙◌, subst, arith, set, length-set}
 use Rattle.std.proofs.lemmas.List.Elements.{All-set}
 use Rattle.tag_sets.specs.Hands.{IsHandOf}

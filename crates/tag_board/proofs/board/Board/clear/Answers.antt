@@ -1,4 +1,4 @@
--- The tag leaves its caller's part, and is counted.
+-- The call changes one hand, which loses the tag and counts it, so only its caller's part changes.
 use Rattle.std.proofs.Common.{sym, ◌≡◌, ℕ, ap, ◌∙◌, length-set, nat_eq, ◌<◌}
 use Rattle.std.proofs.lemmas.List.Elements.{All-set}
 use Rattle.std.proofs.lemmas.Result.{on_err_weaker}

@@ -1,4 +1,4 @@
--- The tags of the list leave their caller's part, and are counted.
+-- The call changes one hand, which loses the listed tags and counts them, so only its caller's part changes.
 use Rattle.std.proofs.Common.{sym, ℕ, length, ap, ◌∙◌, length-set}
 use Rattle.std.proofs.lemmas.List.Elements.{All-set}
 use Rattle.std.proofs.lemmas.Result.{on_err_weaker}

@@ -1,4 +1,4 @@
--- The callers are all there, and the sums over them are those over both sets.
+-- A board has all its hands, so `gather` succeeds, and its sums over both sets are those over all callers.
 use Rattle.std.proofs.lemmas.Bool.{false≢true}
 use Rattle.tag_board.proofs.Endings.{all_there, totals_are}
 use Rattle.tag_board.proofs.board.Board.close.Goals as goal

@@ -1,4 +1,4 @@
--- The bytes are those that the call found, and nothing changes but the caller's own lists.
+-- The new list is filled whole, so its bytes are those of the dump; the loads change no part.
 use Rattle.std.proofs.Common.{◌≡◌, ℕ, List, ◌++◌, drop, ap, sym, ◌∙◌, subst, arith, set, length-set}
 use Rattle.std.proofs.lemmas.List.Elements.{All-set}
 use Rattle.tag_sets.specs.Hands.{IsHandOf}

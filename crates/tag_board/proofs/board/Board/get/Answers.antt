@@ -1,4 +1,4 @@
--- The tag answered is its caller's, which did not hold it, and no other caller has it.
+-- The tag was not held by its caller before, and no other caller holds it now, so no caller held it.
 use Rattle.std.proofs.Common.{ℕ, Option, Ok, refl, sym, ◌∙◌, subst, set, length-set}
 use Rattle.std.proofs.lemmas.List.Elements.{All-set}
 use Rattle.tag_search.specs.Gains.{count_of}

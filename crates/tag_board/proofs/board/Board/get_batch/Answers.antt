@@ -1,4 +1,4 @@
--- The tags answered are their caller's, which did not hold them, and no other caller has one of them.
+-- The tags were not held by their caller before, and no other caller holds one now, so no caller held one.
 use Rattle.std.proofs.Common.{◌≡◌, ℕ, true, Option, None, Ok, refl, sym, ◌∙◌, subst, set, length-set}
 use Rattle.std.proofs.lemmas.List.Elements.{All-set}
 use Rattle.tag_search.specs.Gains.{count_of_run}

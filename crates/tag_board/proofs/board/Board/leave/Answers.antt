@@ -1,4 +1,4 @@
--- The caller stands in no group.
+-- The call changes one hand, which is then in no group, so only its caller's part changes.
 use Rattle.std.proofs.Common.{◌≡◌, ℕ, ap, ◌∙◌, length-set, false}
 use Rattle.std.proofs.lemmas.List.Elements.{All-set}
 use Rattle.std.proofs.lemmas.Result.{on_err_weaker}

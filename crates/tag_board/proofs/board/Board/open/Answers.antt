@@ -1,4 +1,4 @@
--- The hands of new tags have done nothing, and stand in the order of their numbers; a single one has touched nothing.
+-- The new hands are in the order of their numbers and have done nothing, so each part is idle and no set has a step.
 use Rattle.tag_board.proofs.Newcomers.{opens, every, in_order}
 use Rattle.tag_board.proofs.SoloOpens.{opens_alone}
 use Rattle.tag_board.proofs.board.Board.open.Goals as goal

@@ -1,4 +1,4 @@
--- Each hand can be asked, since the tag is one that its caller holds; those asked so far don't hold it.
+-- The tag is in range since its caller holds it, so every hand can be tested. Those that were do not hold it.
 use Rattle.std.proofs.Common.{◌≡◌, ◌≢◌, ℕ, sym, subst, arith, false}
 use mathlib.Core.Logic.{dite}
 use native.Mathlib.Decide.{ℕ_discrete}

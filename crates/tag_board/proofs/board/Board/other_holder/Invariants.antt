@@ -1,4 +1,4 @@
--- The other callers so far don't hold the tag.
+-- No caller visited so far, other than this one, holds the tag.
 use Rattle.std.proofs.Common.{◌≡◌, ◌≢◌, ℕ, ◌<◌, false}
 use Rattle.tag_board.specs.Boards.{state_of}
 use Rattle.tag_board.proofs.board.Board.other_holder.Given as goal

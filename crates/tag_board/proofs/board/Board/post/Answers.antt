@@ -1,4 +1,4 @@
--- The tag leaves its caller's part.
+-- The call changes one hand, which loses the tag and counts nothing, so only its caller's part changes.
 use Rattle.std.proofs.Common.{ℕ, nat_eq, ap, sym, ◌∙◌, length-set}
 use Rattle.std.proofs.lemmas.List.Elements.{All-set}
 use Rattle.std.proofs.lemmas.Result.{on_ok_weaker, on_err_weaker}

@@ -1,6 +1,4 @@
--- All callers are handed in, so only the total, tags in use, waits and memory are in the way. What was in use is told
--- by the
--- sums over both sets, which balance.
+-- All hands are passed in, so none is missing; the tags in use that a refusal reports are the sums over both sets.
 use Rattle.std.proofs.Common.{◌≡◌, refl, sym, ap, ◌∙◌}
 use Rattle.tag_queue.specs.Agents as queue
 use Rattle.tag_board.proofs.Continuing.{order_kept, every_there, world_resized, world_free, total_kept, world_kept, numbers_kept, may_resize, refuses}

@@ -1,4 +1,4 @@
--- The sizes are those of the set, and nothing changes but the caller's own lists.
+-- The sizes are those of the set, and the loads change no part.
 use Rattle.std.proofs.Common.{ℕ, ap, sym, ◌∙◌, length-set}
 use Rattle.std.proofs.lemmas.List.Elements.{All-set}
 use Rattle.tag_sets.specs.Hands.{IsHandOf}

@@ -1,4 +1,4 @@
--- The tag taken is its caller's, which did not hold it, and no other caller has it.
+-- The tag was not held by its caller before, and no other caller holds it now, so no caller held it.
 use Rattle.std.proofs.Common.{rules, ◌≡◌, ℕ, nat_eq, Ok, Err, IfErr, refl, sym, ap, ◌∙◌, subst, length-set, eq-eqb, eqb-true}
 use Rattle.std.proofs.lemmas.List.Elements.{All-set}
 use Rattle.tag_sets.specs.Hands.{IsHandOf}

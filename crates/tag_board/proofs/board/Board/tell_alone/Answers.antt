@@ -1,4 +1,4 @@
--- Two hands that hold one tag would differ where they meet.
+-- Hands of one pair of sets never hold the same tag, as `apart` shows, so there is no other holder.
 use Rattle.std.proofs.Common.{◌≡◌, ℕ, max, min, get_or, ap, ◌∙◌, arith}
 use Rattle.tag_board.proofs.Holders.{later_holds, earlier_holds}
 use Rattle.tag_board.proofs.board.Board.tell_alone.Goals as goal

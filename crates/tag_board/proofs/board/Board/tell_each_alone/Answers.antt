@@ -1,4 +1,4 @@
--- Each bit of the mask stands for a tag that the caller holds, and it is asked of each in turn.
+-- Each bit of the mask is a tag that the caller holds, so `tell_alone` applies to each, and together they are the run.
 use Rattle.std.proofs.Common.{◌≡◌, ◌≢◌, ℕ, ◌+◌, ◌*◌, ◌%◌, ◌^◌, ◌<◌, nat_eq, bit_and, sym, ap, ◌∙◌, subst, arith}
 use Rattle.std.proofs.lemmas.Nat.{one_shl}
 use Rattle.std.specs.Int.{bit_at}
@@ -15,11 +15,11 @@ use Rattle.tag_board.proofs.Seats.{own_here}
 use Rattle.tag_board.proofs.board.Board.tell_each_alone.Goals as goal
 use Rattle.tag_board.proofs.board.Board.tell_each_alone.Goals.{then-mask-place-ne0, else-mask-place-ne0}
 
--- the mask has a bit at this place
+-- a nonzero test means that the mask has a bit at this place
 bit_there : (mask place : ℕ) → place < 64 → bit_and mask (1 * 2 ^ place % 2 ^ 64) ≢ 0 → bit_at mask place ≡ 1
 bit_there mask place low some = taken_of_mask mask place (λ z. some (ap (bit_and mask) (one_shl place 64 low) ∙ z))
 
--- or it has none
+-- and a zero test that it has none
 no_bit_there : (mask place : ℕ) → place < 64 → bit_and mask (1 * 2 ^ place % 2 ^ 64) ≡ 0 → bit_at mask place ≡ 0
 no_bit_there mask place low none = clear_of_mask mask place (sym (ap (bit_and mask) (one_shl place 64 low)) ∙ none)
 

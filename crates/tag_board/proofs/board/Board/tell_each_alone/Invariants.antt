@@ -1,4 +1,4 @@
--- The tags of the batch so far are held by nobody else, and the board is as it was.
+-- No other caller holds a tag of the places visited so far, and the board is unchanged.
 use Rattle.std.proofs.Common.{◌≡◌, ℕ, ◌+◌, ◌<◌}
 use Rattle.std.specs.Int.{bit_at}
 use Rattle.std.specs.Prelude.{nat_eq}

@@ -1,4 +1,4 @@
--- The caller stands in the group.
+-- The call changes one hand, which is then in a group, so only its caller's part changes.
 use Rattle.std.proofs.Common.{◌≡◌, ℕ, ap, ◌∙◌, length-set, ◌<◌, true}
 use Rattle.std.proofs.lemmas.List.Elements.{All-set}
 use Rattle.std.proofs.lemmas.Result.{on_err_weaker}

@@ -1,4 +1,4 @@
--- Nothing changes but the caller's own lists.
+-- The call adds loads to the caller's lists, and no part depends on these.
 use Rattle.std.proofs.Common.{◌≡◌, ℕ, ◌∙◌, length-set}
 use Rattle.std.proofs.lemmas.List.Elements.{All-set}
 use Rattle.tag_sets.specs.Hands.{IsHandOf}

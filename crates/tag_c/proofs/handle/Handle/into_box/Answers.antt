@@ -1,4 +1,4 @@
--- The flag is 1 exactly where there is an object.
+-- The handle keeps its flag at 1 exactly while there is an object, so a flag of 1 lets the pointer be used.
 use Rattle.std.proofs.Common.{◌∙◌, sym}
 use Rattle.tag_c.proofs.Flags.{some_of}
 use Rattle.tag_c.proofs.handle.Handle.into_box.Goals as goal

@@ -1,4 +1,4 @@
--- A pointer to no object owns nothing.
+-- A `Hidden` without an object owns nothing, so a null pointer will do.
 use Rattle.std.proofs.Common.{◌≡◌, List, [], ◌∷◌, ◌++◌, Option, None, refl, sym, subst}
 use mir.Val.{Val}
 use base.Logic.{SProp, ent, emp, id⊢}

@@ -1,4 +1,4 @@
--- A `Loose` and a `Hidden` are the same words and own the same memory.
+-- A `Loose` and a `Hidden` have the same words and own the same memory, so only the type of the pointer changes.
 use Rattle.std.proofs.Common.{◌≡◌, List, [], ◌∷◌, ◌++◌, Some, refl, sym, subst}
 use mir.Val.{Val, vptr}
 use base.Logic.{SProp, ent, emp, id⊢}

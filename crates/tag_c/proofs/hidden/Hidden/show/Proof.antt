@@ -1,4 +1,4 @@
--- A `Hidden` and a `Loose` are the same words and own the same memory.
+-- A `Hidden` with an object has the words of a `Loose` and owns the same memory; only the pointer's type changes.
 use Rattle.std.proofs.Common.{◌≡◌, List, [], ◌∷◌, ◌++◌, Some, refl, sym, subst}
 use mir.Val.{Val, vptr}
 use base.Logic.{SProp, ent, emp, id⊢}

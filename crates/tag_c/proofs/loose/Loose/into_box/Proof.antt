@@ -1,4 +1,4 @@
--- `into_box` makes the box again.
+-- A box is made from a pointer and an allocator that own what a box owns.
 use Rattle.std.proofs.Common.{◌≡◌, List, [], ◌∷◌, ◌++◌, refl, sym, ap, subst}
 use mir.Syntax.{a_type, dcons, dnil}
 use mir.Val.{Val, vptr}

@@ -1,4 +1,4 @@
--- `of` takes the box apart.
+-- The pointer and the allocator that a box is taken apart into own what the box owned.
 use Rattle.std.proofs.Common.{◌≡◌, List, [], ◌∷◌, ◌++◌, refl, sym, ap, ◌∙◌, subst}
 use mir.Syntax.{a_type, dcons, dnil}
 use mir.Raw.{raw as bare}

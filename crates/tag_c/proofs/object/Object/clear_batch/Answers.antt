@@ -1,4 +1,4 @@
--- The hand does what its tags say of this call, and the number is that of their answer.
+-- The answer of `tag_sets` comes with the clauses of `DoesClearBatch`, and its number fits into 32 bits.
 use Rattle.tag_c.specs.Calls.{DoesClearBatch}
 use Rattle.tag_c.specs.Codes.{code_of_count}
 use Rattle.tag_c.proofs.Calling.{by_hand, stored}

@@ -1,4 +1,4 @@
--- A pool's totals are those of its gathered hands.
+-- The object is a pool here, and the totals are those with which its tags were gathered.
 use Rattle.tag_c.proofs.Refusing.{ends_of}
 use Rattle.tag_c.proofs.object.Object.close.Goals as goal
 

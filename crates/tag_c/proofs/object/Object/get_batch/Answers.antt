@@ -1,4 +1,4 @@
--- The hand does what its tags say of a batch get; the mask was written exactly where there is a run.
+-- The first tag of a run is below the total, so its number fits; the mask is written exactly if there is a run.
 use Rattle.std.proofs.Common.{arith, rules, sym, subst}
 use Rattle.tag_sets.specs.Hands.{IsHandOf}
 use Rattle.tag_c.specs.declared.shared.Shared.{Shared}

@@ -1,4 +1,4 @@
--- A pool is one of its tags.
+-- An object that is a pool is a pool of the tags that it shares.
 use Rattle.std.proofs.Common.{refl, sym, subst}
 use Rattle.std.specs.Arc.{arc_value}
 use Rattle.tag_c.specs.declared.object.Kind.{Kind}

@@ -1,4 +1,4 @@
--- A hand is one of the tags that it came with.
+-- An object that is a hand is a hand of the tags that it shares.
 use Rattle.std.proofs.Common.{refl, sym, subst}
 use Rattle.std.specs.Arc.{arc_value}
 use Rattle.tag_c.specs.declared.object.Kind.{Kind}

@@ -1,4 +1,4 @@
--- The hand does what its tags say of this call, and the number is that of their answer.
+-- The answer of `tag_sets` comes with the clauses of `DoesRead`, and the value written is the one it found.
 use Rattle.std.proofs.Common.{◌≡◌, ℕ}
 use mathlib.Core.Option.{some}
 use Rattle.tag_sets.specs.Hands.{slot_of}

@@ -1,4 +1,4 @@
--- Each hand that goes into a berth is one of the tags.
+-- The hand moved next belongs to the tags, so the berth that is made for it does too.
 use Rattle.std.proofs.Common.{arith, All, sym, subst}
 use Rattle.std.proofs.lemmas.List.Elements.{All-push, All-take}
 use Rattle.tag_sets.specs.Hands.{IsHandOf}

@@ -1,4 +1,4 @@
--- The hands that are not yet in berths, and those that are, are those of the tags.
+-- All hands belong to the tags, in their berths or not yet; each finds a berth now and room in the list at the end.
 use Rattle.std.proofs.Common.{◌+◌, ◌≤◌, vec_len, vec_capacity}
 use Rattle.std.specs.Prelude.{All}
 use Rattle.tag_sets.specs.Hands.{IsHandOf}

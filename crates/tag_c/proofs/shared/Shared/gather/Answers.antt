@@ -1,4 +1,4 @@
--- A hand from a berth of the tags is one of theirs.
+-- A hand shares its tags with the berth that it is taken from, and the berth belongs to these tags, so the hand does.
 use Rattle.std.proofs.Common.{arith, All, sym, subst}
 use Rattle.std.proofs.lemmas.List.Elements.{All-push, All-take}
 use Rattle.tag_sets.specs.Hands.{IsHandOf}

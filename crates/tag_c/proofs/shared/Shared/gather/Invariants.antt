@@ -1,4 +1,4 @@
--- The hands so far are those of the tags, and there is room for the others.
+-- The hands collected so far belong to the tags, and so do the berths left, for all of which there is room.
 use Rattle.std.proofs.Common.{◌+◌, ◌≤◌, vec_len, vec_capacity}
 use Rattle.std.specs.Prelude.{All}
 use Rattle.tag_sets.specs.Hands.{IsHandOf}

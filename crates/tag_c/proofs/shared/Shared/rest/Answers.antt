@@ -1,4 +1,4 @@
--- Each berth is one of the tags to which the hand belongs.
+-- Each berth belongs to the same tags as the hand, so the hand fits into any of them.
 use Rattle.std.proofs.Common.{ℕ, arith, sym, subst}
 use Rattle.std.proofs.lemmas.List.Elements.{All-get_or}
 use Rattle.tag_sets.specs.declared.hand.Hand.{Hand}

@@ -1,4 +1,4 @@
--- Each full berth hands the hand back.
+-- No berth so far took the hand, so it is still the one that was passed in.
 use Rattle.std.proofs.Common.{◌≡◌}
 use Rattle.tag_c.proofs.shared.Shared.rest.Given as goal
 

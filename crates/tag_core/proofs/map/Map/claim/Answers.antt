@@ -1,12 +1,9 @@
 -- The step sets the mask's bits in the word and wins those that it found 0. There is room for all of them by the test
 -- before it, the caller's mask gains what was won, and its seat the slots of these tags.
-use Rattle.std.proofs.Common.{rules, arith, ◌≡◌, ℕ, ◌+◌, ◌<◌, ◌≤◌, List, slice_index, slice_set, length-set, bit_or, count_ones, refl, sym, ap, ◌∙◌, subst}
-use Rattle.std.proofs.lemmas.List.{get_or_read}
+use Rattle.std.proofs.Common.{rules, arith, ◌≡◌, ℕ, ◌+◌, ◌≤◌, slice_set, length-set, bit_or, count_ones, refl, sym, ap, ◌∙◌, subst}
 use Rattle.std.specs.Int.{bit_at}
 use Rattle.tag_layout.specs.Layout.{IsWithin, word_of, place_of}
 use Rattle.tag_core.specs.declared.shape.Shape.{Shape}
-use Rattle.tag_core.specs.declared.step.Step.TheVariants.{Word}
-use Rattle.tag_core.specs.declared.word_step.WordStep.TheVariants.{Claimed}
 use Rattle.tag_core.specs.Steps.{without}
 use Rattle.tag_core.specs.Spacing.{word_at}
 use Rattle.tag_core.specs.Plays.{claimed}
@@ -14,7 +11,8 @@ use Rattle.tag_core.specs.Callers.{record_of}
 use Rattle.tag_core.proofs.Masks.{ones_minus, minus_le}
 use Rattle.tag_core.proofs.Stand.{word_in}
 use Rattle.tag_core.proofs.Allowed.{claim_allowed}
-use Rattle.tag_core.proofs.Asking.{narrow, in_words, asked, recorded, knows, carries, slots, plus_none, shows}
+use Rattle.tag_core.proofs.Asking.{narrow, in_words, asked, left, recorded, knows, carries, shown, slots, plus_none}
+use Rattle.tag_core.proofs.Marking.{mask_read}
 use Rattle.tag_core.proofs.Holdings.{adds_acquires, not_found}
 use Rattle.tag_core.proofs.map.Map.claim.Goals as goal
 
@@ -32,47 +30,32 @@ fetch_or-found-requires g c =
 
 pub invariant_of-caller : goal.invariant_of-caller
 invariant_of-caller g c =
-    let m = c.args.self.now in let w = c.args.caller.now in let k = w.shape.value in let own = c.requires.caller in
-    let R = g.row.R.Denot in let i : ℕ = c.args.word in let f : ℕ = c.fetch_or-found.result in
-    let did = (c.fetch_or-found.ensures.2 i (record_of w) c.word_spot.ensures w.knows).0 in
-    let was : c.index.result.now ≡ slice_index w.held.items i = get_or_read w.held.items i c.index.result.now
-    (subst (λ (z : ℕ). i < z) (sym w.wide) (in_words m w own i c.requires.within.0)) c.index.ensures 0 in
-    let held : List ℕ = slice_set w.held.items i (bit_or c.index.result.now (without c.args.mask f)) in
-    let held_is : slice_set w.held.items i (bit_or (slice_index w.held.items i) (without c.args.mask f)) ≡ held = ap
-    (λ (z : ℕ). slice_set w.held.items i (bit_or z (without c.args.mask f))) (sym was) in
-    let few : count_ones (without c.args.mask f) ≤ count_ones c.args.mask = ones_minus c.args.mask f in
-    let roomy : w.won + count_ones c.args.mask ≤ k.life = c.room.ensures.0 (search rules) in
-    let told = w.told.1 in record {
+    let w = c.args.caller.now in let i : ℕ = c.args.word in let won = without c.args.mask c.fetch_or-found.result in
+    let inside = in_words c.args.self.now w c.requires.caller i c.requires.within.0 in
+    let mask = ap (λ (z : ℕ). slice_set w.held.items i (bit_or z won))
+    (sym (mask_read w i c.index.result.now inside c.index.ensures)) in
+    let l = left w (c.fetch_or-found.ensures.2 i (record_of w) c.word_spot.ensures w.knows).0 mask refl refl
+    (plus_none w.back) in
+    let fewer : count_ones won ≤ count_ones c.args.mask = ones_minus c.args.mask c.fetch_or-found.result in
+    let roomy : w.won + count_ones c.args.mask ≤ w.shape.value.life = c.room.ensures.0 (search rules) in
+    let told = w.told.1 in let within : w.won + count_ones won ≤ w.life = omega arith in record {
       told = w.told;
-      knows = knows w (Word (Claimed i c.args.mask f)) c.fetch_or-found.new.seat.me did held
-          (w.won + count_ones (without c.args.mask f)) w.back held_is refl refl (plus_none w.back);
-      shown = shows (Word (Claimed i c.args.mask f)) (record_of w) w.seat.me c.fetch_or-found.new.seat.me did;
-      carries = carries w (Word (Claimed i c.args.mask f)) c.fetch_or-found.new.seat.me did held
-          (w.won + count_ones (without c.args.mask f)) w.back held_is refl refl (plus_none w.back);
-      wide = length-set w.held.items i _ ∙ w.wide;
-      unspent = ((let z : w.won + count_ones (without c.args.mask f) ≤ w.life = omega arith in z), w.unspent.1);
+      knows = knows l;
+      shown = shown l;
+      carries = carries l;
+      wide = length-set w.held.items _ _ ∙ w.wide;
+      unspent = (within, w.unspent.1);
       few_back = w.few_back;
     }
 
 pub returns-clause-step : goal.returns-clause-step
 returns-clause-step g c =
-    let m = c.args.self.now in let w = c.args.caller.now in let k = w.shape.value in let own = c.requires.caller in
-    let R = g.row.R.Denot in let i : ℕ = c.args.word in let f : ℕ = c.fetch_or-found.result in
-    let did = (c.fetch_or-found.ensures.2 i (record_of w) c.word_spot.ensures w.knows).0 in
-    let was : c.index.result.now ≡ slice_index w.held.items i = get_or_read w.held.items i c.index.result.now
-    (subst (λ (z : ℕ). i < z) (sym w.wide) (in_words m w own i c.requires.within.0)) c.index.ensures 0 in
-    let held : List ℕ = slice_set w.held.items i (bit_or c.index.result.now (without c.args.mask f)) in
-    let held_is : slice_set w.held.items i (bit_or (slice_index w.held.items i) (without c.args.mask f)) ≡ held = ap
-    (λ (z : ℕ). slice_set w.held.items i (bit_or z (without c.args.mask f))) (sym was) in
-    record {
-      known = recorded w (Word (Claimed i c.args.mask f)) c.fetch_or-found.new.seat.me did held
-          (w.won + count_ones (without c.args.mask f)) w.back held_is refl refl (plus_none w.back);
-      slots =
-          slots w (Word (Claimed i c.args.mask f)) c.fetch_or-found.new.seat.me did held
-          (w.won + count_ones (without c.args.mask f)) w.back held_is refl refl (plus_none w.back);
-      same_map =
-          c.fetch_or-found.ensures.0;
-    }
+    let w = c.args.caller.now in let i : ℕ = c.args.word in let won = without c.args.mask c.fetch_or-found.result in
+    let inside = in_words c.args.self.now w c.requires.caller i c.requires.within.0 in
+    let mask = ap (λ (z : ℕ). slice_set w.held.items i (bit_or z won))
+    (sym (mask_read w i c.index.result.now inside c.index.ensures)) in
+    let l = left w (c.fetch_or-found.ensures.2 i (record_of w) c.word_spot.ensures w.knows).0 mask refl refl
+    (plus_none w.back) in record { known = recorded l; slots = slots l; same_map = c.fetch_or-found.ensures.0 }
 
 pub returns-clause-held : goal.returns-clause-held
 returns-clause-held g c =

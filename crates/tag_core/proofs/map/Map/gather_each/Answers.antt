@@ -4,7 +4,7 @@ use Rattle.tag_core.specs.declared.record.Record.{Record}
 use Rattle.tag_core.specs.declared.caller.Caller.{Caller}
 use Rattle.tag_core.specs.Callers.{IsCallerOf, record_of}
 use Rattle.tag_core.specs.Gathering.{gathered}
-use Rattle.tag_core.proofs.Lasts.{all_front, all_last, taken_off, taken_first}
+use Rattle.step_ledger.proofs.Turned.{all_front, all_last, taken, taken_first}
 use Rattle.tag_core.proofs.map.Map.gather_each.Goals as goal
 
 pub start_gathering-all-requires : goal.start_gathering-all-requires
@@ -38,6 +38,6 @@ loop-caller-preserved g c =
       owner = a.map;
       own = all_front P left c.in-Some-pop.caller (subst (All P) e inv.own);
       gathered = ap (λ (z : List (Record R)). map record_of left ++ z) a.gathered
-          ∙ taken_off record_of c.loop-caller.callers.items left c.in-Some-pop.caller (gathered c.loop-caller.all) e
+          ∙ taken record_of c.loop-caller.callers.items left c.in-Some-pop.caller (gathered c.loop-caller.all) e
           ∙ inv.gathered;
     }

@@ -4,14 +4,12 @@ use Rattle.std.proofs.Common.{◌≡◌, ℕ, refl, ap, ◌∙◌, subst}
 use Rattle.std.specs.Int.{bit_at}
 use Rattle.tag_layout.specs.Layout.{word_of, place_of}
 use Rattle.tag_core.specs.declared.shape.Shape.{Shape}
-use Rattle.tag_core.specs.declared.step.Step.TheVariants.{Word}
-use Rattle.tag_core.specs.declared.word_step.WordStep.TheVariants.{Look}
 use Rattle.tag_core.specs.Spacing.{word_at}
 use Rattle.tag_core.specs.Plays.{looked}
 use Rattle.tag_core.specs.Callers.{record_of}
 use Rattle.tag_core.proofs.Stand.{word_in}
 use Rattle.tag_core.proofs.Allowed.{look_allowed}
-use Rattle.tag_core.proofs.Asking.{narrow, in_words, asked, recorded, knows, carries, slots, plus_none, shows}
+use Rattle.tag_core.proofs.Asking.{narrow, in_words, asked, left, recorded, knows, carries, shown, slots, plus_none}
 use Rattle.tag_core.proofs.Holdings.{adds_keeps}
 use Rattle.tag_core.proofs.map.Map.look.Goals as goal
 
@@ -26,18 +24,13 @@ load-requires g c =
 
 pub invariant_of-caller : goal.invariant_of-caller
 invariant_of-caller g c =
-    let m = c.args.self.now in let w = c.args.caller.now in let k = w.shape.value in let own = c.requires.caller in
-    let R = g.row.R.Denot in let i : ℕ = c.args.word in
-    let did = c.load.ensures.2 i (record_of w) c.word_spot.ensures w.knows in
-    record {
+    let w = c.args.caller.now in
+    let did = c.load.ensures.2 c.args.word (record_of w) c.word_spot.ensures w.knows in
+    let l = left w did.0 refl refl (plus_none w.won) (plus_none w.back) in record {
       told = w.told;
-      knows = knows w
-          (Word (Look i c.load.result)) c.load.new.seat.me did.0 w.held.items w.won w.back refl refl (plus_none w.won)
-          (plus_none w.back);
-      shown = shows (Word (Look i c.load.result)) (record_of w) w.seat.me c.load.new.seat.me did.0;
-      carries =
-          carries w (Word (Look i c.load.result)) c.load.new.seat.me did.0 w.held.items w.won w.back refl refl
-          (plus_none w.won) (plus_none w.back);
+      knows = knows l;
+      shown = shown l;
+      carries = carries l;
       wide = w.wide;
       unspent = w.unspent;
       few_back = w.few_back;
@@ -45,22 +38,17 @@ invariant_of-caller g c =
 
 pub returns-clause-step : goal.returns-clause-step
 returns-clause-step g c =
-    let m = c.args.self.now in let w = c.args.caller.now in let k = w.shape.value in let own = c.requires.caller in
-    let R = g.row.R.Denot in let i : ℕ = c.args.word in
-    let did = c.load.ensures.2 i (record_of w) c.word_spot.ensures w.knows in
-    record {
-      known = recorded w (Word (Look i c.load.result)) c.load.new.seat.me did.0 w.held.items w.won w.back refl refl
-          (plus_none w.won) (plus_none w.back);
-      slots =
-          slots w (Word (Look i c.load.result)) c.load.new.seat.me did.0 w.held.items w.won w.back refl refl
-          (plus_none w.won) (plus_none w.back);
+    let w = c.args.caller.now in
+    let did = c.load.ensures.2 c.args.word (record_of w) c.word_spot.ensures w.knows in
+    let l = left w did.0 refl refl (plus_none w.won) (plus_none w.back) in record {
+      known = recorded l;
+      slots = slots l;
       same_map = c.load.ensures.0;
     }
 
 pub returns-clause-held : goal.returns-clause-held
 returns-clause-held g c =
-    let m = c.args.self.now in let w = c.args.caller.now in let k = w.shape.value in let own = c.requires.caller in
-    let R = g.row.R.Denot in let i : ℕ = c.args.word in
+    let w = c.args.caller.now in let own = c.requires.caller in let i : ℕ = c.args.word in
     let did = c.load.ensures.2 i (record_of w) c.word_spot.ensures w.knows in λ t has e.
     subst (λ (z : Shape). bit_at c.load.result (place_of z.layout t) ≡ 1) own.1
     (did.1 t has.0 (ap (λ (z : Shape). word_of z.layout t) own.1 ∙ e) has.1)

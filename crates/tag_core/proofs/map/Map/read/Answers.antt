@@ -1,78 +1,41 @@
 -- The slot comes to the front by one load and goes back to its place by another; between them its value is read.
-use Rattle.std.proofs.Common.{◌≡◌, ◌≢◌, ℕ, List, ◌∷◌, replicate, sym, ap, ◌∙◌}
+use Rattle.std.proofs.Common.{◌≡◌, ◌≢◌, ℕ, sym, ap, ◌∙◌}
 use mathlib.Core.Logic.{dite}
 use native.Mathlib.Decide.{ℕ_discrete}
-use mathlib.Core.Option.{some}
-use Rattle.tag_layout.specs.Layout.{words}
-use Rattle.tag_layout.specs.Layout.{Layout}
-use Rattle.tag_core.specs.Spacing.{state_at}
-use Rattle.tag_core.specs.Plays.{fronted, ordered}
-use Rattle.tag_core.specs.Callers.{record_of}
 use Rattle.tag_core.specs.Records.{value_of}
-use Rattle.tag_core.proofs.Stand.{state_in}
-use Rattle.tag_core.proofs.Asking.{asked}
-use mathlib.Core.Option.{some-injective}
-use lib.ListN.{get_elem?}
-use Rattle.atomic_table.specs.Table.{rest}
-use Rattle.tag_core.specs.Views.{alone, steps_of}
-use Rattle.tag_core.proofs.Fronts.{front_allowed, order_allowed}
+use Rattle.tag_core.proofs.InFront.{front_asked, in_front, order_asked, exchanged, recorded, knows}
 use Rattle.tag_core.proofs.map.Map.read.Goals as goal
 
 pub load-requires : goal.load-requires
 load-requires g c =
-    let m = c.args.self.now in let w = c.args.caller.now in let k = w.shape.value in let own = c.requires.caller in
-    let R = g.row.R.Denot in let u : ℕ = c.args.tag in let lu = c.requires.held.0 in let has = c.requires.held.1 in
-    let a = asked m w own w.seat.id w.seat.me (state_at k.layout u) c.state_spot-spot.result
-    (λ n. n) 0 0 fronted (c.state_spot-spot.ensures ∙ ap (λ (z : Layout). state_at z u) w.told.0)
-    (state_in k.layout u lu)
-    (front_allowed R k w.seat.id w.seat.me (record_of w) w.knows u lu has w.carries) in (own.0, a.0, a.1)
+    let own = c.requires.caller in
+    let a = front_asked c.args.caller.now c.args.tag _ c.state_spot-spot.ensures c.requires.held c.args.self.now own in
+    (own.0, a.0, a.1)
 
 pub front_value-value-requires : goal.front_value-value-requires
-front_value-value-requires g c =
-    let m = c.args.self.now in let w = c.args.caller.now in let k = w.shape.value in let own = c.requires.caller in
-    let R = g.row.R.Denot in let u : ℕ = c.args.tag in let lu = c.requires.held.0 in let has = c.requires.held.1 in
-    let first = c.load.ensures.2 u (record_of w)
-    (c.state_spot-spot.ensures ∙ ap (λ (z : Layout). state_at z u) w.told.0) w.knows lu has in
-    (c.load.ensures.0 ∙ own.0, (first.0, first.3 ∙ (λ j. (u, first.0) ∷ rest (sym first.3 j))))
+front_value-value-requires g c = (
+  c.load.ensures.0 ∙ c.requires.caller.0,
+  in_front c.args.caller.now c.args.tag _ c.state_spot-spot.ensures c.requires.held c.load.new.seat.me c.load.ensures.2,
+)
 
 pub load-requires-2 : goal.load-requires-2
 load-requires-2 g c =
-    let m = c.args.self.now in let w = c.args.caller.now in let k = w.shape.value in let own = c.requires.caller in
-    let R = g.row.R.Denot in let u : ℕ = c.args.tag in let lu = c.requires.held.0 in let has = c.requires.held.1 in
-    let spot_is = c.state_spot-spot.ensures ∙ ap (λ (z : Layout). state_at z u) w.told.0 in
-    let first = c.load.ensures.2 u (record_of w) spot_is w.knows lu has in
-    let read = c.front_value-value.ensures in let view = ap (λ z. z.0) read.same.2 ∙ first.2 in
-    let now = ap (λ z. z.1) read.same.2 ∙ first.3 in
-    let seat = c.front_value-value.new.seat in
-    let a = asked m w own seat.id seat.me (state_at k.layout u) c.state_spot-spot.result (λ n. n) 0 0 ordered spot_is
-    (state_in k.layout u lu) (order_allowed R k seat.id seat.me (record_of w)
-    (view ∙ w.knows) u lu has first.0 first.1 now first.5) in
-    (read.same.0 ∙ c.load.ensures.0 ∙ own.0, a.0, a.1)
+    let own = c.requires.caller in let read = c.front_value-value in let me = c.load.new.seat.me in
+    let a = order_asked c.args.caller.now c.args.tag _ c.state_spot-spot.ensures c.requires.held me c.load.ensures.2
+    read.result read.result read.new.seat.me read.ensures.value
+    (read.ensures.same.2 ∙ (λ j. (me.0, read.ensures.value j))) c.args.self.now own read.new.seat.id in
+    (read.ensures.same.0 ∙ c.load.ensures.0 ∙ own.0, a.0, a.1)
 
 pub invariant_of-caller : goal.invariant_of-caller
 invariant_of-caller g c =
-    let m = c.args.self.now in let w = c.args.caller.now in let k = w.shape.value in let own = c.requires.caller in
-    let R = g.row.R.Denot in let u : ℕ = c.args.tag in let lu = c.requires.held.0 in let has = c.requires.held.1 in
-    let spot_is = c.state_spot-spot.ensures ∙ ap (λ (z : Layout). state_at z u) w.told.0 in
-    let first = c.load.ensures.2 u (record_of w) spot_is w.knows lu has in
-    let read = c.front_value-value.ensures in let view = ap (λ z. z.0) read.same.2 ∙ first.2 in
-    let now = ap (λ z. z.1) read.same.2 ∙ first.3 in
-    let last = c.load-2.ensures.2 u first.0 first.1 (record_of w) spot_is (view ∙ w.knows) now first.5 has in
-    let same = last.0 ∙ view in
-    record {
+    let w = c.args.caller.now in let read = c.front_value-value in let me = c.load.new.seat.me in
+    let done = exchanged w c.args.tag _ c.state_spot-spot.ensures c.requires.held me c.load.ensures.2
+    read.result read.result read.new.seat.me read.ensures.value
+    (read.ensures.same.2 ∙ (λ j. (me.0, read.ensures.value j))) c.load-2.new.seat.me c.load-2.ensures.2 in record {
       told = w.told;
-      knows = same ∙ w.knows
-          ∙ (λ j. alone (record {
-            shape = k;
-            number = w.number;
-            held = w.held.items;
-            swept = replicate (words k.layout) 0;
-            won = w.won;
-            back = w.back;
-            steps = steps_of (sym same j);
-          }));
-      shown = λ r is. w.shown r (sym same ∙ is);
-      carries = last.1;
+      knows = knows done;
+      shown = λ r is. w.shown r (sym done.view ∙ is);
+      carries = done.carries;
       wide = w.wide;
       unspent = w.unspent;
       few_back = w.few_back;
@@ -80,54 +43,32 @@ invariant_of-caller g c =
 
 pub returns-clause-value : goal.returns-clause-value
 returns-clause-value g c =
-    let m = c.args.self.now in let w = c.args.caller.now in let k = w.shape.value in let own = c.requires.caller in
-    let R = g.row.R.Denot in let u : ℕ = c.args.tag in let lu = c.requires.held.0 in let has = c.requires.held.1 in
-    let spot_is = c.state_spot-spot.ensures ∙ ap (λ (z : Layout). state_at z u) w.told.0 in
-    let first = c.load.ensures.2 u (record_of w) spot_is w.knows lu has in
-    let read = c.front_value-value.ensures in let view = ap (λ z. z.0) read.same.2 ∙ first.2 in
-    let now = ap (λ z. z.1) read.same.2 ∙ first.3 in
-    first.4 ∙ ap some (ap (λ (z : ℕ × R). z.1) (some-injective (u, first.0) (u, c.front_value-value.result)
-    (ap (λ (z : List (ℕ × R)). get_elem? z 0) (sym first.3 ∙ read.value))))
+    let read = c.front_value-value in let me = c.load.new.seat.me in
+    (exchanged c.args.caller.now c.args.tag _ c.state_spot-spot.ensures c.requires.held me c.load.ensures.2
+    read.result read.result read.new.seat.me read.ensures.value
+    (read.ensures.same.2 ∙ (λ j. (me.0, read.ensures.value j))) c.load-2.new.seat.me c.load-2.ensures.2).found
 
 pub returns-clause-kept : goal.returns-clause-kept
 returns-clause-kept g c =
-    let m = c.args.self.now in let w = c.args.caller.now in let k = w.shape.value in let own = c.requires.caller in
-    let R = g.row.R.Denot in let u : ℕ = c.args.tag in let lu = c.requires.held.0 in let has = c.requires.held.1 in
-    let spot_is = c.state_spot-spot.ensures ∙ ap (λ (z : Layout). state_at z u) w.told.0 in
-    let first = c.load.ensures.2 u (record_of w) spot_is w.knows lu has in
-    let read = c.front_value-value.ensures in let view = ap (λ z. z.0) read.same.2 ∙ first.2 in
-    let now = ap (λ z. z.1) read.same.2 ∙ first.3 in
-    let last = c.load-2.ensures.2 u first.0 first.1 (record_of w) spot_is (view ∙ w.knows) now first.5 has in
-    let same = last.0 ∙ view in
-    record {
+    let w = c.args.caller.now in let u : ℕ = c.args.tag in
+    let read = c.front_value-value in let me = c.load.new.seat.me in
+    let done = exchanged w u _ c.state_spot-spot.ensures c.requires.held me c.load.ensures.2
+    read.result read.result read.new.seat.me read.ensures.value
+    (read.ensures.same.2 ∙ (λ j. (me.0, read.ensures.value j))) c.load-2.new.seat.me c.load-2.ensures.2 in record {
       kept = λ t h. (
         h,
         dite (ℕ_discrete t u)
-            (λ (e : t ≡ u). ap (value_of c.load-2.new.seat.me.1) e ∙ last.2 ∙ sym first.4 ∙ ap (value_of w.seat.me.1)
-            (sym e))
-            (λ (ne : t ≢ u). last.3 t h.0 ne h.1 ∙ first.6 t h.0 ne h.1),
+            (λ (e : t ≡ u). ap (value_of c.load-2.new.seat.me.1) e ∙ done.put ∙ sym done.found
+            ∙ ap (value_of w.seat.me.1) (sym e))
+            (λ (ne : t ≢ u). done.others t h ne),
       );
       none_else = λ t h. h;
     }
 
 pub returns-clause-unchanged : goal.returns-clause-unchanged
 returns-clause-unchanged g c =
-    let m = c.args.self.now in let w = c.args.caller.now in let k = w.shape.value in let own = c.requires.caller in
-    let R = g.row.R.Denot in let u : ℕ = c.args.tag in let lu = c.requires.held.0 in let has = c.requires.held.1 in
-    let spot_is = c.state_spot-spot.ensures ∙ ap (λ (z : Layout). state_at z u) w.told.0 in
-    let first = c.load.ensures.2 u (record_of w) spot_is w.knows lu has in
-    let read = c.front_value-value.ensures in let view = ap (λ z. z.0) read.same.2 ∙ first.2 in
-    let now = ap (λ z. z.1) read.same.2 ∙ first.3 in
-    let last = c.load-2.ensures.2 u first.0 first.1 (record_of w) spot_is (view ∙ w.knows) now first.5 has in
-    let same = last.0 ∙ view in (
-      (λ j. record {
-        shape = k;
-        number = w.number;
-        held = w.held.items;
-        swept = replicate (words k.layout) 0;
-        won = w.won;
-        back = w.back;
-        steps = steps_of (same j);
-      }),
-      c.load-2.ensures.0 ∙ read.same.0 ∙ c.load.ensures.0,
-    )
+    let read = c.front_value-value in let me = c.load.new.seat.me in
+    let done = exchanged c.args.caller.now c.args.tag _ c.state_spot-spot.ensures c.requires.held me c.load.ensures.2
+    read.result read.result read.new.seat.me read.ensures.value
+    (read.ensures.same.2 ∙ (λ j. (me.0, read.ensures.value j))) c.load-2.new.seat.me c.load-2.ensures.2 in
+    (recorded done, c.load-2.ensures.0 ∙ read.ensures.same.0 ∙ c.load.ensures.0)

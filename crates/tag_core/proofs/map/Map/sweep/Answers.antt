@@ -1,3 +1,5 @@
+-- The swap moves the cleared set into the caller's sweep, and a second step clears in the word what it found. Where it
+-- found nothing, the sweep stays empty and there is no second step.
 use Rattle.std.proofs.Common.{arith, ◌≡◌, ℕ, ◌+◌, ◌-◌, ◌^◌, ◌<◌, replicate, get_or, bit_or, bit_and, refl, sym, ap, ◌∙◌, subst}
 use mathlib.Core.Option.{none}
 use Rattle.atomic_table.specs.Table.{step, Allows}
@@ -12,7 +14,7 @@ use Rattle.tag_core.specs.Callers.{record_of}
 use Rattle.tag_core.proofs.Stand.{word_in, aside_in}
 use Rattle.tag_core.proofs.Sweepings.{nothing, clean, mask_of}
 use Rattle.tag_core.proofs.Allowed.{swap_allowed, spill_allowed}
-use Rattle.tag_core.proofs.Asking.{narrow, in_words, asked, recorded, knows, slots, plus_none, shows}
+use Rattle.tag_core.proofs.Asking.{narrow, in_words, asked, left, recorded, knows, carries, shown, slots, plus_none, shows}
 use Rattle.std.proofs.Common.{◌∷◌}
 use Rattle.atomic_table.specs.Table.{Me}
 use Rattle.tag_core.specs.declared.record.View.{View}
@@ -33,18 +35,14 @@ swap-mask-requires g c =
 
 pub invariant_of-caller : goal.invariant_of-caller
 invariant_of-caller g c =
-    let m = c.args.self.now in let w = c.args.caller.now in let k = w.shape.value in let own = c.requires.caller in
-    let R = g.row.R.Denot in let i : ℕ = c.args.word in let inside = in_words m w own i c.requires.within in
-    let f : ℕ = c.swap-mask.result in
-    let did = c.swap-mask.ensures.2 i (record_of w) c.aside_spot.ensures w.knows in
-    let r1 : Record R = record_after (Word (Swap i f)) (record_of w) in
-    record {
+    let w = c.args.caller.now in let i : ℕ = c.args.word in
+    let l = left w (c.swap-mask.ensures.2 i (record_of w) c.aside_spot.ensures w.knows) refl
+    (nothing (words w.shape.value.layout) i c.swap-mask.result c.if-mask-eq0.true) (plus_none w.won)
+    (plus_none w.back) in record {
       told = w.told;
-      knows = knows w (Word (Swap i f)) c.swap-mask.new.seat.me did w.held.items w.won w.back refl
-          (nothing (words k.layout) i f c.if-mask-eq0.true) (plus_none w.won) (plus_none w.back);
-      shown = shows (Word (Swap i f)) (record_of w) w.seat.me c.swap-mask.new.seat.me did;
-      carries =
-          did.carries;
+      knows = knows l;
+      shown = shown l;
+      carries = carries l;
       wide = w.wide;
       unspent = w.unspent;
       few_back = w.few_back;
@@ -52,17 +50,13 @@ invariant_of-caller g c =
 
 pub returns-then-mask-eq0-clause-none : goal.returns-then-mask-eq0-clause-none
 returns-then-mask-eq0-clause-none g c =
-    let m = c.args.self.now in let w = c.args.caller.now in let k = w.shape.value in let own = c.requires.caller in
-    let R = g.row.R.Denot in let i : ℕ = c.args.word in let inside = in_words m w own i c.requires.within in
-    let f : ℕ = c.swap-mask.result in
-    let did = c.swap-mask.ensures.2 i (record_of w) c.aside_spot.ensures w.knows in
-    let r1 : Record R = record_after (Word (Swap i f)) (record_of w) in
+    let w = c.args.caller.now in let i : ℕ = c.args.word in
+    let l = left w (c.swap-mask.ensures.2 i (record_of w) c.aside_spot.ensures w.knows) refl
+    (nothing (words w.shape.value.layout) i c.swap-mask.result c.if-mask-eq0.true) (plus_none w.won)
+    (plus_none w.back) in
     λ t. record {
-      known = recorded w (Word (Swap i f)) c.swap-mask.new.seat.me did w.held.items w.won w.back refl
-          (nothing (words k.layout) i f c.if-mask-eq0.true) (plus_none w.won) (plus_none w.back)
-          ∙ ap (λ (z : ℕ). record_after (Word (Swap i z)) (record_of w)) c.if-mask-eq0.true;
-      slots = slots w (Word (Swap i f)) c.swap-mask.new.seat.me did w.held.items w.won w.back refl
-          (nothing (words k.layout) i f c.if-mask-eq0.true) (plus_none w.won) (plus_none w.back);
+      known = recorded l ∙ ap (λ (z : ℕ). record_after (Word (Swap i z)) (record_of w)) c.if-mask-eq0.true;
+      slots = slots l;
       same_map = c.swap-mask.ensures.0;
     }
 

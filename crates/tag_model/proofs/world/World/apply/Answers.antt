@@ -2,11 +2,16 @@
 use Rattle.std.proofs.Common.{◌≡◌, ℕ, ◌+◌, List, get_or, set, arith, refl, sym, ap, ◌∙◌, subst}
 use Rattle.std.specs.Vec.{with_items}
 use Rattle.tag_model.specs.declared.event.Event.{Event}
+use Rattle.tag_model.specs.declared.world.World.TheInside.{Inside}
 use Rattle.tag_model.specs.Event.{caller_of, won_by, back_by}
 use Rattle.tag_model.specs.World.{MayHappen}
 use Rattle.tag_model.specs.Kept.{KeptWorld, callers_of, world_of, IsSound, Happens, IsInRoom, AreAccepted}
 use Rattle.tag_model.proofs.KeptFacts.{back_of-fits, happens-kept, sound-kept, written-after}
 use Rattle.tag_model.proofs.world.World.apply.Goals as goal
+
+-- what contracts see of the fields
+abbrev seen : Inside → KeptWorld
+seen w = record { layout = w.entries.layout; places = w.entries.places; won = w.won.items; back = w.back.items }
 
 may-happen : (kept : KeptWorld) (event : Event) → IsInRoom kept event → AreAccepted kept.layout event kept.places
     → MayHappen kept.layout (callers_of kept) (world_of kept) event
@@ -19,12 +24,7 @@ may-happen kept event room accepted = record {
 
 pub add_at-requires-2-clause-room : goal.add_at-requires-2-clause-room
 add_at-requires-2-clause-room c =
-    let old : KeptWorld = record {
-      layout = c.self.inside.entries.layout;
-      places = c.self.inside.entries.places;
-      won = c.self.inside.won.items;
-      back = c.self.inside.back.items;
-    } in
+    let old = seen c.self.inside in
     let room : IsInRoom old c.args.event = subst (λ (kept : KeptWorld). IsInRoom kept c.args.event)
     (sym c.self.view_is) c.in_ok-test.ensures.ok in
     let few = back_of-fits old c.self.invariant (caller_of c.args.event) room.1 in
@@ -36,15 +36,9 @@ add_at-requires-2-clause-room c =
 
 pub invariant_of-self-2 : goal.invariant_of-self-2
 invariant_of-self-2 c =
-    let old : KeptWorld = record {
-      layout = c.self.inside.entries.layout;
-      places = c.self.inside.entries.places;
-      won = c.self.inside.won.items;
-      back = c.self.inside.back.items;
-    } in
+    let old = seen c.self.inside in let did = c.if-not-bring.ensures.moved in
     let room : IsInRoom old c.args.event = subst (λ (kept : KeptWorld). IsInRoom kept c.args.event)
     (sym c.self.view_is) c.in_ok-test.ensures.ok in
-    let did = c.if-not-bring.ensures.moved in
     let won : c.add_at.new.counts ≡ set old.won (caller_of c.args.event)
     (get_or old.won (caller_of c.args.event) 0 + won_by c.args.event) = cc in
     let back : c.add_at-2.new.counts
@@ -59,15 +53,9 @@ invariant_of-self-2 c =
 
 pub returns-clause-ok : goal.returns-clause-ok
 returns-clause-ok c =
-    let old : KeptWorld = record {
-      layout = c.self.inside.entries.layout;
-      places = c.self.inside.entries.places;
-      won = c.self.inside.won.items;
-      back = c.self.inside.back.items;
-    } in
+    let old = seen c.self.inside in let did = c.if-not-bring.ensures.moved in
     let room : IsInRoom old c.args.event = subst (λ (kept : KeptWorld). IsInRoom kept c.args.event)
     (sym c.self.view_is) c.in_ok-test.ensures.ok in
-    let did = c.if-not-bring.ensures.moved in
     let won : c.add_at.new.counts ≡ set old.won (caller_of c.args.event)
     (get_or old.won (caller_of c.args.event) 0 + won_by c.args.event) = cc in
     let back : c.add_at-2.new.counts

@@ -1,4 +1,4 @@
--- The put changes the map alone, and `complete` the book and the groups alone, so their effects stand side by side.
+-- The put changes only the map, and `complete` only the book and the groups, so both effects hold together.
 use Rattle.std.proofs.Common.{ℕ, sym, subst}
 use Rattle.tag_queue.specs.Clears.{Counts}
 use Rattle.tag_queue.proofs.Counting.{counts_after}

@@ -1,4 +1,4 @@
--- What is counted is what the agent counts once its tags are back.
+-- The tags are freed before they are counted, so the agent never counts more than it gave back.
 use Rattle.std.proofs.Common.{ℕ, length, sym, subst}
 use Rattle.tag_queue.specs.Clears.{Counts}
 use Rattle.tag_queue.proofs.Counting.{counts_after}

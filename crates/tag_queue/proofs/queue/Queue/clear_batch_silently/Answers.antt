@@ -1,4 +1,4 @@
--- What is counted is what the agent counts once its tags are back.
+-- The tags are freed before they are counted, so the agent never counts more than it gave back.
 use Rattle.std.proofs.Common.{length}
 use Rattle.tag_queue.proofs.Counting.{counts_after}
 use Rattle.tag_queue.proofs.queue.Queue.clear_batch_silently.Goals as goal

@@ -1,4 +1,4 @@
--- As of `clear`: the put changes the map alone, and `complete` the book and the groups alone.
+-- As for `clear`: the put changes only the map, and `complete` only the book and the groups.
 use Rattle.tag_queue.proofs.Counting.{counts_after}
 use Rattle.tag_queue.proofs.queue.Queue.clear_silently.Goals as goal
 

@@ -1,4 +1,4 @@
--- All callers, tellers and waiters were gathered, and what the three ends tell is told of the agents.
+-- All callers, tellers and waiters were gathered, so the totals of the three parts are those of the agents.
 use Rattle.std.proofs.Common.{ℕ, List, sym, ap, ◌∙◌, subst}
 use Rattle.step_ledger.specs.Views.{HasAll, numbers}
 use Rattle.step_ledger.specs.declared.record.Record as ledger

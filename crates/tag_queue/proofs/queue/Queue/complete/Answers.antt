@@ -1,6 +1,5 @@
--- Where the look found waiters, the completion is counted; a charge that was won is followed by a walk for one
--- batch, and
--- any other charge by no step at all.
+-- If the look found waiters, the completion is counted; a charge that was won is followed by a walk for one batch, any
+-- other charge by no step.
 use Rattle.std.proofs.Common.{rules, arith, ℕ, List, inr, subst, sym}
 use Rattle.wake_book.specs.declared.steps.GroupStep.{GroupStep}
 use Rattle.wake_book.specs.declared.charge.Charge.{Charge}

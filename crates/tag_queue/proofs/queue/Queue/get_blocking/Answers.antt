@@ -1,3 +1,4 @@
+-- Each turn adds two searches that found no tag and use up none of the agent's life; the last search finds one.
 use Rattle.std.proofs.Common.{arith, suc, None, ap, ◌∙◌}
 use Rattle.tag_core.specs.declared.shape.Shape.{Shape}
 use Rattle.wake_book.specs.Groups as groups

@@ -1,3 +1,4 @@
+-- The agent made `tries` searches that found no tag, still has room for one, and is in no wait group.
 use Rattle.std.proofs.Common.{◌≡◌, ℕ, None}
 use Rattle.tag_queue.specs.Agents.{layout_of, IsAgentOf, HasRoom, caller_of, teller_of, hint_of, standing_of}
 use Rattle.tag_queue.specs.Waits.{FindNone}

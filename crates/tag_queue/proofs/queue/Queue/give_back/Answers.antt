@@ -1,4 +1,4 @@
--- Gives leave the agent's number, and count what came back.
+-- Gives leave the agent's number unchanged, and add the tags freed to what it gave back.
 use Rattle.std.proofs.Common.{arith, ◌<◌, sym, ap, ◌∙◌, subst}
 use Rattle.tag_core.specs.declared.record.Record.{Record}
 use Rattle.tag_core.specs.declared.shape.Shape.{Shape}

@@ -1,4 +1,4 @@
--- The next map comes with a batch of its layout; where there is none the queue has its own again.
+-- With the next map the queue gets the batch of its layout; without one it gets its own map back.
 use Rattle.std.proofs.Common.{◌≡◌, ℕ, refl, sym, ap, ◌∙◌, subst}
 use Rattle.tag_layout.specs.Layout.{Layout, wake_batch}
 use Rattle.wake_book.specs.Book.{Rebatches}

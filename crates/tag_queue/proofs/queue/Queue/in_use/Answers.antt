@@ -1,4 +1,4 @@
--- Who is missing is told; where none is, all are there.
+-- A missing number is reported before anything is settled; if none is missing, all agents are present.
 use Rattle.std.proofs.Common.{List, refl, subst}
 use Rattle.std.proofs.lemmas.Bool.{false≢true}
 use Rattle.step_ledger.specs.Views.{HasAll, IsLeastMissing}

@@ -1,4 +1,4 @@
--- The queue counts its agents as its map does.
+-- The queue's number of agents is that of its map.
 use Rattle.std.proofs.Common.{ℕ, subst}
 use Rattle.std.specs.Prelude.{MatchOption}
 use Rattle.step_ledger.specs.Views.{HasAll, IsLeastMissing}

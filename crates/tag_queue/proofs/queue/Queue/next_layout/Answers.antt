@@ -1,4 +1,4 @@
--- Each cause is told where it holds, and a layout where none does.
+-- Each cause is returned exactly if it holds and none before it does; otherwise there is a layout.
 use Rattle.std.proofs.Common.{List, subst}
 use Rattle.step_ledger.specs.Views.{HasAll, IsLeastMissing}
 use Rattle.tag_queue.specs.declared.agent.Agent.{Agent}

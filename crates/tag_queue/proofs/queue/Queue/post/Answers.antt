@@ -1,4 +1,4 @@
--- The step of the post, and what it leaves.
+-- The post of the agent's caller is the agent's post, since nothing else of the agent changes.
 use Rattle.std.proofs.Common.{refl}
 use Rattle.tag_queue.proofs.queue.Queue.post.Goals as goal
 

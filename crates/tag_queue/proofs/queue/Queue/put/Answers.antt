@@ -1,4 +1,4 @@
--- The step of the put, and what it leaves.
+-- The put of the agent's caller is the agent's put, since only the hint changes besides.
 use Rattle.tag_queue.proofs.queue.Queue.put.Goals as goal
 
 pub returns-clause-puts : goal.returns-clause-puts

@@ -1,4 +1,4 @@
--- The agents come apart, their callers go on or back, and each finds what is left of its agent.
+-- The callers keep their order and numbers, on the next map or their own, so each fits the shell of its agent again.
 use Rattle.std.proofs.Common.{List, map, refl, sym, ◌∙◌, subst}
 use Rattle.step_ledger.specs.Views.{HasAll}
 use Rattle.tag_core.specs.declared.caller.Caller.{Caller}

@@ -1,4 +1,4 @@
--- Each refusal comes for its cause alone; where none is in the way, the agents go on as they were handed in.
+-- The checks leave the agents unchanged, so each refusal, and the resize itself, is about the agents passed in.
 use Rattle.std.proofs.Common.{◌≡◌, ℕ, List, refl, sym, ap, subst}
 use Rattle.std.proofs.lemmas.Result.{IfOk-weaker, IfErr-weaker}
 use Rattle.tag_layout.specs.Layout.{Layout}

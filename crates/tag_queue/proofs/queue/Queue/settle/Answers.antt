@@ -1,10 +1,10 @@
--- The last agent's caller lends its record first, and has it back last.
+-- The last agent's caller lends its record first and gets it back last, so all agents are unchanged and in order.
 use Rattle.std.proofs.Common.{List, [], All, refl, sym, ap, subst}
 use lib.ListN.{get_elem?}
 use Rattle.tag_core.specs.declared.record.Record.{Record}
 use Rattle.tag_core.specs.declared.caller.Caller.{Caller}
 use Rattle.tag_core.specs.Callers.{IsCallerOf, IsUnchanged, record_of}
-use Rattle.tag_core.proofs.Lasts.{all_front, all_last}
+use Rattle.step_ledger.proofs.Turned.{all_front, all_last}
 use Rattle.tag_queue.specs.declared.agent.Agent.{Agent}
 use Rattle.tag_queue.specs.Agents.{IsAgentOf, caller_of, agents_of, shape_of}
 use Rattle.tag_queue.proofs.Unchanged.{all_numbers, all_settled, agent_same, all_pushed, unchanged-back}

@@ -1,4 +1,4 @@
--- The step of the take, and what it brings.
+-- The take of the agent's caller is the agent's take, since nothing else of the agent changes.
 use Rattle.std.proofs.Common.{rules, IsTrue, refl}
 use Rattle.tag_queue.proofs.queue.Queue.take.Goals as goal
 

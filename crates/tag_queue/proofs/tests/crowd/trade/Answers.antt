@@ -1,4 +1,4 @@
--- The agent that came is one of the queue's own, as the others are.
+-- The agent that joins the others belongs to the queue, as they do.
 use Rattle.std.proofs.Common.{sym, subst}
 use Rattle.std.proofs.lemmas.List.Elements.{All-set}
 use Rattle.tag_queue.specs.Agents.{IsAgentOf}

@@ -1,3 +1,4 @@
+-- At most one tag is counted for each place so far, so the count stays within the array.
 use Rattle.std.proofs.Common.{◌≤◌}
 use Rattle.tag_queue.specs.Agents.{IsAgentOf}
 use Rattle.tag_queue.proofs.tests.long_run.spend_batch.Given as goal

@@ -1,4 +1,4 @@
--- Agents may go to other threads, which may share the queue, and stay the queue's own.
+-- Agents may go to other threads, threads may share the queue, and each agent still belongs to the queue afterwards.
 use denote.Param.Send.{sendable}
 use Rattle.std.proofs.Common.{rules, arith, ◌<◌, ◌++◌, length, drop}
 use Rattle.std.proofs.Crossing.{crosses}

@@ -1,3 +1,4 @@
+-- The agent stays one of the queue's.
 use Rattle.tag_queue.specs.Agents.{IsAgentOf}
 use Rattle.tag_queue.proofs.tests.threads.clear_for_a_waiter.Given as goal
 

@@ -1,4 +1,4 @@
--- A tag whose bit is set stands behind those before it, and another isn't listed; a word of 0 has none.
+-- A bit of 1 appends its tag, which comes after all earlier ones; a bit of 0 appends none, nor does a word of 0.
 use Rattle.std.proofs.Common.{◌≡◌, ℕ, ◌+◌, ◌*◌, ◌/◌, ◌%◌, ◌^◌, ◌<◌, List, [], ◌∷◌, ◌++◌, slice_index, bit_and, nat_eq, sym, ap, ◌∙◌, arith, eq-eqb}
 use Rattle.std.proofs.lemmas.Nat.{one_shl}
 use Rattle.std.proofs.lemmas.Nat.Bits.{bit_at-zero}

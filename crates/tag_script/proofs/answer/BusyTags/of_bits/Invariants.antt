@@ -1,4 +1,4 @@
--- The tags of the words so far whose bits are set stand in the list, and those of the places so far of the next word.
+-- The list has the tags whose bits are 1 in the words so far and, in the inner loop, in the places so far of this word.
 use Rattle.std.proofs.Common.{◌≡◌, ◌+◌, ◌*◌}
 use Rattle.std.specs.Prelude.{filter}
 use Rattle.tag_script.specs.Dump.{range}

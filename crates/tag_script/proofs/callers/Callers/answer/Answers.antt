@@ -1,4 +1,4 @@
--- A list is cleared as it stands in its command.
+-- The slice that `clear_batch` takes has the tags of the command, so its outcome is that of the command.
 use Rattle.std.proofs.Common.{ℕ, List, sym, subst}
 use Rattle.tag_board.specs.Lones.{Does, LoneClearsList}
 use Rattle.tag_board.specs.Replays.{ClearsList}

@@ -1,4 +1,4 @@
--- A word without a held tag adds nothing; in any other one a held tag stands behind those before it, and another isn't listed.
+-- A word without a held tag can be skipped, since it adds nothing; in other words each held tag is appended.
 use Rattle.std.proofs.Common.{◌≡◌, ℕ, ◌+◌, ◌*◌, ◌<◌, ◌≤◌, List, [], ◌∷◌, ◌++◌, min, false, refl, sym, ap, subst, ◌∙◌, arith}
 use Rattle.std.specs.Prelude.{filter}
 use Rattle.tag_layout.specs.Layout.{Layout, words, word_bits, word_depth, tag_at}

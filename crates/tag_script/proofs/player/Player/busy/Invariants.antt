@@ -1,4 +1,4 @@
--- The held tags of the words so far stand in the list, and those of the places so far of the next word.
+-- The list has the held tags of the words so far; the inner loop adds those of the places so far of the next word.
 use Rattle.std.proofs.Common.{◌≡◌, ◌+◌, ◌*◌, min}
 use Rattle.std.specs.Prelude.{filter}
 use Rattle.tag_layout.specs.Layout.{word_bits}

@@ -1,4 +1,4 @@
--- A tag that isn't there or isn't held is refused, and any other is set aside.
+-- The range is tested before the holding, so a tag that passes both tests is held, and is set aside.
 use Rattle.std.proofs.Common.{◌≡◌, ◌+◌, sym, ap, subst, ◌∙◌, arith}
 use Rattle.std.proofs.lemmas.Bool.{false≢true, false_from_ne_true}
 use Rattle.tag_layout.specs.Layout.{Layout}

@@ -1,4 +1,4 @@
--- A list is refused by its first cause, and any other is freed.
+-- The tests come in the order of the refusals, so a list that passes all three is held once each, and is freed.
 use Rattle.std.proofs.Common.{◌≡◌, ℕ, ◌≤◌, ◌<◌, ◌+◌, ◌-◌, length, get_or, inl, inr, sym, ap, subst, ◌∙◌, arith, rules}
 use Rattle.std.specs.Prelude.{if◌then◌else◌, Ok}
 use Rattle.std.specs.List.{All, Any}

@@ -1,4 +1,4 @@
--- A word adds its bits, and looking changes nothing.
+-- Each word adds the ones of its two masks, which are its tags held and set aside; loading a word changes nothing.
 use Rattle.std.proofs.Common.{◌≡◌, ℕ, ◌+◌, ◌*◌, ◌^◌, ◌<◌, ◌≤◌, min, bit_and, count_ones, slice_index, sym, ap, subst, ◌∙◌, arith}
 use Rattle.std.specs.Int.{bit_at, bit_not, w64}
 use Rattle.std.proofs.lemmas.Nat.{ones-le, and_le_l, and_le_r}

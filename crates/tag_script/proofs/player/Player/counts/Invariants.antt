@@ -1,4 +1,4 @@
--- The words so far are counted, and nothing is changed.
+-- The counts are those over the tags of the words so far, and the world is unchanged.
 use Rattle.std.proofs.Common.{◌≡◌, ◌≤◌, ◌*◌, min}
 use Rattle.tag_layout.specs.Layout.{word_bits}
 use Rattle.tag_model.specs.Totals.{count_below}
@@ -6,7 +6,7 @@ use Rattle.tag_script.specs.Players.{solo_of}
 use Rattle.tag_script.specs.Solo.{is_held, is_aside}
 use Rattle.tag_script.proofs.player.Player.counts.Given as goal
 
--- the words so far are counted
+-- the counts are those below the first tag of the next word, and at most 64 for each word so far
 abbrev pub invariant-loop-word : goal.invariant-loop-word
 invariant-loop-word l = record {
   same : solo_of l.self ≡ solo_of l.fn.self;

@@ -1,4 +1,4 @@
--- One more byte stands behind those before it.
+-- Each pass appends the byte of the next offset.
 use Rattle.std.proofs.Common.{◌≡◌, [], ◌∷◌, ◌++◌, sym, ◌∙◌, rules}
 use Rattle.tag_script.specs.Dump.{held_byte}
 use Rattle.tag_script.specs.Players.{solo_of}

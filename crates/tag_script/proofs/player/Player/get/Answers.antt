@@ -1,4 +1,4 @@
--- The choice, with the tag counted.
+-- The port makes the choice and moves the hint; the count of tags won grows by one exactly if there is a tag.
 use Rattle.std.proofs.Common.{refl, rules}
 use Rattle.tag_script.proofs.PlayFacts.{counts_one, counts_none}
 use Rattle.tag_script.proofs.player.Player.get.Goals as goal

@@ -1,4 +1,4 @@
--- A count that isn't refused is searched for, but not under round robin, and the tags are counted.
+-- A count in range is searched for unless the hint is round robin, and the ones of the mask are added to the tags won.
 use Rattle.std.proofs.Common.{◌≡◌, ℕ, ◌+◌, refl, ap, inl, inr, arith}
 use Rattle.tag_layout.specs.Layout.{word_bits}
 use Rattle.tag_script.specs.Solo.{bad_count, none_around, side_by_side}

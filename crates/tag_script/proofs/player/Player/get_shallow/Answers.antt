@@ -1,4 +1,4 @@
--- A depth that isn't refused is searched, and the tag counted.
+-- The least depth is tested before the port makes its choice, and the count grows by one exactly if there is a tag.
 use Rattle.std.proofs.Common.{refl, arith, rules}
 use Rattle.tag_script.specs.Solo.{too_shallow, deep_enough}
 use Rattle.tag_script.proofs.PlayFacts.{counts_one, counts_none}

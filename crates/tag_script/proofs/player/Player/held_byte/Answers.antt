@@ -1,4 +1,4 @@
--- A byte has room for eight bits.
+-- The bits below bit n sum to less than 2^n, so adding bit n < 8 does not overflow a byte.
 use Rattle.std.proofs.Common.{◌≡◌, ◌*◌, ◌%◌, ◌^◌, ◌<◌, ◌≤◌, ap, ◌∙◌, arith}
 use Rattle.std.proofs.Math.Nat.{pow-le-pow_right}
 use Rattle.std.proofs.lemmas.Nat.{one_shl}

@@ -1,4 +1,4 @@
--- A word of which no bit is both set and not aside has no tag that the caller holds.
+-- A held tag has a bit that is 1 in the word and 0 in the cleared set, so it would make the mask differ from 0.
 use Rattle.std.proofs.Common.{◌≡◌, ℕ, ◌^◌, ◌<◌, Bool, false, ◌&&◌, nat_lt, bit_and, slice_index, sym, ap, ◌∙◌, arith}
 use Rattle.std.proofs.Math.Bool.{and-false}
 use Rattle.std.specs.Int.{bit_not, w64}

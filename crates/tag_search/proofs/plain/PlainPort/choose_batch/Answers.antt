@@ -1,4 +1,4 @@
--- The tags of a batch are held.
+-- The steps are quiet, so the answer is the choice, and the tags of a choice are held afterwards.
 use Rattle.std.proofs.Common.{ℕ}
 use Rattle.tag_layout.specs.Layout.{Layout, word_of}
 use Rattle.tag_search.specs.Hints.{reduced}

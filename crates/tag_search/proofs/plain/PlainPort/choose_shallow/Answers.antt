@@ -1,4 +1,4 @@
--- The tag of a choice is held.
+-- The steps are quiet, so the answer is the choice, and the tag of a choice is held afterwards.
 use Rattle.std.proofs.Common.{ℕ}
 use Rattle.tag_layout.specs.Layout.{Layout, word_of}
 use Rattle.tag_search.specs.Hints.{reduced}

@@ -1,11 +1,11 @@
--- A give writes its word alone.
-use Rattle.std.proofs.Common.{◌≡◌, ℕ, ◌^◌, ◌<◌, length, get_or, set, arith, sym, subst}
+-- A give clears bits of one word at places that are not set aside, so the words stay tidy.
+use Rattle.std.proofs.Common.{◌≡◌, ℕ, ◌^◌, ◌<◌, length, set, arith, sym, subst}
 use Rattle.std.proofs.Math.ListN.{length-set}
-use Rattle.std.proofs.lemmas.List.{get_or_read}
 use Rattle.std.specs.Int.{bit_at}
 use Rattle.tag_core.specs.Steps.{without}
 use Rattle.tag_layout.specs.Layout.{words}
 use Rattle.tag_search.specs.Plain.{Plain, IsTaken}
+use Rattle.tag_search.proofs.Seen.{seen, word_within, word_found}
 use Rattle.tag_search.proofs.PlainFacts.{ran_give}
 use Rattle.tag_search.proofs.PlainPools.{ran_give_pool}
 use Rattle.tag_search.proofs.Writings.{writes_without, tidy_clear}
@@ -13,15 +13,11 @@ use Rattle.tag_search.proofs.plain.PlainPort.give.Goals as goal
 
 pub invariant_of-self : goal.invariant_of-self
 invariant_of-self c =
-    let p : Plain = record {
-      layout = c.self.inside.layout;
-      word = c.self.inside.word.items;
-      aside = c.self.inside.cleared.items;
-    } in
+    let p = seen c.self.inside in
     let i = c.args.word in let mask = c.args.mask in let found = c.index_mut.result.now in
     let near : i < words p.layout = subst (λ (x : Plain). i < words x.layout) (sym c.self.view_is) c.requires.word in
-    let within : i < length p.word = rw c.self.invariant.word_count near in
-    let is : found ≡ get_or p.word i 0 = get_or_read p.word i found within c.index_mut.ensures.value 0 in
+    let within = word_within p c.self.invariant i near in
+    let is = word_found p c.self.invariant i near found c.index_mut.ensures.value in
     let fits : found < 2 ^ 64 = omega arith in let narrow : mask < 2 ^ 64 = omega arith in
     let taken : (place : ℕ) → bit_at mask place ≡ 1 → IsTaken p i place =
     subst (λ (x : Plain). (place : ℕ) → bit_at mask place ≡ 1 → IsTaken x i place) (sym c.self.view_is)
@@ -33,42 +29,30 @@ invariant_of-self c =
 
 pub returns-clause-word : goal.returns-clause-word
 returns-clause-word c =
-    let p : Plain = record {
-      layout = c.self.inside.layout;
-      word = c.self.inside.word.items;
-      aside = c.self.inside.cleared.items;
-    } in
+    let p = seen c.self.inside in
     let i = c.args.word in let mask = c.args.mask in let found = c.index_mut.result.now in
     let near : i < words p.layout = subst (λ (x : Plain). i < words x.layout) (sym c.self.view_is) c.requires.word in
-    let within : i < length p.word = rw c.self.invariant.word_count near in
-    let is : found ≡ get_or p.word i 0 = get_or_read p.word i found within c.index_mut.ensures.value 0 in
+    let within = word_within p c.self.invariant i near in
+    let is = word_found p c.self.invariant i near found c.index_mut.ensures.value in
     let fits : found < 2 ^ 64 = omega arith in let narrow : mask < 2 ^ 64 = omega arith in
     rw (← c.self.view_is) (writes_without p.word i found mask within is fits narrow)
 
 pub returns-clause-pool : goal.returns-clause-pool
 returns-clause-pool c =
-    let p : Plain = record {
-      layout = c.self.inside.layout;
-      word = c.self.inside.word.items;
-      aside = c.self.inside.cleared.items;
-    } in
+    let p = seen c.self.inside in
     let i = c.args.word in let mask = c.args.mask in let found = c.index_mut.result.now in
     let near : i < words p.layout = subst (λ (x : Plain). i < words x.layout) (sym c.self.view_is) c.requires.word in
-    let within : i < length p.word = rw c.self.invariant.word_count near in
-    let is : found ≡ get_or p.word i 0 = get_or_read p.word i found within c.index_mut.ensures.value 0 in
+    let within = word_within p c.self.invariant i near in
+    let is = word_found p c.self.invariant i near found c.index_mut.ensures.value in
     let narrow : mask < 2 ^ 64 = omega arith in
     rw (← c.self.view_is) (ran_give_pool p (record p { word = set p.word i (without found mask) }) i mask found narrow
     (ran_give p i mask found within is))
 
 pub returns-clause-step : goal.returns-clause-step
 returns-clause-step c =
-    let p : Plain = record {
-      layout = c.self.inside.layout;
-      word = c.self.inside.word.items;
-      aside = c.self.inside.cleared.items;
-    } in
+    let p = seen c.self.inside in
     let i = c.args.word in let found = c.index_mut.result.now in
     let near : i < words p.layout = subst (λ (x : Plain). i < words x.layout) (sym c.self.view_is) c.requires.word in
-    let within : i < length p.word = rw c.self.invariant.word_count near in
-    let is : found ≡ get_or p.word i 0 = get_or_read p.word i found within c.index_mut.ensures.value 0 in
+    let within = word_within p c.self.invariant i near in
+    let is = word_found p c.self.invariant i near found c.index_mut.ensures.value in
     rw (← c.self.view_is, ← is) (ran_give p i c.args.mask found within is)

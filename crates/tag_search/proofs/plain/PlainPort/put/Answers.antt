@@ -1,26 +1,22 @@
--- A put writes its cleared set alone.
-use Rattle.std.proofs.Common.{◌≡◌, ℕ, ◌^◌, ◌<◌, [], ◌∷◌, length, get_or, set, bit_or, sym, ap, ◌∙◌, subst}
+-- A put sets one bit of a cleared set, at a place that is taken, so the words stay tidy.
+use Rattle.std.proofs.Common.{◌≡◌, ℕ, ◌^◌, [], ◌∷◌, get_or, set, bit_or, sym, ap, ◌∙◌, subst}
 use Rattle.std.proofs.Math.ListN.{length-set}
-use Rattle.std.proofs.lemmas.List.{get_or_read}
 use Rattle.std.specs.Int.{bit_at}
 use Rattle.tag_layout.specs.Layout.{word_of, place_of}
 use Rattle.tag_search.specs.Plain.{Plain, RunsAlone, IsTaken}
 use Rattle.tag_core.specs.declared.word_step.WordStep.TheVariants.{Put}
-use Rattle.tag_search.proofs.PlainFacts.{ran_put}
+use Rattle.tag_search.proofs.Seen.{seen, aside_within, aside_found}
+use Rattle.tag_search.proofs.PlainFacts.{ran_put_at}
 use Rattle.tag_search.proofs.PlainPools.{ran_put_pool}
 use Rattle.tag_search.proofs.Writings.{writes_place, tidy_put}
 use Rattle.tag_search.proofs.plain.PlainPort.put.Goals as goal
 
 pub invariant_of-self : goal.invariant_of-self
 invariant_of-self c =
-    let p : Plain = record {
-      layout = c.self.inside.layout;
-      word = c.self.inside.word.items;
-      aside = c.self.inside.cleared.items;
-    } in
+    let p = seen c.self.inside in
     let r = c.word_of-word.result in let bit = c.bit_of-bit.result in let found = c.index_mut.result.now in
-    let within : r < length p.aside = rw c.self.invariant.aside_count c.word_of-word.ensures.within in
-    let is : found ≡ get_or p.aside r 0 = get_or_read p.aside r found within c.index_mut.ensures.value 0 in
+    let near = c.word_of-word.ensures.within in let within = aside_within p c.self.invariant r near in
+    let is = aside_found p c.self.invariant r near found c.index_mut.ensures.value in
     let e : r ≡ word_of p.layout c.args.tag = c.word_of-word.ensures.value in
     let k : ℕ = place_of p.layout c.args.tag in
     let taken : IsTaken p (word_of p.layout c.args.tag) k =
@@ -33,50 +29,31 @@ invariant_of-self c =
 
 pub returns-clause-aside : goal.returns-clause-aside
 returns-clause-aside c =
-    let p : Plain = record {
-      layout = c.self.inside.layout;
-      word = c.self.inside.word.items;
-      aside = c.self.inside.cleared.items;
-    } in
+    let p = seen c.self.inside in
     let r = c.word_of-word.result in let bit = c.bit_of-bit.result in let found = c.index_mut.result.now in
-    let within : r < length p.aside = rw c.self.invariant.aside_count c.word_of-word.ensures.within in
-    let is : found ≡ get_or p.aside r 0 = get_or_read p.aside r found within c.index_mut.ensures.value 0 in
+    let near = c.word_of-word.ensures.within in let within = aside_within p c.self.invariant r near in
+    let is = aside_found p c.self.invariant r near found c.index_mut.ensures.value in
     rw (← c.self.view_is)
     (writes_place p.aside r (word_of p.layout c.args.tag) found bit (place_of p.layout c.args.tag)
     c.word_of-word.ensures.value c.bit_of-bit.ensures.value within is)
 
 pub returns-clause-pool : goal.returns-clause-pool
 returns-clause-pool c =
-    let p : Plain = record {
-      layout = c.self.inside.layout;
-      word = c.self.inside.word.items;
-      aside = c.self.inside.cleared.items;
-    } in
+    let p = seen c.self.inside in let i : ℕ = word_of p.layout c.args.tag in
     let r = c.word_of-word.result in let bit = c.bit_of-bit.result in let found = c.index_mut.result.now in
-    let within : r < length p.aside = rw c.self.invariant.aside_count c.word_of-word.ensures.within in
-    let is : found ≡ get_or p.aside r 0 = get_or_read p.aside r found within c.index_mut.ensures.value 0 in
-    let i : ℕ = word_of p.layout c.args.tag in let e : r ≡ i = c.word_of-word.ensures.value in
-    let f : found ≡ get_or p.aside i 0 = is ∙ ap (λ (x : ℕ). get_or p.aside x 0) e in
-    let new : Plain = record p { aside = set p.aside r (bit_or found bit) } in
-    let a = ran_put p r bit found within is in
-    let b = subst (λ (x : ℕ). RunsAlone p (Put x bit found ∷ []) new) e a in
-    let d = subst (λ (x : ℕ). RunsAlone p (Put i x found ∷ []) new) c.bit_of-bit.ensures.value b in
-    rw (← c.self.view_is) (ran_put_pool p new i (place_of p.layout c.args.tag) found c.bit_of-bit.ensures.width d)
+    let near = c.word_of-word.ensures.within in let within = aside_within p c.self.invariant r near in
+    let is = aside_found p c.self.invariant r near found c.index_mut.ensures.value in
+    rw (← c.self.view_is) (ran_put_pool p (record p { aside = set p.aside r (bit_or found bit) }) i
+    (place_of p.layout c.args.tag) found c.bit_of-bit.ensures.width (ran_put_at p i r (place_of p.layout c.args.tag) bit
+    found c.word_of-word.ensures.value c.bit_of-bit.ensures.value within is))
 
 pub returns-clause-step : goal.returns-clause-step
 returns-clause-step c =
-    let p : Plain = record {
-      layout = c.self.inside.layout;
-      word = c.self.inside.word.items;
-      aside = c.self.inside.cleared.items;
-    } in
+    let p = seen c.self.inside in let i : ℕ = word_of p.layout c.args.tag in
+    let k : ℕ = place_of p.layout c.args.tag in
     let r = c.word_of-word.result in let bit = c.bit_of-bit.result in let found = c.index_mut.result.now in
-    let within : r < length p.aside = rw c.self.invariant.aside_count c.word_of-word.ensures.within in
-    let is : found ≡ get_or p.aside r 0 = get_or_read p.aside r found within c.index_mut.ensures.value 0 in
-    let i : ℕ = word_of p.layout c.args.tag in let e : r ≡ i = c.word_of-word.ensures.value in
-    let f : found ≡ get_or p.aside i 0 = is ∙ ap (λ (x : ℕ). get_or p.aside x 0) e in
-    let new : Plain = record p { aside = set p.aside r (bit_or found bit) } in
-    let a = ran_put p r bit found within is in
-    let b = subst (λ (x : ℕ). RunsAlone p (Put x bit found ∷ []) new) e a in
-    let d = subst (λ (x : ℕ). RunsAlone p (Put i x found ∷ []) new) c.bit_of-bit.ensures.value b in
-    rw (← c.self.view_is) (subst (λ (x : ℕ). RunsAlone p (Put i (2 ^ place_of p.layout c.args.tag) x ∷ []) new) f d)
+    let near = c.word_of-word.ensures.within in let within = aside_within p c.self.invariant r near in
+    let is = aside_found p c.self.invariant r near found c.index_mut.ensures.value in
+    let e : r ≡ i = c.word_of-word.ensures.value in rw (← c.self.view_is)
+    (subst (λ (x : ℕ). RunsAlone p (Put i (2 ^ k) x ∷ []) (record p { aside = set p.aside r (bit_or found bit) }))
+    (is ∙ ap (λ (x : ℕ). get_or p.aside x 0) e) (ran_put_at p i r k bit found e c.bit_of-bit.ensures.value within is))

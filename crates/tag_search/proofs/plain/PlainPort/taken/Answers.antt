@@ -1,76 +1,40 @@
--- A bit that is masked out tells the place.
-use Rattle.std.proofs.Common.{◌≡◌, ℕ, ◌<◌, length, get_or, ap, ◌∙◌}
-use Rattle.std.proofs.lemmas.List.{get_or_read}
+-- The bit of the tag in the word is whether it is taken, and the bit in the cleared set whether it is aside.
+use Rattle.std.proofs.Common.{◌≡◌, ℕ, ◌<◌, get_or, ap, ◌∙◌, subst}
 use Rattle.tag_layout.specs.Layout.{word_of, place_of}
 use Rattle.tag_search.specs.Plain.{Plain}
+use Rattle.tag_search.proofs.Seen.{seen, word_found, aside_found}
 use Rattle.tag_search.proofs.PlainFacts.{tells_taken, tells_free}
 use Rattle.tag_search.proofs.PlainPools.{busy_iff}
 use Rattle.tag_search.proofs.plain.PlainPort.taken.Goals as goal
 
 pub returns-then-index-bit-ne0-clause-taken : goal.returns-then-index-bit-ne0-clause-taken
 returns-then-index-bit-ne0-clause-taken c =
-    let p : Plain = record {
-      layout = c.self.inside.layout;
-      word = c.self.inside.word.items;
-      aside = c.self.inside.cleared.items;
-    } in
-    let r = c.word_of-word.result in let i : ℕ = word_of p.layout c.args.tag in
-    let e : r ≡ i = c.word_of-word.ensures.value in
-    let k : ℕ = place_of p.layout c.args.tag in let b = c.bit_of-bit.ensures.value in
-    let n = c.index.result.now in let a = c.index-then-index-bit-ne0.result.now in
-    let within : r < length p.word = rw c.self.invariant.word_count c.word_of-word.ensures.within in
-    let within' : r < length p.aside = rw c.self.invariant.aside_count c.word_of-word.ensures.within in
-    let is = get_or_read p.word r n within c.index.ensures 0 ∙ ap (λ (x : ℕ). get_or p.word x 0) e in
-    let is' = get_or_read p.aside r a within' c.index-then-index-bit-ne0.ensures 0
+    let p = seen c.self.inside in let r = c.word_of-word.result in
+    let e : r ≡ word_of p.layout c.args.tag = c.word_of-word.ensures.value in
+    let near = c.word_of-word.ensures.within in
+    let is = word_found p c.self.invariant r near c.index.result.now c.index.ensures
+    ∙ ap (λ (x : ℕ). get_or p.word x 0) e in
+    let a = c.index-then-index-bit-ne0 in let is' = aside_found p c.self.invariant r near a.result.now a.ensures
     ∙ ap (λ (x : ℕ). get_or p.aside x 0) e in
-    rw (← c.self.view_is) (tells_taken p i k n a c.bit_of-bit.result b is is' c.if-index-bit-ne0.true)
+    rw (← c.self.view_is) (tells_taken p (word_of p.layout c.args.tag) (place_of p.layout c.args.tag) c.index.result.now
+    a.result.now c.bit_of-bit.result c.bit_of-bit.ensures.value is is' c.if-index-bit-ne0.true)
 
 pub returns-then-index-bit-ne0-clause-busy : goal.returns-then-index-bit-ne0-clause-busy
 returns-then-index-bit-ne0-clause-busy c =
-    let p : Plain = record {
-      layout = c.self.inside.layout;
-      word = c.self.inside.word.items;
-      aside = c.self.inside.cleared.items;
-    } in
-    let r = c.word_of-word.result in let i : ℕ = word_of p.layout c.args.tag in
-    let e : r ≡ i = c.word_of-word.ensures.value in
-    let k : ℕ = place_of p.layout c.args.tag in let b = c.bit_of-bit.ensures.value in
-    let n = c.index.result.now in let a = c.index-then-index-bit-ne0.result.now in
-    let within : r < length p.word = rw c.self.invariant.word_count c.word_of-word.ensures.within in
-    let within' : r < length p.aside = rw c.self.invariant.aside_count c.word_of-word.ensures.within in
-    let is = get_or_read p.word r n within c.index.ensures 0 ∙ ap (λ (x : ℕ). get_or p.word x 0) e in
-    let is' = get_or_read p.aside r a within' c.index-then-index-bit-ne0.ensures 0
-    ∙ ap (λ (x : ℕ). get_or p.aside x 0) e in
-    rw (← c.self.view_is) (busy_iff p i k _ c.bit_of-bit.ensures.width
-    (tells_taken p i k n a c.bit_of-bit.result b is is' c.if-index-bit-ne0.true))
+    busy_iff _ _ _ _ (subst (λ (p : Plain). place_of p.layout c.args.tag < 64) c.self.view_is
+    c.bit_of-bit.ensures.width)
+    (returns-then-index-bit-ne0-clause-taken c)
 
 pub returns-else-index-bit-ne0-clause-taken : goal.returns-else-index-bit-ne0-clause-taken
 returns-else-index-bit-ne0-clause-taken c =
-    let p : Plain = record {
-      layout = c.self.inside.layout;
-      word = c.self.inside.word.items;
-      aside = c.self.inside.cleared.items;
-    } in
-    let r = c.word_of-word.result in let i : ℕ = word_of p.layout c.args.tag in
-    let e : r ≡ i = c.word_of-word.ensures.value in
-    let k : ℕ = place_of p.layout c.args.tag in let b = c.bit_of-bit.ensures.value in
-    let n = c.index.result.now in
-    let within : r < length p.word = rw c.self.invariant.word_count c.word_of-word.ensures.within in
-    let is = get_or_read p.word r n within c.index.ensures 0 ∙ ap (λ (x : ℕ). get_or p.word x 0) e in
-    rw (← c.self.view_is) (tells_free p i k n c.bit_of-bit.result b is c.if-index-bit-ne0.false)
+    let p = seen c.self.inside in let r = c.word_of-word.result in
+    let is = word_found p c.self.invariant r c.word_of-word.ensures.within c.index.result.now c.index.ensures
+    ∙ ap (λ (x : ℕ). get_or p.word x 0) c.word_of-word.ensures.value in
+    rw (← c.self.view_is) (tells_free p (word_of p.layout c.args.tag) (place_of p.layout c.args.tag) c.index.result.now
+    c.bit_of-bit.result c.bit_of-bit.ensures.value is c.if-index-bit-ne0.false)
 
 pub returns-else-index-bit-ne0-clause-busy : goal.returns-else-index-bit-ne0-clause-busy
 returns-else-index-bit-ne0-clause-busy c =
-    let p : Plain = record {
-      layout = c.self.inside.layout;
-      word = c.self.inside.word.items;
-      aside = c.self.inside.cleared.items;
-    } in
-    let r = c.word_of-word.result in let i : ℕ = word_of p.layout c.args.tag in
-    let e : r ≡ i = c.word_of-word.ensures.value in
-    let k : ℕ = place_of p.layout c.args.tag in let b = c.bit_of-bit.ensures.value in
-    let n = c.index.result.now in
-    let within : r < length p.word = rw c.self.invariant.word_count c.word_of-word.ensures.within in
-    let is = get_or_read p.word r n within c.index.ensures 0 ∙ ap (λ (x : ℕ). get_or p.word x 0) e in
-    rw (← c.self.view_is) (busy_iff p i k _ c.bit_of-bit.ensures.width
-    (tells_free p i k n c.bit_of-bit.result b is c.if-index-bit-ne0.false))
+    busy_iff _ _ _ _ (subst (λ (p : Plain). place_of p.layout c.args.tag < 64) c.self.view_is
+    c.bit_of-bit.ensures.width)
+    (returns-else-index-bit-ne0-clause-taken c)

@@ -1,4 +1,4 @@
--- The next place stands in the first part, or else in the second, and all before it are taken.
+-- The next place is in the first part or, if that has none, in the second, and all places before it are taken.
 use Rattle.std.proofs.Common.{◌≡◌, ℕ, ◌+◌, List, [], ◌∷◌, ◌++◌, sym, ap, ◌∙◌}
 use Rattle.std.proofs.lemmas.List.{append_assoc, append-nil}
 use Rattle.std.proofs.lemmas.List.Elements.{All-append}

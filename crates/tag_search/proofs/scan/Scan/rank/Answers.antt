@@ -1,4 +1,4 @@
--- Each place of a rank is below the limit, which is within the word.
+-- Each place of a rank is below its limit, which is at most the word's depth.
 use Rattle.std.proofs.Common.{ℕ, ◌<◌, List, arith, subst, sym}
 use Rattle.std.specs.Prelude.{All}
 use Rattle.tag_layout.specs.Layout.{word_depth}

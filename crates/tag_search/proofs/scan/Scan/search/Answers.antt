@@ -1,4 +1,4 @@
--- The words from the first on, and then those before it.
+-- The words from the first on, and then those before it, are all words in cyclic order.
 use Rattle.std.proofs.Common.{ℕ, ◌++◌, map, Some, None, refl, sym, subst}
 use Rattle.tag_layout.specs.Layout.{words}
 use Rattle.tag_search.specs.Order.{numbers}

@@ -1,4 +1,4 @@
--- A claim adds bits to the caller's held set.
+-- A claim only adds bits to the caller's held set, and it finds taken what the caller already holds.
 use Rattle.std.proofs.Common.{◌^◌, ◌<◌, length, refl, sym, ap, ◌∙◌, arith}
 use Rattle.std.specs.Int.{bit_at}
 use Rattle.tag_layout.specs.Layout.{word_of, place_of}

@@ -1,4 +1,4 @@
--- A sweep leaves the caller's held set as it was.
+-- A sweep that finds nothing is a swap alone, and one that finds a mask a swap and a spill; both keep the held set.
 use Rattle.std.proofs.Common.{refl}
 use Rattle.tag_search.proofs.SharedCalls.{swept}
 use Rattle.tag_search.proofs.shared.SharedPort.sweep.Goals as goal

@@ -1,4 +1,4 @@
--- What the words show taken and not set aside may be given back.
+-- The mask keeps only bits that are set and not aside, so its tags are taken.
 use Rattle.std.proofs.Common.{◌≡◌, ◌^◌, ◌<◌, get_or, arith, sym, ap, ◌∙◌, subst}
 use Rattle.tag_search.specs.Plain.{Plain}
 use Rattle.tag_search.specs.Writes.{IsTidy}

@@ -1,4 +1,4 @@
--- One mark more.
+-- The mark added is that of the next tag, by its word and place.
 use Rattle.std.proofs.Common.{◌≡◌, ℕ, ◌+◌, Bool, false, ◌&&◌, ◌||◌, nat_eq, get_or, ap, ◌∙◌}
 use Rattle.std.specs.Prelude.{not, nat_lt, nat_le}
 use Rattle.tag_layout.specs.Layout.{word_of, place_of}

@@ -1,4 +1,4 @@
--- The marks so far.
+-- The marks so far are those of the tags so far.
 use Rattle.std.proofs.Common.{◌≡◌, ℕ, ◌<◌, false, length, get_or}
 use Rattle.tag_layout.specs.Layout.{word_of, place_of}
 use Rattle.tag_search.specs.Marks.{free_then}

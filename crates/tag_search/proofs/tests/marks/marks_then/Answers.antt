@@ -1,4 +1,4 @@
--- Both lists of marks after the change tell the pool after it.
+-- The new marks describe the pool that is freed in the swept words and then taken from.
 use Rattle.tag_search.proofs.Slow.{marks_then}
 use Rattle.tag_search.proofs.tests.marks.marks_then.Goals as goal
 

@@ -1,3 +1,4 @@
+-- Each call keeps the caller with its map.
 use Rattle.tag_core.specs.Callers.{IsCallerOf}
 use Rattle.tag_search.proofs.tests.shared.agree.Given as goal
 

@@ -1,4 +1,4 @@
--- The mask has the bit of the taken tag alone.
+-- The mask is the bit of the taken tag alone.
 use Rattle.std.proofs.Common.{◌≡◌, ℕ, ◌<◌, sym, ap, ◌∙◌, subst}
 use Rattle.std.specs.Int.{bit_at}
 use Rattle.std.proofs.lemmas.Nat.{one_shl, pow_below}

@@ -1,4 +1,4 @@
--- Each of a new map's callers is one of the map's own.
+-- Each caller of a new map is one of the map's own.
 use Rattle.std.proofs.Common.{◌≡◌, ℕ, zero, suc, ◌<◌, List, [], ◌∷◌, length, get_or, arith, refl}
 use mathlib.Core.Option.{some}
 use lib.ListN.{get_elem?}

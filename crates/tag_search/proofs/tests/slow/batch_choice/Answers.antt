@@ -1,4 +1,4 @@
--- What is found is the choice, and the words passed have no run.
+-- The words passed have no run, so the first word with a run decides the choice.
 use Rattle.std.proofs.Common.{◌≡◌, ℕ, ◌*◌, ◌/◌, ◌%◌, ◌^◌, true, List, ◌∷◌, get_or, take, Some, arith, sym, ap, ◌∙◌, subst}
 use Rattle.std.proofs.lemmas.Nat.{one_shl}
 use Rattle.tag_layout.specs.Layout.{words, word_of}

@@ -1,4 +1,4 @@
--- The words passed have no run, and are swept.
+-- The words passed are those at the front of the order; none has a run, and all are swept.
 use Rattle.std.proofs.Common.{◌≡◌, take}
 use Rattle.std.specs.Prelude.{All}
 use Rattle.tag_search.specs.Choice.{HasNoRun}

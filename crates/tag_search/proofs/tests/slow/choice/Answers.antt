@@ -1,4 +1,4 @@
--- What is found is the choice, and the words passed are full.
+-- The words passed have no open place, so the first word with a free or aside place decides the choice.
 use Rattle.std.proofs.Common.{◌≡◌, ℕ, true, false, List, ◌∷◌, get_or, take, Some, sym, ap, ◌∙◌, subst}
 use Rattle.std.specs.Prelude.{All}
 use Rattle.tag_layout.specs.Layout.{words}

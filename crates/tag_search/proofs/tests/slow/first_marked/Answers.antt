@@ -1,4 +1,4 @@
--- The place is the first that is marked.
+-- No earlier place of the rank is marked, so the place found is the first.
 use Rattle.std.proofs.Common.{sym, ◌∙◌, get_or}
 use Rattle.tag_search.specs.Marks.{mark_at}
 use Rattle.tag_search.proofs.Slow.{first_at}

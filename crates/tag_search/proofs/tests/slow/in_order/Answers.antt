@@ -1,4 +1,4 @@
--- One number more.
+-- The number pushed is the next in order.
 use Rattle.std.proofs.Common.{ℕ, List, [], ◌∷◌, ◌++◌, ap, ◌∙◌}
 use Rattle.tag_search.specs.Order.{numbers}
 use Rattle.tag_search.proofs.Orders.{numbers_more, numbers_behind}

@@ -1,4 +1,4 @@
--- The numbers so far.
+-- The list so far has the numbers from the start up to the next one.
 use Rattle.std.proofs.Common.{◌≡◌, min, ◌++◌}
 use Rattle.tag_search.specs.Order.{numbers}
 use Rattle.tag_search.proofs.tests.slow.in_order.Given as goal

@@ -1,4 +1,4 @@
--- One bit more.
+-- The next bit is set exactly if its place is open.
 use Rattle.std.proofs.Common.{◌≡◌, ℕ, ◌+◌, ◌<◌, true, false, arith, sym, ◌∙◌}
 use Rattle.tag_search.specs.Choice.{IsOpen}
 use Rattle.tag_search.specs.Marks.{pool_of_marks}

@@ -1,4 +1,4 @@
--- The bits so far.
+-- The bits so far are those of the open places so far.
 use Rattle.std.proofs.Common.{◌≡◌, ◌↔◌, ℕ, ◌+◌, ◌<◌}
 use Rattle.std.specs.Int.{bit_at}
 use Rattle.tag_search.specs.Choice.{IsOpen}

@@ -1,4 +1,4 @@
--- The callers that come back are those of the map.
+-- The callers that the threads hand back are those of the map, so they can be gathered.
 use Rattle.std.proofs.Common.{length, drop, ◌++◌}
 use Rattle.std.proofs.lemmas.List.Elements.{All-take, All-append, All-drop}
 use Rattle.tag_core.specs.Callers.{IsCallerOf}

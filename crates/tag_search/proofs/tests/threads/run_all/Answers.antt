@@ -1,4 +1,4 @@
--- Callers cross threads, and each stays its map's own.
+-- Callers may be sent to other threads, and each keeps to its map there.
 use Rattle.std.proofs.Common.{rules, ◌<◌, length, arith}
 use Rattle.std.proofs.Crossing as crossing
 use Rattle.std.proofs.Crossing.{crosses}

@@ -1,4 +1,4 @@
--- Each hand has an agent of each set, both of one number.
+-- The agents of both sets have the same numbers in the same order, so each pair makes a hand of the tags.
 use Rattle.tag_sets.proofs.Reuniting.{joins}
 use Rattle.tag_sets.proofs.one_set.OneSet.rejoin.Goals as goal
 

@@ -1,4 +1,4 @@
--- The other causes are ruled out.
+-- All agents are present, the depth is in range and no tag is in use, so only waits and memory are left as causes.
 use Rattle.tag_sets.proofs.Settling.{still_fails}
 use Rattle.tag_sets.proofs.one_set.OneSet.resize.Goals as goal
 

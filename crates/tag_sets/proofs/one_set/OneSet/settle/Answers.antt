@@ -1,4 +1,4 @@
--- The records are as they were, and so are the sums over them.
+-- The agents' records are unchanged, so the sums over them are those of the agents passed in.
 use Rattle.tag_sets.proofs.Settling.{held_is, posted_are, balance_is}
 use Rattle.tag_sets.proofs.one_set.OneSet.settle.Goals as goal
 

@@ -1,4 +1,4 @@
--- The agents of the hands so far stand apart, the last first, and there is room for those of the others.
+-- The agents of the hands left, followed by those taken out in reverse, are all agents; there is room for the rest.
 use Rattle.std.proofs.Common.{◌≡◌, ◌+◌, ◌≤◌, ◌++◌, map, reverse, vec_len, vec_capacity}
 use Rattle.tag_sets.specs.Opening.{reserved_part, ordinary_part}
 use Rattle.tag_sets.proofs.rooms.Rooms.part.Given as goal

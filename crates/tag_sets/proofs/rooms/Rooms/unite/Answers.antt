@@ -1,4 +1,4 @@
--- The last two agents make the next hand, and the two lists come to an end together.
+-- Each turn makes a hand of the last agent of each list; both lists end together, and then the hands are reversed.
 use Rattle.std.proofs.Common.{arith, ◌≡◌, [], ◌∷◌, ◌++◌, refl, ◌∙◌}
 use Rattle.tag_sets.specs.declared.hand.Hand.{Hand}
 use Rattle.tag_sets.specs.Opening.{reserved_part, ordinary_part, IsSplitAt}

@@ -1,4 +1,4 @@
--- The hands so far have the last agents, the last first, and there is room for the others.
+-- The agents that are left, followed by those of the hands made in reverse, are all agents; there is room for the rest.
 use Rattle.std.proofs.Common.{◌≡◌, ◌+◌, ◌≤◌, ◌++◌, All, map, reverse, vec_len, vec_capacity}
 use Rattle.tag_sets.specs.Opening.{reserved_part, ordinary_part, IsSplitAt}
 use Rattle.tag_sets.proofs.rooms.Rooms.unite.Given as goal

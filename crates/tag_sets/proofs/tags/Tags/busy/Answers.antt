@@ -1,4 +1,4 @@
--- All bits were cleared, and then those of both sets were set.
+-- All bits are 0 at first; then each set marks its own busy tags, in bits that the other set leaves alone.
 use Rattle.std.proofs.Common.{arith, ℕ, List, length, get_or, ap, ◌∙◌}
 use Rattle.tag_core.proofs.Passing.{zeros}
 use Rattle.tag_sets.specs.declared.kind.Kind.TheVariants.{Ordinary, Reserved}

@@ -1,4 +1,4 @@
--- What the ordinary set says of the numbers is said of the tags.
+-- The list's numbers correspond one to one to its tags, so what the ordinary set answers for them holds of the tags.
 use Rattle.std.proofs.Common.{◌≡◌, Err, IsOk, refl}
 use Rattle.std.proofs.lemmas.Result.{on_ok_weaker}
 use Rattle.tag_queue.specs.declared.fault.TagFault.TheVariants.{NoSuchTag, NotHeld}

@@ -1,4 +1,4 @@
--- The clear of the agent in the tag's set.
+-- The tag's number in its set is unique, so the put of the agent there is the clear of this tag alone.
 use Rattle.std.proofs.Common.{refl}
 use Rattle.tag_sets.specs.declared.kind.Kind.TheVariants.{Ordinary, Reserved}
 use Rattle.tag_sets.proofs.Passing.{placed, clears_at, clears_on}

@@ -1,4 +1,4 @@
--- All agents of both sets were gathered.
+-- The agents of each set have all the numbers, so neither gather fails; they are at most 64, so the sums fit.
 use Rattle.std.proofs.Common.{arith, ◌≡◌, ℕ, List, All, map, length, sym, ap, ◌∙◌, subst}
 use Rattle.std.proofs.lemmas.Bool.{false≢true}
 use Rattle.std.proofs.lemmas.List.{length-map}

@@ -1,4 +1,4 @@
--- Two steps a word.
+-- Each word of the set was looked at once, by two steps.
 use Rattle.std.proofs.Common.{arith}
 use Rattle.tag_sets.proofs.Around.{few_looks}
 use Rattle.tag_sets.proofs.tags.Tags.dump.Goals as goal

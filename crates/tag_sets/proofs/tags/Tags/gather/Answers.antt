@@ -1,4 +1,4 @@
--- Who is missing is told; where none is, all are there.
+-- A missing number is reported before anything is closed; if none is missing, all hands are present.
 use Rattle.std.proofs.Common.{ℕ, List, refl, sym, subst}
 use Rattle.std.proofs.lemmas.Bool.{false≢true}
 use Rattle.step_ledger.specs.Views.{HasAll, IsLeastMissing}

@@ -1,4 +1,4 @@
--- The number of an ordinary tag is below its set's depth.
+-- The number found is below the depth of its set, so adding the reserved tags gives an ordinary tag without overflow.
 use Rattle.std.proofs.Common.{arith, ◌≡◌, ℕ, ◌+◌, ◌<◌, Option, None, Some, sym, ap, subst}
 use Rattle.tag_queue.specs.Gets.{GetsPlain}
 use Rattle.tag_sets.specs.declared.kind.Kind.TheVariants.{Ordinary}

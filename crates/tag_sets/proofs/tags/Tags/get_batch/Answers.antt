@@ -1,4 +1,4 @@
--- The first tag of a batch is below its set's depth.
+-- The first number is below the depth of its set, so adding the reserved tags gives an ordinary tag without overflow.
 use Rattle.std.proofs.Common.{arith, ◌≡◌, ℕ, ◌+◌, ◌<◌, Bool, true, false, Option, None, Some, sym, ap, subst, refl}
 use Rattle.tag_queue.specs.Gets.{GetsBatch}
 use Rattle.tag_sets.specs.declared.kind.Kind.TheVariants.{Ordinary}

@@ -1,4 +1,4 @@
--- The blocking get of the agent in the ordinary set.
+-- The tag that the hand gains is the one whose number its ordinary agent gained.
 use Rattle.tag_sets.proofs.Getting.{blocking_of}
 use Rattle.tag_sets.proofs.tags.Tags.get_blocking.Goals as goal
 

@@ -1,4 +1,4 @@
--- The get of the agent in the reserved set.
+-- A reserved tag has its own number in its set, so the hand gains the tag that its reserved agent gained.
 use Rattle.tag_sets.proofs.Getting.{reserved_gets_on}
 use Rattle.tag_sets.proofs.tags.Tags.get_reserved.Goals as goal
 

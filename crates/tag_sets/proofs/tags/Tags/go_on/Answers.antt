@@ -1,4 +1,5 @@
--- The ordinary set is resized or comes back, and the hands are put together again.
+-- Whether the ordinary set was resized or handed back, its agents are in the old order and keep their numbers, so they
+-- make hands with the untouched reserved agents again.
 use Rattle.std.proofs.Common.{arith, ◌≡◌, ℕ, ◌-◌, List, All, length, sym, ap, ◌∙◌, subst}
 use Rattle.std.proofs.lemmas.List.{length-map}
 use Rattle.step_ledger.specs.Views.{HasAll}

@@ -1,4 +1,4 @@
--- A word adds its busy tags.
+-- Each turn looks at one word, marks the bits of its busy tags and adds their number.
 use Rattle.std.proofs.Common.{arith, ◌≡◌, ℕ, ◌+◌, ◌*◌, ◌<◌, [], ◌∷◌, ◌++◌, min, nat_eq, bit_and, refl, sym, ap, ◌∙◌, subst}
 use Rattle.std.specs.Int.{bit_at, bit_not, w64}
 use Rattle.tag_layout.specs.Layout.{Layout, word_bits}

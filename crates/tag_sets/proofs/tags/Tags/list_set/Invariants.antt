@@ -1,4 +1,4 @@
--- The tags of the words so far are marked and counted.
+-- The busy tags of the words so far are marked and counted, among them each tag of these words that the hand holds.
 use Rattle.std.proofs.Common.{◌≡◌, ℕ, ◌*◌, ◌<◌, true, List, length, min}
 use Rattle.tag_layout.specs.Layout.{word_bits, word_of}
 use Rattle.tag_model.specs.Totals.{count_below}

@@ -1,4 +1,4 @@
--- Both agents of each hand are as they were.
+-- Both agents of each hand are unchanged, and so are the hands.
 use Rattle.tag_sets.proofs.Uniting.{unchanged}
 use Rattle.tag_sets.proofs.tags.Tags.meet.Goals as goal
 

@@ -1,4 +1,4 @@
--- Each cause is told where it holds, and where none does, no tag is in use.
+-- Each cause is checked once those before it are ruled out; if none holds, all hands are present and no tag is in use.
 use Rattle.std.proofs.Common.{arith, ◌≡◌, ℕ, List, sym, ◌∙◌, subst, inl, inr}
 use Rattle.step_ledger.specs.Views.{HasAll, IsLeastMissing}
 use Rattle.tag_sets.specs.declared.hand.Hand.{Hand}

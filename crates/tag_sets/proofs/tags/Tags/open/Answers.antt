@@ -1,4 +1,4 @@
--- Both queues are open, and their agents make the hands.
+-- Both queues have as many agents as the options say, in the order of their numbers, so these pair up as hands.
 use Rattle.std.proofs.Common.{sym, ◌∙◌}
 use Rattle.tag_sets.proofs.Opening.{as_many, opens}
 use Rattle.tag_sets.proofs.tags.Tags.open.Goals as goal

@@ -1,4 +1,4 @@
--- A word adds its busy tags to the bytes, which were 0.
+-- The bytes are 0 at first, and each turn marks the busy tags of one word in them.
 use Rattle.std.proofs.Common.{arith, ◌≡◌, inr, ℕ, ◌+◌, ◌*◌, ◌<◌, List, [], ◌∷◌, ◌++◌, min, length, get_or, nat_eq, Bool, bit_and, ap, ◌∙◌, subst}
 use Rattle.std.specs.Prelude.{◌&&◌}
 use Rattle.std.specs.Int.{bit_at, bit_not, w64}

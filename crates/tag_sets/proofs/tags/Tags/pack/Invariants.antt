@@ -1,4 +1,4 @@
--- The tags of the words so far are marked.
+-- The busy tags of the words so far are marked, and no other bit is.
 use Rattle.std.proofs.Common.{◌≡◌, ℕ, ◌*◌, List, length, min}
 use Rattle.tag_layout.specs.Layout.{word_bits}
 use Rattle.tag_sets.specs.Bits.{Marks}

@@ -1,4 +1,4 @@
--- The post of the agent in the tag's set.
+-- The tag's number in its set is unique, so the post of the agent there is a post of this tag alone.
 use Rattle.std.proofs.Common.{refl}
 use Rattle.tag_sets.specs.declared.kind.Kind.TheVariants.{Ordinary, Reserved}
 use Rattle.tag_sets.proofs.Passing.{placed, posts_on}

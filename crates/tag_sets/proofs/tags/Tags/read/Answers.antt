@@ -1,4 +1,4 @@
--- The read of the agent in the tag's set.
+-- The agent in the tag's set reads the slot of the tag's number there, and writes back what it found.
 use Rattle.std.proofs.Common.{refl}
 use Rattle.tag_sets.specs.declared.kind.Kind.TheVariants.{Ordinary, Reserved}
 use Rattle.tag_sets.proofs.Passing.{placed, reads_on}

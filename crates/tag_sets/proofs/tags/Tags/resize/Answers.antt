@@ -1,4 +1,4 @@
--- Each refusal comes for its cause alone; if nothing prevents it, the hands continue as they were handed in.
+-- The checks leave the hands unchanged, so each refusal, and the resize itself, is about the hands passed in.
 use Rattle.std.proofs.Common.{◌≡◌, List, All, None, Some, sym, ap, ◌∙◌, subst}
 use Rattle.std.specs.Prelude.{Option, MatchOption}
 use Rattle.std.proofs.lemmas.Result.{IfOk-weaker, IfErr-weaker}
@@ -17,7 +17,7 @@ pub obstacle-tags-requires-clause-own : goal.obstacle-tags-requires-clause-own
 obstacle-tags-requires-clause-own g c =
     subst (λ v. All (IsHandOf c.args.tags) v.items) (sym c.tell_few-hands.ensures.same) c.requires
 
--- nothing was found that prevents it
+-- nothing was found that prevents the resize
 unhindered : (P : Type 0) (Q : ResizeCause → Type 0) (found : Option ResizeCause) → found ≡ None → MatchOption found P Q
     → P
 unhindered P Q found none told = subst (λ (o : Option ResizeCause). MatchOption o P Q) none told
@@ -26,7 +26,7 @@ free : (g : given.Over) (c : In-None g)
     → HasMap c.args.tags c.tell_few-hands.result.items c.args.total × AreUnused c.tell_few-hands.result.items
 free g c = unhindered _ _ c.obstacle-tags.result.1 c.in-None.is c.obstacle-tags.ensures.cause
 
--- nor did the search for it change anything
+-- checking the causes changed nothing
 facts : (g : given.Over) (c : In-None g)
     → facts_of c.obstacle-tags.result.0 c.obstacle-tags.new.hands.items
     ≡ facts_of c.args.tags c.tell_few-hands.result.items
@@ -41,7 +41,7 @@ pub go_on-requires-clause-unused : goal.go_on-requires-clause-unused
 go_on-requires-clause-unused g c =
     subst (λ (f : Facts). (f.held ≡ 0) × (f.posted ≡ 0)) (sym (facts g c)) (free g c).1
 
--- the hands with which it goes on are as they were handed in
+-- the hands after the checks are those passed in, unchanged
 kept : (g : given.Over) (c : After-go_on g) → AreUnchanged c.args.hands.items c.obstacle-tags.new.hands.items
 kept g c = kept_from c.args.tags c.obstacle-tags.result.0 c.args.hands.items c.tell_few-hands.result.items
     c.obstacle-tags.new.hands.items (ap (λ v. v.items) c.tell_few-hands.ensures.same)
@@ -61,7 +61,7 @@ returns-in-None-clause-may g c = λ ok.
     c.obstacle-tags.new.hands.items (ap (λ v. v.items) c.tell_few-hands.ensures.same)
     c.obstacle-tags.ensures.same c.obstacle-tags.ensures.unchanged c.args.total (c.go_on.ensures.may ok)
 
--- a refusal of the hands with which it goes on is one of those handed in
+-- a refusal by `go_on` is one for the hands passed in
 refused_late : (g : given.Over) (c : After-go_on g)
     → AreTold (facts_of c.args.tags c.args.hands.items) c.args.total (IsRefusedAs c.go_on.result)
 refused_late g c = told_from c.args.tags c.obstacle-tags.result.0 c.args.hands.items c.tell_few-hands.result.items
@@ -90,7 +90,7 @@ returns-in-None-clause-err g c =
     (ap (λ v. v.items) c.tell_few-hands.ensures.same) c.obstacle-tags.ensures.same c.obstacle-tags.ensures.unchanged
     fault.tags fault.hands.items c.requires is) c.go_on.ensures.same
 
--- what was found prevents a resize of the hands handed in
+-- the cause that was found prevents a resize of the hands passed in
 refused_early : (g : given.Over) (c : In-Some g)
     → AreTold (facts_of c.args.tags c.args.hands.items) c.args.total (λ other. c.in-Some.cause ≡ other)
 refused_early g c =

@@ -1,4 +1,4 @@
--- Both sets settle, and the hands are put together again from agents that are as they were.
+-- Each set returns its agents unchanged and in order, so the hands that they make are those passed in.
 use Rattle.std.proofs.Common.{arith, ◌≡◌, ℕ, List, All, length, sym, ap, ◌∙◌, subst}
 use Rattle.std.proofs.lemmas.List.{length-map}
 use Rattle.step_ledger.specs.Views.{HasAll}

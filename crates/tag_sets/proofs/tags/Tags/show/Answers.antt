@@ -1,4 +1,4 @@
--- A word adds its bits.
+-- Each turn adds the busy and the cleared bits of one word; bits past the end of the set are masked out.
 use Rattle.std.proofs.Common.{arith, ◌≡◌, ◌≤◌, [], ◌∷◌, ◌++◌, ap, ◌∙◌}
 use Rattle.tag_layout.specs.Layout.{Layout, words}
 use Rattle.tag_sets.specs.Hands.{layout_of}

@@ -1,4 +1,4 @@
--- The words so far are counted.
+-- The sums are those of the words looked at so far.
 use Rattle.std.proofs.Common.{◌≡◌, ℕ, ◌*◌, List, min}
 use Rattle.tag_layout.specs.Layout.{word_bits}
 use Rattle.tag_model.specs.Totals.{count_below}

@@ -1,4 +1,4 @@
--- The take of the agent in the tag's set.
+-- The tag's number in its set is unique, so the take of the agent there is a take of this tag alone.
 use Rattle.std.proofs.Common.{ap, refl}
 use Rattle.tag_queue.specs.declared.agent.Agent.{Agent}
 use Rattle.tag_sets.specs.declared.kind.Kind.TheVariants.{Ordinary, Reserved}

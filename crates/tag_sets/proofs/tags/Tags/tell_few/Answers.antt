@@ -1,4 +1,4 @@
--- Two hands of one number would have two where they meet.
+-- By `meet`, two hands with one number would have different ones; so all numbers differ, and each is below the count.
 use Rattle.std.proofs.Common.{arith, ◌≡◌, List, get_or, sym, ap, ◌∙◌, subst}
 use Rattle.std.proofs.lemmas.List.{length-map, get_or-map}
 use Rattle.tag_sets.specs.declared.hand.Hand.{Hand}

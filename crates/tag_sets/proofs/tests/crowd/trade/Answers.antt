@@ -1,4 +1,4 @@
--- The hand that came is one of the tags' own, as the others are.
+-- The hand that joins the others belongs to the tags, as they do.
 use Rattle.std.proofs.Common.{sym, subst}
 use Rattle.std.proofs.lemmas.List.Elements.{All-set}
 use Rattle.tag_sets.specs.Hands.{IsHandOf}

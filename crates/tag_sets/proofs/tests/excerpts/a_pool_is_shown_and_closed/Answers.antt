@@ -1,4 +1,4 @@
--- What came back is what was handed in, and the hand joins it.
+-- The failed gather handed back what was passed in, so with the missing hand all belong to the same tags.
 use Rattle.std.proofs.Common.{ℕ, [], ◌∷◌, ◌++◌, All, sym, ap, ◌∙◌, subst}
 use Rattle.std.proofs.lemmas.List.Elements.{All-push}
 use Rattle.tag_sets.specs.declared.tags.Tags.{Tags}

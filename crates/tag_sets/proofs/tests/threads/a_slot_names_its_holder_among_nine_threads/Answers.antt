@@ -1,4 +1,4 @@
--- Hands may go to other threads, which may share the tags, and stay the tags' own.
+-- Hands may go to other threads, threads may share the tags, and each hand still belongs to the tags afterwards.
 use denote.Param.Send.{sendable}
 use Rattle.std.proofs.Common.{rules, arith, ◌<◌, ◌++◌, length, drop}
 use Rattle.std.proofs.Crossing.{crosses}

@@ -1,3 +1,4 @@
+-- The hand stays one of the tags'.
 use Rattle.tag_sets.specs.Hands.{IsHandOf}
 use Rattle.tag_sets.proofs.tests.threads.keep.Given as goal
 

@@ -1,4 +1,4 @@
--- The teller's own count stays below the cap, so the step may happen.
+-- The teller's own count stays within the cap, so the step may happen.
 use Rattle.std.proofs.Common.{arith, ◌^◌, ◌+◌, ◌≤◌, sym, ap, ◌∙◌, subst}
 use Rattle.step_ledger.specs.Views.{steps_of, push}
 use Rattle.step_ledger.specs.History.{total}

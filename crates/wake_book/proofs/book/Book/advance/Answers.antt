@@ -1,4 +1,4 @@
--- The teller just saw the interval's end counted, so the exchange may happen; it wins exactly where it found the
+-- The teller has just found the interval's end counted, so the exchange may happen; it wins exactly if it found the
 -- start.
 use Rattle.std.proofs.Common.{arith, refl, ℕ, ◌^◌, ◌-◌, ◌≤◌, ◌∷◌, sym, ap, ◌∙◌, subst}
 use Rattle.step_ledger.specs.Views.{steps_of, push}

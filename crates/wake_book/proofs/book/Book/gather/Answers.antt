@@ -1,4 +1,4 @@
--- All are there exactly where none is missing; then the records gathered are those of the list.
+-- All tellers are present exactly if no number is missing; then the records gathered are those of the list.
 use Rattle.std.proofs.Common.{arith, ℕ, List, refl, sym, ◌∙◌, subst, ap}
 use Rattle.std.proofs.lemmas.Bool.{false≢true}
 use Rattle.step_ledger.specs.declared.record.Record.{Record}

@@ -1,4 +1,4 @@
--- Tellers come off the end, so each stands before those that came earlier: the records keep the order of the list.
+-- Tellers are taken from the end of the list and put in front of those gathered, so the records keep the list's order.
 use Rattle.std.proofs.Common.{List, ◌++◌, All, ap, ◌∙◌, subst}
 use Rattle.step_ledger.specs.declared.record.Record.{Record}
 use Rattle.step_ledger.proofs.Turned.{taken, taken_first, all_front, all_last}

@@ -1,3 +1,4 @@
+-- The records still in the list, followed by those gathered, are the records passed in.
 use Rattle.std.proofs.Common.{◌≡◌, ◌++◌, All, length}
 use Rattle.wake_book.specs.Book.{IsTellerOf, IsGatheringOf, records_of, gathered}
 use Rattle.wake_book.proofs.book.Book.gather_each.Given as goal

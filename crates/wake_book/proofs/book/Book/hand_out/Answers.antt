@@ -1,5 +1,4 @@
--- After each turn the tellers handed out are those of the numbers below the loop's, and the seat has the records of
--- the others.
+-- After each turn the tellers made have the numbers below the loop's, and the seat has the records of the others.
 use Rattle.std.proofs.Common.{rules, arith, ◌≡◌, ℕ, ◌+◌, [], ◌∷◌, ◌++◌, All, sym, ap, ◌∙◌, subst}
 use mathlib.Core.List.{map-append}
 use Rattle.std.proofs.lemmas.List.Elements.{All-push}

@@ -1,3 +1,4 @@
+-- The tellers made so far have the numbers below the loop's; the seat has the records of the others.
 use Rattle.std.proofs.Common.{◌≡◌, ◌-◌, [], All}
 use Rattle.step_ledger.specs.Views.{viewing, fresh}
 use Rattle.wake_book.specs.Book.{IsTellerOf, records_of}

@@ -1,4 +1,4 @@
--- A load may always happen, and tells the wakeups that the steps before it left.
+-- A load may always happen, and finds the wakeups that the steps before it left.
 use Rattle.std.proofs.Common.{arith, ◌^◌, ◌≤◌, sym, ap, ◌∙◌, subst}
 use Rattle.step_ledger.specs.Views.{steps_of, push}
 use Rattle.wake_book.specs.declared.book.Limits.{Limits}

@@ -1,4 +1,4 @@
--- The first of the records still to come goes with the new teller, and the others stay.
+-- The first of the records left goes to the new teller, and the others stay on the seat.
 use Rattle.std.proofs.Common.{arith, ◌≡◌, ℕ, ◌+◌, ◌-◌, List, ◌∷◌, ap, ◌∙◌}
 use Rattle.step_ledger.specs.Views.{viewing, fresh, fresh_record, other_views, first_view, steps_of}
 use Rattle.step_ledger.proofs.Members.{splits, next_fresh}

@@ -1,4 +1,4 @@
--- The teller's record comes behind those on the seat, and its charges to their sum.
+-- The teller's record joins those on the seat, and its charges are added to the sum.
 use Rattle.std.proofs.Common.{arith, ap, ◌∙◌}
 use Rattle.step_ledger.specs.History.{total}
 use Rattle.step_ledger.proofs.Members.{joins}

@@ -1,4 +1,4 @@
--- A load may always happen, and one who has raised the count is counted in it.
+-- A load may always happen, and a waiter that has raised the count is counted in it.
 use Rattle.std.proofs.Common.{arith, ◌≤◌, ap, ◌∙◌}
 use Rattle.step_ledger.specs.Views.{steps_of, push}
 use Rattle.wake_book.specs.declared.steps.GroupStep.TheVariants.{Look}

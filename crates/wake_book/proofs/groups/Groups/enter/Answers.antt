@@ -1,5 +1,4 @@
--- The waiter stands nowhere, so it may raise the active count, and once raised it may enter the group of its wait
--- index.
+-- The waiter is in no group, so it may raise the active count, and then it may enter the group of its wait index.
 use Rattle.std.proofs.Common.{arith, ◌≡◌, ◌+◌, ◌%◌, ◌^◌, ◌≤◌, length, refl, sym, ap, ◌∙◌}
 use Rattle.step_ledger.specs.declared.record.Record.{Record}
 use Rattle.step_ledger.specs.Views.{steps_of, with_step}

@@ -1,4 +1,4 @@
--- The gathering's seat has the records of all waiters, so what it knows of the last words is the whole groups'.
+-- The gathering's seat has the records of all waiters, so the last words are those of the whole history.
 use Rattle.std.proofs.Common.{ℕ, sym, subst}
 use Rattle.std.specs.Slots.{slots_items}
 use Rattle.atomic_table.specs.Table.{Final, Seen}

@@ -1,5 +1,5 @@
--- As many wait as are moved, so both halves of the word stay whole; the exchange wins exactly where it found what was
--- expected.
+-- At least as many wait as are moved, so neither half of the word overflows; the exchange wins exactly if it found what
+-- it expected.
 use Rattle.std.proofs.Common.{arith, ◌≡◌, ℕ, eqb, ◌+◌, ◌-◌, ◌*◌, ◌≤◌, ◌∷◌, sym, ap, ◌∙◌}
 use prog.Atomic.{either}
 use Rattle.step_ledger.specs.declared.record.Record.{Record}

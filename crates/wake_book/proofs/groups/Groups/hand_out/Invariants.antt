@@ -1,3 +1,4 @@
+-- The waiters made so far have the numbers below the loop's and are in no group; the seat has the other records.
 use Rattle.std.proofs.Common.{◌≡◌, ◌-◌, [], All}
 use Rattle.step_ledger.specs.Views.{viewing, fresh}
 use Rattle.wake_book.specs.Groups.{IsWaiterOf, IsNew, records_of}

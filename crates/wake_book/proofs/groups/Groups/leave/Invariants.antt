@@ -1,3 +1,4 @@
+-- Until the waiter leaves, it stays in its group, and each turn added a look and a lost exchange.
 use Rattle.std.proofs.Common.{◌≡◌, ℕ, Some}
 use Rattle.wake_book.specs.Groups.{IsWaiterOf, steps_of, standing_of, StandsAsBefore}
 use Rattle.wake_book.specs.Walks.{Idles}

@@ -1,4 +1,4 @@
--- A load may always happen, and one who stands in a group without a grant waits there.
+-- A load may always happen, and if the waiter is in this group and the group has no grant, somebody waits there.
 use Rattle.std.proofs.Common.{arith, ℕ, ◌≤◌, ◌∷◌, sym, ap, ◌∙◌}
 use Rattle.step_ledger.specs.Views.{steps_of, push}
 use Rattle.wake_book.specs.declared.steps.GroupStep.TheVariants.{Look}

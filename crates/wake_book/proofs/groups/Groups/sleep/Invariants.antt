@@ -1,3 +1,4 @@
+-- Until a look finds a grant, each turn added one look that found none, and the waiter stays in its group.
 use Rattle.std.proofs.Common.{◌≡◌, ℕ, Some}
 use Rattle.wake_book.specs.Groups.{IsWaiterOf, steps_of, standing_of, StandsAsBefore}
 use Rattle.wake_book.specs.Walks.{LooksInVain}

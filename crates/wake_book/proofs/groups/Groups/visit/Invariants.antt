@@ -1,3 +1,4 @@
+-- Each turn so far found somebody waiting and lost its exchange, so nobody was moved.
 use Rattle.std.proofs.Common.{◌≡◌}
 use Rattle.wake_book.specs.Groups.{IsWaiterOf, steps_of, StandsAsBefore}
 use Rattle.wake_book.specs.Walks.{LosesGrants}

@@ -1,4 +1,4 @@
--- A visit adds at most eight steps, so eight visits with two loads before and one store behind are at most 67.
+-- A visit adds at most eight steps, so eight visits, two loads before them and one store after them add at most 67.
 use Rattle.std.proofs.Common.{arith, ◌≡◌, ℕ, suc, ◌+◌, ◌-◌, ◌%◌, ◌∷◌, length, refl, ap, ◌∙◌, subst}
 use Rattle.wake_book.specs.declared.steps.GroupStep.TheVariants.{Look}
 use Rattle.wake_book.specs.Groups.{steps_of}

@@ -1,3 +1,4 @@
+-- The visits so far moved `nr - left` waiters, in cyclic order from the wake index; there are at most eight of them.
 use Rattle.std.proofs.Common.{◌≡◌, ℕ, ◌+◌, ◌-◌, ◌<◌, ◌≤◌, ◌∷◌}
 use Rattle.wake_book.specs.declared.steps.GroupStep.TheVariants.{Look}
 use Rattle.wake_book.specs.Groups.{IsWaiterOf, steps_of, StandsAsBefore}

@@ -1,4 +1,4 @@
--- The waiter's record comes behind those on the seat, and its moves to their sum.
+-- The waiter's record joins those on the seat, and its moves are added to the sum.
 use Rattle.std.proofs.Common.{arith, ap, ◌∙◌}
 use Rattle.step_ledger.specs.History.{total}
 use Rattle.step_ledger.proofs.Members.{joins}

@@ -1,4 +1,4 @@
--- The two numbers that the test reads are all that there are.
+-- The groups have two waiters, so the two numbers that the test checks are all.
 use Rattle.std.proofs.Common.{arith, ◌≡◌, ℕ, zero, suc, List, [], ◌∷◌, sym, ap, ◌∙◌, subst}
 use mathlib.Core.Option.{some}
 use Rattle.step_ledger.specs.declared.record.Record.{Record}

@@ -1,3 +1,4 @@
+-- Between two rounds the waiter is in no group, so it may enter one again.
 use Rattle.std.proofs.Common.{◌≡◌, ◌≤◌, None}
 use Rattle.wake_book.specs.Groups.{IsWaiterOf, standing_of}
 use Rattle.wake_book.proofs.tests.threads.sleep_often.Given as goal

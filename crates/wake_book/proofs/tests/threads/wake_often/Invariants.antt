@@ -1,3 +1,4 @@
+-- The waiter stays one of the groups'.
 use Rattle.wake_book.specs.Groups.{IsWaiterOf}
 use Rattle.wake_book.proofs.tests.threads.wake_often.Given as goal
 

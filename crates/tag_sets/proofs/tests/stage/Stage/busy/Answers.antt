@@ -1,4 +1,4 @@
--- The hand that acted is still one of the tags' own, and so are the others.
+-- The hand that acted still belongs to the tags, and so do the others.
 use Rattle.std.proofs.lemmas.List.Elements.{All-set}
 use Rattle.tag_sets.specs.Hands.{IsHandOf}
 use Rattle.tag_sets.proofs.tests.stage.Stage.busy.Goals as goal

@@ -1,5 +1,4 @@
--- The new pass keeps the rule of the queue, what the thread has may go to it, and the new handle promises what the
--- others do.
+-- What the thread has may go to it, and the new handle promises what the others do.
 use contract.Lifetimes.{Lfts}
 use denote.Param.{param}
 use denote.Param.Send.{IsSend, IsSync, param_send, sendable}
@@ -10,8 +9,7 @@ use Rattle.atomic_table.proofs.owned.Table.TheSendSync.{the_field_sync as table_
 use Rattle.loop_device.proofs.Crossing.{hand_goes, tags_shared, log_shared, store_shared, flag_shared, pass_goes}
 use Rattle.loop_device.specs.declared.threads.HandsBack.{HandsBack}
 use Rattle.loop_device.proofs.Promising.{kept}
-use Rattle.loop_device.proofs.QueueMoves.{forks}
-use denote.Struct.Field.{u32-field}
+use denote.Struct.Field.{u32-field, u64-field}
 use Rattle.std.specs.contracts.option.Option as option
 use Rattle.std.specs.contracts.alloc.Global as global
 use Rattle.std.specs.contracts.impls.GlobalAllocator.TheImpl as heap
@@ -22,13 +20,10 @@ use Rattle.crossbeam_queue.specs.contracts.array_queue.TurnsTableRuleOptionDoing
 use Rattle.loop_device.specs.contracts.device_queue.Worker as worker
 use Rattle.loop_device.specs.contracts.device_queue.HandedOn as handed
 use Rattle.loop_device.specs.contracts.device_queue.HandedOnProtocolU32Worker.TheImpl as proto
-use Rattle.loop_device.specs.contracts.threads.start_submitter as rows
-use Rattle.loop_device.proofs.threads.start_submitter.Given.{Over}
-use Rattle.loop_device.proofs.threads.start_submitter.Lts as lts
-use Rattle.loop_device.proofs.threads.start_submitter.Goals as goal
-
-pub another-mine-requires-clause-rule : goal.another-mine-requires-clause-rule
-another-mine-requires-clause-rule g c = forks _ _ _ _
+use Rattle.loop_device.specs.contracts.threads.start as rows
+use Rattle.loop_device.proofs.threads.start.Given.{Over}
+use Rattle.loop_device.proofs.threads.start.Lts as lts
+use Rattle.loop_device.proofs.threads.start.Goals as goal
 
 abbrev queue_row : Over → RattleType
 queue_row g = slotted.the_row (option.the_row u32-field.row) (doing.the_row u32-field.row worker.the_row)
@@ -40,13 +35,16 @@ queue_shared : (g : Over) → IsSend (rows.B-row g.row.E g.row.B g.row.G g.row.R
     → IsSync (rows.B-row g.row.E g.row.B g.row.G g.row.R) → IsSync (queue_row g)
 queue_shared g sb yb = search (table_sync, sendable, crosses) depth 60
 
+count_goes : IsSend (option.the_row u64-field.row)
+count_goes = search (sendable, crosses) depth 60
+
 goes : (g : Over) (κs : Lfts 14) → IsSend (rows.B-row g.row.E g.row.B g.row.G g.row.R)
     → IsSync (rows.B-row g.row.E g.row.B g.row.G g.row.R) → IsSync (rows.G-row g.row.E g.row.B g.row.G g.row.R)
     → IsSync (rows.R-row g.row.E g.row.B g.row.G g.row.R)
-    → IsSend (param 2 (lts.arg-2-2 g.row.E g.row.B g.row.G g.row.R g.E.laws g.B.laws g.G.laws g.R.laws g.B.Tagged
+    → IsSend (param 2 (lts.arg-3-2 g.row.E g.row.B g.row.G g.row.R g.E.laws g.B.laws g.G.laws g.R.laws g.B.Tagged
     g.B.Tagged-dict g.G.Gate g.G.Gate-dict g.R.Wait g.R.Wait-dict κs))
 goes g κs sb yb yg yr = param_send 2
-    (lts.arg-2-2 g.row.E g.row.B g.row.G g.row.R g.E.laws g.B.laws g.G.laws g.R.laws g.B.Tagged g.B.Tagged-dict
+    (lts.arg-3-2 g.row.E g.row.B g.row.G g.row.R g.E.laws g.B.laws g.G.laws g.R.laws g.B.Tagged g.B.Tagged-dict
     g.G.Gate g.G.Gate-dict g.R.Wait g.R.Wait-dict κs) record {
       owned = λ x vs vss. (
         tt,
@@ -65,10 +63,13 @@ goes g κs sb yb yg yr = param_send 2
                     (
                       (tt, flag_shared.shared x.6.now x.6.ref_ptr.0 x.6.ref_ptr.1 κs.1.1.1.1.1.1.1.1.1.1.1.1.0),
                       (
-                        (tt, yr.shared x.7.now x.7.ref_ptr.0 x.7.ref_ptr.1 κs.1.1.1.1.1.1.1.1.1.1.1.1.1.0),
+                        count_goes.owned x.7 vss.1.1.1.1.1.1.1.0,
                         (
-                          hand_goes.owned x.8 vss.1.1.1.1.1.1.1.1.0,
-                          (pass_goes.owned x.9 vss.1.1.1.1.1.1.1.1.1.0, (search sendable, (search sendable, tt))),
+                          (tt, yr.shared x.8.now x.8.ref_ptr.0 x.8.ref_ptr.1 κs.1.1.1.1.1.1.1.1.1.1.1.1.1.0),
+                          (
+                            hand_goes.owned x.9 vss.1.1.1.1.1.1.1.1.1.0,
+                            (pass_goes.owned x.10 vss.1.1.1.1.1.1.1.1.1.1.0, (search sendable, tt)),
+                          ),
                         ),
                       ),
                     ),
@@ -79,7 +80,8 @@ goes g κs sb yb yg yr = param_send 2
           ),
         ),
       );
-      leaving = λ k x w. (tt, (tt, (tt, (tt, (tt, (tt, (tt, (tt, (hand_goes.leaving k x.8 _, (tt, tt))))))))));
+      leaving = λ k x w.
+          (tt, (tt, (tt, (tt, (tt, (tt, (tt, (tt, (tt, (hand_goes.leaving k x.9 _, (tt, tt)))))))))));
     }
 
 pub spawn_with-started-requires-send-F : goal.spawn_with-started-requires-send-F
