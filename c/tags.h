@@ -166,7 +166,12 @@ struct tags_options {
 	uint32_t reserved;
 	/** @shift: log2(tags per word), at most 6, or TAGS_DEFAULT_SHIFT */
 	int32_t shift;
-	/** @min_shallow: the least depth that may be passed to tags_get_shallow(); 0 is as 1 */
+	/**
+	 * @min_shallow: the least depth that may be passed to tags_get_shallow(), or 0
+	 * to allow any from 1. Completions are charged in batches of an eighth of the
+	 * ordinary tags, or of @min_shallow if it is lower and not 0; at least 1, at
+	 * most 8.
+	 */
 	uint32_t min_shallow;
 	/** @hands: number of hands, 1 to TAGS_MAX_HANDS */
 	uint32_t hands;

@@ -1,6 +1,6 @@
 /*
  * Makes random calls with random arguments, through several handles of several
- * pools, and compares whatever a call returns and fills in with the model.
+ * pools, and compares what each call returns and fills in with the model.
  * fuzz [CALLS [SEED]]
  */
 #include <inttypes.h>

@@ -92,7 +92,7 @@ impl fmt::Display for Error {
 
 impl std::error::Error for Error {}
 
-/// Returns the number that a call returned, or the error that a negative number stands for.
+/// Returns what a call returned if it is not negative, and otherwise the error with this status.
 #[inline]
 pub(crate) fn number(answer: i32) -> Result<u32> {
     u32::try_from(answer).map_err(|_| Error::of(answer))

@@ -11,7 +11,9 @@ pub struct Options {
     /// Binary logarithm of the tags per word, at most 6. `None` chooses the largest that gives a set of 4 tags or more
     /// 4 whole words.
     pub shift: Option<u32>,
-    /// The least depth that may be passed to [`get_shallow`](crate::Hand::get_shallow). `None` is as 1.
+    /// The least depth that may be passed to [`get_shallow`](crate::Hand::get_shallow). `None` allows any from 1.
+    /// Completions are charged in batches of an eighth of the ordinary tags, or of this depth if it is lower; at
+    /// least 1, at most 8.
     pub min_shallow: Option<u32>,
     /// Number of hands, 1 to 64.
     pub hands: u32,

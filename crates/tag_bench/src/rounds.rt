@@ -59,7 +59,7 @@ impl<T: Tags> Job<T> for Ring {
 }
 
 /// Gets a tag, trying until there is one, and exchanges the value of its slot.
-#[inline]
+#[inline(always)]
 pub(crate) fn win<T: Tags>(tags: &T, hand: &mut T::Hand, hint: &mut Hint, value: u32) -> Option<u32>
     requires { T.is_own tags.now hand.old }
     ensures hand { T.is_own tags.now hand.new }

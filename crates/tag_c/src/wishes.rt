@@ -18,7 +18,8 @@ pub struct Wishes {
     pub reserved: u32,
     /// Binary logarithm of the bits per word, at most 6. A negative shift chooses the default for the depth.
     pub shift: i32,
-    /// The least depth that a shallow get may ask for. 0 allows every depth from 1.
+    /// The least depth that a shallow get may ask for. 0 allows any from 1. If it is lower than the number of ordinary
+    /// tags, the wake batch is an eighth of it, clamped to 1 to 8.
     pub min_shallow: u32,
     /// Number of hands, 1 to 64.
     pub hands: u32,

@@ -5,6 +5,7 @@ ghost use Rattle.tag_model.specs.declared.world.TheConstants.{MOST_WON, MAX_CALL
 ghost use Rattle.tag_core.specs.declared.record.Record.{Record};
 ghost use Rattle.tag_core.specs.Meeting.{HasHistory};
 ghost use Rattle.tag_core.specs.Records.{Carries};
+ghost use Rattle.tag_core.specs.Spacing.{state_at};
 ghost use Rattle.tag_core.specs.Views.{alone, steps_of};
 
 use crate::record::View;
@@ -24,6 +25,8 @@ pub struct Caller<R> {
     pub(crate) seat: Seat<R, View<R>>,
     /// The layout of its map.
     pub(crate) layout: Layout,
+    /// The place of the first tag's state in the table, so that no access to a slot computes the number of words.
+    pub(crate) states: u32,
     /// Its number, from 0.
     pub(crate) number: u32,
     /// The most tags that it may win, at most 2^48.
@@ -38,7 +41,7 @@ pub struct Caller<R> {
     pub(crate) shape: Snapshot<Shape>,
     /// Nobody looks at it: callers side by side in memory lie 128 bytes apart, so the steps of one slow no other down.
     pub(crate) apart: [u64; APART],
-    ghost told: { (layout ≡ shape.value.layout) × (life ≡ shape.value.life) },
+    ghost told: { (layout ≡ shape.value.layout) × (life ≡ shape.value.life) × (states ≡ state_at layout 0) },
     ghost knows: { seat.me.0 ≡ alone (record {
       shape = shape.value;
       number = number;

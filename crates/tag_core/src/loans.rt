@@ -8,7 +8,7 @@ use crate::map::Map;
 use crate::plays::{Collect, HandOut, Settling};
 use crate::record::View;
 use crate::shape::Shape;
-use crate::spots::SPARE;
+use crate::spots::{SPARE, first_state};
 use crate::together::Gathering;
 use atomic_table::Seat;
 use std::snapshot::Snapshot;
@@ -107,6 +107,7 @@ impl<R> Loans<R> {
         Caller {
             seat,
             layout,
+            states: first_state(layout),
             number,
             life,
             held,

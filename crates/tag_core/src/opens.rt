@@ -14,7 +14,7 @@ use crate::map::Map;
 use crate::plays::HandOut;
 use crate::record::View;
 use crate::shape::Shape;
-use crate::spots::table_words;
+use crate::spots::{first_state, table_words};
 use atomic_table::{Seat, Table};
 use std::alloc::{AllocError, Global};
 use std::snapshot::Snapshot;
@@ -65,6 +65,7 @@ fn next_caller<R>(
     Ok(Caller {
         seat,
         layout,
+        states: first_state(layout),
         number,
         life: map.shape.life,
         held,

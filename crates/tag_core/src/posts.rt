@@ -8,7 +8,6 @@ ghost use Rattle.tag_core.specs.declared.step.Step.TheVariants.{Post, Take};
 use crate::caller::Caller;
 use crate::map::Map;
 use crate::plays::{Posting, Taking};
-use crate::spots::state_spot;
 
 impl<R> Map<R> {
     /// Hands a held tag on, with its slot, to whoever takes it first.
@@ -22,7 +21,8 @@ impl<R> Map<R> {
         let word = caller.layout.word_of(tag) as usize;
         let bit = 1u64 << caller.layout.place_of(tag);
         let table = &self.table.shared;
-        table.store::<Posting>(&mut caller.seat, state_spot(caller.layout, tag), 1);
+        let state = caller.state_spot(tag);
+        table.store::<Posting>(&mut caller.seat, state, 1);
         let held = caller.held[word] & !bit;
         caller.held[word] = held;
     }
@@ -41,7 +41,7 @@ impl<R> Map<R> {
         let word = caller.layout.word_of(tag) as usize;
         let bit = 1u64 << caller.layout.place_of(tag);
         let table = &self.table.shared;
-        let state = state_spot(caller.layout, tag);
+        let state = caller.state_spot(tag);
         let found = table.compare_exchange::<Taking>(&mut caller.seat, state, 1, 0);
         if found != 1 {
             return false;

@@ -17,6 +17,7 @@ use crate::plays::HandOut;
 use crate::record::View;
 use crate::settled::Settled;
 use crate::shape::Shape;
+use crate::spots::first_state;
 use atomic_table::Seat;
 use std::alloc::{AllocError, Global};
 use std::snapshot::Snapshot;
@@ -95,6 +96,7 @@ fn reseat<R>(tags: &Map<R>, rest: &mut Seat<R, View<R>>, caller: &mut Caller<R>,
 {
     caller.seat = tags.table.shared.split_seat::<HandOut>(rest);
     caller.layout = tags.shape.layout;
+    caller.states = first_state(caller.layout);
     caller.held = held;
     caller.shape = Snapshot::of(&tags.shape);
 }

@@ -10,7 +10,6 @@ use crate::map::{Map, MapRule};
 use crate::plays::{Fronting, Ordering};
 use crate::record::View;
 use crate::shape::Shape;
-use crate::spots::state_spot;
 use atomic_table::{Seat, Shared};
 
 impl<R> Map<R> {
@@ -25,7 +24,7 @@ impl<R> Map<R> {
         ensures others { (other : ℕ) → Holds caller.old other → other ≢ tag → slot_of caller.new other ≡ slot_of caller.old other }
         ensures unchanged { (record_of caller.new ≡ record_of caller.old) × SameMap caller.old caller.new }
     {
-        let spot = state_spot(caller.layout, tag);
+        let spot = caller.state_spot(tag);
         let table = &self.table.shared;
         table.load::<Fronting>(&mut caller.seat, spot);
         let old = table.exchange(&mut caller.seat, tag as usize, new);
@@ -57,7 +56,7 @@ impl<R: Copy> Map<R> {
         ensures kept { KeepsAll caller.old caller.new }
         ensures unchanged { (record_of caller.new ≡ record_of caller.old) × SameMap caller.old caller.new }
     {
-        let spot = state_spot(caller.layout, tag);
+        let spot = caller.state_spot(tag);
         let table = &self.table.shared;
         table.load::<Fronting>(&mut caller.seat, spot);
         let value = front_value(table, &mut caller.seat, tag as usize);

@@ -2,6 +2,7 @@
 ghost use Rattle.std.specs.Prelude.{◌≡◌, ◌<◌};
 ghost use Rattle.tag_core.specs.Spacing.{word_at, aside_at, state_at, table_width};
 
+use crate::caller::Caller;
 use tag_layout::Layout;
 
 /// Words of the table, of 8 bytes each, from one to the next that is used: 64 bytes.
@@ -30,6 +31,23 @@ pub(crate) fn state_spot(layout: Layout, tag: u32) -> usize
     ensures { result ≡ state_at layout tag }
 {
     STRIDE * (2 * layout.words() as usize + tag as usize + 1)
+}
+
+/// The place of the first tag's state.
+pub(crate) fn first_state(layout: Layout) -> u32
+    ensures { result ≡ state_at layout 0 }
+{
+    (STRIDE * (2 * layout.words() as usize + 1)) as u32
+}
+
+impl<R> Caller<R> {
+    /// The place of a tag's state.
+    pub(crate) fn state_spot(&self, tag: u32) -> usize
+        requires { tag < self.now.layout.depth }
+        ensures { result ≡ state_at self.now.layout tag }
+    {
+        self.states as usize + STRIDE * tag as usize
+    }
 }
 
 /// Words of the table in all.

@@ -76,6 +76,7 @@ impl<R> Map<R> {
         let Caller {
             mut seat,
             layout,
+            states: _,
             number,
             life,
             held: masks,

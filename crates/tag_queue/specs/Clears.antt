@@ -38,6 +38,13 @@ pub record FindsNobody {R : Type 0} (old new : Agent R) (woken : ℕ) : Type 0 w
   pub looks : group_steps new ≡ Look active_at 0 ∷ group_steps old
   pub none : woken ≡ 0
 
+-- a lawful charge of n, and what follows it
+pub record ChargesNow {R : Type 0} (queue : Queue R) (n : ℕ) (old new : Agent R) (woken : ℕ) : Type 0 where
+  pub charge : Charge
+  pub lawful : IsCharge (cap_of queue) (batch_of queue) n (book_steps old) (book_steps new) charge
+  pub follows : Follows (batch_of queue) charge (group_steps old) (group_steps new) woken
+  pub stands : StandsAsBefore (waiter_of old) (waiter_of new)
+
 -- some agent is found active: there is a lawful charge of n, and what follows it
 pub record Charges {R : Type 0} (queue : Queue R) (n : ℕ) (old new : Agent R) (woken : ℕ) : Type 0 where
   pub active : ℕ

@@ -3,7 +3,7 @@ ghost use Rattle.std.specs.Prelude.{◌≡◌, ℕ, ◌+◌, ◌<◌, ◌≤◌,
 ghost use Rattle.tag_core.specs.Callers.{record_of};
 ghost use Rattle.wake_book.specs.Book.{counted_by};
 ghost use Rattle.tag_queue.specs.Agents.{layout_of, IsAgentOf, Holds, step_count, caller_of, teller_of, hint_of, SameCounts};
-ghost use Rattle.tag_queue.specs.Clears.{Puts, Counts};
+ghost use Rattle.tag_queue.specs.Clears.{Puts, Counts, ChargesNow};
 
 use crate::agent::Agent;
 use crate::fault::TagFault;
@@ -20,6 +20,7 @@ const NOBODY: Walked = Walked {
 impl<R: Copy> Queue<R> {
     /// Clears a held tag, counts it if any agent waits, and returns how many waiters it woke. As in
     /// `sbitmap_queue_clear` (lib/sbitmap.c) the tag is only set aside: the next sweep of its word frees it.
+    #[inline]
     pub fn clear(&self, agent: &mut Agent<R>, tag: u32) -> Result<u32, TagFault>
         requires agent { IsAgentOf self.now agent.old }
         ensures agent { IsAgentOf self.now agent.new }
@@ -37,6 +38,7 @@ impl<R: Copy> Queue<R> {
     }
 
     /// Like `clear`, but counts nothing and wakes nobody.
+    #[inline(never)]
     pub fn clear_uncounted(&self, agent: &mut Agent<R>, tag: u32) -> Result<(), TagFault>
         requires agent { IsAgentOf self.now agent.old }
         ensures agent { IsAgentOf self.now agent.new }
@@ -54,6 +56,7 @@ impl<R: Copy> Queue<R> {
     }
 
     /// Checks that the number is a tag's and that the agent holds that tag.
+    #[inline]
     pub(crate) fn find_held(&self, agent: &Agent<R>, tag: u32) -> Result<(), TagFault>
         requires agent { IsAgentOf self.now agent.now }
         ensures held { IsOk result ↔ Holds agent.now tag }
@@ -70,6 +73,7 @@ impl<R: Copy> Queue<R> {
     }
 
     /// Sets a held tag aside, and moves the hint to it, unless it is round robin.
+    #[inline]
     pub(crate) fn put(&self, agent: &mut Agent<R>, tag: u32)
         requires agent { IsAgentOf self.now agent.old }
         requires held { Holds agent.old tag }
@@ -84,6 +88,7 @@ impl<R: Copy> Queue<R> {
     }
 
     /// Counts `n` tags given back if anybody is active, and grants up to a batch of wakeups if it charged one.
+    #[inline]
     pub(crate) fn complete(&self, agent: &mut Agent<R>, n: u32) -> Walked
         requires agent { IsAgentOf self.now agent.old }
         requires within { (1 ≤ n) × (n ≤ 64) }
@@ -96,6 +101,21 @@ impl<R: Copy> Queue<R> {
         if self.groups.active(&mut agent.waiter) == 0 {
             return NOBODY;
         }
+        self.charge(agent, n)
+    }
+
+    /// Counts tags that came back, and grants up to a batch of wakeups if it charged one. It is out of line, so that a
+    /// clear is short where nobody waits.
+    #[inline(never)]
+    fn charge(&self, agent: &mut Agent<R>, n: u32) -> Walked
+        requires agent { IsAgentOf self.now agent.old }
+        requires within { (1 ≤ n) × (n ≤ 64) }
+        requires came_back { counted_by (teller_of agent.old) + n ≤ (record_of (caller_of agent.old)).back }
+        ensures agent { IsAgentOf self.now agent.new }
+        ensures charges { ChargesNow self.now n agent.old agent.new result.woken }
+        ensures others { (caller_of agent.new ≡ caller_of agent.old) × (hint_of agent.new ≡ hint_of agent.old) }
+        ensures bound { step_count agent.new ≤ 116 + step_count agent.old }
+    {
         match self.book.count(&mut agent.teller, n) {
             Charge::Won(_) => self.groups.walk(&mut agent.waiter, self.batch),
             _ => NOBODY,
@@ -103,6 +123,7 @@ impl<R: Copy> Queue<R> {
     }
 
     /// Wakes the sleepers in the groups of a walk, and returns how many waiters the walk granted a wakeup.
+    #[inline]
     pub(crate) fn ring(&self, walked: Walked) -> u32
         ensures { result ≡ walked.woken }
     {

@@ -10,6 +10,7 @@ use crate::queue::Queue;
 
 impl<R: Copy> Queue<R> {
     /// Returns the value in the slot of a held tag.
+    #[inline]
     pub fn read(&self, agent: &mut Agent<R>, tag: u32) -> Result<R, TagFault>
         requires agent { IsAgentOf self.now agent.old }
         ensures agent { IsAgentOf self.now agent.new }
@@ -25,6 +26,7 @@ impl<R: Copy> Queue<R> {
     }
 
     /// Writes the slot of a held tag, and returns its former value.
+    #[inline]
     pub fn write(&self, agent: &mut Agent<R>, tag: u32, value: R) -> Result<R, TagFault>
         requires agent { IsAgentOf self.now agent.old }
         ensures agent { IsAgentOf self.now agent.new }

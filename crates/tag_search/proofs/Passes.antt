@@ -7,21 +7,22 @@ use Rattle.std.proofs.lemmas.List.{append_assoc, length-append}
 use Rattle.std.proofs.lemmas.List.Elements.{All-head, All-tail}
 use Rattle.tag_core.specs.declared.word_step.WordStep.{WordStep}
 use Rattle.tag_core.specs.declared.word_step.WordStep.TheVariants.{Claimed}
-use Rattle.tag_search.specs.Search.{IsFirstInRank, IsTries, IsPass, loses}
+use Rattle.tag_search.specs.Search.{IsFirstInRank, IsTries, loses}
 
--- these steps, followed by tries of the places left, are a pass over the rank
-abbrev pub IsPassBegun : ℕ → List ℕ → List ℕ → ℕ → List WordStep → Type 0
-IsPassBegun i rank left found steps = (tries : List WordStep) (answer : Option ℕ) → IsTries i left found tries answer
-    → IsPass i rank (steps ++ tries) answer
+-- these steps, followed by tries of the places left, are tries of the rank
+abbrev pub AreTriesBegun : ℕ → List ℕ → List ℕ → ℕ → ℕ → List WordStep → Type 0
+AreTriesBegun i rank left first found steps = (tries : List WordStep) (answer : Option ℕ)
+    → IsTries i left found tries answer
+    → IsTries i rank first (steps ++ tries) answer
 
--- after a lost claim the pass goes on with the places after it
-pub begun_further : (i : ℕ) (rank left behind : List ℕ) (found next place : ℕ) (steps : List WordStep)
-    → IsPassBegun i rank left found steps
+-- after a lost claim the tries go on with the places after it
+pub begun_further : (i : ℕ) (rank left behind : List ℕ) (first found next place : ℕ) (steps : List WordStep)
+    → AreTriesBegun i rank left first found steps
     → IsFirstInRank found left place behind → bit_at next place ≡ 1
-    → IsPassBegun i rank behind next (steps ++ Claimed i (2 ^ place) next ∷ [])
-begun_further i rank left behind found next place steps begun first taken tries answer rest =
-    subst (λ xs. IsPass i rank xs answer) (sym (append_assoc steps (Claimed i (2 ^ place) next ∷ []) tries))
-    (begun (Claimed i (2 ^ place) next ∷ tries) answer (loses first taken rest))
+    → AreTriesBegun i rank behind first next (steps ++ Claimed i (2 ^ place) next ∷ [])
+begun_further i rank left behind first found next place steps begun is taken tries answer rest =
+    subst (λ xs. IsTries i rank first xs answer) (sym (append_assoc steps (Claimed i (2 ^ place) next ∷ []) tries))
+    (begun (Claimed i (2 ^ place) next ∷ tries) answer (loses is taken rest))
 
 -- a fact of each element holds of one in the middle, and of those after it
 pub all_behind : {X : Type 0} (P : X → Type 0) (xs : List X) (y : X) (ys : List X) → All P (xs ++ y ∷ ys) → P y

@@ -30,11 +30,20 @@ impl Hint {
         requires { IfSome answer (λ tag. tag < depth) }
         ensures { self.new ≡ record self.old { at = hint_after_get depth self.old.round_robin from answer } }
     {
-        self.at = match answer {
+        self.at = self.after_get(depth, from, answer);
+    }
+
+    /// Where the hint goes after a search that began at `from`.
+    #[inline]
+    pub(crate) fn after_get(self, depth: u32, from: u32, answer: Option<u32>) -> u32
+        requires { IfSome answer (λ tag. tag < depth) }
+        ensures { result ≡ hint_after_get depth self.round_robin from answer }
+    {
+        match answer {
             None => 0,
             Some(tag) if tag == from || self.round_robin => next_hint(depth, tag),
             Some(_) => from,
-        };
+        }
     }
 }
 

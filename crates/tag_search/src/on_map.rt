@@ -23,7 +23,7 @@ use tag_core::{Caller, Map, Spent};
 
 /// Takes a free tag for the caller. `None` means that each place tried was found taken at some moment of the call, not
 /// that all were taken at one moment. `Spent` if the caller's life has no room for one more tag.
-#[inline]
+#[inline(always)]
 pub fn get<R>(map: &Map<R>, caller: &mut Caller<R>, hint: &mut Hint) -> Result<Option<u32>, Spent>
     requires caller { IsCallerOf map.now caller.old }
     ensures caller { IsCallerOf map.now caller.new }

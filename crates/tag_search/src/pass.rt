@@ -1,10 +1,11 @@
 //! Passes over the places of one word, and visits of a word.
-ghost use Rattle.std.specs.Prelude.{◌≡◌, ℕ, ◌<◌, ◌^◌, [], ◌∷◌, All, IfSome, IfNone, IfOk, IfErr};
+ghost use Rattle.std.specs.Prelude.{◌≡◌, ℕ, ◌<◌, ◌≤◌, ◌^◌, [], ◌∷◌, ◌++◌, All, IfSome, IfNone, IfOk, IfErr};
 ghost use Rattle.std.specs.Int.{bit_at};
 ghost use Rattle.tag_core.specs.declared.word_step.WordStep.TheVariants.{Claimed};
 ghost use Rattle.tag_layout.specs.Layout.{words, word_depth};
-ghost use Rattle.tag_search.specs.Search.{IsPass, IsRetry, IsVisit};
+ghost use Rattle.tag_search.specs.Search.{IsTries, IsPass, IsRetry, IsVisit};
 ghost use Rattle.tag_search.specs.Added.{Adds, SameRoom};
+ghost use Rattle.tag_search.specs.Order.{numbers};
 ghost use Rattle.tag_search.specs.Places.{places_of};
 
 use crate::port::Port;
@@ -49,8 +50,40 @@ pub fn pass<P: Port>(port: &mut P, word: u32, rank: Rank) -> Option<u32>
     ensures place { IfSome result (λ place. place < word_depth (P.sizes port.old) word) }
     ensures pass { Adds P.adds port.old port.new (λ steps. IsPass word (places_of rank) steps result) }
 {
-    let mut found = port.look(word);
+    let found = port.look(word);
     let mut left = rank;
+    let Some(place) = left.next(found) else {
+        return None;
+    };
+    match claim_place(port, word, place) {
+        Ok(()) => Some(place),
+        Err(next) => pass_on(port, word, left.from, left.limit, left.then, next),
+    }
+}
+
+/// Goes on after a lost claim, which found these bits in the word, with the places `from .. limit` and `0 .. then`.
+#[inline(never)]
+fn pass_on<P: Port>(
+    port: &mut P,
+    word: u32,
+    from: u32,
+    limit: u32,
+    then: u32,
+    lost: u64,
+) -> Option<u32>
+    requires port { P.ready port.old }
+    requires word { word < words (P.sizes port.old) }
+    requires room { P.has_room port.old 1 }
+    requires ends { (limit ≤ 64) × (then ≤ 64) }
+    requires places { All (λ place. place < word_depth (P.sizes port.old) word) (numbers from limit ++ numbers 0 then) }
+    ensures port { P.ready port.new }
+    ensures sizes { P.sizes port.new ≡ P.sizes port.old }
+    ensures room { IfNone result (SameRoom P.has_room port.old port.new) }
+    ensures place { IfSome result (λ place. place < word_depth (P.sizes port.old) word) }
+    ensures tries { Adds P.adds port.old port.new (λ steps. IsTries word (numbers from limit ++ numbers 0 then) lost steps result) }
+{
+    let mut found = lost;
+    let mut left = Rank { from, limit, then };
     while let Some(place) = left.next(found) {
         match claim_place(port, word, place) {
             Ok(()) => return Some(place),

@@ -19,6 +19,7 @@ use tag_layout::Layout;
 
 /// Takes a free tag for the caller. `None` means that each place tried was found taken at some moment of the call, not
 /// that all were taken at one moment. `Spent` if the port has no room for one more tag.
+#[inline(always)]
 pub fn get<P: Port>(port: &mut P, hint: &mut Hint) -> Result<Option<u32>, Spent>
     requires port { P.ready port.old }
     ensures port { P.ready port.new }
@@ -36,14 +37,53 @@ pub fn get<P: Port>(port: &mut P, hint: &mut Hint) -> Result<Option<u32>, Spent>
         return Err(Spent);
     }
     let layout = port.layout();
-    let from = hint.reduced(layout.depth());
-    let answer = search_plain(port, layout, hint.round_robin, from);
-    hint.follow(layout.depth(), from, answer);
-    Ok(answer)
+    if hint.at < layout.depth() && !hint.round_robin {
+        Ok(get_from(port, hint, layout))
+    } else {
+        Ok(get_aside(port, hint, layout))
+    }
+}
+
+/// The search of a get, and the move of its hint.
+#[inline(always)]
+fn get_from<P: Port>(port: &mut P, hint: &mut Hint, layout: Layout) -> Option<u32>
+    requires port { P.ready port.old }
+    requires layout { P.sizes port.old ≡ layout }
+    requires room { P.has_room port.old 1 }
+    ensures port { P.ready port.new }
+    ensures sizes { P.sizes port.new ≡ P.sizes port.old }
+    ensures tag { IfSome result (λ tag. tag < (P.sizes port.old).depth) }
+    ensures steps { let l = P.sizes port.old in
+        let from = reduced l.depth hint.old.at in
+        Adds P.adds port.old port.new (IsGet l (plain_visits l hint.old.round_robin from) result) }
+    ensures hint { HintFollows (P.sizes port.old).depth hint.old hint.new result }
+{
+    let before = *hint;
+    let from = before.reduced(layout.depth());
+    let answer = search_plain(port, layout, before.round_robin, from);
+    hint.at = before.after_get(layout.depth(), from, answer);
+    answer
+}
+
+/// The same out of line, for what a usual get need not test: round robin, and a hint past the depth.
+#[inline(never)]
+fn get_aside<P: Port>(port: &mut P, hint: &mut Hint, layout: Layout) -> Option<u32>
+    requires port { P.ready port.old }
+    requires layout { P.sizes port.old ≡ layout }
+    requires room { P.has_room port.old 1 }
+    ensures port { P.ready port.new }
+    ensures sizes { P.sizes port.new ≡ P.sizes port.old }
+    ensures tag { IfSome result (λ tag. tag < (P.sizes port.old).depth) }
+    ensures steps { let l = P.sizes port.old in
+        let from = reduced l.depth hint.old.at in
+        Adds P.adds port.old port.new (IsGet l (plain_visits l hint.old.round_robin from) result) }
+    ensures hint { HintFollows (P.sizes port.old).depth hint.old hint.new result }
+{
+    get_from(port, hint, layout)
 }
 
 /// Searches from a hint below the depth, or 0 if there are no tags.
-#[inline]
+#[inline(always)]
 fn search_plain<P: Port>(port: &mut P, layout: Layout, round_robin: bool, from: u32) -> Option<u32>
     requires port { P.ready port.old }
     requires layout { P.sizes port.old ≡ layout }

@@ -25,7 +25,7 @@ fn whole(layout: Layout, word: u32) -> Rank
 }
 
 /// Visits all words in cyclic order from `first`, until a visit wins a tag. Only the first visit is inlined.
-#[inline]
+#[inline(always)]
 pub fn search_whole<P: Port>(port: &mut P, layout: Layout, first: u32) -> Option<u32>
     requires port { P.ready port.old }
     requires layout { P.sizes port.old ≡ layout }
@@ -44,7 +44,7 @@ pub fn search_whole<P: Port>(port: &mut P, layout: Layout, first: u32) -> Option
 }
 
 /// Continues the search after a pass over the first word that won nothing.
-#[inline]
+#[inline(never)]
 fn search_on<P: Port>(port: &mut P, layout: Layout, first: u32) -> Option<u32>
     requires port { P.ready port.old }
     requires layout { P.sizes port.old ≡ layout }

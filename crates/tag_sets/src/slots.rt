@@ -11,6 +11,7 @@ use tag_queue::TagFault;
 
 impl<R: Copy> Tags<R> {
     /// Returns the value in the slot of a held tag.
+    #[inline]
     pub fn read(&self, hand: &mut Hand<R>, tag: u32) -> Result<R, TagFault>
         requires hand { IsHandOf self.now hand.old }
         ensures hand { IsHandOf self.now hand.new }
@@ -29,6 +30,7 @@ impl<R: Copy> Tags<R> {
     }
 
     /// Writes the slot of a held tag, and returns its former value.
+    #[inline]
     pub fn write(&self, hand: &mut Hand<R>, tag: u32, value: R) -> Result<R, TagFault>
         requires hand { IsHandOf self.now hand.old }
         ensures hand { IsHandOf self.now hand.new }

@@ -79,6 +79,7 @@ impl Groups {
     }
 
     /// Wakes the sleepers of the groups whose bits are 1 in `groups`. No clause mentions sleepers.
+    #[inline(never)]
     pub fn ring(&self, groups: u32) {
         for group in 0..GROUPS {
             if groups >> group & 1 == 1 {

@@ -46,7 +46,11 @@ invariant_of-caller g c =
       steps = [];
     }) in let alone_is = ap (λ x. x.0) c.split_seat.ensures.4 ∙ ap first_view is ∙ ap alone fresh_is in
     let of = c.of.ensures in record {
-      told = (ap (λ (z : Shape). z.layout) (sym of), c.requires.life ∙ ap (λ (z : Shape). z.life) (sym of));
+      told = (
+        ap (λ (z : Shape). z.layout) (sym of),
+        c.requires.life ∙ ap (λ (z : Shape). z.life) (sym of),
+        c.first_state-caller.ensures,
+      );
       knows = alone_is ∙ (λ j. alone
           (record {
             shape = sym of j;

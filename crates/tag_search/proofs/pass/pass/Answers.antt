@@ -1,79 +1,56 @@
--- A lost claim adds its step, and the pass goes on with the places after it, in the word that the claim found.
-use Rattle.std.proofs.Common.{◌^◌, ◌<◌, List, [], ◌∷◌, ◌++◌, Some, None, ◌∙◌, subst}
-use Rattle.std.proofs.lemmas.List.{append-nil}
-use Rattle.tag_core.specs.declared.word_step.WordStep.{WordStep}
+-- The first claim follows what the load found, and after a lost one the tries go on with the places after it.
+use Rattle.std.proofs.Common.{◌^◌, ◌<◌, [], ◌∷◌}
 use Rattle.tag_core.specs.declared.word_step.WordStep.TheVariants.{Look, Claimed}
 use Rattle.tag_layout.specs.Layout.{word_depth}
-use Rattle.tag_search.specs.Search.{IsPass, pass, none_left, wins}
-use Rattle.tag_search.specs.Places.{places_of}
-use Rattle.tag_search.proofs.Joined.{same_room_joined}
-use Rattle.tag_search.proofs.Passes.{begun_further, all_left}
+use Rattle.tag_search.specs.Search.{pass, none_left, wins, loses}
+use Rattle.tag_search.proofs.Passes.{all_left}
 use Rattle.tag_search.proofs.pass.pass.Goals as goal
 
-pub loop-place-init : goal.loop-place-init
-loop-place-init g c = record {
-  port = c.look-found.ensures.port;
-  sizes = c.look-found.ensures.sizes;
-  room = c.look-found.ensures.room;
-  places = c.requires.places;
-  begun = record {
-    steps = Look c.args.word c.look-found.result ∷ [];
-    added = c.look-found.ensures.step;
-    holds = λ tries answer rest. pass rest;
-  };
+pub returns-in_default-clause-pass : goal.returns-in_default-clause-pass
+returns-in_default-clause-pass g c = record {
+  steps = Look c.args.word c.look-found.result ∷ [];
+  added = c.look-found.ensures.step;
+  holds = pass (none_left c.in_default.ensures.next);
 }
 
 pub claim_place-requires-clause-place : goal.claim_place-requires-clause-place
 claim_place-requires-clause-place g c =
-    rw c.loop-place.invariant.sizes (all_left (λ place. place < word_depth (g.P.Port.sizes c.args.port.now) c.args.word)
-    c.loop-place.found _ _ c.in-Some.place c.in-Some.ensures.next c.loop-place.invariant.places).0
+    rw c.look-found.ensures.sizes (all_left (λ place. place < word_depth (g.P.Port.sizes c.args.port.now) c.args.word)
+    c.look-found.result _ _ c.in-Some.place c.in-Some.ensures.next c.requires.places).0
 
-pub claim_place-requires-clause-width : goal.claim_place-requires-clause-width
-claim_place-requires-clause-width g c = c.in-Some.ensures.within
+pub pass_on-requires-clause-places : goal.pass_on-requires-clause-places
+pass_on-requires-clause-places g c =
+    rw c.in-Err.ensures.sizes (rw c.look-found.ensures.sizes
+    (all_left (λ place. place < word_depth (g.P.Port.sizes c.args.port.now) c.args.word)
+    c.look-found.result _ _ c.in-Some.place c.in-Some.ensures.next c.requires.places).1)
 
 pub returns-in-Ok-clause-place : goal.returns-in-Ok-clause-place
 returns-in-Ok-clause-place g c =
-    (all_left (λ place. place < word_depth (g.P.Port.sizes c.args.port.now) c.args.word) c.loop-place.found _ _
-    c.in-Some.place c.in-Some.ensures.next c.loop-place.invariant.places).0
+    (all_left (λ place. place < word_depth (g.P.Port.sizes c.args.port.now) c.args.word) c.look-found.result _ _
+    c.in-Some.place c.in-Some.ensures.next c.requires.places).0
 
 pub returns-in-Ok-clause-pass : goal.returns-in-Ok-clause-pass
 returns-in-Ok-clause-pass g c =
-    let claim = c.in-Ok.ensures.won in let begun = c.loop-place.invariant.begun in
+    let claim = c.in-Ok.ensures.won in
+    let look = Look c.args.word c.look-found.result in
     let step = Claimed c.args.word (2 ^ c.in-Some.place) claim.0 in
     record {
-      steps = begun.steps ++ step ∷ [];
-      added = g.met.P.Port.adds_more c.args.port.now c.loop-place.port c.claim_place.new.port begun.steps
-          (step ∷ []) begun.added claim.2;
-      holds = begun.holds (step ∷ []) (Some c.in-Some.place) (wins c.in-Some.ensures.next claim.1);
+      steps = look ∷ step ∷ [];
+      added = g.met.P.Port.adds_more c.args.port.now c.look-found.new.self c.claim_place.new.port (look ∷ [])
+          (step ∷ []) c.look-found.ensures.step claim.2;
+      holds = pass (wins c.in-Some.ensures.next claim.1);
     }
 
-pub loop-place-preserved : goal.loop-place-preserved
-loop-place-preserved g c =
-    let claim = c.in-Err.ensures.lost in let begun = c.loop-place.invariant.begun in
+pub returns-in-Err-clause-pass : goal.returns-in-Err-clause-pass
+returns-in-Err-clause-pass g c =
+    let claim = c.in-Err.ensures.lost in let on = c.pass_on.ensures.tries in
+    let look = Look c.args.word c.look-found.result in
     let step = Claimed c.args.word (2 ^ c.in-Some.place) c.in-Err.next in
     record {
-      port = c.in-Err.ensures.port;
-      sizes = c.in-Err.ensures.sizes ∙ c.loop-place.invariant.sizes;
-      room = same_room_joined (λ p n. g.P.Port.has_room p n) c.args.port.now c.loop-place.port c.claim_place.new.port
-          c.loop-place.invariant.room claim.1;
-      places = (all_left (λ place. place < word_depth (g.P.Port.sizes c.args.port.now) c.args.word) c.loop-place.found _
-          _ c.in-Some.place c.in-Some.ensures.next c.loop-place.invariant.places).1;
-      begun = record {
-        steps = begun.steps ++ step ∷ [];
-        added = g.met.P.Port.adds_more c.args.port.now c.loop-place.port c.claim_place.new.port begun.steps
-            (step ∷ []) begun.added claim.2;
-        holds = begun_further c.args.word (places_of c.args.rank) (places_of c.loop-place.left)
-            (places_of c.next.new.self) c.loop-place.found c.in-Err.next c.in-Some.place begun.steps begun.holds
-            c.in-Some.ensures.next claim.0;
-      };
-    }
-
-pub returns-clause-pass : goal.returns-clause-pass
-returns-clause-pass g c =
-    let begun = c.loop-place.invariant.begun in
-    record {
-      steps = begun.steps;
-      added = begun.added;
-      holds = subst (λ (xs : List WordStep). IsPass c.args.word (places_of c.args.rank) xs None)
-          (append-nil begun.steps) (begun.holds [] None (none_left c.in_default.ensures.next));
+      steps = look ∷ step ∷ on.steps;
+      added = g.met.P.Port.adds_more c.args.port.now c.claim_place.new.port c.pass_on.new.port (look ∷ step ∷ [])
+          on.steps
+          (g.met.P.Port.adds_more c.args.port.now c.look-found.new.self c.claim_place.new.port (look ∷ [])
+          (step ∷ []) c.look-found.ensures.step claim.2) on.added;
+      holds = pass (loses c.in-Some.ensures.next claim.0 on.holds);
     }

@@ -18,8 +18,8 @@ pub store-requires : goal.store-requires
 store-requires g c =
     let m = c.args.self.now in let w = c.args.caller.now in let k = w.shape.value in let own = c.requires.caller in
     let u : ℕ = c.args.tag in let has = c.requires.held in let val = slot_held w u has in
-    let a = asked m w own w.seat.id w.seat.me (state_at k.layout u) c.state_spot.result (λ _. 1) 1 0
-    (λ st me n. posted st me 1) (c.state_spot.ensures ∙ ap (λ (z : Layout). state_at z u) w.told.0)
+    let a = asked m w own w.seat.id w.seat.me (state_at k.layout u) c.state_spot-state.result (λ _. 1) 1 0
+    (λ st me n. posted st me 1) (c.state_spot-state.ensures ∙ ap (λ (z : Layout). state_at z u) w.told.0)
     (state_in k.layout u has.0) (post_allowed g.row.R.Denot k (narrow m w own) w.seat.id w.seat.me (record_of w)
     w.knows w.carries u val.0 has.0 has.1 val.1) in
     (own.0, a.0, a.1)
@@ -27,7 +27,7 @@ store-requires g c =
 pub invariant_of-caller : goal.invariant_of-caller
 invariant_of-caller g c =
     let w = c.args.caller.now in let u : ℕ = c.args.tag in let val = slot_held w u c.requires.held in
-    let did = c.store.ensures.2 u val.0 (record_of w) (c.state_spot.ensures
+    let did = c.store.ensures.2 u val.0 (record_of w) (c.state_spot-state.ensures
     ∙ ap (λ (z : Layout). state_at z u) w.told.0) val.1 w.knows in
     let mask = marked w u _ _ c.word_of-word.ensures.value c.place_of.ensures.value c.place_of.ensures.bound
     without c.index.result.now c.requires.held.0 c.index.ensures in
@@ -44,7 +44,7 @@ invariant_of-caller g c =
 pub returns-clause-step : goal.returns-clause-step
 returns-clause-step g c =
     let w = c.args.caller.now in let u : ℕ = c.args.tag in let val = slot_held w u c.requires.held in
-    let did = c.store.ensures.2 u val.0 (record_of w) (c.state_spot.ensures
+    let did = c.store.ensures.2 u val.0 (record_of w) (c.state_spot-state.ensures
     ∙ ap (λ (z : Layout). state_at z u) w.told.0) val.1 w.knows in
     let mask = marked w u _ _ c.word_of-word.ensures.value c.place_of.ensures.value c.place_of.ensures.bound
     without c.index.result.now c.requires.held.0 c.index.ensures in

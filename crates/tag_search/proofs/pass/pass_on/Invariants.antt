@@ -1,11 +1,12 @@
 -- So far every claim was lost, and tries of the places left complete the pass. Each round leaves fewer places.
-use Rattle.std.proofs.Common.{◌≡◌, ◌<◌, length}
+use Rattle.std.proofs.Common.{◌≡◌, ◌<◌, ◌++◌, length}
 use Rattle.std.specs.Prelude.{All}
 use Rattle.tag_layout.specs.Layout.{word_depth}
 use Rattle.tag_search.specs.Added.{Adds, SameRoom}
+use Rattle.tag_search.specs.Order.{numbers}
 use Rattle.tag_search.specs.Places.{places_of}
-use Rattle.tag_search.proofs.Passes.{IsPassBegun}
-use Rattle.tag_search.proofs.pass.pass.Given as goal
+use Rattle.tag_search.proofs.Passes.{AreTriesBegun}
+use Rattle.tag_search.proofs.pass.pass_on.Given as goal
 
 abbrev pub invariant-loop-place : goal.invariant-loop-place
 invariant-loop-place g l = record {
@@ -14,7 +15,7 @@ invariant-loop-place g l = record {
   room : SameRoom (λ p n. g.P.Port.has_room p n) l.fn.port l.port;
   places : All (λ place. place < word_depth (g.P.Port.sizes l.fn.port) l.word) (places_of l.left);
   begun : Adds (λ p steps q. g.P.Port.adds p steps q) l.fn.port l.port
-      (IsPassBegun l.word (places_of l.fn.rank) (places_of l.left) l.found);
+      (AreTriesBegun l.word (numbers l.fn.from l.fn.limit ++ numbers 0 l.fn.then) (places_of l.left) l.fn.lost l.found);
 }
 
 abbrev pub decreases-loop-place : goal.decreases-loop-place

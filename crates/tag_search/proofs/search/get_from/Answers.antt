@@ -1,5 +1,5 @@
 -- The plain search makes the visits of the get, and as its limits are within the words, its steps are bounded.
-use Rattle.std.proofs.Common.{◌≡◌, ℕ, ◌≤◌, ap, ◌∙◌, subst}
+use Rattle.std.proofs.Common.{◌≡◌, ℕ, ◌≤◌, sym, ap, ◌∙◌, subst}
 use Rattle.tag_layout.specs.Layout.{Layout, words, word_of}
 use Rattle.tag_search.specs.Gets.{IsGet}
 use Rattle.tag_search.specs.Hints.{reduced}
@@ -7,13 +7,13 @@ use Rattle.tag_search.specs.Search.{IsSearch}
 use Rattle.tag_search.specs.Visits.{plain_reach, plain_visits}
 use Rattle.tag_search.proofs.GetFacts.{get_at, plain_within}
 use Rattle.tag_search.proofs.Joined.{adds_weaker}
-use Rattle.tag_search.proofs.search.get.Goals as goal
+use Rattle.tag_search.proofs.search.get_from.Goals as goal
 
 pub returns-clause-steps : goal.returns-clause-steps
 returns-clause-steps g c =
-    let l = g.P.Port.sizes c.args.port.now in let layout = c.layout-layout.result in
+    let l = g.P.Port.sizes c.args.port.now in let layout = c.args.layout in
     let answer = c.search_plain-answer.result in
-    let rr = c.args.hint.now.round_robin in let same : layout ≡ l = c.layout-layout.ensures.value in
+    let rr = c.args.hint.now.round_robin in let same : layout ≡ l = sym c.requires.layout in
     let hint : ℕ = reduced l.depth c.args.hint.now.at in let at : ℕ = c.reduced-from.result in
     let from : at ≡ hint = c.reduced-from.ensures
     ∙ ap (λ (d : ℕ). reduced d c.args.hint.now.at) (c.depth.ensures.value ∙ ap (λ (x : Layout). x.depth) same) in

@@ -1,0 +1,80 @@
+-- Each lost claim adds its step, and the tries go on behind it.
+use Rattle.std.proofs.Common.{◌^◌, ◌<◌, List, [], ◌∷◌, ◌++◌, Some, None, refl, ◌∙◌, subst}
+use Rattle.std.proofs.lemmas.List.{append-nil}
+use Rattle.tag_core.specs.declared.word_step.WordStep.{WordStep}
+use Rattle.tag_core.specs.declared.word_step.WordStep.TheVariants.{Claimed}
+use Rattle.tag_layout.specs.Layout.{word_depth}
+use Rattle.tag_search.specs.Search.{IsTries, none_left, wins}
+use Rattle.tag_search.specs.Order.{numbers}
+use Rattle.tag_search.specs.Places.{places_of}
+use Rattle.tag_search.proofs.Joined.{same_room_joined}
+use Rattle.tag_search.proofs.Passes.{begun_further, all_left}
+use Rattle.tag_search.proofs.pass.pass_on.Goals as goal
+
+pub loop-place-init : goal.loop-place-init
+loop-place-init g c = record {
+  port = c.requires.port;
+  sizes = refl;
+  room = λ n. (λ x. x, λ x. x);
+  places = c.requires.places;
+  begun = record {
+    steps = [];
+    added = g.met.P.Port.adds_none c.args.port.now;
+    holds = λ tries answer rest. rest;
+  };
+}
+
+pub claim_place-requires-clause-place : goal.claim_place-requires-clause-place
+claim_place-requires-clause-place g c =
+    rw c.loop-place.invariant.sizes (all_left (λ place. place < word_depth (g.P.Port.sizes c.args.port.now) c.args.word)
+    c.loop-place.found _ _ c.in-Some.place c.in-Some.ensures.next c.loop-place.invariant.places).0
+
+pub claim_place-requires-clause-width : goal.claim_place-requires-clause-width
+claim_place-requires-clause-width g c = c.in-Some.ensures.within
+
+pub returns-in-Ok-clause-place : goal.returns-in-Ok-clause-place
+returns-in-Ok-clause-place g c =
+    (all_left (λ place. place < word_depth (g.P.Port.sizes c.args.port.now) c.args.word) c.loop-place.found _ _
+    c.in-Some.place c.in-Some.ensures.next c.loop-place.invariant.places).0
+
+pub returns-in-Ok-clause-tries : goal.returns-in-Ok-clause-tries
+returns-in-Ok-clause-tries g c =
+    let claim = c.in-Ok.ensures.won in let begun = c.loop-place.invariant.begun in
+    let step = Claimed c.args.word (2 ^ c.in-Some.place) claim.0 in
+    record {
+      steps = begun.steps ++ step ∷ [];
+      added = g.met.P.Port.adds_more c.args.port.now c.loop-place.port c.claim_place.new.port begun.steps
+          (step ∷ []) begun.added claim.2;
+      holds = begun.holds (step ∷ []) (Some c.in-Some.place) (wins c.in-Some.ensures.next claim.1);
+    }
+
+pub loop-place-preserved : goal.loop-place-preserved
+loop-place-preserved g c =
+    let claim = c.in-Err.ensures.lost in let begun = c.loop-place.invariant.begun in
+    let step = Claimed c.args.word (2 ^ c.in-Some.place) c.in-Err.next in
+    record {
+      port = c.in-Err.ensures.port;
+      sizes = c.in-Err.ensures.sizes ∙ c.loop-place.invariant.sizes;
+      room = same_room_joined (λ p n. g.P.Port.has_room p n) c.args.port.now c.loop-place.port c.claim_place.new.port
+          c.loop-place.invariant.room claim.1;
+      places = (all_left (λ place. place < word_depth (g.P.Port.sizes c.args.port.now) c.args.word) c.loop-place.found _
+          _ c.in-Some.place c.in-Some.ensures.next c.loop-place.invariant.places).1;
+      begun = record {
+        steps = begun.steps ++ step ∷ [];
+        added = g.met.P.Port.adds_more c.args.port.now c.loop-place.port c.claim_place.new.port begun.steps
+            (step ∷ []) begun.added claim.2;
+        holds = begun_further c.args.word (numbers c.args.from c.args.limit ++ numbers 0 c.args.then) (places_of c.loop-place.left)
+            (places_of c.next.new.self) c.args.lost c.loop-place.found c.in-Err.next c.in-Some.place begun.steps
+            begun.holds c.in-Some.ensures.next claim.0;
+      };
+    }
+
+pub returns-clause-tries : goal.returns-clause-tries
+returns-clause-tries g c =
+    let begun = c.loop-place.invariant.begun in
+    record {
+      steps = begun.steps;
+      added = begun.added;
+      holds = subst (λ (xs : List WordStep). IsTries c.args.word (numbers c.args.from c.args.limit ++ numbers 0 c.args.then) c.args.lost xs None)
+          (append-nil begun.steps) (begun.holds [] None (none_left c.in_default.ensures.next));
+    }
