@@ -22,7 +22,7 @@ static const char *const sentences[] = {
 	[-TAGS_TOO_SMALL] = "the array has fewer bits than there are tags",
 	[-TAGS_BAD_FLAG] = "there is no such flag",
 	[-TAGS_NO_BERTH] = "there is no room for the hand",
-	[-TAGS_HAND_LOST] = "a hand was missing at the end",
+	[-TAGS_HAND_LOST] = "a hand of the pool is missing",
 	[-TAGS_NO_MEMORY] = "there is no memory",
 	[-TAGS_TOTAL_TOO_LARGE] = "more than 10,240 tags",
 	[-TAGS_RESERVED_TOO_LARGE] = "more reserved tags than tags",
@@ -31,13 +31,15 @@ static const char *const sentences[] = {
 	[-TAGS_LIFE_TOO_LONG] = "the life is above 2^48",
 	[-TAGS_CAP_TOO_LARGE] = "the cap is above 2^56",
 	[-TAGS_NULL] = "a pointer is NULL",
+	[-TAGS_IN_USE] = "tags are held or posted",
+	[-TAGS_HANDS_WAIT] = "hands stand in a wait group",
 };
 
 const char *tags_strerror(int32_t status)
 {
 	if (status >= 0)
 		return sentences[0];
-	if (status < TAGS_NULL)
+	if (status < TAGS_HANDS_WAIT)
 		return "there is no such status";
 	return sentences[-status];
 }

@@ -14,9 +14,9 @@
  *   A handle, a struct tags_pool or a struct tags_hand, may be in one call at a
  *   time. It may be passed to another thread, synchronized as by a mutex or by
  *   pthread_join(). Handles of one pool may be in calls at once, on any threads.
- *   Only tags_get_blocking() blocks, and only tags_open() and tags_join() take
- *   memory. No call may be made from a signal handler, or in the forked child of
- *   a process with threads.
+ *   Only tags_get_blocking() blocks, and only tags_open(), tags_join() and
+ *   tags_resize() take memory. No call may be made from a signal handler, or in
+ *   the forked child of a process with threads.
  *
  * Arguments
  *   Each pointer must be NULL or point to an object of its type that overlaps no
@@ -92,7 +92,7 @@ enum tags_status {
 	TAGS_BAD_FLAG = -18,
 	/** the pool has no room for the hand that leaves; this is not expected */
 	TAGS_NO_BERTH = -19,
-	/** a hand was missing at the end, and there are no sums; it is not expected */
+	/** a hand was missing where all came together; it is not expected */
 	TAGS_HAND_LOST = -20,
 	/** out of memory */
 	TAGS_NO_MEMORY = -21,
@@ -109,7 +109,11 @@ enum tags_status {
 	/** a limit above 2^56 completions per hand; no call of this header sets one */
 	TAGS_CAP_TOO_LARGE = -27,
 	/** a pointer is NULL */
-	TAGS_NULL = -28
+	TAGS_NULL = -28,
+	/** tags of the pool are held or posted */
+	TAGS_IN_USE = -29,
+	/** hands of the pool stand in a wait group */
+	TAGS_HANDS_WAIT = -30
 };
 
 enum {
@@ -245,6 +249,7 @@ struct tags_sums {
 int32_t tags_library_open(struct tags_pool *pool, const struct tags_options *options);
 int32_t tags_library_join(struct tags_pool *pool, struct tags_hand *hand, uint32_t flags);
 int32_t tags_library_leave(struct tags_hand *hand);
+int32_t tags_library_resize(struct tags_pool *pool, uint32_t total);
 int32_t tags_library_close(struct tags_pool *pool, struct tags_sums *sums);
 int32_t tags_library_get(struct tags_hand *hand);
 int32_t tags_library_get_reserved(struct tags_hand *hand);
@@ -330,6 +335,35 @@ TAGS_CALL int32_t tags_leave(struct tags_hand *hand)
 	if (!hand)
 		return TAGS_NULL;
 	return tags_library_leave(hand);
+}
+
+/**
+ * tags_resize() - go on with another number of ordinary tags
+ * @pool: the pool, all of whose hands have left
+ * @total: tags in all from now on, at most TAGS_MAX_TOTAL
+ *
+ * The ordinary tags are new ones: they are free, and their slots are 0. The
+ * reserved tags, with their slots, the words' size, the hands with what they
+ * counted, and the options stay as they are, and so do the sums at the end,
+ * which are those over the whole life of the pool. Threads go on by joining
+ * again; a hand that has left keeps its place in the pool.
+ *
+ * Threads: it is a call on the pool's handle, so no thread joins meanwhile.
+ *
+ * Return: TAGS_OK. Otherwise the first of TAGS_BAD_HANDLE, TAGS_TOTAL_TOO_LARGE,
+ * TAGS_RESERVED_TOO_LARGE (@total is below the number of reserved tags),
+ * TAGS_HANDS_OUT, TAGS_IN_USE (a tag of either kind is held by a hand that left,
+ * or posted), TAGS_HANDS_WAIT (a hand left between tags_prepare() and
+ * tags_finish()) and TAGS_NO_MEMORY that applies, after which the pool is as it
+ * was.
+ *
+ * Since: 0.1
+ */
+TAGS_CHECKED int32_t tags_resize(struct tags_pool *pool, uint32_t total)
+{
+	if (!pool)
+		return TAGS_NULL;
+	return tags_library_resize(pool, total);
 }
 
 /**

@@ -414,6 +414,62 @@ static void try_wakes(void)
 		fail("wakes", "active", (int64_t)found.active, (int64_t)wanted.active);
 }
 
+/*
+ * Resizes
+ */
+
+static bool is_posted(const struct model *hand, uint32_t tag)
+{
+	const struct set *set = set_of(hand, tag);
+
+	return set->place[tag - set->first] == POSTED;
+}
+
+/* The hand ends its wait, and gives back what it holds and what is posted. */
+static void empty_hand(uint32_t at)
+{
+	uint32_t total = total_behind(at);
+
+	compare("finish", tags_finish(&handles[at].hand), model_finish(&models[at]));
+	for (uint32_t tag = 0; tag < total; tag++) {
+		if (is_posted(&models[at], tag))
+			compare("take", tags_take(&handles[at].hand, tag),
+				model_take(&models[at], tag));
+		if (model_holds(&models[at], tag) == 1)
+			compare("clear", tags_clear(&handles[at].hand, tag),
+				model_clear(&models[at], tag));
+	}
+}
+
+/* All hands for which there are handles are emptied, and leave. */
+static void gather_hands(uint32_t pool)
+{
+	for (uint32_t at = 0; at < HANDLES; at++)
+		if (!models[at].pool)
+			compare("join", tags_join(&handles[pool].pool, &handles[at].hand, TAGS_STAY),
+				model_join(&models[pool], &models[at], TAGS_STAY));
+	for (uint32_t at = 0; at < HANDLES; at++)
+		if (models[at].pool == models[pool].pool && is_hand(&models[at])) {
+			if (!seldom(30))
+				empty_hand(at);
+			if (!seldom(30))
+				compare("leave", tags_leave(&handles[at].hand),
+					model_leave(&models[at]));
+		}
+}
+
+static void try_resize(void)
+{
+	uint32_t at = seldom(20) ? any_handle() : pool_handle();
+	uint32_t total = seldom(20) ? odd_number() : any_total();
+
+	if (!seldom(40))
+		return;
+	if (models[at].pool && !is_hand(&models[at]) && !seldom(4))
+		gather_hands(at);
+	compare("resize", tags_resize(&handles[at].pool, total), model_resize(&models[at], total));
+}
+
 /* Each call, and its weight among the calls. */
 static const struct {
 	void (*make)(void);
@@ -425,12 +481,12 @@ static const struct {
 	{ try_clear_batch, 1 },	  { try_read, 1 },	   { try_write, 1 },
 	{ try_post, 1 },	  { try_take, 3 },	   { try_holds, 1 },
 	{ try_prepare, 1 },	  { try_finish, 1 },	   { try_busy, 1 },
-	{ try_show, 1 },	  { try_wakes, 1 },
+	{ try_show, 1 },	  { try_wakes, 1 },	   { try_resize, 1 },
 };
 
 static void try_any(void)
 {
-	uint32_t turn = below(30);
+	uint32_t turn = below(31);
 	size_t at = 0;
 
 	while (turn >= tries[at].turns)

@@ -1,6 +1,6 @@
 /*
- * Refuses each allocation in turn: the call reports it, its handle stays empty,
- * and no memory leaks. Built with --wrap for malloc, realloc and free.
+ * Refuses each allocation in turn: the call reports it, its handle stays as it
+ * was, and no memory leaks. Built with --wrap for malloc, realloc and free.
  */
 #include <stdio.h>
 #include <stdlib.h>
@@ -108,6 +108,41 @@ static void refuse_joins(struct tags_pool *pool)
 	check("the hand cannot leave", tags_leave(&hand) == TAGS_OK && kept == before);
 }
 
+static int32_t resize_refused(struct tags_pool *pool, uint32_t total, long number)
+{
+	int32_t status;
+
+	left = number;
+	status = tags_resize(pool, total);
+	left = -1;
+	return status;
+}
+
+static uint32_t ordinary_tags(struct tags_pool *pool)
+{
+	struct tags_hand hand = TAGS_EMPTY;
+	struct tags_sizes sizes = { 0 };
+
+	check("no hand can look", tags_join(pool, &hand, 0) == TAGS_OK);
+	check("a hand cannot look", tags_show(&hand, TAGS_ORDINARY, &sizes) == TAGS_OK);
+	check("the one who looked stays", tags_leave(&hand) == TAGS_OK);
+	return sizes.depth;
+}
+
+static void refuse_resizes(struct tags_pool *pool)
+{
+	long number = 1;
+	long before = kept;
+
+	while (resize_refused(pool, 300, number) == TAGS_NO_MEMORY) {
+		check("memory of a refused resize is kept", kept == before);
+		check("a refused resize changes the pool", ordinary_tags(pool) == 90);
+		number++;
+	}
+	check("a resize takes no memory", number > 1);
+	check("a resize keeps the old tags", kept == before && ordinary_tags(pool) == 290);
+}
+
 int main(void)
 {
 	struct tags_pool pool = TAGS_EMPTY;
@@ -119,6 +154,7 @@ int main(void)
 		number++;
 	}
 	check("a pool takes no memory", number > 10);
+	refuse_resizes(&pool);
 	refuse_joins(&pool);
 	fill(&pool);
 	check("the pool cannot be closed", tags_close(&pool, &sums) == TAGS_OK && sums.held == 1);

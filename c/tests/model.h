@@ -47,6 +47,8 @@ struct member {
 struct pool {
 	/* by enum tags_kind */
 	struct set set[2];
+	/* the least depth of a shallow get as it was asked for, and as it is */
+	uint32_t min_shallow;
 	uint32_t least;
 	uint32_t batch;
 	uint32_t hands;
@@ -105,6 +107,7 @@ static inline uint32_t words_of(const struct set *set)
 int32_t model_open(struct model *handle, const struct tags_options *options);
 int32_t model_join(struct model *handle, struct model *hand, uint32_t flags);
 int32_t model_leave(struct model *hand);
+int32_t model_resize(struct model *handle, uint32_t total);
 int32_t model_close(struct model *handle, struct tags_sums *sums);
 
 int32_t model_get(struct model *hand);

@@ -1,4 +1,4 @@
-/* The model of pools: how they are opened and closed, and how their hands join and leave. */
+/* The model of pools: how they are opened, resized and closed, and how their hands join and leave. */
 #include "model.h"
 
 #include <stdlib.h>
@@ -61,6 +61,7 @@ int32_t model_open(struct model *handle, const struct tags_options *options)
 		abort();
 	open_set(&pool->set[TAGS_ORDINARY], options->reserved, ordinary, options);
 	open_set(&pool->set[TAGS_RESERVED], 0, options->reserved, options);
+	pool->min_shallow = options->min_shallow;
 	pool->least = options->min_shallow ? options->min_shallow : 1;
 	pool->batch = batch_of(ordinary, options->min_shallow);
 	pool->hands = options->hands;
@@ -119,13 +120,53 @@ int32_t model_leave(struct model *hand)
 	return TAGS_OK;
 }
 
+static bool is_out(const struct pool *pool)
+{
+	for (uint32_t i = 0; i < pool->hands; i++)
+		if (pool->berth[i] == NOBODY)
+			return true;
+	return false;
+}
+
+/* Each place of the ordinary set begins anew; hints stay, and are reduced where a get begins. */
+static void renew(struct pool *pool, uint32_t depth)
+{
+	struct set *set = &pool->set[TAGS_ORDINARY];
+
+	set->depth = depth;
+	for (uint32_t at = 0; at < depth; at++) {
+		set->place[at] = FREE;
+		set->slot[at] = 0;
+	}
+	pool->batch = batch_of(depth, pool->min_shallow);
+}
+
+int32_t model_resize(struct model *handle, uint32_t total)
+{
+	struct pool *pool = handle->pool;
+
+	if (!is_pool(handle))
+		return TAGS_BAD_HANDLE;
+	if (total > TAGS_MAX_TOTAL)
+		return TAGS_TOTAL_TOO_LARGE;
+	if (total < pool->set[TAGS_RESERVED].depth)
+		return TAGS_RESERVED_TOO_LARGE;
+	if (is_out(pool))
+		return TAGS_HANDS_OUT;
+	if (pool->sums.held || pool->sums.posted)
+		return TAGS_IN_USE;
+	if (pool->counts.active)
+		return TAGS_HANDS_WAIT;
+	renew(pool, total - pool->set[TAGS_RESERVED].depth);
+	return TAGS_OK;
+}
+
 int32_t model_close(struct model *handle, struct tags_sums *sums)
 {
 	if (!is_pool(handle))
 		return TAGS_BAD_HANDLE;
-	for (uint32_t i = 0; i < handle->pool->hands; i++)
-		if (handle->pool->berth[i] == NOBODY)
-			return TAGS_HANDS_OUT;
+	if (is_out(handle->pool))
+		return TAGS_HANDS_OUT;
 	*sums = handle->pool->sums;
 	free(handle->pool);
 	handle->pool = NULL;

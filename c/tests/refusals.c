@@ -1,8 +1,8 @@
 /*
  * Provokes each refusal, checks its number, and that a refused call changes
- * nothing. Not here: TAGS_NO_MEMORY is in memory.c, TAGS_SPENT takes 2^48 gets,
- * TAGS_AGAIN needs other threads, and no call from C is known to return
- * TAGS_NO_BERTH, TAGS_HAND_LOST, TAGS_LIFE_TOO_LONG or TAGS_CAP_TOO_LARGE.
+ * nothing. TAGS_NO_MEMORY is in memory.c, and TAGS_AGAIN in threads.c. The README
+ * says why no caller sees the other five: TAGS_SPENT, TAGS_NO_BERTH,
+ * TAGS_HAND_LOST, TAGS_LIFE_TOO_LONG and TAGS_CAP_TOO_LARGE.
  */
 #include <stdio.h>
 #include <string.h>
@@ -53,6 +53,7 @@ static void refuse_null(struct tags_pool *pool, struct tags_hand *hand)
 	WANT(tags_join(NULL, hand, 0), -28);
 	WANT(tags_join(pool, NULL, 0), -28);
 	WANT(tags_leave(NULL), -28);
+	WANT(tags_resize(NULL, 12), -28);
 	WANT(tags_close(pool, NULL), -28);
 	WANT(tags_get(NULL), -28);
 	WANT(tags_get_reserved(NULL), -28);
@@ -152,6 +153,12 @@ static void refuse_handles(struct tags_pool *pool, struct tags_hand *hand)
 	WANT(tags_join(pool, as_hand(pool), 0), -13);
 	WANT(tags_join(pool, &idle, 2), -18);
 	WANT(tags_join(pool, &idle, 0), -14);
+	WANT(tags_resize(&none, 12), -12);
+	WANT(tags_resize(as_pool(hand), 12), -12);
+	WANT(tags_resize(pool, TAGS_MAX_TOTAL + 1), -22);
+	WANT(tags_resize(pool, UINT32_MAX), -22);
+	WANT(tags_resize(pool, 1), -23);
+	WANT(tags_resize(pool, 12), -15);
 	WANT(tags_close(&none, &sums), -12);
 	WANT(tags_close(as_pool(hand), &sums), -12);
 	WANT(tags_close(pool, &sums), -15);
@@ -283,13 +290,55 @@ static void part_two_pools(void)
 	WANT(sums.got == 1 && sums.held == 1, 1);
 }
 
+/* What a resize needs: no hand out, no tag in use, and no hand in a wait group. */
+static void refuse_resizes(void)
+{
+	struct tags_pool pool = TAGS_EMPTY;
+	struct tags_hand hand = TAGS_EMPTY;
+	struct tags_sizes sizes;
+	struct tags_sums sums;
+
+	WANT(tags_open(&pool, &twelve), 0);
+	WANT(tags_join(&pool, &hand, TAGS_STAY), 0);
+	WANT(tags_get_reserved(&hand), 0);
+	WANT(tags_prepare(&hand), 0);
+	WANT(tags_resize(&pool, 20), -15);
+	WANT(tags_leave(&hand), 0);
+	WANT(tags_resize(&pool, TAGS_MAX_TOTAL + 1), -22);
+	WANT(tags_resize(&pool, 20), -29);
+	WANT(tags_join(&pool, &hand, TAGS_STAY), 0);
+	WANT(tags_post(&hand, 0), 0);
+	WANT(tags_leave(&hand), 0);
+	WANT(tags_resize(&pool, 20), -29);
+	WANT(tags_join(&pool, &hand, TAGS_STAY), 0);
+	WANT(tags_take(&hand, 0), 0);
+	WANT(tags_clear(&hand, 0), 0);
+	WANT(tags_leave(&hand), 0);
+	WANT(tags_resize(&pool, 20), -30);
+	WANT(tags_join(&pool, &hand, TAGS_STAY), 0);
+	WANT(tags_show(&hand, TAGS_ORDINARY, &sizes), 0);
+	WANT(sizes.depth == 10, 1);
+	WANT(tags_finish(&hand), 0);
+	WANT(tags_leave(&hand), 0);
+	WANT(tags_resize(&pool, 2), 0);
+	WANT(tags_resize(&pool, 20), 0);
+	WANT(tags_join(&pool, &hand, TAGS_STAY), 0);
+	WANT(tags_show(&hand, TAGS_ORDINARY, &sizes), 0);
+	WANT(sizes.depth == 18 && sizes.bits_per_word == 4, 1);
+	WANT(tags_get(&hand), 2);
+	WANT(tags_clear(&hand, 2), 0);
+	WANT(tags_leave(&hand), 0);
+	WANT(tags_close(&pool, &sums), 0);
+	WANT(sums.got == 2 && sums.back == 2, 1);
+}
+
 static void name_statuses(void)
 {
-	for (int32_t status = TAGS_NULL; status < 0; status++)
+	for (int32_t status = TAGS_HANDS_WAIT; status < 0; status++)
 		for (int32_t other = status + 1; other <= 0; other++)
 			WANT(strcmp(tags_strerror(status), tags_strerror(other)) != 0, 1);
 	WANT(strcmp(tags_strerror(7), tags_strerror(TAGS_OK)), 0);
-	WANT(strcmp(tags_strerror(INT32_MIN), tags_strerror(TAGS_NULL - 1)), 0);
+	WANT(strcmp(tags_strerror(INT32_MIN), tags_strerror(TAGS_HANDS_WAIT - 1)), 0);
 }
 
 int main(void)
@@ -317,6 +366,7 @@ int main(void)
 	WANT(tags_close(&pool, &sums), -12);
 	refuse_kinds();
 	part_two_pools();
+	refuse_resizes();
 	name_statuses();
 	printf("%d answers, %d wrong\n", wanted, wrong);
 	return wrong != 0;

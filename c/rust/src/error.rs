@@ -41,12 +41,16 @@ pub enum Error {
     ShiftTooLarge,
     /// 0 hands, or more than 64.
     BadHandCount,
+    /// Tags of the pool are held or posted.
+    InUse,
+    /// Hands of the pool are in a wait group.
+    HandsWait,
     /// A status that no call of this crate should return.
     Unexpected(i32),
 }
 
 /// The status of each error in tags.h.
-const NUMBERS: [(Error, i32); 15] = [
+const NUMBERS: [(Error, i32); 17] = [
     (Error::NoSuchTag, -1),
     (Error::NoReserved, -2),
     (Error::NotPosted, -4),
@@ -62,6 +66,8 @@ const NUMBERS: [(Error, i32); 15] = [
     (Error::ReservedTooLarge, -23),
     (Error::ShiftTooLarge, -24),
     (Error::BadHandCount, -25),
+    (Error::InUse, -29),
+    (Error::HandsWait, -30),
 ];
 
 impl Error {

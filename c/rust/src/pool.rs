@@ -1,8 +1,10 @@
-//! What opens tags and hands their hands out.
+//! What opens tags, resizes them, and hands their hands out.
 use crate::error::{number, CloseError, Result};
 use crate::hand::Hand;
 use crate::options::{Options, Totals};
-use crate::raw::{tags_library_close, tags_library_join, tags_library_open, Handle, STAY};
+use crate::raw::{
+    tags_library_close, tags_library_join, tags_library_open, tags_library_resize, Handle, STAY,
+};
 use std::fmt;
 use std::sync::atomic::AtomicU32;
 use std::sync::{Arc, Mutex, MutexGuard, PoisonError};
@@ -88,6 +90,27 @@ impl Pool {
         // SAFETY: the lock reserves the pool's handle for this call, and the other is local to this function.
         number(unsafe { tags_library_join(&mut *self.shared.handle(), &mut hand, flags) })?;
         Ok(Hand::new(hand, Arc::clone(&self.shared)))
+    }
+
+    /// Continues with `total` tags, as many of them reserved as before, once all hands are dropped. The ordinary tags are
+    /// new ones, whose slots are 0; the reserved tags and the totals continue. On failure the pool is as it was.
+    ///
+    /// ```
+    /// # use tags::{Error, Kind, Options, Pool};
+    /// # fn main() -> tags::Result<()> {
+    /// let pool = Pool::open(&Options { reserved: 2, ..Options::new(16, 1) })?;
+    /// let hand = pool.join()?;
+    /// assert_eq!(pool.resize(32), Err(Error::HandsOut));
+    /// drop(hand);
+    /// pool.resize(32)?;
+    /// assert_eq!(pool.join()?.show(Kind::Ordinary).depth, 30);
+    /// # Ok(())
+    /// # }
+    /// ```
+    pub fn resize(&self, total: u32) -> Result<()> {
+        // SAFETY: the lock keeps the handle to this call.
+        number(unsafe { tags_library_resize(&mut *self.shared.handle(), total) })?;
+        Ok(())
     }
 
     /// Closes a pool whose hands are all dropped, and returns its totals. On failure the error contains the pool.

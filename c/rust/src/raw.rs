@@ -38,6 +38,7 @@ unsafe extern "C" {
     pub fn tags_library_open(pool: *mut Handle, options: *const RawOptions) -> i32;
     pub fn tags_library_join(pool: *mut Handle, hand: *mut Handle, flags: u32) -> i32;
     pub fn tags_library_leave(hand: *mut Handle) -> i32;
+    pub fn tags_library_resize(pool: *mut Handle, total: u32) -> i32;
     pub fn tags_library_close(pool: *mut Handle, sums: *mut Totals) -> i32;
     pub fn tags_library_get(hand: *mut Handle) -> i32;
     pub fn tags_library_get_reserved(hand: *mut Handle) -> i32;

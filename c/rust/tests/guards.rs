@@ -63,6 +63,23 @@ fn refusals_have_names() {
 }
 
 #[test]
+fn a_resize_is_refused_while_the_pool_is_used() {
+    let pool = open(16, 2, 2);
+    let hand = pool.join_in_place().unwrap();
+    let posted = hand.get().unwrap().unwrap().post();
+    assert_eq!(pool.resize(32), Err(Error::HandsOut));
+    drop(hand);
+    assert_eq!(pool.resize(32), Err(Error::InUse));
+    let hand = pool.join_in_place().unwrap();
+    drop(hand.take(posted).unwrap());
+    std::mem::forget(hand.prepare().unwrap());
+    drop(hand);
+    assert_eq!(pool.resize(32), Err(Error::HandsWait));
+    assert_eq!(pool.resize(1), Err(Error::ReservedTooLarge));
+    assert_eq!(pool.resize(10_241), Err(Error::TotalTooLarge));
+}
+
+#[test]
 fn a_pool_outlives_its_own_value() {
     let pool = open(4, 0, 2);
     let hand = pool.join_in_place().unwrap();

@@ -33,7 +33,10 @@ resting_shared = recorded_sync _ _ _ resting.the_type.to_one
 shared_field : IsSend shared.the_field.row
 shared_field = struct_send (fields_of shared.the_type) (
   tags_field_send u64-field.row (search sendable),
-  (search (sendable, crosses) depth 40, (search (counted_send, resting_goes, sendable, crosses) depth 60, tt)),
+  (
+    search (sendable, crosses) depth 40,
+    (search (sendable, crosses) depth 40, (search (counted_send, resting_goes, sendable, crosses) depth 60, tt)),
+  ),
 )
 
 shared_goes : IsSend shared.the_row
@@ -44,7 +47,10 @@ shared_field_shared = struct_sync (fields_of shared.the_type) (
   tags_field_sync u64-field.row (search sendable) (search sendable),
   (
     search (sendable, crosses) depth 40,
-    (search (counted_sync, resting_goes, resting_shared, sendable, crosses) depth 60, tt),
+    (
+      search (sendable, crosses) depth 40,
+      (search (counted_sync, resting_goes, resting_shared, sendable, crosses) depth 60, tt),
+    ),
   ),
 )
 

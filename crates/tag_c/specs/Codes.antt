@@ -8,7 +8,7 @@ use Rattle.tag_queue.specs.declared.fault.SetFault.TheVariants.{Memory, TotalToo
 use Rattle.tag_queue.specs.declared.fault.TagFault.{TagFault}
 use Rattle.tag_queue.specs.declared.fault.TagFault.TheVariants.{NoSuchTag, NoReserved, NotHeld, NotPosted, BadCount, TooShallow, Spent, Waiting, NotWaiting}
 use Rattle.tag_c.specs.declared.status.Status.{Status}
-use Rattle.tag_c.specs.declared.status.Status.TheVariants.{Done, Refused, NoTag, Again, BadHandle, NotEmpty, NoHand, HandsOut, BadKind, TooSmall, BadFlag, NotOpened, NoBerth, HandLost}
+use Rattle.tag_c.specs.declared.status.Status.TheVariants.{Done, Refused, NoTag, Again, BadHandle, NotEmpty, NoHand, HandsOut, BadKind, TooSmall, BadFlag, NotOpened, NoBerth, HandLost, InUse, HandsWait}
 
 -- the number is negative, so it is a refusal
 abbrev pub IsRefusal : ℤ → Type 0
@@ -53,6 +53,8 @@ code_of BadFlag = negsuc 17
 code_of (NotOpened fault) = code_of_set_fault fault
 code_of NoBerth = negsuc 18
 code_of HandLost = negsuc 19
+code_of InUse = negsuc 28
+code_of HandsWait = negsuc 29
 
 -- the tag, or the reason why there is none
 abbrev pub code_of_get : Result (Option ℕ) TagFault → ℤ

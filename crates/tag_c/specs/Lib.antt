@@ -4,4 +4,5 @@ pub mod Pools
 pub mod Calls
 pub mod Views
 pub mod Exports
+pub mod Resizes
 pub mod Held

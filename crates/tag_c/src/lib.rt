@@ -14,6 +14,7 @@ mod object;
 mod options;
 mod pool;
 mod pools;
+mod resizes;
 mod shared;
 mod status;
 #[cfg(test)]

@@ -3,7 +3,6 @@ ghost use Rattle.std.specs.Prelude.{◌≡◌, ◌≤◌, [], IfOk, IfErr, IfSom
 ghost use Rattle.std.specs.Arc.{arc_value};
 ghost use Rattle.tag_c.specs.Pools.{Opens, IsCause, LacksHand, Gathers};
 
-use crate::berths::berth_of;
 use crate::member::Member;
 use crate::shared::Shared;
 use crate::status::Status;
@@ -31,24 +30,13 @@ impl Pool {
         ensures cause { IfErr result (IsCause total reserved options) }
     {
         let (tags, hands) = Tags::open(alloc, total, reserved, options, 0)?;
-        let mut hands = hands;
-        let Ok(mut berths) = Vec::with_capacity(alloc, hands.len()) else {
+        let Ok(berths) = Vec::with_capacity(alloc, hands.len()) else {
             tags.discard();
             return Err(SetFault::Memory);
         };
-        while let Some(hand) = hands.pop() {
-            berths.push_reserved(berth_of(hand));
-        }
-        let shared = Shared {
-            tags,
-            total,
-            berths,
-        };
+        let (shared, room) = Shared::with_hands(tags, total, reserved, hands, berths);
         match Arc::new(alloc, shared) {
-            Ok(shared) => Ok(Pool {
-                shared,
-                room: hands,
-            }),
+            Ok(shared) => Ok(Pool { shared, room }),
             Err(_) => Err(SetFault::Memory),
         }
     }

@@ -29,12 +29,17 @@ pub enum Status {
     TooSmall,
     /// The call does not know the flag.
     BadFlag,
-    /// The tags could not be opened.
+    /// The tags could not be opened, or not with another total.
     NotOpened(SetFault),
     /// No berth was free for a hand that came back.
     NoBerth,
-    /// A hand was missing at the end, and the pool ended without totals.
+    /// A hand was missing where all of them came together: at the end, and the pool ended without totals, or for a resize, and
+    /// the pool goes on as it was.
     HandLost,
+    /// Tags are held or posted.
+    InUse,
+    /// Hands stand in a wait group.
+    HandsWait,
 }
 
 impl Status {
@@ -56,6 +61,8 @@ impl Status {
             Status::BadFlag => -18,
             Status::NoBerth => -19,
             Status::HandLost => -20,
+            Status::InUse => -29,
+            Status::HandsWait => -30,
             Status::NotOpened(fault) => set_fault_code(fault),
         }
     }

@@ -4,6 +4,7 @@ use crate::gives::{tags_clear, tags_clear_batch, tags_finish, tags_prepare};
 use crate::handle::Handle;
 use crate::looks::{Counts, Sizes, tags_busy, tags_holds, tags_show, tags_wakes};
 use crate::pools::{tags_close, tags_join, tags_leave, tags_open};
+use crate::resizes::tags_resize;
 use crate::values::{tags_post, tags_read, tags_take, tags_write};
 use crate::wishes::{Sums, Wishes};
 use std::test::Fail;
@@ -69,5 +70,32 @@ fn tags_pass_through_handles(rt: HostRuntime) -> Result<(), Fail> {
     assert_eq!(rt; tags_close(alloc, &mut pool, &mut sums), 0);
     assert_eq!(rt; (sums.got, sums.back, sums.held, sums.posted), (5, 3, 2, 0));
     assert_eq!(rt; tags_close(alloc, &mut pool, &mut sums), -12);
+    Ok(())
+}
+
+#[test]
+fn a_pool_goes_on_with_more_tags(rt: HostRuntime) -> Result<(), Fail> {
+    let alloc = rt.alloc();
+    let mut pool = Handle::empty(alloc);
+    let mut hand = Handle::empty(alloc);
+    assert_eq!(rt; tags_open(alloc, &mut pool, &WISHES), 0);
+    assert_eq!(rt; tags_join(alloc, &mut pool, &mut hand, 1), 0);
+    assert_eq!(rt; tags_get(alloc, &mut hand), 2);
+    assert_eq!(rt; tags_resize(alloc, &mut pool, 20), -15);
+    assert_eq!(rt; tags_leave(alloc, &mut hand), 0);
+    assert_eq!(rt; tags_resize(alloc, &mut pool, 20), -29);
+    assert_eq!(rt; tags_join(alloc, &mut pool, &mut hand, 1), 0);
+    assert_eq!(rt; tags_clear(alloc, &mut hand, 2), 0);
+    assert_eq!(rt; tags_leave(alloc, &mut hand), 0);
+    assert_eq!(rt; tags_resize(alloc, &mut pool, 1), -23);
+    assert_eq!(rt; tags_resize(alloc, &mut pool, 20), 0);
+    assert_eq!(rt; tags_join(alloc, &mut pool, &mut hand, 1), 0);
+    let mut value = 0u64;
+    assert_eq!(rt; tags_read(alloc, &mut hand, 19, &mut value), -3);
+    assert_eq!(rt; tags_read(alloc, &mut hand, 20, &mut value), -1);
+    assert_eq!(rt; tags_leave(alloc, &mut hand), 0);
+    let mut sums = Sums::NONE;
+    assert_eq!(rt; tags_close(alloc, &mut pool, &mut sums), 0);
+    assert_eq!(rt; (sums.got, sums.back, sums.held, sums.posted), (1, 1, 0, 0));
     Ok(())
 }

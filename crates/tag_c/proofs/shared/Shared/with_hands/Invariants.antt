@@ -2,7 +2,7 @@
 use Rattle.std.proofs.Common.{◌+◌, ◌≤◌, vec_len, vec_capacity}
 use Rattle.std.specs.Prelude.{All}
 use Rattle.tag_sets.specs.Hands.{IsHandOf}
-use Rattle.tag_c.proofs.pool.Pool.open.Given as goal
+use Rattle.tag_c.proofs.shared.Shared.with_hands.Given as goal
 
 abbrev pub invariant-loop-hand : goal.invariant-loop-hand
 invariant-loop-hand l = record {

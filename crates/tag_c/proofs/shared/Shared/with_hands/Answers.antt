@@ -3,16 +3,16 @@ use Rattle.std.proofs.Common.{arith, All, sym, subst}
 use Rattle.std.proofs.lemmas.List.Elements.{All-push, All-take}
 use Rattle.tag_sets.specs.Hands.{IsHandOf}
 use Rattle.tag_c.proofs.Owners.{sharing, last_of}
-use Rattle.tag_c.proofs.pool.Pool.open.Goals as goal
+use Rattle.tag_c.proofs.shared.Shared.with_hands.Goals as goal
 
 pub berth_of-requires : goal.berth_of-requires
-berth_of-requires c = let own = IsHandOf c.in_ok-tags.tags in
+berth_of-requires c = let own = IsHandOf c.args.tags in
     let whole = subst (All own) c.in-Some.ensures.items c.loop-hand.invariant.hands in
     let hand = last_of own c.pop.new.self.items c.in-Some.hand whole in
-    sharing c.in_ok-tags.tags c.in-Some.hand c.in-Some.hand hand hand
+    sharing c.args.tags c.in-Some.hand c.in-Some.hand hand hand
 
 pub loop-hand-preserved : goal.loop-hand-preserved
-loop-hand-preserved c = let was = c.loop-hand.invariant in let own = IsHandOf c.in_ok-tags.tags in
+loop-hand-preserved c = let was = c.loop-hand.invariant in let own = IsHandOf c.args.tags in
     let whole = subst (All own) c.in-Some.ensures.items was.hands in
     let hand = last_of own c.pop.new.self.items c.in-Some.hand whole in
     let berth = subst own (sym c.berth_of.ensures) hand in

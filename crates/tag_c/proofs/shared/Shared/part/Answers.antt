@@ -3,7 +3,7 @@ use Rattle.std.proofs.Common.{arith, All, sym, subst}
 use Rattle.std.proofs.lemmas.List.Elements.{All-push, All-take}
 use Rattle.tag_sets.specs.Hands.{IsHandOf}
 use Rattle.tag_c.proofs.Owners.{one_owner, last_of}
-use Rattle.tag_c.proofs.shared.Shared.gather.Goals as goal
+use Rattle.tag_c.proofs.shared.Shared.part.Goals as goal
 
 pub loop-berth-preserved-in-Some-hand_of : goal.loop-berth-preserved-in-Some-hand_of
 loop-berth-preserved-in-Some-hand_of c = let was = c.loop-berth.invariant in let own = IsHandOf c.args.self.tags in
@@ -21,6 +21,7 @@ loop-berth-preserved-in-Some-hand_of c = let was = c.loop-berth.invariant in let
         c.push_reserved.ensures.capacity,
         c.in-Some.ensures.cases,
       );
+      fit = omega (arith, was.fit, c.push_reserved.ensures.len, c.pop.ensures.capacity, c.in-Some.ensures.cases);
     }
 
 pub loop-berth-preserved : goal.loop-berth-preserved
@@ -28,4 +29,5 @@ loop-berth-preserved c = let was = c.loop-berth.invariant in let own = IsHandOf 
   berths = subst (All own) (sym c.pop.ensures.rest) (All-take own _ c.loop-berth.berths.items was.berths);
   hands = was.hands;
   room = omega (arith, was.room, c.in-Some.ensures.cases);
+  fit = omega (arith, was.fit, c.pop.ensures.capacity, c.in-Some.ensures.cases);
 }

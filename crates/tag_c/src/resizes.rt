@@ -1,0 +1,101 @@
+//! How a pool whose hands are all back goes on with another number of ordinary tags.
+ghost use Rattle.std.specs.Prelude.{◌≡◌, ◌≤◌, [], vec_len, vec_capacity};
+ghost use Rattle.std.specs.Arc.{arc_value};
+ghost use Rattle.tag_sets.specs.Hands.{reserved_of};
+ghost use Rattle.tag_sets.specs.Opening.{HasRange};
+ghost use Rattle.tag_c.specs.Resizes.{status_of_cause, EndsResize, ResizesAs, ResizesBy};
+
+use crate::handle::Handle;
+use crate::object::{Kind, Object};
+use crate::pool::Pool;
+use crate::shared::Shared;
+use crate::status::Status;
+use core::mem::replace_with;
+use std::alloc::Global;
+use std::sync::Arc;
+use tag_layout::MAX_DEPTH;
+use tag_sets::{Hand, ResizeCause, SetFault, Tags, TagsResizeFault};
+
+/// How C is told why the tags go on as they were.
+fn status_of(cause: ResizeCause) -> Status
+    ensures { result ≡ status_of_cause cause }
+{
+    match cause {
+        ResizeCause::Missing(_) => Status::HandLost,
+        ResizeCause::DepthTooLarge => Status::NotOpened(SetFault::TotalTooLarge),
+        ResizeCause::InUse(_, _) => Status::InUse,
+        ResizeCause::Waiting(_) => Status::HandsWait,
+        ResizeCause::Memory => Status::NotOpened(SetFault::Memory),
+    }
+}
+
+impl Shared {
+    /// All hands continue with so many tags, or as they were; there is room for them where they come together. The room comes
+    /// back.
+    fn resize(self, wish: (Global, u32, Vec<Hand<u64>>)) -> (Shared, (Vec<Hand<u64>>, Status))
+        requires room { (wish.2.items ≡ []) × (vec_len self.berths ≤ vec_capacity wish.2) }
+        requires range { HasRange wish.1 (reserved_of self.tags) }
+        ensures room { (result.1.0.items ≡ []) × (vec_len result.0.berths ≤ vec_capacity result.1.0) }
+        ensures ends { EndsResize wish.1 self.tags result.1.1 result.0.tags }
+    {
+        let (alloc, total, room) = wish;
+        let (former, reserved) = (self.total, self.reserved);
+        let (tags, hands, berths) = self.part(room);
+        match Tags::resize(alloc, tags, hands, total) {
+            Ok((tags, hands)) => {
+                let (shared, room) = Shared::with_hands(tags, total, reserved, hands, berths);
+                (shared, (room, Status::Done))
+            }
+            Err(TagsResizeFault { cause, tags, hands }) => {
+                let (shared, room) = Shared::with_hands(tags, former, reserved, hands, berths);
+                (shared, (room, status_of(cause)))
+            }
+        }
+    }
+}
+
+impl Pool {
+    /// A pool of so many tags, of which as many are reserved as before, if all hands are back, no tag is in use and no hand
+    /// stands in a wait group.
+    pub fn resize(self, wish: (Global, u32)) -> (Pool, Status)
+        ensures { EndsResize wish.1 (arc_value self.shared).tags result.1 (arc_value result.0.shared).tags }
+    {
+        let (alloc, total) = wish;
+        if total > MAX_DEPTH {
+            return (self, Status::NotOpened(SetFault::TotalTooLarge));
+        }
+        if total < self.shared.reserved {
+            return (self, Status::NotOpened(SetFault::ReservedTooLarge));
+        }
+        let Pool { mut shared, room } = self;
+        let Some(inner) = Arc::get_mut(&mut shared) else {
+            return (Pool { shared, room }, Status::HandsOut);
+        };
+        let (room, status) = replace_with(inner, (alloc, total, room), Shared::resize);
+        (Pool { shared, room }, status)
+    }
+}
+
+impl Object {
+    /// A pool goes on with so many tags.
+    pub fn resize(&mut self, alloc: Global, total: u32) -> i32
+        ensures { ResizesAs total result self.old.kind self.new.kind }
+    {
+        let Kind::Pool(pool) = &mut self.kind else {
+            return Status::BadHandle.code();
+        };
+        replace_with(pool, (alloc, total), Pool::resize).code()
+    }
+}
+
+#[unsafe(no_mangle)]
+pub extern "C" fn tags_resize(alloc: Global, pool: &mut Handle, total: u32) -> i32
+    ensures { ResizesBy total result pool.old.object.value pool.new.object.value }
+{
+    let Some(mut object) = pool.take(alloc) else {
+        return Status::BadHandle.code();
+    };
+    let code = object.resize(alloc, total);
+    *pool = Handle::of(object);
+    code
+}
