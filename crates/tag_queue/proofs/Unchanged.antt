@@ -1,10 +1,8 @@
 -- Unchanged agents.
-use Rattle.std.proofs.Common.{◌≡◌, ℕ, suc, ◌+◌, ◌<◌, List, [], ◌∷◌, ◌++◌, length, arith, refl, sym, ap, ◌∙◌, subst, ⊎_elim, length-append, append_assoc}
+use Rattle.std.proofs.Common.{◌≡◌, ℕ, suc, ◌+◌, ◌<◌, List, [], ◌∷◌, ◌++◌, length, arith, refl, sym, ap, ◌∙◌, subst, length-append, append_assoc}
 use Rattle.std.specs.Prelude.{◌↔◌, All, cond, is_some}
 use Rattle.std.proofs.lemmas.List.Elements.{All-push}
 use Rattle.std.proofs.lemmas.List.Recursion.{is_count_by}
-use mathlib.Core.Option.{some}
-use lib.ListN.{get_elem?}
 use Rattle.step_ledger.specs.Views.{HasAll}
 use Rattle.tag_model.specs.declared.totals.Totals.{Totals}
 use Rattle.tag_core.specs.declared.caller.Caller.{Caller}

@@ -30,3 +30,4 @@ pub mod Freshness
 pub mod HeldFacts
 pub mod MapGets
 pub mod Seen
+pub mod SlowOrders

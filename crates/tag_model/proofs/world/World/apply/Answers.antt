@@ -13,6 +13,10 @@ use Rattle.tag_model.proofs.world.World.apply.Goals as goal
 abbrev seen : Inside → KeptWorld
 seen w = record { layout = w.entries.layout; places = w.entries.places; won = w.won.items; back = w.back.items }
 
+-- the counts with more at one place
+abbrev raised : List ℕ → ℕ → ℕ → List ℕ
+raised counts place more = set counts place (get_or counts place 0 + more)
+
 may-happen : (kept : KeptWorld) (event : Event) → IsInRoom kept event → AreAccepted kept.layout event kept.places
     → MayHappen kept.layout (callers_of kept) (world_of kept) event
 may-happen kept event room accepted = record {
@@ -39,11 +43,9 @@ invariant_of-self-2 c =
     let old = seen c.self.inside in let did = c.if-not-bring.ensures.moved in
     let room : IsInRoom old c.args.event = subst (λ (kept : KeptWorld). IsInRoom kept c.args.event)
     (sym c.self.view_is) c.in_ok-test.ensures.ok in
-    let won : c.add_at.new.counts ≡ set old.won (caller_of c.args.event)
-    (get_or old.won (caller_of c.args.event) 0 + won_by c.args.event) = cc in
-    let back : c.add_at-2.new.counts
-    ≡ set old.back (caller_of c.args.event) (get_or old.back (caller_of c.args.event) 0 + back_by c.args.event) =
-    cc in
+    let by = caller_of c.args.event in
+    let won : c.add_at.new.counts ≡ raised old.won by (won_by c.args.event) = cc in
+    let back : c.add_at-2.new.counts ≡ raised old.back by (back_by c.args.event) = cc in
     subst IsSound
     (sym (written-after old c.args.event c.bring.new.self.layout c.self.inside.won c.self.inside.back
     c.bring.new.self.places c.add_at.new.counts c.add_at-2.new.counts c.if-not-bring.ensures.layout refl refl won
@@ -56,11 +58,9 @@ returns-clause-ok c =
     let old = seen c.self.inside in let did = c.if-not-bring.ensures.moved in
     let room : IsInRoom old c.args.event = subst (λ (kept : KeptWorld). IsInRoom kept c.args.event)
     (sym c.self.view_is) c.in_ok-test.ensures.ok in
-    let won : c.add_at.new.counts ≡ set old.won (caller_of c.args.event)
-    (get_or old.won (caller_of c.args.event) 0 + won_by c.args.event) = cc in
-    let back : c.add_at-2.new.counts
-    ≡ set old.back (caller_of c.args.event) (get_or old.back (caller_of c.args.event) 0 + back_by c.args.event) =
-    cc in
+    let by = caller_of c.args.event in
+    let won : c.add_at.new.counts ≡ raised old.won by (won_by c.args.event) = cc in
+    let back : c.add_at-2.new.counts ≡ raised old.back by (back_by c.args.event) = cc in
     let new : KeptWorld = record {
       layout = c.bring.new.self.layout;
       places = c.bring.new.self.places;

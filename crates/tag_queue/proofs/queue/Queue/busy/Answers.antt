@@ -1,5 +1,5 @@
 -- The agents' records and wait groups are unchanged, so the cause that is found holds of the agents passed in.
-use Rattle.std.proofs.Common.{arith, ◌≡◌, List, sym, ap, ◌∙◌}
+use Rattle.std.proofs.Common.{arith, List, sym, ap, ◌∙◌}
 use Rattle.tag_queue.specs.declared.agent.Agent.{Agent}
 use Rattle.tag_queue.specs.Agents.{shape_of}
 use Rattle.tag_queue.specs.Resizing.{standing_count}

@@ -1,13 +1,12 @@
 -- The words passed have no run, so the first word with a run decides the choice.
-use Rattle.std.proofs.Common.{◌≡◌, ℕ, ◌*◌, ◌/◌, ◌%◌, ◌^◌, true, List, ◌∷◌, get_or, take, Some, arith, sym, ap, ◌∙◌, subst}
-use Rattle.std.proofs.lemmas.Nat.{one_shl}
+use Rattle.std.proofs.Common.{◌≡◌, ℕ, List, ◌∷◌, get_or, take, Some, arith, sym, ap, ◌∙◌, subst}
 use Rattle.tag_layout.specs.Layout.{words, word_of}
 use Rattle.tag_search.specs.Batch.{batch_words}
 use Rattle.tag_search.specs.Choice.{HasNoRun, IsOpenRun, IsBatchChoice}
 use Rattle.tag_search.specs.Hints.{reduced}
 use Rattle.tag_search.specs.Marks.{pool_of_marks}
-use Rattle.tag_search.specs.Order.{scan_order}
 use Rattle.tag_search.specs.Pool.{Pool}
+use Rattle.tag_search.proofs.SlowOrders.{batch_from}
 use Rattle.tag_search.proofs.Slow.{slow_no_batch, slow_batch, order_within, insert_first, swept_more, all_more}
 use Rattle.tag_search.proofs.tests.slow.batch_choice.Goals as goal
 
@@ -16,14 +15,9 @@ run_in-requires-clause-word c =
     let l = c.args.layout in let p : Pool = pool_of_marks l c.args.free.now c.args.aside.now in
     let first : ℕ = word_of l (reduced l.depth c.args.hint.at) in
     let items = c.deref-word-items.result.now in let at = c.loop-word.word-index in
-    let shift : c.shift.result ≡ l.shift = c.shift.ensures.value in
-    let whole : 1 * 2 ^ c.shift.result % 2 ^ 32 ≡ 2 ^ l.shift = one_shl c.shift.result 32 (omega arith)
-    ∙ ap (λ (x : ℕ). 2 ^ x) shift in
-    let hint : c.reduced.result ≡ reduced l.depth c.args.hint.at = c.reduced.ensures
-    ∙ ap (λ (x : ℕ). reduced x c.args.hint.at) c.depth.ensures.value in
-    let order : items ≡ batch_words l first =
-    c.deref-word-items.ensures.value ∙ c.in_ok-order.ensures
-    ∙ (λ z. scan_order (hint z / whole z) (c.words.ensures.value z) true) in
+    let order = batch_from l c.args.hint.at c.reduced.result c.depth.result c.shift.result c.words.result items _
+    c.shift.ensures.value (omega arith) c.depth.ensures.value c.reduced.ensures c.words.ensures.value
+    c.deref-word-items.ensures.value c.in_ok-order.ensures in
     order_within first (words l) items order at c.loop-word-test.true
 
 pub loop-word-preserved : goal.loop-word-preserved
@@ -43,14 +37,9 @@ returns-in-Some-clause-choice c =
     let l = c.args.layout in let p : Pool = pool_of_marks l c.args.free.now c.args.aside.now in
     let first : ℕ = word_of l (reduced l.depth c.args.hint.at) in
     let items = c.deref-word-items.result.now in let at = c.loop-word.word-index in
-    let shift : c.shift.result ≡ l.shift = c.shift.ensures.value in
-    let whole : 1 * 2 ^ c.shift.result % 2 ^ 32 ≡ 2 ^ l.shift = one_shl c.shift.result 32 (omega arith)
-    ∙ ap (λ (x : ℕ). 2 ^ x) shift in
-    let hint : c.reduced.result ≡ reduced l.depth c.args.hint.at = c.reduced.ensures
-    ∙ ap (λ (x : ℕ). reduced x c.args.hint.at) c.depth.ensures.value in
-    let order : items ≡ batch_words l first =
-    c.deref-word-items.ensures.value ∙ c.in_ok-order.ensures
-    ∙ (λ z. scan_order (hint z / whole z) (c.words.ensures.value z) true) in
+    let order = batch_from l c.args.hint.at c.reduced.result c.depth.result c.shift.result c.words.result items _
+    c.shift.ensures.value (omega arith) c.depth.ensures.value c.reduced.ensures c.words.ensures.value
+    c.deref-word-items.ensures.value c.in_ok-order.ensures in
     let word : ℕ = get_or items at 0 in let place = c.in-Some.place in let bits = c.open_bits-bits.result in
     let run : IsOpenRun l c.args.n p word place bits = record {
       least = c.in-Some.ensures.run;
@@ -71,14 +60,9 @@ returns-clause-choice c =
     let l = c.args.layout in let p : Pool = pool_of_marks l c.args.free.now c.args.aside.now in
     let first : ℕ = word_of l (reduced l.depth c.args.hint.at) in
     let items = c.deref-word-items.result.now in let at = c.loop-word.word-index in
-    let shift : c.shift.result ≡ l.shift = c.shift.ensures.value in
-    let whole : 1 * 2 ^ c.shift.result % 2 ^ 32 ≡ 2 ^ l.shift = one_shl c.shift.result 32 (omega arith)
-    ∙ ap (λ (x : ℕ). 2 ^ x) shift in
-    let hint : c.reduced.result ≡ reduced l.depth c.args.hint.at = c.reduced.ensures
-    ∙ ap (λ (x : ℕ). reduced x c.args.hint.at) c.depth.ensures.value in
-    let order : items ≡ batch_words l first =
-    c.deref-word-items.ensures.value ∙ c.in_ok-order.ensures
-    ∙ (λ z. scan_order (hint z / whole z) (c.words.ensures.value z) true) in
+    let order = batch_from l c.args.hint.at c.reduced.result c.depth.result c.shift.result c.words.result items _
+    c.shift.ensures.value (omega arith) c.depth.ensures.value c.reduced.ensures c.words.ensures.value
+    c.deref-word-items.ensures.value c.in_ok-order.ensures in
     slow_no_batch l p c.args.n first items c.deref-2.result.now order at
     (pool_of_marks l c.in_ok-marks-2.marks.free.items c.in_ok-marks-2.marks.aside.items) c.loop-word-test.false
     (c.deref-2.ensures.value ∙ c.loop-word.invariant.swept) c.loop-word.invariant.passed c.in_ok-marks-2.ensures.pool

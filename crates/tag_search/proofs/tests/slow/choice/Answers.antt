@@ -1,49 +1,35 @@
 -- The words passed have no open place, so the first word with a free or aside place decides the choice.
-use Rattle.std.proofs.Common.{◌≡◌, ℕ, true, false, List, ◌∷◌, get_or, take, Some, sym, ap, ◌∙◌, subst}
+use Rattle.std.proofs.Common.{◌≡◌, ℕ, false, List, ◌∷◌, get_or, take, Some, sym, ap, ◌∙◌, subst}
 use Rattle.std.specs.Prelude.{All}
-use Rattle.tag_layout.specs.Layout.{words}
 use Rattle.tag_search.specs.Choice.{IsFree, IsSet, IsAside, IsFirst, IsFull, IsChoice}
 use Rattle.tag_search.specs.Marks.{pool_of_marks}
-use Rattle.tag_search.specs.Order.{scan_order}
 use Rattle.tag_search.specs.Pool.{Pool}
-use Rattle.tag_search.specs.Scans.{limit_of}
-use Rattle.tag_search.specs.Visits.{Reach, visit_of, visits}
-use Rattle.tag_search.proofs.Slow.{slow_nothing, slow_free, slow_aside, first_aside, busy_all, order_within, insert_first, swept_more, all_more}
+use Rattle.tag_search.specs.Visits.{visit_of, visits}
+use Rattle.tag_search.proofs.SlowOrders.{reach_of, words_from, word_there}
+use Rattle.tag_search.proofs.Slow.{slow_nothing, slow_free, slow_aside, first_aside, busy_all, insert_first, swept_more, all_more}
 use Rattle.tag_search.proofs.tests.slow.choice.Goals as goal
 
 pub rank_of-requires : goal.rank_of-requires
 rank_of-requires c =
-    let order = c.deref-word-items.ensures.value ∙ c.in_ok-order.ensures
-    ∙ ap (λ (x : ℕ). scan_order c.args.way.first x true) c.words.ensures.value in
-    order_within c.args.way.first (words c.args.layout) c.deref-word-items.result.now order
-    c.loop-word.word-index c.loop-word-test.true
+    word_there c.args.layout c.args.way.first c.words.result c.deref-word-items.result.now _ c.loop-word.word-index
+    c.deref-word-items.ensures.value c.in_ok-order.ensures c.words.ensures.value c.loop-word-test.true
 
 pub first_marked-requires-clause-word : goal.first_marked-requires-clause-word
 first_marked-requires-clause-word c =
-    let order = c.deref-word-items.ensures.value ∙ c.in_ok-order.ensures
-    ∙ ap (λ (x : ℕ). scan_order c.args.way.first x true) c.words.ensures.value in
-    order_within c.args.way.first (words c.args.layout) c.deref-word-items.result.now order
-    c.loop-word.word-index c.loop-word-test.true
+    word_there c.args.layout c.args.way.first c.words.result c.deref-word-items.result.now _ c.loop-word.word-index
+    c.deref-word-items.ensures.value c.in_ok-order.ensures c.words.ensures.value c.loop-word-test.true
 
 pub first_marked-requires-in-loop-word-clause-word : goal.first_marked-requires-in-loop-word-clause-word
 first_marked-requires-in-loop-word-clause-word c =
-    let order = c.deref-word-items.ensures.value ∙ c.in_ok-order.ensures
-    ∙ ap (λ (x : ℕ). scan_order c.args.way.first x true) c.words.ensures.value in
-    order_within c.args.way.first (words c.args.layout) c.deref-word-items.result.now order
-    c.loop-word.word-index c.loop-word-test.true
+    word_there c.args.layout c.args.way.first c.words.result c.deref-word-items.result.now _ c.loop-word.word-index
+    c.deref-word-items.ensures.value c.in_ok-order.ensures c.words.ensures.value c.loop-word-test.true
 
 pub loop-word-preserved : goal.loop-word-preserved
 loop-word-preserved c =
     let l = c.args.layout in let p : Pool = pool_of_marks l c.args.free.now c.args.aside.now in
-    let first = c.args.way.first in
-    let reach : Reach = record {
-      start = c.args.way.start;
-      limit = limit_of l c.args.way.shallow;
-      wrap = c.args.way.wrap;
-    } in
+    let way = c.args.way in let first = way.first in let reach = reach_of l way.start way.shallow way.wrap in
     let items = c.deref-word-items.result.now in let n = c.loop-word.word-index in
-    let word : ℕ = get_or items n 0 in
-    let rank : List ℕ = (visit_of first reach word).rank in
+    let word : ℕ = get_or items n 0 in let rank : List ℕ = (visit_of first reach word).rank in
     let set : All (IsSet p word) rank = subst (All (IsSet p word)) (c.deref.ensures.value
     ∙ c.in_ok-rank.ensures) c.in_default.ensures in
     let out : All (λ k. p.aside word k ≡ false) rank =
@@ -59,17 +45,11 @@ loop-word-preserved c =
 pub returns-in-Some-clause-choice : goal.returns-in-Some-clause-choice
 returns-in-Some-clause-choice c =
     let l = c.args.layout in let p : Pool = pool_of_marks l c.args.free.now c.args.aside.now in
-    let first = c.args.way.first in
-    let reach : Reach = record {
-      start = c.args.way.start;
-      limit = limit_of l c.args.way.shallow;
-      wrap = c.args.way.wrap;
-    } in
+    let way = c.args.way in let first = way.first in let reach = reach_of l way.start way.shallow way.wrap in
     let items = c.deref-word-items.result.now in let n = c.loop-word.word-index in
-    let word : ℕ = get_or items n 0 in
-    let rank : List ℕ = (visit_of first reach word).rank in
-    let order = c.deref-word-items.ensures.value ∙ c.in_ok-order.ensures
-    ∙ ap (λ (x : ℕ). scan_order c.args.way.first x true) c.words.ensures.value in
+    let word : ℕ = get_or items n 0 in let rank : List ℕ = (visit_of first reach word).rank in
+    let order = words_from l first c.words.result items _ c.deref-word-items.ensures.value c.in_ok-order.ensures
+    c.words.ensures.value in
     let place = c.in-Some.place in
     let is : IsFirst (IsFree p word) (IsSet p word) rank place =
     subst (λ (xs : List ℕ). IsFirst (IsFree p word) (IsSet p word) xs place) (c.deref.ensures.value
@@ -83,17 +63,11 @@ returns-in-Some-clause-choice c =
 pub returns-in-Some-first_marked-clause-choice : goal.returns-in-Some-first_marked-clause-choice
 returns-in-Some-first_marked-clause-choice c =
     let l = c.args.layout in let p : Pool = pool_of_marks l c.args.free.now c.args.aside.now in
-    let first = c.args.way.first in
-    let reach : Reach = record {
-      start = c.args.way.start;
-      limit = limit_of l c.args.way.shallow;
-      wrap = c.args.way.wrap;
-    } in
+    let way = c.args.way in let first = way.first in let reach = reach_of l way.start way.shallow way.wrap in
     let items = c.deref-word-items.result.now in let n = c.loop-word.word-index in
-    let word : ℕ = get_or items n 0 in
-    let rank : List ℕ = (visit_of first reach word).rank in
-    let order = c.deref-word-items.ensures.value ∙ c.in_ok-order.ensures
-    ∙ ap (λ (x : ℕ). scan_order c.args.way.first x true) c.words.ensures.value in
+    let word : ℕ = get_or items n 0 in let rank : List ℕ = (visit_of first reach word).rank in
+    let order = words_from l first c.words.result items _ c.deref-word-items.ensures.value c.in_ok-order.ensures
+    c.words.ensures.value in
     let place = c.in-Some-first_marked.place in
     let set : All (IsSet p word) rank = subst (All (IsSet p word)) (c.deref.ensures.value
     ∙ c.in_ok-rank.ensures) c.in_default.ensures in
@@ -113,15 +87,10 @@ returns-in-Some-first_marked-clause-choice c =
 pub returns-clause-choice : goal.returns-clause-choice
 returns-clause-choice c =
     let l = c.args.layout in let p : Pool = pool_of_marks l c.args.free.now c.args.aside.now in
-    let first = c.args.way.first in
-    let reach : Reach = record {
-      start = c.args.way.start;
-      limit = limit_of l c.args.way.shallow;
-      wrap = c.args.way.wrap;
-    } in
+    let way = c.args.way in let first = way.first in let reach = reach_of l way.start way.shallow way.wrap in
     let items = c.deref-word-items.result.now in let n = c.loop-word.word-index in
-    let order = c.deref-word-items.ensures.value ∙ c.in_ok-order.ensures
-    ∙ ap (λ (x : ℕ). scan_order c.args.way.first x true) c.words.ensures.value in
+    let order = words_from l first c.words.result items _ c.deref-word-items.ensures.value c.in_ok-order.ensures
+    c.words.ensures.value in
     slow_nothing l p first reach items c.deref-2.result.now order n
     (pool_of_marks l c.in_ok-marks-3.marks.free.items c.in_ok-marks-3.marks.aside.items)
     c.loop-word-test.false (c.deref-2.ensures.value ∙ c.loop-word.invariant.swept) c.loop-word.invariant.passed
