@@ -1,5 +1,5 @@
 -- Where an agent's gets start.
-use Rattle.std.specs.Prelude.{ℕ, ◌*◌, ◌/◌}
+use Rattle.std.specs.Prelude.{◌*◌, ◌/◌}
 use Rattle.tag_search.specs.declared.hint.Hint.{Hint}
 use Rattle.tag_queue.specs.declared.agent.Agent.{Agent}
 use Rattle.tag_queue.specs.declared.queue.Queue.{Queue}

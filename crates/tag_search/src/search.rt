@@ -40,7 +40,7 @@ pub fn get<P: Port>(port: &mut P, hint: &mut Hint) -> Result<Option<u32>, Spent>
     if hint.at < layout.depth() && !hint.round_robin {
         Ok(get_from(port, hint, layout))
     } else {
-        Ok(get_aside(port, hint, layout))
+        Ok(get_any(port, hint, layout))
     }
 }
 
@@ -65,9 +65,10 @@ fn get_from<P: Port>(port: &mut P, hint: &mut Hint, layout: Layout) -> Option<u3
     answer
 }
 
-/// The same out of line, for what a usual get need not test: round robin, and a hint past the depth.
+/// As `get_from`, but out of line, and for any hint: `get` tests the usual case, a hint below the depth and no round
+/// robin, only once.
 #[inline(never)]
-fn get_aside<P: Port>(port: &mut P, hint: &mut Hint, layout: Layout) -> Option<u32>
+fn get_any<P: Port>(port: &mut P, hint: &mut Hint, layout: Layout) -> Option<u32>
     requires port { P.ready port.old }
     requires layout { P.sizes port.old ≡ layout }
     requires room { P.has_room port.old 1 }

@@ -1,5 +1,5 @@
 -- A charge that was won is followed by a walk for one batch, and any other charge by no step at all.
-use Rattle.std.proofs.Common.{rules, ℕ, List, subst, sym}
+use Rattle.std.proofs.Common.{rules, ℕ, subst, sym}
 use Rattle.wake_book.specs.declared.charge.Charge.{Charge}
 use Rattle.wake_book.specs.declared.charge.Charge.TheVariants.{Won}
 use Rattle.wake_book.specs.Book as book

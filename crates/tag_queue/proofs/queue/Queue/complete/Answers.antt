@@ -1,6 +1,6 @@
 -- If the look found waiters, the completion is counted; a charge that was won is followed by a walk for one batch, any
 -- other charge by no step.
-use Rattle.std.proofs.Common.{rules, arith, ℕ, List, inr, subst}
+use Rattle.std.proofs.Common.{rules, arith, List, inr, subst}
 use Rattle.wake_book.specs.declared.steps.GroupStep.{GroupStep}
 use Rattle.tag_queue.specs.Agents.{batch_of, group_steps}
 use Rattle.tag_queue.specs.Clears.{Follows}
