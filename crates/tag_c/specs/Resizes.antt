@@ -1,4 +1,4 @@
--- How a pool goes on with another number of ordinary tags, through its handle.
+-- How a pool is resized through its handle.
 use Rattle.std.specs.Prelude.{◌≡◌, ℕ, ◌<◌, ◌≤◌, ℤ, List, All, Option, Some, None}
 use Rattle.std.specs.Arc.{arc_value}
 use Rattle.tag_layout.specs.declared.layout.TheConstants.{MAX_DEPTH}
@@ -17,7 +17,7 @@ use Rattle.tag_c.specs.declared.status.Status.{Status}
 use Rattle.tag_c.specs.declared.status.Status.TheVariants.{Done, BadHandle, HandsOut, HandLost, InUse, HandsWait, NotOpened}
 use Rattle.tag_c.specs.Codes.{code_of}
 
--- how C is told the cause
+-- the status for each cause
 abbrev pub status_of_cause : ResizeCause → Status
 status_of_cause (Missing number) = HandLost
 status_of_cause DepthTooLarge = NotOpened TotalTooLarge
@@ -40,7 +40,7 @@ pub record Prevents (total : ℕ) (tags : Tags ℕ) (cause : ResizeCause) : Type
   pub own : All (IsHandOf tags) hands
   pub refused : IsRefusedFor tags hands total cause
 
--- why tags do not continue with this total; nothing can be said of which hands are out
+-- why tags do not continue with this total; which hands are out is not stated
 abbrev pub RefusesResize : ℕ → Tags ℕ → Status → Type 0
 RefusesResize total tags (NotOpened TotalTooLarge) = MAX_DEPTH < total
 RefusesResize total tags (NotOpened ReservedTooLarge) = (total ≤ MAX_DEPTH) × (total < reserved_of tags)
@@ -56,7 +56,7 @@ abbrev pub EndsResize : ℕ → Tags ℕ → Status → Tags ℕ → Type 0
 EndsResize total old Done new = Resizes total old new
 EndsResize total old status new = RefusesResize total old status × AreSame old new
 
--- so a pool does, and the number says which; through a hand the call is refused, and nothing changes
+-- a pool does so, and the number says which; on a hand the call is refused, and nothing changes
 abbrev pub ResizesAs : ℕ → ℤ → Kind → Kind → Type 0
 ResizesAs total code (IsPool old) (IsPool new) = (status : Status) × (code ≡ code_of status)
     × EndsResize total (arc_value old.shared).tags status (arc_value new.shared).tags
@@ -64,7 +64,7 @@ ResizesAs total code (IsPool old) (IsMember new) = ⊥
 ResizesAs total code (IsMember old) (IsPool new) = ⊥
 ResizesAs total code (IsMember old) (IsMember new) = (code ≡ code_of BadHandle) × (new ≡ old)
 
--- the same of a handle, through an empty one of which the call is refused, and nothing changes
+-- the same of a handle; through an empty one the call is refused, and nothing changes
 abbrev pub ResizesBy : ℕ → ℤ → Option Object → Option Object → Type 0
 ResizesBy total code None None = code ≡ code_of BadHandle
 ResizesBy total code None (Some new) = ⊥

@@ -1,4 +1,4 @@
-//! How a pool whose hands are all back goes on with another number of ordinary tags.
+//! Resizing a pool whose hands are all back.
 ghost use Rattle.std.specs.Prelude.{◌≡◌, ◌≤◌, [], vec_len, vec_capacity};
 ghost use Rattle.std.specs.Arc.{arc_value};
 ghost use Rattle.tag_sets.specs.Hands.{reserved_of};
@@ -16,7 +16,7 @@ use std::sync::Arc;
 use tag_layout::MAX_DEPTH;
 use tag_sets::{Hand, ResizeCause, SetFault, Tags, TagsResizeFault};
 
-/// How C is told why the tags go on as they were.
+/// Returns the status for the cause that refused a resize.
 fn status_of(cause: ResizeCause) -> Status
     ensures { result ≡ status_of_cause cause }
 {
@@ -30,8 +30,8 @@ fn status_of(cause: ResizeCause) -> Status
 }
 
 impl Shared {
-    /// All hands continue with so many tags, or as they were; there is room for them where they come together. The room comes
-    /// back.
+    /// Resizes the tags with all hands, which are collected in the given room. Returns the emptied room too. If the resize is
+    /// refused, the tags and the hands continue as they were.
     fn resize(self, wish: (Global, u32, Vec<Hand<u64>>)) -> (Shared, (Vec<Hand<u64>>, Status))
         requires room { (wish.2.items ≡ []) × (vec_len self.berths ≤ vec_capacity wish.2) }
         requires range { HasRange wish.1 (reserved_of self.tags) }
@@ -55,8 +55,8 @@ impl Shared {
 }
 
 impl Pool {
-    /// A pool of so many tags, of which as many are reserved as before, if all hands are back, no tag is in use and no hand
-    /// stands in a wait group.
+    /// Continues with this many tags, as many of them reserved as before, if all hands are back, no tag is in use and no hand
+    /// is in a wait group.
     pub fn resize(self, wish: (Global, u32)) -> (Pool, Status)
         ensures { EndsResize wish.1 (arc_value self.shared).tags result.1 (arc_value result.0.shared).tags }
     {
@@ -77,7 +77,7 @@ impl Pool {
 }
 
 impl Object {
-    /// A pool goes on with so many tags.
+    /// Resizes a pool. A hand is refused.
     pub fn resize(&mut self, alloc: Global, total: u32) -> i32
         ensures { ResizesAs total result self.old.kind self.new.kind }
     {

@@ -12,7 +12,7 @@ pub struct Shared {
     pub tags: Tags<u64>,
     /// Tags in both sets, at most 10,240.
     pub total: u32,
-    /// The first of them, so many, are reserved.
+    /// How many of them are reserved, from the first on.
     pub reserved: u32,
     pub berths: Vec<Berth>,
     ghost total_is: { (total_of tags ≡ total) × (total ≤ MAX_DEPTH) },
