@@ -1,3 +1,4 @@
+-- No member so far has the number.
 use Rattle.std.proofs.Common.{◌≢◌, ℕ, ◌<◌, map}
 use mathlib.Core.Option.{some}
 use lib.ListN.{get_elem?}

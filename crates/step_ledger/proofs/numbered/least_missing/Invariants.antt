@@ -1,3 +1,4 @@
+-- Each number so far is that of a member.
 use Rattle.std.proofs.Common.{map}
 use Rattle.step_ledger.specs.Views.{HasAll}
 use Rattle.step_ledger.proofs.numbered.least_missing.Given as goal

@@ -1,3 +1,4 @@
+-- The states of the tags so far that are 1 are counted.
 use Rattle.std.proofs.Common.{◌≡◌, ◌≤◌, slice_index, nat_eq}
 use Rattle.std.specs.Slots.{slots_items}
 use Rattle.tag_layout.specs.Sums.{sum_below}

@@ -1,3 +1,4 @@
+-- Taking a slot empties its entry, and adds it to the end of the list.
 use Rattle.std.proofs.Common.{rules, arith, ◌≡◌, ◌≢◌, ℕ, zero, suc, ◌+◌, ◌<◌, List, [], ◌∷◌, ◌++◌, Bool, false, take, set, slice_index_or, get_or-set_other, refl, sym, ap, ◌∙◌, subst}
 use mathlib.Core.Option.{some, some-injective, some-ne-none}
 use mathlib.Core.Logic.{dite}

@@ -1,3 +1,4 @@
+-- The callers so far are new and in the order of their numbers, and the seat that is left has the records of those to come.
 use Rattle.std.proofs.Common.{◌≡◌, ◌-◌, ℕ, [], length, All}
 use mathlib.Core.Option.{some}
 use lib.ListN.{get_elem?}

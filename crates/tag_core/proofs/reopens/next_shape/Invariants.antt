@@ -1,3 +1,4 @@
+-- The counts of the callers so far are at the places of their numbers.
 use Rattle.std.proofs.Common.{◌≡◌, ℕ, ◌<◌, length, slice_index}
 use mathlib.Core.Option.{some}
 use lib.ListN.{get_elem?}

@@ -1,3 +1,4 @@
+-- No caller so far has the number.
 use Rattle.std.proofs.Common.{◌≢◌, ℕ, ◌<◌}
 use mathlib.Core.Option.{some}
 use lib.ListN.{get_elem?}

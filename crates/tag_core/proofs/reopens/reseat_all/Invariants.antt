@@ -1,3 +1,5 @@
+-- Callers with lower numbers are on the new map with fresh records, the others are as they were, and the seat that is left has
+-- the records of those still to come.
 use Rattle.std.proofs.Common.{◌≡◌, ℕ, ◌+◌, ◌-◌, ◌<◌, ◌≤◌, [], length, replicate, All}
 use mathlib.Core.Option.{some}
 use lib.ListN.{get_elem?}

@@ -1,3 +1,4 @@
+-- There are as many masks as rounds so far, and each is empty.
 use Rattle.std.proofs.Common.{◌≡◌, length, replicate, All}
 use Rattle.tag_core.proofs.reopens.spare_masks.Given as goal
 

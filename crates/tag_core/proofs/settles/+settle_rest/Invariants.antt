@@ -1,3 +1,4 @@
+-- Each call takes one caller off the list.
 use Rattle.std.proofs.Common.{vec_len}
 use Rattle.tag_core.proofs.settles.+settle_rest.Given as goal
 

@@ -1,3 +1,4 @@
+-- The bits of the masks so far are counted, at most 64 a mask.
 use Rattle.std.proofs.Common.{◌≡◌, ◌≤◌, ◌*◌, take}
 use Rattle.tag_core.specs.Sizes.{size_of}
 use Rattle.tag_core.proofs.together.count_tags.Given as goal

@@ -1,3 +1,4 @@
+-- The callers still to be added and those gathered so far are together all that were handed in. Each round takes one.
 use Rattle.std.proofs.Common.{◌≡◌, ◌++◌, All, map, length}
 use Rattle.tag_core.specs.Callers.{IsCallerOf, record_of}
 use Rattle.tag_core.specs.Gathering.{IsGatheringOf, gathered}

@@ -1,3 +1,4 @@
+-- Two callers in one view belong to one history, in which a tag has one holder; then each gets its own record back.
 use Rattle.std.proofs.Common.{◌≡◌, [], ◌∷◌, sym, ap, ◌∙◌, subst}
 use Rattle.tag_core.specs.declared.caller.Caller.{Caller}
 use Rattle.tag_core.specs.declared.record.View.{View}

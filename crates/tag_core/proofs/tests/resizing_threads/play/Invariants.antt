@@ -1,3 +1,4 @@
+-- The caller stays one of the map's.
 use Rattle.tag_core.specs.Callers.{IsCallerOf}
 use Rattle.tag_core.proofs.tests.resizing_threads.play.Given as goal
 
