@@ -24,7 +24,7 @@ fn whole(layout: Layout, word: u32) -> Rank
     Rank::new(0, layout.word_depth(word), true)
 }
 
-/// Visits all words in cyclic order from `first`, until a visit wins a tag. Only the first visit is inlined.
+/// Visits all words in cyclic order from `first`, until a visit wins a tag. Only the first pass is inlined.
 #[inline(always)]
 pub fn search_whole<P: Port>(port: &mut P, layout: Layout, first: u32) -> Option<u32>
     requires port { P.ready port.old }
