@@ -111,8 +111,7 @@ abbrev pub put_back : ℕ → Lone → Lone
 put_back number w =
     record w {
       pool = aside_at (word_of w.layout number) (place_of w.layout number) w.pool;
-      hint =
-          hint_at number w.hint;
+      hint = hint_at number w.hint;
     }
 
 -- the place is that of a tag of the list

@@ -36,8 +36,7 @@ opened l round_robin least =
       least = least;
       pool = all_free;
       hint = record { at = 0; round_robin = round_robin };
-      won =
-          0;
+      won = 0;
       back = 0;
     }
 
