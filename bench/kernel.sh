@@ -1,12 +1,12 @@
 #!/usr/bin/env bash
 # kernel.sh [REPETITIONS [ROUNDS]]: runs pair, ring, full, pass and batch of tag_bench, over the map and over the queue, and of
-# what stands beside it in alternation, seven times with 60000 rounds unless told otherwise, prints a table and draws
+# what stands beside it in alternation, three times with 200000 rounds unless told otherwise, prints two tables and draws
 # bench/out/kernel.svg.
 # rt, gcc, rustc, python3, apt-get and dpkg-deb are on the path; the first run downloads 154 MB from Debian's archive.
 set -euo pipefail
 cd "$(dirname "$0")/.."
-repetitions=${1:-7}
-rounds=${2:-60000}
+repetitions=${1:-3}
+rounds=${2:-200000}
 out=bench/out
 workloads=(pair ring full pass batch)
 bench=crates/tag_bench/out/tag_bench
@@ -15,11 +15,12 @@ c/library.sh build > /dev/null
 bench/kernel/build.sh "$out"
 (cd crates/tag_bench && rt run > /dev/null)
 
-# The lines of one program at one case, with the number of the repetition. A round of batch is an eighth of a call.
+# The lines of one program at one case, with the number of the repetition. Each of its threads has a processor of its own, as far
+# as there are enough. A round of batch is an eighth of a call.
 measure() {
   local count=$rounds
   if [ "$workload" = batch ]; then count=$((8 * rounds)); fi
-  "$@" --depth "$depth" --threads "$threads" --rounds "$count" \
+  LD_PRELOAD=$PWD/$out/pin.so "$@" --depth "$depth" --threads "$threads" --rounds "$count" \
     | sed "s/^{/{\"repetition\":$repetition,/" >> "$out/kernel.json"
 }
 ours() {

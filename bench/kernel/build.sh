@@ -51,6 +51,8 @@ compile "$here/sbitmap_tags.c" sbitmap_tags -Wall -Wextra -Wno-sign-compare -Wno
 rm -f "$out/libsbitmap.a"
 ar rcs "$out/libsbitmap.a" "$out"/{sbitmap,find_bit,sbitmap_tags}.o
 
+gcc -std=gnu11 -O2 -Wall -Wextra -shared -fPIC "$here/pin.c" -o "$out/pin.so" -ldl
+
 rust() {
   rustc -O -C target-cpu=x86-64-v2 -C codegen-units=1 --cap-lints allow --out-dir "$out" -L "$out" "$@"
 }

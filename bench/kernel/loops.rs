@@ -112,7 +112,7 @@ impl Slots {
 
     /// A load and a store, as of plain memory.
     #[inline]
-    fn touch(&self, tag: u32, value: u64) {
+    pub fn touch(&self, tag: u32, value: u64) {
         let slot = &self.0[tag as usize];
         std::hint::black_box(slot.load(Relaxed));
         slot.store(value, Relaxed);

@@ -1,6 +1,6 @@
 //! What the workloads `pair`, `ring`, `full`, `pass` and `batch` of `tag_bench` are set beside: the kernel's sbitmap_queue,
-//! the C interface of this repository, a queue of the free tags, a list of them behind a lock, and two locked steps on lines of
-//! the thread's own.
+//! the C interface of this repository, a queue of the free tags, a list of them behind a lock, two locked steps on lines of
+//! the thread's own, and arithmetic alone.
 //! `main WORKLOAD [--threads N] [--depth N] [--rounds N]` prints a line of JSON a case.
 #[path = "../baseline/clock.rs"]
 mod clock;
@@ -10,6 +10,7 @@ mod kernel;
 mod limit;
 mod lists;
 mod loops;
+mod registers;
 mod tag_c;
 
 use crate::frame::{Case, Options};
@@ -17,7 +18,8 @@ use crate::kernel::Kernel;
 use crate::limit::Limit;
 use crate::lists::{List, Queue};
 use crate::loops::{Slots, Tags, Way, Workload};
-use crate::tag_c::TagC;
+use crate::registers::Registers;
+use crate::tag_c::{Beside, InPool, TagC};
 use std::process::ExitCode;
 
 /// Tags of the map, where no count is asked for.
@@ -56,11 +58,15 @@ fn run(workload: Workload, options: &Options, depth: u32) {
             };
             case(Hints::Apart).measure::<Kernel>();
             case(Hints::FromZero).measure::<Kernel>();
-            case(Hints::Apart).measure::<TagC>();
-            case(Hints::FromZero).measure::<TagC>();
+            case(Hints::Apart).measure::<TagC<InPool>>();
+            case(Hints::FromZero).measure::<TagC<InPool>>();
+            case(Hints::Apart).measure::<TagC<Beside>>();
             case(Hints::None).measure::<Queue>();
             case(Hints::None).measure::<List>();
             case(Hints::None).measure::<Limit>();
+            if workload == Workload::Pair {
+                case(Hints::None).measure::<Registers>();
+            }
         }
     }
 }

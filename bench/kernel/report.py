@@ -1,9 +1,11 @@
 """report.py LINES SVG: prints what kernel.sh measured as a table, and draws a part of it.
 
-A figure is the median over the repetitions. A ratio is one of times by the clock, to the kernel's time with hints apart in
-the same repetition; less is better. The last columns are a ratio of processor time, and the nanoseconds that an operation over
-tag_queue takes more than one over the map alone, and one through C more than one over tag_queue, in the same repetition, with
-hints apart."""
+A figure is the median over the repetitions. Times are a thread's processor time, which a machine that is busy with something
+else changes little. A ratio is to the kernel's time with hints apart in the same repetition; less is better. The last columns are
+a ratio by the clock, and the nanoseconds that an operation over tag_queue takes more than one over the map alone, and one
+through C more than one over tag_queue, in the same repetition, with hints apart. A second table has how many times as long one of
+several threads takes as one alone, hints apart; by the clock too, where what is above the processor time is time that the machine
+did not give to the threads."""
 import json
 import statistics
 import sys
@@ -13,6 +15,9 @@ KERNEL = ("kernel", "apart")
 OURS = ("tag_bench", "apart")
 QUEUE = ("tag_queue", "apart")
 THROUGH_C = ("tag_c", "apart")
+OWN_SLOTS = ("tag_c, own slots", "apart")
+LIMIT = ("limit", None)
+REGISTERS = ("registers", None)
 COLUMNS = [
     ("tag_bench", OURS),
     ("tag_bench, from 0", ("tag_bench", "from 0")),
@@ -20,11 +25,14 @@ COLUMNS = [
     ("tag_queue, from 0", ("tag_queue", "from 0")),
     ("tag_c", THROUGH_C),
     ("tag_c, from 0", ("tag_c", "from 0")),
+    ("tag_c, own slots", OWN_SLOTS),
     ("kernel, from 0", ("kernel", "from 0")),
     ("queue", ("queue", None)),
     ("locked list", ("locked list", None)),
-    ("limit", ("limit", None)),
+    ("limit", LIMIT),
 ]
+# Of which contenders the second table says how much longer a thread takes while others run.
+SCALING = [REGISTERS, LIMIT, KERNEL, OURS, QUEUE, THROUGH_C]
 # What the plot has: its panels, and of each contender its name and colour.
 PLOTTED_DEPTH = 1024
 PANELS = [
@@ -38,7 +46,7 @@ LINES = [
     (KERNEL, "kernel", "#b3261e"),
     (("queue", None), "queue", "#3b5ba5"),
     (("locked list", None), "locked list", "#8a6d1d"),
-    (("limit", None), "limit", "#777777"),
+    (LIMIT, "limit", "#777777"),
 ]
 
 
@@ -58,7 +66,7 @@ def read(path):
     return figures
 
 
-def ratio(case, who, what="ns"):
+def ratio(case, who, what="processor"):
     """The median of the ratios to the kernel of the same repetition. None where either was not measured."""
     ours, kernel = case.get(who, {}), case.get(KERNEL, {})
     ratios = [ours[at][what] / max(kernel[at][what], 0.01) for at in ours if at in kernel]
@@ -68,27 +76,46 @@ def ratio(case, who, what="ns"):
 def costs(case, upper, lower):
     """The median of what an upper layer takes more than a lower one in the same repetition, in nanoseconds."""
     above, below = case.get(upper, {}), case.get(lower, {})
-    more = [above[at]["ns"] - below[at]["ns"] for at in above if at in below]
+    more = [above[at]["processor"] - below[at]["processor"] for at in above if at in below]
     return statistics.median(more) if more else None
 
 
 def median(case, who):
-    return statistics.median(entry["ns"] for entry in case[who].values())
+    return statistics.median(entry["processor"] for entry in case[who].values())
 
 
 def print_table(figures):
     head = ["workload", "depth", "threads", "kernel, ns"]
-    head += [title for title, _ in COLUMNS] + ["tag_bench, processor"]
+    head += [title for title, _ in COLUMNS] + ["tag_bench, clock"]
     head += ["tag_queue over tag_bench, ns", "tag_c over tag_queue, ns"]
     print("| " + " | ".join(head) + " |")
     print("|" + "---|" * len(head))
     for (workload, depth, threads), case in figures.items():
-        ratios = [ratio(case, who) for _, who in COLUMNS] + [ratio(case, OURS, "processor")]
+        ratios = [ratio(case, who) for _, who in COLUMNS] + [ratio(case, OURS, "ns")]
         row = [workload, str(depth), str(threads), f"{median(case, KERNEL):.1f}" if KERNEL in case else ""]
         row += ["" if value is None else f"{value:.2f}" for value in ratios]
         more = [costs(case, QUEUE, OURS), costs(case, THROUGH_C, QUEUE)]
         row += ["" if cost is None else f"{cost:+.1f}" for cost in more]
         print("| " + " | ".join(row) + " |")
+
+
+def slowdown(figures, workload, who, threads, what):
+    """The median of the ratios of what one of several threads takes to what one alone takes, in the same repetition."""
+    several = figures.get((workload, PLOTTED_DEPTH, threads), {}).get(who, {})
+    alone = figures.get((workload, PLOTTED_DEPTH, 1), {}).get(who, {})
+    ratios = [several[at][what] / max(alone[at][what], 0.01) for at in several if at in alone]
+    return statistics.median(ratios) if ratios else None
+
+
+def print_scaling(figures):
+    print("| time | workload | threads | " + " | ".join(name for name, _ in SCALING) + " |")
+    print("|" + "---|" * (3 + len(SCALING)))
+    for what, time in (("processor", "processor"), ("ns", "clock")):
+        for workload in ("pair", "ring"):
+            for threads in (2, 4):
+                ratios = [slowdown(figures, workload, who, threads, what) for who in SCALING]
+                cells = ["" if value is None else f"{value:.2f}" for value in ratios]
+                print(f"| {time} | {workload} | {threads} | " + " | ".join(cells) + " |")
 
 
 class Panel:
@@ -132,7 +159,7 @@ def draw(figures, path):
         f'<svg xmlns="http://www.w3.org/2000/svg" width="{width}" height="{height}" viewBox="0 0 {width} {height}"'
         ' font-family="sans-serif" font-size="12" fill="#222">',
         f'<rect width="{width}" height="{height}" fill="#fff"/>',
-        text(Panel.LEFT, 20, f"A get, a touch and a clear: nanoseconds of one thread, depth {PLOTTED_DEPTH}", font_size=14),
+        text(Panel.LEFT, 20, f"A get, a touch and a clear: nanoseconds of a thread's processor time, depth {PLOTTED_DEPTH}", font_size=14),
     ]
     for index, (workload, title) in enumerate(PANELS):
         panel = Panel(index, least, most)
@@ -177,6 +204,8 @@ def draw_legend(y):
 def main():
     figures = read(sys.argv[1])
     print_table(figures)
+    print()
+    print_scaling(figures)
     draw(figures, sys.argv[2])
 
 

@@ -1,6 +1,8 @@
-//! The tags of this repository as a C program has them: each call crosses the C interface, and the slots are the pool's own.
+//! The tags of this repository as a C program has them: each call crosses the C interface. What belongs to a tag is kept in the
+//! pool's slots, or, as beside the kernel's sbitmap, in an array of the program's own.
 use crate::loops::{Slots, Tags, BATCH};
 use std::ffi::c_void;
+use std::marker::PhantomData;
 use std::ptr::null_mut;
 use std::sync::{Mutex, MutexGuard, PoisonError};
 
@@ -47,13 +49,47 @@ unsafe extern "C" {
     fn tags_library_take(hand: *mut Handle, tag: u32) -> i32;
 }
 
-/// A pool from its open to its close.
-pub struct TagC {
-    pool: Mutex<Handle>,
-    flags: u32,
+/// Where a program keeps what belongs to a tag.
+pub trait Keeping: Sync {
+    const NAME: &'static str;
+
+    fn touch(hand: &mut Hand, slots: &Slots, tag: u32, value: u64);
 }
 
-impl TagC {
+/// In the pool's slots, each of which only the holder of its tag reads and writes.
+pub struct InPool;
+
+impl Keeping for InPool {
+    const NAME: &'static str = "tag_c";
+
+    #[inline]
+    fn touch(hand: &mut Hand, _slots: &Slots, tag: u32, value: u64) {
+        let mut former = 0;
+        // SAFETY: as of `drop`.
+        unsafe { tags_library_write(&mut hand.0, tag, value, &mut former) };
+    }
+}
+
+/// In an array of the program's own.
+pub struct Beside;
+
+impl Keeping for Beside {
+    const NAME: &'static str = "tag_c, own slots";
+
+    #[inline]
+    fn touch(_hand: &mut Hand, slots: &Slots, tag: u32, value: u64) {
+        slots.touch(tag, value);
+    }
+}
+
+/// A pool from its open to its close.
+pub struct TagC<K> {
+    pool: Mutex<Handle>,
+    flags: u32,
+    keeping: PhantomData<K>,
+}
+
+impl<K> TagC<K> {
     fn pool(&self) -> MutexGuard<'_, Handle> {
         self.pool.lock().unwrap_or_else(PoisonError::into_inner)
     }
@@ -69,11 +105,11 @@ impl Drop for Hand {
     }
 }
 
-impl Tags for TagC {
-    const NAME: &'static str = "tag_c";
+impl<K: Keeping> Tags for TagC<K> {
+    const NAME: &'static str = K::NAME;
     type User = Hand;
 
-    fn open(depth: u32, threads: u32, stride: u32) -> TagC {
+    fn open(depth: u32, threads: u32, stride: u32) -> TagC<K> {
         let options = Options {
             total: depth,
             reserved: 0,
@@ -89,6 +125,7 @@ impl Tags for TagC {
         TagC {
             pool: Mutex::new(pool),
             flags: if stride == 0 { STAY } else { 0 },
+            keeping: PhantomData,
         }
     }
 
@@ -107,10 +144,8 @@ impl Tags for TagC {
     }
 
     #[inline]
-    fn touch(&self, hand: &mut Hand, _slots: &Slots, tag: u32, value: u64) {
-        let mut former = 0;
-        // SAFETY: as of `drop`.
-        unsafe { tags_library_write(&mut hand.0, tag, value, &mut former) };
+    fn touch(&self, hand: &mut Hand, slots: &Slots, tag: u32, value: u64) {
+        K::touch(hand, slots, tag, value);
     }
 
     #[inline]
