@@ -12,7 +12,7 @@ impl<R: Copy> Queue<R> {
     /// Takes a free tag, which this agent alone holds until it clears or posts the tag. `None` means that each tag that
     /// the search looked at was found taken at some moment of the call, not that all were taken at the same moment.
     /// `Spent` means that the agent's life is used up.
-    #[inline]
+    #[inline(always)]
     pub fn get(&self, agent: &mut Agent<R>) -> Result<Option<u32>, TagFault>
         requires agent { IsAgentOf self.now agent.old }
         ensures agent { IsAgentOf self.now agent.new }

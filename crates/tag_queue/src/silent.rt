@@ -12,6 +12,7 @@ use wake_book::Walked;
 impl<R: Copy> Queue<R> {
     /// Like `clear`, but wakes no sleeper, and so links nothing that does. It returns how many waiters it granted a
     /// wakeup, and leaves waking them to the caller.
+    #[inline]
     pub fn clear_silently(&self, agent: &mut Agent<R>, tag: u32) -> Result<u32, TagFault>
         requires agent { IsAgentOf self.now agent.old }
         ensures agent { IsAgentOf self.now agent.new }

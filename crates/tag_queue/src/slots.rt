@@ -42,6 +42,7 @@ impl<R: Copy> Queue<R> {
     }
 
     /// Gives up a held tag with its slot, so that another agent can `take` it. Whichever agent takes it first gets it.
+    #[inline]
     pub fn post(&self, agent: &mut Agent<R>, tag: u32) -> Result<(), TagFault>
         requires agent { IsAgentOf self.now agent.old }
         ensures agent { IsAgentOf self.now agent.new }
@@ -57,6 +58,7 @@ impl<R: Copy> Queue<R> {
     }
 
     /// Takes a posted tag with its slot. `NotPosted` leaves the agent unchanged except for one step in its list.
+    #[inline]
     pub fn take(&self, agent: &mut Agent<R>, tag: u32) -> Result<(), TagFault>
         requires agent { IsAgentOf self.now agent.old }
         ensures agent { IsAgentOf self.now agent.new }

@@ -12,7 +12,7 @@ impl<R: Copy> Tags<R> {
     /// Takes a free ordinary tag, which this hand alone holds until it clears or posts the tag. `None` means that each
     /// tag that the search looked at was found taken at some moment of the call, not that all were taken at the same
     /// moment. `Spent` means that the hand's life in the ordinary set is used up.
-    #[inline]
+    #[inline(always)]
     pub fn get(&self, hand: &mut Hand<R>) -> Result<Option<u32>, TagFault>
         requires hand { IsHandOf self.now hand.old }
         ensures hand { IsHandOf self.now hand.new }

@@ -15,6 +15,7 @@ use tag_queue::TagFault;
 impl<R: Copy> Tags<R> {
     /// Like `clear`, but wakes no sleeper, and so links nothing that does. It returns how many waiters it granted a
     /// wakeup, and leaves waking them to the caller.
+    #[inline]
     pub fn clear_silently(&self, hand: &mut Hand<R>, tag: u32) -> Result<u32, TagFault>
         requires hand { IsHandOf self.now hand.old }
         ensures hand { IsHandOf self.now hand.new }

@@ -49,6 +49,7 @@ impl<R: Copy> Tags<R> {
     }
 
     /// Gives up a held tag with its slot, so that another hand can `take` it. Whichever hand takes it first gets it.
+    #[inline]
     pub fn post(&self, hand: &mut Hand<R>, tag: u32) -> Result<(), TagFault>
         requires hand { IsHandOf self.now hand.old }
         ensures hand { IsHandOf self.now hand.new }
@@ -66,6 +67,7 @@ impl<R: Copy> Tags<R> {
     }
 
     /// Takes a posted tag with its slot. `NotPosted` leaves the hand unchanged except for one step in its list.
+    #[inline]
     pub fn take(&self, hand: &mut Hand<R>, tag: u32) -> Result<(), TagFault>
         requires hand { IsHandOf self.now hand.old }
         ensures hand { IsHandOf self.now hand.new }
