@@ -31,7 +31,7 @@ impl Fits for Resting {
 pub type Berth = Counted<Option<Resting>>;
 
 /// Returns a new berth with this hand in it.
-pub fn berth_of(hand: Hand<u64>) -> Berth
+pub(crate) fn berth_of(hand: Hand<u64>) -> Berth
     requires { SharesTags hand hand }
     ensures { result ≡ hand }
 {
@@ -42,7 +42,7 @@ pub fn berth_of(hand: Hand<u64>) -> Berth
 }
 
 /// Takes a berth apart and returns its hand, if it has one.
-pub fn hand_of(berth: Berth) -> Option<Hand<u64>>
+pub(crate) fn hand_of(berth: Berth) -> Option<Hand<u64>>
     ensures { IfSome result (SharesTags berth) }
 {
     let Resting { hand } = berth.into_inner()?;
@@ -50,7 +50,7 @@ pub fn hand_of(berth: Berth) -> Option<Hand<u64>>
 }
 
 /// Takes the hand out of a berth. `None` if it has none, or if another thread is moving a hand in or out.
-pub fn take_from(berth: &Berth) -> Option<Hand<u64>>
+pub(crate) fn take_from(berth: &Berth) -> Option<Hand<u64>>
     ensures { IfSome result (SharesTags berth.now) }
 {
     if berth.load() != OCCUPIED {
@@ -66,7 +66,7 @@ pub fn take_from(berth: &Berth) -> Option<Hand<u64>>
 }
 
 /// Puts a hand into a berth. Returns it if the berth is not empty, or if another thread is moving a hand in or out.
-pub fn put_into(berth: &Berth, hand: Hand<u64>) -> Result<(), Hand<u64>>
+pub(crate) fn put_into(berth: &Berth, hand: Hand<u64>) -> Result<(), Hand<u64>>
     requires { SharesTags berth.now hand }
     ensures { IfErr result (λ back. back ≡ hand) }
 {

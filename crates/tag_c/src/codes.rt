@@ -9,7 +9,7 @@ use tag_sets::{Left, TagFault};
 
 /// Returns the tag, `NoTag` if none was found, or the status of the error.
 #[inline]
-pub fn get_code(answer: Result<Option<u32>, TagFault>) -> i32
+pub(crate) fn get_code(answer: Result<Option<u32>, TagFault>) -> i32
     requires { IfOk answer (λ found. IfSome found (λ tag. tag ≤ MAX_DEPTH)) }
     ensures { result ≡ code_of_get answer }
 {
@@ -22,7 +22,7 @@ pub fn get_code(answer: Result<Option<u32>, TagFault>) -> i32
 
 /// Returns the first tag of the run, `NoTag` if there is none, or the status of the error.
 #[inline]
-pub fn batch_code(answer: Result<Option<(u32, u64)>, TagFault>) -> i32
+pub(crate) fn batch_code(answer: Result<Option<(u32, u64)>, TagFault>) -> i32
     requires { IfOk answer (λ found. IfSome found (λ run. run.0 ≤ MAX_DEPTH)) }
     ensures { result ≡ code_of_batch answer }
 {
@@ -35,7 +35,7 @@ pub fn batch_code(answer: Result<Option<(u32, u64)>, TagFault>) -> i32
 
 /// Returns the count. The bound serves the proof alone: no count of the tags is larger.
 #[inline]
-pub fn number_code(count: u32) -> i32
+pub(crate) fn number_code(count: u32) -> i32
     ensures { result ≡ pos (min count MAX_DEPTH) }
 {
     count.min(MAX_DEPTH) as i32
@@ -43,7 +43,7 @@ pub fn number_code(count: u32) -> i32
 
 /// Returns the count, or the status of the error.
 #[inline]
-pub fn count_code(answer: Result<u32, TagFault>) -> i32
+pub(crate) fn count_code(answer: Result<u32, TagFault>) -> i32
     ensures { result ≡ code_of_count answer }
 {
     match answer {
@@ -54,7 +54,7 @@ pub fn count_code(answer: Result<u32, TagFault>) -> i32
 
 /// Returns 0, or the status of the error.
 #[inline]
-pub fn done_code(answer: Result<(), TagFault>) -> i32
+pub(crate) fn done_code(answer: Result<(), TagFault>) -> i32
     ensures { result ≡ code_of_done answer }
 {
     match answer {
@@ -66,7 +66,7 @@ pub fn done_code(answer: Result<(), TagFault>) -> i32
 /// Returns 1 for a wait that used a grant, 0 for one that found none, `Again` if the wait group changed meanwhile, or
 /// the status of the error.
 #[inline]
-pub fn finish_code(answer: Result<Option<Left>, TagFault>) -> i32
+pub(crate) fn finish_code(answer: Result<Option<Left>, TagFault>) -> i32
     ensures { result ≡ code_of_finish answer }
 {
     match answer {
@@ -79,7 +79,7 @@ pub fn finish_code(answer: Result<Option<Left>, TagFault>) -> i32
 
 /// Writes the value and returns 0, or returns the status of the error and leaves `value` unchanged.
 #[inline]
-pub fn value_code(answer: Result<u64, TagFault>, value: &mut u64) -> i32
+pub(crate) fn value_code(answer: Result<u64, TagFault>, value: &mut u64) -> i32
     ensures code { result ≡ code_of_done answer }
     ensures value { IfOk answer (λ found. value.new ≡ found) }
     ensures kept { IsRefusal result → value.new ≡ value.old }

@@ -12,7 +12,7 @@ use std::alloc::Global;
 impl Object {
     #[inline]
     /// Takes a free ordinary tag and returns it.
-    pub fn get(&mut self) -> i32
+    pub(crate) fn get(&mut self) -> i32
         ensures { Calls (Through DoesGet code_of_get result) result self.old self.new }
     {
         let Kind::Member(member) = &mut self.kind else {
@@ -23,7 +23,7 @@ impl Object {
 
     #[inline]
     /// Takes a free reserved tag and returns it.
-    pub fn get_reserved(&mut self) -> i32
+    pub(crate) fn get_reserved(&mut self) -> i32
         ensures { Calls (Through DoesGetReserved code_of_get result) result self.old self.new }
     {
         let Kind::Member(member) = &mut self.kind else {
@@ -34,7 +34,7 @@ impl Object {
 
     #[inline]
     /// Takes a free ordinary tag within the words' shares of `depth` and returns it.
-    pub fn get_shallow(&mut self, depth: u32) -> i32
+    pub(crate) fn get_shallow(&mut self, depth: u32) -> i32
         ensures { Calls (Through (DoesGetShallow depth) code_of_get result) result self.old self.new }
     {
         let Kind::Member(member) = &mut self.kind else {
@@ -46,7 +46,7 @@ impl Object {
     /// Takes up to `n` ordinary tags of one word, and returns the first tag of their run. Bit 0 of `won` becomes 1 if
     /// that tag was won, bit 1 if the next one was, and so on. If no tag was won, `won` keeps its value.
     #[inline]
-    pub fn get_batch(&mut self, n: u32, won: &mut u64) -> i32
+    pub(crate) fn get_batch(&mut self, n: u32, won: &mut u64) -> i32
         ensures calls { Calls (Through (DoesGetBatch n won.new) code_of_batch result) result self.old self.new }
         ensures kept { IsRefusal result → won.new ≡ won.old }
     {

@@ -11,7 +11,7 @@ use std::alloc::Global;
 impl Object {
     #[inline]
     /// Gives a held tag back, and returns how many waiters were granted a wakeup.
-    pub fn clear(&mut self, tag: u32) -> i32
+    pub(crate) fn clear(&mut self, tag: u32) -> i32
         ensures { Calls (Through (DoesClear tag) code_of_count result) result self.old self.new }
     {
         let Kind::Member(member) = &mut self.kind else {
@@ -22,7 +22,7 @@ impl Object {
 
     #[inline]
     /// Gives held ordinary tags back, and returns how many waiters were granted a wakeup.
-    pub fn clear_batch(&mut self, tags: &[u32]) -> i32
+    pub(crate) fn clear_batch(&mut self, tags: &[u32]) -> i32
         ensures { Calls (Through (DoesClearBatch tags.now) code_of_count result) result self.old self.new }
     {
         let Kind::Member(member) = &mut self.kind else {
@@ -38,7 +38,7 @@ impl Object {
 
     #[inline]
     /// Enters a wait group, and returns its index, below 8.
-    pub fn prepare(&mut self) -> i32
+    pub(crate) fn prepare(&mut self) -> i32
         ensures { Calls (Through DoesPrepare code_of_count result) result self.old self.new }
     {
         let Kind::Member(member) = &mut self.kind else {
@@ -49,7 +49,7 @@ impl Object {
 
     #[inline]
     /// Leaves the wait group, and returns 1 if the wait used a grant, and 0 if it found none.
-    pub fn finish(&mut self) -> i32
+    pub(crate) fn finish(&mut self) -> i32
         ensures { Calls (Through DoesFinish code_of_finish result) result self.old self.new }
     {
         let Kind::Member(member) = &mut self.kind else {

@@ -20,7 +20,7 @@ pub struct Handle {
 
 impl Handle {
     /// Returns an empty handle.
-    pub fn empty(alloc: Global) -> Handle
+    pub(crate) fn empty(alloc: Global) -> Handle
         ensures { result.object.value ≡ None }
     {
         Handle {
@@ -30,7 +30,7 @@ impl Handle {
     }
 
     /// Returns a handle that owns this object.
-    pub fn of(object: Box<Object, Global>) -> Handle
+    pub(crate) fn of(object: Box<Object, Global>) -> Handle
         ensures { result.object.value ≡ Some object.value }
     {
         Handle {
@@ -40,7 +40,7 @@ impl Handle {
     }
 
     /// Returns the object, or `None` if the handle is empty.
-    pub fn into_box(self) -> Option<Box<Object, Global>>
+    pub(crate) fn into_box(self) -> Option<Box<Object, Global>>
         ensures some { IfSome result (λ object. self.object.value ≡ Some object.value) }
         ensures none { IfNone result (self.object.value ≡ None) }
     {
@@ -53,7 +53,7 @@ impl Handle {
     }
 
     /// Takes the object out and leaves the handle empty. Returns `None` if it was empty before.
-    pub fn take(&mut self, alloc: Global) -> Option<Box<Object, Global>>
+    pub(crate) fn take(&mut self, alloc: Global) -> Option<Box<Object, Global>>
         ensures some { IfSome result (λ object. self.old.object.value ≡ Some object.value) }
         ensures none { IfNone result (self.old.object.value ≡ None) }
         ensures empty { self.new.object.value ≡ None }

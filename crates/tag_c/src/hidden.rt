@@ -23,7 +23,7 @@ impl Model for Hidden {
 
 impl Hidden {
     /// Returns a null pointer, with no object.
-    pub fn empty(alloc: Global) -> Hidden
+    pub(crate) fn empty(alloc: Global) -> Hidden
         ensures { result.value ≡ None }
     {
         Hidden {
@@ -33,7 +33,7 @@ impl Hidden {
     }
 
     /// Drops the type of the pointer, and keeps the object.
-    pub fn hide(loose: Loose<Object, Global>) -> Hidden
+    pub(crate) fn hide(loose: Loose<Object, Global>) -> Hidden
         ensures { result.value ≡ Some loose.value }
     {
         let Loose { at, alloc } = loose;
@@ -44,7 +44,7 @@ impl Hidden {
     }
 
     /// Gives the pointer its type back. There must be an object.
-    pub fn show(self) -> Loose<Object, Global>
+    pub(crate) fn show(self) -> Loose<Object, Global>
         requires { (x : Object) × (self.value ≡ Some x) }
         ensures { self.value ≡ Some result.value }
     {

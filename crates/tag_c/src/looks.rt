@@ -45,7 +45,7 @@ pub struct Counts {
 impl Object {
     /// Returns 1 if the hand holds the tag, and 0 if not.
     #[inline]
-    pub fn holds(&mut self, tag: u32) -> i32
+    pub(crate) fn holds(&mut self, tag: u32) -> i32
         ensures { Calls (SaysHeld tag result) result self.old self.new }
     {
         let Behind::Member(member) = &mut self.kind else {
@@ -59,7 +59,7 @@ impl Object {
 
     /// Returns how many tags of both sets are busy. Bit `tag % 64` of `into[tag / 64]` becomes 1 for each of them, and
     /// every other bit becomes 0.
-    pub fn busy(&mut self, into: &mut [u64]) -> i32
+    pub(crate) fn busy(&mut self, into: &mut [u64]) -> i32
         ensures calls { Calls (SaysBusy into.old into.new result) result self.old self.new }
         ensures kept { IsRefusal result → into.new ≡ into.old }
     {
@@ -73,7 +73,7 @@ impl Object {
     }
 
     /// Writes the sizes of the ordinary set if `kind` is 0, and of the reserved set if it is 1.
-    pub fn show(&mut self, kind: u32, sizes: &mut Sizes) -> i32
+    pub(crate) fn show(&mut self, kind: u32, sizes: &mut Sizes) -> i32
         ensures calls { Calls (SaysShown kind sizes.new result) result self.old self.new }
         ensures kept { IsRefusal result → sizes.new ≡ sizes.old }
     {
@@ -97,7 +97,7 @@ impl Object {
     }
 
     /// Writes the counts of completions and of waiters, each from a load of its own.
-    pub fn wakes(&mut self, counts: &mut Counts) -> i32
+    pub(crate) fn wakes(&mut self, counts: &mut Counts) -> i32
         ensures calls { Calls (SaysWakes counts.new result) result self.old self.new }
         ensures kept { IsRefusal result → counts.new ≡ counts.old }
     {

@@ -18,7 +18,7 @@ impl<T, A: Allocator> Model for Loose<T, A> {
 
 impl<T: Drop, A: Allocator> Loose<T, A> {
     /// Takes a box apart.
-    pub fn of(value: Box<T, A>) -> Loose<T, A>
+    pub(crate) fn of(value: Box<T, A>) -> Loose<T, A>
         ensures { result.value ≡ value.value }
     {
         let (at, alloc) = Box::into_raw_with_allocator(value);
@@ -26,7 +26,7 @@ impl<T: Drop, A: Allocator> Loose<T, A> {
     }
 
     /// Makes the box again.
-    pub fn into_box(self) -> Box<T, A>
+    pub(crate) fn into_box(self) -> Box<T, A>
         ensures { result.value ≡ self.value }
     {
         let Loose { at, alloc } = self;

@@ -19,7 +19,7 @@ pub struct Member {
 impl Member {
     /// Puts the hand into a free berth of its pool, or returns it if none is free. A pool has a berth for each of its
     /// hands, so that is not expected, but it is not ruled out by a proof.
-    pub fn leave(self) -> Result<(), Member>
+    pub(crate) fn leave(self) -> Result<(), Member>
         ensures { IfErr result (λ back. back ≡ self) }
     {
         let Member { shared, hand } = self;

@@ -20,6 +20,6 @@ fn must_send<T: Send>(value: T) -> T {
 }
 
 /// Shows that an object may be sent to another thread: `must_send` takes only what is `Send`.
-pub fn sends_object(object: Object) -> Object {
+pub(crate) fn sends_object(object: Object) -> Object {
     must_send(object)
 }

@@ -7,7 +7,7 @@ use tag_sets::{Options, QueueTotals};
 
 /// Returns the options as `tag_sets` takes them. A negative shift and a `min_shallow` of 0 become `None`, and each hand
 /// may win and count as much as the limits allow.
-pub fn read_options(wishes: &Wishes) -> Options
+pub(crate) fn read_options(wishes: &Wishes) -> Options
     ensures { result ≡ options_of wishes.now }
 {
     let shift = if wishes.shift < 0 {
@@ -31,7 +31,7 @@ pub fn read_options(wishes: &Wishes) -> Options
 }
 
 /// Returns the totals of a pool as C sees them.
-pub fn read_sums(totals: QueueTotals) -> Sums
+pub(crate) fn read_sums(totals: QueueTotals) -> Sums
     ensures { result ≡ sums_of totals }
 {
     Sums {

@@ -20,7 +20,7 @@ pub struct Pool {
 
 impl Pool {
     /// Opens a pool whose tags are all free and whose slots are all 0, with each hand in a berth.
-    pub fn open(
+    pub(crate) fn open(
         alloc: Global,
         total: u32,
         reserved: u32,
@@ -43,7 +43,7 @@ impl Pool {
 
     /// Takes out a hand that no thread has. If `placed`, its next gets begin in its own part of the tags, and otherwise
     /// where its last get left off. Fails if all hands are out, or if the pool cannot be shared once more.
-    pub fn join(&self, placed: bool) -> Result<Member, Status>
+    pub(crate) fn join(&self, placed: bool) -> Result<Member, Status>
         ensures ok { IfOk result (λ member. arc_value member.shared ≡ arc_value self.now.shared) }
         ensures why { IfErr result LacksHand }
     {
@@ -60,13 +60,13 @@ impl Pool {
     }
 
     /// Returns whether all hands are back.
-    pub fn is_alone(&self) -> bool {
+    pub(crate) fn is_alone(&self) -> bool {
         Arc::strong_count(&self.shared) == 1
     }
 
     /// Closes the pool if all its hands are back, and otherwise returns it. `Ok(None)` means that a hand was missing
     /// from the berths. That is not expected, but it is not ruled out by a proof.
-    pub fn close(self) -> Result<Option<QueueTotals>, Pool>
+    pub(crate) fn close(self) -> Result<Option<QueueTotals>, Pool>
         ensures ok { IfOk result (λ totals. IfSome totals (Gathers (arc_value self.shared).tags)) }
         ensures err { IfErr result (λ back. back ≡ self) }
     {

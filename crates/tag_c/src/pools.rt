@@ -22,7 +22,7 @@ const STAY: u32 = 1;
 
 impl Object {
     /// Takes out a hand of this pool. Fails if this is a hand, if the flags are unknown, or if the pool gives no hand.
-    pub fn join(&self, flags: u32) -> Result<Member, Status>
+    pub(crate) fn join(&self, flags: u32) -> Result<Member, Status>
         ensures ok { IfOk result (λ member. IsPoolIn (arc_value member.shared).tags self.now.kind) }
         ensures why { IfErr result (λ status.
             ((status ≡ BadHandle) × ¬ ((tags : Tags ℕ) × IsPoolIn tags self.now.kind)) ⊎ RefusesHand flags status) }
@@ -37,7 +37,7 @@ impl Object {
     }
 
     /// Returns whether this is a hand.
-    pub fn is_hand(&self) -> bool
+    pub(crate) fn is_hand(&self) -> bool
         ensures { IsTrue result ↔ ((tags : Tags ℕ) × IsMemberIn tags self.now.kind) }
     {
         match &self.kind {
@@ -47,7 +47,7 @@ impl Object {
     }
 
     /// Puts the hand back into a berth of its pool. `NoBerth` if none is free.
-    pub fn leave(self) -> Status
+    pub(crate) fn leave(self) -> Status
         requires { (tags : Tags ℕ) × IsMemberIn tags self.kind }
         ensures { (result ≡ Done) ⊎ (result ≡ NoBerth) }
     {
@@ -62,7 +62,7 @@ impl Object {
     }
 
     /// Returns whether all hands of this pool are back. Fails if this is a hand.
-    pub fn is_alone(&self) -> Result<bool, Status>
+    pub(crate) fn is_alone(&self) -> Result<bool, Status>
         ensures ok { IfOk result (λ _. (tags : Tags ℕ) × IsPoolIn tags self.now.kind) }
         ensures err { IfErr result (λ status. (status ≡ BadHandle) × ¬ ((tags : Tags ℕ) × IsPoolIn tags self.now.kind)) }
     {
@@ -73,7 +73,7 @@ impl Object {
     }
 
     /// Closes the pool and returns its totals. `None` if this is a hand, or if a hand of the pool is out or missing.
-    pub fn close(self) -> Option<QueueTotals>
+    pub(crate) fn close(self) -> Option<QueueTotals>
         ensures { IfSome result (Ends self.kind) }
     {
         let Object { kind } = self;

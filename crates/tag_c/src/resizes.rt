@@ -57,7 +57,7 @@ impl Shared {
 impl Pool {
     /// Continues with this many tags, as many of them reserved as before, if all hands are back, no tag is in use and no hand
     /// is in a wait group.
-    pub fn resize(self, wish: (Global, u32)) -> (Pool, Status)
+    pub(crate) fn resize(self, wish: (Global, u32)) -> (Pool, Status)
         ensures { EndsResize wish.1 (arc_value self.shared).tags result.1 (arc_value result.0.shared).tags }
     {
         let (alloc, total) = wish;
@@ -78,7 +78,7 @@ impl Pool {
 
 impl Object {
     /// Resizes a pool. A hand is refused.
-    pub fn resize(&mut self, alloc: Global, total: u32) -> i32
+    pub(crate) fn resize(&mut self, alloc: Global, total: u32) -> i32
         ensures { ResizesAs total result self.old.kind self.new.kind }
     {
         let Kind::Pool(pool) = &mut self.kind else {

@@ -24,7 +24,7 @@ impl Shared {
     /// Takes a hand out of its berth, if there is one. Until the first hand leaves, they go out in the order of their
     /// numbers.
     #[tactic(auto, using(crate::proofs::Owners::one_owner))]
-    pub fn take_hand(&self) -> Option<Hand<u64>>
+    pub(crate) fn take_hand(&self) -> Option<Hand<u64>>
         ensures { IfSome result (IsHandOf self.now.tags) }
     {
         for i in 0..self.berths.len() {
@@ -36,7 +36,7 @@ impl Shared {
     }
 
     /// Puts a hand of these tags into the first free berth, or returns it if none is free.
-    pub fn rest(&self, hand: Hand<u64>) -> Result<(), Hand<u64>>
+    pub(crate) fn rest(&self, hand: Hand<u64>) -> Result<(), Hand<u64>>
         requires { IsHandOf self.now.tags hand }
         ensures { IfErr result (λ back. back ≡ hand) }
     {
@@ -51,7 +51,7 @@ impl Shared {
     }
 
     /// Puts all hands of the tags into berths, for which there is room. Returns the emptied list of hands too.
-    pub fn with_hands(
+    pub(crate) fn with_hands(
         tags: Tags<u64>,
         total: u32,
         reserved: u32,
@@ -79,7 +79,7 @@ impl Shared {
     }
 
     /// Takes all hands out of their berths into `room`. Returns the emptied list of berths too.
-    pub fn part(self, room: Vec<Hand<u64>>) -> (Tags<u64>, Vec<Hand<u64>>, Vec<Berth>)
+    pub(crate) fn part(self, room: Vec<Hand<u64>>) -> (Tags<u64>, Vec<Hand<u64>>, Vec<Berth>)
         requires room { (room.items ≡ []) × (vec_len self.berths ≤ vec_capacity room) }
         ensures tags { result.0 ≡ self.tags }
         ensures own { All (IsHandOf self.tags) result.1.items }
@@ -102,7 +102,7 @@ impl Shared {
     }
 
     /// Ends the tags with all their hands, for which there is room. `None` where a hand is missing.
-    pub fn gather(self, room: Vec<Hand<u64>>) -> Option<QueueTotals>
+    pub(crate) fn gather(self, room: Vec<Hand<u64>>) -> Option<QueueTotals>
         requires room { (room.items ≡ []) × (vec_len self.berths ≤ vec_capacity room) }
         ensures { IfSome result (Gathers self.tags) }
     {

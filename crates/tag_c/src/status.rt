@@ -44,7 +44,7 @@ pub enum Status {
 
 impl Status {
     /// Returns the number of the status in tags.h: 0 for `Done`, and a negative one for each other.
-    pub fn code(self) -> i32
+    pub(crate) fn code(self) -> i32
         ensures { result ≡ code_of self }
     {
         match self {
@@ -69,7 +69,7 @@ impl Status {
 }
 
 /// Returns the number of a refusal by `tag_sets`.
-pub fn fault_code(fault: TagFault) -> i32
+pub(crate) fn fault_code(fault: TagFault) -> i32
     ensures { result ≡ code_of_fault fault }
 {
     match fault {
@@ -86,7 +86,7 @@ pub fn fault_code(fault: TagFault) -> i32
 }
 
 /// Returns the number of the reason why the tags could not be opened.
-pub fn set_fault_code(fault: SetFault) -> i32
+pub(crate) fn set_fault_code(fault: SetFault) -> i32
     ensures { result ≡ code_of_set_fault fault }
 {
     match fault {

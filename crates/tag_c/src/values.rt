@@ -13,7 +13,7 @@ use std::alloc::Global;
 impl Object {
     #[inline]
     /// Reads the slot of a held tag into `value`.
-    pub fn read(&mut self, tag: u32, value: &mut u64) -> i32
+    pub(crate) fn read(&mut self, tag: u32, value: &mut u64) -> i32
         ensures calls { Calls (Through (DoesRead tag value.new) code_of_done result) result self.old self.new }
         ensures kept { IsRefusal result → value.new ≡ value.old }
     {
@@ -25,7 +25,7 @@ impl Object {
 
     #[inline]
     /// Writes the slot of a held tag, and what it held before into `former`.
-    pub fn write(&mut self, tag: u32, value: u64, former: &mut u64) -> i32
+    pub(crate) fn write(&mut self, tag: u32, value: u64, former: &mut u64) -> i32
         ensures calls { Calls (Through (DoesWrite tag value former.new) code_of_done result) result self.old self.new }
         ensures kept { IsRefusal result → former.new ≡ former.old }
     {
@@ -40,7 +40,7 @@ impl Object {
 
     #[inline]
     /// Posts a held tag, so that any hand of the pool can take it.
-    pub fn post(&mut self, tag: u32) -> i32
+    pub(crate) fn post(&mut self, tag: u32) -> i32
         ensures { Calls (Through (DoesPost tag) code_of_done result) result self.old self.new }
     {
         let Kind::Member(member) = &mut self.kind else {
@@ -51,7 +51,7 @@ impl Object {
 
     #[inline]
     /// Takes a posted tag.
-    pub fn take(&mut self, tag: u32) -> i32
+    pub(crate) fn take(&mut self, tag: u32) -> i32
         ensures { Calls (Through (DoesTake tag) code_of_done result) result self.old self.new }
     {
         let Kind::Member(member) = &mut self.kind else {
