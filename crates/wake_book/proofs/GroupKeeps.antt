@@ -1,24 +1,27 @@
 -- Each kind of step on the groups preserves their rule, and the waiter learns from it what its play says.
 use Rattle.std.proofs.Common.{◌≡◌, ℕ, suc, ◌+◌, ◌-◌, ◌%◌, ◌^◌, ◌<◌, ◌≤◌, List, get_or, set, eqb, arith, refl, sym, ap}
-use Rattle.std.proofs.Common.{◌∙◌, subst}
+use Rattle.std.proofs.Common.{◌∙◌, subst, inl, inr}
 use mathlib.Core.Option.{none}
 use lib.Seq.{set-get_or}
 use prog.Atomic.{either}
-use Rattle.atomic_table.specs.Table.{Me, Step, step, Allows}
+use Rattle.atomic_table.specs.Table.{Me, Step, step, carried_after, Allows}
 use Rattle.atomic_table.proofs.Lists.{exchanged}
 use Rattle.step_ledger.specs.declared.record.Record.{Record}
 use Rattle.step_ledger.specs.declared.record.View.{View}
-use Rattle.step_ledger.specs.Views.{alone, push, steps_of}
-use Rattle.step_ledger.specs.History.{total, Lawful}
+use Rattle.step_ledger.specs.Views.{alone, push, steps_of, Stepped}
+use Rattle.step_ledger.specs.History.{own_steps, total, Lawful}
 use Rattle.step_ledger.proofs.Members.{allows}
 use Rattle.wake_book.specs.declared.steps.GroupStep.{GroupStep}
 use Rattle.wake_book.specs.declared.steps.GroupStep.TheVariants.{Look, Raise, Lower, Enter, Grant, Use, Withdraw, Store}
+use Rattle.wake_book.specs.declared.waiting.Left.{Left}
+use Rattle.wake_book.specs.declared.waiting.Left.TheVariants.{Woken, Unwoken}
 use Rattle.wake_book.specs.Charges.{exchange_to}
 use Rattle.wake_book.specs.Waits.{active_at, index_at, one_waiting, opening_words, words_after, words_in, group_at}
 use Rattle.wake_book.specs.Waits.{word, granted, waiting, moved_in}
 use Rattle.wake_book.specs.Waits.{raised, stand, moved_by, MayStep, GroupsRule}
 use Rattle.wake_book.specs.WaitPlays.{looked_active, looked_index, looked_group, raising, lowering, entering, granting}
-use Rattle.wake_book.specs.WaitPlays.{using, withdrawing, storing}
+use Rattle.wake_book.specs.WaitPlays.{leaving, storing}
+use Rattle.wake_book.specs.Walks.{IsWayOut, IsCalledFor}
 use Rattle.wake_book.proofs.Counting.{moves, misses}
 use Rattle.wake_book.proofs.Standing.{balanced, balance, few_stand, active_is, few_up, some_stand, some_up, index_small}
 
@@ -131,36 +134,39 @@ module _ {S : Type 0} (n : ℕ) (few : n ≤ 64) (slots id : ℕ) (m : Me S (Vie
             z.4.0 ∙ (λ i. (push (Grant (same i) old (one i) (get_or s.words (group_at g) 0)) m.0, m.1)),
       )
 
-  pub use_grant : (g old : ℕ) → g < 8 → 0 < granted old → stand r.steps ≡ suc g
-      → Allows (GroupsRule n) slots id m (group_at g) (λ v. either (eqb v old) (old - 1) v)
-      (using (step slots (group_at g) old (old - 1) none) m)
-  use_grant g old few_g some stands s kept deep at lw = let z = allows n opening_words words_after MayStep slots id m r
-      is (group_at g) (λ v. either (eqb v old) (old - 1) v) (λ v. Use g old v) (λ v. Unit {0})
-      (λ h l kn st low. ((refl, few_g, some, ap stand (sym st) ∙ stands), swapped g old (old - 1) h, tt)) s kept deep at
-      lw in (
+  -- the exchange that takes the waiter out of the group, for each of its two kinds
+  exited : (g old new : ℕ) (x : ℕ → GroupStep) → ((v : ℕ) → IsCalledFor g old v (x v))
+      → ((h : List (ℕ × GroupStep)) (v : ℕ) → v ≡ word (words_in h) g → stand (own_steps r.number h) ≡ suc g
+      → MayStep r.number (x v) h)
+      → ((ws : List ℕ) (v : ℕ) → words_after (x v) ws ≡ set ws (group_at g) (exchange_to old new (word ws g)))
+      → stand r.steps ≡ suc g → Allows (GroupsRule n) slots id m (group_at g) (λ v. either (eqb v old) new v)
+      (leaving (step slots (group_at g) old new none) m)
+  exited g old new x called may after stands s kept deep at lw = let v : ℕ = get_or s.words (group_at g) 0 in
+      let z = allows n opening_words words_after MayStep slots id m r is (group_at g) (λ v. either (eqb v old) new v) x
+      (λ v. Unit {0})
+      (λ h l kn st low. (
+        may h _ refl (ap stand (sym st) ∙ stands),
+        swapped g old new h ∙ sym (after (words_in h) _),
+        tt,
+      )) s kept deep at lw in (
         z.0,
         z.1,
         z.2,
         z.3,
         λ u e. let same : g ≡ u = omega arith in
-            z.4.0 ∙ ap (λ (x : ℕ). (push (Use x old (get_or s.words (group_at g) 0)) m.0, m.1)) same,
+            subst (λ (k : ℕ). (made : GroupStep) × IsCalledFor k old v made × Stepped made m (z.0, carried_after m.1 z.1)) same
+            (x v, called v, z.4.0),
       )
 
-  pub withdraw : (g old : ℕ) → g < 8 → granted old ≡ 0 → stand r.steps ≡ suc g
-      → Allows (GroupsRule n) slots id m (group_at g) (λ v. either (eqb v old) (old - one_waiting) v)
-      (withdrawing (step slots (group_at g) old (old - one_waiting) none) m)
-  withdraw g old few_g no_grant stands s kept deep at lw = let z = allows n opening_words words_after MayStep slots id m
-      r is (group_at g) (λ v. either (eqb v old) (old - one_waiting) v) (λ v. Withdraw g old v) (λ v. Unit {0})
-      (λ h l kn st low. ((refl, few_g, no_grant, ap stand (sym st) ∙ stands), swapped g old (old - one_waiting) h, tt))
-      s
-      kept deep at lw in (
-        z.0,
-        z.1,
-        z.2,
-        z.3,
-        λ u e. let same : g ≡ u = omega arith in
-            z.4.0 ∙ ap (λ (x : ℕ). (push (Withdraw x old (get_or s.words (group_at g) 0)) m.0, m.1)) same,
-      )
+  pub exit : (g old new : ℕ) (left : Left) → IsWayOut old left new → g < 8 → stand r.steps ≡ suc g
+      → Allows (GroupsRule n) slots id m (group_at g) (λ v. either (eqb v old) new v)
+      (leaving (step slots (group_at g) old new none) m)
+  exit g old new Woken calls few_g = exited g old new (Use g old) (λ v. inl (calls.0, refl))
+      (λ h v finds stands. (finds, few_g, calls.0, stands))
+      (λ ws v. ap (λ (y : ℕ). set ws (group_at g) (exchange_to old y (word ws g))) (sym calls.1))
+  exit g old new Unwoken calls few_g = exited g old new (Withdraw g old) (λ v. inr (calls.0, refl))
+      (λ h v finds stands. (finds, few_g, calls.0, stands))
+      (λ ws v. ap (λ (y : ℕ). set ws (group_at g) (exchange_to old y (word ws g))) (sym calls.1))
 
   pub store : (v : ℕ) → v < 8 → Allows (GroupsRule n) slots id m index_at (λ _. v)
       (λ _. storing (step slots index_at v 0 none) m v)

@@ -7,7 +7,6 @@ use Rattle.wake_book.specs.declared.groups.Groups.{Groups}
 use Rattle.wake_book.specs.declared.groups.Waiter.{Waiter}
 use Rattle.wake_book.specs.declared.groups.WaiterGathering.{WaiterGathering}
 use Rattle.wake_book.specs.declared.steps.GroupStep.{GroupStep}
-use Rattle.wake_book.specs.declared.steps.GroupStep.TheVariants.{Lower}
 use Rattle.wake_book.specs.declared.waiting.Left.{Left}
 use Rattle.wake_book.specs.Waits.{moved_by}
 use Rattle.wake_book.specs.Walks.{Idles, IsLeave, IsSleep}
@@ -64,14 +63,6 @@ waiters_of groups = groups.waiters
 abbrev pub StandsAsBefore : Waiter → Waiter → Type 0
 StandsAsBefore old new = (number_of new ≡ number_of old) × (standing_of new ≡ standing_of old)
     × (wait_index_of new ≡ wait_index_of old)
-
--- the same waiter, with the same wait index
-abbrev pub SameWaiter : Waiter → Waiter → Type 0
-SameWaiter old new = (number_of new ≡ number_of old) × (wait_index_of new ≡ wait_index_of old)
-
--- the waiter is in no group; it made this step and then lowered the active count
-abbrev pub LeavesBy : GroupStep → Waiter → Waiter → Type 0
-LeavesBy step old new = (standing_of new ≡ None) × (active : ℕ) × (steps_of new ≡ Lower active ∷ step ∷ steps_of old)
 
 -- the waiter left the group that it was in, as the result says
 abbrev pub LeavesAs : Waiter → Waiter → Left → Type 0

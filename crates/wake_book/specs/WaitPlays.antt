@@ -5,8 +5,9 @@ use Rattle.atomic_table.specs.Table as table
 use Rattle.step_ledger.specs.declared.record.View.{View}
 use Rattle.step_ledger.specs.Views.{steps_of, Stepped}
 use Rattle.wake_book.specs.declared.steps.GroupStep.{GroupStep}
-use Rattle.wake_book.specs.declared.steps.GroupStep.TheVariants.{Look, Raise, Lower, Enter, Grant, Use, Withdraw, Store}
+use Rattle.wake_book.specs.declared.steps.GroupStep.TheVariants.{Look, Raise, Lower, Enter, Grant, Store}
 use Rattle.wake_book.specs.Waits.{active_at, index_at, group_at, granted, waiting, moved_in, raised, stand}
+use Rattle.wake_book.specs.Walks.{IsCalledFor}
 
 module _ {S : Type 0} where
   -- a waiter that has raised the active count is counted in it
@@ -39,13 +40,10 @@ module _ {S : Type 0} where
   granting step m found m' = (g count : ℕ) → step.word ≡ group_at g → count ≤ waiting step.first
       → step.second ≡ moved_in step.first count → Stepped (Grant g step.first count found) m m'
 
-  -- a grant is used, if the word is what was expected
-  abbrev pub using : table.Step S → Me S (View GroupStep) → ℕ → Me S (View GroupStep) → Type 0
-  using step m found m' = (g : ℕ) → step.word ≡ group_at g → Stepped (Use g step.first found) m m'
-
-  -- a waiter withdraws, if the word is what was expected
-  abbrev pub withdrawing : table.Step S → Me S (View GroupStep) → ℕ → Me S (View GroupStep) → Type 0
-  withdrawing step m found m' = (g : ℕ) → step.word ≡ group_at g → Stepped (Withdraw g step.first found) m m'
+  -- a waiter leaves a group, as the word expected calls for, if the word is what was expected
+  abbrev pub leaving : table.Step S → Me S (View GroupStep) → ℕ → Me S (View GroupStep) → Type 0
+  leaving step m found m' = (g : ℕ) → step.word ≡ group_at g
+      → (made : GroupStep) × IsCalledFor g step.first found made × Stepped made m m'
 
   -- the wake index is stored
   abbrev pub storing : table.Step S → Me S (View GroupStep) → ℕ → Me S (View GroupStep) → Type 0

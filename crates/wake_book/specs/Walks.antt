@@ -5,7 +5,7 @@ use Rattle.wake_book.specs.declared.steps.GroupStep.{GroupStep}
 use Rattle.wake_book.specs.declared.steps.GroupStep.TheVariants.{Look, Lower, Grant, Use, Withdraw, Store}
 use Rattle.wake_book.specs.declared.waiting.Left.{Left}
 use Rattle.wake_book.specs.declared.waiting.Left.TheVariants.{Woken, Unwoken}
-use Rattle.wake_book.specs.Waits.{active_at, index_at, group_at, granted, waiting, moved_by}
+use Rattle.wake_book.specs.Waits.{active_at, index_at, one_waiting, group_at, granted, waiting, moved_by}
 
 -- the look of a try at a group
 abbrev pub looked : ℕ → ℕ → List GroupStep → List GroupStep
@@ -69,6 +69,12 @@ IsWalk nr steps steps' moved = ((2 ^ 56 < total moved_by steps + nr) × (steps' 
 abbrev pub IsCalledFor : ℕ → ℕ → ℕ → GroupStep → Type 0
 IsCalledFor g found seen step = ((0 < granted found) × (step ≡ Use g found seen))
     ⊎ ((granted found ≡ 0) × (step ≡ Withdraw g found seen))
+
+-- a waiter leaves a group with this word by using a grant if there is one, and otherwise by withdrawing; `next` is the
+-- word without it
+abbrev pub IsWayOut : ℕ → Left → ℕ → Type 0
+IsWayOut found Woken next = (0 < granted found) × (next ≡ found - 1)
+IsWayOut found Unwoken next = (granted found ≡ 0) × (next ≡ found - one_waiting)
 
 -- that many idles, each a look at the group and then its exchange, which was lost
 abbrev pub Idles : ℕ → ℕ → List GroupStep → List GroupStep → Type 0

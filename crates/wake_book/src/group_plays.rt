@@ -1,6 +1,6 @@
 //! What a waiter learns from each kind of step on the groups. These types exist only for the proofs.
 ghost use Rattle.wake_book.specs.WaitPlays.{looked_active, looked_index, looked_group, raising, lowering};
-ghost use Rattle.wake_book.specs.WaitPlays.{entering, granting, using, withdrawing, storing};
+ghost use Rattle.wake_book.specs.WaitPlays.{entering, granting, leaving, storing};
 
 use crate::steps::GroupStep;
 use atomic_table::Play;
@@ -48,16 +48,10 @@ impl Play<(), View<GroupStep>> for GrantSome {
     ghost then = { granting };
 }
 
-pub(crate) struct UseGrant;
+pub(crate) struct LeaveGroup;
 
-impl Play<(), View<GroupStep>> for UseGrant {
-    ghost then = { using };
-}
-
-pub(crate) struct WithdrawOne;
-
-impl Play<(), View<GroupStep>> for WithdrawOne {
-    ghost then = { withdrawing };
+impl Play<(), View<GroupStep>> for LeaveGroup {
+    ghost then = { leaving };
 }
 
 pub(crate) struct StoreIndex;

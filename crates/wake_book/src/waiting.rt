@@ -2,11 +2,12 @@
 ghost use Rattle.std.specs.Prelude.{◌≡◌, ℕ, ◌+◌, ◌%◌, ◌<◌, ◌≤◌, ◌∷◌, length, IsTrue, IsFalse, Some, None, IsSome, IfSome, IfNone};
 ghost use Rattle.wake_book.specs.Waits.{active_at, index_at, group_at, granted, waiting};
 ghost use Rattle.wake_book.specs.Groups.{IsWaiterOf, steps_of, number_of, standing_of, wait_index_of, moved_of};
-ghost use Rattle.wake_book.specs.Groups.{StandsAsBefore, SameWaiter, LeavesBy, LeavesAs, IdlesOnce, Loses};
-ghost use Rattle.wake_book.specs.declared.steps.GroupStep.TheVariants.{Look, Raise, Enter, Use, Withdraw};
+ghost use Rattle.wake_book.specs.Groups.{StandsAsBefore, LeavesAs, IdlesOnce};
+ghost use Rattle.wake_book.specs.Walks.{IsWayOut};
+ghost use Rattle.wake_book.specs.declared.steps.GroupStep.TheVariants.{Look, Raise, Enter};
 
 use crate::group_plays::{
-    EnterGroup, LowerActive, RaiseActive, SeeActive, SeeGroup, SeeIndex, UseGrant, WithdrawOne,
+    EnterGroup, LeaveGroup, LowerActive, RaiseActive, SeeActive, SeeGroup, SeeIndex,
 };
 use crate::groups::{ACTIVE, GROUPS, Groups, INDEX, WAITING, Waiter, place_of};
 use std::sync::Wait;
@@ -18,6 +19,19 @@ pub enum Left {
     Woken,
     /// It found no grant in its group.
     Unwoken,
+}
+
+// How a waiter leaves a group with this word, and the word without it: it uses a grant if there is one, and otherwise
+// is no longer waiting.
+fn way_out(found: u64) -> (Left, u64)
+    requires { granted found ≡ 0 → 1 ≤ waiting found }
+    ensures { IsWayOut found result.0 result.1 }
+{
+    if found % WAITING > 0 {
+        (Left::Woken, found - 1)
+    } else {
+        (Left::Unwoken, found - WAITING)
+    }
 }
 
 impl Groups {
@@ -85,17 +99,9 @@ impl Groups {
         ensures moved { moved_of waiter.new ≡ moved_of waiter.old }
         ensures left { LeavesAs waiter.old waiter.new result }
     {
-        let Some(group) = waiter.standing else {
-            unreachable!()
-        };
         for _ in rt.forever() {
-            let found = self.look_group(waiter, group);
-            if found % WAITING > 0 {
-                if self.use_grant(waiter, group, found) {
-                    return Left::Woken;
-                }
-            } else if self.withdraw(waiter, group, found) {
-                return Left::Unwoken;
+            if let Some(left) = self.try_leave(waiter) {
+                return left;
             }
         }
         unreachable!()
@@ -118,14 +124,20 @@ impl Groups {
             unreachable!()
         };
         let found = self.look_group(waiter, group);
-        if found % WAITING > 0 {
-            if self.use_grant(waiter, group, found) {
-                return Some(Left::Woken);
-            }
-        } else if self.withdraw(waiter, group, found) {
-            return Some(Left::Unwoken);
+        let (left, next) = way_out(found);
+        let table = &self.table.shared;
+        let seen = table.compare_exchange::<LeaveGroup>(
+            &mut waiter.seat,
+            place_of(group),
+            found,
+            next,
+        );
+        if seen != found {
+            return None;
         }
-        None
+        table.fetch_sub::<LowerActive>(&mut waiter.seat, ACTIVE, 1);
+        waiter.standing = None;
+        Some(left)
     }
 
     /// Loads the word of a group. If the waiter is in that group and finds no grant, it finds somebody waiting.
@@ -140,58 +152,5 @@ impl Groups {
         self.table
             .shared
             .load::<SeeGroup>(&mut waiter.seat, place_of(group))
-    }
-
-    // Uses a grant and lowers the active count, if the group's word is still `found`.
-    fn use_grant(&self, waiter: &mut Waiter, group: u32, found: u64) -> bool
-        requires groups { IsWaiterOf self.now waiter.old }
-        requires stands { (standing_of waiter.old ≡ Some group) × (0 < granted found) }
-        ensures groups { IsWaiterOf self.now waiter.new × SameWaiter waiter.old waiter.new }
-        ensures moved { waiter.new.moved ≡ waiter.old.moved }
-        ensures won { IsTrue result → LeavesBy (Use group found found) waiter.old waiter.new }
-        ensures stays { IsFalse result → standing_of waiter.new ≡ standing_of waiter.old }
-        ensures lost { IsFalse result → Loses found (Use group found) waiter.old waiter.new }
-    {
-        let seen = self
-            .table
-            .shared
-            .compare_exchange::<UseGrant>(&mut waiter.seat, place_of(group), found, found - 1);
-        if seen != found {
-            return false;
-        }
-        self.table
-            .shared
-            .fetch_sub::<LowerActive>(&mut waiter.seat, ACTIVE, 1);
-        waiter.standing = None;
-        true
-    }
-
-    // Removes the waiter from those waiting and lowers the active count, if the group's word is still `found`.
-    fn withdraw(&self, waiter: &mut Waiter, group: u32, found: u64) -> bool
-        requires groups { IsWaiterOf self.now waiter.old }
-        requires stands { (standing_of waiter.old ≡ Some group) × (granted found ≡ 0) × (1 ≤ waiting found) }
-        ensures groups { IsWaiterOf self.now waiter.new × SameWaiter waiter.old waiter.new }
-        ensures moved { waiter.new.moved ≡ waiter.old.moved }
-        ensures won { IsTrue result → LeavesBy (Withdraw group found found) waiter.old waiter.new }
-        ensures stays { IsFalse result → standing_of waiter.new ≡ standing_of waiter.old }
-        ensures lost { IsFalse result → Loses found (Withdraw group found) waiter.old waiter.new }
-    {
-        let seen = self
-            .table
-            .shared
-            .compare_exchange::<WithdrawOne>(
-                &mut waiter.seat,
-                place_of(group),
-                found,
-                found - WAITING,
-            );
-        if seen != found {
-            return false;
-        }
-        self.table
-            .shared
-            .fetch_sub::<LowerActive>(&mut waiter.seat, ACTIVE, 1);
-        waiter.standing = None;
-        true
     }
 }

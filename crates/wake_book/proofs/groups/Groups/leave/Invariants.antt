@@ -1,6 +1,6 @@
 -- Until the waiter leaves, it stays in its group, and each turn added a look and a lost exchange.
 use Rattle.std.proofs.Common.{◌≡◌, ℕ, Some}
-use Rattle.wake_book.specs.Groups.{IsWaiterOf, steps_of, standing_of, StandsAsBefore}
+use Rattle.wake_book.specs.Groups.{IsWaiterOf, steps_of, standing_of, moved_of, StandsAsBefore}
 use Rattle.wake_book.specs.Walks.{Idles}
 use Rattle.wake_book.proofs.groups.Groups.leave.Given as goal
 
@@ -8,7 +8,7 @@ abbrev pub invariant-loop : goal.invariant-loop
 invariant-loop g l = record {
   turns : (goal.iterator-loop g).can_next l.iterator' × (goal.iterator-loop g).is_finite l.iterator';
   groups : IsWaiterOf l.self l.waiter × StandsAsBefore l.fn.waiter l.waiter;
-  stands : standing_of l.fn.waiter ≡ Some l.group;
-  moved : l.waiter.moved ≡ l.fn.waiter.moved;
-  idle : (idles : ℕ) × Idles idles l.group (steps_of l.fn.waiter) (steps_of l.waiter);
+  moved : moved_of l.waiter ≡ moved_of l.fn.waiter;
+  idle : (group : ℕ) × (standing_of l.fn.waiter ≡ Some group)
+      × (idles : ℕ) × Idles idles group (steps_of l.fn.waiter) (steps_of l.waiter);
 }
