@@ -1,5 +1,5 @@
 -- What the table asks of a call, and what a caller knows after it.
-use Rattle.std.proofs.Common.{◌≡◌, ℕ, ◌+◌, ◌*◌, ◌<◌, ◌≤◌, List, replicate, arith, sym, ap, ◌∙◌, subst}
+use Rattle.std.proofs.Common.{◌≡◌, ℕ, ◌+◌, ◌*◌, ◌<◌, ◌≤◌, List, length, replicate, arith, sym, ap, ◌∙◌, subst}
 use mathlib.Core.Option.{none}
 use Rattle.std.proofs.Math.Nat.{mul-le-mul_right}
 use Rattle.atomic_table.specs.Table.{Me, step, Allows}
@@ -13,7 +13,7 @@ use Rattle.tag_core.specs.declared.record.Record.{Record}
 use Rattle.tag_core.specs.declared.record.View.{View}
 use Rattle.tag_core.specs.declared.caller.Caller.{Caller}
 use Rattle.tag_core.specs.declared.map.Map.{Map}
-use Rattle.tag_core.specs.Spacing.{table_width}
+use Rattle.tag_core.specs.Spacing.{table_width, state_at}
 use Rattle.tag_core.specs.Histories.{event_of}
 use Rattle.tag_core.specs.Records.{record_after, held_after, swept_after, tag_bit, value_of, Carries}
 use Rattle.tag_core.specs.Views.{alone, steps_of}
@@ -62,6 +62,30 @@ pub shows : {R : Type 0} (st : Step R) (r : Record R) (me me' : Me R (View R)) �
 shows st r me me' did q is = ∣ subst (HasHistory r.shape)
     (same_record (record_after st r) q (sym did.view ∙ is)) did.shown ∣₁
 
+-- the record that these fields give, of a caller that is this one otherwise
+abbrev pub record_with : {R : Type 0} → Caller R → List ℕ → ℕ → ℕ → View R → Record R
+record_with w held won back view = record {
+  shape = w.shape.value;
+  number = w.number;
+  held = held;
+  swept = replicate (words w.shape.value.layout) 0;
+  won = won;
+  back = back;
+  steps = steps_of view;
+}
+
+-- what such a caller promises of its fields and its seat
+abbrev pub Promises : {R : Type 0} → Caller R → List ℕ → ℕ → ℕ → Me R (View R) → Type 0
+Promises {R} w held won back me = record {
+  told : (w.layout ≡ w.shape.value.layout) × (w.life ≡ w.shape.value.life) × (w.states ≡ state_at w.layout 0);
+  knows : me.0 ≡ alone (record_with w held won back me.0);
+  shown : (r : Record R) → me.0 ≡ alone r → ∥ HasHistory w.shape.value r ∥₁;
+  carries : Carries w.shape.value.layout held me.1;
+  wide : length held ≡ words w.shape.value.layout;
+  unspent : (won ≤ w.life) × (w.life ≤ MOST_WON);
+  few_back : back ≤ MAX_CALLERS * MOST_WON;
+}
+
 -- what a call leaves of its caller: a seat that made this step, and the fields that the record has after it
 pub record Left {R : Type 0} (w : Caller R) (st : Step R) (me' : Me R (View R)) (held' : List ℕ) (won' back' : ℕ)
     : Type 0 where
@@ -88,21 +112,8 @@ left w did held_is swept_is won_is back_is = record {
 
 module _ {R : Type 0} {w : Caller R} {st : Step R} {me' : Me R (View R)} {held' : List ℕ} {won' back' : ℕ}
     (l : Left w st me' held' won' back') where
-  -- the record that the new fields give
-  abbrev pub now : Record R
-  now = record {
-    shape = w.shape.value;
-    number = w.number;
-    held = held';
-    swept = replicate
-        (words w.shape.value.layout) 0;
-    won = won';
-    back = back';
-    steps = steps_of me'.0;
-  }
-
   -- it is the record after the step
-  pub recorded : now ≡ record_after st (record_of w)
+  pub recorded : record_with w held' won' back' me'.0 ≡ record_after st (record_of w)
   recorded j = record {
     shape = w.shape.value;
     number = w.number;
@@ -114,20 +125,33 @@ module _ {R : Type 0} {w : Caller R} {st : Step R} {me' : Me R (View R)} {held' 
   }
 
   -- the seat has the record that the new fields give
-  pub knows : me'.0 ≡ alone now
+  knows : me'.0 ≡ alone (record_with w held' won' back' me'.0)
   knows = l.did.view ∙ sym (ap alone recorded)
 
   -- it carries the slots of the tags that it holds now
-  pub carries : Carries w.shape.value.layout held' me'.1
+  carries : Carries w.shape.value.layout held' me'.1
   carries = subst (λ (z : List ℕ). Carries w.shape.value.layout z me'.1) l.held_is l.did.carries
 
   -- one history shows what the caller knows now
-  pub shown : (q : Record R) → me'.0 ≡ alone q → ∥ HasHistory w.shape.value q ∥₁
+  shown : (q : Record R) → me'.0 ≡ alone q → ∥ HasHistory w.shape.value q ∥₁
   shown = shows st (record_of w) w.seat.me me' l.did
 
   -- it gave back no more than all callers may win
   pub few : back' ≤ w.shape.value.callers * MOST_WON
   few = subst (λ (z : ℕ). z ≤ w.shape.value.callers * MOST_WON) l.back_is l.did.few_back
+
+  -- so the caller is what its type promises
+  pub after : length held' ≡ words w.shape.value.layout → (won' ≤ w.life) × (w.life ≤ MOST_WON)
+      → back' ≤ MAX_CALLERS * MOST_WON → Promises w held' won' back' me'
+  after wide unspent few_back = record {
+    told = w.told;
+    knows = knows;
+    shown = shown;
+    carries = carries;
+    wide = wide;
+    unspent = unspent;
+    few_back = few_back;
+  }
 
   -- the slots of tags that it keeps have their values
   pub slots : (tag : ℕ) → Holds w tag → (tag < w.shape.value.layout.depth)

@@ -1,21 +1,21 @@
 -- What a call knows of its caller between the load that brings a held tag's slot to the front of the seat and the load
 -- that puts it back, and after both.
-use Rattle.std.proofs.Common.{◌≡◌, ◌≢◌, ℕ, List, ◌∷◌, replicate, sym, ap, ◌∙◌}
+use Rattle.std.proofs.Common.{◌≡◌, ◌≢◌, ℕ, List, ◌∷◌, sym, ap, ◌∙◌}
 use mathlib.Core.Option.{some, none, some-injective}
 use lib.ListN.{get_elem?}
 use Rattle.atomic_table.specs.Table.{Me, step, rest}
-use Rattle.tag_layout.specs.Layout.{Layout, words}
+use Rattle.tag_layout.specs.Layout.{Layout}
 use Rattle.tag_core.specs.declared.record.View.{View}
 use Rattle.tag_core.specs.declared.caller.Caller.{Caller}
 use Rattle.tag_core.specs.declared.map.Map.{Map}
 use Rattle.tag_core.specs.Spacing.{state_at}
 use Rattle.tag_core.specs.Records.{value_of, Carries}
-use Rattle.tag_core.specs.Views.{alone, steps_of}
+use Rattle.tag_core.specs.Views.{alone}
 use Rattle.tag_core.specs.Plays.{fronted, ordered}
 use Rattle.tag_core.specs.Callers.{IsCallerOf, record_of, Holds, slot_of}
 use Rattle.tag_core.proofs.Stand.{state_in}
 use Rattle.tag_core.proofs.Fronts.{front_allowed, order_allowed}
-use Rattle.tag_core.proofs.Asking.{Asks, asked}
+use Rattle.tag_core.proofs.Asking.{Asks, asked, record_with, Promises}
 
 -- the caller has the slots that it had, but for the value of one tag
 pub record Exchanged {R : Type 0} (w : Caller R) (u : ℕ) (old new : R) (me : Me R (View R)) : Type 0 where
@@ -27,36 +27,20 @@ pub record Exchanged {R : Type 0} (w : Caller R) (u : ℕ) (old new : R) (me : M
 
 module _ {R : Type 0} {w : Caller R} {u : ℕ} {old new : R} {me : Me R (View R)} (done : Exchanged w u old new me) where
   -- its record is the one that it had
-  pub recorded : record {
-    shape = w.shape.value;
-    number = w.number;
-    held = w.held.items;
-    swept = replicate (words w.shape.value.layout) 0;
-    won = w.won;
-    back = w.back;
-    steps = steps_of me.0;
-  } ≡ record_of w
-  recorded j = record {
-    shape = w.shape.value;
-    number = w.number;
-    held = w.held.items;
-    swept = replicate (words w.shape.value.layout) 0;
-    won = w.won;
-    back = w.back;
-    steps = steps_of (done.view j);
-  }
+  pub recorded : record_with w w.held.items w.won w.back me.0 ≡ record_of w
+  recorded = ap (record_with w w.held.items w.won w.back) done.view
 
-  -- and the seat has it
-  pub knows : me.0 ≡ alone (record {
-    shape = w.shape.value;
-    number = w.number;
-    held = w.held.items;
-    swept = replicate (words w.shape.value.layout) 0;
-    won = w.won;
-    back = w.back;
-    steps = steps_of me.0;
-  })
-  knows = done.view ∙ w.knows ∙ sym (ap alone recorded)
+  -- so the caller is what its type promises
+  pub after : Promises w w.held.items w.won w.back me
+  after = record {
+    told = w.told;
+    knows = done.view ∙ w.knows ∙ sym (ap alone recorded);
+    shown = λ r is. w.shown r (sym done.view ∙ is);
+    carries = done.carries;
+    wide = w.wide;
+    unspent = w.unspent;
+    few_back = w.few_back;
+  }
 
 module _ {R : Type 0} (w : Caller R) (u spot : ℕ) (at : spot ≡ state_at w.layout u) (held : Holds w u) where
   spot_is : spot ≡ state_at w.shape.value.layout u

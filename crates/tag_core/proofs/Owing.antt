@@ -12,7 +12,8 @@ use Rattle.tag_model.specs.declared.place.Place.{Place}
 use Rattle.tag_model.specs.declared.place.Place.TheVariants.{Free as free, Held as held}
 use Rattle.tag_model.specs.declared.world.TheConstants.{MOST_WON}
 use Rattle.tag_model.specs.Event.{is_in_mask}
-use Rattle.tag_model.specs.World.{World}
+use Rattle.tag_model.specs.declared.event.Event.TheVariants as event
+use Rattle.tag_model.specs.World.{World, MayHappen}
 use Rattle.tag_model.proofs.HistoryFacts.{won-history}
 use Rattle.tag_core.specs.declared.shape.Shape.{Shape}
 use Rattle.tag_core.specs.declared.step.Step.{Step}
@@ -242,15 +243,24 @@ module _ (R : Type 0) (k : Shape) (narrow : k.layout.shift ≤ 6) (s : State R (
   abbrev Unmoved : Step R → Type 0
   Unmoved st = Owed R k s sh r st s.words
 
+  look_needs : MayHappen k.layout k.callers now_world event.Look
+  look_needs = record { in_layout = tt; caller = some_caller; unspent = none_more 0; places = λ t l is. tt }
+
+  same_tags : (t : ℕ) → t < k.layout.depth → Shows r.number (now_world.place t) (now_world.place t)
+      (bit_at (now_cells.words.word (word_of k.layout t)) (place_of k.layout t))
+      (bit_at (now_cells.words.aside (word_of k.layout t)) (place_of k.layout t)) (now_cells.state t)
+      (tag_bit k.layout r.held t) (tag_bit k.layout r.swept t)
+  same_tags t l = let tag = sh.tags t l in
+      unchanged r.number (now_world.place t) _ _ _ _ _ tag.word tag.aside tag.posted (ok.held t l) (ok.swept t l)
+
   -- a look at a word
   pub look_owed : (i : ℕ) → i < words k.layout → Unmoved (Word (Look i (get_or s.words (word_at i) 0)))
   look_owed i inside = record {
     finds = sh.cells.word i inside;
     value = tt;
-    needs = record { in_layout = tt; caller = some_caller; unspent = none_more 0; places = λ t l is. tt };
+    needs = look_needs;
     cells = sh.cells;
-    tags = λ t l. let tag = sh.tags t l in
-        unchanged r.number (now_world.place t) _ _ _ _ _ tag.word tag.aside tag.posted (ok.held t l) (ok.swept t l);
+    tags = same_tags;
   }
 
   -- a look at a cleared set
@@ -258,10 +268,9 @@ module _ (R : Type 0) (k : Shape) (narrow : k.layout.shift ≤ 6) (s : State R (
   look_aside_owed i inside = record {
     finds = sh.cells.aside i inside;
     value = tt;
-    needs = record { in_layout = tt; caller = some_caller; unspent = none_more 0; places = λ t l is. tt };
+    needs = look_needs;
     cells = sh.cells;
-    tags = λ t l. let tag = sh.tags t l in
-        unchanged r.number (now_world.place t) _ _ _ _ _ tag.word tag.aside tag.posted (ok.held t l) (ok.swept t l);
+    tags = same_tags;
   }
 
   -- a take that found no post
@@ -269,10 +278,9 @@ module _ (R : Type 0) (k : Shape) (narrow : k.layout.shift ≤ 6) (s : State R (
   miss_owed u l e = record {
     finds = sym e ∙ sh.cells.state u l;
     value = tt;
-    needs = record { in_layout = tt; caller = some_caller; unspent = none_more 0; places = λ t l is. tt };
+    needs = look_needs;
     cells = sh.cells;
-    tags = λ t l. let tag = sh.tags t l in
-        unchanged r.number (now_world.place t) _ _ _ _ _ tag.word tag.aside tag.posted (ok.held t l) (ok.swept t l);
+    tags = same_tags;
   }
 
   -- a held tag is taken and not aside

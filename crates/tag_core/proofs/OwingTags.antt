@@ -1,5 +1,5 @@
 -- What steps on one tag and sweeps owe.
-use Rattle.std.proofs.Common.{◌≡◌, Some, ℕ, suc, ◌-◌, ◌/◌, ◌%◌, ◌^◌, ◌<◌, ◌≤◌, length, get_or, set, Bool, cond, nat_eq, bit_or, min, max, arith, refl, sym, ap, ◌∙◌, subst, eq-eqb, ne_eqb}
+use Rattle.std.proofs.Common.{◌≡◌, Some, ℕ, suc, ◌-◌, ◌/◌, ◌%◌, ◌+◌, ◌^◌, ◌<◌, ◌≤◌, length, get_or, set, Bool, cond, nat_eq, bit_or, min, max, arith, refl, sym, ap, ◌∙◌, subst, eq-eqb, ne_eqb}
 use mathlib.Core.Option.{some}
 use mathlib.Core.Logic.{dite}
 use native.Mathlib.Decide.{ℕ_discrete}
@@ -10,6 +10,7 @@ use Rattle.tag_layout.specs.Layout.{words, word_depth, word_of, place_of}
 use Rattle.tag_layout.proofs.PlaceFacts.{word_of-below}
 use Rattle.tag_model.specs.declared.place.Place.{Place}
 use Rattle.tag_model.specs.declared.place.Place.TheVariants.{Held as held, Posted as posted, Aside as aside}
+use Rattle.tag_model.specs.declared.world.TheConstants.{MOST_WON}
 use Rattle.tag_model.specs.World.{World}
 use Rattle.tag_core.specs.declared.shape.Shape.{Shape}
 use Rattle.tag_core.specs.declared.step.Step.TheVariants.{Word, Post, Take}
@@ -37,6 +38,9 @@ module _ (R : Type 0) (k : Shape) (narrow : k.layout.shift ≤ 6) (s : State R (
 
   abbrev now_world : World
   now_world = world_of k sh.history
+
+  none_won : now_world.won r.number + 0 ≤ MOST_WON
+  none_won = none_more R k narrow s sh r ok r.number
 
   -- ---- steps on one tag
 
@@ -80,7 +84,7 @@ module _ (R : Type 0) (k : Shape) (narrow : k.layout.shift ≤ 6) (s : State R (
         needs = record {
           in_layout = subst (λ (z : ℕ). z < k.layout.depth) (sym (tag_named k narrow u)) lu;
           caller = ok.number;
-          unspent = none_more R k narrow s sh r ok r.number;
+          unspent = none_won;
           places = λ t l is. held_tag u t has lu (only_one t u (sym (ap (λ (z : ℕ). nat_eq t z) (tag_named k narrow u))
               ∙ is));
         };
@@ -106,7 +110,7 @@ module _ (R : Type 0) (k : Shape) (narrow : k.layout.shift ≤ 6) (s : State R (
     needs = record {
       in_layout = lu;
       caller = ok.number;
-      unspent = none_more R k narrow s sh r ok r.number;
+      unspent = none_won;
       places =
           λ t l is. held_tag u t has lu (only_one t u is);
     };
@@ -137,7 +141,7 @@ module _ (R : Type 0) (k : Shape) (narrow : k.layout.shift ≤ 6) (s : State R (
         needs = record {
           in_layout = lu;
           caller = ok.number;
-          unspent = none_more R k narrow s sh r ok r.number;
+          unspent = none_won;
           places =
               λ t l is. subst (λ (z : ℕ). now_world.place z ≡ posted)
               (sym (only_is k narrow t u (only_one t u is))) its;
@@ -172,12 +176,7 @@ module _ (R : Type 0) (k : Shape) (narrow : k.layout.shift ≤ 6) (s : State R (
       record {
         finds = found;
         value = tt;
-        needs = record {
-          in_layout = inside;
-          caller = ok.number;
-          unspent = none_more R k narrow s sh r ok r.number;
-          places = λ t l is. tt;
-        };
+        needs = record { in_layout = inside; caller = ok.number; unspent = none_won; places = λ t l is. tt };
         cells = aside_cells R k narrow s sh r ok i 0 0 inside refl (pow_pos (word_depth k.layout i));
         tags = λ t l. let tag = sh.tags t l in let q : Place = now_world.place t in
             let b : ℕ = t % 2 ^ k.layout.shift in
@@ -207,12 +206,7 @@ module _ (R : Type 0) (k : Shape) (narrow : k.layout.shift ≤ 6) (s : State R (
         record {
           finds = found;
           value = tt;
-          needs = record {
-            in_layout = inside;
-            caller = ok.number;
-            unspent = none_more R k narrow s sh r ok r.number;
-            places = λ t l is. tt;
-          };
+          needs = record { in_layout = inside; caller = ok.number; unspent = none_won; places = λ t l is. tt };
           cells = word_cells R k narrow s sh r ok i (without n mask) x inside same
               (let a = minus_le (now_cells.words.word i) mask in let b = sh.cells.word_within i inside in omega arith);
           tags = λ t l. let tag = sh.tags t l in let q : Place = now_world.place t in

@@ -11,7 +11,7 @@ use Rattle.tag_core.specs.Callers.{record_of}
 use Rattle.tag_core.proofs.Masks.{ones_minus, minus_le}
 use Rattle.tag_core.proofs.Stand.{word_in}
 use Rattle.tag_core.proofs.Allowed.{claim_allowed}
-use Rattle.tag_core.proofs.Asking.{narrow, in_words, asked, left, recorded, knows, carries, shown, slots, plus_none}
+use Rattle.tag_core.proofs.Asking.{narrow, in_words, asked, left, after, recorded, slots, plus_none}
 use Rattle.tag_core.proofs.Marking.{mask_read}
 use Rattle.tag_core.proofs.Holdings.{adds_acquires, not_found}
 use Rattle.tag_core.proofs.map.Map.claim.Goals as goal
@@ -38,15 +38,8 @@ invariant_of-caller g c =
     (plus_none w.back) in
     let fewer : count_ones won ≤ count_ones c.args.mask = ones_minus c.args.mask c.fetch_or-found.result in
     let roomy : w.won + count_ones c.args.mask ≤ w.shape.value.life = c.room.ensures.0 (search rules) in
-    let told = w.told.1 in let within : w.won + count_ones won ≤ w.life = omega arith in record {
-      told = w.told;
-      knows = knows l;
-      shown = shown l;
-      carries = carries l;
-      wide = length-set w.held.items _ _ ∙ w.wide;
-      unspent = (within, w.unspent.1);
-      few_back = w.few_back;
-    }
+    let told = w.told.1 in let within : w.won + count_ones won ≤ w.life = omega arith in
+    after l (length-set w.held.items _ _ ∙ w.wide) (within, w.unspent.1) w.few_back
 
 pub returns-clause-step : goal.returns-clause-step
 returns-clause-step g c =

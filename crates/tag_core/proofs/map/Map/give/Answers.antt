@@ -10,7 +10,7 @@ use Rattle.tag_core.specs.Callers.{record_of}
 use Rattle.tag_core.proofs.Stand.{word_in}
 use Rattle.tag_core.proofs.Picks.{among, one_among}
 use Rattle.tag_core.proofs.Allowed.{give_allowed}
-use Rattle.tag_core.proofs.Asking.{narrow, in_words, asked, left, recorded, knows, carries, shown, few, slots, bounded, plus_none}
+use Rattle.tag_core.proofs.Asking.{narrow, in_words, asked, left, after, recorded, few, slots, bounded, plus_none}
 use Rattle.tag_core.proofs.Marking.{mask_read}
 use Rattle.tag_core.proofs.Holdings.{adds_releases}
 use Rattle.tag_core.proofs.map.Map.give.Goals as goal
@@ -36,15 +36,8 @@ invariant_of-caller g c =
     let mask = ap (λ (z : ℕ). slice_set w.held.items i (without z x))
     (sym (mask_read w i c.index.result.now inside c.index.ensures)) in
     let l = left w (c.fetch_and.ensures.2 i x (record_of w) c.word_spot.ensures c.ranges.mask.fits refl w.knows) mask
-    refl (plus_none w.won) refl in record {
-      told = w.told;
-      knows = knows l;
-      shown = shown l;
-      carries = carries l;
-      wide = length-set w.held.items _ _ ∙ w.wide;
-      unspent = w.unspent;
-      few_back = bounded c.args.self.now w c.requires.caller _ (few l);
-    }
+    refl (plus_none w.won) refl in
+    after l (length-set w.held.items _ _ ∙ w.wide) w.unspent (bounded c.args.self.now w c.requires.caller _ (few l))
 
 pub returns-clause-step : goal.returns-clause-step
 returns-clause-step g c =

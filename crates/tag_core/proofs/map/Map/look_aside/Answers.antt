@@ -8,7 +8,7 @@ use Rattle.tag_core.specs.Plays.{looked_aside}
 use Rattle.tag_core.specs.Callers.{record_of}
 use Rattle.tag_core.proofs.Stand.{aside_in}
 use Rattle.tag_core.proofs.Allowed.{look_aside_allowed}
-use Rattle.tag_core.proofs.Asking.{narrow, in_words, asked, left, recorded, knows, carries, shown, slots, plus_none}
+use Rattle.tag_core.proofs.Asking.{narrow, in_words, asked, left, after, recorded, slots, plus_none}
 use Rattle.tag_core.proofs.Holdings.{adds_keeps}
 use Rattle.tag_core.proofs.map.Map.look_aside.Goals as goal
 
@@ -25,15 +25,8 @@ pub invariant_of-caller : goal.invariant_of-caller
 invariant_of-caller g c =
     let w = c.args.caller.now in
     let did = c.load.ensures.2 c.args.word (record_of w) c.aside_spot.ensures w.knows in
-    let l = left w did.0 refl refl (plus_none w.won) (plus_none w.back) in record {
-      told = w.told;
-      knows = knows l;
-      shown = shown l;
-      carries = carries l;
-      wide = w.wide;
-      unspent = w.unspent;
-      few_back = w.few_back;
-    }
+    let l = left w did.0 refl refl (plus_none w.won) (plus_none w.back) in
+    after l w.wide w.unspent w.few_back
 
 pub returns-clause-step : goal.returns-clause-step
 returns-clause-step g c =

@@ -8,7 +8,7 @@ use Rattle.tag_core.specs.Plays.{posted}
 use Rattle.tag_core.specs.Callers.{record_of}
 use Rattle.tag_core.proofs.Stand.{state_in}
 use Rattle.tag_core.proofs.Allowed.{post_allowed}
-use Rattle.tag_core.proofs.Asking.{narrow, asked, left, recorded, knows, carries, shown, slots, plus_none}
+use Rattle.tag_core.proofs.Asking.{narrow, asked, left, after, recorded, slots, plus_none}
 use Rattle.tag_core.proofs.Marking.{marked}
 use Rattle.tag_core.proofs.Valued.{slot_held}
 use Rattle.tag_core.proofs.Holdings.{adds_releases_one}
@@ -31,15 +31,8 @@ invariant_of-caller g c =
     ∙ ap (λ (z : Layout). state_at z u) w.told.0) val.1 w.knows in
     let mask = marked w u _ _ c.word_of-word.ensures.value c.place_of.ensures.value c.place_of.ensures.bound
     without c.index.result.now c.requires.held.0 c.index.ensures in
-    let l = left w did mask refl (plus_none w.won) (plus_none w.back) in record {
-      told = w.told;
-      knows = knows l;
-      shown = shown l;
-      carries = carries l;
-      wide = length-set w.held.items _ _ ∙ w.wide;
-      unspent = w.unspent;
-      few_back = w.few_back;
-    }
+    let l = left w did mask refl (plus_none w.won) (plus_none w.back) in
+    after l (length-set w.held.items _ _ ∙ w.wide) w.unspent w.few_back
 
 pub returns-clause-step : goal.returns-clause-step
 returns-clause-step g c =

@@ -16,7 +16,7 @@ use Rattle.tag_core.specs.Callers.{record_of}
 use Rattle.tag_core.specs.Rule.{Shown}
 use Rattle.tag_core.proofs.Stand.{aside_in}
 use Rattle.tag_core.proofs.Allowed.{put_allowed}
-use Rattle.tag_core.proofs.Asking.{narrow, asked, left, recorded, knows, carries, shown, few, slots, bounded, plus_none}
+use Rattle.tag_core.proofs.Asking.{narrow, asked, left, after, recorded, few, slots, bounded, plus_none}
 use Rattle.tag_core.proofs.Marking.{word_is, bit_is, marked}
 use Rattle.tag_core.proofs.Holdings.{adds_releases_one}
 use Rattle.tag_core.proofs.map.Map.put.Goals as goal
@@ -45,15 +45,8 @@ invariant_of-caller g c =
     (bit_is w u _ _ word place.value place.bound) (c.fetch_or.ensures.2 i (record_of w)
     (c.aside_spot.ensures ∙ ap aside_at (word_is w u _ _ word place.value place.bound)) w.knows) in
     let l = left w did (marked w u _ _ word place.value place.bound without c.index.result.now c.requires.held.0
-    c.index.ensures) refl (plus_none w.won) refl in record {
-      told = w.told;
-      knows = knows l;
-      shown = shown l;
-      carries = carries l;
-      wide = length-set w.held.items _ _ ∙ w.wide;
-      unspent = w.unspent;
-      few_back = bounded c.args.self.now w c.requires.caller _ (few l);
-    }
+    c.index.ensures) refl (plus_none w.won) refl in
+    after l (length-set w.held.items _ _ ∙ w.wide) w.unspent (bounded c.args.self.now w c.requires.caller _ (few l))
 
 pub returns-clause-step : goal.returns-clause-step
 returns-clause-step g c =

@@ -3,7 +3,7 @@ use Rattle.std.proofs.Common.{◌≡◌, ◌≢◌, ℕ, sym, ap, ◌∙◌}
 use mathlib.Core.Logic.{dite}
 use native.Mathlib.Decide.{ℕ_discrete}
 use Rattle.tag_core.specs.Records.{value_of}
-use Rattle.tag_core.proofs.InFront.{front_asked, in_front, order_asked, exchanged, recorded, knows}
+use Rattle.tag_core.proofs.InFront.{front_asked, in_front, order_asked, exchanged, after, recorded}
 use Rattle.tag_core.proofs.map.Map.read.Goals as goal
 
 pub load-requires : goal.load-requires
@@ -31,15 +31,8 @@ invariant_of-caller g c =
     let w = c.args.caller.now in let read = c.front_value-value in let me = c.load.new.seat.me in
     let done = exchanged w c.args.tag _ c.state_spot-spot.ensures c.requires.held me c.load.ensures.2
     read.result read.result read.new.seat.me read.ensures.value
-    (read.ensures.same.2 ∙ (λ j. (me.0, read.ensures.value j))) c.load-2.new.seat.me c.load-2.ensures.2 in record {
-      told = w.told;
-      knows = knows done;
-      shown = λ r is. w.shown r (sym done.view ∙ is);
-      carries = done.carries;
-      wide = w.wide;
-      unspent = w.unspent;
-      few_back = w.few_back;
-    }
+    (read.ensures.same.2 ∙ (λ j. (me.0, read.ensures.value j))) c.load-2.new.seat.me c.load-2.ensures.2 in
+    after done
 
 pub returns-clause-value : goal.returns-clause-value
 returns-clause-value g c =

@@ -1,7 +1,7 @@
 -- A load of the tag's state brings its slot to the front of the seat, the exchange changes that one value, and a second
 -- load puts the slot back to its place among the others.
-use Rattle.std.proofs.Common.{sym, ◌∙◌}
-use Rattle.tag_core.proofs.InFront.{front_asked, in_front, order_asked, exchanged, recorded, knows}
+use Rattle.std.proofs.Common.{◌∙◌}
+use Rattle.tag_core.proofs.InFront.{front_asked, in_front, order_asked, exchanged, after, recorded}
 use Rattle.tag_core.proofs.map.Map.slot.Goals as goal
 
 pub load-requires : goal.load-requires
@@ -29,15 +29,7 @@ invariant_of-caller g c =
     let w = c.args.caller.now in let old = c.exchange-old in
     let done = exchanged w c.args.tag _ c.state_spot-spot.ensures c.requires.held c.load.new.seat.me c.load.ensures.2
     old.result c.args.new old.new.seat.me old.ensures.2 old.ensures.3 c.load-2.new.seat.me c.load-2.ensures.2 in
-    record {
-      told = w.told;
-      knows = knows done;
-      shown = λ r is. w.shown r (sym done.view ∙ is);
-      carries = done.carries;
-      wide = w.wide;
-      unspent = w.unspent;
-      few_back = w.few_back;
-    }
+    after done
 
 pub returns-clause-found : goal.returns-clause-found
 returns-clause-found g c =

@@ -14,7 +14,7 @@ use Rattle.tag_core.specs.Callers.{record_of}
 use Rattle.tag_core.proofs.Stand.{word_in, aside_in}
 use Rattle.tag_core.proofs.Sweepings.{nothing, clean, mask_of}
 use Rattle.tag_core.proofs.Allowed.{swap_allowed, spill_allowed}
-use Rattle.tag_core.proofs.Asking.{narrow, in_words, asked, left, recorded, knows, carries, shown, slots, plus_none, shows}
+use Rattle.tag_core.proofs.Asking.{narrow, in_words, asked, left, after, recorded, slots, plus_none, shows}
 use Rattle.std.proofs.Common.{◌∷◌}
 use Rattle.atomic_table.specs.Table.{Me}
 use Rattle.tag_core.specs.declared.record.View.{View}
@@ -38,15 +38,8 @@ invariant_of-caller g c =
     let w = c.args.caller.now in let i : ℕ = c.args.word in
     let l = left w (c.swap-mask.ensures.2 i (record_of w) c.aside_spot.ensures w.knows) refl
     (nothing (words w.shape.value.layout) i c.swap-mask.result c.if-mask-eq0.true) (plus_none w.won)
-    (plus_none w.back) in record {
-      told = w.told;
-      knows = knows l;
-      shown = shown l;
-      carries = carries l;
-      wide = w.wide;
-      unspent = w.unspent;
-      few_back = w.few_back;
-    }
+    (plus_none w.back) in
+    after l w.wide w.unspent w.few_back
 
 pub returns-then-mask-eq0-clause-none : goal.returns-then-mask-eq0-clause-none
 returns-then-mask-eq0-clause-none g c =

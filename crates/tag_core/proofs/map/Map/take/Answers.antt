@@ -9,7 +9,7 @@ use Rattle.tag_core.specs.Plays.{took}
 use Rattle.tag_core.specs.Callers.{record_of}
 use Rattle.tag_core.proofs.Stand.{state_in}
 use Rattle.tag_core.proofs.Allowed.{take_allowed}
-use Rattle.tag_core.proofs.Asking.{narrow, asked, left, recorded, knows, carries, shown, slots, plus_none}
+use Rattle.tag_core.proofs.Asking.{narrow, asked, left, after, recorded, slots, plus_none}
 use Rattle.tag_core.proofs.Marking.{marked}
 use Rattle.tag_core.proofs.Holdings.{adds_keeps, adds_acquires_one}
 use Rattle.tag_core.proofs.map.Map.take.Goals as goal
@@ -29,15 +29,8 @@ invariant_of-caller g c =
     let w = c.args.caller.now in let u : ℕ = c.args.tag in
     let did = c.compare_exchange-found.ensures.2 u (record_of w) (c.state_spot-state.ensures
     ∙ ap (λ (z : Layout). state_at z u) w.told.0) w.knows in
-    let l = left w (did.1 c.if-found-ne1.true).1 refl refl (plus_none w.won) (plus_none w.back) in record {
-      told = w.told;
-      knows = knows l;
-      shown = shown l;
-      carries = carries l;
-      wide = w.wide;
-      unspent = w.unspent;
-      few_back = w.few_back;
-    }
+    let l = left w (did.1 c.if-found-ne1.true).1 refl refl (plus_none w.won) (plus_none w.back) in
+    after l w.wide w.unspent w.few_back
 
 pub returns-then-found-ne1-clause-missed : goal.returns-then-found-ne1-clause-missed
 returns-then-found-ne1-clause-missed g c =
@@ -60,15 +53,8 @@ invariant_of-caller-2 g c =
     let mask = marked w u _ _ c.word_of-word.ensures.value c.place_of.ensures.value c.place_of.ensures.bound bit_or
     c.index.result.now
     (subst (λ (z : Shape). u < z.layout.depth) (sym c.requires.caller.1) c.requires.within) c.index.ensures in
-    let l = left w (did.0 (search rules)).2 mask refl (plus_none w.won) (plus_none w.back) in record {
-      told = w.told;
-      knows = knows l;
-      shown = shown l;
-      carries = carries l;
-      wide = length-set w.held.items _ _ ∙ w.wide;
-      unspent = w.unspent;
-      few_back = w.few_back;
-    }
+    let l = left w (did.0 (search rules)).2 mask refl (plus_none w.won) (plus_none w.back) in
+    after l (length-set w.held.items _ _ ∙ w.wide) w.unspent w.few_back
 
 pub returns-clause-won : goal.returns-clause-won
 returns-clause-won g c =
