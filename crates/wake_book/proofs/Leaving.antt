@@ -1,21 +1,20 @@
 -- A waiter leaves its group by an exchange of the group's word: where it won, the waiter stands nowhere and may lower
 -- the active count, and where it lost, the waiter stands as before.
-use Rattle.std.proofs.Common.{arith, ◌≡◌, ◌≢◌, ℕ, suc, ◌^◌, ◌≤◌, nat_eq, cond, List, [], ◌∷◌, Option, Some, None, refl, sym, ap, ◌∙◌, subst, inl, inr}
+use Rattle.std.proofs.Common.{arith, ◌≡◌, ◌≢◌, ℕ, suc, nat_eq, cond, List, [], ◌∷◌, Some, None, refl, sym, ap, ◌∙◌, subst, inl, inr}
 use Rattle.atomic_table.specs.Table.{Me}
-use Rattle.step_ledger.specs.declared.record.Record.{Record}
 use Rattle.step_ledger.specs.declared.record.View.{View}
 use Rattle.step_ledger.specs.Views.{alone, steps_of, with_step, Stepped}
-use Rattle.step_ledger.specs.History.{total}
-use Rattle.step_ledger.proofs.Members.{pushed, settled}
 use Rattle.wake_book.specs.declared.steps.GroupStep.{GroupStep}
 use Rattle.wake_book.specs.declared.steps.GroupStep.TheVariants.{Lower, Use, Withdraw}
 use Rattle.wake_book.specs.declared.groups.Waiter.{Waiter}
 use Rattle.wake_book.specs.declared.waiting.Left.{Left}
 use Rattle.wake_book.specs.declared.waiting.Left.TheVariants.{Woken, Unwoken}
 use Rattle.wake_book.specs.Waits.{stand, raised, moved_by}
-use Rattle.wake_book.specs.Stands.{stand_code, StandsSo}
+use Rattle.wake_book.specs.Stands.{stand_code}
 use Rattle.wake_book.specs.Walks.{looked, IsWayOut, IsCalledFor, IsLeave}
+use Rattle.wake_book.specs.Groups.{record_of}
 use Rattle.wake_book.proofs.GroupSteps.{yes_of, no_of}
+use Rattle.wake_book.proofs.Waiters.{Promises, made, made_steps, after}
 
 -- the waiter stands nowhere after this step if it found what it expected, and as before if not
 record StepsOut (x : GroupStep) (expected found : ℕ) : Type 0 where
@@ -32,48 +31,33 @@ steps_out g expected found x called = elim called [
       (record { stands = λ l. refl; raises = λ l. refl; moves = refl })
 ]
 
--- the list says of the waiter what its fields say
-pub record Fits (w : Waiter) (standing : Option ℕ) (me : Me (Unit {0}) (View GroupStep)) : Type 0 where
-  pub knows : me ≡ (alone (record { number = w.number; steps = steps_of me.0 }), [])
-  pub stands : StandsSo standing (steps_of me.0)
-  pub moves : (w.moved ≡ total moved_by (steps_of me.0)) × (w.moved ≤ 2 ^ 56)
-
 -- the exchange that the word expected calls for
 abbrev pub Exchanges : (w : Waiter) (g expected found : ℕ) → Me (Unit {0}) (View GroupStep) → Type 0
-Exchanges w g expected found me = (made : GroupStep) × IsCalledFor g expected found made × Stepped made w.seat.me me
+Exchanges w g expected found me = (x : GroupStep) × IsCalledFor g expected found x × Stepped x w.seat.me me
 
 module _ (w : Waiter) (g expected found : ℕ) (me : Me (Unit {0}) (View GroupStep))
     (did : Exchanges w g expected found me) where
   abbrev before : List GroupStep
   before = steps_of w.seat.me.0
 
-  abbrev record_before : Record GroupStep
-  record_before = record { number = w.number; steps = before }
-
   exit : StepsOut did.0 expected found
   exit = steps_out g expected found did.0 did.1
 
   -- what the waiter knows after the exchange
-  pub tried : me ≡ (alone (with_step did.0 record_before), [])
-  tried = pushed w.seat.me me record_before did.0 w.knows did.2
+  pub tried : me ≡ (alone (with_step did.0 (record_of w)), [])
+  tried = made (record_of w) w.seat.me me w.knows did.0 did.2
 
   -- its list
   pub tried_steps : steps_of me.0 ≡ did.0 ∷ before
-  tried_steps = ap (λ (z : Me (Unit {0}) (View GroupStep)). steps_of z.0) tried
+  tried_steps = made_steps (record_of w) w.seat.me me w.knows did.0 did.2
 
   -- it stands as before
-  pub lost : found ≢ expected → Fits w w.standing me
+  pub lost : found ≢ expected → Promises w.number w.standing w.next w.moved me
   lost missed =
       let stays = exit.stands before ∙ no_of found expected 0 (stand before) missed in
-      let a = ap (total moved_by) tried_steps in let b = w.moves.0 in let d = exit.moves in record {
-        knows = settled me (with_step did.0 record_before) tried;
-        stands = (
-          w.stands.0 ∙ sym stays ∙ sym (ap stand tried_steps),
-          ap raised tried_steps ∙ exit.raises before ∙ w.stands.1,
-          w.stands.2,
-        );
-        moves = (omega arith, w.moves.1);
-      }
+      let moves = w.moves.0 in let none = exit.moves in
+      after (record_of w) w.seat.me me w.knows did.0 did.2 w.standing w.next w.moved
+      (w.stands.0 ∙ sym stays, exit.raises before ∙ w.stands.1, w.stands.2) w.within (omega arith) w.moves.1
 
   module _ (won : found ≡ expected) where
     -- it stands nowhere
@@ -86,20 +70,14 @@ module _ (w : Waiter) (g expected found : ℕ) (me : Me (Unit {0}) (View GroupSt
         exit.raises before ∙ w.stands.1 ∙ omega arith
 
     module _ (n : ℕ) (me' : Me (Unit {0}) (View GroupStep)) (lowered : Stepped (Lower n) me me') where
-      now : me' ≡ (alone (with_step (Lower n) (with_step did.0 record_before)), [])
-      now = pushed me me' (with_step did.0 record_before) (Lower n) tried lowered
-
-      -- its list after both steps
       left_steps : steps_of me'.0 ≡ Lower n ∷ did.0 ∷ before
-      left_steps = ap (λ (z : Me (Unit {0}) (View GroupStep)). steps_of z.0) now
+      left_steps = made_steps (with_step did.0 (record_of w)) me me' tried (Lower n) lowered
 
       -- it stands nowhere
-      pub left : Fits w None me'
-      left = let a = ap (total moved_by) left_steps in let b = w.moves.0 in let d = exit.moves in record {
-        knows = settled me' (with_step (Lower n) (with_step did.0 record_before)) now;
-        stands = (sym gone ∙ sym (ap stand left_steps), ap raised left_steps, omega arith);
-        moves = (omega arith, w.moves.1);
-      }
+      pub left : Promises w.number None w.next w.moved me'
+      left = let moves = w.moves.0 in let none = exit.moves in
+          after (with_step did.0 (record_of w)) me me' tried (Lower n) lowered None w.next w.moved
+          (sym gone, refl, omega arith) w.within (omega arith) w.moves.1
 
       -- and the look before the exchange makes of these steps a way to leave
       pub leaves : (steps : List GroupStep) (outcome : Left) (next : ℕ) → before ≡ looked g expected steps

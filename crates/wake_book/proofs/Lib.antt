@@ -8,4 +8,5 @@ pub mod GroupKeeps
 pub mod Lengths
 pub mod GroupsEnding
 pub mod Crossing
+pub mod Waiters
 pub mod Leaving

@@ -1,88 +1,77 @@
 -- At least as many wait as are moved, so neither half of the word overflows; the exchange wins exactly if it found what
 -- it expected.
-use Rattle.std.proofs.Common.{arith, ◌≡◌, ℕ, eqb, ◌+◌, ◌-◌, ◌*◌, ◌≤◌, ◌∷◌, sym, ap, ◌∙◌}
+use Rattle.std.proofs.Common.{arith, ◌≡◌, ℕ, eqb, ◌+◌, ◌-◌, ◌*◌, ◌^◌, ◌≤◌, ◌∷◌, ap, ◌∙◌}
 use prog.Atomic.{either}
-use Rattle.step_ledger.specs.declared.record.Record.{Record}
-use Rattle.step_ledger.specs.Views.{steps_of, with_step}
+use Rattle.atomic_table.specs.Table.{Me}
+use Rattle.step_ledger.specs.declared.record.View.{View}
+use Rattle.step_ledger.specs.Views.{steps_of, Stepped}
 use Rattle.step_ledger.specs.History.{total}
-use Rattle.step_ledger.proofs.Members.{pushed, settled}
+use Rattle.wake_book.specs.declared.groups.Waiter.{Waiter}
 use Rattle.wake_book.specs.declared.steps.GroupStep.{GroupStep}
 use Rattle.wake_book.specs.declared.steps.GroupStep.TheVariants.{Grant}
-use Rattle.wake_book.specs.Waits.{one_waiting, moved_in, stand, raised, moved_by}
+use Rattle.wake_book.specs.Groups.{record_of}
+use Rattle.wake_book.specs.Waits.{one_waiting, waiting, moved_in, moved_by}
 use Rattle.wake_book.specs.WaitPlays.{granting}
 use Rattle.wake_book.proofs.GroupSteps.{yes_of, no_of}
 use Rattle.wake_book.proofs.GroupKeeps as keeps
+use Rattle.wake_book.proofs.Waiters.{Promises, made_steps, after, few}
 use Rattle.wake_book.proofs.groups.Groups.grant.Goals as goal
 
+-- the code subtracts first, and so stays within 64 bits
+same_word : (found count : ℕ) → count ≤ waiting found → found - one_waiting * count + count ≡ moved_in found count
+same_word found count few_wait = omega arith
+
+module _ (w : Waiter) (g found count seen : ℕ) (me : Me (Unit {0}) (View GroupStep))
+    (did : Stepped (Grant g found count seen) w.seat.me me) where
+  granted_steps : steps_of me.0 ≡ Grant g found count seen ∷ steps_of w.seat.me.0
+  granted_steps = made_steps (record_of w) w.seat.me me w.knows (Grant g found count seen) did
+
+  -- the waiter stands where it stood
+  granted : (moved : ℕ) → moved ≡ total moved_by (Grant g found count seen ∷ steps_of w.seat.me.0) → moved ≤ 2 ^ 56
+      → Promises w.number w.standing w.next moved me
+  granted moved is most = after (record_of w) w.seat.me me w.knows (Grant g found count seen) did w.standing w.next moved
+      w.stands w.within is most
+
 pub compare_exchange-seen-requires : goal.compare_exchange-seen-requires
-compare_exchange-seen-requires c = let few_wait = c.requires.within.1 in
-    let same : c.args.found - one_waiting * c.args.count + c.args.count ≡ moved_in c.args.found c.args.count = omega
-    arith in let g = c.args.self.now in let w = c.args.waiter.now in let wide = g.wide.0 in let told = g.told in
-    let small = g.small in let few : g.table.shared.key ≤ 64 = omega arith in let ids = g.table.shared.table_id in
-    let in_range = c.requires.within.0 in let at = c.place_of.ensures in let room = c.requires.within.2 in
-    let own = w.moves.0 in
+compare_exchange-seen-requires c = let g = c.args.self.now in let w = c.args.waiter.now in let wide = g.wide.0 in
+    let slots = g.table.shared.table_id.slots in let in_range = c.requires.within.0 in let at = c.place_of.ensures in
+    let room = c.requires.within.2 in let own = w.moves.0 in
     let new : ℕ = c.args.found - one_waiting * c.args.count + c.args.count in (
       c.requires.groups,
       omega arith,
-      keeps.placed g.table.shared.key few ids.slots w.seat.id w.seat.me _ (ap (λ z. z.0) w.knows) c.place_of.result
+      keeps.placed g.table.shared.key (few g) slots w.seat.id w.seat.me _ (ap (λ z. z.0) w.knows) c.place_of.result
           c.args.group at (λ v. either (eqb v c.args.found) new v) c.args.found new granting
-          (keeps.grant g.table.shared.key few ids.slots w.seat.id w.seat.me
-          (record { number = w.number; steps = steps_of w.seat.me.0 }) (ap (λ z. z.0) w.knows) c.args.group
-          c.args.count c.args.found new in_range few_wait (omega arith) same),
+          (keeps.grant g.table.shared.key (few g) slots w.seat.id w.seat.me (record_of w) (ap (λ z. z.0) w.knows)
+          c.args.group c.args.count c.args.found new in_range c.requires.within.1 (omega arith)
+          (same_word c.args.found c.args.count c.requires.within.1)),
     )
 
 pub invariant_of-waiter : goal.invariant_of-waiter
-invariant_of-waiter c = let few_wait = c.requires.within.1 in
-    let same : c.args.found - one_waiting * c.args.count + c.args.count ≡ moved_in c.args.found c.args.count = omega
-    arith in let w = c.args.waiter.now in
-    let r : Record GroupStep = record { number = w.number; steps = steps_of w.seat.me.0 } in
-    let x1 : GroupStep = Grant c.args.group c.args.found c.args.count c.compare_exchange-seen.result in
-    let now1 = pushed w.seat.me c.compare_exchange-seen.new.seat.me r x1 w.knows
-    (c.compare_exchange-seen.ensures.2 c.args.group c.args.count c.place_of.ensures c.requires.within.1 same) in
-    let steps = ap (λ z. steps_of z.0) now1 in
-    let none = no_of c.compare_exchange-seen.result c.args.found c.args.count 0 c.if-seen-found.true in
-    let a = ap (total moved_by) steps in let b = w.moves.0 in record {
-      knows = settled c.compare_exchange-seen.new.seat.me (with_step x1 r) now1;
-      stands = (w.stands.0 ∙ sym (ap stand steps), ap raised steps ∙ w.stands.1, w.stands.2);
-      within = w.within;
-      moves = (omega arith, w.moves.1);
-    }
+invariant_of-waiter c = let w = c.args.waiter.now in let try = c.compare_exchange-seen in let moves = w.moves.0 in
+    let none = no_of try.result c.args.found c.args.count 0 c.if-seen-found.true in
+    granted w c.args.group c.args.found c.args.count try.result try.new.seat.me
+    (try.ensures.2 c.args.group c.args.count c.place_of.ensures c.requires.within.1
+    (same_word c.args.found c.args.count c.requires.within.1)) w.moved (omega arith) w.moves.1
 
 pub returns-then-seen-found-clause-lost : goal.returns-then-seen-found-clause-lost
-returns-then-seen-found-clause-lost c _ = let few_wait = c.requires.within.1 in
-    let same : c.args.found - one_waiting * c.args.count + c.args.count ≡ moved_in c.args.found c.args.count = omega
-    arith in let w = c.args.waiter.now in
-    let r : Record GroupStep = record { number = w.number; steps = steps_of w.seat.me.0 } in
-    let x1 : GroupStep = Grant c.args.group c.args.found c.args.count c.compare_exchange-seen.result in
-    let now1 = pushed w.seat.me c.compare_exchange-seen.new.seat.me r x1 w.knows
-    (c.compare_exchange-seen.ensures.2 c.args.group c.args.count c.place_of.ensures c.requires.within.1 same) in
-    let steps = ap (λ z. steps_of z.0) now1 in (c.compare_exchange-seen.result, c.if-seen-found.true, steps)
+returns-then-seen-found-clause-lost c _ = let try = c.compare_exchange-seen in (
+  try.result,
+  c.if-seen-found.true,
+  granted_steps c.args.waiter.now c.args.group c.args.found c.args.count try.result try.new.seat.me
+      (try.ensures.2 c.args.group c.args.count c.place_of.ensures c.requires.within.1
+      (same_word c.args.found c.args.count c.requires.within.1)),
+)
 
 pub invariant_of-waiter-2 : goal.invariant_of-waiter-2
-invariant_of-waiter-2 c = let few_wait = c.requires.within.1 in
-    let same : c.args.found - one_waiting * c.args.count + c.args.count ≡ moved_in c.args.found c.args.count = omega
-    arith in let w = c.args.waiter.now in
-    let r : Record GroupStep = record { number = w.number; steps = steps_of w.seat.me.0 } in
-    let x1 : GroupStep = Grant c.args.group c.args.found c.args.count c.compare_exchange-seen.result in
-    let now1 = pushed w.seat.me c.compare_exchange-seen.new.seat.me r x1 w.knows
-    (c.compare_exchange-seen.ensures.2 c.args.group c.args.count c.place_of.ensures c.requires.within.1 same) in
-    let steps = ap (λ z. steps_of z.0) now1 in
-    let all = yes_of c.compare_exchange-seen.result c.args.found c.args.count 0 c.if-seen-found.false in
-    let a = ap (total moved_by) steps in let b = w.moves.0 in let room = c.requires.within.2 in record {
-      knows = settled c.compare_exchange-seen.new.seat.me (with_step x1 r) now1;
-      stands = (w.stands.0 ∙ sym (ap stand steps), ap raised steps ∙ w.stands.1, w.stands.2);
-      within = w.within;
-      moves = (omega arith, omega arith);
-    }
+invariant_of-waiter-2 c = let w = c.args.waiter.now in let try = c.compare_exchange-seen in let moves = w.moves.0 in
+    let all = yes_of try.result c.args.found c.args.count 0 c.if-seen-found.false in let room = c.requires.within.2 in
+    granted w c.args.group c.args.found c.args.count try.result try.new.seat.me
+    (try.ensures.2 c.args.group c.args.count c.place_of.ensures c.requires.within.1
+    (same_word c.args.found c.args.count c.requires.within.1)) (w.moved + c.args.count) (omega arith) (omega arith)
 
 pub returns-clause-won : goal.returns-clause-won
-returns-clause-won c _ = let few_wait = c.requires.within.1 in
-    let same : c.args.found - one_waiting * c.args.count + c.args.count ≡ moved_in c.args.found c.args.count = omega
-    arith in let w = c.args.waiter.now in
-    let r : Record GroupStep = record { number = w.number; steps = steps_of w.seat.me.0 } in
-    let x1 : GroupStep = Grant c.args.group c.args.found c.args.count c.compare_exchange-seen.result in
-    let now1 = pushed w.seat.me c.compare_exchange-seen.new.seat.me r x1 w.knows
-    (c.compare_exchange-seen.ensures.2 c.args.group c.args.count c.place_of.ensures c.requires.within.1 same) in
-    let steps = ap (λ z. steps_of z.0) now1 in
-    (steps ∙ ap (λ (z : ℕ). Grant c.args.group c.args.found c.args.count z ∷ steps_of w.seat.me.0)
-    c.if-seen-found.false)
+returns-clause-won c _ = let w = c.args.waiter.now in let try = c.compare_exchange-seen in
+    granted_steps w c.args.group c.args.found c.args.count try.result try.new.seat.me
+    (try.ensures.2 c.args.group c.args.count c.place_of.ensures c.requires.within.1
+    (same_word c.args.found c.args.count c.requires.within.1))
+    ∙ ap (λ (z : ℕ). Grant c.args.group c.args.found c.args.count z ∷ steps_of w.seat.me.0) c.if-seen-found.false

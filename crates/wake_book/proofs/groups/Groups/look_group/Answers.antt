@@ -1,28 +1,29 @@
 -- A load may always happen, and if the waiter is in this group and the group has no grant, somebody waits there.
-use Rattle.std.proofs.Common.{arith, ℕ, ◌≤◌, ◌∷◌, sym, ap, ◌∙◌}
-use Rattle.step_ledger.specs.Views.{steps_of, push}
+use Rattle.std.proofs.Common.{arith, ℕ, ◌∷◌, sym, ap, ◌∙◌}
+use Rattle.step_ledger.specs.Views.{steps_of}
 use Rattle.wake_book.specs.declared.steps.GroupStep.TheVariants.{Look}
 use Rattle.wake_book.specs.WaitPlays.{looked_group}
 use Rattle.wake_book.specs.Stands.{stand_code}
+use Rattle.wake_book.specs.Groups.{record_of}
 use Rattle.wake_book.proofs.GroupKeeps as keeps
+use Rattle.wake_book.proofs.Waiters.{made_steps, few}
 use Rattle.wake_book.proofs.groups.Groups.look_group.Goals as goal
 
 pub load-requires : goal.load-requires
-load-requires c = let g = c.args.self.now in let w = c.args.waiter.now in let wide = g.wide.0 in let told = g.told in
-    let small = g.small in let few : g.table.shared.key ≤ 64 = omega arith in let ids = g.table.shared.table_id in
-    let in_range = c.requires.within in let at = c.place_of.ensures in (
+load-requires c = let g = c.args.self.now in let w = c.args.waiter.now in let wide = g.wide.0 in
+    let ids = g.table.shared.table_id in let in_range = c.requires.within in let at = c.place_of.ensures in (
       c.requires.groups,
       omega arith,
-      keeps.placed g.table.shared.key few ids.slots w.seat.id w.seat.me _ (ap (λ z. z.0) w.knows) c.place_of.result
+      keeps.placed g.table.shared.key (few g) ids.slots w.seat.id w.seat.me _ (ap (λ z. z.0) w.knows) c.place_of.result
           c.args.group at (λ n. n) 0 0 looked_group
-          (keeps.group g.table.shared.key few ids.slots w.seat.id w.seat.me _ (ap (λ z. z.0) w.knows) c.args.group
+          (keeps.group g.table.shared.key (few g) ids.slots w.seat.id w.seat.me _ (ap (λ z. z.0) w.knows) c.args.group
           in_range),
     )
 
 pub returns-clause-step : goal.returns-clause-step
 returns-clause-step c = let w = c.args.waiter.now in
-    ap (λ z. steps_of z.0) c.load.ensures.2.0
-    ∙ ap (λ z. steps_of (push (Look c.place_of.result c.load.result) z.0)) w.knows
+    made_steps (record_of w) w.seat.me c.load.new.seat.me w.knows (Look c.place_of.result c.load.result)
+    c.load.ensures.2.0
     ∙ ap (λ (z : ℕ). Look z c.load.result ∷ steps_of w.seat.me.0) c.place_of.ensures
 
 pub returns-clause-waits : goal.returns-clause-waits

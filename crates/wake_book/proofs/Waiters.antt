@@ -1,0 +1,45 @@
+-- What a waiter is after steps of its own.
+use Rattle.std.proofs.Common.{arith, ◌≡◌, ℕ, ◌^◌, ◌<◌, ◌≤◌, [], ◌∷◌, Option, sym, ap, ◌∙◌, subst}
+use Rattle.atomic_table.specs.Table.{Me}
+use Rattle.step_ledger.specs.declared.record.Record.{Record}
+use Rattle.step_ledger.specs.declared.record.View.{View}
+use Rattle.step_ledger.specs.Views.{alone, steps_of, with_step, Stepped}
+use Rattle.step_ledger.specs.History.{total}
+use Rattle.step_ledger.proofs.Members.{pushed, settled}
+use Rattle.wake_book.specs.declared.steps.GroupStep.{GroupStep}
+use Rattle.wake_book.specs.declared.groups.Groups.{Groups}
+use Rattle.wake_book.specs.Waits.{moved_by}
+use Rattle.wake_book.specs.Stands.{StandsSo}
+
+-- what a waiter with this number and these fields promises of its seat
+abbrev pub Promises : ℕ → Option ℕ → ℕ → ℕ → Me (Unit {0}) (View GroupStep) → Type 0
+Promises number standing next moved me = record {
+  knows : me ≡ (alone (record { number = number; steps = steps_of me.0 }), []);
+  stands : StandsSo standing (steps_of me.0);
+  within : next < 8;
+  moves : (moved ≡ total moved_by (steps_of me.0)) × (moved ≤ 2 ^ 56);
+}
+
+module _ (r : Record GroupStep) (me me' : Me (Unit {0}) (View GroupStep)) (is : me ≡ (alone r, [])) (x : GroupStep)
+    (did : Stepped x me me') where
+  -- the seat knows the step
+  pub made : me' ≡ (alone (with_step x r), [])
+  made = pushed me me' r x is did
+
+  -- the list begins with it
+  pub made_steps : steps_of me'.0 ≡ x ∷ r.steps
+  made_steps = ap (λ (z : Me (Unit {0}) (View GroupStep)). steps_of z.0) made
+
+  -- so what holds of that list holds of the waiter
+  pub after : (standing : Option ℕ) (next moved : ℕ) → StandsSo standing (x ∷ r.steps) → next < 8
+      → moved ≡ total moved_by (x ∷ r.steps) → moved ≤ 2 ^ 56 → Promises r.number standing next moved me'
+  after standing next moved stands within moves most = record {
+    knows = settled me' (with_step x r) made;
+    stands = subst (StandsSo standing) (sym made_steps) stands;
+    within = within;
+    moves = (moves ∙ sym (ap (total moved_by) made_steps), most);
+  }
+
+-- groups have at most 64 waiters
+pub few : (g : Groups) → g.table.shared.key ≤ 64
+few g = let told = g.told in let small = g.small in omega arith
