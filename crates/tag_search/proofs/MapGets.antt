@@ -10,11 +10,12 @@ use Rattle.tag_core.specs.declared.record.Record.{Record}
 use Rattle.tag_core.specs.declared.shape.Shape.{Shape}
 use Rattle.tag_core.specs.declared.word_step.WordStep.{WordStep}
 use Rattle.tag_core.specs.declared.claim.Spent.{Spent}
-use Rattle.tag_core.specs.Callers.{layout_of, IsCallerOf, record_of, slot_of, Holds}
+use Rattle.tag_core.specs.Callers.{layout_of, IsCallerOf, record_of, slot_of, Holds, SameMap}
+use Rattle.tag_core.specs.Holdings.{Acquires}
 use Rattle.tag_search.specs.declared.shared.Shared.{Shared}
 use Rattle.tag_search.specs.Added.{Adds as Ports}
 use Rattle.tag_search.specs.Batch.{IsBatchGet}
-use Rattle.tag_search.specs.Gains.{Gains, GainsRun}
+use Rattle.tag_search.specs.Gains.{IsAnswer, Gains, IsInRun, GainsRun}
 use Rattle.tag_search.specs.Gets.{IsGet}
 use Rattle.tag_search.specs.Hints.{reduced}
 use Rattle.tag_search.specs.Lone.{IsAlone, Chooses, ChoosesRun}
@@ -47,6 +48,31 @@ module _ {R : Type 0} (map : Map R) (caller now : Caller R) (own : IsCallerOf ma
   narrow : sizes.shift ≤ 6
   narrow = subst (λ (k : Shape). k.layout.shift ≤ 6) (sym own.1) map.small.1
 
+  -- what a get won is what it gains
+  gains : (answer : Option ℕ) → Acquires (IsAnswer answer) caller now
+      → Won sizes answer (record_of caller) (record_of now) → SameMap caller now → Gains sizes answer caller now
+  gains answer acquires won same_map = record {
+    acquires = acquires;
+    held = won.held;
+    count = won.won;
+    back = won.back;
+    number = won.number;
+    shape = won.shape;
+    same_map = same_map;
+  }
+
+  gains_run : (answer : Option (ℕ × ℕ)) → Acquires (IsInRun answer) caller now
+      → WonRun sizes answer (record_of caller) (record_of now) → SameMap caller now → GainsRun sizes answer caller now
+  gains_run answer acquires won same_map = record {
+    acquires = acquires;
+    held = won.held;
+    count = won.won;
+    back = won.back;
+    number = won.number;
+    shape = won.shape;
+    same_map = same_map;
+  }
+
   -- a get, from its steps
   got : (first : ℕ) (reach : Reach) (answer : Option ℕ)
       → ((i : ℕ) → i < words sizes → reach.limit i ≤ word_depth sizes i)
@@ -57,18 +83,10 @@ module _ {R : Type 0} (map : Map R) (caller now : Caller R) (own : IsCallerOf ma
       let won : Won sizes answer (record_of caller) (record_of now) =
       subst (λ (t : Record R). Won sizes answer (record_of caller) t) (sym all.known)
       (search_wins sizes (word_bits-le sizes narrow) (record_of caller) made.holds.search all.finds inside) in record {
-        gains = record {
-          acquires = acquires_answer caller now narrow answer won
-              (search_new caller sizes refl (word_bits-le sizes narrow)
-              (record_of caller) made.holds.search all.finds all.finds_held inside)
-              (λ tag was is. (all.kept tag was).1);
-          held = won.held;
-          count = won.won;
-          back = won.back;
-          number = won.number;
-          shape = won.shape;
-          same_map = all.same_map;
-        };
+        gains = gains answer (acquires_answer caller now narrow answer won
+            (search_new caller sizes refl (word_bits-le sizes narrow)
+            (record_of caller) made.holds.search all.finds all.finds_held inside)
+            (λ tag was is. (all.kept tag was).1)) won all.same_map;
         steps = made;
         alone = λ one. record {
           choice = own_choice caller now made.steps sizes (visits sizes first reach) answer
@@ -85,17 +103,9 @@ module _ {R : Type 0} (map : Map R) (caller now : Caller R) (own : IsCallerOf ma
       let won : WonRun sizes answer (record_of caller) (record_of now) =
       subst (λ (t : Record R). WonRun sizes answer (record_of caller) t) (sym all.known)
       (batch_wins sizes (word_bits-le sizes narrow) (record_of caller) made.holds.search) in record {
-        gains = record {
-          acquires = acquires_run caller now narrow answer won
-              (batch_new caller sizes refl (word_bits-le sizes narrow) made.holds.search all.finds all.finds_held)
-              (λ tag was is. (all.kept tag was).1);
-          held = won.held;
-          count = won.won;
-          back = won.back;
-          number = won.number;
-          shape = won.shape;
-          same_map = all.same_map;
-        };
+        gains = gains_run answer (acquires_run caller now narrow answer won
+            (batch_new caller sizes refl (word_bits-le sizes narrow) made.holds.search all.finds all.finds_held)
+            (λ tag was is. (all.kept tag was).1)) won all.same_map;
         steps = made;
         alone = λ one. record {
           choice = own_batch caller now made.steps sizes n first answer

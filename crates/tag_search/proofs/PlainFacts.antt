@@ -23,43 +23,37 @@ set_changed xs i v h = λ z j. each j z
         ∙ ap (λ (b : Bool). cond b v (get_or xs j 0)) (sym (eq-eqb j i e)))
         (λ ne. get_or-set_other xs i j v 0 ne ∙ ap (λ (b : Bool). cond b v (get_or xs j 0)) (sym (ne_eqb j i ne)))
 
+-- the same for an entry that becomes a function of what was found there
+written : (xs : List ℕ) (i found : ℕ) (change : ℕ → ℕ) → i < length xs → found ≡ get_or xs i 0
+    → (λ (j : ℕ). get_or (set xs i (change found)) j 0) ≡ changed_at (λ j. get_or xs j 0) i (change (get_or xs i 0))
+written xs i found change h e =
+    set_changed xs i (change found) h ∙ ap (λ (x : ℕ). changed_at (λ j. get_or xs j 0) i (change x)) e
+
 -- a claim writes its word
 pub ran_claim : (p : Plain) (i mask found : ℕ) → i < length p.word → found ≡ get_or p.word i 0
     → RunsAlone p (Claimed i mask found ∷ []) (record p { word = set p.word i (bit_or found mask) })
-ran_claim p i mask found h e = record {
+ran_claim p i mask found h e = let now = written p.word i found (λ x. bit_or x mask) h e in record {
   layout = refl;
   quiet = (e, tt);
-  leaves = λ z. record {
-    word = (set_changed p.word i (bit_or found mask) h
-        ∙ ap (λ (x : ℕ). changed_at (λ j. get_or p.word j 0) i (bit_or x mask)) e) z;
-    aside = λ j. get_or p.aside j 0;
-  };
+  leaves = λ z. record { word = now z; aside = λ j. get_or p.aside j 0 };
 }
 
 -- a give writes its word
 pub ran_give : (p : Plain) (i mask found : ℕ) → i < length p.word → found ≡ get_or p.word i 0
     → RunsAlone p (Give i mask found ∷ []) (record p { word = set p.word i (without found mask) })
-ran_give p i mask found h e = record {
+ran_give p i mask found h e = let now = written p.word i found (λ x. without x mask) h e in record {
   layout = refl;
   quiet = (e, tt);
-  leaves = λ z. record {
-    word = (set_changed p.word i (without found mask) h
-        ∙ ap (λ (x : ℕ). changed_at (λ j. get_or p.word j 0) i (without x mask)) e) z;
-    aside = λ j. get_or p.aside j 0;
-  };
+  leaves = λ z. record { word = now z; aside = λ j. get_or p.aside j 0 };
 }
 
 -- a put writes the cleared set
 pub ran_put : (p : Plain) (i mask found : ℕ) → i < length p.aside → found ≡ get_or p.aside i 0
     → RunsAlone p (Put i mask found ∷ []) (record p { aside = set p.aside i (bit_or found mask) })
-ran_put p i mask found h e = record {
+ran_put p i mask found h e = let now = written p.aside i found (λ x. bit_or x mask) h e in record {
   layout = refl;
   quiet = (e, tt);
-  leaves = λ z. record {
-    word = λ j. get_or p.word j 0;
-    aside = (set_changed p.aside i (bit_or found mask) h
-        ∙ ap (λ (x : ℕ). changed_at (λ j. get_or p.aside j 0) i (bit_or x mask)) e) z;
-  };
+  leaves = λ z. record { word = λ j. get_or p.word j 0; aside = now z };
 }
 
 -- the same, where the set and the bit have other names
@@ -89,14 +83,10 @@ pub ran_sweep : (p : Plain) (i mask found : ℕ) → i < length p.word → i < l
     → found ≡ get_or p.word i 0
     → RunsAlone p (Swap i mask ∷ Spill i mask found ∷ [])
     (record p { word = set p.word i (without found mask); aside = set p.aside i 0 })
-ran_sweep p i mask found h k e f = record {
+ran_sweep p i mask found h k e f = let now = written p.word i found (λ x. without x mask) h f in record {
   layout = refl;
   quiet = (e, (f, tt));
-  leaves = λ z. record {
-    word = (set_changed p.word i (without found mask) h
-        ∙ ap (λ (x : ℕ). changed_at (λ j. get_or p.word j 0) i (without x mask)) f) z;
-    aside = set_changed p.aside i 0 k z;
-  };
+  leaves = λ z. record { word = now z; aside = set_changed p.aside i 0 k z };
 }
 
 -- a word masked with one bit is 0 exactly if the bit is clear

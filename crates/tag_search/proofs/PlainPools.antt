@@ -1,12 +1,12 @@
 -- The pool of plain words after a put, a give and an opening.
-use Rattle.std.proofs.Common.{◌≡◌, ◌≢◌, ◌↔◌, ℕ, zero, suc, ◌-◌, ◌^◌, ◌<◌, ◌≤◌, min, max, length, replicate, Bool, true}
+use Rattle.std.proofs.Common.{◌≡◌, ◌≢◌, ◌↔◌, ℕ, zero, suc, ◌^◌, ◌<◌, ◌≤◌, max, length, replicate, Bool, true}
 use Rattle.std.proofs.Common.{false, ◌&&◌, ◌||◌, cond, nat_eq, nat_lt, List, [], ◌∷◌, get_or, bit_or, arith, refl, sym}
 use Rattle.std.proofs.Common.{ap, ◌∙◌, inl, inr, eq-eqb, ne_eqb, eqb-true}
 use Rattle.std.specs.Prelude.{IsTrue, not}
 use mathlib.Core.Logic.{dite}
 use native.Mathlib.Decide.{ℕ_discrete, dec_lt}
 use Rattle.std.specs.Int.{bit_at}
-use Rattle.std.proofs.lemmas.Bool.{lt-ltb, ltb-true}
+use Rattle.std.proofs.lemmas.Bool.{lt-ltb}
 use Rattle.std.proofs.lemmas.List.{get_or-replicate, get_or_past, length-replicate}
 use Rattle.std.proofs.lemmas.Nat.Bits.{bit_at_or, bit_at-lt, bit_at-zero, bit_at-pow_same, bit_at-pow_other}
 use Rattle.tag_core.specs.declared.word_step.WordStep.TheVariants.{Give, Put}
@@ -15,7 +15,7 @@ use Rattle.tag_search.specs.Plain.{Plain, words_of, RunsAlone, IsTaken}
 use Rattle.tag_search.specs.Pool.{pool_of, is_busy, aside_at, free_at, IsApart}
 use Rattle.tag_search.specs.Writes.{IsTidy, IsAllFree}
 use Rattle.tag_search.proofs.Pools.{pool_ext, or_false, and_false}
-use Rattle.tag_search.proofs.Sweeps.{is_clear, is_one, clear_of, set_of, none_of, bit_without}
+use Rattle.tag_search.proofs.Sweeps.{is_clear, is_one, clear_of, set_of, none_of, without_clear}
 use Rattle.tag_search.proofs.Writings.{bit_is}
 
 -- a bit of two words or-ed together is 1 exactly if it is 1 in one of them
@@ -28,12 +28,13 @@ or_one true (suc zero) (suc zero) h k = refl
 or_one true (suc (suc a)) b h k = absurd (omega arith)
 or_one true a (suc (suc b)) h k = absurd (omega arith)
 
-one_or : (n m k : ℕ) → is_one (bit_or n m) k ≡ (is_one n k || is_one m k)
+-- so of the bits of two words or-ed together
+pub one_or : (n m k : ℕ) → is_one (bit_or n m) k ≡ (is_one n k || is_one m k)
 one_or n m k = ap (λ (x : ℕ). nat_lt k 64 && nat_eq x 1) (bit_at_or n m k)
     ∙ or_one (nat_lt k 64) (bit_at n k) (bit_at m k) (bit_at-lt n k) (bit_at-lt m k)
 
 -- the single one of a power of two
-one_pow : (place k : ℕ) → place < 64 → is_one (2 ^ place) k ≡ nat_eq k place
+pub one_pow : (place k : ℕ) → place < 64 → is_one (2 ^ place) k ≡ nat_eq k place
 one_pow place k low = dite (ℕ_discrete k place)
     (λ (e : k ≡ place).
     let set : bit_at (2 ^ place) k ≡ 1 = ap (bit_at (2 ^ place)) e ∙ bit_at-pow_same place in
@@ -55,27 +56,9 @@ put_pool w i place found low = pool_ext (pool_of (words_after (Put i (2 ^ place)
     (aside_at i place (pool_of w))
     (λ j k. refl) (λ j k. put_bit (nat_eq j i) (w.aside i) (w.aside j) place k low (λ t. ap w.aside (eqb-true j i t)))
 
--- a bit of a word without a mask is 0 exactly if it was 0 or is in the mask
-out_one : (a b : ℕ) → a < 2 → b < 2 → nat_eq (min a (1 - b)) 0 ≡ (nat_eq a 0 || nat_eq b 1)
-out_one zero zero h k = refl
-out_one zero (suc zero) h k = refl
-out_one (suc zero) zero h k = refl
-out_one (suc zero) (suc zero) h k = refl
-out_one (suc (suc a)) b h k = absurd (omega arith)
-out_one a (suc (suc b)) h k = absurd (omega arith)
-
-clear_without : (n m k : ℕ) → m < 2 ^ 64 → is_clear (without n m) k ≡ (is_clear n k || is_one m k)
-clear_without n m k fits = cases (nat_lt k 64) refl
-  where
-    cases : (t : Bool) → nat_lt k 64 ≡ t → (t && nat_eq (bit_at (without n m) k) 0)
-        ≡ ((t && nat_eq (bit_at n k) 0) || (t && nat_eq (bit_at m k) 1))
-    cases false e = refl
-    cases true e = ap (λ (x : ℕ). nat_eq x 0) (bit_without n m k fits (ltb-true k 64 e))
-        ∙ out_one (bit_at n k) (bit_at m k) (bit_at-lt n k) (bit_at-lt m k)
-
 give_bit : (b : Bool) (x y m k : ℕ) → m < 2 ^ 64 → (b ≡ true → y ≡ x) → is_clear (cond b (without x m) y) k
     ≡ (is_clear y k || (b && nat_lt k 64 && nat_eq (bit_at m k) 1))
-give_bit true x y m k fits same = clear_without x m k fits ∙ (λ z. is_clear (sym (same refl) z) k || is_one m k)
+give_bit true x y m k fits same = without_clear x m k fits ∙ (λ z. is_clear (sym (same refl) z) k || is_one m k)
 give_bit false x y m k fits same = sym (or_false (is_clear y k))
 
 -- a give frees the places of its mask

@@ -90,7 +90,8 @@ without_tests (suc zero) (suc zero) h k = refl
 without_tests (suc (suc a)) b h k = absurd (omega arith)
 without_tests a (suc (suc b)) h k = absurd (omega arith)
 
-without_clear : (n m k : ℕ) → m < 2 ^ 64 → is_clear (without n m) k ≡ (is_clear n k || is_one m k)
+-- a bit of a word without a mask is 0 exactly if it was 0 or is in the mask
+pub without_clear : (n m k : ℕ) → m < 2 ^ 64 → is_clear (without n m) k ≡ (is_clear n k || is_one m k)
 without_clear n m k fits = cases (nat_lt k 64) refl
   where
     cases : (t : Bool) → nat_lt k 64 ≡ t → (t && nat_eq (bit_at (without n m) k) 0)

@@ -6,7 +6,7 @@ use Rattle.tag_core.specs.declared.word_step.WordStep.TheVariants.{Swap, Spill}
 use Rattle.tag_search.specs.Search.{empty, spilled}
 use Rattle.tag_core.specs.Steps.{without}
 use Rattle.tag_search.specs.Writes.{Writes, IsIn}
-use Rattle.tag_search.proofs.Seen.{seen, word_within, aside_within, word_found, aside_found}
+use Rattle.tag_search.proofs.Seen.{seen, swept, aside_found}
 use Rattle.tag_search.proofs.PlainFacts.{ran_empty, ran_sweep}
 use Rattle.tag_search.proofs.Writings.{writes_without, tidy_sweep}
 use Rattle.tag_search.proofs.plain_steps.PlainPortPort.sweep.Goals as goal
@@ -16,7 +16,6 @@ returns-then-mask-eq0-clause-steps c =
     let p = seen c.self.inside in
     let i = c.args.word in let mask = c.index-mask.result.now in
     let near : i < words p.layout = subst (λ (x : Plain). i < words x.layout) (sym c.self.view_is) c.requires.word in
-    let within = aside_within p c.self.invariant i near in
     let is : get_or p.aside i 0 ≡ 0 = sym (aside_found p c.self.invariant i near mask c.index-mask.ensures)
     ∙ c.if-mask-eq0.true in
     rw (← c.self.view_is) (record { steps = Swap i 0 ∷ []; added = ran_empty p i is; holds = empty })
@@ -26,41 +25,33 @@ invariant_of-self c =
     let p = seen c.self.inside in
     let i = c.args.word in let mask = c.index-mask.result.now in let found = c.index_mut-2.result.now in
     let near : i < words p.layout = subst (λ (x : Plain). i < words x.layout) (sym c.self.view_is) c.requires.word in
-    let within = word_within p c.self.invariant i near in
-    let within' = aside_within p c.self.invariant i near in
-    let is = word_found p c.self.invariant i near found c.index_mut-2.ensures.value in
+    let has = swept p c.self.invariant i near mask found c.index-mask.ensures c.index_mut-2.ensures.value in
     let fits : found < 2 ^ 64 = omega arith in let narrow : mask < 2 ^ 64 = omega arith in
-    tidy_sweep p i mask found c.self.invariant within within' is fits narrow
+    tidy_sweep p i mask found c.self.invariant has.in_word has.in_aside has.word_is fits narrow
 
 pub returns-clause-word : goal.returns-clause-word
 returns-clause-word c =
     let p = seen c.self.inside in
     let i = c.args.word in let mask = c.index-mask.result.now in let found = c.index_mut-2.result.now in
     let near : i < words p.layout = subst (λ (x : Plain). i < words x.layout) (sym c.self.view_is) c.requires.word in
-    let within = word_within p c.self.invariant i near in
-    let within' = aside_within p c.self.invariant i near in
-    let is = word_found p c.self.invariant i near found c.index_mut-2.ensures.value in
-    let is' = aside_found p c.self.invariant i near mask c.index-mask.ensures in
+    let has = swept p c.self.invariant i near mask found c.index-mask.ensures c.index_mut-2.ensures.value in
     let fits : found < 2 ^ 64 = omega arith in let narrow : mask < 2 ^ 64 = omega arith in
     rw (← c.self.view_is)
-    (subst (λ (x : ℕ). Writes p.word (set p.word i (without found mask)) i (IsIn x) 0) is'
-    (writes_without p.word i found mask within is fits narrow))
+    (subst (λ (x : ℕ). Writes p.word (set p.word i (without found mask)) i (IsIn x) 0) has.aside_is
+    (writes_without p.word i found mask has.in_word has.word_is fits narrow))
 
 pub returns-clause-steps : goal.returns-clause-steps
 returns-clause-steps c =
     let p = seen c.self.inside in
     let i = c.args.word in let mask = c.index-mask.result.now in let found = c.index_mut-2.result.now in
     let near : i < words p.layout = subst (λ (x : Plain). i < words x.layout) (sym c.self.view_is) c.requires.word in
-    let within = word_within p c.self.invariant i near in
-    let within' = aside_within p c.self.invariant i near in
-    let is = word_found p c.self.invariant i near found c.index_mut-2.ensures.value in
-    let is' = aside_found p c.self.invariant i near mask c.index-mask.ensures in
+    let has = swept p c.self.invariant i near mask found c.index-mask.ensures c.index_mut-2.ensures.value in
     let fits : mask < 2 ^ 64 = omega arith in (
       mask,
       c.if-mask-eq0.false,
       rw (← c.self.view_is) (record {
         steps = Swap i mask ∷ Spill i mask found ∷ [];
-        added = ran_sweep p i mask found within within' is' is;
+        added = ran_sweep p i mask found has.in_word has.in_aside has.aside_is has.word_is;
         holds = spilled c.if-mask-eq0.false fits;
       }),
     )
