@@ -100,6 +100,11 @@ module _ (R : Type 0) (k : Shape) (narrow : k.layout.shift ≤ 6) (id : ℕ) (me
         answer st (set s.words i (get_or s.words i 0))
         (subst (λ (ws : List ℕ). Owed R k s sh r st ws) (sym (set-get_or s.words i 0)) owed) posts
 
+  -- what holds of this place and this record holds of the same under other names
+  renamed : (fact : ℕ → Record R → Type 0) {i i' : ℕ} → i ≡ i' → (r' : Record R) → me.0 ≡ alone r' → fact i r → fact i' r'
+  renamed fact same r' is = subst (λ (x : ℕ × Record R). fact x.0 x.1)
+      (λ j. (same j, same_record r r' (sym mine ∙ is) j))
+
   abbrev G : (s : State R (View R)) (sh : Shown k s) → ℕ → Place
   G s sh = (world_of k sh.history).place
 
@@ -129,10 +134,9 @@ module _ (R : Type 0) (k : Shape) (narrow : k.layout.shift ≤ 6) (id : ℕ) (me
         z.1,
         z.2,
         z.3,
-        λ i' r' ei er. subst
-            (λ (x : ℕ × Record R). Stepped (Word (Look x.0 n)) x.1 me (z.0, carried_after me.1 z.1)
-            × FindsHeld x.1 x.0 n 1)
-            (λ j. (word_at_one i i' ei j, same_record r r' (sym mine ∙ er) j)) (z.4, (found_held s sh o i).0),
+        λ i' r' ei er. renamed
+            (λ x y. Stepped (Word (Look x n)) y me (z.0, carried_after me.1 z.1) × FindsHeld y x n 1)
+            (word_at_one i i' ei) r' er (z.4, (found_held s sh o i).0),
       )
 
   -- a load of a cleared set
@@ -146,10 +150,9 @@ module _ (R : Type 0) (k : Shape) (narrow : k.layout.shift ≤ 6) (id : ℕ) (me
         z.1,
         z.2,
         z.3,
-        λ i' r' ei er. subst
-            (λ (x : ℕ × Record R). Stepped (Word (LookAside x.0 n)) x.1 me
-            (z.0, carried_after me.1 z.1) × FindsHeld x.1 x.0 n 0)
-            (λ j. (aside_at_one i i' ei j, same_record r r' (sym mine ∙ er) j)) (z.4, (found_held s sh o i).1),
+        λ i' r' ei er. renamed
+            (λ x y. Stepped (Word (LookAside x n)) y me (z.0, carried_after me.1 z.1) × FindsHeld y x n 0)
+            (aside_at_one i i' ei) r' er (z.4, (found_held s sh o i).1),
       )
 
   -- an or of a word
@@ -164,11 +167,9 @@ module _ (R : Type 0) (k : Shape) (narrow : k.layout.shift ≤ 6) (id : ℕ) (me
         z.1,
         z.2,
         z.3,
-        λ i' r' ei er. subst
-            (λ (x : ℕ × Record R). Stepped (Word (Claimed x.0 m n)) x.1 me (z.0, carried_after me.1 z.1)
-            × FindsHeld x.1 x.0 n 1)
-            (λ j. (word_at_one i i' ei j, same_record r r' (sym mine ∙ er) j))
-            (z.4, (found_held s sh (ok s sh deep at) i).0),
+        λ i' r' ei er. renamed
+            (λ x y. Stepped (Word (Claimed x m n)) y me (z.0, carried_after me.1 z.1) × FindsHeld y x n 1)
+            (word_at_one i i' ei) r' er (z.4, (found_held s sh (ok s sh deep at) i).0),
       )
 
   -- an and-not of a word, of held tags
@@ -205,9 +206,8 @@ module _ (R : Type 0) (k : Shape) (narrow : k.layout.shift ≤ 6) (id : ℕ) (me
         z.1,
         z.2,
         z.3,
-        λ i' r' ei er. subst
-            (λ (x : ℕ × Record R). Stepped (Word (Swap x.0 n)) x.1 me (z.0, carried_after me.1 z.1))
-            (λ j. (aside_at_one i i' ei j, same_record r r' (sym mine ∙ er) j)) z.4,
+        λ i' r' ei er. renamed (λ x y. Stepped (Word (Swap x n)) y me (z.0, carried_after me.1 z.1))
+            (aside_at_one i i' ei) r' er z.4,
       )
 
   -- an and-not of a word, of what was swept
@@ -226,10 +226,9 @@ module _ (R : Type 0) (k : Shape) (narrow : k.layout.shift ≤ 6) (id : ℕ) (me
         z.1,
         z.2,
         z.3,
-        λ i' r' ei er. subst
-            (λ (x : ℕ × Record R). Stepped (Word (Spill x.0 (get_or x.1.swept x.0 0) n)) x.1 me
-            (z.0, carried_after me.1 z.1))
-            (λ j. (word_at_one i i' ei j, same_record r r' (sym mine ∙ er) j)) z.4,
+        λ i' r' ei er. renamed
+            (λ x y. Stepped (Word (Spill x (get_or y.swept x 0) n)) y me (z.0, carried_after me.1 z.1))
+            (word_at_one i i' ei) r' er z.4,
       )
 
   -- a store of 1 in a held tag's state
@@ -280,9 +279,8 @@ module _ (R : Type 0) (k : Shape) (narrow : k.layout.shift ≤ 6) (id : ℕ) (me
         z.1,
         z.2,
         z.3,
-        λ i' r' ei er. subst
-            (λ (x : ℕ × Record R). Stepped (Word (Put x.0 m n)) x.1 me (z.0, carried_after me.1 z.1))
-            (λ j. (aside_at_one i i' ei j, same_record r r' (sym mine ∙ er) j)) z.4,
+        λ i' r' ei er. renamed (λ x y. Stepped (Word (Put x m n)) y me (z.0, carried_after me.1 z.1))
+            (aside_at_one i i' ei) r' er z.4,
       )
 
   -- the two ends of a compare-exchange
@@ -326,17 +324,10 @@ module _ (R : Type 0) (k : Shape) (narrow : k.layout.shift ≤ 6) (id : ℕ) (me
             last.0,
             subst (λ (x : ℕ). value_of (carried_after me.1 go.act) x ≡ some last.0)
                 (same_state k r r' u u' o.shape (same_record r r' (sym mine ∙ er)) eu) val,
-            subst (λ (x : ℕ × Record R). Stepped (Take x.0 1 (Some last.0)) x.1 me (z.0, carried_after me.1 z.1))
-                (λ j. (
-                  same_state k r r' u u' o.shape (same_record r r' (sym mine ∙ er)) eu j,
-                  same_record r r'
-                      (sym mine ∙ er) j,
-                )) z.4,
-            subst (λ (x : ℕ × Record R). tag_bit x.1.shape.layout x.1.held x.0 ≢ 1)
-                (λ j. (
-                  same_state k r r' u u' o.shape (same_record r r' (sym mine ∙ er)) eu j,
-                  same_record r r' (sym mine ∙ er) j,
-                ))
+            renamed (λ x y. Stepped (Take x 1 (Some last.0)) y me (z.0, carried_after me.1 z.1))
+                (same_state k r r' u u' o.shape (same_record r r' (sym mine ∙ er)) eu) r' er z.4,
+            renamed (λ x y. tag_bit y.shape.layout y.held x ≢ 1)
+                (same_state k r r' u u' o.shape (same_record r r' (sym mine ∙ er)) eu) r' er
                 (subst (λ (z : Shape). tag_bit z.layout r.held u ≢ 1) (sym o.shape) not_mine),
           ),
           λ h. absurd (h hit),
@@ -353,12 +344,8 @@ module _ (R : Type 0) (k : Shape) (narrow : k.layout.shift ≤ 6) (id : ℕ) (me
           λ h. absurd (miss h),
           λ h. (
             zero_there,
-            subst (λ (x : ℕ × Record R). Stepped (Take x.0 0 None) x.1 me (z.0, carried_after me.1 z.1))
-                (λ j. (
-                  same_state k r r' u u' o.shape (same_record r r' (sym mine ∙ er)) eu j,
-                  same_record r r'
-                      (sym mine ∙ er) j,
-                )) z.4,
+            renamed (λ x y. Stepped (Take x 0 None) y me (z.0, carried_after me.1 z.1))
+                (same_state k r r' u u' o.shape (same_record r r' (sym mine ∙ er)) eu) r' er z.4,
           ),
         ),
       ))

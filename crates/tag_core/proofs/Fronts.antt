@@ -216,13 +216,14 @@ module _ (R : Type 0) (k : Shape) (id : ℕ) (me : Me R (View R)) (r : Record R)
       rest_of [] = []
       rest_of (x ∷ xs) = xs
 
--- a load that changes nothing
-pub idle : (R : Type 0) (k : Shape) (s : State R (View R)) → Shown k s → (id i : ℕ) (me : Me R (View R))
-    → get_elem? s.views id ≡ some me.0
-    → Shown k record {
-      words = set s.words i
-          (get_or s.words i 0);
-      homes = homes_after s.homes me.1 keeps;
-      views = set s.views id me.0;
-    }
-idle R k s sh id i me at = same_homes R k s s.homes sh (λ t l. refl) id i me.0 at
+-- the table allows a load that changes nothing, and by it a caller learns what the rule says of its seat
+pub idle_allowed : (R : Type 0) (k : Shape) (d id : ℕ) (me : Me R (View R)) (fact : Type 0)
+    → ((s : State R (View R)) → Shown k s → get_elem? s.views id ≡ some me.0 → fact)
+    → Allows (Shown k) d id me 0 (λ n. n) (λ _ me'. (me' ≡ me) × fact)
+idle_allowed R k d id me fact tells s sh deep at _ = (
+  me.0,
+  keeps,
+  tt,
+  same_homes R k s s.homes sh (λ t l. refl) id 0 me.0 at,
+  (refl, tells s sh at),
+)

@@ -2,7 +2,7 @@
 use Rattle.std.proofs.Common.{◌≡◌, ◌≢◌, ℕ, [], ◌∷◌, nat_eq, arith, refl, sym, ap, ◌∙◌, subst, ne_eqb}
 use mathlib.Core.Option.{some, none}
 use lib.ListN.{get_elem?}
-use Rattle.atomic_table.specs.Table.{State, Me, keeps, step, Allows}
+use Rattle.atomic_table.specs.Table.{State, Me, step, Allows}
 use Rattle.tag_model.specs.declared.place.Place.{Place}
 use Rattle.tag_core.specs.declared.shape.Shape.{Shape}
 use Rattle.tag_core.specs.declared.record.Record.{Record}
@@ -13,7 +13,7 @@ use Rattle.tag_core.specs.Views.{viewing}
 use Rattle.tag_core.specs.Rule.{IsKnown, Shown}
 use Rattle.tag_core.specs.Meeting.{ShareHistory, AreApart}
 use Rattle.tag_core.specs.Plays.{met}
-use Rattle.tag_core.proofs.Fronts.{idle}
+use Rattle.tag_core.proofs.Fronts.{idle_allowed}
 use Rattle.tag_core.proofs.Turns.{held_from}
 
 -- one place has one holder
@@ -61,20 +61,12 @@ module _ {R : Type 0} (k : Shape) (s : State R (View R)) (sh : Shown k s) (id : 
 -- the table allows a load by which two callers meet
 pub meet_allowed : (R : Type 0) (k : Shape) (slots id : ℕ) (me : Me R (View R))
     → Allows (Shown k) slots id me 0 (λ n. n) (met (step slots 0 0 0 none) me)
-meet_allowed R k slots id me s sh deep at _ = (
-  me.0,
-  keeps,
-  tt,
-  idle R k s sh id 0 me at,
-  (
-    refl,
-    λ first second e.
-        let here : get_elem? s.views id ≡ some (viewing (first ∷ second ∷ [])) = at ∙ ap some e in
-        subst (λ (z : Shape). (first.number ≢ second.number) × AreApart z first second × ShareHistory z first second)
-        (shape_of_first k s sh id first second here) (
-          two_numbers k s sh id first second here,
-          no_common_tag k s sh id first second here,
-          one_history k s sh id first second here,
-        ),
-  ),
-)
+meet_allowed R k slots id me = idle_allowed R k slots id me _
+    (λ s sh at first second e.
+    let here : get_elem? s.views id ≡ some (viewing (first ∷ second ∷ [])) = at ∙ ap some e in
+    subst (λ (z : Shape). (first.number ≢ second.number) × AreApart z first second × ShareHistory z first second)
+    (shape_of_first k s sh id first second here) (
+      two_numbers k s sh id first second here,
+      no_common_tag k s sh id first second here,
+      one_history k s sh id first second here,
+    ))

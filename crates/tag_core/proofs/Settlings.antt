@@ -3,7 +3,7 @@ use Rattle.std.proofs.Common.{◌≡◌, ℕ, suc, ◌+◌, List, [], ◌∷◌,
 use Rattle.std.proofs.lemmas.List.{map-append}
 use mathlib.Core.Option.{some, none}
 use lib.ListN.{get_elem?}
-use Rattle.atomic_table.specs.Table.{State, Me, keeps, step, Allows}
+use Rattle.atomic_table.specs.Table.{State, Me, step, Allows}
 use Rattle.tag_model.specs.declared.totals.Totals.{Totals}
 use Rattle.tag_model.specs.Totals.{posted_in}
 use Rattle.tag_core.specs.declared.shape.Shape.{Shape}
@@ -17,7 +17,7 @@ use Rattle.tag_core.specs.Settling.{HasRecords, AreSettled}
 use Rattle.tag_core.specs.Plays.{settled}
 use Rattle.tag_core.specs.Callers.{record_of, IsUnchanged, AreUnchanged}
 use Rattle.step_ledger.proofs.Seats.{pairs_more}
-use Rattle.tag_core.proofs.Fronts.{idle}
+use Rattle.tag_core.proofs.Fronts.{idle_allowed}
 use Rattle.tag_core.proofs.Ends.{few_records, won_all, back_all, held_all, even_all}
 
 module _ {R : Type 0} (k : Shape) (s : State R (View R)) (sh : Shown k s) (id : ℕ) (v : View R)
@@ -54,20 +54,12 @@ module _ {R : Type 0} (k : Shape) (s : State R (View R)) (sh : Shown k s) (id : 
 -- the table allows a load by which all callers come together
 pub settle_allowed : (R : Type 0) (k : Shape) (d id : ℕ) (me : Me R (View R))
     → Allows (Shown k) d id me 0 (λ n. n) (settled (step d 0 0 0 none) me)
-settle_allowed R k d id me s sh deep at _ = (
-  me.0,
-  keeps,
-  tt,
-  idle R k s sh id 0 me at,
-  (
-    refl,
-    λ r e.
-        let is : r.shape ≡ k = (sh.records id me.0 at 0 r e).0.shape in
-        subst (λ (z : Shape). HasRecords z.callers me.0.records.value → (totals : Totals)
-        × AreSettled z me.0.records.value totals)
-        (sym is) (λ all. (totals_there k s sh id me.0 at all, settled_there k s sh id me.0 at all)),
-  ),
-)
+settle_allowed R k d id me = idle_allowed R k d id me _
+    (λ s sh at r e.
+    let is : r.shape ≡ k = (sh.records id me.0 at 0 r e).0.shape in
+    subst (λ (z : Shape). HasRecords z.callers me.0.records.value → (totals : Totals)
+    × AreSettled z me.0.records.value totals)
+    (sym is) (λ all. (totals_there k s sh id me.0 at all, settled_there k s sh id me.0 at all)))
 
 module _ {R : Type 0} where
   -- one caller more is as it was
