@@ -11,3 +11,4 @@ pub mod Refits
 pub mod NextMaps
 pub mod Resized
 pub mod Refusals
+pub mod Presence

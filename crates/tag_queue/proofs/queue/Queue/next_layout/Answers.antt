@@ -1,8 +1,7 @@
 -- Each cause is returned exactly if it holds and none before it does; otherwise there is a layout.
-use Rattle.std.proofs.Common.{List, subst}
-use Rattle.step_ledger.specs.Views.{HasAll, IsLeastMissing}
-use Rattle.tag_queue.specs.declared.agent.Agent.{Agent}
-use Rattle.tag_queue.specs.Agents.{numbers_of, agents_of}
+use Rattle.std.proofs.Common.{refl, ap}
+use Rattle.tag_queue.specs.Agents.{numbers_of}
+use Rattle.tag_queue.proofs.Presence.{all_there, is_missing}
 use Rattle.tag_queue.proofs.Resized.{unchanged-refl, depth_fits, refused_for}
 use Rattle.tag_queue.proofs.queue.Queue.next_layout.Goals as goal
 
@@ -11,35 +10,30 @@ returns-in-Some-clause-unchanged g c = unchanged-refl c.args.agents.now.items
 
 pub returns-in-Some-clause-cause : goal.returns-in-Some-clause-cause
 returns-in-Some-clause-cause g c =
-    subst (λ (z : List (Agent g.row.R.Denot)). IsLeastMissing (numbers_of z)
-    (agents_of c.args.self.now) c.in-Some.number)
-    c.as_slice.ensures.value c.in-Some.ensures
+    is_missing (ap (λ l. numbers_of l) c.as_slice.ensures.value) refl c.in-Some.number c.in-Some.ensures
 
 pub returns-in-Err-DepthTooLarge-clause-cause : goal.returns-in-Err-DepthTooLarge-clause-cause
 returns-in-Err-DepthTooLarge-clause-cause g c = (
-  subst (λ (z : List (Agent g.row.R.Denot)). HasAll (numbers_of z) (agents_of c.args.self.now))
-      c.as_slice.ensures.value c.in_default.ensures,
+  all_there (ap (λ l. numbers_of l) c.as_slice.ensures.value) refl c.in_default.ensures,
   c.in-Err-DepthTooLarge.ensures.too_deep.0 (let is = c.in-Err-DepthTooLarge.field-0-is in cc),
 )
 
 pub returns-in-Some-busy-clause-cause : goal.returns-in-Some-busy-clause-cause
 returns-in-Some-busy-clause-cause g c =
-    let there = subst (λ (z : List (Agent g.row.R.Denot)). HasAll (numbers_of z) (agents_of c.args.self.now))
-    c.as_slice.ensures.value c.in_default.ensures in
-    refused_for c.args.self.now c.args.agents.now.items c.args.depth c.in-Some-busy.cause
-    (there, depth_fits _ _ c.args.depth c.in-Ok.ensures.too_deep) c.in-Some-busy.ensures.cause
+    refused_for c.args.self.now c.args.agents.now.items c.args.depth c.in-Some-busy.cause (
+      all_there (ap (λ l. numbers_of l) c.as_slice.ensures.value) refl c.in_default.ensures,
+      depth_fits _ _ c.args.depth c.in-Ok.ensures.too_deep,
+    ) c.in-Some-busy.ensures.cause
 
 pub returns-in-None-clause-may : goal.returns-in-None-clause-may
-returns-in-None-clause-may g c =
-    let there = subst (λ (z : List (Agent g.row.R.Denot)). HasAll (numbers_of z) (agents_of c.args.self.now))
-    c.as_slice.ensures.value c.in_default.ensures in
-    λ ok. (
-      (there, depth_fits _ _ c.args.depth c.in-Ok.ensures.too_deep),
-      c.in-None.ensures.cause.0,
-      c.in-None.ensures.cause.1,
-    )
+returns-in-None-clause-may g c = λ ok. (
+  (
+    all_there (ap (λ l. numbers_of l) c.as_slice.ensures.value) refl c.in_default.ensures,
+    depth_fits _ _ c.args.depth c.in-Ok.ensures.too_deep,
+  ),
+  c.in-None.ensures.cause.0,
+  c.in-None.ensures.cause.1,
+)
 
 pub busy-requires-clause-every : goal.busy-requires-clause-every
-busy-requires-clause-every g c =
-    subst (λ (z : List (Agent g.row.R.Denot)). HasAll (numbers_of z) (agents_of c.args.self.now))
-    c.as_slice.ensures.value c.in_default.ensures
+busy-requires-clause-every g c = all_there (ap (λ l. numbers_of l) c.as_slice.ensures.value) refl c.in_default.ensures
