@@ -155,17 +155,26 @@ module _ {R : Type 0} where
         → won.0 < (layout_of tags Ordinary).depth
     batch_low n won g = run_within (layout_of tags Ordinary) n g.steps.holds.search
 
+    -- the tag that the ordinary agent gains is an ordinary tag, and the hand gains it
+    gained : (number : Option ℕ) (l : Layout) → gains.Gains l number (queue.caller_of hand.ordinary) (queue.caller_of agent)
+        → HoldsMore (IsAnswer (whole (reserved_of tags) number)) hand (record hand { ordinary = agent })
+        × ((tag : ℕ) → IsAnswer (whole (reserved_of tags) number) tag → IsOrdinaryTag tags tag)
+    gained number l g =
+        let named : ℕ → Type 0 = gains.IsAnswer number in
+        let Q : ℕ → Type 0 = IsAnswer (whole (reserved_of tags) number) in
+        let back = answer_back (reserved_of tags) number in (
+          more_ordinary named Q (answer_there (reserved_of tags) number) back g.acquires,
+          all_ordinary named Q back (gains_within tags.ordinary hand.ordinary agent l number own.1 g),
+        )
+
     pub gets_of : (number answer : Option ℕ) → answer ≡ whole (reserved_of tags) number
         → queue_gets.GetsPlain (layout_of tags Ordinary) number hand.ordinary agent
         → Gets tags answer hand (record hand { ordinary = agent })
-    gets_of number answer is g = subst (λ (a : Option ℕ). Gets tags a hand (record hand { ordinary = agent })) (sym is)
-        (record {
-          more = more_ordinary (gains.IsAnswer number) (IsAnswer (whole (reserved_of tags) number))
-              (answer_there (reserved_of tags) number)
-              (answer_back (reserved_of tags) number) g.searches.gains.acquires;
-          ordinary = all_ordinary (gains.IsAnswer number) (IsAnswer (whole (reserved_of tags) number))
-              (answer_back (reserved_of tags) number)
-              (gains_within tags.ordinary hand.ordinary agent _ number own.1 g.searches.gains);
+    gets_of number answer is g =
+        let got = gained number _ g.searches.gains in
+        subst (λ (a : Option ℕ). Gets tags a hand (record hand { ordinary = agent })) (sym is) (record {
+          more = got.0;
+          ordinary = got.1;
           number = number;
           answer_is = refl;
           set = record { changed = g; other = refl; split = refl };
@@ -174,14 +183,11 @@ module _ {R : Type 0} where
     pub shallow_of : (depth : ℕ) (number answer : Option ℕ) → answer ≡ whole (reserved_of tags) number
         → queue_gets.GetsShallow (layout_of tags Ordinary) depth number hand.ordinary agent
         → GetsShallow tags depth answer hand (record hand { ordinary = agent })
-    shallow_of depth number answer is g = subst
-        (λ (a : Option ℕ). GetsShallow tags depth a hand (record hand { ordinary = agent })) (sym is) (record {
-          more = more_ordinary (gains.IsAnswer number) (IsAnswer (whole (reserved_of tags) number))
-              (answer_there (reserved_of tags) number)
-              (answer_back (reserved_of tags) number) g.searches.gains.acquires;
-          ordinary = all_ordinary (gains.IsAnswer number) (IsAnswer (whole (reserved_of tags) number))
-              (answer_back (reserved_of tags) number)
-              (gains_within tags.ordinary hand.ordinary agent _ number own.1 g.searches.gains);
+    shallow_of depth number answer is g =
+        let got = gained number _ g.searches.gains in
+        subst (λ (a : Option ℕ). GetsShallow tags depth a hand (record hand { ordinary = agent })) (sym is) (record {
+          more = got.0;
+          ordinary = got.1;
           number = number;
           answer_is = refl;
           set = record { changed = g; other = refl; split = refl };

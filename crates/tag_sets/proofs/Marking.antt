@@ -1,11 +1,13 @@
 -- Setting bits one after another.
-use Rattle.std.proofs.Common.{◌≡◌, ◌≢◌, inl, inr, ℕ, ◌+◌, ◌-◌, ◌/◌, ◌%◌, ◌^◌, ◌<◌, ◌≤◌, Bool, true, false, cond, List, length, get_or, bit_or, refl, sym, ap, ◌∙◌, ⊎_elim, arith}
-use Rattle.std.specs.Prelude.{slice_set}
+use Rattle.std.proofs.Common.{◌≡◌, ◌≢◌, inl, inr, ℕ, ◌+◌, ◌-◌, ◌*◌, ◌/◌, ◌%◌, ◌^◌, ◌<◌, ◌≤◌, Bool, true, false, cond, nat_eq, List, length, get_or, bit_and, bit_or, refl, sym, ap, ◌∙◌, subst, ⊎_elim, eq-eqb, arith}
+use Rattle.std.specs.Prelude.{slice_set, slice_index}
 use Rattle.std.specs.Int.{bit_at}
-use Rattle.std.proofs.lemmas.List.{get_or-set_same, get_or-set_other}
+use Rattle.std.proofs.lemmas.List.{get_or-set_same, get_or-set_other, length-set}
+use Rattle.std.proofs.lemmas.Nat.{one_shl}
 use Rattle.std.proofs.lemmas.Nat.Bits.{bit_at-lt, bit_at_or, bit_at-pow_same, bit_at-pow_other}
 use mathlib.Core.Logic.{dite}
 use native.Mathlib.Decide.{dec_lt, ℕ_discrete}
+use Rattle.tag_search.proofs.PlainFacts.{clear_of_mask, taken_of_mask}
 use Rattle.tag_sets.specs.Bits.{bit_in, Marks}
 
 -- 1 if the test holds, else 0
@@ -55,8 +57,11 @@ marks-then w first a b test more old mid new one two like = record {
       (λ (h : first + (a + b) ≤ n). two.outside n (inr (omega arith)) ∙ one.outside n (inr (omega arith))) out;
 }
 
-module _ (w : ℕ) (one_number : (m n : ℕ) → m / w ≡ n / w → m % w ≡ n % w → m ≡ n) (old : List ℕ) (bit : ℕ)
-    (there : bit / w < length old) where
+-- a bit is known by its word and its place there
+one_number : (w : ℕ) → 0 < w → (m n : ℕ) → m / w ≡ n / w → m % w ≡ n % w → m ≡ n
+one_number w some m n over rest = let words = ap (λ x. w * x) over in omega arith
+
+module _ (w : ℕ) (some : 0 < w) (old : List ℕ) (bit : ℕ) (there : bit / w < length old) where
   abbrev now : List ℕ
   now = slice_set old (bit / w) (bit_or (get_or old (bit / w) 0) (2 ^ (bit % w)))
 
@@ -70,7 +75,7 @@ module _ (w : ℕ) (one_number : (m n : ℕ) → m / w ≡ n / w → m % w ≡ n
   else : (n : ℕ) → n ≢ bit → bit_in w now n ≡ bit_in w old n
   else n far = dite (ℕ_discrete (n / w) (bit / w))
       (λ (e : n / w ≡ bit / w).
-      let other = bit_at-pow_other (bit % w) (n % w) (λ same. far (one_number n bit e same)) in
+      let other = bit_at-pow_other (bit % w) (n % w) (λ same. far (one_number w some n bit e same)) in
       let both = bit_at_or (get_or old (bit / w) 0) (2 ^ (bit % w)) (n % w) in
       ap (λ (i : ℕ). bit_at (get_or now i 0) (n % w)) e
       ∙ ap (λ (x : ℕ). bit_at x (n % w)) (get_or-set_same old (bit / w)
@@ -92,3 +97,42 @@ module _ (w : ℕ) (one_number : (m n : ℕ) → m / w ≡ n / w → m % w ≡ n
     outside = λ n out. else n (λ e. ⊎_elim (λ (h : n < bit). absurd (omega arith))
         (λ (h : bit + 1 ≤ n). absurd (omega arith)) out);
   }
+
+-- of a loop over the places of a mask, which marks those whose bit is 1: the places so far are marked
+module _ (w : ℕ) (some : 0 < w) (first place mask : ℕ) (old mid new : List ℕ) (low : place < 64)
+    (room : length mid ≡ length old) (marks : Marks w first place (λ k. nat_eq (bit_at mask k) 1) old mid) where
+  abbrev test : ℕ → Bool
+  test k = nat_eq (bit_at mask k) 1
+
+  like : (b : Bool) → test place ≡ b → (k : ℕ) → k < 1 → one_if b ≡ one_if (test (place + k))
+  like b is k less = let z : place ≡ place + k = omega arith in ap one_if (sym is ∙ ap test z)
+
+  -- a place whose bit is 1 is marked too
+  pub turn-one : bit_and mask (1 * 2 ^ place % 2 ^ 64) ≢ 0 → (first + place) / w < length mid
+      → new ≡ slice_set mid ((first + place) / w)
+      (bit_or (slice_index mid ((first + place) / w)) (1 * 2 ^ ((first + place) % w) % 2 ^ w))
+      → (length new ≡ length old) × Marks w first (place + 1) test old new
+  turn-one on there is =
+      let bit : ℕ = first + place in
+      let at = one_shl place 64 low in let put = one_shl (bit % w) w (omega arith) in
+      let one = taken_of_mask mask place (λ z. on (ap (bit_and mask) at ∙ z)) in
+      let same : new ≡ slice_set mid (bit / w) (bit_or (slice_index mid (bit / w)) (2 ^ (bit % w))) = is
+      ∙ ap (λ (m : ℕ). slice_set mid (bit / w) (bit_or (slice_index mid (bit / w)) m)) put in (
+        ap (λ (l : List ℕ). length l) same
+            ∙ length-set mid (bit / w) (bit_or (slice_index mid (bit / w)) (2 ^ (bit % w))) ∙ room,
+        marks-then w first place 1 test (λ k. true) old mid new marks
+            (subst (Marks w bit 1 (λ k. true) mid) (sym same) (marks-one w some mid bit there (λ k. true) refl))
+            (like true (eq-eqb (bit_at mask place) 1 one)),
+      )
+
+  -- and one whose bit is 0 is left
+  pub turn-zero : bit_and mask (1 * 2 ^ place % 2 ^ 64) ≡ 0 → new ≡ mid
+      → (length new ≡ length old) × Marks w first (place + 1) test old new
+  turn-zero off is =
+      let none = clear_of_mask mask place (sym (ap (bit_and mask) (one_shl place 64 low)) ∙ off) in (
+        ap (λ (l : List ℕ). length l) is ∙ room,
+        marks-then w first place 1 test (λ k. false) old mid new marks
+            (subst (Marks w (first + place) 1 (λ k. false) mid) (sym is)
+            (marks-skip w (first + place) (λ k. false) mid refl))
+            (like false (ap (λ (x : ℕ). nat_eq x 1) none)),
+      )

@@ -32,12 +32,14 @@ module _ {R : Type 0} where
       let other = unchanged-records (map reserved_part olds) (map reserved_part news) others in
       let standing = unchanged-standing (map ordinary_part olds) (map ordinary_part news) agents in
       λ j. record {
-        numbers = numbers j;
-        count = queue.agents_of (same.ordinary j);
+        of_both = record {
+          numbers = numbers j;
+          count = queue.agents_of (same.ordinary j);
+          held = held_in (one j) + held_in (other j);
+          posted = posted_in (one j) + posted_in (other j);
+          standing = standing j;
+        };
         reserved = same.split j;
-        held = held_in (one j) + held_in (other j);
-        posted = posted_in (one j) + posted_in (other j);
-        standing = standing j;
       }
 
   pub same_trans : (old mid new : Tags R) → AreSame old mid → AreSame mid new → AreSame old new

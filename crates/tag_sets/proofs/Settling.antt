@@ -17,7 +17,7 @@ use Rattle.tag_queue.specs.Agents.{AreUnchanged, records_of, shape_of}
 use Rattle.tag_queue.specs.Resizing.{HasMap, AreUnused}
 use Rattle.tag_queue.specs.Using.{AreInUse, held_in, posted_in}
 use Rattle.tag_queue.proofs.NextMaps.{posted_is}
-use Rattle.tag_queue.proofs.Refusals.{AreTold}
+use Rattle.tag_queue.proofs.Refusals.{AreToldOf}
 use Rattle.tag_queue.proofs.Unchanged.{unchanged-records, length-records}
 use Rattle.tag_sets.specs.Resizing.{Balance, MayStillFail}
 use Rattle.tag_sets.proofs.Gathering.{won-le, few_below}
@@ -58,7 +58,7 @@ module _ {R : Type 0} (q : Queue R) (olds news : List (Agent R)) (held posted : 
 
 -- if all agents are present, the depth is in range and no tag is in use, a resize fails only for waits or memory
 pub still_fails : {R : Type 0} (q : Queue R) (agents : List (Agent R)) (depth : ℕ) (cause : ResizeCause)
-    → HasMap q agents depth → AreUnused agents → AreTold q agents depth (λ other. cause ≡ other)
+    → HasMap q agents depth → AreUnused agents → AreToldOf q agents depth (λ other. cause ≡ other)
     → MayStillFail q agents depth cause
 still_fails q agents depth (Missing n) fits unused told =
     let least = (told.missing n).0 refl in absurd (least.1 (fits.0 n least.0))

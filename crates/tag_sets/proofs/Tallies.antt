@@ -27,7 +27,7 @@ busy_bits (suc (suc b)) a h k = absurd (omega arith)
 busy_bits zero (suc (suc a)) h k = absurd (omega arith)
 busy_bits (suc zero) (suc (suc a)) h k = absurd (omega arith)
 
-aside_bits : (a : ℕ) → a < 2 → cond (nat_eq a 1) 1 0 ≡ a
+pub aside_bits : (a : ℕ) → a < 2 → cond (nat_eq a 1) 1 0 ≡ a
 aside_bits zero h = refl
 aside_bits (suc zero) h = refl
 aside_bits (suc (suc a)) h = absurd (omega arith)
@@ -47,7 +47,7 @@ module _ (l : Layout) (test : ℕ → Bool) where
   none_yet = let e : 0 ≡ min (0 * word_bits l) l.depth = omega arith in ap (count_below test) e
 
   -- the tags up to the end of a word that pass a test are those before the word and the bits set in the word's mask
-  count_word : (i mask : ℕ) → i < words l → mask < 2 ^ word_depth l i
+  pub count_word : (i mask : ℕ) → i < words l → mask < 2 ^ word_depth l i
       → ((place : ℕ) → place < word_depth l i → cond (test (tag_at l i place)) 1 0 ≡ bit_at mask place)
       → count_below test (min ((i + 1) * word_bits l) l.depth) ≡ count_below test (min (i * word_bits l) l.depth)
       + count_ones mask
@@ -64,7 +64,7 @@ module _ (l : Layout) (test : ℕ → Bool) where
       ap (count_below test) next ∙ omega arith
 
 -- if the lowest `depth` bits of a 64-bit word are all 1, there are at most 64 of them
-narrow_word : (u depth : ℕ) → u < 2 ^ 64 → ((place : ℕ) → place < depth → bit_at u place ≡ 1) → depth ≤ 64
+pub narrow_word : (u depth : ℕ) → u < 2 ^ 64 → ((place : ℕ) → place < depth → bit_at u place ≡ 1) → depth ≤ 64
 narrow_word u depth fits bits = dite (dec_lt 64 depth)
     (λ (h : 64 < depth). absurd (let one = bits 64 h in
     let none = bit_at_above u 64 64 fits (omega arith) in omega arith))

@@ -51,10 +51,8 @@ impl<R: Copy> Tags<R> {
         let Tags {
             reserved,
             ordinary,
-            reserved_count: _,
-            reserved_layout: _,
-            ordinary_layout: _,
             rooms,
+            ..
         } = self;
         let (agents, others) = rooms.part(&mut hands);
         let Ok(special) = Queue::gather(reserved, agents) else {

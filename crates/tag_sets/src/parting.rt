@@ -75,10 +75,8 @@ impl<R: Copy> Tags<R> {
         let Tags {
             reserved,
             ordinary,
-            reserved_count: _,
-            reserved_layout: _,
-            ordinary_layout: _,
             rooms,
+            ..
         } = self;
         drop(reserved);
         drop(ordinary);

@@ -1,23 +1,20 @@
 -- Each cause is checked once those before it are ruled out; if none holds, all hands are present and no tag is in use.
-use Rattle.std.proofs.Common.{arith, ◌≡◌, ℕ, List, sym, ◌∙◌, subst, inl, inr}
-use Rattle.step_ledger.specs.Views.{HasAll, IsLeastMissing}
+use Rattle.std.proofs.Common.{arith, ◌≡◌, List, sym, ap, ◌∙◌, inl, inr}
+use Rattle.step_ledger.specs.Views.{HasAll}
+use Rattle.tag_queue.proofs.Presence.{all_there, is_missing}
 use Rattle.tag_sets.specs.declared.hand.Hand.{Hand}
 use Rattle.tag_sets.specs.declared.tags.Tags.{Tags}
 use Rattle.tag_sets.specs.Gathering.{hands_of, numbers_of}
 use Rattle.tag_sets.proofs.tags.Tags.obstacle.Goals as goal
 
 pub returns-in-Some-clause-cause : goal.returns-in-Some-clause-cause
-returns-in-Some-clause-cause g c =
-    subst (λ (z : List (Hand g.row.R.Denot)). IsLeastMissing (numbers_of z) (hands_of c.args.self) c.in-Some.number)
-    c.as_slice.ensures.value
-    (subst (λ (n : ℕ). IsLeastMissing (numbers_of c.as_slice.result.now) n c.in-Some.number)
-    (sym c.args.self.as_many.1) c.in-Some.ensures)
+returns-in-Some-clause-cause g c = is_missing (ap (λ l. numbers_of l) c.as_slice.ensures.value)
+    (sym c.args.self.as_many.1) c.in-Some.number c.in-Some.ensures
 
 -- no hand was found missing
 every : {R : Type 0} (tags : Tags R) (seen hands : List (Hand R)) → seen ≡ hands
     → HasAll (numbers_of seen) tags.rooms.count → HasAll (numbers_of hands) (hands_of tags)
-every {R} tags seen hands same all = subst (λ (z : List (Hand R)). HasAll (numbers_of z) (hands_of tags)) same
-    (subst (HasAll (numbers_of seen)) (sym tags.as_many.1) all)
+every tags seen hands same all = all_there (ap (λ l. numbers_of l) same) (sym tags.as_many.1) all
 
 pub returns-then-total-gt-MAX_DEPTH-clause-cause : goal.returns-then-total-gt-MAX_DEPTH-clause-cause
 returns-then-total-gt-MAX_DEPTH-clause-cause g c = (

@@ -35,11 +35,11 @@ facts g c = same_facts c.args.tags c.obstacle-tags.result.0
     c.obstacle-tags.ensures.unchanged
 
 pub go_on-requires-clause-every : goal.go_on-requires-clause-every
-go_on-requires-clause-every g c = subst (λ (f : Facts). HasAll f.numbers f.count) (sym (facts g c)) (free g c).0.0
+go_on-requires-clause-every g c = subst (λ (f : Facts). HasAll f.of_both.numbers f.of_both.count) (sym (facts g c)) (free g c).0.0
 
 pub go_on-requires-clause-unused : goal.go_on-requires-clause-unused
 go_on-requires-clause-unused g c =
-    subst (λ (f : Facts). (f.held ≡ 0) × (f.posted ≡ 0)) (sym (facts g c)) (free g c).1
+    subst (λ (f : Facts). (f.of_both.held ≡ 0) × (f.of_both.posted ≡ 0)) (sym (facts g c)) (free g c).1
 
 -- the hands after the checks are those passed in, unchanged
 kept : (g : given.Over) (c : After-go_on g) → AreUnchanged c.args.hands.items c.obstacle-tags.new.hands.items
