@@ -1,8 +1,11 @@
 -- What the ordinary set answers for the numbers of a list holds for the ordinary tags of the list.
-use Rattle.std.proofs.Common.{◌≡◌, ℕ, ◌+◌, ◌-◌, ◌<◌, ◌≤◌, ◌↔◌, List, All, Contains, length, get_or, arith, refl, sym, ap, ◌∙◌, subst}
+use Rattle.std.proofs.Common.{◌≡◌, ℕ, ◌+◌, ◌-◌, ◌<◌, ◌≤◌, ◌↔◌, List, All, Contains, length, get_or, Result, Err, IsOk, OnOk, arith, refl, sym, ap, ◌∙◌, subst}
 use Rattle.std.proofs.lemmas.List.{length-map, get_or-map}
+use Rattle.std.proofs.lemmas.Result.{on_ok_weaker}
 use Rattle.tag_core.specs.declared.shape.Shape.{Shape}
 use Rattle.tag_queue.specs.declared.agent.Agent.{Agent}
+use Rattle.tag_queue.specs.declared.fault.TagFault.{TagFault}
+use Rattle.tag_queue.specs.declared.fault.TagFault.TheVariants.{NoSuchTag, NotHeld}
 use Rattle.tag_queue.specs.Agents as queue
 use Rattle.tag_queue.specs.Batches as queue_batches
 use Rattle.tag_sets.specs.declared.hand.Hand.{Hand}
@@ -86,7 +89,7 @@ module _ {R : Type 0} (tags : Tags R) (hand : Hand R) (own : IsHandOf tags hand)
       → queue_batches.AreTags (layout_of tags Ordinary) named
   are_tags h k d l = subst (λ (s : Shape). get_or named k d < s.layout.depth) own.1.0.1 (h.0 k d l).0
 
-  pub gives_back : (agent : Agent R) → queue_batches.GivesBack (layout_of tags Ordinary) named hand.ordinary agent
+  gives_back : (agent : Agent R) → queue_batches.GivesBack (layout_of tags Ordinary) named hand.ordinary agent
       → GivesBack tags list hand (record hand { ordinary = agent })
   gives_back agent g = let new = record hand { ordinary = agent } in
       let numbers = numbers_of (reserved_of tags) list in
@@ -99,28 +102,33 @@ module _ {R : Type 0} (tags : Tags R) (hand : Hand R) (own : IsHandOf tags hand)
         set = record { changed = given; other = refl; split = refl };
       }
 
-  -- what is said exactly if a condition on the numbers holds is said exactly if the same condition on the tags holds
-  module _ (Said : Type 0) where
-    pub no_such_tag :
-        Said ↔ (queue_batches.CountsTags named × ¬ (queue_batches.AreTags (layout_of tags Ordinary) named))
-        → Said ↔ (CountsTags list × ¬ (AreOrdinary tags list))
-    no_such_tag s = (
-      λ e. let h = s.0 e in (counts_back h.0, λ o. h.1 (tags_there o)),
-      λ h. s.1 (counts_there h.0, λ t. h.1 (tags_back t)),
-    )
+  -- what is said of the tags by a result that tells of their numbers
+  pub record Answers (agent : Agent R) (r : Result ℕ TagFault) : Type 0 where
+    pub no_such_tag : (r ≡ Err NoSuchTag) ↔ (CountsTags list × ¬ (AreOrdinary tags list))
+    pub not_held : (r ≡ Err NotHeld) ↔ (CountsTags list × AreOrdinary tags list × ¬ (AreHeldOnce hand list))
+    pub succeeds : IsOk r ↔ (CountsTags list × AreOrdinary tags list × AreHeldOnce hand list)
+    pub gives : OnOk r (GivesBack tags list hand (record hand { ordinary = agent }))
 
-    pub not_held : Said ↔ (queue_batches.CountsTags named × queue_batches.AreTags (layout_of tags Ordinary) named
-        × ¬ (queue_batches.AreHeldOnce (queue.caller_of hand.ordinary) named))
-        → Said ↔ (CountsTags list × AreOrdinary tags list × ¬ (AreHeldOnce hand list))
-    not_held s = (
-      λ e. let h = s.0 e in (counts_back h.0, tags_back h.1, λ o. h.2 (held_there o)),
-      λ h. s.1 (counts_there h.0, tags_there h.1, λ t. h.2 (held_back t)),
-    )
-
-    pub succeeds :
-        Said ↔ (queue_batches.CountsTags named × queue_batches.AreHeldOnce (queue.caller_of hand.ordinary) named)
-        → Said ↔ (CountsTags list × AreOrdinary tags list × AreHeldOnce hand list)
-    succeeds s = (
-      λ e. let h = s.0 e in (counts_back h.0, tags_back (are_tags h.1), held_back h.1),
-      λ h. s.1 (counts_there h.0, held_there h.2),
-    )
+  -- a condition on the numbers holds exactly if the same condition on the tags does
+  pub answered : (agent : Agent R) (r : Result ℕ TagFault)
+      → (r ≡ Err NoSuchTag)
+      ↔ (queue_batches.CountsTags named × ¬ (queue_batches.AreTags (layout_of tags Ordinary) named))
+      → (r ≡ Err NotHeld) ↔ (queue_batches.CountsTags named × queue_batches.AreTags (layout_of tags Ordinary) named
+      × ¬ (queue_batches.AreHeldOnce (queue.caller_of hand.ordinary) named))
+      → IsOk r ↔ (queue_batches.CountsTags named × queue_batches.AreHeldOnce (queue.caller_of hand.ordinary) named)
+      → OnOk r (queue_batches.GivesBack (layout_of tags Ordinary) named hand.ordinary agent) → Answers agent r
+  answered agent r none not_held ok gives = record {
+    no_such_tag = (
+      λ e. let h = none.0 e in (counts_back h.0, λ o. h.1 (tags_there o)),
+      λ h. none.1 (counts_there h.0, λ t. h.1 (tags_back t)),
+    );
+    not_held = (
+      λ e. let h = not_held.0 e in (counts_back h.0, tags_back h.1, λ o. h.2 (held_there o)),
+      λ h. not_held.1 (counts_there h.0, tags_there h.1, λ t. h.2 (held_back t)),
+    );
+    succeeds = (
+      λ e. let h = ok.0 e in (counts_back h.0, tags_back (are_tags h.1), held_back h.1),
+      λ h. ok.1 (counts_there h.0, held_there h.2),
+    );
+    gives = on_ok_weaker r (gives_back agent) gives;
+  }
