@@ -38,6 +38,7 @@ use Rattle.tag_board.specs.Replays.{NobodyHolds}
 use Rattle.tag_board.specs.Resizes.{AreUnused, RefusesResize, MayResize}
 use Rattle.tag_board.specs.States.{Part, idle}
 use Rattle.tag_board.proofs.Adding.{both_sets, add_up, posted_up}
+use Rattle.tag_board.proofs.Handfuls.{part_ext}
 use Rattle.tag_board.proofs.Holdings.{holds_same}
 use Rattle.tag_board.proofs.Sizings.{holds_none}
 
@@ -91,13 +92,9 @@ module _ {R : Type 0} where
       let back : (part_of b).back ≡ (part_of a).back = omega arith in
       let won : (kind : Kind) → (record_in b kind).won ≡ (record_in a kind).won =
       elim [ Ordinary ↦ ap (λ (r : Record R). r.won) one | Reserved ↦ ap (λ (r : Record R). r.won) other ] in
-      λ j. record {
-        held = λ tag. held tag j;
-        won = λ kind. won kind j;
-        back = back j;
-        stands = ap (λ (w : Waiter). is_some w.standing) (u.sets Ordinary).same_else.1.1 j;
-        round_robin = ap (λ (h : Hint). h.round_robin) (u.sets Ordinary).same_else.0 j;
-      }
+      part_ext (part_of b) (part_of a) held won back
+      (ap (λ (w : Waiter). is_some w.standing) (u.sets Ordinary).same_else.1.1)
+      (ap (λ (h : Hint). h.round_robin) (u.sets Ordinary).same_else.0)
 
   module _ (old new : Tags R) (olds news : List (Hand R)) (same : sets.AreSame old new)
       (kept : sets.AreUnchanged olds news) where
@@ -183,13 +180,8 @@ module _ {R : Type 0} (old new : Tags R) (olds news : List (Hand R)) (total : �
       let waiter = same_at queue.waiter_of before after n a.ordinary b.ordinary is.ordinary.waiters here there in
       let hint = same_at queue.hint_of before after n a.ordinary b.ordinary is.ordinary.hints here there in record {
         none = free;
-        part = λ j. record {
-          held = λ tag. (free tag ∙ sym (none tag)) j;
-          won = λ kind. won kind j;
-          back = back j;
-          stands = ap (λ (w : Waiter). is_some w.standing) waiter j;
-          round_robin = ap (λ (h : Hint). h.round_robin) hint j;
-        };
+        part = part_ext (part_of b) (part_of a) (λ tag. free tag ∙ sym (none tag)) won back
+            (ap (λ (w : Waiter). is_some w.standing) waiter) (ap (λ (h : Hint). h.round_robin) hint);
       }
 
   -- there are as many hands as before

@@ -11,8 +11,20 @@ use Rattle.tag_sets.specs.declared.kind.Kind.TheVariants.{Ordinary, Reserved}
 use Rattle.tag_sets.specs.Hands.{agent_of, standing_of, hint_of, number_of}
 use Rattle.tag_sets.specs.Sets.{other_kind}
 use Rattle.tag_board.specs.Parts.{holds, record_in, part_of}
+use Rattle.tag_board.specs.States.{Part}
 use Rattle.tag_board.specs.Replays.{won_more, joined, won, left, cleared, standing}
 use Rattle.tag_board.proofs.Tallies.{Tallies}
+
+-- callers' parts with the same fields are equal
+pub part_ext : (p q : Part) → ((tag : ℕ) → p.held tag ≡ q.held tag) → ((kind : Kind) → p.won kind ≡ q.won kind)
+    → p.back ≡ q.back → p.stands ≡ q.stands → p.round_robin ≡ q.round_robin → p ≡ q
+part_ext p q held won back stands round = λ j. record {
+  held = λ tag. held tag j;
+  won = λ kind. won kind j;
+  back = back j;
+  stands = stands j;
+  round_robin = round j;
+}
 
 -- the caller counts this many more tags, won of one set and given back; its wait group and its round robin are
 -- unchanged
@@ -55,67 +67,41 @@ module _ {R : Type 0} (old new : Hand R) where
   none_more Reserved w Ordinary = refl
   none_more Reserved w Reserved = omega arith
 
+  -- a caller that gave nothing back counts as many tags given back as before
+  none_back : (kind : Kind) (n : ℕ) → PartTallies kind n 0 old new → (part_of new).back ≡ (part_of old).back
+  none_back kind n t = let e = t.back_is in omega arith
+
+  -- and one that won nothing counts as many tags won
+  as_won : (kind : Kind) (n : ℕ) → PartTallies kind 0 n old new → (k : Kind) → (part_of new).won k ≡ (part_of old).won k
+  as_won kind n t k = t.won_is k ∙ none_more kind (part_of old).won k
+
   module _ (kind : Kind) (test : ℕ → Bool) where
     pub part_won : (n : ℕ) → PartTallies kind n 0 old new → ((tag : ℕ) → holds new tag ≡ (holds old tag || test tag))
         → part_of new ≡ won kind test n (part_of old)
-    part_won n t held = let back : (part_of new).back ≡ (part_of old).back = let e = t.back_is in omega arith in
-        λ j. record {
-          held = λ tag. held tag j;
-          won = λ k. t.won_is k j;
-          back = back j;
-          stands = t.stands j;
-          round_robin = t.round j;
-        }
+    part_won n t held = part_ext (part_of new) (won kind test n (part_of old)) held t.won_is (none_back kind n t)
+        t.stands t.round
 
     pub part_joined : PartTallies kind 0 0 old new → ((tag : ℕ) → holds new tag ≡ (holds old tag || test tag))
         → part_of new ≡ joined test (part_of old)
-    part_joined t held = let back : (part_of new).back ≡ (part_of old).back = let e = t.back_is in omega arith in
-        let same : (k : Kind) → (part_of new).won k ≡ (part_of old).won k =
-        λ k. t.won_is k ∙ none_more kind (part_of old).won k in λ j. record {
-          held = λ tag. held tag j;
-          won = λ k. same k j;
-          back = back j;
-          stands = t.stands j;
-          round_robin = t.round j;
-        }
+    part_joined t held = part_ext (part_of new) (joined test (part_of old)) held (as_won kind 0 t) (none_back kind 0 t)
+        t.stands t.round
 
     pub part_left : PartTallies kind 0 0 old new → ((tag : ℕ) → holds new tag ≡ (holds old tag && not (test tag)))
         → part_of new ≡ left test (part_of old)
-    part_left t held = let back : (part_of new).back ≡ (part_of old).back = let e = t.back_is in omega arith in
-        let same : (k : Kind) → (part_of new).won k ≡ (part_of old).won k =
-        λ k. t.won_is k ∙ none_more kind (part_of old).won k in λ j. record {
-          held = λ tag. held tag j;
-          won = λ k. same k j;
-          back = back j;
-          stands = t.stands j;
-          round_robin = t.round j;
-        }
+    part_left t held = part_ext (part_of new) (left test (part_of old)) held (as_won kind 0 t) (none_back kind 0 t)
+        t.stands t.round
 
     pub part_cleared : (n : ℕ) → PartTallies kind 0 n old new
         → ((tag : ℕ) → holds new tag ≡ (holds old tag && not (test tag)))
         → part_of new ≡ cleared test n (part_of old)
-    part_cleared n t held =
-        let same : (k : Kind) → (part_of new).won k ≡ (part_of old).won k =
-        λ k. t.won_is k ∙ none_more kind (part_of old).won k in λ j. record {
-          held = λ tag. held tag j;
-          won = λ k. same k j;
-          back = t.back_is j;
-          stands = t.stands j;
-          round_robin = t.round j;
-        }
+    part_cleared n t held = part_ext (part_of new) (cleared test n (part_of old)) held (as_won kind n t) t.back_is
+        t.stands t.round
 
   -- a caller that counts no more tags, and holds what it held, is unchanged
   pub part_same : (kind : Kind) → PartTallies kind 0 0 old new → ((tag : ℕ) → holds new tag ≡ holds old tag)
       → part_of new ≡ part_of old
-  part_same kind t held = let back : (part_of new).back ≡ (part_of old).back = let e = t.back_is in omega arith in
-      let same : (k : Kind) → (part_of new).won k ≡ (part_of old).won k =
-      λ k. t.won_is k ∙ none_more kind (part_of old).won k in λ j. record {
-        held = λ tag. held tag j;
-        won = λ k. same k j;
-        back = back j;
-        stands = t.stands j;
-        round_robin = t.round j;
-      }
+  part_same kind t held = part_ext (part_of new) (part_of old) held (as_won kind 0 t) (none_back kind 0 t)
+      t.stands t.round
 
   -- a caller whose ordinary agent keeps its tags, its hint and its counts changes at most its wait group
   pub part_standing : (stands : Bool) → queue.caller_of new.ordinary ≡ queue.caller_of old.ordinary
@@ -130,12 +116,6 @@ module _ {R : Type 0} (old new : Hand R) where
       let back : (part_of new).back ≡ (part_of old).back = omega arith in
       let same : (k : Kind) → (part_of new).won k ≡ (part_of old).won k =
       elim [ Ordinary ↦ ap (λ (r : Record R). r.won) here | Reserved ↦ ap (λ (r : Record R). r.won) there ] in (
-        λ j. record {
-          held = λ tag. held tag j;
-          won = λ k. same k j;
-          back = back j;
-          stands = is j;
-          round_robin = ap (λ h. h.round_robin) hint j;
-        },
+        part_ext (part_of new) (standing stands (part_of old)) held same back is (ap (λ h. h.round_robin) hint),
         sym new.ordinary.numbers.0 ∙ ap (λ (r : Record R). r.number) here ∙ old.ordinary.numbers.0,
       )

@@ -25,3 +25,4 @@ mod SoloLooks
 mod SoloShows
 mod SoloOpens
 mod SoloResizes
+mod Seated

@@ -1,5 +1,5 @@
 -- How each call changes the part of its caller.
-use Rattle.std.proofs.Common.{◌≡◌, ℕ, zero, suc, [], ◌∷◌, get_or, ◌+◌, ◌-◌, ◌<◌, nat_eq, nat_le, true, false, List, length, Option, Some, None, is_some, Result, Ok, Err, OnOk, OnErr, refl, sym, ap, ◌∙◌, subst, arith, eq-eqb, eqb-true}
+use Rattle.std.proofs.Common.{◌≡◌, ℕ, zero, suc, [], ◌∷◌, get_or, ◌+◌, ◌-◌, ◌<◌, nat_eq, nat_le, true, false, List, length, Bool, Option, Some, None, is_some, Result, Ok, Err, OnOk, OnErr, refl, sym, ap, ◌∙◌, subst, arith, eq-eqb, eqb-true}
 use Rattle.std.proofs.lemmas.Bool.{and_parts, and_from, or_left, or_right, le-leb, leb-true}
 use Rattle.std.proofs.lemmas.List.{length-map}
 use Rattle.std.proofs.lemmas.Map.Views.{Contains-from_any}
@@ -16,7 +16,8 @@ use Rattle.tag_sets.specs.Batches as batches
 use Rattle.tag_sets.specs.Clears as clears
 use Rattle.tag_sets.specs.Gets as gets
 use Rattle.tag_sets.specs.Hands.{number_of, split_of, agent_of, reserved_of, standing_of}
-use Rattle.tag_sets.specs.Sets.{kind_of, number_in_set}
+use Rattle.tag_sets.specs.Holding.{HoldsMore}
+use Rattle.tag_sets.specs.Sets.{kind_of, number_in_set, other_kind}
 use Rattle.tag_sets.specs.Shows.{LooksAround}
 use Rattle.tag_sets.specs.Slots as slots
 use Rattle.tag_sets.specs.Waits as waits
@@ -84,58 +85,41 @@ same_run_count reserved None = refl
 same_run_count reserved (Some run) = refl
 
 module _ {R : Type 0} (old new : Hand R) where
-  pub get_moves : (tags : Tags R) (answer : Option ℕ) → gets.Gets tags answer old new
-      → Moves (won Ordinary (is_answer answer) (count_of answer)) old new
-  get_moves tags answer g =
-      let same : count_of answer ≡ count_of g.number =
-      ap count_of g.answer_is ∙ same_count (reserved_of tags) g.number in
-      let t : PartTallies Ordinary (count_of answer) 0 old new =
-      subst (λ (n : ℕ). PartTallies Ordinary n 0 old new) (sym same)
-      (part_tallies old new Ordinary (count_of g.number) 0 (tallies.gets_plain _ _ _ g.number g.set.changed)
-      g.set.other) in record {
-        part = part_won old new Ordinary (is_answer answer) (count_of answer) t
-            (holds_more old new (is_answer answer) (gets.IsAnswer answer) (names_answer answer) g.more);
+  -- one agent won n tags, and these are the named ones
+  won_moves : (kind : Kind) (named : ℕ → Bool) (Is : ℕ → Type 0) → Names named Is → (n m : ℕ) → n ≡ m
+      → tallies.Tallies m 0 (agent_of old kind) (agent_of new kind)
+      → agent_of new (other_kind kind) ≡ agent_of old (other_kind kind) → HoldsMore Is old new
+      → Moves (won kind named n) old new
+  won_moves kind named Is names n m same counted other more =
+      let t : PartTallies kind n 0 old new = subst (λ (k : ℕ). PartTallies kind k 0 old new) (sym same)
+      (part_tallies old new kind m 0 counted other) in record {
+        part = part_won old new kind named n t (holds_more old new named Is names more);
         number = t.number;
       }
+
+  pub get_moves : (tags : Tags R) (answer : Option ℕ) → gets.Gets tags answer old new
+      → Moves (won Ordinary (is_answer answer) (count_of answer)) old new
+  get_moves tags answer g = won_moves Ordinary (is_answer answer) (gets.IsAnswer answer) (names_answer answer)
+      (count_of answer) (count_of g.number) (ap count_of g.answer_is ∙ same_count (reserved_of tags) g.number)
+      (tallies.gets_plain _ _ _ g.number g.set.changed) g.set.other g.more
 
   pub shallow_moves : (tags : Tags R) (depth : ℕ) (answer : Option ℕ) → gets.GetsShallow tags depth answer old new
       → Moves (won Ordinary (is_answer answer) (count_of answer)) old new
-  shallow_moves tags depth answer g =
-      let same : count_of answer ≡ count_of g.number =
-      ap count_of g.answer_is ∙ same_count (reserved_of tags) g.number in
-      let t : PartTallies Ordinary (count_of answer) 0 old new =
-      subst (λ (n : ℕ). PartTallies Ordinary n 0 old new) (sym same)
-      (part_tallies old new Ordinary (count_of g.number) 0 (tallies.gets_shallow _ _ _ depth g.number g.set.changed)
-      g.set.other) in record {
-        part = part_won old new Ordinary (is_answer answer) (count_of answer) t
-            (holds_more old new (is_answer answer) (gets.IsAnswer answer) (names_answer answer) g.more);
-        number = t.number;
-      }
+  shallow_moves tags depth answer g = won_moves Ordinary (is_answer answer) (gets.IsAnswer answer) (names_answer answer)
+      (count_of answer) (count_of g.number) (ap count_of g.answer_is ∙ same_count (reserved_of tags) g.number)
+      (tallies.gets_shallow _ _ _ depth g.number g.set.changed) g.set.other g.more
 
   pub reserved_moves : (tags : Tags R) (answer : Option ℕ) → gets.GetsReserved tags answer old new
       → Moves (won Reserved (is_answer answer) (count_of answer)) old new
-  reserved_moves tags answer g =
-      let t : PartTallies Reserved (count_of answer) 0 old new =
-      part_tallies old new Reserved (count_of answer) 0 (tallies.gets_plain _ _ _ answer g.set.changed) g.set.other in
-      record {
-        part = part_won old new Reserved (is_answer answer) (count_of answer) t
-            (holds_more old new (is_answer answer) (gets.IsAnswer answer) (names_answer answer) g.more);
-        number = t.number;
-      }
+  reserved_moves tags answer g = won_moves Reserved (is_answer answer) (gets.IsAnswer answer) (names_answer answer)
+      (count_of answer) (count_of answer) refl (tallies.gets_plain _ _ _ answer g.set.changed) g.set.other g.more
 
   pub batch_moves : (tags : Tags R) (n : ℕ) (answer : Option (ℕ × ℕ)) → gets.GetsBatch tags n answer old new
       → Moves (won Ordinary (is_in_run answer) (count_of_run answer)) old new
-  batch_moves tags n answer g =
-      let same : count_of_run answer ≡ count_of_run g.number =
-      ap count_of_run g.answer_is ∙ same_run_count (reserved_of tags) g.number in
-      let t : PartTallies Ordinary (count_of_run answer) 0 old new =
-      subst (λ (n : ℕ). PartTallies Ordinary n 0 old new) (sym same)
-      (part_tallies old new Ordinary (count_of_run g.number) 0 (tallies.gets_batch _ _ _ n g.number g.set.changed)
-      g.set.other) in record {
-        part = part_won old new Ordinary (is_in_run answer) (count_of_run answer) t
-            (holds_more old new (is_in_run answer) (gets.IsInRun answer) (names_run answer) g.more);
-        number = t.number;
-      }
+  batch_moves tags n answer g = won_moves Ordinary (is_in_run answer) (gets.IsInRun answer) (names_run answer)
+      (count_of_run answer) (count_of_run g.number)
+      (ap count_of_run g.answer_is ∙ same_run_count (reserved_of tags) g.number)
+      (tallies.gets_batch _ _ _ n g.number g.set.changed) g.set.other g.more
 
   -- an agent that only counted is in the same wait group as before
   stands_there : (tags : Tags R) (kind : Kind) (n woken : ℕ) → clears.Counts tags kind n old new woken

@@ -25,6 +25,7 @@ use Rattle.tag_sets.proofs.Opening.{all_part}
 use Rattle.tag_board.specs.Opening.{IsOpen}
 use Rattle.tag_board.specs.Parts.{record_in, part_of, state_of_all, AreOrdered}
 use Rattle.tag_board.specs.States.{idle}
+use Rattle.tag_board.proofs.Handfuls.{part_ext}
 use Rattle.tag_board.proofs.Holdings.{not_holds}
 
 module _ {R : Type 0} where
@@ -55,13 +56,8 @@ module _ {R : Type 0} where
         let back : (record_in hand Ordinary).back + (record_in hand Reserved).back ≡ 0 =
         let a = one.1 in let b = other.1 in omega arith in
         let won : (kind : Kind) → (record_in hand kind).won ≡ 0 = elim [ Ordinary ↦ one.0 | Reserved ↦ other.0 ] in
-        λ j. record {
-          held = λ tag. not_holds hand tag (opened.none_held k d low tag) j;
-          won = λ kind. won kind j;
-          back = back j;
-          stands = ap is_some out j;
-          round_robin = ap (λ (h : Hint). h.round_robin) hint j;
-        }
+        part_ext (part_of hand) (idle options.round_robin) (λ tag. not_holds hand tag (opened.none_held k d low tag))
+        won back (ap is_some out) (ap (λ (h : Hint). h.round_robin) hint)
 
     -- the state of a board that was just opened
     pub opens : (total reserved : ℕ) → total_of tags ≡ total → reserved_of tags ≡ reserved

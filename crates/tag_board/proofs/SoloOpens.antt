@@ -1,5 +1,5 @@
 -- New sets of a board with one caller.
-use Rattle.std.proofs.Common.{◌≡◌, ℕ, ◌+◌, ◌-◌, ◌<◌, Bool, true, false, ◌&&◌, nat_eq, nat_lt, List, [], length, map, get_or, refl, sym, ap, ◌∙◌, subst, arith}
+use Rattle.std.proofs.Common.{◌≡◌, ℕ, ◌-◌, Bool, false, ◌&&◌, nat_eq, nat_lt, List, [], length, map, get_or, sym, ap, ◌∙◌, subst, arith}
 use Rattle.std.proofs.lemmas.List.{get_or-map}
 use Rattle.std.proofs.lemmas.Nat.Bits.{bit_at-zero}
 use mathlib.Core.Option.{some}
@@ -10,9 +10,8 @@ use Rattle.tag_core.specs.declared.record.Record.{Record}
 use Rattle.tag_core.specs.declared.step.Step.{Step}
 use Rattle.tag_core.specs.Callers.{record_of}
 use Rattle.tag_core.proofs.Entries.{entry, entry_or}
-use Rattle.tag_search.specs.declared.hint.Hint.{Hint}
 use Rattle.tag_search.specs.LoneLaws.{cells_left, words_left}
-use Rattle.tag_search.specs.Pool.{Pool, pool_of}
+use Rattle.tag_search.specs.Pool.{pool_of}
 use Rattle.tag_search.proofs.Pools.{pool_ext, and_true, and_false}
 use Rattle.tag_queue.specs.declared.agent.Agent.{Agent}
 use Rattle.tag_queue.specs.declared.queue.Options.{Options}
@@ -27,7 +26,7 @@ use Rattle.tag_sets.specs.Gathering.{hands_of}
 use Rattle.tag_sets.specs.Hands.{IsHandOf, layout_of, reserved_of, total_of}
 use Rattle.tag_sets.specs.Opening.{reserved_part, ordinary_part, IsOpen as AreOpen}
 use Rattle.tag_sets.proofs.Opening.{all_part}
-use Rattle.tag_board.specs.Lones.{Lone, Lones, untouched, AreUntouched}
+use Rattle.tag_board.specs.Lones.{Lones, untouched, AreUntouched}
 use Rattle.tag_board.specs.Parts.{lone_of, lones_in, lones_of_all}
 use Rattle.tag_board.proofs.Solitary.{layout_in}
 

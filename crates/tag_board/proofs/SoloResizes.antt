@@ -1,12 +1,9 @@
 -- How a resize changes both sets of a board with one caller.
-use Rattle.std.proofs.Common.{◌≡◌, ℕ, ◌-◌, ◌<◌, Bool, false, nat_eq, List, [], length, map, get_or, All, Result, Ok, Err, refl, sym, ap, ◌∙◌, subst, arith}
+use Rattle.std.proofs.Common.{◌≡◌, ℕ, ◌-◌, false, nat_eq, List, [], length, map, get_or, All, Ok, sym, ap, ◌∙◌, subst, arith}
 use Rattle.std.proofs.lemmas.List.{get_or-map, length-map}
-use mathlib.Core.Option.{some}
-use lib.ListN.{get_elem?}
 use Rattle.atomic_table.proofs.Lists.{at_map}
 use Rattle.tag_layout.specs.Layout.{Layout}
 use Rattle.tag_core.specs.declared.record.Record.{Record}
-use Rattle.tag_core.specs.declared.shape.Shape.{Shape}
 use Rattle.tag_core.specs.declared.step.Step.{Step}
 use Rattle.tag_core.specs.Callers.{record_of}
 use Rattle.tag_core.proofs.Entries.{entry, entry_or}
@@ -14,18 +11,16 @@ use Rattle.tag_search.specs.declared.hint.Hint.{Hint}
 use Rattle.tag_search.specs.LoneLaws.{cells_left, words_left}
 use Rattle.tag_search.specs.Pool.{pool_of}
 use Rattle.tag_queue.specs.declared.agent.Agent.{Agent}
-use Rattle.tag_queue.specs.declared.resizes.ResizeCause.{ResizeCause}
 use Rattle.tag_queue.specs.Agents as queue
 use Rattle.tag_sets.specs.declared.hand.Hand.{Hand}
 use Rattle.tag_sets.specs.declared.kind.Kind.{Kind}
 use Rattle.tag_sets.specs.declared.kind.Kind.TheVariants.{Ordinary, Reserved}
 use Rattle.tag_sets.specs.declared.tags.Tags.{Tags}
-use Rattle.tag_sets.specs.Gathering.{hands_of, numbers_of}
-use Rattle.tag_sets.specs.Hands.{IsHandOf, layout_of, reserved_of, number_of}
-use Rattle.tag_sets.specs.Meeting.{IsUnchanged}
+use Rattle.tag_sets.specs.Gathering.{hands_of}
+use Rattle.tag_sets.specs.Hands.{IsHandOf, reserved_of, number_of}
 use Rattle.tag_sets.specs.Opening.{reserved_part, ordinary_part}
 use Rattle.tag_sets.specs.Resizing.{IsResized, AreUnchanged}
-use Rattle.tag_board.specs.Lones.{Lone, Lones, ChangesSet, LoneResizes, resized, split_in, untouched}
+use Rattle.tag_board.specs.Lones.{Lones, LoneResizes, resized, untouched}
 use Rattle.tag_board.specs.Parts.{lone_of, lones_in, lones_of_all}
 use Rattle.tag_board.proofs.Solitary.{layout_in, split_is}
 use Rattle.tag_board.proofs.SoloOpens.{blank_pool}

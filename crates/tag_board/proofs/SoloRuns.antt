@@ -1,5 +1,5 @@
 -- How the only agent of a set changes it by giving back a list of tags.
-use Rattle.std.proofs.Common.{◌≡◌, ℕ, ◌+◌, ◌^◌, ◌<◌, ◌≤◌, Bool, true, false, ◌&&◌, ◌||◌, ◌==◌, cond, nat_eq, nat_lt, List, [], ◌∷◌, ◌++◌, length, get_or, ⊎_elim, refl, sym, ap, ◌∙◌, subst, arith, eq-eqb, eqb-true}
+use Rattle.std.proofs.Common.{◌≡◌, ℕ, ◌^◌, ◌<◌, ◌≤◌, Bool, true, false, ◌&&◌, ◌||◌, cond, nat_eq, nat_lt, List, [], ◌∷◌, ⊎_elim, refl, sym, ap, ◌∙◌, subst, arith, eq-eqb, eqb-true}
 use Rattle.std.proofs.Math.Logic.{∥∥₁_elim}
 use Rattle.std.proofs.lemmas.Bool.{and_parts, and_from, cases_lt, lt-ltb, ltb-true}
 use Rattle.std.proofs.lemmas.List.Folds.{list_any-append, Any-from_list_any, list_any-from_Any}
@@ -7,8 +7,8 @@ use Rattle.std.proofs.lemmas.Nat.Bits.{bit_at_above}
 use Rattle.std.specs.Int.{bit_at}
 use Rattle.std.specs.List.{list_any}
 use mathlib.Core.Bool.{Bool-set}
-use Rattle.tag_layout.specs.Layout.{Layout, words, word_of, place_of, word_bits, word_depth, tag_at}
-use Rattle.tag_layout.proofs.PlaceFacts.{word_bits-le, word_of-tag_at, place_of-tag_at}
+use Rattle.tag_layout.specs.Layout.{Layout, word_of, place_of, word_bits, word_depth, tag_at}
+use Rattle.tag_layout.proofs.PlaceFacts.{word_of-tag_at, place_of-tag_at}
 use Rattle.tag_model.specs.Event.{IsInLayout}
 use Rattle.tag_model.specs.Runs.{IsHistory}
 use Rattle.tag_model.specs.World.{World}
@@ -32,7 +32,7 @@ use Rattle.tag_queue.specs.declared.agent.Agent.{Agent}
 use Rattle.tag_queue.specs.Agents.{caller_of}
 use Rattle.tag_queue.specs.Batches.{Run, IsRun, AreRuns, GivesBack, record_after_runs}
 use Rattle.tag_queue.proofs.Giving.{same_shape}
-use Rattle.tag_board.specs.Lones.{Lone, is_named, give_back}
+use Rattle.tag_board.specs.Lones.{is_named, give_back}
 use Rattle.tag_board.specs.Parts.{lone_of}
 use Rattle.tag_board.proofs.Truths.{same_test}
 

@@ -1,5 +1,5 @@
 -- What a call adds to the counts of its agent: tags won and tags given back.
-use Rattle.std.proofs.Common.{◌≡◌, ℕ, ◌+◌, suc, List, [], ◌∷◌, length, Option, refl, ap, ◌∙◌, arith}
+use Rattle.std.proofs.Common.{◌≡◌, ℕ, ◌+◌, suc, List, [], ◌∷◌, length, Option, refl, sym, ap, ◌∙◌, subst, arith}
 use Rattle.tag_layout.specs.Layout.{Layout}
 use Rattle.tag_core.specs.declared.record.Record.{Record}
 use Rattle.tag_core.specs.declared.step.Step.TheVariants.{Word}
@@ -101,47 +101,23 @@ module _ {R : Type 0} where
         }
 
   module _ (old new : Agent R) where
+    -- what the agent counts, where one step or more led to this record and changed nothing else
+    counted : (won back : ℕ) (after : Record R) → record_of (caller_of new) ≡ after
+        → Counts won back (record_of (caller_of old)) after → SameElse old new → Tallies won back old new
+    counted won back after known counts same = let s = still old new same in record {
+      counts = subst (λ (r : Record R). Counts won back (record_of (caller_of old)) r) (sym known) counts;
+      stands = s.0;
+      round = s.1;
+    }
+
     pub finds : (found : List (ℕ × ℕ)) → Finds (looks_from 0 found) old new → Tallies 0 0 old new
-    finds found f = let all = looks_count found 0 (record_of (caller_of old)) in
-        let s = still old new f.same_else in record {
-          counts = record {
-            won_is = ap (λ (r : Record R). r.won) f.known ∙ all.won_is;
-            back_is = ap (λ (r : Record R). r.back) f.known ∙ all.back_is;
-            number_is = ap (λ (r : Record R). r.number) f.known ∙ all.number_is;
-          };
-          stands = s.0;
-          round = s.1;
-        }
+    finds found f = counted 0 0 _ f.known (looks_count found 0 (record_of (caller_of old))) f.same_else
 
     pub posts : (tag : ℕ) → Posts tag old new → Tallies 0 0 old new
-    posts tag p = let s = still old new p.same_else in record {
-      counts = record {
-        won_is = ap (λ (r : Record R). r.won) p.step.known;
-        back_is = ap (λ (r : Record R). r.back) p.step.known;
-        number_is = ap (λ (r : Record R). r.number) p.step.known;
-      };
-      stands = s.0;
-      round = s.1;
-    }
+    posts tag p = counted 0 0 _ p.step.known record { won_is = refl; back_is = refl; number_is = refl } p.same_else
 
     pub takes : (tag : ℕ) → Takes tag old new → Tallies 0 0 old new
-    takes tag t = let s = still old new t.same_else in record {
-      counts = record {
-        won_is = ap (λ (r : Record R). r.won) t.step.known;
-        back_is = ap (λ (r : Record R). r.back) t.step.known;
-        number_is = ap (λ (r : Record R). r.number) t.step.known;
-      };
-      stands = s.0;
-      round = s.1;
-    }
+    takes tag t = counted 0 0 _ t.step.known record { won_is = refl; back_is = refl; number_is = refl } t.same_else
 
     pub misses : (tag : ℕ) → Misses tag old new → Tallies 0 0 old new
-    misses tag m = let s = still old new m.same_else in record {
-      counts = record {
-        won_is = ap (λ (r : Record R). r.won) m.step.known;
-        back_is = ap (λ (r : Record R). r.back) m.step.known;
-        number_is = ap (λ (r : Record R). r.number) m.step.known;
-      };
-      stands = s.0;
-      round = s.1;
-    }
+    misses tag m = counted 0 0 _ m.step.known record { won_is = refl; back_is = refl; number_is = refl } m.same_else

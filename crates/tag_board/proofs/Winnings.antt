@@ -17,7 +17,7 @@ use Rattle.tag_sets.specs.Hands.{Holds, hint_of, number_of}
 use Rattle.tag_board.specs.Parts.{holds, part_of, state_of_all}
 use Rattle.tag_board.specs.Replays.{HoldsAll, NobodyHolds, NobodyElseHolds, IsOf, Wins, won, is_answer, is_in_run}
 use Rattle.tag_board.specs.States.{Part, State}
-use Rattle.tag_board.proofs.Handfuls.{none_more}
+use Rattle.tag_board.proofs.Handfuls.{none_more, part_ext}
 use Rattle.tag_board.proofs.Holdings.{not_holds}
 use Rattle.tag_board.proofs.Moves.{Moves, get_moves, shallow_moves, reserved_moves, batch_moves, names_answer, names_run}
 use Rattle.tag_board.proofs.Seats.{changes, part_here}
@@ -78,13 +78,8 @@ module _ {R : Type 0} (tags : Tags R) (hands : List (Hand R)) (old new : Hand R)
   -- no answer wins no tag
   none_won : Moves (won Ordinary (is_in_run None) 0) old old
   none_won = record {
-    part = λ j. record {
-      held = λ tag. sym (or_false (holds old tag)) j;
-      won = λ kind. sym (none_more old old Ordinary (part_of old).won kind) j;
-      back = (part_of old).back;
-      stands = (part_of old).stands;
-      round_robin = (part_of old).round_robin;
-    };
+    part = part_ext (part_of old) (won Ordinary (is_in_run None) 0 (part_of old)) (λ tag. sym (or_false (holds old tag)))
+        (λ kind. sym (none_more old old Ordinary (part_of old).won kind)) refl refl refl;
     number = refl;
   }
 

@@ -1,8 +1,8 @@
 //! Commands that list and count busy tags.
-ghost use Rattle.std.specs.Prelude.{IfOk};
+ghost use Rattle.std.specs.Prelude.{◌≡◌, IfOk};
 ghost use Rattle.tag_board.specs.Boards.{state_of, lones_of, IsCallerOf, IsAlone};
 ghost use Rattle.tag_board.specs.Lones.{LoneListsBusy, LoneShows, LoneDumps};
-ghost use Rattle.tag_board.specs.Looks.{ListsBusy, Shows, Dumps};
+ghost use Rattle.tag_board.specs.Looks.{ListsBusy, Shows, Dumps, depth_of};
 
 use crate::board::Board;
 use std::alloc::{AllocError, Global};
@@ -37,13 +37,19 @@ impl Board {
         ensures alone { IsAlone self.old
             → IfOk result (λ bytes. LoneDumps kind (lones_of self.old) bytes.items (lones_of self.new)) }
     {
-        let depth = match kind {
-            Kind::Ordinary => self.total - self.reserved,
-            Kind::Reserved => self.reserved,
-        };
+        let depth = self.depth(kind);
         let mut bytes = vec![in alloc; 0u8; depth.div_ceil(8) as usize]?;
         self.tags
             .dump(&mut self.hands[caller as usize], kind, &mut bytes);
         Ok(bytes)
+    }
+    // Returns the number of tags of a set.
+    fn depth(&self, kind: Kind) -> u32
+        ensures { result ≡ depth_of (state_of self.now) kind }
+    {
+        match kind {
+            Kind::Ordinary => self.total - self.reserved,
+            Kind::Reserved => self.reserved,
+        }
     }
 }

@@ -1,13 +1,12 @@
 -- The new list is filled whole, so its bits are those of the call; the loads change no part.
-use Rattle.std.proofs.Common.{◌≡◌, ℕ, List, length, ap, sym, ◌∙◌, subst, arith, set, length-set}
-use Rattle.std.proofs.lemmas.List.Elements.{All-set}
-use Rattle.tag_sets.specs.Hands.{IsHandOf}
+use Rattle.std.proofs.Common.{◌≡◌, ℕ, List, length, ap, sym, ◌∙◌, subst, arith, set}
 use Rattle.std.specs.Int.{div_ceil}
 use Rattle.tag_board.specs.Boards.{state_of, lones_of}
 use Rattle.tag_board.specs.Parts.{state_of_all, lones_of_all}
 use Rattle.tag_board.specs.Looks.{ListsBusy}
 use Rattle.tag_board.proofs.Moves.{look_moves, looks_moves, as_before}
-use Rattle.tag_board.proofs.Seats.{own_here, changes, ordered, same_state, held_here}
+use Rattle.tag_board.proofs.Seated.{seated}
+use Rattle.tag_board.proofs.Seats.{own_here, changes, same_state, held_here}
 use Rattle.tag_board.proofs.Lookings.{busy_there, whole_list}
 use Rattle.tag_board.specs.Lones.{LoneListsBusy}
 use Rattle.tag_board.proofs.Solitary.{lones_moved}
@@ -17,15 +16,11 @@ use Rattle.tag_board.proofs.board.Board.busy.Goals as goal
 pub invariant_of-self : goal.invariant_of-self
 invariant_of-self c =
     let b = c.args.self.now in let i : ℕ = c.args.caller in let old = c.index_mut.result.now in
-    let new = c.busy.new.hand in record {
-      own = All-set (IsHandOf b.tags) b.hands.items i new c.busy.ensures.hand b.own;
-      ordered = ordered b.tags b.hands.items i old new c.requires c.index_mut.ensures.value b.ordered
-          (let l = c.busy.ensures.lists in
-          (looks_moves old l.between new (look_moves old l.between _ _ _ l.first)
-          (look_moves l.between new _ _ _ l.second)).number);
-      every = length-set b.hands.items i new ∙ b.every;
-      sizes = b.sizes;
-    }
+    let new = c.busy.new.hand in
+    seated b i old new c.requires c.index_mut.ensures.value c.busy.ensures.hand
+    (let l = c.busy.ensures.lists in
+    (looks_moves old l.between new (look_moves old l.between _ _ _ l.first)
+    (look_moves l.between new _ _ _ l.second)).number)
 
 pub returns-clause-answers : goal.returns-clause-answers
 returns-clause-answers c =

@@ -1,8 +1,7 @@
 -- The call changes one hand, which loses the tag and counts it, so only its caller's part changes.
-use Rattle.std.proofs.Common.{sym, ◌≡◌, ℕ, ap, ◌∙◌, length-set, nat_eq, ◌<◌}
-use Rattle.std.proofs.lemmas.List.Elements.{All-set}
+use Rattle.std.proofs.Common.{sym, ◌≡◌, ℕ, ap, ◌∙◌, nat_eq, ◌<◌}
 use Rattle.std.proofs.lemmas.Result.{on_err_weaker}
-use Rattle.tag_sets.specs.Hands.{IsHandOf, reserved_of}
+use Rattle.tag_sets.specs.Hands.{reserved_of}
 use Rattle.tag_board.specs.Boards.{state_of}
 use Rattle.tag_board.specs.Parts.{state_of_all}
 use Rattle.tag_board.specs.Refusals.{RefusesTag}
@@ -10,7 +9,8 @@ use Rattle.tag_board.specs.Replays.{Changes, cleared}
 use Rattle.tag_board.proofs.Moves.{clear_moves, same_number, none_woken}
 use Rattle.tag_board.proofs.Outcomes.{both_ok, ok_only}
 use Rattle.tag_board.proofs.Verdicts.{answers, tag_verdict}
-use Rattle.tag_board.proofs.Seats.{own_here, changes, ordered, unmoved, held_here, none_here}
+use Rattle.tag_board.proofs.Seated.{seated}
+use Rattle.tag_board.proofs.Seats.{own_here, changes, unmoved, held_here, none_here}
 use Rattle.tag_board.specs.Lones.{LoneClears}
 use Rattle.tag_board.proofs.Outcomes.{ok_map}
 use Rattle.tag_board.proofs.Solitary.{does_moved}
@@ -20,17 +20,13 @@ use Rattle.tag_board.proofs.board.Board.clear.Goals as goal
 pub invariant_of-self : goal.invariant_of-self
 invariant_of-self c =
     let b = c.args.self.now in let i : ℕ = c.args.caller in let old = c.index_mut.result.now in
-    let new = c.clear.new.hand in record {
-      own = All-set (IsHandOf b.tags) b.hands.items i new c.clear.ensures.hand b.own;
-      ordered = ordered b.tags b.hands.items i old new c.requires c.index_mut.ensures.value b.ordered
-          (same_number old new c.clear.result (ok_only _ c.clear.result
-          (both_ok c.clear.result c.clear.ensures.clears c.clear.ensures.counts
-          (λ woken p q. (clear_moves old new b.tags c.args.tag woken
-          (own_here b.tags b.hands.items i old c.requires c.index_mut.ensures.value b.own).2 p q).number)))
-          c.clear.ensures.err);
-      every = length-set b.hands.items i new ∙ b.every;
-      sizes = b.sizes;
-    }
+    let new = c.clear.new.hand in
+    seated b i old new c.requires c.index_mut.ensures.value c.clear.ensures.hand
+    (same_number old new c.clear.result (ok_only _ c.clear.result
+    (both_ok c.clear.result c.clear.ensures.clears c.clear.ensures.counts
+    (λ woken p q. (clear_moves old new b.tags c.args.tag woken
+    (own_here b.tags b.hands.items i old c.requires c.index_mut.ensures.value b.own).2 p q).number)))
+    c.clear.ensures.err)
 
 pub returns-clause-answers : goal.returns-clause-answers
 returns-clause-answers c =

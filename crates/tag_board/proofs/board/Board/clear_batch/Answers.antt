@@ -1,8 +1,6 @@
 -- The call changes one hand, which loses the listed tags and counts them, so only its caller's part changes.
-use Rattle.std.proofs.Common.{sym, ℕ, length, ap, ◌∙◌, length-set}
-use Rattle.std.proofs.lemmas.List.Elements.{All-set}
+use Rattle.std.proofs.Common.{sym, ℕ, length, ap, ◌∙◌}
 use Rattle.std.proofs.lemmas.Result.{on_err_weaker}
-use Rattle.tag_sets.specs.Hands.{IsHandOf}
 use Rattle.tag_board.specs.Boards.{state_of}
 use Rattle.tag_board.specs.Parts.{state_of_all}
 use Rattle.tag_board.specs.Refusals.{RefusesList}
@@ -10,7 +8,8 @@ use Rattle.tag_board.specs.Replays.{Changes, cleared, is_in_list}
 use Rattle.tag_board.proofs.Moves.{list_moves, same_number}
 use Rattle.tag_board.proofs.Outcomes.{on_map, both_ok, both_on, ok_only}
 use Rattle.tag_board.proofs.Verdicts.{answers, list_verdict}
-use Rattle.tag_board.proofs.Seats.{own_here, changes, ordered, unmoved, held_here, here_held}
+use Rattle.tag_board.proofs.Seated.{seated}
+use Rattle.tag_board.proofs.Seats.{own_here, changes, unmoved, held_here, here_held}
 use Rattle.tag_board.specs.Lones.{LoneClearsList}
 use Rattle.tag_board.proofs.Solitary.{does_moved}
 use Rattle.tag_board.proofs.SoloSets.{list_alone}
@@ -19,17 +18,13 @@ use Rattle.tag_board.proofs.board.Board.clear_batch.Goals as goal
 pub invariant_of-self : goal.invariant_of-self
 invariant_of-self c =
     let b = c.args.self.now in let i : ℕ = c.args.caller in let old = c.index_mut.result.now in
-    let new = c.clear_batch.new.hand in record {
-      own = All-set (IsHandOf b.tags) b.hands.items i new c.clear_batch.ensures.hand b.own;
-      ordered = ordered b.tags b.hands.items i old new c.requires c.index_mut.ensures.value b.ordered
-          (same_number old new c.clear_batch.result (ok_only _ c.clear_batch.result (both_ok c.clear_batch.result
-          (both_on _ _ c.clear_batch.result c.clear_batch.ensures.gives c.clear_batch.ensures.back)
-          c.clear_batch.ensures.counts
-          (λ woken p q. (list_moves old new b.tags c.args.tags.now woken p.0 p.1 q).number)))
-          c.clear_batch.ensures.err);
-      every = length-set b.hands.items i new ∙ b.every;
-      sizes = b.sizes;
-    }
+    let new = c.clear_batch.new.hand in
+    seated b i old new c.requires c.index_mut.ensures.value c.clear_batch.ensures.hand
+    (same_number old new c.clear_batch.result (ok_only _ c.clear_batch.result (both_ok c.clear_batch.result
+    (both_on _ _ c.clear_batch.result c.clear_batch.ensures.gives c.clear_batch.ensures.back)
+    c.clear_batch.ensures.counts
+    (λ woken p q. (list_moves old new b.tags c.args.tags.now woken p.0 p.1 q).number)))
+    c.clear_batch.ensures.err)
 
 pub returns-clause-answers : goal.returns-clause-answers
 returns-clause-answers c =

@@ -1,37 +1,30 @@
 -- The tag was not held by its caller before, and no other caller holds it now, so no caller held it.
-use Rattle.std.proofs.Common.{ℕ, Option, Ok, refl, sym, ◌∙◌, subst, set, length-set}
-use Rattle.std.proofs.lemmas.List.Elements.{All-set}
+use Rattle.std.proofs.Common.{ℕ, Option, Ok, refl, sym, ◌∙◌, subst}
 use Rattle.tag_search.specs.Gains.{count_of}
 use Rattle.tag_sets.specs.declared.kind.Kind.TheVariants.{Ordinary}
-use Rattle.tag_sets.specs.Hands.{IsHandOf}
 use Rattle.tag_board.specs.declared.board.Board.{Board}
 use Rattle.tag_board.specs.Boards.{state_of, lones_of}
 use Rattle.tag_board.specs.Lones.{Does, LoneGets, plain}
-use Rattle.tag_board.specs.Parts.{state_of_all}
 use Rattle.tag_board.specs.Refusals.{RefusesGet}
-use Rattle.tag_board.specs.Replays.{Gets, Wins, is_answer}
-use Rattle.tag_board.specs.States.{State}
+use Rattle.tag_board.specs.Replays.{Gets, is_answer}
 use Rattle.tag_board.proofs.Moves.{get_moves, same_number}
 use Rattle.tag_board.proofs.Outcomes.{ok_map, ok_only, err_same}
-use Rattle.tag_board.proofs.Verdicts.{answers, get_verdict}
-use Rattle.tag_board.proofs.Seats.{own_here, ordered, spent_here}
+use Rattle.tag_board.proofs.Verdicts.{get_verdict}
+use Rattle.tag_board.proofs.Seated.{seated, got}
+use Rattle.tag_board.proofs.Seats.{own_here, spent_here}
 use Rattle.tag_board.proofs.Solitary.{lones_moved, get_alone}
-use Rattle.tag_board.proofs.Winnings.{get_wins, holds_wins, wins}
+use Rattle.tag_board.proofs.Winnings.{get_wins, holds_wins}
 use Rattle.tag_board.proofs.board.Board.get.Goals as goal
 
 pub invariant_of-self : goal.invariant_of-self
 invariant_of-self c =
     let b = c.args.self.now in let i : ℕ = c.args.caller in let old = c.index_mut.result.now in
     let new = c.get.new.hand in
-    let r = c.get.result in record {
-      own = All-set (IsHandOf b.tags) b.hands.items i new c.get.ensures.hand b.own;
-      ordered = ordered b.tags b.hands.items i old new c.requires c.index_mut.ensures.value b.ordered
-          (same_number old new r (ok_only _ r (ok_map r c.get.ensures.gets
-          (λ answer g. (get_moves old new b.tags answer g).number)))
-          (err_same _ _ r c.get.ensures.err));
-      every = length-set b.hands.items i new ∙ b.every;
-      sizes = b.sizes;
-    }
+    let r = c.get.result in
+    seated b i old new c.requires c.index_mut.ensures.value c.get.ensures.hand
+    (same_number old new r (ok_only _ r (ok_map r c.get.ensures.gets
+    (λ answer g. (get_moves old new b.tags answer g).number)))
+    (err_same _ _ r c.get.ensures.err))
 
 pub tell_free-requires-clause-held : goal.tell_free-requires-clause-held
 tell_free-requires-clause-held c =
@@ -44,19 +37,14 @@ tell_free-requires-clause-held c =
 pub returns-clause-answers : goal.returns-clause-answers
 returns-clause-answers c =
     let b = c.args.self.now in let i : ℕ = c.args.caller in let old = c.index_mut.result.now in
-    let new = c.get.new.hand in
-    let hands = b.hands.items in let here = c.index_mut.ensures.value in let s = state_of b in
-    let a : Option ℕ = c.in_ok-answer.answer in
-    let own = own_here b.tags hands i old c.requires here b.own in let e = c.in_ok-answer.ensures in
-    let t : State = state_of_all b.tags (set hands i new) in
-    subst (λ (x : Board). Gets Ordinary i s (Ok a) (state_of x)) (sym c.tell_free.ensures.same)
-    (answers (RefusesGet s i Ordinary) (λ (o : Option ℕ). Wins i Ordinary (is_answer o) (count_of o) s t) s t (Ok a)
-    (get_verdict s i (Ok a)
-    (λ spent. absurd (spent_here b.tags hands i old c.requires here own Ordinary 1 spent (e.room.0 refl)))
-    (λ unspent. refl))
-    (wins b.tags hands i old new c.requires here Ordinary (is_answer a) (count_of a)
-    (get_wins b.tags hands old new a e.gets) c.tell_free.ensures.alone)
-    tt)
+    let new = c.get.new.hand in let here = c.index_mut.ensures.value in let a : Option ℕ = c.in_ok-answer.answer in
+    let own = own_here b.tags b.hands.items i old c.requires here b.own in let e = c.in_ok-answer.ensures in
+    subst (λ (x : Board). Gets Ordinary i (state_of b) (Ok a) (state_of x)) (sym c.tell_free.ensures.same)
+    (got b i old new c.requires here Ordinary (RefusesGet (state_of b) i Ordinary) a
+    (get_wins b.tags b.hands.items old new a e.gets) c.tell_free.ensures.alone
+    (get_verdict (state_of b) i (Ok a)
+    (λ spent. absurd (spent_here b.tags b.hands.items i old c.requires here own Ordinary 1 spent (e.room.0 refl)))
+    (λ unspent. refl)))
 
 pub returns-clause-alone : goal.returns-clause-alone
 returns-clause-alone c = λ one.

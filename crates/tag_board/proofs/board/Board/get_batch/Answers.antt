@@ -1,9 +1,7 @@
 -- The tags were not held by their caller before, and no other caller holds one now, so no caller held one.
-use Rattle.std.proofs.Common.{◌≡◌, ℕ, true, Option, None, Ok, refl, sym, ◌∙◌, subst, set, length-set}
-use Rattle.std.proofs.lemmas.List.Elements.{All-set}
+use Rattle.std.proofs.Common.{◌≡◌, ℕ, true, Option, None, Ok, refl, sym, ◌∙◌, subst, set}
 use Rattle.tag_search.specs.Gains.{count_of_run}
 use Rattle.tag_sets.specs.declared.kind.Kind.TheVariants.{Ordinary}
-use Rattle.tag_sets.specs.Hands.{IsHandOf}
 use Rattle.tag_board.specs.declared.board.Board.{Board}
 use Rattle.tag_board.specs.Boards.{state_of, lones_of}
 use Rattle.tag_board.specs.Lones.{Does, LoneBatch}
@@ -13,7 +11,8 @@ use Rattle.tag_board.specs.Replays.{GetsBatch, Wins, is_in_run}
 use Rattle.tag_board.specs.States.{State}
 use Rattle.tag_board.proofs.Moves.{same_number}
 use Rattle.tag_board.proofs.Verdicts.{answers, batch_verdict}
-use Rattle.tag_board.proofs.Seats.{own_here, ordered, spent_here, room_here, round_here}
+use Rattle.tag_board.proofs.Seated.{seated}
+use Rattle.tag_board.proofs.Seats.{own_here, spent_here, room_here, round_here}
 use Rattle.tag_board.proofs.Solitary.{lones_moved, batch_alone}
 use Rattle.tag_board.proofs.Winnings.{none_around, batch_of_answer, batch_number, holds_wins, wins}
 use Rattle.tag_board.proofs.board.Board.get_batch.Goals as goal
@@ -22,15 +21,11 @@ pub invariant_of-self : goal.invariant_of-self
 invariant_of-self c =
     let b = c.args.self.now in let i : ℕ = c.args.caller in let old = c.index_mut.result.now in
     let new = c.get_batch.new.hand in
-    let r = c.get_batch.result in record {
-      own = All-set (IsHandOf b.tags) b.hands.items i new c.get_batch.ensures.hand b.own;
-      ordered = ordered b.tags b.hands.items i old new c.requires c.index_mut.ensures.value b.ordered
-          (same_number old new r (batch_number b.tags old new c.args.n r c.get_batch.ensures.bad_count
-          c.get_batch.ensures.round_robin c.get_batch.ensures.gets)
-          c.get_batch.ensures.err);
-      every = length-set b.hands.items i new ∙ b.every;
-      sizes = b.sizes;
-    }
+    let r = c.get_batch.result in
+    seated b i old new c.requires c.index_mut.ensures.value c.get_batch.ensures.hand
+    (same_number old new r (batch_number b.tags old new c.args.n r c.get_batch.ensures.bad_count
+    c.get_batch.ensures.round_robin c.get_batch.ensures.gets)
+    c.get_batch.ensures.err)
 
 pub tell_run_free-requires-clause-held : goal.tell_run_free-requires-clause-held
 tell_run_free-requires-clause-held c =

@@ -1,37 +1,30 @@
 -- The tag was not held by its caller before, and no other caller holds it now, so no caller held it.
-use Rattle.std.proofs.Common.{ℕ, Option, Ok, sym, ◌∙◌, subst, set, length-set}
-use Rattle.std.proofs.lemmas.List.Elements.{All-set}
+use Rattle.std.proofs.Common.{ℕ, Option, Ok, sym, ◌∙◌, subst}
 use Rattle.tag_search.specs.Gains.{count_of}
 use Rattle.tag_sets.specs.declared.kind.Kind.TheVariants.{Reserved}
-use Rattle.tag_sets.specs.Hands.{IsHandOf}
 use Rattle.tag_board.specs.declared.board.Board.{Board}
 use Rattle.tag_board.specs.Boards.{state_of, lones_of}
 use Rattle.tag_board.specs.Lones.{Does, LoneGets, plain}
-use Rattle.tag_board.specs.Parts.{state_of_all}
 use Rattle.tag_board.specs.Refusals.{RefusesGet}
-use Rattle.tag_board.specs.Replays.{Gets, Wins, is_answer}
-use Rattle.tag_board.specs.States.{State}
+use Rattle.tag_board.specs.Replays.{Gets, is_answer}
 use Rattle.tag_board.proofs.Moves.{reserved_moves, same_number}
 use Rattle.tag_board.proofs.Outcomes.{ok_map, ok_only}
-use Rattle.tag_board.proofs.Verdicts.{answers, reserved_verdict}
-use Rattle.tag_board.proofs.Seats.{own_here, ordered, spent_here, room_here}
+use Rattle.tag_board.proofs.Verdicts.{reserved_verdict}
+use Rattle.tag_board.proofs.Seated.{seated, got}
+use Rattle.tag_board.proofs.Seats.{own_here, spent_here, room_here}
 use Rattle.tag_board.proofs.Solitary.{lones_moved, reserved_alone}
-use Rattle.tag_board.proofs.Winnings.{reserved_wins, holds_wins, wins}
+use Rattle.tag_board.proofs.Winnings.{reserved_wins, holds_wins}
 use Rattle.tag_board.proofs.board.Board.get_reserved.Goals as goal
 
 pub invariant_of-self : goal.invariant_of-self
 invariant_of-self c =
     let b = c.args.self.now in let i : ℕ = c.args.caller in let old = c.index_mut.result.now in
     let new = c.get_reserved.new.hand in
-    let r = c.get_reserved.result in record {
-      own = All-set (IsHandOf b.tags) b.hands.items i new c.get_reserved.ensures.hand b.own;
-      ordered = ordered b.tags b.hands.items i old new c.requires c.index_mut.ensures.value b.ordered
-          (same_number old new r (ok_only _ r (ok_map r c.get_reserved.ensures.gets
-          (λ answer g. (reserved_moves old new b.tags answer g).number)))
-          c.get_reserved.ensures.err);
-      every = length-set b.hands.items i new ∙ b.every;
-      sizes = b.sizes;
-    }
+    let r = c.get_reserved.result in
+    seated b i old new c.requires c.index_mut.ensures.value c.get_reserved.ensures.hand
+    (same_number old new r (ok_only _ r (ok_map r c.get_reserved.ensures.gets
+    (λ answer g. (reserved_moves old new b.tags answer g).number)))
+    c.get_reserved.ensures.err)
 
 pub tell_free-requires-clause-held : goal.tell_free-requires-clause-held
 tell_free-requires-clause-held c =
@@ -44,19 +37,17 @@ tell_free-requires-clause-held c =
 pub returns-clause-answers : goal.returns-clause-answers
 returns-clause-answers c =
     let b = c.args.self.now in let i : ℕ = c.args.caller in let old = c.index_mut.result.now in
-    let new = c.get_reserved.new.hand in
-    let hands = b.hands.items in let here = c.index_mut.ensures.value in let s = state_of b in
-    let a : Option ℕ = c.in_ok-answer.answer in
-    let own = own_here b.tags hands i old c.requires here b.own in let e = c.in_ok-answer.ensures in
-    let t : State = state_of_all b.tags (set hands i new) in
-    subst (λ (x : Board). Gets Reserved i s (Ok a) (state_of x)) (sym c.tell_free.ensures.same)
-    (answers (RefusesGet s i Reserved) (λ (o : Option ℕ). Wins i Reserved (is_answer o) (count_of o) s t) s t (Ok a)
-    (reserved_verdict s i (Ok a) e.no_reserved.1
-    (λ some spent. e.spent.1 (some, spent_here b.tags hands i old c.requires here own Reserved 1 spent))
-    (λ some unspent. e.succeeds.1 (some, room_here b.tags hands i old c.requires here own Reserved 1 unspent)))
-    (wins b.tags hands i old new c.requires here Reserved (is_answer a) (count_of a)
-    (reserved_wins b.tags hands old new a e.gets) c.tell_free.ensures.alone)
-    tt)
+    let new = c.get_reserved.new.hand in let here = c.index_mut.ensures.value in let a : Option ℕ = c.in_ok-answer.answer in
+    let own = own_here b.tags b.hands.items i old c.requires here b.own in let e = c.in_ok-answer.ensures in
+    subst (λ (x : Board). Gets Reserved i (state_of b) (Ok a) (state_of x)) (sym c.tell_free.ensures.same)
+    (got b i old new c.requires here Reserved (RefusesGet (state_of b) i Reserved) a
+    (reserved_wins b.tags b.hands.items old new a e.gets) c.tell_free.ensures.alone
+    (reserved_verdict (state_of b) i (Ok a) e.no_reserved.1
+    (λ some spent. e.spent.1 (some, spent_here b.tags b.hands.items i old c.requires here own Reserved 1 spent))
+    (λ some unspent. e.succeeds.1 (
+      some,
+      room_here b.tags b.hands.items i old c.requires here own Reserved 1 unspent,
+    ))))
 
 pub returns-clause-alone : goal.returns-clause-alone
 returns-clause-alone c = λ one.

@@ -1,8 +1,7 @@
 -- The call changes one hand, which is then in no group, so only its caller's part changes.
-use Rattle.std.proofs.Common.{◌≡◌, ℕ, ap, ◌∙◌, length-set, false}
-use Rattle.std.proofs.lemmas.List.Elements.{All-set}
+use Rattle.std.proofs.Common.{◌≡◌, ℕ, ap, ◌∙◌, false}
 use Rattle.std.proofs.lemmas.Result.{on_err_weaker}
-use Rattle.tag_sets.specs.Hands.{IsHandOf, standing_of}
+use Rattle.tag_sets.specs.Hands.{standing_of}
 use Rattle.wake_book.specs.declared.waiting.Left.{Left}
 use Rattle.tag_board.specs.Boards.{state_of}
 use Rattle.tag_board.specs.Parts.{state_of_all}
@@ -11,7 +10,8 @@ use Rattle.tag_board.specs.Replays.{Changes, standing}
 use Rattle.tag_board.proofs.Moves.{leave_moves, same_number}
 use Rattle.tag_board.proofs.Outcomes.{ok_map, ok_only, err_same, err_since, not_some_since}
 use Rattle.tag_board.proofs.Verdicts.{answers, leave_verdict}
-use Rattle.tag_board.proofs.Seats.{changes, ordered, unmoved, stands_here}
+use Rattle.tag_board.proofs.Seated.{seated}
+use Rattle.tag_board.proofs.Seats.{changes, unmoved, stands_here}
 use Rattle.tag_board.proofs.Solitary.{lones_moved}
 use Rattle.tag_board.proofs.SoloSets.{leave_alone}
 use Rattle.tag_board.specs.Parts.{lones_in}
@@ -21,16 +21,12 @@ use Rattle.tag_board.proofs.board.Board.leave.Goals as goal
 pub invariant_of-self : goal.invariant_of-self
 invariant_of-self g c =
     let b = c.args.self.now in let i : ℕ = c.args.caller in let old = c.index_mut.result.now in
-    let new = c.finish_wait.new.hand in record {
-      own = All-set (IsHandOf b.tags) b.hands.items i new c.finish_wait.ensures.hand b.own;
-      ordered = ordered b.tags b.hands.items i old new c.requires c.index_mut.ensures.value b.ordered
-          (same_number old new c.finish_wait.result
-          (ok_only _ c.finish_wait.result (ok_map c.finish_wait.result c.finish_wait.ensures.leaves
-          (λ left l. (leave_moves old new left l c.finish_wait.ensures.out).number)))
-          (err_same _ _ c.finish_wait.result c.finish_wait.ensures.err));
-      every = length-set b.hands.items i new ∙ b.every;
-      sizes = b.sizes;
-    }
+    let new = c.finish_wait.new.hand in
+    seated b i old new c.requires c.index_mut.ensures.value c.finish_wait.ensures.hand
+    (same_number old new c.finish_wait.result
+    (ok_only _ c.finish_wait.result (ok_map c.finish_wait.result c.finish_wait.ensures.leaves
+    (λ left l. (leave_moves old new left l c.finish_wait.ensures.out).number)))
+    (err_same _ _ c.finish_wait.result c.finish_wait.ensures.err))
 
 pub returns-clause-answers : goal.returns-clause-answers
 returns-clause-answers g c =

@@ -1,15 +1,14 @@
 -- The call changes one hand, which loses the tag and counts nothing, so only its caller's part changes.
-use Rattle.std.proofs.Common.{ℕ, nat_eq, ap, sym, ◌∙◌, length-set}
-use Rattle.std.proofs.lemmas.List.Elements.{All-set}
+use Rattle.std.proofs.Common.{ℕ, nat_eq, ap, sym, ◌∙◌}
 use Rattle.std.proofs.lemmas.Result.{on_ok_weaker, on_err_weaker}
-use Rattle.tag_sets.specs.Hands.{IsHandOf}
 use Rattle.tag_board.specs.Boards.{state_of}
 use Rattle.tag_board.specs.Parts.{state_of_all}
 use Rattle.tag_board.specs.Refusals.{RefusesTag}
 use Rattle.tag_board.specs.Replays.{Changes, left}
 use Rattle.tag_board.proofs.Moves.{post_moves, same_number}
 use Rattle.tag_board.proofs.Verdicts.{answers, tag_verdict}
-use Rattle.tag_board.proofs.Seats.{own_here, changes, ordered, unmoved, held_here, none_here}
+use Rattle.tag_board.proofs.Seated.{seated}
+use Rattle.tag_board.proofs.Seats.{own_here, changes, unmoved, held_here, none_here}
 use Rattle.tag_board.specs.Lones.{LonePosts}
 use Rattle.tag_board.proofs.Outcomes.{on_map}
 use Rattle.tag_board.proofs.Solitary.{does_moved}
@@ -18,16 +17,10 @@ use Rattle.tag_board.proofs.board.Board.post.Goals as goal
 
 pub invariant_of-self : goal.invariant_of-self
 invariant_of-self c =
-    let b = c.args.self.now in let i : ℕ = c.args.caller in let old = c.index_mut.result.now in
-    let new = c.post.new.hand in record {
-      own = All-set (IsHandOf b.tags) b.hands.items i new c.post.ensures.hand b.own;
-      ordered = ordered b.tags b.hands.items i old new c.requires c.index_mut.ensures.value b.ordered
-          (same_number old new c.post.result (on_ok_weaker c.post.result (λ p. (post_moves old new c.args.tag p).number)
-          c.post.ensures.posts)
-          c.post.ensures.err);
-      every = length-set b.hands.items i new ∙ b.every;
-      sizes = b.sizes;
-    }
+    let old = c.index_mut.result.now in let new = c.post.new.hand in
+    seated c.args.self.now c.args.caller old new c.requires c.index_mut.ensures.value c.post.ensures.hand
+    (same_number old new c.post.result (on_ok_weaker c.post.result (λ p. (post_moves old new c.args.tag p).number)
+    c.post.ensures.posts) c.post.ensures.err)
 
 pub returns-clause-answers : goal.returns-clause-answers
 returns-clause-answers c =

@@ -1,10 +1,9 @@
 -- The sizes are those of the set, and the loads change no part.
-use Rattle.std.proofs.Common.{ℕ, ap, sym, ◌∙◌, length-set}
-use Rattle.std.proofs.lemmas.List.Elements.{All-set}
-use Rattle.tag_sets.specs.Hands.{IsHandOf}
+use Rattle.std.proofs.Common.{ℕ, ap, sym, ◌∙◌}
 use Rattle.tag_board.specs.Boards.{state_of}
 use Rattle.tag_board.proofs.Moves.{look_moves, as_before}
-use Rattle.tag_board.proofs.Seats.{own_here, changes, ordered, same_state}
+use Rattle.tag_board.proofs.Seated.{seated}
+use Rattle.tag_board.proofs.Seats.{own_here, changes, same_state}
 use Rattle.tag_board.proofs.Lookings.{show_depth, show_words, show_few}
 use Rattle.tag_board.specs.Lones.{LoneShows}
 use Rattle.tag_board.proofs.Solitary.{lones_moved}
@@ -14,13 +13,9 @@ use Rattle.tag_board.proofs.board.Board.show.Goals as goal
 pub invariant_of-self : goal.invariant_of-self
 invariant_of-self c =
     let b = c.args.self.now in let i : ℕ = c.args.caller in let old = c.index_mut.result.now in
-    let new = c.show.new.hand in record {
-      own = All-set (IsHandOf b.tags) b.hands.items i new c.show.ensures.hand b.own;
-      ordered = ordered b.tags b.hands.items i old new c.requires c.index_mut.ensures.value b.ordered
-          ((look_moves old new _ _ _ c.show.ensures.shows.around).number);
-      every = length-set b.hands.items i new ∙ b.every;
-      sizes = b.sizes;
-    }
+    let new = c.show.new.hand in
+    seated b i old new c.requires c.index_mut.ensures.value c.show.ensures.hand
+    ((look_moves old new _ _ _ c.show.ensures.shows.around).number)
 
 pub returns-clause-answers : goal.returns-clause-answers
 returns-clause-answers c =

@@ -1,14 +1,13 @@
 -- The tag was not held by its caller before, and no other caller holds it now, so no caller held it.
-use Rattle.std.proofs.Common.{rules, ◌≡◌, ℕ, nat_eq, Ok, Err, IfErr, refl, sym, ap, ◌∙◌, subst, length-set, eq-eqb, eqb-true}
-use Rattle.std.proofs.lemmas.List.Elements.{All-set}
-use Rattle.tag_sets.specs.Hands.{IsHandOf}
+use Rattle.std.proofs.Common.{rules, ◌≡◌, ℕ, nat_eq, Ok, Err, IfErr, refl, sym, ap, ◌∙◌, subst, eq-eqb, eqb-true}
 use Rattle.tag_board.specs.declared.board.Board.{Board}
 use Rattle.tag_board.specs.Boards.{state_of, lones_of}
 use Rattle.tag_board.specs.Replays.{Takes, joined}
 use Rattle.tag_board.proofs.Moves.{take_moves, names_one}
 use Rattle.tag_board.proofs.Passings.{take_number, missed_state, cause_of_take, refused_take, lone_refused}
 use Rattle.tag_board.proofs.Ranges.{tag_low}
-use Rattle.tag_board.proofs.Seats.{own_here, changes, ordered}
+use Rattle.tag_board.proofs.Seated.{seated}
+use Rattle.tag_board.proofs.Seats.{own_here, changes}
 use Rattle.tag_board.proofs.Winnings.{holds_won, free_before}
 use Rattle.tag_board.specs.Lones.{LoneTakes}
 use Rattle.tag_board.proofs.Solitary.{lones_moved}
@@ -18,13 +17,9 @@ use Rattle.tag_board.proofs.board.Board.take.Goals as goal
 pub invariant_of-self : goal.invariant_of-self
 invariant_of-self c =
     let b = c.args.self.now in let i : ℕ = c.args.caller in let old = c.index_mut.result.now in
-    let new = c.take.new.hand in record {
-      own = All-set (IsHandOf b.tags) b.hands.items i new c.take.ensures.hand b.own;
-      ordered = ordered b.tags b.hands.items i old new c.requires c.index_mut.ensures.value b.ordered
-          (take_number old new c.args.tag c.take.result c.take.ensures.takes c.take.ensures.refuses);
-      every = length-set b.hands.items i new ∙ b.every;
-      sizes = b.sizes;
-    }
+    let new = c.take.new.hand in
+    seated b i old new c.requires c.index_mut.ensures.value c.take.ensures.hand
+    (take_number old new c.args.tag c.take.result c.take.ensures.takes c.take.ensures.refuses)
 
 pub tell_free-requires-clause-held : goal.tell_free-requires-clause-held
 tell_free-requires-clause-held c = λ other named.

@@ -1,8 +1,7 @@
 -- The call changes one hand, which is then in a group, so only its caller's part changes.
-use Rattle.std.proofs.Common.{◌≡◌, ℕ, ap, ◌∙◌, length-set, ◌<◌, true}
-use Rattle.std.proofs.lemmas.List.Elements.{All-set}
+use Rattle.std.proofs.Common.{◌≡◌, ℕ, ap, ◌∙◌, ◌<◌, true}
 use Rattle.std.proofs.lemmas.Result.{on_err_weaker}
-use Rattle.tag_sets.specs.Hands.{IsHandOf, standing_of}
+use Rattle.tag_sets.specs.Hands.{standing_of}
 use Rattle.tag_board.specs.Boards.{state_of}
 use Rattle.tag_board.specs.Parts.{state_of_all}
 use Rattle.tag_board.specs.Refusals.{RefusesWait}
@@ -10,7 +9,8 @@ use Rattle.tag_board.specs.Replays.{Changes, standing}
 use Rattle.tag_board.proofs.Moves.{wait_moves, low_group, same_number}
 use Rattle.tag_board.proofs.Outcomes.{ok_map, ok_only, err_same, err_since, none_since, some_since}
 use Rattle.tag_board.proofs.Verdicts.{answers, wait_verdict}
-use Rattle.tag_board.proofs.Seats.{changes, ordered, unmoved, stands_here}
+use Rattle.tag_board.proofs.Seated.{seated}
+use Rattle.tag_board.proofs.Seats.{changes, unmoved, stands_here}
 use Rattle.tag_board.proofs.Solitary.{lones_moved}
 use Rattle.tag_board.proofs.SoloSets.{enter_alone}
 use Rattle.tag_board.specs.Parts.{lones_in}
@@ -20,16 +20,12 @@ use Rattle.tag_board.proofs.board.Board.wait.Goals as goal
 pub invariant_of-self : goal.invariant_of-self
 invariant_of-self c =
     let b = c.args.self.now in let i : ℕ = c.args.caller in let old = c.index_mut.result.now in
-    let new = c.prepare_wait.new.hand in record {
-      own = All-set (IsHandOf b.tags) b.hands.items i new c.prepare_wait.ensures.hand b.own;
-      ordered = ordered b.tags b.hands.items i old new c.requires c.index_mut.ensures.value b.ordered
-          (same_number old new c.prepare_wait.result
-          (ok_only _ c.prepare_wait.result (ok_map c.prepare_wait.result c.prepare_wait.ensures.enters
-          (λ group e. (wait_moves old new group e).number)))
-          (err_same _ _ c.prepare_wait.result c.prepare_wait.ensures.err));
-      every = length-set b.hands.items i new ∙ b.every;
-      sizes = b.sizes;
-    }
+    let new = c.prepare_wait.new.hand in
+    seated b i old new c.requires c.index_mut.ensures.value c.prepare_wait.ensures.hand
+    (same_number old new c.prepare_wait.result
+    (ok_only _ c.prepare_wait.result (ok_map c.prepare_wait.result c.prepare_wait.ensures.enters
+    (λ group e. (wait_moves old new group e).number)))
+    (err_same _ _ c.prepare_wait.result c.prepare_wait.ensures.err))
 
 pub returns-clause-answers : goal.returns-clause-answers
 returns-clause-answers c =

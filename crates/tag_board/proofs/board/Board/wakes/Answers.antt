@@ -1,10 +1,9 @@
 -- The call adds loads to the caller's lists, and no part depends on these.
-use Rattle.std.proofs.Common.{◌≡◌, ℕ, ◌∙◌, length-set}
-use Rattle.std.proofs.lemmas.List.Elements.{All-set}
-use Rattle.tag_sets.specs.Hands.{IsHandOf}
+use Rattle.std.proofs.Common.{◌≡◌, ℕ, ◌∙◌}
 use Rattle.tag_board.specs.Boards.{state_of}
 use Rattle.tag_board.proofs.Moves.{stay_moves, as_before}
-use Rattle.tag_board.proofs.Seats.{changes, ordered, same_state, stands_here}
+use Rattle.tag_board.proofs.Seated.{seated}
+use Rattle.tag_board.proofs.Seats.{changes, same_state, stands_here}
 use Rattle.tag_board.proofs.Solitary.{lones_moved}
 use Rattle.tag_board.proofs.SoloSets.{stay_alone}
 use Rattle.tag_board.proofs.board.Board.wakes.Goals as goal
@@ -12,13 +11,9 @@ use Rattle.tag_board.proofs.board.Board.wakes.Goals as goal
 pub invariant_of-self : goal.invariant_of-self
 invariant_of-self c =
     let b = c.args.self.now in let i : ℕ = c.args.caller in let old = c.index_mut.result.now in
-    let new = c.wakes.new.hand in record {
-      own = All-set (IsHandOf b.tags) b.hands.items i new c.wakes.ensures.hand b.own;
-      ordered = ordered b.tags b.hands.items i old new c.requires c.index_mut.ensures.value b.ordered
-          (stay_moves old new c.wakes.ensures.same).number;
-      every = length-set b.hands.items i new ∙ b.every;
-      sizes = b.sizes;
-    }
+    let new = c.wakes.new.hand in
+    seated b i old new c.requires c.index_mut.ensures.value c.wakes.ensures.hand
+    (stay_moves old new c.wakes.ensures.same).number
 
 pub returns-clause-active : goal.returns-clause-active
 returns-clause-active c =
