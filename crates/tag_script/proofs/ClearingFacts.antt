@@ -1,10 +1,10 @@
 -- Freeing tags one after another, with one mask for neighbours in the same word.
-use Rattle.std.proofs.Common.{◌≡◌, ◌≢◌, ℕ, zero, suc, ◌+◌, ◌^◌, ◌<◌, ◌≤◌, max, Bool, true, false, not, ◌&&◌, ◌||◌, nat_eq, nat_lt, List, [], length, take, get_or, bit_or, refl, sym, ap, ◌∙◌, eq-eqb, ne_eqb, subst, arith}
+use Rattle.std.proofs.Common.{◌≡◌, ◌≢◌, ℕ, zero, suc, ◌+◌, ◌^◌, ◌<◌, ◌≤◌, Bool, true, false, not, ◌&&◌, ◌||◌, nat_eq, nat_lt, List, [], length, take, get_or, bit_or, refl, sym, ap, ◌∙◌, eq-eqb, ne_eqb, subst, arith}
 use mathlib.Core.Logic.{dite}
 use native.Mathlib.Decide.{ℕ_discrete}
 use Rattle.std.specs.Int.{bit_at}
 use Rattle.std.specs.Prelude.{MatchBool}
-use Rattle.std.proofs.lemmas.Bool.{lt-ltb, false≢true}
+use Rattle.std.proofs.lemmas.Bool.{lt-ltb, false≢true, or_right}
 use Rattle.std.proofs.lemmas.List.Folds.{list_any_more, list_any_none}
 use Rattle.std.proofs.lemmas.Grind.{get_or_default_zero}
 use Rattle.std.proofs.lemmas.List.{length-take, get_or-take}
@@ -21,35 +21,23 @@ use Rattle.tag_script.specs.Solo.{freed, is_named}
 abbrev pub with_place : ℕ → ℕ → Pool → Pool
 with_place word place p = record p { free = λ other at. p.free other at || (nat_eq other word && nat_eq at place) }
 
-or_one : (t : Bool) (a b : ℕ) → a < 2 → b < 2 → (t && nat_eq (max a b) 1) ≡ ((t && nat_eq a 1) || (t && nat_eq b 1))
-or_one false a b h k = refl
-or_one true zero zero h k = refl
-or_one true zero (suc zero) h k = refl
-or_one true (suc zero) zero h k = refl
-or_one true (suc zero) (suc zero) h k = refl
-or_one true (suc (suc a)) b h k = absurd (omega arith)
-or_one true a (suc (suc b)) h k = absurd (omega arith)
-
--- the single one of a power of two
-bit_of_place : (place at : ℕ) → place < 64 → (nat_lt at 64 && nat_eq (bit_at (2 ^ place) at) 1) ≡ nat_eq at place
-bit_of_place place at low = dite (ℕ_discrete at place)
-    (λ (e : at ≡ place).
-    let set : bit_at (2 ^ place) at ≡ 1 = ap (bit_at (2 ^ place)) e ∙ bit_at-pow_same place in
-    let near : nat_lt at 64 ≡ true = ap (λ (x : ℕ). nat_lt x 64) e ∙ lt-ltb place 64 low in
-    ap (λ (b : Bool). b && nat_eq (bit_at (2 ^ place) at) 1) near ∙ eq-eqb (bit_at (2 ^ place) at) 1 set
-    ∙ sym (eq-eqb at place e))
-    (λ (ne : at ≢ place).
-    ap (λ (x : ℕ). nat_lt at 64 && nat_eq x 1) (bit_at-pow_other place at ne) ∙ and_false (nat_lt at 64)
-    ∙ sym (ne_eqb at place ne))
-
 -- a mask with one more place
 bits_more : (mask place at : ℕ) → place < 64
     → (nat_lt at 64 && nat_eq (bit_at (bit_or mask (2 ^ place)) at) 1)
     ≡ ((nat_lt at 64 && nat_eq (bit_at mask at) 1) || nat_eq at place)
 bits_more mask place at low =
-    ap (λ (x : ℕ). nat_lt at 64 && nat_eq x 1) (bit_at_or mask (2 ^ place) at)
-    ∙ or_one (nat_lt at 64) (bit_at mask at) (bit_at (2 ^ place) at) (bit_at-lt mask at) (bit_at-lt (2 ^ place) at)
-    ∙ ap (λ (b : Bool). (nat_lt at 64 && nat_eq (bit_at mask at) 1) || b) (bit_of_place place at low)
+    let both = bit_at_or mask (2 ^ place) at in let before = bit_at-lt mask at in
+    let was : Bool = nat_lt at 64 && nat_eq (bit_at mask at) 1 in dite (ℕ_discrete at place)
+    (λ (e : at ≡ place).
+    let set : bit_at (2 ^ place) at ≡ 1 = ap (bit_at (2 ^ place)) e ∙ bit_at-pow_same place in
+    let one : bit_at (bit_or mask (2 ^ place)) at ≡ 1 = omega arith in
+    ap (λ (b : Bool). b && nat_eq (bit_at (bit_or mask (2 ^ place)) at) 1) (lt-ltb at 64 (omega arith))
+    ∙ eq-eqb (bit_at (bit_or mask (2 ^ place)) at) 1 one ∙ sym (or_right was (nat_eq at place) (eq-eqb at place e)))
+    (λ (ne : at ≢ place).
+    let none = bit_at-pow_other place at ne in
+    let same : bit_at (bit_or mask (2 ^ place)) at ≡ bit_at mask at = omega arith in
+    ap (λ (x : ℕ). nat_lt at 64 && nat_eq x 1) same ∙ sym (or_false was)
+    ∙ ap (λ (b : Bool). was || b) (sym (ne_eqb at place ne)))
 
 either : (f t a b : Bool) → (f || (t && (a || b))) ≡ ((f || (t && a)) || (t && b))
 either true t a b = refl
@@ -76,13 +64,6 @@ free_more p word mask place low = pool_ext (free_at word (bit_or mask (2 ^ place
     ∙ ap (λ (b : Bool). (p.free other at || b) || (nat_eq other word && nat_eq at place))
     (sym (and_assoc (nat_eq other word) (nat_lt at 64) (nat_eq (bit_at mask at) 1)))) (λ other at. refl)
 
--- a mask of one place frees that place only
-pub free_one : (p : Pool) (word place : ℕ) → place < 64 → free_at word (2 ^ place) p ≡ with_place word place p
-free_one p word place low = pool_ext (free_at word (2 ^ place) p) (with_place word place p)
-    (λ other at. ap (λ (b : Bool). p.free other at || b)
-    (and_assoc (nat_eq other word) (nat_lt at 64) (nat_eq (bit_at (2 ^ place) at) 1))
-    ∙ ap (λ (b : Bool). p.free other at || (nat_eq other word && b)) (bit_of_place place at low)) (λ other at. refl)
-
 -- a mask of 0 frees no place
 pub free_none : (p : Pool) (word : ℕ) → free_at word 0 p ≡ p
 free_none p word = pool_ext (free_at word 0 p) p
@@ -92,6 +73,10 @@ free_none p word = pool_ext (free_at word 0 p) p
     ∙ ap (λ (b : Bool). p.free other at || (nat_eq other word && b)) (and_false (nat_lt at 64))
     ∙ ap (λ (b : Bool). p.free other at || b) (and_false (nat_eq other word)) ∙ or_false (p.free other at))
     (λ other at. refl)
+
+-- a mask of one place frees that place only
+pub free_one : (p : Pool) (word place : ℕ) → place < 64 → free_at word (2 ^ place) p ≡ with_place word place p
+free_one p word place low = free_more p word 0 place low ∙ ap (with_place word place) (free_none p word)
 
 -- an empty list frees nothing
 pub freed_none : (l : Layout) (p : Pool) → freed l [] p ≡ p

@@ -3,17 +3,13 @@ use Rattle.std.proofs.Common.{◌≡◌, ℕ, zero, suc, ◌+◌, ◌-◌, ◌*�
 use Rattle.std.specs.Int.{bit_at, bit_not, w64}
 use Rattle.std.proofs.lemmas.Bool.{eqb-true}
 use Rattle.std.proofs.lemmas.Nat.{and_le_l, and_le_r}
-use mathlib.Core.Logic.{dite}
-use native.Mathlib.Decide.{dec_lt}
-use Rattle.std.proofs.Math.Nat.{mul-le-mul_right}
-use Rattle.std.proofs.lemmas.Nat.Bits.{bit_at-zero, bit_at-lt, bit_at_and, bit_at_not, bit_at_above}
-use Rattle.tag_layout.specs.Layout.{Layout, word_bits, words, word_of, place_of, tag_at, word_depth}
-use Rattle.tag_layout.proofs.SumFacts.{sum_below-same, sum_below-split}
-use Rattle.tag_layout.proofs.PlaceFacts.{word-start, depth-le-words, word_of-tag_at, place_of-tag_at}
+use Rattle.std.proofs.lemmas.Nat.Bits.{bit_at-zero, bit_at-lt, bit_at_and, bit_at_not}
+use Rattle.tag_layout.specs.Layout.{word_bits, words, word_of, place_of, tag_at, word_depth}
+use Rattle.tag_layout.proofs.PlaceFacts.{word_of-tag_at, place_of-tag_at}
 use Rattle.tag_model.specs.Totals.{count_below}
-use Rattle.tag_model.proofs.MaskFacts.{sum_below-bits}
 use Rattle.tag_search.specs.Plain.{Plain, words_of}
 use Rattle.tag_search.specs.Pool.{pool_of, is_busy}
+use Rattle.tag_sets.proofs.Tallies.{aside_bits, count_word}
 
 -- a bit that is 1 and not aside
 busy_bits : (b a : ℕ) → b < 2 → a < 2 → cond (not (nat_eq b 0 || nat_eq a 1)) 1 0 ≡ min b (1 - a)
@@ -32,11 +28,6 @@ idle_bits (suc zero) (suc zero) h k e = refl
 idle_bits (suc zero) zero h k e = absurd (omega arith)
 idle_bits (suc (suc b)) a h k e = absurd (omega arith)
 idle_bits (suc zero) (suc (suc a)) h k e = absurd (omega arith)
-
-aside_bits : (a : ℕ) → a < 2 → cond (nat_eq a 1) 1 0 ≡ a
-aside_bits zero h = refl
-aside_bits (suc zero) h = refl
-aside_bits (suc (suc a)) h = absurd (omega arith)
 
 -- the bit of a place in the mask of the bits that are 1 and not aside
 busy_place : (n a u place : ℕ) → place < 64 → a < 2 ^ 64 → bit_at u place ≡ 1
@@ -76,24 +67,6 @@ idle_place p i place low fits none =
     ap (λ (x : ℕ). bit_at x place) none ∙ bit_at-zero place in
     ap (λ (t : Bool). not ((t && nat_eq (bit_at n place) 0) || (t && nat_eq (bit_at a place) 1))) below
     ∙ idle_bits (bit_at n place) (bit_at a place) (bit_at-lt n place) (bit_at-lt a place) (omega arith)
-
-module _ (l : Layout) (test : ℕ → Bool) where
-  -- the tags up to the end of a word that pass a test are those before the word, and the ones of the word's mask
-  pub count_word : (i mask : ℕ) → i < words l → mask < 2 ^ word_depth l i
-      → ((place : ℕ) → place < word_depth l i → cond (test (tag_at l i place)) 1 0 ≡ bit_at mask place)
-      → count_below test (min ((i + 1) * word_bits l) l.depth) ≡ count_below test (min (i * word_bits l) l.depth)
-      + count_ones mask
-  count_word i mask there within each =
-      let f : ℕ → ℕ = λ k. cond (test k) 1 0 in
-      let start = word-start l i there in
-      let more : (i + 1) * word_bits l ≡ i * word_bits l + word_bits l = omega arith in
-      let here : min (i * word_bits l) l.depth ≡ i * word_bits l = omega arith in
-      let next : min ((i + 1) * word_bits l) l.depth ≡ i * word_bits l + word_depth l i = omega arith in
-      let split = sum_below-split f (i * word_bits l) (word_depth l i) in
-      let same = sum_below-same (λ k. f (i * word_bits l + k)) (bit_at mask) (word_depth l i) each in
-      let ones = sum_below-bits (word_depth l i) mask within in
-      let before = ap (count_below test) here in
-      ap (count_below test) next ∙ omega arith
 
 module _ (p : Plain) (i u : ℕ) (there : i < words p.layout) (narrow : word_depth p.layout i ≤ 64)
     (usable : u + 1 ≡ 2 ^ word_depth p.layout i)
@@ -137,16 +110,3 @@ module _ (p : Plain) (i u : ℕ) (there : i < words p.layout) (narrow : word_dep
       ap (λ (x : ℕ). cond ((pool_of (words_of p)).aside x (place_of p.layout (tag_at p.layout i place))) 1 0) w
       ∙ ap (λ (x : ℕ). cond ((pool_of (words_of p)).aside i x) 1 0) k
       ∙ aside_place a u place (omega arith) (bits place h))
-
--- a mask of 64 bits has no more than 64 places
-pub narrow_word : (u depth : ℕ) → u < 2 ^ 64 → ((place : ℕ) → place < depth → bit_at u place ≡ 1) → depth ≤ 64
-narrow_word u depth fits bits = dite (dec_lt 64 depth)
-    (λ (h : 64 < depth). absurd (let one = bits 64 h in
-    let none = bit_at_above u 64 64 fits (omega arith) in omega arith))
-    (λ no. omega arith)
-
--- the tags of all words are all tags
-pub all_words : (l : Layout) (n : ℕ) → words l ≤ n → min (n * word_bits l) l.depth ≡ l.depth
-all_words l n h =
-    let room = depth-le-words l in let more : words l * word_bits l ≤ n * word_bits l =
-    mul-le-mul_right (word_bits l) h in omega arith

@@ -4,10 +4,12 @@ use Rattle.std.specs.Int.{bit_at, bit_not, w64}
 use Rattle.std.proofs.lemmas.Nat.{ones-le, and_le_l, and_le_r}
 use Rattle.tag_layout.specs.Layout.{Layout, words, word_bits, word_depth}
 use Rattle.tag_model.specs.Totals.{count_below}
+use Rattle.tag_sets.proofs.Tallies.{narrow_word, all_words}
 use Rattle.tag_script.specs.Players.{solo_of}
 use Rattle.tag_script.specs.Solo.{Solo, is_held, is_aside, held_in, aside_in}
-use Rattle.tag_script.proofs.CountFacts.{count_held, count_aside, narrow_word, all_words}
+use Rattle.tag_script.proofs.CountFacts.{count_held, count_aside}
 use Rattle.tag_script.proofs.PlayFacts.{same_world}
+use Rattle.tag_script.proofs.player.Player.counts.Goals.{After-loop-word}
 use Rattle.tag_script.proofs.player.Player.counts.Goals as goal
 
 pub loop-word-preserved : goal.loop-word-preserved
@@ -62,24 +64,21 @@ loop-word-preserved c =
       few_aside = omega (arith, few', aside_ones, c.loop-word.invariant.few_aside);
     }
 
+-- the loop went over all words
+over : (c : After-loop-word) → words c.loop-word.self.port.layout ≤ c.loop-word.word
+over c =
+    let lay : c.layout-layout.result ≡ c.loop-word.self.port.layout =
+    c.layout-layout.ensures.value ∙ sym (ap (λ (w : Solo). w.layout) c.loop-word.invariant.same) in
+    subst (λ (l : Layout). words l ≤ c.loop-word.word) lay (omega (arith, c.words-word-end.ensures.value))
+
 pub returns-clause-held : goal.returns-clause-held
 returns-clause-held c =
-    let l = c.loop-word.self.port.layout in
-    let lay : c.layout-layout.result ≡ l =
-    c.layout-layout.ensures.value ∙ sym (ap (λ (w : Solo). w.layout) c.loop-word.invariant.same) in
-    let over : words l ≤ c.loop-word.word =
-    subst (λ (l : Layout). words l ≤ c.loop-word.word) lay (omega (arith, c.words-word-end.ensures.value)) in
     c.loop-word.invariant.held ∙ ap (count_below (is_held (solo_of c.loop-word.self)))
-    (all_words l c.loop-word.word over)
+    (all_words c.loop-word.self.port.layout c.loop-word.word (over c))
     ∙ ap held_in c.loop-word.invariant.same
 
 pub returns-clause-aside : goal.returns-clause-aside
 returns-clause-aside c =
-    let l = c.loop-word.self.port.layout in
-    let lay : c.layout-layout.result ≡ l =
-    c.layout-layout.ensures.value ∙ sym (ap (λ (w : Solo). w.layout) c.loop-word.invariant.same) in
-    let over : words l ≤ c.loop-word.word =
-    subst (λ (l : Layout). words l ≤ c.loop-word.word) lay (omega (arith, c.words-word-end.ensures.value)) in
     c.loop-word.invariant.aside ∙ ap (count_below (is_aside (solo_of c.loop-word.self)))
-    (all_words l c.loop-word.word over)
+    (all_words c.loop-word.self.port.layout c.loop-word.word (over c))
     ∙ ap aside_in c.loop-word.invariant.same
