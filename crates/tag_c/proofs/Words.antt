@@ -1,12 +1,12 @@
 -- The machine values of a `Loose` and of a `Hidden`: a pointer and an allocator, in this order. Assumes `Logic`.
-use Rattle.std.proofs.Common.{◌≡◌, ℕ, List, [], ◌∷◌, ◌++◌, Option, Some, refl, subst}
+use Rattle.std.proofs.Common.{◌≡◌, ℕ, List, [], ◌∷◌, ◌++◌, Option, Some, refl, sym, subst}
 use mathlib.Core.Bool.{Bool, true, false, ◌&&◌}
 use lib.Dec.{T}
 use seplogic.Ra.Ura.{Ura}
 use mir.Syntax.{impl, tnil, dnil}
 use mir.Raw.{raw as bare}
 use mir.Val.{Val, vptr, vstruct, vcons, vnil, of_list, has_ty, WT}
-use base.Logic.{never, fst∗}
+use base.Logic.{SProp, ent, id⊢, never, fst∗}
 use types.Logic.{Logic, sem}
 use types.Kit.{Item, Goal, Seq, Step, step, ‵, ◌$◌, move, drop, fsplit, fjoin, fpick, fpack, rewrite, feq_i, feq_l}
 use denote.RattleType.{RattleType, Valss}
@@ -35,6 +35,12 @@ use Rattle.tag_c.specs.contracts.loose.Loose as loose
 
 abbrev pub both : Val → Val → Val
 both v w = vstruct (vcons v (vcons w vnil))
+
+-- a run on words is one on words that equal them
+pub run_on : {M : Type 1} (𝓤 : Ura M) (Run : List Val → SProp 𝓤) (vs ws : List Val) → vs ≡ ws
+    → ent 𝓤 (Run (ws ++ [])) (Run (vs ++ []))
+run_on 𝓤 Run vs ws same = subst (λ (us : List Val). ent 𝓤 (Run (ws ++ [])) (Run (us ++ []))) (sym same)
+    (id⊢ 𝓤 (Run (ws ++ [])))
 
 pub both_tt : (x y : Bool) → T x → T y → T (x && (y && true))
 both_tt true true s t = tt

@@ -1,7 +1,7 @@
 -- A `Loose` and a `Hidden` have the same words and own the same memory, so only the type of the pointer changes.
-use Rattle.std.proofs.Common.{◌≡◌, List, [], ◌∷◌, ◌++◌, Some, refl, sym, subst}
+use Rattle.std.proofs.Common.{◌≡◌, List, [], ◌∷◌, Some, refl}
 use mir.Val.{Val, vptr}
-use base.Logic.{SProp, ent, emp, id⊢}
+use base.Logic.{SProp, emp}
 use base.Fml.{ftrue}
 use prog.Wp.{WpFn}
 use types.Kit.{‵, raw, ◌⊛◌, ◌$◌, ◌∵◌, !, qed, by, move, keep, split, fsplit, fjoin, suffices, use0}
@@ -21,7 +21,7 @@ use Rattle.std_heap.specs.contracts.Global as heap
 use Rattle.std_heap.specs.contracts.GlobalAllocator.TheImpl.{ghosts}
 use Rattle.std_heap.proofs.Global.TheLaws.{the_row_laws}
 use Rattle.tag_c.specs.contracts.object.Object as obj
-use Rattle.tag_c.proofs.Words.{both, Loose, loose_good, loose_out, hidden_in}
+use Rattle.tag_c.proofs.Words.{both, run_on, Loose, loose_good, loose_out, hidden_in}
 use Rattle.tag_c.specs.contracts.hidden.Hidden.hide.{ended, clauses}
 use Rattle.tag_c.specs.contracts.hidden.Hidden.hide.Key.{name as #self}
 use Rattle.tag_c.proofs.hidden.Hidden.hide.Statement.{statement}
@@ -42,9 +42,8 @@ hide_spec 𝓤 𝓛 𝓜 𝓡 wired =
     $ move ! (1 ∷ []) $ fsplit ! $ loose_out obj.the_row heap.the_row the_row_laws ghosts ! v z.0.4.0
     (λ b o h e ws fits.
     let w : Val = both (vptr b o) h in let typed = loose_good obj.the_row heap.the_row the_row_laws ghosts b o h fits in
-    suffices ! (Run (w ∷ [])) (subst (λ (us : List Val). ent 𝓤 (Run (w ∷ [])) (Run us)) (sym (λ i. ws i ++ []))
-    (id⊢ 𝓤 (Run (w ∷ [])))) $
-    enter ! 𝓣.C 𝓣.Λ fn (w ∷ []) Post $ alloc_all ! (λ l. pass_all ! refl (typed, tt) $
+    suffices ! (Run (w ∷ [])) (run_on 𝓤 Run _ (w ∷ []) ws)
+    $ enter ! 𝓣.C 𝓣.Λ fn (w ∷ []) Post $ alloc_all ! (λ l. pass_all ! refl (typed, tt) $
     sets ! (of_opd ! (get_in ! (fld ! refl (stop !)) (sub ! 0 refl (whole !)))) refl (tt, tt)
     $ sets ! (of_opd ! (get_in ! (fld ! refl (stop !)) (sub ! 1 refl (whole !)))) refl fits $
     sets ! (of_opd ! (get ! refl)) refl (tt, tt)

@@ -1,7 +1,7 @@
 -- A `Hidden` with an object has the words of a `Loose` and owns the same memory; only the pointer's type changes.
-use Rattle.std.proofs.Common.{◌≡◌, List, [], ◌∷◌, ◌++◌, Some, refl, sym, subst}
+use Rattle.std.proofs.Common.{◌≡◌, List, [], ◌∷◌, Some, refl}
 use mir.Val.{Val, vptr}
-use base.Logic.{SProp, ent, emp, id⊢}
+use base.Logic.{SProp, emp}
 use base.Fml.{ftrue}
 use prog.Wp.{WpFn}
 use types.Kit.{‵, raw, ◌⊛◌, ◌$◌, ◌∵◌, !, qed, by, move, keep, split, fsplit, fjoin, suffices, use0}
@@ -23,7 +23,7 @@ use Rattle.std_heap.specs.contracts.GlobalAllocator.TheImpl.{ghosts}
 use Rattle.std_heap.proofs.Global.TheLaws.{the_row_laws}
 use Rattle.tag_c.specs.contracts.object.Object as obj
 use Rattle.tag_c.specs.contracts.hidden.Hidden as hidden
-use Rattle.tag_c.proofs.Words.{both, loose_good, hidden_out, loose_in}
+use Rattle.tag_c.proofs.Words.{both, run_on, loose_good, hidden_out, loose_in}
 use Rattle.tag_c.specs.contracts.hidden.Hidden.show.{ended, clauses}
 use Rattle.tag_c.specs.contracts.hidden.Hidden.show.Key.{name as #self}
 use Rattle.tag_c.proofs.hidden.Hidden.show.Statement.{statement}
@@ -43,9 +43,8 @@ show_spec 𝓤 𝓛 𝓜 𝓡 wired =
     (1 ∷ []) $ heard ! Asked (λ one. let x = one.0 in
     split ! $ move ! (1 ∷ []) $ fsplit ! $ hidden_out ! v z.0.4.0 x one.1 (λ b o h e ws fits.
     let w : Val = both (vptr b o) h in let typed = loose_good obj.the_row heap.the_row the_row_laws ghosts b o h fits in
-    suffices ! (Run (w ∷ [])) (subst (λ (us : List Val). ent 𝓤 (Run (w ∷ [])) (Run us)) (sym (λ i. ws i ++ []))
-    (id⊢ 𝓤 (Run (w ∷ [])))) $
-    enter ! 𝓣.C 𝓣.Λ fn (w ∷ []) Post $ alloc_all ! (λ l. pass_all ! refl (typed, tt) $
+    suffices ! (Run (w ∷ [])) (run_on 𝓤 Run _ (w ∷ []) ws)
+    $ enter ! 𝓣.C 𝓣.Λ fn (w ∷ []) Post $ alloc_all ! (λ l. pass_all ! refl (typed, tt) $
     sets ! (of_opd ! (get_in ! (fld ! refl (stop !)) (sub ! 0 refl (whole !)))) refl (tt, tt)
     $ sets ! (of_opd ! (get_in ! (fld ! refl (stop !)) (sub ! 1 refl (whole !)))) refl fits $
     sets ! (of_opd ! (get ! refl)) refl (tt, tt)
