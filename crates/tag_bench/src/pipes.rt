@@ -6,7 +6,6 @@ use std::alloc::{AllocError, Global};
 use std::sync::atomic::AtomicU64;
 use std::sync::atomic::Ordering::SeqCst;
 use std::thread;
-use tag_search::Hint;
 
 /// Tags on their way from one thread to the next, at most.
 const ROOM: usize = 64;
@@ -54,70 +53,55 @@ impl Pipes {
         }
         None
     }
+
+    // Gets tags and sends each on.
+    #[inline(never)]
+    fn send<T: Tags>(&self, tags: &T, hand: &mut T::Hand, index: usize, plan: Plan)
+        requires { T.is_own tags.now hand.old }
+        ensures { T.is_own tags.now hand.new }
+    {
+        let mut hint = plan.hint(index);
+        for round in 0..plan.rounds {
+            let Some(tag) = win(tags, hand, &mut hint, round) else {
+                return;
+            };
+            tags.post(hand, tag);
+            let Some(_) = self.exchange(index, round, false, u64::from(tag) + 1) else {
+                return;
+            };
+        }
+    }
+
+    // Takes the tags that come from the thread before this one, and clears each.
+    #[inline(never)]
+    fn receive<T: Tags>(&self, tags: &T, hand: &mut T::Hand, index: usize, plan: Plan)
+        requires { T.is_own tags.now hand.old }
+        ensures { T.is_own tags.now hand.new }
+    {
+        let mut hint = plan.hint(index);
+        let way = index - index % 2;
+        for round in 0..plan.rounds {
+            let Some(cell) = self.exchange(way, round, true, EMPTY) else {
+                return;
+            };
+            let Ok(tag) = u32::try_from(cell.saturating_sub(1)) else {
+                return;
+            };
+            if tags.take(hand, tag) {
+                tags.touch(hand, tag, round);
+                tags.clear(hand, &mut hint, tag);
+            }
+        }
+    }
 }
 
 /// A thread of an even number gets tags and sends each on, and the next thread clears those that come.
 impl<T: Tags> Job<T> for Pipes {
     fn work(&self, tags: &T, hand: &mut T::Hand, index: usize, plan: Plan) {
-        let hint = plan.hint(index);
         if index % 2 == 0 {
-            send(tags, hand, hint, plan.rounds, self, index);
+            self.send(tags, hand, index, plan);
         } else {
-            receive(tags, hand, hint, plan.rounds, self, index - 1);
-        }
-    }
-}
-
-// Gets tags and sends each on.
-#[inline(never)]
-fn send<T: Tags>(
-    tags: &T,
-    hand: &mut T::Hand,
-    mut hint: Hint,
-    rounds: u32,
-    pipes: &Pipes,
-    way: usize,
-)
-    requires { T.is_own tags.now hand.old }
-    ensures { T.is_own tags.now hand.new }
-{
-    for round in 0..rounds {
-        let Some(tag) = win(tags, hand, &mut hint, round) else {
-            return;
-        };
-        tags.post(hand, tag);
-        if pipes
-            .exchange(way, round, false, u64::from(tag) + 1)
-            .is_none()
-        {
-            return;
-        }
-    }
-}
-
-// Takes the tags that come, and clears each.
-#[inline(never)]
-fn receive<T: Tags>(
-    tags: &T,
-    hand: &mut T::Hand,
-    mut hint: Hint,
-    rounds: u32,
-    pipes: &Pipes,
-    way: usize,
-)
-    requires { T.is_own tags.now hand.old }
-    ensures { T.is_own tags.now hand.new }
-{
-    for round in 0..rounds {
-        let Some(cell) = pipes.exchange(way, round, true, EMPTY) else {
-            return;
-        };
-        let Ok(tag) = u32::try_from(cell.saturating_sub(1)) else {
-            return;
-        };
-        if tags.take(hand, tag) {
-            tags.touch(hand, tag, round);
-            tags.clear(hand, &mut hint, tag);
+            self.receive(tags, hand, index, plan);
         }
     }
 }

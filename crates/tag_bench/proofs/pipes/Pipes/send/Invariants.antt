@@ -1,5 +1,5 @@
 -- The hand stays one of the tags' own.
-use Rattle.tag_bench.proofs.pipes.send.Given as goal
+use Rattle.tag_bench.proofs.pipes.Pipes.send.Given as goal
 
 abbrev pub invariant-loop-round : goal.invariant-loop-round
 invariant-loop-round g l = g.T.Tags.is_own l.tags l.hand
