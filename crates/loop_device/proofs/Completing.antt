@@ -10,10 +10,10 @@ use Rattle.tag_sets.specs.Slots.{Takes, Misses, RefusesTake}
 use Rattle.loop_device.specs.declared.io.Io.{Io}
 use Rattle.loop_device.specs.declared.fault.PlayFault.{PlayFault}
 use Rattle.loop_device.specs.declared.fault.PlayFault.TheVariants.{Stranger}
-use Rattle.loop_device.specs.Requests.{Ends, EndsWithout, Completes, IsRequestFault}
+use Rattle.loop_device.specs.Requests.{EndsRequest, EndsWithout, Completes, IsRequestFault}
 
 module _ (tags : Tags ℕ) (tag : ℕ) (old taken new : Hand ℕ) (takes : Takes tag old taken) where
-  same_tags : (line : ℕ) → Ends tags tag line taken new → HoldsSame old new
+  same_tags : (line : ℕ) → EndsRequest tags tag line taken new → HoldsSame old new
   same_tags line ends = record {
     kept = λ other held.
         let was = takes.more.kept other held in
@@ -28,12 +28,12 @@ module _ (tags : Tags ℕ) (tag : ℕ) (old taken new : Hand ℕ) (takes : Takes
   }
 
   -- whatever became of the line
-  pub held : (ios : List Io) (r : Result ℕ PlayFault) → IfOk r (λ line. Ends tags tag line taken new)
+  pub held : (ios : List Io) (r : Result ℕ PlayFault) → IfOk r (λ line. EndsRequest tags tag line taken new)
       → IfErr r (λ fault. EndsWithout tags ios tag fault taken new) → HoldsSame old new
   held ios (Ok line) ends without = same_tags line ends
   held ios (Err fault) ends without = same_tags without.line without.ends
 
-  pub completed : (r : Result ℕ PlayFault) → IfOk r (λ line. Ends tags tag line taken new)
+  pub completed : (r : Result ℕ PlayFault) → IfOk r (λ line. EndsRequest tags tag line taken new)
       → IfOk r (λ line. Completes tags tag line old new)
   completed (Ok line) ends = record { taken = taken; takes = takes; ends = ends }
   completed (Err fault) ends = tt

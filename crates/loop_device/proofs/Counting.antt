@@ -9,7 +9,7 @@ use Rattle.loop_device.specs.declared.io.Io.{Io}
 use Rattle.loop_device.specs.declared.io.Done.{Done}
 use Rattle.loop_device.specs.Lines.{LinesAscend}
 use Rattle.loop_device.specs.Verdict.{times, AreOfLog, IsTwice, IsLost, CarriesEachOnce}
-use Rattle.loop_device.proofs.Places.{same_place}
+use Rattle.loop_device.proofs.Indexes.{same_index}
 
 -- how often each line is carried out
 abbrev pub tallied : List Io → List Done → List ℕ
@@ -26,19 +26,19 @@ module _ (done : List Done) (i : ℕ) (d : Done) (low : i < length done) where
       → times (take (i + 1) done) line ≡ times (take i done) line
   times_other line other = count_by_more_no (λ (e : Done). e.io.line == line) done i d low (grind (arith, nat_tests))
 
-  -- the count at the item's place grows by one, and the others stay
-  pub counted : (ios : List Io) → LinesAscend ios → (place : ℕ) → place < length ios
-      → HoldsAt (λ found. found ≡ (get_or done i d).io) ios place
+  -- the count at the item's index grows by one, and the others stay
+  pub counted : (ios : List Io) → LinesAscend ios → (index : ℕ) → index < length ios
+      → HoldsAt (λ found. found ≡ (get_or done i d).io) ios index
       → (counts : List ℕ) → counts ≡ tallied ios (take i done)
-      → set counts place (get_or counts place 0 + 1) ≡ tallied ios (take (i + 1) done)
-  counted ios ascend place within at counts are =
+      → set counts index (get_or counts index 0 + 1) ≡ tallied ios (take (i + 1) done)
+  counted ios ascend index within at counts are =
       let e = (get_or done i d).io in
       let before = tallied ios (take i done) in
       let size : length before ≡ length ios = length-map ios (λ io. times (take i done) io.line) in
       let old = λ (k : ℕ) (lt : k < length ios). get_or-map (λ (io : Io). times (take i done) io.line) ios k e 0 lt in
       let new = λ (k : ℕ) (lt : k < length ios). get_or-map (λ (io : Io). times (take (i + 1) done) io.line) ios k e
       0 lt in
-      let line_here : e.line ≡ (get_or ios place e).line = ap (λ (io : Io). io.line) (sym (at e)) in
+      let line_here : e.line ≡ (get_or ios index e).line = ap (λ (io : Io). io.line) (sym (at e)) in
       rw are (ext_get_or 0 _ _ (grind (
         arith,
         common_steps,
@@ -47,15 +47,15 @@ module _ (done : List Done) (i : ℕ) (d : Done) (low : i < length done) where
             io.line),
       )) (λ k lt.
       let lt' : k < length ios = grind (arith, common_steps, size) in
-      let here : k ≡ place → get_or (set before place (get_or before place 0 + 1)) k 0 ≡ get_or (tallied ios (take (i
+      let here : k ≡ index → get_or (set before index (get_or before index 0 + 1)) k 0 ≡ get_or (tallied ios (take (i
       + 1) done)) k 0 =
-      λ same. rw same (get_or-set_same before place (get_or before place 0 + 1) 0 (omega (arith, size, within))
-      ∙ ap (λ n. n + 1) (old place within) ∙ sym (times_same (get_or ios place e).line line_here) ∙ sym (new place
+      λ same. rw same (get_or-set_same before index (get_or before index 0 + 1) 0 (omega (arith, size, within))
+      ∙ ap (λ n. n + 1) (old index within) ∙ sym (times_same (get_or ios index e).line line_here) ∙ sym (new index
       within)) in
-      let beside : k ≢ place → get_or (set before place (get_or before place 0 + 1)) k 0 ≡ get_or (tallied ios (take
+      let beside : k ≢ index → get_or (set before index (get_or before index 0 + 1)) k 0 ≡ get_or (tallied ios (take
       (i + 1) done)) k 0 =
-      λ differs. get_or-set_other before place k (get_or before place 0 + 1) 0 differs ∙ old k lt'
-      ∙ sym (times_other (get_or ios k e).line (λ same. differs (same_place ios ascend k place e lt' within (sym same
+      λ differs. get_or-set_other before index k (get_or before index 0 + 1) 0 differs ∙ old k lt'
+      ∙ sym (times_other (get_or ios k e).line (λ same. differs (same_index ios ascend k index e lt' within (sym same
       ∙ line_here)))) ∙ sym (new k lt') in
       grind (arith, here, beside)))
 
@@ -72,10 +72,10 @@ pub count_at : (ios : List Io) (done : List Done) (counts : List ℕ) → counts
     → length counts ≡ length ios
 count_at ios done counts are = ap length are ∙ length-map ios (λ io. times done io.line)
 
--- the count that was read at a place
-pub read_count : (ios : List Io) (done : List Done) (counts : List ℕ) → counts ≡ tallied ios done → (place : ℕ)
-    → place < length ios → (value : ℕ) → value ≡ get_or counts place value → value ≡ get_or counts place 0
-read_count ios done counts are place low value is = is ∙ get_or_default_zero counts place value (omega (
+-- the count that was read at an index
+pub read_count : (ios : List Io) (done : List Done) (counts : List ℕ) → counts ≡ tallied ios done → (index : ℕ)
+    → index < length ios → (value : ℕ) → value ≡ get_or counts index value → value ≡ get_or counts index 0
+read_count ios done counts are index low value is = is ∙ get_or_default_zero counts index value (omega (
   arith,
   low,
   count_at ios done counts are,
@@ -83,74 +83,74 @@ read_count ios done counts are place low value is = is ∙ get_or_default_zero c
 
 -- no line is counted more often than there are items
 pub counts_few : (ios : List Io) (done : List Done) (i : ℕ) (counts : List ℕ) → counts ≡ tallied ios (take i done)
-    → (place : ℕ) → place < length ios
-    → i ≤ length done → (value : ℕ) → value ≡ get_or counts place value → value ≤ i
-counts_few [] done i counts are place low within value is = absurd (omega arith)
-counts_few (io ∷ ios) done i counts are place low within value is =
-    let read = read_count (io ∷ ios) (take i done) counts are place low value is ∙ ap (λ xs. get_or xs place 0) are
-    ∙ get_or-map (λ (io : Io). times (take i done) io.line) (io ∷ ios) place io 0 low in
-    let most = count_by-le-length (λ (e : Done). e.io.line == (get_or (io ∷ ios) place io).line) (take i done) in
+    → (index : ℕ) → index < length ios
+    → i ≤ length done → (value : ℕ) → value ≡ get_or counts index value → value ≤ i
+counts_few [] done i counts are index low within value is = absurd (omega arith)
+counts_few (io ∷ ios) done i counts are index low within value is =
+    let read = read_count (io ∷ ios) (take i done) counts are index low value is ∙ ap (λ xs. get_or xs index 0) are
+    ∙ get_or-map (λ (io : Io). times (take i done) io.line) (io ∷ ios) index io 0 low in
+    let most = count_by-le-length (λ (e : Done). e.io.line == (get_or (io ∷ ios) index io).line) (take i done) in
     grind (arith, common_steps, read, most)
 
--- what a count at a place says of the line there
+-- what a count at an index says of the line there
 module _ (ios : List Io) (ascend : LinesAscend ios) (done : List Done) (counts : List ℕ) (are : counts ≡ tallied ios
     done) where
-  count_is : (place : ℕ) (d : Io) → place < length ios → get_or counts place 0 ≡ times done (get_or ios place d).line
-  count_is place d low = ap (λ xs. get_or xs place 0) are ∙ get_or-map (λ (io : Io). times done io.line) ios place d
+  count_is : (index : ℕ) (d : Io) → index < length ios → get_or counts index 0 ≡ times done (get_or ios index d).line
+  count_is index d low = ap (λ xs. get_or xs index 0) are ∙ get_or-map (λ (io : Io). times done io.line) ios index d
       0 low
 
   -- a line below another stands before it
-  line_below : (k place : ℕ) (d e : Io) → k < length ios → place < length ios
-      → (get_or ios k d).line < (get_or ios place e).line → k < place
-  line_below k place d e low within less =
-      let there = ap (λ (io : Io). io.line) (get_or_default ios place e d within) in
-      grind (arith, there, ascend place k d, λ (same : k ≡ place). ap (λ j. (get_or ios j d).line) same)
+  line_below : (k index : ℕ) (d e : Io) → k < length ios → index < length ios
+      → (get_or ios k d).line < (get_or ios index e).line → k < index
+  line_below k index d e low within less =
+      let there = ap (λ (io : Io). io.line) (get_or_default ios index e d within) in
+      grind (arith, there, ascend index k d, λ (same : k ≡ index). ap (λ j. (get_or ios j d).line) same)
 
   -- what holds of all counts holds of how often each line is carried out
   pub of_counts : (P : ℕ → Type 0) → All P counts → All (λ io. P (times done io.line)) ios
   of_counts P all k d low = subst P (count_is k d low) (all k 0 (omega (arith, low, count_at ios done counts are)))
 
-  -- what holds of the counts before a place holds of the lines below its line
-  pub of_counts_before : (P : ℕ → Type 0) (place : ℕ) (e : Io) → place < length ios → AllWithin P counts 0 place
-      → All (λ io. io.line < (get_or ios place e).line → P (times done io.line)) ios
-  of_counts_before P place e within before k d low less =
-      let earlier : k < place = line_below k place d e low within less in
+  -- what holds of the counts before an index holds of the lines below its line
+  pub of_counts_before : (P : ℕ → Type 0) (index : ℕ) (e : Io) → index < length ios → AllWithin P counts 0 index
+      → All (λ io. io.line < (get_or ios index e).line → P (times done io.line)) ios
+  of_counts_before P index e within before k d low less =
+      let earlier : k < index = line_below k index d e low within less in
       subst P (count_is k d low) (before k 0 (omega arith) earlier)
 
-  -- the line at the place, where its count is above 1 and none before it is
-  pub is_twice : AreOfLog ios done → (place : ℕ) (io : Io) → place < length ios → io ≡ get_or ios place io
-      → 1 < get_or counts place 0
-      → AllWithin (λ n. n ≤ 1) counts 0 place → IsTwice ios done io.line
-  is_twice known place io low is twice before = record {
+  -- the line at the index, where its count is above 1 and none before it is
+  pub is_twice : AreOfLog ios done → (index : ℕ) (io : Io) → index < length ios → io ≡ get_or ios index io
+      → 1 < get_or counts index 0
+      → AllWithin (λ n. n ≤ 1) counts 0 index → IsTwice ios done io.line
+  is_twice known index io low is twice before = record {
     known = known;
     among = (
-      place,
+      index,
       omega (arith, low, length-map ios (λ (io : Io). io.line)),
       get_or-map (λ (io : Io). io.line) ios
-          place io io.line low ∙ ap (λ (io : Io). io.line) (sym is),
+          index io io.line low ∙ ap (λ (io : Io). io.line) (sym is),
     );
-    twice = let t : get_or counts place 0 ≡ times done io.line = count_is place io low ∙ ap (λ (io : Io). times done
+    twice = let t : get_or counts index 0 ≡ times done io.line = count_is index io low ∙ ap (λ (io : Io). times done
         io.line) (sym is) in omega (arith, t, twice);
     least = subst (λ (e : Io). All (λ io. io.line < e.line → times done io.line ≤ 1) ios) (sym is) (of_counts_before
-        (λ n. n ≤ 1) place io low before);
+        (λ n. n ≤ 1) index io low before);
   }
 
-  -- the line at the place, where its count is 0 and none before it is
-  pub is_lost : AreOfLog ios done → All (λ n. n ≤ 1) counts → (place : ℕ) (io : Io) → place < length ios
-      → io ≡ get_or ios place io → get_or counts place 0 ≡ 0
-      → AllWithin (λ n. 0 < n) counts 0 place → IsLost ios done io.line
-  is_lost known few place io low is lost before = record {
+  -- the line at the index, where its count is 0 and none before it is
+  pub is_lost : AreOfLog ios done → All (λ n. n ≤ 1) counts → (index : ℕ) (io : Io) → index < length ios
+      → io ≡ get_or ios index io → get_or counts index 0 ≡ 0
+      → AllWithin (λ n. 0 < n) counts 0 index → IsLost ios done io.line
+  is_lost known few index io low is lost before = record {
     known = known;
     none_twice = of_counts (λ n. n ≤ 1) few;
     among = (
-      place,
+      index,
       omega (arith, low, length-map ios (λ (io : Io). io.line)),
       get_or-map (λ (io : Io). io.line) ios
-          place io io.line low ∙ ap (λ (io : Io). io.line) (sym is),
+          index io io.line low ∙ ap (λ (io : Io). io.line) (sym is),
     );
-    lost = sym (count_is place io low ∙ ap (λ (io : Io). times done io.line) (sym is)) ∙ lost;
+    lost = sym (count_is index io low ∙ ap (λ (io : Io). times done io.line) (sym is)) ∙ lost;
     least = subst (λ (e : Io). All (λ io. io.line < e.line → 0 < times done io.line) ios) (sym is) (of_counts_before
-        (λ n. 0 < n) place io low before);
+        (λ n. 0 < n) index io low before);
   }
 
   -- each line is carried out once, where each count is 1

@@ -6,7 +6,7 @@ use Rattle.loop_device.specs.declared.halving.Stamps.{Stamps}
 use Rattle.loop_device.specs.declared.halving.Stamps.TheVariants.{Even, Split'}
 use Rattle.loop_device.specs.Halving.{beside, stamp_at, greatest_of, is_sound, is_cut, IsGreatestWithin, IsStampedWithin}
 
--- a place is in the lower half, or in the upper one
+-- a position is in the lower half, or in the upper one
 pub sides : (at half : ℕ) → (at < half) ⊎ (half ≤ at)
 sides at half = ⊎_elim (λ (t : (nat_le half at ≡ true) × (half ≤ at)). inr t.1) (λ (t : (nat_le half at ≡ false) ×
     (at < half)). inl t.1) (leb_tells half at)

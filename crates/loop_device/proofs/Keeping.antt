@@ -7,8 +7,8 @@ use Rattle.loop_device.specs.declared.io.IoKind.{IoKind}
 use Rattle.loop_device.specs.declared.io.IoKind.TheVariants.{Read, Write, Trim, Sync, Datasync}
 use Rattle.loop_device.specs.declared.halving.Stamps.{Stamps}
 use Rattle.loop_device.specs.Halving.{stamp_at, IsGreatestWithin, IsStampedWithin, IsRefined}
-use Rattle.loop_device.specs.History.{first_of, last_of, covers, leaves_stamp, stamps_sector, stamp_after, stamp_of, done_of, Answers, AnswersAs, IsGreatest, IsHistory}
-use Rattle.loop_device.specs.Keys.{key, first_key, end_key, AreStampsOf, IsSmall}
+use Rattle.loop_device.specs.History.{first_sector, last_sector, covers, leaves_stamp, stamps_sector, stamp_after, stamp_of, done_of, Answers, AnswersAs, IsGreatest, IsHistory}
+use Rattle.loop_device.specs.Keys.{key, first_key, end_key, AreStampsOf, FitsTypes}
 use Rattle.loop_device.proofs.Halves.{sides, cond_low, cond_high}
 
 -- where a list that ends in d is parted at e, that is d, or e stands before it
@@ -55,15 +55,15 @@ unmarked h d name sector plain = stamp_snoc 0 h d name sector ∙ ap (λ t. cond
 record IsCovered (io : Io) (name sector : ℕ) : Type 0 where
   named : io.name ≡ name
   some : 0 < io.length
-  from : first_of io ≤ sector
-  upto : sector ≤ last_of io
+  from : first_sector io ≤ sector
+  upto : sector ≤ last_sector io
 
 covered_parts : (io : Io) (name sector : ℕ) → covers io name sector ≡ true → IsCovered io name sector
 covered_parts io name sector h =
     let n = (io.name == name) in
     let s = nat_lt 0 io.length in
-    let f = nat_le (first_of io) sector in
-    let p = and_parts (n && s && f) (nat_le sector (last_of io)) h in
+    let f = nat_le (first_sector io) sector in
+    let p = and_parts (n && s && f) (nat_le sector (last_sector io)) h in
     let q = and_parts (n && s) f p.0 in
     let r = and_parts n s q.0 in
     record {
@@ -81,19 +81,19 @@ is_covered : (io : Io) (name sector : ℕ) → IsCovered io name sector → cove
 is_covered io name sector h =
     let n : (io.name == name) ≡ true = search (rules, h.named) in
     let s : nat_lt 0 io.length ≡ true = search (rules, h.some) in
-    let f : nat_le (first_of io) sector ≡ true = search (rules, h.from) in
-    let u : nat_le sector (last_of io) ≡ true = search (rules, h.upto) in
+    let f : nat_le (first_sector io) sector ≡ true = search (rules, h.from) in
+    let u : nat_le sector (last_sector io) ≡ true = search (rules, h.upto) in
     both _ _ (both _ _ (both _ _ n s) f) u
 
 -- where the line's sectors end in the row
-ends : (io : Io) → ((0 < io.length) × (end_key io ≡ key io.name (last_of io) + 1)) ⊎ ((io.length ≡ 0) × (end_key io ≡
+ends : (io : Io) → ((0 < io.length) × (end_key io ≡ key io.name (last_sector io) + 1)) ⊎ ((io.length ≡ 0) × (end_key io ≡
     first_key io))
 ends io = ⊎_elim (λ (lt : 0 < io.length). inl (
   lt,
-  cond_low 0 io.length (key io.name (last_of io) + 1) (first_key io)
+  cond_low 0 io.length (key io.name (last_sector io) + 1) (first_key io)
       lt,
 ))
-    (λ (le : io.length ≤ 0). inr (omega arith, cond_high 0 io.length (key io.name (last_of io) + 1) (first_key io) le))
+    (λ (le : io.length ≤ 0). inr (omega arith, cond_high 0 io.length (key io.name (last_sector io) + 1) (first_key io) le))
     (sides 0 io.length)
 
 last_small : (offset length : ℕ) → offset < 2 ^ 64 → length < 2 ^ 64 → (offset + length - 1) / 512 < 2 ^ 56
@@ -104,12 +104,12 @@ one_name : (a b f s l : ℕ) → l < 2 ^ 56 → s < 2 ^ 56 → a * 2 ^ 56 + f �
     → b * 2 ^ 56 + s < a * 2 ^ 56 + l + 1 → a ≡ b
 one_name a b f s l ls ss low high = omega arith
 
-key_inside : (io : Io) → IsSmall io → (name sector : ℕ) → sector < 2 ^ 56 → first_key io ≤ key name sector
+key_inside : (io : Io) → FitsTypes io → (name sector : ℕ) → sector < 2 ^ 56 → first_key io ≤ key name sector
     → key name sector < end_key io → IsCovered io name sector
 key_inside io small name sector ss low high = ⊎_elim
-    (λ (t : (0 < io.length) × (end_key io ≡ key io.name (last_of io) + 1)).
-    let upto : key name sector < key io.name (last_of io) + 1 = omega (arith, t.1, high) in
-    let same = one_name io.name name (first_of io) sector (last_of io) (last_small io.offset io.length small.offset
+    (λ (t : (0 < io.length) × (end_key io ≡ key io.name (last_sector io) + 1)).
+    let upto : key name sector < key io.name (last_sector io) + 1 = omega (arith, t.1, high) in
+    let same = one_name io.name name (first_sector io) sector (last_sector io) (last_small io.offset io.length small.offset
     small.length) ss low upto in
     record { named = same; some = t.0; from = omega (arith, same, low); upto = omega (arith, same, upto) })
     (λ (t : (io.length ≡ 0) × (end_key io ≡ first_key io)). absurd (omega (arith, t.1, low, high)))
@@ -118,7 +118,7 @@ key_inside io small name sector ss low high = ⊎_elim
 inside_key : (io : Io) (name sector : ℕ) → IsCovered io name sector
     → (first_key io ≤ key name sector) × (key name sector < end_key io)
 inside_key io name sector h = ⊎_elim
-    (λ (t : (0 < io.length) × (end_key io ≡ key io.name (last_of io) + 1)). (
+    (λ (t : (0 < io.length) × (end_key io ≡ key io.name (last_sector io) + 1)). (
       omega (arith, h.named, h.from),
       omega
           (arith, h.named, h.upto, t.1),
@@ -143,7 +143,7 @@ unstamped_kept stamps io answer plain history are name sector n s =
     plain))
 
 -- a line that leaves its stamp
-pub stamped_kept : (old new : Stamps) (io : Io) → IsSmall io → leaves_stamp io.kind ≡ true
+pub stamped_kept : (old new : Stamps) (io : Io) → FitsTypes io → leaves_stamp io.kind ≡ true
     → IsStampedWithin (stamp_at (2 ^ 88) old) (stamp_at (2 ^ 88) new) (2 ^ 88) (first_key io) (end_key io) io.line
     → (history : List Done) → AreStampsOf history old → AreStampsOf (history ++ done_of io io.line ∷ []) new
 stamped_kept old new io small leaves stamped history are name sector n s =
@@ -184,7 +184,7 @@ answers_0 Sync history io plain other = refl
 answers_0 Datasync history io plain other = refl
 
 -- a read answers the greatest stamp between the ends
-pub reads_greatest : (stamps : Stamps) (io : Io) → IsSmall io → (greatest : ℕ)
+pub reads_greatest : (stamps : Stamps) (io : Io) → FitsTypes io → (greatest : ℕ)
     → IsGreatestWithin (stamp_at (2 ^ 88) stamps) (first_key io) (end_key io) greatest
     → (history : List Done) → AreStampsOf history stamps → IsGreatest history io greatest
 reads_greatest stamps io small greatest g history are = record {
@@ -200,7 +200,7 @@ reads_greatest stamps io small greatest g history are = record {
       let from : io.name * 2 ^ 56 ≤ t.0 = omega (arith, t.1) in
       let is : t.0 ≡ key io.name sector = omega (arith, from) in
       let ss : sector < 2 ^ 56 = ⊎_elim
-      (λ (e : (0 < io.length) × (end_key io ≡ key io.name (last_of io) + 1)). omega (
+      (λ (e : (0 < io.length) × (end_key io ≡ key io.name (last_sector io) + 1)). omega (
         arith,
         e.1,
         t.2,

@@ -1,7 +1,7 @@
 pub mod Counting
 pub mod Halves
 pub mod Keeping
-pub mod Places
+pub mod Indexes
 pub mod Refining
 pub mod LogWords
 pub mod LogFacts

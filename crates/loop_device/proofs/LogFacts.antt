@@ -7,7 +7,7 @@ use Rattle.std.proofs.lemmas.List.{map-append}
 use Rattle.std.proofs.lemmas.List.Elements.{filter_map-append}
 use Rattle.std.proofs.lemmas.List.Sums.{sum_by-append}
 use Rattle.std.proofs.lemmas.List.Quantifiers.{all_pairs_push}
-use Rattle.tag_lines.specs.Lines.{LacksByte, lines_of, words_of}
+use Rattle.tag_lines.specs.Lines.{LacksByte, lines_of, line_words}
 use Rattle.tag_lines.proofs.LineFacts.{has_line}
 use Rattle.loop_device.specs.declared.fault.LogCause.TheVariants.{NoHeader}
 use Rattle.loop_device.specs.declared.fault.LogFault.{LogFault}
@@ -17,9 +17,9 @@ use Rattle.loop_device.specs.declared.log_line.Entry.{Entry}
 use Rattle.loop_device.specs.Lines.{LinesAscend}
 use Rattle.loop_device.specs.LogLines.{names_of, names_after, entry_of}
 use Rattle.loop_device.specs.Logs.{entries_of, names_in, io_in, is_wait, body_of, Says, IsFaultOf, IsLogOf, IsLogFault}
-use Rattle.loop_device.specs.LogProgress.{Progress, Reads, Fails}
+use Rattle.loop_device.specs.LogProgress.{Progress, ReadsLine, Fails}
 
--- lines are read as far as this, and these are left
+-- of the lines after the header, line 1, all but `rest` have been read, with this progress; `entries` are those read
 pub record IsReadTo (lines : List (List ℕ)) (p : Progress) (rest : List (List ℕ)) : Type 0 where
   pub entries : List Entry
   pub said : map Ok entries ++ entries_of p.names p.number rest ≡ entries_of [] 2 lines
@@ -38,20 +38,20 @@ begun lines p e =
 said_on : (lines : List (List ℕ)) (p q : Progress) (line : List ℕ) (rest : List (List ℕ)) (entries : List Entry)
     (entry : Entry)
     → map Ok entries ++ entries_of p.names p.number (line ∷ rest) ≡ entries_of [] 2 lines
-    → entry_of p.names p.number (words_of line) ≡ Ok entry → q.number ≡ p.number + 1
-    → q.names ≡ names_after p.names (words_of line)
+    → entry_of p.names p.number (line_words line) ≡ Ok entry → q.number ≡ p.number + 1
+    → q.names ≡ names_after p.names (line_words line)
     → map Ok (entries ++ entry ∷ []) ++ entries_of q.names q.number rest ≡ entries_of [] 2 lines
 said_on lines p q line rest entries entry said e number names =
     ap (λ front. front ++ entries_of q.names q.number rest) (map-append Ok entries (entry ∷ []))
     ∙ append_assoc (map Ok entries) (Ok entry ∷ []) (entries_of q.names q.number rest)
     ∙ ap (λ known. map Ok entries ++ Ok entry ∷ entries_of known q.number rest) names
-    ∙ ap (λ n. map Ok entries ++ Ok entry ∷ entries_of (names_after p.names (words_of line)) n rest) number
-    ∙ ap (λ first. map Ok entries ++ first ∷ entries_of (names_after p.names (words_of line)) (p.number + 1) rest)
+    ∙ ap (λ n. map Ok entries ++ Ok entry ∷ entries_of (names_after p.names (line_words line)) n rest) number
+    ∙ ap (λ first. map Ok entries ++ first ∷ entries_of (names_after p.names (line_words line)) (p.number + 1) rest)
     (sym e) ∙ said
 
 -- a line that is read goes from the rest to what was read
 pub read_on : (lines : List (List ℕ)) (p q : Progress) (line : List ℕ) (rest : List (List ℕ))
-    → IsReadTo lines p (line ∷ rest) → Reads p line q → IsReadTo lines q rest
+    → IsReadTo lines p (line ∷ rest) → ReadsLine p line q → IsReadTo lines q rest
 read_on lines p q line rest before reads = record {
   entries = before.entries ++ reads.entry ∷ [];
   said = said_on lines p q line rest before.entries reads.entry before.said reads.said reads.number reads.names;
@@ -68,8 +68,8 @@ pub faulty : (lines : List (List ℕ)) (p : Progress) (line : List ℕ) (rest : 
     → IsReadTo lines p (line ∷ rest) → Fails p line fault → IsFaultOf lines fault
 faulty lines p line rest fault before fails = record {
   before = before.entries;
-  said = entry_of p.names p.number (words_of line);
-  rest = entries_of (names_after p.names (words_of line)) (p.number + 1) rest;
+  said = entry_of p.names p.number (line_words line);
+  rest = entries_of (names_after p.names (line_words line)) (p.number + 1) rest;
   parts = sym before.said;
   number = fails.number ∙ before.number;
   cause = fails.cause;

@@ -7,7 +7,7 @@ use Rattle.tag_lines.specs.Lines.{parts_of}
 use Rattle.tag_lines.proofs.OrderLineFacts.{HasWord, split_some}
 use Rattle.loop_device.specs.declared.fault.LogCause.{LogCause}
 use Rattle.loop_device.specs.declared.log_line.Entry.{Entry}
-use Rattle.loop_device.specs.LogLines.{entry_of, names_after, range_words, range_action, place_of, Tells}
+use Rattle.loop_device.specs.LogLines.{entry_of, names_after, range_words, range_action, index_of, TellsCause}
 
 -- an answer is what a line says, if it is Ok
 pub is_said : {A E : Type 0} (said result : Result A E) → result ≡ said → IfOk result (λ entry. said ≡ Ok entry)
@@ -15,20 +15,20 @@ is_said said (Ok entry) e = sym e
 is_said said (Err cause) e = tt
 
 -- and if it is a fault
-pub is_told : (said result : Result Entry LogCause) → result ≡ said → IfErr result (Tells said)
+pub is_told : (said result : Result Entry LogCause) → result ≡ said → IfErr result (TellsCause said)
 is_told said (Ok entry) e = tt
 is_told said (Err cause) e = λ other. sym e
 
 range_parts : (names : List (List ℕ)) (number : ℕ) (a b : List ℕ) (parts : List (List ℕ)) → HasWord parts
-    → entry_of names number (a ∷ b ∷ parts) ≡ range_words number (range_action b) parts (place_of names a)
+    → entry_of names number (a ∷ b ∷ parts) ≡ range_words number (range_action b) parts (index_of names a)
 range_parts names number a b parts some =
     ap (λ ws. entry_of names number (a ∷ b ∷ ws)) some.2
-    ∙ sym (ap (λ ws. range_words number (range_action b) ws (place_of names a)) some.2)
+    ∙ sym (ap (λ ws. range_words number (range_action b) ws (index_of names a)) some.2)
 
 -- what stands behind a name and an action is a range
 pub range_said : (names : List (List ℕ)) (number : ℕ) (a b rest : List ℕ)
     → entry_of names number (a ∷ b ∷ parts_of rest) ≡ range_words number (range_action b) (parts_of rest)
-    (place_of names a)
+    (index_of names a)
 range_said names number a b rest = range_parts names number a b (parts_of rest) (split_some rest)
 
 same_names : (names : List (List ℕ)) (a b : List ℕ) (parts : List (List ℕ)) → HasWord parts
@@ -58,7 +58,7 @@ passed-map : {A B : Type 0} (f : A → B) (p : B → Bool) (xs : List A)
 passed-map f p [] = refl
 passed-map f p (x ∷ xs) = ap (λ n. cond (p (f x)) (1 + n) 0) (passed-map f p xs)
 
--- the first place at which the values pass
+-- the first index at which the values pass
 pub position-map : {A B : Type 0} (f : A → B) (p : B → Bool) (xs : List A)
     → position p (map f xs) ≡ position (λ x. p (f x)) xs
 position-map f p xs =

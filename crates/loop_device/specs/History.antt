@@ -10,16 +10,16 @@ abbrev pub done_of : Io → ℕ → Done
 done_of io stamp = record { io = io; stamp = stamp }
 
 -- the first and the last sector that the line covers, if its length isn't 0
-abbrev pub first_of : Io → ℕ
-first_of io = io.offset / 512
+abbrev pub first_sector : Io → ℕ
+first_sector io = io.offset / 512
 
-abbrev pub last_of : Io → ℕ
-last_of io = (io.offset + io.length - 1) / 512
+abbrev pub last_sector : Io → ℕ
+last_sector io = (io.offset + io.length - 1) / 512
 
 -- the line covers this sector of this name
 abbrev pub covers : Io → ℕ → ℕ → Bool
-covers io name sector = io.name == name && nat_lt 0 io.length && nat_le (first_of io) sector
-    && nat_le sector (last_of io)
+covers io name sector = io.name == name && nat_lt 0 io.length && nat_le (first_sector io) sector
+    && nat_le sector (last_sector io)
 
 -- lines of this kind leave a stamp
 abbrev pub leaves_stamp : IoKind → Bool

@@ -4,7 +4,7 @@ use Rattle.loop_device.specs.declared.io.Io.{Io}
 use Rattle.loop_device.specs.declared.io.Done.{Done}
 use Rattle.loop_device.specs.declared.halving.Stamps.{Stamps}
 use Rattle.loop_device.specs.Halving.{stamp_at, is_sound, IsStampedWithin}
-use Rattle.loop_device.specs.History.{first_of, last_of, stamp_of, done_of, Answers, IsHistory}
+use Rattle.loop_device.specs.History.{first_sector, last_sector, stamp_of, done_of, Answers, IsHistory}
 
 -- the position of a name's sector in the row
 abbrev pub key : ℕ → ℕ → ℕ
@@ -12,13 +12,13 @@ key name sector = name * 2 ^ 56 + sector
 
 -- the position of the first sector that the line covers, and the position after the last one
 abbrev pub first_key : Io → ℕ
-first_key io = key io.name (first_of io)
+first_key io = key io.name (first_sector io)
 
 abbrev pub end_key : Io → ℕ
-end_key io = if nat_lt 0 io.length then key io.name (last_of io) + 1 else first_key io
+end_key io = if nat_lt 0 io.length then key io.name (last_sector io) + 1 else first_key io
 
 -- the numbers of a line fit their types
-pub record IsSmall (io : Io) : Type 0 where
+pub record FitsTypes (io : Io) : Type 0 where
   pub name : io.name < 2 ^ 32
   pub offset : io.offset < 2 ^ 64
   pub length : io.length < 2 ^ 64
@@ -41,7 +41,7 @@ LeavesStamp old new io = IsStampedWithin (stamp_at (2 ^ 88) old) (stamp_at (2 ^ 
     (end_key io) io.line
 
 -- after any history with the old stamps the line answers this, and the new stamps are those of that history plus it
-pub record Carries (old new : Stamps) (io : Io) (stamp : ℕ) : Type 0 where
+pub record CarriesOut (old new : Stamps) (io : Io) (stamp : ℕ) : Type 0 where
   pub sound : is_sound (2 ^ 88) new ≡ true
   pub stamps_are : (history : List Done) → AreStampsOf history old → AreStampsOf (history ++ done_of io stamp ∷ []) new
   pub answers : (history : List Done) → AreStampsOf history old → Answers history io stamp

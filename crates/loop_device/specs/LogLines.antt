@@ -20,8 +20,8 @@ abbrev pub names_of : List (Vec ℕ Global) → List (List ℕ)
 names_of names = map (λ name. name.items) names
 
 -- the index of a name among the known ones
-abbrev pub place_of : List (List ℕ) → List ℕ → Option ℕ
-place_of names name = position (λ known. bytes_eq known name) names
+abbrev pub index_of : List (List ℕ) → List ℕ → Option ℕ
+index_of names name = position (λ known. bytes_eq known name) names
 
 -- the action with this name, among those that take only a name
 abbrev pub name_action : List ℕ → Option NameAction
@@ -42,45 +42,45 @@ range_action action =
 
 -- a new name is added if there is room for it; only a known name can be opened or closed
 abbrev pub name_entry : Option NameAction → Option ℕ → ℕ → Result Entry LogCause
-name_entry None place count = Err BadLine
-name_entry (Some action) (Some place) count = Ok entries.Name
+name_entry None index count = Err BadLine
+name_entry (Some action) (Some index) count = Ok entries.Name
 name_entry (Some Add) None count = if nat_lt count MAX_NAMES then Ok entries.Name else Err TooManyNames
 name_entry (Some Open) None count = Err UnknownName
 name_entry (Some Close) None count = Err UnknownName
 
 -- an I/O line needs a known name and stores its index; a wait needs none
 abbrev pub io_entry : ℕ → RangeAction → ℕ → ℕ → Option ℕ → Result Entry LogCause
-io_entry line ranges.Wait offset length place = Ok entries.Wait
+io_entry line ranges.Wait offset length index = Ok entries.Wait
 io_entry line (ranges.Carry kind) offset length None = Err UnknownName
-io_entry line (ranges.Carry kind) offset length (Some place) =
-    Ok (entries.Carry (record { line = line; kind = kind; name = place; offset = offset; length = length }))
+io_entry line (ranges.Carry kind) offset length (Some index) =
+    Ok (entries.Carry (record { line = line; kind = kind; name = index; offset = offset; length = length }))
 
 -- an unknown action is reported before a bad number, and a bad number before an unknown name
 abbrev pub range_entry : ℕ → Option RangeAction → Option ℕ → Option ℕ → Option ℕ → Result Entry LogCause
-range_entry line None offset length place = Err BadLine
-range_entry line (Some action) None length place = Err BadNumber
-range_entry line (Some action) (Some offset) None place = Err BadNumber
-range_entry line (Some action) (Some offset) (Some length) place = io_entry line action offset length place
+range_entry line None offset length index = Err BadLine
+range_entry line (Some action) None length index = Err BadNumber
+range_entry line (Some action) (Some offset) None index = Err BadNumber
+range_entry line (Some action) (Some offset) (Some length) index = io_entry line action offset length index
 
 -- exactly two numbers
 abbrev pub range_words : ℕ → Option RangeAction → List (List ℕ) → Option ℕ → Result Entry LogCause
-range_words line action [] place = Err BadLine
-range_words line action (offset ∷ []) place = Err BadLine
-range_words line action (offset ∷ length ∷ []) place =
-    range_entry line action (number_below (2 ^ 63) offset) (number_below (2 ^ 63) length) place
-range_words line action (offset ∷ length ∷ word ∷ more) place = Err BadLine
+range_words line action [] index = Err BadLine
+range_words line action (offset ∷ []) index = Err BadLine
+range_words line action (offset ∷ length ∷ []) index =
+    range_entry line action (number_below (2 ^ 63) offset) (number_below (2 ^ 63) length) index
+range_words line action (offset ∷ length ∷ word ∷ more) index = Err BadLine
 
 -- what the words of the line with this number say, given the known names; a line with an empty word has no words
 abbrev pub entry_of : List (List ℕ) → ℕ → List (List ℕ) → Result Entry LogCause
 entry_of names line [] = Err BadLine
 entry_of names line (name ∷ []) = Err BadLine
-entry_of names line (name ∷ action ∷ []) = name_entry (name_action action) (place_of names name) (length names)
+entry_of names line (name ∷ action ∷ []) = name_entry (name_action action) (index_of names name) (length names)
 entry_of names line (name ∷ action ∷ word ∷ more) = range_words line (range_action action) (word ∷ more)
-    (place_of names name)
+    (index_of names name)
 
 -- the names, with this one appended if it is new
 abbrev pub with_name : List (List ℕ) → List ℕ → Option ℕ → List (List ℕ)
-with_name names name (Some place) = names
+with_name names name (Some index) = names
 with_name names name None = names ++ name ∷ []
 
 -- the names that are known after a line with these words
@@ -88,7 +88,7 @@ abbrev pub names_after : List (List ℕ) → List (List ℕ) → List (List ℕ)
 names_after names [] = names
 names_after names (name ∷ []) = names
 names_after names (name ∷ action ∷ []) =
-    if bytes_eq action (codes "add") then with_name names name (place_of names name) else names
+    if bytes_eq action (codes "add") then with_name names name (index_of names name) else names
 names_after names (name ∷ action ∷ word ∷ more) = names
 
 -- if the entry is an I/O line, it has this number
@@ -98,5 +98,5 @@ IsOfLine number entries.Wait = Unit {0}
 IsOfLine number (entries.Carry io) = io.line ≡ number
 
 -- the cause is why the line is faulty, unless memory ran out
-abbrev pub Tells : Result Entry LogCause → LogCause → Type 0
-Tells said cause = cause ≢ Memory → said ≡ Err cause
+abbrev pub TellsCause : Result Entry LogCause → LogCause → Type 0
+TellsCause said cause = cause ≢ Memory → said ≡ Err cause

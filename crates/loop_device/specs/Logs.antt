@@ -2,7 +2,7 @@
 use Rattle.std.specs.Prelude.{◌≡◌, ℕ, ◌+◌, Bool, true, false, List, [], ◌∷◌, ◌++◌, map, length, fold, filter_map, count_by, if◌then◌else◌}
 use Rattle.std.specs.Prelude.{Option, Some, None, IsSomeAnd, MatchOption, Result, Ok, codes}
 use Rattle.std.specs.Str.{bytes_eq}
-use Rattle.tag_lines.specs.Lines.{lines_of, words_of}
+use Rattle.tag_lines.specs.Lines.{lines_of, line_words}
 use Rattle.loop_device.specs.declared.fault.LogCause.{LogCause}
 use Rattle.loop_device.specs.declared.fault.LogCause.TheVariants.{NoHeader}
 use Rattle.loop_device.specs.declared.fault.LogFault.{LogFault}
@@ -10,7 +10,7 @@ use Rattle.loop_device.specs.declared.io.Io.{Io}
 use Rattle.loop_device.specs.declared.io.Log.{Log}
 use Rattle.loop_device.specs.declared.log_line.Entry.{Entry}
 use Rattle.loop_device.specs.declared.log_line.Entry.TheVariants.{Name, Wait, Carry}
-use Rattle.loop_device.specs.LogLines.{names_of, entry_of, names_after, Tells}
+use Rattle.loop_device.specs.LogLines.{names_of, entry_of, names_after, TellsCause}
 
 -- the lines after the header
 abbrev pub body_of : List (List ℕ) → Option (List (List ℕ))
@@ -21,11 +21,11 @@ body_of (line ∷ lines) = if bytes_eq line (codes "fio version 2 iolog") then S
 abbrev pub entries_of : List (List ℕ) → ℕ → List (List ℕ) → List (Result Entry LogCause)
 entries_of names number [] = []
 entries_of names number (line ∷ lines) =
-    entry_of names number (words_of line) ∷ entries_of (names_after names (words_of line)) (number + 1) lines
+    entry_of names number (line_words line) ∷ entries_of (names_after names (line_words line)) (number + 1) lines
 
 -- the names that are known after the lines
 abbrev pub names_in : List (List ℕ) → List (List ℕ) → List (List ℕ)
-names_in names lines = fold (λ known line. names_after known (words_of line)) names lines
+names_in names lines = fold (λ known line. names_after known (line_words line)) names lines
 
 -- the I/O line of an entry, if it is one
 abbrev pub io_in : Entry → Option Io
@@ -54,7 +54,7 @@ pub record IsFaultOf (lines : List (List ℕ)) (fault : LogFault) : Type 0 where
   pub rest : List (Result Entry LogCause)
   pub parts : entries_of [] 2 lines ≡ map Ok before ++ said ∷ rest
   pub number : fault.line ≡ length before + 2
-  pub cause : Tells said fault.cause
+  pub cause : TellsCause said fault.cause
 
 -- the log that a text describes
 abbrev pub IsLogOf : List ℕ → Log → Type 0

@@ -15,7 +15,7 @@ abbrev pub IsLineOf : List Io → ℕ → Type 0
 IsLineOf ios line = (io : Io) × Contains ios io × (io.line ≡ line)
 
 -- the tag, held with this line in its slot, was read and cleared
-pub record Ends (tags : Tags ℕ) (tag line : ℕ) (old new : Hand ℕ) : Type 0 where
+pub record EndsRequest (tags : Tags ℕ) (tag line : ℕ) (old new : Hand ℕ) : Type 0 where
   pub read : Hand ℕ
   pub slot : slot_of old tag ≡ some line
   pub reads : Reads tag line old read
@@ -25,7 +25,7 @@ pub record Ends (tags : Tags ℕ) (tag line : ℕ) (old new : Hand ℕ) : Type 0
 pub record Completes (tags : Tags ℕ) (tag line : ℕ) (old new : Hand ℕ) : Type 0 where
   pub taken : Hand ℕ
   pub takes : Takes tag old taken
-  pub ends : Ends tags tag line taken new
+  pub ends : EndsRequest tags tag line taken new
 
 -- what the fault says of the line in the slot: the log does not have it, or the store had no memory for it
 abbrev pub IsCarryFault : List Io → ℕ → PlayFault → Type 0
@@ -39,7 +39,7 @@ IsCarryFault ios line Stranger = ¬ (IsLineOf ios line)
 pub record EndsWithout (tags : Tags ℕ) (ios : List Io) (tag : ℕ) (fault : PlayFault) (old new : Hand ℕ) : Type 0 where
   pub line : ℕ
   pub tells : IsCarryFault ios line fault
-  pub ends : Ends tags tag line old new
+  pub ends : EndsRequest tags tag line old new
 
 -- the line in the slot was not carried out, and the tag was taken, read and cleared all the same
 pub record CompletesWithout (tags : Tags ℕ) (ios : List Io) (tag : ℕ) (fault : PlayFault)

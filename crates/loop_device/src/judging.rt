@@ -15,19 +15,19 @@ pub fn verdict(alloc: Global, log: &Log, done: &[Done]) -> Result<(), PlayFault>
     ensures fault { IfErr result (IsPlayFault log.now.ios.items done.now) }
 {
     let counts = tally(alloc, &log.ios, done)?;
-    if let Some(place) = first_above_one(&counts) {
-        return Err(PlayFault::Twice(log.ios[place].line));
+    if let Some(index) = first_above_one(&counts) {
+        return Err(PlayFault::Twice(log.ios[index].line));
     }
-    if let Some(place) = first_zero(&counts) {
-        return Err(PlayFault::Lost(log.ios[place].line));
+    if let Some(index) = first_zero(&counts) {
+        return Err(PlayFault::Lost(log.ios[index].line));
     }
     Ok(())
 }
 
 // The first index with a count above 1.
 fn first_above_one(counts: &[usize]) -> Option<usize>
-    ensures found { IfSome result (λ place. place < length counts.now × 1 < slice_index counts.now place) }
-    ensures before { IfSome result (λ place. AllWithin (λ n. n ≤ 1) counts.now 0 place) }
+    ensures found { IfSome result (λ index. index < length counts.now × 1 < slice_index counts.now index) }
+    ensures before { IfSome result (λ index. AllWithin (λ n. n ≤ 1) counts.now 0 index) }
     ensures none { IsNone result → All (λ n. n ≤ 1) counts.now }
 {
     counts.iter().position(|count| *count > 1)
@@ -35,8 +35,8 @@ fn first_above_one(counts: &[usize]) -> Option<usize>
 
 // The first index with a count of 0.
 fn first_zero(counts: &[usize]) -> Option<usize>
-    ensures found { IfSome result (λ place. place < length counts.now × slice_index counts.now place ≡ 0) }
-    ensures before { IfSome result (λ place. AllWithin (λ n. 0 < n) counts.now 0 place) }
+    ensures found { IfSome result (λ index. index < length counts.now × slice_index counts.now index ≡ 0) }
+    ensures before { IfSome result (λ index. AllWithin (λ n. 0 < n) counts.now 0 index) }
     ensures none { IsNone result → All (λ n. 0 < n) counts.now }
 {
     counts.iter().position(|count| *count == 0)
@@ -53,8 +53,8 @@ fn tally(alloc: Global, ios: &[Io], done: &[Done]) -> Result<Vec<usize>, PlayFau
         return Err(PlayFault::Memory);
     };
     for item in done {
-        match place_of(ios, &item.io) {
-            Some(place) => counts[place] += 1,
+        match index_of(ios, &item.io) {
+            Some(index) => counts[index] += 1,
             None => return Err(PlayFault::Stranger),
         }
     }
@@ -62,13 +62,13 @@ fn tally(alloc: Global, ios: &[Io], done: &[Done]) -> Result<Vec<usize>, PlayFau
 }
 
 // The index of the line among these.
-fn place_of(ios: &[Io], io: &Io) -> Option<usize>
+fn index_of(ios: &[Io], io: &Io) -> Option<usize>
     requires { LinesAscend ios.now }
-    ensures found { IfSome result (λ place. place < length ios.now × HoldsAt (λ found. found ≡ io.now) ios.now place) }
+    ensures found { IfSome result (λ index. index < length ios.now × HoldsAt (λ found. found ≡ io.now) ios.now index) }
     ensures absent { IsNone result → ¬ (Contains ios.now io.now) }
 {
     match ios.binary_search_by_key(&io.line, |found| found.line) {
-        Ok(place) => { if ios[place] == *io { Some(place) } else { None } }
+        Ok(index) => { if ios[index] == *io { Some(index) } else { None } }
         Err(_) => None,
     }
 }

@@ -1,9 +1,9 @@
 //! What a line of an I/O log says.
 ghost use Rattle.std.specs.Prelude.{◌≡◌, ◌≢◌, ◌≤◌, ◌<◌, ◌^◌, ◌∷◌, ◌++◌, [], length, IfOk, IfErr, OnOk, Ok, Err};
 ghost use Rattle.loop_device.specs.declared.fault.LogCause.TheVariants.{Memory, TooManyNames};
-ghost use Rattle.tag_lines.specs.Lines.{parts_of, words_of, number_below};
-ghost use Rattle.loop_device.specs.LogLines.{names_of, place_of, name_action, range_action, name_entry, range_entry};
-ghost use Rattle.loop_device.specs.LogLines.{range_words, with_name, entry_of, names_after, IsOfLine, Tells};
+ghost use Rattle.tag_lines.specs.Lines.{parts_of, line_words, number_below};
+ghost use Rattle.loop_device.specs.LogLines.{names_of, index_of, name_action, range_action, name_entry, range_entry};
+ghost use Rattle.loop_device.specs.LogLines.{range_words, with_name, entry_of, names_after, IsOfLine, TellsCause};
 
 use crate::fault::LogCause;
 use crate::io::{Io, IoKind};
@@ -96,10 +96,10 @@ pub(crate) fn read_line(
 ) -> Result<Entry, LogCause>
     requires few { length names.old.items ≤ MAX_NAMES }
     ensures few { length names.new.items ≤ MAX_NAMES }
-    ensures ok { IfOk result (λ entry. entry_of (names_of names.old.items) number (words_of line.now) ≡ Ok entry) }
-    ensures names { OnOk result (names_of names.new.items ≡ names_after (names_of names.old.items) (words_of line.now)) }
+    ensures ok { IfOk result (λ entry. entry_of (names_of names.old.items) number (line_words line.now) ≡ Ok entry) }
+    ensures names { OnOk result (names_of names.new.items ≡ names_after (names_of names.old.items) (line_words line.now)) }
     ensures line { IfOk result (IsOfLine number) }
-    ensures err { IfErr result (Tells (entry_of (names_of names.old.items) number (words_of line.now))) }
+    ensures err { IfErr result (TellsCause (entry_of (names_of names.old.items) number (line_words line.now))) }
 {
     if has_gap(line) {
         return Err(LogCause::BadLine);
@@ -129,10 +129,10 @@ fn name_line(
     ensures ok { IfOk result (λ entry. entry_of (names_of names.old.items) number (name.now ∷ action.now ∷ []) ≡ Ok entry) }
     ensures names { OnOk result (names_of names.new.items ≡ names_after (names_of names.old.items) (name.now ∷ action.now ∷ [])) }
     ensures line { IfOk result (IsOfLine number) }
-    ensures err { IfErr result (Tells (entry_of (names_of names.old.items) number (name.now ∷ action.now ∷ []))) }
+    ensures err { IfErr result (TellsCause (entry_of (names_of names.old.items) number (name.now ∷ action.now ∷ []))) }
 {
     let action = NameAction::named(action).ok_or(LogCause::BadLine)?;
-    match (action, place_of(names, name)) {
+    match (action, index_of(names, name)) {
         (_, Some(_)) => {}
         (NameAction::Add, None) => add_name(alloc, names, name)?,
         (_, None) => return Err(LogCause::UnknownName),
@@ -161,12 +161,12 @@ fn add_name(alloc: Global, names: &mut Vec<Vec<u8>>, name: &[u8]) -> Result<(), 
 }
 
 // The index of a name among the known ones.
-fn place_of(names: &[Vec<u8>], name: &[u8]) -> Option<u32>
+fn index_of(names: &[Vec<u8>], name: &[u8]) -> Option<u32>
     requires { length names.now ≤ MAX_NAMES }
-    ensures { result ≡ place_of (names_of names.now) name.now }
+    ensures { result ≡ index_of (names_of names.now) name.now }
 {
-    let place = names.iter().position(|known| known.as_slice() == name)?;
-    Some(place as u32)
+    let index = names.iter().position(|known| known.as_slice() == name)?;
+    Some(index as u32)
 }
 
 // A name, an action, and the words of its range.
@@ -178,7 +178,7 @@ fn range_line(
     range: &[u8],
 ) -> Result<Entry, LogCause>
     requires { length names.now ≤ MAX_NAMES }
-    ensures said { result ≡ range_words line (range_action action.now) (parts_of range.now) (place_of (names_of names.now) name.now) }
+    ensures said { result ≡ range_words line (range_action action.now) (parts_of range.now) (index_of (names_of names.now) name.now) }
     ensures line { IfOk result (IsOfLine line) }
 {
     let (offset, rest) = cut(range, BLANK);
@@ -204,7 +204,7 @@ fn range_entry(
     requires { length names.now ≤ MAX_NAMES }
     ensures line { IfOk result (IsOfLine line) }
     ensures said { result ≡ range_entry line (range_action action.now) (number_below (2 ^ 63) offset.now)
-        (number_below (2 ^ 63) size.now) (place_of (names_of names.now) name.now) }
+        (number_below (2 ^ 63) size.now) (index_of (names_of names.now) name.now) }
 {
     let action = RangeAction::named(action).ok_or(LogCause::BadLine)?;
     let offset = extent(offset).ok_or(LogCause::BadNumber)?;
@@ -213,7 +213,7 @@ fn range_entry(
         RangeAction::Carry(kind) => kind,
         RangeAction::Wait => return Ok(Entry::Wait),
     };
-    let name = place_of(names, name).ok_or(LogCause::UnknownName)?;
+    let name = index_of(names, name).ok_or(LogCause::UnknownName)?;
     Ok(Entry::Carry(Io {
         line,
         kind,

@@ -25,7 +25,7 @@ pub(crate) struct Reader {
 
 impl Reader {
     ghost use Rattle.loop_device.specs.LogLines.{names_of};
-    ghost use Rattle.loop_device.specs.LogProgress.{progress_of, Reads, Fails};
+    ghost use Rattle.loop_device.specs.LogProgress.{progress_of, ReadsLine, Fails};
 
     /// A reader at the first line after the header.
     pub(crate) fn new(alloc: Global) -> Reader
@@ -43,7 +43,7 @@ impl Reader {
     /// Reads a line.
     pub(crate) fn read(&mut self, line: &[u8]) -> Result<(), LogFault>
         requires { self.old.number < 2 ^ 64 - 1 }
-        ensures ok { OnOk result (Reads (progress_of self.old) line.now (progress_of self.new)) }
+        ensures ok { OnOk result (ReadsLine (progress_of self.old) line.now (progress_of self.new)) }
         ensures err { IfErr result (Fails (progress_of self.old) line.now) }
     {
         let number = self.number;

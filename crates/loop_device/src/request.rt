@@ -4,7 +4,7 @@ ghost use Rattle.std.specs.List.{Contains};
 ghost use Rattle.tag_sets.specs.Hands.{IsHandOf, Holds};
 ghost use Rattle.tag_sets.specs.Holding.{HoldsSame};
 ghost use Rattle.loop_device.specs.Lines.{LinesAscend};
-ghost use Rattle.loop_device.specs.Requests.{IsLineOf, Completes, Ends, EndsWithout, IsCarryFault, IsRequestFault};
+ghost use Rattle.loop_device.specs.Requests.{IsLineOf, Completes, EndsRequest, EndsWithout, IsCarryFault, IsRequestFault};
 
 use crate::fault::PlayFault;
 use crate::gate::Gate;
@@ -53,7 +53,7 @@ pub(crate) fn finish<G: Gate, W: Wait>(
     requires held { Holds hand.old tag }
     ensures hand { IsHandOf tags.now hand.new }
     ensures line { IfOk result (IsLineOf log.now.ios.items) }
-    ensures ok { IfOk result (λ line. Ends tags.now tag line hand.old hand.new) }
+    ensures ok { IfOk result (λ line. EndsRequest tags.now tag line hand.old hand.new) }
     ensures fault { IfErr result (λ fault. EndsWithout tags.now log.now.ios.items tag fault hand.old hand.new) }
 {
     let Ok(line) = tags.read(hand, tag) else {
@@ -98,7 +98,7 @@ fn line_of(ios: &[Io], line: u64) -> Option<Io>
     ensures absent { IsNone result → ¬ (IsLineOf ios.now line) }
 {
     match ios.binary_search_by_key(&line, |io| io.line) {
-        Ok(place) => Some(ios[place]),
+        Ok(index) => Some(ios[index]),
         Err(_) => None,
     }
 }

@@ -2,7 +2,7 @@
 ghost use Rattle.std.specs.Prelude.{◌≡◌, ◌≤◌, ◌^◌, ◌++◌, ◌∷◌, [], true, IfOk, OnOk, OnErr};
 ghost use Rattle.loop_device.specs.Halving.{is_sound, IsRefined};
 ghost use Rattle.loop_device.specs.History.{Answers, IsHistory, done_of};
-ghost use Rattle.loop_device.specs.Keys.{first_key, end_key, Carries, IsSmall, LeavesStamp};
+ghost use Rattle.loop_device.specs.Keys.{first_key, end_key, CarriesOut, FitsTypes, LeavesStamp};
 
 use crate::halving::Stamps;
 use crate::io::{Done, Io, IoKind};
@@ -89,7 +89,7 @@ impl Store {
 // What the line answers. A write or a trim leaves its stamp.
 fn answer(stamps: &mut Stamps, alloc: Global, io: &Io) -> Result<u64, AllocError>
     requires { is_sound (2 ^ 88) stamps.old ≡ true }
-    ensures ok { IfOk result (Carries stamps.old stamps.new io.now) }
+    ensures ok { IfOk result (CarriesOut stamps.old stamps.new io.now) }
     ensures err { OnErr result (IsRefined (2 ^ 88) stamps.old stamps.new) }
 {
     if io.kind.leaves_stamp() {
@@ -108,7 +108,7 @@ fn answer(stamps: &mut Stamps, alloc: Global, io: &Io) -> Result<u64, AllocError
 // Leaves the line's number as the stamp of each sector that it covers.
 fn leave_stamp(stamps: &mut Stamps, alloc: Global, io: &Io) -> Result<(), AllocError>
     requires { is_sound (2 ^ 88) stamps.old ≡ true }
-    ensures small { IsSmall io.now }
+    ensures small { FitsTypes io.now }
     ensures sound { is_sound (2 ^ 88) stamps.new ≡ true }
     ensures ok { OnOk result (LeavesStamp stamps.old stamps.new io.now) }
     ensures err { OnErr result (IsRefined (2 ^ 88) stamps.old stamps.new) }
@@ -124,7 +124,7 @@ fn leave_stamp(stamps: &mut Stamps, alloc: Global, io: &Io) -> Result<(), AllocE
 fn span(io: &Io) -> (u128, u128)
     ensures first { result.0 ≡ first_key io.now }
     ensures end { result.1 ≡ end_key io.now }
-    ensures small { IsSmall io.now }
+    ensures small { FitsTypes io.now }
     ensures within { first_key io.now ≤ 2 ^ 88 }
     ensures end_within { end_key io.now ≤ 2 ^ 88 }
 {

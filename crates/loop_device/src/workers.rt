@@ -128,8 +128,8 @@ pub(crate) fn submit_all<B: Tagged, G: Gate, W: Wait>(
     ensures { IsHandOf shared.now.tags.now result.hand }
 {
     let mut faults = Faults::none();
-    for (place, io) in shared.log.ios.iter().enumerate() {
-        if place % submitters != number {
+    for (index, io) in shared.log.ios.iter().enumerate() {
+        if index % submitters != number {
             continue;
         }
         if shared.stopped.load(SeqCst) {

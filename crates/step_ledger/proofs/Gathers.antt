@@ -6,7 +6,7 @@ use Rattle.atomic_table.specs.Table.{State, Final, Seen}
 use Rattle.step_ledger.specs.declared.record.Record.{Record}
 use Rattle.step_ledger.specs.declared.record.View.{View}
 use Rattle.step_ledger.specs.Views.{Has, numbers, turned, sum_over}
-use Rattle.step_ledger.specs.History.{own_steps, words_of, Lawful, sum_to, AreListsOf}
+use Rattle.step_ledger.specs.History.{own_steps, words_left, Lawful, sum_to, AreListsOf}
 use Rattle.step_ledger.specs.Ledger.{Ledger}
 use Rattle.step_ledger.proofs.Sums as sums
 use Rattle.step_ledger.proofs.Turned.{at_turned, has_turned, sum_turned}
@@ -35,7 +35,7 @@ pub record Gathered {T : Type 0} (n : ℕ) (start : List ℕ) (after : T → Lis
     → Type 0) (words : List ℕ) (rs : List (Record T)) : Type 0 where
   pub history : List (ℕ × T)
   pub lawful : Lawful n MayStep history
-  pub words_are : words ≡ words_of start after history
+  pub words_are : words ≡ words_left start after history
   pub lists : AreListsOf history rs
   pub sums : (f : List T → ℕ) → sum_over f rs ≡ sum_to (λ c. f (own_steps c history)) n
 

@@ -7,8 +7,8 @@ use Rattle.atomic_table.specs.Table.{State, Me, opening, Allows, keeps, Splits, 
 use Rattle.atomic_table.proofs.Lists.{at_set, set_else}
 use Rattle.step_ledger.specs.declared.record.Record.{Record}
 use Rattle.step_ledger.specs.declared.record.View.{View}
-use Rattle.step_ledger.specs.Views.{viewing, alone, with_step, push, fresh_record, fresh, first_view, other_views, both_views, steps_of, Stepped}
-use Rattle.step_ledger.specs.History.{own_steps, words_of, Lawful}
+use Rattle.step_ledger.specs.Views.{viewing, own_view, with_step, push, fresh_record, fresh, first_view, other_views, both_views, steps_of, Stepped}
+use Rattle.step_ledger.specs.History.{own_steps, words_left, Lawful}
 use Rattle.step_ledger.specs.Ledger.{Ledger}
 use Rattle.step_ledger.proofs.Seats.{Standing, each_same, split, join}
 
@@ -23,7 +23,7 @@ module _ {T : Type 0} where
   only_first zero a q e = (refl, some-injective a q e)
   only_first (suc n) a q e = absurd (some-ne-none q (sym e))
 
-  pub same_record : (a b : Record T) → alone a ≡ alone b → a ≡ b
+  pub same_record : (a b : Record T) → own_view a ≡ own_view b → a ≡ b
   same_record a b e = some-injective a b (ap (λ (v : View T). get_elem? v.records.value 0) e)
 
 module _ {T : Type 0} where
@@ -57,14 +57,14 @@ module _ {T : Type 0} where
 
 module _ {S T : Type 0} where
   -- what a member knows after a step
-  pub pushed : (m m' : Me S (View T)) (r : Record T) (x : T) → m ≡ (alone r, []) → Stepped x m m'
-      → m' ≡ (alone (with_step x r), [])
+  pub pushed : (m m' : Me S (View T)) (r : Record T) (x : T) → m ≡ (own_view r, []) → Stepped x m m'
+      → m' ≡ (own_view (with_step x r), [])
   pushed m m' r x is did = did ∙ ap (λ (z : Me S (View T)). (push x z.0, z.1)) is
 
-  pub settled : (m : Me S (View T)) (r : Record T) → m ≡ (alone r, [])
-      → m ≡ (alone (record { number = r.number; steps = steps_of m.0 }), [])
+  pub settled : (m : Me S (View T)) (r : Record T) → m ≡ (own_view r, [])
+      → m ≡ (own_view (record { number = r.number; steps = steps_of m.0 }), [])
   settled m r is = is ∙ (λ j. (
-    alone (record {
+    own_view (record {
       number = r.number;
       steps = sym (ap (λ (z : Me S (View T)). steps_of z.0) is) j;
     }),
@@ -82,22 +82,22 @@ module _ {S T : Type 0} (n : ℕ) (start : List ℕ) (after : T → List ℕ →
   Rule s = Ledger n start after MayStep s
 
   module _ (s : State S (View T)) (k : Rule s) (r : Record T) (id : ℕ) (at : get_elem? s.views id
-      ≡ some (alone r)) where
+      ≡ some (own_view r)) where
     pub known : (r.number < n) × (r.steps ≡ own_steps r.number k.history)
-    known = let o = k.records id (alone r) at 0 r refl in (o.0, o.1)
+    known = let o = k.records id (own_view r) at 0 r refl in (o.0, o.1)
 
     module _ (x : T) (can : MayStep r.number x k.history) (ws : List ℕ) (hs : List _) (words : ws
-        ≡ after x (words_of start after k.history)) where
+        ≡ after x (words_left start after k.history)) where
       -- one more step of one member
-      pub advances : Rule record { words = ws; homes = hs; views = set s.views id (alone (with_step x r)) }
-      advances = let own = k.records id (alone r) at 0 r refl in record {
+      pub advances : Rule record { words = ws; homes = hs; views = set s.views id (own_view (with_step x r)) }
+      advances = let own = k.records id (own_view r) at 0 r refl in record {
         history = (r.number, x) ∷ k.history;
         lawful = (own.0, can, k.lawful);
         words_are = words;
         seat = k.seat;
         position = k.position;
         records = λ j v e i q e'. ⊎_elim
-            (λ (t : (j ≡ id) × (alone (with_step x r) ≡ v)).
+            (λ (t : (j ≡ id) × (own_view (with_step x r) ≡ v)).
             let f = only_first i (with_step x r) q (ap (λ (z : View T). get_elem? z.records.value i) t.1 ∙ e') in
             let num : r.number ≡ q.number = ap (λ (z : Record T). z.number) f.1 in (
               subst (λ (z : ℕ). z < n) num own.0,
@@ -112,34 +112,34 @@ module _ {S T : Type 0} (n : ℕ) (start : List ℕ) (after : T → List ℕ →
               o.2,
               o.3,
             ))
-            (at_set s.views id j (alone (with_step x r)) v e);
+            (at_set s.views id j (own_view (with_step x r)) v e);
         each = each_same (λ (v : View T). v.records.value) (λ (r : Record T). r.number) n s.views k.seat
-            k.position id (alone r) (alone (with_step x r)) r (with_step x r) refl refl at refl k.each;
+            k.position id (own_view r) (own_view (with_step x r)) r (with_step x r) refl refl at refl k.each;
       }
 
   -- a step of one member is allowed where it can happen
-  pub allows : (slots id : ℕ) (m : Me S (View T)) (r : Record T) → m.0 ≡ alone r
+  pub allows : (slots id : ℕ) (m : Me S (View T)) (r : Record T) → m.0 ≡ own_view r
       → (i : ℕ) (f : ℕ → ℕ) (x : ℕ → T) (Also : ℕ → Type 0)
       → ((h : List (ℕ × T)) → Lawful n MayStep h → r.number < n → r.steps ≡ own_steps r.number h
-      → get_or (words_of start after h) i 0 < 18446744073709551616
-      → MayStep r.number (x (get_or (words_of start after h) i 0)) h
-      × (set (words_of start after h) i (f (get_or (words_of start after h) i 0))
-      ≡ after (x (get_or (words_of start after h) i 0)) (words_of start after h))
-      × Also (get_or (words_of start after h) i 0))
+      → get_or (words_left start after h) i 0 < 18446744073709551616
+      → MayStep r.number (x (get_or (words_left start after h) i 0)) h
+      × (set (words_left start after h) i (f (get_or (words_left start after h) i 0))
+      ≡ after (x (get_or (words_left start after h) i 0)) (words_left start after h))
+      × Also (get_or (words_left start after h) i 0))
       → Allows Rule slots id m i f (λ (v : ℕ) (m' : Me S (View T)). (Stepped (x v) m m') × Also v)
-  allows slots id m r is i f x Also owes s k deep at low = let at' : get_elem? s.views id ≡ some (alone r) = at
+  allows slots id m r is i f x Also owes s k deep at low = let at' : get_elem? s.views id ≡ some (own_view r) = at
       ∙ ap some is in let own = known s k r id at' in
-      let same : get_or s.words i 0 ≡ get_or (words_of start after k.history) i 0 =
+      let same : get_or s.words i 0 ≡ get_or (words_left start after k.history) i 0 =
       ap (λ (l : List ℕ). get_or l i 0) k.words_are in
       let o = owes k.history k.lawful own.0 own.1 (subst (λ (z : ℕ). z < 18446744073709551616) same low) in
       let v : ℕ = get_or s.words i 0 in (
-        alone (with_step (x v) r),
+        own_view (with_step (x v) r),
         keeps,
         tt,
         advances s k r id at' (x v) (subst (λ (z : ℕ). MayStep r.number (x z) k.history) (sym same) o.0)
             (set s.words i (f v)) s.homes
             ((λ j. set (k.words_are j) i (f (same j))) ∙ o.1
-            ∙ ap (λ (z : ℕ). after (x z) (words_of start after k.history)) (sym same)),
+            ∙ ap (λ (z : ℕ). after (x z) (words_left start after k.history)) (sym same)),
         (ap (λ (z : View T). (push (x v) z, m.1)) (sym is), subst Also (sym same) o.2),
       )
 
@@ -196,9 +196,9 @@ module _ {S T : Type 0} (n : ℕ) (start : List ℕ) (after : T → List ℕ →
 
   -- the first record goes to a new seat
   splits_from : (id : ℕ) (v : View T) (r : Record T) (rs : List (Record T)) → v ≡ viewing (r ∷ rs)
-      → Splits Rule id v (viewing rs) (alone r)
+      → Splits Rule id v (viewing rs) (own_view r)
   splits_from id v r rs is s sh at = reseated s sh _ (split _ _ _ n s.views (standing s sh) id (viewing (r ∷ rs))
-      (viewing rs) (alone r) r rs refl refl refl (at ∙ ap some is))
+      (viewing rs) (own_view r) r rs refl refl refl (at ∙ ap some is))
 
   pub splits : (id : ℕ) (v : View T) (r : Record T) (rs : List (Record T)) → v ≡ viewing (r ∷ rs)
       → Splits Rule id v (other_views v) (first_view v)

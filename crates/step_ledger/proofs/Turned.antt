@@ -6,7 +6,7 @@ use lib.ListN.{get_elem?}
 use Rattle.atomic_table.proofs.Lists.{at_longer}
 use Rattle.step_ledger.specs.declared.record.Record.{Record}
 use Rattle.step_ledger.specs.declared.record.View.{View}
-use Rattle.step_ledger.specs.Views.{Has, alone, both_views, numbers, turned, sum_over}
+use Rattle.step_ledger.specs.Views.{Has, own_view, both_views, numbers, turned, sum_over}
 use Rattle.step_ledger.proofs.Seats.{append_second}
 
 module _ {A : Type 0} where
@@ -69,17 +69,17 @@ module _ {T : Type 0} where
   sum_turned f (r ∷ rs) = let e = sum_append f (turned rs) (r ∷ []) in let i = sum_turned f rs in omega arith
 
   -- where one member's seat was joined to another, its record is the newest
-  pub joined : (v w now : View T) (r : Record T) → now ≡ both_views v w → w ≡ alone r
+  pub joined : (v w now : View T) (r : Record T) → now ≡ both_views v w → w ≡ own_view r
       → turned now.records.value ≡ r ∷ turned v.records.value
   joined v w now r is one = ap (λ (z : View T). turned z.records.value) (is ∙ ap (both_views v) one)
       ∙ turned_last v.records.value r
 
-  pub sum_joined : (f : List T → ℕ) (v w now : View T) (r : Record T) → now ≡ both_views v w → w ≡ alone r
+  pub sum_joined : (f : List T → ℕ) (v w now : View T) (r : Record T) → now ≡ both_views v w → w ≡ own_view r
       → sum_over f now.records.value ≡ sum_over f v.records.value + f r.steps
   sum_joined f v w now r is one = let e = sum_append f v.records.value (r ∷ []) in
       let j = ap (λ (z : View T). sum_over f z.records.value) (is ∙ ap (both_views v) one) in omega arith
 
-  -- whose record stands at a place
+  -- whose record stands at an index
   pub number_at : (rs : List (Record T)) (i c : ℕ) → get_elem? (numbers rs) i ≡ some c
       → (r : Record T) × (get_elem? rs i ≡ some r) × (r.number ≡ c)
   number_at [] i c e = absurd (some-ne-none c (sym e))
@@ -96,7 +96,7 @@ module _ {T : Type 0} where
   has_turned rs c h = let a = number_at rs h.0 c h.1 in let b = at_turned rs h.0 a.0 a.1 in
       (b.0, at_number (turned rs) b.0 a.0 b.1 ∙ ap some a.2)
 
--- what stands at no place isn't there
+-- what stands at no index isn't there
 pub nowhere : (ns : List ℕ) (c : ℕ) → ((i : ℕ) → i < length ns → get_elem? ns i ≢ some c) → ¬ Has ns c
 nowhere ns c none h = none h.0 (at_some ns h.0 c h.1) h.1
   where

@@ -31,9 +31,9 @@ module _ {T : Type 0} where
 
   module _ (start : List ℕ) (after : T → List ℕ → List ℕ) where
     -- the words after a history, starting from the opening ones
-    abbrev pub words_of : List (ℕ × T) → List ℕ
-    words_of [] = start
-    words_of (x ∷ h) = after x.1 (words_of h)
+    abbrev pub words_left : List (ℕ × T) → List ℕ
+    words_left [] = start
+    words_left (x ∷ h) = after x.1 (words_left h)
 
   module _ (n : ℕ) (MayStep : ℕ → T → List (ℕ × T) → Type 0) where
     -- each step is made by one of n members, and may happen after the steps before it

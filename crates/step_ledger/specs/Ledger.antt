@@ -5,7 +5,7 @@ use lib.ListN.{get_elem?}
 use Rattle.atomic_table.specs.Table.{State}
 use Rattle.step_ledger.specs.declared.record.Record.{Record}
 use Rattle.step_ledger.specs.declared.record.View.{View}
-use Rattle.step_ledger.specs.History.{own_steps, words_of, Lawful}
+use Rattle.step_ledger.specs.History.{own_steps, words_left, Lawful}
 
 -- each member's record is in some view
 abbrev pub Everyone : {T : Type 0} → ℕ → List (View T) → (ℕ → ℕ) → (ℕ → ℕ) → Type 0
@@ -18,7 +18,7 @@ pub record Ledger {S T : Type 0} (n : ℕ) (start : List ℕ) (after : T → Lis
     (s : State S (View T)) : Type 0 where
   pub history : List (ℕ × T)
   pub lawful : Lawful n MayStep history
-  pub words_are : s.words ≡ words_of start after history
+  pub words_are : s.words ≡ words_left start after history
   pub seat : ℕ → ℕ
   pub position : ℕ → ℕ
   pub records : (j : ℕ) (v : View T) → get_elem? s.views j ≡ some v → (i : ℕ) (r : Record T)

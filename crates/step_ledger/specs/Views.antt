@@ -29,8 +29,8 @@ module _ {T : Type 0} where
   viewing rs = record { records = record { marker = record {}; value = rs } }
 
   -- the view of one record
-  abbrev pub alone : Record T → View T
-  alone r = viewing (r ∷ [])
+  abbrev pub own_view : Record T → View T
+  own_view r = viewing (r ∷ [])
 
   -- the record with one more step
   abbrev pub with_step : T → Record T → Record T

@@ -66,7 +66,7 @@ same_counts f g (suc n) same = let rest = same_counts f g n (λ k low. same k (o
     let last : one_if (f n) ≡ one_if (g n) = ap one_if (same n (omega arith)) in omega arith
 
 module _ {R : Type 0} (old new : Agent R) (one : IsAlone (caller_of old)) (found : List (ℕ × ℕ))
-    (f : looks.Finds (looks.looks_from 0 found) old new) where
+    (f : looks.MakesLooks (looks.looks_from 0 found) old new) where
   made : (record_of (caller_of new)).steps ≡ own_after (looks.looks_from 0 found) (record_of (caller_of old)).steps
   made = ap (λ (r : Record R). r.steps) f.known ∙ own_of_record (looks.looks_from 0 found) (record_of (caller_of old))
 

@@ -86,8 +86,8 @@ module _ {R : Type 0} (tags : Tags R) (old between new : Hand R) (own : IsHandOf
     between)
     (second : shows.LooksAround (layout_of tags Ordinary) Ordinary ordinary between new) where
   -- the ordinary set is unchanged when its look begins
-  then_found : looks.Finds (looks.looks_from 0 ordinary) old.ordinary new.ordinary
-  then_found = subst (λ (a : Agent R). looks.Finds (looks.looks_from 0 ordinary) a new.ordinary) first.looks.other
+  then_found : looks.MakesLooks (looks.looks_from 0 ordinary) old.ordinary new.ordinary
+  then_found = subst (λ (a : Agent R). looks.MakesLooks (looks.looks_from 0 ordinary) a new.ordinary) first.looks.other
       second.looks.changed
 
   -- a tag is found busy exactly if it is busy

@@ -15,7 +15,7 @@ use Rattle.tag_queue.specs.Clears.{Puts}
 use Rattle.tag_queue.specs.Gets.{GetsPlain, GetsShallow, GetsBatch}
 use Rattle.tag_queue.specs.Slots.{Posts, Takes, Misses}
 use Rattle.tag_queue.proofs.Giving.{same_number}
-use Rattle.tag_sets.specs.Looks.{Finds, looks_from}
+use Rattle.tag_sets.specs.Looks.{MakesLooks, looks_from}
 
 -- the record counts this many more tags won and given back than the other, for the same caller
 pub record Counts {R : Type 0} (won back : ℕ) (old new : Record R) : Type 0 where
@@ -110,7 +110,7 @@ module _ {R : Type 0} where
       round = s.1;
     }
 
-    pub finds : (found : List (ℕ × ℕ)) → Finds (looks_from 0 found) old new → Tallies 0 0 old new
+    pub finds : (found : List (ℕ × ℕ)) → MakesLooks (looks_from 0 found) old new → Tallies 0 0 old new
     finds found f = counted 0 0 _ f.known (looks_count found 0 (record_of (caller_of old))) f.same_else
 
     pub posts : (tag : ℕ) → Posts tag old new → Tallies 0 0 old new

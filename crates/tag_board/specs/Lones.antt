@@ -8,7 +8,7 @@ use Rattle.tag_search.specs.Batch.{batch_words}
 use Rattle.tag_search.specs.Choice.{IsChoice, IsBatchChoice}
 use Rattle.tag_search.specs.Follows.{HintFollows, BatchFollows}
 use Rattle.tag_search.specs.Hints.{reduced}
-use Rattle.tag_search.specs.Pool.{Pool, is_busy, aside_at}
+use Rattle.tag_search.specs.Pool.{Pool, is_busy, set_aside}
 use Rattle.tag_search.specs.Search.{Visit}
 use Rattle.tag_search.specs.Visits.{plain_visits, shallow_visits}
 use Rattle.tag_queue.specs.declared.fault.TagFault.{TagFault}
@@ -110,7 +110,7 @@ hint_at number h = record h { at = if h.round_robin then h.at else number }
 abbrev pub put_back : ℕ → Lone → Lone
 put_back number w =
     record w {
-      pool = aside_at (word_of w.layout number) (place_of w.layout number) w.pool;
+      pool = set_aside (word_of w.layout number) (place_of w.layout number) w.pool;
       hint = hint_at number w.hint;
     }
 

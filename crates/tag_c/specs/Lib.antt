@@ -6,3 +6,4 @@ pub mod Views
 pub mod Exports
 pub mod Resizes
 pub mod Held
+pub mod Lending

@@ -40,7 +40,8 @@ pub record Prevents (total : ℕ) (tags : Tags ℕ) (cause : ResizeCause) : Type
   pub own : All (IsHandOf tags) hands
   pub refused : IsRefusedFor tags hands total cause
 
--- why tags do not continue with this total; which hands are out is not stated
+-- why tags do not continue with this total; for `HandsOut` only that the total is in range: that a hand is out is not
+-- stated
 abbrev pub RefusesResize : ℕ → Tags ℕ → Status → Type 0
 RefusesResize total tags (NotOpened TotalTooLarge) = MAX_DEPTH < total
 RefusesResize total tags (NotOpened ReservedTooLarge) = (total ≤ MAX_DEPTH) × (total < reserved_of tags)
@@ -56,7 +57,7 @@ abbrev pub EndsResize : ℕ → Tags ℕ → Status → Tags ℕ → Type 0
 EndsResize total old Done new = Resizes total old new
 EndsResize total old status new = RefusesResize total old status × AreSame old new
 
--- a pool does so, and the number says which; on a hand the call is refused, and nothing changes
+-- a pool is resized or refused, and the code is that of the status; on a hand the call is refused, and nothing changes
 abbrev pub ResizesAs : ℕ → ℤ → Kind → Kind → Type 0
 ResizesAs total code (IsPool old) (IsPool new) = (status : Status) × (code ≡ code_of status)
     × EndsResize total (arc_value old.shared).tags status (arc_value new.shared).tags

@@ -7,7 +7,6 @@ use crate::codes::{batch_code, get_code};
 use crate::handle::Handle;
 use crate::object::{Kind, Object};
 use crate::status::Status;
-use std::alloc::Global;
 
 impl Object {
     #[inline]
@@ -62,50 +61,42 @@ impl Object {
 }
 
 #[unsafe(no_mangle)]
-pub extern "C" fn tags_get(alloc: Global, hand: &mut Handle) -> i32
+pub extern "C" fn tags_get(hand: &mut Handle) -> i32
     ensures { CallsBy (Through DoesGet code_of_get result) result hand.old.object.value hand.new.object.value }
 {
-    let Some(mut object) = hand.take(alloc) else {
+    let Some(object) = hand.lend() else {
         return Status::BadHandle.code();
     };
-    let code = object.get();
-    *hand = Handle::of(object);
-    code
+    object.get()
 }
 
 #[unsafe(no_mangle)]
-pub extern "C" fn tags_get_reserved(alloc: Global, hand: &mut Handle) -> i32
+pub extern "C" fn tags_get_reserved(hand: &mut Handle) -> i32
     ensures { CallsBy (Through DoesGetReserved code_of_get result) result hand.old.object.value hand.new.object.value }
 {
-    let Some(mut object) = hand.take(alloc) else {
+    let Some(object) = hand.lend() else {
         return Status::BadHandle.code();
     };
-    let code = object.get_reserved();
-    *hand = Handle::of(object);
-    code
+    object.get_reserved()
 }
 
 #[unsafe(no_mangle)]
-pub extern "C" fn tags_get_shallow(alloc: Global, hand: &mut Handle, depth: u32) -> i32
+pub extern "C" fn tags_get_shallow(hand: &mut Handle, depth: u32) -> i32
     ensures { CallsBy (Through (DoesGetShallow depth) code_of_get result) result hand.old.object.value hand.new.object.value }
 {
-    let Some(mut object) = hand.take(alloc) else {
+    let Some(object) = hand.lend() else {
         return Status::BadHandle.code();
     };
-    let code = object.get_shallow(depth);
-    *hand = Handle::of(object);
-    code
+    object.get_shallow(depth)
 }
 
 #[unsafe(no_mangle)]
-pub extern "C" fn tags_get_batch(alloc: Global, hand: &mut Handle, n: u32, won: &mut u64) -> i32
+pub extern "C" fn tags_get_batch(hand: &mut Handle, n: u32, won: &mut u64) -> i32
     ensures calls { CallsBy (Through (DoesGetBatch n won.new) code_of_batch result) result hand.old.object.value hand.new.object.value }
     ensures kept { IsRefusal result → won.new ≡ won.old }
 {
-    let Some(mut object) = hand.take(alloc) else {
+    let Some(object) = hand.lend() else {
         return Status::BadHandle.code();
     };
-    let code = object.get_batch(n, won);
-    *hand = Handle::of(object);
-    code
+    object.get_batch(n, won)
 }

@@ -6,7 +6,6 @@ use crate::codes::{count_code, finish_code};
 use crate::handle::Handle;
 use crate::object::{Kind, Object};
 use crate::status::Status;
-use std::alloc::Global;
 
 impl Object {
     #[inline]
@@ -60,49 +59,41 @@ impl Object {
 }
 
 #[unsafe(no_mangle)]
-pub extern "C" fn tags_clear(alloc: Global, hand: &mut Handle, tag: u32) -> i32
+pub extern "C" fn tags_clear(hand: &mut Handle, tag: u32) -> i32
     ensures { CallsBy (Through (DoesClear tag) code_of_count result) result hand.old.object.value hand.new.object.value }
 {
-    let Some(mut object) = hand.take(alloc) else {
+    let Some(object) = hand.lend() else {
         return Status::BadHandle.code();
     };
-    let code = object.clear(tag);
-    *hand = Handle::of(object);
-    code
+    object.clear(tag)
 }
 
 #[unsafe(no_mangle)]
-pub extern "C" fn tags_clear_batch(alloc: Global, hand: &mut Handle, tags: &[u32]) -> i32
+pub extern "C" fn tags_clear_batch(hand: &mut Handle, tags: &[u32]) -> i32
     ensures { CallsBy (Through (DoesClearBatch tags.now) code_of_count result) result hand.old.object.value hand.new.object.value }
 {
-    let Some(mut object) = hand.take(alloc) else {
+    let Some(object) = hand.lend() else {
         return Status::BadHandle.code();
     };
-    let code = object.clear_batch(tags);
-    *hand = Handle::of(object);
-    code
+    object.clear_batch(tags)
 }
 
 #[unsafe(no_mangle)]
-pub extern "C" fn tags_prepare(alloc: Global, hand: &mut Handle) -> i32
+pub extern "C" fn tags_prepare(hand: &mut Handle) -> i32
     ensures { CallsBy (Through DoesPrepare code_of_count result) result hand.old.object.value hand.new.object.value }
 {
-    let Some(mut object) = hand.take(alloc) else {
+    let Some(object) = hand.lend() else {
         return Status::BadHandle.code();
     };
-    let code = object.prepare();
-    *hand = Handle::of(object);
-    code
+    object.prepare()
 }
 
 #[unsafe(no_mangle)]
-pub extern "C" fn tags_finish(alloc: Global, hand: &mut Handle) -> i32
+pub extern "C" fn tags_finish(hand: &mut Handle) -> i32
     ensures { CallsBy (Through DoesFinish code_of_finish result) result hand.old.object.value hand.new.object.value }
 {
-    let Some(mut object) = hand.take(alloc) else {
+    let Some(object) = hand.lend() else {
         return Status::BadHandle.code();
     };
-    let code = object.finish();
-    *hand = Handle::of(object);
-    code
+    object.finish()
 }

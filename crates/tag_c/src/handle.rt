@@ -1,5 +1,6 @@
 //! The handle by which C refers to a pool or a hand.
 ghost use Rattle.std.specs.Prelude.{◌≡◌, Some, None, IfSome, IfNone};
+ghost use Rattle.std.specs.Borrow.{sem};
 ghost use Rattle.tag_c.specs.Held.{flag_of};
 
 use crate::hidden::Hidden;
@@ -19,6 +20,8 @@ pub struct Handle {
 }
 
 impl Handle {
+    ghost use Rattle.tag_c.specs.Lending.{LendsIfFull};
+
     /// Returns an empty handle.
     pub(crate) fn empty(alloc: Global) -> Handle
         ensures { result.object.value ≡ None }
@@ -47,6 +50,19 @@ impl Handle {
         let Handle { full, object } = self;
         if full == 1 {
             Some(object.show().into_box())
+        } else {
+            None
+        }
+    }
+
+    /// Lends the object, or returns `None` if the handle is empty.
+    pub(crate) fn lend(&mut self) -> Option<&mut Object>
+        ensures* writes_back { sem 𝓛 (LendsIfFull self.entry result) }
+        ensures some { IfSome result (λ object. self.old.object.value ≡ Some object.now) }
+        ensures none { IfNone result (self.old.object.value ≡ None) }
+    {
+        if self.full == 1 {
+            Some(self.object.lend())
         } else {
             None
         }

@@ -1,5 +1,6 @@
 //! A pointer to an object, without its type.
 ghost use Rattle.std.specs.Prelude.{◌≡◌, Option, Some, None};
+ghost use Rattle.std.specs.Borrow.{sem};
 ghost use Rattle.tag_c.specs.Held.{held};
 ghost use Rattle.tag_c.specs.declared.object.Object.{Object};
 
@@ -22,6 +23,8 @@ impl Model for Hidden {
 }
 
 impl Hidden {
+    ghost use Rattle.tag_c.specs.Lending.{LendsObject};
+
     /// Returns a null pointer, with no object.
     pub(crate) fn empty(alloc: Global) -> Hidden
         ensures { result.value ≡ None }
@@ -53,5 +56,14 @@ impl Hidden {
             at: at as *mut Object,
             alloc,
         }
+    }
+
+    /// Lends the object. There must be one.
+    pub(crate) fn lend(&mut self) -> &mut Object
+        requires { (x : Object) × (self.old.value ≡ Some x) }
+        ensures* writes_back { sem 𝓛 (LendsObject self.entry result) }
+        ensures value { self.old.value ≡ Some result.now }
+    {
+        unsafe { &mut *(self.at as *mut Object) }
     }
 }

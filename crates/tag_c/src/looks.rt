@@ -9,7 +9,6 @@ use crate::codes::number_code;
 use crate::handle::Handle;
 use crate::object::{Kind as Behind, Object};
 use crate::status::Status;
-use std::alloc::Global;
 use tag_sets::{Kind, TagFault};
 
 /// The sizes of a set, and sums over its words, each of which was loaded once.
@@ -116,52 +115,44 @@ impl Object {
 }
 
 #[unsafe(no_mangle)]
-pub extern "C" fn tags_holds(alloc: Global, hand: &mut Handle, tag: u32) -> i32
+pub extern "C" fn tags_holds(hand: &mut Handle, tag: u32) -> i32
     ensures { CallsBy (SaysHeld tag result) result hand.old.object.value hand.new.object.value }
 {
-    let Some(mut object) = hand.take(alloc) else {
+    let Some(object) = hand.lend() else {
         return Status::BadHandle.code();
     };
-    let code = object.holds(tag);
-    *hand = Handle::of(object);
-    code
+    object.holds(tag)
 }
 
 #[unsafe(no_mangle)]
-pub extern "C" fn tags_busy(alloc: Global, hand: &mut Handle, into: &mut [u64]) -> i32
+pub extern "C" fn tags_busy(hand: &mut Handle, into: &mut [u64]) -> i32
     ensures calls { CallsBy (SaysBusy into.old into.new result) result hand.old.object.value hand.new.object.value }
     ensures kept { IsRefusal result → into.new ≡ into.old }
 {
-    let Some(mut object) = hand.take(alloc) else {
+    let Some(object) = hand.lend() else {
         return Status::BadHandle.code();
     };
-    let code = object.busy(into);
-    *hand = Handle::of(object);
-    code
+    object.busy(into)
 }
 
 #[unsafe(no_mangle)]
-pub extern "C" fn tags_show(alloc: Global, hand: &mut Handle, kind: u32, sizes: &mut Sizes) -> i32
+pub extern "C" fn tags_show(hand: &mut Handle, kind: u32, sizes: &mut Sizes) -> i32
     ensures calls { CallsBy (SaysShown kind sizes.new result) result hand.old.object.value hand.new.object.value }
     ensures kept { IsRefusal result → sizes.new ≡ sizes.old }
 {
-    let Some(mut object) = hand.take(alloc) else {
+    let Some(object) = hand.lend() else {
         return Status::BadHandle.code();
     };
-    let code = object.show(kind, sizes);
-    *hand = Handle::of(object);
-    code
+    object.show(kind, sizes)
 }
 
 #[unsafe(no_mangle)]
-pub extern "C" fn tags_wakes(alloc: Global, hand: &mut Handle, counts: &mut Counts) -> i32
+pub extern "C" fn tags_wakes(hand: &mut Handle, counts: &mut Counts) -> i32
     ensures calls { CallsBy (SaysWakes counts.new result) result hand.old.object.value hand.new.object.value }
     ensures kept { IsRefusal result → counts.new ≡ counts.old }
 {
-    let Some(mut object) = hand.take(alloc) else {
+    let Some(object) = hand.lend() else {
         return Status::BadHandle.code();
     };
-    let code = object.wakes(counts);
-    *hand = Handle::of(object);
-    code
+    object.wakes(counts)
 }

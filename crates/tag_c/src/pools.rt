@@ -127,12 +127,10 @@ pub extern "C" fn tags_join(alloc: Global, pool: &mut Handle, hand: &mut Handle,
     if hand.full != 0 {
         return Status::NotEmpty.code();
     }
-    let Some(object) = pool.take(alloc) else {
+    let Some(object) = pool.lend() else {
         return Status::BadHandle.code();
     };
-    let joined = object.join(flags);
-    *pool = Handle::of(object);
-    let member = match joined {
+    let member = match object.join(flags) {
         Ok(member) => member,
         Err(status) => return status.code(),
     };

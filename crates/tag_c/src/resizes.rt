@@ -92,10 +92,8 @@ impl Object {
 pub extern "C" fn tags_resize(alloc: Global, pool: &mut Handle, total: u32) -> i32
     ensures { ResizesBy total result pool.old.object.value pool.new.object.value }
 {
-    let Some(mut object) = pool.take(alloc) else {
+    let Some(object) = pool.lend() else {
         return Status::BadHandle.code();
     };
-    let code = object.resize(alloc, total);
-    *pool = Handle::of(object);
-    code
+    object.resize(alloc, total)
 }

@@ -28,23 +28,23 @@ fn tags_pass_through_handles(rt: HostRuntime) -> Result<(), Fail> {
     assert_eq!(rt; tags_open(alloc, &mut pool, &WISHES), 0);
     assert_eq!(rt; tags_join(alloc, &mut pool, &mut hand, 1), 0);
     assert_eq!(rt; tags_join(alloc, &mut pool, &mut other, 1), 0);
-    assert_eq!(rt; tags_get(alloc, &mut hand), 2);
+    assert_eq!(rt; tags_get(&mut hand), 2);
     let mut value = 5u64;
-    assert_eq!(rt; tags_write(alloc, &mut hand, 2, 70, &mut value), 0);
-    assert_eq!(rt; (value, tags_holds(alloc, &mut hand, 2)), (0, 1));
-    assert_eq!(rt; tags_post(alloc, &mut hand, 2), 0);
-    assert_eq!(rt; tags_take(alloc, &mut other, 2), 0);
-    assert_eq!(rt; tags_read(alloc, &mut other, 2, &mut value), 0);
-    assert_eq!(rt; (value, tags_get_reserved(alloc, &mut hand)), (70, 0));
+    assert_eq!(rt; tags_write(&mut hand, 2, 70, &mut value), 0);
+    assert_eq!(rt; (value, tags_holds(&mut hand, 2)), (0, 1));
+    assert_eq!(rt; tags_post(&mut hand, 2), 0);
+    assert_eq!(rt; tags_take(&mut other, 2), 0);
+    assert_eq!(rt; tags_read(&mut other, 2, &mut value), 0);
+    assert_eq!(rt; (value, tags_get_reserved(&mut hand)), (70, 0));
     let mut won = 0u64;
-    assert_eq!(rt; tags_get_batch(alloc, &mut hand, 3, &mut won), 3);
-    assert_eq!(rt; (won, tags_get_shallow(alloc, &mut other, 2)), (7, -6));
-    assert_eq!(rt; tags_prepare(alloc, &mut other), 0);
-    assert_eq!(rt; tags_clear_batch(alloc, &mut hand, &[3, 4]), 1);
-    assert_eq!(rt; tags_finish(alloc, &mut other), 1);
-    assert_eq!(rt; tags_clear(alloc, &mut other, 2), 0);
+    assert_eq!(rt; tags_get_batch(&mut hand, 3, &mut won), 3);
+    assert_eq!(rt; (won, tags_get_shallow(&mut other, 2)), (7, -6));
+    assert_eq!(rt; tags_prepare(&mut other), 0);
+    assert_eq!(rt; tags_clear_batch(&mut hand, &[3, 4]), 1);
+    assert_eq!(rt; tags_finish(&mut other), 1);
+    assert_eq!(rt; tags_clear(&mut other, 2), 0);
     let mut bits = [0u64; 1];
-    assert_eq!(rt; tags_busy(alloc, &mut hand, &mut bits), 2);
+    assert_eq!(rt; tags_busy(&mut hand, &mut bits), 2);
     assert_eq!(rt; bits[0], 33);
     let mut sizes = Sizes {
         depth: 0,
@@ -53,7 +53,7 @@ fn tags_pass_through_handles(rt: HostRuntime) -> Result<(), Fail> {
         bits_per_word: 0,
         words: 0,
     };
-    assert_eq!(rt; tags_show(alloc, &mut hand, 1, &mut sizes), 0);
+    assert_eq!(rt; tags_show(&mut hand, 1, &mut sizes), 0);
     assert_eq!(rt; (sizes.depth, sizes.busy), (2, 1));
     let mut counts = Counts {
         counted: 0,
@@ -61,7 +61,7 @@ fn tags_pass_through_handles(rt: HostRuntime) -> Result<(), Fail> {
         active: 9,
         index: 0,
     };
-    assert_eq!(rt; tags_wakes(alloc, &mut hand, &mut counts), 0);
+    assert_eq!(rt; tags_wakes(&mut hand, &mut counts), 0);
     assert_eq!(rt; (counts.counted, counts.active), (2, 0));
     assert_eq!(rt; tags_leave(alloc, &mut hand), 0);
     let mut sums = Sums::NONE;
@@ -80,19 +80,19 @@ fn a_pool_goes_on_with_more_tags(rt: HostRuntime) -> Result<(), Fail> {
     let mut hand = Handle::empty(alloc);
     assert_eq!(rt; tags_open(alloc, &mut pool, &WISHES), 0);
     assert_eq!(rt; tags_join(alloc, &mut pool, &mut hand, 1), 0);
-    assert_eq!(rt; tags_get(alloc, &mut hand), 2);
+    assert_eq!(rt; tags_get(&mut hand), 2);
     assert_eq!(rt; tags_resize(alloc, &mut pool, 20), -15);
     assert_eq!(rt; tags_leave(alloc, &mut hand), 0);
     assert_eq!(rt; tags_resize(alloc, &mut pool, 20), -29);
     assert_eq!(rt; tags_join(alloc, &mut pool, &mut hand, 1), 0);
-    assert_eq!(rt; tags_clear(alloc, &mut hand, 2), 0);
+    assert_eq!(rt; tags_clear(&mut hand, 2), 0);
     assert_eq!(rt; tags_leave(alloc, &mut hand), 0);
     assert_eq!(rt; tags_resize(alloc, &mut pool, 1), -23);
     assert_eq!(rt; tags_resize(alloc, &mut pool, 20), 0);
     assert_eq!(rt; tags_join(alloc, &mut pool, &mut hand, 1), 0);
     let mut value = 0u64;
-    assert_eq!(rt; tags_read(alloc, &mut hand, 19, &mut value), -3);
-    assert_eq!(rt; tags_read(alloc, &mut hand, 20, &mut value), -1);
+    assert_eq!(rt; tags_read(&mut hand, 19, &mut value), -3);
+    assert_eq!(rt; tags_read(&mut hand, 20, &mut value), -1);
     assert_eq!(rt; tags_leave(alloc, &mut hand), 0);
     let mut sums = Sums::NONE;
     assert_eq!(rt; tags_close(alloc, &mut pool, &mut sums), 0);

@@ -8,7 +8,6 @@ use crate::codes::{done_code, value_code};
 use crate::handle::Handle;
 use crate::object::{Kind, Object};
 use crate::status::Status;
-use std::alloc::Global;
 
 impl Object {
     #[inline]
@@ -62,58 +61,44 @@ impl Object {
 }
 
 #[unsafe(no_mangle)]
-pub extern "C" fn tags_read(alloc: Global, hand: &mut Handle, tag: u32, value: &mut u64) -> i32
+pub extern "C" fn tags_read(hand: &mut Handle, tag: u32, value: &mut u64) -> i32
     ensures calls { CallsBy (Through (DoesRead tag value.new) code_of_done result) result hand.old.object.value hand.new.object.value }
     ensures kept { IsRefusal result → value.new ≡ value.old }
 {
-    let Some(mut object) = hand.take(alloc) else {
+    let Some(object) = hand.lend() else {
         return Status::BadHandle.code();
     };
-    let code = object.read(tag, value);
-    *hand = Handle::of(object);
-    code
+    object.read(tag, value)
 }
 
 #[unsafe(no_mangle)]
-pub extern "C" fn tags_write(
-    alloc: Global,
-    hand: &mut Handle,
-    tag: u32,
-    value: u64,
-    former: &mut u64,
-) -> i32
+pub extern "C" fn tags_write(hand: &mut Handle, tag: u32, value: u64, former: &mut u64) -> i32
     ensures calls { CallsBy (Through (DoesWrite tag value former.new) code_of_done result) result
         hand.old.object.value hand.new.object.value }
     ensures kept { IsRefusal result → former.new ≡ former.old }
 {
-    let Some(mut object) = hand.take(alloc) else {
+    let Some(object) = hand.lend() else {
         return Status::BadHandle.code();
     };
-    let code = object.write(tag, value, former);
-    *hand = Handle::of(object);
-    code
+    object.write(tag, value, former)
 }
 
 #[unsafe(no_mangle)]
-pub extern "C" fn tags_post(alloc: Global, hand: &mut Handle, tag: u32) -> i32
+pub extern "C" fn tags_post(hand: &mut Handle, tag: u32) -> i32
     ensures { CallsBy (Through (DoesPost tag) code_of_done result) result hand.old.object.value hand.new.object.value }
 {
-    let Some(mut object) = hand.take(alloc) else {
+    let Some(object) = hand.lend() else {
         return Status::BadHandle.code();
     };
-    let code = object.post(tag);
-    *hand = Handle::of(object);
-    code
+    object.post(tag)
 }
 
 #[unsafe(no_mangle)]
-pub extern "C" fn tags_take(alloc: Global, hand: &mut Handle, tag: u32) -> i32
+pub extern "C" fn tags_take(hand: &mut Handle, tag: u32) -> i32
     ensures { CallsBy (Through (DoesTake tag) code_of_done result) result hand.old.object.value hand.new.object.value }
 {
-    let Some(mut object) = hand.take(alloc) else {
+    let Some(object) = hand.lend() else {
         return Status::BadHandle.code();
     };
-    let code = object.take(tag);
-    *hand = Handle::of(object);
-    code
+    object.take(tag)
 }

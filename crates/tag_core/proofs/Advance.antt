@@ -16,11 +16,11 @@ use Rattle.tag_core.specs.declared.record.Record.{Record}
 use Rattle.tag_core.specs.declared.record.View.{View}
 use Rattle.tag_core.specs.Histories.{History, FindsIn, FindsPost, cells_after, cells_of, event_of, world_of, last_post}
 use Rattle.tag_core.specs.Records.{record_after, held_after, swept_after, tag_bit}
-use Rattle.tag_core.specs.Views.{alone}
+use Rattle.tag_core.specs.Views.{own_view}
 use Rattle.tag_core.specs.Rule.{HasCells, SlotIs, IsKnown, Shown}
 use Rattle.tag_core.proofs.Picks.{placed}
 use Rattle.tag_core.proofs.Turns.{Shows}
-use Rattle.tag_core.proofs.Within.{held_within}
+use Rattle.tag_core.proofs.Within.{held_within, sweeps_within}
 use Rattle.step_ledger.proofs.Seats.{each_same}
 use Rattle.tag_core.proofs.Counts.{own_counts, other_counts, steps_here, steps_else, held_long, swept_long}
 
@@ -65,6 +65,8 @@ module _ (R : Type 0) (k : Shape) where
       within = subst (λ (z : Layout). (i : ℕ) → i < words k.layout
           → IsWithin k.layout i (get_or (held_after z st r.held) i 0)) (sym same)
           (held_within k.layout r.number st owed.needs.in_layout r.held ok.held_wide ok.within);
+      swept_within = sweeps_within k.layout st (cells_of h) owed.finds sh.cells.aside_within r.swept ok.swept_wide
+          ok.swept_within;
       held = λ t l. (owed.tags t l).held ∙ ap (λ (z : Layout). tag_bit k.layout (held_after z st r.held) t) (sym same);
       swept = λ t l. (owed.tags t l).swept;
       won = (λ j. ok.won j + won_by (event_of (same j) r.number st))
@@ -81,6 +83,7 @@ module _ (R : Type 0) (k : Shape) where
       held_wide = ok.held_wide;
       swept_wide = ok.swept_wide;
       within = ok.within;
+      swept_within = ok.swept_within;
       held = λ t l. (owed.tags t l).others_hold q.number far ∙ ok.held t l;
       swept = λ t l. (owed.tags t l).others_sweep q.number far ∙ ok.swept t l;
       won = ok.won ∙ sym (other_counts k.layout r.number st q.number far (world_of k h).won).0;
@@ -88,9 +91,9 @@ module _ (R : Type 0) (k : Shape) where
       steps = ok.steps ∙ sym (steps_else k.layout r.number q.number st h far);
     }
 
-    pub advances : (id : ℕ) → get_elem? s.views id ≡ some (alone r)
-        → Shown k record { words = words'; homes = homes'; views = set s.views id (alone (record_after st r)) }
-    advances id at = let mine_ok = sh.records id (alone r) at 0 r refl in record {
+    pub advances : (id : ℕ) → get_elem? s.views id ≡ some (own_view r)
+        → Shown k record { words = words'; homes = homes'; views = set s.views id (own_view (record_after st r)) }
+    advances id at = let mine_ok = sh.records id (own_view r) at 0 r refl in record {
       opening = sh.opening;
       history = h';
       lawful = record {
@@ -110,12 +113,12 @@ module _ (R : Type 0) (k : Shape) where
       seat = sh.seat;
       position = sh.position;
       records = λ j v e n q e'. ⊎_elim
-          (λ (t : (j ≡ id) × (alone (record_after st r) ≡ v)). here mine_ok j v n q t.0 t.1 e')
+          (λ (t : (j ≡ id) × (own_view (record_after st r) ≡ v)). here mine_ok j v n q t.0 t.1 e')
           (λ (t : (j ≢ id) × (get_elem? s.views j ≡ some v)). let o = sh.records j v t.1 n q e' in
           (other q (λ e. t.0 (sym o.1 ∙ ap sh.seat e ∙ mine_ok.1)) o.0, o.1, o.2))
-          (at_set s.views id j (alone (record_after st r)) v e);
+          (at_set s.views id j (own_view (record_after st r)) v e);
       each = each_same (λ (v : View R). v.records.value) (λ (r : Record R). r.number) k.callers s.views sh.seat
-          sh.position id (alone r) (alone (record_after st r)) r (record_after st r) refl refl at refl sh.each;
+          sh.position id (own_view r) (own_view (record_after st r)) r (record_after st r) refl refl at refl sh.each;
     }
       where
         first : (n : ℕ) (a q : Record R) → get_elem? (a ∷ []) n ≡ some q → (n ≡ 0) × (a ≡ q)
@@ -123,7 +126,7 @@ module _ (R : Type 0) (k : Shape) where
         first (suc n) a q e = absurd (some-ne-none q (sym e))
 
         here : IsKnown k h r × (sh.seat r.number ≡ id) × (sh.position r.number ≡ 0)
-            → (j : ℕ) (v : View R) (n : ℕ) (q : Record R) → j ≡ id → alone (record_after st r) ≡ v
+            → (j : ℕ) (v : View R) (n : ℕ) (q : Record R) → j ≡ id → own_view (record_after st r) ≡ v
             → get_elem? v.records.value n ≡ some q
             → IsKnown k h' q × (sh.seat q.number ≡ j) × (sh.position q.number ≡ n)
         here ok j v n q ej ev e =

@@ -1,5 +1,5 @@
 -- Each kind of step is allowed by the rule.
-use Rattle.std.proofs.Common.{◌≡◌, ◌≢◌, ℕ, ◌+◌, ◌-◌, ◌^◌, ◌<◌, ◌≤◌, ◌⊎◌, List, ◌∷◌, length, get_or, set, ◌==◌, Bool, true, false, cond, eqb, count_ones, bit_or, bit_and, arith, refl, sym, ap, ◌∙◌, subst, inl, inr, Some, None, eq-eqb, ne_eqb}
+use Rattle.std.proofs.Common.{◌≡◌, ◌≢◌, ℕ, ◌+◌, ◌-◌, ◌%◌, ◌^◌, ◌<◌, ◌≤◌, ◌⊎◌, List, ◌∷◌, length, get_or, set, ◌==◌, Bool, true, false, cond, eqb, count_ones, bit_or, bit_and, arith, refl, sym, ap, ◌∙◌, subst, inl, inr, Some, None, eq-eqb, ne_eqb}
 use mathlib.Core.Option.{some, none, some-injective}
 use mathlib.Core.Logic.{dite}
 use native.Mathlib.Decide.{ℕ_discrete}
@@ -9,7 +9,9 @@ use prog.Atomic.{either}
 use Rattle.atomic_table.specs.Table.{State, Me, step, Allows, Act, Valid, carried_after, homes_after}
 use Rattle.atomic_table.proofs.Lists.{exchanged}
 use Rattle.std.specs.Int.{bit_at}
-use Rattle.tag_layout.specs.Layout.{Layout, words, word_of, place_of, IsWithin}
+use Rattle.std.proofs.lemmas.Nat.{or_lt}
+use Rattle.tag_layout.specs.Layout.{Layout, words, word_depth, word_of, place_of, IsWithin}
+use Rattle.tag_layout.proofs.PlaceFacts.{word_of-below}
 use Rattle.tag_model.specs.declared.place.Place.{Place}
 use Rattle.tag_model.specs.declared.place.Place.TheVariants.{Free as free, Held as held, Posted as posted, Aside as aside, Sweep as sweep}
 use Rattle.tag_model.specs.declared.world.TheConstants.{MOST_WON}
@@ -25,15 +27,17 @@ use Rattle.tag_core.specs.Spacing.{word_at, aside_at, state_at}
 use Rattle.tag_core.specs.Bits.{one_if, held_bit, posted_bit}
 use Rattle.tag_core.specs.Histories.{event_of, world_of, last_post}
 use Rattle.tag_core.specs.Records.{record_after, held_after, tag_bit, value_of, Carries}
-use Rattle.tag_core.specs.Views.{alone}
+use Rattle.tag_core.specs.Views.{own_view}
 use Rattle.tag_core.specs.Rule.{SlotIs, IsKnown, Shown}
 use Rattle.tag_core.specs.Plays.{Stepped, FindsHeld, looked, looked_aside, claimed, gave, put_aside, swapped, spilled, took}
 use Rattle.tag_core.specs.Plays as plays
 use Rattle.tag_core.proofs.Picks.{among, placed}
+use Rattle.tag_core.proofs.TagBits.{small_word, bit_tag, among_here}
 use Rattle.tag_core.proofs.Turns.{held_from, posted_from, posted_small}
 use Rattle.tag_core.proofs.Owing.{claim_owed, give_owed, look_owed, look_aside_owed, miss_owed, held_shown}
-use Rattle.tag_core.proofs.OwingTags.{put_owed, post_owed, take_owed, swap_owed, spill_owed}
-use Rattle.tag_core.proofs.Stand.{word_at_one, aside_at_one}
+use Rattle.tag_core.proofs.OwingTags.{put_owed, post_owed, take_owed, swap_owed, swept_taken, spill_owed}
+use Rattle.tag_core.proofs.Masks.{add_bit, take_bits}
+use Rattle.tag_core.proofs.Stand.{word_at_one, aside_at_one, tag_mask_within}
 use Rattle.tag_core.proofs.Singles.{same_record, same_state}
 use Rattle.tag_core.proofs.Advance.{Owed}
 use Rattle.tag_core.proofs.Moving.{moved, kept, told}
@@ -61,7 +65,7 @@ spilled_no_post c aside e = e
 spilled_no_post c (sweep d) e = unposted (d == c) free (sweep d) (λ z. cc) e
 
 module _ (R : Type 0) (k : Shape) (narrow : k.layout.shift ≤ 6) (id : ℕ) (me : Me R (View R)) (r : Record R)
-    (mine : me.0 ≡ alone r) (carries : Carries k.layout r.held me.1) where
+    (mine : me.0 ≡ own_view r) (carries : Carries k.layout r.held me.1) where
   -- how the posted tags come about
   abbrev Posts : (s : State R (View R)) (sh : Shown k s) → Step R → Type 0
   Posts s sh st = (t : ℕ) → t < k.layout.depth
@@ -78,15 +82,15 @@ module _ (R : Type 0) (k : Shape) (narrow : k.layout.shift ≤ 6) (id : ℕ) (me
 
   module _ (s : State R (View R)) (sh : Shown k s) (deep : length s.homes ≡ k.layout.depth)
       (at : get_elem? s.views id ≡ some me.0) where
-    here : get_elem? s.views id ≡ some (alone r)
+    here : get_elem? s.views id ≡ some (own_view r)
     here = at ∙ ap some mine
 
     ok : IsKnown k sh.history r
-    ok = (sh.records id (alone r) here 0 r refl).0
+    ok = (sh.records id (own_view r) here 0 r refl).0
 
     answer : (st : Step R) (words' : List ℕ) → Owed R k s sh r st words' → Posts s sh st → Answer s st words'
     answer st words' owed posts = let go = moved R k s sh r st words' owed ok me.1 carries deep in (
-      alone (record_after st r),
+      own_view (record_after st r),
       go.act,
       go.valid,
       kept R k s sh r st words' owed ok me.1 carries deep posts id here,
@@ -101,7 +105,7 @@ module _ (R : Type 0) (k : Shape) (narrow : k.layout.shift ≤ 6) (id : ℕ) (me
         (subst (λ (ws : List ℕ). Owed R k s sh r st ws) (sym (set-get_or s.words i 0)) owed) posts
 
   -- what holds of this place and this record holds of the same under other names
-  renamed : (fact : ℕ → Record R → Type 0) {i i' : ℕ} → i ≡ i' → (r' : Record R) → me.0 ≡ alone r' → fact i r → fact i' r'
+  renamed : (fact : ℕ → Record R → Type 0) {i i' : ℕ} → i ≡ i' → (r' : Record R) → me.0 ≡ own_view r' → fact i r → fact i' r'
   renamed fact same r' is = subst (λ (x : ℕ × Record R). fact x.0 x.1)
       (λ j. (same j, same_record r r' (sym mine ∙ is) j))
 
@@ -172,23 +176,38 @@ module _ (R : Type 0) (k : Shape) (narrow : k.layout.shift ≤ 6) (id : ℕ) (me
             (word_at_one i i' ei) r' er (z.4, (found_held s sh (ok s sh deep at) i).0),
       )
 
-  -- an and-not of a word, of held tags
+  -- what a word is, is below 2^64
+  word_fits : (s : State R (View R)) (sh : Shown k s) (i : ℕ) → i < words k.layout → get_or s.words (word_at i) 0 < 2 ^ 64
+  word_fits s sh i inside = small_word k narrow i _ (subst (λ (x : ℕ). x < 2 ^ word_depth k.layout i)
+      (sym (sh.cells.word i inside)) (sh.cells.word_within i inside))
+
+  -- a word less a mask of held tags, all of which are taken
   pub give_allowed : (i m : ℕ) → i < words k.layout → IsWithin k.layout i m → m < 2 ^ 64
       → ((t : ℕ) → t < k.layout.depth → among k.layout.shift i m t ≡ 1 → tag_bit k.layout r.held t ≡ 1)
-      → Allows (Shown k) k.layout.depth id me (word_at i) (λ n. bit_and n (2 ^ 64 - 1 - m))
-      (gave (step k.layout.depth (word_at i) (2 ^ 64 - 1 - m) 0 none) me)
+      → Allows (Shown k) k.layout.depth id me (word_at i) (λ n. (n + (2 ^ 64 - m)) % 2 ^ 64)
+      (gave (step k.layout.depth (word_at i) m 0 none) me)
   give_allowed i m inside low fits has s sh deep at _ = let n : ℕ = get_or s.words (word_at i) 0 in
-      let z = answer s sh deep at (Word (Give i m n)) (set s.words (word_at i) (without n m))
-      (give_owed R k narrow s sh r (ok s sh deep at) i m inside low fits has)
+      let o = ok s sh deep at in
+      let less = take_bits n m (word_fits s sh i inside) fits (taken s sh o) in
+      let z = answer s sh deep at (Word (Give i m n)) (set s.words (word_at i) ((n + (2 ^ 64 - m)) % 2 ^ 64))
+      (subst (λ (x : ℕ). Owed R k s sh r (Word (Give i m n)) (set s.words (word_at i) x)) (sym less)
+      (give_owed R k narrow s sh r o i m inside low fits has))
       (λ t l e. inl (unposted _ free (G s sh t) (λ x. cc) e, refl)) in (
         z.0,
         z.1,
         z.2,
         z.3,
-        λ i' m' r' ei low' em er. let same : m ≡ m' = omega arith in
-            subst (λ (x : ℕ × ℕ × Record R). Stepped (Word (Give x.0 x.1 n)) x.2 me (z.0, carried_after me.1 z.1))
-            (λ j. (word_at_one i i' ei j, same j, same_record r r' (sym mine ∙ er) j)) z.4,
+        λ i' r' ei er. renamed (λ x y. Stepped (Word (Give x m n)) y me (z.0, carried_after me.1 z.1))
+            (word_at_one i i' ei) r' er z.4,
       )
+    where
+      taken : (s : State R (View R)) (sh : Shown k s) → IsKnown k sh.history r → (b : ℕ) → bit_at m b ≡ 1
+          → bit_at (get_or s.words (word_at i) 0) b ≡ 1
+      taken s sh o b one = let tag = bit_tag k narrow i m b low one in let t : ℕ = tag.0 in
+          let named : among k.layout.shift i m t ≡ 1 =
+          sym (among_here k narrow i m t tag.2) ∙ ap (bit_at m) tag.3 ∙ one in
+          sym (λ j. bit_at (get_or s.words (word_at (tag.2 j)) 0) (tag.3 j))
+          ∙ (held_shown R k narrow s sh r o t tag.1 (has t tag.1 named)).0
 
   -- a swap of a cleared set
   pub swap_allowed : (i : ℕ) → i < words k.layout
@@ -210,14 +229,16 @@ module _ (R : Type 0) (k : Shape) (narrow : k.layout.shift ≤ 6) (id : ℕ) (me
             (aside_at_one i i' ei) r' er z.4,
       )
 
-  -- an and-not of a word, of what was swept
+  -- a word less what was swept, all of which is taken
   pub spill_allowed : (i : ℕ) → i < words k.layout → get_or r.swept i 0 < 2 ^ 64
-      → Allows (Shown k) k.layout.depth id me (word_at i) (λ n. bit_and n (2 ^ 64 - 1 - get_or r.swept i 0))
-      (spilled (step k.layout.depth (word_at i) (2 ^ 64 - 1 - get_or r.swept i 0) 0 none) me)
+      → Allows (Shown k) k.layout.depth id me (word_at i) (λ n. (n + (2 ^ 64 - get_or r.swept i 0)) % 2 ^ 64)
+      (spilled (step k.layout.depth (word_at i) (get_or r.swept i 0) 0 none) me)
   spill_allowed i inside fits s sh deep at _ = let n : ℕ = get_or s.words (word_at i) 0 in
-      let m : ℕ = get_or r.swept i 0 in
-      let z = answer s sh deep at (Word (Spill i m n)) (set s.words (word_at i) (without n m))
-      (spill_owed R k narrow s sh r (ok s sh deep at) i inside fits)
+      let m : ℕ = get_or r.swept i 0 in let o = ok s sh deep at in
+      let less = take_bits n m (word_fits s sh i inside) fits (swept_taken R k narrow s sh r o i inside) in
+      let z = answer s sh deep at (Word (Spill i m n)) (set s.words (word_at i) ((n + (2 ^ 64 - m)) % 2 ^ 64))
+      (subst (λ (x : ℕ). Owed R k s sh r (Word (Spill i m n)) (set s.words (word_at i) x)) (sym less)
+      (spill_owed R k narrow s sh r o i inside fits))
       (λ t l e. inl (
         unposted _ (spilled_by r.number (G s sh t)) (G s sh t) (spilled_no_post r.number (G s sh t)) e,
         refl,
@@ -265,15 +286,17 @@ module _ (R : Type 0) (k : Shape) (narrow : k.layout.shift ≤ 6) (id : ℕ) (me
             )) z.4,
       )
 
-  -- an or of a cleared set, of a held tag
+  -- a sum of a cleared set and a held tag's bit, which is clear there
   pub put_allowed : (u : ℕ) → u < k.layout.depth → tag_bit k.layout r.held u ≡ 1
-      → Allows (Shown k) k.layout.depth id me (aside_at (word_of k.layout u)) (λ n. bit_or n (2 ^ place_of k.layout u))
+      → Allows (Shown k) k.layout.depth id me (aside_at (word_of k.layout u)) (λ n. (n + 2 ^ place_of k.layout u) % 2 ^ 64)
       (put_aside (step k.layout.depth (aside_at (word_of k.layout u)) (2 ^ place_of k.layout u) 0 none) me)
   put_allowed u lu has s sh deep at _ =
       let i : ℕ = word_of k.layout u in let m : ℕ = 2 ^ place_of k.layout u in
-      let n : ℕ = get_or s.words (aside_at i) 0 in
-      let z = answer s sh deep at (Word (Put i m n)) (set s.words (aside_at i) (bit_or n m))
-      (put_owed R k narrow s sh r (ok s sh deep at) u lu has)
+      let n : ℕ = get_or s.words (aside_at i) 0 in let o = ok s sh deep at in
+      let sum = add_bit n (place_of k.layout u) (held_shown R k narrow s sh r o u lu has).1 (fits s sh u lu) in
+      let z = answer s sh deep at (Word (Put i m n)) (set s.words (aside_at i) ((n + m) % 2 ^ 64))
+      (subst (λ (x : ℕ). Owed R k s sh r (Word (Put i m n)) (set s.words (aside_at i) x)) (sym sum)
+      (put_owed R k narrow s sh r o u lu has))
       (λ t l e. inl (unposted _ aside (G s sh t) (λ x. cc) e, refl)) in (
         z.0,
         z.1,
@@ -282,6 +305,13 @@ module _ (R : Type 0) (k : Shape) (narrow : k.layout.shift ≤ 6) (id : ℕ) (me
         λ i' r' ei er. renamed (λ x y. Stepped (Word (Put x m n)) y me (z.0, carried_after me.1 z.1))
             (aside_at_one i i' ei) r' er z.4,
       )
+    where
+      fits : (s : State R (View R)) (sh : Shown k s) (u : ℕ) → u < k.layout.depth
+          → bit_or (get_or s.words (aside_at (word_of k.layout u)) 0) (2 ^ place_of k.layout u) < 2 ^ 64
+      fits s sh u lu = let i : ℕ = word_of k.layout u in let inside = word_of-below k.layout u lu in
+          small_word k narrow i _ (subst (λ (x : ℕ). bit_or x (2 ^ place_of k.layout u) < 2 ^ word_depth k.layout i)
+          (sym (sh.cells.aside i inside))
+          (or_lt (word_depth k.layout i) _ _ (sh.cells.aside_within i inside) (tag_mask_within k.layout u lu)))
 
   -- the two ends of a compare-exchange
   pub take_allowed : (u : ℕ) → u < k.layout.depth

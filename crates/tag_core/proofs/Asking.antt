@@ -16,19 +16,19 @@ use Rattle.tag_core.specs.declared.map.Map.{Map}
 use Rattle.tag_core.specs.Spacing.{table_width, state_at}
 use Rattle.tag_core.specs.Histories.{event_of}
 use Rattle.tag_core.specs.Records.{record_after, held_after, swept_after, tag_bit, value_of, Carries}
-use Rattle.tag_core.specs.Views.{alone, steps_of}
+use Rattle.tag_core.specs.Views.{own_view, steps_of}
 use Rattle.tag_core.specs.Rule.{Shown}
 use Rattle.tag_core.specs.Plays.{Stepped}
 use Rattle.tag_core.specs.Meeting.{HasHistory}
 use Rattle.tag_core.proofs.Singles.{same_record}
 use Rattle.tag_core.specs.Callers.{IsCallerOf, record_of, Holds}
 
--- what the table asks of a step at this place
+-- what the table asks of a step at this index
 abbrev pub Asks : {R : Type 0} → Map R → ℕ → Me R (View R) → ℕ → (ℕ → ℕ) → ℕ → ℕ
     → (table.Step R → Me R (View R) → ℕ → Me R (View R) → Type 0) → Type 0
-Asks m id me place f a b then = (place < m.table.shared.table_id.words) × Allows
-    (Shown m.table.shared.key) m.table.shared.table_id.slots id me place f
-    (then (step m.table.shared.table_id.slots place a b none) me)
+Asks m id me index f a b then = (index < m.table.shared.table_id.words) × Allows
+    (Shown m.table.shared.key) m.table.shared.table_id.slots id me index f
+    (then (step m.table.shared.table_id.slots index a b none) me)
 
 module _ {R : Type 0} (m : Map R) (w : Caller R) (own : IsCallerOf m w) where
   abbrev k : Shape
@@ -42,7 +42,7 @@ module _ {R : Type 0} (m : Map R) (w : Caller R) (own : IsCallerOf m w) where
   pub in_words : (i : ℕ) → i < words m.shape.layout → i < words w.shape.value.layout
   in_words i = subst (λ (z : Shape). i < words z.layout) (sym own.1)
 
-  -- the table has it, if the caller's record allows the step
+  -- the table accepts a step at an index that it has, if the rule allows the step for the caller's record
   pub asked : (id : ℕ) (me : Me R (View R)) (at place : ℕ) (f : ℕ → ℕ) (a b : ℕ)
       (then : table.Step R → Me R (View R) → ℕ → Me R (View R) → Type 0) → place ≡ at
       → at < table_width w.shape.value.layout
@@ -58,7 +58,7 @@ module _ {R : Type 0} (m : Map R) (w : Caller R) (own : IsCallerOf m w) where
 
 -- after a step one history shows what the caller knows
 pub shows : {R : Type 0} (st : Step R) (r : Record R) (me me' : Me R (View R)) → Stepped st r me me' → (q : Record R)
-    → me'.0 ≡ alone q → ∥ HasHistory r.shape q ∥₁
+    → me'.0 ≡ own_view q → ∥ HasHistory r.shape q ∥₁
 shows st r me me' did q is = ∣ subst (HasHistory r.shape)
     (same_record (record_after st r) q (sym did.view ∙ is)) did.shown ∣₁
 
@@ -78,8 +78,8 @@ record_with w held won back view = record {
 abbrev pub Promises : {R : Type 0} → Caller R → List ℕ → ℕ → ℕ → Me R (View R) → Type 0
 Promises {R} w held won back me = record {
   told : (w.layout ≡ w.shape.value.layout) × (w.life ≡ w.shape.value.life) × (w.states ≡ state_at w.layout 0);
-  knows : me.0 ≡ alone (record_with w held won back me.0);
-  shown : (r : Record R) → me.0 ≡ alone r → ∥ HasHistory w.shape.value r ∥₁;
+  knows : me.0 ≡ own_view (record_with w held won back me.0);
+  shown : (r : Record R) → me.0 ≡ own_view r → ∥ HasHistory w.shape.value r ∥₁;
   carries : Carries w.shape.value.layout held me.1;
   wide : length held ≡ words w.shape.value.layout;
   unspent : (won ≤ w.life) × (w.life ≤ MOST_WON);
@@ -125,15 +125,15 @@ module _ {R : Type 0} {w : Caller R} {st : Step R} {me' : Me R (View R)} {held' 
   }
 
   -- the seat has the record that the new fields give
-  knows : me'.0 ≡ alone (record_with w held' won' back' me'.0)
-  knows = l.did.view ∙ sym (ap alone recorded)
+  knows : me'.0 ≡ own_view (record_with w held' won' back' me'.0)
+  knows = l.did.view ∙ sym (ap own_view recorded)
 
   -- it carries the slots of the tags that it holds now
   carries : Carries w.shape.value.layout held' me'.1
   carries = subst (λ (z : List ℕ). Carries w.shape.value.layout z me'.1) l.held_is l.did.carries
 
   -- one history shows what the caller knows now
-  shown : (q : Record R) → me'.0 ≡ alone q → ∥ HasHistory w.shape.value q ∥₁
+  shown : (q : Record R) → me'.0 ≡ own_view q → ∥ HasHistory w.shape.value q ∥₁
   shown = shows st (record_of w) w.seat.me me' l.did
 
   -- it gave back no more than all callers may win

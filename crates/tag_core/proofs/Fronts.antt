@@ -15,7 +15,7 @@ use Rattle.tag_core.specs.declared.record.View.{View}
 use Rattle.tag_core.specs.Spacing.{state_at}
 use Rattle.tag_core.specs.Histories.{world_of}
 use Rattle.tag_core.specs.Records.{tag_bit, value_of, tags_from, but, Carries}
-use Rattle.tag_core.specs.Views.{alone}
+use Rattle.tag_core.specs.Views.{own_view}
 use Rattle.tag_core.specs.Rule.{SlotIs, IsKnown, Shown}
 use Rattle.tag_core.specs.Plays.{fronted, ordered}
 use Rattle.tag_core.proofs.Turns.{held_from}
@@ -135,14 +135,14 @@ module _ (R : Type 0) (n : ℕ) (f : ℕ → ℕ) (u : ℕ) (lu : u < n) (has : 
             ∙ set_else hs u t (some value) (λ (e : t ≡ u). no (ap f e ∙ has)));
       }
 
-module _ (R : Type 0) (k : Shape) (id : ℕ) (me : Me R (View R)) (r : Record R) (mine : me.0 ≡ alone r) (u : ℕ)
+module _ (R : Type 0) (k : Shape) (id : ℕ) (me : Me R (View R)) (r : Record R) (mine : me.0 ≡ own_view r) (u : ℕ)
     (lu : u < k.layout.depth) (has : tag_bit k.layout r.held u ≡ 1) where
   abbrev f : ℕ → ℕ
   f = tag_bit k.layout r.held
 
   module _ (s : State R (View R)) (sh : Shown k s) (at : get_elem? s.views id ≡ some me.0) where
     ok : IsKnown k sh.history r
-    ok = (sh.records id (alone r) (at ∙ ap some mine) 0 r refl).0
+    ok = (sh.records id (own_view r) (at ∙ ap some mine) 0 r refl).0
 
     out_there : (t : ℕ) → t < k.layout.depth → tag_bit k.layout r.held t ≡ 1 → get_elem? s.homes t ≡ some none
     out_there t l e = subst (SlotIs (get_elem? s.homes t)) (held_from r.number _ (ok.held t l ∙ e)) (sh.slots t l)

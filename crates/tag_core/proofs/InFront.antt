@@ -10,7 +10,7 @@ use Rattle.tag_core.specs.declared.caller.Caller.{Caller}
 use Rattle.tag_core.specs.declared.map.Map.{Map}
 use Rattle.tag_core.specs.Spacing.{state_at}
 use Rattle.tag_core.specs.Records.{value_of, Carries}
-use Rattle.tag_core.specs.Views.{alone}
+use Rattle.tag_core.specs.Views.{own_view}
 use Rattle.tag_core.specs.Plays.{fronted, ordered}
 use Rattle.tag_core.specs.Callers.{IsCallerOf, record_of, Holds, slot_of}
 use Rattle.tag_core.proofs.Stand.{state_in}
@@ -34,7 +34,7 @@ module _ {R : Type 0} {w : Caller R} {u : ℕ} {old new : R} {me : Me R (View R)
   pub after : Promises w w.held.items w.won w.back me
   after = record {
     told = w.told;
-    knows = done.view ∙ w.knows ∙ sym (ap alone recorded);
+    knows = done.view ∙ w.knows ∙ sym (ap own_view recorded);
     shown = λ r is. w.shown r (sym done.view ∙ is);
     carries = done.carries;
     wide = w.wide;

@@ -20,7 +20,7 @@ use Rattle.tag_core.specs.declared.record.View.{View}
 use Rattle.tag_core.specs.Bits.{one_if, held_bit}
 use Rattle.tag_core.specs.Histories.{event_of, events_of, opening_world, world_of, last_post}
 use Rattle.tag_core.specs.Records.{record_after, held_after, tag_bit, value_of, Carries}
-use Rattle.tag_core.specs.Views.{alone}
+use Rattle.tag_core.specs.Views.{own_view}
 use Rattle.tag_core.specs.Rule.{SlotIs, IsKnown, IsOpening, Shown}
 use Rattle.tag_core.specs.Plays.{Stepped}
 use Rattle.tag_core.proofs.Picks.{placed}
@@ -154,18 +154,18 @@ module _ (R : Type 0) (k : Shape) (s : State R (View R)) (sh : Shown k s) (r : R
         (posting t l e)
 
     -- the rule holds after the step
-    pub kept : (id : ℕ) → get_elem? s.views id ≡ some (alone r)
+    pub kept : (id : ℕ) → get_elem? s.views id ≡ some (own_view r)
         → Shown k record {
           words = words';
           homes = homes_after s.homes cs moved.act;
           views = set s.views id
-              (alone (record_after st r));
+              (own_view (record_after st r));
         }
     kept id at = advances R k s sh r st words' (homes_after s.homes cs moved.act) owed slots_after posts_after id at
 
     -- with what the caller is told
-    pub told : (id : ℕ) → get_elem? s.views id ≡ some (alone r) → (me : View R × List (ℕ × R)) → me.1 ≡ cs
-        → Stepped st r me (alone (record_after st r), carried_after me.1 moved.act)
+    pub told : (id : ℕ) → get_elem? s.views id ≡ some (own_view r) → (me : View R × List (ℕ × R)) → me.1 ≡ cs
+        → Stepped st r me (own_view (record_after st r), carried_after me.1 moved.act)
     told id at me e =
         let same : k ≡ r.shape = sym ok.shape in
         let list : carried_after me.1 moved.act ≡ moved.list = ap (λ (z : List (ℕ × R)). carried_after z moved.act) e
@@ -186,5 +186,5 @@ module _ (R : Type 0) (k : Shape) (s : State R (View R)) (sh : Shown k s) (r : R
               let before = ok.back in omega arith);
           shown = subst (λ (z : Shape). HasHistory z (record_after st r)) same
               (seen_in R k _ (kept id at) id (record_after st r)
-              (set_here s.views id (alone (record_after st r)) (within s.views id _ at)));
+              (set_here s.views id (own_view (record_after st r)) (within s.views id _ at)));
         }

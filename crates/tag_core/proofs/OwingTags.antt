@@ -9,7 +9,7 @@ use Rattle.atomic_table.specs.Table.{State}
 use Rattle.tag_layout.specs.Layout.{words, word_depth, word_of, place_of}
 use Rattle.tag_layout.proofs.PlaceFacts.{word_of-below}
 use Rattle.tag_model.specs.declared.place.Place.{Place}
-use Rattle.tag_model.specs.declared.place.Place.TheVariants.{Held as held, Posted as posted, Aside as aside}
+use Rattle.tag_model.specs.declared.place.Place.TheVariants.{Free as free, Held as held, Posted as posted, Aside as aside, Sweep as sweep}
 use Rattle.tag_model.specs.declared.world.TheConstants.{MOST_WON}
 use Rattle.tag_model.specs.World.{World}
 use Rattle.tag_core.specs.declared.shape.Shape.{Shape}
@@ -19,7 +19,7 @@ use Rattle.tag_core.specs.declared.record.Record.{Record}
 use Rattle.tag_core.specs.declared.record.View.{View}
 use Rattle.tag_core.specs.Steps.{without}
 use Rattle.tag_core.specs.Spacing.{word_at, aside_at, state_at}
-use Rattle.tag_core.specs.Bits.{one_if, aside_bit, posted_bit, held_bit, sweep_bit}
+use Rattle.tag_core.specs.Bits.{one_if, word_bit, aside_bit, posted_bit, held_bit, sweep_bit}
 use Rattle.tag_core.specs.Histories.{Cells, cells_of, world_of, last_post}
 use Rattle.tag_core.specs.Records.{tag_bit}
 use Rattle.tag_core.specs.Rule.{IsKnown, Shown}
@@ -28,7 +28,7 @@ use Rattle.tag_core.proofs.Turns.{puts, posts, takes, gathers, spills, posted_sm
 use Rattle.tag_core.proofs.Masks.{minus_le}
 use Rattle.tag_core.proofs.Stand.{tag_mask_within}
 use Rattle.tag_core.proofs.Advance.{Owed}
-use Rattle.tag_core.proofs.TagBits.{or_bit, minus_bit, list_bit, only_among, tag_mask, only_small, only_is, in_small, among_as, none_left, tag_named}
+use Rattle.tag_core.proofs.TagBits.{bit_tag, or_bit, minus_bit, list_bit, only_among, tag_mask, only_small, only_is, in_small, among_as, none_left, tag_named}
 use Rattle.tag_core.proofs.Owing.{word_cells, aside_cells, state_cells, none_more, held_or, held_minus}
 
 module _ (R : Type 0) (k : Shape) (narrow : k.layout.shift ≤ 6) (s : State R (View R)) (sh : Shown k s) (r : Record R)
@@ -191,6 +191,23 @@ module _ (R : Type 0) (k : Shape) (narrow : k.layout.shift ≤ 6) (s : State R (
             ∙ sym tag.aside) z))
             ∙ or_bit k narrow (λ j. get_or r.swept j 0) i f t ∙ list_bit k narrow r.swept i _ t (swept_long i inside));
       }
+
+  -- what was swept is taken
+  pub swept_taken : (i : ℕ) → i < words k.layout → (b : ℕ) → bit_at (get_or r.swept i 0) b ≡ 1
+      → bit_at (get_or s.words (word_at i) 0) b ≡ 1
+  swept_taken i inside b one =
+      let tag = bit_tag k narrow i (get_or r.swept i 0) b (ok.swept_within i inside) one in let t : ℕ = tag.0 in
+      let mine = ok.swept t tag.1 ∙ (λ j. bit_at (get_or r.swept (tag.2 j) 0) (tag.3 j)) ∙ one in
+      ap (λ (z : ℕ). bit_at z b) (sh.cells.word i inside)
+      ∙ sym (λ j. bit_at (now_cells.words.word (tag.2 j)) (tag.3 j)) ∙ sym (sh.tags t tag.1).word
+      ∙ swept_word r.number (now_world.place t) mine
+    where
+      swept_word : (c : ℕ) (q : Place) → sweep_bit c q ≡ 1 → word_bit q ≡ 1
+      swept_word c free e = absurd (omega arith)
+      swept_word c (held d) e = refl
+      swept_word c posted e = refl
+      swept_word c aside e = refl
+      swept_word c (sweep d) e = refl
 
   module _ (i : ℕ) (inside : i < words k.layout) (fits : get_or r.swept i 0 < 2 ^ 64) where
     abbrev mask : ℕ

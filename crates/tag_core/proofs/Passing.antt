@@ -16,7 +16,7 @@ use Rattle.tag_core.specs.declared.record.View.{View}
 use Rattle.tag_core.specs.Histories.{History}
 use Rattle.tag_core.specs.Spacing.{word_at, aside_at, state_at, table_width}
 use Rattle.tag_core.specs.Records.{fresh_record, tag_bit, tags_from}
-use Rattle.tag_core.specs.Views.{viewing, alone, fresh, all_fresh, first_view, other_views, both_views}
+use Rattle.tag_core.specs.Views.{viewing, own_view, fresh, all_fresh, first_view, other_views, both_views}
 use Rattle.tag_core.specs.Rule.{IsOpening, IsKnown, Shown}
 use Rattle.tag_core.specs.Meeting.{HasHistory}
 use Rattle.step_ledger.proofs.Seats.{Standing, split, join}
@@ -61,14 +61,18 @@ module _ (R : Type 0) (k : Shape) where
     number = h;
     held_wide = length-replicate (words k.layout) 0;
     swept_wide = length-replicate (words k.layout) 0;
-    within = λ i l. subst (λ (z : ℕ). z < 2 ^ word_depth k.layout i) (sym (zeros (words k.layout) i))
-        (pow_pos (word_depth k.layout i));
+    within = none_within;
+    swept_within = none_within;
     held = λ t l. no_bits k.layout (words k.layout) t;
     swept = λ t l. no_bits k.layout (words k.layout) t;
     won = refl;
     back = refl;
     steps = refl;
   }
+    where
+      none_within : (i : ℕ) → i < words k.layout → get_or (replicate (words k.layout) 0) i 0 < 2 ^ word_depth k.layout i
+      none_within i l = subst (λ (z : ℕ). z < 2 ^ word_depth k.layout i) (sym (zeros (words k.layout) i))
+          (pow_pos (word_depth k.layout i))
 
   -- the history of no steps shows a new caller's record
   pub fresh_history : (c : ℕ) → c < k.callers → HasHistory k (fresh_record {R = R} k c)
@@ -162,9 +166,9 @@ module _ (R : Type 0) (k : Shape) where
 
   -- the first record goes to a new seat
   pub splits : (id : ℕ) (v : View R) (r : Record R) (rs : List (Record R)) → v ≡ viewing (r ∷ rs)
-      → Splits (Shown k) id v (viewing rs) (alone r)
+      → Splits (Shown k) id v (viewing rs) (own_view r)
   splits id v r rs is s sh at = reseated s sh _ (split _ _ _ k.callers s.views (standing s sh) id (viewing (r ∷ rs))
-      (viewing rs) (alone r) r rs refl refl refl (at ∙ ap some is))
+      (viewing rs) (own_view r) r rs refl refl refl (at ∙ ap some is))
 
   -- the other's records stand behind those of the first
   pub joins : (id : ℕ) (v : View R) (other : ℕ) (w : View R)

@@ -8,7 +8,7 @@ use Rattle.tag_layout.proofs.PlaceFacts.{place_of-below}
 use Rattle.tag_core.specs.Steps.{changed_at}
 use Rattle.tag_core.specs.Spacing.{word_at, aside_at, state_at, table_width}
 
--- words stand at different places
+-- different words stand at different indexes
 pub word_at_one : (i j : ℕ) → word_at i ≡ word_at j → i ≡ j
 unfolding word_at
 word_at_one i j e = omega arith
@@ -23,7 +23,7 @@ pub state_at_one : (l : Layout) (i j : ℕ) → state_at l i ≡ state_at l j �
 unfolding state_at
 state_at_one l i j e = omega arith
 
--- no word stands at the place of a cleared set
+-- no word stands at the index of a cleared set
 pub word_no_aside : (i j : ℕ) → word_at i ≢ aside_at j
 unfolding word_at aside_at
 word_no_aside i j e = omega arith
@@ -33,7 +33,7 @@ pub word_no_state : (l : Layout) (i j : ℕ) → i < words l → word_at i ≢ s
 unfolding word_at state_at
 word_no_state l i j h e = omega arith
 
--- no cleared set stands at the place of a state
+-- no cleared set stands at the index of a state
 pub aside_no_state : (l : Layout) (i j : ℕ) → i < words l → aside_at i ≢ state_at l j
 unfolding aside_at state_at
 aside_no_state l i j h e = omega arith

@@ -1,13 +1,14 @@
 -- A tag's bits in words and masks, and what they are once one word is changed.
-use Rattle.std.proofs.Common.{◌≡◌, ◌≢◌, ℕ, ◌-◌, ◌/◌, ◌%◌, ◌^◌, ◌<◌, ◌≤◌, List, length, get_or, set, Bool, cond, bit_or, min, max, arith, sym, ap, ◌∙◌, subst, get_or-set_other, get_or-set_same, eq-eqb, ne_eqb}
+use Rattle.std.proofs.Common.{◌≡◌, ◌≢◌, ℕ, ◌-◌, ◌/◌, ◌%◌, ◌^◌, ◌<◌, ◌≤◌, List, length, get_or, set, Bool, cond, bit_or, min, max, arith, sym, ap, ◌∙◌, subst, get_or-set_other, get_or-set_same, eq-eqb, ne_eqb, ⊎_elim}
 use mathlib.Core.Logic.{dite}
 use native.Mathlib.Decide.{ℕ_discrete}
 use Rattle.std.specs.Int.{bit_at, trailing_zeros, w64}
+use Rattle.std.proofs.lemmas.Bool.{cases_lt}
 use Rattle.std.proofs.lemmas.Nat.{pow_pos, pow_below, mod_below}
-use Rattle.std.proofs.lemmas.Nat.Bits.{bit_at_or, bit_at-lt, bit_at-zero, bit_at-pow_same, bit_at-pow_other, bit_at-trailing_zeros}
+use Rattle.std.proofs.lemmas.Nat.Bits.{bit_at_or, bit_at_above, bit_at-lt, bit_at-zero, bit_at-pow_same, bit_at-pow_other, bit_at-trailing_zeros}
 use Rattle.std.proofs.Math.Pow.{pow_mono}
-use Rattle.tag_layout.specs.Layout.{words, word_depth, word_of, place_of, tag_at, IsWithin}
-use Rattle.tag_layout.proofs.PlaceFacts.{tag_at-back}
+use Rattle.tag_layout.specs.Layout.{words, word_bits, word_depth, word_of, place_of, tag_at, IsWithin}
+use Rattle.tag_layout.proofs.PlaceFacts.{tag_at-back, tag_at-below, word_of-tag_at, place_of-tag_at}
 use Rattle.tag_core.specs.declared.shape.Shape.{Shape}
 use Rattle.tag_core.specs.Steps.{changed_at, without}
 use Rattle.tag_core.specs.Bits.{one_if}
@@ -28,6 +29,20 @@ module _ (k : Shape) (narrow : k.layout.shift ≤ 6) where
   small_word i n h =
       let le : 2 ^ k.layout.shift ≤ 2 ^ 6 = pow_mono narrow in let low : word_depth k.layout i ≤ 64 = omega arith in
       let le2 : 2 ^ word_depth k.layout i ≤ 2 ^ 64 = pow_mono low in omega arith
+
+  -- a bit of a mask within the layout is that of a tag
+  pub bit_tag : (i m b : ℕ) → IsWithin k.layout i m → bit_at m b ≡ 1
+      → (t : ℕ) × (t < k.layout.depth) × (word_of k.layout t ≡ i) × (place_of k.layout t ≡ b)
+  bit_tag i m b within one =
+      let low : b < word_depth k.layout i = ⊎_elim (λ h. h)
+      (λ past. let none = bit_at_above m (word_depth k.layout i) b within past in absurd (omega arith))
+      (cases_lt b (word_depth k.layout i)) in
+      let few : b < word_bits k.layout = omega arith in (
+        tag_at k.layout i b,
+        tag_at-below k.layout i b low,
+        word_of-tag_at k.layout i b few,
+        place_of-tag_at k.layout i b few,
+      )
 
   -- bit of a mask at a tag in its word, and in another
   pub among_here : (i m t : ℕ) → t / 2 ^ k.layout.shift ≡ i

@@ -1,16 +1,16 @@
--- Held masks stay within the words' usable bits.
+-- Held masks and sweeps stay within the words' usable bits.
 use Rattle.std.proofs.Common.{◌≡◌, ℕ, zero, suc, ◌^◌, ◌<◌, List, length, get_or, set, bit_or, arith, sym, subst, get_or-set_same, get_or-set_other}
 use mathlib.Core.Logic.{dite}
 use native.Mathlib.Decide.{ℕ_discrete}
-use Rattle.std.proofs.lemmas.Nat.{or_lt}
+use Rattle.std.proofs.lemmas.Nat.{or_lt, pow_pos}
 use Rattle.tag_layout.specs.Layout.{Layout, words, word_of, place_of, word_depth, IsWithin}
 use Rattle.tag_model.specs.Event.{IsInLayout}
 use Rattle.tag_core.specs.declared.step.Step.{Step}
 use Rattle.tag_core.specs.declared.step.Step.TheVariants.{Word, Post, Take}
 use Rattle.tag_core.specs.declared.word_step.WordStep.TheVariants.{Look, LookAside, Claimed, Give, Put, Swap, Spill}
 use Rattle.tag_core.specs.Steps.{without}
-use Rattle.tag_core.specs.Histories.{event_of}
-use Rattle.tag_core.specs.Records.{held_after}
+use Rattle.tag_core.specs.Histories.{Cells, FindsIn, event_of}
+use Rattle.tag_core.specs.Records.{held_after, swept_after}
 use Rattle.tag_core.proofs.Masks.{minus_le}
 use Rattle.tag_core.proofs.Stand.{tag_mask_within}
 
@@ -53,3 +53,21 @@ module _ (l : Layout) where
       let i : ℕ = word_of l u in
       set_within m i (bit_or (get_or m i 0) (2 ^ place_of l u)) long fits
       (λ h. or_lt (word_depth l i) (get_or m i 0) (2 ^ place_of l u) (fits i h) (tag_mask_within l u needs))
+
+  -- so it leaves the sweeps, where the cleared sets are within it
+  pub sweeps_within : {R : Type 0} (st : Step R) (c : Cells) → FindsIn st c
+      → ((i : ℕ) → i < words l → IsWithin l i (c.words.aside i)) → (m : List ℕ) → length m ≡ words l
+      → AllWithin m → AllWithin (swept_after st m)
+  sweeps_within (Word (Look i f)) c finds aside m long fits = fits
+  sweeps_within (Word (LookAside i f)) c finds aside m long fits = fits
+  sweeps_within (Word (Claimed i x f)) c finds aside m long fits = fits
+  sweeps_within (Word (Give i x f)) c finds aside m long fits = fits
+  sweeps_within (Word (Put i x f)) c finds aside m long fits = fits
+  sweeps_within (Word (Swap i f)) c finds aside m long fits =
+      set_within m i (bit_or (get_or m i 0) f) long fits
+      (λ h. or_lt (word_depth l i) (get_or m i 0) f (fits i h)
+      (subst (λ (z : ℕ). z < 2 ^ word_depth l i) (sym finds) (aside i h)))
+  sweeps_within (Word (Spill i x f)) c finds aside m long fits =
+      set_within m i 0 long fits (λ h. pow_pos (word_depth l i))
+  sweeps_within (Post u y) c finds aside m long fits = fits
+  sweeps_within (Take u f y) c finds aside m long fits = fits

@@ -17,14 +17,14 @@ use Rattle.tag_core.specs.declared.record.View.{View}
 use Rattle.tag_core.specs.Spacing.{word_at, aside_at, state_at}
 use Rattle.tag_core.specs.Histories.{event_of}
 use Rattle.tag_core.specs.Records.{record_after, held_after, tag_bit, value_of, tags_from, but, Carries}
-use Rattle.tag_core.specs.Views.{viewing, alone}
+use Rattle.tag_core.specs.Views.{viewing, own_view}
 use Rattle.tag_core.specs.Meeting.{HasHistory, ShareHistory, AreApart}
 use Rattle.tag_core.specs.Settling.{HasRecords, AreSettled}
 
 -- the caller of this record made the step: the slots of its tags are with it, and those of tags that it keeps have
 -- their values
 pub record Stepped {R : Type 0} (step : Step R) (r : Record R) (me me' : Me R (View R)) : Type 0 where
-  pub view : me'.0 ≡ alone (record_after step r)
+  pub view : me'.0 ≡ own_view (record_after step r)
   pub carries : Carries r.shape.layout (held_after r.shape.layout step r.held) me'.1
   pub values :
       (tag : ℕ) → tag < r.shape.layout.depth → tag_bit r.shape.layout r.held tag ≡ 1
@@ -42,48 +42,48 @@ module _ {R : Type 0} (st : table.Step R) (me : Me R (View R)) (found : ℕ) (me
   -- a load of a word
   abbrev pub looked : Type 0
   looked =
-      (i : ℕ) (r : Record R) → st.word ≡ word_at i → me.0 ≡ alone r
+      (i : ℕ) (r : Record R) → st.word ≡ word_at i → me.0 ≡ own_view r
       → Stepped (Word (Look i found)) r me me' × FindsHeld r i found 1
 
   -- a load of a cleared set
   abbrev pub looked_aside : Type 0
   looked_aside =
-      (i : ℕ) (r : Record R) → st.word ≡ aside_at i → me.0 ≡ alone r
+      (i : ℕ) (r : Record R) → st.word ≡ aside_at i → me.0 ≡ own_view r
       → Stepped (Word (LookAside i found)) r me me' × FindsHeld r i found 0
 
   -- an or of a word
   abbrev pub claimed : Type 0
   claimed =
-      (i : ℕ) (r : Record R) → st.word ≡ word_at i → me.0 ≡ alone r
+      (i : ℕ) (r : Record R) → st.word ≡ word_at i → me.0 ≡ own_view r
       → Stepped (Word (Claimed i st.first found)) r me me' × FindsHeld r i found 1
 
-  -- an and-not of a word, of held tags
+  -- a word less a mask of held tags
   abbrev pub gave : Type 0
   gave =
-      (i mask : ℕ) (r : Record R) → st.word ≡ word_at i → mask < 2 ^ 64 → st.first ≡ 2 ^ 64 - 1 - mask → me.0 ≡ alone r
-      → Stepped (Word (Give i mask found)) r me me'
+      (i : ℕ) (r : Record R) → st.word ≡ word_at i → me.0 ≡ own_view r
+      → Stepped (Word (Give i st.first found)) r me me'
 
-  -- an or of a cleared set
+  -- a sum of a cleared set and the bit of a held tag
   abbrev pub put_aside : Type 0
   put_aside =
-      (i : ℕ) (r : Record R) → st.word ≡ aside_at i → me.0 ≡ alone r
+      (i : ℕ) (r : Record R) → st.word ≡ aside_at i → me.0 ≡ own_view r
       → Stepped (Word (Put i st.first found)) r me me'
 
   -- a swap of a cleared set with 0
   abbrev pub swapped : Type 0
-  swapped = (i : ℕ) (r : Record R) → st.word ≡ aside_at i → me.0 ≡ alone r → Stepped (Word (Swap i found)) r me me'
+  swapped = (i : ℕ) (r : Record R) → st.word ≡ aside_at i → me.0 ≡ own_view r → Stepped (Word (Swap i found)) r me me'
 
-  -- an and-not of a word, of what the caller swept
+  -- a word less what the caller swept
   abbrev pub spilled : Type 0
   spilled =
-      (i : ℕ) (r : Record R) → st.word ≡ word_at i → me.0 ≡ alone r
+      (i : ℕ) (r : Record R) → st.word ≡ word_at i → me.0 ≡ own_view r
       → Stepped (Word (Spill i (slice_index r.swept i) found)) r me me'
 
   -- a store of 1 in a held tag's state
   abbrev pub posted : Type 0
   posted =
       (tag : ℕ) (value : R) (r : Record R) → st.word ≡ state_at r.shape.layout tag
-      → value_of me.1 tag ≡ some value → me.0 ≡ alone r
+      → value_of me.1 tag ≡ some value → me.0 ≡ own_view r
       → Stepped (Post tag value) r me me'
 
   -- an exchange of a state's 1 for 0: where it was 1, the slot that came has the value of the tag's last Post, and
@@ -91,7 +91,7 @@ module _ {R : Type 0} (st : table.Step R) (me : Me R (View R)) (found : ℕ) (me
   -- not the caller's
   abbrev pub took : Type 0
   took =
-      (tag : ℕ) (r : Record R) → st.word ≡ state_at r.shape.layout tag → me.0 ≡ alone r
+      (tag : ℕ) (r : Record R) → st.word ≡ state_at r.shape.layout tag → me.0 ≡ own_view r
       → (found ≡ 1 → (value : R) × (value_of me'.1 tag ≡ some value) × Stepped (Take tag 1 (Some value)) r me me'
       × (tag_bit r.shape.layout r.held tag ≢ 1))
       × (found ≢ 1 → (found ≡ 0) × Stepped (Take tag 0 None) r me me')
@@ -99,7 +99,7 @@ module _ {R : Type 0} (st : table.Step R) (me : Me R (View R)) (found : ℕ) (me
   -- a load that brings a held tag's slot to the front
   abbrev pub fronted : Type 0
   fronted =
-      (tag : ℕ) (r : Record R) → st.word ≡ state_at r.shape.layout tag → me.0 ≡ alone r
+      (tag : ℕ) (r : Record R) → st.word ≡ state_at r.shape.layout tag → me.0 ≡ own_view r
       → tag < r.shape.layout.depth → tag_bit r.shape.layout r.held tag ≡ 1
       → (value : R) × (slots : List (ℕ × R)) × (me'.0 ≡ me.0) × (me'.1 ≡ (tag, value) ∷ slots)
       × (value_of me.1 tag ≡ some value)
@@ -111,7 +111,7 @@ module _ {R : Type 0} (st : table.Step R) (me : Me R (View R)) (found : ℕ) (me
   abbrev pub ordered : Type 0
   ordered =
       (tag : ℕ) (value : R) (slots : List (ℕ × R)) (r : Record R)
-      → st.word ≡ state_at r.shape.layout tag → me.0 ≡ alone r
+      → st.word ≡ state_at r.shape.layout tag → me.0 ≡ own_view r
       → me.1 ≡ (tag, value) ∷ slots
       → map (λ x. x.0) slots ≡ tags_from (but (tag_bit r.shape.layout r.held) tag) 0 r.shape.layout.depth
       → tag_bit r.shape.layout r.held tag ≡ 1

@@ -51,6 +51,7 @@ pub record IsKnown {R : Type 0} (k : Shape) (h : History R) (r : Record R) : Typ
   pub held_wide : length r.held ≡ words k.layout
   pub swept_wide : length r.swept ≡ words k.layout
   pub within : (i : ℕ) → i < words k.layout → IsWithin k.layout i (slice_index r.held i)
+  pub swept_within : (i : ℕ) → i < words k.layout → IsWithin k.layout i (slice_index r.swept i)
   pub held : (tag : ℕ) → tag < k.layout.depth
       → held_bit r.number ((world_of k h).place tag) ≡ tag_bit k.layout r.held tag
   pub swept : (tag : ℕ) → tag < k.layout.depth

@@ -11,8 +11,8 @@ abbrev pub viewing : {R : Type 0} → List (Record R) → View R
 viewing rs = record { records = record { marker = record {}; value = rs } }
 
 -- the view of a running caller, its own record
-abbrev pub alone : {R : Type 0} → Record R → View R
-alone r = viewing (r ∷ [])
+abbrev pub own_view : {R : Type 0} → Record R → View R
+own_view r = viewing (r ∷ [])
 
 -- the steps of the first record
 abbrev pub steps_in : {R : Type 0} → List (Record R) → List (Step R)

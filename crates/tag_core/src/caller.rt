@@ -6,7 +6,7 @@ ghost use Rattle.tag_core.specs.declared.record.Record.{Record};
 ghost use Rattle.tag_core.specs.Meeting.{HasHistory};
 ghost use Rattle.tag_core.specs.Records.{Carries};
 ghost use Rattle.tag_core.specs.Spacing.{state_at};
-ghost use Rattle.tag_core.specs.Views.{alone, steps_of};
+ghost use Rattle.tag_core.specs.Views.{own_view, steps_of};
 
 use crate::record::View;
 use crate::shape::Shape;
@@ -25,7 +25,7 @@ pub struct Caller<R> {
     pub(crate) seat: Seat<R, View<R>>,
     /// The layout of its map.
     pub(crate) layout: Layout,
-    /// The place of the first tag's state in the table, so that no access to a slot computes the number of words.
+    /// The index of the first tag's state in the table, so that no access to a slot computes the number of words.
     pub(crate) states: u32,
     /// Its number, from 0.
     pub(crate) number: u32,
@@ -42,7 +42,7 @@ pub struct Caller<R> {
     /// Nobody looks at it: callers side by side in memory lie 128 bytes apart, so the steps of one slow no other down.
     pub(crate) apart: [u64; APART],
     ghost told: { (layout ≡ shape.value.layout) × (life ≡ shape.value.life) × (states ≡ state_at layout 0) },
-    ghost knows: { seat.me.0 ≡ alone (record {
+    ghost knows: { seat.me.0 ≡ own_view (record {
       shape = shape.value;
       number = number;
       held = held.items;
@@ -51,7 +51,7 @@ pub struct Caller<R> {
       back = back;
       steps = steps_of seat.me.0;
     }) },
-    ghost shown: { (r : Record R) → seat.me.0 ≡ alone r → ∥ HasHistory shape.value r ∥₁ },
+    ghost shown: { (r : Record R) → seat.me.0 ≡ own_view r → ∥ HasHistory shape.value r ∥₁ },
     ghost carries: { Carries shape.value.layout held.items seat.me.1 },
     ghost wide: { length held.items ≡ words shape.value.layout },
     ghost unspent: { (won ≤ life) × (life ≤ MOST_WON) },

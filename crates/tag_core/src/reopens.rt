@@ -23,8 +23,8 @@ use std::alloc::{AllocError, Global};
 use std::snapshot::Snapshot;
 use tag_layout::Layout;
 
-/// Where the caller of this number stands.
-fn place_of<R>(callers: &[Caller<R>], number: u32) -> Option<usize>
+// The index of the caller with this number.
+fn index_of<R>(callers: &[Caller<R>], number: u32) -> Option<usize>
     ensures none { IfNone result (¬ Has (numbers_of callers.now) number) }
     ensures some { IfSome result (λ i. get_elem? (numbers_of callers.now) i ≡ some number) }
 {
@@ -119,7 +119,7 @@ fn reseat_all<R>(
     ensures { AreReopened tags.now callers.old.items callers.new.items }
 {
     for number in 0..tags.shape.callers {
-        let Some(i) = place_of(callers.as_slice(), number) else {
+        let Some(i) = index_of(callers.as_slice(), number) else {
             unreachable!()
         };
         let Some(held) = masks.pop() else {

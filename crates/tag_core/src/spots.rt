@@ -8,24 +8,24 @@ use tag_layout::Layout;
 /// Words of the table, of 8 bytes each, from one to the next that is used: 64 bytes.
 const STRIDE: usize = 8;
 
-/// The place of the spare word, which shows nothing.
+/// The index of the spare word, which shows nothing.
 pub(crate) const SPARE: usize = 0;
 
-/// The place of a word.
+/// The index of a word in the table.
 pub(crate) fn word_spot(word: u32) -> usize
     ensures { result ≡ word_at word }
 {
     STRIDE * (2 * word as usize + 1)
 }
 
-/// The place of a word's cleared set.
+/// The index of a word's cleared set in the table.
 pub(crate) fn aside_spot(word: u32) -> usize
     ensures { result ≡ aside_at word }
 {
     STRIDE * (2 * word as usize + 2)
 }
 
-/// The place of a tag's state.
+/// The index of a tag's state in the table.
 pub(crate) fn state_spot(layout: Layout, tag: u32) -> usize
     requires { tag < layout.depth }
     ensures { result ≡ state_at layout tag }
@@ -33,7 +33,7 @@ pub(crate) fn state_spot(layout: Layout, tag: u32) -> usize
     STRIDE * (2 * layout.words() as usize + tag as usize + 1)
 }
 
-/// The place of the first tag's state.
+/// The index of the first tag's state.
 pub(crate) fn first_state(layout: Layout) -> u32
     ensures { result ≡ state_at layout 0 }
 {
@@ -41,7 +41,7 @@ pub(crate) fn first_state(layout: Layout) -> u32
 }
 
 impl<R> Caller<R> {
-    /// The place of a tag's state.
+    /// The index of a tag's state.
     pub(crate) fn state_spot(&self, tag: u32) -> usize
         requires { tag < self.now.layout.depth }
         ensures { result ≡ state_at self.now.layout tag }

@@ -28,7 +28,8 @@ impl<R> Map<R> {
         if mask == 0 {
             return false;
         }
-        table.fetch_and::<Spilling>(&mut caller.seat, word_spot(word), !mask);
+        // All of it is taken: a difference clears it in one instruction, where an and takes a loop.
+        table.fetch_sub::<Spilling>(&mut caller.seat, word_spot(word), mask);
         true
     }
 }

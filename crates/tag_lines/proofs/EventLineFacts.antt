@@ -2,7 +2,7 @@
 use Rattle.std.proofs.Common.{◌≡◌, ℕ, true, false, List, [], ◌∷◌, ◌++◌, ◌==◌, cond, refl, ap, ◌∙◌, Err}
 use Rattle.std.specs.List.{slice_split, onto_first}
 use Rattle.tag_lines.specs.declared.fault.LineFault.TheVariants.{BadLine}
-use Rattle.tag_lines.specs.Lines.{LacksByte, parts_of, has_gap, words_of}
+use Rattle.tag_lines.specs.Lines.{LacksByte, parts_of, has_gap, line_words}
 use Rattle.tag_lines.specs.EventList.{event_of}
 use Rattle.tag_lines.proofs.LineFacts.{words_cut, words_alone}
 use Rattle.tag_lines.proofs.WordFacts.{after_three}
@@ -25,7 +25,7 @@ pub four_words : (line : List ℕ) → has_gap (parts_of line) ≡ false → (a 
     → LacksByte 32 a → line ≡ a ++ 32 ∷ rest → LacksByte 32 b
     → rest ≡ b ++ 32 ∷ rest'
     → LacksByte 32 d → rest' ≡ d ++ 32 ∷ rest'' → LacksByte 32 e → rest'' ≡ e
-    → event_of (words_of line) ≡ event_of (a ∷ b ∷ d ∷ e ∷ [])
+    → event_of (line_words line) ≡ event_of (a ∷ b ∷ d ∷ e ∷ [])
 four_words line full a rest b rest' d rest'' e lacks_a whole lacks_b rest_is lacks_d last lacks_e end =
     after_three event_of line full a rest b rest' d rest'' lacks_a whole lacks_b rest_is lacks_d last
     ∙ ap (λ text. event_of (a ∷ b ∷ d ∷ parts_of text)) end
@@ -35,7 +35,7 @@ four_words line full a rest b rest' d rest'' e lacks_a whole lacks_b rest_is lac
 pub more_words : (line : List ℕ) → has_gap (parts_of line) ≡ false → (a rest b rest' d rest'' e more : List ℕ)
     → LacksByte 32 a → line ≡ a ++ 32 ∷ rest → LacksByte 32 b
     → rest ≡ b ++ 32 ∷ rest' → LacksByte 32 d → rest' ≡ d ++ 32 ∷ rest'' → LacksByte 32 e → rest'' ≡ e ++ 32 ∷ more
-    → event_of (words_of line) ≡ Err BadLine
+    → event_of (line_words line) ≡ Err BadLine
 more_words line full a rest b rest' d rest'' e more lacks_a whole lacks_b rest_is lacks_d last lacks_e end =
     after_three event_of line full a rest b rest' d rest'' lacks_a whole lacks_b rest_is lacks_d last
     ∙ ap (λ words. event_of (a ∷ b ∷ d ∷ words)) (words_cut rest'' e more lacks_e end) ∙ five_words a b d e more

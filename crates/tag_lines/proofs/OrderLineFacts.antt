@@ -5,7 +5,7 @@ use Rattle.std.specs.Str.{bytes_eq}
 use Rattle.std.specs.List.{slice_split, onto_first}
 use Rattle.tag_lines.specs.declared.dialect.Dialect.{Dialect}
 use Rattle.tag_lines.specs.declared.fault.LineFault.TheVariants.{BadLine}
-use Rattle.tag_lines.specs.Lines.{LacksByte, parts_of, has_gap, words_of, number_below, numbers_below}
+use Rattle.tag_lines.specs.Lines.{LacksByte, parts_of, has_gap, line_words, number_below, numbers_below}
 use Rattle.tag_lines.specs.ScriptLines.{order_of, numbered_of, worded_of, word_line, one_word_line, listed_line}
 use Rattle.tag_lines.proofs.WordFacts.{after_two, three_words, after_three}
 
@@ -45,7 +45,7 @@ listed_parts dialect callers a b parts some is =
 pub listed_words : (dialect : Dialect) (callers : ℕ) (line : List ℕ) → has_gap (parts_of line) ≡ false
     → (a rest b rest' : List ℕ) → LacksByte 32 a → line ≡ a ++ 32 ∷ rest → LacksByte 32 b
     → rest ≡ b ++ 32 ∷ rest' → bytes_eq b (codes "clear-batch") ≡ true
-    → order_of dialect callers (words_of line) ≡ listed_line callers (number_below (2 ^ 32) a)
+    → order_of dialect callers (line_words line) ≡ listed_line callers (number_below (2 ^ 32) a)
     (numbers_below (2 ^ 32) (parts_of rest'))
 listed_words dialect callers line full a rest b rest' lacks_a whole lacks_b rest_is is =
     after_two (order_of dialect callers) line full a rest b rest' lacks_a whole lacks_b rest_is
@@ -55,7 +55,7 @@ listed_words dialect callers line full a rest b rest' lacks_a whole lacks_b rest
 pub word_words : (dialect : Dialect) (callers : ℕ) (line : List ℕ) → has_gap (parts_of line) ≡ false
     → (a rest b rest' d : List ℕ) → LacksByte 32 a → line ≡ a ++ 32 ∷ rest → LacksByte 32 b
     → rest ≡ b ++ 32 ∷ rest' → LacksByte 32 d → rest' ≡ d → bytes_eq b (codes "clear-batch") ≡ false
-    → order_of dialect callers (words_of line) ≡ word_line callers (worded_of dialect b d) (numbered_of dialect b)
+    → order_of dialect callers (line_words line) ≡ word_line callers (worded_of dialect b d) (numbered_of dialect b)
     (number_below (2 ^ 32) a) (number_below (2 ^ 32) d)
 word_words dialect callers line full a rest b rest' d lacks_a whole lacks_b rest_is lacks_d last is =
     three_words (order_of dialect callers) line full a rest b rest' d lacks_a whole lacks_b rest_is lacks_d last
@@ -71,7 +71,7 @@ four_parts dialect callers a b d parts some is =
 pub more_words : (dialect : Dialect) (callers : ℕ) (line : List ℕ) → has_gap (parts_of line) ≡ false
     → (a rest b rest' d rest'' : List ℕ) → LacksByte 32 a → line ≡ a ++ 32 ∷ rest → LacksByte 32 b
     → rest ≡ b ++ 32 ∷ rest' → LacksByte 32 d → rest' ≡ d ++ 32 ∷ rest'' → bytes_eq b (codes "clear-batch") ≡ false
-    → order_of dialect callers (words_of line) ≡ Err BadLine
+    → order_of dialect callers (line_words line) ≡ Err BadLine
 more_words dialect callers line full a rest b rest' d rest'' lacks_a whole lacks_b rest_is lacks_d last is =
     after_three (order_of dialect callers) line full a rest b rest' d rest'' lacks_a whole lacks_b rest_is lacks_d last
     ∙ four_parts dialect callers a b d (parts_of rest'') (split_some rest'') is

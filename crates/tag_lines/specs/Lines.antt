@@ -23,8 +23,8 @@ abbrev pub has_gap : List (List ℕ) → Bool
 has_gap parts = list_any (λ part. length part == 0) parts
 
 -- the words of a line are its parts; a line with an empty part, such as an empty line, has no words
-abbrev pub words_of : List ℕ → List (List ℕ)
-words_of line = if has_gap (parts_of line) then [] else parts_of line
+abbrev pub line_words : List ℕ → List (List ℕ)
+line_words line = if has_gap (parts_of line) then [] else parts_of line
 
 -- the value of a word of decimal digits, if it is below the limit; the words of a line are never empty
 abbrev pub number_below : ℕ → List ℕ → Option ℕ

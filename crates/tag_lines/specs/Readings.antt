@@ -4,11 +4,11 @@ use Rattle.tag_lines.specs.declared.fault.LineFault.{LineFault}
 use Rattle.tag_lines.specs.declared.fault.FaultyLine.{FaultyLine}
 use Rattle.tag_lines.specs.declared.fault.ListFault.{ListFault}
 use Rattle.tag_lines.specs.declared.fault.ListFault.TheVariants.{Memory, Faulty}
-use Rattle.tag_lines.specs.Lines.{lines_of, words_of}
+use Rattle.tag_lines.specs.Lines.{lines_of, line_words}
 
 -- what each line says, in order
 abbrev pub readings : {A : Type 0} → (List (List ℕ) → Result A LineFault) → List ℕ → List (Result A LineFault)
-readings says text = map (λ line. says (words_of line)) (lines_of text)
+readings says text = map (λ line. says (line_words line)) (lines_of text)
 
 -- no line is malformed, and these are what the lines say, in order
 abbrev pub AreReadings : {A : Type 0} → (List (List ℕ) → Result A LineFault) → List ℕ → List A → Type 0

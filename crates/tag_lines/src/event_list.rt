@@ -1,6 +1,6 @@
 //! Lists of events, one per line.
 ghost use Rattle.std.specs.Prelude.{◌≡◌, ◌^◌, [], ◌∷◌, IfOk, IfErr};
-ghost use Rattle.tag_lines.specs.Lines.{words_of};
+ghost use Rattle.tag_lines.specs.Lines.{line_words};
 ghost use Rattle.tag_lines.specs.Readings.{AreReadings, IsListFault};
 ghost use Rattle.tag_lines.specs.EventList.{event_of, single_of, masked_of, single_event, masked_event};
 
@@ -122,7 +122,7 @@ pub fn events(alloc: Global, text: &[u8]) -> Result<Vec<Event>, ListFault>
 
 // Parses one line.
 fn event(line: &[u8]) -> Result<Event, LineFault>
-    ensures { result ≡ event_of (words_of line.now) }
+    ensures { result ≡ event_of (line_words line.now) }
 {
     if has_gap(line) {
         return Err(LineFault::BadLine);

@@ -1,6 +1,6 @@
 //! The orders of a script, one per line.
 ghost use Rattle.std.specs.Prelude.{◌≡◌, ◌^◌, [], ◌∷◌, IfOk};
-ghost use Rattle.tag_lines.specs.Lines.{words_of, number_below};
+ghost use Rattle.tag_lines.specs.Lines.{line_words, number_below};
 ghost use Rattle.tag_lines.specs.ScriptLines.{order_of, lone_of, numbered_of, worded_of, numbered_command};
 ghost use Rattle.tag_lines.specs.ScriptLines.{lone_line, word_line, numbered_line, listed_line, ordered};
 
@@ -162,7 +162,7 @@ pub fn read_order(
     callers: u32,
     line: &[u8],
 ) -> Result<Result<Order, LineFault>, AllocError>
-    ensures { IfOk result (λ said. said ≡ order_of dialect callers (words_of line.now)) }
+    ensures { IfOk result (λ said. said ≡ order_of dialect callers (line_words line.now)) }
 {
     if has_gap(line) {
         return Ok(Err(LineFault::BadLine));

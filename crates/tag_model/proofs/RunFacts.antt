@@ -39,7 +39,7 @@ module _ (l : Layout) where
       rest = stop.rest ++ second;
       parts = ap (λ (xs : List Event). xs ++ second) stop.parts
           ∙ append_assoc stop.before (stop.event ∷ stop.rest) second;
-      place_is = stop.place_is;
+      index_is = stop.index_is;
       may_run = stop.may_run;
       fault_is = stop.fault_is;
     }
@@ -54,7 +54,7 @@ module _ (l : Layout) where
       rest = stop.rest;
       parts = ap (λ (xs : List Event). first ++ xs) stop.parts
           ∙ sym (append_assoc first stop.before (stop.event ∷ stop.rest));
-      place_is = ap (λ (n : ℕ). length first + n) stop.place_is ∙ sym (length-append first stop.before);
+      index_is = ap (λ (n : ℕ). length first + n) stop.index_is ∙ sym (length-append first stop.before);
       may_run = may_run-append first stop.before w run stop.may_run;
       fault_is = subst (λ (v : World). IsFirstFault l callers v stop.event fault)
           (sym (after_all-append first stop.before w)) stop.fault_is;
@@ -117,7 +117,7 @@ module _ (old now : KeptWorld) (before : List Event) (event : Event) (ran : Ran 
     event = event;
     rest = rest;
     parts = refl;
-    place_is = refl;
+    index_is = refl;
     may_run = ran.could;
     fault_is = fault-moved fault is;
   }

@@ -63,9 +63,9 @@ IsInRoom kept event =
 abbrev pub CanRun : KeptWorld → List Event → Type 0
 CanRun kept events = MayRun kept.layout (callers_of kept) (world_of kept) events
 
--- the event at this place is the first that can't happen in turn, and this is the cause
+-- the event at this index is the first that can't happen in turn, and this is the cause
 abbrev pub Stops : KeptWorld → List Event → ℕ → EventFault → Type 0
-Stops kept events place fault = StopsAt kept.layout (callers_of kept) (world_of kept) events place fault
+Stops kept events index fault = StopsAt kept.layout (callers_of kept) (world_of kept) events index fault
 
 -- these are the totals of the world that is kept
 abbrev pub HasTotals : KeptWorld → Totals → Type 0

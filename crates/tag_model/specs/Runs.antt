@@ -15,14 +15,14 @@ abbrev pub MayRun : Layout → ℕ → World → List Event → Type 0
 MayRun l callers w [] = Unit {0}
 MayRun l callers w (event ∷ events) = MayHappen l callers w event × MayRun l callers (after l event w) events
 
--- the event at this place is the first that can't happen, and this is the cause
-pub record StopsAt (l : Layout) (callers : ℕ) (w : World) (events : List Event) (place : ℕ)
+-- the event at this index is the first that can't happen, and this is the cause
+pub record StopsAt (l : Layout) (callers : ℕ) (w : World) (events : List Event) (index : ℕ)
     (fault : EventFault) : Type 0 where
   pub before : List Event
   pub event : Event
   pub rest : List Event
   pub parts : events ≡ before ++ event ∷ rest
-  pub place_is : place ≡ length before
+  pub index_is : index ≡ length before
   pub may_run : MayRun l callers w before
   pub fault_is : IsFirstFault l callers (after_all l before w) event fault
 

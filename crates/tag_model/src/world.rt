@@ -115,7 +115,7 @@ impl World {
         Ok(())
     }
 
-    /// Events one after another, up to the first that can't happen: its place in the list, from 0, and its fault.
+    /// Events one after another, up to the first that can't happen: its index in the list, from 0, and its fault.
     /// The world then stands after the events before it.
     pub fn run(&mut self, events: &[Event]) -> Result<Totals, (usize, EventFault)>
         ensures ok { OnOk result (Ran self.old events.now self.new) }
@@ -124,9 +124,9 @@ impl World {
         ensures fault { IfErr result (λ e. Stops self.old events.now e.0 e.1) }
         ensures stopped { IfErr result (λ e. Ran self.old (take e.0 events.now) self.new) }
     {
-        for (place, event) in events.iter().enumerate() {
+        for (index, event) in events.iter().enumerate() {
             if let Err(fault) = self.apply(*event) {
-                return Err((place, fault));
+                return Err((index, fault));
             }
         }
         Ok(self.totals())

@@ -13,7 +13,7 @@ use Rattle.wake_book.specs.Waits.{active_at}
 use Rattle.tag_queue.specs.declared.agent.Agent.{Agent}
 use Rattle.tag_queue.specs.declared.queue.Queue.{Queue}
 use Rattle.tag_queue.specs.Agents.{SameCounts, waiter_of, book_steps, group_steps, batch_of, cap_of}
-use Rattle.tag_queue.specs.Clears.{Follows, FindsNobody, Charges, Counts}
+use Rattle.tag_queue.specs.Clears.{Follows, FindsNoneActive, Charges, Counts}
 
 -- a charge that was not won is followed by no step
 pub follows_none : (batch : ℕ) (charge : Charge) (steps : List GroupStep) → ((start : ℕ) → charge ≡ Won start → ⊥)
@@ -28,7 +28,7 @@ module _ {R : Type 0} (queue : Queue R) (n : ℕ) where
   pub counts_after : (old mid new : Agent R) (woken : ℕ) → SameCounts old mid → Counts queue n mid new woken
       → Counts queue n old new woken
   counts_after old mid new woken same c = record {
-    counts = ⊎_elim (λ (f : FindsNobody mid new woken). inl (record {
+    counts = ⊎_elim (λ (f : FindsNoneActive mid new woken). inl (record {
       teller = f.teller ∙ same.0;
       looks = f.looks ∙ ap (λ (w : Waiter). Look active_at 0 ∷ groups.steps_of w) same.1;
       none = f.none;

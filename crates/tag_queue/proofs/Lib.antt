@@ -12,3 +12,5 @@ pub mod NextMaps
 pub mod Resized
 pub mod Refusals
 pub mod Presence
+pub mod OneByOne
+pub mod Placed

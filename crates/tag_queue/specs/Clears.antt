@@ -33,7 +33,7 @@ Follows batch (Won start) steps steps' woken = IsWalk batch steps steps' woken
 Follows batch Busy steps steps' woken = (steps' ≡ steps) × (woken ≡ 0)
 
 -- no agent is found active, so nothing is counted and nobody is woken
-pub record FindsNobody {R : Type 0} (old new : Agent R) (woken : ℕ) : Type 0 where
+pub record FindsNoneActive {R : Type 0} (old new : Agent R) (woken : ℕ) : Type 0 where
   pub teller : teller_of new ≡ teller_of old
   pub looks : group_steps new ≡ Look active_at 0 ∷ group_steps old
   pub none : woken ≡ 0
@@ -55,5 +55,5 @@ pub record Charges {R : Type 0} (queue : Queue R) (n : ℕ) (old new : Agent R) 
 
 -- what is counted for n tags that were given back, and how many waiters are woken
 pub record Counts {R : Type 0} (queue : Queue R) (n : ℕ) (old new : Agent R) (woken : ℕ) : Type 0 where
-  pub counts : FindsNobody old new woken ⊎ Charges queue n old new woken
+  pub counts : FindsNoneActive old new woken ⊎ Charges queue n old new woken
   pub stands : StandsAsBefore (waiter_of old) (waiter_of new)

@@ -1,17 +1,20 @@
 -- A new queue, and its agents.
-use Rattle.std.specs.Prelude.{◌≡◌, ℕ, ◌<◌, ◌≤◌, ◌⊎◌, List, All, map, max, unwrap_or, IsSomeAnd, Bool}
+use Rattle.std.specs.Prelude.{◌≡◌, ℕ, ◌^◌, ◌<◌, ◌≤◌, ◌⊎◌, List, All, map, max, unwrap_or, IsSomeAnd, Bool}
 use Rattle.tag_layout.specs.Layout.{Layout, wake_batch, HasShift}
 use Rattle.tag_layout.specs.declared.layout.TheConstants.{MAX_DEPTH, MAX_SHIFT}
-use Rattle.tag_model.specs.declared.world.TheConstants.{MAX_CALLERS}
+use Rattle.tag_model.specs.declared.world.TheConstants.{MAX_CALLERS, MOST_WON}
 use Rattle.tag_core.specs.Opening.{IsNew, AreNew}
 use Rattle.tag_search.specs.declared.hint.Hint.{Hint}
 use Rattle.wake_book.specs.Book.{IsOpenBook}
 use Rattle.wake_book.specs.Groups.{AreOpenGroups}
 use Rattle.tag_queue.specs.declared.agent.Agent.{Agent}
+use Rattle.tag_queue.specs.declared.fault.SetFault.{SetFault}
+use Rattle.tag_queue.specs.declared.fault.SetFault.TheVariants.{Memory, TotalTooLarge, ReservedTooLarge, ShiftTooLarge, CallerCount, LifeTooLong, CapTooLarge}
 use Rattle.tag_queue.specs.declared.queue.Options.{Options}
 use Rattle.tag_queue.specs.declared.queue.Queue.{Queue}
-use Rattle.tag_queue.specs.Agents.{caller_of, teller_of, waiter_of, layout_of, least_of, min_shallow_of, IsAgentOf}
+use Rattle.tag_queue.specs.Agents.{caller_of, teller_of, waiter_of, hint_of, layout_of, least_of, min_shallow_of, IsAgentOf}
 use Rattle.tag_queue.specs.Parts.{HasHint}
+use Rattle.tag_queue.specs.Placing.{hint_in_part}
 
 -- there is a layout for the depth and the shift
 abbrev pub HasLayout : ℕ → Options → Type 0
@@ -29,18 +32,56 @@ MiscountsAgents options = (options.callers ≡ 0) ⊎ (MAX_CALLERS < options.cal
 abbrev pub CountsAgents : Options → Type 0
 CountsAgents options = (1 ≤ options.callers) × (options.callers ≤ MAX_CALLERS)
 
--- the hint of a new agent
+-- the number of agents, the life and the cap are within their limits
+abbrev pub HasLimits : Options → Type 0
+HasLimits options = CountsAgents options × (options.life ≤ MOST_WON) × (options.cap ≤ 2 ^ 56)
+
+-- a queue of this depth can be opened with these options, unless memory runs out
+abbrev pub CanOpen : ℕ → Options → Type 0
+CanOpen depth options = HasLayout depth options × HasLimits options
+
+-- the cause of a refusal holds, and none that is checked before it; when memory runs out is not specified
+abbrev pub RefusesOpen : ℕ → Options → SetFault → Type 0
+RefusesOpen depth options Memory = CanOpen depth options
+RefusesOpen depth options TotalTooLarge = MAX_DEPTH < depth
+RefusesOpen depth options ReservedTooLarge = ⊥
+RefusesOpen depth options ShiftTooLarge = (depth ≤ MAX_DEPTH) × IsSomeAnd options.shift (λ s. MAX_SHIFT < s)
+RefusesOpen depth options CallerCount = HasLayout depth options × MiscountsAgents options
+RefusesOpen depth options LifeTooLong =
+    HasLayout depth options × CountsAgents options × (MOST_WON < options.life)
+RefusesOpen depth options CapTooLarge =
+    HasLayout depth options × CountsAgents options × (options.life ≤ MOST_WON) × (2 ^ 56 < options.cap)
+
+-- a hint at tag 0
 abbrev pub first_hint : Bool → Hint
 first_hint round_robin = record { at = 0; round_robin = round_robin }
 
--- the queue is as the options say; its agents are in the order of their numbers and have made no step
-pub record IsOpen {R : Type 0} (options : Options) (queue : Queue R) (agents : List (Agent R)) : Type 0 where
+-- the agent's hint is at 0, with round robin as the options say
+abbrev pub HasFirstHint : {R : Type 0} → Options → Queue R → Agent R → Type 0
+HasFirstHint options queue = HasHint (first_hint options.round_robin)
+
+-- the agent's hint is at the first tag of its own part, with round robin as the options say
+abbrev pub HasPlacedHint : {R : Type 0} → Options → Queue R → Agent R → Type 0
+HasPlacedHint options queue agent = HasHint (hint_in_part queue agent) agent
+    × ((hint_of agent).round_robin ≡ options.round_robin)
+
+-- the queue is as the options say; its agents are in the order of their numbers, have made no step, and start as given
+pub record IsOpenWith {R : Type 0} (HasStart : Options → Queue R → Agent R → Type 0)
+    (options : Options) (queue : Queue R) (agents : List (Agent R)) : Type 0 where
   pub tags : IsNew (layout_of queue) options.callers options.life queue.map
   pub callers : AreNew queue.map (map caller_of agents)
   pub book : IsOpenBook (wake_batch (layout_of queue) options.min_shallow) options.callers options.cap
       queue.book (map teller_of agents)
   pub groups : AreOpenGroups options.callers queue.groups (map waiter_of agents)
   pub own : All (IsAgentOf queue) agents
-  pub hints : All (HasHint (first_hint options.round_robin)) agents
+  pub hints : All (HasStart options queue) agents
   pub least : least_of queue ≡ max (unwrap_or options.min_shallow 1) 1
   pub min_shallow : min_shallow_of queue ≡ options.min_shallow
+
+-- the queue and its agents are new, and every hint is at 0
+abbrev pub IsOpen : {R : Type 0} → Options → Queue R → List (Agent R) → Type 0
+IsOpen options queue agents = IsOpenWith HasFirstHint options queue agents
+
+-- the queue and its agents are new, and every hint is at the first tag of its agent's own part
+abbrev pub IsOpenPlaced : {R : Type 0} → Options → Queue R → List (Agent R) → Type 0
+IsOpenPlaced options queue agents = IsOpenWith HasPlacedHint options queue agents

@@ -21,7 +21,7 @@ pub record Fits {R : Type 0} (number : ℕ) (caller : Caller R) (teller : Teller
   pub counts : book.counted_by teller ≤ (record_of caller).back
   pub wakes : groups.moved_of waiter ≤ book.charged_by teller
 
--- at each place of the lists, the three can be the parts of the agent with that number
+-- at each index of the lists, the three can be the parts of the agent with that number
 abbrev pub FitTogether : {R : Type 0} → List (Caller R) → List Teller → List Waiter → Type 0
 FitTogether {R} callers tellers waiters = (n : ℕ) (caller : Caller R) (teller : Teller) (waiter : Waiter)
     → get_elem? callers n ≡ some caller → get_elem? tellers n ≡ some teller → get_elem? waiters n ≡ some waiter

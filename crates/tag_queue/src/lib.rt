@@ -21,8 +21,6 @@ mod resizes;
 mod shells;
 mod silent;
 mod slots;
-#[cfg(test)]
-mod tests;
 mod together;
 mod uses;
 mod waits;

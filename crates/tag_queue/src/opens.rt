@@ -3,7 +3,7 @@ ghost use Rattle.std.specs.Prelude.{◌≡◌, ◌≢◌, ℕ, ◌^◌, ◌<◌,
 ghost use Rattle.tag_layout.specs.declared.layout.TheConstants.{MAX_DEPTH, MAX_SHIFT};
 ghost use Rattle.tag_model.specs.declared.world.TheConstants.{MAX_CALLERS, MOST_WON};
 ghost use Rattle.tag_queue.specs.Agents.{layout_of, fill_of};
-ghost use Rattle.tag_queue.specs.Opening.{HasLayout, IsLaidOut, MiscountsAgents, CountsAgents, IsOpen};
+ghost use Rattle.tag_queue.specs.Opening.{HasLayout, IsLaidOut, MiscountsAgents, CountsAgents, HasLimits, IsOpen};
 
 use crate::agent::Agent;
 use crate::fault::SetFault;
@@ -69,7 +69,7 @@ fn lay_out<R: Copy>(
     options: Options,
     fill: R,
 ) -> Result<(Queue<R>, Vec<Agent<R>>), AllocError>
-    requires limits { CountsAgents options × (options.life ≤ MOST_WON) × (options.cap ≤ 2 ^ 56) }
+    requires limits { HasLimits options }
     ensures layout { IfOk result (λ opened. layout_of opened.0 ≡ layout) }
     ensures fill { IfOk result (λ opened. fill_of opened.0 ≡ fill) }
     ensures open { IfOk result (λ opened. IsOpen options opened.0 opened.1.items) }

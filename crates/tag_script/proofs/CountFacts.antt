@@ -7,7 +7,7 @@ use Rattle.std.proofs.lemmas.Nat.Bits.{bit_at-zero, bit_at-lt, bit_at_and, bit_a
 use Rattle.tag_layout.specs.Layout.{word_bits, words, word_of, place_of, tag_at, word_depth}
 use Rattle.tag_layout.proofs.PlaceFacts.{word_of-tag_at, place_of-tag_at}
 use Rattle.tag_model.specs.Totals.{count_below}
-use Rattle.tag_search.specs.Plain.{Plain, words_of}
+use Rattle.tag_search.specs.Plain.{Plain, plain_words}
 use Rattle.tag_search.specs.Pool.{pool_of, is_busy}
 use Rattle.tag_sets.proofs.Tallies.{aside_bits, count_word}
 
@@ -58,7 +58,7 @@ zero_of x e = eqb-true x 0 (true_of (nat_eq x 0) e)
 -- if no bit is both set and not aside, no place is busy
 pub idle_place : (p : Plain) (i place : ℕ) → place < 64 → slice_index p.aside i < 2 ^ 64
     → bit_and (slice_index p.word i) (bit_not w64 (slice_index p.aside i)) ≡ 0
-    → is_busy (pool_of (words_of p)) i place ≡ false
+    → is_busy (pool_of (plain_words p)) i place ≡ false
 idle_place p i place low fits none =
     let n : ℕ = slice_index p.word i in let a : ℕ = slice_index p.aside i in
     let below : nat_lt place 64 ≡ true = search (rules, low) in
@@ -73,40 +73,40 @@ module _ (p : Plain) (i u : ℕ) (there : i < words p.layout) (narrow : word_dep
     (bits : (place : ℕ) → place < word_depth p.layout i → bit_at u place ≡ 1) where
   -- the bit of a tag that the caller holds
   pub held_place : slice_index p.aside i < 2 ^ 64 → (place : ℕ) → place < word_depth p.layout i
-      → cond (is_busy (pool_of (words_of p)) (word_of p.layout (tag_at p.layout i place))
+      → cond (is_busy (pool_of (plain_words p)) (word_of p.layout (tag_at p.layout i place))
       (place_of p.layout (tag_at p.layout i place))) 1 0
       ≡ bit_at (bit_and (bit_and (slice_index p.word i) u) (bit_not w64 (slice_index p.aside i))) place
   held_place fits place h =
       let w = word_of-tag_at p.layout i place (omega arith) in let k = place_of-tag_at p.layout i place (omega arith) in
-      ap (λ (x : ℕ). cond (is_busy (pool_of (words_of p)) x (place_of p.layout (tag_at p.layout i place))) 1 0) w
-      ∙ ap (λ (x : ℕ). cond (is_busy (pool_of (words_of p)) i x) 1 0) k
+      ap (λ (x : ℕ). cond (is_busy (pool_of (plain_words p)) x (place_of p.layout (tag_at p.layout i place))) 1 0) w
+      ∙ ap (λ (x : ℕ). cond (is_busy (pool_of (plain_words p)) i x) 1 0) k
       ∙ busy_place (slice_index p.word i) (slice_index p.aside i) u place (omega arith) fits (bits place h)
 
   -- the tags that the caller holds
   pub count_held : slice_index p.aside i < 2 ^ 64
-      → count_below (λ tag. is_busy (pool_of (words_of p)) (word_of p.layout tag) (place_of p.layout tag))
+      → count_below (λ tag. is_busy (pool_of (plain_words p)) (word_of p.layout tag) (place_of p.layout tag))
       (min ((i + 1) * word_bits p.layout) p.layout.depth)
-      ≡ count_below (λ tag. is_busy (pool_of (words_of p)) (word_of p.layout tag) (place_of p.layout tag))
+      ≡ count_below (λ tag. is_busy (pool_of (plain_words p)) (word_of p.layout tag) (place_of p.layout tag))
       (min (i * word_bits p.layout) p.layout.depth)
       + count_ones (bit_and (bit_and (slice_index p.word i) u) (bit_not w64 (slice_index p.aside i)))
   count_held fits =
       let n : ℕ = slice_index p.word i in let a : ℕ = slice_index p.aside i in
       let le = and_le_l (bit_and n u) (bit_not w64 a) in let le' = and_le_r n u in
-      count_word p.layout (λ tag. is_busy (pool_of (words_of p)) (word_of p.layout tag) (place_of p.layout tag)) i
+      count_word p.layout (λ tag. is_busy (pool_of (plain_words p)) (word_of p.layout tag) (place_of p.layout tag)) i
       (bit_and (bit_and n u) (bit_not w64 a)) there (omega arith) (held_place fits)
 
   -- the tags that are set aside
   pub count_aside :
-      count_below (λ tag. (pool_of (words_of p)).aside (word_of p.layout tag) (place_of p.layout tag))
+      count_below (λ tag. (pool_of (plain_words p)).aside (word_of p.layout tag) (place_of p.layout tag))
       (min ((i + 1) * word_bits p.layout) p.layout.depth)
-      ≡ count_below (λ tag. (pool_of (words_of p)).aside (word_of p.layout tag) (place_of p.layout tag))
+      ≡ count_below (λ tag. (pool_of (plain_words p)).aside (word_of p.layout tag) (place_of p.layout tag))
       (min (i * word_bits p.layout) p.layout.depth)
       + count_ones (bit_and (slice_index p.aside i) u)
   count_aside =
       let a : ℕ = slice_index p.aside i in let le = and_le_r a u in
-      count_word p.layout (λ tag. (pool_of (words_of p)).aside (word_of p.layout tag) (place_of p.layout tag)) i
+      count_word p.layout (λ tag. (pool_of (plain_words p)).aside (word_of p.layout tag) (place_of p.layout tag)) i
       (bit_and a u) there (omega arith) (λ place h.
       let w = word_of-tag_at p.layout i place (omega arith) in let k = place_of-tag_at p.layout i place (omega arith) in
-      ap (λ (x : ℕ). cond ((pool_of (words_of p)).aside x (place_of p.layout (tag_at p.layout i place))) 1 0) w
-      ∙ ap (λ (x : ℕ). cond ((pool_of (words_of p)).aside i x) 1 0) k
+      ap (λ (x : ℕ). cond ((pool_of (plain_words p)).aside x (place_of p.layout (tag_at p.layout i place))) 1 0) w
+      ∙ ap (λ (x : ℕ). cond ((pool_of (plain_words p)).aside i x) 1 0) k
       ∙ aside_place a u place (omega arith) (bits place h))

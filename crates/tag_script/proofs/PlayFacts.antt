@@ -9,7 +9,7 @@ use Rattle.tag_script.specs.Answers.{line_of, text_of}
 use Rattle.tag_script.specs.Players.{solo_of}
 use Rattle.tag_script.specs.Plays.{Plays, over, obeyed, IsPlayed}
 use Rattle.tag_script.specs.Solo.{won_by}
-use Rattle.tag_search.specs.Plain.{Plain, words_of}
+use Rattle.tag_search.specs.Plain.{Plain, plain_words}
 use Rattle.tag_search.specs.Pool.{pool_of}
 
 -- one more order, in the world that the earlier ones left
@@ -56,7 +56,7 @@ played_as S counts f p orders text told = record {
 }
 
 -- a player whose words are equal has the same world
-pub same_world : (p : Player) (q : Plain) → q.layout ≡ p.port.layout → words_of q ≡ words_of p.port
+pub same_world : (p : Player) (q : Plain) → q.layout ≡ p.port.layout → plain_words q ≡ plain_words p.port
     → solo_of (record p { port = q }) ≡ solo_of p
 same_world p q layout words = λ z. record {
   layout = layout z;

@@ -41,12 +41,12 @@ abbrev pub IsRunVerdict : Layout → ℕ → World → List Event → Verdict �
 IsRunVerdict l callers w events (Faulty fault) = ⊥
 IsRunVerdict l callers w events (Setup fault) = ⊥
 IsRunVerdict l callers w events (Stopped line fault) =
-    (place : ℕ) × (line ≡ place + 1) × StopsAt l callers w events place fault
+    (index : ℕ) × (line ≡ index + 1) × StopsAt l callers w events index fault
 IsRunVerdict l callers w events (Legal count totals) =
     (count ≡ length events) × MayRun l callers w events × AreTotals l callers (after_all l events w) totals
 
 -- each line is an event, and the verdict is that of a run from a new world
-pub record IsRun (o : CheckOptions) (text : List ℕ) (verdict : Verdict) : Type 0 where
+pub record RunsEvents (o : CheckOptions) (text : List ℕ) (verdict : Verdict) : Type 0 where
   pub events : List Event
   pub layout : Layout
   pub lines : AreReadings event_of text events
@@ -58,8 +58,8 @@ pub record IsRun (o : CheckOptions) (text : List ℕ) (verdict : Verdict) : Type
 abbrev pub IsVerdict : CheckOptions → List ℕ → Verdict → Type 0
 IsVerdict o text (Faulty fault) = IsFirstFaulty event_of text fault
 IsVerdict o text (Setup fault) = (events : List Event) × AreReadings event_of text events × IsSetupFault o fault
-IsVerdict o text (Stopped line fault) = IsRun o text (Stopped line fault)
-IsVerdict o text (Legal count totals) = IsRun o text (Legal count totals)
+IsVerdict o text (Stopped line fault) = RunsEvents o text (Stopped line fault)
+IsVerdict o text (Legal count totals) = RunsEvents o text (Legal count totals)
 
 -- the line that reports a verdict
 abbrev pub verdict_text : Verdict → List ℕ
@@ -77,7 +77,7 @@ ending_of (Stopped line fault) = Refused
 ending_of (Legal count totals) = Done
 
 -- the output for a list, and whether it is a refusal, by its verdict
-pub record Tells (o : CheckOptions) (list text : List ℕ) (ending : Ending) : Type 0 where
+pub record TellsVerdict (o : CheckOptions) (list text : List ℕ) (ending : Ending) : Type 0 where
   pub verdict : Verdict
   pub verdict_is : IsVerdict o list verdict
   pub text_is : text ≡ verdict_text verdict

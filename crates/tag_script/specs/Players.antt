@@ -1,6 +1,6 @@
 -- What a contract sees of a `Player`.
 use Rattle.std.specs.Prelude.{ℕ, ◌+◌, ◌*◌, ◌^◌, ◌<◌, ◌≤◌}
-use Rattle.tag_search.specs.Plain.{words_of}
+use Rattle.tag_search.specs.Plain.{plain_words}
 use Rattle.tag_script.specs.declared.player.Player.{Player}
 use Rattle.tag_search.specs.Pool.{pool_of}
 use Rattle.tag_script.specs.Solo.{Solo}
@@ -10,7 +10,7 @@ abbrev pub solo_of : Player → Solo
 solo_of p = record {
   layout = p.port.layout;
   least = p.least;
-  pool = pool_of (words_of p.port);
+  pool = pool_of (plain_words p.port);
   hint = p.hint;
   won = p.won;
   back = p.back;

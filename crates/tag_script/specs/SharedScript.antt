@@ -44,7 +44,7 @@ abbrev pub IsAllowed : ScriptOptions → Type 0
 IsAllowed o = (fault : SetFault) → ¬ (IsRefusedShared o fault)
 
 -- new tags with these options, on which nothing was done
-pub record IsNew (o : ScriptOptions) (s : Scene) : Type 0 where
+pub record IsNewScene (o : ScriptOptions) (s : Scene) : Type 0 where
   pub opened : IsOpen o.tags o.reserved (tag_options o) s.state
   pub untouched : IsAlone s → AreUntouched o.tags o.reserved (tag_options o) s.sets
 
@@ -52,5 +52,5 @@ pub record IsNew (o : ScriptOptions) (s : Scene) : Type 0 where
 pub record IsToldShared (o : ScriptOptions) (orders : List Order) (text : List ℕ) : Type 0 where
   pub first : Scene
   pub allowed : IsAllowed o
-  pub new : IsNew o first
+  pub new : IsNewScene o first
   pub played : IsPlayed ObeysShared AreSharedTotals first orders text

@@ -9,7 +9,7 @@ use Rattle.tag_search.specs.Follows.{HintFollows, BatchFollows}
 use Rattle.tag_search.specs.Hints.{reduced}
 use Rattle.tag_search.specs.Search.{Visit}
 use Rattle.tag_search.specs.Visits.{shallow_visits}
-use Rattle.tag_search.specs.Pool.{Pool, is_busy, aside_at}
+use Rattle.tag_search.specs.Pool.{Pool, is_busy, set_aside}
 use Rattle.tag_search.specs.Choice.{IsChoice, IsBatchChoice}
 use Rattle.tag_queue.specs.declared.fault.TagFault.{TagFault}
 use Rattle.tag_queue.specs.declared.fault.TagFault.TheVariants.{NoSuchTag, NotHeld, BadCount, TooShallow}
@@ -104,7 +104,7 @@ pub data Batches (n : ℕ) (old : Solo) : Result (Option (ℕ × ℕ)) TagFault 
 -- the tag is set aside and counted, and the hint moves to it, except under round robin
 abbrev pub put_back : ℕ → Solo → Solo
 put_back tag w = record w {
-  pool = aside_at (word_of w.layout tag) (place_of w.layout tag) w.pool;
+  pool = set_aside (word_of w.layout tag) (place_of w.layout tag) w.pool;
   hint = record w.hint { at = if w.hint.round_robin then w.hint.at else tag };
   back = w.back + 1;
 }

@@ -72,7 +72,7 @@ fn run(world: &mut World, events: &[Event]) -> Verdict
 {
     match world.run(events) {
         Ok(totals) => Verdict::Legal(events.len() as u64, totals),
-        Err((place, fault)) => Verdict::Stopped(place as u64 + 1, fault),
+        Err((index, fault)) => Verdict::Stopped(index as u64 + 1, fault),
     }
 }
 

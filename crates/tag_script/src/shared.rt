@@ -2,7 +2,7 @@
 ghost use Rattle.std.specs.Prelude.{◌≡◌, ◌<◌, IfOk, IfErr, All};
 ghost use Rattle.tag_script.specs.Setups.{IsClosed};
 ghost use Rattle.tag_script.specs.SharedCommands.{scene_of};
-ghost use Rattle.tag_script.specs.SharedScript.{IsToldShared, IsRefusedShared, IsAllowed, IsNew};
+ghost use Rattle.tag_script.specs.SharedScript.{IsToldShared, IsRefusedShared, IsAllowed, IsNewScene};
 
 use crate::callers::Callers;
 use crate::fault::Closed;
@@ -35,7 +35,7 @@ pub(crate) fn play_shared<W: Wait>(
 // Opens the board that the options describe.
 fn open(alloc: Global, options: &ScriptOptions) -> Result<Board, Closed>
     ensures allowed { IfOk result (λ board. IsAllowed options.now) }
-    ensures new { IfOk result (λ board. IsNew options.now (scene_of board)) }
+    ensures new { IfOk result (λ board. IsNewScene options.now (scene_of board)) }
     ensures fault { IfErr result (IsClosed (IsRefusedShared options.now)) }
 {
     match Board::open(alloc, options.tags, options.reserved, options.tag_options()) {

@@ -18,11 +18,11 @@ use Rattle.tag_layout.specs.Layout.{Layout, word_bits, word_depth, tag_at}
 use Rattle.tag_layout.proofs.Scans.{bit_at-shr}
 use Rattle.tag_search.specs.Batch.{run_mask, run_won, IsSweptLook, swept_look, IsBatchVisit, no_run, run_lost}
 use Rattle.tag_search.specs.Batch.{run_taken, IsBatchSearch, batch_over, batch_won, batch_passed}
-use Rattle.tag_search.specs.Choice.{IsLeastOpen, HasNoRun, IsOpenRun, IsBatchChoice, no_batch, batch}
+use Rattle.tag_search.specs.Choice.{IsLeastAvailable, HasNoRun, IsAvailableRun, IsBatchChoice, no_batch, batch}
 use Rattle.tag_search.specs.PlainLaws.{words_after-append}
-use Rattle.tag_search.specs.Pool.{Pool, pool_of, is_open, freed_in, taken_from}
+use Rattle.tag_search.specs.Pool.{Pool, pool_of, is_available, freed_in, taken_from}
 use Rattle.tag_search.proofs.Alone.{quiet-split}
-use Rattle.tag_search.proofs.Pools.{free_here, open_freed, least_same, freed_none, freed_before, freed_between}
+use Rattle.tag_search.proofs.Pools.{free_here, available_freed, least_same, freed_none, freed_before, freed_between}
 use Rattle.tag_search.proofs.Pools.{taken_same, and_false}
 use Rattle.tag_search.proofs.Sweeps.{is_clear, clear_of, set_of, bit_of_clear, bit_of_set, bit_without, claim_pool}
 use Rattle.tag_search.proofs.Sweeps.{sweep_pool}
@@ -100,33 +100,33 @@ swept_look_alone {i = i} {found = found} (swept_look {sweep = sweep} s fits) w q
     (Look i found ∷ []) w in
     (ap pool_of e ∙ sweep_pool s w parts.0, parts.1.0 ∙ ap (λ (x : Words). x.word i) (sym e), fits)
 
--- so the load finds exactly the open places clear
-look_open : (w left : Words) (i found k : ℕ) → pool_of left ≡ freed_in (i ∷ []) (pool_of w) → found ≡ left.word i
-    → is_open (pool_of w) i k ≡ is_clear found k
-look_open w left i found k e f = sym (free_here (pool_of w) i k) ∙ ap (λ (q : Pool). q.free i k) (sym e)
+-- so the load finds exactly the available places clear
+look_available : (w left : Words) (i found k : ℕ) → pool_of left ≡ freed_in (i ∷ []) (pool_of w) → found ≡ left.word i
+    → is_available (pool_of w) i k ≡ is_clear found k
+look_available w left i found k e f = sym (free_here (pool_of w) i k) ∙ ap (λ (q : Pool). q.free i k) (sym e)
     ∙ ap (λ (n : ℕ). is_clear n k) (sym f)
 
-least_of_clear : (p : Pool) (i depth found place : ℕ) → depth ≤ 64 → ((k : ℕ) → is_open p i k ≡ is_clear found k)
-    → IsFirstClear found 0 depth place → IsLeastOpen p i depth place
-least_of_clear p i depth found place small open_is first = let within = first.within in record {
+least_of_clear : (p : Pool) (i depth found place : ℕ) → depth ≤ 64 → ((k : ℕ) → is_available p i k ≡ is_clear found k)
+    → IsFirstClear found 0 depth place → IsLeastAvailable p i depth place
+least_of_clear p i depth found place small available_is first = let within = first.within in record {
   within = within;
-  is = open_is place ∙ clear_of found place (omega arith) first.clear;
-  least = λ k h. open_is k ∙ set_of found k (first.first k (omega arith) h);
+  is = available_is place ∙ clear_of found place (omega arith) first.clear;
+  least = λ k h. available_is k ∙ set_of found k (first.first k (omega arith) h);
 }
 
-clear_of_least : (p : Pool) (i depth found place : ℕ) → depth ≤ 64 → ((k : ℕ) → is_open p i k ≡ is_clear found k)
-    → IsLeastOpen p i depth place → IsFirstClear found 0 depth place
-clear_of_least p i depth found place small open_is least = let within = least.within in record {
+clear_of_least : (p : Pool) (i depth found place : ℕ) → depth ≤ 64 → ((k : ℕ) → is_available p i k ≡ is_clear found k)
+    → IsLeastAvailable p i depth place → IsFirstClear found 0 depth place
+clear_of_least p i depth found place small available_is least = let within = least.within in record {
   behind = omega arith;
   within = within;
-  clear = bit_of_clear found place (sym (open_is place) ∙ least.is);
-  first = λ k low h. bit_of_set found k (omega arith) (sym (open_is k) ∙ least.least k h);
+  clear = bit_of_clear found place (sym (available_is place) ∙ least.is);
+  first = λ k low h. bit_of_set found k (omega arith) (sym (available_is k) ∙ least.least k h);
 }
 
 -- the effect of a quiet visit: the word was swept and has no run, or its run is won
 abbrev BatchTells : Layout → ℕ → Pool → ℕ → Option (ℕ × ℕ) → Pool → Type 0
 BatchTells l n p i None left = HasNoRun l n p i × (left ≡ freed_in (i ∷ []) p)
-BatchTells l n p i (Some won) left = IsOpenRun l n p i won.0 won.1 × (left ≡ taken_from i won.0 n (freed_in (i ∷ []) p))
+BatchTells l n p i (Some won) left = IsAvailableRun l n p i won.0 won.1 × (left ≡ taken_from i won.0 n (freed_in (i ∷ []) p))
 
 -- a claim from a clear place on wins at least one bit
 wins_some : (n place found : ℕ) → 1 ≤ n → found < 2 ^ 64 → place < 64 → bit_at found place ≡ 0
@@ -143,7 +143,7 @@ batch_visit_alone : (l : Layout) (n : ℕ) {i : ℕ} {steps : List WordStep} {an
 batch_visit_alone l n {i = i} (no_run {found = found} {steps = steps} look none) some small w quiet =
     let a = swept_look_alone look w quiet in let left = words_after_all steps w in (
       λ place least. none place (clear_of_least (pool_of w) i (word_depth l i) found place small
-          (λ k. look_open w left i found k a.0 a.1) least),
+          (λ k. look_available w left i found k a.0 a.1) least),
       a.0,
     )
 batch_visit_alone l n {i = i} (run_lost {found = found} {place = place} {steps = steps} next look run lost) some small w
@@ -159,16 +159,16 @@ batch_visit_alone l n {i = i} (run_taken {found = found} {place = place} {steps 
     let parts = quiet-split steps (step ∷ []) w quiet in let a = swept_look_alone look w parts.0 in
     let mid = words_after_all steps w in
     let same : next ≡ found = parts.1.0 ∙ sym a.1 in let fits = run.fits in
-    let open_is : (k : ℕ) → is_open (pool_of w) i k ≡ is_clear found k = λ k. look_open w mid i found k a.0 a.1 in
-    let bits : (k : ℕ) → bit_at (run_won n place next) k ≡ 1 ↔ (k < n) × (is_open (pool_of w) i (place + k) ≡ true) =
+    let available_is : (k : ℕ) → is_available (pool_of w) i k ≡ is_clear found k = λ k. look_available w mid i found k a.0 a.1 in
+    let bits : (k : ℕ) → bit_at (run_won n place next) k ≡ 1 ↔ (k < n) × (is_available (pool_of w) i (place + k) ≡ true) =
     λ k.
     let tells = won_clear n place found a.2 (omega arith) k in (
       λ one. let is = tells.0 (sym (ap (λ (x : ℕ). bit_at (run_won n place x) k) same) ∙ one) in
-          (is.0, open_is (place + k) ∙ is.1),
-      λ is. ap (λ (x : ℕ). bit_at (run_won n place x) k) same ∙ tells.1 (is.0, sym (open_is (place + k)) ∙ is.1),
+          (is.0, available_is (place + k) ∙ is.1),
+      λ is. ap (λ (x : ℕ). bit_at (run_won n place x) k) same ∙ tells.1 (is.0, sym (available_is (place + k)) ∙ is.1),
     ) in (
       record {
-        least = least_of_clear (pool_of w) i (word_depth l i) found place small open_is run.first;
+        least = least_of_clear (pool_of w) i (word_depth l i) found place small available_is run.first;
         fits = fits;
         won = bits;
       },
@@ -179,18 +179,18 @@ batch_visit_alone l n {i = i} (run_taken {found = found} {place = place} {steps 
 -- freeing another word changes no run
 no_run_still : (l : Layout) (n x : ℕ) (p : Pool) (i : ℕ) → HasNoRun l n (freed_in (x ∷ []) p) i → HasNoRun l n p i
 no_run_still l n x p i none place least = none place (least_same p (freed_in (x ∷ []) p) i (word_depth l i) place
-    (λ k. sym (open_freed (x ∷ []) p i k)) least)
+    (λ k. sym (available_freed (x ∷ []) p i k)) least)
 
 none_still : (l : Layout) (n x : ℕ) (p : Pool) (is : List ℕ) → All (HasNoRun l n (freed_in (x ∷ []) p)) is
     → All (HasNoRun l n p) is
 none_still l n x p is none = λ k d h. no_run_still l n x p (get_or is k d) (none k d h)
 
-run_still : (l : Layout) (n x : ℕ) (p : Pool) (i place bits : ℕ) → IsOpenRun l n (freed_in (x ∷ []) p) i place bits
-    → IsOpenRun l n p i place bits
+run_still : (l : Layout) (n x : ℕ) (p : Pool) (i place bits : ℕ) → IsAvailableRun l n (freed_in (x ∷ []) p) i place bits
+    → IsAvailableRun l n p i place bits
 run_still l n x p i place bits run = record {
-  least = least_same (freed_in (x ∷ []) p) p i (word_depth l i) place (open_freed (x ∷ []) p i) run.least;
+  least = least_same (freed_in (x ∷ []) p) p i (word_depth l i) place (available_freed (x ∷ []) p i) run.least;
   fits = run.fits;
-  won = λ k. let tells = run.won k in let same = open_freed (x ∷ []) p i (place + k) in
+  won = λ k. let tells = run.won k in let same = available_freed (x ∷ []) p i (place + k) in
       (λ one. let is = tells.0 one in (is.0, sym same ∙ is.1), λ is. tells.1 (is.0, same ∙ is.1));
 }
 

@@ -12,7 +12,7 @@ use Rattle.tag_layout.specs.Layout.{Layout, words, word_of, word_depth, tag_at}
 use Rattle.tag_layout.proofs.PlaceFacts.{word_bits-le, word_of-below}
 use Rattle.std.proofs.lemmas.Nat.{mod_below, pow_pos}
 use Rattle.tag_search.specs.Hints.{reduced}
-use Rattle.tag_search.specs.Added.{Adds}
+use Rattle.tag_search.specs.Added.{AddsSteps}
 use Rattle.tag_search.specs.Batch.{run_mask, IsSweptLook, swept_look, IsBatchVisit, no_run, run_lost, run_taken}
 use Rattle.tag_search.specs.Batch.{IsBatchSearch, batch_over, batch_won, batch_passed, IsBatchGet}
 use Rattle.tag_search.specs.Order.{numbers, scan_order}
@@ -23,8 +23,8 @@ use Rattle.tag_search.proofs.Orders.{length-numbers}
 
 -- the steps of a sweep, whether or not it found a mask
 pub swept_any : {Port : Type 0} (adds : Port → List WordStep → Port → Type 0) (p q : Port) (i : ℕ) (b : Bool)
-    → MatchBool b ((mask : ℕ) × (mask ≢ 0) × Adds adds p q (IsSweep i mask)) (Adds adds p q (IsSweep i 0))
-    → Adds adds p q (λ xs. (mask : ℕ) × IsSweep i mask xs)
+    → MatchBool b ((mask : ℕ) × (mask ≢ 0) × AddsSteps adds p q (IsSweep i mask)) (AddsSteps adds p q (IsSweep i 0))
+    → AddsSteps adds p q (λ xs. (mask : ℕ) × IsSweep i mask xs)
 swept_any adds p q i true h = record { steps = h.2.steps; added = h.2.added; holds = (h.0, h.2.holds) }
 swept_any adds p q i false h = record { steps = h.steps; added = h.added; holds = (0, h.holds) }
 

@@ -17,7 +17,7 @@ use Rattle.tag_search.specs.Visits.{Reach, visit_of, visits}
 use Rattle.tag_search.proofs.Alone.{quiet-split, Wins, wins_free, wins_aside, visit_alone}
 use Rattle.tag_search.proofs.Orders.{all_from, all_numbers, all_scan}
 use Rattle.tag_search.proofs.Passes.{all_behind}
-use Rattle.tag_search.proofs.Pools.{open_freed, free_elsewhere, aside_elsewhere, freed_none, freed_before}
+use Rattle.tag_search.proofs.Pools.{available_freed, free_elsewhere, aside_elsewhere, freed_none, freed_before}
 use Rattle.tag_search.proofs.Pools.{freed_between}
 
 -- no two visits are of the same word
@@ -35,7 +35,7 @@ set_elsewhere x p i places ne set = λ k d h. sym (free_elsewhere x p i (get_or 
 
 busy_still : (x : ℕ) (p : Pool) (i : ℕ) (places : List ℕ) → All (IsBusy (freed_in (x ∷ []) p) i) places
     → All (IsBusy p i) places
-busy_still x p i places busy = λ k d h. sym (open_freed (x ∷ []) p i (get_or places k d)) ∙ busy k d h
+busy_still x p i places busy = λ k d h. sym (available_freed (x ∷ []) p i (get_or places k d)) ∙ busy k d h
 
 -- freeing another word changes no free or aside place of this one
 first_elsewhere : (x : ℕ) (p : Pool) (i : ℕ) (rank : List ℕ) (place : ℕ) → i ≢ x

@@ -8,14 +8,14 @@ use Rattle.std.proofs.lemmas.List.Elements.{All-append, All-map}
 use Rattle.tag_core.specs.Steps.{Words}
 use Rattle.tag_layout.specs.Layout.{Layout, words, word_bits, word_depth, tag_at}
 use Rattle.tag_layout.proofs.PlaceFacts.{word_of-tag_at, place_of-tag_at}
-use Rattle.tag_search.specs.Added.{Adds}
+use Rattle.tag_search.specs.Added.{AddsSteps}
 use Rattle.tag_search.specs.Batch.{IsBatchGet, batch_words}
-use Rattle.tag_search.specs.Choice.{IsOpen, IsBusy, IsHeld, words_in, IsChoice, nothing, chosen_free, chosen_aside}
+use Rattle.tag_search.specs.Choice.{IsAvailable, IsBusy, IsHeld, words_in, IsChoice, nothing, chosen_free, chosen_aside}
 use Rattle.tag_search.specs.Choice.{IsBatchChoice, no_batch, batch}
 use Rattle.tag_search.specs.Gets.{IsGet}
 use Rattle.tag_search.specs.Order.{numbers}
-use Rattle.tag_search.specs.Plain.{Plain, words_of, RunsAlone}
-use Rattle.tag_search.specs.Pool.{Pool, pool_of, is_open, IsApart, is_in, freed_in, taken_in}
+use Rattle.tag_search.specs.Plain.{Plain, plain_words, RunsAlone}
+use Rattle.tag_search.specs.Pool.{Pool, pool_of, is_available, IsApart, is_in, freed_in, taken_in}
 use Rattle.tag_search.specs.Search.{Visit}
 use Rattle.tag_search.specs.Visits.{Reach, visit_of, visits}
 use Rattle.tag_search.proofs.Batches.{order-split}
@@ -52,14 +52,14 @@ taken_busy : (i : ℕ) (these : ℕ → Bool) (p : Pool) (k : ℕ) → IsApart p
 taken_busy i these p k apart free is = held_bits (p.free i k) (p.aside i k) (nat_eq i i) (these k) (apart i k) free
     (eq-eqb i i refl) is
 
-open_bits : (f a b c : Bool) → b ≡ true → (f || a) ≡ true → (f || ((b || c) && a)) ≡ true
-open_bits true a b c here e = refl
-open_bits false a true c here e = e
-open_bits false a false c here e = absurd (let no : false ≡ true = here in cc)
+available_bits : (f a b c : Bool) → b ≡ true → (f || a) ≡ true → (f || ((b || c) && a)) ≡ true
+available_bits true a b c here e = refl
+available_bits false a true c here e = e
+available_bits false a false c here e = absurd (let no : false ≡ true = here in cc)
 
--- an open place is free once its word is freed
-free_after : (i : ℕ) (xs : List ℕ) (p : Pool) (k : ℕ) → IsOpen p i k → (freed_in (i ∷ xs) p).free i k ≡ true
-free_after i xs p k e = open_bits (p.free i k) (p.aside i k) (nat_eq i i) (is_in i xs) (eq-eqb i i refl) e
+-- an available place is free once its word is freed
+free_after : (i : ℕ) (xs : List ℕ) (p : Pool) (k : ℕ) → IsAvailable p i k → (freed_in (i ∷ xs) p).free i k ≡ true
+free_after i xs p k e = available_bits (p.free i k) (p.aside i k) (nat_eq i i) (is_in i xs) (eq-eqb i i refl) e
 
 or_left : (f a : Bool) → f ≡ true → (f || a) ≡ true
 or_left true a e = refl
@@ -71,7 +71,7 @@ or_right false a e = e
 
 -- the tag at a place that is held
 held_at : (l : Layout) (p : Pool) (i k : ℕ) → k < word_bits l → IsBusy p i k → IsHeld l p (tag_at l i k)
-held_at l p i k h busy = (λ z. is_open p (word_of-tag_at l i k h z) (place_of-tag_at l i k h z)) ∙ busy
+held_at l p i k h busy = (λ z. is_available p (word_of-tag_at l i k h z) (place_of-tag_at l i k h z)) ∙ busy
 
 -- each place of the visit is below the word's size
 abbrev pub InDepth : Layout → Visit → Type 0
@@ -139,14 +139,14 @@ visits_inside l first reach h within =
 
 -- a get over plain words is the choice
 pub choice_of : (l : Layout) (p q : Plain) (vs : List Visit) (answer : Option ℕ)
-    → Adds RunsAlone p q (IsGet l vs answer)
-    → IsChoice l (pool_of (words_of p)) vs answer (pool_of (words_of q))
-choice_of l p q vs answer a = subst (λ (x : Words). IsChoice l (pool_of (words_of p)) vs answer (pool_of x))
-    (sym a.added.leaves) (a.holds.alone (words_of p) a.added.quiet)
+    → AddsSteps RunsAlone p q (IsGet l vs answer)
+    → IsChoice l (pool_of (plain_words p)) vs answer (pool_of (plain_words q))
+choice_of l p q vs answer a = subst (λ (x : Words). IsChoice l (pool_of (plain_words p)) vs answer (pool_of x))
+    (sym a.added.leaves) (a.holds.alone (plain_words p) a.added.quiet)
 
 pub batch_choice_of : (l : Layout) (n first : ℕ) (p q : Plain) (answer : Option (ℕ × ℕ))
-    → Adds RunsAlone p q (IsBatchGet l n first answer)
-    → IsBatchChoice l n (pool_of (words_of p)) (batch_words l first) answer (pool_of (words_of q))
+    → AddsSteps RunsAlone p q (IsBatchGet l n first answer)
+    → IsBatchChoice l n (pool_of (plain_words p)) (batch_words l first) answer (pool_of (plain_words q))
 batch_choice_of l n first p q answer a =
-    subst (λ (x : Words). IsBatchChoice l n (pool_of (words_of p)) (batch_words l first) answer (pool_of x))
-    (sym a.added.leaves) (a.holds.alone (words_of p) a.added.quiet)
+    subst (λ (x : Words). IsBatchChoice l n (pool_of (plain_words p)) (batch_words l first) answer (pool_of x))
+    (sym a.added.leaves) (a.holds.alone (plain_words p) a.added.quiet)

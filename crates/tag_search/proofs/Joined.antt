@@ -1,14 +1,14 @@
 -- The steps of two calls in a row.
 use Rattle.std.proofs.Common.{ℕ, List, ◌++◌}
 use Rattle.tag_core.specs.declared.word_step.WordStep.{WordStep}
-use Rattle.tag_search.specs.Added.{Adds, SameRoom}
+use Rattle.tag_search.specs.Added.{AddsSteps, SameRoom}
 
 -- the steps of two calls, from the steps of each
 pub adds_joined : {Port : Type 0} (adds : Port → List WordStep → Port → Type 0)
     → ((p q r : Port) (xs ys : List WordStep) → adds p xs q → adds q ys r → adds p (xs ++ ys) r)
     → (p q r : Port) (First Second Both : List WordStep → Type 0)
     → ((xs ys : List WordStep) → First xs → Second ys → Both (xs ++ ys))
-    → Adds adds p q First → Adds adds q r Second → Adds adds p r Both
+    → AddsSteps adds p q First → AddsSteps adds q r Second → AddsSteps adds p r Both
 adds_joined adds more p q r First Second Both joins a b =
     record {
       steps = a.steps ++ b.steps;
@@ -19,7 +19,7 @@ adds_joined adds more p q r First Second Both joins a b =
 -- a weaker fact holds of the steps
 pub adds_weaker : {Port : Type 0} (adds : Port → List WordStep → Port → Type 0) (p q : Port)
     (Strong Weak : List WordStep → Type 0)
-    → ((xs : List WordStep) → Strong xs → Weak xs) → Adds adds p q Strong → Adds adds p q Weak
+    → ((xs : List WordStep) → Strong xs → Weak xs) → AddsSteps adds p q Strong → AddsSteps adds p q Weak
 adds_weaker adds p q Strong Weak weaker a = record { steps = a.steps; added = a.added; holds = weaker a.steps a.holds }
 
 -- two calls that each keep the room keep it together

@@ -34,8 +34,8 @@ use Rattle.tag_search.specs.Batch.{IsBatchGet, batch_words}
 use Rattle.tag_search.specs.Choice.{IsChoice, IsBatchChoice}
 use Rattle.tag_search.specs.Gets.{IsGet}
 use Rattle.tag_search.specs.LoneLaws.{cells_left, words_left, own_after}
-use Rattle.tag_search.specs.Lone.{IsAlone, pool_left, is_posted, is_own, Leaves}
-use Rattle.tag_search.specs.Pool.{pool_of, aside_at, free_at}
+use Rattle.tag_search.specs.Lone.{IsAlone, pool_left, is_posted, is_own, LeavesPool}
+use Rattle.tag_search.specs.Pool.{pool_of, set_aside, free_at}
 use Rattle.tag_search.specs.Search.{Visit}
 use Rattle.tag_search.specs.SharedLaws.{shape_after}
 use Rattle.tag_search.specs.Shared.{AddsAll}
@@ -110,7 +110,7 @@ module _ {R : Type 0} where
 
   -- a put sets its place aside
   pub own_put : (old new : Caller R) (i place found : ℕ) → place < 64 → Adds (Word (Put i (2 ^ place) found)) old new
-      → Leaves (aside_at i place (pool_left old)) old new
+      → LeavesPool (set_aside i place (pool_left old)) old new
   own_put old new i place found low adds = let next = own_next (Word (Put i (2 ^ place) found)) old new adds in record {
     pool_is = ap (λ (s : List (Step R)). pool_of (words_left s)) next
         ∙ put_pool (words_left (record_of old).steps) i place found low;
@@ -119,7 +119,7 @@ module _ {R : Type 0} where
 
   -- a give frees the places of its mask
   pub own_give : (old new : Caller R) (i mask found : ℕ) → mask < 2 ^ 64 → Adds (Word (Give i mask found)) old new
-      → Leaves (free_at i mask (pool_left old)) old new
+      → LeavesPool (free_at i mask (pool_left old)) old new
   own_give old new i mask found fits adds = let next = own_next (Word (Give i mask found)) old new adds in record {
     pool_is = ap (λ (s : List (Step R)). pool_of (words_left s)) next
         ∙ give_pool (words_left (record_of old).steps) i mask found fits;
@@ -185,7 +185,7 @@ module _ {R : Type 0} where
   pub own_looks : (old mid new : Caller R) (i found set : ℕ) → IsAlone old → Adds (Word (Look i found)) old mid
       → Adds (Word (LookAside i set)) mid new
       → (found ≡ (words_left (record_of old).steps).word i) × (set ≡ (words_left (record_of old).steps).aside i)
-      × Leaves (pool_left old) old new
+      × LeavesPool (pool_left old) old new
   own_looks old mid new i found set one first second =
       let one' : IsAlone mid = ap (λ (r : Record R). r.shape.callers) first.known ∙ one in
       let one'' : IsAlone new = ap (λ (r : Record R). r.shape.callers) second.known ∙ one' in

@@ -13,7 +13,7 @@ use Rattle.tag_core.specs.declared.claim.Spent.{Spent}
 use Rattle.tag_core.specs.Callers.{layout_of, IsCallerOf, record_of, slot_of, Holds, SameMap}
 use Rattle.tag_core.specs.Holdings.{Acquires}
 use Rattle.tag_search.specs.declared.shared.Shared.{Shared}
-use Rattle.tag_search.specs.Added.{Adds as Ports}
+use Rattle.tag_search.specs.Added.{AddsSteps as Ports}
 use Rattle.tag_search.specs.Batch.{IsBatchGet}
 use Rattle.tag_search.specs.Gains.{IsAnswer, Gains, IsInRun, GainsRun}
 use Rattle.tag_search.specs.Gets.{IsGet}

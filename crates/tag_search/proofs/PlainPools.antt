@@ -11,8 +11,8 @@ use Rattle.std.proofs.lemmas.List.{get_or-replicate, get_or_past, length-replica
 use Rattle.std.proofs.lemmas.Nat.Bits.{bit_at_or, bit_at-lt, bit_at-zero, bit_at-pow_same, bit_at-pow_other}
 use Rattle.tag_core.specs.declared.word_step.WordStep.TheVariants.{Give, Put}
 use Rattle.tag_core.specs.Steps.{Words, words_after, without}
-use Rattle.tag_search.specs.Plain.{Plain, words_of, RunsAlone, IsTaken}
-use Rattle.tag_search.specs.Pool.{pool_of, is_busy, aside_at, free_at, IsApart}
+use Rattle.tag_search.specs.Plain.{Plain, plain_words, RunsAlone, IsTaken}
+use Rattle.tag_search.specs.Pool.{pool_of, is_busy, set_aside, free_at, IsApart}
 use Rattle.tag_search.specs.Writes.{IsTidy, IsAllFree}
 use Rattle.tag_search.proofs.Pools.{pool_ext, or_false, and_false}
 use Rattle.tag_search.proofs.Sweeps.{is_clear, is_one, clear_of, set_of, none_of, without_clear}
@@ -51,9 +51,9 @@ put_bit false x y place k low same = sym (or_false (is_one y k))
 
 -- a put sets its place aside
 pub put_pool : (w : Words) (i place found : ℕ) → place < 64 → pool_of (words_after (Put i (2 ^ place) found) w)
-    ≡ aside_at i place (pool_of w)
+    ≡ set_aside i place (pool_of w)
 put_pool w i place found low = pool_ext (pool_of (words_after (Put i (2 ^ place) found) w))
-    (aside_at i place (pool_of w))
+    (set_aside i place (pool_of w))
     (λ j k. refl) (λ j k. put_bit (nat_eq j i) (w.aside i) (w.aside j) place k low (λ t. ap w.aside (eqb-true j i t)))
 
 give_bit : (b : Bool) (x y m k : ℕ) → m < 2 ^ 64 → (b ≡ true → y ≡ x) → is_clear (cond b (without x m) y) k
@@ -69,12 +69,12 @@ give_pool w i mask found fits = pool_ext (pool_of (words_after (Give i mask foun
 
 -- the same, for a put that ran alone
 pub ran_put_pool : (old new : Plain) (i place found : ℕ) → place < 64 → RunsAlone old (Put i (2 ^ place) found ∷ []) new
-    → pool_of (words_of new) ≡ aside_at i place (pool_of (words_of old))
-ran_put_pool old new i place found low ran = ap pool_of ran.leaves ∙ put_pool (words_of old) i place found low
+    → pool_of (plain_words new) ≡ set_aside i place (pool_of (plain_words old))
+ran_put_pool old new i place found low ran = ap pool_of ran.leaves ∙ put_pool (plain_words old) i place found low
 
 pub ran_give_pool : (old new : Plain) (i mask found : ℕ) → mask < 2 ^ 64 → RunsAlone old (Give i mask found ∷ []) new
-    → pool_of (words_of new) ≡ free_at i mask (pool_of (words_of old))
-ran_give_pool old new i mask found fits ran = ap pool_of ran.leaves ∙ give_pool (words_of old) i mask found fits
+    → pool_of (plain_words new) ≡ free_at i mask (pool_of (plain_words old))
+ran_give_pool old new i mask found fits ran = ap pool_of ran.leaves ∙ give_pool (plain_words old) i mask found fits
 
 -- a place below 64 is busy exactly if its bit is 1 and it is not set aside
 busy_test : (l c a : Bool) → l ≡ true → not ((l && c) || (l && a)) ≡ (not c && not a)
@@ -82,13 +82,13 @@ busy_test true true a e = refl
 busy_test true false a e = refl
 busy_test false c a e = absurd (let no : false ≡ true = e in cc)
 
-pub busy_of_taken : (p : Plain) (i k : ℕ) → k < 64 → IsTaken p i k → is_busy (pool_of (words_of p)) i k ≡ true
+pub busy_of_taken : (p : Plain) (i k : ℕ) → k < 64 → IsTaken p i k → is_busy (pool_of (plain_words p)) i k ≡ true
 busy_of_taken p i k low is =
     busy_test (nat_lt k 64) (nat_eq (bit_at (get_or p.word i 0) k) 0) (nat_eq (bit_at (get_or p.aside i 0) k) 1)
     (lt-ltb k 64 low)
     ∙ (λ z. not (nat_eq (is.taken z) 0) && not (nat_eq (is.not_aside z) 1))
 
-pub taken_of_busy : (p : Plain) (i k : ℕ) → k < 64 → is_busy (pool_of (words_of p)) i k ≡ true → IsTaken p i k
+pub taken_of_busy : (p : Plain) (i k : ℕ) → k < 64 → is_busy (pool_of (plain_words p)) i k ≡ true → IsTaken p i k
 taken_of_busy p i k low busy =
     let e : (not (nat_eq (bit_at (get_or p.word i 0) k) 0) && not (nat_eq (bit_at (get_or p.aside i 0) k) 1)) ≡ true =
     sym (busy_test (nat_lt k 64) (nat_eq (bit_at (get_or p.word i 0) k) 0) (nat_eq (bit_at (get_or p.aside i 0) k) 1)
@@ -105,7 +105,7 @@ taken_of_busy p i k low busy =
     split (suc (suc a)) b h g e = absurd (omega arith)
 
 -- in tidy words no place is both free and set aside
-pub tidy_apart : (p : Plain) → IsTidy p → IsApart (pool_of (words_of p))
+pub tidy_apart : (p : Plain) → IsTidy p → IsApart (pool_of (plain_words p))
 tidy_apart p tidy i k = elim (bit_is (get_or p.aside i 0) k) [
   | inl one ↦ ap (λ (b : Bool). b && is_one (get_or p.aside i 0) k) (set_of (get_or p.word i 0) k (tidy.taken i k one))
   | inr none ↦ ap (λ (b : Bool). is_clear (get_or p.word i 0) k && b) (none_of (get_or p.aside i 0) k none)
@@ -121,7 +121,7 @@ zeros n i =
     get_or_past (replicate n zero) i zero long)
 
 pub all_free : (p : Plain) (n : ℕ) → p.word ≡ replicate n zero → p.aside ≡ replicate n zero
-    → IsAllFree (pool_of (words_of p))
+    → IsAllFree (pool_of (plain_words p))
 all_free p n e f = record {
   free = λ i k low. clear_of (get_or p.word i 0) k low (ap (λ (xs : List ℕ). bit_at (get_or xs i 0) k) e
       ∙ ap (λ (x : ℕ). bit_at x k) (zeros n i) ∙ bit_at-zero k);
@@ -131,5 +131,5 @@ all_free p n e f = record {
 
 -- a test of whether a place is taken is one of whether it is busy
 pub busy_iff : (p : Plain) (i k : ℕ) (b : Bool) → k < 64 → IsTrue b ↔ IsTaken p i k
-    → IsTrue b ↔ IsTrue (is_busy (pool_of (words_of p)) i k)
+    → IsTrue b ↔ IsTrue (is_busy (pool_of (plain_words p)) i k)
 busy_iff p i k b low tells = (λ t. busy_of_taken p i k low (tells.0 t), λ busy. tells.1 (taken_of_busy p i k low busy))

@@ -1,8 +1,8 @@
 -- Equal pools, and pools freed in several words.
 use Rattle.std.proofs.Common.{◌≡◌, ◌≢◌, ℕ, Bool, true, false, not, ◌&&◌, ◌||◌, nat_eq, List, [], ◌∷◌, refl, sym, ap}
 use Rattle.std.proofs.Common.{◌∙◌, eq-eqb, ne_eqb}
-use Rattle.tag_search.specs.Choice.{IsLeastOpen}
-use Rattle.tag_search.specs.Pool.{Pool, is_open, is_in, freed_in, taken_in}
+use Rattle.tag_search.specs.Choice.{IsLeastAvailable}
+use Rattle.tag_search.specs.Pool.{Pool, is_available, is_in, freed_in, taken_in}
 
 -- pools with the same places are equal
 pub pool_ext : (p q : Pool) → ((i k : ℕ) → p.free i k ≡ q.free i k) → ((i k : ℕ) → p.aside i k ≡ q.aside i k) → p ≡ q
@@ -68,19 +68,19 @@ pub taken_same : (i : ℕ) (these those : ℕ → Bool) (p : Pool) → ((k : ℕ
     → taken_in i these p ≡ taken_in i those p
 taken_same i these those p same = λ z. taken_in i (λ k. same k z) p
 
-open_still : (f a x : Bool) → ((f || (x && a)) || (not x && a)) ≡ (f || a)
-open_still true a x = refl
-open_still false true true = refl
-open_still false true false = refl
-open_still false false true = refl
-open_still false false false = refl
+available_still : (f a x : Bool) → ((f || (x && a)) || (not x && a)) ≡ (f || a)
+available_still true a x = refl
+available_still false true true = refl
+available_still false true false = refl
+available_still false false true = refl
+available_still false false false = refl
 
--- freeing words changes no place from open to busy or back
-pub open_freed : (xs : List ℕ) (p : Pool) (i k : ℕ) → is_open (freed_in xs p) i k ≡ is_open p i k
-open_freed xs p i k = open_still (p.free i k) (p.aside i k) (is_in i xs)
+-- freeing words changes no place from available to busy or back
+pub available_freed : (xs : List ℕ) (p : Pool) (i k : ℕ) → is_available (freed_in xs p) i k ≡ is_available p i k
+available_freed xs p i k = available_still (p.free i k) (p.aside i k) (is_in i xs)
 
--- after a word is freed, its free places are those that were open
-pub free_here : (p : Pool) (i k : ℕ) → (freed_in (i ∷ []) p).free i k ≡ is_open p i k
+-- after a word is freed, its free places are those that were available
+pub free_here : (p : Pool) (i k : ℕ) → (freed_in (i ∷ []) p).free i k ≡ is_available p i k
 free_here p i k = ap (λ (b : Bool). p.free i k || ((b || false) && p.aside i k)) (eq-eqb i i refl)
 
 -- the free places of other words are unchanged
@@ -91,16 +91,16 @@ free_elsewhere x p i k ne = ap (λ (b : Bool). p.free i k || ((b || false) && p.
 pub aside_elsewhere : (x : ℕ) (p : Pool) (i k : ℕ) → i ≢ x → (freed_in (x ∷ []) p).aside i k ≡ p.aside i k
 aside_elsewhere x p i k ne = ap (λ (b : Bool). not (b || false) && p.aside i k) (ne_eqb i x ne)
 
--- the least open place is the same in pools with the same open places
-pub least_same : (p q : Pool) (i depth place : ℕ) → ((k : ℕ) → is_open p i k ≡ is_open q i k)
-    → IsLeastOpen p i depth place → IsLeastOpen q i depth place
+-- the least available place is the same in pools with the same available places
+pub least_same : (p q : Pool) (i depth place : ℕ) → ((k : ℕ) → is_available p i k ≡ is_available q i k)
+    → IsLeastAvailable p i depth place → IsLeastAvailable q i depth place
 least_same p q i depth place same least = record {
   within = least.within;
   is = sym (same place) ∙ least.is;
   least = λ k h. sym (same k) ∙ least.least k h;
 }
 
--- a place that is open but not free is set aside
+-- a place that is available but not free is set aside
 pub aside_of_open : (f a : Bool) → f ≡ false → (f || a) ≡ true → a ≡ true
 aside_of_open true a e may = absurd (let no : true ≡ false = e in cc)
 aside_of_open false a e may = may

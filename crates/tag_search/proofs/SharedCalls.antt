@@ -16,7 +16,7 @@ use Rattle.tag_core.specs.Callers.{Holds, Adds, AddsTwo}
 use Rattle.tag_core.specs.Records.{joined, held_after_word, tag_bit}
 use Rattle.tag_core.specs.Steps.{without}
 use Rattle.tag_search.specs.declared.shared.Shared.{Shared}
-use Rattle.tag_search.specs.Added.{Adds as Ports}
+use Rattle.tag_search.specs.Added.{AddsSteps as Ports}
 use Rattle.tag_search.specs.Search.{IsSweep, empty, spilled}
 use Rattle.tag_search.specs.Shared.{FindsWord, FindsHeldBy, AddsAll, AddsThrough}
 

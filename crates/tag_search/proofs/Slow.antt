@@ -16,11 +16,11 @@ use Rattle.tag_layout.specs.Layout.{Layout, words, word_bits, word_of, place_of,
 use Rattle.tag_layout.proofs.PlaceFacts.{tag_at-below, word_of-tag_at, place_of-tag_at}
 use Rattle.tag_search.specs.Batch.{batch_words}
 use Rattle.tag_search.specs.Choice.{IsFree, IsSet, IsAside, IsBusy, IsFirst, IsFull, words_in, IsChoice, nothing}
-use Rattle.tag_search.specs.Choice.{chosen_free, chosen_aside, IsLeastOpen, HasNoRun, IsOpenRun, IsBatchChoice}
+use Rattle.tag_search.specs.Choice.{chosen_free, chosen_aside, IsLeastAvailable, HasNoRun, IsAvailableRun, IsBatchChoice}
 use Rattle.tag_search.specs.Choice.{no_batch, batch}
 use Rattle.tag_search.specs.Marks.{mark_at, pool_of_marks, free_then, aside_then}
 use Rattle.tag_search.specs.Order.{scan_order}
-use Rattle.tag_search.specs.Pool.{Pool, is_open, is_in, freed_in, taken_from, taken_at}
+use Rattle.tag_search.specs.Pool.{Pool, is_available, is_in, freed_in, taken_from, taken_at}
 use Rattle.tag_search.specs.Search.{Visit}
 use Rattle.tag_search.specs.Visits.{Reach, visit_of, visits}
 use Rattle.tag_search.proofs.Orders.{all_scan}
@@ -116,7 +116,7 @@ passed_visits p first reach passed full = All-map (IsFull p) (visit_of first rea
 
 module _ (l : Layout) (p : Pool) (first : ℕ) (reach : Reach) (order swept : List ℕ)
     (order_is : order ≡ scan_order first (words l) true) where
-  -- no word has an open place
+  -- no word has an available place
   pub slow_nothing : (n : ℕ) (new : Pool) → length order ≤ n → swept ≡ take n order
       → HavePassed p first reach (take n order) → new ≡ taken_from 0 0 0 (freed_in swept p)
       → IsChoice l p (visits l first reach) None new
@@ -194,17 +194,17 @@ first_aside p w rank place set is =
       is = is.is;
     }
 
--- the least open place of a word is unique
-least_same : (p : Pool) (w d a b : ℕ) → IsLeastOpen p w d a → IsLeastOpen p w d b → a ≡ b
+-- the least available place of a word is unique
+least_same : (p : Pool) (w d a b : ℕ) → IsLeastAvailable p w d a → IsLeastAvailable p w d b → a ≡ b
 least_same p w d a b x y = dite (dec_lt a b)
-    (λ (h : a < b). absurd (clash (is_open p w a) x.is (y.least a h)))
-    (λ no. dite (dec_lt b a) (λ (h : b < a). absurd (clash (is_open p w b) y.is (x.least b h))) (λ no'. omega arith))
+    (λ (h : a < b). absurd (clash (is_available p w a) x.is (y.least a h)))
+    (λ no. dite (dec_lt b a) (λ (h : b < a). absurd (clash (is_available p w b) y.is (x.least b h))) (λ no'. omega arith))
   where
     clash : (b : Bool) → b ≡ true → b ≡ false → ⊥
     clash b e f = let g : true ≡ false = sym e ∙ f in cc
 
--- a word with fewer than n places from its least open one on has no run
-pub no_run_from : (l : Layout) (n : ℕ) (p : Pool) (w place : ℕ) → IsLeastOpen p w (word_depth l w) place
+-- a word with fewer than n places from its least available one on has no run
+pub no_run_from : (l : Layout) (n : ℕ) (p : Pool) (w place : ℕ) → IsLeastAvailable p w (word_depth l w) place
     → word_depth l w < place + n → HasNoRun l n p w
 no_run_from l n p w place least few other is = let e = least_same p w (word_depth l w) other place is least in
     omega arith
@@ -228,7 +228,7 @@ module _ (l : Layout) (p : Pool) (n first : ℕ) (order swept : List ℕ) (order
 
   pub slow_batch : (at word place bits : ℕ) (new : Pool) → at < length order → word ≡ get_or order at 0
       → All (HasNoRun l n p) (take at order) → swept ≡ word ∷ take at order
-      → IsOpenRun l n p word place bits → new ≡ taken_from word place n (freed_in swept p)
+      → IsAvailableRun l n p word place bits → new ≡ taken_from word place n (freed_in swept p)
       → IsBatchChoice l n p (batch_words l first) (Some (tag_at l word place, bits)) new
   slow_batch at word place bits new within word_is none swept_is run new_is =
       let is : IsBatchChoice l n p (take at order ++ word ∷ drop (at + 1) order) (Some (tag_at l word place, bits))

@@ -10,7 +10,7 @@ use Rattle.std.proofs.lemmas.Nat.Bits.{bit_at-pow_same, bit_at-pow_other}
 use Rattle.tag_core.specs.Steps.{without}
 use Rattle.tag_layout.specs.Layout.{word_depth, IsWithin}
 use Rattle.tag_search.specs.Plain.{Plain}
-use Rattle.tag_search.specs.Writes.{Writes, IsIn, IsTidy}
+use Rattle.tag_search.specs.Writes.{WritesBits, IsIn, IsTidy}
 
 -- a bit is 1 or 0
 pub bit_is : (n k : ℕ) → (bit_at n k ≡ 1) ⊎ (bit_at n k ≡ 0)
@@ -36,7 +36,7 @@ other_entries xs i v j ne = get_or-set_other xs i j v 0 ne
 
 -- bits or-ed into a word
 pub writes_or : (xs : List ℕ) (i v mask : ℕ) → i < length xs → v ≡ get_or xs i 0
-    → Writes xs (set xs i (bit_or v mask)) i (IsIn mask) 1
+    → WritesBits xs (set xs i (bit_or v mask)) i (IsIn mask) 1
 writes_or xs i v mask h e =
     let here : get_or (set xs i (bit_or v mask)) i 0 ≡ bit_or v mask = get_or-set_same xs i (bit_or v mask) 0 h in
     record {
@@ -58,7 +58,7 @@ bit_at_without v mask k fits narrow = dite (dec_lt k 64)
 
 -- bits removed from a word
 pub writes_without : (xs : List ℕ) (i v mask : ℕ) → i < length xs → v ≡ get_or xs i 0 → v < 2 ^ 64 → mask < 2 ^ 64
-    → Writes xs (set xs i (without v mask)) i (IsIn mask) 0
+    → WritesBits xs (set xs i (without v mask)) i (IsIn mask) 0
 writes_without xs i v mask h e fits narrow =
     let here : get_or (set xs i (without v mask)) i 0 ≡ without v mask = get_or-set_same xs i (without v mask) 0 h in
     record {
@@ -72,7 +72,7 @@ writes_without xs i v mask h e fits narrow =
 
 -- a word set to 0
 pub writes_zero : (xs : List ℕ) (i : ℕ) (P : ℕ → Type 0) → i < length xs
-    → ((k : ℕ) → ¬ P k → bit_at (get_or xs i 0) k ≡ 0) → Writes xs (set xs i 0) i P 0
+    → ((k : ℕ) → ¬ P k → bit_at (get_or xs i 0) k ≡ 0) → WritesBits xs (set xs i 0) i P 0
 writes_zero xs i P h out =
     let here : get_or (set xs i 0) i 0 ≡ 0 = get_or-set_same xs i 0 0 h in
     record {
@@ -82,7 +82,7 @@ writes_zero xs i P h out =
     }
 
 -- writing no place
-pub writes_nothing : (xs : List ℕ) (i : ℕ) (P : ℕ → Type 0) (b : ℕ) → ((k : ℕ) → ¬ P k) → Writes xs xs i P b
+pub writes_nothing : (xs : List ℕ) (i : ℕ) (P : ℕ → Type 0) (b : ℕ) → ((k : ℕ) → ¬ P k) → WritesBits xs xs i P b
 writes_nothing xs i P b none = record {
   there = λ k one. absurd (none k one);
   beside = λ k _. refl;
@@ -91,7 +91,7 @@ writes_nothing xs i P b none = record {
 
 -- an equivalent set of places
 pub writes_where : (xs ys : List ℕ) (i b : ℕ) (P Q : ℕ → Type 0) → ((k : ℕ) → Q k → P k) → ((k : ℕ) → P k → Q k)
-    → Writes xs ys i P b → Writes xs ys i Q b
+    → WritesBits xs ys i P b → WritesBits xs ys i Q b
 writes_where xs ys i b P Q f g w = record {
   there = λ k q. w.there k (f k q);
   beside = λ k no. w.beside k (λ p. no (g k p));
@@ -108,7 +108,7 @@ place_is place k e = ap (bit_at (2 ^ place)) e ∙ bit_at-pow_same place
 
 -- a claim of places within the word's depth
 pub tidy_claim : (p : Plain) (new : List ℕ) (i mask : ℕ) → IsTidy p → length new ≡ length p.word
-    → IsWithin p.layout i mask → Writes p.word new i (IsIn mask) 1 → IsTidy (record p { word = new })
+    → IsWithin p.layout i mask → WritesBits p.word new i (IsIn mask) 1 → IsTidy (record p { word = new })
 tidy_claim p new i mask tidy long fits w = record {
   word_count = long ∙ tidy.word_count;
   aside_count = tidy.aside_count;
@@ -132,7 +132,7 @@ tidy_claim p new i mask tidy long fits w = record {
 
 -- places cleared, none of which is still set aside
 pub tidy_clear : (p : Plain) (new aside : List ℕ) (i mask : ℕ) → IsTidy p → length new ≡ length p.word
-    → length aside ≡ length p.aside → Writes p.word new i (IsIn mask) 0
+    → length aside ≡ length p.aside → WritesBits p.word new i (IsIn mask) 0
     → ((j k : ℕ) → bit_at (get_or aside j 0) k ≡ 1 → bit_at (get_or p.aside j 0) k ≡ 1)
     → ((k : ℕ) → bit_at (get_or aside i 0) k ≡ 1 → ¬ IsIn mask k)
     → IsTidy (record p { word = new; aside = aside })
@@ -157,7 +157,7 @@ tidy_clear p new aside i mask tidy long broad w fewer apart = record {
 
 -- a taken place set aside
 pub tidy_put : (p : Plain) (aside : List ℕ) (i place : ℕ) → IsTidy p → length aside ≡ length p.aside
-    → bit_at (get_or p.word i 0) place ≡ 1 → Writes p.aside aside i (λ k. k ≡ place) 1
+    → bit_at (get_or p.word i 0) place ≡ 1 → WritesBits p.aside aside i (λ k. k ≡ place) 1
     → IsTidy (record p { aside = aside })
 tidy_put p aside i place tidy broad was w = record {
   word_count = tidy.word_count;
@@ -174,10 +174,10 @@ tidy_put p aside i place tidy broad was w = record {
 
 -- a bit or-ed into a word, stated by the word's index and the bit's place
 pub writes_place : (xs : List ℕ) (r i found bit place : ℕ) → r ≡ i → bit ≡ 2 ^ place → r < length xs
-    → found ≡ get_or xs r 0 → Writes xs (set xs r (bit_or found bit)) i (λ k. k ≡ place) 1
+    → found ≡ get_or xs r 0 → WritesBits xs (set xs r (bit_or found bit)) i (λ k. k ≡ place) 1
 writes_place xs r i found bit place e b h f =
     let new : List ℕ = set xs r (bit_or found bit) in
-    subst (λ (x : ℕ). Writes xs new x (λ k. k ≡ place) 1) e
+    subst (λ (x : ℕ). WritesBits xs new x (λ k. k ≡ place) 1) e
     (writes_where xs new r 1 (IsIn bit) (λ k. k ≡ place)
     (λ k q. subst (λ (x : ℕ). IsIn x k) (sym b) (place_is place k q))
     (λ k q. is_place place k (subst (λ (x : ℕ). IsIn x k) b q))

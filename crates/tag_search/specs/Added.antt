@@ -3,7 +3,7 @@ use Rattle.std.specs.Prelude.{ℕ, List, ◌↔◌}
 use Rattle.tag_core.specs.declared.word_step.WordStep.{WordStep}
 
 -- the port made some steps between the two states, and the fact holds of them
-pub record Adds {Port : Type 0} (adds : Port → List WordStep → Port → Type 0) (old new : Port) (fact : List WordStep
+pub record AddsSteps {Port : Type 0} (adds : Port → List WordStep → Port → Type 0) (old new : Port) (fact : List WordStep
     → Type 0) : Type 0 where
   pub steps : List WordStep
   pub added : adds old steps new

@@ -19,7 +19,7 @@ abbrev pub run_won : ℕ → ℕ → ℕ → ℕ
 run_won n place found = without (run_mask n place) found / 2 ^ place
 
 -- the place is the first clear one of the word, and the word has n places from it on
-pub record IsRun (depth n found place : ℕ) : Type 0 where
+pub record HasRunAt (depth n found place : ℕ) : Type 0 where
   pub first : IsFirstClear found 0 depth place
   pub fits : place + n ≤ depth
 
@@ -33,10 +33,10 @@ pub data IsBatchVisit (i depth n : ℕ) : List WordStep → Option (ℕ × ℕ) 
   no_run : {found : ℕ} {steps : List WordStep} → IsSweptLook i found steps
       → ((place : ℕ) → IsFirstClear found 0 depth place → depth < place + n) → IsBatchVisit i depth n steps None
   run_lost : {found place : ℕ} {steps : List WordStep} (next : ℕ) → IsSweptLook i found steps
-      → IsRun depth n found place → without (run_mask n place) next ≡ 0
+      → HasRunAt depth n found place → without (run_mask n place) next ≡ 0
       → IsBatchVisit i depth n (steps ++ Claimed i (run_mask n place) next ∷ []) None
   run_taken : {found place : ℕ} {steps : List WordStep} (next : ℕ) → IsSweptLook i found steps
-      → IsRun depth n found place → without (run_mask n place) next ≢ 0
+      → HasRunAt depth n found place → without (run_mask n place) next ≢ 0
       → IsBatchVisit i depth n (steps ++ Claimed i (run_mask n place) next ∷ []) (Some (place, run_won n place next))
 
 -- the words in order, up to the first in which a claim wins; the answer is the first tag of its run with the bits won,

@@ -2,7 +2,7 @@
 use Rattle.std.specs.Prelude.{◌≡◌, ◌↔◌, ℕ, ◌+◌, ◌<◌, ◌≤◌, true, false, List, ◌∷◌, ◌++◌, map, All, Option, Some, None}
 use Rattle.std.specs.Int.{bit_at}
 use Rattle.tag_layout.specs.Layout.{Layout, word_of, place_of, word_depth, tag_at}
-use Rattle.tag_search.specs.Pool.{Pool, is_open, freed_in, taken_at, taken_from}
+use Rattle.tag_search.specs.Pool.{Pool, is_available, freed_in, taken_at, taken_from}
 use Rattle.tag_search.specs.Search.{Visit}
 
 -- the place is free
@@ -18,12 +18,12 @@ abbrev pub IsAside : Pool → ℕ → ℕ → Type 0
 IsAside p word place = p.aside word place ≡ true
 
 -- the place is free or set aside
-abbrev pub IsOpen : Pool → ℕ → ℕ → Type 0
-IsOpen p word place = is_open p word place ≡ true
+abbrev pub IsAvailable : Pool → ℕ → ℕ → Type 0
+IsAvailable p word place = is_available p word place ≡ true
 
 -- the place is neither free nor set aside
 abbrev pub IsBusy : Pool → ℕ → ℕ → Type 0
-IsBusy p word place = is_open p word place ≡ false
+IsBusy p word place = is_available p word place ≡ false
 
 -- the tag is neither free nor set aside
 abbrev pub IsHeld : Layout → Pool → ℕ → Type 0
@@ -62,27 +62,27 @@ pub data IsChoice (l : Layout) (old : Pool) : List Visit → Option ℕ → Pool
       (taken_at visit.word place (freed_in (visit.word ∷ words_in full) old))
 
 -- the place is the least below a bound that is free or set aside
-pub record IsLeastOpen (p : Pool) (word depth place : ℕ) : Type 0 where
+pub record IsLeastAvailable (p : Pool) (word depth place : ℕ) : Type 0 where
   pub within : place < depth
-  pub is : IsOpen p word place
+  pub is : IsAvailable p word place
   pub least : (other : ℕ) → other < place → IsBusy p word other
 
--- the word has no open place, or fewer than n places from its least open one on
+-- the word has no available place, or fewer than n places from its least available one on
 abbrev pub HasNoRun : Layout → ℕ → Pool → ℕ → Type 0
-HasNoRun l n p word = (place : ℕ) → IsLeastOpen p word (word_depth l word) place → word_depth l word < place + n
+HasNoRun l n p word = (place : ℕ) → IsLeastAvailable p word (word_depth l word) place → word_depth l word < place + n
 
--- the word's n places from its least open one on, and the mask of those among them that are open
-pub record IsOpenRun (l : Layout) (n : ℕ) (p : Pool) (word place bits : ℕ) : Type 0 where
-  pub least : IsLeastOpen p word (word_depth l word) place
+-- the word's n places from its least available one on, and the mask of those among them that are available
+pub record IsAvailableRun (l : Layout) (n : ℕ) (p : Pool) (word place bits : ℕ) : Type 0 where
+  pub least : IsLeastAvailable p word (word_depth l word) place
   pub fits : place + n ≤ word_depth l word
-  pub won : (k : ℕ) → bit_at bits k ≡ 1 ↔ (k < n) × IsOpen p word (place + k)
+  pub won : (k : ℕ) → bit_at bits k ≡ 1 ↔ (k < n) × IsAvailable p word (place + k)
 
--- the first word with n places from its least open one on answers those among them that are open; there is no answer if
--- there is no such word. The aside places of each word up to the answer's are freed, and the n places are no longer
--- free
+-- the first word with n places from its least available one on answers those among them that are available; there is no
+-- answer if there is no such word. The aside places of each word up to the answer's are freed, and the n places are no
+-- longer free
 pub data IsBatchChoice (l : Layout) (n : ℕ) (old : Pool) : List ℕ → Option (ℕ × ℕ) → Pool → Type 0 where
   no_batch : {words : List ℕ} → All (HasNoRun l n old) words → IsBatchChoice l n old words None (freed_in words old)
   batch : (passed behind : List ℕ) (word : ℕ) {place bits : ℕ} → All (HasNoRun l n old) passed
-      → IsOpenRun l n old word place bits
+      → IsAvailableRun l n old word place bits
       → IsBatchChoice l n old (passed ++ word ∷ behind) (Some (tag_at l word place, bits))
       (taken_from word place n (freed_in (word ∷ passed) old))

@@ -41,6 +41,6 @@ pub record ChoosesRun {R : Type 0} (l : Layout) (n first : ℕ) (answer : Option
   pub posted : (tag : ℕ) → is_posted new tag ≡ is_posted old tag
 
 -- the caller's own steps leave this pool, and no tag is posted or taken from the posted ones
-pub record Leaves {R : Type 0} (pool : Pool) (old new : Caller R) : Type 0 where
+pub record LeavesPool {R : Type 0} (pool : Pool) (old new : Caller R) : Type 0 where
   pub pool_is : pool_left new ≡ pool
   pub posted : (tag : ℕ) → is_posted new tag ≡ is_posted old tag

@@ -12,15 +12,15 @@ pub record Plain : Type 0 where
   pub aside : List ℕ
 
 -- the words by their index
-abbrev pub words_of : Plain → Words
-words_of p = record { word = λ i. slice_index p.word i; aside = λ i. slice_index p.aside i }
+abbrev pub plain_words : Plain → Words
+plain_words p = record { word = λ i. slice_index p.word i; aside = λ i. slice_index p.aside i }
 
 -- no other caller steps: each step finds what the earlier steps left of the words, and the words afterwards are what
 -- the steps leave
 pub record RunsAlone (old : Plain) (steps : List WordStep) (new : Plain) : Type 0 where
   pub layout : new.layout ≡ old.layout
-  pub quiet : Quiet steps (words_of old)
-  pub leaves : words_of new ≡ words_after_all steps (words_of old)
+  pub quiet : Quiet steps (plain_words old)
+  pub leaves : plain_words new ≡ words_after_all steps (plain_words old)
 
 -- the place is taken and not set aside
 pub record IsTaken (p : Plain) (word place : ℕ) : Type 0 where

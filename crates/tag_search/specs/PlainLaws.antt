@@ -3,7 +3,7 @@ use Rattle.std.specs.Prelude.{◌≡◌, List, [], ◌∷◌, ◌++◌, refl}
 use Rattle.std.proofs.Common.{sym, ap, ◌∙◌, subst}
 use Rattle.tag_core.specs.declared.word_step.WordStep.{WordStep}
 use Rattle.tag_core.specs.Steps.{Words, Quiet, words_after, words_after_all}
-use Rattle.tag_search.specs.Plain.{Plain, words_of, RunsAlone}
+use Rattle.tag_search.specs.Plain.{Plain, plain_words, RunsAlone}
 
 -- the words after a concatenation are those after the second list, from those after the first
 pub words_after-append : (xs ys : List WordStep) (w : Words)
@@ -25,6 +25,6 @@ runs_nothing p = record { layout = refl; quiet = tt; leaves = refl }
 pub runs_on : (p q r : Plain) (xs ys : List WordStep) → RunsAlone p xs q → RunsAlone q ys r → RunsAlone p (xs ++ ys) r
 runs_on p q r xs ys a b = record {
   layout = b.layout ∙ a.layout;
-  quiet = quiet-append xs ys (words_of p) a.quiet (subst (Quiet ys) a.leaves b.quiet);
-  leaves = b.leaves ∙ ap (words_after_all ys) a.leaves ∙ sym (words_after-append xs ys (words_of p));
+  quiet = quiet-append xs ys (plain_words p) a.quiet (subst (Quiet ys) a.leaves b.quiet);
+  leaves = b.leaves ∙ ap (words_after_all ys) a.leaves ∙ sym (words_after-append xs ys (plain_words p));
 }

@@ -17,12 +17,12 @@ pool_of w = record {
 }
 
 -- the place is free, or will be once its word is swept
-abbrev pub is_open : Pool → ℕ → ℕ → Bool
-is_open p word place = p.free word place || p.aside word place
+abbrev pub is_available : Pool → ℕ → ℕ → Bool
+is_available p word place = p.free word place || p.aside word place
 
 -- the place is neither free nor set aside: a caller holds it, or it is posted
 abbrev pub is_busy : Pool → ℕ → ℕ → Bool
-is_busy p word place = not (is_open p word place)
+is_busy p word place = not (is_available p word place)
 
 -- no place is both free and set aside
 abbrev pub IsApart : Pool → Type 0
@@ -52,8 +52,8 @@ abbrev pub taken_from : ℕ → ℕ → ℕ → Pool → Pool
 taken_from word place n p = taken_in word (λ other. nat_le place other && nat_lt other (place + n)) p
 
 -- this place of the word is set aside
-abbrev pub aside_at : ℕ → ℕ → Pool → Pool
-aside_at word place p = record p { aside = λ other at. p.aside other at || (nat_eq other word && nat_eq at place) }
+abbrev pub set_aside : ℕ → ℕ → Pool → Pool
+set_aside word place p = record p { aside = λ other at. p.aside other at || (nat_eq other word && nat_eq at place) }
 
 -- the places of the mask are free in the word
 abbrev pub free_at : ℕ → ℕ → Pool → Pool

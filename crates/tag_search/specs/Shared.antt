@@ -11,7 +11,7 @@ use Rattle.tag_core.specs.declared.word_step.WordStep.TheVariants.{Claimed}
 use Rattle.tag_core.specs.Callers.{record_of, slot_of, Holds, SameMap}
 use Rattle.tag_core.specs.Records.{record_after}
 use Rattle.tag_search.specs.declared.shared.Shared.{Shared}
-use Rattle.tag_search.specs.Added.{Adds}
+use Rattle.tag_search.specs.Added.{AddsSteps}
 
 -- the caller may win n more tags
 abbrev pub HasRoom : {R : Type 0} → Caller R → ℕ → Type 0
@@ -51,4 +51,4 @@ pub record AddsThrough {R : Type 0} (old : Shared R) (steps : List WordStep) (ne
 
 -- the caller made some steps, and the fact holds of them
 abbrev pub Makes : {R : Type 0} → Caller R → Caller R → (List WordStep → Type 0) → Type 0
-Makes old new fact = Adds (λ before steps after. AddsAll steps before after) old new fact
+Makes old new fact = AddsSteps (λ before steps after. AddsAll steps before after) old new fact

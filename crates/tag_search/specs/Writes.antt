@@ -6,7 +6,7 @@ use Rattle.tag_search.specs.Plain.{Plain}
 use Rattle.tag_search.specs.Pool.{Pool}
 
 -- in this word the places of the set have this bit, and every other bit of the list is unchanged
-pub record Writes (old new : List ℕ) (word : ℕ) (Places : ℕ → Type 0) (bit : ℕ) : Type 0 where
+pub record WritesBits (old new : List ℕ) (word : ℕ) (Places : ℕ → Type 0) (bit : ℕ) : Type 0 where
   pub there : (place : ℕ) → Places place → bit_at (slice_index new word) place ≡ bit
   pub beside : (place : ℕ) → ¬ Places place → bit_at (slice_index new word) place ≡ bit_at (slice_index old word) place
   pub others : (other : ℕ) → other ≢ word → slice_index new other ≡ slice_index old other

@@ -5,7 +5,7 @@ ghost use Rattle.tag_core.specs.declared.word_step.WordStep.TheVariants.{Claimed
 ghost use Rattle.tag_layout.specs.Layout.{words, word_depth};
 ghost use Rattle.tag_search.specs.Order.{numbers, scan_order};
 ghost use Rattle.tag_search.specs.Batch.{run_mask, run_won, IsSweptLook, IsBatchVisit, IsBatchSearch};
-ghost use Rattle.tag_search.specs.Added.{Adds, SameRoom};
+ghost use Rattle.tag_search.specs.Added.{AddsSteps, SameRoom};
 
 use crate::port::Port;
 use tag_layout::{Layout, first_clear};
@@ -55,7 +55,7 @@ fn sweep_and_look<P: Port>(port: &mut P, word: u32) -> u64
     ensures port { P.ready port.new }
     ensures sizes { P.sizes port.new ≡ P.sizes port.old }
     ensures room { SameRoom P.has_room port.old port.new }
-    ensures steps { Adds P.adds port.old port.new (IsSweptLook word result) }
+    ensures steps { AddsSteps P.adds port.old port.new (IsSweptLook word result) }
 {
     let _swept = port.sweep(word);
     port.look(word)
@@ -73,7 +73,7 @@ fn visit_for_run<P: Port>(port: &mut P, layout: Layout, word: u32, n: u32) -> Op
     ensures sizes { P.sizes port.new ≡ P.sizes port.old }
     ensures room { IfNone result (SameRoom P.has_room port.old port.new) }
     ensures place { IfSome result (λ won. won.0 + n ≤ word_depth layout word) }
-    ensures visit { Adds P.adds port.old port.new (λ steps. IsBatchVisit word (word_depth layout word) n steps result) }
+    ensures visit { AddsSteps P.adds port.old port.new (λ steps. IsBatchVisit word (word_depth layout word) n steps result) }
 {
     let found = sweep_and_look(port, word);
     let depth = layout.word_depth(word);
@@ -103,7 +103,7 @@ fn runs_between<P: Port>(
     ensures sizes { P.sizes port.new ≡ P.sizes port.old }
     ensures room { IfNone result (SameRoom P.has_room port.old port.new) }
     ensures tags { IfSome result (λ won. won.0 + n ≤ layout.depth) }
-    ensures search { Adds P.adds port.old port.new (λ steps. IsBatchSearch layout n (numbers from end) steps result) }
+    ensures search { AddsSteps P.adds port.old port.new (λ steps. IsBatchSearch layout n (numbers from end) steps result) }
 {
     for word in from..end {
         if let Some((place, bits)) = visit_for_run(port, layout, word, n) {
@@ -124,7 +124,7 @@ pub fn search_run<P: Port>(port: &mut P, layout: Layout, n: u32, first: u32) -> 
     ensures port { P.ready port.new }
     ensures sizes { P.sizes port.new ≡ P.sizes port.old }
     ensures tags { IfSome result (λ won. won.0 + n ≤ layout.depth) }
-    ensures search { Adds P.adds port.old port.new (λ steps. IsBatchSearch layout n (scan_order first (words layout) true) steps result) }
+    ensures search { AddsSteps P.adds port.old port.new (λ steps. IsBatchSearch layout n (scan_order first (words layout) true) steps result) }
 {
     match runs_between(port, layout, n, first, layout.words()) {
         Some(won) => Some(won),

@@ -6,7 +6,7 @@ ghost use Rattle.tag_search.specs.Batch.{batch_words};
 ghost use Rattle.tag_search.specs.Choice.{IsHeld, IsChoice, IsBatchChoice};
 ghost use Rattle.tag_search.specs.Follows.{HintFollows, BatchFollows};
 ghost use Rattle.tag_search.specs.Hints.{reduced};
-ghost use Rattle.tag_search.specs.Plain.{words_of};
+ghost use Rattle.tag_search.specs.Plain.{plain_words};
 ghost use Rattle.tag_search.specs.Pool.{pool_of, IsApart};
 ghost use Rattle.tag_search.specs.Visits.{plain_visits, shallow_visits};
 
@@ -20,8 +20,8 @@ impl PlainPort {
         ensures layout { self.new.layout ≡ self.old.layout }
         ensures choice { let l = self.old.layout in
             let visits = plain_visits l hint.old.round_robin (reduced l.depth hint.old.at) in
-            IsChoice l (pool_of (words_of self.old)) visits result (pool_of (words_of self.new)) }
-        ensures held { IsApart (pool_of (words_of self.old)) → let left = pool_of (words_of self.new) in
+            IsChoice l (pool_of (plain_words self.old)) visits result (pool_of (plain_words self.new)) }
+        ensures held { IsApart (pool_of (plain_words self.old)) → let left = pool_of (plain_words self.new) in
             IsApart left × IfSome result (IsHeld self.old.layout left) }
         ensures hint { HintFollows self.old.layout.depth hint.old hint.new result }
     {
@@ -36,8 +36,8 @@ impl PlainPort {
         ensures layout { self.new.layout ≡ self.old.layout }
         ensures choice { let l = self.old.layout in
             let visits = shallow_visits l depth (reduced l.depth hint.old.at) in
-            IsChoice l (pool_of (words_of self.old)) visits result (pool_of (words_of self.new)) }
-        ensures held { IsApart (pool_of (words_of self.old)) → let left = pool_of (words_of self.new) in
+            IsChoice l (pool_of (plain_words self.old)) visits result (pool_of (plain_words self.new)) }
+        ensures held { IsApart (pool_of (plain_words self.old)) → let left = pool_of (plain_words self.new) in
             IsApart left × IfSome result (IsHeld self.old.layout left) }
         ensures hint { HintFollows self.old.layout.depth hint.old hint.new result }
     {
@@ -56,8 +56,8 @@ impl PlainPort {
         ensures round_robin { IsTrue hint.old.round_robin → (result ≡ None) × (self.new ≡ self.old) × (hint.new ≡ hint.old) }
         ensures choice { hint.old.round_robin ≡ false → let l = self.old.layout in
             let words = batch_words l (word_of l (reduced l.depth hint.old.at)) in
-            IsBatchChoice l n (pool_of (words_of self.old)) words result (pool_of (words_of self.new)) }
-        ensures held { hint.old.round_robin ≡ false → IsApart (pool_of (words_of self.old)) → let left = pool_of (words_of self.new) in
+            IsBatchChoice l n (pool_of (plain_words self.old)) words result (pool_of (plain_words self.new)) }
+        ensures held { hint.old.round_robin ≡ false → IsApart (pool_of (plain_words self.old)) → let left = pool_of (plain_words self.new) in
             IsApart left × IfSome result (λ won. (k : ℕ) → bit_at won.1 k ≡ 1 → IsHeld self.old.layout left (won.0 + k)) }
         ensures hint { hint.old.round_robin ≡ false → BatchFollows self.old.layout.depth n hint.old hint.new result }
     {

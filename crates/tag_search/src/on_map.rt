@@ -10,8 +10,8 @@ ghost use Rattle.tag_search.specs.Follows.{HintFollows, BatchFollows, ClearFollo
 ghost use Rattle.tag_search.specs.Gains.{Gains, GainsRun};
 ghost use Rattle.tag_search.specs.Gets.{IsGet};
 ghost use Rattle.tag_search.specs.Hints.{reduced};
-ghost use Rattle.tag_search.specs.Lone.{IsAlone, pool_left, Chooses, ChoosesRun, Leaves};
-ghost use Rattle.tag_search.specs.Pool.{aside_at, free_at};
+ghost use Rattle.tag_search.specs.Lone.{IsAlone, pool_left, Chooses, ChoosesRun, LeavesPool};
+ghost use Rattle.tag_search.specs.Pool.{set_aside, free_at};
 ghost use Rattle.tag_search.specs.Shared.{HasRoom, Makes};
 ghost use Rattle.tag_search.specs.Visits.{plain_visits, shallow_visits};
 
@@ -116,7 +116,7 @@ pub fn put<R>(map: &Map<R>, caller: &mut Caller<R>, hint: &mut Hint, tag: u32)
         (found : ℕ) × Adds (Word (Put word bit found)) caller.old caller.new }
     ensures released { Releases (λ t. t ≡ tag) caller.old caller.new }
     ensures alone { let l = layout_of map.now in let pool = pool_left caller.old in
-        Leaves (aside_at (word_of l tag) (place_of l tag) pool) caller.old caller.new }
+        LeavesPool (set_aside (word_of l tag) (place_of l tag) pool) caller.old caller.new }
     ensures hint { ClearFollows tag hint.old hint.new }
 {
     map.put(caller, tag);
@@ -133,7 +133,7 @@ pub fn give<R>(map: &Map<R>, caller: &mut Caller<R>, hint: &mut Hint, tag: u32)
         (found : ℕ) × Adds (Word (Give word bit found)) caller.old caller.new }
     ensures released { Releases (λ t. t ≡ tag) caller.old caller.new }
     ensures alone { let l = layout_of map.now in let pool = pool_left caller.old in
-        Leaves (free_at (word_of l tag) (2 ^ place_of l tag) pool) caller.old caller.new }
+        LeavesPool (free_at (word_of l tag) (2 ^ place_of l tag) pool) caller.old caller.new }
     ensures hint { ClearFollows tag hint.old hint.new }
 {
     let layout = map.layout();

@@ -4,7 +4,7 @@ ghost use Rattle.std.specs.Int.{bit_at};
 ghost use Rattle.tag_core.specs.declared.word_step.WordStep.TheVariants.{Claimed};
 ghost use Rattle.tag_layout.specs.Layout.{words, word_depth};
 ghost use Rattle.tag_search.specs.Search.{IsTries, IsPass, IsRetry, IsVisit};
-ghost use Rattle.tag_search.specs.Added.{Adds, SameRoom};
+ghost use Rattle.tag_search.specs.Added.{AddsSteps, SameRoom};
 ghost use Rattle.tag_search.specs.Order.{numbers};
 ghost use Rattle.tag_search.specs.Places.{places_of};
 
@@ -48,7 +48,7 @@ pub fn pass<P: Port>(port: &mut P, word: u32, rank: Rank) -> Option<u32>
     ensures sizes { P.sizes port.new ≡ P.sizes port.old }
     ensures room { IfNone result (SameRoom P.has_room port.old port.new) }
     ensures place { IfSome result (λ place. place < word_depth (P.sizes port.old) word) }
-    ensures pass { Adds P.adds port.old port.new (λ steps. IsPass word (places_of rank) steps result) }
+    ensures pass { AddsSteps P.adds port.old port.new (λ steps. IsPass word (places_of rank) steps result) }
 {
     let found = port.look(word);
     let mut left = rank;
@@ -80,7 +80,7 @@ fn pass_on<P: Port>(
     ensures sizes { P.sizes port.new ≡ P.sizes port.old }
     ensures room { IfNone result (SameRoom P.has_room port.old port.new) }
     ensures place { IfSome result (λ place. place < word_depth (P.sizes port.old) word) }
-    ensures tries { Adds P.adds port.old port.new (λ steps. IsTries word (numbers from limit ++ numbers 0 then) lost steps result) }
+    ensures tries { AddsSteps P.adds port.old port.new (λ steps. IsTries word (numbers from limit ++ numbers 0 then) lost steps result) }
 {
     let mut found = lost;
     let mut left = Rank { from, limit, then };
@@ -104,7 +104,7 @@ pub fn visit<P: Port>(port: &mut P, word: u32, rank: Rank) -> Option<u32>
     ensures sizes { P.sizes port.new ≡ P.sizes port.old }
     ensures room { IfNone result (SameRoom P.has_room port.old port.new) }
     ensures place { IfSome result (λ place. place < word_depth (P.sizes port.old) word) }
-    ensures visit { Adds P.adds port.old port.new (λ steps. IsVisit word (places_of rank) steps result) }
+    ensures visit { AddsSteps P.adds port.old port.new (λ steps. IsVisit word (places_of rank) steps result) }
 {
     match pass(port, word, rank) {
         Some(place) => Some(place),
@@ -123,7 +123,7 @@ pub fn retry<P: Port>(port: &mut P, word: u32, rank: Rank) -> Option<u32>
     ensures sizes { P.sizes port.new ≡ P.sizes port.old }
     ensures room { IfNone result (SameRoom P.has_room port.old port.new) }
     ensures place { IfSome result (λ place. place < word_depth (P.sizes port.old) word) }
-    ensures retry { Adds P.adds port.old port.new (λ steps. IsRetry word (places_of rank) steps result) }
+    ensures retry { AddsSteps P.adds port.old port.new (λ steps. IsRetry word (places_of rank) steps result) }
 {
     if port.sweep(word) {
         pass(port, word, rank)

@@ -3,9 +3,9 @@ ghost use Rattle.std.specs.Prelude.{◌≡◌, ℕ, ◌+◌, ◌^◌, ◌<◌, �
 ghost use Rattle.std.specs.Int.{bit_at};
 ghost use Rattle.tag_layout.specs.Layout.{words, word_of, place_of, IsWithin};
 ghost use Rattle.tag_core.specs.declared.word_step.WordStep.TheVariants.{LookAside, Give, Put};
-ghost use Rattle.tag_search.specs.Plain.{words_of, RunsAlone, IsTaken};
-ghost use Rattle.tag_search.specs.Pool.{pool_of, is_busy, aside_at, free_at};
-ghost use Rattle.tag_search.specs.Writes.{Writes, IsIn, IsTidy, IsAllFree};
+ghost use Rattle.tag_search.specs.Plain.{plain_words, RunsAlone, IsTaken};
+ghost use Rattle.tag_search.specs.Pool.{pool_of, is_busy, set_aside, free_at};
+ghost use Rattle.tag_search.specs.Writes.{WritesBits, IsIn, IsTidy, IsAllFree};
 
 use crate::place::bit_of;
 use std::alloc::{AllocError, Global};
@@ -39,7 +39,7 @@ impl PlainPort {
         ensures layout { IfOk result (λ port. port.layout ≡ layout) }
         ensures words { IfOk result (λ port. port.word ≡ replicate (words layout) 0) }
         ensures aside { IfOk result (λ port. port.aside ≡ replicate (words layout) 0) }
-        ensures pool { IfOk result (λ port. IsAllFree (pool_of (words_of port))) }
+        ensures pool { IfOk result (λ port. IsAllFree (pool_of (plain_words port))) }
     {
         let count = layout.words() as usize;
         let word = vec![in alloc; 0u64; count]?;
@@ -56,7 +56,7 @@ impl PlainPort {
         requires { tag < self.now.layout.depth }
         ensures taken { IsTrue result ↔ IsTaken self.now (word_of self.now.layout tag) (place_of self.now.layout tag) }
         ensures busy { let l = self.now.layout in
-            IsTrue result ↔ IsTrue (is_busy (pool_of (words_of self.now)) (word_of l tag) (place_of l tag)) }
+            IsTrue result ↔ IsTrue (is_busy (pool_of (plain_words self.now)) (word_of l tag) (place_of l tag)) }
     {
         let word = self.layout.word_of(tag) as usize;
         let bit = bit_of(self.layout, tag);
@@ -80,10 +80,10 @@ impl PlainPort {
         requires taken { IsTaken self.old (word_of self.old.layout tag) (place_of self.old.layout tag) }
         ensures layout { self.new.layout ≡ self.old.layout }
         ensures word { self.new.word ≡ self.old.word }
-        ensures aside { Writes self.old.aside self.new.aside (word_of self.old.layout tag)
+        ensures aside { WritesBits self.old.aside self.new.aside (word_of self.old.layout tag)
             (λ place. place ≡ place_of self.old.layout tag) 1 }
         ensures pool { let l = self.old.layout in
-            pool_of (words_of self.new) ≡ aside_at (word_of l tag) (place_of l tag) (pool_of (words_of self.old)) }
+            pool_of (plain_words self.new) ≡ set_aside (word_of l tag) (place_of l tag) (pool_of (plain_words self.old)) }
         ensures step { let word = word_of self.old.layout tag in
             let found = slice_index self.old.aside word in
             RunsAlone self.old (Put word (2 ^ place_of self.old.layout tag) found ∷ []) self.new }
@@ -99,9 +99,9 @@ impl PlainPort {
         requires mask { IsWithin self.old.layout word mask }
         requires taken { (place : ℕ) → bit_at mask place ≡ 1 → IsTaken self.old word place }
         ensures layout { self.new.layout ≡ self.old.layout }
-        ensures word { Writes self.old.word self.new.word word (IsIn mask) 0 }
+        ensures word { WritesBits self.old.word self.new.word word (IsIn mask) 0 }
         ensures aside { self.new.aside ≡ self.old.aside }
-        ensures pool { pool_of (words_of self.new) ≡ free_at word mask (pool_of (words_of self.old)) }
+        ensures pool { pool_of (plain_words self.new) ≡ free_at word mask (pool_of (plain_words self.old)) }
         ensures step { RunsAlone self.old (Give word mask (slice_index self.old.word word) ∷ []) self.new }
     {
         self.word[word as usize] &= !mask;

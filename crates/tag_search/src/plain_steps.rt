@@ -3,10 +3,10 @@ ghost use Rattle.std.specs.Prelude.{◌≡◌, ◌≢◌, ℕ, ◌^◌, ◌<◌,
 ghost use Rattle.tag_layout.specs.Layout.{words, IsWithin};
 ghost use Rattle.tag_core.specs.declared.word_step.WordStep.TheVariants.{Look, Claimed};
 ghost use Rattle.tag_core.specs.Steps.{without};
-ghost use Rattle.tag_search.specs.Added.{Adds};
+ghost use Rattle.tag_search.specs.Added.{AddsSteps};
 ghost use Rattle.tag_search.specs.Plain.{RunsAlone};
 ghost use Rattle.tag_search.specs.Search.{IsSweep};
-ghost use Rattle.tag_search.specs.Writes.{Writes, IsIn, IsTidy};
+ghost use Rattle.tag_search.specs.Writes.{WritesBits, IsIn, IsTidy};
 
 use crate::plain::PlainPort;
 use crate::port::Port;
@@ -54,7 +54,7 @@ impl Port for PlainPort {
         ensures layout { self.new.layout ≡ self.old.layout }
         ensures found { IsOkAnd result (λ claim. claim.found ≡ slice_index self.old.word word) }
         ensures won { IfOk result (λ claim. claim.won ≡ without mask claim.found) }
-        ensures word { Writes self.old.word self.new.word word (IsIn mask) 1 }
+        ensures word { WritesBits self.old.word self.new.word word (IsIn mask) 1 }
         ensures aside { self.new.aside ≡ self.old.aside }
         ensures step { IfOk result (λ claim. RunsAlone self.old (Claimed word mask claim.found ∷ []) self.new) }
     {
@@ -71,11 +71,11 @@ impl Port for PlainPort {
         requires word { word < words self.old.layout }
         ensures layout { self.new.layout ≡ self.old.layout }
         ensures swept { IsTrue result ↔ (slice_index self.old.aside word ≢ 0) }
-        ensures word { Writes self.old.word self.new.word word (IsIn (slice_index self.old.aside word)) 0 }
-        ensures aside { Writes self.old.aside self.new.aside word (λ _. ⊤) 0 }
+        ensures word { WritesBits self.old.word self.new.word word (IsIn (slice_index self.old.aside word)) 0 }
+        ensures aside { WritesBits self.old.aside self.new.aside word (λ _. ⊤) 0 }
         ensures steps { MatchBool result
-            ((mask : ℕ) × (mask ≢ 0) × Adds RunsAlone self.old self.new (IsSweep word mask))
-            (Adds RunsAlone self.old self.new (IsSweep word 0)) }
+            ((mask : ℕ) × (mask ≢ 0) × AddsSteps RunsAlone self.old self.new (IsSweep word mask))
+            (AddsSteps RunsAlone self.old self.new (IsSweep word 0)) }
     {
         let at = word as usize;
         let mask = self.cleared[at];

@@ -5,7 +5,7 @@ ghost use Rattle.tag_core.specs.declared.word_step.WordStep.{WordStep};
 ghost use Rattle.tag_core.specs.declared.word_step.WordStep.TheVariants.{Look, Claimed};
 ghost use Rattle.tag_core.specs.Steps.{without};
 ghost use Rattle.tag_search.specs.Search.{IsSweep};
-ghost use Rattle.tag_search.specs.Added.{Adds, SameRoom};
+ghost use Rattle.tag_search.specs.Added.{AddsSteps, SameRoom};
 
 use tag_core::{Claim, Spent};
 use tag_layout::Layout;
@@ -64,8 +64,8 @@ pub trait Port {
         ensures sizes { sizes self.new ≡ sizes self.old }
         ensures room { SameRoom has_room self.old self.new }
         ensures steps { MatchBool result
-            ((mask : ℕ) × (mask ≢ 0) × Adds adds self.old self.new (IsSweep word mask))
-            (Adds adds self.old self.new (IsSweep word 0)) };
+            ((mask : ℕ) × (mask ≢ 0) × AddsSteps adds self.old self.new (IsSweep word mask))
+            (AddsSteps adds self.old self.new (IsSweep word 0)) };
 
     /// No steps lead from a state to itself.
     ghost adds_none: { (p : Self) → adds p [] p };

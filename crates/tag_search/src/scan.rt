@@ -3,7 +3,7 @@ ghost use Rattle.std.specs.Prelude.{◌≡◌, ℕ, ◌<◌, ◌≤◌, ◌-◌,
 ghost use Rattle.tag_layout.specs.Layout.{words, word_of, word_depth};
 ghost use Rattle.tag_search.specs.Order.{numbers};
 ghost use Rattle.tag_search.specs.Search.{IsSearch};
-ghost use Rattle.tag_search.specs.Added.{Adds, SameRoom};
+ghost use Rattle.tag_search.specs.Added.{AddsSteps, SameRoom};
 ghost use Rattle.tag_search.specs.Places.{places_of};
 ghost use Rattle.tag_search.specs.Visits.{visit_of, visits, plain_reach, shallow_reach};
 ghost use Rattle.tag_search.specs.Scans.{limit_of, reach_of};
@@ -122,7 +122,7 @@ impl Scan {
         ensures sizes { P.sizes port.new ≡ P.sizes port.old }
         ensures room { IfNone result (SameRoom P.has_room port.old port.new) }
         ensures tag { IfSome result (λ tag. tag < self.now.layout.depth) }
-        ensures search { Adds P.adds port.old port.new (λ steps.
+        ensures search { AddsSteps P.adds port.old port.new (λ steps.
             IsSearch self.now.layout (map (visit_of self.now.first (reach_of self.now)) (numbers from end)) steps result) }
     {
         for word in from..end {
@@ -144,7 +144,7 @@ impl Scan {
         ensures sizes { P.sizes port.new ≡ P.sizes port.old }
         ensures room { IfNone result (SameRoom P.has_room port.old port.new) }
         ensures tag { IfSome result (λ tag. tag < self.now.layout.depth) }
-        ensures search { Adds P.adds port.old port.new (λ steps.
+        ensures search { AddsSteps P.adds port.old port.new (λ steps.
             IsSearch self.now.layout (visits self.now.layout self.now.first (reach_of self.now)) steps result) }
     {
         match self.visit_between(port, self.first, self.layout.words()) {

@@ -2,7 +2,7 @@
 ghost use Rattle.std.specs.Prelude.{◌≡◌, ℕ, ◌↔◌, ◌⊎◌, ◌<◌, ◌≤◌, ◌+◌, ◌-◌, false, IsTrue, IsOk, IfOk, IfSome, OnErr};
 ghost use Rattle.tag_layout.specs.Layout.{Layout as Sizes, word_bits, word_of, words};
 ghost use Rattle.tag_search.specs.Search.{IsSearch};
-ghost use Rattle.tag_search.specs.Added.{Adds};
+ghost use Rattle.tag_search.specs.Added.{AddsSteps};
 ghost use Rattle.tag_search.specs.Gets.{IsGet};
 ghost use Rattle.tag_search.specs.Batch.{IsBatchGet};
 ghost use Rattle.tag_search.specs.Hints.{reduced};
@@ -29,7 +29,7 @@ pub fn get<P: Port>(port: &mut P, hint: &mut Hint) -> Result<Option<u32>, Spent>
     ensures steps { IfOk result (λ answer.
         let l = P.sizes port.old in
         let from = reduced l.depth hint.old.at in
-        Adds P.adds port.old port.new (IsGet l (plain_visits l hint.old.round_robin from) answer)) }
+        AddsSteps P.adds port.old port.new (IsGet l (plain_visits l hint.old.round_robin from) answer)) }
     ensures hint { IfOk result (λ answer. HintFollows (P.sizes port.old).depth hint.old hint.new answer) }
     ensures err { OnErr result ((port.new ≡ port.old) × (hint.new ≡ hint.old)) }
 {
@@ -55,7 +55,7 @@ fn get_from<P: Port>(port: &mut P, hint: &mut Hint, layout: Layout) -> Option<u3
     ensures tag { IfSome result (λ tag. tag < (P.sizes port.old).depth) }
     ensures steps { let l = P.sizes port.old in
         let from = reduced l.depth hint.old.at in
-        Adds P.adds port.old port.new (IsGet l (plain_visits l hint.old.round_robin from) result) }
+        AddsSteps P.adds port.old port.new (IsGet l (plain_visits l hint.old.round_robin from) result) }
     ensures hint { HintFollows (P.sizes port.old).depth hint.old hint.new result }
 {
     let before = *hint;
@@ -77,7 +77,7 @@ fn get_any<P: Port>(port: &mut P, hint: &mut Hint, layout: Layout) -> Option<u32
     ensures tag { IfSome result (λ tag. tag < (P.sizes port.old).depth) }
     ensures steps { let l = P.sizes port.old in
         let from = reduced l.depth hint.old.at in
-        Adds P.adds port.old port.new (IsGet l (plain_visits l hint.old.round_robin from) result) }
+        AddsSteps P.adds port.old port.new (IsGet l (plain_visits l hint.old.round_robin from) result) }
     ensures hint { HintFollows (P.sizes port.old).depth hint.old hint.new result }
 {
     get_from(port, hint, layout)
@@ -95,7 +95,7 @@ fn search_plain<P: Port>(port: &mut P, layout: Layout, round_robin: bool, from: 
     ensures shift { layout.shift ≤ 6 }
     ensures first { word_of layout from ≤ words layout }
     ensures tag { IfSome result (λ tag. tag < layout.depth) }
-    ensures search { Adds P.adds port.old port.new (λ steps. IsSearch layout (plain_visits layout round_robin from) steps result) }
+    ensures search { AddsSteps P.adds port.old port.new (λ steps. IsSearch layout (plain_visits layout round_robin from) steps result) }
 {
     if round_robin || from >= layout.depth() {
         return search_scan(port, layout, round_robin, from);
@@ -115,7 +115,7 @@ fn search_scan<P: Port>(port: &mut P, layout: Layout, round_robin: bool, from: u
     ensures shift { layout.shift ≤ 6 }
     ensures first { word_of layout from ≤ words layout }
     ensures tag { IfSome result (λ tag. tag < layout.depth) }
-    ensures search { Adds P.adds port.old port.new (λ steps. IsSearch layout (plain_visits layout round_robin from) steps result) }
+    ensures search { AddsSteps P.adds port.old port.new (λ steps. IsSearch layout (plain_visits layout round_robin from) steps result) }
 {
     Scan::plain(layout, round_robin, from).search(port)
 }
@@ -130,7 +130,7 @@ pub fn get_shallow<P: Port>(port: &mut P, hint: &mut Hint, depth: u32) -> Result
     ensures steps { IfOk result (λ answer.
         let l = P.sizes port.old in
         let from = reduced l.depth hint.old.at in
-        Adds P.adds port.old port.new (IsGet l (shallow_visits l depth from) answer)) }
+        AddsSteps P.adds port.old port.new (IsGet l (shallow_visits l depth from) answer)) }
     ensures hint { IfOk result (λ answer. HintFollows (P.sizes port.old).depth hint.old hint.new answer) }
     ensures err { OnErr result ((port.new ≡ port.old) × (hint.new ≡ hint.old)) }
 {
@@ -160,7 +160,7 @@ pub fn get_batch<P: Port>(
     ensures round_robin { IsTrue hint.old.round_robin → (result ≡ Ok None) × (port.new ≡ port.old) × (hint.new ≡ hint.old) }
     ensures steps { hint.old.round_robin ≡ false → IfOk result (λ answer.
         let l = P.sizes port.old in
-        Adds P.adds port.old port.new (IsBatchGet l n (word_of l (reduced l.depth hint.old.at)) answer)) }
+        AddsSteps P.adds port.old port.new (IsBatchGet l n (word_of l (reduced l.depth hint.old.at)) answer)) }
     ensures hint { hint.old.round_robin ≡ false → IfOk result (λ answer. BatchFollows (P.sizes port.old).depth n hint.old hint.new answer) }
     ensures err { OnErr result ((port.new ≡ port.old) × (hint.new ≡ hint.old)) }
 {

@@ -2,7 +2,7 @@
 ghost use Rattle.std.specs.Prelude.{◌≡◌, ℕ, ◌+◌, ◌<◌, ◌≤◌, List, ◌++◌, map, All, IfSome, false, true, None};
 ghost use Rattle.tag_core.specs.declared.word_step.WordStep.{WordStep};
 ghost use Rattle.tag_layout.specs.Layout.{words, word_depth};
-ghost use Rattle.tag_search.specs.Added.{Adds};
+ghost use Rattle.tag_search.specs.Added.{AddsSteps};
 ghost use Rattle.tag_search.specs.Order.{numbers, scan_order};
 ghost use Rattle.tag_search.specs.Places.{places_of};
 ghost use Rattle.tag_search.specs.Search.{IsPass, IsSearch};
@@ -34,7 +34,7 @@ pub fn search_whole<P: Port>(port: &mut P, layout: Layout, first: u32) -> Option
     ensures port { P.ready port.new }
     ensures sizes { P.sizes port.new ≡ P.sizes port.old }
     ensures tag { IfSome result (λ tag. tag < layout.depth) }
-    ensures search { Adds P.adds port.old port.new (λ steps.
+    ensures search { AddsSteps P.adds port.old port.new (λ steps.
         IsSearch layout (visits layout first (plain_reach layout false 0)) steps result) }
 {
     match pass(port, first, whole(layout, first)) {
@@ -53,7 +53,7 @@ fn search_on<P: Port>(port: &mut P, layout: Layout, first: u32) -> Option<u32>
     ensures port { P.ready port.new }
     ensures sizes { P.sizes port.new ≡ P.sizes port.old }
     ensures tag { IfSome result (λ tag. tag < layout.depth) }
-    ensures search { Adds P.adds port.old port.new (λ steps.
+    ensures search { AddsSteps P.adds port.old port.new (λ steps.
         (seen : List WordStep) → IsPass first (scan_order 0 (word_depth layout first) true) seen None
         → IsSearch layout (visits layout first (plain_reach layout false 0)) (seen ++ steps) result) }
 {
@@ -73,7 +73,7 @@ fn search_others<P: Port>(port: &mut P, layout: Layout, first: u32) -> Option<u3
     ensures port { P.ready port.new }
     ensures sizes { P.sizes port.new ≡ P.sizes port.old }
     ensures tag { IfSome result (λ tag. tag < layout.depth) }
-    ensures search { Adds P.adds port.old port.new (λ steps.
+    ensures search { AddsSteps P.adds port.old port.new (λ steps.
         let of = visit_of first (plain_reach layout false 0) in
         IsSearch layout (map of (numbers (first + 1) (words layout)) ++ map of (numbers 0 first)) steps result) }
 {

@@ -19,13 +19,13 @@ use Rattle.tag_sets.specs.declared.kind.Kind.{Kind}
 use Rattle.tag_sets.specs.declared.kind.Kind.TheVariants.{Ordinary, Reserved}
 use Rattle.tag_sets.specs.Hands.{Changes, step_count}
 use Rattle.tag_sets.specs.Holding.{HoldsSame}
-use Rattle.tag_sets.specs.Looks.{Finds, looks_from}
+use Rattle.tag_sets.specs.Looks.{MakesLooks, looks_from}
 use Rattle.tag_sets.proofs.Uniting.{twice_same}
 
 -- the pairs found so far, up to this word, by these looks; the hand holds the same tags as before
 pub record SoFar {R : Type 0} (kind : Kind) (word : ℕ) (found : List (ℕ × ℕ)) (old now : Hand R) : Type 0 where
   pub count : length found ≡ word
-  pub looks : Changes kind (Finds (looks_from 0 found)) old now
+  pub looks : Changes kind (MakesLooks (looks_from 0 found)) old now
   pub same : HoldsSame old now
 
 looks-append : (word : ℕ) (a b : List (ℕ × ℕ)) → looks_from word (a ++ b) ≡ looks_from word a
@@ -51,8 +51,8 @@ module _ {R : Type 0} where
   steps_after [] r = omega arith
   steps_after (x ∷ steps) r = let h = steps_after steps (record_after (Word x) r) in omega arith
 
-  finds-then : (a b : List WordStep) (old mid new : Agent R) → Finds a old mid → Finds b mid new
-      → Finds (a ++ b) old new
+  finds-then : (a b : List WordStep) (old mid new : Agent R) → MakesLooks a old mid → MakesLooks b mid new
+      → MakesLooks (a ++ b) old new
   finds-then a b old mid new f s = record {
     known = s.known ∙ ap (λ (r : Record R). record_after_all b r) f.known
         ∙ sym (after-append a b (record_of (queue.caller_of old)));
@@ -60,9 +60,9 @@ module _ {R : Type 0} where
     same_else = (s.same_else.0 ∙ f.same_else.0, (s.same_else.1.0 ∙ f.same_else.1.0, s.same_else.1.1 ∙ f.same_else.1.1));
   }
 
-  changes-then : (kind : Kind) (a b : List WordStep) (old mid new : Hand R) → Changes kind (Finds a) old mid
-      → Changes kind (Finds b) mid new
-      → Changes kind (Finds (a ++ b)) old new
+  changes-then : (kind : Kind) (a b : List WordStep) (old mid new : Hand R) → Changes kind (MakesLooks a) old mid
+      → Changes kind (MakesLooks b) mid new
+      → Changes kind (MakesLooks (a ++ b)) old new
   changes-then kind a b old mid new f s = record {
     changed = finds-then a b _ _ _ f.changed s.changed;
     other = s.other ∙ f.other;
@@ -84,11 +84,11 @@ module _ {R : Type 0} where
   -- one more word is looked at
   pub goes_on : (kind : Kind) (word : ℕ) (found : List (ℕ × ℕ)) (pair : ℕ × ℕ) (old mid new : Hand R)
       → SoFar kind word found old mid
-      → Changes kind (Finds (looks_from word (pair ∷ []))) mid new → HoldsSame mid new
+      → Changes kind (MakesLooks (looks_from word (pair ∷ []))) mid new → HoldsSame mid new
       → SoFar kind (word + 1) (found ++ pair ∷ []) old new
   goes_on kind word found pair old mid new s next same = record {
     count = length-append found (pair ∷ []) ∙ ap (λ (n : ℕ). n + 1) s.count;
-    looks = subst (λ (steps : List WordStep). Changes kind (Finds steps) old new)
+    looks = subst (λ (steps : List WordStep). Changes kind (MakesLooks steps) old new)
         (ap (λ (w : ℕ). looks_from 0 found ++ looks_from w (pair ∷ []))
         (let n = s.count in let e : word ≡ 0 + length found = omega arith in e)
         ∙ sym (looks-append 0 found (pair ∷ [])))
@@ -104,7 +104,7 @@ module _ {R : Type 0} where
       (record_after (Word (LookAside word x.1)) (record_after (Word (Look word x.0)) r))
 
   -- looks change none of the tags that are held
-  pub found_holds : (found : List (ℕ × ℕ)) (old new : Agent R) → Finds (looks_from 0 found) old new → (tag : ℕ)
+  pub found_holds : (found : List (ℕ × ℕ)) (old new : Agent R) → MakesLooks (looks_from 0 found) old new → (tag : ℕ)
       → queue.Holds old tag → queue.Holds new tag
   found_holds found old new f tag h =
       let k = looks-keep 0 found (record_of (queue.caller_of old)) in
@@ -113,7 +113,7 @@ module _ {R : Type 0} where
       subst (λ (p : Shape × List ℕ). (tag < p.0.layout.depth) × (tag_bit p.0.layout p.1 tag ≡ 1))
       (λ j. (sym shape j, sym held j)) h
 
-  found_steps : (found : List (ℕ × ℕ)) (old new : Agent R) → Finds (looks_from 0 found) old new
+  found_steps : (found : List (ℕ × ℕ)) (old new : Agent R) → MakesLooks (looks_from 0 found) old new
       → queue.step_count new ≡ 2 * length found + queue.step_count old
   found_steps found old new f =
       let own = ap (λ (r : Record R). length r.steps) f.known
@@ -124,7 +124,7 @@ module _ {R : Type 0} where
 
   -- looking at the words of a set takes two steps a word
   pub few_looks : (kind : Kind) (found : List (ℕ × ℕ)) (old new : Hand R)
-      → Changes kind (Finds (looks_from 0 found)) old new
+      → Changes kind (MakesLooks (looks_from 0 found)) old new
       → step_count new ≡ 2 * length found + step_count old
   few_looks Ordinary found old new c =
       let made = found_steps found old.ordinary new.ordinary c.changed in

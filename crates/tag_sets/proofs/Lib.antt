@@ -18,3 +18,4 @@ pub mod Reuniting
 pub mod Settling
 pub mod Refusing
 pub mod Regrowing
+pub mod Placed

@@ -17,14 +17,15 @@ use Rattle.tag_queue.specs.declared.agent.Agent.{Agent}
 use Rattle.tag_queue.specs.declared.queue.Options.{Options}
 use Rattle.tag_queue.specs.declared.queue.Queue.{Queue}
 use Rattle.tag_queue.specs.Agents as queue
-use Rattle.tag_queue.specs.Opening as queue_opening
+use Rattle.tag_queue.specs.Opening.{IsOpen, IsOpenWith}
 use Rattle.tag_sets.specs.declared.hand.Hand.{Hand}
 use Rattle.tag_sets.specs.declared.kind.Kind.{Kind}
 use Rattle.tag_sets.specs.declared.kind.Kind.TheVariants.{Ordinary, Reserved}
 use Rattle.tag_sets.specs.declared.tags.Tags.{Tags}
 use Rattle.tag_sets.specs.Sets.{kind_of, number_in_set}
 use Rattle.tag_sets.specs.Hands.{agent_of, split_of, reserved_of}
-use Rattle.tag_sets.specs.Opening.{reserved_part, ordinary_part, AreParts, HoldsNone, IsOpen}
+use Rattle.tag_sets.specs.Opening as sets_opening
+use Rattle.tag_sets.specs.Opening.{reserved_part, ordinary_part, AreParts, HoldsNone}
 
 -- if P holds of all images, it holds of the image of each entry
 pub all_part : {A B : Type 0} (P : B → Type 0) (f : A → B) (xs : List A) → All P (map f xs) → (k : ℕ) (d : A)
@@ -51,7 +52,7 @@ module _ {R : Type 0} where
       let zero_bit = bit_at-zero (place_of m.shape.layout tag) in absurd (omega (arith, sym none ∙ bit))
 
   -- a queue has as many agents as its options say
-  pub as_many : (options : Options) (q : Queue R) (agents : List (Agent R)) → queue_opening.IsOpen options q agents
+  pub as_many : (options : Options) (q : Queue R) (agents : List (Agent R)) → IsOpen options q agents
       → length agents ≡ options.callers
   as_many options q agents opened = sym (length-map agents queue.caller_of) ∙ opened.callers.count
       ∙ opened.tags.callers_is
@@ -64,16 +65,16 @@ module _ {R : Type 0} where
         | Reserved ↦ r (number_in_set (split_of hand) tag)
       ]
 
-  module _ (options : Options) (tags : Tags R) (hands : List (Hand R)) (reserved ordinary : List (Agent R))
-      (parts : AreParts (reserved_of tags) reserved ordinary hands)
-      (one : queue_opening.IsOpen (record options { min_shallow = None }) tags.reserved reserved)
-      (other : queue_opening.IsOpen options tags.ordinary ordinary) where
-    set_one : queue_opening.IsOpen (record options { min_shallow = None }) tags.reserved (map reserved_part hands)
-    set_one = subst (queue_opening.IsOpen (record options { min_shallow = None }) tags.reserved)
+  module _ (HasStart : Options → Queue R → Agent R → Type 0) (options : Options) (tags : Tags R) (hands : List (Hand R))
+      (reserved ordinary : List (Agent R)) (parts : AreParts (reserved_of tags) reserved ordinary hands)
+      (one : IsOpenWith HasStart (record options { min_shallow = None }) tags.reserved reserved)
+      (other : IsOpenWith HasStart options tags.ordinary ordinary) where
+    set_one : IsOpenWith HasStart (record options { min_shallow = None }) tags.reserved (map reserved_part hands)
+    set_one = subst (IsOpenWith HasStart (record options { min_shallow = None }) tags.reserved)
         (sym parts.reserved_are) one
 
-    set_other : queue_opening.IsOpen options tags.ordinary (map ordinary_part hands)
-    set_other = subst (queue_opening.IsOpen options tags.ordinary) (sym parts.ordinary_are) other
+    set_other : IsOpenWith HasStart options tags.ordinary (map ordinary_part hands)
+    set_other = subst (IsOpenWith HasStart options tags.ordinary) (sym parts.ordinary_are) other
 
     reserved_number : (n : ℕ) (hand : Hand R) → get_elem? hands n ≡ some hand → queue.number_of hand.reserved ≡ n
     reserved_number n hand e = new_number tags.reserved.map (map reserved_part hands) n hand.reserved set_one.callers
@@ -84,7 +85,7 @@ module _ {R : Type 0} where
         (at_map ordinary_part hands n hand e)
 
     -- both sets are open, and their hands are new
-    pub opens : IsOpen options tags hands
+    pub opens : sets_opening.IsOpenWith HasStart options tags hands
     opens = record {
       ordinary = set_other;
       reserved = set_one;

@@ -1,12 +1,13 @@
--- A hand is unchanged if both its agents are.
-use Rattle.std.proofs.Common.{refl, ◌∙◌}
+-- A hand is unchanged if both its agents are, and two hands are apart if their agents are in both sets.
+use Rattle.std.proofs.Common.{◌≡◌, ℕ, refl, sym, subst, ◌∙◌}
 use Rattle.tag_queue.specs.declared.agent.Agent.{Agent}
 use Rattle.tag_queue.specs.Agents as queue
 use Rattle.tag_queue.specs.Holding as queue_holding
 use Rattle.tag_sets.specs.declared.hand.Hand.{Hand}
 use Rattle.tag_sets.specs.declared.kind.Kind.{Kind}
 use Rattle.tag_sets.specs.declared.kind.Kind.TheVariants.{Ordinary, Reserved}
-use Rattle.tag_sets.specs.Hands.{agent_of}
+use Rattle.tag_sets.specs.Hands.{Holds, agent_of, split_of}
+use Rattle.tag_sets.specs.Sets.{kind_of, number_in_set}
 use Rattle.tag_sets.specs.Holding.{HoldsSame}
 use Rattle.tag_sets.specs.Meeting.{IsUnchanged}
 use Rattle.tag_sets.proofs.Lifting.{same}
@@ -43,3 +44,16 @@ module _ {R : Type 0} where
         sets = each_set hand reserved ordinary r o;
         split = refl;
       }
+
+  -- hands whose agents hold no tag in common in either set hold none in common
+  pub hold_apart : (first second : Hand R) → split_of first ≡ split_of second
+      → ((n : ℕ) → queue.Holds first.reserved n → ¬ (queue.Holds second.reserved n))
+      → ((n : ℕ) → queue.Holds first.ordinary n → ¬ (queue.Holds second.ordinary n))
+      → (tag : ℕ) → Holds first tag → ¬ (Holds second tag)
+  hold_apart first second split reserved ordinary tag has other =
+      in_set (kind_of (split_of first) tag) (number_in_set (split_of first) tag) has
+      (subst (λ (n : ℕ). queue.Holds (agent_of second (kind_of n tag)) (number_in_set n tag)) (sym split) other)
+    where
+      in_set : (kind : Kind) (n : ℕ) → queue.Holds (agent_of first kind) n → ¬ (queue.Holds (agent_of second kind) n)
+      in_set Ordinary n has other = ordinary n has other
+      in_set Reserved n has other = reserved n has other

@@ -21,7 +21,7 @@ numbers_of hands = map number_of hands
 abbrev pub AreDistinct : List ℕ → Type 0
 AreDistinct numbers = AllPairs (λ a b. a ≢ b) numbers
 
--- the list has the same number at both places
+-- the list has the same number at both indexes
 abbrev pub AreTwins : List ℕ → ℕ → ℕ → Type 0
 AreTwins numbers first second = (first < second) × (second < length numbers)
     × (slice_index numbers first ≡ slice_index numbers second)

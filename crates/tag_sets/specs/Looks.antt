@@ -29,7 +29,7 @@ abbrev pub is_aside_in : Layout → List (ℕ × ℕ) → ℕ → Bool
 is_aside_in l found tag = nat_eq (bit_at (word_in found (word_of l tag)).1 (place_of l tag)) 1
 
 -- the agent made these looks one after another, and nothing else of it changed
-pub record Finds {R : Type 0} (steps : List WordStep) (old new : Agent R) : Type 0 where
+pub record MakesLooks {R : Type 0} (steps : List WordStep) (old new : Agent R) : Type 0 where
   pub known : record_of (caller_of new) ≡ record_after_all steps (record_of (caller_of old))
   pub same_map : SameMap (caller_of old) (caller_of new)
   pub same_else : SameElse old new

@@ -1,11 +1,16 @@
 -- Two new sets of tags, and their hands.
-use Rattle.std.specs.Prelude.{◌≡◌, ℕ, ◌<◌, ◌≤◌, List, All, map, length, IsSomeAnd, None}
+use Rattle.std.specs.Prelude.{◌≡◌, ℕ, ◌^◌, ◌<◌, ◌≤◌, List, All, map, length, IsSomeAnd, None}
 use mathlib.Core.Option.{some}
 use lib.ListN.{get_elem?}
 use Rattle.tag_layout.specs.declared.layout.TheConstants.{MAX_DEPTH, MAX_SHIFT}
+use Rattle.tag_model.specs.declared.world.TheConstants.{MOST_WON}
 use Rattle.tag_queue.specs.declared.agent.Agent.{Agent}
+use Rattle.tag_queue.specs.declared.fault.SetFault.{SetFault}
+use Rattle.tag_queue.specs.declared.fault.SetFault.TheVariants.{Memory, TotalTooLarge, ReservedTooLarge, ShiftTooLarge, CallerCount, LifeTooLong, CapTooLarge}
 use Rattle.tag_queue.specs.declared.queue.Options.{Options}
+use Rattle.tag_queue.specs.declared.queue.Queue.{Queue}
 use Rattle.tag_queue.specs.Opening as queue
+use Rattle.tag_queue.specs.Opening.{CountsAgents, MiscountsAgents, HasLimits, HasFirstHint, HasPlacedHint}
 use Rattle.tag_sets.specs.declared.hand.Hand.{Hand}
 use Rattle.tag_sets.specs.declared.tags.Tags.{Tags}
 use Rattle.tag_sets.specs.Hands.{IsHandOf, Holds, number_of, split_of}
@@ -17,6 +22,23 @@ HasRange total reserved = (total ≤ MAX_DEPTH) × (reserved ≤ total)
 -- and there are layouts of both sets for the options
 abbrev pub HasLayouts : ℕ → ℕ → Options → Type 0
 HasLayouts total reserved options = HasRange total reserved × ¬ (IsSomeAnd options.shift (λ s. MAX_SHIFT < s))
+
+-- two sets of these sizes can be opened with these options, unless memory runs out
+abbrev pub CanOpen : ℕ → ℕ → Options → Type 0
+CanOpen total reserved options = HasLayouts total reserved options × HasLimits options
+
+-- the cause of a refusal holds, and none that is checked before it; when memory runs out is not specified
+abbrev pub RefusesOpen : ℕ → ℕ → Options → SetFault → Type 0
+RefusesOpen total reserved options Memory = CanOpen total reserved options
+RefusesOpen total reserved options TotalTooLarge = MAX_DEPTH < total
+RefusesOpen total reserved options ReservedTooLarge = (total ≤ MAX_DEPTH) × (total < reserved)
+RefusesOpen total reserved options ShiftTooLarge =
+    HasRange total reserved × IsSomeAnd options.shift (λ s. MAX_SHIFT < s)
+RefusesOpen total reserved options CallerCount = HasLayouts total reserved options × MiscountsAgents options
+RefusesOpen total reserved options LifeTooLong =
+    HasLayouts total reserved options × CountsAgents options × (MOST_WON < options.life)
+RefusesOpen total reserved options CapTooLarge = HasLayouts total reserved options × CountsAgents options
+    × (options.life ≤ MOST_WON) × (2 ^ 56 < options.cap)
 
 -- the hand's agent in the reserved set
 abbrev pub reserved_part : {R : Type 0} → Hand R → Agent R
@@ -41,11 +63,21 @@ abbrev pub HoldsNone : {R : Type 0} → Hand R → Type 0
 HoldsNone hand = (tag : ℕ) → ¬ (Holds hand tag)
 
 -- both sets are as the options say, where the minimum shallow depth applies to the ordinary one; the hands are in the
--- order of their numbers, hold no tag and have made no step
-pub record IsOpen {R : Type 0} (options : Options) (tags : Tags R) (hands : List (Hand R)) : Type 0 where
-  pub ordinary : queue.IsOpen options tags.ordinary (map ordinary_part hands)
-  pub reserved : queue.IsOpen (record options { min_shallow = None }) tags.reserved (map reserved_part hands)
+-- order of their numbers, hold no tag, have made no step, and start as given in each set
+pub record IsOpenWith {R : Type 0} (HasStart : Options → Queue R → Agent R → Type 0)
+    (options : Options) (tags : Tags R) (hands : List (Hand R)) : Type 0 where
+  pub ordinary : queue.IsOpenWith HasStart options tags.ordinary (map ordinary_part hands)
+  pub reserved : queue.IsOpenWith HasStart (record options { min_shallow = None }) tags.reserved
+      (map reserved_part hands)
   pub own : All (IsHandOf tags) hands
   pub none_held : All HoldsNone hands
   pub count : length hands ≡ options.callers
   pub ordered : (n : ℕ) (hand : Hand R) → get_elem? hands n ≡ some hand → number_of hand ≡ n
+
+-- both sets and the hands are new, and every hint is at the first tag of its set
+abbrev pub IsOpen : {R : Type 0} → Options → Tags R → List (Hand R) → Type 0
+IsOpen options tags hands = IsOpenWith HasFirstHint options tags hands
+
+-- both sets and the hands are new, and every hint is at the first tag of its hand's own part of the set
+abbrev pub IsOpenPlaced : {R : Type 0} → Options → Tags R → List (Hand R) → Type 0
+IsOpenPlaced options tags hands = IsOpenWith HasPlacedHint options tags hands

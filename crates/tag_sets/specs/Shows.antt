@@ -8,7 +8,7 @@ use Rattle.tag_sets.specs.declared.shown.Shown.{Shown}
 use Rattle.tag_sets.specs.declared.tags.Tags.{Tags}
 use Rattle.tag_sets.specs.Hands.{layout_of, Changes}
 use Rattle.tag_sets.specs.Holding.{HoldsSame}
-use Rattle.tag_sets.specs.Looks.{Finds, looks_from, is_busy_in, is_aside_in}
+use Rattle.tag_sets.specs.Looks.{MakesLooks, looks_from, is_busy_in, is_aside_in}
 
 -- the show of these words
 abbrev pub shown_of : Layout → List (ℕ × ℕ) → Shown
@@ -23,7 +23,7 @@ shown_of l found = record {
 -- the hand looked once at each word of the set, in order, and found these; it holds the same tags as before
 pub record LooksAround {R : Type 0} (l : Layout) (kind : Kind) (found : List (ℕ × ℕ)) (old new : Hand R) : Type 0 where
   pub each : length found ≡ words l
-  pub looks : Changes kind (Finds (looks_from 0 found)) old new
+  pub looks : Changes kind (MakesLooks (looks_from 0 found)) old new
   pub same : HoldsSame old new
 
 -- the show is the one of the words that this call found

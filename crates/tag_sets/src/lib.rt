@@ -25,8 +25,6 @@ mod shows;
 mod silent;
 mod slots;
 mod tags;
-#[cfg(test)]
-mod tests;
 mod texts;
 mod twins;
 mod waits;

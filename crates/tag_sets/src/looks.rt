@@ -4,7 +4,7 @@ ghost use Rattle.tag_layout.specs.Layout.{words};
 ghost use Rattle.tag_core.specs.declared.word_step.WordStep.TheVariants.{Look, LookAside};
 ghost use Rattle.tag_sets.specs.Hands.{IsHandOf, Changes, agent_of, layout_of};
 ghost use Rattle.tag_sets.specs.Holding.{HoldsSame};
-ghost use Rattle.tag_sets.specs.Looks.{Finds, FindsHeld, looks_from};
+ghost use Rattle.tag_sets.specs.Looks.{MakesLooks, FindsHeld, looks_from};
 
 use crate::hand::Hand;
 use crate::kind::Kind;
@@ -29,7 +29,7 @@ impl<R: Copy> Tags<R> {
         requires hand { IsHandOf self.now hand.old }
         requires within { word < words (layout_of self.now kind) }
         ensures hand { IsHandOf self.now hand.new }
-        ensures looks { Changes kind (Finds (looks_from word (result ∷ []))) hand.old hand.new }
+        ensures looks { Changes kind (MakesLooks (looks_from word (result ∷ []))) hand.old hand.new }
         ensures same { HoldsSame hand.old hand.new }
         ensures held { FindsHeld (layout_of self.now kind) (agent_of hand.old kind) word result }
     {

@@ -1,4 +1,4 @@
-//! At most as many hands exist as the tags were opened for.
+//! Establishes that no more hands were passed in than the tags were opened for.
 ghost use Rattle.std.specs.Prelude.{◌≡◌, ◌≤◌, length, All, MatchOption};
 ghost use Rattle.tag_sets.specs.Hands.{IsHandOf};
 ghost use Rattle.tag_sets.specs.Gathering.{hands_of, numbers_of, AreDistinct, AreTwins};
@@ -7,10 +7,10 @@ use crate::hand::Hand;
 use crate::tags::Tags;
 use step_ledger::Numbered;
 
-/// Returns the places of two hands with the same number, the earlier place first, or `None` if all numbers differ. It
-/// compares at most 2,016 pairs for 64 hands.
+// Returns the indexes of two hands with the same number, the lower one first, or `None` if all numbers differ. It compares
+// at most 2,016 pairs for 64 hands.
 fn twins<R>(hands: &[Hand<R>]) -> Option<(usize, usize)>
-    ensures { MatchOption result (AreDistinct (numbers_of hands.now)) (λ places. AreTwins (numbers_of hands.now) places.0 places.1) }
+    ensures { MatchOption result (AreDistinct (numbers_of hands.now)) (λ pair. AreTwins (numbers_of hands.now) pair.0 pair.1) }
 {
     for second in 0..hands.len() {
         for first in 0..second {
@@ -23,14 +23,15 @@ fn twins<R>(hands: &[Hand<R>]) -> Option<(usize, usize)>
 }
 
 impl<R: Copy> Tags<R> {
-    /// Establishes that there are at most as many hands as the tags were opened for. If two of them had the same
-    /// number, `meet` would show that their numbers differ.
+    /// Establishes that there are at most as many hands as the tags were opened for. Each number is below that, so hands
+    /// with different numbers are at most as many; if two had the same number, `meet` would show that they differ.
     pub(crate) fn tell_few(&self, mut hands: Vec<Hand<R>>) -> Vec<Hand<R>>
         requires { All (IsHandOf self.now) hands.items }
         ensures same { result ≡ hands }
         ensures few { length result.items ≤ hands_of self.now }
     {
         if let Some((first, second)) = twins(hands.as_slice()) {
+            // The later one first, so that the earlier index still holds.
             let mut later = hands.remove(second);
             let mut earlier = hands.remove(first);
             self.meet(&mut earlier, &mut later);

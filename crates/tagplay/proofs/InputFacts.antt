@@ -5,7 +5,7 @@ use Rattle.std.specs.Io.KnownBytes.{Consumes}
 use Rattle.tag_lines.specs.declared.lines.TheConstants.{MAX_INPUT}
 use Rattle.tagplay.specs.declared.fault.RunFault.{RunFault}
 use Rattle.tagplay.specs.declared.fault.RunFault.TheVariants.{TooLong}
-use Rattle.tagplay.specs.Input.{Reads, Stops}
+use Rattle.tagplay.specs.Input.{ReadsAll, StopsReading}
 
 -- two reads in a row give the concatenation of their bytes
 pub consumes_both : (before between after : Option (List ℕ)) (front part : List ℕ)
@@ -27,7 +27,7 @@ consumes_once (Some xs) (Some ys) (Some zs) front (b ∷ part) first second none
 
 -- bytes within the size limit, and a fault other than `TooLong`
 pub stops_short : (fault : RunFault) (before after : Option (List ℕ)) (bytes : List ℕ)
-    → Reads before after bytes → fault ≢ TooLong → Stops fault before after
+    → ReadsAll before after bytes → fault ≢ TooLong → StopsReading fault before after
 stops_short fault before after bytes reads other = record {
   taken = bytes;
   consumed = reads.consumed;
@@ -37,7 +37,7 @@ stops_short fault before after bytes reads other = record {
 -- two reads that together exceed the size limit stop with `TooLong`
 pub stops_long : (before between after : Option (List ℕ)) (front part : List ℕ)
     → Consumes before between front → Consumes between after part → MAX_INPUT < length front + length part
-    → Stops TooLong before after
+    → StopsReading TooLong before after
 stops_long before between after front part first second long = record {
   taken = front ++ part;
   consumed = consumes_both before between after front part first second;
@@ -47,7 +47,7 @@ stops_long before between after front part first second long = record {
 -- two reads that together stay within the size limit
 pub reads_both : (before between after : Option (List ℕ)) (front part : List ℕ)
     → Consumes before between front → Consumes between after part → length front + length part ≤ MAX_INPUT
-    → Reads before after (front ++ part)
+    → ReadsAll before after (front ++ part)
 reads_both before between after front part first second short = record {
   consumed = consumes_both before between after front part first second;
   short = rw (length-append front part) short;

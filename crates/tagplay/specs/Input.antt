@@ -6,12 +6,12 @@ use Rattle.tagplay.specs.declared.fault.RunFault.{RunFault}
 use Rattle.tagplay.specs.declared.fault.RunFault.TheVariants.{TooLong}
 
 -- the reader gave these bytes, at most `MAX_INPUT` of them
-pub record Reads (before after : Option (List ℕ)) (bytes : List ℕ) : Type 0 where
+pub record ReadsAll (before after : Option (List ℕ)) (bytes : List ℕ) : Type 0 where
   pub consumed : Consumes before after bytes
   pub short : length bytes ≤ MAX_INPUT
 
 -- the reader gave some bytes before the fault, more than `MAX_INPUT` exactly if the fault is `TooLong`
-pub record Stops (fault : RunFault) (before after : Option (List ℕ)) : Type 0 where
+pub record StopsReading (fault : RunFault) (before after : Option (List ℕ)) : Type 0 where
   pub taken : List ℕ
   pub consumed : Consumes before after taken
   pub too_long : (fault ≡ TooLong) ↔ (MAX_INPUT < length taken)

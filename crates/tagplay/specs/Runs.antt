@@ -3,7 +3,7 @@ use Rattle.std.specs.Prelude.{◌≡◌, ℕ, ◌≤◌, List, length, Option, I
 use Rattle.std.specs.Io.KnownBytes.{Appends}
 use Rattle.tag_lines.specs.declared.lines.TheConstants.{MAX_INPUT}
 use Rattle.tag_script.specs.declared.ending.Ending.{Ending}
-use Rattle.tag_script.specs.Check.{Tells}
+use Rattle.tag_script.specs.Check.{TellsVerdict}
 use Rattle.tag_script.specs.Script.{Owed}
 use Rattle.tagplay.specs.declared.choice.Choice.{Choice}
 use Rattle.tagplay.specs.declared.choice.Choice.TheVariants.{Script, Check, Play}
@@ -18,11 +18,11 @@ name_of (Play options) = codes "play"
 -- the outputs that the chosen subcommand may give for an input
 abbrev pub owed_by : Choice → List ℕ → List ℕ → Ending → Type 0
 owed_by (Script options) = Owed options
-owed_by (Check options) = Tells options
+owed_by (Check options) = TellsVerdict options
 owed_by (Play options) = Reports options
 
 -- the text is an output for some bytes within the size limit, and these are the reader's bytes if those are known
-pub record Answers (owes : List ℕ → List ℕ → Ending → Type 0) (input : Option (List ℕ)) (text : List ℕ)
+pub record IsOutput (owes : List ℕ → List ℕ → Ending → Type 0) (input : Option (List ℕ)) (text : List ℕ)
     (ending : Ending)
     : Type 0 where
   pub bytes : List ℕ
@@ -31,14 +31,14 @@ pub record Answers (owes : List ℕ → List ℕ → Ending → Type 0) (input :
   pub owed : owes bytes text ending
 
 -- what was appended to the writer's contents is such a text
-pub record Writes (owes : List ℕ → List ℕ → Ending → Type 0) (input before after : Option (List ℕ)) (ending : Ending)
+pub record WritesOutput (owes : List ℕ → List ℕ → Ending → Type 0) (input before after : Option (List ℕ)) (ending : Ending)
     : Type 0 where
   pub text : List ℕ
-  pub answers : Answers owes input text ending
+  pub output : IsOutput owes input text ending
   pub written : Appends before after text
 
 -- there is such a text, with some ending
-pub record HasAnswer (owes : List ℕ → List ℕ → Ending → Type 0) (input : Option (List ℕ)) : Type 0 where
+pub record HasOutput (owes : List ℕ → List ℕ → Ending → Type 0) (input : Option (List ℕ)) : Type 0 where
   pub text : List ℕ
   pub ending : Ending
-  pub answers : Answers owes input text ending
+  pub output : IsOutput owes input text ending

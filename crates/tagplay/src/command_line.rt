@@ -1,7 +1,7 @@
 //! Parses a command line and runs the subcommand that it names.
 ghost use Rattle.std.specs.Prelude.{◌≡◌, IfOk};
 ghost use Rattle.tagplay.specs.declared.choice.Choice.{Choice as Chosen};
-ghost use Rattle.tagplay.specs.Runs.{owed_by, Writes};
+ghost use Rattle.tagplay.specs.Runs.{owed_by, WritesOutput};
 
 use crate::choice::Choice;
 use crate::fault::RunFault;
@@ -32,7 +32,7 @@ pub(crate) fn play<
     W: Write,
 >(rt: &P, words: &[S], reader: &mut R, writer: &mut W) -> Result<Ending, Stop>
     ensures { IfOk result (λ ending. (choice : Chosen)
-        × Writes (owed_by choice) (R.remaining reader.old) (W.contents writer.old) (W.contents writer.new) ending) }
+        × WritesOutput (owed_by choice) (R.remaining reader.old) (W.contents writer.old) (W.contents writer.new) ending) }
 {
     let choice = chosen(rt, words)?;
     choice

@@ -1,6 +1,6 @@
 //! Reading the whole input.
 ghost use Rattle.std.specs.Prelude.{◌≡◌, ◌≢◌, ◌≤◌, vec_len, IfOk, IfErr, IfSome};
-ghost use Rattle.tagplay.specs.Input.{Reads, Stops};
+ghost use Rattle.tagplay.specs.Input.{ReadsAll, StopsReading};
 
 use crate::fault::RunFault;
 use std::alloc::Global;
@@ -14,8 +14,8 @@ const PIECE: usize = 16_384;
 pub(crate) fn read_whole<R: Read>(alloc: Global, reader: &mut R) -> Result<Vec<u8>, RunFault>
     ensures whole { IfOk result (λ input. IfSome (R.remaining reader.old) (λ bytes. input.items ≡ bytes)) }
     ensures short { IfOk result (λ input. vec_len input ≤ MAX_INPUT) }
-    ensures read { IfOk result (λ input. Reads (R.remaining reader.old) (R.remaining reader.new) input.items) }
-    ensures stopped { IfErr result (λ fault. Stops fault (R.remaining reader.old) (R.remaining reader.new)) }
+    ensures read { IfOk result (λ input. ReadsAll (R.remaining reader.old) (R.remaining reader.new) input.items) }
+    ensures stopped { IfErr result (λ fault. StopsReading fault (R.remaining reader.old) (R.remaining reader.new)) }
     ensures not_write { IfErr result (λ fault. fault ≢ RunFault.Write) }
 {
     let mut input = Vec::new(alloc);

@@ -1,10 +1,10 @@
 //! The three runs. Each reads its whole input, then computes the output, then writes it.
 ghost use Rattle.std.specs.Prelude.{◌≡◌, ◌≢◌, IfOk, IfErr, IsErrOf};
-ghost use Rattle.tag_script.specs.Check.{Tells};
+ghost use Rattle.tag_script.specs.Check.{TellsVerdict};
 ghost use Rattle.tag_script.specs.Script.{Owed};
-ghost use Rattle.tagplay.specs.Input.{Stops};
+ghost use Rattle.tagplay.specs.Input.{StopsReading};
 ghost use Rattle.tagplay.specs.Reports.{Reports};
-ghost use Rattle.tagplay.specs.Runs.{owed_by, HasAnswer, Writes};
+ghost use Rattle.tagplay.specs.Runs.{owed_by, HasOutput, WritesOutput};
 
 use crate::choice::Choice;
 use crate::fault::RunFault;
@@ -26,11 +26,11 @@ impl Choice {
         reader: &mut R,
         writer: &mut W,
     ) -> Result<Ending, RunFault>
-        ensures written { IfOk result (Writes (owed_by self.now) (R.remaining reader.old)
+        ensures written { IfOk result (WritesOutput (owed_by self.now) (R.remaining reader.old)
             (W.contents writer.old) (W.contents writer.new)) }
         ensures untouched { IfErr result (λ fault. fault ≢ RunFault.Write → writer.new ≡ writer.old) }
-        ensures stopped { IfErr result (λ fault. Stops fault (R.remaining reader.old) (R.remaining reader.new)) }
-        ensures answered { IsErrOf result RunFault.Write → HasAnswer (owed_by self.now) (R.remaining reader.old) }
+        ensures stopped { IfErr result (λ fault. StopsReading fault (R.remaining reader.old) (R.remaining reader.new)) }
+        ensures answered { IsErrOf result RunFault.Write → HasOutput (owed_by self.now) (R.remaining reader.old) }
     {
         match self {
             Choice::Script(options) => run_script(rt, alloc, options, reader, writer),
@@ -49,11 +49,11 @@ pub fn run_script<T: Wait, R: Read, W: Write>(
     reader: &mut R,
     writer: &mut W,
 ) -> Result<Ending, RunFault>
-    ensures written { IfOk result (Writes (Owed options.now) (R.remaining reader.old)
+    ensures written { IfOk result (WritesOutput (Owed options.now) (R.remaining reader.old)
         (W.contents writer.old) (W.contents writer.new)) }
     ensures untouched { IfErr result (λ fault. fault ≢ RunFault.Write → writer.new ≡ writer.old) }
-    ensures stopped { IfErr result (λ fault. Stops fault (R.remaining reader.old) (R.remaining reader.new)) }
-    ensures answered { IsErrOf result RunFault.Write → HasAnswer (Owed options.now) (R.remaining reader.old) }
+    ensures stopped { IfErr result (λ fault. StopsReading fault (R.remaining reader.old) (R.remaining reader.new)) }
+    ensures answered { IsErrOf result RunFault.Write → HasOutput (Owed options.now) (R.remaining reader.old) }
 {
     let input = read_whole(alloc, reader)?;
     let Ok((text, ending)) = answer_script(rt, alloc, options, &input) else {
@@ -73,11 +73,11 @@ pub fn run_check<R: Read, W: Write>(
     reader: &mut R,
     writer: &mut W,
 ) -> Result<Ending, RunFault>
-    ensures written { IfOk result (Writes (Tells options.now) (R.remaining reader.old)
+    ensures written { IfOk result (WritesOutput (TellsVerdict options.now) (R.remaining reader.old)
         (W.contents writer.old) (W.contents writer.new)) }
     ensures untouched { IfErr result (λ fault. fault ≢ RunFault.Write → writer.new ≡ writer.old) }
-    ensures stopped { IfErr result (λ fault. Stops fault (R.remaining reader.old) (R.remaining reader.new)) }
-    ensures answered { IsErrOf result RunFault.Write → HasAnswer (Tells options.now) (R.remaining reader.old) }
+    ensures stopped { IfErr result (λ fault. StopsReading fault (R.remaining reader.old) (R.remaining reader.new)) }
+    ensures answered { IsErrOf result RunFault.Write → HasOutput (TellsVerdict options.now) (R.remaining reader.old) }
 {
     let input = read_whole(alloc, reader)?;
     let Ok(verdict) = verdict_on(alloc, options, &input) else {
@@ -102,11 +102,11 @@ pub fn run_play<T: Threads + Wait + Sync, R: Read, W: Write>(
     reader: &mut R,
     writer: &mut W,
 ) -> Result<Ending, RunFault>
-    ensures written { IfOk result (Writes (Reports options.now) (R.remaining reader.old)
+    ensures written { IfOk result (WritesOutput (Reports options.now) (R.remaining reader.old)
         (W.contents writer.old) (W.contents writer.new)) }
     ensures untouched { IfErr result (λ fault. fault ≢ RunFault.Write → writer.new ≡ writer.old) }
-    ensures stopped { IfErr result (λ fault. Stops fault (R.remaining reader.old) (R.remaining reader.new)) }
-    ensures answered { IsErrOf result RunFault.Write → HasAnswer (Reports options.now) (R.remaining reader.old) }
+    ensures stopped { IfErr result (λ fault. StopsReading fault (R.remaining reader.old) (R.remaining reader.new)) }
+    ensures answered { IsErrOf result RunFault.Write → HasOutput (Reports options.now) (R.remaining reader.old) }
 {
     let input = read_whole(alloc, reader)?;
     let Ok((text, ending)) = answer_log(rt, alloc, options, &input) else {

@@ -8,7 +8,7 @@ use Rattle.atomic_table.specs.Table.{Me, Step, step, carried_after, Allows}
 use Rattle.atomic_table.proofs.Lists.{exchanged}
 use Rattle.step_ledger.specs.declared.record.Record.{Record}
 use Rattle.step_ledger.specs.declared.record.View.{View}
-use Rattle.step_ledger.specs.Views.{alone, push, steps_of, Stepped}
+use Rattle.step_ledger.specs.Views.{own_view, push, steps_of, Stepped}
 use Rattle.step_ledger.specs.History.{own_steps, total, Lawful}
 use Rattle.step_ledger.proofs.Members.{allows}
 use Rattle.wake_book.specs.declared.steps.GroupStep.{GroupStep}
@@ -26,7 +26,7 @@ use Rattle.wake_book.proofs.Counting.{moves, misses}
 use Rattle.wake_book.proofs.Standing.{balanced, balance, few_stand, active_is, few_up, some_stand, some_up, index_small}
 
 module _ {S : Type 0} (n : ℕ) (few : n ≤ 64) (slots id : ℕ) (m : Me S (View GroupStep)) (r : Record GroupStep)
-    (is : m.0 ≡ alone r) where
+    (is : m.0 ≡ own_view r) where
   own : r.steps ≡ steps_of m.0
   own = ap steps_of (sym is)
 

@@ -3,7 +3,7 @@
 use Rattle.std.proofs.Common.{arith, ◌≡◌, ◌≢◌, ℕ, suc, nat_eq, cond, List, [], ◌∷◌, Some, None, refl, sym, ap, ◌∙◌, subst, inl, inr}
 use Rattle.atomic_table.specs.Table.{Me}
 use Rattle.step_ledger.specs.declared.record.View.{View}
-use Rattle.step_ledger.specs.Views.{alone, steps_of, with_step, Stepped}
+use Rattle.step_ledger.specs.Views.{own_view, steps_of, with_step, Stepped}
 use Rattle.wake_book.specs.declared.steps.GroupStep.{GroupStep}
 use Rattle.wake_book.specs.declared.steps.GroupStep.TheVariants.{Lower, Use, Withdraw}
 use Rattle.wake_book.specs.declared.groups.Waiter.{Waiter}
@@ -44,7 +44,7 @@ module _ (w : Waiter) (g expected found : ℕ) (me : Me (Unit {0}) (View GroupSt
   exit = steps_out g expected found did.0 did.1
 
   -- what the waiter knows after the exchange
-  pub tried : me ≡ (alone (with_step did.0 (record_of w)), [])
+  pub tried : me ≡ (own_view (with_step did.0 (record_of w)), [])
   tried = made (record_of w) w.seat.me me w.knows did.0 did.2
 
   -- its list

@@ -1,7 +1,7 @@
 -- How many steps a walk adds at most.
 use Rattle.std.proofs.Common.{◌≡◌, ℕ, zero, suc, ◌+◌, ◌*◌, ◌≤◌, List, length, arith, ap, ◌∙◌, ⊎_elim}
 use Rattle.wake_book.specs.declared.steps.GroupStep.{GroupStep}
-use Rattle.wake_book.specs.Walks.{LosesGrants, LosesAndLooks, IsVisit, AreVisits}
+use Rattle.wake_book.specs.Walks.{LosesGrants, LosesAndLooks, VisitsGroup, AreVisits}
 
 lost_long : (tries g most : ℕ) (s s' : List GroupStep) → LosesGrants tries g most s s'
     → length s' ≡ 2 * tries + length s
@@ -13,7 +13,7 @@ looked_long : (g most : ℕ) (s s' : List GroupStep) (found : ℕ) → LosesAndL
 looked_long g most s s' found a = let l = lost_long a.0 g most s a.2 a.3 in let e = ap length a.4 in let few = a.1 in
     omega arith
 
-visit_long : (g most : ℕ) (s s' : List GroupStep) (moved : ℕ) → IsVisit g most s s' moved → length s' ≤ 8 + length s
+visit_long : (g most : ℕ) (s s' : List GroupStep) (moved : ℕ) → VisitsGroup g most s s' moved → length s' ≤ 8 + length s
 visit_long g most s s' moved v = ⊎_elim
     (λ a. let l = looked_long g most s s' a.0 a.1 in omega arith)
     (λ r. ⊎_elim (λ a. let l = looked_long g most s a.1 a.0 a.2 in let e = ap length a.5 in

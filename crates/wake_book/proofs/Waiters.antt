@@ -3,7 +3,7 @@ use Rattle.std.proofs.Common.{arith, ◌≡◌, ℕ, ◌^◌, ◌<◌, ◌≤◌
 use Rattle.atomic_table.specs.Table.{Me}
 use Rattle.step_ledger.specs.declared.record.Record.{Record}
 use Rattle.step_ledger.specs.declared.record.View.{View}
-use Rattle.step_ledger.specs.Views.{alone, steps_of, with_step, Stepped}
+use Rattle.step_ledger.specs.Views.{own_view, steps_of, with_step, Stepped}
 use Rattle.step_ledger.specs.History.{total}
 use Rattle.step_ledger.proofs.Members.{pushed, settled}
 use Rattle.wake_book.specs.declared.steps.GroupStep.{GroupStep}
@@ -14,16 +14,16 @@ use Rattle.wake_book.specs.Stands.{StandsSo}
 -- what a waiter with this number and these fields promises of its seat
 abbrev pub Promises : ℕ → Option ℕ → ℕ → ℕ → Me (Unit {0}) (View GroupStep) → Type 0
 Promises number standing next moved me = record {
-  knows : me ≡ (alone (record { number = number; steps = steps_of me.0 }), []);
+  knows : me ≡ (own_view (record { number = number; steps = steps_of me.0 }), []);
   stands : StandsSo standing (steps_of me.0);
   within : next < 8;
   moves : (moved ≡ total moved_by (steps_of me.0)) × (moved ≤ 2 ^ 56);
 }
 
-module _ (r : Record GroupStep) (me me' : Me (Unit {0}) (View GroupStep)) (is : me ≡ (alone r, [])) (x : GroupStep)
+module _ (r : Record GroupStep) (me me' : Me (Unit {0}) (View GroupStep)) (is : me ≡ (own_view r, [])) (x : GroupStep)
     (did : Stepped x me me') where
   -- the seat knows the step
-  pub made : me' ≡ (alone (with_step x r), [])
+  pub made : me' ≡ (own_view (with_step x r), [])
   made = pushed me me' r x is did
 
   -- the list begins with it

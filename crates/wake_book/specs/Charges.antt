@@ -4,7 +4,7 @@ use Rattle.atomic_table.specs.Table.{State, Me}
 use Rattle.atomic_table.specs.Table as table
 use Rattle.step_ledger.specs.declared.record.View.{View}
 use Rattle.step_ledger.specs.Views.{viewing, fresh, steps_of, Stepped}
-use Rattle.step_ledger.specs.History.{own_steps, total, words_of}
+use Rattle.step_ledger.specs.History.{own_steps, total, words_left}
 use Rattle.step_ledger.specs.Ledger.{Ledger}
 use Rattle.wake_book.specs.declared.book.Limits.{Limits}
 use Rattle.wake_book.specs.declared.book.TheConstants.{COMPLETIONS, WAKEUPS, BOOK_WORDS}
@@ -40,7 +40,7 @@ words_after (Advance start end found) ws = slice_set ws wakeups_at (exchange_to 
 
 -- the words after a history, newest step first
 abbrev pub words_in : List (ℕ × BookStep) → List ℕ
-words_in h = words_of opening_words words_after h
+words_in h = words_left opening_words words_after h
 
 -- the completions counted in a history
 abbrev pub completions_in : List (ℕ × BookStep) → ℕ

@@ -3,7 +3,7 @@ use Rattle.std.specs.Prelude.{◌≡◌, ℕ, suc, ◌+◌, ◌-◌, ◌*◌, �
 use Rattle.atomic_table.specs.Table.{State}
 use Rattle.step_ledger.specs.declared.record.View.{View}
 use Rattle.step_ledger.specs.Views.{viewing, fresh}
-use Rattle.step_ledger.specs.History.{own_steps, total, words_of}
+use Rattle.step_ledger.specs.History.{own_steps, total, words_left}
 use Rattle.step_ledger.specs.Ledger.{Ledger}
 use Rattle.wake_book.specs.declared.groups.TheConstants.{ACTIVE, INDEX, GROUP_WORDS, WAITING}
 use Rattle.wake_book.specs.declared.spacing.TheConstants.{STRIDE}
@@ -70,7 +70,7 @@ words_after (Store index) ws = slice_set ws index_at index
 
 -- the words after a history, newest step first
 abbrev pub words_in : List (ℕ × GroupStep) → List ℕ
-words_in h = words_of opening_words words_after h
+words_in h = words_left opening_words words_after h
 
 -- 1 if the waiter with these steps has raised the active count and not lowered it again, else 0
 abbrev pub raised : List GroupStep → ℕ

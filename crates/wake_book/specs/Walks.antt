@@ -38,8 +38,8 @@ abbrev pub LosesFour : ℕ → ℕ → List GroupStep → List GroupStep → ℕ
 LosesFour g most steps steps' moved = (tries : ℕ) × (tries ≡ 4) × LosesGrants tries g most steps steps' × (moved ≡ 0)
 
 -- a visit to a group that moves at most this many
-abbrev pub IsVisit : ℕ → ℕ → List GroupStep → List GroupStep → ℕ → Type 0
-IsVisit g most steps steps' moved = FindsNobody g most steps steps' moved
+abbrev pub VisitsGroup : ℕ → ℕ → List GroupStep → List GroupStep → ℕ → Type 0
+VisitsGroup g most steps steps' moved = FindsNobody g most steps steps' moved
     ⊎ (WinsGrant g most steps steps' moved ⊎ LosesFour g most steps steps' moved)
 
 -- that many visits to groups in cyclic order from the first, each with at least one still to wake;
@@ -47,7 +47,7 @@ IsVisit g most steps steps' moved = FindsNobody g most steps steps' moved
 abbrev pub AreVisits : ℕ → ℕ → ℕ → List GroupStep → List GroupStep → ℕ → ℕ → Type 0
 AreVisits zero first nr steps steps' left next = (steps' ≡ steps) × (left ≡ nr) × (next ≡ first)
 AreVisits (suc visits) first nr steps steps' left next = (before : List GroupStep) × (most : ℕ) × (g : ℕ) × (moved : ℕ)
-    × AreVisits visits first nr steps before most g × (1 ≤ most) × IsVisit g most before steps' moved
+    × AreVisits visits first nr steps before most g × (1 ≤ most) × VisitsGroup g most before steps' moved
     × (left ≡ most - moved) × (next ≡ (g + 1) % 8)
 
 -- the walk loads an active count other than 0 and the wake index, visits groups until none is left to wake or all

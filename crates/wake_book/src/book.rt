@@ -1,6 +1,6 @@
 //! The charge book: completions are counted, and each full batch of them is charged once.
 ghost use Rattle.std.specs.Prelude.{◌≡◌, ◌-◌, ◌^◌, ◌≤◌, [], min};
-ghost use Rattle.step_ledger.specs.Views.{alone, steps_of, sum_over};
+ghost use Rattle.step_ledger.specs.Views.{own_view, steps_of, sum_over};
 ghost use Rattle.step_ledger.specs.History.{total};
 ghost use Rattle.wake_book.specs.Charges.{all_fresh, added, book_width, charged};
 
@@ -82,7 +82,7 @@ pub struct Teller {
     pub(crate) count: u64,
     /// Charges that it won, at most `count`.
     pub(crate) charges: u64,
-    ghost knows: { seat.me ≡ (alone (record { number = number; steps = steps_of seat.me.0 }), []) },
+    ghost knows: { seat.me ≡ (own_view (record { number = number; steps = steps_of seat.me.0 }), []) },
     ghost counts: { (count ≡ total added (steps_of seat.me.0)) × (count ≤ 2 ^ 56) },
     ghost wins: { (charges ≡ total charged (steps_of seat.me.0)) × (charges ≤ count) },
 }

@@ -1,6 +1,6 @@
 //! The wait groups: eight words, each with a count of waiters and a count of grants, and the number of active waiters.
 ghost use Rattle.std.specs.Prelude.{◌≡◌, ◌-◌, ◌^◌, ◌<◌, ◌≤◌, [], min};
-ghost use Rattle.step_ledger.specs.Views.{alone, steps_of, sum_over};
+ghost use Rattle.step_ledger.specs.Views.{own_view, steps_of, sum_over};
 ghost use Rattle.step_ledger.specs.History.{total};
 ghost use Rattle.wake_book.specs.Waits.{all_fresh, group_at, groups_width, moved_by};
 ghost use Rattle.wake_book.specs.Stands.{StandsSo};
@@ -77,7 +77,7 @@ pub struct Waiter {
     pub(crate) next: u32,
     /// Waiters that it moved from waiting to granted, at most 2^56.
     pub(crate) moved: u64,
-    ghost knows: { seat.me ≡ (alone (record { number = number; steps = steps_of seat.me.0 }), []) },
+    ghost knows: { seat.me ≡ (own_view (record { number = number; steps = steps_of seat.me.0 }), []) },
     ghost stands: { StandsSo standing (steps_of seat.me.0) },
     ghost within: { next < 8 },
     ghost moves: { (moved ≡ total moved_by (steps_of seat.me.0)) × (moved ≤ 2 ^ 56) },
@@ -116,7 +116,7 @@ pub struct GroupTotals {
 }
 
 /// Returns the index of a group's word.
-pub(crate) fn place_of(group: u32) -> usize
+pub(crate) fn group_spot(group: u32) -> usize
     requires { group < 8 }
     ensures { result ≡ group_at group }
 {

@@ -10,7 +10,7 @@ ghost use Rattle.wake_book.specs.Groups.{IsGatheringOf, gathered};
 ghost use Rattle.wake_book.specs.Balance.{IsBalanced};
 
 use crate::book_closing::discard;
-use crate::groups::{GROUPS, GroupTotals, Groups, WAITING, Waiter, WaiterGathering, place_of};
+use crate::groups::{GROUPS, GroupTotals, Groups, WAITING, Waiter, WaiterGathering, group_spot};
 use atomic_table::Closed;
 use std::alloc::Global;
 use step_ledger::{Collect, GatherCause, least_missing};
@@ -135,7 +135,7 @@ fn counts_of(closed: &Closed<(), Global>) -> (u64, u64)
     let mut granted = 0u64;
     let mut waiting = 0u64;
     for group in 0..GROUPS {
-        let word = closed.word(place_of(group));
+        let word = closed.word(group_spot(group));
         granted += word % WAITING;
         waiting += word / WAITING;
     }

@@ -1,4 +1,4 @@
-//! The spacing of the words of both tables.
+//! The spacing of the words in the tables of the book and of the groups.
 
-/// Distance between two words that threads write, in words of 8 bytes: 64 bytes, a cache line.
+/// From one word in use to the next, in words of 8 bytes: 64 bytes, a cache line.
 pub(crate) const STRIDE: usize = 8;

@@ -9,7 +9,7 @@ ghost use Rattle.wake_book.specs.declared.steps.GroupStep.TheVariants.{Look, Rai
 use crate::group_plays::{
     EnterGroup, LeaveGroup, LowerActive, RaiseActive, SeeActive, SeeGroup, SeeIndex,
 };
-use crate::groups::{ACTIVE, GROUPS, Groups, INDEX, WAITING, Waiter, place_of};
+use crate::groups::{ACTIVE, GROUPS, Groups, INDEX, WAITING, Waiter, group_spot};
 use std::sync::Wait;
 
 /// How a waiter left its group.
@@ -83,7 +83,7 @@ impl Groups {
             .fetch_add::<RaiseActive>(&mut waiter.seat, ACTIVE, 1);
         self.table
             .shared
-            .fetch_add::<EnterGroup>(&mut waiter.seat, place_of(group), WAITING);
+            .fetch_add::<EnterGroup>(&mut waiter.seat, group_spot(group), WAITING);
         waiter.standing = Some(group);
         waiter.next = (group + 1) % GROUPS;
         group
@@ -128,7 +128,7 @@ impl Groups {
         let table = &self.table.shared;
         let seen = table.compare_exchange::<LeaveGroup>(
             &mut waiter.seat,
-            place_of(group),
+            group_spot(group),
             found,
             next,
         );
@@ -151,6 +151,6 @@ impl Groups {
     {
         self.table
             .shared
-            .load::<SeeGroup>(&mut waiter.seat, place_of(group))
+            .load::<SeeGroup>(&mut waiter.seat, group_spot(group))
     }
 }

@@ -1,12 +1,12 @@
 //! The wake walk: moves waiters from waiting to granted, group by group.
 ghost use Rattle.std.specs.Prelude.{◌≡◌, ◌+◌, ◌^◌, ◌<◌, ◌≤◌, ◌∷◌, length, IsTrue, IsFalse};
 ghost use Rattle.wake_book.specs.Waits.{waiting};
-ghost use Rattle.wake_book.specs.Walks.{IsVisit, IsWalk};
+ghost use Rattle.wake_book.specs.Walks.{VisitsGroup, IsWalk};
 ghost use Rattle.wake_book.specs.Groups.{IsWaiterOf, steps_of, moved_of, StandsAsBefore, MovesMore, Loses};
 ghost use Rattle.wake_book.specs.declared.steps.GroupStep.TheVariants.{Grant, Store};
 
 use crate::group_plays::{GrantSome, StoreIndex};
-use crate::groups::{GROUPS, Groups, INDEX, WAITING, Waiter, place_of};
+use crate::groups::{GROUPS, Groups, INDEX, WAITING, Waiter, group_spot};
 
 /// Exchanges that a walk may lose in one group before it goes on to the next.
 const TRIES: u32 = 4;
@@ -94,7 +94,7 @@ impl Groups {
         requires within { (group < 8) × (waiter.old.moved + most ≤ 2 ^ 56) }
         ensures groups { IsWaiterOf self.now waiter.new × StandsAsBefore waiter.old waiter.new }
         ensures moved { (result ≤ most) × (waiter.new.moved ≡ waiter.old.moved + result) }
-        ensures visit { IsVisit group most (steps_of waiter.old) (steps_of waiter.new) result }
+        ensures visit { VisitsGroup group most (steps_of waiter.old) (steps_of waiter.new) result }
     {
         for _ in 0..TRIES {
             let found = self.look_group(waiter, group);
@@ -124,7 +124,7 @@ impl Groups {
         let seen = self
             .table
             .shared
-            .compare_exchange::<GrantSome>(&mut waiter.seat, place_of(group), found, new);
+            .compare_exchange::<GrantSome>(&mut waiter.seat, group_spot(group), found, new);
         if seen != found {
             return false;
         }

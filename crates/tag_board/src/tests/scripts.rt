@@ -8,25 +8,27 @@ use crate::tests::calls::Call::{
     Wakes,
 };
 use crate::tests::calls::{Answer, Call, options, replay};
-use std::alloc::Global;
+use std::process::Abort;
 use std::sync::Wait as Blocks;
-use std::test::Fail;
+use std::test::*;
 use tag_model::Totals;
 use tag_sets::Left::{Unwoken, Woken as ByGrant};
 use tag_sets::ResizeCause::{DepthTooLarge, InUse, Waiting};
 use tag_sets::TagFault;
 
-// Runs a script on a board of `total` tags, `reserved` of them reserved, for `callers` callers. Returns the first
-// command whose answer differs from the expected one, with its answer, and the totals at the end.
-fn played<W: Blocks>(
-    rt: &W,
-    alloc: Global,
+// Runs a script on a board of `total` tags, `reserved` of them reserved, for `callers` callers. Each command must have
+// the answer beside it, and the totals at the end must be these.
+fn expect<R: Abort + AllocGlobal + Blocks>(
+    rt: &R,
     (total, reserved, callers): (u32, u32, u32),
     said: &[(u32, Call, Answer)],
-) -> Result<(Option<(Call, Answer)>, Totals), Fail> {
-    let board = Board::open(alloc, total, reserved, options(callers))?;
-    let (wrong, board) = replay(rt, alloc, board, said)?;
-    Ok((wrong, board.close()))
+    sums: Totals,
+) -> Result<(), Fail> {
+    let board = Board::open(rt.alloc(), total, reserved, options(callers))?;
+    let (wrong, board) = replay(rt, rt.alloc(), board, said)?;
+    assert_eq!(rt; wrong, None);
+    assert_eq!(rt; board.close(), sums);
+    Ok(())
 }
 
 fn totals(got: u64, back: u64, held: u64, posted: u64) -> Totals {
@@ -40,9 +42,8 @@ fn totals(got: u64, back: u64, held: u64, posted: u64) -> Totals {
 
 #[test]
 fn a_tag_is_handed_over(rt: HostRuntime) -> Result<(), Fail> {
-    let (wrong, sums) = played(
+    expect(
         &rt,
-        rt.alloc(),
         (4, 0, 2),
         &[
             (0, Get, Tag(0)),
@@ -54,17 +55,14 @@ fn a_tag_is_handed_over(rt: HostRuntime) -> Result<(), Fail> {
             (1, Clear(0), Woken(0)),
             (0, Clear(4), Refused(TagFault::NoSuchTag)),
         ],
-    )?;
-    assert_eq!(rt; wrong, None);
-    assert_eq!(rt; sums, totals(1, 1, 0, 0));
-    Ok(())
+        totals(1, 1, 0, 0),
+    )
 }
 
 #[test]
 fn a_posted_tag_is_counted_at_the_end(rt: HostRuntime) -> Result<(), Fail> {
-    let (wrong, sums) = played(
+    expect(
         &rt,
-        rt.alloc(),
         (18, 2, 2),
         &[
             (0, GetReserved, Tag(0)),
@@ -75,17 +73,14 @@ fn a_posted_tag_is_counted_at_the_end(rt: HostRuntime) -> Result<(), Fail> {
             (0, ClearBoth(3, 4), Woken(0)),
             (1, Resize(20), NotResized(InUse(2, 1))),
         ],
-    )?;
-    assert_eq!(rt; wrong, None);
-    assert_eq!(rt; sums, totals(5, 2, 2, 1));
-    Ok(())
+        totals(5, 2, 2, 1),
+    )
 }
 
 #[test]
 fn waits_are_woken_by_batches(rt: HostRuntime) -> Result<(), Fail> {
-    let (wrong, sums) = played(
+    expect(
         &rt,
-        rt.alloc(),
         (16, 0, 2),
         &[
             (0, Get, Tag(0)),
@@ -103,17 +98,14 @@ fn waits_are_woken_by_batches(rt: HostRuntime) -> Result<(), Fail> {
             (0, Clear(3), Woken(0)),
             (0, Wakes, Found(3, 2, 0, 0)),
         ],
-    )?;
-    assert_eq!(rt; wrong, None);
-    assert_eq!(rt; sums, totals(4, 4, 0, 0));
-    Ok(())
+        totals(4, 4, 0, 0),
+    )
 }
 
 #[test]
 fn waits_and_tags_in_use_forbid_a_resize(rt: HostRuntime) -> Result<(), Fail> {
-    let (wrong, sums) = played(
+    expect(
         &rt,
-        rt.alloc(),
         (16, 0, 2),
         &[
             (0, Get, Tag(0)),
@@ -136,17 +128,14 @@ fn waits_and_tags_in_use_forbid_a_resize(rt: HostRuntime) -> Result<(), Fail> {
             (0, Wakes, Found(3, 3, 3, 1)),
             (1, Leave, Left(ByGrant)),
         ],
-    )?;
-    assert_eq!(rt; wrong, None);
-    assert_eq!(rt; sums, totals(4, 4, 0, 0));
-    Ok(())
+        totals(4, 4, 0, 0),
+    )
 }
 
 #[test]
 fn a_resize_keeps_the_reserved_tags(rt: HostRuntime) -> Result<(), Fail> {
-    let (wrong, sums) = played(
+    expect(
         &rt,
-        rt.alloc(),
         (6, 2, 1),
         &[
             (0, Resize(1), NotResized(DepthTooLarge)),
@@ -157,8 +146,6 @@ fn a_resize_keeps_the_reserved_tags(rt: HostRuntime) -> Result<(), Fail> {
             (0, Get, Nothing),
             (0, GetShallow(0), Refused(TagFault::TooShallow)),
         ],
-    )?;
-    assert_eq!(rt; wrong, None);
-    assert_eq!(rt; sums, totals(1, 1, 0, 0));
-    Ok(())
+        totals(1, 1, 0, 0),
+    )
 }

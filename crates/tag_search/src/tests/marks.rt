@@ -2,7 +2,7 @@
 ghost use Rattle.std.specs.Prelude.{◌≡◌, ℕ, ◌+◌, ◌<◌, not, false, ◌&&◌, ◌||◌, nat_eq, nat_lt, nat_le, IfOk, length, slice_index_or};
 ghost use Rattle.tag_layout.specs.Layout.{words, word_of, place_of};
 ghost use Rattle.tag_search.specs.Marks.{AreMarks, mark_at, pool_of_marks, free_then, aside_then};
-ghost use Rattle.tag_search.specs.Pool.{is_open, is_in, freed_in, taken_from};
+ghost use Rattle.tag_search.specs.Pool.{is_available, is_in, freed_in, taken_from};
 
 use std::alloc::{AllocError, Global};
 use tag_layout::Layout;
@@ -24,10 +24,16 @@ pub(crate) fn mark_at(layout: Layout, marks: &[bool], word: u32, place: u32) -> 
 }
 
 /// Returns whether a place is free or set aside.
-pub(crate) fn is_open(layout: Layout, free: &[bool], aside: &[bool], word: u32, place: u32) -> bool
+pub(crate) fn is_available(
+    layout: Layout,
+    free: &[bool],
+    aside: &[bool],
+    word: u32,
+    place: u32,
+) -> bool
     requires marks { AreMarks layout free.now aside.now }
     requires word { word < words layout }
-    ensures { result ≡ is_open (pool_of_marks layout free.now aside.now) word place }
+    ensures { result ≡ is_available (pool_of_marks layout free.now aside.now) word place }
 {
     mark_at(layout, free, word, place) | mark_at(layout, aside, word, place)
 }

@@ -3,7 +3,7 @@ ghost use Rattle.std.specs.Prelude.{◌≡◌, ℕ, ◌+◌, ◌<◌, ◌≤◌,
 ghost use Rattle.std.specs.Int.{bit_at};
 ghost use Rattle.tag_layout.specs.Layout.{words, word_depth, word_of};
 ghost use Rattle.tag_search.specs.Batch.{batch_words};
-ghost use Rattle.tag_search.specs.Choice.{IsFirst, IsBusy, IsOpen, IsLeastOpen, HasNoRun, IsChoice, IsBatchChoice};
+ghost use Rattle.tag_search.specs.Choice.{IsFirst, IsBusy, IsAvailable, IsLeastAvailable, HasNoRun, IsChoice, IsBatchChoice};
 ghost use Rattle.tag_search.specs.Hints.{reduced};
 ghost use Rattle.tag_search.specs.Marks.{AreMarks, mark_at, pool_of_marks};
 ghost use Rattle.tag_search.specs.Order.{scan_order};
@@ -11,7 +11,7 @@ ghost use Rattle.tag_search.specs.Scans.{limit_of};
 ghost use Rattle.tag_search.specs.Visits.{visit_of, visits, plain_visits, shallow_visits};
 
 use super::hints::reduced;
-use super::marks::{Marks, is_open, mark_at, marks_then};
+use super::marks::{Marks, is_available, mark_at, marks_then};
 use crate::hint::Hint;
 use std::alloc::{AllocError, Global};
 use tag_layout::Layout;
@@ -54,10 +54,10 @@ fn least_open(layout: Layout, free: &[bool], aside: &[bool], word: u32) -> Optio
     requires word { word < words layout }
     ensures { let pool = pool_of_marks layout free.now aside.now in
         MatchOption result ((place : ℕ) → place < word_depth layout word → IsBusy pool word place)
-        (IsLeastOpen pool word (word_depth layout word)) }
+        (IsLeastAvailable pool word (word_depth layout word)) }
 {
     for place in 0..layout.word_depth(word) {
-        if is_open(layout, free, aside, word, place) {
+        if is_available(layout, free, aside, word, place) {
             return Some(place);
         }
     }
@@ -70,7 +70,7 @@ fn run_in(layout: Layout, free: &[bool], aside: &[bool], word: u32, n: u32) -> O
     requires word { word < words layout }
     requires count { n ≤ 64 }
     ensures run { let pool = pool_of_marks layout free.now aside.now in
-        MatchOption result (HasNoRun layout n pool word) (IsLeastOpen pool word (word_depth layout word)) }
+        MatchOption result (HasNoRun layout n pool word) (IsLeastAvailable pool word (word_depth layout word)) }
     ensures fits { IfSome result (λ place. place + n ≤ word_depth layout word) }
 {
     let Some(place) = least_open(layout, free, aside, word) else {
@@ -84,16 +84,23 @@ fn run_in(layout: Layout, free: &[bool], aside: &[bool], word: u32, n: u32) -> O
 }
 
 /// Returns the mask of the `n` places from `place` on that are free or set aside. Its lowest bit is `place`.
-fn open_bits(layout: Layout, free: &[bool], aside: &[bool], word: u32, place: u32, n: u32) -> u64
+fn available_bits(
+    layout: Layout,
+    free: &[bool],
+    aside: &[bool],
+    word: u32,
+    place: u32,
+    n: u32,
+) -> u64
     requires marks { AreMarks layout free.now aside.now }
     requires word { word < words layout }
     requires within { (place + n ≤ word_depth layout word) × (n ≤ 64) }
     ensures { (k : ℕ) → bit_at result k ≡ 1
-        ↔ (k < n) × IsOpen (pool_of_marks layout free.now aside.now) word (place + k) }
+        ↔ (k < n) × IsAvailable (pool_of_marks layout free.now aside.now) word (place + k) }
 {
     let mut bits = 0;
     for k in 0..n {
-        if is_open(layout, free, aside, word, place + k) {
+        if is_available(layout, free, aside, word, place + k) {
             bits |= 1 << k;
         }
     }
@@ -235,7 +242,7 @@ pub(crate) fn batch_choice(
     let mut swept = Vec::new(alloc);
     for word in &order {
         if let Some(place) = run_in(layout, free, aside, *word, n) {
-            let bits = open_bits(layout, free, aside, *word, place, n);
+            let bits = available_bits(layout, free, aside, *word, place, n);
             swept.insert(0, *word)?;
             let marks = marks_then(alloc, layout, free, aside, &swept, (*word, place, n))?;
             return Ok((Some((layout.tag_at(*word, place), bits)), marks));

@@ -4,7 +4,7 @@ use Rattle.std.specs.Prelude.{IfErr}
 use Rattle.std.proofs.lemmas.Grind.{common_steps}
 use Rattle.tag_lines.specs.Lines.{lines_of}
 use Rattle.tag_lines.proofs.LineFacts.{is_whole, has_rest, has_line, last_line, lines_of-cut}
-use Rattle.loop_device.specs.LogProgress.{progress_of, Reads, Fails}
+use Rattle.loop_device.specs.LogProgress.{progress_of, ReadsLine, Fails}
 use Rattle.loop_device.proofs.LogFacts.{IsReadTo, begun, read_on, faulty_in, finished, no_lines}
 use Rattle.loop_device.proofs.io_log.read_lines.Goals as goal
 
@@ -16,7 +16,7 @@ loop-rest-init c = record {
 
 pub loop-rest-preserved-in-Some : goal.loop-rest-preserved-in-Some
 loop-rest-preserved-in-Some c =
-    let reads : Reads (progress_of c.loop-rest.reader) c.cut.result.0.now (progress_of c.read.new.self) =
+    let reads : ReadsLine (progress_of c.loop-rest.reader) c.cut.result.0.now (progress_of c.read.new.self) =
     search rules in
     let whole = has_rest c.cut.result.1 (λ r. r.now) c.loop-rest.rest.now c.cut.result.0.now 10 c.in-Some.after
     c.cut.ensures.whole c.in-Some.is in
@@ -32,7 +32,7 @@ loop-rest-preserved-in-Some c =
 
 pub loop-rest-preserved : goal.loop-rest-preserved
 loop-rest-preserved c =
-    let reads : Reads (progress_of c.loop-rest.reader) c.cut.result.0.now (progress_of c.read.new.self) =
+    let reads : ReadsLine (progress_of c.loop-rest.reader) c.cut.result.0.now (progress_of c.read.new.self) =
     search rules in
     let some : 0 < length c.loop-rest.rest.now = search rules in
     let whole = is_whole c.cut.result.1

@@ -21,7 +21,7 @@ index_mut-requires c =
 pub overflow_add-index_mut : goal.overflow_add-index_mut
 overflow_add-index_mut c =
     let few = counts_few c.args.ios.now c.args.done.now c.loop-item.item-index c.loop-item.counts.items
-    c.loop-item.invariant.counts c.in-Some.place
+    c.loop-item.invariant.counts c.in-Some.index
     c.in-Some.ensures.found.0 c.loop-item.auto.item-index-end c.index_mut.result.now c.index_mut.ensures.value in
     first_of (search (rules, few), grind (arith, common_steps, few, c.loop-item-test.true))
 
@@ -29,15 +29,15 @@ pub loop-item-preserved : goal.loop-item-preserved
 loop-item-preserved c = record {
   known = All-more (λ (d : Done). Contains c.args.ios.now d.io) c.args.done.now c.loop-item.item-index _
       c.loop-item-test.true c.loop-item.invariant.known
-      (c.in-Some.place, c.in-Some.ensures.found.0, c.in-Some.ensures.found.1 _);
+      (c.in-Some.index, c.in-Some.ensures.found.0, c.in-Some.ensures.found.1 _);
   counts =
       let value = read_count c.args.ios.now (take c.loop-item.item-index c.args.done.now) c.loop-item.counts.items
-      c.loop-item.invariant.counts c.in-Some.place
+      c.loop-item.invariant.counts c.in-Some.index
       c.in-Some.ensures.found.0 c.index_mut.result.now c.index_mut.ensures.value in
-      subst (λ v. set c.loop-item.counts.items c.in-Some.place (v + 1) ≡ tallied c.args.ios.now (take
+      subst (λ v. set c.loop-item.counts.items c.in-Some.index (v + 1) ≡ tallied c.args.ios.now (take
       (c.loop-item.item-index + 1) c.args.done.now)) (sym value)
       (counted c.args.done.now c.loop-item.item-index _ c.loop-item-test.true c.args.ios.now c.requires
-      c.in-Some.place c.in-Some.ensures.found.0
+      c.in-Some.index c.in-Some.ensures.found.0
       c.in-Some.ensures.found.1 c.loop-item.counts.items c.loop-item.invariant.counts);
 }
 

@@ -11,17 +11,17 @@ returns-in-Some-clause-fault c =
     let ios = c.args.log.now.ios.items in
     let done = c.args.done.now in
     let counts = c.in_ok-counts.counts.items in
-    let place = c.in-Some.place in
+    let index = c.in-Some.index in
     let ascend : LinesAscend ios = search rules in
     let known : AreOfLog ios done = subst (λ ios. AreOfLog ios done) c.deref.ensures.value
     c.in_ok-counts.ensures.known in
     let are : counts ≡ tallied ios done = subst (λ ios. counts ≡ tallied ios done) c.deref.ensures.value
     c.in_ok-counts.ensures.counts in
-    let within : place < length counts = search rules in
-    let twice : 1 < get_or counts place 0 = search rules in
-    let before : AllWithin (λ n. n ≤ 1) counts 0 place = search rules in
-    let is : c.index.result.now ≡ get_or ios place c.index.result.now = search rules in
-    is_twice ios ascend done counts are known place c.index.result.now (omega (
+    let within : index < length counts = search rules in
+    let twice : 1 < get_or counts index 0 = search rules in
+    let before : AllWithin (λ n. n ≤ 1) counts 0 index = search rules in
+    let is : c.index.result.now ≡ get_or ios index c.index.result.now = search rules in
+    is_twice ios ascend done counts are known index c.index.result.now (omega (
       arith,
       within,
       count_at ios done
@@ -33,7 +33,7 @@ returns-in-Some-first_zero-clause-fault c =
     let ios = c.args.log.now.ios.items in
     let done = c.args.done.now in
     let counts = c.in_ok-counts.counts.items in
-    let place = c.in-Some-first_zero.place in
+    let index = c.in-Some-first_zero.index in
     let io = c.index-in-Some-first_zero.result.now in
     let ascend : LinesAscend ios = search rules in
     let known : AreOfLog ios done = subst (λ ios. AreOfLog ios done) c.deref.ensures.value
@@ -41,10 +41,10 @@ returns-in-Some-first_zero-clause-fault c =
     let are : counts ≡ tallied ios done = subst (λ ios. counts ≡ tallied ios done) c.deref.ensures.value
     c.in_ok-counts.ensures.counts in
     let few : All (λ n. n ≤ 1) counts = search rules in
-    let within : place < length counts = search rules in
-    let lost : get_or counts place 0 ≡ 0 = search rules in
-    let before : AllWithin (λ n. 0 < n) counts 0 place = search rules in
-    is_lost ios ascend done counts are known few place io (omega (arith, within, count_at ios done counts are))
+    let within : index < length counts = search rules in
+    let lost : get_or counts index 0 ≡ 0 = search rules in
+    let before : AllWithin (λ n. 0 < n) counts 0 index = search rules in
+    is_lost ios ascend done counts are known few index io (omega (arith, within, count_at ios done counts are))
     c.index-in-Some-first_zero.ensures lost before
 
 pub returns-clause-ok : goal.returns-clause-ok

@@ -1,10 +1,10 @@
 -- The words of a line are those that were cut off it.
 use Rattle.std.proofs.Common.{◌≡◌, ◌∙◌, ℕ, List, [], ◌∷◌, sym, ap, subst, Ok, rules}
 use Rattle.std.specs.Prelude.{IfOk, IfErr, OnOk}
-use Rattle.tag_lines.specs.Lines.{parts_of, words_of}
+use Rattle.tag_lines.specs.Lines.{parts_of, line_words}
 use Rattle.tag_lines.proofs.LineFacts.{is_whole, has_rest}
 use Rattle.tag_lines.proofs.WordFacts.{one_word, two_words, after_two}
-use Rattle.loop_device.specs.LogLines.{names_of, place_of, range_action, range_words, entry_of, names_after, Tells}
+use Rattle.loop_device.specs.LogLines.{names_of, index_of, range_action, range_words, entry_of, names_after, TellsCause}
 use Rattle.loop_device.proofs.LogWords.{is_said, is_told, range_said, names_stay, on_ok}
 use Rattle.loop_device.proofs.log_line.read_line.Goals.{After-range_line, After-name_line}
 use Rattle.loop_device.proofs.log_line.read_line.Goals as goal
@@ -18,7 +18,7 @@ returns-in-None-clause-err c other =
     c.cut.ensures.part whole
 
 -- a line with a range has two words before it
-ranged : {A : Type 0} (says : List (List ℕ) → A) (c : After-range_line) → says (words_of c.args.line.now)
+ranged : {A : Type 0} (says : List (List ℕ) → A) (c : After-range_line) → says (line_words c.args.line.now)
     ≡ says (c.cut.result.0.now ∷ c.cut-2.result.0.now ∷ parts_of c.in-Some-rest.range.now)
 ranged says c = after_two says c.args.line.now (sym c.has_gap.ensures ∙ c.if-has_gap.false)
     c.cut.result.0.now c.in-Some.rest.now c.cut-2.result.0.now c.in-Some-rest.range.now c.cut.ensures.part
@@ -29,7 +29,7 @@ ranged says c = after_two says c.args.line.now (sym c.has_gap.ensures ∙ c.if-h
 
 -- the answer for a line with a range is what the line says
 range_is : (c : After-range_line) → c.range_line.result
-    ≡ entry_of (names_of c.args.names.now.items) c.args.number (words_of c.args.line.now)
+    ≡ entry_of (names_of c.args.names.now.items) c.args.number (line_words c.args.line.now)
 range_is c =
     let names = names_of c.args.names.now.items in
     let said = ranged (entry_of names c.args.number) c
@@ -37,7 +37,7 @@ range_is c =
     let same : c.deref.result.now ≡ c.args.names.now.items = search rules in
     c.range_line.ensures.said
     ∙ ap (λ n. range_words c.args.number (range_action c.cut-2.result.0.now)
-    (parts_of c.in-Some-rest.range.now) (place_of (names_of n) c.cut.result.0.now)) same ∙ sym said
+    (parts_of c.in-Some-rest.range.now) (index_of (names_of n) c.cut.result.0.now)) same ∙ sym said
 
 pub returns-in-Some-rest-clause-ok : goal.returns-in-Some-rest-clause-ok
 returns-in-Some-rest-clause-ok c = is_said _ c.range_line.result (range_is c)
@@ -52,7 +52,7 @@ pub returns-in-Some-rest-clause-err : goal.returns-in-Some-rest-clause-err
 returns-in-Some-rest-clause-err c = is_told _ c.range_line.result (range_is c)
 
 -- a line without a range has two words
-named : {A : Type 0} (says : List (List ℕ) → A) (c : After-name_line) → says (words_of c.args.line.now)
+named : {A : Type 0} (says : List (List ℕ) → A) (c : After-name_line) → says (line_words c.args.line.now)
     ≡ says (c.cut.result.0.now ∷ c.cut-2.result.0.now ∷ [])
 named says c = two_words says c.args.line.now (sym c.has_gap.ensures ∙ c.if-has_gap.false)
     c.cut.result.0.now c.in-Some.rest.now c.cut-2.result.0.now c.cut.ensures.part
@@ -75,4 +75,4 @@ returns-in-None-rest-clause-names c =
 pub returns-in-None-rest-clause-err : goal.returns-in-None-rest-clause-err
 returns-in-None-rest-clause-err c =
     let said = named (entry_of (names_of c.args.names.now.items) c.args.number) c in
-    subst (λ s. IfErr c.name_line.result (Tells s)) (sym said) c.name_line.ensures.err
+    subst (λ s. IfErr c.name_line.result (TellsCause s)) (sym said) c.name_line.ensures.err

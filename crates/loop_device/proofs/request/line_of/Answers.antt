@@ -6,14 +6,14 @@ use Rattle.std.proofs.lemmas.Cmp.{ranked}
 use Rattle.std.proofs.lemmas.List.Elements.{Contains-get_or}
 use Rattle.std.proofs.lemmas.List.Sorted.{answers_always}
 use Rattle.loop_device.specs.declared.io.Io.{Io}
-use Rattle.loop_device.proofs.Places.{absent_between}
+use Rattle.loop_device.proofs.Indexes.{absent_between}
 use Rattle.loop_device.proofs.request.line_of.Goals as goal
 
 pub returns-in-Ok-clause-found : goal.returns-in-Ok-clause-found
 returns-in-Ok-clause-found c =
     let by_line = c.in-Ok.ensures.position (λ found. found.line) (answers_always _ _ _ (λ f a r g called. search
     rules)) in
-    (Contains-get_or c.args.ios.now c.in-Ok.place _ (search rules), ranked _ _ _ (sym (by_line _)))
+    (Contains-get_or c.args.ios.now c.in-Ok.index _ (search rules), ranked _ _ _ (sym (by_line _)))
 
 pub returns-in-Err-clause-absent : goal.returns-in-Err-clause-absent
 returns-in-Err-clause-absent c none has =

@@ -4,6 +4,6 @@ use Rattle.crossbeam_queue.specs.Passes.{view, IsPassOf}
 use Rattle.tag_sets.specs.Hands.{IsHandOf}
 use Rattle.loop_device.proofs.workers.submit_all.Given as goal
 
-abbrev pub invariant-loop-place : goal.invariant-loop-place
-invariant-loop-place g l = IsHandOf l.shared.tags.now l.hand × IsPassOf l.shared.queue.now l.pass
+abbrev pub invariant-loop-index : goal.invariant-loop-index
+invariant-loop-index g l = IsHandOf l.shared.tags.now l.hand × IsPassOf l.shared.queue.now l.pass
     × ((view l.pass).submits ≡ true)

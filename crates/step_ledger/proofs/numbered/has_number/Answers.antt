@@ -1,4 +1,4 @@
--- The loop leaves off at a member of that number; where it ends, the number stands at no place.
+-- If the loop returns, the member at its index has the number; if it runs to its end, none has it.
 use Rattle.std.proofs.Common.{◌≡◌, ◌≢◌, ℕ, map, length, refl, sym, ap, ◌∙◌, below_more, arith}
 use Rattle.std.proofs.lemmas.List.{length-map}
 use mathlib.Core.Option.{some, some-injective}

@@ -1,4 +1,4 @@
--- The pool's handle gets its object back in every case; the other was empty, and is filled only with a hand of it.
+-- The pool's handle keeps its object in every case; the other was empty, and is filled only with a hand of it.
 use Rattle.std.proofs.Common.{rules, ◌≡◌, Option, Some, None, inl, inr, refl, sym, subst, ◌∙◌}
 use Rattle.std.specs.Arc.{arc_value}
 use Rattle.tag_queue.specs.declared.fault.SetFault.TheVariants.{Memory}
@@ -26,14 +26,13 @@ returns-in_default-clause-why c = λ _. let value = c.args.pool.now.object.value
 pub returns-in-Err-clause-joins : goal.returns-in-Err-clause-joins
 returns-in-Err-clause-joins c = λ zero. let code = c.code-in-Err in let status = c.in-Err.status in
     absurd (refused status code.result code.ensures code.type_inv
-    (join_below c.deref.result.now c.args.flags status c.in-Err.ensures.why) zero)
+    (join_below c.in-Some.object.now c.args.flags status c.in-Err.ensures.why) zero)
 
 pub returns-in-Err-clause-why : goal.returns-in-Err-clause-why
 returns-in-Err-clause-why c = λ _. let pool = c.args.pool.now.object.value in let hand = c.args.hand.now.object.value in
     let code = c.code-in-Err in let status = c.in-Err.status in
     refuses (RefusesJoin pool hand c.args.flags) status code.result code.ensures code.type_inv
-    (refuses_join c.deref.result.now c.args.flags status pool hand
-    (subst (λ (x : Object). pool ≡ Some x) (sym c.deref.ensures) c.in-Some.ensures.some) c.in-Err.ensures.why)
+    (refuses_join c.in-Some.object.now c.args.flags status pool hand c.in-Some.ensures.some c.in-Err.ensures.why)
 
 pub leave-requires : goal.leave-requires
 leave-requires c = let tags = (arc_value c.in-Ok.member.shared).tags in
@@ -42,9 +41,8 @@ leave-requires c = let tags = (arc_value c.in-Ok.member.shared).tags in
 pub returns-in-Ok-new-clause-joins : goal.returns-in-Ok-new-clause-joins
 returns-in-Ok-new-clause-joins c = λ _. let tags = (arc_value c.in-Ok.member.shared).tags in (
   tags,
-  subst (λ (x : Option Object). IsPoolOf tags x) (sym c.in-Some.ensures.some)
-      (subst (λ (x : Object). IsPoolIn tags x.kind) c.deref.ensures c.in-Ok.ensures.ok),
-  subst (λ (x : Option Object). IsHandIn tags x) (sym c.of-in-Ok-new.ensures)
+  subst (λ (x : Option Object). IsPoolOf tags x) (sym c.in-Some.ensures.some) c.in-Ok.ensures.ok,
+  subst (λ (x : Option Object). IsHandIn tags x) (sym c.of.ensures)
       (subst (λ (x : Object). IsMemberIn tags x.kind) (sym c.in-Ok-new.ensures.ok) refl),
 )
 

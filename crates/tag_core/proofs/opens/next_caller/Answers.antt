@@ -5,7 +5,7 @@ use Rattle.atomic_table.specs.Table.{Splits}
 use Rattle.tag_layout.specs.Layout.{words}
 use Rattle.tag_core.specs.declared.shape.Shape.{Shape}
 use Rattle.tag_core.specs.Records.{fresh_record, Carries}
-use Rattle.tag_core.specs.Views.{viewing, alone, fresh, first_view, other_views, steps_of}
+use Rattle.tag_core.specs.Views.{viewing, own_view, fresh, first_view, other_views, steps_of}
 use Rattle.tag_core.specs.Rule.{Shown}
 use Rattle.tag_core.specs.Meeting.{HasHistory}
 use Rattle.tag_core.proofs.Passing.{hands_first, next_fresh, carries_none, fresh_history}
@@ -55,9 +55,9 @@ invariant_of-result g c = let k = c.args.map.now.shape in let n : ℕ = c.args.n
     let blank : c.in_ok-held.held.items ≡ replicate (words k.layout) 0 = search rules in
     let now = c.split_seat-seat.ensures.4 in
     let alone_is = ap (λ x. x.0) now ∙ ap first_view is
-    ∙ ap alone (none_before {R = R} k n c.requires.blank.0 c.requires.blank.1) in record {
+    ∙ ap own_view (none_before {R = R} k n c.requires.blank.0 c.requires.blank.1) in record {
       told = search rules;
-      knows = alone_is ∙ (λ j. alone
+      knows = alone_is ∙ (λ j. own_view
           (record {
             shape = sym c.of.ensures j;
             number = n;

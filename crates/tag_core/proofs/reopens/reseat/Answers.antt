@@ -7,7 +7,7 @@ use Rattle.tag_core.specs.declared.record.View.{View}
 use Rattle.tag_core.specs.declared.caller.Caller.{Caller}
 use Rattle.tag_core.specs.Records.{fresh_record, Carries}
 use Rattle.tag_core.specs.Reopening.{reopened_record}
-use Rattle.tag_core.specs.Views.{viewing, alone, fresh, first_view, other_views, steps_of}
+use Rattle.tag_core.specs.Views.{viewing, own_view, fresh, first_view, other_views, steps_of}
 use Rattle.tag_core.specs.Callers.{record_of}
 use Rattle.tag_core.specs.Meeting.{HasHistory}
 use Rattle.tag_core.proofs.Passing.{next_fresh, carries_none, fresh_history}
@@ -44,14 +44,14 @@ invariant_of-caller g c =
       won = c.requires.counts.0 j;
       back = c.requires.counts.1 j;
       steps = [];
-    }) in let alone_is = ap (λ x. x.0) c.split_seat.ensures.4 ∙ ap first_view is ∙ ap alone fresh_is in
+    }) in let alone_is = ap (λ x. x.0) c.split_seat.ensures.4 ∙ ap first_view is ∙ ap own_view fresh_is in
     let of = c.of.ensures in record {
       told = (
         ap (λ (z : Shape). z.layout) (sym of),
         c.requires.life ∙ ap (λ (z : Shape). z.life) (sym of),
         c.first_state-caller.ensures,
       );
-      knows = alone_is ∙ (λ j. alone
+      knows = alone_is ∙ (λ j. own_view
           (record {
             shape = sym of j;
             number = old.number;

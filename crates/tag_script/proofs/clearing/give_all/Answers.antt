@@ -4,7 +4,7 @@ use Rattle.std.specs.Int.{bit_at}
 use Rattle.std.proofs.lemmas.Nat.{one_shl, or_lt, pow_below, pow_pos}
 use Rattle.std.proofs.lemmas.Nat.Bits.{bit_at-zero}
 use Rattle.tag_layout.specs.Layout.{Layout, words, word_of, place_of, word_depth}
-use Rattle.tag_search.specs.Plain.{Plain, words_of, IsTaken}
+use Rattle.tag_search.specs.Plain.{Plain, plain_words, IsTaken}
 use Rattle.tag_search.specs.Pool.{Pool, pool_of, is_busy, free_at}
 use Rattle.tag_search.proofs.PlainPools.{taken_of_busy}
 use Rattle.tag_script.specs.Solo.{freed}
@@ -17,7 +17,7 @@ loop-tag-init c =
     let p = c.args.port.now in
     record {
       layout = search rules;
-      pool = free_none (pool_of (words_of p)) c.word_of-word.result ∙ sym (freed_none p.layout (pool_of (words_of p)));
+      pool = free_none (pool_of (plain_words p)) c.word_of-word.result ∙ sym (freed_none p.layout (pool_of (plain_words p)));
       there = subst (λ (l : Layout). c.word_of-word.result < words l) c.layout-layout.ensures.value
           c.word_of-word.ensures.within;
       within = pow_pos (word_depth p.layout c.word_of-word.result);
@@ -40,7 +40,7 @@ loop-tag-preserved c =
     let near : word < words l = subst (λ (x : Layout). word < words x) lay c.word_of-here.ensures.within in
     let bit : 1 * 2 ^ place % 2 ^ 64 ≡ 2 ^ place = one_shl place 64 low in
     let narrow : 2 ^ place < 2 ^ word_depth l word = pow_below place (word_depth l word) room in
-    let start : Pool = pool_of (words_of p) in
+    let start : Pool = pool_of (plain_words p) in
     let still : is_busy (freed l (take i tags) start) (word_of l tag) (place_of l tag) ≡ true =
     still_held l tags i start (omega arith) tag (λ j less. c.requires.once j i 0 less inside)
     (c.requires.held i 0 inside) in
@@ -57,10 +57,10 @@ loop-tag-preserved c =
           let mask_is : c.if-here-word.mask ≡ bit_or c.loop-tag.mask (2 ^ place) =
           w.mask-is ∙ ap (bit_or c.loop-tag.mask) bit in
           let word_to : c.if-here-word.word ≡ word = w.word-is ∙ sym same in
-          let before : free_at word c.loop-tag.mask (pool_of (words_of q)) ≡ freed l (take i tags) start =
-          ap (λ (x : ℕ). free_at x c.loop-tag.mask (pool_of (words_of q))) same ∙ c.loop-tag.invariant.pool in
+          let before : free_at word c.loop-tag.mask (pool_of (plain_words q)) ≡ freed l (take i tags) start =
+          ap (λ (x : ℕ). free_at x c.loop-tag.mask (pool_of (plain_words q))) same ∙ c.loop-tag.invariant.pool in
           let here : IsTaken q word place =
-          taken_of_busy q word place low (held_before (pool_of (words_of q)) word c.loop-tag.mask word place
+          taken_of_busy q word place low (held_before (pool_of (plain_words q)) word c.loop-tag.mask word place
           (subst P (sym before) held)) in
           let all : (at : ℕ) → bit_at c.loop-tag.mask at ≡ 1 → IsTaken q word at =
           subst (λ (x : ℕ). (at : ℕ) → bit_at c.loop-tag.mask at ≡ 1 → IsTaken q x at) (sym same)
@@ -69,8 +69,8 @@ loop-tag-preserved c =
           subst (λ (x : ℕ). c.loop-tag.mask < 2 ^ word_depth l x) (sym same) c.loop-tag.invariant.within in
           record {
             layout = ap (λ (x : Plain). x.layout) w.port-is ∙ c.loop-tag.invariant.layout;
-            pool = (λ z. free_at (word_to z) (mask_is z) (pool_of (words_of (w.port-is z))))
-                ∙ free_more (pool_of (words_of q)) word c.loop-tag.mask place low ∙ ap (with_place word place) before
+            pool = (λ z. free_at (word_to z) (mask_is z) (pool_of (plain_words (w.port-is z))))
+                ∙ free_more (pool_of (plain_words q)) word c.loop-tag.mask place low ∙ ap (with_place word place) before
                 ∙ sym more;
             there = subst (λ (x : ℕ). x < words l) (sym word_to) near;
             within = within_as l word c.if-here-word.word (bit_or c.loop-tag.mask (2 ^ place)) c.if-here-word.mask
@@ -84,13 +84,13 @@ loop-tag-preserved c =
           let r = w.give.new.self in
           let mask_is : c.if-here-word.mask ≡ 2 ^ place = w.mask-is ∙ bit in
           let word_to : c.if-here-word.word ≡ word = w.word-is in
-          let before : pool_of (words_of r) ≡ freed l (take i tags) start =
+          let before : pool_of (plain_words r) ≡ freed l (take i tags) start =
           w.give.ensures.pool ∙ c.loop-tag.invariant.pool in
           let here : IsTaken r word place = taken_of_busy r word place low (subst P (sym before) held) in
           record {
             layout = ap (λ (x : Plain). x.layout) w.port-is ∙ w.give.ensures.layout ∙ c.loop-tag.invariant.layout;
-            pool = (λ z. free_at (word_to z) (mask_is z) (pool_of (words_of (w.port-is z))))
-                ∙ free_one (pool_of (words_of r)) word place low ∙ ap (with_place word place) before ∙ sym more;
+            pool = (λ z. free_at (word_to z) (mask_is z) (pool_of (plain_words (w.port-is z))))
+                ∙ free_one (pool_of (plain_words r)) word place low ∙ ap (with_place word place) before ∙ sym more;
             there = subst (λ (x : ℕ). x < words l) (sym word_to) near;
             within = within_as l word c.if-here-word.word (2 ^ place) c.if-here-word.mask word_to mask_is narrow;
             taken = taken_as r c.if-here-word.port word c.if-here-word.word (2 ^ place) c.if-here-word.mask w.port-is

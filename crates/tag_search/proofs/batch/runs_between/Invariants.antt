@@ -1,6 +1,6 @@
 -- So far every visit won nothing, and a search of the words left completes the search.
 use Rattle.std.proofs.Common.{◌≡◌}
-use Rattle.tag_search.specs.Added.{Adds, SameRoom}
+use Rattle.tag_search.specs.Added.{AddsSteps, SameRoom}
 use Rattle.tag_search.specs.Order.{numbers}
 use Rattle.tag_search.proofs.Batches.{IsBatchBegun}
 use Rattle.tag_search.proofs.batch.runs_between.Given as goal
@@ -10,6 +10,6 @@ invariant-loop-word g l = record {
   port : g.P.Port.ready l.port;
   sizes : g.P.Port.sizes l.port ≡ g.P.Port.sizes l.fn.port;
   room : SameRoom (λ p n. g.P.Port.has_room p n) l.fn.port l.port;
-  begun : Adds (λ p steps q. g.P.Port.adds p steps q) l.fn.port l.port
+  begun : AddsSteps (λ p steps q. g.P.Port.adds p steps q) l.fn.port l.port
       (IsBatchBegun l.layout l.n (numbers l.fn.from l.end) (numbers l.word l.end));
 }

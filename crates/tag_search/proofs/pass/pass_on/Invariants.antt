@@ -2,7 +2,7 @@
 use Rattle.std.proofs.Common.{◌≡◌, ◌<◌, ◌++◌, length}
 use Rattle.std.specs.Prelude.{All}
 use Rattle.tag_layout.specs.Layout.{word_depth}
-use Rattle.tag_search.specs.Added.{Adds, SameRoom}
+use Rattle.tag_search.specs.Added.{AddsSteps, SameRoom}
 use Rattle.tag_search.specs.Order.{numbers}
 use Rattle.tag_search.specs.Places.{places_of}
 use Rattle.tag_search.proofs.Passes.{AreTriesBegun}
@@ -14,7 +14,7 @@ invariant-loop-place g l = record {
   sizes : g.P.Port.sizes l.port ≡ g.P.Port.sizes l.fn.port;
   room : SameRoom (λ p n. g.P.Port.has_room p n) l.fn.port l.port;
   places : All (λ place. place < word_depth (g.P.Port.sizes l.fn.port) l.word) (places_of l.left);
-  begun : Adds (λ p steps q. g.P.Port.adds p steps q) l.fn.port l.port
+  begun : AddsSteps (λ p steps q. g.P.Port.adds p steps q) l.fn.port l.port
       (AreTriesBegun l.word (numbers l.fn.from l.fn.limit ++ numbers 0 l.fn.then) (places_of l.left) l.fn.lost l.found);
 }
 

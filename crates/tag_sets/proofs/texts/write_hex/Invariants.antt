@@ -1,4 +1,4 @@
--- The digits so far are those of the number without the places still to come.
+-- The digits so far are those of the number without its last digits, which are still to come.
 use Rattle.std.proofs.Common.{◌*◌, ◌/◌, ◌-◌, ◌^◌}
 use Rattle.std.specs.Io.KnownBytes.{Appends}
 use Rattle.tag_sets.specs.Texts.{hex_digits}

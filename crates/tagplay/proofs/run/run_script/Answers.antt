@@ -20,7 +20,7 @@ returns-in-Ok-write_all-clause-written g c =
     let owed = subst (λ (s : List ℕ). Owed o s text c.in-Ok.ending) c.deref.ensures.value c.in-Ok.ensures in
     record {
       text = text;
-      answers = record { bytes = bytes; short = short; read = c.in_ok-input.ensures.whole; owed = owed };
+      output = record { bytes = bytes; short = short; read = c.in_ok-input.ensures.whole; owed = owed };
       written = subst (Appends (g.W.Write.contents c.args.writer.now) (g.W.Write.contents c.write_all.new.self))
           c.deref-2.ensures.value
           c.in-Ok-write_all.ensures.bytes;
@@ -35,5 +35,5 @@ returns-clause-answered g c =
     λ written. record {
       text = text;
       ending = c.in-Ok.ending;
-      answers = record { bytes = bytes; short = short; read = c.in_ok-input.ensures.whole; owed = owed };
+      output = record { bytes = bytes; short = short; read = c.in_ok-input.ensures.whole; owed = owed };
     }

@@ -9,8 +9,8 @@ use Rattle.wake_book.proofs.groups_closing.counts_of.Goals as goal
 pub loop-group-preserved : goal.loop-group-preserved
 loop-group-preserved c = let ws : List ℕ = slots_items c.args.closed.now.words in let g : ℕ = c.loop-group.group in
     let inv = c.loop-group.invariant in let next : suc g ≡ g + 1 = omega arith in
-    let is : word ws g ≡ c.word-word.result = ap (λ (z : ℕ). get_or ws z 0) (sym c.place_of.ensures)
-    ∙ read ws c.place_of.result c.word-word.result c.word-word.ensures in
+    let is : word ws g ≡ c.word-word.result = ap (λ (z : ℕ). get_or ws z 0) (sym c.group_spot.ensures)
+    ∙ read ws c.group_spot.result c.word-word.result c.word-word.ensures in
     let small = inv.small.0 in let small' = inv.small.1 in let range = c.word-word.type_inv in record {
       granted_is = (λ j. inv.granted_is j + sym is j % one_waiting) ∙ ap (sum_to (λ g. granted (word ws g))) next;
       waiting_is = (λ j. inv.waiting_is j + sym is j / one_waiting) ∙ ap (sum_to (λ g. waiting (word ws g))) next;

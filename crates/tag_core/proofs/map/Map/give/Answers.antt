@@ -1,6 +1,6 @@
--- The step clears the mask's bits in the word, which the rule allows since the caller holds these tags. Its mask loses
+-- The step takes the mask out of the word, which the rule allows since the caller holds these tags. Its mask loses
 -- them, and their slots stay behind in the table.
-use Rattle.std.proofs.Common.{◌≡◌, ℕ, ◌-◌, ◌^◌, ◌<◌, slice_set, length-set, bit_and, refl, sym, ap, ◌∙◌, subst}
+use Rattle.std.proofs.Common.{◌≡◌, ℕ, ◌+◌, ◌-◌, ◌%◌, ◌^◌, ◌<◌, slice_set, length-set, refl, sym, ap, ◌∙◌, subst}
 use Rattle.tag_layout.specs.Layout.{IsWithin}
 use Rattle.tag_core.specs.declared.shape.Shape.{Shape}
 use Rattle.tag_core.specs.Steps.{without}
@@ -15,14 +15,14 @@ use Rattle.tag_core.proofs.Marking.{mask_read}
 use Rattle.tag_core.proofs.Holdings.{adds_releases}
 use Rattle.tag_core.proofs.map.Map.give.Goals as goal
 
-pub fetch_and-requires : goal.fetch_and-requires
-fetch_and-requires g c =
+pub fetch_sub-requires : goal.fetch_sub-requires
+fetch_sub-requires g c =
     let m = c.args.self.now in let w = c.args.caller.now in let k = w.shape.value in let own = c.requires.caller in
     let R = g.row.R.Denot in let i : ℕ = c.args.word in let x : ℕ = c.args.mask in
     let inside = in_words m w own i c.requires.within.0 in
     let same : m.shape ≡ k = sym own.1 in
-    let a = asked m w own w.seat.id w.seat.me (word_at i) c.word_spot.result (λ n. bit_and n (2 ^ 64 - 1 - x))
-    (2 ^ 64 - 1 - x) 0 gave c.word_spot.ensures (word_in k.layout i inside)
+    let a = asked m w own w.seat.id w.seat.me (word_at i) c.word_spot.result (λ n. (n + (2 ^ 64 - x)) % 2 ^ 64)
+    x 0 gave c.word_spot.ensures (word_in k.layout i inside)
     (give_allowed R k (narrow m w own) w.seat.id w.seat.me (record_of w) w.knows w.carries i x inside
     (subst (λ (z : Shape). IsWithin z.layout i x) same c.requires.within.1) c.ranges.mask.fits
     (λ t l a. (c.requires.held t (subst (λ (z : Shape). t < z.layout.depth) own.1 l)
@@ -35,7 +35,7 @@ invariant_of-caller g c =
     let inside = in_words c.args.self.now w c.requires.caller i c.requires.within.0 in
     let mask = ap (λ (z : ℕ). slice_set w.held.items i (without z x))
     (sym (mask_read w i c.index.result.now inside c.index.ensures)) in
-    let l = left w (c.fetch_and.ensures.2 i x (record_of w) c.word_spot.ensures c.ranges.mask.fits refl w.knows) mask
+    let l = left w (c.fetch_sub.ensures.2 i (record_of w) c.word_spot.ensures w.knows) mask
     refl (plus_none w.won) refl in
     after l (length-set w.held.items _ _ ∙ w.wide) w.unspent (bounded c.args.self.now w c.requires.caller _ (few l))
 
@@ -45,9 +45,9 @@ returns-clause-step g c =
     let inside = in_words c.args.self.now w c.requires.caller i c.requires.within.0 in
     let mask = ap (λ (z : ℕ). slice_set w.held.items i (without z x))
     (sym (mask_read w i c.index.result.now inside c.index.ensures)) in
-    let l = left w (c.fetch_and.ensures.2 i x (record_of w) c.word_spot.ensures c.ranges.mask.fits refl w.knows) mask
+    let l = left w (c.fetch_sub.ensures.2 i (record_of w) c.word_spot.ensures w.knows) mask
     refl (plus_none w.won) refl in
-    (c.fetch_and.result, record { known = recorded l; slots = slots l; same_map = c.fetch_and.ensures.0 })
+    (c.fetch_sub.result, record { known = recorded l; slots = slots l; same_map = c.fetch_sub.ensures.0 })
 
 pub returns-clause-released : goal.returns-clause-released
 returns-clause-released g c =

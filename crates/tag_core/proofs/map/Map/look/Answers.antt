@@ -1,5 +1,5 @@
--- A load changes no word; the record gains the step with what it found, which has the bit of each tag that the caller
--- holds.
+-- A load changes no word. The record gains the step with the word that was found, in which the bit of each tag that the
+-- caller holds is 1.
 use Rattle.std.proofs.Common.{◌≡◌, ℕ, refl, ap, ◌∙◌, subst}
 use Rattle.std.specs.Int.{bit_at}
 use Rattle.tag_layout.specs.Layout.{word_of, place_of}

@@ -1,6 +1,6 @@
--- The step sets the tag's bit in its word's cleared set, which the rule allows to the tag's holder. The caller's mask
+-- The step adds the tag's bit to its word's cleared set, which the rule allows to the tag's holder. The caller's mask
 -- loses that bit, its record gains the step, and the tag's slot stays behind in the table.
-use Rattle.std.proofs.Common.{ℕ, ◌*◌, ◌%◌, ◌^◌, length-set, bit_or, refl, sym, ap, ◌∙◌, subst}
+use Rattle.std.proofs.Common.{ℕ, ◌+◌, ◌*◌, ◌%◌, ◌^◌, length-set, refl, sym, ap, ◌∙◌, subst}
 use mathlib.Core.Option.{none}
 use Rattle.atomic_table.specs.Table.{step, Allows}
 use Rattle.tag_layout.specs.Layout.{word_of, place_of}
@@ -21,17 +21,17 @@ use Rattle.tag_core.proofs.Marking.{word_is, bit_is, marked}
 use Rattle.tag_core.proofs.Holdings.{adds_releases_one}
 use Rattle.tag_core.proofs.map.Map.put.Goals as goal
 
-pub fetch_or-requires : goal.fetch_or-requires
-fetch_or-requires g c =
+pub fetch_add-requires : goal.fetch_add-requires
+fetch_add-requires g c =
     let m = c.args.self.now in let w = c.args.caller.now in let k = w.shape.value in let own = c.requires.caller in
     let u : ℕ = c.args.tag in let has = c.requires.held in let b : ℕ = c.place_of.result in
     let word = c.word_of-word.ensures.value in let place = c.place_of.ensures in
     let a = asked m w own w.seat.id w.seat.me (aside_at (word_of k.layout u)) c.aside_spot.result
-    (λ n. bit_or n (1 * 2 ^ b % 2 ^ 64)) (1 * 2 ^ b % 2 ^ 64) 0 put_aside
+    (λ n. (n + (1 * 2 ^ b % 2 ^ 64)) % 2 ^ 64) (1 * 2 ^ b % 2 ^ 64) 0 put_aside
     (c.aside_spot.ensures ∙ ap aside_at (word_is w u _ b word place.value place.bound))
     (aside_in k.layout (word_of k.layout u) (word_of-below k.layout u has.0))
     (subst (λ (z : ℕ). Allows (Shown k) k.layout.depth w.seat.id w.seat.me (aside_at (word_of k.layout u))
-    (λ n. bit_or n z) (put_aside (step k.layout.depth (aside_at (word_of k.layout u)) z 0 none) w.seat.me))
+    (λ n. (n + z) % 2 ^ 64) (put_aside (step k.layout.depth (aside_at (word_of k.layout u)) z 0 none) w.seat.me))
     (sym (bit_is w u _ b word place.value place.bound))
     (put_allowed g.row.R.Denot k (narrow m w own) w.seat.id w.seat.me (record_of w) w.knows w.carries u has.0 has.1)) in
     (own.0, a.0, a.1)
@@ -40,9 +40,9 @@ pub invariant_of-caller : goal.invariant_of-caller
 invariant_of-caller g c =
     let w = c.args.caller.now in let u : ℕ = c.args.tag in let i : ℕ = word_of w.shape.value.layout u in
     let word = c.word_of-word.ensures.value in let place = c.place_of.ensures in
-    let n : ℕ = c.fetch_or.result in
-    let did = subst (λ (z : ℕ). Stepped (Word (Put i z n)) (record_of w) w.seat.me c.fetch_or.new.seat.me)
-    (bit_is w u _ _ word place.value place.bound) (c.fetch_or.ensures.2 i (record_of w)
+    let n : ℕ = c.fetch_add.result in
+    let did = subst (λ (z : ℕ). Stepped (Word (Put i z n)) (record_of w) w.seat.me c.fetch_add.new.seat.me)
+    (bit_is w u _ _ word place.value place.bound) (c.fetch_add.ensures.2 i (record_of w)
     (c.aside_spot.ensures ∙ ap aside_at (word_is w u _ _ word place.value place.bound)) w.knows) in
     let l = left w did (marked w u _ _ word place.value place.bound without c.index.result.now c.requires.held.0
     c.index.ensures) refl (plus_none w.won) refl in
@@ -51,9 +51,9 @@ invariant_of-caller g c =
 pub returns-clause-step : goal.returns-clause-step
 returns-clause-step g c =
     let w = c.args.caller.now in let u : ℕ = c.args.tag in let i : ℕ = word_of w.shape.value.layout u in
-    let word = c.word_of-word.ensures.value in let place = c.place_of.ensures in let n : ℕ = c.fetch_or.result in
-    let did = subst (λ (z : ℕ). Stepped (Word (Put i z n)) (record_of w) w.seat.me c.fetch_or.new.seat.me)
-    (bit_is w u _ _ word place.value place.bound) (c.fetch_or.ensures.2 i (record_of w)
+    let word = c.word_of-word.ensures.value in let place = c.place_of.ensures in let n : ℕ = c.fetch_add.result in
+    let did = subst (λ (z : ℕ). Stepped (Word (Put i z n)) (record_of w) w.seat.me c.fetch_add.new.seat.me)
+    (bit_is w u _ _ word place.value place.bound) (c.fetch_add.ensures.2 i (record_of w)
     (c.aside_spot.ensures ∙ ap aside_at (word_is w u _ _ word place.value place.bound)) w.knows) in
     let l = left w did (marked w u _ _ word place.value place.bound without c.index.result.now c.requires.held.0
     c.index.ensures) refl (plus_none w.won) refl in (
@@ -62,7 +62,7 @@ returns-clause-step g c =
         known = recorded l ∙ ap (λ (z : Shape). record_after
             (Word (Put (word_of z.layout u) (2 ^ place_of z.layout u) n)) (record_of w)) c.requires.caller.1;
         slots = slots l;
-        same_map = c.fetch_or.ensures.0;
+        same_map = c.fetch_add.ensures.0;
       },
     )
 

@@ -1,6 +1,6 @@
--- The swap moves the cleared set into the caller's sweep, and a second step clears in the word what it found. Where it
+-- The swap moves the cleared set into the caller's sweep, and a second step takes what it found out of the word. Where it
 -- found nothing, the sweep stays empty and there is no second step.
-use Rattle.std.proofs.Common.{arith, ◌≡◌, ℕ, ◌+◌, ◌-◌, ◌^◌, ◌<◌, replicate, get_or, bit_or, bit_and, refl, sym, ap, ◌∙◌, subst}
+use Rattle.std.proofs.Common.{arith, ◌≡◌, ℕ, ◌+◌, ◌-◌, ◌%◌, ◌^◌, ◌<◌, replicate, get_or, bit_or, refl, sym, ap, ◌∙◌, subst}
 use mathlib.Core.Option.{none}
 use Rattle.atomic_table.specs.Table.{step, Allows}
 use Rattle.tag_layout.specs.Layout.{words}
@@ -19,7 +19,7 @@ use Rattle.std.proofs.Common.{◌∷◌}
 use Rattle.atomic_table.specs.Table.{Me}
 use Rattle.tag_core.specs.declared.record.View.{View}
 use Rattle.tag_core.specs.declared.caller.Caller.{Caller}
-use Rattle.tag_core.specs.Views.{alone, steps_of}
+use Rattle.tag_core.specs.Views.{own_view, steps_of}
 use Rattle.tag_core.specs.Rule.{Shown}
 use Rattle.tag_core.proofs.Holdings.{adds_keeps, adds_two_keeps}
 use Rattle.tag_core.proofs.map.Map.sweep.Goals as goal
@@ -53,24 +53,24 @@ returns-then-mask-eq0-clause-none g c =
       same_map = c.swap-mask.ensures.0;
     }
 
-pub fetch_and-requires : goal.fetch_and-requires
-fetch_and-requires g c =
+pub fetch_sub-requires : goal.fetch_sub-requires
+fetch_sub-requires g c =
     let m = c.args.self.now in let w = c.args.caller.now in let k = w.shape.value in let own = c.requires.caller in
     let R = g.row.R.Denot in let i : ℕ = c.args.word in let inside = in_words m w own i c.requires.within in
     let f : ℕ = c.swap-mask.result in
     let did = c.swap-mask.ensures.2 i (record_of w) c.aside_spot.ensures w.knows in
     let r1 : Record R = record_after (Word (Swap i f)) (record_of w) in
     let mask : get_or r1.swept i 0 ≡ f = mask_of (words k.layout) i f inside in let me = c.swap-mask.new.seat.me in
-    let a = asked m w own c.swap-mask.new.seat.id me (word_at i) c.word_spot.result (λ n. bit_and n (2 ^ 64 - 1 - f))
-    (2 ^ 64 - 1 - f) 0 spilled c.word_spot.ensures (word_in k.layout i inside)
+    let a = asked m w own c.swap-mask.new.seat.id me (word_at i) c.word_spot.result (λ n. (n + (2 ^ 64 - f)) % 2 ^ 64)
+    f 0 spilled c.word_spot.ensures (word_in k.layout i inside)
     (subst (λ (z : ℕ). Allows (Shown k) k.layout.depth c.swap-mask.new.seat.id me (word_at i)
-    (λ n. bit_and n (2 ^ 64 - 1 - z)) (spilled (step k.layout.depth (word_at i) (2 ^ 64 - 1 - z) 0 none) me)) mask
+    (λ n. (n + (2 ^ 64 - z)) % 2 ^ 64) (spilled (step k.layout.depth (word_at i) z 0 none) me)) mask
     (spill_allowed R k (narrow m w own) c.swap-mask.new.seat.id me r1 did.view did.carries i inside
     (subst (λ (z : ℕ). z < 2 ^ 64) (sym mask) c.swap-mask.type_inv))) in (c.swap-mask.ensures.0 ∙ own.0, a.0, a.1)
 
 -- the record after both steps
 both : {R : Type 0} (w : Caller R) (i f n : ℕ) (me' : Me R (View R)) → i < words w.shape.value.layout
-    → (did : me'.0 ≡ alone
+    → (did : me'.0 ≡ own_view
     (record_after (Word (Spill i (get_or (record_after (Word (Swap i f)) (record_of w)).swept i 0) n))
     (record_after (Word (Swap i f)) (record_of w))))
     → record {
@@ -105,12 +105,12 @@ invariant_of-caller-2 g c =
     let f : ℕ = c.swap-mask.result in
     let did = c.swap-mask.ensures.2 i (record_of w) c.aside_spot.ensures w.knows in
     let r1 : Record R = record_after (Word (Swap i f)) (record_of w) in
-    let done = c.fetch_and.ensures.2 i r1 c.word_spot.ensures did.view in let me = c.fetch_and.new.seat.me in
+    let done = c.fetch_sub.ensures.2 i r1 c.word_spot.ensures did.view in let me = c.fetch_sub.new.seat.me in
     let mask = mask_of (words k.layout) i f inside in record {
       told = w.told;
-      knows = done.view ∙ (λ j. alone (record_after (Word (Spill i (mask j) c.fetch_and.result)) r1))
-          ∙ ap alone (sym (both w i f c.fetch_and.result me inside done.view));
-      shown = shows (Word (Spill i (get_or r1.swept i 0) c.fetch_and.result)) (r1) c.swap-mask.new.seat.me me done;
+      knows = done.view ∙ (λ j. own_view (record_after (Word (Spill i (mask j) c.fetch_sub.result)) r1))
+          ∙ ap own_view (sym (both w i f c.fetch_sub.result me inside done.view));
+      shown = shows (Word (Spill i (get_or r1.swept i 0) c.fetch_sub.result)) (r1) c.swap-mask.new.seat.me me done;
       carries = done.carries;
       wide = w.wide;
       unspent = w.unspent;
@@ -124,16 +124,16 @@ returns-clause-some g c =
     let f : ℕ = c.swap-mask.result in
     let did = c.swap-mask.ensures.2 i (record_of w) c.aside_spot.ensures w.knows in
     let r1 : Record R = record_after (Word (Swap i f)) (record_of w) in
-    let done = c.fetch_and.ensures.2 i r1 c.word_spot.ensures did.view in let me = c.fetch_and.new.seat.me in
+    let done = c.fetch_sub.ensures.2 i r1 c.word_spot.ensures did.view in let me = c.fetch_sub.new.seat.me in
     λ _. (
       f,
-      c.fetch_and.result,
+      c.fetch_sub.result,
       c.if-mask-eq0.false,
       c.swap-mask.type_inv,
       record {
-        known = both w i f c.fetch_and.result me inside done.view;
+        known = both w i f c.fetch_sub.result me inside done.view;
         slots = λ t was is. done.values t was.0 was.1 was.1 ∙ did.values t was.0 was.1 was.1;
-        same_map = c.fetch_and.ensures.0 ∙ c.swap-mask.ensures.0;
+        same_map = c.fetch_sub.ensures.0 ∙ c.swap-mask.ensures.0;
       },
     )
 

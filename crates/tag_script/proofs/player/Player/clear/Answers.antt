@@ -3,7 +3,7 @@ use Rattle.std.proofs.Common.{◌≡◌, ◌+◌, sym, ap, subst, ◌∙◌, ari
 use Rattle.std.proofs.lemmas.Bool.{false≢true, false_from_ne_true}
 use Rattle.tag_layout.specs.Layout.{Layout}
 use Rattle.std.specs.Prelude.{IsTrue, if◌then◌else◌, Ok}
-use Rattle.tag_search.specs.Plain.{words_of}
+use Rattle.tag_search.specs.Plain.{plain_words}
 use Rattle.tag_search.specs.Pool.{pool_of}
 use Rattle.tag_script.specs.Players.{solo_of}
 use Rattle.tag_script.specs.Solo.{Solo, Clears, put_back, no_such_tag, not_held, cleared}
@@ -30,7 +30,7 @@ returns c =
     let done : put_back c.args.tag (solo_of c.args.self.now) ≡ record {
       layout = q.layout;
       least = c.args.self.now.least;
-      pool = pool_of (words_of q);
+      pool = pool_of (plain_words q);
       hint = c.after_clear.new.hint;
       won = c.args.self.now.won;
       back = c.args.self.now.back + 1;

@@ -3,7 +3,7 @@ use Rattle.std.proofs.Common.{◌≡◌, ℕ, ◌≤◌, ◌<◌, ◌+◌, ◌-�
 use Rattle.std.specs.Prelude.{if◌then◌else◌, Ok}
 use Rattle.std.specs.List.{All, Any}
 use Rattle.tag_layout.specs.Layout.{Layout}
-use Rattle.tag_search.specs.Plain.{words_of}
+use Rattle.tag_search.specs.Plain.{plain_words}
 use Rattle.tag_search.specs.Pool.{pool_of}
 use Rattle.tag_script.specs.Players.{solo_of}
 use Rattle.tag_script.specs.Solo.{Solo, ClearsBatch, give_back, bad_count, no_such_tag, not_held, cleared}
@@ -51,7 +51,7 @@ returns c =
     let done : give_back tags (solo_of c.args.self.now) ≡ record {
       layout = q.layout;
       least = c.args.self.now.least;
-      pool = pool_of (words_of q);
+      pool = pool_of (plain_words q);
       hint = c.after_clear.new.hint;
       won = c.args.self.now.won;
       back = c.args.self.now.back + length tags;

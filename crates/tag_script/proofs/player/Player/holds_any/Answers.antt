@@ -4,7 +4,7 @@ use Rattle.std.proofs.Math.Bool.{and-false}
 use Rattle.std.specs.Int.{bit_not, w64}
 use Rattle.tag_layout.specs.Layout.{word_of, place_of, tag_at}
 use Rattle.tag_layout.proofs.PlaceFacts.{word_of-tag_at, place_of-tag_at}
-use Rattle.tag_search.specs.Plain.{words_of}
+use Rattle.tag_search.specs.Plain.{plain_words}
 use Rattle.tag_search.specs.Pool.{pool_of, is_busy}
 use Rattle.tag_script.proofs.CountFacts.{idle_place, zero_of}
 use Rattle.tag_script.proofs.player.Player.holds_any.Goals as goal
@@ -22,7 +22,7 @@ returns-clause-none c no_bit place low =
     let fits : slice_index p.aside i < 2 ^ 64 = omega (arith, aside_is) in
     let tag : ℕ = tag_at l i place in
     let word = word_of-tag_at l i place (omega arith) in let bit = place_of-tag_at l i place (omega arith) in
-    let idle : is_busy (pool_of (words_of p)) (word_of l tag) (place_of l tag) ≡ false =
-    ap (λ (w : ℕ). is_busy (pool_of (words_of p)) w (place_of l tag)) word
-    ∙ ap (is_busy (pool_of (words_of p)) i) bit ∙ idle_place p i place (omega arith) fits none in
+    let idle : is_busy (pool_of (plain_words p)) (word_of l tag) (place_of l tag) ≡ false =
+    ap (λ (w : ℕ). is_busy (pool_of (plain_words p)) w (place_of l tag)) word
+    ∙ ap (is_busy (pool_of (plain_words p)) i) bit ∙ idle_place p i place (omega arith) fits none in
     ap (λ (b : Bool). nat_lt tag l.depth && b) idle ∙ and-false (nat_lt tag l.depth)

@@ -5,7 +5,7 @@ use Rattle.tag_search.specs.Plain.{Plain}
 use Rattle.tag_core.specs.declared.word_step.WordStep.TheVariants.{Swap, Spill}
 use Rattle.tag_search.specs.Search.{empty, spilled}
 use Rattle.tag_core.specs.Steps.{without}
-use Rattle.tag_search.specs.Writes.{Writes, IsIn}
+use Rattle.tag_search.specs.Writes.{WritesBits, IsIn}
 use Rattle.tag_search.proofs.Seen.{seen, swept, aside_found}
 use Rattle.tag_search.proofs.PlainFacts.{ran_empty, ran_sweep}
 use Rattle.tag_search.proofs.Writings.{writes_without, tidy_sweep}
@@ -37,7 +37,7 @@ returns-clause-word c =
     let has = swept p c.self.invariant i near mask found c.index-mask.ensures c.index_mut-2.ensures.value in
     let fits : found < 2 ^ 64 = omega arith in let narrow : mask < 2 ^ 64 = omega arith in
     rw (← c.self.view_is)
-    (subst (λ (x : ℕ). Writes p.word (set p.word i (without found mask)) i (IsIn x) 0) has.aside_is
+    (subst (λ (x : ℕ). WritesBits p.word (set p.word i (without found mask)) i (IsIn x) 0) has.aside_is
     (writes_without p.word i found mask has.in_word has.word_is fits narrow))
 
 pub returns-clause-steps : goal.returns-clause-steps

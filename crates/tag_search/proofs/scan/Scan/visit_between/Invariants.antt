@@ -1,6 +1,6 @@
 -- So far every visit won nothing, and a search of the words left completes the search.
 use Rattle.std.proofs.Common.{◌≡◌, map}
-use Rattle.tag_search.specs.Added.{Adds, SameRoom}
+use Rattle.tag_search.specs.Added.{AddsSteps, SameRoom}
 use Rattle.tag_search.specs.Order.{numbers}
 use Rattle.tag_search.specs.Scans.{reach_of}
 use Rattle.tag_search.specs.Visits.{visit_of}
@@ -13,6 +13,6 @@ invariant-loop-word g l = record {
   sizes : g.P.Port.sizes l.port ≡ g.P.Port.sizes l.fn.port;
   room : SameRoom (λ p n. g.P.Port.has_room p n) l.fn.port l.port;
   begun : let visit = visit_of l.self.first (reach_of l.self) in
-      Adds (λ p steps q. g.P.Port.adds p steps q) l.fn.port l.port
+      AddsSteps (λ p steps q. g.P.Port.adds p steps q) l.fn.port l.port
       (IsSearchBegun l.self.layout (map visit (numbers l.fn.from l.end)) (map visit (numbers l.word l.end)));
 }

@@ -2,7 +2,7 @@
 use Rattle.std.proofs.Common.{◌≡◌, ℕ, List, ◌∷◌, get_or, take, Some, arith, sym, ap, ◌∙◌, subst}
 use Rattle.tag_layout.specs.Layout.{words, word_of}
 use Rattle.tag_search.specs.Batch.{batch_words}
-use Rattle.tag_search.specs.Choice.{HasNoRun, IsOpenRun, IsBatchChoice}
+use Rattle.tag_search.specs.Choice.{HasNoRun, IsAvailableRun, IsBatchChoice}
 use Rattle.tag_search.specs.Hints.{reduced}
 use Rattle.tag_search.specs.Marks.{pool_of_marks}
 use Rattle.tag_search.specs.Pool.{Pool}
@@ -40,11 +40,11 @@ returns-in-Some-clause-choice c =
     let order = batch_from l c.args.hint.at c.reduced.result c.depth.result c.shift.result c.words.result items _
     c.shift.ensures.value (omega arith) c.depth.ensures.value c.reduced.ensures c.words.ensures.value
     c.deref-word-items.ensures.value c.in_ok-order.ensures in
-    let word : ℕ = get_or items at 0 in let place = c.in-Some.place in let bits = c.open_bits-bits.result in
-    let run : IsOpenRun l c.args.n p word place bits = record {
+    let word : ℕ = get_or items at 0 in let place = c.in-Some.place in let bits = c.available_bits-bits.result in
+    let run : IsAvailableRun l c.args.n p word place bits = record {
       least = c.in-Some.ensures.run;
       fits = c.in-Some.ensures.fits;
-      won = c.open_bits-bits.ensures;
+      won = c.available_bits-bits.ensures;
     } in
     let new : Pool = pool_of_marks l c.in_ok-marks.marks.free.items c.in_ok-marks.marks.aside.items in
     let swept : c.deref.result.now ≡ word ∷ take at items =

@@ -1,4 +1,4 @@
--- The words passed have no open place, so the first word with a free or aside place decides the choice.
+-- The words passed have no available place, so the first word with a free or aside place decides the choice.
 use Rattle.std.proofs.Common.{◌≡◌, ℕ, false, List, ◌∷◌, get_or, take, Some, sym, ap, ◌∙◌, subst}
 use Rattle.std.specs.Prelude.{All}
 use Rattle.tag_search.specs.Choice.{IsFree, IsSet, IsAside, IsFirst, IsFull, IsChoice}

@@ -1,4 +1,4 @@
--- The words passed are those at the front of the order; none has an open place in its rank, and all are swept.
+-- The words passed are those at the front of the order; none has an available place in its rank, and all are swept.
 use Rattle.std.proofs.Common.{◌≡◌, take}
 use Rattle.tag_search.specs.Marks.{pool_of_marks}
 use Rattle.tag_search.specs.Scans.{limit_of}

@@ -1,5 +1,6 @@
--- Both agents of each hand are unchanged, and so are the hands.
-use Rattle.tag_sets.proofs.Uniting.{unchanged}
+-- In each set both agents are unchanged and hold no tag in common; so are the hands, and so do they.
+use Rattle.std.proofs.Common.{sym, ◌∙◌}
+use Rattle.tag_sets.proofs.Uniting.{unchanged, hold_apart}
 use Rattle.tag_sets.proofs.tags.Tags.meet.Goals as goal
 
 pub returns-clause-unchanged : goal.returns-clause-unchanged
@@ -9,3 +10,9 @@ returns-clause-unchanged g c = (
   unchanged c.args.second.now c.meet.new.second c.meet-2.new.second c.meet.ensures.unchanged.1
       c.meet-2.ensures.unchanged.1,
 )
+
+pub returns-clause-apart : goal.returns-clause-apart
+returns-clause-apart g c =
+    hold_apart (record c.args.first.now { reserved = c.meet.new.first; ordinary = c.meet-2.new.first })
+    (record c.args.second.now { reserved = c.meet.new.second; ordinary = c.meet-2.new.second })
+    (c.requires.hands.0.2 ∙ sym c.requires.hands.1.2) c.meet.ensures.apart c.meet-2.ensures.apart

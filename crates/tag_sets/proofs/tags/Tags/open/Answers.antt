@@ -1,5 +1,6 @@
 -- Both queues have as many agents as the options say, in the order of their numbers, so these pair up as hands.
 use Rattle.std.proofs.Common.{sym, ◌∙◌}
+use Rattle.tag_queue.specs.Opening.{HasFirstHint}
 use Rattle.tag_sets.proofs.Opening.{as_many, opens}
 use Rattle.tag_sets.proofs.tags.Tags.open.Goals as goal
 
@@ -8,5 +9,5 @@ join-requires g c = as_many _ c.in-Ok.set _ c.in-Ok.ensures.ok
     ∙ sym (as_many c.args.options c.in_ok-ordinary.ordinary _ c.in_ok-ordinary.ensures.ok)
 
 pub returns-clause-ok : goal.returns-clause-ok
-returns-clause-ok g c = opens c.args.options _ c.in-Ok-join.hands.items _ _ c.in-Ok-join.ensures c.in-Ok.ensures.ok
-    c.in_ok-ordinary.ensures.ok
+returns-clause-ok g c = opens HasFirstHint c.args.options _ c.in-Ok-join.hands.items _ _ c.in-Ok-join.ensures
+    c.in-Ok.ensures.ok c.in_ok-ordinary.ensures.ok

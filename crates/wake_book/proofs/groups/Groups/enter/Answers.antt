@@ -2,7 +2,7 @@
 use Rattle.std.proofs.Common.{arith, ◌≡◌, ℕ, ◌+◌, ◌%◌, ◌^◌, length, ◌∷◌, [], Some, refl, sym, ap, ◌∙◌}
 use Rattle.atomic_table.specs.Table.{Me}
 use Rattle.step_ledger.specs.declared.record.View.{View}
-use Rattle.step_ledger.specs.Views.{alone, steps_of, with_step, Stepped}
+use Rattle.step_ledger.specs.Views.{own_view, steps_of, with_step, Stepped}
 use Rattle.wake_book.specs.declared.groups.Waiter.{Waiter}
 use Rattle.wake_book.specs.declared.steps.GroupStep.{GroupStep}
 use Rattle.wake_book.specs.declared.steps.GroupStep.TheVariants.{Raise, Enter}
@@ -16,7 +16,7 @@ use Rattle.wake_book.proofs.groups.Groups.enter.Goals as goal
 
 module _ (w : Waiter) (active : ℕ) (me : Me (Unit {0}) (View GroupStep))
     (did : Stepped (Raise active) w.seat.me me) where
-  raised_is : me ≡ (alone (with_step (Raise active) (record_of w)), [])
+  raised_is : me ≡ (own_view (with_step (Raise active) (record_of w)), [])
   raised_is = made (record_of w) w.seat.me me w.knows (Raise active) did
 
   module _ (found : ℕ) (me' : Me (Unit {0}) (View GroupStep)) (next : Stepped (Enter w.next found) me me') where
@@ -41,10 +41,10 @@ pub fetch_add-requires-2 : goal.fetch_add-requires-2
 fetch_add-requires-2 c = let g = c.args.self.now in let w = c.args.waiter.now in let wide = g.wide.0 in
     let slots = g.table.shared.table_id.slots in let seat = c.fetch_add.new.seat in
     let knows = raised_is w c.fetch_add.result seat.me c.fetch_add.ensures.2 in
-    let in_range = w.within in let at = c.place_of.ensures in (
+    let in_range = w.within in let at = c.group_spot.ensures in (
       c.fetch_add.ensures.0 ∙ c.requires.groups,
       omega arith,
-      keeps.placed g.table.shared.key (few g) slots seat.id seat.me _ (ap (λ z. z.0) knows) c.place_of.result w.next at
+      keeps.placed g.table.shared.key (few g) slots seat.id seat.me _ (ap (λ z. z.0) knows) c.group_spot.result w.next at
           (λ v. (v + one_waiting) % 2 ^ 64) one_waiting 0 entering
           (keeps.enter g.table.shared.key (few g) slots seat.id seat.me
           (with_step (Raise c.fetch_add.result) (record_of w)) (ap (λ z. z.0) knows) w.next w.within refl
@@ -54,14 +54,14 @@ fetch_add-requires-2 c = let g = c.args.self.now in let w = c.args.waiter.now in
 pub invariant_of-waiter : goal.invariant_of-waiter
 invariant_of-waiter c = let w = c.args.waiter.now in
     entered w c.fetch_add.result c.fetch_add.new.seat.me c.fetch_add.ensures.2 c.fetch_add-2.result
-    c.fetch_add-2.new.seat.me (c.fetch_add-2.ensures.2 w.next c.place_of.ensures)
+    c.fetch_add-2.new.seat.me (c.fetch_add-2.ensures.2 w.next c.group_spot.ensures)
 
 pub returns-clause-steps : goal.returns-clause-steps
 returns-clause-steps c = let w = c.args.waiter.now in (
   c.fetch_add.result,
   c.fetch_add-2.result,
   entered_steps w c.fetch_add.result c.fetch_add.new.seat.me c.fetch_add.ensures.2 c.fetch_add-2.result
-      c.fetch_add-2.new.seat.me (c.fetch_add-2.ensures.2 w.next c.place_of.ensures),
+      c.fetch_add-2.new.seat.me (c.fetch_add-2.ensures.2 w.next c.group_spot.ensures),
 )
 
 pub returns-clause-bound : goal.returns-clause-bound

@@ -1,6 +1,0 @@
--- The hand stays one of the tags'.
-use Rattle.tag_sets.specs.Hands.{IsHandOf}
-use Rattle.tag_sets.proofs.tests.threads.take_posted.Given as goal
-
-abbrev pub invariant-loop-tag : goal.invariant-loop-tag
-invariant-loop-tag l = record { own : IsHandOf l.tags l.hand }

@@ -1,0 +1,5 @@
+-- The caller stays one of the tags' own.
+use Rattle.tag_tests.proofs.tests.jobs.take_posted.Given as goal
+
+abbrev pub invariant-loop-tag : goal.invariant-loop-tag
+invariant-loop-tag g l = g.T.Shared.is_own l.tags l.caller

@@ -1,0 +1,14 @@
+-- The failed gather handed back what was passed in, so with the missing hand all belong to the same tags.
+use Rattle.std.proofs.Common.{ℕ, [], ◌∷◌, ◌++◌, All, sym, ap, ◌∙◌, subst}
+use Rattle.std.proofs.lemmas.List.Elements.{All-push}
+use Rattle.tag_sets.specs.declared.tags.Tags.{Tags}
+use Rattle.tag_sets.specs.Hands.{IsHandOf}
+use Rattle.tag_tests.proofs.tests.sets.excerpts.a_pool_is_shown_and_closed.Goals as goal
+
+pub gather-requires-2 : goal.gather-requires-2
+gather-requires-2 g c =
+    let tags = c.in_ok-tags.tags in let same = c.in-Err.ensures.err in
+    let items = c.in_ok-push.ensures.items ∙ ap (λ v. v.items ++ c.post.new.hand ∷ []) same.1 in
+    subst (λ (t : Tags ℕ). All (IsHandOf t) c.push.new.self.items) (sym same.0)
+    (subst (All (IsHandOf tags)) (sym items)
+    (All-push (IsHandOf tags) c.next_hand.new.hands.items c.post.new.hand c.next_hand.ensures.own c.post.ensures.hand))

@@ -1,0 +1,12 @@
+//! Worked examples, refusals, want of memory, and threads.
+mod answers;
+mod calls;
+mod crowd;
+mod jobs;
+mod queue;
+mod sets;
+mod shared;
+mod stage;
+mod tally;
+mod threads;
+mod totals;

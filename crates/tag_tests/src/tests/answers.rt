@@ -1,0 +1,60 @@
+//! Answers to calls.
+use tag_queue::{TagFault, Wakes};
+use tag_sets::Shown as Sums;
+use wake_book::Left as Leave;
+
+/// The answer to a call.
+#[derive(Clone, Copy, Debug, PartialEq, Eq)]
+pub(crate) enum Answer {
+    Tag(u32),
+    /// The first tag of a batch, and its mask.
+    Batch(u32, u64),
+    /// No tag, or nothing to show.
+    Nothing,
+    Value(u64),
+    Held(bool),
+    Done,
+    /// Waiters woken.
+    Woken(u32),
+    Group(u32),
+    Left(Leave),
+    /// Completions counted and charged, the wake index, and the active count.
+    Found(u64, u64, u32, u64),
+    Shown(Sums),
+    Refused(TagFault),
+    /// No caller has this index.
+    Nobody,
+}
+
+/// The answer of a call, or the fault for which it was refused.
+pub(crate) fn answered(called: Result<Answer, TagFault>) -> Answer {
+    match called {
+        Ok(answer) => answer,
+        Err(fault) => Answer::Refused(fault),
+    }
+}
+
+pub(crate) fn tag(found: Option<u32>) -> Answer {
+    match found {
+        Some(tag) => Answer::Tag(tag),
+        None => Answer::Nothing,
+    }
+}
+
+pub(crate) fn batch(found: Option<(u32, u64)>) -> Answer {
+    match found {
+        Some((first, mask)) => Answer::Batch(first, mask),
+        None => Answer::Nothing,
+    }
+}
+
+pub(crate) fn shown(found: Option<Sums>) -> Answer {
+    match found {
+        Some(sums) => Answer::Shown(sums),
+        None => Answer::Nothing,
+    }
+}
+
+pub(crate) fn counts(found: Wakes) -> Answer {
+    Answer::Found(found.counted, found.charged, found.index, found.active)
+}

@@ -1,0 +1,107 @@
+//! Calls that the callers of a stage make one after another.
+use crate::tests::answers::{Answer, answered, batch, counts, shown, tag};
+use crate::tests::shared::Shared;
+use crate::tests::stage::Stage;
+use std::sync::Wait;
+use tag_sets::Kind;
+
+/// A call of a caller, with its arguments.
+#[derive(Clone, Copy, Debug, PartialEq, Eq)]
+pub(crate) enum Call {
+    Place,
+    Get,
+    GetReserved,
+    GetShallow(u32),
+    GetBatch(u32),
+    GetBlocking,
+    Clear(u32),
+    ClearUncounted(u32),
+    /// A batch clear of two tags.
+    ClearBoth(u32, u32),
+    Read(u32),
+    Write(u32, u64),
+    Post(u32),
+    Take(u32),
+    Holds(u32),
+    PrepareWait,
+    FinishWait,
+    Wakes,
+    Show(Kind),
+}
+
+/// Makes a call.
+pub(crate) fn act<T: Shared, W: Wait>(
+    rt: &W,
+    tags: &T,
+    caller: &mut T::Caller,
+    call: Call,
+) -> Answer
+    requires { T.is_own tags.now caller.old }
+    ensures { T.is_own tags.now caller.new }
+{
+    match call {
+        Call::Place => {
+            tags.place(caller);
+            Answer::Done
+        }
+        Call::Get => answered(tags.get(caller).map(tag)),
+        Call::GetReserved => answered(tags.get_reserved(caller).map(tag)),
+        Call::GetShallow(depth) => answered(tags.get_shallow(caller, depth).map(tag)),
+        Call::GetBatch(count) => answered(tags.get_batch(caller, count).map(batch)),
+        Call::GetBlocking => answered(tags.get_blocking(rt, caller).map(Answer::Tag)),
+        Call::Clear(tag) => answered(tags.clear(caller, tag).map(Answer::Woken)),
+        Call::ClearUncounted(tag) => answered(tags.clear_uncounted(caller, tag).map(Answer::Woken)),
+        Call::ClearBoth(one, other) => {
+            answered(tags.clear_batch(caller, &[one, other]).map(Answer::Woken))
+        }
+        Call::Read(tag) => answered(tags.read(caller, tag).map(Answer::Value)),
+        Call::Write(tag, new) => answered(tags.write(caller, tag, new).map(Answer::Value)),
+        Call::Post(tag) => answered(tags.post(caller, tag).map(|()| Answer::Done)),
+        Call::Take(tag) => answered(tags.take(caller, tag).map(|()| Answer::Done)),
+        Call::Holds(tag) => Answer::Held(tags.has(caller, tag)),
+        Call::PrepareWait => answered(tags.prepare_wait(caller).map(Answer::Group)),
+        Call::FinishWait => answered(tags.finish_wait(rt, caller).map(Answer::Left)),
+        Call::Wakes => counts(tags.wakes(caller)),
+        Call::Show(kind) => shown(tags.show(caller, kind)),
+    }
+}
+
+impl<T: Shared> Stage<T> {
+    /// Makes a call with the caller at this index, and returns its answer, or `None` if there is no such caller.
+    pub(crate) fn act<W: Wait>(&mut self, rt: &W, at: usize, call: Call) -> Option<Answer> {
+        Some(act(rt, &self.tags, self.callers.get_mut(at)?, call))
+    }
+
+    /// Makes the calls in order, up to the first whose answer differs from the one expected. Returns that call, who
+    /// made it, and its answer.
+    pub(crate) fn wrong<W: Wait>(
+        &mut self,
+        rt: &W,
+        said: &[(usize, Call, Answer)],
+    ) -> Option<(usize, Call, Answer)> {
+        for (at, call, answer) in said {
+            let found = self.act(rt, *at, *call).unwrap_or(Answer::Nobody);
+            if found != *answer {
+                return Some((*at, *call, found));
+            }
+        }
+        None
+    }
+
+    /// Makes this many gets, and returns how many of them won a tag.
+    pub(crate) fn gets<W: Wait>(&mut self, rt: &W, at: usize, count: u32) -> u32 {
+        let mut won = 0u32;
+        for _ in 0..count {
+            if let Some(Answer::Tag(_)) = self.act(rt, at, Call::Get) {
+                won = won.wrapping_add(1);
+            }
+        }
+        won
+    }
+
+    /// Clears these tags in a batch, and returns the answer.
+    pub(crate) fn clear_batch(&mut self, at: usize, tags: &[u32]) -> Option<Answer> {
+        let cleared = self.tags.clear_batch(self.callers.get_mut(at)?, tags);
+        Some(answered(cleared.map(Answer::Woken)))
+    }
+}

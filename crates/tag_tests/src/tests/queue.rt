@@ -1,0 +1,213 @@
+//! A queue with its agents.
+ghost use Rattle.std.specs.Prelude.{All, IfOk, IfErr};
+ghost use Rattle.std.specs.Coded.{codes};
+ghost use Rattle.tag_queue.specs.Agents.{IsAgentOf, Holds};
+
+mod clears;
+mod example;
+mod faults;
+mod gathering;
+mod gets;
+mod memory;
+mod opening;
+mod resizing;
+mod slots;
+mod waits;
+
+use crate::tests::shared::Shared;
+use crate::tests::stage::Stage;
+use crate::tests::totals::FILL;
+use std::alloc::Global;
+use std::sync::Wait;
+use std::test::Fail;
+use step_ledger::{GatherCause, Numbered};
+use tag_queue::{Agent, Options, Queue, QueueTotals, ResizeCause, TagFault, Wakes};
+use tag_sets::{Kind, Shown};
+use wake_book::Left;
+
+impl Shared for Queue<u64> {
+    type Caller = Agent<u64>;
+
+    ghost is_own = { IsAgentOf };
+
+    ghost is_fact = { λ tags caller. Prim.hlevel codes };
+
+    ghost holds = { Holds };
+
+    fn number(agent: &Agent<u64>) -> u32 {
+        Numbered::number(agent)
+    }
+
+    fn place(&self, agent: &mut Agent<u64>) {
+        Queue::place(self, agent);
+    }
+
+    fn get(&self, agent: &mut Agent<u64>) -> Result<Option<u32>, TagFault> {
+        Queue::get(self, agent)
+    }
+
+    fn get_reserved(&self, _agent: &mut Agent<u64>) -> Result<Option<u32>, TagFault> {
+        Err(TagFault::NoReserved)
+    }
+
+    fn get_shallow(&self, agent: &mut Agent<u64>, depth: u32) -> Result<Option<u32>, TagFault> {
+        Queue::get_shallow(self, agent, depth)
+    }
+
+    fn get_batch(
+        &self,
+        agent: &mut Agent<u64>,
+        count: u32,
+    ) -> Result<Option<(u32, u64)>, TagFault> {
+        Queue::get_batch(self, agent, count)
+    }
+
+    fn get_blocking<W: Wait>(&self, rt: &W, agent: &mut Agent<u64>) -> Result<u32, TagFault> {
+        Queue::get_blocking(self, rt, agent)
+    }
+
+    fn clear(&self, agent: &mut Agent<u64>, tag: u32) -> Result<u32, TagFault> {
+        Queue::clear(self, agent, tag)
+    }
+
+    fn clear_uncounted(&self, agent: &mut Agent<u64>, tag: u32) -> Result<u32, TagFault> {
+        Queue::clear_uncounted(self, agent, tag)?;
+        Ok(0)
+    }
+
+    fn clear_batch(&self, agent: &mut Agent<u64>, tags: &[u32]) -> Result<u32, TagFault> {
+        Queue::clear_batch(self, agent, tags)
+    }
+
+    fn read(&self, agent: &mut Agent<u64>, tag: u32) -> Result<u64, TagFault> {
+        Queue::read(self, agent, tag)
+    }
+
+    fn write(&self, agent: &mut Agent<u64>, tag: u32, value: u64) -> Result<u64, TagFault> {
+        Queue::write(self, agent, tag, value)
+    }
+
+    fn post(&self, agent: &mut Agent<u64>, tag: u32) -> Result<(), TagFault> {
+        Queue::post(self, agent, tag)
+    }
+
+    fn take(&self, agent: &mut Agent<u64>, tag: u32) -> Result<(), TagFault> {
+        Queue::take(self, agent, tag)
+    }
+
+    fn has(&self, agent: &mut Agent<u64>, tag: u32) -> bool {
+        match Queue::read(self, agent, tag) {
+            Err(TagFault::NoSuchTag) => false,
+            _ => agent.holds(tag),
+        }
+    }
+
+    fn agrees(&self, agent: &mut Agent<u64>, tag: u32) -> bool {
+        self.has(agent, tag)
+    }
+
+    fn show(&self, _agent: &mut Agent<u64>, _kind: Kind) -> Option<Shown> {
+        None
+    }
+
+    fn prepare_wait(&self, agent: &mut Agent<u64>) -> Result<u32, TagFault> {
+        Queue::prepare_wait(self, agent)
+    }
+
+    fn finish_wait<W: Wait>(&self, rt: &W, agent: &mut Agent<u64>) -> Result<Left, TagFault> {
+        Queue::finish_wait(self, rt, agent)
+    }
+
+    fn wakes(&self, agent: &mut Agent<u64>) -> Wakes {
+        Queue::wakes(self, agent)
+    }
+
+    fn meet(&self, first: &mut Agent<u64>, second: &mut Agent<u64>) {
+        Queue::meet(self, first, second);
+    }
+
+    fn apart(&self, first: &mut Agent<u64>, second: &mut Agent<u64>, tag: u32) {
+        Queue::apart(self, first, second, tag);
+    }
+
+    fn gather(
+        self,
+        agents: Vec<Agent<u64>>,
+    ) -> Result<QueueTotals, (GatherCause, Queue<u64>, Vec<Agent<u64>>)>
+        requires { All (IsAgentOf self) agents.items }
+        ensures own { IfErr result (λ back. All (IsAgentOf back.1) back.2.items) }
+        ensures others { IfErr result (λ back. (c : _) → IsAgentOf self c → IsAgentOf back.1 c) }
+    {
+        match Queue::gather(self, agents) {
+            Ok(totals) => Ok(totals),
+            Err(fault) => Err((fault.cause, fault.queue, fault.agents)),
+        }
+    }
+
+    fn resize(
+        self,
+        alloc: Global,
+        agents: Vec<Agent<u64>>,
+        depth: u32,
+    ) -> Result<(Queue<u64>, Vec<Agent<u64>>), (ResizeCause, Queue<u64>, Vec<Agent<u64>>)>
+        requires { All (IsAgentOf self) agents.items }
+        ensures ok { IfOk result (λ next. All (IsAgentOf next.0) next.1.items) }
+        ensures own { IfErr result (λ back. All (IsAgentOf back.1) back.2.items) }
+        ensures others { IfErr result (λ back. (c : _) → IsAgentOf self c → IsAgentOf back.1 c) }
+    {
+        match Queue::resize(alloc, self, agents, depth) {
+            Ok(next) => Ok(next),
+            Err(fault) => Err((fault.cause, fault.queue, fault.agents)),
+        }
+    }
+}
+
+impl Stage<Queue<u64>> {
+    /// Opens a queue whose slots contain `FILL`.
+    pub(crate) fn of_queue(
+        alloc: Global,
+        depth: u32,
+        options: Options,
+    ) -> Result<Stage<Queue<u64>>, Fail> {
+        let (queue, agents) = Queue::open(alloc, depth, options, FILL)?;
+        Ok(Stage::of(alloc, queue, agents))
+    }
+
+    /// Opens such a queue with its agents placed.
+    fn of_queue_placed(
+        alloc: Global,
+        depth: u32,
+        options: Options,
+    ) -> Result<Stage<Queue<u64>>, Fail> {
+        let (queue, agents) = Queue::open_placed(alloc, depth, options, FILL)?;
+        Ok(Stage::of(alloc, queue, agents))
+    }
+
+    /// Returns how many tags are held and how many are posted.
+    fn in_use(self) -> Result<(u64, u64, Stage<Queue<u64>>), (GatherCause, Stage<Queue<u64>>)> {
+        let Stage {
+            tags,
+            callers,
+            away,
+        } = self;
+        match Queue::in_use(tags, callers) {
+            Ok(usage) => Ok((
+                usage.held,
+                usage.posted,
+                Stage {
+                    tags: usage.queue,
+                    callers: usage.agents,
+                    away,
+                },
+            )),
+            Err(fault) => Err((
+                fault.cause,
+                Stage {
+                    tags: fault.queue,
+                    callers: fault.agents,
+                    away,
+                },
+            )),
+        }
+    }
+}

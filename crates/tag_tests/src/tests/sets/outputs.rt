@@ -1,0 +1,117 @@
+//! Shows, lists and dumps, and how they are written.
+use crate::tests::answers::Answer;
+use crate::tests::calls::Call::{Clear, GetReserved, Show};
+use crate::tests::stage::Stage;
+use crate::tests::totals::{in_words, options};
+use std::test::Fail;
+use tag_sets::{Kind, Shown, write_dump, write_show};
+
+#[test]
+fn a_show_counts_what_is_busy_and_what_is_aside(rt: HostRuntime) -> Result<(), Fail> {
+    let mut stage = Stage::of_sets(rt.alloc(), 9, 1, in_words(2, 1))?;
+    assert_eq!(rt; stage.gets(&rt, 0, 3), 3);
+    let ordinary = Shown {
+        depth: 8,
+        busy: 2,
+        cleared: 1,
+        bits_per_word: 4,
+        map_nr: 2,
+    };
+    let reserved = Shown {
+        depth: 1,
+        busy: 1,
+        cleared: 0,
+        bits_per_word: 4,
+        map_nr: 1,
+    };
+    assert_eq!(rt;
+        stage.wrong(
+            &rt,
+            &[
+                (0, GetReserved, Answer::Tag(0)),
+                (0, Clear(2), Answer::Woken(0)),
+                (0, Show(Kind::Ordinary), Answer::Shown(ordinary)),
+                (0, Show(Kind::Reserved), Answer::Shown(reserved)),
+            ]
+        ),
+        None
+    );
+    Ok(())
+}
+
+#[test]
+fn a_set_without_tags_shows_a_map_without_words(rt: HostRuntime) -> Result<(), Fail> {
+    let mut stage = Stage::of_sets(rt.alloc(), 8, 0, options(1))?;
+    let none = Shown {
+        depth: 0,
+        busy: 0,
+        cleared: 0,
+        bits_per_word: 64,
+        map_nr: 0,
+    };
+    assert_eq!(rt;
+        stage.wrong(&rt, &[(0, Show(Kind::Reserved), Answer::Shown(none))]),
+        None
+    );
+    assert_eq!(rt; stage.dump(0, Kind::Reserved), Some((0, [0xaa; 3])));
+    Ok(())
+}
+
+#[test]
+fn busy_tags_of_both_sets_are_listed(rt: HostRuntime) -> Result<(), Fail> {
+    let mut stage = Stage::of_sets(rt.alloc(), 70, 3, options(1))?;
+    assert_eq!(rt; stage.gets(&rt, 0, 62), 62);
+    assert_eq!(rt;
+        stage.wrong(
+            &rt,
+            &[
+                (0, GetReserved, Answer::Tag(0)),
+                (0, Clear(4), Answer::Woken(0)),
+            ]
+        ),
+        None
+    );
+    assert_eq!(rt; stage.busy(0), Some((62, [0xffff_ffff_ffff_ffe9, 1])));
+    Ok(())
+}
+
+#[test]
+fn a_dump_packs_the_low_bit_first(rt: HostRuntime) -> Result<(), Fail> {
+    let mut stage = Stage::of_sets(rt.alloc(), 10, 0, in_words(2, 1))?;
+    assert_eq!(rt; stage.gets(&rt, 0, 10), 10);
+    assert_eq!(rt; stage.wrong(&rt, &[(0, Clear(1), Answer::Woken(0))]), None);
+    assert_eq!(rt;
+        stage.dump(0, Kind::Ordinary),
+        Some((2, [0xfd, 0x03, 0xaa]))
+    );
+    Ok(())
+}
+
+#[test]
+fn a_show_is_written_in_five_lines(rt: HostRuntime) -> Result<(), Fail> {
+    let shown = Shown {
+        depth: 8,
+        busy: 2,
+        cleared: 1,
+        bits_per_word: 4,
+        map_nr: 2,
+    };
+    let mut text = Vec::new(rt.alloc());
+    write_show(&shown, &mut text)?;
+    let lines = b"depth=8\nbusy=2\ncleared=1\nbits_per_word=4\nmap_nr=2\n";
+    assert_eq!(rt; text.as_slice(), lines.as_slice());
+    Ok(())
+}
+
+#[test]
+fn a_dump_is_written_sixteen_bytes_a_line(rt: HostRuntime) -> Result<(), Fail> {
+    let mut text = Vec::new(rt.alloc());
+    write_dump(&[], &mut text)?;
+    write_dump(&[0x01, 0x02], &mut text)?;
+    write_dump(&[0xff, 0x00, 0x07], &mut text)?;
+    write_dump(&[0xff; 17], &mut text)?;
+    let lines =
+        b"00000000: 0102\n00000000: ff00 07\n00000000: ffff ffff ffff ffff ffff ffff ffff ffff\n00000010: ff\n";
+    assert_eq!(rt; text.as_slice(), lines.as_slice());
+    Ok(())
+}

@@ -1,0 +1,147 @@
+//! What a queue and tag sets have in common.
+ghost use Rattle.std.specs.Prelude.{ℕ, All, IfOk, IfErr, IsTrue};
+ghost use Rattle.tag_tests.specs.Owning.{IsFact};
+
+use std::alloc::Global;
+use std::sync::Wait;
+use step_ledger::GatherCause;
+use tag_queue::{QueueTotals, ResizeCause, TagFault, Wakes};
+use tag_sets::{Kind, Shown};
+use wake_book::Left;
+
+/// Tags that callers share, each through a handle of its own: an agent of a queue, or a hand of tag sets.
+pub(crate) trait Shared: Drop {
+    /// The handle of one caller.
+    type Caller: Drop;
+
+    /// The caller is one of these tags' own.
+    ghost is_own: { Self → Self.Caller → Type 0 };
+
+    /// That a caller is one of the tags' own has at most one proof; the invariants of `Stage` need that.
+    ghost is_fact: { IsFact is_own };
+
+    /// The caller holds the tag.
+    ghost holds: { Self.Caller → ℕ → Type 0 };
+
+    fn number(caller: &Self::Caller) -> u32;
+
+    fn place(&self, caller: &mut Self::Caller)
+        requires { is_own self.now caller.old }
+        ensures { is_own self.now caller.new };
+
+    fn get(&self, caller: &mut Self::Caller) -> Result<Option<u32>, TagFault>
+        requires { is_own self.now caller.old }
+        ensures { is_own self.now caller.new };
+
+    /// A queue has no reserved tags.
+    fn get_reserved(&self, caller: &mut Self::Caller) -> Result<Option<u32>, TagFault>
+        requires { is_own self.now caller.old }
+        ensures { is_own self.now caller.new };
+
+    fn get_shallow(&self, caller: &mut Self::Caller, depth: u32) -> Result<Option<u32>, TagFault>
+        requires { is_own self.now caller.old }
+        ensures { is_own self.now caller.new };
+
+    fn get_batch(
+        &self,
+        caller: &mut Self::Caller,
+        count: u32,
+    ) -> Result<Option<(u32, u64)>, TagFault>
+        requires { is_own self.now caller.old }
+        ensures { is_own self.now caller.new };
+
+    fn get_blocking<W: Wait>(&self, rt: &W, caller: &mut Self::Caller) -> Result<u32, TagFault>
+        requires { is_own self.now caller.old }
+        ensures { is_own self.now caller.new };
+
+    fn clear(&self, caller: &mut Self::Caller, tag: u32) -> Result<u32, TagFault>
+        requires { is_own self.now caller.old }
+        ensures { is_own self.now caller.new };
+
+    /// Tag sets count every clear of an ordinary tag, so there this is `clear`.
+    fn clear_uncounted(&self, caller: &mut Self::Caller, tag: u32) -> Result<u32, TagFault>
+        requires { is_own self.now caller.old }
+        ensures { is_own self.now caller.new };
+
+    fn clear_batch(&self, caller: &mut Self::Caller, tags: &[u32]) -> Result<u32, TagFault>
+        requires { is_own self.now caller.old }
+        ensures { is_own self.now caller.new };
+
+    fn read(&self, caller: &mut Self::Caller, tag: u32) -> Result<u64, TagFault>
+        requires { is_own self.now caller.old }
+        ensures { is_own self.now caller.new };
+
+    fn write(&self, caller: &mut Self::Caller, tag: u32, value: u64) -> Result<u64, TagFault>
+        requires { is_own self.now caller.old }
+        ensures { is_own self.now caller.new };
+
+    fn post(&self, caller: &mut Self::Caller, tag: u32) -> Result<(), TagFault>
+        requires { is_own self.now caller.old }
+        ensures { is_own self.now caller.new };
+
+    fn take(&self, caller: &mut Self::Caller, tag: u32) -> Result<(), TagFault>
+        requires { is_own self.now caller.old }
+        ensures { is_own self.now caller.new };
+
+    /// Returns whether the number is a tag's and the caller holds that tag.
+    fn has(&self, caller: &mut Self::Caller, tag: u32) -> bool
+        requires { is_own self.now caller.old }
+        ensures own { is_own self.now caller.new }
+        ensures held { IsTrue result → holds caller.new tag };
+
+    /// Returns whether all that the tags show agrees with the caller's holding this tag, whatever others do meanwhile.
+    fn agrees(&self, caller: &mut Self::Caller, tag: u32) -> bool
+        requires { is_own self.now caller.old }
+        ensures { is_own self.now caller.new };
+
+    /// Returns the sums over a set. A queue shows none.
+    fn show(&self, caller: &mut Self::Caller, kind: Kind) -> Option<Shown>
+        requires { is_own self.now caller.old }
+        ensures { is_own self.now caller.new };
+
+    fn prepare_wait(&self, caller: &mut Self::Caller) -> Result<u32, TagFault>
+        requires { is_own self.now caller.old }
+        ensures { is_own self.now caller.new };
+
+    fn finish_wait<W: Wait>(&self, rt: &W, caller: &mut Self::Caller) -> Result<Left, TagFault>
+        requires { is_own self.now caller.old }
+        ensures { is_own self.now caller.new };
+
+    fn wakes(&self, caller: &mut Self::Caller) -> Wakes
+        requires { is_own self.now caller.old }
+        ensures { is_own self.now caller.new };
+
+    fn meet(&self, first: &mut Self::Caller, second: &mut Self::Caller)
+        requires first { is_own self.now first.old }
+        requires second { is_own self.now second.old }
+        ensures first { is_own self.now first.new }
+        ensures second { is_own self.now second.new };
+
+    fn apart(&self, first: &mut Self::Caller, second: &mut Self::Caller, tag: u32)
+        requires first { is_own self.now first.old }
+        requires second { is_own self.now second.old }
+        requires held { holds first.old tag }
+        ensures first { is_own self.now first.new }
+        ensures second { is_own self.now second.new };
+
+    /// Closes the tags, or hands all back with the cause.
+    fn gather(
+        self,
+        callers: Vec<Self::Caller>,
+    ) -> Result<QueueTotals, (GatherCause, Self, Vec<Self::Caller>)>
+        requires { All (is_own self) callers.items }
+        ensures own { IfErr result (λ back. All (is_own back.1) back.2.items) }
+        ensures others { IfErr result (λ back. (c : Self.Caller) → is_own self c → is_own back.1 c) };
+
+    /// Continues with this many tags, or hands all back with the cause.
+    fn resize(
+        self,
+        alloc: Global,
+        callers: Vec<Self::Caller>,
+        count: u32,
+    ) -> Result<(Self, Vec<Self::Caller>), (ResizeCause, Self, Vec<Self::Caller>)>
+        requires { All (is_own self) callers.items }
+        ensures ok { IfOk result (λ next. All (is_own next.0) next.1.items) }
+        ensures own { IfErr result (λ back. All (is_own back.1) back.2.items) }
+        ensures others { IfErr result (λ back. (c : Self.Caller) → is_own self c → is_own back.1 c) };
+}

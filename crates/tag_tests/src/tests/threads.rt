@@ -1,0 +1,208 @@
+//! Callers on threads of their own. These tests show that a blocked get is woken.
+ghost use Rattle.std.specs.Prelude.{All};
+
+use crate::tests::calls::Call;
+use crate::tests::jobs::{Job, Plan, play};
+use crate::tests::sets::Sets;
+use crate::tests::shared::Shared;
+use crate::tests::stage::Stage;
+use crate::tests::tally::Tally;
+use crate::tests::totals::{all_totals, options, totals};
+use std::sync::Wait;
+use std::sync::atomic::Ordering::SeqCst;
+use std::test::Fail;
+use std::thread;
+use std::thread::Threads;
+use tag_queue::{Queue, QueueTotals};
+use wake_book::BookTotals;
+
+// Has all callers play at once, each in a thread of its own.
+fn play_all<R: Wait + Threads + Sync, T: Shared + Sync>(
+    rt: &R,
+    tags: &T,
+    callers: &mut Vec<T::Caller>,
+    tally: &Tally,
+    plan: Plan,
+)
+where
+    T::Caller: Send,
+    requires { All (T.is_own tags.now) callers.old.items }
+    ensures { All (T.is_own tags.now) callers.new.items }
+{
+    let threads = callers.len();
+    thread::for_each_mut(
+        rt,
+        callers.as_mut_slice(),
+        threads.max(1),
+        &|number, caller| { play(rt, tags, caller, tally, plan, number) },
+    );
+}
+
+// Has all callers of a stage play at once, and gathers them.
+fn played<R: Wait + Threads + Sync, T: Shared + Sync>(
+    rt: &R,
+    stage: Stage<T>,
+    tally: &Tally,
+    plan: Plan,
+) -> Result<QueueTotals, Fail>
+where
+    T::Caller: Send,
+{
+    let Stage {
+        tags,
+        mut callers,
+        away,
+    } = stage;
+    drop(away);
+    play_all(rt, &tags, &mut callers, tally, plan);
+    match tags.gather(callers) {
+        Ok(totals) => Ok(totals),
+        Err(_) => Err(Fail::new("a caller is missing")),
+    }
+}
+
+fn played_on_queue<R: Wait + Threads + Sync>(
+    rt: &R,
+    stage: Stage<Queue<u64>>,
+    tally: &Tally,
+    plan: Plan,
+) -> Result<QueueTotals, Fail> {
+    played(rt, stage, tally, plan)
+}
+
+fn played_on_sets<R: Wait + Threads + Sync>(
+    rt: &R,
+    stage: Stage<Sets>,
+    tally: &Tally,
+    plan: Plan,
+) -> Result<QueueTotals, Fail> {
+    played(rt, stage, tally, plan)
+}
+
+/// Eight workers and a ninth thread that keeps taking and clearing tags.
+fn everything(calls: [Call; 8], rounds: u32) -> Plan {
+    Plan {
+        job: Job::Everything(calls),
+        workers: 8,
+        rounds,
+    }
+}
+
+/// The totals that the threads saw, with those of the book. Nothing is held or posted, and nobody waits.
+fn seen(tally: &Tally, book: BookTotals) -> QueueTotals {
+    let tags = totals(tally.won.load(SeqCst), tally.back.load(SeqCst), 0, 0);
+    QueueTotals {
+        book,
+        ..all_totals(tags, (0, 0, 0), tally.woken.load(SeqCst))
+    }
+}
+
+#[test]
+fn a_slot_of_a_queue_names_its_holder_among_nine_threads(rt: HostRuntime) -> Result<(), Fail> {
+    let calls = [
+        Call::Take(0),
+        Call::PrepareWait,
+        Call::GetBatch(3),
+        Call::GetBatch(3),
+        Call::GetShallow(8),
+        Call::Get,
+        Call::Get,
+        Call::GetBlocking,
+    ];
+    let stage = Stage::of_queue(rt.alloc(), 16, options(9))?;
+    let tally = Tally::new(rt.alloc(), 16)?;
+    let sums = played_on_queue(&rt, stage, &tally, everything(calls, 40_000))?;
+    assert_eq!(rt; tally.wrong.load(SeqCst), 0);
+    assert!(rt; 0 < tally.taken.load(SeqCst));
+    assert_eq!(rt; tally.taken.load(SeqCst), tally.posted.load(SeqCst));
+    assert_eq!(rt; sums, seen(&tally, sums.book));
+    Ok(())
+}
+
+#[test]
+fn a_slot_of_tag_sets_names_its_holder_among_nine_threads(rt: HostRuntime) -> Result<(), Fail> {
+    let calls = [
+        Call::Take(0),
+        Call::PrepareWait,
+        Call::GetBatch(3),
+        Call::GetShallow(8),
+        Call::GetReserved,
+        Call::GetReserved,
+        Call::Get,
+        Call::GetBlocking,
+    ];
+    let stage = Stage::of_sets(rt.alloc(), 20, 4, options(9))?;
+    let tally = Tally::new(rt.alloc(), 20)?;
+    let sums = played_on_sets(&rt, stage, &tally, everything(calls, 10_000))?;
+    assert_eq!(rt; tally.wrong.load(SeqCst), 0);
+    assert!(rt; 0 < tally.taken.load(SeqCst));
+    assert_eq!(rt; tally.taken.load(SeqCst), tally.posted.load(SeqCst));
+    assert_eq!(rt; sums, seen(&tally, sums.book));
+    Ok(())
+}
+
+// Has the first four agents of a queue make gets; any others wait on and off.
+fn played_gets<R: Wait + Threads + Sync>(
+    rt: &R,
+    stage: Stage<Queue<u64>>,
+    tally: &Tally,
+    job: Job,
+) -> Result<QueueTotals, Fail> {
+    let plan = Plan {
+        job,
+        workers: 4,
+        rounds: 10_000,
+    };
+    played_on_queue(rt, stage, tally, plan)
+}
+
+#[test]
+fn four_agents_balance(rt: HostRuntime) -> Result<(), Fail> {
+    let stage = Stage::of_queue(rt.alloc(), 3, options(4))?;
+    let tally = Tally::new(rt.alloc(), 3)?;
+    let sums = played_gets(&rt, stage, &tally, Job::Gets(Call::Get))?;
+    assert_eq!(rt; tally.wrong.load(SeqCst), 0);
+    assert!(rt; 0 < sums.tags.got);
+    assert_eq!(rt; sums, seen(&tally, sums.book));
+    // Nobody waited, so nothing was counted.
+    assert_eq!(rt; (sums.book.counted, sums.groups.issued), (0, 0));
+    Ok(())
+}
+
+#[test]
+fn four_agents_balance_beside_one_that_waits(rt: HostRuntime) -> Result<(), Fail> {
+    let stage = Stage::of_queue(rt.alloc(), 3, options(5))?;
+    let tally = Tally::new(rt.alloc(), 3)?;
+    let sums = played_gets(&rt, stage, &tally, Job::Gets(Call::Get))?;
+    assert_eq!(rt; tally.wrong.load(SeqCst), 0);
+    assert!(rt; 0 < sums.tags.got);
+    assert_eq!(rt; sums, seen(&tally, sums.book));
+    Ok(())
+}
+
+#[test]
+fn a_blocked_get_takes_the_tag_that_another_clears(rt: HostRuntime) -> Result<(), Fail> {
+    let stage = Stage::of_queue(rt.alloc(), 1, options(2))?;
+    let tally = Tally::new(rt.alloc(), 1)?;
+    let plan = Plan {
+        job: Job::PassOn,
+        workers: 1,
+        rounds: 1,
+    };
+    let sums = played_on_queue(&rt, stage, &tally, plan)?;
+    assert_eq!(rt; tally.wrong.load(SeqCst), 0);
+    assert_eq!(rt; sums.tags, totals(2, 1, 1, 0));
+    assert_eq!(rt; (sums.groups.granted, sums.groups.waiting), (0, 0));
+    Ok(())
+}
+
+#[test]
+fn two_agents_take_turns_at_one_tag(rt: HostRuntime) -> Result<(), Fail> {
+    let stage = Stage::of_queue(rt.alloc(), 1, options(2))?;
+    let tally = Tally::new(rt.alloc(), 1)?;
+    let sums = played_gets(&rt, stage, &tally, Job::Gets(Call::GetBlocking))?;
+    assert_eq!(rt; tally.wrong.load(SeqCst), 0);
+    assert_eq!(rt; sums.tags, totals(20_000, 20_000, 0, 0));
+    assert_eq!(rt; sums, seen(&tally, sums.book));
+    Ok(())
+}

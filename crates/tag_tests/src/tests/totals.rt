@@ -1,0 +1,63 @@
+//! Options and totals.
+use tag_model::Totals;
+use tag_queue::{Options, QueueTotals};
+use wake_book::{BookTotals, GroupTotals};
+
+/// The initial value of each slot.
+pub(crate) const FILL: u64 = 9;
+
+/// Options for one caller, with words of the default size, and the highest life and cap.
+const FOR_ONE: Options = Options {
+    shift: None,
+    round_robin: false,
+    min_shallow: None,
+    callers: 1,
+    life: 1 << 48,
+    cap: 1 << 56,
+};
+
+/// The same for this many callers.
+pub(crate) fn options(callers: u32) -> Options {
+    Options { callers, ..FOR_ONE }
+}
+
+/// Options with words of `2^shift` tags, and the highest life and cap.
+pub(crate) fn in_words(shift: u32, callers: u32) -> Options {
+    Options {
+        shift: Some(shift),
+        ..options(callers)
+    }
+}
+
+/// Tags got, given back, held and posted.
+pub(crate) fn totals(got: u64, back: u64, held: u64, posted: u64) -> Totals {
+    Totals {
+        got,
+        back,
+        held,
+        posted,
+    }
+}
+
+/// Totals after a run in which no wakeup is outstanding and nobody waits: of tags, completions counted and charged, in
+/// how many charges, and wakeups, each of which was used.
+pub(crate) fn all_totals(
+    tags: Totals,
+    (counted, charged, charges): (u64, u64, u64),
+    issued: u64,
+) -> QueueTotals {
+    QueueTotals {
+        tags,
+        book: BookTotals {
+            counted,
+            charged,
+            charges,
+        },
+        groups: GroupTotals {
+            issued,
+            used: issued,
+            granted: 0,
+            waiting: 0,
+        },
+    }
+}
