@@ -64,7 +64,7 @@ impl Split<Worker> for Completer {
     ghost right = { λ v. worker false [] };
 }
 
-// A number was pushed.
+/// A number was pushed.
 struct Pushes;
 
 impl Outcome<u32, Worker> for Pushes {
@@ -78,7 +78,7 @@ impl Lesson<u32, Worker> for Pushes {
     ghost fact = { λ v numbers. Unit {0} };
 }
 
-// A number was popped that a submitter had pushed.
+/// A number was popped that a submitter had pushed.
 struct Pops<B> {
     of: PhantomData<B>,
 }

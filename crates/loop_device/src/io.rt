@@ -19,7 +19,7 @@ pub enum IoKind {
 }
 
 impl IoKind {
-    // Whether lines of this kind leave their stamp on the sectors that they cover.
+    /// Whether lines of this kind leave their stamp on the sectors that they cover.
     pub(crate) fn leaves_stamp(self) -> bool
         ensures { result ≡ leaves_stamp self }
     {

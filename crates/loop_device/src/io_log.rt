@@ -29,7 +29,7 @@ impl Log {
     }
 }
 
-// Reads the lines after the header, one after another.
+/// Reads the lines after the header, one after another.
 fn read_lines(alloc: Global, body: &[u8]) -> Result<Log, LogFault>
     ensures log { IfOk result (Says (lines_of body.now)) }
     ensures fault { IfErr result (IsFaultOf (lines_of body.now)) }

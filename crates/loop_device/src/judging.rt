@@ -24,7 +24,7 @@ pub fn verdict(alloc: Global, log: &Log, done: &[Done]) -> Result<(), PlayFault>
     Ok(())
 }
 
-// The first index with a count above 1.
+/// The first index with a count above 1.
 fn first_above_one(counts: &[usize]) -> Option<usize>
     ensures found { IfSome result (λ index. index < length counts.now × 1 < slice_index counts.now index) }
     ensures before { IfSome result (λ index. AllWithin (λ n. n ≤ 1) counts.now 0 index) }
@@ -33,7 +33,7 @@ fn first_above_one(counts: &[usize]) -> Option<usize>
     counts.iter().position(|count| *count > 1)
 }
 
-// The first index with a count of 0.
+/// The first index with a count of 0.
 fn first_zero(counts: &[usize]) -> Option<usize>
     ensures found { IfSome result (λ index. index < length counts.now × slice_index counts.now index ≡ 0) }
     ensures before { IfSome result (λ index. AllWithin (λ n. 0 < n) counts.now 0 index) }
@@ -42,7 +42,7 @@ fn first_zero(counts: &[usize]) -> Option<usize>
     counts.iter().position(|count| *count == 0)
 }
 
-// Counts how many items carry out each line.
+/// Counts how many items carry out each line.
 fn tally(alloc: Global, ios: &[Io], done: &[Done]) -> Result<Vec<usize>, PlayFault>
     requires { LinesAscend ios.now }
     ensures known { OnOk result (AreOfLog ios.now done.now) }
@@ -61,7 +61,7 @@ fn tally(alloc: Global, ios: &[Io], done: &[Done]) -> Result<Vec<usize>, PlayFau
     Ok(counts)
 }
 
-// The index of the line among these.
+/// The index of the line among these.
 fn index_of(ios: &[Io], io: &Io) -> Option<usize>
     requires { LinesAscend ios.now }
     ensures found { IfSome result (λ index. index < length ios.now × HoldsAt (λ found. found ≡ io.now) ios.now index) }

@@ -116,7 +116,7 @@ pub(crate) fn read_line(
     }
 }
 
-// A name and an action on it.
+/// A name and an action on it.
 fn name_line(
     alloc: Global,
     names: &mut Vec<Vec<u8>>,
@@ -140,7 +140,7 @@ fn name_line(
     Ok(Entry::Name)
 }
 
-// Adds a new name, if there is room for it.
+/// Adds a new name, if there is room for it.
 fn add_name(alloc: Global, names: &mut Vec<Vec<u8>>, name: &[u8]) -> Result<(), LogCause>
     requires few { length names.old.items ≤ MAX_NAMES }
     ensures few { length names.new.items ≤ MAX_NAMES }
@@ -160,7 +160,7 @@ fn add_name(alloc: Global, names: &mut Vec<Vec<u8>>, name: &[u8]) -> Result<(), 
     }
 }
 
-// The index of a name among the known ones.
+/// The index of a name among the known ones.
 fn index_of(names: &[Vec<u8>], name: &[u8]) -> Option<u32>
     requires { length names.now ≤ MAX_NAMES }
     ensures { result ≡ index_of (names_of names.now) name.now }
@@ -169,7 +169,7 @@ fn index_of(names: &[Vec<u8>], name: &[u8]) -> Option<u32>
     Some(index as u32)
 }
 
-// A name, an action, and the words of its range.
+/// A name, an action, and the words of its range.
 fn range_line(
     names: &[Vec<u8>],
     line: u64,
@@ -223,7 +223,7 @@ fn range_entry(
     }))
 }
 
-// Parses an offset or a length.
+/// Parses an offset or a length.
 fn extent(word: &[u8]) -> Option<u64>
     ensures { result ≡ number_below (2 ^ 63) word.now }
 {

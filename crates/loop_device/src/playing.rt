@@ -58,7 +58,7 @@ pub fn play<G: Gate, R: Threads + Wait + Sync>(
     play_under::<Brand, G, R>(rt, alloc, log, setup, gate, tags, hands)
 }
 
-// Plays the log with these tags.
+/// Plays the log with these tags.
 fn play_under<B: Tagged + Send + Sync, G: Gate, R: Threads + Wait + Sync>(
     rt: &R,
     alloc: Global,
@@ -102,7 +102,7 @@ fn play_under<B: Tagged + Send + Sync, G: Gate, R: Threads + Wait + Sync>(
     judge(alloc, log, totals.tags, done, faults)
 }
 
-// Carries out the log in threads, all of which have ended when it returns.
+/// Carries out the log in threads, all of which have ended when it returns.
 fn carry_in_scope<B: Tagged + Send + Sync, G: Gate, R: Threads + Wait + Sync>(
     rt: &R,
     alloc: Global,
@@ -148,7 +148,7 @@ fn carry_in_scope<B: Tagged + Send + Sync, G: Gate, R: Threads + Wait + Sync>(
     )
 }
 
-// The outcome of the play, determined after the joins.
+/// The outcome of the play, determined after the joins.
 fn judge(
     alloc: Global,
     log: &Log,

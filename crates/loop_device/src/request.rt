@@ -69,7 +69,7 @@ pub(crate) fn finish<G: Gate, W: Wait>(
     }
 }
 
-// Carries out the line with this number, under the store's lock.
+/// Carries out the line with this number, under the store's lock.
 fn carry_out<G: Gate, W: Wait>(
     rt: &W,
     line: u64,
@@ -91,7 +91,7 @@ fn carry_out<G: Gate, W: Wait>(
     }
 }
 
-// The I/O line with this number.
+/// The I/O line with this number.
 fn line_of(ios: &[Io], line: u64) -> Option<Io>
     requires { LinesAscend ios.now }
     ensures found { IfSome result (λ io. Contains ios.now io × (io.line ≡ line)) }

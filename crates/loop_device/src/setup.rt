@@ -25,7 +25,7 @@ pub struct Setup {
 const MAX_THREADS: u32 = 16;
 
 impl Setup {
-    // Whether each number is within its limits, and at least one tag is ordinary.
+    /// Whether each number is within its limits, and at least one tag is ordinary.
     pub(crate) fn is_legal(&self) -> bool
         ensures { IsTrue result ↔ IsLegal self.now }
     {
@@ -37,7 +37,7 @@ impl Setup {
             && is_count(self.queue, MAX_DEPTH)
     }
 
-    // Whether the shift, if one is given, is within its limit.
+    /// Whether the shift, if one is given, is within its limit.
     fn has_shift(&self) -> bool
         ensures { IsTrue result ↔ ¬ (IsSomeAnd self.now.shift (λ shift. MAX_SHIFT < shift)) }
     {
@@ -48,7 +48,7 @@ impl Setup {
     }
 }
 
-// Whether the number is from 1 to `most`.
+/// Whether the number is from 1 to `most`.
 fn is_count(number: u32, most: u32) -> bool
     ensures { IsTrue result ↔ (1 ≤ number) × (number ≤ most) }
 {

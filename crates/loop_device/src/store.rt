@@ -86,7 +86,7 @@ impl Store {
     }
 }
 
-// What the line answers. A write or a trim leaves its stamp.
+/// What the line answers. A write or a trim leaves its stamp.
 fn answer(stamps: &mut Stamps, alloc: Global, io: &Io) -> Result<u64, AllocError>
     requires { is_sound (2 ^ 88) stamps.old ≡ true }
     ensures ok { IfOk result (CarriesOut stamps.old stamps.new io.now) }
@@ -105,7 +105,7 @@ fn answer(stamps: &mut Stamps, alloc: Global, io: &Io) -> Result<u64, AllocError
     }
 }
 
-// Leaves the line's number as the stamp of each sector that it covers.
+/// Leaves the line's number as the stamp of each sector that it covers.
 fn leave_stamp(stamps: &mut Stamps, alloc: Global, io: &Io) -> Result<(), AllocError>
     requires { is_sound (2 ^ 88) stamps.old ≡ true }
     ensures small { FitsTypes io.now }
@@ -120,7 +120,7 @@ fn leave_stamp(stamps: &mut Stamps, alloc: Global, io: &Io) -> Result<(), AllocE
     Ok(())
 }
 
-// The position in the row of the first sector that the line covers, and the position after the last one.
+/// The position in the row of the first sector that the line covers, and the position after the last one.
 fn span(io: &Io) -> (u128, u128)
     ensures first { result.0 ≡ first_key io.now }
     ensures end { result.1 ≡ end_key io.now }

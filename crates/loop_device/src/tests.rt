@@ -77,7 +77,7 @@ fn want_of_memory_leaves_the_store_as_it_was(rt: HostRuntime) -> Result<(), Fail
     Ok(())
 }
 
-// The log `write`, `write`, `read`, `sync` on lines 4 to 7.
+/// The log `write`, `write`, `read`, `sync` on lines 4 to 7.
 fn small_log(alloc: Global) -> Result<Log, AllocError> {
     Ok(Log {
         names: Vec::new(alloc),

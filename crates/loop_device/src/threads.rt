@@ -67,7 +67,7 @@ pub(crate) fn carry_by_threads<'s, E, B: Tagged + Send + Sync, G: Gate, R: Threa
     Ok((back, faults))
 }
 
-// Starts the completers and then the submitters, up to the first that can't be started. Returns whether all were.
+/// Starts the completers and then the submitters, up to the first that can't be started. Returns whether all were.
 fn start_all<'s, E, B: Tagged + Send + Sync, G: Gate, R: Wait + Sync>(
     scope: &Scope<'s, E>,
     rt: &'s R,
@@ -103,7 +103,7 @@ fn start_all<'s, E, B: Tagged + Send + Sync, G: Gate, R: Wait + Sync>(
     true
 }
 
-// A pass of its own for one more thread, which may push if it is to submit.
+/// A pass of its own for one more thread, which may push if it is to submit.
 fn pass_for<B: Tagged>(
     queue: &DeviceQueue<B>,
     pass: &mut Pass<u32, Worker>,
@@ -121,7 +121,7 @@ fn pass_for<B: Tagged>(
     }
 }
 
-// Starts a thread with this hand, if one can be started: the next of so many submitters, or a completer.
+/// Starts a thread with this hand, if one can be started: the next of so many submitters, or a completer.
 fn start<'s, E, B: Tagged + Send + Sync, G: Gate, R: Wait + Sync>(
     scope: &Scope<'s, E>,
     rt: &'s R,
@@ -184,7 +184,7 @@ fn start<'s, E, B: Tagged + Send + Sync, G: Gate, R: Wait + Sync>(
     }
 }
 
-// Joins the threads, and collects the hands that they return.
+/// Joins the threads, and collects the hands that they return.
 fn join_all<'s, R: Threads>(
     rt: &R,
     tags: &Tags<u64>,

@@ -54,7 +54,7 @@ impl Faults {
         self.stranger |= other.stranger;
     }
 
-    // Notes what became of one line. A line that was not submitted is missing from the history.
+    /// Notes what became of one line. A line that was not submitted is missing from the history.
     fn note(&mut self, done: Result<u64, PlayFault>) {
         match done {
             Err(PlayFault::Memory) => self.memory = true,
@@ -141,7 +141,7 @@ pub(crate) fn submit_all<B: Tagged, G: Gate, W: Wait>(
     Worked { hand, faults }
 }
 
-// Passes one line on to the completers, or completes it if the queue is full.
+/// Passes one line on to the completers, or completes it if the queue is full.
 fn submit<B: Tagged, G: Gate, W: Wait>(
     rt: &W,
     shared: &Shared<'_, B, G>,
@@ -180,7 +180,7 @@ fn submit<B: Tagged, G: Gate, W: Wait>(
     )
 }
 
-// Gets a tag, writes the line into its slot, and posts it.
+/// Gets a tag, writes the line into its slot, and posts it.
 fn post_line<W: Wait>(
     rt: &W,
     tags: &Tags<u64>,

@@ -61,7 +61,7 @@ pub(crate) fn serve_all<R: AllocGlobal + Threads + Wait + Sync>(rt: &R) -> Resul
     }
 }
 
-// Each hand goes to a thread of its own, and comes back.
+/// Each hand goes to a thread of its own, and comes back.
 fn serve_by_threads<R: Threads + Wait + Sync>(
     rt: &R,
     tags: &Tags<u64>,
@@ -80,7 +80,7 @@ fn serve_by_threads<R: Threads + Wait + Sync>(
     hands
 }
 
-// One thread's requests, one after another.
+/// One thread's requests, one after another.
 fn serve<W: Wait>(rt: &W, tags: &Tags<u64>, hand: &mut Hand<u64>, thread: u64, requests: &AtomicU64)
     requires { IsHandOf tags.now hand.old }
     ensures { IsHandOf tags.now hand.new }
@@ -96,7 +96,7 @@ fn serve<W: Wait>(rt: &W, tags: &Tags<u64>, hand: &mut Hand<u64>, thread: u64, r
     }
 }
 
-// A request takes a tag, waits if none is free, and fills the tag's slot; its completion reads the slot and clears the tag.
+/// A request takes a tag, waits if none is free, and fills the tag's slot; its completion reads the slot and clears the tag.
 fn serve_one<W: Wait>(
     rt: &W,
     tags: &Tags<u64>,

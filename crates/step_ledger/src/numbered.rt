@@ -31,7 +31,7 @@ pub fn least_missing<M: Numbered>(members: &[M], count: u32) -> Option<u32>
     None
 }
 
-// Whether one of the members has this number.
+/// Whether one of the members has this number.
 fn has_number<M: Numbered>(members: &[M], number: u32) -> bool
     ensures { IsTrue result ↔ Has (map M.number_of members.now) number }
 {

@@ -59,7 +59,7 @@ fn batch(map: &Map<u64>, caller: &mut Caller<u64>, hint: &mut Hint, value: u32)
     }
 }
 
-// The first tag of a batch, and the mask of those won.
+/// The first tag of a batch, and the mask of those won.
 #[inline]
 fn win_run(map: &Map<u64>, caller: &mut Caller<u64>, hint: &mut Hint) -> Option<(u32, u64)>
     requires caller { IsCallerOf map.now caller.old }
@@ -73,7 +73,7 @@ fn win_run(map: &Map<u64>, caller: &mut Caller<u64>, hint: &mut Hint) -> Option<
     answer
 }
 
-// Touches the slot of each tag of a batch.
+/// Touches the slot of each tag of a batch.
 #[inline]
 fn touch_run(map: &Map<u64>, caller: &mut Caller<u64>, first: u32, won: u64, value: u32)
     requires caller { IsCallerOf map.now caller.old }
@@ -88,7 +88,7 @@ fn touch_run(map: &Map<u64>, caller: &mut Caller<u64>, first: u32, won: u64, val
     }
 }
 
-// Frees the tags of a batch in one step.
+/// Frees the tags of a batch in one step.
 #[inline]
 fn give_run(map: &Map<u64>, caller: &mut Caller<u64>, first: u32, won: u64)
     requires caller { IsCallerOf map.now caller.old }

@@ -92,7 +92,7 @@ impl Job<Map<u64>> for Claims {
     }
 }
 
-// Claims and puts the tags, and sweeps their word after each lap.
+/// Claims and puts the tags, and sweeps their word after each lap.
 #[inline(never)]
 fn put_often(map: &Map<u64>, caller: &mut Caller<u64>, first: u32, laps: u32)
     requires caller { IsCallerOf map.now caller.old }
@@ -141,7 +141,7 @@ fn claim_and_give(map: &Map<u64>, caller: &mut Caller<u64>, tag: u32)
     }
 }
 
-// Claims a tag, and answers whether the caller holds it.
+/// Claims a tag, and answers whether the caller holds it.
 fn claim(map: &Map<u64>, caller: &mut Caller<u64>, tag: u32) -> bool
     requires caller { IsCallerOf map.now caller.old }
     requires tag { tag < (layout_of map.now).depth }
@@ -153,7 +153,7 @@ fn claim(map: &Map<u64>, caller: &mut Caller<u64>, tag: u32) -> bool
     map.claim(caller, layout.word_of(tag), bit).is_ok() && caller.holds(tag)
 }
 
-// Frees a held tag at once. Nobody searches here, so its hint goes unused.
+/// Frees a held tag at once. Nobody searches here, so its hint goes unused.
 #[inline]
 fn give(map: &Map<u64>, caller: &mut Caller<u64>, tag: u32)
     requires caller { IsCallerOf map.now caller.old }

@@ -28,7 +28,7 @@ pub(crate) fn run<R: AllocGlobal + Threads + Sync + Print + Clock + CpuClock>(
     Ok(())
 }
 
-// Where the hints are apart, each caller begins in a part of the map of its own; else all begin at tag 0.
+/// Where the hints are apart, each caller begins in a part of the map of its own; else all begin at tag 0.
 fn run_case<R: AllocGlobal + Threads + Sync + Print + Clock + CpuClock>(
     rt: &R,
     options: &Options,

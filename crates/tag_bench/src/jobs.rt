@@ -82,7 +82,7 @@ where
     })
 }
 
-// Has each hand begin in its own part of the tags, before the first run.
+/// Has each hand begin in its own part of the tags, before the first run.
 #[derive(Drop)]
 struct Placing;
 
@@ -113,7 +113,7 @@ where
     Ok(runs)
 }
 
-// All hands work, in as many threads at once as planned.
+/// All hands work, in as many threads at once as planned.
 fn work_all<R: Threads + Sync, T: Tags + Sync, J: Job<T> + Sync>(
     rt: &R,
     tags: &T,

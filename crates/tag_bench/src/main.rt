@@ -46,7 +46,7 @@ fn main(rt: HostRuntime) -> ExitCode {
     }
 }
 
-// Runs what the command line asks for. Answers the exit status.
+/// Runs what the command line asks for. Answers the exit status.
 fn play<R: AllocGlobal + Env + Threads + Wait + Sync + Clock + CpuClock + Print + Eprint>(
     rt: &R,
 ) -> Result<u8, Failed> {
@@ -65,7 +65,7 @@ fn play<R: AllocGlobal + Env + Threads + Wait + Sync + Clock + CpuClock + Print 
     }
 }
 
-// Runs the workload that was asked for, or each.
+/// Runs the workload that was asked for, or each.
 fn run<R: AllocGlobal + Threads + Wait + Sync + Clock + CpuClock + Print>(
     rt: &R,
     options: &Options,
@@ -96,7 +96,7 @@ fn run_workload<R: AllocGlobal + Threads + Wait + Sync + Clock + CpuClock + Prin
     }
 }
 
-// Runs a workload over the shared map.
+/// Runs a workload over the shared map.
 fn run_on_map<R: AllocGlobal + Threads + Sync + Clock + CpuClock + Print>(
     rt: &R,
     options: &Options,
@@ -105,7 +105,7 @@ fn run_on_map<R: AllocGlobal + Threads + Sync + Clock + CpuClock + Print>(
     traffic::run::<R, Map<u64>>(rt, options, "", traffic)
 }
 
-// Runs a workload over a queue.
+/// Runs a workload over a queue.
 fn run_on_queue<R: AllocGlobal + Threads + Sync + Clock + CpuClock + Print>(
     rt: &R,
     options: &Options,
@@ -114,7 +114,7 @@ fn run_on_queue<R: AllocGlobal + Threads + Sync + Clock + CpuClock + Print>(
     traffic::run::<R, Queue<u64>>(rt, options, "queue ", traffic)
 }
 
-// Runs a workload over tag sets without reserved tags.
+/// Runs a workload over tag sets without reserved tags.
 fn run_on_sets<R: AllocGlobal + Threads + Sync + Clock + CpuClock + Print>(
     rt: &R,
     options: &Options,
@@ -123,7 +123,7 @@ fn run_on_sets<R: AllocGlobal + Threads + Sync + Clock + CpuClock + Print>(
     traffic::run::<R, TagSets<u64>>(rt, options, "sets ", traffic)
 }
 
-// Runs the workload of tag sets that was asked for, or each.
+/// Runs the workload of tag sets that was asked for, or each.
 fn run_sets<R: AllocGlobal + Threads + Sync + Clock + CpuClock + Print>(
     rt: &R,
     options: &Options,
@@ -138,7 +138,7 @@ fn run_sets<R: AllocGlobal + Threads + Sync + Clock + CpuClock + Print>(
     Ok(())
 }
 
-// Runs the workload of the queue that was asked for, or each.
+/// Runs the workload of the queue that was asked for, or each.
 fn run_queue<R: AllocGlobal + Threads + Wait + Sync + Clock + CpuClock + Print>(
     rt: &R,
     options: &Options,

@@ -132,21 +132,21 @@ impl Display for Hundredths {
 }
 
 impl Times {
-    // One operation of one thread, in a run that took this long. A run of more than a day counts as a day.
+    /// One operation of one thread, in a run that took this long. A run of more than a day counts as a day.
     fn per_operation(self, run: Duration) -> Hundredths {
         let seconds = run.as_secs().min(86_400);
         let nanoseconds = seconds * 1_000_000_000 + u64::from(run.subsec_nanos());
         Hundredths(nanoseconds * 100 / self.operations.max(1))
     }
 
-    // The runs by the clock, shortest first.
+    /// The runs by the clock, shortest first.
     fn clocks(self) -> [Duration; RUNS] {
         let mut clocks = self.runs.map(|run| run.clock);
         clocks.sort_unstable();
         clocks
     }
 
-    // Processor time of one thread, in the run that is the median.
+    /// Processor time of one thread, in the run that is the median.
     fn processor(self, threads: u32) -> Duration {
         let mut all = self.runs.map(|run| run.processor);
         all.sort_unstable();

@@ -108,7 +108,7 @@ pub(crate) fn read(alloc: Global, matches: &ArgMatches) -> Result<Options, Alloc
     })
 }
 
-// The workload of this name.
+/// The workload of this name.
 fn workload_of(name: &str) -> Option<Workload> {
     match name {
         "plain" => Some(Workload::Plain),
@@ -120,7 +120,7 @@ fn workload_of(name: &str) -> Option<Workload> {
     }
 }
 
-// The workload of a queue that was named.
+/// The workload of a queue that was named.
 fn queued_of(chosen: &ArgMatches) -> Option<Queued> {
     match chosen.get_str("workload")? {
         "waiters" => Some(Queued::Waiters),
@@ -128,12 +128,12 @@ fn queued_of(chosen: &ArgMatches) -> Option<Queued> {
     }
 }
 
-// The workload of tag sets that was named.
+/// The workload of tag sets that was named.
 fn driven_by(chosen: &ArgMatches) -> Option<Traffic> {
     traffic_of(chosen.get_str("workload")?)
 }
 
-// The traffic of this name.
+/// The traffic of this name.
 fn traffic_of(name: &str) -> Option<Traffic> {
     TRAFFIC.into_iter().find(|traffic| traffic.name() == name)
 }

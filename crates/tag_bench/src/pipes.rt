@@ -38,7 +38,7 @@ impl Pipes {
         Ok(Pipes { cells })
     }
 
-    // Waits for this cell of a way and writes it, where it is empty and should be, or full and should be. What it had.
+    /// Waits for this cell of a way and writes it, where it is empty and should be, or full and should be. What it had.
     fn exchange(&self, way: usize, round: u32, full: bool, new: u64) -> Option<u64> {
         let cell = self.cells.get((way % 64) * ROOM + round as usize % ROOM)?;
         for _ in 0..PATIENCE {
@@ -54,7 +54,7 @@ impl Pipes {
         None
     }
 
-    // Gets tags and sends each on.
+    /// Gets tags and sends each on.
     #[inline(never)]
     fn send<T: Tags>(&self, tags: &T, hand: &mut T::Hand, index: usize, plan: Plan)
         requires { T.is_own tags.now hand.old }
@@ -72,7 +72,7 @@ impl Pipes {
         }
     }
 
-    // Takes the tags that come from the thread before this one, and clears each.
+    /// Takes the tags that come from the thread before this one, and clears each.
     #[inline(never)]
     fn receive<T: Tags>(&self, tags: &T, hand: &mut T::Hand, index: usize, plan: Plan)
         requires { T.is_own tags.now hand.old }

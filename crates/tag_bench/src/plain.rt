@@ -27,7 +27,7 @@ pub(crate) fn run<R: AllocGlobal + Print + Clock + CpuClock>(
     Ok(())
 }
 
-// A map of this depth that is nearly empty, and one that is nearly full.
+/// A map of this depth that is nearly empty, and one that is nearly full.
 fn run_depth<R: AllocGlobal + Print + Clock + CpuClock>(
     rt: &R,
     options: &Options,
@@ -59,7 +59,7 @@ fn run_depth<R: AllocGlobal + Print + Clock + CpuClock>(
     Ok(())
 }
 
-// A map of this depth, with all but a given number of its tags taken.
+/// A map of this depth, with all but a given number of its tags taken.
 fn prepare(alloc: Global, depth: u32, free: u32) -> Result<PlainPort, Failed> {
     let mut port = PlainPort::open(alloc, Layout::new(depth, None)?)?;
     let mut hint = first_hint();
@@ -69,7 +69,7 @@ fn prepare(alloc: Global, depth: u32, free: u32) -> Result<PlainPort, Failed> {
     Ok(port)
 }
 
-// A caller's first hint.
+/// A caller's first hint.
 fn first_hint() -> Hint {
     Hint {
         at: 0,
@@ -77,7 +77,7 @@ fn first_hint() -> Hint {
     }
 }
 
-// Gets a tag and clears it, once a round. Returns the number of tags got.
+/// Gets a tag and clears it, once a round. Returns the number of tags got.
 #[inline(never)]
 fn pairs(port: &mut PlainPort, rounds: u32) -> u32 {
     let mut hint = first_hint();

@@ -39,7 +39,7 @@ impl Tags for Map<u64> {
         }
     }
 
-    // A caller is told at each get where it begins.
+    /// A caller is told at each get where it begins.
     fn place(&self, _caller: &mut Caller<u64>) {}
 
     #[inline]

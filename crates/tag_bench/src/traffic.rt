@@ -76,7 +76,7 @@ where
     Ok(())
 }
 
-// Runs one case, with the job that its workload has. `pass` wants an even number of threads.
+/// Runs one case, with the job that its workload has. `pass` wants an even number of threads.
 fn run_plan<R: AllocGlobal + Threads + Sync + Print + Clock + CpuClock, T: Tags + Sync>(
     rt: &R,
     options: &Options,

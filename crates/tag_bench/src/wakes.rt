@@ -30,7 +30,7 @@ pub(crate) fn run<R: AllocGlobal + Threads + Sync + Print + Clock + CpuClock>(
     Ok(())
 }
 
-// Each thread looks at the active count, and nobody waits.
+/// Each thread looks at the active count, and nobody waits.
 fn run_looks<R: AllocGlobal + Threads + Sync + Print + Clock + CpuClock>(
     rt: &R,
     options: &Options,
@@ -54,7 +54,7 @@ fn run_looks<R: AllocGlobal + Threads + Sync + Print + Clock + CpuClock>(
     Ok(())
 }
 
-// Each thread counts completions, and charges where a batch is open.
+/// Each thread counts completions, and charges where a batch is open.
 fn run_counts<R: AllocGlobal + Threads + Sync + Print + Clock + CpuClock>(
     rt: &R,
     options: &Options,
@@ -131,7 +131,7 @@ fn time_counts<R: Threads + Sync + Clock + CpuClock>(
     Ok(runs)
 }
 
-// Looks at the active count, once a round.
+/// Looks at the active count, once a round.
 fn look_often(groups: &Groups, waiter: &mut Waiter, rounds: u32)
     requires { IsWaiterOf groups.now waiter.old }
     ensures { IsWaiterOf groups.now waiter.new }
@@ -141,7 +141,7 @@ fn look_often(groups: &Groups, waiter: &mut Waiter, rounds: u32)
     }
 }
 
-// Counts one completion a round.
+/// Counts one completion a round.
 fn count_often(book: &Book, teller: &mut Teller, rounds: u32)
     requires { IsTellerOf book.now teller.old }
     ensures { IsTellerOf book.now teller.new }

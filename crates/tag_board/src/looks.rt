@@ -43,7 +43,7 @@ impl Board {
             .dump(&mut self.hands[caller as usize], kind, &mut bytes);
         Ok(bytes)
     }
-    // Returns the number of tags of a set.
+    /// Returns the number of tags of a set.
     fn depth(&self, kind: Kind) -> u32
         ensures { result ≡ depth_of (state_of self.now) kind }
     {

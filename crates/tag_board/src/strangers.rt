@@ -6,7 +6,7 @@ ghost use Rattle.tag_board.specs.Replays.{is_answer, is_in_run, NobodyElseHolds,
 use crate::board::Board;
 
 impl Board {
-    // Returns another caller that holds the tag, if there is one. It tests one bit per caller.
+    /// Returns another caller that holds the tag, if there is one. It tests one bit per caller.
     fn other_holder(&self, caller: u32, tag: u32) -> Option<usize>
         requires { ((state_of self.now).part caller).held tag ≡ true }
         ensures { MatchOption result (NobodyElseHolds (state_of self.now) caller (nat_eq tag))
@@ -20,8 +20,8 @@ impl Board {
         None
     }
 
-    // Establishes that no other caller holds a tag that this one holds. If another did, `apart` on the two hands would
-    // refute it, so that branch is unreachable.
+    /// Establishes that no other caller holds a tag that this one holds. If another did, `apart` on the two hands would
+    /// refute it, so that branch is unreachable.
     fn tell_alone(&mut self, caller: u32, tag: u32)
         requires caller { IsCallerOf self.old caller }
         requires held { ((state_of self.old).part caller).held tag ≡ true }
@@ -49,7 +49,7 @@ impl Board {
         }
     }
 
-    // Establishes the same for each tag of a run. The lowest bit of the mask is the tag `first`.
+    /// Establishes the same for each tag of a run. The lowest bit of the mask is the tag `first`.
     fn tell_each_alone(&mut self, caller: u32, first: u32, mask: u64)
         requires caller { IsCallerOf self.old caller }
         requires held { HoldsAll (state_of self.old) caller (is_in_run (Some (first, mask))) }

@@ -9,8 +9,8 @@ use crate::object::{Kind, Object};
 use crate::status::Status;
 
 impl Object {
-    #[inline]
     /// Takes a free ordinary tag and returns it.
+    #[inline]
     pub(crate) fn get(&mut self) -> i32
         ensures { Calls (Through DoesGet code_of_get result) result self.old self.new }
     {
@@ -20,8 +20,8 @@ impl Object {
         get_code(member.shared.tags.get(&mut member.hand))
     }
 
-    #[inline]
     /// Takes a free reserved tag and returns it.
+    #[inline]
     pub(crate) fn get_reserved(&mut self) -> i32
         ensures { Calls (Through DoesGetReserved code_of_get result) result self.old self.new }
     {
@@ -31,8 +31,8 @@ impl Object {
         get_code(member.shared.tags.get_reserved(&mut member.hand))
     }
 
-    #[inline]
     /// Takes a free ordinary tag within the words' shares of `depth` and returns it.
+    #[inline]
     pub(crate) fn get_shallow(&mut self, depth: u32) -> i32
         ensures { Calls (Through (DoesGetShallow depth) code_of_get result) result self.old self.new }
     {

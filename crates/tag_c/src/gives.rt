@@ -8,8 +8,8 @@ use crate::object::{Kind, Object};
 use crate::status::Status;
 
 impl Object {
-    #[inline]
     /// Gives a held tag back, and returns how many waiters were granted a wakeup.
+    #[inline]
     pub(crate) fn clear(&mut self, tag: u32) -> i32
         ensures { Calls (Through (DoesClear tag) code_of_count result) result self.old self.new }
     {
@@ -19,8 +19,8 @@ impl Object {
         count_code(member.shared.tags.clear_silently(&mut member.hand, tag))
     }
 
-    #[inline]
     /// Gives held ordinary tags back, and returns how many waiters were granted a wakeup.
+    #[inline]
     pub(crate) fn clear_batch(&mut self, tags: &[u32]) -> i32
         ensures { Calls (Through (DoesClearBatch tags.now) code_of_count result) result self.old self.new }
     {
@@ -35,8 +35,8 @@ impl Object {
         )
     }
 
-    #[inline]
     /// Enters a wait group, and returns its index, below 8.
+    #[inline]
     pub(crate) fn prepare(&mut self) -> i32
         ensures { Calls (Through DoesPrepare code_of_count result) result self.old self.new }
     {
@@ -46,8 +46,8 @@ impl Object {
         count_code(member.shared.tags.prepare_wait(&mut member.hand))
     }
 
-    #[inline]
     /// Leaves the wait group, and returns 1 if the wait used a grant, and 0 if it found none.
+    #[inline]
     pub(crate) fn finish(&mut self) -> i32
         ensures { Calls (Through DoesFinish code_of_finish result) result self.old self.new }
     {

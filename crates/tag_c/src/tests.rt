@@ -9,7 +9,7 @@ use crate::values::{tags_post, tags_read, tags_take, tags_write};
 use crate::wishes::{Sums, Wishes};
 use std::test::Fail;
 
-// Two reserved tags, then ten ordinary ones in words of four, for two hands.
+/// Two reserved tags, then ten ordinary ones in words of four, for two hands.
 const WISHES: Wishes = Wishes {
     total: 12,
     reserved: 2,

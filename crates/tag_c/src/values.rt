@@ -10,8 +10,8 @@ use crate::object::{Kind, Object};
 use crate::status::Status;
 
 impl Object {
-    #[inline]
     /// Reads the slot of a held tag into `value`.
+    #[inline]
     pub(crate) fn read(&mut self, tag: u32, value: &mut u64) -> i32
         ensures calls { Calls (Through (DoesRead tag value.new) code_of_done result) result self.old self.new }
         ensures kept { IsRefusal result → value.new ≡ value.old }
@@ -22,8 +22,8 @@ impl Object {
         value_code(member.shared.tags.read(&mut member.hand, tag), value)
     }
 
-    #[inline]
     /// Writes the slot of a held tag, and what it held before into `former`.
+    #[inline]
     pub(crate) fn write(&mut self, tag: u32, value: u64, former: &mut u64) -> i32
         ensures calls { Calls (Through (DoesWrite tag value former.new) code_of_done result) result self.old self.new }
         ensures kept { IsRefusal result → former.new ≡ former.old }
@@ -37,8 +37,8 @@ impl Object {
         )
     }
 
-    #[inline]
     /// Posts a held tag, so that any hand of the pool can take it.
+    #[inline]
     pub(crate) fn post(&mut self, tag: u32) -> i32
         ensures { Calls (Through (DoesPost tag) code_of_done result) result self.old self.new }
     {
@@ -48,8 +48,8 @@ impl Object {
         done_code(member.shared.tags.post(&mut member.hand, tag))
     }
 
-    #[inline]
     /// Takes a posted tag.
+    #[inline]
     pub(crate) fn take(&mut self, tag: u32) -> i32
         ensures { Calls (Through (DoesTake tag) code_of_done result) result self.old self.new }
     {

@@ -1,11 +1,13 @@
 -- Bits of a word after an or, and after an and-not.
 use Rattle.std.proofs.Common.{◌≡◌, ℕ, zero, suc, ◌+◌, ◌-◌, ◌*◌, ◌/◌, ◌%◌, ◌^◌, ◌<◌, ◌≤◌, ◌⊎◌, min, max, bit_and, bit_or, arith, refl, sym, ap, ◌∙◌, inl, inr}
 use Rattle.std.specs.Int.{bit_at, w64}
-use Rattle.std.proofs.lemmas.Nat.Bits.{bit_at_and, bit_at_or, bit_at_not, bit_at-lt, bit_at-zero, and_pow, same_from_bits_below}
+use Rattle.std.proofs.lemmas.Nat.Bits.{bit_at_and, bit_at_or, bit_at_not, bit_at-lt, bit_at-zero, bit_at-pow_other, and_pow, same_from_bits_below}
 use lib.Count.{ones_step}
 use lib.Bits.{and_step}
 use Rattle.std.proofs.Common.{count_ones}
-use Rattle.std.proofs.lemmas.Nat.{and_le_l, ones-le, or_disjoint, or_lt}
+use Rattle.std.proofs.lemmas.Nat.{and_le_l, ones-le, or_disjoint, or_lt, pow_below}
+use mathlib.Core.Logic.{dite}
+use native.Mathlib.Decide.{ℕ_discrete}
 use Rattle.tag_core.specs.Steps.{without}
 
 -- a bit is 0 or 1
@@ -62,6 +64,23 @@ take_bits n m n_fits m_fits among =
 
     less : (n w m : ℕ) → n ≡ w + m → w < 2 ^ 64 → m < 2 ^ 64 → (n + (2 ^ 64 - m)) % 2 ^ 64 ≡ w
     less n w m e h h' = omega arith
+
+-- a bit that is set is taken out by subtracting it
+pub take_bit : (n b : ℕ) → n < 2 ^ 64 → b < 64 → bit_at n b ≡ 1 → n - 2 ^ b ≡ without n (2 ^ b)
+take_bit n b fits low one =
+    let there : bit_and n (2 ^ b) ≡ 2 ^ b = and_pow n b ∙ ap (λ (x : ℕ). x * 2 ^ b) one ∙ once (2 ^ b) in
+    let most : 2 ^ b ≤ n = omega (arith, and_le_l n (2 ^ b)) in
+    less n (2 ^ b) fits most ∙ take_bits n (2 ^ b) fits (pow_below b 64 low) among
+  where
+    once : (x : ℕ) → 1 * x ≡ x
+    once x = omega arith
+
+    less : (x m : ℕ) → x < 2 ^ 64 → m ≤ x → x - m ≡ (x + (2 ^ 64 - m)) % 2 ^ 64
+    less x m h h' = omega arith
+
+    among : (at : ℕ) → bit_at (2 ^ b) at ≡ 1 → bit_at n at ≡ 1
+    among at here = dite (ℕ_discrete at b) (λ e. ap (bit_at n) e ∙ one)
+        (λ ne. let none = bit_at-pow_other b at ne in absurd (omega arith))
 
 fewer : (d m x : ℕ) → m ≤ d → count_ones (bit_and m x) ≤ count_ones m
 fewer zero m x h = omega (arith, ones-le 0 (bit_and m x) (omega (arith, and_le_l m x)))

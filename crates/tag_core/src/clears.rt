@@ -24,7 +24,8 @@ impl<R> Map<R> {
         ensures released { Releases (IsInMask (layout_of self.now) word mask) caller.old caller.new }
     {
         let table = &self.table.shared;
-        // The caller holds all of it: a difference clears it in one instruction, where an and takes a loop.
+        // The caller holds all of these tags, so each of their bits is 1 there: a difference clears them in one instruction.
+        // To clear them by an and, and to return the word as it was, takes a loop.
         table.fetch_sub::<Giving>(&mut caller.seat, word_spot(word), mask);
         let held = caller.held[word as usize] & !mask;
         caller.held[word as usize] = held;
@@ -43,9 +44,9 @@ impl<R> Map<R> {
         let word = caller.layout.word_of(tag);
         let bit = 1u64 << caller.layout.place_of(tag);
         let table = &self.table.shared;
-        // The bit is 0 there, since the caller holds the tag: a sum sets it in one instruction, where an or takes a loop.
+        // The caller holds the tag, so its bit is 0 there: a sum sets it in one instruction.
         table.fetch_add::<Putting>(&mut caller.seat, aside_spot(word), bit);
-        let held = caller.held[word as usize] & !bit;
+        let held = caller.held[word as usize] - bit;
         caller.held[word as usize] = held;
         caller.back += 1;
     }

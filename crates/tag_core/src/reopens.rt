@@ -23,7 +23,7 @@ use std::alloc::{AllocError, Global};
 use std::snapshot::Snapshot;
 use tag_layout::Layout;
 
-// The index of the caller with this number.
+/// The index of the caller with this number.
 fn index_of<R>(callers: &[Caller<R>], number: u32) -> Option<usize>
     ensures none { IfNone result (¬ Has (numbers_of callers.now) number) }
     ensures some { IfSome result (λ i. get_elem? (numbers_of callers.now) i ≡ some number) }

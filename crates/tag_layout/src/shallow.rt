@@ -25,7 +25,7 @@ impl Layout {
         self.share_of(shallow, past, reciprocal) - self.share_of(shallow, first, reciprocal)
     }
 
-    // n / depth is n * reciprocal >> SCALE_BITS, up to n = depth * depth.
+    /// n / depth is n * reciprocal >> SCALE_BITS, up to n = depth * depth.
     fn share_of(self, shallow: u32, tags: u32, reciprocal: u64) -> u32
         requires depth { 0 < self.depth }
         requires shallow { shallow ≤ self.depth }

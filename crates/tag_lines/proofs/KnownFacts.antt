@@ -15,7 +15,7 @@ use Rattle.tag_lines.specs.declared.order.Order.{Order}
 use Rattle.tag_lines.specs.Dialects.{only_shared}
 use Rattle.tag_lines.specs.Lines.{number_below, numbers_below}
 use Rattle.tag_lines.specs.Readings.{AreReadings}
-use Rattle.tag_lines.specs.ScriptLines.{lone_of, numbered_of, reserved_of, worded_of, numbered_command, ordered}
+use Rattle.tag_lines.specs.ScriptLines.{lone_of, numbered_of, worded_of, numbered_command, ordered}
 use Rattle.tag_lines.specs.ScriptLines.{lone_line, numbered_line, listed_line, word_line, one_word_line, order_of}
 use Rattle.tag_lines.specs.ScriptLines.{IsPlain, IsCommandOf, IsOrderOf}
 use Rattle.tag_lines.proofs.ReadingFacts.{all_said}

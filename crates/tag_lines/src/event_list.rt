@@ -120,7 +120,7 @@ pub fn events(alloc: Global, text: &[u8]) -> Result<Vec<Event>, ListFault>
     Ok(events)
 }
 
-// Parses one line.
+/// Parses one line.
 fn event(line: &[u8]) -> Result<Event, LineFault>
     ensures { result ≡ event_of (line_words line.now) }
 {

@@ -19,7 +19,7 @@ pub fn number(word: &[u8]) -> Option<u64>
     Some(value)
 }
 
-// The number with one more digit, if it fits.
+/// The number with one more digit, if it fits.
 fn with_digit(value: u64, digit: u8) -> Option<u64>
     ensures { MatchOption result (2 ^ 64 ≤ value * 10 + digit) (λ longer. longer ≡ value * 10 + digit) }
 {

@@ -234,7 +234,7 @@ fn listed_order(callers: u32, caller: &[u8], tags: Option<TagList>) -> Result<Or
     ordered(callers, caller, Command::ClearBatch(tags))
 }
 
-// The order, if there is such a caller.
+/// The order, if there is such a caller.
 fn ordered(callers: u32, caller: u32, command: Command) -> Result<Order, LineFault>
     ensures { result ≡ ordered callers caller command }
 {

@@ -121,7 +121,7 @@ impl Entries {
         true
     }
 
-    // Tests the tags that the event names one after another, and makes the next place of each ready.
+    /// Tests the tags that the event names one after another, and makes the next place of each ready.
     fn prepare(&mut self, event: Event) -> bool
         requires { IsInLayout self.old.layout event }
         ensures same { SamePlaces self.old self.new }
@@ -141,7 +141,7 @@ impl Entries {
         true
     }
 
-    // Writes the tag's entry that doesn't count.
+    /// Writes the tag's entry that doesn't count.
     fn make_ready(&mut self, tag: u32, place: Place)
         requires { tag < self.old.layout.depth }
         ensures same { SamePlaces self.old self.new }
@@ -157,7 +157,7 @@ impl Entries {
         }
     }
 
-    // Makes what is ready for the tags of the mask count, all at once.
+    /// Makes what is ready for the tags of the mask count, all at once.
     fn turn(&mut self, word: u32, mask: u64)
         requires { word < words self.old.layout }
         ensures { Turns word mask self.old self.new }
@@ -168,7 +168,7 @@ impl Entries {
     }
 }
 
-// Whether the tag's odd entry counts.
+/// Whether the tag's odd entry counts.
 fn is_turned(turned: &[u64], layout: Layout, tag: u32) -> bool
     requires tag { tag < layout.depth }
     requires words { length turned.now ≡ words layout }

@@ -136,7 +136,7 @@ fn a_world_has_one_to_sixty_four_callers(rt: HostRuntime) -> Result<(), Fail> {
     Ok(())
 }
 
-// Run with each allocation refused in turn, this shows that nothing else is answered.
+/// Run with each allocation refused in turn, this shows that nothing else is answered.
 #[test]
 fn want_of_memory_is_told(rt: HostRuntime) -> Result<(), Fail> {
     let layout = Layout::new(8, None)?;

@@ -132,7 +132,7 @@ impl World {
         Ok(self.totals())
     }
 
-    // The first cause for which the event can't happen, if it isn't where its tags are.
+    /// The first cause for which the event can't happen, if it isn't where its tags are.
     fn test(&self, event: Event) -> Result<(), EventFault>
         ensures ok { OnOk result (IsInRoom self.now event) }
         ensures fault { IfErr result (HasFault self.now event) }
@@ -151,7 +151,7 @@ impl World {
     }
 }
 
-// More at one caller's count.
+/// More at one caller's count.
 fn add_at(counts: &mut [u64], caller: u32, more: u32)
     requires caller { caller < length counts.old }
     requires room { slice_index counts.old caller + more < 2 ^ 64 }

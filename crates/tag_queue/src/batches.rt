@@ -78,7 +78,7 @@ impl<R: Copy> Queue<R> {
     }
 }
 
-// Returns whether each number in the list is below the depth.
+/// Returns whether each number in the list is below the depth.
 fn are_below(tags: &[u32], depth: u32) -> bool
     ensures { IsTrue result ↔ All (λ tag. tag < depth) tags.now }
 {
@@ -90,8 +90,8 @@ fn are_below(tags: &[u32], depth: u32) -> bool
     true
 }
 
-// Returns whether each tag in the list is held, and none is named twice.
-// Each is compared with those before it: at most 2,016 comparisons for 64 tags.
+/// Returns whether each tag in the list is held, and none is named twice.
+/// Each is compared with those before it: at most 2,016 comparisons for 64 tags.
 fn are_held_once<R>(caller: &Caller<R>, tags: &[u32]) -> bool
     requires { AreTags (caller.now.shape.value.layout) tags.now }
     ensures { IsTrue result ↔ AreHeldOnce caller.now tags.now }
@@ -104,7 +104,7 @@ fn are_held_once<R>(caller: &Caller<R>, tags: &[u32]) -> bool
     true
 }
 
-// Frees held tags. Successive tags of the list that lie in one word take one step.
+/// Frees held tags. Successive tags of the list that lie in one word take one step.
 fn give_all<R>(map: &Map<R>, caller: &mut Caller<R>, tags: &[u32])
     requires caller { IsCallerOf map.now caller.old }
     requires some { 1 ≤ length tags.now }

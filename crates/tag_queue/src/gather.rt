@@ -55,7 +55,7 @@ impl<R: Copy> Queue<R> {
         Ok(queue.close(agents))
     }
 
-    // Closes the queue with all its agents.
+    /// Closes the queue with all its agents.
     fn close(self, agents: Vec<Agent<R>>) -> QueueTotals
         requires own { All (IsAgentOf self) agents.items }
         requires all { HasAll (numbers_of agents.items) (agents_of self) }

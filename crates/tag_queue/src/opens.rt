@@ -62,7 +62,7 @@ impl<R: Copy> Queue<R> {
     }
 }
 
-// Allocates a queue and its agents for arguments that are valid, so it fails only if memory runs out.
+/// Allocates a queue and its agents for arguments that are valid, so it fails only if memory runs out.
 fn lay_out<R: Copy>(
     alloc: Global,
     layout: Layout,

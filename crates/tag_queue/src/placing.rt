@@ -46,7 +46,7 @@ impl<R: Copy> Queue<R> {
     }
 }
 
-// Places the hint of each agent.
+/// Places the hint of each agent.
 fn place_all<R: Copy>(queue: &Queue<R>, agents: &mut [Agent<R>])
     requires { All (IsAgentOf queue.now) agents.old }
     ensures { AllZip (IsPlaced queue.now) agents.old agents.new }

@@ -60,7 +60,7 @@ impl<R: Copy> Queue<R> {
         }
     }
 
-    // Returns the queue with a new map and its callers on it, or the queue as it was.
+    /// Returns the queue with a new map and its callers on it, or the queue as it was.
     fn go_on(
         self,
         alloc: Global,

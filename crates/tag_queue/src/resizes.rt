@@ -90,7 +90,7 @@ fn count_standing<R>(agents: &[Agent<R>]) -> usize
 }
 
 impl<R> Queue<R> {
-    // Returns the layout for this depth, if nothing but memory can prevent the resize.
+    /// Returns the layout for this depth, if nothing but memory can prevent the resize.
     fn next_layout(&self, agents: &mut Vec<Agent<R>>, depth: u32) -> Result<Layout, ResizeCause>
         requires own { All (IsAgentOf self.now) agents.old.items }
         ensures own { All (IsAgentOf self.now) agents.new.items }
@@ -113,7 +113,7 @@ impl<R> Queue<R> {
         }
     }
 
-    // Returns what prevents the resize while all agents are present: tags in use, or agents that wait.
+    /// Returns what prevents the resize while all agents are present: tags in use, or agents that wait.
     fn busy(&self, agents: &mut Vec<Agent<R>>) -> Option<ResizeCause>
         requires own { All (IsAgentOf self.now) agents.old.items }
         requires every { HasAll (numbers_of agents.old.items) (agents_of self.now) }

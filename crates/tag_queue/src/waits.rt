@@ -141,7 +141,7 @@ impl<R: Copy> Queue<R> {
         unreachable!()
     }
 
-    // Makes a get for an agent that may win one more tag.
+    /// Makes a get for an agent that may win one more tag.
     fn try_get(&self, agent: &mut Agent<R>) -> Option<u32>
         requires agent { IsAgentOf self.now agent.old }
         requires room { HasRoom agent.old 1 }

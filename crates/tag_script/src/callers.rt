@@ -69,7 +69,7 @@ impl<'a, W: Wait> Callers<'a, W> {
         Callers { rt, alloc, board }
     }
 
-    // Carries out any command but a resize, which consumes the board.
+    /// Carries out any command but a resize, which consumes the board.
     fn answer(&mut self, caller: u32, command: &Command) -> Result<Answer, AllocError>
         requires caller { IsCallerOf self.old.board caller }
         requires no_resize { IsNoResize command.now }
@@ -100,7 +100,7 @@ impl<'a, W: Wait> Callers<'a, W> {
         }
     }
 
-    // Lists the busy tags, ascending.
+    /// Lists the busy tags, ascending.
     fn busy(&mut self, caller: u32) -> Result<BusyTags, AllocError>
         requires { IsCallerOf self.old.board caller }
         ensures { IfOk result (λ tags.
@@ -110,7 +110,7 @@ impl<'a, W: Wait> Callers<'a, W> {
         BusyTags::of_bits(self.alloc, &bits)
     }
 
-    // Returns a bit for each tag of a set, 1 for a busy one.
+    /// Returns a bit for each tag of a set, 1 for a busy one.
     fn dump(&mut self, caller: u32, kind: Kind) -> Result<DumpBytes, AllocError>
         requires { IsCallerOf self.old.board caller }
         ensures { IfOk result (λ bytes.

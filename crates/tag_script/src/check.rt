@@ -47,7 +47,7 @@ pub fn verdict_on(alloc: Global, options: &CheckOptions, text: &[u8]) -> Result<
     }
 }
 
-// Opens the world that the options describe, with all tags free.
+/// Opens the world that the options describe, with all tags free.
 fn open(alloc: Global, options: &CheckOptions) -> Result<World, Closed>
     ensures layout { IfOk result (λ world. IsLayoutOf options.now.tags options.now.shift world.layout) }
     ensures callers { IfOk result (λ world. HasCallers options.now × (callers_of world ≡ options.now.callers)) }
@@ -66,7 +66,7 @@ fn open(alloc: Global, options: &CheckOptions) -> Result<World, Closed>
     }
 }
 
-// Runs the events one after another. The event at index `n - 1` is in line `n`.
+/// Runs the events one after another. The event at index `n - 1` is in line `n`.
 fn run(world: &mut World, events: &[Event]) -> Verdict
     ensures { IsRunVerdict world.old.layout (callers_of world.old) (world_of world.old) events.now result }
 {
@@ -116,7 +116,7 @@ impl Verdict {
     }
 }
 
-// The number of a refused event in the output.
+/// The number of a refused event in the output.
 fn number_of(fault: EventFault) -> u64
     ensures { result ≡ number_of_event_fault fault }
 {

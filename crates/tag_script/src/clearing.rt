@@ -1,9 +1,8 @@
 //! Lists of tags that are given back at once.
-ghost use Rattle.std.specs.Prelude.{◌≡◌, ◌≢◌, ℕ, ◌<◌, ◌≤◌, ◌⊎◌, true, false, length, MatchBool};
+ghost use Rattle.std.specs.Prelude.{◌≡◌, ◌≢◌, ◌<◌, ◌≤◌, ◌⊎◌, true, false, length, MatchBool};
 ghost use Rattle.std.specs.List.{All, AllPairs, Any};
-ghost use Rattle.tag_layout.specs.Layout.{word_of, place_of};
-ghost use Rattle.tag_search.specs.Plain.{plain_words};
-ghost use Rattle.tag_search.specs.Pool.{pool_of, is_busy};
+ghost use Rattle.tag_search.specs.Plain.{plain_words, is_busy_tag};
+ghost use Rattle.tag_search.specs.Pool.{pool_of};
 ghost use Rattle.tag_script.specs.Solo.{freed, NamesTwice};
 
 use tag_search::{PlainPort, Port};
@@ -21,11 +20,10 @@ pub(crate) fn are_below(tags: &[u32], depth: u32) -> bool
 }
 
 /// Returns whether each tag of the list is held, and the tags are distinct.
-// Each tag is compared with those before it: at most 2,016 comparisons for 64 tags.
+/// Each tag is compared with those before it: at most 2,016 comparisons for 64 tags.
 pub(crate) fn are_held_once(port: &PlainPort, tags: &[u32]) -> bool
     requires { All (λ tag. tag < port.now.layout.depth) tags.now }
-    ensures { let l = port.now.layout in let held = λ (tag : ℕ). is_busy (pool_of (plain_words port.now)) (word_of l tag) (place_of l tag) in
-        MatchBool result
+    ensures { let held = is_busy_tag port.now in MatchBool result
         (All (λ tag. held tag ≡ true) tags.now × AllPairs (λ a b. a ≢ b) tags.now)
         (Any (λ tag. held tag ≡ false) tags.now ⊎ NamesTwice tags.now) }
 {
@@ -41,8 +39,7 @@ pub(crate) fn are_held_once(port: &PlainPort, tags: &[u32]) -> bool
 pub(crate) fn give_all(port: &mut PlainPort, tags: &[u32])
     requires some { 1 ≤ length tags.now }
     requires there { All (λ tag. tag < port.old.layout.depth) tags.now }
-    requires held { let l = port.old.layout in
-        All (λ tag. is_busy (pool_of (plain_words port.old)) (word_of l tag) (place_of l tag) ≡ true) tags.now }
+    requires held { All (λ tag. is_busy_tag port.old tag ≡ true) tags.now }
     requires once { AllPairs (λ a b. a ≢ b) tags.now }
     ensures layout { port.new.layout ≡ port.old.layout }
     ensures pool { pool_of (plain_words port.new) ≡ freed port.old.layout tags.now (pool_of (plain_words port.old)) }

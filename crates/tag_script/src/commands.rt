@@ -43,7 +43,7 @@ impl World for Player {
 }
 
 impl Player {
-    // Carries out a command of a plain script.
+    /// Carries out a command of a plain script.
     fn answer(&mut self, command: &Command) -> Result<Answer, AllocError>
         requires ready { IsReadyFor 1 (solo_of self.old) }
         requires known { IsPlain command.now }

@@ -32,7 +32,7 @@ impl Answer {
     }
 }
 
-// Appends words, a number and a line feed.
+/// Appends words, a number and a line feed.
 fn push_line(text: &mut Vec<u8>, words: &[u8], number: u64) -> Result<(), AllocError>
     ensures ok { OnOk result (text.new.items ≡ text.old.items ++ (field words.now number ++ codes "\n")) }
 {
@@ -132,7 +132,7 @@ fn push_not_resized(text: &mut Vec<u8>, cause: ResizeCause) -> Result<(), AllocE
     end_line(text)
 }
 
-// Appends the numbers of a refused resize: tags in use, or waiting callers.
+/// Appends the numbers of a refused resize: tags in use, or waiting callers.
 fn push_hindrance(text: &mut Vec<u8>, cause: ResizeCause) -> Result<(), AllocError>
     ensures ok { OnOk result (text.new.items ≡ text.old.items ++ hindrance_text cause) }
 {
@@ -150,7 +150,7 @@ fn push_in_use(text: &mut Vec<u8>, held: u64, posted: u64) -> Result<(), AllocEr
     push_field(text, b" posted=", posted)
 }
 
-// The number of a refused resize in the output.
+/// The number of a refused resize in the output.
 fn number_of_cause(cause: ResizeCause) -> u64
     ensures { result ≡ number_of_resize_cause cause }
 {
@@ -163,7 +163,7 @@ fn number_of_cause(cause: ResizeCause) -> u64
     }
 }
 
-// The number of a refused command in the output.
+/// The number of a refused command in the output.
 fn number_of(fault: TagFault) -> u64
     ensures { result ≡ number_of_tag_fault fault }
 {

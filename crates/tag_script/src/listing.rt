@@ -41,7 +41,7 @@ impl Player {
         Ok(DumpBytes::new(bytes))
     }
 
-    // The bits of eight tags, the first in bit 0.
+    /// The bits of eight tags, the first in bit 0.
     fn held_byte(&self, offset: u32) -> u8
         requires { offset < 2 ^ 29 }
         ensures { result ≡ held_byte (solo_of self.now) offset }

@@ -33,7 +33,7 @@ pub(crate) fn play_alone(
     }
 }
 
-// Opens the world with these options: one caller, and all tags free. The first limit exceeded is the reason.
+/// Opens the world with these options: one caller, and all tags free. The first limit exceeded is the reason.
 fn open(alloc: Global, options: &ScriptOptions) -> Result<Player, Closed>
     ensures setup { IfOk result (λ player. IsSetup options.now (solo_of player).layout) }
     ensures opened { IfOk result (λ player. solo_of player

@@ -215,7 +215,7 @@ impl Player {
     }
 }
 
-// The number of tags that a batch won.
+/// The number of tags that a batch won.
 fn won_in(answer: Option<(u32, u64)>) -> u64
     ensures value { result ≡ won_in answer }
     ensures few { result ≤ 64 }
@@ -226,7 +226,7 @@ fn won_in(answer: Option<(u32, u64)>) -> u64
     }
 }
 
-// The number of bits per word; the last word may use fewer.
+/// The number of bits per word; the last word may use fewer.
 fn bits_per_word(layout: Layout) -> u32
     ensures { result ≡ word_bits layout }
 {

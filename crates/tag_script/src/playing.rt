@@ -33,7 +33,7 @@ pub fn play<W: World>(alloc: Global, world: W, orders: &[Order]) -> Result<Vec<u
     Ok(text)
 }
 
-// Appends the last line of a script.
+/// Appends the last line of a script.
 fn push_total(text: &mut Vec<u8>, totals: Totals) -> Result<(), AllocError>
     ensures ok { OnOk result (text.new.items ≡ text.old.items ++ total_line totals) }
 {

@@ -38,7 +38,7 @@ pub fn answer_script<W: Wait>(
     }
 }
 
-// Plays the orders in the world that the options describe.
+/// Plays the orders in the world that the options describe.
 fn carry_out<W: Wait>(
     rt: &W,
     alloc: Global,

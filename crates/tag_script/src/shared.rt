@@ -32,7 +32,7 @@ pub(crate) fn play_shared<W: Wait>(
     }
 }
 
-// Opens the board that the options describe.
+/// Opens the board that the options describe.
 fn open(alloc: Global, options: &ScriptOptions) -> Result<Board, Closed>
     ensures allowed { IfOk result (λ board. IsAllowed options.now) }
     ensures new { IfOk result (λ board. IsNewScene options.now (scene_of board)) }

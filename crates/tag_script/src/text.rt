@@ -66,7 +66,7 @@ pub(crate) fn push_setup(text: &mut Vec<u8>, fault: SetFault) -> Result<(), Allo
     end_line(text)
 }
 
-// The number of a refused setup in the output.
+/// The number of a refused setup in the output.
 fn number_of_setup(fault: SetFault) -> u64
     ensures { result ≡ number_of_setup_fault fault }
 {

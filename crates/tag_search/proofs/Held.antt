@@ -10,7 +10,7 @@ use Rattle.tag_layout.specs.Layout.{Layout, words, word_bits, word_depth, tag_at
 use Rattle.tag_layout.proofs.PlaceFacts.{word_of-tag_at, place_of-tag_at}
 use Rattle.tag_search.specs.Added.{AddsSteps}
 use Rattle.tag_search.specs.Batch.{IsBatchGet, batch_words}
-use Rattle.tag_search.specs.Choice.{IsAvailable, IsBusy, IsHeld, words_in, IsChoice, nothing, chosen_free, chosen_aside}
+use Rattle.tag_search.specs.Choice.{IsAvailable, IsBusy, IsHeld, HoldsRun, words_in, IsChoice, nothing, chosen_free, chosen_aside}
 use Rattle.tag_search.specs.Choice.{IsBatchChoice, no_batch, batch}
 use Rattle.tag_search.specs.Gets.{IsGet}
 use Rattle.tag_search.specs.Order.{numbers}
@@ -107,7 +107,7 @@ choice_held {l = l} {old = old} (chosen_aside full behind visit {place = place} 
 
 pub batch_held : {l : Layout} {n : ℕ} {old : Pool} {is : List ℕ} {answer : Option (ℕ × ℕ)} {new : Pool}
     → IsBatchChoice l n old is answer new → IsApart old
-    → IsApart new × IfSome answer (λ won. (k : ℕ) → bit_at won.1 k ≡ 1 → IsHeld l new (won.0 + k))
+    → IsApart new × IfSome answer (HoldsRun l new)
 batch_held {old = old} (no_batch {words = is} all) apart = (apart_freed is old apart, tt)
 batch_held {l = l} {n = n} {old = old} (batch passed behind word {place = place} {bits = bits} all run) apart =
     let p : Pool = freed_in (word ∷ passed) old in let apart' = apart_freed (word ∷ passed) old apart in

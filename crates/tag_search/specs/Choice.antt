@@ -29,6 +29,10 @@ IsBusy p word place = is_available p word place ≡ false
 abbrev pub IsHeld : Layout → Pool → ℕ → Type 0
 IsHeld l p tag = IsBusy p (word_of l tag) (place_of l tag)
 
+-- each tag of a run, which is its first tag and a mask whose lowest bit is that tag, is neither free nor set aside
+abbrev pub HoldsRun : Layout → Pool → ℕ × ℕ → Type 0
+HoldsRun l p run = (k : ℕ) → bit_at run.1 k ≡ 1 → IsHeld l p (run.0 + k)
+
 -- the place is in the rank, `This` holds of it, and `Others` of each place before it
 pub record IsFirst (This Others : ℕ → Type 0) (rank : List ℕ) (place : ℕ) : Type 0 where
   pub before : List ℕ

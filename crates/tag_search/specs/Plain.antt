@@ -1,9 +1,10 @@
 -- What a contract sees of a `PlainPort`, and the effect of its steps.
-use Rattle.std.specs.Prelude.{◌≡◌, ℕ, List, slice_index}
+use Rattle.std.specs.Prelude.{◌≡◌, ℕ, List, Bool, slice_index}
 use Rattle.std.specs.Int.{bit_at}
 use Rattle.tag_core.specs.declared.word_step.WordStep.{WordStep}
 use Rattle.tag_core.specs.Steps.{Words, Quiet, words_after_all}
-use Rattle.tag_layout.specs.Layout.{Layout}
+use Rattle.tag_layout.specs.Layout.{Layout, word_of, place_of}
+use Rattle.tag_search.specs.Pool.{pool_of, is_busy}
 
 -- the layout, each word, and the cleared set of each word, in order
 pub record Plain : Type 0 where
@@ -21,6 +22,10 @@ pub record RunsAlone (old : Plain) (steps : List WordStep) (new : Plain) : Type 
   pub layout : new.layout ≡ old.layout
   pub quiet : Quiet steps (plain_words old)
   pub leaves : plain_words new ≡ words_after_all steps (plain_words old)
+
+-- the tag is neither free nor set aside
+abbrev pub is_busy_tag : Plain → ℕ → Bool
+is_busy_tag p tag = is_busy (pool_of (plain_words p)) (word_of p.layout tag) (place_of p.layout tag)
 
 -- the place is taken and not set aside
 pub record IsTaken (p : Plain) (word place : ℕ) : Type 0 where

@@ -3,7 +3,7 @@ ghost use Rattle.std.specs.Prelude.{◌≡◌, ◌≢◌, ℕ, ◌+◌, ◌*◌,
 ghost use Rattle.tag_core.specs.Steps.{without};
 ghost use Rattle.tag_core.specs.declared.word_step.WordStep.TheVariants.{Claimed};
 ghost use Rattle.tag_layout.specs.Layout.{words, word_depth};
-ghost use Rattle.tag_search.specs.Order.{numbers, scan_order};
+ghost use Rattle.tag_search.specs.Order.{numbers};
 ghost use Rattle.tag_search.specs.Batch.{run_mask, run_won, IsSweptLook, IsBatchVisit, IsBatchSearch};
 ghost use Rattle.tag_search.specs.Added.{AddsSteps, SameRoom};
 
@@ -124,7 +124,7 @@ pub fn search_run<P: Port>(port: &mut P, layout: Layout, n: u32, first: u32) -> 
     ensures port { P.ready port.new }
     ensures sizes { P.sizes port.new ≡ P.sizes port.old }
     ensures tags { IfSome result (λ won. won.0 + n ≤ layout.depth) }
-    ensures search { AddsSteps P.adds port.old port.new (λ steps. IsBatchSearch layout n (scan_order first (words layout) true) steps result) }
+    ensures search { AddsSteps P.adds port.old port.new (λ steps. IsBatchSearch layout n (batch_words layout first) steps result) }
 {
     match runs_between(port, layout, n, first, layout.words()) {
         Some(won) => Some(won),

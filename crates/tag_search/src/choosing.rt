@@ -1,9 +1,8 @@
 //! Gets over plain words. No other caller steps, so the answer is always the choice.
-ghost use Rattle.std.specs.Prelude.{◌≡◌, ℕ, ◌+◌, ◌≤◌, false, IsTrue, IfSome};
-ghost use Rattle.std.specs.Int.{bit_at};
+ghost use Rattle.std.specs.Prelude.{◌≡◌, ◌≤◌, false, IsTrue, IfSome};
 ghost use Rattle.tag_layout.specs.Layout.{word_bits, word_of};
 ghost use Rattle.tag_search.specs.Batch.{batch_words};
-ghost use Rattle.tag_search.specs.Choice.{IsHeld, IsChoice, IsBatchChoice};
+ghost use Rattle.tag_search.specs.Choice.{IsHeld, HoldsRun, IsChoice, IsBatchChoice};
 ghost use Rattle.tag_search.specs.Follows.{HintFollows, BatchFollows};
 ghost use Rattle.tag_search.specs.Hints.{reduced};
 ghost use Rattle.tag_search.specs.Plain.{plain_words};
@@ -58,7 +57,7 @@ impl PlainPort {
             let words = batch_words l (word_of l (reduced l.depth hint.old.at)) in
             IsBatchChoice l n (pool_of (plain_words self.old)) words result (pool_of (plain_words self.new)) }
         ensures held { hint.old.round_robin ≡ false → IsApart (pool_of (plain_words self.old)) → let left = pool_of (plain_words self.new) in
-            IsApart left × IfSome result (λ won. (k : ℕ) → bit_at won.1 k ≡ 1 → IsHeld self.old.layout left (won.0 + k)) }
+            IsApart left × IfSome result (HoldsRun self.old.layout left) }
         ensures hint { hint.old.round_robin ≡ false → BatchFollows self.old.layout.depth n hint.old hint.new result }
     {
         let Ok(answer) = get_batch(self, hint, n) else {

@@ -3,8 +3,8 @@ ghost use Rattle.std.specs.Prelude.{◌≡◌, ℕ, ◌+◌, ◌^◌, ◌<◌, �
 ghost use Rattle.std.specs.Int.{bit_at};
 ghost use Rattle.tag_layout.specs.Layout.{words, word_of, place_of, IsWithin};
 ghost use Rattle.tag_core.specs.declared.word_step.WordStep.TheVariants.{LookAside, Give, Put};
-ghost use Rattle.tag_search.specs.Plain.{plain_words, RunsAlone, IsTaken};
-ghost use Rattle.tag_search.specs.Pool.{pool_of, is_busy, set_aside, free_at};
+ghost use Rattle.tag_search.specs.Plain.{plain_words, is_busy_tag, RunsAlone, IsTaken};
+ghost use Rattle.tag_search.specs.Pool.{pool_of, set_aside, free_at};
 ghost use Rattle.tag_search.specs.Writes.{WritesBits, IsIn, IsTidy, IsAllFree};
 
 use crate::place::bit_of;
@@ -55,8 +55,7 @@ impl PlainPort {
     pub fn taken(&self, tag: u32) -> bool
         requires { tag < self.now.layout.depth }
         ensures taken { IsTrue result ↔ IsTaken self.now (word_of self.now.layout tag) (place_of self.now.layout tag) }
-        ensures busy { let l = self.now.layout in
-            IsTrue result ↔ IsTrue (is_busy (pool_of (plain_words self.now)) (word_of l tag) (place_of l tag)) }
+        ensures busy { IsTrue result ↔ IsTrue (is_busy_tag self.now tag) }
     {
         let word = self.layout.word_of(tag) as usize;
         let bit = bit_of(self.layout, tag);

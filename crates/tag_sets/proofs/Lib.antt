@@ -17,5 +17,5 @@ pub mod Listing
 pub mod Reuniting
 pub mod Settling
 pub mod Refusing
-pub mod Regrowing
+pub mod Resized
 pub mod Placed

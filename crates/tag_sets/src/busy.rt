@@ -33,7 +33,7 @@ impl<R: Copy> Tags<R> {
         reserved + ordinary
     }
 
-    // Sets the bits of the busy tags of a set, whose first tag has bit `first`, and returns how many they are.
+    /// Sets the bits of the busy tags of a set, whose first tag has bit `first`, and returns how many they are.
     fn list_set(&self, hand: &mut Hand<R>, kind: Kind, first: u32, into: &mut [u64]) -> u32
         requires hand { IsHandOf self.now hand.old }
         requires room { first + (layout_of self.now kind).depth ≤ 64 * length into.old }

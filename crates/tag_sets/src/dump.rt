@@ -26,7 +26,7 @@ impl<R: Copy> Tags<R> {
         count
     }
 
-    // Sets the bits of the busy tags of a set, and clears all others.
+    /// Sets the bits of the busy tags of a set, and clears all others.
     fn pack(&self, hand: &mut Hand<R>, kind: Kind, bytes: &mut [u8])
         requires hand { IsHandOf self.now hand.old }
         requires room { (layout_of self.now kind).depth ≤ 8 * length bytes.old }

@@ -41,7 +41,7 @@ impl<R: Copy> Tags<R> {
         Ok(tags.close(hands))
     }
 
-    // Closes both sets with all their hands.
+    /// Closes both sets with all their hands.
     fn close(self, hands: Vec<Hand<R>>) -> QueueTotals
         requires own { All (IsHandOf self) hands.items }
         requires all { HasAll (numbers_of hands.items) (hands_of self) }
@@ -69,7 +69,7 @@ impl<R: Copy> Tags<R> {
     }
 }
 
-// Returns the sums over both sets.
+/// Returns the sums over both sets.
 fn add_up(one: Totals, other: Totals) -> Totals
     requires { IsSmall one × IsSmall other }
     ensures { result ≡ totals_of_both one other }

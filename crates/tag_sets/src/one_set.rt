@@ -32,7 +32,7 @@ pub(crate) struct OneSet<R> {
 }
 
 impl<R: Copy> OneSet<R> {
-    // Puts both sets and the hands together again. There are at least `count` hands, the number given to `open`.
+    /// Puts both sets and the hands together again. There are at least `count` hands, the number given to `open`.
     fn rejoin(self, ordinary: OneSet<R>, hands: &mut Vec<Hand<R>>, count: u32) -> Tags<R>
         requires numbers { agent_numbers self.agents.items ≡ agent_numbers ordinary.agents.items }
         requires fits { (layout_of self.queue).depth + (layout_of ordinary.queue).depth ≤ MAX_DEPTH }
@@ -66,7 +66,7 @@ impl<R: Copy> OneSet<R> {
         }
     }
 
-    // Returns the same set, and how many of its tags are held and how many posted.
+    /// Returns the same set, and how many of its tags are held and how many posted.
     fn settle(queue: Queue<R>, agents: Vec<Agent<R>>, layout: Layout) -> (OneSet<R>, u64, u64)
         requires own { All (IsAgentOf queue) agents.items }
         requires every { HasAll (agent_numbers agents.items) (agents_of queue) }
@@ -94,7 +94,7 @@ impl<R: Copy> OneSet<R> {
         (set, held, posted)
     }
 
-    // Resizes the set to this depth, or returns the cause and the set as it was.
+    /// Resizes the set to this depth, or returns the cause and the set as it was.
     fn resize(
         alloc: Global,
         queue: Queue<R>,

@@ -75,7 +75,7 @@ impl<R: Copy> Tags<R> {
     }
 }
 
-// Returns the layout of a set that was opened with this depth and these options.
+/// Returns the layout of a set that was opened with this depth and these options.
 fn lay_out(depth: u32, options: Options) -> Layout
     requires { HasLayout depth options }
     ensures { IsLaidOut depth options result }
@@ -86,7 +86,7 @@ fn lay_out(depth: u32, options: Options) -> Layout
     layout
 }
 
-// Puts hands together from these agents, in the same order.
+/// Puts hands together from these agents, in the same order.
 fn join<R>(
     alloc: Global,
     reserved_count: u32,

@@ -52,7 +52,7 @@ impl<R: Copy> Tags<R> {
     }
 }
 
-// Places the hints of each hand.
+/// Places the hints of each hand.
 fn place_all<R: Copy>(tags: &Tags<R>, hands: &mut [Hand<R>])
     requires { All (IsHandOf tags.now) hands.old }
     ensures { AllZip (IsPlaced tags.now) hands.old hands.new }

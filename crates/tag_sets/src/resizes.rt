@@ -62,7 +62,7 @@ impl<R: Copy> Tags<R> {
         }
     }
 
-    // Returns the same tags, and what prevents a resize, apart from waits and memory.
+    /// Returns the same tags, and what prevents a resize, apart from waits and memory.
     fn obstacle(self, hands: &mut Vec<Hand<R>>, total: u32) -> (Tags<R>, Option<ResizeCause>)
         requires own { All (IsHandOf self) hands.old.items }
         requires few { length hands.old.items ≤ hands_of self }

@@ -78,7 +78,7 @@ fn write_end<W: Write>(writer: &mut W, count: usize, offset: usize) -> Result<()
     Ok(())
 }
 
-// Writes the last `width` hexadecimal digits of a number, the highest first.
+/// Writes the last `width` hexadecimal digits of a number, the highest first.
 fn write_hex<W: Write>(writer: &mut W, number: u64, width: u32) -> Result<()>
     requires { width ≤ 8 }
     ensures { OnOk result (Appends (W.contents writer.old) (W.contents writer.new) (hex_digits width number)) }

@@ -7,8 +7,8 @@ use crate::hand::Hand;
 use crate::tags::Tags;
 use step_ledger::Numbered;
 
-// Returns the indexes of two hands with the same number, the lower one first, or `None` if all numbers differ. It compares
-// at most 2,016 pairs for 64 hands.
+/// Returns the indexes of two hands with the same number, the lower one first, or `None` if all numbers differ. It compares
+/// at most 2,016 pairs for 64 hands.
 fn twins<R>(hands: &[Hand<R>]) -> Option<(usize, usize)>
     ensures { MatchOption result (AreDistinct (numbers_of hands.now)) (λ pair. AreTwins (numbers_of hands.now) pair.0 pair.1) }
 {

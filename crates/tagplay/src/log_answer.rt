@@ -24,7 +24,7 @@ pub(crate) fn answer_log<T: Threads + Wait + Sync>(
     Ok((text, ending))
 }
 
-// The whole log is read before any line is carried out, so a malformed log has no partial play.
+/// The whole log is read before any line is carried out, so a malformed log has no partial play.
 fn push_owed<T: Threads + Wait + Sync>(
     rt: &T,
     alloc: Global,

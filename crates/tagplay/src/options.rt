@@ -138,7 +138,7 @@ fn shift<'a>(alloc: Global) -> Arg<'a> {
         )
 }
 
-// Returns an option that takes a number and has a default.
+/// Returns an option that takes a number and has a default.
 fn count<'a>(
     alloc: Global,
     name: &'static str,

@@ -22,7 +22,7 @@ pub struct PlayOptions {
 }
 
 impl PlayOptions {
-    // Returns the setup with these options, legal or not.
+    /// Returns the setup with these options, legal or not.
     pub(crate) fn setup(&self) -> Setup
         ensures { result ≡ setup_of self.now }
     {

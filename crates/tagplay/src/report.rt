@@ -20,7 +20,7 @@ pub(crate) fn push_report(text: &mut Vec<u8>, log: &Log, report: &Report) -> Res
     push_totals(text, report.totals)
 }
 
-// Appends the number of lines carried out, by kind.
+/// Appends the number of lines carried out, by kind.
 fn push_kinds(text: &mut Vec<u8>, done: &[Done]) -> Result<(), AllocError>
     ensures ok { OnOk result (text.new.items ≡ text.old.items ++ kinds_lines done.now) }
 {
@@ -31,7 +31,7 @@ fn push_kinds(text: &mut Vec<u8>, done: &[Done]) -> Result<(), AllocError>
     push_line(text, b"datasyncs=", count_of(done, IoKind::Datasync))
 }
 
-// Appends the totals of the tags.
+/// Appends the totals of the tags.
 fn push_totals(text: &mut Vec<u8>, totals: Totals) -> Result<(), AllocError>
     ensures ok { OnOk result (text.new.items ≡ text.old.items ++ totals_lines totals) }
 {
@@ -69,7 +69,7 @@ pub(crate) fn push_play_fault(text: &mut Vec<u8>, fault: PlayFault) -> Result<()
     }
 }
 
-// Counts the items that carry out a line of this kind.
+/// Counts the items that carry out a line of this kind.
 fn count_of(done: &[Done], kind: IoKind) -> u64
     ensures { result ≡ count_of kind done.now }
 {
@@ -96,7 +96,7 @@ fn number_of(kind: IoKind) -> u8
     }
 }
 
-// Appends words, a number and a line feed.
+/// Appends words, a number and a line feed.
 fn push_line(text: &mut Vec<u8>, words: &[u8], number: u64) -> Result<(), AllocError>
     ensures ok { OnOk result (text.new.items ≡ text.old.items ++ line_of words.now number) }
 {
@@ -105,7 +105,7 @@ fn push_line(text: &mut Vec<u8>, words: &[u8], number: u64) -> Result<(), AllocE
     Ok(())
 }
 
-// Appends words and a number.
+/// Appends words and a number.
 fn push_field(text: &mut Vec<u8>, words: &[u8], number: u64) -> Result<(), AllocError>
     ensures ok { OnOk result (text.new.items ≡ text.old.items ++ field words.now number) }
 {

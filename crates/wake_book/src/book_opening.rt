@@ -79,7 +79,7 @@ impl Book {
         Ok(tellers)
     }
 
-    // Makes the next teller from the seat that holds its record and those of all later tellers.
+    /// Makes the next teller from the seat that holds its record and those of all later tellers.
     fn new_teller(&self, rest: &mut Seat<(), View<BookStep>>, number: u32) -> Teller
         requires comes { (number < self.now.limits.tellers) × (rest.old.table_id ≡ self.now.table.shared.table_id) }
         requires knows { rest.old.me ≡ (still_to_come number (tellers_of self.now), []) }

@@ -113,7 +113,7 @@ impl Book {
         teller.count += n;
     }
 
-    // Advances the wakeup count from `start` to `end` if it is still `start`.
+    /// Advances the wakeup count from `start` to `end` if it is still `start`.
     fn advance(&self, teller: &mut Teller, start: u64, end: u64) -> bool
         requires book { IsTellerOf self.now teller.old }
         requires batch { (start < end) × (end ≤ start + 8) }

@@ -126,7 +126,7 @@ impl WaiterGathering {
     }
 }
 
-// Returns the grants and the waiting waiters of all groups together.
+/// Returns the grants and the waiting waiters of all groups together.
 fn counts_of(closed: &Closed<(), Global>) -> (u64, u64)
     requires { IsFull closed.now.words × (slots_len closed.now.words ≡ groups_width) }
     ensures granted { result.0 ≡ sum_to (λ g. granted (word (slots_items closed.now.words) g)) 8 }

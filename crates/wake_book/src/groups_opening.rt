@@ -75,7 +75,7 @@ impl Groups {
         Ok(all)
     }
 
-    // Makes the next waiter from the seat that holds its record and those of all later waiters.
+    /// Makes the next waiter from the seat that holds its record and those of all later waiters.
     fn new_waiter(&self, rest: &mut Seat<(), View<GroupStep>>, number: u32) -> Waiter
         requires comes { (number < self.now.waiters) × (rest.old.table_id ≡ self.now.table.shared.table_id) }
         requires knows { rest.old.me ≡ (still_to_come number (waiters_of self.now), []) }

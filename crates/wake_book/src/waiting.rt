@@ -21,8 +21,8 @@ pub enum Left {
     Unwoken,
 }
 
-// How a waiter leaves a group with this word, and the word without it: it uses a grant if there is one, and otherwise
-// is no longer waiting.
+/// How a waiter leaves a group with this word, and the word without it: it uses a grant if there is one, and otherwise
+/// is no longer waiting.
 fn way_out(found: u64) -> (Left, u64)
     requires { granted found ≡ 0 → 1 ≤ waiting found }
     ensures { IsWayOut found result.0 result.1 }

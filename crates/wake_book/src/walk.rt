@@ -88,7 +88,7 @@ impl Groups {
         }
     }
 
-    // Moves up to `most` waiters of a group from waiting to granted, and returns how many.
+    /// Moves up to `most` waiters of a group from waiting to granted, and returns how many.
     fn visit(&self, waiter: &mut Waiter, group: u32, most: u32) -> u32
         requires groups { IsWaiterOf self.now waiter.old }
         requires within { (group < 8) × (waiter.old.moved + most ≤ 2 ^ 56) }
@@ -110,7 +110,7 @@ impl Groups {
         0
     }
 
-    // Moves `count` waiters from waiting to granted, if the group's word is still `found`.
+    /// Moves `count` waiters from waiting to granted, if the group's word is still `found`.
     fn grant(&self, waiter: &mut Waiter, group: u32, found: u64, count: u64) -> bool
         requires groups { IsWaiterOf self.now waiter.old }
         requires within { (group < 8) × (count ≤ waiting found) × (waiter.old.moved + count ≤ 2 ^ 56) }

@@ -8,7 +8,7 @@ const SMALL: &[u8] =
     b"fio version 2 iolog\n/dev/loop0 add\n/dev/loop0 open\n/dev/loop0 write 0 4096\n\
 /dev/loop0 write 4096 4096\n/dev/loop0 read 0 8192\n/dev/loop0 sync 0 0\n/dev/loop0 close";
 
-// The lines after a header.
+/// The lines after a header.
 fn behind_header(alloc: Global, lines: &[u8]) -> Result<Vec<u8>, AllocError> {
     let mut text = b"fio version 2 iolog\n".to_vec(alloc)?;
     text.extend_from_slice(lines)?;
@@ -22,7 +22,7 @@ fn fault_of(alloc: Global, text: &[u8]) -> Option<LogFault> {
     }
 }
 
-// A fault `BadLine` at this line.
+/// A fault `BadLine` at this line.
 fn bad_line(line: u64) -> Option<LogFault> {
     Some(LogFault {
         line,
@@ -186,7 +186,7 @@ fn random_bytes(rt: HostRuntime) -> Result<(), Fail> {
     Ok(())
 }
 
-// How many bytes of the small log end a line, with its line feed or without, or a number that is cut short.
+/// How many bytes of the small log end a line, with its line feed or without, or a number that is cut short.
 const WHOLE: [(usize, usize); 7] = [
     (19, 20),
     (34, 35),

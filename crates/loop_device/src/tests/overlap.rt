@@ -8,10 +8,10 @@ use std::sync::atomic::Ordering::SeqCst;
 use std::test::Fail;
 use std::thread;
 
-// For how many turns a completion is held while nothing is to happen.
+/// For how many turns a completion is held while nothing is to happen.
 const IDLE_TURNS: u32 = 10_000;
 
-// A log with I/O on lines 3 and 4.
+/// A log with I/O on lines 3 and 4.
 fn two_writes(alloc: Global) -> Result<Log, LogFault> {
     Log::read(
         alloc,
@@ -19,7 +19,7 @@ fn two_writes(alloc: Global) -> Result<Log, LogFault> {
     )
 }
 
-// Which calls of the gate have begun, and whether a hold failed.
+/// Which calls of the gate have begun, and whether a hold failed.
 #[derive(Drop)]
 struct Began {
     submits: [AtomicBool; 2],
@@ -36,7 +36,7 @@ impl Began {
         }
     }
 
-    // Holds the caller until the mark is set, and fails if it isn't by the last turn.
+    /// Holds the caller until the mark is set, and fails if it isn't by the last turn.
     fn hold_until(&self, mark: &AtomicBool) {
         for _ in 0..TURNS {
             if mark.load(SeqCst) {
@@ -48,17 +48,17 @@ impl Began {
     }
 }
 
-// The mark of this line.
+/// The mark of this line.
 fn mark_of(marks: &[AtomicBool; 2], line: u64) -> &AtomicBool {
     if line == 3 { &marks[0] } else { &marks[1] }
 }
 
-// The mark of the other line.
+/// The mark of the other line.
 fn mark_beside(marks: &[AtomicBool; 2], line: u64) -> &AtomicBool {
     if line == 3 { &marks[1] } else { &marks[0] }
 }
 
-// Holds the submitter of line 3 until its completion begins, and that completion until line 4 was submitted.
+/// Holds the submitter of line 3 until its completion begins, and that completion until line 4 was submitted.
 #[derive(Drop)]
 struct Crossing(Began);
 
@@ -78,7 +78,7 @@ impl Gate for Crossing {
     }
 }
 
-// Holds each thread until another has come as far with the other line.
+/// Holds each thread until another has come as far with the other line.
 #[derive(Drop)]
 struct SideBySide(Began);
 
@@ -94,7 +94,7 @@ impl Gate for SideBySide {
     }
 }
 
-// Holds the first completion for all its turns, and fails if the other line was submitted meanwhile.
+/// Holds the first completion for all its turns, and fails if the other line was submitted meanwhile.
 #[derive(Drop)]
 struct OneAtATime(Began);
 

@@ -75,7 +75,7 @@ fn illegal_setups(rt: HostRuntime) -> Result<(), Fail> {
     Ok(())
 }
 
-// Holds the completion of line 3 until line 5 was submitted.
+/// Holds the completion of line 3 until line 5 was submitted.
 #[derive(Drop)]
 struct HoldsTheFirst {
     submitted: AtomicU64,
@@ -101,7 +101,7 @@ impl Gate for HoldsTheFirst {
     }
 }
 
-// The log `write`, `write`, `write` on lines 3 to 5.
+/// The log `write`, `write`, `write` on lines 3 to 5.
 fn three_writes(alloc: Global) -> Result<Log, AllocError> {
     Ok(Log {
         names: Vec::new(alloc),

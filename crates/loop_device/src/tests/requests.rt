@@ -11,7 +11,7 @@ use std::sync::atomic::Ordering::SeqCst;
 use std::test::Fail;
 use tag_sets::{Hand, Options, SetFault, Tags};
 
-// Records the last line that was about to be carried out.
+/// Records the last line that was about to be carried out.
 #[derive(Drop)]
 struct Recorder {
     completed: AtomicU64,

@@ -103,7 +103,7 @@ pub(crate) fn options(callers: u32) -> Options {
     }
 }
 
-// Runs any command but a resize.
+/// Runs any command but a resize.
 fn act<W: Wait>(rt: &W, board: &mut Board, caller: u32, call: Call) -> Answer {
     if caller as usize >= board.hands.len() {
         return Answer::Nobody;

@@ -16,8 +16,8 @@ use tag_sets::Left::{Unwoken, Woken as ByGrant};
 use tag_sets::ResizeCause::{DepthTooLarge, InUse, Waiting};
 use tag_sets::TagFault;
 
-// Runs a script on a board of `total` tags, `reserved` of them reserved, for `callers` callers. Each command must have
-// the answer beside it, and the totals at the end must be these.
+/// Runs a script on a board of `total` tags, `reserved` of them reserved, for `callers` callers. Each command must have
+/// the answer beside it, and the totals at the end must be these.
 fn expect<R: Abort + AllocGlobal + Blocks>(
     rt: &R,
     (total, reserved, callers): (u32, u32, u32),

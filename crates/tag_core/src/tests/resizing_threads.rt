@@ -20,7 +20,7 @@ const THREADS: u32 = 4;
 /// Rounds of each thread on each map.
 const ROUNDS: u32 = 20_000;
 
-// The tags of a claim are given back, or put aside.
+/// The tags of a claim are given back, or put aside.
 fn clear(map: &Map<u64>, caller: &mut Caller<u64>, word: u32, won: u64, aside: bool)
     requires { IsCallerOf map.now caller.old }
     ensures { IsCallerOf map.now caller.new }
@@ -41,7 +41,7 @@ fn clear(map: &Map<u64>, caller: &mut Caller<u64>, word: u32, won: u64, aside: b
     }
 }
 
-// Claims whole words in turn, and clears what it won.
+/// Claims whole words in turn, and clears what it won.
 fn play(map: &Map<u64>, caller: &mut Caller<u64>, won: &AtomicU64)
     requires { IsCallerOf map.now caller.old }
     ensures { IsCallerOf map.now caller.new }
@@ -60,7 +60,7 @@ fn play(map: &Map<u64>, caller: &mut Caller<u64>, won: &AtomicU64)
     }
 }
 
-// The threads play on the map, and the callers go on with one of this depth.
+/// The threads play on the map, and the callers go on with one of this depth.
 fn play_and_resize<T: Threads + Sync>(
     rt: &T,
     alloc: Global,

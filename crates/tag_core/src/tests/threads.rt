@@ -64,7 +64,7 @@ fn count(number: &AtomicU64, so: bool) {
     }
 }
 
-// Whether the slot of a held tag has the value that was written there last. It is 0 then.
+/// Whether the slot of a held tag has the value that was written there last. It is 0 then.
 fn reads_back(map: &Map<u64>, caller: &mut Caller<u64>, tally: &Tally, tag: u32) -> bool
     requires { IsCallerOf map.now caller.old }
     ensures { IsCallerOf map.now caller.new }
@@ -76,7 +76,7 @@ fn reads_back(map: &Map<u64>, caller: &mut Caller<u64>, tally: &Tally, tag: u32)
     }
 }
 
-// Writes the slot of a held tag.
+/// Writes the slot of a held tag.
 fn write(map: &Map<u64>, caller: &mut Caller<u64>, tally: &Tally, tag: u32, value: u64)
     requires { IsCallerOf map.now caller.old }
     ensures { IsCallerOf map.now caller.new }
@@ -87,7 +87,7 @@ fn write(map: &Map<u64>, caller: &mut Caller<u64>, tally: &Tally, tag: u32, valu
     }
 }
 
-// A tag that was won is written and read, and is posted, set aside or given.
+/// A tag that was won is written and read, and is posted, set aside or given.
 fn spend(map: &Map<u64>, caller: &mut Caller<u64>, tally: &Tally, tag: u32, value: u64)
     requires { IsCallerOf map.now caller.old }
     ensures { IsCallerOf map.now caller.new }
@@ -110,7 +110,7 @@ fn spend(map: &Map<u64>, caller: &mut Caller<u64>, tally: &Tally, tag: u32, valu
     count(&tally.wrong, !done);
 }
 
-// Posted tags are taken, read, and set aside.
+/// Posted tags are taken, read, and set aside.
 fn take_posted(map: &Map<u64>, caller: &mut Caller<u64>, tally: &Tally)
     requires { IsCallerOf map.now caller.old }
     ensures { IsCallerOf map.now caller.new }
@@ -126,7 +126,7 @@ fn take_posted(map: &Map<u64>, caller: &mut Caller<u64>, tally: &Tally)
     }
 }
 
-// Two tags of a word are claimed, and those won are spent.
+/// Two tags of a word are claimed, and those won are spent.
 fn win_some(map: &Map<u64>, caller: &mut Caller<u64>, tally: &Tally, number: usize, round: u32)
     requires { IsCallerOf map.now caller.old }
     ensures { IsCallerOf map.now caller.new }

@@ -5,7 +5,7 @@ use std::process::Abort;
 use std::sync::Wait;
 use std::test::*;
 
-// Takes this many tags of a map, gives some back, and compares the text after the answers.
+/// Takes this many tags of a map, gives some back, and compares the text after the answers.
 fn expect_dump<R: Abort + AllocGlobal + Wait>(
     rt: &R,
     map: &ScriptOptions,

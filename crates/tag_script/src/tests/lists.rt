@@ -3,7 +3,7 @@ use crate::{CheckOptions, Ending, verdict_on};
 use std::process::Abort;
 use std::test::*;
 
-// Checks a list, and compares the text and the ending.
+/// Checks a list, and compares the text and the ending.
 fn expect<R: Abort + AllocGlobal>(
     rt: &R,
     options: &CheckOptions,
@@ -93,7 +93,7 @@ fn lines_are_bytes_and_the_last_may_lack_its_end(rt: HostRuntime) -> Result<(), 
     Ok(())
 }
 
-// An empty word is reported before an unknown name or a number.
+/// An empty word is reported before an unknown name or a number.
 #[test]
 fn an_empty_word_is_told_first(rt: HostRuntime) -> Result<(), Fail> {
     for line in [

@@ -90,7 +90,7 @@ fn malformed_scripts(rt: HostRuntime) -> Result<(), Fail> {
     Ok(())
 }
 
-// A command that a plain script does not have is reported as a malformed line.
+/// A command that a plain script does not have is reported as a malformed line.
 #[test]
 fn a_plain_script_knows_fewer_commands(rt: HostRuntime) -> Result<(), Fail> {
     for script in [
@@ -104,7 +104,7 @@ fn a_plain_script_knows_fewer_commands(rt: HostRuntime) -> Result<(), Fail> {
     Ok(())
 }
 
-// An empty word is reported before an unknown command, a number or a caller.
+/// An empty word is reported before an unknown command, a number or a caller.
 #[test]
 fn an_empty_word_is_told_first(rt: HostRuntime) -> Result<(), Fail> {
     for line in [
@@ -150,7 +150,7 @@ fn an_empty_word_is_told_first(rt: HostRuntime) -> Result<(), Fail> {
     )
 }
 
-// A line feed ends a line and a blank ends a word. All other bytes are part of words.
+/// A line feed ends a line and a blank ends a word. All other bytes are part of words.
 #[test]
 fn any_other_byte_stands_in_a_word(rt: HostRuntime) -> Result<(), Fail> {
     for (script, text) in [

@@ -233,7 +233,7 @@ fn cleared_lists_are_free_at_once(rt: HostRuntime) -> Result<(), Fail> {
     expect_both(&rt, &options(4, Some(2)), script, text)
 }
 
-// Lists with as many tags as a batch clear allows, and with one more.
+/// Lists with as many tags as a batch clear allows, and with one more.
 #[test]
 fn long_lists(rt: HostRuntime) -> Result<(), Fail> {
     for (length, answer, totals) in [

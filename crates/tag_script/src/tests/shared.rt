@@ -3,7 +3,7 @@ use crate::ScriptOptions;
 use crate::tests::scripts::{expect, options};
 use std::test::*;
 
-// Options for this many callers that share this many tags.
+/// Options for this many callers that share this many tags.
 fn shared(tags: u32, callers: u32) -> ScriptOptions {
     ScriptOptions {
         callers,

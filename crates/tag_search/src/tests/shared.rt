@@ -31,7 +31,7 @@ fn is_held(map: &Map<u64>, caller: &Caller<u64>, tag: u32) -> bool
     tag < map.layout().depth() && caller.holds(tag)
 }
 
-// A batch get of any count: `None` if the count is 0 or more than the bits of a word.
+/// A batch get of any count: `None` if the count is 0 or more than the bits of a word.
 #[tactic(auto, using(std::proofs::lemmas::Nat::one_shl))]
 fn batch_within(
     map: &Map<u64>,
@@ -60,7 +60,7 @@ enum Call {
     Sweep(u32),
 }
 
-// Decodes a number into a call.
+/// Decodes a number into a call.
 fn call_of(number: u32) -> Call {
     let operand = (number >> 8) % 12;
     match number >> 29 {
@@ -73,7 +73,7 @@ fn call_of(number: u32) -> Call {
     }
 }
 
-// The answer of a get as a batch of one. A mask of 0 is `Spent`.
+/// The answer of a get as a batch of one. A mask of 0 is `Spent`.
 fn told(answer: Result<Option<u32>, Spent>) -> Option<(u32, u64)> {
     match answer {
         Ok(Some(tag)) => Some((tag, 1)),
@@ -124,7 +124,7 @@ fn call_shared(
     }
 }
 
-// Frees a taken tag of plain words.
+/// Frees a taken tag of plain words.
 fn give_plain(plain: &mut PlainPort, tag: u32)
     requires tag { tag < plain.old.layout.depth }
     requires taken { IsTaken plain.old (word_of plain.old.layout tag) (place_of plain.old.layout tag) }
@@ -171,7 +171,7 @@ fn call_plain(plain: &mut PlainPort, hint: &mut Hint, call: Call) -> Option<(u32
     }
 }
 
-// Returns whether each call of a script has the same answer on both, and leaves the same hint.
+/// Returns whether each call of a script has the same answer on both, and leaves the same hint.
 fn agree(
     map: &Map<u64>,
     caller: &mut Caller<u64>,

@@ -50,7 +50,7 @@ impl Seen {
     }
 }
 
-// One get and, if it returned a tag, the clear of the tag.
+/// One get and, if it returned a tag, the clear of the tag.
 fn round(map: &Map<u64>, caller: &mut Caller<u64>, hint: &mut Hint, clear: Clear, seen: &Seen)
     requires { IsCallerOf map.now caller.old }
     ensures { IsCallerOf map.now caller.new }
@@ -78,7 +78,7 @@ fn rounds(map: &Map<u64>, caller: &mut Caller<u64>, clear: Clear, seen: &Seen)
     }
 }
 
-// Runs the rounds of all callers, each on a thread of its own.
+/// Runs the rounds of all callers, each on a thread of its own.
 fn run_all<R: Threads + Sync>(
     rt: &R,
     map: &Map<u64>,
@@ -97,7 +97,7 @@ fn run_all<R: Threads + Sync>(
     );
 }
 
-// Returns the tags won less those given back, the tags held and posted after all rounds, and the number of clashes.
+/// Returns the tags won less those given back, the tags held and posted after all rounds, and the number of clashes.
 fn four_callers<R: Threads + Sync>(rt: &R, alloc: Global, clear: Clear) -> Result<[u64; 4], Fail> {
     let (map, mut callers) = opened(alloc, Layout::new(3, None)?, CALLERS, ROUNDS as u64)?;
     let seen = Seen {

@@ -61,7 +61,7 @@ pub(crate) fn play<R: Wait, T: Shared>(
     }
 }
 
-// Counts a tag that was won, and writes its slot.
+/// Counts a tag that was won, and writes its slot.
 fn mark<T: Shared>(tags: &T, caller: &mut T::Caller, tally: &Tally, tag: u32, value: u64)
     requires { T.is_own tags.now caller.old }
     ensures { T.is_own tags.now caller.new }
@@ -71,8 +71,8 @@ fn mark<T: Shared>(tags: &T, caller: &mut T::Caller, tally: &Tally, tag: u32, va
     tally.writes(tag, value);
 }
 
-// Marks a tag, reads its slot again after other calls, and then posts or clears the tag. `value / 8` counts the turns
-// through the eight calls.
+/// Marks a tag, reads its slot again after other calls, and then posts or clears the tag. `value / 8` counts the turns
+/// through the eight calls.
 fn spend<T: Shared>(tags: &T, caller: &mut T::Caller, tally: &Tally, tag: u32, value: u64)
     requires { T.is_own tags.now caller.old }
     ensures { T.is_own tags.now caller.new }
@@ -95,7 +95,7 @@ fn spend<T: Shared>(tags: &T, caller: &mut T::Caller, tally: &Tally, tag: u32, v
     }
 }
 
-// Returns the tags of a batch of up to three, and how many they are.
+/// Returns the tags of a batch of up to three, and how many they are.
 fn tags_of(first: u32, mask: u64) -> ([u32; 3], usize)
     ensures { result.1 ≤ 3 }
 {
@@ -110,7 +110,7 @@ fn tags_of(first: u32, mask: u64) -> ([u32; 3], usize)
     (won, count)
 }
 
-// Marks the tags of a batch, and clears them at once.
+/// Marks the tags of a batch, and clears them at once.
 fn spend_batch<T: Shared>(tags: &T, caller: &mut T::Caller, tally: &Tally, won: &[u32], value: u64)
     requires { T.is_own tags.now caller.old }
     ensures { T.is_own tags.now caller.new }
@@ -125,7 +125,7 @@ fn spend_batch<T: Shared>(tags: &T, caller: &mut T::Caller, tally: &Tally, won: 
     tally.cleared(won.len() as u64, tags.clear_batch(caller, won));
 }
 
-// Takes each posted tag, whose slot names who posted it, and clears it.
+/// Takes each posted tag, whose slot names who posted it, and clears it.
 fn take_posted<T: Shared>(tags: &T, caller: &mut T::Caller, tally: &Tally)
     requires { T.is_own tags.now caller.old }
     ensures { T.is_own tags.now caller.new }
@@ -140,7 +140,7 @@ fn take_posted<T: Shared>(tags: &T, caller: &mut T::Caller, tally: &Tally)
     }
 }
 
-// Starts a wait and gives it up.
+/// Starts a wait and gives it up.
 fn wait_in_vain<R: Wait, T: Shared>(rt: &R, tags: &T, caller: &mut T::Caller, tally: &Tally)
     requires { T.is_own tags.now caller.old }
     ensures { T.is_own tags.now caller.new }
@@ -149,7 +149,7 @@ fn wait_in_vain<R: Wait, T: Shared>(rt: &R, tags: &T, caller: &mut T::Caller, ta
     tally.check(tags.finish_wait(rt, caller).is_ok());
 }
 
-// Makes a call, and spends the tags that it won. A caller holds no tag when it makes a call that may sleep.
+/// Makes a call, and spends the tags that it won. A caller holds no tag when it makes a call that may sleep.
 fn win_and_spend<R: Wait, T: Shared>(
     rt: &R,
     tags: &T,
@@ -198,7 +198,7 @@ fn do_everything<R: Wait, T: Shared>(
     tally.finished.fetch_add(1, SeqCst);
 }
 
-// Clears what is posted and what it gets until the workers have finished, so that none of them sleeps forever.
+/// Clears what is posted and what it gets until the workers have finished, so that none of them sleeps forever.
 fn keep<R: Wait, T: Shared>(rt: &R, tags: &T, caller: &mut T::Caller, tally: &Tally, workers: usize)
     requires { T.is_own tags.now caller.old }
     ensures { T.is_own tags.now caller.new }
@@ -209,15 +209,33 @@ fn keep<R: Wait, T: Shared>(rt: &R, tags: &T, caller: &mut T::Caller, tally: &Ta
         if last {
             break;
         }
-        if let Ok(Some(tag)) = tags.get(caller) {
+        win_and_clear(rt, tags, caller, tally, Call::Get);
+    }
+}
+
+/// Makes a get of one tag, and clears the tag if it won one. A refusal is counted as wrong.
+fn win_and_clear<R: Wait, T: Shared>(
+    rt: &R,
+    tags: &T,
+    caller: &mut T::Caller,
+    tally: &Tally,
+    call: Call,
+)
+    requires { T.is_own tags.now caller.old }
+    ensures { T.is_own tags.now caller.new }
+{
+    match act(rt, tags, caller, call) {
+        Answer::Tag(tag) => {
             tally.wins(tag);
             tally.goes(tag);
             tally.cleared(1, tags.clear(caller, tag));
         }
+        Answer::Nothing => (),
+        _ => tally.check(false),
     }
 }
 
-// Makes a get, and clears the tag if it won one.
+/// Makes a get of one tag in each round, and clears the tag if it won one.
 fn get_and_clear<R: Wait, T: Shared>(
     rt: &R,
     tags: &T,
@@ -230,16 +248,12 @@ fn get_and_clear<R: Wait, T: Shared>(
     ensures { T.is_own tags.now caller.new }
 {
     for _ in 0..rounds {
-        if let Answer::Tag(tag) = act(rt, tags, caller, call) {
-            tally.wins(tag);
-            tally.goes(tag);
-            tally.cleared(1, tags.clear(caller, tag));
-        }
+        win_and_clear(rt, tags, caller, tally, call);
     }
     tally.finished.fetch_add(1, SeqCst);
 }
 
-// Enters and leaves a wait until the workers have finished.
+/// Enters and leaves a wait until the workers have finished.
 fn wait_on_and_off<R: Wait, T: Shared>(
     rt: &R,
     tags: &T,
@@ -258,7 +272,7 @@ fn wait_on_and_off<R: Wait, T: Shared>(
     }
 }
 
-// Waits for tag 0, once it is taken.
+/// Waits for tag 0, once it is taken.
 fn wait_for_a_tag<R: Wait, T: Shared>(rt: &R, tags: &T, caller: &mut T::Caller, tally: &Tally)
     requires { T.is_own tags.now caller.old }
     ensures { T.is_own tags.now caller.new }
@@ -271,7 +285,7 @@ fn wait_for_a_tag<R: Wait, T: Shared>(rt: &R, tags: &T, caller: &mut T::Caller, 
     tally.check(tags.get_blocking(rt, caller) == Ok(0));
 }
 
-// Gets tag 0, and clears it once somebody waits.
+/// Gets tag 0, and clears it once somebody waits.
 fn clear_for_a_waiter<R: Wait, T: Shared>(rt: &R, tags: &T, caller: &mut T::Caller, tally: &Tally)
     requires { T.is_own tags.now caller.old }
     ensures { T.is_own tags.now caller.new }

@@ -16,7 +16,7 @@ use std::thread::Threads;
 use tag_queue::{Queue, QueueTotals};
 use wake_book::BookTotals;
 
-// Has all callers play at once, each in a thread of its own.
+/// Has all callers play at once, each in a thread of its own.
 fn play_all<R: Wait + Threads + Sync, T: Shared + Sync>(
     rt: &R,
     tags: &T,
@@ -38,7 +38,7 @@ where
     );
 }
 
-// Has all callers of a stage play at once, and gathers them.
+/// Has all callers of a stage play at once, and gathers them.
 fn played<R: Wait + Threads + Sync, T: Shared + Sync>(
     rt: &R,
     stage: Stage<T>,
@@ -141,7 +141,7 @@ fn a_slot_of_tag_sets_names_its_holder_among_nine_threads(rt: HostRuntime) -> Re
     Ok(())
 }
 
-// Has the first four agents of a queue make gets; any others wait on and off.
+/// Has the first four agents of a queue make gets; any others wait on and off.
 fn played_gets<R: Wait + Threads + Sync>(
     rt: &R,
     stage: Stage<Queue<u64>>,

@@ -9,7 +9,7 @@ use std::test::*;
 use std::thread::Threads;
 use tag_script::{CheckOptions, ScriptOptions};
 
-// Runs a command line on an input, and compares the exit status and the text.
+/// Runs a command line on an input, and compares the exit status and the text.
 fn expect<R: Abort + AllocGlobal + Print + Eprint + Threads + Wait + Sync>(
     rt: &R,
     words: &[&str],

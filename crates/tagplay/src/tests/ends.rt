@@ -36,7 +36,7 @@ const PLAYED_FOUR: PlayOptions = PlayOptions {
     queue: 1,
 };
 
-// A reader that gives one byte per call, and an error at the call with this number, counted from 0.
+/// A reader that gives one byte per call, and an error at the call with this number, counted from 0.
 #[derive(Drop)]
 struct Failing<'a> {
     text: &'a [u8],
@@ -60,7 +60,7 @@ impl<'a> Read for Failing<'a> {
     }
 }
 
-// The largest length of an input, in bytes.
+/// The largest length of an input, in bytes.
 const MOST: usize = 16_777_216;
 
 const TOO_MANY: usize = 16_777_217;
@@ -69,7 +69,7 @@ fn sevens(left: usize) -> Repeats {
     Repeats { byte: b'7', left }
 }
 
-// A reader that gives `left` copies of `byte`.
+/// A reader that gives `left` copies of `byte`.
 #[derive(Drop)]
 struct Repeats {
     byte: u8,
@@ -87,7 +87,7 @@ impl Read for Repeats {
     }
 }
 
-// A writer that refuses every write.
+/// A writer that refuses every write.
 #[derive(Drop)]
 struct Shut;
 

@@ -25,7 +25,7 @@ const SMALL_REPORT: &str = "names=1\nreads=1\nwrites=2\ntrims=0\nsyncs=1\ndatasy
 const IDLE_REPORT: &str = "names=0\nreads=0\nwrites=0\ntrims=0\nsyncs=0\ndatasyncs=0\nwaits=0\n\
     got=0\nback=0\nheld=0\nposted=0\n";
 
-// Plays a log, and compares the ending and the text.
+/// Plays a log, and compares the ending and the text.
 fn expect<R: Abort + AllocGlobal + Threads + Wait + Sync>(
     rt: &R,
     options: PlayOptions,
@@ -53,7 +53,7 @@ fn a_small_log_is_reported(rt: HostRuntime) {
     expect(&rt, FOUR, SMALL.as_bytes(), Ending::Done, SMALL_REPORT);
 }
 
-// Prefixes of the small log that end in an incomplete line: the lengths of the shortest and the longest, in bytes.
+/// Prefixes of the small log that end in an incomplete line: the lengths of the shortest and the longest, in bytes.
 const CUT: [(usize, usize, &str); 8] = [
     (0, 18, "line 1 refused 1\n"),
     (21, 33, "line 2 refused 2\n"),
@@ -65,8 +65,8 @@ const CUT: [(usize, usize, &str); 8] = [
     (146, 160, "line 8 refused 2\n"),
 ];
 
-// The other prefixes, with the counts of names, reads, writes, syncs and tags. A number is whole from its first digit
-// on.
+/// The other prefixes, with the counts of names, reads, writes, syncs and tags. A number is whole from its first digit
+/// on.
 const WHOLE: [(usize, usize, [u64; 5]); 8] = [
     (19, 20, [0, 0, 0, 0, 0]),
     (34, 35, [1, 0, 0, 0, 0]),

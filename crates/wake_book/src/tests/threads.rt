@@ -20,7 +20,7 @@ const WAITERS: usize = 8;
 /// Rounds of each thread that waits in the long run.
 const LONG_ROUNDS: u32 = 20_000;
 
-// Enters, sleeps and leaves that many times, and returns how often it was woken.
+/// Enters, sleeps and leaves that many times, and returns how often it was woken.
 fn sleep_often<R: Wait>(rt: &R, groups: &Groups, waiter: &mut Waiter, rounds: u32) -> u64
     requires groups { IsWaiterOf groups.now waiter.old }
     requires out { standing_of waiter.old ≡ None }
@@ -37,7 +37,7 @@ fn sleep_often<R: Wait>(rt: &R, groups: &Groups, waiter: &mut Waiter, rounds: u3
     woken
 }
 
-// Wakes one waiter at a time, that many times.
+/// Wakes one waiter at a time, that many times.
 fn wake_often<R: Wait>(rt: &R, groups: &Groups, waiter: &mut Waiter, rounds: u32)
     requires groups { IsWaiterOf groups.now waiter.old }
     ensures groups { IsWaiterOf groups.now waiter.new }
@@ -80,7 +80,7 @@ struct Tally {
     used: AtomicU64,
 }
 
-// The first `WAITERS` threads wait; the others wake them until all of those have finished.
+/// The first `WAITERS` threads wait; the others wake them until all of those have finished.
 fn wait_or_wake<R: Wait>(rt: &R, groups: &Groups, waiter: &mut Waiter, tally: &Tally, number: usize)
     requires groups { IsWaiterOf groups.now waiter.old }
     requires out { standing_of waiter.old ≡ None }

@@ -148,7 +148,7 @@ fn held_and_posted_tags_are_told(rt: HostRuntime) -> Result<(), Fail> {
     Ok(())
 }
 
-// Gets the first tag of a queue whose tags are all free, finds its slot in the initial state, and clears the tag.
+/// Gets the first tag of a queue whose tags are all free, finds its slot in the initial state, and clears the tag.
 fn won_and_back<W: Wait>(rt: &W, stage: &mut Stage<Queue<u64>>) -> Option<(usize, Call, Answer)> {
     stage.wrong(
         rt,
@@ -172,7 +172,7 @@ fn totals_go_on_through_three_depths(rt: HostRuntime) -> Result<(), Fail> {
     Ok(())
 }
 
-// This test also passes when each allocation in turn is made to fail.
+/// This test also passes when each allocation in turn is made to fail.
 #[test]
 fn a_resize_without_memory_hands_all_back(rt: HostRuntime) -> Result<(), Fail> {
     let Ok((queue, agents)) = Queue::open(rt.alloc(), 8, options(3), FILL) else {

@@ -58,7 +58,7 @@ fn a_batch_clear_is_refused_for_its_first_fault(rt: HostRuntime) -> Result<(), F
     Ok(())
 }
 
-// Sums of as many ordinary tags as the words have bits.
+/// Sums of as many ordinary tags as the words have bits.
 fn sums(depth: u32, words: u32, busy: u32, cleared: u32) -> Answer {
     Answer::Shown(Shown {
         depth,

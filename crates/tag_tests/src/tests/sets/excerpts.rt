@@ -10,7 +10,7 @@ use step_ledger::GatherCause;
 use tag_model::Totals;
 use tag_sets::{Hand, Kind, Left, Options, Shown, TagFault, Tags};
 
-// Gets an ordinary tag, which the hand then holds.
+/// Gets an ordinary tag, which the hand then holds.
 fn win(tags: &Tags<u64>, hand: &mut Hand<u64>) -> Result<u32, Fail>
     requires { IsHandOf tags.now hand.old }
     ensures hand { IsHandOf tags.now hand.new }
@@ -22,7 +22,7 @@ fn win(tags: &Tags<u64>, hand: &mut Hand<u64>) -> Result<u32, Fail>
     }
 }
 
-// Passes a tag from the first hand to the second, with a request's number in its slot.
+/// Passes a tag from the first hand to the second, with a request's number in its slot.
 fn pass_on(
     tags: &Tags<u64>,
     first: &mut Hand<u64>,
@@ -39,7 +39,7 @@ fn pass_on(
     tags.read(second, tag)
 }
 
-// Has one hand wait while another clears a tag.
+/// Has one hand wait while another clears a tag.
 fn wait_for_clear<W: Wait>(
     rt: &W,
     tags: &Tags<u64>,

@@ -132,7 +132,7 @@ fn counts_and_wait_indexes_go_on_in_the_ordinary_set(rt: HostRuntime) -> Result<
     Ok(())
 }
 
-// This test also passes when each allocation in turn is made to fail.
+/// This test also passes when each allocation in turn is made to fail.
 #[test]
 fn a_resize_without_memory_hands_all_back(rt: HostRuntime) -> Result<(), Fail> {
     let Ok((tags, hands)) = Tags::open(rt.alloc(), 8, 3, options(2), FILL) else {

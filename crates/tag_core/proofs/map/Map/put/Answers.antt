@@ -1,6 +1,6 @@
 -- The step adds the tag's bit to its word's cleared set, which the rule allows to the tag's holder. The caller's mask
 -- loses that bit, its record gains the step, and the tag's slot stays behind in the table.
-use Rattle.std.proofs.Common.{ℕ, ◌+◌, ◌*◌, ◌%◌, ◌^◌, length-set, refl, sym, ap, ◌∙◌, subst}
+use Rattle.std.proofs.Common.{ℕ, ◌+◌, ◌*◌, ◌%◌, ◌^◌, ◌<◌, rules, length-set, refl, sym, ap, ◌∙◌, subst}
 use mathlib.Core.Option.{none}
 use Rattle.atomic_table.specs.Table.{step, Allows}
 use Rattle.tag_layout.specs.Layout.{word_of, place_of}
@@ -8,7 +8,6 @@ use Rattle.tag_layout.proofs.PlaceFacts.{word_of-below}
 use Rattle.tag_core.specs.declared.shape.Shape.{Shape}
 use Rattle.tag_core.specs.declared.step.Step.TheVariants.{Word}
 use Rattle.tag_core.specs.declared.word_step.WordStep.TheVariants.{Put}
-use Rattle.tag_core.specs.Steps.{without}
 use Rattle.tag_core.specs.Spacing.{aside_at}
 use Rattle.tag_core.specs.Records.{record_after, parted}
 use Rattle.tag_core.specs.Plays.{put_aside, Stepped}
@@ -17,7 +16,7 @@ use Rattle.tag_core.specs.Rule.{Shown}
 use Rattle.tag_core.proofs.Stand.{aside_in}
 use Rattle.tag_core.proofs.Allowed.{put_allowed}
 use Rattle.tag_core.proofs.Asking.{narrow, asked, left, after, recorded, few, slots, bounded, plus_none}
-use Rattle.tag_core.proofs.Marking.{word_is, bit_is, marked}
+use Rattle.tag_core.proofs.Marking.{word_is, bit_is, struck}
 use Rattle.tag_core.proofs.Holdings.{adds_releases_one}
 use Rattle.tag_core.proofs.map.Map.put.Goals as goal
 
@@ -40,23 +39,24 @@ pub invariant_of-caller : goal.invariant_of-caller
 invariant_of-caller g c =
     let w = c.args.caller.now in let u : ℕ = c.args.tag in let i : ℕ = word_of w.shape.value.layout u in
     let word = c.word_of-word.ensures.value in let place = c.place_of.ensures in
-    let n : ℕ = c.fetch_add.result in
+    let n : ℕ = c.fetch_add.result in let was : ℕ = c.index.result.now in let fits : was < 2 ^ 64 = search rules in
     let did = subst (λ (z : ℕ). Stepped (Word (Put i z n)) (record_of w) w.seat.me c.fetch_add.new.seat.me)
     (bit_is w u _ _ word place.value place.bound) (c.fetch_add.ensures.2 i (record_of w)
     (c.aside_spot.ensures ∙ ap aside_at (word_is w u _ _ word place.value place.bound)) w.knows) in
-    let l = left w did (marked w u _ _ word place.value place.bound without c.index.result.now c.requires.held.0
-    c.index.ensures) refl (plus_none w.won) refl in
+    let l = left w did (struck w u _ _ word place.value place.bound was fits c.requires.held c.index.ensures) refl
+    (plus_none w.won) refl in
     after l (length-set w.held.items _ _ ∙ w.wide) w.unspent (bounded c.args.self.now w c.requires.caller _ (few l))
 
 pub returns-clause-step : goal.returns-clause-step
 returns-clause-step g c =
     let w = c.args.caller.now in let u : ℕ = c.args.tag in let i : ℕ = word_of w.shape.value.layout u in
     let word = c.word_of-word.ensures.value in let place = c.place_of.ensures in let n : ℕ = c.fetch_add.result in
+    let was : ℕ = c.index.result.now in let fits : was < 2 ^ 64 = search rules in
     let did = subst (λ (z : ℕ). Stepped (Word (Put i z n)) (record_of w) w.seat.me c.fetch_add.new.seat.me)
     (bit_is w u _ _ word place.value place.bound) (c.fetch_add.ensures.2 i (record_of w)
     (c.aside_spot.ensures ∙ ap aside_at (word_is w u _ _ word place.value place.bound)) w.knows) in
-    let l = left w did (marked w u _ _ word place.value place.bound without c.index.result.now c.requires.held.0
-    c.index.ensures) refl (plus_none w.won) refl in (
+    let l = left w did (struck w u _ _ word place.value place.bound was fits c.requires.held c.index.ensures) refl
+    (plus_none w.won) refl in (
       n,
       record {
         known = recorded l ∙ ap (λ (z : Shape). record_after

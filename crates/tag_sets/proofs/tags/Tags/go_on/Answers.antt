@@ -14,7 +14,7 @@ use Rattle.tag_sets.specs.Hands.{number_of, reserved_of}
 use Rattle.tag_sets.specs.Opening.{reserved_part, ordinary_part, IsSplitAt}
 use Rattle.tag_sets.specs.Gathering.{hands_of, numbers_of}
 use Rattle.tag_sets.proofs.Gathering.{reserved_own, ordinary_own, reserved_numbers, ordinary_numbers}
-use Rattle.tag_sets.proofs.Regrowing.{part_kept}
+use Rattle.tag_sets.proofs.Resized.{part_kept}
 use Rattle.tag_sets.proofs.Reuniting.{all_unchanged, split_at}
 use Rattle.tag_sets.proofs.Settling.{enough}
 use Rattle.tag_sets.proofs.tags.Tags.go_on.Goals as goal

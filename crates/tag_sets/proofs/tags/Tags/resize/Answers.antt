@@ -8,7 +8,7 @@ use Rattle.tag_sets.specs.declared.hand.Hand.{Hand}
 use Rattle.tag_sets.specs.Hands.{IsHandOf}
 use Rattle.tag_sets.specs.Resizing.{AreSame, AreUnchanged, AreUnused, BalanceInBoth, HasMap, IsResized, IsRefusedFor, IsRefusedAs}
 use Rattle.tag_sets.proofs.Refusing.{Facts, facts_of, AreTold, told_err, Refused, refused_in}
-use Rattle.tag_sets.proofs.Regrowing.{same_facts, regrown, kept_from, may_from, told_from, back_from}
+use Rattle.tag_sets.proofs.Resized.{same_facts, resized, kept_from, may_from, told_from, back_from}
 use Rattle.tag_sets.proofs.tags.Tags.resize.Given as given
 use Rattle.tag_sets.proofs.tags.Tags.resize.Goals.{In-None, In-Some, After-go_on}
 use Rattle.tag_sets.proofs.tags.Tags.resize.Goals as goal
@@ -52,7 +52,7 @@ returns-in-None-clause-ok g c =
     let mid = c.obstacle-tags.result.0 in let mids = c.obstacle-tags.new.hands.items in
     IfOk-weaker c.go_on.result (λ p. IsResized mid mids c.args.total p.0 p.1.items)
     (λ p. IsResized c.args.tags c.args.hands.items c.args.total p.0 p.1.items)
-    (λ p is. regrown c.args.tags mid p.0 c.args.hands.items mids p.1.items c.args.total
+    (λ p is. resized c.args.tags mid p.0 c.args.hands.items mids p.1.items c.args.total
     c.obstacle-tags.ensures.same (kept g c) is) c.go_on.ensures.ok
 
 pub returns-in-None-clause-may : goal.returns-in-None-clause-may

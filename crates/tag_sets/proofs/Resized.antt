@@ -50,9 +50,9 @@ module _ {R : Type 0} where
   }
 
   -- a resize of unchanged hands is a resize of the hands passed in
-  pub regrown : (old mid new : Tags R) (olds mids news : List (Hand R)) (total : ℕ) → AreSame old mid
+  pub resized : (old mid new : Tags R) (olds mids news : List (Hand R)) (total : ℕ) → AreSame old mid
       → AreUnchanged olds mids → IsResized mid mids total new news → IsResized old olds total new news
-  regrown old mid new olds mids news total same kept is =
+  resized old mid new olds mids news total same kept is =
       let agents = ordinary_unchanged olds mids kept in record {
         total_is = is.total_is;
         split = is.split ∙ same.split;
