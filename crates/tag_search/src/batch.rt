@@ -1,10 +1,10 @@
 //! The search for several adjacent tags in one word, as in `__sbitmap_queue_get_batch` of lib/sbitmap.c.
-ghost use Rattle.std.specs.Prelude.{◌≡◌, ◌≢◌, ℕ, ◌+◌, ◌*◌, ◌/◌, ◌<◌, ◌≤◌, ◌^◌, [], ◌∷◌, IfOk, IfErr, IfSome, IfNone, true, count_ones};
+ghost use Rattle.std.specs.Prelude.{◌≡◌, ◌≢◌, ℕ, ◌+◌, ◌*◌, ◌/◌, ◌<◌, ◌≤◌, ◌^◌, [], ◌∷◌, IfOk, IfErr, IfSome, IfNone, count_ones};
 ghost use Rattle.tag_core.specs.Steps.{without};
 ghost use Rattle.tag_core.specs.declared.word_step.WordStep.TheVariants.{Claimed};
 ghost use Rattle.tag_layout.specs.Layout.{words, word_depth};
 ghost use Rattle.tag_search.specs.Order.{numbers};
-ghost use Rattle.tag_search.specs.Batch.{run_mask, run_won, IsSweptLook, IsBatchVisit, IsBatchSearch};
+ghost use Rattle.tag_search.specs.Batch.{batch_words, run_mask, run_won, IsSweptLook, IsBatchVisit, IsBatchSearch};
 ghost use Rattle.tag_search.specs.Added.{AddsSteps, SameRoom};
 
 use crate::port::Port;
