@@ -1,12 +1,14 @@
 #!/usr/bin/env bash
-# kernel.sh [REPETITIONS [ROUNDS]]: runs pair, ring, full, pass and batch of tag_bench, over the map and over the queue, and of
-# what stands beside it in alternation, three times with 200000 rounds unless told otherwise, prints two tables and draws
-# bench/out/kernel.svg.
+# kernel.sh [REPETITIONS [ROUNDS [DEPTH..]]]: runs pair, ring, full, pass and batch of tag_bench, over the map and over the
+# queue, and of what stands beside it in alternation, three times with 200000 rounds at depths 64, 1024 and 10240 unless told
+# otherwise, and prints a table. Where depth 1024 is among them it prints a second one and draws bench/out/kernel.svg.
 # rt, gcc, rustc, python3, apt-get and dpkg-deb are on the path; the first run downloads 154 MB from Debian's archive.
 set -euo pipefail
 cd "$(dirname "$0")/.."
 repetitions=${1:-3}
 rounds=${2:-200000}
+depths=("${@:3}")
+if [ ${#depths[@]} = 0 ]; then depths=(64 1024 10240); fi
 out=bench/out
 workloads=(pair ring full pass batch)
 bench=crates/tag_bench/out/tag_bench
@@ -29,12 +31,12 @@ ours() {
 }
 others() { measure "$out/contenders" "$workload"; }
 
-rm -f "$out/kernel.json"
+rm -f "$out"/kernel.{json,svg}
 load=$(cut -d ' ' -f 1 /proc/loadavg)
 for ((repetition = 1; repetition <= repetitions; repetition++)); do
   echo "repetition $repetition of $repetitions" >&2
   for workload in "${workloads[@]}"; do
-    for depth in 64 1024 10240; do
+    for depth in "${depths[@]}"; do
       for threads in 1 2 4; do
         [ "$workload $threads" = "pass 1" ] && continue
         if ((repetition % 2)); then

@@ -1,6 +1,6 @@
 //! Claims of tags by their numbers, and clears: by a put with a sweep after each lap, or by a give.
 use crate::frame::{Case, Options};
-use crate::steps::{Atomics, Exchanges, Steps, Word, new_words};
+use crate::steps::{Atomics, Steps, Sums, Word, new_words};
 
 /// Words of the map.
 const WORDS: usize = 16;
@@ -10,7 +10,7 @@ const TAGS: u32 = 16;
 
 pub fn run(options: &Options) {
     run_steps::<Atomics>(options);
-    run_steps::<Exchanges>(options);
+    run_steps::<Sums>(options);
 }
 
 fn run_steps<S: Steps>(options: &Options) {
@@ -47,9 +47,9 @@ fn claim_often<S: Steps, const PUT: bool>(words: &[Word], first: u32, laps: u64)
             }
             won += 1;
             if PUT {
-                S::or(&at.cleared.0, bit);
+                S::set(&at.cleared.0, bit);
             } else {
-                S::and_not(&at.word.0, bit);
+                S::clear(&at.word.0, bit);
             }
         }
         if PUT {

@@ -1,7 +1,7 @@
 //! Gets and clears by threads: the search over plain atomics, and a free list behind a lock.
 use crate::frame::{Case, Options};
 use crate::search::{Sizes, Words, get};
-use crate::steps::{Atomics, Exchanges, Steps, Word, new_words};
+use crate::steps::{Atomics, Steps, Sums, Word, new_words};
 use std::marker::PhantomData;
 use std::sync::Mutex;
 use std::sync::atomic::Ordering::SeqCst;
@@ -60,9 +60,9 @@ impl<S: Steps> Tags for Map<S> {
         let (word, bit) = self.sizes.place_of(tag);
         let at = &self.words[word as usize];
         if PUT {
-            S::or(&at.cleared.0, bit);
+            S::set(&at.cleared.0, bit);
         } else {
-            S::and_not(&at.word.0, bit);
+            S::clear(&at.word.0, bit);
         }
     }
 }
@@ -90,7 +90,7 @@ impl Tags for List {
 
 pub fn run(options: &Options) {
     run_tags::<Map<Atomics>>(options);
-    run_tags::<Map<Exchanges>>(options);
+    run_tags::<Map<Sums>>(options);
     run_tags::<List>(options);
 }
 

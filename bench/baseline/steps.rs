@@ -1,5 +1,5 @@
-//! Atomic steps on words that lie on lines of their own. Once with each or and and-not as the one locked instruction that
-//! rustc finds for it, and once as a load and a loop of compare_exchange, which is what the toolchain makes of the map's.
+//! Atomic steps on words that lie on lines of their own. Once as ors and and-nots, and once as the map steps: a loop of
+//! compare_exchange for a claim, a sum for a put, a difference for a give and a sweep.
 use std::sync::atomic::{AtomicU64, Ordering::SeqCst};
 
 /// A word on a line of its own.
@@ -21,23 +21,27 @@ pub fn new_words(count: usize) -> Vec<Word> {
     (0..count).map(|_| Word::default()).collect()
 }
 
-/// How an or and an and-not of a word are made. Each answers what it found.
+/// How the bits of a word are set and cleared.
 pub trait Steps {
     const NAME: &'static str;
+    /// Sets bits, some of which may be 1 already: a claim. Answers what it found.
     fn or(word: &AtomicU64, mask: u64) -> u64;
-    fn and_not(word: &AtomicU64, mask: u64) -> u64;
+    /// Sets a bit that is 0: a put, in a word's cleared set. The caller holds the tag, so nobody else sets it.
+    fn set(word: &AtomicU64, bit: u64);
+    /// Clears bits that are all 1: a give of tags that the caller holds, and the second step of a sweep.
+    fn clear(word: &AtomicU64, mask: u64);
 
     /// Takes what was set aside out of the word. Answers whether there was anything.
     fn sweep(at: &Word) -> bool {
         let mask = at.cleared.0.swap(0, SeqCst);
         if mask != 0 {
-            Self::and_not(&at.word.0, mask);
+            Self::clear(&at.word.0, mask);
         }
         mask != 0
     }
 }
 
-/// The one locked instruction where rustc finds it.
+/// Ors and and-nots, each one locked instruction if rustc finds it.
 pub struct Atomics;
 
 impl Steps for Atomics {
@@ -47,34 +51,37 @@ impl Steps for Atomics {
         word.fetch_or(mask, SeqCst)
     }
 
-    fn and_not(word: &AtomicU64, mask: u64) -> u64 {
-        word.fetch_and(!mask, SeqCst)
+    fn set(word: &AtomicU64, bit: u64) {
+        word.fetch_or(bit, SeqCst);
+    }
+
+    fn clear(word: &AtomicU64, mask: u64) {
+        word.fetch_and(!mask, SeqCst);
     }
 }
 
-/// Loops of compare_exchange.
-pub struct Exchanges;
+/// The map's steps. Where it is known what the bits are, a sum or a difference changes them in one instruction; a claim does
+/// not know it, and is a load and a loop of compare_exchange, which is what the toolchain makes of the map's fetch_or.
+pub struct Sums;
 
-impl Exchanges {
-    fn step(word: &AtomicU64, after: impl Fn(u64) -> u64) -> u64 {
+impl Steps for Sums {
+    const NAME: &'static str = "sums";
+
+    fn or(word: &AtomicU64, mask: u64) -> u64 {
         let mut found = word.load(SeqCst);
         loop {
-            match word.compare_exchange(found, after(found), SeqCst, SeqCst) {
+            match word.compare_exchange(found, found | mask, SeqCst, SeqCst) {
                 Ok(_) => return found,
                 Err(other) => found = other,
             }
         }
     }
-}
 
-impl Steps for Exchanges {
-    const NAME: &'static str = "exchanges";
-
-    fn or(word: &AtomicU64, mask: u64) -> u64 {
-        Exchanges::step(word, |found| found | mask)
+    fn set(word: &AtomicU64, bit: u64) {
+        word.fetch_add(bit, SeqCst);
     }
 
-    fn and_not(word: &AtomicU64, mask: u64) -> u64 {
-        Exchanges::step(word, |found| found & !mask)
+    fn clear(word: &AtomicU64, mask: u64) {
+        word.fetch_sub(mask, SeqCst);
     }
 }

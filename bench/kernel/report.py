@@ -5,7 +5,7 @@ else changes little. A ratio is to the kernel's time with hints apart in the sam
 a ratio by the clock, and the nanoseconds that an operation over tag_queue takes more than one over the map alone, and one
 through C more than one over tag_queue, in the same repetition, with hints apart. A second table has how many times as long one of
 several threads takes as one alone, hints apart; by the clock too, where what is above the processor time is time that the machine
-did not give to the threads."""
+did not give to the threads. That table and the plot are of one depth, and left out where it was not measured."""
 import json
 import statistics
 import sys
@@ -204,9 +204,10 @@ def draw_legend(y):
 def main():
     figures = read(sys.argv[1])
     print_table(figures)
-    print()
-    print_scaling(figures)
-    draw(figures, sys.argv[2])
+    if any(depth == PLOTTED_DEPTH for _, depth, _ in figures):
+        print()
+        print_scaling(figures)
+        draw(figures, sys.argv[2])
 
 
 main()
