@@ -56,8 +56,8 @@ impl PlainPort {
         ensures choice { hint.old.round_robin ≡ false → let l = self.old.layout in
             let words = batch_words l (word_of l (reduced l.depth hint.old.at)) in
             IsBatchChoice l n (pool_of (plain_words self.old)) words result (pool_of (plain_words self.new)) }
-        ensures held { hint.old.round_robin ≡ false → IsApart (pool_of (plain_words self.old)) → let left = pool_of (plain_words self.new) in
-            IsApart left × IfSome result (HoldsRun self.old.layout left) }
+        ensures held { hint.old.round_robin ≡ false → IsApart (pool_of (plain_words self.old)) →
+            let left = pool_of (plain_words self.new) in IsApart left × IfSome result (HoldsRun self.old.layout left) }
         ensures hint { hint.old.round_robin ≡ false → BatchFollows self.old.layout.depth n hint.old hint.new result }
     {
         let Ok(answer) = get_batch(self, hint, n) else {
