@@ -1,5 +1,6 @@
-"""Prints the figures of a file of JSON lines as a table: of each case its median over the alternations, and the least and
-the most of them. A ratio is tag_bench's median over the contender's."""
+"""table.py LINES TIME: prints the figures of a file of JSON lines as a table: of each case its median over the alternations, and
+the least and the most of them. A ratio is tag_bench's median over the contender's. TIME is `processor` for a thread's processor
+time, which a machine that is busy with something else changes little, or `ns` for the clock."""
 import json
 import statistics
 import sys
@@ -7,7 +8,7 @@ import sys
 OURS = "tag_bench"
 
 
-def read(path):
+def read(path, time):
     """The figures by case, and of each by contender, in the order in which they first stand in the file."""
     figures = {}
     with open(path, encoding="utf-8") as lines:
@@ -15,7 +16,7 @@ def read(path):
             entry = json.loads(line)
             case = (entry["case"], entry["threads"])
             who = entry.get("contender", OURS)
-            figures.setdefault(case, {}).setdefault(who, []).append(entry["ns"])
+            figures.setdefault(case, {}).setdefault(who, []).append(entry[time])
     return figures
 
 
@@ -24,7 +25,7 @@ def cell(runs):
 
 
 def main():
-    figures = read(sys.argv[1])
+    figures = read(sys.argv[1], sys.argv[2])
     others = []
     for runs in figures.values():
         others += [who for who in runs if who != OURS and who not in others]
