@@ -24,8 +24,6 @@ mod slots;
 mod spots;
 mod step;
 mod sweeps;
-#[cfg(test)]
-mod tests;
 mod together;
 mod word_step;
 

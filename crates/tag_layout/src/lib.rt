@@ -5,8 +5,6 @@ mod batch;
 mod bits;
 mod layout;
 mod shallow;
-#[cfg(test)]
-mod tests;
 
 pub use bits::first_clear;
 pub use layout::{Layout, LayoutFault, MAX_DEPTH, MAX_SHIFT};

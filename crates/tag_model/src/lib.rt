@@ -6,8 +6,6 @@ mod event;
 mod laws;
 mod masks;
 mod place;
-#[cfg(test)]
-mod tests;
 mod totals;
 mod world;
 

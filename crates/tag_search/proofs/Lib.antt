@@ -19,7 +19,6 @@ pub mod PlainFacts
 pub mod Writings
 pub mod TakenPlaces
 pub mod PlainPools
-pub mod Slow
 pub mod SharedCalls
 pub mod SharedFacts
 pub mod OneTag
@@ -30,4 +29,3 @@ pub mod Freshness
 pub mod HeldFacts
 pub mod MapGets
 pub mod Seen
-pub mod SlowOrders

@@ -13,7 +13,6 @@ pub mod Scans
 pub mod Plain
 pub mod PlainLaws
 pub mod Writes
-pub mod Marks
 pub mod Shared
 pub mod SharedLaws
 pub mod LoneLaws

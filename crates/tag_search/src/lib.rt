@@ -15,8 +15,6 @@ mod rank;
 mod scan;
 mod search;
 mod shared;
-#[cfg(test)]
-mod tests;
 mod whole;
 
 pub use hint::{Hint, after_clear};

@@ -14,8 +14,6 @@ mod groups_opening;
 mod sleeping;
 mod spacing;
 mod steps;
-#[cfg(test)]
-mod tests;
 mod waiting;
 mod walk;
 

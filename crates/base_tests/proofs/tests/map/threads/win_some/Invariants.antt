@@ -1,0 +1,6 @@
+-- The caller stays one of the map's.
+use Rattle.tag_core.specs.Callers.{IsCallerOf}
+use Rattle.base_tests.proofs.tests.map.threads.win_some.Given as goal
+
+abbrev pub invariant-loop-place : goal.invariant-loop-place
+invariant-loop-place l = IsCallerOf l.map l.caller

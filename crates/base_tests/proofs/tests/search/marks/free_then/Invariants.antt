@@ -1,0 +1,13 @@
+-- The marks so far are those of the tags so far.
+use Rattle.std.proofs.Common.{◌≡◌, ℕ, ◌<◌, false, length, get_or}
+use Rattle.tag_layout.specs.Layout.{word_of, place_of}
+use Rattle.base_tests.specs.Marks.{free_then}
+use Rattle.base_tests.proofs.tests.search.marks.free_then.Given as goal
+
+abbrev pub invariant-loop-tag : goal.invariant-loop-tag
+invariant-loop-tag l = record {
+  count : length l.marks.items ≡ l.tag;
+  each : (tag : ℕ) → tag < l.tag
+      → get_or l.marks.items tag false ≡ free_then l.layout l.free l.aside l.swept l.fn.taken.0 l.fn.taken.1
+      l.fn.taken.2 tag (word_of l.layout tag) (place_of l.layout tag);
+}

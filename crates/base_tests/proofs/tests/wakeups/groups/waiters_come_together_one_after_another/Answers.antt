@@ -1,0 +1,25 @@
+-- The groups have two waiters, so the two numbers that the test checks are all.
+use Rattle.std.proofs.Common.{arith, ◌≡◌, ℕ, zero, suc, List, [], ◌∷◌, sym, ap, ◌∙◌, subst}
+use mathlib.Core.Option.{some}
+use Rattle.step_ledger.specs.declared.record.Record.{Record}
+use Rattle.step_ledger.specs.Views.{HasAll, numbers}
+use Rattle.wake_book.specs.declared.steps.GroupStep.{GroupStep}
+use Rattle.wake_book.specs.Groups.{record_of}
+use Rattle.base_tests.proofs.tests.wakeups.groups.waiters_come_together_one_after_another.Goals as goal
+
+two : (a b : ℕ) → a ≡ 0 → b ≡ 1 → HasAll (a ∷ b ∷ []) 2
+two a b ea eb zero l = (0, ap some ea)
+two a b ea eb (suc zero) l = (1, ap some eb)
+two a b ea eb (suc (suc n)) l = absurd (omega arith)
+
+pub finish-requires-clause-all : goal.finish-requires-clause-all
+finish-requires-clause-all g c =
+    let records = c.add.ensures.gathered
+    ∙ ap (λ (z : List (Record GroupStep)). record_of c.in-Some-Some.first ∷ z)
+    c.start_gathering-all.ensures.gathered in
+    let first : c.in-Some-Some.first.number ≡ 0 = sym c.number.ensures ∙ c.if-number-ne0.false in
+    let second : c.wake.new.waiter.number ≡ 1 = sym c.number-else-number-ne0.ensures ∙ c.if-number-ne1.false in
+    let all : c.in_ok-groups.groups.waiters ≡ 2 = sym c.waiters.ensures.value ∙ c.if-waiters-ne2.false in
+    subst (λ (z : List ℕ). HasAll z c.in_ok-groups.groups.waiters) (sym (ap numbers records))
+    (subst (λ (z : ℕ). HasAll (c.in-Some-Some.first.number ∷ c.wake.new.waiter.number ∷ []) z) (sym all)
+    (two _ _ first second))

@@ -1,0 +1,11 @@
+-- Between two rounds the waiter is in no group, so it may enter one again.
+use Rattle.std.proofs.Common.{◌≡◌, ◌≤◌, None}
+use Rattle.wake_book.specs.Groups.{IsWaiterOf, standing_of}
+use Rattle.base_tests.proofs.tests.wakeups.threads.sleep_often.Given as goal
+
+abbrev pub invariant-loop : goal.invariant-loop
+invariant-loop g l = record {
+  groups : IsWaiterOf l.groups l.waiter;
+  out : standing_of l.waiter ≡ None;
+  few : l.woken ≤ l.counter;
+}

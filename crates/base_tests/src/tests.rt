@@ -1,0 +1,6 @@
+//! Worked examples, refusals, want of memory, and threads.
+mod layout;
+mod map;
+mod model;
+mod search;
+mod wakeups;
