@@ -27,6 +27,3 @@ pub use report::Report;
 pub use request::complete;
 pub use setup::Setup;
 pub use store::Store;
-
-#[cfg(test)]
-mod tests;

@@ -17,7 +17,5 @@ mod pools;
 mod resizes;
 mod shared;
 mod status;
-#[cfg(test)]
-mod tests;
 mod values;
 mod wishes;

@@ -17,8 +17,6 @@ mod player;
 mod playing;
 mod script;
 mod shared;
-#[cfg(test)]
-mod tests;
 mod text;
 mod world;
 

@@ -1,8 +1,8 @@
 //! Scripts that are refused: a malformed line, and then the setup.
-use crate::tests::scripts::{expect, expect_both, options};
-use crate::{Ending, ScriptOptions, answer_script};
+use crate::tests::script::scripts::{expect, expect_both, options};
 use std::test::*;
 use tag_lines::MAX_INPUT;
+use tag_script::{Ending, ScriptOptions, answer_script};
 
 #[test]
 fn plain_setups(rt: HostRuntime) -> Result<(), Fail> {

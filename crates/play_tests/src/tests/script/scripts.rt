@@ -1,10 +1,10 @@
 //! Scripts and their output.
-use crate::{Ending, ScriptOptions, answer_script};
 use itoa::Buffer;
 use std::process::Abort;
 use std::sync::Wait;
 use std::test::*;
 use tag_lines::MAX_INPUT;
+use tag_script::{Ending, ScriptOptions, answer_script};
 
 /// Plays a script, and compares the text and the ending.
 pub(crate) fn expect<R: Abort + AllocGlobal + Wait>(

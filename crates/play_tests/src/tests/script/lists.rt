@@ -1,7 +1,7 @@
 //! Lists of events and their verdicts.
-use crate::{CheckOptions, Ending, verdict_on};
 use std::process::Abort;
 use std::test::*;
+use tag_script::{CheckOptions, Ending, verdict_on};
 
 /// Checks a list, and compares the text and the ending.
 fn expect<R: Abort + AllocGlobal>(

@@ -1,7 +1,7 @@
 //! Logs that are played by threads.
 
-use crate::tests::small_log;
-use crate::{Gate, Io, IoKind, Log, OpenGate, PlayFault, Setup, play};
+use crate::tests::device::small_log;
+use loop_device::{Gate, Io, IoKind, Log, OpenGate, PlayFault, Setup, play};
 use std::alloc::{AllocError, Global};
 use std::sync::atomic::AtomicU64;
 use std::sync::atomic::Ordering::SeqCst;

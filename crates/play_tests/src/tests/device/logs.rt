@@ -1,6 +1,6 @@
 //! I/O logs whose reading was worked out by hand.
 
-use crate::{Io, IoKind, Log, LogCause, LogFault};
+use loop_device::{Io, IoKind, Log, LogCause, LogFault};
 use std::alloc::{AllocError, Global};
 use std::test::Fail;
 

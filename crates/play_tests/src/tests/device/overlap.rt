@@ -1,7 +1,7 @@
 //! Plays in which a gate holds one thread until another has gone on.
 
-use crate::tests::plays::{SETUP, TURNS};
-use crate::{Gate, Log, LogFault, Setup, play};
+use crate::tests::device::plays::{SETUP, TURNS};
+use loop_device::{Gate, Log, LogFault, Setup, play};
 use std::alloc::Global;
 use std::sync::atomic::AtomicBool;
 use std::sync::atomic::Ordering::SeqCst;

@@ -2,8 +2,8 @@
 ghost use Rattle.std.specs.Prelude.{IfOk};
 ghost use Rattle.tag_sets.specs.Hands.{IsHandOf};
 
-use crate::tests::small_log;
-use crate::{Gate, PlayFault, Store, complete};
+use crate::tests::device::small_log;
+use loop_device::{Gate, PlayFault, Store, complete};
 use std::alloc::Global;
 use std::sync::Mutex;
 use std::sync::atomic::AtomicU64;

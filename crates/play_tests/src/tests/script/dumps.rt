@@ -1,9 +1,9 @@
 //! The bits of a dump.
-use crate::ScriptOptions;
-use crate::tests::scripts::{expect_both, options};
+use crate::tests::script::scripts::{expect_both, options};
 use std::process::Abort;
 use std::sync::Wait;
 use std::test::*;
+use tag_script::ScriptOptions;
 
 /// Takes this many tags of a map, gives some back, and compares the text after the answers.
 fn expect_dump<R: Abort + AllocGlobal + Wait>(

@@ -1,9 +1,9 @@
 //! Running out of memory. These tests must also pass with any one allocation refused (`rt try --test --fail-alloc N`).
 
-use crate::tests::plays::SETUP;
-use crate::tests::requests::opened;
-use crate::tests::{SMALL, done, small_log};
-use crate::{Log, LogCause, OpenGate, PlayFault, Store, complete, play, verdict};
+use crate::tests::device::plays::SETUP;
+use crate::tests::device::requests::opened;
+use crate::tests::device::{SMALL, done, small_log};
+use loop_device::{Log, LogCause, OpenGate, PlayFault, Store, complete, play, verdict};
 use std::sync::Mutex;
 use std::test::Fail;
 

@@ -1,7 +1,7 @@
 //! Scripts of callers that share tags.
-use crate::ScriptOptions;
-use crate::tests::scripts::{expect, options};
+use crate::tests::script::scripts::{expect, options};
 use std::test::*;
+use tag_script::ScriptOptions;
 
 /// Options for this many callers that share this many tags.
 fn shared(tags: u32, callers: u32) -> ScriptOptions {

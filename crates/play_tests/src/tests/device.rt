@@ -5,7 +5,7 @@ mod overlap;
 mod plays;
 mod requests;
 
-use crate::{Done, Io, IoKind, Log, PlayFault, Store, verdict};
+use loop_device::{Done, Io, IoKind, Log, PlayFault, Store, verdict};
 use std::alloc::{AllocError, Global};
 use std::test::Fail;
 

@@ -1,0 +1,120 @@
+/*
+ * Two runs with answers worked out on paper: one through all calls, and one
+ * pool that goes on with more tags. The model of fuzz.c has no part in them.
+ */
+#include <stdio.h>
+
+#include "../tags.h"
+
+static int checks;
+static int wrong;
+
+static void want(const char *what, int64_t found, int64_t wanted)
+{
+	checks++;
+	if (found == wanted)
+		return;
+	wrong++;
+	printf("%s: %lld, not %lld\n", what, (long long)found, (long long)wanted);
+}
+
+#define WANT(what, wanted) want(#what, (int64_t)(what), wanted)
+
+/* Two reserved tags, then ten ordinary ones in words of four, for two hands. */
+static const struct tags_options twelve = {
+	.total = 12,
+	.reserved = 2,
+	.shift = 2,
+	.min_shallow = 3,
+	.hands = 2,
+};
+
+/* Tags pass from hand to hand, one hand waits, and all counts are told. */
+static void run_through_all_calls(void)
+{
+	const uint32_t pair[] = { 3, 4 };
+	struct tags_pool pool = TAGS_EMPTY;
+	struct tags_hand hand = TAGS_EMPTY;
+	struct tags_hand other = TAGS_EMPTY;
+	struct tags_sizes sizes;
+	struct tags_counts counts;
+	struct tags_sums sums;
+	uint64_t value = 5;
+	uint64_t won = 0;
+	uint64_t bits = 0;
+
+	WANT(tags_open(&pool, &twelve), TAGS_OK);
+	WANT(tags_join(&pool, &hand, TAGS_STAY), TAGS_OK);
+	WANT(tags_join(&pool, &other, TAGS_STAY), TAGS_OK);
+	WANT(tags_get(&hand), 2);
+	WANT(tags_write(&hand, 2, 70, &value), TAGS_OK);
+	WANT(value, 0);
+	WANT(tags_holds(&hand, 2), 1);
+	WANT(tags_post(&hand, 2), TAGS_OK);
+	WANT(tags_take(&other, 2), TAGS_OK);
+	WANT(tags_read(&other, 2, &value), TAGS_OK);
+	WANT(value, 70);
+	WANT(tags_get_reserved(&hand), 0);
+	WANT(tags_get_batch(&hand, 3, &won), 3);
+	WANT(won, 7);
+	WANT(tags_get_shallow(&other, 2), TAGS_TOO_SHALLOW);
+	WANT(tags_prepare(&other), 0);
+	WANT(tags_clear_batch(&hand, pair, 2), 1);
+	WANT(tags_finish(&other), 1);
+	WANT(tags_clear(&other, 2), 0);
+	WANT(tags_busy(&hand, &bits, 1), 2);
+	WANT(bits, 33);
+	WANT(tags_show(&hand, TAGS_RESERVED, &sizes), TAGS_OK);
+	WANT(sizes.depth, 2);
+	WANT(sizes.busy, 1);
+	WANT(tags_wakes(&hand, &counts), TAGS_OK);
+	WANT(counts.counted, 2);
+	WANT(counts.active, 0);
+	WANT(tags_leave(&hand), TAGS_OK);
+	WANT(tags_close(&pool, &sums), TAGS_HANDS_OUT);
+	WANT(tags_leave(&other), TAGS_OK);
+	WANT(tags_close(&pool, &sums), TAGS_OK);
+	WANT(sums.got, 5);
+	WANT(sums.back, 3);
+	WANT(sums.held, 2);
+	WANT(sums.posted, 0);
+	WANT(tags_close(&pool, &sums), TAGS_BAD_HANDLE);
+}
+
+/* A pool is resized once its hands have left and nothing is held. */
+static void go_on_with_more_tags(void)
+{
+	struct tags_pool pool = TAGS_EMPTY;
+	struct tags_hand hand = TAGS_EMPTY;
+	struct tags_sums sums;
+	uint64_t value = 0;
+
+	WANT(tags_open(&pool, &twelve), TAGS_OK);
+	WANT(tags_join(&pool, &hand, TAGS_STAY), TAGS_OK);
+	WANT(tags_get(&hand), 2);
+	WANT(tags_resize(&pool, 20), TAGS_HANDS_OUT);
+	WANT(tags_leave(&hand), TAGS_OK);
+	WANT(tags_resize(&pool, 20), TAGS_IN_USE);
+	WANT(tags_join(&pool, &hand, TAGS_STAY), TAGS_OK);
+	WANT(tags_clear(&hand, 2), 0);
+	WANT(tags_leave(&hand), TAGS_OK);
+	WANT(tags_resize(&pool, 1), TAGS_RESERVED_TOO_LARGE);
+	WANT(tags_resize(&pool, 20), TAGS_OK);
+	WANT(tags_join(&pool, &hand, TAGS_STAY), TAGS_OK);
+	WANT(tags_read(&hand, 19, &value), TAGS_NOT_HELD);
+	WANT(tags_read(&hand, 20, &value), TAGS_NO_SUCH_TAG);
+	WANT(tags_leave(&hand), TAGS_OK);
+	WANT(tags_close(&pool, &sums), TAGS_OK);
+	WANT(sums.got, 1);
+	WANT(sums.back, 1);
+	WANT(sums.held, 0);
+	WANT(sums.posted, 0);
+}
+
+int main(void)
+{
+	run_through_all_calls();
+	go_on_with_more_tags();
+	printf("%d answers, %d wrong\n", checks, wrong);
+	return wrong != 0;
+}

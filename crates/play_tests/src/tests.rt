@@ -1,0 +1,3 @@
+//! Worked examples, refusals, and want of memory.
+mod device;
+mod script;
