@@ -1,3 +1,4 @@
 //! Worked examples, refusals, and want of memory.
 mod device;
+mod runs;
 mod script;

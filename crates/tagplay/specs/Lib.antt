@@ -1,4 +1,2 @@
-pub mod Input
-pub mod Reports
-pub mod Runs
+pub mod Choices
 pub mod Status

@@ -1,13 +1,19 @@
 //! The subcommand that a command line names.
-ghost use Rattle.std.specs.Prelude.{◌≡◌, Some, IsNone, IfSome};
+ghost use Rattle.std.specs.Prelude.{◌≡◌, ◌≢◌, Some, IsNone, IfSome, IfOk, IfErr, IsErrOf};
 ghost use Rattle.clap.specs.Matches.{subcommand_name_of};
-ghost use Rattle.tagplay.specs.Runs.{name_of};
+ghost use Rattle.tag_runs.specs.Input.{StopsReading};
+ghost use Rattle.tag_runs.specs.Runs.{HasOutput, WritesOutput};
+ghost use Rattle.tagplay.specs.Choices.{name_of, owed_by};
 ghost use Rattle.tagplay.specs.declared.choice.Choice.{Choice};
 
 use crate::options::{check_options, play_options, script_options};
-use crate::play_options::PlayOptions;
 use clap::ArgMatches;
-use tag_script::{CheckOptions, ScriptOptions};
+use std::alloc::Global;
+use std::io::{Read, Write};
+use std::sync::Wait;
+use std::thread::Threads;
+use tag_runs::{PlayOptions, RunFault, run_check, run_play, run_script};
+use tag_script::{CheckOptions, Ending, ScriptOptions};
 
 /// A subcommand with its options.
 #[derive(Clone, Copy, Debug, PartialEq, Eq)]
@@ -35,6 +41,27 @@ impl Choice {
             Some(Choice::Play(play_options(options)))
         } else {
             None
+        }
+    }
+
+    /// Runs the chosen subcommand.
+    pub(crate) fn run<T: Threads + Wait + Sync, R: Read, W: Write>(
+        &self,
+        rt: &T,
+        alloc: Global,
+        reader: &mut R,
+        writer: &mut W,
+    ) -> Result<Ending, RunFault>
+        ensures written { IfOk result (WritesOutput (owed_by self.now) (R.remaining reader.old)
+            (W.contents writer.old) (W.contents writer.new)) }
+        ensures untouched { IfErr result (λ fault. fault ≢ RunFault.Write → writer.new ≡ writer.old) }
+        ensures stopped { IfErr result (λ fault. StopsReading fault (R.remaining reader.old) (R.remaining reader.new)) }
+        ensures answered { IsErrOf result RunFault.Write → HasOutput (owed_by self.now) (R.remaining reader.old) }
+    {
+        match self {
+            Choice::Script(options) => run_script(rt, alloc, options, reader, writer),
+            Choice::Check(options) => run_check(alloc, options, reader, writer),
+            Choice::Play(options) => run_play(rt, alloc, options, reader, writer),
         }
     }
 }

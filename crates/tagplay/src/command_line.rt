@@ -1,10 +1,10 @@
 //! Parses a command line and runs the subcommand that it names.
 ghost use Rattle.std.specs.Prelude.{◌≡◌, IfOk};
 ghost use Rattle.tagplay.specs.declared.choice.Choice.{Choice as Chosen};
-ghost use Rattle.tagplay.specs.Runs.{owed_by, WritesOutput};
+ghost use Rattle.tag_runs.specs.Runs.{WritesOutput};
+ghost use Rattle.tagplay.specs.Choices.{owed_by};
 
 use crate::choice::Choice;
-use crate::fault::RunFault;
 use crate::options;
 use crate::stop::Stop;
 use clap::error::ErrorKind;
@@ -14,6 +14,7 @@ use std::io::{Read, Write};
 use std::rt::Env;
 use std::sync::Wait;
 use std::thread::Threads;
+use tag_runs::RunFault;
 use tag_script::Ending;
 
 /// Returns the arguments of the process, starting with the program's name. One that is not UTF-8 is a `Memory` fault.

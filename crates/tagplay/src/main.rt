@@ -3,24 +3,14 @@
 
 mod choice;
 mod command_line;
-mod fault;
-mod input;
-mod log_answer;
 mod options;
-mod play_options;
-mod report;
-mod run;
 mod stop;
-#[cfg(test)]
-mod tests;
 
 use command_line::{play, words};
-pub use fault::RunFault;
-pub use play_options::PlayOptions;
-pub use run::{run_check, run_play, run_script};
 use std::io;
 use std::process::ExitCode;
 use stop::{Stop, status};
+pub use tag_runs::{PlayOptions, RunFault, run_check, run_play, run_script};
 
 fn main(rt: HostRuntime) -> ExitCode {
     let outcome = match words(&rt) {

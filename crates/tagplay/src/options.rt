@@ -1,7 +1,7 @@
 //! The command line: its subcommands, their options and their help.
-use crate::play_options::PlayOptions;
 use clap::{Arg, ArgAction, ArgMatches, Command, value_parser};
 use std::alloc::{AllocError, Global};
+use tag_runs::PlayOptions;
 use tag_script::{CheckOptions, ScriptOptions};
 
 /// Default for the most tags that a caller may win, 2^48.

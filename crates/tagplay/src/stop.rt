@@ -2,7 +2,7 @@
 ghost use Rattle.std.specs.Prelude.{◌≡◌};
 ghost use Rattle.tagplay.specs.Status.{status_of};
 
-use crate::fault::RunFault;
+use tag_runs::RunFault;
 use tag_script::Ending;
 
 /// Why the program ended without a completed run.

@@ -1,0 +1,3 @@
+//! Whole runs: what they read, what they write, and how they end.
+mod ends;
+mod plays;

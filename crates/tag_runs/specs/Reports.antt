@@ -1,0 +1,109 @@
+-- The output for a log: the line of its first fault, or the text of an outcome that a play of it may have.
+use Rattle.std.specs.Prelude.{◌≡◌, ◌≢◌, ◌↔◌, ℕ, Bool, ◌==◌, List, ◌++◌, length, count_by, Result, Ok, Err, IfOk, codes}
+use Rattle.loop_device.specs.declared.fault.LogCause.TheVariants as causes
+use Rattle.loop_device.specs.declared.fault.LogFault.{LogFault}
+use Rattle.loop_device.specs.declared.fault.PlayFault.{PlayFault}
+use Rattle.loop_device.specs.declared.fault.PlayFault.TheVariants.{Memory, Setup, Lost, Twice, Stranger}
+use Rattle.loop_device.specs.declared.io.Done.{Done}
+use Rattle.loop_device.specs.declared.io.Io.{Io}
+use Rattle.loop_device.specs.declared.io.IoKind.{IoKind}
+use Rattle.loop_device.specs.declared.io.IoKind.TheVariants.{Read, Write, Trim, Sync, Datasync}
+use Rattle.loop_device.specs.declared.io.Log.{Log}
+use Rattle.loop_device.specs.declared.report.Report.{Report}
+use Rattle.loop_device.specs.declared.setup.Setup.{Setup as SetupAsked}
+use Rattle.loop_device.specs.LogFaults.{number_of_cause}
+use Rattle.loop_device.specs.Logs.{IsLogOf, IsLogFault}
+use Rattle.loop_device.specs.Playing.{IsPlayed}
+use Rattle.loop_device.specs.Setups.{IsLegal}
+use Rattle.tag_model.specs.declared.totals.Totals.{Totals}
+use Rattle.tag_script.specs.declared.ending.Ending.{Ending}
+use Rattle.tag_script.specs.declared.ending.Ending.TheVariants as endings
+use Rattle.tag_sets.specs.Texts.{field}
+use Rattle.tag_runs.specs.declared.play_options.PlayOptions.{PlayOptions}
+
+-- the setup with these options
+abbrev pub setup_of : PlayOptions → SetupAsked
+setup_of o = record {
+  total = o.tags;
+  reserved = o.reserved;
+  shift = o.shift;
+  submitters = o.submitters;
+  completers = o.completers;
+  queue = o.queue;
+}
+
+-- the index of a kind in a report
+abbrev pub number_of_kind : IoKind → ℕ
+number_of_kind Read = 0
+number_of_kind Write = 1
+number_of_kind Trim = 2
+number_of_kind Sync = 3
+number_of_kind Datasync = 4
+
+-- the two kinds are the same
+abbrev pub is_kind : IoKind → IoKind → Bool
+is_kind wanted kind = number_of_kind wanted == number_of_kind kind
+
+-- the number of items that carry out a line of this kind
+abbrev pub count_of : IoKind → List Done → ℕ
+count_of kind done = count_by (λ d. is_kind kind d.io.kind) done
+
+-- a line of some words and a number
+abbrev pub line_of : List ℕ → ℕ → List ℕ
+line_of words number = field words number ++ codes "\n"
+
+-- the lines that count the five kinds
+abbrev pub kinds_lines : List Done → List ℕ
+kinds_lines done =
+    line_of (codes "reads=") (count_of Read done) ++ line_of (codes "writes=") (count_of Write done)
+    ++ line_of (codes "trims=") (count_of Trim done) ++ line_of (codes "syncs=") (count_of Sync done)
+    ++ line_of (codes "datasyncs=") (count_of Datasync done)
+
+-- the lines of the four totals of tags
+abbrev pub totals_lines : Totals → List ℕ
+totals_lines t =
+    line_of (codes "got=") t.got ++ line_of (codes "back=") t.back ++ line_of (codes "held=") t.held
+    ++ line_of (codes "posted=") t.posted
+
+-- the eleven lines of a report
+abbrev pub report_text : Log → Report → List ℕ
+report_text log report =
+    line_of (codes "names=") (length log.names.items) ++ kinds_lines report.done.items
+    ++ line_of (codes "waits=") log.waits ++ totals_lines report.totals
+
+-- the line that reports a malformed line of a log
+abbrev pub log_fault_text : LogFault → List ℕ
+log_fault_text fault = field (codes "line ") fault.line ++ line_of (codes " refused ") (number_of_cause fault.cause)
+
+-- the line that says why a log was not played, with the number of a line of the log if there is one
+abbrev pub play_fault_text : PlayFault → List ℕ
+play_fault_text Memory = line_of (codes "play refused ") 1
+play_fault_text Setup = line_of (codes "play refused ") 2
+play_fault_text (Lost line) = field (codes "play refused ") 3 ++ line_of (codes " line ") line
+play_fault_text (Twice line) = field (codes "play refused ") 4 ++ line_of (codes " line ") line
+play_fault_text Stranger = line_of (codes "play refused ") 5
+
+-- the outcomes that a play may have: a report on all I/O lines, a refused setup exactly if it is not legal, or another
+-- fault except running out of memory
+pub record MayComeTo (setup : SetupAsked) (ios : List Io) (outcome : Result Report PlayFault) : Type 0 where
+  pub played : IfOk outcome (IsPlayed ios)
+  pub setup_refused : (outcome ≡ Err Setup) ↔ ¬ (IsLegal setup)
+  pub no_memory : outcome ≢ Err Memory
+
+-- the text of an outcome
+abbrev pub outcome_text : Log → Result Report PlayFault → List ℕ
+outcome_text log (Ok report) = report_text log report
+outcome_text log (Err fault) = play_fault_text fault
+
+-- a report is done, and any fault is a refusal
+abbrev pub ending_of : Result Report PlayFault → Ending
+ending_of (Ok report) = endings.Done
+ending_of (Err fault) = endings.Refused
+
+-- the output for an input, and whether it is a refusal: the line of its first fault, otherwise the outcome of a play
+pub data Reports (o : PlayOptions) (input : List ℕ) : List ℕ → Ending → Type 0 where
+  faulty : (fault : LogFault) → IsLogFault input fault → fault.cause ≢ causes.Memory
+      → Reports o input (log_fault_text fault) endings.Refused
+  played : (log : Log) (outcome : Result Report PlayFault) → IsLogOf input log
+      → MayComeTo (setup_of o) log.ios.items outcome
+      → Reports o input (outcome_text log outcome) (ending_of outcome)

@@ -1,0 +1,13 @@
+//! The three runs of `tagplay`: each reads its whole input, then computes the output, then writes it.
+#![tactic(auto)]
+
+mod fault;
+mod input;
+mod log_answer;
+mod play_options;
+mod report;
+mod run;
+
+pub use fault::RunFault;
+pub use play_options::PlayOptions;
+pub use run::{run_check, run_play, run_script};

@@ -1,0 +1,20 @@
+-- What a choice of a subcommand stands for.
+use Rattle.std.specs.Prelude.{ℕ, List, codes}
+use Rattle.tag_runs.specs.Reports.{Reports}
+use Rattle.tag_script.specs.declared.ending.Ending.{Ending}
+use Rattle.tag_script.specs.Check.{TellsVerdict}
+use Rattle.tag_script.specs.Script.{Owed}
+use Rattle.tagplay.specs.declared.choice.Choice.{Choice}
+use Rattle.tagplay.specs.declared.choice.Choice.TheVariants.{Script, Check, Play}
+
+-- the name of the subcommand, as it is typed
+abbrev pub name_of : Choice → List ℕ
+name_of (Script options) = codes "script"
+name_of (Check options) = codes "check"
+name_of (Play options) = codes "play"
+
+-- the outputs that the chosen subcommand may give for an input
+abbrev pub owed_by : Choice → List ℕ → List ℕ → Ending → Type 0
+owed_by (Script options) = Owed options
+owed_by (Check options) = TellsVerdict options
+owed_by (Play options) = Reports options
