@@ -3,4 +3,5 @@ mod layout;
 mod map;
 mod model;
 mod search;
+mod totals;
 mod wakeups;

@@ -1,6 +1,7 @@
 //! Worked examples, refusals, want of memory, and threads.
+mod calls;
 mod gathering;
-mod hands;
+pub(crate) mod hands;
 mod memory;
 mod opening;
 mod reopening;

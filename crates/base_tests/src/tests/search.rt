@@ -1,6 +1,7 @@
 //! Searches worked out on paper, with their steps counted.
 ghost use Rattle.std.specs.Prelude.{ℕ, ◌<◌};
 
+mod calls;
 mod comparison;
 mod draws;
 mod hints;
@@ -10,18 +11,19 @@ mod shared;
 mod slow;
 mod threads;
 
+use calls::Answer::{Done, Nothing, Run, Tag, Word};
+use calls::Call::{Batch, Follow, Get, Give, Look, Shallow};
+use calls::wrong;
+use std::alloc::Global;
 use std::test::Fail;
 use tag_core::{Claim, Spent};
 use tag_layout::Layout;
-use tag_search::{
-    Hint, PlainPort, Port, after_clear, get, get_batch, get_shallow, lone_batches_choose,
-    lone_gets_choose,
-};
+use tag_search::{Hint, PlainPort, Port, lone_batches_choose, lone_gets_choose};
 
 /// A plain port that counts its atomic steps.
 #[derive(Drop)]
-struct Counting {
-    port: PlainPort,
+pub(crate) struct Counting {
+    pub(crate) port: PlainPort,
     /// Number of steps so far: loads, claims, swaps and spills.
     steps: u64,
 }
@@ -67,128 +69,120 @@ impl Port for Counting {
     }
 }
 
-/// Takes the tags of the mask that are in the word.
-fn take(port: &mut Counting, word: u32, mask: u64) {
-    let layout = port.layout();
-    if word < layout.words() && mask <= layout.usable(word) {
-        let _ = port.port.claim(word, mask);
-    }
-}
-
-/// Returns whether the tag is in range, taken and not set aside.
-fn is_taken(port: &Counting, tag: u32) -> bool {
-    tag < port.layout().depth() && port.port.taken(tag)
-}
-
-/// Sets a tag aside, if it is taken.
-fn set_aside(port: &mut Counting, tag: u32) {
-    if tag < port.layout().depth() && port.port.taken(tag) {
-        port.port.put(tag);
-    }
-}
-
-/// A batch get, if a word has that many tags; otherwise `None`.
-#[tactic(auto, using(std::proofs::lemmas::Nat::one_shl))]
-fn batch(port: &mut Counting, hint: &mut Hint, n: u32) -> Result<Option<(u32, u64)>, Spent> {
-    let bits = 1u32 << port.layout().shift();
-    if n == 0 || n > bits {
-        return Ok(None);
-    }
-    get_batch(port, hint, n)
-}
-
-fn fresh(rt: &HostRuntime, depth: u32, shift: u32) -> Result<Counting, Fail> {
-    let layout = Layout::new(depth, Some(shift)).ok().ok_or("layout")?;
-    let port = PlainPort::open(rt.alloc(), layout)?;
+/// Plain words of which nothing is taken.
+pub(crate) fn fresh(alloc: Global, depth: u32, shift: u32) -> Result<Counting, Fail> {
+    let port = PlainPort::open(alloc, Layout::new(depth, Some(shift))?)?;
     Ok(Counting { port, steps: 0 })
 }
 
-fn hint_at(at: u32, round_robin: bool) -> Hint {
+/// Takes the tags of the masks that are in their words, and then sets these tags aside, if they are taken.
+fn take(port: &mut PlainPort, taken: &[(u32, u64)], aside: &[u32]) {
+    for (word, mask) in taken {
+        let layout = port.layout();
+        if *word < layout.words() && *mask <= layout.usable(*word) {
+            let _ = port.claim(*word, *mask);
+        }
+    }
+    for tag in aside {
+        if *tag < port.layout().depth() && port.taken(*tag) {
+            port.put(*tag);
+        }
+    }
+}
+
+pub(crate) fn hint_at(at: u32, round_robin: bool) -> Hint {
     Hint { at, round_robin }
 }
 
 #[test]
-fn a_plain_get_begins_at_place_0_of_the_hints_word(rt: HostRuntime) -> Result<(), Fail> {
-    let mut port = fresh(&rt, 8, 2)?;
-    take(&mut port, 0, 0b1100);
-    take(&mut port, 1, 0b1111);
-    set_aside(&mut port, 4);
-    let mut hint = hint_at(2, false);
-    assert_eq!(rt; get(&mut port, &mut hint), Ok(Some(0)));
-    assert_eq!(rt; hint, hint_at(2, false));
-    assert_eq!(rt; port.steps, 2);
-    Ok(())
-}
-
-#[test]
-fn a_shallow_get_stays_below_its_limit(rt: HostRuntime) -> Result<(), Fail> {
-    let mut port = fresh(&rt, 8, 2)?;
-    take(&mut port, 0, 0b1100);
-    let mut hint = hint_at(2, false);
-    assert_eq!(rt; get_shallow(&mut port, &mut hint, 2), Ok(Some(0)));
-    assert_eq!(rt; hint, hint_at(2, false));
-    assert_eq!(rt; get_shallow(&mut port, &mut hint, 0), Ok(None));
-    assert_eq!(rt; hint, hint_at(0, false));
-    Ok(())
-}
-
-#[test]
-fn a_cleared_tag_is_found_after_a_sweep_in_seven_steps(rt: HostRuntime) -> Result<(), Fail> {
-    let mut port = fresh(&rt, 8, 2)?;
-    take(&mut port, 0, 0b1111);
-    take(&mut port, 1, 0b1111);
-    set_aside(&mut port, 4);
-    let mut hint = hint_at(2, false);
-    assert_eq!(rt; get(&mut port, &mut hint), Ok(Some(4)));
-    assert_eq!(rt; hint, hint_at(2, false));
-    assert_eq!(rt; port.steps, 7);
-    assert_eq!(rt; get(&mut port, &mut hint), Ok(None));
-    assert_eq!(rt; hint, hint_at(0, false));
-    Ok(())
-}
-
-#[test]
-fn round_robin_misses_a_bit_below_its_hint(rt: HostRuntime) -> Result<(), Fail> {
-    let mut port = fresh(&rt, 4, 2)?;
-    let mut hint = hint_at(1, true);
-    assert_eq!(rt; get(&mut port, &mut hint), Ok(Some(1)));
-    assert_eq!(rt; hint, hint_at(2, true));
-    assert_eq!(rt; get(&mut port, &mut hint), Ok(Some(2)));
-    assert_eq!(rt; hint, hint_at(0, true));
-    take(&mut port, 0, 0b1000);
-    let mut late = hint_at(2, true);
-    assert_eq!(rt; get(&mut port, &mut late), Ok(None));
-    assert_eq!(rt; batch(&mut port, &mut late, 1), Ok(None));
-    after_clear(&mut late, 3);
-    assert_eq!(rt; late, hint_at(0, true));
-    Ok(())
-}
-
-#[test]
-fn a_batch_lies_in_one_word(rt: HostRuntime) -> Result<(), Fail> {
-    let mut port = fresh(&rt, 8, 2)?;
-    take(&mut port, 0, 0b0111);
-    let mut hint = hint_at(1, false);
-    assert_eq!(rt; batch(&mut port, &mut hint, 2), Ok(Some((4, 0b11))));
-    assert_eq!(rt; hint, hint_at(1, false));
-    after_clear(&mut hint, 5);
-    assert_eq!(rt; batch(&mut port, &mut hint, 2), Ok(Some((6, 0b11))));
-    assert_eq!(rt; hint, hint_at(5, false));
-    assert_eq!(rt; batch(&mut port, &mut hint, 4), Ok(None));
-    Ok(())
-}
-
-#[test]
-fn a_tag_given_back_is_free_at_once(rt: HostRuntime) -> Result<(), Fail> {
-    let mut port = fresh(&rt, 3, 1)?;
-    take(&mut port, 1, 1);
-    assert!(rt; is_taken(&port, 2));
-    if port.layout().words() > 1 {
-        assert_eq!(rt; port.port.look_aside(1), 0);
+fn searches_answer_as_on_paper(rt: HostRuntime) -> Result<(), Fail> {
+    for (name, (depth, shift), (taken, aside), from, said) in [
+        (
+            "a shallow get stays below its limit",
+            (8, 2),
+            (&[(0, 0b1100)][..], &[][..]),
+            hint_at(2, false),
+            &[(Shallow(2), Tag(0), 2), (Shallow(0), Nothing, 0)][..],
+        ),
+        (
+            "a cleared tag is found after a sweep",
+            (8, 2),
+            (&[(0, 0b1111), (1, 0b1111)][..], &[4][..]),
+            hint_at(2, false),
+            &[(Get, Tag(4), 2), (Get, Nothing, 0)][..],
+        ),
+        (
+            "round robin goes on from its hint",
+            (4, 2),
+            (&[][..], &[][..]),
+            hint_at(1, true),
+            &[(Get, Tag(1), 2), (Get, Tag(2), 0)][..],
+        ),
+        (
+            "round robin misses a bit below its hint",
+            (4, 2),
+            (&[(0, 0b1110)][..], &[][..]),
+            hint_at(2, true),
+            &[
+                (Get, Nothing, 0),
+                (Batch(1), Nothing, 0),
+                (Follow(3), Done, 0),
+            ][..],
+        ),
+        (
+            "a batch lies in one word",
+            (8, 2),
+            (&[(0, 0b0111)][..], &[][..]),
+            hint_at(1, false),
+            &[
+                (Batch(2), Run(4, 0b11), 1),
+                (Follow(5), Done, 5),
+                (Batch(2), Run(6, 0b11), 5),
+                (Batch(4), Nothing, 5),
+            ][..],
+        ),
+        (
+            "a tag given back is free at once",
+            (3, 1),
+            (&[(1, 1)][..], &[][..]),
+            hint_at(9, false),
+            &[
+                (Look(1), Word(1, 0), 9),
+                (Get, Tag(0), 1),
+                (Give(2), Done, 2),
+                (Look(1), Word(0, 0), 2),
+                (Get, Tag(2), 0),
+            ][..],
+        ),
+    ] {
+        let mut counting = fresh(rt.alloc(), depth, shift)?;
+        take(&mut counting.port, taken, aside);
+        assert_eq!(rt; wrong(&mut counting, from, said), None, "{name}");
     }
-    let mut hint = hint_at(9, false);
-    assert_eq!(rt; get(&mut port, &mut hint), Ok(Some(0)));
-    assert_eq!(rt; hint, hint_at(1, false));
+    Ok(())
+}
+
+#[test]
+fn a_get_makes_as_many_steps_as_on_paper(rt: HostRuntime) -> Result<(), Fail> {
+    for (name, taken, found, steps) in [
+        (
+            "a plain get begins at place 0 of the hint's word",
+            [(0, 0b1100), (1, 0b1111)],
+            Tag(0),
+            2,
+        ),
+        (
+            "a cleared tag is found after a sweep",
+            [(0, 0b1111), (1, 0b1111)],
+            Tag(4),
+            7,
+        ),
+    ] {
+        let mut counting = fresh(rt.alloc(), 8, 2)?;
+        take(&mut counting.port, &taken, &[4]);
+        let wrong = wrong(&mut counting, hint_at(2, false), &[(Get, found, 2)]);
+        assert_eq!(rt; (wrong, counting.steps), (None, steps), "{name}");
+    }
     Ok(())
 }
 
@@ -204,21 +198,21 @@ fn chosen_batch(port: &mut PlainPort, hint: &mut Hint, n: u32) -> Option<(u32, u
 
 #[test]
 fn a_batch_leaves_out_a_tag_that_is_held(rt: HostRuntime) -> Result<(), Fail> {
-    let mut counting = fresh(&rt, 8, 2)?;
-    take(&mut counting, 0, 0b1111);
-    set_aside(&mut counting, 1);
-    set_aside(&mut counting, 3);
+    let mut port = fresh(rt.alloc(), 8, 2)?.port;
+    take(&mut port, &[(0, 0b1111)], &[1, 3]);
     let mut hint = hint_at(0, false);
-    let mut port = counting.port;
-    assert_eq!(rt; chosen_batch(&mut port, &mut hint, 3), Some((1, 0b101)));
-    assert_eq!(rt; hint, hint_at(0, false));
-    assert_eq!(rt; port.choose(&mut hint), Some(4));
-    assert_eq!(rt; port.choose_shallow(&mut hint, 4), Some(5));
-    assert_eq!(rt; port.choose_shallow(&mut hint, 4), None);
+    let run = chosen_batch(&mut port, &mut hint, 3);
+    assert_eq!(rt; (run, hint), (Some((1, 0b101)), hint_at(0, false)));
+    let tags = [
+        port.choose(&mut hint),
+        port.choose_shallow(&mut hint, 4),
+        port.choose_shallow(&mut hint, 4),
+    ];
+    assert_eq!(rt; tags, [Some(4), Some(5), None]);
     let mut round = hint_at(6, true);
-    assert_eq!(rt; chosen_batch(&mut port, &mut round, 1), None);
-    assert_eq!(rt; port.choose(&mut round), Some(6));
-    assert_eq!(rt; round, hint_at(0, true));
+    let refused = chosen_batch(&mut port, &mut round, 1);
+    let tag = port.choose(&mut round);
+    assert_eq!(rt; (refused, tag, round), (None, Some(6), hint_at(0, true)));
     Ok(())
 }
 

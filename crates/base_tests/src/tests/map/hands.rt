@@ -1,10 +1,25 @@
 //! Maps and callers for tests. Preconditions are checked at run time: false and None say that it
 //! wasn't so, and that nothing was done.
-ghost use Rattle.std.specs.Prelude.{◌≡◌, ℕ, ◌<◌, All, IsTrue};
+ghost use Rattle.std.specs.Prelude.{◌≡◌, ℕ, ◌<◌, All, IsTrue, IfOk};
 ghost use Rattle.tag_core.specs.Callers.{IsCallerOf, Holds};
 
+use std::alloc::Global;
 use std::test::Fail;
 use tag_core::{Caller, Claim, Closed, Map, Spent};
+use tag_layout::Layout;
+
+/// Opens a map of numbers with its callers.
+pub(crate) fn opened(
+    alloc: Global,
+    layout: Layout,
+    callers: u32,
+    life: u64,
+) -> Result<(Map<u64>, Vec<Caller<u64>>), Fail>
+    ensures { IfOk result (λ p. All (IsCallerOf p.0) p.1.items) }
+{
+    let slots = vec![in alloc; 0u64; layout.depth() as usize]?;
+    Ok(Map::open(alloc, layout, callers, life, slots)?)
+}
 
 /// Gathers all callers.
 pub(crate) fn close(map: Map<u64>, callers: Vec<Caller<u64>>) -> Result<Closed<u64>, Fail>

@@ -1,8 +1,8 @@
 //! Want of memory. Run with each allocation refused in turn, this test still passes.
+use crate::tests::totals::totals;
 use std::test::Fail;
 use tag_core::{Map, OpenFault};
 use tag_layout::Layout;
-use tag_model::Totals;
 
 #[test]
 fn want_of_memory_is_told(rt: HostRuntime) -> Result<(), Fail> {
@@ -13,21 +13,13 @@ fn want_of_memory_is_told(rt: HostRuntime) -> Result<(), Fail> {
     let (map, callers) = match Map::open(rt.alloc(), layout, 3, 16, slots) {
         Ok(opened) => opened,
         Err(fault) => {
-            assert_eq!(rt; fault, OpenFault::Memory);
+            assert!(rt; fault == OpenFault::Memory);
             return Ok(());
         }
     };
     let Ok(closed) = map.gather(callers) else {
         return Err(Fail::new("a caller is missing"));
     };
-    assert_eq!(rt;
-        closed.totals,
-        Totals {
-            got: 0,
-            back: 0,
-            held: 0,
-            posted: 0
-        }
-    );
+    assert!(rt; closed.totals == totals(0, 0, 0, 0));
     Ok(())
 }

@@ -2,8 +2,9 @@
 ghost use Rattle.std.specs.Prelude.{All, IfOk};
 ghost use Rattle.tag_core.specs.Callers.{IsCallerOf};
 
-use crate::tests::map::hands::{claim_bits, close, give_tag, put_tag, sweep_word};
+use crate::tests::map::hands::{claim_bits, close, give_tag, opened, put_tag, sweep_word};
 use crate::tests::map::resizing::resize;
+use crate::tests::totals::totals;
 use std::alloc::Global;
 use std::sync::atomic::AtomicU64;
 use std::sync::atomic::Ordering::SeqCst;
@@ -12,7 +13,6 @@ use std::thread;
 use std::thread::Threads;
 use tag_core::{Caller, Map};
 use tag_layout::Layout;
-use tag_model::Totals;
 
 const THREADS: u32 = 4;
 
@@ -80,28 +80,33 @@ fn play_and_resize<T: Threads + Sync>(
     resize(alloc, map, callers, Layout::new(depth, None)?)
 }
 
+/// The same for each of these depths in turn.
+fn play_through<T: Threads + Sync>(
+    rt: &T,
+    alloc: Global,
+    mut map: Map<u64>,
+    mut callers: Vec<Caller<u64>>,
+    won: &AtomicU64,
+    depths: &[u32],
+) -> Result<(Map<u64>, Vec<Caller<u64>>), Fail>
+    requires { All (IsCallerOf map) callers.items }
+    ensures { IfOk result (λ p. All (IsCallerOf p.0) p.1.items) }
+{
+    for depth in depths {
+        (map, callers) = play_and_resize(rt, alloc, map, callers, won, *depth)?;
+    }
+    Ok((map, callers))
+}
+
 #[test]
 fn threads_go_on_with_a_next_map(rt: HostRuntime) -> Result<(), Fail> {
-    let slots = vec![in rt.alloc(); 0u64; 8]?;
-    let opening = Layout::new(8, Some(2))?;
-    let (map, callers) = Map::open(rt.alloc(), opening, THREADS, 1 << 40, slots)?;
+    let (map, callers) = opened(rt.alloc(), Layout::new(8, Some(2))?, THREADS, 1 << 40)?;
     let won = AtomicU64::new(0);
     let (map, callers) = play_and_resize(&rt, rt.alloc(), map, callers, &won, 3)?;
     let first = won.load(SeqCst);
-    let (map, callers) = play_and_resize(&rt, rt.alloc(), map, callers, &won, 0)?;
-    let (map, callers) = play_and_resize(&rt, rt.alloc(), map, callers, &won, 1)?;
-    let (map, callers) = play_and_resize(&rt, rt.alloc(), map, callers, &won, 130)?;
-    let (map, callers) = play_and_resize(&rt, rt.alloc(), map, callers, &won, 8)?;
+    let (map, callers) = play_through(&rt, rt.alloc(), map, callers, &won, &[0, 1, 130, 8])?;
     let got = won.load(SeqCst);
     assert!(rt; 0 < first && first < got);
-    assert_eq!(rt;
-        close(map, callers)?.totals,
-        Totals {
-            got,
-            back: got,
-            held: 0,
-            posted: 0
-        }
-    );
+    assert_eq!(rt; close(map, callers)?.totals, totals(got, got, 0, 0));
     Ok(())
 }

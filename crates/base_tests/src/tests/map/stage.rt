@@ -2,18 +2,17 @@
 ghost use Rattle.std.specs.Prelude.{◌≡◌, All, IfSome};
 ghost use Rattle.tag_core.specs.Callers.{IsCallerOf};
 
-use crate::tests::map::hands::{
-    claim_bits, exchange, give_tag, has, look_at, post_tag, put_tag, read, sweep_word, take_tag,
-};
+use crate::tests::map::calls::{Answer, Call, act};
+use crate::tests::map::hands::opened;
 use crate::tests::map::resizing::resize;
 use std::alloc::Global;
 use std::mem::replace;
 use std::test::Fail;
-use step_ledger::{GatherCause, Numbered};
-use tag_core::{Caller, Claim, Closed, Map, Settled, Spent};
+use step_ledger::GatherCause;
+use tag_core::{Caller, Closed, Map, Settled};
 use tag_layout::Layout;
 
-/// A map and its callers, who go by where they stand. What a caller cannot do is not done: false and None say so.
+/// A map and its callers, who go by where they stand.
 #[derive(Drop)]
 pub(crate) struct Stage {
     map: Map<u64>,
@@ -27,9 +26,7 @@ pub(crate) struct Stage {
 impl Stage {
     /// Four free tags in one word, whose slots are 0.
     pub(crate) fn of_four_tags(alloc: Global, callers: u32, life: u64) -> Result<Stage, Fail> {
-        let layout = Layout::new(4, Some(2))?;
-        let slots = vec![in alloc; 0u64; 4]?;
-        let (map, callers) = Map::open(alloc, layout, callers, life, slots)?;
+        let (map, callers) = opened(alloc, Layout::new(4, Some(2))?, callers, life)?;
         Ok(Stage {
             map,
             callers,
@@ -37,71 +34,24 @@ impl Stage {
         })
     }
 
-    pub(crate) fn number(&self, at: usize) -> Option<u32> {
-        Some(self.callers.get(at)?.number())
+    /// Makes a call with the caller who stands there, if anybody does.
+    pub(crate) fn act(&mut self, at: usize, call: Call) -> Option<Answer> {
+        Some(act(&self.map, self.callers.get_mut(at)?, call))
     }
 
-    pub(crate) fn claim(
+    /// Makes the calls in order, up to the first whose answer differs from the one expected. Returns the index of that
+    /// call and its answer, which is `None` if its caller does not stand there.
+    pub(crate) fn wrong(
         &mut self,
-        at: usize,
-        word: u32,
-        mask: u64,
-    ) -> Option<Result<Claim, Spent>> {
-        claim_bits(&self.map, self.callers.get_mut(at)?, word, mask)
-    }
-
-    pub(crate) fn give(&mut self, at: usize, tag: u32) -> bool {
-        match self.callers.get_mut(at) {
-            Some(caller) => give_tag(&self.map, caller, tag),
-            None => false,
+        said: &[(usize, Call, Answer)],
+    ) -> Option<(usize, Option<Answer>)> {
+        for (index, (at, call, answer)) in said.iter().enumerate() {
+            let found = self.act(*at, *call);
+            if found != Some(*answer) {
+                return Some((index, found));
+            }
         }
-    }
-
-    pub(crate) fn put(&mut self, at: usize, tag: u32) -> bool {
-        match self.callers.get_mut(at) {
-            Some(caller) => put_tag(&self.map, caller, tag),
-            None => false,
-        }
-    }
-
-    pub(crate) fn sweep(&mut self, at: usize, word: u32) -> bool {
-        match self.callers.get_mut(at) {
-            Some(caller) => sweep_word(&self.map, caller, word),
-            None => false,
-        }
-    }
-
-    pub(crate) fn post(&mut self, at: usize, tag: u32) -> bool {
-        match self.callers.get_mut(at) {
-            Some(caller) => post_tag(&self.map, caller, tag),
-            None => false,
-        }
-    }
-
-    pub(crate) fn take(&mut self, at: usize, tag: u32) -> bool {
-        match self.callers.get_mut(at) {
-            Some(caller) => take_tag(&self.map, caller, tag),
-            None => false,
-        }
-    }
-
-    pub(crate) fn has(&self, at: usize, tag: u32) -> bool {
-        match self.callers.get(at) {
-            Some(caller) => has(&self.map, caller, tag),
-            None => false,
-        }
-    }
-
-    pub(crate) fn exchange(&mut self, at: usize, tag: u32, new: u64) -> Option<u64> {
-        exchange(&self.map, self.callers.get_mut(at)?, tag, new)
-    }
-
-    pub(crate) fn read(&mut self, at: usize, tag: u32) -> Option<u64> {
-        read(&self.map, self.callers.get_mut(at)?, tag)
-    }
-
-    pub(crate) fn look(&mut self, at: usize, word: u32) -> Option<(u64, u64)> {
-        look_at(&self.map, self.callers.get_mut(at)?, word)
+        None
     }
 
     fn take_last(&mut self) -> Option<Caller<u64>>

@@ -1,96 +1,113 @@
 //! Steps of one or two callers, in one thread.
+use crate::tests::map::calls::Answer::{Done, Held, Spent, Undone, Value, Won, Word};
+use crate::tests::map::calls::Call::{
+    Claim, Exchange, Give, Holds, Look, Post, Put, Read, Sweep, Take,
+};
 use crate::tests::map::stage::Stage;
+use crate::tests::totals::totals;
 use std::test::Fail;
-use tag_core::{Claim, Spent};
-use tag_model::Totals;
 
-fn totals(got: u64, back: u64, held: u64, posted: u64) -> Totals {
-    Totals {
-        got,
-        back,
-        held,
-        posted,
+#[test]
+fn steps_answer_as_on_paper(rt: HostRuntime) -> Result<(), Fail> {
+    for (name, callers, life, said, after, slots) in [
+        (
+            "a claim wins what nobody has",
+            2,
+            16,
+            &[
+                (0, Claim(0, 6), Won(6, 0)),
+                (1, Claim(0, 3), Won(1, 6)),
+                (0, Give(1), Done),
+            ][..],
+            totals(3, 1, 2, 0),
+            [0; 4],
+        ),
+        (
+            "a spent claim makes no step",
+            1,
+            2,
+            &[(0, Claim(0, 7), Spent), (0, Claim(0, 3), Won(3, 0))][..],
+            totals(2, 0, 2, 0),
+            [0; 4],
+        ),
+        (
+            "a posted tag is taken once with its slot",
+            2,
+            16,
+            &[
+                (0, Claim(0, 1), Won(1, 0)),
+                (0, Exchange(0, 7), Value(0)),
+                (0, Read(0), Value(7)),
+                (0, Post(0), Done),
+                (1, Take(0), Done),
+                (0, Take(0), Undone),
+                (1, Exchange(0, 0), Value(7)),
+            ][..],
+            totals(1, 0, 1, 0),
+            [0; 4],
+        ),
+        (
+            "a posted tag keeps its slot",
+            2,
+            16,
+            &[
+                (0, Claim(0, 1), Won(1, 0)),
+                (0, Exchange(0, 7), Value(0)),
+                (0, Post(0), Done),
+                (0, Holds(0), Held(false)),
+                (1, Claim(0, 1), Won(0, 1)),
+            ][..],
+            totals(1, 0, 0, 1),
+            [7, 0, 0, 0],
+        ),
+        (
+            "a tag set aside is free after a sweep",
+            2,
+            16,
+            &[
+                (0, Claim(0, 12), Won(12, 0)),
+                (0, Put(2), Done),
+                (1, Claim(0, 4), Won(0, 12)),
+                (1, Look(0), Word(12, 4)),
+                (1, Sweep(0), Done),
+                (0, Look(0), Word(8, 0)),
+                (1, Sweep(0), Undone),
+                (1, Claim(0, 4), Won(4, 8)),
+            ][..],
+            totals(3, 1, 2, 0),
+            [0; 4],
+        ),
+    ] {
+        let mut stage = Stage::of_four_tags(rt.alloc(), callers, life)?;
+        assert_eq!(rt; stage.wrong(said), None, "{name}");
+        let closed = stage.close()?;
+        assert!(rt; closed.totals == after, "{name}");
+        assert!(rt; closed.slots.as_slice() == &slots[..], "{name}");
     }
-}
-
-#[test]
-fn a_claim_wins_what_nobody_has(rt: HostRuntime) -> Result<(), Fail> {
-    let mut stage = Stage::of_four_tags(rt.alloc(), 2, 16)?;
-    assert_eq!(rt; stage.claim(0, 0, 6), Some(Ok(Claim { won: 6, found: 0 })));
-    assert_eq!(rt; stage.claim(1, 0, 3), Some(Ok(Claim { won: 1, found: 6 })));
-    assert!(rt; stage.give(0, 1));
-    assert_eq!(rt; stage.close()?.totals, totals(3, 1, 2, 0));
-    Ok(())
-}
-
-#[test]
-fn a_spent_claim_makes_no_step(rt: HostRuntime) -> Result<(), Fail> {
-    let mut stage = Stage::of_four_tags(rt.alloc(), 1, 2)?;
-    assert_eq!(rt; stage.claim(0, 0, 7), Some(Err(Spent)));
-    assert_eq!(rt; stage.claim(0, 0, 3), Some(Ok(Claim { won: 3, found: 0 })));
-    assert_eq!(rt; stage.close()?.totals, totals(2, 0, 2, 0));
-    Ok(())
-}
-
-#[test]
-fn a_posted_tag_is_taken_once_with_its_slot(rt: HostRuntime) -> Result<(), Fail> {
-    let mut stage = Stage::of_four_tags(rt.alloc(), 2, 16)?;
-    assert_eq!(rt; stage.claim(0, 0, 1), Some(Ok(Claim { won: 1, found: 0 })));
-    assert_eq!(rt; stage.exchange(0, 0, 7), Some(0));
-    assert_eq!(rt; stage.read(0, 0), Some(7));
-    assert!(rt; stage.post(0, 0));
-    assert!(rt; stage.take(1, 0));
-    assert!(rt; !stage.take(0, 0));
-    assert_eq!(rt; stage.exchange(1, 0, 0), Some(7));
-    assert_eq!(rt; stage.close()?.totals, totals(1, 0, 1, 0));
-    Ok(())
-}
-
-#[test]
-fn a_posted_tag_keeps_its_slot(rt: HostRuntime) -> Result<(), Fail> {
-    let mut stage = Stage::of_four_tags(rt.alloc(), 2, 16)?;
-    assert_eq!(rt; stage.claim(0, 0, 1), Some(Ok(Claim { won: 1, found: 0 })));
-    assert_eq!(rt; stage.exchange(0, 0, 7), Some(0));
-    assert!(rt; stage.post(0, 0));
-    assert!(rt; !stage.has(0, 0));
-    assert_eq!(rt; stage.claim(1, 0, 1), Some(Ok(Claim { won: 0, found: 1 })));
-    let closed = stage.close()?;
-    assert_eq!(rt; closed.totals, totals(1, 0, 0, 1));
-    assert_eq!(rt; closed.slots.as_slice(), &[7, 0, 0, 0][..]);
-    Ok(())
-}
-
-#[test]
-fn a_tag_set_aside_is_free_after_a_sweep(rt: HostRuntime) -> Result<(), Fail> {
-    let mut stage = Stage::of_four_tags(rt.alloc(), 2, 16)?;
-    assert_eq!(rt;
-        stage.claim(0, 0, 12),
-        Some(Ok(Claim { won: 12, found: 0 }))
-    );
-    assert!(rt; stage.put(0, 2));
-    assert_eq!(rt; stage.claim(1, 0, 4), Some(Ok(Claim { won: 0, found: 12 })));
-    assert_eq!(rt; stage.look(1, 0), Some((12, 4)));
-    assert!(rt; stage.sweep(1, 0));
-    assert_eq!(rt; stage.look(0, 0), Some((8, 0)));
-    assert!(rt; !stage.sweep(1, 0));
-    assert_eq!(rt; stage.claim(1, 0, 4), Some(Ok(Claim { won: 4, found: 8 })));
-    assert_eq!(rt; stage.close()?.totals, totals(3, 1, 2, 0));
     Ok(())
 }
 
 #[test]
 fn two_callers_meet_and_go_on(rt: HostRuntime) -> Result<(), Fail> {
     let mut stage = Stage::of_four_tags(rt.alloc(), 2, 16)?;
-    assert!(rt; stage.meet(0)?);
-    assert_eq!(rt; stage.claim(0, 0, 3), Some(Ok(Claim { won: 3, found: 0 })));
-    assert_eq!(rt; stage.claim(1, 0, 7), Some(Ok(Claim { won: 4, found: 3 })));
-    assert_eq!(rt; stage.exchange(0, 1, 5), Some(0));
-    assert_eq!(rt; stage.exchange(1, 2, 6), Some(0));
-    assert!(rt; stage.meet(0)?);
-    assert_eq!(rt; (stage.has(0, 1), stage.has(1, 1)), (true, false));
-    assert_eq!(rt; stage.exchange(0, 1, 7), Some(5));
-    assert_eq!(rt; stage.exchange(1, 2, 8), Some(6));
-    assert!(rt; stage.give(1, 2));
+    for said in [
+        &[
+            (0, Claim(0, 3), Won(3, 0)),
+            (1, Claim(0, 7), Won(4, 3)),
+            (0, Exchange(1, 5), Value(0)),
+            (1, Exchange(2, 6), Value(0)),
+        ][..],
+        &[
+            (0, Holds(1), Held(true)),
+            (1, Holds(1), Held(false)),
+            (0, Exchange(1, 7), Value(5)),
+            (1, Exchange(2, 8), Value(6)),
+            (1, Give(2), Done),
+        ][..],
+    ] {
+        assert!(rt; stage.meet(0)?);
+        assert_eq!(rt; stage.wrong(said), None);
+    }
     assert_eq!(rt; stage.close()?.totals, totals(3, 1, 2, 0));
     Ok(())
 }

@@ -3,8 +3,9 @@ ghost use Rattle.std.specs.Prelude.{◌<◌, All};
 ghost use Rattle.tag_core.specs.Callers.{IsCallerOf};
 
 use crate::tests::map::hands::{
-    claim_bits, close, exchange, give_tag, post_tag, put_tag, sweep_word, take_tag,
+    claim_bits, close, exchange, give_tag, opened, post_tag, put_tag, sweep_word, take_tag,
 };
+use crate::tests::totals::totals;
 use std::alloc::Global;
 use std::sync::atomic::AtomicU64;
 use std::sync::atomic::Ordering::SeqCst;
@@ -174,22 +175,19 @@ fn play_all<T: Threads + Sync>(
 #[test]
 fn a_slot_has_what_its_holder_wrote_among_threads(rt: HostRuntime) -> Result<(), Fail> {
     let tally = Tally::new(rt.alloc())?;
-    let layout = Layout::new(DEPTH, Some(2))?;
-    let slots = vec![in rt.alloc(); 0u64; DEPTH as usize]?;
-    let (map, callers) = Map::open(rt.alloc(), layout, THREADS, 1 << 40, slots)?;
-    let totals = play_all(&rt, map, callers, &tally)?.totals;
-    assert_eq!(rt; tally.wrong.load(SeqCst), 0);
-    assert!(rt; 0 < tally.taken.load(SeqCst));
+    let (map, callers) = opened(rt.alloc(), Layout::new(DEPTH, Some(2))?, THREADS, 1 << 40)?;
+    let closed = play_all(&rt, map, callers, &tally)?;
+    let (posted, taken) = (tally.posted.load(SeqCst), tally.taken.load(SeqCst));
+    assert!(rt; tally.wrong.load(SeqCst) == 0);
+    assert!(rt; 0 < taken);
     assert_eq!(rt;
-        (totals.got, totals.back, totals.held),
-        (tally.won.load(SeqCst), tally.back.load(SeqCst), 0)
-    );
-    assert_eq!(rt;
-        totals.posted,
-        tally
-            .posted
-            .load(SeqCst)
-            .wrapping_sub(tally.taken.load(SeqCst))
+        closed.totals,
+        totals(
+            tally.won.load(SeqCst),
+            tally.back.load(SeqCst),
+            0,
+            posted.wrapping_sub(taken)
+        )
     );
     Ok(())
 }

@@ -3,8 +3,11 @@ ghost use Rattle.std.specs.Prelude.{◌≡◌, ◌++◌, ◌∷◌, [], All, IfS
 ghost use Rattle.wake_book.specs.Book.{IsTellerOf};
 
 use std::test::Fail;
-use step_ledger::{GatherCause, Numbered};
-use wake_book::{Book, BookFault, BookTotals, Charge, Teller};
+use step_ledger::GatherCause::Missing;
+use step_ledger::Numbered;
+use wake_book::BookFault::{CapTooLarge, Count};
+use wake_book::Charge::{self, Below, Full, Won};
+use wake_book::{Book, BookTotals, Teller};
 
 fn next_teller(book: &Book, tellers: &mut Vec<Teller>) -> Option<Teller>
     requires { All (IsTellerOf book.now) tellers.old.items }
@@ -21,27 +24,70 @@ fn put_back(book: &Book, tellers: &mut Vec<Teller>, teller: Teller) -> Result<()
     Ok(())
 }
 
+/// Completions counted and charged, in how many charges.
+fn totals(counted: u64, charged: u64, charges: u64) -> BookTotals {
+    BookTotals {
+        counted,
+        charged,
+        charges,
+    }
+}
+
+fn close(book: Book, tellers: Vec<Teller>) -> Result<BookTotals, Fail>
+    requires { All (IsTellerOf book) tellers.items }
+{
+    match Book::gather(book, tellers) {
+        Ok(totals) => Ok(totals),
+        Err(_) => Err(Fail::new("a teller is missing")),
+    }
+}
+
+/// The first teller counts completions, if there is a teller and the count is 1 to 64.
+fn count(book: &Book, tellers: &mut Vec<Teller>, count: u32) -> Option<Charge>
+    requires { All (IsTellerOf book.now) tellers.old.items }
+    ensures { All (IsTellerOf book.now) tellers.new.items }
+{
+    if count == 0 || count > 64 {
+        return None;
+    }
+    Some(book.count(tellers.get_mut(0)?, count))
+}
+
+/// The first teller counts completions, up to the first answer that differs from the one expected. Returns the index of
+/// that count and its answer.
+fn wrong(
+    book: &Book,
+    tellers: &mut Vec<Teller>,
+    said: &[(u32, Charge)],
+) -> Option<(usize, Option<Charge>)>
+    requires { All (IsTellerOf book.now) tellers.old.items }
+    ensures { All (IsTellerOf book.now) tellers.new.items }
+{
+    for (index, (completions, charge)) in said.iter().enumerate() {
+        let found = count(book, tellers, *completions);
+        if found != Some(*charge) {
+            return Some((index, found));
+        }
+    }
+    None
+}
+
+/// Completions counted and charged, as the first teller finds them.
+fn counts(book: &Book, tellers: &mut Vec<Teller>) -> Option<(u64, u64)>
+    requires { All (IsTellerOf book.now) tellers.old.items }
+    ensures { All (IsTellerOf book.now) tellers.new.items }
+{
+    Some(book.counts(tellers.get_mut(0)?))
+}
+
 #[test]
 fn a_full_batch_is_charged_once(rt: HostRuntime) -> Result<(), Fail> {
     let (book, mut tellers) = Book::open(rt.alloc(), 2, 1, 3)?;
-    let Some(mut teller) = next_teller(&book, &mut tellers) else {
-        return Err(Fail::new("no teller"));
-    };
-    assert_eq!(rt; book.count(&mut teller, 2), Charge::Won(0));
-    assert_eq!(rt; book.count(&mut teller, 1), Charge::Below);
-    assert_eq!(rt; book.count(&mut teller, 1), Charge::Full);
-    assert_eq!(rt; book.counts(&mut teller), (3, 2));
-    put_back(&book, &mut tellers, teller)?;
-    let Ok(totals) = Book::gather(book, tellers) else {
-        return Err(Fail::new("a teller is missing"));
-    };
+    let wrong = wrong(&book, &mut tellers, &[(2, Won(0)), (1, Below), (1, Full)]);
+    let counts = counts(&book, &mut tellers);
     assert_eq!(rt;
-        totals,
-        BookTotals {
-            counted: 3,
-            charged: 2,
-            charges: 1
-        }
+        (wrong, counts, close(book, tellers)?),
+        (None, Some((3, 2)), totals(3, 2, 1))
     );
     Ok(())
 }
@@ -49,34 +95,14 @@ fn a_full_batch_is_charged_once(rt: HostRuntime) -> Result<(), Fail> {
 #[test]
 fn new_batches_go_on_from_the_old_count(rt: HostRuntime) -> Result<(), Fail> {
     let (mut book, mut tellers) = Book::open(rt.alloc(), 2, 1, 10)?;
-    let Some(mut teller) = next_teller(&book, &mut tellers) else {
-        return Err(Fail::new("no teller"));
-    };
-    assert_eq!(rt; book.count(&mut teller, 2), Charge::Won(0));
-    put_back(&book, &mut tellers, teller)?;
+    let first = wrong(&book, &mut tellers, &[(2, Won(0))]);
     book.rebatch(1);
-    let Some(mut teller) = next_teller(&book, &mut tellers) else {
-        return Err(Fail::new("no teller"));
-    };
-    assert_eq!(rt; book.count(&mut teller, 1), Charge::Won(2));
-    put_back(&book, &mut tellers, teller)?;
+    let second = wrong(&book, &mut tellers, &[(1, Won(2))]);
     book.rebatch(3);
-    let Some(mut teller) = next_teller(&book, &mut tellers) else {
-        return Err(Fail::new("no teller"));
-    };
-    assert_eq!(rt; book.count(&mut teller, 2), Charge::Below);
-    assert_eq!(rt; book.count(&mut teller, 1), Charge::Won(3));
-    put_back(&book, &mut tellers, teller)?;
-    let Ok(totals) = Book::gather(book, tellers) else {
-        return Err(Fail::new("a teller is missing"));
-    };
+    let third = wrong(&book, &mut tellers, &[(2, Below), (1, Won(3))]);
     assert_eq!(rt;
-        totals,
-        BookTotals {
-            counted: 6,
-            charged: 6,
-            charges: 3
-        }
+        ([first, second, third], close(book, tellers)?),
+        ([None; 3], totals(6, 6, 3))
     );
     Ok(())
 }
@@ -94,7 +120,7 @@ fn gather_without_a_teller_hands_all_back(rt: HostRuntime) -> Result<(), Fail> {
     let Err(fault) = Book::gather(book, tellers) else {
         return Err(Fail::new("gathered without a teller"));
     };
-    assert_eq!(rt; fault.cause, GatherCause::Missing(0));
+    let without_all = fault.cause;
     let book = fault.book;
     let mut tellers = fault.tellers;
     put_back(&book, &mut tellers, second)?;
@@ -102,20 +128,13 @@ fn gather_without_a_teller_hands_all_back(rt: HostRuntime) -> Result<(), Fail> {
     let Err(fault) = Book::gather(book, tellers) else {
         return Err(Fail::new("gathered without the first"));
     };
-    assert_eq!(rt; fault.cause, GatherCause::Missing(1));
+    let without_first = fault.cause;
     let book = fault.book;
     let mut tellers = fault.tellers;
     put_back(&book, &mut tellers, first)?;
-    let Ok(totals) = Book::gather(book, tellers) else {
-        return Err(Fail::new("a teller is missing"));
-    };
     assert_eq!(rt;
-        totals,
-        BookTotals {
-            counted: 0,
-            charged: 0,
-            charges: 0
-        }
+        (without_all, without_first, close(book, tellers)?),
+        (Missing(0), Missing(1), totals(0, 0, 0))
     );
     Ok(())
 }
@@ -129,39 +148,30 @@ fn tellers_come_together_one_after_another(rt: HostRuntime) -> Result<(), Fail> 
     ) else {
         return Err(Fail::new("fewer than two tellers"));
     };
-    assert_eq!(rt; (book.batch(), book.tellers()), (2, 2));
-    assert_eq!(rt; book.count(&mut second, 3), Charge::Won(0));
+    let opened = (book.batch(), book.tellers());
+    let charge = book.count(&mut second, 3);
     if book.tellers() != 2 || first.number() != 0 || second.number() != 1 {
         return Err(Fail::new("the tellers are numbered otherwise"));
     }
     let mut all = book.start_gathering(second);
     all.add(&book, first);
     assert_eq!(rt;
-        book.finish(all),
-        BookTotals {
-            counted: 3,
-            charged: 2,
-            charges: 1
-        }
+        (opened, charge, book.finish(all)),
+        ((2, 2), Won(0), totals(3, 2, 1))
     );
     Ok(())
 }
 
 #[test]
 fn a_book_is_refused_by_its_first_fault(rt: HostRuntime) {
-    for (batch, tellers, cap, want) in [
-        (9, 1, 10, BookFault::Count),
-        (0, 1, 10, BookFault::Count),
-        (2, 0, 10, BookFault::Count),
-        (2, 65, u64::MAX, BookFault::Count),
-        (2, 1, 72_057_594_037_927_937, BookFault::CapTooLarge),
+    for (batch, tellers, cap, fault) in [
+        (9, 1, 10, Count),
+        (0, 1, 10, Count),
+        (2, 0, 10, Count),
+        (2, 65, u64::MAX, Count),
+        (2, 1, 72_057_594_037_927_937, CapTooLarge),
     ] {
-        match Book::open(rt.alloc(), batch, tellers, cap) {
-            Ok(_) => assert!(rt;
-                false,
-                "opened with batch {batch}, {tellers} tellers, cap {cap}"
-            ),
-            Err(fault) => assert_eq!(rt; fault, want),
-        }
+        let refused = Book::open(rt.alloc(), batch, tellers, cap).err();
+        assert_eq!(rt; (batch, tellers, refused), (batch, tellers, Some(fault)));
     }
 }

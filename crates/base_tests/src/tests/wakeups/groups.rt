@@ -4,7 +4,8 @@ ghost use Rattle.wake_book.specs.Groups.{IsWaiterOf, IsNew};
 
 use std::test::Fail;
 use step_ledger::{GatherCause, Numbered};
-use wake_book::{BookFault, GroupTotals, Groups, Left, Waiter};
+use wake_book::Left::{Unwoken, Woken};
+use wake_book::{BookFault, GroupTotals, Groups, Waiter};
 
 pub(crate) fn next_waiter(groups: &Groups, waiters: &mut Vec<Waiter>) -> Option<Waiter>
     requires { All (IsWaiterOf groups.now) waiters.old.items × All IsNew waiters.old.items }
@@ -26,6 +27,25 @@ pub(crate) fn put_back(
     Ok(())
 }
 
+/// Wakeups issued, used and granted, and waiters that wait.
+fn totals(issued: u64, used: u64, granted: u64, waiting: u64) -> GroupTotals {
+    GroupTotals {
+        issued,
+        used,
+        granted,
+        waiting,
+    }
+}
+
+pub(crate) fn close(groups: Groups, waiters: Vec<Waiter>) -> Result<GroupTotals, Fail>
+    requires { All (IsWaiterOf groups) waiters.items }
+{
+    match Groups::gather(groups, waiters) {
+        Ok(totals) => Ok(totals),
+        Err(_) => Err(Fail::new("a waiter is missing")),
+    }
+}
+
 #[test]
 fn a_grant_is_used_once(rt: HostRuntime) -> Result<(), Fail> {
     let (groups, mut waiters) = Groups::open(rt.alloc(), 2)?;
@@ -35,29 +55,26 @@ fn a_grant_is_used_once(rt: HostRuntime) -> Result<(), Fail> {
     ) else {
         return Err(Fail::new("fewer than two waiters"));
     };
-    assert_eq!(rt; groups.enter(&mut first), 0);
-    assert_eq!(rt; groups.enter(&mut second), 0);
-    assert_eq!(rt; Groups::standing(&second), Some(0));
-    assert_eq!(rt; groups.active(&mut first), 2);
-    assert_eq!(rt; groups.wake(&mut first, 1), 1);
-    assert_eq!(rt; groups.index(&mut first), 1);
-    assert_eq!(rt; groups.leave(&rt, &mut first), Left::Woken);
-    assert_eq!(rt; groups.leave(&rt, &mut second), Left::Unwoken);
-    assert_eq!(rt; groups.enter(&mut second), 1);
-    assert_eq!(rt; groups.leave(&rt, &mut second), Left::Unwoken);
+    let entered = [groups.enter(&mut first), groups.enter(&mut second)];
+    let standing = Groups::standing(&second);
+    let active = groups.active(&mut first);
+    let woken = groups.wake(&mut first, 1);
+    let index = groups.index(&mut first);
+    assert_eq!(rt;
+        (entered, standing, active, woken, index),
+        ([0, 0], Some(0), 2, 1, 1)
+    );
+    let left = [
+        groups.leave(&rt, &mut first),
+        groups.leave(&rt, &mut second),
+    ];
+    let next = groups.enter(&mut second);
+    let last = groups.leave(&rt, &mut second);
     put_back(&groups, &mut waiters, second)?;
     put_back(&groups, &mut waiters, first)?;
-    let Ok(totals) = Groups::gather(groups, waiters) else {
-        return Err(Fail::new("a waiter is missing"));
-    };
     assert_eq!(rt;
-        totals,
-        GroupTotals {
-            issued: 1,
-            used: 1,
-            granted: 0,
-            waiting: 0
-        }
+        (left, next, last, close(groups, waiters)?),
+        ([Woken, Unwoken], 1, Unwoken, totals(1, 1, 0, 0))
     );
     Ok(())
 }
@@ -74,27 +91,19 @@ fn who_stands_is_gathered_too(rt: HostRuntime) -> Result<(), Fail> {
     };
     groups.enter(&mut second);
     groups.enter(&mut first);
-    assert_eq!(rt; groups.wake(&mut second, 1), 1);
+    let woken = groups.wake(&mut second, 1);
     put_back(&groups, &mut waiters, second)?;
     put_back(&groups, &mut waiters, zeroth)?;
     let Err(fault) = Groups::gather(groups, waiters) else {
         return Err(Fail::new("gathered without the first"));
     };
-    assert_eq!(rt; fault.cause, GatherCause::Missing(1));
+    let cause = fault.cause;
     let groups = fault.groups;
     let mut waiters = fault.waiters;
     put_back(&groups, &mut waiters, first)?;
-    let Ok(totals) = Groups::gather(groups, waiters) else {
-        return Err(Fail::new("a waiter is missing"));
-    };
     assert_eq!(rt;
-        totals,
-        GroupTotals {
-            issued: 1,
-            used: 0,
-            granted: 1,
-            waiting: 1
-        }
+        (woken, cause, close(groups, waiters)?),
+        (1, GatherCause::Missing(1), totals(1, 0, 1, 1))
     );
     Ok(())
 }
@@ -109,30 +118,20 @@ fn waiters_come_together_one_after_another(rt: HostRuntime) -> Result<(), Fail> 
         return Err(Fail::new("fewer than two waiters"));
     };
     groups.enter(&mut second);
-    assert_eq!(rt; groups.wake(&mut second, 8), 1);
+    let woken = groups.wake(&mut second, 8);
     if groups.waiters() != 2 || first.number() != 0 || second.number() != 1 {
         return Err(Fail::new("the waiters are numbered otherwise"));
     }
     let mut all = groups.start_gathering(second);
     all.add(&groups, first);
-    assert_eq!(rt;
-        groups.finish(all),
-        GroupTotals {
-            issued: 1,
-            used: 0,
-            granted: 1,
-            waiting: 0
-        }
-    );
+    assert_eq!(rt; (woken, groups.finish(all)), (1, totals(1, 0, 1, 0)));
     Ok(())
 }
 
 #[test]
 fn too_many_waiters_are_refused(rt: HostRuntime) {
     for waiters in [0, 65] {
-        match Groups::open(rt.alloc(), waiters) {
-            Ok(_) => assert!(rt; false, "opened for {waiters}"),
-            Err(fault) => assert_eq!(rt; fault, BookFault::Count),
-        }
+        let refused = Groups::open(rt.alloc(), waiters).err();
+        assert!(rt; refused == Some(BookFault::Count), "for {waiters}");
     }
 }

@@ -2,13 +2,13 @@
 ghost use Rattle.std.specs.Prelude.{◌≡◌, ◌≤◌, All, None, IfSome};
 ghost use Rattle.wake_book.specs.Groups.{IsWaiterOf, standing_of};
 
-use crate::tests::wakeups::groups::{next_waiter, put_back};
+use crate::tests::wakeups::groups::{close, next_waiter};
 use std::sync::Wait;
 use std::sync::atomic::AtomicU64;
 use std::sync::atomic::Ordering::SeqCst;
 use std::test::Fail;
 use std::thread;
-use wake_book::{Groups, Left, Waiter};
+use wake_book::{GroupTotals, Groups, Left, Waiter};
 
 /// Rounds of two threads, one that sleeps and one that wakes it.
 const ROUNDS: u32 = 10_000;
@@ -114,12 +114,16 @@ fn grants_balance_among_sixteen_threads(rt: HostRuntime) -> Result<(), Fail> {
         16,
         &|number, waiter| { wait_or_wake(&rt, &groups, waiter, &tally, number) },
     );
-    let Ok(totals) = Groups::gather(groups, waiters) else {
-        return Err(Fail::new("a waiter is missing"));
-    };
-    assert_eq!(rt; totals.issued, tally.issued.load(SeqCst));
-    assert_eq!(rt; totals.used, tally.used.load(SeqCst));
-    assert_eq!(rt; totals.issued, totals.used);
-    assert_eq!(rt; (totals.granted, totals.waiting), (0, 0));
+    let (issued, used) = (tally.issued.load(SeqCst), tally.used.load(SeqCst));
+    assert!(rt; issued == used);
+    assert_eq!(rt;
+        close(groups, waiters)?,
+        GroupTotals {
+            issued,
+            used,
+            granted: 0,
+            waiting: 0
+        }
+    );
     Ok(())
 }

@@ -18,8 +18,8 @@ finish-requires-clause-all g c =
     ∙ ap (λ (z : List (Record GroupStep)). record_of c.in-Some-Some.first ∷ z)
     c.start_gathering-all.ensures.gathered in
     let first : c.in-Some-Some.first.number ≡ 0 = sym c.number.ensures ∙ c.if-number-ne0.false in
-    let second : c.wake.new.waiter.number ≡ 1 = sym c.number-else-number-ne0.ensures ∙ c.if-number-ne1.false in
+    let second : c.wake-woken.new.waiter.number ≡ 1 = sym c.number-else-number-ne0.ensures ∙ c.if-number-ne1.false in
     let all : c.in_ok-groups.groups.waiters ≡ 2 = sym c.waiters.ensures.value ∙ c.if-waiters-ne2.false in
     subst (λ (z : List ℕ). HasAll z c.in_ok-groups.groups.waiters) (sym (ap numbers records))
-    (subst (λ (z : ℕ). HasAll (c.in-Some-Some.first.number ∷ c.wake.new.waiter.number ∷ []) z) (sym all)
+    (subst (λ (z : ℕ). HasAll (c.in-Some-Some.first.number ∷ c.wake-woken.new.waiter.number ∷ []) z) (sym all)
     (two _ _ first second))

@@ -7,7 +7,7 @@ use Rattle.tag_core.specs.declared.caller.Caller.{Caller}
 use Rattle.tag_core.specs.declared.map.Map.{Map}
 use Rattle.tag_core.specs.Callers.{IsCallerOf}
 use Rattle.tag_core.specs.Opening.{AreNew}
-use Rattle.base_tests.proofs.tests.search.shared.opened.Goals as goal
+use Rattle.base_tests.proofs.tests.map.hands.opened.Goals as goal
 
 stands : {A : Type 0} (l : List A) (i : ℕ) (d : A) → i < length l → get_elem? l i ≡ some (get_or l i d)
 stands [] i d h = absurd (omega arith)

@@ -5,7 +5,7 @@ use Rattle.std.proofs.lemmas.Nat.{one_shl, pow_below}
 use Rattle.tag_layout.specs.Layout.{Layout, word_of, place_of, word_depth}
 use Rattle.tag_search.specs.Plain.{IsTaken}
 use Rattle.tag_search.proofs.OneTag.{one_place}
-use Rattle.base_tests.proofs.tests.search.shared.give_plain.Goals as goal
+use Rattle.base_tests.proofs.tests.search.calls.give_plain.Goals as goal
 
 pub give-requires-clause-mask : goal.give-requires-clause-mask
 give-requires-clause-mask c =
