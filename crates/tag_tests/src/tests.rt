@@ -7,6 +7,7 @@ mod queue;
 mod sets;
 mod shared;
 mod stage;
+mod steps;
 mod tally;
 mod threads;
 mod totals;

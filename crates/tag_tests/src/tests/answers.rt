@@ -21,6 +21,10 @@ pub(crate) enum Answer {
     /// Completions counted and charged, the wake index, and the active count.
     Found(u64, u64, u32, u64),
     Shown(Sums),
+    /// How many tags are busy, and which of the first 128.
+    Busy(u32, u64, u64),
+    /// How many bytes a dump takes, and the first three.
+    Dumped(u32, u8, u8, u8),
     Refused(TagFault),
     /// No caller has this index.
     Nobody,
@@ -51,6 +55,20 @@ pub(crate) fn batch(found: Option<(u32, u64)>) -> Answer {
 pub(crate) fn shown(found: Option<Sums>) -> Answer {
     match found {
         Some(sums) => Answer::Shown(sums),
+        None => Answer::Nothing,
+    }
+}
+
+pub(crate) fn busy(found: Option<(u32, u64, u64)>) -> Answer {
+    match found {
+        Some((count, low, high)) => Answer::Busy(count, low, high),
+        None => Answer::Nothing,
+    }
+}
+
+pub(crate) fn dumped(found: Option<(u32, u8, u8, u8)>) -> Answer {
+    match found {
+        Some((count, first, second, third)) => Answer::Dumped(count, first, second, third),
         None => Answer::Nothing,
     }
 }

@@ -1,12 +1,12 @@
 //! Calls that the callers of a stage make one after another.
-use crate::tests::answers::{Answer, answered, batch, counts, shown, tag};
+use crate::tests::answers::{Answer, answered, batch, busy, counts, dumped, shown, tag};
 use crate::tests::shared::Shared;
 use crate::tests::stage::Stage;
 use std::sync::Wait;
 use tag_sets::Kind;
 
 /// A call of a caller, with its arguments.
-#[derive(Clone, Copy, Debug, PartialEq, Eq)]
+#[derive(Clone, Copy, Debug)]
 pub(crate) enum Call {
     Place,
     Get,
@@ -27,6 +27,8 @@ pub(crate) enum Call {
     FinishWait,
     Wakes,
     Show(Kind),
+    Busy,
+    Dump(Kind),
 }
 
 /// Makes a call.
@@ -63,6 +65,8 @@ pub(crate) fn act<T: Shared, W: Wait>(
         Call::FinishWait => answered(tags.finish_wait(rt, caller).map(Answer::Left)),
         Call::Wakes => counts(tags.wakes(caller)),
         Call::Show(kind) => shown(tags.show(caller, kind)),
+        Call::Busy => busy(tags.busy(caller)),
+        Call::Dump(kind) => dumped(tags.dump(caller, kind)),
     }
 }
 
@@ -70,33 +74,6 @@ impl<T: Shared> Stage<T> {
     /// Makes a call with the caller at this index, and returns its answer, or `None` if there is no such caller.
     pub(crate) fn act<W: Wait>(&mut self, rt: &W, at: usize, call: Call) -> Option<Answer> {
         Some(act(rt, &self.tags, self.callers.get_mut(at)?, call))
-    }
-
-    /// Makes the calls in order, up to the first whose answer differs from the one expected. Returns that call, who
-    /// made it, and its answer.
-    pub(crate) fn wrong<W: Wait>(
-        &mut self,
-        rt: &W,
-        said: &[(usize, Call, Answer)],
-    ) -> Option<(usize, Call, Answer)> {
-        for (at, call, answer) in said {
-            let found = self.act(rt, *at, *call).unwrap_or(Answer::Nobody);
-            if found != *answer {
-                return Some((*at, *call, found));
-            }
-        }
-        None
-    }
-
-    /// Makes this many gets, and returns how many of them won a tag.
-    pub(crate) fn gets<W: Wait>(&mut self, rt: &W, at: usize, count: u32) -> u32 {
-        let mut won = 0u32;
-        for _ in 0..count {
-            if let Some(Answer::Tag(_)) = self.act(rt, at, Call::Get) {
-                won = won.wrapping_add(1);
-            }
-        }
-        won
     }
 
     /// Clears these tags in a batch, and returns the answer.

@@ -12,16 +12,14 @@ mod memory;
 mod opening;
 mod resizing;
 mod slots;
+mod stages;
 mod waits;
 
 use crate::tests::shared::Shared;
-use crate::tests::stage::Stage;
-use crate::tests::totals::FILL;
 use std::alloc::Global;
 use std::sync::Wait;
-use std::test::Fail;
 use step_ledger::{GatherCause, Numbered};
-use tag_queue::{Agent, Options, Queue, QueueTotals, ResizeCause, TagFault, Wakes};
+use tag_queue::{Agent, Queue, QueueTotals, ResizeCause, TagFault, Wakes};
 use tag_sets::{Kind, Shown};
 use wake_book::Left;
 
@@ -110,6 +108,14 @@ impl Shared for Queue<u64> {
         None
     }
 
+    fn busy(&self, _agent: &mut Agent<u64>) -> Option<(u32, u64, u64)> {
+        None
+    }
+
+    fn dump(&self, _agent: &mut Agent<u64>, _kind: Kind) -> Option<(u32, u8, u8, u8)> {
+        None
+    }
+
     fn prepare_wait(&self, agent: &mut Agent<u64>) -> Result<u32, TagFault> {
         Queue::prepare_wait(self, agent)
     }
@@ -158,56 +164,6 @@ impl Shared for Queue<u64> {
         match Queue::resize(alloc, self, agents, depth) {
             Ok(next) => Ok(next),
             Err(fault) => Err((fault.cause, fault.queue, fault.agents)),
-        }
-    }
-}
-
-impl Stage<Queue<u64>> {
-    /// Opens a queue whose slots contain `FILL`.
-    pub(crate) fn of_queue(
-        alloc: Global,
-        depth: u32,
-        options: Options,
-    ) -> Result<Stage<Queue<u64>>, Fail> {
-        let (queue, agents) = Queue::open(alloc, depth, options, FILL)?;
-        Ok(Stage::of(alloc, queue, agents))
-    }
-
-    /// Opens such a queue with its agents placed.
-    fn of_queue_placed(
-        alloc: Global,
-        depth: u32,
-        options: Options,
-    ) -> Result<Stage<Queue<u64>>, Fail> {
-        let (queue, agents) = Queue::open_placed(alloc, depth, options, FILL)?;
-        Ok(Stage::of(alloc, queue, agents))
-    }
-
-    /// Returns how many tags are held and how many are posted.
-    fn in_use(self) -> Result<(u64, u64, Stage<Queue<u64>>), (GatherCause, Stage<Queue<u64>>)> {
-        let Stage {
-            tags,
-            callers,
-            away,
-        } = self;
-        match Queue::in_use(tags, callers) {
-            Ok(usage) => Ok((
-                usage.held,
-                usage.posted,
-                Stage {
-                    tags: usage.queue,
-                    callers: usage.agents,
-                    away,
-                },
-            )),
-            Err(fault) => Err((
-                fault.cause,
-                Stage {
-                    tags: fault.queue,
-                    callers: fault.agents,
-                    away,
-                },
-            )),
         }
     }
 }

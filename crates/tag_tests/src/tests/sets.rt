@@ -13,15 +13,14 @@ mod opening;
 mod outputs;
 mod resizing;
 mod slots;
+mod stages;
 
 use crate::tests::shared::Shared;
-use crate::tests::stage::Stage;
-use crate::tests::totals::FILL;
 use std::alloc::Global;
 use std::sync::Wait;
 use std::test::Fail;
 use step_ledger::{GatherCause, Numbered};
-use tag_queue::{Options, QueueTotals, ResizeCause, TagFault, Wakes};
+use tag_queue::{QueueTotals, ResizeCause, TagFault, Wakes};
 use tag_sets::{Hand, Kind, Shown, Tags};
 use wake_book::Left;
 
@@ -140,6 +139,18 @@ impl Shared for Sets {
         Some(self.tags.show(hand, kind))
     }
 
+    fn busy(&self, hand: &mut Hand<u64>) -> Option<(u32, u64, u64)> {
+        let mut bits = [u64::MAX; MAX_TAGS / 64];
+        let count = self.tags.busy(hand, &mut bits);
+        Some((count, bits[0], bits[1]))
+    }
+
+    fn dump(&self, hand: &mut Hand<u64>, kind: Kind) -> Option<(u32, u8, u8, u8)> {
+        let mut bytes = [0xaa; MAX_TAGS / 8];
+        let count = self.tags.dump(hand, kind, &mut bytes);
+        Some((count, bytes[0], bytes[1], bytes[2]))
+    }
+
     fn prepare_wait(&self, hand: &mut Hand<u64>) -> Result<u32, TagFault> {
         self.tags.prepare_wait(hand)
     }
@@ -191,46 +202,5 @@ impl Shared for Sets {
             Ok((tags, hands)) => Ok((Sets { tags }, hands)),
             Err(fault) => Err((fault.cause, Sets { tags: fault.tags }, fault.hands)),
         }
-    }
-}
-
-impl Stage<Sets> {
-    /// Opens tags whose slots contain `FILL`.
-    pub(crate) fn of_sets(
-        alloc: Global,
-        total: u32,
-        reserved: u32,
-        options: Options,
-    ) -> Result<Stage<Sets>, Fail> {
-        let (tags, hands) = Tags::open(alloc, total, reserved, options, FILL)?;
-        Ok(Stage::of(alloc, Sets { tags }, hands))
-    }
-
-    /// Opens such tags with their hands placed.
-    fn of_sets_placed(
-        alloc: Global,
-        total: u32,
-        reserved: u32,
-        options: Options,
-    ) -> Result<Stage<Sets>, Fail> {
-        let (tags, hands) = Tags::open_placed(alloc, total, reserved, options, FILL)?;
-        Ok(Stage::of(alloc, Sets { tags }, hands))
-    }
-
-    /// Returns how many tags are busy, and which of the first 128.
-    fn busy(&mut self, at: usize) -> Option<(u32, [u64; 2])> {
-        let mut bits = [u64::MAX; MAX_TAGS / 64];
-        let count = self.tags.tags.busy(self.callers.get_mut(at)?, &mut bits);
-        Some((count, [bits[0], bits[1]]))
-    }
-
-    /// Packs a set into bytes, and returns how many of them it takes, and the first three.
-    fn dump(&mut self, at: usize, kind: Kind) -> Option<(u32, [u8; 3])> {
-        let mut bytes = [0xaa; MAX_TAGS / 8];
-        let count = self
-            .tags
-            .tags
-            .dump(self.callers.get_mut(at)?, kind, &mut bytes);
-        Some((count, [bytes[0], bytes[1], bytes[2]]))
     }
 }

@@ -99,6 +99,16 @@ pub(crate) trait Shared: Drop {
         requires { is_own self.now caller.old }
         ensures { is_own self.now caller.new };
 
+    /// Returns how many tags are busy, and which of the first 128. A queue lists none.
+    fn busy(&self, caller: &mut Self::Caller) -> Option<(u32, u64, u64)>
+        requires { is_own self.now caller.old }
+        ensures { is_own self.now caller.new };
+
+    /// Packs a set into bytes, and returns how many of them it takes, and the first three. A queue packs none.
+    fn dump(&self, caller: &mut Self::Caller, kind: Kind) -> Option<(u32, u8, u8, u8)>
+        requires { is_own self.now caller.old }
+        ensures { is_own self.now caller.new };
+
     fn prepare_wait(&self, caller: &mut Self::Caller) -> Result<u32, TagFault>
         requires { is_own self.now caller.old }
         ensures { is_own self.now caller.new };

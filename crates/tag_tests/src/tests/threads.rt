@@ -3,17 +3,17 @@ ghost use Rattle.std.specs.Prelude.{All};
 
 use crate::tests::calls::Call;
 use crate::tests::jobs::{Job, Plan, play};
-use crate::tests::sets::Sets;
 use crate::tests::shared::Shared;
 use crate::tests::stage::Stage;
 use crate::tests::tally::Tally;
 use crate::tests::totals::{all_totals, options, totals};
+use std::process::Abort;
 use std::sync::Wait;
 use std::sync::atomic::Ordering::SeqCst;
-use std::test::Fail;
+use std::test::*;
 use std::thread;
 use std::thread::Threads;
-use tag_queue::{Queue, QueueTotals};
+use tag_queue::QueueTotals;
 use wake_book::BookTotals;
 
 /// Has all callers play at once, each in a thread of its own.
@@ -61,22 +61,31 @@ where
     }
 }
 
-fn played_on_queue<R: Wait + Threads + Sync>(
+/// Opens a queue for this many agents, has all of them play at once, and gathers them.
+fn played_on_queue<R: AllocGlobal + Wait + Threads + Sync>(
     rt: &R,
-    stage: Stage<Queue<u64>>,
-    tally: &Tally,
+    depth: u32,
+    callers: u32,
     plan: Plan,
-) -> Result<QueueTotals, Fail> {
-    played(rt, stage, tally, plan)
+) -> Result<(Tally, QueueTotals), Fail> {
+    let tally = Tally::new(rt.alloc(), depth)?;
+    let stage = Stage::of_queue(rt.alloc(), depth, options(callers))?;
+    let sums = played(rt, stage, &tally, plan)?;
+    Ok((tally, sums))
 }
 
-fn played_on_sets<R: Wait + Threads + Sync>(
+/// The same with tag sets.
+fn played_on_sets<R: AllocGlobal + Wait + Threads + Sync>(
     rt: &R,
-    stage: Stage<Sets>,
-    tally: &Tally,
+    total: u32,
+    reserved: u32,
+    callers: u32,
     plan: Plan,
-) -> Result<QueueTotals, Fail> {
-    played(rt, stage, tally, plan)
+) -> Result<(Tally, QueueTotals), Fail> {
+    let tally = Tally::new(rt.alloc(), total)?;
+    let stage = Stage::of_sets(rt.alloc(), total, reserved, options(callers))?;
+    let sums = played(rt, stage, &tally, plan)?;
+    Ok((tally, sums))
 }
 
 /// Eight workers and a ninth thread that keeps taking and clearing tags.
@@ -88,6 +97,15 @@ fn everything(calls: [Call; 8], rounds: u32) -> Plan {
     }
 }
 
+/// The first four callers make gets; any others wait on and off.
+fn gets(call: Call) -> Plan {
+    Plan {
+        job: Job::Gets(call),
+        workers: 4,
+        rounds: 10_000,
+    }
+}
+
 /// The totals that the threads saw, with those of the book. Nothing is held or posted, and nobody waits.
 fn seen(tally: &Tally, book: BookTotals) -> QueueTotals {
     let tags = totals(tally.won.load(SeqCst), tally.back.load(SeqCst), 0, 0);
@@ -95,6 +113,19 @@ fn seen(tally: &Tally, book: BookTotals) -> QueueTotals {
         book,
         ..all_totals(tags, (0, 0, 0), tally.woken.load(SeqCst))
     }
+}
+
+/// Checks that nothing went wrong, that tags were won, and that the totals are those that the threads saw.
+fn expect_balance<R: Abort>(rt: &R, tally: &Tally, sums: QueueTotals) {
+    assert_eq!(rt; tally.wrong.load(SeqCst), 0);
+    assert!(rt; 0 < sums.tags.got);
+    assert_eq!(rt; sums, seen(tally, sums.book));
+}
+
+/// Checks that tags were posted, and that each of them was taken.
+fn expect_all_taken<R: Abort>(rt: &R, tally: &Tally) {
+    assert!(rt; 0 < tally.taken.load(SeqCst));
+    assert_eq!(rt; tally.taken.load(SeqCst), tally.posted.load(SeqCst));
 }
 
 #[test]
@@ -109,13 +140,9 @@ fn a_slot_of_a_queue_names_its_holder_among_nine_threads(rt: HostRuntime) -> Res
         Call::Get,
         Call::GetBlocking,
     ];
-    let stage = Stage::of_queue(rt.alloc(), 16, options(9))?;
-    let tally = Tally::new(rt.alloc(), 16)?;
-    let sums = played_on_queue(&rt, stage, &tally, everything(calls, 40_000))?;
-    assert_eq!(rt; tally.wrong.load(SeqCst), 0);
-    assert!(rt; 0 < tally.taken.load(SeqCst));
-    assert_eq!(rt; tally.taken.load(SeqCst), tally.posted.load(SeqCst));
-    assert_eq!(rt; sums, seen(&tally, sums.book));
+    let (tally, sums) = played_on_queue(&rt, 16, 9, everything(calls, 40_000))?;
+    expect_balance(&rt, &tally, sums);
+    expect_all_taken(&rt, &tally);
     Ok(())
 }
 
@@ -131,39 +158,16 @@ fn a_slot_of_tag_sets_names_its_holder_among_nine_threads(rt: HostRuntime) -> Re
         Call::Get,
         Call::GetBlocking,
     ];
-    let stage = Stage::of_sets(rt.alloc(), 20, 4, options(9))?;
-    let tally = Tally::new(rt.alloc(), 20)?;
-    let sums = played_on_sets(&rt, stage, &tally, everything(calls, 10_000))?;
-    assert_eq!(rt; tally.wrong.load(SeqCst), 0);
-    assert!(rt; 0 < tally.taken.load(SeqCst));
-    assert_eq!(rt; tally.taken.load(SeqCst), tally.posted.load(SeqCst));
-    assert_eq!(rt; sums, seen(&tally, sums.book));
+    let (tally, sums) = played_on_sets(&rt, 20, 4, 9, everything(calls, 10_000))?;
+    expect_balance(&rt, &tally, sums);
+    expect_all_taken(&rt, &tally);
     Ok(())
-}
-
-/// Has the first four agents of a queue make gets; any others wait on and off.
-fn played_gets<R: Wait + Threads + Sync>(
-    rt: &R,
-    stage: Stage<Queue<u64>>,
-    tally: &Tally,
-    job: Job,
-) -> Result<QueueTotals, Fail> {
-    let plan = Plan {
-        job,
-        workers: 4,
-        rounds: 10_000,
-    };
-    played_on_queue(rt, stage, tally, plan)
 }
 
 #[test]
 fn four_agents_balance(rt: HostRuntime) -> Result<(), Fail> {
-    let stage = Stage::of_queue(rt.alloc(), 3, options(4))?;
-    let tally = Tally::new(rt.alloc(), 3)?;
-    let sums = played_gets(&rt, stage, &tally, Job::Gets(Call::Get))?;
-    assert_eq!(rt; tally.wrong.load(SeqCst), 0);
-    assert!(rt; 0 < sums.tags.got);
-    assert_eq!(rt; sums, seen(&tally, sums.book));
+    let (tally, sums) = played_on_queue(&rt, 3, 4, gets(Call::Get))?;
+    expect_balance(&rt, &tally, sums);
     // Nobody waited, so nothing was counted.
     assert_eq!(rt; (sums.book.counted, sums.groups.issued), (0, 0));
     Ok(())
@@ -171,25 +175,19 @@ fn four_agents_balance(rt: HostRuntime) -> Result<(), Fail> {
 
 #[test]
 fn four_agents_balance_beside_one_that_waits(rt: HostRuntime) -> Result<(), Fail> {
-    let stage = Stage::of_queue(rt.alloc(), 3, options(5))?;
-    let tally = Tally::new(rt.alloc(), 3)?;
-    let sums = played_gets(&rt, stage, &tally, Job::Gets(Call::Get))?;
-    assert_eq!(rt; tally.wrong.load(SeqCst), 0);
-    assert!(rt; 0 < sums.tags.got);
-    assert_eq!(rt; sums, seen(&tally, sums.book));
+    let (tally, sums) = played_on_queue(&rt, 3, 5, gets(Call::Get))?;
+    expect_balance(&rt, &tally, sums);
     Ok(())
 }
 
 #[test]
 fn a_blocked_get_takes_the_tag_that_another_clears(rt: HostRuntime) -> Result<(), Fail> {
-    let stage = Stage::of_queue(rt.alloc(), 1, options(2))?;
-    let tally = Tally::new(rt.alloc(), 1)?;
     let plan = Plan {
         job: Job::PassOn,
         workers: 1,
         rounds: 1,
     };
-    let sums = played_on_queue(&rt, stage, &tally, plan)?;
+    let (tally, sums) = played_on_queue(&rt, 1, 2, plan)?;
     assert_eq!(rt; tally.wrong.load(SeqCst), 0);
     assert_eq!(rt; sums.tags, totals(2, 1, 1, 0));
     assert_eq!(rt; (sums.groups.granted, sums.groups.waiting), (0, 0));
@@ -198,11 +196,8 @@ fn a_blocked_get_takes_the_tag_that_another_clears(rt: HostRuntime) -> Result<()
 
 #[test]
 fn two_agents_take_turns_at_one_tag(rt: HostRuntime) -> Result<(), Fail> {
-    let stage = Stage::of_queue(rt.alloc(), 1, options(2))?;
-    let tally = Tally::new(rt.alloc(), 1)?;
-    let sums = played_gets(&rt, stage, &tally, Job::Gets(Call::GetBlocking))?;
-    assert_eq!(rt; tally.wrong.load(SeqCst), 0);
+    let (tally, sums) = played_on_queue(&rt, 1, 2, gets(Call::GetBlocking))?;
+    expect_balance(&rt, &tally, sums);
     assert_eq!(rt; sums.tags, totals(20_000, 20_000, 0, 0));
-    assert_eq!(rt; sums, seen(&tally, sums.book));
     Ok(())
 }

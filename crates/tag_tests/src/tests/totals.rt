@@ -61,3 +61,7 @@ pub(crate) fn all_totals(
         },
     }
 }
+/// Totals after a run in which nobody waits, so that no completion is counted: tags got, given back, held and posted.
+pub(crate) fn unwaited(got: u64, back: u64, held: u64, posted: u64) -> QueueTotals {
+    all_totals(totals(got, back, held, posted), (0, 0, 0), 0)
+}

@@ -1,7 +1,8 @@
 //! Gets by one agent.
 use crate::tests::answers::Answer::{Batch, Done, Nothing, Refused, Tag, Woken};
 use crate::tests::calls::Call::{Clear, ClearBoth, Get, GetBatch, GetBlocking, GetShallow, Place};
-use crate::tests::stage::Stage;
+use crate::tests::queue::stages::{expect, expect_steps};
+use crate::tests::steps::Step::{Calls, ClearBatch, Gets};
 use crate::tests::totals::{in_words, options};
 use std::test::Fail;
 use tag_queue::Options;
@@ -17,138 +18,119 @@ fn in_turn() -> Options {
 
 #[test]
 fn a_get_goes_on_past_a_full_word(rt: HostRuntime) -> Result<(), Fail> {
-    let mut stage = Stage::of_queue(rt.alloc(), 8, in_words(2, 1))?;
-    // After tag 6 the hint wraps to 0, and tag 7 lies behind a full word.
-    assert_eq!(rt;
-        stage.wrong(
-            &rt,
-            &[
-                (0, Get, Tag(0)),
-                (0, Get, Tag(1)),
-                (0, Get, Tag(2)),
-                (0, Get, Tag(3)),
-                (0, Get, Tag(4)),
-                (0, Get, Tag(5)),
-                (0, Get, Tag(6)),
-                (0, Get, Tag(7)),
-                (0, Get, Nothing),
-                (0, Clear(5), Woken(0)),
-                (0, Get, Tag(5)),
-            ]
-        ),
-        None
-    );
-    Ok(())
+    expect(
+        &rt,
+        8,
+        in_words(2, 1),
+        // After tag 6 the hint wraps to 0, and tag 7 lies behind a full word.
+        &[
+            (0, Get, Tag(0)),
+            (0, Get, Tag(1)),
+            (0, Get, Tag(2)),
+            (0, Get, Tag(3)),
+            (0, Get, Tag(4)),
+            (0, Get, Tag(5)),
+            (0, Get, Tag(6)),
+            (0, Get, Tag(7)),
+            (0, Get, Nothing),
+            (0, Clear(5), Woken(0)),
+            (0, Get, Tag(5)),
+        ],
+    )
 }
 
 #[test]
 fn a_cleared_tag_comes_back_after_a_sweep(rt: HostRuntime) -> Result<(), Fail> {
-    let mut stage = Stage::of_queue(rt.alloc(), 4, in_words(2, 1))?;
-    assert_eq!(rt;
-        stage.wrong(
-            &rt,
-            &[
-                (0, Get, Tag(0)),
-                (0, Get, Tag(1)),
-                (0, Clear(0), Woken(0)),
-                (0, Get, Tag(2)),
-                (0, Get, Tag(3)),
-                (0, Get, Tag(0)),
-                (0, Get, Nothing),
-            ]
-        ),
-        None
-    );
-    Ok(())
+    expect(
+        &rt,
+        4,
+        in_words(2, 1),
+        &[
+            (0, Get, Tag(0)),
+            (0, Get, Tag(1)),
+            (0, Clear(0), Woken(0)),
+            (0, Get, Tag(2)),
+            (0, Get, Tag(3)),
+            (0, Get, Tag(0)),
+            (0, Get, Nothing),
+        ],
+    )
 }
 
 #[test]
 fn a_round_robin_get_begins_behind_the_last_tag(rt: HostRuntime) -> Result<(), Fail> {
-    let mut stage = Stage::of_queue(rt.alloc(), 4, in_turn())?;
-    assert_eq!(rt;
-        stage.wrong(
-            &rt,
-            &[
-                (0, Get, Tag(0)),
-                (0, Clear(0), Woken(0)),
-                (0, Get, Tag(1)),
-                (0, Clear(1), Woken(0)),
-                (0, Get, Tag(2)),
-                (0, Clear(2), Woken(0)),
-                (0, Get, Tag(3)),
-                (0, Clear(3), Woken(0)),
-                (0, Get, Tag(0)),
-            ]
-        ),
-        None
-    );
-    Ok(())
+    expect(
+        &rt,
+        4,
+        in_turn(),
+        &[
+            (0, Get, Tag(0)),
+            (0, Clear(0), Woken(0)),
+            (0, Get, Tag(1)),
+            (0, Clear(1), Woken(0)),
+            (0, Get, Tag(2)),
+            (0, Clear(2), Woken(0)),
+            (0, Get, Tag(3)),
+            (0, Clear(3), Woken(0)),
+            (0, Get, Tag(0)),
+        ],
+    )
 }
 
 #[test]
 fn a_round_robin_get_misses_a_tag_below_its_hint(rt: HostRuntime) -> Result<(), Fail> {
-    let mut stage = Stage::of_queue(rt.alloc(), 4, in_turn())?;
-    assert_eq!(rt; stage.gets(&rt, 0, 4), 4);
-    assert_eq!(rt;
-        stage.wrong(&rt, &[(0, ClearBoth(0, 1), Woken(0)), (0, Get, Tag(0)),]),
-        None
-    );
-    assert_eq!(rt; stage.clear_batch(0, &[0]), Some(Woken(0)));
-    assert_eq!(rt;
-        stage.wrong(
-            &rt,
-            &[(0, Get, Tag(1)), (0, Get, Nothing), (0, Get, Tag(0))]
-        ),
-        None
-    );
-    Ok(())
+    expect_steps(
+        &rt,
+        4,
+        in_turn(),
+        &[
+            Gets(0, 4),
+            Calls(&[(0, ClearBoth(0, 1), Woken(0)), (0, Get, Tag(0))]),
+            ClearBatch(0, &[0], Woken(0)),
+            Calls(&[(0, Get, Tag(1)), (0, Get, Nothing), (0, Get, Tag(0))]),
+        ],
+    )
 }
 
 #[test]
 fn a_shallow_get_has_its_share_of_each_word(rt: HostRuntime) -> Result<(), Fail> {
-    let mut stage = Stage::of_queue(rt.alloc(), 8, in_words(2, 1))?;
-    assert_eq!(rt;
-        stage.wrong(
-            &rt,
-            &[
-                (0, GetShallow(2), Tag(0)),
-                (0, GetShallow(2), Tag(4)),
-                (0, GetShallow(2), Nothing),
-                (0, Get, Tag(1)),
-                (0, GetShallow(0), Refused(TooShallow)),
-            ]
-        ),
-        None
-    );
-    let mut stage = Stage::of_queue(rt.alloc(), 10, in_words(2, 1))?;
-    assert_eq!(rt;
-        stage.wrong(
-            &rt,
-            &[(0, GetShallow(1), Tag(8)), (0, GetShallow(1), Nothing)]
-        ),
-        None
-    );
-    Ok(())
+    expect(
+        &rt,
+        8,
+        in_words(2, 1),
+        &[
+            (0, GetShallow(2), Tag(0)),
+            (0, GetShallow(2), Tag(4)),
+            (0, GetShallow(2), Nothing),
+            (0, Get, Tag(1)),
+            (0, GetShallow(0), Refused(TooShallow)),
+        ],
+    )?;
+    expect(
+        &rt,
+        10,
+        in_words(2, 1),
+        &[(0, GetShallow(1), Tag(8)), (0, GetShallow(1), Nothing)],
+    )
 }
 
 #[test]
 fn a_batch_get_wins_what_is_free_of_a_run(rt: HostRuntime) -> Result<(), Fail> {
-    let mut stage = Stage::of_queue(rt.alloc(), 8, in_words(3, 1))?;
-    assert_eq!(rt; stage.gets(&rt, 0, 5), 5);
-    assert_eq!(rt;
-        stage.wrong(
-            &rt,
-            &[
+    expect_steps(
+        &rt,
+        8,
+        in_words(3, 1),
+        &[
+            Gets(0, 5),
+            Calls(&[
                 (0, ClearBoth(1, 3), Woken(0)),
                 (0, GetBatch(3), Batch(1, 5)),
                 (0, GetBatch(5), Nothing),
                 (0, GetBatch(0), Refused(BadCount)),
                 (0, GetBatch(9), Refused(BadCount)),
-            ]
-        ),
-        None
-    );
-    Ok(())
+            ]),
+        ],
+    )
 }
 
 #[test]
@@ -158,57 +140,49 @@ fn a_get_is_refused_for_its_first_fault(rt: HostRuntime) -> Result<(), Fail> {
         life: 1,
         ..options(1)
     };
-    let mut stage = Stage::of_queue(rt.alloc(), 8, brief)?;
-    assert_eq!(rt;
-        stage.wrong(
-            &rt,
-            &[
-                (0, GetBatch(2), Refused(Spent)),
-                (0, Get, Tag(0)),
-                (0, Clear(0), Woken(0)),
-                (0, Get, Refused(Spent)),
-                (0, GetShallow(2), Refused(Spent)),
-                (0, GetShallow(1), Refused(TooShallow)),
-                (0, GetBatch(3), Refused(BadCount)),
-                (0, GetBlocking, Refused(Spent)),
-            ]
-        ),
-        None
-    );
+    expect(
+        &rt,
+        8,
+        brief,
+        &[
+            (0, GetBatch(2), Refused(Spent)),
+            (0, Get, Tag(0)),
+            (0, Clear(0), Woken(0)),
+            (0, Get, Refused(Spent)),
+            (0, GetShallow(2), Refused(Spent)),
+            (0, GetShallow(1), Refused(TooShallow)),
+            (0, GetBatch(3), Refused(BadCount)),
+            (0, GetBlocking, Refused(Spent)),
+        ],
+    )?;
     let brief_in_turn = Options {
         round_robin: true,
         ..brief
     };
-    let mut stage = Stage::of_queue(rt.alloc(), 8, brief_in_turn)?;
-    assert_eq!(rt;
-        stage.wrong(
-            &rt,
-            &[
-                (0, GetBatch(2), Nothing),
-                (0, GetBatch(3), Refused(BadCount))
-            ]
-        ),
-        None
-    );
-    Ok(())
+    expect(
+        &rt,
+        8,
+        brief_in_turn,
+        &[
+            (0, GetBatch(2), Nothing),
+            (0, GetBatch(3), Refused(BadCount)),
+        ],
+    )
 }
 
 #[test]
 fn agents_placed_apart_begin_in_words_of_their_own(rt: HostRuntime) -> Result<(), Fail> {
-    let mut stage = Stage::of_queue(rt.alloc(), 16, in_words(2, 3))?;
-    assert_eq!(rt;
-        stage.wrong(
-            &rt,
-            &[
-                (1, Place, Done),
-                (2, Place, Done),
-                (2, Get, Tag(8)),
-                (1, Get, Tag(4)),
-                (0, Get, Tag(0)),
-                (1, Get, Tag(5)),
-            ]
-        ),
-        None
-    );
-    Ok(())
+    expect(
+        &rt,
+        16,
+        in_words(2, 3),
+        &[
+            (1, Place, Done),
+            (2, Place, Done),
+            (2, Get, Tag(8)),
+            (1, Get, Tag(4)),
+            (0, Get, Tag(0)),
+            (1, Get, Tag(5)),
+        ],
+    )
 }

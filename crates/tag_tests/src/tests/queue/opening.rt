@@ -1,11 +1,22 @@
 //! Opening a queue.
 use crate::tests::answers::Answer::{Refused, Tag};
 use crate::tests::calls::Call::{Get, Read};
+use crate::tests::queue::stages::expect_steps;
 use crate::tests::stage::Stage;
-use crate::tests::totals::options;
+use crate::tests::steps::Step::{Calls, Count};
+use crate::tests::totals::{in_words, options};
+use std::alloc::Global;
 use std::test::Fail;
 use tag_queue::TagFault::{NoSuchTag, NotHeld};
 use tag_queue::{Options, Queue, SetFault};
+
+/// Returns the faults of opening a queue with these options, and of opening it with its agents placed.
+fn refusals(alloc: Global, depth: u32, options: Options) -> (Option<SetFault>, Option<SetFault>) {
+    (
+        Queue::open(alloc, depth, options, 0u64).err(),
+        Queue::open_placed(alloc, depth, options, 0u64).err(),
+    )
+}
 
 #[test]
 fn a_queue_is_refused_for_its_first_fault(rt: HostRuntime) {
@@ -37,52 +48,58 @@ fn a_queue_is_refused_for_its_first_fault(rt: HostRuntime) {
         (10_240, lasting, SetFault::LifeTooLong),
         (10_240, capped, SetFault::CapTooLarge),
     ] {
-        let opened = Queue::open(rt.alloc(), depth, options, 0u64);
         assert_eq!(rt;
-            opened.err(),
-            Some(fault),
+            refusals(rt.alloc(), depth, options),
+            (Some(fault), Some(fault)),
             "at depth {depth} with {options:?}"
-        );
-        let placed = Queue::open_placed(rt.alloc(), depth, options, 0u64);
-        assert_eq!(rt;
-            placed.err(),
-            Some(fault),
-            "placed, at depth {depth} with {options:?}"
         );
     }
 }
 
 #[test]
 fn a_queue_opens_with_as_many_agents_as_asked(rt: HostRuntime) -> Result<(), Fail> {
-    for (depth, shift, callers) in [(0, None, 1), (1, Some(0), 2), (10_240, Some(6), 64)] {
-        let options = Options {
-            shift,
-            ..options(callers)
-        };
-        let mut stage = Stage::of_queue(rt.alloc(), depth, options)?;
-        assert_eq!(rt; stage.count(), callers as usize);
-        assert_eq!(rt; stage.act(&rt, 0, Read(depth)), Some(Refused(NoSuchTag)));
-        if depth > 0 {
-            assert_eq!(rt; stage.act(&rt, 0, Read(depth - 1)), Some(Refused(NotHeld)));
-        }
-    }
-    Ok(())
+    expect_steps(
+        &rt,
+        0,
+        options(1),
+        &[Count(1), Calls(&[(0, Read(0), Refused(NoSuchTag))])],
+    )?;
+    expect_steps(
+        &rt,
+        1,
+        in_words(0, 2),
+        &[
+            Count(2),
+            Calls(&[
+                (0, Read(1), Refused(NoSuchTag)),
+                (0, Read(0), Refused(NotHeld)),
+            ]),
+        ],
+    )?;
+    expect_steps(
+        &rt,
+        10_240,
+        in_words(6, 64),
+        &[
+            Count(64),
+            Calls(&[
+                (0, Read(10_240), Refused(NoSuchTag)),
+                (0, Read(10_239), Refused(NotHeld)),
+            ]),
+        ],
+    )
 }
 
 #[test]
 fn agents_opened_placed_begin_in_their_own_parts(rt: HostRuntime) -> Result<(), Fail> {
-    let mut stage = Stage::of_queue_placed(rt.alloc(), 64, options(4))?;
-    assert_eq!(rt;
-        stage.wrong(
-            &rt,
-            &[
-                (0, Get, Tag(0)),
-                (1, Get, Tag(16)),
-                (2, Get, Tag(32)),
-                (3, Get, Tag(48)),
-            ]
-        ),
-        None
-    );
+    Stage::of_queue_placed(rt.alloc(), 64, options(4))?.play(
+        &rt,
+        &[Calls(&[
+            (0, Get, Tag(0)),
+            (1, Get, Tag(16)),
+            (2, Get, Tag(32)),
+            (3, Get, Tag(48)),
+        ])],
+    )?;
     Ok(())
 }

@@ -1,11 +1,10 @@
 //! Resizes.
-use crate::tests::answers::Answer;
 use crate::tests::answers::Answer::{Done, Found, Group, Left, Nothing, Tag, Value, Woken};
-use crate::tests::calls::Call;
 use crate::tests::calls::Call::{Clear, FinishWait, Get, Post, PrepareWait, Wakes, Write};
+use crate::tests::queue::stages::expect_totals;
 use crate::tests::stage::Stage;
-use crate::tests::totals::{FILL, in_words, options, totals};
-use std::sync::Wait;
+use crate::tests::steps::Step::{BringBack, Calls, Count, Present, Resize, ResizeFails};
+use crate::tests::totals::{FILL, all_totals, in_words, options, totals, unwaited};
 use std::test::Fail;
 use step_ledger::GatherCause;
 use tag_queue::{Queue, ResizeCause};
@@ -13,102 +12,66 @@ use wake_book::Left as Leave;
 
 #[test]
 fn a_hint_beyond_the_depth_is_reduced(rt: HostRuntime) -> Result<(), Fail> {
-    let mut stage = Stage::of_queue(rt.alloc(), 8, in_words(0, 1))?;
-    assert_eq!(rt;
-        stage.wrong(
-            &rt,
-            &[
+    expect_totals(
+        &rt,
+        8,
+        in_words(0, 1),
+        &[
+            Calls(&[
                 (0, Get, Tag(0)),
                 (0, Get, Tag(1)),
                 (0, Get, Tag(2)),
                 (0, Get, Tag(3)),
-            ]
-        ),
-        None
-    );
-    let (cause, mut stage) = stage.refused(rt.alloc(), 2)?;
-    assert_eq!(rt; cause, ResizeCause::InUse(4, 0));
-    assert_eq!(rt;
-        stage.wrong(
-            &rt,
-            &[
+            ]),
+            ResizeFails(2, ResizeCause::InUse(4, 0)),
+            Calls(&[
                 (0, Clear(0), Woken(0)),
                 (0, Clear(1), Woken(0)),
                 (0, Clear(2), Woken(0)),
                 (0, Clear(3), Woken(0)),
-            ]
-        ),
-        None
-    );
-    let mut stage = stage.resized(rt.alloc(), 2)?;
-    assert_eq!(rt;
-        stage.wrong(
-            &rt,
-            &[(0, Get, Tag(1)), (0, Get, Tag(0)), (0, Get, Nothing)]
-        ),
-        None
-    );
-    assert_eq!(rt; stage.close()?.tags, totals(6, 4, 2, 0));
-    Ok(())
+            ]),
+            Resize(2),
+            Calls(&[(0, Get, Tag(1)), (0, Get, Tag(0)), (0, Get, Nothing)]),
+        ],
+        unwaited(6, 4, 2, 0),
+    )
 }
 
 #[test]
 fn waits_forbid_a_resize(rt: HostRuntime) -> Result<(), Fail> {
-    let mut stage = Stage::of_queue(rt.alloc(), 16, options(2))?;
-    assert_eq!(rt;
-        stage.wrong(
-            &rt,
-            &[
+    expect_totals(
+        &rt,
+        16,
+        options(2),
+        &[
+            Calls(&[
                 (0, Get, Tag(0)),
                 (0, Get, Tag(1)),
                 (0, Get, Tag(2)),
                 (1, PrepareWait, Group(0)),
-            ]
-        ),
-        None
-    );
-    let (cause, mut stage) = stage.refused(rt.alloc(), 8)?;
-    assert_eq!(rt; cause, ResizeCause::InUse(3, 0));
-    assert_eq!(rt;
-        stage.wrong(
-            &rt,
-            &[
+            ]),
+            ResizeFails(8, ResizeCause::InUse(3, 0)),
+            Calls(&[
                 (0, Clear(0), Woken(0)),
                 (0, Clear(1), Woken(1)),
                 (1, FinishWait, Left(Leave::Woken)),
                 (0, Clear(2), Woken(0)),
                 (1, PrepareWait, Group(1)),
-            ]
-        ),
-        None
-    );
-    let (cause, mut stage) = stage.refused(rt.alloc(), 8)?;
-    assert_eq!(rt; cause, ResizeCause::Waiting(1));
-    assert_eq!(rt;
-        stage.wrong(&rt, &[(1, FinishWait, Left(Leave::Unwoken))]),
-        None
-    );
-    let (cause, stage) = stage.refused(rt.alloc(), 10_241)?;
-    assert_eq!(rt; cause, ResizeCause::DepthTooLarge);
-    let mut stage = stage.resized(rt.alloc(), 8)?;
-    assert_eq!(rt;
-        stage.wrong(
-            &rt,
-            &[
+            ]),
+            ResizeFails(8, ResizeCause::Waiting(1)),
+            Calls(&[(1, FinishWait, Left(Leave::Unwoken))]),
+            ResizeFails(10_241, ResizeCause::DepthTooLarge),
+            Resize(8),
+            Calls(&[
                 (1, PrepareWait, Group(2)),
                 (0, Get, Tag(0)),
                 (0, Clear(0), Woken(1)),
                 (0, Wakes, Found(3, 3, 3, 1)),
                 (1, FinishWait, Left(Leave::Woken)),
-            ]
-        ),
-        None
-    );
-    let sums = stage.close()?;
-    assert_eq!(rt; (sums.tags.got, sums.tags.back), (4, 4));
-    assert_eq!(rt; (sums.book.counted, sums.book.charged), (3, 3));
-    assert_eq!(rt; sums.book.charges, 2);
-    Ok(())
+            ]),
+        ],
+        all_totals(totals(4, 4, 0, 0), (3, 3, 2), 2),
+    )
 }
 
 #[test]
@@ -118,58 +81,64 @@ fn a_resize_without_an_agent_hands_all_back(rt: HostRuntime) -> Result<(), Fail>
     let Err((cause, stage)) = stage.in_use() else {
         return Err(Fail::new("told without agent 1"));
     };
-    assert_eq!(rt; (cause, stage.count()), (GatherCause::Missing(1), 1));
-    let (cause, mut stage) = stage.refused(rt.alloc(), 10_241)?;
-    assert_eq!(rt; (cause, stage.count()), (ResizeCause::Missing(1), 1));
-    stage.bring_back()?;
-    let stage = stage.resized(rt.alloc(), 5)?;
-    assert_eq!(rt; (stage.number(0), stage.number(1)), (Some(0), Some(1)));
-    assert_eq!(rt; stage.close()?.tags.got, 0);
-    Ok(())
+    assert_eq!(rt; cause, GatherCause::Missing(1));
+    stage.play_to(
+        &rt,
+        &[
+            Present(&[0]),
+            ResizeFails(10_241, ResizeCause::Missing(1)),
+            Present(&[0]),
+            BringBack,
+            Resize(5),
+            Present(&[0, 1]),
+        ],
+        unwaited(0, 0, 0, 0),
+    )
 }
 
 #[test]
 fn held_and_posted_tags_are_told(rt: HostRuntime) -> Result<(), Fail> {
-    let mut stage = Stage::of_queue(rt.alloc(), 8, options(2))?;
-    assert_eq!(rt;
-        stage.wrong(
-            &rt,
-            &[(0, Get, Tag(0)), (0, Get, Tag(1)), (0, Post(1), Done)]
-        ),
-        None
-    );
+    let stage = Stage::of_queue(rt.alloc(), 8, options(2))?;
+    let stage = stage.play(
+        &rt,
+        &[Calls(&[(0, Get, Tag(0)), (0, Get, Tag(1)), (0, Post(1), Done)])],
+    )?;
     let Ok((held, posted, stage)) = stage.in_use() else {
         return Err(Fail::new("an agent is missing"));
     };
-    assert_eq!(rt; (held, posted, stage.count()), (1, 1, 2));
-    let (cause, stage) = stage.refused(rt.alloc(), 8)?;
-    assert_eq!(rt; cause, ResizeCause::InUse(1, 1));
-    assert_eq!(rt; stage.close()?.tags, totals(2, 0, 1, 1));
-    Ok(())
-}
-
-/// Gets the first tag of a queue whose tags are all free, finds its slot in the initial state, and clears the tag.
-fn won_and_back<W: Wait>(rt: &W, stage: &mut Stage<Queue<u64>>) -> Option<(usize, Call, Answer)> {
-    stage.wrong(
-        rt,
-        &[
-            (0, Get, Tag(0)),
-            (0, Write(0, 5), Value(FILL)),
-            (0, Clear(0), Woken(0)),
-        ],
+    assert_eq!(rt; (held, posted), (1, 1));
+    stage.play_to(
+        &rt,
+        &[Present(&[0, 1]), ResizeFails(8, ResizeCause::InUse(1, 1))],
+        unwaited(2, 0, 1, 1),
     )
 }
 
 #[test]
 fn totals_go_on_through_three_depths(rt: HostRuntime) -> Result<(), Fail> {
-    let mut stage = Stage::of_queue(rt.alloc(), 64, options(1))?;
-    for depth in [0, 3, 130] {
-        assert_eq!(rt; won_and_back(&rt, &mut stage), None);
-        let none = stage.resized(rt.alloc(), 0)?;
-        stage = none.resized(rt.alloc(), depth + 1)?;
-    }
-    assert_eq!(rt; stage.close()?.tags, totals(3, 3, 0, 0));
-    Ok(())
+    // The tags are all free, so the first one is won, and its slot has the initial value.
+    let won_and_back = Calls(&[
+        (0, Get, Tag(0)),
+        (0, Write(0, 5), Value(FILL)),
+        (0, Clear(0), Woken(0)),
+    ]);
+    expect_totals(
+        &rt,
+        64,
+        options(1),
+        &[
+            won_and_back,
+            Resize(0),
+            Resize(1),
+            won_and_back,
+            Resize(0),
+            Resize(4),
+            won_and_back,
+            Resize(0),
+            Resize(131),
+        ],
+        unwaited(3, 3, 0, 0),
+    )
 }
 
 /// This test also passes when each allocation in turn is made to fail.
@@ -179,14 +148,6 @@ fn a_resize_without_memory_hands_all_back(rt: HostRuntime) -> Result<(), Fail> {
         return Ok(());
     };
     let stage = Stage::of(rt.alloc(), queue, agents);
-    let stage = match stage.resize(rt.alloc(), 100) {
-        Ok(resized) => resized,
-        Err((cause, stage)) => {
-            assert_eq!(rt; (cause, stage.count()), (ResizeCause::Memory, 3));
-            stage.resized(rt.alloc(), 100)?
-        }
-    };
-    let sums = stage.close()?;
-    assert_eq!(rt; (sums.tags.got, sums.tags.back), (0, 0));
-    Ok(())
+    let stage = stage.resized_at_last(&rt, 100)?;
+    stage.play_to(&rt, &[Count(3)], unwaited(0, 0, 0, 0))
 }

@@ -1,7 +1,8 @@
 //! Waits, and which agents are woken.
 use crate::tests::answers::Answer::{Found, Group, Left, Refused, Tag, Woken};
 use crate::tests::calls::Call::{Clear, FinishWait, Get, GetBlocking, PrepareWait, Wakes};
-use crate::tests::stage::Stage;
+use crate::tests::queue::stages::{expect, expect_totals};
+use crate::tests::steps::Step::Calls;
 use crate::tests::totals::{all_totals, options, totals};
 use std::test::Fail;
 use tag_queue::Options;
@@ -10,28 +11,22 @@ use wake_book::Left as Leave;
 
 #[test]
 fn a_batch_of_completions_wakes_a_waiter(rt: HostRuntime) -> Result<(), Fail> {
-    let mut stage = Stage::of_queue(rt.alloc(), 16, options(2))?;
-    assert_eq!(rt;
-        stage.wrong(
-            &rt,
-            &[
-                (0, Get, Tag(0)),
-                (0, Get, Tag(1)),
-                (0, Get, Tag(2)),
-                (0, Clear(0), Woken(0)),
-                (1, PrepareWait, Group(0)),
-                (0, Clear(1), Woken(0)),
-                (0, Clear(2), Woken(1)),
-                (1, FinishWait, Left(Leave::Woken)),
-            ]
-        ),
-        None
-    );
-    assert_eq!(rt;
-        stage.close()?,
-        all_totals(totals(3, 3, 0, 0), (2, 2, 1), 1)
-    );
-    Ok(())
+    expect_totals(
+        &rt,
+        16,
+        options(2),
+        &[Calls(&[
+            (0, Get, Tag(0)),
+            (0, Get, Tag(1)),
+            (0, Get, Tag(2)),
+            (0, Clear(0), Woken(0)),
+            (1, PrepareWait, Group(0)),
+            (0, Clear(1), Woken(0)),
+            (0, Clear(2), Woken(1)),
+            (1, FinishWait, Left(Leave::Woken)),
+        ])],
+        all_totals(totals(3, 3, 0, 0), (2, 2, 1), 1),
+    )
 }
 
 #[test]
@@ -40,75 +35,59 @@ fn a_clear_past_the_cap_wakes_nobody(rt: HostRuntime) -> Result<(), Fail> {
         cap: 1,
         ..options(2)
     };
-    let mut stage = Stage::of_queue(rt.alloc(), 8, capped)?;
-    assert_eq!(rt;
-        stage.wrong(
-            &rt,
-            &[
-                (0, Get, Tag(0)),
-                (0, Get, Tag(1)),
-                (1, PrepareWait, Group(0)),
-                (0, Clear(0), Woken(1)),
-                (1, FinishWait, Left(Leave::Woken)),
-                (1, PrepareWait, Group(1)),
-                (0, Clear(1), Woken(0)),
-                (1, FinishWait, Left(Leave::Unwoken)),
-            ]
-        ),
-        None
-    );
-    assert_eq!(rt;
-        stage.close()?,
-        all_totals(totals(2, 2, 0, 0), (1, 1, 1), 1)
-    );
-    Ok(())
+    expect_totals(
+        &rt,
+        8,
+        capped,
+        &[Calls(&[
+            (0, Get, Tag(0)),
+            (0, Get, Tag(1)),
+            (1, PrepareWait, Group(0)),
+            (0, Clear(0), Woken(1)),
+            (1, FinishWait, Left(Leave::Woken)),
+            (1, PrepareWait, Group(1)),
+            (0, Clear(1), Woken(0)),
+            (1, FinishWait, Left(Leave::Unwoken)),
+        ])],
+        all_totals(totals(2, 2, 0, 0), (1, 1, 1), 1),
+    )
 }
 
 #[test]
 fn a_wait_is_refused_to_who_stands_and_its_end_to_who_does_not(
     rt: HostRuntime,
 ) -> Result<(), Fail> {
-    let mut stage = Stage::of_queue(rt.alloc(), 8, options(2))?;
-    assert_eq!(rt;
-        stage.wrong(
-            &rt,
-            &[
-                (1, FinishWait, Refused(NotWaiting)),
-                (0, Get, Tag(0)),
-                (1, PrepareWait, Group(0)),
-                (1, PrepareWait, Refused(Waiting)),
-                (1, GetBlocking, Refused(Waiting)),
-                (0, Clear(0), Woken(1)),
-                (0, Wakes, Found(1, 1, 1, 1)),
-                (1, FinishWait, Left(Leave::Woken)),
-                (1, FinishWait, Refused(NotWaiting)),
-                (1, Wakes, Found(1, 1, 1, 0)),
-            ]
-        ),
-        None
-    );
-    Ok(())
+    expect(
+        &rt,
+        8,
+        options(2),
+        &[
+            (1, FinishWait, Refused(NotWaiting)),
+            (0, Get, Tag(0)),
+            (1, PrepareWait, Group(0)),
+            (1, PrepareWait, Refused(Waiting)),
+            (1, GetBlocking, Refused(Waiting)),
+            (0, Clear(0), Woken(1)),
+            (0, Wakes, Found(1, 1, 1, 1)),
+            (1, FinishWait, Left(Leave::Woken)),
+            (1, FinishWait, Refused(NotWaiting)),
+            (1, Wakes, Found(1, 1, 1, 0)),
+        ],
+    )
 }
 
 #[test]
 fn a_blocking_get_of_a_free_tag_does_not_wait(rt: HostRuntime) -> Result<(), Fail> {
-    let mut stage = Stage::of_queue(rt.alloc(), 0, options(1))?;
-    assert_eq!(rt;
-        stage.wrong(&rt, &[(0, GetBlocking, Refused(NoSuchTag))]),
-        None
-    );
-    let mut stage = Stage::of_queue(rt.alloc(), 1, options(1))?;
-    // The next wait is in the first group: no wait was started before.
-    assert_eq!(rt;
-        stage.wrong(
-            &rt,
-            &[
-                (0, GetBlocking, Tag(0)),
-                (0, Clear(0), Woken(0)),
-                (0, PrepareWait, Group(0)),
-            ]
-        ),
-        None
-    );
-    Ok(())
+    expect(&rt, 0, options(1), &[(0, GetBlocking, Refused(NoSuchTag))])?;
+    expect(
+        &rt,
+        1,
+        options(1),
+        // The next wait is in the first group: no wait was started before.
+        &[
+            (0, GetBlocking, Tag(0)),
+            (0, Clear(0), Woken(0)),
+            (0, PrepareWait, Group(0)),
+        ],
+    )
 }

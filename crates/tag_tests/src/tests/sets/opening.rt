@@ -2,6 +2,7 @@
 use crate::tests::answers::Answer::Tag;
 use crate::tests::calls::Call::{Get, GetReserved};
 use crate::tests::stage::Stage;
+use crate::tests::steps::Step::Calls;
 use crate::tests::totals::options;
 use std::alloc::Global;
 use std::test::Fail;
@@ -50,37 +51,30 @@ fn two_sets_are_refused_for_their_first_fault(rt: HostRuntime) {
         (4, 1, lasting, SetFault::LifeTooLong),
         (4, 1, capped, SetFault::CapTooLarge),
     ] {
+        let opened = refusal(rt.alloc(), total, reserved, options);
+        let placed = refusal_placed(rt.alloc(), total, reserved, options);
         assert_eq!(rt;
-            refusal(rt.alloc(), total, reserved, options),
-            Some(fault),
+            (opened, placed),
+            (Some(fault), Some(fault)),
             "with {reserved} of {total} reserved and {options:?}"
-        );
-        assert_eq!(rt;
-            refusal_placed(rt.alloc(), total, reserved, options),
-            Some(fault),
-            "placed, with {reserved} of {total} reserved and {options:?}"
         );
     }
 }
 
 #[test]
 fn hands_opened_placed_begin_in_their_own_parts(rt: HostRuntime) -> Result<(), Fail> {
-    let mut stage = Stage::of_sets_placed(rt.alloc(), 72, 8, options(4))?;
-    assert_eq!(rt;
-        stage.wrong(
-            &rt,
-            &[
-                (0, Get, Tag(8)),
-                (1, Get, Tag(24)),
-                (2, Get, Tag(40)),
-                (3, Get, Tag(56)),
-                (0, GetReserved, Tag(0)),
-                (1, GetReserved, Tag(2)),
-                (2, GetReserved, Tag(4)),
-                (3, GetReserved, Tag(6)),
-            ]
-        ),
-        None
-    );
+    Stage::of_sets_placed(rt.alloc(), 72, 8, options(4))?.play(
+        &rt,
+        &[Calls(&[
+            (0, Get, Tag(8)),
+            (1, Get, Tag(24)),
+            (2, Get, Tag(40)),
+            (3, Get, Tag(56)),
+            (0, GetReserved, Tag(0)),
+            (1, GetReserved, Tag(2)),
+            (2, GetReserved, Tag(4)),
+            (3, GetReserved, Tag(6)),
+        ])],
+    )?;
     Ok(())
 }

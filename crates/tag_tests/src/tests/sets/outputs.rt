@@ -1,15 +1,14 @@
 //! Shows, lists and dumps, and how they are written.
 use crate::tests::answers::Answer;
-use crate::tests::calls::Call::{Clear, GetReserved, Show};
-use crate::tests::stage::Stage;
+use crate::tests::calls::Call::{Busy, Clear, Dump, GetReserved, Show};
+use crate::tests::sets::stages::{expect, expect_steps};
+use crate::tests::steps::Step::{Calls, Gets};
 use crate::tests::totals::{in_words, options};
 use std::test::Fail;
 use tag_sets::{Kind, Shown, write_dump, write_show};
 
 #[test]
 fn a_show_counts_what_is_busy_and_what_is_aside(rt: HostRuntime) -> Result<(), Fail> {
-    let mut stage = Stage::of_sets(rt.alloc(), 9, 1, in_words(2, 1))?;
-    assert_eq!(rt; stage.gets(&rt, 0, 3), 3);
     let ordinary = Shown {
         depth: 8,
         busy: 2,
@@ -24,24 +23,25 @@ fn a_show_counts_what_is_busy_and_what_is_aside(rt: HostRuntime) -> Result<(), F
         bits_per_word: 4,
         map_nr: 1,
     };
-    assert_eq!(rt;
-        stage.wrong(
-            &rt,
-            &[
+    expect_steps(
+        &rt,
+        9,
+        1,
+        in_words(2, 1),
+        &[
+            Gets(0, 3),
+            Calls(&[
                 (0, GetReserved, Answer::Tag(0)),
                 (0, Clear(2), Answer::Woken(0)),
                 (0, Show(Kind::Ordinary), Answer::Shown(ordinary)),
                 (0, Show(Kind::Reserved), Answer::Shown(reserved)),
-            ]
-        ),
-        None
-    );
-    Ok(())
+            ]),
+        ],
+    )
 }
 
 #[test]
 fn a_set_without_tags_shows_a_map_without_words(rt: HostRuntime) -> Result<(), Fail> {
-    let mut stage = Stage::of_sets(rt.alloc(), 8, 0, options(1))?;
     let none = Shown {
         depth: 0,
         busy: 0,
@@ -49,42 +49,51 @@ fn a_set_without_tags_shows_a_map_without_words(rt: HostRuntime) -> Result<(), F
         bits_per_word: 64,
         map_nr: 0,
     };
-    assert_eq!(rt;
-        stage.wrong(&rt, &[(0, Show(Kind::Reserved), Answer::Shown(none))]),
-        None
-    );
-    assert_eq!(rt; stage.dump(0, Kind::Reserved), Some((0, [0xaa; 3])));
-    Ok(())
+    expect(
+        &rt,
+        8,
+        0,
+        options(1),
+        &[
+            (0, Show(Kind::Reserved), Answer::Shown(none)),
+            (0, Dump(Kind::Reserved), Answer::Dumped(0, 0xaa, 0xaa, 0xaa)),
+        ],
+    )
 }
 
 #[test]
 fn busy_tags_of_both_sets_are_listed(rt: HostRuntime) -> Result<(), Fail> {
-    let mut stage = Stage::of_sets(rt.alloc(), 70, 3, options(1))?;
-    assert_eq!(rt; stage.gets(&rt, 0, 62), 62);
-    assert_eq!(rt;
-        stage.wrong(
-            &rt,
-            &[
+    expect_steps(
+        &rt,
+        70,
+        3,
+        options(1),
+        &[
+            Gets(0, 62),
+            Calls(&[
                 (0, GetReserved, Answer::Tag(0)),
                 (0, Clear(4), Answer::Woken(0)),
-            ]
-        ),
-        None
-    );
-    assert_eq!(rt; stage.busy(0), Some((62, [0xffff_ffff_ffff_ffe9, 1])));
-    Ok(())
+                (0, Busy, Answer::Busy(62, 0xffff_ffff_ffff_ffe9, 1)),
+            ]),
+        ],
+    )
 }
 
 #[test]
 fn a_dump_packs_the_low_bit_first(rt: HostRuntime) -> Result<(), Fail> {
-    let mut stage = Stage::of_sets(rt.alloc(), 10, 0, in_words(2, 1))?;
-    assert_eq!(rt; stage.gets(&rt, 0, 10), 10);
-    assert_eq!(rt; stage.wrong(&rt, &[(0, Clear(1), Answer::Woken(0))]), None);
-    assert_eq!(rt;
-        stage.dump(0, Kind::Ordinary),
-        Some((2, [0xfd, 0x03, 0xaa]))
-    );
-    Ok(())
+    expect_steps(
+        &rt,
+        10,
+        0,
+        in_words(2, 1),
+        &[
+            Gets(0, 10),
+            Calls(&[
+                (0, Clear(1), Answer::Woken(0)),
+                (0, Dump(Kind::Ordinary), Answer::Dumped(2, 0xfd, 0x03, 0xaa)),
+            ]),
+        ],
+    )
 }
 
 #[test]
