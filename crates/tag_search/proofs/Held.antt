@@ -2,7 +2,6 @@
 use Rattle.std.proofs.Common.{◌≡◌, ℕ, ◌+◌, ◌<◌, ◌≤◌, Bool, true, false, not, ◌&&◌, ◌||◌, cond, nat_eq, nat_lt, nat_le}
 use Rattle.std.proofs.Common.{List, ◌∷◌, ◌++◌, map, Option, IfSome, arith, refl, sym, ◌∙◌, subst, eq-eqb}
 use Rattle.std.specs.Prelude.{All}
-use Rattle.std.specs.Int.{bit_at}
 use Rattle.std.proofs.lemmas.Bool.{le-leb, lt-ltb}
 use Rattle.std.proofs.lemmas.List.Elements.{All-append, All-map}
 use Rattle.tag_core.specs.Steps.{Words}

@@ -1,9 +1,6 @@
 -- Hands may go to other threads, which may share the tags and the count, and each hand stays one of the tags'.
 use denote.Param.Send.{sendable}
-use Rattle.std.proofs.Common.{rules, arith, ◌<◌, ◌++◌, length, drop}
 use Rattle.std.proofs.Crossing.{crosses}
-use Rattle.std.proofs.lemmas.List.Elements.{All-take, All-append, All-drop}
-use Rattle.tag_sets.specs.Hands.{IsHandOf}
 use Rattle.tag_sets.proofs.Crossing.{hand_send, tags_sync}
 use Rattle.request_pool.proofs.pool.serve_by_threads.Goals as goal
 

@@ -1,10 +1,10 @@
 -- The pool's handle keeps its object in every case; the other was empty, and is filled only with a hand of it.
-use Rattle.std.proofs.Common.{rules, ◌≡◌, Option, Some, None, inl, inr, refl, sym, subst, ◌∙◌}
+use Rattle.std.proofs.Common.{rules, ◌≡◌, Option, None, inl, inr, refl, sym, subst, ◌∙◌}
 use Rattle.std.specs.Arc.{arc_value}
 use Rattle.tag_queue.specs.declared.fault.SetFault.TheVariants.{Memory}
 use Rattle.tag_c.specs.declared.object.Object.{Object}
 use Rattle.tag_c.specs.declared.status.Status.TheVariants.{BadHandle, NotEmpty, NotOpened}
-use Rattle.tag_c.specs.Exports.{RefusesJoin, IsPoolIn, IsPoolOf, IsMemberIn, IsHandIn}
+use Rattle.tag_c.specs.Exports.{RefusesJoin, IsPoolOf, IsMemberIn, IsHandIn}
 use Rattle.tag_c.proofs.Refusing.{refuses, refused, no_pool, join_below, refuses_join}
 use Rattle.tag_c.proofs.Flags.{is_some_of, not_some_of}
 use Rattle.tag_c.proofs.pools.tags_join.Goals as goal

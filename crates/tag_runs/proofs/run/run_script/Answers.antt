@@ -1,5 +1,5 @@
 -- An input that was read whole is within the size limit, so no later fault is `TooLong`, and the text is its output.
-use Rattle.std.proofs.Common.{◌≡◌, ℕ, ◌≤◌, List, length, subst, rules}
+use Rattle.std.proofs.Common.{ℕ, ◌≤◌, List, length, subst, rules}
 use Rattle.std.specs.Io.KnownBytes.{Appends}
 use Rattle.tag_lines.specs.declared.lines.TheConstants.{MAX_INPUT}
 use Rattle.tag_script.specs.Script.{Owed}
