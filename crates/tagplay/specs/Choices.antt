@@ -1,11 +1,13 @@
 -- What a choice of a subcommand stands for.
-use Rattle.std.specs.Prelude.{ℕ, List, codes}
+use Rattle.std.specs.Prelude.{◌≡◌, ℕ, List, Option, Some, codes}
+use Rattle.clap.specs.Words.{Row, Text}
 use Rattle.tag_runs.specs.Reports.{Reports}
 use Rattle.tag_script.specs.declared.ending.Ending.{Ending}
 use Rattle.tag_script.specs.Check.{TellsVerdict}
 use Rattle.tag_script.specs.Script.{Owed}
 use Rattle.tagplay.specs.declared.choice.Choice.{Choice}
 use Rattle.tagplay.specs.declared.choice.Choice.TheVariants.{Script, Check, Play}
+use Rattle.tagplay.specs.Options.{AreScriptOptions, AreCheckOptions, ArePlayOptions}
 
 -- the name of the subcommand, as it is typed
 abbrev pub name_of : Choice → List ℕ
@@ -18,3 +20,15 @@ abbrev pub owed_by : Choice → List ℕ → List ℕ → Ending → Type 0
 owed_by (Script options) = Owed options
 owed_by (Check options) = TellsVerdict options
 owed_by (Play options) = Reports options
+
+-- the options of the choice are those of which a parse has these texts
+abbrev pub HasOptions : List Row → Choice → Type 0
+HasOptions rows (Script options) = AreScriptOptions rows options
+HasOptions rows (Check options) = AreCheckOptions rows options
+HasOptions rows (Play options) = ArePlayOptions rows options
+
+-- the choice is the subcommand that a parse entered, with the options given there
+pub record IsChosen (entered : Option (Text × List Row)) (choice : Choice) : Type 0 where
+  pub rows : List Row
+  pub is : entered ≡ Some (name_of choice, rows)
+  pub options : HasOptions rows choice

@@ -1,9 +1,10 @@
 //! The subcommand that a command line names.
 ghost use Rattle.std.specs.Prelude.{◌≡◌, ◌≢◌, Some, IsNone, IfSome, IfOk, IfErr, IsErrOf};
 ghost use Rattle.clap.specs.Matches.{subcommand_name_of};
+ghost use Rattle.clap.specs.Words.{subcommand_rows_of};
 ghost use Rattle.tag_runs.specs.Input.{StopsReading};
 ghost use Rattle.tag_runs.specs.Runs.{HasOutput, WritesOutput};
-ghost use Rattle.tagplay.specs.Choices.{name_of, owed_by};
+ghost use Rattle.tagplay.specs.Choices.{name_of, owed_by, IsChosen};
 ghost use Rattle.tagplay.specs.declared.choice.Choice.{Choice};
 
 use crate::options::{check_options, play_options, script_options};
@@ -29,7 +30,7 @@ pub enum Choice {
 impl Choice {
     /// Returns the subcommand given, with its options, or `None` if it is none of the three.
     pub(crate) fn named(matches: &ArgMatches) -> Option<Choice>
-        ensures named { IfSome result (λ choice. subcommand_name_of matches.now ≡ Some (name_of choice)) }
+        ensures named { IfSome result (IsChosen (subcommand_rows_of matches.now)) }
         ensures none { IsNone result → (choice : Choice) → ¬ (subcommand_name_of matches.now ≡ Some (name_of choice)) }
     {
         let (name, options) = matches.subcommand()?;

@@ -1,4 +1,7 @@
 //! The command line: its subcommands, their options and their help.
+ghost use Rattle.clap.specs.Words.{found_of, rows_of};
+ghost use Rattle.tagplay.specs.Options.{IsNumber, IsOptional, IsFlag, AreScriptOptions, AreCheckOptions, ArePlayOptions};
+
 use clap::{Arg, ArgAction, ArgMatches, Command, value_parser};
 use std::alloc::{AllocError, Global};
 use tag_runs::PlayOptions;
@@ -85,38 +88,69 @@ fn play_command<'a>(alloc: Global) -> Result<Command<'a>, AllocError> {
 }
 
 /// Returns the options of a `script` command line.
-pub(crate) fn script_options(matches: &ArgMatches) -> ScriptOptions {
+pub(crate) fn script_options(matches: &ArgMatches) -> ScriptOptions
+    ensures { AreScriptOptions (rows_of (found_of matches.now)) result }
+{
     ScriptOptions {
-        tags: matches.get_one::<u32>("tags").unwrap_or(0),
-        reserved: matches.get_one::<u32>("reserved").unwrap_or(0),
-        shift: matches.get_one::<u32>("shift"),
-        round_robin: matches.get_flag("round-robin"),
-        min_shallow: matches.get_one::<u32>("min-shallow"),
-        callers: matches.get_one::<u32>("callers").unwrap_or(1),
-        life: matches.get_one::<u64>("life").unwrap_or(DEFAULT_LIFE),
-        plain: matches.get_flag("plain"),
+        tags: number(matches, "tags", 0),
+        reserved: number(matches, "reserved", 0),
+        shift: optional(matches, "shift"),
+        round_robin: flag(matches, "round-robin"),
+        min_shallow: optional(matches, "min-shallow"),
+        callers: number(matches, "callers", 1),
+        life: long_number(matches, "life").unwrap_or(DEFAULT_LIFE),
+        plain: flag(matches, "plain"),
     }
 }
 
 /// Returns the options of a `check` command line.
-pub(crate) fn check_options(matches: &ArgMatches) -> CheckOptions {
+pub(crate) fn check_options(matches: &ArgMatches) -> CheckOptions
+    ensures { AreCheckOptions (rows_of (found_of matches.now)) result }
+{
     CheckOptions {
-        tags: matches.get_one::<u32>("tags").unwrap_or(0),
-        shift: matches.get_one::<u32>("shift"),
-        callers: matches.get_one::<u32>("callers").unwrap_or(1),
+        tags: number(matches, "tags", 0),
+        shift: optional(matches, "shift"),
+        callers: number(matches, "callers", 1),
     }
 }
 
 /// Returns the options of a `play` command line.
-pub(crate) fn play_options(matches: &ArgMatches) -> PlayOptions {
+pub(crate) fn play_options(matches: &ArgMatches) -> PlayOptions
+    ensures { ArePlayOptions (rows_of (found_of matches.now)) result }
+{
     PlayOptions {
-        tags: matches.get_one::<u32>("tags").unwrap_or(0),
-        reserved: matches.get_one::<u32>("reserved").unwrap_or(0),
-        shift: matches.get_one::<u32>("shift"),
-        submitters: matches.get_one::<u32>("submitters").unwrap_or(1),
-        completers: matches.get_one::<u32>("completers").unwrap_or(1),
-        queue: matches.get_one::<u32>("queue").unwrap_or(64),
+        tags: number(matches, "tags", 0),
+        reserved: number(matches, "reserved", 0),
+        shift: optional(matches, "shift"),
+        submitters: number(matches, "submitters", 1),
+        completers: number(matches, "completers", 1),
+        queue: number(matches, "queue", 64),
     }
+}
+
+/// Returns the number of an option that is required or has a default, so that `otherwise` is never needed.
+fn number(matches: &ArgMatches, id: &str, otherwise: u32) -> u32
+    ensures { IsNumber 32 (rows_of (found_of matches.now)) id.now result }
+{
+    optional(matches, id).unwrap_or(otherwise)
+}
+
+fn optional(matches: &ArgMatches, id: &str) -> Option<u32>
+    ensures { IsOptional 32 (rows_of (found_of matches.now)) id.now result }
+{
+    matches.get_one::<u32>(id)
+}
+
+fn long_number(matches: &ArgMatches, id: &str) -> Option<u64>
+    ensures { IsOptional 64 (rows_of (found_of matches.now)) id.now result }
+{
+    matches.get_one::<u64>(id)
+}
+
+fn flag(matches: &ArgMatches, id: &str) -> bool
+    ensures { IsFlag (rows_of (found_of matches.now)) id.now result }
+{
+    matches.get_flag(id)
 }
 
 fn tags<'a>(alloc: Global) -> Arg<'a> {
