@@ -21,7 +21,7 @@ owed_by (Script options) = Owed options
 owed_by (Check options) = TellsVerdict options
 owed_by (Play options) = Reports options
 
--- the options of the choice are those of which a parse has these texts
+-- the options of the choice are those that a parse has
 abbrev pub HasOptions : List Row → Choice → Type 0
 HasOptions rows (Script options) = AreScriptOptions rows options
 HasOptions rows (Check options) = AreCheckOptions rows options

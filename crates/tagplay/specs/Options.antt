@@ -1,4 +1,4 @@
--- What a parse says of the options of a subcommand, by the text that it has for each.
+-- The options of a subcommand, by the text that a parse has for each.
 use Rattle.std.specs.Prelude.{◌≡◌, ℕ, ◌<◌, ◌^◌, Bool, true, false, List, Option, Some, None, codes}
 use Rattle.std.specs.Str.Parse.{IsNumeral, digits_value, without_leading_plus}
 use Rattle.clap.specs.Words.{Row, Text, one_of}
