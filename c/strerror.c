@@ -33,13 +33,16 @@ static const char *const sentences[] = {
 	[-TAGS_NULL] = "a pointer is NULL",
 	[-TAGS_IN_USE] = "tags are held or posted",
 	[-TAGS_HANDS_WAIT] = "hands stand in a wait group",
+	[-TAGS_TIMED_OUT] = "no tag was found free in time",
+	[-TAGS_BAD_TIME] = "there is no such clock, or no such time",
+	[-TAGS_BAD_EVENT] = "there is no eventfd, or too many hands wait for it",
 };
 
 const char *tags_strerror(int32_t status)
 {
 	if (status >= 0)
 		return sentences[0];
-	if (status < TAGS_HANDS_WAIT)
+	if (status < TAGS_BAD_EVENT)
 		return "there is no such status";
 	return sentences[-status];
 }

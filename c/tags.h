@@ -7,15 +7,15 @@
  *
  * The library is proved: under every schedule of the threads no tag and no slot
  * ever has two holders, no call changes what another hand holds, and the sums
- * that tags_close() fills in balance. tags_get_blocking(), tags_ring() and
- * tags_strerror() are written in C; they are tested, not proved.
+ * that tags_close() fills in balance. What takes a bell, and tags_strerror(), is
+ * written in C; it is tested, not proved.
  *
  * Threads
  *   A handle, a struct tags_pool or a struct tags_hand, may be in one call at a
  *   time. It may be passed to another thread, synchronized as by a mutex or by
  *   pthread_join(). Handles of one pool may be in calls at once, on any threads.
- *   Only tags_get_blocking() blocks, and only tags_open(), tags_join() and
- *   tags_resize() take memory. No call may be made from a signal handler, or in
+ *   Only tags_get_blocking() and tags_get_timed() block, and only tags_open(),
+ *   tags_join() and tags_resize() take memory. No call may be made from a signal handler, or in
  *   the forked child of a process with threads.
  *
  * Arguments
@@ -41,14 +41,26 @@ extern "C" {
 #endif
 
 #define TAGS_VERSION_MAJOR 0
-#define TAGS_VERSION_MINOR 1
+#define TAGS_VERSION_MINOR 2
 
+/* The library has a symbol for each call, and defines both of them for that. */
+#ifndef TAGS_CALL
 #define TAGS_CALL static inline
 #ifdef __GNUC__
 #define TAGS_CHECKED static inline __attribute__((warn_unused_result))
 #else
 #define TAGS_CHECKED static inline
 #endif
+#endif
+
+/* A call that is not defined in line, whose answer must not be ignored. */
+#ifdef __GNUC__
+#define TAGS_ANSWER __attribute__((warn_unused_result))
+#else
+#define TAGS_ANSWER
+#endif
+
+struct timespec;
 
 /** enum tags_status - what a call returns that has no tag and no count to return */
 enum tags_status {
@@ -113,7 +125,13 @@ enum tags_status {
 	/** tags of the pool are held or posted */
 	TAGS_IN_USE = -29,
 	/** hands of the pool stand in a wait group */
-	TAGS_HANDS_WAIT = -30
+	TAGS_HANDS_WAIT = -30,
+	/** no tag was found free until the deadline */
+	TAGS_TIMED_OUT = -31,
+	/** a clock that the call does not know, or nanoseconds that are no part of a second */
+	TAGS_BAD_TIME = -32,
+	/** the bell has no eventfd, the number is none, or 64 hands are listed already */
+	TAGS_BAD_EVENT = -33
 };
 
 enum {
@@ -124,7 +142,9 @@ enum {
 	/** the most hands of a pool */
 	TAGS_MAX_HANDS = 64,
 	/** the most tags of one tags_clear_batch() */
-	TAGS_MAX_BATCH = 64
+	TAGS_MAX_BATCH = 64,
+	/** the wait groups of a pool */
+	TAGS_GROUPS = 8
 };
 
 /** struct tags_pool - the handle of a pool; it is empty if all bytes are 0 */
@@ -141,17 +161,45 @@ struct tags_hand {
 	void *object;
 };
 
-/** struct tags_bell - the futex on which threads wait for a tag; initially all bytes 0 */
+/**
+ * struct tags_bell - where a pool's threads wait for a tag; initially all bytes 0
+ *
+ * All of it is private to the library.
+ */
 struct tags_bell {
-	/** @rings: how often it rang; private to the library */
-	uint32_t rings;
+	/** @sleepers: threads that sleep, or are about to, and that no ring has woken */
+	uint32_t sleepers;
+	/** @listeners: hands in @listening */
+	uint32_t listeners;
+	/** @event: 0, or 1 more than the number of an eventfd */
+	uint32_t event;
+	/** @next: the group with which the next look for sleepers begins */
+	uint32_t next;
+	/** @waking: threads that a ring woke, and that have not tried since */
+	int32_t waking;
+	/** @depth: how many ordinary tags there are, once a thread has slept */
+	int32_t depth;
+	/** @rings: the futex of each wait group: how often it rang */
+	uint32_t rings[TAGS_GROUPS];
+	/** @asleep: the sleepers of each group */
+	uint32_t asleep[TAGS_GROUPS];
+	/** @listening: the hands that wait for an event */
+	void *listening[TAGS_MAX_HANDS];
+};
+
+/** struct tags_grants - whom a clear granted a wakeup */
+struct tags_grants {
+	/** @woken: how many waiters */
+	uint32_t woken;
+	/** @in_group: how many of them in each wait group */
+	uint8_t in_group[TAGS_GROUPS];
 };
 
 /** initializer of an empty handle */
 #define TAGS_EMPTY { 0, 0 }
 
 /** initializer of a bell */
-#define TAGS_BELL { 0 }
+#define TAGS_BELL { 0, 0, 0, 0, 0, 0, { 0 }, { 0 }, { 0 } }
 
 /** @shift of struct tags_options: the largest that gives a set of 4 tags or more 4 whole words */
 #define TAGS_DEFAULT_SHIFT (-1)
@@ -257,6 +305,12 @@ int32_t tags_library_get_shallow(struct tags_hand *hand, uint32_t depth);
 int32_t tags_library_get_batch(struct tags_hand *hand, uint32_t n, uint64_t *won);
 int32_t tags_library_clear(struct tags_hand *hand, uint32_t tag);
 int32_t tags_library_clear_batch(struct tags_hand *hand, const uint32_t *tags, size_t count);
+int32_t tags_library_clear_granted(struct tags_hand *hand, uint32_t tag,
+				   struct tags_grants *grants);
+int32_t tags_library_clear_batch_granted(struct tags_hand *hand, const uint32_t *tags,
+					 size_t count, struct tags_grants *grants);
+int32_t tags_library_get_write(struct tags_hand *hand, uint64_t value);
+int32_t tags_library_read_clear(struct tags_hand *hand, uint32_t tag, uint64_t *value);
 int32_t tags_library_read(struct tags_hand *hand, uint32_t tag, uint64_t *value);
 int32_t tags_library_write(struct tags_hand *hand, uint32_t tag, uint64_t value, uint64_t *former);
 int32_t tags_library_post(struct tags_hand *hand, uint32_t tag);
@@ -267,6 +321,87 @@ int32_t tags_library_show(struct tags_hand *hand, uint32_t kind, struct tags_siz
 int32_t tags_library_wakes(struct tags_hand *hand, struct tags_counts *counts);
 int32_t tags_library_prepare(struct tags_hand *hand);
 int32_t tags_library_finish(struct tags_hand *hand);
+
+/*
+ * The thread sanitizer does not see the library's own steps. So where it is on, the
+ * calls tell it that what was done before a tag was given away is seen by whoever
+ * gets it. The library's C files, which are built without it, look for it at run time.
+ */
+#if defined __SANITIZE_THREAD__
+#define TAGS_SANITIZED 1
+#elif defined __has_feature
+#if __has_feature(thread_sanitizer)
+#define TAGS_SANITIZED 1
+#endif
+#endif
+
+#if defined TAGS_SANITIZED || defined TAGS_LIBRARY
+/* an address for each tag, and one for hands */
+extern char tags_library_order[TAGS_MAX_TOTAL + 1];
+#ifdef TAGS_LIBRARY
+__attribute__((weak)) void __tsan_acquire(void *address);
+__attribute__((weak)) void __tsan_release(void *address);
+#define TAGS_SEES(at) (__tsan_acquire ? __tsan_acquire(&tags_library_order[at]) : (void)0)
+#define TAGS_SHOWS(at) (__tsan_release ? __tsan_release(&tags_library_order[at]) : (void)0)
+#else
+void __tsan_acquire(void *address);
+void __tsan_release(void *address);
+#define TAGS_SEES(at) __tsan_acquire(&tags_library_order[at])
+#define TAGS_SHOWS(at) __tsan_release(&tags_library_order[at])
+#endif
+#else
+#define TAGS_SEES(at) ((void)0)
+#define TAGS_SHOWS(at) ((void)0)
+#endif
+
+/* What a call does inside is not looked at, as where it moves a hand by a copy that the sanitizer sees. */
+#ifdef TAGS_SANITIZED
+void AnnotateIgnoreReadsBegin(const char *file, int line);
+void AnnotateIgnoreReadsEnd(const char *file, int line);
+void AnnotateIgnoreWritesBegin(const char *file, int line);
+void AnnotateIgnoreWritesEnd(const char *file, int line);
+#endif
+
+static inline int32_t tags_unseen(int32_t status)
+{
+#ifdef TAGS_SANITIZED
+	AnnotateIgnoreWritesEnd(__FILE__, __LINE__);
+	AnnotateIgnoreReadsEnd(__FILE__, __LINE__);
+#endif
+	return status;
+}
+
+static inline void tags_unsee(void)
+{
+#ifdef TAGS_SANITIZED
+	AnnotateIgnoreReadsBegin(__FILE__, __LINE__);
+	AnnotateIgnoreWritesBegin(__FILE__, __LINE__);
+#endif
+}
+
+static inline int32_t tags_won(int32_t tag)
+{
+	if (tag >= 0)
+		TAGS_SEES(tag);
+	return tag;
+}
+
+static inline void tags_lost(uint32_t tag)
+{
+	if (tag < TAGS_MAX_TOTAL)
+		TAGS_SHOWS(tag);
+}
+
+static inline void tags_lost_all(const uint32_t *tags, size_t count)
+{
+#if defined TAGS_SANITIZED || defined TAGS_LIBRARY
+	for (size_t i = 0; count <= TAGS_MAX_BATCH && i < count; i++)
+		tags_lost(tags[i]);
+#else
+	(void)tags;
+	(void)count;
+#endif
+}
 
 /*
  * Pools and hands
@@ -311,11 +446,16 @@ TAGS_CHECKED int32_t tags_open(struct tags_pool *pool, const struct tags_options
  */
 TAGS_CHECKED int32_t tags_join(struct tags_pool *pool, struct tags_hand *hand, uint32_t flags)
 {
+	int32_t status;
+
 	if (!pool || !hand)
 		return TAGS_NULL;
 	if (&pool->full == &hand->full)
 		return hand->full ? TAGS_NOT_EMPTY : TAGS_BAD_HANDLE;
-	return tags_library_join(pool, hand, flags);
+	tags_unsee();
+	status = tags_unseen(tags_library_join(pool, hand, flags));
+	TAGS_SEES(TAGS_MAX_TOTAL);
+	return status;
 }
 
 /**
@@ -334,7 +474,9 @@ TAGS_CALL int32_t tags_leave(struct tags_hand *hand)
 {
 	if (!hand)
 		return TAGS_NULL;
-	return tags_library_leave(hand);
+	TAGS_SHOWS(TAGS_MAX_TOTAL);
+	tags_unsee();
+	return tags_unseen(tags_library_leave(hand));
 }
 
 /**
@@ -363,7 +505,8 @@ TAGS_CHECKED int32_t tags_resize(struct tags_pool *pool, uint32_t total)
 {
 	if (!pool)
 		return TAGS_NULL;
-	return tags_library_resize(pool, total);
+	tags_unsee();
+	return tags_unseen(tags_library_resize(pool, total));
 }
 
 /**
@@ -380,7 +523,8 @@ TAGS_CHECKED int32_t tags_close(struct tags_pool *pool, struct tags_sums *sums)
 {
 	if (!pool || !sums)
 		return TAGS_NULL;
-	return tags_library_close(pool, sums);
+	tags_unsee();
+	return tags_unseen(tags_library_close(pool, sums));
 }
 
 /*
@@ -403,7 +547,7 @@ TAGS_CHECKED int32_t tags_get(struct tags_hand *hand)
 {
 	if (!hand)
 		return TAGS_NULL;
-	return tags_library_get(hand);
+	return tags_won(tags_library_get(hand));
 }
 
 /**
@@ -419,7 +563,7 @@ TAGS_CHECKED int32_t tags_get_reserved(struct tags_hand *hand)
 {
 	if (!hand)
 		return TAGS_NULL;
-	return tags_library_get_reserved(hand);
+	return tags_won(tags_library_get_reserved(hand));
 }
 
 /**
@@ -439,7 +583,7 @@ TAGS_CHECKED int32_t tags_get_shallow(struct tags_hand *hand, uint32_t depth)
 {
 	if (!hand)
 		return TAGS_NULL;
-	return tags_library_get_shallow(hand, depth);
+	return tags_won(tags_library_get_shallow(hand, depth));
 }
 
 /**
@@ -460,9 +604,17 @@ TAGS_CHECKED int32_t tags_get_shallow(struct tags_hand *hand, uint32_t depth)
  */
 TAGS_CHECKED int32_t tags_get_batch(struct tags_hand *hand, uint32_t n, uint64_t *won)
 {
+	int32_t first;
+
 	if (!hand || !won)
 		return TAGS_NULL;
-	return tags_library_get_batch(hand, n, won);
+	first = tags_library_get_batch(hand, n, won);
+#ifdef TAGS_SANITIZED
+	for (int32_t i = 0; first >= 0 && i < 64; i++)
+		if (*won >> i & 1)
+			tags_won(first + i);
+#endif
+	return first;
 }
 
 /*
@@ -474,9 +626,10 @@ TAGS_CHECKED int32_t tags_get_batch(struct tags_hand *hand, uint32_t n, uint64_t
  * @hand: the hand that holds it
  * @tag: the tag
  *
+ * If threads or event loops wait for tags, tags_give() is the call to make.
+ *
  * Return: how many waiters were granted a wakeup, which is 0 unless some hand
- * is in a wait group. Pass it to tags_ring() if threads wait with
- * tags_get_blocking(). Otherwise TAGS_BAD_HANDLE, TAGS_NO_SUCH_TAG or
+ * is in a wait group. Otherwise TAGS_BAD_HANDLE, TAGS_NO_SUCH_TAG or
  * TAGS_NOT_HELD.
  *
  * Since: 0.1
@@ -485,6 +638,7 @@ TAGS_CALL int32_t tags_clear(struct tags_hand *hand, uint32_t tag)
 {
 	if (!hand)
 		return TAGS_NULL;
+	tags_lost(tag);
 	return tags_library_clear(hand, tag);
 }
 
@@ -507,12 +661,89 @@ TAGS_CALL int32_t tags_clear_batch(struct tags_hand *hand, const uint32_t *tags,
 {
 	if (!hand || !tags)
 		return TAGS_NULL;
+	tags_lost_all(tags, count);
 	return tags_library_clear_batch(hand, tags, count);
+}
+
+/**
+ * tags_clear_granted() - give a held tag back, and report whom that woke
+ * @hand: the hand that holds it
+ * @tag: the tag
+ * @grants: filled in with how many waiters were granted a wakeup, in each group
+ *
+ * For callers that sleep by other means, between tags_prepare() and tags_finish().
+ *
+ * Return: as tags_clear().
+ *
+ * Since: 0.2
+ */
+TAGS_CALL int32_t tags_clear_granted(struct tags_hand *hand, uint32_t tag,
+				     struct tags_grants *grants)
+{
+	if (!hand || !grants)
+		return TAGS_NULL;
+	tags_lost(tag);
+	return tags_library_clear_granted(hand, tag, grants);
+}
+
+/**
+ * tags_clear_batch_granted() - give several ordinary tags back, and report whom that woke
+ * @hand: the hand that holds them
+ * @tags: the tags, each of them once
+ * @count: how many, 1 to TAGS_MAX_BATCH
+ * @grants: filled in with how many waiters were granted a wakeup, in each group
+ *
+ * Return: as tags_clear_batch().
+ *
+ * Since: 0.2
+ */
+TAGS_CALL int32_t tags_clear_batch_granted(struct tags_hand *hand, const uint32_t *tags,
+					   size_t count, struct tags_grants *grants)
+{
+	if (!hand || !tags || !grants)
+		return TAGS_NULL;
+	tags_lost_all(tags, count);
+	return tags_library_clear_batch_granted(hand, tags, count, grants);
 }
 
 /*
  * Using slots, and passing tags from hand to hand
  */
+
+/**
+ * tags_get_write() - take a free ordinary tag and write its slot
+ * @hand: the hand that gets the tag
+ * @value: a number, or a pointer cast to uintptr_t
+ *
+ * Return: as tags_get().
+ *
+ * Since: 0.2
+ */
+TAGS_CHECKED int32_t tags_get_write(struct tags_hand *hand, uint64_t value)
+{
+	if (!hand)
+		return TAGS_NULL;
+	return tags_won(tags_library_get_write(hand, value));
+}
+
+/**
+ * tags_read_clear() - read the slot of a held tag and give the tag back
+ * @hand: the hand that holds it
+ * @tag: the tag
+ * @value: filled in with the value
+ *
+ * Return: as tags_clear().
+ *
+ * Since: 0.2
+ */
+TAGS_CALL int32_t tags_read_clear(struct tags_hand *hand, uint32_t tag, uint64_t *value)
+{
+	if (!hand || !value)
+		return TAGS_NULL;
+	tags_lost(tag);
+	return tags_library_read_clear(hand, tag, value);
+}
+
 
 /**
  * tags_read() - read the slot of a held tag
@@ -536,7 +767,7 @@ TAGS_CALL int32_t tags_read(struct tags_hand *hand, uint32_t tag, uint64_t *valu
  * @hand: the hand that holds it
  * @tag: the tag
  * @value: a number, or a pointer cast to uintptr_t
- * @former: filled in with the former value
+ * @former: NULL, or filled in with the former value
  *
  * Return: TAGS_OK. Otherwise TAGS_BAD_HANDLE, TAGS_NO_SUCH_TAG or TAGS_NOT_HELD.
  *
@@ -545,9 +776,11 @@ TAGS_CALL int32_t tags_read(struct tags_hand *hand, uint32_t tag, uint64_t *valu
 TAGS_CALL int32_t tags_write(struct tags_hand *hand, uint32_t tag, uint64_t value,
 			     uint64_t *former)
 {
-	if (!hand || !former)
+	uint64_t unused;
+
+	if (!hand)
 		return TAGS_NULL;
-	return tags_library_write(hand, tag, value, former);
+	return tags_library_write(hand, tag, value, former ? former : &unused);
 }
 
 /**
@@ -566,6 +799,7 @@ TAGS_CALL int32_t tags_post(struct tags_hand *hand, uint32_t tag)
 {
 	if (!hand)
 		return TAGS_NULL;
+	tags_lost(tag);
 	return tags_library_post(hand, tag);
 }
 
@@ -581,9 +815,14 @@ TAGS_CALL int32_t tags_post(struct tags_hand *hand, uint32_t tag)
  */
 TAGS_CHECKED int32_t tags_take(struct tags_hand *hand, uint32_t tag)
 {
+	int32_t status;
+
 	if (!hand)
 		return TAGS_NULL;
-	return tags_library_take(hand, tag);
+	status = tags_library_take(hand, tag);
+	if (status == TAGS_OK)
+		tags_won((int32_t)tag);
+	return status;
 }
 
 /**
@@ -658,22 +897,18 @@ TAGS_CALL int32_t tags_wakes(struct tags_hand *hand, struct tags_counts *counts)
 }
 
 /*
- * Waiting for an ordinary tag
+ * Waiting for an ordinary tag. A pool has one bell, for all that wait for its
+ * tags, and each thread that gives ordinary tags back rings it: by tags_give()
+ * or tags_give_batch(), or else by tags_ring() after the clear. Then no thread
+ * sleeps, and no hand stays untold, beside a tag that became free since it began
+ * to wait. That is tested, not proved. A thread must not sleep while it holds the
+ * tags that the others wait for.
  */
 
 /**
  * tags_get_blocking() - take a free ordinary tag, and sleep while there is none
  * @hand: the hand that gets the tag
  * @bell: the pool's bell
- *
- * A pool has one bell, for all threads that wait for its tags. Each thread that
- * gives ordinary tags back must pass what tags_clear() or tags_clear_batch()
- * returned to tags_ring(), with that bell.
- *
- * A thread must not sleep while it holds the tags that the others wait for.
- * Completions are charged in batches of up to 8, so a waiter may stay asleep
- * while some tag is free, as long as other tags are still to be given back. That
- * a waiter is woken is tested, not proved.
  *
  * Return: the tag. Otherwise TAGS_BAD_HANDLE, TAGS_SPENT, TAGS_NO_SUCH_TAG if
  * the pool has no ordinary tag, or TAGS_WAITING if the hand would have to wait
@@ -684,17 +919,131 @@ TAGS_CALL int32_t tags_wakes(struct tags_hand *hand, struct tags_counts *counts)
 int32_t tags_get_blocking(struct tags_hand *hand, struct tags_bell *bell);
 
 /**
- * tags_ring() - wake the threads that sleep, if a clear granted a wakeup
+ * tags_get_timed() - take a free ordinary tag, and sleep until a deadline while there is none
+ * @hand: the hand that gets the tag
+ * @bell: the pool's bell
+ * @clock: CLOCK_MONOTONIC or CLOCK_REALTIME
+ * @deadline: when to give up, by that clock
+ *
+ * After the deadline it is a single try. A hand whose time was up is in no wait
+ * group, and a wakeup that it was granted goes to another thread.
+ *
+ * Return: the tag. Otherwise TAGS_BAD_TIME first, which is for another clock or
+ * for nanoseconds outside 0 to 999,999,999; TAGS_TIMED_OUT; or as from
+ * tags_get_blocking().
+ *
+ * Since: 0.2
+ */
+TAGS_ANSWER int32_t tags_get_timed(struct tags_hand *hand, struct tags_bell *bell, int32_t clock,
+		       const struct timespec *deadline);
+
+/**
+ * tags_give() - give a held tag back, and wake a thread that waits for one
+ * @hand: the hand that holds the tag
+ * @bell: the pool's bell
+ * @tag: the tag
+ *
+ * A thread that sleeps is woken whether or not this clear completes a batch.
+ *
+ * Return: as tags_clear().
+ *
+ * Since: 0.2
+ */
+int32_t tags_give(struct tags_hand *hand, struct tags_bell *bell, uint32_t tag);
+
+/**
+ * tags_give_batch() - give several ordinary tags back, and wake as many threads
+ * @hand: the hand that holds the tags
+ * @bell: the pool's bell
+ * @tags: the tags, each of them once
+ * @count: how many, 1 to TAGS_MAX_BATCH
+ *
+ * Return: as tags_clear_batch().
+ *
+ * Since: 0.2
+ */
+int32_t tags_give_batch(struct tags_hand *hand, struct tags_bell *bell, const uint32_t *tags,
+			size_t count);
+
+/**
+ * tags_ring() - wake threads that sleep, as many as there are tags
  * @bell: the pool's bell
  * @woken: what tags_clear() or tags_clear_batch() returned
  *
- * Wrap it around the clear: tags_ring(&bell, tags_clear(&hand, tag)).
+ * Wrap it around the clear: tags_ring(&bell, tags_clear(&hand, tag)). After a
+ * clear that was refused it does nothing. Where many threads wait for few tags,
+ * tags_give() takes a fraction of the processor time.
  *
  * Return: @woken.
  *
  * Since: 0.1
  */
 int32_t tags_ring(struct tags_bell *bell, int32_t woken);
+
+/**
+ * tags_ring_granted() - wake threads that sleep, first in the groups that were granted
+ * @bell: the pool's bell
+ * @grants: what tags_clear_granted() filled in
+ *
+ * It wakes as many as were granted, and at least one if any sleeps. After the clear
+ * of a batch more tags may have become free: tags_give_batch() is the call for that.
+ *
+ * Return: how many were granted, or TAGS_NULL.
+ *
+ * Since: 0.2
+ */
+int32_t tags_ring_granted(struct tags_bell *bell, const struct tags_grants *grants);
+
+/*
+ * Waiting for an ordinary tag in an event loop
+ */
+
+/**
+ * tags_set_event() - name the eventfd that is told while hands wait for an event
+ * @bell: the pool's bell
+ * @descriptor: the number of the eventfd, which stays the program's; or -1 for none
+ *
+ * Name it before the first tags_get_async(), and close it after the last one.
+ * Make it non-blocking, so that no thread that gives a tag back can block.
+ *
+ * Return: TAGS_OK, or TAGS_BAD_EVENT for a number below -1.
+ *
+ * Since: 0.2
+ */
+int32_t tags_set_event(struct tags_bell *bell, int descriptor);
+
+/**
+ * tags_get_async() - take a free ordinary tag, or be told by the eventfd when to try again
+ * @hand: the hand that gets the tag
+ * @bell: the pool's bell
+ *
+ * TAGS_NO_TAG means that the hand now waits: each tag that is given back from now
+ * on adds 1 to the eventfd. Then read the eventfd, and make this call again, for
+ * each hand that waits at the bell, until it returns something else; or end the
+ * wait by tags_cancel().
+ *
+ * Return: the tag, or TAGS_NO_TAG. Otherwise the hand does not wait: TAGS_BAD_EVENT,
+ * TAGS_BAD_HANDLE, TAGS_SPENT, TAGS_NO_SUCH_TAG if the pool has no ordinary tag,
+ * or TAGS_WAITING if it is in a wait group through tags_prepare().
+ *
+ * Since: 0.2
+ */
+TAGS_ANSWER int32_t tags_get_async(struct tags_hand *hand, struct tags_bell *bell);
+
+/**
+ * tags_cancel() - end a wait that tags_get_async() began
+ * @hand: the hand that waits
+ * @bell: the pool's bell
+ *
+ * Return: TAGS_OK, TAGS_BAD_HANDLE, or TAGS_NOT_WAITING.
+ *
+ * Since: 0.2
+ */
+int32_t tags_cancel(struct tags_hand *hand, struct tags_bell *bell);
+
+/*
+ * Waiting by other means
+ */
 
 /**
  * tags_prepare() - enter a wait group, for callers that sleep by other means

@@ -98,9 +98,8 @@ static void *submit(void *argument)
 
 	for (uint32_t i = self->number; i < REQUESTS; i += SUBMITTERS) {
 		int32_t tag = must("tags_get_blocking", tags_get_blocking(&self->hand, &bell));
-		uint64_t former;
 
-		must("tags_write", tags_write(&self->hand, (uint32_t)tag, i, &former));
+		must("tags_write", tags_write(&self->hand, (uint32_t)tag, i, NULL));
 		must("tags_post", tags_post(&self->hand, (uint32_t)tag));
 		device_push(tag);
 	}
@@ -118,7 +117,7 @@ static void *complete(void *argument)
 		must("tags_take", tags_take(&self->hand, (uint32_t)tag));
 		must("tags_read", tags_read(&self->hand, (uint32_t)tag, &number));
 		requests[number].done++;
-		must("tags_clear", tags_ring(&bell, tags_clear(&self->hand, (uint32_t)tag)));
+		must("tags_give", tags_give(&self->hand, &bell, (uint32_t)tag));
 	}
 	return NULL;
 }

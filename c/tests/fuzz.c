@@ -271,6 +271,39 @@ static void try_clear(void)
 	compare("clear", tags_clear(&handles[at].hand, tag), model_clear(&models[at], tag));
 }
 
+static void try_clear_granted(void)
+{
+	uint32_t at = hand_handle();
+	uint32_t tag = any_tag(at);
+	struct tags_grants found = { 5, { 5 } };
+	struct tags_grants wanted = { 5, { 5 } };
+
+	compare("clear_granted", tags_clear_granted(&handles[at].hand, tag, &found),
+		model_clear_granted(&models[at], tag, &wanted));
+	compare_filled("clear_granted", &found, &wanted, sizeof(found));
+}
+
+static void try_read_clear(void)
+{
+	uint32_t at = hand_handle();
+	uint32_t tag = any_tag(at);
+	uint64_t found = 5;
+	uint64_t wanted = 5;
+
+	compare("read_clear", tags_read_clear(&handles[at].hand, tag, &found),
+		model_read_clear(&models[at], tag, &wanted));
+	compare_filled("read_clear", &found, &wanted, sizeof(found));
+}
+
+static void try_get_write(void)
+{
+	uint32_t at = hand_handle();
+	uint64_t value = (uint64_t)draw() << 32 | draw();
+
+	compare("get_write", tags_get_write(&handles[at].hand, value),
+		model_get_write(&models[at], value));
+}
+
 /* Lists some of the tags that the hand holds. */
 static size_t list_held(uint32_t at, uint32_t *tags, size_t most)
 {
@@ -285,6 +318,8 @@ static size_t list_held(uint32_t at, uint32_t *tags, size_t most)
 
 static void try_clear_batch(void)
 {
+	struct tags_grants found = { 5, { 5 } };
+	struct tags_grants wanted = { 5, { 5 } };
 	uint32_t tags[TAGS_MAX_BATCH] = { 0 };
 	uint32_t at = hand_handle();
 	size_t n = list_held(at, tags, below(TAGS_MAX_BATCH + 1));
@@ -296,8 +331,15 @@ static void try_clear_batch(void)
 	/* a longer list is refused before it is read */
 	if (seldom(20))
 		n = seldom(2) ? TAGS_MAX_BATCH + 1 : SIZE_MAX / 8;
-	compare("clear_batch", tags_clear_batch(&handles[at].hand, tags, n),
-		model_clear_batch(&models[at], tags, n));
+	if (seldom(2)) {
+		compare("clear_batch", tags_clear_batch(&handles[at].hand, tags, n),
+			model_clear_batch(&models[at], tags, n));
+		return;
+	}
+	compare("clear_batch_granted",
+		tags_clear_batch_granted(&handles[at].hand, tags, n, &found),
+		model_clear_batch_granted(&models[at], tags, n, &wanted));
+	compare_filled("clear_batch_granted", &found, &wanted, sizeof(found));
 }
 
 /*
@@ -482,11 +524,12 @@ static const struct {
 	{ try_post, 1 },	  { try_take, 3 },	   { try_holds, 1 },
 	{ try_prepare, 1 },	  { try_finish, 1 },	   { try_busy, 1 },
 	{ try_show, 1 },	  { try_wakes, 1 },	   { try_resize, 1 },
+	{ try_clear_granted, 1 }, { try_read_clear, 1 },   { try_get_write, 1 },
 };
 
 static void try_any(void)
 {
-	uint32_t turn = below(31);
+	uint32_t turn = below(34);
 	size_t at = 0;
 
 	while (turn >= tries[at].turns)

@@ -1,6 +1,8 @@
 /* The model of held tags: their slots, clears, and the wakeups that clears grant. */
 #include "model.h"
 
+#include <string.h>
+
 /* Returns TAGS_OK if the hand holds the tag, otherwise why it does not. */
 static int32_t find_held(const struct model *hand, uint32_t tag)
 {
@@ -98,6 +100,60 @@ int32_t model_clear_batch(struct model *hand, const uint32_t *tags, size_t n)
 	for (size_t i = 0; i < n; i++)
 		give(hand, tags[i], FREE);
 	return count(hand->pool, (uint32_t)n);
+}
+
+/* What a clear added to the grants of each group. */
+static void fill_grants(const struct model *hand, const uint32_t *before, struct tags_grants *grants)
+{
+	grants->woken = 0;
+	for (int i = 0; i < GROUPS; i++) {
+		grants->in_group[i] = (uint8_t)(hand->pool->granted[i] - before[i]);
+		grants->woken += grants->in_group[i];
+	}
+}
+
+int32_t model_clear_granted(struct model *hand, uint32_t tag, struct tags_grants *grants)
+{
+	uint32_t before[GROUPS] = { 0 };
+	int32_t woken;
+
+	if (hand->pool)
+		memcpy(before, hand->pool->granted, sizeof(before));
+	woken = model_clear(hand, tag);
+	if (woken >= 0)
+		fill_grants(hand, before, grants);
+	return woken;
+}
+
+int32_t model_clear_batch_granted(struct model *hand, const uint32_t *tags, size_t n,
+				  struct tags_grants *grants)
+{
+	uint32_t before[GROUPS] = { 0 };
+	int32_t woken;
+
+	if (hand->pool)
+		memcpy(before, hand->pool->granted, sizeof(before));
+	woken = model_clear_batch(hand, tags, n);
+	if (woken >= 0)
+		fill_grants(hand, before, grants);
+	return woken;
+}
+
+int32_t model_get_write(struct model *hand, uint64_t value)
+{
+	int32_t tag = model_get(hand);
+	uint64_t former;
+
+	if (tag >= 0)
+		model_write(hand, (uint32_t)tag, value, &former);
+	return tag;
+}
+
+int32_t model_read_clear(struct model *hand, uint32_t tag, uint64_t *value)
+{
+	int32_t status = model_read(hand, tag, value);
+
+	return status ? status : model_clear(hand, tag);
 }
 
 int32_t model_read(struct model *hand, uint32_t tag, uint64_t *value)

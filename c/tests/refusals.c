@@ -46,6 +46,8 @@ static struct tags_hand *as_hand(struct tags_pool *pool)
 static void refuse_null(struct tags_pool *pool, struct tags_hand *hand)
 {
 	struct tags_bell bell = TAGS_BELL;
+	struct tags_grants grants;
+	const uint32_t tag = 2;
 	uint64_t value = 5;
 
 	WANT(tags_open(NULL, &twelve), -28);
@@ -63,7 +65,7 @@ static void refuse_null(struct tags_pool *pool, struct tags_hand *hand)
 	WANT(tags_clear(NULL, 2), -28);
 	WANT(tags_clear_batch(hand, NULL, 0), -28);
 	WANT(tags_read(hand, 2, NULL), -28);
-	WANT(tags_write(hand, 2, 1, NULL), -28);
+	WANT(tags_write(NULL, 2, 1, &value), -28);
 	WANT(tags_post(NULL, 2), -28);
 	WANT(tags_take(NULL, 2), -28);
 	WANT(tags_holds(NULL, 2), -28);
@@ -75,6 +77,26 @@ static void refuse_null(struct tags_pool *pool, struct tags_hand *hand)
 	WANT(tags_get_blocking(NULL, &bell), -28);
 	WANT(tags_get_blocking(hand, NULL), -28);
 	WANT(tags_ring(NULL, 1), -28);
+	WANT(tags_ring_granted(NULL, &grants), -28);
+	WANT(tags_ring_granted(&bell, NULL), -28);
+	WANT(tags_give(NULL, &bell, 2), -28);
+	WANT(tags_give(hand, NULL, 2), -28);
+	WANT(tags_give_batch(NULL, &bell, &tag, 1), -28);
+	WANT(tags_give_batch(hand, NULL, &tag, 1), -28);
+	WANT(tags_give_batch(hand, &bell, NULL, 1), -28);
+	WANT(tags_clear_granted(NULL, 2, &grants), -28);
+	WANT(tags_clear_granted(hand, 2, NULL), -28);
+	WANT(tags_clear_batch_granted(NULL, &tag, 1, &grants), -28);
+	WANT(tags_clear_batch_granted(hand, NULL, 1, &grants), -28);
+	WANT(tags_clear_batch_granted(hand, &tag, 1, NULL), -28);
+	WANT(tags_get_write(NULL, 1), -28);
+	WANT(tags_read_clear(NULL, 2, &value), -28);
+	WANT(tags_read_clear(hand, 2, NULL), -28);
+	WANT(tags_get_async(NULL, &bell), -28);
+	WANT(tags_get_async(hand, NULL), -28);
+	WANT(tags_cancel(NULL, &bell), -28);
+	WANT(tags_cancel(hand, NULL), -28);
+	WANT(tags_set_event(NULL, 1), -28);
 }
 
 static void refuse_options(void)
@@ -110,6 +132,7 @@ static void refuse_handle(struct tags_hand *hand)
 {
 	struct tags_sizes sizes;
 	struct tags_counts counts;
+	struct tags_grants grants = { .woken = 5 };
 	const uint32_t tag = 2;
 	uint64_t value = 5;
 
@@ -118,6 +141,10 @@ static void refuse_handle(struct tags_hand *hand)
 	WANT(tags_get_shallow(hand, 3), -12);
 	WANT(tags_get_batch(hand, 1, &value), -12);
 	WANT(tags_clear(hand, tag), -12);
+	WANT(tags_clear_granted(hand, tag, &grants), -12);
+	WANT(tags_clear_batch_granted(hand, &tag, 1, &grants), -12);
+	WANT(tags_get_write(hand, 1), -12);
+	WANT(tags_read_clear(hand, tag, &value), -12);
 	WANT(tags_clear_batch(hand, &tag, 1), -12);
 	WANT(tags_read(hand, tag, &value), -12);
 	WANT(tags_write(hand, tag, 1, &value), -12);
@@ -130,7 +157,7 @@ static void refuse_handle(struct tags_hand *hand)
 	WANT(tags_prepare(hand), -12);
 	WANT(tags_finish(hand), -12);
 	WANT(tags_leave(hand), -12);
-	WANT(value == 5, 1);
+	WANT(value == 5 && grants.woken == 5, 1);
 }
 
 static void refuse_handles(struct tags_pool *pool, struct tags_hand *hand)
@@ -138,12 +165,25 @@ static void refuse_handles(struct tags_pool *pool, struct tags_hand *hand)
 	struct tags_pool none = TAGS_EMPTY;
 	struct tags_hand idle = TAGS_EMPTY;
 	struct tags_bell bell = TAGS_BELL;
+	const uint32_t two = 2;
 	struct tags_sums sums;
 
 	refuse_handle(&idle);
 	refuse_handle(as_hand(pool));
 	WANT(tags_get_blocking(&idle, &bell), -12);
 	WANT(tags_get_blocking(as_hand(pool), &bell), -12);
+	WANT(tags_get_async(&idle, &bell), -33);
+	WANT(tags_set_event(&bell, -2), -33);
+	WANT(tags_set_event(&bell, 0), 0);
+	WANT(tags_get_async(&idle, &bell), -12);
+	WANT(tags_get_async(as_hand(pool), &bell), -12);
+	WANT(tags_cancel(&idle, &bell), -12);
+	WANT(tags_cancel(hand, &bell), -9);
+	WANT(tags_give(&idle, &bell, 2), -12);
+	WANT(tags_give(hand, &bell, 2), -3);
+	WANT(tags_give(hand, &bell, 12), -1);
+	WANT(tags_give_batch(hand, &bell, &two, 0), -5);
+	WANT(tags_give_batch(hand, &bell, &two, 1), -3);
 	WANT(tags_open(pool, &twelve), -13);
 	WANT(tags_open(as_pool(hand), &twelve), -13);
 	WANT(tags_join(pool, hand, 0), -13);
@@ -172,6 +212,7 @@ static void refuse_tags(struct tags_hand *hand, struct tags_hand *other)
 
 	for (size_t i = 0; i < sizeof(numbers) / sizeof(*numbers); i++) {
 		WANT(tags_clear(hand, numbers[i]), -1);
+		WANT(tags_read_clear(hand, numbers[i], &value), -1);
 		WANT(tags_read(hand, numbers[i], &value), -1);
 		WANT(tags_write(hand, numbers[i], 1, &value), -1);
 		WANT(tags_post(hand, numbers[i]), -1);
@@ -180,6 +221,7 @@ static void refuse_tags(struct tags_hand *hand, struct tags_hand *other)
 	}
 	WANT(tags_get(other), 2);
 	WANT(tags_clear(hand, 2), -3);
+	WANT(tags_read_clear(hand, 2, &value), -3);
 	WANT(tags_read(hand, 2, &value), -3);
 	WANT(tags_write(hand, 2, 1, &value), -3);
 	WANT(tags_post(hand, 2), -3);
@@ -334,11 +376,11 @@ static void refuse_resizes(void)
 
 static void name_statuses(void)
 {
-	for (int32_t status = TAGS_HANDS_WAIT; status < 0; status++)
+	for (int32_t status = TAGS_BAD_EVENT; status < 0; status++)
 		for (int32_t other = status + 1; other <= 0; other++)
 			WANT(strcmp(tags_strerror(status), tags_strerror(other)) != 0, 1);
 	WANT(strcmp(tags_strerror(7), tags_strerror(TAGS_OK)), 0);
-	WANT(strcmp(tags_strerror(INT32_MIN), tags_strerror(TAGS_HANDS_WAIT - 1)), 0);
+	WANT(strcmp(tags_strerror(INT32_MIN), tags_strerror(TAGS_BAD_EVENT - 1)), 0);
 }
 
 int main(void)

@@ -38,6 +38,7 @@ static void run_through_all_calls(void)
 	struct tags_hand other = TAGS_EMPTY;
 	struct tags_sizes sizes;
 	struct tags_counts counts;
+	struct tags_grants grants;
 	struct tags_sums sums;
 	uint64_t value = 5;
 	uint64_t won = 0;
@@ -49,6 +50,7 @@ static void run_through_all_calls(void)
 	WANT(tags_get(&hand), 2);
 	WANT(tags_write(&hand, 2, 70, &value), TAGS_OK);
 	WANT(value, 0);
+	WANT(tags_write(&hand, 2, 70, NULL), TAGS_OK);
 	WANT(tags_holds(&hand, 2), 1);
 	WANT(tags_post(&hand, 2), TAGS_OK);
 	WANT(tags_take(&other, 2), TAGS_OK);
@@ -59,9 +61,13 @@ static void run_through_all_calls(void)
 	WANT(won, 7);
 	WANT(tags_get_shallow(&other, 2), TAGS_TOO_SHALLOW);
 	WANT(tags_prepare(&other), 0);
-	WANT(tags_clear_batch(&hand, pair, 2), 1);
+	WANT(tags_clear_batch_granted(&hand, pair, 2, &grants), 1);
+	WANT(grants.woken, 1);
+	WANT(grants.in_group[0], 1);
+	WANT(grants.in_group[1], 0);
 	WANT(tags_finish(&other), 1);
-	WANT(tags_clear(&other, 2), 0);
+	WANT(tags_read_clear(&other, 2, &value), 0);
+	WANT(value, 70);
 	WANT(tags_busy(&hand, &bits, 1), 2);
 	WANT(bits, 33);
 	WANT(tags_show(&hand, TAGS_RESERVED, &sizes), TAGS_OK);

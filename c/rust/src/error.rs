@@ -15,6 +15,8 @@ pub enum Error {
     NoSuchTag,
     /// The pool was opened without reserved tags.
     NoReserved,
+    /// This hand does not hold the tag, or has a guard of it.
+    NotHeld,
     /// The tag is not posted, or another hand has taken it first.
     NotPosted,
     /// A batch of 0 tags, or of more than a word has.
@@ -50,9 +52,10 @@ pub enum Error {
 }
 
 /// The status of each error in tags.h.
-const NUMBERS: [(Error, i32); 17] = [
+const NUMBERS: [(Error, i32); 18] = [
     (Error::NoSuchTag, -1),
     (Error::NoReserved, -2),
+    (Error::NotHeld, -3),
     (Error::NotPosted, -4),
     (Error::BadCount, -5),
     (Error::TooShallow, -6),

@@ -1,16 +1,21 @@
 //! The hand with which a thread takes tags.
-use crate::error::{number, Result};
+use crate::error::{number, Error, Result};
+use crate::future::{GetAsync, Listeners};
 use crate::options::{Counts, Kind, Sizes};
 use crate::pool::Shared;
 use crate::raw::{self, Handle};
 use crate::tag::{Batch, Tag};
-use std::cell::UnsafeCell;
+use std::cell::{RefCell, UnsafeCell};
 use std::fmt;
 use std::sync::Arc;
+use std::time::Duration;
 
 /// The status of a get that found no tag, and of a finish that has to be repeated.
 const NO_TAG: i32 = -10;
 const AGAIN: i32 = -11;
+
+/// The status of a get whose deadline has passed.
+const TIMED_OUT: i32 = -31;
 
 /// A hand, with which one thread takes tags. It is `Send`, but not `Sync`: no two threads use it at once. It leaves its
 /// pool when it is dropped.
@@ -32,6 +37,8 @@ const AGAIN: i32 = -11;
 pub struct Hand {
     handle: UnsafeCell<Handle>,
     shared: Arc<Shared>,
+    /// A bit for each tag that [`Tag::into_number`] let go.
+    loose: RefCell<Vec<u64>>,
 }
 
 impl Hand {
@@ -39,6 +46,7 @@ impl Hand {
         Hand {
             handle: UnsafeCell::new(handle),
             shared,
+            loose: RefCell::default(),
         }
     }
 
@@ -121,6 +129,103 @@ impl Hand {
         Ok(Tag::new(self, number(answer)?))
     }
 
+    /// Takes a free ordinary tag, and sleeps up to this long while there is none. `None` means that the time is up; if
+    /// it is 0, this is a try.
+    ///
+    /// ```
+    /// # use std::time::Duration;
+    /// # use tags::{Options, Pool};
+    /// # fn main() -> tags::Result<()> {
+    /// let pool = Pool::open(&Options::new(1, 2))?;
+    /// let (first, second) = (pool.join()?, pool.join()?);
+    /// let tag = first.get_timeout(Duration::ZERO)?;
+    /// assert!(tag.is_some() && second.get_timeout(Duration::from_millis(5))?.is_none());
+    /// # Ok(())
+    /// # }
+    /// ```
+    pub fn get_timeout(&self, time: Duration) -> Result<Option<Tag<'_>>> {
+        let Some(end) = raw::deadline(time) else {
+            return self.get_blocking().map(Some);
+        };
+        let bell = self.shared.bell.as_ptr();
+        // SAFETY: as of `raw`, and the bell is only accessed by atomic operations.
+        match unsafe { raw::tags_get_timed(self.raw(), bell, raw::CLOCK_MONOTONIC, &end) } {
+            TIMED_OUT => Ok(None),
+            answer => Ok(Some(Tag::new(self, number(answer)?))),
+        }
+    }
+
+    /// Takes a free ordinary tag, and while there is none, waits without a thread: the future is woken when a hand of this
+    /// crate gives a tag back. Dropping it ends the wait. It names no runtime.
+    pub fn get_async(&self) -> GetAsync<'_> {
+        GetAsync::new(self)
+    }
+
+    pub(crate) fn listeners(&self) -> &Listeners {
+        &self.shared.listeners
+    }
+
+    /// Refuses a pool without ordinary tags, where a wait would never end.
+    pub(crate) fn check_ordinary(&self) -> Result<()> {
+        match self.show(Kind::Ordinary).depth {
+            0 => Err(Error::NoSuchTag),
+            _ => Ok(()),
+        }
+    }
+
+    /// Returns the guard of a tag that this hand let go by [`Tag::into_number`], as when the number comes back with a
+    /// completion. Any other number is refused.
+    ///
+    /// ```
+    /// # use tags::{Error, Options, Pool};
+    /// # fn main() -> tags::Result<()> {
+    /// let pool = Pool::open(&Options::new(4, 1))?;
+    /// let hand = pool.join()?;
+    /// let number = hand.get_blocking()?.into_number();
+    /// assert_eq!(hand.holds(number), Ok(true));
+    /// let tag = hand.claim(number)?;
+    /// assert_eq!(hand.claim(number).unwrap_err(), Error::NotHeld);
+    /// # drop(tag);
+    /// # Ok(())
+    /// # }
+    /// ```
+    pub fn claim(&self, number: u32) -> Result<Tag<'_>> {
+        let mut loose = self.loose.borrow_mut();
+        match loose.get_mut(number as usize / 64) {
+            Some(bits) if *bits >> (number % 64) & 1 == 1 => *bits &= !(1 << (number % 64)),
+            _ => return Err(Error::NotHeld),
+        }
+        Ok(Tag::new(self, number))
+    }
+
+    pub(crate) fn let_go(&self, number: u32) {
+        let mut loose = self.loose.borrow_mut();
+        let at = number as usize / 64;
+        if loose.len() <= at {
+            loose.resize(at + 1, 0);
+        }
+        loose[at] |= 1 << (number % 64);
+    }
+
+    /// Returns whether this hand holds the tag with this number.
+    ///
+    /// ```
+    /// # use tags::{Error, Options, Pool};
+    /// # fn main() -> tags::Result<()> {
+    /// let pool = Pool::open(&Options::new(4, 1))?;
+    /// let hand = pool.join()?;
+    /// let tag = hand.get_blocking()?;
+    /// assert_eq!((hand.holds(0), hand.holds(1)), (Ok(true), Ok(false)));
+    /// assert_eq!(hand.holds(4), Err(Error::NoSuchTag));
+    /// # drop(tag);
+    /// # Ok(())
+    /// # }
+    /// ```
+    pub fn holds(&self, number: u32) -> Result<bool> {
+        // SAFETY: as of `raw`.
+        Ok(self::number(unsafe { raw::tags_library_holds(self.raw(), number) })? == 1)
+    }
+
     /// Takes a tag that a hand of this pool has [posted](Tag::post), with its slot.
     ///
     /// ```
@@ -196,23 +301,21 @@ impl Hand {
         }
     }
 
-    /// Gives a held tag back, and wakes the sleepers if waiters were granted a wakeup.
+    /// Gives a held tag back, and wakes a thread that sleeps until one is free.
     pub(crate) fn clear(&self, number: u32) {
-        // SAFETY: as of `raw`.
-        self.ring(unsafe { raw::tags_library_clear(self.raw(), number) });
+        // SAFETY: as of `raw`, and the bell is only accessed by atomic operations.
+        Hand::expect(unsafe { raw::tags_give(self.raw(), self.shared.bell.as_ptr(), number) });
+        self.shared.listeners.tell(1);
     }
 
-    /// Gives held ordinary tags back together.
+    /// Gives held ordinary tags back together, and wakes as many threads.
     pub(crate) fn clear_batch(&self, numbers: &[u32]) {
-        // SAFETY: as of `raw`, and the length is that of the slice.
-        self.ring(unsafe {
-            raw::tags_library_clear_batch(self.raw(), numbers.as_ptr(), numbers.len())
+        let bell = self.shared.bell.as_ptr();
+        // SAFETY: as of `raw`, the length is that of the slice, and the bell is only accessed by atomic operations.
+        Hand::expect(unsafe {
+            raw::tags_give_batch(self.raw(), bell, numbers.as_ptr(), numbers.len())
         });
-    }
-
-    fn ring(&self, woken: i32) {
-        // SAFETY: the bell is only accessed by atomic operations.
-        Hand::expect(unsafe { raw::tags_ring(self.shared.bell.as_ptr(), woken) });
+        self.shared.listeners.tell(numbers.len());
     }
 
     pub(crate) fn read(&self, number: u32) -> u64 {

@@ -24,6 +24,7 @@
 //! In `examples/io_queue.rs`, threads pass requests to other threads, and wait while no tag is free.
 
 mod error;
+mod future;
 mod hand;
 mod options;
 mod pool;
@@ -31,6 +32,7 @@ mod raw;
 mod tag;
 
 pub use error::{CloseError, Error, Result};
+pub use future::GetAsync;
 pub use hand::{Hand, Wait};
 pub use options::{Counts, Kind, Options, Sizes, Totals};
 pub use pool::Pool;

@@ -1,12 +1,13 @@
 //! What opens tags, resizes them, and hands their hands out.
 use crate::error::{number, CloseError, Result};
+use crate::future::Listeners;
 use crate::hand::Hand;
 use crate::options::{Options, Totals};
 use crate::raw::{
-    tags_library_close, tags_library_join, tags_library_open, tags_library_resize, Handle, STAY,
+    tags_library_close, tags_library_join, tags_library_open, tags_library_resize, Bell, Handle,
+    STAY,
 };
 use std::fmt;
-use std::sync::atomic::AtomicU32;
 use std::sync::{Arc, Mutex, MutexGuard, PoisonError};
 
 /// Tags that threads share, each through a [`Hand`] of its own.
@@ -16,10 +17,11 @@ pub struct Pool {
     shared: Arc<Shared>,
 }
 
-/// A pool's handle, which may be in one call at a time, and the bell of its waiters.
+/// A pool's handle, which may be in one call at a time, and who waits for its tags: threads at the bell, and futures.
 pub(crate) struct Shared {
     handle: Mutex<Handle>,
-    pub bell: AtomicU32,
+    pub bell: Bell,
+    pub listeners: Listeners,
 }
 
 impl Shared {
@@ -56,7 +58,8 @@ impl Pool {
         number(unsafe { tags_library_open(&mut handle, &options.to_raw()) })?;
         let shared = Shared {
             handle: Mutex::new(handle),
-            bell: AtomicU32::new(0),
+            bell: Bell::new(),
+            listeners: Listeners::default(),
         };
         Ok(Pool {
             shared: Arc::new(shared),

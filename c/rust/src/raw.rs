@@ -1,7 +1,9 @@
 //! The exports of the library, and the types of tags.h that they take.
 use crate::options::{Counts, Sizes, Totals};
+use std::cell::UnsafeCell;
 use std::ffi::{c_char, c_void};
 use std::ptr::null_mut;
+use std::time::Duration;
 
 /// A `struct tags_pool` or a `struct tags_hand`.
 #[repr(C)]
@@ -31,6 +33,40 @@ pub struct RawOptions {
     pub flags: u32,
 }
 
+/// A `struct tags_bell`. The library accesses it by atomic operations alone.
+#[repr(C)]
+pub struct Bell {
+    counts: UnsafeCell<[u32; 22]>,
+    listening: UnsafeCell<[*mut c_void; 64]>,
+}
+
+// SAFETY: all accesses to it are atomic.
+unsafe impl Sync for Bell {}
+// SAFETY: it owns nothing that is bound to a thread.
+unsafe impl Send for Bell {}
+
+impl Bell {
+    pub const fn new() -> Bell {
+        Bell {
+            counts: UnsafeCell::new([0; 22]),
+            listening: UnsafeCell::new([null_mut(); 64]),
+        }
+    }
+
+    pub fn as_ptr(&self) -> *mut Bell {
+        std::ptr::from_ref(self).cast_mut()
+    }
+}
+
+/// A `struct timespec` of a system with 64 bits.
+#[repr(C)]
+pub struct Timespec {
+    pub seconds: i64,
+    pub nanoseconds: i64,
+}
+
+pub const CLOCK_MONOTONIC: i32 = 1;
+
 pub const ROUND_ROBIN: u32 = 1;
 pub const STAY: u32 = 1;
 
@@ -44,8 +80,6 @@ unsafe extern "C" {
     pub fn tags_library_get_reserved(hand: *mut Handle) -> i32;
     pub fn tags_library_get_shallow(hand: *mut Handle, depth: u32) -> i32;
     pub fn tags_library_get_batch(hand: *mut Handle, n: u32, won: *mut u64) -> i32;
-    pub fn tags_library_clear(hand: *mut Handle, tag: u32) -> i32;
-    pub fn tags_library_clear_batch(hand: *mut Handle, tags: *const u32, count: usize) -> i32;
     pub fn tags_library_read(hand: *mut Handle, tag: u32, value: *mut u64) -> i32;
     pub fn tags_library_write(hand: *mut Handle, tag: u32, value: u64, former: *mut u64) -> i32;
     pub fn tags_library_post(hand: *mut Handle, tag: u32) -> i32;
@@ -53,9 +87,40 @@ unsafe extern "C" {
     pub fn tags_library_busy(hand: *mut Handle, into: *mut u64, words: usize) -> i32;
     pub fn tags_library_show(hand: *mut Handle, kind: u32, sizes: *mut Sizes) -> i32;
     pub fn tags_library_wakes(hand: *mut Handle, counts: *mut Counts) -> i32;
-    pub fn tags_get_blocking(hand: *mut Handle, bell: *mut u32) -> i32;
-    pub fn tags_ring(bell: *mut u32, woken: i32) -> i32;
+    pub fn tags_library_holds(hand: *mut Handle, tag: u32) -> i32;
+    pub fn tags_get_blocking(hand: *mut Handle, bell: *mut Bell) -> i32;
+    pub fn tags_get_timed(
+        hand: *mut Handle,
+        bell: *mut Bell,
+        clock: i32,
+        end: *const Timespec,
+    ) -> i32;
+    pub fn tags_give(hand: *mut Handle, bell: *mut Bell, tag: u32) -> i32;
+    pub fn tags_give_batch(
+        hand: *mut Handle,
+        bell: *mut Bell,
+        tags: *const u32,
+        count: usize,
+    ) -> i32;
+    fn clock_gettime(clock: i32, now: *mut Timespec) -> i32;
     pub fn tags_library_prepare(hand: *mut Handle) -> i32;
     pub fn tags_library_finish(hand: *mut Handle) -> i32;
     pub fn tags_strerror(status: i32) -> *const c_char;
+}
+
+/// Returns the moment after this time by the monotonic clock, or `None` if the clock doesn't reach so far.
+pub fn deadline(after: Duration) -> Option<Timespec> {
+    let mut now = Timespec {
+        seconds: 0,
+        nanoseconds: 0,
+    };
+    // SAFETY: it writes to a local variable.
+    unsafe { clock_gettime(CLOCK_MONOTONIC, &mut now) };
+    let nanoseconds = now.nanoseconds + i64::from(after.subsec_nanos());
+    let carry = nanoseconds / 1_000_000_000;
+    let whole = i64::try_from(after.as_secs()).ok()?;
+    Some(Timespec {
+        seconds: now.seconds.checked_add(whole)?.checked_add(carry)?,
+        nanoseconds: nanoseconds % 1_000_000_000,
+    })
 }

@@ -46,6 +46,16 @@ impl<'a> Tag<'a> {
         self.hand.write(self.number, value)
     }
 
+    /// Lets the tag go without giving it back. The hand holds it until [`claim`](Hand::claim) makes a tag of the number
+    /// again.
+    #[must_use = "the hand keeps the tag until it claims this number"]
+    pub fn into_number(self) -> u32 {
+        let number = self.number;
+        self.hand.let_go(number);
+        forget(self);
+        number
+    }
+
     /// Offers the tag, with its slot, to all hands of the pool: the first that [takes](Hand::take) this number gets it.
     #[must_use = "the tag stays posted until a hand takes this number"]
     pub fn post(self) -> u32 {

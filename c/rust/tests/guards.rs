@@ -1,5 +1,6 @@
 //! Guards that give their tags back, and refused calls.
 use std::thread;
+use std::time::Duration;
 use tags::{Counts, Error, Kind, Options, Pool};
 
 fn open(total: u32, reserved: u32, hands: u32) -> Pool {
@@ -104,4 +105,32 @@ fn a_waiter_gets_the_only_tag() {
         }
     });
     assert_eq!(pool.close().unwrap().back, 2_000);
+}
+
+#[test]
+fn a_sleeper_gets_one_of_seven_tags() {
+    let pool = open(64, 0, 2);
+    let (hand, waiter) = (pool.join_in_place().unwrap(), pool.join().unwrap());
+    let mut tags: Vec<_> = (0..64).map(|_| hand.get().unwrap().unwrap()).collect();
+    let sleeper = thread::spawn(move || {
+        let tag = waiter.get_timeout(Duration::from_secs(60)).unwrap();
+        tag.is_some()
+    });
+    thread::sleep(Duration::from_millis(20));
+    tags.truncate(57);
+    assert!(sleeper.join().unwrap());
+}
+
+#[test]
+fn a_wait_ends_in_time() {
+    let pool = open(1, 0, 2);
+    let (hand, waiter) = (pool.join().unwrap(), pool.join().unwrap());
+    let tag = hand.get_timeout(Duration::MAX).unwrap();
+    assert!(waiter
+        .get_timeout(Duration::from_millis(2))
+        .unwrap()
+        .is_none());
+    assert!(waiter.prepare().is_ok());
+    drop(tag);
+    assert!(waiter.get_timeout(Duration::ZERO).unwrap().is_some());
 }

@@ -9,3 +9,4 @@ pub mod QueueMoves
 pub mod Completing
 pub mod Promising
 pub mod Crossing
+pub mod Blaming

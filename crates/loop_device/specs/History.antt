@@ -65,3 +65,9 @@ Answers history io stamp = AnswersAs io.kind history io stamp
 abbrev pub IsHistory : List Done → Type 0
 IsHistory history = (before : List Done) (d : Done) (after : List Done) → history ≡ before ++ d ∷ after
     → Answers before d.io d.stamp
+
+-- the history has one item more: the line, with what it answers after the items before it
+pub record AddsLine (old new : List Done) (io : Io) : Type 0 where
+  pub stamp : ℕ
+  pub added : new ≡ old ++ done_of io stamp ∷ []
+  pub answers : Answers old io stamp

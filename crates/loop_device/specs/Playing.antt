@@ -1,19 +1,55 @@
 -- What a successful play reports, and what its threads promise.
-use Rattle.std.specs.Prelude.{◌≡◌, ℕ, List, length}
+use Rattle.std.specs.Prelude.{◌≡◌, ◌≢◌, ◌⊎◌, ℕ, true, false, List, length}
 use Rattle.std.specs.declared.thread.PromisedHandle.{PromisedHandle}
+use Rattle.tag_model.specs.declared.totals.Totals.{Totals}
 use Rattle.tag_sets.specs.declared.tags.Tags.{Tags}
+use Rattle.loop_device.specs.declared.fault.PlayFault.{PlayFault}
+use Rattle.loop_device.specs.declared.fault.PlayFault.TheVariants.{Memory, Setup, Lost, Twice, Stranger}
+use Rattle.loop_device.specs.declared.io.Done.{Done}
 use Rattle.loop_device.specs.declared.io.Io.{Io}
 use Rattle.loop_device.specs.declared.report.Report.{Report}
 use Rattle.loop_device.specs.declared.threads.HandsBack.{HandsBack}
+use Rattle.loop_device.specs.declared.workers.Faults.{Faults}
 use Rattle.loop_device.specs.declared.workers.Worked.{Worked}
 use Rattle.loop_device.specs.History.{IsHistory}
-use Rattle.loop_device.specs.Verdict.{CarriesEachOnce}
+use Rattle.loop_device.specs.Requests.{IsLineOf}
+use Rattle.loop_device.specs.Verdict.{AreOfLog, CarriesEachOnce, IsTwice, IsLost}
+
+-- the totals of a play that got and gave back one tag for each line
+abbrev pub totals_of : List Io → Totals
+totals_of ios = record { got = length ios; back = length ios; held = 0; posted = 0 }
 
 -- what was carried out is a history with each I/O line once and no other; one tag got and given back for each line
 pub record IsPlayed (ios : List Io) (report : Report) : Type 0 where
   pub lawful : IsHistory report.done.items
   pub once : CarriesEachOnce ios report.done.items
-  pub totals : report.totals ≡ record { got = length ios; back = length ios; held = 0; posted = 0 }
+  pub totals : report.totals ≡ totals_of ios
+
+-- no thread ran into a fault that the history does not show
+pub record IsClean (faults : Faults) : Type 0 where
+  pub memory : faults.memory ≡ false
+  pub stranger : faults.stranger ≡ false
+
+-- no thread ran out of memory, and one met a stranger, the items are not all of the log, or the totals do not fit it
+pub record IsStranger (ios : List Io) (done : List Done) (totals : Totals) (faults : Faults) : Type 0 where
+  pub memory : faults.memory ≡ false
+  pub cause : (faults.stranger ≡ true) ⊎ (¬ (AreOfLog ios done)) ⊎ (CarriesEachOnce ios done × (totals ≢ totals_of ios))
+
+-- what the fault says of the play: of several faults the first in the order Memory, Stranger, Twice, Lost
+abbrev pub IsJudged : List Io → List Done → Totals → Faults → PlayFault → Type 0
+IsJudged ios done totals faults Memory = Unit {0}
+IsJudged ios done totals faults Setup = ⊥
+IsJudged ios done totals faults (Lost line) = IsClean faults × IsLost ios done line
+IsJudged ios done totals faults (Twice line) = IsClean faults × IsTwice ios done line
+IsJudged ios done totals faults Stranger = IsStranger ios done totals faults
+
+-- a line that the fault names is an I/O line of the log
+abbrev pub NamesLine : List Io → PlayFault → Type 0
+NamesLine ios Memory = Unit {0}
+NamesLine ios Setup = Unit {0}
+NamesLine ios (Lost line) = IsLineOf ios line
+NamesLine ios (Twice line) = IsLineOf ios line
+NamesLine ios Stranger = Unit {0}
 
 -- the thread of this handle returns a hand of these tags
 abbrev pub Promises : Tags ℕ → PromisedHandle Worked HandsBack → Type 0

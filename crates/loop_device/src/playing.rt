@@ -1,9 +1,9 @@
 //! Plays a log: threads that share tags carry it out.
-ghost use Rattle.std.specs.Prelude.{◌≡◌, ◌≢◌, ◌+◌, ◌<◌, ◌↔◌, All, length, IfOk, IfErr};
+ghost use Rattle.std.specs.Prelude.{◌≡◌, ◌≢◌, ◌+◌, ◌<◌, ◌↔◌, All, length, IfOk, IfErr, OnOk};
 ghost use Rattle.crossbeam_queue.specs.Passes.{IsPassOf};
 ghost use Rattle.tag_sets.specs.Hands.{IsHandOf, total_of};
 ghost use Rattle.loop_device.specs.History.{IsHistory};
-ghost use Rattle.loop_device.specs.Playing.{IsPlayed};
+ghost use Rattle.loop_device.specs.Playing.{IsPlayed, IsClean, IsJudged, NamesLine};
 ghost use Rattle.loop_device.specs.Setups.{IsLegal};
 
 use crate::device_queue::{DeviceQueue, Tagged, Worker};
@@ -39,6 +39,7 @@ pub fn play<G: Gate, R: Threads + Wait + Sync>(
 ) -> Result<Report, PlayFault>
     ensures ok { IfOk result (IsPlayed log.now.ios.items) }
     ensures setup { (result ≡ Err PlayFault.Setup) ↔ ¬ (IsLegal setup) }
+    ensures line { IfErr result (NamesLine log.now.ios.items) }
 {
     if !setup.is_legal() {
         return Err(PlayFault::Setup);
@@ -74,6 +75,7 @@ fn play_under<B: Tagged + Send + Sync, G: Gate, R: Threads + Wait + Sync>(
     requires setup { IsLegal setup }
     ensures ok { IfOk result (IsPlayed log.now.ios.items) }
     ensures fault { IfErr result (λ fault. fault ≢ PlayFault.Setup) }
+    ensures line { IfErr result (NamesLine log.now.ios.items) }
 {
     let Ok((queue, pass)) = DeviceQueue::<B>::ruled(alloc, setup.queue as usize) else {
         return Err(PlayFault::Memory);
@@ -158,7 +160,9 @@ fn judge(
 ) -> Result<Report, PlayFault>
     requires { IsHistory done.items }
     ensures ok { IfOk result (IsPlayed log.now.ios.items) }
-    ensures fault { IfErr result (λ fault. fault ≢ PlayFault.Setup) }
+    ensures report { IfOk result (λ report. (report.done ≡ done) × (report.totals ≡ totals)) }
+    ensures clean { OnOk result (IsClean faults) }
+    ensures fault { IfErr result (IsJudged log.now.ios.items done.items totals faults) }
 {
     let judged = verdict(alloc, log, done.as_slice());
     if faults.memory || judged == Err(PlayFault::Memory) {
@@ -167,7 +171,10 @@ fn judge(
     if faults.stranger {
         return Err(PlayFault::Stranger);
     }
-    judged?;
+    match judged {
+        Ok(()) => {}
+        Err(fault) => return Err(fault),
+    }
     let count = log.ios.len() as u64;
     let played = Totals {
         got: count,

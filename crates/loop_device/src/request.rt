@@ -1,8 +1,9 @@
 //! Completing one request.
-ghost use Rattle.std.specs.Prelude.{◌≡◌, IfOk, IfErr, IfSome, IsNone, OnOk};
+ghost use Rattle.std.specs.Prelude.{◌≡◌, IfOk, IfErr, IfSome, IsNone, OnOk, OnErr};
 ghost use Rattle.std.specs.List.{Contains};
 ghost use Rattle.tag_sets.specs.Hands.{IsHandOf, Holds};
 ghost use Rattle.tag_sets.specs.Holding.{HoldsSame};
+ghost use Rattle.loop_device.specs.History.{AddsLine};
 ghost use Rattle.loop_device.specs.Lines.{LinesAscend};
 ghost use Rattle.loop_device.specs.Requests.{IsLineOf, Completes, EndsRequest, EndsWithout, IsCarryFault, IsRequestFault};
 
@@ -85,8 +86,17 @@ fn carry_out<G: Gate, W: Wait>(
     };
     gate.before_complete(line);
     let mut store = store.lock(rt);
-    match store.carry(&io) {
-        Ok(_) => Ok(()),
+    carry_once(&mut store, &io)
+}
+
+/// Carries out the line once on a store that is lent.
+fn carry_once(store: &mut Store, io: &Io) -> Result<(), PlayFault>
+    ensures ok { OnOk result (AddsLine store.old store.new io.now) }
+    ensures err { OnErr result (store.new ≡ store.old) }
+    ensures fault { IfErr result (λ fault. fault ≡ PlayFault.Memory) }
+{
+    match store.carry(io) {
+        Ok(_stamp) => Ok(()),
         Err(_) => Err(PlayFault::Memory),
     }
 }

@@ -1,7 +1,8 @@
 //! What the threads of a play do.
-ghost use Rattle.std.specs.Prelude.{◌≡◌, ◌<◌, true, IfOk};
+ghost use Rattle.std.specs.Prelude.{◌≡◌, ◌<◌, ◌↔◌, ◌⊎◌, true, IsTrue, IfOk};
 ghost use Rattle.crossbeam_queue.specs.Passes.{view, IsPassOf};
 ghost use Rattle.tag_sets.specs.Hands.{IsHandOf, total_of};
+ghost use Rattle.loop_device.specs.Playing.{IsClean};
 
 use crate::device_queue::{DeviceQueue, Tagged, Worker, pop, push};
 use crate::fault::PlayFault;
@@ -41,7 +42,9 @@ pub(crate) struct Faults {
 
 impl Faults {
     /// No faults so far.
-    pub(crate) fn none() -> Faults {
+    pub(crate) fn none() -> Faults
+        ensures { IsClean result }
+    {
         Faults {
             memory: false,
             stranger: false,
@@ -49,13 +52,19 @@ impl Faults {
     }
 
     /// Adds the faults of another thread.
-    pub(crate) fn add(&mut self, other: Faults) {
+    pub(crate) fn add(&mut self, other: Faults)
+        ensures memory { IsTrue self.new.memory ↔ IsTrue self.old.memory ⊎ IsTrue other.memory }
+        ensures stranger { IsTrue self.new.stranger ↔ IsTrue self.old.stranger ⊎ IsTrue other.stranger }
+    {
         self.memory |= other.memory;
         self.stranger |= other.stranger;
     }
 
     /// Notes what became of one line. A line that was not submitted is missing from the history.
-    fn note(&mut self, done: Result<u64, PlayFault>) {
+    fn note(&mut self, done: Result<u64, PlayFault>)
+        ensures memory { IsTrue self.new.memory ↔ IsTrue self.old.memory ⊎ (done ≡ Err PlayFault.Memory) }
+        ensures stranger { IsTrue self.new.stranger ↔ IsTrue self.old.stranger ⊎ (done ≡ Err PlayFault.Stranger) }
+    {
         match done {
             Err(PlayFault::Memory) => self.memory = true,
             Err(PlayFault::Stranger) => self.stranger = true,

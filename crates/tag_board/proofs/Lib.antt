@@ -26,3 +26,5 @@ mod SoloShows
 mod SoloOpens
 mod SoloResizes
 mod Seated
+mod Charging
+mod Waiters

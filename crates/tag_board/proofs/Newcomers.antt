@@ -1,5 +1,5 @@
 -- The state of new tags, on which nothing has been done.
-use Rattle.std.proofs.Common.{◌≡◌, ℕ, ◌+◌, ◌-◌, ◌<◌, false, List, length, map, get_or, is_some, None, refl, sym, ap, ◌∙◌, arith}
+use Rattle.std.proofs.Common.{◌≡◌, ℕ, ◌+◌, ◌-◌, ◌<◌, false, List, [], ◌∷◌, length, map, get_or, is_some, None, refl, sym, ap, ◌∙◌, subst, arith}
 use Rattle.std.proofs.lemmas.List.{get_or-map}
 use mathlib.Core.Option.{some}
 use lib.ListN.{get_elem?}
@@ -23,7 +23,8 @@ use Rattle.tag_sets.specs.Hands.{layout_of, reserved_of, total_of, standing_of, 
 use Rattle.tag_sets.specs.Opening.{reserved_part, ordinary_part, IsOpen as AreOpen}
 use Rattle.tag_sets.proofs.Opening.{all_part}
 use Rattle.tag_board.specs.Opening.{IsOpen}
-use Rattle.tag_board.specs.Parts.{record_in, part_of, state_of_all, AreOrdered}
+use Rattle.tag_board.specs.Parts.{record_in, part_of, state_of_all, AreOrdered, waiter_of, waiters_of_all}
+use Rattle.tag_board.specs.Wakeups.{Starts, newcomer}
 use Rattle.tag_board.specs.States.{idle}
 use Rattle.tag_board.proofs.Handfuls.{part_ext}
 use Rattle.tag_board.proofs.Holdings.{not_holds}
@@ -84,3 +85,15 @@ module _ {R : Type 0} where
     in_order n low = let hand = entry hands n low in
         get_or-map number_of hands n hand.0 0 low
         ∙ opened.ordered n (get_or hands n hand.0) (entry_or hands n hand.0 low)
+
+-- a new hand is a caller that is in no group, and enters group 0 first
+pub starts : {R : Type 0} (options : Options) (tags : Tags R) (hands : List (Hand R)) → AreOpen options tags hands
+    → (k : ℕ) → k < length hands → Starts (waiters_of_all hands k)
+starts options tags [] opened k low = absurd (omega arith)
+starts {R} options tags (hand ∷ hands) opened k low =
+    let new = all_part (λ (a : Agent R). IsNew (queue.waiter_of a)) ordinary_part (hand ∷ hands)
+    (all_part IsNew queue.waiter_of (map ordinary_part (hand ∷ hands)) opened.ordinary.groups.new) k hand low in
+    subst Starts (sym (get_or-map waiter_of (hand ∷ hands) k hand newcomer low)) record {
+      outside = new.0;
+      first = new.1;
+    }

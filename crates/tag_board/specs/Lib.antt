@@ -1,5 +1,6 @@
 pub mod States
 pub mod Lones
+pub mod Wakeups
 pub mod Parts
 pub mod Boards
 pub mod Refusals

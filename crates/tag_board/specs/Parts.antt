@@ -13,8 +13,10 @@ use Rattle.tag_sets.specs.declared.kind.Kind.TheVariants.{Ordinary, Reserved}
 use Rattle.tag_sets.specs.declared.tags.Tags.{Tags}
 use Rattle.tag_sets.specs.Sets.{kind_of, number_in_set}
 use Rattle.tag_sets.specs.Hands.{agent_of, queue_of, layout_of, reserved_of, total_of, least_of, split_of, standing_of, hint_of, number_of}
+use Rattle.tag_sets.specs.Hands.{book_steps, group_steps, wait_index_of}
 use Rattle.tag_board.specs.Lones.{Lone, Lones, untouched}
 use Rattle.tag_board.specs.States.{Terms, Part, State, idle}
+use Rattle.tag_board.specs.Wakeups.{Waiter, newcomer}
 
 -- the record of the hand's caller on the map of a set
 abbrev pub record_in : {R : Type 0} → Hand R → Kind → Record R
@@ -76,3 +78,16 @@ lones_in hand = λ kind. lone_of (agent_of hand kind)
 -- both sets, as the steps of the first hand determine them
 abbrev pub lones_of_all : {R : Type 0} → List (Hand R) → Lones
 lones_of_all hands = slice_index_or (map lones_in hands) 0 (λ kind. untouched (record { depth = 0; shift = 0 }) false)
+
+-- the hand as it waits and wakes others
+abbrev pub waiter_of : {R : Type 0} → Hand R → Waiter
+waiter_of hand = record {
+  book = book_steps hand;
+  groups = group_steps hand;
+  group = standing_of hand;
+  next = wait_index_of hand;
+}
+
+-- each caller as it waits and wakes others: caller n is the hand at index n
+abbrev pub waiters_of_all : {R : Type 0} → List (Hand R) → ℕ → Waiter
+waiters_of_all hands caller = slice_index_or (map waiter_of hands) caller newcomer

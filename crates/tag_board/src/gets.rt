@@ -1,6 +1,7 @@
 //! Commands that take tags.
+ghost use Rattle.std.specs.Prelude.{◌≡◌};
 ghost use Rattle.tag_sets.specs.declared.kind.Kind.TheVariants.{Ordinary, Reserved};
-ghost use Rattle.tag_board.specs.Boards.{state_of, lones_of, IsCallerOf, IsAlone};
+ghost use Rattle.tag_board.specs.Boards.{state_of, lones_of, waiters_of, IsCallerOf, IsAlone};
 ghost use Rattle.tag_board.specs.Lones.{Does, LoneGets, LoneBatch, plain, shallow};
 ghost use Rattle.tag_board.specs.Replays.{Gets, GetsShallow, GetsBatch};
 
@@ -15,6 +16,7 @@ impl Board {
         ensures answers { Gets Ordinary caller (state_of self.old) result (state_of self.new) }
         ensures alone { IsAlone self.old
             → Does (LoneGets Ordinary plain) (lones_of self.old) result (lones_of self.new) }
+        ensures waiters { waiters_of self.new ≡ waiters_of self.old }
     {
         let answer = self.tags.get(&mut self.hands[caller as usize])?;
         self.tell_free(caller, answer);
@@ -28,6 +30,7 @@ impl Board {
         ensures answers { Gets Reserved caller (state_of self.old) result (state_of self.new) }
         ensures alone { IsAlone self.old
             → Does (LoneGets Reserved plain) (lones_of self.old) result (lones_of self.new) }
+        ensures waiters { waiters_of self.new ≡ waiters_of self.old }
     {
         let answer = self.tags.get_reserved(&mut self.hands[caller as usize])?;
         self.tell_free(caller, answer);
@@ -41,6 +44,7 @@ impl Board {
         ensures answers { GetsShallow depth caller (state_of self.old) result (state_of self.new) }
         ensures alone { IsAlone self.old
             → Does (LoneGets Ordinary (shallow depth)) (lones_of self.old) result (lones_of self.new) }
+        ensures waiters { waiters_of self.new ≡ waiters_of self.old }
     {
         let answer = self
             .tags
@@ -57,6 +61,7 @@ impl Board {
         ensures answers { GetsBatch n caller (state_of self.old) result (state_of self.new) }
         ensures alone { IsAlone self.old
             → Does (LoneBatch n) (lones_of self.old) result (lones_of self.new) }
+        ensures waiters { waiters_of self.new ≡ waiters_of self.old }
     {
         let answer = self.tags.get_batch(&mut self.hands[caller as usize], n)?;
         self.tell_run_free(caller, answer);

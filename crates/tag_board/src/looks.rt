@@ -1,6 +1,6 @@
 //! Commands that list and count busy tags.
 ghost use Rattle.std.specs.Prelude.{◌≡◌, IfOk};
-ghost use Rattle.tag_board.specs.Boards.{state_of, lones_of, IsCallerOf, IsAlone};
+ghost use Rattle.tag_board.specs.Boards.{state_of, lones_of, waiters_of, IsCallerOf, IsAlone};
 ghost use Rattle.tag_board.specs.Lones.{LoneListsBusy, LoneShows, LoneDumps};
 ghost use Rattle.tag_board.specs.Looks.{ListsBusy, Shows, Dumps, depth_of};
 
@@ -15,6 +15,7 @@ impl Board {
         ensures answers { IfOk result (λ bits. ListsBusy caller (state_of self.old) bits.items (state_of self.new)) }
         ensures alone { IsAlone self.old
             → IfOk result (λ bits. LoneListsBusy (lones_of self.old) bits.items (lones_of self.new)) }
+        ensures waiters { waiters_of self.new ≡ waiters_of self.old }
     {
         let mut bits = vec![in alloc; 0u64; self.total.div_ceil(64) as usize]?;
         self.tags.busy(&mut self.hands[caller as usize], &mut bits);
@@ -26,6 +27,7 @@ impl Board {
         requires { IsCallerOf self.old caller }
         ensures answers { Shows kind (state_of self.old) result (state_of self.new) }
         ensures alone { IsAlone self.old → LoneShows kind (lones_of self.old) result (lones_of self.new) }
+        ensures waiters { waiters_of self.new ≡ waiters_of self.old }
     {
         self.tags.show(&mut self.hands[caller as usize], kind)
     }
@@ -36,6 +38,7 @@ impl Board {
         ensures answers { IfOk result (λ bytes. Dumps kind (state_of self.old) bytes.items (state_of self.new)) }
         ensures alone { IsAlone self.old
             → IfOk result (λ bytes. LoneDumps kind (lones_of self.old) bytes.items (lones_of self.new)) }
+        ensures waiters { waiters_of self.new ≡ waiters_of self.old }
     {
         let depth = self.depth(kind);
         let mut bytes = vec![in alloc; 0u8; depth.div_ceil(8) as usize]?;

@@ -1,12 +1,13 @@
 //! Opening a board.
-ghost use Rattle.std.specs.Prelude.{◌≡◌, ◌^◌, ◌<◌, ◌≤◌, ◌↔◌, IfOk, IsSomeAnd};
+ghost use Rattle.std.specs.Prelude.{◌≡◌, ℕ, ◌^◌, ◌<◌, ◌≤◌, ◌↔◌, IfOk, IsSomeAnd};
 ghost use Rattle.tag_layout.specs.declared.layout.TheConstants.{MAX_DEPTH, MAX_SHIFT};
 ghost use Rattle.tag_model.specs.declared.world.TheConstants.{MOST_WON};
 ghost use Rattle.tag_queue.specs.Opening.{MiscountsAgents, CountsAgents};
 ghost use Rattle.tag_sets.specs.Opening.{HasRange, HasLayouts};
-ghost use Rattle.tag_board.specs.Boards.{state_of, lones_of, IsAlone};
+ghost use Rattle.tag_board.specs.Boards.{state_of, lones_of, waiters_of, IsAlone};
 ghost use Rattle.tag_board.specs.Lones.{AreUntouched};
 ghost use Rattle.tag_board.specs.Opening.{IsOpen};
+ghost use Rattle.tag_board.specs.Wakeups.{Starts};
 
 use crate::board::Board;
 use std::alloc::Global;
@@ -22,6 +23,7 @@ impl Board {
     ) -> Result<Board, SetFault>
         ensures ok { IfOk result (λ board. IsOpen total reserved options (state_of board)) }
         ensures alone { IfOk result (λ board. IsAlone board → AreUntouched total reserved options (lones_of board)) }
+        ensures waiters { IfOk result (λ board. (caller : ℕ) → caller < options.callers → Starts (waiters_of board caller)) }
 
         // The causes are tested in this order, and memory comes last.
         ensures total { (result ≡ Err SetFault.TotalTooLarge) ↔ (MAX_DEPTH < total) }

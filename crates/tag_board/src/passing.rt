@@ -1,5 +1,6 @@
 //! Commands that pass a tag from one caller to another.
-ghost use Rattle.tag_board.specs.Boards.{state_of, lones_of, IsCallerOf, IsAlone};
+ghost use Rattle.std.specs.Prelude.{◌≡◌};
+ghost use Rattle.tag_board.specs.Boards.{state_of, lones_of, waiters_of, IsCallerOf, IsAlone};
 ghost use Rattle.tag_board.specs.Lones.{Does, LonePosts, LoneTakes};
 ghost use Rattle.tag_board.specs.Replays.{Posts, Takes};
 
@@ -14,6 +15,7 @@ impl Board {
         ensures answers { Posts tag caller (state_of self.old) result (state_of self.new) }
         ensures alone { IsAlone self.old
             → Does (λ done. LonePosts tag) (lones_of self.old) result (lones_of self.new) }
+        ensures waiters { waiters_of self.new ≡ waiters_of self.old }
     {
         self.tags.post(&mut self.hands[caller as usize], tag)
     }
@@ -24,6 +26,7 @@ impl Board {
         requires { IsCallerOf self.old caller }
         ensures answers { Takes tag caller (state_of self.old) result (state_of self.new) }
         ensures alone { IsAlone self.old → LoneTakes tag (lones_of self.old) result (lones_of self.new) }
+        ensures waiters { waiters_of self.new ≡ waiters_of self.old }
     {
         self.tags.take(&mut self.hands[caller as usize], tag)?;
         self.tell_free(caller, Some(tag));

@@ -1,6 +1,7 @@
 //! Commands that wait.
 ghost use Rattle.std.specs.Prelude.{◌≡◌, ◌≤◌, true};
-ghost use Rattle.tag_board.specs.Boards.{state_of, lones_of, IsCallerOf, IsAlone};
+ghost use Rattle.tag_board.specs.Boards.{state_of, lones_of, waiters_of, IsCallerOf, IsAlone};
+ghost use Rattle.tag_board.specs.Wakeups.{Moves, MovesIf, Enters, Leaves as LeavesGroup, Finds};
 ghost use Rattle.tag_board.specs.Replays.{Waits, Leaves};
 
 use crate::board::Board;
@@ -13,6 +14,7 @@ impl Board {
         requires { IsCallerOf self.old caller }
         ensures answers { Waits caller (state_of self.old) result (state_of self.new) }
         ensures alone { IsAlone self.old → lones_of self.new ≡ lones_of self.old }
+        ensures waiters { MovesIf caller Enters (waiters_of self.old) result (waiters_of self.new) }
     {
         self.tags.prepare_wait(&mut self.hands[caller as usize])
     }
@@ -23,6 +25,7 @@ impl Board {
         requires { IsCallerOf self.old caller }
         ensures answers { Leaves caller (state_of self.old) result (state_of self.new) }
         ensures alone { IsAlone self.old → lones_of self.new ≡ lones_of self.old }
+        ensures waiters { MovesIf caller LeavesGroup (waiters_of self.old) result (waiters_of self.new) }
     {
         self.tags.finish_wait(rt, &mut self.hands[caller as usize])
     }
@@ -34,6 +37,7 @@ impl Board {
         ensures active { ((state_of self.old).part caller).stands ≡ true → 1 ≤ result.active }
         ensures same { state_of self.new ≡ state_of self.old }
         ensures alone { IsAlone self.old → lones_of self.new ≡ lones_of self.old }
+        ensures waiters { Moves caller (Finds result) (waiters_of self.old) (waiters_of self.new) }
     {
         self.tags.wakes(&mut self.hands[caller as usize])
     }

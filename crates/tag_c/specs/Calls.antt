@@ -2,14 +2,16 @@
 use Rattle.std.specs.Prelude.{◌≡◌, ℕ, ◌≤◌, ◌<◌, ◌↔◌, ℤ, false, IsTrue, List, length, Option, Some, None, Result, Ok, Err, IfOk, IfErr, IfSome, IfNone, IsOk, IsSome, OnOk, OnErr, ⊤}
 use mathlib.Core.Option.{some}
 use Rattle.std.specs.Arc.{arc_value}
+use Rattle.wake_book.specs.declared.grants.Grants.{Grants}
 use Rattle.wake_book.specs.declared.waiting.Left.{Left}
+use Rattle.wake_book.specs.Grants.{AreGrantsOf}
 use Rattle.tag_queue.specs.declared.fault.TagFault.{TagFault}
 use Rattle.tag_queue.specs.declared.fault.TagFault.TheVariants.{NoSuchTag, NoReserved, NotHeld, BadCount, TooShallow, Spent, Waiting, NotWaiting}
 use Rattle.tag_sets.specs.declared.hand.Hand.{Hand}
 use Rattle.tag_sets.specs.declared.kind.Kind.TheVariants.{Ordinary, Reserved}
 use Rattle.tag_sets.specs.declared.tags.Tags.{Tags}
 use Rattle.tag_sets.specs.Sets.{kind_of}
-use Rattle.tag_sets.specs.Hands.{reserved_of, total_of, least_of, Holds, slot_of, HasRoom, hint_of, standing_of}
+use Rattle.tag_sets.specs.Hands.{reserved_of, total_of, least_of, Holds, slot_of, HasRoom, hint_of, standing_of, group_steps}
 use Rattle.tag_sets.specs.Gets.{Gets, GetsReserved, GetsShallow, GetsBatch, MiscountsBatch}
 use Rattle.tag_sets.specs.Clears.{Clears, Counts}
 use Rattle.tag_sets.specs.Batches.{CountsTags, AreOrdinary, AreHeldOnce, GivesBack}
@@ -85,23 +87,25 @@ pub record DoesGetBatch (n won : ℕ) (tags : Tags ℕ) (answer : Result (Option
   pub mask : IfOk answer (λ run. IfSome run (λ first. won ≡ first.1))
   pub err : OnErr answer (new ≡ old)
 
--- clears a tag
-pub record DoesClear (tag : ℕ) (tags : Tags ℕ) (answer : Result ℕ TagFault) (old new : Hand ℕ) : Type 0 where
+-- clears a tag, and answers how many waiters it granted a wakeup in each group
+pub record DoesClear (tag : ℕ) (tags : Tags ℕ) (answer : Result Grants TagFault) (old new : Hand ℕ) : Type 0 where
   pub no_such_tag : (answer ≡ Err NoSuchTag) ↔ (total_of tags ≤ tag)
   pub not_held : (answer ≡ Err NotHeld) ↔ ((tag < total_of tags) × ¬ (Holds old tag))
   pub succeeds : Holds old tag → IsOk answer
   pub clears : OnOk answer (Clears tags tag old new)
-  pub counts : IfOk answer (λ woken. Counts tags (kind_of (reserved_of tags) tag) 1 old new woken)
+  pub counts : IfOk answer (λ grants. Counts tags (kind_of (reserved_of tags) tag) 1 old new grants.woken)
+  pub grants : IfOk answer (λ grants. AreGrantsOf grants (group_steps old) (group_steps new))
   pub err : OnErr answer (new ≡ old)
 
--- gives back the tags of a list
-pub record DoesClearBatch (list : List ℕ) (tags : Tags ℕ) (answer : Result ℕ TagFault) (old new : Hand ℕ) : Type 0 where
+-- gives back the tags of a list, and answers how many waiters it granted a wakeup in each group
+pub record DoesClearBatch (list : List ℕ) (tags : Tags ℕ) (answer : Result Grants TagFault) (old new : Hand ℕ) : Type 0 where
   pub bad_count : (answer ≡ Err BadCount) ↔ ¬ (CountsTags list)
   pub no_such_tag : (answer ≡ Err NoSuchTag) ↔ (CountsTags list × ¬ (AreOrdinary tags list))
   pub not_held : (answer ≡ Err NotHeld) ↔ (CountsTags list × AreOrdinary tags list × ¬ (AreHeldOnce old list))
   pub succeeds : IsOk answer ↔ (CountsTags list × AreOrdinary tags list × AreHeldOnce old list)
   pub gives : OnOk answer (GivesBack tags list old new)
-  pub counts : IfOk answer (λ woken. Counts tags Ordinary (length list) old new woken)
+  pub counts : IfOk answer (λ grants. Counts tags Ordinary (length list) old new grants.woken)
+  pub grants : IfOk answer (λ grants. AreGrantsOf grants (group_steps old) (group_steps new))
   pub err : OnErr answer (new ≡ old)
 
 -- reads the slot of a tag

@@ -1,5 +1,6 @@
 -- The numbers that calls return, as tags.h names them; negsuc n is -(n + 1).
 use Rattle.std.specs.Prelude.{ℕ, ℤ, pos, negsuc, min, Option, Some, None, Result, Ok, Err, ⊤}
+use Rattle.wake_book.specs.declared.grants.Grants.{Grants}
 use Rattle.wake_book.specs.declared.waiting.Left.{Left}
 use Rattle.wake_book.specs.declared.waiting.Left.TheVariants.{Woken, Unwoken}
 use Rattle.tag_layout.specs.declared.layout.TheConstants.{MAX_DEPTH}
@@ -72,6 +73,11 @@ code_of_batch (Err fault) = code_of_fault fault
 abbrev pub code_of_count : Result ℕ TagFault → ℤ
 code_of_count (Ok count) = pos (min count MAX_DEPTH)
 code_of_count (Err fault) = code_of_fault fault
+
+-- how many waiters were granted a wakeup, at most the bound, or the reason for the refusal
+abbrev pub code_of_grants : Result Grants TagFault → ℤ
+code_of_grants (Ok grants) = pos (min grants.woken MAX_DEPTH)
+code_of_grants (Err fault) = code_of_fault fault
 
 -- 0 on success, or the reason for the refusal
 abbrev pub code_of_done : {A : Type 0} → Result A TagFault → ℤ

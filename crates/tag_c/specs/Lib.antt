@@ -2,6 +2,8 @@ pub mod Sharing
 pub mod Codes
 pub mod Pools
 pub mod Calls
+pub mod Grants
+pub mod Pairs
 pub mod Views
 pub mod Exports
 pub mod Resizes

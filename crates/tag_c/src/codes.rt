@@ -1,11 +1,11 @@
 //! Turns the answers of `tag_sets` into the numbers that C sees. An error becomes its negative status of tags.h.
 ghost use Rattle.std.specs.Prelude.{◌≡◌, ◌≤◌, IfOk, IfSome, pos, min};
 ghost use Rattle.tag_layout.specs.declared.layout.TheConstants.{MAX_DEPTH};
-ghost use Rattle.tag_c.specs.Codes.{IsRefusal, code_of_get, code_of_batch, code_of_count, code_of_done, code_of_finish};
+ghost use Rattle.tag_c.specs.Codes.{IsRefusal, code_of_get, code_of_batch, code_of_count, code_of_grants, code_of_done, code_of_finish};
 
 use crate::status::{Status, fault_code};
 use tag_layout::MAX_DEPTH;
-use tag_sets::{Left, TagFault};
+use tag_sets::{Grants, Left, TagFault};
 
 /// Returns the tag, `NoTag` if none was found, or the status of the error.
 #[inline]
@@ -48,6 +48,17 @@ pub(crate) fn count_code(answer: Result<u32, TagFault>) -> i32
 {
     match answer {
         Ok(count) => number_code(count),
+        Err(fault) => fault_code(fault),
+    }
+}
+
+/// Returns how many waiters were granted a wakeup, or the status of the error.
+#[inline]
+pub(crate) fn grants_code(answer: Result<Grants, TagFault>) -> i32
+    ensures { result ≡ code_of_grants answer }
+{
+    match answer {
+        Ok(grants) => number_code(grants.woken),
         Err(fault) => fault_code(fault),
     }
 }

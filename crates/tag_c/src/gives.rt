@@ -1,8 +1,8 @@
 //! Gives tags back and waits for them, through the handle of a hand. Each call is described in tags.h.
 ghost use Rattle.tag_c.specs.Calls.{Calls, CallsBy, Through, DoesClear, DoesClearBatch, DoesPrepare, DoesFinish};
-ghost use Rattle.tag_c.specs.Codes.{code_of_count, code_of_finish};
+ghost use Rattle.tag_c.specs.Codes.{code_of_count, code_of_grants, code_of_finish};
 
-use crate::codes::{count_code, finish_code};
+use crate::codes::{count_code, finish_code, grants_code};
 use crate::handle::Handle;
 use crate::object::{Kind, Object};
 use crate::status::Status;
@@ -11,23 +11,23 @@ impl Object {
     /// Gives a held tag back, and returns how many waiters were granted a wakeup.
     #[inline]
     pub(crate) fn clear(&mut self, tag: u32) -> i32
-        ensures { Calls (Through (DoesClear tag) code_of_count result) result self.old self.new }
+        ensures { Calls (Through (DoesClear tag) code_of_grants result) result self.old self.new }
     {
         let Kind::Member(member) = &mut self.kind else {
             return Status::BadHandle.code();
         };
-        count_code(member.shared.tags.clear_silently(&mut member.hand, tag))
+        grants_code(member.shared.tags.clear_silently(&mut member.hand, tag))
     }
 
     /// Gives held ordinary tags back, and returns how many waiters were granted a wakeup.
     #[inline]
     pub(crate) fn clear_batch(&mut self, tags: &[u32]) -> i32
-        ensures { Calls (Through (DoesClearBatch tags.now) code_of_count result) result self.old self.new }
+        ensures { Calls (Through (DoesClearBatch tags.now) code_of_grants result) result self.old self.new }
     {
         let Kind::Member(member) = &mut self.kind else {
             return Status::BadHandle.code();
         };
-        count_code(
+        grants_code(
             member
                 .shared
                 .tags
@@ -60,7 +60,7 @@ impl Object {
 
 #[unsafe(no_mangle)]
 pub extern "C" fn tags_clear(hand: &mut Handle, tag: u32) -> i32
-    ensures { CallsBy (Through (DoesClear tag) code_of_count result) result hand.old.object.value hand.new.object.value }
+    ensures { CallsBy (Through (DoesClear tag) code_of_grants result) result hand.old.object.value hand.new.object.value }
 {
     let Some(object) = hand.lend() else {
         return Status::BadHandle.code();
@@ -70,7 +70,7 @@ pub extern "C" fn tags_clear(hand: &mut Handle, tag: u32) -> i32
 
 #[unsafe(no_mangle)]
 pub extern "C" fn tags_clear_batch(hand: &mut Handle, tags: &[u32]) -> i32
-    ensures { CallsBy (Through (DoesClearBatch tags.now) code_of_count result) result hand.old.object.value hand.new.object.value }
+    ensures { CallsBy (Through (DoesClearBatch tags.now) code_of_grants result) result hand.old.object.value hand.new.object.value }
 {
     let Some(object) = hand.lend() else {
         return Status::BadHandle.code();

@@ -2,20 +2,15 @@
 ghost use Rattle.std.specs.Prelude.{◌≡◌, ℕ, ◌+◌, ◌<◌, ◌≤◌, ◌↔◌, IfOk, IsOk, OnOk, OnErr};
 ghost use Rattle.tag_core.specs.Callers.{record_of};
 ghost use Rattle.wake_book.specs.Book.{counted_by};
-ghost use Rattle.tag_queue.specs.Agents.{layout_of, IsAgentOf, Holds, step_count, caller_of, teller_of, hint_of, SameCounts};
+ghost use Rattle.tag_queue.specs.Agents.{layout_of, IsAgentOf, Holds, step_count, caller_of, teller_of, hint_of, group_steps, SameCounts};
 ghost use Rattle.tag_queue.specs.Clears.{Puts, Counts, ChargesNow};
+ghost use Rattle.wake_book.specs.Grants.{AreGrantsOf};
 
 use crate::agent::Agent;
 use crate::fault::TagFault;
 use crate::queue::Queue;
 use tag_search::after_clear;
-use wake_book::{Charge, Walked};
-
-/// The outcome of a completion that granted no wakeup.
-const NOBODY: Walked = Walked {
-    woken: 0,
-    groups: 0,
-};
+use wake_book::{Charge, Grants, NO_GRANTS};
 
 impl<R: Copy> Queue<R> {
     /// Clears a held tag, counts it if any agent waits, and returns how many waiters it woke. As in
@@ -89,17 +84,18 @@ impl<R: Copy> Queue<R> {
 
     /// Counts `n` tags given back if anybody is active, and grants up to a batch of wakeups if it charged one.
     #[inline]
-    pub(crate) fn complete(&self, agent: &mut Agent<R>, n: u32) -> Walked
+    pub(crate) fn complete(&self, agent: &mut Agent<R>, n: u32) -> Grants
         requires agent { IsAgentOf self.now agent.old }
         requires within { (1 ≤ n) × (n ≤ 64) }
         requires came_back { counted_by (teller_of agent.old) + n ≤ (record_of (caller_of agent.old)).back }
         ensures agent { IsAgentOf self.now agent.new }
         ensures counts { Counts self.now n agent.old agent.new result.woken }
+        ensures grants { AreGrantsOf result (group_steps agent.old) (group_steps agent.new) }
         ensures others { (caller_of agent.new ≡ caller_of agent.old) × (hint_of agent.new ≡ hint_of agent.old) }
         ensures bound { step_count agent.new ≤ 117 + step_count agent.old }
     {
         if self.groups.active(&mut agent.waiter) == 0 {
-            return NOBODY;
+            return NO_GRANTS;
         }
         self.charge(agent, n)
     }
@@ -107,29 +103,30 @@ impl<R: Copy> Queue<R> {
     /// Counts tags that came back, and grants up to a batch of wakeups if it charged one. It is out of line, so that a
     /// clear is short where nobody waits.
     #[inline(never)]
-    fn charge(&self, agent: &mut Agent<R>, n: u32) -> Walked
+    fn charge(&self, agent: &mut Agent<R>, n: u32) -> Grants
         requires agent { IsAgentOf self.now agent.old }
         requires within { (1 ≤ n) × (n ≤ 64) }
         requires came_back { counted_by (teller_of agent.old) + n ≤ (record_of (caller_of agent.old)).back }
         ensures agent { IsAgentOf self.now agent.new }
         ensures charges { ChargesNow self.now n agent.old agent.new result.woken }
+        ensures grants { AreGrantsOf result (group_steps agent.old) (group_steps agent.new) }
         ensures others { (caller_of agent.new ≡ caller_of agent.old) × (hint_of agent.new ≡ hint_of agent.old) }
         ensures bound { step_count agent.new ≤ 116 + step_count agent.old }
     {
         match self.book.count(&mut agent.teller, n) {
             Charge::Won(_) => self.groups.walk(&mut agent.waiter, self.batch),
-            _ => NOBODY,
+            _ => NO_GRANTS,
         }
     }
 
-    /// Wakes the sleepers in the groups of a walk, and returns how many waiters the walk granted a wakeup.
+    /// Wakes a sleeper for each grant, in its group, and returns how many waiters were granted a wakeup.
     #[inline]
-    pub(crate) fn ring(&self, walked: Walked) -> u32
-        ensures { result ≡ walked.woken }
+    pub(crate) fn ring(&self, grants: Grants) -> u32
+        ensures { result ≡ grants.woken }
     {
-        if walked.groups != 0 {
-            self.groups.ring(walked.groups);
+        if grants.woken != 0 {
+            self.groups.ring(&grants);
         }
-        walked.woken
+        grants.woken
     }
 }

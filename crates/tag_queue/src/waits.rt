@@ -1,7 +1,7 @@
 //! Waits for a tag.
 ghost use Rattle.std.specs.Prelude.{◌≡◌, ℕ, ◌+◌, ◌≤◌, ◌<◌, ◌↔◌, ◌∷◌, IfOk, IfErr, IfSome, IfNone, IsOk, IsSome, OnErr, Some, None};
 ghost use Rattle.wake_book.specs.Waits.{active_at, index_at};
-ghost use Rattle.wake_book.specs.Groups.{LeavesAs, IdlesOnce, StandsAsBefore};
+ghost use Rattle.wake_book.specs.Groups.{LeavesAs, IdlesOnce, StandsAsBefore, wait_index_of};
 ghost use Rattle.wake_book.specs.Book.{counted_by};
 ghost use Rattle.wake_book.specs.declared.steps.BookStep.TheVariants.{LookCompletions, LookWakeups};
 ghost use Rattle.wake_book.specs.declared.steps.GroupStep.TheVariants.{Look};
@@ -53,6 +53,7 @@ impl<R: Copy> Queue<R> {
         ensures stands { IsOk result ↔ IsSome (standing_of agent.old) }
         ensures leaves { IfOk result (λ left. LeavesAs (waiter_of agent.old) (waiter_of agent.new) left) }
         ensures out { standing_of agent.new ≡ None }
+        ensures next { wait_index_of (waiter_of agent.new) ≡ wait_index_of (waiter_of agent.old) }
         ensures same { SameTags agent.old agent.new }
         ensures err { IfErr result (λ fault. (fault ≡ TagFault.NotWaiting) × (agent.new ≡ agent.old)) }
     {
@@ -88,6 +89,7 @@ impl<R: Copy> Queue<R> {
         ensures counts { book_steps agent.new ≡ LookCompletions result.counted ∷ LookWakeups result.charged ∷ book_steps agent.old }
         ensures looks { group_steps agent.new ≡ Look active_at result.active ∷ Look index_at result.index ∷ group_steps agent.old }
         ensures ordered { result.charged ≤ result.counted }
+        ensures within { result.index < 8 }
         ensures own { counted_by (teller_of agent.old) ≤ result.counted }
         ensures active { IsSome (standing_of agent.old) → 1 ≤ result.active }
         ensures same { (caller_of agent.new ≡ caller_of agent.old) × (hint_of agent.new ≡ hint_of agent.old)

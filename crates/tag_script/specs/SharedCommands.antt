@@ -1,8 +1,8 @@
 -- The answer of each command of a script over shared tags, and the state after it. With one caller the answers are
 -- those over plain words.
-use Rattle.std.specs.Prelude.{◌≡◌, ◌≢◌, ℕ, ◌*◌, ◌≤◌, Bool, true, List, length, filter, nat_eq, Result, Ok, Err}
+use Rattle.std.specs.Prelude.{⊤, ◌≡◌, ◌≢◌, ℕ, ◌*◌, ◌≤◌, Bool, true, List, length, filter, nat_eq, Result, Ok, Err}
 use Rattle.tag_board.specs.declared.board.Board.{Board}
-use Rattle.tag_board.specs.Boards.{state_of, lones_of}
+use Rattle.tag_board.specs.Boards.{state_of, lones_of, waiters_of}
 use Rattle.tag_board.specs.Closing.{totals_in}
 use Rattle.tag_board.specs.Lones.{Lones, Does, plain, shallow, LoneGets, LoneBatch, LoneClears, LoneClearsList, LonePosts, LoneTakes}
 use Rattle.tag_board.specs.Lones.{LoneListsBusy, LoneShows, LoneDumps, LoneResizes}
@@ -10,6 +10,7 @@ use Rattle.tag_board.specs.Looks.{ListsBusy, Shows, Dumps}
 use Rattle.tag_board.specs.Replays.{Gets, GetsShallow, GetsBatch, Clears, ClearsList, Posts, Takes, Waits, Leaves}
 use Rattle.tag_board.specs.Resizes.{Resizes}
 use Rattle.tag_board.specs.States.{State}
+use Rattle.tag_board.specs.Wakeups.{Waiter, Moves, MovesIf, GrantsFor, Enters, Leaves as LeavesGroup, Finds}
 use Rattle.tag_lines.specs.declared.order.Command.{Command}
 use Rattle.tag_lines.specs.declared.order.Command.TheVariants as commands
 use Rattle.tag_lines.specs.declared.order.Order.{Order}
@@ -30,33 +31,45 @@ abbrev pub resize_answer : Result (Unit {0}) ResizeCause → Answer
 resize_answer (Ok done) = answers.Done 0
 resize_answer (Err cause) = answers.NotResized cause
 
--- what is known of shared tags: the state of all callers, by their answers, and both sets, by the steps of a lone
--- caller
+-- what is known of shared tags: the state of all callers, by their answers; both sets, by the steps of a lone caller; and
+-- each caller as it waits and wakes others, by its own steps
 pub record Scene : Type 0 where
   pub state : State
   pub sets : Lones
+  pub waiters : ℕ → Waiter
 
 -- what is known of a board
 abbrev pub scene_of : Board → Scene
-scene_of board = record { state = state_of board; sets = lones_of board }
+scene_of board = record { state = state_of board; sets = lones_of board; waiters = waiters_of board }
 
 -- there is one caller
 abbrev pub IsAlone : Scene → Type 0
 IsAlone s = s.state.terms.callers ≡ 1
 
--- the first relation holds for any number of callers, and the second too if there is only one
-abbrev pub Both : {A : Type 0} → (State → A → State → Type 0) → (Lones → A → Lones → Type 0) → Scene → A → Scene
-    → Type 0
-Both any alone old outcome new = any old.state outcome new.state × (IsAlone old → alone old.sets outcome new.sets)
-
--- both sets are unchanged
-abbrev pub Stay : {A : Type 0} → Lones → A → Lones → Type 0
+-- nothing changed, whatever the outcome
+abbrev pub Stay : {S A : Type 0} → S → A → S → Type 0
 Stay old outcome new = new ≡ old
 
--- the answer is that of a result which the resize may have
+-- the state changed by the first relation, both sets by the second if there is only one caller, and the callers as they
+-- wait and wake others by the third
+abbrev pub Together : {A : Type 0} → (State → A → State → Type 0) → (Lones → A → Lones → Type 0)
+    → ((ℕ → Waiter) → A → (ℕ → Waiter) → Type 0) → Scene → A → Scene → Type 0
+Together any alone waiters old outcome new = any old.state outcome new.state
+    × (IsAlone old → alone old.sets outcome new.sets) × waiters old.waiters outcome new.waiters
+
+-- the same for what counts no completion and wakes nobody
+abbrev pub Both : {A : Type 0} → (State → A → State → Type 0) → (Lones → A → Lones → Type 0) → Scene → A → Scene
+    → Type 0
+Both any alone old outcome new = Together any alone Stay old outcome new
+
+-- whatever the callers do as they wait and wake others
+abbrev pub Anyhow : {A : Type 0} → (ℕ → Waiter) → A → (ℕ → Waiter) → Type 0
+Anyhow old outcome new = ⊤
+
+-- the answer is that of a result which the resize may have, after which the callers' steps are counted anew
 abbrev pub TellsResize : ℕ → Scene → Answer → Scene → Type 0
 TellsResize total old answer new = (outcome : Result (Unit {0}) ResizeCause)
-    × Both (Resizes total) (LoneResizes total) old outcome new × (answer ≡ resize_answer outcome)
+    × Together (Resizes total) (LoneResizes total) Anyhow old outcome new × (answer ≡ resize_answer outcome)
 
 -- the tag's bit is 1
 abbrev pub is_marked : List ℕ → ℕ → Bool
@@ -83,6 +96,13 @@ abbrev pub TellsBoth : {A : Type 0} → (A → Answer) → (State → Result A T
     → (Lones → Result A TagFault → Lones → Type 0) → Scene → Answer → Scene → Type 0
 TellsBoth tell any alone old answer new = TellsOutcome tell (λ outcome. Both any alone old outcome new) answer
 
+-- the same for a call that waits, counts or wakes: the caller of an answered one changed so
+abbrev pub TellsMoves : {A : Type 0} → (A → Answer) → ℕ → (A → Waiter → Waiter → Type 0)
+    → (State → Result A TagFault → State → Type 0) → (Lones → Result A TagFault → Lones → Type 0) → Scene → Answer
+    → Scene → Type 0
+TellsMoves tell caller change any alone old answer new =
+    TellsOutcome tell (λ outcome. Together any alone (MovesIf caller change) old outcome new) answer
+
 -- the answer of a caller's command, and what is known after it
 abbrev pub ObeysBy : ℕ → Command → Scene → Answer → Scene → Type 0
 ObeysBy caller commands.Get old answer new =
@@ -94,17 +114,20 @@ ObeysBy caller (commands.Shallow depth) old answer new =
 ObeysBy caller (commands.Batch n) old answer new =
     TellsBoth answers.Batch (GetsBatch n caller) (Does (LoneBatch n)) old answer new
 ObeysBy caller (commands.Clear tag) old answer new =
-    TellsBoth answers.Done (Clears tag caller) (Does (λ woken. LoneClears tag)) old answer new
+    TellsMoves answers.Done caller (GrantsFor 1) (Clears tag caller) (Does (λ woken. LoneClears tag)) old answer new
 ObeysBy caller (commands.ClearBatch tags) old answer new =
-    TellsBoth answers.Done (ClearsList tags caller) (Does (λ woken. LoneClearsList tags)) old answer new
+    TellsMoves answers.Done caller (GrantsFor (length tags)) (ClearsList tags caller)
+    (Does (λ woken. LoneClearsList tags)) old answer new
 ObeysBy caller (commands.Post tag) old answer new =
     TellsBoth (λ done. answers.Done 0) (Posts tag caller) (Does (λ done. LonePosts tag)) old answer new
 ObeysBy caller (commands.Take tag) old answer new =
     TellsBoth (λ done. answers.Done 0) (Takes tag caller) (LoneTakes tag) old answer new
-ObeysBy caller commands.Wait old answer new = TellsBoth answers.Group (Waits caller) Stay old answer new
-ObeysBy caller commands.Leave old answer new = TellsBoth answers.Left (Leaves caller) Stay old answer new
+ObeysBy caller commands.Wait old answer new = TellsMoves answers.Group caller Enters (Waits caller) Stay old answer new
+ObeysBy caller commands.Leave old answer new =
+    TellsMoves answers.Left caller LeavesGroup (Leaves caller) Stay old answer new
 ObeysBy caller commands.Wakes old answer new =
-    (wakes : Wakes) × Both (FindsWakes caller) Stay old wakes new × (answer ≡ answers.Wakes wakes)
+    (wakes : Wakes) × Together (FindsWakes caller) Stay (λ old wakes new. Moves caller (Finds wakes) old new) old wakes
+    new × (answer ≡ answers.Wakes wakes)
 ObeysBy caller commands.Show old answer new =
     (shown : Shown) × Both (Shows Ordinary) (LoneShows Ordinary) old shown new × (answer ≡ answers.Shown shown)
 ObeysBy caller commands.ShowReserved old answer new =

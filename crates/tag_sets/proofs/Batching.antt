@@ -103,14 +103,14 @@ module _ {R : Type 0} (tags : Tags R) (hand : Hand R) (own : IsHandOf tags hand)
       }
 
   -- what is said of the tags by a result that tells of their numbers
-  pub record Answers (agent : Agent R) (r : Result ℕ TagFault) : Type 0 where
+  pub record Answers {A : Type 0} (agent : Agent R) (r : Result A TagFault) : Type 0 where
     pub no_such_tag : (r ≡ Err NoSuchTag) ↔ (CountsTags list × ¬ (AreOrdinary tags list))
     pub not_held : (r ≡ Err NotHeld) ↔ (CountsTags list × AreOrdinary tags list × ¬ (AreHeldOnce hand list))
     pub succeeds : IsOk r ↔ (CountsTags list × AreOrdinary tags list × AreHeldOnce hand list)
     pub gives : OnOk r (GivesBack tags list hand (record hand { ordinary = agent }))
 
   -- a condition on the numbers holds exactly if the same condition on the tags does
-  pub answered : (agent : Agent R) (r : Result ℕ TagFault)
+  pub answered : {A : Type 0} (agent : Agent R) (r : Result A TagFault)
       → (r ≡ Err NoSuchTag)
       ↔ (queue_batches.CountsTags named × ¬ (queue_batches.AreTags (layout_of tags Ordinary) named))
       → (r ≡ Err NotHeld) ↔ (queue_batches.CountsTags named × queue_batches.AreTags (layout_of tags Ordinary) named

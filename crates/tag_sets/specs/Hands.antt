@@ -5,6 +5,7 @@ use Rattle.tag_layout.specs.Layout.{Layout}
 use Rattle.tag_search.specs.declared.hint.Hint.{Hint}
 use Rattle.wake_book.specs.declared.steps.BookStep.{BookStep}
 use Rattle.wake_book.specs.declared.steps.GroupStep.{GroupStep}
+use Rattle.wake_book.specs.Groups as groups
 use Rattle.tag_queue.specs.declared.agent.Agent.{Agent}
 use Rattle.tag_queue.specs.declared.queue.Queue.{Queue}
 use Rattle.tag_queue.specs.Agents as queue
@@ -76,6 +77,10 @@ HasRoom hand kind n = queue.HasRoom (agent_of hand kind) n
 -- the wait group that the hand is in, if any
 abbrev pub standing_of : {R : Type 0} → Hand R → Option ℕ
 standing_of hand = queue.standing_of hand.ordinary
+
+-- the wait group that the hand enters next
+abbrev pub wait_index_of : {R : Type 0} → Hand R → ℕ
+wait_index_of hand = groups.wait_index_of (queue.waiter_of hand.ordinary)
 
 -- the hand's own steps on the charge book, newest first
 abbrev pub book_steps : {R : Type 0} → Hand R → List BookStep

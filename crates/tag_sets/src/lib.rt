@@ -38,4 +38,4 @@ pub use step_ledger::{GatherCause, Numbered};
 pub use tag_queue::{Options, QueueTotals, ResizeCause, SetFault, TagFault, Wakes};
 pub use tags::Tags;
 pub use texts::{write_dump, write_show};
-pub use wake_book::Left;
+pub use wake_book::{Grants, Left};

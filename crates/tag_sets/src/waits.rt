@@ -5,7 +5,7 @@ ghost use Rattle.wake_book.specs.Book.{counted_by};
 ghost use Rattle.wake_book.specs.declared.steps.BookStep.TheVariants.{LookCompletions, LookWakeups};
 ghost use Rattle.wake_book.specs.declared.steps.GroupStep.TheVariants.{Look};
 ghost use Rattle.tag_queue.specs.Agents.{teller_of};
-ghost use Rattle.tag_sets.specs.Hands.{reserved_of, total_of, IsHandOf, HasRoom, agent_of, standing_of, book_steps, group_steps};
+ghost use Rattle.tag_sets.specs.Hands.{reserved_of, total_of, IsHandOf, HasRoom, agent_of, standing_of, wait_index_of, book_steps, group_steps};
 ghost use Rattle.tag_sets.specs.Gets.{BlockingGets};
 ghost use Rattle.tag_sets.specs.Waits.{Enters, Leaves, StandsOn, Stays};
 ghost use Rattle.tag_sets.specs.declared.kind.Kind.TheVariants.{Ordinary};
@@ -37,6 +37,7 @@ impl<R: Copy> Tags<R> {
         ensures stands { IsOk result ↔ IsSome (standing_of hand.old) }
         ensures leaves { IfOk result (λ left. Leaves left hand.old hand.new) }
         ensures out { standing_of hand.new ≡ None }
+        ensures next { wait_index_of hand.new ≡ wait_index_of hand.old }
         ensures err { IfErr result (λ fault. (fault ≡ TagFault.NotWaiting) × (hand.new ≡ hand.old)) }
     {
         self.ordinary.finish_wait(rt, &mut hand.ordinary)
@@ -63,6 +64,7 @@ impl<R: Copy> Tags<R> {
         ensures counts { book_steps hand.new ≡ LookCompletions result.counted ∷ LookWakeups result.charged ∷ book_steps hand.old }
         ensures looks { group_steps hand.new ≡ Look active_at result.active ∷ Look index_at result.index ∷ group_steps hand.old }
         ensures ordered { result.charged ≤ result.counted }
+        ensures within { result.index < 8 }
         ensures own { counted_by (teller_of (agent_of hand.old Ordinary)) ≤ result.counted }
         ensures active { IsSome (standing_of hand.old) → 1 ≤ result.active }
         ensures same { Stays hand.old hand.new }

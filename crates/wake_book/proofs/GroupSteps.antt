@@ -117,10 +117,10 @@ word_step c g (Store v) h s can = get_or-set_other (words_in h) index_at (group_
 abbrev pub Own : ℕ → List GroupStep → Type 0
 Own g l = total (entered g) l ≡ total (used g) l + total (withdrawn g) l + here g (stand l)
 
-at_hit : (g u f old n : ℕ) → f ≡ old → at_group g u f old n ≡ cond (nat_eq u g) n 0
+pub at_hit : (g u f old n : ℕ) → f ≡ old → at_group g u f old n ≡ cond (nat_eq u g) n 0
 at_hit g u f old n e = ap (λ (z : ℕ). cond (nat_eq u g) z 0) (yes_of f old n 0 e)
 
-at_miss : (g u f old n : ℕ) → f ≢ old → at_group g u f old n ≡ 0
+pub at_miss : (g u f old n : ℕ) → f ≢ old → at_group g u f old n ≡ 0
 at_miss g u f old n ne = ap (λ (z : ℕ). cond (nat_eq u g) z 0) (no_of f old n 0 ne)
     ∙ dite (ℕ_discrete u g) (λ e. yes_of u g 0 0 e) (λ z. no_of u g 0 0 z)
 

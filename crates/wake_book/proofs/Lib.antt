@@ -6,6 +6,7 @@ pub mod Standing
 pub mod AllGroups
 pub mod GroupKeeps
 pub mod Lengths
+pub mod Granting
 pub mod GroupsEnding
 pub mod Crossing
 pub mod Waiters

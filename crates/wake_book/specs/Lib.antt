@@ -6,5 +6,6 @@ pub mod Waits
 pub mod WaitPlays
 pub mod Stands
 pub mod Walks
+pub mod Grants
 pub mod Balance
 pub mod Groups

@@ -35,7 +35,7 @@ impl Book {
 
     /// Counts `n` completions, 1 to 64, and charges one batch if one is open. Other tellers may count and charge
     /// meanwhile. It is the counterpart of `sbitmap_queue_wake_up` (lib/sbitmap.c) up to the wakeups, with at most 16
-    /// tries. This adds at most 49 steps to the teller's list and makes no other load.
+    /// tries. This adds at most 49 steps to the teller's list; loads that stand in no list are not counted.
     pub fn count(&self, teller: &mut Teller, n: u32) -> Charge
         requires book { IsTellerOf self.now teller.old }
         requires within { (1 ≤ n) × (n ≤ 64) }

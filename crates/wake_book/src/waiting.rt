@@ -67,7 +67,7 @@ impl Groups {
     }
 
     /// Raises the active count, enters the group of the waiter's wait index, advances that index by one (modulo 8), and
-    /// returns the group. This takes exactly two steps and no other load.
+    /// returns the group. This adds exactly two steps to the waiter's list.
     pub fn enter(&self, waiter: &mut Waiter) -> u32
         requires groups { IsWaiterOf self.now waiter.old }
         requires out { standing_of waiter.old ≡ None }

@@ -2,9 +2,11 @@
 ghost use Rattle.std.specs.Prelude.{◌≡◌, ◌+◌, ◌^◌, ◌<◌, ◌≤◌, ◌∷◌, length, IsTrue, IsFalse};
 ghost use Rattle.wake_book.specs.Waits.{waiting};
 ghost use Rattle.wake_book.specs.Walks.{VisitsGroup, IsWalk};
+ghost use Rattle.wake_book.specs.Grants.{AreGrantsOf};
 ghost use Rattle.wake_book.specs.Groups.{IsWaiterOf, steps_of, moved_of, StandsAsBefore, MovesMore, Loses};
 ghost use Rattle.wake_book.specs.declared.steps.GroupStep.TheVariants.{Grant, Store};
 
+use crate::grants::{Grants, NO_GRANTS};
 use crate::group_plays::{GrantSome, StoreIndex};
 use crate::groups::{GROUPS, Groups, INDEX, WAITING, Waiter, group_spot};
 
@@ -14,25 +16,11 @@ const TRIES: u32 = 4;
 /// The most waiters that one waiter may move to granted in all.
 const MAX_MOVED: u64 = 1 << 56;
 
-/// The outcome of a walk.
-#[derive(Clone, Copy, Debug, PartialEq, Eq)]
-pub struct Walked {
-    /// Waiters that it moved from waiting to granted, at most `nr`.
-    pub woken: u32,
-    /// The groups in which it did so: bit `g` is 1 for group `g`, 0 to 7.
-    pub groups: u32,
-}
-
-/// The outcome of a walk that granted nothing.
-const NOBODY: Walked = Walked {
-    woken: 0,
-    groups: 0,
-};
-
 impl Groups {
-    /// Moves up to `nr` waiters, 1 to 8, from waiting to granted, wakes the sleepers of their groups, and returns how
+    /// Moves up to `nr` waiters, 1 to 8, from waiting to granted, wakes as many sleepers in each group, and returns how
     /// many it moved. Like `__sbitmap_queue_wake_up` (lib/sbitmap.c) it visits the groups in cyclic order from the wake
-    /// index, each at most once. This adds at most 67 steps to the waiter's list and makes no other load of the table.
+    /// index, each at most once. This adds at most 67 steps to the waiter's list; loads that stand in no list are not
+    /// counted.
     pub fn wake(&self, waiter: &mut Waiter, nr: u32) -> u32
         requires groups { IsWaiterOf self.now waiter.old }
         requires within { (1 ≤ nr) × (nr ≤ 8) }
@@ -42,49 +30,41 @@ impl Groups {
         ensures lawful { IsWalk nr (steps_of waiter.old) (steps_of waiter.new) result }
         ensures bound { length (steps_of waiter.new) ≤ 67 + length (steps_of waiter.old) }
     {
-        let Walked { woken, groups } = self.walk(waiter, nr);
-        self.ring(groups);
-        woken
+        let grants = self.walk(waiter, nr);
+        self.ring(&grants);
+        grants.woken
     }
 
-    /// Like `wake`, but wakes no sleeper. The caller wakes them with `ring`, or by other means.
-    pub fn walk(&self, waiter: &mut Waiter, nr: u32) -> Walked
+    /// Like `wake`, but wakes no sleeper: it returns how many it moved in each group, and the caller wakes as many there
+    /// with `ring`, or by other means.
+    pub fn walk(&self, waiter: &mut Waiter, nr: u32) -> Grants
         requires groups { IsWaiterOf self.now waiter.old }
         requires within { (1 ≤ nr) × (nr ≤ 8) }
         ensures groups { IsWaiterOf self.now waiter.new × StandsAsBefore waiter.old waiter.new }
         ensures most { result.woken ≤ nr }
         ensures moved { moved_of waiter.new ≡ moved_of waiter.old + result.woken }
         ensures lawful { IsWalk nr (steps_of waiter.old) (steps_of waiter.new) result.woken }
+        ensures grants { AreGrantsOf result (steps_of waiter.old) (steps_of waiter.new) }
         ensures bound { length (steps_of waiter.new) ≤ 67 + length (steps_of waiter.old) }
     {
         if waiter.moved + nr as u64 > MAX_MOVED || self.active(waiter) == 0 {
-            return NOBODY;
+            return NO_GRANTS;
         }
         let mut group = self.index(waiter);
         let mut left = nr;
         let mut visits = 0u32;
-        let mut groups = 0u32;
+        let mut in_group = [0; GROUPS as usize];
         while left > 0 && visits < GROUPS {
             let moved = self.visit(waiter, group, left);
-            groups |= moved.min(1) << group;
+            in_group[group as usize] += moved as u8;
             left -= moved;
             group = (group + 1) % GROUPS;
             visits += 1;
         }
         self.store_index(waiter, group);
-        Walked {
+        Grants {
             woken: nr - left,
-            groups,
-        }
-    }
-
-    /// Wakes the sleepers of the groups whose bits are 1 in `groups`. No clause mentions sleepers.
-    #[inline(never)]
-    pub fn ring(&self, groups: u32) {
-        for group in 0..GROUPS {
-            if groups >> group & 1 == 1 {
-                self.bells[group as usize].notify_all();
-            }
+            in_group,
         }
     }
 

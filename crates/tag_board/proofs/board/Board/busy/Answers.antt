@@ -11,6 +11,8 @@ use Rattle.tag_board.proofs.Lookings.{busy_there, whole_list}
 use Rattle.tag_board.specs.Lones.{LoneListsBusy}
 use Rattle.tag_board.proofs.Solitary.{lones_moved}
 use Rattle.tag_board.proofs.SoloShows.{lists_alone}
+use Rattle.tag_board.proofs.Waiters.{waiters_rest, rests}
+use Rattle.tag_sets.specs.declared.kind.Kind.TheVariants.{Ordinary, Reserved}
 use Rattle.tag_board.proofs.board.Board.busy.Goals as goal
 
 pub invariant_of-self : goal.invariant_of-self
@@ -54,3 +56,11 @@ returns-clause-alone c = λ one.
     subst P (sym (whole_list bits.items into bits.len long))
     (lones_moved hands i old new one c.requires here (λ x y. LoneListsBusy x into y)
     (lists_alone b.tags old new own (sym b.every ∙ one) into c.busy.result c.busy.ensures.lists))
+
+pub returns-clause-waiters : goal.returns-clause-waiters
+returns-clause-waiters c =
+    let b = c.args.self.now in let i : ℕ = c.args.caller in let old = c.index_mut.result.now in
+    let new = c.busy.new.hand in let hands = b.hands.items in let here = c.index_mut.ensures.value in
+    let l = c.busy.ensures.lists in waiters_rest hands i old new c.requires here
+    (rests l.between new Ordinary l.second.looks.changed.same_else.1 l.second.looks.other
+    ∙ rests old l.between Reserved l.first.looks.changed.same_else.1 l.first.looks.other)

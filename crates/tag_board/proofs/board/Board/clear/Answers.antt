@@ -15,6 +15,8 @@ use Rattle.tag_board.specs.Lones.{LoneClears}
 use Rattle.tag_board.proofs.Outcomes.{ok_map}
 use Rattle.tag_board.proofs.Solitary.{does_moved}
 use Rattle.tag_board.proofs.SoloSets.{clear_alone}
+use Rattle.tag_board.proofs.Waiters.{waiters_move_if, cleared_grants}
+use Rattle.tag_board.specs.Wakeups.{GrantsFor}
 use Rattle.tag_board.proofs.board.Board.clear.Goals as goal
 
 pub invariant_of-self : goal.invariant_of-self
@@ -56,3 +58,13 @@ returns-clause-alone c = λ one.
     does_moved hands i old new one c.requires here (λ woken. LoneClears c.args.tag) c.clear.result
     (ok_map c.clear.result c.clear.ensures.clears
     (λ woken p. clear_alone b.tags old new own (sym b.every ∙ one) c.args.tag p)) c.clear.ensures.err
+
+pub returns-clause-waiters : goal.returns-clause-waiters
+returns-clause-waiters c =
+    let b = c.args.self.now in let i : ℕ = c.args.caller in let old = c.index_mut.result.now in
+    let new = c.clear.new.hand in
+    let hands = b.hands.items in let here = c.index_mut.ensures.value in
+    let own = own_here b.tags hands i old c.requires here b.own in let r = c.clear.result in
+    waiters_move_if hands i old new c.requires here (GrantsFor 1) r
+    (both_ok r c.clear.ensures.clears c.clear.ensures.counts
+    (λ woken p q. cleared_grants old new b.tags c.args.tag woken own.2 p q)) c.clear.ensures.err

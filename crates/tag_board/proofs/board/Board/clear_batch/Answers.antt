@@ -13,6 +13,9 @@ use Rattle.tag_board.proofs.Seats.{own_here, changes, unmoved, held_here, here_h
 use Rattle.tag_board.specs.Lones.{LoneClearsList}
 use Rattle.tag_board.proofs.Solitary.{does_moved}
 use Rattle.tag_board.proofs.SoloSets.{list_alone}
+use Rattle.tag_board.proofs.Waiters.{waiters_move_if, clear_grants}
+use Rattle.tag_board.specs.Wakeups.{GrantsFor}
+use Rattle.tag_sets.specs.declared.kind.Kind.TheVariants.{Ordinary}
 use Rattle.tag_board.proofs.board.Board.clear_batch.Goals as goal
 
 pub invariant_of-self : goal.invariant_of-self
@@ -75,3 +78,13 @@ returns-clause-alone c = λ one.
     does_moved hands i old new one c.requires here (λ woken. LoneClearsList c.args.tags.now) c.clear_batch.result
     (on_map _ c.clear_batch.result c.clear_batch.ensures.gives
     (λ g. list_alone b.tags old new own (sym b.every ∙ one) c.args.tags.now g)) c.clear_batch.ensures.err
+
+pub returns-clause-waiters : goal.returns-clause-waiters
+returns-clause-waiters c =
+    let b = c.args.self.now in let i : ℕ = c.args.caller in let old = c.index_mut.result.now in
+    let new = c.clear_batch.new.hand in
+    let hands = b.hands.items in let here = c.index_mut.ensures.value in
+    let r = c.clear_batch.result in let e = c.clear_batch.ensures in
+    waiters_move_if hands i old new c.requires here (GrantsFor (length c.args.tags.now)) r
+    (both_ok r e.gives e.counts
+    (λ woken p q. clear_grants old new b.tags Ordinary (length c.args.tags.now) woken q p.set.other)) e.err

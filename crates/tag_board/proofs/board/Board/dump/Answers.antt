@@ -11,6 +11,7 @@ use Rattle.tag_board.proofs.Lookings.{dump_there, depth_is, filled}
 use Rattle.tag_board.specs.Lones.{LoneDumps}
 use Rattle.tag_board.proofs.Solitary.{lones_moved}
 use Rattle.tag_board.proofs.SoloShows.{dumps_alone}
+use Rattle.tag_board.proofs.Waiters.{waiters_rest, rests}
 use Rattle.tag_board.proofs.board.Board.dump.Goals as goal
 use Rattle.tag_board.proofs.board.Board.dump.Goals.{After-dump}
 
@@ -56,3 +57,10 @@ returns-clause-alone c = λ one.
     subst P (whole (goal.at.returns-clause-alone c).After-dump)
     (lones_moved hands i old new one c.requires here (λ x y. LoneDumps kind x d.bytes y)
     (dumps_alone b.tags old new own (sym b.every ∙ one) kind d.bytes d.packed))
+
+pub returns-clause-waiters : goal.returns-clause-waiters
+returns-clause-waiters c =
+    let b = c.args.self.now in let i : ℕ = c.args.caller in let old = c.index_mut.result.now in
+    let new = c.dump.new.hand in let hands = b.hands.items in let here = c.index_mut.ensures.value in
+    let looks = c.dump.ensures.dumps.packed.around.looks in waiters_rest hands i old new c.requires here
+    (rests old new c.args.kind looks.changed.same_else.1 looks.other)

@@ -1,5 +1,5 @@
 -- The tag was not held by its caller before, and no other caller holds it now, so no caller held it.
-use Rattle.std.proofs.Common.{ℕ, Option, Ok, refl, sym, ◌∙◌, subst}
+use Rattle.std.proofs.Common.{◌≡◌, ℕ, Option, Ok, refl, sym, ◌∙◌, subst}
 use Rattle.tag_search.specs.Gains.{count_of}
 use Rattle.tag_sets.specs.declared.kind.Kind.TheVariants.{Ordinary}
 use Rattle.tag_board.specs.declared.board.Board.{Board}
@@ -14,6 +14,8 @@ use Rattle.tag_board.proofs.Seated.{seated, got}
 use Rattle.tag_board.proofs.Seats.{own_here, spent_here}
 use Rattle.tag_board.proofs.Solitary.{lones_moved, get_alone}
 use Rattle.tag_board.proofs.Winnings.{get_wins, holds_wins}
+use Rattle.tag_board.proofs.Waiters.{waiters_rest, rests}
+use Rattle.tag_board.specs.Boards.{waiters_of}
 use Rattle.tag_board.proofs.board.Board.get.Goals as goal
 
 pub invariant_of-self : goal.invariant_of-self
@@ -56,3 +58,11 @@ returns-clause-alone c = λ one.
     (lones_moved hands i old new one c.requires here (LoneGets Ordinary plain a)
     (get_alone b.tags old new (own_here b.tags hands i old c.requires here b.own) (sym b.every ∙ one) a
     c.in_ok-answer.ensures.gets))
+
+pub returns-clause-waiters : goal.returns-clause-waiters
+returns-clause-waiters c =
+    let b = c.args.self.now in let i : ℕ = c.args.caller in let old = c.index_mut.result.now in
+    let new = c.get.new.hand in let hands = b.hands.items in let here = c.index_mut.ensures.value in
+    let g = c.in_ok-answer.ensures.gets in
+    subst (λ (x : Board). waiters_of x ≡ waiters_of b) (sym c.tell_free.ensures.same)
+    (waiters_rest hands i old new c.requires here (rests old new Ordinary g.set.changed.others g.set.other))

@@ -15,6 +15,8 @@ use Rattle.tag_board.proofs.Seated.{seated}
 use Rattle.tag_board.proofs.Seats.{own_here, spent_here, room_here, round_here}
 use Rattle.tag_board.proofs.Solitary.{lones_moved, batch_alone}
 use Rattle.tag_board.proofs.Winnings.{none_around, batch_of_answer, batch_number, holds_wins, wins}
+use Rattle.tag_board.proofs.Waiters.{waiters_rest, batch_rests}
+use Rattle.tag_board.specs.Boards.{waiters_of}
 use Rattle.tag_board.proofs.board.Board.get_batch.Goals as goal
 
 pub invariant_of-self : goal.invariant_of-self
@@ -73,4 +75,13 @@ returns-clause-alone c = λ one.
     subst (λ (x : Board). Does (LoneBatch c.args.n) (lones_of b) (Ok a) (lones_of x)) (sym c.tell_run_free.ensures.same)
     (lones_moved hands i old new one c.requires here (LoneBatch c.args.n a)
     (batch_alone b.tags old new (own_here b.tags hands i old c.requires here b.own) (sym b.every ∙ one) c.args.n a
+    (none_around b.tags hands old new c.args.n a (Ok a) refl e.bad_count e.round_robin) e.gets))
+
+pub returns-clause-waiters : goal.returns-clause-waiters
+returns-clause-waiters c =
+    let b = c.args.self.now in let i : ℕ = c.args.caller in let old = c.index_mut.result.now in
+    let new = c.get_batch.new.hand in let hands = b.hands.items in let here = c.index_mut.ensures.value in
+    let a : Option (ℕ × ℕ) = c.in_ok-answer.answer in let e = c.in_ok-answer.ensures in
+    subst (λ (x : Board). waiters_of x ≡ waiters_of b) (sym c.tell_run_free.ensures.same)
+    (waiters_rest hands i old new c.requires here (batch_rests b.tags old new c.args.n a
     (none_around b.tags hands old new c.args.n a (Ok a) refl e.bad_count e.round_robin) e.gets))

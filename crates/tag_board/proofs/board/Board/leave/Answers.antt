@@ -16,6 +16,8 @@ use Rattle.tag_board.proofs.Solitary.{lones_moved}
 use Rattle.tag_board.proofs.SoloSets.{leave_alone}
 use Rattle.tag_board.specs.Parts.{lones_in}
 use Rattle.tag_board.proofs.Outcomes.{either_way}
+use Rattle.tag_board.proofs.Waiters.{waiters_move_if, wait_leaves}
+use Rattle.tag_board.specs.Wakeups.{Leaves}
 use Rattle.tag_board.proofs.board.Board.leave.Goals as goal
 
 pub invariant_of-self : goal.invariant_of-self
@@ -53,3 +55,12 @@ returns-clause-alone g c = λ one.
     lones_moved b.hands.items i old new one c.requires c.index_mut.ensures.value (λ x y. y ≡ x)
     (either_way r (ok_only _ r (ok_map r e.leaves (λ left l. leave_alone old new left l)))
     (on_err_weaker r (λ same. ap lones_in same) (err_same _ _ r e.err)))
+
+pub returns-clause-waiters : goal.returns-clause-waiters
+returns-clause-waiters g c =
+    let b = c.args.self.now in let i : ℕ = c.args.caller in let old = c.index_mut.result.now in
+    let new = c.finish_wait.new.hand in
+    let hands = b.hands.items in let here = c.index_mut.ensures.value in
+    let r = c.finish_wait.result in let e = c.finish_wait.ensures in
+    waiters_move_if hands i old new c.requires here Leaves r
+    (ok_map r e.leaves (λ left l. wait_leaves old new left l e.out e.next)) (err_same _ _ r e.err)

@@ -13,6 +13,11 @@ use Rattle.tag_board.specs.Lones.{LonePosts}
 use Rattle.tag_board.proofs.Outcomes.{on_map}
 use Rattle.tag_board.proofs.Solitary.{does_moved}
 use Rattle.tag_board.proofs.SoloSets.{post_alone}
+use Rattle.tag_board.proofs.Waiters.{waiters_rest, rests}
+use Rattle.tag_board.proofs.Outcomes.{either_way}
+use Rattle.tag_board.specs.Parts.{waiter_of}
+use Rattle.tag_sets.specs.Hands.{split_of}
+use Rattle.tag_sets.specs.Sets.{kind_of}
 use Rattle.tag_board.proofs.board.Board.post.Goals as goal
 
 pub invariant_of-self : goal.invariant_of-self
@@ -45,3 +50,12 @@ returns-clause-alone c = λ one.
     does_moved hands i old new one c.requires here (λ done. LonePosts c.args.tag) c.post.result
     (on_map _ c.post.result c.post.ensures.posts (λ p. post_alone b.tags old new own (sym b.every ∙ one) c.args.tag p))
     c.post.ensures.err
+
+pub returns-clause-waiters : goal.returns-clause-waiters
+returns-clause-waiters c =
+    let b = c.args.self.now in let i : ℕ = c.args.caller in let old = c.index_mut.result.now in
+    let new = c.post.new.hand in let hands = b.hands.items in let here = c.index_mut.ensures.value in
+    let r = c.post.result in waiters_rest hands i old new c.requires here (either_way r
+    (on_ok_weaker r (λ p. rests old new (kind_of (split_of old) c.args.tag) p.set.changed.same_else.1 p.set.other)
+    c.post.ensures.posts)
+    (on_err_weaker r (λ same. ap waiter_of same) c.post.ensures.err))

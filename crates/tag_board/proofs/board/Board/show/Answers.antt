@@ -8,6 +8,7 @@ use Rattle.tag_board.proofs.Lookings.{show_depth, show_words, show_few}
 use Rattle.tag_board.specs.Lones.{LoneShows}
 use Rattle.tag_board.proofs.Solitary.{lones_moved}
 use Rattle.tag_board.proofs.SoloShows.{shows_alone}
+use Rattle.tag_board.proofs.Waiters.{waiters_rest, rests}
 use Rattle.tag_board.proofs.board.Board.show.Goals as goal
 
 pub invariant_of-self : goal.invariant_of-self
@@ -38,3 +39,10 @@ returns-clause-alone c = λ one.
     let own = own_here b.tags hands i old c.requires here b.own in
     lones_moved hands i old new one c.requires here (λ x y. LoneShows c.args.kind x c.show.result y)
     (shows_alone b.tags old new own (sym b.every ∙ one) c.args.kind c.show.result c.show.ensures.shows)
+
+pub returns-clause-waiters : goal.returns-clause-waiters
+returns-clause-waiters c =
+    let b = c.args.self.now in let i : ℕ = c.args.caller in let old = c.index_mut.result.now in
+    let new = c.show.new.hand in let hands = b.hands.items in let here = c.index_mut.ensures.value in
+    let looks = c.show.ensures.shows.around.looks in waiters_rest hands i old new c.requires here
+    (rests old new c.args.kind looks.changed.same_else.1 looks.other)

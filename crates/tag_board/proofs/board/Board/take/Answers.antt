@@ -1,5 +1,5 @@
 -- The tag was not held by its caller before, and no other caller holds it now, so no caller held it.
-use Rattle.std.proofs.Common.{rules, ◌≡◌, ℕ, nat_eq, Ok, Err, IfErr, refl, sym, ap, ◌∙◌, subst, eq-eqb, eqb-true}
+use Rattle.std.proofs.Common.{⊎_elim, rules, ◌≡◌, ℕ, nat_eq, Ok, Err, IfErr, refl, sym, ap, ◌∙◌, subst, eq-eqb, eqb-true}
 use Rattle.tag_board.specs.declared.board.Board.{Board}
 use Rattle.tag_board.specs.Boards.{state_of, lones_of}
 use Rattle.tag_board.specs.Replays.{Takes, joined}
@@ -12,6 +12,11 @@ use Rattle.tag_board.proofs.Winnings.{holds_won, free_before}
 use Rattle.tag_board.specs.Lones.{LoneTakes}
 use Rattle.tag_board.proofs.Solitary.{lones_moved}
 use Rattle.tag_board.proofs.SoloSets.{take_alone}
+use Rattle.tag_board.proofs.Waiters.{waiters_rest, rests}
+use Rattle.tag_board.specs.Boards.{waiters_of}
+use Rattle.tag_sets.specs.Hands.{split_of}
+use Rattle.tag_sets.specs.Sets.{kind_of}
+use Rattle.tag_board.specs.Parts.{waiter_of}
 use Rattle.tag_board.proofs.board.Board.take.Goals as goal
 
 pub invariant_of-self : goal.invariant_of-self
@@ -75,3 +80,20 @@ returns-in_err-take-clause-alone c = λ one.
     lone_refused b.tags hands i old new b.every one c.requires here own c.args.tag c.from_residual.result
     c.in_err-take.field-0.0
     c.from_residual.ensures.0 told c.in_err-take.ensures.refuses
+
+pub returns-clause-waiters : goal.returns-clause-waiters
+returns-clause-waiters c =
+    let b = c.args.self.now in let i : ℕ = c.args.caller in let old = c.index_mut.result.now in
+    let new = c.take.new.hand in let hands = b.hands.items in let here = c.index_mut.ensures.value in
+    let t = c.in_ok-take.ensures.takes in
+    subst (λ (x : Board). waiters_of x ≡ waiters_of b) (sym c.tell_free.ensures.same)
+    (waiters_rest hands i old new c.requires here
+    (rests old new (kind_of (split_of old) c.args.tag) t.set.changed.same_else.1 t.set.other))
+
+pub returns-in_err-take-clause-waiters : goal.returns-in_err-take-clause-waiters
+returns-in_err-take-clause-waiters c =
+    let b = c.args.self.now in let i : ℕ = c.args.caller in let old = c.index_mut.result.now in
+    let new = c.take.new.hand in let hands = b.hands.items in let here = c.index_mut.ensures.value in
+    waiters_rest hands i old new c.requires here (⊎_elim (λ same. ap waiter_of same.1)
+    (λ m. rests old new (kind_of (split_of old) c.args.tag) m.1.set.changed.same_else.1 m.1.set.other)
+    c.in_err-take.ensures.refuses)

@@ -15,6 +15,8 @@ use Rattle.tag_board.proofs.Solitary.{lones_moved}
 use Rattle.tag_board.proofs.SoloSets.{enter_alone}
 use Rattle.tag_board.specs.Parts.{lones_in}
 use Rattle.tag_board.proofs.Outcomes.{either_way}
+use Rattle.tag_board.proofs.Waiters.{waiters_move_if, wait_enters}
+use Rattle.tag_board.specs.Wakeups.{Enters}
 use Rattle.tag_board.proofs.board.Board.wait.Goals as goal
 
 pub invariant_of-self : goal.invariant_of-self
@@ -53,3 +55,13 @@ returns-clause-alone c = λ one.
     lones_moved b.hands.items i old new one c.requires c.index_mut.ensures.value (λ x y. y ≡ x)
     (either_way r (ok_only _ r (ok_map r e.enters (λ group e. enter_alone old new group e)))
     (on_err_weaker r (λ same. ap lones_in same) (err_same _ _ r e.err)))
+
+pub returns-clause-waiters : goal.returns-clause-waiters
+returns-clause-waiters c =
+    let b = c.args.self.now in let i : ℕ = c.args.caller in let old = c.index_mut.result.now in
+    let new = c.prepare_wait.new.hand in
+    let hands = b.hands.items in let here = c.index_mut.ensures.value in
+    let r = c.prepare_wait.result in
+    waiters_move_if hands i old new c.requires here Enters r
+    (ok_map r c.prepare_wait.ensures.enters (λ group e. wait_enters old new group e))
+    (err_same _ _ r c.prepare_wait.ensures.err)

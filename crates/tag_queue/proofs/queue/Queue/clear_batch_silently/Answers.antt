@@ -5,4 +5,4 @@ use Rattle.tag_queue.proofs.queue.Queue.clear_batch_silently.Goals as goal
 
 pub returns-clause-counts : goal.returns-clause-counts
 returns-clause-counts g c = counts_after c.args.self.now (length c.args.tags.now) c.args.agent.now c.give_back.new.agent
-    c.complete-woken.new.agent c.complete-woken.result.woken c.give_back.ensures.others c.complete-woken.ensures.counts
+    c.complete.new.agent c.complete.result.woken c.give_back.ensures.others c.complete.ensures.counts

@@ -3,5 +3,5 @@ use Rattle.tag_queue.proofs.Counting.{counts_after}
 use Rattle.tag_queue.proofs.queue.Queue.clear_silently.Goals as goal
 
 pub returns-clause-counts : goal.returns-clause-counts
-returns-clause-counts g c = counts_after c.args.self.now 1 c.args.agent.now c.put.new.agent c.complete-woken.new.agent
-    c.complete-woken.result.woken c.put.ensures.others c.complete-woken.ensures.counts
+returns-clause-counts g c = counts_after c.args.self.now 1 c.args.agent.now c.put.new.agent c.complete.new.agent
+    c.complete.result.woken c.put.ensures.others c.complete.ensures.counts

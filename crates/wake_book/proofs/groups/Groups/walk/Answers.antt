@@ -1,8 +1,12 @@
 -- A visit adds at most eight steps, so eight visits, two loads before them and one store after them add at most 67.
-use Rattle.std.proofs.Common.{arith, ◌≡◌, ℕ, suc, ◌+◌, ◌-◌, ◌%◌, ◌∷◌, length, refl, ap, ◌∙◌, subst}
+use Rattle.std.proofs.Common.{arith, ◌<◌, ◌≤◌, length-set, get_or, sum, ◌≡◌, ℕ, suc, ◌+◌, ◌-◌, ◌%◌, ◌∷◌, length, refl, ap, ◌∙◌, subst}
 use Rattle.wake_book.specs.declared.steps.GroupStep.TheVariants.{Look}
 use Rattle.wake_book.specs.Groups.{steps_of}
+use Rattle.step_ledger.specs.History.{total}
+use Rattle.wake_book.specs.Grants.{granted_in}
+use Rattle.wake_book.specs.Waits.{moved_by}
 use Rattle.wake_book.specs.Walks.{AreVisits}
+use Rattle.wake_book.proofs.Granting.{granted_by_visit, counted_at, sum_set}
 use Rattle.wake_book.proofs.Lengths.{visits_long}
 use Rattle.wake_book.specs.Waits.{active_at, index_at}
 use Rattle.wake_book.proofs.groups.Groups.walk.Goals as goal
@@ -40,6 +44,15 @@ loop-left-preserved c = let inv = c.loop-left.invariant in let e = c.visit-moved
               refl,
             ),
       );
+      eight = length-set c.loop-left.in_group c.loop-left.group (get_or c.loop-left.in_group c.loop-left.group 0 + c.visit-moved.result) ∙ inv.eight;
+      sum_is = let up = sum_set c.loop-left.in_group c.loop-left.group (get_or c.loop-left.in_group c.loop-left.group 0 + c.visit-moved.result) (let low = inv.few.1 in let long = inv.eight in omega arith) in
+          let is = inv.sum_is in omega arith;
+      each = λ group low.
+          let visit = granted_by_visit group c.loop-left.group c.loop-left.left (steps_of c.loop-left.waiter)
+          (steps_of c.visit-moved.new.waiter) c.visit-moved.result e.visit in
+          let is = inv.each group low in
+          let entry = counted_at c.loop-left.in_group c.loop-left.group group c.visit-moved.result
+          (let here = inv.few.1 in let long = inv.eight in omega arith) in omega arith;
     }
 
 pub returns-clause-bound : goal.returns-clause-bound
@@ -47,3 +60,19 @@ returns-clause-bound c = let inv = c.loop-left.invariant in let walk = inv.walk 
     let e = ap length c.store_index.ensures.step in
     let l = visits_long c.loop-left.visits walk.0 c.args.nr (Look index_at walk.0 ∷ Look active_at walk.1 ∷ steps_of
     c.args.waiter.now) (steps_of c.loop-left.waiter) c.loop-left.left c.loop-left.group walk.3 in omega arith
+
+pub overflow_add-in_group : goal.overflow_add-in_group
+overflow_add-in_group c = let inv = c.loop-left.invariant in let is = inv.sum_is in let within = c.requires.within in
+    let few = sum_set c.loop-left.in_group c.loop-left.group 0 (let here = inv.few.1 in let long = inv.eight in omega arith)
+    in let moved = c.visit-moved.ensures.moved.0 in
+    omega arith
+
+pub returns-clause-grants : goal.returns-clause-grants
+returns-clause-grants c = let inv = c.loop-left.invariant in let is = inv.sum_is in
+    let now = c.loop-left.waiter.moves.0 in let then = c.args.waiter.now.moves.0 in let more = inv.moved in
+    let steps = ap (total moved_by) c.store_index.ensures.step in record {
+      each = λ group low. let step = ap (total (granted_in group)) c.store_index.ensures.step in
+          let before = inv.each group low in omega arith;
+      all = omega arith;
+      sum_is = omega arith;
+    }

@@ -1,7 +1,10 @@
--- The visits so far moved `nr - left` waiters, in cyclic order from the wake index; there are at most eight of them.
-use Rattle.std.proofs.Common.{◌≡◌, ℕ, ◌+◌, ◌-◌, ◌<◌, ◌≤◌, ◌∷◌}
+-- The visits so far moved `nr - left` waiters, in cyclic order from the wake index, and as many in each group as its
+-- entry says; there are at most eight visits.
+use Rattle.std.proofs.Common.{length, get_or, sum, ◌≡◌, ℕ, ◌+◌, ◌-◌, ◌<◌, ◌≤◌, ◌∷◌}
 use Rattle.wake_book.specs.declared.steps.GroupStep.TheVariants.{Look}
 use Rattle.wake_book.specs.Groups.{IsWaiterOf, steps_of, StandsAsBefore}
+use Rattle.step_ledger.specs.History.{total}
+use Rattle.wake_book.specs.Grants.{granted_in}
 use Rattle.wake_book.specs.Walks.{AreVisits}
 use Rattle.wake_book.specs.Waits.{active_at, index_at}
 use Rattle.wake_book.proofs.groups.Groups.walk.Given as goal
@@ -13,6 +16,10 @@ invariant-loop-left l = record {
   moved : l.waiter.moved + l.left ≡ l.fn.waiter.moved + l.nr;
   walk : (first : ℕ) × (active : ℕ) × (1 ≤ active) × AreVisits l.visits first l.nr
       (Look index_at first ∷ Look active_at active ∷ steps_of l.fn.waiter) (steps_of l.waiter) l.left l.group;
+  eight : length l.in_group ≡ 8;
+  sum_is : sum l.in_group + l.left ≡ l.nr;
+  each : (group : ℕ) → group < 8 → total (granted_in group) (steps_of l.waiter)
+      ≡ total (granted_in group) (steps_of l.fn.waiter) + get_or l.in_group group 0;
 }
 
 abbrev pub decreases-loop-left : goal.decreases-loop-left

@@ -1,0 +1,136 @@
+/*
+ * Threads that wait for few tags: a pool beside a list behind a mutex with a
+ * condition variable. waits CONTENDER THREADS TAGS MICROSECONDS SECONDS
+ *
+ * Each thread gets a tag, holds it for some microseconds, and gives it back. 0 is
+ * about a microsecond of work; anything else is a sleep. It prints thousands of
+ * rounds a second, and for each round the processor time in microseconds and the
+ * voluntary switches.
+ */
+#define _GNU_SOURCE
+#include <inttypes.h>
+#include <pthread.h>
+#include <stdbool.h>
+#include <stdio.h>
+#include <stdlib.h>
+#include <string.h>
+#include <sys/resource.h>
+#include <time.h>
+#include <unistd.h>
+
+#include "../c/tags.h"
+
+enum { MOST = 64 };
+
+struct thread {
+	pthread_t id;
+	struct tags_hand hand;
+	uint64_t rounds;
+};
+
+static struct tags_bell bell = TAGS_BELL;
+static struct {
+	pthread_mutex_t lock;
+	pthread_cond_t freed;
+	uint32_t count;
+	uint32_t tags[MOST];
+} list = { .lock = PTHREAD_MUTEX_INITIALIZER, .freed = PTHREAD_COND_INITIALIZER };
+
+static bool has_list;
+static long us;
+static bool is_over;
+
+static uint32_t get(struct thread *self)
+{
+	uint32_t tag;
+
+	if (!has_list) {
+		int32_t got = tags_get_blocking(&self->hand, &bell);
+
+		if (got < 0)
+			abort();
+		return (uint32_t)got;
+	}
+	pthread_mutex_lock(&list.lock);
+	while (list.count == 0)
+		pthread_cond_wait(&list.freed, &list.lock);
+	tag = list.tags[--list.count];
+	pthread_mutex_unlock(&list.lock);
+	return tag;
+}
+
+static void give(struct thread *self, uint32_t tag)
+{
+	if (!has_list) {
+		if (tags_give(&self->hand, &bell, tag) < 0)
+			abort();
+		return;
+	}
+	pthread_mutex_lock(&list.lock);
+	list.tags[list.count++] = tag;
+	pthread_cond_signal(&list.freed);
+	pthread_mutex_unlock(&list.lock);
+}
+
+static void hold(void)
+{
+	struct timespec time = { 0, us * 1000 };
+
+	if (us > 0)
+		nanosleep(&time, NULL);
+	for (volatile int i = us > 0 ? 0 : 700; i > 0; i--)
+		;
+}
+
+static void *run(void *argument)
+{
+	struct thread *self = argument;
+
+	while (!__atomic_load_n(&is_over, __ATOMIC_RELAXED)) {
+		uint32_t tag = get(self);
+
+		hold();
+		give(self, tag);
+		self->rounds++;
+	}
+	return NULL;
+}
+
+int main(int argc, char **argv)
+{
+	static struct thread threads[MOST];
+	struct tags_pool pool = TAGS_EMPTY;
+	struct tags_options options = { .shift = TAGS_DEFAULT_SHIFT };
+	struct rusage used;
+	uint64_t rounds = 0;
+	double seconds;
+
+	if (argc != 6)
+		return 2;
+	has_list = strcmp(argv[1], "list") == 0;
+	options.hands = (uint32_t)atoi(argv[2]);
+	options.total = (uint32_t)atoi(argv[3]);
+	us = atol(argv[4]);
+	seconds = atof(argv[5]);
+	if (options.hands > MOST || options.total > MOST || tags_open(&pool, &options) != TAGS_OK)
+		return 2;
+	for (uint32_t i = 0; i < options.total; i++)
+		list.tags[list.count++] = i;
+	for (uint32_t i = 0; i < options.hands; i++)
+		if (tags_join(&pool, &threads[i].hand, 0) != TAGS_OK ||
+		    pthread_create(&threads[i].id, NULL, run, &threads[i]) != 0)
+			return 1;
+	usleep((useconds_t)(seconds * 1e6));
+	__atomic_store_n(&is_over, true, __ATOMIC_RELAXED);
+	for (uint32_t i = 0; i < options.hands; i++) {
+		pthread_join(threads[i].id, NULL);
+		rounds += threads[i].rounds;
+	}
+	getrusage(RUSAGE_SELF, &used);
+	printf("%.1f %.2f %.2f\n", (double)rounds / seconds / 1e3,
+	       ((double)(used.ru_utime.tv_sec + used.ru_stime.tv_sec) * 1e6 +
+		(double)(used.ru_utime.tv_usec + used.ru_stime.tv_usec)) /
+		       (double)rounds,
+	       (double)used.ru_nvcsw / (double)rounds);
+	return 0;
+}

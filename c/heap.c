@@ -1,0 +1,54 @@
+/*
+ * The memory of the library: the three functions by which code of the toolchain
+ * allocates, over malloc() on each processor. The proof of their callers shows
+ * that no alignment is above 16, which malloc() keeps to, and that each pointer
+ * passed is one that was returned here and not freed since.
+ */
+#include <stddef.h>
+#include <stdint.h>
+#include <stdlib.h>
+
+/* Returned in two registers: whether there was memory, and a pointer that is never NULL. */
+struct tried {
+	uint64_t is_given;
+	void *start;
+};
+
+struct tried rattle_alloc(size_t size, size_t align);
+struct tried rattle_realloc(void *start, size_t size, size_t new_size, size_t align);
+void rattle_dealloc(void *start);
+
+/* Where the pointer leads if there was no memory. */
+static char nothing[16];
+
+static struct tried tried(void *start)
+{
+	struct tried given = { 1, start };
+	struct tried refused = { 0, nothing };
+
+	return start ? given : refused;
+}
+
+/* malloc(0) may return NULL, which would be no refusal. */
+static size_t at_least_one(size_t size)
+{
+	return size > 0 ? size : 1;
+}
+
+struct tried rattle_alloc(size_t size, size_t align)
+{
+	(void)align;
+	return tried(malloc(at_least_one(size)));
+}
+
+struct tried rattle_realloc(void *start, size_t size, size_t new_size, size_t align)
+{
+	(void)size;
+	(void)align;
+	return tried(realloc(start, at_least_one(new_size)));
+}
+
+void rattle_dealloc(void *start)
+{
+	free(start);
+}

@@ -1,0 +1,292 @@
+/*
+ * Threads that make random calls on several pools at once: gets, gives, posts,
+ * takes, waits with and without a limit, leaves and joins. A table of the owner
+ * of each tag shows a second one. After each round each pool is resized, and at
+ * the end its sums are those that the threads counted. fuzz_threads [SECONDS [SEED]]
+ */
+#define _GNU_SOURCE
+#include <inttypes.h>
+#include <pthread.h>
+#include <stdbool.h>
+#include <stdio.h>
+#include <stdlib.h>
+#include <time.h>
+
+#include "../tags.h"
+
+enum {
+	POOLS = 3,
+	THREADS = 8,
+	/* the most tags of a pool, and those of them that a hand holds at once */
+	TAGS = 200,
+	MOST = 6,
+	RESERVED = 2,
+	TURNS = 4000
+};
+
+struct pool {
+	struct tags_pool pool;
+	struct tags_bell bell;
+	/* the handle of a pool is in one call at a time */
+	pthread_mutex_t lock;
+	uint32_t total;
+	/* the thread that owns each tag, or 0 */
+	uint32_t owner[TAGS];
+	/* what belongs to a tag, and is no atomic word */
+	uint64_t cell[TAGS];
+	uint64_t got;
+	uint64_t back;
+};
+
+/* A thread's hand of one pool, and what it holds. */
+struct part {
+	struct tags_hand hand;
+	uint32_t held[MOST];
+	uint32_t count;
+};
+
+struct thread {
+	pthread_t id;
+	uint32_t number;
+	uint64_t state;
+	struct part part[POOLS];
+};
+
+static struct pool pools[POOLS];
+static struct thread threads[THREADS];
+static uint64_t calls;
+static uint64_t wrong;
+
+static void check(bool is_well, const char *what)
+{
+	if (is_well)
+		return;
+	if (__atomic_fetch_add(&wrong, 1, __ATOMIC_RELAXED) < 20)
+		fprintf(stderr, "wrong: %s\n", what);
+}
+
+#define CHECK(what) check(what, #what)
+
+static uint32_t below(struct thread *self, uint32_t bound)
+{
+	self->state = self->state * 6364136223846793005u + 1442695040888963407u;
+	return (uint32_t)(self->state >> 33) % bound;
+}
+
+static uint64_t value_of(const struct thread *self, uint32_t tag)
+{
+	return (uint64_t)self->number << 32 | tag;
+}
+
+/* Records a tag that a call returned, and writes its slot. */
+static void own(struct thread *self, uint32_t at, uint32_t tag)
+{
+	struct part *part = &self->part[at];
+
+	CHECK(tag < pools[at].total);
+	CHECK(__atomic_exchange_n(&pools[at].owner[tag], self->number, __ATOMIC_RELAXED) == 0);
+	CHECK(tags_write(&part->hand, tag, value_of(self, tag), NULL) == TAGS_OK);
+	pools[at].cell[tag] = value_of(self, tag);
+	part->held[part->count++] = tag;
+}
+
+/* Forgets a held tag, whose slot is as this thread left it. */
+static uint32_t disown(struct thread *self, uint32_t at)
+{
+	struct part *part = &self->part[at];
+	uint32_t which = below(self, part->count);
+	uint32_t tag = part->held[which];
+	uint64_t value = 0;
+
+	part->held[which] = part->held[--part->count];
+	CHECK(tags_read(&part->hand, tag, &value) == TAGS_OK && value == value_of(self, tag));
+	CHECK(pools[at].cell[tag] == value_of(self, tag));
+	pools[at].cell[tag] = 0;
+	CHECK(__atomic_exchange_n(&pools[at].owner[tag], 0, __ATOMIC_RELAXED) == self->number);
+	return tag;
+}
+
+static void count_got(uint32_t at)
+{
+	__atomic_fetch_add(&pools[at].got, 1, __ATOMIC_RELAXED);
+}
+
+static void count_back(uint32_t at)
+{
+	__atomic_fetch_add(&pools[at].back, 1, __ATOMIC_RELAXED);
+}
+
+static void give_one(struct thread *self, uint32_t at)
+{
+	struct tags_hand *hand = &self->part[at].hand;
+	uint32_t tag = disown(self, at);
+	uint32_t way = below(self, 3);
+
+	if (way == 0)
+		CHECK(tags_give(hand, &pools[at].bell, tag) >= 0);
+	else if (way == 1 && tag >= RESERVED)
+		CHECK(tags_give_batch(hand, &pools[at].bell, &tag, 1) >= 0);
+	else
+		CHECK(tags_ring(&pools[at].bell, tags_clear(hand, tag)) >= 0);
+	CHECK(tags_clear(hand, tag) == TAGS_NOT_HELD);
+	count_back(at);
+}
+
+static int32_t get_in_time(struct thread *self, uint32_t at)
+{
+	struct timespec end;
+
+	clock_gettime(CLOCK_MONOTONIC, &end);
+	end.tv_nsec += (long)below(self, 200000);
+	end.tv_sec += end.tv_nsec / 1000000000;
+	end.tv_nsec %= 1000000000;
+	return tags_get_timed(&self->part[at].hand, &pools[at].bell, CLOCK_MONOTONIC, &end);
+}
+
+/* A thread that waits without a limit holds nothing, of no pool, so that others can go on. */
+static bool holds_nothing(const struct thread *self)
+{
+	for (uint32_t at = 0; at < POOLS; at++)
+		if (self->part[at].count > 0)
+			return false;
+	return true;
+}
+
+static void get_one(struct thread *self, uint32_t at)
+{
+	struct tags_hand *hand = &self->part[at].hand;
+	uint32_t way = below(self, 8);
+	int32_t tag;
+
+	if (way == 0)
+		tag = tags_get_reserved(hand);
+	else if (way == 1)
+		tag = tags_get_shallow(hand, 1 + below(self, 8));
+	else if (way == 2)
+		tag = get_in_time(self, at);
+	else if (way == 3 && holds_nothing(self))
+		tag = tags_get_blocking(hand, &pools[at].bell);
+	else
+		tag = tags_get(hand);
+	CHECK(tag >= 0 || tag == TAGS_NO_TAG || (tag == TAGS_TIMED_OUT && way == 2));
+	if (tag < 0)
+		return;
+	own(self, at, (uint32_t)tag);
+	count_got(at);
+}
+
+static void take_one(struct thread *self, uint32_t at)
+{
+	uint32_t tag = below(self, pools[at].total);
+	int32_t status = tags_take(&self->part[at].hand, tag);
+
+	CHECK(status == TAGS_OK || status == TAGS_NOT_POSTED);
+	if (status == TAGS_OK)
+		own(self, at, tag);
+}
+
+static void leave_and_join(struct thread *self, uint32_t at)
+{
+	struct part *part = &self->part[at];
+
+	while (part->count > 0)
+		give_one(self, at);
+	pthread_mutex_lock(&pools[at].lock);
+	CHECK(tags_leave(&part->hand) == TAGS_OK);
+	CHECK(tags_join(&pools[at].pool, &part->hand, below(self, 2)) == TAGS_OK);
+	pthread_mutex_unlock(&pools[at].lock);
+}
+
+/* A posted tag could keep those waiting that wait without a limit, so its thread takes one back at once if it can. */
+static void post_one(struct thread *self, uint32_t at)
+{
+	uint32_t tag = disown(self, at);
+	int32_t status;
+
+	CHECK(tags_post(&self->part[at].hand, tag) == TAGS_OK);
+	status = tags_take(&self->part[at].hand, tag);
+	CHECK(status == TAGS_OK || status == TAGS_NOT_POSTED);
+	if (status == TAGS_OK)
+		own(self, at, tag);
+}
+
+static void *run(void *argument)
+{
+	struct thread *self = argument;
+
+	for (uint32_t turn = 0; turn < TURNS; turn++) {
+		uint32_t at = below(self, POOLS);
+		uint32_t dice = below(self, 64);
+		struct part *part = &self->part[at];
+
+		if (dice == 0)
+			leave_and_join(self, at);
+		else if (dice < 8 && part->count < MOST)
+			take_one(self, at);
+		else if (dice < 16 && part->count > 0)
+			post_one(self, at);
+		else if (dice < 40 && part->count < MOST)
+			get_one(self, at);
+		else if (part->count > 0)
+			give_one(self, at);
+	}
+	for (uint32_t at = 0; at < POOLS; at++)
+		while (self->part[at].count > 0)
+			give_one(self, at);
+	__atomic_fetch_add(&calls, TURNS, __ATOMIC_RELAXED);
+	return NULL;
+}
+
+static void run_round(void)
+{
+	for (int i = 0; i < THREADS; i++) {
+		for (uint32_t at = 0; at < POOLS; at++)
+			CHECK(tags_join(&pools[at].pool, &threads[i].part[at].hand, 0) == TAGS_OK);
+	}
+	for (int i = 0; i < THREADS; i++)
+		CHECK(pthread_create(&threads[i].id, NULL, run, &threads[i]) == 0);
+	for (int i = 0; i < THREADS; i++) {
+		pthread_join(threads[i].id, NULL);
+		for (uint32_t at = 0; at < POOLS; at++)
+			CHECK(tags_leave(&threads[i].part[at].hand) == TAGS_OK);
+	}
+}
+
+static void resize(uint32_t at)
+{
+	struct pool *pool = &pools[at];
+
+	pool->total = RESERVED + 1 + below(&threads[0], at == 0 ? 4 : TAGS - RESERVED - 1);
+	CHECK(tags_resize(&pool->pool, pool->total) == TAGS_OK);
+	CHECK(pool->bell.sleepers == 0 && pool->bell.waking == 0);
+}
+
+int main(int argc, char **argv)
+{
+	time_t end = time(NULL) + (argc > 1 ? atol(argv[1]) : 5);
+	struct tags_options options = { .reserved = RESERVED, .shift = 3, .hands = THREADS };
+	struct tags_sums sums;
+
+	for (uint32_t i = 0; i < THREADS; i++) {
+		threads[i].number = i + 1;
+		threads[i].state = (argc > 2 ? strtoull(argv[2], NULL, 10) : 1) * 64 + i;
+	}
+	for (uint32_t at = 0; at < POOLS; at++) {
+		pthread_mutex_init(&pools[at].lock, NULL);
+		options.total = pools[at].total = 4 + at * 40;
+		CHECK(tags_open(&pools[at].pool, &options) == TAGS_OK);
+	}
+	do {
+		run_round();
+		for (uint32_t at = 0; at < POOLS; at++)
+			resize(at);
+	} while (time(NULL) < end);
+	for (uint32_t at = 0; at < POOLS; at++) {
+		CHECK(tags_close(&pools[at].pool, &sums) == TAGS_OK);
+		CHECK(sums.got == pools[at].got && sums.back == pools[at].back);
+		CHECK(sums.got == sums.back && sums.held == 0 && sums.posted == 0);
+	}
+	fprintf(stderr, "%" PRIu64 " turns\n", calls);
+	printf("%" PRIu64 " wrong\n", wrong);
+	return wrong != 0;
+}

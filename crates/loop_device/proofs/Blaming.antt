@@ -1,0 +1,50 @@
+-- What a play reports where it fails.
+use Rattle.std.proofs.Common.{◌≡◌, ℕ, zero, suc, ◌<◌, List, [], ◌∷◌, Result, Ok, Err, IfErr, length, map, get_or, inl, inr, refl, arith}
+use Rattle.std.specs.List.{Contains}
+use Rattle.std.proofs.lemmas.List.Elements.{Contains-append_right}
+use Rattle.std.proofs.lemmas.List.{length-map}
+use Rattle.tag_model.specs.declared.totals.Totals.{Totals}
+use Rattle.loop_device.specs.declared.io.Io.{Io}
+use Rattle.loop_device.specs.declared.io.Done.{Done}
+use Rattle.loop_device.specs.declared.fault.PlayFault.{PlayFault}
+use Rattle.loop_device.specs.declared.fault.PlayFault.TheVariants.{Memory, Setup, Lost, Twice, Stranger}
+use Rattle.loop_device.specs.declared.report.Report.{Report}
+use Rattle.loop_device.specs.declared.workers.Faults.{Faults}
+use Rattle.loop_device.specs.Requests.{IsLineOf}
+use Rattle.loop_device.specs.Verdict.{IsPlayFault}
+use Rattle.loop_device.specs.Playing.{IsClean, IsJudged, NamesLine}
+
+-- a fault of the verdict is that of the play, where no thread ran into another
+pub passed_on : (ios : List Io) (done : List Done) (totals : Totals) (faults : Faults) (fault : PlayFault)
+    → IsClean faults → IsPlayFault ios done fault → IsJudged ios done totals faults fault
+passed_on ios done totals faults Memory clean tells = tt
+passed_on ios done totals faults Setup clean tells = tells
+passed_on ios done totals faults (Lost line) clean tells = (clean, tells)
+passed_on ios done totals faults (Twice line) clean tells = (clean, tells)
+passed_on ios done totals faults Stranger clean tells = record { memory = clean.memory; cause = inr (inl tells) }
+
+-- a number that is among those of the lines is the number of one
+line_among : (ios : List Io) (k line : ℕ) → k < length ios → get_or (map (λ (io : Io). io.line) ios) k line ≡ line
+    → IsLineOf ios line
+line_among [] k line low e = absurd (omega arith)
+line_among (io ∷ ios) zero line low e = (io, (0, omega arith, refl), e)
+line_among (io ∷ ios) (suc k) line low e =
+    let it = line_among ios k line (omega arith) e in (it.0, Contains-append_right (io ∷ []) ios it.0 it.1, it.2)
+
+named : (ios : List Io) (line : ℕ) → Contains (map (λ (io : Io). io.line) ios) line → IsLineOf ios line
+named ios line among =
+    line_among ios among.0 line (omega (arith, among.1, length-map ios (λ (io : Io). io.line))) among.2
+
+-- the lines that a play's fault names are those of the log
+names_line : (ios : List Io) (done : List Done) (totals : Totals) (faults : Faults) (fault : PlayFault)
+    → IsJudged ios done totals faults fault → NamesLine ios fault
+names_line ios done totals faults Memory is = tt
+names_line ios done totals faults Setup is = tt
+names_line ios done totals faults (Lost line) is = named ios line is.1.among
+names_line ios done totals faults (Twice line) is = named ios line is.1.among
+names_line ios done totals faults Stranger is = tt
+
+pub names_lines : (ios : List Io) (done : List Done) (totals : Totals) (faults : Faults) (r : Result Report PlayFault)
+    → IfErr r (IsJudged ios done totals faults) → IfErr r (NamesLine ios)
+names_lines ios done totals faults (Ok report) is = tt
+names_lines ios done totals faults (Err fault) is = names_line ios done totals faults fault is

@@ -1,0 +1,84 @@
+-- What the steps of a charge and of a walk count and grant.
+use Rattle.std.proofs.Common.{◌≡◌, ℕ, zero, suc, ◌+◌, ◌-◌, ◌<◌, ◌≤◌, ◌≢◌, ⊎_elim, ◌⊎◌, inl, inr, List, ◌∷◌, refl, sym, ap, arith, min}
+use Rattle.step_ledger.specs.History.{total}
+use Rattle.wake_book.specs.declared.charge.Charge.{Charge}
+use Rattle.wake_book.specs.declared.charge.Charge.TheVariants.{Full, Below, Won, Busy}
+use Rattle.wake_book.specs.declared.steps.BookStep.{BookStep}
+use Rattle.wake_book.specs.declared.steps.BookStep.TheVariants.{Add}
+use Rattle.wake_book.specs.declared.steps.GroupStep.{GroupStep}
+use Rattle.wake_book.specs.Charges.{added}
+use Rattle.wake_book.specs.Charging.{LosesTries, IsCharge}
+use Rattle.wake_book.specs.Waits.{moved_by, waiting}
+use Rattle.wake_book.proofs.GroupSteps.{yes_of, no_of}
+use Rattle.wake_book.specs.Walks.{LosesGrants, LosesAndLooks, VisitsGroup, AreVisits, WalksOn, IsWalk}
+
+-- lost tries count nothing
+loses_add : (tries batch : ℕ) (steps steps' : List BookStep) → LosesTries tries batch steps steps'
+    → total added steps' ≡ total added steps
+loses_add zero batch steps steps' same = ap (total added) same
+loses_add (suc tries) batch steps steps' c =
+    let rest = loses_add tries batch steps c.3 c.4 in let all = ap (total added) c.7 in omega arith
+
+-- a charge of n counts n completions or none
+pub charge_adds : (cap batch n : ℕ) (steps steps' : List BookStep) (charge : Charge)
+    → IsCharge cap batch n steps steps' charge
+    → (steps' ≡ steps) ⊎ (total added steps' ≡ total added steps + n)
+charge_adds cap batch n steps steps' Full c = inl c.1
+charge_adds cap batch n steps steps' Below c =
+    let lost = loses_add c.1.2 batch (Add n c.1.1 ∷ steps) c.0 c.1.4 in let all = ap (total added) c.5 in
+    inr (omega arith)
+charge_adds cap batch n steps steps' (Won start) c =
+    let lost = loses_add c.1.2 batch (Add n c.1.1 ∷ steps) c.0 c.1.4 in let all = ap (total added) c.4 in
+    inr (omega arith)
+charge_adds cap batch n steps steps' Busy c =
+    let lost = loses_add c.2 batch (Add n c.1 ∷ steps) steps' c.4 in inr (omega arith)
+
+-- lost exchanges grant nothing
+loses_grant : (tries g most : ℕ) (steps steps' : List GroupStep) → LosesGrants tries g most steps steps'
+    → total moved_by steps' ≡ total moved_by steps
+loses_grant zero g most steps steps' same = ap (total moved_by) same
+loses_grant (suc tries) g most steps steps' l =
+    let rest = loses_grant tries g most steps l.2 l.3 in let all = ap (total moved_by) l.6 in
+    let none = no_of l.1 l.0 (min (waiting l.0) most) 0 l.5 in omega arith
+
+looks_grant : (g most : ℕ) (steps steps' : List GroupStep) (found : ℕ) → LosesAndLooks g most steps steps' found
+    → total moved_by steps' ≡ total moved_by steps
+looks_grant g most steps steps' found l =
+    let rest = loses_grant l.0 g most steps l.2 l.3 in let all = ap (total moved_by) l.4 in omega arith
+
+-- a visit grants what it says that it moved, at most what it may
+visit_grants : (g most : ℕ) (steps steps' : List GroupStep) (moved : ℕ) → VisitsGroup g most steps steps' moved
+    → (total moved_by steps' ≡ total moved_by steps + moved) × (moved ≤ most)
+visit_grants g most steps steps' moved v = ⊎_elim
+    (λ nobody. let rest = looks_grant g most steps steps' nobody.0 nobody.1 in let none = nobody.3 in
+    (omega arith, omega arith))
+    (λ some. ⊎_elim
+    (λ wins. let rest = looks_grant g most steps wins.1 wins.0 wins.2 in let all = ap (total moved_by) wins.5 in
+    let won = yes_of wins.0 wins.0 moved 0 refl in let few = wins.4 in (omega arith, omega arith))
+    (λ four. let rest = loses_grant four.0 g most steps steps' four.2 in let none = four.3 in
+    (omega arith, omega arith)) some) v
+
+-- visits grant what they no longer leave to wake
+visits_grant : (visits first nr : ℕ) (steps steps' : List GroupStep) (left next : ℕ)
+    → AreVisits visits first nr steps steps' left next
+    → (total moved_by steps' + left ≡ total moved_by steps + nr) × (left ≤ nr)
+visits_grant zero first nr steps steps' left next a =
+    let all = ap (total moved_by) a.0 in let same = a.1 in (omega arith, omega arith)
+visits_grant (suc visits) first nr steps steps' left next a =
+    let rest = visits_grant visits first nr steps a.0 a.1 a.2 a.4 in
+    let visit = visit_grants a.2 a.1 a.0 steps' a.3 a.6 in
+    let one = rest.0 in let two = rest.1 in let more = visit.0 in let few = visit.1 in let less = a.7 in
+    (omega arith, omega arith)
+
+-- a walk grants as many wakeups as it says
+pub walk_grants : (nr : ℕ) (steps steps' : List GroupStep) (moved : ℕ) → IsWalk nr steps steps' moved
+    → total moved_by steps' ≡ total moved_by steps + moved
+walk_grants nr steps steps' moved w = ⊎_elim
+    (λ full. let all = ap (total moved_by) full.1 in let none = full.2 in omega arith)
+    (λ room. ⊎_elim
+    (λ nobody. let all = ap (total moved_by) nobody.1 in let none = nobody.2 in omega arith)
+    (λ walks. on walks.1) room) w
+  where
+    on : WalksOn nr steps steps' moved → total moved_by steps' ≡ total moved_by steps + moved
+    on w = let visits = visits_grant w.3 w.2 nr _ w.5 w.6 w.7 w.8 in let one = visits.0 in let two = visits.1 in
+        let all = ap (total moved_by) w.10 in let is = w.11 in omega arith

@@ -1,0 +1,161 @@
+-- What a call on one hand is for its caller as it waits and wakes others.
+use Rattle.std.proofs.Common.{◌≡◌, ◌≢◌, ℕ, ◌+◌, ◌<◌, Bool, true, false, Option, None, ⊎_elim, ◌⊎◌, inl, inr, List, length, map, get_or, set, Result, Ok, Err, IfOk, OnErr, refl, sym, ap, ◌∙◌, subst, arith, get_or-set_other, get_or-set_same}
+use Rattle.std.proofs.lemmas.List.{map-set, set-get_or, length-map, get_or-map}
+use Rattle.step_ledger.specs.History.{total}
+use Rattle.wake_book.specs.declared.steps.BookStep.{BookStep}
+use Rattle.wake_book.specs.declared.steps.GroupStep.{GroupStep}
+use Rattle.wake_book.specs.declared.waiting.Left.{Left}
+use Rattle.wake_book.specs.declared.charge.Charge.{Charge}
+use Rattle.wake_book.specs.declared.charge.Charge.TheVariants.{Full, Below, Won, Busy}
+use Rattle.wake_book.specs.Book as book
+use Rattle.wake_book.specs.Charges.{added}
+use Rattle.wake_book.specs.Groups as groups
+use Rattle.wake_book.specs.Waits.{moved_by}
+use Rattle.tag_queue.specs.declared.agent.Agent.{Agent}
+use Rattle.tag_queue.specs.declared.fault.TagFault.{TagFault}
+use Rattle.tag_queue.specs.declared.queue.Queue.{Queue}
+use Rattle.tag_queue.specs.declared.waits.Wakes.{Wakes}
+use Rattle.tag_queue.specs.Agents as queue
+use Rattle.tag_queue.specs.Clears as queue_clears
+use Rattle.tag_sets.specs.declared.hand.Hand.{Hand}
+use Rattle.tag_sets.specs.declared.kind.Kind.{Kind}
+use Rattle.tag_sets.specs.declared.kind.Kind.TheVariants.{Ordinary, Reserved}
+use Rattle.tag_sets.specs.declared.tags.Tags.{Tags}
+use Rattle.tag_sets.specs.Clears as clears
+use Rattle.tag_sets.specs.Gets as gets
+use Rattle.tag_sets.specs.Hands.{agent_of, hint_of, book_steps, group_steps, standing_of, wait_index_of, split_of, reserved_of}
+use Rattle.tag_sets.specs.Sets.{kind_of, other_kind}
+use Rattle.tag_sets.specs.Waits as waits
+use Rattle.tag_board.specs.Parts.{waiter_of, waiters_of_all}
+use Rattle.tag_board.specs.Wakeups.{Waiter, newcomer, Moves, MovesIf, GrantsFor, Enters, Leaves, Finds}
+use Rattle.tag_board.proofs.Charging.{charge_adds, walk_grants}
+
+module _ {R : Type 0} (hands : List (Hand R)) (i : ℕ) (old new : Hand R) (within : i < length hands)
+    (here : old ≡ get_or hands i old) where
+  waiter_here : waiters_of_all hands i ≡ waiter_of old
+  waiter_here = get_or-map waiter_of hands i old newcomer within ∙ ap waiter_of (sym here)
+
+  moved : map waiter_of (set hands i new) ≡ set (map waiter_of hands) i (waiter_of new)
+  moved = map-set waiter_of hands i new
+
+  -- a hand that counts and waits as before leaves all callers as they are
+  pub waiters_rest : waiter_of new ≡ waiter_of old → waiters_of_all (set hands i new) ≡ waiters_of_all hands
+  waiters_rest same =
+      let back : map waiter_of (set hands i new) ≡ map waiter_of hands =
+      moved ∙ ap (set (map waiter_of hands) i) (same ∙ sym waiter_here) ∙ set-get_or (map waiter_of hands) i newcomer in
+      ap {B = ℕ → Waiter} (λ (ws : List Waiter) (caller : ℕ). get_or ws caller newcomer) back
+
+  -- one caller changed so, and no other did
+  pub waiters_move : (change : Waiter → Waiter → Type 0) → change (waiter_of old) (waiter_of new)
+      → Moves i change (waiters_of_all hands) (waiters_of_all (set hands i new))
+  waiters_move change c =
+      let long : i < length (map waiter_of hands) = let l = length-map hands waiter_of in omega arith in
+      let now : waiters_of_all (set hands i new) i ≡ waiter_of new =
+      ap (λ (ws : List Waiter). get_or ws i newcomer) moved
+      ∙ get_or-set_same (map waiter_of hands) i (waiter_of new) newcomer long in record {
+        own = subst (λ (w : Waiter). change w (waiters_of_all (set hands i new) i)) (sym waiter_here)
+            (subst (λ (w : Waiter). change (waiter_of old) w) (sym now) c);
+        others = λ other ne. ap (λ (ws : List Waiter). get_or ws other newcomer) moved
+            ∙ get_or-set_other (map waiter_of hands) i other (waiter_of new) newcomer ne;
+      }
+
+  -- the caller of an answered command changed so; a refused one changes nobody
+  pub waiters_move_if : {A : Type 0} (change : A → Waiter → Waiter → Type 0) (r : Result A TagFault)
+      → IfOk r (λ a. change a (waiter_of old) (waiter_of new)) → OnErr r (new ≡ old)
+      → MovesIf i change (waiters_of_all hands) r (waiters_of_all (set hands i new))
+  waiters_move_if change (Ok a) c same = waiters_move (change a) c
+  waiters_move_if change (Err fault) c same = waiters_rest (ap waiter_of same)
+
+module _ {R : Type 0} (old new : Hand R) where
+  -- a hand whose ordinary agent counts and waits as before
+  as_it_was : queue.SameCounts old.ordinary new.ordinary → waiter_of new ≡ waiter_of old
+  as_it_was same = λ j. record {
+    book = ap book.steps_of same.0 j;
+    groups = ap groups.steps_of same.1 j;
+    group = ap groups.standing_of same.1 j;
+    next = ap groups.wait_index_of same.1 j;
+  }
+
+  -- a call that counts nothing leaves the caller as it is
+  pub rests : (kind : Kind) → queue.SameCounts (agent_of old kind) (agent_of new kind)
+      → agent_of new (other_kind kind) ≡ agent_of old (other_kind kind) → waiter_of new ≡ waiter_of old
+  rests Ordinary same other = as_it_was same
+  rests Reserved same other = as_it_was (ap queue.teller_of other, ap queue.waiter_of other)
+
+  -- what follows a charge grants as many wakeups as it says
+  follows_grant : (batch : ℕ) (charge : Charge) (steps steps' : List GroupStep) (woken : ℕ)
+      → queue_clears.Follows batch charge steps steps' woken → total moved_by steps' ≡ total moved_by steps + woken
+  follows_grant batch Full steps steps' woken f =
+      let all = ap (total moved_by) f.0 in let none = f.1 in omega arith
+  follows_grant batch Below steps steps' woken f =
+      let all = ap (total moved_by) f.0 in let none = f.1 in omega arith
+  follows_grant batch (Won start) steps steps' woken f = walk_grants batch steps steps' woken f
+  follows_grant batch Busy steps steps' woken f =
+      let all = ap (total moved_by) f.0 in let none = f.1 in omega arith
+
+  counts_grant : (q : Queue R) (n woken : ℕ) → queue_clears.Counts q n old.ordinary new.ordinary woken
+      → GrantsFor n woken (waiter_of old) (waiter_of new)
+  counts_grant q n woken c = ⊎_elim
+      (λ (none : queue_clears.FindsNoneActive old.ordinary new.ordinary woken).
+      let looks = ap (total moved_by) none.looks in let zero_woken = none.none in record {
+        granted = omega arith;
+        counted = inl (ap book.steps_of none.teller);
+        stays = (c.stands.1, c.stands.2);
+      })
+      (λ (some : queue_clears.Charges q n old.ordinary new.ordinary woken).
+      let follows = follows_grant (queue.batch_of q) some.charge _ (group_steps new) woken some.follows in record {
+        granted = omega arith;
+        counted = charge_adds (queue.cap_of q) (queue.batch_of q) n (book_steps old) (book_steps new) some.charge
+            some.lawful;
+        stays = (c.stands.1, c.stands.2);
+      }) c.counts
+
+  -- a clear tells how many wakeups it granted
+  pub clear_grants : (tags : Tags R) (kind : Kind) (n woken : ℕ) → clears.Counts tags kind n old new woken
+      → agent_of new (other_kind kind) ≡ agent_of old (other_kind kind)
+      → GrantsFor n woken (waiter_of old) (waiter_of new)
+  clear_grants tags Ordinary n woken c other = counts_grant tags.ordinary n woken c
+  clear_grants tags Reserved n woken c other =
+      let same = rests Reserved c.1 other in let steps = ap (λ (w : Waiter). total moved_by w.groups) same in
+      let none = c.0 in record {
+        granted = omega arith;
+        counted = inl (ap (λ (w : Waiter). w.book) same);
+        stays = (ap (λ (w : Waiter). w.group) same, ap (λ (w : Waiter). w.next) same);
+      }
+
+  -- the same for a clear of one tag, whose set is that of the tag
+  pub cleared_grants : (tags : Tags R) (tag woken : ℕ) → split_of old ≡ reserved_of tags → clears.Clears tags tag old new
+      → clears.Counts tags (kind_of (reserved_of tags) tag) 1 old new woken
+      → GrantsFor 1 woken (waiter_of old) (waiter_of new)
+  cleared_grants tags tag woken split c counts = clear_grants tags (kind_of (split_of old) tag) 1 woken
+      (subst (λ (r : ℕ). clears.Counts tags (kind_of r tag) 1 old new woken) (sym split) counts) c.set.other
+
+  pub wait_enters : (group : ℕ) → waits.Enters group old new → Enters group (waiter_of old) (waiter_of new)
+  wait_enters group e = let c = e.set.changed in record {
+    group_is = c.group_is;
+    inside = e.stands;
+    next = c.next;
+    steps = (c.active, c.found, c.steps);
+    book = ap book.steps_of c.same.2;
+  }
+
+  pub wait_leaves : (left : Left) → waits.Leaves left old new → standing_of new ≡ None
+      → wait_index_of new ≡ wait_index_of old → Leaves left (waiter_of old) (waiter_of new)
+  wait_leaves left l out next = record {
+    steps = l.set.changed.0;
+    outside = out;
+    next = next;
+    book = ap book.steps_of l.set.changed.1.2;
+  }
+
+-- a batch get counts nothing, whatever its answer: under round robin the hand is unchanged
+pub batch_rests : {R : Type 0} (tags : Tags R) (old new : Hand R) (n : ℕ) (answer : Option (ℕ × ℕ))
+    → ((hint_of old Ordinary).round_robin ≡ true → (answer ≡ None) × (new ≡ old))
+    → ((hint_of old Ordinary).round_robin ≡ false → gets.GetsBatch tags n answer old new)
+    → waiter_of new ≡ waiter_of old
+batch_rests tags old new n answer around straight = by_round (hint_of old Ordinary).round_robin around straight
+  where
+    by_round : (round : Bool) → (round ≡ true → (answer ≡ None) × (new ≡ old))
+        → (round ≡ false → gets.GetsBatch tags n answer old new) → waiter_of new ≡ waiter_of old
+    by_round true around straight = ap waiter_of (around refl).1
+    by_round false around straight = let g = straight refl in rests old new Ordinary g.set.changed.others g.set.other

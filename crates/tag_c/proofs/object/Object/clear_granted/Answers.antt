@@ -1,0 +1,23 @@
+-- The answer of `tag_sets` comes with the clauses of `DoesClear`, and its grants are filled in.
+use Rattle.tag_c.specs.Calls.{DoesClear}
+use Rattle.tag_c.specs.Codes.{code_of_grants}
+use Rattle.tag_c.specs.Grants.{Filling}
+use Rattle.tag_c.proofs.Calling.{by_hand, stored}
+use Rattle.tag_c.proofs.object.Object.clear_granted.Goals as goal
+
+pub returns-clause-calls : goal.returns-clause-calls
+returns-clause-calls c = let e = c.clear_silently.ensures in
+    by_hand (Filling c.fill.new.granted (DoesClear c.args.tag)) code_of_grants _ c.fill.result c.args.self.now.kind
+    c.in-Member.member _ _ c.deref.result.now c.clear_silently.result c.in-Member.is c.fill.ensures.code
+    (stored c.fill.result c.fill.type_inv) c.deref.ensures (
+      record {
+        no_such_tag = e.no_such_tag;
+        not_held = e.not_held;
+        succeeds = e.succeeds;
+        clears = e.clears;
+        counts = e.counts;
+        grants = e.grants;
+        err = e.err;
+      },
+      c.fill.ensures.fills,
+    )

@@ -1,0 +1,103 @@
+//! Clears that also say in which wait groups they granted wakeups, through the handle of a hand. Each is described in
+//! tags.h.
+ghost use Rattle.std.specs.Prelude.{◌≡◌};
+ghost use Rattle.tag_c.specs.Calls.{Calls, CallsBy, Through, DoesClear, DoesClearBatch};
+ghost use Rattle.tag_c.specs.Codes.{IsRefusal, code_of_grants};
+ghost use Rattle.tag_c.specs.Grants.{Filling, Fills};
+
+use crate::codes::grants_code;
+use crate::handle::Handle;
+use crate::object::{Kind, Object};
+use crate::status::Status;
+use tag_sets::{Grants, TagFault};
+
+/// Whom a clear granted a wakeup.
+#[repr(C)]
+#[derive(Clone, Copy, Debug, PartialEq, Eq)]
+pub struct Granted {
+    /// Waiters that were granted a wakeup.
+    pub woken: u32,
+    /// How many of them are in each wait group.
+    pub in_group: [u8; 8],
+}
+
+/// Fills in the grants of the answer and returns its number. For an error `granted` keeps its value.
+#[inline]
+fn fill(answer: Result<Grants, TagFault>, granted: &mut Granted) -> i32
+    ensures code { result ≡ code_of_grants answer }
+    ensures fills { Fills granted.new answer }
+    ensures kept { IsRefusal result → granted.new ≡ granted.old }
+{
+    if let Ok(grants) = answer {
+        let in_group = grants.in_group;
+        *granted = Granted {
+            woken: grants.woken,
+            in_group,
+        };
+    }
+    grants_code(answer)
+}
+
+impl Object {
+    /// Gives a held tag back, fills in whom that granted a wakeup, and returns how many waiters they are.
+    #[inline]
+    pub(crate) fn clear_granted(&mut self, tag: u32, granted: &mut Granted) -> i32
+        ensures calls { Calls (Through (Filling granted.new (DoesClear tag)) code_of_grants result) result self.old self.new }
+        ensures kept { IsRefusal result → granted.new ≡ granted.old }
+    {
+        let Kind::Member(member) = &mut self.kind else {
+            return Status::BadHandle.code();
+        };
+        fill(
+            member.shared.tags.clear_silently(&mut member.hand, tag),
+            granted,
+        )
+    }
+
+    /// Gives held ordinary tags back, fills in whom that granted a wakeup, and returns how many waiters they are.
+    #[inline]
+    pub(crate) fn clear_batch_granted(&mut self, tags: &[u32], granted: &mut Granted) -> i32
+        ensures calls { Calls (Through (Filling granted.new (DoesClearBatch tags.now)) code_of_grants result) result
+            self.old self.new }
+        ensures kept { IsRefusal result → granted.new ≡ granted.old }
+    {
+        let Kind::Member(member) = &mut self.kind else {
+            return Status::BadHandle.code();
+        };
+        fill(
+            member
+                .shared
+                .tags
+                .clear_batch_silently(&mut member.hand, tags),
+            granted,
+        )
+    }
+}
+
+#[unsafe(no_mangle)]
+pub extern "C" fn tags_clear_granted(hand: &mut Handle, tag: u32, granted: &mut Granted) -> i32
+    ensures calls { CallsBy (Through (Filling granted.new (DoesClear tag)) code_of_grants result) result
+        hand.old.object.value hand.new.object.value }
+    ensures kept { IsRefusal result → granted.new ≡ granted.old }
+{
+    let Some(object) = hand.lend() else {
+        return Status::BadHandle.code();
+    };
+    object.clear_granted(tag, granted)
+}
+
+#[unsafe(no_mangle)]
+pub extern "C" fn tags_clear_batch_granted(
+    hand: &mut Handle,
+    tags: &[u32],
+    granted: &mut Granted,
+) -> i32
+    ensures calls { CallsBy (Through (Filling granted.new (DoesClearBatch tags.now)) code_of_grants result) result
+        hand.old.object.value hand.new.object.value }
+    ensures kept { IsRefusal result → granted.new ≡ granted.old }
+{
+    let Some(object) = hand.lend() else {
+        return Status::BadHandle.code();
+    };
+    object.clear_batch_granted(tags, granted)
+}
