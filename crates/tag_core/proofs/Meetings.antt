@@ -7,7 +7,8 @@ use Rattle.tag_model.specs.declared.place.Place.{Place}
 use Rattle.tag_core.specs.declared.shape.Shape.{Shape}
 use Rattle.tag_core.specs.declared.record.Record.{Record}
 use Rattle.tag_core.specs.declared.record.View.{View}
-use Rattle.tag_core.specs.Bits.{one_if, held_bit}
+use Rattle.tag_model.specs.Totals.{one_if}
+use Rattle.tag_core.specs.Bits.{held_bit}
 use Rattle.tag_core.specs.Histories.{world_of}
 use Rattle.tag_core.specs.Views.{viewing}
 use Rattle.tag_core.specs.Rule.{IsKnown, Shown}

@@ -19,7 +19,8 @@ use Rattle.tag_core.specs.declared.record.Record.{Record}
 use Rattle.tag_core.specs.declared.record.View.{View}
 use Rattle.tag_core.specs.Steps.{without}
 use Rattle.tag_core.specs.Spacing.{word_at, aside_at, state_at}
-use Rattle.tag_core.specs.Bits.{one_if, word_bit, aside_bit, posted_bit, held_bit, sweep_bit}
+use Rattle.tag_model.specs.Totals.{one_if}
+use Rattle.tag_core.specs.Bits.{word_bit, aside_bit, posted_bit, held_bit, sweep_bit}
 use Rattle.tag_core.specs.Histories.{Cells, cells_of, world_of, last_post}
 use Rattle.tag_core.specs.Records.{tag_bit}
 use Rattle.tag_core.specs.Rule.{IsKnown, Shown}

@@ -8,7 +8,8 @@ use Rattle.tag_model.specs.declared.place.Place.TheVariants.{Free as free, Held 
 use Rattle.tag_model.specs.declared.event.Event.{Event}
 use Rattle.tag_model.specs.Event.{is_in_mask, swept_by, spilled_by}
 use Rattle.tag_model.specs.World.{place_after}
-use Rattle.tag_core.specs.Bits.{one_if, aside_bit, sweep_bit}
+use Rattle.tag_model.specs.Totals.{one_if}
+use Rattle.tag_core.specs.Bits.{aside_bit, sweep_bit}
 
 -- the second place where n is 0, else the first
 abbrev pub pick : ℕ → Place → Place → Place

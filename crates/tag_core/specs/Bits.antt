@@ -1,11 +1,8 @@
 -- What a tag's place shows in the words, in its state and in the masks of a caller: 1 or 0.
-use Rattle.std.specs.Prelude.{ℕ, Bool, cond, nat_eq}
+use Rattle.std.specs.Prelude.{ℕ, nat_eq}
 use Rattle.tag_model.specs.declared.place.Place.{Place}
 use Rattle.tag_model.specs.declared.place.Place.TheVariants.{Free, Held, Posted, Aside, Sweep}
-
--- 1 where it is so
-abbrev pub one_if : Bool → ℕ
-one_if b = cond b 1 0
+pub use Rattle.tag_model.specs.Totals.{one_if}
 
 -- the tag's bit in `word`: 1 is taken
 abbrev pub word_bit : Place → ℕ

@@ -1,10 +1,6 @@
--- Sums over lists, and the sizes of held sets.
-use Rattle.std.specs.Prelude.{ℕ, ◌+◌, List, [], ◌∷◌, count_ones}
-
--- the sum of a number of each
-abbrev pub total_of : {A : Type 0} → (A → ℕ) → List A → ℕ
-total_of number [] = 0
-total_of number (x ∷ xs) = number x + total_of number xs
+-- The sizes of held sets, and the sum over a list under the name that tags use.
+use Rattle.std.specs.Prelude.{ℕ, List, count_ones}
+pub use Rattle.step_ledger.specs.History.{total as total_of}
 
 -- the tags of a held set, a mask for each word
 abbrev pub size_of : List ℕ → ℕ

@@ -10,8 +10,8 @@ use Rattle.tag_model.specs.declared.event.Event.TheVariants.{Look, Win, Put, Giv
 use Rattle.tag_model.specs.Event.{caller_of, is_in_mask, names, swept_by, spilled_by, won_by, back_by}
 use Rattle.tag_model.specs.World.{World, opened, place_after, plus_at, after, MayHappen}
 use Rattle.tag_model.specs.Runs.{after_all, MayRun, after_history, IsHistory}
-use Rattle.tag_model.specs.Totals.{is_held, is_posted, held_in, posted_in, Balances}
-use Rattle.tag_model.proofs.MaskFacts.{one_if, sum_below-mask}
+use Rattle.tag_model.specs.Totals.{is_held, is_posted, one_if, held_in, posted_in, Balances}
+use Rattle.tag_model.proofs.MaskFacts.{sum_below-mask}
 
 -- 1 for a tag that was won and not given back
 abbrev out : Place → ℕ

@@ -1,5 +1,5 @@
 -- The tags of a mask: which they are, and how many.
-use Rattle.std.proofs.Common.{◌≡◌, ◌≢◌, ℕ, zero, suc, ◌+◌, ◌*◌, ◌/◌, ◌^◌, ◌<◌, ◌≤◌, ◌==◌, ◌&&◌, Bool, false, cond, count_ones, arith, refl, sym, ap, ◌∙◌, subst, ⊎_elim, eq-eqb, ne_eqb}
+use Rattle.std.proofs.Common.{◌≡◌, ◌≢◌, ℕ, zero, suc, ◌+◌, ◌*◌, ◌/◌, ◌^◌, ◌<◌, ◌≤◌, ◌==◌, ◌&&◌, Bool, false, count_ones, arith, refl, sym, ap, ◌∙◌, subst, ⊎_elim, eq-eqb, ne_eqb}
 use mathlib.Core.Logic.{dite}
 use native.Mathlib.Decide.{ℕ_discrete}
 use lib.Count.{ones_step}
@@ -12,10 +12,7 @@ use Rattle.tag_layout.specs.Sums.{sum_below}
 use Rattle.tag_layout.proofs.SumFacts.{sum_below-same, sum_below-split, sum_below-window}
 use Rattle.tag_layout.proofs.PlaceFacts.{word-start, word_bits-pos, tag_at-back, place_of-below, word_of-tag_at, place_of-tag_at}
 use Rattle.tag_model.specs.Event.{is_in_mask}
-
--- 1 where the test passes
-abbrev pub one_if : Bool → ℕ
-one_if b = cond b 1 0
+use Rattle.tag_model.specs.Totals.{one_if}
 
 pub one_if-bit : (x : ℕ) → x < 2 → one_if (x == 1) ≡ x
 one_if-bit zero h = refl

@@ -17,6 +17,10 @@ abbrev pub is_posted : Place → Bool
 is_posted Posted = true
 is_posted _ = false
 
+-- 1 where the test passes, else 0
+abbrev pub one_if : Bool → ℕ
+one_if b = cond b 1 0
+
 -- how many of the numbers below n pass the test
 abbrev pub count_below : (ℕ → Bool) → ℕ → ℕ
 count_below test n = sum_below (λ k. cond (test k) 1 0) n
