@@ -100,7 +100,7 @@ int main(int argc, char **argv)
 {
 	static struct thread threads[MOST];
 	struct tags_pool pool = TAGS_EMPTY;
-	struct tags_options options = { .shift = TAGS_DEFAULT_SHIFT };
+	struct tags_options options = TAGS_OPTIONS_INIT;
 	struct rusage used;
 	uint64_t rounds = 0;
 	double seconds;

@@ -131,7 +131,9 @@ enum tags_status {
 	/** a clock that the call does not know, or nanoseconds that are no part of a second */
 	TAGS_BAD_TIME = -32,
 	/** the bell has no eventfd, the number is none, or 64 hands are listed already */
-	TAGS_BAD_EVENT = -33
+	TAGS_BAD_EVENT = -33,
+	/** a negative shift other than -1, or any but 0 beside TAGS_ONE_PER_WORD */
+	TAGS_BAD_SHIFT = -34
 };
 
 enum {
@@ -201,22 +203,35 @@ struct tags_grants {
 /** initializer of a bell */
 #define TAGS_BELL { 0, 0, 0, 0, 0, 0, { 0 }, { 0 }, { 0 } }
 
-/** @shift of struct tags_options: the largest that gives a set of 4 tags or more 4 whole words */
+/** initializer of options: no tag and no hand yet, and the rules for the rest */
+#define TAGS_OPTIONS_INIT { 0, 0, 0, 0, 0, 0 }
+
+/** @shift of struct tags_options: the same as 0 */
 #define TAGS_DEFAULT_SHIFT (-1)
 
 /** enum tags_option_flags - @flags of struct tags_options */
 enum tags_option_flags {
-	/** each get begins after the last tag won, so a tag is reused as late as possible */
-	TAGS_ROUND_ROBIN = 1
+	/**
+	 * A get begins after the tag last won, and at the first tag after the last
+	 * but one. So a tag is reused late, though not as late as possible: a tag that
+	 * was given back is free again once its word has no free tag left, and the
+	 * last tag is passed over unless the others are taken or not free again.
+	 */
+	TAGS_ROUND_ROBIN = 1,
+	/** words of one tag each; @shift must be 0 */
+	TAGS_ONE_PER_WORD = 2
 };
 
-/** struct tags_options - the options of tags_open() */
+/** struct tags_options - the options of tags_open(); all but @total and @hands may stay 0 */
 struct tags_options {
 	/** @total: number of tags, at most TAGS_MAX_TOTAL */
 	uint32_t total;
 	/** @reserved: how many of them are reserved, from tag 0 */
 	uint32_t reserved;
-	/** @shift: log2(tags per word), at most 6, or TAGS_DEFAULT_SHIFT */
+	/**
+	 * @shift: log2(tags per word), 1 to TAGS_MAX_SHIFT. 0 chooses the largest that
+	 * gives a set of 4 tags or more 4 whole words.
+	 */
 	int32_t shift;
 	/**
 	 * @min_shallow: the least depth that may be passed to tags_get_shallow(), or 0
@@ -227,7 +242,7 @@ struct tags_options {
 	uint32_t min_shallow;
 	/** @hands: number of hands, 1 to TAGS_MAX_HANDS */
 	uint32_t hands;
-	/** @flags: 0, or TAGS_ROUND_ROBIN */
+	/** @flags: 0, or TAGS_ROUND_ROBIN, or TAGS_ONE_PER_WORD, or both */
 	uint32_t flags;
 };
 
@@ -403,6 +418,25 @@ static inline void tags_lost_all(const uint32_t *tags, size_t count)
 #endif
 }
 
+/* Whether the shift is one that struct tags_options has, or one too large, which the library refuses. */
+static inline int tags_knows_shift(const struct tags_options *options)
+{
+	if (options->flags & TAGS_ONE_PER_WORD)
+		return options->shift == 0;
+	return options->shift >= TAGS_DEFAULT_SHIFT;
+}
+
+/* The options as the library takes them: a shift of 0 is one tag a word, and the rule has a negative one. */
+static inline struct tags_options tags_asked(const struct tags_options *options)
+{
+	struct tags_options asked = *options;
+
+	if (!(asked.flags & TAGS_ONE_PER_WORD) && asked.shift == 0)
+		asked.shift = TAGS_DEFAULT_SHIFT;
+	asked.flags &= ~(uint32_t)TAGS_ONE_PER_WORD;
+	return asked;
+}
+
 /*
  * Pools and hands
  */
@@ -416,16 +450,21 @@ static inline void tags_lost_all(const uint32_t *tags, size_t count)
  * here, except for some 500 bytes per hand, which tags_join() allocates.
  *
  * Return: TAGS_OK. Otherwise the first of TAGS_NOT_EMPTY, TAGS_BAD_FLAG,
- * TAGS_TOTAL_TOO_LARGE, TAGS_RESERVED_TOO_LARGE, TAGS_SHIFT_TOO_LARGE,
- * TAGS_BAD_HAND_COUNT and TAGS_NO_MEMORY that applies.
+ * TAGS_BAD_SHIFT, TAGS_TOTAL_TOO_LARGE, TAGS_RESERVED_TOO_LARGE,
+ * TAGS_SHIFT_TOO_LARGE, TAGS_BAD_HAND_COUNT and TAGS_NO_MEMORY that applies.
  *
  * Since: 0.1
  */
 TAGS_CHECKED int32_t tags_open(struct tags_pool *pool, const struct tags_options *options)
 {
+	struct tags_options asked;
+
 	if (!pool || !options)
 		return TAGS_NULL;
-	return tags_library_open(pool, options);
+	asked = tags_asked(options);
+	if (!pool->full && asked.flags <= TAGS_ROUND_ROBIN && !tags_knows_shift(options))
+		return TAGS_BAD_SHIFT;
+	return tags_library_open(pool, &asked);
 }
 
 /**

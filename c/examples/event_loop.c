@@ -128,7 +128,6 @@ int main(void)
 {
 	struct tags_options options = {
 		.total = TAGS,
-		.shift = TAGS_DEFAULT_SHIFT,
 		.hands = STREAMS + 1,
 	};
 	struct tags_pool pool = TAGS_EMPTY;

@@ -168,7 +168,6 @@ int main(void)
 {
 	struct tags_options options = {
 		.total = TAGS,
-		.shift = TAGS_DEFAULT_SHIFT,
 		.hands = THREADS,
 	};
 	struct tags_pool pool = TAGS_EMPTY;

@@ -27,7 +27,6 @@ int main(void)
 	struct tags_options options = {
 		.total = 16,
 		.reserved = 2,
-		.shift = TAGS_DEFAULT_SHIFT,
 		.hands = 2,
 	};
 	struct tags_pool pool = TAGS_EMPTY;

@@ -49,7 +49,6 @@ static void open_pool(struct tags_pool *pool, uint32_t total, uint32_t hands)
 {
 	struct tags_options options = {
 		.total = total,
-		.shift = TAGS_DEFAULT_SHIFT,
 		.hands = hands,
 	};
 

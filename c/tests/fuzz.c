@@ -164,11 +164,15 @@ static struct tags_options any_options(void)
 
 	options.reserved = seldom(2) ? 0 : below(options.total / 3 + 2);
 	if (seldom(3))
-		options.shift = seldom(5) ? INT32_MIN : TAGS_DEFAULT_SHIFT;
+		options.shift = seldom(5) ? INT32_MIN : 0;
 	if (seldom(3))
 		options.min_shallow = below(options.total + 2);
 	if (seldom(4))
 		options.flags = seldom(8) ? odd_number() : TAGS_ROUND_ROBIN;
+	if (seldom(6)) {
+		options.flags |= TAGS_ONE_PER_WORD;
+		options.shift = seldom(8) ? options.shift : 0;
+	}
 	if (seldom(30))
 		options.hands = odd_number();
 	if (seldom(60))

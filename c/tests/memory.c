@@ -61,7 +61,6 @@ static int32_t open_refused(struct tags_pool *pool, long number)
 	struct tags_options options = {
 		.total = 100,
 		.reserved = 10,
-		.shift = TAGS_DEFAULT_SHIFT,
 		.hands = 3,
 	};
 	int32_t status;

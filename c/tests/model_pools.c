@@ -17,13 +17,20 @@ static uint32_t default_shift(uint32_t depth)
 	return shift;
 }
 
+static uint32_t shift_of(uint32_t depth, const struct tags_options *options)
+{
+	if (options->flags & TAGS_ONE_PER_WORD)
+		return 0;
+	return options->shift > 0 ? (uint32_t)options->shift : default_shift(depth);
+}
+
 static void open_set(struct set *set, uint32_t first, uint32_t depth,
 		     const struct tags_options *options)
 {
 	set->first = first;
 	set->depth = depth;
-	set->shift = options->shift < 0 ? default_shift(depth) : (uint32_t)options->shift;
-	set->round_robin = options->flags == TAGS_ROUND_ROBIN;
+	set->shift = shift_of(depth, options);
+	set->round_robin = options->flags & TAGS_ROUND_ROBIN;
 }
 
 static uint32_t batch_of(uint32_t depth, uint32_t min_shallow)
@@ -35,8 +42,10 @@ static uint32_t batch_of(uint32_t depth, uint32_t min_shallow)
 
 static int32_t find_fault(const struct tags_options *options)
 {
-	if (options->flags > TAGS_ROUND_ROBIN)
+	if (options->flags > (TAGS_ROUND_ROBIN | TAGS_ONE_PER_WORD))
 		return TAGS_BAD_FLAG;
+	if (options->shift < -1 || (options->flags & TAGS_ONE_PER_WORD && options->shift != 0))
+		return TAGS_BAD_SHIFT;
 	if (options->total > TAGS_MAX_TOTAL)
 		return TAGS_TOTAL_TOO_LARGE;
 	if (options->reserved > options->total)

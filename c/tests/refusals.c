@@ -116,13 +116,25 @@ static void refuse_options(void)
 	WANT(tags_open(&pool, &options), -24);
 	options.shift = INT32_MAX;
 	WANT(tags_open(&pool, &options), -24);
+	options.shift = -2;
+	WANT(tags_open(&pool, &options), -34);
+	options.shift = INT32_MIN;
+	options.total = UINT32_MAX;
+	WANT(tags_open(&pool, &options), -34);
+	options.flags = 4;
+	WANT(tags_open(&pool, &options), -18);
+	options = twelve;
+	options.flags = TAGS_ONE_PER_WORD;
+	WANT(tags_open(&pool, &options), -34);
+	options.shift = TAGS_DEFAULT_SHIFT;
+	WANT(tags_open(&pool, &options), -34);
 	options = twelve;
 	options.hands = 0;
 	WANT(tags_open(&pool, &options), -25);
 	options.hands = TAGS_MAX_HANDS + 1;
 	WANT(tags_open(&pool, &options), -25);
 	options = twelve;
-	options.flags = 2;
+	options.flags = 4 | TAGS_ROUND_ROBIN;
 	WANT(tags_open(&pool, &options), -18);
 	WANT(pool.full == 0 && pool.object == NULL, 1);
 }
@@ -294,7 +306,7 @@ static void use_up(struct tags_hand *hand)
 /* Uses a pool without reserved tags, and one without ordinary ones. */
 static void refuse_kinds(void)
 {
-	struct tags_options options = { .total = 4, .shift = TAGS_DEFAULT_SHIFT, .hands = 1 };
+	struct tags_options options = { .total = 4, .hands = 1 };
 	struct tags_pool pool = TAGS_EMPTY;
 	struct tags_hand hand = TAGS_EMPTY;
 	struct tags_bell bell = TAGS_BELL;

@@ -66,7 +66,6 @@ static void crowd(uint32_t tags, uint32_t reserved)
 	struct tags_options options = {
 		.total = tags + reserved,
 		.reserved = reserved,
-		.shift = TAGS_DEFAULT_SHIFT,
 		.hands = THREADS,
 	};
 	struct tags_pool pool = TAGS_EMPTY;

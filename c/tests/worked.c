@@ -1,6 +1,7 @@
 /*
- * Two runs with answers worked out on paper: one through all calls, and one
- * pool that goes on with more tags. The model of fuzz.c has no part in them.
+ * Runs with answers worked out on paper: one through all calls, a pool that goes
+ * on with more tags, options left at 0, words of one tag, and round robin. The
+ * model of fuzz.c has no part in them.
  */
 #include <stdio.h>
 
@@ -117,10 +118,71 @@ static void go_on_with_more_tags(void)
 	WANT(sums.posted, 0);
 }
 
+/* Opens a pool, and checks how many tags each word has. */
+static void count_bits(const struct tags_options *options, uint32_t bits)
+{
+	struct tags_pool pool = TAGS_EMPTY;
+	struct tags_hand hand = TAGS_EMPTY;
+	struct tags_sizes sizes = { 0 };
+	struct tags_sums sums;
+
+	WANT(tags_open(&pool, options), TAGS_OK);
+	WANT(tags_join(&pool, &hand, TAGS_STAY), TAGS_OK);
+	WANT(tags_show(&hand, TAGS_ORDINARY, &sizes), TAGS_OK);
+	WANT(sizes.bits_per_word, bits);
+	WANT(tags_leave(&hand), TAGS_OK);
+	WANT(tags_close(&pool, &sums), TAGS_OK);
+}
+
+/* A shift of 0 is the rule, and words of one tag have a flag. */
+static void choose_words(void)
+{
+	struct tags_options options = TAGS_OPTIONS_INIT;
+
+	options.total = 128;
+	options.hands = 1;
+	count_bits(&options, 32);
+	options.shift = TAGS_DEFAULT_SHIFT;
+	count_bits(&options, 32);
+	options.shift = 3;
+	count_bits(&options, 8);
+	options.shift = 0;
+	options.flags = TAGS_ONE_PER_WORD;
+	count_bits(&options, 1);
+	options.flags = TAGS_ONE_PER_WORD | TAGS_ROUND_ROBIN;
+	count_bits(&options, 1);
+}
+
+/* Six tags in words of two, each given back at once: the last one is passed over until tag 4 is not free again. */
+static void go_round(void)
+{
+	const struct tags_options options = {
+		.total = 6,
+		.shift = 1,
+		.hands = 1,
+		.flags = TAGS_ROUND_ROBIN,
+	};
+	const int32_t wanted[] = { 0, 1, 2, 3, 4, 0, 1, 2, 3, 5 };
+	struct tags_pool pool = TAGS_EMPTY;
+	struct tags_hand hand = TAGS_EMPTY;
+	struct tags_sums sums;
+
+	WANT(tags_open(&pool, &options), TAGS_OK);
+	WANT(tags_join(&pool, &hand, TAGS_STAY), TAGS_OK);
+	for (int i = 0; i < 10; i++) {
+		WANT(tags_get(&hand), wanted[i]);
+		WANT(tags_clear(&hand, (uint32_t)wanted[i]), 0);
+	}
+	WANT(tags_leave(&hand), TAGS_OK);
+	WANT(tags_close(&pool, &sums), TAGS_OK);
+}
+
 int main(void)
 {
 	run_through_all_calls();
 	go_on_with_more_tags();
+	choose_words();
+	go_round();
 	printf("%d answers, %d wrong\n", checks, wrong);
 	return wrong != 0;
 }

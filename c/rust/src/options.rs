@@ -1,8 +1,15 @@
 //! The options of a pool, and what its calls report.
 use crate::raw::{RawOptions, ROUND_ROBIN};
 
-/// The options of a new pool.
-#[derive(Clone, Copy, Debug, PartialEq, Eq)]
+/// The options of a new pool. By default it has no tags and no hands, and the rules for the rest: name `total` and `hands`.
+///
+/// ```
+/// # use tags::{Error, Options, Pool};
+/// let options = Options { total: 16, hands: 2, ..Options::default() };
+/// assert_eq!(options, Options::new(16, 2));
+/// assert_eq!(Pool::open(&Options::default()).unwrap_err(), Error::BadHandCount);
+/// ```
+#[derive(Clone, Copy, Debug, Default, PartialEq, Eq)]
 pub struct Options {
     /// Number of tags, at most 10,240.
     pub total: u32,
@@ -17,7 +24,8 @@ pub struct Options {
     pub min_shallow: Option<u32>,
     /// Number of hands, 1 to 64.
     pub hands: u32,
-    /// Whether each get begins after the last tag won, so that a tag is reused as late as possible.
+    /// Whether a get begins after the tag last won, and at the first tag after the last but one. So a tag is reused late,
+    /// though not as late as possible: a tag that was given back is free again once its word has no free tag left.
     pub round_robin: bool,
 }
 
