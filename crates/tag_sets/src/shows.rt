@@ -10,8 +10,9 @@ use crate::shown::Shown;
 use crate::tags::Tags;
 
 impl<R: Copy> Tags<R> {
-    /// Returns the sizes of a set, and how many of its tags are busy and how many set aside. Each word is loaded once,
-    /// and then its cleared set; so while other hands act, the sums are not a snapshot of a single moment.
+    /// Returns the sizes of a set, and how many of its tags are busy and how many set aside. The hand's list has one load
+    /// of each word, and then one of its cleared set; so while other hands act, the sums are not a snapshot of a single
+    /// moment. Loads that stand in no list are not counted.
     pub fn show(&self, hand: &mut Hand<R>, kind: Kind) -> Shown
         requires hand { IsHandOf self.now hand.old }
         ensures hand { IsHandOf self.now hand.new }
