@@ -1,55 +1,59 @@
 -- What the threads do keeps the rule of the device queue.
-use Rattle.std.proofs.Common.{◌≡◌, ℕ, zero, suc, ◌<◌, ◌⊎◌, inl, inr, ⊎_elim, true, false, List, [], ◌∷◌, ◌++◌, get_or, set, refl, sym, ap, ◌∙◌, subst, arith}
-use Rattle.std.specs.List.{Contains}
+use Rattle.std.proofs.Common.{◌≡◌, ℕ, zero, suc, ◌+◌, ◌<◌, ◌==◌, Bool, true, false, cond, List, [], ◌∷◌, ◌++◌, length, get_or, set, refl, sym, ap, subst, ⊎_elim, arith}
+use Rattle.std.specs.List.{Contains, sum_by}
 use Rattle.std.proofs.lemmas.List.Elements.{Contains-append_right, Contains-append_cases}
+use Rattle.std.proofs.lemmas.List.Sums.{sum_by-cons, sum_by-set, sum_by_push}
 use mathlib.Core.Option.{some, some-injective, some-ne-none}
 use lib.ListN.{get_elem?}
 use Rattle.crossbeam_queue.specs.Fifo.{Pushes, Pops, Forks}
-use Rattle.crossbeam_queue.proofs.Lists.{at_longer}
+use Rattle.crossbeam_queue.proofs.Lists.{set_again}
 use Rattle.loop_device.specs.declared.device_queue.Worker.{Worker}
-use Rattle.loop_device.specs.DeviceQueue.{worker, WasPushed, AreHandedOn, IsHandedOn}
+use Rattle.loop_device.specs.DeviceQueue.{worker, after_push, after_pop, times_in, times_pushed, times_popped, AreHandedOn}
 
--- where one view changes, what stood elsewhere stays
-moved : (workers : List Worker) (i j : ℕ) (v w u : Worker) → get_elem? workers i ≡ some v → get_elem? workers j ≡ some u
-    → (get_elem? (set workers i w) j ≡ some u) ⊎ ((u ≡ v) × (get_elem? (set workers i w) j ≡ some w))
-moved [] i j v w u e f = absurd (some-ne-none v (sym e))
-moved (x ∷ xs) zero zero v w u e f = inr (some-injective u v (sym f ∙ e), refl)
-moved (x ∷ xs) zero (suc j) v w u e f = inl f
-moved (x ∷ xs) (suc i) zero v w u e f = inl f
-moved (x ∷ xs) (suc i) (suc j) v w u e f = moved xs i j v w u e f
+there : (workers : List Worker) (i : ℕ) (v : Worker) → get_elem? workers i ≡ some v
+    → (i < length workers) × (get_or workers i v ≡ v)
+there [] i v at = absurd (some-ne-none v (sym at))
+there (x ∷ xs) zero v at = (omega arith, some-injective x v at)
+there (x ∷ xs) (suc i) v at = let rest = there xs i v at in (omega (arith, rest.0), rest.1)
 
--- the view that changed stands in its place
-set_here : (workers : List Worker) (i : ℕ) (v w : Worker) → get_elem? workers i ≡ some v
-    → get_elem? (set workers i w) i ≡ some w
-set_here [] i v w e = absurd (some-ne-none v (sym e))
-set_here (x ∷ xs) zero v w e = refl
-set_here (x ∷ xs) (suc i) v w e = set_here xs i v w e
+-- a sum over all views after a change of one
+changed : (f : Worker → ℕ) (workers : List Worker) (i : ℕ) (v w : Worker) → get_elem? workers i ≡ some v
+    → sum_by f (set workers i w) + f v ≡ sum_by f workers + f w
+changed f workers i v w at =
+    let here = there workers i v at in
+    subst (λ n. sum_by f (set workers i w) + n ≡ sum_by f workers + f w) (ap f here.1)
+    (sum_by-set f workers i w v here.0)
 
--- what was pushed stays so where a thread only pushes more
-pushed_still : (workers : List Worker) (pass : ℕ) (v w : Worker) (number : ℕ) → get_elem? workers pass ≡ some v
-    → (v.submits ≡ true → w.submits ≡ true) → (Contains v.pushed number → Contains w.pushed number)
-    → WasPushed workers number → WasPushed (set workers pass w) number
-pushed_still workers pass v w number at role more was = ⊎_elim
-    (λ same. record { pass = was.pass; by = was.by; at = same; submits = was.submits; pushed = was.pushed })
-    (λ (t : (was.by ≡ v) × (get_elem? (set workers pass w) was.pass ≡ some w)). record {
-      pass = was.pass;
-      by = w;
-      at = t.1;
-      submits = role (ap (λ (z : Worker). z.submits) (sym t.0) ∙ was.submits);
-      pushed = more (subst (λ (z : Worker). Contains z.pushed number) t.0 was.pushed);
-    })
-    (moved workers pass was.pass v w was.by at was.at)
+-- what one push or one pop of the number at the front adds to how often it stands in a list
+abbrev one : ℕ → ℕ → ℕ
+one x number = cond (x == number) 1 0
 
--- nor does a thread more take a push back
-pushed_wider : (workers : List Worker) (r : Worker) (number : ℕ) → WasPushed workers number
-    → WasPushed (workers ++ r ∷ []) number
-pushed_wider workers r number was = record {
-  pass = was.pass;
-  by = was.by;
-  at = at_longer workers (r ∷ []) was.pass was.by was.at;
-  submits = was.submits;
-  pushed = was.pushed;
-}
+longer : (x : ℕ) (xs : List ℕ) (number : ℕ) → times_in (x ∷ xs) number ≡ one x number + times_in xs number
+longer x xs number = sum_by-cons (λ (y : ℕ). cond (y == number) 1 0) x xs
+
+-- what a thread counts for as one that pushed the number
+abbrev counted : Bool → List ℕ → ℕ → ℕ
+counted submits pushed number = cond submits (times_in pushed number) 0
+
+longer_counted : (submits : Bool) (x : ℕ) (xs : List ℕ) (number : ℕ) → submits ≡ true
+    → counted submits (x ∷ xs) number ≡ one x number + counted submits xs number
+longer_counted submits x xs number role =
+    subst (λ b. counted b (x ∷ xs) number ≡ one x number + counted b xs number) (sym role) (longer x xs number)
+
+none_counted : (submits : Bool) (number : ℕ) → counted submits [] number ≡ 0
+none_counted true number = refl
+none_counted false number = refl
+
+sums_pushed : (p p' q q' t t' before after same new : ℕ) → p' + before ≡ p + after → q' + same ≡ q + same
+    → after ≡ new + before → t' ≡ t + new → p ≡ q + t → p' ≡ q' + t'
+sums_pushed p p' q q' t t' before after same new s u m l h = omega arith
+
+sums_popped : (p p' q q' t t' before after same new : ℕ) → p' + same ≡ p + same → q' + before ≡ q + after
+    → after ≡ new + before → t ≡ new + t' → p ≡ q + t → p' ≡ q' + t'
+sums_popped p p' q q' t t' before after same new s u m l h = omega arith
+
+sums_wider : (p p' q q' t a b : ℕ) → p' ≡ p + a → q' ≡ q + b → a ≡ 0 → b ≡ 0 → p ≡ q + t → p' ≡ q' + t
+sums_wider p p' q q' t a b s u x y h = omega arith
 
 sole_at : (x y k : ℕ) → k < 1 → get_or (x ∷ []) k y ≡ y → x ≡ y
 sole_at x y zero low e = e
@@ -62,48 +66,59 @@ first : (x : ℕ) (xs : List ℕ) → Contains (x ∷ xs) x
 first x xs = (0, omega arith, refl)
 
 -- an empty queue
-pub begins : (total : ℕ) → AreHandedOn total [] (worker false [] ∷ [])
-begins total number has = absurd (omega arith)
+pub begins : (total : ℕ) → AreHandedOn total [] (worker false [] [] ∷ [])
+begins total = record { below = λ number has. absurd (omega arith); balanced = λ number. refl }
 
 -- a submitter pushes a number below the total
 pub pushes : (total n pass : ℕ) (v : Worker) (x : ℕ) → v.submits ≡ true → x < total
-    → Pushes (AreHandedOn total) n pass v x (λ w. w ≡ worker v.submits (x ∷ v.pushed))
-pushes total n pass v x role low items workers room h at =
-    let w : Worker = worker v.submits (x ∷ v.pushed) in
-    let still : (number : ℕ) → WasPushed workers number → WasPushed (set workers pass w) number = λ number. pushed_still
-    workers pass v w number at (λ m. m) (λ m. Contains-append_right (x ∷ []) v.pushed number m) in
-    let new : WasPushed (set workers pass w) x = record {
-      pass = pass;
-      by = w;
-      at = set_here workers pass v w at;
-      submits = role;
-      pushed = first x v.pushed;
-    } in (
-      w,
-      (λ number has. ⊎_elim (λ (old : Contains items number). ((h number old).0, still number (h number old).1))
-          (λ (is : Contains (x ∷ []) number). subst (λ (z : ℕ). (z < total) × WasPushed (set workers pass w) z)
-          (sole x number is) (low, new))
-          (Contains-append_cases items (x ∷ []) number has)),
-      refl,
-    )
+    → Pushes (AreHandedOn total) n pass v x (λ w. w ≡ after_push v x)
+pushes total n pass v x role low items workers room h at = (
+  after_push v x,
+  record {
+    below = λ number has. ⊎_elim (λ (old : Contains items number). h.below number old)
+        (λ (is : Contains (x ∷ []) number). subst (λ (y : ℕ). y < total) (sole x number is) low)
+        (Contains-append_cases items (x ∷ []) number has);
+    balanced = λ number. sums_pushed (times_pushed workers number) _ (times_popped workers number) _
+        (times_in items number) _ (counted v.submits v.pushed number) (counted v.submits (x ∷ v.pushed) number)
+        (times_in v.popped number) (one x number)
+        (changed (λ (u : Worker). counted u.submits u.pushed number) workers pass v (after_push v x) at)
+        (changed (λ (u : Worker). times_in u.popped number) workers pass v (after_push v x) at)
+        (longer_counted v.submits x v.pushed number role)
+        (sum_by_push (λ (y : ℕ). cond (y == number) 1 0) items x)
+        (h.balanced number);
+  },
+  refl,
+)
 
--- whoever pops has a number that was pushed and is below the total
-pub pops : (total pass : ℕ) (v : Worker) → Pops (AreHandedOn total) pass v (λ x w. (w ≡ v) × IsHandedOn total x)
-pops total pass v x items workers h at =
-    let it = h x (first x items) in (
-      v,
-      (λ number has. let was = h number (Contains-append_right (x ∷ []) items number has) in (
-        was.0,
-        pushed_still workers pass v v number at (λ m. m) (λ m. m) was.1,
-      )),
-      (refl, record { below = it.0; workers = workers; pushed = it.1 }),
-    )
+-- whoever pops has the number that it took, which is below the total
+pub pops : (total pass : ℕ) (v : Worker)
+    → Pops (AreHandedOn total) pass v (λ x w. (x < total) × (w ≡ after_pop v x))
+pops total pass v x items workers h at = (
+  after_pop v x,
+  record {
+    below = λ number has. h.below number (Contains-append_right (x ∷ []) items number has);
+    balanced = λ number. sums_popped (times_pushed workers number) _ (times_popped workers number) _
+        (times_in (x ∷ items) number) (times_in items number) (times_in v.popped number)
+        (times_in (x ∷ v.popped) number) (counted v.submits v.pushed number) (one x number)
+        (changed (λ (u : Worker). counted u.submits u.pushed number) workers pass v (after_pop v x) at)
+        (changed (λ (u : Worker). times_in u.popped number) workers pass v (after_pop v x) at)
+        (longer x v.popped number)
+        (longer x items number)
+        (h.balanced number);
+  },
+  (h.below x (first x items), refl),
+)
 
--- a thread more
-pub forks : (total pass : ℕ) (v r : Worker) → Forks (AreHandedOn total) pass v v r
-forks total pass v r items workers h at number has =
-    let was = h number has in (
-      was.0,
-      pushed_wider (set workers pass v) r number
-          (pushed_still workers pass v v number at (λ m. m) (λ m. m) was.1),
-    )
+-- a thread more, which has pushed and popped nothing
+pub forks : (total pass : ℕ) (v : Worker) (submits : Bool)
+    → Forks (AreHandedOn total) pass v v (worker submits [] [])
+forks total pass v submits items workers h at =
+    let new : Worker = worker submits [] [] in
+    subst (λ (same : List Worker). AreHandedOn total items (same ++ new ∷ [])) (sym (set_again workers pass v at)) record {
+      below = h.below;
+      balanced = λ number. sums_wider (times_pushed workers number) _ (times_popped workers number) _
+          (times_in items number) (counted submits [] number) (times_in [] number)
+          (sum_by_push (λ (u : Worker). counted u.submits u.pushed number) workers new)
+          (sum_by_push (λ (u : Worker). times_in u.popped number) workers new)
+          (none_counted submits number) refl (h.balanced number);
+    }

@@ -1,13 +1,15 @@
 //! The device queue, through which submitters pass tags to completers.
-ghost use Rattle.std.specs.Prelude.{◌≡◌, ◌<◌, true, ℕ, IfSome, IfErr, List};
+ghost use Rattle.std.specs.Prelude.{◌≡◌, ◌<◌, true, ℕ, OnOk, OnErr, IfErr, List};
 ghost use Rattle.crossbeam_queue.specs.Passes.{view, IsPassOf};
-ghost use Rattle.loop_device.specs.DeviceQueue.{IsHandedOn};
+ghost use Rattle.loop_device.specs.DeviceQueue.{after_push, Tells};
 
 use crossbeam_queue::protocol::{Lesson, Outcome, Protocol, Split};
 use crossbeam_queue::{Pass, RuledArrayQueue};
 use std::collections::LinkedList;
 use std::marker::{Brand, PhantomData};
 use std::sync::Wait;
+use std::sync::atomic::AtomicBool;
+use std::sync::atomic::Ordering::SeqCst;
 
 /// How many tags a play has, reserved and ordinary ones together.
 pub trait Tagged {
@@ -24,9 +26,11 @@ pub struct Worker {
     pub submits: bool,
     /// What it has pushed, newest first.
     pub pushed: LinkedList<u32>,
+    /// What it has popped, newest first.
+    pub popped: LinkedList<u32>,
 }
 
-/// The rule: each number in the queue was pushed by a submitter and is below the total.
+/// The rule: each number was pushed by submitters as often as it was popped and is in the queue.
 pub struct HandedOn<B> {
     of: PhantomData<B>,
 }
@@ -37,7 +41,7 @@ impl<B: Tagged> Protocol<u32, Worker> for HandedOn<B> {
 
     ghost holds = { AreHandedOn B.total };
 
-    ghost first = { worker false [] };
+    ghost first = { worker false [] [] };
 }
 
 /// Makes a submitter's pass.
@@ -49,7 +53,7 @@ impl Split<Worker> for Submitter {
 
     ghost left = { λ v. v };
 
-    ghost right = { λ v. worker true [] };
+    ghost right = { λ v. worker true [] [] };
 }
 
 /// Makes a completer's pass.
@@ -61,33 +65,33 @@ impl Split<Worker> for Completer {
 
     ghost left = { λ v. v };
 
-    ghost right = { λ v. worker false [] };
+    ghost right = { λ v. worker false [] [] };
 }
 
 /// A number was pushed.
 struct Pushes;
 
 impl Outcome<u32, Worker> for Pushes {
-    ghost use Rattle.std.specs.Prelude.{◌≡◌, ◌∷◌};
-    ghost use Rattle.loop_device.specs.DeviceQueue.{worker};
+    ghost use Rattle.std.specs.Prelude.{◌≡◌};
+    ghost use Rattle.loop_device.specs.DeviceQueue.{after_push};
 
-    ghost then = { λ v number w. w ≡ worker v.submits (number ∷ v.pushed) };
+    ghost then = { λ v number w. w ≡ after_push v number };
 }
 
 impl Lesson<u32, Worker> for Pushes {
     ghost fact = { λ v numbers. Unit {0} };
 }
 
-/// A number was popped that a submitter had pushed.
+/// A number below the total was popped.
 struct Pops<B> {
     of: PhantomData<B>,
 }
 
 impl<B: Tagged> Outcome<u32, Worker> for Pops<B> {
-    ghost use Rattle.std.specs.Prelude.{◌≡◌};
-    ghost use Rattle.loop_device.specs.DeviceQueue.{IsHandedOn};
+    ghost use Rattle.std.specs.Prelude.{◌≡◌, ◌<◌};
+    ghost use Rattle.loop_device.specs.DeviceQueue.{after_pop};
 
-    ghost then = { λ v number w. (w ≡ v) × IsHandedOn B.total number };
+    ghost then = { λ v number w. (number < B.total) × (w ≡ after_pop v number) };
 }
 
 impl<B: Tagged> Lesson<u32, Worker> for Pops<B> {
@@ -96,6 +100,39 @@ impl<B: Tagged> Lesson<u32, Worker> for Pops<B> {
 
 /// The queue of tags that are posted and not yet taken.
 pub(crate) type DeviceQueue<B> = RuledArrayQueue<u32, Worker, HandedOn<B>>;
+
+/// What a thread read of the flag before a pop. Only a reading makes it, and each pop uses one up.
+#[derive(Drop)]
+pub(crate) struct Closing {
+    /// Whether the flag was set.
+    seen: bool,
+}
+
+impl Closing {
+    /// Reads the flag, which is set once nothing more is pushed.
+    pub(crate) fn read(closed: &AtomicBool) -> Closing {
+        Closing {
+            seen: closed.load(SeqCst),
+        }
+    }
+}
+
+/// The flag was read set, and a later pop found nothing: so all that was pushed has been taken. Only a pop makes it.
+#[derive(Drop)]
+pub(crate) struct Drained {
+    closing: Closing,
+}
+
+/// What a pop found.
+#[derive(Drop)]
+pub(crate) enum Popped {
+    /// The oldest tag.
+    Tag(u32),
+    /// Nothing; more may be pushed.
+    Empty,
+    /// Nothing, and nothing more will be.
+    Last(Drained),
+}
 
 /// Pushes a tag. If the queue is full, the tag is returned as the error.
 pub(crate) fn push<B: Tagged, W: Wait>(
@@ -109,20 +146,32 @@ pub(crate) fn push<B: Tagged, W: Wait>(
     requires tag { tag < B.total }
     ensures pass { IsPassOf queue.now pass.new }
     ensures submitter { (view pass.new).submits ≡ true }
+    ensures pushed { OnOk result (view pass.new ≡ after_push (view pass.old) tag) }
     ensures full { IfErr result (λ back. back ≡ tag) }
+    ensures err { OnErr result (view pass.new ≡ view pass.old) }
 {
     queue.push_as::<Pushes, W>(rt, pass, tag)
 }
 
-/// Pops the oldest tag of the queue, if there is one.
+/// Pops the oldest tag of the queue, if there is one, after the flag was read.
 pub(crate) fn pop<B: Tagged, W: Wait>(
     rt: &W,
     queue: &DeviceQueue<B>,
     pass: &mut Pass<u32, Worker>,
-) -> Option<u32>
+    closing: Closing,
+) -> Popped
     requires { IsPassOf queue.now pass.old }
     ensures pass { IsPassOf queue.now pass.new }
-    ensures pushed { IfSome result (IsHandedOn B.total) }
+    ensures tells { Tells closing B.total (view pass.old) (view pass.new) result }
 {
-    queue.pop_as::<Pops<B>, W>(rt, pass)
+    match queue.pop_as::<Pops<B>, W>(rt, pass) {
+        Some(tag) => Popped::Tag(tag),
+        None => {
+            if closing.seen {
+                Popped::Last(Drained { closing })
+            } else {
+                Popped::Empty
+            }
+        }
+    }
 }

@@ -171,7 +171,7 @@ fn start<'s, E, B: Tagged + Send + Sync, G: Gate, R: Wait + Sync>(
             };
             match submitters {
                 Some(count) => submit_all(rt, &shared, hand, mine, number, count),
-                None => complete_all(rt, &shared, hand, mine),
+                None => complete_all(rt, &shared, hand, mine).0,
             }
         },
     );

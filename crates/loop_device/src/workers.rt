@@ -4,7 +4,7 @@ ghost use Rattle.crossbeam_queue.specs.Passes.{view, IsPassOf};
 ghost use Rattle.tag_sets.specs.Hands.{IsHandOf, total_of};
 ghost use Rattle.loop_device.specs.Playing.{IsClean};
 
-use crate::device_queue::{DeviceQueue, Tagged, Worker, pop, push};
+use crate::device_queue::{Closing, DeviceQueue, Drained, Popped, Tagged, Worker, pop, push};
 use crate::fault::PlayFault;
 use crate::gate::Gate;
 use crate::io::Log;
@@ -80,23 +80,24 @@ pub(crate) struct Worked {
     pub(crate) faults: Faults,
 }
 
-/// Completes what comes through the queue, until it is closed and found empty.
+/// Completes what comes through the queue, until a pop finds nothing after the flag was read set.
 pub(crate) fn complete_all<B: Tagged, G: Gate, W: Wait>(
     rt: &W,
     shared: &Shared<'_, B, G>,
     mut hand: Hand<u64>,
     mut pass: Pass<u32, Worker>,
-) -> Worked
+) -> (Worked, Drained)
     requires hand { IsHandOf shared.now.tags.now hand }
     requires pass { IsPassOf shared.now.queue.now pass }
-    ensures { IsHandOf shared.now.tags.now result.hand }
+    ensures hand { IsHandOf shared.now.tags.now result.0.hand }
+    ensures drained { result.1.closing.seen ≡ true }
 {
     let mut faults = Faults::none();
     for _ in rt.forever() {
         // The flag is read first, so that the pop finds what was pushed before it was set.
-        let closed = shared.closed.load(SeqCst);
-        match pop(rt, shared.queue, &mut pass) {
-            Some(tag) => {
+        let closing = Closing::read(shared.closed);
+        match pop(rt, shared.queue, &mut pass, closing) {
+            Popped::Tag(tag) => {
                 let done = complete(
                     rt,
                     shared.tags,
@@ -108,15 +109,11 @@ pub(crate) fn complete_all<B: Tagged, G: Gate, W: Wait>(
                 );
                 faults.note(done);
             }
-            None => {
-                if closed {
-                    break;
-                }
-                thread::yield_now();
-            }
+            Popped::Empty => thread::yield_now(),
+            Popped::Last(drained) => return (Worked { hand, faults }, drained),
         }
     }
-    Worked { hand, faults }
+    unreachable!()
 }
 
 /// Submits this thread's share of the I/O lines in order, until nothing more is to be submitted: number `number` of
