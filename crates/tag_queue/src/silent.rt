@@ -33,7 +33,11 @@ impl<R: Copy> Queue<R> {
 
     /// Like `clear_batch`, but wakes no sleeper, and so links nothing that does. It returns how many waiters it granted
     /// a wakeup in each group, and leaves waking them to the caller.
-    pub fn clear_batch_silently(&self, agent: &mut Agent<R>, tags: &[u32]) -> Result<Grants, TagFault>
+    pub fn clear_batch_silently(
+        &self,
+        agent: &mut Agent<R>,
+        tags: &[u32],
+    ) -> Result<Grants, TagFault>
         requires agent { IsAgentOf self.now agent.old }
         ensures agent { IsAgentOf self.now agent.new }
 
