@@ -392,7 +392,7 @@ static void name_statuses(void)
 		for (int32_t other = status + 1; other <= 0; other++)
 			WANT(strcmp(tags_strerror(status), tags_strerror(other)) != 0, 1);
 	WANT(strcmp(tags_strerror(7), tags_strerror(TAGS_OK)), 0);
-	WANT(strcmp(tags_strerror(INT32_MIN), tags_strerror(TAGS_BAD_EVENT - 1)), 0);
+	WANT(strcmp(tags_strerror(INT32_MIN), tags_strerror(TAGS_BAD_SHIFT - 1)), 0);
 }
 
 int main(void)
