@@ -22,3 +22,8 @@ is_some_of (Some object) h = refl
 pub not_some_of : (value : Option Object) → flag_of value ≡ 0 → ¬ (IsSome value)
 not_some_of None e is = cc
 not_some_of (Some object) e is = omega arith
+
+-- a handle whose flag is 0 is empty
+pub empty_of : (value : Option Object) → flag_of value ≡ 0 → value ≡ None
+empty_of None e = refl
+empty_of (Some object) e = absurd (omega arith)

@@ -1,5 +1,5 @@
 -- The reasons why calls on pools are refused, and that each has a negative number.
-use Rattle.std.proofs.Common.{◌≡◌, ◌≢◌, ℕ, ◌<◌, ◌⊎◌, ⊎_elim, inl, inr, ℤ, pos, Option, Some, None, IfSome, refl, sym, subst, ◌∙◌}
+use Rattle.std.proofs.Common.{◌≡◌, ◌≢◌, ℕ, ◌<◌, ◌≤◌, ◌⊎◌, ⊎_elim, inl, inr, ℤ, pos, Option, Some, None, IfSome, refl, sym, subst, ◌∙◌}
 use lib.Signed.{mag}
 use mir.Syntax.{w32}
 use mir.Val.{to_z, of_z}
@@ -9,14 +9,14 @@ use Rattle.tag_queue.specs.declared.fault.SetFault.TheVariants.{Memory, TotalToo
 use Rattle.tag_queue.specs.declared.gather.QueueTotals.{QueueTotals}
 use Rattle.tag_sets.specs.declared.tags.Tags.{Tags}
 use Rattle.tag_c.specs.declared.object.Kind.{Kind}
-use Rattle.tag_c.specs.declared.object.Kind.TheVariants.{Pool as IsPool}
+use Rattle.tag_c.specs.declared.object.Kind.TheVariants.{Pool as IsPool, Member as IsMember}
 use Rattle.tag_c.specs.declared.object.Object.{Object}
 use Rattle.tag_c.specs.declared.pool.Pool.{Pool}
 use Rattle.tag_c.specs.declared.status.Status.{Status}
 use Rattle.tag_c.specs.declared.status.Status.TheVariants.{BadHandle, NoHand, HandsOut, BadFlag, NotOpened, HandLost}
 use Rattle.tag_c.specs.declared.wishes.Sums.{Sums}
 use Rattle.tag_c.specs.Codes.{code_of, code_of_set_fault, IsRefusal}
-use Rattle.tag_c.specs.Exports.{HasHand, HasPool, IsHandIn, IsPoolOf, IsMemberIn, IsPoolIn, Refuses, RefusesHand, RefusesJoin, RefusesClose, ClosesPool, Ends, sums_of}
+use Rattle.tag_c.specs.Exports.{HasHand, HasPool, IsHandIn, IsPoolOf, IsMemberIn, IsPoolIn, Refuses, RefusesHandOf, RefusesJoin, RefusesClose, ClosesPool, Ends, sums_of}
 use Rattle.tag_c.specs.Pools.{LacksHand, Gathers}
 use Rattle.tag_c.proofs.Calling.{stored}
 
@@ -82,23 +82,28 @@ close_below pool status why = ⊎_elim (λ (no : (status ≡ BadHandle) × ¬ (H
     (λ (is : status ≡ HandsOut). below status HandsOut is tt)
     (λ (is : status ≡ HandLost). below status HandLost is tt) rest) why
 
-module _ (object : Object) (flags : ℕ) (status : Status) where
-  -- the object is no pool, and the status says so
-  abbrev NoPool : Type 0
-  NoPool = (status ≡ BadHandle) × ¬ ((tags : Tags ℕ) × IsPoolIn tags object.kind)
-
+module _ (flags : ℕ) (status : Status) where
   -- each reason why an object gives no hand is a refusal
-  pub join_below : NoPool ⊎ RefusesHand flags status → IsRefusal (code_of status)
-  join_below why = ⊎_elim (λ (no : NoPool). below status BadHandle no.0 tt) (λ (hand : RefusesHand flags status).
+  pub join_below : (kind : Kind) → RefusesHandOf kind flags status → IsRefusal (code_of status)
+  join_below (IsMember member) is = below status BadHandle is tt
+  join_below (IsPool pool) hand =
       ⊎_elim (λ (flag : (status ≡ BadFlag) × (1 < flags)). below status BadFlag flag.0 tt)
-      (λ (lacks : LacksHand status).
+      (λ (lacks : (flags ≤ 1) × LacksHand status).
       ⊎_elim (λ (is : status ≡ NoHand). below status NoHand is tt)
       (λ (is : status ≡ NotOpened Memory). below status (NotOpened Memory) is tt)
-      lacks) hand) why
+      lacks.1) hand
 
-  -- the join is refused for the same reason
-  pub refuses_join : (pool hand : Option Object) → pool ≡ Some object → NoPool ⊎ RefusesHand flags status
-      → RefusesJoin pool hand flags status
-  refuses_join pool hand is why = ⊎_elim
-      (λ (no : NoPool). inr (inl (no.0, λ has. no.1 (pool_there pool object is has))))
-      (λ (hand : RefusesHand flags status). inr (inr hand)) why
+  module _ (pool hand : Option Object) (empty : hand ≡ None) where
+    -- behind a handle that is no pool, or is one, stands an object that gives no hand
+    join_behind : (kind : Kind) → ((tags : Tags ℕ) → IsPoolIn tags kind → IsPoolOf tags pool)
+        → (HasPool pool → (tags : Tags ℕ) × IsPoolIn tags kind)
+        → RefusesHandOf kind flags status → RefusesJoin pool hand flags status
+    join_behind (IsMember member) to from is = inr (inl (is, empty, λ has. (from has).1))
+    join_behind (IsPool inner) to from why = let tags = (arc_value inner.shared).tags in
+        inr (inr (empty, (tags, to tags refl), why))
+
+    -- the join is refused for the same reason
+    pub refuses_join : (object : Object) → pool ≡ Some object → RefusesHandOf object.kind flags status
+        → RefusesJoin pool hand flags status
+    refuses_join object is why = join_behind object.kind
+        (λ tags in_it. subst (λ (x : Option Object). IsPoolOf tags x) (sym is) in_it) (pool_there pool object is) why

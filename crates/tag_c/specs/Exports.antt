@@ -1,10 +1,11 @@
 -- What the calls do that open, join, leave and close pools through their handles.
-use Rattle.std.specs.Prelude.{◌≡◌, ℕ, zero, suc, ℤ, pos, negsuc, nat_eq, ◌^◌, ◌<◌, ◌⊎◌, Option, Some, None, IsSome}
+use Rattle.std.specs.Prelude.{◌≡◌, ℕ, zero, suc, ℤ, pos, negsuc, nat_eq, ◌^◌, ◌<◌, ◌≤◌, ◌⊎◌, Option, Some, None, IsSome}
 use Rattle.std.specs.Arc.{arc_value}
 use Rattle.tag_queue.specs.declared.fault.SetFault.{SetFault}
 use Rattle.tag_queue.specs.declared.gather.QueueTotals.{QueueTotals}
 use Rattle.tag_queue.specs.declared.queue.Options.{Options}
 use Rattle.tag_sets.specs.declared.tags.Tags.{Tags}
+use Rattle.tag_sets.specs.Opening as sets
 use Rattle.tag_c.specs.declared.object.Kind.{Kind}
 use Rattle.tag_c.specs.declared.object.Kind.TheVariants.{Pool as IsPool, Member as IsMember}
 use Rattle.tag_c.specs.declared.object.Object.{Object}
@@ -13,7 +14,7 @@ use Rattle.tag_c.specs.declared.status.Status.TheVariants.{BadHandle, NotEmpty, 
 use Rattle.tag_c.specs.declared.wishes.Sums.{Sums}
 use Rattle.tag_c.specs.declared.wishes.Wishes.{Wishes}
 use Rattle.tag_c.specs.Codes.{code_of}
-use Rattle.tag_c.specs.Pools.{Opens, IsCause, LacksHand, Gathers}
+use Rattle.tag_c.specs.Pools.{Opens, LacksHand, Gathers}
 
 -- this is a pool of these tags
 abbrev pub IsPoolIn : Tags ℕ → Kind → Type 0
@@ -86,24 +87,31 @@ abbrev pub OpensPool : Wishes → Option Object → Type 0
 OpensPool wishes value = (tags : Tags ℕ) × Opens wishes.total wishes.reserved (options_of wishes) tags
     × IsPoolOf tags value
 
--- an open is refused for a full handle, unknown flags, a limit exceeded, or lack of memory
+-- an open is refused for the first that holds: a full handle, unknown flags, a limit exceeded, lack of memory
 abbrev pub RefusesOpen : Option Object → Wishes → Status → Type 0
 RefusesOpen old wishes status =
-    ((status ≡ NotEmpty) × IsSome old) ⊎ ((status ≡ BadFlag) × (1 < wishes.flags))
-    ⊎ ((fault : SetFault) × (status ≡ NotOpened fault) × IsCause wishes.total wishes.reserved (options_of wishes) fault)
+    ((status ≡ NotEmpty) × IsSome old) ⊎ ((status ≡ BadFlag) × (old ≡ None) × (1 < wishes.flags))
+    ⊎ ((fault : SetFault) × (status ≡ NotOpened fault) × (old ≡ None) × (wishes.flags ≤ 1)
+    × sets.RefusesOpen wishes.total wishes.reserved (options_of wishes) fault)
 
 -- the second handle has a hand of the first one's pool
 abbrev pub JoinsPool : Option Object → Option Object → Type 0
 JoinsPool pool hand = (tags : Tags ℕ) × IsPoolOf tags pool × IsHandIn tags hand
 
--- a pool gives no hand for unknown flags, nor if it lacks one
+-- a pool gives no hand for unknown flags, nor for known ones if it lacks a hand
 abbrev pub RefusesHand : ℕ → Status → Type 0
-RefusesHand flags status = ((status ≡ BadFlag) × (1 < flags)) ⊎ LacksHand status
+RefusesHand flags status = ((status ≡ BadFlag) × (1 < flags)) ⊎ ((flags ≤ 1) × LacksHand status)
 
--- a join is refused for a full handle, for a handle without a pool, and if the pool gives no hand
+-- a hand gives no other hand
+abbrev pub RefusesHandOf : Kind → ℕ → Status → Type 0
+RefusesHandOf (IsPool pool) flags status = RefusesHand flags status
+RefusesHandOf (IsMember member) flags status = status ≡ BadHandle
+
+-- a join is refused for the first that holds: a full handle, a handle without a pool, a pool that gives no hand
 abbrev pub RefusesJoin : Option Object → Option Object → ℕ → Status → Type 0
-RefusesJoin pool hand flags status =
-    ((status ≡ NotEmpty) × IsSome hand) ⊎ ((status ≡ BadHandle) × ¬ (HasPool pool)) ⊎ RefusesHand flags status
+RefusesJoin pool hand flags status = ((status ≡ NotEmpty) × IsSome hand)
+    ⊎ ((status ≡ BadHandle) × (hand ≡ None) × ¬ (HasPool pool))
+    ⊎ ((hand ≡ None) × HasPool pool × RefusesHand flags status)
 
 -- a leave is refused for a handle without a hand; when berths are free is not specified
 abbrev pub RefusesLeave : Option Object → Status → Type 0

@@ -1,7 +1,8 @@
 //! Opens and closes the tags of a pool, and gives out its hands.
 ghost use Rattle.std.specs.Prelude.{◌≡◌, ◌≤◌, [], IfOk, IfErr, IfSome, vec_len, vec_capacity};
 ghost use Rattle.std.specs.Arc.{arc_value};
-ghost use Rattle.tag_c.specs.Pools.{Opens, IsCause, LacksHand, Gathers};
+ghost use Rattle.tag_sets.specs.Opening.{CanOpen, RefusesOpen};
+ghost use Rattle.tag_c.specs.Pools.{Opens, LacksHand, Gathers};
 
 use crate::member::Member;
 use crate::shared::Shared;
@@ -27,7 +28,8 @@ impl Pool {
         options: Options,
     ) -> Result<Pool, SetFault>
         ensures ok { IfOk result (λ pool. Opens total reserved options (arc_value pool.shared).tags) }
-        ensures cause { IfErr result (IsCause total reserved options) }
+        ensures can { IfOk result (λ _. CanOpen total reserved options) }
+        ensures cause { IfErr result (RefusesOpen total reserved options) }
     {
         let (tags, hands) = Tags::open(alloc, total, reserved, options, 0)?;
         let Ok(berths) = Vec::with_capacity(alloc, hands.len()) else {

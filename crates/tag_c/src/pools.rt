@@ -1,10 +1,10 @@
 //! Opens and closes pools, and gives out and takes back their hands, through handles. Each call is described in tags.h.
-ghost use Rattle.std.specs.Prelude.{◌≡◌, ◌≢◌, ℕ, ◌⊎◌, ◌↔◌, pos, IsSome, None, IfOk, IfErr, IfSome, IsTrue};
+ghost use Rattle.std.specs.Prelude.{◌≡◌, ◌≢◌, ◌≤◌, ℕ, ◌⊎◌, ◌↔◌, pos, IsSome, None, IfOk, IfErr, IfSome, IsTrue};
 ghost use Rattle.std.specs.Arc.{arc_value};
 ghost use Rattle.tag_sets.specs.declared.tags.Tags.{Tags};
 ghost use Rattle.tag_c.specs.Codes.{code_of};
 ghost use Rattle.tag_c.specs.Exports.{HasPool, HasHand, IsPoolIn, IsMemberIn, Refuses, Ends};
-ghost use Rattle.tag_c.specs.Exports.{OpensPool, RefusesOpen, JoinsPool, RefusesHand, RefusesJoin, RefusesLeave, ClosesPool, RefusesClose};
+ghost use Rattle.tag_c.specs.Exports.{OpensPool, RefusesOpen, JoinsPool, RefusesHandOf, RefusesJoin, RefusesLeave, ClosesPool, RefusesClose};
 ghost use Rattle.tag_c.specs.declared.status.Status.TheVariants.{Done, NotEmpty, BadHandle, HandsOut, HandLost, NoBerth};
 
 use crate::handle::Handle;
@@ -24,8 +24,8 @@ impl Object {
     /// Takes out a hand of this pool. Fails if this is a hand, if the flags are unknown, or if the pool gives no hand.
     pub(crate) fn join(&self, flags: u32) -> Result<Member, Status>
         ensures ok { IfOk result (λ member. IsPoolIn (arc_value member.shared).tags self.now.kind) }
-        ensures why { IfErr result (λ status.
-            ((status ≡ BadHandle) × ¬ ((tags : Tags ℕ) × IsPoolIn tags self.now.kind)) ⊎ RefusesHand flags status) }
+        ensures known { IfOk result (λ _. flags ≤ 1) }
+        ensures why { IfErr result (RefusesHandOf self.now.kind flags) }
     {
         let Kind::Pool(pool) = &self.kind else {
             return Err(Status::BadHandle);

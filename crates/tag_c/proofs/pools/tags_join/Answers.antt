@@ -2,12 +2,17 @@
 use Rattle.std.proofs.Common.{rules, ◌≡◌, Option, None, inl, inr, refl, sym, subst, ◌∙◌}
 use Rattle.std.specs.Arc.{arc_value}
 use Rattle.tag_queue.specs.declared.fault.SetFault.TheVariants.{Memory}
+use Rattle.tag_c.specs.declared.handle.Handle.{Handle}
 use Rattle.tag_c.specs.declared.object.Object.{Object}
 use Rattle.tag_c.specs.declared.status.Status.TheVariants.{BadHandle, NotEmpty, NotOpened}
 use Rattle.tag_c.specs.Exports.{RefusesJoin, IsPoolOf, IsMemberIn, IsHandIn}
 use Rattle.tag_c.proofs.Refusing.{refuses, refused, no_pool, join_below, refuses_join}
-use Rattle.tag_c.proofs.Flags.{is_some_of, not_some_of}
+use Rattle.tag_c.proofs.Flags.{is_some_of, not_some_of, empty_of}
 use Rattle.tag_c.proofs.pools.tags_join.Goals as goal
+
+-- a handle that is not full is empty
+empty : (handle : Handle) → handle.full ≡ 0 → handle.object.value ≡ None
+empty handle zero = empty_of handle.object.value (sym handle.held ∙ zero)
 
 pub returns-then-hand-ne0-clause-why : goal.returns-then-hand-ne0-clause-why
 returns-then-hand-ne0-clause-why c = λ _. let hand = c.args.hand.now in
@@ -21,18 +26,19 @@ returns-in_default-clause-why c = λ _. let value = c.args.pool.now.object.value
     let code = c.code-in_default in
     refuses (RefusesJoin value c.args.hand.now.object.value c.args.flags) BadHandle code.result code.ensures
     code.type_inv
-    (inr (inl (refl, no_pool value none)))
+    (inr (inl (refl, empty c.args.hand.now c.if-hand-ne0.false, no_pool value none)))
 
 pub returns-in-Err-clause-joins : goal.returns-in-Err-clause-joins
 returns-in-Err-clause-joins c = λ zero. let code = c.code-in-Err in let status = c.in-Err.status in
     absurd (refused status code.result code.ensures code.type_inv
-    (join_below c.in-Some.object.now c.args.flags status c.in-Err.ensures.why) zero)
+    (join_below c.args.flags status c.in-Some.object.now.kind c.in-Err.ensures.why) zero)
 
 pub returns-in-Err-clause-why : goal.returns-in-Err-clause-why
 returns-in-Err-clause-why c = λ _. let pool = c.args.pool.now.object.value in let hand = c.args.hand.now.object.value in
     let code = c.code-in-Err in let status = c.in-Err.status in
     refuses (RefusesJoin pool hand c.args.flags) status code.result code.ensures code.type_inv
-    (refuses_join c.in-Some.object.now c.args.flags status pool hand c.in-Some.ensures.some c.in-Err.ensures.why)
+    (refuses_join c.args.flags status pool hand (empty c.args.hand.now c.if-hand-ne0.false) c.in-Some.object.now
+    c.in-Some.ensures.some c.in-Err.ensures.why)
 
 pub leave-requires : goal.leave-requires
 leave-requires c = let tags = (arc_value c.in-Ok.member.shared).tags in
@@ -56,5 +62,10 @@ returns-in-Err-new-clause-not_empty c = λ full. let hand = c.args.hand.now in
 
 pub returns-in-Err-new-clause-why : goal.returns-in-Err-new-clause-why
 returns-in-Err-new-clause-why c = λ _. let code = c.code-in-Err-new in
+    let tags = (arc_value c.in-Ok.member.shared).tags in
     refuses (RefusesJoin c.args.pool.now.object.value c.args.hand.now.object.value c.args.flags) (NotOpened Memory)
-    code.result code.ensures code.type_inv (inr (inr (inr (inr refl))))
+    code.result code.ensures code.type_inv (inr (inr (
+      empty c.args.hand.now c.if-hand-ne0.false,
+      (tags, subst (λ (x : Option Object). IsPoolOf tags x) (sym c.in-Some.ensures.some) c.in-Ok.ensures.ok),
+      inr (c.in-Ok.ensures.known, inr refl),
+    )))
