@@ -106,6 +106,19 @@ impl<R: Copy> Queue<R> {
         }
     }
 
+    /// Loads the number of active waiters, as each clear does. 0 means that the load found nobody waiting.
+    #[inline]
+    pub fn active(&self, agent: &mut Agent<R>) -> u64
+        requires agent { IsAgentOf self.now agent.old }
+        ensures agent { IsAgentOf self.now agent.new }
+        ensures looks { group_steps agent.new ≡ Look active_at result ∷ group_steps agent.old }
+        ensures own { IsSome (standing_of agent.old) → 1 ≤ result }
+        ensures same { (caller_of agent.new ≡ caller_of agent.old) × (hint_of agent.new ≡ hint_of agent.old)
+            × (teller_of agent.new ≡ teller_of agent.old) × StandsAsBefore (waiter_of agent.old) (waiter_of agent.new) }
+    {
+        self.groups.active(&mut agent.waiter)
+    }
+
     /// Takes a free tag like `get`, and waits as long as it finds none. Nothing promises that it returns. `NoSuchTag`
     /// means that the queue has no tags, `Waiting` that the agent is already in a wait group, `Spent` that its life is
     /// used up.

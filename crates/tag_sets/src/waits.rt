@@ -72,6 +72,19 @@ impl<R: Copy> Tags<R> {
         self.ordinary.wakes(&mut hand.ordinary)
     }
 
+    /// Loads the number of active waiters, as each clear of an ordinary tag does. 0 means that the load found nobody
+    /// waiting.
+    #[inline]
+    pub fn active(&self, hand: &mut Hand<R>) -> u64
+        requires hand { IsHandOf self.now hand.old }
+        ensures hand { IsHandOf self.now hand.new }
+        ensures looks { group_steps hand.new ≡ Look active_at result ∷ group_steps hand.old }
+        ensures own { IsSome (standing_of hand.old) → 1 ≤ result }
+        ensures same { Stays hand.old hand.new }
+    {
+        self.ordinary.active(&mut hand.ordinary)
+    }
+
     /// Takes a free ordinary tag like `get`, and waits as long as it finds none. Nothing promises that it returns.
     /// `NoSuchTag` means that there are no ordinary tags, `Waiting` that the hand is already in a wait group, `Spent`
     /// that its life in the ordinary set is used up.

@@ -1,0 +1,4 @@
+pub mod Windows
+pub mod Below
+pub mod Carrying
+pub mod Crossing

@@ -1,0 +1,27 @@
+-- The effect of gets on the cache that makes them.
+use Rattle.std.specs.Prelude.{◌≡◌, ◌⊎◌, ℕ, Option, Some}
+use Rattle.tag_sets.specs.declared.tags.Tags.{Tags}
+use Rattle.tag_sets.specs.Gets.{IsAnswer, IsOrdinaryTag}
+use Rattle.tag_sets.specs.Gets as hands
+use Rattle.tag_cache.specs.declared.cache.Cache.{Cache}
+use Rattle.tag_cache.specs.Caches.{KeepsNone, KeepsSame, Pops}
+use Rattle.tag_cache.specs.Holding.{HoldsMore}
+
+-- the answer is the least kept tag, by no step
+pub record FromKept {R : Type 0} (answer : Option ℕ) (old new : Cache R) : Type 0 where
+  pub tag : ℕ
+  pub answer_is : answer ≡ Some tag
+  pub pops : Pops tag old new
+
+-- nothing was kept, and the hand made a get
+pub record FromTags {R : Type 0} (tags : Tags R) (answer : Option ℕ) (old new : Cache R) : Type 0 where
+  pub none : KeepsNone old
+  pub gets : hands.Gets tags answer old.hand new.hand
+  pub same : KeepsSame old new
+
+-- the user gains the ordinary tag returned, if there is one, and no other: the least kept one, or by a get if none is
+-- kept
+pub record Gets {R : Type 0} (tags : Tags R) (answer : Option ℕ) (old new : Cache R) : Type 0 where
+  pub more : HoldsMore (IsAnswer answer) old new
+  pub ordinary : (tag : ℕ) → IsAnswer answer tag → IsOrdinaryTag tags tag
+  pub source : FromKept answer old new ⊎ FromTags tags answer old new

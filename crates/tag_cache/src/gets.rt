@@ -1,0 +1,74 @@
+//! Gets: the calls that take tags.
+ghost use Rattle.std.specs.Prelude.{◌≡◌, ℕ, ◌<◌, ◌≤◌, ◌↔◌, IfOk, IfErr, IsOk, OnErr};
+ghost use Rattle.tag_sets.specs.Hands.{HasRoom, reserved_of};
+ghost use Rattle.tag_sets.specs.Gets as hands;
+ghost use Rattle.tag_sets.specs.Gets.{IsAnswer, IsOrdinaryTag};
+ghost use Rattle.tag_sets.specs.declared.kind.Kind.TheVariants.{Ordinary, Reserved};
+ghost use Rattle.tag_cache.specs.Caches.{IsCacheOf, IsUnchanged, KeepsNone, KeepsSame, hand_of};
+ghost use Rattle.tag_cache.specs.Holding.{HoldsMore};
+ghost use Rattle.tag_cache.specs.Gets.{Gets};
+
+use crate::cache::Cache;
+use std::sync::Wait;
+use tag_queue::TagFault;
+use tag_sets::Tags;
+
+impl<R: Copy> Cache<R> {
+    /// Answers the least kept tag, by no step. If no tag is kept it takes a free ordinary tag as `Tags::get` does.
+    #[inline(always)]
+    pub fn get(&mut self, tags: &Tags<R>) -> Result<Option<u32>, TagFault>
+        requires { IsCacheOf tags.now self.old }
+        ensures cache { IsCacheOf tags.now self.new }
+        ensures spent { (result ≡ Err TagFault.Spent) ↔ (KeepsNone self.old × ¬ (HasRoom (hand_of self.old) Ordinary 1)) }
+        ensures gets { IfOk result (λ answer. Gets tags.now answer self.old self.new) }
+        ensures err { IfErr result (λ fault. (fault ≡ TagFault.Spent) × IsUnchanged self.old self.new) }
+    {
+        if let Some(tag) = self.pop() {
+            return Ok(Some(tag));
+        }
+        self.win(tags)
+    }
+
+    /// Has the hand get a tag. It is out of line, so that a get is short where a tag is kept.
+    #[inline(never)]
+    fn win(&mut self, tags: &Tags<R>) -> Result<Option<u32>, TagFault>
+        requires { IsCacheOf tags.now self.old }
+        ensures cache { IsCacheOf tags.now self.new }
+        ensures room { IsOk result ↔ HasRoom (hand_of self.old) Ordinary 1 }
+        ensures gets { IfOk result (λ answer. hands.Gets tags.now answer (hand_of self.old) (hand_of self.new)) }
+        ensures kept { KeepsSame self.old self.new }
+        ensures err { IfErr result (λ fault. (fault ≡ TagFault.Spent) × (hand_of self.new ≡ hand_of self.old)) }
+    {
+        tags.get(&mut self.hand)
+    }
+
+    /// Takes a free reserved tag as `Tags::get_reserved` does.
+    pub fn get_reserved(&mut self, tags: &Tags<R>) -> Result<Option<u32>, TagFault>
+        requires { IsCacheOf tags.now self.old }
+        ensures cache { IsCacheOf tags.now self.new }
+        ensures no_reserved { (result ≡ Err TagFault.NoReserved) ↔ (reserved_of tags.now ≡ 0) }
+        ensures spent { (result ≡ Err TagFault.Spent)
+            ↔ ((1 ≤ reserved_of tags.now) × ¬ (HasRoom (hand_of self.old) Reserved 1)) }
+        ensures more { IfOk result (λ answer. HoldsMore (IsAnswer answer) self.old self.new) }
+        ensures reserved { IfOk result (λ answer. (tag : ℕ) → IsAnswer answer tag → tag < reserved_of tags.now) }
+        ensures kept { KeepsSame self.old self.new }
+        ensures err { OnErr result (IsUnchanged self.old self.new) }
+    {
+        tags.get_reserved(&mut self.hand)
+    }
+
+    /// Answers a kept tag, or takes a free ordinary tag and waits as long as it finds none, as `Tags::get_blocking` does.
+    pub fn get_blocking<W: Wait>(&mut self, rt: &W, tags: &Tags<R>) -> Result<u32, TagFault>
+        requires { IsCacheOf tags.now self.old }
+        ensures cache { IsCacheOf tags.now self.new }
+        ensures more { IfOk result (λ tag. HoldsMore (λ other. other ≡ tag) self.old self.new) }
+        ensures ordinary { IfOk result (λ tag. IsOrdinaryTag tags.now tag) }
+        ensures refused { IfErr result (λ fault. KeepsNone self.old) }
+        ensures err { OnErr result (IsUnchanged self.old self.new) }
+    {
+        if let Some(tag) = self.pop() {
+            return Ok(tag);
+        }
+        tags.get_blocking(rt, &mut self.hand)
+    }
+}

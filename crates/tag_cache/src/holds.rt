@@ -1,0 +1,32 @@
+//! Whether the user of a cache holds a tag.
+ghost use Rattle.std.specs.Prelude.{◌↔◌, IsTrue};
+ghost use Rattle.tag_sets.specs.Hands.{IsTagOf};
+ghost use Rattle.tag_cache.specs.Caches.{Holds, hand_of};
+
+use crate::cache::Cache;
+use tag_sets::Tags;
+
+impl<R> Cache<R> {
+    /// Returns whether the user holds the tag: the hand does, and it is not kept. This makes no step.
+    pub fn holds(&self, tag: u32) -> bool
+        requires { IsTagOf (hand_of self.now) tag }
+        ensures { IsTrue result ↔ Holds self.now tag }
+    {
+        self.hand.holds(tag) && !self.keeps(tag)
+    }
+}
+
+impl<R: Copy> Cache<R> {
+    ghost use Rattle.tag_cache.specs.Caches.{IsCacheOf, KeepsSame};
+    ghost use Rattle.tag_cache.specs.Holding.{HoldsSame};
+
+    /// Places the hand's hints as `Tags::place` does.
+    pub fn place(&mut self, tags: &Tags<R>)
+        requires { IsCacheOf tags.now self.old }
+        ensures cache { IsCacheOf tags.now self.new }
+        ensures same { HoldsSame self.old self.new }
+        ensures kept { KeepsSame self.old self.new }
+    {
+        tags.place(&mut self.hand);
+    }
+}

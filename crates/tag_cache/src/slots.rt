@@ -1,0 +1,83 @@
+//! The slots of held tags, and how tags pass from thread to thread.
+ghost use Rattle.std.specs.Prelude.{◌≡◌, ◌<◌, ◌≤◌, ◌↔◌, IfOk, IfErr, IsOk, OnOk, OnErr};
+ghost use mathlib.Core.Option.{some};
+ghost use Rattle.tag_sets.specs.Hands.{total_of};
+ghost use Rattle.tag_sets.specs.Slots.{RefusesTake};
+ghost use Rattle.tag_cache.specs.Caches.{IsCacheOf, IsUnchanged, Holds, KeepsSame, slot_of, hand_of};
+ghost use Rattle.tag_cache.specs.Holding.{HoldsLess, HoldsMore, HoldsSame, Writes};
+
+use crate::cache::Cache;
+use tag_queue::TagFault;
+use tag_sets::Tags;
+
+impl<R: Copy> Cache<R> {
+    /// Returns the value in the slot of a tag that the user holds.
+    #[inline]
+    pub fn read(&mut self, tags: &Tags<R>, tag: u32) -> Result<R, TagFault>
+        requires { IsCacheOf tags.now self.old }
+        ensures cache { IsCacheOf tags.now self.new }
+        ensures no_such_tag { (result ≡ Err TagFault.NoSuchTag) ↔ (total_of tags.now ≤ tag) }
+        ensures not_held { (result ≡ Err TagFault.NotHeld) ↔ ((tag < total_of tags.now) × ¬ (Holds self.old tag)) }
+        ensures succeeds { Holds self.old tag → IsOk result }
+        ensures value { IfOk result (λ value. slot_of self.old tag ≡ some value) }
+        ensures same { OnOk result (HoldsSame self.old self.new) }
+        ensures kept { KeepsSame self.old self.new }
+        ensures err { OnErr result (IsUnchanged self.old self.new) }
+    {
+        if self.keeps(tag) {
+            return Err(TagFault::NotHeld);
+        }
+        tags.read(&mut self.hand, tag)
+    }
+
+    /// Writes the slot of a tag that the user holds, and returns its former value.
+    #[inline]
+    pub fn write(&mut self, tags: &Tags<R>, tag: u32, value: R) -> Result<R, TagFault>
+        requires { IsCacheOf tags.now self.old }
+        ensures cache { IsCacheOf tags.now self.new }
+        ensures no_such_tag { (result ≡ Err TagFault.NoSuchTag) ↔ (total_of tags.now ≤ tag) }
+        ensures not_held { (result ≡ Err TagFault.NotHeld) ↔ ((tag < total_of tags.now) × ¬ (Holds self.old tag)) }
+        ensures succeeds { Holds self.old tag → IsOk result }
+        ensures former { IfOk result (λ former. slot_of self.old tag ≡ some former) }
+        ensures writes { OnOk result (Writes tag value self.old self.new) }
+        ensures kept { KeepsSame self.old self.new }
+        ensures err { OnErr result (IsUnchanged self.old self.new) }
+    {
+        if self.keeps(tag) {
+            return Err(TagFault::NotHeld);
+        }
+        tags.write(&mut self.hand, tag, value)
+    }
+
+    /// Gives up a tag that the user holds with its slot, so that another thread can `take` it.
+    #[inline]
+    pub fn post(&mut self, tags: &Tags<R>, tag: u32) -> Result<(), TagFault>
+        requires { IsCacheOf tags.now self.old }
+        ensures cache { IsCacheOf tags.now self.new }
+        ensures no_such_tag { (result ≡ Err TagFault.NoSuchTag) ↔ (total_of tags.now ≤ tag) }
+        ensures not_held { (result ≡ Err TagFault.NotHeld) ↔ ((tag < total_of tags.now) × ¬ (Holds self.old tag)) }
+        ensures succeeds { Holds self.old tag → IsOk result }
+        ensures less { OnOk result (HoldsLess (λ other. other ≡ tag) self.old self.new) }
+        ensures kept { KeepsSame self.old self.new }
+        ensures err { OnErr result (IsUnchanged self.old self.new) }
+    {
+        if self.keeps(tag) {
+            return Err(TagFault::NotHeld);
+        }
+        tags.post(&mut self.hand, tag)
+    }
+
+    /// Takes a posted tag with its slot. `NotPosted` leaves what the user holds unchanged.
+    #[inline]
+    pub fn take(&mut self, tags: &Tags<R>, tag: u32) -> Result<(), TagFault>
+        requires { IsCacheOf tags.now self.old }
+        ensures cache { IsCacheOf tags.now self.new }
+        ensures no_such_tag { (result ≡ Err TagFault.NoSuchTag) ↔ (total_of tags.now ≤ tag) }
+        ensures more { OnOk result (HoldsMore (λ other. other ≡ tag) self.old self.new) }
+        ensures kept { KeepsSame self.old self.new }
+        ensures refuses { IfErr result (λ fault. RefusesTake tag fault (hand_of self.old) (hand_of self.new)) }
+        ensures same { OnErr result (HoldsSame self.old self.new) }
+    {
+        tags.take(&mut self.hand, tag)
+    }
+}
