@@ -1,6 +1,7 @@
 //! A few tags of its own for each thread, so that most gets and clears take no atomic read-modify-write.
 #![tactic(auto)]
 
+mod cache;
 mod clears;
 mod flush;
 mod gets;
@@ -8,7 +9,6 @@ mod holds;
 mod keeping;
 mod meets;
 mod slots;
-mod cache;
 
 pub use cache::Cache;
 pub use tag_queue::TagFault;
