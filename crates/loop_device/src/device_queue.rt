@@ -117,7 +117,7 @@ impl Closing {
     }
 }
 
-/// The flag was read set, and a later pop found nothing: so all that was pushed has been taken. Only a pop makes it.
+/// The flag was read set, and a later pop found nothing. Only a pop makes it.
 #[derive(Drop)]
 pub(crate) struct Drained {
     closing: Closing,
@@ -130,7 +130,7 @@ pub(crate) enum Popped {
     Tag(u32),
     /// Nothing; more may be pushed.
     Empty,
-    /// Nothing, and nothing more will be.
+    /// Nothing, after the flag was read set.
     Last(Drained),
 }
 
