@@ -2,7 +2,7 @@
 # library.sh build: makes out/libtags.a beside this file: crates/tag_c, proved and compiled, with what of the library is C.
 # library.sh install PREFIX: builds it, and puts it, tags.h, tags.pc and a CMake package file below the prefix.
 # library.sh uninstall PREFIX: removes them.
-# library.sh dist: makes archives and Debian packages for x86-64 and 64-bit ARM in dist/ beside this file.
+# library.sh dist: makes archives and Debian packages for x86-64 and 64-bit ARM, and those of tagplay, in dist/ beside this file.
 # Set LIBDIR=lib/x86_64-linux-gnu, or an absolute folder, for another folder of libraries than lib, and DESTDIR to stage an
 # install. With TAG_C=FILE the library of crates/tag_c is that file, and rt proves nothing; else `rt` of the kit is on the path.
 # OUT is another folder than out/, and CROSS_COMPILE=aarch64-linux-gnu- names the tools of another processor.

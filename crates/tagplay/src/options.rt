@@ -45,7 +45,7 @@ pub(crate) fn command<'a>(alloc: Global) -> Result<Command<'a>, AllocError> {
             Exit status: 0 possible, 1 refused, 2 mistaken command line, 3 out of memory, input too long, or a read or write fault.",
         );
     Command::new(alloc, "tagplay")
-        .version("0.1.0")
+        .version("0.1.0, proved with rattle-kit-13f logic dac8208d650f15bf")
         .about(
             "Runs a tag allocator on lines of standard input, and writes the answers to standard output",
         )
