@@ -1,8 +1,8 @@
 //! The subcommand that a command line names.
-ghost use Rattle.std.specs.Prelude.{◌≡◌, ◌≢◌, Some, IsNone, IfSome, IfOk, IfErr, IsErrOf};
+ghost use Rattle.std.specs.Prelude.{◌≡◌, ◌≢◌, ◌||◌, Some, IsNone, IfSome, IfOk, IfErr, IsErrOf};
 ghost use Rattle.clap.specs.Matches.{subcommand_name_of};
 ghost use Rattle.clap.specs.Words.{subcommand_rows_of};
-ghost use Rattle.tag_runs.specs.Input.{StopsReading};
+ghost use Rattle.tag_runs.specs.Input.{StopsReading, is_read_fault};
 ghost use Rattle.tag_runs.specs.Runs.{HasOutput, WritesOutput};
 ghost use Rattle.tagplay.specs.Choices.{name_of, owed_by, IsChosen};
 ghost use Rattle.tagplay.specs.declared.choice.Choice.{Choice};
@@ -10,10 +10,10 @@ ghost use Rattle.tagplay.specs.declared.choice.Choice.{Choice};
 use crate::options::{check_options, play_options, script_options};
 use clap::ArgMatches;
 use std::alloc::Global;
-use std::io::{Read, Write};
+use std::io::Write;
 use std::sync::Wait;
 use std::thread::Threads;
-use tag_runs::{PlayOptions, RunFault, run_check, run_play, run_script};
+use tag_runs::{PlayOptions, RunFault, Source, run_check, run_play, run_script};
 use tag_script::{CheckOptions, Ending, ScriptOptions};
 
 /// A subcommand with its options.
@@ -46,7 +46,7 @@ impl Choice {
     }
 
     /// Runs the chosen subcommand.
-    pub(crate) fn run<T: Threads + Wait + Sync, R: Read, W: Write>(
+    pub(crate) fn run<T: Threads + Wait + Sync, R: Source, W: Write>(
         &self,
         rt: &T,
         alloc: Global,
@@ -57,6 +57,7 @@ impl Choice {
             (W.contents writer.old) (W.contents writer.new)) }
         ensures untouched { IfErr result (λ fault. fault ≢ RunFault.Write → writer.new ≡ writer.old) }
         ensures stopped { IfErr result (λ fault. StopsReading fault (R.remaining reader.old) (R.remaining reader.new)) }
+        ensures failed { R.has_failed reader.new ≡ (is_read_fault result || R.has_failed reader.old) }
         ensures answered { IsErrOf result RunFault.Write → HasOutput (owed_by self.now) (R.remaining reader.old) }
     {
         match self {

@@ -10,11 +10,11 @@ use crate::stop::Stop;
 use clap::error::ErrorKind;
 use std::convert::AsStr;
 use std::env;
-use std::io::{Read, Write};
+use std::io::Write;
 use std::rt::Env;
 use std::sync::Wait;
 use std::thread::Threads;
-use tag_runs::RunFault;
+use tag_runs::{RunFault, Source};
 use tag_script::Ending;
 
 /// Returns the arguments of the process, starting with the program's name. One that is not UTF-8 is a `Memory` fault.
@@ -29,7 +29,7 @@ pub(crate) fn words<R: AllocGlobal + Env>(rt: &R) -> Result<Vec<String>, RunFaul
 pub(crate) fn play<
     P: AllocGlobal + Print + Eprint + Threads + Wait + Sync,
     S: AsStr,
-    R: Read,
+    R: Source,
     W: Write,
 >(rt: &P, words: &[S], reader: &mut R, writer: &mut W) -> Result<Ending, Stop>
     ensures { IfOk result (λ ending. (choice : Chosen)

@@ -10,14 +10,14 @@ use command_line::{play, words};
 use std::io;
 use std::process::ExitCode;
 use stop::{Stop, status};
-pub use tag_runs::{PlayOptions, RunFault, run_check, run_play, run_script};
+pub use tag_runs::{PlayOptions, RunFault, Watched, run_check, run_play, run_script};
 
 fn main(rt: HostRuntime) -> ExitCode {
     let outcome = match words(&rt) {
         Ok(words) => play(
             &rt,
             words.as_slice(),
-            &mut rt.reader(),
+            &mut Watched::new(rt.reader()),
             &mut io::writer(&rt),
         ),
         Err(fault) => Err(Stop::Run(fault)),

@@ -2,7 +2,7 @@
 use std::io;
 use std::io::{Read, Write};
 use std::test::*;
-use tag_runs::{PlayOptions, RunFault, run_check, run_play, run_script};
+use tag_runs::{PlayOptions, RunFault, Watched, run_check, run_play, run_script};
 use tag_script::{CheckOptions, Ending, ScriptOptions};
 
 const FOUR: CheckOptions = CheckOptions {
@@ -65,8 +65,8 @@ const MOST: usize = 16_777_216;
 
 const TOO_MANY: usize = 16_777_217;
 
-fn sevens(left: usize) -> Repeats {
-    Repeats { byte: b'7', left }
+fn sevens(left: usize) -> Watched<Repeats> {
+    Watched::new(Repeats { byte: b'7', left })
 }
 
 /// A reader that gives `left` copies of `byte`.
@@ -105,11 +105,11 @@ impl Write for Shut {
 fn an_error_at_any_call_of_the_reader_leaves_no_output(rt: HostRuntime) {
     let text = b"win 0 0 8\nput 0 3\n".as_slice();
     for fails_at in 0..=text.len() {
-        let mut reader = Failing {
+        let mut reader = Watched::new(Failing {
             text,
             at: 0,
             fails_at,
-        };
+        });
         let mut written = Vec::new(rt.alloc());
         let outcome = run_check(rt.alloc(), &FOUR, &mut reader, &mut written);
         assert_eq!(rt; outcome, Err(RunFault::Read), "at {fails_at}");
@@ -122,11 +122,11 @@ fn an_error_at_any_call_of_the_reader_leaves_no_answer(rt: HostRuntime) {
     let text = b"0 get\n0 clear 0\n".as_slice();
     for options in [PLAIN_FOUR, SHARED_FOUR] {
         for fails_at in 0..=text.len() {
-            let mut reader = Failing {
+            let mut reader = Watched::new(Failing {
                 text,
                 at: 0,
                 fails_at,
-            };
+            });
             let mut written = Vec::new(rt.alloc());
             let outcome = run_script(&rt, rt.alloc(), &options, &mut reader, &mut written);
             assert_eq!(rt; outcome, Err(RunFault::Read), "at {fails_at}");
@@ -139,11 +139,11 @@ fn an_error_at_any_call_of_the_reader_leaves_no_answer(rt: HostRuntime) {
 fn an_error_at_any_call_of_the_reader_leaves_no_report(rt: HostRuntime) {
     let text = b"fio version 2 iolog\na add\n".as_slice();
     for fails_at in 0..=text.len() {
-        let mut reader = Failing {
+        let mut reader = Watched::new(Failing {
             text,
             at: 0,
             fails_at,
-        };
+        });
         let mut written = Vec::new(rt.alloc());
         let outcome = run_play(&rt, rt.alloc(), &PLAYED_FOUR, &mut reader, &mut written);
         assert_eq!(rt; outcome, Err(RunFault::Read), "at {fails_at}");
