@@ -14,7 +14,9 @@ use std::alloc::Global;
 use tag_sets::{Options, SetFault, Tags};
 
 impl Board {
-    /// Opens a board whose tags are all free. The lowest `reserved` of the `total` tags are the reserved ones.
+    /// Opens a board whose tags are all free. The lowest `reserved` of the `total` tags are the reserved ones. Refused
+    /// as `Tags::open` refuses: `TotalTooLarge`, `ReservedTooLarge`, `ShiftTooLarge`, `CallerCount`, `LifeTooLong`,
+    /// `CapTooLarge`, and last `Memory`.
     pub fn open(
         alloc: Global,
         total: u32,

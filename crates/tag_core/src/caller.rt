@@ -69,7 +69,7 @@ impl<R> Numbered for Caller<R> {
 impl<R> Caller<R> {
     ghost use Rattle.tag_core.specs.Callers.{record_of};
 
-    /// Tags that it has won, at most 2^48.
+    /// Number of tags that this caller has won so far, at most its life. No step.
     pub fn won(&self) -> u64
         ensures value { result ≡ (record_of self.now).won }
         ensures within { result ≤ MOST_WON }
@@ -77,7 +77,7 @@ impl<R> Caller<R> {
         self.won
     }
 
-    /// Tags that it has put or given back, others' that it took among them.
+    /// Number of tags that this caller has put or given back so far, including tags that it took from others. No step.
     pub fn back(&self) -> u64
         ensures { result ≡ (record_of self.now).back }
     {

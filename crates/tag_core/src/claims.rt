@@ -15,8 +15,8 @@ use crate::plays::Claiming;
 use crate::spots::word_spot;
 
 impl<R> Map<R> {
-    /// Sets the bits of the mask in a word, and wins those that were 0. `Spent` if the mask's bits could exceed the caller's
-    /// life.
+    /// Sets the bits of the mask in a word, and wins the tags whose bits were 0. One step, `fetch_or`. `Spent`: the
+    /// mask has more bits than the caller may still win within its life; nothing changes then.
     pub fn claim(&self, caller: &mut Caller<R>, word: u32, mask: u64) -> Result<Claim, Spent>
         requires caller { IsCallerOf self.now caller.old }
         requires within { (word < words (layout_of self.now)) × IsWithin (layout_of self.now) word mask }
@@ -45,7 +45,7 @@ impl<R> Map<R> {
 }
 
 impl<R> Caller<R> {
-    /// Whether the caller may win that many more tags within its life.
+    /// Returns whether the caller may win this many more tags within its life. No step.
     pub fn room(&self, tags: u32) -> bool
         ensures { IsTrue result ↔ ((record_of self.now).won + tags ≤ (record_of self.now).shape.life) }
     {

@@ -13,7 +13,7 @@ use crate::plays::{Giving, Putting};
 use crate::spots::{aside_spot, word_spot};
 
 impl<R> Map<R> {
-    /// Takes held tags of one word out of it at once: they are free.
+    /// Frees held tags of one word at once: clears their bits. One step, `fetch_sub`: the bits are known to be 1.
     pub fn give(&self, caller: &mut Caller<R>, word: u32, mask: u64)
         requires caller { IsCallerOf self.now caller.old }
         requires within { (word < words (layout_of self.now)) × IsWithin (layout_of self.now) word mask }
@@ -32,7 +32,8 @@ impl<R> Map<R> {
         caller.back += mask.count_ones() as u64;
     }
 
-    /// Sets a held tag aside: it is free after the next sweep of its word.
+    /// Sets a held tag aside: its bit in the word stays 1, its bit in the cleared set becomes 1, and the next sweep of
+    /// the word frees it. One step, `fetch_add`, as `sbitmap_deferred_clear_bit` (include/linux/sbitmap.h) does it.
     pub fn put(&self, caller: &mut Caller<R>, tag: u32)
         requires caller { IsCallerOf self.now caller.old }
         requires held { Holds caller.old tag }

@@ -80,7 +80,7 @@ fn end<R>(map: Map<R>, all: Gathering<R>) -> Closed<R>
 }
 
 impl<R> Map<R> {
-    /// Ends the map once all its callers are gathered, and returns their totals.
+    /// Ends the map once all its callers are gathered, and returns their totals. No step.
     pub fn finish(self, gathering: Gathering<R>) -> Closed<R>
         requires map { IsGatheringOf self gathering }
         requires all { HasAll (numbers (gathered gathering)) self.shape.callers }

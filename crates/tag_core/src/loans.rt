@@ -47,8 +47,8 @@ impl<R> Gathering<R> {
     ghost use Rattle.tag_core.specs.Lending.{lent, AreLoansOf, BeginsWith};
     ghost use Rattle.tag_core.specs.Settling.{AreSettled};
 
-    /// All callers of the map lent their records: what they won, gave back, hold and posted. Its one load, of the spare
-    /// word, stands in no list.
+    /// Returns the totals of all callers of the map, which have lent their records: tags won, given back, held and
+    /// posted. Its one load, of the spare word, stands in no list.
     pub fn settle(self, map: &Map<R>) -> (Loans<R>, Totals)
         requires map { IsGatheringOf map.now self }
         requires first { BeginsWith map.now.shape (gathered self) }
@@ -78,8 +78,7 @@ impl<R> Loans<R> {
     ghost use Rattle.tag_core.specs.Callers.{IsCallerOf, IsUnchanged, record_of};
     ghost use Rattle.tag_core.specs.Lending.{caller_before, lent, AreLoansOf};
 
-    /// The latest of the callers that lent their records has it back, and is as it was. Its two loads, of the spare word,
-    /// stand in no list.
+    /// Returns the caller that lent its record last, unchanged. Its two loads, of the spare word, stand in no list.
     pub fn give_back(&mut self, map: &Map<R>, lender: Lender<R>) -> Caller<R>
         requires map { AreLoansOf map.now self.old }
         requires caller { IsCallerOf map.now (caller_before lender) }

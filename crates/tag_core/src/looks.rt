@@ -15,14 +15,14 @@ use crate::spots::{aside_spot, word_spot};
 use tag_layout::Layout;
 
 impl<R> Map<R> {
-    /// The numbering of its tags.
+    /// How the map numbers its tags.
     pub fn layout(&self) -> Layout
         ensures { result ≡ layout_of self.now }
     {
         self.shape.layout
     }
 
-    /// Callers of the map, 1 to 64.
+    /// Number of callers of the map, 1 to 64.
     pub fn callers(&self) -> u32
         ensures value { result ≡ self.now.shape.callers }
         ensures within { (1 ≤ result) × (result ≤ MAX_CALLERS) }
@@ -30,7 +30,8 @@ impl<R> Map<R> {
         self.shape.callers
     }
 
-    /// The word: 1 is taken. Each tag that the caller holds is found taken.
+    /// Returns a word: a bit is 1 if its tag is taken. All tags of the word that the caller holds are found taken. One
+    /// step, a load.
     pub fn look(&self, caller: &mut Caller<R>, word: u32) -> u64
         requires caller { IsCallerOf self.now caller.old }
         requires within { word < words (layout_of self.now) }
@@ -44,7 +45,8 @@ impl<R> Map<R> {
         table.load::<Looking>(&mut caller.seat, word_spot(word))
     }
 
-    /// The word's cleared set: 1 is set aside. No tag that the caller holds is found in it.
+    /// Returns a word's cleared set: a bit is 1 if its tag is set aside. No tag that the caller holds is found there.
+    /// One step, a load.
     pub fn look_aside(&self, caller: &mut Caller<R>, word: u32) -> u64
         requires caller { IsCallerOf self.now caller.old }
         requires within { word < words (layout_of self.now) }
@@ -60,7 +62,7 @@ impl<R> Map<R> {
 }
 
 impl<R> Caller<R> {
-    /// Whether the caller holds the tag.
+    /// Returns whether the caller holds the tag. No step.
     pub fn holds(&self, tag: u32) -> bool
         requires { tag < (record_of self.now).shape.layout.depth }
         ensures { IsTrue result ↔ Holds self.now tag }

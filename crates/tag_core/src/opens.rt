@@ -144,8 +144,9 @@ fn lay_out<R: Drop>(
 }
 
 impl<R: Drop> Map<R> {
-    /// A map of free tags, with a slot for each, for 1 to 64 callers of which each may win at most `life` tags. The
-    /// slots are dropped where it is refused.
+    /// Opens a map of free tags, each with a slot, for 1 to 64 callers, each of which may win at most `life` tags. The
+    /// causes are tested in this order: `CallerCount`, not 1 to 64 callers; `LifeTooLong`, a life above 2^48;
+    /// `SlotCount`, not one slot for each tag; `Memory`. The slots are dropped then.
     pub fn open(
         alloc: Global,
         layout: Layout,

@@ -10,7 +10,7 @@ use crate::map::Map;
 use crate::plays::{Posting, Taking};
 
 impl<R> Map<R> {
-    /// Hands a held tag on, with its slot, to whoever takes it first.
+    /// Posts a held tag with its slot, for whichever caller takes it first. One step, a store.
     pub fn post(&self, caller: &mut Caller<R>, tag: u32)
         requires caller { IsCallerOf self.now caller.old }
         requires held { Holds caller.old tag }
@@ -27,7 +27,8 @@ impl<R> Map<R> {
         caller.held[word] = held;
     }
 
-    /// Takes a posted tag, with its slot. Returns false if the tag was not posted.
+    /// Takes a posted tag with its slot. One step, a compare-and-exchange. Returns false if the tag was not posted; the
+    /// caller then holds what it held.
     pub fn take(&self, caller: &mut Caller<R>, tag: u32) -> bool
         requires caller { IsCallerOf self.now caller.old }
         requires within { tag < (layout_of self.now).depth }

@@ -152,8 +152,8 @@ fn prepare<R>(
 }
 
 impl<R: Drop> Settled<R> {
-    /// The callers continue on a new map of free tags, and keep their counts of tags won and given back. Only want of memory
-    /// refuses it; everything is then handed back.
+    /// Opens a new map of free tags for the same callers, who keep their counts of tags won and given back. It fails
+    /// only if memory runs out, and then returns everything it was given, unchanged.
     pub fn reopen(
         self,
         alloc: Global,

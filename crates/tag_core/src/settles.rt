@@ -63,8 +63,9 @@ fn settle_all<R>(tags: &Map<R>, callers: &mut Vec<Caller<R>>) -> Totals
 }
 
 impl<R: Drop> Map<R> {
-    /// Brings all callers together, in any order, so that nobody else acts. If one is missing, all are handed back. Its loads
-    /// of the spare word, `5 n - 1` for `n` callers, change no place and stand in no list.
+    /// Brings all callers of the map together, in any order, so that nobody else acts on it. If one is missing,
+    /// `GatherFault` has the map and all callers back, unchanged. Its loads of the spare word, `5 n - 1` for `n`
+    /// callers, change no place and stand in no list.
     pub fn settle(self, callers: Vec<Caller<R>>) -> Result<Settled<R>, GatherFault<R>>
         requires { All (λ c. IsCallerOf self c) callers.items }
         ensures succeeds { IsOk result ↔ HasAll (numbers_of callers.items) self.shape.callers }
@@ -87,21 +88,21 @@ impl<R: Drop> Map<R> {
 }
 
 impl<R> Settled<R> {
-    /// How many tags are held.
+    /// Number of tags that the callers hold.
     pub fn held(&self) -> u64
         ensures { result ≡ self.now.totals.held }
     {
         self.totals.held
     }
 
-    /// How many tags are posted.
+    /// Number of tags that are posted.
     pub fn posted(&self) -> u64
         ensures { result ≡ self.now.totals.posted }
     {
         self.totals.posted
     }
 
-    /// The map and its callers, in the order in which they came.
+    /// Returns the map and its callers, in the order in which they were brought together.
     pub fn back(self) -> (Map<R>, Vec<Caller<R>>)
         ensures map { result.0 ≡ self.tags }
         ensures callers { result.1.items ≡ self.callers.items }

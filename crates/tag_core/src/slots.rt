@@ -13,8 +13,8 @@ use crate::shape::Shape;
 use atomic_table::{Seat, Shared};
 
 impl<R> Map<R> {
-    /// Exchanges the value of a held tag's slot, and returns the former one. Its two loads, of the state that only the
-    /// tag's holder writes, change no place and stand in no list.
+    /// Writes the slot of a held tag, and returns the former value. Its two loads, of the tag's state, which only the
+    /// holder writes, change no place and stand in no list.
     pub fn slot(&self, caller: &mut Caller<R>, tag: u32, new: R) -> R
         requires caller { IsCallerOf self.now caller.old }
         requires held { Holds caller.old tag }
@@ -47,7 +47,8 @@ fn front_value<R: Copy>(
 }
 
 impl<R: Copy> Map<R> {
-    /// The value of a held tag's slot, which keeps it. Its two loads, of the same kind as those of `slot`, stand in no list.
+    /// Returns the value in the slot of a held tag, which keeps it. Its two loads, of the same kind as those of `slot`,
+    /// stand in no list.
     pub fn read(&self, caller: &mut Caller<R>, tag: u32) -> R
         requires caller { IsCallerOf self.now caller.old }
         requires held { Holds caller.old tag }

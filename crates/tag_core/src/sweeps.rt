@@ -12,8 +12,9 @@ use crate::plays::{Spilling, Swapping};
 use crate::spots::{aside_spot, word_spot};
 
 impl<R> Map<R> {
-    /// Empties the word's cleared set and then frees what stood in it: two steps. Returns false, after the first, if it was
-    /// empty.
+    /// Frees the tags in a word's cleared set, as `sbitmap_deferred_clear` (lib/sbitmap.c) does: empties the set, and
+    /// then clears the bits of its tags in the word. Two steps, `swap` and `fetch_sub`. Returns false, after the first
+    /// step, if the set was empty.
     pub fn sweep(&self, caller: &mut Caller<R>, word: u32) -> bool
         requires caller { IsCallerOf self.now caller.old }
         requires within { word < words (layout_of self.now) }

@@ -53,8 +53,8 @@ impl<R> Map<R> {
     ghost use Rattle.tag_core.specs.Gathering.{IsGatheringOf, gathered, numbers_of};
     ghost use Rattle.tag_core.specs.Lending.{caller_before};
 
-    /// The first of the callers that come together. The slots of its tags stay in the table, each with some value. Its
-    /// one load, of the spare word, stands in no list.
+    /// Starts to gather the map's callers with this one. The slots of its tags stay in the table, each with some value.
+    /// Its one load, of the spare word, stands in no list.
     pub fn start_gathering(&self, caller: Caller<R>) -> Gathering<R>
         requires { IsCallerOf self.now caller }
         ensures map { IsGatheringOf self.now result }
@@ -64,8 +64,8 @@ impl<R> Map<R> {
         first
     }
 
-    /// The first of the callers that come together for a while: it lends its record, and keeps the slots of its tags. Its
-    /// one load, of the spare word, stands in no list.
+    /// Starts to bring the map's callers together for a while, with this one: it lends its record, and keeps the slots
+    /// of its tags. Its one load, of the spare word, stands in no list.
     pub fn start_lending(&self, caller: Caller<R>) -> (Gathering<R>, Lender<R>)
         requires { IsCallerOf self.now caller }
         ensures map { IsGatheringOf self.now result.0 }
@@ -132,7 +132,7 @@ impl<R> Gathering<R> {
     ghost use Rattle.tag_core.specs.Gathering.{IsGatheringOf, gathered};
     ghost use Rattle.tag_core.specs.Lending.{caller_before};
 
-    /// One more caller of the map comes to those gathered. Its three loads, of the spare word, stand in no list.
+    /// Adds another caller of the map to those gathered. Its three loads, of the spare word, stand in no list.
     pub fn add(&mut self, map: &Map<R>, caller: Caller<R>)
         requires caller { IsCallerOf map.now caller }
         requires map { IsGatheringOf map.now self.old }
@@ -142,7 +142,8 @@ impl<R> Gathering<R> {
         self.lend(map, caller);
     }
 
-    /// One more caller of the map lends its record to those gathered, by the same three loads.
+    /// Has another caller of the map lend its record to those gathered. Its three loads, of the spare word, stand in no
+    /// list.
     pub fn lend(&mut self, map: &Map<R>, caller: Caller<R>) -> Lender<R>
         requires caller { IsCallerOf map.now caller }
         requires map { IsGatheringOf map.now self.old }

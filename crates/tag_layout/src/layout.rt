@@ -46,7 +46,8 @@ impl Model for Layout {
 }
 
 impl Layout {
-    /// Without a shift, the default one of `depth` is taken.
+    /// Lays out `depth` tags in words of `2^shift` tags, or, without a shift, of the number that `default_shift` gives.
+    /// `DepthTooLarge` means more than 10,240 tags, `ShiftTooLarge` a shift above 6.
     pub fn new(depth: u32, shift: Option<u32>) -> Result<Layout, LayoutFault>
         ensures depth { IfOk result (λ l. l.depth ≡ depth) }
         ensures shift { IfOk result (λ l. HasShift depth shift l.shift) }

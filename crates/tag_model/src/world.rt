@@ -47,7 +47,8 @@ impl Model for World {
 }
 
 impl World {
-    /// A world in which all tags are free, for 1 to `MAX_CALLERS` callers.
+    /// Opens a world in which all tags are free, for 1 to `MAX_CALLERS` callers. `CallerCount` means that their number
+    /// is out of range; `Memory` comes last.
     pub fn open(alloc: Global, layout: Layout, callers: u32) -> Result<World, ModelFault>
         ensures layout { IfOk result (λ w. w.layout ≡ layout) }
         ensures callers { IfOk result (λ w. callers_of w ≡ callers) }

@@ -22,7 +22,8 @@ const MAX_CAP: u64 = 1 << 56;
 
 impl Book {
     /// Opens a book with `tellers` tellers, 1 to 64, in the order of their numbers. Each of them may count up to `cap`
-    /// completions, at most 2^56, and a charge takes `batch` of them, 1 to 8.
+    /// completions, at most 2^56, and a charge takes `batch` of them, 1 to 8. `Count` means that the batch or the
+    /// number of tellers is out of range, `CapTooLarge` a cap above 2^56; `Memory` comes last.
     pub fn open(
         alloc: Global,
         batch: u32,

@@ -17,7 +17,8 @@ use step_ledger::{HandOut, View};
 const MAX_WAITERS: u32 = 64;
 
 impl Groups {
-    /// Opens eight empty groups with `waiters` waiters, 1 to 64, in the order of their numbers.
+    /// Opens eight empty groups with `waiters` waiters, 1 to 64, in the order of their numbers. `Count` means that
+    /// their number is out of range; `Memory` comes last.
     pub fn open(alloc: Global, waiters: u32) -> Result<(Groups, Vec<Waiter>), BookFault>
         ensures ok { IfOk result (λ opened. AreOpenGroups waiters opened.0 opened.1.items) }
 
