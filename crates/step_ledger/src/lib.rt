@@ -1,4 +1,5 @@
-//! Members that make steps on one table: each has a list of its own steps, and all steps form one history.
+//! Members that make steps on one table: each keeps the list of its own steps, and all the lists together form one
+//! history.
 #![tactic(auto)]
 
 mod numbered;

@@ -5,7 +5,7 @@ ghost use Rattle.step_ledger.specs.Views.{Has, HasAll, IsLeastMissing};
 /// Why members cannot come together.
 #[derive(Clone, Copy, Debug, PartialEq, Eq)]
 pub enum GatherCause {
-    /// A member wasn't passed in; this is the least such number.
+    /// A member was not passed in. This is the least number that is missing.
     Missing(u32),
 }
 
@@ -19,7 +19,7 @@ pub trait Numbered {
         ensures { result ≡ number_of self.now };
 }
 
-/// The least number below `count` that none of these members has.
+/// Returns the least number below `count` that none of these members has.
 pub fn least_missing<M: Numbered>(members: &[M], count: u32) -> Option<u32>
     ensures { MatchOption result (HasAll (map M.number_of members.now) count) (IsLeastMissing (map M.number_of members.now) count) }
 {
@@ -31,7 +31,7 @@ pub fn least_missing<M: Numbered>(members: &[M], count: u32) -> Option<u32>
     None
 }
 
-/// Whether one of the members has this number.
+/// Returns whether one of the members has this number.
 fn has_number<M: Numbered>(members: &[M], number: u32) -> bool
     ensures { IsTrue result ↔ Has (map M.number_of members.now) number }
 {

@@ -15,13 +15,13 @@ use std::snapshot::Snapshot;
 use step_ledger::Numbered;
 use tag_layout::Layout;
 
-/// Unused words of 8 bytes behind what one caller alone writes.
+/// Words of padding, 8 bytes each, behind what one caller alone writes.
 pub(crate) const APART: usize = 16;
 
-/// One of the callers of a map, by whose steps it changes. Where it is dropped, its tags stay held for ever.
+/// One of a map's callers, which alone change it. If a caller is dropped, its tags stay held for ever.
 #[derive(Drop)]
 pub struct Caller<R> {
-    /// What it steps with: its record is the one of the view, and the slots are those of its tags, in order.
+    /// What it makes steps with. The view has this caller's record, and the seat the slots of its tags, in order.
     pub(crate) seat: Seat<R, View<R>>,
     /// The layout of its map.
     pub(crate) layout: Layout,
@@ -29,17 +29,18 @@ pub struct Caller<R> {
     pub(crate) states: u32,
     /// Its number, from 0.
     pub(crate) number: u32,
-    /// The most tags that it may win, at most 2^48.
+    /// The most tags that it may ever win, at most 2^48.
     pub(crate) life: u64,
     /// The tags that it holds, a mask for each word: 1 is held.
     pub(crate) held: Vec<u64>,
-    /// Tags that it has won, at most `life`.
+    /// Number of tags won so far, at most `life`.
     pub(crate) won: u64,
-    /// Tags that it has put or given back: its own, and others' that it took.
+    /// Number of tags put or given back so far, including tags taken from others.
     pub(crate) back: u64,
     /// The shape of its map, as contracts see it.
     pub(crate) shape: Snapshot<Shape>,
-    /// Nobody looks at it: callers side by side in memory lie 128 bytes apart, so the steps of one slow no other down.
+    /// Padding, never read: callers that are adjacent in memory are 128 bytes apart, so the steps of one do not slow
+    /// another down.
     pub(crate) apart: [u64; APART],
     ghost told: { (layout ≡ shape.value.layout) × (life ≡ shape.value.life) × (states ≡ state_at layout 0) },
     ghost knows: { seat.me.0 ≡ own_view (record {

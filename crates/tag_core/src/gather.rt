@@ -1,4 +1,4 @@
-//! All callers come together, and the map ends.
+//! Gathering: all callers are passed in, and the map ends.
 ghost use Rattle.std.specs.Prelude.{◌≡◌, ◌≢◌, ℕ, ◌+◌, ◌<◌, ◌≤◌, ◌↔◌, List, [], length, map, All, IfOk, IfErr, IsOk, vec_capacity};
 ghost use mathlib.Core.Option.{some};
 ghost use lib.ListN.{get_elem?};
@@ -34,7 +34,7 @@ fn count_posted<R>(ended: &Ended<R, Global>, layout: Layout) -> u64
     posted
 }
 
-/// The slots, in the order of their tags, in room that was kept for them.
+/// The slots, in the order of their tags, in memory that was set aside for them when the map was opened.
 fn take_out<R>(mut ended: Ended<R, Global>, mut room: Vec<R>) -> Vec<R>
     requires full { IsFull ended.slots }
     requires room { (room.items ≡ []) × (slots_len ended.slots ≤ vec_capacity room) }
@@ -50,7 +50,7 @@ fn take_out<R>(mut ended: Ended<R, Global>, mut room: Vec<R>) -> Vec<R>
     room
 }
 
-/// The map ends with all records on one seat.
+/// Ends the map, with all records on one seat.
 fn end<R>(map: Map<R>, all: Gathering<R>) -> Closed<R>
     requires seat { all.seat.table_id ≡ map.table.shared.table_id }
     requires all { (n : ℕ) → n < map.shape.callers

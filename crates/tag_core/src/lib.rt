@@ -1,4 +1,5 @@
-//! A map of tags that callers share without a lock, under a rule that between any two steps each tag is in one place.
+//! A map of tags that callers share without a lock, under a rule: between any two steps, each tag is in exactly one
+//! place.
 #![tactic(auto)]
 
 mod caller;

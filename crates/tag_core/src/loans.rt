@@ -1,4 +1,4 @@
-//! Callers that come together for a while, one after another, and go on as they were. They may stand inside larger values.
+//! Callers that lend their records, one after another, and then go on unchanged. They may be parts of larger values.
 ghost use Rattle.std.specs.Prelude.{◌≡◌, [], ◌∷◌};
 ghost use Rattle.step_ledger.specs.Views.{HasAll};
 ghost use Rattle.tag_core.specs.Views.{viewing, rest_of};
@@ -15,7 +15,7 @@ use std::snapshot::Snapshot;
 use tag_layout::Layout;
 use tag_model::Totals;
 
-/// A caller that lent its record. It makes no step until it has it back; its tags' slots stay with it.
+/// A caller that has lent its record. It makes no step until the record is returned; it keeps the slots of its tags.
 #[derive(Drop)]
 pub struct Lender<R> {
     pub(crate) seat: Seat<R, View<R>>,
@@ -27,7 +27,7 @@ pub struct Lender<R> {
     pub(crate) back: u64,
     pub(crate) shape: Snapshot<Shape>,
     pub(crate) apart: [u64; APART],
-    /// The caller as it was, as contracts see it.
+    /// The caller before it lent its record, as contracts see it.
     pub(crate) was: Snapshot<Caller<R>>,
     ghost lent: { (seat.me ≡ (viewing [], was.value.seat.me.1)) × (seat.table_id ≡ was.value.seat.table_id) },
     ghost same: { (layout ≡ was.value.layout) × (number ≡ was.value.number) × (life ≡ was.value.life)
@@ -35,7 +35,8 @@ pub struct Lender<R> {
         × (shape.value ≡ was.value.shape.value) },
 }
 
-/// The records of all callers of a map, so that nobody else acts. A clause sees the list of them, the latest first.
+/// The records of all callers of a map, so that nobody else acts on it. A clause sees the list of them, the latest
+/// first.
 #[derive(Drop)]
 pub struct Loans<R> {
     pub(crate) seat: Seat<R, View<R>>,

@@ -1,4 +1,4 @@
-//! Callers in hand.
+//! What follows from having callers at hand: who holds what, and that one history shows it.
 ghost use Rattle.std.specs.Prelude.{◌≡◌, ◌≢◌, ℕ};
 ghost use Rattle.tag_core.specs.Meeting.{HasHistory, ShareHistory};
 ghost use Rattle.tag_core.specs.Callers.{IsCallerOf, record_of, Holds, IsUnchanged};

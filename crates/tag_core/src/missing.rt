@@ -1,4 +1,4 @@
-//! Whether all callers of a map are in hand.
+//! Whether all callers of a map were passed in.
 ghost use Rattle.std.specs.Prelude.{◌≡◌, ◌↔◌, IsOk, IfOk, IfErr};
 ghost use Rattle.step_ledger.specs.Views.{HasAll};
 ghost use Rattle.step_ledger.specs.Gather.{IsCauseOf};
@@ -9,7 +9,7 @@ use crate::closed::GatherFault;
 use crate::map::Map;
 use step_ledger::{GatherCause, least_missing};
 
-/// The map and its callers, where none is missing.
+/// Returns the map and its callers if none is missing.
 pub(crate) fn all_there<R>(
     tags: Map<R>,
     callers: Vec<Caller<R>>,

@@ -21,20 +21,20 @@ use std::snapshot::Snapshot;
 use tag_layout::Layout;
 use tag_model::{MAX_CALLERS, MOST_WON};
 
-/// Why there is no such map.
+/// Why a map cannot be opened.
 #[derive(Clone, Copy, Debug, PartialEq, Eq)]
 pub enum OpenFault {
-    /// There was no memory for it.
+    /// Out of memory.
     Memory,
-    /// No caller, or more than 64.
+    /// The number of callers is not 1 to 64.
     CallerCount,
-    /// A life above 2^48.
+    /// The life is above 2^48 tags.
     LifeTooLong,
-    /// Not one slot for each tag.
+    /// The number of slots is not the number of tags.
     SlotCount,
 }
 
-/// A mask of no tags for each word, in a block of memory that has no line in common with another caller's.
+/// An empty mask for each word, in a block of memory that shares no cache line with another caller's.
 pub(crate) fn none_held(alloc: Global, words: usize) -> Result<Vec<u64>, AllocError>
     requires { words ≤ MAX_DEPTH }
     ensures { IfOk result (λ held. held.items ≡ replicate words 0) }
@@ -44,7 +44,7 @@ pub(crate) fn none_held(alloc: Global, words: usize) -> Result<Vec<u64>, AllocEr
     Ok(held)
 }
 
-/// The next caller, from a seat that has the records of all that are still to come.
+/// The next caller, from a seat that has the records of all callers still to come.
 fn next_caller<R>(
     alloc: Global,
     map: &Map<R>,
@@ -97,8 +97,8 @@ fn hand_out<R>(
     Ok(callers)
 }
 
-/// A map of this shape with all tags free, and the seat that has the records of all its callers. The slots come back
-/// where there is no memory for it.
+/// A map of this shape with all tags free, and the seat that has the records of all its callers. The slots come back if
+/// memory runs out.
 pub(crate) fn new_map<R: Drop>(
     alloc: Global,
     shape: Shape,
@@ -124,7 +124,7 @@ pub(crate) fn new_map<R: Drop>(
     }
 }
 
-/// A map and its callers, where nothing is to be refused but for want of memory.
+/// A map and its callers, after the arguments were tested: only want of memory refuses it.
 fn lay_out<R: Drop>(
     alloc: Global,
     shape: Shape,

@@ -1,4 +1,4 @@
-//! How a held tag passes from caller to caller.
+//! Posts and takes: how a held tag passes from caller to caller.
 ghost use Rattle.std.specs.Prelude.{◌≡◌, ℕ, ◌<◌, IsTrue, IsFalse, Some, None};
 ghost use mathlib.Core.Option.{some};
 ghost use Rattle.tag_core.specs.Callers.{layout_of, IsCallerOf, Holds, slot_of, Adds};

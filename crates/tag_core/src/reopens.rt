@@ -1,4 +1,4 @@
-//! The callers of a map that has ended go on with a next one.
+//! Reopening: the callers of a map that has ended go on with a new one.
 ghost use Rattle.std.specs.Prelude.{◌≡◌, ℕ, ◌+◌, ◌-◌, ◌<◌, ◌≤◌, [], length, replicate, map, All, IfOk, IfErr, IfNone, IfSome, slice_index};
 ghost use mathlib.Core.Option.{some};
 ghost use lib.ListN.{get_elem?};
@@ -51,7 +51,7 @@ fn spare_masks(alloc: Global, count: usize, words: usize) -> Result<Vec<Vec<u64>
     Ok(masks)
 }
 
-/// The shape of the next map: each caller has won and given back what it has now.
+/// The shape of the next map: each caller starts with the counts that it has now.
 fn next_shape<R>(
     alloc: Global,
     shape: &Shape,
@@ -81,7 +81,7 @@ fn next_shape<R>(
     })
 }
 
-/// A caller goes on with the next map, from the seat that has its record there and those of greater numbers.
+/// Moves a caller to the next map, from the seat that has its record there and those of greater numbers.
 fn reseat<R>(tags: &Map<R>, rest: &mut Seat<R, View<R>>, caller: &mut Caller<R>, held: Vec<u64>)
     requires number { caller.old.number < tags.now.shape.callers }
     requires seat { rest.old.table_id ≡ tags.now.table.shared.table_id }
@@ -101,7 +101,7 @@ fn reseat<R>(tags: &Map<R>, rest: &mut Seat<R, View<R>>, caller: &mut Caller<R>,
     caller.shape = Snapshot::of(&tags.shape);
 }
 
-/// All callers go on with the next map, in the order in which they stand.
+/// Moves all callers to the next map, in their order.
 fn reseat_all<R>(
     tags: &Map<R>,
     mut rest: Seat<R, View<R>>,
@@ -129,7 +129,7 @@ fn reseat_all<R>(
     }
 }
 
-/// What can fail before the next map is made: its shape, and a mask of no tags for each word and caller.
+/// Whatever may fail before the next map is made: its shape, and an empty mask for each word and caller.
 fn prepare<R>(
     alloc: Global,
     settled: &Settled<R>,

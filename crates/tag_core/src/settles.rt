@@ -1,4 +1,4 @@
-//! All callers come together, and the map stays.
+//! Settling: all callers are passed in, and the map stays.
 ghost use Rattle.std.specs.Prelude.{◌≡◌, ◌↔◌, ◌++◌, map, All, IsOk, IfOk, IfErr, vec_len, vec_capacity};
 ghost use Rattle.step_ledger.specs.Views.{HasAll};
 ghost use Rattle.step_ledger.specs.Gather.{IsCauseOf};
@@ -16,8 +16,8 @@ use crate::settled::Settled;
 use crate::together::Gathering;
 use tag_model::Totals;
 
-/// These callers lend their records to those gathered. Once all are together one history shows them, and then each has its
-/// record back.
+/// Has these callers lend their records to those gathered. Once all are together, one history shows them; then each
+/// record is returned.
 fn settle_rest<R>(
     tags: &Map<R>,
     mut all: Gathering<R>,
@@ -44,7 +44,7 @@ fn settle_rest<R>(
     (loans, totals)
 }
 
-/// All callers come together and are as they were; what they won, gave back, hold and posted.
+/// Returns the totals of all callers, which stay unchanged.
 fn settle_all<R>(tags: &Map<R>, callers: &mut Vec<Caller<R>>) -> Totals
     requires own { All (IsCallerOf tags.now) callers.old.items }
     requires every { HasAll (numbers_of callers.old.items) tags.now.shape.callers }

@@ -1,4 +1,4 @@
-//! The value beside a held tag.
+//! Slots: the value beside a held tag.
 ghost use Rattle.std.specs.Prelude.{◌≡◌, ◌≢◌, ◌∷◌, ℕ};
 ghost use mathlib.Core.Option.{some};
 ghost use Rattle.atomic_table.specs.Table.{rest};

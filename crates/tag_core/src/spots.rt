@@ -1,11 +1,11 @@
-//! Where the words, the cleared sets and the states stand in the table. Nothing else knows the stride.
+//! Where the words, the cleared sets and the states are in the table. Nothing else knows the stride.
 ghost use Rattle.std.specs.Prelude.{◌≡◌, ◌<◌};
 ghost use Rattle.tag_core.specs.Spacing.{word_at, aside_at, state_at, table_width};
 
 use crate::caller::Caller;
 use tag_layout::Layout;
 
-/// Words of the table, of 8 bytes each, from one to the next that is used: 64 bytes.
+/// Distance between used words of the table, in words of 8 bytes: one cache line.
 const STRIDE: usize = 8;
 
 /// The index of the spare word, which shows nothing.
@@ -50,7 +50,7 @@ impl<R> Caller<R> {
     }
 }
 
-/// Words of the table in all.
+/// Number of words in the table.
 pub(crate) fn table_words(layout: Layout) -> usize
     ensures { result ≡ table_width layout }
 {

@@ -1,4 +1,4 @@
-//! Callers that come together, one after another: their records stand in the view of one seat.
+//! Gathering callers, one after another: their records come into the view of one seat.
 ghost use Rattle.std.specs.Prelude.{◌≡◌, ℕ, ◌+◌, ◌*◌, ◌≤◌, [], ◌∷◌, length, map, All};
 ghost use Rattle.tag_layout.specs.declared.layout.TheConstants.{MAX_DEPTH};
 ghost use Rattle.tag_model.specs.declared.world.TheConstants.{MAX_CALLERS, MOST_WON};
@@ -15,16 +15,16 @@ use atomic_table::Seat;
 use std::mem::swap;
 use std::snapshot::Snapshot;
 
-/// Callers that have come together, one after another. A clause sees the list of their records, the newest first.
+/// Callers that have been gathered, one after another. A clause sees the list of their records, the newest first.
 #[derive(Drop)]
 pub struct Gathering<R> {
-    /// It has all their records, and no slot.
+    /// It has all their records, and no slots.
     pub(crate) seat: Seat<R, View<R>>,
-    /// Tags that they won.
+    /// Number of tags that they won.
     pub(crate) won: u64,
-    /// Tags that they put or gave back.
+    /// Number of tags that they put or gave back.
     pub(crate) back: u64,
-    /// Tags that they hold.
+    /// Number of tags that they hold.
     pub(crate) held: u64,
     ghost empty: { seat.me.1 ≡ [] },
     ghost sums: { (won ≡ total_of (λ r. r.won) seat.me.0.records.value) × (back ≡ total_of (λ r. r.back) seat.me.0.records.value)
@@ -35,7 +35,7 @@ pub struct Gathering<R> {
         × (held ≤ length seat.me.0.records.value * (64 * MAX_DEPTH)) },
 }
 
-/// The tags of masks: 1 is counted.
+/// Number of bits that are 1 in these masks.
 pub(crate) fn count_tags(masks: &[u64]) -> u64
     requires { length masks.now ≤ MAX_DEPTH }
     ensures value { result ≡ size_of masks.now }
@@ -108,7 +108,7 @@ impl<R> Map<R> {
         (first, lender)
     }
 
-    /// All callers that are handed in come together. The last of them is the first to be taken.
+    /// Gathers all these callers, beginning with the last.
     pub(crate) fn gather_each(&self, mut callers: Vec<Caller<R>>) -> Gathering<R>
         requires own { All (IsCallerOf self.now) callers.items }
         requires some { Has (numbers_of callers.items) 0 }

@@ -1,7 +1,7 @@
 //! The kinds of atomic step on the words of a map. Only contracts and proofs speak of them: the code keeps no list.
 
-/// One atomic step on a word or on its cleared set. The first number is the index of the word, the last one what the
-/// step found; masks have 1 at the places that are meant.
+/// One atomic step on a word or on its cleared set. The first number is the index of the word, the last one is what the
+/// step found; a mask has 1 at the places concerned.
 pub enum WordStep {
     /// A load of the word.
     Look(u32, u64),
@@ -9,12 +9,12 @@ pub enum WordStep {
     LookAside(u32, u64),
     /// The bits of the mask are set in the word.
     Claimed(u32, u64, u64),
-    /// The bits of the mask are taken out of the word: tags that the caller gives back at once.
+    /// The bits of the mask are cleared in the word: tags that the caller gives back at once.
     Give(u32, u64, u64),
     /// The bits of the mask are set in the cleared set.
     Put(u32, u64, u64),
-    /// The cleared set is emptied, and what stood in it is the sweeper's.
+    /// The cleared set is emptied, and its tags are the sweeper's.
     Swap(u32, u64),
-    /// The bits of the mask are taken out of the word: tags that the caller swept.
+    /// The bits of the mask are cleared in the word: tags that the caller swept.
     Spill(u32, u64, u64),
 }

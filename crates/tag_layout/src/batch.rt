@@ -10,8 +10,9 @@ const FEWEST: u32 = 1;
 const MOST: u32 = 8;
 
 impl Layout {
-    /// Completions that are charged together, each batch of them once: an eighth of the depth,
-    /// or of the least shallow depth where that is less, from 1 to 8. `None` sets no least shallow depth.
+    /// Number of completions that are charged together, 1 to 8: an eighth of the depth, or of the least shallow depth
+    /// if that is less, as `sbq_calc_wake_batch` (lib/sbitmap.c) computes it. `None` means that there is no least
+    /// shallow depth.
     pub fn wake_batch(self, min_shallow: Option<u32>) -> u32
         ensures value { result ≡ wake_batch self min_shallow }
         ensures within { (1 ≤ result) × (result ≤ 8) }

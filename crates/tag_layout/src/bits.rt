@@ -1,8 +1,8 @@
-//! The search for a clear bit of one word.
+//! The search for a 0 bit in one word.
 ghost use Rattle.std.specs.Prelude.{ℕ, ◌≤◌, MatchOption};
 ghost use Rattle.tag_layout.specs.Bits.{IsFirstClear, AllSet};
 
-/// The least place in `from .. limit` whose bit in `word` is 0. `limit` is at most 64.
+/// Returns the least place in `from .. limit` whose bit in `word` is 0. `limit` is at most 64.
 pub fn first_clear(word: u64, from: u32, limit: u32) -> Option<u32>
     requires { limit ≤ 64 }
     ensures { MatchOption result (AllSet word from limit) (IsFirstClear word from limit) }

@@ -1,4 +1,4 @@
-//! The layout of a map, and the way from tags to words and places and back.
+//! The layout of a map: from tags to words and places, and back.
 ghost use Rattle.std.specs.Prelude.{◌≡◌, ◌≢◌, ℕ, ◌+◌, ◌*◌, ◌^◌, ◌<◌, ◌≤◌, ◌↔◌, IfOk, IsSomeAnd, Option, Some, None};
 ghost use Rattle.std.specs.Int.{bit_at};
 ghost use Rattle.tag_layout.specs.Layout.{word_bits, words, word_of, place_of, tag_at, word_depth, HasShift, IsDefaultShift};
@@ -25,9 +25,9 @@ pub enum LayoutFault {
 /// Tag `t` is the bit at place `t mod 2^shift` of word `t >> shift`.
 #[derive(Clone, Copy, Debug, PartialEq, Eq)]
 pub struct Layout {
-    /// Tags in all. 0 is legal, and has no words.
+    /// Number of tags. 0 is legal, and has no words.
     depth: u32,
-    /// Binary logarithm of the bits in a whole word, 0 to 6.
+    /// Binary logarithm of the number of bits in a whole word, 0 to 6.
     shift: u32,
 }
 
@@ -70,8 +70,8 @@ impl Layout {
         Ok(Layout { depth, shift })
     }
 
-    /// The shift of a map for which none is asked: the greatest up to 6 with which it has four whole words,
-    /// and 6 where it has fewer than four tags.
+    /// The default shift: the greatest one, up to 6, with which the map has at least four whole words, and 6 below four
+    /// tags, as `sbitmap_calculate_shift` (lib/sbitmap.c) computes it.
     pub fn default_shift(depth: u32) -> u32
         ensures { IsDefaultShift depth result }
     {
@@ -81,7 +81,7 @@ impl Layout {
         (depth >> 2).ilog2().min(MAX_SHIFT)
     }
 
-    /// Tags in all.
+    /// Number of tags.
     pub fn depth(self) -> u32
         ensures value { result ≡ self.depth }
         ensures bound { result ≤ MAX_DEPTH }
@@ -89,7 +89,7 @@ impl Layout {
         self.depth
     }
 
-    /// Binary logarithm of the bits in a whole word.
+    /// Binary logarithm of the number of bits in a whole word, 0 to 6.
     pub fn shift(self) -> u32
         ensures value { result ≡ self.shift }
         ensures bound { result ≤ MAX_SHIFT }
@@ -97,7 +97,7 @@ impl Layout {
         self.shift
     }
 
-    /// Words in all: `map_nr` of lib/sbitmap.c.
+    /// Number of words: `map_nr` in lib/sbitmap.c.
     pub fn words(self) -> u32
         ensures value { result ≡ words self }
         ensures filled { sum_below (word_depth self) result ≡ self.depth }
@@ -136,7 +136,7 @@ impl Layout {
         (word << self.shift) + place
     }
 
-    /// The bits that a word uses: `2^shift`, or fewer in the last word.
+    /// Number of bits that a word uses: `2^shift`, or fewer in the last word.
     pub fn word_depth(self, word: u32) -> u32
         requires { word < words self }
         ensures value { result ≡ word_depth self word }

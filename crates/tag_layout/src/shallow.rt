@@ -1,4 +1,4 @@
-//! How a shallow depth is shared out over the words.
+//! How a shallow depth is shared out among the words.
 ghost use Rattle.std.specs.Prelude.{◌≡◌, ℕ, ◌+◌, ◌/◌, ◌^◌, ◌<◌, ◌≤◌, min};
 ghost use Rattle.tag_layout.specs.Layout.{words, word_depth, share, shallow_limit};
 ghost use Rattle.tag_layout.specs.Sums.{sum_below};
@@ -9,8 +9,9 @@ use crate::layout::Layout;
 const SCALE_BITS: u32 = 40;
 
 impl Layout {
-    /// How many places of a word a shallow get of depth `shallow` may use, which can be 0: the word's part of
-    /// `shallow`, in proportion to its tags. All words together have `shallow`, or the depth where that is less.
+    /// Returns how many places of a word a get of shallow depth `shallow` may use, possibly 0: the word's share of
+    /// `shallow`, in proportion to its tags. The shares of all words add up to `shallow`, or to the depth if that is
+    /// less.
     pub fn shallow_limit(self, word: u32, shallow: u32) -> u32
         requires { word < words self }
         ensures value { result ≡ shallow_limit self word shallow }
