@@ -18,6 +18,8 @@ impl<R: Copy> Queue<R> {
     /// Clears 1 to 64 held tags, counts them together if any agent waits, and returns how many waiters it woke. Like
     /// `sbitmap_queue_clear_batch` (lib/sbitmap.c) it frees them at once, where `clear` only sets its tag aside.
     /// Successive tags of the list that lie in one word take one step. `NotHeld` also means that a tag is named twice.
+    /// `BadCount` means no tag, or more than 64; `NoSuchTag` that a number is not below the depth. Nothing changes on
+    /// an error.
     pub fn clear_batch(&self, agent: &mut Agent<R>, tags: &[u32]) -> Result<u32, TagFault>
         requires agent { IsAgentOf self.now agent.old }
         ensures agent { IsAgentOf self.now agent.new }

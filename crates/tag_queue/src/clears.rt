@@ -15,6 +15,8 @@ use wake_book::{Charge, Grants, NO_GRANTS};
 impl<R: Copy> Queue<R> {
     /// Clears a held tag, counts it if any agent waits, and returns how many waiters it woke. As in
     /// `sbitmap_queue_clear` (lib/sbitmap.c) the tag is only set aside: the next sweep of its word frees it.
+    /// `NoSuchTag` means that the number is not below the depth, `NotHeld` that the agent does not hold the tag;
+    /// nothing changes then.
     #[inline]
     pub fn clear(&self, agent: &mut Agent<R>, tag: u32) -> Result<u32, TagFault>
         requires agent { IsAgentOf self.now agent.old }
@@ -32,7 +34,7 @@ impl<R: Copy> Queue<R> {
         Ok(self.ring(self.complete(agent, 1)))
     }
 
-    /// Like `clear`, but counts nothing and wakes nobody.
+    /// Like `clear`, but counts nothing and wakes nobody. It is refused as `clear` is: `NoSuchTag`, `NotHeld`.
     #[inline(never)]
     pub fn clear_uncounted(&self, agent: &mut Agent<R>, tag: u32) -> Result<(), TagFault>
         requires agent { IsAgentOf self.now agent.old }

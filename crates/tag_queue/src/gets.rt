@@ -28,7 +28,8 @@ impl<R: Copy> Queue<R> {
     }
 
     /// Like `get`, but limited to `depth` tags of the map, which are shared out among the words in proportion. A word's
-    /// share may be 0. `TooShallow` means that `depth` is 0 or below the minimum shallow depth.
+    /// share may be 0. `TooShallow` means that `depth` is 0 or below the minimum shallow depth. `Spent` is that of
+    /// `get`.
     pub fn get_shallow(&self, agent: &mut Agent<R>, depth: u32) -> Result<Option<u32>, TagFault>
         requires agent { IsAgentOf self.now agent.old }
         ensures agent { IsAgentOf self.now agent.new }
@@ -53,7 +54,8 @@ impl<R: Copy> Queue<R> {
 
     /// Takes up to `n` free tags out of `n` consecutive ones of one word, where `n` is 1 to the bits of a word. Returns
     /// the first of them and the mask of those won, in which bit 0 is that first tag. Under round robin it returns
-    /// `None` and makes no step, as in the kernel (lib/sbitmap.c).
+    /// `None` and makes no step, as in the kernel (lib/sbitmap.c). `BadCount` means an `n` out of that range, `Spent`
+    /// that the life does not suffice for `n` more tags.
     #[tactic(auto, using(std::proofs::lemmas::Nat::one_shl))]
     pub fn get_batch(&self, agent: &mut Agent<R>, n: u32) -> Result<Option<(u32, u64)>, TagFault>
         requires agent { IsAgentOf self.now agent.old }

@@ -21,7 +21,9 @@ const MAX_CAP: u64 = 72_057_594_037_927_936;
 
 impl<R: Copy> Queue<R> {
     /// Opens a queue of `depth` free tags, at most 10,240, each with a slot that contains `fill`, and returns it with
-    /// its agents in the order of their numbers.
+    /// its agents in the order of their numbers. The causes are tested in this order: `TotalTooLarge`, more than 10,240
+    /// tags; `ShiftTooLarge`, a shift above 6; `CallerCount`, not 1 to 64 callers; `LifeTooLong`, a life above 2^48;
+    /// `CapTooLarge`, a cap above 2^56; `Memory`. `ReservedTooLarge` never comes.
     pub fn open(
         alloc: Global,
         depth: u32,

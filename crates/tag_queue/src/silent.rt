@@ -12,7 +12,8 @@ use wake_book::Grants;
 
 impl<R: Copy> Queue<R> {
     /// Like `clear`, but wakes no sleeper, and so links nothing that does. It returns how many waiters it granted a
-    /// wakeup in each group, and leaves waking them to the caller.
+    /// wakeup in each group, and leaves waking them to the caller. `NoSuchTag` means that the number is not below the
+    /// depth, `NotHeld` that the agent does not hold the tag; nothing changes then.
     #[inline]
     pub fn clear_silently(&self, agent: &mut Agent<R>, tag: u32) -> Result<Grants, TagFault>
         requires agent { IsAgentOf self.now agent.old }
@@ -32,7 +33,8 @@ impl<R: Copy> Queue<R> {
     }
 
     /// Like `clear_batch`, but wakes no sleeper, and so links nothing that does. It returns how many waiters it granted
-    /// a wakeup in each group, and leaves waking them to the caller.
+    /// a wakeup in each group, and leaves waking them to the caller. It is refused as `clear_batch` is: `BadCount`,
+    /// `NoSuchTag`, `NotHeld`.
     pub fn clear_batch_silently(
         &self,
         agent: &mut Agent<R>,

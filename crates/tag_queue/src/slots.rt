@@ -9,7 +9,8 @@ use crate::fault::TagFault;
 use crate::queue::Queue;
 
 impl<R: Copy> Queue<R> {
-    /// Returns the value in the slot of a held tag.
+    /// Returns the value in the slot of a held tag. `NoSuchTag` means that the number is not below the depth, `NotHeld`
+    /// that the agent does not hold the tag; nothing changes then.
     #[inline]
     pub fn read(&self, agent: &mut Agent<R>, tag: u32) -> Result<R, TagFault>
         requires agent { IsAgentOf self.now agent.old }
@@ -25,7 +26,8 @@ impl<R: Copy> Queue<R> {
         Ok(self.map.read(&mut agent.caller, tag))
     }
 
-    /// Writes the slot of a held tag, and returns its former value.
+    /// Writes the slot of a held tag, and returns its former value. `NoSuchTag` means that the number is not below the
+    /// depth, `NotHeld` that the agent does not hold the tag; nothing changes then.
     #[inline]
     pub fn write(&self, agent: &mut Agent<R>, tag: u32, value: R) -> Result<R, TagFault>
         requires agent { IsAgentOf self.now agent.old }
@@ -42,6 +44,8 @@ impl<R: Copy> Queue<R> {
     }
 
     /// Gives up a held tag with its slot, so that another agent can `take` it. Whichever agent takes it first gets it.
+    /// `NoSuchTag` means that the number is not below the depth, `NotHeld` that the agent does not hold the tag;
+    /// nothing changes then.
     #[inline]
     pub fn post(&self, agent: &mut Agent<R>, tag: u32) -> Result<(), TagFault>
         requires agent { IsAgentOf self.now agent.old }
@@ -58,6 +62,7 @@ impl<R: Copy> Queue<R> {
     }
 
     /// Takes a posted tag with its slot. `NotPosted` leaves the agent unchanged except for one step in its list.
+    /// `NoSuchTag` means that the number is not below the depth.
     #[inline]
     pub fn take(&self, agent: &mut Agent<R>, tag: u32) -> Result<(), TagFault>
         requires agent { IsAgentOf self.now agent.old }

@@ -16,7 +16,8 @@ impl<R: Copy> Tags<R> {
     /// Clears 1 to 64 held ordinary tags, counts them together if anybody waits, and returns how many waiters it woke.
     /// Like `sbitmap_queue_clear_batch` (lib/sbitmap.c) it frees them at once, where `clear` only sets its tag aside.
     /// Successive tags of the list that lie in one word take one step. `NoSuchTag` also means that a tag is reserved,
-    /// `NotHeld` that one is not held or named twice.
+    /// `NotHeld` that one is not held or named twice. `BadCount` means no tag, or more than 64. Nothing changes on an
+    /// error.
     pub fn clear_batch(&self, hand: &mut Hand<R>, tags: &[u32]) -> Result<u32, TagFault>
         requires hand { IsHandOf self.now hand.old }
         ensures hand { IsHandOf self.now hand.new }

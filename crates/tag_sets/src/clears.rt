@@ -12,7 +12,8 @@ use tag_queue::TagFault;
 impl<R: Copy> Tags<R> {
     /// Clears a held tag, counts an ordinary one if anybody waits, and returns how many waiters it woke, 0 for a
     /// reserved tag. As in `sbitmap_queue_clear` (lib/sbitmap.c) the tag is only set aside: the next sweep of its word
-    /// frees it.
+    /// frees it. `NoSuchTag` means that the number is not below the total, `NotHeld` that the hand does not hold the
+    /// tag; nothing changes then.
     #[inline(always)]
     pub fn clear(&self, hand: &mut Hand<R>, tag: u32) -> Result<u32, TagFault>
         requires hand { IsHandOf self.now hand.old }

@@ -27,7 +27,8 @@ impl<R: Copy> Tags<R> {
         Ok(Some(self.reserved_count + number))
     }
 
-    /// Like `get`, but takes a reserved tag. `NoReserved` means that there are none.
+    /// Like `get`, but takes a reserved tag. `NoReserved` means that there are none. `Spent` means that the hand's life
+    /// in the reserved set is used up.
     pub fn get_reserved(&self, hand: &mut Hand<R>) -> Result<Option<u32>, TagFault>
         requires hand { IsHandOf self.now hand.old }
         ensures hand { IsHandOf self.now hand.new }
@@ -47,7 +48,8 @@ impl<R: Copy> Tags<R> {
     }
 
     /// Like `get`, but limited to `depth` of the ordinary tags, which are shared out among the words in proportion. A
-    /// word's share may be 0. `TooShallow` means that `depth` is 0 or below the minimum shallow depth.
+    /// word's share may be 0. `TooShallow` means that `depth` is 0 or below the minimum shallow depth. `Spent` is that
+    /// of `get`.
     pub fn get_shallow(&self, hand: &mut Hand<R>, depth: u32) -> Result<Option<u32>, TagFault>
         requires hand { IsHandOf self.now hand.old }
         ensures hand { IsHandOf self.now hand.new }
@@ -68,7 +70,8 @@ impl<R: Copy> Tags<R> {
 
     /// Takes up to `n` free ordinary tags out of `n` consecutive ones of one word, where `n` is 1 to the bits of a
     /// word. Returns the first of them and the mask of those won, in which bit 0 is that first tag. Under round robin
-    /// it returns `None` and makes no step, as in the kernel (lib/sbitmap.c).
+    /// it returns `None` and makes no step, as in the kernel (lib/sbitmap.c). `BadCount` means an `n` out of that
+    /// range, `Spent` that the life does not suffice for `n` more tags.
     pub fn get_batch(&self, hand: &mut Hand<R>, n: u32) -> Result<Option<(u32, u64)>, TagFault>
         requires hand { IsHandOf self.now hand.old }
         ensures hand { IsHandOf self.now hand.new }

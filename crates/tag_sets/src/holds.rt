@@ -23,7 +23,7 @@ impl<R> Hand<R> {
 }
 
 impl<R: Copy> Tags<R> {
-    /// Returns the set of a held tag, or why this hand can't clear the tag. This makes no step.
+    /// Returns the set of a held tag. It is refused as `clear` is: `NoSuchTag`, `NotHeld`. This makes no step.
     #[inline]
     pub fn find_held(&self, hand: &Hand<R>, tag: u32) -> Result<Kind, TagFault>
         requires hand { IsHandOf self.now hand.now }

@@ -19,6 +19,9 @@ impl<R: Copy> Tags<R> {
     /// Opens two sets of `total` free tags together, at most 10,240, of which the first `reserved` are the reserved
     /// ones. Each tag has a slot that contains `fill`. If the options have no shift, each set gets the default for its
     /// own depth. The minimum shallow depth applies to the ordinary set. The hands are in the order of their numbers.
+    /// The causes are tested in this order: `TotalTooLarge`, more than 10,240 tags; `ReservedTooLarge`, more reserved
+    /// tags than tags; `ShiftTooLarge`, a shift above 6; `CallerCount`, not 1 to 64 callers; `LifeTooLong`, a life
+    /// above 2^48; `CapTooLarge`, a cap above 2^56; `Memory`.
     pub fn open(
         alloc: Global,
         total: u32,

@@ -16,7 +16,8 @@ use wake_book::{Grants, NO_GRANTS};
 
 impl<R: Copy> Tags<R> {
     /// Like `clear`, but wakes no sleeper, and so links nothing that does. It returns how many waiters it granted a
-    /// wakeup in each group, and leaves waking them to the caller.
+    /// wakeup in each group, and leaves waking them to the caller. `NoSuchTag` means that the number is not below the
+    /// total, `NotHeld` that the hand does not hold the tag; nothing changes then.
     #[inline]
     pub fn clear_silently(&self, hand: &mut Hand<R>, tag: u32) -> Result<Grants, TagFault>
         requires hand { IsHandOf self.now hand.old }
@@ -41,7 +42,8 @@ impl<R: Copy> Tags<R> {
     }
 
     /// Like `clear_batch`, but wakes no sleeper, and so links nothing that does. It returns how many waiters it granted
-    /// a wakeup in each group, and leaves waking them to the caller.
+    /// a wakeup in each group, and leaves waking them to the caller. It is refused as `clear_batch` is: `BadCount`,
+    /// `NoSuchTag`, `NotHeld`.
     pub fn clear_batch_silently(&self, hand: &mut Hand<R>, tags: &[u32]) -> Result<Grants, TagFault>
         requires hand { IsHandOf self.now hand.old }
         ensures hand { IsHandOf self.now hand.new }

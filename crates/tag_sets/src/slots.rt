@@ -10,7 +10,8 @@ use crate::tags::Tags;
 use tag_queue::TagFault;
 
 impl<R: Copy> Tags<R> {
-    /// Returns the value in the slot of a held tag.
+    /// Returns the value in the slot of a held tag. `NoSuchTag` means that the number is not below the total, `NotHeld`
+    /// that the hand does not hold the tag; nothing changes then.
     #[inline]
     pub fn read(&self, hand: &mut Hand<R>, tag: u32) -> Result<R, TagFault>
         requires hand { IsHandOf self.now hand.old }
@@ -29,7 +30,8 @@ impl<R: Copy> Tags<R> {
         }
     }
 
-    /// Writes the slot of a held tag, and returns its former value.
+    /// Writes the slot of a held tag, and returns its former value. `NoSuchTag` means that the number is not below the
+    /// total, `NotHeld` that the hand does not hold the tag; nothing changes then.
     #[inline]
     pub fn write(&self, hand: &mut Hand<R>, tag: u32, value: R) -> Result<R, TagFault>
         requires hand { IsHandOf self.now hand.old }
@@ -49,6 +51,8 @@ impl<R: Copy> Tags<R> {
     }
 
     /// Gives up a held tag with its slot, so that another hand can `take` it. Whichever hand takes it first gets it.
+    /// `NoSuchTag` means that the number is not below the total, `NotHeld` that the hand does not hold the tag; nothing
+    /// changes then.
     #[inline]
     pub fn post(&self, hand: &mut Hand<R>, tag: u32) -> Result<(), TagFault>
         requires hand { IsHandOf self.now hand.old }
@@ -67,6 +71,7 @@ impl<R: Copy> Tags<R> {
     }
 
     /// Takes a posted tag with its slot. `NotPosted` leaves the hand unchanged except for one step in its list.
+    /// `NoSuchTag` means that the number is not below the total.
     #[inline]
     pub fn take(&self, hand: &mut Hand<R>, tag: u32) -> Result<(), TagFault>
         requires hand { IsHandOf self.now hand.old }
