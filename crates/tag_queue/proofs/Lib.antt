@@ -1,4 +1,5 @@
 pub mod Getting
+pub mod Rounds
 pub mod Giving
 pub mod SoFar
 pub mod Counting

@@ -5,6 +5,7 @@ pub mod Clears
 pub mod Batches
 pub mod Slots
 pub mod Waits
+pub mod Blocking
 pub mod Parts
 pub mod Gathering
 pub mod Opening

@@ -4,6 +4,7 @@
 
 mod agent;
 mod batches;
+mod blocking;
 mod clears;
 mod fault;
 mod gather;

@@ -1,19 +1,17 @@
-//! Waits for a tag.
-ghost use Rattle.std.specs.Prelude.{◌≡◌, ℕ, ◌+◌, ◌≤◌, ◌<◌, ◌↔◌, ◌∷◌, IfOk, IfErr, IfSome, IfNone, IsOk, IsSome, OnErr, Some, None};
+//! Enters and leaves wait groups, and loads what they count.
+ghost use Rattle.std.specs.Prelude.{◌≡◌, ◌≤◌, ◌<◌, ◌↔◌, ◌∷◌, IfOk, IfErr, IfSome, IfNone, IsOk, IsSome, None};
 ghost use Rattle.wake_book.specs.Waits.{active_at, index_at};
 ghost use Rattle.wake_book.specs.Groups.{LeavesAs, IdlesOnce, StandsAsBefore, wait_index_of};
 ghost use Rattle.wake_book.specs.Book.{counted_by};
 ghost use Rattle.wake_book.specs.declared.steps.BookStep.TheVariants.{LookCompletions, LookWakeups};
 ghost use Rattle.wake_book.specs.declared.steps.GroupStep.TheVariants.{Look};
-ghost use Rattle.tag_queue.specs.Agents.{layout_of, IsAgentOf, HasRoom, standing_of, book_steps, group_steps, caller_of, teller_of, waiter_of, hint_of, step_count};
-ghost use Rattle.tag_queue.specs.Gets.{GetsPlain};
-ghost use Rattle.tag_queue.specs.Waits.{SameTags, Enters, BlockingGets};
+ghost use Rattle.tag_queue.specs.Agents.{IsAgentOf, standing_of, book_steps, group_steps, caller_of, teller_of, waiter_of, hint_of};
+ghost use Rattle.tag_queue.specs.Waits.{SameTags, Enters};
 
 use crate::agent::Agent;
 use crate::fault::TagFault;
 use crate::queue::Queue;
 use std::sync::Wait;
-use tag_search::on_map;
 use wake_book::{Groups, Left};
 
 /// The counts of a queue and the state of its wait groups, as one agent loaded them.
@@ -117,55 +115,5 @@ impl<R: Copy> Queue<R> {
             × (teller_of agent.new ≡ teller_of agent.old) × StandsAsBefore (waiter_of agent.old) (waiter_of agent.new) }
     {
         self.groups.active(&mut agent.waiter)
-    }
-
-    /// Takes a free tag like `get`, and waits as long as it finds none. Nothing promises that it returns. `NoSuchTag`
-    /// means that the queue has no tags, `Waiting` that the agent is already in a wait group, `Spent` that its life is
-    /// used up.
-    pub fn get_blocking<W: Wait>(&self, rt: &W, agent: &mut Agent<R>) -> Result<u32, TagFault>
-        requires agent { IsAgentOf self.now agent.old }
-        ensures agent { IsAgentOf self.now agent.new }
-        ensures no_such_tag { (result ≡ Err TagFault.NoSuchTag) ↔ ((layout_of self.now).depth ≡ 0) }
-        ensures waiting { (result ≡ Err TagFault.Waiting) ↔ ((1 ≤ (layout_of self.now).depth) × IsSome (standing_of agent.old)) }
-        ensures spent { (result ≡ Err TagFault.Spent)
-            ↔ ((1 ≤ (layout_of self.now).depth) × (standing_of agent.old ≡ None) × ¬ (HasRoom agent.old 1)) }
-        ensures gets { IfOk result (λ tag. BlockingGets (layout_of self.now) tag agent.old agent.new) }
-        ensures err { OnErr result (agent.new ≡ agent.old) }
-    {
-        if self.map.layout().depth() == 0 {
-            return Err(TagFault::NoSuchTag);
-        }
-        if Groups::standing(&agent.waiter).is_some() {
-            return Err(TagFault::Waiting);
-        }
-        if !agent.caller.room(1) {
-            return Err(TagFault::Spent);
-        }
-        for _ in rt.forever() {
-            if let Some(tag) = self.try_get(agent) {
-                return Ok(tag);
-            }
-            self.groups.enter(&mut agent.waiter);
-            if let Some(tag) = self.try_get(agent) {
-                self.groups.leave(rt, &mut agent.waiter);
-                return Ok(tag);
-            }
-            self.groups.sleep(rt, &mut agent.waiter);
-            self.groups.leave(rt, &mut agent.waiter);
-        }
-        unreachable!()
-    }
-
-    /// Makes a get for an agent that may win one more tag.
-    fn try_get(&self, agent: &mut Agent<R>) -> Option<u32>
-        requires agent { IsAgentOf self.now agent.old }
-        requires room { HasRoom agent.old 1 }
-        ensures agent { IsAgentOf self.now agent.new }
-        ensures gets { GetsPlain (layout_of self.now) result agent.old agent.new }
-    {
-        let Ok(answer) = on_map::get(&self.map, &mut agent.caller, &mut agent.hint) else {
-            unreachable!()
-        };
-        answer
     }
 }

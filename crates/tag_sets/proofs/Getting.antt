@@ -14,7 +14,7 @@ use Rattle.tag_queue.specs.declared.agent.Agent.{Agent}
 use Rattle.tag_queue.specs.declared.queue.Queue.{Queue}
 use Rattle.tag_queue.specs.Agents as queue
 use Rattle.tag_queue.specs.Gets as queue_gets
-use Rattle.tag_queue.specs.Waits as queue_waits
+use Rattle.tag_queue.specs.Blocking as queue_blocking
 use Rattle.tag_sets.specs.declared.hand.Hand.{Hand}
 use Rattle.tag_sets.specs.declared.kind.Kind.TheVariants.{Ordinary, Reserved}
 use Rattle.tag_sets.specs.declared.tags.Tags.{Tags}
@@ -96,7 +96,7 @@ module _ {R : Type 0} where
 
   -- searches that find no tag keep all tags
   none_keeps : (tries : ℕ) (l : Layout) (a : Caller R) (hint : Hint) (b : Caller R) (after : Hint)
-      → queue_waits.FindNone tries l a hint b after
+      → queue_blocking.FindNone tries l a hint b after
       → KeepsAll a b × (b.shape.value ≡ a.shape.value)
   none_keeps zero l a hint b after same =
       subst (λ (x : Caller R). KeepsAll a x × (x.shape.value ≡ a.shape.value)) (sym same.0)
@@ -209,7 +209,7 @@ module _ {R : Type 0} where
           set = record { changed = g; other = refl; split = refl };
         })
 
-    pub blocking_of : (number : ℕ) → queue_waits.BlockingGets (layout_of tags Ordinary) number hand.ordinary agent
+    pub blocking_of : (number : ℕ) → queue_blocking.BlockingGets (layout_of tags Ordinary) number hand.ordinary agent
         → BlockingGets tags (reserved_of tags + number) hand (record hand { ordinary = agent })
     blocking_of number b = let kept = none_keeps b.tries (layout_of tags Ordinary) _ _ _ _ b.none in
         let won = b.won.gains in

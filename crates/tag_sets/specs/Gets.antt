@@ -2,7 +2,7 @@
 use Rattle.std.specs.Prelude.{◌≡◌, ℕ, ◌+◌, ◌<◌, ◌≤◌, Option, Some, None}
 use Rattle.std.specs.Int.{bit_at}
 use Rattle.tag_queue.specs.Gets as queue
-use Rattle.tag_queue.specs.Waits as queue_waits
+use Rattle.tag_queue.specs.Blocking as queue_blocking
 use Rattle.tag_sets.specs.declared.hand.Hand.{Hand}
 use Rattle.tag_sets.specs.declared.kind.Kind.TheVariants.{Ordinary, Reserved}
 use Rattle.tag_sets.specs.declared.tags.Tags.{Tags}
@@ -69,7 +69,7 @@ pub record BlockingGets {R : Type 0} (tags : Tags R) (tag : ℕ) (old new : Hand
   pub ordinary : IsOrdinaryTag tags tag
   pub number : ℕ
   pub tag_is : tag ≡ reserved_of tags + number
-  pub set : Changes Ordinary (queue_waits.BlockingGets (layout_of tags Ordinary) number) old new
+  pub set : Changes Ordinary (queue_blocking.BlockingGets (layout_of tags Ordinary) number) old new
 
 -- the most steps that a get in the ordinary set adds to the hand's list
 abbrev pub most_steps : {R : Type 0} → Tags R → ℕ

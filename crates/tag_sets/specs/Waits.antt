@@ -1,13 +1,15 @@
 -- How hands wait.
-use Rattle.std.specs.Prelude.{◌≡◌, ℕ, Some}
+use Rattle.std.specs.Prelude.{◌≡◌, ℕ, ◌+◌, Some}
 use Rattle.wake_book.specs.declared.waiting.Left.{Left}
 use Rattle.wake_book.specs.Groups.{LeavesAs, IdlesOnce, StandsAsBefore}
 use Rattle.tag_queue.specs.declared.agent.Agent.{Agent}
 use Rattle.tag_queue.specs.Agents.{caller_of, hint_of, waiter_of}
 use Rattle.tag_queue.specs.Waits as queue
+use Rattle.tag_queue.specs.Blocking as queue_blocking
 use Rattle.tag_sets.specs.declared.hand.Hand.{Hand}
 use Rattle.tag_sets.specs.declared.kind.Kind.TheVariants.{Ordinary}
-use Rattle.tag_sets.specs.Hands.{standing_of, Changes}
+use Rattle.tag_sets.specs.declared.tags.Tags.{Tags}
+use Rattle.tag_sets.specs.Hands.{reserved_of, standing_of, layout_of, Changes}
 use Rattle.tag_sets.specs.Holding.{HoldsSame}
 
 -- the hand raised the active count and entered the group of its wait index, which then advanced by one
@@ -44,3 +46,9 @@ AgentStays old new = (caller_of new ≡ caller_of old) × (hint_of new ≡ hint_
 pub record Stays {R : Type 0} (old new : Hand R) : Type 0 where
   pub same : HoldsSame old new
   pub set : Changes Ordinary AgentStays old new
+
+-- the hand waited for this ordinary tag by rounds in the ordinary set
+pub record WaitsFor {R : Type 0} (tags : Tags R) (tag : ℕ) (old new : Hand R) : Type 0 where
+  pub number : ℕ
+  pub tag_is : tag ≡ reserved_of tags + number
+  pub set : Changes Ordinary (queue_blocking.WaitsFor (layout_of tags Ordinary) number) old new

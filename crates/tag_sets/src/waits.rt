@@ -7,7 +7,7 @@ ghost use Rattle.wake_book.specs.declared.steps.GroupStep.TheVariants.{Look};
 ghost use Rattle.tag_queue.specs.Agents.{teller_of};
 ghost use Rattle.tag_sets.specs.Hands.{reserved_of, total_of, IsHandOf, HasRoom, agent_of, standing_of, wait_index_of, book_steps, group_steps};
 ghost use Rattle.tag_sets.specs.Gets.{BlockingGets};
-ghost use Rattle.tag_sets.specs.Waits.{Enters, Leaves, StandsOn, Stays};
+ghost use Rattle.tag_sets.specs.Waits.{Enters, Leaves, StandsOn, Stays, WaitsFor};
 ghost use Rattle.tag_sets.specs.declared.kind.Kind.TheVariants.{Ordinary};
 
 use crate::hand::Hand;
@@ -99,6 +99,7 @@ impl<R: Copy> Tags<R> {
         ensures spent { (result ≡ Err TagFault.Spent)
             ↔ ((reserved_of self.now < total_of self.now) × (standing_of hand.old ≡ None) × ¬ (HasRoom hand.old Ordinary 1)) }
         ensures gets { IfOk result (λ tag. BlockingGets self.now tag hand.old hand.new) }
+        ensures waits { IfOk result (λ tag. WaitsFor self.now tag hand.old hand.new) }
         ensures err { OnErr result (hand.new ≡ hand.old) }
     {
         let number = self.ordinary.get_blocking(rt, &mut hand.ordinary)?;

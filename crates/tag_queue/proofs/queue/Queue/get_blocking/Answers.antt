@@ -1,58 +1,63 @@
--- Each turn adds two searches that found no tag and use up none of the agent's life; the last search finds one.
-use Rattle.std.proofs.Common.{arith, suc, None, ap, ◌∙◌}
-use Rattle.tag_core.specs.declared.shape.Shape.{Shape}
-use Rattle.wake_book.specs.Groups as groups
-use Rattle.tag_queue.specs.declared.agent.Agent.{Agent}
-use Rattle.tag_layout.specs.Layout.{Layout}
-use Rattle.tag_queue.specs.Agents.{HasRoom}
-use Rattle.tag_queue.specs.Gets.{GetsPlain}
+-- Each turn is a round that found no tag and used up none of the agent's life; the last get or stay finds one.
+use Rattle.std.proofs.Common.{inl, inr, suc}
+use Rattle.wake_book.specs.Groups.{wait_index_of}
+use Rattle.tag_queue.specs.Agents.{layout_of, waiter_of}
+use Rattle.tag_queue.proofs.Rounds.{search_keeps_room, gets_by_rounds}
 use Rattle.tag_queue.proofs.queue.Queue.get_blocking.Goals as goal
 
--- a get that found none leaves as much room
-room_after : {R : Type 0} (l : Layout) (old new : Agent R) → GetsPlain l None old new → HasRoom old 1 → HasRoom new 1
-room_after l old new g h = let count = g.searches.gains.count in
-    let life = ap (λ (k : Shape). k.life) g.searches.gains.shape in omega arith
+pub returns-in-Some-try_get-clause-waits : goal.returns-in-Some-try_get-clause-waits
+returns-in-Some-try_get-clause-waits g c = let inv = c.loop.invariant in record {
+  rounds = inv.rounds.0;
+  last = c.loop.agent;
+  none = inv.rounds.1;
+  won = inl c.in-Some-try_get.ensures.gets;
+}
 
 pub returns-in-Some-try_get-clause-gets : goal.returns-in-Some-try_get-clause-gets
-returns-in-Some-try_get-clause-gets g c = let inv = c.loop.invariant in let gets = c.in-Some-try_get.ensures.gets in
-    record {
-      tries = inv.none.0;
-      caller = c.loop.agent.caller;
-      hint = c.loop.agent.hint;
-      none = inv.none.1;
-      won = gets.searches;
-      counts = gets.others.0 ∙ inv.counts;
-      out = ap groups.standing_of gets.others.1 ∙ inv.out;
-    }
+unfolding returns-in-Some-try_get-clause-waits
+returns-in-Some-try_get-clause-gets g c =
+    gets_by_rounds (layout_of c.args.self.now) c.in-Some-try_get.tag c.args.agent.now c.try_get.new.agent
+    (returns-in-Some-try_get-clause-waits g c) c.loop.invariant.out
 
-pub returns-in-Some-try_get-2-clause-gets : goal.returns-in-Some-try_get-2-clause-gets
-returns-in-Some-try_get-2-clause-gets g c = let inv = c.loop.invariant in let first = c.in_default.ensures.gets in
-    let gets = c.in-Some-try_get-2.ensures.gets in record {
-      tries = suc inv.none.0;
-      caller = c.try_get.new.agent.caller;
-      hint = c.try_get.new.agent.hint;
-      none = (c.loop.agent.caller, c.loop.agent.hint, inv.none.1, first.searches);
-      won = gets.searches;
-      counts = gets.others.0 ∙ first.others.0 ∙ inv.counts;
-      out = c.leave.ensures.out.0;
-    }
+pub returns-in-Some-stay-clause-waits : goal.returns-in-Some-stay-clause-waits
+returns-in-Some-stay-clause-waits g c = let inv = c.loop.invariant in record {
+  rounds = inv.rounds.0;
+  last = c.loop.agent;
+  none = inv.rounds.1;
+  won = inr record {
+    between = c.try_get.new.agent;
+    group = wait_index_of (waiter_of c.try_get.new.agent);
+    none = c.in_default.ensures.gets;
+    stay = c.in-Some-stay.ensures.stay;
+  };
+}
+
+pub returns-in-Some-stay-clause-gets : goal.returns-in-Some-stay-clause-gets
+unfolding returns-in-Some-stay-clause-waits
+returns-in-Some-stay-clause-gets g c =
+    gets_by_rounds (layout_of c.args.self.now) c.in-Some-stay.tag c.args.agent.now c.stay.new.agent
+    (returns-in-Some-stay-clause-waits g c) c.loop.invariant.out
 
 pub loop-preserved : goal.loop-preserved
-loop-preserved g c = let inv = c.loop.invariant in let first = c.in_default.ensures.gets in
-    let second = c.in_default-try_get.ensures.gets in record {
+loop-preserved g c =
+    let inv = c.loop.invariant in let l = layout_of c.args.self.now in
+    let first = c.in_default.ensures.gets in let stay = c.in_default-stay.ensures.stay in
+    record {
       turns = (tt, tt);
-      agent = (c.try_get-in-loop.ensures.agent.0, c.try_get-in-loop.ensures.agent.1, c.leave-in-loop.ensures.groups.0);
-      room = room_after _ _ c.try_get-in-loop.new.agent second
-          (room_after _ c.loop.agent c.try_get.new.agent first inv.room);
-      counts = second.others.0 ∙ first.others.0 ∙ inv.counts;
-      out = c.leave-in-loop.ensures.out.0;
-      none = (
-        suc (suc inv.none.0),
+      agent = c.in_default-stay.ensures.agent;
+      room = search_keeps_room l _ _ _ _ stay.searches (search_keeps_room l _ _ _ _ first.searches inv.room);
+      out = stay.out;
+      rounds = (
+        suc inv.rounds.0,
         (
-          c.try_get.new.agent.caller,
-          c.try_get.new.agent.hint,
-          (c.loop.agent.caller, c.loop.agent.hint, inv.none.1, first.searches),
-          second.searches,
+          c.loop.agent,
+          inv.rounds.1,
+          record {
+            between = c.try_get.new.agent;
+            group = wait_index_of (waiter_of c.try_get.new.agent);
+            none = first;
+            stay = stay;
+          },
         ),
       );
     }

@@ -1,0 +1,68 @@
+-- How a blocking get waits: by rounds, each of them a get that found no tag and then a stay in a wait group.
+use Rattle.std.specs.Prelude.{◌≡◌, ℕ, zero, suc, ◌+◌, ◌%◌, ◌⊎◌, List, ◌∷◌, Option, Some, None}
+use Rattle.tag_layout.specs.Layout.{Layout}
+use Rattle.tag_core.specs.declared.caller.Caller.{Caller}
+use Rattle.tag_search.specs.declared.hint.Hint.{Hint}
+use Rattle.wake_book.specs.declared.steps.GroupStep.{GroupStep}
+use Rattle.wake_book.specs.declared.steps.GroupStep.TheVariants.{Enter, Raise}
+use Rattle.wake_book.specs.declared.waiting.Left.{Left}
+use Rattle.wake_book.specs.Groups.{wait_index_of}
+use Rattle.wake_book.specs.Walks.{IsLeave, IsSleep}
+use Rattle.tag_queue.specs.declared.agent.Agent.{Agent}
+use Rattle.tag_queue.specs.Agents.{caller_of, teller_of, waiter_of, hint_of, standing_of, group_steps}
+use Rattle.tag_queue.specs.Gets.{SearchesPlain, GetsPlain}
+
+-- the waiter slept in the group if its search there found no tag, and otherwise made no step
+abbrev pub Rests : ℕ → Option ℕ → List GroupStep → List GroupStep → Type 0
+Rests group None steps steps' = IsSleep group steps steps'
+Rests group (Some tag) steps steps' = steps' ≡ steps
+
+-- the agent entered the group of its wait index, rested there as its one search called for, and left that group;
+-- its list of group steps grew by nothing else
+pub record IsStay {R : Type 0} (l : Layout) (group : ℕ) (answer : Option ℕ) (old new : Agent R) : Type 0 where
+  pub group_is : group ≡ wait_index_of (waiter_of old)
+  pub next : wait_index_of (waiter_of new) ≡ (group + 1) % 8
+  pub searches : SearchesPlain l answer (caller_of old) (caller_of new) (hint_of old) (hint_of new)
+  pub active : ℕ
+  pub found : ℕ
+  pub rested : List GroupStep
+  pub left : Left
+  pub rests : Rests group answer (Enter group found ∷ Raise active ∷ group_steps old) rested
+  pub leaves : IsLeave group rested (group_steps new) left
+  pub out : standing_of new ≡ None
+  pub counts : teller_of new ≡ teller_of old
+
+-- a get that found no tag, and then a stay whose search gave this answer
+pub record IsRound {R : Type 0} (l : Layout) (answer : Option ℕ) (old new : Agent R) : Type 0 where
+  pub between : Agent R
+  pub group : ℕ
+  pub none : GetsPlain l None old between
+  pub stay : IsStay l group answer between new
+
+-- that many rounds, one after another, none of which found a tag
+abbrev pub AreRounds : {R : Type 0} → ℕ → Layout → Agent R → Agent R → Type 0
+AreRounds zero l old new = new ≡ old
+AreRounds {R} (suc rounds) l old new = (mid : Agent R) × AreRounds rounds l old mid × IsRound l None mid new
+
+-- after some rounds that found no tag the agent won this one, by a get or in the stay of one more round
+pub record WaitsFor {R : Type 0} (l : Layout) (tag : ℕ) (old new : Agent R) : Type 0 where
+  pub rounds : ℕ
+  pub last : Agent R
+  pub none : AreRounds rounds l old last
+  pub won : GetsPlain l (Some tag) last new ⊎ IsRound l (Some tag) last new
+
+-- that many searches, one after another, each of which found no tag
+abbrev pub FindNone : {R : Type 0} → ℕ → Layout → Caller R → Hint → Caller R → Hint → Type 0
+FindNone zero l caller hint caller' hint' = (caller' ≡ caller) × (hint' ≡ hint)
+FindNone {R} (suc tries) l caller hint caller' hint' = (mid : Caller R) × (before : Hint)
+    × FindNone tries l caller hint mid before × SearchesPlain l None mid caller' before hint'
+
+-- after some searches that found no tag one found this tag; the agent counted nothing and is in no wait group
+pub record BlockingGets {R : Type 0} (l : Layout) (tag : ℕ) (old new : Agent R) : Type 0 where
+  pub tries : ℕ
+  pub caller : Caller R
+  pub hint : Hint
+  pub none : FindNone tries l (caller_of old) (hint_of old) caller hint
+  pub won : SearchesPlain l (Some tag) caller (caller_of new) hint (hint_of new)
+  pub counts : teller_of new ≡ teller_of old
+  pub out : standing_of new ≡ None
