@@ -1,9 +1,11 @@
 //! Futures that wait for a tag, under an executor that counts its polls.
+use std::cell::RefCell;
 use std::future::Future;
 use std::pin::{pin, Pin};
+use std::ptr::null;
 use std::sync::atomic::{AtomicUsize, Ordering::SeqCst};
 use std::sync::{Arc, Mutex};
-use std::task::{Context, Poll, Wake, Waker};
+use std::task::{Context, Poll, RawWaker, RawWakerVTable, Wake, Waker};
 use std::thread::{self, Thread};
 use tags::{Error, Options, OwnedTag, Pool};
 
@@ -183,6 +185,32 @@ fn a_waker_may_give_a_tag_back() {
     assert!(answer.is_pending());
     drop(future);
     assert!(hand.get().unwrap().is_some());
+}
+
+thread_local! {
+    static KEPT: RefCell<Option<OwnedTag>> = const { RefCell::new(None) };
+}
+
+static GIVES_WHEN_CLONED: RawWakerVTable = RawWakerVTable::new(give_kept, ignore, ignore, ignore);
+
+fn give_kept(_: *const ()) -> RawWaker {
+    drop(KEPT.take());
+    RawWaker::new(null(), &GIVES_WHEN_CLONED)
+}
+
+fn ignore(_: *const ()) {}
+
+#[test]
+fn a_tag_that_comes_back_before_the_future_is_listed_is_found() {
+    let pool = Pool::open(&Options::new(1, 1)).unwrap();
+    let hand = pool.join().unwrap().into_shared();
+    KEPT.set(hand.get().unwrap());
+    // SAFETY: the functions ignore the pointer.
+    let waker = unsafe { Waker::from_raw(RawWaker::new(null(), &GIVES_WHEN_CLONED)) };
+    let mut future = hand.get_async();
+    let answer = Pin::new(&mut future).poll(&mut Context::from_waker(&waker));
+    assert!(answer.is_ready());
+    assert_eq!(hand.wakes().active, 0);
 }
 
 #[test]
