@@ -13,7 +13,8 @@ const TIMED_OUT: i32 = -31;
 
 impl<T> Hand<T> {
     /// Takes a free ordinary tag, and sleeps while there is none. A thread must not sleep while it holds the tags that
-    /// the others wait for. That a sleeper is woken is tested, not proved.
+    /// the others wait for. That a sleeper is woken is tested, not proved. While a [`Wait`] or a future of this hand waits, a
+    /// get that would sleep is refused with [`Waiting`](Error::Waiting).
     pub fn get_blocking(&self) -> Result<Tag<'_, T>> {
         // SAFETY: as of `raw`, and the bell is only accessed by atomic operations.
         let answer = unsafe { raw::tags_get_blocking(self.raw(), self.shared.bell.as_ptr()) };
@@ -48,7 +49,8 @@ impl<T> Hand<T> {
 
     /// Takes a free ordinary tag, and while there is none, waits without a thread: the future is woken when a hand of this
     /// crate gives a tag back. Dropping it ends the wait. It names no runtime, and any number of futures of one hand may
-    /// wait at once.
+    /// wait at once. While a [`Wait`] of this hand is there, one that would wait is refused with
+    /// [`Waiting`](Error::Waiting).
     ///
     /// ```
     /// # use std::future::Future;

@@ -88,7 +88,7 @@ fn futures_and_sleepers_share_two_tags() {
 }
 
 #[test]
-fn a_pool_without_ordinary_tags_refuses_a_wait() {
+fn a_wait_that_can_not_be_is_refused() {
     let options = Options {
         reserved: 2,
         ..Options::new(2, 1)
@@ -96,6 +96,13 @@ fn a_pool_without_ordinary_tags_refuses_a_wait() {
     let pool = Pool::open(&options).unwrap();
     let hand = pool.join().unwrap();
     assert_eq!(block_on(hand.get_async()).unwrap_err(), Error::NoSuchTag);
+    let pool = Pool::open(&Options::new(1, 1)).unwrap();
+    let hand = pool.join().unwrap();
+    let (tag, wait) = (hand.get().unwrap(), hand.prepare().unwrap());
+    assert_eq!(block_on(hand.get_async()).unwrap_err(), Error::Waiting);
+    drop(tag);
+    assert!(block_on(hand.get_async()).is_ok());
+    wait.finish();
 }
 
 /// Polls once. Whoever is ready gives the number of its tag.

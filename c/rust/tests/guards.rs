@@ -163,6 +163,20 @@ fn a_sleeper_gets_one_of_seven_tags() {
 }
 
 #[test]
+fn a_hand_that_stands_in_a_group_does_not_sleep() {
+    let pool = open(1, 0, 1);
+    let hand = pool.join().unwrap();
+    let tag = hand.get().unwrap();
+    let wait = hand.prepare().unwrap();
+    assert_eq!(hand.get_blocking().unwrap_err(), Error::Waiting);
+    assert_eq!(hand.get_timeout(Duration::MAX).unwrap_err(), Error::Waiting);
+    drop(tag);
+    assert!(hand.get_blocking().is_ok());
+    wait.finish();
+    assert!(hand.prepare().is_ok());
+}
+
+#[test]
 fn a_wait_ends_in_time() {
     let pool = open(1, 0, 2);
     let (hand, waiter) = (pool.join().unwrap(), pool.join().unwrap());
