@@ -1,8 +1,9 @@
 //! Values beside tags: each has one user at a time, and is dropped once.
+use std::cell::Cell;
 use std::panic::{catch_unwind, AssertUnwindSafe};
 use std::sync::atomic::{AtomicUsize, Ordering::SeqCst};
 use std::thread;
-use tags::{Error, Options, Pool};
+use tags::{Error, GetAsyncOwned, Hand, Options, OwnedTag, Pool, SharedHand};
 
 /// Counts how many values there are, and how many were dropped.
 #[derive(Default)]
@@ -35,6 +36,21 @@ fn options(total: u32, reserved: u32, hands: u32) -> Options {
         reserved,
         ..Options::new(total, hands)
     }
+}
+
+/// What may go to other threads, and be used by several, with a value that may only go to one. The opposite is tested by
+/// examples of the documentation that do not compile.
+#[test]
+fn a_value_need_not_be_sync() {
+    fn go<T: Send + 'static>() {}
+    fn share<T: Sync>() {}
+    go::<Hand<Cell<u8>>>();
+    go::<OwnedTag<Cell<u8>>>();
+    go::<GetAsyncOwned<Cell<u8>>>();
+    go::<SharedHand<Cell<u8>>>();
+    share::<SharedHand<Cell<u8>>>();
+    go::<Pool<Cell<u8>>>();
+    share::<Pool<Cell<u8>>>();
 }
 
 #[test]
