@@ -59,11 +59,10 @@ def put_manual(folder):
 
 
 def put_crate(folder):
-    """The Rust crate, with a build script that finds an installed library."""
+    """The Rust crate, whose build script finds an installed library."""
     for name in ran("git", "-C", C, "ls-files", "rust").split():
-        if os.path.basename(name) not in (".gitignore", "build.rs"):
+        if os.path.basename(name) != ".gitignore":
             copy(f"{C}/{name}", f"{folder}/{name.removeprefix('rust/')}")
-    copy(f"{HERE}/build.rs", f"{folder}/build.rs")
 
 
 ABOUT = """

@@ -1,12 +1,17 @@
 /*
  * Makes random calls with random arguments, through several handles of several
- * pools, and compares what each call returns and fills in with the model.
+ * pools, and compares what each call returns and fills in with the model. Of the
+ * calls that sleep it makes those that the model says return at once.
  * fuzz [CALLS [SEED]]
  */
+#define _GNU_SOURCE
 #include <inttypes.h>
 #include <stdio.h>
 #include <stdlib.h>
 #include <string.h>
+#include <sys/eventfd.h>
+#include <time.h>
+#include <unistd.h>
 
 #include "model.h"
 
@@ -22,8 +27,22 @@ union handle {
 	struct tags_hand hand;
 };
 
+/* The bell of a pool, and what the model says of it. */
+struct bell {
+	struct pool *pool;
+	struct tags_bell bell;
+	int event;
+	/* whether the event was named */
+	bool is_named;
+	/* the hands that wait for the event, and how often it was told */
+	bool listed[TAGS_MAX_HANDS];
+	uint64_t told;
+};
+
 static union handle handles[HANDLES];
 static struct model models[HANDLES];
+/* the last one is that of handles without a pool */
+static struct bell bells[HANDLES + 1];
 
 static uint64_t state = 1;
 static uint64_t calls;
@@ -181,17 +200,75 @@ static struct tags_options any_options(void)
 }
 
 /*
+ * Bells
+ */
+
+static struct bell *bell_of(uint32_t at)
+{
+	uint32_t i = 0;
+
+	while (i < HANDLES && !(models[at].pool && bells[i].pool == models[at].pool))
+		i++;
+	return &bells[i];
+}
+
+/* Lets a vacant bell be that of the pool. */
+static void hang_bell(struct pool *pool)
+{
+	struct bell *bell = bells;
+
+	while (bell->pool)
+		bell++;
+	memset(&bell->bell, 0, sizeof(bell->bell));
+	bell->pool = pool;
+	bell->is_named = false;
+}
+
+static bool is_listed(uint32_t at)
+{
+	return is_hand(&models[at]) && bell_of(at)->listed[models[at].number];
+}
+
+/* After a call that rang, unless it was refused: the event is told once while any hand waits for it. */
+static int32_t ring(uint32_t at, int32_t answer)
+{
+	struct bell *bell = bell_of(at);
+
+	for (int number = 0; answer >= 0 && bell->is_named && number < TAGS_MAX_HANDS; number++)
+		if (bell->listed[number]) {
+			bell->told++;
+			break;
+		}
+	return answer;
+}
+
+/*
  * Pools and hands
  */
+
+static void leave(uint32_t at)
+{
+	/* a hand that leaves while it is listed stays in the list */
+	if (is_listed(at)) {
+		bell_of(at)->listed[models[at].number] = false;
+		model_finish(&models[at]);
+		compare("cancel", tags_cancel(&handles[at].hand, &bell_of(at)->bell), TAGS_OK);
+	}
+	compare("leave", tags_leave(&handles[at].hand), model_leave(&models[at]));
+}
 
 static void try_open(void)
 {
 	uint32_t at = seldom(20) ? any_handle() : empty_handle();
 	struct tags_options options = any_options();
+	int32_t wanted;
 
 	if (count_pools() >= 3 && !seldom(60))
 		return;
-	compare("open", tags_open(&handles[at].pool, &options), model_open(&models[at], &options));
+	wanted = model_open(&models[at], &options);
+	compare("open", tags_open(&handles[at].pool, &options), wanted);
+	if (wanted == TAGS_OK)
+		hang_bell(models[at].pool);
 }
 
 static void try_join(void)
@@ -209,16 +286,19 @@ static void try_leave(void)
 	uint32_t at = any_handle();
 
 	if (seldom(12))
-		compare("leave", tags_leave(&handles[at].hand), model_leave(&models[at]));
+		leave(at);
 }
 
 static void close_one(uint32_t at)
 {
 	struct tags_sums found = { 0 };
 	struct tags_sums wanted = { 0 };
+	struct bell *bell = bell_of(at);
 
 	compare("close", tags_close(&handles[at].pool, &found), model_close(&models[at], &wanted));
 	compare_filled("close", &found, &wanted, sizeof(found));
+	if (!models[at].pool)
+		bell->pool = NULL;
 }
 
 static void try_close(void)
@@ -285,6 +365,24 @@ static void try_clear_granted(void)
 	compare("clear_granted", tags_clear_granted(&handles[at].hand, tag, &found),
 		model_clear_granted(&models[at], tag, &wanted));
 	compare_filled("clear_granted", &found, &wanted, sizeof(found));
+	if (found.woken != 5 && seldom(2))
+		compare("ring_granted", tags_ring_granted(&bell_of(at)->bell, &found),
+			ring(at, (int32_t)wanted.woken));
+}
+
+static void try_give(void)
+{
+	uint32_t at = hand_handle();
+	uint32_t tag = any_tag(at);
+	struct tags_bell *bell = &bell_of(at)->bell;
+	struct tags_hand *hand = &handles[at].hand;
+
+	if (seldom(3))
+		compare("ring", tags_ring(bell, tags_clear(hand, tag)),
+			ring(at, model_clear(&models[at], tag)));
+	else
+		compare("give", tags_give(hand, bell, tag),
+			ring(at, model_clear(&models[at], tag)));
 }
 
 static void try_read_clear(void)
@@ -335,9 +433,15 @@ static void try_clear_batch(void)
 	/* a longer list is refused before it is read */
 	if (seldom(20))
 		n = seldom(2) ? TAGS_MAX_BATCH + 1 : SIZE_MAX / 8;
-	if (seldom(2)) {
+	if (seldom(3)) {
 		compare("clear_batch", tags_clear_batch(&handles[at].hand, tags, n),
 			model_clear_batch(&models[at], tags, n));
+		return;
+	}
+	if (seldom(2)) {
+		compare("give_batch",
+			tags_give_batch(&handles[at].hand, &bell_of(at)->bell, tags, n),
+			ring(at, model_clear_batch(&models[at], tags, n)));
 		return;
 	}
 	compare("clear_batch_granted",
@@ -417,6 +521,143 @@ static void try_finish(void)
 	uint32_t at = hand_handle();
 
 	compare("finish", tags_finish(&handles[at].hand), model_finish(&models[at]));
+}
+
+static uint32_t ordinary_tags(uint32_t at)
+{
+	return models[at].pool->set[TAGS_ORDINARY].depth;
+}
+
+/* What a get returns that would have to wait if it found no tag, and whose time is up then or has no end. */
+static int32_t model_wait(uint32_t at, bool is_late)
+{
+	int32_t tag = model_get(&models[at]);
+
+	if (tag != TAGS_NO_TAG)
+		return tag;
+	if (ordinary_tags(at) == 0)
+		return TAGS_NO_SUCH_TAG;
+	return is_late ? TAGS_TIMED_OUT : TAGS_WAITING;
+}
+
+static void try_get_timed(void)
+{
+	static const int clocks[] = { CLOCK_MONOTONIC, CLOCK_REALTIME };
+	uint32_t at = hand_handle();
+	struct tags_bell *bell = &bell_of(at)->bell;
+	struct timespec end = { 0, (long)below(1000000000) };
+	int clock = clocks[below(2)];
+	bool is_sound = true;
+
+	if (seldom(12)) {
+		is_sound = false;
+		if (seldom(2))
+			clock = CLOCK_PROCESS_CPUTIME_ID;
+		else
+			end.tv_nsec = seldom(2) ? -1 : 1000000000;
+	}
+	compare("get_timed", tags_get_timed(&handles[at].hand, bell, clock, &end),
+		is_sound ? model_wait(at, true) : (int32_t)TAGS_BAD_TIME);
+}
+
+/* Whether a thread that waits for a tag might sleep, here for ever. A get by round robin may miss a free tag. */
+static bool might_sleep(uint32_t at)
+{
+	const struct set *set;
+
+	if (!is_hand(&models[at]) || member_of(&models[at])->standing != NOWHERE)
+		return false;
+	set = &models[at].pool->set[TAGS_ORDINARY];
+	for (uint32_t tag = 0; tag < set->depth; tag++)
+		if (!set->round_robin && (set->place[tag] == FREE || set->place[tag] == ASIDE))
+			return false;
+	return set->depth > 0;
+}
+
+static void try_get_blocking(void)
+{
+	uint32_t at = hand_handle();
+
+	if (!might_sleep(at))
+		compare("get_blocking",
+			tags_get_blocking(&handles[at].hand, &bell_of(at)->bell),
+			model_wait(at, false));
+}
+
+static bool model_strike(uint32_t at)
+{
+	if (!is_listed(at))
+		return false;
+	bell_of(at)->listed[models[at].number] = false;
+	model_finish(&models[at]);
+	return true;
+}
+
+static int32_t model_get_async(uint32_t at)
+{
+	int32_t tag;
+	int32_t group;
+
+	if (!bell_of(at)->is_named)
+		return TAGS_BAD_EVENT;
+	model_strike(at);
+	tag = model_get(&models[at]);
+	if (tag != TAGS_NO_TAG)
+		return tag;
+	if (ordinary_tags(at) == 0)
+		return TAGS_NO_SUCH_TAG;
+	group = model_prepare(&models[at]);
+	if (group < 0)
+		return group;
+	bell_of(at)->listed[models[at].number] = true;
+	tag = model_get(&models[at]);
+	if (tag != TAGS_NO_TAG)
+		model_strike(at);
+	return tag;
+}
+
+static int32_t model_cancel(uint32_t at)
+{
+	if (!is_hand(&models[at]))
+		return TAGS_BAD_HANDLE;
+	return model_strike(at) ? TAGS_OK : TAGS_NOT_WAITING;
+}
+
+static void try_get_async(void)
+{
+	uint32_t at = hand_handle();
+
+	compare("get_async", tags_get_async(&handles[at].hand, &bell_of(at)->bell),
+		model_get_async(at));
+}
+
+static void try_cancel(void)
+{
+	uint32_t at = hand_handle();
+
+	compare("cancel", tags_cancel(&handles[at].hand, &bell_of(at)->bell), model_cancel(at));
+}
+
+static void try_set_event(void)
+{
+	struct bell *bell = bell_of(pool_handle());
+	int event = seldom(4) ? -1 - (int)below(3) : bell->event;
+
+	if (event >= -1)
+		bell->is_named = event >= 0;
+	compare("set_event", tags_set_event(&bell->bell, event),
+		event < -1 ? (int32_t)TAGS_BAD_EVENT : (int32_t)TAGS_OK);
+}
+
+static void try_event(void)
+{
+	struct bell *bell = bell_of(pool_handle());
+	uint64_t told = 0;
+
+	if (read(bell->event, &told, sizeof(told)) < 0)
+		told = 0;
+	compare_filled("the event", &told, &bell->told, sizeof(told));
+	bell->told = 0;
 }
 
 static void try_busy(void)
@@ -499,8 +740,7 @@ static void gather_hands(uint32_t pool)
 			if (!seldom(30))
 				empty_hand(at);
 			if (!seldom(30))
-				compare("leave", tags_leave(&handles[at].hand),
-					model_leave(&models[at]));
+				leave(at);
 		}
 }
 
@@ -529,11 +769,14 @@ static const struct {
 	{ try_prepare, 1 },	  { try_finish, 1 },	   { try_busy, 1 },
 	{ try_show, 1 },	  { try_wakes, 1 },	   { try_resize, 1 },
 	{ try_clear_granted, 1 }, { try_read_clear, 1 },   { try_get_write, 1 },
+	{ try_give, 2 },	  { try_get_timed, 1 },	   { try_get_blocking, 1 },
+	{ try_get_async, 3 },	  { try_cancel, 1 },	   { try_set_event, 1 },
+	{ try_event, 1 },
 };
 
 static void try_any(void)
 {
-	uint32_t turn = below(34);
+	uint32_t turn = below(44);
 	size_t at = 0;
 
 	while (turn >= tries[at].turns)
@@ -545,7 +788,7 @@ static void try_any(void)
 static void close_all(void)
 {
 	for (uint32_t at = 0; at < HANDLES; at++)
-		compare("leave", tags_leave(&handles[at].hand), model_leave(&models[at]));
+		leave(at);
 	for (uint32_t at = 0; at < HANDLES; at++)
 		close_one(at);
 }
@@ -556,9 +799,13 @@ int main(int argc, char **argv)
 
 	if (argc > 2)
 		state = strtoull(argv[2], NULL, 10);
+	for (uint32_t i = 0; i <= HANDLES; i++)
+		bells[i].event = eventfd(0, EFD_NONBLOCK);
 	while (calls < most)
 		try_any();
 	close_all();
+	for (uint32_t i = 0; i <= HANDLES; i++)
+		close(bells[i].event);
 	printf("%" PRIu64 " calls as the model says\n", calls);
 	fprintf(stderr, "%" PRIu64 " of them refused\n", refused);
 	return 0;

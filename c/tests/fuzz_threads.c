@@ -1,16 +1,21 @@
 /*
- * Threads that make random calls on several pools at once: gets, gives, posts,
- * takes, waits with and without a limit, leaves and joins. A table of the owner
+ * Threads that make random calls on several pools at once: gets, gives of one tag
+ * and of several, posts, takes, waits with and without a limit and by an eventfd,
+ * leaves and joins. A table of the owner
  * of each tag shows a second one. After each round each pool is resized, and at
  * the end its sums are those that the threads counted. fuzz_threads [SECONDS [SEED]]
  */
 #define _GNU_SOURCE
+#include <errno.h>
 #include <inttypes.h>
+#include <poll.h>
 #include <pthread.h>
 #include <stdbool.h>
 #include <stdio.h>
 #include <stdlib.h>
+#include <sys/eventfd.h>
 #include <time.h>
+#include <unistd.h>
 
 #include "../tags.h"
 
@@ -27,6 +32,8 @@ enum {
 struct pool {
 	struct tags_pool pool;
 	struct tags_bell bell;
+	/* an eventfd that the bell tells, for all threads */
+	int event;
 	/* the handle of a pool is in one call at a time */
 	pthread_mutex_t lock;
 	uint32_t total;
@@ -111,25 +118,49 @@ static void count_got(uint32_t at)
 	__atomic_fetch_add(&pools[at].got, 1, __ATOMIC_RELAXED);
 }
 
-static void count_back(uint32_t at)
+static void count_back(uint32_t at, uint32_t tags)
 {
-	__atomic_fetch_add(&pools[at].back, 1, __ATOMIC_RELAXED);
+	__atomic_fetch_add(&pools[at].back, tags, __ATOMIC_RELAXED);
 }
 
-static void give_one(struct thread *self, uint32_t at)
+/* Gives up to three tags back, the ordinary ones together. */
+static void give_some(struct thread *self, uint32_t at)
 {
 	struct tags_hand *hand = &self->part[at].hand;
-	uint32_t tag = disown(self, at);
-	uint32_t way = below(self, 3);
+	uint32_t tags[3];
+	uint32_t count = 0;
 
+	while (count < 3 && self->part[at].count > 0) {
+		tags[count++] = disown(self, at);
+		if (tags[count - 1] >= RESERVED)
+			continue;
+		/* a batch has ordinary tags alone */
+		CHECK(tags_give_batch(hand, &pools[at].bell, tags, count) == TAGS_NO_SUCH_TAG);
+		CHECK(tags_give(hand, &pools[at].bell, tags[--count]) >= 0);
+		count_back(at, 1);
+	}
+	if (count > 0)
+		CHECK(tags_give_batch(hand, &pools[at].bell, tags, count) >= 0);
+	count_back(at, count);
+}
+
+static void give_back(struct thread *self, uint32_t at)
+{
+	struct tags_hand *hand = &self->part[at].hand;
+	uint32_t way = below(self, 3);
+	uint32_t tag;
+
+	if (way == 1) {
+		give_some(self, at);
+		return;
+	}
+	tag = disown(self, at);
 	if (way == 0)
 		CHECK(tags_give(hand, &pools[at].bell, tag) >= 0);
-	else if (way == 1 && tag >= RESERVED)
-		CHECK(tags_give_batch(hand, &pools[at].bell, &tag, 1) >= 0);
 	else
 		CHECK(tags_ring(&pools[at].bell, tags_clear(hand, tag)) >= 0);
 	CHECK(tags_clear(hand, tag) == TAGS_NOT_HELD);
-	count_back(at);
+	count_back(at, 1);
 }
 
 static int32_t get_in_time(struct thread *self, uint32_t at)
@@ -141,6 +172,27 @@ static int32_t get_in_time(struct thread *self, uint32_t at)
 	end.tv_sec += end.tv_nsec / 1000000000;
 	end.tv_nsec %= 1000000000;
 	return tags_get_timed(&self->part[at].hand, &pools[at].bell, CLOCK_MONOTONIC, &end);
+}
+
+/* Waits by the eventfd, for some milliseconds at most, since another thread may have read it. */
+static int32_t get_by_event(struct thread *self, uint32_t at)
+{
+	struct tags_hand *hand = &self->part[at].hand;
+	struct tags_bell *bell = &pools[at].bell;
+	struct pollfd event = { pools[at].event, POLLIN, 0 };
+	int32_t tag = tags_get_async(hand, bell);
+	uint64_t told;
+
+	for (int tries = 0; tag == TAGS_NO_TAG && tries < 3; tries++) {
+		CHECK(tags_prepare(hand) == TAGS_WAITING);
+		if (poll(&event, 1, 1) == 1)
+			CHECK(read(event.fd, &told, sizeof(told)) == sizeof(told) || errno == EAGAIN);
+		tag = tags_get_async(hand, bell);
+	}
+	if (tag == TAGS_NO_TAG)
+		CHECK(tags_cancel(hand, bell) == TAGS_OK);
+	CHECK(tags_cancel(hand, bell) == TAGS_NOT_WAITING);
+	return tag;
 }
 
 /* A thread that waits without a limit holds nothing, of no pool, so that others can go on. */
@@ -155,7 +207,7 @@ static bool holds_nothing(const struct thread *self)
 static void get_one(struct thread *self, uint32_t at)
 {
 	struct tags_hand *hand = &self->part[at].hand;
-	uint32_t way = below(self, 8);
+	uint32_t way = below(self, 9);
 	int32_t tag;
 
 	if (way == 0)
@@ -166,6 +218,8 @@ static void get_one(struct thread *self, uint32_t at)
 		tag = get_in_time(self, at);
 	else if (way == 3 && holds_nothing(self))
 		tag = tags_get_blocking(hand, &pools[at].bell);
+	else if (way == 4)
+		tag = get_by_event(self, at);
 	else
 		tag = tags_get(hand);
 	CHECK(tag >= 0 || tag == TAGS_NO_TAG || (tag == TAGS_TIMED_OUT && way == 2));
@@ -190,7 +244,7 @@ static void leave_and_join(struct thread *self, uint32_t at)
 	struct part *part = &self->part[at];
 
 	while (part->count > 0)
-		give_one(self, at);
+		give_back(self, at);
 	pthread_mutex_lock(&pools[at].lock);
 	CHECK(tags_leave(&part->hand) == TAGS_OK);
 	CHECK(tags_join(&pools[at].pool, &part->hand, below(self, 2)) == TAGS_OK);
@@ -228,11 +282,11 @@ static void *run(void *argument)
 		else if (dice < 40 && part->count < MOST)
 			get_one(self, at);
 		else if (part->count > 0)
-			give_one(self, at);
+			give_back(self, at);
 	}
 	for (uint32_t at = 0; at < POOLS; at++)
 		while (self->part[at].count > 0)
-			give_one(self, at);
+			give_back(self, at);
 	__atomic_fetch_add(&calls, TURNS, __ATOMIC_RELAXED);
 	return NULL;
 }
@@ -258,7 +312,7 @@ static void resize(uint32_t at)
 
 	pool->total = RESERVED + 1 + below(&threads[0], at == 0 ? 4 : TAGS - RESERVED - 1);
 	CHECK(tags_resize(&pool->pool, pool->total) == TAGS_OK);
-	CHECK(pool->bell.sleepers == 0 && pool->bell.waking == 0);
+	CHECK(pool->bell.sleepers == 0 && pool->bell.waking == 0 && pool->bell.listeners == 0);
 }
 
 int main(int argc, char **argv)
@@ -275,6 +329,8 @@ int main(int argc, char **argv)
 		pthread_mutex_init(&pools[at].lock, NULL);
 		options.total = pools[at].total = 4 + at * 40;
 		CHECK(tags_open(&pools[at].pool, &options) == TAGS_OK);
+		pools[at].event = eventfd(0, EFD_NONBLOCK);
+		CHECK(tags_set_event(&pools[at].bell, pools[at].event) == TAGS_OK);
 	}
 	do {
 		run_round();
@@ -285,6 +341,7 @@ int main(int argc, char **argv)
 		CHECK(tags_close(&pools[at].pool, &sums) == TAGS_OK);
 		CHECK(sums.got == pools[at].got && sums.back == pools[at].back);
 		CHECK(sums.got == sums.back && sums.held == 0 && sums.posted == 0);
+		close(pools[at].event);
 	}
 	fprintf(stderr, "%" PRIu64 " turns\n", calls);
 	printf("%" PRIu64 " wrong\n", wrong);

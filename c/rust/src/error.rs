@@ -15,7 +15,7 @@ pub enum Error {
     NoSuchTag,
     /// The pool was opened without reserved tags.
     NoReserved,
-    /// This hand does not hold the tag, or has a guard of it.
+    /// This hand does not hold the tag, or a guard of it is there.
     NotHeld,
     /// The tag is not posted, or another hand has taken it first.
     NotPosted,
@@ -45,14 +45,12 @@ pub enum Error {
     BadHandCount,
     /// Tags of the pool are held or posted.
     InUse,
-    /// Hands of the pool are in a wait group.
-    HandsWait,
     /// A status that no call of this crate should return.
     Unexpected(i32),
 }
 
 /// The status of each error in tags.h.
-const NUMBERS: [(Error, i32); 18] = [
+const NUMBERS: [(Error, i32); 17] = [
     (Error::NoSuchTag, -1),
     (Error::NoReserved, -2),
     (Error::NotHeld, -3),
@@ -70,11 +68,11 @@ const NUMBERS: [(Error, i32); 18] = [
     (Error::ShiftTooLarge, -24),
     (Error::BadHandCount, -25),
     (Error::InUse, -29),
-    (Error::HandsWait, -30),
 ];
 
 impl Error {
     /// Returns the status of this error in tags.h.
+    #[must_use]
     pub fn status(self) -> i32 {
         let Error::Unexpected(status) = self else {
             let mut numbers = NUMBERS.iter();
@@ -108,18 +106,24 @@ pub(crate) fn number(answer: i32) -> Result<u32> {
 }
 
 /// A pool that could not be closed. The pool is unchanged.
-#[derive(Debug)]
-pub struct CloseError {
+pub struct CloseError<T = ()> {
     /// The reason.
     pub error: Error,
     /// The pool.
-    pub pool: Pool,
+    pub pool: Pool<T>,
 }
 
-impl fmt::Display for CloseError {
+impl<T> fmt::Debug for CloseError<T> {
+    fn fmt(&self, f: &mut fmt::Formatter<'_>) -> fmt::Result {
+        let mut shown = f.debug_struct("CloseError");
+        shown.field("error", &self.error).finish_non_exhaustive()
+    }
+}
+
+impl<T> fmt::Display for CloseError<T> {
     fn fmt(&self, f: &mut fmt::Formatter<'_>) -> fmt::Result {
         self.error.fmt(f)
     }
 }
 
-impl std::error::Error for CloseError {}
+impl<T> std::error::Error for CloseError<T> {}

@@ -1,136 +1,171 @@
 //! Waits that need no thread.
 use crate::error::Result;
-use crate::hand::{Hand, Wait};
+use crate::hand::Hand;
+use crate::listeners::Listeners;
+use crate::owned::OwnedTag;
+use crate::shared::SharedHand;
 use crate::tag::Tag;
-use std::collections::VecDeque;
 use std::fmt;
 use std::future::Future;
 use std::pin::Pin;
-use std::sync::atomic::{AtomicUsize, Ordering::SeqCst};
-use std::sync::{Mutex, MutexGuard, PoisonError};
 use std::task::{Context, Poll, Waker};
 
-/// The futures of a pool that wait, the longest first.
-#[derive(Default)]
-pub(crate) struct Listeners {
-    /// How many there are. A give loads it after its clear, and a future raises it before its last try, so either that
-    /// try finds the tag or the give finds the future.
-    count: AtomicUsize,
-    list: Mutex<List>,
+/// Lends a hand to a future, for one call at a time.
+pub(crate) trait Lends {
+    type Value;
+
+    fn lend<R>(&self, call: impl FnOnce(&Hand<Self::Value>) -> R) -> R;
+
+    fn listeners(&self) -> &Listeners;
 }
 
-#[derive(Default)]
-struct List {
-    next: u64,
-    wakers: VecDeque<(u64, Waker)>,
+impl<T> Lends for &Hand<T> {
+    type Value = T;
+
+    fn lend<R>(&self, call: impl FnOnce(&Hand<T>) -> R) -> R {
+        call(self)
+    }
+
+    fn listeners(&self) -> &Listeners {
+        Hand::listeners(self)
+    }
 }
 
-impl Listeners {
-    fn list(&self) -> MutexGuard<'_, List> {
-        self.list.lock().unwrap_or_else(PoisonError::into_inner)
-    }
+/// A future's wait for a tag. What a give told it is either used by a try that follows, or told to the next future.
+struct Waiting<L: Lends> {
+    lender: L,
+    /// Whether the hand counts this one among its waits.
+    is_counted: bool,
+    /// Whether it is in the list, unless a give has told it since.
+    is_listed: bool,
+    /// Its place in the list. It is kept until the future ends, so that one whose try found no tag goes on in front.
+    place: Option<u64>,
+}
 
-    fn enter(&self, waker: Waker) -> u64 {
-        let mut list = self.list();
-        let entry = list.next;
-        list.next += 1;
-        list.wakers.push_back((entry, waker));
-        self.count.store(list.wakers.len(), SeqCst);
-        entry
-    }
-
-    /// Returns whether the future was still listed. Otherwise a give has told it.
-    fn leave(&self, entry: u64) -> bool {
-        let mut list = self.list();
-        let place = list.wakers.iter().position(|it| it.0 == entry);
-        let was_listed = place.and_then(|at| list.wakers.remove(at)).is_some();
-        self.count.store(list.wakers.len(), SeqCst);
-        was_listed
-    }
-
-    /// Wakes a future for each of so many tags that became free.
-    pub fn tell(&self, tags: usize) {
-        for _ in 0..tags {
-            if self.count.load(SeqCst) == 0 {
-                return;
-            }
-            let mut list = self.list();
-            let first = list.wakers.pop_front();
-            self.count.store(list.wakers.len(), SeqCst);
-            drop(list);
-            if let Some((_, waker)) = first {
-                waker.wake();
-            }
+impl<L: Lends> Waiting<L> {
+    fn new(lender: L) -> Waiting<L> {
+        Waiting {
+            lender,
+            is_counted: false,
+            is_listed: false,
+            place: None,
         }
     }
-}
 
-/// A get that waits without a thread, made by [`Hand::get_async`]. Dropping it ends the wait.
-#[must_use = "a future does nothing unless it is polled"]
-pub struct GetAsync<'a> {
-    hand: &'a Hand,
-    waits: Option<(Wait<'a>, u64)>,
-}
-
-impl<'a> GetAsync<'a> {
-    pub(crate) fn new(hand: &'a Hand) -> GetAsync<'a> {
-        GetAsync { hand, waits: None }
+    fn poll(&mut self, waker: &Waker) -> Poll<Result<u32>> {
+        let was_told = self.hear(waker);
+        let found = match self.try_or_wait(waker) {
+            Ok(None) => return Poll::Pending,
+            Ok(Some(tag)) => Ok(tag),
+            Err(error) => Err(error),
+        };
+        let unused = usize::from(was_told && found.is_err());
+        let told_since = usize::from(self.end());
+        self.lender.listeners().tell(unused + told_since);
+        Poll::Ready(found)
     }
 
-    /// Leaves the group and the list. Returns whether a give has told this future.
-    fn end_wait(&mut self) -> bool {
-        let Some((wait, entry)) = self.waits.take() else {
+    /// Returns whether a give has told this one. Otherwise it stays listed, with this waker.
+    fn hear(&mut self, waker: &Waker) -> bool {
+        let (true, Some(place)) = (self.is_listed, self.place) else {
             return false;
         };
-        wait.finish();
-        !self.hand.listeners().leave(entry)
+        self.is_listed = self.lender.listeners().renew(place, waker.clone());
+        !self.is_listed
     }
 
-    fn try_or_wait(&mut self, waker: &Waker) -> Result<Option<Tag<'a>>> {
-        if let Some(tag) = self.hand.get()? {
-            return Ok(Some(tag));
+    /// Tries, and if that fails, tries once more when it is listed.
+    fn try_or_wait(&mut self, waker: &Waker) -> Result<Option<u32>> {
+        let found = self.lender.lend(Hand::find)?;
+        if found.is_some() || self.is_listed {
+            return Ok(found);
         }
-        self.hand.check_ordinary()?;
-        let wait = self.hand.prepare()?;
-        let entry = self.hand.listeners().enter(waker.clone());
-        self.waits = Some((wait, entry));
-        let tag = self.hand.get();
-        // What a give told a future that needs it no more is for the next one.
-        if !matches!(tag, Ok(None)) && self.end_wait() {
-            self.hand.listeners().tell(1);
+        if !self.is_counted {
+            self.lender.lend(Hand::begin_wait)?;
+            self.is_counted = true;
         }
-        tag
+        let listeners = self.lender.listeners();
+        self.place = Some(listeners.enter(self.place, waker.clone()));
+        self.is_listed = true;
+        self.lender.lend(Hand::find)
+    }
+
+    /// Ends the wait. Returns whether a give has told this one, and no try has followed.
+    fn end(&mut self) -> bool {
+        let place = self.place.filter(|_| self.is_listed);
+        let was_told = place.is_some_and(|it| !self.lender.listeners().leave(it));
+        if self.is_counted {
+            self.lender.lend(Hand::end_wait);
+        }
+        (self.is_counted, self.is_listed) = (false, false);
+        was_told
     }
 }
 
-impl<'a> Future for GetAsync<'a> {
-    type Output = Result<Tag<'a>>;
+impl<L: Lends> Drop for Waiting<L> {
+    fn drop(&mut self) {
+        if self.end() {
+            self.lender.listeners().tell(1);
+        }
+    }
+}
+
+/// A get that waits without a thread, made by [`Hand::get_async`]. Dropping it ends the wait. One that is leaked stays in
+/// the list, where it takes one wakeup from the others.
+#[must_use = "a future does nothing unless it is polled"]
+pub struct GetAsync<'a, T = ()> {
+    waiting: Waiting<&'a Hand<T>>,
+}
+
+impl<'a, T> GetAsync<'a, T> {
+    pub(crate) fn new(hand: &'a Hand<T>) -> GetAsync<'a, T> {
+        GetAsync {
+            waiting: Waiting::new(hand),
+        }
+    }
+}
+
+impl<'a, T> Future for GetAsync<'a, T> {
+    type Output = Result<Tag<'a, T>>;
 
     fn poll(mut self: Pin<&mut Self>, context: &mut Context<'_>) -> Poll<Self::Output> {
-        let was_told = self.end_wait();
-        match self.try_or_wait(context.waker()) {
-            Ok(Some(tag)) => Poll::Ready(Ok(tag)),
-            Ok(None) => Poll::Pending,
-            Err(error) => {
-                if was_told {
-                    self.hand.listeners().tell(1);
-                }
-                Poll::Ready(Err(error))
-            }
-        }
+        let hand = self.waiting.lender;
+        let found = self.waiting.poll(context.waker());
+        found.map_ok(|tag| Tag::new(hand, tag))
     }
 }
 
-impl Drop for GetAsync<'_> {
-    fn drop(&mut self) {
-        if self.end_wait() {
-            self.hand.listeners().tell(1);
-        }
-    }
-}
-
-impl fmt::Debug for GetAsync<'_> {
+impl<T> fmt::Debug for GetAsync<'_, T> {
     fn fmt(&self, f: &mut fmt::Formatter<'_>) -> fmt::Result {
         f.debug_struct("GetAsync").finish_non_exhaustive()
+    }
+}
+
+/// Like [`GetAsync`], made by [`SharedHand::get_async`]: it keeps its hand, and so does its tag.
+#[must_use = "a future does nothing unless it is polled"]
+pub struct GetAsyncOwned<T = ()> {
+    waiting: Waiting<SharedHand<T>>,
+}
+
+impl<T> GetAsyncOwned<T> {
+    pub(crate) fn new(hand: SharedHand<T>) -> GetAsyncOwned<T> {
+        GetAsyncOwned {
+            waiting: Waiting::new(hand),
+        }
+    }
+}
+
+impl<T> Future for GetAsyncOwned<T> {
+    type Output = Result<OwnedTag<T>>;
+
+    fn poll(mut self: Pin<&mut Self>, context: &mut Context<'_>) -> Poll<Self::Output> {
+        let found = self.waiting.poll(context.waker());
+        found.map_ok(|tag| OwnedTag::new(self.waiting.lender.clone(), tag))
+    }
+}
+
+impl<T> fmt::Debug for GetAsyncOwned<T> {
+    fn fmt(&self, f: &mut fmt::Formatter<'_>) -> fmt::Result {
+        f.debug_struct("GetAsyncOwned").finish_non_exhaustive()
     }
 }

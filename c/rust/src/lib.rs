@@ -21,19 +21,31 @@
 //! # }
 //! ```
 //!
-//! In `examples/io_queue.rs`, threads pass requests to other threads, and wait while no tag is free.
+//! A thread that keeps its tags, or a task that awaits them, uses a [`SharedHand`], whose [`OwnedTag`]s own their claim.
+//! [`Pool::open_with`] puts a value of any type beside each tag, for whoever holds the tag. The examples are an I/O queue of
+//! threads, tasks under a small executor, and a copy of a file by threads.
 
 mod error;
 mod future;
 mod hand;
+mod held;
+mod listeners;
 mod options;
+mod owned;
 mod pool;
 mod raw;
+mod shared;
+mod sleeper;
 mod tag;
+mod values;
+mod waits;
 
 pub use error::{CloseError, Error, Result};
-pub use future::GetAsync;
-pub use hand::{Hand, Wait};
+pub use future::{GetAsync, GetAsyncOwned};
+pub use hand::Hand;
 pub use options::{Counts, Kind, Options, Sizes, Totals};
+pub use owned::OwnedTag;
 pub use pool::Pool;
+pub use shared::SharedHand;
 pub use tag::{Batch, Tag};
+pub use waits::Wait;

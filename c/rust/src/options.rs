@@ -31,6 +31,7 @@ pub struct Options {
 
 impl Options {
     /// Options for `total` ordinary tags and `hands` hands, with defaults for the rest.
+    #[must_use]
     pub fn new(total: u32, hands: u32) -> Options {
         Options {
             total,

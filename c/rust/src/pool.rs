@@ -1,32 +1,46 @@
 //! What opens tags, resizes them, and hands their hands out.
 use crate::error::{number, CloseError, Result};
-use crate::future::Listeners;
 use crate::hand::Hand;
+use crate::listeners::Listeners;
 use crate::options::{Options, Totals};
 use crate::raw::{
     tags_library_close, tags_library_join, tags_library_open, tags_library_resize, Bell, Handle,
-    STAY,
+    MAX_TOTAL, STAY,
 };
+use crate::values::Values;
+use std::cell::UnsafeCell;
 use std::fmt;
 use std::sync::{Arc, Mutex, MutexGuard, PoisonError};
 
-/// Tags that threads share, each through a [`Hand`] of its own.
+/// Tags that threads share, each through a [`Hand`] of its own, with a value of type `T` beside each tag.
 ///
-/// A pool that is dropped lives on until its last hand is dropped. Only [`close`](Pool::close) returns the totals.
-pub struct Pool {
-    shared: Arc<Shared>,
+/// A pool that is dropped lives on until its last hand is dropped. Only [`close`](Pool::close) returns the totals. The
+/// values are dropped with the pool and its hands, each of them once.
+///
+/// ```compile_fail
+/// fn send<T: Send>() {}
+/// send::<tags::Pool<std::rc::Rc<u8>>>();
+/// ```
+pub struct Pool<T = ()> {
+    shared: Arc<Shared<T>>,
 }
 
-/// A pool's handle, which may be in one call at a time, and who waits for its tags: threads at the bell, and futures.
-pub(crate) struct Shared {
-    handle: Mutex<Handle>,
+/// What a pool shares with its hands.
+pub(crate) struct Shared<T> {
+    opened: Opened,
+    reserved: u32,
+    values: Values<T>,
+    /// Who waits for a tag: threads at the bell, and futures.
     pub bell: Bell,
     pub listeners: Listeners,
 }
 
-impl Shared {
+/// A pool's handle, which may be in one call at a time.
+struct Opened(Mutex<Handle>);
+
+impl Opened {
     fn handle(&self) -> MutexGuard<'_, Handle> {
-        self.handle.lock().unwrap_or_else(PoisonError::into_inner)
+        self.0.lock().unwrap_or_else(PoisonError::into_inner)
     }
 
     fn close(&self) -> Result<Totals> {
@@ -37,10 +51,21 @@ impl Shared {
     }
 }
 
-impl Drop for Shared {
+impl Drop for Opened {
     fn drop(&mut self) {
         // Each hand shares this and has left before, so the pool is closed here, unless it was closed already.
         let _ = self.close();
+    }
+}
+
+impl<T> Shared<T> {
+    /// Returns the cells of the values, one for each tag. Only whoever holds a tag may look into its cell.
+    ///
+    /// # Safety
+    /// The caller has a hand of this pool meanwhile.
+    pub unsafe fn cells(&self) -> &[UnsafeCell<T>] {
+        // SAFETY: they are replaced only while no hand is out.
+        unsafe { self.values.cells() }
     }
 }
 
@@ -53,46 +78,7 @@ impl Pool {
     /// assert_eq!(Pool::open(&Options::new(10_241, 1)).unwrap_err(), Error::TotalTooLarge);
     /// ```
     pub fn open(options: &Options) -> Result<Pool> {
-        let mut handle = Handle::EMPTY;
-        // SAFETY: both are local to this function.
-        number(unsafe { tags_library_open(&mut handle, &options.to_raw()) })?;
-        let shared = Shared {
-            handle: Mutex::new(handle),
-            bell: Bell::new(),
-            listeners: Listeners::default(),
-        };
-        Ok(Pool {
-            shared: Arc::new(shared),
-        })
-    }
-
-    /// Returns a hand for one thread. Its gets begin in its own part of the tags, which reduces contention.
-    ///
-    /// ```
-    /// # use tags::{Error, Options, Pool};
-    /// # fn main() -> tags::Result<()> {
-    /// let pool = Pool::open(&Options::new(4, 1))?;
-    /// let hand = pool.join()?;
-    /// assert_eq!(pool.join().unwrap_err(), Error::NoHand);
-    /// drop(hand);
-    /// assert!(pool.join().is_ok());
-    /// # Ok(())
-    /// # }
-    /// ```
-    pub fn join(&self) -> Result<Hand> {
-        self.join_by(0)
-    }
-
-    /// Like [`join`](Pool::join), but the hand's gets go on where they left off, first at tag 0.
-    pub fn join_in_place(&self) -> Result<Hand> {
-        self.join_by(STAY)
-    }
-
-    fn join_by(&self, flags: u32) -> Result<Hand> {
-        let mut hand = Handle::EMPTY;
-        // SAFETY: the lock reserves the pool's handle for this call, and the other is local to this function.
-        number(unsafe { tags_library_join(&mut *self.shared.handle(), &mut hand, flags) })?;
-        Ok(Hand::new(hand, Arc::clone(&self.shared)))
+        Pool::open_with(options, |_| ())
     }
 
     /// Continues with `total` tags, as many of them reserved as before, once all hands are dropped. The ordinary tags are
@@ -111,8 +97,99 @@ impl Pool {
     /// # }
     /// ```
     pub fn resize(&self, total: u32) -> Result<()> {
-        // SAFETY: the lock keeps the handle to this call.
-        number(unsafe { tags_library_resize(&mut *self.shared.handle(), total) })?;
+        self.resize_with(total, |_| ())
+    }
+}
+
+impl<T> Pool<T> {
+    /// Opens a pool with a value beside each tag, which `make` makes for the tag's number. The value stays when its tag
+    /// goes back.
+    ///
+    /// ```
+    /// # use tags::{Options, Pool};
+    /// # fn main() -> tags::Result<()> {
+    /// let pool = Pool::open_with(&Options::new(4, 1), |_| Vec::with_capacity(512))?;
+    /// let hand = pool.join()?;
+    /// let mut tag = hand.get_blocking()?;
+    /// tag.value_mut().push(7);
+    /// assert_eq!(tag.value(), &[7]);
+    /// # Ok(())
+    /// # }
+    /// ```
+    pub fn open_with(options: &Options, make: impl FnMut(u32) -> T) -> Result<Pool<T>> {
+        let mut handle = Handle::EMPTY;
+        // SAFETY: both are local to this function.
+        number(unsafe { tags_library_open(&mut handle, &options.to_raw()) })?;
+        let shared = Shared {
+            opened: Opened(Mutex::new(handle)),
+            reserved: options.reserved,
+            values: Values::new((0..options.total).map(make)),
+            bell: Bell::new(),
+            listeners: Listeners::default(),
+        };
+        Ok(Pool {
+            shared: Arc::new(shared),
+        })
+    }
+
+    /// Returns a hand for one thread. Its gets begin in its own part of the tags, which reduces contention.
+    ///
+    /// A hand that was dropped and is joined again still holds its tags, and can [claim](Hand::claim) them.
+    ///
+    /// ```
+    /// # use tags::{Error, Options, Pool};
+    /// # fn main() -> tags::Result<()> {
+    /// let pool = Pool::open(&Options::new(4, 1))?;
+    /// let hand = pool.join()?;
+    /// assert_eq!(pool.join().unwrap_err(), Error::NoHand);
+    /// drop(hand);
+    /// assert!(pool.join().is_ok());
+    /// # Ok(())
+    /// # }
+    /// ```
+    pub fn join(&self) -> Result<Hand<T>> {
+        self.join_by(0)
+    }
+
+    /// Like [`join`](Pool::join), but the hand's gets go on where they left off, first at tag 0.
+    pub fn join_in_place(&self) -> Result<Hand<T>> {
+        self.join_by(STAY)
+    }
+
+    fn join_by(&self, flags: u32) -> Result<Hand<T>> {
+        let mut hand = Handle::EMPTY;
+        // SAFETY: the lock reserves the pool's handle for this call, and the other is local to this function.
+        number(unsafe { tags_library_join(&mut *self.shared.opened.handle(), &mut hand, flags) })?;
+        Ok(Hand::new(hand, Arc::clone(&self.shared)))
+    }
+
+    /// Like [`resize`](Pool::resize), with values that `make` makes for the ordinary tags. The reserved tags keep theirs.
+    /// It makes the new ones first, and drops them again if it is refused.
+    ///
+    /// ```
+    /// # use tags::{Options, Pool};
+    /// # fn main() -> tags::Result<()> {
+    /// let pool = Pool::open_with(&Options { reserved: 1, ..Options::new(2, 1) }, |_| "old")?;
+    /// pool.resize_with(3, |_| "new")?;
+    /// let hand = pool.join()?;
+    /// let (first, second) = (hand.get_reserved()?.unwrap(), hand.get_blocking()?);
+    /// assert_eq!((*first.value(), *second.value()), ("old", "new"));
+    /// # Ok(())
+    /// # }
+    /// ```
+    pub fn resize_with(&self, total: u32, make: impl FnMut(u32) -> T) -> Result<()> {
+        let reserved = self.shared.reserved;
+        // Of a total that is refused no value is made.
+        let end = if total > MAX_TOTAL { reserved } else { total };
+        let values = Values::new((reserved..end).map(make));
+        let mut handle = self.shared.opened.handle();
+        // SAFETY: the lock reserves the handle for this call.
+        number(unsafe { tags_library_resize(&mut *handle, total) })?;
+        // SAFETY: all hands are back, and none joins while this has the lock.
+        let former = unsafe { self.shared.values.replace(reserved, values) };
+        // A value may use the pool when it is dropped.
+        drop(handle);
+        drop(former);
         Ok(())
     }
 
@@ -130,15 +207,15 @@ impl Pool {
     /// # Ok(())
     /// # }
     /// ```
-    pub fn close(self) -> std::result::Result<Totals, CloseError> {
-        match self.shared.close() {
+    pub fn close(self) -> std::result::Result<Totals, CloseError<T>> {
+        match self.shared.opened.close() {
             Ok(totals) => Ok(totals),
             Err(error) => Err(CloseError { error, pool: self }),
         }
     }
 }
 
-impl fmt::Debug for Pool {
+impl<T> fmt::Debug for Pool<T> {
     fn fmt(&self, f: &mut fmt::Formatter<'_>) -> fmt::Result {
         f.debug_struct("Pool").finish_non_exhaustive()
     }

@@ -67,6 +67,7 @@ pub struct Timespec {
 
 pub const CLOCK_MONOTONIC: i32 = 1;
 
+pub const MAX_TOTAL: u32 = 10_240;
 pub const ROUND_ROBIN: u32 = 1;
 pub const STAY: u32 = 1;
 

@@ -1,30 +1,42 @@
 //! Tags that a hand holds.
 use crate::hand::Hand;
+use std::fmt;
 use std::mem::forget;
 
 /// The most tags of a word.
 const MOST: usize = 64;
 
 /// A tag that a hand holds. It is given back when it is dropped.
-#[derive(Debug)]
+///
+/// ```compile_fail
+/// # use tags::{Options, Pool};
+/// let pool = Pool::open_with(&Options::new(1, 1), |_| 0).unwrap();
+/// let hand = pool.join().unwrap();
+/// let mut tag = hand.get_blocking().unwrap();
+/// let value = tag.value();
+/// *tag.value_mut() = 1;
+/// assert_eq!(*value, 0);
+/// ```
 #[must_use = "the tag goes back at once"]
-pub struct Tag<'a> {
-    hand: &'a Hand,
+pub struct Tag<'a, T = ()> {
+    hand: &'a Hand<T>,
     number: u32,
 }
 
-impl<'a> Tag<'a> {
-    pub(crate) fn new(hand: &'a Hand, number: u32) -> Tag<'a> {
+impl<'a, T> Tag<'a, T> {
+    pub(crate) fn new(hand: &'a Hand<T>, number: u32) -> Tag<'a, T> {
         Tag { hand, number }
     }
 
     /// Returns the number of the tag, below the pool's total.
     #[inline]
+    #[must_use]
     pub fn number(&self) -> u32 {
         self.number
     }
 
     /// Returns the value of its slot. It is unspecified for a tag that was just won.
+    #[must_use]
     pub fn read(&self) -> u64 {
         self.hand.read(self.number)
     }
@@ -46,6 +58,26 @@ impl<'a> Tag<'a> {
         self.hand.write(self.number, value)
     }
 
+    fn cell(&self) -> *mut T {
+        // SAFETY: the hand is one of this pool.
+        let cells = unsafe { self.hand.shared.cells() };
+        cells[self.number as usize].get()
+    }
+
+    /// Returns the value beside the tag, which is as whoever held the tag before left it.
+    #[must_use]
+    pub fn value(&self) -> &T {
+        // SAFETY: the hand holds the tag, this is its only guard, and it is borrowed as long as the value.
+        unsafe { &*self.cell() }
+    }
+
+    /// Returns the value beside the tag, to change it.
+    #[must_use]
+    pub fn value_mut(&mut self) -> &mut T {
+        // SAFETY: as in `value`, and nothing else borrows the guard.
+        unsafe { &mut *self.cell() }
+    }
+
     /// Lets the tag go without giving it back. The hand holds it until [`claim`](Hand::claim) makes a tag of the number
     /// again.
     #[must_use = "the hand keeps the tag until it claims this number"]
@@ -56,7 +88,8 @@ impl<'a> Tag<'a> {
         number
     }
 
-    /// Offers the tag, with its slot, to all hands of the pool: the first that [takes](Hand::take) this number gets it.
+    /// Offers the tag, with its slot and its value, to all hands of the pool: the first that [takes](Hand::take) this number
+    /// gets it.
     #[must_use = "the tag stays posted until a hand takes this number"]
     pub fn post(self) -> u32 {
         self.hand.post(self.number);
@@ -66,24 +99,31 @@ impl<'a> Tag<'a> {
     }
 }
 
-impl Drop for Tag<'_> {
+impl<T> Drop for Tag<'_, T> {
     fn drop(&mut self) {
-        self.hand.clear(self.number);
+        self.hand.give(self.number);
+        self.hand.listeners().tell(1);
+    }
+}
+
+impl<T> fmt::Debug for Tag<'_, T> {
+    fn fmt(&self, f: &mut fmt::Formatter<'_>) -> fmt::Result {
+        let mut shown = f.debug_struct("Tag");
+        shown.field("number", &self.number).finish_non_exhaustive()
     }
 }
 
 /// Tags of one word that a hand holds. They are given back together when the batch is dropped.
-#[derive(Debug)]
 #[must_use = "the tags go back at once"]
-pub struct Batch<'a> {
-    hand: &'a Hand,
+pub struct Batch<'a, T = ()> {
+    hand: &'a Hand<T>,
     first: u32,
     /// Bit `i` is 1 if the hand won the tag `first + i`. At least one bit is 1.
     won: u64,
 }
 
-impl<'a> Batch<'a> {
-    pub(crate) fn new(hand: &'a Hand, first: u32, won: u64) -> Batch<'a> {
+impl<'a, T> Batch<'a, T> {
+    pub(crate) fn new(hand: &'a Hand<T>, first: u32, won: u64) -> Batch<'a, T> {
         Batch { hand, first, won }
     }
 
@@ -108,15 +148,15 @@ impl<'a> Batch<'a> {
     /// # Ok(())
     /// # }
     /// ```
-    pub fn into_tags(self) -> impl Iterator<Item = Tag<'a>> {
+    pub fn into_tags(self) -> impl Iterator<Item = Tag<'a, T>> {
         let (hand, numbers) = (self.hand, self.numbers());
         forget(self);
-        let tags: Vec<Tag<'a>> = numbers.map(|number| Tag::new(hand, number)).collect();
+        let tags: Vec<Tag<'a, T>> = numbers.map(|number| Tag::new(hand, number)).collect();
         tags.into_iter()
     }
 }
 
-impl Drop for Batch<'_> {
+impl<T> Drop for Batch<'_, T> {
     fn drop(&mut self) {
         let mut list = [0; MOST];
         let mut count = 0;
@@ -124,6 +164,13 @@ impl Drop for Batch<'_> {
             list[count] = number;
             count += 1;
         }
-        self.hand.clear_batch(&list[..count]);
+        self.hand.give_batch(&list[..count]);
+        self.hand.listeners().tell(count);
+    }
+}
+
+impl<T> fmt::Debug for Batch<'_, T> {
+    fn fmt(&self, f: &mut fmt::Formatter<'_>) -> fmt::Result {
+        f.debug_list().entries(self.numbers()).finish()
     }
 }

@@ -73,11 +73,52 @@ fn a_resize_is_refused_while_the_pool_is_used() {
     assert_eq!(pool.resize(32), Err(Error::InUse));
     let hand = pool.join_in_place().unwrap();
     drop(hand.take(posted).unwrap());
-    std::mem::forget(hand.prepare().unwrap());
     drop(hand);
-    assert_eq!(pool.resize(32), Err(Error::HandsWait));
     assert_eq!(pool.resize(1), Err(Error::ReservedTooLarge));
     assert_eq!(pool.resize(10_241), Err(Error::TotalTooLarge));
+    pool.resize(32).unwrap();
+}
+
+#[test]
+fn what_was_leaked_is_found_again() {
+    let pool = open(130, 0, 1);
+    let hand = pool.join_in_place().unwrap();
+    let batch = hand.get_batch(3).unwrap().unwrap();
+    std::mem::forget(batch);
+    let mut tags: Vec<_> = (0..127).map(|_| hand.get().unwrap().unwrap()).collect();
+    std::mem::forget((tags.pop(), hand.prepare().unwrap()));
+    drop(tags);
+    drop(hand);
+    assert_eq!(pool.resize(16), Err(Error::InUse));
+    let hand = pool.join().unwrap();
+    assert!(hand.prepare().is_ok());
+    for number in [0, 1, 2, 129] {
+        drop(hand.claim(number).unwrap());
+        assert_eq!(hand.claim(number).unwrap_err(), Error::NotHeld);
+    }
+    drop(hand);
+    pool.resize(16).unwrap();
+    assert_eq!(pool.close().unwrap().back, 130);
+}
+
+#[test]
+fn a_number_makes_a_tag_only_where_it_was_let_go() {
+    let pool = open(4, 0, 2);
+    let (hand, other) = (pool.join_in_place().unwrap(), pool.join().unwrap());
+    let tag = hand.get().unwrap().unwrap();
+    let number = tag.number();
+    let claims = |it: &tags::Hand, number| it.claim(number).map(tags::Tag::into_number);
+    for wrong in [number, 1, 4, 64, u32::MAX] {
+        assert_eq!(claims(&hand, wrong), Err(Error::NotHeld));
+    }
+    assert_eq!(tag.into_number(), number);
+    assert_eq!(claims(&other, number), Err(Error::NotHeld));
+    assert_eq!(claims(&hand, number), Ok(number));
+    assert_eq!(hand.claim(number).unwrap().post(), number);
+    assert_eq!(claims(&hand, number), Err(Error::NotHeld));
+    assert_eq!(other.take(number).unwrap().into_number(), number);
+    assert_eq!(claims(&hand, number), Err(Error::NotHeld));
+    assert_eq!(claims(&other, number), Ok(number));
 }
 
 #[test]
@@ -119,6 +160,20 @@ fn a_sleeper_gets_one_of_seven_tags() {
     thread::sleep(Duration::from_millis(20));
     tags.truncate(57);
     assert!(sleeper.join().unwrap());
+}
+
+#[test]
+fn a_hand_that_stands_in_a_group_does_not_sleep() {
+    let pool = open(1, 0, 1);
+    let hand = pool.join().unwrap();
+    let tag = hand.get().unwrap();
+    let wait = hand.prepare().unwrap();
+    assert_eq!(hand.get_blocking().unwrap_err(), Error::Waiting);
+    assert_eq!(hand.get_timeout(Duration::MAX).unwrap_err(), Error::Waiting);
+    drop(tag);
+    assert!(hand.get_blocking().is_ok());
+    wait.finish();
+    assert!(hand.prepare().is_ok());
 }
 
 #[test]

@@ -1,0 +1,207 @@
+//! A hand that several threads and tasks use.
+use crate::error::Result;
+use crate::future::{GetAsyncOwned, Lends};
+use crate::hand::Hand;
+use crate::listeners::Listeners;
+use crate::options::{Counts, Kind, Sizes};
+use crate::owned::OwnedTag;
+use crate::pool::Shared;
+use crate::sleeper::wait_for;
+use std::fmt;
+use std::sync::{Arc, Mutex, PoisonError};
+use std::time::{Duration, Instant};
+
+/// A hand that several threads and tasks use, made by [`Hand::into_shared`]. A clone is the same hand. Its tags own their
+/// claim: an [`OwnedTag`] is `Send`, lives across an await, and keeps the hand.
+///
+/// Each call takes a lock for a short time, and none sleeps with it. A thread that has a [`Hand`] of its own takes none.
+///
+/// ```
+/// # use tags::{Options, OwnedTag, Pool, SharedHand};
+/// /// A worker keeps its hand and the tags that it holds.
+/// struct Worker {
+///     hand: SharedHand,
+///     held: Vec<OwnedTag>,
+/// }
+///
+/// # fn main() -> tags::Result<()> {
+/// let pool = Pool::open(&Options::new(4, 1))?;
+/// let mut worker = Worker { hand: pool.join()?.into_shared(), held: Vec::new() };
+/// worker.held.extend(worker.hand.get()?);
+/// std::thread::spawn(move || drop(worker)).join().unwrap();
+/// assert_eq!(pool.close().unwrap().back, 1);
+/// # Ok(())
+/// # }
+/// ```
+pub struct SharedHand<T = ()> {
+    inner: Arc<Inner<T>>,
+}
+
+struct Inner<T> {
+    hand: Mutex<Hand<T>>,
+    /// That of the hand.
+    shared: Arc<Shared<T>>,
+}
+
+impl<T> SharedHand<T> {
+    pub(crate) fn new(hand: Hand<T>) -> SharedHand<T> {
+        let shared = Arc::clone(&hand.shared);
+        SharedHand {
+            inner: Arc::new(Inner {
+                hand: Mutex::new(hand),
+                shared,
+            }),
+        }
+    }
+
+    fn own(&self, number: u32) -> OwnedTag<T> {
+        OwnedTag::new(self.clone(), number)
+    }
+
+    /// Returns what the pool's hands share, which needs no lock.
+    pub(crate) fn shared(&self) -> &Shared<T> {
+        &self.inner.shared
+    }
+
+    /// Takes a free ordinary tag, as [`Hand::get`] does.
+    pub fn get(&self) -> Result<Option<OwnedTag<T>>> {
+        Ok(self.lend(Hand::find)?.map(|tag| self.own(tag)))
+    }
+
+    /// Takes a free reserved tag, as [`Hand::get_reserved`] does.
+    pub fn get_reserved(&self) -> Result<Option<OwnedTag<T>>> {
+        Ok(self.lend(Hand::find_reserved)?.map(|tag| self.own(tag)))
+    }
+
+    /// Takes a free ordinary tag within a limit, as [`Hand::get_shallow`] does.
+    pub fn get_shallow(&self, depth: u32) -> Result<Option<OwnedTag<T>>> {
+        let found = self.lend(|hand| hand.find_shallow(depth))?;
+        Ok(found.map(|tag| self.own(tag)))
+    }
+
+    /// Takes a free ordinary tag, and sleeps while there is none. Other threads use the hand meanwhile.
+    pub fn get_blocking(&self) -> Result<OwnedTag<T>> {
+        loop {
+            if let Some(tag) = self.get_timeout(Duration::MAX)? {
+                return Ok(tag);
+            }
+        }
+    }
+
+    /// Takes a free ordinary tag, and sleeps up to this long while there is none. `None` means that the time is up; if
+    /// it is 0, this is a try.
+    ///
+    /// ```
+    /// # use std::time::Duration;
+    /// # use tags::{Options, Pool};
+    /// # fn main() -> tags::Result<()> {
+    /// let pool = Pool::open(&Options::new(1, 1))?;
+    /// let hand = pool.join()?.into_shared();
+    /// let tag = hand.get_timeout(Duration::ZERO)?;
+    /// assert!(tag.is_some() && hand.get_timeout(Duration::from_millis(5))?.is_none());
+    /// # Ok(())
+    /// # }
+    /// ```
+    pub fn get_timeout(&self, time: Duration) -> Result<Option<OwnedTag<T>>> {
+        wait_for(self.get_async(), Instant::now().checked_add(time)).transpose()
+    }
+
+    /// Takes a free ordinary tag, and while there is none, waits without a thread, as [`Hand::get_async`] does. The future
+    /// is `Send`, borrows nothing, and any number of them may wait at once.
+    ///
+    /// ```
+    /// fn send<T: Send + 'static>(_: T) {}
+    ///
+    /// fn check(hand: tags::SharedHand) {
+    ///     send(async move {
+    ///         let tag = hand.get_async().await?;
+    ///         hand.get_async().await?; // while the tag is held
+    ///         tags::Result::Ok(tag)
+    ///     });
+    /// }
+    /// ```
+    pub fn get_async(&self) -> GetAsyncOwned<T> {
+        GetAsyncOwned::new(self.clone())
+    }
+
+    /// Returns the guard of a tag that this hand holds without one, as [`Hand::claim`] does.
+    ///
+    /// ```
+    /// # use tags::{Error, Options, Pool};
+    /// # fn main() -> tags::Result<()> {
+    /// let pool = Pool::open(&Options::new(4, 1))?;
+    /// let hand = pool.join()?.into_shared();
+    /// let number = hand.get_blocking()?.into_number();
+    /// let tag = hand.claim(number)?;
+    /// assert_eq!(hand.claim(number).unwrap_err(), Error::NotHeld);
+    /// # drop(tag);
+    /// # Ok(())
+    /// # }
+    /// ```
+    pub fn claim(&self, number: u32) -> Result<OwnedTag<T>> {
+        self.lend(|hand| hand.tie(number))?;
+        Ok(self.own(number))
+    }
+
+    /// Returns whether this hand holds the tag with this number.
+    pub fn holds(&self, number: u32) -> Result<bool> {
+        self.lend(|hand| hand.holds(number))
+    }
+
+    /// Takes a tag that a hand of this pool has posted, with its slot and its value.
+    pub fn take(&self, number: u32) -> Result<OwnedTag<T>> {
+        self.lend(|hand| hand.win_posted(number))?;
+        Ok(self.own(number))
+    }
+
+    /// Reports which tags are busy, as [`Hand::busy`] does.
+    pub fn busy(&self, into: &mut [u64]) -> Result<u32> {
+        self.lend(|hand| hand.busy(into))
+    }
+
+    /// Returns the sizes of a set of tags.
+    #[must_use]
+    pub fn show(&self, kind: Kind) -> Sizes {
+        self.lend(|hand| hand.show(kind))
+    }
+
+    /// Returns the counts of completions and of waiters.
+    #[must_use]
+    pub fn wakes(&self) -> Counts {
+        self.lend(Hand::wakes)
+    }
+}
+
+// No call below runs code of the program's with the lock, such as a waker.
+impl<T> Lends for SharedHand<T> {
+    type Value = T;
+
+    fn lend<R>(&self, call: impl FnOnce(&Hand<T>) -> R) -> R {
+        let hand = self.inner.hand.lock();
+        call(&hand.unwrap_or_else(PoisonError::into_inner))
+    }
+
+    fn listeners(&self) -> &Listeners {
+        &self.shared().listeners
+    }
+}
+
+impl<T> Clone for SharedHand<T> {
+    fn clone(&self) -> SharedHand<T> {
+        SharedHand {
+            inner: Arc::clone(&self.inner),
+        }
+    }
+}
+
+impl<T> From<Hand<T>> for SharedHand<T> {
+    fn from(hand: Hand<T>) -> SharedHand<T> {
+        SharedHand::new(hand)
+    }
+}
+
+impl<T> fmt::Debug for SharedHand<T> {
+    fn fmt(&self, f: &mut fmt::Formatter<'_>) -> fmt::Result {
+        f.debug_struct("SharedHand").finish_non_exhaustive()
+    }
+}

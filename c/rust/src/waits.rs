@@ -1,0 +1,151 @@
+//! Waiting for a tag: asleep, as a future, or by other means.
+use crate::error::{number, Error, Result};
+use crate::future::GetAsync;
+use crate::hand::Hand;
+use crate::options::Kind;
+use crate::raw;
+use crate::tag::Tag;
+use std::fmt;
+use std::time::Duration;
+
+/// The status of a get whose deadline has passed.
+const TIMED_OUT: i32 = -31;
+
+impl<T> Hand<T> {
+    /// Takes a free ordinary tag, and sleeps while there is none. A thread must not sleep while it holds the tags that
+    /// the others wait for. That a sleeper is woken is tested, not proved. While a [`Wait`] or a future of this hand waits, a
+    /// get that would sleep is refused with [`Waiting`](Error::Waiting).
+    pub fn get_blocking(&self) -> Result<Tag<'_, T>> {
+        // SAFETY: as of `raw`, and the bell is only accessed by atomic operations.
+        let answer = unsafe { raw::tags_get_blocking(self.raw(), self.shared.bell.as_ptr()) };
+        Ok(Tag::new(self, number(answer)?))
+    }
+
+    /// Takes a free ordinary tag, and sleeps up to this long while there is none. `None` means that the time is up; if
+    /// it is 0, this is a try.
+    ///
+    /// ```
+    /// # use std::time::Duration;
+    /// # use tags::{Options, Pool};
+    /// # fn main() -> tags::Result<()> {
+    /// let pool = Pool::open(&Options::new(1, 2))?;
+    /// let (first, second) = (pool.join()?, pool.join()?);
+    /// let tag = first.get_timeout(Duration::ZERO)?;
+    /// assert!(tag.is_some() && second.get_timeout(Duration::from_millis(5))?.is_none());
+    /// # Ok(())
+    /// # }
+    /// ```
+    pub fn get_timeout(&self, time: Duration) -> Result<Option<Tag<'_, T>>> {
+        let Some(end) = raw::deadline(time) else {
+            return self.get_blocking().map(Some);
+        };
+        let bell = self.shared.bell.as_ptr();
+        // SAFETY: as of `raw`, and the bell is only accessed by atomic operations.
+        match unsafe { raw::tags_get_timed(self.raw(), bell, raw::CLOCK_MONOTONIC, &end) } {
+            TIMED_OUT => Ok(None),
+            answer => Ok(Some(Tag::new(self, number(answer)?))),
+        }
+    }
+
+    /// Takes a free ordinary tag, and while there is none, waits without a thread: the future is woken when a hand of this
+    /// crate gives a tag back. Dropping it ends the wait. It names no runtime, and any number of futures of one hand may
+    /// wait at once. While a [`Wait`] of this hand is there, one that would wait is refused with
+    /// [`Waiting`](Error::Waiting).
+    ///
+    /// ```
+    /// # use std::future::Future;
+    /// # use std::pin::pin;
+    /// # use std::task::{Context, Poll, Waker};
+    /// # use tags::{Options, Pool};
+    /// # fn poll<T>(future: impl Future<Output = T>) -> Option<T> {
+    /// #     match pin!(future).poll(&mut Context::from_waker(&std::sync::Arc::new(Nobody).into())) {
+    /// #         Poll::Ready(value) => Some(value),
+    /// #         Poll::Pending => None,
+    /// #     }
+    /// # }
+    /// # struct Nobody;
+    /// # impl std::task::Wake for Nobody { fn wake(self: std::sync::Arc<Self>) {} }
+    /// # fn main() -> tags::Result<()> {
+    /// let pool = Pool::open(&Options::new(1, 1))?;
+    /// let hand = pool.join()?;
+    /// let number = async { Ok::<_, tags::Error>(hand.get_async().await?.number()) };
+    /// assert_eq!(poll(number), Some(Ok(0)));
+    /// # Ok(())
+    /// # }
+    /// ```
+    pub fn get_async(&self) -> GetAsync<'_, T> {
+        GetAsync::new(self)
+    }
+
+    /// Enters a wait group, for callers that sleep by other means. Try a get once more before you sleep.
+    ///
+    /// ```
+    /// # use tags::{Error, Options, Pool};
+    /// # fn main() -> tags::Result<()> {
+    /// let pool = Pool::open(&Options::new(1, 2))?;
+    /// let (first, second) = (pool.join()?, pool.join()?);
+    /// let tag = first.get_blocking()?;
+    /// let wait = second.prepare()?;
+    /// assert_eq!(second.prepare().unwrap_err(), Error::Waiting);
+    /// drop(tag);
+    /// assert!(wait.finish());
+    /// # Ok(())
+    /// # }
+    /// ```
+    pub fn prepare(&self) -> Result<Wait<'_, T>> {
+        self.enter_group()?;
+        Ok(Wait { hand: self })
+    }
+
+    fn enter_group(&self) -> Result<()> {
+        // SAFETY: as of `raw`.
+        number(unsafe { raw::tags_library_prepare(self.raw()) })?;
+        Ok(())
+    }
+
+    /// Counts a future that begins to wait. A pool without ordinary tags is refused, since it would wait for ever.
+    pub(crate) fn begin_wait(&self) -> Result<()> {
+        if self.show(Kind::Ordinary).depth == 0 {
+            return Err(Error::NoSuchTag);
+        }
+        if self.waiting.get() == 0 {
+            self.enter_group()?;
+        }
+        self.waiting.set(self.waiting.get() + 1);
+        Ok(())
+    }
+
+    pub(crate) fn end_wait(&self) {
+        self.waiting.set(self.waiting.get() - 1);
+        if self.waiting.get() == 0 {
+            self.leave_group();
+        }
+    }
+}
+
+/// A hand in a wait group, which it leaves when this is dropped.
+#[must_use = "the hand leaves the group at once"]
+pub struct Wait<'a, T = ()> {
+    hand: &'a Hand<T>,
+}
+
+impl<T> Wait<'_, T> {
+    /// Leaves the group. Returns whether the group had been granted a wakeup, which this call uses up.
+    pub fn finish(self) -> bool {
+        let hand = self.hand;
+        std::mem::forget(self);
+        hand.leave_group()
+    }
+}
+
+impl<T> Drop for Wait<'_, T> {
+    fn drop(&mut self) {
+        self.hand.leave_group();
+    }
+}
+
+impl<T> fmt::Debug for Wait<'_, T> {
+    fn fmt(&self, f: &mut fmt::Formatter<'_>) -> fmt::Result {
+        f.debug_struct("Wait").finish_non_exhaustive()
+    }
+}
