@@ -123,9 +123,16 @@ def make_tarball(processor, proved, work):
     tarball(folder, f"{DIST}/{name}.tar.gz")
 
 
+def can_compile(processor):
+    """Whether its compiler is here, with the headers of a C library."""
+    command = [processor.tool("gcc"), "-fsyntax-only", "-x", "c", "-"]
+    asked = {"input": "#include <stdlib.h>\n", "text": True, "stderr": subprocess.DEVNULL, "check": False}
+    return bool(shutil.which(command[0])) and subprocess.run(command, **asked).returncode == 0
+
+
 def make_library(processor, work):
-    if not shutil.which(processor.tool("gcc")):
-        say(f"there is no {processor.tool('gcc')} here, so {processor.name} is left out")
+    if not can_compile(processor):
+        say(f"there is no {processor.tool('gcc')} with a C library here, so {processor.name} is left out")
         return
     proved = proved_text("tag_c", processor, build(processor))
     make_packages(processor, proved, work)
