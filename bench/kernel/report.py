@@ -2,8 +2,8 @@
 
 A figure is the median over the repetitions. Times are a thread's processor time, which a machine that is busy with something
 else changes little. A ratio is to the kernel's time with hints apart in the same repetition; less is better. The last columns are
-a ratio by the clock, and the nanoseconds that an operation over tag_queue takes more than one over the map alone, and one
-through C more than one over tag_queue, in the same repetition, with hints apart. A second table has how many times as long one of
+a ratio by the clock, and the nanoseconds that an operation over `Queue` takes more than one over the map alone, and one
+through C more than one over `Queue`, in the same repetition, with hints apart. A second table has how many times as long one of
 several threads takes as one alone, hints apart; by the clock too, where what is above the processor time is time that the machine
 did not give to the threads. That table and the plot are of one depth, and left out where it was not measured."""
 import json
@@ -19,20 +19,27 @@ OWN_SLOTS = ("tag_c, own slots", "apart")
 LIMIT = ("limit", None)
 REGISTERS = ("registers", None)
 COLUMNS = [
-    ("tag_bench", OURS),
-    ("tag_bench, from 0", ("tag_bench", "from 0")),
-    ("tag_queue", QUEUE),
-    ("tag_queue, from 0", ("tag_queue", "from 0")),
-    ("tag_c", THROUGH_C),
-    ("tag_c, from 0", ("tag_c", "from 0")),
-    ("tag_c, own slots", OWN_SLOTS),
+    ("map", OURS),
+    ("map, from 0", ("tag_bench", "from 0")),
+    ("`Queue`", QUEUE),
+    ("`Queue`, from 0", ("tag_queue", "from 0")),
+    ("`tag_c`", THROUGH_C),
+    ("`tag_c`, from 0", ("tag_c", "from 0")),
+    ("`tag_c`, own slots", OWN_SLOTS),
     ("kernel, from 0", ("kernel", "from 0")),
-    ("queue", ("queue", None)),
+    ("queue of tags", ("queue", None)),
     ("locked list", ("locked list", None)),
     ("limit", LIMIT),
 ]
 # Of which contenders the second table says how much longer a thread takes while others run.
-SCALING = [REGISTERS, LIMIT, KERNEL, OURS, QUEUE, THROUGH_C]
+SCALING = [
+    ("registers", REGISTERS),
+    ("limit", LIMIT),
+    ("kernel", KERNEL),
+    ("map", OURS),
+    ("`Queue`", QUEUE),
+    ("`tag_c`", THROUGH_C),
+]
 # What the plot has: its panels, and of each contender its name and colour.
 PLOTTED_DEPTH = 1024
 PANELS = [
@@ -41,10 +48,10 @@ PANELS = [
     ("full", "all tags held"),
 ]
 LINES = [
-    (OURS, "tag_bench", "#0b6e4f"),
-    (QUEUE, "tag_queue", "#55b391"),
+    (OURS, "map", "#0b6e4f"),
+    (QUEUE, "Queue", "#55b391"),
     (KERNEL, "kernel", "#b3261e"),
-    (("queue", None), "queue", "#3b5ba5"),
+    (("queue", None), "queue of tags", "#3b5ba5"),
     (("locked list", None), "locked list", "#8a6d1d"),
     (LIMIT, "limit", "#777777"),
 ]
@@ -86,8 +93,8 @@ def median(case, who):
 
 def print_table(figures):
     head = ["workload", "depth", "threads", "kernel, ns"]
-    head += [title for title, _ in COLUMNS] + ["tag_bench, clock"]
-    head += ["tag_queue over tag_bench, ns", "tag_c over tag_queue, ns"]
+    head += [title for title, _ in COLUMNS] + ["map, clock"]
+    head += ["`Queue` over map, ns", "`tag_c` over `Queue`, ns"]
     print("| " + " | ".join(head) + " |")
     print("|" + "---|" * len(head))
     for (workload, depth, threads), case in figures.items():
@@ -113,7 +120,7 @@ def print_scaling(figures):
     for what, time in (("processor", "processor"), ("ns", "clock")):
         for workload in ("pair", "ring"):
             for threads in (2, 4):
-                ratios = [slowdown(figures, workload, who, threads, what) for who in SCALING]
+                ratios = [slowdown(figures, workload, who, threads, what) for _, who in SCALING]
                 cells = ["" if value is None else f"{value:.2f}" for value in ratios]
                 print(f"| {time} | {workload} | {threads} | " + " | ".join(cells) + " |")
 
@@ -197,7 +204,7 @@ def draw_legend(y):
     for _, name, colour in LINES:
         out.append(f'<path d="M{x} {y - 4}h22" stroke="{colour}" stroke-width="2"/>')
         out.append(text(x + 28, y, name))
-        x += 54 + 7 * len(name)
+        x += 62 + 7 * len(name)
     return out
 
 
