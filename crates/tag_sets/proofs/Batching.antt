@@ -43,7 +43,7 @@ module _ {R : Type 0} (tags : Tags R) (hand : Hand R) (own : IsHandOf tags hand)
   at_place k d l = ap (λ (xs : List ℕ). get_or xs k d + reserved_of tags) is
       ∙ number_at (reserved_of tags) list above k d d (let same = same_count in omega arith)
 
-  counts_there : CountsTags list → queue_batches.CountsTags named
+  pub counts_there : CountsTags list → queue_batches.CountsTags named
   counts_there h = let low = h.0 in let high = h.1 in let same = same_count in (omega arith, omega arith)
 
   counts_back : queue_batches.CountsTags named → CountsTags list
@@ -70,7 +70,7 @@ module _ {R : Type 0} (tags : Tags R) (hand : Hand R) (own : IsHandOf tags hand)
       subst (λ (k : Kind). queue.Holds (agent_of hand k) (number_in_set (split_of hand) tag)) (sym o.kind)
       (subst (λ (m : ℕ). queue.Holds hand.ordinary m) (omega (arith, split)) h)
 
-  held_there : AreHeldOnce hand list → queue_batches.AreHeldOnce (queue.caller_of hand.ordinary) named
+  pub held_there : AreHeldOnce hand list → queue_batches.AreHeldOnce (queue.caller_of hand.ordinary) named
   held_there h = let same = same_count in (
     λ k d l. holds_there (get_or list k d) (get_or named k d) (at_place k d l) (h.0 k d (omega arith)),
     λ j k d less l e. let a = at_place j d (omega arith) in let b = at_place k d l in
@@ -89,7 +89,7 @@ module _ {R : Type 0} (tags : Tags R) (hand : Hand R) (own : IsHandOf tags hand)
       → queue_batches.AreTags (layout_of tags Ordinary) named
   are_tags h k d l = subst (λ (s : Shape). get_or named k d < s.layout.depth) own.1.0.1 (h.0 k d l).0
 
-  gives_back : (agent : Agent R) → queue_batches.GivesBack (layout_of tags Ordinary) named hand.ordinary agent
+  pub gives_back : (agent : Agent R) → queue_batches.GivesBack (layout_of tags Ordinary) named hand.ordinary agent
       → GivesBack tags list hand (record hand { ordinary = agent })
   gives_back agent g = let new = record hand { ordinary = agent } in
       let numbers = numbers_of (reserved_of tags) list in
