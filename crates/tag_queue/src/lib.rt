@@ -4,6 +4,7 @@
 
 mod agent;
 mod batches;
+mod checks;
 mod clears;
 mod counts;
 mod fault;

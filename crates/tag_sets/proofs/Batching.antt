@@ -102,22 +102,21 @@ module _ {R : Type 0} (tags : Tags R) (hand : Hand R) (own : IsHandOf tags hand)
         set = record { changed = given; other = refl; split = refl };
       }
 
-  -- what is said of the tags by a result that tells of their numbers
-  pub record Answers {A : Type 0} (agent : Agent R) (r : Result A TagFault) : Type 0 where
+  -- what is said of the tags by a refusal that tells of their numbers
+  pub record Refusals {A : Type 0} (r : Result A TagFault) : Type 0 where
     pub no_such_tag : (r ≡ Err NoSuchTag) ↔ (CountsTags list × ¬ (AreOrdinary tags list))
     pub not_held : (r ≡ Err NotHeld) ↔ (CountsTags list × AreOrdinary tags list × ¬ (AreHeldOnce hand list))
     pub succeeds : IsOk r ↔ (CountsTags list × AreOrdinary tags list × AreHeldOnce hand list)
-    pub gives : OnOk r (GivesBack tags list hand (record hand { ordinary = agent }))
 
   -- a condition on the numbers holds exactly if the same condition on the tags does
-  pub answered : {A : Type 0} (agent : Agent R) (r : Result A TagFault)
+  pub refused : {A : Type 0} (r : Result A TagFault)
       → (r ≡ Err NoSuchTag)
       ↔ (queue_batches.CountsTags named × ¬ (queue_batches.AreTags (layout_of tags Ordinary) named))
       → (r ≡ Err NotHeld) ↔ (queue_batches.CountsTags named × queue_batches.AreTags (layout_of tags Ordinary) named
       × ¬ (queue_batches.AreHeldOnce (queue.caller_of hand.ordinary) named))
       → IsOk r ↔ (queue_batches.CountsTags named × queue_batches.AreHeldOnce (queue.caller_of hand.ordinary) named)
-      → OnOk r (queue_batches.GivesBack (layout_of tags Ordinary) named hand.ordinary agent) → Answers agent r
-  answered agent r none not_held ok gives = record {
+      → Refusals r
+  refused r none not_held ok = record {
     no_such_tag = (
       λ e. let h = none.0 e in (counts_back h.0, λ o. h.1 (tags_there o)),
       λ h. none.1 (counts_there h.0, λ t. h.1 (tags_back t)),
@@ -130,5 +129,26 @@ module _ {R : Type 0} (tags : Tags R) (hand : Hand R) (own : IsHandOf tags hand)
       λ e. let h = ok.0 e in (counts_back h.0, tags_back (are_tags h.1), held_back h.1),
       λ h. ok.1 (counts_there h.0, held_there h.2),
     );
+  }
+
+  -- what is said of the tags by a result that tells of their numbers
+  pub record Answers {A : Type 0} (agent : Agent R) (r : Result A TagFault) : Type 0 where
+    pub no_such_tag : (r ≡ Err NoSuchTag) ↔ (CountsTags list × ¬ (AreOrdinary tags list))
+    pub not_held : (r ≡ Err NotHeld) ↔ (CountsTags list × AreOrdinary tags list × ¬ (AreHeldOnce hand list))
+    pub succeeds : IsOk r ↔ (CountsTags list × AreOrdinary tags list × AreHeldOnce hand list)
+    pub gives : OnOk r (GivesBack tags list hand (record hand { ordinary = agent }))
+
+  -- the same of a call that gives them back
+  pub answered : {A : Type 0} (agent : Agent R) (r : Result A TagFault)
+      → (r ≡ Err NoSuchTag)
+      ↔ (queue_batches.CountsTags named × ¬ (queue_batches.AreTags (layout_of tags Ordinary) named))
+      → (r ≡ Err NotHeld) ↔ (queue_batches.CountsTags named × queue_batches.AreTags (layout_of tags Ordinary) named
+      × ¬ (queue_batches.AreHeldOnce (queue.caller_of hand.ordinary) named))
+      → IsOk r ↔ (queue_batches.CountsTags named × queue_batches.AreHeldOnce (queue.caller_of hand.ordinary) named)
+      → OnOk r (queue_batches.GivesBack (layout_of tags Ordinary) named hand.ordinary agent) → Answers agent r
+  answered agent r none not_held ok gives = let told = refused r none not_held ok in record {
+    no_such_tag = told.no_such_tag;
+    not_held = told.not_held;
+    succeeds = told.succeeds;
     gives = on_ok_weaker r (gives_back agent) gives;
   }

@@ -4,6 +4,7 @@
 
 mod batches;
 mod busy;
+mod checks;
 mod clears;
 mod counts;
 mod dump;
