@@ -13,3 +13,4 @@ pub mod Using
 pub mod Shells
 pub mod Resizing
 pub mod Placing
+pub mod Tallies
