@@ -9,6 +9,7 @@ mod fault;
 mod gather;
 mod gets;
 mod looks;
+mod masks;
 mod meets;
 mod missing;
 mod next_map;
