@@ -3,6 +3,7 @@ pub mod Gets
 pub mod Holding
 pub mod Clears
 pub mod Batches
+pub mod Masks
 pub mod Slots
 pub mod Waits
 pub mod Blocking

@@ -14,6 +14,7 @@ mod gets;
 mod held;
 mod lists;
 mod looks;
+mod masks;
 mod meets;
 mod missing;
 mod next_map;
