@@ -31,5 +31,8 @@ pub use gather::{QueueGatherFault, QueueTotals};
 pub use queue::{Options, Queue};
 pub use resizes::{ResizeCause, ResizeFault};
 pub use step_ledger::{GatherCause, Numbered};
+pub use tag_layout::{MAX_DEPTH, MAX_SHIFT};
+pub use tag_model::{MAX_CALLERS, MOST_WON};
 pub use uses::Usage;
 pub use waits::Wakes;
+pub use wake_book::MAX_CAP;
