@@ -39,5 +39,8 @@ pub use lists::{are_below, are_distinct};
 pub use queue::{Options, Queue};
 pub use resizes::{ResizeCause, ResizeFault};
 pub use step_ledger::{GatherCause, Numbered};
+pub use tag_layout::{MAX_DEPTH, MAX_SHIFT};
+pub use tag_model::{MAX_CALLERS, MOST_WON};
 pub use uses::Usage;
 pub use waits::Wakes;
+pub use wake_book::MAX_CAP;

@@ -40,7 +40,10 @@ pub use kind::Kind;
 pub use resizes::TagsResizeFault;
 pub use shown::Shown;
 pub use step_ledger::{GatherCause, Numbered};
-pub use tag_queue::{Options, QueueTotals, ResizeCause, SetFault, TagFault, Wakes};
+pub use tag_queue::{
+    MAX_CALLERS, MAX_CAP, MAX_DEPTH, MAX_SHIFT, MOST_WON, Options, QueueTotals, ResizeCause,
+    SetFault, TagFault, Wakes,
+};
 pub use tags::Tags;
 pub use texts::{write_dump, write_show};
 pub use wake_book::{Grants, Left};
