@@ -12,3 +12,4 @@ pub mod Using
 pub mod Shells
 pub mod Resizing
 pub mod Placing
+pub mod Tallies

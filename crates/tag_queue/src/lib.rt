@@ -4,10 +4,13 @@
 
 mod agent;
 mod batches;
+mod checks;
 mod clears;
+mod counts;
 mod fault;
 mod gather;
 mod gets;
+mod held;
 mod looks;
 mod meets;
 mod missing;
@@ -21,6 +24,7 @@ mod resizes;
 mod shells;
 mod silent;
 mod slots;
+mod stands;
 mod together;
 mod uses;
 mod waits;

@@ -4,11 +4,15 @@
 
 mod batches;
 mod busy;
+mod checks;
 mod clears;
+mod counts;
 mod dump;
+mod finds;
 mod gather;
 mod gets;
 mod hand;
+mod held;
 mod holds;
 mod kind;
 mod looks;
@@ -24,6 +28,7 @@ mod shown;
 mod shows;
 mod silent;
 mod slots;
+mod stands;
 mod tags;
 mod texts;
 mod twins;
