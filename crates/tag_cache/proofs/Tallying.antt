@@ -10,7 +10,7 @@ use Rattle.tag_queue.specs.declared.agent.Agent.{Agent}
 use Rattle.tag_queue.specs.Agents as queue
 use Rattle.tag_queue.specs.Clears as queue_clears
 use Rattle.tag_queue.specs.Gets as queue_gets
-use Rattle.tag_queue.specs.Waits as queue_waits
+use Rattle.tag_queue.specs.Blocking as queue_blocking
 use Rattle.tag_queue.specs.Tallies as queue_tallies
 use Rattle.tag_sets.specs.declared.hand.Hand.{Hand}
 use Rattle.tag_sets.specs.declared.kind.Kind.{Kind}
@@ -105,7 +105,7 @@ module _ {R : Type 0} where
 
   -- searches that found no tag won none
   none_found : (tries : ℕ) (l : Layout) (a : Caller R) (before : Hint) (b : Caller R) (after : Hint)
-      → queue_waits.FindNone tries l a before b after
+      → queue_blocking.FindNone tries l a before b after
       → ((record_of b).won ≡ (record_of a).won) × ((record_of b).back ≡ (record_of a).back)
   none_found zero l a before b after n = (
     ap (λ (x : Caller R). (record_of x).won) n.0,
@@ -115,7 +115,7 @@ module _ {R : Type 0} where
       let w = rest.0 in let k = rest.1 in let won = n.3.gains.count in let back = n.3.gains.back in
       (omega arith, omega arith)
 
-  blocking_agent : (l : Layout) (number : ℕ) (a b : Agent R) → queue_waits.BlockingGets l number a b
+  blocking_agent : (l : Layout) (number : ℕ) (a b : Agent R) → queue_blocking.BlockingGets l number a b
       → MovesAgent 1 0 a b
   blocking_agent l number a b g =
       let none = none_found g.tries l (queue.caller_of a) (queue.hint_of a) g.caller g.hint g.none in
