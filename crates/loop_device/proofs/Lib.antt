@@ -7,6 +7,7 @@ pub mod LogWords
 pub mod LogFacts
 pub mod QueueMoves
 pub mod Completing
+pub mod Served
 pub mod Promising
 pub mod Crossing
 pub mod Blaming

@@ -9,5 +9,6 @@ pub mod LogProgress
 pub mod Logs
 pub mod Playing
 pub mod Requests
+pub mod Completing
 pub mod Setups
 pub mod Verdict

@@ -3,6 +3,7 @@ ghost use Rattle.std.specs.Prelude.{◌≡◌, ◌<◌, ◌↔◌, ◌⊎◌, tr
 ghost use Rattle.crossbeam_queue.specs.Passes.{view, IsPassOf};
 ghost use Rattle.tag_sets.specs.Hands.{IsHandOf, total_of};
 ghost use Rattle.loop_device.specs.Playing.{IsClean};
+ghost use Rattle.loop_device.specs.Completing.{CompletesPopped};
 
 use crate::device_queue::{Closing, DeviceQueue, Drained, Popped, Tagged, Worker, pop, push};
 use crate::fault::PlayFault;
@@ -86,10 +87,12 @@ pub(crate) fn complete_all<B: Tagged, G: Gate, W: Wait>(
     shared: &Shared<'_, B, G>,
     mut hand: Hand<u64>,
     mut pass: Pass<u32, Worker>,
-) -> (Worked, Drained)
+) -> (Worked, Drained, Pass<u32, Worker>)
     requires hand { IsHandOf shared.now.tags.now hand }
     requires pass { IsPassOf shared.now.queue.now pass }
     ensures hand { IsHandOf shared.now.tags.now result.0.hand }
+    ensures completed { CompletesPopped shared.now.tags.now shared.now.log.now.ios.items
+        (view pass) (view result.2) hand result.0.hand }
     ensures drained { result.1.closing.seen ≡ true }
 {
     let mut faults = Faults::none();
@@ -110,7 +113,7 @@ pub(crate) fn complete_all<B: Tagged, G: Gate, W: Wait>(
                 faults.note(done);
             }
             Popped::Empty => thread::yield_now(),
-            Popped::Last(drained) => return (Worked { hand, faults }, drained),
+            Popped::Last(drained) => return (Worked { hand, faults }, drained, pass),
         }
     }
     unreachable!()

@@ -154,6 +154,10 @@ pub within_as : (l : Layout) (w w' m m' : ℕ) → w' ≡ w → m' ≡ m → IsW
 within_as l w w' m m' f g h = subst (λ (x : ℕ). IsWithin l x m') (sym f) (subst (λ (x : ℕ). IsWithin l w x) (sym g) h)
 
 -- the value of a test selects the case that holds
+pub match_bool : (A B : Type 0) (b : Bool) → (b ≡ true → A) → (b ≡ false → B) → MatchBool b A B
+match_bool A B true f g = f refl
+match_bool A B false f g = g refl
+
 pub if_true : (A B : Type 0) (b : Bool) → b ≡ true → MatchBool b A B → A
 if_true A B true e h = h
 if_true A B false e h = absurd (false≢true e)

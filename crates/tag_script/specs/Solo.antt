@@ -11,6 +11,7 @@ use Rattle.tag_search.specs.Search.{Visit}
 use Rattle.tag_search.specs.Visits.{shallow_visits}
 use Rattle.tag_search.specs.Pool.{Pool, is_busy, set_aside}
 use Rattle.tag_search.specs.Choice.{IsChoice, IsBatchChoice}
+use Rattle.tag_queue.specs.Batches.{NamesTwice}
 use Rattle.tag_queue.specs.declared.fault.TagFault.{TagFault}
 use Rattle.tag_queue.specs.declared.fault.TagFault.TheVariants.{NoSuchTag, NotHeld, BadCount, TooShallow}
 
@@ -130,10 +131,6 @@ give_back tags w = record w {
   hint = record w.hint { at = if w.hint.round_robin then w.hint.at else slice_index tags (length tags - 1) };
   back = w.back + length tags;
 }
-
--- the list has the same tag at two indexes
-abbrev pub NamesTwice : List ℕ → Type 0
-NamesTwice tags = (i j : ℕ) × (i < j) × (j < length tags) × (slice_index tags i ≡ slice_index tags j)
 
 -- a clear of a list of 1 to 64 distinct held tags in range; any other list is refused
 pub data ClearsBatch (tags : List ℕ) (w : Solo) : Result (Unit {0}) TagFault → Solo → Type 0 where

@@ -3,36 +3,25 @@ ghost use Rattle.std.specs.Prelude.{◌≡◌, ◌≢◌, ◌<◌, ◌≤◌, �
 ghost use Rattle.std.specs.List.{All, AllPairs, Any};
 ghost use Rattle.tag_search.specs.Plain.{plain_words, is_busy_tag};
 ghost use Rattle.tag_search.specs.Pool.{pool_of};
-ghost use Rattle.tag_script.specs.Solo.{freed, NamesTwice};
+ghost use Rattle.tag_queue.specs.Batches.{NamesTwice};
+ghost use Rattle.tag_script.specs.Solo.{freed};
 
+use tag_queue::are_distinct;
 use tag_search::{PlainPort, Port};
 
-/// Returns whether each number of the list is below the depth.
-pub(crate) fn are_below(tags: &[u32], depth: u32) -> bool
-    ensures { MatchBool result (All (λ tag. tag < depth) tags.now) (Any (λ tag. depth ≤ tag) tags.now) }
-{
-    for tag in tags {
-        if *tag >= depth {
-            return false;
-        }
-    }
-    true
-}
-
 /// Returns whether each tag of the list is held, and the tags are distinct.
-/// Each tag is compared with those before it: at most 2,016 comparisons for 64 tags.
 pub(crate) fn are_held_once(port: &PlainPort, tags: &[u32]) -> bool
     requires { All (λ tag. tag < port.now.layout.depth) tags.now }
     ensures { let held = is_busy_tag port.now in MatchBool result
         (All (λ tag. held tag ≡ true) tags.now × AllPairs (λ a b. a ≢ b) tags.now)
         (Any (λ tag. held tag ≡ false) tags.now ⊎ NamesTwice tags.now) }
 {
-    for i in 0..tags.len() {
-        if !port.taken(tags[i]) || tags[..i].contains(&tags[i]) {
+    for tag in tags {
+        if !port.taken(*tag) {
             return false;
         }
     }
-    true
+    are_distinct(tags)
 }
 
 /// Frees the tags of the list. Neighbours in the list that are in the same word take one step.

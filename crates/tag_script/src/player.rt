@@ -6,9 +6,10 @@ ghost use Rattle.tag_script.specs.Commands.{get_visits, shown_of};
 ghost use Rattle.tag_script.specs.Dump.{is_held_tag};
 ghost use Rattle.tag_script.specs.Players.{solo_of, IsReadyFor, Counted};
 
-use crate::clearing::{are_below, are_held_once, give_all};
+use crate::clearing::{are_held_once, give_all};
 use std::alloc::{AllocError, Global};
 use tag_layout::Layout;
+use tag_queue::are_below;
 use tag_search::{Hint, PlainPort, Port, after_clear};
 use tag_sets::{Shown, TagFault};
 

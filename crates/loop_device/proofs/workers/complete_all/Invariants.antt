@@ -1,8 +1,14 @@
--- Hand and pass stay those of the play.
-use Rattle.crossbeam_queue.specs.Passes.{IsPassOf}
+-- Hand and pass stay those of the play, and the numbers popped so far are served.
+use Rattle.crossbeam_queue.specs.Passes.{IsPassOf, view}
 use Rattle.tag_sets.specs.Hands.{IsHandOf}
+use Rattle.loop_device.specs.Completing.{CompletesPopped}
 use Rattle.loop_device.proofs.workers.complete_all.Given as goal
 
 abbrev pub invariant-loop : goal.invariant-loop
-invariant-loop g l = (goal.iterator-loop g).can_next l.iterator' × (goal.iterator-loop g).is_finite l.iterator'
-    × IsHandOf l.shared.tags.now l.hand × IsPassOf l.shared.queue.now l.pass
+invariant-loop g l = record {
+  turns : (goal.iterator-loop g).can_next l.iterator' × (goal.iterator-loop g).is_finite l.iterator';
+  hand : IsHandOf l.shared.tags.now l.hand;
+  pass : IsPassOf l.shared.queue.now l.pass;
+  served : CompletesPopped l.shared.tags.now l.shared.log.now.ios.items (view l.initial.pass) (view l.pass)
+      l.initial.hand l.hand;
+}

@@ -23,7 +23,7 @@ returns-then-not-are_below c =
     let tags = c.args.tags.now in let some : 0 < length c.args.tags.now = search rules in
     let depth = c.depth.ensures.value ∙ ap (λ (l : Layout). l.depth) c.layout.ensures.value in
     let which : Any (λ (tag : ℕ). c.depth.result ≤ tag) tags =
-    if_false _ _ c.are_below.result c.if-not-are_below.true c.are_below.ensures in
+    c.are_below.ensures.beyond.0 c.if-not-are_below.true in
     no_such_tag (omega (arith, some)) (omega (arith, c.if-tags-gt-MAX_LIST.false))
     (subst (λ (d : ℕ). Any (λ (tag : ℕ). d ≤ tag) tags) depth which)
 
@@ -32,7 +32,7 @@ returns-then-not-are_held_once c =
     let tags = c.args.tags.now in let some : 0 < length c.args.tags.now = search rules in
     let depth = c.depth.ensures.value ∙ ap (λ (l : Layout). l.depth) c.layout.ensures.value in
     let below : All (λ (tag : ℕ). tag < c.depth.result) tags =
-    if_true _ _ c.are_below.result c.if-not-are_below.false c.are_below.ensures in
+    c.are_below.ensures.below.0 c.if-not-are_below.false in
     not_held (omega (arith, some)) (omega (arith, c.if-tags-gt-MAX_LIST.false))
     (subst (λ (d : ℕ). All (λ (tag : ℕ). tag < d) tags) depth below)
     (if_false _ _ c.are_held_once.result c.if-not-are_held_once.true c.are_held_once.ensures)
@@ -43,7 +43,7 @@ returns c =
     let some : 0 < length c.args.tags.now = search rules in let q = c.give_all.new.port in
     let depth = c.depth.ensures.value ∙ ap (λ (l : Layout). l.depth) c.layout.ensures.value in
     let below : All (λ (tag : ℕ). tag < c.depth.result) tags =
-    if_true _ _ c.are_below.result c.if-not-are_below.false c.are_below.ensures in
+    c.are_below.ensures.below.0 c.if-not-are_below.false in
     let held = if_true _ _ c.are_held_once.result c.if-not-are_held_once.false c.are_held_once.ensures in
     let hint : c.after_clear.new.hint ≡ record c.args.self.now.hint {
       at = if c.args.self.now.hint.round_robin then c.args.self.now.hint.at else get_or tags (length tags - 1) 0;
