@@ -308,14 +308,12 @@ impl Hand {
         self.shared.listeners.tell(1);
     }
 
-    /// Gives held ordinary tags back together, and wakes as many threads.
-    pub(crate) fn clear_batch(&self, numbers: &[u32]) {
+    /// Gives the held ordinary tags of a mask back together, and wakes as many threads.
+    pub(crate) fn clear_run(&self, first: u32, mask: u64) {
         let bell = self.shared.bell.as_ptr();
-        // SAFETY: as of `raw`, the length is that of the slice, and the bell is only accessed by atomic operations.
-        Hand::expect(unsafe {
-            raw::tags_give_batch(self.raw(), bell, numbers.as_ptr(), numbers.len())
-        });
-        self.shared.listeners.tell(numbers.len());
+        // SAFETY: as of `raw`, and the bell is only accessed by atomic operations.
+        Hand::expect(unsafe { raw::tags_give_run(self.raw(), bell, first, mask) });
+        self.shared.listeners.tell(mask.count_ones() as usize);
     }
 
     pub(crate) fn read(&self, number: u32) -> u64 {

@@ -2,9 +2,6 @@
 use crate::hand::Hand;
 use std::mem::forget;
 
-/// The most tags of a word.
-const MOST: usize = 64;
-
 /// A tag that a hand holds. It is given back when it is dropped.
 #[derive(Debug)]
 #[must_use = "the tag goes back at once"]
@@ -118,12 +115,6 @@ impl<'a> Batch<'a> {
 
 impl Drop for Batch<'_> {
     fn drop(&mut self) {
-        let mut list = [0; MOST];
-        let mut count = 0;
-        for number in self.numbers() {
-            list[count] = number;
-            count += 1;
-        }
-        self.hand.clear_batch(&list[..count]);
+        self.hand.clear_run(self.first, self.won);
     }
 }
