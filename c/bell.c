@@ -148,3 +148,17 @@ int32_t tags_give_batch(struct tags_hand *hand, struct tags_bell *bell, const ui
 		ring_for(bell, &grants, (int32_t)count);
 	return woken;
 }
+
+int32_t tags_give_run(struct tags_hand *hand, struct tags_bell *bell, uint32_t first,
+		      uint64_t mask)
+{
+	struct tags_grants grants;
+	int32_t woken;
+
+	if (!hand || !bell)
+		return TAGS_NULL;
+	woken = tags_clear_run_granted(hand, first, mask, &grants);
+	if (woken >= 0)
+		ring_for(bell, &grants, __builtin_popcountll(mask));
+	return woken;
+}

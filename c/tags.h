@@ -324,6 +324,9 @@ int32_t tags_library_clear_granted(struct tags_hand *hand, uint32_t tag,
 				   struct tags_grants *grants);
 int32_t tags_library_clear_batch_granted(struct tags_hand *hand, const uint32_t *tags,
 					 size_t count, struct tags_grants *grants);
+int32_t tags_library_clear_run(struct tags_hand *hand, uint32_t first, uint64_t mask);
+int32_t tags_library_clear_run_granted(struct tags_hand *hand, uint32_t first, uint64_t mask,
+				       struct tags_grants *grants);
 int32_t tags_library_get_write(struct tags_hand *hand, uint64_t value);
 int32_t tags_library_read_clear(struct tags_hand *hand, uint32_t tag, uint64_t *value);
 int32_t tags_library_read(struct tags_hand *hand, uint32_t tag, uint64_t *value);
@@ -415,6 +418,18 @@ static inline void tags_lost_all(const uint32_t *tags, size_t count)
 #else
 	(void)tags;
 	(void)count;
+#endif
+}
+
+static inline void tags_lost_run(uint32_t first, uint64_t mask)
+{
+#if defined TAGS_SANITIZED || defined TAGS_LIBRARY
+	for (uint32_t i = 0; first < TAGS_MAX_TOTAL && i < 64; i++)
+		if (mask >> i & 1)
+			tags_lost(first + i);
+#else
+	(void)first;
+	(void)mask;
 #endif
 }
 
@@ -745,6 +760,50 @@ TAGS_CALL int32_t tags_clear_batch_granted(struct tags_hand *hand, const uint32_
 	return tags_library_clear_batch_granted(hand, tags, count, grants);
 }
 
+/**
+ * tags_clear_run() - give the ordinary tags of a mask back
+ * @hand: the hand that holds them
+ * @first: the tag of bit 0, as tags_get_batch() returned it
+ * @mask: bit i is 1 if the tag @first + i is given back
+ *
+ * It does what tags_clear_batch() does with these tags in ascending order, but tests
+ * and gives back all tags of a word in one step each. Any tags may be in the mask,
+ * from one batch or not. Tag @first itself need not be: it may be reserved.
+ *
+ * Return: as tags_clear(). Otherwise the first of TAGS_BAD_HANDLE, TAGS_BAD_COUNT
+ * for an empty mask, TAGS_NO_SUCH_TAG and TAGS_NOT_HELD that applies to any tag of
+ * the mask; then no tag is given back.
+ *
+ * Since: 0.2
+ */
+TAGS_CALL int32_t tags_clear_run(struct tags_hand *hand, uint32_t first, uint64_t mask)
+{
+	if (!hand)
+		return TAGS_NULL;
+	tags_lost_run(first, mask);
+	return tags_library_clear_run(hand, first, mask);
+}
+
+/**
+ * tags_clear_run_granted() - give the ordinary tags of a mask back, and report whom that woke
+ * @hand: the hand that holds them
+ * @first: the tag of bit 0
+ * @mask: bit i is 1 if the tag @first + i is given back
+ * @grants: filled in with how many waiters were granted a wakeup, in each group
+ *
+ * Return: as tags_clear_run().
+ *
+ * Since: 0.2
+ */
+TAGS_CALL int32_t tags_clear_run_granted(struct tags_hand *hand, uint32_t first, uint64_t mask,
+					 struct tags_grants *grants)
+{
+	if (!hand || !grants)
+		return TAGS_NULL;
+	tags_lost_run(first, mask);
+	return tags_library_clear_run_granted(hand, first, mask, grants);
+}
+
 /*
  * Using slots, and passing tags from hand to hand
  */
@@ -1003,6 +1062,20 @@ int32_t tags_give(struct tags_hand *hand, struct tags_bell *bell, uint32_t tag);
  */
 int32_t tags_give_batch(struct tags_hand *hand, struct tags_bell *bell, const uint32_t *tags,
 			size_t count);
+
+/**
+ * tags_give_run() - give the ordinary tags of a mask back, and wake as many threads
+ * @hand: the hand that holds the tags
+ * @bell: the pool's bell
+ * @first: the tag of bit 0
+ * @mask: bit i is 1 if the tag @first + i is given back
+ *
+ * Return: as tags_clear_run().
+ *
+ * Since: 0.2
+ */
+int32_t tags_give_run(struct tags_hand *hand, struct tags_bell *bell, uint32_t first,
+		      uint64_t mask);
 
 /**
  * tags_ring() - wake threads that sleep, as many as there are tags

@@ -43,7 +43,7 @@ unsafe extern "C" {
     fn tags_library_get(hand: *mut Handle) -> i32;
     fn tags_library_get_batch(hand: *mut Handle, n: u32, won: *mut u64) -> i32;
     fn tags_library_clear(hand: *mut Handle, tag: u32) -> i32;
-    fn tags_library_clear_batch(hand: *mut Handle, tags: *const u32, count: usize) -> i32;
+    fn tags_library_clear_run(hand: *mut Handle, first: u32, mask: u64) -> i32;
     fn tags_library_write(hand: *mut Handle, tag: u32, value: u64, former: *mut u64) -> i32;
     fn tags_library_post(hand: *mut Handle, tag: u32) -> i32;
     fn tags_library_take(hand: *mut Handle, tag: u32) -> i32;
@@ -95,8 +95,8 @@ impl<K> TagC<K> {
     }
 }
 
-/// A hand of one thread for one run.
-pub struct Hand(Handle);
+/// A hand of one thread for one run, and the batch that it got last: its first tag, and the mask of those won.
+pub struct Hand(Handle, u32, u64);
 
 impl Drop for Hand {
     fn drop(&mut self) {
@@ -134,7 +134,7 @@ impl<K: Keeping> Tags for TagC<K> {
         // SAFETY: the lock keeps the pool's handle to this call.
         let status = unsafe { tags_library_join(&mut *self.pool(), &mut hand, self.flags) };
         assert_eq!(status, 0, "there is no hand for this thread");
-        Hand(hand)
+        Hand(hand, 0, 0)
     }
 
     #[inline]
@@ -171,6 +171,7 @@ impl<K: Keeping> Tags for TagC<K> {
         let mut won = 0;
         // SAFETY: as of `drop`.
         let first = unsafe { tags_library_get_batch(&mut hand.0, BATCH as u32, &mut won) };
+        (hand.1, hand.2) = (first as u32, won);
         let mut count = 0;
         while first >= 0 && won != 0 {
             tags[count] = first as u32 + won.trailing_zeros();
@@ -181,9 +182,9 @@ impl<K: Keeping> Tags for TagC<K> {
     }
 
     #[inline]
-    fn clear_batch(&self, hand: &mut Hand, tags: &[u32]) {
-        // SAFETY: as of `drop`, and the slice has so many tags.
-        unsafe { tags_library_clear_batch(&mut hand.0, tags.as_ptr(), tags.len()) };
+    fn clear_batch(&self, hand: &mut Hand, _tags: &[u32]) {
+        // SAFETY: as of `drop`.
+        unsafe { tags_library_clear_run(&mut hand.0, hand.1, hand.2) };
     }
 
     fn close(self) {

@@ -450,6 +450,38 @@ static void try_clear_batch(void)
 	compare_filled("clear_batch_granted", &found, &wanted, sizeof(found));
 }
 
+/* A mask of some of the tags that the hand holds, and now and then of one that it may not hold. */
+static uint64_t mask_held(uint32_t at, uint32_t first)
+{
+	uint64_t mask = 0;
+
+	for (uint32_t bit = 0; bit < 64; bit++)
+		if (model_holds(&models[at], first + bit) == 1 && !seldom(6))
+			mask |= UINT64_C(1) << bit;
+	if (seldom(8))
+		mask |= UINT64_C(1) << below(64);
+	return mask;
+}
+
+static void try_clear_run(void)
+{
+	struct tags_grants found = { 5, { 5 } };
+	struct tags_grants wanted = { 5, { 5 } };
+	uint32_t at = hand_handle();
+	uint32_t first = any_tag(at);
+	uint64_t mask = mask_held(at, first);
+
+	if (seldom(2)) {
+		compare("clear_run", tags_clear_run(&handles[at].hand, first, mask),
+			model_clear_run(&models[at], first, mask));
+		return;
+	}
+	compare("clear_run_granted",
+		tags_clear_run_granted(&handles[at].hand, first, mask, &found),
+		model_clear_run_granted(&models[at], first, mask, &wanted));
+	compare_filled("clear_run_granted", &found, &wanted, sizeof(found));
+}
+
 /*
  * Slots
  */
@@ -771,12 +803,12 @@ static const struct {
 	{ try_clear_granted, 1 }, { try_read_clear, 1 },   { try_get_write, 1 },
 	{ try_give, 2 },	  { try_get_timed, 1 },	   { try_get_blocking, 1 },
 	{ try_get_async, 3 },	  { try_cancel, 1 },	   { try_set_event, 1 },
-	{ try_event, 1 },
+	{ try_event, 1 },	  { try_clear_run, 1 },
 };
 
 static void try_any(void)
 {
-	uint32_t turn = below(44);
+	uint32_t turn = below(45);
 	size_t at = 0;
 
 	while (turn >= tries[at].turns)

@@ -102,6 +102,24 @@ int32_t model_clear_batch(struct model *hand, const uint32_t *tags, size_t n)
 	return count(hand->pool, (uint32_t)n);
 }
 
+/* Lists the tags of a mask, and returns how many they are. A number past all tags stands for what would wrap. */
+static size_t list_run(uint32_t first, uint64_t mask, uint32_t *tags)
+{
+	size_t n = 0;
+
+	for (uint32_t bit = 0; bit < 64; bit++)
+		if (mask >> bit & 1)
+			tags[n++] = first > UINT32_MAX - bit ? UINT32_MAX : first + bit;
+	return n;
+}
+
+int32_t model_clear_run(struct model *hand, uint32_t first, uint64_t mask)
+{
+	uint32_t tags[TAGS_MAX_BATCH];
+
+	return model_clear_batch(hand, tags, list_run(first, mask, tags));
+}
+
 /* What a clear added to the grants of each group. */
 static void fill_grants(const struct model *hand, const uint32_t *before, struct tags_grants *grants)
 {
@@ -137,6 +155,14 @@ int32_t model_clear_batch_granted(struct model *hand, const uint32_t *tags, size
 	if (woken >= 0)
 		fill_grants(hand, before, grants);
 	return woken;
+}
+
+int32_t model_clear_run_granted(struct model *hand, uint32_t first, uint64_t mask,
+				struct tags_grants *grants)
+{
+	uint32_t tags[TAGS_MAX_BATCH];
+
+	return model_clear_batch_granted(hand, tags, list_run(first, mask, tags), grants);
 }
 
 int32_t model_get_write(struct model *hand, uint64_t value)

@@ -84,6 +84,11 @@ static void refuse_null(struct tags_pool *pool, struct tags_hand *hand)
 	WANT(tags_give_batch(NULL, &bell, &tag, 1), -28);
 	WANT(tags_give_batch(hand, NULL, &tag, 1), -28);
 	WANT(tags_give_batch(hand, &bell, NULL, 1), -28);
+	WANT(tags_clear_run(NULL, 2, 1), -28);
+	WANT(tags_clear_run_granted(NULL, 2, 1, &grants), -28);
+	WANT(tags_clear_run_granted(hand, 2, 1, NULL), -28);
+	WANT(tags_give_run(NULL, &bell, 2, 1), -28);
+	WANT(tags_give_run(hand, NULL, 2, 1), -28);
 	WANT(tags_clear_granted(NULL, 2, &grants), -28);
 	WANT(tags_clear_granted(hand, 2, NULL), -28);
 	WANT(tags_clear_batch_granted(NULL, &tag, 1, &grants), -28);
@@ -158,6 +163,8 @@ static void refuse_handle(struct tags_hand *hand)
 	WANT(tags_get_write(hand, 1), -12);
 	WANT(tags_read_clear(hand, tag, &value), -12);
 	WANT(tags_clear_batch(hand, &tag, 1), -12);
+	WANT(tags_clear_run(hand, tag, 1), -12);
+	WANT(tags_clear_run_granted(hand, tag, 1, &grants), -12);
 	WANT(tags_read(hand, tag, &value), -12);
 	WANT(tags_write(hand, tag, 1, &value), -12);
 	WANT(tags_post(hand, tag), -12);
@@ -261,8 +268,14 @@ static void refuse_counts(struct tags_hand *hand)
 	WANT(tags_clear_batch(hand, list, 3), -3);
 	list[1] = 1;
 	WANT(tags_clear_batch(hand, list, 2), -1);
-	list[1] = 3;
-	WANT(tags_clear_batch(hand, list, 2), 0);
+	WANT(tags_clear_run(hand, 2, 0), -5);
+	WANT(tags_clear_run(hand, 1, 3), -1);
+	WANT(tags_clear_run(hand, 2, UINT64_MAX), -1);
+	WANT(tags_clear_run(hand, UINT32_MAX, UINT64_MAX), -1);
+	WANT(tags_clear_run(hand, 2, 7), -3);
+	WANT(tags_clear_run(hand, 0, 4), 0);
+	list[0] = 3;
+	WANT(tags_clear_batch(hand, list, 1), 0);
 }
 
 static void refuse_sizes(struct tags_hand *hand)

@@ -67,6 +67,11 @@ static void run_through_all_calls(void)
 	WANT(grants.in_group[0], 1);
 	WANT(grants.in_group[1], 0);
 	WANT(tags_finish(&other), 1);
+	WANT(tags_get_batch(&hand, 3, &won), 3);
+	WANT(won, 3);
+	WANT(tags_clear_run(&hand, 3, 1), 0);
+	WANT(tags_clear_run_granted(&hand, 3, 2, &grants), 0);
+	WANT(grants.woken, 0);
 	WANT(tags_read_clear(&other, 2, &value), 0);
 	WANT(value, 70);
 	WANT(tags_busy(&hand, &bits, 1), 2);
@@ -81,8 +86,8 @@ static void run_through_all_calls(void)
 	WANT(tags_close(&pool, &sums), TAGS_HANDS_OUT);
 	WANT(tags_leave(&other), TAGS_OK);
 	WANT(tags_close(&pool, &sums), TAGS_OK);
-	WANT(sums.got, 5);
-	WANT(sums.back, 3);
+	WANT(sums.got, 7);
+	WANT(sums.back, 5);
 	WANT(sums.held, 2);
 	WANT(sums.posted, 0);
 	WANT(tags_close(&pool, &sums), TAGS_BAD_HANDLE);

@@ -92,13 +92,11 @@ impl<T> Hand<T> {
         Self::expect(unsafe { raw::tags_give(self.raw(), self.shared.bell.as_ptr(), number) });
     }
 
-    /// Gives held ordinary tags back together, and wakes as many threads. The caller tells the listeners.
-    pub(crate) fn give_batch(&self, numbers: &[u32]) {
+    /// Gives the held ordinary tags of a mask back together, and wakes as many threads. The caller tells the listeners.
+    pub(crate) fn give_run(&self, first: u32, mask: u64) {
         let bell = self.shared.bell.as_ptr();
-        // SAFETY: as of `raw`, the length is that of the slice, and the bell is only accessed by atomic operations.
-        Self::expect(unsafe {
-            raw::tags_give_batch(self.raw(), bell, numbers.as_ptr(), numbers.len())
-        });
+        // SAFETY: as of `raw`, and the bell is only accessed by atomic operations.
+        Self::expect(unsafe { raw::tags_give_run(self.raw(), bell, first, mask) });
     }
 
     pub(crate) fn read(&self, number: u32) -> u64 {

@@ -97,12 +97,7 @@ unsafe extern "C" {
         end: *const Timespec,
     ) -> i32;
     pub fn tags_give(hand: *mut Handle, bell: *mut Bell, tag: u32) -> i32;
-    pub fn tags_give_batch(
-        hand: *mut Handle,
-        bell: *mut Bell,
-        tags: *const u32,
-        count: usize,
-    ) -> i32;
+    pub fn tags_give_run(hand: *mut Handle, bell: *mut Bell, first: u32, mask: u64) -> i32;
     fn clock_gettime(clock: i32, now: *mut Timespec) -> i32;
     pub fn tags_library_prepare(hand: *mut Handle) -> i32;
     pub fn tags_library_finish(hand: *mut Handle) -> i32;

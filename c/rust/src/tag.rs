@@ -3,9 +3,6 @@ use crate::hand::Hand;
 use std::fmt;
 use std::mem::forget;
 
-/// The most tags of a word.
-const MOST: usize = 64;
-
 /// A tag that a hand holds. It is given back when it is dropped.
 ///
 /// ```compile_fail
@@ -158,14 +155,8 @@ impl<'a, T> Batch<'a, T> {
 
 impl<T> Drop for Batch<'_, T> {
     fn drop(&mut self) {
-        let mut list = [0; MOST];
-        let mut count = 0;
-        for number in self.numbers() {
-            list[count] = number;
-            count += 1;
-        }
-        self.hand.give_batch(&list[..count]);
-        self.hand.listeners().tell(count);
+        self.hand.give_run(self.first, self.won);
+        self.hand.listeners().tell(self.won.count_ones() as usize);
     }
 }
 

@@ -2,6 +2,7 @@ pub mod Sharing
 pub mod Codes
 pub mod Pools
 pub mod Calls
+pub mod Masks
 pub mod Grants
 pub mod Pairs
 pub mod Views

@@ -23,7 +23,7 @@ pub struct Granted {
 
 /// Fills in the grants of the answer and returns its number. For an error `granted` keeps its value.
 #[inline]
-fn fill(answer: Result<Grants, TagFault>, granted: &mut Granted) -> i32
+pub(crate) fn fill(answer: Result<Grants, TagFault>, granted: &mut Granted) -> i32
     ensures code { result ≡ code_of_grants answer }
     ensures fills { Fills granted.new answer }
     ensures kept { IsRefusal result → granted.new ≡ granted.old }

@@ -10,6 +10,7 @@ mod handle;
 mod hidden;
 mod looks;
 mod loose;
+mod masks;
 mod member;
 mod object;
 mod options;

@@ -18,6 +18,8 @@ pub(crate) enum Call {
     ClearUncounted(u32),
     /// A batch clear of two tags.
     ClearBoth(u32, u32),
+    /// A clear of the tags of a mask, of which bit 0 is this one.
+    ClearMask(u32, u64),
     Read(u32),
     Write(u32, u64),
     Post(u32),
@@ -55,6 +57,9 @@ pub(crate) fn act<T: Shared, W: Wait>(
         Call::ClearUncounted(tag) => answered(tags.clear_uncounted(caller, tag).map(Answer::Woken)),
         Call::ClearBoth(one, other) => {
             answered(tags.clear_batch(caller, &[one, other]).map(Answer::Woken))
+        }
+        Call::ClearMask(first, mask) => {
+            answered(tags.clear_mask(caller, first, mask).map(Answer::Woken))
         }
         Call::Read(tag) => answered(tags.read(caller, tag).map(Answer::Value)),
         Call::Write(tag, new) => answered(tags.write(caller, tag, new).map(Answer::Value)),

@@ -8,6 +8,7 @@ mod example;
 mod faults;
 mod gathering;
 mod gets;
+mod masks;
 mod memory;
 mod opening;
 mod resizing;
@@ -75,6 +76,10 @@ impl Shared for Queue<u64> {
 
     fn clear_batch(&self, agent: &mut Agent<u64>, tags: &[u32]) -> Result<u32, TagFault> {
         Queue::clear_batch(self, agent, tags)
+    }
+
+    fn clear_mask(&self, agent: &mut Agent<u64>, first: u32, mask: u64) -> Result<u32, TagFault> {
+        Queue::clear_mask(self, agent, first, mask)
     }
 
     fn read(&self, agent: &mut Agent<u64>, tag: u32) -> Result<u64, TagFault> {

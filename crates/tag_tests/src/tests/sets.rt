@@ -8,6 +8,7 @@ mod example;
 mod excerpts;
 mod gathering;
 mod gets;
+mod masks;
 mod memory;
 mod opening;
 mod outputs;
@@ -98,6 +99,10 @@ impl Shared for Sets {
 
     fn clear_batch(&self, hand: &mut Hand<u64>, tags: &[u32]) -> Result<u32, TagFault> {
         self.tags.clear_batch(hand, tags)
+    }
+
+    fn clear_mask(&self, hand: &mut Hand<u64>, first: u32, mask: u64) -> Result<u32, TagFault> {
+        self.tags.clear_mask(hand, first, mask)
     }
 
     fn read(&self, hand: &mut Hand<u64>, tag: u32) -> Result<u64, TagFault> {

@@ -67,6 +67,10 @@ pub(crate) trait Shared: Drop {
         requires { is_own self.now caller.old }
         ensures { is_own self.now caller.new };
 
+    fn clear_mask(&self, caller: &mut Self::Caller, first: u32, mask: u64) -> Result<u32, TagFault>
+        requires { is_own self.now caller.old }
+        ensures { is_own self.now caller.new };
+
     fn read(&self, caller: &mut Self::Caller, tag: u32) -> Result<u64, TagFault>
         requires { is_own self.now caller.old }
         ensures { is_own self.now caller.new };

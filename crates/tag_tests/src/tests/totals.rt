@@ -6,12 +6,9 @@ use wake_book::{BookTotals, GroupTotals};
 /// The initial value of each slot.
 pub(crate) const FILL: u64 = 9;
 
-/// Options for one caller, with words of the default size, and the highest life and cap.
-const FOR_ONE: Options = Options::new(1);
-
-/// The same for this many callers.
+/// The default options for this many callers.
 pub(crate) fn options(callers: u32) -> Options {
-    Options { callers, ..FOR_ONE }
+    Options::new(callers)
 }
 
 /// Options with words of `2^shift` tags, and the highest life and cap.

@@ -1,0 +1,27 @@
+-- What a clear of a mask of tags through the handle of a hand does.
+use Rattle.std.specs.Prelude.{◌≡◌, ℕ, ◌≤◌, ◌↔◌, count_ones, All, Result, Err, IfOk, IsOk, OnOk, OnErr}
+use Rattle.wake_book.specs.declared.grants.Grants.{Grants}
+use Rattle.wake_book.specs.Grants.{AreGrantsOf}
+use Rattle.tag_queue.specs.declared.fault.TagFault.{TagFault}
+use Rattle.tag_queue.specs.declared.fault.TagFault.TheVariants.{NoSuchTag, NotHeld, BadCount}
+use Rattle.tag_queue.specs.Masks.{tags_in}
+use Rattle.tag_sets.specs.declared.hand.Hand.{Hand}
+use Rattle.tag_sets.specs.declared.kind.Kind.TheVariants.{Ordinary}
+use Rattle.tag_sets.specs.declared.tags.Tags.{Tags}
+use Rattle.tag_sets.specs.Hands.{Holds, group_steps}
+use Rattle.tag_sets.specs.Clears.{Counts}
+use Rattle.tag_sets.specs.Batches.{AreOrdinary, GivesBack}
+
+-- gives back the tags of a mask, and answers how many waiters it granted a wakeup in each group
+pub record DoesClearMask (first mask : ℕ) (tags : Tags ℕ) (answer : Result Grants TagFault) (old new : Hand ℕ) : Type 0
+  where
+    pub bad_count : (answer ≡ Err BadCount) ↔ (mask ≡ 0)
+    pub no_such_tag : (answer ≡ Err NoSuchTag) ↔ ¬ (AreOrdinary tags (tags_in first mask))
+    pub not_held : (answer ≡ Err NotHeld)
+        ↔ (AreOrdinary tags (tags_in first mask) × ¬ (All (Holds old) (tags_in first mask)))
+    pub succeeds : IsOk answer
+        ↔ ((1 ≤ mask) × AreOrdinary tags (tags_in first mask) × All (Holds old) (tags_in first mask))
+    pub gives : OnOk answer (GivesBack tags (tags_in first mask) old new)
+    pub counts : IfOk answer (λ grants. Counts tags Ordinary (count_ones mask) old new grants.woken)
+    pub grants : IfOk answer (λ grants. AreGrantsOf grants (group_steps old) (group_steps new))
+    pub err : OnErr answer (new ≡ old)
