@@ -1,5 +1,5 @@
 //! Calls that the callers of a stage make one after another.
-use crate::tests::answers::{Answer, answered, batch, busy, counts, dumped, shown, tag};
+use crate::tests::answers::{Answer, answered, batch, busy, counts, dumped, kept, shown, tag};
 use crate::tests::shared::Shared;
 use crate::tests::stage::Stage;
 use std::sync::Wait;
@@ -18,6 +18,9 @@ pub(crate) enum Call {
     ClearUncounted(u32),
     /// A batch clear of two tags.
     ClearBoth(u32, u32),
+    Flush,
+    /// Asks what is kept.
+    Kept,
     Read(u32),
     Write(u32, u64),
     Post(u32),
@@ -56,6 +59,8 @@ pub(crate) fn act<T: Shared, W: Wait>(
         Call::ClearBoth(one, other) => {
             answered(tags.clear_batch(caller, &[one, other]).map(Answer::Woken))
         }
+        Call::Flush => Answer::Woken(tags.flush(caller)),
+        Call::Kept => kept(tags.kept(caller)),
         Call::Read(tag) => answered(tags.read(caller, tag).map(Answer::Value)),
         Call::Write(tag, new) => answered(tags.write(caller, tag, new).map(Answer::Value)),
         Call::Post(tag) => answered(tags.post(caller, tag).map(|()| Answer::Done)),

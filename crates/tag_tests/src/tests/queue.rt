@@ -15,7 +15,7 @@ mod slots;
 mod stages;
 mod waits;
 
-use crate::tests::shared::Shared;
+use crate::tests::shared::{Kept, Shared};
 use std::alloc::Global;
 use std::sync::Wait;
 use step_ledger::{GatherCause, Numbered};
@@ -75,6 +75,14 @@ impl Shared for Queue<u64> {
 
     fn clear_batch(&self, agent: &mut Agent<u64>, tags: &[u32]) -> Result<u32, TagFault> {
         Queue::clear_batch(self, agent, tags)
+    }
+
+    fn flush(&self, _agent: &mut Agent<u64>) -> u32 {
+        0
+    }
+
+    fn kept(&self, _agent: &Agent<u64>) -> Option<Kept> {
+        None
     }
 
     fn read(&self, agent: &mut Agent<u64>, tag: u32) -> Result<u64, TagFault> {

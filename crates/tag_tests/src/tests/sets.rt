@@ -15,7 +15,7 @@ mod resizing;
 mod slots;
 mod stages;
 
-use crate::tests::shared::Shared;
+use crate::tests::shared::{Kept, Shared};
 use std::alloc::Global;
 use std::sync::Wait;
 use std::test::Fail;
@@ -98,6 +98,14 @@ impl Shared for Sets {
 
     fn clear_batch(&self, hand: &mut Hand<u64>, tags: &[u32]) -> Result<u32, TagFault> {
         self.tags.clear_batch(hand, tags)
+    }
+
+    fn flush(&self, _hand: &mut Hand<u64>) -> u32 {
+        0
+    }
+
+    fn kept(&self, _hand: &Hand<u64>) -> Option<Kept> {
+        None
     }
 
     fn read(&self, hand: &mut Hand<u64>, tag: u32) -> Result<u64, TagFault> {

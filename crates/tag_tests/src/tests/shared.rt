@@ -9,6 +9,16 @@ use tag_queue::{QueueTotals, ResizeCause, TagFault, Wakes};
 use tag_sets::{Kind, Shown};
 use wake_book::Left;
 
+/// What a caller's cache keeps and has counted.
+#[derive(Clone, Copy)]
+pub(crate) struct Kept {
+    /// Tags that are kept.
+    pub(crate) count: u32,
+    pub(crate) handed_out: u64,
+    pub(crate) taken_back: u64,
+    pub(crate) reused: u64,
+}
+
 /// Tags that callers share, each through a handle of its own: an agent of a queue, or a hand of tag sets.
 pub(crate) trait Shared: Drop {
     /// The handle of one caller.
@@ -66,6 +76,14 @@ pub(crate) trait Shared: Drop {
     fn clear_batch(&self, caller: &mut Self::Caller, tags: &[u32]) -> Result<u32, TagFault>
         requires { is_own self.now caller.old }
         ensures { is_own self.now caller.new };
+
+    /// Gives back what the caller keeps, and returns how many waiters this woke. A caller without a cache keeps nothing.
+    fn flush(&self, caller: &mut Self::Caller) -> u32
+        requires { is_own self.now caller.old }
+        ensures { is_own self.now caller.new };
+
+    /// Returns what the caller's cache keeps, or `None` if it has no cache.
+    fn kept(&self, caller: &Self::Caller) -> Option<Kept>;
 
     fn read(&self, caller: &mut Self::Caller, tag: u32) -> Result<u64, TagFault>
         requires { is_own self.now caller.old }
