@@ -72,7 +72,7 @@ folders() {
 # Fills in one of the files that say where the library is.
 filled() {
   sed -e "s|@PREFIX@|$prefix|" -e "s|@LIBDIR@|$libdir|" -e "s|@VERSION@|$(version)|" \
-    -e "s|@INCLUDE@|$(realpath -m --relative-to="$libdir/cmake/tags" "$prefix/include")|" "$1"
+    -e "s|@INCLUDE@|$(realpath -ms --relative-to="$libdir/cmake/tags" "$prefix/include")|" "$1"
 }
 
 put() {

@@ -4,7 +4,8 @@ tagplay for x86-64.
 
 The same sources and tools give the same bytes: the date of all files is SOURCE_DATE_EPOCH, or that of the last commit. ARM is left
 out where gcc-aarch64-linux-gnu is not installed. `--of amd64` or `--of arm64` makes those of one processor alone, and
-`--only library` or `--only tagplay` one of the two.
+`--only library` or `--only tagplay` one of the two. `--as-built` packs the program that `rt ci` has just left, which is compiled for
+x86-64-v2: a test, and nothing to pass on. DIST names another folder than dist/, and OUT another one for what is compiled.
 """
 import argparse
 import hashlib
@@ -20,18 +21,18 @@ sys.dont_write_bytecode = True
 import manual  # noqa: E402
 import tagplay  # noqa: E402
 from packing import (  # noqa: E402
-    C, DIST, HERE, PROCESSORS, copy, fields_of, least_libc, package, packed, proved_text, put_documents, ran, read, say, set_date,
-    tarball, version, write,
+    C, DIST, HERE, OUT, PROCESSORS, copy, debian, fields_of, least_libc, package, packed, proved_text, put_documents, ran, read, say,
+    set_date, tarball, version, write,
 )
 
 SONAME = "libtags.so.0"
 
 
 def build(processor):
-    """Proves and compiles the library for a processor: its verdict."""
+    """Builds the library for a processor: its verdict."""
     archive = f"{processor.made}/libtag_c.a"
-    say(f"{processor.name}: proving and compiling tag_c, which takes a minute over crates that are proved, and half an hour else")
-    subprocess.run([f"{HERE}/cross.py", "tag_c", processor.triple, processor.cpu, archive], check=True, stdout=sys.stderr)
+    say(f"{processor.name}: compiling tag_c; what is not proved yet is proved first, which takes half an hour in a fresh clone")
+    subprocess.run([f"{HERE}/build_for.py", "tag_c", processor.triple, processor.cpu, archive], check=True, stdout=sys.stderr)
     known = {**os.environ, "TAG_C": archive, "OUT": f"{processor.made}/out", "CROSS_COMPILE": processor.tools}
     subprocess.run([f"{C}/library.sh", "build"], check=True, env=known)
     library = f"{processor.made}/out/libtags.so"
@@ -99,7 +100,7 @@ def make_packages(processor, proved, work):
         dev, processor,
         fields_of(
             "libtags-dev", "pool of tags that threads share without a lock (development)", more, Section="libdevel",
-            Depends=f"libtags0 (= {version()}), libc6-dev", Suggests="pkg-config, cmake", **same,
+            Depends=f"libtags0 (= {debian(version())}), libc6-dev", Suggests="pkg-config, cmake", **same,
         ),
         {},
     )
@@ -121,9 +122,16 @@ def make_tarball(processor, proved, work):
     tarball(folder, f"{DIST}/{name}.tar.gz")
 
 
+def can_compile(processor):
+    """Whether its compiler is here, with the headers of a C library."""
+    command = [processor.tool("gcc"), "-fsyntax-only", "-x", "c", "-"]
+    asked = {"input": "#include <stdlib.h>\n", "text": True, "stderr": subprocess.DEVNULL, "check": False}
+    return bool(shutil.which(command[0])) and subprocess.run(command, **asked).returncode == 0
+
+
 def make_library(processor, work):
-    if not shutil.which(processor.tool("gcc")):
-        say(f"there is no {processor.tool('gcc')} here, so {processor.name} is left out")
+    if not can_compile(processor):
+        say(f"there is no {processor.tool('gcc')} with a C library here, so {processor.name} is left out")
         return
     proved = proved_text("tag_c", processor, build(processor))
     make_packages(processor, proved, work)
@@ -134,22 +142,31 @@ def wanted():
     read_words = argparse.ArgumentParser(description=__doc__, formatter_class=argparse.RawDescriptionHelpFormatter)
     read_words.add_argument("--of", choices=[it.name for it in PROCESSORS])
     read_words.add_argument("--only", choices=["library", "tagplay"])
+    read_words.add_argument("--as-built", action="store_true")
     return read_words.parse_args()
+
+
+def clear():
+    """Empties the folder for the packages, if it holds nothing else."""
+    found = os.listdir(DIST) if os.path.isdir(DIST) else []
+    if not all(it.endswith((".deb", ".tar.gz")) for it in found):
+        sys.exit(f"{DIST} holds other files than packages: name another folder")
+    shutil.rmtree(DIST, ignore_errors=True)
+    os.makedirs(DIST)
 
 
 def main():
     words = wanted()
     set_date()
-    shutil.rmtree(DIST, ignore_errors=True)
-    os.makedirs(DIST)
-    work = f"{C}/out/work"
+    clear()
+    work = f"{OUT}/work"
     for processor in PROCESSORS:
         if words.of in (None, processor.name) and words.only != "tagplay":
             shutil.rmtree(work, ignore_errors=True)
             make_library(processor, work)
     if words.of in (None, tagplay.PROCESSOR.name) and words.only != "library":
         shutil.rmtree(work, ignore_errors=True)
-        tagplay.make(work)
+        tagplay.make(work, words.as_built)
     shutil.rmtree(work, ignore_errors=True)
     for name in sorted(os.listdir(DIST)):
         with open(f"{DIST}/{name}", "rb") as opened:

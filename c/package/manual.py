@@ -7,10 +7,10 @@ What tags.h says of a call is the page: its summary, its parameters, its paragra
 import os
 import re
 import sys
-import textwrap
 import time
 
-HEADER = os.path.join(os.path.dirname(os.path.dirname(os.path.abspath(__file__))), "tags.h")
+C = os.path.dirname(os.path.dirname(os.path.abspath(__file__)))
+HEADER, EXAMPLE = f"{C}/tags.h", f"{C}/examples/quick_start.c"
 DOC = re.compile(r"^/\*\*\n \* (\w+)\(\) - (.*?)\n(.*?)^ \*/\n(.*?)(?:;|\n\{)", re.M | re.S)
 TYPE = re.compile(r"^/\*\* (enum|struct) (\w+) - (.*?) \*/\n\1 \2 \{\n(.*?)^\};", re.M | re.S)
 MEMBER = re.compile(r"/\*\*(.*?)\*/\s*([^;,/]+?)\s*[;,]?\s*$", re.M | re.S)
@@ -43,14 +43,23 @@ def paragraphs(text):
 
 
 def prototype(text):
-    """A prototype as a program sees it, without the words of the header's own macros."""
-    return re.sub(r"\s+", " ", re.sub(r"\bTAGS_(CALL|CHECKED|ANSWER)\b", "", text)).strip() + ";"
+    """The lines of a prototype as a program sees it, without the words of the header's own macros, wrapped between parameters."""
+    whole = re.sub(r"\s+", " ", re.sub(r"\bTAGS_(CALL|CHECKED|ANSWER)\b", "", text)).strip() + ";"
+    line = ""
+    for it in re.split(r"(?<=,) ", whole):
+        if line and len(line) + len(it) > 70:
+            yield line
+            line = f"    {it}"
+        else:
+            line = f"{line} {it}" if line else it
+    yield line
 
 
 def page_of_call(found, version, names):
     name, summary, text = found[1], found[2], unstarred(found[3])
     lines = [*head(name, version, summary), ".SH SYNOPSIS", ".nf", ".B #include <tags.h>", ".PP"]
-    lines += [f".B {it}".replace("-", "\\-") for it in textwrap.wrap(prototype(found[4]), 76, subsequent_indent="    ")]
+    for it in prototype(found[4]):
+        lines.append(re.sub(r"^( *)(.*)$", r"\1\\fB\2\\fR", it))
     lines += [".fi", ".SH DESCRIPTION"]
     sections, said = [], False
     for it in paragraphs(text):
@@ -67,8 +76,8 @@ def page_of_call(found, version, names):
         else:
             lines += [".PP", roff(it, name)]
             said = True
-    if not said:
-        lines += [".PP", f"\\fB{name}\\fR() is called to {roff(summary, name)}." if not summary.startswith("whether") else ""]
+    if not said and not summary.startswith("whether"):
+        lines += [".PP", f"\\fB{name}\\fR() is called to {roff(summary, name)}."]
     mentioned = sorted({it for it in re.findall(r"\btags_\w+(?=\()", text) if it in names and it != name})
     others = "".join(f",\n.BR {it} (3)" for it in mentioned)
     return "\n".join([*lines, *sections, ".SH SEE ALSO", f".BR tags (3){others}", ""]).replace("\n\n", "\n")
@@ -77,12 +86,12 @@ def page_of_call(found, version, names):
 def introduction(text):
     """The header's first comment: paragraphs, and parts under a word of their own."""
     comment = unstarred(re.match(r"/\*\n(.*?)\*/", text, re.S)[1])
-    for it in paragraphs(comment)[1:]:
+    for number, it in enumerate(paragraphs(comment)[1:]):
         first, _, rest = it.partition("\n")
         if rest.startswith("  ") and not first.startswith(" "):
             yield f".SS {first}"
             it = rest
-        else:
+        elif number:
             yield ".PP"
         yield roff(it)
 
@@ -91,6 +100,12 @@ def members(text):
     for comment, member in MEMBER.findall(text):
         name = re.sub(r"\s*=.*", "", member.strip())
         yield name, re.sub(r"^\s*@\w+:\s*", "", unstarred(comment).strip())
+
+
+def listing(text):
+    """A program as it stands."""
+    for line in text.rstrip("\n").replace("\t", "    ").split("\n"):
+        yield re.sub(r"^([.'])", r"\\&\1", line.replace("\\", "\\e").replace("-", "\\-").replace("'", "\\(aq"))
 
 
 def page_of_all(text, version, calls):
@@ -105,6 +120,8 @@ def page_of_all(text, version, calls):
         lines += [f".SH {title}" if title == "STATUSES" else f'.SH "{title.upper()}"', roff(summary[0].upper() + summary[1:]) + "."]
         for member, meaning in members(body):
             lines += [".TP", f".B {member}", roff(meaning)]
+    with open(EXAMPLE, encoding="utf-8") as file:
+        lines += [".SH EXAMPLES", ".nf", *listing(file.read()), ".fi"]
     return "\n".join([*lines, ".SH SEE ALSO", ",\n".join(f".BR {it[1]} (3)" for it in calls), ""])
 
 

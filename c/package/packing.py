@@ -1,4 +1,5 @@
 """How an archive and a Debian package are made of a folder, so that the same sources and tools give the same bytes."""
+import email.utils
 import gzip
 import hashlib
 import os
@@ -9,7 +10,9 @@ import sys
 HERE = os.path.dirname(os.path.abspath(__file__))
 C = os.path.dirname(HERE)
 ROOT = os.path.dirname(C)
-DIST = f"{C}/dist"
+# Where what is compiled lies, and where the packages go.
+OUT = os.path.abspath(os.environ.get("OUT") or f"{C}/out")
+DIST = os.path.abspath(os.environ.get("DIST") or f"{C}/dist")
 
 MAINTAINER = "The authors of Yalmosti <unset@example.invalid>"
 
@@ -21,7 +24,7 @@ class Processor:
         self.name, self.gnu, self.cpu = name, gnu, cpu
         self.triple = gnu.replace("-linux", "-unknown-linux")
         self.tools = "" if os.uname().machine == gnu.split("-")[0] else f"{gnu}-"
-        self.made = f"{C}/out/{name}"
+        self.made = f"{OUT}/{name}"
 
     def tool(self, name):
         return f"{self.tools}{name}"
@@ -31,6 +34,10 @@ PROCESSORS = [
     Processor("amd64", "x86_64-linux-gnu", "x86-64"),
     Processor("arm64", "aarch64-linux-gnu", "generic"),
 ]
+
+
+# What `rt` compiles for.
+AS_BUILT = Processor("amd64", "x86_64-linux-gnu", "x86-64-v2")
 
 
 def say(text):
@@ -64,6 +71,11 @@ def packed(text):
 
 def version():
     return ".".join(re.findall(r"^#define TAGS_VERSION_M\w+ (\d+)", read(f"{C}/tags.h"), re.M))
+
+
+def debian(of):
+    """The version of the first package of a version."""
+    return f"{of}-1"
 
 
 def commit():
@@ -109,7 +121,7 @@ def proved_text(crate, processor, verdict):
     {' '.join(crates_below(crate))}
 With:      {ran('rt', 'version').strip()}
 Of commit: {commit()}
-For:       {processor.triple}, cpu {processor.cpu}: every processor of this kind
+For:       {processor.triple}, cpu {processor.cpu}{": every processor of this kind" if processor in PROCESSORS else ""}
 Verdict:   {verdict.strip()}
 
 {of_c if crate == 'tag_c' else ''}A proof rests on the toolchain, on the C library of the system and on what the ported crates of the kit state.
@@ -152,8 +164,16 @@ def least_libc(processor, *files):
     return ".".join(map(str, max(found)))
 
 
+def changes(fields):
+    """The changelog of the packaging itself."""
+    date = email.utils.formatdate(int(os.environ["SOURCE_DATE_EPOCH"]))
+    head = f"{fields['Source']} ({fields['Version']}) unstable; urgency=medium"
+    return f"{head}\n\n  * Made of commit {commit()}.\n\n -- {MAINTAINER}  {date}\n"
+
+
 def package(folder, processor, fields, scripts):
     """Makes a .deb of a folder."""
+    write(f"{folder}/usr/share/doc/{fields['Package']}/changelog.Debian.gz", packed(changes(fields)))
     sums, size = [], 0
     for at, folders, files in os.walk(folder):
         folders.sort()
@@ -176,6 +196,6 @@ def package(folder, processor, fields, scripts):
 def fields_of(name, summary, text, **more):
     described = summary + "".join(f"\n {line}" if line else "\n ." for line in text.strip().split("\n"))
     return {
-        "Package": name, "Source": "yalmosti", "Version": version(), "Maintainer": MAINTAINER, "Priority": "optional",
+        "Package": name, "Source": "yalmosti", "Version": debian(version()), "Maintainer": MAINTAINER, "Priority": "optional",
         "Description": described, **more,
     }

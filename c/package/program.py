@@ -63,7 +63,16 @@ def helps_of(program):
 
 
 def roff(text):
-    return re.sub(r"^([.'])", r"\\&\1", text.replace("\\", "\\e").replace("-", "\\-").replace("'", "\\(aq"))
+    text = text.replace("\\", "\\e").replace("-", "\\-").replace("'", "\\(aq").replace("^", "\\(ha")
+    return re.sub(r"^\.", r"\\&.", text)
+
+
+def filled(lines):
+    """A text of which a line that ends a sentence is followed by another line, however wide the page is."""
+    for before, line in zip(["."] + lines, lines):
+        if before.endswith((".", ":")):
+            yield ".br"
+        yield roff(line)
 
 
 def rows(options):
@@ -93,10 +102,11 @@ def page(program, version, others):
     lines += [*(usage(it.usage) for it in each.values()), ".fi", ".SH DESCRIPTION", roff(own.summary) + "."]
     for name, it in each.items():
         lines += [f".SH {name.upper()}", usage(it.usage), ".PP", roff(it.summary) + ".", *rows(it.options)]
-        lines += [".PP", ".nf", *map(roff, it.rest), ".fi"] if it.rest else []
+        lines += [".PP", *list(filled(it.rest))[1:]] if it.rest else []
     lines += [".SH OPTIONS", *rows(own.options), ".SH EXAMPLES"]
     for text, command in EXAMPLES:
-        lines += [".PP", roff(text), ".PP", ".nf", f"    {roff(command)}", ".fi"]
+        lines += [roff(text), ".PP", ".nf", f"    {roff(command)}", ".fi", ".PP"]
+    lines.pop()
     lines += [".SH FILES", *(it for name, text in others.items() for it in (".TP", f".I {roff(name)}", roff(text)))]
     return "\n".join([*lines, ""])
 

@@ -1,16 +1,19 @@
 """Makes the archive and the Debian package of the program tagplay, for x86-64 alone: the kit links programs for no other processor."""
+import os
 import re
 import subprocess
 import sys
 
+import build_for
 import program
 from packing import (
-    DIST, HERE, PROCESSORS, ROOT, copy, fields_of, least_libc, package, packed, proved_text, put_documents, ran, read, say, tarball,
-    write,
+    AS_BUILT, DIST, HERE, PROCESSORS, ROOT, copy, debian, fields_of, least_libc, package, packed, proved_text, put_documents, ran,
+    read, say, tarball, write,
 )
 
 PROCESSOR = PROCESSORS[0]
 BUILT = f"{PROCESSOR.made}/tagplay"
+LEFT = f"{ROOT}/crates/tagplay/out/tagplay"
 ABOUT = """
 tagplay runs the proved tag allocator of Yalmosti from a command line: scripts
 of callers that share tags, lists of events, of which it decides whether they
@@ -25,10 +28,20 @@ FILES = {
 
 
 def build():
-    """Proves and compiles the program for every processor of the kind: its verdict."""
-    say("tagplay: proving and compiling it, which takes minutes over crates that are proved, and half an hour else")
-    subprocess.run([f"{HERE}/cross.py", "tagplay", PROCESSOR.triple, PROCESSOR.cpu, BUILT], check=True, stdout=sys.stderr)
+    """Builds the program for every processor of the kind: its verdict."""
+    say("tagplay: compiling it; what is not proved yet is proved first, which takes half an hour in a fresh clone")
+    subprocess.run([f"{HERE}/build_for.py", "tagplay", PROCESSOR.triple, PROCESSOR.cpu, BUILT], check=True, stdout=sys.stderr)
     return read(f"{BUILT}.verdict")
+
+
+def as_built():
+    """Says what the verdict on the program is that `rt` left, which has to be newer than all that it is made of."""
+    kit = build_for.kit()
+    crate = next(it for it in kit.crates_below(ROOT) if it.name == "tagplay")
+    sources = [f"{ROOT}/crates.txt", *(file for it in [crate, *crate.below()] for file in kit.files_of(it.folder))]
+    if not os.path.exists(LEFT) or os.path.getmtime(LEFT) < max(map(os.path.getmtime, sources)):
+        sys.exit(f"{LEFT} is not what rt makes of the files as they are: run rt ci")
+    return "rt proved it, and then left this program"
 
 
 def version_of(file):
@@ -40,12 +53,12 @@ def version_of(file):
     return found[1]
 
 
-def put(folder, share, version, proved):
+def put(built, folder, share, version, proved):
     """Puts the program below a folder with all that belongs to it: the folder of its documents is doc/tagplay of `share`."""
     others = {name.replace("/usr/share/doc/tagplay/", f"{share}/doc/tagplay/"): text for name, text in FILES.items()}
-    copy(BUILT, f"{folder}/bin/tagplay", 0o755)
-    write(f"{folder}/share/man/man1/tagplay.1.gz", packed(program.page(BUILT, version, others)))
-    write(f"{folder}/share/bash-completion/completions/tagplay", program.completions(BUILT))
+    copy(built, f"{folder}/bin/tagplay", 0o755)
+    write(f"{folder}/share/man/man1/tagplay.1.gz", packed(program.page(built, version, others)))
+    write(f"{folder}/share/bash-completion/completions/tagplay", program.completions(built))
     documents = f"{folder}/share/doc/tagplay"
     put_documents(documents, "tagplay", PROCESSOR, proved)
     copy(f"{ROOT}/docs/FORMATS.md", f"{documents}/FORMATS.md")
@@ -53,14 +66,15 @@ def put(folder, share, version, proved):
         copy(f"{ROOT}/{name}", f"{documents}/{name}")
 
 
-def make(work):
-    proved = proved_text("tagplay", PROCESSOR, build())
-    version = version_of(BUILT)
-    put(f"{work}/tagplay/usr", "/usr/share", version, proved)
-    summary = "runs a proved tag allocator on scripts, lists of events and I/O logs"
-    depends = f"libc6 (>= {least_libc(PROCESSOR, BUILT)})"
-    fields = {**fields_of("tagplay", summary, ABOUT, Section="utils", Depends=depends), "Version": version}
-    package(f"{work}/tagplay", PROCESSOR, fields, {})
-    name = f"tagplay-{version}-{PROCESSOR.gnu.removesuffix('-gnu')}"
-    put(f"{work}/{name}", "share", version, proved)
+def make(work, is_as_built):
+    processor, built = (AS_BUILT, LEFT) if is_as_built else (PROCESSOR, BUILT)
+    proved = proved_text("tagplay", processor, as_built() if is_as_built else build())
+    version = version_of(built)
+    put(built, f"{work}/tagplay/usr", "/usr/share", version, proved)
+    summary = "proved tag allocator for scripts, lists of events and I/O logs"
+    depends = f"libc6 (>= {least_libc(processor, built)})"
+    fields = {**fields_of("tagplay", summary, ABOUT, Section="utils", Depends=depends), "Version": debian(version)}
+    package(f"{work}/tagplay", processor, fields, {})
+    name = f"tagplay-{version}-{processor.gnu.removesuffix('-gnu')}"
+    put(built, f"{work}/{name}", "share", version, proved)
     tarball(f"{work}/{name}", f"{DIST}/{name}.tar.gz")

@@ -1,9 +1,9 @@
 #!/usr/bin/env python3
-"""cross.py CRATE TARGET CPU FILE: proves a crate and compiles it for another processor than `rt` does: a static library, or a program.
+"""build_for.py CRATE TARGET CPU FILE: builds a crate for another processor than `rt` does: a static library, or a program.
 
-TARGET is x86_64-unknown-linux-gnu or aarch64-unknown-linux-gnu. The crates below are built first where they are not; what a check
-kept is used. Beside FILE it writes FILE.verdict, the line in which the toolchain says what it proved. Nothing is done where FILE was
-made of the same sources by the same kit.
+TARGET is x86_64-unknown-linux-gnu or aarch64-unknown-linux-gnu. A proof is the same for each processor, so nothing is proved again
+that `rt lib` or `rt run` has kept; what they have not is proved here, in the crates below too. Beside FILE it writes FILE.verdict,
+the line in which the toolchain says what it proved. Nothing is done where FILE was made of the same sources by the same kit.
 """
 import importlib.machinery
 import importlib.util
@@ -28,13 +28,17 @@ def kit():
 
 
 class Told:
-    """Where a crate prints: on to standard error, with the verdict kept."""
+    """Where a crate prints: on to standard error, with the verdict and the numbers of proofs kept."""
 
-    verdict = ""
+    verdict, loaded, checked = "", "0", "0"
 
     def write(self, text):
-        found = re.search(r"^logic=proved .*$", text, re.M)
-        self.verdict = found[0] if found else self.verdict
+        for line in text.splitlines():
+            if line.startswith("logic=proved "):
+                self.verdict = line
+            found = re.match(r"crate \w+: modules loaded=(\d+) checked=(\d+)", line)
+            if found:
+                self.loaded, self.checked = found.groups()
         sys.stderr.write(text)
 
     def flush(self):
@@ -54,7 +58,7 @@ def write(file, text):
 
 
 def build(rtlib, crate, target, cpu, made):
-    """Proves and builds: the exit status."""
+    """Builds over what is kept: the exit status."""
     # A program is linked of an object file, and a static library is what is built.
     compiled = f"{made}.o" if crate.is_program else made
     words = [*crate.words([]), "--target", target, "--cpu", cpu, "--toolchain", f"{rtlib.KIT}/toolchain"]
@@ -72,11 +76,12 @@ def main():
     name, target, cpu, made = *sys.argv[1:4], os.path.abspath(sys.argv[4])
     rtlib = kit()
     crate = next(it for it in rtlib.crates_below(ROOT) if it.name == name)
-    stamp = f"{crate.stamp()} {target} {cpu}"
-    if os.path.exists(made) and read(f"{made}.stamp") == stamp:
+    stamp = f"{crate.stamp()} {target} {cpu} "
+    if os.path.exists(made) and read(f"{made}.stamp") == stamp + rtlib.sum_of(made):
         return 0
     os.makedirs(os.path.dirname(made), exist_ok=True)
-    held = rtlib.lock([*crate.below(), crate])
+    # The locks are held until this process ends.
+    rtlib.lock([*crate.below(), crate])
     told = Told()
     for it in [*crate.below(), crate]:
         it.out = told
@@ -86,9 +91,8 @@ def main():
     status = build(rtlib, crate, target, cpu, made)
     if status == 0:
         write(f"{made}.verdict", told.verdict + "\n")
-        write(f"{made}.stamp", stamp)
-    for it in held:
-        os.close(it)
+        write(f"{made}.stamp", stamp + rtlib.sum_of(made))
+        print(f"build_for.py: {name} for {cpu}: {told.loaded} modules were proved before, {told.checked} now", file=sys.stderr)
     return status
 
 

@@ -1,0 +1,232 @@
+"""Uses the packages of the C library as somebody does who has nothing else of this repository."""
+import filecmp
+import glob
+import gzip
+import os
+import re
+import shutil
+import subprocess
+
+from telling import EXAMPLES, HERE, expected, lacks, makes, out, run, tell, untested
+
+# The first processor of the kind that qemu knows.
+OLDEST = ["qemu-x86_64", "-cpu", "Opteron_G1"]
+NEWER = 'int main(void) { unsigned long it = 7; __asm__("popcnt %0, %0" : "+r"(it)); return it != 3; }'
+NO_NEWER = r"\b(popcnt|crc32\w?|pinsr[bdq]|pextr[bdq]|ptest|pshufb|v?pcmp[ei]str\w|v[mp][a-z]+|lzcnt)\b"
+FLAGS = "-std=c99 -D_DEFAULT_SOURCE -O2 -Wall -Werror".split()
+
+
+class Target:
+    """A processor: its names, the tools for it, how its programs are run, and a folder in which packages are installed."""
+
+    def __init__(self, name, gnu, folder):
+        self.name, self.gnu = name, gnu
+        self.is_native = os.uname().machine == gnu.split("-")[0]
+        self.tools = "" if self.is_native else f"{gnu}-"
+        self.root, self.work = f"{folder}/{name}/root", f"{folder}/{name}/work"
+        self.lib = f"{self.root}/usr/lib/{gnu}"
+        self.runner = [] if self.is_native else ["qemu-aarch64", "-L", f"/usr/{gnu}", "-E", f"LD_LIBRARY_PATH={self.lib}"]
+        os.makedirs(f"{self.root}/var/lib/dpkg/updates")
+        os.makedirs(f"{self.root}/var/lib/dpkg/info")
+        os.makedirs(self.work)
+
+    def environment(self):
+        known = {"PKG_CONFIG_LIBDIR": f"{self.lib}/pkgconfig", "PKG_CONFIG_SYSROOT_DIR": self.root, "LC_ALL": "C.UTF-8"}
+        known |= {"PKG_CONFIG_ALLOW_SYSTEM_CFLAGS": "1", "PKG_CONFIG_ALLOW_CROSS": "1"}
+        return {**os.environ, **known, **({"LD_LIBRARY_PATH": self.lib} if self.is_native else {})}
+
+    def dpkg(self, *words):
+        forced = [f"--force-{it}" for it in ("not-root", "architecture", "bad-path")]
+        return ["dpkg", f"--root={self.root}", f"--log={self.work}/log", *forced, *words]
+
+
+def install(target, dist, *packages):
+    """Installs packages in a folder in which there is a C library alone, by what dpkg knows."""
+    libc = os.confstr("CS_GNU_LIBC_VERSION").split()[1]
+    text = "Package: {0}\nStatus: install ok installed\nMaintainer: {0}\nArchitecture: {1}\nMulti-Arch: same\nVersion: {2}\nDescription: {0}\n\n"
+    with open(f"{target.root}/var/lib/dpkg/status", "w", encoding="utf-8") as file:
+        file.write("".join(text.format(it, target.name, libc) for it in ("libc6", "libc6-dev")))
+    files = [it for name in packages for it in glob.glob(f"{dist}/{name}_*_{target.name}.deb")]
+    if not tell(f"{target.name}: there is one package of each name", len(files) == len(packages), "\n".join(files)):
+        return False
+    return run(f"{target.name}: dpkg installs {', '.join(packages)}", target.dpkg("-i", *files))
+
+
+def check_removal(target, *packages):
+    run(f"{target.name}: dpkg removes {', '.join(packages)}", target.dpkg("-P", *packages))
+    left = out(["find", target.root, "-mindepth", "1", "-path", f"{target.root}/var", "-prune", "-o", "-print"])
+    tell(f"{target.name}: the removal leaves nothing", left == "", left)
+
+
+def needed(target, file):
+    """What a program or a shared library asks the loader for, the loader itself aside."""
+    dynamic = out([f"{target.tools}readelf", "-d", file])
+    return set(re.findall(r"\(NEEDED\).*\[(?!ld-linux)(.*)\]", dynamic))
+
+
+def pages(target):
+    found = sorted(glob.glob(f"{target.root}/usr/share/man/man3/*.3.gz"))
+    return {os.path.basename(it).removesuffix(".3.gz"): it for it in found}
+
+
+def check_shared(target):
+    """A soname, the names of the library alone, and nothing needed but libc."""
+    library = os.path.realpath(f"{target.lib}/libtags.so")
+    dynamic = out([f"{target.tools}readelf", "-d", library])
+    tell(f"{target.name}: soname", "[libtags.so.0]" in dynamic, dynamic)
+    tell(f"{target.name}: no text relocations", "TEXTREL" not in dynamic, dynamic)
+    tell(f"{target.name}: nothing is needed but libc", needed(target, library) == {"libc.so.6"}, dynamic)
+    names = {it.split()[-1].split("@")[0] for it in out([f"{target.tools}nm", "-D", "--defined-only", library]).splitlines()}
+    others = {it for it in names if not it.startswith("tags_")} - {"TAGS_0"}
+    tell(f"{target.name}: only names of the library are exported", not others, " ".join(others))
+    missing = pages(target).keys() - {"tags"} - names
+    tell(f"{target.name}: each call with a page is exported", not missing, " ".join(missing))
+    if target.is_native:
+        run(f"{target.name}: the loader finds what the library needs", ["ldd", library])
+        # An older processor reads tzcnt as bsf, which counts the same of all but 0.
+        newer = re.findall(NO_NEWER, out(["objdump", "-d", "--no-show-raw-insn", library]))
+        tell(f"{target.name}: no instruction of a newer processor", not newer, " ".join(newer))
+
+
+def check_c(target):
+    """The examples by pkg-config, shared and static, and on the oldest processor of the kind."""
+    known, ask = target.environment(), ["pkg-config", "--cflags", "--libs", "tags"]
+    is_old = target.is_native and not lacks("an old x86-64 processor is", OLDEST[0])
+    if is_old and not tell("qemu refuses popcnt on an old processor", not makes("gcc", "c", NEWER, OLDEST)):
+        is_old = False
+    for name in ("quick_start", "io_queue"):
+        for kind, more, options in (("shared", [], []), ("static", ["--static"], ["-static"])):
+            program, what = f"{target.work}/{name}_{kind}", f"{target.name}: {name}, {kind}"
+            source = f"{target.root}/usr/share/doc/libtags-dev/examples/{name}.c"
+            flags = out([*ask, *more], env=known).split()
+            if not run(f"build of {what}", [f"{target.tools}gcc", *FLAGS, source, "-o", program, *flags, *options]):
+                continue
+            run(what, [*target.runner, program], wanted=expected(name), env=known)
+            links = {"libtags.so.0", "libc.so.6"} if kind == "shared" else set()
+            tell(f"{what}: what it needs", needed(target, program) == links, " ".join(needed(target, program)))
+            if is_old:
+                run(f"{what}, on an old processor", [*OLDEST, program], wanted=expected(name), env=known)
+
+
+def check_plus(target):
+    if not makes(f"{target.tools}g++", "c++", "#include <cstdio>\nint main() { std::puts(\"\"); }", target.runner):
+        return untested(f"C++ for {target.name} is", f"{target.tools}g++ makes no program here")
+    known, program = target.environment(), f"{target.work}/plus"
+    flags = out(["pkg-config", "--cflags", "--libs", "tags"], env=known).split()
+    command = [f"{target.tools}g++", "-std=c++17", "-Wall", "-Wextra", "-Werror", f"{HERE}/plus.cpp", "-o", program, *flags]
+    if run(f"{target.name}: build in C++", command):
+        run(f"{target.name}: C++", [*target.runner, program], wanted="done\n", env=known)
+
+
+def check_cmake(target, prefix, what):
+    """The quick start by find_package(), shared and static."""
+    folder = f"{target.work}/cmake_{what}"
+    os.makedirs(folder)
+    shutil.copy(f"{EXAMPLES}/quick_start.c", folder)
+    shutil.copy(f"{HERE}/CMakeLists.txt", folder)
+    with open(f"{prefix}/include/tags.h", encoding="utf-8") as file:
+        version = ".".join(re.findall(r"^#define TAGS_VERSION_M\w+ (\d+)", file.read(), re.M))
+    options = [f"-DCMAKE_PREFIX_PATH={prefix}", f"-DWANTED={version}"]
+    if not target.is_native:
+        options += ["-DCMAKE_SYSTEM_NAME=Linux", f"-DCMAKE_C_COMPILER={target.tools}gcc"]
+    name = f"{target.name}: {what} by CMake"
+    if run(f"{name}: cmake", ["cmake", "-S", folder, "-B", f"{folder}/out", *options]):
+        if run(f"{name}: cmake --build", ["cmake", "--build", f"{folder}/out"]):
+            for kind in ("shared", "static"):
+                program = [*target.runner, f"{folder}/out/{kind}"]
+                run(f"{name}, {kind}", program, wanted=expected("quick_start"), env=target.environment())
+    refused = ["cmake", "-S", folder, "-B", f"{folder}/other", *options, "-DWANTED=99.0"]
+    run(f"{name}: another version is not found", refused, status=1)
+
+
+def rust_for(target):
+    """What tells cargo to build and run for a processor, or None where it can't."""
+    if lacks(f"Rust for {target.name} is", "cargo", "rustc"):
+        return None
+    if target.is_native:
+        return {}
+    triple = target.gnu.replace("-linux", "-unknown-linux")
+    if not os.path.isdir(out(["rustc", "--print", "target-libdir", "--target", triple]).strip() or "?"):
+        return untested(f"Rust for {target.name} is", f"its library for {triple} is not here")
+    name = triple.upper().replace("-", "_")
+    known = {"CARGO_BUILD_TARGET": triple, f"CARGO_TARGET_{name}_LINKER": f"{target.tools}gcc"}
+    return {**known, f"CARGO_TARGET_{name}_RUNNER": " ".join(target.runner)}
+
+
+def check_rust(target):
+    """The packaged crate, out of any checkout."""
+    more = rust_for(target)
+    if more is None:
+        return
+    crate = f"{target.work}/rust"
+    shutil.copytree(f"{target.root}/usr/share/tags/rust", crate)
+    for kind, is_static in {"shared": "0", "static": "1"}.items():
+        known = {**target.environment(), **more, "TAGS_STATIC": is_static, "CARGO_TARGET_DIR": f"{target.work}/target"}
+        for name in ("quick_start", "io_queue"):
+            command = ["cargo", "run", "--offline", "--quiet", "--example", name]
+            run(f"{target.name}: {name} in Rust, {kind}", command, wanted=expected(name), cwd=crate, env=known)
+
+
+def check_page(page, name, *wanted):
+    """Whether a page has these words, and how `man` shows it, where there is one."""
+    with gzip.open(page, "rt", encoding="utf-8") as file:
+        text = file.read()
+    missing = [it for it in wanted if it not in text]
+    tell(f"man {name}: what the page has", not missing, " ".join(missing))
+    if not shutil.which("man"):
+        return
+    known = {**os.environ, "LC_ALL": "C.UTF-8", "MANWIDTH": "80"}
+    said = subprocess.run(["man", "--warnings", "-l", page], capture_output=True, text=True, check=False, env=known)
+    shown = re.sub(r"\s+", " ", said.stdout)
+    tell(f"man {name}", said.returncode == 0 and not said.stderr and f"NAME {name} - " in shown, said.stderr)
+
+
+def check_manual(target):
+    found = pages(target)
+    tell(f"{target.name}: there is a page for each call", len(found) > 20 and "tags_get" in found)
+    if target.is_native:
+        lacks("how man shows the pages is", "man")
+        for name, page in found.items():
+            check_page(page, name, "SEE ALSO")
+
+
+def check_archive(target, dist):
+    """The archive, unpacked into a folder of another name."""
+    found = glob.glob(f"{dist}/tags-[0-9]*-{target.gnu.removesuffix('-gnu')}.tar.gz")
+    if not tell(f"{target.name}: there is one archive of the library", len(found) == 1):
+        return
+    tags, program = f"{target.work}/archive", f"{target.work}/of_archive"
+    os.makedirs(tags)
+    run(f"{target.name}: the archive is unpacked", ["tar", "-xzf", found[0], "--strip-components=1", "-C", tags])
+    known = {**os.environ, "PKG_CONFIG_PATH": f"{tags}/lib/pkgconfig", "LD_LIBRARY_PATH": f"{tags}/lib"}
+    flags = out(["pkg-config", "--cflags", "--libs", "tags"], env=known).split()
+    source = f"{tags}/share/doc/tags/examples/quick_start.c"
+    if run(f"{target.name}: build over the archive", [f"{target.tools}gcc", *FLAGS, source, "-o", program, *flags]):
+        runner = [it.replace(target.lib, f"{tags}/lib") for it in target.runner]
+        run(f"{target.name}: quick_start over the archive", [*runner, program], wanted=expected("quick_start"), env=known)
+    return tags
+
+
+def check(target, dist):
+    """All that the packages of one processor hold."""
+    has_cmake = not lacks(f"CMake for {target.name} is", "cmake", "make")
+    if install(target, dist, "libtags0", "libtags-dev"):
+        check_shared(target)
+        check_c(target)
+        check_plus(target)
+        check_manual(target)
+        check_rust(target)
+        if has_cmake:
+            check_cmake(target, f"{target.root}/usr", "packages")
+    tags = check_archive(target, dist)
+    if tags and has_cmake:
+        check_cmake(target, tags, "archive")
+
+
+def check_same(targets):
+    """Packages of two processors may be installed at once: what both hold outside the folders of libraries is the same."""
+    one, other = (it.root for it in targets)
+    shared = [os.path.relpath(f"{at}/{name}", one) for at, _, names in os.walk(f"{one}/usr") for name in names]
+    shared = [it for it in shared if not it.startswith("usr/lib/") and os.path.exists(f"{other}/{it}")]
+    differ = filecmp.cmpfiles(one, other, shared, shallow=False)[1:]
+    tell("packages of two processors agree on what both hold", shared and not any(differ), str(differ))
