@@ -30,11 +30,7 @@ impl Tags for Cached {
 
     ghost holds = { Holds };
 
-    fn open(
-        alloc: Global,
-        depth: u32,
-        threads: u32,
-    ) -> Result<(Cached, Vec<Cache<u64>>), Failed> {
+    fn open(alloc: Global, depth: u32, threads: u32) -> Result<(Cached, Vec<Cache<u64>>), Failed> {
         let options = Options {
             shift: None,
             round_robin: false,

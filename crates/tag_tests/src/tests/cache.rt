@@ -4,6 +4,7 @@ ghost use Rattle.std.specs.Coded.{codes};
 ghost use Rattle.tag_sets.specs.Hands.{IsHandOf};
 ghost use Rattle.tag_tests.specs.Mixed.{IsOwn, HoldsTag};
 
+mod batches;
 mod callers;
 mod clears;
 mod keeping;
@@ -257,10 +258,7 @@ impl Shared for Mixed {
         }
     }
 
-    fn gather(
-        self,
-        callers: Vec<Caller>,
-    ) -> Result<QueueTotals, (GatherCause, Mixed, Vec<Caller>)>
+    fn gather(self, callers: Vec<Caller>) -> Result<QueueTotals, (GatherCause, Mixed, Vec<Caller>)>
         requires { All (IsOwn self) callers.items }
         ensures own { IfErr result (λ back. All (IsOwn back.1) back.2.items) }
         ensures others { IfErr result (λ back. (c : _) → IsOwn self c → IsOwn back.1 c) }

@@ -258,13 +258,7 @@ fn get_and_clear<R: Wait, T: Shared>(
 }
 
 /// Makes a call that wins a tag, and wins and clears another by a get before it clears the first.
-fn win_two<R: Wait, T: Shared>(
-    rt: &R,
-    tags: &T,
-    caller: &mut T::Caller,
-    tally: &Tally,
-    call: Call,
-)
+fn win_two<R: Wait, T: Shared>(rt: &R, tags: &T, caller: &mut T::Caller, tally: &Tally, call: Call)
     requires { T.is_own tags.now caller.old }
     ensures { T.is_own tags.now caller.new }
 {

@@ -1,4 +1,4 @@
-//! What a queue and tag sets have in common.
+//! What a queue, tag sets and caches have in common.
 ghost use Rattle.std.specs.Prelude.{ℕ, All, IfOk, IfErr, IsTrue};
 ghost use Rattle.tag_tests.specs.Owning.{IsFact};
 
@@ -19,7 +19,7 @@ pub(crate) struct Kept {
     pub(crate) reused: u64,
 }
 
-/// Tags that callers share, each through a handle of its own: an agent of a queue, or a hand of tag sets.
+/// Tags that callers share, each through a handle of its own: an agent of a queue, a hand of tag sets, or a cache.
 pub(crate) trait Shared: Drop {
     /// The handle of one caller.
     type Caller: Drop;

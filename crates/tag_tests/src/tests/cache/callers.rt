@@ -56,7 +56,11 @@ impl Terms {
 }
 
 /// Takes the hands out of their caches, whose kept tags go back.
-pub(crate) fn hands_of(alloc: Global, tags: &Tags<u64>, callers: Vec<Caller>) -> Result<Vec<Hand<u64>>, Fail>
+pub(crate) fn hands_of(
+    alloc: Global,
+    tags: &Tags<u64>,
+    callers: Vec<Caller>,
+) -> Result<Vec<Hand<u64>>, Fail>
     requires { All (λ caller. IsHandOf tags.now (hand_in caller)) callers.items }
     ensures { IfOk result (λ hands. All (IsHandOf tags.now) hands.items) }
 {

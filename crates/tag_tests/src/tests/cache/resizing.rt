@@ -2,7 +2,7 @@
 use crate::tests::answers::Answer::{Keeps, Tag, Woken};
 use crate::tests::cache::stages::{expect_totals, one};
 use crate::tests::calls::Call::{Clear, Get, Kept};
-use crate::tests::steps::Step::{Calls, GatherMisses, BringBack, Resize, ResizeFails, SendAway};
+use crate::tests::steps::Step::{BringBack, Calls, GatherMisses, Resize, ResizeFails, SendAway};
 use crate::tests::totals::{options, unwaited};
 use std::test::Fail;
 use tag_queue::ResizeCause;
@@ -38,11 +38,7 @@ fn a_resize_finds_nothing_kept(rt: HostRuntime) -> Result<(), Fail> {
         options(2),
         one(4),
         &[
-            Calls(&[
-                (0, Get, Tag(0)),
-                (0, Get, Tag(1)),
-                (0, Clear(0), Woken(0)),
-            ]),
+            Calls(&[(0, Get, Tag(0)), (0, Get, Tag(1)), (0, Clear(0), Woken(0))]),
             // Tag 1 is held, and tag 0 goes back although the resize is refused.
             ResizeFails(100, ResizeCause::InUse(1, 0)),
             Calls(&[

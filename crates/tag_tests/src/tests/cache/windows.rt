@@ -1,8 +1,7 @@
 //! Windows of tags that move.
-use crate::tests::answers::Answer::{Keeps, Tag, Woken};
+use crate::tests::answers::Answer::{Keeps, Tag, Value, Woken};
 use crate::tests::cache::stages::{careful, expect_steps, one};
 use crate::tests::calls::Call::{Clear, Flush, Get, Kept, Read};
-use crate::tests::answers::Answer::Value;
 use crate::tests::steps::Step::{Calls, Gets};
 use crate::tests::totals::{FILL, options};
 use std::test::Fail;
