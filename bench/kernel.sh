@@ -1,7 +1,7 @@
 #!/usr/bin/env bash
 # kernel.sh [REPETITIONS [ROUNDS [DEPTH..]]]: runs pair, ring, full, pass and batch of tag_bench, over the map, the queue, tag
-# sets and caches, and of what stands beside it in alternation, three times with 200000 rounds at depths 64, 1024 and 10240 unless told
-# otherwise, and prints a table. Where depth 1024 is among them it prints a second one and draws bench/out/kernel.svg.
+# sets and caches, and of what stands beside it in alternation, three times with 200000 rounds at depths 64, 1024 and 10240
+# unless told otherwise, and prints tables. Where depth 1024 is among them it prints more and draws bench/out/kernel.svg.
 # rt, gcc, rustc, python3, apt-get and dpkg-deb are on the path; the first run downloads 154 MB from Debian's archive. With
 # BUILT=1 it proves and builds nothing, and measures what is there.
 set -euo pipefail

@@ -44,7 +44,11 @@ pub(crate) struct Mixed {
 
 impl Drop for Mixed {
     fn drop(self) {
-        let Mixed { tags, .. } = self;
+        let Mixed {
+            tags,
+            terms: _terms,
+            alloc: _alloc,
+        } = self;
         tags.discard();
     }
 }
@@ -296,7 +300,11 @@ impl Shared for Mixed {
         let Ok(hands) = hands_of(alloc, &self.tags, callers) else {
             return Err((ResizeCause::Memory, self, Vec::new(alloc)));
         };
-        let Mixed { tags, terms, .. } = self;
+        let Mixed {
+            tags,
+            terms,
+            alloc: _alloc,
+        } = self;
         match Tags::resize(alloc, tags, hands, total) {
             Ok((tags, hands)) => {
                 let mixed = Mixed { tags, terms, alloc };

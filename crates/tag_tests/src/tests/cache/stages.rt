@@ -42,7 +42,7 @@ impl Stage<Mixed> {
     ) -> Result<Stage<Mixed>, Fail> {
         let (tags, hands) = Tags::open(alloc, total, reserved, options, FILL)?;
         let mixed = Mixed { tags, terms, alloc };
-        let callers = mixed.again(hands);
+        let callers = terms.callers(alloc, &mixed.tags, hands)?;
         Ok(Stage::of(alloc, mixed, callers))
     }
 }
