@@ -344,6 +344,41 @@ static void part_two_pools(void)
 	WANT(sums.got == 1 && sums.held == 1, 1);
 }
 
+/* Hands out all hands of a pool twice, and takes them back one after another: first each in its own part of the tags. */
+static void part_with_all_hands(uint32_t total, uint32_t hands)
+{
+	const struct tags_options options = {
+		.total = total,
+		.hands = hands,
+		.flags = TAGS_ROUND_ROBIN,
+	};
+	struct tags_pool pool = TAGS_EMPTY;
+	struct tags_hand spare = TAGS_EMPTY;
+	struct tags_hand hand[4] = { TAGS_EMPTY, TAGS_EMPTY, TAGS_EMPTY, TAGS_EMPTY };
+	struct tags_sums sums;
+
+	WANT(tags_open(&pool, &options), 0);
+	for (uint32_t flags = 0; flags <= TAGS_STAY; flags++) {
+		for (uint32_t i = 0; i < hands; i++) {
+			int32_t first = (int32_t)(i * total / hands);
+
+			WANT(tags_join(&pool, &hand[i], flags), 0);
+			if (flags == TAGS_STAY)
+				continue;
+			WANT(tags_get(&hand[i]), first);
+			WANT(tags_clear(&hand[i], (uint32_t)first), 0);
+		}
+		WANT(tags_join(&pool, &spare, flags), -14);
+		for (uint32_t i = 0; i < hands; i++) {
+			WANT(tags_resize(&pool, total), -15);
+			WANT(tags_close(&pool, &sums), -15);
+			WANT(tags_leave(&hand[i]), 0);
+		}
+	}
+	WANT(tags_close(&pool, &sums), 0);
+	WANT(sums.got == hands && sums.back == hands, 1);
+}
+
 /* What a resize needs: no hand out, no tag in use, and no hand in a wait group. */
 static void refuse_resizes(void)
 {
@@ -420,6 +455,9 @@ int main(void)
 	WANT(tags_close(&pool, &sums), -12);
 	refuse_kinds();
 	part_two_pools();
+	for (uint32_t hands = 1; hands <= 4; hands++)
+		for (uint32_t total = hands; total <= 64; total++)
+			part_with_all_hands(total, hands);
 	refuse_resizes();
 	name_statuses();
 	printf("%d answers, %d wrong\n", wanted, wrong);

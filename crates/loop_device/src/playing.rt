@@ -46,11 +46,7 @@ pub fn play<G: Gate, R: Threads + Wait + Sync>(
     }
     let options = Options {
         shift: setup.shift,
-        round_robin: false,
-        min_shallow: None,
-        callers: setup.submitters + setup.completers,
-        life: 1 << 48,
-        cap: 1 << 56,
+        ..Options::new(setup.submitters + setup.completers)
     };
     // A legal setup is refused only if memory runs out.
     let Ok((tags, hands)) = Tags::open(alloc, setup.total, setup.reserved, options, 0u64) else {

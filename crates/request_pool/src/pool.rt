@@ -36,14 +36,7 @@ pub(crate) enum Stop {
 pub(crate) fn serve_all<R: AllocGlobal + Threads + Wait + Sync>(rt: &R) -> Result<Served, Stop>
     ensures { IfOk result (λ served. served.tags.got ≡ served.tags.back + served.tags.held + served.tags.posted) }
 {
-    let options = Options {
-        shift: None,
-        round_robin: false,
-        min_shallow: None,
-        callers: THREADS,
-        life: 1 << 48,
-        cap: 1 << 56,
-    };
+    let options = Options::new(THREADS);
     let (tags, hands) = Tags::open(rt.alloc(), 3, 2, options, 0u64).map_err(Stop::Open)?;
     let requests = AtomicU64::new(0);
     let hands = serve_by_threads(rt, &tags, hands, &requests);

@@ -29,7 +29,7 @@ use Rattle.tag_sets.specs.Gathering.{hands_of, numbers_of}
 use Rattle.tag_sets.specs.Meeting.{IsUnchanged}
 use Rattle.tag_sets.specs.Opening.{reserved_part, ordinary_part}
 use Rattle.tag_sets.specs.Resizing as sets
-use Rattle.tag_sets.specs.Resizing.{BalanceInBoth}
+use Rattle.tag_sets.specs.Resizing.{BalanceInBoth, HasMap}
 use Rattle.tag_sets.proofs.Gathering.{ordinary_numbers}
 use Rattle.tag_sets.proofs.Refusing.{facts_of, AreTold}
 use Rattle.tag_sets.proofs.Reuniting.{ordinary_unchanged}
@@ -236,14 +236,14 @@ module _ {R : Type 0} (tags : Tags R) (hands : List (Hand R)) (own : All (IsHand
 
   -- a cause that refuses the resize of the tags refuses that of the board
   pub refuses : (total : ℕ) (told : ResizeCause → Type 0) → AreTold (facts_of tags hands) total told
-      → ((held posted : ℕ) → told (InUse held posted) → BalanceInBoth hands)
+      → (HasMap tags hands total → BalanceInBoth hands)
       → HasAll (numbers_of hands) (hands_of tags) → (cause : ResizeCause) → cause ≢ Memory → told cause
       → RefusesResize (state_of_all tags hands) total cause
   refuses total told are even all (Missing n) other is =
       let least = (are.missing n).0 is in absurd (least.1 (all n least.0))
   refuses total told are even all DepthTooLarge other is = (are.too_deep.0 is).1
   refuses total told are even all (InUse held posted) other is =
-      let cause = (are.in_use held posted).0 is in let balance = even held posted is in (
+      let cause = (are.in_use held posted).0 is in let balance = even cause.0 in (
         cause.0.1,
         (λ none. cause.1.2 (used balance none)),
         cause.1.0 ∙ sym (add_up tags hands own).held,

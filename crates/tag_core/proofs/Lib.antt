@@ -31,4 +31,5 @@ pub mod Chains
 pub mod Reopenings
 pub mod Showings
 pub mod Holdings
+pub mod OneWord
 pub mod Numbers

@@ -26,6 +26,7 @@ mod spots;
 mod step;
 mod sweeps;
 mod together;
+mod word_held;
 mod word_step;
 
 pub use caller::Caller;

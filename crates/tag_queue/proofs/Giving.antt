@@ -171,7 +171,7 @@ runs_few l tags (run ∷ runs) cut =
     ∙ length-append cut.0 run.tags in
     let some = cut.2.some in omega arith
 
-steps_after : {R : Type 0} (runs : List Run) (r : Record R)
+pub steps_after : {R : Type 0} (runs : List Run) (r : Record R)
     → length (record_after_runs runs r).steps ≡ length runs + length r.steps
 steps_after [] r = omega arith
 steps_after (run ∷ runs) r = let h = steps_after runs r in omega arith

@@ -1,6 +1,10 @@
 pub mod Getting
 pub mod Rounds
 pub mod Giving
+pub mod RunTags
+pub mod MaskParts
+pub mod MaskHolds
+pub mod MaskGives
 pub mod SoFar
 pub mod Counting
 pub mod Fronts

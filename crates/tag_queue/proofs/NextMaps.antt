@@ -15,13 +15,18 @@ use Rattle.tag_core.proofs.Entries.{entry}
 use Rattle.step_ledger.proofs.Seats.{within}
 use Rattle.tag_core.proofs.Settlings.{unchanged-records}
 use Rattle.tag_queue.specs.Resizing.{GoesOnAfter}
-use Rattle.tag_queue.specs.Using.{posted_in, NoneInUse}
+use Rattle.tag_queue.specs.Using.{posted_in, Balance, NoneInUse}
 
 module _ {R : Type 0} where
   -- the totals of tags in use are sums over the records
   pub posted_is : (k : Shape) (rs : List (Record R)) (totals : Totals) → AreSettled k rs totals
       → totals.posted ≡ posted_in rs
   posted_is k rs totals known =
+      let a = known.got in let b = known.back in let d = known.held in let even = known.balance in omega arith
+
+  -- and they balance
+  pub balance_is : (k : Shape) (rs : List (Record R)) (totals : Totals) → AreSettled k rs totals → Balance rs
+  balance_is k rs totals known =
       let a = known.got in let b = known.back in let d = known.held in let even = known.balance in omega arith
 
   -- if no tag is in use, the totals are 0

@@ -18,8 +18,8 @@ use Rattle.tag_queue.specs.declared.agent.Agent.{Agent}
 use Rattle.tag_queue.specs.Agents.{caller_of, waiter_of, numbers_of, records_of, SameElse, IsUnchanged, AreUnchanged}
 use Rattle.wake_book.specs.Groups.{standing_of as standing_of_waiter}
 use Rattle.tag_queue.specs.Resizing.{standing_count}
-use Rattle.tag_queue.specs.Using.{held_in, posted_in}
-use Rattle.tag_queue.proofs.NextMaps.{posted_is}
+use Rattle.tag_queue.specs.Using.{held_in, posted_in, Balance}
+use Rattle.tag_queue.proofs.NextMaps.{posted_is, balance_is}
 use Rattle.tag_queue.proofs.Gathering.{caller_numbers}
 
 module _ {R : Type 0} where
@@ -77,6 +77,12 @@ module _ {R : Type 0} where
     settled.held ∙ ap (λ (z : List (Record R)). held_in z) back,
     posted_is k (records_of news) totals settled ∙ ap (λ (z : List (Record R)). posted_in z) back,
   )
+
+  -- and it balances
+  pub balanced : (k : Shape) (olds news : List (Agent R)) (totals : Totals) → AreUnchanged olds news
+      → AreSettled k (records_of news) totals → Balance (records_of olds)
+  balanced k olds news totals same settled = subst (λ (rs : List (Record R)). Balance rs)
+      (unchanged-records olds news same) (balance_is k (records_of news) totals settled)
 
   abbrev standing : List (Agent R) → ℕ
   standing [] = 0

@@ -25,6 +25,10 @@ AreTags l tags = All (λ tag. tag < l.depth) tags
 abbrev pub AreHeldOnce : {R : Type 0} → Caller R → List ℕ → Type 0
 AreHeldOnce caller tags = All (core.Holds caller) tags × AllPairs (λ a b. a ≢ b) tags
 
+-- the list has the same number at two indexes
+abbrev pub NamesTwice : List ℕ → Type 0
+NamesTwice tags = (i j : ℕ) × (i < j) × (j < length tags) × (slice_index tags i ≡ slice_index tags j)
+
 -- tags of one word that a single step freed: the word, its mask (1 is freed), and what the step found
 pub record Run : Type 0 where
   pub tags : List ℕ

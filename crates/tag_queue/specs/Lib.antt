@@ -3,6 +3,7 @@ pub mod Gets
 pub mod Holding
 pub mod Clears
 pub mod Batches
+pub mod Masks
 pub mod Slots
 pub mod Waits
 pub mod Blocking
@@ -13,3 +14,4 @@ pub mod Using
 pub mod Shells
 pub mod Resizing
 pub mod Placing
+pub mod Tallies

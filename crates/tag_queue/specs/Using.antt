@@ -23,6 +23,11 @@ held_in {R} rs = total_of (λ (r : Record R). size_of r.held) rs
 abbrev pub posted_in : {R : Type 0} → List (Record R) → ℕ
 posted_in {R} rs = total_of (λ (r : Record R). r.won) rs - (total_of (λ (r : Record R). r.back) rs + held_in rs)
 
+-- each tag that these callers won was given back, is held or is posted
+abbrev pub Balance : {R : Type 0} → List (Record R) → Type 0
+Balance {R} rs =
+    total_of (λ (r : Record R). r.won) rs ≡ total_of (λ (r : Record R). r.back) rs + held_in rs + posted_in rs
+
 -- no tag is held, and none posted
 abbrev pub NoneInUse : {R : Type 0} → List (Record R) → Type 0
 NoneInUse rs = (held_in rs ≡ 0) × (posted_in rs ≡ 0)

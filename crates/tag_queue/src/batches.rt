@@ -7,6 +7,7 @@ ghost use Rattle.tag_queue.specs.Clears.{Counts};
 
 use crate::agent::Agent;
 use crate::fault::TagFault;
+use crate::lists::{are_below, are_distinct};
 use crate::queue::Queue;
 use tag_core::{Caller, Map};
 use tag_search::after_clear;
@@ -80,30 +81,17 @@ impl<R: Copy> Queue<R> {
     }
 }
 
-/// Returns whether each number in the list is below the depth.
-fn are_below(tags: &[u32], depth: u32) -> bool
-    ensures { IsTrue result ↔ All (λ tag. tag < depth) tags.now }
-{
-    for tag in tags {
-        if *tag >= depth {
-            return false;
-        }
-    }
-    true
-}
-
 /// Returns whether each tag in the list is held, and none is named twice.
-/// Each is compared with those before it: at most 2,016 comparisons for 64 tags.
 fn are_held_once<R>(caller: &Caller<R>, tags: &[u32]) -> bool
     requires { AreTags (caller.now.shape.value.layout) tags.now }
     ensures { IsTrue result ↔ AreHeldOnce caller.now tags.now }
 {
-    for i in 0..tags.len() {
-        if !caller.holds(tags[i]) || tags[..i].contains(&tags[i]) {
+    for tag in tags {
+        if !caller.holds(*tag) {
             return false;
         }
     }
-    true
+    are_distinct(tags)
 }
 
 /// Frees held tags. Successive tags of the list that lie in one word take one step.

@@ -30,8 +30,7 @@ impl<R: Copy> Queue<R> {
         ensures err { OnErr result (agent.new ≡ agent.old) }
     {
         self.find_held(agent, tag)?;
-        self.put(agent, tag);
-        Ok(self.ring(self.complete(agent, 1)))
+        Ok(self.clear_held(agent, tag))
     }
 
     /// Like `clear`, but counts nothing and wakes nobody. It is refused as `clear` is: `NoSuchTag`, `NotHeld`.

@@ -14,10 +14,7 @@ use tag_core::Map;
 use tag_layout::{Layout, LayoutFault};
 use tag_model::{MAX_CALLERS, MOST_WON};
 use tag_search::Hint;
-use wake_book::{Book, Groups};
-
-/// The highest cap, in completions: 2^56.
-const MAX_CAP: u64 = 72_057_594_037_927_936;
+use wake_book::{Book, Groups, MAX_CAP};
 
 impl<R: Copy> Queue<R> {
     /// Opens a queue of `depth` free tags, at most 10,240, each with a slot that contains `fill`, and returns it with

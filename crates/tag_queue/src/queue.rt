@@ -4,7 +4,8 @@ ghost use Rattle.wake_book.specs.Book.{batch_of, tellers_of};
 ghost use Rattle.wake_book.specs.Groups.{waiters_of};
 
 use tag_core::Map;
-use wake_book::{Book, Groups};
+use tag_model::MOST_WON;
+use wake_book::{Book, Groups, MAX_CAP};
 
 /// The options with which a queue is opened.
 #[derive(Clone, Copy, Debug, PartialEq, Eq)]
@@ -22,6 +23,64 @@ pub struct Options {
     pub life: u64,
     /// Completions that one agent may count in all, at most 2^56.
     pub cap: u64,
+}
+
+impl Options {
+    ghost use Rattle.std.specs.Prelude.{◌≡◌, true, false, None, Some};
+    ghost use Rattle.tag_model.specs.declared.world.TheConstants.{MOST_WON};
+    ghost use Rattle.wake_book.specs.declared.book_opening.TheConstants.{MAX_CAP};
+
+    /// Returns the options for this many agents, 1 to 64, and otherwise the defaults: the shift that fits the depth, no
+    /// round robin, no minimum shallow depth, and the greatest life and cap.
+    pub fn new(callers: u32) -> Options
+        ensures { result ≡ record {
+          shift = None;
+          round_robin = false;
+          min_shallow = None;
+          callers = callers;
+          life = MOST_WON;
+          cap = MAX_CAP;
+        } }
+    {
+        Options {
+            shift: None,
+            round_robin: false,
+            min_shallow: None,
+            callers,
+            life: MOST_WON,
+            cap: MAX_CAP,
+        }
+    }
+
+    /// Returns these options with words of `2^shift` bits, where `shift` is 0 to 6.
+    pub fn with_shift(self, shift: u32) -> Options
+        ensures { result ≡ record self { shift = Some shift } }
+    {
+        Options {
+            shift: Some(shift),
+            ..self
+        }
+    }
+
+    /// Returns these options with round robin gets.
+    pub fn with_round_robin(self) -> Options
+        ensures { result ≡ record self { round_robin = true } }
+    {
+        Options {
+            round_robin: true,
+            ..self
+        }
+    }
+
+    /// Returns these options with this minimum shallow depth.
+    pub fn with_min_shallow(self, depth: u32) -> Options
+        ensures { result ≡ record self { min_shallow = Some depth } }
+    {
+        Options {
+            min_shallow: Some(depth),
+            ..self
+        }
+    }
 }
 
 /// Tags shared by up to 64 agents without a lock, with a count of completions and groups of waiters.

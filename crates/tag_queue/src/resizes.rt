@@ -2,9 +2,10 @@
 ghost use Rattle.std.specs.Prelude.{◌≡◌, ◌<◌, ◌↔◌, ℕ, All, IfOk, IfErr, IsOk, MatchOption, MatchResult};
 ghost use Rattle.step_ledger.specs.Views.{HasAll, IsLeastMissing};
 ghost use Rattle.tag_layout.specs.declared.layout.TheConstants.{MAX_DEPTH};
-ghost use Rattle.tag_queue.specs.Agents.{IsAgentOf, AreUnchanged, agents_of, numbers_of, layout_of};
+ghost use Rattle.tag_queue.specs.Agents.{IsAgentOf, AreUnchanged, agents_of, numbers_of, records_of, layout_of};
 ghost use Rattle.tag_queue.specs.Resizing.{IsRefusedAs, IsRefusedFor, IsResized, MayResize, HasMap, layout_at};
 ghost use Rattle.tag_queue.specs.Resizing.{AreUnused, AreUsed, AreWaiting, IsBusyFor, standing_count};
+ghost use Rattle.tag_queue.specs.Using.{Balance};
 
 use crate::agent::Agent;
 use crate::queue::Queue;
@@ -66,6 +67,8 @@ impl<R: Copy> Queue<R> {
         ensures waiting { (n : ℕ) → IsRefusedAs result (ResizeCause.Waiting n)
             ↔ (HasMap queue agents.items depth × AreWaiting agents.items n) }
         ensures memory { IsRefusedAs result ResizeCause.Memory → MayResize queue agents.items depth }
+
+        ensures balance { HasMap queue agents.items depth → Balance (records_of agents.items) }
         ensures err { IfErr result (λ fault. (fault.queue ≡ queue) × AreUnchanged agents.items fault.agents.items) }
         ensures own { IfErr result (λ fault. All (IsAgentOf fault.queue) fault.agents.items) }
     {
@@ -98,6 +101,7 @@ impl<R> Queue<R> {
         ensures may { IsOk result → MayResize self.now agents.old.items depth }
         ensures layout { IfOk result (λ layout. layout ≡ layout_at self.now depth) }
         ensures cause { IfErr result (IsRefusedFor self.now agents.old.items depth) }
+        ensures balance { HasMap self.now agents.old.items depth → Balance (records_of agents.old.items) }
     {
         if let Some(number) = self.missing(agents.as_slice()) {
             return Err(ResizeCause::Missing(number));
@@ -121,6 +125,7 @@ impl<R> Queue<R> {
         ensures unchanged { AreUnchanged agents.old.items agents.new.items }
         ensures cause { MatchOption result (AreUnused agents.old.items × (standing_count agents.old.items ≡ 0))
             (IsBusyFor agents.old.items) }
+        ensures balance { Balance (records_of agents.old.items) }
     {
         let totals = self.settle(agents);
         if totals.held != 0 || totals.posted != 0 {

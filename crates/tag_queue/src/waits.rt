@@ -111,8 +111,9 @@ impl<R: Copy> Queue<R> {
         ensures agent { IsAgentOf self.now agent.new }
         ensures looks { group_steps agent.new ≡ Look active_at result ∷ group_steps agent.old }
         ensures own { IsSome (standing_of agent.old) → 1 ≤ result }
+        ensures counts { teller_of agent.new ≡ teller_of agent.old }
         ensures same { (caller_of agent.new ≡ caller_of agent.old) × (hint_of agent.new ≡ hint_of agent.old)
-            × (teller_of agent.new ≡ teller_of agent.old) × StandsAsBefore (waiter_of agent.old) (waiter_of agent.new) }
+            × StandsAsBefore (waiter_of agent.old) (waiter_of agent.new) }
     {
         self.groups.active(&mut agent.waiter)
     }

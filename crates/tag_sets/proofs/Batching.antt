@@ -43,7 +43,7 @@ module _ {R : Type 0} (tags : Tags R) (hand : Hand R) (own : IsHandOf tags hand)
   at_place k d l = ap (λ (xs : List ℕ). get_or xs k d + reserved_of tags) is
       ∙ number_at (reserved_of tags) list above k d d (let same = same_count in omega arith)
 
-  counts_there : CountsTags list → queue_batches.CountsTags named
+  pub counts_there : CountsTags list → queue_batches.CountsTags named
   counts_there h = let low = h.0 in let high = h.1 in let same = same_count in (omega arith, omega arith)
 
   counts_back : queue_batches.CountsTags named → CountsTags list
@@ -70,7 +70,7 @@ module _ {R : Type 0} (tags : Tags R) (hand : Hand R) (own : IsHandOf tags hand)
       subst (λ (k : Kind). queue.Holds (agent_of hand k) (number_in_set (split_of hand) tag)) (sym o.kind)
       (subst (λ (m : ℕ). queue.Holds hand.ordinary m) (omega (arith, split)) h)
 
-  held_there : AreHeldOnce hand list → queue_batches.AreHeldOnce (queue.caller_of hand.ordinary) named
+  pub held_there : AreHeldOnce hand list → queue_batches.AreHeldOnce (queue.caller_of hand.ordinary) named
   held_there h = let same = same_count in (
     λ k d l. holds_there (get_or list k d) (get_or named k d) (at_place k d l) (h.0 k d (omega arith)),
     λ j k d less l e. let a = at_place j d (omega arith) in let b = at_place k d l in
@@ -89,7 +89,7 @@ module _ {R : Type 0} (tags : Tags R) (hand : Hand R) (own : IsHandOf tags hand)
       → queue_batches.AreTags (layout_of tags Ordinary) named
   are_tags h k d l = subst (λ (s : Shape). get_or named k d < s.layout.depth) own.1.0.1 (h.0 k d l).0
 
-  gives_back : (agent : Agent R) → queue_batches.GivesBack (layout_of tags Ordinary) named hand.ordinary agent
+  pub gives_back : (agent : Agent R) → queue_batches.GivesBack (layout_of tags Ordinary) named hand.ordinary agent
       → GivesBack tags list hand (record hand { ordinary = agent })
   gives_back agent g = let new = record hand { ordinary = agent } in
       let numbers = numbers_of (reserved_of tags) list in
@@ -102,22 +102,21 @@ module _ {R : Type 0} (tags : Tags R) (hand : Hand R) (own : IsHandOf tags hand)
         set = record { changed = given; other = refl; split = refl };
       }
 
-  -- what is said of the tags by a result that tells of their numbers
-  pub record Answers {A : Type 0} (agent : Agent R) (r : Result A TagFault) : Type 0 where
+  -- what is said of the tags by a refusal that tells of their numbers
+  pub record Refusals {A : Type 0} (r : Result A TagFault) : Type 0 where
     pub no_such_tag : (r ≡ Err NoSuchTag) ↔ (CountsTags list × ¬ (AreOrdinary tags list))
     pub not_held : (r ≡ Err NotHeld) ↔ (CountsTags list × AreOrdinary tags list × ¬ (AreHeldOnce hand list))
     pub succeeds : IsOk r ↔ (CountsTags list × AreOrdinary tags list × AreHeldOnce hand list)
-    pub gives : OnOk r (GivesBack tags list hand (record hand { ordinary = agent }))
 
   -- a condition on the numbers holds exactly if the same condition on the tags does
-  pub answered : {A : Type 0} (agent : Agent R) (r : Result A TagFault)
+  pub refused : {A : Type 0} (r : Result A TagFault)
       → (r ≡ Err NoSuchTag)
       ↔ (queue_batches.CountsTags named × ¬ (queue_batches.AreTags (layout_of tags Ordinary) named))
       → (r ≡ Err NotHeld) ↔ (queue_batches.CountsTags named × queue_batches.AreTags (layout_of tags Ordinary) named
       × ¬ (queue_batches.AreHeldOnce (queue.caller_of hand.ordinary) named))
       → IsOk r ↔ (queue_batches.CountsTags named × queue_batches.AreHeldOnce (queue.caller_of hand.ordinary) named)
-      → OnOk r (queue_batches.GivesBack (layout_of tags Ordinary) named hand.ordinary agent) → Answers agent r
-  answered agent r none not_held ok gives = record {
+      → Refusals r
+  refused r none not_held ok = record {
     no_such_tag = (
       λ e. let h = none.0 e in (counts_back h.0, λ o. h.1 (tags_there o)),
       λ h. none.1 (counts_there h.0, λ t. h.1 (tags_back t)),
@@ -130,5 +129,26 @@ module _ {R : Type 0} (tags : Tags R) (hand : Hand R) (own : IsHandOf tags hand)
       λ e. let h = ok.0 e in (counts_back h.0, tags_back (are_tags h.1), held_back h.1),
       λ h. ok.1 (counts_there h.0, held_there h.2),
     );
+  }
+
+  -- what is said of the tags by a result that tells of their numbers
+  pub record Answers {A : Type 0} (agent : Agent R) (r : Result A TagFault) : Type 0 where
+    pub no_such_tag : (r ≡ Err NoSuchTag) ↔ (CountsTags list × ¬ (AreOrdinary tags list))
+    pub not_held : (r ≡ Err NotHeld) ↔ (CountsTags list × AreOrdinary tags list × ¬ (AreHeldOnce hand list))
+    pub succeeds : IsOk r ↔ (CountsTags list × AreOrdinary tags list × AreHeldOnce hand list)
+    pub gives : OnOk r (GivesBack tags list hand (record hand { ordinary = agent }))
+
+  -- the same of a call that gives them back
+  pub answered : {A : Type 0} (agent : Agent R) (r : Result A TagFault)
+      → (r ≡ Err NoSuchTag)
+      ↔ (queue_batches.CountsTags named × ¬ (queue_batches.AreTags (layout_of tags Ordinary) named))
+      → (r ≡ Err NotHeld) ↔ (queue_batches.CountsTags named × queue_batches.AreTags (layout_of tags Ordinary) named
+      × ¬ (queue_batches.AreHeldOnce (queue.caller_of hand.ordinary) named))
+      → IsOk r ↔ (queue_batches.CountsTags named × queue_batches.AreHeldOnce (queue.caller_of hand.ordinary) named)
+      → OnOk r (queue_batches.GivesBack (layout_of tags Ordinary) named hand.ordinary agent) → Answers agent r
+  answered agent r none not_held ok gives = let told = refused r none not_held ok in record {
+    no_such_tag = told.no_such_tag;
+    not_held = told.not_held;
+    succeeds = told.succeeds;
     gives = on_ok_weaker r (gives_back agent) gives;
   }

@@ -11,6 +11,7 @@ pub mod Tallies
 pub mod Around
 pub mod Sizes
 pub mod Writings
+pub mod Dumped
 pub mod Ranges
 pub mod Marking
 pub mod Listing

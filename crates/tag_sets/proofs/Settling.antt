@@ -15,11 +15,11 @@ use Rattle.tag_queue.specs.declared.resizes.ResizeCause.{ResizeCause}
 use Rattle.tag_queue.specs.declared.resizes.ResizeCause.TheVariants.{Missing, DepthTooLarge, InUse, Waiting, Memory}
 use Rattle.tag_queue.specs.Agents.{AreUnchanged, records_of, shape_of}
 use Rattle.tag_queue.specs.Resizing.{HasMap, AreUnused}
-use Rattle.tag_queue.specs.Using.{AreInUse, held_in, posted_in}
-use Rattle.tag_queue.proofs.NextMaps.{posted_is}
+use Rattle.tag_queue.specs.Using.{AreInUse, Balance, held_in, posted_in}
+use Rattle.tag_queue.proofs.NextMaps.{posted_is, balance_is as even}
 use Rattle.tag_queue.proofs.Refusals.{AreToldOf}
 use Rattle.tag_queue.proofs.Unchanged.{unchanged-records, length-records}
-use Rattle.tag_sets.specs.Resizing.{Balance, MayStillFail}
+use Rattle.tag_sets.specs.Resizing.{MayStillFail}
 use Rattle.tag_sets.proofs.Gathering.{won-le, few_below}
 
 module _ {R : Type 0} (q : Queue R) (olds news : List (Agent R)) (held posted : ℕ)
@@ -51,10 +51,8 @@ module _ {R : Type 0} (q : Queue R) (olds news : List (Agent R)) (held posted : 
 
   -- each tag that was won was given back, is held or is posted
   pub balance_is : Balance (records_of olds)
-  balance_is =
-      let got = used.settled.got in let back = used.settled.back in let held = used.settled.held in
-      let even = used.settled.balance in
-      subst (λ (rs : List (Record R)). Balance rs) records (omega arith)
+  balance_is = subst (λ (rs : List (Record R)). Balance rs) records
+      (even (shape_of q) (records_of news) used.totals used.settled)
 
 -- if all agents are present, the depth is in range and no tag is in use, a resize fails only for waits or memory
 pub still_fails : {R : Type 0} (q : Queue R) (agents : List (Agent R)) (depth : ℕ) (cause : ResizeCause)

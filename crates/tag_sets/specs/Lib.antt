@@ -17,3 +17,4 @@ pub mod Bits
 pub mod Busy
 pub mod Dumps
 pub mod Resizing
+pub mod Tallies

@@ -4,15 +4,13 @@ use mathlib.Core.Option.{some}
 use lib.ListN.{get_elem?}
 use Rattle.step_ledger.specs.Views.{HasAll, IsLeastMissing}
 use Rattle.tag_layout.specs.declared.layout.TheConstants.{MAX_DEPTH}
-use Rattle.tag_core.specs.declared.record.Record.{Record}
-use Rattle.tag_core.specs.Sizes.{total_of as sum_of}
 use Rattle.tag_queue.specs.declared.agent.Agent.{Agent}
 use Rattle.tag_queue.specs.declared.queue.Queue.{Queue}
 use Rattle.tag_queue.specs.declared.resizes.ResizeCause.{ResizeCause}
 use Rattle.tag_queue.specs.declared.resizes.ResizeCause.TheVariants.{Missing, DepthTooLarge, InUse, Waiting, Memory}
 use Rattle.tag_queue.specs.Agents as queue
 use Rattle.tag_queue.specs.Resizing as queue_resizing
-use Rattle.tag_queue.specs.Using.{held_in, posted_in}
+use Rattle.tag_queue.specs.Using.{held_in, posted_in, Balance}
 use Rattle.tag_sets.specs.declared.hand.Hand.{Hand}
 use Rattle.tag_sets.specs.declared.resizes.TagsResizeFault.{TagsResizeFault}
 use Rattle.tag_sets.specs.declared.tags.Tags.{Tags}
@@ -42,12 +40,7 @@ abbrev pub posted_in_both : {R : Type 0} → List (Hand R) → ℕ
 posted_in_both hands = posted_in (queue.records_of (map ordinary_part hands))
     + posted_in (queue.records_of (map reserved_part hands))
 
--- each tag that these callers won was given back, is held or is posted
-abbrev pub Balance : {R : Type 0} → List (Record R) → Type 0
-Balance {R} rs =
-    sum_of (λ (r : Record R). r.won) rs ≡ sum_of (λ (r : Record R). r.back) rs + held_in rs + posted_in rs
-
--- this holds in each set
+-- in each set, each tag that these hands won was given back, is held or is posted
 abbrev pub BalanceInBoth : {R : Type 0} → List (Hand R) → Type 0
 BalanceInBoth hands = Balance (queue.records_of (map ordinary_part hands))
     × Balance (queue.records_of (map reserved_part hands))

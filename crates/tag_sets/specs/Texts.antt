@@ -1,5 +1,7 @@
 -- The texts of shows and dumps.
-use Rattle.std.specs.Prelude.{ℕ, zero, suc, ◌+◌, ◌/◌, ◌%◌, ◌==◌, ◌||◌, if◌then◌else◌, false, List, [], ◌∷◌, ◌++◌, length, slice_index, codes}
+use Rattle.std.specs.Prelude.{ℕ, zero, suc, ◌-◌, ◌*◌, ◌/◌, ◌%◌, ◌==◌, min, if◌then◌else◌, false, List, [], ◌∷◌, ◌++◌, length, slice_index, codes}
+use Rattle.std.specs.Int.{div_ceil}
+use Rattle.std.specs.List.{flat_map, range_with_len}
 use Rattle.std.specs.Fmt.{decimal, digit_glyph}
 use Rattle.tag_sets.specs.declared.shown.Shown.{Shown}
 
@@ -18,28 +20,15 @@ abbrev pub hex_digits : ℕ → ℕ → List ℕ
 hex_digits zero n = []
 hex_digits (suc width) n = hex_digits width (n / 16) ++ digit_glyph false (n % 16) ∷ []
 
--- what comes before a byte that is the first of its line: the offset and a colon
-abbrev pub head_text : ℕ → List ℕ
-head_text offset = if offset % 16 == 0 then hex_digits 8 offset ++ codes ":" else []
-
--- what comes before the first of two bytes: a space
-abbrev pub gap_text : ℕ → List ℕ
-gap_text offset = if offset % 2 == 0 then codes " " else []
-
--- what comes after the last byte of a line, which is the sixteenth or the last of all: a line feed
-abbrev pub end_text : ℕ → ℕ → List ℕ
-end_text count offset = if offset % 16 == 15 || offset + 1 == count then codes "\n" else []
-
--- the text for the byte at an offset
+-- a byte of a dump: two digits, with a space before them if its offset is even
 abbrev pub byte_text : List ℕ → ℕ → List ℕ
-byte_text bytes offset = head_text offset ++ gap_text offset ++ hex_digits 2 (slice_index bytes offset)
-    ++ end_text (length bytes) offset
+byte_text bytes offset = (if offset % 2 == 0 then codes " " else []) ++ hex_digits 2 (slice_index bytes offset)
 
--- the texts of the bytes before an offset, one after another
-abbrev pub texts_below : List ℕ → ℕ → List ℕ
-texts_below bytes zero = []
-texts_below bytes (suc n) = texts_below bytes n ++ byte_text bytes n
+-- a line of a dump: the offset at which it starts, a colon, and the next sixteen bytes, or as many as are left
+abbrev pub line_text : List ℕ → ℕ → List ℕ
+line_text bytes start = hex_digits 8 start ++ codes ":"
+    ++ flat_map (byte_text bytes) (range_with_len start (min 16 (length bytes - start))) ++ codes "\n"
 
--- the text of a dump, sixteen bytes a line
+-- the text of a dump: a line for every sixteen bytes, and one for the bytes after them
 abbrev pub dump_text : List ℕ → List ℕ
-dump_text bytes = texts_below bytes (length bytes)
+dump_text bytes = flat_map (λ line. line_text bytes (16 * line)) (range_with_len 0 (div_ceil (length bytes) 16))

@@ -4,11 +4,15 @@
 
 mod batches;
 mod busy;
+mod checks;
 mod clears;
+mod counts;
 mod dump;
+mod finds;
 mod gather;
 mod gets;
 mod hand;
+mod held;
 mod holds;
 mod kind;
 mod looks;
@@ -24,6 +28,7 @@ mod shown;
 mod shows;
 mod silent;
 mod slots;
+mod stands;
 mod tags;
 mod texts;
 mod twins;
@@ -35,7 +40,10 @@ pub use kind::Kind;
 pub use resizes::TagsResizeFault;
 pub use shown::Shown;
 pub use step_ledger::{GatherCause, Numbered};
-pub use tag_queue::{Options, QueueTotals, ResizeCause, SetFault, TagFault, Wakes};
+pub use tag_queue::{
+    MAX_CALLERS, MAX_CAP, MAX_DEPTH, MAX_SHIFT, MOST_WON, Options, QueueTotals, ResizeCause,
+    SetFault, TagFault, Wakes,
+};
 pub use tags::Tags;
 pub use texts::{write_dump, write_show};
 pub use wake_book::{Grants, Left};

@@ -4,14 +4,14 @@ ghost use Rattle.step_ledger.specs.Views.{HasAll};
 ghost use Rattle.tag_layout.specs.declared.layout.TheConstants.{MAX_DEPTH};
 ghost use Rattle.tag_queue.specs.Agents.{IsAgentOf, AreUnchanged as AgentsUnchanged, agents_of, layout_of, records_of};
 ghost use Rattle.tag_queue.specs.Agents.{numbers_of as agent_numbers};
-ghost use Rattle.tag_queue.specs.Using.{held_in, posted_in};
+ghost use Rattle.tag_queue.specs.Using.{held_in, posted_in, Balance};
 ghost use Rattle.tag_queue.specs.Resizing.{HasMap};
 ghost use Rattle.tag_queue.specs.Resizing as queue_resizing;
 ghost use Rattle.tag_sets.specs.Hands.{IsHandOf, reserved_of};
 ghost use Rattle.tag_sets.specs.Gathering.{hands_of, numbers_of};
 ghost use Rattle.tag_sets.specs.Opening.{AreParts, HasRange};
 ghost use Rattle.tag_sets.specs.Resizing.{AreSame, AreUnchanged, AreUnused, held_in_both, posted_in_both};
-ghost use Rattle.tag_sets.specs.Resizing.{Balance, BalanceInBoth, IsResized, IsRefusedFor, MayResize, MayStillFail};
+ghost use Rattle.tag_sets.specs.Resizing.{BalanceInBoth, IsResized, IsRefusedFor, MayResize, MayStillFail};
 
 use crate::hand::Hand;
 use crate::resizes::TagsResizeFault;

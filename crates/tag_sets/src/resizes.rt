@@ -50,7 +50,7 @@ impl<R: Copy> Tags<R> {
             ↔ (HasMap tags hands.items total × AreWaiting hands.items n) }
         ensures memory { IsRefusedAs result ResizeCause.Memory → MayResize tags hands.items total }
 
-        ensures balance { (held posted : ℕ) → IsRefusedAs result (ResizeCause.InUse held posted) → BalanceInBoth hands.items }
+        ensures balance { HasMap tags hands.items total → BalanceInBoth hands.items }
         ensures err { IfErr result (λ fault. AreSame tags fault.tags × AreUnchanged hands.items fault.hands.items) }
         ensures own { IfErr result (λ fault. All (IsHandOf fault.tags) fault.hands.items) }
     {
@@ -71,8 +71,7 @@ impl<R: Copy> Tags<R> {
         ensures unchanged { AreUnchanged hands.old.items hands.new.items }
         ensures cause { MatchOption result.1 (HasMap self hands.old.items total × AreUnused hands.old.items)
             (IsRefusedFor self hands.old.items total) }
-        ensures balance { (held posted : ℕ) → result.1 ≡ Some (ResizeCause.InUse held posted)
-            → BalanceInBoth hands.old.items }
+        ensures balance { HasMap self hands.old.items total → BalanceInBoth hands.old.items }
     {
         if let Some(number) = least_missing(hands.as_slice(), self.rooms.count) {
             return (self, Some(ResizeCause::Missing(number)));

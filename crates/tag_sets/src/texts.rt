@@ -1,8 +1,8 @@
 //! The texts of shows and dumps.
-ghost use Rattle.std.specs.Prelude.{◌≡◌, ◌++◌, ◌<◌, ◌≤◌, ◌^◌, OnOk, codes, false};
+ghost use Rattle.std.specs.Prelude.{◌≡◌, ◌+◌, ◌++◌, ◌%◌, ◌<◌, ◌≤◌, ◌==◌, ◌||◌, if◌then◌else◌, [], OnOk, codes, false};
 ghost use Rattle.std.specs.Fmt.{digit_glyph};
 ghost use Rattle.std.specs.Io.KnownBytes.{Appends};
-ghost use Rattle.tag_sets.specs.Texts.{field, shown_text, dump_text, hex_digits, head_text, gap_text, end_text};
+ghost use Rattle.tag_sets.specs.Texts.{field, shown_text, dump_text, hex_digits};
 
 use crate::shown::Shown;
 use itoa::Buffer;
@@ -49,7 +49,8 @@ pub fn write_dump<W: Write>(bytes: &[u8], writer: &mut W) -> Result<()>
 }
 
 fn write_head<W: Write>(writer: &mut W, offset: usize) -> Result<()>
-    ensures { OnOk result (Appends (W.contents writer.old) (W.contents writer.new) (head_text offset)) }
+    ensures { let head = (if offset % 16 == 0 then hex_digits 8 offset ++ codes ":" else []) in
+        OnOk result (Appends (W.contents writer.old) (W.contents writer.new) head) }
 {
     if offset % LINE_BYTES != 0 {
         return Ok(());
@@ -60,7 +61,8 @@ fn write_head<W: Write>(writer: &mut W, offset: usize) -> Result<()>
 }
 
 fn write_gap<W: Write>(writer: &mut W, offset: usize) -> Result<()>
-    ensures { OnOk result (Appends (W.contents writer.old) (W.contents writer.new) (gap_text offset)) }
+    ensures { let gap = (if offset % 2 == 0 then codes " " else []) in
+        OnOk result (Appends (W.contents writer.old) (W.contents writer.new) gap) }
 {
     if offset % 2 != 0 {
         return Ok(());
@@ -70,7 +72,8 @@ fn write_gap<W: Write>(writer: &mut W, offset: usize) -> Result<()>
 
 fn write_end<W: Write>(writer: &mut W, count: usize, offset: usize) -> Result<()>
     requires { offset < count }
-    ensures { OnOk result (Appends (W.contents writer.old) (W.contents writer.new) (end_text count offset)) }
+    ensures { let end = (if offset % 16 == 15 || offset + 1 == count then codes "\n" else []) in
+        OnOk result (Appends (W.contents writer.old) (W.contents writer.new) end) }
 {
     if offset % LINE_BYTES == LINE_BYTES - 1 || offset + 1 == count {
         return writer.write_all(b"\n");

@@ -7,8 +7,7 @@ use crate::hand::Hand;
 use crate::tags::Tags;
 use step_ledger::Numbered;
 
-/// Returns the indexes of two hands with the same number, the lower one first, or `None` if all numbers differ. It compares
-/// at most 2,016 pairs for 64 hands.
+/// Returns the indexes of two hands with the same number, the lower one first, or `None` if all numbers differ.
 fn twins<R>(hands: &[Hand<R>]) -> Option<(usize, usize)>
     ensures { MatchOption result (AreDistinct (numbers_of hands.now)) (λ pair. AreTwins (numbers_of hands.now) pair.0 pair.1) }
 {
@@ -23,20 +22,23 @@ fn twins<R>(hands: &[Hand<R>]) -> Option<(usize, usize)>
 }
 
 impl<R: Copy> Tags<R> {
-    /// Establishes that there are at most as many hands as the tags were opened for. Each number is below that, so hands
-    /// with different numbers are at most as many; if two had the same number, `meet` would show that they differ.
+    /// Establishes that there are at most as many hands as the tags were opened for, by one comparison.
     pub(crate) fn tell_few(&self, mut hands: Vec<Hand<R>>) -> Vec<Hand<R>>
         requires { All (IsHandOf self.now) hands.items }
         ensures same { result ≡ hands }
         ensures few { length result.items ≤ hands_of self.now }
     {
-        if let Some((first, second)) = twins(hands.as_slice()) {
-            // The later one first, so that the earlier index still holds.
-            let mut later = hands.remove(second);
-            let mut earlier = hands.remove(first);
-            self.meet(&mut earlier, &mut later);
-            unreachable!()
+        if hands.len() <= self.rooms.count as usize {
+            return hands;
         }
-        hands
+        // More hands than numbers: two would have the same number, and `meet` shows that they differ.
+        let Some((first, second)) = twins(hands.as_slice()) else {
+            unreachable!()
+        };
+        // The later one first, so that the earlier index still holds.
+        let mut later = hands.remove(second);
+        let mut earlier = hands.remove(first);
+        self.meet(&mut earlier, &mut later);
+        unreachable!()
     }
 }

@@ -80,6 +80,7 @@ impl<R: Copy> Tags<R> {
         ensures hand { IsHandOf self.now hand.new }
         ensures looks { group_steps hand.new ≡ Look active_at result ∷ group_steps hand.old }
         ensures own { IsSome (standing_of hand.old) → 1 ≤ result }
+        ensures counts { teller_of (agent_of hand.new Ordinary) ≡ teller_of (agent_of hand.old Ordinary) }
         ensures same { Stays hand.old hand.new }
     {
         self.ordinary.active(&mut hand.ordinary)

@@ -1,1 +1,4 @@
+pub mod Building
+pub mod Choosing
+pub mod Entering
 pub mod Reading

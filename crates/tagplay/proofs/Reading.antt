@@ -24,10 +24,12 @@ optional E G bits f id read parses none value = record {
   some = λ text number e s. reads E G bits text number read (parses text) (value text (one_text-rows f id ∙ e)) s;
 }
 
-pub flagged : (f : Found) (id : Text) (flag : Bool) → (one_text f id ≡ Some (codes "true") → flag ≡ true)
+pub flagged : (f : Found) (id : Text) (flag : Bool) → (one_text f id ≡ None → flag ≡ false)
+    → (one_text f id ≡ Some (codes "true") → flag ≡ true)
     → (one_text f id ≡ Some (codes "false") → flag ≡ false)
     → IsFlag (rows_of f) id flag
-flagged f id flag set unset = record {
+flagged f id flag none set unset = record {
+  none = λ e. none (one_text-rows f id ∙ e);
   set = λ e. set (one_text-rows f id ∙ e);
   unset = λ e. unset (one_text-rows f id ∙ e);
 }

@@ -1,12 +1,13 @@
 -- What a choice of a subcommand stands for.
-use Rattle.std.specs.Prelude.{◌≡◌, ℕ, List, Option, Some, codes}
-use Rattle.clap.specs.Words.{Row, Text}
+use Rattle.std.specs.Prelude.{◌≡◌, ℕ, List, [], Option, Some, codes}
+use Rattle.clap.specs.Words.{Row, Text, fault_of, subcommand_of}
 use Rattle.tag_runs.specs.Reports.{Reports}
 use Rattle.tag_script.specs.declared.ending.Ending.{Ending}
 use Rattle.tag_script.specs.Check.{TellsVerdict}
 use Rattle.tag_script.specs.Script.{Owed}
 use Rattle.tagplay.specs.declared.choice.Choice.{Choice}
 use Rattle.tagplay.specs.declared.choice.Choice.TheVariants.{Script, Check, Play}
+use Rattle.tagplay.specs.CommandLine.{command_line}
 use Rattle.tagplay.specs.Options.{AreScriptOptions, AreCheckOptions, ArePlayOptions}
 
 -- the name of the subcommand, as it is typed
@@ -32,3 +33,8 @@ pub record IsChosen (entered : Option (Text × List Row)) (choice : Choice) : Ty
   pub rows : List Row
   pub is : entered ≡ Some (name_of choice, rows)
   pub options : HasOptions rows choice
+
+-- a parse of the words finds no fault, and the choice is the subcommand that it enters
+pub record Chooses (words : List Text) (choice : Choice) : Type 0 where
+  pub faultless : fault_of command_line words ≡ []
+  pub chosen : IsChosen (subcommand_of command_line words) choice

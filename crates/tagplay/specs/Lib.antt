@@ -1,3 +1,4 @@
 pub mod Choices
+pub mod CommandLine
 pub mod Options
 pub mod Status

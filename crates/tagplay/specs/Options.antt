@@ -12,43 +12,44 @@ pub record Spells (bits : ℕ) (text : Text) (number : ℕ) : Type 0 where
   pub value : digits_value 10 (without_leading_plus text) ≡ number
   pub fits : number < 2 ^ bits
 
--- the number is that of the option's text, which an option has that is required or has a default
-abbrev pub IsNumber : ℕ → List Row → Text → ℕ → Type 0
-IsNumber bits rows id number = (text : Text) (spelled : ℕ) → one_of id rows ≡ Some text → Spells bits text spelled
-    → number ≡ spelled
+-- the number is that of the option's text, or the default if there is no text
+pub record IsNumber (bits : ℕ) (rows : List Row) (id : Text) (default number : ℕ) : Type 0 where
+  pub none : one_of id rows ≡ None → number ≡ default
+  pub some : (text : Text) (spelled : ℕ) → one_of id rows ≡ Some text → Spells bits text spelled → number ≡ spelled
 
 -- the number is that of the option's text, and there is none if there is no text
 pub record IsOptional (bits : ℕ) (rows : List Row) (id : Text) (number : Option ℕ) : Type 0 where
   pub none : one_of id rows ≡ None → number ≡ None
   pub some : (text : Text) (spelled : ℕ) → one_of id rows ≡ Some text → Spells bits text spelled → number ≡ Some spelled
 
--- the flag is what the option's text says
+-- the flag is what the option's text says, and not set if there is no text
 pub record IsFlag (rows : List Row) (id : Text) (flag : Bool) : Type 0 where
+  pub none : one_of id rows ≡ None → flag ≡ false
   pub set : one_of id rows ≡ Some (codes "true") → flag ≡ true
   pub unset : one_of id rows ≡ Some (codes "false") → flag ≡ false
 
 -- the options of `script`
 pub record AreScriptOptions (rows : List Row) (o : ScriptOptions) : Type 0 where
-  pub tags : IsNumber 32 rows (codes "tags") o.tags
-  pub reserved : IsNumber 32 rows (codes "reserved") o.reserved
+  pub tags : IsNumber 32 rows (codes "tags") 0 o.tags
+  pub reserved : IsNumber 32 rows (codes "reserved") 0 o.reserved
   pub shift : IsOptional 32 rows (codes "shift") o.shift
   pub round_robin : IsFlag rows (codes "round-robin") o.round_robin
   pub min_shallow : IsOptional 32 rows (codes "min-shallow") o.min_shallow
-  pub callers : IsNumber 32 rows (codes "callers") o.callers
-  pub life : IsNumber 64 rows (codes "life") o.life
+  pub callers : IsNumber 32 rows (codes "callers") 1 o.callers
+  pub life : IsNumber 64 rows (codes "life") (2 ^ 48) o.life
   pub plain : IsFlag rows (codes "plain") o.plain
 
 -- the options of `check`
 pub record AreCheckOptions (rows : List Row) (o : CheckOptions) : Type 0 where
-  pub tags : IsNumber 32 rows (codes "tags") o.tags
+  pub tags : IsNumber 32 rows (codes "tags") 0 o.tags
   pub shift : IsOptional 32 rows (codes "shift") o.shift
-  pub callers : IsNumber 32 rows (codes "callers") o.callers
+  pub callers : IsNumber 32 rows (codes "callers") 1 o.callers
 
 -- the options of `play`
 pub record ArePlayOptions (rows : List Row) (o : PlayOptions) : Type 0 where
-  pub tags : IsNumber 32 rows (codes "tags") o.tags
-  pub reserved : IsNumber 32 rows (codes "reserved") o.reserved
+  pub tags : IsNumber 32 rows (codes "tags") 0 o.tags
+  pub reserved : IsNumber 32 rows (codes "reserved") 0 o.reserved
   pub shift : IsOptional 32 rows (codes "shift") o.shift
-  pub submitters : IsNumber 32 rows (codes "submitters") o.submitters
-  pub completers : IsNumber 32 rows (codes "completers") o.completers
-  pub queue : IsNumber 32 rows (codes "queue") o.queue
+  pub submitters : IsNumber 32 rows (codes "submitters") 1 o.submitters
+  pub completers : IsNumber 32 rows (codes "completers") 1 o.completers
+  pub queue : IsNumber 32 rows (codes "queue") 64 o.queue

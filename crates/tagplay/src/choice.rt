@@ -1,10 +1,10 @@
 //! The subcommand that a command line names.
-ghost use Rattle.std.specs.Prelude.{◌≡◌, ◌≢◌, ◌||◌, Some, IsNone, IfSome, IfOk, IfErr, IsErrOf};
-ghost use Rattle.clap.specs.Matches.{subcommand_name_of};
+ghost use Rattle.std.specs.Prelude.{◌≡◌, ◌≢◌, ◌||◌, IsNone, IfSome, IfOk, IfErr, IsErrOf};
 ghost use Rattle.clap.specs.Words.{subcommand_rows_of};
 ghost use Rattle.tag_runs.specs.Input.{StopsReading, is_read_fault};
 ghost use Rattle.tag_runs.specs.Runs.{HasOutput, WritesOutput};
-ghost use Rattle.tagplay.specs.Choices.{name_of, owed_by, IsChosen};
+ghost use Rattle.tagplay.specs.Choices.{owed_by, IsChosen};
+ghost use Rattle.tagplay.specs.CommandLine.{EntersOne};
 ghost use Rattle.tagplay.specs.declared.choice.Choice.{Choice};
 
 use crate::options::{check_options, play_options, script_options};
@@ -31,7 +31,7 @@ impl Choice {
     /// Returns the subcommand given, with its options, or `None` if it is none of the three.
     pub(crate) fn named(matches: &ArgMatches) -> Option<Choice>
         ensures named { IfSome result (IsChosen (subcommand_rows_of matches.now)) }
-        ensures none { IsNone result → (choice : Choice) → ¬ (subcommand_name_of matches.now ≡ Some (name_of choice)) }
+        ensures none { IsNone result → ¬ EntersOne (subcommand_rows_of matches.now) }
     {
         let (name, options) = matches.subcommand()?;
         if name == "script" {

@@ -1,12 +1,17 @@
 //! Parses a command line and runs the subcommand that it names.
-ghost use Rattle.std.specs.Prelude.{◌≡◌, IfOk};
+ghost use Rattle.std.specs.Prelude.{◌≡◌, ◌≢◌, ◌||◌, ℕ, map, IfErr, IfOk, IsErrOf};
+ghost use Rattle.clap.specs.Words.{kind_of};
+ghost use Rattle.tag_runs.specs.Input.{StopsReading};
+ghost use Rattle.tag_runs.specs.Runs.{HasOutput, WritesOutput};
+ghost use Rattle.tag_runs.specs.declared.fault.RunFault.{RunFault as Fault};
+ghost use Rattle.tagplay.specs.Choices.{owed_by, Chooses};
+ghost use Rattle.tagplay.specs.Status.{is_read_stop, IsRefused, IsStopFor, StopsBefore};
 ghost use Rattle.tagplay.specs.declared.choice.Choice.{Choice as Chosen};
-ghost use Rattle.tag_runs.specs.Runs.{WritesOutput};
-ghost use Rattle.tagplay.specs.Choices.{owed_by};
 
 use crate::choice::Choice;
 use crate::options;
 use crate::stop::Stop;
+use clap::Error;
 use clap::error::ErrorKind;
 use std::convert::AsStr;
 use std::env;
@@ -32,29 +37,56 @@ pub(crate) fn play<
     R: Source,
     W: Write,
 >(rt: &P, words: &[S], reader: &mut R, writer: &mut W) -> Result<Ending, Stop>
-    ensures { IfOk result (λ ending. (choice : Chosen)
-        × WritesOutput (owed_by choice) (R.remaining reader.old) (W.contents writer.old) (W.contents writer.new) ending) }
+    ensures written { IfOk result (λ ending. (choice : Chosen) × Chooses (map S.text words.now) choice
+        × WritesOutput (owed_by choice) (R.remaining reader.old) (W.contents writer.old)
+        (W.contents writer.new) ending) }
+    ensures refused { (status : ℕ) → IsErrOf result (Stop.CommandLine status) → IsRefused (map S.text words.now) status
+        × (reader.new ≡ reader.old) × (writer.new ≡ writer.old) }
+    ensures begun { (fault : Fault) → IsErrOf result (Stop.Run fault) → fault ≢ RunFault.Memory
+        → (choice : Chosen) × Chooses (map S.text words.now) choice }
+    ensures stopped { (fault : Fault) → IsErrOf result (Stop.Run fault)
+        → StopsReading fault (R.remaining reader.old) (R.remaining reader.new) }
+    ensures untouched { (fault : Fault) → IsErrOf result (Stop.Run fault) → fault ≢ RunFault.Write
+        → writer.new ≡ writer.old }
+    ensures failed { R.has_failed reader.new ≡ (is_read_stop result || R.has_failed reader.old) }
+    ensures answered { IsErrOf result (Stop.Run RunFault.Write) → (choice : Chosen)
+        × Chooses (map S.text words.now) choice × HasOutput (owed_by choice) (R.remaining reader.old) }
 {
     let choice = chosen(rt, words)?;
-    choice
-        .run(rt, rt.alloc(), reader, writer)
-        .map_err(Stop::Run)
+    match choice.run(rt, rt.alloc(), reader, writer) {
+        Ok(ending) => Ok(ending),
+        Err(fault) => Err(Stop::Run(fault)),
+    }
 }
 
 /// Parses `words`. Help, the version and usage errors are printed here, and end in `Stop::CommandLine`.
 pub(crate) fn chosen<P: AllocGlobal + Print + Eprint, S: AsStr>(
     rt: &P,
     words: &[S],
-) -> Result<Choice, Stop> {
-    let command = options::command(rt.alloc()).map_err(|_| Stop::Run(RunFault::Memory))?;
+) -> Result<Choice, Stop>
+    ensures chosen { IfOk result (Chooses (map S.text words.now)) }
+    ensures stopped { IfErr result (StopsBefore (map S.text words.now)) }
+{
+    let Ok(command) = options::command(rt.alloc()) else {
+        return Err(Stop::Run(RunFault::Memory));
+    };
     match command.try_get_matches_from(words) {
-        Ok(matches) => Choice::named(&matches).ok_or(Stop::CommandLine(2)),
-        Err(error) => {
-            if error.kind() == ErrorKind::OutOfMemory {
-                return Err(Stop::Run(RunFault::Memory));
-            }
-            let _ = error.print(rt);
-            Err(Stop::CommandLine(error.exit_code() as u8))
-        }
+        Ok(matches) => match Choice::named(&matches) {
+            Some(choice) => Ok(choice),
+            // words without a fault enter one of the three
+            None => unreachable!(),
+        },
+        Err(error) => Err(shown(rt, &error)),
     }
+}
+
+/// Prints help, the version or a usage error, and returns how the program stops for it. Want of memory is not printed.
+fn shown<P: Print + Eprint>(rt: &P, error: &Error) -> Stop
+    ensures { IsStopFor (kind_of error.now) result }
+{
+    if error.kind() == ErrorKind::OutOfMemory {
+        return Stop::Run(RunFault::Memory);
+    }
+    let _ = error.print(rt);
+    Stop::CommandLine(error.exit_code() as u8)
 }

@@ -1,5 +1,8 @@
 //! The command line: its subcommands, their options and their help.
-ghost use Rattle.clap.specs.Words.{found_of, rows_of};
+ghost use Rattle.std.specs.Prelude.{◌≡◌, false, codes, IfOk};
+ghost use Rattle.clap.specs.Words.{app_of, found_of, rows_of, rule_of, shape_of};
+ghost use Rattle.clap.specs.declared.builder.command.Command.TheViews.{out-Command as fields_of};
+ghost use Rattle.tagplay.specs.CommandLine as line;
 ghost use Rattle.tagplay.specs.Options.{IsNumber, IsOptional, IsFlag, AreScriptOptions, AreCheckOptions, ArePlayOptions};
 
 use clap::{Arg, ArgAction, ArgMatches, Command, value_parser};
@@ -11,7 +14,24 @@ use tag_script::{CheckOptions, ScriptOptions};
 const DEFAULT_LIFE: u64 = 281_474_976_710_656;
 
 /// Returns the parser of the command line.
-pub(crate) fn command<'a>(alloc: Global) -> Result<Command<'a>, AllocError> {
+pub(crate) fn command<'a>(alloc: Global) -> Result<Command<'a>, AllocError>
+    ensures { IfOk result (λ command. app_of command ≡ line.command_line) }
+{
+    Command::new(alloc, "tagplay")
+        .version("0.1.0, proved with rattle-kit-13f logic dac8208d650f15bf")
+        .about(
+            "Runs a tag allocator on lines of standard input, and writes the answers to standard output",
+        )
+        .subcommand_required(true)
+        .subcommand(script_command(alloc)?)?
+        .subcommand(check_command(alloc)?)?
+        .subcommand(play_command(alloc)?)
+}
+
+fn script_command<'a>(alloc: Global) -> Result<Command<'a>, AllocError>
+    ensures shape { IfOk result (λ command. shape_of command ≡ line.script) }
+    ensures local { IfOk result (λ command. (fields_of command).has_globals ≡ false) }
+{
     let script = Command::new(alloc, "script")
         .about(
             "Carries out a script of callers that share tags, one command a line, such as '0 get'",
@@ -32,6 +52,13 @@ pub(crate) fn command<'a>(alloc: Global) -> Result<Command<'a>, AllocError> {
             With --plain: get, shallow D, batch N, clear T, clear-batch T1 T2 .., busy, show or dump, all by caller 0.\n\
             Exit status: 0 done, 1 refused, 2 mistaken command line, 3 out of memory, input too long, or a read or write fault.",
         );
+    Ok(script)
+}
+
+fn check_command<'a>(alloc: Global) -> Result<Command<'a>, AllocError>
+    ensures shape { IfOk result (λ command. shape_of command ≡ line.check) }
+    ensures local { IfOk result (λ command. (fields_of command).has_globals ≡ false) }
+{
     let check = Command::new(alloc, "check")
         .about(
             "Decides whether a list of events is possible, one event a line, such as 'win 0 0 8'",
@@ -44,18 +71,13 @@ pub(crate) fn command<'a>(alloc: Global) -> Result<Command<'a>, AllocError> {
             caller C, word W, tag T, and decimal mask M, whose lowest bit is the word's first tag.\n\
             Exit status: 0 possible, 1 refused, 2 mistaken command line, 3 out of memory, input too long, or a read or write fault.",
         );
-    Command::new(alloc, "tagplay")
-        .version("0.1.0, proved with rattle-kit-13f logic dac8208d650f15bf")
-        .about(
-            "Runs a tag allocator on lines of standard input, and writes the answers to standard output",
-        )
-        .subcommand_required(true)
-        .subcommand(script)?
-        .subcommand(check)?
-        .subcommand(play_command(alloc)?)
+    Ok(check)
 }
 
-fn play_command<'a>(alloc: Global) -> Result<Command<'a>, AllocError> {
+fn play_command<'a>(alloc: Global) -> Result<Command<'a>, AllocError>
+    ensures shape { IfOk result (λ command. shape_of command ≡ line.play) }
+    ensures local { IfOk result (λ command. (fields_of command).has_globals ≡ false) }
+{
     let play = Command::new(alloc, "play")
         .about(
             "Carries out an I/O log of fio on a block device in memory, by threads that share tags",
@@ -128,9 +150,9 @@ pub(crate) fn play_options(matches: &ArgMatches) -> PlayOptions
     }
 }
 
-/// Returns the number of an option that is required or has a default, so that `otherwise` is never needed.
+/// Returns the number of an option, or `otherwise` if it has none. One that is required or has a default has a number.
 fn number(matches: &ArgMatches, id: &str, otherwise: u32) -> u32
-    ensures { IsNumber 32 (rows_of (found_of matches.now)) id.now result }
+    ensures { IsNumber 32 (rows_of (found_of matches.now)) id.now otherwise result }
 {
     optional(matches, id).unwrap_or(otherwise)
 }
@@ -153,7 +175,10 @@ fn flag(matches: &ArgMatches, id: &str) -> bool
     matches.get_flag(id)
 }
 
-fn tags<'a>(alloc: Global) -> Arg<'a> {
+fn tags<'a>(alloc: Global) -> Arg<'a>
+    ensures rule { rule_of result ≡ line.required (codes "tags") }
+    ensures local { result.global ≡ false }
+{
     Arg::new(alloc, "tags")
         .long("tags")
         .value_name("N")
@@ -162,7 +187,10 @@ fn tags<'a>(alloc: Global) -> Arg<'a> {
         .help("Number of tags, at most 10240")
 }
 
-fn shift<'a>(alloc: Global) -> Arg<'a> {
+fn shift<'a>(alloc: Global) -> Arg<'a>
+    ensures rule { rule_of result ≡ line.number (codes "shift") }
+    ensures local { result.global ≡ false }
+{
     Arg::new(alloc, "shift")
         .long("shift")
         .value_name("S")
@@ -178,7 +206,10 @@ fn count<'a>(
     name: &'static str,
     letter: &'static str,
     default: &'static str,
-) -> Arg<'a> {
+) -> Arg<'a>
+    ensures rule { rule_of result ≡ line.defaulted name.now default.now }
+    ensures local { result.global ≡ false }
+{
     Arg::new(alloc, name)
         .long(name)
         .value_name(letter)
@@ -186,14 +217,20 @@ fn count<'a>(
         .default_value(default)
 }
 
-fn round_robin<'a>(alloc: Global) -> Arg<'a> {
+fn round_robin<'a>(alloc: Global) -> Arg<'a>
+    ensures rule { rule_of result ≡ line.flag (codes "round-robin") }
+    ensures local { result.global ≡ false }
+{
     Arg::new(alloc, "round-robin")
         .long("round-robin")
         .action(ArgAction::SetTrue)
         .help("Starts each get behind the last tag won, and takes no earlier place in that word")
 }
 
-fn min_shallow<'a>(alloc: Global) -> Arg<'a> {
+fn min_shallow<'a>(alloc: Global) -> Arg<'a>
+    ensures rule { rule_of result ≡ line.number (codes "min-shallow") }
+    ensures local { result.global ≡ false }
+{
     Arg::new(alloc, "min-shallow")
         .long("min-shallow")
         .value_name("M")
@@ -201,7 +238,10 @@ fn min_shallow<'a>(alloc: Global) -> Arg<'a> {
         .help("Least depth of a shallow get; a lesser one is refused [default: 1]")
 }
 
-fn life<'a>(alloc: Global) -> Arg<'a> {
+fn life<'a>(alloc: Global) -> Arg<'a>
+    ensures rule { rule_of result ≡ line.long_defaulted (codes "life") (codes "281474976710656") }
+    ensures local { result.global ≡ false }
+{
     Arg::new(alloc, "life")
         .long("life")
         .value_name("L")
@@ -212,7 +252,10 @@ fn life<'a>(alloc: Global) -> Arg<'a> {
         )
 }
 
-fn plain<'a>(alloc: Global) -> Arg<'a> {
+fn plain<'a>(alloc: Global) -> Arg<'a>
+    ensures rule { rule_of result ≡ line.flag (codes "plain") }
+    ensures local { result.global ≡ false }
+{
     Arg::new(alloc, "plain")
         .long("plain")
         .action(ArgAction::SetTrue)

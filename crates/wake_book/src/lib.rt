@@ -20,6 +20,7 @@ mod walk;
 
 pub use book::{Book, BookTotals, Teller, TellerGathering};
 pub use book_closing::BookGatherFault;
+pub use book_opening::MAX_CAP;
 pub use charge::Charge;
 pub use fault::BookFault;
 pub use grants::{Grants, NO_GRANTS};

@@ -7,14 +7,7 @@ use wake_book::{BookTotals, GroupTotals};
 pub(crate) const FILL: u64 = 9;
 
 /// Options for one caller, with words of the default size, and the highest life and cap.
-const FOR_ONE: Options = Options {
-    shift: None,
-    round_robin: false,
-    min_shallow: None,
-    callers: 1,
-    life: 1 << 48,
-    cap: 1 << 56,
-};
+const FOR_ONE: Options = Options::new(1);
 
 /// The same for this many callers.
 pub(crate) fn options(callers: u32) -> Options {

@@ -1,6 +1,6 @@
 -- The texts of the bytes so far are written.
 use Rattle.std.specs.Io.KnownBytes.{Appends}
-use Rattle.tag_sets.specs.Texts.{texts_below}
+use Rattle.tag_sets.proofs.Dumped.{texts_below}
 use Rattle.tag_sets.proofs.texts.write_dump.Given as goal
 
 abbrev pub invariant-loop-offset : goal.invariant-loop-offset

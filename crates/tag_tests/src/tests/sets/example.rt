@@ -7,14 +7,7 @@ fn the_first_example(rt: HostRuntime) -> Result<(), Fail> {
     let alloc = rt.alloc();
     let request = 7;
 
-    let options = Options {
-        shift: None,
-        round_robin: false,
-        min_shallow: None,
-        callers: 2,
-        life: 1 << 48,
-        cap: 1 << 56,
-    };
+    let options = Options::new(2);
     let (tags, mut hands) = Tags::open(alloc, 16, 2, options, 0u64)?;
     let Some(mut hand) = hands.pop() else {
         return Err(Fail::new("there is no hand"));

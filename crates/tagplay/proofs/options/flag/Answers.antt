@@ -4,5 +4,5 @@ use Rattle.tagplay.proofs.Reading.{flagged}
 use Rattle.tagplay.proofs.options.flag.Goals as goal
 
 pub returns : goal.returns
-returns c = flagged (found_of c.args.matches.now) c.args.id.now c.get_flag.result c.get_flag.ensures.value
-    c.get_flag.ensures.other
+returns c = flagged (found_of c.args.matches.now) c.args.id.now c.get_flag.result c.get_flag.ensures.none
+    c.get_flag.ensures.value c.get_flag.ensures.other

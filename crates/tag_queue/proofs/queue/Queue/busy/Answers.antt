@@ -3,7 +3,7 @@ use Rattle.std.proofs.Common.{arith, List, sym, ap, ◌∙◌}
 use Rattle.tag_queue.specs.declared.agent.Agent.{Agent}
 use Rattle.tag_queue.specs.Agents.{shape_of}
 use Rattle.tag_queue.specs.Resizing.{standing_count}
-use Rattle.tag_queue.proofs.Unchanged.{counted, unchanged-standing}
+use Rattle.tag_queue.proofs.Unchanged.{counted, balanced, unchanged-standing}
 use Rattle.tag_queue.proofs.queue.Queue.busy.Goals.{then-totals-ne0-via-then-totals-ne0, then-totals-ne0-via-else-totals-ne0+then-totals-ne0-2}
 use Rattle.tag_queue.proofs.queue.Queue.busy.Goals as goal
 
@@ -47,3 +47,18 @@ returns-clause-cause g c =
       (sym were.0 ∙ c.if-totals-ne0.false, sym were.1 ∙ c.if-totals-ne0-2.false),
       sym count ∙ c.if-waiting-ne0.false,
     )
+
+pub returns-then-totals-ne0-clause-balance : goal.returns-then-totals-ne0-clause-balance
+returns-then-totals-ne0-clause-balance g c =
+    balanced (shape_of c.args.self.now) c.args.agents.now.items c.settle-totals.new.agents.items
+    c.settle-totals.result c.settle-totals.ensures.unchanged c.settle-totals.ensures.settled
+
+pub returns-then-waiting-ne0-clause-balance : goal.returns-then-waiting-ne0-clause-balance
+returns-then-waiting-ne0-clause-balance g c =
+    balanced (shape_of c.args.self.now) c.args.agents.now.items c.settle-totals.new.agents.items
+    c.settle-totals.result c.settle-totals.ensures.unchanged c.settle-totals.ensures.settled
+
+pub returns-clause-balance : goal.returns-clause-balance
+returns-clause-balance g c =
+    balanced (shape_of c.args.self.now) c.args.agents.now.items c.settle-totals.new.agents.items
+    c.settle-totals.result c.settle-totals.ensures.unchanged c.settle-totals.ensures.settled

@@ -1,5 +1,5 @@
 -- Each cause is returned exactly if it holds and none before it does; otherwise there is a layout.
-use Rattle.std.proofs.Common.{refl, ap}
+use Rattle.std.proofs.Common.{arith, refl, ap}
 use Rattle.tag_queue.specs.Agents.{numbers_of}
 use Rattle.tag_queue.proofs.Presence.{all_there, is_missing}
 use Rattle.tag_queue.proofs.Resized.{unchanged-refl, depth_fits, refused_for}
@@ -37,3 +37,13 @@ returns-in-None-clause-may g c = λ ok. (
 
 pub busy-requires-clause-every : goal.busy-requires-clause-every
 busy-requires-clause-every g c = all_there (ap (λ l. numbers_of l) c.as_slice.ensures.value) refl c.in_default.ensures
+
+pub returns-in-Some-clause-balance : goal.returns-in-Some-clause-balance
+returns-in-Some-clause-balance g c = λ fits.
+    let missing = is_missing (ap (λ l. numbers_of l) c.as_slice.ensures.value) refl c.in-Some.number c.in-Some.ensures in
+    absurd (missing.1 (fits.0 c.in-Some.number missing.0))
+
+pub returns-in-Err-DepthTooLarge-clause-balance : goal.returns-in-Err-DepthTooLarge-clause-balance
+returns-in-Err-DepthTooLarge-clause-balance g c = λ fits.
+    let deep = c.in-Err-DepthTooLarge.ensures.too_deep.0 (let is = c.in-Err-DepthTooLarge.field-0-is in cc) in
+    let low = fits.1 in absurd (omega arith)

@@ -1,6 +1,5 @@
 -- The search keeps the waiter in the group that it entered, so that is the one in which it rests and which it leaves.
 use Rattle.std.proofs.Common.{◌≡◌, ℕ, List, ◌∷◌, Some, refl, ap, ◌∙◌, subst}
-use Rattle.wake_book.specs.declared.groups.Waiter.{Waiter}
 use Rattle.wake_book.specs.declared.steps.GroupStep.{GroupStep}
 use Rattle.wake_book.specs.declared.steps.GroupStep.TheVariants.{Enter, Raise}
 use Rattle.wake_book.specs.Groups.{steps_of, standing_of, wait_index_of}

@@ -55,3 +55,16 @@ returns-clause-cause g c =
       (all, (omega arith, omega arith)),
       (sym held ∙ c.if-held-ne0.false, sym posted ∙ c.if-posted-ne0.false),
     )
+
+pub returns-in-Some-clause-balance : goal.returns-in-Some-clause-balance
+returns-in-Some-clause-balance g c = λ fits. let missing = is_missing (ap (λ l. numbers_of l) c.as_slice.ensures.value)
+    (sym c.args.self.as_many.1) c.in-Some.number c.in-Some.ensures in
+    absurd (missing.1 (fits.0 c.in-Some.number missing.0))
+
+pub returns-then-total-gt-MAX_DEPTH-clause-balance : goal.returns-then-total-gt-MAX_DEPTH-clause-balance
+returns-then-total-gt-MAX_DEPTH-clause-balance g c = λ fits. let low = fits.1.0 in let high = fits.1.1 in
+    elim c.then-total-gt-MAX_DEPTH.branch [
+      | goal.then-total-gt-MAX_DEPTH-via-then-total-gt-MAX_DEPTH w ↦ absurd (omega (arith, w.if-total-gt-MAX_DEPTH.true))
+      | goal.then-total-gt-MAX_DEPTH-via-else-total-gt-MAX_DEPTH+then-total-reserved w ↦ absurd
+          (omega (arith, w.if-total-reserved.true))
+    ]

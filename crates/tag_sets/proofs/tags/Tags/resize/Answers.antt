@@ -1,5 +1,5 @@
 -- The checks leave the hands unchanged, so each refusal, and the resize itself, is about the hands passed in.
-use Rattle.std.proofs.Common.{◌≡◌, List, All, None, Some, sym, ap, ◌∙◌, subst}
+use Rattle.std.proofs.Common.{◌≡◌, List, All, None, sym, ap, subst}
 use Rattle.std.specs.Prelude.{Option, MatchOption}
 use Rattle.std.proofs.lemmas.Result.{IfOk-weaker, IfErr-weaker}
 use Rattle.step_ledger.specs.Views.{HasAll}
@@ -118,12 +118,11 @@ pub returns-in-Some-clause-memory : goal.returns-in-Some-clause-memory
 returns-in-Some-clause-memory g c = (refused_early g c).memory
 
 pub returns-in-None-clause-balance : goal.returns-in-None-clause-balance
-returns-in-None-clause-balance g c = λ held posted is.
-    absurd ((((refused_late g c).in_use held posted).0 is).1.2
-    (subst (λ v. AreUnused v.items) c.tell_few-hands.ensures.same
-    (unhindered _ _ c.obstacle-tags.result.1 c.in-None.is c.obstacle-tags.ensures.cause).1))
+returns-in-None-clause-balance g c = subst (λ (l : List (Hand g.row.R.Denot)).
+    HasMap c.args.tags l c.args.total → BalanceInBoth l)
+    (ap (λ v. v.items) c.tell_few-hands.ensures.same) c.obstacle-tags.ensures.balance
 
 pub returns-in-Some-clause-balance : goal.returns-in-Some-clause-balance
-returns-in-Some-clause-balance g c = λ held posted is.
-    subst (λ v. BalanceInBoth v.items) c.tell_few-hands.ensures.same
-    (c.obstacle-tags.ensures.balance held posted (c.in-Some.is ∙ ap Some is))
+returns-in-Some-clause-balance g c = subst (λ (l : List (Hand g.row.R.Denot)).
+    HasMap c.args.tags l c.args.total → BalanceInBoth l)
+    (ap (λ v. v.items) c.tell_few-hands.ensures.same) c.obstacle-tags.ensures.balance

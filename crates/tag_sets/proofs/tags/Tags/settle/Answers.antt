@@ -5,11 +5,11 @@ use Rattle.step_ledger.specs.Views.{HasAll}
 use Rattle.tag_queue.specs.declared.agent.Agent.{Agent}
 use Rattle.tag_queue.specs.declared.queue.Queue.{Queue}
 use Rattle.tag_queue.specs.Agents as queue
+use Rattle.tag_queue.specs.Using.{Balance}
 use Rattle.tag_queue.proofs.Resized.{unchanged-numbers}
 use Rattle.tag_sets.specs.Hands.{number_of, reserved_of}
 use Rattle.tag_sets.specs.Opening.{reserved_part, ordinary_part, IsSplitAt}
 use Rattle.tag_sets.specs.Gathering.{hands_of, numbers_of}
-use Rattle.tag_sets.specs.Resizing.{Balance}
 use Rattle.tag_sets.proofs.Gathering.{reserved_own, ordinary_own, reserved_numbers, ordinary_numbers}
 use Rattle.tag_sets.proofs.Resized.{part_kept}
 use Rattle.tag_sets.proofs.Reuniting.{all_unchanged, split_at}

@@ -1,4 +1,5 @@
--- By `meet`, two hands with one number would have different ones; so all numbers differ, and each is below the count.
+-- By `meet`, two hands with one number would have different ones; so all numbers differ, and each is below the count,
+-- where there are more hands than that.
 use Rattle.std.proofs.Common.{arith, ◌≡◌, List, get_or, sym, ap, ◌∙◌, subst}
 use Rattle.std.proofs.lemmas.List.{length-map, get_or-map}
 use Rattle.tag_sets.specs.declared.hand.Hand.{Hand}
@@ -6,6 +7,13 @@ use Rattle.tag_sets.specs.Hands.{IsHandOf, number_of}
 use Rattle.tag_sets.specs.Gathering.{AreTwins, AreDistinct, numbers_of}
 use Rattle.tag_sets.proofs.Gathering.{few_hands, same_number}
 use Rattle.tag_sets.proofs.tags.Tags.tell_few.Goals as goal
+
+pub unreachable-requires : goal.unreachable-requires
+unreachable-requires g c =
+    let few = few_hands c.args.self.now c.args.hands.items c.requires
+    (subst (λ (z : List (Hand g.row.R.Denot)). AreDistinct (numbers_of z)) c.as_slice.ensures.value
+    c.in_default.ensures) in
+    let many = c.if-len-self.false in let long = c.len.ensures in let as_many = c.args.self.now.as_many.1 in omega arith
 
 pub meet-requires : goal.meet-requires
 meet-requires g c =
@@ -24,8 +32,8 @@ meet-requires g c =
       );
     }
 
-pub unreachable-requires : goal.unreachable-requires
-unreachable-requires g c =
+pub unreachable-requires-2 : goal.unreachable-requires-2
+unreachable-requires-2 g c =
     let hands = c.args.hands.items in
     let twins = subst (λ (z : List (Hand g.row.R.Denot)). AreTwins (numbers_of z) c.in-Some.first c.in-Some.second)
     c.as_slice.ensures.value c.in-Some.ensures in
@@ -41,8 +49,3 @@ unreachable-requires g c =
     c.meet.ensures.numbers
     (same_number earlier c.meet.new.first c.meet.ensures.unchanged.0 ∙ sym a ∙ twins.2 ∙ b
     ∙ sym (same_number later c.meet.new.second c.meet.ensures.unchanged.1))
-
-pub returns-clause-few : goal.returns-clause-few
-returns-clause-few g c = few_hands c.args.self.now c.args.hands.items c.requires
-    (subst (λ (z : List (Hand g.row.R.Denot)). AreDistinct (numbers_of z)) c.as_slice.ensures.value
-    c.in_default.ensures)

@@ -2,7 +2,7 @@
 use Rattle.std.proofs.Common.{ℕ, sym, subst}
 use Rattle.tag_queue.specs.Clears.{Counts}
 use Rattle.tag_queue.proofs.Counting.{counts_after}
-use Rattle.tag_queue.proofs.queue.Queue.clear.Goals as goal
+use Rattle.tag_queue.proofs.queue.Queue.clear_held.Goals as goal
 
 pub returns-clause-counts : goal.returns-clause-counts
 returns-clause-counts g c =

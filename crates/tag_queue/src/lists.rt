@@ -1,0 +1,30 @@
+//! Lists of tags that a caller names.
+ghost use Rattle.std.specs.Prelude.{◌≡◌, ◌≢◌, ◌<◌, ◌≤◌, ◌↔◌, false, All, AllPairs, IsTrue};
+ghost use Rattle.std.specs.List.{Any};
+ghost use Rattle.tag_queue.specs.Batches.{NamesTwice};
+
+/// Returns whether each number in the list is below the depth.
+pub fn are_below(tags: &[u32], depth: u32) -> bool
+    ensures below { IsTrue result ↔ All (λ tag. tag < depth) tags.now }
+    ensures beyond { (result ≡ false) ↔ Any (λ tag. depth ≤ tag) tags.now }
+{
+    for tag in tags {
+        if *tag >= depth {
+            return false;
+        }
+    }
+    true
+}
+
+/// Returns whether no number is in the list twice. It compares each with those before it: at most 2,016 pairs for 64.
+pub fn are_distinct(tags: &[u32]) -> bool
+    ensures distinct { IsTrue result ↔ AllPairs (λ a b. a ≢ b) tags.now }
+    ensures twice { (result ≡ false) ↔ NamesTwice tags.now }
+{
+    for i in 0..tags.len() {
+        if tags[..i].contains(&tags[i]) {
+            return false;
+        }
+    }
+    true
+}
