@@ -129,25 +129,6 @@ impl Shared for Mixed {
         }
     }
 
-    fn flush(&self, caller: &mut Caller) -> u32 {
-        match caller {
-            Caller::Bare(_) => 0,
-            Caller::Cached(cache) => cache.flush(&self.tags),
-        }
-    }
-
-    fn kept(&self, caller: &Caller) -> Option<Kept> {
-        match caller {
-            Caller::Bare(_) => None,
-            Caller::Cached(cache) => Some(Kept {
-                count: cache.count(),
-                handed_out: cache.handed_out(),
-                taken_back: cache.taken_back(),
-                reused: cache.reused(),
-            }),
-        }
-    }
-
     fn read(&self, caller: &mut Caller, tag: u32) -> Result<u64, TagFault> {
         match caller {
             Caller::Bare(hand) => self.tags.read(hand, tag),
@@ -173,6 +154,25 @@ impl Shared for Mixed {
         match caller {
             Caller::Bare(hand) => self.tags.take(hand, tag),
             Caller::Cached(cache) => cache.take(&self.tags, tag),
+        }
+    }
+
+    fn flush(&self, caller: &mut Caller) -> u32 {
+        match caller {
+            Caller::Bare(_) => 0,
+            Caller::Cached(cache) => cache.flush(&self.tags),
+        }
+    }
+
+    fn kept(&self, caller: &Caller) -> Option<Kept> {
+        match caller {
+            Caller::Bare(_) => None,
+            Caller::Cached(cache) => Some(Kept {
+                count: cache.count(),
+                handed_out: cache.handed_out(),
+                taken_back: cache.taken_back(),
+                reused: cache.reused(),
+            }),
         }
     }
 

@@ -18,13 +18,13 @@ pub(crate) enum Call {
     ClearUncounted(u32),
     /// A batch clear of two tags.
     ClearBoth(u32, u32),
-    Flush,
-    /// Asks what is kept.
-    Kept,
     Read(u32),
     Write(u32, u64),
     Post(u32),
     Take(u32),
+    Flush,
+    /// Asks what is kept.
+    Kept,
     Holds(u32),
     PrepareWait,
     FinishWait,
@@ -59,12 +59,12 @@ pub(crate) fn act<T: Shared, W: Wait>(
         Call::ClearBoth(one, other) => {
             answered(tags.clear_batch(caller, &[one, other]).map(Answer::Woken))
         }
-        Call::Flush => Answer::Woken(tags.flush(caller)),
-        Call::Kept => kept(tags.kept(caller)),
         Call::Read(tag) => answered(tags.read(caller, tag).map(Answer::Value)),
         Call::Write(tag, new) => answered(tags.write(caller, tag, new).map(Answer::Value)),
         Call::Post(tag) => answered(tags.post(caller, tag).map(|()| Answer::Done)),
         Call::Take(tag) => answered(tags.take(caller, tag).map(|()| Answer::Done)),
+        Call::Flush => Answer::Woken(tags.flush(caller)),
+        Call::Kept => kept(tags.kept(caller)),
         Call::Holds(tag) => Answer::Held(tags.has(caller, tag)),
         Call::PrepareWait => answered(tags.prepare_wait(caller).map(Answer::Group)),
         Call::FinishWait => answered(tags.finish_wait(rt, caller).map(Answer::Left)),

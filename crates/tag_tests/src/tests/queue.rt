@@ -77,14 +77,6 @@ impl Shared for Queue<u64> {
         Queue::clear_batch(self, agent, tags)
     }
 
-    fn flush(&self, _agent: &mut Agent<u64>) -> u32 {
-        0
-    }
-
-    fn kept(&self, _agent: &Agent<u64>) -> Option<Kept> {
-        None
-    }
-
     fn read(&self, agent: &mut Agent<u64>, tag: u32) -> Result<u64, TagFault> {
         Queue::read(self, agent, tag)
     }
@@ -99,6 +91,14 @@ impl Shared for Queue<u64> {
 
     fn take(&self, agent: &mut Agent<u64>, tag: u32) -> Result<(), TagFault> {
         Queue::take(self, agent, tag)
+    }
+
+    fn flush(&self, _agent: &mut Agent<u64>) -> u32 {
+        0
+    }
+
+    fn kept(&self, _agent: &Agent<u64>) -> Option<Kept> {
+        None
     }
 
     fn has(&self, agent: &mut Agent<u64>, tag: u32) -> bool {

@@ -100,14 +100,6 @@ impl Shared for Sets {
         self.tags.clear_batch(hand, tags)
     }
 
-    fn flush(&self, _hand: &mut Hand<u64>) -> u32 {
-        0
-    }
-
-    fn kept(&self, _hand: &Hand<u64>) -> Option<Kept> {
-        None
-    }
-
     fn read(&self, hand: &mut Hand<u64>, tag: u32) -> Result<u64, TagFault> {
         self.tags.read(hand, tag)
     }
@@ -122,6 +114,14 @@ impl Shared for Sets {
 
     fn take(&self, hand: &mut Hand<u64>, tag: u32) -> Result<(), TagFault> {
         self.tags.take(hand, tag)
+    }
+
+    fn flush(&self, _hand: &mut Hand<u64>) -> u32 {
+        0
+    }
+
+    fn kept(&self, _hand: &Hand<u64>) -> Option<Kept> {
+        None
     }
 
     fn has(&self, hand: &mut Hand<u64>, tag: u32) -> bool {

@@ -77,14 +77,6 @@ pub(crate) trait Shared: Drop {
         requires { is_own self.now caller.old }
         ensures { is_own self.now caller.new };
 
-    /// Gives back what the caller keeps, and returns how many waiters this woke. A caller without a cache keeps nothing.
-    fn flush(&self, caller: &mut Self::Caller) -> u32
-        requires { is_own self.now caller.old }
-        ensures { is_own self.now caller.new };
-
-    /// Returns what the caller's cache keeps, or `None` if it has no cache.
-    fn kept(&self, caller: &Self::Caller) -> Option<Kept>;
-
     fn read(&self, caller: &mut Self::Caller, tag: u32) -> Result<u64, TagFault>
         requires { is_own self.now caller.old }
         ensures { is_own self.now caller.new };
@@ -100,6 +92,14 @@ pub(crate) trait Shared: Drop {
     fn take(&self, caller: &mut Self::Caller, tag: u32) -> Result<(), TagFault>
         requires { is_own self.now caller.old }
         ensures { is_own self.now caller.new };
+
+    /// Gives back what the caller keeps, and returns how many waiters this woke. A caller without a cache keeps nothing.
+    fn flush(&self, caller: &mut Self::Caller) -> u32
+        requires { is_own self.now caller.old }
+        ensures { is_own self.now caller.new };
+
+    /// Returns what the caller's cache keeps, or `None` if it has no cache.
+    fn kept(&self, caller: &Self::Caller) -> Option<Kept>;
 
     /// Returns whether the number is a tag's and the caller holds that tag.
     fn has(&self, caller: &mut Self::Caller, tag: u32) -> bool
