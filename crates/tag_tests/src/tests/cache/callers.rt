@@ -3,8 +3,7 @@ ghost use Rattle.std.specs.Prelude.{◌≡◌, All, IfOk};
 ghost use Rattle.tag_sets.specs.Hands.{IsHandOf};
 ghost use Rattle.tag_tests.specs.Mixed.{hand_in};
 
-use std::alloc::Global;
-use std::test::Fail;
+use std::alloc::{AllocError, Global};
 use step_ledger::Numbered;
 use tag_cache::{Cache, Keeping};
 use tag_sets::{Hand, Tags};
@@ -43,7 +42,7 @@ impl Terms {
         alloc: Global,
         tags: &Tags<u64>,
         hands: Vec<Hand<u64>>,
-    ) -> Result<Vec<Caller>, Fail>
+    ) -> Result<Vec<Caller>, AllocError>
         requires { All (IsHandOf tags.now) hands.items }
         ensures { IfOk result (λ callers. All (λ caller. IsHandOf tags.now (hand_in caller)) callers.items) }
     {
@@ -60,7 +59,7 @@ pub(crate) fn hands_of(
     alloc: Global,
     tags: &Tags<u64>,
     callers: Vec<Caller>,
-) -> Result<Vec<Hand<u64>>, Fail>
+) -> Result<Vec<Hand<u64>>, AllocError>
     requires { All (λ caller. IsHandOf tags.now (hand_in caller)) callers.items }
     ensures { IfOk result (λ hands. All (IsHandOf tags.now) hands.items) }
 {
