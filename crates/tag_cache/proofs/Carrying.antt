@@ -1,29 +1,35 @@
 -- What a change of the hand, or of the kept tags, is for the user of a cache.
-use Rattle.std.specs.Prelude.{IsTrue}
+use Rattle.std.specs.Prelude.{IsTrue, IsOk, count_ones}
 use Rattle.std.proofs.lemmas.Bool.{false≢true}
-use Rattle.std.proofs.Common.{Bool, false, ◌↔◌, ◌∷◌, Option, Some, Result, Ok, Err, OnOk, OnErr, IfOk, IfErr, ◌≡◌, ◌≢◌, ℕ, ◌≤◌, inl, inr, refl, sym, ap, ◌∙◌, subst, ⊎_elim}
-use mathlib.Core.Logic.{dite}
-use native.Mathlib.Decide.{ℕ_discrete}
+use Rattle.std.proofs.Common.{Bool, false, ◌↔◌, Option, Result, Ok, Err, OnOk, OnErr, IfOk, IfErr, ◌≡◌, ℕ, ◌≤◌, inl, inr, refl, sym, ap, ◌∙◌, subst, ⊎_elim}
 use Rattle.tag_queue.specs.declared.fault.TagFault.{TagFault}
 use Rattle.tag_queue.specs.declared.fault.TagFault.TheVariants.{NoSuchTag, NotPosted}
 use Rattle.tag_sets.specs.declared.hand.Hand.{Hand}
 use Rattle.tag_sets.specs.declared.tags.Tags.{Tags}
-use Rattle.wake_book.specs.Waits.{active_at}
-use Rattle.wake_book.specs.declared.steps.GroupStep.TheVariants.{Look}
-use Rattle.tag_sets.specs.Waits.{Stays}
 use Rattle.tag_sets.specs.Hands as hands
-use Rattle.tag_cache.specs.Clears.{GoesBack}
 use Rattle.tag_sets.specs.Holding as hand_holding
 use Rattle.tag_sets.specs.Slots as hand_slots
-use Rattle.tag_sets.specs.Clears as hand_clears
 use Rattle.tag_sets.specs.Gets as hand_gets
 use Rattle.tag_sets.specs.Gets.{IsAnswer, IsOrdinaryTag}
-use Rattle.tag_cache.specs.Gets.{Gets}
-use Rattle.tag_cache.proofs.Below.{held_below}
 use Rattle.tag_cache.specs.declared.cache.Cache.{Cache}
 use Rattle.tag_cache.specs.Windows.{IsIn, AreOwn}
-use Rattle.tag_cache.specs.Caches.{IsKept, KeepsNone, Holds, KeepsSame, Pops, Keeps}
+use Rattle.tag_cache.specs.Caches.{IsKept, KeepsNone, Holds}
+use Rattle.tag_cache.specs.Changes.{KeepsSame, IsUnchanged}
 use Rattle.tag_cache.specs.Holding.{HoldsMore, HoldsLess, HoldsSame, Writes, IsLeftWith}
+
+-- what a test that failed says
+pub not_true : (b : Bool) (P : Type 0) → (IsTrue b ↔ P) → b ≡ false → ¬ P
+not_true b P says f h = false≢true (sym f ∙ says.1 h)
+
+-- a call that was refused did not succeed
+pub not_ok : {T : Type 0} (r : Result T TagFault) (fault : TagFault) → r ≡ Err fault → ¬ (IsOk r)
+not_ok (Ok v) fault e ok = cc
+not_ok (Err f) fault e ok = false≢true ok
+
+-- a fact that holds whatever a call answered
+pub on_any : (r : Result (Unit {0}) TagFault) (P : Type 0) → P → OnOk r P
+on_any (Ok u) P p = p
+on_any (Err e) P p = tt
 
 module _ {R : Type 0} where
   -- kept tags that the hand still holds are still the cache's own
@@ -52,12 +58,10 @@ module _ {R : Type 0} where
 
   module _ (old new : Cache R) (keeps : KeepsSame old new) where
     kept_before : (tag : ℕ) → IsKept new tag → IsKept old tag
-    kept_before tag k = subst (λ (m : ℕ). IsIn old.first m tag) keeps.kept
-        (subst (λ (f : ℕ). IsIn f new.kept tag) keeps.first k)
+    kept_before tag k = (keeps.kept tag).0 k
 
     kept_now : (tag : ℕ) → IsKept old tag → IsKept new tag
-    kept_now tag k = subst (λ (f : ℕ). IsIn f new.kept tag) (sym keeps.first)
-        (subst (λ (m : ℕ). IsIn old.first m tag) (sym keeps.kept) k)
+    kept_now tag k = (keeps.kept tag).1 k
 
     pub more : (named : ℕ → Type 0) → hand_holding.HoldsMore named old.hand new.hand → HoldsMore named old new
     more named m = record {
@@ -118,11 +122,6 @@ module _ {R : Type 0} where
     writes_on tag value (Ok v) p = writes tag value p
     writes_on tag value (Err e) p = tt
 
-    pub clears_on : (tags : Tags R) (tag : ℕ) (r : Result ℕ TagFault)
-        → OnOk r (hand_clears.Clears tags tag old.hand new.hand) → OnOk r (HoldsLess (λ other. other ≡ tag) old new)
-    clears_on tags tag (Ok v) p = less (λ other. other ≡ tag) p.less
-    clears_on tags tag (Err e) p = tt
-
     pub blocking_on : (tags : Tags R) (r : Result ℕ TagFault)
         → IfOk r (λ tag. hand_gets.BlockingGets tags tag old.hand new.hand)
         → IfOk r (λ tag. HoldsMore (λ other. other ≡ tag) old new)
@@ -134,38 +133,6 @@ module _ {R : Type 0} where
     posts_on tag (Ok v) p = less (λ other. other ≡ tag) p.less
     posts_on tag (Err e) p = tt
 
-  -- the tag that is popped is the user's from then on
-  pub popped : (old new : Cache R) (tag : ℕ) → Pops tag old new → HoldsMore (λ other. other ≡ tag) old new
-  popped old new tag p = record {
-    fresh = λ other e h. h.1 (subst (λ (t : ℕ). IsKept old t) (sym e) p.was);
-    joined = λ other e. (
-      subst (λ (h : Hand R). hands.Holds h other) (sym p.hand)
-          (old.own other (subst (λ (t : ℕ). IsKept old t) (sym e) p.was)).0,
-      λ k. ((p.left other).0 k).1 e,
-    );
-    kept = λ other h. (
-      (subst (λ (x : Hand R). hands.Holds x other) (sym p.hand) h.0, λ k. h.1 ((p.left other).0 k).0),
-      ap (λ (x : Hand R). hands.slot_of x other) p.hand,
-    );
-    none_else = λ other h. dite (ℕ_discrete other tag) (λ (e : other ≡ tag). inr e)
-        (λ (ne : other ≢ tag). inl
-        (subst (λ (x : Hand R). hands.Holds x other) p.hand h.0, λ k. h.1 ((p.left other).1 (k, ne))));
-  }
-
-  -- the tag that is kept is the user's no more
-  pub keeping : (old new : Cache R) (tag : ℕ) → Keeps tag old new → HoldsLess (λ other. other ≡ tag) old new
-  keeping old new tag p = record {
-    gone = λ other e h. h.1 (subst (λ (t : ℕ). IsKept new t) (sym e) p.now);
-    kept = λ other ne h. (
-      (
-        subst (λ (x : Hand R). hands.Holds x other) (sym p.hand) h.0,
-        λ k. ⊎_elim (λ (o : IsKept old other). h.1 o) (λ (e : other ≡ tag). ne e) (p.none_else other k),
-      ),
-      ap (λ (x : Hand R). hands.slot_of x other) p.hand,
-    );
-    none_else = λ other h. (subst (λ (x : Hand R). hands.Holds x other) p.hand h.0, λ k. h.1 (p.still other k));
-  }
-
   -- one change after another
   pub same_then_less : (a b c : Cache R) (named : ℕ → Type 0) → HoldsSame a b → HoldsLess named b c
       → HoldsLess named a c
@@ -173,15 +140,6 @@ module _ {R : Type 0} where
     gone = l.gone;
     kept = λ tag n h. let x = s.kept tag h in let y = l.kept tag n x.0 in (y.0, y.1 ∙ x.1);
     none_else = λ tag h. s.none_else tag (l.none_else tag h);
-  }
-
-  -- a tag that was gained and given up again: nothing changed
-  pub more_then_less : (a b c : Cache R) (named : ℕ → Type 0) → HoldsMore named a b → HoldsLess named b c
-      → HoldsSame a c
-  more_then_less a b c named m l = record {
-    kept = λ tag h. let x = m.kept tag h in let y = l.kept tag (λ n. m.fresh tag n h) x.0 in (y.0, y.1 ∙ x.1);
-    none_else = λ tag h. ⊎_elim (λ (o : Holds a tag). o) (λ (n : named tag). absurd (l.gone tag n h))
-        (m.none_else tag (l.none_else tag h));
   }
 
   pub same_then_same : (a b c : Cache R) → HoldsSame a b → HoldsSame b c → HoldsSame a c
@@ -192,40 +150,6 @@ module _ {R : Type 0} where
 
   pub unchanged : (a : Cache R) → HoldsSame a a
   unchanged a = record { kept = λ tag h. (h, refl); none_else = λ tag h. h }
-
-  -- the tag of a pop is an ordinary one
-  pub pop_ordinary : (tags : Tags R) (old new : Cache R) (tag : ℕ) → hands.IsHandOf tags old.hand → Pops tag old new
-      → IsOrdinaryTag tags tag
-  pop_ordinary tags old new tag own p = let mine = old.own tag p.was in (
-    subst (λ (s : ℕ). s ≤ tag) own.2 mine.1,
-    held_below tags old.hand tag own mine.0,
-  )
-
-  pub gets_kept : (tags : Tags R) (old new : Cache R) (tag : ℕ) → hands.IsHandOf tags old.hand → Pops tag old new
-      → Gets tags (Some tag) old new
-  gets_kept tags old new tag own p = record {
-    more = popped old new tag p;
-    ordinary = λ t e. subst (λ (x : ℕ). IsOrdinaryTag tags x) (sym e) (pop_ordinary tags old new tag own p);
-    source = inl (record { tag = tag; answer_is = refl; pops = p });
-  }
-
-  -- a get of the hand while nothing is kept
-  pub gets_more : (tags : Tags R) (old new : Cache R) → KeepsSame old new → KeepsNone old
-      → (r : Result (Option ℕ) TagFault) → IfOk r (λ answer. hand_gets.Gets tags answer old.hand new.hand)
-      → IfOk r (λ answer. Gets tags answer old new)
-  gets_more tags old new keeps none (Ok answer) g = record {
-    more = more old new keeps (IsAnswer answer) g.more;
-    ordinary = g.ordinary;
-    source = inr (record { none = none; gets = g; same = keeps });
-  }
-  gets_more tags old new keeps none (Err e) g = tt
-
-  -- the same after a pop that found nothing
-  pub gets_after : (tags : Tags R) (old mid new : Cache R) → mid ≡ old → KeepsSame mid new → KeepsNone old
-      → (r : Result (Option ℕ) TagFault) → IfOk r (λ answer. hand_gets.Gets tags answer mid.hand new.hand)
-      → IfOk r (λ answer. Gets tags answer old new)
-  gets_after tags old mid new e keeps none r g = subst (λ (s : Cache R). IfOk r (λ answer. Gets tags answer s new)) e
-      (gets_more tags mid new keeps (subst (λ (s : Cache R). KeepsNone s) (sym e) none) r g)
 
   pub blocking_after : (tags : Tags R) (old mid new : Cache R) → mid ≡ old → KeepsSame mid new
       → (r : Result ℕ TagFault) → IfOk r (λ tag. hand_gets.BlockingGets tags tag mid.hand new.hand)
@@ -245,22 +169,75 @@ module _ {R : Type 0} where
   pub none_after : (mid new : Cache R) → KeepsNone mid → KeepsSame mid new → KeepsNone new
   none_after mid new none keeps = λ tag k. none tag (kept_before mid new keeps tag k)
 
-  pub kept_unseen : (old mid new : Cache R) (tag found : ℕ) → found ≡ 0
-      → hands.group_steps mid.hand ≡ Look active_at found ∷ hands.group_steps old.hand
-      → Stays old.hand mid.hand → Keeps tag mid new → GoesBack tag 0 old new
-  kept_unseen old mid new tag found none looks stays k = inl (record {
-    kept = k.now;
-    looks = ap (λ (h : Hand R). hands.group_steps h) k.hand ∙ looks
-        ∙ ap (λ (f : ℕ). Look active_at f ∷ hands.group_steps old.hand) none;
-    stays = subst (λ (h : Hand R). Stays old.hand h) (sym k.hand) stays;
-    none = refl;
-  })
+  -- what a cache that keeps the same tags, with the same hand, is for the user
+  pub same_user : (old new : Cache R) → IsUnchanged old new → HoldsSame old new
+  same_user old new u = same old new u.kept (unchanged_hand old.hand new.hand u.hand)
 
-  pub gone_alone : (old mid new : Cache R) (tag woken : ℕ) → KeepsSame old mid → KeepsSame mid new
-      → GoesBack tag woken old new
-  gone_alone old mid new tag woken a b = inr (inl (record {
-    first = b.first ∙ a.first;
-    kept = b.kept ∙ a.kept;
-    most = b.most ∙ a.most;
-    count = b.count ∙ a.count;
-  }))
+  pub same_then_more : (a b c : Cache R) (named : ℕ → Type 0) → HoldsSame a b → HoldsMore named b c
+      → HoldsMore named a c
+  same_then_more a b c named s m = record {
+    fresh = λ tag n h. m.fresh tag n (s.kept tag h).0;
+    joined = m.joined;
+    kept = λ tag h. let x = s.kept tag h in let y = m.kept tag x.0 in (y.0, y.1 ∙ x.1);
+    none_else = λ tag h. ⊎_elim (λ (o : Holds b tag). inl (s.none_else tag o)) (λ (n : named tag). inr n)
+        (m.none_else tag h);
+  }
+
+  pub more_then_same : (a b c : Cache R) (named : ℕ → Type 0) → HoldsMore named a b → HoldsSame b c
+      → HoldsMore named a c
+  more_then_same a b c named m s = record {
+    fresh = m.fresh;
+    joined = λ tag n. (s.kept tag (m.joined tag n)).0;
+    kept = λ tag h. let x = m.kept tag h in let y = s.kept tag x.0 in (y.0, y.1 ∙ x.1);
+    none_else = λ tag h. m.none_else tag (s.none_else tag h);
+  }
+
+  -- one change of the kept tags after another
+  pub keeps_twice : (a b c : Cache R) → KeepsSame a b → KeepsSame b c → KeepsSame a c
+  keeps_twice a b c s t = record {
+    kept = λ tag. ((λ k. (s.kept tag).0 ((t.kept tag).0 k)), (λ k. (t.kept tag).1 ((s.kept tag).1 k)));
+    count = t.count ∙ s.count;
+    terms = record { most = t.terms.most ∙ s.terms.most; keeping = t.terms.keeping ∙ s.terms.keeping };
+    reused = t.reused ∙ s.reused;
+  }
+
+  -- the same tags are kept if the fields that say so are the same
+  pub same_fields : (old new : Cache R) → new.first ≡ old.first → new.kept ≡ old.kept → new.most ≡ old.most
+      → new.keeping ≡ old.keeping → new.reused ≡ old.reused → KeepsSame old new
+  same_fields old new first kept most keeping reused = record {
+    kept = λ tag. (
+      (λ k. subst (λ (m : ℕ). IsIn old.first m tag) kept (subst (λ (f : ℕ). IsIn f new.kept tag) first k)),
+      (λ k. subst (λ (f : ℕ). IsIn f new.kept tag) (sym first)
+          (subst (λ (m : ℕ). IsIn old.first m tag) (sym kept) k)),
+    );
+    count = ap count_ones kept;
+    terms = record { most = most; keeping = keeping };
+    reused = reused;
+  }
+
+  -- calls after which the hand holds what it held
+  pub read_still : (tag : ℕ) (a b : Hand R) (r : Result R TagFault)
+      → IfOk r (λ value. hand_slots.Reads tag value a b) → OnErr r (b ≡ a)
+      → (other : ℕ) → hands.Holds a other → hands.Holds b other
+  read_still tag a b (Ok v) p e other h = (p.same.kept other h).0
+  read_still tag a b (Err x) p e other h = subst (λ (y : Hand R). hands.Holds y other) (sym e) h
+
+  pub write_still : (tag : ℕ) (value : R) (a b : Hand R) (r : Result R TagFault)
+      → OnOk r (hand_slots.Writes tag value a b) → OnErr r (b ≡ a)
+      → (other : ℕ) → hands.Holds a other → hands.Holds b other
+  write_still tag value a b (Ok v) p e other h = p.kept other h
+  write_still tag value a b (Err x) p e other h = subst (λ (y : Hand R). hands.Holds y other) (sym e) h
+
+  pub take_still : (tag : ℕ) (a b : Hand R) (r : Result (Unit {0}) TagFault) → OnOk r (hand_slots.Takes tag a b)
+      → IfErr r (λ fault. hand_slots.RefusesTake tag fault a b)
+      → (other : ℕ) → hands.Holds a other → hands.Holds b other
+  take_still tag a b (Ok u) p e other h = (p.more.kept other h).0
+  take_still tag a b (Err x) p e other h = ⊎_elim
+      (λ (u : (x ≡ NoSuchTag) × (b ≡ a)). subst (λ (y : Hand R). hands.Holds y other) (sym u.1) h)
+      (λ (m : (x ≡ NotPosted) × hand_slots.Misses tag a b). (m.1.same.kept other h).0) e
+
+  pub blocking_still : (tags : Tags R) (a b : Hand R) (r : Result ℕ TagFault)
+      → IfOk r (λ tag. hand_gets.BlockingGets tags tag a b) → OnErr r (b ≡ a)
+      → (other : ℕ) → hands.Holds a other → hands.Holds b other
+  blocking_still tags a b (Ok tag) p e other h = (p.more.kept other h).0
+  blocking_still tags a b (Err x) p e other h = subst (λ (y : Hand R). hands.Holds y other) (sym e) h

@@ -124,3 +124,75 @@ popped_fits mask place fits = let le = and_le_l mask (bit_not w64 (1 * 2 ^ place
 
 pub joined_fits : (mask place : ℕ) → mask < 2 ^ 64 → with_bit mask place < 2 ^ 64
 joined_fits mask place fits = or_lt 64 mask (1 * 2 ^ place % 2 ^ 64) fits (omega arith)
+
+-- a mask with a tag in its window is not 0
+pub some_in : (first mask tag : ℕ) → IsIn first mask tag → 0 < mask
+some_in first mask tag i = ⊎_elim (λ (l : mask < 1). absurd (none_in first mask tag (omega arith) i))
+    (λ (h : 1 ≤ mask). omega arith) (cases_lt mask 1)
+
+-- a mask with no tag in its window is 0
+pub emptied : (first mask : ℕ) → mask < 2 ^ 64 → ((tag : ℕ) → ¬ (IsIn first mask tag)) → mask ≡ 0
+emptied first mask fits none = ⊎_elim (λ (l : mask < 1). omega arith)
+    (λ (h : 1 ≤ mask). absurd (none (first + trailing_zeros w64 mask) (least_in first mask (omega arith) fits)))
+    (cases_lt mask 1)
+
+-- a tag of the window is below its end
+pub below_end : (first mask tag : ℕ) → mask < 2 ^ 64 → IsIn first mask tag → tag < first + 64
+below_end first mask tag fits i = let low = bit_low mask (tag - first) fits i.1 in let above = i.0 in omega arith
+
+-- a tag is in the window by the bit at its offset
+pub at_offset : (first mask tag offset : ℕ) → first + offset ≡ tag → IsIn first mask tag ↔ (bit_at mask offset ≡ 1)
+at_offset first mask tag offset e = let same : tag - first ≡ offset = omega arith in (
+  (λ i. ap (bit_at mask) (sym same) ∙ i.1),
+  (λ b. (omega arith, ap (bit_at mask) same ∙ b)),
+)
+
+-- how far a tag is behind the first one of a window, in 32 bits
+module _ (first tag : ℕ) (low : first < 2 ^ 31) (fits : tag < 2 ^ 32) where
+  behind : first ≤ tag → first + (tag + (2 ^ 32 - first)) % 2 ^ 32 ≡ tag
+  behind h = omega arith
+
+  ahead : tag < first → 64 ≤ (tag + (2 ^ 32 - first)) % 2 ^ 32
+  ahead h = omega arith
+
+  pub offset_is : (tag + (2 ^ 32 - first)) % 2 ^ 32 < 64 → first + (tag + (2 ^ 32 - first)) % 2 ^ 32 ≡ tag
+  offset_is small = ⊎_elim (λ (l : tag < first). let far = ahead l in absurd (omega arith))
+      (λ (h : first ≤ tag). behind h) (cases_lt tag first)
+
+  pub offset_within : ((tag + (2 ^ 32 - first)) % 2 ^ 32 < 64) ↔ ((first ≤ tag) × (tag < first + 64))
+  offset_within = (
+    (λ small. let is = offset_is small in (omega arith, omega arith)),
+    (λ w. let above = w.0 in let below = w.1 in let is = behind above in omega arith),
+  )
+
+-- a tag that is not within 64 of the first one is not in the window
+pub not_in : (first mask tag offset : ℕ) → mask < 2 ^ 64 → ((first ≤ tag) × (tag < first + 64) → offset < 64)
+    → 64 ≤ offset → ¬ (IsIn first mask tag)
+not_in first mask tag offset fits within far i = let near = within (i.0, below_end first mask tag fits i) in
+    omega arith
+
+-- the tags of a mask without the bit at an offset are the former ones without its tag
+pub without_in : (first mask tag offset : ℕ) → mask < 2 ^ 64 → offset < 64 → first + offset ≡ tag → (other : ℕ)
+    → IsIn first (without_bit mask offset) other ↔ (IsIn first mask other × other ≢ tag)
+without_in first mask tag offset fits low e other = let l = left mask offset fits low first other in (
+  (λ i. let a = l.0 i in (a.0, λ (x : other ≡ tag). a.1 (x ∙ sym e))),
+  (λ a. l.1 (a.0, λ (x : other ≡ first + offset). a.1 (x ∙ e))),
+)
+
+-- the same of a tag that was not there
+pub without_none : (first mask tag : ℕ) → ¬ (IsIn first mask tag) → (other : ℕ)
+    → IsIn first mask other ↔ (IsIn first mask other × other ≢ tag)
+without_none first mask tag out other = (
+  (λ i. (i, λ (e : other ≡ tag). out (subst (λ (t : ℕ). IsIn first mask t) e i))),
+  (λ a. a.0),
+)
+
+-- a mask without a tag is 0 exactly if it had no other
+pub none_else : (first mask rest tag : ℕ) → rest < 2 ^ 64
+    → ((other : ℕ) → IsIn first rest other ↔ (IsIn first mask other × other ≢ tag))
+    → (rest ≡ 0) ↔ ((other : ℕ) → IsIn first mask other → other ≡ tag)
+none_else first mask rest tag fits without = (
+  (λ e other i. dite (ℕ_discrete other tag) (λ (s : other ≡ tag). s)
+      (λ (ne : other ≢ tag). absurd (none_in first rest other e ((without other).1 (i, ne))))),
+  (λ all. emptied first rest fits (λ other i. let a = (without other).0 i in a.1 (all other a.0))),
+)

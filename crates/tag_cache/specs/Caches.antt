@@ -1,10 +1,13 @@
 -- The terms in which contracts speak about a cache.
-use Rattle.std.specs.Prelude.{◌≡◌, ◌≢◌, ◌⊎◌, ◌↔◌, ℕ, ◌+◌, ◌≤◌, Bool, true, false}
+use Rattle.std.specs.Prelude.{◌≡◌, ◌⊎◌, ℕ, ◌+◌, ◌<◌, ◌≤◌, count_ones}
 use mathlib.Core.Option as maybe
 use Rattle.tag_sets.specs.declared.hand.Hand.{Hand}
 use Rattle.tag_sets.specs.declared.tags.Tags.{Tags}
 use Rattle.tag_sets.specs.Hands as hands
 use Rattle.tag_cache.specs.declared.cache.Cache.{Cache}
+use Rattle.tag_cache.specs.declared.cache.TheConstants.{MOST_REUSED}
+use Rattle.tag_cache.specs.declared.keeping.Keeping.{Keeping}
+use Rattle.tag_cache.specs.declared.keeping.Keeping.TheVariants.{WhileHolding}
 use Rattle.tag_cache.specs.Windows.{IsIn}
 
 -- the cache's hand, which holds the user's tags and the kept ones
@@ -13,11 +16,19 @@ hand_of cache = cache.hand
 
 -- how many tags are kept
 abbrev pub count_of : {R : Type 0} → Cache R → ℕ
-count_of cache = cache.count
+count_of cache = count_ones cache.kept
 
 -- the most tags that may be kept
 abbrev pub most_of : {R : Type 0} → Cache R → ℕ
 most_of cache = cache.most
+
+-- when tags are kept
+abbrev pub keeping_of : {R : Type 0} → Cache R → Keeping
+keeping_of cache = cache.keeping
+
+-- how many kept tags were handed out again
+abbrev pub reused_of : {R : Type 0} → Cache R → ℕ
+reused_of cache = cache.reused
 
 -- the tag is kept
 abbrev pub IsKept : {R : Type 0} → Cache R → ℕ → Type 0
@@ -31,6 +42,10 @@ KeepsNone cache = (tag : ℕ) → ¬ (IsKept cache tag)
 abbrev pub Holds : {R : Type 0} → Cache R → ℕ → Type 0
 Holds cache tag = hands.Holds cache.hand tag × ¬ (IsKept cache tag)
 
+-- the user is known to hold the tag, an ordinary one of the window
+abbrev pub IsLent : {R : Type 0} → Cache R → ℕ → Type 0
+IsLent cache tag = IsIn cache.first cache.lent tag
+
 -- the value in the slot of a tag, if the hand holds it
 abbrev pub slot_of : {R : Type 0} → Cache R → ℕ → maybe.Option R
 slot_of cache tag = hands.slot_of cache.hand tag
@@ -43,36 +58,25 @@ IsCacheOf tags cache = hands.IsHandOf tags cache.hand
 abbrev pub split_of : {R : Type 0} → Cache R → ℕ
 split_of cache = hands.split_of cache.hand
 
--- the same tags are kept, and as many may be
-pub record KeepsSame {R : Type 0} (old new : Cache R) : Type 0 where
-  pub first : new.first ≡ old.first
-  pub kept : new.kept ≡ old.kept
-  pub most : new.most ≡ old.most
-  pub count : count_of new ≡ count_of old
+-- the tag's number is in the window
+abbrev pub IsWithin : {R : Type 0} → Cache R → ℕ → Type 0
+IsWithin cache tag = (cache.first ≤ tag) × (tag < cache.first + 64)
 
--- the cache is as it was
-pub record IsUnchanged {R : Type 0} (old new : Cache R) : Type 0 where
-  pub hand : new.hand ≡ old.hand
-  pub kept : KeepsSame old new
+-- a clear does not move the window: tags are kept in it, or only while the user is known to hold one in it
+abbrev pub IsFixed : {R : Type 0} → Cache R → Type 0
+IsFixed cache = ¬ (KeepsNone cache) ⊎ (keeping_of cache ≡ WhileHolding)
 
--- the least kept tag is kept no more, and nothing else changed
-pub record Pops {R : Type 0} (tag : ℕ) (old new : Cache R) : Type 0 where
-  pub hand : new.hand ≡ old.hand
-  pub most : new.most ≡ old.most
-  pub was : IsKept old tag
-  pub least : (other : ℕ) → IsKept old other → tag ≤ other
-  pub left : (other : ℕ) → IsKept new other ↔ (IsKept old other × other ≢ tag)
-  pub fewer : count_of old ≡ count_of new + 1
+-- tags are kept only while the user is known to hold one, which is this one and no other
+abbrev pub IsLast : {R : Type 0} → ℕ → Cache R → Type 0
+IsLast tag cache = (keeping_of cache ≡ WhileHolding) × ((other : ℕ) → IsLent cache other → other ≡ tag)
 
--- this tag is kept besides, and nothing else changed
-pub record Keeps {R : Type 0} (tag : ℕ) (old new : Cache R) : Type 0 where
-  pub hand : new.hand ≡ old.hand
-  pub most : new.most ≡ old.most
-  pub now : IsKept new tag
-  pub still : (other : ℕ) → IsKept old other → IsKept new other
-  pub none_else : (other : ℕ) → IsKept new other → IsKept old other ⊎ (other ≡ tag)
+-- if tags are kept only while the user holds one, and any is kept, the user holds one
+abbrev pub KeepsWithCare : {R : Type 0} → Cache R → Type 0
+KeepsWithCare cache = keeping_of cache ≡ WhileHolding → (kept : ℕ) → IsKept cache kept
+    → (tag : ℕ) × Holds cache tag
 
--- the tag is kept besides, or nothing changed
-abbrev pub MayKeep : {R : Type 0} → ℕ → Bool → Cache R → Cache R → Type 0
-MayKeep tag true old new = Keeps tag old new
-MayKeep tag false old new = new ≡ old
+-- there is no place to keep the tag: the most is reached, or the tag is outside a window that does not move, or kept
+-- tags were handed out as often as they may be
+abbrev pub HasNoPlace : {R : Type 0} → ℕ → Cache R → Type 0
+HasNoPlace tag cache = (most_of cache ≤ count_of cache)
+    ⊎ ((¬ (IsWithin cache tag) × IsFixed cache) ⊎ (MOST_REUSED ≤ reused_of cache))

@@ -4,14 +4,15 @@ use Rattle.tag_sets.specs.declared.tags.Tags.{Tags}
 use Rattle.tag_sets.specs.Gets.{IsAnswer, IsOrdinaryTag}
 use Rattle.tag_sets.specs.Gets as hands
 use Rattle.tag_cache.specs.declared.cache.Cache.{Cache}
-use Rattle.tag_cache.specs.Caches.{KeepsNone, KeepsSame, Pops}
+use Rattle.tag_cache.specs.Caches.{KeepsNone}
+use Rattle.tag_cache.specs.Changes.{KeepsSame, Reuses}
 use Rattle.tag_cache.specs.Holding.{HoldsMore}
 
 -- the answer is the least kept tag, by no step
 pub record FromKept {R : Type 0} (answer : Option ℕ) (old new : Cache R) : Type 0 where
   pub tag : ℕ
   pub answer_is : answer ≡ Some tag
-  pub pops : Pops tag old new
+  pub reuses : Reuses tag old new
 
 -- nothing was kept, and the hand made a get
 pub record FromTags {R : Type 0} (tags : Tags R) (answer : Option ℕ) (old new : Cache R) : Type 0 where

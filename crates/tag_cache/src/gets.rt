@@ -1,11 +1,13 @@
 //! Gets: the calls that take tags.
-ghost use Rattle.std.specs.Prelude.{◌≡◌, ℕ, ◌<◌, ◌≤◌, ◌↔◌, IfOk, IfErr, IsOk, OnErr};
+ghost use Rattle.std.specs.Prelude.{◌≡◌, ℕ, ◌<◌, ◌≤◌, ◌↔◌, IfOk, IfErr, IsOk, OnOk, OnErr};
 ghost use Rattle.tag_sets.specs.Hands.{HasRoom, reserved_of};
 ghost use Rattle.tag_sets.specs.Gets as hands;
 ghost use Rattle.tag_sets.specs.Gets.{IsAnswer, IsOrdinaryTag};
 ghost use Rattle.tag_sets.specs.declared.kind.Kind.TheVariants.{Ordinary, Reserved};
-ghost use Rattle.tag_cache.specs.Caches.{IsCacheOf, IsUnchanged, KeepsNone, KeepsSame, hand_of};
+ghost use Rattle.tag_cache.specs.Caches.{IsCacheOf, KeepsNone, hand_of};
+ghost use Rattle.tag_cache.specs.Changes.{IsUnchanged, KeepsSame};
 ghost use Rattle.tag_cache.specs.Holding.{HoldsMore};
+ghost use Rattle.tag_cache.specs.Tallies.{Tallies, answered};
 ghost use Rattle.tag_cache.specs.Gets.{Gets};
 
 use crate::cache::Cache;
@@ -21,9 +23,10 @@ impl<R: Copy> Cache<R> {
         ensures cache { IsCacheOf tags.now self.new }
         ensures spent { (result ≡ Err TagFault.Spent) ↔ (KeepsNone self.old × ¬ (HasRoom (hand_of self.old) Ordinary 1)) }
         ensures gets { IfOk result (λ answer. Gets tags.now answer self.old self.new) }
+        ensures tally { IfOk result (λ answer. Tallies (answered answer) 0 self.old self.new) }
         ensures err { IfErr result (λ fault. (fault ≡ TagFault.Spent) × IsUnchanged self.old self.new) }
     {
-        if let Some(tag) = self.pop() {
+        if let Some(tag) = self.reuse() {
             return Ok(Some(tag));
         }
         self.win(tags)
@@ -39,7 +42,11 @@ impl<R: Copy> Cache<R> {
         ensures kept { KeepsSame self.old self.new }
         ensures err { IfErr result (λ fault. (fault ≡ TagFault.Spent) × (hand_of self.new ≡ hand_of self.old)) }
     {
-        tags.get(&mut self.hand)
+        let Some(tag) = tags.get(&mut self.hand)? else {
+            return Ok(None);
+        };
+        self.lend(tag);
+        Ok(Some(tag))
     }
 
     /// Takes a free reserved tag as `Tags::get_reserved` does.
@@ -52,6 +59,7 @@ impl<R: Copy> Cache<R> {
         ensures more { IfOk result (λ answer. HoldsMore (IsAnswer answer) self.old self.new) }
         ensures reserved { IfOk result (λ answer. (tag : ℕ) → IsAnswer answer tag → tag < reserved_of tags.now) }
         ensures kept { KeepsSame self.old self.new }
+        ensures tally { IfOk result (λ answer. Tallies (answered answer) 0 self.old self.new) }
         ensures err { OnErr result (IsUnchanged self.old self.new) }
     {
         tags.get_reserved(&mut self.hand)
@@ -63,12 +71,27 @@ impl<R: Copy> Cache<R> {
         ensures cache { IsCacheOf tags.now self.new }
         ensures more { IfOk result (λ tag. HoldsMore (λ other. other ≡ tag) self.old self.new) }
         ensures ordinary { IfOk result (λ tag. IsOrdinaryTag tags.now tag) }
+        ensures tally { OnOk result (Tallies 1 0 self.old self.new) }
         ensures refused { IfErr result (λ fault. KeepsNone self.old) }
         ensures err { OnErr result (IsUnchanged self.old self.new) }
     {
-        if let Some(tag) = self.pop() {
+        if let Some(tag) = self.reuse() {
             return Ok(tag);
         }
-        tags.get_blocking(rt, &mut self.hand)
+        self.wait_for(rt, tags)
+    }
+
+    /// Has the hand get a tag and wait as long as it finds none.
+    #[inline(never)]
+    fn wait_for<W: Wait>(&mut self, rt: &W, tags: &Tags<R>) -> Result<u32, TagFault>
+        requires { IsCacheOf tags.now self.old }
+        ensures cache { IsCacheOf tags.now self.new }
+        ensures gets { IfOk result (λ tag. hands.BlockingGets tags.now tag (hand_of self.old) (hand_of self.new)) }
+        ensures kept { KeepsSame self.old self.new }
+        ensures err { OnErr result (hand_of self.new ≡ hand_of self.old) }
+    {
+        let tag = tags.get_blocking(rt, &mut self.hand)?;
+        self.lend(tag);
+        Ok(tag)
     }
 }

@@ -17,7 +17,8 @@ impl<R> Cache<R> {
 }
 
 impl<R: Copy> Cache<R> {
-    ghost use Rattle.tag_cache.specs.Caches.{IsCacheOf, KeepsSame};
+    ghost use Rattle.tag_cache.specs.Caches.{IsCacheOf};
+    ghost use Rattle.tag_cache.specs.Changes.{KeepsSame};
     ghost use Rattle.tag_cache.specs.Holding.{HoldsSame};
 
     /// Places the hand's hints as `Tags::place` does.

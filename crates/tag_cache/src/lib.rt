@@ -3,13 +3,17 @@
 
 mod cache;
 mod clears;
+mod counts;
 mod flush;
 mod gets;
 mod holds;
 mod keeping;
+mod kept;
 mod meets;
 mod slots;
+mod window;
 
 pub use cache::Cache;
+pub use keeping::Keeping;
 pub use tag_queue::TagFault;
 pub use tag_sets::{Hand, Tags};

@@ -1,7 +1,8 @@
 //! What two caches that are passed in together can prove.
 ghost use Rattle.std.specs.Prelude.{ℕ};
 ghost use Rattle.tag_sets.specs.Hands as hands;
-ghost use Rattle.tag_cache.specs.Caches.{IsCacheOf, Holds, KeepsSame, hand_of};
+ghost use Rattle.tag_cache.specs.Caches.{IsCacheOf, Holds, hand_of};
+ghost use Rattle.tag_cache.specs.Changes.{KeepsSame};
 ghost use Rattle.tag_cache.specs.Holding.{HoldsSame};
 
 use crate::cache::Cache;

@@ -3,8 +3,10 @@ ghost use Rattle.std.specs.Prelude.{◌≡◌, ◌<◌, ◌≤◌, ◌↔◌, If
 ghost use mathlib.Core.Option.{some};
 ghost use Rattle.tag_sets.specs.Hands.{total_of};
 ghost use Rattle.tag_sets.specs.Slots.{RefusesTake};
-ghost use Rattle.tag_cache.specs.Caches.{IsCacheOf, IsUnchanged, Holds, KeepsSame, slot_of, hand_of};
+ghost use Rattle.tag_cache.specs.Caches.{IsCacheOf, IsLast, IsLent, KeepsNone, Holds, slot_of, hand_of};
+ghost use Rattle.tag_cache.specs.Changes.{IsUnchanged, KeepsSame};
 ghost use Rattle.tag_cache.specs.Holding.{HoldsLess, HoldsMore, HoldsSame, Writes};
+ghost use Rattle.tag_cache.specs.Tallies.{Tallies};
 
 use crate::cache::Cache;
 use tag_queue::TagFault;
@@ -49,7 +51,8 @@ impl<R: Copy> Cache<R> {
         tags.write(&mut self.hand, tag, value)
     }
 
-    /// Gives up a tag that the user holds with its slot, so that another thread can `take` it.
+    /// Gives up a tag that the user holds with its slot, so that another thread can `take` it. If tags are kept only
+    /// while the user holds one, and this is the last that it is known to hold, all kept tags go back first.
     #[inline]
     pub fn post(&mut self, tags: &Tags<R>, tag: u32) -> Result<(), TagFault>
         requires { IsCacheOf tags.now self.old }
@@ -58,13 +61,52 @@ impl<R: Copy> Cache<R> {
         ensures not_held { (result ≡ Err TagFault.NotHeld) ↔ ((tag < total_of tags.now) × ¬ (Holds self.old tag)) }
         ensures succeeds { Holds self.old tag → IsOk result }
         ensures less { OnOk result (HoldsLess (λ other. other ≡ tag) self.old self.new) }
-        ensures kept { KeepsSame self.old self.new }
+        ensures kept { ¬ (IsLast tag self.old) → KeepsSame self.old self.new }
+        ensures last { IsLast tag self.old → OnOk result (KeepsNone self.new) }
         ensures err { OnErr result (IsUnchanged self.old self.new) }
     {
+        if self.lends(tag) {
+            self.post_lent(tags, tag);
+            return Ok(());
+        }
         if self.keeps(tag) {
             return Err(TagFault::NotHeld);
         }
         tags.post(&mut self.hand, tag)
+    }
+
+    /// Gives up a tag that the user is known to hold.
+    fn post_lent(&mut self, tags: &Tags<R>, tag: u32)
+        requires cache { IsCacheOf tags.now self.old }
+        requires lent { IsLent self.old tag }
+        ensures cache { IsCacheOf tags.now self.new }
+        ensures less { HoldsLess (λ other. other ≡ tag) self.old self.new }
+        ensures kept { ¬ (IsLast tag self.old) → KeepsSame self.old self.new }
+        ensures last { IsLast tag self.old → KeepsNone self.new }
+    {
+        self.release(tags, tag);
+        let Ok(()) = tags.post(&mut self.hand, tag) else {
+            unreachable!()
+        };
+    }
+
+    /// Says that it is no longer known that the user holds the tag, which is about to leave. If it is the last, all kept
+    /// tags go back first.
+    fn release(&mut self, tags: &Tags<R>, tag: u32)
+        requires { IsCacheOf tags.now self.old }
+        ensures cache { IsCacheOf tags.now self.new }
+        ensures same { HoldsSame self.old self.new }
+        ensures unlent { ¬ (IsLent self.new tag) }
+        ensures kept { ¬ (IsLast tag self.old) → KeepsSame self.old self.new }
+        ensures last { IsLast tag self.old → KeepsNone self.new }
+        ensures tally { Tallies 0 0 self.old self.new }
+    {
+        if self.is_last(tag) {
+            let _ = self.flush(tags);
+            self.forget(tag);
+            return;
+        }
+        self.forget(tag);
     }
 
     /// Takes a posted tag with its slot. `NotPosted` leaves what the user holds unchanged.

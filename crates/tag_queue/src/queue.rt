@@ -32,7 +32,7 @@ impl Options {
 
     /// Returns the options for this many agents, 1 to 64, and otherwise the defaults: the shift that fits the depth, no
     /// round robin, no minimum shallow depth, and the greatest life and cap.
-    pub fn new(callers: u32) -> Options
+    pub const fn new(callers: u32) -> Options
         ensures { result ≡ record {
           shift = None;
           round_robin = false;
@@ -53,7 +53,7 @@ impl Options {
     }
 
     /// Returns these options with words of `2^shift` bits, where `shift` is 0 to 6.
-    pub fn with_shift(self, shift: u32) -> Options
+    pub const fn with_shift(self, shift: u32) -> Options
         ensures { result ≡ record self { shift = Some shift } }
     {
         Options {
@@ -63,7 +63,7 @@ impl Options {
     }
 
     /// Returns these options with round robin gets.
-    pub fn with_round_robin(self) -> Options
+    pub const fn with_round_robin(self) -> Options
         ensures { result ≡ record self { round_robin = true } }
     {
         Options {
@@ -73,7 +73,7 @@ impl Options {
     }
 
     /// Returns these options with this minimum shallow depth.
-    pub fn with_min_shallow(self, depth: u32) -> Options
+    pub const fn with_min_shallow(self, depth: u32) -> Options
         ensures { result ≡ record self { min_shallow = Some depth } }
     {
         Options {

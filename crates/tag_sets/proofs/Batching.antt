@@ -36,10 +36,10 @@ module _ (reserved : ℕ) (list : List ℕ) (above : All (λ tag. reserved ≤ t
 module _ {R : Type 0} (tags : Tags R) (hand : Hand R) (own : IsHandOf tags hand) (list named : List ℕ)
     (above : All (λ tag. reserved_of tags ≤ tag) list) (is : named ≡ numbers_of (reserved_of tags) list) where
   -- there are as many numbers as tags
-  same_count : length named ≡ length list
+  pub same_count : length named ≡ length list
   same_count = ap length is ∙ length-map list (λ tag. tag - reserved_of tags)
 
-  at_place : (k d : ℕ) → k < length named → get_or named k d + reserved_of tags ≡ get_or list k d
+  pub at_place : (k d : ℕ) → k < length named → get_or named k d + reserved_of tags ≡ get_or list k d
   at_place k d l = ap (λ (xs : List ℕ). get_or xs k d + reserved_of tags) is
       ∙ number_at (reserved_of tags) list above k d d (let same = same_count in omega arith)
 
@@ -49,22 +49,22 @@ module _ {R : Type 0} (tags : Tags R) (hand : Hand R) (own : IsHandOf tags hand)
   counts_back : queue_batches.CountsTags named → CountsTags list
   counts_back h = let low = h.0 in let high = h.1 in let same = same_count in (omega arith, omega arith)
 
-  tags_there : AreOrdinary tags list → queue_batches.AreTags (layout_of tags Ordinary) named
+  pub tags_there : AreOrdinary tags list → queue_batches.AreTags (layout_of tags Ordinary) named
   tags_there o k d l = let at = at_place k d l in
       let low = (o k d (let same = same_count in omega arith)).1 in omega arith
 
-  tags_back : queue_batches.AreTags (layout_of tags Ordinary) named → AreOrdinary tags list
+  pub tags_back : queue_batches.AreTags (layout_of tags Ordinary) named → AreOrdinary tags list
   tags_back t k d l = let inside : k < length named = let same = same_count in omega arith in
       let at = at_place k d inside in let low = t k d inside in (above k d l, omega arith)
 
   -- the hand holds an ordinary tag exactly if its ordinary agent holds the tag's number
-  holds_there : (tag n : ℕ) → n + reserved_of tags ≡ tag → Holds hand tag → queue.Holds hand.ordinary n
+  pub holds_there : (tag n : ℕ) → n + reserved_of tags ≡ tag → Holds hand tag → queue.Holds hand.ordinary n
   holds_there tag n e h = let split = own.2 in
       let o = ordinary_above (split_of hand) tag (omega (arith, split)) in let x = o.number in
       subst (λ (m : ℕ). queue.Holds hand.ordinary m) (omega (arith, split))
       (subst (λ (k : Kind). queue.Holds (agent_of hand k) (number_in_set (split_of hand) tag)) o.kind h)
 
-  holds_back : (tag n : ℕ) → n + reserved_of tags ≡ tag → queue.Holds hand.ordinary n → Holds hand tag
+  pub holds_back : (tag n : ℕ) → n + reserved_of tags ≡ tag → queue.Holds hand.ordinary n → Holds hand tag
   holds_back tag n e h = let split = own.2 in
       let o = ordinary_above (split_of hand) tag (omega (arith, split)) in let x = o.number in
       subst (λ (k : Kind). queue.Holds (agent_of hand k) (number_in_set (split_of hand) tag)) (sym o.kind)

@@ -20,3 +20,5 @@ pub mod Settling
 pub mod Refusing
 pub mod Resized
 pub mod Placed
+pub mod MaskNumbers
+pub mod MaskAnswers

@@ -9,6 +9,7 @@ pub mod Meeting
 pub mod Opening
 pub mod Placing
 pub mod Batches
+pub mod Masks
 pub mod Gathering
 pub mod Looks
 pub mod Shows

@@ -17,6 +17,7 @@ mod holds;
 mod kind;
 mod looks;
 mod marks;
+mod masks;
 mod meets;
 mod one_set;
 mod opens;

@@ -1,17 +1,25 @@
--- The hand no longer holds the tag, which was not kept.
-use Rattle.std.proofs.Common.{◌≡◌, ℕ, refl, subst}
-use Rattle.tag_sets.specs.Clears.{Clears}
-use Rattle.tag_cache.specs.Caches.{IsKept}
-use Rattle.tag_cache.proofs.Carrying.{less, own_after, less_still}
+-- The hand no longer holds the tag, which was neither kept nor lent.
+use Rattle.std.proofs.Common.{ℕ, subst}
+use Rattle.tag_cache.specs.Caches.{IsKept, IsLent}
+use Rattle.tag_cache.proofs.Carrying.{own_after}
+use Rattle.tag_cache.proofs.Giving.{gives_few}
 use Rattle.tag_cache.proofs.cache.Cache.give.Goals as goal
 
 pub invariant_of-self-clause-own : goal.invariant_of-self-clause-own
 invariant_of-self-clause-own g c = let cache = c.args.self.now in let tag = c.args.tag in
-    own_after c.args.tags.now cache.first cache.kept cache.hand c.clear.new.hand c.requires.cache c.clear.ensures.hand
-    cache.own (λ other h i. less_still (λ t. t ≡ tag) cache.hand c.clear.new.hand c.clear.result
-    (Clears c.args.tags.now tag cache.hand c.clear.new.hand) (λ x. x.less) c.clear.ensures.clears c.clear.ensures.err
-    other (λ e. c.requires.held.1 (subst (λ (t : ℕ). IsKept cache t) e i)) h)
+    own_after c.args.tags.now cache.first cache.kept cache.hand c.clear_held.new.hand c.requires.cache
+    c.clear_held.ensures.hand cache.own (λ other h i. (c.clear_held.ensures.clears.less.kept other
+    (λ e. c.requires.held.1 (subst (λ (t : ℕ). IsKept cache t) e i)) h).0)
 
-pub returns-clause-less : goal.returns-clause-less
-returns-clause-less g c = less c.args.self.now _ (record { first = refl; kept = refl; most = refl; count = refl })
-    (λ other. other ≡ c.args.tag) c.in-Ok.ensures.clears.less
+pub invariant_of-self-clause-loans : goal.invariant_of-self-clause-loans
+invariant_of-self-clause-loans g c = let cache = c.args.self.now in let tag = c.args.tag in
+    own_after c.args.tags.now cache.first cache.lent cache.hand c.clear_held.new.hand c.requires.cache
+    c.clear_held.ensures.hand cache.loans (λ other h i. (c.clear_held.ensures.clears.less.kept other
+    (λ e. c.requires.unlent (subst (λ (t : ℕ). IsLent cache t) e i)) h).0)
+
+pub returns-clause-gives : goal.returns-clause-gives
+returns-clause-gives g c = record { clears = c.clear_held.ensures.clears; counts = c.clear_held.ensures.counts }
+
+pub returns-clause-few : goal.returns-clause-few
+returns-clause-few g c = gives_few c.args.tags.now c.args.tag c.clear_held.result c.args.self.now.hand
+    c.clear_held.new.hand (record { clears = c.clear_held.ensures.clears; counts = c.clear_held.ensures.counts })

@@ -1,0 +1,140 @@
+-- What a change of the kept tags is for the user of a cache, and what is known of lent ones.
+use Rattle.std.proofs.Common.{arith, ◌↔◌, Option, Some, Result, Ok, Err, IfOk, ◌≡◌, ◌≢◌, ℕ, ◌+◌, ◌^◌, ◌<◌, ◌≤◌, inl, inr, refl, sym, ap, subst, ⊎_elim}
+use mathlib.Core.Logic.{dite}
+use native.Mathlib.Decide.{ℕ_discrete}
+use Rattle.std.specs.Int.{trailing_zeros, w64}
+use Rattle.std.proofs.lemmas.Bool.{cases_lt}
+use Rattle.tag_queue.specs.declared.fault.TagFault.{TagFault}
+use Rattle.tag_sets.specs.declared.hand.Hand.{Hand}
+use Rattle.tag_sets.specs.declared.tags.Tags.{Tags}
+use Rattle.tag_sets.specs.Hands as hands
+use Rattle.tag_sets.specs.Holding as hand_holding
+use Rattle.tag_sets.specs.Gets as hand_gets
+use Rattle.tag_sets.specs.Gets.{IsAnswer, IsOrdinaryTag}
+use Rattle.tag_cache.specs.declared.cache.Cache.{Cache}
+use Rattle.tag_cache.specs.declared.keeping.Keeping.TheVariants.{WhileHolding}
+use Rattle.tag_cache.specs.Windows.{IsIn}
+use Rattle.tag_cache.specs.Caches.{IsKept, IsLent, IsLast, IsWithin, KeepsNone, KeepsWithCare, Holds, split_of}
+use Rattle.tag_cache.specs.Changes.{KeepsSame, IsUnchanged, KeepsAlso, TakesLeast, Pops, Reuses}
+use Rattle.tag_cache.specs.Gets.{Gets}
+use Rattle.tag_cache.specs.Holding.{HoldsMore, HoldsLess}
+use Rattle.tag_cache.proofs.Below.{held_below}
+use Rattle.tag_cache.proofs.Carrying.{more}
+use Rattle.tag_cache.proofs.Windows.{below_end, emptied, none_else, some_in, least_in}
+
+module _ {R : Type 0} where
+  -- the least kept tag is the user's from then on
+  pub taken : (old new : Cache R) (tag : ℕ) → TakesLeast tag old new → HoldsMore (λ other. other ≡ tag) old new
+  taken old new tag p = record {
+    fresh = λ other e h. h.1 (subst (λ (t : ℕ). IsKept old t) (sym e) p.was);
+    joined = λ other e. (
+      subst (λ (h : Hand R). hands.Holds h other) (sym p.hand)
+          (old.own other (subst (λ (t : ℕ). IsKept old t) (sym e) p.was)).0,
+      λ k. ((p.left other).0 k).1 e,
+    );
+    kept = λ other h. (
+      (subst (λ (x : Hand R). hands.Holds x other) (sym p.hand) h.0, λ k. h.1 ((p.left other).0 k).0),
+      ap (λ (x : Hand R). hands.slot_of x other) p.hand,
+    );
+    none_else = λ other h. dite (ℕ_discrete other tag) (λ (e : other ≡ tag). inr e)
+        (λ (ne : other ≢ tag). inl
+        (subst (λ (x : Hand R). hands.Holds x other) p.hand h.0, λ k. h.1 ((p.left other).1 (k, ne))));
+  }
+
+  -- the tag that is kept is the user's no more, if the hand holds what it held
+  pub keeping : (old new : Cache R) (tag : ℕ) → hand_holding.HoldsSame old.hand new.hand → KeepsAlso tag old new
+      → HoldsLess (λ other. other ≡ tag) old new
+  keeping old new tag s p = record {
+    gone = λ other e h. h.1 (subst (λ (t : ℕ). IsKept new t) (sym e) p.now);
+    kept = λ other ne h. let x = s.kept other h.0 in (
+      (
+        x.0,
+        λ k. ⊎_elim (λ (o : IsKept old other). h.1 o) (λ (e : other ≡ tag). ne e) (p.none_else other k),
+      ),
+      x.1,
+    );
+    none_else = λ other h. (s.none_else other h.0, λ k. h.1 (p.still other k));
+  }
+
+  -- the tag that is handed out again is an ordinary one
+  pub reuse_ordinary : (tags : Tags R) (old new : Cache R) (tag : ℕ) → hands.IsHandOf tags old.hand
+      → TakesLeast tag old new → IsOrdinaryTag tags tag
+  reuse_ordinary tags old new tag own p = let mine = old.own tag p.was in (
+    subst (λ (s : ℕ). s ≤ tag) own.2 mine.1,
+    held_below tags old.hand tag own mine.0,
+  )
+
+  pub gets_kept : (tags : Tags R) (old new : Cache R) (tag : ℕ) → hands.IsHandOf tags old.hand → Reuses tag old new
+      → Gets tags (Some tag) old new
+  gets_kept tags old new tag own r = record {
+    more = taken old new tag r.takes;
+    ordinary = λ t e. subst (λ (x : ℕ). IsOrdinaryTag tags x) (sym e) (reuse_ordinary tags old new tag own r.takes);
+    source = inl (record { tag = tag; answer_is = refl; reuses = r });
+  }
+
+  -- a get of the hand while nothing is kept
+  pub gets_more : (tags : Tags R) (old new : Cache R) → KeepsSame old new → KeepsNone old
+      → (r : Result (Option ℕ) TagFault) → IfOk r (λ answer. hand_gets.Gets tags answer old.hand new.hand)
+      → IfOk r (λ answer. Gets tags answer old new)
+  gets_more tags old new keeps none (Ok answer) g = record {
+    more = more old new keeps (IsAnswer answer) g.more;
+    ordinary = g.ordinary;
+    source = inr (record { none = none; gets = g; same = keeps });
+  }
+  gets_more tags old new keeps none (Err e) g = tt
+
+  -- the same after nothing was found kept
+  pub gets_after : (tags : Tags R) (old mid new : Cache R) → mid ≡ old → KeepsSame mid new → KeepsNone old
+      → (r : Result (Option ℕ) TagFault) → IfOk r (λ answer. hand_gets.Gets tags answer mid.hand new.hand)
+      → IfOk r (λ answer. Gets tags answer old new)
+  gets_after tags old mid new e keeps none r g = subst (λ (s : Cache R). IfOk r (λ answer. Gets tags answer s new)) e
+      (gets_more tags mid new keeps (subst (λ (s : Cache R). KeepsNone s) (sym e) none) r g)
+
+  -- a tag that the user is known to hold is held and not kept, ordinary, and in the window
+  pub lent_held : (cache : Cache R) (tag : ℕ) → IsLent cache tag → Holds cache tag
+  lent_held cache tag l = ((cache.loans tag l).0, λ k. cache.apart tag k l)
+
+  pub lent_ordinary : (cache : Cache R) (tag : ℕ) → IsLent cache tag → split_of cache ≤ tag
+  lent_ordinary cache tag l = (cache.loans tag l).1
+
+  pub lent_within : (cache : Cache R) (tag : ℕ) → IsLent cache tag → IsWithin cache tag
+  lent_within cache tag l = (l.0, below_end cache.first cache.lent tag cache.wide.1 l)
+
+  -- a cache that keeps no tag has an empty mask
+  pub none_kept : (cache : Cache R) → KeepsNone cache → cache.kept ≡ 0
+  none_kept cache none = emptied cache.first cache.kept cache.wide.0 none
+
+  -- what an unchanged cache has in common with the former one
+  pub held_still : (old new : Cache R) (tag : ℕ) → IsUnchanged old new → Holds old tag → Holds new tag
+  held_still old new tag u h = (
+    subst (λ (x : Hand R). hands.Holds x tag) (sym u.hand) h.0,
+    λ k. h.1 ((u.kept.kept tag).0 k),
+  )
+
+  -- if the user is known to hold another tag, the mask without this one is not 0
+  pub another_lent : (cache : Cache R) (tag rest : ℕ) → rest < 2 ^ 64
+      → ((other : ℕ) → IsIn cache.first rest other ↔ (IsLent cache other × other ≢ tag))
+      → ¬ (IsLast tag cache) → cache.keeping ≡ WhileHolding → 0 < rest
+  another_lent cache tag rest fits without more careful = ⊎_elim
+      (λ (l : rest < 1). let zero : rest ≡ 0 = omega arith in
+      absurd (more (careful, (none_else cache.first cache.lent rest tag fits without).0 zero)))
+      (λ (h : 1 ≤ rest). omega arith) (cases_lt rest 1)
+
+  -- a tag that was kept is not known to be the user's
+  pub unlent : (old new : Cache R) (tag : ℕ) → Pops tag old new → ¬ (IsLent new tag)
+  unlent old new tag p l = old.apart tag p.takes.was (subst (λ (m : ℕ). IsIn old.first m tag) p.lent
+      (subst (λ (f : ℕ). IsIn f new.lent tag) p.first l))
+
+  -- some tag is lent if the mask of lent ones is not 0
+  some_lent : (cache : Cache R) → 0 < cache.lent → IsLent cache (cache.first + trailing_zeros w64 cache.lent)
+  some_lent cache some = least_in cache.first cache.lent some cache.wide.1
+
+  pub keeps_with_care : (cache : Cache R) → KeepsWithCare cache
+  keeps_with_care cache careful kept k = let some = cache.careful careful (some_in cache.first cache.kept kept k) in
+      (cache.first + trailing_zeros w64 cache.lent, lent_held cache _ (some_lent cache some))
+
+  -- if no tag but one may be lent, and that one is not, none is kept
+  pub last_unlent : (cache : Cache R) (tag : ℕ) → ¬ (IsLent cache tag) → IsLast tag cache → KeepsNone cache
+  last_unlent cache tag out last kept k =
+      let some = some_lent cache (cache.careful last.0 (some_in cache.first cache.kept kept k)) in
+      out (subst (λ (t : ℕ). IsLent cache t) (last.1 _ some) some)

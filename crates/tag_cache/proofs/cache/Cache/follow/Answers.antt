@@ -1,0 +1,12 @@
+-- The window moves only if tags are always kept.
+use Rattle.std.proofs.Common.{inl, inr, refl, ⊎_elim}
+use Rattle.tag_cache.proofs.cache.Cache.follow.Goals as goal
+
+pub returns-in-Always-clause-aimed : goal.returns-in-Always-clause-aimed
+returns-in-Always-clause-aimed g c = ⊎_elim (λ w. inl w) (λ e. inr (e.0, inl e.1)) c.aim.ensures.aimed
+
+pub returns-in-Always-clause-careful : goal.returns-in-Always-clause-careful
+returns-in-Always-clause-careful g c = λ careful. let is = c.in-Always.is in absurd (cc)
+
+pub returns-in-WhileHolding-clause-aimed : goal.returns-in-WhileHolding-clause-aimed
+returns-in-WhileHolding-clause-aimed g c = inr (refl, inr c.in-WhileHolding.is)

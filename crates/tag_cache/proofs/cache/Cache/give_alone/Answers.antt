@@ -1,0 +1,23 @@
+-- The tag is forgotten, and then given back.
+use Rattle.std.proofs.Common.{refl, subst}
+use Rattle.tag_sets.specs.declared.hand.Hand.{Hand}
+use Rattle.tag_cache.specs.Clears.{GivesOne}
+use Rattle.tag_cache.proofs.Carrying.{keeps_twice}
+use Rattle.tag_cache.proofs.Reusing.{held_still}
+use Rattle.tag_cache.proofs.cache.Cache.give_alone.Goals as goal
+
+pub give-requires-clause-held : goal.give-requires-clause-held
+give-requires-clause-held g c = held_still c.args.self.now c.forget.new.self c.args.tag c.forget.ensures.same
+    c.requires.held
+
+pub give-requires-clause-unlent : goal.give-requires-clause-unlent
+give-requires-clause-unlent g c = λ l. ((c.forget.ensures.loans c.args.tag).0 l).1 refl
+
+pub returns-clause-gives : goal.returns-clause-gives
+returns-clause-gives g c = subst (λ (h : Hand g.row.R.Denot).
+    GivesOne c.args.tags.now c.args.tag c.give.result h c.give.new.self.hand) c.forget.ensures.same.hand
+    c.give.ensures.gives
+
+pub returns-clause-kept : goal.returns-clause-kept
+returns-clause-kept g c = keeps_twice c.args.self.now c.forget.new.self c.give.new.self c.forget.ensures.same.kept
+    c.give.ensures.kept

@@ -1,0 +1,29 @@
+-- The window moved, or did not, and then the tag is kept or given back.
+use Rattle.std.proofs.Common.{◌≤◌, inl, inr, sym, subst, ⊎_elim}
+use Rattle.tag_sets.specs.declared.hand.Hand.{Hand}
+use Rattle.tag_sets.specs.Hands as hands
+use Rattle.tag_cache.specs.declared.cache.Cache.{Cache}
+use Rattle.tag_cache.specs.Caches.{IsFixed}
+use Rattle.tag_cache.proofs.Reusing.{held_still}
+use Rattle.tag_cache.proofs.Going.{goes_from}
+use Rattle.tag_cache.proofs.cache.Cache.put_other.Goals as goal
+
+pub returns-clause-way : goal.returns-clause-way
+returns-clause-way g c = goes_from c.args.tags.now c.args.tag c.put.result c.args.self.now c.follow.new.self
+    c.put.new.self c.follow.ensures.same c.follow.ensures.aimed c.follow.ensures.careful c.put.ensures.way
+
+pub put-requires-clause-cache : goal.put-requires-clause-cache
+put-requires-clause-cache g c = subst (λ (h : Hand g.row.R.Denot). hands.IsHandOf c.args.tags.now h)
+    (sym c.follow.ensures.same.hand) c.requires.cache
+
+pub put-requires-clause-held : goal.put-requires-clause-held
+put-requires-clause-held g c = held_still c.args.self.now c.follow.new.self c.args.tag c.follow.ensures.same
+    c.requires.held
+
+pub put-requires-clause-ordinary : goal.put-requires-clause-ordinary
+put-requires-clause-ordinary g c = subst (λ (h : Hand g.row.R.Denot). hands.split_of h ≤ c.args.tag)
+    (sym c.follow.ensures.same.hand) c.requires.ordinary
+
+pub put-requires-clause-aimed : goal.put-requires-clause-aimed
+put-requires-clause-aimed g c = ⊎_elim (λ w. inl w)
+    (λ e. inr (subst (λ (x : Cache g.row.R.Denot). IsFixed x) (sym e.0) e.1)) c.follow.ensures.aimed

@@ -1,0 +1,43 @@
+-- The kept tags go back first if the tag is the last one known.
+use Rattle.std.proofs.Common.{inl, inr, refl}
+use Rattle.tag_cache.specs.Caches.{IsLast}
+use Rattle.tag_cache.proofs.Carrying.{not_true, same_user, same_then_same}
+use Rattle.tag_cache.proofs.Tallying.{unchanged_tallies, tallies_on}
+use Rattle.tag_cache.proofs.cache.Cache.release.Goals as goal
+
+pub forget-requires : goal.forget-requires
+forget-requires g c = inl c.flush.ensures.none
+
+pub forget-requires-2 : goal.forget-requires-2
+forget-requires-2 g c = inr
+    (not_true c.is_last.result (IsLast c.args.tag c.args.self.now) c.is_last.ensures c.if-is_last.false)
+
+pub returns-then-is_last-clause-same : goal.returns-then-is_last-clause-same
+returns-then-is_last-clause-same g c = same_then_same c.args.self.now c.flush.new.self c.forget.new.self
+    c.flush.ensures.same (same_user c.flush.new.self c.forget.new.self c.forget.ensures.same)
+
+pub returns-then-is_last-clause-tally : goal.returns-then-is_last-clause-tally
+returns-then-is_last-clause-tally g c = tallies_on 0 0 c.args.self.now c.flush.new.self c.forget.new.self
+    c.flush.ensures.tally (unchanged_tallies c.flush.new.self c.forget.new.self c.forget.ensures.same)
+
+pub returns-then-is_last-clause-kept : goal.returns-then-is_last-clause-kept
+returns-then-is_last-clause-kept g c = λ other. absurd (other (c.is_last.ensures.0 c.if-is_last.true))
+
+pub returns-then-is_last-clause-last : goal.returns-then-is_last-clause-last
+returns-then-is_last-clause-last g c = λ last tag k. c.flush.ensures.none tag ((c.forget.ensures.same.kept.kept tag).0 k)
+
+pub returns-then-is_last-clause-unlent : goal.returns-then-is_last-clause-unlent
+returns-then-is_last-clause-unlent g c = λ l. ((c.forget.ensures.loans c.args.tag).0 l).1 refl
+
+pub returns-clause-same : goal.returns-clause-same
+returns-clause-same g c = same_user c.args.self.now c.forget-2.new.self c.forget-2.ensures.same
+
+pub returns-clause-tally : goal.returns-clause-tally
+returns-clause-tally g c = unchanged_tallies c.args.self.now c.forget-2.new.self c.forget-2.ensures.same
+
+pub returns-clause-last : goal.returns-clause-last
+returns-clause-last g c = λ last. absurd (not_true c.is_last.result (IsLast c.args.tag c.args.self.now)
+    c.is_last.ensures c.if-is_last.false last)
+
+pub returns-clause-unlent : goal.returns-clause-unlent
+returns-clause-unlent g c = λ l. ((c.forget-2.ensures.loans c.args.tag).0 l).1 refl

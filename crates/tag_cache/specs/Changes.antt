@@ -1,0 +1,71 @@
+-- How the tags that are kept change, and those that the user is known to hold.
+use Rattle.std.specs.Prelude.{◌≡◌, ◌≢◌, ◌⊎◌, ◌↔◌, ℕ, ◌+◌, ◌≤◌, Bool, true, false}
+use Rattle.tag_cache.specs.declared.cache.Cache.{Cache}
+use Rattle.tag_cache.specs.Caches.{hand_of, count_of, most_of, keeping_of, reused_of, IsKept, IsLent, HasNoPlace}
+
+-- as many tags may be kept, and when
+pub record SameTerms {R : Type 0} (old new : Cache R) : Type 0 where
+  pub most : most_of new ≡ most_of old
+  pub keeping : keeping_of new ≡ keeping_of old
+
+-- the same tags are kept, on the same terms, and none was handed out again
+pub record KeepsSame {R : Type 0} (old new : Cache R) : Type 0 where
+  pub kept : (tag : ℕ) → IsKept new tag ↔ IsKept old tag
+  pub count : count_of new ≡ count_of old
+  pub terms : SameTerms old new
+  pub reused : reused_of new ≡ reused_of old
+
+-- the hand is as it was, and so is what is kept
+pub record IsUnchanged {R : Type 0} (old new : Cache R) : Type 0 where
+  pub hand : hand_of new ≡ hand_of old
+  pub kept : KeepsSame old new
+
+-- the user is known to hold the same tags
+abbrev pub SameLoans : {R : Type 0} → Cache R → Cache R → Type 0
+SameLoans old new = (tag : ℕ) → IsLent new tag ↔ IsLent old tag
+
+-- it is no longer known that the user holds this tag, and nothing else changed
+pub record Forgets {R : Type 0} (tag : ℕ) (old new : Cache R) : Type 0 where
+  pub same : IsUnchanged old new
+  pub loans : (other : ℕ) → IsLent new other ↔ (IsLent old other × other ≢ tag)
+
+-- the least kept tag is kept no more
+pub record TakesLeast {R : Type 0} (tag : ℕ) (old new : Cache R) : Type 0 where
+  pub hand : hand_of new ≡ hand_of old
+  pub terms : SameTerms old new
+  pub was : IsKept old tag
+  pub least : (other : ℕ) → IsKept old other → tag ≤ other
+  pub left : (other : ℕ) → IsKept new other ↔ (IsKept old other × other ≢ tag)
+  pub fewer : count_of old ≡ count_of new + 1
+
+-- the least kept tag is kept no more, and nothing else changed
+pub record Pops {R : Type 0} (tag : ℕ) (old new : Cache R) : Type 0 where
+  pub takes : TakesLeast tag old new
+  pub first : new.first ≡ old.first
+  pub lent : new.lent ≡ old.lent
+  pub reused : reused_of new ≡ reused_of old
+
+-- the least kept tag is kept no more, but handed to the user, once more than before
+pub record Reuses {R : Type 0} (tag : ℕ) (old new : Cache R) : Type 0 where
+  pub takes : TakesLeast tag old new
+  pub lent : IsLent new tag
+  pub reused : reused_of new ≡ reused_of old + 1
+
+-- this tag is kept besides the others, on the same terms, and none was handed out again
+pub record KeepsAlso {R : Type 0} (tag : ℕ) (old new : Cache R) : Type 0 where
+  pub now : IsKept new tag
+  pub still : (other : ℕ) → IsKept old other → IsKept new other
+  pub none_else : (other : ℕ) → IsKept new other → IsKept old other ⊎ (other ≡ tag)
+  pub more : count_of new ≡ count_of old + 1
+  pub terms : SameTerms old new
+  pub reused : reused_of new ≡ reused_of old
+
+-- this tag is kept besides, and the hand is as it was
+pub record Keeps {R : Type 0} (tag : ℕ) (old new : Cache R) : Type 0 where
+  pub hand : hand_of new ≡ hand_of old
+  pub also : KeepsAlso tag old new
+
+-- the tag is kept besides, or nothing changed, since there is no place for it
+abbrev pub MayKeep : {R : Type 0} → ℕ → Bool → Cache R → Cache R → Type 0
+MayKeep tag true old new = Keeps tag old new
+MayKeep tag false old new = (new ≡ old) × HasNoPlace tag old

@@ -1,0 +1,32 @@
+//! How many tags a cache has handed to its user and taken back.
+ghost use Rattle.std.specs.Prelude.{◌≡◌};
+ghost use Rattle.tag_cache.specs.Caches.{reused_of};
+ghost use Rattle.tag_cache.specs.Tallies.{handed_of, taken_of};
+
+use crate::cache::Cache;
+
+impl<R> Cache<R> {
+    /// Returns how many tags were handed to the user: those that the hand won so far, and kept ones that were handed out
+    /// again. Tags that the user took are not among them.
+    pub fn handed_out(&self) -> u64
+        ensures { result ≡ handed_of self.now }
+    {
+        self.hand.won() + self.reused
+    }
+
+    /// Returns how many tags were taken back from the user: those that the hand gave back so far, and those that are or
+    /// were kept. As long as the user posts and takes none, `handed_out` less this is how many more tags it holds than
+    /// the hand did when the cache was made, less what the hand had won and not given back then.
+    pub fn taken_back(&self) -> u64
+        ensures { result ≡ taken_of self.now }
+    {
+        self.hand.given() + self.reused + u64::from(self.count())
+    }
+
+    /// Returns how many gets were answered with a kept tag. After 2^56 of them the cache keeps no more tags.
+    pub fn reused(&self) -> u64
+        ensures { result ≡ reused_of self.now }
+    {
+        self.reused
+    }
+}

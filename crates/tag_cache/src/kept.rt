@@ -1,0 +1,80 @@
+//! Which tags are kept.
+ghost use Rattle.std.specs.Prelude.{◌≡◌, ◌⊎◌, ◌≤◌, ◌↔◌, IsTrue, MatchOption};
+ghost use Rattle.tag_cache.specs.Caches.{IsKept, IsWithin, IsFixed, IsLast, KeepsNone, KeepsWithCare, Holds, most_of, count_of, split_of};
+ghost use Rattle.tag_cache.specs.Changes.{Pops, Reuses, MayKeep};
+
+use crate::cache::{Cache, MOST_REUSED, WINDOW};
+
+impl<R> Cache<R> {
+    /// Returns whether the tag is kept.
+    #[inline(always)]
+    pub fn keeps(&self, tag: u32) -> bool
+        ensures { IsTrue result ↔ IsKept self.now tag }
+    {
+        let offset = self.offset(tag);
+        if offset >= WINDOW {
+            return false;
+        }
+        self.kept >> offset & 1 == 1
+    }
+
+    /// Returns the number of kept tags. Under `Keeping::WhileHolding` it is 0 unless the user holds a tag.
+    #[inline(always)]
+    pub fn count(&self) -> u32
+        ensures count { result ≡ count_of self.now }
+        ensures few { result ≤ most_of self.now }
+        ensures careful { KeepsWithCare self.now }
+    {
+        self.kept.count_ones()
+    }
+
+    /// Takes the least kept tag out of the kept ones.
+    #[inline(always)]
+    pub(crate) fn pop(&mut self) -> Option<u32>
+        ensures { MatchOption result (KeepsNone self.old × (self.new ≡ self.old)) (λ tag. Pops tag self.old self.new) }
+    {
+        if self.kept == 0 {
+            return None;
+        }
+        let place = self.kept.trailing_zeros();
+        self.kept &= !(1 << place);
+        Some(self.first + place)
+    }
+
+    /// Hands the least kept tag to the user.
+    #[inline(always)]
+    pub(crate) fn reuse(&mut self) -> Option<u32>
+        ensures { MatchOption result (KeepsNone self.old × (self.new ≡ self.old)) (λ tag. Reuses tag self.old self.new) }
+    {
+        let Some(tag) = self.pop() else {
+            return None;
+        };
+        self.lent |= 1 << (tag - self.first);
+        self.reused += 1;
+        Some(tag)
+    }
+
+    /// Keeps an ordinary tag that the user holds, if there is a place for it.
+    #[inline(always)]
+    pub(crate) fn keep(&mut self, tag: u32) -> bool
+        requires held { Holds self.old tag }
+        requires ordinary { split_of self.old ≤ tag }
+        requires aimed { IsWithin self.old tag ⊎ IsFixed self.old }
+        requires other { ¬ (IsLast tag self.old) }
+        ensures { MayKeep tag result self.old self.new }
+    {
+        let offset = self.offset(tag);
+        if offset >= WINDOW {
+            return false;
+        }
+        if self.count() >= self.most {
+            return false;
+        }
+        if self.reused >= MOST_REUSED {
+            return false;
+        }
+        self.lent = self.lent_without(tag);
+        self.kept |= 1 << offset;
+        true
+    }
+}

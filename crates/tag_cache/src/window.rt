@@ -1,0 +1,119 @@
+//! The window: its place, and which of its tags the user is known to hold.
+ghost use Rattle.std.specs.Prelude.{◌≡◌, ◌≢◌, ◌⊎◌, ℕ, ◌+◌, ◌^◌, ◌<◌, ◌≤◌, ◌↔◌, IsTrue};
+ghost use Rattle.tag_cache.specs.Windows.{IsIn};
+ghost use Rattle.tag_cache.specs.Caches.{IsLent, IsWithin, IsFixed, IsLast, KeepsNone, Holds, split_of, keeping_of};
+ghost use Rattle.tag_cache.specs.Changes.{IsUnchanged, Forgets};
+
+use crate::cache::{Cache, WINDOW};
+use crate::keeping::Keeping;
+
+impl<R> Cache<R> {
+    /// Returns how far the tag is behind the first one of the window, 0 to 63, or a larger number if it is outside.
+    #[inline(always)]
+    pub(crate) fn offset(&self, tag: u32) -> u32
+        ensures within { (result < 64) ↔ IsWithin self.now tag }
+        ensures offset { result < 64 → self.now.first + result ≡ tag }
+    {
+        tag.wrapping_sub(self.first)
+    }
+
+    /// Returns whether the user is known to hold the tag, which is then an ordinary one.
+    #[inline(always)]
+    pub(crate) fn lends(&self, tag: u32) -> bool
+        ensures { IsTrue result ↔ IsLent self.now tag }
+    {
+        let offset = self.offset(tag);
+        if offset >= WINDOW {
+            return false;
+        }
+        self.lent >> offset & 1 == 1
+    }
+
+    /// Returns the mask of the tags that the user is known to hold, without this one.
+    #[inline(always)]
+    pub(crate) fn lent_without(&self, tag: u32) -> u64
+        ensures { (other : ℕ) → IsIn self.now.first result other ↔ (IsLent self.now other × other ≢ tag) }
+    {
+        let offset = self.offset(tag);
+        if offset >= WINDOW {
+            return self.lent;
+        }
+        self.lent & !(1 << offset)
+    }
+
+    /// Returns whether nothing may be kept any more once this tag is cleared or posted: the user is known to hold no
+    /// other, and tags are kept only while it does.
+    #[inline(always)]
+    pub(crate) fn is_last(&self, tag: u32) -> bool
+        ensures { IsTrue result ↔ IsLast tag self.now }
+    {
+        match self.keeping {
+            Keeping::Always => false,
+            Keeping::WhileHolding => self.lent_without(tag) == 0,
+        }
+    }
+
+    /// Says that it is no longer known that the user holds the tag, which is about to leave.
+    #[inline(always)]
+    pub(crate) fn forget(&mut self, tag: u32)
+        requires { KeepsNone self.old ⊎ ¬ (IsLast tag self.old) }
+        ensures { Forgets tag self.old self.new }
+    {
+        self.lent = self.lent_without(tag);
+    }
+
+    /// Moves the window to the tag if nothing is kept and the tag is outside. What the user holds in the former window is
+    /// known no more.
+    pub(crate) fn aim(&mut self, tag: u32)
+        requires { tag < 2 ^ 31 }
+        ensures same { IsUnchanged self.old self.new }
+        ensures aimed { IsWithin self.new tag ⊎ ((self.new ≡ self.old) × ¬ (KeepsNone self.old)) }
+    {
+        if self.kept != 0 {
+            return;
+        }
+        if self.offset(tag) < WINDOW {
+            return;
+        }
+        self.first = tag / WINDOW * WINDOW;
+        self.lent = 0;
+    }
+
+    /// Moves the window to a tag that is cleared as `aim` does, unless tags are kept only while the user is known to hold
+    /// another.
+    pub(crate) fn follow(&mut self, tag: u32)
+        requires { tag < 2 ^ 31 }
+        ensures same { IsUnchanged self.old self.new }
+        ensures aimed { IsWithin self.new tag ⊎ ((self.new ≡ self.old) × IsFixed self.old) }
+        ensures careful { keeping_of self.old ≡ Keeping.WhileHolding → self.new ≡ self.old }
+    {
+        match self.keeping {
+            Keeping::Always => self.aim(tag),
+            Keeping::WhileHolding => {}
+        }
+    }
+
+    /// Says that the user holds an ordinary tag, if it is in the window. If nothing is kept, the window moves there first.
+    pub(crate) fn lend(&mut self, tag: u32)
+        requires held { Holds self.old tag }
+        requires ordinary { split_of self.old ≤ tag }
+        requires low { tag < 2 ^ 31 }
+        ensures { IsUnchanged self.old self.new }
+    {
+        self.aim(tag);
+        self.note(tag);
+    }
+
+    /// Says that the user holds an ordinary tag, if it is in the window.
+    fn note(&mut self, tag: u32)
+        requires held { Holds self.old tag }
+        requires ordinary { split_of self.old ≤ tag }
+        ensures { IsUnchanged self.old self.new }
+    {
+        let offset = self.offset(tag);
+        if offset >= WINDOW {
+            return;
+        }
+        self.lent |= 1 << offset;
+    }
+}
