@@ -1,4 +1,4 @@
-//! The tests of queues and tag sets. Both offer their callers the same calls, so what the tests need is here once.
+//! The tests of queues, tag sets and caches. They offer their callers the same calls, so what the tests need is here once.
 #![tactic(auto)]
 
 #[cfg(test)]

@@ -1,4 +1,5 @@
 //! Answers to calls.
+use crate::tests::shared::Kept;
 use tag_queue::{TagFault, Wakes};
 use tag_sets::Shown as Sums;
 use wake_book::Left as Leave;
@@ -11,6 +12,8 @@ pub(crate) enum Answer {
     Batch(u32, u64),
     /// No tag, or nothing to show.
     Nothing,
+    /// Tags kept, handed to the user and taken back from it, and kept ones handed out again.
+    Keeps(u32, u64, u64, u64),
     Value(u64),
     Held(bool),
     Done,
@@ -48,6 +51,13 @@ pub(crate) fn tag(found: Option<u32>) -> Answer {
 pub(crate) fn batch(found: Option<(u32, u64)>) -> Answer {
     match found {
         Some((first, mask)) => Answer::Batch(first, mask),
+        None => Answer::Nothing,
+    }
+}
+
+pub(crate) fn kept(found: Option<Kept>) -> Answer {
+    match found {
+        Some(kept) => Answer::Keeps(kept.count, kept.handed_out, kept.taken_back, kept.reused),
         None => Answer::Nothing,
     }
 }

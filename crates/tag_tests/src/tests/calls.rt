@@ -1,5 +1,5 @@
 //! Calls that the callers of a stage make one after another.
-use crate::tests::answers::{Answer, answered, batch, busy, counts, dumped, shown, tag};
+use crate::tests::answers::{Answer, answered, batch, busy, counts, dumped, kept, shown, tag};
 use crate::tests::shared::Shared;
 use crate::tests::stage::Stage;
 use std::sync::Wait;
@@ -24,6 +24,9 @@ pub(crate) enum Call {
     Write(u32, u64),
     Post(u32),
     Take(u32),
+    Flush,
+    /// Asks what is kept.
+    Kept,
     Holds(u32),
     PrepareWait,
     FinishWait,
@@ -65,6 +68,8 @@ pub(crate) fn act<T: Shared, W: Wait>(
         Call::Write(tag, new) => answered(tags.write(caller, tag, new).map(Answer::Value)),
         Call::Post(tag) => answered(tags.post(caller, tag).map(|()| Answer::Done)),
         Call::Take(tag) => answered(tags.take(caller, tag).map(|()| Answer::Done)),
+        Call::Flush => Answer::Woken(tags.flush(caller)),
+        Call::Kept => kept(tags.kept(caller)),
         Call::Holds(tag) => Answer::Held(tags.has(caller, tag)),
         Call::PrepareWait => answered(tags.prepare_wait(caller).map(Answer::Group)),
         Call::FinishWait => answered(tags.finish_wait(rt, caller).map(Answer::Left)),

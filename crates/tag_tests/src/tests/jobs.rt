@@ -18,6 +18,9 @@ pub(crate) enum Job {
     /// The workers make this call, and clear the tag that they win. A thread beyond them enters and leaves a wait until
     /// they have finished.
     Gets(Call),
+    /// The workers make this call, and then a get; they clear what the get won first. At the end they give back what they
+    /// keep.
+    Pairs(Call),
     /// One thread gets tag 0, and clears it once the other one waits for it.
     PassOn,
 }
@@ -56,6 +59,7 @@ pub(crate) fn play<R: Wait, T: Shared>(
         Job::Everything(_) => keep(rt, tags, caller, tally, plan.workers),
         Job::Gets(call) if works => get_and_clear(rt, tags, caller, tally, call, plan.rounds),
         Job::Gets(_) => wait_on_and_off(rt, tags, caller, tally, plan.workers),
+        Job::Pairs(call) => get_two(rt, tags, caller, tally, call, plan.rounds),
         Job::PassOn if works => clear_for_a_waiter(rt, tags, caller, tally),
         Job::PassOn => wait_for_a_tag(rt, tags, caller, tally),
     }
@@ -251,6 +255,40 @@ fn get_and_clear<R: Wait, T: Shared>(
         win_and_clear(rt, tags, caller, tally, call);
     }
     tally.finished.fetch_add(1, SeqCst);
+}
+
+/// Makes a call that wins a tag, and wins and clears another by a get before it clears the first.
+fn win_two<R: Wait, T: Shared>(rt: &R, tags: &T, caller: &mut T::Caller, tally: &Tally, call: Call)
+    requires { T.is_own tags.now caller.old }
+    ensures { T.is_own tags.now caller.new }
+{
+    match act(rt, tags, caller, call) {
+        Answer::Tag(tag) => {
+            tally.wins(tag);
+            win_and_clear(rt, tags, caller, tally, Call::Get);
+            tally.goes(tag);
+            tally.cleared(1, tags.clear(caller, tag));
+        }
+        _ => tally.check(false),
+    }
+}
+
+/// Holds up to two tags in each round, and gives back what it keeps at the end.
+fn get_two<R: Wait, T: Shared>(
+    rt: &R,
+    tags: &T,
+    caller: &mut T::Caller,
+    tally: &Tally,
+    call: Call,
+    rounds: u32,
+)
+    requires { T.is_own tags.now caller.old }
+    ensures { T.is_own tags.now caller.new }
+{
+    for _ in 0..rounds {
+        win_two(rt, tags, caller, tally, call);
+    }
+    tally.cleared(0, Ok(tags.flush(caller)));
 }
 
 /// Enters and leaves a wait until the workers have finished.

@@ -16,7 +16,7 @@ mod slots;
 mod stages;
 mod waits;
 
-use crate::tests::shared::Shared;
+use crate::tests::shared::{Kept, Shared};
 use std::alloc::Global;
 use std::sync::Wait;
 use step_ledger::{GatherCause, Numbered};
@@ -96,6 +96,14 @@ impl Shared for Queue<u64> {
 
     fn take(&self, agent: &mut Agent<u64>, tag: u32) -> Result<(), TagFault> {
         Queue::take(self, agent, tag)
+    }
+
+    fn flush(&self, _agent: &mut Agent<u64>) -> u32 {
+        0
+    }
+
+    fn kept(&self, _agent: &Agent<u64>) -> Option<Kept> {
+        None
     }
 
     fn has(&self, agent: &mut Agent<u64>, tag: u32) -> bool {

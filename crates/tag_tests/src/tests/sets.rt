@@ -16,7 +16,7 @@ mod resizing;
 mod slots;
 mod stages;
 
-use crate::tests::shared::Shared;
+use crate::tests::shared::{Kept, Shared};
 use std::alloc::Global;
 use std::sync::Wait;
 use std::test::Fail;
@@ -119,6 +119,14 @@ impl Shared for Sets {
 
     fn take(&self, hand: &mut Hand<u64>, tag: u32) -> Result<(), TagFault> {
         self.tags.take(hand, tag)
+    }
+
+    fn flush(&self, _hand: &mut Hand<u64>) -> u32 {
+        0
+    }
+
+    fn kept(&self, _hand: &Hand<u64>) -> Option<Kept> {
+        None
     }
 
     fn has(&self, hand: &mut Hand<u64>, tag: u32) -> bool {

@@ -1,4 +1,4 @@
-//! What a queue and tag sets have in common.
+//! What a queue, tag sets and caches have in common.
 ghost use Rattle.std.specs.Prelude.{ℕ, All, IfOk, IfErr, IsTrue};
 ghost use Rattle.tag_tests.specs.Owning.{IsFact};
 
@@ -9,7 +9,17 @@ use tag_queue::{QueueTotals, ResizeCause, TagFault, Wakes};
 use tag_sets::{Kind, Shown};
 use wake_book::Left;
 
-/// Tags that callers share, each through a handle of its own: an agent of a queue, or a hand of tag sets.
+/// What a caller's cache keeps and has counted.
+#[derive(Clone, Copy)]
+pub(crate) struct Kept {
+    /// Tags that are kept.
+    pub(crate) count: u32,
+    pub(crate) handed_out: u64,
+    pub(crate) taken_back: u64,
+    pub(crate) reused: u64,
+}
+
+/// Tags that callers share, each through a handle of its own: an agent of a queue, a hand of tag sets, or a cache.
 pub(crate) trait Shared: Drop {
     /// The handle of one caller.
     type Caller: Drop;
@@ -86,6 +96,14 @@ pub(crate) trait Shared: Drop {
     fn take(&self, caller: &mut Self::Caller, tag: u32) -> Result<(), TagFault>
         requires { is_own self.now caller.old }
         ensures { is_own self.now caller.new };
+
+    /// Gives back what the caller keeps, and returns how many waiters this woke. A caller without a cache keeps nothing.
+    fn flush(&self, caller: &mut Self::Caller) -> u32
+        requires { is_own self.now caller.old }
+        ensures { is_own self.now caller.new };
+
+    /// Returns what the caller's cache keeps, or `None` if it has no cache.
+    fn kept(&self, caller: &Self::Caller) -> Option<Kept>;
 
     /// Returns whether the number is a tag's and the caller holds that tag.
     fn has(&self, caller: &mut Self::Caller, tag: u32) -> bool

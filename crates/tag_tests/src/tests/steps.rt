@@ -16,6 +16,8 @@ pub(crate) enum Step<'a> {
     Calls(&'a [(usize, Call, Answer)]),
     /// A caller makes this many gets, each of which wins a tag.
     Gets(usize, u32),
+    /// A caller clears each of the tags below this number, which wakes nobody.
+    Clears(usize, u32),
     /// A caller clears these tags in a batch, and has this answer.
     ClearBatch(usize, &'a [u32], Answer),
     /// A caller meets the last one.
@@ -66,6 +68,7 @@ impl<T: Shared> Stage<T> {
         match step {
             Step::Calls(said) => Ok(self.expect_calls(rt, said)),
             Step::Gets(at, count) => Ok(self.expect_gets(rt, at, count)),
+            Step::Clears(at, count) => Ok(self.expect_clears(rt, at, count)),
             Step::ClearBatch(at, tags, answer) => Ok(self.expect_clear(rt, at, tags, answer)),
             Step::Meet(at) => self.expect_meeting(rt, at),
             Step::Apart(at, tag) => self.expect_apart(rt, at, tag),
@@ -95,6 +98,14 @@ impl<T: Shared> Stage<T> {
                 matches!(found, Some(Answer::Tag(_))),
                 "{found:?} to get {place}"
             );
+        }
+        self
+    }
+
+    fn expect_clears<R: Abort + Wait>(mut self, rt: &R, at: usize, count: u32) -> Stage<T> {
+        for tag in 0..count {
+            let found = self.act(rt, at, Call::Clear(tag));
+            assert_eq!(rt; found, Some(Answer::Woken(0)), "to the clear of {tag}");
         }
         self
     }

@@ -39,7 +39,7 @@ where
 }
 
 /// Has all callers of a stage play at once, and gathers them.
-fn played<R: Wait + Threads + Sync, T: Shared + Sync>(
+pub(crate) fn played<R: Wait + Threads + Sync, T: Shared + Sync>(
     rt: &R,
     stage: Stage<T>,
     tally: &Tally,

@@ -1,0 +1,323 @@
+//! Tag sets whose callers are caches, or caches beside bare hands.
+ghost use Rattle.std.specs.Prelude.{All, IfOk, IfErr};
+ghost use Rattle.std.specs.Coded.{codes};
+ghost use Rattle.tag_sets.specs.Hands.{IsHandOf};
+ghost use Rattle.tag_tests.specs.Mixed.{IsOwn, HoldsTag};
+
+mod callers;
+mod clears;
+mod keeping;
+mod resizing;
+mod slots;
+mod stages;
+mod threads;
+mod windows;
+
+use crate::tests::cache::callers::{Caller, Terms, hands_of};
+use crate::tests::shared::{Kept, Shared};
+use std::alloc::Global;
+use std::sync::Wait;
+use step_ledger::{GatherCause, Numbered};
+use tag_queue::{QueueTotals, ResizeCause, TagFault, Wakes};
+use tag_sets::{Hand, Kind, Shown, Tags};
+use wake_book::Left;
+
+/// The most tags of both sets.
+const MAX_TAGS: usize = 10_240;
+
+/// Tag sets with such callers.
+pub(crate) struct Mixed {
+    pub(crate) tags: Tags<u64>,
+    pub(crate) terms: Terms,
+    pub(crate) alloc: Global,
+}
+
+impl Drop for Mixed {
+    fn drop(self) {
+        let Mixed {
+            tags,
+            terms: _terms,
+            alloc: _alloc,
+        } = self;
+        tags.discard();
+    }
+}
+
+/// A call that a cache does not have is refused.
+impl Shared for Mixed {
+    type Caller = Caller;
+
+    ghost is_own = { IsOwn };
+
+    ghost is_fact = { λ mixed caller. Prim.hlevel codes };
+
+    ghost holds = { HoldsTag };
+
+    fn number(caller: &Caller) -> u32 {
+        match caller {
+            Caller::Bare(hand) => Numbered::number(hand),
+            Caller::Cached(_) => 0,
+        }
+    }
+
+    fn place(&self, caller: &mut Caller) {
+        match caller {
+            Caller::Bare(hand) => self.tags.place(hand),
+            Caller::Cached(cache) => cache.place(&self.tags),
+        }
+    }
+
+    fn get(&self, caller: &mut Caller) -> Result<Option<u32>, TagFault> {
+        match caller {
+            Caller::Bare(hand) => self.tags.get(hand),
+            Caller::Cached(cache) => cache.get(&self.tags),
+        }
+    }
+
+    fn get_reserved(&self, caller: &mut Caller) -> Result<Option<u32>, TagFault> {
+        match caller {
+            Caller::Bare(hand) => self.tags.get_reserved(hand),
+            Caller::Cached(cache) => cache.get_reserved(&self.tags),
+        }
+    }
+
+    fn get_shallow(&self, caller: &mut Caller, depth: u32) -> Result<Option<u32>, TagFault> {
+        match caller {
+            Caller::Bare(hand) => self.tags.get_shallow(hand, depth),
+            Caller::Cached(_) => Err(TagFault::TooShallow),
+        }
+    }
+
+    fn get_batch(&self, caller: &mut Caller, count: u32) -> Result<Option<(u32, u64)>, TagFault> {
+        match caller {
+            Caller::Bare(hand) => self.tags.get_batch(hand, count),
+            Caller::Cached(_) => Err(TagFault::BadCount),
+        }
+    }
+
+    fn get_blocking<W: Wait>(&self, rt: &W, caller: &mut Caller) -> Result<u32, TagFault> {
+        match caller {
+            Caller::Bare(hand) => self.tags.get_blocking(rt, hand),
+            Caller::Cached(cache) => cache.get_blocking(rt, &self.tags),
+        }
+    }
+
+    fn clear(&self, caller: &mut Caller, tag: u32) -> Result<u32, TagFault> {
+        match caller {
+            Caller::Bare(hand) => self.tags.clear(hand, tag),
+            Caller::Cached(cache) => cache.clear(&self.tags, tag),
+        }
+    }
+
+    fn clear_uncounted(&self, caller: &mut Caller, tag: u32) -> Result<u32, TagFault> {
+        self.clear(caller, tag)
+    }
+
+    fn clear_batch(&self, caller: &mut Caller, cleared: &[u32]) -> Result<u32, TagFault> {
+        match caller {
+            Caller::Bare(hand) => self.tags.clear_batch(hand, cleared),
+            Caller::Cached(_) => Err(TagFault::BadCount),
+        }
+    }
+
+    fn read(&self, caller: &mut Caller, tag: u32) -> Result<u64, TagFault> {
+        match caller {
+            Caller::Bare(hand) => self.tags.read(hand, tag),
+            Caller::Cached(cache) => cache.read(&self.tags, tag),
+        }
+    }
+
+    fn write(&self, caller: &mut Caller, tag: u32, value: u64) -> Result<u64, TagFault> {
+        match caller {
+            Caller::Bare(hand) => self.tags.write(hand, tag, value),
+            Caller::Cached(cache) => cache.write(&self.tags, tag, value),
+        }
+    }
+
+    fn post(&self, caller: &mut Caller, tag: u32) -> Result<(), TagFault> {
+        match caller {
+            Caller::Bare(hand) => self.tags.post(hand, tag),
+            Caller::Cached(cache) => cache.post(&self.tags, tag),
+        }
+    }
+
+    fn take(&self, caller: &mut Caller, tag: u32) -> Result<(), TagFault> {
+        match caller {
+            Caller::Bare(hand) => self.tags.take(hand, tag),
+            Caller::Cached(cache) => cache.take(&self.tags, tag),
+        }
+    }
+
+    fn flush(&self, caller: &mut Caller) -> u32 {
+        match caller {
+            Caller::Bare(_) => 0,
+            Caller::Cached(cache) => cache.flush(&self.tags),
+        }
+    }
+
+    fn kept(&self, caller: &Caller) -> Option<Kept> {
+        match caller {
+            Caller::Bare(_) => None,
+            Caller::Cached(cache) => Some(Kept {
+                count: cache.count(),
+                handed_out: cache.handed_out(),
+                taken_back: cache.taken_back(),
+                reused: cache.reused(),
+            }),
+        }
+    }
+
+    fn has(&self, caller: &mut Caller, tag: u32) -> bool {
+        match caller {
+            Caller::Bare(hand) => match self.tags.read(hand, tag) {
+                Err(TagFault::NoSuchTag) => false,
+                _ => hand.holds(tag),
+            },
+            Caller::Cached(cache) => match cache.read(&self.tags, tag) {
+                Err(TagFault::NoSuchTag) => false,
+                _ => cache.holds(tag),
+            },
+        }
+    }
+
+    fn agrees(&self, caller: &mut Caller, tag: u32) -> bool {
+        self.has(caller, tag)
+    }
+
+    fn show(&self, caller: &mut Caller, kind: Kind) -> Option<Shown> {
+        match caller {
+            Caller::Bare(hand) => Some(self.tags.show(hand, kind)),
+            Caller::Cached(_) => None,
+        }
+    }
+
+    fn busy(&self, caller: &mut Caller) -> Option<(u32, u64, u64)> {
+        let mut bits = [u64::MAX; MAX_TAGS / 64];
+        let count = match caller {
+            Caller::Bare(hand) => self.tags.busy(hand, &mut bits),
+            Caller::Cached(_) => return None,
+        };
+        Some((count, bits[0], bits[1]))
+    }
+
+    fn dump(&self, caller: &mut Caller, kind: Kind) -> Option<(u32, u8, u8, u8)> {
+        let mut bytes = [0xaa; MAX_TAGS / 8];
+        let count = match caller {
+            Caller::Bare(hand) => self.tags.dump(hand, kind, &mut bytes),
+            Caller::Cached(_) => return None,
+        };
+        Some((count, bytes[0], bytes[1], bytes[2]))
+    }
+
+    fn prepare_wait(&self, caller: &mut Caller) -> Result<u32, TagFault> {
+        match caller {
+            Caller::Bare(hand) => self.tags.prepare_wait(hand),
+            Caller::Cached(_) => Err(TagFault::Waiting),
+        }
+    }
+
+    fn finish_wait<W: Wait>(&self, rt: &W, caller: &mut Caller) -> Result<Left, TagFault> {
+        match caller {
+            Caller::Bare(hand) => self.tags.finish_wait(rt, hand),
+            Caller::Cached(_) => Err(TagFault::NotWaiting),
+        }
+    }
+
+    fn wakes(&self, caller: &mut Caller) -> Wakes {
+        match caller {
+            Caller::Bare(hand) => self.tags.wakes(hand),
+            Caller::Cached(_) => Wakes {
+                counted: 0,
+                charged: 0,
+                index: 0,
+                active: 0,
+            },
+        }
+    }
+
+    fn meet(&self, first: &mut Caller, second: &mut Caller) {
+        match (first, second) {
+            (Caller::Bare(first), Caller::Bare(second)) => self.tags.meet(first, second),
+            (Caller::Cached(first), Caller::Cached(second)) => first.meet(second, &self.tags),
+            _ => (),
+        }
+    }
+
+    fn apart(&self, first: &mut Caller, second: &mut Caller, _tag: u32) {
+        self.meet(first, second);
+    }
+
+    fn gather(self, callers: Vec<Caller>) -> Result<QueueTotals, (GatherCause, Mixed, Vec<Caller>)>
+        requires { All (IsOwn self) callers.items }
+        ensures own { IfErr result (λ back. All (IsOwn back.1) back.2.items) }
+        ensures others { IfErr result (λ back. (c : _) → IsOwn self c → IsOwn back.1 c) }
+    {
+        let Ok(hands) = hands_of(self.alloc, &self.tags, callers) else {
+            let none = Vec::new(self.alloc);
+            return Err((GatherCause::Missing(0), self, none));
+        };
+        let Mixed { tags, terms, alloc } = self;
+        match Tags::gather(tags, hands) {
+            Ok(totals) => Ok(totals),
+            Err(fault) => {
+                let mixed = Mixed {
+                    tags: fault.tags,
+                    terms,
+                    alloc,
+                };
+                let callers = mixed.again(fault.hands);
+                Err((fault.cause, mixed, callers))
+            }
+        }
+    }
+
+    fn resize(
+        self,
+        alloc: Global,
+        callers: Vec<Caller>,
+        total: u32,
+    ) -> Result<(Mixed, Vec<Caller>), (ResizeCause, Mixed, Vec<Caller>)>
+        requires { All (IsOwn self) callers.items }
+        ensures ok { IfOk result (λ next. All (IsOwn next.0) next.1.items) }
+        ensures own { IfErr result (λ back. All (IsOwn back.1) back.2.items) }
+        ensures others { IfErr result (λ back. (c : _) → IsOwn self c → IsOwn back.1 c) }
+    {
+        let Ok(hands) = hands_of(alloc, &self.tags, callers) else {
+            return Err((ResizeCause::Memory, self, Vec::new(alloc)));
+        };
+        let Mixed {
+            tags,
+            terms,
+            alloc: _alloc,
+        } = self;
+        match Tags::resize(alloc, tags, hands, total) {
+            Ok((tags, hands)) => {
+                let mixed = Mixed { tags, terms, alloc };
+                let callers = mixed.again(hands);
+                Ok((mixed, callers))
+            }
+            Err(fault) => {
+                let mixed = Mixed {
+                    tags: fault.tags,
+                    terms,
+                    alloc,
+                };
+                let callers = mixed.again(fault.hands);
+                Err((fault.cause, mixed, callers))
+            }
+        }
+    }
+}
+
+impl Mixed {
+    /// The callers with these hands, on the same terms, or none if there is no memory.
+    fn again(&self, hands: Vec<Hand<u64>>) -> Vec<Caller>
+        requires { All (IsHandOf self.now.tags) hands.items }
+        ensures { All (IsOwn self.now) result.items }
+    {
+        match self.terms.callers(self.alloc, &self.tags, hands) {
+            Ok(callers) => callers,
+            Err(_) => Vec::new(self.alloc),
+        }
+    }
+}
