@@ -1,6 +1,6 @@
 -- What becomes of a list of tags that is cleared, and what that is for the user and for the tallies.
 use Rattle.std.proofs.Common.{arith, ◌≡◌, ◌≢◌, ◌⊎◌, ◌↔◌, ℕ, ◌+◌, ◌<◌, ◌≤◌, List, [], ◌∷◌, length, All, Result, Ok, Err, inl, inr, refl, sym, ap, ◌∙◌, subst, ⊎_elim}
-use Rattle.std.specs.Prelude.{Contains, IsOk, is_ok, true}
+use Rattle.std.specs.Prelude.{Contains, IsOk}
 use Rattle.std.proofs.lemmas.Bool.{false≢true}
 use Rattle.tag_core.specs.declared.record.Record.{Record}
 use Rattle.tag_core.specs.Callers.{record_of}
@@ -31,17 +31,18 @@ use Rattle.tag_cache.proofs.Reusing.{held_still}
 use Rattle.tag_cache.proofs.Tallying.{Moves, rests, stays_moves}
 
 -- a refusal of the hand's tags is one of the user's, who holds no more than the hand
-pub refused_not_held : {A B : Type 0} (r : Result A TagFault) (e : TagFault) (counts ordinary hand user : Type 0)
-    → r ≡ Err e → (r ≡ Err NotHeld) ↔ (counts × ordinary × ¬ hand) → IsOk r ↔ (counts × ordinary × hand)
-    → (user → hand) → (Err {T = B} e ≡ Err NotHeld) ↔ (counts × ordinary × ¬ user)
-refused_not_held {A} r e counts ordinary hand user was not_held ok more = (
-  (λ same. let is : r ≡ Err NotHeld = cc in let h = not_held.0 is in (h.0, h.1, λ u. h.2 (more u))),
+pub refused_not_held : {A B : Type 0} (r : Result A TagFault) (told : Result B TagFault) (e : TagFault)
+    (counts ordinary hand user : Type 0) → r ≡ Err e → told ≡ Err e
+    → (r ≡ Err NotHeld) ↔ (counts × ordinary × ¬ hand) → IsOk r ↔ (counts × ordinary × hand) → (user → hand)
+    → (told ≡ Err NotHeld) ↔ (counts × ordinary × ¬ user)
+refused_not_held {A} r told e counts ordinary hand user was same not_held ok more = (
+  (λ x. let is : r ≡ Err NotHeld = cc in let h = not_held.0 is in (h.0, h.1, λ u. h.2 (more u))),
   (λ h. let is = not_held.1 (
     h.0,
     h.1,
     λ held.
-        let none : is_ok (Err {T = A} e) ≡ true = subst (λ (x : Result A TagFault). IsOk x) was (ok.1 (h.0, h.1, held)) in
-        false≢true none,
+        let none : IsOk {T = A} {E = TagFault} (Err e) =
+        subst (λ (x : Result A TagFault). IsOk x) was (ok.1 (h.0, h.1, held)) in false≢true none,
   ) in cc),
 )
 

@@ -1,5 +1,5 @@
 -- The hand's refusals are the user's, and a tag that is kept is one that the user does not hold.
-use Rattle.std.proofs.Common.{refl}
+use Rattle.std.proofs.Common.{rules, ◌≡◌, Err, refl}
 use Rattle.tag_sets.specs.Batches.{CountsTags, AreOrdinary}
 use Rattle.tag_sets.specs.Batches as hand_batches
 use Rattle.tag_cache.specs.Batches.{AreHeldOnce}
@@ -8,9 +8,10 @@ use Rattle.tag_cache.proofs.cache.Cache.clear_batch.Goals as goal
 
 pub returns-in_err-check_batch-clause-not_held : goal.returns-in_err-check_batch-clause-not_held
 returns-in_err-check_batch-clause-not_held g c = let list = c.args.list.now in let cache = c.args.self.now in
-    refused_not_held c.check_batch.result _ (CountsTags list) (AreOrdinary c.args.tags.now list)
-    (hand_batches.AreHeldOnce cache.hand list) (AreHeldOnce cache list) c.in_err-check_batch.was
-    c.check_batch.ensures.not_held c.check_batch.ensures.succeeds (hand_holds cache list)
+    let same : c.from_residual.result ≡ Err c.in_err-check_batch.field-0.0 = first_of (cc, search rules) in
+    refused_not_held c.check_batch.result c.from_residual.result c.in_err-check_batch.field-0.0 (CountsTags list)
+    (AreOrdinary c.args.tags.now list) (hand_batches.AreHeldOnce cache.hand list) (AreHeldOnce cache list)
+    c.in_err-check_batch.was same c.check_batch.ensures.not_held c.check_batch.ensures.succeeds (hand_holds cache list)
 
 pub returns-then-not-keeps_none_of-clause-not_held : goal.returns-then-not-keeps_none_of-clause-not_held
 returns-then-not-keeps_none_of-clause-not_held g c = let list = c.args.list.now in let cache = c.args.self.now in
