@@ -1,9 +1,7 @@
 -- What a change of the hand, or of the kept tags, is for the user of a cache.
-use Rattle.std.specs.Prelude.{IsTrue, count_ones}
+use Rattle.std.specs.Prelude.{IsTrue, IsOk, count_ones}
 use Rattle.std.proofs.lemmas.Bool.{false≢true}
-use Rattle.std.proofs.Common.{Bool, false, ◌↔◌, ◌∷◌, Option, Some, Result, Ok, Err, OnOk, OnErr, IfOk, IfErr, ◌≡◌, ◌≢◌, ℕ, ◌≤◌, inl, inr, refl, sym, ap, ◌∙◌, subst, ⊎_elim}
-use mathlib.Core.Logic.{dite}
-use native.Mathlib.Decide.{ℕ_discrete}
+use Rattle.std.proofs.Common.{Bool, false, ◌↔◌, Option, Result, Ok, Err, OnOk, OnErr, IfOk, IfErr, ◌≡◌, ℕ, ◌≤◌, inl, inr, refl, sym, ap, ◌∙◌, subst, ⊎_elim}
 use Rattle.tag_queue.specs.declared.fault.TagFault.{TagFault}
 use Rattle.tag_queue.specs.declared.fault.TagFault.TheVariants.{NoSuchTag, NotPosted}
 use Rattle.tag_sets.specs.declared.hand.Hand.{Hand}
@@ -11,7 +9,6 @@ use Rattle.tag_sets.specs.declared.tags.Tags.{Tags}
 use Rattle.tag_sets.specs.Hands as hands
 use Rattle.tag_sets.specs.Holding as hand_holding
 use Rattle.tag_sets.specs.Slots as hand_slots
-use Rattle.tag_sets.specs.Clears as hand_clears
 use Rattle.tag_sets.specs.Gets as hand_gets
 use Rattle.tag_sets.specs.Gets.{IsAnswer, IsOrdinaryTag}
 use Rattle.tag_cache.specs.declared.cache.Cache.{Cache}
@@ -23,6 +20,11 @@ use Rattle.tag_cache.specs.Holding.{HoldsMore, HoldsLess, HoldsSame, Writes, IsL
 -- what a test that failed says
 pub not_true : (b : Bool) (P : Type 0) → (IsTrue b ↔ P) → b ≡ false → ¬ P
 not_true b P says f h = false≢true (sym f ∙ says.1 h)
+
+-- a call that was refused did not succeed
+pub not_ok : {T : Type 0} (r : Result T TagFault) (fault : TagFault) → r ≡ Err fault → ¬ (IsOk r)
+not_ok (Ok v) fault e ok = cc
+not_ok (Err f) fault e ok = false≢true ok
 
 -- a fact that holds whatever a call answered
 pub on_any : (r : Result (Unit {0}) TagFault) (P : Type 0) → P → OnOk r P
@@ -148,6 +150,13 @@ module _ {R : Type 0} where
 
   pub unchanged : (a : Cache R) → HoldsSame a a
   unchanged a = record { kept = λ tag h. (h, refl); none_else = λ tag h. h }
+
+  pub blocking_after : (tags : Tags R) (old mid new : Cache R) → mid ≡ old → KeepsSame mid new
+      → (r : Result ℕ TagFault) → IfOk r (λ tag. hand_gets.BlockingGets tags tag mid.hand new.hand)
+      → IfOk r (λ tag. HoldsMore (λ other. other ≡ tag) old new)
+  blocking_after tags old mid new e keeps r g =
+      subst (λ (s : Cache R). IfOk r (λ tag. HoldsMore (λ other. other ≡ tag) s new)) e
+      (blocking_on mid new keeps tags r g)
 
   -- the hand of a cache that keeps nothing holds what the user holds
   pub left_with : (old new : Cache R) → HoldsSame old new → KeepsNone new → IsLeftWith old new.hand

@@ -1,5 +1,5 @@
 -- Tags that are given back one after another.
-use Rattle.std.proofs.Common.{arith, ◌≡◌, ◌≢◌, ◌⊎◌, ◌↔◌, ℕ, ◌+◌, ◌-◌, ◌*◌, ◌≤◌, List, [], ◌∷◌, ◌++◌, length, inl, inr, refl, sym, ap, ◌∙◌, subst, ⊎_elim}
+use Rattle.std.proofs.Common.{arith, ◌≡◌, ◌≢◌, ◌⊎◌, ℕ, ◌+◌, ◌*◌, ◌≤◌, List, [], ◌∷◌, length, inl, inr, refl, sym, ap, ◌∙◌, subst, ⊎_elim}
 use Rattle.std.specs.Prelude.{Contains, count_ones}
 use Rattle.std.proofs.lemmas.List.Elements.{Contains-append_left, Contains-append_right, Contains-append_cases, Contains-push, Contains-push_cases}
 use Rattle.std.proofs.lemmas.Nat.{ones_le_self}
@@ -21,11 +21,11 @@ use Rattle.tag_sets.specs.Clears as hand_clears
 use Rattle.tag_sets.specs.Tallies.{won_in_both, back_in_both}
 use Rattle.tag_cache.specs.declared.cache.Cache.{Cache}
 use Rattle.tag_cache.specs.Windows.{IsIn}
-use Rattle.tag_cache.specs.Caches.{IsKept, IsLent, KeepsNone, Holds, count_of, reused_of}
+use Rattle.tag_cache.specs.Caches.{IsKept, IsLent, KeepsNone, count_of, reused_of}
 use Rattle.tag_cache.specs.Changes.{KeepsSame, SameTerms, SameLoans, Pops}
-use Rattle.tag_cache.specs.Holding.{HoldsLess, HoldsSame}
+use Rattle.tag_cache.specs.Holding.{HoldsSame}
 use Rattle.tag_cache.specs.Tallies.{Tallies}
-use Rattle.tag_cache.specs.Clears.{GivesOne, GivesEach, AreKept, GivesKept}
+use Rattle.tag_cache.specs.Clears.{GivesOne, GivesEach, GivesKept}
 use Rattle.tag_cache.proofs.Reusing.{none_kept}
 use Rattle.tag_cache.proofs.Tallying.{Moves, clears_moves}
 

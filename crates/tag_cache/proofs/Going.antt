@@ -1,22 +1,21 @@
 -- What becomes of a tag that is cleared, and what that is for the user and for the tallies.
-use Rattle.std.proofs.Common.{arith, ◌≡◌, ◌≢◌, ◌⊎◌, ◌↔◌, ℕ, ◌+◌, ◌≤◌, List, ◌∷◌, length, Result, Ok, Err, IfOk, OnOk, inl, inr, refl, sym, ap, ◌∙◌, subst, ⊎_elim}
+use Rattle.std.proofs.Common.{arith, ◌≡◌, ◌⊎◌, ℕ, ◌≤◌, List, ◌∷◌, Result, Ok, Err, IfOk, OnOk, inl, inr, refl, sym, ◌∙◌, subst, ⊎_elim}
 use Rattle.std.specs.Prelude.{Contains}
 use Rattle.tag_queue.specs.declared.fault.TagFault.{TagFault}
 use Rattle.tag_sets.specs.declared.hand.Hand.{Hand}
 use Rattle.tag_sets.specs.declared.tags.Tags.{Tags}
-use Rattle.tag_sets.specs.Hands as hands
 use Rattle.tag_sets.specs.Holding as hand_holding
 use Rattle.tag_cache.specs.declared.cache.Cache.{Cache}
 use Rattle.tag_cache.specs.declared.cache.TheConstants.{MOST_REUSED}
 use Rattle.tag_cache.specs.declared.keeping.Keeping.TheVariants.{WhileHolding}
-use Rattle.tag_cache.specs.Caches.{IsKept, IsLast, KeepsNone, Holds, HasNoPlace, IsWithin, IsFixed, most_of, count_of, keeping_of, reused_of}
+use Rattle.tag_cache.specs.Caches.{IsKept, IsLast, KeepsNone, HasNoPlace, IsWithin, IsFixed, most_of, count_of, keeping_of, reused_of}
 use Rattle.tag_cache.specs.Changes.{KeepsSame, KeepsAlso, Keeps, IsUnchanged, SameTerms}
 use Rattle.tag_cache.specs.Holding.{HoldsLess}
 use Rattle.tag_cache.specs.Tallies.{Tallies}
 use Rattle.tag_cache.specs.Clears.{LooksOnce, GivesOne, GivesWith, AreKept, KeptUnseen, GoesAlone, GoesWithKept, GoesWithAll, GoesLast, GoesReserved, GoesOrdinary, Goes}
 use Rattle.tag_cache.proofs.Carrying.{less, keeps_twice}
 use Rattle.tag_cache.proofs.Reusing.{keeping}
-use Rattle.tag_cache.proofs.Tallying.{Moves, stays_moves}
+use Rattle.tag_cache.proofs.Tallying.{stays_moves}
 use Rattle.tag_cache.proofs.Giving.{each_less, each_moves, gives_moves, no_count, contains_first, contains_later, contains_cases}
 
 module _ {R : Type 0} (tags : Tags R) where

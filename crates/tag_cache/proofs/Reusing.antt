@@ -1,5 +1,5 @@
 -- What a change of the kept tags is for the user of a cache, and what is known of lent ones.
-use Rattle.std.proofs.Common.{arith, ◌⊎◌, ◌↔◌, ◌∷◌, Option, Some, Result, Ok, Err, IfOk, ◌≡◌, ◌≢◌, ℕ, ◌+◌, ◌^◌, ◌<◌, ◌≤◌, inl, inr, refl, sym, ap, ◌∙◌, subst, ⊎_elim}
+use Rattle.std.proofs.Common.{arith, ◌↔◌, Option, Some, Result, Ok, Err, IfOk, ◌≡◌, ◌≢◌, ℕ, ◌+◌, ◌^◌, ◌<◌, ◌≤◌, inl, inr, refl, sym, ap, subst, ⊎_elim}
 use mathlib.Core.Logic.{dite}
 use native.Mathlib.Decide.{ℕ_discrete}
 use Rattle.std.specs.Int.{trailing_zeros, w64}
@@ -14,7 +14,7 @@ use Rattle.tag_sets.specs.Gets.{IsAnswer, IsOrdinaryTag}
 use Rattle.tag_cache.specs.declared.cache.Cache.{Cache}
 use Rattle.tag_cache.specs.declared.keeping.Keeping.TheVariants.{WhileHolding}
 use Rattle.tag_cache.specs.Windows.{IsIn}
-use Rattle.tag_cache.specs.Caches.{IsKept, IsLent, IsLast, IsWithin, KeepsNone, KeepsWithCare, Holds, split_of, hand_of}
+use Rattle.tag_cache.specs.Caches.{IsKept, IsLent, IsLast, IsWithin, KeepsNone, KeepsWithCare, Holds, split_of}
 use Rattle.tag_cache.specs.Changes.{KeepsSame, IsUnchanged, KeepsAlso, TakesLeast, Pops, Reuses}
 use Rattle.tag_cache.specs.Gets.{Gets}
 use Rattle.tag_cache.specs.Holding.{HoldsMore, HoldsLess}

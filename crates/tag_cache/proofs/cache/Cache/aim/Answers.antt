@@ -1,5 +1,5 @@
 -- An empty window can be moved.
-use Rattle.std.proofs.Common.{arith, ◌≡◌, ◌*◌, ◌/◌, ◌≤◌, ℕ, inl, inr, refl}
+use Rattle.std.proofs.Common.{arith, ◌*◌, ◌/◌, inl, inr, refl}
 use Rattle.tag_cache.proofs.Reusing.{none_kept}
 use Rattle.tag_cache.proofs.Windows.{none_in}
 use Rattle.tag_cache.proofs.cache.Cache.aim.Goals as goal

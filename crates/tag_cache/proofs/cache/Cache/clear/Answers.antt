@@ -1,5 +1,5 @@
 -- A lent tag is held and ordinary, so it needs no test; what becomes of a tag says the rest.
-use Rattle.std.proofs.Common.{◌≡◌, ◌≤◌, ℕ, inl}
+use Rattle.std.proofs.Common.{inl}
 use Rattle.tag_cache.proofs.Reusing.{lent_held, lent_within}
 use Rattle.tag_cache.proofs.Going.{goes_less, goes_tallies, goes_less_on, goes_tallies_on}
 use Rattle.tag_cache.proofs.cache.Cache.clear.Goals as goal

@@ -1,6 +1,5 @@
 -- Each kept tag is taken out and given back at once.
-use Rattle.std.proofs.Common.{arith, ◌≡◌, ℕ, refl, sym, ap, subst}
-use Rattle.tag_sets.specs.declared.hand.Hand.{Hand}
+use Rattle.std.proofs.Common.{arith, refl, sym, subst}
 use Rattle.tag_cache.specs.declared.cache.Cache.{Cache}
 use Rattle.tag_cache.specs.Clears.{GivesKept}
 use Rattle.tag_cache.specs.Holding.{HoldsSame}

@@ -1,6 +1,5 @@
 -- The window moves only if tags are always kept.
-use Rattle.std.proofs.Common.{◌≡◌, ℕ, inl, inr, refl, ⊎_elim}
-use Rattle.tag_cache.specs.Caches.{IsWithin, KeepsNone}
+use Rattle.std.proofs.Common.{inl, inr, refl, ⊎_elim}
 use Rattle.tag_cache.proofs.cache.Cache.follow.Goals as goal
 
 pub returns-in-Always-clause-aimed : goal.returns-in-Always-clause-aimed

@@ -1,6 +1,5 @@
 -- The tag's bit leaves the mask of lent tags.
-use Rattle.std.proofs.Common.{arith, ⊎_elim, refl, ◌≡◌, ℕ}
-use Rattle.tag_cache.specs.Caches.{KeepsNone, IsLast}
+use Rattle.std.proofs.Common.{arith, ⊎_elim, refl, ◌≡◌}
 use Rattle.tag_cache.proofs.Reusing.{another_lent, none_kept}
 use Rattle.tag_cache.proofs.cache.Cache.forget.Goals as goal
 

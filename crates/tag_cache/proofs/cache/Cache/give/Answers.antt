@@ -1,5 +1,5 @@
 -- The hand no longer holds the tag, which was neither kept nor lent.
-use Rattle.std.proofs.Common.{◌≡◌, ℕ, subst}
+use Rattle.std.proofs.Common.{ℕ, subst}
 use Rattle.tag_cache.specs.Caches.{IsKept, IsLent}
 use Rattle.tag_cache.proofs.Carrying.{own_after}
 use Rattle.tag_cache.proofs.Giving.{gives_few}

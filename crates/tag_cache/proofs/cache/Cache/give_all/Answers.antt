@@ -1,5 +1,5 @@
 -- The kept tags go back, and then this one.
-use Rattle.std.proofs.Common.{arith, ◌≡◌, ◌∙◌, ℕ, inl, refl}
+use Rattle.std.proofs.Common.{◌∙◌, inl, refl}
 use Rattle.tag_cache.proofs.cache.Cache.give_all.Goals as goal
 
 pub give_alone-requires-clause-held : goal.give_alone-requires-clause-held

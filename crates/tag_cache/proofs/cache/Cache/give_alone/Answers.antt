@@ -1,5 +1,5 @@
 -- The tag is forgotten, and then given back.
-use Rattle.std.proofs.Common.{◌≡◌, ℕ, refl, subst}
+use Rattle.std.proofs.Common.{refl, subst}
 use Rattle.tag_sets.specs.declared.hand.Hand.{Hand}
 use Rattle.tag_cache.specs.Clears.{GivesOne}
 use Rattle.tag_cache.proofs.Carrying.{keeps_twice}

@@ -1,5 +1,5 @@
 -- The tag is the last one known exactly if the mask without it is 0.
-use Rattle.std.proofs.Common.{eq-eqb, eqb→eq}
+use Rattle.std.proofs.Common.{eq-eqb, eqb-true}
 use Rattle.std.proofs.lemmas.Bool.{false≢true}
 use Rattle.tag_cache.proofs.Windows.{none_else}
 use Rattle.tag_cache.proofs.cache.Cache.is_last.Goals as goal
@@ -14,6 +14,6 @@ pub returns-in-WhileHolding : goal.returns-in-WhileHolding
 returns-in-WhileHolding g c = let cache = c.args.self.now in let rest = c.lent_without.result in
     let zero = none_else cache.first cache.lent rest c.args.tag
     c.lent_without.type_inv c.lent_without.ensures in (
-      (λ t. (c.in-WhileHolding.is, zero.0 (eqb→eq rest 0 t))),
+      (λ t. (c.in-WhileHolding.is, zero.0 (eqb-true rest 0 t))),
       (λ l. eq-eqb rest 0 (zero.1 l.1)),
     )

@@ -1,9 +1,9 @@
 -- The tag's bit joins the mask of the kept tags, and leaves that of the lent ones.
-use Rattle.std.proofs.Common.{arith, ◌≡◌, ◌⊎◌, ◌<◌, ◌≤◌, ◌-◌, ℕ, inl, inr, refl, sym, subst, ⊎_elim}
+use Rattle.std.proofs.Common.{arith, ◌≡◌, ◌<◌, ◌≤◌, ◌-◌, ℕ, inl, inr, refl, sym, subst, ⊎_elim}
 use Rattle.std.specs.Int.{bit_at}
 use Rattle.tag_sets.specs.Hands as hands
 use Rattle.tag_cache.specs.Windows.{IsIn}
-use Rattle.tag_cache.specs.Caches.{IsWithin, IsFixed}
+use Rattle.tag_cache.specs.Caches.{IsWithin}
 use Rattle.tag_cache.proofs.Windows.{now_in, still_in, was_in, ones_added, not_set, joined_fits}
 use Rattle.tag_cache.proofs.Reusing.{another_lent}
 use Rattle.tag_cache.proofs.cache.Cache.keep.Goals as goal

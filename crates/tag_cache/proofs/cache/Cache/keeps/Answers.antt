@@ -1,5 +1,4 @@
 -- A tag outside the window is not kept.
-use Rattle.std.proofs.Common.{arith}
 use Rattle.std.proofs.lemmas.Bool.{false≢true}
 use Rattle.tag_cache.proofs.Windows.{not_in}
 use Rattle.tag_cache.proofs.cache.Cache.keeps.Goals as goal

@@ -1,5 +1,5 @@
 -- After the window moved, or did not, the hand holds what it held and the same tags are kept.
-use Rattle.std.proofs.Common.{◌≡◌, ◌≤◌, ℕ, ◌∙◌, sym, subst}
+use Rattle.std.proofs.Common.{◌≤◌, ◌∙◌, sym, subst}
 use Rattle.tag_sets.specs.declared.hand.Hand.{Hand}
 use Rattle.tag_sets.specs.Hands as hands
 use Rattle.tag_cache.proofs.Carrying.{keeps_twice}

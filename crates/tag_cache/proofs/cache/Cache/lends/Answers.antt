@@ -1,5 +1,4 @@
 -- A tag outside the window is not known to be held.
-use Rattle.std.proofs.Common.{arith}
 use Rattle.std.proofs.lemmas.Bool.{false≢true}
 use Rattle.tag_cache.proofs.Windows.{not_in}
 use Rattle.tag_cache.proofs.cache.Cache.lends.Goals as goal

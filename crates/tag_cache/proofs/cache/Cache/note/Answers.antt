@@ -1,5 +1,5 @@
 -- The tag's bit joins the mask of lent tags.
-use Rattle.std.proofs.Common.{arith, ◌≡◌, ◌⊎◌, ◌<◌, ◌≤◌, ◌-◌, ℕ, refl, sym, subst, ⊎_elim}
+use Rattle.std.proofs.Common.{arith, ◌≡◌, ◌<◌, ◌≤◌, ◌-◌, ℕ, sym, subst, ⊎_elim}
 use Rattle.tag_sets.specs.Hands as hands
 use Rattle.tag_cache.specs.Windows.{IsIn}
 use Rattle.tag_cache.specs.Caches.{IsKept}

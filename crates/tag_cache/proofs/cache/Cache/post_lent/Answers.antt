@@ -2,7 +2,7 @@
 use Rattle.std.proofs.Common.{◌≡◌, ℕ, refl, subst}
 use Rattle.tag_sets.specs.Slots.{Posts}
 use Rattle.tag_cache.specs.Caches.{IsKept, IsLent}
-use Rattle.tag_cache.proofs.Carrying.{less, same_then_less, keeps_twice, same_fields, own_after, less_still}
+use Rattle.tag_cache.proofs.Carrying.{less, same_then_less, keeps_twice, same_fields, own_after, less_still, not_ok}
 use Rattle.tag_cache.proofs.Reusing.{lent_held}
 use Rattle.tag_cache.proofs.cache.Cache.post_lent.Goals as goal
 
@@ -22,9 +22,9 @@ invariant_of-self-clause-loans g c = let cache = c.release.new.self in let tag =
     other (λ e. c.release.ensures.unlent (subst (λ (t : ℕ). IsLent cache t) e i)) h)
 
 pub unreachable-requires : goal.unreachable-requires
-unreachable-requires g c =
-    let ok = c.post.ensures.succeeds (c.release.ensures.same.kept c.args.tag
-    (lent_held c.args.self.now c.args.tag c.requires.lent)).0.0 in ?
+unreachable-requires g c = not_ok c.post.result c.in_default.field-0 c.in_default.is
+    (c.post.ensures.succeeds (c.release.ensures.same.kept c.args.tag
+    (lent_held c.args.self.now c.args.tag c.requires.lent)).0.0)
 
 pub returns-clause-less : goal.returns-clause-less
 returns-clause-less g c = same_then_less c.args.self.now c.release.new.self _ (λ other. other ≡ c.args.tag)

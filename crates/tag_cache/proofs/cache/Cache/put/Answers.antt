@@ -1,5 +1,5 @@
 -- After the look at the active count the tag is kept or given back.
-use Rattle.std.proofs.Common.{arith, ◌≡◌, ◌≤◌, ◌∙◌, ℕ, inl, inr, refl, subst}
+use Rattle.std.proofs.Common.{arith, ◌≡◌, inl, inr, refl, subst}
 use Rattle.tag_cache.specs.declared.cache.Cache.{Cache}
 use Rattle.tag_cache.specs.Caches.{IsLast}
 use Rattle.tag_cache.proofs.Carrying.{same_fields, not_true}

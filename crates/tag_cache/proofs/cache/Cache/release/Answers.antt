@@ -1,5 +1,5 @@
 -- The kept tags go back first if the tag is the last one known.
-use Rattle.std.proofs.Common.{◌≡◌, ℕ, inl, inr, refl}
+use Rattle.std.proofs.Common.{inl, inr, refl}
 use Rattle.tag_cache.specs.Caches.{IsLast}
 use Rattle.tag_cache.proofs.Carrying.{not_true, same_user, same_then_same}
 use Rattle.tag_cache.proofs.Tallying.{unchanged_tallies, tallies_on}

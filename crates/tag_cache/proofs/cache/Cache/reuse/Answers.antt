@@ -1,9 +1,8 @@
 -- The least kept tag leaves the mask of kept tags and joins that of the lent ones.
-use Rattle.std.proofs.Common.{arith, ◌≡◌, ◌⊎◌, ◌<◌, ◌≤◌, ◌-◌, ◌∙◌, ℕ, refl, sym, ap, subst, ⊎_elim}
+use Rattle.std.proofs.Common.{arith, ◌≡◌, ◌<◌, ◌≤◌, ◌-◌, ℕ, refl, sym, subst, ⊎_elim}
 use Rattle.tag_sets.specs.declared.hand.Hand.{Hand}
 use Rattle.tag_sets.specs.Hands as hands
 use Rattle.tag_cache.specs.Windows.{IsIn}
-use Rattle.tag_cache.specs.Caches.{IsKept}
 use Rattle.tag_cache.proofs.Windows.{now_in, was_in, some_in, joined_fits, with_bit, below_end}
 use Rattle.tag_cache.proofs.cache.Cache.reuse.Goals as goal
 
@@ -67,7 +66,7 @@ returns g c = let cache = c.pop.new.self in let tag = c.in-Some.tag in
     let over : cache.first ≤ tag = omega arith in record {
       takes = record {
         hand = takes.hand;
-        terms = takes.terms;
+        terms = record { most = takes.terms.most; keeping = takes.terms.keeping };
         was = takes.was;
         least = takes.least;
         left = takes.left;
