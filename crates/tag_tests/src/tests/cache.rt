@@ -120,6 +120,13 @@ impl Shared for Mixed {
         }
     }
 
+    fn clear_mask(&self, caller: &mut Caller, first: u32, mask: u64) -> Result<u32, TagFault> {
+        match caller {
+            Caller::Bare(hand) => self.tags.clear_mask(hand, first, mask),
+            Caller::Cached(_) => Err(TagFault::BadCount),
+        }
+    }
+
     fn read(&self, caller: &mut Caller, tag: u32) -> Result<u64, TagFault> {
         match caller {
             Caller::Bare(hand) => self.tags.read(hand, tag),
