@@ -38,7 +38,7 @@ walk_few nr steps steps' moved w = ⊎_elim (λ full. let none = full.2 in omega
     on w = let is = w.11 in omega arith
 
 -- what follows a charge wakes no more than a batch
-follows_few : (batch : ℕ) (charge : Charge) (steps steps' : List GroupStep) (woken : ℕ)
+pub follows_few : (batch : ℕ) (charge : Charge) (steps steps' : List GroupStep) (woken : ℕ)
     → queue_clears.Follows batch charge steps steps' woken → woken ≤ batch
 follows_few batch Full steps steps' woken f = let none = f.1 in omega arith
 follows_few batch Below steps steps' woken f = let none = f.1 in omega arith

@@ -20,7 +20,7 @@ use Rattle.tag_cache.proofs.Giving.{each_less, each_moves, gives_moves, no_count
 
 module _ {R : Type 0} (tags : Tags R) where
   -- the hand looked, and then gave the tag back
-  looks_less : (a b c : Hand R) (named : ℕ → Type 0) → hand_holding.HoldsSame a b → hand_holding.HoldsLess named b c
+  pub looks_less : (a b c : Hand R) (named : ℕ → Type 0) → hand_holding.HoldsSame a b → hand_holding.HoldsLess named b c
       → hand_holding.HoldsLess named a c
   looks_less a b c named s l = record {
     gone = l.gone;
@@ -87,7 +87,7 @@ module _ {R : Type 0} (tags : Tags R) where
       record { handed = omega arith; taken = omega arith }) g
 
   -- the kept tags are those of a cache that keeps the same
-  are_kept : (given : List ℕ) (old new : Cache R) → KeepsSame old new → AreKept given new → AreKept given old
+  pub are_kept : (given : List ℕ) (old new : Cache R) → KeepsSame old new → AreKept given new → AreKept given old
   are_kept given old new s a = record {
     all = λ tag. ((λ i. (s.kept tag).0 ((a.all tag).0 i)), (λ k. (a.all tag).1 ((s.kept tag).1 k)));
     count = a.count ∙ s.count;

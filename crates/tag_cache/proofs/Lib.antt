@@ -6,3 +6,7 @@ pub mod Tallying
 pub mod Giving
 pub mod Going
 pub mod Crossing
+pub mod Steady
+pub mod Standing
+pub mod Gaining
+pub mod Listing

@@ -34,9 +34,9 @@ pub record Moves {R : Type 0} (won back : ℕ) (old new : Hand R) : Type 0 where
   pub back_is : back_in_both new ≡ back_in_both old + back
 
 -- the same of an agent
-record MovesAgent {R : Type 0} (won back : ℕ) (old new : Agent R) : Type 0 where
-  won_is : queue_tallies.won_of new ≡ queue_tallies.won_of old + won
-  back_is : queue_tallies.back_of new ≡ queue_tallies.back_of old + back
+pub record MovesAgent {R : Type 0} (won back : ℕ) (old new : Agent R) : Type 0 where
+  pub won_is : queue_tallies.won_of new ≡ queue_tallies.won_of old + won
+  pub back_is : queue_tallies.back_of new ≡ queue_tallies.back_of old + back
 
 as_many : (reserved : ℕ) (answer number : Option ℕ) → answer ≡ whole reserved number → answered answer ≡ won_by number
 as_many reserved answer None e = ap answered e
@@ -48,12 +48,12 @@ as_won (Some tag) = refl
 
 module _ {R : Type 0} where
   -- an agent that is as it was
-  rests : (a b : Agent R) → b ≡ a → MovesAgent 0 0 a b
+  pub rests : (a b : Agent R) → b ≡ a → MovesAgent 0 0 a b
   rests a b e = let w = ap (λ (x : Agent R). queue_tallies.won_of x) e in
       let k = ap (λ (x : Agent R). queue_tallies.back_of x) e in record { won_is = omega arith; back_is = omega arith }
 
   -- a change in one set is one of the hand
-  moves_in : (kind : Kind) (won back : ℕ) (change : Agent R → Agent R → Type 0) (old new : Hand R)
+  pub moves_in : (kind : Kind) (won back : ℕ) (change : Agent R → Agent R → Type 0) (old new : Hand R)
       → ((a b : Agent R) → change a b → MovesAgent won back a b) → Changes kind change old new → Moves won back old new
   moves_in Ordinary won back change old new moves c = let m = moves old.ordinary new.ordinary c.changed in
       let s = rests old.reserved new.reserved c.other in

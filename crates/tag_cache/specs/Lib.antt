@@ -5,3 +5,6 @@ pub mod Holding
 pub mod Tallies
 pub mod Gets
 pub mod Clears
+pub mod Same
+pub mod Waits
+pub mod Batches

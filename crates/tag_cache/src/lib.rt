@@ -1,6 +1,8 @@
 //! A few tags of its own for each thread, so that most gets and clears take no atomic read-modify-write.
 #![tactic(auto)]
 
+mod batch_clears;
+mod batches;
 mod cache;
 mod clears;
 mod counts;
@@ -9,8 +11,13 @@ mod gets;
 mod holds;
 mod keeping;
 mod kept;
+mod lent;
+mod looks;
 mod meets;
+mod numbers;
+mod shallow;
 mod slots;
+mod waits;
 mod window;
 
 pub use cache::Cache;

@@ -1,12 +1,15 @@
-//! What two caches that are passed in together can prove.
-ghost use Rattle.std.specs.Prelude.{ℕ};
+//! What caches and hands that are passed in together can prove.
+ghost use Rattle.std.specs.Prelude.{◌≢◌, ℕ};
 ghost use Rattle.tag_sets.specs.Hands as hands;
+ghost use Rattle.tag_sets.specs.Hands.{IsHandOf, number_of};
+ghost use Rattle.tag_sets.specs.Meeting.{ShareHistories};
+ghost use Rattle.tag_sets.specs.Meeting as hand_meeting;
 ghost use Rattle.tag_cache.specs.Caches.{IsCacheOf, Holds, hand_of};
-ghost use Rattle.tag_cache.specs.Changes.{KeepsSame};
-ghost use Rattle.tag_cache.specs.Holding.{HoldsSame};
+ghost use Rattle.tag_cache.specs.Changes.{IsUnchanged};
+ghost use Rattle.tag_cache.specs.Same.{SameTags};
 
 use crate::cache::Cache;
-use tag_sets::Tags;
+use tag_sets::{Hand, Tags};
 
 impl<R: Copy> Cache<R> {
     /// Establishes that two caches have no tag in common, neither held by their users nor kept. It changes nothing.
@@ -15,9 +18,41 @@ impl<R: Copy> Cache<R> {
         ensures caches { IsCacheOf tags.now self.new × IsCacheOf tags.now other.new }
         ensures apart { (tag : ℕ) → hands.Holds (hand_of self.new) tag → ¬ (hands.Holds (hand_of other.new) tag) }
         ensures users { (tag : ℕ) → Holds self.new tag → ¬ (Holds other.new tag) }
-        ensures same { HoldsSame self.old self.new × HoldsSame other.old other.new }
-        ensures kept { KeepsSame self.old self.new × KeepsSame other.old other.new }
+        ensures numbers { number_of (hand_of self.new) ≢ number_of (hand_of other.new) }
+        ensures histories { ShareHistories tags.now (hand_of self.new) (hand_of other.new) }
+        ensures unchanged { hand_meeting.IsUnchanged (hand_of self.old) (hand_of self.new)
+            × hand_meeting.IsUnchanged (hand_of other.old) (hand_of other.new) }
+        ensures same { SameTags self.old self.new × SameTags other.old other.new }
     {
         tags.meet(&mut self.hand, &mut other.hand);
+    }
+
+    /// Establishes that a cache and a hand have no tag in common, neither held by the user of the cache nor kept. It
+    /// changes nothing.
+    pub fn meet_hand(&mut self, hand: &mut Hand<R>, tags: &Tags<R>)
+        requires cache { IsCacheOf tags.now self.old }
+        requires hand { IsHandOf tags.now hand.old }
+        ensures cache { IsCacheOf tags.now self.new }
+        ensures hand { IsHandOf tags.now hand.new }
+        ensures apart { (tag : ℕ) → hands.Holds (hand_of self.new) tag → ¬ (hands.Holds hand.new tag) }
+        ensures numbers { number_of (hand_of self.new) ≢ number_of hand.new }
+        ensures histories { ShareHistories tags.now (hand_of self.new) hand.new }
+        ensures unchanged { hand_meeting.IsUnchanged (hand_of self.old) (hand_of self.new)
+            × hand_meeting.IsUnchanged hand.old hand.new }
+        ensures same { SameTags self.old self.new }
+    {
+        tags.meet(&mut self.hand, hand);
+    }
+
+    /// Establishes that another cache does not have a tag that this one has: its user does not hold it, and it is not
+    /// kept. This makes no step.
+    pub fn apart(&mut self, other: &mut Cache<R>, tags: &Tags<R>, tag: u32)
+        requires caches { IsCacheOf tags.now self.old × IsCacheOf tags.now other.old }
+        requires held { hands.Holds (hand_of self.old) tag }
+        ensures caches { IsCacheOf tags.now self.new × IsCacheOf tags.now other.new }
+        ensures apart { ¬ (hands.Holds (hand_of other.new) tag) }
+        ensures same { IsUnchanged self.old self.new × IsUnchanged other.old other.new }
+    {
+        tags.apart(&mut self.hand, &mut other.hand, tag);
     }
 }

@@ -26,6 +26,9 @@ impl<R: Copy> Cache<R> {
         ensures kept { KeepsSame self.old self.new }
         ensures err { OnErr result (IsUnchanged self.old self.new) }
     {
+        if self.lends(tag) {
+            return Ok(self.read_lent(tags, tag));
+        }
         if self.keeps(tag) {
             return Err(TagFault::NotHeld);
         }
@@ -45,6 +48,9 @@ impl<R: Copy> Cache<R> {
         ensures kept { KeepsSame self.old self.new }
         ensures err { OnErr result (IsUnchanged self.old self.new) }
     {
+        if self.lends(tag) {
+            return Ok(self.write_lent(tags, tag, value));
+        }
         if self.keeps(tag) {
             return Err(TagFault::NotHeld);
         }

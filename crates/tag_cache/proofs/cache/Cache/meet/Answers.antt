@@ -1,10 +1,13 @@
 -- The hands are unchanged, and so is what is kept.
 use Rattle.std.proofs.Common.{refl}
-use Rattle.tag_cache.proofs.Carrying.{same, same_fields}
+use Rattle.tag_cache.proofs.Carrying.{same_fields}
+use Rattle.tag_cache.proofs.Steady.{meets_rests, own_rests, same_tags}
 use Rattle.tag_cache.proofs.cache.Cache.meet.Goals as goal
 
 pub returns-clause-same : goal.returns-clause-same
-returns-clause-same g c = (
-  same c.args.self.now _ (same_fields c.args.self.now _ refl refl refl refl refl) c.meet.ensures.unchanged.0.same,
-  same c.args.other.now _ (same_fields c.args.other.now _ refl refl refl refl refl) c.meet.ensures.unchanged.1.same,
+returns-clause-same g c = let cache = c.args.self.now in let other = c.args.other.now in (
+  same_tags cache _ (same_fields cache _ refl refl refl refl refl)
+      (meets_rests cache.hand c.meet.new.first c.meet.ensures.unchanged.0),
+  same_tags other _ (same_fields other _ refl refl refl refl refl)
+      (meets_rests other.hand c.meet.new.second c.meet.ensures.unchanged.1),
 )

@@ -1,0 +1,20 @@
+-- The hand keeps its tags.
+use Rattle.std.proofs.Common.{refl}
+use Rattle.tag_cache.proofs.Carrying.{same_fields}
+use Rattle.tag_cache.proofs.Steady.{busy_rests, own_rests, same_tags}
+use Rattle.tag_cache.proofs.cache.Cache.busy.Goals as goal
+
+pub invariant_of-self-clause-own : goal.invariant_of-self-clause-own
+invariant_of-self-clause-own g c = let cache = c.args.self.now in
+    own_rests c.args.tags.now cache.first cache.kept cache.hand c.busy.new.hand c.requires.cache c.busy.ensures.hand
+    cache.own (busy_rests c.args.tags.now _ c.busy.result cache.hand c.busy.new.hand c.busy.ensures.lists)
+
+pub invariant_of-self-clause-loans : goal.invariant_of-self-clause-loans
+invariant_of-self-clause-loans g c = let cache = c.args.self.now in
+    own_rests c.args.tags.now cache.first cache.lent cache.hand c.busy.new.hand c.requires.cache c.busy.ensures.hand
+    cache.loans (busy_rests c.args.tags.now _ c.busy.result cache.hand c.busy.new.hand c.busy.ensures.lists)
+
+pub returns-clause-same : goal.returns-clause-same
+returns-clause-same g c = let cache = c.args.self.now in same_tags cache _
+    (same_fields cache _ refl refl refl refl refl)
+    (busy_rests c.args.tags.now _ c.busy.result cache.hand c.busy.new.hand c.busy.ensures.lists)

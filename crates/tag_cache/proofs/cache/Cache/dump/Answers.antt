@@ -1,0 +1,20 @@
+-- The hand keeps its tags.
+use Rattle.std.proofs.Common.{refl}
+use Rattle.tag_cache.proofs.Carrying.{same_fields}
+use Rattle.tag_cache.proofs.Steady.{around_rests, own_rests, same_tags}
+use Rattle.tag_cache.proofs.cache.Cache.dump.Goals as goal
+
+pub invariant_of-self-clause-own : goal.invariant_of-self-clause-own
+invariant_of-self-clause-own g c = let cache = c.args.self.now in
+    own_rests c.args.tags.now cache.first cache.kept cache.hand c.dump.new.hand c.requires.cache c.dump.ensures.hand
+    cache.own (around_rests _ c.args.kind c.dump.ensures.dumps.packed.found cache.hand c.dump.new.hand c.dump.ensures.dumps.packed.around)
+
+pub invariant_of-self-clause-loans : goal.invariant_of-self-clause-loans
+invariant_of-self-clause-loans g c = let cache = c.args.self.now in
+    own_rests c.args.tags.now cache.first cache.lent cache.hand c.dump.new.hand c.requires.cache c.dump.ensures.hand
+    cache.loans (around_rests _ c.args.kind c.dump.ensures.dumps.packed.found cache.hand c.dump.new.hand c.dump.ensures.dumps.packed.around)
+
+pub returns-clause-same : goal.returns-clause-same
+returns-clause-same g c = let cache = c.args.self.now in same_tags cache _
+    (same_fields cache _ refl refl refl refl refl)
+    (around_rests _ c.args.kind c.dump.ensures.dumps.packed.found cache.hand c.dump.new.hand c.dump.ensures.dumps.packed.around)

@@ -1,0 +1,25 @@
+-- The hand keeps its tags.
+use Rattle.std.proofs.Common.{refl}
+use Rattle.tag_cache.proofs.Carrying.{same_fields}
+use Rattle.tag_cache.proofs.Steady.{prepare_rests, own_rests, same_tags}
+use Rattle.tag_cache.proofs.cache.Cache.enter.Goals as goal
+
+pub invariant_of-self-clause-own : goal.invariant_of-self-clause-own
+invariant_of-self-clause-own g c = let cache = c.args.self.now in
+    own_rests c.args.tags.now cache.first cache.kept cache.hand c.prepare_wait.new.hand c.requires.cache
+    c.prepare_wait.ensures.hand cache.own
+    (prepare_rests cache.hand c.prepare_wait.new.hand c.prepare_wait.result c.prepare_wait.ensures.enters
+    c.prepare_wait.ensures.err)
+
+pub invariant_of-self-clause-loans : goal.invariant_of-self-clause-loans
+invariant_of-self-clause-loans g c = let cache = c.args.self.now in
+    own_rests c.args.tags.now cache.first cache.lent cache.hand c.prepare_wait.new.hand c.requires.cache
+    c.prepare_wait.ensures.hand cache.loans
+    (prepare_rests cache.hand c.prepare_wait.new.hand c.prepare_wait.result c.prepare_wait.ensures.enters
+    c.prepare_wait.ensures.err)
+
+pub returns-clause-same : goal.returns-clause-same
+returns-clause-same g c = let cache = c.args.self.now in same_tags cache _
+    (same_fields cache _ refl refl refl refl refl)
+    (prepare_rests cache.hand c.prepare_wait.new.hand c.prepare_wait.result c.prepare_wait.ensures.enters
+    c.prepare_wait.ensures.err)

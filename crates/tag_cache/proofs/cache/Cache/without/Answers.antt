@@ -1,0 +1,14 @@
+-- The tag's bit leaves the mask, if the tag is in the window.
+use Rattle.std.proofs.Common.{arith}
+use Rattle.tag_cache.proofs.Windows.{not_in, without_in, without_none}
+use Rattle.tag_cache.proofs.cache.Cache.without.Goals as goal
+
+pub returns-then-offset-ge-WINDOW : goal.returns-then-offset-ge-WINDOW
+returns-then-offset-ge-WINDOW g c = let cache = c.args.self.now in without_none cache.first c.args.mask c.args.tag
+    (not_in cache.first c.args.mask c.args.tag c.offset-offset.result c.ranges.mask.fits
+    c.offset-offset.ensures.within.1 c.if-offset-ge-WINDOW.true)
+
+pub returns : goal.returns
+returns g c = let cache = c.args.self.now in let low = c.if-offset-ge-WINDOW.false in
+    without_in cache.first c.args.mask c.args.tag c.offset-offset.result c.ranges.mask.fits low
+    (c.offset-offset.ensures.offset low)

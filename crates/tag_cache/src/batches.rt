@@ -1,0 +1,42 @@
+//! Gets and clears of several ordinary tags at once.
+ghost use Rattle.std.specs.Prelude.{◌≡◌, ◌<◌, ◌≤◌, ◌↔◌, false, length, All, Contains, IfOk, IsOk, OnOk, OnErr, IsTrue, None};
+ghost use Rattle.tag_sets.specs.declared.kind.Kind.TheVariants.{Ordinary};
+ghost use Rattle.tag_sets.specs.Hands.{HasRoom, hint_of};
+ghost use Rattle.tag_sets.specs.Batches.{CountsTags, AreOrdinary};
+ghost use Rattle.tag_sets.specs.Gets as hands;
+ghost use Rattle.tag_sets.specs.Gets.{IsInRun, IsOrdinaryTag, MiscountsBatch};
+ghost use Rattle.tag_cache.specs.Batches.{AreHeldOnce, AreLast, ListGoes, answered_run};
+ghost use Rattle.tag_cache.specs.Caches.{IsCacheOf, KeepsNone, IsLent, hand_of};
+ghost use Rattle.tag_cache.specs.Changes.{IsUnchanged, KeepsSame};
+ghost use Rattle.tag_cache.specs.Holding.{HoldsLess, HoldsMore};
+ghost use Rattle.tag_cache.specs.Tallies.{Tallies};
+
+use crate::cache::Cache;
+use tag_queue::TagFault;
+use tag_sets::Tags;
+
+impl<R: Copy> Cache<R> {
+    /// Takes up to `n` free ordinary tags out of `n` consecutive ones of one word, as `Tags::get_batch` does. It takes
+    /// none of the kept tags, so it may find more after a `flush`.
+    pub fn get_batch(&mut self, tags: &Tags<R>, n: u32) -> Result<Option<(u32, u64)>, TagFault>
+        requires { IsCacheOf tags.now self.old }
+        ensures cache { IsCacheOf tags.now self.new }
+
+        // The count is checked first, then round robin.
+        ensures bad_count { (result ≡ Err TagFault.BadCount) ↔ MiscountsBatch tags.now n }
+        ensures round_robin { ¬ (MiscountsBatch tags.now n) → IsTrue (hint_of (hand_of self.old) Ordinary).round_robin
+            → (result ≡ Ok None) × IsUnchanged self.old self.new }
+        ensures spent { (result ≡ Err TagFault.Spent)
+            ↔ (¬ (MiscountsBatch tags.now n) × ((hint_of (hand_of self.old) Ordinary).round_robin ≡ false)
+            × ¬ (HasRoom (hand_of self.old) Ordinary n)) }
+        ensures succeeds { ¬ (MiscountsBatch tags.now n) → HasRoom (hand_of self.old) Ordinary n → IsOk result }
+        ensures gets { (hint_of (hand_of self.old) Ordinary).round_robin ≡ false
+            → IfOk result (λ answer. hands.GetsBatch tags.now n answer (hand_of self.old) (hand_of self.new)) }
+        ensures more { IfOk result (λ answer. HoldsMore (IsInRun answer) self.old self.new) }
+        ensures kept { KeepsSame self.old self.new }
+        ensures tally { IfOk result (λ answer. Tallies (answered_run answer) 0 self.old self.new) }
+        ensures err { OnErr result (IsUnchanged self.old self.new) }
+    {
+        tags.get_batch(&mut self.hand, n)
+    }
+}

@@ -1,0 +1,37 @@
+//! The slots of tags that the user is known to hold, which need no test.
+ghost use Rattle.std.specs.Prelude.{◌≡◌};
+ghost use mathlib.Core.Option.{some};
+ghost use Rattle.tag_cache.specs.Caches.{IsCacheOf, IsLent, slot_of};
+ghost use Rattle.tag_cache.specs.Changes.{KeepsSame};
+ghost use Rattle.tag_cache.specs.Holding.{HoldsSame, Writes};
+
+use crate::cache::Cache;
+use tag_sets::Tags;
+
+impl<R: Copy> Cache<R> {
+    /// Returns the value in the slot of a tag that the user is known to hold.
+    #[inline(always)]
+    pub(crate) fn read_lent(&mut self, tags: &Tags<R>, tag: u32) -> R
+        requires cache { IsCacheOf tags.now self.old }
+        requires lent { IsLent self.old tag }
+        ensures cache { IsCacheOf tags.now self.new }
+        ensures value { slot_of self.old tag ≡ some result }
+        ensures same { HoldsSame self.old self.new }
+        ensures kept { KeepsSame self.old self.new }
+    {
+        tags.read_held(&mut self.hand, tag)
+    }
+
+    /// Writes the slot of a tag that the user is known to hold, and returns its former value.
+    #[inline(always)]
+    pub(crate) fn write_lent(&mut self, tags: &Tags<R>, tag: u32, value: R) -> R
+        requires cache { IsCacheOf tags.now self.old }
+        requires lent { IsLent self.old tag }
+        ensures cache { IsCacheOf tags.now self.new }
+        ensures former { slot_of self.old tag ≡ some result }
+        ensures writes { Writes tag value self.old self.new }
+        ensures kept { KeepsSame self.old self.new }
+    {
+        tags.write_held(&mut self.hand, tag, value)
+    }
+}

@@ -1,0 +1,35 @@
+//! Shallow gets.
+ghost use Rattle.std.specs.Prelude.{◌≡◌, ◌<◌, ◌≤◌, ◌↔◌, IfOk, IsOk, OnErr};
+ghost use Rattle.tag_sets.specs.declared.kind.Kind.TheVariants.{Ordinary};
+ghost use Rattle.tag_sets.specs.Hands.{HasRoom, least_of};
+ghost use Rattle.tag_sets.specs.Gets as hands;
+ghost use Rattle.tag_sets.specs.Gets.{IsAnswer};
+ghost use Rattle.tag_cache.specs.Caches.{IsCacheOf, hand_of};
+ghost use Rattle.tag_cache.specs.Changes.{IsUnchanged, KeepsSame};
+ghost use Rattle.tag_cache.specs.Holding.{HoldsMore};
+ghost use Rattle.tag_cache.specs.Tallies.{Tallies, answered};
+
+use crate::cache::Cache;
+use tag_queue::TagFault;
+use tag_sets::Tags;
+
+impl<R: Copy> Cache<R> {
+    /// Takes a free ordinary tag as `Tags::get_shallow` does: never one that is kept, which may lie beyond the depth.
+    pub fn get_shallow(&mut self, tags: &Tags<R>, depth: u32) -> Result<Option<u32>, TagFault>
+        requires { IsCacheOf tags.now self.old }
+        ensures cache { IsCacheOf tags.now self.new }
+
+        // The depth is checked first.
+        ensures too_shallow { (result ≡ Err TagFault.TooShallow) ↔ (depth < least_of tags.now) }
+        ensures spent { (result ≡ Err TagFault.Spent)
+            ↔ ((least_of tags.now ≤ depth) × ¬ (HasRoom (hand_of self.old) Ordinary 1)) }
+        ensures succeeds { IsOk result ↔ ((least_of tags.now ≤ depth) × HasRoom (hand_of self.old) Ordinary 1) }
+        ensures gets { IfOk result (λ answer. hands.GetsShallow tags.now depth answer (hand_of self.old) (hand_of self.new)) }
+        ensures more { IfOk result (λ answer. HoldsMore (IsAnswer answer) self.old self.new) }
+        ensures kept { KeepsSame self.old self.new }
+        ensures tally { IfOk result (λ answer. Tallies (answered answer) 0 self.old self.new) }
+        ensures err { OnErr result (IsUnchanged self.old self.new) }
+    {
+        tags.get_shallow(&mut self.hand, depth)
+    }
+}

@@ -1,0 +1,81 @@
+//! Waits for an ordinary tag. A thread that begins to wait keeps nothing.
+ghost use Rattle.std.specs.Prelude.{◌≡◌, ◌↔◌, IfOk, IfErr, IfSome, IfNone, IsOk, IsSome, OnOk, None};
+ghost use Rattle.tag_sets.specs.Hands.{standing_of, wait_index_of};
+ghost use Rattle.tag_sets.specs.Waits as hands;
+ghost use Rattle.tag_sets.specs.Waits.{Leaves, StandsOn};
+ghost use Rattle.tag_cache.specs.Caches.{IsCacheOf, hand_of};
+ghost use Rattle.tag_cache.specs.Changes.{IsUnchanged, SameTerms};
+ghost use Rattle.tag_cache.specs.Holding.{HoldsSame};
+ghost use Rattle.tag_cache.specs.Same.{SameTags};
+ghost use Rattle.tag_cache.specs.Tallies.{Tallies};
+ghost use Rattle.tag_cache.specs.Waits.{Enters};
+
+use crate::cache::Cache;
+use std::sync::Wait;
+use tag_queue::TagFault;
+use tag_sets::{Left, Tags};
+
+impl<R: Copy> Cache<R> {
+    /// Gives all kept tags back, as `flush` does, and then enters the wait group of the hand's wait index, as
+    /// `Tags::prepare_wait` does. Returns the group, 0 to 7. `Waiting` means that the hand is already in a group.
+    pub fn prepare_wait(&mut self, tags: &Tags<R>) -> Result<u32, TagFault>
+        requires { IsCacheOf tags.now self.old }
+        ensures cache { IsCacheOf tags.now self.new }
+        ensures out { IsOk result ↔ (standing_of (hand_of self.old) ≡ None) }
+        ensures enters { IfOk result (λ group. Enters tags.now group self.old self.new) }
+        ensures same { HoldsSame self.old self.new }
+        ensures tally { Tallies 0 0 self.old self.new }
+        ensures terms { SameTerms self.old self.new }
+        ensures err { IfErr result (λ fault. (fault ≡ TagFault.Waiting) × IsUnchanged self.old self.new) }
+    {
+        if self.hand.is_waiting() {
+            return Err(TagFault::Waiting);
+        }
+        let _ = self.flush(tags);
+        Ok(self.enter(tags))
+    }
+
+    /// Enters a wait group with a hand that is in none.
+    fn enter(&mut self, tags: &Tags<R>) -> u32
+        requires cache { IsCacheOf tags.now self.old }
+        requires out { standing_of (hand_of self.old) ≡ None }
+        ensures cache { IsCacheOf tags.now self.new }
+        ensures enters { hands.Enters result (hand_of self.old) (hand_of self.new) }
+        ensures same { SameTags self.old self.new }
+    {
+        let Ok(group) = tags.prepare_wait(&mut self.hand) else {
+            unreachable!()
+        };
+        group
+    }
+
+    /// Leaves the hand's wait group, and returns `Woken` if it used a grant there, `Unwoken` if it found none.
+    /// `NotWaiting` means that the hand is in no group.
+    pub fn finish_wait<W: Wait>(&mut self, rt: &W, tags: &Tags<R>) -> Result<Left, TagFault>
+        requires { IsCacheOf tags.now self.old }
+        ensures cache { IsCacheOf tags.now self.new }
+        ensures stands { IsOk result ↔ IsSome (standing_of (hand_of self.old)) }
+        ensures leaves { IfOk result (λ left. Leaves left (hand_of self.old) (hand_of self.new)) }
+        ensures out { standing_of (hand_of self.new) ≡ None }
+        ensures next { wait_index_of (hand_of self.new) ≡ wait_index_of (hand_of self.old) }
+        ensures same { SameTags self.old self.new }
+        ensures err { IfErr result (λ fault. (fault ≡ TagFault.NotWaiting) × IsUnchanged self.old self.new) }
+    {
+        tags.finish_wait(rt, &mut self.hand)
+    }
+
+    /// Like `finish_wait`, but makes one try only, and so needs no `rt`. `None` means that the group's word changed
+    /// meanwhile and that the hand is still in the group.
+    pub fn try_finish_wait(&mut self, tags: &Tags<R>) -> Result<Option<Left>, TagFault>
+        requires { IsCacheOf tags.now self.old }
+        ensures cache { IsCacheOf tags.now self.new }
+        ensures stands { IsOk result ↔ IsSome (standing_of (hand_of self.old)) }
+        ensures leaves { IfOk result (λ answer. IfSome answer (λ left. Leaves left (hand_of self.old) (hand_of self.new))) }
+        ensures out { IfOk result (λ answer. IfSome answer (λ _. standing_of (hand_of self.new) ≡ None)) }
+        ensures stays { IfOk result (λ answer. IfNone answer (StandsOn (hand_of self.old) (hand_of self.new))) }
+        ensures same { SameTags self.old self.new }
+        ensures err { IfErr result (λ fault. (fault ≡ TagFault.NotWaiting) × IsUnchanged self.old self.new) }
+    {
+        tags.try_finish_wait(&mut self.hand)
+    }
+}
