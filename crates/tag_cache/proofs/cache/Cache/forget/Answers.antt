@@ -13,7 +13,8 @@ invariant_of-self-clause-apart g c = λ other k i.
 pub invariant_of-self-clause-careful : goal.invariant_of-self-clause-careful
 invariant_of-self-clause-careful g c = let cache = c.args.self.now in λ careful some. ⊎_elim
     (λ none. let zero : cache.kept ≡ 0 = none_kept cache none in absurd (omega arith))
-    (λ more. another_lent cache c.args.tag c.lent_without-self.result c.lent_without-self.type_inv c.lent_without-self.ensures more careful)
+    (λ more. another_lent cache c.args.tag c.lent_without-self.result c.lent_without-self.type_inv
+    c.lent_without-self.ensures more careful)
     c.requires
 
 pub returns : goal.returns

@@ -11,5 +11,5 @@ returns-clause-more g c = more_ok c.args.self.now _ (same_fields c.args.self.now
     (λ answer x. x.more) c.get_reserved.ensures.gets
 
 pub returns-clause-tally : goal.returns-clause-tally
-returns-clause-tally g c = reserved_tallies c.args.tags.now c.args.self.now _ (same_fields c.args.self.now _ refl refl refl refl refl)
-    c.get_reserved.result c.get_reserved.ensures.gets
+returns-clause-tally g c = reserved_tallies c.args.tags.now c.args.self.now _
+    (same_fields c.args.self.now _ refl refl refl refl refl) c.get_reserved.result c.get_reserved.ensures.gets

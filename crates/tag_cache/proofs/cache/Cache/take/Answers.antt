@@ -5,12 +5,14 @@ use Rattle.tag_cache.proofs.cache.Cache.take.Goals as goal
 
 pub invariant_of-self-clause-own : goal.invariant_of-self-clause-own
 invariant_of-self-clause-own g c = let cache = c.args.self.now in own_after c.args.tags.now cache.first cache.kept
-    cache.hand c.take.new.hand c.requires c.take.ensures.hand cache.own (λ other h i. take_still c.args.tag cache.hand c.take.new.hand
+    cache.hand c.take.new.hand c.requires c.take.ensures.hand cache.own
+    (λ other h i. take_still c.args.tag cache.hand c.take.new.hand
     c.take.result c.take.ensures.takes c.take.ensures.refuses other h)
 
 pub invariant_of-self-clause-loans : goal.invariant_of-self-clause-loans
 invariant_of-self-clause-loans g c = let cache = c.args.self.now in own_after c.args.tags.now cache.first cache.lent
-    cache.hand c.take.new.hand c.requires c.take.ensures.hand cache.loans (λ other h i. take_still c.args.tag cache.hand c.take.new.hand
+    cache.hand c.take.new.hand c.requires c.take.ensures.hand cache.loans
+    (λ other h i. take_still c.args.tag cache.hand c.take.new.hand
     c.take.result c.take.ensures.takes c.take.ensures.refuses other h)
 
 pub returns-clause-more : goal.returns-clause-more
