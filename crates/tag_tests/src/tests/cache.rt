@@ -4,6 +4,7 @@ ghost use Rattle.std.specs.Coded.{codes};
 ghost use Rattle.tag_sets.specs.Hands.{IsHandOf};
 ghost use Rattle.tag_tests.specs.Mixed.{IsOwn, HoldsTag};
 
+mod batches;
 mod callers;
 mod clears;
 mod keeping;
@@ -25,6 +26,15 @@ use wake_book::Left;
 /// The most tags of both sets.
 const MAX_TAGS: usize = 10_240;
 
+/// Whether the tag is not among the first 128, or its bit there is 1.
+fn is_among(tag: u32, first: u64, second: u64) -> bool {
+    match tag {
+        0..64 => first >> tag & 1 == 1,
+        64..128 => second >> (tag - 64) & 1 == 1,
+        _ => true,
+    }
+}
+
 /// Tag sets with such callers.
 pub(crate) struct Mixed {
     pub(crate) tags: Tags<u64>,
@@ -43,7 +53,6 @@ impl Drop for Mixed {
     }
 }
 
-/// A call that a cache does not have is refused.
 impl Shared for Mixed {
     type Caller = Caller;
 
@@ -56,7 +65,7 @@ impl Shared for Mixed {
     fn number(caller: &Caller) -> u32 {
         match caller {
             Caller::Bare(hand) => Numbered::number(hand),
-            Caller::Cached(_) => 0,
+            Caller::Cached(cache) => Numbered::number(cache),
         }
     }
 
@@ -84,14 +93,14 @@ impl Shared for Mixed {
     fn get_shallow(&self, caller: &mut Caller, depth: u32) -> Result<Option<u32>, TagFault> {
         match caller {
             Caller::Bare(hand) => self.tags.get_shallow(hand, depth),
-            Caller::Cached(_) => Err(TagFault::TooShallow),
+            Caller::Cached(cache) => cache.get_shallow(&self.tags, depth),
         }
     }
 
     fn get_batch(&self, caller: &mut Caller, count: u32) -> Result<Option<(u32, u64)>, TagFault> {
         match caller {
             Caller::Bare(hand) => self.tags.get_batch(hand, count),
-            Caller::Cached(_) => Err(TagFault::BadCount),
+            Caller::Cached(cache) => cache.get_batch(&self.tags, count),
         }
     }
 
@@ -116,6 +125,13 @@ impl Shared for Mixed {
     fn clear_batch(&self, caller: &mut Caller, cleared: &[u32]) -> Result<u32, TagFault> {
         match caller {
             Caller::Bare(hand) => self.tags.clear_batch(hand, cleared),
+            Caller::Cached(cache) => cache.clear_batch(&self.tags, cleared),
+        }
+    }
+
+    fn clear_mask(&self, caller: &mut Caller, first: u32, mask: u64) -> Result<u32, TagFault> {
+        match caller {
+            Caller::Bare(hand) => self.tags.clear_mask(hand, first, mask),
             Caller::Cached(_) => Err(TagFault::BadCount),
         }
     }
@@ -181,13 +197,17 @@ impl Shared for Mixed {
     }
 
     fn agrees(&self, caller: &mut Caller, tag: u32) -> bool {
-        self.has(caller, tag)
+        let is_listed = match self.busy(caller) {
+            Some((count, first, second)) => count >= 1 && is_among(tag, first, second),
+            None => false,
+        };
+        is_listed && self.has(caller, tag)
     }
 
     fn show(&self, caller: &mut Caller, kind: Kind) -> Option<Shown> {
         match caller {
             Caller::Bare(hand) => Some(self.tags.show(hand, kind)),
-            Caller::Cached(_) => None,
+            Caller::Cached(cache) => Some(cache.show(&self.tags, kind)),
         }
     }
 
@@ -195,7 +215,7 @@ impl Shared for Mixed {
         let mut bits = [u64::MAX; MAX_TAGS / 64];
         let count = match caller {
             Caller::Bare(hand) => self.tags.busy(hand, &mut bits),
-            Caller::Cached(_) => return None,
+            Caller::Cached(cache) => cache.busy(&self.tags, &mut bits),
         };
         Some((count, bits[0], bits[1]))
     }
@@ -204,7 +224,7 @@ impl Shared for Mixed {
         let mut bytes = [0xaa; MAX_TAGS / 8];
         let count = match caller {
             Caller::Bare(hand) => self.tags.dump(hand, kind, &mut bytes),
-            Caller::Cached(_) => return None,
+            Caller::Cached(cache) => cache.dump(&self.tags, kind, &mut bytes),
         };
         Some((count, bytes[0], bytes[1], bytes[2]))
     }
@@ -212,26 +232,21 @@ impl Shared for Mixed {
     fn prepare_wait(&self, caller: &mut Caller) -> Result<u32, TagFault> {
         match caller {
             Caller::Bare(hand) => self.tags.prepare_wait(hand),
-            Caller::Cached(_) => Err(TagFault::Waiting),
+            Caller::Cached(cache) => cache.prepare_wait(&self.tags),
         }
     }
 
     fn finish_wait<W: Wait>(&self, rt: &W, caller: &mut Caller) -> Result<Left, TagFault> {
         match caller {
             Caller::Bare(hand) => self.tags.finish_wait(rt, hand),
-            Caller::Cached(_) => Err(TagFault::NotWaiting),
+            Caller::Cached(cache) => cache.finish_wait(rt, &self.tags),
         }
     }
 
     fn wakes(&self, caller: &mut Caller) -> Wakes {
         match caller {
             Caller::Bare(hand) => self.tags.wakes(hand),
-            Caller::Cached(_) => Wakes {
-                counted: 0,
-                charged: 0,
-                index: 0,
-                active: 0,
-            },
+            Caller::Cached(cache) => cache.wakes(&self.tags),
         }
     }
 
@@ -239,12 +254,19 @@ impl Shared for Mixed {
         match (first, second) {
             (Caller::Bare(first), Caller::Bare(second)) => self.tags.meet(first, second),
             (Caller::Cached(first), Caller::Cached(second)) => first.meet(second, &self.tags),
-            _ => (),
+            (Caller::Bare(first), Caller::Cached(second)) => second.meet_hand(first, &self.tags),
+            (Caller::Cached(first), Caller::Bare(second)) => first.meet_hand(second, &self.tags),
         }
     }
 
-    fn apart(&self, first: &mut Caller, second: &mut Caller, _tag: u32) {
-        self.meet(first, second);
+    fn apart(&self, first: &mut Caller, second: &mut Caller, tag: u32) {
+        match (first, second) {
+            (Caller::Bare(first), Caller::Bare(second)) => self.tags.apart(first, second, tag),
+            (Caller::Cached(first), Caller::Cached(second)) => {
+                first.apart(second, &self.tags, tag);
+            }
+            (first, second) => self.meet(first, second),
+        }
     }
 
     fn gather(self, callers: Vec<Caller>) -> Result<QueueTotals, (GatherCause, Mixed, Vec<Caller>)>

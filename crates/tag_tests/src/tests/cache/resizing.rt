@@ -49,9 +49,9 @@ fn a_resize_finds_nothing_kept(rt: HostRuntime) -> Result<(), Fail> {
             Resize(100),
             Calls(&[
                 (0, Kept, Keeps(0, 2, 2, 0)),
-                (0, Get, Tag(2)),
-                (0, Clear(2), Woken(0)),
-                (0, Get, Tag(2)),
+                (0, Get, Tag(1)),
+                (0, Clear(1), Woken(0)),
+                (0, Get, Tag(1)),
             ]),
         ],
         unwaited(3, 2, 1, 0),
