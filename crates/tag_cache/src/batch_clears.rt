@@ -17,6 +17,8 @@ impl<R: Copy> Cache<R> {
     /// Clears 1 to 64 ordinary tags that the user holds, as `Tags::clear_batch` does, and returns how many waiters this
     /// woke. It keeps none of them. If somebody waits, all kept tags go back first; so they do if tags are kept only
     /// while the user holds one, and it is known to hold none but these. `NotHeld` also means that a tag is kept.
+    /// `BadCount` means no tag, or more than 64; `NoSuchTag` that a number is not below the total, or a tag is
+    /// reserved. Nothing changes on an error.
     pub fn clear_batch(&mut self, tags: &Tags<R>, list: &[u32]) -> Result<u32, TagFault>
         requires { IsCacheOf tags.now self.old }
         ensures cache { IsCacheOf tags.now self.new }

@@ -17,7 +17,8 @@ use tag_sets::Tags;
 
 impl<R: Copy> Cache<R> {
     /// Takes up to `n` free ordinary tags out of `n` consecutive ones of one word, as `Tags::get_batch` does. It takes
-    /// none of the kept tags, so it may find more after a `flush`.
+    /// none of the kept tags, so it may find more after a `flush`. `BadCount` means an `n` out of range, `Spent` that
+    /// the hand's life does not suffice for `n` more tags.
     pub fn get_batch(&mut self, tags: &Tags<R>, n: u32) -> Result<Option<(u32, u64)>, TagFault>
         requires { IsCacheOf tags.now self.old }
         ensures cache { IsCacheOf tags.now self.new }

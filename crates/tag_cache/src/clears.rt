@@ -14,7 +14,8 @@ use tag_sets::{Kind, Tags};
 impl<R: Copy> Cache<R> {
     /// Clears a tag that the user holds, and returns how many waiters this woke. While nobody waits, an ordinary tag is
     /// kept if there is room for it, by no step but the load of the active count. If somebody waits, all kept tags go
-    /// back with it. `NotHeld` also means that the tag is kept.
+    /// back with it. `NoSuchTag` means that the number is not below the total, `NotHeld` that the user does not hold
+    /// the tag, as where it is kept; nothing changes then.
     #[inline(always)]
     pub fn clear(&mut self, tags: &Tags<R>, tag: u32) -> Result<u32, TagFault>
         requires { IsCacheOf tags.now self.old }

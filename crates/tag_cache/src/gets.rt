@@ -16,7 +16,8 @@ use tag_queue::TagFault;
 use tag_sets::Tags;
 
 impl<R: Copy> Cache<R> {
-    /// Answers the least kept tag, by no step. If no tag is kept it takes a free ordinary tag as `Tags::get` does.
+    /// Returns the least kept tag, by no step. If no tag is kept it takes a free ordinary tag as `Tags::get` does, and
+    /// `Spent` means that the hand's life is used up.
     #[inline(always)]
     pub fn get(&mut self, tags: &Tags<R>) -> Result<Option<u32>, TagFault>
         requires { IsCacheOf tags.now self.old }
@@ -49,7 +50,8 @@ impl<R: Copy> Cache<R> {
         Ok(Some(tag))
     }
 
-    /// Takes a free reserved tag as `Tags::get_reserved` does.
+    /// Takes a free reserved tag as `Tags::get_reserved` does. `NoReserved` means that there are none, `Spent` that the
+    /// hand's life in the reserved set is used up.
     pub fn get_reserved(&mut self, tags: &Tags<R>) -> Result<Option<u32>, TagFault>
         requires { IsCacheOf tags.now self.old }
         ensures cache { IsCacheOf tags.now self.new }
@@ -65,7 +67,8 @@ impl<R: Copy> Cache<R> {
         tags.get_reserved(&mut self.hand)
     }
 
-    /// Answers a kept tag, or takes a free ordinary tag and waits as long as it finds none, as `Tags::get_blocking` does.
+    /// Returns a kept tag, or takes a free ordinary tag and waits as long as it finds none, as `Tags::get_blocking`
+    /// does, which may refuse it.
     pub fn get_blocking<W: Wait>(&mut self, rt: &W, tags: &Tags<R>) -> Result<u32, TagFault>
         requires { IsCacheOf tags.now self.old }
         ensures cache { IsCacheOf tags.now self.new }

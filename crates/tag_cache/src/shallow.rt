@@ -15,6 +15,8 @@ use tag_sets::Tags;
 
 impl<R: Copy> Cache<R> {
     /// Takes a free ordinary tag as `Tags::get_shallow` does: never one that is kept, which may lie beyond the depth.
+    /// `TooShallow` means that `depth` is 0 or below the minimum shallow depth, `Spent` that the hand's life is used
+    /// up.
     pub fn get_shallow(&mut self, tags: &Tags<R>, depth: u32) -> Result<Option<u32>, TagFault>
         requires { IsCacheOf tags.now self.old }
         ensures cache { IsCacheOf tags.now self.new }

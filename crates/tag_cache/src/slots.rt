@@ -13,7 +13,8 @@ use tag_queue::TagFault;
 use tag_sets::Tags;
 
 impl<R: Copy> Cache<R> {
-    /// Returns the value in the slot of a tag that the user holds.
+    /// Returns the value in the slot of a tag that the user holds. `NoSuchTag` means that the number is not below the
+    /// total, `NotHeld` that the user does not hold the tag, as where it is kept; nothing changes then.
     #[inline]
     pub fn read(&mut self, tags: &Tags<R>, tag: u32) -> Result<R, TagFault>
         requires { IsCacheOf tags.now self.old }
@@ -35,7 +36,8 @@ impl<R: Copy> Cache<R> {
         tags.read(&mut self.hand, tag)
     }
 
-    /// Writes the slot of a tag that the user holds, and returns its former value.
+    /// Writes the slot of a tag that the user holds, and returns its former value. `NoSuchTag` means that the number is
+    /// not below the total, `NotHeld` that the user does not hold the tag, as where it is kept; nothing changes then.
     #[inline]
     pub fn write(&mut self, tags: &Tags<R>, tag: u32, value: R) -> Result<R, TagFault>
         requires { IsCacheOf tags.now self.old }
@@ -59,6 +61,8 @@ impl<R: Copy> Cache<R> {
 
     /// Gives up a tag that the user holds with its slot, so that another thread can `take` it. If tags are kept only
     /// while the user holds one, and this is the last that it is known to hold, all kept tags go back first.
+    /// `NoSuchTag` means that the number is not below the total, `NotHeld` that the user does not hold the tag, as
+    /// where it is kept; nothing changes then.
     #[inline]
     pub fn post(&mut self, tags: &Tags<R>, tag: u32) -> Result<(), TagFault>
         requires { IsCacheOf tags.now self.old }
@@ -115,7 +119,8 @@ impl<R: Copy> Cache<R> {
         self.forget(tag);
     }
 
-    /// Takes a posted tag with its slot. `NotPosted` leaves what the user holds unchanged.
+    /// Takes a posted tag with its slot. `NotPosted` leaves what the user holds unchanged. `NoSuchTag` means that the
+    /// number is not below the total.
     #[inline]
     pub fn take(&mut self, tags: &Tags<R>, tag: u32) -> Result<(), TagFault>
         requires { IsCacheOf tags.now self.old }

@@ -8,7 +8,8 @@ use crate::fault::TagFault;
 use crate::queue::Queue;
 
 impl<R: Copy> Queue<R> {
-    /// Returns `Ok` if `clear_batch` would clear this list, and otherwise its refusal. This makes no step.
+    /// Returns `Ok` if `clear_batch` would clear this list, and otherwise its refusal. This makes no step. The
+    /// refusals, in order: `BadCount`, `NoSuchTag`, `NotHeld`.
     pub fn check_batch(&self, agent: &Agent<R>, tags: &[u32]) -> Result<(), TagFault>
         requires agent { IsAgentOf self.now agent.now }
 

@@ -21,6 +21,8 @@ impl<R: Copy> Queue<R> {
     /// Clears the held tags of a mask, in which bit `i` is tag `first + i` as in the answer of `get_batch`, counts them
     /// together if any agent waits, and returns how many waiters it woke. The effect is that of `clear_batch` on these
     /// tags in order, by one step for each word that has any of them. `BadCount` means that the mask is empty.
+    /// `NoSuchTag` means that a tag is not below the depth, `NotHeld` that the agent does not hold one. Nothing changes
+    /// on an error.
     pub fn clear_mask(&self, agent: &mut Agent<R>, first: u32, mask: u64) -> Result<u32, TagFault>
         requires agent { IsAgentOf self.now agent.old }
         ensures agent { IsAgentOf self.now agent.new }
@@ -42,8 +44,9 @@ impl<R: Copy> Queue<R> {
         Ok(self.ring(self.complete(agent, mask.count_ones())))
     }
 
-    /// Like `clear_mask`, but wakes no sleeper, and so links nothing that does. It returns how many waiters it granted a
-    /// wakeup in each group, and leaves waking them to the caller.
+    /// Like `clear_mask`, but wakes no sleeper, and so links nothing that does. It returns how many waiters it granted
+    /// a wakeup in each group, and leaves waking them to the caller. It is refused as `clear_mask` is: `BadCount`,
+    /// `NoSuchTag`, `NotHeld`.
     pub fn clear_mask_silently(
         &self,
         agent: &mut Agent<R>,

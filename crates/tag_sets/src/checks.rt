@@ -9,7 +9,8 @@ use crate::tags::Tags;
 use tag_queue::TagFault;
 
 impl<R: Copy> Tags<R> {
-    /// Returns `Ok` if `clear_batch` would clear this list, and otherwise its refusal. This makes no step.
+    /// Returns `Ok` if `clear_batch` would clear this list, and otherwise its refusal. This makes no step. The
+    /// refusals, in order: `BadCount`, `NoSuchTag`, `NotHeld`.
     pub fn check_batch(&self, hand: &Hand<R>, tags: &[u32]) -> Result<(), TagFault>
         requires hand { IsHandOf self.now hand.now }
 

@@ -17,7 +17,8 @@ impl<R: Copy> Tags<R> {
     /// Clears the held ordinary tags of a mask, in which bit `i` is tag `first + i` as in the answer of `get_batch`,
     /// counts them together if anybody waits, and returns how many waiters it woke. The effect is that of `clear_batch`
     /// on these tags in order, by one step for each word that has any of them. `BadCount` means that the mask is empty,
-    /// and `NoSuchTag` also that one of its tags is reserved.
+    /// and `NoSuchTag` also that one of its tags is reserved. `NotHeld` means that the hand does not hold one. Nothing
+    /// changes on an error.
     pub fn clear_mask(&self, hand: &mut Hand<R>, first: u32, mask: u64) -> Result<u32, TagFault>
         requires hand { IsHandOf self.now hand.old }
         ensures hand { IsHandOf self.now hand.new }
@@ -44,8 +45,9 @@ impl<R: Copy> Tags<R> {
         self.ordinary.clear_mask(&mut hand.ordinary, first, mask)
     }
 
-    /// Like `clear_mask`, but wakes no sleeper, and so links nothing that does. It returns how many waiters it granted a
-    /// wakeup in each group, and leaves waking them to the caller.
+    /// Like `clear_mask`, but wakes no sleeper, and so links nothing that does. It returns how many waiters it granted
+    /// a wakeup in each group, and leaves waking them to the caller. It is refused as `clear_mask` is: `BadCount`,
+    /// `NoSuchTag`, `NotHeld`.
     pub fn clear_mask_silently(
         &self,
         hand: &mut Hand<R>,
