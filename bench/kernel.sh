@@ -1,9 +1,8 @@
 #!/usr/bin/env bash
-# kernel.sh [REPETITIONS [ROUNDS [DEPTH..]]]: runs pair, ring, full, pass and batch of tag_bench, over the map, the queue, tag
-# sets and caches, and of what stands beside it in alternation, three times with 200000 rounds at depths 64, 1024 and 10240
-# unless told otherwise, and prints tables. Where depth 1024 is among them it prints more and draws bench/out/kernel.svg.
-# rt, gcc, rustc, python3, apt-get and dpkg-deb are on the path; the first run downloads 154 MB from Debian's archive. With
-# BUILT=1 it proves and builds nothing, and measures what is there.
+# kernel.sh [REPETITIONS [ROUNDS [DEPTH..]]]: runs pair, ring, full, pass and batch of tag_bench, over the map and over the
+# queue, and of what stands beside it in alternation, three times with 200000 rounds at depths 64, 1024 and 10240 unless told
+# otherwise, and prints a table. Where depth 1024 is among them it prints a second one and draws bench/out/kernel.svg.
+# rt, gcc, rustc, python3, apt-get and dpkg-deb are on the path; the first run downloads 154 MB from Debian's archive.
 set -euo pipefail
 cd "$(dirname "$0")/.."
 repetitions=${1:-3}
@@ -14,11 +13,9 @@ out=bench/out
 workloads=(pair ring full pass batch)
 bench=crates/tag_bench/out/tag_bench
 
-if [ -z "${BUILT:-}" ]; then
-  c/library.sh build > /dev/null
-  bench/kernel/build.sh "$out"
-  (cd crates/tag_bench && rt run > /dev/null)
-fi
+c/library.sh build > /dev/null
+bench/kernel/build.sh "$out"
+(cd crates/tag_bench && rt run > /dev/null)
 
 # The lines of one program at one case, with the number of the repetition. Each of its threads has a processor of its own, as far
 # as there are enough. A round of batch is an eighth of a call.
@@ -30,8 +27,7 @@ measure() {
 }
 ours() {
   measure "$bench" "$workload" --json
-  if [ "$workload" = batch ]; then return; fi
-  for layer in queue sets cache; do measure "$bench" "$layer" "$workload" --json; done
+  if [ "$workload" != batch ]; then measure "$bench" queue "$workload" --json; fi
 }
 others() { measure "$out/contenders" "$workload"; }
 

@@ -100,16 +100,6 @@ impl Workload {
             _ => share as usize,
         }
     }
-
-    /// The most tags that a thread has at once, sent ones among them.
-    pub fn most_held(self, depth: u32, threads: u32) -> u32 {
-        match self {
-            Workload::Pair => 1,
-            Workload::Batch => BATCH as u32,
-            Workload::Pass => ROOM as u32 + 2,
-            Workload::Ring | Workload::Full => self.held(depth, threads) as u32,
-        }
-    }
 }
 
 /// A number beside each tag, which its holder exchanges.

@@ -1,6 +1,6 @@
 //! What the workloads `pair`, `ring`, `full`, `pass` and `batch` of `tag_bench` are set beside: the kernel's sbitmap_queue,
-//! the C interface of this repository, DPDK's rte_mempool where it is installed, a queue of the free tags, a list of them
-//! behind a lock, two locked steps on lines of the thread's own, and arithmetic alone.
+//! the C interface of this repository, a queue of the free tags, a list of them behind a lock, two locked steps on lines of
+//! the thread's own, and arithmetic alone.
 //! `main WORKLOAD [--threads N] [--depth N] [--rounds N]` prints a line of JSON a case.
 #[path = "../baseline/clock.rs"]
 mod clock;
@@ -10,8 +10,6 @@ mod kernel;
 mod limit;
 mod lists;
 mod loops;
-#[cfg(mempool)]
-mod mempool;
 mod registers;
 mod tag_c;
 
@@ -20,8 +18,6 @@ use crate::kernel::Kernel;
 use crate::limit::Limit;
 use crate::lists::{List, Queue};
 use crate::loops::{Slots, Tags, Way, Workload};
-#[cfg(mempool)]
-use crate::mempool::Mempool;
 use crate::registers::Registers;
 use crate::tag_c::{Beside, InPool, TagC};
 use std::process::ExitCode;
@@ -65,10 +61,6 @@ fn run(workload: Workload, options: &Options, depth: u32) {
             case(Hints::Apart).measure::<TagC<InPool>>();
             case(Hints::FromZero).measure::<TagC<InPool>>();
             case(Hints::Apart).measure::<TagC<Beside>>();
-            #[cfg(mempool)]
-            if Mempool::can_hold(depth, threads, workload.most_held(depth, threads)) {
-                case(Hints::None).measure::<Mempool>();
-            }
             case(Hints::None).measure::<Queue>();
             case(Hints::None).measure::<List>();
             case(Hints::None).measure::<Limit>();

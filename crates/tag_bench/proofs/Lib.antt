@@ -1,4 +1,3 @@
 pub mod Bits
-pub mod Cached
 pub mod Gained
 pub mod Shifts

@@ -11,7 +11,7 @@ const BY_DEPTHS: &str = "Tags of the map [default: 64, 1024 and 10240 in turn]";
 /// The workloads of a queue, as the command line has them.
 const QUEUED: [&str; 5] = ["pair", "ring", "full", "pass", "waiters"];
 
-/// Those of tag sets, and of caches.
+/// Those of tag sets.
 const DRIVEN: [&str; 4] = ["pair", "ring", "full", "pass"];
 
 /// The command line that the program takes.
@@ -43,7 +43,6 @@ fn subcommand<'a>(alloc: Global, workload: Workload) -> Result<Command<'a>, Allo
         Workload::Batch => batch(alloc),
         Workload::Queue(_) => queue(alloc),
         Workload::Sets(_) => sets(alloc),
-        Workload::Cache(_) => cache(alloc),
     }
 }
 
@@ -102,14 +101,6 @@ fn queue<'a>(alloc: Global) -> Result<Command<'a>, AllocError> {
 fn sets<'a>(alloc: Global) -> Result<Command<'a>, AllocError> {
     Command::new(alloc, "sets")
         .about("pair, ring, full and pass over tag sets without reserved tags")
-        .arg(one_of(alloc, &DRIVEN))?
-        .arg(depth(alloc, BY_DEPTHS))?
-        .arg(threads(alloc))
-}
-
-fn cache<'a>(alloc: Global) -> Result<Command<'a>, AllocError> {
-    Command::new(alloc, "cache")
-        .about("pair, ring, full and pass over tag sets, where each thread keeps up to 8 tags")
         .arg(one_of(alloc, &DRIVEN))?
         .arg(depth(alloc, BY_DEPTHS))?
         .arg(threads(alloc))

@@ -14,7 +14,6 @@ mod options;
 mod pipes;
 mod plain;
 mod rounds;
-mod shared_cache;
 mod shared_map;
 mod shared_queue;
 mod shared_sets;
@@ -25,7 +24,6 @@ mod wakes;
 
 use crate::measure::Failed;
 use crate::options::{Options, Queued, WORKLOADS, Workload};
-use crate::shared_cache::Cached;
 use crate::traffic::{TRAFFIC, Traffic};
 use clap::error::ErrorKind;
 use std::env;
@@ -95,7 +93,6 @@ fn run_workload<R: AllocGlobal + Threads + Wait + Sync + Clock + CpuClock + Prin
         Workload::Batch => batches::run(rt, options),
         Workload::Queue(queued) => run_queue(rt, options, queued),
         Workload::Sets(traffic) => run_sets(rt, options, traffic),
-        Workload::Cache(traffic) => run_caches(rt, options, traffic),
     }
 }
 
@@ -137,30 +134,6 @@ fn run_sets<R: AllocGlobal + Threads + Sync + Clock + CpuClock + Print>(
     }
     for traffic in TRAFFIC {
         run_on_sets(rt, options, traffic)?;
-    }
-    Ok(())
-}
-
-/// Runs a workload over tag sets where each thread has a cache.
-fn run_on_caches<R: AllocGlobal + Threads + Sync + Clock + CpuClock + Print>(
-    rt: &R,
-    options: &Options,
-    traffic: Traffic,
-) -> Result<(), Failed> {
-    traffic::run::<R, Cached>(rt, options, "cache ", traffic)
-}
-
-/// Runs the workload of caches that was asked for, or each.
-fn run_caches<R: AllocGlobal + Threads + Sync + Clock + CpuClock + Print>(
-    rt: &R,
-    options: &Options,
-    traffic: Option<Traffic>,
-) -> Result<(), Failed> {
-    if let Some(traffic) = traffic {
-        return run_on_caches(rt, options, traffic);
-    }
-    for traffic in TRAFFIC {
-        run_on_caches(rt, options, traffic)?;
     }
     Ok(())
 }

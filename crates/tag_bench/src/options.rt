@@ -27,12 +27,10 @@ pub(crate) enum Workload {
     Queue(Option<Queued>),
     /// The same over tag sets: one of these workloads, or each.
     Sets(Option<Traffic>),
-    /// The same over tag sets, where each thread has a cache: one of these workloads, or each.
-    Cache(Option<Traffic>),
 }
 
 /// Each of them, in the order in which they run.
-pub(crate) const WORKLOADS: [Workload; 12] = [
+pub(crate) const WORKLOADS: [Workload; 11] = [
     Workload::Plain,
     Workload::Map,
     Workload::Shared,
@@ -44,7 +42,6 @@ pub(crate) const WORKLOADS: [Workload; 12] = [
     Workload::Batch,
     Workload::Queue(None),
     Workload::Sets(None),
-    Workload::Cache(None),
 ];
 
 /// What can be run over a queue.
@@ -87,7 +84,6 @@ pub(crate) fn read(alloc: Global, matches: &ArgMatches) -> Result<Options, Alloc
     let (workload, chosen) = match matches.subcommand() {
         Some(("queue", chosen)) => (Some(Workload::Queue(queued_of(chosen))), chosen),
         Some(("sets", chosen)) => (Some(Workload::Sets(driven_by(chosen))), chosen),
-        Some(("cache", chosen)) => (Some(Workload::Cache(driven_by(chosen))), chosen),
         Some((name, chosen)) => (workload_of(name), chosen),
         None => (None, matches),
     };
@@ -132,7 +128,7 @@ fn queued_of(chosen: &ArgMatches) -> Option<Queued> {
     }
 }
 
-/// The workload of tag sets or of caches that was named.
+/// The workload of tag sets that was named.
 fn driven_by(chosen: &ArgMatches) -> Option<Traffic> {
     traffic_of(chosen.get_str("workload")?)
 }

@@ -10,6 +10,9 @@ use tag_model::Totals;
 use tag_queue::{Agent, Options, Queue};
 use tag_search::Hint;
 
+/// Tags that one agent may win, and completions that it may count.
+const LIFE: u64 = 1 << 48;
+
 impl Tags for Queue<u64> {
     type Hand = Agent<u64>;
 
@@ -22,7 +25,14 @@ impl Tags for Queue<u64> {
         depth: u32,
         threads: u32,
     ) -> Result<(Queue<u64>, Vec<Agent<u64>>), Failed> {
-        let options = Options::new(threads);
+        let options = Options {
+            shift: None,
+            round_robin: false,
+            min_shallow: None,
+            callers: threads,
+            life: LIFE,
+            cap: LIFE,
+        };
         Ok(Queue::open(alloc, depth, options, 0)?)
     }
 

@@ -10,6 +10,9 @@ use tag_model::Totals;
 use tag_search::Hint;
 use tag_sets::{Hand, Options, Tags as TagSets};
 
+/// Tags that one hand may win, and completions that it may count.
+const LIFE: u64 = 1 << 48;
+
 impl Tags for TagSets<u64> {
     type Hand = Hand<u64>;
 
@@ -22,7 +25,14 @@ impl Tags for TagSets<u64> {
         depth: u32,
         threads: u32,
     ) -> Result<(TagSets<u64>, Vec<Hand<u64>>), Failed> {
-        let options = Options::new(threads);
+        let options = Options {
+            shift: None,
+            round_robin: false,
+            min_shallow: None,
+            callers: threads,
+            life: LIFE,
+            cap: LIFE,
+        };
         Ok(TagSets::open(alloc, depth, 0, options, 0)?)
     }
 

@@ -1,6 +1,5 @@
 //! Worked examples, refusals, want of memory, and threads.
 mod answers;
-mod cache;
 mod calls;
 mod crowd;
 mod jobs;

@@ -29,7 +29,14 @@ impl Gate for Recorder {
 pub(crate) fn opened(alloc: Global) -> Result<(Tags<u64>, Hand<u64>), SetFault>
     ensures { IfOk result (λ opened. IsHandOf opened.0 opened.1) }
 {
-    let options = Options::new(1);
+    let options = Options {
+        shift: None,
+        round_robin: false,
+        min_shallow: None,
+        callers: 1,
+        life: 1 << 48,
+        cap: 1 << 56,
+    };
     let (tags, mut hands) = Tags::open(alloc, 4, 0, options, 0u64)?;
     let Some(hand) = hands.pop() else {
         unreachable!()
