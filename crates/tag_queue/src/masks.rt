@@ -36,7 +36,8 @@ impl<R: Copy> Queue<R> {
         ensures gives { OnOk result (GivesBack (layout_of self.now) (tags_in first mask) agent.old agent.new) }
         ensures back { OnOk result ((record_of (caller_of agent.new)).back ≡ (record_of (caller_of agent.old)).back + count_ones mask) }
         ensures counts { IfOk result (λ woken. Counts self.now (count_ones mask) agent.old agent.new woken) }
-        ensures bound { OnOk result (step_count agent.new ≤ words_over (layout_of self.now) first (tags_in first mask) + 117 + step_count agent.old) }
+        ensures bound { OnOk result (step_count agent.new
+            ≤ words_over (layout_of self.now) first (tags_in first mask) + 117 + step_count agent.old) }
         ensures err { OnErr result (agent.new ≡ agent.old) }
     {
         let last = self.find_mask_held(agent, first, mask)?;
@@ -65,7 +66,8 @@ impl<R: Copy> Queue<R> {
         ensures gives { OnOk result (GivesBack (layout_of self.now) (tags_in first mask) agent.old agent.new) }
         ensures counts { IfOk result (λ grants. Counts self.now (count_ones mask) agent.old agent.new grants.woken) }
         ensures grants { IfOk result (λ grants. AreGrantsOf grants (group_steps agent.old) (group_steps agent.new)) }
-        ensures bound { OnOk result (step_count agent.new ≤ words_over (layout_of self.now) first (tags_in first mask) + 117 + step_count agent.old) }
+        ensures bound { OnOk result (step_count agent.new
+            ≤ words_over (layout_of self.now) first (tags_in first mask) + 117 + step_count agent.old) }
         ensures err { OnErr result (agent.new ≡ agent.old) }
     {
         let last = self.find_mask_held(agent, first, mask)?;
