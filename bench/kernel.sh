@@ -1,8 +1,9 @@
 #!/usr/bin/env bash
-# kernel.sh [REPETITIONS [ROUNDS [DEPTH..]]]: runs pair, ring, full, pass and batch of tag_bench, over the map and over the
-# queue, and of what stands beside it in alternation, three times with 200000 rounds at depths 64, 1024 and 10240 unless told
-# otherwise, and prints a table. Where depth 1024 is among them it prints a second one and draws bench/out/kernel.svg.
-# rt, gcc, rustc, python3, apt-get and dpkg-deb are on the path; the first run downloads 154 MB from Debian's archive.
+# kernel.sh [REPETITIONS [ROUNDS [DEPTH..]]]: runs pair, ring, full, handoff and batch of tag_bench, over the map, the queue, tag
+# sets and caches, and of what stands beside it in alternation, three times with 200000 rounds at depths 64, 1024 and 10240
+# unless told otherwise, and prints tables. Where depth 1024 is among them it prints more and draws bench/out/kernel.svg.
+# rt, gcc, rustc, python3, apt-get and dpkg-deb are on the path; the first run downloads 154 MB from Debian's archive. With
+# BUILT=1 it proves and builds nothing, and measures what is there.
 set -euo pipefail
 cd "$(dirname "$0")/.."
 repetitions=${1:-3}
@@ -10,12 +11,14 @@ rounds=${2:-200000}
 depths=("${@:3}")
 if [ ${#depths[@]} = 0 ]; then depths=(64 1024 10240); fi
 out=bench/out
-workloads=(pair ring full pass batch)
+workloads=(pair ring full handoff batch)
 bench=crates/tag_bench/out/tag_bench
 
-c/library.sh build > /dev/null
-bench/kernel/build.sh "$out"
-(cd crates/tag_bench && rt run > /dev/null)
+if [ -z "${BUILT:-}" ]; then
+  c/library.sh build > /dev/null
+  bench/kernel/build.sh "$out"
+  (cd crates/tag_bench && rt run > /dev/null)
+fi
 
 # The lines of one program at one case, with the number of the repetition. Each of its threads has a processor of its own, as far
 # as there are enough. A round of batch is an eighth of a call.
@@ -27,7 +30,8 @@ measure() {
 }
 ours() {
   measure "$bench" "$workload" --json
-  if [ "$workload" != batch ]; then measure "$bench" queue "$workload" --json; fi
+  if [ "$workload" = batch ]; then return; fi
+  for layer in queue sets cache; do measure "$bench" "$layer" "$workload" --json; done
 }
 others() { measure "$out/contenders" "$workload"; }
 
@@ -38,7 +42,7 @@ for ((repetition = 1; repetition <= repetitions; repetition++)); do
   for workload in "${workloads[@]}"; do
     for depth in "${depths[@]}"; do
       for threads in 1 2 4; do
-        [ "$workload $threads" = "pass 1" ] && continue
+        [ "$workload $threads" = "handoff 1" ] && continue
         if ((repetition % 2)); then
           ours
           others

@@ -94,6 +94,30 @@ static void wake_for(struct tags_bell *bell, const struct tags_grants *grants, i
 		tags_library_wake_any(bell, (uint32_t)wanted);
 }
 
+/*
+ * With a tag over a cache, any number of kept tags may have gone back, and those that are
+ * kept since no hand was in a wait group yet go back now that one is.
+ */
+static int32_t free_kept(struct tags_hand *hand, int32_t freed)
+{
+	if (tags_library_is_cached(hand) != 1)
+		return freed;
+	tags_library_flush(hand);
+	return freed + TAGS_MAX_CACHE;
+}
+
+/* Rings for @freed tags that the hand gave back. */
+static void ring_after(struct tags_hand *hand, struct tags_bell *bell,
+		       const struct tags_grants *grants, int32_t freed)
+{
+	if (tags_load(&bell->sleepers) > 0)
+		wake_for(bell, grants, free_kept(hand, freed));
+	if (tags_load(&bell->listeners) > 0) {
+		free_kept(hand, freed);
+		tell_listeners(bell);
+	}
+}
+
 /* Rings for @freed tags that became free. */
 static void ring_for(struct tags_bell *bell, const struct tags_grants *grants, int32_t freed)
 {
@@ -131,7 +155,7 @@ int32_t tags_give(struct tags_hand *hand, struct tags_bell *bell, uint32_t tag)
 		return TAGS_NULL;
 	woken = tags_clear_granted(hand, tag, &grants);
 	if (woken >= 0)
-		ring_for(bell, &grants, 1);
+		ring_after(hand, bell, &grants, 1);
 	return woken;
 }
 
@@ -145,7 +169,7 @@ int32_t tags_give_batch(struct tags_hand *hand, struct tags_bell *bell, const ui
 		return TAGS_NULL;
 	woken = tags_clear_batch_granted(hand, tags, count, &grants);
 	if (woken >= 0)
-		ring_for(bell, &grants, (int32_t)count);
+		ring_after(hand, bell, &grants, (int32_t)count);
 	return woken;
 }
 
@@ -159,6 +183,6 @@ int32_t tags_give_run(struct tags_hand *hand, struct tags_bell *bell, uint32_t f
 		return TAGS_NULL;
 	woken = tags_clear_run_granted(hand, first, mask, &grants);
 	if (woken >= 0)
-		ring_for(bell, &grants, __builtin_popcountll(mask));
+		ring_after(hand, bell, &grants, __builtin_popcountll(mask));
 	return woken;
 }

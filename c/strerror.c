@@ -37,13 +37,14 @@ static const char *const sentences[] = {
 	[-TAGS_BAD_TIME] = "there is no such clock, or no such time",
 	[-TAGS_BAD_EVENT] = "there is no eventfd, or too many hands wait for it",
 	[-TAGS_BAD_SHIFT] = "there is no such shift",
+	[-TAGS_CACHE_TOO_LARGE] = "a cache of more than 64 tags",
 };
 
 const char *tags_strerror(int32_t status)
 {
 	if (status >= 0)
 		return sentences[0];
-	if (status < TAGS_BAD_SHIFT)
+	if (status < TAGS_CACHE_TOO_LARGE)
 		return "there is no such status";
 	return sentences[-status];
 }

@@ -18,6 +18,20 @@
  *   tags_join() and tags_resize() take memory. No call may be made from a signal handler, or in
  *   the forked child of a process with threads.
  *
+ * Caches
+ *   If the pool was opened with a cache, each hand keeps some of the ordinary tags
+ *   that are given back to it, at most as many as the options say, and hands them
+ *   out again by its next gets. These calls take no locked step. A kept tag is held
+ *   by no caller: a read, a clear or any other use of it is refused with
+ *   TAGS_NOT_HELD. To the pool it is busy, and no other hand can get it. A clear that
+ *   finds a hand in a wait group gives all kept tags back, but a hand that makes no
+ *   more clears keeps what it has. So before a thread is idle, sleeps or leaves the
+ *   pool, it calls tags_ring(&bell, tags_flush(&hand)). With TAGS_KEEP_WHILE_HOLDING
+ *   the clear of the last tag that the hand got gives all kept tags back. Then a hand
+ *   that keeps tags always has a clear to come, and only a thread whose next call is
+ *   tags_post() has to flush. A pool whose threads wait for tags should have at
+ *   least 8 ordinary tags more than all its hands may keep, or that flag.
+ *
  * Arguments
  *   Each pointer must be NULL or point to an object of its type that overlaps no
  *   other. A handle must not be copied, since the copy would be a second owner.
@@ -133,7 +147,9 @@ enum tags_status {
 	/** the bell has no eventfd, the number is none, or 64 hands are listed already */
 	TAGS_BAD_EVENT = -33,
 	/** a negative shift other than -1, or any but 0 beside TAGS_ONE_PER_WORD */
-	TAGS_BAD_SHIFT = -34
+	TAGS_BAD_SHIFT = -34,
+	/** a cache of more than TAGS_MAX_CACHE tags */
+	TAGS_CACHE_TOO_LARGE = -35
 };
 
 enum {
@@ -145,6 +161,8 @@ enum {
 	TAGS_MAX_HANDS = 64,
 	/** the most tags of one tags_clear_batch() */
 	TAGS_MAX_BATCH = 64,
+	/** the most tags that a hand keeps */
+	TAGS_MAX_CACHE = 64,
 	/** the wait groups of a pool */
 	TAGS_GROUPS = 8
 };
@@ -204,7 +222,7 @@ struct tags_grants {
 #define TAGS_BELL { 0, 0, 0, 0, 0, 0, { 0 }, { 0 }, { 0 } }
 
 /** initializer of options: no tag and no hand yet, and the rules for the rest */
-#define TAGS_OPTIONS_INIT { 0, 0, 0, 0, 0, 0 }
+#define TAGS_OPTIONS_INIT { 0, 0, 0, 0, 0, 0, 0 }
 
 /** @shift of struct tags_options: the same as 0 */
 #define TAGS_DEFAULT_SHIFT (-1)
@@ -219,7 +237,9 @@ enum tags_option_flags {
 	 */
 	TAGS_ROUND_ROBIN = 1,
 	/** words of one tag each; @shift must be 0 */
-	TAGS_ONE_PER_WORD = 2
+	TAGS_ONE_PER_WORD = 2,
+	/** a hand with a cache keeps tags only while it holds another one that it got */
+	TAGS_KEEP_WHILE_HOLDING = 4
 };
 
 /** struct tags_options - the options of tags_open(); all but @total and @hands may stay 0 */
@@ -242,8 +262,10 @@ struct tags_options {
 	uint32_t min_shallow;
 	/** @hands: number of hands, 1 to TAGS_MAX_HANDS */
 	uint32_t hands;
-	/** @flags: 0, or TAGS_ROUND_ROBIN, or TAGS_ONE_PER_WORD, or both */
+	/** @flags: 0, or any of enum tags_option_flags */
 	uint32_t flags;
+	/** @cache: how many tags each hand may keep, at most TAGS_MAX_CACHE, or 0 for none */
+	uint32_t cache;
 };
 
 /** enum tags_join_flags - flags of tags_join() */
@@ -262,7 +284,7 @@ enum tags_kind {
 struct tags_sizes {
 	/** @depth: number of tags in the set */
 	uint32_t depth;
-	/** @busy: tags found held or posted */
+	/** @busy: tags found held, kept or posted */
 	uint32_t busy;
 	/** @cleared: tags found given back, and not yet swept for reuse */
 	uint32_t cleared;
@@ -284,7 +306,11 @@ struct tags_counts {
 	uint32_t index;
 };
 
-/** struct tags_sums - sums over all hands of a pool: got == back + held + posted */
+/**
+ * struct tags_sums - sums over all hands of a pool: got == back + held + posted
+ *
+ * A tag that a hand kept and took again is not counted: it did not go back to the pool.
+ */
 struct tags_sums {
 	/** @got: tags taken from the pool */
 	uint64_t got;
@@ -309,7 +335,8 @@ struct tags_sums {
  * called through a function below. Its check costs nothing if the compiler sees
  * that a pointer is not NULL.
  */
-int32_t tags_library_open(struct tags_pool *pool, const struct tags_options *options);
+int32_t tags_library_open_cached(struct tags_pool *pool, const struct tags_options *options,
+				 uint32_t cache, uint32_t keeping);
 int32_t tags_library_join(struct tags_pool *pool, struct tags_hand *hand, uint32_t flags);
 int32_t tags_library_leave(struct tags_hand *hand);
 int32_t tags_library_resize(struct tags_pool *pool, uint32_t total);
@@ -327,6 +354,9 @@ int32_t tags_library_clear_batch_granted(struct tags_hand *hand, const uint32_t 
 int32_t tags_library_clear_run(struct tags_hand *hand, uint32_t first, uint64_t mask);
 int32_t tags_library_clear_run_granted(struct tags_hand *hand, uint32_t first, uint64_t mask,
 				       struct tags_grants *grants);
+int32_t tags_library_flush(struct tags_hand *hand);
+int32_t tags_library_flush_granted(struct tags_hand *hand, struct tags_grants *grants);
+int32_t tags_library_is_cached(struct tags_hand *hand);
 int32_t tags_library_get_write(struct tags_hand *hand, uint64_t value);
 int32_t tags_library_read_clear(struct tags_hand *hand, uint32_t tag, uint64_t *value);
 int32_t tags_library_read(struct tags_hand *hand, uint32_t tag, uint64_t *value);
@@ -441,14 +471,17 @@ static inline int tags_knows_shift(const struct tags_options *options)
 	return options->shift >= TAGS_DEFAULT_SHIFT;
 }
 
-/* The options as the library takes them: a shift of 0 is one tag a word, and the rule has a negative one. */
+/*
+ * The options as the library takes them: a shift of 0 is one tag a word, and the rule
+ * has a negative one. When tags are kept is an argument of its own.
+ */
 static inline struct tags_options tags_asked(const struct tags_options *options)
 {
 	struct tags_options asked = *options;
 
 	if (!(asked.flags & TAGS_ONE_PER_WORD) && asked.shift == 0)
 		asked.shift = TAGS_DEFAULT_SHIFT;
-	asked.flags &= ~(uint32_t)TAGS_ONE_PER_WORD;
+	asked.flags &= ~(uint32_t)(TAGS_ONE_PER_WORD | TAGS_KEEP_WHILE_HOLDING);
 	return asked;
 }
 
@@ -465,8 +498,9 @@ static inline struct tags_options tags_asked(const struct tags_options *options)
  * here, except for some 500 bytes per hand, which tags_join() allocates.
  *
  * Return: TAGS_OK. Otherwise the first of TAGS_NOT_EMPTY, TAGS_BAD_FLAG,
- * TAGS_BAD_SHIFT, TAGS_TOTAL_TOO_LARGE, TAGS_RESERVED_TOO_LARGE,
- * TAGS_SHIFT_TOO_LARGE, TAGS_BAD_HAND_COUNT and TAGS_NO_MEMORY that applies.
+ * TAGS_BAD_SHIFT, TAGS_CACHE_TOO_LARGE, TAGS_TOTAL_TOO_LARGE,
+ * TAGS_RESERVED_TOO_LARGE, TAGS_SHIFT_TOO_LARGE, TAGS_BAD_HAND_COUNT and
+ * TAGS_NO_MEMORY that applies.
  *
  * Since: 0.1
  */
@@ -479,7 +513,8 @@ TAGS_CHECKED int32_t tags_open(struct tags_pool *pool, const struct tags_options
 	asked = tags_asked(options);
 	if (!pool->full && asked.flags <= TAGS_ROUND_ROBIN && !tags_knows_shift(options))
 		return TAGS_BAD_SHIFT;
-	return tags_library_open(pool, &asked);
+	return tags_library_open_cached(pool, &asked, options->cache,
+					(options->flags & TAGS_KEEP_WHILE_HOLDING) != 0);
 }
 
 /**
@@ -516,9 +551,10 @@ TAGS_CHECKED int32_t tags_join(struct tags_pool *pool, struct tags_hand *hand, u
  * tags_leave() - return a hand to its pool, and empty its handle
  * @hand: the hand
  *
- * The hand keeps the tags that it holds, and the next thread that joins as this
- * hand can use them. The hand goes back to the pool that it came from, whatever
- * has become of the pool's own handle.
+ * The hand still holds its tags, and the next thread that joins as this hand can use
+ * them. What it keeps in a cache goes back, but no thread is woken for that: call
+ * tags_flush() first, and ring, if others may wait. The hand goes back to the pool
+ * that it came from, whatever has become of the pool's own handle.
  *
  * Return: TAGS_OK, or TAGS_BAD_HANDLE.
  *
@@ -589,7 +625,8 @@ TAGS_CHECKED int32_t tags_close(struct tags_pool *pool, struct tags_sums *sums)
  * tags_get() - take a free ordinary tag
  * @hand: the hand that gets the tag
  *
- * The value of the tag's slot is unspecified: write it before you read it.
+ * A hand that keeps tags gets the one with the lowest number of them. The value of
+ * the tag's slot is unspecified: write it before you read it.
  *
  * Return: the tag. TAGS_NO_TAG means that each tag was found taken at some
  * moment of the call, not that all were taken at one moment. Otherwise
@@ -626,7 +663,8 @@ TAGS_CHECKED int32_t tags_get_reserved(struct tags_hand *hand)
  * @depth: how many of the ordinary tags calls with this depth may use, at least 1
  *
  * For requests of lower priority, which leave the other tags to tags_get(). The
- * depth is distributed over the words, and the share of a word can be 0.
+ * depth is distributed over the words, and the share of a word can be 0. No kept tag
+ * is taken.
  *
  * Return: the tag, or TAGS_NO_TAG as from tags_get(), but of the tags within the
  * limit. Otherwise TAGS_BAD_HANDLE, TAGS_TOO_SHALLOW or TAGS_SPENT.
@@ -649,7 +687,7 @@ TAGS_CHECKED int32_t tags_get_shallow(struct tags_hand *hand, uint32_t depth)
  * Bit i of the mask is 1 if the hand won the tag with the number returned plus i.
  * The batch can be smaller than @n, even while more tags are free, and another
  * thread may have taken the first tag of the run. With TAGS_ROUND_ROBIN there is
- * never a batch.
+ * never a batch. No kept tag is taken.
  *
  * Return: the first tag of the run, or TAGS_NO_TAG. Otherwise TAGS_BAD_HANDLE,
  * TAGS_BAD_COUNT or TAGS_SPENT.
@@ -680,7 +718,9 @@ TAGS_CHECKED int32_t tags_get_batch(struct tags_hand *hand, uint32_t n, uint64_t
  * @hand: the hand that holds it
  * @tag: the tag
  *
- * If threads or event loops wait for tags, tags_give() is the call to make.
+ * If threads or event loops wait for tags, tags_give() is the call to make. A hand
+ * with a cache keeps an ordinary tag if it finds no hand in a wait group and there is
+ * room; and if it finds one, all kept tags go back with this tag.
  *
  * Return: how many waiters were granted a wakeup, which is 0 unless some hand
  * is in a wait group. Otherwise TAGS_BAD_HANDLE, TAGS_NO_SUCH_TAG or
@@ -804,6 +844,41 @@ TAGS_CALL int32_t tags_clear_run_granted(struct tags_hand *hand, uint32_t first,
 	return tags_library_clear_run_granted(hand, first, mask, grants);
 }
 
+/**
+ * tags_flush() - give all kept tags back
+ * @hand: a hand of a pool with or without a cache
+ *
+ * Call it before a thread that keeps tags is idle or sleeps, and wake whoever waits:
+ * tags_ring(&bell, tags_flush(&hand)). The tags that the hand holds stay held.
+ *
+ * Return: how many waiters were granted a wakeup, which is 0 if nothing was kept.
+ * Otherwise TAGS_BAD_HANDLE.
+ *
+ * Since: 0.2
+ */
+TAGS_CALL int32_t tags_flush(struct tags_hand *hand)
+{
+	if (!hand)
+		return TAGS_NULL;
+	return tags_library_flush(hand);
+}
+
+/**
+ * tags_flush_granted() - give all kept tags back, and report whom that woke
+ * @hand: a hand of a pool with or without a cache
+ * @grants: filled in with how many waiters were granted a wakeup, in each group
+ *
+ * Return: as tags_flush().
+ *
+ * Since: 0.2
+ */
+TAGS_CALL int32_t tags_flush_granted(struct tags_hand *hand, struct tags_grants *grants)
+{
+	if (!hand || !grants)
+		return TAGS_NULL;
+	return tags_library_flush_granted(hand, grants);
+}
+
 /*
  * Using slots, and passing tags from hand to hand
  */
@@ -888,6 +963,8 @@ TAGS_CALL int32_t tags_write(struct tags_hand *hand, uint32_t tag, uint64_t valu
  *
  * The tag is posted until some hand of the pool takes it. That hand sees
  * whatever the poster wrote before, to the slot or to memory that it points to.
+ * With TAGS_KEEP_WHILE_HOLDING the post of the last tag that the hand got gives all
+ * kept tags back, but wakes no thread: call tags_flush() first, and ring.
  *
  * Return: TAGS_OK. Otherwise TAGS_BAD_HANDLE, TAGS_NO_SUCH_TAG or TAGS_NOT_HELD.
  *
@@ -945,7 +1022,7 @@ TAGS_CHECKED int32_t tags_holds(struct tags_hand *hand, uint32_t tag)
  */
 
 /**
- * tags_busy() - report which tags of both sets are busy, that is held or posted
+ * tags_busy() - report which tags of both sets are busy, that is held, kept or posted
  * @hand: a hand of the pool
  * @into: bit t % 64 of into[t / 64] becomes 1 if tag t is busy, every other bit 0
  * @words: length of @into, at least a 64th of the pool's tags, rounded up
@@ -1000,7 +1077,7 @@ TAGS_CALL int32_t tags_wakes(struct tags_hand *hand, struct tags_counts *counts)
  * or tags_give_batch(), or else by tags_ring() after the clear. Then no thread
  * sleeps, and no hand stays untold, beside a tag that became free since it began
  * to wait. That is tested, not proved. A thread must not sleep while it holds the
- * tags that the others wait for.
+ * tags that the others wait for; nor may one be idle that keeps them, see Caches.
  */
 
 /**
@@ -1163,7 +1240,8 @@ int32_t tags_cancel(struct tags_hand *hand, struct tags_bell *bell);
  *
  * From now on each clear of an ordinary tag is counted. Try tags_get() once
  * more before you sleep: the clear of a tag just before may not have been
- * counted.
+ * counted. What the hand keeps in a cache goes back first, but no thread is woken
+ * for that: call tags_flush() before, and ring, if others may wait.
  *
  * Return: the group, below 8. Otherwise TAGS_BAD_HANDLE or TAGS_WAITING.
  *

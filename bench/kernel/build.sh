@@ -51,6 +51,18 @@ compile "$here/sbitmap_tags.c" sbitmap_tags -Wall -Wextra -Wno-sign-compare -Wno
 rm -f "$out/libsbitmap.a"
 ar rcs "$out/libsbitmap.a" "$out"/{sbitmap,find_bit,sbitmap_tags}.o
 
+# DPDK's pool is measured where Debian's libdpdk-dev is installed.
+mempool=()
+rm -f "$out/libmempool.a"
+if pkg-config --exists libdpdk 2> /dev/null; then
+  read -ra flags < <(pkg-config --cflags libdpdk)
+  gcc -std=gnu11 -O2 "${flags[@]}" -march=x86-64-v2 -Wall -Wextra -c "$here/mempool_tags.c" -o "$out/mempool_tags.o"
+  ar rcs "$out/libmempool.a" "$out/mempool_tags.o"
+  mempool=(--cfg mempool -l static=mempool -l rte_mempool -l rte_mempool_ring -l rte_ring -l rte_eal)
+else
+  echo "pkg-config finds no libdpdk: rte_mempool is left out" >&2
+fi
+
 gcc -std=gnu11 -O2 -Wall -Wextra -shared -fPIC "$here/pin.c" -o "$out/pin.so" -ldl
 
 rust() {
@@ -64,5 +76,5 @@ library crossbeam_utils "$(basename "$crates"/crossbeam-utils-*)" --cfg 'feature
 library crossbeam_queue "$(basename "$crates"/crossbeam-queue-*)" --cfg 'feature="std"' --cfg 'feature="alloc"' \
   --extern "cfg_if=$out/libcfg_if.rlib" --extern "crossbeam_utils=$out/libcrossbeam_utils.rlib"
 rust --edition 2021 --cap-lints warn --crate-name contenders --extern "crossbeam_queue=$out/libcrossbeam_queue.rlib" \
-  -L "native=$here/../../c/out" -l static=sbitmap -l static=tags "$here/main.rs"
+  -L "native=$here/../../c/out" -l static=sbitmap -l static=tags --check-cfg 'cfg(mempool)' "${mempool[@]}" "$here/main.rs"
 echo "$linux $(dpkg-deb -f "$out/$linux"_*.deb Version)" > "$out/version"

@@ -62,15 +62,15 @@ pub enum Workload {
     Pair,
     Ring,
     Full,
-    Pass,
+    Handoff,
     Batch,
 }
 
 impl Workload {
     /// The workload of this name.
     pub fn named(name: &str) -> Option<Workload> {
-        use Workload::{Batch, Full, Pair, Pass, Ring};
-        [Pair, Ring, Full, Pass, Batch]
+        use Workload::{Batch, Full, Handoff, Pair, Ring};
+        [Pair, Ring, Full, Handoff, Batch]
             .into_iter()
             .find(|workload| workload.name() == name)
     }
@@ -80,7 +80,7 @@ impl Workload {
             Workload::Pair => "pair",
             Workload::Ring => "ring",
             Workload::Full => "full",
-            Workload::Pass => "pass",
+            Workload::Handoff => "handoff",
             Workload::Batch => "batch",
         }
     }
@@ -88,7 +88,7 @@ impl Workload {
     /// Whether so many threads can do it on so many tags.
     pub fn can_run(self, depth: u32, threads: u32) -> bool {
         depth >= threads
-            && (self != Workload::Pass || threads % 2 == 0)
+            && (self != Workload::Handoff || threads % 2 == 0)
             && (self != Workload::Batch || depth >= 32)
     }
 
@@ -98,6 +98,16 @@ impl Workload {
         match self {
             Workload::Ring => share.min(HELD) as usize,
             _ => share as usize,
+        }
+    }
+
+    /// The most tags that a thread has at once, sent ones among them.
+    pub fn most_held(self, depth: u32, threads: u32) -> u32 {
+        match self {
+            Workload::Pair => 1,
+            Workload::Batch => BATCH as u32,
+            Workload::Handoff => ROOM as u32 + 2,
+            Workload::Ring | Workload::Full => self.held(depth, threads) as u32,
         }
     }
 }

@@ -1,6 +1,6 @@
-//! What the workloads `pair`, `ring`, `full`, `pass` and `batch` of `tag_bench` are set beside: the kernel's sbitmap_queue,
-//! the C interface of this repository, a queue of the free tags, a list of them behind a lock, two locked steps on lines of
-//! the thread's own, and arithmetic alone.
+//! What the workloads `pair`, `ring`, `full`, `handoff` and `batch` of `tag_bench` are set beside: the kernel's sbitmap_queue,
+//! the C interface of this repository, DPDK's rte_mempool where it is installed, a queue of the free tags, a list of them
+//! behind a lock, two locked steps on lines of the thread's own, and arithmetic alone.
 //! `main WORKLOAD [--threads N] [--depth N] [--rounds N]` prints a line of JSON a case.
 #[path = "../baseline/clock.rs"]
 mod clock;
@@ -10,6 +10,8 @@ mod kernel;
 mod limit;
 mod lists;
 mod loops;
+#[cfg(mempool)]
+mod mempool;
 mod registers;
 mod tag_c;
 
@@ -18,8 +20,10 @@ use crate::kernel::Kernel;
 use crate::limit::Limit;
 use crate::lists::{List, Queue};
 use crate::loops::{Slots, Tags, Way, Workload};
+#[cfg(mempool)]
+use crate::mempool::Mempool;
 use crate::registers::Registers;
-use crate::tag_c::{Beside, InPool, TagC};
+use crate::tag_c::{Beside, BesideCached, InPool, TagC};
 use std::process::ExitCode;
 
 /// Tags of the map, where no count is asked for.
@@ -28,7 +32,7 @@ const DEPTHS: [u32; 3] = [64, 1_024, 10_240];
 fn main() -> ExitCode {
     let mut words = std::env::args().skip(1);
     let Some(workload) = words.next().and_then(|name| Workload::named(&name)) else {
-        eprintln!("the workloads are pair, ring, full, pass and batch");
+        eprintln!("the workloads are pair, ring, full, handoff and batch");
         return ExitCode::from(2);
     };
     let Some(options) = Options::read(words) else {
@@ -61,6 +65,11 @@ fn run(workload: Workload, options: &Options, depth: u32) {
             case(Hints::Apart).measure::<TagC<InPool>>();
             case(Hints::FromZero).measure::<TagC<InPool>>();
             case(Hints::Apart).measure::<TagC<Beside>>();
+            case(Hints::Apart).measure::<TagC<BesideCached>>();
+            #[cfg(mempool)]
+            if Mempool::can_hold(depth, threads, workload.most_held(depth, threads)) {
+                case(Hints::None).measure::<Mempool>();
+            }
             case(Hints::None).measure::<Queue>();
             case(Hints::None).measure::<List>();
             case(Hints::None).measure::<Limit>();
@@ -116,10 +125,10 @@ impl Setting {
                     loops::ring(&tags, &mut user, &slots, held, self.rounds)
                 }
                 Workload::Batch => loops::batches(&tags, &mut user, &slots, self.rounds),
-                Workload::Pass if index % 2 == 0 => {
+                Workload::Handoff if index % 2 == 0 => {
                     loops::send(&tags, &mut user, &slots, &ways[index as usize], self.rounds)
                 }
-                Workload::Pass => loops::receive(
+                Workload::Handoff => loops::receive(
                     &tags,
                     &mut user,
                     &slots,

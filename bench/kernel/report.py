@@ -1,11 +1,12 @@
-"""report.py LINES SVG: prints what kernel.sh measured as a table, and draws a part of it.
+"""report.py LINES SVG: prints what kernel.sh measured as tables, and draws a part of it.
 
-A figure is the median over the repetitions. Times are a thread's processor time, which a machine that is busy with something
+The first table is what a reader wants to know of one depth, hints apart; the second has all that was measured. A figure is the
+median over the repetitions. Times are a thread's processor time, which a machine that is busy with something
 else changes little. A ratio is to the kernel's time with hints apart in the same repetition; less is better. The last columns are
 a ratio by the clock, and the nanoseconds that an operation over `Queue` takes more than one over the map alone, and one
-through C more than one over `Queue`, in the same repetition, with hints apart. A second table has how many times as long one of
+through C more than one over `Queue`, in the same repetition, with hints apart. A third table has how many times as long one of
 several threads takes as one alone, hints apart; by the clock too, where what is above the processor time is time that the machine
-did not give to the threads. That table and the plot are of one depth, and left out where it was not measured."""
+did not give to the threads. The first and the third table and the plot are of one depth, and left out where it was not measured."""
 import json
 import statistics
 import sys
@@ -14,8 +15,12 @@ from math import log2
 KERNEL = ("kernel", "apart")
 OURS = ("tag_bench", "apart")
 QUEUE = ("tag_queue", "apart")
+SETS = ("tag_sets", "apart")
+CACHE = ("tag_cache", "apart")
+MEMPOOL = ("mempool", None)
 THROUGH_C = ("tag_c", "apart")
 OWN_SLOTS = ("tag_c, own slots", "apart")
+CACHE_THROUGH_C = ("tag_c, cache", "apart")
 LIMIT = ("limit", None)
 REGISTERS = ("registers", None)
 COLUMNS = [
@@ -23,21 +28,39 @@ COLUMNS = [
     ("map, from 0", ("tag_bench", "from 0")),
     ("`Queue`", QUEUE),
     ("`Queue`, from 0", ("tag_queue", "from 0")),
+    ("tag sets", SETS),
+    ("cache", CACHE),
+    ("cache, from 0", ("tag_cache", "from 0")),
     ("`tag_c`", THROUGH_C),
     ("`tag_c`, from 0", ("tag_c", "from 0")),
     ("`tag_c`, own slots", OWN_SLOTS),
+    ("`tag_c`, cache", CACHE_THROUGH_C),
     ("kernel, from 0", ("kernel", "from 0")),
+    ("rte_mempool", MEMPOOL),
     ("queue of tags", ("queue", None)),
     ("locked list", ("locked list", None)),
     ("limit", LIMIT),
 ]
-# Of which contenders the second table says how much longer a thread takes while others run.
+# What the first table has.
+SUMMARY = [
+    ("map", OURS),
+    ("`Queue`", QUEUE),
+    ("tag sets", SETS),
+    ("cache", CACHE),
+    ("through C", OWN_SLOTS),
+    ("through C, cache", CACHE_THROUGH_C),
+    ("rte_mempool", MEMPOOL),
+    ("queue of tags", ("queue", None)),
+    ("locked list", ("locked list", None)),
+]
+# Of which contenders the third table says how much longer a thread takes while others run.
 SCALING = [
     ("registers", REGISTERS),
     ("limit", LIMIT),
     ("kernel", KERNEL),
     ("map", OURS),
     ("`Queue`", QUEUE),
+    ("cache", CACHE),
     ("`tag_c`", THROUGH_C),
 ]
 # What the plot has: its panels, and of each contender its name and colour.
@@ -48,13 +71,18 @@ PANELS = [
     ("full", "all tags held"),
 ]
 LINES = [
-    (OURS, "map", "#0b6e4f"),
-    (QUEUE, "Queue", "#55b391"),
+    (CACHE, "cache", "#0b6e4f"),
+    (OURS, "map", "#55b391"),
     (KERNEL, "kernel", "#b3261e"),
+    (MEMPOOL, "rte_mempool", "#7b4fa6"),
     (("queue", None), "queue of tags", "#3b5ba5"),
     (("locked list", None), "locked list", "#8a6d1d"),
     (LIMIT, "limit", "#777777"),
 ]
+
+
+# What precedes a workload's name in the lines of tag_bench, and the contender that it stands for.
+LAYERS = {"": "tag_bench", "queue": "tag_queue", "sets": "tag_sets", "cache": "tag_cache"}
 
 
 def read(path):
@@ -65,9 +93,8 @@ def read(path):
             entry = json.loads(line)
             hints, _, depth = entry["case"].rpartition("depth ")
             hints = hints.removeprefix("hints ").removesuffix(", ") or None
-            workload = entry["workload"].removeprefix("queue ")
-            ours = "tag_bench" if workload == entry["workload"] else "tag_queue"
-            who = (entry.get("contender", ours), hints)
+            layer, _, workload = entry["workload"].rpartition(" ")
+            who = (entry.get("contender", LAYERS[layer]), hints)
             case = (workload, int(depth), entry["threads"])
             figures.setdefault(case, {}).setdefault(who, {})[entry["repetition"]] = entry
     return figures
@@ -89,6 +116,16 @@ def costs(case, upper, lower):
 
 def median(case, who):
     return statistics.median(entry["processor"] for entry in case[who].values())
+
+
+def print_summary(figures):
+    print("| workload | threads | kernel, ns | " + " | ".join(title for title, _ in SUMMARY) + " |")
+    print("|" + "---|" * (3 + len(SUMMARY)))
+    for (workload, depth, threads), case in figures.items():
+        if depth == PLOTTED_DEPTH and KERNEL in case:
+            ratios = [ratio(case, who) for _, who in SUMMARY]
+            cells = ["" if value is None else f"{value:.2f}" for value in ratios]
+            print(f"| {workload} | {threads} | {median(case, KERNEL):.1f} | " + " | ".join(cells) + " |")
 
 
 def print_table(figures):
@@ -193,6 +230,8 @@ def draw_panel(panel, title, has_scale):
 
 
 def draw_line(panel, line, colour):
+    if not line:
+        return []
     at = [(panel.x(threads), panel.y(ns)) for threads, ns in line]
     way = " ".join(f"{x:.1f},{y:.1f}" for x, y in at)
     out = [f'<polyline points="{way}" fill="none" stroke="{colour}" stroke-width="2"/>']
@@ -210,8 +249,12 @@ def draw_legend(y):
 
 def main():
     figures = read(sys.argv[1])
+    is_plotted = any(depth == PLOTTED_DEPTH for _, depth, _ in figures)
+    if is_plotted:
+        print_summary(figures)
+        print()
     print_table(figures)
-    if any(depth == PLOTTED_DEPTH for _, depth, _ in figures):
+    if is_plotted:
         print()
         print_scaling(figures)
         draw(figures, sys.argv[2])

@@ -30,13 +30,14 @@ struct Options {
     min_shallow: u32,
     hands: u32,
     flags: u32,
+    cache: u32,
 }
 
 /// A hand's gets go on where they left off, and not in a part of its own.
 const STAY: u32 = 1;
 
 unsafe extern "C" {
-    fn tags_library_open(pool: *mut Handle, options: *const Options) -> i32;
+    fn tags_library_open_cached(pool: *mut Handle, options: *const Options, cache: u32, keeping: u32) -> i32;
     fn tags_library_join(pool: *mut Handle, hand: *mut Handle, flags: u32) -> i32;
     fn tags_library_leave(hand: *mut Handle) -> i32;
     fn tags_library_close(pool: *mut Handle, sums: *mut [u64; 8]) -> i32;
@@ -49,9 +50,10 @@ unsafe extern "C" {
     fn tags_library_take(hand: *mut Handle, tag: u32) -> i32;
 }
 
-/// Where a program keeps what belongs to a tag.
+/// Where a program keeps what belongs to a tag, and how many tags each of its hands keeps.
 pub trait Keeping: Sync {
     const NAME: &'static str;
+    const CACHE: u32 = 0;
 
     fn touch(hand: &mut Hand, slots: &Slots, tag: u32, value: u64);
 }
@@ -75,6 +77,19 @@ pub struct Beside;
 
 impl Keeping for Beside {
     const NAME: &'static str = "tag_c, own slots";
+
+    #[inline]
+    fn touch(_hand: &mut Hand, slots: &Slots, tag: u32, value: u64) {
+        slots.touch(tag, value);
+    }
+}
+
+/// The same, over a cache of as many tags as the workloads of tag_bench have.
+pub struct BesideCached;
+
+impl Keeping for BesideCached {
+    const NAME: &'static str = "tag_c, cache";
+    const CACHE: u32 = 8;
 
     #[inline]
     fn touch(_hand: &mut Hand, slots: &Slots, tag: u32, value: u64) {
@@ -117,10 +132,11 @@ impl<K: Keeping> Tags for TagC<K> {
             min_shallow: 0,
             hands: threads,
             flags: 0,
+            cache: K::CACHE,
         };
         let mut pool = EMPTY;
         // SAFETY: both are this function's own.
-        let status = unsafe { tags_library_open(&mut pool, &options) };
+        let status = unsafe { tags_library_open_cached(&mut pool, &options, options.cache, 0) };
         assert_eq!(status, 0, "the pool is not opened");
         TagC {
             pool: Mutex::new(pool),

@@ -192,6 +192,10 @@ static struct tags_options any_options(void)
 		options.flags |= TAGS_ONE_PER_WORD;
 		options.shift = seldom(8) ? options.shift : 0;
 	}
+	if (seldom(2))
+		options.cache = seldom(30) ? odd_number() : below(seldom(2) ? 4 : TAGS_MAX_CACHE + 1);
+	if (seldom(3))
+		options.flags |= TAGS_KEEP_WHILE_HOLDING;
 	if (seldom(30))
 		options.hands = odd_number();
 	if (seldom(60))
@@ -370,6 +374,37 @@ static void try_clear_granted(void)
 			ring(at, (int32_t)wanted.woken));
 }
 
+/* A call that gives tags back and rings looks for whoever waits, and if it finds any, what is kept goes back. */
+static int32_t ring_after(uint32_t at, int32_t answer)
+{
+	struct bell *bell = bell_of(at);
+
+	for (int number = 0; answer >= 0 && number < TAGS_MAX_HANDS; number++)
+		if (bell->listed[number]) {
+			model_flush(&models[at]);
+			break;
+		}
+	return ring(at, answer);
+}
+
+static void try_flush(void)
+{
+	uint32_t at = hand_handle();
+	struct tags_grants found = { 5, { 5 } };
+	struct tags_grants wanted = { 5, { 5 } };
+
+	if (seldom(3)) {
+		compare("flush", tags_ring(&bell_of(at)->bell, tags_flush(&handles[at].hand)),
+			ring(at, model_flush(&models[at])));
+		return;
+	}
+	if (!seldom(4))
+		return;
+	compare("flush_granted", tags_flush_granted(&handles[at].hand, &found),
+		model_flush_granted(&models[at], &wanted));
+	compare_filled("flush_granted", &found, &wanted, sizeof(found));
+}
+
 static void try_give(void)
 {
 	uint32_t at = hand_handle();
@@ -382,7 +417,7 @@ static void try_give(void)
 			ring(at, model_clear(&models[at], tag)));
 	else
 		compare("give", tags_give(hand, bell, tag),
-			ring(at, model_clear(&models[at], tag)));
+			ring_after(at, model_clear(&models[at], tag)));
 }
 
 static void try_read_clear(void)
@@ -441,7 +476,7 @@ static void try_clear_batch(void)
 	if (seldom(2)) {
 		compare("give_batch",
 			tags_give_batch(&handles[at].hand, &bell_of(at)->bell, tags, n),
-			ring(at, model_clear_batch(&models[at], tags, n)));
+			ring_after(at, model_clear_batch(&models[at], tags, n)));
 		return;
 	}
 	compare("clear_batch_granted",
@@ -803,12 +838,12 @@ static const struct {
 	{ try_clear_granted, 1 }, { try_read_clear, 1 },   { try_get_write, 1 },
 	{ try_give, 2 },	  { try_get_timed, 1 },	   { try_get_blocking, 1 },
 	{ try_get_async, 3 },	  { try_cancel, 1 },	   { try_set_event, 1 },
-	{ try_event, 1 },	  { try_clear_run, 1 },
+	{ try_event, 1 },	  { try_clear_run, 1 },	   { try_flush, 1 },
 };
 
 static void try_any(void)
 {
-	uint32_t turn = below(45);
+	uint32_t turn = below(46);
 	size_t at = 0;
 
 	while (turn >= tries[at].turns)

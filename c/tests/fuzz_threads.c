@@ -1,8 +1,8 @@
 /*
  * Threads that make random calls on several pools at once: gets, gives of one tag
  * and of several, posts, takes, waits with and without a limit and by an eventfd,
- * leaves and joins. A table of the owner
- * of each tag shows a second one. After each round each pool is resized, and at
+ * leaves and joins. The hands of two pools keep tags, of one of them only while they
+ * hold another. A table of the owner of each tag shows a second one. After each round each pool is resized, and at
  * the end its sums are those that the threads counted. fuzz_threads [SECONDS [SEED]]
  */
 #define _GNU_SOURCE
@@ -58,6 +58,10 @@ struct thread {
 	uint64_t state;
 	struct part part[POOLS];
 };
+
+/* how many tags a hand of each pool keeps, and whether only while it holds another */
+static const uint32_t cache[POOLS] = { 0, 8, 3 };
+static const bool is_careful[POOLS] = { false, false, true };
 
 static struct pool pools[POOLS];
 static struct thread threads[THREADS];
@@ -163,6 +167,12 @@ static void give_back(struct thread *self, uint32_t at)
 	count_back(at, 1);
 }
 
+/* Before a thread waits without a limit, or leaves, it gives back what it keeps; it need not where hands keep with care. */
+static void flush(struct thread *self, uint32_t at)
+{
+	CHECK(tags_ring(&pools[at].bell, tags_flush(&self->part[at].hand)) >= 0);
+}
+
 static int32_t get_in_time(struct thread *self, uint32_t at)
 {
 	struct timespec end;
@@ -216,8 +226,12 @@ static void get_one(struct thread *self, uint32_t at)
 		tag = tags_get_shallow(hand, 1 + below(self, 8));
 	else if (way == 2)
 		tag = get_in_time(self, at);
-	else if (way == 3 && holds_nothing(self))
+	else if (way == 3 && holds_nothing(self)) {
+		for (uint32_t other = 0; other < POOLS; other++)
+			if (!is_careful[other])
+				flush(self, other);
 		tag = tags_get_blocking(hand, &pools[at].bell);
+	}
 	else if (way == 4)
 		tag = get_by_event(self, at);
 	else
@@ -245,6 +259,8 @@ static void leave_and_join(struct thread *self, uint32_t at)
 
 	while (part->count > 0)
 		give_back(self, at);
+	if (!is_careful[at])
+		flush(self, at);
 	pthread_mutex_lock(&pools[at].lock);
 	CHECK(tags_leave(&part->hand) == TAGS_OK);
 	CHECK(tags_join(&pools[at].pool, &part->hand, below(self, 2)) == TAGS_OK);
@@ -257,6 +273,9 @@ static void post_one(struct thread *self, uint32_t at)
 	uint32_t tag = disown(self, at);
 	int32_t status;
 
+	/* a post that gives kept tags back rings no bell */
+	if (is_careful[at])
+		flush(self, at);
 	CHECK(tags_post(&self->part[at].hand, tag) == TAGS_OK);
 	status = tags_take(&self->part[at].hand, tag);
 	CHECK(status == TAGS_OK || status == TAGS_NOT_POSTED);
@@ -284,9 +303,12 @@ static void *run(void *argument)
 		else if (part->count > 0)
 			give_back(self, at);
 	}
-	for (uint32_t at = 0; at < POOLS; at++)
+	for (uint32_t at = 0; at < POOLS; at++) {
 		while (self->part[at].count > 0)
 			give_back(self, at);
+		if (!is_careful[at])
+			flush(self, at);
+	}
 	__atomic_fetch_add(&calls, TURNS, __ATOMIC_RELAXED);
 	return NULL;
 }
@@ -328,6 +350,8 @@ int main(int argc, char **argv)
 	for (uint32_t at = 0; at < POOLS; at++) {
 		pthread_mutex_init(&pools[at].lock, NULL);
 		options.total = pools[at].total = 4 + at * 40;
+		options.cache = cache[at];
+		options.flags = is_careful[at] ? TAGS_KEEP_WHILE_HOLDING : 0;
 		CHECK(tags_open(&pools[at].pool, &options) == TAGS_OK);
 		pools[at].event = eventfd(0, EFD_NONBLOCK);
 		CHECK(tags_set_event(&pools[at].bell, pools[at].event) == TAGS_OK);
@@ -339,7 +363,9 @@ int main(int argc, char **argv)
 	} while (time(NULL) < end);
 	for (uint32_t at = 0; at < POOLS; at++) {
 		CHECK(tags_close(&pools[at].pool, &sums) == TAGS_OK);
-		CHECK(sums.got == pools[at].got && sums.back == pools[at].back);
+		/* what was kept and taken again did not go back to the pool */
+		CHECK(cache[at] > 0 ? sums.got <= pools[at].got :
+				      sums.got == pools[at].got && sums.back == pools[at].back);
 		CHECK(sums.got == sums.back && sums.held == 0 && sums.posted == 0);
 		close(pools[at].event);
 	}

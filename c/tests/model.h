@@ -42,6 +42,10 @@ struct member {
 	/* the wait group that it is in, or NOWHERE */
 	int standing;
 	uint32_t next_group;
+	/* the first tag of its cache's window, and which tags there are kept, or known to be held */
+	uint32_t window;
+	uint64_t kept;
+	uint64_t lent;
 };
 
 struct pool {
@@ -52,6 +56,9 @@ struct pool {
 	uint32_t least;
 	uint32_t batch;
 	uint32_t hands;
+	/* how many tags a hand may keep, and whether only while it holds another one */
+	uint32_t cache;
+	bool is_careful;
 	struct member member[TAGS_MAX_HANDS];
 	/* hands that no thread has, or NOBODY; the last one goes out first */
 	int berth[TAGS_MAX_HANDS];
@@ -104,6 +111,14 @@ static inline uint32_t words_of(const struct set *set)
 	return (set->depth + (1u << set->shift) - 1) >> set->shift;
 }
 
+/* Whether the hand keeps the tag in its cache, so that its user does not hold it. */
+static inline bool is_kept(const struct model *hand, uint32_t tag)
+{
+	const struct member *member = member_of(hand);
+
+	return tag - member->window < 64 && member->kept >> (tag - member->window) & 1;
+}
+
 int32_t model_open(struct model *handle, const struct tags_options *options);
 int32_t model_join(struct model *handle, struct model *hand, uint32_t flags);
 int32_t model_leave(struct model *hand);
@@ -119,6 +134,20 @@ int32_t model_clear_batch(struct model *hand, const uint32_t *tags, size_t count
 
 int32_t model_clear_run(struct model *hand, uint32_t first, uint64_t mask);
 
+int32_t model_flush(struct model *hand);
+int32_t model_flush_granted(struct model *hand, struct tags_grants *grants);
+/* Takes the least tag that the hand keeps, or returns NOWHERE. */
+int32_t model_reuse(struct model *hand);
+/* Notes that the hand won a tag, if it is in the window: nothing else is kept, so the window moves there. */
+void model_lend(struct model *hand, uint32_t tag);
+/* Keeps a tag that is cleared, if it may be kept. */
+bool model_keep(struct model *hand, uint32_t tag);
+/*
+ * Notes that the hand holds the tags of a list no more. All kept tags go back first if
+ * @waits, or if none may be kept any more. Returns how many waiters that granted.
+ */
+int32_t model_release(struct model *hand, const uint32_t *tags, size_t n, bool waits);
+void model_release_posted(struct model *hand, uint32_t tag);
 int32_t model_clear_granted(struct model *hand, uint32_t tag, struct tags_grants *grants);
 int32_t model_clear_batch_granted(struct model *hand, const uint32_t *tags, size_t count,
 				  struct tags_grants *grants);

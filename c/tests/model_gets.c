@@ -126,7 +126,17 @@ static int32_t get_of(struct model *hand, enum tags_kind kind, uint32_t depth)
 
 int32_t model_get(struct model *hand)
 {
-	return is_hand(hand) ? get_of(hand, TAGS_ORDINARY, UINT32_MAX) : (int32_t)TAGS_BAD_HANDLE;
+	int32_t tag;
+
+	if (!is_hand(hand))
+		return TAGS_BAD_HANDLE;
+	tag = model_reuse(hand);
+	if (tag != NOWHERE)
+		return tag;
+	tag = get_of(hand, TAGS_ORDINARY, UINT32_MAX);
+	if (tag >= 0)
+		model_lend(hand, (uint32_t)tag);
+	return tag;
 }
 
 int32_t model_get_reserved(struct model *hand)

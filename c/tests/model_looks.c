@@ -12,6 +12,7 @@ int32_t model_prepare(struct model *hand)
 	member = member_of(hand);
 	if (member->standing != NOWHERE)
 		return TAGS_WAITING;
+	model_flush(hand);
 	member->standing = (int)member->next_group;
 	member->next_group = (member->next_group + 1) % GROUPS;
 	hand->pool->counts.active++;

@@ -42,10 +42,12 @@ static uint32_t batch_of(uint32_t depth, uint32_t min_shallow)
 
 static int32_t find_fault(const struct tags_options *options)
 {
-	if (options->flags > (TAGS_ROUND_ROBIN | TAGS_ONE_PER_WORD))
+	if (options->flags > (TAGS_ROUND_ROBIN | TAGS_ONE_PER_WORD | TAGS_KEEP_WHILE_HOLDING))
 		return TAGS_BAD_FLAG;
 	if (options->shift < -1 || (options->flags & TAGS_ONE_PER_WORD && options->shift != 0))
 		return TAGS_BAD_SHIFT;
+	if (options->cache > TAGS_MAX_CACHE)
+		return TAGS_CACHE_TOO_LARGE;
 	if (options->total > TAGS_MAX_TOTAL)
 		return TAGS_TOTAL_TOO_LARGE;
 	if (options->reserved > options->total)
@@ -74,6 +76,8 @@ int32_t model_open(struct model *handle, const struct tags_options *options)
 	pool->least = options->min_shallow ? options->min_shallow : 1;
 	pool->batch = batch_of(ordinary, options->min_shallow);
 	pool->hands = options->hands;
+	pool->cache = options->cache;
+	pool->is_careful = options->flags & TAGS_KEEP_WHILE_HOLDING;
 	for (uint32_t i = 0; i < pool->hands; i++) {
 		pool->berth[i] = (int)(pool->hands - 1 - i);
 		pool->member[i].standing = NOWHERE;
@@ -110,6 +114,8 @@ int32_t model_join(struct model *handle, struct model *hand, uint32_t flags)
 		return TAGS_NO_HAND;
 	hand->pool = handle->pool;
 	hand->number = number;
+	member_of(hand)->window = 0;
+	member_of(hand)->lent = 0;
 	for (int kind = 0; kind < 2 && flags != TAGS_STAY; kind++)
 		member_of(hand)->hint[kind] =
 			(uint32_t)number * hand->pool->set[kind].depth / hand->pool->hands;
@@ -122,6 +128,7 @@ int32_t model_leave(struct model *hand)
 
 	if (!is_hand(hand))
 		return TAGS_BAD_HANDLE;
+	model_flush(hand);
 	while (hand->pool->berth[i] != NOBODY)
 		i++;
 	hand->pool->berth[i] = hand->number;

@@ -15,7 +15,7 @@ static int32_t find_held(const struct model *hand, uint32_t tag)
 	set = set_of(hand, tag);
 	if (set->place[tag - set->first] != HELD || set->holder[tag - set->first] != hand->number)
 		return TAGS_NOT_HELD;
-	return TAGS_OK;
+	return is_kept(hand, tag) ? TAGS_NOT_HELD : TAGS_OK;
 }
 
 int32_t model_holds(struct model *hand, uint32_t tag)
@@ -67,14 +67,38 @@ static void give(struct model *hand, uint32_t tag, enum place place)
 		member_of(hand)->hint[kind_of(hand, tag)] = tag - set->first;
 }
 
+static int32_t give_one(struct model *hand, uint32_t tag)
+{
+	give(hand, tag, ASIDE);
+	return kind_of(hand, tag) == TAGS_RESERVED ? 0 : count(hand->pool, 1);
+}
+
+int32_t model_flush(struct model *hand)
+{
+	struct member *member;
+	uint32_t n = 0;
+
+	if (!is_hand(hand))
+		return TAGS_BAD_HANDLE;
+	member = member_of(hand);
+	for (; member->kept; member->kept &= member->kept - 1, n++)
+		give(hand, member->window + (uint32_t)__builtin_ctzll(member->kept), FREE);
+	return n ? count(hand->pool, n) : 0;
+}
+
 int32_t model_clear(struct model *hand, uint32_t tag)
 {
 	int32_t status = find_held(hand, tag);
+	int32_t woken;
 
 	if (status)
 		return status;
-	give(hand, tag, ASIDE);
-	return kind_of(hand, tag) == TAGS_RESERVED ? 0 : count(hand->pool, 1);
+	if (kind_of(hand, tag) == TAGS_RESERVED)
+		return give_one(hand, tag);
+	if (model_keep(hand, tag))
+		return 0;
+	woken = model_release(hand, &tag, 1, hand->pool->counts.active > 0);
+	return woken + give_one(hand, tag);
 }
 
 static bool is_named_before(const uint32_t *tags, size_t at)
@@ -87,6 +111,8 @@ static bool is_named_before(const uint32_t *tags, size_t at)
 
 int32_t model_clear_batch(struct model *hand, const uint32_t *tags, size_t n)
 {
+	int32_t woken;
+
 	if (!is_hand(hand))
 		return TAGS_BAD_HANDLE;
 	if (n == 0 || n > TAGS_MAX_BATCH)
@@ -97,9 +123,10 @@ int32_t model_clear_batch(struct model *hand, const uint32_t *tags, size_t n)
 	for (size_t i = 0; i < n; i++)
 		if (find_held(hand, tags[i]) || is_named_before(tags, i))
 			return TAGS_NOT_HELD;
+	woken = model_release(hand, tags, n, hand->pool->counts.active > 0);
 	for (size_t i = 0; i < n; i++)
 		give(hand, tags[i], FREE);
-	return count(hand->pool, (uint32_t)n);
+	return woken + count(hand->pool, (uint32_t)n);
 }
 
 /* Lists the tags of a mask, and returns how many they are. A number past all tags stands for what would wrap. */
@@ -157,6 +184,19 @@ int32_t model_clear_batch_granted(struct model *hand, const uint32_t *tags, size
 	return woken;
 }
 
+int32_t model_flush_granted(struct model *hand, struct tags_grants *grants)
+{
+	uint32_t before[GROUPS] = { 0 };
+	int32_t woken;
+
+	if (hand->pool)
+		memcpy(before, hand->pool->granted, sizeof(before));
+	woken = model_flush(hand);
+	if (woken >= 0)
+		fill_grants(hand, before, grants);
+	return woken;
+}
+
 int32_t model_clear_run_granted(struct model *hand, uint32_t first, uint64_t mask,
 				struct tags_grants *grants)
 {
@@ -206,6 +246,7 @@ int32_t model_post(struct model *hand, uint32_t tag)
 
 	if (status)
 		return status;
+	model_release_posted(hand, tag);
 	set_of(hand, tag)->place[tag - set_of(hand, tag)->first] = POSTED;
 	hand->pool->sums.held--;
 	hand->pool->sums.posted++;

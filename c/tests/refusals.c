@@ -94,6 +94,9 @@ static void refuse_null(struct tags_pool *pool, struct tags_hand *hand)
 	WANT(tags_clear_batch_granted(NULL, &tag, 1, &grants), -28);
 	WANT(tags_clear_batch_granted(hand, NULL, 1, &grants), -28);
 	WANT(tags_clear_batch_granted(hand, &tag, 1, NULL), -28);
+	WANT(tags_flush(NULL), -28);
+	WANT(tags_flush_granted(NULL, &grants), -28);
+	WANT(tags_flush_granted(hand, NULL), -28);
 	WANT(tags_get_write(NULL, 1), -28);
 	WANT(tags_read_clear(NULL, 2, &value), -28);
 	WANT(tags_read_clear(hand, 2, NULL), -28);
@@ -126,8 +129,16 @@ static void refuse_options(void)
 	options.shift = INT32_MIN;
 	options.total = UINT32_MAX;
 	WANT(tags_open(&pool, &options), -34);
-	options.flags = 4;
+	options.flags = 8;
 	WANT(tags_open(&pool, &options), -18);
+	options.flags = TAGS_KEEP_WHILE_HOLDING;
+	options.cache = TAGS_MAX_CACHE + 1;
+	WANT(tags_open(&pool, &options), -34);
+	options.shift = 2;
+	WANT(tags_open(&pool, &options), -35);
+	options = twelve;
+	options.cache = UINT32_MAX;
+	WANT(tags_open(&pool, &options), -35);
 	options = twelve;
 	options.flags = TAGS_ONE_PER_WORD;
 	WANT(tags_open(&pool, &options), -34);
@@ -139,7 +150,7 @@ static void refuse_options(void)
 	options.hands = TAGS_MAX_HANDS + 1;
 	WANT(tags_open(&pool, &options), -25);
 	options = twelve;
-	options.flags = 4 | TAGS_ROUND_ROBIN;
+	options.flags = 8 | TAGS_ROUND_ROBIN;
 	WANT(tags_open(&pool, &options), -18);
 	WANT(pool.full == 0 && pool.object == NULL, 1);
 }
@@ -165,6 +176,8 @@ static void refuse_handle(struct tags_hand *hand)
 	WANT(tags_clear_batch(hand, &tag, 1), -12);
 	WANT(tags_clear_run(hand, tag, 1), -12);
 	WANT(tags_clear_run_granted(hand, tag, 1, &grants), -12);
+	WANT(tags_flush(hand), -12);
+	WANT(tags_flush_granted(hand, &grants), -12);
 	WANT(tags_read(hand, tag, &value), -12);
 	WANT(tags_write(hand, tag, 1, &value), -12);
 	WANT(tags_post(hand, tag), -12);
@@ -434,13 +447,86 @@ static void refuse_resizes(void)
 	WANT(sums.got == 2 && sums.back == 2, 1);
 }
 
+/* A tag that a hand keeps is held by no caller, and no other hand gets it. */
+static void refuse_kept(void)
+{
+	struct tags_options options = twelve;
+	struct tags_pool pool = TAGS_EMPTY;
+	struct tags_hand hand = TAGS_EMPTY;
+	struct tags_hand other = TAGS_EMPTY;
+	struct tags_grants grants;
+	struct tags_sums sums;
+	const uint32_t two = 2;
+	uint64_t value = 5;
+
+	options.cache = 4;
+	WANT(tags_open(&pool, &options), 0);
+	WANT(tags_join(&pool, &hand, TAGS_STAY), 0);
+	WANT(tags_join(&pool, &other, TAGS_STAY), 0);
+	WANT(tags_get(&hand), 2);
+	WANT(tags_write(&hand, 2, 7, NULL), 0);
+	WANT(tags_clear(&hand, 2), 0);
+	WANT(tags_clear(&hand, 2), -3);
+	WANT(tags_clear_granted(&hand, 2, &grants), -3);
+	WANT(tags_clear_batch(&hand, &two, 1), -3);
+	WANT(tags_clear_run(&hand, 2, 1), -3);
+	WANT(tags_read(&hand, 2, &value), -3);
+	WANT(tags_read_clear(&hand, 2, &value), -3);
+	WANT(tags_write(&hand, 2, 1, &value), -3);
+	WANT(tags_post(&hand, 2), -3);
+	WANT(tags_take(&other, 2), -4);
+	WANT(tags_holds(&hand, 2), 0);
+	WANT(value == 5, 1);
+	WANT(tags_busy(&other, &value, 1), 1);
+	WANT(value == 4, 1);
+	WANT(tags_get(&other), 3);
+	WANT(tags_get(&hand), 2);
+	WANT(tags_read(&hand, 2, &value), 0);
+	WANT(value == 7, 1);
+	WANT(tags_clear(&hand, 2), 0);
+	WANT(tags_flush_granted(&hand, &grants), 0);
+	WANT(grants.woken == 0, 1);
+	WANT(tags_flush(&hand), 0);
+	WANT(tags_clear(&other, 3), 0);
+	WANT(tags_busy(&hand, &value, 1), 1);
+	WANT(tags_leave(&hand), 0);
+	WANT(tags_leave(&other), 0);
+	WANT(tags_resize(&pool, 12), 0);
+	WANT(tags_close(&pool, &sums), 0);
+	WANT(sums.got == 2 && sums.back == 2 && sums.held == 0, 1);
+}
+
+/* A program that was compiled with a header whose options had no cache calls this export. */
+int32_t tags_library_open(struct tags_pool *pool, const void *options);
+
+static void open_as_before(void)
+{
+	const struct {
+		uint32_t total, reserved;
+		int32_t shift;
+		uint32_t min_shallow, hands, flags;
+	} former = { .total = 4, .shift = -1, .hands = 1 };
+	struct tags_pool pool = TAGS_EMPTY;
+	struct tags_hand hand = TAGS_EMPTY;
+	struct tags_sums sums;
+	uint64_t busy;
+
+	WANT(tags_library_open(&pool, &former), 0);
+	WANT(tags_join(&pool, &hand, 0), 0);
+	WANT(tags_get(&hand), 0);
+	WANT(tags_clear(&hand, 0), 0);
+	WANT(tags_busy(&hand, &busy, 1), 0);
+	WANT(tags_leave(&hand), 0);
+	WANT(tags_close(&pool, &sums), 0);
+}
+
 static void name_statuses(void)
 {
-	for (int32_t status = TAGS_BAD_EVENT; status < 0; status++)
+	for (int32_t status = TAGS_CACHE_TOO_LARGE; status < 0; status++)
 		for (int32_t other = status + 1; other <= 0; other++)
 			WANT(strcmp(tags_strerror(status), tags_strerror(other)) != 0, 1);
 	WANT(strcmp(tags_strerror(7), tags_strerror(TAGS_OK)), 0);
-	WANT(strcmp(tags_strerror(INT32_MIN), tags_strerror(TAGS_BAD_SHIFT - 1)), 0);
+	WANT(strcmp(tags_strerror(INT32_MIN), tags_strerror(TAGS_CACHE_TOO_LARGE - 1)), 0);
 }
 
 int main(void)
@@ -472,6 +558,8 @@ int main(void)
 		for (uint32_t total = hands; total <= 64; total++)
 			part_with_all_hands(total, hands);
 	refuse_resizes();
+	refuse_kept();
+	open_as_before();
 	name_statuses();
 	printf("%d answers, %d wrong\n", wanted, wrong);
 	return wrong != 0;

@@ -1,7 +1,8 @@
 /*
  * Runs threads that would sleep for ever if a wakeup were lost. In a crowd there
  * are more threads than tags, and the last clear has to wake the last sleeper.
- * In a duel each round has one clear and one thread that waits for it, and the
+ * It runs with and without caches. Threads of pairs hold two tags at a time, so that
+ * they keep some while they hold another one. In a duel each round has one clear and one thread that waits for it, and the
  * clear comes a little earlier or later each time. sleepers [ROUNDS]
  */
 #include <inttypes.h>
@@ -20,6 +21,8 @@ struct thread {
 	struct tags_hand hand;
 	/* whether the thread gives its tags back with tags_clear_batch() */
 	bool by_batch;
+	/* whether it gives back what it keeps when it ends, as threads must that may keep tags while they hold none */
+	bool flushes;
 };
 
 static long rounds = 500;
@@ -56,17 +59,56 @@ static void *run(void *argument)
 		__atomic_fetch_sub(&inside, 1, __ATOMIC_SEQ_CST);
 		check(tags_ring(&bell, clear(self, (uint32_t)tag)) >= 0);
 	}
+	if (self->flushes)
+		check(tags_ring(&bell, tags_flush(&self->hand)) >= 0);
 	return NULL;
 }
 
-/* Lets all threads compete for @tags tags; each gets one as often as it asks. */
-static void crowd(uint32_t tags, uint32_t reserved)
+static uint32_t get(struct thread *self)
+{
+	int32_t tag = tags_get_blocking(&self->hand, &bell);
+
+	check(tag >= 0);
+	check(__atomic_add_fetch(&inside, 1, __ATOMIC_SEQ_CST) <= tags_in_all);
+	return (uint32_t)tag;
+}
+
+static void give(struct thread *self, uint32_t tag)
+{
+	__atomic_fetch_sub(&inside, 1, __ATOMIC_SEQ_CST);
+	check(tags_give(&self->hand, &bell, tag) >= 0);
+}
+
+/* The second tag of a pair is given back and taken again while the first is held. */
+static void *run_pairs(void *argument)
+{
+	struct thread *self = argument;
+
+	for (long round = 0; round < rounds; round++) {
+		uint32_t first = get(self);
+		uint32_t second = get(self);
+
+		give(self, second);
+		sched_yield();
+		second = get(self);
+		give(self, round % 2 ? first : second);
+		give(self, round % 2 ? second : first);
+	}
+	if (self->flushes)
+		check(tags_ring(&bell, tags_flush(&self->hand)) >= 0);
+	return NULL;
+}
+
+/* Lets all threads compete for @tags tags, of which each may keep @cache. */
+static void crowd(uint32_t tags, uint32_t reserved, uint32_t cache, uint32_t flags, bool in_pairs)
 {
 	static struct thread threads[THREADS];
 	struct tags_options options = {
 		.total = tags + reserved,
 		.reserved = reserved,
 		.hands = THREADS,
+		.flags = flags,
+		.cache = cache,
 	};
 	struct tags_pool pool = TAGS_EMPTY;
 	struct tags_sums sums = { 0 };
@@ -75,15 +117,18 @@ static void crowd(uint32_t tags, uint32_t reserved)
 	check(tags_open(&pool, &options) == TAGS_OK);
 	for (int i = 0; i < THREADS; i++) {
 		threads[i].by_batch = i % 3 == 0;
+		threads[i].flushes = cache > 0 && !(flags & TAGS_KEEP_WHILE_HOLDING);
 		check(tags_join(&pool, &threads[i].hand, 0) == TAGS_OK);
-		check(pthread_create(&threads[i].id, NULL, run, &threads[i]) == 0);
+		check(pthread_create(&threads[i].id, NULL, in_pairs ? run_pairs : run,
+				     &threads[i]) == 0);
 	}
 	for (int i = 0; i < THREADS; i++) {
 		pthread_join(threads[i].id, NULL);
 		check(tags_leave(&threads[i].hand) == TAGS_OK);
 	}
 	check(tags_close(&pool, &sums) == TAGS_OK);
-	check(sums.got == (uint64_t)(THREADS * rounds) && sums.back == sums.got);
+	check(sums.back == sums.got && sums.held == 0 && inside == 0);
+	check(cache > 0 || sums.got == (uint64_t)(THREADS * rounds * (in_pairs ? 3 : 1)));
 	check(sums.issued <= sums.charged && sums.charged <= sums.counted &&
 	      sums.counted <= sums.back);
 	check(sums.used <= sums.issued);
@@ -156,11 +201,19 @@ int main(int argc, char **argv)
 {
 	if (argc > 1)
 		rounds = strtol(argv[1], NULL, 10);
-	crowd(1, 0);
-	crowd(2, 3);
-	crowd(7, 0);
+	crowd(1, 0, 0, 0, false);
+	crowd(2, 3, 0, 0, false);
+	crowd(7, 0, 0, 0, false);
 	/* 16 tags make the wakeup batch 2 */
-	crowd(16, 1);
+	crowd(16, 1, 0, 0, false);
+	crowd(1, 0, 1, 0, false);
+	crowd(7, 1, 2, 0, false);
+	crowd(16, 0, TAGS_MAX_CACHE, 0, false);
+	/* with one tag more than threads some thread always gets its second one */
+	crowd(THREADS + 1, 0, 0, 0, true);
+	crowd(THREADS + 1, 2, 3, 0, true);
+	crowd(THREADS + 1, 2, 3, TAGS_KEEP_WHILE_HOLDING, true);
+	crowd(THREADS + 8, 0, TAGS_MAX_CACHE, TAGS_KEEP_WHILE_HOLDING, true);
 	duel();
 	printf("%" PRIu64 " wrong\n", wrong);
 	return wrong != 0;

@@ -182,12 +182,57 @@ static void go_round(void)
 	WANT(tags_close(&pool, &sums), TAGS_OK);
 }
 
+/* Ten ordinary tags in words of four from tag 2, of which the hand keeps two. */
+static void keep_some(void)
+{
+	struct tags_options options = twelve;
+	struct tags_pool pool = TAGS_EMPTY;
+	struct tags_hand hand = TAGS_EMPTY;
+	struct tags_sums sums;
+	uint64_t busy = 0;
+	uint64_t won = 0;
+
+	options.cache = 2;
+	WANT(tags_open(&pool, &options), TAGS_OK);
+	WANT(tags_join(&pool, &hand, TAGS_STAY), TAGS_OK);
+	for (int32_t tag = 2; tag < 6; tag++)
+		WANT(tags_get(&hand), tag);
+	WANT(tags_clear(&hand, 4), 0);
+	WANT(tags_clear(&hand, 3), 0);
+	WANT(tags_busy(&hand, &busy, 1), 4);
+	/* the least of the kept ones comes first */
+	WANT(tags_get(&hand), 3);
+	WANT(tags_clear(&hand, 3), 0);
+	/* there is no place for a third: the two go back, and it is kept instead */
+	WANT(tags_clear(&hand, 2), 0);
+	WANT(tags_busy(&hand, &busy, 1), 2);
+	WANT((int32_t)busy, 1 << 2 | 1 << 5);
+	/* a batch takes no kept tag */
+	WANT(tags_get_batch(&hand, 2, &won), 3);
+	WANT((int32_t)won, 3);
+	WANT(tags_clear_run(&hand, 3, won), 0);
+	WANT(tags_get(&hand), 2);
+	WANT(tags_clear(&hand, 2), 0);
+	WANT(tags_clear(&hand, 5), 0);
+	/* both are kept; a hand that leaves keeps none */
+	WANT(tags_leave(&hand), TAGS_OK);
+	WANT(tags_resize(&pool, 20), TAGS_OK);
+	WANT(tags_join(&pool, &hand, TAGS_STAY), TAGS_OK);
+	WANT(tags_busy(&hand, &busy, 1), 0);
+	WANT(tags_leave(&hand), TAGS_OK);
+	WANT(tags_close(&pool, &sums), TAGS_OK);
+	/* four gets and a batch of two; what was kept and taken again is not counted */
+	WANT((int32_t)sums.got, 6);
+	WANT((int32_t)sums.back, 6);
+}
+
 int main(void)
 {
 	run_through_all_calls();
 	go_on_with_more_tags();
 	choose_words();
 	go_round();
+	keep_some();
 	printf("%d answers, %d wrong\n", checks, wrong);
 	return wrong != 0;
 }

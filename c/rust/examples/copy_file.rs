@@ -38,7 +38,11 @@ struct Copy {
     next: AtomicU64,
 }
 
+/// Held by the thread that ends the program, until it has ended: one thread says why.
+static ENDING: Mutex<()> = Mutex::new(());
+
 fn give_up(what: &str, why: &dyn std::fmt::Display) -> ! {
+    let _ending = ENDING.lock();
     eprintln!("copy_file: {what}: {why}");
     exit(1)
 }

@@ -45,12 +45,14 @@ pub enum Error {
     BadHandCount,
     /// Tags of the pool are held or posted.
     InUse,
+    /// A cache of more than 64 tags.
+    CacheTooLarge,
     /// A status that no call of this crate should return.
     Unexpected(i32),
 }
 
 /// The status of each error in tags.h.
-const NUMBERS: [(Error, i32); 17] = [
+const NUMBERS: [(Error, i32); 18] = [
     (Error::NoSuchTag, -1),
     (Error::NoReserved, -2),
     (Error::NotHeld, -3),
@@ -68,6 +70,7 @@ const NUMBERS: [(Error, i32); 17] = [
     (Error::ShiftTooLarge, -24),
     (Error::BadHandCount, -25),
     (Error::InUse, -29),
+    (Error::CacheTooLarge, -35),
 ];
 
 impl Error {

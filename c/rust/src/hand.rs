@@ -155,6 +155,13 @@ impl<T> Hand<T> {
         Ok(first.map(|first| Batch::new(self, first, won)))
     }
 
+    /// Gives all kept tags back, and wakes whoever waits for one. A hand keeps tags if the pool was opened with a
+    /// [`cache`](crate::Options::cache). Call it before the thread is idle or sleeps; a hand that is dropped does the same.
+    pub fn flush(&self) {
+        self.give_kept();
+        self.listeners().tell(self.shared.besides);
+    }
+
     /// Makes of this hand one that several threads and tasks use. Its tags are [`OwnedTag`](crate::OwnedTag)s.
     pub fn into_shared(self) -> SharedHand<T> {
         SharedHand::new(self)
@@ -212,6 +219,9 @@ impl<T> Drop for Hand<T> {
     fn drop(&mut self) {
         // It is in a group only if the guard of a wait was leaked.
         self.leave_group();
+        if self.shared.besides > 0 {
+            self.flush();
+        }
         // SAFETY: as of `raw`.
         unsafe { raw::tags_library_leave(self.raw()) };
     }

@@ -86,10 +86,25 @@ impl<T> Hand<T> {
         Ok(())
     }
 
+    /// Gives all kept tags back, and wakes the threads that sleep. The caller tells the listeners.
+    pub(crate) fn give_kept(&self) {
+        let bell = self.shared.bell.as_ptr();
+        // SAFETY: as of `raw`, and the bell is only accessed by atomic operations.
+        Self::expect(unsafe { raw::tags_ring(bell, raw::tags_library_flush(self.raw())) });
+    }
+
+    /// A future that began to wait after the clear looked for waiters does not find what is kept since.
+    fn give_kept_to_listeners(&self) {
+        if self.shared.besides > 0 && self.listeners().are_there() {
+            self.give_kept();
+        }
+    }
+
     /// Gives a held tag back, and wakes a thread that sleeps until one is free. The caller tells the listeners.
     pub(crate) fn give(&self, number: u32) {
         // SAFETY: as of `raw`, and the bell is only accessed by atomic operations.
         Self::expect(unsafe { raw::tags_give(self.raw(), self.shared.bell.as_ptr(), number) });
+        self.give_kept_to_listeners();
     }
 
     /// Gives the held ordinary tags of a mask back together, and wakes as many threads. The caller tells the listeners.
@@ -97,6 +112,7 @@ impl<T> Hand<T> {
         let bell = self.shared.bell.as_ptr();
         // SAFETY: as of `raw`, and the bell is only accessed by atomic operations.
         Self::expect(unsafe { raw::tags_give_run(self.raw(), bell, first, mask) });
+        self.give_kept_to_listeners();
     }
 
     pub(crate) fn read(&self, number: u32) -> u64 {
@@ -113,7 +129,11 @@ impl<T> Hand<T> {
         former
     }
 
+    /// Offers a held tag. If this is the last one beside which tags are kept, they go back; the caller tells the listeners.
     pub(crate) fn post(&self, number: u32) {
+        if self.shared.keeps_while_holding {
+            self.give_kept();
+        }
         // SAFETY: as of `raw`.
         Self::expect(unsafe { raw::tags_library_post(self.raw(), number) });
     }

@@ -63,6 +63,11 @@ impl Listeners {
         struck.is_some()
     }
 
+    /// Returns whether any future waits.
+    pub fn are_there(&self) -> bool {
+        self.count.load(SeqCst) > 0
+    }
+
     /// Wakes a future for each of so many tags that became free.
     pub fn tell(&self, tags: usize) {
         for _ in 0..tags {

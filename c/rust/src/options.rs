@@ -27,6 +27,29 @@ pub struct Options {
     /// Whether a get begins after the tag last won, and at the first tag after the last but one. So a tag is reused late,
     /// though not as late as possible: a tag that was given back is free again once its word has no free tag left.
     pub round_robin: bool,
+    /// How many tags each hand may keep of those that it gives back, at most 64, for its next gets, which then take no
+    /// locked step. 0 is none. Nobody else finds a kept tag until the hand gives it back: when it clears a tag and finds
+    /// that somebody waits, by a [`flush`](crate::Hand::flush), or when it is dropped. So flush before the thread is idle
+    /// or sleeps.
+    ///
+    /// ```
+    /// # use tags::{Error, Options, Pool};
+    /// # fn main() -> tags::Result<()> {
+    /// let pool = Pool::open(&Options { cache: 8, ..Options::new(1, 2) })?;
+    /// let (first, second) = (pool.join()?, pool.join()?);
+    /// drop(first.get()?);
+    /// assert!(second.get()?.is_none());
+    /// first.flush();
+    /// assert!(second.get()?.is_some());
+    /// let large = Options { cache: 65, ..Options::new(1, 2) };
+    /// assert_eq!(Pool::open(&large).unwrap_err(), Error::CacheTooLarge);
+    /// # Ok(())
+    /// # }
+    /// ```
+    pub cache: u32,
+    /// Whether a hand keeps tags only while it holds another one that it got. Then a hand that keeps tags always has a tag
+    /// to give back, and nobody waits for ever for what it keeps.
+    pub keep_while_holding: bool,
 }
 
 impl Options {
@@ -40,6 +63,8 @@ impl Options {
             min_shallow: None,
             hands,
             round_robin: false,
+            cache: 0,
+            keep_while_holding: false,
         }
     }
 
@@ -72,7 +97,7 @@ pub enum Kind {
 pub struct Sizes {
     /// Number of tags in the set.
     pub depth: u32,
-    /// Tags found held or posted.
+    /// Tags found held, kept or posted.
     pub busy: u32,
     /// Tags found given back, and not yet swept for reuse.
     pub cleared: u32,
@@ -96,7 +121,7 @@ pub struct Counts {
     pub index: u32,
 }
 
-/// Sums over all hands of a pool: `got == back + held + posted`.
+/// Sums over all hands of a pool: `got == back + held + posted`. A tag that a hand kept and took again is not counted.
 #[repr(C)]
 #[derive(Clone, Copy, Debug, Default, PartialEq, Eq)]
 pub struct Totals {

@@ -4,8 +4,8 @@ use crate::hand::Hand;
 use crate::listeners::Listeners;
 use crate::options::{Options, Totals};
 use crate::raw::{
-    tags_library_close, tags_library_join, tags_library_open, tags_library_resize, Bell, Handle,
-    MAX_TOTAL, STAY,
+    tags_library_close, tags_library_join, tags_library_open_cached, tags_library_resize, Bell,
+    Handle, MAX_CACHE, MAX_TOTAL, STAY,
 };
 use crate::values::Values;
 use std::cell::UnsafeCell;
@@ -30,6 +30,10 @@ pub(crate) struct Shared<T> {
     opened: Opened,
     reserved: u32,
     values: Values<T>,
+    /// How many kept tags may go back with a tag: 0 if the hands keep none.
+    pub besides: usize,
+    /// Whether hands keep tags only while they hold another one.
+    pub keeps_while_holding: bool,
     /// Who waits for a tag: threads at the bell, and futures.
     pub bell: Bell,
     pub listeners: Listeners,
@@ -118,12 +122,19 @@ impl<T> Pool<T> {
     /// ```
     pub fn open_with(options: &Options, make: impl FnMut(u32) -> T) -> Result<Pool<T>> {
         let mut handle = Handle::EMPTY;
+        let (raw, keeping) = (options.to_raw(), u32::from(options.keep_while_holding));
         // SAFETY: both are local to this function.
-        number(unsafe { tags_library_open(&mut handle, &options.to_raw()) })?;
+        number(unsafe { tags_library_open_cached(&mut handle, &raw, options.cache, keeping) })?;
         let shared = Shared {
             opened: Opened(Mutex::new(handle)),
             reserved: options.reserved,
             values: Values::new((0..options.total).map(make)),
+            besides: if options.cache > 0 {
+                MAX_CACHE as usize
+            } else {
+                0
+            },
+            keeps_while_holding: options.cache > 0 && options.keep_while_holding,
             bell: Bell::new(),
             listeners: Listeners::default(),
         };

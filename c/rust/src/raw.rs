@@ -22,7 +22,7 @@ impl Handle {
     };
 }
 
-/// A `struct tags_options`.
+/// The options as the library takes them: a `struct tags_options` without its cache, which is an argument.
 #[repr(C)]
 pub struct RawOptions {
     pub total: u32,
@@ -68,11 +68,17 @@ pub struct Timespec {
 pub const CLOCK_MONOTONIC: i32 = 1;
 
 pub const MAX_TOTAL: u32 = 10_240;
+pub const MAX_CACHE: u32 = 64;
 pub const ROUND_ROBIN: u32 = 1;
 pub const STAY: u32 = 1;
 
 unsafe extern "C" {
-    pub fn tags_library_open(pool: *mut Handle, options: *const RawOptions) -> i32;
+    pub fn tags_library_open_cached(
+        pool: *mut Handle,
+        options: *const RawOptions,
+        cache: u32,
+        keeping: u32,
+    ) -> i32;
     pub fn tags_library_join(pool: *mut Handle, hand: *mut Handle, flags: u32) -> i32;
     pub fn tags_library_leave(hand: *mut Handle) -> i32;
     pub fn tags_library_resize(pool: *mut Handle, total: u32) -> i32;
@@ -81,6 +87,7 @@ unsafe extern "C" {
     pub fn tags_library_get_reserved(hand: *mut Handle) -> i32;
     pub fn tags_library_get_shallow(hand: *mut Handle, depth: u32) -> i32;
     pub fn tags_library_get_batch(hand: *mut Handle, n: u32, won: *mut u64) -> i32;
+    pub fn tags_library_flush(hand: *mut Handle) -> i32;
     pub fn tags_library_read(hand: *mut Handle, tag: u32, value: *mut u64) -> i32;
     pub fn tags_library_write(hand: *mut Handle, tag: u32, value: u64, former: *mut u64) -> i32;
     pub fn tags_library_post(hand: *mut Handle, tag: u32) -> i32;
@@ -97,6 +104,7 @@ unsafe extern "C" {
         end: *const Timespec,
     ) -> i32;
     pub fn tags_give(hand: *mut Handle, bell: *mut Bell, tag: u32) -> i32;
+    pub fn tags_ring(bell: *mut Bell, woken: i32) -> i32;
     pub fn tags_give_run(hand: *mut Handle, bell: *mut Bell, first: u32, mask: u64) -> i32;
     fn clock_gettime(clock: i32, now: *mut Timespec) -> i32;
     pub fn tags_library_prepare(hand: *mut Handle) -> i32;

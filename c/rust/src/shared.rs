@@ -154,6 +154,12 @@ impl<T> SharedHand<T> {
         Ok(self.own(number))
     }
 
+    /// Gives all kept tags back, and wakes whoever waits for one, as [`Hand::flush`] does.
+    pub fn flush(&self) {
+        self.lend(Hand::give_kept);
+        self.listeners().tell(self.shared().besides);
+    }
+
     /// Reports which tags are busy, as [`Hand::busy`] does.
     pub fn busy(&self, into: &mut [u64]) -> Result<u32> {
         self.lend(|hand| hand.busy(into))

@@ -7,7 +7,7 @@ use Rattle.tag_model.specs.declared.totals.Totals.{Totals}
 use Rattle.loop_device.specs.declared.io.Io.{Io}
 use Rattle.loop_device.specs.declared.io.Done.{Done}
 use Rattle.loop_device.specs.declared.fault.PlayFault.{PlayFault}
-use Rattle.loop_device.specs.declared.fault.PlayFault.TheVariants.{Memory, Setup, Lost, Twice, Stranger}
+use Rattle.loop_device.specs.declared.fault.PlayFault.TheVariants.{Memory, Setup, Lost, Twice, Spurious}
 use Rattle.loop_device.specs.declared.report.Report.{Report}
 use Rattle.loop_device.specs.declared.workers.Faults.{Faults}
 use Rattle.loop_device.specs.Requests.{IsLineOf}
@@ -21,7 +21,7 @@ passed_on ios done totals faults Memory clean tells = tt
 passed_on ios done totals faults Setup clean tells = tells
 passed_on ios done totals faults (Lost line) clean tells = (clean, tells)
 passed_on ios done totals faults (Twice line) clean tells = (clean, tells)
-passed_on ios done totals faults Stranger clean tells = record { memory = clean.memory; cause = inr (inl tells) }
+passed_on ios done totals faults Spurious clean tells = record { memory = clean.memory; cause = inr (inl tells) }
 
 -- a number that is among those of the lines is the number of one
 line_among : (ios : List Io) (k line : ℕ) → k < length ios → get_or (map (λ (io : Io). io.line) ios) k line ≡ line
@@ -42,7 +42,7 @@ names_line ios done totals faults Memory is = tt
 names_line ios done totals faults Setup is = tt
 names_line ios done totals faults (Lost line) is = named ios line is.1.among
 names_line ios done totals faults (Twice line) is = named ios line is.1.among
-names_line ios done totals faults Stranger is = tt
+names_line ios done totals faults Spurious is = tt
 
 pub names_lines : (ios : List Io) (done : List Done) (totals : Totals) (faults : Faults) (r : Result Report PlayFault)
     → IfErr r (IsJudged ios done totals faults) → IfErr r (NamesLine ios)

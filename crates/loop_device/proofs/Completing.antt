@@ -1,7 +1,7 @@
 -- A tag that is taken, read and cleared leaves the hand's tags as they were.
 use Rattle.std.proofs.Common.{◌≡◌, ℕ, ◌≤◌, ◌↔◌, inl, inr, ⊎_elim, List, Result, Ok, Err, IfOk, IfErr, refl, sym, ap, ◌∙◌, subst, arith}
-use Rattle.tag_queue.specs.declared.fault.TagFault.{TagFault}
-use Rattle.tag_queue.specs.declared.fault.TagFault.TheVariants.{NoSuchTag, NotPosted}
+use Rattle.tag_sets.specs.declared.fault.TagFault.{TagFault}
+use Rattle.tag_sets.specs.declared.fault.TagFault.TheVariants.{NoSuchTag, NotPosted}
 use Rattle.tag_sets.specs.declared.hand.Hand.{Hand}
 use Rattle.tag_sets.specs.declared.tags.Tags.{Tags}
 use Rattle.tag_sets.specs.Hands.{total_of}
@@ -9,7 +9,7 @@ use Rattle.tag_sets.specs.Holding.{HoldsSame}
 use Rattle.tag_sets.specs.Slots.{Takes, Misses, RefusesTake}
 use Rattle.loop_device.specs.declared.io.Io.{Io}
 use Rattle.loop_device.specs.declared.fault.PlayFault.{PlayFault}
-use Rattle.loop_device.specs.declared.fault.PlayFault.TheVariants.{Stranger}
+use Rattle.loop_device.specs.declared.fault.PlayFault.TheVariants.{Spurious}
 use Rattle.loop_device.specs.Requests.{EndsRequest, EndsWithout, Completes, IsRequestFault}
 
 module _ (tags : Tags ℕ) (tag : ℕ) (old taken new : Hand ℕ) (takes : Takes tag old taken) where
@@ -59,7 +59,7 @@ module _ (tags : Tags ℕ) (tag : ℕ) (old new : Hand ℕ) where
   -- a refused take tells which of the two it was
   pub told_back : {A : Type 0} (ios : List Io) (r : Result A TagFault) (fault : TagFault) → r ≡ Err fault
       → (r ≡ Err NoSuchTag) ↔ (total_of tags ≤ tag) → RefusesTake tag fault old new
-      → IsRequestFault tags ios tag Stranger old new
+      → IsRequestFault tags ios tag Spurious old new
   told_back ios r fault is known refuses = inl (
     refl,
     ⊎_elim (λ (no : (fault ≡ NoSuchTag) × (new ≡ old)). inl (known.0 (is ∙ ap Err no.0), no.1))

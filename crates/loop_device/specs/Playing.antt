@@ -4,7 +4,7 @@ use Rattle.std.specs.declared.thread.PromisedHandle.{PromisedHandle}
 use Rattle.tag_model.specs.declared.totals.Totals.{Totals}
 use Rattle.tag_sets.specs.declared.tags.Tags.{Tags}
 use Rattle.loop_device.specs.declared.fault.PlayFault.{PlayFault}
-use Rattle.loop_device.specs.declared.fault.PlayFault.TheVariants.{Memory, Setup, Lost, Twice, Stranger}
+use Rattle.loop_device.specs.declared.fault.PlayFault.TheVariants.{Memory, Setup, Lost, Twice, Spurious}
 use Rattle.loop_device.specs.declared.io.Done.{Done}
 use Rattle.loop_device.specs.declared.io.Io.{Io}
 use Rattle.loop_device.specs.declared.report.Report.{Report}
@@ -28,20 +28,20 @@ pub record IsPlayed (ios : List Io) (report : Report) : Type 0 where
 -- no thread ran into a fault that the history does not show
 pub record IsClean (faults : Faults) : Type 0 where
   pub memory : faults.memory ≡ false
-  pub stranger : faults.stranger ≡ false
+  pub spurious : faults.spurious ≡ false
 
--- no thread ran out of memory, and one met a stranger, the items are not all of the log, or the totals do not fit it
-pub record IsStranger (ios : List Io) (done : List Done) (totals : Totals) (faults : Faults) : Type 0 where
+-- no thread ran out of memory, and one met a spurious completion, the items are not all of the log, or the totals do not fit it
+pub record IsSpurious (ios : List Io) (done : List Done) (totals : Totals) (faults : Faults) : Type 0 where
   pub memory : faults.memory ≡ false
-  pub cause : (faults.stranger ≡ true) ⊎ (¬ (AreOfLog ios done)) ⊎ (CarriesEachOnce ios done × (totals ≢ totals_of ios))
+  pub cause : (faults.spurious ≡ true) ⊎ (¬ (AreOfLog ios done)) ⊎ (CarriesEachOnce ios done × (totals ≢ totals_of ios))
 
--- what the fault says of the play: of several faults the first in the order Memory, Stranger, Twice, Lost
+-- what the fault says of the play: of several faults the first in the order Memory, Spurious, Twice, Lost
 abbrev pub IsJudged : List Io → List Done → Totals → Faults → PlayFault → Type 0
 IsJudged ios done totals faults Memory = Unit {0}
 IsJudged ios done totals faults Setup = ⊥
 IsJudged ios done totals faults (Lost line) = IsClean faults × IsLost ios done line
 IsJudged ios done totals faults (Twice line) = IsClean faults × IsTwice ios done line
-IsJudged ios done totals faults Stranger = IsStranger ios done totals faults
+IsJudged ios done totals faults Spurious = IsSpurious ios done totals faults
 
 -- a line that the fault names is an I/O line of the log
 abbrev pub NamesLine : List Io → PlayFault → Type 0
@@ -49,7 +49,7 @@ NamesLine ios Memory = Unit {0}
 NamesLine ios Setup = Unit {0}
 NamesLine ios (Lost line) = IsLineOf ios line
 NamesLine ios (Twice line) = IsLineOf ios line
-NamesLine ios Stranger = Unit {0}
+NamesLine ios Spurious = Unit {0}
 
 -- the thread of this handle returns a hand of these tags
 abbrev pub Promises : Tags ℕ → PromisedHandle Worked HandsBack → Type 0

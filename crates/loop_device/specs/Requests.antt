@@ -8,7 +8,7 @@ use Rattle.tag_sets.specs.Slots.{Reads, Takes, Misses}
 use Rattle.tag_sets.specs.Clears.{Clears}
 use Rattle.loop_device.specs.declared.io.Io.{Io}
 use Rattle.loop_device.specs.declared.fault.PlayFault.{PlayFault}
-use Rattle.loop_device.specs.declared.fault.PlayFault.TheVariants.{Memory, Setup, Lost, Twice, Stranger}
+use Rattle.loop_device.specs.declared.fault.PlayFault.TheVariants.{Memory, Setup, Lost, Twice, Spurious}
 
 -- some I/O line of the log has this number
 abbrev pub IsLineOf : List Io → ℕ → Type 0
@@ -33,7 +33,7 @@ IsCarryFault ios line Memory = IsLineOf ios line
 IsCarryFault ios line Setup = ⊥
 IsCarryFault ios line (Lost other) = ⊥
 IsCarryFault ios line (Twice other) = ⊥
-IsCarryFault ios line Stranger = ¬ (IsLineOf ios line)
+IsCarryFault ios line Spurious = ¬ (IsLineOf ios line)
 
 -- the line in the slot was not carried out, and the tag was read and cleared all the same
 pub record EndsWithout (tags : Tags ℕ) (ios : List Io) (tag : ℕ) (fault : PlayFault) (old new : Hand ℕ) : Type 0 where
@@ -55,4 +55,4 @@ IsNotPosted tags tag old new = ((total_of tags ≤ tag) × (new ≡ old)) ⊎ ((
 -- what a fault of `complete` means, and what it leaves behind
 abbrev pub IsRequestFault : Tags ℕ → List Io → ℕ → PlayFault → Hand ℕ → Hand ℕ → Type 0
 IsRequestFault tags ios tag fault old new =
-    ((fault ≡ Stranger) × IsNotPosted tags tag old new) ⊎ CompletesWithout tags ios tag fault old new
+    ((fault ≡ Spurious) × IsNotPosted tags tag old new) ⊎ CompletesWithout tags ios tag fault old new

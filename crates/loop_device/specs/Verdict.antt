@@ -4,7 +4,7 @@ use Rattle.std.specs.List.{All, Contains, count_by}
 use Rattle.loop_device.specs.declared.io.Io.{Io}
 use Rattle.loop_device.specs.declared.io.Done.{Done}
 use Rattle.loop_device.specs.declared.fault.PlayFault.{PlayFault}
-use Rattle.loop_device.specs.declared.fault.PlayFault.TheVariants.{Memory, Setup, Lost, Twice, Stranger}
+use Rattle.loop_device.specs.declared.fault.PlayFault.TheVariants.{Memory, Setup, Lost, Twice, Spurious}
 
 -- each item that was carried out is an I/O line of the log
 abbrev pub AreOfLog : List Io → List Done → Type 0
@@ -40,4 +40,4 @@ IsPlayFault ios done Memory = Unit {0}
 IsPlayFault ios done Setup = ⊥
 IsPlayFault ios done (Lost line) = IsLost ios done line
 IsPlayFault ios done (Twice line) = IsTwice ios done line
-IsPlayFault ios done Stranger = ¬ (AreOfLog ios done)
+IsPlayFault ios done Spurious = ¬ (AreOfLog ios done)

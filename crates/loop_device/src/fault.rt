@@ -54,8 +54,8 @@ pub struct LogFault {
     pub cause: LogCause,
 }
 
-/// Why a log was not played. Of several causes the first is reported, in the order Memory, Stranger, Twice, Lost;
-/// totals that do not fit the log (Stranger) come last.
+/// Why a log was not played. Of several causes the first is reported, in the order Memory, Spurious, Twice, Lost;
+/// totals that do not fit the log (Spurious) come last.
 #[derive(Clone, Copy, Debug, PartialEq, Eq, Error)]
 pub enum PlayFault {
     /// Memory ran out, or a thread could not be started.
@@ -70,7 +70,8 @@ pub enum PlayFault {
     /// This line was carried out more than once; it is the least such line.
     #[error("line {0} was carried out more than once")]
     Twice(u64),
-    /// A line that is not in the log, a tag that was handed on but is not posted, or totals that do not fit the log.
+    /// A spurious completion: of a line that is not in the log, or of a tag that was handed on but is not posted. Also
+    /// totals that do not fit the log.
     #[error("a line was carried out that is not in the log")]
-    Stranger,
+    Spurious,
 }

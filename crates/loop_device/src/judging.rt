@@ -9,7 +9,7 @@ use crate::io::{Done, Io, Log};
 use std::alloc::Global;
 
 /// Whether the items carry out each I/O line of the log once, and no other line. Of several faults the first in the
-/// order Memory, Stranger, Twice, Lost is reported. Takes `n log n` steps, and memory for one number per I/O line.
+/// order Memory, Spurious, Twice, Lost is reported. Takes `n log n` steps, and memory for one number per I/O line.
 pub fn verdict(alloc: Global, log: &Log, done: &[Done]) -> Result<(), PlayFault>
     ensures ok { OnOk result (CarriesEachOnce log.now.ios.items done.now) }
     ensures fault { IfErr result (IsPlayFault log.now.ios.items done.now) }
@@ -55,7 +55,7 @@ fn tally(alloc: Global, ios: &[Io], done: &[Done]) -> Result<Vec<usize>, PlayFau
     for item in done {
         match index_of(ios, &item.io) {
             Some(index) => counts[index] += 1,
-            None => return Err(PlayFault::Stranger),
+            None => return Err(PlayFault::Spurious),
         }
     }
     Ok(counts)

@@ -15,7 +15,7 @@ use crate::report::Report;
 use crate::setup::Setup;
 use crate::store::Store;
 use crate::threads::carry_by_threads;
-use crate::workers::{Faults, Shared};
+use crate::workers::{Faults, PlayContext};
 use crossbeam_queue::Pass;
 use std::alloc::{AllocError, Global};
 use std::marker::Brand;
@@ -27,8 +27,8 @@ use tag_model::Totals;
 use tag_sets::{Hand, Options, Tags};
 
 /// Carries out each I/O line of the log once, in threads that share tags, and joins them all. `Setup` is reported
-/// before anything runs, and of several other faults the first in the order Memory, Stranger, Twice, Lost. Memory also
-/// means that a thread could not be started; Stranger also means (checked last) that the totals are not one tag got
+/// before anything runs, and of several other faults the first in the order Memory, Spurious, Twice, Lost. Memory also
+/// means that a thread could not be started; Spurious also means (checked last) that the totals are not one tag got
 /// and given back for each line.
 pub fn play<G: Gate, R: Threads + Wait + Sync>(
     rt: &R,
@@ -79,7 +79,7 @@ fn play_under<B: Tagged + Send + Sync, G: Gate, R: Threads + Wait + Sync>(
     let store = Mutex::new(Store::open(alloc));
     let stopped = AtomicBool::new(false);
     let closed = AtomicBool::new(false);
-    let shared = Shared {
+    let context = PlayContext {
         log,
         gate,
         tags: &tags,
@@ -88,7 +88,7 @@ fn play_under<B: Tagged + Send + Sync, G: Gate, R: Threads + Wait + Sync>(
         stopped: &stopped,
         closed: &closed,
     };
-    let carried = carry_in_scope(rt, alloc, &shared, hands, pass, setup.completers as usize);
+    let carried = carry_in_scope(rt, alloc, &context, hands, pass, setup.completers as usize);
     let Ok((hands, faults)) = carried else {
         return Err(PlayFault::Memory);
     };
@@ -104,18 +104,18 @@ fn play_under<B: Tagged + Send + Sync, G: Gate, R: Threads + Wait + Sync>(
 fn carry_in_scope<B: Tagged + Send + Sync, G: Gate, R: Threads + Wait + Sync>(
     rt: &R,
     alloc: Global,
-    shared: &Shared<'_, B, G>,
+    context: &PlayContext<'_, B, G>,
     hands: Vec<Hand<u64>>,
     pass: Pass<u32, Worker>,
     wanted: usize,
 ) -> Result<(Vec<Hand<u64>>, Faults), AllocError>
-    requires hands { All (IsHandOf shared.now.tags.now) hands.items }
-    requires pass { IsPassOf shared.now.queue.now pass }
-    requires total { total_of shared.now.tags.now ≡ B.total }
+    requires hands { All (IsHandOf context.now.tags.now) hands.items }
+    requires pass { IsPassOf context.now.queue.now pass }
+    requires total { total_of context.now.tags.now ≡ B.total }
     requires wanted { wanted < length hands.items }
-    ensures { IfOk result (λ back. All (IsHandOf shared.now.tags.now) back.0.items) }
+    ensures { IfOk result (λ back. All (IsHandOf context.now.tags.now) back.0.items) }
 {
-    let Shared {
+    let PlayContext {
         log,
         gate,
         tags,
@@ -123,7 +123,7 @@ fn carry_in_scope<B: Tagged + Send + Sync, G: Gate, R: Threads + Wait + Sync>(
         store,
         stopped,
         closed,
-    } = *shared;
+    } = *context;
     thread::scope(
         thread::scope_env(),
         rt,
@@ -132,7 +132,7 @@ fn carry_in_scope<B: Tagged + Send + Sync, G: Gate, R: Threads + Wait + Sync>(
                 × (wanted < length hands.items) }
             ensures { IfOk result (λ back. All (IsHandOf tags.entry.now) back.0.items) }
         {
-            let shared = Shared {
+            let context = PlayContext {
                 log,
                 gate,
                 tags,
@@ -141,7 +141,7 @@ fn carry_in_scope<B: Tagged + Send + Sync, G: Gate, R: Threads + Wait + Sync>(
                 stopped,
                 closed,
             };
-            carry_by_threads(scope, rt, alloc, &shared, hands, pass, wanted)
+            carry_by_threads(scope, rt, alloc, &context, hands, pass, wanted)
         },
     )
 }
@@ -164,8 +164,8 @@ fn judge(
     if faults.memory || judged == Err(PlayFault::Memory) {
         return Err(PlayFault::Memory);
     }
-    if faults.stranger {
-        return Err(PlayFault::Stranger);
+    if faults.spurious {
+        return Err(PlayFault::Spurious);
     }
     match judged {
         Ok(()) => {}
@@ -179,7 +179,7 @@ fn judge(
         posted: 0,
     };
     if totals != played {
-        return Err(PlayFault::Stranger);
+        return Err(PlayFault::Spurious);
     }
     Ok(Report { totals, done })
 }

@@ -15,7 +15,7 @@ use std::sync::{Mutex, Wait};
 use tag_sets::{Hand, Tags};
 
 /// Completes the request of a posted tag: takes the tag, carries out the line in its slot, clears the tag and returns
-/// the line. `Stranger` means that there is no such tag, that it was found not posted (a step in the hand's list), or
+/// the line. `Spurious` means that there is no such tag, that it was found not posted (a step in the hand's list), or
 /// that the log has no I/O line with the number in its slot; `Memory` means that the store had no memory for the line.
 /// A tag that was taken is cleared whatever became of its line. No clause says what the store holds.
 pub fn complete<G: Gate, W: Wait>(
@@ -35,7 +35,7 @@ pub fn complete<G: Gate, W: Wait>(
     ensures fault { IfErr result (λ fault. IsRequestFault tags.now log.now.ios.items tag fault hand.old hand.new) }
 {
     let Ok(()) = tags.take(hand, tag) else {
-        return Err(PlayFault::Stranger);
+        return Err(PlayFault::Spurious);
     };
     finish(rt, tags, hand, tag, log, store, gate)
 }
@@ -82,7 +82,7 @@ fn carry_out<G: Gate, W: Wait>(
     ensures fault { IfErr result (IsCarryFault log.now.ios.items line) }
 {
     let Some(io) = line_of(&log.ios, line) else {
-        return Err(PlayFault::Stranger);
+        return Err(PlayFault::Spurious);
     };
     gate.before_complete(line);
     let mut store = store.lock(rt);

@@ -6,7 +6,7 @@ ghost use Rattle.loop_device.specs.Playing.{Promises};
 
 use crate::device_queue::{Completer, DeviceQueue, Submitter, Tagged, Worker};
 use crate::gate::Gate;
-use crate::workers::{Faults, Shared, Worked, complete_all, submit_all};
+use crate::workers::{Faults, PlayContext, Worked, complete_all, submit_all};
 use crossbeam_queue::Pass;
 use std::alloc::{AllocError, Global};
 use std::sync::Wait;
@@ -32,16 +32,16 @@ pub(crate) fn carry_by_threads<'s, E, B: Tagged + Send + Sync, G: Gate, R: Threa
     scope: &Scope<'s, E>,
     rt: &'s R,
     alloc: Global,
-    shared: &Shared<'s, B, G>,
+    context: &PlayContext<'s, B, G>,
     hands: Vec<Hand<u64>>,
     mut pass: Pass<u32, Worker>,
     wanted: usize,
 ) -> Result<(Vec<Hand<u64>>, Faults), AllocError>
-    requires hands { All (IsHandOf shared.now.tags.now) hands.items }
-    requires pass { IsPassOf shared.now.queue.now pass }
-    requires total { total_of shared.now.tags.now ≡ B.total }
+    requires hands { All (IsHandOf context.now.tags.now) hands.items }
+    requires pass { IsPassOf context.now.queue.now pass }
+    requires total { total_of context.now.tags.now ≡ B.total }
     requires wanted { wanted < vec_len hands }
-    ensures { IfOk result (λ back. All (IsHandOf shared.now.tags.now) back.0.items) }
+    ensures { IfOk result (λ back. All (IsHandOf context.now.tags.now) back.0.items) }
 {
     let count = hands.len();
     let mut completers = Vec::with_capacity(alloc, count)?;
@@ -51,7 +51,7 @@ pub(crate) fn carry_by_threads<'s, E, B: Tagged + Send + Sync, G: Gate, R: Threa
     if !start_all(
         scope,
         rt,
-        shared,
+        context,
         hands,
         pass,
         wanted,
@@ -59,11 +59,11 @@ pub(crate) fn carry_by_threads<'s, E, B: Tagged + Send + Sync, G: Gate, R: Threa
         &mut submitters,
     ) {
         faults.memory = true;
-        shared.stopped.store(true, SeqCst);
+        context.stopped.store(true, SeqCst);
     }
-    join_all(rt, shared.tags, submitters, &mut back, &mut faults);
-    shared.closed.store(true, SeqCst);
-    join_all(rt, shared.tags, completers, &mut back, &mut faults);
+    join_all(rt, context.tags, submitters, &mut back, &mut faults);
+    context.closed.store(true, SeqCst);
+    join_all(rt, context.tags, completers, &mut back, &mut faults);
     Ok((back, faults))
 }
 
@@ -71,30 +71,30 @@ pub(crate) fn carry_by_threads<'s, E, B: Tagged + Send + Sync, G: Gate, R: Threa
 fn start_all<'s, E, B: Tagged + Send + Sync, G: Gate, R: Wait + Sync>(
     scope: &Scope<'s, E>,
     rt: &'s R,
-    shared: &Shared<'s, B, G>,
+    context: &PlayContext<'s, B, G>,
     hands: Vec<Hand<u64>>,
     mut pass: Pass<u32, Worker>,
     wanted: usize,
     completers: &mut Vec<Handle<'s>>,
     submitters: &mut Vec<Handle<'s>>,
 ) -> bool
-    requires hands { All (IsHandOf shared.now.tags.now) hands.items }
-    requires pass { IsPassOf shared.now.queue.now pass }
-    requires total { total_of shared.now.tags.now ≡ B.total }
+    requires hands { All (IsHandOf context.now.tags.now) hands.items }
+    requires pass { IsPassOf context.now.queue.now pass }
+    requires total { total_of context.now.tags.now ≡ B.total }
     requires wanted { wanted < vec_len hands }
     requires none { (completers.old.items ≡ []) × (submitters.old.items ≡ []) }
     requires room { (vec_len hands ≤ vec_capacity completers.old) × (vec_len hands ≤ vec_capacity submitters.old) }
-    ensures completers { All (Promises shared.now.tags.now) completers.new.items }
-    ensures submitters { All (Promises shared.now.tags.now) submitters.new.items }
+    ensures completers { All (Promises context.now.tags.now) completers.new.items }
+    ensures submitters { All (Promises context.now.tags.now) submitters.new.items }
     ensures len { vec_len completers.new + vec_len submitters.new ≤ vec_len hands }
 {
     let count = hands.len();
     for hand in hands {
         let started = if completers.len() < wanted {
-            start(scope, rt, shared, hand, &mut pass, completers, None)
+            start(scope, rt, context, hand, &mut pass, completers, None)
         } else {
             let count = Some(count - wanted);
-            start(scope, rt, shared, hand, &mut pass, submitters, count)
+            start(scope, rt, context, hand, &mut pass, submitters, count)
         };
         if !started {
             return false;
@@ -125,26 +125,26 @@ fn pass_for<B: Tagged>(
 fn start<'s, E, B: Tagged + Send + Sync, G: Gate, R: Wait + Sync>(
     scope: &Scope<'s, E>,
     rt: &'s R,
-    shared: &Shared<'s, B, G>,
+    context: &PlayContext<'s, B, G>,
     hand: Hand<u64>,
     pass: &mut Pass<u32, Worker>,
     handles: &mut Vec<Handle<'s>>,
     submitters: Option<usize>,
 ) -> bool
-    requires hand { IsHandOf shared.now.tags.now hand }
-    requires pass { IsPassOf shared.now.queue.now pass.old }
-    requires total { total_of shared.now.tags.now ≡ B.total }
+    requires hand { IsHandOf context.now.tags.now hand }
+    requires pass { IsPassOf context.now.queue.now pass.old }
+    requires total { total_of context.now.tags.now ≡ B.total }
     requires submitters { IfSome submitters (λ count. 0 < count) }
-    requires handles { All (Promises shared.now.tags.now) handles.old.items }
+    requires handles { All (Promises context.now.tags.now) handles.old.items }
     requires room { vec_len handles.old < vec_capacity handles.old }
-    ensures pass { IsPassOf shared.now.queue.now pass.new }
-    ensures handles { All (Promises shared.now.tags.now) handles.new.items }
+    ensures pass { IsPassOf context.now.queue.now pass.new }
+    ensures handles { All (Promises context.now.tags.now) handles.new.items }
     ensures len { vec_len handles.new ≤ vec_len handles.old + 1 }
     ensures capacity { vec_capacity handles.new ≡ vec_capacity handles.old }
 {
-    let mine = pass_for(shared.queue, pass, submitters.is_some());
+    let mine = pass_for(context.queue, pass, submitters.is_some());
     let number = handles.len();
-    let Shared {
+    let PlayContext {
         log,
         gate,
         tags,
@@ -152,7 +152,7 @@ fn start<'s, E, B: Tagged + Send + Sync, G: Gate, R: Wait + Sync>(
         store,
         stopped,
         closed,
-    } = *shared;
+    } = *context;
     let started = scope.spawn_with(
         HandsBack(tags),
         move || -> Worked
@@ -160,7 +160,7 @@ fn start<'s, E, B: Tagged + Send + Sync, G: Gate, R: Wait + Sync>(
                 × IfSome submitters (λ count. ((view mine).submits ≡ true) × (0 < count)) }
             ensures { IsHandOf tags.entry.now result.hand }
         {
-            let shared = Shared {
+            let context = PlayContext {
                 log,
                 gate,
                 tags,
@@ -170,8 +170,8 @@ fn start<'s, E, B: Tagged + Send + Sync, G: Gate, R: Wait + Sync>(
                 closed,
             };
             match submitters {
-                Some(count) => submit_all(rt, &shared, hand, mine, number, count),
-                None => complete_all(rt, &shared, hand, mine).0,
+                Some(count) => submit_all(rt, &context, hand, mine, number, count),
+                None => complete_all(rt, &context, hand, mine).0,
             }
         },
     );

@@ -20,7 +20,7 @@ use tag_sets::{Hand, TagFault, Tags};
 
 /// What the threads of a play share.
 #[derive(Drop)]
-pub(crate) struct Shared<'a, B: Tagged, G> {
+pub(crate) struct PlayContext<'a, B: Tagged, G> {
     pub(crate) log: &'a Log,
     pub(crate) gate: &'a G,
     pub(crate) tags: &'a Tags<u64>,
@@ -38,7 +38,7 @@ pub(crate) struct Faults {
     /// Memory ran out for a line, or a thread could not be started.
     pub(crate) memory: bool,
     /// A tag was handed on that is not posted or has no I/O line in its slot.
-    pub(crate) stranger: bool,
+    pub(crate) spurious: bool,
 }
 
 impl Faults {
@@ -48,27 +48,27 @@ impl Faults {
     {
         Faults {
             memory: false,
-            stranger: false,
+            spurious: false,
         }
     }
 
     /// Adds the faults of another thread.
     pub(crate) fn add(&mut self, other: Faults)
         ensures memory { IsTrue self.new.memory ↔ IsTrue self.old.memory ⊎ IsTrue other.memory }
-        ensures stranger { IsTrue self.new.stranger ↔ IsTrue self.old.stranger ⊎ IsTrue other.stranger }
+        ensures spurious { IsTrue self.new.spurious ↔ IsTrue self.old.spurious ⊎ IsTrue other.spurious }
     {
         self.memory |= other.memory;
-        self.stranger |= other.stranger;
+        self.spurious |= other.spurious;
     }
 
     /// Notes what became of one line. A line that was not submitted is missing from the history.
     fn note(&mut self, done: Result<u64, PlayFault>)
         ensures memory { IsTrue self.new.memory ↔ IsTrue self.old.memory ⊎ (done ≡ Err PlayFault.Memory) }
-        ensures stranger { IsTrue self.new.stranger ↔ IsTrue self.old.stranger ⊎ (done ≡ Err PlayFault.Stranger) }
+        ensures spurious { IsTrue self.new.spurious ↔ IsTrue self.old.spurious ⊎ (done ≡ Err PlayFault.Spurious) }
     {
         match done {
             Err(PlayFault::Memory) => self.memory = true,
-            Err(PlayFault::Stranger) => self.stranger = true,
+            Err(PlayFault::Spurious) => self.spurious = true,
             _ => {}
         }
     }
@@ -84,31 +84,31 @@ pub(crate) struct Worked {
 /// Completes what comes through the queue, until a pop finds nothing after the flag was read set.
 pub(crate) fn complete_all<B: Tagged, G: Gate, W: Wait>(
     rt: &W,
-    shared: &Shared<'_, B, G>,
+    context: &PlayContext<'_, B, G>,
     mut hand: Hand<u64>,
     mut pass: Pass<u32, Worker>,
 ) -> (Worked, Drained, Pass<u32, Worker>)
-    requires hand { IsHandOf shared.now.tags.now hand }
-    requires pass { IsPassOf shared.now.queue.now pass }
-    ensures hand { IsHandOf shared.now.tags.now result.0.hand }
-    ensures completed { CompletesPopped shared.now.tags.now shared.now.log.now.ios.items
+    requires hand { IsHandOf context.now.tags.now hand }
+    requires pass { IsPassOf context.now.queue.now pass }
+    ensures hand { IsHandOf context.now.tags.now result.0.hand }
+    ensures completed { CompletesPopped context.now.tags.now context.now.log.now.ios.items
         (view pass) (view result.2) hand result.0.hand }
     ensures drained { result.1.closing.seen ≡ true }
 {
     let mut faults = Faults::none();
     for _ in rt.forever() {
         // The flag is read first, so that the pop finds what was pushed before it was set.
-        let closing = Closing::read(shared.closed);
-        match pop(rt, shared.queue, &mut pass, closing) {
+        let closing = Closing::read(context.closed);
+        match pop(rt, context.queue, &mut pass, closing) {
             Popped::Tag(tag) => {
                 let done = complete(
                     rt,
-                    shared.tags,
+                    context.tags,
                     &mut hand,
                     tag,
-                    shared.log,
-                    shared.store,
-                    shared.gate,
+                    context.log,
+                    context.store,
+                    context.gate,
                 );
                 faults.note(done);
             }
@@ -123,28 +123,28 @@ pub(crate) fn complete_all<B: Tagged, G: Gate, W: Wait>(
 /// `submitters` threads, counted from 0, has every `submitters`-th line, starting with the line at index `number`.
 pub(crate) fn submit_all<B: Tagged, G: Gate, W: Wait>(
     rt: &W,
-    shared: &Shared<'_, B, G>,
+    context: &PlayContext<'_, B, G>,
     mut hand: Hand<u64>,
     mut pass: Pass<u32, Worker>,
     number: usize,
     submitters: usize,
 ) -> Worked
-    requires hand { IsHandOf shared.now.tags.now hand }
-    requires pass { IsPassOf shared.now.queue.now pass }
+    requires hand { IsHandOf context.now.tags.now hand }
+    requires pass { IsPassOf context.now.queue.now pass }
     requires submitter { (view pass).submits ≡ true }
-    requires total { total_of shared.now.tags.now ≡ B.total }
+    requires total { total_of context.now.tags.now ≡ B.total }
     requires submitters { 0 < submitters }
-    ensures { IsHandOf shared.now.tags.now result.hand }
+    ensures { IsHandOf context.now.tags.now result.hand }
 {
     let mut faults = Faults::none();
-    for (index, io) in shared.log.ios.iter().enumerate() {
+    for (index, io) in context.log.ios.iter().enumerate() {
         if index % submitters != number {
             continue;
         }
-        if shared.stopped.load(SeqCst) {
+        if context.stopped.load(SeqCst) {
             break;
         }
-        let done = submit(rt, shared, &mut hand, &mut pass, io.line);
+        let done = submit(rt, context, &mut hand, &mut pass, io.line);
         faults.note(done);
     }
     Worked { hand, faults }
@@ -153,39 +153,39 @@ pub(crate) fn submit_all<B: Tagged, G: Gate, W: Wait>(
 /// Passes one line on to the completers, or completes it if the queue is full.
 fn submit<B: Tagged, G: Gate, W: Wait>(
     rt: &W,
-    shared: &Shared<'_, B, G>,
+    context: &PlayContext<'_, B, G>,
     hand: &mut Hand<u64>,
     pass: &mut Pass<u32, Worker>,
     line: u64,
 ) -> Result<u64, PlayFault>
-    requires hand { IsHandOf shared.now.tags.now hand.old }
-    requires pass { IsPassOf shared.now.queue.now pass.old }
+    requires hand { IsHandOf context.now.tags.now hand.old }
+    requires pass { IsPassOf context.now.queue.now pass.old }
     requires submitter { (view pass.old).submits ≡ true }
-    requires total { total_of shared.now.tags.now ≡ B.total }
-    ensures hand { IsHandOf shared.now.tags.now hand.new }
-    ensures pass { IsPassOf shared.now.queue.now pass.new }
+    requires total { total_of context.now.tags.now ≡ B.total }
+    ensures hand { IsHandOf context.now.tags.now hand.new }
+    ensures pass { IsPassOf context.now.queue.now pass.new }
     ensures submitter { (view pass.new).submits ≡ true }
 {
-    let Ok(tag) = post_line(rt, shared.tags, hand, line) else {
+    let Ok(tag) = post_line(rt, context.tags, hand, line) else {
         return Err(PlayFault::Lost(line));
     };
-    let Err(tag) = push(rt, shared.queue, pass, tag) else {
-        shared.gate.after_submit(line);
+    let Err(tag) = push(rt, context.queue, pass, tag) else {
+        context.gate.after_submit(line);
         return Ok(line);
     };
-    let taken = shared.tags.take(hand, tag);
-    shared.gate.after_submit(line);
+    let taken = context.tags.take(hand, tag);
+    context.gate.after_submit(line);
     let Ok(()) = taken else {
-        return Err(PlayFault::Stranger);
+        return Err(PlayFault::Spurious);
     };
     finish(
         rt,
-        shared.tags,
+        context.tags,
         hand,
         tag,
-        shared.log,
-        shared.store,
-        shared.gate,
+        context.log,
+        context.store,
+        context.gate,
     )
 }
 

@@ -1,3 +1,4 @@
 pub mod Bits
+pub mod Cached
 pub mod Gained
 pub mod Shifts

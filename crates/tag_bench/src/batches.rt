@@ -4,10 +4,10 @@ ghost use Rattle.std.specs.Int.{bit_at};
 ghost use Rattle.tag_layout.specs.Layout.{word_bits};
 ghost use Rattle.tag_core.specs.Callers.{layout_of, IsCallerOf, Holds};
 
+use crate::allocator::TagAllocator;
 use crate::jobs::{Job, Plan};
 use crate::measure::Failed;
 use crate::options::Options;
-use crate::tags::Tags;
 use crate::traffic::{plans, run_case};
 use std::thread::Threads;
 use std::time::{Clock, CpuClock};

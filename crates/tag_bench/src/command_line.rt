@@ -9,10 +9,10 @@ use std::alloc::{AllocError, Global};
 const BY_DEPTHS: &str = "Tags of the map [default: 64, 1024 and 10240 in turn]";
 
 /// The workloads of a queue, as the command line has them.
-const QUEUED: [&str; 5] = ["pair", "ring", "full", "pass", "waiters"];
+const QUEUED: [&str; 5] = ["pair", "ring", "full", "handoff", "waiters"];
 
-/// Those of tag sets.
-const DRIVEN: [&str; 4] = ["pair", "ring", "full", "pass"];
+/// Those of tag sets, and of caches.
+const DRIVEN: [&str; 4] = ["pair", "ring", "full", "handoff"];
 
 /// The command line that the program takes.
 pub(crate) fn command<'a>(alloc: Global) -> Result<Command<'a>, AllocError> {
@@ -43,6 +43,7 @@ fn subcommand<'a>(alloc: Global, workload: Workload) -> Result<Command<'a>, Allo
         Workload::Batch => batch(alloc),
         Workload::Queue(_) => queue(alloc),
         Workload::Sets(_) => sets(alloc),
+        Workload::Cache(_) => cache(alloc),
     }
 }
 
@@ -89,7 +90,7 @@ fn batch<'a>(alloc: Global) -> Result<Command<'a>, AllocError> {
 
 fn queue<'a>(alloc: Global) -> Result<Command<'a>, AllocError> {
     Command::new(alloc, "queue")
-        .about("pair, ring, full and pass over a queue, and gets that wait for a tag")
+        .about("pair, ring, full and handoff over a queue, and gets that wait for a tag")
         .arg(one_of(alloc, &QUEUED))?
         .arg(depth(
             alloc,
@@ -100,7 +101,15 @@ fn queue<'a>(alloc: Global) -> Result<Command<'a>, AllocError> {
 
 fn sets<'a>(alloc: Global) -> Result<Command<'a>, AllocError> {
     Command::new(alloc, "sets")
-        .about("pair, ring, full and pass over tag sets without reserved tags")
+        .about("pair, ring, full and handoff over tag sets without reserved tags")
+        .arg(one_of(alloc, &DRIVEN))?
+        .arg(depth(alloc, BY_DEPTHS))?
+        .arg(threads(alloc))
+}
+
+fn cache<'a>(alloc: Global) -> Result<Command<'a>, AllocError> {
+    Command::new(alloc, "cache")
+        .about("pair, ring, full and handoff over tag sets, where each thread keeps up to 8 tags")
         .arg(one_of(alloc, &DRIVEN))?
         .arg(depth(alloc, BY_DEPTHS))?
         .arg(threads(alloc))

@@ -1,15 +1,15 @@
 //! Threads at work on tags that they share.
 ghost use Rattle.std.specs.Prelude.{All};
 
+use crate::allocator::TagAllocator;
 use crate::measure::{Failed, RUNS, Run, Times, Watch};
-use crate::tags::Tags;
 use std::thread;
 use std::thread::Threads;
 use std::time::{Clock, CpuClock};
 use tag_search::Hint;
 
 /// What each thread does in a run.
-pub(crate) trait Job<T: Tags> {
+pub(crate) trait Job<T: TagAllocator> {
     /// The work of the thread at this index.
     fn work(&self, tags: &T, hand: &mut T::Hand, index: usize, plan: Plan)
         requires { T.is_own tags.now hand.old }
@@ -58,7 +58,7 @@ pub(crate) struct Outcome {
 /// Has a job done on new tags, several times.
 pub(crate) fn carry_out<
     R: AllocGlobal + Threads + Sync + Clock + CpuClock,
-    T: Tags + Sync,
+    T: TagAllocator + Sync,
     J: Job<T> + Sync,
 >(rt: &R, plan: Plan, job: &J) -> Result<Outcome, Failed>
 where
@@ -86,13 +86,13 @@ where
 #[derive(Drop)]
 struct Placing;
 
-impl<T: Tags> Job<T> for Placing {
+impl<T: TagAllocator> Job<T> for Placing {
     fn work(&self, tags: &T, hand: &mut T::Hand, _index: usize, _plan: Plan) {
         tags.place(hand);
     }
 }
 
-fn time_runs<R: Threads + Sync + Clock + CpuClock, T: Tags + Sync, J: Job<T> + Sync>(
+fn time_runs<R: Threads + Sync + Clock + CpuClock, T: TagAllocator + Sync, J: Job<T> + Sync>(
     rt: &R,
     tags: &T,
     hands: &mut Vec<T::Hand>,
@@ -114,7 +114,7 @@ where
 }
 
 /// All hands work, in as many threads at once as planned.
-fn work_all<R: Threads + Sync, T: Tags + Sync, J: Job<T> + Sync>(
+fn work_all<R: Threads + Sync, T: TagAllocator + Sync, J: Job<T> + Sync>(
     rt: &R,
     tags: &T,
     hands: &mut Vec<T::Hand>,

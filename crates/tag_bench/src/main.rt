@@ -4,6 +4,7 @@
 //! whatever the schedule. With `--measure` it prints nanoseconds per operation, the median of seven runs.
 #![tactic(auto)]
 
+mod allocator;
 mod batches;
 mod claims;
 mod command_line;
@@ -14,16 +15,17 @@ mod options;
 mod pipes;
 mod plain;
 mod rounds;
+mod shared_cache;
 mod shared_map;
 mod shared_queue;
 mod shared_sets;
-mod tags;
 mod traffic;
 mod waits;
 mod wakes;
 
 use crate::measure::Failed;
 use crate::options::{Options, Queued, WORKLOADS, Workload};
+use crate::shared_cache::Cached;
 use crate::traffic::{TRAFFIC, Traffic};
 use clap::error::ErrorKind;
 use std::env;
@@ -34,7 +36,7 @@ use std::thread::Threads;
 use std::time::{Clock, CpuClock};
 use tag_core::Map;
 use tag_queue::Queue;
-use tag_sets::Tags as TagSets;
+use tag_sets::Tags;
 
 fn main(rt: HostRuntime) -> ExitCode {
     match play(&rt) {
@@ -93,6 +95,7 @@ fn run_workload<R: AllocGlobal + Threads + Wait + Sync + Clock + CpuClock + Prin
         Workload::Batch => batches::run(rt, options),
         Workload::Queue(queued) => run_queue(rt, options, queued),
         Workload::Sets(traffic) => run_sets(rt, options, traffic),
+        Workload::Cache(traffic) => run_caches(rt, options, traffic),
     }
 }
 
@@ -120,7 +123,7 @@ fn run_on_sets<R: AllocGlobal + Threads + Sync + Clock + CpuClock + Print>(
     options: &Options,
     traffic: Traffic,
 ) -> Result<(), Failed> {
-    traffic::run::<R, TagSets<u64>>(rt, options, "sets ", traffic)
+    traffic::run::<R, Tags<u64>>(rt, options, "sets ", traffic)
 }
 
 /// Runs the workload of tag sets that was asked for, or each.
@@ -134,6 +137,30 @@ fn run_sets<R: AllocGlobal + Threads + Sync + Clock + CpuClock + Print>(
     }
     for traffic in TRAFFIC {
         run_on_sets(rt, options, traffic)?;
+    }
+    Ok(())
+}
+
+/// Runs a workload over tag sets where each thread has a cache.
+fn run_on_caches<R: AllocGlobal + Threads + Sync + Clock + CpuClock + Print>(
+    rt: &R,
+    options: &Options,
+    traffic: Traffic,
+) -> Result<(), Failed> {
+    traffic::run::<R, Cached>(rt, options, "cache ", traffic)
+}
+
+/// Runs the workload of caches that was asked for, or each.
+fn run_caches<R: AllocGlobal + Threads + Sync + Clock + CpuClock + Print>(
+    rt: &R,
+    options: &Options,
+    traffic: Option<Traffic>,
+) -> Result<(), Failed> {
+    if let Some(traffic) = traffic {
+        return run_on_caches(rt, options, traffic);
+    }
+    for traffic in TRAFFIC {
+        run_on_caches(rt, options, traffic)?;
     }
     Ok(())
 }

@@ -6,7 +6,8 @@ use std::time::{Clock, CpuClock, Duration, Instant};
 use std::{fmt, io};
 use tag_core::OpenFault;
 use tag_layout::LayoutFault;
-use tag_queue::SetFault;
+use tag_queue::QueueOpenFault;
+use tag_sets::SetFault;
 use wake_book::BookFault;
 
 /// Runs of which the median is taken.
@@ -41,6 +42,15 @@ impl From<OpenFault> for Failed {
     fn from(fault: OpenFault) -> Failed {
         match fault {
             OpenFault::Memory => Failed::Memory,
+            _ => Failed::Sizes,
+        }
+    }
+}
+
+impl From<QueueOpenFault> for Failed {
+    fn from(fault: QueueOpenFault) -> Failed {
+        match fault {
+            QueueOpenFault::Memory => Failed::Memory,
             _ => Failed::Sizes,
         }
     }

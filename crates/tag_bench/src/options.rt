@@ -27,10 +27,12 @@ pub(crate) enum Workload {
     Queue(Option<Queued>),
     /// The same over tag sets: one of these workloads, or each.
     Sets(Option<Traffic>),
+    /// The same over tag sets, where each thread has a cache: one of these workloads, or each.
+    Cache(Option<Traffic>),
 }
 
 /// Each of them, in the order in which they run.
-pub(crate) const WORKLOADS: [Workload; 11] = [
+pub(crate) const WORKLOADS: [Workload; 12] = [
     Workload::Plain,
     Workload::Map,
     Workload::Shared,
@@ -38,10 +40,11 @@ pub(crate) const WORKLOADS: [Workload; 11] = [
     Workload::Traffic(Traffic::Pair),
     Workload::Traffic(Traffic::Ring),
     Workload::Traffic(Traffic::Full),
-    Workload::Traffic(Traffic::Pass),
+    Workload::Traffic(Traffic::Handoff),
     Workload::Batch,
     Workload::Queue(None),
     Workload::Sets(None),
+    Workload::Cache(None),
 ];
 
 /// What can be run over a queue.
@@ -84,6 +87,7 @@ pub(crate) fn read(alloc: Global, matches: &ArgMatches) -> Result<Options, Alloc
     let (workload, chosen) = match matches.subcommand() {
         Some(("queue", chosen)) => (Some(Workload::Queue(queued_of(chosen))), chosen),
         Some(("sets", chosen)) => (Some(Workload::Sets(driven_by(chosen))), chosen),
+        Some(("cache", chosen)) => (Some(Workload::Cache(driven_by(chosen))), chosen),
         Some((name, chosen)) => (workload_of(name), chosen),
         None => (None, matches),
     };
@@ -128,7 +132,7 @@ fn queued_of(chosen: &ArgMatches) -> Option<Queued> {
     }
 }
 
-/// The workload of tag sets that was named.
+/// The workload of tag sets or of caches that was named.
 fn driven_by(chosen: &ArgMatches) -> Option<Traffic> {
     traffic_of(chosen.get_str("workload")?)
 }

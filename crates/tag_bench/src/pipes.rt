@@ -1,7 +1,7 @@
-//! The workload `pass`: tags that pass from thread to thread.
+//! The workload `handoff`: one thread gets each tag, and the next one clears it.
+use crate::allocator::TagAllocator;
 use crate::jobs::{Job, Plan};
 use crate::rounds::win;
-use crate::tags::Tags;
 use std::alloc::{AllocError, Global};
 use std::sync::atomic::AtomicU64;
 use std::sync::atomic::Ordering::SeqCst;
@@ -56,7 +56,7 @@ impl Pipes {
 
     /// Gets tags and sends each on.
     #[inline(never)]
-    fn send<T: Tags>(&self, tags: &T, hand: &mut T::Hand, index: usize, plan: Plan)
+    fn send<T: TagAllocator>(&self, tags: &T, hand: &mut T::Hand, index: usize, plan: Plan)
         requires { T.is_own tags.now hand.old }
         ensures { T.is_own tags.now hand.new }
     {
@@ -74,7 +74,7 @@ impl Pipes {
 
     /// Takes the tags that come from the thread before this one, and clears each.
     #[inline(never)]
-    fn receive<T: Tags>(&self, tags: &T, hand: &mut T::Hand, index: usize, plan: Plan)
+    fn receive<T: TagAllocator>(&self, tags: &T, hand: &mut T::Hand, index: usize, plan: Plan)
         requires { T.is_own tags.now hand.old }
         ensures { T.is_own tags.now hand.new }
     {
@@ -96,7 +96,7 @@ impl Pipes {
 }
 
 /// A thread of an even number gets tags and sends each on, and the next thread clears those that come.
-impl<T: Tags> Job<T> for Pipes {
+impl<T: TagAllocator> Job<T> for Pipes {
     fn work(&self, tags: &T, hand: &mut T::Hand, index: usize, plan: Plan) {
         if index % 2 == 0 {
             self.send(tags, hand, index, plan);

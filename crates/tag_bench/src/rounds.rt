@@ -1,8 +1,8 @@
 //! What one thread does in the workloads `pair`, `ring` and `full`.
 ghost use Rattle.std.specs.Prelude.{IfSome};
 
+use crate::allocator::TagAllocator;
 use crate::jobs::{Job, Plan};
-use crate::tags::Tags;
 use tag_search::Hint;
 
 /// The most tags that one thread holds.
@@ -18,7 +18,7 @@ const NO_TAG: u32 = u32::MAX;
 #[derive(Drop)]
 pub(crate) struct Pairs;
 
-impl<T: Tags> Job<T> for Pairs {
+impl<T: TagAllocator> Job<T> for Pairs {
     #[inline(never)]
     fn work(&self, tags: &T, hand: &mut T::Hand, index: usize, plan: Plan) {
         let mut hint = plan.hint(index);
@@ -37,7 +37,7 @@ pub(crate) struct Ring {
     pub hold: u32,
 }
 
-impl<T: Tags> Job<T> for Ring {
+impl<T: TagAllocator> Job<T> for Ring {
     #[inline(never)]
     fn work(&self, tags: &T, hand: &mut T::Hand, index: usize, plan: Plan) {
         let mut hint = plan.hint(index);
@@ -60,7 +60,12 @@ impl<T: Tags> Job<T> for Ring {
 
 /// Gets a tag, trying until there is one, and exchanges the value of its slot.
 #[inline(always)]
-pub(crate) fn win<T: Tags>(tags: &T, hand: &mut T::Hand, hint: &mut Hint, value: u32) -> Option<u32>
+pub(crate) fn win<T: TagAllocator>(
+    tags: &T,
+    hand: &mut T::Hand,
+    hint: &mut Hint,
+    value: u32,
+) -> Option<u32>
     requires { T.is_own tags.now hand.old }
     ensures hand { T.is_own tags.now hand.new }
     ensures held { IfSome result (T.holds hand.new) }

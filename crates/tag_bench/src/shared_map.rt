@@ -2,8 +2,8 @@
 ghost use Rattle.std.specs.Prelude.{All};
 ghost use Rattle.tag_core.specs.Callers.{IsCallerOf, Holds};
 
+use crate::allocator::TagAllocator;
 use crate::measure::Failed;
-use crate::tags::Tags;
 use std::alloc::Global;
 use tag_core::{Caller, Map, Spent};
 use tag_layout::Layout;
@@ -13,7 +13,7 @@ use tag_search::{Hint, on_map};
 /// Tags that one caller may win.
 const LIFE: u64 = 1 << 48;
 
-impl Tags for Map<u64> {
+impl TagAllocator for Map<u64> {
     type Hand = Caller<u64>;
 
     ghost is_own = { IsCallerOf };

@@ -2,18 +2,15 @@
 ghost use Rattle.std.specs.Prelude.{All};
 ghost use Rattle.tag_queue.specs.Agents.{IsAgentOf, Holds};
 
+use crate::allocator::TagAllocator;
 use crate::measure::Failed;
-use crate::tags::Tags;
 use std::alloc::Global;
 use tag_core::Spent;
 use tag_model::Totals;
 use tag_queue::{Agent, Options, Queue};
 use tag_search::Hint;
 
-/// Tags that one agent may win, and completions that it may count.
-const LIFE: u64 = 1 << 48;
-
-impl Tags for Queue<u64> {
+impl TagAllocator for Queue<u64> {
     type Hand = Agent<u64>;
 
     ghost is_own = { IsAgentOf };
@@ -25,14 +22,7 @@ impl Tags for Queue<u64> {
         depth: u32,
         threads: u32,
     ) -> Result<(Queue<u64>, Vec<Agent<u64>>), Failed> {
-        let options = Options {
-            shift: None,
-            round_robin: false,
-            min_shallow: None,
-            callers: threads,
-            life: LIFE,
-            cap: LIFE,
-        };
+        let options = Options::new(threads);
         Ok(Queue::open(alloc, depth, options, 0)?)
     }
 

@@ -2,18 +2,15 @@
 ghost use Rattle.std.specs.Prelude.{All};
 ghost use Rattle.tag_sets.specs.Hands.{IsHandOf, Holds};
 
+use crate::allocator::TagAllocator;
 use crate::measure::Failed;
-use crate::tags::Tags;
 use std::alloc::Global;
 use tag_core::Spent;
 use tag_model::Totals;
 use tag_search::Hint;
-use tag_sets::{Hand, Options, Tags as TagSets};
+use tag_sets::{Hand, Options, Tags};
 
-/// Tags that one hand may win, and completions that it may count.
-const LIFE: u64 = 1 << 48;
-
-impl Tags for TagSets<u64> {
+impl TagAllocator for Tags<u64> {
     type Hand = Hand<u64>;
 
     ghost is_own = { IsHandOf };
@@ -24,34 +21,27 @@ impl Tags for TagSets<u64> {
         alloc: Global,
         depth: u32,
         threads: u32,
-    ) -> Result<(TagSets<u64>, Vec<Hand<u64>>), Failed> {
-        let options = Options {
-            shift: None,
-            round_robin: false,
-            min_shallow: None,
-            callers: threads,
-            life: LIFE,
-            cap: LIFE,
-        };
-        Ok(TagSets::open(alloc, depth, 0, options, 0)?)
+    ) -> Result<(Tags<u64>, Vec<Hand<u64>>), Failed> {
+        let options = Options::new(threads);
+        Ok(Tags::open(alloc, depth, 0, options, 0)?)
     }
 
     fn gather(self, hands: Vec<Hand<u64>>) -> Result<Totals, Failed>
         requires { All (IsHandOf self) hands.items }
     {
-        match TagSets::gather(self, hands) {
+        match Tags::gather(self, hands) {
             Ok(totals) => Ok(totals.tags),
             Err(_) => Err(Failed::Missing),
         }
     }
 
     fn place(&self, hand: &mut Hand<u64>) {
-        TagSets::place(self, hand);
+        Tags::place(self, hand);
     }
 
     #[inline]
     fn get(&self, hand: &mut Hand<u64>, _hint: &mut Hint) -> Result<Option<u32>, Spent> {
-        let Ok(answer) = TagSets::get(self, hand) else {
+        let Ok(answer) = Tags::get(self, hand) else {
             return Err(Spent);
         };
         Ok(answer)
@@ -66,26 +56,26 @@ impl Tags for TagSets<u64> {
 
     #[inline]
     fn clear(&self, hand: &mut Hand<u64>, _hint: &mut Hint, tag: u32) {
-        let Ok(_) = TagSets::clear(self, hand, tag) else {
+        let Ok(_) = Tags::clear(self, hand, tag) else {
             unreachable!()
         };
     }
 
     #[inline]
     fn test_and_clear(&self, hand: &mut Hand<u64>, _hint: &mut Hint, tag: u32) {
-        let _ = TagSets::clear(self, hand, tag);
+        let _ = Tags::clear(self, hand, tag);
     }
 
     #[inline]
     fn post(&self, hand: &mut Hand<u64>, tag: u32) {
-        let Ok(()) = TagSets::post(self, hand, tag) else {
+        let Ok(()) = Tags::post(self, hand, tag) else {
             unreachable!()
         };
     }
 
     #[inline]
     fn take(&self, hand: &mut Hand<u64>, tag: u32) -> bool {
-        let Ok(()) = TagSets::take(self, hand, tag) else {
+        let Ok(()) = Tags::take(self, hand, tag) else {
             return false;
         };
         true

@@ -1,10 +1,10 @@
-//! The workloads `pair`, `ring`, `full` and `pass`: threads use tags as drivers do, those of a shared map or of a queue.
+//! The workloads `pair`, `ring`, `full` and `handoff`: threads use tags as drivers do.
+use crate::allocator::TagAllocator;
 use crate::jobs::{Job, Plan, carry_out};
 use crate::measure::{Failed, print_case};
 use crate::options::Options;
 use crate::pipes::Pipes;
 use crate::rounds::{Pairs, Ring};
-use crate::tags::Tags;
 use std::alloc::{AllocError, Global};
 use std::fmt::Display;
 use std::thread::Threads;
@@ -26,7 +26,7 @@ pub(crate) enum Traffic {
     /// The same, where the threads hold all tags between them.
     Full,
     /// One thread gets and posts, another takes and clears.
-    Pass,
+    Handoff,
 }
 
 /// Each of them, in the order in which they run.
@@ -34,7 +34,7 @@ pub(crate) const TRAFFIC: [Traffic; 4] = [
     Traffic::Pair,
     Traffic::Ring,
     Traffic::Full,
-    Traffic::Pass,
+    Traffic::Handoff,
 ];
 
 impl Traffic {
@@ -44,7 +44,7 @@ impl Traffic {
             Traffic::Pair => "pair",
             Traffic::Ring => "ring",
             Traffic::Full => "full",
-            Traffic::Pass => "pass",
+            Traffic::Handoff => "handoff",
         }
     }
 
@@ -54,18 +54,17 @@ impl Traffic {
             Traffic::Pair => "Each thread gets a tag, touches its slot and clears it",
             Traffic::Ring => "Each thread holds up to 32 tags, clears the oldest and gets another",
             Traffic::Full => "As ring, where the threads hold all tags between them",
-            Traffic::Pass => "One thread gets tags and posts them, another takes and clears them",
+            Traffic::Handoff =>
+                "One thread gets tags and posts them, another takes and clears them",
         }
     }
 }
 
 /// Runs each case of one workload. The prefix stands before its name.
-pub(crate) fn run<R: AllocGlobal + Threads + Sync + Print + Clock + CpuClock, T: Tags + Sync>(
-    rt: &R,
-    options: &Options,
-    prefix: &str,
-    traffic: Traffic,
-) -> Result<(), Failed>
+pub(crate) fn run<
+    R: AllocGlobal + Threads + Sync + Print + Clock + CpuClock,
+    T: TagAllocator + Sync,
+>(rt: &R, options: &Options, prefix: &str, traffic: Traffic) -> Result<(), Failed>
 where
     T::Hand: Send + Drop,
 {
@@ -76,8 +75,8 @@ where
     Ok(())
 }
 
-/// Runs one case, with the job that its workload has. `pass` wants an even number of threads.
-fn run_plan<R: AllocGlobal + Threads + Sync + Print + Clock + CpuClock, T: Tags + Sync>(
+/// Runs one case, with the job that its workload has. `handoff` wants an even number of threads.
+fn run_plan<R: AllocGlobal + Threads + Sync + Print + Clock + CpuClock, T: TagAllocator + Sync>(
     rt: &R,
     options: &Options,
     workload: impl Display + Drop,
@@ -95,8 +94,8 @@ where
             run_case::<R, T, Ring>(rt, options, workload, plan, &Ring { hold })
         }
         Traffic::Full => run_case::<R, T, Ring>(rt, options, workload, plan, &Ring { hold: share }),
-        Traffic::Pass if plan.threads % 2 != 0 => Ok(()),
-        Traffic::Pass => {
+        Traffic::Handoff if plan.threads % 2 != 0 => Ok(()),
+        Traffic::Handoff => {
             let pipes = Pipes::open(rt.alloc(), plan.threads)?;
             let winners = plan.threads / 2;
             run_case::<R, T, Pipes>(rt, options, workload, Plan { winners, ..plan }, &pipes)
@@ -139,7 +138,7 @@ fn add_plans(plans: &mut Vec<Plan>, options: &Options, depth: u32) -> Result<(),
 /// Has a job done as planned, and prints the line of the case.
 pub(crate) fn run_case<
     R: AllocGlobal + Threads + Sync + Print + Clock + CpuClock,
-    T: Tags + Sync,
+    T: TagAllocator + Sync,
     J: Job<T> + Sync,
 >(
     rt: &R,

@@ -8,7 +8,7 @@ use Rattle.tag_sets.specs.Hands.{Holds, IsHandOf}
 use Rattle.tag_board.specs.Parts.{part_of, state_of_all}
 use Rattle.tag_board.specs.States.{Part, idle}
 use Rattle.tag_board.proofs.Holdings.{holds_true, not_holds}
-use Rattle.tag_board.proofs.Seats.{part_here, own_here, held_here}
+use Rattle.tag_board.proofs.Seats.{sits, part_here, own_here, held_here}
 
 -- the hand at this index holds the tag
 pub record HoldsAt {R : Type 0} (hands : List (Hand R)) (place tag : ℕ) : Type 0 where
@@ -40,7 +40,7 @@ pub unheld_at : {R : Type 0} (tags : Tags R) (hands : List (Hand R)) (place : �
     → hand ≡ get_or hands place hand → (tag : ℕ) → ¬ (Holds hand tag)
     → ((state_of_all tags hands).part place).held tag ≡ false
 unheld_at tags hands place hand within here tag free =
-    ap (λ (p : Part). p.held tag) (part_here tags hands place hand hand within here) ∙ not_holds hand tag free
+    ap (λ (p : Part). p.held tag) (part_here tags (sits within here)) ∙ not_holds hand tag free
 
 -- two hands that hold a tag, the later and the earlier in the list
 module _ {R : Type 0} (tags : Tags R) (hands : List (Hand R)) (own : All (IsHandOf tags) hands) (tag a b : ℕ)
@@ -50,7 +50,7 @@ module _ {R : Type 0} (tags : Tags R) (hands : List (Hand R)) (own : All (IsHand
       × (((state_of_all tags hands).part place).held tag ≡ true)
       → hand ≡ get_or hands place hand → IsHandOf tags hand × Holds hand tag
   own_holder place hand at here =
-      (own_here tags hands place hand at.0 here own, held_here tags hands place hand hand at.0 here tag at.1)
+      let sat = sits at.0 here in (own_here tags sat own, held_here tags sat tag at.1)
 
   pub later_holds : (hand : Hand R) → hand ≡ get_or hands (max a b) hand → IsHandOf tags hand × Holds hand tag
   later_holds hand = own_holder (max a b) hand

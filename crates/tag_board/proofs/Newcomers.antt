@@ -36,8 +36,8 @@ module _ {R : Type 0} where
       → ((record_of (queue.caller_of a)).won ≡ 0) × ((record_of (queue.caller_of a)).back ≡ 0)
   none_counted options q agents n a opened at =
       let fresh = (opened.callers.each n (queue.caller_of a) (at_map queue.caller_of agents n a at)).1 in (
-        ap (λ (r : Record R). r.won) fresh ∙ ap (λ (ns : List ℕ). get_or ns n 0) opened.tags.won_before,
-        ap (λ (r : Record R). r.back) fresh ∙ ap (λ (ns : List ℕ). get_or ns n 0) opened.tags.back_before,
+        ap (λ (r : Record R). r.won) fresh ∙ opened.tags.starts.0 n,
+        ap (λ (r : Record R). r.back) fresh ∙ opened.tags.starts.1 n,
       )
 
   module _ (options : Options) (tags : Tags R) (hands : List (Hand R)) (opened : AreOpen options tags hands) where

@@ -42,11 +42,6 @@ pub both_on : {A E : Type 0} (P Q : Type 0) (r : Result A E) → OnOk r P → On
 both_on P Q (Ok a) p q = (p, q)
 both_on P Q (Err e) p q = tt
 
--- a result with a value is `Ok`
-pub ok_since : {A E : Type 0} (r : Result A E) (a : A) → r ≡ Ok a → IsOk r
-ok_since (Ok b) a e = refl
-ok_since (Err f) a e = absurd (cc)
-
 -- a fact that holds for any value
 pub on_map : {A E Q : Type 0} (P : Type 0) (r : Result A E) → OnOk r P → (P → Q) → IfOk r (λ a. Q)
 on_map P (Ok a) p f = f p

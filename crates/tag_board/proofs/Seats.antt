@@ -16,11 +16,19 @@ use Rattle.tag_board.specs.Replays.{Changes}
 use Rattle.tag_board.specs.States.{Part, State, idle}
 use Rattle.tag_board.proofs.Holdings.{holds_true, true_holds}
 
-module _ {R : Type 0} (tags : Tags R) (hands : List (Hand R)) (i : ℕ) (old new : Hand R) (within : i < length hands)
-    (here : old ≡ get_or hands i old) where
+-- the caller's hand, among all hands
+pub record Sits {R : Type 0} (hands : List (Hand R)) (i : ℕ) (old : Hand R) : Type 0 where
+  pub within : i < length hands
+  pub here : old ≡ get_or hands i old
+
+pub sits : {R : Type 0} {hands : List (Hand R)} {i : ℕ} {old : Hand R} → i < length hands → old ≡ get_or hands i old
+    → Sits hands i old
+sits within here = record { within = within; here = here }
+
+module _ {R : Type 0} (tags : Tags R) {hands : List (Hand R)} {i : ℕ} {old : Hand R} (at : Sits hands i old) where
   -- a caller's part is that of the hand at its index
   pub part_here : (state_of_all tags hands).part i ≡ part_of old
-  part_here = get_or-map part_of hands i old (idle false) within ∙ ap part_of (sym here)
+  part_here = get_or-map part_of hands i old (idle false) at.within ∙ ap part_of (sym at.here)
 
   pub held_here : (tag : ℕ) → ((state_of_all tags hands).part i).held tag ≡ true → Holds old tag
   held_here tag e = holds_true old tag (sym (ap (λ (p : Part). p.held tag) part_here) ∙ e)
@@ -36,12 +44,13 @@ module _ {R : Type 0} (tags : Tags R) (hands : List (Hand R)) (i : ℕ) (old new
   stands_here = sym (ap (λ (p : Part). p.stands) part_here)
 
   -- the hand's part changed so, and the rest of the state is unchanged
-  pub changes : (change : Part → Part) → part_of new ≡ change (part_of old)
+  pub changes : (new : Hand R) (change : Part → Part) → part_of new ≡ change (part_of old)
       → Changes i change (state_of_all tags hands) (state_of_all tags (set hands i new))
-  changes change e =
+  changes new change e =
       let moved : map part_of (set hands i new) ≡ set (map part_of hands) i (part_of new) =
       map-set part_of hands i new in
-      let long : i < length (map part_of hands) = let l = length-map hands part_of in omega arith in record {
+      let low = at.within in let l = length-map hands part_of in
+      let long : i < length (map part_of hands) = omega arith in record {
         terms = ap (terms_of tags) (length-set hands i new);
         total = refl;
         own = ap (λ (ps : List Part). get_or ps i (idle false)) moved
@@ -52,25 +61,24 @@ module _ {R : Type 0} (tags : Tags R) (hands : List (Hand R)) (i : ℕ) (old new
       }
 
   -- the hands are still in the order of their numbers
-  pub ordered : AreOrdered hands → number_of new ≡ number_of old → AreOrdered (set hands i new)
-  ordered before same n low =
+  pub ordered : (new : Hand R) → AreOrdered hands → number_of new ≡ number_of old → AreOrdered (set hands i new)
+  ordered new before same n low =
       let moved : map number_of (set hands i new) ≡ set (map number_of hands) i (number_of new) =
       map-set number_of hands i new in
-      let at : number_of new ≡ get_or (map number_of hands) i 0 =
-      same ∙ ap number_of here ∙ sym (get_or-map number_of hands i old 0 within) in
+      let kept : number_of new ≡ get_or (map number_of hands) i 0 =
+      same ∙ ap number_of at.here ∙ sym (get_or-map number_of hands i old 0 at.within) in
       let back : set (map number_of hands) i (number_of new) ≡ map number_of hands =
-      ap (set (map number_of hands) i) at ∙ set-get_or (map number_of hands) i 0 in
+      ap (set (map number_of hands) i) kept ∙ set-get_or (map number_of hands) i 0 in
       ap (λ (ns : List ℕ). get_or ns n 0) (moved ∙ back) ∙ before n (let l = length-set hands i new in omega arith)
 
   -- an unchanged hand leaves the hands unchanged
-  pub unmoved : new ≡ old → set hands i new ≡ hands
-  unmoved same = ap (set hands i) (same ∙ here) ∙ set-get_or hands i old
+  pub unmoved : {new : Hand R} → new ≡ old → set hands i new ≡ hands
+  unmoved same = ap (set hands i) (same ∙ at.here) ∙ set-get_or hands i old
 
 -- a hand of the list is a hand of these tags
-pub own_here : {R : Type 0} (tags : Tags R) (hands : List (Hand R)) (i : ℕ) (old : Hand R) → i < length hands
-    → old ≡ get_or hands i old
+pub own_here : {R : Type 0} (tags : Tags R) {hands : List (Hand R)} {i : ℕ} {old : Hand R} → Sits hands i old
     → All (IsHandOf tags) hands → IsHandOf tags old
-own_here tags hands i old within here own = subst (IsHandOf tags) (sym here) (own i old within)
+own_here tags {hands} {i} {old} at own = subst (IsHandOf tags) (sym at.here) (own i old at.within)
 
 -- a state in which one part was replaced by itself is unchanged
 pub same_state : (old new : State) (i : ℕ) → Changes i (λ (p : Part). p) old new → new ≡ old
@@ -82,15 +90,15 @@ same_state old new i c = λ j. record {
       (λ (ne : other ≢ i). c.others other ne) j;
 }
 
-module _ {R : Type 0} (tags : Tags R) (hands : List (Hand R)) (i : ℕ) (old : Hand R) (within : i < length hands)
-    (here : old ≡ get_or hands i old) (own : IsHandOf tags old) where
+module _ {R : Type 0} (tags : Tags R) {hands : List (Hand R)} {i : ℕ} {old : Hand R} (at : Sits hands i old)
+    (own : IsHandOf tags old) where
   -- the most tags of a set that the hand may win
   life_here : (kind : Kind) → (record_in old kind).shape.life ≡ (state_of_all tags hands).terms.life kind
   life_here Ordinary = ap (λ (k : Shape). k.life) own.1.0.1
   life_here Reserved = ap (λ (k : Shape). k.life) own.0.0.1
 
   won_here : (kind : Kind) → ((state_of_all tags hands).part i).won kind ≡ (record_in old kind).won
-  won_here kind = ap (λ (p : Part). p.won kind) (part_here tags hands i old old within here)
+  won_here kind = ap (λ (p : Part). p.won kind) (part_here tags at)
 
   -- a spent hand has no room
   pub spent_here : (kind : Kind) (n : ℕ) → IsSpent (state_of_all tags hands) i kind n → ¬ (HasRoom old kind n)
@@ -102,11 +110,5 @@ module _ {R : Type 0} (tags : Tags R) (hands : List (Hand R)) (i : ℕ) (old : H
       (λ (fits : (record_in old kind).won + n ≤ (record_in old kind).shape.life). fits)
       (cases_lt (record_in old kind).shape.life ((record_in old kind).won + n))
 
-  pub spent_since : (kind : Kind) (n : ℕ) → ¬ (HasRoom old kind n) → IsSpent (state_of_all tags hands) i kind n
-  spent_since kind n full = let life = life_here kind in let won = won_here kind in ⊎_elim
-      (λ (less : (record_in old kind).shape.life < (record_in old kind).won + n). omega arith)
-      (λ (fits : (record_in old kind).won + n ≤ (record_in old kind).shape.life). absurd (full fits))
-      (cases_lt (record_in old kind).shape.life ((record_in old kind).won + n))
-
   pub round_here : ((state_of_all tags hands).part i).round_robin ≡ (hint_of old Ordinary).round_robin
-  round_here = ap (λ (p : Part). p.round_robin) (part_here tags hands i old old within here)
+  round_here = ap (λ (p : Part). p.round_robin) (part_here tags at)

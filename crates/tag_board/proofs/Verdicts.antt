@@ -1,8 +1,8 @@
 -- Each refusal has its cause, and there is no other refusal.
 use Rattle.std.proofs.Common.{◌≡◌, ◌≢◌, ◌⊎◌, ℕ, ◌+◌, ◌<◌, ◌≤◌, ◌↔◌, true, false, inl, inr, ⊎_elim, Result, Ok, Err, IfOk, OnErr, IsOk, refl, subst, arith, List}
 use Rattle.std.proofs.lemmas.Bool.{cases_lt, cases_Bool, cases_eq, both_ways}
-use Rattle.tag_queue.specs.declared.fault.TagFault.{TagFault}
-use Rattle.tag_queue.specs.declared.fault.TagFault.TheVariants.{NoSuchTag, NoReserved, NotHeld, NotPosted, BadCount, TooShallow, Spent, Waiting, NotWaiting}
+use Rattle.tag_sets.specs.declared.fault.TagFault.{TagFault}
+use Rattle.tag_sets.specs.declared.fault.TagFault.TheVariants.{NoSuchTag, NoReserved, NotHeld, NotPosted, BadCount, TooShallow, Spent, Waiting, NotWaiting}
 use Rattle.tag_queue.specs.Batches.{CountsTags}
 use Rattle.tag_sets.specs.declared.kind.Kind.TheVariants.{Ordinary, Reserved}
 use Rattle.tag_board.specs.States.{State}

@@ -12,7 +12,7 @@ use Rattle.wake_book.specs.Charges.{added}
 use Rattle.wake_book.specs.Groups as groups
 use Rattle.wake_book.specs.Waits.{moved_by}
 use Rattle.tag_queue.specs.declared.agent.Agent.{Agent}
-use Rattle.tag_queue.specs.declared.fault.TagFault.{TagFault}
+use Rattle.tag_sets.specs.declared.fault.TagFault.{TagFault}
 use Rattle.tag_queue.specs.declared.queue.Queue.{Queue}
 use Rattle.tag_queue.specs.declared.waits.Wakes.{Wakes}
 use Rattle.tag_queue.specs.Agents as queue
@@ -29,11 +29,11 @@ use Rattle.tag_sets.specs.Waits as waits
 use Rattle.tag_board.specs.Parts.{waiter_of, waiters_of_all}
 use Rattle.tag_board.specs.Wakeups.{Waiter, newcomer, Moves, MovesIf, GrantsFor, Enters, Leaves, Finds}
 use Rattle.tag_board.proofs.Charging.{charge_adds, walk_grants}
+use Rattle.tag_board.proofs.Seats.{Sits}
 
-module _ {R : Type 0} (hands : List (Hand R)) (i : ℕ) (old new : Hand R) (within : i < length hands)
-    (here : old ≡ get_or hands i old) where
+module _ {R : Type 0} {hands : List (Hand R)} {i : ℕ} {old : Hand R} (at : Sits hands i old) (new : Hand R) where
   waiter_here : waiters_of_all hands i ≡ waiter_of old
-  waiter_here = get_or-map waiter_of hands i old newcomer within ∙ ap waiter_of (sym here)
+  waiter_here = get_or-map waiter_of hands i old newcomer at.within ∙ ap waiter_of (sym at.here)
 
   moved : map waiter_of (set hands i new) ≡ set (map waiter_of hands) i (waiter_of new)
   moved = map-set waiter_of hands i new
@@ -49,7 +49,8 @@ module _ {R : Type 0} (hands : List (Hand R)) (i : ℕ) (old new : Hand R) (with
   pub waiters_move : (change : Waiter → Waiter → Type 0) → change (waiter_of old) (waiter_of new)
       → Moves i change (waiters_of_all hands) (waiters_of_all (set hands i new))
   waiters_move change c =
-      let long : i < length (map waiter_of hands) = let l = length-map hands waiter_of in omega arith in
+      let low = at.within in let l = length-map hands waiter_of in
+      let long : i < length (map waiter_of hands) = omega arith in
       let now : waiters_of_all (set hands i new) i ≡ waiter_of new =
       ap (λ (ws : List Waiter). get_or ws i newcomer) moved
       ∙ get_or-set_same (map waiter_of hands) i (waiter_of new) newcomer long in record {

@@ -7,8 +7,8 @@ use native.Mathlib.Decide.{ℕ_discrete}
 use Rattle.tag_sets.specs.declared.hand.Hand.{Hand}
 use Rattle.tag_search.proofs.Pools.{or_false}
 use Rattle.tag_search.specs.Gains.{count_of, count_of_run}
-use Rattle.tag_queue.specs.declared.fault.TagFault.{TagFault}
-use Rattle.tag_queue.specs.declared.fault.TagFault.TheVariants.{BadCount}
+use Rattle.tag_sets.specs.declared.fault.TagFault.{TagFault}
+use Rattle.tag_sets.specs.declared.fault.TagFault.TheVariants.{BadCount}
 use Rattle.tag_sets.specs.declared.kind.Kind.{Kind}
 use Rattle.tag_sets.specs.declared.kind.Kind.TheVariants.{Ordinary, Reserved}
 use Rattle.tag_sets.specs.declared.tags.Tags.{Tags}
@@ -20,28 +20,27 @@ use Rattle.tag_board.specs.States.{Part, State}
 use Rattle.tag_board.proofs.Handfuls.{none_more, part_ext}
 use Rattle.tag_board.proofs.Holdings.{not_holds}
 use Rattle.tag_board.proofs.Moves.{Moves, get_moves, shallow_moves, reserved_moves, batch_moves, names_answer, names_run}
-use Rattle.tag_board.proofs.Seats.{changes, part_here}
+use Rattle.tag_board.proofs.Seats.{Sits, changes, part_here}
 
 -- the named tags are added to those that a caller holds
 abbrev pub Joins : (ℕ → Bool) → (Part → Part) → Type 0
 Joins named change = (p : Part) (tag : ℕ) → (change p).held tag ≡ (p.held tag || named tag)
 
-module _ {R : Type 0} (tags : Tags R) (hands : List (Hand R)) (i : ℕ) (old new : Hand R) (within : i < length hands)
-    (here : old ≡ get_or hands i old) (named : ℕ → Bool) (change : Part → Part)
-    (moved : part_of new ≡ change (part_of old)) where
+module _ {R : Type 0} (tags : Tags R) {hands : List (Hand R)} {i : ℕ} {old : Hand R} (at : Sits hands i old)
+    (new : Hand R) (named : ℕ → Bool) (change : Part → Part) (moved : part_of new ≡ change (part_of old)) where
   -- the caller holds what it won
   pub holds_won : Joins named change → HoldsAll (state_of_all tags (set hands i new)) i named
-  holds_won joins tag is = let c = changes tags hands i old new within here change moved in
+  holds_won joins tag is = let c = changes tags at new change moved in
       let before : Part = (state_of_all tags hands).part i in
       ap (λ (p : Part). p.held tag) c.own ∙ joins before tag ∙ or_right (before.held tag) (named tag) is
 
   -- tags that the caller did not hold before, and no other holds now, had no holder
   pub free_before : ((tag : ℕ) → named tag ≡ true → ¬ (Holds old tag))
       → NobodyElseHolds (state_of_all tags (set hands i new)) i named → NobodyHolds (state_of_all tags hands) named
-  free_before fresh alone caller tag is = let c = changes tags hands i old new within here change moved in
+  free_before fresh alone caller tag is = let c = changes tags at new change moved in
       let s = state_of_all tags hands in dite (ℕ_discrete caller i)
       (λ (e : caller ≡ i). subst (λ (k : ℕ). (s.part k).held tag ≡ false) (sym e)
-      (ap (λ (p : Part). p.held tag) (part_here tags hands i old new within here) ∙ not_holds old tag (fresh tag is)))
+      (ap (λ (p : Part). p.held tag) (part_here tags at) ∙ not_holds old tag (fresh tag is)))
       (λ (ne : caller ≢ i). sym (ap (λ (p : Part). p.held tag) (c.others caller ne)) ∙ alone caller tag ne is)
 
 -- the hand won the named tags, n of this set, and held none of them before
@@ -128,18 +127,18 @@ batch_number tags old new n (Ok answer) bad around straight =
     (batch_of_answer tags [] old new n answer (Ok answer) refl bad around straight).moves.number
 batch_number tags old new n (Err fault) bad around straight = tt
 
-module _ {R : Type 0} (tags : Tags R) (hands : List (Hand R)) (i : ℕ) (old new : Hand R) (within : i < length hands)
-    (here : old ≡ get_or hands i old) (kind : Kind) (named : ℕ → Bool) (n : ℕ)
+module _ {R : Type 0} (tags : Tags R) {hands : List (Hand R)} {i : ℕ} {old new : Hand R} (at : Sits hands i old)
+    (kind : Kind) (named : ℕ → Bool) (n : ℕ)
     (w : HandWins (state_of_all tags hands) kind named n old new) where
   -- the caller holds what it won
   pub holds_wins : HoldsAll (state_of_all tags (set hands i new)) i named
-  holds_wins = holds_won tags hands i old new within here named (won kind named n) w.moves.part (λ p tag. refl)
+  holds_wins = holds_won tags at new named (won kind named n) w.moves.part (λ p tag. refl)
 
   -- no caller held what it won, since no other caller holds it now
   pub wins : NobodyElseHolds (state_of_all tags (set hands i new)) i named
       → Wins i kind named n (state_of_all tags hands) (state_of_all tags (set hands i new))
   wins alone = record {
-    free = free_before tags hands i old new within here named (won kind named n) w.moves.part w.fresh alone;
+    free = free_before tags at new named (won kind named n) w.moves.part w.fresh alone;
     there = w.there;
-    change = changes tags hands i old new within here (won kind named n) w.moves.part;
+    change = changes tags at new (won kind named n) w.moves.part;
   }

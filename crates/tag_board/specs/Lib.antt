@@ -1,5 +1,5 @@
 pub mod States
-pub mod Lones
+pub mod AloneSets
 pub mod Wakeups
 pub mod Parts
 pub mod Boards

@@ -1,7 +1,7 @@
 -- Which commands are refused, and with which fault: the first cause that holds, in the order of the command.
 use Rattle.std.specs.Prelude.{◌≡◌, ◌≢◌, ◌⊎◌, ℕ, ◌+◌, ◌<◌, ◌≤◌, true, false, List, All, AllPairs}
-use Rattle.tag_queue.specs.declared.fault.TagFault.{TagFault}
-use Rattle.tag_queue.specs.declared.fault.TagFault.TheVariants.{NoSuchTag, NoReserved, NotHeld, BadCount, TooShallow, Spent, Waiting, NotWaiting}
+use Rattle.tag_sets.specs.declared.fault.TagFault.{TagFault}
+use Rattle.tag_sets.specs.declared.fault.TagFault.TheVariants.{NoSuchTag, NoReserved, NotHeld, BadCount, TooShallow, Spent, Waiting, NotWaiting}
 use Rattle.tag_queue.specs.Batches.{CountsTags}
 use Rattle.tag_sets.specs.declared.kind.Kind.{Kind}
 use Rattle.tag_sets.specs.declared.kind.Kind.TheVariants.{Ordinary, Reserved}

@@ -9,7 +9,7 @@ use Rattle.wake_book.specs.declared.waiting.Left.{Left}
 use Rattle.wake_book.specs.Charges.{added}
 use Rattle.wake_book.specs.Waits.{active_at, index_at, moved_by}
 use Rattle.wake_book.specs.Walks.{IsLeave}
-use Rattle.tag_queue.specs.declared.fault.TagFault.{TagFault}
+use Rattle.tag_sets.specs.declared.fault.TagFault.{TagFault}
 use Rattle.tag_queue.specs.declared.waits.Wakes.{Wakes}
 
 -- a caller as it waits and wakes others: its own steps on the book of completions and on the wait groups, newest first,

@@ -1,7 +1,7 @@
 //! Commands that give tags back.
-ghost use Rattle.tag_board.specs.Boards.{state_of, lones_of, waiters_of, IsCallerOf, IsAlone};
+ghost use Rattle.tag_board.specs.Boards.{state_of, alone_sets_of, waiters_of, IsCallerOf, IsAlone};
 ghost use Rattle.tag_board.specs.Wakeups.{MovesIf, GrantsFor};
-ghost use Rattle.tag_board.specs.Lones.{Does, LoneClears, LoneClearsList};
+ghost use Rattle.tag_board.specs.AloneSets.{Does, AloneClears, AloneClearsList};
 ghost use Rattle.std.specs.Prelude.{length};
 ghost use Rattle.tag_board.specs.Replays.{Clears, ClearsList};
 
@@ -15,7 +15,7 @@ impl Board {
         requires { IsCallerOf self.old caller }
         ensures answers { Clears tag caller (state_of self.old) result (state_of self.new) }
         ensures alone { IsAlone self.old
-            → Does (λ woken. LoneClears tag) (lones_of self.old) result (lones_of self.new) }
+            → Does (λ woken. AloneClears tag) (alone_sets_of self.old) result (alone_sets_of self.new) }
         ensures waiters { MovesIf caller (GrantsFor 1) (waiters_of self.old) result (waiters_of self.new) }
     {
         self.tags.clear(&mut self.hands[caller as usize], tag)
@@ -27,7 +27,7 @@ impl Board {
         requires { IsCallerOf self.old caller }
         ensures answers { ClearsList tags.now caller (state_of self.old) result (state_of self.new) }
         ensures alone { IsAlone self.old
-            → Does (λ woken. LoneClearsList tags.now) (lones_of self.old) result (lones_of self.new) }
+            → Does (λ woken. AloneClearsList tags.now) (alone_sets_of self.old) result (alone_sets_of self.new) }
         ensures waiters { MovesIf caller (GrantsFor (length tags.now)) (waiters_of self.old) result (waiters_of self.new) }
     {
         self.tags

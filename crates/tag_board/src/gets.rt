@@ -1,8 +1,8 @@
 //! Commands that take tags.
 ghost use Rattle.std.specs.Prelude.{◌≡◌};
 ghost use Rattle.tag_sets.specs.declared.kind.Kind.TheVariants.{Ordinary, Reserved};
-ghost use Rattle.tag_board.specs.Boards.{state_of, lones_of, waiters_of, IsCallerOf, IsAlone};
-ghost use Rattle.tag_board.specs.Lones.{Does, LoneGets, LoneBatch, plain, shallow};
+ghost use Rattle.tag_board.specs.Boards.{state_of, alone_sets_of, waiters_of, IsCallerOf, IsAlone};
+ghost use Rattle.tag_board.specs.AloneSets.{Does, AloneGets, AloneBatch, plain, shallow};
 ghost use Rattle.tag_board.specs.Replays.{Gets, GetsShallow, GetsBatch};
 
 use crate::board::Board;
@@ -15,7 +15,7 @@ impl Board {
         requires { IsCallerOf self.old caller }
         ensures answers { Gets Ordinary caller (state_of self.old) result (state_of self.new) }
         ensures alone { IsAlone self.old
-            → Does (LoneGets Ordinary plain) (lones_of self.old) result (lones_of self.new) }
+            → Does (AloneGets Ordinary plain) (alone_sets_of self.old) result (alone_sets_of self.new) }
         ensures waiters { waiters_of self.new ≡ waiters_of self.old }
     {
         let answer = self.tags.get(&mut self.hands[caller as usize])?;
@@ -29,7 +29,7 @@ impl Board {
         requires { IsCallerOf self.old caller }
         ensures answers { Gets Reserved caller (state_of self.old) result (state_of self.new) }
         ensures alone { IsAlone self.old
-            → Does (LoneGets Reserved plain) (lones_of self.old) result (lones_of self.new) }
+            → Does (AloneGets Reserved plain) (alone_sets_of self.old) result (alone_sets_of self.new) }
         ensures waiters { waiters_of self.new ≡ waiters_of self.old }
     {
         let answer = self.tags.get_reserved(&mut self.hands[caller as usize])?;
@@ -43,7 +43,7 @@ impl Board {
         requires { IsCallerOf self.old caller }
         ensures answers { GetsShallow depth caller (state_of self.old) result (state_of self.new) }
         ensures alone { IsAlone self.old
-            → Does (LoneGets Ordinary (shallow depth)) (lones_of self.old) result (lones_of self.new) }
+            → Does (AloneGets Ordinary (shallow depth)) (alone_sets_of self.old) result (alone_sets_of self.new) }
         ensures waiters { waiters_of self.new ≡ waiters_of self.old }
     {
         let answer = self
@@ -60,7 +60,7 @@ impl Board {
         requires { IsCallerOf self.old caller }
         ensures answers { GetsBatch n caller (state_of self.old) result (state_of self.new) }
         ensures alone { IsAlone self.old
-            → Does (LoneBatch n) (lones_of self.old) result (lones_of self.new) }
+            → Does (AloneBatch n) (alone_sets_of self.old) result (alone_sets_of self.new) }
         ensures waiters { waiters_of self.new ≡ waiters_of self.old }
     {
         let answer = self.tags.get_batch(&mut self.hands[caller as usize], n)?;

@@ -4,12 +4,12 @@
 mod board;
 mod clears;
 mod closing;
+mod exclusion;
 mod gets;
 mod looks;
 mod opens;
-mod passing;
+mod posts;
 mod resizes;
-mod strangers;
 #[cfg(test)]
 mod tests;
 mod waits;

@@ -1,7 +1,7 @@
 //! Commands that list and count busy tags.
 ghost use Rattle.std.specs.Prelude.{◌≡◌, IfOk};
-ghost use Rattle.tag_board.specs.Boards.{state_of, lones_of, waiters_of, IsCallerOf, IsAlone};
-ghost use Rattle.tag_board.specs.Lones.{LoneListsBusy, LoneShows, LoneDumps};
+ghost use Rattle.tag_board.specs.Boards.{state_of, alone_sets_of, waiters_of, IsCallerOf, IsAlone};
+ghost use Rattle.tag_board.specs.AloneSets.{AloneListsBusy, AloneShows, AloneDumps};
 ghost use Rattle.tag_board.specs.Looks.{ListsBusy, Shows, Dumps, depth_of};
 
 use crate::board::Board;
@@ -14,7 +14,7 @@ impl Board {
         requires { IsCallerOf self.old caller }
         ensures answers { IfOk result (λ bits. ListsBusy caller (state_of self.old) bits.items (state_of self.new)) }
         ensures alone { IsAlone self.old
-            → IfOk result (λ bits. LoneListsBusy (lones_of self.old) bits.items (lones_of self.new)) }
+            → IfOk result (λ bits. AloneListsBusy (alone_sets_of self.old) bits.items (alone_sets_of self.new)) }
         ensures waiters { waiters_of self.new ≡ waiters_of self.old }
     {
         let mut bits = vec![in alloc; 0u64; self.total.div_ceil(64) as usize]?;
@@ -26,7 +26,7 @@ impl Board {
     pub fn show(&mut self, caller: u32, kind: Kind) -> Shown
         requires { IsCallerOf self.old caller }
         ensures answers { Shows kind (state_of self.old) result (state_of self.new) }
-        ensures alone { IsAlone self.old → LoneShows kind (lones_of self.old) result (lones_of self.new) }
+        ensures alone { IsAlone self.old → AloneShows kind (alone_sets_of self.old) result (alone_sets_of self.new) }
         ensures waiters { waiters_of self.new ≡ waiters_of self.old }
     {
         self.tags.show(&mut self.hands[caller as usize], kind)
@@ -37,7 +37,7 @@ impl Board {
         requires { IsCallerOf self.old caller }
         ensures answers { IfOk result (λ bytes. Dumps kind (state_of self.old) bytes.items (state_of self.new)) }
         ensures alone { IsAlone self.old
-            → IfOk result (λ bytes. LoneDumps kind (lones_of self.old) bytes.items (lones_of self.new)) }
+            → IfOk result (λ bytes. AloneDumps kind (alone_sets_of self.old) bytes.items (alone_sets_of self.new)) }
         ensures waiters { waiters_of self.new ≡ waiters_of self.old }
     {
         let depth = self.depth(kind);

@@ -4,8 +4,8 @@ ghost use Rattle.tag_layout.specs.declared.layout.TheConstants.{MAX_DEPTH, MAX_S
 ghost use Rattle.tag_model.specs.declared.world.TheConstants.{MOST_WON};
 ghost use Rattle.tag_queue.specs.Opening.{MiscountsAgents, CountsAgents};
 ghost use Rattle.tag_sets.specs.Opening.{HasRange, HasLayouts};
-ghost use Rattle.tag_board.specs.Boards.{state_of, lones_of, waiters_of, IsAlone};
-ghost use Rattle.tag_board.specs.Lones.{AreUntouched};
+ghost use Rattle.tag_board.specs.Boards.{state_of, alone_sets_of, waiters_of, IsAlone};
+ghost use Rattle.tag_board.specs.AloneSets.{AreUntouched};
 ghost use Rattle.tag_board.specs.Opening.{IsOpen};
 ghost use Rattle.tag_board.specs.Wakeups.{Starts};
 
@@ -24,7 +24,7 @@ impl Board {
         options: Options,
     ) -> Result<Board, SetFault>
         ensures ok { IfOk result (λ board. IsOpen total reserved options (state_of board)) }
-        ensures alone { IfOk result (λ board. IsAlone board → AreUntouched total reserved options (lones_of board)) }
+        ensures alone { IfOk result (λ board. IsAlone board → AreUntouched total reserved options (alone_sets_of board)) }
         ensures waiters { IfOk result (λ board. (caller : ℕ) → caller < options.callers → Starts (waiters_of board caller)) }
 
         // The causes are tested in this order, and memory comes last.

@@ -1,7 +1,7 @@
 //! Resizing a board.
 ghost use Rattle.std.specs.Prelude.{IfOk, IsErr};
-ghost use Rattle.tag_board.specs.Boards.{state_of, lones_of, IsAlone};
-ghost use Rattle.tag_board.specs.Lones.{LoneResizes};
+ghost use Rattle.tag_board.specs.Boards.{state_of, alone_sets_of, IsAlone};
+ghost use Rattle.tag_board.specs.AloneSets.{AloneResizes};
 ghost use Rattle.tag_board.specs.Resizes.{Resizes, MayResize};
 
 use crate::board::Board;
@@ -18,7 +18,7 @@ impl Board {
     ) -> Result<(Result<(), ResizeCause>, Board), AllocError>
         ensures answers { IfOk result (λ resized. Resizes total (state_of self) resized.0 (state_of resized.1)) }
         ensures alone { IfOk result (λ resized. IsAlone self
-            → LoneResizes total (lones_of self) resized.0 (lones_of resized.1)) }
+            → AloneResizes total (alone_sets_of self) resized.0 (alone_sets_of resized.1)) }
         ensures memory { IsErr result → MayResize (state_of self) total }
     {
         let Board {

@@ -1,6 +1,6 @@
 //! Commands that wait.
 ghost use Rattle.std.specs.Prelude.{◌≡◌, ◌≤◌, true};
-ghost use Rattle.tag_board.specs.Boards.{state_of, lones_of, waiters_of, IsCallerOf, IsAlone};
+ghost use Rattle.tag_board.specs.Boards.{state_of, alone_sets_of, waiters_of, IsCallerOf, IsAlone};
 ghost use Rattle.tag_board.specs.Wakeups.{Moves, MovesIf, Enters, Leaves as LeavesGroup, Finds};
 ghost use Rattle.tag_board.specs.Replays.{Waits, Leaves};
 
@@ -13,7 +13,7 @@ impl Board {
     pub fn wait(&mut self, caller: u32) -> Result<u32, TagFault>
         requires { IsCallerOf self.old caller }
         ensures answers { Waits caller (state_of self.old) result (state_of self.new) }
-        ensures alone { IsAlone self.old → lones_of self.new ≡ lones_of self.old }
+        ensures alone { IsAlone self.old → alone_sets_of self.new ≡ alone_sets_of self.old }
         ensures waiters { MovesIf caller Enters (waiters_of self.old) result (waiters_of self.new) }
     {
         self.tags.prepare_wait(&mut self.hands[caller as usize])
@@ -24,7 +24,7 @@ impl Board {
     pub fn leave<W: Wait>(&mut self, rt: &W, caller: u32) -> Result<Left, TagFault>
         requires { IsCallerOf self.old caller }
         ensures answers { Leaves caller (state_of self.old) result (state_of self.new) }
-        ensures alone { IsAlone self.old → lones_of self.new ≡ lones_of self.old }
+        ensures alone { IsAlone self.old → alone_sets_of self.new ≡ alone_sets_of self.old }
         ensures waiters { MovesIf caller LeavesGroup (waiters_of self.old) result (waiters_of self.new) }
     {
         self.tags.finish_wait(rt, &mut self.hands[caller as usize])
@@ -36,7 +36,7 @@ impl Board {
         ensures ordered { result.charged ≤ result.counted }
         ensures active { ((state_of self.old).part caller).stands ≡ true → 1 ≤ result.active }
         ensures same { state_of self.new ≡ state_of self.old }
-        ensures alone { IsAlone self.old → lones_of self.new ≡ lones_of self.old }
+        ensures alone { IsAlone self.old → alone_sets_of self.new ≡ alone_sets_of self.old }
         ensures waiters { Moves caller (Finds result) (waiters_of self.old) (waiters_of self.new) }
     {
         self.tags.wakes(&mut self.hands[caller as usize])

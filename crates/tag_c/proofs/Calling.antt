@@ -1,4 +1,4 @@
--- A call through a handle is a call of the object behind it, and a call of an object is one of its hand.
+-- A call through a handle is a call of the object behind it, and a call of an object is one of its hand or its cache.
 use Rattle.std.proofs.Common.{◌≡◌, ℕ, ◌<◌, ℤ, Option, Some, None, Result, Ok, Err, IfOk, refl, sym, subst, ◌∙◌}
 use lib.Signed.{mag}
 use mir.Syntax.{w32}
@@ -8,17 +8,20 @@ use Rattle.std.specs.Arc.{arc_value}
 use Rattle.tag_sets.specs.declared.hand.Hand.{Hand}
 use Rattle.tag_sets.specs.declared.tags.Tags.{Tags}
 use Rattle.tag_sets.specs.Hands.{IsHandOf}
+use Rattle.tag_cache.specs.declared.cache.Cache.{Cache}
+use Rattle.tag_c.specs.declared.cached.CachedMember.{CachedMember}
 use Rattle.tag_c.specs.declared.member.Member.{Member}
 use Rattle.tag_c.specs.declared.object.Kind.{Kind}
-use Rattle.tag_c.specs.declared.object.Kind.TheVariants.{Pool as IsPool, Member as IsMember}
+use Rattle.tag_c.specs.declared.object.Kind.TheVariants.{Pool as IsPool, Member as IsMember, Cached as IsCached}
 use Rattle.tag_c.specs.declared.object.Object.{Object}
 use Rattle.tag_c.specs.declared.pool.Pool.{Pool}
-use Rattle.tag_c.specs.declared.shared.Shared.{Shared}
+use Rattle.tag_c.specs.declared.pool_state.PoolState.{PoolState}
 use Rattle.tag_c.specs.declared.status.Status.TheVariants.{BadHandle}
-use Rattle.tag_c.specs.Calls.{Calls, CallsAs, CallsBy, Through}
+use Rattle.tag_c.specs.Callers.{Caller, Bare, Caching}
+use Rattle.tag_c.specs.Calls.{Calls, CallsAs, CallsBy, HandCalls, CacheCalls, Through}
 use Rattle.tag_c.specs.Codes.{code_of}
 
-module _ (change : Member → Member → Type 0) (code : ℤ) where
+module _ (change : Tags ℕ → Caller → Caller → Type 0) (code : ℤ) where
   -- a call through a full handle
   pub called : (before after : Option Object) (old new : Object)
       → before ≡ Some old → after ≡ Some new → Calls change code old new → CallsBy change code before after
@@ -35,11 +38,17 @@ module _ (change : Member → Member → Type 0) (code : ℤ) where
 
   -- a call of an object that is a hand
   pub by_member : (before after : Kind) (old new : Member)
-      → before ≡ IsMember old → after ≡ IsMember new → new.shared ≡ old.shared → change old new
-      → CallsAs change code before after
-  by_member before after old new b a shared changed =
+      → before ≡ IsMember old → after ≡ IsMember new → HandCalls change old new → CallsAs change code before after
+  by_member before after old new b a call =
       subst (λ (x : Kind). CallsAs change code x after) (sym b)
-      (subst (λ (x : Kind). CallsAs change code (IsMember old) x) (sym a) (shared, changed))
+      (subst (λ (x : Kind). CallsAs change code (IsMember old) x) (sym a) call)
+
+  -- a call of an object that is a hand with a cache
+  pub by_cached : (before after : Kind) (old new : CachedMember)
+      → before ≡ IsCached old → after ≡ IsCached new → CacheCalls change old new → CallsAs change code before after
+  by_cached before after old new b a call =
+      subst (λ (x : Kind). CallsAs change code x after) (sym b)
+      (subst (λ (x : Kind). CallsAs change code (IsCached old) x) (sym a) call)
 
   -- a call of an object that is a pool
   pub by_pool : (before after : Kind) (pool : Pool) → before ≡ IsPool pool → after ≡ IsPool pool
@@ -52,19 +61,13 @@ module _ (change : Member → Member → Type 0) (code : ℤ) where
 pub stored : (code : ℤ) → mag code < 2147483648 → to_z w32 (of_z w32 code) ≡ code
 stored code small = to_z-of_z w32 code record { sfits = small }
 
--- a call of a hand: the call of `tag_sets` changed the hand, and its answer has this number
-pub by_hand : {A : Type 0} (does : Tags ℕ → A → Hand ℕ → Hand ℕ → Type 0) (number : A → ℤ) (code raw : ℤ)
-    (before : Kind) (member : Member) (hand : Hand ℕ) (own : IsHandOf (arc_value member.shared).tags hand)
-    (shared : Shared) (answer : A)
-    → before ≡ IsMember member → raw ≡ number answer → code ≡ raw → shared ≡ arc_value member.shared
-    → does shared.tags answer member.hand hand
-    → CallsAs (Through does number code) code before
-    (IsMember (record { shared = member.shared; hand = hand; own = own }))
-by_hand does number code raw before member hand own shared answer b is same at did =
-    subst (λ (x : Kind). CallsAs (Through does number code) code x
-    (IsMember (record { shared = member.shared; hand = hand; own = own })))
-    (sym b)
-    (refl, (answer, same ∙ is, subst (λ (s : Shared). does s.tags answer member.hand hand) at did))
+-- an answer of the pool's tags has this number, and the caller changed as the contract says for that answer
+pub through : {A : Type 0} (does : Tags ℕ → A → Caller → Caller → Type 0) (number : A → ℤ) (code raw : ℤ)
+    (state shared : PoolState) (old new : Caller) (answer : A)
+    → raw ≡ number answer → code ≡ raw → shared ≡ state → does shared.tags answer old new
+    → Through does number code state.tags old new
+through does number code raw state shared old new answer is same at did =
+    (answer, same ∙ is, subst (λ (s : PoolState). does s.tags answer old new) at did)
 
 -- two facts about an answer hold together
 pub both_ok : {A E : Type 0} (P Q : A → Type 0) (answer : Result A E) → IfOk answer P → IfOk answer Q

@@ -1,6 +1,7 @@
 pub mod Calling
 pub mod Flags
 pub mod Owners
+pub mod Parts
 pub mod Pairing
 pub mod Refusing
 pub mod Resizing

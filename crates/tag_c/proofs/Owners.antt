@@ -1,4 +1,4 @@
--- A hand that shares its tags with a berth belongs to whatever tags the berth belongs to.
+-- A hand that shares its tags with a cell belongs to whatever tags the cell belongs to.
 use Rattle.std.proofs.Common.{arith, ℕ, suc, List, [], ◌∷◌, ◌++◌, All, sym, ◌∙◌}
 use Rattle.tag_queue.specs.declared.agent.Agent.{Agent}
 use Rattle.tag_queue.specs.declared.queue.Queue.{Queue}
@@ -9,26 +9,26 @@ use Rattle.tag_sets.specs.Hands.{IsHandOf}
 use Rattle.tag_c.specs.Sharing.{SharesTags}
 
 -- of two agents of one queue, the second belongs to every queue that the first belongs to
-one_queue : (queue other : Queue ℕ) (berth agent : Agent ℕ) → IsAgentOf other berth → IsAgentOf other agent
-    → IsAgentOf queue berth → IsAgentOf queue agent
-one_queue queue other berth agent b a own = (
+one_queue : (queue other : Queue ℕ) (cell agent : Agent ℕ) → IsAgentOf other cell → IsAgentOf other agent
+    → IsAgentOf queue cell → IsAgentOf queue agent
+one_queue queue other cell agent b a own = (
   (a.0.0 ∙ sym b.0.0 ∙ own.0.0, a.0.1 ∙ sym b.0.1 ∙ own.0.1),
   a.1 ∙ sym b.1 ∙ own.1,
   a.2 ∙ sym b.2 ∙ own.2,
 )
 
--- a hand that shares its tags with a berth belongs to every tags that the berth belongs to
-pub one_owner : (tags : Tags ℕ) (berth hand : Hand ℕ) → SharesTags berth hand → IsHandOf tags berth → IsHandOf tags hand
-one_owner tags berth hand shares own = let other = shares.0 in let b = shares.1 in let h = shares.2 in (
-  one_queue tags.reserved other.reserved berth.reserved hand.reserved b.0 h.0 own.0,
-  one_queue tags.ordinary other.ordinary berth.ordinary hand.ordinary b.1 h.1 own.1,
+-- a hand that shares its tags with a cell belongs to every tags that the cell belongs to
+pub one_owner : (tags : Tags ℕ) (cell hand : Hand ℕ) → SharesTags cell hand → IsHandOf tags cell → IsHandOf tags hand
+one_owner tags cell hand shares own = let other = shares.0 in let b = shares.1 in let h = shares.2 in (
+  one_queue tags.reserved other.reserved cell.reserved hand.reserved b.0 h.0 own.0,
+  one_queue tags.ordinary other.ordinary cell.ordinary hand.ordinary b.1 h.1 own.1,
   h.2 ∙ sym b.2 ∙ own.2,
   h.3,
 )
 
 -- two hands of the same tags share their tags
-pub sharing : (tags : Tags ℕ) (berth hand : Hand ℕ) → IsHandOf tags berth → IsHandOf tags hand → SharesTags berth hand
-sharing tags berth hand b h = (tags, b, h)
+pub sharing : (tags : Tags ℕ) (cell hand : Hand ℕ) → IsHandOf tags cell → IsHandOf tags hand → SharesTags cell hand
+sharing tags cell hand b h = (tags, b, h)
 
 -- what holds for all elements of a list holds for the last
 pub last_of : {X : Type 0} (P : X → Type 0) (xs : List X) (x : X) → All P (xs ++ (x ∷ [])) → P x

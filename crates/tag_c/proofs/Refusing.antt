@@ -4,19 +4,21 @@ use lib.Signed.{mag}
 use mir.Syntax.{w32}
 use mir.Val.{to_z, of_z}
 use Rattle.std.specs.Arc.{arc_value}
-use Rattle.tag_queue.specs.declared.fault.SetFault.{SetFault}
-use Rattle.tag_queue.specs.declared.fault.SetFault.TheVariants.{Memory, TotalTooLarge, ReservedTooLarge, ShiftTooLarge, CallerCount, LifeTooLong, CapTooLarge}
+use Rattle.tag_sets.specs.declared.fault.SetFault.{SetFault}
+use Rattle.tag_sets.specs.declared.fault.SetFault.TheVariants.{Memory, TotalTooLarge, ReservedTooLarge, ShiftTooLarge, CallerCount, LifeTooLong, CapTooLarge}
 use Rattle.tag_queue.specs.declared.gather.QueueTotals.{QueueTotals}
 use Rattle.tag_sets.specs.declared.tags.Tags.{Tags}
 use Rattle.tag_c.specs.declared.object.Kind.{Kind}
-use Rattle.tag_c.specs.declared.object.Kind.TheVariants.{Pool as IsPool, Member as IsMember}
+use Rattle.tag_c.specs.declared.object.Kind.TheVariants.{Pool as IsPool, Member as IsMember, Cached as IsCached}
 use Rattle.tag_c.specs.declared.object.Object.{Object}
 use Rattle.tag_c.specs.declared.pool.Pool.{Pool}
+use Rattle.tag_c.specs.declared.pool_state.PoolState.{PoolState}
 use Rattle.tag_c.specs.declared.status.Status.{Status}
 use Rattle.tag_c.specs.declared.status.Status.TheVariants.{BadHandle, NoHand, HandsOut, BadFlag, NotOpened, HandLost}
-use Rattle.tag_c.specs.declared.wishes.Sums.{Sums}
+use Rattle.tag_c.specs.declared.structs.Sums.{Sums}
 use Rattle.tag_c.specs.Codes.{code_of, code_of_set_fault, IsRefusal}
-use Rattle.tag_c.specs.Exports.{HasHand, HasPool, IsHandIn, IsPoolOf, IsMemberIn, IsPoolIn, Refuses, RefusesHandOf, RefusesJoin, RefusesClose, ClosesPool, Ends, sums_of}
+use Rattle.tag_c.specs.Exports.{HasHand, HasPool, IsHandIn, IsPoolOf, IsMemberIn, IsPoolIn, Refuses, RefusesHandOf, RefusesJoin, RefusesClose, ClosesPool, Ends, JoinsKind, sums_of}
+use Rattle.tag_c.specs.Joins.{JoinsAs}
 use Rattle.tag_c.specs.Pools.{LacksHand, Gathers}
 use Rattle.tag_c.proofs.Calling.{stored}
 
@@ -62,6 +64,24 @@ pub pool_there : (value : Option Object) (object : Object) → value ≡ Some ob
     × IsPoolIn tags object.kind
 pool_there value object some has = (has.0, subst (λ (x : Option Object). IsPoolOf has.0 x) some has.1)
 
+-- whatever joins the hands of a pool is a hand
+is_hand : (state : PoolState) (kind : Kind) → JoinsAs state kind → (tags : Tags ℕ) × IsMemberIn tags kind
+is_hand state (IsMember member) joins = ((arc_value member.shared).tags, refl)
+is_hand state (IsCached member) joins = ((arc_value member.shared).tags, refl)
+is_hand state (IsPool pool) joins = absurd joins
+
+-- whatever joins an object is a hand
+pub joiner : (pool kind : Kind) → JoinsKind pool kind → (tags : Tags ℕ) × IsMemberIn tags kind
+joiner (IsPool pool) kind joins = is_hand (arc_value pool.shared) kind joins
+joiner (IsMember member) kind joins = absurd joins
+joiner (IsCached member) kind joins = absurd joins
+
+-- and that object is a pool
+pub joined : (pool kind : Kind) → JoinsKind pool kind → (tags : Tags ℕ) × IsPoolIn tags pool
+joined (IsPool pool) kind joins = ((arc_value pool.shared).tags, refl)
+joined (IsMember member) kind joins = absurd joins
+joined (IsCached member) kind joins = absurd joins
+
 -- the totals of a gathered pool are those of an object that is this pool
 pub ends_of : (kind : Kind) (pool : Pool) → kind ≡ IsPool pool → (totals : Option QueueTotals)
     → IfSome totals (Gathers (arc_value pool.shared).tags) → IfSome totals (Ends kind)
@@ -86,6 +106,7 @@ module _ (flags : ℕ) (status : Status) where
   -- each reason why an object gives no hand is a refusal
   pub join_below : (kind : Kind) → RefusesHandOf kind flags status → IsRefusal (code_of status)
   join_below (IsMember member) is = below status BadHandle is tt
+  join_below (IsCached member) is = below status BadHandle is tt
   join_below (IsPool pool) hand =
       ⊎_elim (λ (flag : (status ≡ BadFlag) × (1 < flags)). below status BadFlag flag.0 tt)
       (λ (lacks : (flags ≤ 1) × LacksHand status).
@@ -99,6 +120,7 @@ module _ (flags : ℕ) (status : Status) where
         → (HasPool pool → (tags : Tags ℕ) × IsPoolIn tags kind)
         → RefusesHandOf kind flags status → RefusesJoin pool hand flags status
     join_behind (IsMember member) to from is = inr (inl (is, empty, λ has. (from has).1))
+    join_behind (IsCached member) to from is = inr (inl (is, empty, λ has. (from has).1))
     join_behind (IsPool inner) to from why = let tags = (arc_value inner.shared).tags in
         inr (inr (empty, (tags, to tags refl), why))
 

@@ -1,4 +1,4 @@
--- An object may be sent to any thread, since each of its fields may, down to the berths.
+-- An object may be sent to any thread, since each of its fields may, down to the cells.
 use denote.Param.Send.{IsSend, IsSync, recorded_send, recorded_sync, struct_send, struct_sync, enum_send, sendable}
 use denote.Enum.Declared.{shape as choices_of}
 use denote.Struct.Declared.{shape as fields_of}
@@ -7,8 +7,11 @@ use Rattle.std.proofs.Crossing.{crosses}
 use Rattle.counted_slot.proofs.Counted.TheSendSync.{the_send as counted_send, the_sync as counted_sync}
 use Rattle.tag_sets.specs.contracts.hand.Hand as hand
 use Rattle.tag_sets.proofs.Crossing.{hand_send, hand_field_send, hand_field_sync, tags_field_send, tags_field_sync}
-use Rattle.tag_c.specs.contracts.berths.Resting as resting
-use Rattle.tag_c.specs.contracts.shared.Shared as shared
+use Rattle.tag_cache.proofs.Crossing.{cache_field_send}
+use Rattle.tag_c.specs.contracts.cached.CacheTerms as terms
+use Rattle.tag_c.specs.contracts.cached.CachedMember as cached
+use Rattle.tag_c.specs.contracts.hand_cells.IdleHand as idle
+use Rattle.tag_c.specs.contracts.pool_state.PoolState as shared
 use Rattle.tag_c.specs.contracts.member.Member as member
 use Rattle.tag_c.specs.contracts.pool.Pool as pool
 use Rattle.tag_c.specs.contracts.object.Kind as kind
@@ -23,19 +26,30 @@ hand_field = hand_field_send u64-field.row (search sendable)
 hand_field_shared : IsSync (hand.the_field u64-field.row).row
 hand_field_shared = hand_field_sync u64-field.row (search sendable)
 
-resting_goes : IsSend resting.the_row
-resting_goes = recorded_send _ _ _ resting.the_type.to_one (struct_send (fields_of resting.the_type) (hand_field, tt))
+idle_goes : IsSend idle.the_row
+idle_goes = recorded_send _ _ _ idle.the_type.to_one (struct_send (fields_of idle.the_type) (hand_field, tt))
 
-resting_shared : IsSync resting.the_row
-resting_shared = recorded_sync _ _ _ resting.the_type.to_one
-    (struct_sync (fields_of resting.the_type) (hand_field_shared, tt))
+idle_shared : IsSync idle.the_row
+idle_shared = recorded_sync _ _ _ idle.the_type.to_one
+    (struct_sync (fields_of idle.the_type) (hand_field_shared, tt))
+
+terms_field : IsSend terms.the_field.row
+terms_field = struct_send (fields_of terms.the_type)
+    (search (sendable, crosses) depth 40, (search (sendable, crosses) depth 40, tt))
+
+terms_shared : IsSync terms.the_field.row
+terms_shared = struct_sync (fields_of terms.the_type)
+    (search (sendable, crosses) depth 40, (search (sendable, crosses) depth 40, tt))
 
 shared_field : IsSend shared.the_field.row
 shared_field = struct_send (fields_of shared.the_type) (
   tags_field_send u64-field.row (search sendable),
   (
     search (sendable, crosses) depth 40,
-    (search (sendable, crosses) depth 40, (search (counted_send, resting_goes, sendable, crosses) depth 60, tt)),
+    (
+      search (sendable, crosses) depth 40,
+      (terms_field, (search (counted_send, idle_goes, sendable, crosses) depth 60, tt)),
+    ),
   ),
 )
 
@@ -49,7 +63,7 @@ shared_field_shared = struct_sync (fields_of shared.the_type) (
     search (sendable, crosses) depth 40,
     (
       search (sendable, crosses) depth 40,
-      (search (counted_sync, resting_goes, resting_shared, sendable, crosses) depth 60, tt),
+      (terms_shared, (search (counted_sync, idle_goes, idle_shared, sendable, crosses) depth 60, tt)),
     ),
   ),
 )
@@ -61,6 +75,12 @@ member_field : IsSend member.the_field.row
 member_field = struct_send (fields_of member.the_type)
     (search (shared_goes, shared_shared, sendable, crosses) depth 60, (hand_field, tt))
 
+cached_field : IsSend cached.the_field.row
+cached_field = struct_send (fields_of cached.the_type) (
+  search (shared_goes, shared_shared, sendable, crosses) depth 60,
+  (cache_field_send u64-field.row (search sendable), tt),
+)
+
 pool_field : IsSend pool.the_field.row
 pool_field = struct_send (fields_of pool.the_type) (
   search (shared_goes, shared_shared, sendable, crosses) depth 60,
@@ -69,6 +89,6 @@ pool_field = struct_send (fields_of pool.the_type) (
 
 pub object_goes : IsSend object.the_row
 object_goes = recorded_send _ _ _ object.the_type.to_one (struct_send (fields_of object.the_type) (
-  enum_send (choices_of kind.the_type) ((pool_field, tt), ((member_field, tt), tt)),
+  enum_send (choices_of kind.the_type) ((member_field, tt), ((pool_field, tt), ((cached_field, tt), tt))),
   tt,
 ))

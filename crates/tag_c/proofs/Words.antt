@@ -1,4 +1,4 @@
--- The machine values of a `Loose` and of a `Hidden`: a pointer and an allocator, in this order. Assumes `Logic`.
+-- The machine values of a `BoxParts` and of an `ErasedPointer`: a pointer and an allocator, in this order. Assumes `Logic`.
 use Rattle.std.proofs.Common.{◌≡◌, ℕ, List, [], ◌∷◌, ◌++◌, Option, Some, refl, sym, subst}
 use mathlib.Core.Bool.{Bool, true, false, ◌&&◌}
 use lib.Dec.{T}
@@ -30,8 +30,8 @@ use Rattle.std_heap.proofs.Global.TheLaws.{the_row_laws}
 use Rattle.tag_c.specs.contracts.object.Object as obj
 use Rattle.tag_c.specs.declared.object.Object.{Object}
 use Rattle.tag_c.specs.Held.{held}
-use Rattle.tag_c.specs.contracts.hidden.Hidden as hidden
-use Rattle.tag_c.specs.contracts.loose.Loose as loose
+use Rattle.tag_c.specs.contracts.erased.ErasedPointer as erased
+use Rattle.tag_c.specs.contracts.box_parts.BoxParts as parts
 
 abbrev pub both : Val → Val → Val
 both v w = vstruct (vcons v (vcons w vnil))
@@ -48,22 +48,22 @@ both_tt true false s t = absurd t
 both_tt false y s t = absurd s
 
 module _ (R Z : RattleType) (L : Laws Z) (g : Ghosts Z.Denot) where
-  abbrev pub Loose : RattleType
-  Loose = loose.the_row R Z g
+  abbrev pub BoxParts : RattleType
+  BoxParts = parts.the_row R Z g
 
   abbrev al : Al
   al = record { row = Z; laws = L; g = g; d = impl [] tnil dnil; drops = impl [] tnil dnil }
 
-  pub loose_good : (b o : ℕ) (h : Val) → Good (layout Z) h → T (has_ty (layout Z) h && true) × WT (both (vptr b o) h)
-  loose_good b o h fits = (and_tt (has_ty (layout Z) h) fits.0, (tt, (fits.1, tt)))
+  pub parts_good : (b o : ℕ) (h : Val) → Good (layout Z) h → T (has_ty (layout Z) h && true) × WT (both (vptr b o) h)
+  parts_good b o h fits = (and_tt (has_ty (layout Z) h) fits.0, (tt, (fits.1, tt)))
 
   module _ {M : Type 1} {𝓤 : Ura M} {𝓛 : Logic 𝓤} {K : Type 0} {Γ : List (Item 𝓤)} {G : Goal 𝓤 𝓛.H} where
-    pub loose_out : K → (d : Loose.Denot) (vs : List Val)
+    pub parts_out : K → (d : BoxParts.Denot) (vs : List Val)
         → ((b o : ℕ) (h : Val) → d.at ≡ block_ptr b o → vs ≡ both (vptr b o) h ∷ [] → Good (layout Z) h
         → Seq K 𝓛 (‵ (box_owns (g.dealloc_token d.alloc) R (block_ptr b o) d.value) ∷ ‵ (Z.own_val d.alloc (h ∷ []))
         ∷ Γ) G)
-        → Seq K 𝓛 (‵ (Loose.own_val d vs) ∷ Γ) G
-    loose_out t d vs k =
+        → Seq K 𝓛 (‵ (BoxParts.own_val d vs) ∷ Γ) G
+    parts_out t d vs k =
         fsplit t $ fpick t (λ vss. fsplit t $ feq_l t
         (λ ev. fsplit t $ feq_l t (λ ep. fsplit t
         $ handle_tells al t d.alloc vss.1.0 (λ h ea fits. move t (1 ∷ []) $ drop t $ move t (1 ∷ []) $
@@ -73,13 +73,13 @@ module _ (R Z : RattleType) (L : Laws Z) (g : Ghosts Z.Denot) where
         (subst (λ (ws : List Val). vs ≡ vstruct (of_list (ptr_val d.at ∷ (ws ++ []))) ∷ []) ea
         (subst (λ (ps : List Val). vs ≡ vstruct (of_list (ps ++ (vss.1.0 ++ []))) ∷ []) ep ev))) fits)))))
 
-    pub loose_in : K → (b o : ℕ) (h : Val) (a : Z.Denot) (x : R.Denot)
-        → Step K 𝓛 (‵ (Loose.own_val (record { at = block_ptr b o; alloc = a; value = x }) (both (vptr b o) h ∷ []))
+    pub parts_in : K → (b o : ℕ) (h : Val) (a : Z.Denot) (x : R.Denot)
+        → Step K 𝓛 (‵ (BoxParts.own_val (record { at = block_ptr b o; alloc = a; value = x }) (both (vptr b o) h ∷ []))
         ∷ Γ) G (‵ (box_owns (g.dealloc_token a) R (block_ptr b o) x) ∷ ‵ (Z.own_val a (h ∷ [])) ∷ Γ) G
-    loose_in t b o h a x = step (λ s. let v : Val = both (vptr b o) h in
+    parts_in t b o h a x = step (λ s. let v : Val = both (vptr b o) h in
         nothing t $ move t (2 ∷ 0 ∷ []) $ fjoin t $ feq_i t (List Val) (vptr b o ∷ []) (vptr b o ∷ []) refl $ fjoin t
         $ feq_i t (List Val) (v ∷ []) (v ∷ []) refl $ fjoin t $
-        fpack t (Valss (RawPtr ∷ Z ∷ [])) (within (shape (loose.the_type R Z g)) (block_ptr b o, (a, tt)) (v ∷ []))
+        fpack t (Valss (RawPtr ∷ Z ∷ [])) (within (shape (parts.the_type R Z g)) (block_ptr b o, (a, tt)) (v ∷ []))
         (vptr b o ∷ [], (h ∷ [], tt)) $ fjoin t $ s)
 
 abbrev pub heap_al : Al
@@ -93,12 +93,12 @@ heap_al = record {
 }
 
 module _ {M : Type 1} {𝓤 : Ura M} {𝓛 : Logic 𝓤} {K : Type 0} {Γ : List (Item 𝓤)} {G : Goal 𝓤 𝓛.H} where
-  pub hidden_out : K → (d : hidden.the_row.Denot) (vs : List Val) (x : Object) → d.value ≡ Some x
+  pub erased_out : K → (d : erased.the_row.Denot) (vs : List Val) (x : Object) → d.value ≡ Some x
       → ((b o : ℕ) (h : Val) → d.at ≡ block_ptr b o → vs ≡ both (vptr b o) h ∷ [] → Good (layout heap.the_row) h
       → Seq K 𝓛 (‵ (box_owns (ghosts.dealloc_token d.alloc) obj.the_row (block_ptr b o) x)
       ∷ ‵ (heap.the_row.own_val d.alloc (h ∷ [])) ∷ Γ) G)
-      → Seq K 𝓛 (‵ (hidden.the_row.own_val d vs) ∷ Γ) G
-  hidden_out t d vs x one k =
+      → Seq K 𝓛 (‵ (erased.the_row.own_val d vs) ∷ Γ) G
+  erased_out t d vs x one k =
       fsplit t $ fpick t (λ vss. fsplit t $ feq_l t
       (λ ev. fsplit t $ feq_l t (λ ep. fsplit t
       $ handle_tells heap_al t d.alloc vss.1.0 (λ h ea fits. move t (1 ∷ []) $ drop t $ move t (1 ∷ []) $
@@ -110,12 +110,12 @@ module _ {M : Type 1} {𝓤 : Ura M} {𝓛 : Logic 𝓤} {K : Type 0} {Γ : List
       (subst (λ (ws : List Val). vs ≡ vstruct (of_list (ptr_val d.at ∷ (ws ++ []))) ∷ []) ea
       (subst (λ (ps : List Val). vs ≡ vstruct (of_list (ps ++ (vss.1.0 ++ []))) ∷ []) ep ev))) fits)))))
 
-  pub hidden_in : K → (p : Ptr) (h : Val) (a : Global) (xs : Option Object)
-      → Step K 𝓛 (‵ (hidden.the_row.own_val (record { at = p; alloc = a; value = xs }) (both (ptr_val p) h ∷ [])) ∷ Γ) G
+  pub erased_in : K → (p : Ptr) (h : Val) (a : Global) (xs : Option Object)
+      → Step K 𝓛 (‵ (erased.the_row.own_val (record { at = p; alloc = a; value = xs }) (both (ptr_val p) h ∷ [])) ∷ Γ) G
       (‵ (held a p xs) ∷ ‵ (heap.the_row.own_val a (h ∷ [])) ∷ Γ) G
-  hidden_in t p h a xs = step (λ s. let v : Val = both (ptr_val p) h in
+  erased_in t p h a xs = step (λ s. let v : Val = both (ptr_val p) h in
       nothing t $ move t (2 ∷ 0 ∷ []) $ fjoin t $ feq_i t (List Val) (ptr_val p ∷ []) (ptr_val p ∷ []) refl $ fjoin t
       $ feq_i t (List Val) (v ∷ []) (v ∷ []) refl $ fjoin t $
       fpack t (Valss (RawPtr ∷ heap.the_field.row ∷ []))
-      (within (shape hidden.the_type) (p, (((tt, tt), tt), tt)) (v ∷ [])) (ptr_val p ∷ [], (h ∷ [], tt)) $ fjoin t
+      (within (shape erased.the_type) (p, (((tt, tt), tt), tt)) (v ∷ [])) (ptr_val p ∷ [], (h ∷ [], tt)) $ fjoin t
       $ s)

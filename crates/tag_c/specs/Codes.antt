@@ -4,12 +4,12 @@ use Rattle.wake_book.specs.declared.grants.Grants.{Grants}
 use Rattle.wake_book.specs.declared.waiting.Left.{Left}
 use Rattle.wake_book.specs.declared.waiting.Left.TheVariants.{Woken, Unwoken}
 use Rattle.tag_layout.specs.declared.layout.TheConstants.{MAX_DEPTH}
-use Rattle.tag_queue.specs.declared.fault.SetFault.{SetFault}
-use Rattle.tag_queue.specs.declared.fault.SetFault.TheVariants.{Memory, TotalTooLarge, ReservedTooLarge, ShiftTooLarge, CallerCount, LifeTooLong, CapTooLarge}
-use Rattle.tag_queue.specs.declared.fault.TagFault.{TagFault}
-use Rattle.tag_queue.specs.declared.fault.TagFault.TheVariants.{NoSuchTag, NoReserved, NotHeld, NotPosted, BadCount, TooShallow, Spent, Waiting, NotWaiting}
+use Rattle.tag_sets.specs.declared.fault.SetFault.{SetFault}
+use Rattle.tag_sets.specs.declared.fault.SetFault.TheVariants.{Memory, TotalTooLarge, ReservedTooLarge, ShiftTooLarge, CallerCount, LifeTooLong, CapTooLarge}
+use Rattle.tag_sets.specs.declared.fault.TagFault.{TagFault}
+use Rattle.tag_sets.specs.declared.fault.TagFault.TheVariants.{NoSuchTag, NoReserved, NotHeld, NotPosted, BadCount, TooShallow, Spent, Waiting, NotWaiting}
 use Rattle.tag_c.specs.declared.status.Status.{Status}
-use Rattle.tag_c.specs.declared.status.Status.TheVariants.{Done, Refused, NoTag, Again, BadHandle, NotEmpty, NoHand, HandsOut, BadKind, TooSmall, BadFlag, NotOpened, NoBerth, HandLost, InUse, HandsWait}
+use Rattle.tag_c.specs.declared.status.Status.TheVariants.{Done, Refused, NoTag, Again, BadHandle, NotEmpty, NoHand, HandsOut, BadKind, TooSmall, BadFlag, NotOpened, NoBerth, HandLost, InUse, HandsWait, CacheTooLarge}
 
 -- the number is negative, so it is a refusal
 abbrev pub IsRefusal : ℤ → Type 0
@@ -56,6 +56,7 @@ code_of NoBerth = negsuc 18
 code_of HandLost = negsuc 19
 code_of InUse = negsuc 28
 code_of HandsWait = negsuc 29
+code_of CacheTooLarge = negsuc 34
 
 -- the tag, or the reason why there is none
 abbrev pub code_of_get : Result (Option ℕ) TagFault → ℤ
@@ -90,3 +91,13 @@ code_of_finish (Ok (Some Woken)) = pos 1
 code_of_finish (Ok (Some Unwoken)) = pos 0
 code_of_finish (Ok None) = code_of Again
 code_of_finish (Err fault) = code_of_fault fault
+
+-- the same answer without its value
+abbrev pub done_of : {A : Type 0} → Result A TagFault → Result ⊤ TagFault
+done_of (Ok x) = Ok tt
+done_of (Err fault) = Err fault
+
+-- the same answer with the first of its two values alone
+abbrev pub first_of : {A B : Type 0} → Result (A × B) TagFault → Result A TagFault
+first_of (Ok both) = Ok both.0
+first_of (Err fault) = Err fault

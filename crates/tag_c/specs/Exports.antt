@@ -1,30 +1,37 @@
 -- What the calls do that open, join, leave and close pools through their handles.
-use Rattle.std.specs.Prelude.{◌≡◌, ℕ, zero, suc, ℤ, pos, negsuc, nat_eq, ◌^◌, ◌<◌, ◌≤◌, ◌⊎◌, Option, Some, None, IsSome}
+use Rattle.std.specs.Prelude.{◌≡◌, ℕ, zero, suc, ℤ, pos, negsuc, nat_eq, if◌then◌else◌, ◌<◌, ◌≤◌, ◌⊎◌, Option, Some, None, IsSome}
 use Rattle.std.specs.Arc.{arc_value}
-use Rattle.tag_queue.specs.declared.fault.SetFault.{SetFault}
+use Rattle.tag_model.specs.declared.world.TheConstants.{MOST_WON}
+use Rattle.wake_book.specs.declared.book_opening.TheConstants.{MAX_CAP}
+use Rattle.tag_sets.specs.declared.fault.SetFault.{SetFault}
 use Rattle.tag_queue.specs.declared.gather.QueueTotals.{QueueTotals}
 use Rattle.tag_queue.specs.declared.queue.Options.{Options}
 use Rattle.tag_sets.specs.declared.tags.Tags.{Tags}
 use Rattle.tag_sets.specs.Opening as sets
+use Rattle.tag_cache.specs.declared.keeping.Keeping.TheVariants.{Always, WhileHolding}
+use Rattle.tag_c.specs.declared.cached.CacheTerms.{CacheTerms}
 use Rattle.tag_c.specs.declared.object.Kind.{Kind}
-use Rattle.tag_c.specs.declared.object.Kind.TheVariants.{Pool as IsPool, Member as IsMember}
+use Rattle.tag_c.specs.declared.object.Kind.TheVariants.{Pool as IsPool, Member as IsMember, Cached as IsCached}
 use Rattle.tag_c.specs.declared.object.Object.{Object}
 use Rattle.tag_c.specs.declared.status.Status.{Status}
-use Rattle.tag_c.specs.declared.status.Status.TheVariants.{BadHandle, NotEmpty, HandsOut, BadFlag, NotOpened, NoBerth, HandLost}
-use Rattle.tag_c.specs.declared.wishes.Sums.{Sums}
-use Rattle.tag_c.specs.declared.wishes.Wishes.{Wishes}
+use Rattle.tag_c.specs.declared.status.Status.TheVariants.{BadHandle, NotEmpty, HandsOut, BadFlag, NotOpened, NoBerth, HandLost, CacheTooLarge}
+use Rattle.tag_c.specs.declared.structs.TheConstants.{MAX_CACHE}
+use Rattle.tag_c.specs.declared.structs.Sums.{Sums}
+use Rattle.tag_c.specs.declared.structs.RequestedOptions.{RequestedOptions}
 use Rattle.tag_c.specs.Codes.{code_of}
+use Rattle.tag_c.specs.Joins.{JoinsAs}
 use Rattle.tag_c.specs.Pools.{Opens, LacksHand, Gathers}
 
 -- this is a pool of these tags
 abbrev pub IsPoolIn : Tags ℕ → Kind → Type 0
 IsPoolIn tags (IsPool pool) = (arc_value pool.shared).tags ≡ tags
-IsPoolIn tags (IsMember member) = ⊥
+IsPoolIn tags _ = ⊥
 
 -- this is a hand of these tags
 abbrev pub IsMemberIn : Tags ℕ → Kind → Type 0
 IsMemberIn tags (IsPool pool) = ⊥
 IsMemberIn tags (IsMember member) = (arc_value member.shared).tags ≡ tags
+IsMemberIn tags (IsCached member) = (arc_value member.shared).tags ≡ tags
 
 -- the handle has a pool of these tags
 abbrev pub IsPoolOf : Tags ℕ → Option Object → Type 0
@@ -54,16 +61,20 @@ abbrev pub unless_zero : ℕ → Option ℕ
 unless_zero zero = None
 unless_zero (suc n) = Some (suc n)
 
--- the options that C asks for; each hand may win 2^48 tags of each set and count 2^56 completions
-abbrev pub options_of : Wishes → Options
-options_of wishes = record {
-  shift = unless_negative wishes.shift;
-  round_robin = nat_eq wishes.flags 1;
-  min_shallow = unless_zero wishes.min_shallow;
-  callers = wishes.hands;
-  life = 2 ^ 48;
-  cap = 2 ^ 56;
+-- the options that C asks for; each hand may win as many tags and count as many completions as a hand can
+abbrev pub options_of : RequestedOptions → Options
+options_of requested = record {
+  shift = unless_negative requested.shift;
+  round_robin = nat_eq requested.flags 1;
+  min_shallow = unless_zero requested.min_shallow;
+  callers = requested.hands;
+  life = MOST_WON;
+  cap = MAX_CAP;
 }
+
+-- the terms on which hands keep tags, as C asks for them: while they hold another one if the number is 1, and else always
+abbrev pub terms_of : ℕ → ℕ → CacheTerms
+terms_of most keeping = record { most = most; keeping = if nat_eq keeping 1 then WhileHolding else Always }
 
 -- the totals as C sees them
 abbrev pub sums_of : QueueTotals → Sums
@@ -82,21 +93,41 @@ sums_of totals = record {
 abbrev pub Refuses : (Status → Type 0) → ℤ → Type 0
 Refuses reason code = (status : Status) × (code ≡ code_of status) × reason status
 
--- the handle has a new pool, opened with these options
-abbrev pub OpensPool : Wishes → Option Object → Type 0
-OpensPool wishes value = (tags : Tags ℕ) × Opens wishes.total wishes.reserved (options_of wishes) tags
-    × IsPoolOf tags value
+-- the hands of a pool keep tags on these terms
+abbrev pub KeepsOn : CacheTerms → Kind → Type 0
+KeepsOn terms (IsPool pool) = (arc_value pool.shared).cache ≡ terms
+KeepsOn terms _ = ⊥
 
--- an open is refused for the first that holds: a full handle, unknown flags, a limit exceeded, lack of memory
-abbrev pub RefusesOpen : Option Object → Wishes → Status → Type 0
-RefusesOpen old wishes status =
-    ((status ≡ NotEmpty) × IsSome old) ⊎ ((status ≡ BadFlag) × (old ≡ None) × (1 < wishes.flags))
-    ⊎ ((fault : SetFault) × (status ≡ NotOpened fault) × (old ≡ None) × (wishes.flags ≤ 1)
-    × sets.RefusesOpen wishes.total wishes.reserved (options_of wishes) fault)
+-- the same of the pool behind a handle
+abbrev pub KeepsBy : CacheTerms → Option Object → Type 0
+KeepsBy terms None = ⊥
+KeepsBy terms (Some object) = KeepsOn terms object.kind
+
+-- the handle has a new pool, opened with these options, whose hands keep up to so many tags
+abbrev pub OpensPool : RequestedOptions → ℕ → ℕ → Option Object → Type 0
+OpensPool requested most keeping value = (tags : Tags ℕ)
+    × Opens requested.total requested.reserved (options_of requested) tags × IsPoolOf tags value
+    × (most ≤ MAX_CACHE) × KeepsBy (terms_of most keeping) value
+
+-- an open is refused for the first that holds: a full handle, an unknown flag or number, too large a cache, a limit
+-- exceeded, lack of memory
+abbrev pub RefusesOpen : Option Object → RequestedOptions → ℕ → ℕ → Status → Type 0
+RefusesOpen old requested most keeping status =
+    ((status ≡ NotEmpty) × IsSome old)
+    ⊎ ((status ≡ BadFlag) × (old ≡ None) × ((1 < requested.flags) ⊎ (1 < keeping)))
+    ⊎ ((status ≡ CacheTooLarge) × (old ≡ None) × (requested.flags ≤ 1) × (keeping ≤ 1) × (MAX_CACHE < most))
+    ⊎ ((fault : SetFault) × (status ≡ NotOpened fault) × (old ≡ None) × (requested.flags ≤ 1) × (keeping ≤ 1)
+    × (most ≤ MAX_CACHE) × sets.RefusesOpen requested.total requested.reserved (options_of requested) fault)
+
+-- the object is a hand of this pool; it has a cache if the pool's hands keep tags, and keeps none yet
+abbrev pub JoinsKind : Kind → Kind → Type 0
+JoinsKind (IsPool pool) hand = JoinsAs (arc_value pool.shared) hand
+JoinsKind _ hand = ⊥
 
 -- the second handle has a hand of the first one's pool
 abbrev pub JoinsPool : Option Object → Option Object → Type 0
-JoinsPool pool hand = (tags : Tags ℕ) × IsPoolOf tags pool × IsHandIn tags hand
+JoinsPool (Some pool) (Some hand) = JoinsKind pool.kind hand.kind
+JoinsPool _ _ = ⊥
 
 -- a pool gives no hand for unknown flags, nor for known ones if it lacks a hand
 abbrev pub RefusesHand : ℕ → Status → Type 0
@@ -105,7 +136,7 @@ RefusesHand flags status = ((status ≡ BadFlag) × (1 < flags)) ⊎ ((flags ≤
 -- a hand gives no other hand
 abbrev pub RefusesHandOf : Kind → ℕ → Status → Type 0
 RefusesHandOf (IsPool pool) flags status = RefusesHand flags status
-RefusesHandOf (IsMember member) flags status = status ≡ BadHandle
+RefusesHandOf _ flags status = status ≡ BadHandle
 
 -- a join is refused for the first that holds: a full handle, a handle without a pool, a pool that gives no hand
 abbrev pub RefusesJoin : Option Object → Option Object → ℕ → Status → Type 0
@@ -113,7 +144,7 @@ RefusesJoin pool hand flags status = ((status ≡ NotEmpty) × IsSome hand)
     ⊎ ((status ≡ BadHandle) × (hand ≡ None) × ¬ (HasPool pool))
     ⊎ ((hand ≡ None) × HasPool pool × RefusesHand flags status)
 
--- a leave is refused for a handle without a hand; when berths are free is not specified
+-- a leave is refused for a handle without a hand; when cells are free is not specified
 abbrev pub RefusesLeave : Option Object → Status → Type 0
 RefusesLeave hand status = ((status ≡ BadHandle) × ¬ (HasHand hand)) ⊎ (status ≡ NoBerth)
 

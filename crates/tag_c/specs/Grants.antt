@@ -1,10 +1,10 @@
 -- What a clear fills in of the wakeups that it granted.
 use Rattle.std.specs.Prelude.{◌≡◌, ℕ, Result, IfOk}
 use Rattle.wake_book.specs.declared.grants.Grants.{Grants}
-use Rattle.tag_queue.specs.declared.fault.TagFault.{TagFault}
-use Rattle.tag_sets.specs.declared.hand.Hand.{Hand}
+use Rattle.tag_sets.specs.declared.fault.TagFault.{TagFault}
 use Rattle.tag_sets.specs.declared.tags.Tags.{Tags}
 use Rattle.tag_c.specs.declared.granted.Granted.{Granted}
+use Rattle.tag_c.specs.Callers.{Caller}
 
 -- the grants as C sees them
 abbrev pub granted_of : Grants → Granted
@@ -15,6 +15,6 @@ abbrev pub Fills : Granted → Result Grants TagFault → Type 0
 Fills granted answer = IfOk answer (λ grants. granted ≡ granted_of grants)
 
 -- a clear does what it does, and its grants are filled in
-abbrev pub Filling : Granted → (Tags ℕ → Result Grants TagFault → Hand ℕ → Hand ℕ → Type 0) → Tags ℕ
-    → Result Grants TagFault → Hand ℕ → Hand ℕ → Type 0
+abbrev pub Filling : Granted → (Tags ℕ → Result Grants TagFault → Caller → Caller → Type 0) → Tags ℕ
+    → Result Grants TagFault → Caller → Caller → Type 0
 Filling granted does tags answer old new = does tags answer old new × Fills granted answer

@@ -1,7 +1,11 @@
 pub mod Sharing
 pub mod Codes
-pub mod Pools
+pub mod Callers
+pub mod Caching
 pub mod Calls
+pub mod Flushes
+pub mod Pools
+pub mod Joins
 pub mod Masks
 pub mod Grants
 pub mod Pairs

@@ -1,6 +1,6 @@
 -- When a pool opens, gives a hand and closes.
 use Rattle.std.specs.Prelude.{◌≡◌, ℕ, ◌⊎◌, List, All}
-use Rattle.tag_queue.specs.declared.fault.SetFault.TheVariants.{Memory}
+use Rattle.tag_sets.specs.declared.fault.SetFault.TheVariants.{Memory}
 use Rattle.tag_queue.specs.declared.gather.QueueTotals.{QueueTotals}
 use Rattle.tag_queue.specs.declared.queue.Options.{Options}
 use Rattle.tag_sets.specs.declared.hand.Hand.{Hand}

@@ -2,7 +2,7 @@
 use Rattle.std.specs.Prelude.{◌≡◌, ℕ, ◌<◌, ◌≤◌, ℤ, List, All, Option, Some, None}
 use Rattle.std.specs.Arc.{arc_value}
 use Rattle.tag_layout.specs.declared.layout.TheConstants.{MAX_DEPTH}
-use Rattle.tag_queue.specs.declared.fault.SetFault.TheVariants.{Memory as WantOfMemory, TotalTooLarge, ReservedTooLarge}
+use Rattle.tag_sets.specs.declared.fault.SetFault.TheVariants.{Memory as WantOfMemory, TotalTooLarge, ReservedTooLarge}
 use Rattle.tag_queue.specs.declared.resizes.ResizeCause.{ResizeCause}
 use Rattle.tag_queue.specs.declared.resizes.ResizeCause.TheVariants.{Missing, DepthTooLarge, InUse as Used, Waiting, Memory}
 use Rattle.tag_sets.specs.declared.hand.Hand.{Hand}
@@ -11,7 +11,7 @@ use Rattle.tag_sets.specs.Hands.{IsHandOf, reserved_of}
 use Rattle.tag_sets.specs.Opening.{HasRange}
 use Rattle.tag_sets.specs.Resizing.{AreSame, IsRefusedFor, IsResized, MayResize}
 use Rattle.tag_c.specs.declared.object.Kind.{Kind}
-use Rattle.tag_c.specs.declared.object.Kind.TheVariants.{Pool as IsPool, Member as IsMember}
+use Rattle.tag_c.specs.declared.object.Kind.TheVariants.{Pool as IsPool}
 use Rattle.tag_c.specs.declared.object.Object.{Object}
 use Rattle.tag_c.specs.declared.status.Status.{Status}
 use Rattle.tag_c.specs.declared.status.Status.TheVariants.{Done, BadHandle, HandsOut, HandLost, InUse, HandsWait, NotOpened}
@@ -57,13 +57,14 @@ abbrev pub EndsResize : ℕ → Tags ℕ → Status → Tags ℕ → Type 0
 EndsResize total old Done new = Resizes total old new
 EndsResize total old status new = RefusesResize total old status × AreSame old new
 
--- a pool is resized or refused, and the code is that of the status; on a hand the call is refused, and nothing changes
+-- a pool is resized or refused, and the code is that of the status; its hands keep tags on the same terms; on a hand the
+-- call is refused, and nothing changes
 abbrev pub ResizesAs : ℕ → ℤ → Kind → Kind → Type 0
 ResizesAs total code (IsPool old) (IsPool new) = (status : Status) × (code ≡ code_of status)
     × EndsResize total (arc_value old.shared).tags status (arc_value new.shared).tags
-ResizesAs total code (IsPool old) (IsMember new) = ⊥
-ResizesAs total code (IsMember old) (IsPool new) = ⊥
-ResizesAs total code (IsMember old) (IsMember new) = (code ≡ code_of BadHandle) × (new ≡ old)
+    × ((arc_value new.shared).cache ≡ (arc_value old.shared).cache)
+ResizesAs total code (IsPool old) new = ⊥
+ResizesAs total code old new = (code ≡ code_of BadHandle) × (new ≡ old)
 
 -- the same of a handle; through an empty one the call is refused, and nothing changes
 abbrev pub ResizesBy : ℕ → ℤ → Option Object → Option Object → Type 0

@@ -1,11 +1,10 @@
 //! Turns the answers of `tag_sets` into the numbers that C sees. An error becomes its negative status of tags.h.
 ghost use Rattle.std.specs.Prelude.{◌≡◌, ◌≤◌, IfOk, IfSome, pos, min};
 ghost use Rattle.tag_layout.specs.declared.layout.TheConstants.{MAX_DEPTH};
-ghost use Rattle.tag_c.specs.Codes.{IsRefusal, code_of_get, code_of_batch, code_of_count, code_of_grants, code_of_done, code_of_finish};
+ghost use Rattle.tag_c.specs.Codes.{IsRefusal, code_of_get, code_of_batch, code_of_count, code_of_grants, code_of_done, code_of_finish, done_of, first_of};
 
 use crate::status::{Status, fault_code};
-use tag_layout::MAX_DEPTH;
-use tag_sets::{Grants, Left, TagFault};
+use tag_sets::{Grants, Left, MAX_DEPTH, TagFault};
 
 /// Returns the tag, `NoTag` if none was found, or the status of the error.
 #[inline]
@@ -71,6 +70,28 @@ pub(crate) fn done_code(answer: Result<(), TagFault>) -> i32
     match answer {
         Ok(()) => 0,
         Err(fault) => fault_code(fault),
+    }
+}
+
+/// Returns the answer of a post without its grants.
+#[inline]
+pub(crate) fn without_grants(answer: Result<Grants, TagFault>) -> Result<(), TagFault>
+    ensures { result ≡ done_of answer }
+{
+    match answer {
+        Ok(_) => Ok(()),
+        Err(fault) => Err(fault),
+    }
+}
+
+/// Returns the wait group of the answer without the grants of the flush before it.
+#[inline]
+pub(crate) fn group_alone(answer: Result<(u32, Grants), TagFault>) -> Result<u32, TagFault>
+    ensures { result ≡ first_of answer }
+{
+    match answer {
+        Ok((group, _)) => Ok(group),
+        Err(fault) => Err(fault),
     }
 }
 

@@ -1,12 +1,98 @@
 //! Takes tags through the handle of a hand. Each call is described in tags.h.
 ghost use Rattle.std.specs.Prelude.{◌≡◌};
-ghost use Rattle.tag_c.specs.Calls.{Calls, CallsBy, Through, DoesGet, DoesGetReserved, DoesGetShallow, DoesGetBatch};
+ghost use Rattle.tag_c.specs.Calls.{Calls, CallsBy, HandCalls, CacheCalls, Through, DoesGet, DoesGetReserved, DoesGetShallow, DoesGetBatch};
 ghost use Rattle.tag_c.specs.Codes.{IsRefusal, code_of_get, code_of_batch};
 
+use crate::cached::CachedMember;
 use crate::codes::{batch_code, get_code};
 use crate::handle::Handle;
+use crate::member::Member;
 use crate::object::{Kind, Object};
 use crate::status::Status;
+
+impl Member {
+    /// Takes a free ordinary tag and returns it.
+    #[inline(always)]
+    fn get(&mut self) -> i32
+        ensures { HandCalls (Through DoesGet code_of_get result) self.old self.new }
+    {
+        get_code(self.shared.tags.get(&mut self.hand))
+    }
+
+    /// Takes a free reserved tag and returns it.
+    #[inline(always)]
+    fn get_reserved(&mut self) -> i32
+        ensures { HandCalls (Through DoesGetReserved code_of_get result) self.old self.new }
+    {
+        get_code(self.shared.tags.get_reserved(&mut self.hand))
+    }
+
+    /// Takes a free ordinary tag within the words' shares of `depth` and returns it.
+    #[inline(always)]
+    fn get_shallow(&mut self, depth: u32) -> i32
+        ensures { HandCalls (Through (DoesGetShallow depth) code_of_get result) self.old self.new }
+    {
+        get_code(self.shared.tags.get_shallow(&mut self.hand, depth))
+    }
+
+    /// Takes up to `n` ordinary tags of one word, and returns the first tag of their run. Bit 0 of `won` becomes 1 if
+    /// that tag was won, bit 1 if the next one was, and so on. If no tag was won, `won` keeps its value.
+    #[inline(always)]
+    fn get_batch(&mut self, n: u32, won: &mut u64) -> i32
+        ensures calls { HandCalls (Through (DoesGetBatch n won.new) code_of_batch result) self.old self.new }
+        ensures kept { IsRefusal result → won.new ≡ won.old }
+    {
+        let answer = self.shared.tags.get_batch(&mut self.hand, n);
+        if let Ok(Some((_, mask))) = answer {
+            *won = mask;
+        }
+        batch_code(answer)
+    }
+}
+
+impl CachedMember {
+    /// Takes a free ordinary tag and returns it.
+    #[cold]
+    #[inline(never)]
+    fn get(&mut self) -> i32
+        ensures { CacheCalls (Through DoesGet code_of_get result) self.old self.new }
+    {
+        get_code(self.cache.get(&self.shared.tags))
+    }
+
+    /// Takes a free reserved tag and returns it.
+    #[cold]
+    #[inline(never)]
+    fn get_reserved(&mut self) -> i32
+        ensures { CacheCalls (Through DoesGetReserved code_of_get result) self.old self.new }
+    {
+        get_code(self.cache.get_reserved(&self.shared.tags))
+    }
+
+    /// Takes a free ordinary tag within the words' shares of `depth` and returns it.
+    #[cold]
+    #[inline(never)]
+    fn get_shallow(&mut self, depth: u32) -> i32
+        ensures { CacheCalls (Through (DoesGetShallow depth) code_of_get result) self.old self.new }
+    {
+        get_code(self.cache.get_shallow(&self.shared.tags, depth))
+    }
+
+    /// Takes up to `n` ordinary tags of one word, and returns the first tag of their run. Bit 0 of `won` becomes 1 if
+    /// that tag was won, bit 1 if the next one was, and so on. If no tag was won, `won` keeps its value.
+    #[cold]
+    #[inline(never)]
+    fn get_batch(&mut self, n: u32, won: &mut u64) -> i32
+        ensures calls { CacheCalls (Through (DoesGetBatch n won.new) code_of_batch result) self.old self.new }
+        ensures kept { IsRefusal result → won.new ≡ won.old }
+    {
+        let answer = self.cache.get_batch(&self.shared.tags, n);
+        if let Ok(Some((_, taken))) = answer {
+            *won = taken;
+        }
+        batch_code(answer)
+    }
+}
 
 impl Object {
     /// Takes a free ordinary tag and returns it.
@@ -14,10 +100,11 @@ impl Object {
     pub(crate) fn get(&mut self) -> i32
         ensures { Calls (Through DoesGet code_of_get result) result self.old self.new }
     {
-        let Kind::Member(member) = &mut self.kind else {
-            return Status::BadHandle.code();
-        };
-        get_code(member.shared.tags.get(&mut member.hand))
+        match &mut self.kind {
+            Kind::Member(member) => member.get(),
+            Kind::Cached(member) => member.get(),
+            Kind::Pool(_) => Status::BadHandle.code(),
+        }
     }
 
     /// Takes a free reserved tag and returns it.
@@ -25,10 +112,11 @@ impl Object {
     pub(crate) fn get_reserved(&mut self) -> i32
         ensures { Calls (Through DoesGetReserved code_of_get result) result self.old self.new }
     {
-        let Kind::Member(member) = &mut self.kind else {
-            return Status::BadHandle.code();
-        };
-        get_code(member.shared.tags.get_reserved(&mut member.hand))
+        match &mut self.kind {
+            Kind::Member(member) => member.get_reserved(),
+            Kind::Cached(member) => member.get_reserved(),
+            Kind::Pool(_) => Status::BadHandle.code(),
+        }
     }
 
     /// Takes a free ordinary tag within the words' shares of `depth` and returns it.
@@ -36,27 +124,24 @@ impl Object {
     pub(crate) fn get_shallow(&mut self, depth: u32) -> i32
         ensures { Calls (Through (DoesGetShallow depth) code_of_get result) result self.old self.new }
     {
-        let Kind::Member(member) = &mut self.kind else {
-            return Status::BadHandle.code();
-        };
-        get_code(member.shared.tags.get_shallow(&mut member.hand, depth))
+        match &mut self.kind {
+            Kind::Member(member) => member.get_shallow(depth),
+            Kind::Cached(member) => member.get_shallow(depth),
+            Kind::Pool(_) => Status::BadHandle.code(),
+        }
     }
 
-    /// Takes up to `n` ordinary tags of one word, and returns the first tag of their run. Bit 0 of `won` becomes 1 if
-    /// that tag was won, bit 1 if the next one was, and so on. If no tag was won, `won` keeps its value.
+    /// Takes up to `n` ordinary tags of one word, and returns the first tag of their run.
     #[inline]
     pub(crate) fn get_batch(&mut self, n: u32, won: &mut u64) -> i32
         ensures calls { Calls (Through (DoesGetBatch n won.new) code_of_batch result) result self.old self.new }
         ensures kept { IsRefusal result → won.new ≡ won.old }
     {
-        let Kind::Member(member) = &mut self.kind else {
-            return Status::BadHandle.code();
-        };
-        let answer = member.shared.tags.get_batch(&mut member.hand, n);
-        if let Ok(Some((_, mask))) = answer {
-            *won = mask;
+        match &mut self.kind {
+            Kind::Member(member) => member.get_batch(n, won),
+            Kind::Cached(member) => member.get_batch(n, won),
+            Kind::Pool(_) => Status::BadHandle.code(),
         }
-        batch_code(answer)
     }
 }
 

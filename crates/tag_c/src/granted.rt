@@ -1,12 +1,14 @@
 //! Clears that also say in which wait groups they granted wakeups, through the handle of a hand. Each is described in
 //! tags.h.
 ghost use Rattle.std.specs.Prelude.{◌≡◌};
-ghost use Rattle.tag_c.specs.Calls.{Calls, CallsBy, Through, DoesClear, DoesClearBatch};
+ghost use Rattle.tag_c.specs.Calls.{Calls, CallsBy, HandCalls, CacheCalls, Through, DoesClear, DoesClearBatch};
 ghost use Rattle.tag_c.specs.Codes.{IsRefusal, code_of_grants};
 ghost use Rattle.tag_c.specs.Grants.{Filling, Fills};
 
+use crate::cached::CachedMember;
 use crate::codes::grants_code;
 use crate::handle::Handle;
+use crate::member::Member;
 use crate::object::{Kind, Object};
 use crate::status::Status;
 use tag_sets::{Grants, TagFault};
@@ -38,6 +40,54 @@ pub(crate) fn fill(answer: Result<Grants, TagFault>, granted: &mut Granted) -> i
     grants_code(answer)
 }
 
+impl Member {
+    /// Gives a held tag back, fills in whom that granted a wakeup, and returns how many waiters they are.
+    #[inline(always)]
+    fn clear_granted(&mut self, tag: u32, granted: &mut Granted) -> i32
+        ensures calls { HandCalls (Through (Filling granted.new (DoesClear tag)) code_of_grants result) self.old self.new }
+        ensures kept { IsRefusal result → granted.new ≡ granted.old }
+    {
+        fill(self.shared.tags.clear_granted(&mut self.hand, tag), granted)
+    }
+
+    /// Gives held ordinary tags back, fills in whom that granted a wakeup, and returns how many waiters they are.
+    #[inline(always)]
+    fn clear_batch_granted(&mut self, tags: &[u32], granted: &mut Granted) -> i32
+        ensures calls { HandCalls (Through (Filling granted.new (DoesClearBatch tags.now)) code_of_grants result) self.old self.new }
+        ensures kept { IsRefusal result → granted.new ≡ granted.old }
+    {
+        fill(
+            self.shared.tags.clear_batch_granted(&mut self.hand, tags),
+            granted,
+        )
+    }
+}
+
+impl CachedMember {
+    /// Gives a held tag back, fills in whom that granted a wakeup, and returns how many waiters they are.
+    #[cold]
+    #[inline(never)]
+    fn clear_granted(&mut self, tag: u32, granted: &mut Granted) -> i32
+        ensures calls { CacheCalls (Through (Filling granted.new (DoesClear tag)) code_of_grants result) self.old self.new }
+        ensures kept { IsRefusal result → granted.new ≡ granted.old }
+    {
+        fill(self.cache.clear_granted(&self.shared.tags, tag), granted)
+    }
+
+    /// Gives held ordinary tags back, fills in whom that granted a wakeup, and returns how many waiters they are.
+    #[cold]
+    #[inline(never)]
+    fn clear_batch_granted(&mut self, tags: &[u32], granted: &mut Granted) -> i32
+        ensures calls { CacheCalls (Through (Filling granted.new (DoesClearBatch tags.now)) code_of_grants result) self.old self.new }
+        ensures kept { IsRefusal result → granted.new ≡ granted.old }
+    {
+        fill(
+            self.cache.clear_batch_granted(&self.shared.tags, tags),
+            granted,
+        )
+    }
+}
+
 impl Object {
     /// Gives a held tag back, fills in whom that granted a wakeup, and returns how many waiters they are.
     #[inline]
@@ -45,32 +95,24 @@ impl Object {
         ensures calls { Calls (Through (Filling granted.new (DoesClear tag)) code_of_grants result) result self.old self.new }
         ensures kept { IsRefusal result → granted.new ≡ granted.old }
     {
-        let Kind::Member(member) = &mut self.kind else {
-            return Status::BadHandle.code();
-        };
-        fill(
-            member.shared.tags.clear_silently(&mut member.hand, tag),
-            granted,
-        )
+        match &mut self.kind {
+            Kind::Member(member) => member.clear_granted(tag, granted),
+            Kind::Cached(member) => member.clear_granted(tag, granted),
+            Kind::Pool(_) => Status::BadHandle.code(),
+        }
     }
 
     /// Gives held ordinary tags back, fills in whom that granted a wakeup, and returns how many waiters they are.
     #[inline]
     pub(crate) fn clear_batch_granted(&mut self, tags: &[u32], granted: &mut Granted) -> i32
-        ensures calls { Calls (Through (Filling granted.new (DoesClearBatch tags.now)) code_of_grants result) result
-            self.old self.new }
+        ensures calls { Calls (Through (Filling granted.new (DoesClearBatch tags.now)) code_of_grants result) result self.old self.new }
         ensures kept { IsRefusal result → granted.new ≡ granted.old }
     {
-        let Kind::Member(member) = &mut self.kind else {
-            return Status::BadHandle.code();
-        };
-        fill(
-            member
-                .shared
-                .tags
-                .clear_batch_silently(&mut member.hand, tags),
-            granted,
-        )
+        match &mut self.kind {
+            Kind::Member(member) => member.clear_batch_granted(tags, granted),
+            Kind::Cached(member) => member.clear_batch_granted(tags, granted),
+            Kind::Pool(_) => Status::BadHandle.code(),
+        }
     }
 }
 

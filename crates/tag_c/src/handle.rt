@@ -3,8 +3,8 @@ ghost use Rattle.std.specs.Prelude.{◌≡◌, Some, None, IfSome, IfNone};
 ghost use Rattle.std.specs.Borrow.{sem};
 ghost use Rattle.tag_c.specs.Held.{flag_of};
 
-use crate::hidden::Hidden;
-use crate::loose::Loose;
+use crate::box_parts::BoxParts;
+use crate::erased::ErasedPointer;
 use crate::object::Object;
 use std::alloc::Global;
 use std::mem::replace;
@@ -15,7 +15,7 @@ use std::mem::replace;
 pub struct Handle {
     /// 1 if there is an object, 0 if the handle is empty.
     pub full: u64,
-    pub object: Hidden,
+    pub object: ErasedPointer,
     ghost held: { full ≡ flag_of object.value },
 }
 
@@ -28,7 +28,7 @@ impl Handle {
     {
         Handle {
             full: 0,
-            object: Hidden::empty(alloc),
+            object: ErasedPointer::empty(alloc),
         }
     }
 
@@ -38,7 +38,7 @@ impl Handle {
     {
         Handle {
             full: 1,
-            object: Hidden::hide(Loose::of(object)),
+            object: ErasedPointer::erase(BoxParts::of(object)),
         }
     }
 
@@ -49,7 +49,7 @@ impl Handle {
     {
         let Handle { full, object } = self;
         if full == 1 {
-            Some(object.show().into_box())
+            Some(object.restore().into_box())
         } else {
             None
         }

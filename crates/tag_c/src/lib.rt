@@ -1,24 +1,26 @@
 //! Tags for C programs: a handle for a pool of tags, and a handle for each thread that takes tags from it.
 #![tactic(auto)]
 
-mod berths;
+mod box_parts;
+mod cached;
 mod codes;
+mod erased;
+mod flush;
 mod gets;
 mod gives;
 mod granted;
+mod hand_cells;
 mod handle;
-mod hidden;
 mod looks;
-mod loose;
 mod masks;
 mod member;
 mod object;
 mod options;
 mod pairs;
 mod pool;
+mod pool_state;
 mod pools;
 mod resizes;
-mod shared;
 mod status;
+mod structs;
 mod values;
-mod wishes;

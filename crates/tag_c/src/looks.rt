@@ -1,12 +1,14 @@
 //! Reports which tags are held or busy, the sizes of a set, and the counts, through the handle of a hand. Each call is
 //! described in tags.h.
 ghost use Rattle.std.specs.Prelude.{◌≡◌};
-ghost use Rattle.tag_c.specs.Calls.{Calls, CallsBy};
+ghost use Rattle.tag_c.specs.Calls.{Calls, CallsBy, HandCalls, CacheCalls};
 ghost use Rattle.tag_c.specs.Codes.{IsRefusal};
 ghost use Rattle.tag_c.specs.Views.{SaysHeld, SaysBusy, SaysShown, SaysWakes};
 
+use crate::cached::CachedMember;
 use crate::codes::number_code;
 use crate::handle::Handle;
+use crate::member::Member;
 use crate::object::{Kind as Behind, Object};
 use crate::status::Status;
 use tag_sets::{Kind, TagFault};
@@ -41,50 +43,43 @@ pub struct Counts {
     pub index: u32,
 }
 
-impl Object {
-    /// Returns 1 if the hand holds the tag, and 0 if not.
-    #[inline]
-    pub(crate) fn holds(&mut self, tag: u32) -> i32
-        ensures { Calls (SaysHeld tag result) result self.old self.new }
+impl Member {
+    /// Returns 1 if the caller holds the tag, and 0 if not.
+    #[inline(always)]
+    fn holds(&mut self, tag: u32) -> i32
+        ensures { HandCalls (SaysHeld tag result) self.old self.new }
     {
-        let Behind::Member(member) = &mut self.kind else {
-            return Status::BadHandle.code();
-        };
-        if tag >= member.shared.total {
+        if tag >= self.shared.total {
             return Status::Refused(TagFault::NoSuchTag).code();
         }
-        if member.hand.holds(tag) { 1 } else { 0 }
+        if self.hand.holds(tag) { 1 } else { 0 }
     }
 
     /// Returns how many tags of both sets are busy. Bit `tag % 64` of `into[tag / 64]` becomes 1 for each of them, and
     /// every other bit becomes 0.
-    pub(crate) fn busy(&mut self, into: &mut [u64]) -> i32
-        ensures calls { Calls (SaysBusy into.old into.new result) result self.old self.new }
+    #[inline(always)]
+    fn busy(&mut self, into: &mut [u64]) -> i32
+        ensures calls { HandCalls (SaysBusy into.old into.new result) self.old self.new }
         ensures kept { IsRefusal result → into.new ≡ into.old }
     {
-        let Behind::Member(member) = &mut self.kind else {
-            return Status::BadHandle.code();
-        };
-        if (member.shared.total as usize).div_ceil(64) > into.len() {
+        if (self.shared.total as usize).div_ceil(64) > into.len() {
             return Status::TooSmall.code();
         }
-        number_code(member.shared.tags.busy(&mut member.hand, into))
+        number_code(self.shared.tags.busy(&mut self.hand, into))
     }
 
     /// Writes the sizes of the ordinary set if `kind` is 0, and of the reserved set if it is 1.
-    pub(crate) fn show(&mut self, kind: u32, sizes: &mut Sizes) -> i32
-        ensures calls { Calls (SaysShown kind sizes.new result) result self.old self.new }
+    #[inline(always)]
+    fn show(&mut self, kind: u32, sizes: &mut Sizes) -> i32
+        ensures calls { HandCalls (SaysShown kind sizes.new result) self.old self.new }
         ensures kept { IsRefusal result → sizes.new ≡ sizes.old }
     {
-        let Behind::Member(member) = &mut self.kind else {
-            return Status::BadHandle.code();
-        };
         let kind = match kind {
             0 => Kind::Ordinary,
             1 => Kind::Reserved,
             _ => return Status::BadKind.code(),
         };
-        let shown = member.shared.tags.show(&mut member.hand, kind);
+        let shown = self.shared.tags.show(&mut self.hand, kind);
         *sizes = Sizes {
             depth: shown.depth,
             busy: shown.busy,
@@ -96,14 +91,12 @@ impl Object {
     }
 
     /// Writes the counts of completions and of waiters, each from a load of its own.
-    pub(crate) fn wakes(&mut self, counts: &mut Counts) -> i32
-        ensures calls { Calls (SaysWakes counts.new result) result self.old self.new }
+    #[inline(always)]
+    fn wakes(&mut self, counts: &mut Counts) -> i32
+        ensures calls { HandCalls (SaysWakes counts.new result) self.old self.new }
         ensures kept { IsRefusal result → counts.new ≡ counts.old }
     {
-        let Behind::Member(member) = &mut self.kind else {
-            return Status::BadHandle.code();
-        };
-        let wakes = member.shared.tags.wakes(&mut member.hand);
+        let wakes = self.shared.tags.wakes(&mut self.hand);
         *counts = Counts {
             counted: wakes.counted,
             charged: wakes.charged,
@@ -111,6 +104,128 @@ impl Object {
             index: wakes.index,
         };
         0
+    }
+}
+
+impl CachedMember {
+    /// Returns 1 if the caller holds the tag, and 0 if not.
+    #[cold]
+    #[inline(never)]
+    fn holds(&mut self, tag: u32) -> i32
+        ensures { CacheCalls (SaysHeld tag result) self.old self.new }
+    {
+        if tag >= self.shared.total {
+            return Status::Refused(TagFault::NoSuchTag).code();
+        }
+        if self.cache.holds(tag) { 1 } else { 0 }
+    }
+
+    /// Returns how many tags of both sets are busy. Bit `tag % 64` of `into[tag / 64]` becomes 1 for each of them, and
+    /// every other bit becomes 0.
+    #[cold]
+    #[inline(never)]
+    fn busy(&mut self, into: &mut [u64]) -> i32
+        ensures calls { CacheCalls (SaysBusy into.old into.new result) self.old self.new }
+        ensures kept { IsRefusal result → into.new ≡ into.old }
+    {
+        if (self.shared.total as usize).div_ceil(64) > into.len() {
+            return Status::TooSmall.code();
+        }
+        number_code(self.cache.busy(&self.shared.tags, into))
+    }
+
+    /// Writes the sizes of the ordinary set if `kind` is 0, and of the reserved set if it is 1.
+    #[cold]
+    #[inline(never)]
+    fn show(&mut self, kind: u32, sizes: &mut Sizes) -> i32
+        ensures calls { CacheCalls (SaysShown kind sizes.new result) self.old self.new }
+        ensures kept { IsRefusal result → sizes.new ≡ sizes.old }
+    {
+        let kind = match kind {
+            0 => Kind::Ordinary,
+            1 => Kind::Reserved,
+            _ => return Status::BadKind.code(),
+        };
+        let shown = self.cache.show(&self.shared.tags, kind);
+        *sizes = Sizes {
+            depth: shown.depth,
+            busy: shown.busy,
+            cleared: shown.cleared,
+            bits_per_word: shown.bits_per_word,
+            words: shown.map_nr,
+        };
+        0
+    }
+
+    /// Writes the counts of completions and of waiters, each from a load of its own.
+    #[cold]
+    #[inline(never)]
+    fn wakes(&mut self, counts: &mut Counts) -> i32
+        ensures calls { CacheCalls (SaysWakes counts.new result) self.old self.new }
+        ensures kept { IsRefusal result → counts.new ≡ counts.old }
+    {
+        let found = self.cache.wakes(&self.shared.tags);
+        *counts = Counts {
+            counted: found.counted,
+            charged: found.charged,
+            active: found.active,
+            index: found.index,
+        };
+        0
+    }
+}
+
+impl Object {
+    /// Returns 1 if the caller holds the tag, and 0 if not.
+    #[inline]
+    pub(crate) fn holds(&mut self, tag: u32) -> i32
+        ensures { Calls (SaysHeld tag result) result self.old self.new }
+    {
+        match &mut self.kind {
+            Behind::Member(member) => member.holds(tag),
+            Behind::Cached(member) => member.holds(tag),
+            Behind::Pool(_) => Status::BadHandle.code(),
+        }
+    }
+
+    /// Returns how many tags of both sets are busy. Bit `tag % 64` of `into[tag / 64]` becomes 1 for each of them, and
+    /// every other bit becomes 0.
+    #[inline]
+    pub(crate) fn busy(&mut self, into: &mut [u64]) -> i32
+        ensures calls { Calls (SaysBusy into.old into.new result) result self.old self.new }
+        ensures kept { IsRefusal result → into.new ≡ into.old }
+    {
+        match &mut self.kind {
+            Behind::Member(member) => member.busy(into),
+            Behind::Cached(member) => member.busy(into),
+            Behind::Pool(_) => Status::BadHandle.code(),
+        }
+    }
+
+    /// Writes the sizes of the ordinary set if `kind` is 0, and of the reserved set if it is 1.
+    #[inline]
+    pub(crate) fn show(&mut self, kind: u32, sizes: &mut Sizes) -> i32
+        ensures calls { Calls (SaysShown kind sizes.new result) result self.old self.new }
+        ensures kept { IsRefusal result → sizes.new ≡ sizes.old }
+    {
+        match &mut self.kind {
+            Behind::Member(member) => member.show(kind, sizes),
+            Behind::Cached(member) => member.show(kind, sizes),
+            Behind::Pool(_) => Status::BadHandle.code(),
+        }
+    }
+
+    /// Writes the counts of completions and of waiters, each from a load of its own.
+    #[inline]
+    pub(crate) fn wakes(&mut self, counts: &mut Counts) -> i32
+        ensures calls { Calls (SaysWakes counts.new result) result self.old self.new }
+        ensures kept { IsRefusal result → counts.new ≡ counts.old }
+    {
+        match &mut self.kind {
+            Behind::Member(member) => member.wakes(counts),
+            Behind::Cached(member) => member.wakes(counts),
+            Behind::Pool(_) => Status::BadHandle.code(),
+        }
     }
 }
 

@@ -1,15 +1,75 @@
 //! Gives back the tags of a mask in one call, through the handle of a hand. Each call is described in tags.h.
 ghost use Rattle.std.specs.Prelude.{◌≡◌};
-ghost use Rattle.tag_c.specs.Calls.{Calls, CallsBy, Through};
+ghost use Rattle.tag_c.specs.Calls.{Calls, CallsBy, HandCalls, CacheCalls, Through};
 ghost use Rattle.tag_c.specs.Codes.{IsRefusal, code_of_grants};
 ghost use Rattle.tag_c.specs.Grants.{Filling};
 ghost use Rattle.tag_c.specs.Masks.{DoesClearMask};
 
+use crate::cached::CachedMember;
 use crate::codes::grants_code;
 use crate::granted::{Granted, fill};
 use crate::handle::Handle;
+use crate::member::Member;
 use crate::object::{Kind, Object};
 use crate::status::Status;
+
+impl Member {
+    /// Gives the held ordinary tags of a mask back, and returns how many waiters were granted a wakeup.
+    #[inline(always)]
+    fn clear_run(&mut self, first: u32, mask: u64) -> i32
+        ensures { HandCalls (Through (DoesClearMask first mask) code_of_grants result) self.old self.new }
+    {
+        grants_code(
+            self.shared
+                .tags
+                .clear_mask_granted(&mut self.hand, first, mask),
+        )
+    }
+
+    /// Gives the held ordinary tags of a mask back, fills in whom that granted a wakeup, and returns how many waiters
+    /// they are.
+    #[inline(always)]
+    fn clear_run_granted(&mut self, first: u32, mask: u64, granted: &mut Granted) -> i32
+        ensures calls { HandCalls (Through (Filling granted.new (DoesClearMask first mask)) code_of_grants result) self.old self.new }
+        ensures kept { IsRefusal result → granted.new ≡ granted.old }
+    {
+        fill(
+            self.shared
+                .tags
+                .clear_mask_granted(&mut self.hand, first, mask),
+            granted,
+        )
+    }
+}
+
+impl CachedMember {
+    /// Gives the held ordinary tags of a mask back, and returns how many waiters were granted a wakeup.
+    #[cold]
+    #[inline(never)]
+    fn clear_run(&mut self, first: u32, mask: u64) -> i32
+        ensures { CacheCalls (Through (DoesClearMask first mask) code_of_grants result) self.old self.new }
+    {
+        grants_code(
+            self.cache
+                .clear_mask_granted(&self.shared.tags, first, mask),
+        )
+    }
+
+    /// Gives the held ordinary tags of a mask back, fills in whom that granted a wakeup, and returns how many waiters
+    /// they are.
+    #[cold]
+    #[inline(never)]
+    fn clear_run_granted(&mut self, first: u32, mask: u64, granted: &mut Granted) -> i32
+        ensures calls { CacheCalls (Through (Filling granted.new (DoesClearMask first mask)) code_of_grants result) self.old self.new }
+        ensures kept { IsRefusal result → granted.new ≡ granted.old }
+    {
+        fill(
+            self.cache
+                .clear_mask_granted(&self.shared.tags, first, mask),
+            granted,
+        )
+    }
+}
 
 impl Object {
     /// Gives the held ordinary tags of a mask back, and returns how many waiters were granted a wakeup.
@@ -17,35 +77,25 @@ impl Object {
     pub(crate) fn clear_run(&mut self, first: u32, mask: u64) -> i32
         ensures { Calls (Through (DoesClearMask first mask) code_of_grants result) result self.old self.new }
     {
-        let Kind::Member(member) = &mut self.kind else {
-            return Status::BadHandle.code();
-        };
-        grants_code(
-            member
-                .shared
-                .tags
-                .clear_mask_silently(&mut member.hand, first, mask),
-        )
+        match &mut self.kind {
+            Kind::Member(member) => member.clear_run(first, mask),
+            Kind::Cached(member) => member.clear_run(first, mask),
+            Kind::Pool(_) => Status::BadHandle.code(),
+        }
     }
 
     /// Gives the held ordinary tags of a mask back, fills in whom that granted a wakeup, and returns how many waiters
     /// they are.
     #[inline]
     pub(crate) fn clear_run_granted(&mut self, first: u32, mask: u64, granted: &mut Granted) -> i32
-        ensures calls { Calls (Through (Filling granted.new (DoesClearMask first mask)) code_of_grants result) result
-            self.old self.new }
+        ensures calls { Calls (Through (Filling granted.new (DoesClearMask first mask)) code_of_grants result) result self.old self.new }
         ensures kept { IsRefusal result → granted.new ≡ granted.old }
     {
-        let Kind::Member(member) = &mut self.kind else {
-            return Status::BadHandle.code();
-        };
-        fill(
-            member
-                .shared
-                .tags
-                .clear_mask_silently(&mut member.hand, first, mask),
-            granted,
-        )
+        match &mut self.kind {
+            Kind::Member(member) => member.clear_run_granted(first, mask, granted),
+            Kind::Cached(member) => member.clear_run_granted(first, mask, granted),
+            Kind::Pool(_) => Status::BadHandle.code(),
+        }
     }
 }
 

@@ -1,12 +1,14 @@
 //! The object behind a handle.
+use crate::cached::CachedMember;
 use crate::member::Member;
 use crate::pool::Pool;
 
-/// A pool or a hand.
+/// A hand, a pool, or a hand with a cache. What comes first is tested for first.
 #[derive(Drop)]
 pub enum Kind {
-    Pool(Pool),
     Member(Member),
+    Pool(Pool),
+    Cached(CachedMember),
 }
 
 /// The object that a full handle owns.

@@ -1,33 +1,47 @@
 //! Converts the options that C passes and the totals that it gets.
 ghost use Rattle.std.specs.Prelude.{◌≡◌};
-ghost use Rattle.tag_c.specs.Exports.{options_of, sums_of};
+ghost use Rattle.tag_c.specs.Exports.{options_of, sums_of, terms_of};
 
-use crate::wishes::{CAP, LIFE, ROUND_ROBIN, Sums, Wishes};
-use tag_sets::{Options, QueueTotals};
+use crate::cached::CacheTerms;
+use crate::structs::{ROUND_ROBIN, RequestedOptions, Sums, WHILE_HOLDING};
+use tag_cache::Keeping;
+use tag_sets::{MAX_CAP, MOST_WON, Options, QueueTotals};
 
 /// Returns the options as `tag_sets` takes them. A negative shift and a `min_shallow` of 0 become `None`, and each hand
 /// may win and count as much as the limits allow.
-pub(crate) fn read_options(wishes: &Wishes) -> Options
-    ensures { result ≡ options_of wishes.now }
+pub(crate) fn read_options(requested: &RequestedOptions) -> Options
+    ensures { result ≡ options_of requested.now }
 {
-    let shift = if wishes.shift < 0 {
+    let shift = if requested.shift < 0 {
         None
     } else {
-        Some(wishes.shift as u32)
+        Some(requested.shift as u32)
     };
-    let min_shallow = if wishes.min_shallow == 0 {
+    let min_shallow = if requested.min_shallow == 0 {
         None
     } else {
-        Some(wishes.min_shallow)
+        Some(requested.min_shallow)
     };
     Options {
         shift,
-        round_robin: wishes.flags == ROUND_ROBIN,
+        round_robin: requested.flags == ROUND_ROBIN,
         min_shallow,
-        callers: wishes.hands,
-        life: LIFE,
-        cap: CAP,
+        callers: requested.hands,
+        life: MOST_WON,
+        cap: MAX_CAP,
     }
+}
+
+/// Returns the terms on which the hands of a pool keep tags: `WHILE_HOLDING`, or always.
+pub(crate) fn read_terms(most: u32, keeping: u32) -> CacheTerms
+    ensures { result ≡ terms_of most keeping }
+{
+    let keeping = if keeping == WHILE_HOLDING {
+        Keeping::WhileHolding
+    } else {
+        Keeping::Always
+    };
+    CacheTerms { most, keeping }
 }
 
 /// Returns the totals of a pool as C sees them.

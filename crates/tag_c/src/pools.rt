@@ -4,16 +4,15 @@ ghost use Rattle.std.specs.Arc.{arc_value};
 ghost use Rattle.tag_sets.specs.declared.tags.Tags.{Tags};
 ghost use Rattle.tag_c.specs.Codes.{code_of};
 ghost use Rattle.tag_c.specs.Exports.{HasPool, HasHand, IsPoolIn, IsMemberIn, Refuses, Ends};
-ghost use Rattle.tag_c.specs.Exports.{OpensPool, RefusesOpen, JoinsPool, RefusesHandOf, RefusesJoin, RefusesLeave, ClosesPool, RefusesClose};
+ghost use Rattle.tag_c.specs.Exports.{OpensPool, RefusesOpen, JoinsKind, JoinsPool, RefusesHandOf, RefusesJoin, RefusesLeave, ClosesPool, RefusesClose};
 ghost use Rattle.tag_c.specs.declared.status.Status.TheVariants.{Done, NotEmpty, BadHandle, HandsOut, HandLost, NoBerth};
 
 use crate::handle::Handle;
-use crate::member::Member;
 use crate::object::{Kind, Object};
-use crate::options::{read_options, read_sums};
+use crate::options::{read_options, read_sums, read_terms};
 use crate::pool::Pool;
 use crate::status::Status;
-use crate::wishes::{ROUND_ROBIN, Sums, Wishes};
+use crate::structs::{MAX_CACHE, ROUND_ROBIN, RequestedOptions, Sums, WHILE_HOLDING};
 use std::alloc::Global;
 use tag_sets::{QueueTotals, SetFault};
 
@@ -22,8 +21,8 @@ const STAY: u32 = 1;
 
 impl Object {
     /// Takes out a hand of this pool. Fails if this is a hand, if the flags are unknown, or if the pool gives no hand.
-    pub(crate) fn join(&self, flags: u32) -> Result<Member, Status>
-        ensures ok { IfOk result (λ member. IsPoolIn (arc_value member.shared).tags self.now.kind) }
+    pub(crate) fn join(&self, flags: u32) -> Result<Kind, Status>
+        ensures ok { IfOk result (JoinsKind self.now.kind) }
         ensures known { IfOk result (λ _. flags ≤ 1) }
         ensures why { IfErr result (RefusesHandOf self.now.kind flags) }
     {
@@ -42,33 +41,36 @@ impl Object {
     {
         match &self.kind {
             Kind::Member(_) => true,
+            Kind::Cached(_) => true,
             Kind::Pool(_) => false,
         }
     }
 
-    /// Puts the hand back into a berth of its pool. `NoBerth` if none is free.
+    /// Puts the hand back into a cell of its pool, once it keeps nothing. `NoBerth` if no cell is free.
     pub(crate) fn leave(self) -> Status
         requires { (tags : Tags ℕ) × IsMemberIn tags self.kind }
         ensures { (result ≡ Done) ⊎ (result ≡ NoBerth) }
     {
         let Object { kind } = self;
-        match kind {
-            Kind::Pool(_) => Status::BadHandle,
-            Kind::Member(member) => match member.leave() {
-                Ok(()) => Status::Done,
-                Err(_) => Status::NoBerth,
-            },
+        let member = match kind {
+            Kind::Pool(_) => return Status::BadHandle,
+            Kind::Member(member) => member,
+            Kind::Cached(member) => member.into_member(),
+        };
+        match member.leave() {
+            Ok(()) => Status::Done,
+            Err(_) => Status::NoBerth,
         }
     }
 
     /// Returns whether all hands of this pool are back. Fails if this is a hand.
-    pub(crate) fn is_alone(&self) -> Result<bool, Status>
+    pub(crate) fn has_all_hands(&self) -> Result<bool, Status>
         ensures ok { IfOk result (λ _. (tags : Tags ℕ) × IsPoolIn tags self.now.kind) }
         ensures err { IfErr result (λ status. (status ≡ BadHandle) × ¬ ((tags : Tags ℕ) × IsPoolIn tags self.now.kind)) }
     {
         match &self.kind {
-            Kind::Pool(pool) => Ok(pool.is_alone()),
-            Kind::Member(_) => Err(Status::BadHandle),
+            Kind::Pool(pool) => Ok(pool.has_all_hands()),
+            Kind::Member(_) | Kind::Cached(_) => Err(Status::BadHandle),
         }
     }
 
@@ -78,7 +80,7 @@ impl Object {
     {
         let Object { kind } = self;
         match kind {
-            Kind::Member(_) => None,
+            Kind::Member(_) | Kind::Cached(_) => None,
             Kind::Pool(pool) => match pool.close() {
                 Ok(totals) => totals,
                 Err(_) => None,
@@ -87,20 +89,39 @@ impl Object {
     }
 }
 
-#[unsafe(no_mangle)]
-pub extern "C" fn tags_open(alloc: Global, pool: &mut Handle, wishes: &Wishes) -> i32
-    ensures opens { result ≡ pos 0 → OpensPool wishes.now pool.new.object.value }
+/// Opens a pool into an empty handle. Its hands keep up to `most` tags each, always if `keeping` is 0, and while they hold
+/// another one if it is 1.
+fn open_into(
+    alloc: Global,
+    pool: &mut Handle,
+    requested: &RequestedOptions,
+    most: u32,
+    keeping: u32,
+) -> i32
+    ensures opens { result ≡ pos 0 → OpensPool requested.now most keeping pool.new.object.value }
     ensures not_empty { IsSome pool.old.object.value → result ≡ code_of NotEmpty }
-    ensures why { result ≢ pos 0 → Refuses (RefusesOpen pool.old.object.value wishes.now) result }
+    ensures why { result ≢ pos 0 → Refuses (RefusesOpen pool.old.object.value requested.now most keeping) result }
     ensures refused { result ≢ pos 0 → pool.new.object.value ≡ pool.old.object.value }
 {
     if pool.full != 0 {
         return Status::NotEmpty.code();
     }
-    if wishes.flags > ROUND_ROBIN {
+    if requested.flags > ROUND_ROBIN {
         return Status::BadFlag.code();
     }
-    let opened = match Pool::open(alloc, wishes.total, wishes.reserved, read_options(wishes)) {
+    if keeping > WHILE_HOLDING {
+        return Status::BadFlag.code();
+    }
+    if most > MAX_CACHE {
+        return Status::CacheTooLarge.code();
+    }
+    let opened = match Pool::open(
+        alloc,
+        requested.total,
+        requested.reserved,
+        read_options(requested),
+        read_terms(most, keeping),
+    ) {
         Ok(opened) => opened,
         Err(fault) => return Status::NotOpened(fault).code(),
     };
@@ -117,6 +138,32 @@ pub extern "C" fn tags_open(alloc: Global, pool: &mut Handle, wishes: &Wishes) -
 }
 
 #[unsafe(no_mangle)]
+pub extern "C" fn tags_open(alloc: Global, pool: &mut Handle, requested: &RequestedOptions) -> i32
+    ensures opens { result ≡ pos 0 → OpensPool requested.now 0 0 pool.new.object.value }
+    ensures not_empty { IsSome pool.old.object.value → result ≡ code_of NotEmpty }
+    ensures why { result ≢ pos 0 → Refuses (RefusesOpen pool.old.object.value requested.now 0 0) result }
+    ensures refused { result ≢ pos 0 → pool.new.object.value ≡ pool.old.object.value }
+{
+    open_into(alloc, pool, requested, 0, 0)
+}
+
+#[unsafe(no_mangle)]
+pub extern "C" fn tags_open_cached(
+    alloc: Global,
+    pool: &mut Handle,
+    requested: &RequestedOptions,
+    most: u32,
+    keeping: u32,
+) -> i32
+    ensures opens { result ≡ pos 0 → OpensPool requested.now most keeping pool.new.object.value }
+    ensures not_empty { IsSome pool.old.object.value → result ≡ code_of NotEmpty }
+    ensures why { result ≢ pos 0 → Refuses (RefusesOpen pool.old.object.value requested.now most keeping) result }
+    ensures refused { result ≢ pos 0 → pool.new.object.value ≡ pool.old.object.value }
+{
+    open_into(alloc, pool, requested, most, keeping)
+}
+
+#[unsafe(no_mangle)]
 pub extern "C" fn tags_join(alloc: Global, pool: &mut Handle, hand: &mut Handle, flags: u32) -> i32
     ensures joins { result ≡ pos 0 → JoinsPool pool.old.object.value hand.new.object.value }
     ensures not_empty { IsSome hand.old.object.value → result ≡ code_of NotEmpty }
@@ -130,14 +177,11 @@ pub extern "C" fn tags_join(alloc: Global, pool: &mut Handle, hand: &mut Handle,
     let Some(object) = pool.lend() else {
         return Status::BadHandle.code();
     };
-    let member = match object.join(flags) {
-        Ok(member) => member,
+    let kind = match object.join(flags) {
+        Ok(kind) => kind,
         Err(status) => return status.code(),
     };
-    let made = Object {
-        kind: Kind::Member(member),
-    };
-    match Box::new(alloc, made) {
+    match Box::new(alloc, Object { kind }) {
         Ok(made) => {
             *hand = Handle::of(made);
             Status::Done.code()
@@ -178,7 +222,7 @@ pub extern "C" fn tags_close(alloc: Global, pool: &mut Handle, sums: &mut Sums) 
     let Some(object) = pool.take(alloc) else {
         return Status::BadHandle.code();
     };
-    let refused = match object.is_alone() {
+    let refused = match object.has_all_hands() {
         Ok(true) => {
             let Some(totals) = Box::into_inner(object).close() else {
                 return Status::HandLost.code();

@@ -8,13 +8,12 @@ ghost use Rattle.tag_c.specs.Resizes.{status_of_cause, EndsResize, ResizesAs, Re
 use crate::handle::Handle;
 use crate::object::{Kind, Object};
 use crate::pool::Pool;
-use crate::shared::Shared;
+use crate::pool_state::PoolState;
 use crate::status::Status;
 use core::mem::replace_with;
 use std::alloc::Global;
 use std::sync::Arc;
-use tag_layout::MAX_DEPTH;
-use tag_sets::{Hand, ResizeCause, SetFault, Tags, TagsResizeFault};
+use tag_sets::{Hand, MAX_DEPTH, ResizeCause, SetFault, Tags, TagsResizeFault};
 
 /// Returns the status for the cause that refused a resize.
 fn status_of(cause: ResizeCause) -> Status
@@ -29,25 +28,30 @@ fn status_of(cause: ResizeCause) -> Status
     }
 }
 
-impl Shared {
+impl PoolState {
     /// Resizes the tags with all hands, which are collected in the given room. Returns the emptied room too. If the resize is
     /// refused, the tags and the hands continue as they were.
-    fn resize(self, wish: (Global, u32, Vec<Hand<u64>>)) -> (Shared, (Vec<Hand<u64>>, Status))
-        requires room { (wish.2.items ≡ []) × (vec_len self.berths ≤ vec_capacity wish.2) }
-        requires range { HasRange wish.1 (reserved_of self.tags) }
-        ensures room { (result.1.0.items ≡ []) × (vec_len result.0.berths ≤ vec_capacity result.1.0) }
-        ensures ends { EndsResize wish.1 self.tags result.1.1 result.0.tags }
+    fn resize(self, request: (Global, u32, Vec<Hand<u64>>)) -> (PoolState, (Vec<Hand<u64>>, Status))
+        requires room { (request.2.items ≡ []) × (vec_len self.cells ≤ vec_capacity request.2) }
+        requires range { HasRange request.1 (reserved_of self.tags) }
+        ensures room { (result.1.0.items ≡ []) × (vec_len result.0.cells ≤ vec_capacity result.1.0) }
+        ensures ends { EndsResize request.1 self.tags result.1.1 result.0.tags }
+        ensures cache { result.0.cache ≡ self.cache }
     {
-        let (alloc, total, room) = wish;
-        let (former, reserved) = (self.total, self.reserved);
-        let (tags, hands, berths) = self.part(room);
+        let (alloc, total, room) = request;
+        let (former, reserved, cache) = (self.total, self.reserved, self.cache);
+        let (tags, hands, cells) = self.part(room);
         match Tags::resize(alloc, tags, hands, total) {
             Ok((tags, hands)) => {
-                let (shared, room) = Shared::with_hands(tags, total, reserved, hands, berths);
+                let (shared, room) = PoolState::with_hands(
+                    tags, total, reserved, cache, hands, cells,
+                );
                 (shared, (room, Status::Done))
             }
             Err(TagsResizeFault { cause, tags, hands }) => {
-                let (shared, room) = Shared::with_hands(tags, former, reserved, hands, berths);
+                let (shared, room) = PoolState::with_hands(
+                    tags, former, reserved, cache, hands, cells,
+                );
                 (shared, (room, status_of(cause)))
             }
         }
@@ -57,10 +61,11 @@ impl Shared {
 impl Pool {
     /// Continues with this many tags, as many of them reserved as before, if all hands are back, no tag is in use and no hand
     /// is in a wait group.
-    pub(crate) fn resize(self, wish: (Global, u32)) -> (Pool, Status)
-        ensures { EndsResize wish.1 (arc_value self.shared).tags result.1 (arc_value result.0.shared).tags }
+    pub(crate) fn resize(self, request: (Global, u32)) -> (Pool, Status)
+        ensures ends { EndsResize request.1 (arc_value self.shared).tags result.1 (arc_value result.0.shared).tags }
+        ensures cache { (arc_value result.0.shared).cache ≡ (arc_value self.shared).cache }
     {
-        let (alloc, total) = wish;
+        let (alloc, total) = request;
         if total > MAX_DEPTH {
             return (self, Status::NotOpened(SetFault::TotalTooLarge));
         }
@@ -71,7 +76,7 @@ impl Pool {
         let Some(inner) = Arc::get_mut(&mut shared) else {
             return (Pool { shared, room }, Status::HandsOut);
         };
-        let (room, status) = replace_with(inner, (alloc, total, room), Shared::resize);
+        let (room, status) = replace_with(inner, (alloc, total, room), PoolState::resize);
         (Pool { shared, room }, status)
     }
 }

@@ -31,7 +31,7 @@ pub enum Status {
     BadFlag,
     /// The tags could not be opened, or not with another total.
     NotOpened(SetFault),
-    /// No berth was free for a hand that came back.
+    /// No cell was free for a hand that came back.
     NoBerth,
     /// A hand was missing where all of them came together: at the end, and the pool ended without totals, or for a resize, and
     /// the pool goes on as it was.
@@ -40,6 +40,8 @@ pub enum Status {
     InUse,
     /// Hands stand in a wait group.
     HandsWait,
+    /// A hand would keep more tags than a cache can.
+    CacheTooLarge,
 }
 
 impl Status {
@@ -63,6 +65,7 @@ impl Status {
             Status::HandLost => -20,
             Status::InUse => -29,
             Status::HandsWait => -30,
+            Status::CacheTooLarge => -35,
             Status::NotOpened(fault) => set_fault_code(fault),
         }
     }

@@ -1,13 +1,92 @@
 //! Reads and writes the slots of held tags, and passes tags to other hands, through the handle of a hand. Each call is
 //! described in tags.h.
 ghost use Rattle.std.specs.Prelude.{◌≡◌};
-ghost use Rattle.tag_c.specs.Calls.{Calls, CallsBy, Through, DoesRead, DoesWrite, DoesPost, DoesTake};
+ghost use Rattle.tag_c.specs.Calls.{Calls, CallsBy, HandCalls, CacheCalls, Through, DoesRead, DoesWrite, DoesPost, DoesTake};
 ghost use Rattle.tag_c.specs.Codes.{IsRefusal, code_of_done};
 
-use crate::codes::{done_code, value_code};
+use crate::cached::CachedMember;
+use crate::codes::{done_code, value_code, without_grants};
 use crate::handle::Handle;
+use crate::member::Member;
 use crate::object::{Kind, Object};
 use crate::status::Status;
+
+impl Member {
+    /// Reads the slot of a held tag into `value`.
+    #[inline(always)]
+    fn read(&mut self, tag: u32, value: &mut u64) -> i32
+        ensures calls { HandCalls (Through (DoesRead tag value.new) code_of_done result) self.old self.new }
+        ensures kept { IsRefusal result → value.new ≡ value.old }
+    {
+        value_code(self.shared.tags.read(&mut self.hand, tag), value)
+    }
+
+    /// Writes the slot of a held tag, and what it held before into `former`.
+    #[inline(always)]
+    fn write(&mut self, tag: u32, value: u64, former: &mut u64) -> i32
+        ensures calls { HandCalls (Through (DoesWrite tag value former.new) code_of_done result) self.old self.new }
+        ensures kept { IsRefusal result → former.new ≡ former.old }
+    {
+        value_code(self.shared.tags.write(&mut self.hand, tag, value), former)
+    }
+
+    /// Posts a held tag, so that any hand of the pool can take it.
+    #[inline(always)]
+    fn post(&mut self, tag: u32) -> i32
+        ensures { HandCalls (Through (DoesPost tag) code_of_done result) self.old self.new }
+    {
+        done_code(self.shared.tags.post(&mut self.hand, tag))
+    }
+
+    /// Takes a posted tag.
+    #[inline(always)]
+    fn take(&mut self, tag: u32) -> i32
+        ensures { HandCalls (Through (DoesTake tag) code_of_done result) self.old self.new }
+    {
+        done_code(self.shared.tags.take(&mut self.hand, tag))
+    }
+}
+
+impl CachedMember {
+    /// Reads the slot of a held tag into `value`.
+    #[cold]
+    #[inline(never)]
+    fn read(&mut self, tag: u32, value: &mut u64) -> i32
+        ensures calls { CacheCalls (Through (DoesRead tag value.new) code_of_done result) self.old self.new }
+        ensures kept { IsRefusal result → value.new ≡ value.old }
+    {
+        value_code(self.cache.read(&self.shared.tags, tag), value)
+    }
+
+    /// Writes the slot of a held tag, and what it held before into `former`.
+    #[cold]
+    #[inline(never)]
+    fn write(&mut self, tag: u32, value: u64, former: &mut u64) -> i32
+        ensures calls { CacheCalls (Through (DoesWrite tag value former.new) code_of_done result) self.old self.new }
+        ensures kept { IsRefusal result → former.new ≡ former.old }
+    {
+        value_code(self.cache.write(&self.shared.tags, tag, value), former)
+    }
+
+    /// Posts a held tag, so that any hand of the pool can take it.
+    #[cold]
+    #[inline(never)]
+    fn post(&mut self, tag: u32) -> i32
+        ensures { CacheCalls (Through (DoesPost tag) code_of_done result) self.old self.new }
+    {
+        // Whom this grants a wakeup is not told: a program flushes before its last post.
+        done_code(without_grants(self.cache.post_granted(&self.shared.tags, tag)))
+    }
+
+    /// Takes a posted tag.
+    #[cold]
+    #[inline(never)]
+    fn take(&mut self, tag: u32) -> i32
+        ensures { CacheCalls (Through (DoesTake tag) code_of_done result) self.old self.new }
+    {
+        done_code(self.cache.take(&self.shared.tags, tag))
+    }
+}
 
 impl Object {
     /// Reads the slot of a held tag into `value`.
@@ -16,10 +95,11 @@ impl Object {
         ensures calls { Calls (Through (DoesRead tag value.new) code_of_done result) result self.old self.new }
         ensures kept { IsRefusal result → value.new ≡ value.old }
     {
-        let Kind::Member(member) = &mut self.kind else {
-            return Status::BadHandle.code();
-        };
-        value_code(member.shared.tags.read(&mut member.hand, tag), value)
+        match &mut self.kind {
+            Kind::Member(member) => member.read(tag, value),
+            Kind::Cached(member) => member.read(tag, value),
+            Kind::Pool(_) => Status::BadHandle.code(),
+        }
     }
 
     /// Writes the slot of a held tag, and what it held before into `former`.
@@ -28,13 +108,11 @@ impl Object {
         ensures calls { Calls (Through (DoesWrite tag value former.new) code_of_done result) result self.old self.new }
         ensures kept { IsRefusal result → former.new ≡ former.old }
     {
-        let Kind::Member(member) = &mut self.kind else {
-            return Status::BadHandle.code();
-        };
-        value_code(
-            member.shared.tags.write(&mut member.hand, tag, value),
-            former,
-        )
+        match &mut self.kind {
+            Kind::Member(member) => member.write(tag, value, former),
+            Kind::Cached(member) => member.write(tag, value, former),
+            Kind::Pool(_) => Status::BadHandle.code(),
+        }
     }
 
     /// Posts a held tag, so that any hand of the pool can take it.
@@ -42,10 +120,11 @@ impl Object {
     pub(crate) fn post(&mut self, tag: u32) -> i32
         ensures { Calls (Through (DoesPost tag) code_of_done result) result self.old self.new }
     {
-        let Kind::Member(member) = &mut self.kind else {
-            return Status::BadHandle.code();
-        };
-        done_code(member.shared.tags.post(&mut member.hand, tag))
+        match &mut self.kind {
+            Kind::Member(member) => member.post(tag),
+            Kind::Cached(member) => member.post(tag),
+            Kind::Pool(_) => Status::BadHandle.code(),
+        }
     }
 
     /// Takes a posted tag.
@@ -53,10 +132,11 @@ impl Object {
     pub(crate) fn take(&mut self, tag: u32) -> i32
         ensures { Calls (Through (DoesTake tag) code_of_done result) result self.old self.new }
     {
-        let Kind::Member(member) = &mut self.kind else {
-            return Status::BadHandle.code();
-        };
-        done_code(member.shared.tags.take(&mut member.hand, tag))
+        match &mut self.kind {
+            Kind::Member(member) => member.take(tag),
+            Kind::Cached(member) => member.take(tag),
+            Kind::Pool(_) => Status::BadHandle.code(),
+        }
     }
 }
 

@@ -1,11 +1,11 @@
 -- What shallow gets and batch gets give the user of a cache.
 use Rattle.std.specs.Prelude.{IsTrue}
-use Rattle.std.proofs.Common.{arith, ◌≡◌, ◌↔◌, Bool, true, false, ℕ, ◌+◌, Option, Some, None, Result, Ok, Err, IfOk, refl, sym, ap, subst, inl}
+use Rattle.std.proofs.Common.{arith, ◌≡◌, ◌↔◌, Bool, true, false, ℕ, Option, Some, None, Result, Ok, Err, IfOk, refl, sym, ap, subst, inl}
 use Rattle.tag_layout.specs.Layout.{Layout}
 use Rattle.tag_search.specs.Gains.{count_of, count_of_run}
 use Rattle.tag_queue.specs.declared.agent.Agent.{Agent}
-use Rattle.tag_queue.specs.declared.fault.TagFault.{TagFault}
-use Rattle.tag_queue.specs.declared.fault.TagFault.TheVariants.{BadCount}
+use Rattle.tag_sets.specs.declared.fault.TagFault.{TagFault}
+use Rattle.tag_sets.specs.declared.fault.TagFault.TheVariants.{BadCount}
 use Rattle.tag_queue.specs.Gets as queue_gets
 use Rattle.tag_sets.specs.declared.hand.Hand.{Hand}
 use Rattle.tag_sets.specs.declared.kind.Kind.TheVariants.{Ordinary}
@@ -20,7 +20,7 @@ use Rattle.tag_cache.specs.Changes.{KeepsSame}
 use Rattle.tag_cache.specs.Holding.{HoldsMore}
 use Rattle.tag_cache.specs.Tallies.{Tallies, answered}
 use Rattle.tag_cache.proofs.Carrying.{more}
-use Rattle.tag_cache.proofs.Steady.{Rests, rests_unchanged}
+use Rattle.tag_cache.proofs.Steady.{rests_unchanged}
 use Rattle.tag_cache.proofs.Tallying.{Moves, MovesAgent, moves_in}
 
 -- the hand gained the named tags, which are that many, and gave nothing back

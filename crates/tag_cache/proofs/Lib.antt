@@ -4,7 +4,15 @@ pub mod Carrying
 pub mod Reusing
 pub mod Tallying
 pub mod Giving
+pub mod Granting
 pub mod Going
+pub mod Moving
+pub mod Looking
+pub mod Answering
+pub mod Cautious
+pub mod Waiting
+pub mod Shifting
+pub mod Ordinary
 pub mod Crossing
 pub mod Steady
 pub mod Standing

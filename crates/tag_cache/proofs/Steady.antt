@@ -1,5 +1,5 @@
 -- What a call of the hand leaves as it is that neither wins tags nor gives any back.
-use Rattle.std.proofs.Common.{arith, ◌≡◌, ℕ, suc, ◌+◌, ◌≤◌, Option, Some, None, List, [], ◌∷◌, Result, Ok, Err, IfOk, IfErr, IfSome, IfNone, refl, sym, ap, ◌∙◌, subst}
+use Rattle.std.proofs.Common.{arith, ◌≡◌, ℕ, suc, ◌+◌, Option, Some, None, List, [], ◌∷◌, Result, Ok, Err, IfOk, IfErr, IfSome, IfNone, refl, sym, ap, ◌∙◌, subst}
 use Rattle.tag_layout.specs.Layout.{Layout}
 use Rattle.tag_core.specs.declared.caller.Caller.{Caller}
 use Rattle.tag_core.specs.declared.record.Record.{Record}
@@ -10,8 +10,8 @@ use Rattle.tag_core.specs.Records.{record_after}
 use Rattle.tag_search.specs.Shared.{record_after_all}
 use Rattle.wake_book.specs.declared.waiting.Left.{Left}
 use Rattle.tag_queue.specs.declared.agent.Agent.{Agent}
-use Rattle.tag_queue.specs.declared.fault.TagFault.{TagFault}
-use Rattle.tag_queue.specs.declared.fault.TagFault.TheVariants.{Waiting, NotWaiting}
+use Rattle.tag_sets.specs.declared.fault.TagFault.{TagFault}
+use Rattle.tag_sets.specs.declared.fault.TagFault.TheVariants.{Waiting, NotWaiting}
 use Rattle.tag_queue.specs.Agents as queue
 use Rattle.tag_queue.specs.Waits as queue_waits
 use Rattle.tag_sets.specs.declared.hand.Hand.{Hand}

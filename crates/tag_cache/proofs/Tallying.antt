@@ -23,7 +23,7 @@ use Rattle.tag_sets.specs.Gets as hand_gets
 use Rattle.tag_sets.specs.Gets.{whole}
 use Rattle.tag_sets.specs.Tallies.{won_in_both, back_in_both}
 use Rattle.tag_sets.specs.Waits.{Stays}
-use Rattle.tag_queue.specs.declared.fault.TagFault.{TagFault}
+use Rattle.tag_sets.specs.declared.fault.TagFault.{TagFault}
 use Rattle.tag_cache.specs.declared.cache.Cache.{Cache}
 use Rattle.tag_cache.specs.Changes.{KeepsSame, IsUnchanged, Reuses}
 use Rattle.tag_cache.specs.Tallies.{Tallies, answered}

@@ -1,15 +1,12 @@
 -- Batches of tags over a cache.
-use Rattle.std.specs.Prelude.{◌≡◌, ◌≢◌, ◌⊎◌, ℕ, ◌+◌, ◌≤◌, List, length, All, AllPairs, Contains, Option, Some, None, count_ones}
+use Rattle.std.specs.Prelude.{◌≡◌, ◌≢◌, ◌⊎◌, ℕ, ◌+◌, ◌≤◌, List, All, AllPairs, Contains, Option, Some, None, count_ones}
 use Rattle.tag_sets.specs.declared.hand.Hand.{Hand}
-use Rattle.tag_sets.specs.declared.kind.Kind.TheVariants.{Ordinary}
 use Rattle.tag_sets.specs.declared.tags.Tags.{Tags}
-use Rattle.tag_sets.specs.Batches as hand_batches
-use Rattle.tag_sets.specs.Clears as hand_clears
 use Rattle.tag_cache.specs.declared.cache.Cache.{Cache}
 use Rattle.tag_cache.specs.declared.keeping.Keeping.TheVariants.{WhileHolding}
 use Rattle.tag_cache.specs.Caches.{IsLent, KeepsNone, Holds, keeping_of, reused_of}
 use Rattle.tag_cache.specs.Changes.{KeepsSame, SameTerms}
-use Rattle.tag_cache.specs.Clears.{LooksOnce, GivesEach, AreKept, GivesKept}
+use Rattle.tag_cache.specs.Clears.{LooksOnce, GivesList, GivesKept}
 
 -- how many tags an answer has: bit 0 of the mask is the first tag
 abbrev pub answered_run : Option (ℕ × ℕ) → ℕ
@@ -25,21 +22,36 @@ abbrev pub AreLast : {R : Type 0} → List ℕ → Cache R → Type 0
 AreLast list cache = (keeping_of cache ≡ WhileHolding)
     × ((other : ℕ) → ¬ (Contains list other) → ¬ (IsLent cache other))
 
--- the hand gave the tags of the list back by one batch clear, and woke that many waiters
-pub record GivesList {R : Type 0} (tags : Tags R) (list : List ℕ) (woken : ℕ) (old new : Hand R) : Type 0 where
-  pub gives : hand_batches.GivesBack tags list old new
-  pub back : hand_clears.back_of new Ordinary ≡ hand_clears.back_of old Ordinary + length list
-  pub counts : hand_clears.Counts tags Ordinary (length list) old new woken
+-- a look at the active count calls for everything to go back: it found somebody waiting, or tags are kept only while
+-- the user is known to hold others than those of the list
+abbrev pub CallsForAll : {R : Type 0} → ℕ → List ℕ → Cache R → Type 0
+CallsForAll found list cache = (1 ≤ found) ⊎ AreLast list cache
 
--- the hand gave all kept tags back, then the list, and woke that many waiters in all
-pub record GivesListWith {R : Type 0} (tags : Tags R) (list : List ℕ) (woken : ℕ) (old : Cache R) (new : Hand R) : Type 0
-  where
-    pub between : Hand R
-    pub sooner : ℕ
-    pub kept : GivesKept tags sooner old between
-    pub later : ℕ
-    pub gives : GivesList tags list later between new
-    pub woken_is : woken ≡ sooner + later
+-- tags are kept only while the user is known to hold one, and it is known to hold none of this mask of the window
+abbrev pub LeavesNone : {R : Type 0} → ℕ → Cache R → Type 0
+LeavesNone left cache = (keeping_of cache ≡ WhileHolding) × (left ≡ 0)
+
+-- a look found nobody waiting, and the same tags are kept
+pub record GoesOn {R : Type 0} (left woken : ℕ) (old new : Cache R) : Type 0 where
+  pub more : ¬ (LeavesNone left old)
+  pub looked : LooksOnce 0 old.hand new.hand
+  pub kept : KeepsSame old new
+  pub nobody : woken ≡ 0
+
+-- a look called for all kept tags to go back, and they did
+pub record GoesEmpty {R : Type 0} (tags : Tags R) (left woken : ℕ) (old new : Cache R) : Type 0 where
+  pub found : ℕ
+  pub between : Hand R
+  pub looked : LooksOnce found old.hand between
+  pub why : (1 ≤ found) ⊎ LeavesNone left old
+  pub gives : GivesKept tags woken old between new.hand
+  pub none : KeepsNone new
+  pub terms : SameTerms old new
+  pub reused : reused_of new ≡ reused_of old
+
+-- what becomes of the kept tags before others go back, after which the user is known to hold those of the mask
+abbrev pub GoesBefore : {R : Type 0} → Tags R → ℕ → ℕ → Cache R → Cache R → Type 0
+GoesBefore tags left woken old new = GoesOn left woken old new ⊎ GoesEmpty tags left woken old new
 
 -- after a look that found nobody waiting the list went back, and the same tags are kept
 pub record ListGoesAlone {R : Type 0} (tags : Tags R) (list : List ℕ) (woken : ℕ) (old new : Cache R) : Type 0 where
@@ -49,18 +61,15 @@ pub record ListGoesAlone {R : Type 0} (tags : Tags R) (list : List ℕ) (woken :
   pub gives : GivesList tags list woken between new.hand
   pub kept : KeepsSame old new
 
--- after a look all kept tags went back and then the list, so that nothing is kept any more: somebody was found waiting,
--- or tags are kept only while the user is known to hold others
+-- after a look that called for it all kept tags went back together and then the list, so that nothing is kept any more
 pub record ListGoesWithKept {R : Type 0} (tags : Tags R) (list : List ℕ) (woken : ℕ) (old new : Cache R) : Type 0 where
   pub found : ℕ
   pub between : Hand R
   pub looked : LooksOnce found old.hand between
-  pub why : (1 ≤ found) ⊎ AreLast list old
-  pub given : List ℕ
-  pub kept : AreKept given old
+  pub why : CallsForAll found list old
   pub flushed : Hand R
   pub sooner : ℕ
-  pub each : GivesEach tags given sooner between flushed
+  pub kept : GivesKept tags sooner old between flushed
   pub later : ℕ
   pub gives : GivesList tags list later flushed new.hand
   pub woken_is : woken ≡ sooner + later

@@ -1,6 +1,7 @@
 -- The terms in which contracts speak about a cache.
-use Rattle.std.specs.Prelude.{◌≡◌, ◌⊎◌, ℕ, ◌+◌, ◌<◌, ◌≤◌, count_ones}
+use Rattle.std.specs.Prelude.{◌≡◌, ◌⊎◌, ℕ, ◌+◌, ◌<◌, ◌≤◌, List, count_ones}
 use mathlib.Core.Option as maybe
+use Rattle.tag_queue.specs.Masks.{tags_in}
 use Rattle.tag_sets.specs.declared.hand.Hand.{Hand}
 use Rattle.tag_sets.specs.declared.tags.Tags.{Tags}
 use Rattle.tag_sets.specs.Hands as hands
@@ -37,6 +38,10 @@ IsKept cache tag = IsIn cache.first cache.kept tag
 -- no tag is kept
 abbrev pub KeepsNone : {R : Type 0} → Cache R → Type 0
 KeepsNone cache = (tag : ℕ) → ¬ (IsKept cache tag)
+
+-- the kept tags, in order
+abbrev pub kept_tags : {R : Type 0} → Cache R → List ℕ
+kept_tags cache = tags_in cache.first cache.kept
 
 -- the user holds the tag: the hand does, and it is not kept
 abbrev pub Holds : {R : Type 0} → Cache R → ℕ → Type 0
@@ -75,8 +80,13 @@ abbrev pub KeepsWithCare : {R : Type 0} → Cache R → Type 0
 KeepsWithCare cache = keeping_of cache ≡ WhileHolding → (kept : ℕ) → IsKept cache kept
     → (tag : ℕ) × Holds cache tag
 
--- there is no place to keep the tag: the most is reached, or the tag is outside a window that does not move, or kept
--- tags were handed out as often as they may be
+-- there is no place to keep the tag besides those that are kept: they are the most, or the tag is outside their window
 abbrev pub HasNoPlace : {R : Type 0} → ℕ → Cache R → Type 0
-HasNoPlace tag cache = (most_of cache ≤ count_of cache)
-    ⊎ ((¬ (IsWithin cache tag) × IsFixed cache) ⊎ (MOST_REUSED ≤ reused_of cache))
+HasNoPlace tag cache = (most_of cache ≤ count_of cache) ⊎ (¬ (IsWithin cache tag) × ¬ (KeepsNone cache))
+
+-- the tag may be kept where no other is: the cache may keep one, kept tags were not handed out as often as they may be,
+-- and the tag is in the window if that does not move
+pub record CanBeKept {R : Type 0} (tag : ℕ) (cache : Cache R) : Type 0 where
+  pub some : 1 ≤ most_of cache
+  pub alive : reused_of cache < MOST_REUSED
+  pub within : keeping_of cache ≡ WhileHolding → IsWithin cache tag

@@ -1,5 +1,5 @@
 -- The effect of clears on the cache that makes them.
-use Rattle.std.specs.Prelude.{◌≡◌, ◌⊎◌, ◌↔◌, ℕ, ◌+◌, ◌<◌, ◌≤◌, List, [], ◌∷◌, length, Contains}
+use Rattle.std.specs.Prelude.{◌≡◌, ◌⊎◌, ℕ, ◌+◌, ◌<◌, ◌≤◌, List, ◌∷◌, length}
 use Rattle.wake_book.specs.Waits.{active_at}
 use Rattle.wake_book.specs.declared.steps.GroupStep.TheVariants.{Look}
 use Rattle.tag_queue.specs.Agents.{teller_of}
@@ -8,11 +8,12 @@ use Rattle.tag_sets.specs.declared.kind.Kind.TheVariants.{Ordinary}
 use Rattle.tag_sets.specs.declared.tags.Tags.{Tags}
 use Rattle.tag_sets.specs.Sets.{kind_of}
 use Rattle.tag_sets.specs.Hands as hands
+use Rattle.tag_sets.specs.Batches as hand_batches
 use Rattle.tag_sets.specs.Clears as hand_clears
 use Rattle.tag_sets.specs.Waits.{Stays}
 use Rattle.tag_cache.specs.declared.cache.Cache.{Cache}
-use Rattle.tag_cache.specs.Caches.{IsKept, KeepsNone, IsLast, HasNoPlace, count_of, reused_of}
-use Rattle.tag_cache.specs.Changes.{SameTerms, KeepsSame, KeepsAlso}
+use Rattle.tag_cache.specs.Caches.{KeepsNone, IsLast, HasNoPlace, CanBeKept, kept_tags, reused_of}
+use Rattle.tag_cache.specs.Changes.{SameTerms, KeepsSame, KeepsAlso, KeepsOnly}
 
 -- the hand's only step was a look at the active count, which it found to be this
 pub record LooksOnce {R : Type 0} (found : ℕ) (old new : Hand R) : Type 0 where
@@ -25,50 +26,65 @@ pub record GivesOne {R : Type 0} (tags : Tags R) (tag woken : ℕ) (old new : Ha
   pub clears : hand_clears.Clears tags tag old new
   pub counts : hand_clears.Counts tags (kind_of (hands.reserved_of tags) tag) 1 old new woken
 
--- the hand gave these tags back one after another, the last of the list first, and woke that many waiters in all
-abbrev pub GivesEach : {R : Type 0} → Tags R → List ℕ → ℕ → Hand R → Hand R → Type 0
-GivesEach tags [] woken old new = (new ≡ old) × (woken ≡ 0)
-GivesEach {R} tags (tag ∷ before) woken old new = (between : Hand R) × (sooner : ℕ) × (later : ℕ)
-    × GivesEach tags before sooner old between × GivesOne tags tag later between new × (woken ≡ sooner + later)
+-- the hand gave the tags of the list back by one batch clear, counted them together, and woke that many waiters
+pub record GivesList {R : Type 0} (tags : Tags R) (list : List ℕ) (woken : ℕ) (old new : Hand R) : Type 0 where
+  pub gives : hand_batches.GivesBack tags list old new
+  pub back : hand_clears.back_of new Ordinary ≡ hand_clears.back_of old Ordinary + length list
+  pub counts : hand_clears.Counts tags Ordinary (length list) old new woken
 
--- these are the tags that are kept, each of them once
-pub record AreKept {R : Type 0} (given : List ℕ) (cache : Cache R) : Type 0 where
-  pub all : (tag : ℕ) → Contains given tag ↔ IsKept cache tag
-  pub count : length given ≡ count_of cache
+-- the hand gave the tags that the cache keeps back together, and woke that many waiters; if none is kept it made no step
+pub record GivesKept {R : Type 0} (tags : Tags R) (woken : ℕ) (cache : Cache R) (old new : Hand R) : Type 0 where
+  pub none : KeepsNone cache → (new ≡ old) × (woken ≡ 0)
+  pub some : ¬ (KeepsNone cache) → GivesList tags (kept_tags cache) woken old new
 
--- the hand gave exactly the kept tags back, and woke that many waiters
-pub record GivesKept {R : Type 0} (tags : Tags R) (woken : ℕ) (old : Cache R) (new : Hand R) : Type 0 where
-  pub given : List ℕ
-  pub kept : AreKept given old
-  pub each : GivesEach tags given woken old.hand new
+-- the hand gave the kept tags back together and then this one, and woke that many waiters in all
+pub record GivesWith {R : Type 0} (tags : Tags R) (tag woken : ℕ) (cache : Cache R) (old new : Hand R) : Type 0 where
+  pub between : Hand R
+  pub sooner : ℕ
+  pub kept : GivesKept tags sooner cache old between
+  pub later : ℕ
+  pub gives : GivesOne tags tag later between new
+  pub woken_is : woken ≡ sooner + later
 
--- the hand gave exactly the kept tags back and then this one, and woke that many waiters
-pub record GivesWith {R : Type 0} (tags : Tags R) (tag woken : ℕ) (old : Cache R) (new : Hand R) : Type 0 where
-  pub given : List ℕ
-  pub kept : AreKept given old
-  pub each : GivesEach tags (tag ∷ given) woken old.hand new
-
--- the tag is kept: the only step was a look at the active count that found nobody waiting, and nobody was woken
+-- the tag is kept besides the others, as there is place for it: the only step was a look at the active count that found
+-- nobody waiting, and nobody was woken
 pub record KeptUnseen {R : Type 0} (tag woken : ℕ) (old new : Cache R) : Type 0 where
   pub looked : LooksOnce 0 old.hand new.hand
+  pub place : ¬ (HasNoPlace tag old)
+  pub can : CanBeKept tag old
   pub also : KeepsAlso tag old new
   pub none : woken ≡ 0
 
--- the tag went back alone, after a look that found nobody waiting, since there is no place for it
+-- there was no place for the tag: after a look that found nobody waiting all kept tags went back, and this one is kept
+-- instead of them
+pub record KeptInstead {R : Type 0} (tags : Tags R) (tag woken : ℕ) (old new : Cache R) : Type 0 where
+  pub between : Hand R
+  pub looked : LooksOnce 0 old.hand between
+  pub full : HasNoPlace tag old
+  pub can : CanBeKept tag old
+  pub gives : GivesKept tags woken old between new.hand
+  pub only : KeepsOnly tag old new
+
+-- where no other is kept besides, this tag is kept instead of all kept ones, which went back, or it went back alone
+-- since it may not be kept
+abbrev pub MakesRoom : {R : Type 0} → Tags R → ℕ → ℕ → Cache R → Cache R → Type 0
+MakesRoom tags tag woken old new =
+    (CanBeKept tag old × GivesKept tags woken old old.hand new.hand × KeepsOnly tag old new)
+    ⊎ (¬ (CanBeKept tag old) × GivesOne tags tag woken old.hand new.hand × KeepsSame old new)
+
+-- the tag went back alone, after a look that found nobody waiting, since it may not be kept
 pub record GoesAlone {R : Type 0} (tags : Tags R) (tag woken : ℕ) (old new : Cache R) : Type 0 where
   pub between : Hand R
   pub looked : LooksOnce 0 old.hand between
+  pub never : ¬ (CanBeKept tag old)
   pub gives : GivesOne tags tag woken between new.hand
   pub kept : KeepsSame old new
-  pub full : HasNoPlace tag old
 
 -- after a look that found this, all kept tags went back and then this one, so that nothing is kept any more
 pub record GoesWithKept {R : Type 0} (tags : Tags R) (tag found woken : ℕ) (old new : Cache R) : Type 0 where
   pub between : Hand R
   pub looked : LooksOnce found old.hand between
-  pub given : List ℕ
-  pub kept : AreKept given old
-  pub each : GivesEach tags (tag ∷ given) woken between new.hand
+  pub gives : GivesWith tags tag woken old between new.hand
   pub none : KeepsNone new
   pub terms : SameTerms old new
   pub reused : reused_of new ≡ reused_of old
@@ -92,8 +108,9 @@ pub record GoesReserved {R : Type 0} (tags : Tags R) (tag woken : ℕ) (old new 
 
 -- what becomes of an ordinary tag that is cleared
 abbrev pub GoesOrdinary : {R : Type 0} → Tags R → ℕ → ℕ → Cache R → Cache R → Type 0
-GoesOrdinary tags tag woken old new = KeptUnseen tag woken old new ⊎ (GoesAlone tags tag woken old new
-    ⊎ (GoesWithAll tags tag woken old new ⊎ GoesLast tags tag woken old new))
+GoesOrdinary tags tag woken old new = KeptUnseen tag woken old new ⊎ (KeptInstead tags tag woken old new
+    ⊎ (GoesAlone tags tag woken old new
+    ⊎ (GoesWithAll tags tag woken old new ⊎ GoesLast tags tag woken old new)))
 
 -- what becomes of a tag that is cleared
 abbrev pub Goes : {R : Type 0} → Tags R → ℕ → ℕ → Cache R → Cache R → Type 0

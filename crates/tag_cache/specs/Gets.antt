@@ -3,6 +3,7 @@ use Rattle.std.specs.Prelude.{◌≡◌, ◌⊎◌, ℕ, Option, Some}
 use Rattle.tag_sets.specs.declared.tags.Tags.{Tags}
 use Rattle.tag_sets.specs.Gets.{IsAnswer, IsOrdinaryTag}
 use Rattle.tag_sets.specs.Gets as hands
+use Rattle.tag_sets.specs.Waits as hand_waits
 use Rattle.tag_cache.specs.declared.cache.Cache.{Cache}
 use Rattle.tag_cache.specs.Caches.{KeepsNone}
 use Rattle.tag_cache.specs.Changes.{KeepsSame, Reuses}
@@ -26,3 +27,14 @@ pub record Gets {R : Type 0} (tags : Tags R) (answer : Option ℕ) (old new : Ca
   pub more : HoldsMore (IsAnswer answer) old new
   pub ordinary : (tag : ℕ) → IsAnswer answer tag → IsOrdinaryTag tags tag
   pub source : FromKept answer old new ⊎ FromTags tags answer old new
+
+-- nothing was kept, and the hand waited for the tag by rounds
+pub record FromWaiting {R : Type 0} (tags : Tags R) (tag : ℕ) (old new : Cache R) : Type 0 where
+  pub none : KeepsNone old
+  pub gets : hands.BlockingGets tags tag old.hand new.hand
+  pub waits : hand_waits.WaitsFor tags tag old.hand new.hand
+  pub same : KeepsSame old new
+
+-- where a tag comes from that a call waits for: it is the least kept one, by no step, or the hand waited for it
+abbrev pub WaitsFor : {R : Type 0} → Tags R → ℕ → Cache R → Cache R → Type 0
+WaitsFor tags tag old new = Reuses tag old new ⊎ FromWaiting tags tag old new

@@ -5,6 +5,7 @@ pub mod Holding
 pub mod Tallies
 pub mod Gets
 pub mod Clears
+pub mod Granted
 pub mod Same
 pub mod Waits
 pub mod Batches

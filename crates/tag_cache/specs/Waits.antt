@@ -11,6 +11,6 @@ use Rattle.tag_cache.specs.Clears.{GivesKept}
 pub record Enters {R : Type 0} (tags : Tags R) (group : ℕ) (old new : Cache R) : Type 0 where
   pub woken : ℕ
   pub between : Hand R
-  pub gives : GivesKept tags woken old between
+  pub gives : GivesKept tags woken old (hand_of old) between
   pub enters : hands.Enters group between (hand_of new)
   pub none : KeepsNone new

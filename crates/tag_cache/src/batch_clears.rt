@@ -1,17 +1,18 @@
 //! Clears of several ordinary tags at once.
-ghost use Rattle.std.specs.Prelude.{◌≡◌, ◌⊎◌, ◌≢◌, ◌≤◌, ◌↔◌, ℕ, length, All, Contains, IfOk, IsOk, OnOk, OnErr, IsTrue};
+ghost use Rattle.std.specs.Prelude.{◌≡◌, ◌≢◌, ◌↔◌, ℕ, length, All, Contains, IfOk, IsOk, OnOk, OnErr, IsTrue};
+ghost use Rattle.wake_book.specs.Grants.{AreGrantsOf};
 ghost use Rattle.tag_sets.specs.Batches.{CountsTags, AreOrdinary};
+ghost use Rattle.tag_sets.specs.Hands.{group_steps};
 ghost use Rattle.tag_cache.specs.Windows.{IsIn};
-ghost use Rattle.tag_cache.specs.Batches.{AreHeldOnce, AreLast, GivesList, GivesListWith, ListGoes};
-ghost use Rattle.tag_cache.specs.Caches.{IsCacheOf, IsKept, IsLent, KeepsNone, hand_of, reused_of};
-ghost use Rattle.tag_cache.specs.Changes.{IsUnchanged, KeepsSame, SameTerms};
+ghost use Rattle.tag_cache.specs.Batches.{AreHeldOnce, ListGoes};
+ghost use Rattle.tag_cache.specs.Caches.{IsCacheOf, IsKept, IsLent, hand_of};
+ghost use Rattle.tag_cache.specs.Changes.{IsUnchanged};
 ghost use Rattle.tag_cache.specs.Holding.{HoldsLess};
 ghost use Rattle.tag_cache.specs.Tallies.{Tallies};
 
 use crate::cache::{Cache, WINDOW};
-use crate::keeping::Keeping;
-use tag_queue::TagFault;
-use tag_sets::Tags;
+use crate::grants::both;
+use tag_sets::{Grants, TagFault, Tags};
 
 impl<R: Copy> Cache<R> {
     /// Clears 1 to 64 ordinary tags that the user holds, as `Tags::clear_batch` does, and returns how many waiters this
@@ -35,6 +36,30 @@ impl<R: Copy> Cache<R> {
         ensures tally { OnOk result (Tallies 0 (length list.now) self.old self.new) }
         ensures err { OnErr result (IsUnchanged self.old self.new) }
     {
+        let grants = self.clear_batch_granted(tags, list)?;
+        Ok(tags.ring(grants))
+    }
+
+    /// Like `clear_batch`, but wakes no sleeper, and so links nothing that does. It returns how many waiters it granted
+    /// a wakeup in each group, and leaves waking them to the caller. It is refused as `clear_batch` is: `BadCount`,
+    /// `NoSuchTag`, `NotHeld`.
+    pub fn clear_batch_granted(&mut self, tags: &Tags<R>, list: &[u32]) -> Result<Grants, TagFault>
+        requires { IsCacheOf tags.now self.old }
+        ensures cache { IsCacheOf tags.now self.new }
+
+        // The causes are checked in this order, each for the whole list.
+        ensures bad_count { (result ≡ Err TagFault.BadCount) ↔ ¬ (CountsTags list.now) }
+        ensures no_such_tag { (result ≡ Err TagFault.NoSuchTag) ↔ (CountsTags list.now × ¬ (AreOrdinary tags.now list.now)) }
+        ensures not_held { (result ≡ Err TagFault.NotHeld)
+            ↔ (CountsTags list.now × AreOrdinary tags.now list.now × ¬ (AreHeldOnce self.old list.now)) }
+        ensures succeeds { IsOk result
+            ↔ (CountsTags list.now × AreOrdinary tags.now list.now × AreHeldOnce self.old list.now) }
+        ensures less { OnOk result (HoldsLess (Contains list.now) self.old self.new) }
+        ensures way { IfOk result (λ grants. ListGoes tags.now list.now grants.woken self.old self.new) }
+        ensures grants { IfOk result (λ grants. AreGrantsOf grants (group_steps (hand_of self.old)) (group_steps (hand_of self.new))) }
+        ensures tally { OnOk result (Tallies 0 (length list.now) self.old self.new) }
+        ensures err { OnErr result (IsUnchanged self.old self.new) }
+    {
         tags.check_batch(&self.hand, list)?;
         if !self.keeps_none_of(list) {
             return Err(TagFault::NotHeld);
@@ -43,64 +68,18 @@ impl<R: Copy> Cache<R> {
     }
 
     /// Gives back a list of tags that the user holds, after all kept ones if somebody waits or none may be kept any more.
-    fn give_list(&mut self, tags: &Tags<R>, list: &[u32]) -> u32
+    fn give_list(&mut self, tags: &Tags<R>, list: &[u32]) -> Grants
         requires cache { IsCacheOf tags.now self.old }
         requires list { CountsTags list.now × AreOrdinary tags.now list.now }
         requires held { AreHeldOnce self.old list.now }
         ensures cache { IsCacheOf tags.now self.new }
-        ensures way { ListGoes tags.now list.now result self.old self.new }
+        ensures way { ListGoes tags.now list.now result.woken self.old self.new }
+        ensures grants { AreGrantsOf result (group_steps (hand_of self.old)) (group_steps (hand_of self.new)) }
     {
-        if tags.active(&mut self.hand) != 0 {
-            return self.give_list_with_kept(tags, list);
-        }
-        if self.are_last(list) {
-            return self.give_list_with_kept(tags, list);
-        }
-        self.give_list_alone(tags, list)
-    }
-
-    /// Gives all kept tags back, and then a list of tags that the user holds.
-    fn give_list_with_kept(&mut self, tags: &Tags<R>, list: &[u32]) -> u32
-        requires cache { IsCacheOf tags.now self.old }
-        requires list { CountsTags list.now × AreOrdinary tags.now list.now }
-        requires held { AreHeldOnce self.old list.now }
-        ensures cache { IsCacheOf tags.now self.new }
-        ensures gives { GivesListWith tags.now list.now result self.old (hand_of self.new) }
-        ensures none { KeepsNone self.new }
-        ensures terms { SameTerms self.old self.new }
-        ensures reused { reused_of self.new ≡ reused_of self.old }
-    {
-        let woken = self.flush(tags);
-        woken + self.give_list_alone(tags, list)
-    }
-
-    /// Gives back a list of tags that the user holds.
-    fn give_list_alone(&mut self, tags: &Tags<R>, list: &[u32]) -> u32
-        requires cache { IsCacheOf tags.now self.old }
-        requires list { CountsTags list.now × AreOrdinary tags.now list.now }
-        requires held { AreHeldOnce self.old list.now }
-        requires others { KeepsNone self.old ⊎ ¬ (AreLast list.now self.old) }
-        ensures cache { IsCacheOf tags.now self.new }
-        ensures gives { GivesList tags.now list.now result (hand_of self.old) (hand_of self.new) }
-        ensures kept { KeepsSame self.old self.new }
-        ensures few { result ≤ 8 }
-    {
-        self.forget_all(list);
-        self.give_unlent(tags, list)
-    }
-
-    /// Gives back a list of tags that the user holds, but is not known to.
-    fn give_unlent(&mut self, tags: &Tags<R>, list: &[u32]) -> u32
-        requires cache { IsCacheOf tags.now self.old }
-        requires list { CountsTags list.now × AreOrdinary tags.now list.now }
-        requires held { AreHeldOnce self.old list.now }
-        requires unlent { (tag : ℕ) → Contains list.now tag → ¬ (IsLent self.old tag) }
-        ensures cache { IsCacheOf tags.now self.new }
-        ensures gives { GivesList tags.now list.now result (hand_of self.old) (hand_of self.new) }
-        ensures kept { KeepsSame self.old self.new }
-        ensures few { result ≤ 8 }
-    {
-        tags.clear_batch_held(&mut self.hand, list)
+        let left = self.lent_without_all(list);
+        let sooner = self.go_before(tags, left);
+        let later = tags.clear_batch_held(&mut self.hand, list);
+        both(sooner, later)
     }
 }
 
@@ -115,26 +94,6 @@ impl<R> Cache<R> {
             }
         }
         true
-    }
-
-    /// Returns whether nothing may be kept any more once these tags are cleared: the user is known to hold no other, and
-    /// tags are kept only while it does.
-    fn are_last(&self, list: &[u32]) -> bool
-        ensures { IsTrue result ↔ AreLast list.now self.now }
-    {
-        match self.keeping {
-            Keeping::Always => false,
-            Keeping::WhileHolding => self.lent_without_all(list) == 0,
-        }
-    }
-
-    /// Says that it is no longer known that the user holds these tags, which are about to leave.
-    fn forget_all(&mut self, list: &[u32])
-        requires { KeepsNone self.old ⊎ ¬ (AreLast list.now self.old) }
-        ensures same { IsUnchanged self.old self.new }
-        ensures loans { (other : ℕ) → IsLent self.new other ↔ (IsLent self.old other × ¬ (Contains list.now other)) }
-    {
-        self.lent = self.lent_without_all(list);
     }
 
     /// Returns the mask of the tags that the user is known to hold, without these.

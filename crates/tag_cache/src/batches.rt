@@ -1,19 +1,17 @@
 //! Gets and clears of several ordinary tags at once.
-ghost use Rattle.std.specs.Prelude.{◌≡◌, ◌<◌, ◌≤◌, ◌↔◌, false, length, All, Contains, IfOk, IsOk, OnOk, OnErr, IsTrue, None};
+ghost use Rattle.std.specs.Prelude.{◌≡◌, ◌↔◌, false, IfOk, IsOk, OnErr, IsTrue, None};
 ghost use Rattle.tag_sets.specs.declared.kind.Kind.TheVariants.{Ordinary};
 ghost use Rattle.tag_sets.specs.Hands.{HasRoom, hint_of};
-ghost use Rattle.tag_sets.specs.Batches.{CountsTags, AreOrdinary};
 ghost use Rattle.tag_sets.specs.Gets as hands;
-ghost use Rattle.tag_sets.specs.Gets.{IsInRun, IsOrdinaryTag, MiscountsBatch};
-ghost use Rattle.tag_cache.specs.Batches.{AreHeldOnce, AreLast, ListGoes, answered_run};
-ghost use Rattle.tag_cache.specs.Caches.{IsCacheOf, KeepsNone, IsLent, hand_of};
+ghost use Rattle.tag_sets.specs.Gets.{IsInRun, MiscountsBatch};
+ghost use Rattle.tag_cache.specs.Batches.{answered_run};
+ghost use Rattle.tag_cache.specs.Caches.{IsCacheOf, hand_of};
 ghost use Rattle.tag_cache.specs.Changes.{IsUnchanged, KeepsSame};
-ghost use Rattle.tag_cache.specs.Holding.{HoldsLess, HoldsMore};
+ghost use Rattle.tag_cache.specs.Holding.{HoldsMore};
 ghost use Rattle.tag_cache.specs.Tallies.{Tallies};
 
 use crate::cache::Cache;
-use tag_queue::TagFault;
-use tag_sets::Tags;
+use tag_sets::{TagFault, Tags};
 
 impl<R: Copy> Cache<R> {
     /// Takes up to `n` free ordinary tags out of `n` consecutive ones of one word, as `Tags::get_batch` does. It takes

@@ -1,21 +1,25 @@
 //! Clears of one tag.
 ghost use Rattle.std.specs.Prelude.{◌≡◌, ◌⊎◌, ◌<◌, ◌≤◌, ◌↔◌, IfOk, IsOk, OnOk, OnErr};
-ghost use Rattle.tag_sets.specs.Hands.{total_of};
+ghost use Rattle.wake_book.specs.Grants.{AreGrantsOf};
+ghost use Rattle.tag_sets.specs.Hands.{total_of, group_steps};
 ghost use Rattle.tag_cache.specs.Caches.{IsCacheOf, Holds, IsLast, IsLent, IsWithin, IsFixed, KeepsNone, hand_of, split_of, reused_of};
-ghost use Rattle.tag_cache.specs.Changes.{IsUnchanged, KeepsSame, SameLoans, SameTerms};
+ghost use Rattle.tag_cache.specs.Changes.{IsUnchanged, KeepsSame, SameTerms};
 ghost use Rattle.tag_cache.specs.Holding.{HoldsLess};
 ghost use Rattle.tag_cache.specs.Tallies.{Tallies};
-ghost use Rattle.tag_cache.specs.Clears.{Goes, GoesOrdinary, GivesOne, GivesWith};
+ghost use Rattle.tag_cache.specs.Clears.{Goes, GoesOrdinary, MakesRoom, GivesOne, GivesWith};
+ghost use Rattle.tag_cache.specs.Granted.{woken_in, AreGranted};
 
 use crate::cache::Cache;
-use tag_queue::TagFault;
-use tag_sets::{Kind, Tags};
+use crate::grants::both;
+use tag_sets::{Grants, Kind, TagFault, Tags};
+use wake_book::NO_GRANTS;
 
 impl<R: Copy> Cache<R> {
     /// Clears a tag that the user holds, and returns how many waiters this woke. While nobody waits, an ordinary tag is
-    /// kept if there is room for it, by no step but the load of the active count. If somebody waits, all kept tags go
-    /// back with it. `NoSuchTag` means that the number is not below the total, `NotHeld` that the user does not hold
-    /// the tag, as where it is kept; nothing changes then.
+    /// kept, by no step but the load of the active count. If there is no place for it, all kept tags go back and it is
+    /// kept instead of them; if it may not be kept, it goes back alone. If somebody waits, all kept tags go back with
+    /// it. `NoSuchTag` means that the number is not below the total, `NotHeld` that the user does not hold the tag, as
+    /// where it is kept; nothing changes then.
     #[inline(always)]
     pub fn clear(&mut self, tags: &Tags<R>, tag: u32) -> Result<u32, TagFault>
         requires { IsCacheOf tags.now self.old }
@@ -28,6 +32,48 @@ impl<R: Copy> Cache<R> {
         ensures tally { OnOk result (Tallies 0 1 self.old self.new) }
         ensures err { OnErr result (IsUnchanged self.old self.new) }
     {
+        Ok(match self.clear_as(tags, tag)? {
+            None => 0,
+            Some(grants) => tags.ring(grants),
+        })
+    }
+
+    /// Like `clear`, but wakes no sleeper, and so links nothing that does. It returns how many waiters it granted a
+    /// wakeup in each group, and leaves waking them to the caller. It is refused as `clear` is: `NoSuchTag`, `NotHeld`.
+    #[inline(always)]
+    pub fn clear_granted(&mut self, tags: &Tags<R>, tag: u32) -> Result<Grants, TagFault>
+        requires { IsCacheOf tags.now self.old }
+        ensures cache { IsCacheOf tags.now self.new }
+        ensures no_such_tag { (result ≡ Err TagFault.NoSuchTag) ↔ (total_of tags.now ≤ tag) }
+        ensures not_held { (result ≡ Err TagFault.NotHeld) ↔ ((tag < total_of tags.now) × ¬ (Holds self.old tag)) }
+        ensures succeeds { Holds self.old tag → IsOk result }
+        ensures less { OnOk result (HoldsLess (λ other. other ≡ tag) self.old self.new) }
+        ensures way { IfOk result (λ grants. Goes tags.now tag grants.woken self.old self.new) }
+        ensures grants { IfOk result (λ grants. AreGrantsOf grants (group_steps (hand_of self.old)) (group_steps (hand_of self.new))) }
+        ensures tally { OnOk result (Tallies 0 1 self.old self.new) }
+        ensures err { OnErr result (IsUnchanged self.old self.new) }
+    {
+        Ok(match self.clear_as(tags, tag)? {
+            None => NO_GRANTS,
+            Some(grants) => grants,
+        })
+    }
+
+    /// Clears a tag as `clear_granted` does. `None` is no grants, where the tag is kept without another step: a sum of
+    /// its own, so that this case needs no memory.
+    #[inline(always)]
+    fn clear_as(&mut self, tags: &Tags<R>, tag: u32) -> Result<Option<Grants>, TagFault>
+        requires { IsCacheOf tags.now self.old }
+        ensures cache { IsCacheOf tags.now self.new }
+        ensures no_such_tag { (result ≡ Err TagFault.NoSuchTag) ↔ (total_of tags.now ≤ tag) }
+        ensures not_held { (result ≡ Err TagFault.NotHeld) ↔ ((tag < total_of tags.now) × ¬ (Holds self.old tag)) }
+        ensures succeeds { Holds self.old tag → IsOk result }
+        ensures less { OnOk result (HoldsLess (λ other. other ≡ tag) self.old self.new) }
+        ensures way { IfOk result (λ grants. Goes tags.now tag (woken_in grants) self.old self.new) }
+        ensures grants { IfOk result (λ grants. AreGranted grants (group_steps (hand_of self.old)) (group_steps (hand_of self.new))) }
+        ensures tally { OnOk result (Tallies 0 1 self.old self.new) }
+        ensures err { OnErr result (IsUnchanged self.old self.new) }
+    {
         if self.lends(tag) {
             return Ok(self.put(tags, tag));
         }
@@ -36,14 +82,15 @@ impl<R: Copy> Cache<R> {
 
     /// Clears a tag that the user is not known to hold. It is out of line, so that other clears are short.
     #[inline(never)]
-    fn clear_other(&mut self, tags: &Tags<R>, tag: u32) -> Result<u32, TagFault>
+    fn clear_other(&mut self, tags: &Tags<R>, tag: u32) -> Result<Option<Grants>, TagFault>
         requires cache { IsCacheOf tags.now self.old }
         requires unlent { ¬ (IsLent self.old tag) }
         ensures cache { IsCacheOf tags.now self.new }
         ensures no_such_tag { (result ≡ Err TagFault.NoSuchTag) ↔ (total_of tags.now ≤ tag) }
         ensures not_held { (result ≡ Err TagFault.NotHeld) ↔ ((tag < total_of tags.now) × ¬ (Holds self.old tag)) }
-        ensures succeeds { Holds self.old tag → IsOk result }
-        ensures way { IfOk result (λ woken. Goes tags.now tag woken self.old self.new) }
+        ensures succeeds { IsOk result ↔ Holds self.old tag }
+        ensures way { IfOk result (λ grants. Goes tags.now tag (woken_in grants) self.old self.new) }
+        ensures grants { IfOk result (λ grants. AreGranted grants (group_steps (hand_of self.old)) (group_steps (hand_of self.new))) }
         ensures err { OnErr result (IsUnchanged self.old self.new) }
     {
         let kind = tags.find_held(&self.hand, tag)?;
@@ -52,70 +99,95 @@ impl<R: Copy> Cache<R> {
         }
         match kind {
             Kind::Ordinary => Ok(self.put_other(tags, tag)),
-            Kind::Reserved => Ok(self.give(tags, tag)),
+            Kind::Reserved => Ok(Some(self.give(tags, tag))),
         }
     }
 
     /// Keeps an ordinary tag that the user is not known to hold, or gives it back.
     #[inline(always)]
-    fn put_other(&mut self, tags: &Tags<R>, tag: u32) -> u32
+    fn put_other(&mut self, tags: &Tags<R>, tag: u32) -> Option<Grants>
         requires cache { IsCacheOf tags.now self.old }
         requires held { Holds self.old tag }
         requires ordinary { split_of self.old ≤ tag }
         ensures cache { IsCacheOf tags.now self.new }
-        ensures way { GoesOrdinary tags.now tag result self.old self.new }
+        ensures way { GoesOrdinary tags.now tag (woken_in result) self.old self.new }
+        ensures grants { AreGranted result (group_steps (hand_of self.old)) (group_steps (hand_of self.new)) }
     {
         self.follow(tag);
         self.put(tags, tag)
     }
 
-    /// Keeps an ordinary tag that the user holds, or gives it back.
+    /// Keeps an ordinary tag that the user holds, or gives it back. `None` is no grants, where the tag is kept without
+    /// another step.
     #[inline(always)]
-    fn put(&mut self, tags: &Tags<R>, tag: u32) -> u32
+    fn put(&mut self, tags: &Tags<R>, tag: u32) -> Option<Grants>
         requires cache { IsCacheOf tags.now self.old }
         requires held { Holds self.old tag }
         requires ordinary { split_of self.old ≤ tag }
         requires aimed { IsWithin self.old tag ⊎ IsFixed self.old }
         ensures cache { IsCacheOf tags.now self.new }
-        ensures way { GoesOrdinary tags.now tag result self.old self.new }
+        ensures way { GoesOrdinary tags.now tag (woken_in result) self.old self.new }
+        ensures grants { AreGranted result (group_steps (hand_of self.old)) (group_steps (hand_of self.new)) }
     {
         if tags.active(&mut self.hand) != 0 {
-            return self.give_all(tags, tag);
+            return Some(self.give_all(tags, tag));
         }
         if self.is_last(tag) {
-            return self.give_all(tags, tag);
+            return Some(self.give_all(tags, tag));
         }
         if self.keep(tag) {
-            return 0;
+            return None;
         }
-        self.give_alone(tags, tag)
+        Some(self.make_room(tags, tag))
+    }
+
+    /// Gives all kept tags back and keeps this one instead of them, or gives it back alone if it may not be kept.
+    #[inline(never)]
+    fn make_room(&mut self, tags: &Tags<R>, tag: u32) -> Grants
+        requires cache { IsCacheOf tags.now self.old }
+        requires held { Holds self.old tag }
+        requires ordinary { split_of self.old ≤ tag }
+        requires other { ¬ (IsLast tag self.old) }
+        ensures cache { IsCacheOf tags.now self.new }
+        ensures way { MakesRoom tags.now tag result.woken self.old self.new }
+        ensures grants { AreGrantsOf result (group_steps (hand_of self.old)) (group_steps (hand_of self.new)) }
+    {
+        if !self.can_keep(tag) {
+            return self.give_alone(tags, tag);
+        }
+        let grants = self.give_kept(tags);
+        self.keep_first(tag);
+        grants
     }
 
     /// Gives all kept tags back, and then a tag that the user holds.
     #[inline(never)]
-    fn give_all(&mut self, tags: &Tags<R>, tag: u32) -> u32
+    fn give_all(&mut self, tags: &Tags<R>, tag: u32) -> Grants
         requires cache { IsCacheOf tags.now self.old }
         requires held { Holds self.old tag }
         ensures cache { IsCacheOf tags.now self.new }
-        ensures gives { GivesWith tags.now tag result self.old (hand_of self.new) }
+        ensures gives { GivesWith tags.now tag result.woken self.old (hand_of self.old) (hand_of self.new) }
+        ensures grants { AreGrantsOf result (group_steps (hand_of self.old)) (group_steps (hand_of self.new)) }
         ensures none { KeepsNone self.new }
         ensures terms { SameTerms self.old self.new }
         ensures reused { reused_of self.new ≡ reused_of self.old }
     {
-        let woken = self.flush(tags);
-        woken + self.give_alone(tags, tag)
+        let sooner = self.give_kept(tags);
+        let later = self.give_alone(tags, tag);
+        both(sooner, later)
     }
 
     /// Gives a tag back that the user holds.
     #[inline(never)]
-    fn give_alone(&mut self, tags: &Tags<R>, tag: u32) -> u32
+    fn give_alone(&mut self, tags: &Tags<R>, tag: u32) -> Grants
         requires cache { IsCacheOf tags.now self.old }
         requires held { Holds self.old tag }
         requires other { KeepsNone self.old ⊎ ¬ (IsLast tag self.old) }
         ensures cache { IsCacheOf tags.now self.new }
-        ensures gives { GivesOne tags.now tag result (hand_of self.old) (hand_of self.new) }
+        ensures gives { GivesOne tags.now tag result.woken (hand_of self.old) (hand_of self.new) }
+        ensures grants { AreGrantsOf result (group_steps (hand_of self.old)) (group_steps (hand_of self.new)) }
         ensures kept { KeepsSame self.old self.new }
-        ensures few { result ≤ 8 }
+        ensures few { result.woken ≤ 8 }
     {
         self.forget(tag);
         self.give(tags, tag)
@@ -123,15 +195,15 @@ impl<R: Copy> Cache<R> {
 
     /// Gives a tag back that the user holds, but is not known to.
     #[inline(always)]
-    pub(crate) fn give(&mut self, tags: &Tags<R>, tag: u32) -> u32
+    fn give(&mut self, tags: &Tags<R>, tag: u32) -> Grants
         requires cache { IsCacheOf tags.now self.old }
         requires held { Holds self.old tag }
         requires unlent { ¬ (IsLent self.old tag) }
         ensures cache { IsCacheOf tags.now self.new }
-        ensures gives { GivesOne tags.now tag result (hand_of self.old) (hand_of self.new) }
+        ensures gives { GivesOne tags.now tag result.woken (hand_of self.old) (hand_of self.new) }
+        ensures grants { AreGrantsOf result (group_steps (hand_of self.old)) (group_steps (hand_of self.new)) }
         ensures kept { KeepsSame self.old self.new }
-        ensures loans { SameLoans self.old self.new }
-        ensures few { result ≤ 8 }
+        ensures few { result.woken ≤ 8 }
     {
         tags.clear_held(&mut self.hand, tag)
     }

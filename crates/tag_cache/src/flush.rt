@@ -1,48 +1,102 @@
 //! Kept tags are given back.
-ghost use Rattle.std.specs.Prelude.{◌≡◌, ◌*◌, ◌≤◌};
-ghost use Rattle.tag_sets.specs.Hands.{IsHandOf};
-ghost use Rattle.tag_cache.specs.Caches.{IsCacheOf, KeepsNone, hand_of, count_of, reused_of};
+ghost use Rattle.std.specs.Prelude.{◌≡◌, ◌≤◌};
+ghost use Rattle.wake_book.specs.Grants.{AreGrantsOf};
+ghost use Rattle.tag_sets.specs.Hands.{IsHandOf, group_steps};
+ghost use Rattle.tag_cache.specs.Caches.{IsCacheOf, KeepsNone, hand_of, reused_of};
 ghost use Rattle.tag_cache.specs.Changes.{SameTerms, SameLoans};
 ghost use Rattle.tag_cache.specs.Holding.{HoldsSame, IsLeftWith};
 ghost use Rattle.tag_cache.specs.Tallies.{Tallies};
 ghost use Rattle.tag_cache.specs.Clears.{GivesKept};
 
 use crate::cache::Cache;
-use tag_sets::{Hand, Tags};
+use tag_sets::{Grants, Hand, Tags};
+use wake_book::NO_GRANTS;
 
 impl<R: Copy> Cache<R> {
-    /// Gives all kept tags back, each as by `Tags::clear`, and returns how many waiters this woke. Call it before the
-    /// thread is idle or sleeps: what it keeps nobody else finds.
-    #[inline(never)]
+    /// Gives all kept tags back, by one step for each word as `Tags::clear_mask` does, and returns how many waiters this
+    /// woke. If nothing is kept it makes no step. Call it before the thread is idle or sleeps: what it keeps nobody else
+    /// finds.
     pub fn flush(&mut self, tags: &Tags<R>) -> u32
         requires { IsCacheOf tags.now self.old }
         ensures cache { IsCacheOf tags.now self.new }
         ensures same { HoldsSame self.old self.new }
         ensures none { KeepsNone self.new }
-        ensures gives { GivesKept tags.now result self.old (hand_of self.new) }
+        ensures gives { GivesKept tags.now result self.old (hand_of self.old) (hand_of self.new) }
         ensures tally { Tallies 0 0 self.old self.new }
         ensures terms { SameTerms self.old self.new }
         ensures reused { reused_of self.new ≡ reused_of self.old }
         ensures loans { SameLoans self.old self.new }
-        ensures few { result ≤ 8 * count_of self.old }
+        ensures few { result ≤ 8 }
     {
-        let mut woken = 0;
-        while let Some(tag) = self.pop() {
-            woken += self.give(tags, tag);
-        }
-        woken
+        let grants = self.flush_granted(tags);
+        tags.ring(grants)
     }
 
-    /// Gives all kept tags back, each as by `Tags::clear`. Returns the hand, which holds what the user holds, and how
-    /// many waiters this woke.
-    pub fn into_hand(mut self, tags: &Tags<R>) -> (Hand<R>, u32)
+    /// Like `flush`, but wakes no sleeper, and so links nothing that does. It returns how many waiters it granted a
+    /// wakeup in each group, and leaves waking them to the caller.
+    pub fn flush_granted(&mut self, tags: &Tags<R>) -> Grants
+        requires { IsCacheOf tags.now self.old }
+        ensures cache { IsCacheOf tags.now self.new }
+        ensures same { HoldsSame self.old self.new }
+        ensures none { KeepsNone self.new }
+        ensures gives { GivesKept tags.now result.woken self.old (hand_of self.old) (hand_of self.new) }
+        ensures grants { AreGrantsOf result (group_steps (hand_of self.old)) (group_steps (hand_of self.new)) }
+        ensures tally { Tallies 0 0 self.old self.new }
+        ensures terms { SameTerms self.old self.new }
+        ensures reused { reused_of self.new ≡ reused_of self.old }
+        ensures loans { SameLoans self.old self.new }
+        ensures few { result.woken ≤ 8 }
+    {
+        self.give_kept(tags)
+    }
+
+    /// Gives all kept tags back. The window stays where it is.
+    #[inline(never)]
+    pub(crate) fn give_kept(&mut self, tags: &Tags<R>) -> Grants
+        requires { IsCacheOf tags.now self.old }
+        ensures cache { IsCacheOf tags.now self.new }
+        ensures none { KeepsNone self.new }
+        ensures gives { GivesKept tags.now result.woken self.old (hand_of self.old) (hand_of self.new) }
+        ensures grants { AreGrantsOf result (group_steps (hand_of self.old)) (group_steps (hand_of self.new)) }
+        ensures terms { SameTerms self.old self.new }
+        ensures reused { reused_of self.new ≡ reused_of self.old }
+        ensures window { (self.new.first ≡ self.old.first) × (self.new.lent ≡ self.old.lent) }
+        ensures few { result.woken ≤ 8 }
+    {
+        let kept = self.kept;
+        if kept == 0 {
+            return NO_GRANTS;
+        }
+        self.kept = 0;
+        let Ok(grants) = tags.clear_mask_granted(&mut self.hand, self.first, kept) else {
+            unreachable!()
+        };
+        grants
+    }
+
+    /// Gives all kept tags back, as `flush` does. Returns the hand, which holds what the user holds, and how many waiters
+    /// this woke.
+    pub fn into_hand(self, tags: &Tags<R>) -> (Hand<R>, u32)
         requires { IsCacheOf tags.now self }
         ensures hand { IsHandOf tags.now result.0 }
         ensures left { IsLeftWith self result.0 }
-        ensures gives { GivesKept tags.now result.1 self result.0 }
+        ensures gives { GivesKept tags.now result.1 self (hand_of self) result.0 }
     {
-        let woken = self.flush(tags);
+        let (hand, grants) = self.into_hand_granted(tags);
+        (hand, tags.ring(grants))
+    }
+
+    /// Like `into_hand`, but wakes no sleeper, and so links nothing that does. It returns how many waiters it granted a
+    /// wakeup in each group, and leaves waking them to the caller.
+    pub fn into_hand_granted(mut self, tags: &Tags<R>) -> (Hand<R>, Grants)
+        requires { IsCacheOf tags.now self }
+        ensures hand { IsHandOf tags.now result.0 }
+        ensures left { IsLeftWith self result.0 }
+        ensures gives { GivesKept tags.now result.1.woken self (hand_of self) result.0 }
+        ensures grants { AreGrantsOf result.1 (group_steps (hand_of self)) (group_steps result.0) }
+    {
+        let grants = self.flush_granted(tags);
         let Cache { hand, .. } = self;
-        (hand, woken)
+        (hand, grants)
     }
 }

@@ -2,18 +2,18 @@
 ghost use Rattle.std.specs.Prelude.{◌≡◌, ℕ, ◌<◌, ◌≤◌, ◌↔◌, IfOk, IfErr, IsOk, OnOk, OnErr};
 ghost use Rattle.tag_sets.specs.Hands.{HasRoom, reserved_of};
 ghost use Rattle.tag_sets.specs.Gets as hands;
+ghost use Rattle.tag_sets.specs.Waits as hand_waits;
 ghost use Rattle.tag_sets.specs.Gets.{IsAnswer, IsOrdinaryTag};
 ghost use Rattle.tag_sets.specs.declared.kind.Kind.TheVariants.{Ordinary, Reserved};
 ghost use Rattle.tag_cache.specs.Caches.{IsCacheOf, KeepsNone, hand_of};
 ghost use Rattle.tag_cache.specs.Changes.{IsUnchanged, KeepsSame};
 ghost use Rattle.tag_cache.specs.Holding.{HoldsMore};
 ghost use Rattle.tag_cache.specs.Tallies.{Tallies, answered};
-ghost use Rattle.tag_cache.specs.Gets.{Gets};
+ghost use Rattle.tag_cache.specs.Gets.{Gets, WaitsFor};
 
 use crate::cache::Cache;
 use std::sync::Wait;
-use tag_queue::TagFault;
-use tag_sets::Tags;
+use tag_sets::{TagFault, Tags};
 
 impl<R: Copy> Cache<R> {
     /// Returns the least kept tag, by no step. If no tag is kept it takes a free ordinary tag as `Tags::get` does, and
@@ -58,6 +58,7 @@ impl<R: Copy> Cache<R> {
         ensures no_reserved { (result ≡ Err TagFault.NoReserved) ↔ (reserved_of tags.now ≡ 0) }
         ensures spent { (result ≡ Err TagFault.Spent)
             ↔ ((1 ≤ reserved_of tags.now) × ¬ (HasRoom (hand_of self.old) Reserved 1)) }
+        ensures succeeds { IsOk result ↔ ((1 ≤ reserved_of tags.now) × HasRoom (hand_of self.old) Reserved 1) }
         ensures more { IfOk result (λ answer. HoldsMore (IsAnswer answer) self.old self.new) }
         ensures reserved { IfOk result (λ answer. (tag : ℕ) → IsAnswer answer tag → tag < reserved_of tags.now) }
         ensures kept { KeepsSame self.old self.new }
@@ -74,6 +75,7 @@ impl<R: Copy> Cache<R> {
         ensures cache { IsCacheOf tags.now self.new }
         ensures more { IfOk result (λ tag. HoldsMore (λ other. other ≡ tag) self.old self.new) }
         ensures ordinary { IfOk result (λ tag. IsOrdinaryTag tags.now tag) }
+        ensures waits { IfOk result (λ tag. WaitsFor tags.now tag self.old self.new) }
         ensures tally { OnOk result (Tallies 1 0 self.old self.new) }
         ensures refused { IfErr result (λ fault. KeepsNone self.old) }
         ensures err { OnErr result (IsUnchanged self.old self.new) }
@@ -90,6 +92,7 @@ impl<R: Copy> Cache<R> {
         requires { IsCacheOf tags.now self.old }
         ensures cache { IsCacheOf tags.now self.new }
         ensures gets { IfOk result (λ tag. hands.BlockingGets tags.now tag (hand_of self.old) (hand_of self.new)) }
+        ensures waits { IfOk result (λ tag. hand_waits.WaitsFor tags.now tag (hand_of self.old) (hand_of self.new)) }
         ensures kept { KeepsSame self.old self.new }
         ensures err { OnErr result (hand_of self.new ≡ hand_of self.old) }
     {

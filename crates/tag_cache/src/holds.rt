@@ -1,6 +1,9 @@
 //! Whether the user of a cache holds a tag.
-ghost use Rattle.std.specs.Prelude.{◌↔◌, IsTrue};
-ghost use Rattle.tag_sets.specs.Hands.{IsTagOf};
+ghost use Rattle.std.specs.Prelude.{◌≡◌, ◌↔◌, IsTrue};
+ghost use Rattle.tag_queue.specs.Placing.{hint_in_part};
+ghost use Rattle.tag_sets.specs.Hands.{IsTagOf, agent_of, queue_of, hint_of};
+ghost use Rattle.tag_sets.specs.Placing.{SameButHint};
+ghost use Rattle.tag_sets.specs.declared.kind.Kind.{Kind};
 ghost use Rattle.tag_cache.specs.Caches.{Holds, hand_of};
 
 use crate::cache::Cache;
@@ -27,6 +30,9 @@ impl<R: Copy> Cache<R> {
         ensures cache { IsCacheOf tags.now self.new }
         ensures same { HoldsSame self.old self.new }
         ensures kept { KeepsSame self.old self.new }
+        ensures hints { (kind : Kind) → hint_of (hand_of self.new) kind
+            ≡ hint_in_part (queue_of tags.now kind) (agent_of (hand_of self.old) kind) }
+        ensures hand { (kind : Kind) → SameButHint kind (hand_of self.old) (hand_of self.new) }
     {
         tags.place(&mut self.hand);
     }

@@ -1,9 +1,10 @@
 //! Which tags are kept.
-ghost use Rattle.std.specs.Prelude.{◌≡◌, ◌⊎◌, ◌≤◌, ◌↔◌, IsTrue, MatchOption};
-ghost use Rattle.tag_cache.specs.Caches.{IsKept, IsWithin, IsFixed, IsLast, KeepsNone, KeepsWithCare, Holds, most_of, count_of, split_of};
-ghost use Rattle.tag_cache.specs.Changes.{Pops, Reuses, MayKeep};
+ghost use Rattle.std.specs.Prelude.{◌≡◌, ◌⊎◌, ◌<◌, ◌≤◌, ◌^◌, ◌↔◌, IsTrue, MatchOption};
+ghost use Rattle.tag_cache.specs.Caches.{IsKept, IsWithin, IsFixed, IsLast, KeepsNone, KeepsWithCare, CanBeKept, Holds, most_of, count_of, split_of, hand_of};
+ghost use Rattle.tag_cache.specs.Changes.{Pops, Reuses, MayKeep, KeepsOnly};
 
 use crate::cache::{Cache, MOST_REUSED, WINDOW};
+use crate::keeping::Keeping;
 
 impl<R> Cache<R> {
     /// Returns whether the tag is kept.
@@ -54,7 +55,38 @@ impl<R> Cache<R> {
         Some(tag)
     }
 
-    /// Keeps an ordinary tag that the user holds, if there is a place for it.
+    /// Returns whether the tag may be kept where no other is.
+    pub(crate) fn can_keep(&self, tag: u32) -> bool
+        ensures { IsTrue result ↔ CanBeKept tag self.now }
+    {
+        if self.most == 0 {
+            return false;
+        }
+        if self.reused >= MOST_REUSED {
+            return false;
+        }
+        match self.keeping {
+            Keeping::Always => true,
+            Keeping::WhileHolding => self.offset(tag) < WINDOW,
+        }
+    }
+
+    /// Keeps an ordinary tag that the user holds where nothing is kept. The window moves there.
+    pub(crate) fn keep_first(&mut self, tag: u32)
+        requires held { Holds self.old tag }
+        requires ordinary { split_of self.old ≤ tag }
+        requires low { tag < 2 ^ 31 }
+        requires none { KeepsNone self.old }
+        requires can { CanBeKept tag self.old }
+        requires other { ¬ (IsLast tag self.old) }
+        ensures hand { hand_of self.new ≡ hand_of self.old }
+        ensures only { KeepsOnly tag self.old self.new }
+    {
+        self.follow(tag);
+        let _ = self.keep(tag);
+    }
+
+    /// Keeps an ordinary tag that the user holds, if there is a place for it and it may be kept.
     #[inline(always)]
     pub(crate) fn keep(&mut self, tag: u32) -> bool
         requires held { Holds self.old tag }

@@ -3,16 +3,19 @@
 
 mod batch_clears;
 mod batches;
+mod before;
 mod cache;
 mod clears;
 mod counts;
 mod flush;
 mod gets;
+mod grants;
 mod holds;
 mod keeping;
 mod kept;
 mod lent;
 mod looks;
+mod masks;
 mod meets;
 mod numbers;
 mod shallow;
@@ -22,5 +25,4 @@ mod window;
 
 pub use cache::Cache;
 pub use keeping::Keeping;
-pub use tag_queue::TagFault;
-pub use tag_sets::{Hand, Tags};
+pub use tag_sets::{Grants, Hand, TagFault, Tags};

@@ -10,8 +10,7 @@ ghost use Rattle.tag_cache.specs.Holding.{HoldsMore};
 ghost use Rattle.tag_cache.specs.Tallies.{Tallies, answered};
 
 use crate::cache::Cache;
-use tag_queue::TagFault;
-use tag_sets::Tags;
+use tag_sets::{TagFault, Tags};
 
 impl<R: Copy> Cache<R> {
     /// Takes a free ordinary tag as `Tags::get_shallow` does: never one that is kept, which may lie beyond the depth.

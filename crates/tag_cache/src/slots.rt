@@ -9,8 +9,8 @@ ghost use Rattle.tag_cache.specs.Holding.{HoldsLess, HoldsMore, HoldsSame, Write
 ghost use Rattle.tag_cache.specs.Tallies.{Tallies};
 
 use crate::cache::Cache;
-use tag_queue::TagFault;
-use tag_sets::Tags;
+use tag_sets::{Grants, TagFault, Tags};
+use wake_book::NO_GRANTS;
 
 impl<R: Copy> Cache<R> {
     /// Returns the value in the slot of a tag that the user holds. `NoSuchTag` means that the number is not below the
@@ -75,10 +75,46 @@ impl<R: Copy> Cache<R> {
         ensures last { IsLast tag self.old → OnOk result (KeepsNone self.new) }
         ensures err { OnErr result (IsUnchanged self.old self.new) }
     {
+        let grants = self.post_granted(tags, tag)?;
+        tags.ring(grants);
+        Ok(())
+    }
+
+    /// Like `post`, but wakes no sleeper, and so links nothing that does. It returns how many waiters the kept tags that
+    /// went back granted a wakeup in each group, and leaves waking them to the caller. It is refused as `post` is:
+    /// `NoSuchTag`, `NotHeld`.
+    #[inline]
+    pub fn post_granted(&mut self, tags: &Tags<R>, tag: u32) -> Result<Grants, TagFault>
+        requires { IsCacheOf tags.now self.old }
+        ensures cache { IsCacheOf tags.now self.new }
+        ensures no_such_tag { (result ≡ Err TagFault.NoSuchTag) ↔ (total_of tags.now ≤ tag) }
+        ensures not_held { (result ≡ Err TagFault.NotHeld) ↔ ((tag < total_of tags.now) × ¬ (Holds self.old tag)) }
+        ensures succeeds { Holds self.old tag → IsOk result }
+        ensures less { OnOk result (HoldsLess (λ other. other ≡ tag) self.old self.new) }
+        ensures kept { ¬ (IsLast tag self.old) → KeepsSame self.old self.new }
+        ensures last { IsLast tag self.old → OnOk result (KeepsNone self.new) }
+        ensures err { OnErr result (IsUnchanged self.old self.new) }
+    {
         if self.lends(tag) {
-            self.post_lent(tags, tag);
-            return Ok(());
+            return Ok(self.post_lent(tags, tag));
         }
+        self.post_other(tags, tag)?;
+        Ok(NO_GRANTS)
+    }
+
+    /// Gives up a tag that the user is not known to hold.
+    fn post_other(&mut self, tags: &Tags<R>, tag: u32) -> Result<(), TagFault>
+        requires cache { IsCacheOf tags.now self.old }
+        requires unlent { ¬ (IsLent self.old tag) }
+        ensures cache { IsCacheOf tags.now self.new }
+        ensures no_such_tag { (result ≡ Err TagFault.NoSuchTag) ↔ (total_of tags.now ≤ tag) }
+        ensures not_held { (result ≡ Err TagFault.NotHeld) ↔ ((tag < total_of tags.now) × ¬ (Holds self.old tag)) }
+        ensures succeeds { Holds self.old tag → IsOk result }
+        ensures less { OnOk result (HoldsLess (λ other. other ≡ tag) self.old self.new) }
+        ensures kept { ¬ (IsLast tag self.old) → KeepsSame self.old self.new }
+        ensures last { IsLast tag self.old → OnOk result (KeepsNone self.new) }
+        ensures err { OnErr result (IsUnchanged self.old self.new) }
+    {
         if self.keeps(tag) {
             return Err(TagFault::NotHeld);
         }
@@ -86,7 +122,7 @@ impl<R: Copy> Cache<R> {
     }
 
     /// Gives up a tag that the user is known to hold.
-    fn post_lent(&mut self, tags: &Tags<R>, tag: u32)
+    fn post_lent(&mut self, tags: &Tags<R>, tag: u32) -> Grants
         requires cache { IsCacheOf tags.now self.old }
         requires lent { IsLent self.old tag }
         ensures cache { IsCacheOf tags.now self.new }
@@ -94,15 +130,16 @@ impl<R: Copy> Cache<R> {
         ensures kept { ¬ (IsLast tag self.old) → KeepsSame self.old self.new }
         ensures last { IsLast tag self.old → KeepsNone self.new }
     {
-        self.release(tags, tag);
+        let grants = self.release(tags, tag);
         let Ok(()) = tags.post(&mut self.hand, tag) else {
             unreachable!()
         };
+        grants
     }
 
     /// Says that it is no longer known that the user holds the tag, which is about to leave. If it is the last, all kept
     /// tags go back first.
-    fn release(&mut self, tags: &Tags<R>, tag: u32)
+    fn release(&mut self, tags: &Tags<R>, tag: u32) -> Grants
         requires { IsCacheOf tags.now self.old }
         ensures cache { IsCacheOf tags.now self.new }
         ensures same { HoldsSame self.old self.new }
@@ -112,11 +149,12 @@ impl<R: Copy> Cache<R> {
         ensures tally { Tallies 0 0 self.old self.new }
     {
         if self.is_last(tag) {
-            let _ = self.flush(tags);
+            let grants = self.flush_granted(tags);
             self.forget(tag);
-            return;
+            return grants;
         }
         self.forget(tag);
+        NO_GRANTS
     }
 
     /// Takes a posted tag with its slot. `NotPosted` leaves what the user holds unchanged. `NoSuchTag` means that the

@@ -1,5 +1,5 @@
 //! Waits for an ordinary tag. A thread that begins to wait keeps nothing.
-ghost use Rattle.std.specs.Prelude.{◌≡◌, ◌↔◌, IfOk, IfErr, IfSome, IfNone, IsOk, IsSome, OnOk, None};
+ghost use Rattle.std.specs.Prelude.{◌≡◌, ◌↔◌, IfOk, IfErr, IfSome, IfNone, IsOk, IsSome, None};
 ghost use Rattle.tag_sets.specs.Hands.{standing_of, wait_index_of};
 ghost use Rattle.tag_sets.specs.Waits as hands;
 ghost use Rattle.tag_sets.specs.Waits.{Leaves, StandsOn};
@@ -12,8 +12,7 @@ ghost use Rattle.tag_cache.specs.Waits.{Enters};
 
 use crate::cache::Cache;
 use std::sync::Wait;
-use tag_queue::TagFault;
-use tag_sets::{Left, Tags};
+use tag_sets::{Grants, Left, TagFault, Tags};
 
 impl<R: Copy> Cache<R> {
     /// Gives all kept tags back, as `flush` does, and then enters the wait group of the hand's wait index, as
@@ -28,11 +27,29 @@ impl<R: Copy> Cache<R> {
         ensures terms { SameTerms self.old self.new }
         ensures err { IfErr result (λ fault. (fault ≡ TagFault.Waiting) × IsUnchanged self.old self.new) }
     {
+        let (group, grants) = self.prepare_wait_granted(tags)?;
+        tags.ring(grants);
+        Ok(group)
+    }
+
+    /// Like `prepare_wait`, but wakes no sleeper, and so links nothing that does. It returns the group, and how many
+    /// waiters the kept tags granted a wakeup in each group, and leaves waking them to the caller. It is refused as
+    /// `prepare_wait` is: `Waiting`.
+    pub fn prepare_wait_granted(&mut self, tags: &Tags<R>) -> Result<(u32, Grants), TagFault>
+        requires { IsCacheOf tags.now self.old }
+        ensures cache { IsCacheOf tags.now self.new }
+        ensures out { IsOk result ↔ (standing_of (hand_of self.old) ≡ None) }
+        ensures enters { IfOk result (λ found. Enters tags.now found.0 self.old self.new) }
+        ensures same { HoldsSame self.old self.new }
+        ensures tally { Tallies 0 0 self.old self.new }
+        ensures terms { SameTerms self.old self.new }
+        ensures err { IfErr result (λ fault. (fault ≡ TagFault.Waiting) × IsUnchanged self.old self.new) }
+    {
         if self.hand.is_waiting() {
             return Err(TagFault::Waiting);
         }
-        let _ = self.flush(tags);
-        Ok(self.enter(tags))
+        let grants = self.flush_granted(tags);
+        Ok((self.enter(tags), grants))
     }
 
     /// Enters a wait group with a hand that is in none.

@@ -68,6 +68,7 @@ impl<R> Cache<R> {
         requires { tag < 2 ^ 31 }
         ensures same { IsUnchanged self.old self.new }
         ensures aimed { IsWithin self.new tag ⊎ ((self.new ≡ self.old) × ¬ (KeepsNone self.old)) }
+        ensures moved { KeepsNone self.old ⊎ (self.new ≡ self.old) }
     {
         if self.kept != 0 {
             return;
@@ -85,6 +86,7 @@ impl<R> Cache<R> {
         requires { tag < 2 ^ 31 }
         ensures same { IsUnchanged self.old self.new }
         ensures aimed { IsWithin self.new tag ⊎ ((self.new ≡ self.old) × IsFixed self.old) }
+        ensures moved { KeepsNone self.old ⊎ (self.new ≡ self.old) }
         ensures careful { keeping_of self.old ≡ Keeping.WhileHolding → self.new ≡ self.old }
     {
         match self.keeping {

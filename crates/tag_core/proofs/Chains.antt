@@ -34,7 +34,7 @@ module _ {R : Type 0} where
   -- a map opens with what was won in the maps before it
   won_before : (k : Shape) (older : List (Epoch R)) → IsChain k older
       → got_in k.callers (opening_world k) ≡ won_along older
-  won_before k [] is = sum_below-none (opening_world k).won k.callers (λ c l. ap (λ (z : List ℕ). get_or z c 0) is.0)
+  won_before k [] is = sum_below-none (opening_world k).won k.callers (λ c l. is.0 c)
   won_before k (last ∷ older) is =
       let on = is.0 in let before = won_before last.shape older is.1 in
       let grown = won_grows last.shape.layout last.shape.callers (events_of last.shape.layout last.history)
@@ -47,7 +47,7 @@ module _ {R : Type 0} where
   -- and with what was given back in them
   back_before : (k : Shape) (older : List (Epoch R)) → IsChain k older
       → back_in k.callers (opening_world k) ≡ back_along older
-  back_before k [] is = sum_below-none (opening_world k).back k.callers (λ c l. ap (λ (z : List ℕ). get_or z c 0) is.1)
+  back_before k [] is = sum_below-none (opening_world k).back k.callers (λ c l. is.1 c)
   back_before k (last ∷ older) is =
       let on = is.0 in let before = back_before last.shape older is.1 in
       let grown = back_grows last.shape.layout last.shape.callers (events_of last.shape.layout last.history)

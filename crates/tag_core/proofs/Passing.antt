@@ -15,7 +15,7 @@ use Rattle.tag_core.specs.declared.record.Record.{Record}
 use Rattle.tag_core.specs.declared.record.View.{View}
 use Rattle.tag_core.specs.Histories.{History}
 use Rattle.tag_core.specs.Spacing.{word_at, aside_at, state_at, table_width}
-use Rattle.tag_core.specs.Records.{fresh_record, tag_bit, tags_from}
+use Rattle.tag_core.specs.Records.{fresh_record, tag_bit, tags_from, StartsAtZero}
 use Rattle.tag_core.specs.Views.{viewing, own_view, fresh, all_fresh, first_view, other_views, both_views}
 use Rattle.tag_core.specs.Rule.{IsOpening, IsKnown, Shown}
 use Rattle.tag_core.specs.Meeting.{HasHistory}
@@ -31,13 +31,11 @@ no_bits : (l : Layout) (n t : ℕ) → 0 ≡ tag_bit l (replicate n 0) t
 no_bits l n t = sym (ap (λ (z : ℕ). bit_at z (place_of l t)) (zeros n (word_of l t)) ∙ bit_at-zero (place_of l t))
 
 -- a map before which nothing was won
-pub starts : (k : Shape) → k.won_before.value.items ≡ [] → k.back_before.value.items ≡ [] → IsOpening k
-starts k won back = record {
-  unspent = λ c. subst (λ (z : List ℕ). get_or z c 0 ≤ MOST_WON) (sym won) (omega arith);
-  even = sum_below-none (λ c. get_or k.won_before.value.items c 0) k.callers
-      (λ c l. ap (λ (z : List ℕ). get_or z c 0) won)
-      ∙ sym (sum_below-none (λ c. get_or k.back_before.value.items c 0) k.callers
-      (λ c l. ap (λ (z : List ℕ). get_or z c 0) back));
+pub starts : (k : Shape) → StartsAtZero k → IsOpening k
+starts k zero_now = record {
+  unspent = λ c. let none = zero_now.0 c in omega arith;
+  even = sum_below-none (λ c. get_or k.won_before.value c 0) k.callers (λ c l. zero_now.0 c)
+      ∙ sym (sum_below-none (λ c. get_or k.back_before.value c 0) k.callers (λ c l. zero_now.1 c));
 }
 
 module _ (R : Type 0) (k : Shape) where

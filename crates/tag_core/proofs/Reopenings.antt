@@ -62,13 +62,13 @@ module _ {R : Type 0} (k : Shape) (callers : List (Caller R)) (totals : Totals) 
       -- a caller's count as the next map opens is that of the world in which this one ended
       won_at : (c : ℕ) → c < k.callers → (opening_world next).won c ≡ (world_of k known.history).won c
       won_at c l = let x = there_of c l in
-          ap (λ (z : ℕ). get_or next.won_before.value.items z 0) (sym x.3) ∙ counts.won x.0 x.1 x.2
+          ap (λ (z : ℕ). get_or next.won_before.value z 0) (sym x.3) ∙ counts.won x.0 x.1 x.2
           ∙ (known.each x.0 (record_of x.1) (at_map (record_of {R = R}) callers x.0 x.1 x.2)).won
           ∙ ap (world_of k known.history).won x.3
 
       back_at : (c : ℕ) → c < k.callers → (opening_world next).back c ≡ (world_of k known.history).back c
       back_at c l = let x = there_of c l in
-          ap (λ (z : ℕ). get_or next.back_before.value.items z 0) (sym x.3) ∙ counts.back x.0 x.1 x.2
+          ap (λ (z : ℕ). get_or next.back_before.value z 0) (sym x.3) ∙ counts.back x.0 x.1 x.2
           ∙ (known.each x.0 (record_of x.1) (at_map (record_of {R = R}) callers x.0 x.1 x.2)).back
           ∙ ap (world_of k known.history).back x.3
 
@@ -94,13 +94,13 @@ module _ {R : Type 0} (k : Shape) (callers : List (Caller R)) (totals : Totals) 
           let a = known.totals_are.got in let b = known.totals_are.back in let even = known.balance in omega arith
 
       -- nobody has won more than one may
-      few_of : length next.won_before.value.items ≡ k.callers → (c : ℕ) → (opening_world next).won c ≤ MOST_WON
-      few_of long c = dite (dec_lt c k.callers)
+      few_of : ((c : ℕ) → k.callers ≤ c → get_or next.won_before.value c 0 ≡ 0) → (c : ℕ) → (opening_world next).won c ≤ MOST_WON
+      few_of rest c = dite (dec_lt c k.callers)
           (λ (l : c < k.callers). let x = there_of c l in let unspent = x.1.unspent in
           subst (λ (z : ℕ). z ≤ MOST_WON)
-          (sym (counts.won x.0 x.1 x.2) ∙ ap (λ (z : ℕ). get_or next.won_before.value.items z 0) x.3) (omega arith))
+          (sym (counts.won x.0 x.1 x.2) ∙ ap (λ (z : ℕ). get_or next.won_before.value z 0) x.3) (omega arith))
           (λ (h : ¬ (c < k.callers)).
-          let none = get_or-eq_default next.won_before.value.items 0 {n = c} (omega arith) in omega arith)
+          let none = rest c (omega arith) in omega arith)
 
   module _ (known : ∥ AreSettled k (map record_of callers) totals ∥₁) where
     -- each caller's number is below the number of callers
@@ -118,9 +118,10 @@ module _ {R : Type 0} (k : Shape) (callers : List (Caller R)) (totals : Totals) 
 
     -- a next map may open with these counts
     pub may_open : (layout : Layout) (next : Shape) → IsNext layout k next → HasCounts callers next
-        → length next.won_before.value.items ≡ k.callers → totals.held ≡ 0 → totals.posted ≡ 0 → IsOpening next
-    may_open layout next is counts long no_held no_posted = record {
-      unspent = λ c. ∥∥₁_elim known le_prop (λ z. few_of z next counts long c);
+        → ((c : ℕ) → k.callers ≤ c → get_or next.won_before.value c 0 ≡ 0) → totals.held ≡ 0 → totals.posted ≡ 0
+        → IsOpening next
+    may_open layout next is counts rest no_held no_posted = record {
+      unspent = λ c. ∥∥₁_elim known le_prop (λ z. few_of z next counts rest c);
       even = subst (λ (z : ℕ). got_in z (opening_world next) ≡ back_in z (opening_world next)) (sym is.callers_is)
           (∥∥₁_elim known (ℕ_set _ _) (λ z. even_of z next counts no_held no_posted));
     }

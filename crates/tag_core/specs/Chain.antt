@@ -5,6 +5,7 @@ use Rattle.tag_model.specs.Event.{won_by, back_by}
 use Rattle.tag_model.specs.Totals.{held_in, posted_in}
 use Rattle.tag_core.specs.declared.shape.Shape.{Shape}
 use Rattle.tag_core.specs.Histories.{History, IsLawful, events_of, opening_world, world_of}
+use Rattle.tag_core.specs.Records.{StartsAtZero}
 use Rattle.tag_core.specs.Sizes.{total_of}
 
 -- one map of a chain: its shape, and its history from its opening to its end
@@ -24,7 +25,7 @@ pub record GoesOn {R : Type 0} (last : Epoch R) (next : Shape) : Type 0 where
 
 -- these are the maps before this one, the newest first; before the first of all nobody had won a tag or given one back
 abbrev pub IsChain : {R : Type 0} → Shape → List (Epoch R) → Type 0
-IsChain k [] = (k.won_before.value.items ≡ []) × (k.back_before.value.items ≡ [])
+IsChain k [] = StartsAtZero k
 IsChain k (last ∷ older) = GoesOn last k × IsChain last.shape older
 
 -- some chain of maps leads to this one

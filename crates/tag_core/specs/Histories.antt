@@ -73,8 +73,8 @@ events_of l (x ∷ older) = event_of l x.0 x.1 ∷ events_of l older
 abbrev pub opening_world : Shape → World
 opening_world k = record {
   place = λ tag. Free;
-  won = λ caller. slice_index k.won_before.value.items caller;
-  back = λ caller. slice_index k.back_before.value.items caller;
+  won = λ caller. slice_index k.won_before.value caller;
+  back = λ caller. slice_index k.back_before.value caller;
 }
 
 -- the world that a history leaves

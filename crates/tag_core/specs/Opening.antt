@@ -1,11 +1,11 @@
 -- A new map, and its callers.
-use Rattle.std.specs.Prelude.{◌≡◌, ℕ, List, [], length}
+use Rattle.std.specs.Prelude.{◌≡◌, ℕ, List, length}
 use mathlib.Core.Option.{some}
 use lib.ListN.{get_elem?}
 use Rattle.tag_layout.specs.Layout.{Layout}
 use Rattle.tag_core.specs.declared.caller.Caller.{Caller}
 use Rattle.tag_core.specs.declared.map.Map.{Map}
-use Rattle.tag_core.specs.Records.{fresh_record}
+use Rattle.tag_core.specs.Records.{fresh_record, StartsAtZero}
 use Rattle.tag_core.specs.Callers.{IsCallerOf, record_of}
 
 -- the map has this layout, number of callers and life, and nobody has won a tag before
@@ -13,8 +13,7 @@ pub record IsNew {R : Type 0} (layout : Layout) (callers life : ℕ) (map : Map 
   pub layout_is : map.shape.layout ≡ layout
   pub callers_is : map.shape.callers ≡ callers
   pub life_is : map.shape.life ≡ life
-  pub won_before : map.shape.won_before.value.items ≡ []
-  pub back_before : map.shape.back_before.value.items ≡ []
+  pub starts : StartsAtZero map.shape
 
 -- the callers of the map in the order of their numbers, each with nothing won, held or done
 pub record AreNew {R : Type 0} (map : Map R) (callers : List (Caller R)) : Type 0 where

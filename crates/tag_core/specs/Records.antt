@@ -74,10 +74,15 @@ fresh_record k caller = record {
   number = caller;
   held = replicate (words k.layout) 0;
   swept = replicate (words k.layout) 0;
-  won = slice_index k.won_before.value.items caller;
-  back = slice_index k.back_before.value.items caller;
+  won = slice_index k.won_before.value caller;
+  back = slice_index k.back_before.value caller;
   steps = [];
 }
+
+-- nobody had won a tag or given one back before the map
+abbrev pub StartsAtZero : Shape → Type 0
+StartsAtZero k = ((caller : ℕ) → slice_index k.won_before.value caller ≡ 0)
+    × ((caller : ℕ) → slice_index k.back_before.value caller ≡ 0)
 
 -- the value beside a tag
 abbrev pub value_of : {R : Type 0} → List (ℕ × R) → ℕ → maybe.Option R

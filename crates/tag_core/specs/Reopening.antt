@@ -35,9 +35,9 @@ pub record IsNext (layout : Layout) (k next : Shape) : Type 0 where
 -- each caller's counts are those with which the next map opens
 pub record HasCounts {R : Type 0} (callers : List (Caller R)) (next : Shape) : Type 0 where
   pub won : (i : ℕ) (c : Caller R) → get_elem? callers i ≡ some c
-      → slice_index next.won_before.value.items c.number ≡ c.won
+      → slice_index next.won_before.value c.number ≡ c.won
   pub back : (i : ℕ) (c : Caller R) → get_elem? callers i ≡ some c
-      → slice_index next.back_before.value.items c.number ≡ c.back
+      → slice_index next.back_before.value c.number ≡ c.back
 
 -- in the same order, each caller goes on with the next map
 pub record AreReopened {R : Type 0} (map : Map R) (old new : List (Caller R)) : Type 0 where

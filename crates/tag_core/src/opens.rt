@@ -2,7 +2,7 @@
 ghost use Rattle.std.specs.Prelude.{◌≡◌, ◌⊎◌, ℕ, ◌+◌, ◌-◌, ◌<◌, ◌≤◌, ◌↔◌, ◌≢◌, List, [], length, replicate, All, IfOk, IfErr};
 ghost use Rattle.tag_layout.specs.declared.layout.TheConstants.{MAX_DEPTH};
 ghost use Rattle.tag_model.specs.declared.world.TheConstants.{MAX_CALLERS, MOST_WON};
-ghost use Rattle.tag_core.specs.Records.{fresh_record};
+ghost use Rattle.tag_core.specs.Records.{fresh_record, StartsAtZero};
 ghost use Rattle.tag_core.specs.Views.{viewing, fresh, all_fresh};
 ghost use Rattle.tag_core.specs.Rule.{IsOpening};
 ghost use Rattle.tag_core.specs.Chain.{HasChain};
@@ -13,7 +13,7 @@ use crate::caller::{APART, Caller};
 use crate::map::Map;
 use crate::plays::HandOut;
 use crate::record::View;
-use crate::shape::Shape;
+use crate::shape::{COUNTS, Shape};
 use crate::spots::{first_state, table_words};
 use atomic_table::{Seat, Table};
 use std::alloc::{AllocError, Global};
@@ -54,7 +54,7 @@ fn next_caller<R>(
     requires number { number < map.now.shape.callers }
     requires seat { rest.old.table_id ≡ map.now.table.shared.table_id }
     requires rest { rest.old.me ≡ (viewing (fresh map.now.shape number (map.now.shape.callers - number)), []) }
-    requires blank { (map.now.shape.won_before.value.items ≡ []) × (map.now.shape.back_before.value.items ≡ []) }
+    requires blank { StartsAtZero map.now.shape }
     ensures caller { IfOk result (λ c. IsCallerOf map.now c × (record_of c ≡ fresh_record map.now.shape number)) }
     ensures rest { IfOk result (λ c. (rest.new.table_id ≡ rest.old.table_id)
         × (rest.new.me ≡ (viewing (fresh map.now.shape (number + 1) (map.now.shape.callers - (number + 1))), []))) }
@@ -83,7 +83,7 @@ fn hand_out<R>(
     mut rest: Seat<R, View<R>>,
 ) -> Result<Vec<Caller<R>>, AllocError>
     requires seat { (rest.table_id ≡ map.now.table.shared.table_id) × (rest.me ≡ (all_fresh map.now.shape, [])) }
-    requires blank { (map.now.shape.won_before.value.items ≡ []) × (map.now.shape.back_before.value.items ≡ []) }
+    requires blank { StartsAtZero map.now.shape }
     ensures new { IfOk result (λ v. AreNew map.now v.items) }
     ensures own { IfOk result (λ v. All (IsCallerOf map.now) v.items) }
 {
@@ -132,7 +132,7 @@ fn lay_out<R: Drop>(
 ) -> Result<(Map<R>, Vec<Caller<R>>), AllocError>
     requires limits { (1 ≤ shape.callers) × (shape.callers ≤ MAX_CALLERS) × (shape.life ≤ MOST_WON) }
     requires slots { length slots.items ≡ shape.layout.depth }
-    requires blank { (shape.won_before.value.items ≡ []) × (shape.back_before.value.items ≡ []) }
+    requires blank { StartsAtZero shape }
     ensures new { IfOk result (λ p. (p.0.shape ≡ shape) × AreNew p.0 p.1.items) }
     ensures own { IfOk result (λ p. All (IsCallerOf p.0) p.1.items) }
 {
@@ -174,7 +174,7 @@ impl<R: Drop> Map<R> {
         if slots.len() != layout.depth() as usize {
             return Err(OpenFault::SlotCount);
         }
-        let none: Vec<u64> = Vec::new(alloc);
+        let none = [0; COUNTS];
         let shape = Shape {
             layout,
             callers,

@@ -5,6 +5,7 @@ ghost use lib.ListN.{get_elem?};
 ghost use Rattle.step_ledger.specs.Views.{Has};
 ghost use Rattle.tag_layout.specs.Layout.{words};
 ghost use Rattle.tag_layout.specs.declared.layout.TheConstants.{MAX_DEPTH};
+ghost use Rattle.tag_model.specs.declared.world.TheConstants.{MAX_CALLERS};
 ghost use Rattle.tag_core.specs.Callers.{IsCallerOf, record_of, HaveOwnNumbers};
 ghost use Rattle.tag_core.specs.Gathering.{numbers_of};
 ghost use Rattle.tag_core.specs.Reopening.{reopened_record, IsNext, HasCounts, AreReopened, GoesOnFrom, AllFree};
@@ -16,7 +17,7 @@ use crate::opens::{new_map, none_held};
 use crate::plays::HandOut;
 use crate::record::View;
 use crate::settled::Settled;
-use crate::shape::Shape;
+use crate::shape::{COUNTS, Shape};
 use crate::spots::first_state;
 use atomic_table::Seat;
 use std::alloc::{AllocError, Global};
@@ -52,33 +53,27 @@ fn spare_masks(alloc: Global, count: usize, words: usize) -> Result<Vec<Vec<u64>
 }
 
 /// The shape of the next map: each caller starts with the counts that it has now.
-fn next_shape<R>(
-    alloc: Global,
-    shape: &Shape,
-    callers: &[Caller<R>],
-    layout: Layout,
-) -> Result<Shape, AllocError>
+fn next_shape<R>(shape: &Shape, callers: &[Caller<R>], layout: Layout) -> Shape
+    requires few { shape.now.callers ≤ MAX_CALLERS }
     requires below { (i : ℕ) (c : Caller R) → get_elem? callers.now i ≡ some c → c.number < shape.now.callers }
     requires once { HaveOwnNumbers callers.now }
-    ensures next { IfOk result (λ k. IsNext layout shape.now k) }
-    ensures counts { IfOk result (λ k. HasCounts callers.now k) }
-    ensures wide { IfOk result (λ k. (length k.won_before.value.items ≡ shape.now.callers)
-        × (length k.back_before.value.items ≡ shape.now.callers)) }
+    ensures next { IsNext layout shape.now result }
+    ensures counts { HasCounts callers.now result }
+    ensures rest { (c : ℕ) → shape.now.callers ≤ c → slice_index result.won_before.value c ≡ 0 }
 {
-    let count = shape.callers as usize;
-    let mut won = vec![in alloc; 0u64; count]?;
-    let mut back = vec![in alloc; 0u64; count]?;
+    let mut won = [0; COUNTS];
+    let mut back = [0; COUNTS];
     for caller in callers {
         won[caller.number as usize] = caller.won;
         back[caller.number as usize] = caller.back;
     }
-    Ok(Shape {
+    Shape {
         layout,
         callers: shape.callers,
         life: shape.life,
         won_before: Snapshot::of(&won),
         back_before: Snapshot::of(&back),
-    })
+    }
 }
 
 /// Moves a caller to the next map, from the seat that has its record there and those of greater numbers.
@@ -86,8 +81,8 @@ fn reseat<R>(tags: &Map<R>, rest: &mut Seat<R, View<R>>, caller: &mut Caller<R>,
     requires number { caller.old.number < tags.now.shape.callers }
     requires seat { rest.old.table_id ≡ tags.now.table.shared.table_id }
     requires rest { rest.old.me ≡ (viewing (fresh tags.now.shape caller.old.number (tags.now.shape.callers - caller.old.number)), []) }
-    requires counts { (slice_index tags.now.shape.won_before.value.items caller.old.number ≡ caller.old.won)
-        × (slice_index tags.now.shape.back_before.value.items caller.old.number ≡ caller.old.back) }
+    requires counts { (slice_index tags.now.shape.won_before.value caller.old.number ≡ caller.old.won)
+        × (slice_index tags.now.shape.back_before.value caller.old.number ≡ caller.old.back) }
     requires life { caller.old.life ≡ tags.now.shape.life }
     requires held { held.items ≡ replicate (words tags.now.shape.layout) 0 }
     ensures caller { IsCallerOf tags.now caller.new × (record_of caller.new ≡ reopened_record tags.now.shape (record_of caller.old)) }
@@ -129,7 +124,7 @@ fn reseat_all<R>(
     }
 }
 
-/// Whatever may fail before the next map is made: its shape, and an empty mask for each word and caller.
+/// What the next map is made with: its shape, and an empty mask for each word and caller.
 fn prepare<R>(
     alloc: Global,
     settled: &Settled<R>,
@@ -137,16 +132,11 @@ fn prepare<R>(
 ) -> Result<(Shape, Vec<Vec<u64>>), AllocError>
     ensures next { IfOk result (λ p. IsNext layout settled.now.tags.shape p.0) }
     ensures counts { IfOk result (λ p. HasCounts settled.now.callers.items p.0) }
-    ensures wide { IfOk result (λ p. length p.0.won_before.value.items ≡ settled.now.tags.shape.callers) }
+    ensures rest { IfOk result (λ p. (c : ℕ) → settled.now.tags.shape.callers ≤ c → slice_index p.0.won_before.value c ≡ 0) }
     ensures masks { IfOk result (λ p. (length p.1.items ≡ settled.now.tags.shape.callers)
         × All (λ m. m.items ≡ replicate (words layout) 0) p.1.items) }
 {
-    let shape = next_shape(
-        alloc,
-        &settled.tags.shape,
-        settled.callers.as_slice(),
-        layout,
-    )?;
+    let shape = next_shape(&settled.tags.shape, settled.callers.as_slice(), layout);
     let masks = spare_masks(alloc, shape.callers as usize, layout.words() as usize)?;
     Ok((shape, masks))
 }

@@ -12,7 +12,7 @@ use Rattle.wake_book.specs.Groups as groups
 use Rattle.wake_book.specs.Charging.{IsCharge}
 use Rattle.wake_book.specs.Waits.{active_at}
 use Rattle.tag_queue.specs.declared.agent.Agent.{Agent}
-use Rattle.tag_queue.specs.declared.fault.TagFault.{TagFault}
+use Rattle.tag_queue.specs.declared.fault.QueueFault.{QueueFault}
 use Rattle.tag_queue.specs.declared.queue.Queue.{Queue}
 use Rattle.tag_queue.specs.Agents.{SameCounts, waiter_of, book_steps, group_steps, batch_of, cap_of}
 use Rattle.tag_queue.specs.Clears.{Follows, FindsNoneActive, Charges, Counts}
@@ -47,7 +47,7 @@ module _ {R : Type 0} (queue : Queue R) (n : ℕ) where
   }
 
 -- a call that passes on the fault of another is refused for the same cause
-pub refused_as : {A B : Type 0} (found : Result A TagFault) (told : Result B TagFault) (fault known : TagFault) (Q : Type 0)
+pub refused_as : {A B : Type 0} (found : Result A QueueFault) (told : Result B QueueFault) (fault known : QueueFault) (Q : Type 0)
     → found ≡ Err fault → IsErr told → IfErr told (λ f. f ≡ fault) → (found ≡ Err known) ↔ Q → (told ≡ Err known) ↔ Q
 refused_as found (Ok x) fault known Q was bad same iff = absurd (let b = bad in cc)
 refused_as found (Err f) fault known Q was bad same iff = (

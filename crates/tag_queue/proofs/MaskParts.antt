@@ -1,12 +1,12 @@
 -- The part of a mask that stands in one word.
-use Rattle.std.proofs.Common.{◌≡◌, ◌≢◌, ℕ, ◌+◌, ◌-◌, ◌*◌, ◌/◌, ◌%◌, ◌^◌, ◌<◌, ◌≤◌, bit_and, min, arith, sym, ap, ◌∙◌, ⊎_elim}
+use Rattle.std.proofs.Common.{◌≡◌, ◌≢◌, ℕ, ◌+◌, ◌-◌, ◌*◌, ◌/◌, ◌%◌, ◌^◌, ◌<◌, ◌≤◌, bit_and, arith, sym, ap, ◌∙◌, ⊎_elim}
 use Rattle.std.specs.Prelude.{◌↔◌}
 use Rattle.std.specs.Int.{bit_at}
 use Rattle.std.proofs.lemmas.Bool.{cases_lt}
 use Rattle.std.proofs.lemmas.Nat.{pow_pos, shr_split, shr-shr, div-add-mod', mod_below}
 use Rattle.std.proofs.lemmas.Nat.Bits.{bit_at_and, bit_at_cat_low, bit_at_cat_high, bit_at-zero, bit_at-lt, bit_at_above}
 use Rattle.std.proofs.Math.Nat.{mul-le-mul_right}
-use Rattle.tag_layout.specs.Layout.{Layout, word_bits, word_of, place_of, word_depth, tag_at}
+use Rattle.tag_layout.specs.Layout.{Layout, word_bits, word_of, word_depth, tag_at}
 use Rattle.tag_layout.proofs.PlaceFacts.{word_bits-pos, word_of-tag_at}
 use Rattle.tag_queue.specs.Masks.{mask_bit}
 use Rattle.tag_queue.proofs.RunTags.{bit_below, bit_from, bit_small}

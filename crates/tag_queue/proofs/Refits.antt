@@ -26,7 +26,7 @@ use Rattle.wake_book.specs.Book as book
 use Rattle.wake_book.specs.Groups as groups
 use Rattle.tag_queue.specs.declared.agent.Agent.{Agent}
 use Rattle.tag_queue.specs.declared.queue.Queue.{Queue}
-use Rattle.tag_queue.specs.declared.shells.Shell.{Shell}
+use Rattle.tag_queue.specs.declared.resizes.shells.Shell.{Shell}
 use Rattle.tag_queue.specs.Agents.{caller_of, teller_of, waiter_of, hint_of, layout_of, numbers_of, IsAgentOf, AreUnchanged}
 use Rattle.tag_queue.specs.Resizing.{MoveOn, KeepsRest, IsResized, layout_at}
 use Rattle.tag_queue.specs.Shells.{shell_of, FitShells}
@@ -184,7 +184,7 @@ module _ {R : Type 0} (queue : Queue R) (agents : List (Agent R)) where
 module _ {R : Type 0} (queue : Queue R) where
   -- the queue with this map in place of its own
   abbrev with_map : (m : Map R) → book.batch_of queue.book ≡ queue.batch
-      → (1 ≤ queue.batch) × (queue.batch ≤ 8) × (1 ≤ queue.least)
+      → (1 ≤ queue.batch) × (queue.batch ≤ 8) × (1 ≤ queue.shallowest)
       → (book.tellers_of queue.book ≡ m.shape.callers) × (groups.waiters_of queue.groups ≡ m.shape.callers)
       × (queue.callers ≡ m.shape.callers) → Queue R
   with_map m b n a = record {
@@ -192,7 +192,7 @@ module _ {R : Type 0} (queue : Queue R) where
     book = queue.book;
     groups = queue.groups;
     batch = queue.batch;
-    least = queue.least;
+    shallowest = queue.shallowest;
     min_shallow = queue.min_shallow;
     callers = queue.callers;
     fill = queue.fill;
@@ -203,7 +203,7 @@ module _ {R : Type 0} (queue : Queue R) where
 
   -- with its own map it is the same queue
   pub same_queue : (m : Map R) → m ≡ queue.map → (b : book.batch_of queue.book ≡ queue.batch)
-      (n : (1 ≤ queue.batch) × (queue.batch ≤ 8) × (1 ≤ queue.least))
+      (n : (1 ≤ queue.batch) × (queue.batch ≤ 8) × (1 ≤ queue.shallowest))
       (a : (book.tellers_of queue.book ≡ m.shape.callers) × (groups.waiters_of queue.groups ≡ m.shape.callers)
       × (queue.callers ≡ m.shape.callers)) → with_map m b n a ≡ queue
   same_queue m e b n = subst (λ (m : Map R). (a : (book.tellers_of queue.book ≡ m.shape.callers)

@@ -1,8 +1,8 @@
 -- The tags of a mask: which they are, how many, and which is the last.
-use Rattle.std.proofs.Common.{◌≡◌, ◌≢◌, ℕ, zero, suc, ◌+◌, ◌-◌, ◌^◌, ◌<◌, ◌≤◌, List, [], ◌∷◌, ◌++◌, map, length, length-append, get_or, Bool, true, false, cond, nat_eq, nat_lt, count_ones, arith, refl, sym, ap, ◌∙◌, subst, ⊎_elim, eq-eqb, ne_eqb}
+use Rattle.std.proofs.Common.{◌≡◌, ◌≢◌, ℕ, zero, suc, ◌+◌, ◌-◌, ◌^◌, ◌<◌, ◌≤◌, List, [], ◌∷◌, ◌++◌, map, length, length-append, get_or, Bool, true, false, cond, nat_eq, count_ones, arith, refl, sym, ap, ◌∙◌, subst, ⊎_elim, eq-eqb, ne_eqb}
 use mathlib.Core.Logic.{dite}
 use native.Mathlib.Decide.{ℕ_discrete}
-use Rattle.std.specs.Prelude.{◌↔◌, Contains}
+use Rattle.std.specs.Prelude.{Contains}
 use Rattle.std.specs.Int.{bit_at}
 use Rattle.std.proofs.lemmas.Bool.{cases_lt, lt-ltb, le-ltb}
 use Rattle.std.proofs.lemmas.List.{append-nil, length-map, get_or_push}
@@ -12,7 +12,7 @@ use Rattle.tag_layout.specs.Sums.{sum_below}
 use Rattle.tag_layout.proofs.SumFacts.{sum_below-same}
 use Rattle.tag_model.proofs.MaskFacts.{sum_below-bits}
 use Rattle.tag_core.specs.Records.{tags_from}
-use Rattle.tag_queue.specs.Masks.{set_bits, tags_in, mask_bit, IsLastIn}
+use Rattle.tag_queue.specs.Masks.{set_bits, tags_in, mask_bit}
 
 module _ (f : ℕ → ℕ) where
   -- where the first tag's bit is 1, it heads the list

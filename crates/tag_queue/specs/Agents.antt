@@ -33,7 +33,7 @@ cap_of queue = book.cap_of queue.book
 
 -- the minimum shallow depth in force, at least 1
 abbrev pub least_of : {R : Type 0} → Queue R → ℕ
-least_of queue = queue.least
+least_of queue = queue.shallowest
 
 -- the minimum shallow depth as the options gave it
 abbrev pub min_shallow_of : {R : Type 0} → Queue R → Option ℕ

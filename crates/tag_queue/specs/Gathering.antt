@@ -10,7 +10,7 @@ use Rattle.wake_book.specs.Balance.{IsBalanced}
 use Rattle.tag_queue.specs.declared.agent.Agent.{Agent}
 use Rattle.tag_queue.specs.declared.queue.Queue.{Queue}
 use Rattle.tag_queue.specs.declared.gather.QueueTotals.{QueueTotals}
-use Rattle.tag_queue.specs.declared.together.Together.{Together}
+use Rattle.tag_queue.specs.declared.gather.together.Together.{Together}
 use Rattle.tag_queue.specs.Agents.{teller_of, waiter_of, shape_of, records_of}
 
 -- the gathered agents belong to the queue

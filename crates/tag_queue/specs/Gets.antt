@@ -10,7 +10,7 @@ use Rattle.tag_search.specs.Shared.{Makes}
 use Rattle.tag_search.specs.Gains.{Gains, GainsRun}
 use Rattle.tag_search.specs.Gets.{IsGet}
 use Rattle.tag_search.specs.Batch.{IsBatchGet}
-use Rattle.tag_search.specs.Lone.{IsAlone, Chooses, ChoosesRun}
+use Rattle.tag_search.specs.Alone.{IsAlone, Chooses, ChoosesRun}
 use Rattle.tag_search.specs.Hints.{reduced}
 use Rattle.tag_search.specs.Search.{Visit}
 use Rattle.tag_search.specs.Visits.{plain_visits, shallow_visits}

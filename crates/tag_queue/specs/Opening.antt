@@ -8,8 +8,8 @@ use Rattle.tag_search.specs.declared.hint.Hint.{Hint}
 use Rattle.wake_book.specs.Book.{IsOpenBook}
 use Rattle.wake_book.specs.Groups.{AreOpenGroups}
 use Rattle.tag_queue.specs.declared.agent.Agent.{Agent}
-use Rattle.tag_queue.specs.declared.fault.SetFault.{SetFault}
-use Rattle.tag_queue.specs.declared.fault.SetFault.TheVariants.{Memory, TotalTooLarge, ReservedTooLarge, ShiftTooLarge, CallerCount, LifeTooLong, CapTooLarge}
+use Rattle.tag_queue.specs.declared.fault.QueueOpenFault.{QueueOpenFault}
+use Rattle.tag_queue.specs.declared.fault.QueueOpenFault.TheVariants.{Memory, TotalTooLarge, ShiftTooLarge, CallerCount, LifeTooLong, CapTooLarge}
 use Rattle.tag_queue.specs.declared.queue.Options.{Options}
 use Rattle.tag_queue.specs.declared.queue.Queue.{Queue}
 use Rattle.tag_queue.specs.Agents.{caller_of, teller_of, waiter_of, hint_of, layout_of, least_of, min_shallow_of, IsAgentOf}
@@ -41,10 +41,9 @@ abbrev pub CanOpen : ℕ → Options → Type 0
 CanOpen depth options = HasLayout depth options × HasLimits options
 
 -- the cause of a refusal holds, and none that is checked before it; when memory runs out is not specified
-abbrev pub RefusesOpen : ℕ → Options → SetFault → Type 0
+abbrev pub RefusesOpen : ℕ → Options → QueueOpenFault → Type 0
 RefusesOpen depth options Memory = CanOpen depth options
 RefusesOpen depth options TotalTooLarge = MAX_DEPTH < depth
-RefusesOpen depth options ReservedTooLarge = ⊥
 RefusesOpen depth options ShiftTooLarge = (depth ≤ MAX_DEPTH) × IsSomeAnd options.shift (λ s. MAX_SHIFT < s)
 RefusesOpen depth options CallerCount = HasLayout depth options × MiscountsAgents options
 RefusesOpen depth options LifeTooLong =

@@ -2,7 +2,7 @@
 use Rattle.std.specs.Prelude.{List, [], ◌∷◌}
 use Rattle.tag_core.specs.declared.caller.Caller.{Caller}
 use Rattle.tag_queue.specs.declared.agent.Agent.{Agent}
-use Rattle.tag_queue.specs.declared.shells.Shell.{Shell}
+use Rattle.tag_queue.specs.declared.resizes.shells.Shell.{Shell}
 use Rattle.tag_queue.specs.Parts.{Fits}
 
 -- the agent without its caller

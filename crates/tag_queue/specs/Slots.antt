@@ -4,8 +4,8 @@ use mathlib.Core.Option.{some}
 use Rattle.tag_core.specs.declared.step.Step.TheVariants.{Post, Take}
 use Rattle.tag_core.specs.Callers.{record_of, Adds, SameMap}
 use Rattle.tag_queue.specs.declared.agent.Agent.{Agent}
-use Rattle.tag_queue.specs.declared.fault.TagFault.{TagFault}
-use Rattle.tag_queue.specs.declared.fault.TagFault.TheVariants.{NoSuchTag, NotPosted}
+use Rattle.tag_queue.specs.declared.fault.QueueFault.{QueueFault}
+use Rattle.tag_queue.specs.declared.fault.QueueFault.TheVariants.{NoSuchTag, NotPosted}
 use Rattle.tag_queue.specs.Agents.{caller_of, Holds, slot_of, SameElse}
 use Rattle.tag_queue.specs.Holding.{HoldsLess, HoldsMore, HoldsSame}
 
@@ -40,5 +40,5 @@ pub record Misses {R : Type 0} (tag : ℕ) (old new : Agent R) : Type 0 where
   pub same_else : SameElse old new
 
 -- the effect of a take that is refused
-abbrev pub RefusesTake : {R : Type 0} → ℕ → TagFault → Agent R → Agent R → Type 0
+abbrev pub RefusesTake : {R : Type 0} → ℕ → QueueFault → Agent R → Agent R → Type 0
 RefusesTake tag fault old new = ((fault ≡ NoSuchTag) × (new ≡ old)) ⊎ ((fault ≡ NotPosted) × Misses tag old new)

@@ -7,7 +7,7 @@ ghost use Rattle.wake_book.specs.Groups.{number_of as waiter_number, moved_of};
 use step_ledger::Numbered;
 use tag_core::Caller;
 use tag_search::Hint;
-use wake_book::{Teller, Waiter};
+use wake_book::{Groups, Teller, Waiter};
 
 /// One thread's handle on a queue. It holds tags, counts completions, wakes other agents, and waits.
 #[derive(Drop)]
@@ -37,8 +37,10 @@ impl<R> Numbered for Agent<R> {
 }
 
 impl<R> Agent<R> {
-    ghost use Rattle.std.specs.Prelude.{◌↔◌, IsTrue};
-    ghost use Rattle.tag_queue.specs.Agents.{Holds, depth_of};
+    ghost use Rattle.std.specs.Prelude.{◌↔◌, ◌*◌, IsSome, IsTrue};
+    ghost use Rattle.tag_model.specs.declared.world.TheConstants.{MOST_WON, MAX_CALLERS};
+    ghost use Rattle.tag_queue.specs.Agents.{Holds, depth_of, standing_of};
+    ghost use Rattle.tag_queue.specs.Tallies.{won_of, back_of};
 
     /// Returns whether the agent holds the tag. This makes no step.
     pub fn holds(&self, tag: u32) -> bool
@@ -46,5 +48,33 @@ impl<R> Agent<R> {
         ensures { IsTrue result ↔ Holds self.now tag }
     {
         self.caller.holds(tag)
+    }
+
+    /// Returns whether the agent is in a wait group. This makes no step.
+    #[inline]
+    pub fn is_waiting(&self) -> bool
+        ensures { IsTrue result ↔ IsSome (standing_of self.now) }
+    {
+        Groups::standing(&self.waiter).is_some()
+    }
+
+    /// Returns how many tags the agent has won so far, over all resizes. Tags that it took are not among them. This
+    /// makes no step.
+    #[inline]
+    pub fn won(&self) -> u64
+        ensures value { result ≡ won_of self.now }
+        ensures within { result ≤ MOST_WON }
+    {
+        self.caller.won()
+    }
+
+    /// Returns how many tags the agent has given back so far, over all resizes. Tags that it took are among them. This
+    /// makes no step.
+    #[inline]
+    pub fn given(&self) -> u64
+        ensures value { result ≡ back_of self.now }
+        ensures within { result ≤ MAX_CALLERS * MOST_WON }
+    {
+        self.caller.back()
     }
 }

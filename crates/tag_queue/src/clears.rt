@@ -1,5 +1,5 @@
 //! Clears: tags are given back, counted, and waiters woken.
-ghost use Rattle.std.specs.Prelude.{◌≡◌, ℕ, ◌+◌, ◌<◌, ◌≤◌, ◌↔◌, IfOk, IsOk, OnOk, OnErr};
+ghost use Rattle.std.specs.Prelude.{◌≡◌, ◌+◌, ◌<◌, ◌≤◌, ◌↔◌, IfOk, IsOk, OnOk, OnErr};
 ghost use Rattle.tag_core.specs.Callers.{record_of};
 ghost use Rattle.wake_book.specs.Book.{counted_by};
 ghost use Rattle.tag_queue.specs.Agents.{layout_of, IsAgentOf, Holds, step_count, caller_of, teller_of, hint_of, group_steps, SameCounts};
@@ -7,10 +7,14 @@ ghost use Rattle.tag_queue.specs.Clears.{Puts, Counts, ChargesNow};
 ghost use Rattle.wake_book.specs.Grants.{AreGrantsOf};
 
 use crate::agent::Agent;
-use crate::fault::TagFault;
+use crate::fault::QueueFault;
 use crate::queue::Queue;
 use tag_search::after_clear;
 use wake_book::{Charge, Grants, NO_GRANTS};
+
+mod batches;
+pub(crate) mod lists;
+mod masks;
 
 impl<R: Copy> Queue<R> {
     /// Clears a held tag, counts it if any agent waits, and returns how many waiters it woke. As in
@@ -18,11 +22,11 @@ impl<R: Copy> Queue<R> {
     /// `NoSuchTag` means that the number is not below the depth, `NotHeld` that the agent does not hold the tag;
     /// nothing changes then.
     #[inline]
-    pub fn clear(&self, agent: &mut Agent<R>, tag: u32) -> Result<u32, TagFault>
+    pub fn clear(&self, agent: &mut Agent<R>, tag: u32) -> Result<u32, QueueFault>
         requires agent { IsAgentOf self.now agent.old }
         ensures agent { IsAgentOf self.now agent.new }
-        ensures no_such_tag { (result ≡ Err TagFault.NoSuchTag) ↔ ((layout_of self.now).depth ≤ tag) }
-        ensures not_held { (result ≡ Err TagFault.NotHeld) ↔ ((tag < (layout_of self.now).depth) × ¬ (Holds agent.old tag)) }
+        ensures no_such_tag { (result ≡ Err QueueFault.NoSuchTag) ↔ ((layout_of self.now).depth ≤ tag) }
+        ensures not_held { (result ≡ Err QueueFault.NotHeld) ↔ ((tag < (layout_of self.now).depth) × ¬ (Holds agent.old tag)) }
         ensures succeeds { Holds agent.old tag → IsOk result }
         ensures puts { OnOk result (Puts (layout_of self.now) tag agent.old agent.new) }
         ensures counts { IfOk result (λ woken. Counts self.now 1 agent.old agent.new woken) }
@@ -30,16 +34,52 @@ impl<R: Copy> Queue<R> {
         ensures err { OnErr result (agent.new ≡ agent.old) }
     {
         self.find_held(agent, tag)?;
+        self.put(agent, tag);
+        Ok(self.complete_and_ring(agent, 1))
+    }
+
+    /// Like `clear`, but wakes no sleeper, and so links nothing that does. It returns how many waiters it granted a
+    /// wakeup in each group, and leaves waking them to the caller. `NoSuchTag` means that the number is not below the
+    /// depth, `NotHeld` that the agent does not hold the tag; nothing changes then.
+    #[inline]
+    pub fn clear_granted(&self, agent: &mut Agent<R>, tag: u32) -> Result<Grants, QueueFault>
+        requires agent { IsAgentOf self.now agent.old }
+        ensures agent { IsAgentOf self.now agent.new }
+        ensures no_such_tag { (result ≡ Err QueueFault.NoSuchTag) ↔ ((layout_of self.now).depth ≤ tag) }
+        ensures not_held { (result ≡ Err QueueFault.NotHeld) ↔ ((tag < (layout_of self.now).depth) × ¬ (Holds agent.old tag)) }
+        ensures succeeds { Holds agent.old tag → IsOk result }
+        ensures puts { OnOk result (Puts (layout_of self.now) tag agent.old agent.new) }
+        ensures counts { IfOk result (λ grants. Counts self.now 1 agent.old agent.new grants.woken) }
+        ensures grants { IfOk result (λ grants. AreGrantsOf grants (group_steps agent.old) (group_steps agent.new)) }
+        ensures bound { step_count agent.new ≤ 118 + step_count agent.old }
+        ensures err { OnErr result (agent.new ≡ agent.old) }
+    {
+        self.find_held(agent, tag)?;
         Ok(self.clear_held(agent, tag))
+    }
+
+    /// Clears a tag that the agent holds, like `clear_granted` but for the test: it wakes no sleeper.
+    #[inline]
+    pub fn clear_held(&self, agent: &mut Agent<R>, tag: u32) -> Grants
+        requires agent { IsAgentOf self.now agent.old }
+        requires held { Holds agent.old tag }
+        ensures agent { IsAgentOf self.now agent.new }
+        ensures puts { Puts (layout_of self.now) tag agent.old agent.new }
+        ensures counts { Counts self.now 1 agent.old agent.new result.woken }
+        ensures grants { AreGrantsOf result (group_steps agent.old) (group_steps agent.new) }
+        ensures bound { step_count agent.new ≤ 118 + step_count agent.old }
+    {
+        self.put(agent, tag);
+        self.complete(agent, 1)
     }
 
     /// Like `clear`, but counts nothing and wakes nobody. It is refused as `clear` is: `NoSuchTag`, `NotHeld`.
     #[inline(never)]
-    pub fn clear_uncounted(&self, agent: &mut Agent<R>, tag: u32) -> Result<(), TagFault>
+    pub fn clear_uncounted(&self, agent: &mut Agent<R>, tag: u32) -> Result<(), QueueFault>
         requires agent { IsAgentOf self.now agent.old }
         ensures agent { IsAgentOf self.now agent.new }
-        ensures no_such_tag { (result ≡ Err TagFault.NoSuchTag) ↔ ((layout_of self.now).depth ≤ tag) }
-        ensures not_held { (result ≡ Err TagFault.NotHeld) ↔ ((tag < (layout_of self.now).depth) × ¬ (Holds agent.old tag)) }
+        ensures no_such_tag { (result ≡ Err QueueFault.NoSuchTag) ↔ ((layout_of self.now).depth ≤ tag) }
+        ensures not_held { (result ≡ Err QueueFault.NotHeld) ↔ ((tag < (layout_of self.now).depth) × ¬ (Holds agent.old tag)) }
         ensures succeeds { Holds agent.old tag → IsOk result }
         ensures puts { OnOk result (Puts (layout_of self.now) tag agent.old agent.new) }
         ensures others { SameCounts agent.old agent.new }
@@ -53,17 +93,17 @@ impl<R: Copy> Queue<R> {
 
     /// Checks that the number is a tag's and that the agent holds that tag.
     #[inline]
-    pub(crate) fn find_held(&self, agent: &Agent<R>, tag: u32) -> Result<(), TagFault>
+    pub(crate) fn find_held(&self, agent: &Agent<R>, tag: u32) -> Result<(), QueueFault>
         requires agent { IsAgentOf self.now agent.now }
         ensures held { IsOk result ↔ Holds agent.now tag }
-        ensures no_such_tag { (result ≡ Err TagFault.NoSuchTag) ↔ ((layout_of self.now).depth ≤ tag) }
-        ensures not_held { (result ≡ Err TagFault.NotHeld) ↔ ((tag < (layout_of self.now).depth) × ¬ (Holds agent.now tag)) }
+        ensures no_such_tag { (result ≡ Err QueueFault.NoSuchTag) ↔ ((layout_of self.now).depth ≤ tag) }
+        ensures not_held { (result ≡ Err QueueFault.NotHeld) ↔ ((tag < (layout_of self.now).depth) × ¬ (Holds agent.now tag)) }
     {
         if tag >= self.map.layout().depth() {
-            return Err(TagFault::NoSuchTag);
+            return Err(QueueFault::NoSuchTag);
         }
         if !agent.caller.holds(tag) {
-            return Err(TagFault::NotHeld);
+            return Err(QueueFault::NotHeld);
         }
         Ok(())
     }
@@ -101,6 +141,26 @@ impl<R: Copy> Queue<R> {
         self.charge(agent, n)
     }
 
+    /// Like `complete`, but wakes whom it granted a wakeup, and returns how many they are. Where nobody waits it makes no
+    /// grants at all, so that a clear is short.
+    #[inline]
+    fn complete_and_ring(&self, agent: &mut Agent<R>, n: u32) -> u32
+        requires agent { IsAgentOf self.now agent.old }
+        requires within { (1 ≤ n) × (n ≤ 64) }
+        requires came_back { counted_by (teller_of agent.old) + n ≤ (record_of (caller_of agent.old)).back }
+        ensures agent { IsAgentOf self.now agent.new }
+        ensures counts { Counts self.now n agent.old agent.new result }
+        ensures others { (caller_of agent.new ≡ caller_of agent.old) × (hint_of agent.new ≡ hint_of agent.old) }
+        ensures bound { step_count agent.new ≤ 117 + step_count agent.old }
+    {
+        let found = self.groups.active(&mut agent.waiter);
+        if found == 0 {
+            return 0;
+        }
+        let grants = self.charge(agent, n);
+        self.ring(grants)
+    }
+
     /// Counts tags that came back, and grants up to a batch of wakeups if it charged one. It is out of line, so that a
     /// clear is short where nobody waits.
     #[inline(never)]
@@ -120,9 +180,10 @@ impl<R: Copy> Queue<R> {
         }
     }
 
-    /// Wakes a sleeper for each grant, in its group, and returns how many waiters were granted a wakeup.
+    /// Wakes a sleeper for each grant, in its group, and returns how many waiters were granted a wakeup. Grants of a call
+    /// that wakes no sleeper are passed to it once. No clause mentions sleepers.
     #[inline]
-    pub(crate) fn ring(&self, grants: Grants) -> u32
+    pub fn ring(&self, grants: Grants) -> u32
         ensures { result ≡ grants.woken }
     {
         if grants.woken != 0 {

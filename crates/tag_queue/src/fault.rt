@@ -2,18 +2,15 @@
 
 use thiserror::Error;
 
-/// Why a queue or tag sets can't be opened. The causes are checked in this order, except that memory comes last.
+/// Why a queue can't be opened. The causes are checked in this order, except that memory comes last.
 #[derive(Clone, Copy, Debug, PartialEq, Eq, Error)]
-pub enum SetFault {
+pub enum QueueOpenFault {
     /// Out of memory.
     #[error("out of memory")]
     Memory,
     /// There would be more than 10,240 tags.
     #[error("more than 10240 tags")]
     TotalTooLarge,
-    /// There would be more reserved tags than tags.
-    #[error("more reserved tags than tags")]
-    ReservedTooLarge,
     /// The shift is above 6.
     #[error("a shift above 6")]
     ShiftTooLarge,
@@ -30,13 +27,10 @@ pub enum SetFault {
 
 /// Why a call on a tag or a wait was refused.
 #[derive(Clone, Copy, Debug, PartialEq, Eq, Error)]
-pub enum TagFault {
+pub enum QueueFault {
     /// No tag has this number.
     #[error("no tag has this number")]
     NoSuchTag,
-    /// There are no reserved tags.
-    #[error("no tag is reserved")]
-    NoReserved,
     /// The caller does not hold the tag, or named it twice in one batch.
     #[error("the caller does not hold the tag, or named it twice")]
     NotHeld,

@@ -1,16 +1,18 @@
 //! Gathers all agents and closes the queue.
-ghost use Rattle.std.specs.Prelude.{◌≡◌, ◌↔◌, All, IfOk, IfErr, IsOk};
-ghost use Rattle.step_ledger.specs.Views.{HasAll};
+ghost use Rattle.std.specs.Prelude.{◌≡◌, ◌↔◌, All, IfOk, IfErr, IsOk, MatchOption};
+ghost use Rattle.step_ledger.specs.Views.{HasAll, IsLeastMissing};
 ghost use Rattle.step_ledger.specs.Gather.{IsCauseOf};
 ghost use Rattle.tag_queue.specs.Agents.{IsAgentOf, agents_of, numbers_of};
 ghost use Rattle.tag_queue.specs.Gathering.{IsGathered};
 
 use crate::agent::Agent;
+use crate::gather::together::{Together, gather_each};
 use crate::queue::Queue;
-use crate::together::{Together, gather_each};
-use step_ledger::GatherCause;
+use step_ledger::{GatherCause, least_missing};
 use tag_model::Totals;
 use wake_book::{BookTotals, GroupTotals};
+
+mod together;
 
 /// The totals of a queue, known once all its agents are gathered.
 #[derive(Clone, Copy, Debug, PartialEq, Eq)]
@@ -71,7 +73,7 @@ impl<R: Copy> Queue<R> {
             book,
             groups,
             batch: _,
-            least: _,
+            shallowest: _,
             min_shallow: _,
             callers: _,
             fill: _,
@@ -81,5 +83,15 @@ impl<R: Copy> Queue<R> {
             book: book.finish(tellers),
             groups: groups.finish(waiters),
         }
+    }
+}
+
+impl<R> Queue<R> {
+    /// Returns the least number of an agent that is not among these.
+    pub(crate) fn missing(&self, agents: &[Agent<R>]) -> Option<u32>
+        ensures { MatchOption result (HasAll (numbers_of agents.now) (agents_of self.now))
+            (IsLeastMissing (numbers_of agents.now) (agents_of self.now)) }
+    {
+        least_missing(agents, self.callers)
     }
 }

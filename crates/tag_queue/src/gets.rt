@@ -4,25 +4,27 @@ ghost use Rattle.tag_queue.specs.Agents.{layout_of, least_of, IsAgentOf, HasRoom
 ghost use Rattle.tag_queue.specs.Gets.{GetsPlain, GetsShallow, GetsBatch, MiscountsBatch, most_steps};
 
 use crate::agent::Agent;
-use crate::fault::TagFault;
+use crate::fault::QueueFault;
 use crate::queue::Queue;
 use tag_search::on_map;
+
+mod blocking;
 
 impl<R: Copy> Queue<R> {
     /// Takes a free tag, which this agent alone holds until it clears or posts the tag. `None` means that each tag that
     /// the search looked at was found taken at some moment of the call, not that all were taken at the same moment.
     /// `Spent` means that the agent's life is used up.
     #[inline(always)]
-    pub fn get(&self, agent: &mut Agent<R>) -> Result<Option<u32>, TagFault>
+    pub fn get(&self, agent: &mut Agent<R>) -> Result<Option<u32>, QueueFault>
         requires agent { IsAgentOf self.now agent.old }
         ensures agent { IsAgentOf self.now agent.new }
         ensures room { IsOk result ↔ HasRoom agent.old 1 }
         ensures gets { IfOk result (λ answer. GetsPlain (layout_of self.now) answer agent.old agent.new) }
         ensures bound { step_count agent.new ≤ most_steps (layout_of self.now) + step_count agent.old }
-        ensures err { IfErr result (λ fault. (fault ≡ TagFault.Spent) × (agent.new ≡ agent.old)) }
+        ensures err { IfErr result (λ fault. (fault ≡ QueueFault.Spent) × (agent.new ≡ agent.old)) }
     {
         let Ok(answer) = on_map::get(&self.map, &mut agent.caller, &mut agent.hint) else {
-            return Err(TagFault::Spent);
+            return Err(QueueFault::Spent);
         };
         Ok(answer)
     }
@@ -30,24 +32,24 @@ impl<R: Copy> Queue<R> {
     /// Like `get`, but limited to `depth` tags of the map, which are shared out among the words in proportion. A word's
     /// share may be 0. `TooShallow` means that `depth` is 0 or below the minimum shallow depth. `Spent` is that of
     /// `get`.
-    pub fn get_shallow(&self, agent: &mut Agent<R>, depth: u32) -> Result<Option<u32>, TagFault>
+    pub fn get_shallow(&self, agent: &mut Agent<R>, depth: u32) -> Result<Option<u32>, QueueFault>
         requires agent { IsAgentOf self.now agent.old }
         ensures agent { IsAgentOf self.now agent.new }
 
         // The depth is checked first.
-        ensures too_shallow { (result ≡ Err TagFault.TooShallow) ↔ (depth < least_of self.now) }
-        ensures spent { (result ≡ Err TagFault.Spent) ↔ ((least_of self.now ≤ depth) × ¬ (HasRoom agent.old 1)) }
+        ensures too_shallow { (result ≡ Err QueueFault.TooShallow) ↔ (depth < least_of self.now) }
+        ensures spent { (result ≡ Err QueueFault.Spent) ↔ ((least_of self.now ≤ depth) × ¬ (HasRoom agent.old 1)) }
         ensures succeeds { IsOk result ↔ ((least_of self.now ≤ depth) × HasRoom agent.old 1) }
         ensures gets { IfOk result (λ answer. GetsShallow (layout_of self.now) depth answer agent.old agent.new) }
         ensures bound { step_count agent.new ≤ most_steps (layout_of self.now) + step_count agent.old }
         ensures err { OnErr result (agent.new ≡ agent.old) }
     {
-        if depth < self.least {
-            return Err(TagFault::TooShallow);
+        if depth < self.shallowest {
+            return Err(QueueFault::TooShallow);
         }
         let Ok(answer) = on_map::get_shallow(&self.map, &mut agent.caller, &mut agent.hint, depth)
         else {
-            return Err(TagFault::Spent);
+            return Err(QueueFault::Spent);
         };
         Ok(answer)
     }
@@ -57,15 +59,15 @@ impl<R: Copy> Queue<R> {
     /// `None` and makes no step, as in the kernel (lib/sbitmap.c). `BadCount` means an `n` out of that range, `Spent`
     /// that the life does not suffice for `n` more tags.
     #[tactic(auto, using(std::proofs::lemmas::Nat::one_shl))]
-    pub fn get_batch(&self, agent: &mut Agent<R>, n: u32) -> Result<Option<(u32, u64)>, TagFault>
+    pub fn get_batch(&self, agent: &mut Agent<R>, n: u32) -> Result<Option<(u32, u64)>, QueueFault>
         requires agent { IsAgentOf self.now agent.old }
         ensures agent { IsAgentOf self.now agent.new }
 
         // The count is checked first, then round robin.
-        ensures bad_count { (result ≡ Err TagFault.BadCount) ↔ MiscountsBatch (layout_of self.now) n }
+        ensures bad_count { (result ≡ Err QueueFault.BadCount) ↔ MiscountsBatch (layout_of self.now) n }
         ensures round_robin { ¬ (MiscountsBatch (layout_of self.now) n) → IsTrue (hint_of agent.old).round_robin
             → (result ≡ Ok None) × (agent.new ≡ agent.old) }
-        ensures spent { (result ≡ Err TagFault.Spent)
+        ensures spent { (result ≡ Err QueueFault.Spent)
             ↔ (¬ (MiscountsBatch (layout_of self.now) n) × ((hint_of agent.old).round_robin ≡ false) × ¬ (HasRoom agent.old n)) }
         ensures succeeds { ¬ (MiscountsBatch (layout_of self.now) n) → HasRoom agent.old n → IsOk result }
         ensures gets { (hint_of agent.old).round_robin ≡ false
@@ -75,13 +77,13 @@ impl<R: Copy> Queue<R> {
     {
         let bits = 1u32 << self.map.layout().shift();
         if n == 0 || n > bits {
-            return Err(TagFault::BadCount);
+            return Err(QueueFault::BadCount);
         }
         if agent.hint.round_robin {
             return Ok(None);
         }
         let Ok(answer) = on_map::get_batch(&self.map, &mut agent.caller, &mut agent.hint, n) else {
-            return Err(TagFault::Spent);
+            return Err(QueueFault::Spent);
         };
         Ok(answer)
     }

@@ -3,39 +3,23 @@
 #![tactic(auto)]
 
 mod agent;
-mod batches;
-mod blocking;
-mod checks;
 mod clears;
-mod counts;
 mod fault;
 mod gather;
 mod gets;
-mod held;
-mod lists;
 mod looks;
-mod masks;
 mod meets;
-mod missing;
-mod next_map;
 mod opens;
-mod parts;
-mod placing;
 mod queue;
-mod reopens;
 mod resizes;
-mod shells;
-mod silent;
 mod slots;
-mod stands;
-mod together;
 mod uses;
 mod waits;
 
 pub use agent::Agent;
-pub use fault::{SetFault, TagFault};
+pub use clears::lists::{are_below, are_distinct};
+pub use fault::{QueueFault, QueueOpenFault};
 pub use gather::{QueueGatherFault, QueueTotals};
-pub use lists::{are_below, are_distinct};
 pub use queue::{Options, Queue};
 pub use resizes::{ResizeCause, ResizeFault};
 pub use step_ledger::{GatherCause, Numbered};

@@ -6,8 +6,8 @@ ghost use Rattle.tag_queue.specs.Agents.{layout_of, fill_of};
 ghost use Rattle.tag_queue.specs.Opening.{HasLayout, IsLaidOut, MiscountsAgents, CountsAgents, HasLimits, IsOpen};
 
 use crate::agent::Agent;
-use crate::fault::SetFault;
-use crate::parts::join;
+use crate::fault::QueueOpenFault;
+use crate::opens::parts::join;
 use crate::queue::{Options, Queue};
 use std::alloc::{AllocError, Global};
 use tag_core::Map;
@@ -16,46 +16,50 @@ use tag_model::{MAX_CALLERS, MOST_WON};
 use tag_search::Hint;
 use wake_book::{Book, Groups, MAX_CAP};
 
+mod parts;
+mod placing;
+
 impl<R: Copy> Queue<R> {
     /// Opens a queue of `depth` free tags, at most 10,240, each with a slot that contains `fill`, and returns it with
     /// its agents in the order of their numbers. The causes are tested in this order: `TotalTooLarge`, more than 10,240
     /// tags; `ShiftTooLarge`, a shift above 6; `CallerCount`, not 1 to 64 callers; `LifeTooLong`, a life above 2^48;
-    /// `CapTooLarge`, a cap above 2^56; `Memory`. `ReservedTooLarge` never comes.
+    /// `CapTooLarge`, a cap above 2^56; `Memory`.
     pub fn open(
         alloc: Global,
         depth: u32,
         options: Options,
         fill: R,
-    ) -> Result<(Queue<R>, Vec<Agent<R>>), SetFault>
+    ) -> Result<(Queue<R>, Vec<Agent<R>>), QueueOpenFault>
         ensures ok { IfOk result (λ opened. IsOpen options opened.0 opened.1.items) }
         ensures layout { IfOk result (λ opened. IsLaidOut depth options (layout_of opened.0)) }
         ensures fill { IfOk result (λ opened. fill_of opened.0 ≡ fill) }
 
         // The causes are checked in this order, and memory comes last.
-        ensures total { (result ≡ Err SetFault.TotalTooLarge) ↔ (MAX_DEPTH < depth) }
-        ensures shift { (result ≡ Err SetFault.ShiftTooLarge) ↔ ((depth ≤ MAX_DEPTH) × IsSomeAnd options.shift (λ s. MAX_SHIFT < s)) }
-        ensures callers { (result ≡ Err SetFault.CallerCount) ↔ (HasLayout depth options × MiscountsAgents options) }
-        ensures life { (result ≡ Err SetFault.LifeTooLong) ↔ (HasLayout depth options × CountsAgents options × (MOST_WON < options.life)) }
-        ensures cap { (result ≡ Err SetFault.CapTooLarge)
+        ensures total { (result ≡ Err QueueOpenFault.TotalTooLarge) ↔ (MAX_DEPTH < depth) }
+        ensures shift { (result ≡ Err QueueOpenFault.ShiftTooLarge)
+            ↔ ((depth ≤ MAX_DEPTH) × IsSomeAnd options.shift (λ s. MAX_SHIFT < s)) }
+        ensures callers { (result ≡ Err QueueOpenFault.CallerCount) ↔ (HasLayout depth options × MiscountsAgents options) }
+        ensures life { (result ≡ Err QueueOpenFault.LifeTooLong)
+            ↔ (HasLayout depth options × CountsAgents options × (MOST_WON < options.life)) }
+        ensures cap { (result ≡ Err QueueOpenFault.CapTooLarge)
             ↔ (HasLayout depth options × CountsAgents options × (options.life ≤ MOST_WON) × (2 ^ 56 < options.cap)) }
-        ensures no_reserved { result ≢ Err SetFault.ReservedTooLarge }
     {
         let layout = match Layout::new(depth, options.shift) {
             Ok(layout) => layout,
-            Err(LayoutFault::DepthTooLarge) => return Err(SetFault::TotalTooLarge),
-            Err(LayoutFault::ShiftTooLarge) => return Err(SetFault::ShiftTooLarge),
+            Err(LayoutFault::DepthTooLarge) => return Err(QueueOpenFault::TotalTooLarge),
+            Err(LayoutFault::ShiftTooLarge) => return Err(QueueOpenFault::ShiftTooLarge),
         };
         if options.callers == 0 || options.callers > MAX_CALLERS {
-            return Err(SetFault::CallerCount);
+            return Err(QueueOpenFault::CallerCount);
         }
         if options.life > MOST_WON {
-            return Err(SetFault::LifeTooLong);
+            return Err(QueueOpenFault::LifeTooLong);
         }
         if options.cap > MAX_CAP {
-            return Err(SetFault::CapTooLarge);
+            return Err(QueueOpenFault::CapTooLarge);
         }
         let Ok(opened) = lay_out(alloc, layout, options, fill) else {
-            return Err(SetFault::Memory);
+            return Err(QueueOpenFault::Memory);
         };
         Ok(opened)
     }
@@ -94,7 +98,7 @@ fn lay_out<R: Copy>(
         book,
         groups,
         batch,
-        least: options.min_shallow.unwrap_or(1).max(1),
+        shallowest: options.min_shallow.unwrap_or(1).max(1),
         min_shallow: options.min_shallow,
         callers: options.callers,
         fill,

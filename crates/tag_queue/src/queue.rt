@@ -92,7 +92,7 @@ pub struct Queue<R> {
     /// Completions per charge, 1 to 8.
     pub(crate) batch: u32,
     /// The minimum shallow depth in force, at least 1.
-    pub(crate) least: u32,
+    pub(crate) shallowest: u32,
     /// The minimum shallow depth as the options gave it. A resize computes the new batch from it.
     pub(crate) min_shallow: Option<u32>,
     /// Number of agents, 1 to 64.
@@ -100,6 +100,6 @@ pub struct Queue<R> {
     /// The initial value of each slot, also after a resize.
     pub(crate) fill: R,
     ghost batch_is: { batch_of book ≡ batch },
-    ghost narrow: { (1 ≤ batch) × (batch ≤ 8) × (1 ≤ least) },
+    ghost narrow: { (1 ≤ batch) × (batch ≤ 8) × (1 ≤ shallowest) },
     ghost as_many: { (tellers_of book ≡ map.shape.callers) × (waiters_of groups ≡ map.shape.callers) × (callers ≡ map.shape.callers) },
 }

@@ -14,6 +14,10 @@ use tag_layout::{Layout, LayoutFault};
 use thiserror::Error;
 use wake_book::Groups;
 
+mod next_map;
+mod reopens;
+mod shells;
+
 /// Why a queue can't be resized. The causes are checked in this order.
 #[derive(Clone, Copy, Debug, PartialEq, Eq, Error)]
 pub enum ResizeCause {

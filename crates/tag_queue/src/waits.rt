@@ -9,7 +9,7 @@ ghost use Rattle.tag_queue.specs.Agents.{IsAgentOf, standing_of, book_steps, gro
 ghost use Rattle.tag_queue.specs.Waits.{SameTags, Enters};
 
 use crate::agent::Agent;
-use crate::fault::TagFault;
+use crate::fault::QueueFault;
 use crate::queue::Queue;
 use std::sync::Wait;
 use wake_book::{Groups, Left};
@@ -30,22 +30,22 @@ pub struct Wakes {
 impl<R: Copy> Queue<R> {
     /// Enters the wait group of the agent's wait index, advances that index, and returns the group, 0 to 7. `Waiting`
     /// means that the agent is already in a group.
-    pub fn prepare_wait(&self, agent: &mut Agent<R>) -> Result<u32, TagFault>
+    pub fn prepare_wait(&self, agent: &mut Agent<R>) -> Result<u32, QueueFault>
         requires agent { IsAgentOf self.now agent.old }
         ensures agent { IsAgentOf self.now agent.new }
         ensures out { IsOk result ↔ (standing_of agent.old ≡ None) }
         ensures enters { IfOk result (λ group. Enters group agent.old agent.new) }
-        ensures err { IfErr result (λ fault. (fault ≡ TagFault.Waiting) × (agent.new ≡ agent.old)) }
+        ensures err { IfErr result (λ fault. (fault ≡ QueueFault.Waiting) × (agent.new ≡ agent.old)) }
     {
         if Groups::standing(&agent.waiter).is_some() {
-            return Err(TagFault::Waiting);
+            return Err(QueueFault::Waiting);
         }
         Ok(self.groups.enter(&mut agent.waiter))
     }
 
     /// Leaves the agent's wait group, and returns `Woken` if it used a grant there, `Unwoken` if it found none.
     /// `NotWaiting` means that the agent is in no group.
-    pub fn finish_wait<W: Wait>(&self, rt: &W, agent: &mut Agent<R>) -> Result<Left, TagFault>
+    pub fn finish_wait<W: Wait>(&self, rt: &W, agent: &mut Agent<R>) -> Result<Left, QueueFault>
         requires agent { IsAgentOf self.now agent.old }
         ensures agent { IsAgentOf self.now agent.new }
         ensures stands { IsOk result ↔ IsSome (standing_of agent.old) }
@@ -53,17 +53,17 @@ impl<R: Copy> Queue<R> {
         ensures out { standing_of agent.new ≡ None }
         ensures next { wait_index_of (waiter_of agent.new) ≡ wait_index_of (waiter_of agent.old) }
         ensures same { SameTags agent.old agent.new }
-        ensures err { IfErr result (λ fault. (fault ≡ TagFault.NotWaiting) × (agent.new ≡ agent.old)) }
+        ensures err { IfErr result (λ fault. (fault ≡ QueueFault.NotWaiting) × (agent.new ≡ agent.old)) }
     {
         if Groups::standing(&agent.waiter).is_none() {
-            return Err(TagFault::NotWaiting);
+            return Err(QueueFault::NotWaiting);
         }
         Ok(self.groups.leave(rt, &mut agent.waiter))
     }
 
     /// Like `finish_wait`, but makes one try only, and so needs no `rt`. `None` means that the group's word changed
     /// meanwhile and that the agent is still in the group.
-    pub fn try_finish_wait(&self, agent: &mut Agent<R>) -> Result<Option<Left>, TagFault>
+    pub fn try_finish_wait(&self, agent: &mut Agent<R>) -> Result<Option<Left>, QueueFault>
         requires agent { IsAgentOf self.now agent.old }
         ensures agent { IsAgentOf self.now agent.new }
         ensures stands { IsOk result ↔ IsSome (standing_of agent.old) }
@@ -72,10 +72,10 @@ impl<R: Copy> Queue<R> {
         ensures stays { IfOk result (λ answer. IfNone answer (standing_of agent.new ≡ standing_of agent.old)) }
         ensures idle { IfOk result (λ answer. IfNone answer (IdlesOnce (waiter_of agent.old) (waiter_of agent.new))) }
         ensures same { SameTags agent.old agent.new }
-        ensures err { IfErr result (λ fault. (fault ≡ TagFault.NotWaiting) × (agent.new ≡ agent.old)) }
+        ensures err { IfErr result (λ fault. (fault ≡ QueueFault.NotWaiting) × (agent.new ≡ agent.old)) }
     {
         if Groups::standing(&agent.waiter).is_none() {
-            return Err(TagFault::NotWaiting);
+            return Err(QueueFault::NotWaiting);
         }
         Ok(self.groups.try_leave(&mut agent.waiter))
     }

@@ -3,7 +3,7 @@ use Rattle.std.specs.Prelude.{◌≡◌, ◌≢◌, ◌↔◌, ℕ, Bool, ◌==�
 use Rattle.loop_device.specs.declared.fault.LogCause.TheVariants as causes
 use Rattle.loop_device.specs.declared.fault.LogFault.{LogFault}
 use Rattle.loop_device.specs.declared.fault.PlayFault.{PlayFault}
-use Rattle.loop_device.specs.declared.fault.PlayFault.TheVariants.{Memory, Setup, Lost, Twice, Stranger}
+use Rattle.loop_device.specs.declared.fault.PlayFault.TheVariants.{Memory, Setup, Lost, Twice, Spurious}
 use Rattle.loop_device.specs.declared.io.Done.{Done}
 use Rattle.loop_device.specs.declared.io.Io.{Io}
 use Rattle.loop_device.specs.declared.io.IoKind.{IoKind}
@@ -19,18 +19,6 @@ use Rattle.tag_model.specs.declared.totals.Totals.{Totals}
 use Rattle.tag_script.specs.declared.ending.Ending.{Ending}
 use Rattle.tag_script.specs.declared.ending.Ending.TheVariants as endings
 use Rattle.tag_sets.specs.Texts.{field}
-use Rattle.tag_runs.specs.declared.play_options.PlayOptions.{PlayOptions}
-
--- the setup with these options
-abbrev pub setup_of : PlayOptions → SetupAsked
-setup_of o = record {
-  total = o.tags;
-  reserved = o.reserved;
-  shift = o.shift;
-  submitters = o.submitters;
-  completers = o.completers;
-  queue = o.queue;
-}
 
 -- the index of a kind in a report
 abbrev pub number_of_kind : IoKind → ℕ
@@ -81,7 +69,7 @@ play_fault_text Memory = line_of (codes "play refused ") 1
 play_fault_text Setup = line_of (codes "play refused ") 2
 play_fault_text (Lost line) = field (codes "play refused ") 3 ++ line_of (codes " line ") line
 play_fault_text (Twice line) = field (codes "play refused ") 4 ++ line_of (codes " line ") line
-play_fault_text Stranger = line_of (codes "play refused ") 5
+play_fault_text Spurious = line_of (codes "play refused ") 5
 
 -- the outcomes that a play may have: a report on all I/O lines, a refused setup exactly if it is not legal, or another
 -- fault except running out of memory
@@ -101,9 +89,9 @@ ending_of (Ok report) = endings.Done
 ending_of (Err fault) = endings.Refused
 
 -- the output for an input, and whether it is a refusal: the line of its first fault, otherwise the outcome of a play
-pub data Reports (o : PlayOptions) (input : List ℕ) : List ℕ → Ending → Type 0 where
+pub data Reports (setup : SetupAsked) (input : List ℕ) : List ℕ → Ending → Type 0 where
   faulty : (fault : LogFault) → IsLogFault input fault → fault.cause ≢ causes.Memory
-      → Reports o input (log_fault_text fault) endings.Refused
+      → Reports setup input (log_fault_text fault) endings.Refused
   played : (log : Log) (outcome : Result Report PlayFault) → IsLogOf input log
-      → MayComeTo (setup_of o) log.ios.items outcome
-      → Reports o input (outcome_text log outcome) (ending_of outcome)
+      → MayComeTo setup log.ios.items outcome
+      → Reports setup input (outcome_text log outcome) (ending_of outcome)

@@ -4,12 +4,10 @@
 mod fault;
 mod input;
 mod log_answer;
-mod play_options;
 mod report;
 mod run;
 mod source;
 
 pub use fault::RunFault;
-pub use play_options::PlayOptions;
 pub use run::{run_check, run_play, run_script};
 pub use source::{Source, Watched};

@@ -65,7 +65,7 @@ pub(crate) fn push_play_fault(text: &mut Vec<u8>, fault: PlayFault) -> Result<()
             push_field(text, b"play refused ", 4)?;
             push_line(text, b" line ", line)
         }
-        PlayFault::Stranger => push_line(text, b"play refused ", 5),
+        PlayFault::Spurious => push_line(text, b"play refused ", 5),
     }
 }
 

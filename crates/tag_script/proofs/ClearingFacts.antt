@@ -15,7 +15,7 @@ use Rattle.tag_search.specs.Plain.{Plain, IsTaken}
 use Rattle.tag_search.specs.Pool.{Pool, is_busy, free_at}
 use Rattle.tag_search.proofs.Pools.{pool_ext, or_false, and_false}
 use Rattle.tag_search.proofs.OneTag.{one_place}
-use Rattle.tag_script.specs.Solo.{freed, is_named}
+use Rattle.tag_script.specs.PlainWorld.{freed, is_named}
 
 -- one more place is free
 abbrev pub with_place : ℕ → ℕ → Pool → Pool

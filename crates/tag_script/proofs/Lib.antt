@@ -2,4 +2,4 @@ pub mod TextFacts
 pub mod DumpFacts
 pub mod ClearingFacts
 pub mod CountFacts
-pub mod PlayFacts
+pub mod RunFacts

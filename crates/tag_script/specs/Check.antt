@@ -8,8 +8,8 @@ use Rattle.tag_model.specs.World.{World, opened}
 use Rattle.tag_model.specs.Runs.{after_all, MayRun, StopsAt}
 use Rattle.tag_model.specs.Totals.{AreTotals}
 use Rattle.tag_script.specs.declared.options.CheckOptions.{CheckOptions}
-use Rattle.tag_queue.specs.declared.fault.SetFault.{SetFault}
-use Rattle.tag_queue.specs.declared.fault.SetFault.TheVariants as faults
+use Rattle.tag_sets.specs.declared.fault.SetFault.{SetFault}
+use Rattle.tag_sets.specs.declared.fault.SetFault.TheVariants as faults
 use Rattle.tag_script.specs.declared.ending.Ending.{Ending}
 use Rattle.tag_script.specs.declared.ending.Ending.TheVariants.{Done, Refused}
 use Rattle.tag_script.specs.declared.check.Verdict.{Verdict}

@@ -5,11 +5,11 @@ use Rattle.tag_lines.specs.declared.order.Command.{Command}
 use Rattle.tag_lines.specs.declared.order.Command.TheVariants as commands
 use Rattle.tag_lines.specs.declared.order.Order.{Order}
 use Rattle.tag_model.specs.declared.totals.Totals.{Totals}
-use Rattle.tag_queue.specs.declared.fault.TagFault.{TagFault}
+use Rattle.tag_sets.specs.declared.fault.TagFault.{TagFault}
 use Rattle.tag_script.specs.declared.answer.Answer.{Answer}
 use Rattle.tag_script.specs.declared.answer.Answer.TheVariants as answers
 use Rattle.tag_script.specs.Dump.{range, is_held_tag, held_byte, byte_count}
-use Rattle.tag_script.specs.Solo.{Solo, Gets, GetsShallow, Batches, Clears, ClearsBatch, held_in, aside_in}
+use Rattle.tag_script.specs.PlainWorld.{PlainWorld, Gets, GetsShallow, Batches, Clears, ClearsBatch, held_in, aside_in}
 use Rattle.tag_search.specs.Hints.{reduced}
 use Rattle.tag_search.specs.Search.{Visit}
 use Rattle.tag_search.specs.Visits.{plain_visits}
@@ -25,7 +25,7 @@ abbrev pub TellsOutcome : {A : Type 0} → (A → Answer) → (Result A TagFault
 TellsOutcome {A} tell may answer = (outcome : Result A TagFault) × may outcome × (answer ≡ told tell outcome)
 
 -- the sizes and counts that a show reports
-abbrev pub shown_of : Solo → Shown
+abbrev pub shown_of : PlainWorld → Shown
 shown_of w = record {
   depth = w.layout.depth;
   busy = held_in w;
@@ -35,19 +35,19 @@ shown_of w = record {
 }
 
 -- the tags that the caller holds, ascending
-abbrev pub busy_tags : Solo → List ℕ
+abbrev pub busy_tags : PlainWorld → List ℕ
 busy_tags w = filter (is_held_tag w) (range w.layout.depth)
 
 -- the same, as bytes
-abbrev pub dump_bytes : Solo → List ℕ
+abbrev pub dump_bytes : PlainWorld → List ℕ
 dump_bytes w = map (held_byte w) (range (byte_count w))
 
 -- the visits of a get from the caller's hint
-abbrev pub get_visits : Solo → List Visit
+abbrev pub get_visits : PlainWorld → List Visit
 get_visits w = plain_visits w.layout w.hint.round_robin (reduced w.layout.depth w.hint.at)
 
 -- the answer of a command in a world, and the world after it; a plain script has no other commands
-abbrev pub Obeys : Command → Solo → Answer → Solo → Type 0
+abbrev pub Obeys : Command → PlainWorld → Answer → PlainWorld → Type 0
 Obeys commands.Get old answer new = (tag : Option ℕ) × Gets (get_visits old) old tag new × (answer ≡ answers.Tag tag)
 Obeys (commands.Shallow depth) old answer new =
     TellsOutcome answers.Tag (λ outcome. GetsShallow depth old outcome new) answer
@@ -70,9 +70,9 @@ Obeys commands.DumpReserved old answer new = ⊥
 Obeys (commands.Resize total) old answer new = ⊥
 
 -- the answer of an order, and the world after it
-abbrev pub ObeysOrder : Solo → Order → Answer → Solo → Type 0
+abbrev pub ObeysOrder : PlainWorld → Order → Answer → PlainWorld → Type 0
 ObeysOrder old order answer new = Obeys order.command old answer new
 
 -- the totals: tags won, given back and held; none is ever posted
-abbrev pub AreTotals : Solo → Totals → Type 0
+abbrev pub AreTotals : PlainWorld → Totals → Type 0
 AreTotals w totals = totals ≡ record { got = w.won; back = w.back; held = held_in w; posted = 0 }

@@ -2,10 +2,10 @@
 use Rattle.std.specs.Prelude.{ℕ}
 use Rattle.tag_model.specs.declared.event.EventFault.{EventFault}
 use Rattle.tag_model.specs.declared.event.EventFault.TheVariants as events
-use Rattle.tag_queue.specs.declared.fault.SetFault.{SetFault}
-use Rattle.tag_queue.specs.declared.fault.SetFault.TheVariants as setups
-use Rattle.tag_queue.specs.declared.fault.TagFault.{TagFault}
-use Rattle.tag_queue.specs.declared.fault.TagFault.TheVariants as tags
+use Rattle.tag_sets.specs.declared.fault.SetFault.{SetFault}
+use Rattle.tag_sets.specs.declared.fault.SetFault.TheVariants as setups
+use Rattle.tag_sets.specs.declared.fault.TagFault.{TagFault}
+use Rattle.tag_sets.specs.declared.fault.TagFault.TheVariants as tags
 use Rattle.tag_queue.specs.declared.resizes.ResizeCause.{ResizeCause}
 use Rattle.tag_queue.specs.declared.resizes.ResizeCause.TheVariants as resizes
 

@@ -2,13 +2,13 @@ pub mod Faults
 pub mod Texts
 pub mod Setups
 pub mod Check
-pub mod Solo
+pub mod PlainWorld
 pub mod Dump
 pub mod Answers
 pub mod Commands
-pub mod Plays
-pub mod Players
-pub mod PlayerLaws
+pub mod Outputs
+pub mod PlainCallers
+pub mod PlainCallerLaws
 pub mod PlainScript
 pub mod SharedCommands
 pub mod SharedScript

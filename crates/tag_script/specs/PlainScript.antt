@@ -3,13 +3,13 @@ use Rattle.std.specs.Prelude.{◌≡◌, ◌≢◌, ℕ, ◌<◌, ◌≤◌, Lis
 use Rattle.tag_layout.specs.Layout.{Layout}
 use Rattle.tag_layout.specs.declared.layout.TheConstants.{MAX_DEPTH, MAX_SHIFT}
 use Rattle.tag_lines.specs.declared.order.Order.{Order}
-use Rattle.tag_queue.specs.declared.fault.SetFault.{SetFault}
-use Rattle.tag_queue.specs.declared.fault.SetFault.TheVariants as faults
+use Rattle.tag_sets.specs.declared.fault.SetFault.{SetFault}
+use Rattle.tag_sets.specs.declared.fault.SetFault.TheVariants as faults
 use Rattle.tag_script.specs.declared.options.ScriptOptions.{ScriptOptions}
 use Rattle.tag_script.specs.Commands.{ObeysOrder, AreTotals}
-use Rattle.tag_script.specs.Plays.{IsPlayed}
+use Rattle.tag_script.specs.Outputs.{IsRun}
 use Rattle.tag_script.specs.Setups.{IsLayoutOf}
-use Rattle.tag_script.specs.Solo.{opened}
+use Rattle.tag_script.specs.PlainWorld.{opened}
 
 -- the layout of this many tags, none of them reserved
 pub record IsMapOf (o : ScriptOptions) (l : Layout) : Type 0 where
@@ -39,4 +39,4 @@ least_depth asked = max 1 (unwrap_or asked 1)
 pub record IsToldAlone (o : ScriptOptions) (orders : List Order) (text : List ℕ) : Type 0 where
   pub layout : Layout
   pub setup : IsSetup o layout
-  pub played : IsPlayed ObeysOrder AreTotals (opened layout o.round_robin (least_depth o.min_shallow)) orders text
+  pub run : IsRun ObeysOrder AreTotals (opened layout o.round_robin (least_depth o.min_shallow)) orders text

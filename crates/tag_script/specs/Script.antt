@@ -6,7 +6,7 @@ use Rattle.tag_lines.specs.declared.fault.FaultyLine.{FaultyLine}
 use Rattle.tag_lines.specs.declared.order.Order.{Order}
 use Rattle.tag_lines.specs.Readings.{AreReadings, IsFirstFaulty}
 use Rattle.tag_lines.specs.ScriptLines.{order_of}
-use Rattle.tag_queue.specs.declared.fault.SetFault.{SetFault}
+use Rattle.tag_sets.specs.declared.fault.SetFault.{SetFault}
 use Rattle.tag_script.specs.declared.ending.Ending.{Ending}
 use Rattle.tag_script.specs.declared.ending.Ending.TheVariants.{Done, Refused}
 use Rattle.tag_script.specs.declared.options.ScriptOptions.{ScriptOptions}
@@ -37,5 +37,5 @@ pub data Owed (o : ScriptOptions) (script : List ℕ) : List ℕ → Ending → 
   refused : (orders : List Order) (fault : SetFault)
       → AreReadings (order_of (dialect_of o.plain) o.callers) script orders
       → IsRefusedSetup o.plain o fault → Owed o script (setup_text fault) Refused
-  played : (orders : List Order) (text : List ℕ) → AreReadings (order_of (dialect_of o.plain) o.callers) script orders
+  answered : (orders : List Order) (text : List ℕ) → AreReadings (order_of (dialect_of o.plain) o.callers) script orders
       → IsTold o.plain o orders text → Owed o script text Done

@@ -2,9 +2,9 @@
 use Rattle.std.specs.Prelude.{◌≡◌, ℕ, ◌≤◌, Option, IfSome}
 use Rattle.tag_layout.specs.Layout.{Layout, HasShift}
 use Rattle.tag_layout.specs.declared.layout.TheConstants.{MAX_DEPTH, MAX_SHIFT}
-use Rattle.tag_queue.specs.declared.fault.SetFault.{SetFault}
-use Rattle.tag_script.specs.declared.fault.Closed.{Closed}
-use Rattle.tag_script.specs.declared.fault.Closed.TheVariants.{Memory, Setup}
+use Rattle.tag_sets.specs.declared.fault.SetFault.{SetFault}
+use Rattle.tag_script.specs.declared.fault.OpenFault.{OpenFault}
+use Rattle.tag_script.specs.declared.fault.OpenFault.TheVariants.{Memory, Setup}
 
 -- the layout of this many tags, with this shift or else the default one
 pub record IsLayoutOf (tags : ℕ) (shift : Option ℕ) (l : Layout) : Type 0 where
@@ -14,6 +14,6 @@ pub record IsLayoutOf (tags : ℕ) (shift : Option ℕ) (l : Layout) : Type 0 wh
   pub narrow : IfSome shift (λ s. s ≤ MAX_SHIFT)
 
 -- out of memory, or one of these causes
-abbrev pub IsClosed : (SetFault → Type 0) → Closed → Type 0
-IsClosed refuses Memory = Unit {0}
-IsClosed refuses (Setup fault) = refuses fault
+abbrev pub IsOpenFault : (SetFault → Type 0) → OpenFault → Type 0
+IsOpenFault refuses Memory = Unit {0}
+IsOpenFault refuses (Setup fault) = refuses fault

@@ -2,10 +2,10 @@
 -- those over plain words.
 use Rattle.std.specs.Prelude.{⊤, ◌≡◌, ◌≢◌, ℕ, ◌*◌, ◌≤◌, Bool, true, List, length, filter, nat_eq, Result, Ok, Err}
 use Rattle.tag_board.specs.declared.board.Board.{Board}
-use Rattle.tag_board.specs.Boards.{state_of, lones_of, waiters_of}
+use Rattle.tag_board.specs.Boards.{state_of, alone_sets_of, waiters_of}
 use Rattle.tag_board.specs.Closing.{totals_in}
-use Rattle.tag_board.specs.Lones.{Lones, Does, plain, shallow, LoneGets, LoneBatch, LoneClears, LoneClearsList, LonePosts, LoneTakes}
-use Rattle.tag_board.specs.Lones.{LoneListsBusy, LoneShows, LoneDumps, LoneResizes}
+use Rattle.tag_board.specs.AloneSets.{AloneSets, Does, plain, shallow, AloneGets, AloneBatch, AloneClears, AloneClearsList, AlonePosts, AloneTakes}
+use Rattle.tag_board.specs.AloneSets.{AloneListsBusy, AloneShows, AloneDumps, AloneResizes}
 use Rattle.tag_board.specs.Looks.{ListsBusy, Shows, Dumps}
 use Rattle.tag_board.specs.Replays.{Gets, GetsShallow, GetsBatch, Clears, ClearsList, Posts, Takes, Waits, Leaves}
 use Rattle.tag_board.specs.Resizes.{Resizes}
@@ -15,7 +15,7 @@ use Rattle.tag_lines.specs.declared.order.Command.{Command}
 use Rattle.tag_lines.specs.declared.order.Command.TheVariants as commands
 use Rattle.tag_lines.specs.declared.order.Order.{Order}
 use Rattle.tag_model.specs.declared.totals.Totals.{Totals}
-use Rattle.tag_queue.specs.declared.fault.TagFault.{TagFault}
+use Rattle.tag_sets.specs.declared.fault.TagFault.{TagFault}
 use Rattle.tag_queue.specs.declared.resizes.ResizeCause.{ResizeCause}
 use Rattle.tag_queue.specs.declared.waits.Wakes.{Wakes}
 use Rattle.tag_script.specs.declared.answer.Answer.{Answer}
@@ -35,12 +35,12 @@ resize_answer (Err cause) = answers.NotResized cause
 -- each caller as it waits and wakes others, by its own steps
 pub record Scene : Type 0 where
   pub state : State
-  pub sets : Lones
+  pub sets : AloneSets
   pub waiters : ℕ → Waiter
 
 -- what is known of a board
 abbrev pub scene_of : Board → Scene
-scene_of board = record { state = state_of board; sets = lones_of board; waiters = waiters_of board }
+scene_of board = record { state = state_of board; sets = alone_sets_of board; waiters = waiters_of board }
 
 -- there is one caller
 abbrev pub IsAlone : Scene → Type 0
@@ -52,13 +52,13 @@ Stay old outcome new = new ≡ old
 
 -- the state changed by the first relation, both sets by the second if there is only one caller, and the callers as they
 -- wait and wake others by the third
-abbrev pub Together : {A : Type 0} → (State → A → State → Type 0) → (Lones → A → Lones → Type 0)
+abbrev pub Together : {A : Type 0} → (State → A → State → Type 0) → (AloneSets → A → AloneSets → Type 0)
     → ((ℕ → Waiter) → A → (ℕ → Waiter) → Type 0) → Scene → A → Scene → Type 0
 Together any alone waiters old outcome new = any old.state outcome new.state
     × (IsAlone old → alone old.sets outcome new.sets) × waiters old.waiters outcome new.waiters
 
 -- the same for what counts no completion and wakes nobody
-abbrev pub Both : {A : Type 0} → (State → A → State → Type 0) → (Lones → A → Lones → Type 0) → Scene → A → Scene
+abbrev pub Both : {A : Type 0} → (State → A → State → Type 0) → (AloneSets → A → AloneSets → Type 0) → Scene → A → Scene
     → Type 0
 Both any alone old outcome new = Together any alone Stay old outcome new
 
@@ -69,7 +69,7 @@ Anyhow old outcome new = ⊤
 -- the answer is that of a result which the resize may have, after which the callers' steps are counted anew
 abbrev pub TellsResize : ℕ → Scene → Answer → Scene → Type 0
 TellsResize total old answer new = (outcome : Result (Unit {0}) ResizeCause)
-    × Together (Resizes total) (LoneResizes total) Anyhow old outcome new × (answer ≡ resize_answer outcome)
+    × Together (Resizes total) (AloneResizes total) Anyhow old outcome new × (answer ≡ resize_answer outcome)
 
 -- the tag's bit is 1
 abbrev pub is_marked : List ℕ → ℕ → Bool
@@ -81,7 +81,7 @@ tags_in bits = filter (is_marked bits) (range (64 * length bits))
 
 -- the tags listed are those of some bits that `busy` may return
 abbrev pub ListsTags : ℕ → Scene → List ℕ → Scene → Type 0
-ListsTags caller old tags new = (bits : List ℕ) × Both (ListsBusy caller) LoneListsBusy old bits new
+ListsTags caller old tags new = (bits : List ℕ) × Both (ListsBusy caller) AloneListsBusy old bits new
     × (tags ≡ tags_in bits)
 
 -- the counts that a caller finds: at most as many wakeups as completions, and at least one active waiter if it is
@@ -93,12 +93,12 @@ pub record FindsWakes (caller : ℕ) (old : State) (wakes : Wakes) (new : State)
 
 -- the answer is that of a result which the caller's call may have, with any number of callers and with one
 abbrev pub TellsBoth : {A : Type 0} → (A → Answer) → (State → Result A TagFault → State → Type 0)
-    → (Lones → Result A TagFault → Lones → Type 0) → Scene → Answer → Scene → Type 0
+    → (AloneSets → Result A TagFault → AloneSets → Type 0) → Scene → Answer → Scene → Type 0
 TellsBoth tell any alone old answer new = TellsOutcome tell (λ outcome. Both any alone old outcome new) answer
 
 -- the same for a call that waits, counts or wakes: the caller of an answered one changed so
 abbrev pub TellsMoves : {A : Type 0} → (A → Answer) → ℕ → (A → Waiter → Waiter → Type 0)
-    → (State → Result A TagFault → State → Type 0) → (Lones → Result A TagFault → Lones → Type 0) → Scene → Answer
+    → (State → Result A TagFault → State → Type 0) → (AloneSets → Result A TagFault → AloneSets → Type 0) → Scene → Answer
     → Scene → Type 0
 TellsMoves tell caller change any alone old answer new =
     TellsOutcome tell (λ outcome. Together any alone (MovesIf caller change) old outcome new) answer
@@ -106,22 +106,22 @@ TellsMoves tell caller change any alone old answer new =
 -- the answer of a caller's command, and what is known after it
 abbrev pub ObeysBy : ℕ → Command → Scene → Answer → Scene → Type 0
 ObeysBy caller commands.Get old answer new =
-    TellsBoth answers.Tag (Gets Ordinary caller) (Does (LoneGets Ordinary plain)) old answer new
+    TellsBoth answers.Tag (Gets Ordinary caller) (Does (AloneGets Ordinary plain)) old answer new
 ObeysBy caller commands.GetReserved old answer new =
-    TellsBoth answers.Tag (Gets Reserved caller) (Does (LoneGets Reserved plain)) old answer new
+    TellsBoth answers.Tag (Gets Reserved caller) (Does (AloneGets Reserved plain)) old answer new
 ObeysBy caller (commands.Shallow depth) old answer new =
-    TellsBoth answers.Tag (GetsShallow depth caller) (Does (LoneGets Ordinary (shallow depth))) old answer new
+    TellsBoth answers.Tag (GetsShallow depth caller) (Does (AloneGets Ordinary (shallow depth))) old answer new
 ObeysBy caller (commands.Batch n) old answer new =
-    TellsBoth answers.Batch (GetsBatch n caller) (Does (LoneBatch n)) old answer new
+    TellsBoth answers.Batch (GetsBatch n caller) (Does (AloneBatch n)) old answer new
 ObeysBy caller (commands.Clear tag) old answer new =
-    TellsMoves answers.Done caller (GrantsFor 1) (Clears tag caller) (Does (λ woken. LoneClears tag)) old answer new
+    TellsMoves answers.Done caller (GrantsFor 1) (Clears tag caller) (Does (λ woken. AloneClears tag)) old answer new
 ObeysBy caller (commands.ClearBatch tags) old answer new =
     TellsMoves answers.Done caller (GrantsFor (length tags)) (ClearsList tags caller)
-    (Does (λ woken. LoneClearsList tags)) old answer new
+    (Does (λ woken. AloneClearsList tags)) old answer new
 ObeysBy caller (commands.Post tag) old answer new =
-    TellsBoth (λ done. answers.Done 0) (Posts tag caller) (Does (λ done. LonePosts tag)) old answer new
+    TellsBoth (λ done. answers.Done 0) (Posts tag caller) (Does (λ done. AlonePosts tag)) old answer new
 ObeysBy caller (commands.Take tag) old answer new =
-    TellsBoth (λ done. answers.Done 0) (Takes tag caller) (LoneTakes tag) old answer new
+    TellsBoth (λ done. answers.Done 0) (Takes tag caller) (AloneTakes tag) old answer new
 ObeysBy caller commands.Wait old answer new = TellsMoves answers.Group caller Enters (Waits caller) Stay old answer new
 ObeysBy caller commands.Leave old answer new =
     TellsMoves answers.Left caller LeavesGroup (Leaves caller) Stay old answer new
@@ -129,15 +129,15 @@ ObeysBy caller commands.Wakes old answer new =
     (wakes : Wakes) × Together (FindsWakes caller) Stay (λ old wakes new. Moves caller (Finds wakes) old new) old wakes
     new × (answer ≡ answers.Wakes wakes)
 ObeysBy caller commands.Show old answer new =
-    (shown : Shown) × Both (Shows Ordinary) (LoneShows Ordinary) old shown new × (answer ≡ answers.Shown shown)
+    (shown : Shown) × Both (Shows Ordinary) (AloneShows Ordinary) old shown new × (answer ≡ answers.Shown shown)
 ObeysBy caller commands.ShowReserved old answer new =
-    (shown : Shown) × Both (Shows Reserved) (LoneShows Reserved) old shown new × (answer ≡ answers.Shown shown)
+    (shown : Shown) × Both (Shows Reserved) (AloneShows Reserved) old shown new × (answer ≡ answers.Shown shown)
 ObeysBy caller commands.Busy old answer new =
     (tags : List ℕ) × ListsTags caller old tags new × (answer ≡ answers.Busy tags)
 ObeysBy caller commands.Dump old answer new =
-    (bytes : List ℕ) × Both (Dumps Ordinary) (LoneDumps Ordinary) old bytes new × (answer ≡ answers.Dump bytes)
+    (bytes : List ℕ) × Both (Dumps Ordinary) (AloneDumps Ordinary) old bytes new × (answer ≡ answers.Dump bytes)
 ObeysBy caller commands.DumpReserved old answer new =
-    (bytes : List ℕ) × Both (Dumps Reserved) (LoneDumps Reserved) old bytes new × (answer ≡ answers.Dump bytes)
+    (bytes : List ℕ) × Both (Dumps Reserved) (AloneDumps Reserved) old bytes new × (answer ≡ answers.Dump bytes)
 ObeysBy caller (commands.Resize total) old answer new = TellsResize total old answer new
 
 -- the command is not a resize

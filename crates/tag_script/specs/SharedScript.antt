@@ -3,16 +3,16 @@ use Rattle.std.specs.Prelude.{ℕ, ◌^◌, ◌<◌, ◌≤◌, List, IsSomeAnd}
 use Rattle.tag_layout.specs.declared.layout.TheConstants.{MAX_DEPTH, MAX_SHIFT}
 use Rattle.tag_lines.specs.declared.order.Order.{Order}
 use Rattle.tag_model.specs.declared.world.TheConstants.{MOST_WON}
-use Rattle.tag_queue.specs.declared.fault.SetFault.{SetFault}
-use Rattle.tag_queue.specs.declared.fault.SetFault.TheVariants as faults
+use Rattle.tag_sets.specs.declared.fault.SetFault.{SetFault}
+use Rattle.tag_sets.specs.declared.fault.SetFault.TheVariants as faults
 use Rattle.tag_queue.specs.declared.queue.Options.{Options}
 use Rattle.tag_queue.specs.Opening.{MiscountsAgents, CountsAgents}
 use Rattle.tag_sets.specs.Opening.{HasRange, HasLayouts}
-use Rattle.tag_board.specs.Lones.{AreUntouched}
+use Rattle.tag_board.specs.AloneSets.{AreUntouched}
 use Rattle.tag_board.specs.Opening.{IsOpen}
 use Rattle.tag_board.specs.Wakeups.{Starts}
 use Rattle.tag_script.specs.declared.options.ScriptOptions.{ScriptOptions}
-use Rattle.tag_script.specs.Plays.{IsPlayed}
+use Rattle.tag_script.specs.Outputs.{IsRun}
 use Rattle.tag_script.specs.SharedCommands.{Scene, IsAlone, ObeysShared, AreSharedTotals}
 
 -- the options with which the tags are opened; each caller may count the most completions possible
@@ -55,4 +55,4 @@ pub record IsToldShared (o : ScriptOptions) (orders : List Order) (text : List �
   pub first : Scene
   pub allowed : IsAllowed o
   pub new : IsNewScene o first
-  pub played : IsPlayed ObeysShared AreSharedTotals first orders text
+  pub run : IsRun ObeysShared AreSharedTotals first orders text

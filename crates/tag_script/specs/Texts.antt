@@ -3,7 +3,7 @@ use Rattle.std.specs.Prelude.{ℕ, List, ◌++◌, codes}
 use Rattle.tag_lines.specs.declared.fault.FaultyLine.{FaultyLine}
 use Rattle.tag_lines.specs.Faults.{number_of_line_fault}
 use Rattle.tag_model.specs.declared.totals.Totals.{Totals}
-use Rattle.tag_queue.specs.declared.fault.SetFault.{SetFault}
+use Rattle.tag_sets.specs.declared.fault.SetFault.{SetFault}
 use Rattle.tag_script.specs.Faults.{number_of_setup_fault}
 use Rattle.tag_sets.specs.Texts.{field}
 

@@ -2,7 +2,7 @@
 ghost use Rattle.std.specs.Prelude.{◌≡◌, IfOk};
 ghost use Rattle.tag_board.specs.Boards.{IsCallerOf};
 ghost use Rattle.tag_board.specs.Looks.{Dumps};
-ghost use Rattle.tag_board.specs.Lones.{LoneDumps};
+ghost use Rattle.tag_board.specs.AloneSets.{AloneDumps};
 ghost use Rattle.tag_script.specs.SharedCommands.{ObeysBy, ObeysShared, AreSharedTotals};
 ghost use Rattle.tag_script.specs.SharedCommands.{scene_of, Both, IsNoResize, ListsTags};
 
@@ -114,7 +114,7 @@ impl<'a, W: Wait> Callers<'a, W> {
     fn dump(&mut self, caller: u32, kind: Kind) -> Result<DumpBytes, AllocError>
         requires { IsCallerOf self.old.board caller }
         ensures { IfOk result (λ bytes.
-            Both (Dumps kind) (LoneDumps kind) (scene_of self.old.board) bytes (scene_of self.new.board)) }
+            Both (Dumps kind) (AloneDumps kind) (scene_of self.old.board) bytes (scene_of self.new.board)) }
     {
         let bytes = self.board.dump(self.alloc, caller, kind)?;
         Ok(DumpBytes::new(bytes))

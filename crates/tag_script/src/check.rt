@@ -1,14 +1,14 @@
 //! Verdicts on lists of events.
 ghost use Rattle.std.specs.Prelude.{◌≡◌, ◌++◌, IfOk, IfErr, OnOk};
 ghost use Rattle.tag_script.specs.Faults.{number_of_event_fault};
-ghost use Rattle.tag_script.specs.Setups.{IsClosed, IsLayoutOf};
+ghost use Rattle.tag_script.specs.Setups.{IsOpenFault, IsLayoutOf};
 ghost use Rattle.tag_script.specs.Check.{HasCallers, IsRunVerdict, IsSetupFault, IsVerdict};
 ghost use Rattle.tag_script.specs.Check.{verdict_text, ending_of};
 ghost use Rattle.tag_model.specs.Kept.{callers_of, world_of};
 ghost use Rattle.tag_model.specs.World.{opened};
 
 use crate::ending::Ending;
-use crate::fault::Closed;
+use crate::fault::OpenFault;
 use crate::options::CheckOptions;
 use crate::text::{end_line, push_faulty, push_field, push_setup, push_totals};
 use std::alloc::{AllocError, Global};
@@ -42,27 +42,27 @@ pub fn verdict_on(alloc: Global, options: &CheckOptions, text: &[u8]) -> Result<
     };
     match open(alloc, options) {
         Ok(mut world) => Ok(run(&mut world, &events)),
-        Err(Closed::Memory) => Err(AllocError),
-        Err(Closed::Setup(fault)) => Ok(Verdict::Setup(fault)),
+        Err(OpenFault::Memory) => Err(AllocError),
+        Err(OpenFault::Setup(fault)) => Ok(Verdict::Setup(fault)),
     }
 }
 
 /// Opens the world that the options describe, with all tags free.
-fn open(alloc: Global, options: &CheckOptions) -> Result<World, Closed>
+fn open(alloc: Global, options: &CheckOptions) -> Result<World, OpenFault>
     ensures layout { IfOk result (λ world. IsLayoutOf options.now.tags options.now.shift world.layout) }
     ensures callers { IfOk result (λ world. HasCallers options.now × (callers_of world ≡ options.now.callers)) }
     ensures all_free { IfOk result (λ world. world_of world ≡ opened) }
-    ensures fault { IfErr result (IsClosed (IsSetupFault options.now)) }
+    ensures fault { IfErr result (IsOpenFault (IsSetupFault options.now)) }
 {
     let layout = match Layout::new(options.tags, options.shift) {
         Ok(layout) => layout,
-        Err(LayoutFault::DepthTooLarge) => return Err(Closed::Setup(SetFault::TotalTooLarge)),
-        Err(LayoutFault::ShiftTooLarge) => return Err(Closed::Setup(SetFault::ShiftTooLarge)),
+        Err(LayoutFault::DepthTooLarge) => return Err(OpenFault::Setup(SetFault::TotalTooLarge)),
+        Err(LayoutFault::ShiftTooLarge) => return Err(OpenFault::Setup(SetFault::ShiftTooLarge)),
     };
     match World::open(alloc, layout, options.callers) {
         Ok(world) => Ok(world),
-        Err(ModelFault::Memory) => Err(Closed::Memory),
-        Err(ModelFault::CallerCount) => Err(Closed::Setup(SetFault::CallerCount)),
+        Err(ModelFault::Memory) => Err(OpenFault::Memory),
+        Err(ModelFault::CallerCount) => Err(OpenFault::Setup(SetFault::CallerCount)),
     }
 }
 

@@ -3,7 +3,7 @@ use tag_sets::SetFault;
 
 /// Why a world was not opened.
 #[derive(Clone, Copy, Debug, PartialEq, Eq)]
-pub(crate) enum Closed {
+pub(crate) enum OpenFault {
     /// Out of memory.
     Memory,
     /// The options are not legal.

@@ -2,17 +2,17 @@
 ghost use Rattle.std.specs.Prelude.{ℕ, false, ◌≡◌, ◌^◌, ◌<◌, IfOk};
 ghost use Rattle.tag_script.specs.Commands.{busy_tags, dump_bytes};
 ghost use Rattle.tag_script.specs.Dump.{held_byte};
-ghost use Rattle.tag_script.specs.Players.{solo_of};
+ghost use Rattle.tag_script.specs.PlainCallers.{plain_world_of};
 
 use crate::answer::{BusyTags, DumpBytes};
-use crate::player::Player;
+use crate::plain_caller::PlainCaller;
 use std::alloc::AllocError;
 
-impl Player {
+impl PlainCaller {
     /// Lists the tags that the caller holds, ascending.
     pub(crate) fn busy(&mut self) -> Result<BusyTags, AllocError>
-        ensures same { solo_of self.new ≡ solo_of self.old }
-        ensures tags { IfOk result (λ tags. tags ≡ busy_tags (solo_of self.old)) }
+        ensures same { plain_world_of self.new ≡ plain_world_of self.old }
+        ensures tags { IfOk result (λ tags. tags ≡ busy_tags (plain_world_of self.old)) }
     {
         let layout = self.layout();
         let mut tags = Vec::new(self.alloc());
@@ -32,7 +32,7 @@ impl Player {
 
     /// Returns a bit for each tag, 1 if it is held, eight to a byte, the lowest tag in bit 0 of the first byte.
     pub(crate) fn dump(&self) -> Result<DumpBytes, AllocError>
-        ensures { IfOk result (λ bytes. bytes ≡ dump_bytes (solo_of self.now)) }
+        ensures { IfOk result (λ bytes. bytes ≡ dump_bytes (plain_world_of self.now)) }
     {
         let mut bytes = Vec::new(self.alloc());
         for offset in 0..self.layout().depth().div_ceil(8) {
@@ -44,7 +44,7 @@ impl Player {
     /// The bits of eight tags, the first in bit 0.
     fn held_byte(&self, offset: u32) -> u8
         requires { offset < 2 ^ 29 }
-        ensures { result ≡ held_byte (solo_of self.now) offset }
+        ensures { result ≡ held_byte (plain_world_of self.now) offset }
     {
         let mut byte = 0u8;
         for bit in 0..8 {

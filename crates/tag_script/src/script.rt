@@ -2,13 +2,13 @@
 ghost use Rattle.std.specs.Prelude.{◌≤◌, length, IfOk, IfErr, All};
 ghost use Rattle.tag_lines.specs.ScriptLines.{IsOrderOf};
 ghost use Rattle.tag_script.specs.Script.{IsTold, IsRefusedSetup, Owed, dialect_of};
-ghost use Rattle.tag_script.specs.Setups.{IsClosed};
+ghost use Rattle.tag_script.specs.Setups.{IsOpenFault};
 
 use crate::ending::Ending;
-use crate::fault::Closed;
+use crate::fault::OpenFault;
 use crate::options::ScriptOptions;
-use crate::plain::play_alone;
-use crate::shared::play_shared;
+use crate::plain::run_alone;
+use crate::shared::run_shared;
 use crate::text::{faulty_text, setup_text};
 use std::alloc::{AllocError, Global};
 use std::sync::Wait;
@@ -33,26 +33,26 @@ pub fn answer_script<W: Wait>(
     };
     match carry_out(rt, alloc, options, &orders) {
         Ok(text) => Ok((text, Ending::Done)),
-        Err(Closed::Memory) => Err(AllocError),
-        Err(Closed::Setup(fault)) => Ok((setup_text(alloc, fault)?, Ending::Refused)),
+        Err(OpenFault::Memory) => Err(AllocError),
+        Err(OpenFault::Setup(fault)) => Ok((setup_text(alloc, fault)?, Ending::Refused)),
     }
 }
 
-/// Plays the orders in the world that the options describe.
+/// Runs the orders in the world that the options describe.
 fn carry_out<W: Wait>(
     rt: &W,
     alloc: Global,
     options: &ScriptOptions,
     orders: &[Order],
-) -> Result<Vec<u8>, Closed>
+) -> Result<Vec<u8>, OpenFault>
     requires known { All (IsOrderOf (dialect_of options.now.plain) options.now.callers) orders.now }
     requires few { length orders.now ≤ MAX_INPUT }
     ensures told { IfOk result (λ text. IsTold options.now.plain options.now orders.now text.items) }
-    ensures fault { IfErr result (IsClosed (IsRefusedSetup options.now.plain options.now)) }
+    ensures fault { IfErr result (IsOpenFault (IsRefusedSetup options.now.plain options.now)) }
 {
     if options.plain {
-        play_alone(alloc, options, orders)
+        run_alone(alloc, options, orders)
     } else {
-        play_shared(rt, alloc, options, orders)
+        run_shared(rt, alloc, options, orders)
     }
 }

@@ -1,4 +1,4 @@
-//! The worlds on which scripts are played.
+//! The worlds on which scripts run.
 ghost use Rattle.std.specs.Prelude.{ℕ, ◌+◌, ◌≤◌, IfOk};
 ghost use Rattle.tag_lines.specs.declared.order.Order.{Order as Line};
 ghost use Rattle.tag_model.specs.declared.totals.Totals.{Totals as Sums};
@@ -9,7 +9,7 @@ use std::alloc::AllocError;
 use tag_lines::Order;
 use tag_model::Totals;
 
-/// A world on which a script is played. Its answers are a relation, so texts and loops are proved once for all worlds.
+/// A world on which a script runs. Its answers are a relation, so texts and loops are proved once for all worlds.
 pub trait World {
     /// The counts have room for those of this many more orders.
     ghost ready: { Self → ℕ → Type 0 };

@@ -11,7 +11,7 @@ pub mod Sweeps
 pub mod Alone
 pub mod Choices
 pub mod GetFacts
-pub mod Wholes
+pub mod AllPlaces
 pub mod BatchAlone
 pub mod Batches
 pub mod Held
@@ -23,8 +23,8 @@ pub mod SharedCalls
 pub mod SharedFacts
 pub mod OneTag
 pub mod RunFacts
-pub mod LoneFacts
-pub mod LoneCallers
+pub mod AloneFacts
+pub mod AloneCallers
 pub mod Freshness
 pub mod HeldFacts
 pub mod MapGets

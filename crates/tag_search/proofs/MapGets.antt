@@ -18,14 +18,14 @@ use Rattle.tag_search.specs.Batch.{IsBatchGet}
 use Rattle.tag_search.specs.Gains.{IsAnswer, Gains, IsInRun, GainsRun}
 use Rattle.tag_search.specs.Gets.{IsGet}
 use Rattle.tag_search.specs.Hints.{reduced}
-use Rattle.tag_search.specs.Lone.{IsAlone, Chooses, ChoosesRun}
+use Rattle.tag_search.specs.Alone.{IsAlone, Chooses, ChoosesRun}
 use Rattle.tag_search.specs.Search.{Visit}
 use Rattle.tag_search.specs.Shared.{AddsAll, AddsThrough, Makes}
 use Rattle.tag_search.specs.Visits.{Reach, visits, plain_visits, shallow_visits, plain_reach, shallow_reach}
 use Rattle.tag_search.proofs.Freshness.{search_new, batch_new}
 use Rattle.tag_search.proofs.GetFacts.{plain_within, shallow_within}
 use Rattle.tag_search.proofs.HeldFacts.{acquires_answer, acquires_run}
-use Rattle.tag_search.proofs.LoneCallers.{alone_still, own_choice, own_batch, own_posted}
+use Rattle.tag_search.proofs.AloneCallers.{alone_still, own_choice, own_batch, own_posted}
 use Rattle.tag_search.proofs.RunFacts.{WonRun, batch_wins}
 use Rattle.tag_search.proofs.SharedFacts.{Won, search_wins, visits_inside}
 

@@ -15,6 +15,6 @@ pub mod PlainLaws
 pub mod Writes
 pub mod Shared
 pub mod SharedLaws
-pub mod LoneLaws
+pub mod AloneLaws
 pub mod Gains
-pub mod Lone
+pub mod Alone

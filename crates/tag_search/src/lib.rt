@@ -1,6 +1,7 @@
 //! The search for free tags, written once over a port to the words.
 #![tactic(auto)]
 
+mod all_places;
 mod batch;
 mod choosing;
 mod hint;
@@ -15,10 +16,9 @@ mod rank;
 mod scan;
 mod search;
 mod shared;
-mod whole;
 
 pub use hint::{Hint, after_clear};
-pub use laws::{lone_batches_choose, lone_gets_choose};
+pub use laws::{alone_batches_choose, alone_gets_choose};
 pub use plain::PlainPort;
 pub use port::Port;
 pub use search::{get, get_batch, get_shallow};

@@ -10,7 +10,7 @@ ghost use Rattle.tag_search.specs.Follows.{HintFollows, BatchFollows, ClearFollo
 ghost use Rattle.tag_search.specs.Gains.{Gains, GainsRun};
 ghost use Rattle.tag_search.specs.Gets.{IsGet};
 ghost use Rattle.tag_search.specs.Hints.{reduced};
-ghost use Rattle.tag_search.specs.Lone.{IsAlone, pool_left, Chooses, ChoosesRun, LeavesPool};
+ghost use Rattle.tag_search.specs.Alone.{IsAlone, pool_left, Chooses, ChoosesRun, LeavesPool};
 ghost use Rattle.tag_search.specs.Pool.{set_aside, free_at};
 ghost use Rattle.tag_search.specs.Shared.{HasRoom, Makes};
 ghost use Rattle.tag_search.specs.Visits.{plain_visits, shallow_visits};

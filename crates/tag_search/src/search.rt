@@ -9,11 +9,11 @@ ghost use Rattle.tag_search.specs.Hints.{reduced};
 ghost use Rattle.tag_search.specs.Follows.{HintFollows, BatchFollows};
 ghost use Rattle.tag_search.specs.Visits.{plain_visits, shallow_visits};
 
+use crate::all_places::search_all_places;
 use crate::batch::search_run;
 use crate::hint::Hint;
 use crate::port::Port;
 use crate::scan::Scan;
-use crate::whole::search_whole;
 use tag_core::Spent;
 use tag_layout::Layout;
 
@@ -100,7 +100,7 @@ fn search_plain<P: Port>(port: &mut P, layout: Layout, round_robin: bool, from: 
     if round_robin || from >= layout.depth() {
         return search_scan(port, layout, round_robin, from);
     }
-    search_whole(port, layout, layout.word_of(from))
+    search_all_places(port, layout, layout.word_of(from))
 }
 
 /// The same search out of line, for round robin and for maps without tags.

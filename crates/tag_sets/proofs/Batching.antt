@@ -4,10 +4,12 @@ use Rattle.std.proofs.lemmas.List.{length-map, get_or-map}
 use Rattle.std.proofs.lemmas.Result.{on_ok_weaker}
 use Rattle.tag_core.specs.declared.shape.Shape.{Shape}
 use Rattle.tag_queue.specs.declared.agent.Agent.{Agent}
-use Rattle.tag_queue.specs.declared.fault.TagFault.{TagFault}
-use Rattle.tag_queue.specs.declared.fault.TagFault.TheVariants.{NoSuchTag, NotHeld}
+use Rattle.tag_queue.specs.declared.fault.QueueFault.{QueueFault}
+use Rattle.tag_queue.specs.declared.fault.QueueFault.TheVariants as queue_fault
 use Rattle.tag_queue.specs.Agents as queue
 use Rattle.tag_queue.specs.Batches as queue_batches
+use Rattle.tag_sets.specs.declared.fault.TagFault.{TagFault}
+use Rattle.tag_sets.specs.declared.fault.TagFault.TheVariants.{NoSuchTag, NotHeld}
 use Rattle.tag_sets.specs.declared.hand.Hand.{Hand}
 use Rattle.tag_sets.specs.declared.kind.Kind.{Kind}
 use Rattle.tag_sets.specs.declared.kind.Kind.TheVariants.{Ordinary}
@@ -16,6 +18,7 @@ use Rattle.tag_sets.specs.Sets.{number_in_set}
 use Rattle.tag_sets.specs.Hands.{agent_of, split_of, layout_of, reserved_of, IsHandOf, Holds}
 use Rattle.tag_sets.specs.Batches.{CountsTags, AreOrdinary, AreHeldOnce, numbers_of, GivesBack}
 use Rattle.tag_sets.proofs.Numbering.{ordinary_above}
+use Rattle.tag_sets.proofs.Told.{IsTold, told_fault, told_ok, told_on}
 use Rattle.tag_sets.proofs.Lifting.{InSet, less, less_like}
 use Rattle.tag_sets.proofs.Getting.{ordinary_like}
 
@@ -102,53 +105,51 @@ module _ {R : Type 0} (tags : Tags R) (hand : Hand R) (own : IsHandOf tags hand)
         set = record { changed = given; other = refl; split = refl };
       }
 
-  -- what is said of the tags by a refusal that tells of their numbers
-  pub record Refusals {A : Type 0} (r : Result A TagFault) : Type 0 where
-    pub no_such_tag : (r ≡ Err NoSuchTag) ↔ (CountsTags list × ¬ (AreOrdinary tags list))
-    pub not_held : (r ≡ Err NotHeld) ↔ (CountsTags list × AreOrdinary tags list × ¬ (AreHeldOnce hand list))
-    pub succeeds : IsOk r ↔ (CountsTags list × AreOrdinary tags list × AreHeldOnce hand list)
+  -- what a caller is told of the tags by a refusal
+  pub record Refusals {A : Type 0} (told : Result A TagFault) : Type 0 where
+    pub no_such_tag : (told ≡ Err NoSuchTag) ↔ (CountsTags list × ¬ (AreOrdinary tags list))
+    pub not_held : (told ≡ Err NotHeld) ↔ (CountsTags list × AreOrdinary tags list × ¬ (AreHeldOnce hand list))
+    pub succeeds : IsOk told ↔ (CountsTags list × AreOrdinary tags list × AreHeldOnce hand list)
 
   -- a condition on the numbers holds exactly if the same condition on the tags does
-  pub refused : {A : Type 0} (r : Result A TagFault)
-      → (r ≡ Err NoSuchTag)
+  pub refused : {A : Type 0} (r : Result A QueueFault) (told : Result A TagFault) → IsTold r told
+      → (r ≡ Err queue_fault.NoSuchTag)
       ↔ (queue_batches.CountsTags named × ¬ (queue_batches.AreTags (layout_of tags Ordinary) named))
-      → (r ≡ Err NotHeld) ↔ (queue_batches.CountsTags named × queue_batches.AreTags (layout_of tags Ordinary) named
+      → (r ≡ Err queue_fault.NotHeld)
+      ↔ (queue_batches.CountsTags named × queue_batches.AreTags (layout_of tags Ordinary) named
       × ¬ (queue_batches.AreHeldOnce (queue.caller_of hand.ordinary) named))
       → IsOk r ↔ (queue_batches.CountsTags named × queue_batches.AreHeldOnce (queue.caller_of hand.ordinary) named)
-      → Refusals r
-  refused r none not_held ok = record {
-    no_such_tag = (
+      → Refusals told
+  refused r told is none not_held ok = record {
+    no_such_tag = told_fault r told is queue_fault.NoSuchTag _ (
       λ e. let h = none.0 e in (counts_back h.0, λ o. h.1 (tags_there o)),
       λ h. none.1 (counts_there h.0, λ t. h.1 (tags_back t)),
     );
-    not_held = (
+    not_held = told_fault r told is queue_fault.NotHeld _ (
       λ e. let h = not_held.0 e in (counts_back h.0, tags_back h.1, λ o. h.2 (held_there o)),
       λ h. not_held.1 (counts_there h.0, tags_there h.1, λ t. h.2 (held_back t)),
     );
-    succeeds = (
+    succeeds = told_ok r told is _ (
       λ e. let h = ok.0 e in (counts_back h.0, tags_back (are_tags h.1), held_back h.1),
       λ h. ok.1 (counts_there h.0, held_there h.2),
     );
   }
 
-  -- what is said of the tags by a result that tells of their numbers
-  pub record Answers {A : Type 0} (agent : Agent R) (r : Result A TagFault) : Type 0 where
-    pub no_such_tag : (r ≡ Err NoSuchTag) ↔ (CountsTags list × ¬ (AreOrdinary tags list))
-    pub not_held : (r ≡ Err NotHeld) ↔ (CountsTags list × AreOrdinary tags list × ¬ (AreHeldOnce hand list))
-    pub succeeds : IsOk r ↔ (CountsTags list × AreOrdinary tags list × AreHeldOnce hand list)
-    pub gives : OnOk r (GivesBack tags list hand (record hand { ordinary = agent }))
+  -- what a caller is told of the tags by a call that gives them back
+  pub record Answers {A : Type 0} (agent : Agent R) (told : Result A TagFault) : Type 0 where
+    pub refusals : Refusals told
+    pub gives : OnOk told (GivesBack tags list hand (record hand { ordinary = agent }))
 
   -- the same of a call that gives them back
-  pub answered : {A : Type 0} (agent : Agent R) (r : Result A TagFault)
-      → (r ≡ Err NoSuchTag)
+  pub answered : {A : Type 0} (agent : Agent R) (r : Result A QueueFault) (told : Result A TagFault) → IsTold r told
+      → (r ≡ Err queue_fault.NoSuchTag)
       ↔ (queue_batches.CountsTags named × ¬ (queue_batches.AreTags (layout_of tags Ordinary) named))
-      → (r ≡ Err NotHeld) ↔ (queue_batches.CountsTags named × queue_batches.AreTags (layout_of tags Ordinary) named
+      → (r ≡ Err queue_fault.NotHeld)
+      ↔ (queue_batches.CountsTags named × queue_batches.AreTags (layout_of tags Ordinary) named
       × ¬ (queue_batches.AreHeldOnce (queue.caller_of hand.ordinary) named))
       → IsOk r ↔ (queue_batches.CountsTags named × queue_batches.AreHeldOnce (queue.caller_of hand.ordinary) named)
-      → OnOk r (queue_batches.GivesBack (layout_of tags Ordinary) named hand.ordinary agent) → Answers agent r
-  answered agent r none not_held ok gives = let told = refused r none not_held ok in record {
-    no_such_tag = told.no_such_tag;
-    not_held = told.not_held;
-    succeeds = told.succeeds;
-    gives = on_ok_weaker r (gives_back agent) gives;
+      → OnOk r (queue_batches.GivesBack (layout_of tags Ordinary) named hand.ordinary agent) → Answers agent told
+  answered agent r told is none not_held ok gives = record {
+    refusals = refused r told is none not_held ok;
+    gives = told_on r told is _ (on_ok_weaker r (gives_back agent) gives);
   }

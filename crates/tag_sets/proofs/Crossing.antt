@@ -8,7 +8,7 @@ use Rattle.wake_book.proofs.Crossing.{teller_field_sync, waiter_field_sync}
 use Rattle.tag_queue.specs.contracts.agent.Agent as agent
 use Rattle.tag_queue.proofs.Crossing.{agent_send, agent_field_send, queue_field_send, queue_field_sync}
 use Rattle.tag_sets.specs.contracts.hand.Hand as hand
-use Rattle.tag_sets.specs.contracts.rooms.Rooms as rooms
+use Rattle.tag_sets.specs.contracts.buffers.Buffers as buffers
 use Rattle.tag_sets.specs.contracts.tags.Tags as tags
 
 pub hand_field_send : (R : RattleType) → IsSend R → IsSend (hand.the_field R).row
@@ -36,14 +36,14 @@ hand_field_sync R sent = struct_sync (fields_of (hand.the_type R))
 pub hand_sync : (R : RattleType) → IsSend R → IsSync (hand.the_row R)
 hand_sync R sent = recorded_sync _ _ _ (hand.the_type R).to_one (hand_field_sync R sent)
 
-rooms_field_sync : (R : RattleType) → IsSend R → IsSync (rooms.the_field R).row
-rooms_field_sync R sent = let agents = agent_sync R sent in struct_sync (fields_of (rooms.the_type R)) (
+rooms_field_sync : (R : RattleType) → IsSend R → IsSync (buffers.the_field R).row
+rooms_field_sync R sent = let agents = agent_sync R sent in struct_sync (fields_of (buffers.the_type R)) (
   search (agents, sendable, crosses) depth 40,
   (search (agents, sendable, crosses) depth 40, (search (sendable, crosses) depth 40, tt)),
 )
 
-rooms_field_send : (R : RattleType) → IsSend R → IsSend (rooms.the_field R).row
-rooms_field_send R sent = let agents = agent_send R sent in struct_send (fields_of (rooms.the_type R)) (
+rooms_field_send : (R : RattleType) → IsSend R → IsSend (buffers.the_field R).row
+rooms_field_send R sent = let agents = agent_send R sent in struct_send (fields_of (buffers.the_type R)) (
   search (agents, sendable, crosses) depth 40,
   (search (agents, sendable, crosses) depth 40, (search (sendable, crosses) depth 40, tt)),
 )

@@ -1,6 +1,5 @@
 -- What a get of an agent is for its hand.
-use Rattle.std.proofs.Common.{◌≡◌, ℕ, zero, suc, ◌+◌, ◌<◌, ◌≤◌, ◌↔◌, inl, inr, Option, Some, None, Result, IfOk, IfSome, List, arith, refl, sym, ap, ◌∙◌, subst, ⊎_elim}
-use Rattle.std.proofs.lemmas.Result.{IfOk-weaker}
+use Rattle.std.proofs.Common.{◌≡◌, ℕ, zero, suc, ◌+◌, ◌<◌, ◌≤◌, ◌↔◌, inl, inr, Option, Some, None, IfSome, List, arith, refl, sym, ap, ◌∙◌, subst, ⊎_elim}
 use Rattle.tag_layout.specs.Layout.{Layout, word_depth}
 use Rattle.tag_core.specs.declared.caller.Caller.{Caller}
 use Rattle.tag_core.specs.declared.shape.Shape.{Shape}
@@ -245,10 +244,3 @@ module _ {R : Type 0} where
           reserved = λ tag a. low tag (to_gains answer tag a);
           set = record { changed = g; other = refl; split = refl };
         }
-
-    pub reserved_gets_on : {E : Type 0} (r : Result (Option ℕ) E)
-        → IfOk r (λ answer. queue_gets.GetsPlain (layout_of tags Reserved) answer hand.reserved agent)
-        → IfOk r (λ answer. GetsReserved tags answer hand (record hand { reserved = agent }))
-    reserved_gets_on r h = IfOk-weaker r (λ answer. queue_gets.GetsPlain (layout_of tags Reserved) answer hand.reserved
-        agent)
-        (λ answer. GetsReserved tags answer hand (record hand { reserved = agent })) reserved_gets h

@@ -1,7 +1,9 @@
 pub mod Numbering
 pub mod Lifting
+pub mod Told
 pub mod Passing
 pub mod Getting
+pub mod Standing
 pub mod Uniting
 pub mod Opening
 pub mod Batching

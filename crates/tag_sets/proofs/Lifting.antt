@@ -1,5 +1,5 @@
 -- What a change of the tags that one agent holds is for its hand.
-use Rattle.std.proofs.Common.{◌≡◌, ℕ, ◌↔◌, inl, inr, refl, sym, ap, ◌∙◌, subst, ⊎_elim}
+use Rattle.std.proofs.Common.{◌≡◌, ◌≢◌, ℕ, ◌↔◌, inl, inr, refl, sym, ap, ◌∙◌, subst, ⊎_elim}
 use Rattle.tag_queue.specs.declared.agent.Agent.{Agent}
 use Rattle.tag_queue.specs.Agents as queue
 use Rattle.tag_queue.specs.Holding as queue_holding
@@ -155,3 +155,22 @@ module _ {R : Type 0} where
           (λ (e : kind_of (split_of old) tag ≡ other_kind kind). stayed tag e h)
           (this_or_other (kind_of (split_of old) tag) kind);
     }
+
+    -- if the agent of one set keeps its tags, and their slots but for one number, so does the hand
+    pub same_but : (number : ℕ) → ((m : ℕ) → queue.Holds (agent_of old kind) m → queue.Holds (agent_of new kind) m
+        × (m ≢ number → queue.slot_of (agent_of new kind) m ≡ queue.slot_of (agent_of old kind) m))
+        → (tag : ℕ) → Holds old tag
+        → Holds new tag × (¬ (InSet old kind (λ m. m ≡ number) tag) → slot_of new tag ≡ slot_of old tag)
+    same_but number s tag h = ⊎_elim
+        (λ (e : kind_of (split_of old) tag ≡ kind). let a = s (number_in_set (split_of old) tag) (was_in tag e h) in
+        (now_out tag e a.0, λ n. slot_kept tag e (a.1 (λ is. n (e, is)))))
+        (λ (e : kind_of (split_of old) tag ≡ other_kind kind). let a = stays tag e h in (a.0, λ n. a.1))
+        (this_or_other (kind_of (split_of old) tag) kind)
+
+    -- if the agent of one set gains no tag, neither does the hand
+    pub none_new : ((m : ℕ) → queue.Holds (agent_of new kind) m → queue.Holds (agent_of old kind) m) → (tag : ℕ)
+        → Holds new tag → Holds old tag
+    none_new s tag h = ⊎_elim
+        (λ (e : kind_of (split_of old) tag ≡ kind). was_out tag e (s (number_in_set (split_of old) tag) (now_in tag e h)))
+        (λ (e : kind_of (split_of old) tag ≡ other_kind kind). stayed tag e h)
+        (this_or_other (kind_of (split_of old) tag) kind)

@@ -1,6 +1,5 @@
 -- What clears, reads, writes, posts and takes of an agent are for its hand.
-use Rattle.std.proofs.lemmas.Result.{IfOk-weaker, IfErr-weaker}
-use Rattle.std.proofs.Common.{Result, Ok, Err, OnOk, IfOk, IfErr, ◌≡◌, ◌≢◌, ℕ, ◌<◌, inl, inr, sym, ap, ◌∙◌, subst, ⊎_elim}
+use Rattle.std.proofs.Common.{◌≡◌, ◌≢◌, ℕ, ◌<◌, inl, inr, sym, ap, ◌∙◌, subst, ⊎_elim}
 use mathlib.Core.Logic.{dite}
 use mathlib.Core.Option.{some}
 use native.Mathlib.Decide.{ℕ_discrete}
@@ -8,8 +7,8 @@ use Rattle.tag_core.specs.declared.record.Record.{Record}
 use Rattle.tag_core.specs.Callers.{record_of}
 use Rattle.tag_core.specs.Records.{tag_bit}
 use Rattle.tag_queue.specs.declared.agent.Agent.{Agent}
-use Rattle.tag_queue.specs.declared.fault.TagFault.{TagFault}
-use Rattle.tag_queue.specs.declared.fault.TagFault.TheVariants.{NoSuchTag, NotPosted}
+use Rattle.tag_queue.specs.declared.fault.QueueFault.{QueueFault}
+use Rattle.tag_queue.specs.declared.fault.QueueFault.TheVariants as queue_fault
 use Rattle.tag_queue.specs.Agents as queue
 use Rattle.tag_queue.specs.Holding as queue_holding
 use Rattle.tag_queue.specs.Slots as queue_slots
@@ -18,17 +17,12 @@ use Rattle.tag_sets.specs.declared.hand.Hand.{Hand}
 use Rattle.tag_sets.specs.declared.kind.Kind.{Kind}
 use Rattle.tag_sets.specs.declared.kind.SetTag.{SetTag}
 use Rattle.tag_sets.specs.declared.tags.Tags.{Tags}
+use Rattle.tag_sets.specs.Faults.{of_queue}
 use Rattle.tag_sets.specs.Sets.{kind_of, number_in_set, other_kind}
 use Rattle.tag_sets.specs.Hands.{agent_of, split_of, slot_of, layout_of, reserved_of, IsHandOf, Changes, ChangesAt}
 use Rattle.tag_sets.specs.Clears.{Clears}
-use Rattle.tag_sets.specs.Slots.{Reads, Posts, Takes, Misses, RefusesTake}
-use Rattle.tag_sets.proofs.Lifting.{less, more, same, less_like, more_like, one_like}
-
--- two facts about the value of a result, put together
-both : {T E : Type 0} (r : Result T E) (P Q S : T → Type 0) → ((v : T) → P v → Q v → S v) → IfOk r P → IfOk r Q
-    → IfOk r S
-both (Ok v) P Q S h p q = h v p q
-both (Err e) P Q S h p q = tt
+use Rattle.tag_sets.specs.Slots.{Reads, Writes, Posts, Takes, Misses, RefusesTake}
+use Rattle.tag_sets.proofs.Lifting.{less, more, same, same_but, none_new, less_like, more_like, one_like}
 
 -- the tag is in this set and has this number there
 pub record IsAt {R : Type 0} (hand : Hand R) (tag : ℕ) (kind : Kind) (number : ℕ) : Type 0 where
@@ -94,6 +88,19 @@ module _ {R : Type 0} where
         set = changes_at (λ j m. queue_slots.Writes m value) w;
       }
 
+      pub writes_at : (value : R) → queue_slots.Writes number value (agent_of old kind) (agent_of new kind)
+          → Writes tag value old new
+      writes_at value w = let kept = same_but old new kind other split number
+          (λ m h. (holds_by (agent_of old kind) (agent_of new kind) m w.known h, w.others m h)) in record {
+            put = sym slot_now ∙ w.put;
+            others = λ one h ne. (kept one h).1
+                (λ s. ne ((one_like old kind number tag at.kind_is at.number_is one).0 s));
+            kept = λ one h. (kept one h).0;
+            none_else = none_new old new kind other split
+                (λ m h. holds_by (agent_of new kind) (agent_of old kind) m (sym w.known) h);
+            set = changes_at (λ j m. queue_slots.Writes m value) w;
+          }
+
       pub posts_at : queue_slots.Posts number (agent_of old kind) (agent_of new kind) → Posts tag old new
       posts_at p = record {
         value = p.value;
@@ -127,41 +134,11 @@ module _ {R : Type 0} where
       }
 
       -- the effect of a refused take, if the hand is unchanged whenever its agent is
-      pub refuses_at : (fault : TagFault) → (agent_of new kind ≡ agent_of old kind → new ≡ old)
-          → queue_slots.RefusesTake number fault (agent_of old kind) (agent_of new kind) → RefusesTake tag fault old new
+      pub refuses_at : (fault : QueueFault) → (agent_of new kind ≡ agent_of old kind → new ≡ old)
+          → queue_slots.RefusesTake number fault (agent_of old kind) (agent_of new kind)
+          → RefusesTake tag (of_queue fault) old new
       refuses_at fault whole r = ⊎_elim
-          (λ (a : (fault ≡ NoSuchTag) × (agent_of new kind ≡ agent_of old kind)). inl (a.0, whole a.1))
-          (λ (b : (fault ≡ NotPosted) × queue_slots.Misses number (agent_of old kind) (agent_of new kind)). inr
-          (b.0, misses_at b.1)) r
-
-      module _ (T : Type 0) (r : Result T TagFault) where
-        pub reads_on : (value : T → R) → IfOk r (λ v. queue.slot_of (agent_of old kind) number ≡ some (value v))
-            → IfOk r (λ v. queue_slots.Writes number (value v) (agent_of old kind) (agent_of new kind))
-            → IfOk r (λ v. Reads tag (value v) old new)
-        reads_on value found w = both r (λ v. queue.slot_of (agent_of old kind) number ≡ some (value v))
-            (λ v. queue_slots.Writes number (value v) (agent_of old kind) (agent_of new kind))
-            (λ v. Reads tag (value v) old new) (λ v a b. reads_at (value v) a b) found w
-
-        pub posts_on : OnOk r (queue_slots.Posts number (agent_of old kind) (agent_of new kind))
-            → OnOk r (Posts tag old new)
-        posts_on h = IfOk-weaker r (λ _. queue_slots.Posts number (agent_of old kind) (agent_of new kind))
-            (λ _. Posts tag old new) (λ _ p. posts_at p) h
-
-        pub takes_on : OnOk r (queue_slots.Takes number (agent_of old kind) (agent_of new kind))
-            → OnOk r (Takes tag old new)
-        takes_on h = IfOk-weaker r (λ _. queue_slots.Takes number (agent_of old kind) (agent_of new kind))
-            (λ _. Takes tag old new) (λ _ p. takes_at p) h
-
-        pub refuses_on : (agent_of new kind ≡ agent_of old kind → new ≡ old)
-            → IfErr r (λ fault. queue_slots.RefusesTake number fault (agent_of old kind) (agent_of new kind))
-            → IfErr r (λ fault. RefusesTake tag fault old new)
-        refuses_on whole h = IfErr-weaker r (λ fault. queue_slots.RefusesTake number fault (agent_of old kind)
-            (agent_of new kind))
-            (λ fault. RefusesTake tag fault old new) (λ fault p. refuses_at fault whole p) h
-
-        pub clears_on : (tags : Tags R) → OnOk r
-            (queue_clears.Puts (layout_of tags kind) number (agent_of old kind) (agent_of new kind))
-            → OnOk r (Clears tags tag old new)
-        clears_on tags h = IfOk-weaker r (λ _. queue_clears.Puts (layout_of tags kind) number (agent_of old kind)
-            (agent_of new kind))
-            (λ _. Clears tags tag old new) (λ _ p. clears_at tags p) h
+          (λ (a : (fault ≡ queue_fault.NoSuchTag) × (agent_of new kind ≡ agent_of old kind)). inl
+          (ap of_queue a.0, whole a.1))
+          (λ (b : (fault ≡ queue_fault.NotPosted) × queue_slots.Misses number (agent_of old kind) (agent_of new kind)).
+          inr (ap of_queue b.0, misses_at b.1)) r

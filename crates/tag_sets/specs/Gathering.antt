@@ -22,8 +22,8 @@ abbrev pub AreDistinct : List ℕ → Type 0
 AreDistinct numbers = AllPairs (λ a b. a ≢ b) numbers
 
 -- the list has the same number at both indexes
-abbrev pub AreTwins : List ℕ → ℕ → ℕ → Type 0
-AreTwins numbers first second = (first < second) × (second < length numbers)
+abbrev pub HaveSameNumber : List ℕ → ℕ → ℕ → Type 0
+HaveSameNumber numbers first second = (first < second) × (second < length numbers)
     × (slice_index numbers first ≡ slice_index numbers second)
 
 -- the sums over both sets

@@ -1,8 +1,8 @@
 -- The effect of reads and writes of slots, posts and takes on the hand that makes them.
 use Rattle.std.specs.Prelude.{◌≡◌, ◌≢◌, ◌⊎◌, ℕ}
 use mathlib.Core.Option.{some}
-use Rattle.tag_queue.specs.declared.fault.TagFault.{TagFault}
-use Rattle.tag_queue.specs.declared.fault.TagFault.TheVariants.{NoSuchTag, NotPosted}
+use Rattle.tag_sets.specs.declared.fault.TagFault.{TagFault}
+use Rattle.tag_sets.specs.declared.fault.TagFault.TheVariants.{NoSuchTag, NotPosted}
 use Rattle.tag_queue.specs.Slots as queue
 use Rattle.tag_sets.specs.declared.hand.Hand.{Hand}
 use Rattle.tag_sets.specs.Hands.{Holds, slot_of, ChangesAt}

@@ -11,6 +11,8 @@ use step_ledger::{GatherCause, least_missing};
 use tag_model::Totals;
 use tag_queue::{Queue, QueueTotals};
 
+mod hand_count;
+
 /// The reason why `gather` failed, with the tags and the hands that were passed in.
 #[derive(Drop)]
 pub struct TagsGatherFault<R> {
@@ -31,7 +33,7 @@ impl<R: Copy> Tags<R> {
         ensures missing { IfErr result (λ fault. IsCauseOf (numbers_of hands.items) (hands_of tags) fault.cause) }
         ensures err { IfErr result (λ fault. (fault.tags ≡ tags) × (fault.hands ≡ hands)) }
     {
-        if let Some(number) = least_missing(hands.as_slice(), tags.rooms.count) {
+        if let Some(number) = least_missing(hands.as_slice(), tags.buffers.count) {
             return Err(TagsGatherFault {
                 cause: GatherCause::Missing(number),
                 tags,
@@ -47,14 +49,14 @@ impl<R: Copy> Tags<R> {
         requires all { HasAll (numbers_of hands.items) (hands_of self) }
         ensures { IsGathered self hands.items result }
     {
-        let mut hands = self.tell_few(hands);
+        let mut hands = self.assert_hand_count(hands);
         let Tags {
             reserved,
             ordinary,
-            rooms,
+            buffers,
             ..
         } = self;
-        let (agents, others) = rooms.part(&mut hands);
+        let (agents, others) = buffers.part(&mut hands);
         let Ok(special) = Queue::gather(reserved, agents) else {
             unreachable!()
         };
@@ -66,6 +68,19 @@ impl<R: Copy> Tags<R> {
             book: totals.book,
             groups: totals.groups,
         }
+    }
+
+    /// Drops both sets with the values in their slots, without totals.
+    pub fn discard(self) {
+        let Tags {
+            reserved,
+            ordinary,
+            buffers,
+            ..
+        } = self;
+        drop(reserved);
+        drop(ordinary);
+        drop(buffers);
     }
 }
 

@@ -1,12 +1,14 @@
 //! Gets: the calls that take tags.
-ghost use Rattle.std.specs.Prelude.{◌≡◌, ◌+◌, ◌<◌, ◌≤◌, ◌↔◌, false, IfOk, IfErr, OnErr, IsOk, IsTrue, None};
-ghost use Rattle.tag_sets.specs.Hands.{reserved_of, least_of, IsHandOf, HasRoom, hint_of, step_count};
-ghost use Rattle.tag_sets.specs.Gets.{Gets, GetsReserved, GetsShallow, GetsBatch, MiscountsBatch, most_steps, most_reserved_steps};
+ghost use Rattle.std.specs.Prelude.{◌≡◌, ◌+◌, ◌<◌, ◌≤◌, ◌↔◌, false, IfOk, IfErr, OnErr, IsOk, IsTrue, None, IsSome};
+ghost use Rattle.tag_sets.specs.Hands.{reserved_of, least_of, IsHandOf, HasRoom, hint_of, step_count, total_of, standing_of};
+ghost use Rattle.tag_sets.specs.Gets.{Gets, GetsReserved, GetsShallow, GetsBatch, MiscountsBatch, most_steps, most_reserved_steps, BlockingGets};
 ghost use Rattle.tag_sets.specs.declared.kind.Kind.TheVariants.{Ordinary, Reserved};
+ghost use Rattle.tag_sets.specs.Waits.{WaitsFor};
 
+use crate::fault::TagFault;
 use crate::hand::Hand;
 use crate::tags::Tags;
-use tag_queue::TagFault;
+use std::sync::Wait;
 
 impl<R: Copy> Tags<R> {
     /// Takes a free ordinary tag, which this hand alone holds until it clears or posts the tag. `None` means that each
@@ -44,7 +46,7 @@ impl<R: Copy> Tags<R> {
         if self.reserved_count == 0 {
             return Err(TagFault::NoReserved);
         }
-        self.reserved.get(&mut hand.reserved)
+        Ok(self.reserved.get(&mut hand.reserved)?)
     }
 
     /// Like `get`, but limited to `depth` of the ordinary tags, which are shared out among the words in proportion. A
@@ -92,5 +94,26 @@ impl<R: Copy> Tags<R> {
             return Ok(None);
         };
         Ok(Some((self.reserved_count + first, won)))
+    }
+
+    /// Takes a free ordinary tag like `get`, and waits as long as it finds none. Nothing promises that it returns.
+    /// `NoSuchTag` means that there are no ordinary tags, `Waiting` that the hand is already in a wait group, `Spent`
+    /// that its life in the ordinary set is used up.
+    pub fn get_blocking<W: Wait>(&self, rt: &W, hand: &mut Hand<R>) -> Result<u32, TagFault>
+        requires hand { IsHandOf self.now hand.old }
+        ensures hand { IsHandOf self.now hand.new }
+
+        // The causes are checked in this order.
+        ensures no_such_tag { (result ≡ Err TagFault.NoSuchTag) ↔ (total_of self.now ≡ reserved_of self.now) }
+        ensures waiting { (result ≡ Err TagFault.Waiting)
+            ↔ ((reserved_of self.now < total_of self.now) × IsSome (standing_of hand.old)) }
+        ensures spent { (result ≡ Err TagFault.Spent)
+            ↔ ((reserved_of self.now < total_of self.now) × (standing_of hand.old ≡ None) × ¬ (HasRoom hand.old Ordinary 1)) }
+        ensures gets { IfOk result (λ tag. BlockingGets self.now tag hand.old hand.new) }
+        ensures waits { IfOk result (λ tag. WaitsFor self.now tag hand.old hand.new) }
+        ensures err { OnErr result (hand.new ≡ hand.old) }
+    {
+        let number = self.ordinary.get_blocking(rt, &mut hand.ordinary)?;
+        Ok(self.reserved_count + number)
     }
 }

@@ -1,6 +1,11 @@
-//! The set to which a tag belongs, and its number in that set.
-ghost use Rattle.std.specs.Prelude.{◌≡◌};
+//! The two sets, and which of them a tag is in.
+ghost use Rattle.std.specs.Prelude.{◌≡◌, ◌<◌, ◌≤◌, ◌↔◌, IfOk, IsOk};
 ghost use Rattle.tag_sets.specs.Sets.{kind_of, number_in_set};
+ghost use Rattle.tag_sets.specs.Hands.{reserved_of, total_of, Holds, IsHandOf};
+
+use crate::fault::TagFault;
+use crate::hand::Hand;
+use crate::tags::Tags;
 
 /// The two kinds of tags: ordinary ones, and those reserved for requests that must not wait behind others.
 #[derive(Clone, Copy, Debug, PartialEq, Eq)]
@@ -37,5 +42,49 @@ impl SetTag {
                 number: tag - reserved,
             }
         }
+    }
+}
+
+impl<R: Copy> Tags<R> {
+    /// Returns the set of a tag. `NoSuchTag` means that no tag has this number. This makes no step and needs no hand.
+    #[inline]
+    pub fn find(&self, tag: u32) -> Result<Kind, TagFault>
+        ensures known { IsOk result ↔ (tag < total_of self.now) }
+        ensures no_such_tag { (result ≡ Err TagFault.NoSuchTag) ↔ (total_of self.now ≤ tag) }
+        ensures kind { IfOk result (λ kind. kind ≡ kind_of (reserved_of self.now) tag) }
+    {
+        let SetTag { kind, number } = SetTag::of(tag, self.reserved_count);
+        match kind {
+            Kind::Ordinary if number >= self.ordinary_layout.depth() => Err(TagFault::NoSuchTag),
+            _ => Ok(kind),
+        }
+    }
+
+    /// Returns the set of a held tag. It is refused as `clear` is: `NoSuchTag`, `NotHeld`. This makes no step.
+    #[inline]
+    pub fn find_held(&self, hand: &Hand<R>, tag: u32) -> Result<Kind, TagFault>
+        requires hand { IsHandOf self.now hand.now }
+        ensures no_such_tag { (result ≡ Err TagFault.NoSuchTag) ↔ (total_of self.now ≤ tag) }
+        ensures not_held { (result ≡ Err TagFault.NotHeld) ↔ ((tag < total_of self.now) × ¬ (Holds hand.now tag)) }
+        ensures succeeds { IsOk result ↔ Holds hand.now tag }
+        ensures kind { IfOk result (λ kind. kind ≡ kind_of (reserved_of self.now) tag) }
+    {
+        let SetTag { kind, number } = SetTag::of(tag, self.reserved_count);
+        match kind {
+            Kind::Ordinary => {
+                if number >= self.ordinary_layout.depth() {
+                    return Err(TagFault::NoSuchTag);
+                }
+                if !hand.ordinary.holds(number) {
+                    return Err(TagFault::NotHeld);
+                }
+            }
+            Kind::Reserved => {
+                if !hand.reserved.holds(number) {
+                    return Err(TagFault::NotHeld);
+                }
+            }
+        }
+        Ok(kind)
     }
 }

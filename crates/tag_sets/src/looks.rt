@@ -11,6 +11,11 @@ use crate::kind::Kind;
 use crate::tags::Tags;
 use tag_layout::Layout;
 
+mod busy;
+mod dump;
+mod marks;
+pub(crate) mod texts;
+
 impl<R> Tags<R> {
     /// Returns the layout of a set: how its tags are arranged in words.
     pub(crate) fn layout(&self, kind: Kind) -> Layout

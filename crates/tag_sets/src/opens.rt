@@ -8,12 +8,15 @@ ghost use Rattle.tag_sets.specs.Hands.{layout_of, reserved_of, total_of};
 ghost use Rattle.tag_sets.specs.Opening.{HasRange, HasLayouts, AreParts, IsOpen};
 ghost use Rattle.tag_sets.specs.declared.kind.Kind.TheVariants.{Ordinary, Reserved};
 
+use crate::buffers::Buffers;
+use crate::fault::SetFault;
 use crate::hand::Hand;
-use crate::rooms::Rooms;
 use crate::tags::Tags;
 use std::alloc::{AllocError, Global};
 use tag_layout::{Layout, MAX_DEPTH};
-use tag_queue::{Agent, Options, Queue, SetFault};
+use tag_queue::{Agent, Options, Queue};
+
+mod placing;
 
 impl<R: Copy> Tags<R> {
     /// Opens two sets of `total` free tags together, at most 10,240, of which the first `reserved` are the reserved
@@ -63,7 +66,7 @@ impl<R: Copy> Tags<R> {
         let Ok(hands) = join(alloc, reserved, agents, ordinary_agents) else {
             return Err(SetFault::Memory);
         };
-        let Ok(rooms) = Rooms::open(alloc, options.callers) else {
+        let Ok(buffers) = Buffers::open(alloc, options.callers) else {
             return Err(SetFault::Memory);
         };
         let tags = Tags {
@@ -72,7 +75,7 @@ impl<R: Copy> Tags<R> {
             reserved_count: reserved,
             reserved_layout: lay_out(reserved, options),
             ordinary_layout: lay_out(total - reserved, options),
-            rooms,
+            buffers,
         };
         Ok((tags, hands))
     }

@@ -14,6 +14,8 @@ use step_ledger::least_missing;
 use tag_layout::MAX_DEPTH;
 use tag_queue::ResizeCause;
 
+mod one_set;
+
 /// The reason why `resize` failed, with the tags and the hands that were passed in.
 #[derive(Drop)]
 pub struct TagsResizeFault<R> {
@@ -54,7 +56,7 @@ impl<R: Copy> Tags<R> {
         ensures err { IfErr result (λ fault. AreSame tags fault.tags × AreUnchanged hands.items fault.hands.items) }
         ensures own { IfErr result (λ fault. All (IsHandOf fault.tags) fault.hands.items) }
     {
-        let mut hands = tags.tell_few(hands);
+        let mut hands = tags.assert_hand_count(hands);
         let (tags, obstacle) = tags.obstacle(&mut hands, total);
         match obstacle {
             None => tags.go_on(alloc, hands, total),
@@ -73,7 +75,7 @@ impl<R: Copy> Tags<R> {
             (IsRefusedFor self hands.old.items total) }
         ensures balance { HasMap self hands.old.items total → BalanceInBoth hands.old.items }
     {
-        if let Some(number) = least_missing(hands.as_slice(), self.rooms.count) {
+        if let Some(number) = least_missing(hands.as_slice(), self.buffers.count) {
             return (self, Some(ResizeCause::Missing(number)));
         }
         let reserved = self.reserved_count;

@@ -4,10 +4,10 @@ ghost use mathlib.Core.Option.{some};
 ghost use Rattle.tag_sets.specs.Hands.{total_of, IsHandOf, Holds, slot_of};
 ghost use Rattle.tag_sets.specs.Slots.{Reads, Writes, Posts, Takes, RefusesTake};
 
+use crate::fault::TagFault;
 use crate::hand::Hand;
 use crate::kind::{Kind, SetTag};
 use crate::tags::Tags;
-use tag_queue::TagFault;
 
 impl<R: Copy> Tags<R> {
     /// Returns the value in the slot of a held tag. `NoSuchTag` means that the number is not below the total, `NotHeld`
@@ -25,8 +25,8 @@ impl<R: Copy> Tags<R> {
     {
         let SetTag { kind, number } = SetTag::of(tag, self.reserved_count);
         match kind {
-            Kind::Ordinary => self.ordinary.read(&mut hand.ordinary, number),
-            Kind::Reserved => self.reserved.read(&mut hand.reserved, number),
+            Kind::Ordinary => Ok(self.ordinary.read(&mut hand.ordinary, number)?),
+            Kind::Reserved => Ok(self.reserved.read(&mut hand.reserved, number)?),
         }
     }
 
@@ -45,8 +45,8 @@ impl<R: Copy> Tags<R> {
     {
         let SetTag { kind, number } = SetTag::of(tag, self.reserved_count);
         match kind {
-            Kind::Ordinary => self.ordinary.write(&mut hand.ordinary, number, value),
-            Kind::Reserved => self.reserved.write(&mut hand.reserved, number, value),
+            Kind::Ordinary => Ok(self.ordinary.write(&mut hand.ordinary, number, value)?),
+            Kind::Reserved => Ok(self.reserved.write(&mut hand.reserved, number, value)?),
         }
     }
 
@@ -65,8 +65,8 @@ impl<R: Copy> Tags<R> {
     {
         let SetTag { kind, number } = SetTag::of(tag, self.reserved_count);
         match kind {
-            Kind::Ordinary => self.ordinary.post(&mut hand.ordinary, number),
-            Kind::Reserved => self.reserved.post(&mut hand.reserved, number),
+            Kind::Ordinary => Ok(self.ordinary.post(&mut hand.ordinary, number)?),
+            Kind::Reserved => Ok(self.reserved.post(&mut hand.reserved, number)?),
         }
     }
 
@@ -82,8 +82,40 @@ impl<R: Copy> Tags<R> {
     {
         let SetTag { kind, number } = SetTag::of(tag, self.reserved_count);
         match kind {
-            Kind::Ordinary => self.ordinary.take(&mut hand.ordinary, number),
-            Kind::Reserved => self.reserved.take(&mut hand.reserved, number),
+            Kind::Ordinary => Ok(self.ordinary.take(&mut hand.ordinary, number)?),
+            Kind::Reserved => Ok(self.reserved.take(&mut hand.reserved, number)?),
+        }
+    }
+
+    /// Returns the value in the slot of a tag that the hand holds.
+    #[inline]
+    pub fn read_held(&self, hand: &mut Hand<R>, tag: u32) -> R
+        requires hand { IsHandOf self.now hand.old }
+        requires held { Holds hand.old tag }
+        ensures hand { IsHandOf self.now hand.new }
+        ensures value { slot_of hand.old tag ≡ some result }
+        ensures reads { Reads tag result hand.old hand.new }
+    {
+        let SetTag { kind, number } = SetTag::of(tag, self.reserved_count);
+        match kind {
+            Kind::Ordinary => self.ordinary.read_held(&mut hand.ordinary, number),
+            Kind::Reserved => self.reserved.read_held(&mut hand.reserved, number),
+        }
+    }
+
+    /// Writes the slot of a tag that the hand holds, and returns its former value.
+    #[inline]
+    pub fn write_held(&self, hand: &mut Hand<R>, tag: u32, value: R) -> R
+        requires hand { IsHandOf self.now hand.old }
+        requires held { Holds hand.old tag }
+        ensures hand { IsHandOf self.now hand.new }
+        ensures former { slot_of hand.old tag ≡ some result }
+        ensures writes { Writes tag value hand.old hand.new }
+    {
+        let SetTag { kind, number } = SetTag::of(tag, self.reserved_count);
+        match kind {
+            Kind::Ordinary => self.ordinary.write_held(&mut hand.ordinary, number, value),
+            Kind::Reserved => self.reserved.write_held(&mut hand.reserved, number, value),
         }
     }
 }

@@ -3,7 +3,7 @@ ghost use Rattle.std.specs.Prelude.{◌≡◌, ◌+◌, ◌≤◌};
 ghost use Rattle.tag_layout.specs.declared.layout.TheConstants.{MAX_DEPTH};
 ghost use Rattle.tag_queue.specs.Agents.{layout_of, agents_of};
 
-use crate::rooms::Rooms;
+use crate::buffers::Buffers;
 use tag_layout::Layout;
 use tag_queue::Queue;
 
@@ -19,9 +19,9 @@ pub struct Tags<R> {
     pub(crate) reserved_layout: Layout,
     pub(crate) ordinary_layout: Layout,
     /// Room for the agents of the hands, for calls that take these apart.
-    pub(crate) rooms: Rooms<R>,
+    pub(crate) buffers: Buffers<R>,
     ghost reserved_is: { (layout_of reserved).depth ≡ reserved_count },
     ghost fits: { reserved_count + (layout_of ordinary).depth ≤ MAX_DEPTH },
     ghost laid_out: { (layout_of reserved ≡ reserved_layout) × (layout_of ordinary ≡ ordinary_layout) },
-    ghost as_many: { (agents_of reserved ≡ rooms.count) × (agents_of ordinary ≡ rooms.count) },
+    ghost as_many: { (agents_of reserved ≡ buffers.count) × (agents_of ordinary ≡ buffers.count) },
 }

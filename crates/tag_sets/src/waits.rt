@@ -1,19 +1,19 @@
 //! Waits for an ordinary tag.
-ghost use Rattle.std.specs.Prelude.{◌≡◌, ◌+◌, ◌≤◌, ◌<◌, ◌↔◌, ◌∷◌, IfOk, IfErr, IfSome, IfNone, IsOk, IsSome, OnErr, None};
+ghost use Rattle.std.specs.Prelude.{◌≡◌, ◌≤◌, ◌<◌, ◌↔◌, ◌∷◌, IfOk, IfErr, IfSome, IfNone, IsOk, IsSome, None};
 ghost use Rattle.wake_book.specs.Waits.{active_at, index_at};
 ghost use Rattle.wake_book.specs.Book.{counted_by};
 ghost use Rattle.wake_book.specs.declared.steps.BookStep.TheVariants.{LookCompletions, LookWakeups};
 ghost use Rattle.wake_book.specs.declared.steps.GroupStep.TheVariants.{Look};
 ghost use Rattle.tag_queue.specs.Agents.{teller_of};
-ghost use Rattle.tag_sets.specs.Hands.{reserved_of, total_of, IsHandOf, HasRoom, agent_of, standing_of, wait_index_of, book_steps, group_steps};
-ghost use Rattle.tag_sets.specs.Gets.{BlockingGets};
-ghost use Rattle.tag_sets.specs.Waits.{Enters, Leaves, StandsOn, Stays, WaitsFor};
+ghost use Rattle.tag_sets.specs.Hands.{IsHandOf, agent_of, standing_of, wait_index_of, book_steps, group_steps};
+ghost use Rattle.tag_sets.specs.Waits.{Enters, Leaves, StandsOn, Stays};
 ghost use Rattle.tag_sets.specs.declared.kind.Kind.TheVariants.{Ordinary};
 
+use crate::fault::TagFault;
 use crate::hand::Hand;
 use crate::tags::Tags;
 use std::sync::Wait;
-use tag_queue::{TagFault, Wakes};
+use tag_queue::Wakes;
 use wake_book::Left;
 
 impl<R: Copy> Tags<R> {
@@ -26,7 +26,7 @@ impl<R: Copy> Tags<R> {
         ensures enters { IfOk result (λ group. Enters group hand.old hand.new) }
         ensures err { IfErr result (λ fault. (fault ≡ TagFault.Waiting) × (hand.new ≡ hand.old)) }
     {
-        self.ordinary.prepare_wait(&mut hand.ordinary)
+        Ok(self.ordinary.prepare_wait(&mut hand.ordinary)?)
     }
 
     /// Leaves the hand's wait group, and returns `Woken` if it used a grant there, `Unwoken` if it found none.
@@ -40,7 +40,7 @@ impl<R: Copy> Tags<R> {
         ensures next { wait_index_of hand.new ≡ wait_index_of hand.old }
         ensures err { IfErr result (λ fault. (fault ≡ TagFault.NotWaiting) × (hand.new ≡ hand.old)) }
     {
-        self.ordinary.finish_wait(rt, &mut hand.ordinary)
+        Ok(self.ordinary.finish_wait(rt, &mut hand.ordinary)?)
     }
 
     /// Like `finish_wait`, but makes one try only, and so needs no `rt`. `None` means that the group's word changed
@@ -54,7 +54,7 @@ impl<R: Copy> Tags<R> {
         ensures stays { IfOk result (λ answer. IfNone answer (StandsOn hand.old hand.new)) }
         ensures err { IfErr result (λ fault. (fault ≡ TagFault.NotWaiting) × (hand.new ≡ hand.old)) }
     {
-        self.ordinary.try_finish_wait(&mut hand.ordinary)
+        Ok(self.ordinary.try_finish_wait(&mut hand.ordinary)?)
     }
 
     /// Loads the counts of the ordinary set and the state of its wait groups, in four loads at different moments.
@@ -84,26 +84,5 @@ impl<R: Copy> Tags<R> {
         ensures same { Stays hand.old hand.new }
     {
         self.ordinary.active(&mut hand.ordinary)
-    }
-
-    /// Takes a free ordinary tag like `get`, and waits as long as it finds none. Nothing promises that it returns.
-    /// `NoSuchTag` means that there are no ordinary tags, `Waiting` that the hand is already in a wait group, `Spent`
-    /// that its life in the ordinary set is used up.
-    pub fn get_blocking<W: Wait>(&self, rt: &W, hand: &mut Hand<R>) -> Result<u32, TagFault>
-        requires hand { IsHandOf self.now hand.old }
-        ensures hand { IsHandOf self.now hand.new }
-
-        // The causes are checked in this order.
-        ensures no_such_tag { (result ≡ Err TagFault.NoSuchTag) ↔ (total_of self.now ≡ reserved_of self.now) }
-        ensures waiting { (result ≡ Err TagFault.Waiting)
-            ↔ ((reserved_of self.now < total_of self.now) × IsSome (standing_of hand.old)) }
-        ensures spent { (result ≡ Err TagFault.Spent)
-            ↔ ((reserved_of self.now < total_of self.now) × (standing_of hand.old ≡ None) × ¬ (HasRoom hand.old Ordinary 1)) }
-        ensures gets { IfOk result (λ tag. BlockingGets self.now tag hand.old hand.new) }
-        ensures waits { IfOk result (λ tag. WaitsFor self.now tag hand.old hand.new) }
-        ensures err { OnErr result (hand.new ≡ hand.old) }
-    {
-        let number = self.ordinary.get_blocking(rt, &mut hand.ordinary)?;
-        Ok(self.reserved_count + number)
     }
 }

@@ -1,11 +1,12 @@
 //! Worked examples, refusals, want of memory, and threads.
+mod allocator;
 mod answers;
+mod cache;
 mod calls;
 mod crowd;
 mod jobs;
 mod queue;
 mod sets;
-mod shared;
 mod stage;
 mod steps;
 mod tally;

@@ -7,10 +7,10 @@ use Rattle.clap.specs.declared.error.kind.ErrorKind.{ErrorKind}
 use Rattle.clap.specs.declared.error.kind.ErrorKind.TheVariants.{OutOfMemory}
 use Rattle.clap.specs.declared.parser.matches.ArgMatches.{ArgMatches}
 use Rattle.tag_runs.specs.declared.fault.RunFault.TheVariants.{Memory, Read, Write, TooLong}
-use Rattle.tagplay.specs.Choices.{Chooses, IsChosen}
+use Rattle.tagplay.specs.Subcommands.{Chooses, IsChosen}
 use Rattle.tagplay.specs.CommandLine.{command_line, EntersOne}
 use Rattle.tagplay.specs.Status.{IsStopFor, StopsBefore}
-use Rattle.tagplay.specs.declared.choice.Choice.{Choice}
+use Rattle.tagplay.specs.declared.subcommand.Subcommand.{Subcommand}
 use Rattle.tagplay.specs.declared.stop.Stop.{Stop}
 use Rattle.tagplay.specs.declared.stop.Stop.TheVariants.{CommandLine, Run}
 use Rattle.tagplay.proofs.Entering.{enters}
@@ -34,12 +34,12 @@ pub rows_by : (app : App) (words : List Text) (m : ArgMatches) → app ≡ comma
     → subcommand_rows_of m ≡ subcommand_of command_line words
 rows_by app words m is matches = (matches (ap is_simple is ∙ is_plain)).1 ∙ ap (λ (a : App). subcommand_of a words) is
 
-pub chooses : (words : List Text) (entered : Option (Text × List Row)) (choice : Choice)
-    → fault_of command_line words ≡ [] → entered ≡ subcommand_of command_line words → IsChosen entered choice
-    → Chooses words choice
-chooses words entered choice faultless is chosen = record {
+pub chooses : (words : List Text) (entered : Option (Text × List Row)) (subcommand : Subcommand)
+    → fault_of command_line words ≡ [] → entered ≡ subcommand_of command_line words → IsChosen entered subcommand
+    → Chooses words subcommand
+chooses words entered subcommand faultless is chosen = record {
   faultless = faultless;
-  chosen = subst (λ (e : Option (Text × List Row)). IsChosen e choice) is chosen;
+  chosen = subst (λ (e : Option (Text × List Row)). IsChosen e subcommand) is chosen;
 }
 
 -- one of the three subcommands is entered

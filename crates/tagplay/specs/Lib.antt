@@ -1,4 +1,4 @@
-pub mod Choices
+pub mod Subcommands
 pub mod CommandLine
 pub mod Options
 pub mod Status

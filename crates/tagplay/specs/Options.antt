@@ -2,7 +2,7 @@
 use Rattle.std.specs.Prelude.{◌≡◌, ℕ, ◌<◌, ◌^◌, Bool, true, false, List, Option, Some, None, codes}
 use Rattle.std.specs.Str.Parse.{IsNumeral, digits_value, without_leading_plus}
 use Rattle.clap.specs.Words.{Row, Text, one_of}
-use Rattle.tag_runs.specs.declared.play_options.PlayOptions.{PlayOptions}
+use Rattle.loop_device.specs.declared.setup.Setup.{Setup}
 use Rattle.tag_script.specs.declared.options.CheckOptions.{CheckOptions}
 use Rattle.tag_script.specs.declared.options.ScriptOptions.{ScriptOptions}
 
@@ -46,8 +46,8 @@ pub record AreCheckOptions (rows : List Row) (o : CheckOptions) : Type 0 where
   pub callers : IsNumber 32 rows (codes "callers") 1 o.callers
 
 -- the options of `play`
-pub record ArePlayOptions (rows : List Row) (o : PlayOptions) : Type 0 where
-  pub tags : IsNumber 32 rows (codes "tags") 0 o.tags
+pub record ArePlayOptions (rows : List Row) (o : Setup) : Type 0 where
+  pub tags : IsNumber 32 rows (codes "tags") 0 o.total
   pub reserved : IsNumber 32 rows (codes "reserved") 0 o.reserved
   pub shift : IsOptional 32 rows (codes "shift") o.shift
   pub submitters : IsNumber 32 rows (codes "submitters") 1 o.submitters

@@ -4,13 +4,13 @@ ghost use Rattle.clap.specs.Words.{kind_of};
 ghost use Rattle.tag_runs.specs.Input.{StopsReading};
 ghost use Rattle.tag_runs.specs.Runs.{HasOutput, WritesOutput};
 ghost use Rattle.tag_runs.specs.declared.fault.RunFault.{RunFault as Fault};
-ghost use Rattle.tagplay.specs.Choices.{owed_by, Chooses};
+ghost use Rattle.tagplay.specs.Subcommands.{owed_by, Chooses};
 ghost use Rattle.tagplay.specs.Status.{is_read_stop, IsRefused, IsStopFor, StopsBefore};
-ghost use Rattle.tagplay.specs.declared.choice.Choice.{Choice as Chosen};
+ghost use Rattle.tagplay.specs.declared.subcommand.Subcommand.{Subcommand as Chosen};
 
-use crate::choice::Choice;
 use crate::options;
 use crate::stop::Stop;
+use crate::subcommand::Subcommand;
 use clap::Error;
 use clap::error::ErrorKind;
 use std::convert::AsStr;
@@ -31,29 +31,29 @@ pub(crate) fn words<R: AllocGlobal + Env>(rt: &R) -> Result<Vec<String>, RunFaul
 }
 
 /// Runs the subcommand that `words` name. Help goes to standard output, a usage error to standard error.
-pub(crate) fn play<
+pub(crate) fn run<
     P: AllocGlobal + Print + Eprint + Threads + Wait + Sync,
     S: AsStr,
     R: Source,
     W: Write,
 >(rt: &P, words: &[S], reader: &mut R, writer: &mut W) -> Result<Ending, Stop>
-    ensures written { IfOk result (λ ending. (choice : Chosen) × Chooses (map S.text words.now) choice
-        × WritesOutput (owed_by choice) (R.remaining reader.old) (W.contents writer.old)
+    ensures written { IfOk result (λ ending. (subcommand : Chosen) × Chooses (map S.text words.now) subcommand
+        × WritesOutput (owed_by subcommand) (R.remaining reader.old) (W.contents writer.old)
         (W.contents writer.new) ending) }
     ensures refused { (status : ℕ) → IsErrOf result (Stop.CommandLine status) → IsRefused (map S.text words.now) status
         × (reader.new ≡ reader.old) × (writer.new ≡ writer.old) }
     ensures begun { (fault : Fault) → IsErrOf result (Stop.Run fault) → fault ≢ RunFault.Memory
-        → (choice : Chosen) × Chooses (map S.text words.now) choice }
+        → (subcommand : Chosen) × Chooses (map S.text words.now) subcommand }
     ensures stopped { (fault : Fault) → IsErrOf result (Stop.Run fault)
         → StopsReading fault (R.remaining reader.old) (R.remaining reader.new) }
     ensures untouched { (fault : Fault) → IsErrOf result (Stop.Run fault) → fault ≢ RunFault.Write
         → writer.new ≡ writer.old }
     ensures failed { R.has_failed reader.new ≡ (is_read_stop result || R.has_failed reader.old) }
-    ensures answered { IsErrOf result (Stop.Run RunFault.Write) → (choice : Chosen)
-        × Chooses (map S.text words.now) choice × HasOutput (owed_by choice) (R.remaining reader.old) }
+    ensures answered { IsErrOf result (Stop.Run RunFault.Write) → (subcommand : Chosen)
+        × Chooses (map S.text words.now) subcommand × HasOutput (owed_by subcommand) (R.remaining reader.old) }
 {
-    let choice = chosen(rt, words)?;
-    match choice.run(rt, rt.alloc(), reader, writer) {
+    let subcommand = chosen(rt, words)?;
+    match subcommand.run(rt, rt.alloc(), reader, writer) {
         Ok(ending) => Ok(ending),
         Err(fault) => Err(Stop::Run(fault)),
     }
@@ -63,7 +63,7 @@ pub(crate) fn play<
 pub(crate) fn chosen<P: AllocGlobal + Print + Eprint, S: AsStr>(
     rt: &P,
     words: &[S],
-) -> Result<Choice, Stop>
+) -> Result<Subcommand, Stop>
     ensures chosen { IfOk result (Chooses (map S.text words.now)) }
     ensures stopped { IfErr result (StopsBefore (map S.text words.now)) }
 {
@@ -71,8 +71,8 @@ pub(crate) fn chosen<P: AllocGlobal + Print + Eprint, S: AsStr>(
         return Err(Stop::Run(RunFault::Memory));
     };
     match command.try_get_matches_from(words) {
-        Ok(matches) => match Choice::named(&matches) {
-            Some(choice) => Ok(choice),
+        Ok(matches) => match Subcommand::named(&matches) {
+            Some(subcommand) => Ok(subcommand),
             // words without a fault enter one of the three
             None => unreachable!(),
         },

@@ -1,20 +1,21 @@
 //! The program: it answers scripts, lists of events and I/O logs.
 #![tactic(auto)]
 
-mod choice;
 mod command_line;
 mod options;
 mod stop;
+mod subcommand;
 
-use command_line::{play, words};
+use command_line::{run, words};
+pub use loop_device::Setup;
 use std::io;
 use std::process::ExitCode;
 use stop::{Stop, status};
-pub use tag_runs::{PlayOptions, RunFault, Watched, run_check, run_play, run_script};
+pub use tag_runs::{RunFault, Watched, run_check, run_play, run_script};
 
 fn main(rt: HostRuntime) -> ExitCode {
     let outcome = match words(&rt) {
-        Ok(words) => play(
+        Ok(words) => run(
             &rt,
             words.as_slice(),
             &mut Watched::new(rt.reader()),

@@ -6,8 +6,8 @@ ghost use Rattle.tagplay.specs.CommandLine as line;
 ghost use Rattle.tagplay.specs.Options.{IsNumber, IsOptional, IsFlag, AreScriptOptions, AreCheckOptions, ArePlayOptions};
 
 use clap::{Arg, ArgAction, ArgMatches, Command, value_parser};
+use loop_device::Setup;
 use std::alloc::{AllocError, Global};
-use tag_runs::PlayOptions;
 use tag_script::{CheckOptions, ScriptOptions};
 
 /// Default for the most tags that a caller may win, 2^48.
@@ -136,12 +136,12 @@ pub(crate) fn check_options(matches: &ArgMatches) -> CheckOptions
     }
 }
 
-/// Returns the options of a `play` command line.
-pub(crate) fn play_options(matches: &ArgMatches) -> PlayOptions
+/// Returns the setup of a `play` command line.
+pub(crate) fn setup(matches: &ArgMatches) -> Setup
     ensures { ArePlayOptions (rows_of (found_of matches.now)) result }
 {
-    PlayOptions {
-        tags: number(matches, "tags", 0),
+    Setup {
+        total: number(matches, "tags", 0),
         reserved: number(matches, "reserved", 0),
         shift: optional(matches, "shift"),
         submitters: number(matches, "submitters", 1),

@@ -18,7 +18,7 @@ use std::alloc::Global;
 use std::test::Fail;
 use tag_core::{Claim, Spent};
 use tag_layout::Layout;
-use tag_search::{Hint, PlainPort, Port, lone_batches_choose, lone_gets_choose};
+use tag_search::{Hint, PlainPort, Port, alone_batches_choose, alone_gets_choose};
 
 /// A plain port that counts its atomic steps.
 #[derive(Drop)]
@@ -218,6 +218,6 @@ fn a_batch_leaves_out_a_tag_that_is_held(rt: HostRuntime) -> Result<(), Fail> {
 
 #[test]
 fn laws_hold() {
-    lone_gets_choose::<u32>();
-    lone_batches_choose::<u32>();
+    alone_gets_choose::<u32>();
+    alone_batches_choose::<u32>();
 }

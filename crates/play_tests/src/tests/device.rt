@@ -131,10 +131,10 @@ fn verdicts(rt: HostRuntime) -> Result<(), Fail> {
     assert_eq!(rt; verdict(rt.alloc(), &log, &twice), Err(PlayFault::Twice(5)));
     let lost = [done(first), done(second), done(fourth)];
     assert_eq!(rt; verdict(rt.alloc(), &log, &lost), Err(PlayFault::Lost(6)));
-    let stranger = [done(first), done(io(9, IoKind::Write, 0, 512))];
+    let spurious = [done(first), done(io(9, IoKind::Write, 0, 512))];
     assert_eq!(rt;
-        verdict(rt.alloc(), &log, &stranger),
-        Err(PlayFault::Stranger)
+        verdict(rt.alloc(), &log, &spurious),
+        Err(PlayFault::Spurious)
     );
     let changed = [
         done(first),
@@ -144,7 +144,7 @@ fn verdicts(rt: HostRuntime) -> Result<(), Fail> {
     ];
     assert_eq!(rt;
         verdict(rt.alloc(), &log, &changed),
-        Err(PlayFault::Stranger)
+        Err(PlayFault::Spurious)
     );
     Ok(())
 }

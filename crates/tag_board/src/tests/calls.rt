@@ -93,14 +93,7 @@ fn counts(found: Wakes) -> Answer {
 
 /// Options for this many callers, each of which may win any number of tags.
 pub(crate) fn options(callers: u32) -> Options {
-    Options {
-        shift: None,
-        round_robin: false,
-        min_shallow: None,
-        callers,
-        life: 1 << 48,
-        cap: 1 << 56,
-    }
+    Options::new(callers)
 }
 
 /// Runs any command but a resize.

@@ -1,7 +1,7 @@
 //! Answers to calls.
-use crate::tests::shared::Kept;
-use tag_queue::{TagFault, Wakes};
-use tag_sets::Shown as Sums;
+use crate::tests::allocator::Kept;
+use tag_queue::Wakes;
+use tag_sets::{Shown as Sums, TagFault};
 use wake_book::Left as Leave;
 
 /// The answer to a call.

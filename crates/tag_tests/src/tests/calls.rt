@@ -1,6 +1,6 @@
 //! Calls that the callers of a stage make one after another.
+use crate::tests::allocator::TagAllocator;
 use crate::tests::answers::{Answer, answered, batch, busy, counts, dumped, kept, shown, tag};
-use crate::tests::shared::Shared;
 use crate::tests::stage::Stage;
 use std::sync::Wait;
 use tag_sets::Kind;
@@ -37,7 +37,7 @@ pub(crate) enum Call {
 }
 
 /// Makes a call.
-pub(crate) fn act<T: Shared, W: Wait>(
+pub(crate) fn act<T: TagAllocator, W: Wait>(
     rt: &W,
     tags: &T,
     caller: &mut T::Caller,
@@ -80,7 +80,7 @@ pub(crate) fn act<T: Shared, W: Wait>(
     }
 }
 
-impl<T: Shared> Stage<T> {
+impl<T: TagAllocator> Stage<T> {
     /// Makes a call with the caller at this index, and returns its answer, or `None` if there is no such caller.
     pub(crate) fn act<W: Wait>(&mut self, rt: &W, at: usize, call: Call) -> Option<Answer> {
         Some(act(rt, &self.tags, self.callers.get_mut(at)?, call))

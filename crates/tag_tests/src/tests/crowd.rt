@@ -1,7 +1,7 @@
 //! How the callers of a stage meet, leave, return, and are gathered.
 ghost use Rattle.std.specs.Prelude.{◌≡◌, All, IfSome};
 
-use crate::tests::shared::Shared;
+use crate::tests::allocator::TagAllocator;
 use crate::tests::stage::Stage;
 use std::alloc::Global;
 use std::mem::replace;
@@ -10,7 +10,7 @@ use step_ledger::GatherCause;
 use tag_queue::{QueueTotals, ResizeCause};
 
 /// Puts the caller after the others.
-fn put_back<T: Shared>(
+fn put_back<T: TagAllocator>(
     tags: &T,
     callers: &mut Vec<T::Caller>,
     caller: T::Caller,
@@ -23,7 +23,7 @@ fn put_back<T: Shared>(
 }
 
 /// Puts the other caller at this index and returns the one that was there, or the other one if the index is too high.
-fn trade<T: Shared>(
+fn trade<T: TagAllocator>(
     tags: &T,
     callers: &mut Vec<T::Caller>,
     at: usize,
@@ -40,7 +40,12 @@ fn trade<T: Shared>(
 }
 
 /// Establishes that the second caller does not hold the tag, if the first one does. Returns whether the first holds it.
-fn tell_apart<T: Shared>(tags: &T, first: &mut T::Caller, second: &mut T::Caller, tag: u32) -> bool
+fn tell_apart<T: TagAllocator>(
+    tags: &T,
+    first: &mut T::Caller,
+    second: &mut T::Caller,
+    tag: u32,
+) -> bool
     requires { T.is_own tags.now first.old × T.is_own tags.now second.old }
     ensures { T.is_own tags.now first.new × T.is_own tags.now second.new }
 {
@@ -51,7 +56,7 @@ fn tell_apart<T: Shared>(tags: &T, first: &mut T::Caller, second: &mut T::Caller
     true
 }
 
-impl<T: Shared> Stage<T> {
+impl<T: TagAllocator> Stage<T> {
     fn take_last(&mut self) -> Option<T::Caller>
         ensures tags { self.new.tags ≡ self.old.tags }
         ensures caller { IfSome result (T.is_own self.old.tags) }

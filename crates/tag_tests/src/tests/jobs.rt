@@ -1,9 +1,9 @@
 //! What threads do with tags that they share.
 ghost use Rattle.std.specs.Prelude.{◌≤◌};
 
+use crate::tests::allocator::TagAllocator;
 use crate::tests::answers::Answer;
 use crate::tests::calls::{Call, act};
-use crate::tests::shared::Shared;
 use crate::tests::tally::Tally;
 use std::sync::Wait;
 use std::sync::atomic::Ordering::SeqCst;
@@ -34,7 +34,7 @@ pub(crate) struct Plan {
 }
 
 /// Plays the part of the thread with this number in a plan.
-pub(crate) fn play<R: Wait, T: Shared>(
+pub(crate) fn play<R: Wait, T: TagAllocator>(
     rt: &R,
     tags: &T,
     caller: &mut T::Caller,
@@ -66,7 +66,7 @@ pub(crate) fn play<R: Wait, T: Shared>(
 }
 
 /// Counts a tag that was won, and writes its slot.
-fn mark<T: Shared>(tags: &T, caller: &mut T::Caller, tally: &Tally, tag: u32, value: u64)
+fn mark<T: TagAllocator>(tags: &T, caller: &mut T::Caller, tally: &Tally, tag: u32, value: u64)
     requires { T.is_own tags.now caller.old }
     ensures { T.is_own tags.now caller.new }
 {
@@ -77,7 +77,7 @@ fn mark<T: Shared>(tags: &T, caller: &mut T::Caller, tally: &Tally, tag: u32, va
 
 /// Marks a tag, reads its slot again after other calls, and then posts or clears the tag. `value / 8` counts the turns
 /// through the eight calls.
-fn spend<T: Shared>(tags: &T, caller: &mut T::Caller, tally: &Tally, tag: u32, value: u64)
+fn spend<T: TagAllocator>(tags: &T, caller: &mut T::Caller, tally: &Tally, tag: u32, value: u64)
     requires { T.is_own tags.now caller.old }
     ensures { T.is_own tags.now caller.new }
 {
@@ -115,7 +115,13 @@ fn tags_of(first: u32, mask: u64) -> ([u32; 3], usize)
 }
 
 /// Marks the tags of a batch, and clears them at once.
-fn spend_batch<T: Shared>(tags: &T, caller: &mut T::Caller, tally: &Tally, won: &[u32], value: u64)
+fn spend_batch<T: TagAllocator>(
+    tags: &T,
+    caller: &mut T::Caller,
+    tally: &Tally,
+    won: &[u32],
+    value: u64,
+)
     requires { T.is_own tags.now caller.old }
     ensures { T.is_own tags.now caller.new }
 {
@@ -130,7 +136,7 @@ fn spend_batch<T: Shared>(tags: &T, caller: &mut T::Caller, tally: &Tally, won: 
 }
 
 /// Takes each posted tag, whose slot names who posted it, and clears it.
-fn take_posted<T: Shared>(tags: &T, caller: &mut T::Caller, tally: &Tally)
+fn take_posted<T: TagAllocator>(tags: &T, caller: &mut T::Caller, tally: &Tally)
     requires { T.is_own tags.now caller.old }
     ensures { T.is_own tags.now caller.new }
 {
@@ -145,7 +151,7 @@ fn take_posted<T: Shared>(tags: &T, caller: &mut T::Caller, tally: &Tally)
 }
 
 /// Starts a wait and gives it up.
-fn wait_in_vain<R: Wait, T: Shared>(rt: &R, tags: &T, caller: &mut T::Caller, tally: &Tally)
+fn wait_in_vain<R: Wait, T: TagAllocator>(rt: &R, tags: &T, caller: &mut T::Caller, tally: &Tally)
     requires { T.is_own tags.now caller.old }
     ensures { T.is_own tags.now caller.new }
 {
@@ -154,7 +160,7 @@ fn wait_in_vain<R: Wait, T: Shared>(rt: &R, tags: &T, caller: &mut T::Caller, ta
 }
 
 /// Makes a call, and spends the tags that it won. A caller holds no tag when it makes a call that may sleep.
-fn win_and_spend<R: Wait, T: Shared>(
+fn win_and_spend<R: Wait, T: TagAllocator>(
     rt: &R,
     tags: &T,
     caller: &mut T::Caller,
@@ -176,7 +182,7 @@ fn win_and_spend<R: Wait, T: Shared>(
     }
 }
 
-fn do_everything<R: Wait, T: Shared>(
+fn do_everything<R: Wait, T: TagAllocator>(
     rt: &R,
     tags: &T,
     caller: &mut T::Caller,
@@ -203,7 +209,13 @@ fn do_everything<R: Wait, T: Shared>(
 }
 
 /// Clears what is posted and what it gets until the workers have finished, so that none of them sleeps forever.
-fn keep<R: Wait, T: Shared>(rt: &R, tags: &T, caller: &mut T::Caller, tally: &Tally, workers: usize)
+fn keep<R: Wait, T: TagAllocator>(
+    rt: &R,
+    tags: &T,
+    caller: &mut T::Caller,
+    tally: &Tally,
+    workers: usize,
+)
     requires { T.is_own tags.now caller.old }
     ensures { T.is_own tags.now caller.new }
 {
@@ -218,7 +230,7 @@ fn keep<R: Wait, T: Shared>(rt: &R, tags: &T, caller: &mut T::Caller, tally: &Ta
 }
 
 /// Makes a get of one tag, and clears the tag if it won one. A refusal is counted as wrong.
-fn win_and_clear<R: Wait, T: Shared>(
+fn win_and_clear<R: Wait, T: TagAllocator>(
     rt: &R,
     tags: &T,
     caller: &mut T::Caller,
@@ -240,7 +252,7 @@ fn win_and_clear<R: Wait, T: Shared>(
 }
 
 /// Makes a get of one tag in each round, and clears the tag if it won one.
-fn get_and_clear<R: Wait, T: Shared>(
+fn get_and_clear<R: Wait, T: TagAllocator>(
     rt: &R,
     tags: &T,
     caller: &mut T::Caller,
@@ -258,7 +270,13 @@ fn get_and_clear<R: Wait, T: Shared>(
 }
 
 /// Makes a call that wins a tag, and wins and clears another by a get before it clears the first.
-fn win_two<R: Wait, T: Shared>(rt: &R, tags: &T, caller: &mut T::Caller, tally: &Tally, call: Call)
+fn win_two<R: Wait, T: TagAllocator>(
+    rt: &R,
+    tags: &T,
+    caller: &mut T::Caller,
+    tally: &Tally,
+    call: Call,
+)
     requires { T.is_own tags.now caller.old }
     ensures { T.is_own tags.now caller.new }
 {
@@ -274,7 +292,7 @@ fn win_two<R: Wait, T: Shared>(rt: &R, tags: &T, caller: &mut T::Caller, tally: 
 }
 
 /// Holds up to two tags in each round, and gives back what it keeps at the end.
-fn get_two<R: Wait, T: Shared>(
+fn get_two<R: Wait, T: TagAllocator>(
     rt: &R,
     tags: &T,
     caller: &mut T::Caller,
@@ -292,7 +310,7 @@ fn get_two<R: Wait, T: Shared>(
 }
 
 /// Enters and leaves a wait until the workers have finished.
-fn wait_on_and_off<R: Wait, T: Shared>(
+fn wait_on_and_off<R: Wait, T: TagAllocator>(
     rt: &R,
     tags: &T,
     caller: &mut T::Caller,
@@ -311,7 +329,7 @@ fn wait_on_and_off<R: Wait, T: Shared>(
 }
 
 /// Waits for tag 0, once it is taken.
-fn wait_for_a_tag<R: Wait, T: Shared>(rt: &R, tags: &T, caller: &mut T::Caller, tally: &Tally)
+fn wait_for_a_tag<R: Wait, T: TagAllocator>(rt: &R, tags: &T, caller: &mut T::Caller, tally: &Tally)
     requires { T.is_own tags.now caller.old }
     ensures { T.is_own tags.now caller.new }
 {
@@ -324,7 +342,12 @@ fn wait_for_a_tag<R: Wait, T: Shared>(rt: &R, tags: &T, caller: &mut T::Caller, 
 }
 
 /// Gets tag 0, and clears it once somebody waits.
-fn clear_for_a_waiter<R: Wait, T: Shared>(rt: &R, tags: &T, caller: &mut T::Caller, tally: &Tally)
+fn clear_for_a_waiter<R: Wait, T: TagAllocator>(
+    rt: &R,
+    tags: &T,
+    caller: &mut T::Caller,
+    tally: &Tally,
+)
     requires { T.is_own tags.now caller.old }
     ensures { T.is_own tags.now caller.new }
 {

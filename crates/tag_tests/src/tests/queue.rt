@@ -16,15 +16,15 @@ mod slots;
 mod stages;
 mod waits;
 
-use crate::tests::shared::{Kept, Shared};
+use crate::tests::allocator::{Kept, TagAllocator};
 use std::alloc::Global;
 use std::sync::Wait;
 use step_ledger::{GatherCause, Numbered};
-use tag_queue::{Agent, Queue, QueueTotals, ResizeCause, TagFault, Wakes};
-use tag_sets::{Kind, Shown};
+use tag_queue::{Agent, Queue, QueueFault, QueueTotals, ResizeCause, Wakes};
+use tag_sets::{Kind, Shown, TagFault};
 use wake_book::Left;
 
-impl Shared for Queue<u64> {
+impl TagAllocator for Queue<u64> {
     type Caller = Agent<u64>;
 
     ghost is_own = { IsAgentOf };
@@ -42,7 +42,7 @@ impl Shared for Queue<u64> {
     }
 
     fn get(&self, agent: &mut Agent<u64>) -> Result<Option<u32>, TagFault> {
-        Queue::get(self, agent)
+        Ok(Queue::get(self, agent)?)
     }
 
     fn get_reserved(&self, _agent: &mut Agent<u64>) -> Result<Option<u32>, TagFault> {
@@ -50,7 +50,7 @@ impl Shared for Queue<u64> {
     }
 
     fn get_shallow(&self, agent: &mut Agent<u64>, depth: u32) -> Result<Option<u32>, TagFault> {
-        Queue::get_shallow(self, agent, depth)
+        Ok(Queue::get_shallow(self, agent, depth)?)
     }
 
     fn get_batch(
@@ -58,15 +58,15 @@ impl Shared for Queue<u64> {
         agent: &mut Agent<u64>,
         count: u32,
     ) -> Result<Option<(u32, u64)>, TagFault> {
-        Queue::get_batch(self, agent, count)
+        Ok(Queue::get_batch(self, agent, count)?)
     }
 
     fn get_blocking<W: Wait>(&self, rt: &W, agent: &mut Agent<u64>) -> Result<u32, TagFault> {
-        Queue::get_blocking(self, rt, agent)
+        Ok(Queue::get_blocking(self, rt, agent)?)
     }
 
     fn clear(&self, agent: &mut Agent<u64>, tag: u32) -> Result<u32, TagFault> {
-        Queue::clear(self, agent, tag)
+        Ok(Queue::clear(self, agent, tag)?)
     }
 
     fn clear_uncounted(&self, agent: &mut Agent<u64>, tag: u32) -> Result<u32, TagFault> {
@@ -75,27 +75,27 @@ impl Shared for Queue<u64> {
     }
 
     fn clear_batch(&self, agent: &mut Agent<u64>, tags: &[u32]) -> Result<u32, TagFault> {
-        Queue::clear_batch(self, agent, tags)
+        Ok(Queue::clear_batch(self, agent, tags)?)
     }
 
     fn clear_mask(&self, agent: &mut Agent<u64>, first: u32, mask: u64) -> Result<u32, TagFault> {
-        Queue::clear_mask(self, agent, first, mask)
+        Ok(Queue::clear_mask(self, agent, first, mask)?)
     }
 
     fn read(&self, agent: &mut Agent<u64>, tag: u32) -> Result<u64, TagFault> {
-        Queue::read(self, agent, tag)
+        Ok(Queue::read(self, agent, tag)?)
     }
 
     fn write(&self, agent: &mut Agent<u64>, tag: u32, value: u64) -> Result<u64, TagFault> {
-        Queue::write(self, agent, tag, value)
+        Ok(Queue::write(self, agent, tag, value)?)
     }
 
     fn post(&self, agent: &mut Agent<u64>, tag: u32) -> Result<(), TagFault> {
-        Queue::post(self, agent, tag)
+        Ok(Queue::post(self, agent, tag)?)
     }
 
     fn take(&self, agent: &mut Agent<u64>, tag: u32) -> Result<(), TagFault> {
-        Queue::take(self, agent, tag)
+        Ok(Queue::take(self, agent, tag)?)
     }
 
     fn flush(&self, _agent: &mut Agent<u64>) -> u32 {
@@ -108,7 +108,7 @@ impl Shared for Queue<u64> {
 
     fn has(&self, agent: &mut Agent<u64>, tag: u32) -> bool {
         match Queue::read(self, agent, tag) {
-            Err(TagFault::NoSuchTag) => false,
+            Err(QueueFault::NoSuchTag) => false,
             _ => agent.holds(tag),
         }
     }
@@ -130,11 +130,11 @@ impl Shared for Queue<u64> {
     }
 
     fn prepare_wait(&self, agent: &mut Agent<u64>) -> Result<u32, TagFault> {
-        Queue::prepare_wait(self, agent)
+        Ok(Queue::prepare_wait(self, agent)?)
     }
 
     fn finish_wait<W: Wait>(&self, rt: &W, agent: &mut Agent<u64>) -> Result<Left, TagFault> {
-        Queue::finish_wait(self, rt, agent)
+        Ok(Queue::finish_wait(self, rt, agent)?)
     }
 
     fn wakes(&self, agent: &mut Agent<u64>) -> Wakes {

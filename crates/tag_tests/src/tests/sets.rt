@@ -16,13 +16,13 @@ mod resizing;
 mod slots;
 mod stages;
 
-use crate::tests::shared::{Kept, Shared};
+use crate::tests::allocator::{Kept, TagAllocator};
 use std::alloc::Global;
 use std::sync::Wait;
 use std::test::Fail;
 use step_ledger::{GatherCause, Numbered};
-use tag_queue::{QueueTotals, ResizeCause, TagFault, Wakes};
-use tag_sets::{Hand, Kind, Shown, Tags};
+use tag_queue::{QueueTotals, ResizeCause, Wakes};
+use tag_sets::{Hand, Kind, Shown, TagFault, Tags};
 use wake_book::Left;
 
 /// The most tags of both sets.
@@ -52,7 +52,7 @@ impl Drop for Sets {
     }
 }
 
-impl Shared for Sets {
+impl TagAllocator for Sets {
     type Caller = Hand<u64>;
 
     ghost is_own = { λ sets hand. IsHandOf sets.tags hand };

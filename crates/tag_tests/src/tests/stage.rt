@@ -2,12 +2,12 @@
 ghost use Rattle.std.specs.Prelude.{All};
 ghost use Rattle.tag_tests.specs.Owning.{All-fact};
 
-use crate::tests::shared::Shared;
+use crate::tests::allocator::TagAllocator;
 use std::alloc::Global;
 
 /// Tags and their callers, which tests name by their index in the list, from 0.
 #[derive(Drop)]
-pub(crate) struct Stage<T: Shared> {
+pub(crate) struct Stage<T: TagAllocator> {
     pub(crate) tags: T,
     pub(crate) callers: Vec<T::Caller>,
     /// Callers that were sent away, and are absent when the others are gathered.
@@ -16,7 +16,7 @@ pub(crate) struct Stage<T: Shared> {
     ghost own_away: { All (T.is_own tags) away.items } by { All-fact T.is_own T.is_fact tags away.items },
 }
 
-impl<T: Shared> Stage<T> {
+impl<T: TagAllocator> Stage<T> {
     pub(crate) fn of(alloc: Global, tags: T, callers: Vec<T::Caller>) -> Stage<T>
         requires { All (T.is_own tags) callers.items }
     {

@@ -1,7 +1,7 @@
 //! Steps that a test takes with a stage.
+use crate::tests::allocator::TagAllocator;
 use crate::tests::answers::Answer;
 use crate::tests::calls::Call;
-use crate::tests::shared::Shared;
 use crate::tests::stage::Stage;
 use std::process::Abort;
 use std::sync::Wait;
@@ -38,7 +38,7 @@ pub(crate) enum Step<'a> {
     Resize(u32),
 }
 
-impl<T: Shared> Stage<T> {
+impl<T: TagAllocator> Stage<T> {
     /// Takes the steps in order.
     pub(crate) fn play<R: Abort + AllocGlobal + Wait>(
         self,

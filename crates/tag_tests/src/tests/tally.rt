@@ -2,7 +2,7 @@
 use std::alloc::{AllocError, Global};
 use std::sync::atomic::AtomicU64;
 use std::sync::atomic::Ordering::SeqCst;
-use tag_queue::TagFault;
+use tag_sets::TagFault;
 
 /// Numbers that all threads of a test add to.
 #[derive(Drop)]

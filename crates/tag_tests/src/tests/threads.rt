@@ -1,9 +1,9 @@
 //! Callers on threads of their own. These tests show that a blocked get is woken.
 ghost use Rattle.std.specs.Prelude.{All};
 
+use crate::tests::allocator::TagAllocator;
 use crate::tests::calls::Call;
 use crate::tests::jobs::{Job, Plan, play};
-use crate::tests::shared::Shared;
 use crate::tests::stage::Stage;
 use crate::tests::tally::Tally;
 use crate::tests::totals::{all_totals, options, totals};
@@ -17,7 +17,7 @@ use tag_queue::QueueTotals;
 use wake_book::BookTotals;
 
 /// Has all callers play at once, each in a thread of its own.
-fn play_all<R: Wait + Threads + Sync, T: Shared + Sync>(
+fn play_all<R: Wait + Threads + Sync, T: TagAllocator + Sync>(
     rt: &R,
     tags: &T,
     callers: &mut Vec<T::Caller>,
@@ -39,7 +39,7 @@ where
 }
 
 /// Has all callers of a stage play at once, and gathers them.
-pub(crate) fn played<R: Wait + Threads + Sync, T: Shared + Sync>(
+pub(crate) fn played<R: Wait + Threads + Sync, T: TagAllocator + Sync>(
     rt: &R,
     stage: Stage<T>,
     tally: &Tally,

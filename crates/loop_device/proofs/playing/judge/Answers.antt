@@ -8,4 +8,4 @@ pub returns-in-Err-clause-fault : goal.returns-in-Err-clause-fault
 returns-in-Err-clause-fault c =
     let tells : IsPlayFault c.args.log.now.ios.items c.args.done.items c.in-Err.fault = search rules in
     passed_on c.args.log.now.ios.items c.args.done.items c.args.totals c.args.faults c.in-Err.fault
-    (record { memory = search rules; stranger = search rules }) tells
+    (record { memory = search rules; spurious = search rules }) tells

@@ -90,6 +90,6 @@ spawn_with-started-requires-send-F g c κs within =
 
 pub returns-in-Ok-clause-handles : goal.returns-in-Ok-clause-handles
 returns-in-Ok-clause-handles g c =
-    kept c.args.shared.now.tags.now c.args.handles.now.items c.push_reserved.new.self.items
+    kept c.args.context.now.tags.now c.args.handles.now.items c.push_reserved.new.self.items
     c.in-Ok.handle c.requires.handles
     (ap (λ (promise : HandsBack). promise.0.now) c.in-Ok.ensures.ok) c.push_reserved.ensures.items

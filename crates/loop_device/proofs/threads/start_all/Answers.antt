@@ -13,8 +13,8 @@ use Rattle.loop_device.proofs.threads.start_all.Goals.{then-len-wanted, else-len
 pub loop-hand-preserved : goal.loop-hand-preserved
 loop-hand-preserved g c =
     let was = c.loop-hand.invariant in
-    let shared = c.args.shared.now in
-    let whole = subst (All (IsHandOf shared.tags.now)) c.in-Some.ensures.steps.0 was.rest in
+    let context = c.args.context.now in
+    let whole = subst (All (IsHandOf context.tags.now)) c.in-Some.ensures.steps.0 was.rest in
     let fewer = ap length c.in-Some.ensures.steps.0 in
     elim c.if-len-wanted.branch [
       | then-len-wanted w ↦ let started = w.start-started in
@@ -30,11 +30,11 @@ loop-hand-preserved g c =
           record {
             steps = (tt, tt);
             rest = λ k d low. whole (suc k) d (omega arith);
-            pass = subst (IsPassOf shared.queue.now) (sym w.pass-is) started.ensures.pass;
+            pass = subst (IsPassOf context.queue.now) (sym w.pass-is) started.ensures.pass;
             completers = subst (λ (v : Vec (PromisedHandle Worked HandsBack) Global).
-                All (Promises shared.tags.now) v.items) (sym w.completers-is) started.ensures.handles;
+                All (Promises context.tags.now) v.items) (sym w.completers-is) started.ensures.handles;
             submitters = subst (λ (v : Vec (PromisedHandle Worked HandsBack) Global).
-                All (Promises shared.tags.now) v.items) (sym w.submitters-is) was.submitters;
+                All (Promises context.tags.now) v.items) (sym w.submitters-is) was.submitters;
             room = (omega arith, omega arith);
             len = omega arith;
           }
@@ -51,11 +51,11 @@ loop-hand-preserved g c =
           record {
             steps = (tt, tt);
             rest = λ k d low. whole (suc k) d (omega arith);
-            pass = subst (IsPassOf shared.queue.now) (sym w.pass-is) started.ensures.pass;
+            pass = subst (IsPassOf context.queue.now) (sym w.pass-is) started.ensures.pass;
             completers = subst (λ (v : Vec (PromisedHandle Worked HandsBack) Global).
-                All (Promises shared.tags.now) v.items) (sym w.completers-is) was.completers;
+                All (Promises context.tags.now) v.items) (sym w.completers-is) was.completers;
             submitters = subst (λ (v : Vec (PromisedHandle Worked HandsBack) Global).
-                All (Promises shared.tags.now) v.items) (sym w.submitters-is) started.ensures.handles;
+                All (Promises context.tags.now) v.items) (sym w.submitters-is) started.ensures.handles;
             room = (omega arith, omega arith);
             len = omega arith;
           }

@@ -11,6 +11,9 @@ use std::thread;
 /// For how many turns a completion is held while nothing is to happen.
 const IDLE_TURNS: u32 = 10_000;
 
+/// For how many turns the queue is empty while more is to come.
+const EMPTY_TURNS: u32 = 100_000;
+
 /// A log with I/O on lines 3 and 4.
 fn two_writes(alloc: Global) -> Result<Log, LogFault> {
     Log::read(
@@ -117,6 +120,25 @@ impl Gate for OneAtATime {
     }
 }
 
+/// Holds the submitter of line 3 after its completion began, for turns in which the completer finds an empty queue.
+#[derive(Drop)]
+struct EmptyForAWhile(Began);
+
+impl Gate for EmptyForAWhile {
+    fn after_submit(&self, line: u64) {
+        if line == 3 {
+            self.0.hold_until(mark_of(&self.0.completes, 3));
+            for _ in 0..EMPTY_TURNS {
+                thread::yield_now();
+            }
+        }
+    }
+
+    fn before_complete(&self, line: u64) {
+        mark_of(&self.0.completes, line).store(true, SeqCst);
+    }
+}
+
 #[test]
 fn a_submitter_goes_on_while_a_completer_is_held(rt: HostRuntime) -> Result<(), Fail> {
     let log = two_writes(rt.alloc())?;
@@ -152,6 +174,17 @@ fn a_lone_tag_carries_one_line_at_a_time(rt: HostRuntime) -> Result<(), Fail> {
         ..SETUP
     };
     let played = play(&rt, rt.alloc(), &log, setup, &gate);
+    assert!(rt; played.is_ok());
+    assert!(rt; !gate.0.failed.load(SeqCst));
+    Ok(())
+}
+
+/// A completer that took the queue for closed, whatever its flag, would end at the empty queue, and line 4 be lost.
+#[test]
+fn a_completer_stays_while_more_is_to_come(rt: HostRuntime) -> Result<(), Fail> {
+    let log = two_writes(rt.alloc())?;
+    let gate = EmptyForAWhile(Began::none());
+    let played = play(&rt, rt.alloc(), &log, SETUP, &gate);
     assert!(rt; played.is_ok());
     assert!(rt; !gate.0.failed.load(SeqCst));
     Ok(())

@@ -29,14 +29,7 @@ impl Gate for Recorder {
 pub(crate) fn opened(alloc: Global) -> Result<(Tags<u64>, Hand<u64>), SetFault>
     ensures { IfOk result (λ opened. IsHandOf opened.0 opened.1) }
 {
-    let options = Options {
-        shift: None,
-        round_robin: false,
-        min_shallow: None,
-        callers: 1,
-        life: 1 << 48,
-        cap: 1 << 56,
-    };
+    let options = Options::new(1);
     let (tags, mut hands) = Tags::open(alloc, 4, 0, options, 0u64)?;
     let Some(hand) = hands.pop() else {
         unreachable!()
@@ -62,15 +55,15 @@ fn a_posted_tag_is_completed_once(rt: HostRuntime) -> Result<(), Fail> {
     assert_eq!(rt; gate.completed.load(SeqCst), 4);
     assert_eq!(rt; store.lock(&rt).history().len(), 1);
     let again = complete(&rt, &tags, &mut hand, 0, &log, &store, &gate);
-    assert_eq!(rt; again, Err(PlayFault::Stranger));
+    assert_eq!(rt; again, Err(PlayFault::Spurious));
     let beyond = complete(&rt, &tags, &mut hand, 4, &log, &store, &gate);
-    assert_eq!(rt; beyond, Err(PlayFault::Stranger));
+    assert_eq!(rt; beyond, Err(PlayFault::Spurious));
     assert_eq!(rt; store.lock(&rt).history().len(), 1);
     Ok(())
 }
 
 #[test]
-fn a_slot_without_an_io_line_is_a_stranger(rt: HostRuntime) -> Result<(), Fail> {
+fn a_slot_without_an_io_line_is_spurious(rt: HostRuntime) -> Result<(), Fail> {
     let log = small_log(rt.alloc())?;
     let store = Mutex::new(Store::open(rt.alloc()));
     let gate = Recorder {
@@ -81,7 +74,7 @@ fn a_slot_without_an_io_line_is_a_stranger(rt: HostRuntime) -> Result<(), Fail> 
     assert_eq!(rt; tags.write(&mut hand, 0, 3), Ok(0));
     assert_eq!(rt; tags.post(&mut hand, 0), Ok(()));
     let done = complete(&rt, &tags, &mut hand, 0, &log, &store, &gate);
-    assert_eq!(rt; done, Err(PlayFault::Stranger));
+    assert_eq!(rt; done, Err(PlayFault::Spurious));
     assert_eq!(rt; gate.completed.load(SeqCst), 0);
     assert_eq!(rt; store.lock(&rt).history().len(), 0);
     // The tag was cleared, so it can't be cleared again.

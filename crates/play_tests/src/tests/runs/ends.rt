@@ -1,8 +1,9 @@
 //! Readers and writers that fail, and inputs at the size limit.
+use loop_device::Setup;
 use std::io;
 use std::io::{Read, Write};
 use std::test::*;
-use tag_runs::{PlayOptions, RunFault, Watched, run_check, run_play, run_script};
+use tag_runs::{RunFault, Watched, run_check, run_play, run_script};
 use tag_script::{CheckOptions, Ending, ScriptOptions};
 
 const FOUR: CheckOptions = CheckOptions {
@@ -27,8 +28,8 @@ const SHARED_FOUR: ScriptOptions = ScriptOptions {
     ..PLAIN_FOUR
 };
 
-const PLAYED_FOUR: PlayOptions = PlayOptions {
-    tags: 4,
+const PLAYED_FOUR: Setup = Setup {
+    total: 4,
     reserved: 0,
     shift: None,
     submitters: 1,

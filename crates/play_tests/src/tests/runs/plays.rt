@@ -1,13 +1,14 @@
 //! Plays of logs whose reports were worked out on paper.
+use loop_device::Setup;
 use std::process::Abort;
 use std::sync::Wait;
 use std::test::*;
 use std::thread::Threads;
-use tag_runs::{PlayOptions, run_play};
+use tag_runs::run_play;
 use tag_script::Ending;
 
-const FOUR: PlayOptions = PlayOptions {
-    tags: 4,
+const FOUR: Setup = Setup {
+    total: 4,
     reserved: 0,
     shift: None,
     submitters: 1,
@@ -28,28 +29,28 @@ const IDLE_REPORT: &str = "names=0\nreads=0\nwrites=0\ntrims=0\nsyncs=0\ndatasyn
 /// Plays a log, and compares the ending and the text.
 fn expect<R: Abort + AllocGlobal + Threads + Wait + Sync>(
     rt: &R,
-    options: PlayOptions,
+    setup: Setup,
     log: &[u8],
     ending: Ending,
     text: &str,
 ) {
     let mut reader = log;
     let mut written = Vec::new(rt.alloc());
-    let outcome = run_play(rt, rt.alloc(), &options, &mut reader, &mut written);
+    let outcome = run_play(rt, rt.alloc(), &setup, &mut reader, &mut written);
     assert_eq!(rt; outcome, Ok(ending), "at {log:?}");
     assert_eq!(rt; written.as_slice(), text.as_bytes(), "at {log:?}");
 }
 
 #[test]
 fn a_small_log_is_reported(rt: HostRuntime) {
-    let options = PlayOptions {
+    let setup = Setup {
         reserved: 1,
         submitters: 2,
         completers: 2,
         queue: 4,
         ..FOUR
     };
-    expect(&rt, options, SMALL.as_bytes(), Ending::Done, SMALL_REPORT);
+    expect(&rt, setup, SMALL.as_bytes(), Ending::Done, SMALL_REPORT);
     expect(&rt, FOUR, SMALL.as_bytes(), Ending::Done, SMALL_REPORT);
 }
 
@@ -144,25 +145,25 @@ fn the_first_faulty_line_is_told(rt: HostRuntime) {
 #[test]
 fn a_setup_beyond_its_limits_is_refused(rt: HostRuntime) {
     let header = b"fio version 2 iolog\n".as_slice();
-    for options in [
-        PlayOptions {
-            tags: 2,
+    for setup in [
+        Setup {
+            total: 2,
             reserved: 2,
             ..FOUR
         },
-        PlayOptions {
+        Setup {
             submitters: 17,
             ..FOUR
         },
-        PlayOptions { queue: 0, ..FOUR },
+        Setup { queue: 0, ..FOUR },
     ] {
-        expect(&rt, options, header, Ending::Refused, "play refused 2\n");
+        expect(&rt, setup, header, Ending::Refused, "play refused 2\n");
     }
     expect(&rt, FOUR, header, Ending::Done, IDLE_REPORT);
     // A malformed line is reported before an illegal setup.
     expect(
         &rt,
-        PlayOptions { queue: 0, ..FOUR },
+        Setup { queue: 0, ..FOUR },
         &[],
         Ending::Refused,
         "line 1 refused 1\n",

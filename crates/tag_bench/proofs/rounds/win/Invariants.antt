@@ -2,4 +2,4 @@
 use Rattle.tag_bench.proofs.rounds.win.Given as goal
 
 abbrev pub invariant-loop : goal.invariant-loop
-invariant-loop g l = g.T.Tags.is_own l.tags l.hand
+invariant-loop g l = g.T.TagAllocator.is_own l.tags l.hand

@@ -24,22 +24,22 @@ returns-in-Ok-true-clause-closes c = λ _. let totals = c.in-Some-close.totals i
 )
 
 -- an object that is put back is no pool, or a pool with hands out
-left : (c : goal.After-code-2) → RefusesClose c.args.pool.now.object.value c.match-is_alone.refused
+left : (c : goal.After-code-2) → RefusesClose c.args.pool.now.object.value c.match-has_all_hands.refused
 left c = let value = c.args.pool.now.object.value in
     let some : value ≡ Some c.deref.result.now =
     subst (λ (x : Object). value ≡ Some x) (sym c.deref.ensures) c.in-Some.ensures.some in
-    elim c.match-is_alone.branch [
+    elim c.match-has_all_hands.branch [
       | in-Ok-false w ↦ inr (inl w.refused-is)
       | in-Err w ↦ let no = w.in-Err.ensures.err in
           inl (w.refused-is ∙ no.0, λ has. no.1 (pool_there value c.deref.result.now some has))
     ]
 
 pub returns-clause-closes : goal.returns-clause-closes
-returns-clause-closes c = λ zero. let code = c.code-2 in let status = c.match-is_alone.refused in
+returns-clause-closes c = λ zero. let code = c.code-2 in let status = c.match-has_all_hands.refused in
     absurd (refused status code.result code.ensures code.type_inv
     (close_below c.args.pool.now.object.value status (left c)) zero)
 
 pub returns-clause-why : goal.returns-clause-why
 returns-clause-why c = λ _. let code = c.code-2 in
-    refuses (RefusesClose c.args.pool.now.object.value) c.match-is_alone.refused code.result code.ensures code.type_inv
+    refuses (RefusesClose c.args.pool.now.object.value) c.match-has_all_hands.refused code.result code.ensures code.type_inv
     (left c)

@@ -1,14 +1,18 @@
 -- The pool's handle keeps its object in every case; the other was empty, and is filled only with a hand of it.
-use Rattle.std.proofs.Common.{rules, ◌≡◌, Option, None, inl, inr, refl, sym, subst, ◌∙◌}
-use Rattle.std.specs.Arc.{arc_value}
-use Rattle.tag_queue.specs.declared.fault.SetFault.TheVariants.{Memory}
+use Rattle.std.proofs.Common.{rules, ◌≡◌, ℕ, Option, Some, None, inl, inr, refl, sym, subst, ◌∙◌}
+use Rattle.tag_sets.specs.declared.fault.SetFault.TheVariants.{Memory}
+use Rattle.tag_sets.specs.declared.tags.Tags.{Tags}
 use Rattle.tag_c.specs.declared.handle.Handle.{Handle}
 use Rattle.tag_c.specs.declared.object.Object.{Object}
 use Rattle.tag_c.specs.declared.status.Status.TheVariants.{BadHandle, NotEmpty, NotOpened}
-use Rattle.tag_c.specs.Exports.{RefusesJoin, IsPoolOf, IsMemberIn, IsHandIn}
-use Rattle.tag_c.proofs.Refusing.{refuses, refused, no_pool, join_below, refuses_join}
+use Rattle.tag_c.specs.Exports.{RefusesJoin, JoinsKind, JoinsPool, IsPoolOf, IsMemberIn}
+use Rattle.tag_c.proofs.Refusing.{refuses, refused, no_pool, join_below, refuses_join, joiner, joined}
 use Rattle.tag_c.proofs.Flags.{is_some_of, not_some_of, empty_of}
 use Rattle.tag_c.proofs.pools.tags_join.Goals as goal
+
+-- the object is a hand
+abbrev IsHand : Object → Type 0
+IsHand object = (tags : Tags ℕ) × IsMemberIn tags object.kind
 
 -- a handle that is not full is empty
 empty : (handle : Handle) → handle.full ≡ 0 → handle.object.value ≡ None
@@ -41,16 +45,14 @@ returns-in-Err-clause-why c = λ _. let pool = c.args.pool.now.object.value in l
     c.in-Some.ensures.some c.in-Err.ensures.why)
 
 pub leave-requires : goal.leave-requires
-leave-requires c = let tags = (arc_value c.in-Ok.member.shared).tags in
-    (tags, subst (λ (x : Object). IsMemberIn tags x.kind) (sym c.in-Err-new.ensures.value_returned) refl)
+leave-requires c = let pool = c.in-Some.object.now.kind in
+    subst IsHand (sym c.in-Err-new.ensures.value_returned) (joiner pool c.in-Ok.kind c.in-Ok.ensures.ok)
 
 pub returns-in-Ok-new-clause-joins : goal.returns-in-Ok-new-clause-joins
-returns-in-Ok-new-clause-joins c = λ _. let tags = (arc_value c.in-Ok.member.shared).tags in (
-  tags,
-  subst (λ (x : Option Object). IsPoolOf tags x) (sym c.in-Some.ensures.some) c.in-Ok.ensures.ok,
-  subst (λ (x : Option Object). IsHandIn tags x) (sym c.of.ensures)
-      (subst (λ (x : Object). IsMemberIn tags x.kind) (sym c.in-Ok-new.ensures.ok) refl),
-)
+returns-in-Ok-new-clause-joins c = λ _. let pool = c.in-Some.object.now in
+    subst (λ (x : Option Object). JoinsPool x c.of.result.object.value) (sym c.in-Some.ensures.some)
+    (subst (λ (x : Option Object). JoinsPool (Some pool) x) (sym c.of.ensures)
+    (subst (λ (x : Object). JoinsKind pool.kind x.kind) (sym c.in-Ok-new.ensures.ok) c.in-Ok.ensures.ok))
 
 pub returns-in-Ok-new-clause-not_empty : goal.returns-in-Ok-new-clause-not_empty
 returns-in-Ok-new-clause-not_empty c = λ full. let hand = c.args.hand.now in
@@ -62,10 +64,10 @@ returns-in-Err-new-clause-not_empty c = λ full. let hand = c.args.hand.now in
 
 pub returns-in-Err-new-clause-why : goal.returns-in-Err-new-clause-why
 returns-in-Err-new-clause-why c = λ _. let code = c.code-in-Err-new in
-    let tags = (arc_value c.in-Ok.member.shared).tags in
+    let there = joined c.in-Some.object.now.kind c.in-Ok.kind c.in-Ok.ensures.ok in
     refuses (RefusesJoin c.args.pool.now.object.value c.args.hand.now.object.value c.args.flags) (NotOpened Memory)
     code.result code.ensures code.type_inv (inr (inr (
       empty c.args.hand.now c.if-hand-ne0.false,
-      (tags, subst (λ (x : Option Object). IsPoolOf tags x) (sym c.in-Some.ensures.some) c.in-Ok.ensures.ok),
+      (there.0, subst (λ (x : Option Object). IsPoolOf there.0 x) (sym c.in-Some.ensures.some) there.1),
       inr (c.in-Ok.ensures.known, inr refl),
     )))

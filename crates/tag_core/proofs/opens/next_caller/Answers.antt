@@ -4,7 +4,7 @@ use lib.ListN.{length-replicate}
 use Rattle.atomic_table.specs.Table.{Splits}
 use Rattle.tag_layout.specs.Layout.{words}
 use Rattle.tag_core.specs.declared.shape.Shape.{Shape}
-use Rattle.tag_core.specs.Records.{fresh_record, Carries}
+use Rattle.tag_core.specs.Records.{fresh_record, Carries, StartsAtZero}
 use Rattle.tag_core.specs.Views.{viewing, own_view, fresh, first_view, other_views, steps_of}
 use Rattle.tag_core.specs.Rule.{Shown}
 use Rattle.tag_core.specs.Meeting.{HasHistory}
@@ -26,7 +26,7 @@ split_seat-seat-requires g c =
     )
 
 -- a caller that won nothing before
-none_before : {R : Type 0} (k : Shape) (n : ℕ) → k.won_before.value.items ≡ [] → k.back_before.value.items ≡ []
+none_before : {R : Type 0} (k : Shape) (n : ℕ) → StartsAtZero k
     → fresh_record {R = R} k n ≡ record {
       shape = k;
       number = n;
@@ -37,15 +37,15 @@ none_before : {R : Type 0} (k : Shape) (n : ℕ) → k.won_before.value.items �
       back = 0;
       steps = [];
     }
-none_before k n won back j =
+none_before k n starts j =
     record {
       shape = k;
       number = n;
       held = replicate (words k.layout) 0;
       swept = replicate
           (words k.layout) 0;
-      won = get_or (won j) n 0;
-      back = get_or (back j) n 0;
+      won = starts.0 n j;
+      back = starts.1 n j;
       steps = [];
     }
 
@@ -55,7 +55,7 @@ invariant_of-result g c = let k = c.args.map.now.shape in let n : ℕ = c.args.n
     let blank : c.in_ok-held.held.items ≡ replicate (words k.layout) 0 = search rules in
     let now = c.split_seat-seat.ensures.4 in
     let alone_is = ap (λ x. x.0) now ∙ ap first_view is
-    ∙ ap own_view (none_before {R = R} k n c.requires.blank.0 c.requires.blank.1) in record {
+    ∙ ap own_view (none_before {R = R} k n c.requires.blank) in record {
       told = search rules;
       knows = alone_is ∙ (λ j. own_view
           (record {
@@ -95,7 +95,7 @@ returns-clause-caller g c = let k = c.args.map.now.shape in let n : ℕ = c.args
         back = 0;
         steps = steps_of (alone_is j);
       })
-          ∙ sym (none_before {R = R} k n c.requires.blank.0 c.requires.blank.1),
+          ∙ sym (none_before {R = R} k n c.requires.blank),
     )
 
 pub returns-clause-rest : goal.returns-clause-rest

@@ -1,5 +1,5 @@
 -- Each caller's counts stand at its number, and no two callers have one number.
-use Rattle.std.proofs.Common.{rules, arith, ◌≡◌, ◌≢◌, ℕ, ◌+◌, ◌<◌, List, length, get_or, set, sym, ap, ◌∙◌, subst, get_or-set_other, get_or-set_same, length-set}
+use Rattle.std.proofs.Common.{rules, arith, ◌≡◌, ◌≢◌, ℕ, ◌+◌, ◌<◌, List, length, get_or, set, sym, ap, ◌∙◌, subst, get_or-set_other, get_or-set_same, length-set, refl}
 use mathlib.Core.Option.{some, some-injective}
 use mathlib.Core.Logic.{dite}
 use native.Mathlib.Decide.{ℕ_discrete}
@@ -8,21 +8,30 @@ use Rattle.atomic_table.proofs.Lists.{at_index}
 use Rattle.tag_core.specs.declared.caller.Caller.{Caller}
 use Rattle.tag_core.specs.Callers.{HaveOwnNumbers}
 use Rattle.step_ledger.proofs.Seats.{within}
+use Rattle.tag_core.proofs.Passing.{zeros}
 use Rattle.tag_core.proofs.reopens.next_shape.Goals as goal
 
-pub index_mut-requires : goal.index_mut-requires
-index_mut-requires g c =
-    let here = at_index c.args.callers.now c.loop-caller.caller-index c.caller-item.result
-    c.loop-caller-test.true c.caller-item.is in
-    let low = c.requires.below c.loop-caller.caller-index c.caller-item.result here in
-    let long = c.loop-caller.invariant.long.0 in search rules
+pub loop-caller-init : goal.loop-caller-init
+loop-caller-init g c = record {
+  long = (refl, refl);
+  rest = λ n l. zeros 64 n;
+  won = λ i x l. absurd (omega arith);
+  back = λ i x l. absurd (omega arith);
+}
 
-pub index_mut-requires-in-loop-caller : goal.index_mut-requires-in-loop-caller
-index_mut-requires-in-loop-caller g c =
+pub bounds-won-caller : goal.bounds-won-caller
+bounds-won-caller g c =
     let here = at_index c.args.callers.now c.loop-caller.caller-index c.caller-item.result
     c.loop-caller-test.true c.caller-item.is in
     let low = c.requires.below c.loop-caller.caller-index c.caller-item.result here in
-    let long = c.loop-caller.invariant.long.1 in search rules
+    let few = c.requires.few in omega arith
+
+pub bounds-back-caller : goal.bounds-back-caller
+bounds-back-caller g c =
+    let here = at_index c.args.callers.now c.loop-caller.caller-index c.caller-item.result
+    c.loop-caller-test.true c.caller-item.is in
+    let low = c.requires.below c.loop-caller.caller-index c.caller-item.result here in
+    let few = c.requires.few in omega arith
 
 -- one caller's count more
 more : {R : Type 0} (f : Caller R → ℕ) (callers : List (Caller R)) (counts : List ℕ) (n : ℕ) (x : Caller R)
@@ -43,15 +52,16 @@ loop-caller-preserved g c =
     let R = g.row.R.Denot in let xs : List (Caller R) = c.args.callers.now in let n : ℕ = c.loop-caller.caller-index in
     let x : Caller R = c.caller-item.result in let inv = c.loop-caller.invariant in
     let here = at_index xs n x c.loop-caller-test.true c.caller-item.is in
-    let low = c.requires.below n x here in record {
+    let low = c.requires.below n x here in let few = c.requires.few in record {
       long = (
-        length-set c.loop-caller.won.items x.number x.won ∙ inv.long.0,
-        length-set c.loop-caller.back.items x.number x.back ∙ inv.long.1,
+        length-set c.loop-caller.won x.number x.won ∙ inv.long.0,
+        length-set c.loop-caller.back x.number x.back ∙ inv.long.1,
       );
-      won = more (λ (z : Caller R). z.won) xs c.loop-caller.won.items n x here (let e = inv.long.0 in
+      rest = λ k l. get_or-set_other c.loop-caller.won x.number k x.won 0 (omega arith) ∙ inv.rest k l;
+      won = more (λ (z : Caller R). z.won) xs c.loop-caller.won n x here (let e = inv.long.0 in
           omega arith) inv.won
           c.requires.once;
-      back = more (λ (z : Caller R). z.back) xs c.loop-caller.back.items n x here (let e = inv.long.1 in
+      back = more (λ (z : Caller R). z.back) xs c.loop-caller.back n x here (let e = inv.long.1 in
           omega arith) inv.back
           c.requires.once;
     }
@@ -60,8 +70,8 @@ pub returns-clause-counts : goal.returns-clause-counts
 returns-clause-counts g c =
     let R = g.row.R.Denot in let xs : List (Caller R) = c.args.callers.now in let inv = c.loop-caller.invariant in
     let end = c.loop-caller-test.false in record {
-      won = λ i x at. ap (λ z. get_or z.items x.number 0) c.of.ensures
+      won = λ i x at. ap (λ (z : List ℕ). get_or z x.number 0) c.of.ensures
           ∙ inv.won i x (let low = within xs i x at in omega arith) at;
-      back = λ i x at. ap (λ z. get_or z.items x.number 0) c.of-2.ensures
+      back = λ i x at. ap (λ (z : List ℕ). get_or z x.number 0) c.of-2.ensures
           ∙ inv.back i x (let low = within xs i x at in omega arith) at;
     }

@@ -1,5 +1,5 @@
 -- The counts of the callers so far are at the places of their numbers.
-use Rattle.std.proofs.Common.{◌≡◌, ℕ, ◌<◌, length, slice_index}
+use Rattle.std.proofs.Common.{◌≡◌, ℕ, ◌<◌, ◌≤◌, length, slice_index}
 use mathlib.Core.Option.{some}
 use lib.ListN.{get_elem?}
 use Rattle.tag_core.specs.declared.caller.Caller.{Caller}
@@ -7,9 +7,10 @@ use Rattle.tag_core.proofs.reopens.next_shape.Given as goal
 
 abbrev pub invariant-loop-caller : goal.invariant-loop-caller
 invariant-loop-caller g l = record {
-  long : (length l.won.items ≡ l.shape.callers) × (length l.back.items ≡ l.shape.callers);
+  long : (length l.won ≡ 64) × (length l.back ≡ 64);
+  rest : (c : ℕ) → l.shape.callers ≤ c → slice_index l.won c ≡ 0;
   won : (i : ℕ) (x : Caller g.row.R.Denot) → i < l.caller-index → get_elem? l.callers i ≡ some x
-      → slice_index l.won.items x.number ≡ x.won;
+      → slice_index l.won x.number ≡ x.won;
   back : (i : ℕ) (x : Caller g.row.R.Denot) → i < l.caller-index → get_elem? l.callers i ≡ some x
-      → slice_index l.back.items x.number ≡ x.back;
+      → slice_index l.back x.number ≡ x.back;
 }

@@ -124,8 +124,8 @@ reseat-requires-clause-rest g c =
 pub reseat-requires-clause-counts : goal.reseat-requires-clause-counts
 reseat-requires-clause-counts g c =
     let R = g.row.R.Denot in let k = c.args.tags.now.shape in let a = as_it_was c in
-    subst (λ (z : Caller R). (get_or k.won_before.value.items z.number 0 ≡ z.won)
-    × (get_or k.back_before.value.items z.number 0 ≡ z.back))
+    subst (λ (z : Caller R). (get_or k.won_before.value z.number 0 ≡ z.won)
+    × (get_or k.back_before.value z.number 0 ≡ z.back))
     (sym a.2) (c.requires.counts.won c.in-Some.i a.0 a.1, c.requires.counts.back c.in-Some.i a.0 a.1)
 
 pub reseat-requires-clause-life : goal.reseat-requires-clause-life

@@ -7,7 +7,7 @@ use Rattle.tag_layout.specs.Layout.{Layout, words, word_of, place_of, word_depth
 use Rattle.tag_search.specs.Plain.{Plain, plain_words, IsTaken}
 use Rattle.tag_search.specs.Pool.{Pool, pool_of, is_busy, free_at}
 use Rattle.tag_search.proofs.PlainPools.{taken_of_busy}
-use Rattle.tag_script.specs.Solo.{freed}
+use Rattle.tag_script.specs.PlainWorld.{freed}
 use Rattle.tag_script.proofs.ClearingFacts.{with_place, free_more, free_one, free_none, freed_none, freed_more, still_held, held_before, taken_more, taken_one, taken_as, within_as}
 use Rattle.tag_script.proofs.clearing.give_all.Goals as goal
 use Rattle.tag_script.proofs.clearing.give_all.Goals.{then-here-word, else-here-word}

@@ -4,7 +4,7 @@ use Rattle.std.specs.Int.{bit_at}
 use Rattle.tag_layout.specs.Layout.{words, IsWithin}
 use Rattle.tag_search.specs.Plain.{plain_words, IsTaken}
 use Rattle.tag_search.specs.Pool.{pool_of, free_at}
-use Rattle.tag_script.specs.Solo.{freed}
+use Rattle.tag_script.specs.PlainWorld.{freed}
 use Rattle.tag_script.proofs.clearing.give_all.Given as goal
 
 abbrev pub invariant-loop-tag : goal.invariant-loop-tag

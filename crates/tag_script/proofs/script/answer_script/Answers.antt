@@ -1,4 +1,4 @@
--- Each text is that of the first malformed line, of a refused setup, or of a play of the orders.
+-- Each text is that of the first malformed line, of a refused setup, or of a run of the orders.
 use Rattle.std.proofs.Common.{ℕ, List, sym, ap, subst, ◌∙◌}
 use Rattle.std.specs.List.{All}
 use Rattle.tag_lines.specs.declared.dialect.Dialect.{Dialect}
@@ -8,9 +8,9 @@ use Rattle.tag_lines.specs.Readings.{AreReadings, IsFirstFaulty, IsListFault}
 use Rattle.tag_lines.specs.ScriptLines.{order_of, IsOrderOf}
 use Rattle.tag_lines.proofs.KnownFacts.{orders_known}
 use Rattle.tag_script.specs.declared.ending.Ending.TheVariants.{Refused}
-use Rattle.tag_script.specs.declared.fault.Closed.{Closed}
-use Rattle.tag_script.specs.Script.{IsRefusedSetup, IsTold, Owed, dialect_of, faulty, refused, played}
-use Rattle.tag_script.specs.Setups.{IsClosed}
+use Rattle.tag_script.specs.declared.fault.OpenFault.{OpenFault}
+use Rattle.tag_script.specs.Script.{IsRefusedSetup, IsTold, Owed, dialect_of, faulty, refused, answered}
+use Rattle.tag_script.specs.Setups.{IsOpenFault}
 use Rattle.tag_script.specs.Texts.{faulty_text, setup_text}
 use Rattle.tag_script.proofs.script.answer_script.Goals as goal
 
@@ -37,7 +37,7 @@ returns-in-Ok-carry_out g c =
     let orders : List Order = c.in-Ok.orders.items in let text : List ℕ = c.in-Ok-carry_out.text.items in
     let says = subst (λ (d : Dialect). AreReadings (order_of d o.callers) script orders) c.dialect.ensures
     c.in-Ok.ensures.orders in
-    played orders text says (subst (λ (os : List Order). IsTold o.plain o os text) c.deref.ensures.value
+    answered orders text says (subst (λ (os : List Order). IsTold o.plain o os text) c.deref.ensures.value
     c.in-Ok-carry_out.ensures.told)
 
 pub returns : goal.returns
@@ -47,6 +47,6 @@ returns g c =
     let text_is = c.in_ok-setup_text-in-Err-Setup.ensures ∙ ap setup_text c.in-Err-Setup.fault-is in
     let says = subst (λ (d : Dialect). AreReadings (order_of d o.callers) script orders) c.dialect.ensures
     c.in-Ok.ensures.orders in
-    let why = subst (λ (f : Closed). IsClosed (IsRefusedSetup o.plain o) f) c.in-Err-Setup.field-0-is
+    let why = subst (λ (f : OpenFault). IsOpenFault (IsRefusedSetup o.plain o) f) c.in-Err-Setup.field-0-is
     c.in-Err-Setup.ensures.fault in
     subst (λ (t : List ℕ). Owed o script t Refused) (sym text_is) (refused orders fault says why)

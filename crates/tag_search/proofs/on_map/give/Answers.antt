@@ -9,7 +9,7 @@ use Rattle.tag_core.specs.declared.word_step.WordStep.TheVariants.{Give}
 use Rattle.tag_core.specs.Callers.{layout_of, Holds, Adds}
 use Rattle.tag_core.specs.Holdings.{IsInMask, Releases}
 use Rattle.tag_core.proofs.Holdings.{released_as, alone_named, named_alone}
-use Rattle.tag_search.proofs.LoneCallers.{own_give, place_small}
+use Rattle.tag_search.proofs.AloneCallers.{own_give, place_small}
 use Rattle.tag_search.proofs.on_map.give.Goals as goal
 
 pub give-requires-clause-within : goal.give-requires-clause-within

@@ -3,7 +3,7 @@ use Rattle.std.proofs.Common.{◌<◌, subst}
 use Rattle.tag_core.specs.declared.shape.Shape.{Shape}
 use Rattle.tag_layout.specs.Layout.{word_of, place_of}
 use Rattle.tag_core.specs.Callers.{layout_of}
-use Rattle.tag_search.proofs.LoneCallers.{own_put, place_small}
+use Rattle.tag_search.proofs.AloneCallers.{own_put, place_small}
 use Rattle.tag_search.proofs.on_map.put.Goals as goal
 
 pub returns-clause-alone : goal.returns-clause-alone

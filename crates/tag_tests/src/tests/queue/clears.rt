@@ -6,7 +6,7 @@ use crate::tests::steps::Step::{Calls, ClearBatch, Gets};
 use crate::tests::totals::{all_totals, options, totals};
 use std::test::Fail;
 use tag_queue::QueueTotals;
-use tag_queue::TagFault::{BadCount, NoSuchTag, NotHeld};
+use tag_sets::TagFault::{BadCount, NoSuchTag, NotHeld};
 use wake_book::GroupTotals;
 
 #[test]

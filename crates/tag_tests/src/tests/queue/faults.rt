@@ -1,12 +1,17 @@
 //! What refusals print.
 use std::test::*;
-use tag_queue::{ResizeCause, SetFault, TagFault};
+use tag_queue::{QueueFault, QueueOpenFault, ResizeCause};
 
 #[test]
 fn refusals_print_their_cause(rt: HostRuntime) -> Result<(), Fail> {
     let mut text = String::new(rt.alloc());
-    write!(text, "{}; {}; ", SetFault::LifeTooLong, SetFault::Memory)?;
-    write!(text, "{}; {}; ", TagFault::NotHeld, TagFault::Spent)?;
+    write!(
+        text,
+        "{}; {}; ",
+        QueueOpenFault::LifeTooLong,
+        QueueOpenFault::Memory
+    )?;
+    write!(text, "{}; {}; ", QueueFault::NotHeld, QueueFault::Spent)?;
     write!(text, "{}; ", ResizeCause::InUse(2, 1))?;
     write!(text, "{}", ResizeCause::Missing(3))?;
     assert_eq!(rt;

@@ -6,7 +6,7 @@ use crate::tests::steps::Step::{Calls, ClearBatch, Gets};
 use crate::tests::totals::{in_words, options};
 use std::test::Fail;
 use tag_queue::Options;
-use tag_queue::TagFault::{BadCount, Spent, TooShallow};
+use tag_sets::TagFault::{BadCount, Spent, TooShallow};
 
 /// Options with words of four tags and round robin.
 fn in_turn() -> Options {

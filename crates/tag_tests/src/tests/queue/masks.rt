@@ -4,7 +4,7 @@ use crate::tests::calls::Call::{ClearMask, Get, GetBatch, Holds};
 use crate::tests::queue::stages::expect;
 use crate::tests::totals::in_words;
 use std::test::Fail;
-use tag_queue::TagFault::{BadCount, NoSuchTag, NotHeld};
+use tag_sets::TagFault::{BadCount, NoSuchTag, NotHeld};
 
 #[test]
 fn a_mask_clear_frees_its_tags_alone(rt: HostRuntime) -> Result<(), Fail> {

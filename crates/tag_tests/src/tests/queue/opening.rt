@@ -7,11 +7,15 @@ use crate::tests::steps::Step::{Calls, Count};
 use crate::tests::totals::{in_words, options};
 use std::alloc::Global;
 use std::test::Fail;
-use tag_queue::TagFault::{NoSuchTag, NotHeld};
-use tag_queue::{Options, Queue, SetFault};
+use tag_queue::{Options, Queue, QueueOpenFault};
+use tag_sets::TagFault::{NoSuchTag, NotHeld};
 
 /// Returns the faults of opening a queue with these options, and of opening it with its agents placed.
-fn refusals(alloc: Global, depth: u32, options: Options) -> (Option<SetFault>, Option<SetFault>) {
+fn refusals(
+    alloc: Global,
+    depth: u32,
+    options: Options,
+) -> (Option<QueueOpenFault>, Option<QueueOpenFault>) {
     (
         Queue::open(alloc, depth, options, 0u64).err(),
         Queue::open_placed(alloc, depth, options, 0u64).err(),
@@ -41,12 +45,12 @@ fn a_queue_is_refused_for_its_first_fault(rt: HostRuntime) {
         ..deserted
     };
     for (depth, options, fault) in [
-        (10_241, wide, SetFault::TotalTooLarge),
-        (10_240, wide, SetFault::ShiftTooLarge),
-        (10_240, deserted, SetFault::CallerCount),
-        (10_240, crowded, SetFault::CallerCount),
-        (10_240, lasting, SetFault::LifeTooLong),
-        (10_240, capped, SetFault::CapTooLarge),
+        (10_241, wide, QueueOpenFault::TotalTooLarge),
+        (10_240, wide, QueueOpenFault::ShiftTooLarge),
+        (10_240, deserted, QueueOpenFault::CallerCount),
+        (10_240, crowded, QueueOpenFault::CallerCount),
+        (10_240, lasting, QueueOpenFault::LifeTooLong),
+        (10_240, capped, QueueOpenFault::CapTooLarge),
     ] {
         assert_eq!(rt;
             refusals(rt.alloc(), depth, options),

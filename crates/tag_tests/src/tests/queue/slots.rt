@@ -5,7 +5,7 @@ use crate::tests::queue::stages::{expect, expect_totals};
 use crate::tests::steps::Step::Calls;
 use crate::tests::totals::{FILL, options, unwaited};
 use std::test::Fail;
-use tag_queue::TagFault::{NoSuchTag, NotHeld, NotPosted};
+use tag_sets::TagFault::{NoSuchTag, NotHeld, NotPosted};
 
 #[test]
 fn a_slot_passes_on_with_its_tag(rt: HostRuntime) -> Result<(), Fail> {

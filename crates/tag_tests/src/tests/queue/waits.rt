@@ -6,7 +6,7 @@ use crate::tests::steps::Step::Calls;
 use crate::tests::totals::{all_totals, options, totals};
 use std::test::Fail;
 use tag_queue::Options;
-use tag_queue::TagFault::{NoSuchTag, NotWaiting, Waiting};
+use tag_sets::TagFault::{NoSuchTag, NotWaiting, Waiting};
 use wake_book::Left as Leave;
 
 #[test]

@@ -9,9 +9,9 @@ use crate::tests::sets::stages::{expect, expect_steps};
 use crate::tests::steps::Step::{Calls, ClearBatch, Gets};
 use crate::tests::totals::{in_words, options};
 use std::test::Fail;
-use tag_queue::TagFault::{BadCount, NoSuchTag, NotHeld, NotWaiting, Waiting};
 use tag_sets::Kind::Ordinary;
 use tag_sets::Shown;
+use tag_sets::TagFault::{BadCount, NoSuchTag, NotHeld, NotWaiting, Waiting};
 use wake_book::Left as Leave;
 
 #[test]

@@ -8,7 +8,7 @@ use crate::tests::steps::Step::Calls;
 use crate::tests::totals::{in_words, options, unwaited};
 use std::test::Fail;
 use tag_queue::Options;
-use tag_queue::TagFault::{BadCount, NoReserved, NoSuchTag, Spent, TooShallow, Waiting};
+use tag_sets::TagFault::{BadCount, NoReserved, NoSuchTag, Spent, TooShallow, Waiting};
 
 #[test]
 fn reserved_tags_come_first(rt: HostRuntime) -> Result<(), Fail> {

@@ -11,7 +11,7 @@ use crate::tests::totals::{in_words, options};
 use std::process::Abort;
 use std::sync::Wait;
 use std::test::Fail;
-use tag_queue::TagFault::{BadCount, NoSuchTag, NotHeld};
+use tag_sets::TagFault::{BadCount, NoSuchTag, NotHeld};
 
 #[test]
 fn a_mask_clear_takes_what_a_batch_get_answers(rt: HostRuntime) -> Result<(), Fail> {

@@ -1,8 +1,7 @@
 //! Out of memory. This test also passes when each allocation in turn is made to fail.
 use crate::tests::totals::options;
 use std::test::Fail;
-use tag_queue::SetFault;
-use tag_sets::Tags;
+use tag_sets::{SetFault, Tags};
 
 #[test]
 fn want_of_memory_is_told(rt: HostRuntime) -> Result<(), Fail> {

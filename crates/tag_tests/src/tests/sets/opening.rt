@@ -6,8 +6,8 @@ use crate::tests::steps::Step::Calls;
 use crate::tests::totals::options;
 use std::alloc::Global;
 use std::test::Fail;
-use tag_queue::{Options, SetFault};
-use tag_sets::Tags;
+use tag_queue::Options;
+use tag_sets::{SetFault, Tags};
 
 /// Returns the fault of opening two sets with these options, or `None` if they open.
 fn refusal(alloc: Global, total: u32, reserved: u32, options: Options) -> Option<SetFault> {

@@ -4,7 +4,7 @@ use crate::tests::calls::Call::{Clear, Get, GetReserved, Holds, Post, Read, Take
 use crate::tests::sets::stages::expect;
 use crate::tests::totals::{FILL, options};
 use std::test::Fail;
-use tag_queue::TagFault::{NoSuchTag, NotHeld, NotPosted};
+use tag_sets::TagFault::{NoSuchTag, NotHeld, NotPosted};
 
 #[test]
 fn a_hand_tells_which_tags_of_both_sets_it_holds(rt: HostRuntime) -> Result<(), Fail> {

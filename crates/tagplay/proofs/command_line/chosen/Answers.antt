@@ -19,7 +19,7 @@ returns-in-Some-clause-chosen g c =
     let words = map g.S.AsStr.text c.args.words.now in
     let app = app_of c.in-Ok.command in
     let parse = c.in-Ok-try_get_matches_from in
-    chooses words (subcommand_rows_of parse.matches) c.in-Some.choice
+    chooses words (subcommand_rows_of parse.matches) c.in-Some.subcommand
     (fails_by app words (Ok parse.matches) c.in-Ok.ensures parse.ensures.kinds)
     (rows_by app words parse.matches c.in-Ok.ensures parse.ensures.matches) c.in-Some.ensures.named
 

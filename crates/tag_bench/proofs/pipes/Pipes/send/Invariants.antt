@@ -2,4 +2,4 @@
 use Rattle.tag_bench.proofs.pipes.Pipes.send.Given as goal
 
 abbrev pub invariant-loop-round : goal.invariant-loop-round
-invariant-loop-round g l = g.T.Tags.is_own l.tags l.hand
+invariant-loop-round g l = g.T.TagAllocator.is_own l.tags l.hand

@@ -1,7 +1,7 @@
 -- The new hands are in the order of their numbers and have done nothing, so each part is idle and no set has a step.
 use Rattle.std.proofs.Common.{arith}
 use Rattle.tag_board.proofs.Newcomers.{opens, every, in_order, starts}
-use Rattle.tag_board.proofs.SoloOpens.{opens_alone}
+use Rattle.tag_board.proofs.AloneOpens.{opens_alone}
 use Rattle.tag_board.proofs.board.Board.open.Goals as goal
 
 pub invariant_of-result : goal.invariant_of-result

@@ -1,5 +1,5 @@
 -- The tag is in range since its caller holds it, so every hand can be tested. Those that were do not hold it.
-use Rattle.std.proofs.Common.{◌≡◌, ◌≢◌, ℕ, sym, subst, arith, false}
+use Rattle.std.proofs.Common.{◌≡◌, ◌≢◌, ℕ, ◌<◌, length, sym, subst, arith, false}
 use mathlib.Core.Logic.{dite}
 use native.Mathlib.Decide.{ℕ_discrete}
 use Rattle.std.proofs.lemmas.Bool.{both_ways}
@@ -7,17 +7,17 @@ use Rattle.tag_sets.specs.Hands.{IsHandOf, Holds}
 use Rattle.tag_board.specs.Boards.{state_of}
 use Rattle.tag_board.proofs.Holders.{holder, unheld_at}
 use Rattle.tag_board.proofs.Ranges.{tag_there}
-use Rattle.tag_board.proofs.Seats.{own_here}
+use Rattle.tag_board.proofs.Seats.{own_here, sits}
 use Rattle.tag_board.proofs.board.Board.other_holder.Goals as goal
 use Rattle.tag_board.proofs.board.Board.other_holder.Goals.{else-other-caller-via-then-other-caller+else-holds, else-other-caller-via-else-other-caller}
 
 pub holds-requires : goal.holds-requires
 holds-requires c =
-    let b = c.args.self.now in let hands = b.hands.items in let h = holder hands c.args.caller c.args.tag c.requires in
-    let ok = b.hands.ok in let other = c.index.result.now in
-    let there : IsHandOf b.tags other = own_here b.tags hands c.loop-other.other other (omega arith) c.index.ensures
-    b.own in
-    tag_there b.tags h.hand other (own_here b.tags hands c.args.caller h.hand h.within h.here b.own) there c.args.tag
+    let b = c.args.self.now in let hands = b.hands.items in
+    let h = holder hands c.args.caller c.args.tag c.requires in let ok = b.hands.ok in
+    let other = c.index.result.now in let low : c.loop-other.other < length hands = omega arith in
+    let there : IsHandOf b.tags other = own_here b.tags (sits low c.index.ensures) b.own in
+    tag_there b.tags h.hand other (own_here b.tags (sits h.within h.here) b.own) there c.args.tag
     h.holds
 
 pub loop-other-preserved : goal.loop-other-preserved

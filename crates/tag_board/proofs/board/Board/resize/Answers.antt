@@ -3,7 +3,7 @@ use Rattle.std.proofs.Common.{◌≡◌, refl, sym, ap, ◌∙◌}
 use Rattle.tag_queue.specs.Agents as queue
 use Rattle.tag_board.proofs.Continuing.{order_kept, every_there, world_resized, world_free, total_kept, world_kept, numbers_kept, may_resize, refuses}
 use Rattle.tag_board.proofs.Endings.{all_there}
-use Rattle.tag_board.proofs.SoloResizes.{resizes_alone, unchanged_alone}
+use Rattle.tag_board.proofs.AloneResizes.{resizes_alone, unchanged_alone}
 use Rattle.tag_board.proofs.board.Board.resize.Goals as goal
 
 pub invariant_of-result : goal.invariant_of-result
@@ -18,7 +18,8 @@ invariant_of-result c =
 
 pub returns-in-Ok-clause-answers : goal.returns-in-Ok-clause-answers
 returns-in-Ok-clause-answers c =
-    let b = c.args.self in let tags = c.in-Ok.tags in let hands = c.in-Ok.hands.items in let is = c.in-Ok.ensures.ok in
+    let b = c.args.self in let tags = c.in-Ok.tags in let hands = c.in-Ok.hands.items in
+    let is = c.in-Ok.ensures.ok in
     let may = c.in-Ok.ensures.may refl in let none = may.1.0 in (
       may_resize b.tags b.hands.items b.own c.args.total may,
       world_resized b.tags tags b.hands.items hands c.args.total is none,

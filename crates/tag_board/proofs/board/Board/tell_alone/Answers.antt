@@ -6,8 +6,7 @@ use Rattle.tag_board.proofs.board.Board.tell_alone.Goals as goal
 pub apart-requires-clause-hands : goal.apart-requires-clause-hands
 apart-requires-clause-hands c =
     let b = c.args.self.now in let hands = b.hands.items in let i : ℕ = c.args.caller in let o = c.in-Some.ensures in
-    let ne = o.1 in
-    let later = c.remove-later.result in let earlier = c.remove-earlier.result in
+    let ne = o.1 in let later = c.remove-later.result in let earlier = c.remove-earlier.result in
     let high = c.max.ensures in let low = c.min.ensures in
     let last : later ≡ get_or hands (max i c.in-Some.other) later =
     c.remove-later.ensures.value ∙ ap (λ (n : ℕ). get_or hands n later) high in
@@ -23,8 +22,7 @@ apart-requires-clause-hands c =
 pub apart-requires-clause-held : goal.apart-requires-clause-held
 apart-requires-clause-held c =
     let b = c.args.self.now in let hands = b.hands.items in let i : ℕ = c.args.caller in let o = c.in-Some.ensures in
-    let ne = o.1 in
-    let earlier = c.remove-earlier.result in let high = c.max.ensures in let low = c.min.ensures in
+    let ne = o.1 in let earlier = c.remove-earlier.result in let high = c.max.ensures in let low = c.min.ensures in
     let first : earlier ≡ get_or hands (min i c.in-Some.other) earlier = c.remove-earlier.ensures.value
     ∙ c.remove-later.ensures.by_index.0 c.min.result earlier (omega arith)
     ∙ ap (λ (n : ℕ). get_or hands n earlier) low in

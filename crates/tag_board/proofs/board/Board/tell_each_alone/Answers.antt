@@ -11,7 +11,7 @@ use Rattle.tag_board.specs.Replays.{NobodyElseHolds}
 use Rattle.tag_board.proofs.Batching.{in_run, all_in_run}
 use Rattle.tag_board.proofs.Holders.{holder}
 use Rattle.tag_board.proofs.Ranges.{tag_low}
-use Rattle.tag_board.proofs.Seats.{own_here}
+use Rattle.tag_board.proofs.Seats.{own_here, sits}
 use Rattle.tag_board.proofs.board.Board.tell_each_alone.Goals as goal
 use Rattle.tag_board.proofs.board.Board.tell_each_alone.Goals.{then-mask-place-ne0, else-mask-place-ne0}
 
@@ -30,7 +30,7 @@ overflow_add-first c =
     let one = bit_there c.args.mask place c.loop-place-test.true c.if-mask-place-ne0.true in
     let h = holder hands c.args.caller (first + place)
     (c.requires.held (first + place) (in_run first c.args.mask place one)) in
-    let low = tag_low b.tags h.hand (own_here b.tags hands c.args.caller h.hand h.within h.here b.own) (first + place)
+    let low = tag_low b.tags h.hand (own_here b.tags (sits h.within h.here) b.own) (first + place)
     h.holds in
     let fits = b.tags.fits in omega arith
 

@@ -3,5 +3,5 @@ use Rattle.std.proofs.Common.{◌∙◌, sym}
 use Rattle.tag_c.proofs.Flags.{some_of}
 use Rattle.tag_c.proofs.handle.Handle.into_box.Goals as goal
 
-pub show-requires : goal.show-requires
-show-requires c = some_of c.args.self.object.value (sym c.args.self.held ∙ c.if-full-eq1.true)
+pub restore-requires : goal.restore-requires
+restore-requires c = some_of c.args.self.object.value (sym c.args.self.held ∙ c.if-full-eq1.true)

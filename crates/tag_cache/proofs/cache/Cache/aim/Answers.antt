@@ -37,3 +37,12 @@ returns-clause-same g c = let cache = c.args.self.now in record {
 
 pub returns-clause-aimed : goal.returns-clause-aimed
 returns-clause-aimed g c = inl (omega arith, omega arith)
+
+pub returns-then-self-ne0-clause-moved : goal.returns-then-self-ne0-clause-moved
+returns-then-self-ne0-clause-moved g c = inr refl
+
+pub returns-then-offset-lt-WINDOW-clause-moved : goal.returns-then-offset-lt-WINDOW-clause-moved
+returns-then-offset-lt-WINDOW-clause-moved g c = inr refl
+
+pub returns-clause-moved : goal.returns-clause-moved
+returns-clause-moved g c = inl (λ tag k. none_in c.args.self.now.first c.args.self.now.kept tag c.if-self-ne0.false k)

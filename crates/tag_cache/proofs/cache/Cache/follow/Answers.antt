@@ -10,3 +10,9 @@ returns-in-Always-clause-careful g c = λ careful. let is = c.in-Always.is in ab
 
 pub returns-in-WhileHolding-clause-aimed : goal.returns-in-WhileHolding-clause-aimed
 returns-in-WhileHolding-clause-aimed g c = inr (refl, inr c.in-WhileHolding.is)
+
+pub returns-in-Always-clause-moved : goal.returns-in-Always-clause-moved
+returns-in-Always-clause-moved g c = c.aim.ensures.moved
+
+pub returns-in-WhileHolding-clause-moved : goal.returns-in-WhileHolding-clause-moved
+returns-in-WhileHolding-clause-moved g c = inr refl

@@ -21,5 +21,5 @@ pub returns-clause-gives : goal.returns-clause-gives
 returns-clause-gives g c = record { clears = c.clear_held.ensures.clears; counts = c.clear_held.ensures.counts }
 
 pub returns-clause-few : goal.returns-clause-few
-returns-clause-few g c = gives_few c.args.tags.now c.args.tag c.clear_held.result c.args.self.now.hand
+returns-clause-few g c = gives_few c.args.tags.now c.args.tag c.clear_held.result.woken c.args.self.now.hand
     c.clear_held.new.hand (record { clears = c.clear_held.ensures.clears; counts = c.clear_held.ensures.counts })

@@ -1,32 +1,44 @@
 -- The kept tags go back, and then this one.
-use Rattle.std.proofs.Common.{◌∙◌, inl, refl}
+use Rattle.std.proofs.Common.{◌∙◌, inl}
+use Rattle.tag_sets.specs.Hands.{group_steps}
+use Rattle.tag_cache.proofs.Giving.{flushed}
 use Rattle.tag_cache.proofs.cache.Cache.give_all.Goals as goal
 
-pub give_alone-requires-clause-held : goal.give_alone-requires-clause-held
-give_alone-requires-clause-held g c = (c.flush-woken.ensures.same.kept c.args.tag c.requires.held).0
+pub give_alone-later-requires-clause-held : goal.give_alone-later-requires-clause-held
+give_alone-later-requires-clause-held g c = let e = c.give_kept-sooner.ensures in
+    ((flushed c.args.tags.now c.args.self.now c.give_kept-sooner.new.self c.give_kept-sooner.result.woken e.gives
+    e.none).kept c.args.tag c.requires.held).0
 
-pub give_alone-requires-clause-other : goal.give_alone-requires-clause-other
-give_alone-requires-clause-other g c = inl c.flush-woken.ensures.none
+pub give_alone-later-requires-clause-other : goal.give_alone-later-requires-clause-other
+give_alone-later-requires-clause-other g c = inl c.give_kept-sooner.ensures.none
+
+pub both-requires-clause-sums : goal.both-requires-clause-sums
+both-requires-clause-sums g c = (
+  c.give_kept-sooner.ensures.grants.sum_is,
+  c.give_alone-later.ensures.grants.sum_is,
+)
 
 pub returns-clause-gives : goal.returns-clause-gives
-returns-clause-gives g c = let flushed = c.flush-woken.ensures.gives in record {
-  given = flushed.given;
-  kept = flushed.kept;
-  each = (
-    c.flush-woken.new.self.hand,
-    c.flush-woken.result,
-    c.give_alone.result,
-    flushed.each,
-    c.give_alone.ensures.gives,
-    refl,
-  );
+returns-clause-gives g c = record {
+  between = c.give_kept-sooner.new.self.hand;
+  sooner = c.give_kept-sooner.result.woken;
+  kept = c.give_kept-sooner.ensures.gives;
+  later = c.give_alone-later.result.woken;
+  gives = c.give_alone-later.ensures.gives;
+  woken_is = c.both.ensures.woken;
 }
 
+pub returns-clause-grants : goal.returns-clause-grants
+returns-clause-grants g c = c.both.ensures.grants (group_steps c.args.self.now.hand)
+    (group_steps c.give_kept-sooner.new.self.hand) (group_steps c.give_alone-later.new.self.hand)
+    c.give_kept-sooner.ensures.grants c.give_alone-later.ensures.grants
+
 pub returns-clause-none : goal.returns-clause-none
-returns-clause-none g c = λ tag k. c.flush-woken.ensures.none tag ((c.give_alone.ensures.kept.kept tag).0 k)
+returns-clause-none g c = λ tag k.
+    c.give_kept-sooner.ensures.none tag ((c.give_alone-later.ensures.kept.kept tag).0 k)
 
 pub returns-clause-terms : goal.returns-clause-terms
 returns-clause-terms g c = record {
-  most = c.give_alone.ensures.kept.terms.most ∙ c.flush-woken.ensures.terms.most;
-  keeping = c.give_alone.ensures.kept.terms.keeping ∙ c.flush-woken.ensures.terms.keeping;
+  most = c.give_alone-later.ensures.kept.terms.most ∙ c.give_kept-sooner.ensures.terms.most;
+  keeping = c.give_alone-later.ensures.kept.terms.keeping ∙ c.give_kept-sooner.ensures.terms.keeping;
 }

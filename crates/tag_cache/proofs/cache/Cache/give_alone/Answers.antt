@@ -3,6 +3,7 @@ use Rattle.std.proofs.Common.{refl, subst}
 use Rattle.tag_sets.specs.declared.hand.Hand.{Hand}
 use Rattle.tag_cache.specs.Clears.{GivesOne}
 use Rattle.tag_cache.proofs.Carrying.{keeps_twice}
+use Rattle.tag_cache.proofs.Granting.{before_same}
 use Rattle.tag_cache.proofs.Reusing.{held_still}
 use Rattle.tag_cache.proofs.cache.Cache.give_alone.Goals as goal
 
@@ -15,8 +16,12 @@ give-requires-clause-unlent g c = λ l. ((c.forget.ensures.loans c.args.tag).0 l
 
 pub returns-clause-gives : goal.returns-clause-gives
 returns-clause-gives g c = subst (λ (h : Hand g.row.R.Denot).
-    GivesOne c.args.tags.now c.args.tag c.give.result h c.give.new.self.hand) c.forget.ensures.same.hand
+    GivesOne c.args.tags.now c.args.tag c.give.result.woken h c.give.new.self.hand) c.forget.ensures.same.hand
     c.give.ensures.gives
+
+pub returns-clause-grants : goal.returns-clause-grants
+returns-clause-grants g c = before_same c.give.result c.args.self.now.hand c.forget.new.self.hand c.give.new.self.hand
+    c.forget.ensures.same.hand c.give.ensures.grants
 
 pub returns-clause-kept : goal.returns-clause-kept
 returns-clause-kept g c = keeps_twice c.args.self.now c.forget.new.self c.give.new.self c.forget.ensures.same.kept

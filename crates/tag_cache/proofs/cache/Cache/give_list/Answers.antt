@@ -1,35 +1,55 @@
--- The look at the active count changes nothing of this; then the list goes, alone or after the kept tags.
-use Rattle.std.proofs.Common.{arith, ◌≡◌, ◌≤◌, ℕ, inl, inr, refl}
-use Rattle.tag_cache.proofs.Carrying.{not_true, same_fields}
-use Rattle.tag_cache.proofs.Going.{found_none}
-use Rattle.tag_cache.proofs.Listing.{alone_goes, with_kept_goes}
+-- The kept tags go first if that is called for, and then the list.
+use Rattle.std.proofs.Common.{refl}
+use Rattle.tag_sets.specs.Hands.{group_steps}
+use Rattle.tag_cache.proofs.Carrying.{own_after, same_fields}
+use Rattle.tag_cache.proofs.Giving.{list_few}
+use Rattle.tag_cache.proofs.Listing.{held_before, not_in_list, hand_holds, list_goes}
 use Rattle.tag_cache.proofs.cache.Cache.give_list.Goals as goal
 
-pub returns-then-active-ne0-clause-way : goal.returns-then-active-ne0-clause-way
-returns-then-active-ne0-clause-way g c = let e = c.give_list_with_kept.ensures in
-    let some : 1 ≤ c.active.result = omega arith in
-    with_kept_goes c.args.tags.now c.args.list.now c.active.result c.give_list_with_kept.result c.args.self.now _
-    c.give_list_with_kept.new.self (same_fields c.args.self.now _ refl refl refl refl refl)
-    (record { looks = c.active.ensures.looks; counts = c.active.ensures.counts; stays = c.active.ensures.same })
-    (inl some) e.gives e.none e.terms e.reused
+pub go_before-sooner-requires-clause-left : goal.go_before-sooner-requires-clause-left
+go_before-sooner-requires-clause-left g c = λ other i. ((c.lent_without_all-left.ensures other).0 i).0
 
-pub returns-then-are_last-clause-way : goal.returns-then-are_last-clause-way
-returns-then-are_last-clause-way g c = let e = c.give_list_with_kept-then-are_last.ensures in
-    with_kept_goes c.args.tags.now c.args.list.now c.active.result c.give_list_with_kept-then-are_last.result
-    c.args.self.now _ c.give_list_with_kept-then-are_last.new.self
-    (same_fields c.args.self.now _ refl refl refl refl refl)
-    (record { looks = c.active.ensures.looks; counts = c.active.ensures.counts; stays = c.active.ensures.same })
-    (inr (c.are_last.ensures.0 c.if-are_last.true)) e.gives e.none e.terms e.reused
+pub clear_batch_held-later-requires-clause-held : goal.clear_batch_held-later-requires-clause-held
+clear_batch_held-later-requires-clause-held g c = hand_holds c.go_before-sooner.new.self c.args.list.now
+    (held_before c.args.tags.now c.lent_without_all-left.result c.go_before-sooner.result.woken c.args.self.now
+    c.go_before-sooner.new.self c.args.list.now c.go_before-sooner.ensures.way c.requires.held)
 
-pub give_list_alone-requires-clause-others : goal.give_list_alone-requires-clause-others
-give_list_alone-requires-clause-others g c = inr
-    (not_true c.are_last.result _ c.are_last.ensures c.if-are_last.false)
+pub invariant_of-self-clause-own : goal.invariant_of-self-clause-own
+invariant_of-self-clause-own g c = let mid = c.go_before-sooner.new.self in let e = c.clear_batch_held-later.ensures in
+    own_after c.args.tags.now mid.first mid.kept mid.hand c.clear_batch_held-later.new.hand
+    c.go_before-sooner.ensures.cache e.hand mid.own (λ other h i. (e.gives.less.kept other
+    (λ inside. not_in_list mid c.args.list.now (held_before c.args.tags.now c.lent_without_all-left.result
+    c.go_before-sooner.result.woken c.args.self.now c.go_before-sooner.new.self c.args.list.now
+    c.go_before-sooner.ensures.way c.requires.held) other inside i) h).0)
+
+pub invariant_of-self-clause-loans : goal.invariant_of-self-clause-loans
+invariant_of-self-clause-loans g c = let mid = c.go_before-sooner.new.self in let e = c.clear_batch_held-later.ensures in
+    own_after c.args.tags.now mid.first mid.lent mid.hand c.clear_batch_held-later.new.hand
+    c.go_before-sooner.ensures.cache e.hand mid.loans (λ other h i. (e.gives.less.kept other
+    (λ inside. ((c.lent_without_all-left.ensures other).0 ((c.go_before-sooner.ensures.loans other).0 i)).1 inside) h).0)
+
+pub both-requires-clause-few : goal.both-requires-clause-few
+both-requires-clause-few g c = let e = c.clear_batch_held-later.ensures in (
+  c.go_before-sooner.ensures.few,
+  list_few c.args.tags.now c.args.list.now c.clear_batch_held-later.result.woken c.go_before-sooner.new.self.hand
+      c.clear_batch_held-later.new.hand (record { gives = e.gives; back = e.back; counts = e.counts }),
+)
+
+pub both-requires-clause-sums : goal.both-requires-clause-sums
+both-requires-clause-sums g c = (
+  c.go_before-sooner.ensures.grants.sum_is,
+  c.clear_batch_held-later.ensures.grants.sum_is,
+)
 
 pub returns-clause-way : goal.returns-clause-way
-returns-clause-way g c = let zero : c.active.result ≡ 0 = omega arith in
-    alone_goes c.args.tags.now c.args.list.now c.give_list_alone.result c.args.self.now _ c.give_list_alone.new.self
-    (same_fields c.args.self.now _ refl refl refl refl refl)
-    (found_none c.args.tags.now c.active.result c.args.self.now.hand c.active.new.hand zero
-    (record { looks = c.active.ensures.looks; counts = c.active.ensures.counts; stays = c.active.ensures.same }))
-    (not_true c.are_last.result _ c.are_last.ensures c.if-are_last.false)
-    c.give_list_alone.ensures.gives c.give_list_alone.ensures.kept
+returns-clause-way g c = let mid = c.go_before-sooner.new.self in let e = c.clear_batch_held-later.ensures in
+    list_goes c.args.tags.now c.args.list.now c.lent_without_all-left.result c.args.self.now
+    c.lent_without_all-left.type_inv c.lent_without_all-left.ensures c.go_before-sooner.result.woken
+    c.clear_batch_held-later.result.woken c.both.result.woken mid _ c.go_before-sooner.ensures.way
+    (record { gives = e.gives; back = e.back; counts = e.counts })
+    (same_fields mid _ refl refl refl refl refl) c.both.ensures.woken
+
+pub returns-clause-grants : goal.returns-clause-grants
+returns-clause-grants g c = c.both.ensures.grants (group_steps c.args.self.now.hand)
+    (group_steps c.go_before-sooner.new.self.hand) (group_steps c.clear_batch_held-later.new.hand)
+    c.go_before-sooner.ensures.grants c.clear_batch_held-later.ensures.grants

@@ -3,7 +3,7 @@ use Rattle.std.proofs.Common.{arith, ◌≡◌, ◌<◌, ◌≤◌, ◌-◌, ℕ
 use Rattle.std.specs.Int.{bit_at}
 use Rattle.tag_sets.specs.Hands as hands
 use Rattle.tag_cache.specs.Windows.{IsIn}
-use Rattle.tag_cache.specs.Caches.{IsWithin}
+use Rattle.tag_cache.specs.Caches.{IsWithin, count_of}
 use Rattle.tag_cache.proofs.Windows.{now_in, still_in, was_in, ones_added, not_set, joined_fits}
 use Rattle.tag_cache.proofs.Reusing.{another_lent}
 use Rattle.tag_cache.proofs.cache.Cache.keep.Goals as goal
@@ -61,23 +61,32 @@ invariant_of-self-clause-careful g c = λ careful some. another_lent c.args.self
 pub returns-then-offset-ge-WINDOW : goal.returns-then-offset-ge-WINDOW
 returns-then-offset-ge-WINDOW g c = let far = c.if-offset-ge-WINDOW.true in
     let out : ¬ (IsWithin c.args.self.now c.args.tag) = λ w. let near = c.offset-offset.ensures.within.1 w in
-    omega arith in (refl, inr (inl (out, ⊎_elim (λ w. absurd (out w)) (λ f. f) c.requires.aimed)))
+    omega arith in (
+      refl,
+      ⊎_elim (λ (w : IsWithin c.args.self.now c.args.tag). absurd (out w))
+          (λ f. ⊎_elim (λ some. inl (inr (out, some))) (λ careful. inr (λ k. out (k.within careful))) f)
+          c.requires.aimed,
+    )
 
 pub returns : goal.returns
 returns g c = let cache = c.args.self.now in let tag = c.args.tag in
     let at = c.offset-offset.result in let low : at < 64 = c.if-offset-ge-WINDOW.false in
     let is = c.offset-offset.ensures.offset low in let above : cache.first ≤ tag = omega arith in
     let same : tag - cache.first ≡ at = omega arith in
+    let within : IsWithin cache tag = c.offset-offset.ensures.within.0 low in
     let none : bit_at cache.kept at ≡ 0 =
-    subst (λ (p : ℕ). bit_at cache.kept p ≡ 0) same (not_set cache.first cache.kept tag above c.requires.held.1) in
-    record {
-      hand = refl;
-      also = record {
-        now = now_in cache.kept at cache.wide.0 low cache.first tag above same;
-        still = still_in cache.kept at cache.wide.0 low cache.first tag above same;
-        none_else = was_in cache.kept at cache.wide.0 low cache.first tag above same;
-        more = ones_added cache.kept at cache.wide.0 low none;
-        terms = record { most = refl; keeping = refl };
-        reused = refl;
-      };
-    }
+    subst (λ (p : ℕ). bit_at cache.kept p ≡ 0) same (not_set cache.first cache.kept tag above c.requires.held.1) in (
+      record {
+        hand = refl;
+        also = record {
+          now = now_in cache.kept at cache.wide.0 low cache.first tag above same;
+          still = still_in cache.kept at cache.wide.0 low cache.first tag above same;
+          none_else = was_in cache.kept at cache.wide.0 low cache.first tag above same;
+          more = ones_added cache.kept at cache.wide.0 low none;
+          terms = record { most = refl; keeping = refl };
+          reused = refl;
+        };
+      },
+      (λ full. ⊎_elim (λ (m : cache.most ≤ count_of cache). omega arith) (λ o. o.0 within) full),
+      record { some = omega arith; alive = omega arith; within = λ careful. within },
+    )

@@ -1,5 +1,5 @@
 -- Once all tags have left the mask, none of the list is in it.
-use Rattle.std.proofs.Common.{arith, ◌≡◌, ◌≢◌, ℕ, ◌<◌, length, get_or, sym, ap, ◌∙◌, subst, below_more}
+use Rattle.std.proofs.Common.{arith, ◌≢◌, ℕ, ◌<◌, length, get_or, sym, ◌∙◌, below_more}
 use Rattle.std.proofs.lemmas.Grind.{get_or_default_zero}
 use Rattle.tag_cache.proofs.cache.Cache.lent_without_all.Goals as goal
 

@@ -1,7 +1,7 @@
 -- The hands are unchanged, and so is what is kept.
 use Rattle.std.proofs.Common.{refl}
 use Rattle.tag_cache.proofs.Carrying.{same_fields}
-use Rattle.tag_cache.proofs.Steady.{meets_rests, own_rests, same_tags}
+use Rattle.tag_cache.proofs.Steady.{meets_rests, same_tags}
 use Rattle.tag_cache.proofs.cache.Cache.meet_hand.Goals as goal
 
 pub returns-clause-same : goal.returns-clause-same

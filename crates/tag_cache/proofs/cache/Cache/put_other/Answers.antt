@@ -4,13 +4,19 @@ use Rattle.tag_sets.specs.declared.hand.Hand.{Hand}
 use Rattle.tag_sets.specs.Hands as hands
 use Rattle.tag_cache.specs.declared.cache.Cache.{Cache}
 use Rattle.tag_cache.specs.Caches.{IsFixed}
+use Rattle.tag_cache.specs.Granted.{woken_in}
+use Rattle.tag_cache.proofs.Granting.{granted_same}
 use Rattle.tag_cache.proofs.Reusing.{held_still}
-use Rattle.tag_cache.proofs.Going.{goes_from}
+use Rattle.tag_cache.proofs.Moving.{goes_from}
 use Rattle.tag_cache.proofs.cache.Cache.put_other.Goals as goal
 
 pub returns-clause-way : goal.returns-clause-way
-returns-clause-way g c = goes_from c.args.tags.now c.args.tag c.put.result c.args.self.now c.follow.new.self
-    c.put.new.self c.follow.ensures.same c.follow.ensures.aimed c.follow.ensures.careful c.put.ensures.way
+returns-clause-way g c = goes_from c.args.tags.now c.args.tag (woken_in c.put.result) c.args.self.now c.follow.new.self
+    c.put.new.self c.follow.ensures.same c.follow.ensures.moved c.follow.ensures.careful c.put.ensures.way
+
+pub returns-clause-grants : goal.returns-clause-grants
+returns-clause-grants g c = granted_same c.put.result c.args.self.now.hand c.follow.new.self.hand c.put.new.self.hand
+    c.follow.ensures.same.hand c.put.ensures.grants
 
 pub put-requires-clause-cache : goal.put-requires-clause-cache
 put-requires-clause-cache g c = subst (λ (h : Hand g.row.R.Denot). hands.IsHandOf c.args.tags.now h)

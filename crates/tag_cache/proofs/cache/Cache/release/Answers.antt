@@ -6,25 +6,25 @@ use Rattle.tag_cache.proofs.Tallying.{unchanged_tallies, tallies_on}
 use Rattle.tag_cache.proofs.cache.Cache.release.Goals as goal
 
 pub forget-requires : goal.forget-requires
-forget-requires g c = inl c.flush.ensures.none
+forget-requires g c = inl c.flush_granted-grants.ensures.none
 
 pub forget-requires-2 : goal.forget-requires-2
 forget-requires-2 g c = inr
     (not_true c.is_last.result (IsLast c.args.tag c.args.self.now) c.is_last.ensures c.if-is_last.false)
 
 pub returns-then-is_last-clause-same : goal.returns-then-is_last-clause-same
-returns-then-is_last-clause-same g c = same_then_same c.args.self.now c.flush.new.self c.forget.new.self
-    c.flush.ensures.same (same_user c.flush.new.self c.forget.new.self c.forget.ensures.same)
+returns-then-is_last-clause-same g c = same_then_same c.args.self.now c.flush_granted-grants.new.self c.forget.new.self
+    c.flush_granted-grants.ensures.same (same_user c.flush_granted-grants.new.self c.forget.new.self c.forget.ensures.same)
 
 pub returns-then-is_last-clause-tally : goal.returns-then-is_last-clause-tally
-returns-then-is_last-clause-tally g c = tallies_on 0 0 c.args.self.now c.flush.new.self c.forget.new.self
-    c.flush.ensures.tally (unchanged_tallies c.flush.new.self c.forget.new.self c.forget.ensures.same)
+returns-then-is_last-clause-tally g c = tallies_on 0 0 c.args.self.now c.flush_granted-grants.new.self c.forget.new.self
+    c.flush_granted-grants.ensures.tally (unchanged_tallies c.flush_granted-grants.new.self c.forget.new.self c.forget.ensures.same)
 
 pub returns-then-is_last-clause-kept : goal.returns-then-is_last-clause-kept
 returns-then-is_last-clause-kept g c = λ other. absurd (other (c.is_last.ensures.0 c.if-is_last.true))
 
 pub returns-then-is_last-clause-last : goal.returns-then-is_last-clause-last
-returns-then-is_last-clause-last g c = λ last tag k. c.flush.ensures.none tag ((c.forget.ensures.same.kept.kept tag).0 k)
+returns-then-is_last-clause-last g c = λ last tag k. c.flush_granted-grants.ensures.none tag ((c.forget.ensures.same.kept.kept tag).0 k)
 
 pub returns-then-is_last-clause-unlent : goal.returns-then-is_last-clause-unlent
 returns-then-is_last-clause-unlent g c = λ l. ((c.forget.ensures.loans c.args.tag).0 l).1 refl

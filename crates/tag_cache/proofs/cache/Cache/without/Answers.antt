@@ -1,5 +1,4 @@
 -- The tag's bit leaves the mask, if the tag is in the window.
-use Rattle.std.proofs.Common.{arith}
 use Rattle.tag_cache.proofs.Windows.{not_in, without_in, without_none}
 use Rattle.tag_cache.proofs.cache.Cache.without.Goals as goal
 

@@ -13,7 +13,7 @@ pub new_map-requires-clause-opening : goal.new_map-requires-clause-opening
 new_map-requires-clause-opening g c =
     let s = c.args.self in let made = c.in-Ok.ensures in
     may_open s.tags.shape s.callers.items s.totals s.known c.args.layout
-    c.in-Ok.shape made.next made.counts made.wide c.requires.unused.0 c.requires.unused.1
+    c.in-Ok.shape made.next made.counts made.rest c.requires.unused.0 c.requires.unused.1
 
 pub new_map-requires-clause-chain : goal.new_map-requires-clause-chain
 new_map-requires-clause-chain g c =

@@ -1,7 +1,7 @@
 -- The tags are freed before they are counted, so the agent never counts more than it gave back.
-use Rattle.std.proofs.Common.{arith, rules, ◌≡◌, ℕ, count_ones, sym, ap, ◌∙◌, subst}
+use Rattle.std.proofs.Common.{rules, ◌≡◌, ℕ, count_ones, sym, subst}
 use Rattle.std.specs.Prelude.{IfErr}
-use Rattle.tag_queue.specs.declared.fault.TagFault.TheVariants.{NotHeld}
+use Rattle.tag_queue.specs.declared.fault.QueueFault.TheVariants.{NotHeld}
 use Rattle.tag_queue.specs.Clears.{Counts}
 use Rattle.tag_queue.proofs.Counting.{counts_after, refused_as}
 use Rattle.tag_queue.proofs.MaskHolds.{few_ones}

@@ -1,9 +1,8 @@
 -- The mask's highest bit is that of its last tag, below which are all others.
-use Rattle.std.proofs.Common.{arith, ◌≡◌, ◌≢◌, ℕ, ◌+◌, ◌<◌, ◌≤◌, sym, ap, ◌∙◌, subst}
+use Rattle.std.proofs.Common.{arith, ℕ, ◌+◌, ◌<◌, ◌≤◌, ap}
 use Rattle.tag_layout.specs.Layout.{Layout}
 use Rattle.tag_core.specs.Callers.{Holds}
 use Rattle.tag_queue.specs.Agents.{layout_of}
-use Rattle.tag_queue.specs.Masks.{IsLastIn}
 use Rattle.tag_queue.proofs.MaskHolds.{is_last, some_tag, none_in_zero, held_below, not_tags, are_tags}
 use Rattle.tag_queue.proofs.queue.Queue.find_mask_held.Goals as goal
 

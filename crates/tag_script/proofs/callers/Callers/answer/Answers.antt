@@ -1,6 +1,6 @@
 -- The slice that `clear_batch` takes has the tags of the command, so its outcome is that of the command.
 use Rattle.std.proofs.Common.{ℕ, List, length, sym, subst}
-use Rattle.tag_board.specs.Lones.{Does, LoneClearsList}
+use Rattle.tag_board.specs.AloneSets.{Does, AloneClearsList}
 use Rattle.tag_board.specs.Replays.{ClearsList}
 use Rattle.tag_board.specs.Wakeups.{MovesIf, GrantsFor}
 use Rattle.tag_lines.specs.declared.order.Command.{Command}
@@ -12,7 +12,7 @@ returns-in-ClearBatch g c =
     let caller = c.args.caller in let old = scene_of c.args.self.now.board in
     let new = scene_of c.clear_batch.new.self in
     let cleared = subst
-    (λ (tags : List ℕ). Together (ClearsList tags caller) (Does (λ woken. LoneClearsList tags))
+    (λ (tags : List ℕ). Together (ClearsList tags caller) (Does (λ woken. AloneClearsList tags))
     (MovesIf caller (GrantsFor (length tags))) old c.clear_batch.result new)
     c.as_slice.ensures (c.clear_batch.ensures.answers, c.clear_batch.ensures.alone, c.clear_batch.ensures.waiters) in
     subst (λ (command : Command). ObeysBy caller command old c.to_clear-in-ClearBatch.result new)

@@ -1,15 +1,15 @@
 -- The tag's number in its set is unique, so the put of the agent there is the clear of this tag alone.
 use Rattle.std.proofs.Common.{refl}
 use Rattle.tag_sets.specs.declared.kind.Kind.TheVariants.{Ordinary, Reserved}
-use Rattle.tag_sets.proofs.Passing.{placed, clears_at, clears_on}
+use Rattle.tag_sets.proofs.Passing.{placed, clears_at}
 use Rattle.tag_sets.proofs.tags.Tags.clear.Goals as goal
 
-pub returns-in-Ordinary-clause-clears : goal.returns-in-Ordinary-clause-clears
-returns-in-Ordinary-clause-clears g c = let hand = c.args.hand.now in
+pub returns-in_ok-clear-in-Ordinary-clause-clears : goal.returns-in_ok-clear-in-Ordinary-clause-clears
+returns-in_ok-clear-in-Ordinary-clause-clears g c = let hand = c.args.hand.now in
     let new = record hand { ordinary = c.clear.new.agent } in
     let at = placed c.args.self.now hand c.args.tag c.of-kind.result Ordinary c.requires.hand c.in-Ordinary.is
     c.of-kind.ensures.kind c.of-kind.ensures.number in
-    clears_on hand new Ordinary _ c.args.tag at refl refl _ c.clear.result c.args.self.now c.clear.ensures.puts
+    clears_at hand new Ordinary _ c.args.tag at refl refl c.args.self.now c.in_ok-clear-in-Ordinary.ensures.puts
 
 pub returns-in_ok-clear_uncounted-in-Reserved-clause-clears : goal.returns-in_ok-clear_uncounted-in-Reserved-clause-clears
 returns-in_ok-clear_uncounted-in-Reserved-clause-clears g c = let hand = c.args.hand.now in

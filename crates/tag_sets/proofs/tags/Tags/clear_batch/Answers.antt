@@ -2,23 +2,23 @@
 use Rattle.std.proofs.Common.{refl}
 use Rattle.tag_sets.proofs.Batching.{Answers, answered}
 use Rattle.tag_sets.proofs.tags.Tags.clear_batch.Given as given
-use Rattle.tag_sets.proofs.tags.Tags.clear_batch.Goals.{After-clear_batch}
+use Rattle.tag_sets.proofs.tags.Tags.clear_batch.Goals.{After-map_err}
 use Rattle.tag_sets.proofs.tags.Tags.clear_batch.Goals as goal
 
-told : (g : given.Over) (c : After-clear_batch g) → Answers c.args.self.now c.args.hand.now c.requires.hand c.args.tags.now _
-    (c.in-Some.ensures.ordinary.0 refl) c.in-Some.ensures.numbers c.clear_batch.new.agent c.clear_batch.result
+told : (g : given.Over) (c : After-map_err g) → Answers c.args.self.now c.args.hand.now c.requires.hand c.args.tags.now _
+    (c.in-Some.ensures.ordinary.0 refl) c.in-Some.ensures.numbers c.clear_batch.new.agent c.map_err.result
 told g c = let e = c.clear_batch.ensures in answered c.args.self.now c.args.hand.now c.requires.hand c.args.tags.now _
     (c.in-Some.ensures.ordinary.0 refl) c.in-Some.ensures.numbers c.clear_batch.new.agent c.clear_batch.result
-    e.no_such_tag e.not_held e.succeeds e.gives
+    c.map_err.result c.map_err.ensures.cases e.no_such_tag e.not_held e.succeeds e.gives
 
 pub returns-clause-no_such_tag : goal.returns-clause-no_such_tag
-returns-clause-no_such_tag g c = (told g c).no_such_tag
+returns-clause-no_such_tag g c = (told g c).refusals.no_such_tag
 
 pub returns-clause-not_held : goal.returns-clause-not_held
-returns-clause-not_held g c = (told g c).not_held
+returns-clause-not_held g c = (told g c).refusals.not_held
 
 pub returns-clause-succeeds : goal.returns-clause-succeeds
-returns-clause-succeeds g c = (told g c).succeeds
+returns-clause-succeeds g c = (told g c).refusals.succeeds
 
 pub returns-clause-gives : goal.returns-clause-gives
 returns-clause-gives g c = (told g c).gives

@@ -14,21 +14,21 @@ use Rattle.tag_sets.proofs.tags.Tags.close.Goals as goal
 pub gather-requires : goal.gather-requires
 gather-requires g c =
     let parts : c.part-agents.result.0.items ≡ map reserved_part c.args.hands.items =
-    c.part-agents.ensures.reserved ∙ ap (λ v. map reserved_part v.items) c.tell_few-hands.ensures.same in
+    c.part-agents.ensures.reserved ∙ ap (λ v. map reserved_part v.items) c.assert_hand_count-hands.ensures.same in
     subst (All (queue.IsAgentOf c.args.self.reserved)) (sym parts)
     (reserved_own c.args.self c.args.hands.items c.requires.own)
 
 pub gather-requires-2 : goal.gather-requires-2
 gather-requires-2 g c =
     let parts : c.part-agents.result.1.items ≡ map ordinary_part c.args.hands.items =
-    c.part-agents.ensures.ordinary ∙ ap (λ v. map ordinary_part v.items) c.tell_few-hands.ensures.same in
+    c.part-agents.ensures.ordinary ∙ ap (λ v. map ordinary_part v.items) c.assert_hand_count-hands.ensures.same in
     subst (All (queue.IsAgentOf c.args.self.ordinary)) (sym parts)
     (ordinary_own c.args.self c.args.hands.items c.requires.own)
 
 pub unreachable-requires : goal.unreachable-requires
 unreachable-requires g c =
     let parts : c.part-agents.result.0.items ≡ map reserved_part c.args.hands.items =
-    c.part-agents.ensures.reserved ∙ ap (λ v. map reserved_part v.items) c.tell_few-hands.ensures.same in
+    c.part-agents.ensures.reserved ∙ ap (λ v. map reserved_part v.items) c.assert_hand_count-hands.ensures.same in
     let numbers : queue.numbers_of c.part-agents.result.0.items ≡ numbers_of c.args.hands.items =
     ap (λ (l : List (Agent g.row.R.Denot)). queue.numbers_of l) parts
     ∙ reserved_numbers c.args.self c.args.hands.items c.requires.own in
@@ -41,7 +41,7 @@ unreachable-requires g c =
 pub unreachable-requires-in_default-gather : goal.unreachable-requires-in_default-gather
 unreachable-requires-in_default-gather g c =
     let parts : c.part-agents.result.1.items ≡ map ordinary_part c.args.hands.items =
-    c.part-agents.ensures.ordinary ∙ ap (λ v. map ordinary_part v.items) c.tell_few-hands.ensures.same in
+    c.part-agents.ensures.ordinary ∙ ap (λ v. map ordinary_part v.items) c.assert_hand_count-hands.ensures.same in
     let numbers : queue.numbers_of c.part-agents.result.1.items ≡ numbers_of c.args.hands.items =
     ap (λ (l : List (Agent g.row.R.Denot)). queue.numbers_of l) parts ∙ ordinary_numbers c.args.hands.items in
     false≢true (c.in_default-gather.ensures.succeeds.1
@@ -49,11 +49,11 @@ unreachable-requires-in_default-gather g c =
 
 pub add_up-requires : goal.add_up-requires
 add_up-requires g c =
-    let few = c.tell_few-hands.ensures.few in let most = c.args.self.ordinary.map.few.1 in
+    let few = c.assert_hand_count-hands.ensures.few in let most = c.args.self.ordinary.map.few.1 in
     let one = ap (λ (l : List (Agent g.row.R.Denot)). length l) c.part-agents.ensures.ordinary in
     let other = ap (λ (l : List (Agent g.row.R.Denot)). length l) c.part-agents.ensures.reserved in
-    let long = length-map c.tell_few-hands.result.items ordinary_part in
-    let wide = length-map c.tell_few-hands.result.items reserved_part in (
+    let long = length-map c.assert_hand_count-hands.result.items ordinary_part in
+    let wide = length-map c.assert_hand_count-hands.result.items reserved_part in (
       small_totals c.args.self.ordinary c.part-agents.result.1.items c.in-Ok-gather.totals (omega arith)
           c.in-Ok-gather.ensures.ok,
       small_totals c.args.self.reserved c.part-agents.result.0.items c.in-Ok.special (omega arith) c.in-Ok.ensures.ok,
@@ -62,9 +62,9 @@ add_up-requires g c =
 pub returns : goal.returns
 returns g c =
     let one : c.part-agents.result.1.items ≡ map ordinary_part c.args.hands.items =
-    c.part-agents.ensures.ordinary ∙ ap (λ v. map ordinary_part v.items) c.tell_few-hands.ensures.same in
+    c.part-agents.ensures.ordinary ∙ ap (λ v. map ordinary_part v.items) c.assert_hand_count-hands.ensures.same in
     let other : c.part-agents.result.0.items ≡ map reserved_part c.args.hands.items =
-    c.part-agents.ensures.reserved ∙ ap (λ v. map reserved_part v.items) c.tell_few-hands.ensures.same in
+    c.part-agents.ensures.reserved ∙ ap (λ v. map reserved_part v.items) c.assert_hand_count-hands.ensures.same in
     gathers c.args.self c.args.hands.items c.in-Ok-gather.totals c.in-Ok.special c.add_up.result c.add_up.ensures
     (subst (λ (l : List (Agent g.row.R.Denot)). queue_gathering.IsGathered c.args.self.ordinary l c.in-Ok-gather.totals)
     one c.in-Ok-gather.ensures.ok)

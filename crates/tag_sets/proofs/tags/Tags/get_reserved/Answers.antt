@@ -1,7 +1,7 @@
 -- A reserved tag has its own number in its set, so the hand gains the tag that its reserved agent gained.
-use Rattle.tag_sets.proofs.Getting.{reserved_gets_on}
+use Rattle.tag_sets.proofs.Getting.{reserved_gets}
 use Rattle.tag_sets.proofs.tags.Tags.get_reserved.Goals as goal
 
 pub returns-clause-gets : goal.returns-clause-gets
-returns-clause-gets g c = reserved_gets_on c.args.self.now c.args.hand.now c.get.new.agent c.requires.hand c.get.result
-    c.get.ensures.gets
+returns-clause-gets g c = reserved_gets c.args.self.now c.args.hand.now c.get.new.agent c.requires.hand
+    c.in_ok-get.field-0 c.in_ok-get.ensures.gets

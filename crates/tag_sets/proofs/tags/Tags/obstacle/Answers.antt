@@ -13,7 +13,7 @@ returns-in-Some-clause-cause g c = is_missing (ap (λ l. numbers_of l) c.as_slic
 
 -- no hand was found missing
 every : {R : Type 0} (tags : Tags R) (seen hands : List (Hand R)) → seen ≡ hands
-    → HasAll (numbers_of seen) tags.rooms.count → HasAll (numbers_of hands) (hands_of tags)
+    → HasAll (numbers_of seen) tags.buffers.count → HasAll (numbers_of hands) (hands_of tags)
 every tags seen hands same all = all_there (ap (λ l. numbers_of l) same) (sym tags.as_many.1) all
 
 pub returns-then-total-gt-MAX_DEPTH-clause-cause : goal.returns-then-total-gt-MAX_DEPTH-clause-cause

@@ -15,7 +15,7 @@ use Rattle.tag_sets.proofs.tags.Tags.resize.Goals as goal
 
 pub obstacle-tags-requires-clause-own : goal.obstacle-tags-requires-clause-own
 obstacle-tags-requires-clause-own g c =
-    subst (λ v. All (IsHandOf c.args.tags) v.items) (sym c.tell_few-hands.ensures.same) c.requires
+    subst (λ v. All (IsHandOf c.args.tags) v.items) (sym c.assert_hand_count-hands.ensures.same) c.requires
 
 -- nothing was found that prevents the resize
 unhindered : (P : Type 0) (Q : ResizeCause → Type 0) (found : Option ResizeCause) → found ≡ None → MatchOption found P Q
@@ -23,15 +23,15 @@ unhindered : (P : Type 0) (Q : ResizeCause → Type 0) (found : Option ResizeCau
 unhindered P Q found none told = subst (λ (o : Option ResizeCause). MatchOption o P Q) none told
 
 free : (g : given.Over) (c : In-None g)
-    → HasMap c.args.tags c.tell_few-hands.result.items c.args.total × AreUnused c.tell_few-hands.result.items
+    → HasMap c.args.tags c.assert_hand_count-hands.result.items c.args.total × AreUnused c.assert_hand_count-hands.result.items
 free g c = unhindered _ _ c.obstacle-tags.result.1 c.in-None.is c.obstacle-tags.ensures.cause
 
 -- checking the causes changed nothing
 facts : (g : given.Over) (c : In-None g)
     → facts_of c.obstacle-tags.result.0 c.obstacle-tags.new.hands.items
-    ≡ facts_of c.args.tags c.tell_few-hands.result.items
+    ≡ facts_of c.args.tags c.assert_hand_count-hands.result.items
 facts g c = same_facts c.args.tags c.obstacle-tags.result.0
-    c.tell_few-hands.result.items c.obstacle-tags.new.hands.items c.obstacle-tags.ensures.same
+    c.assert_hand_count-hands.result.items c.obstacle-tags.new.hands.items c.obstacle-tags.ensures.same
     c.obstacle-tags.ensures.unchanged
 
 pub go_on-requires-clause-every : goal.go_on-requires-clause-every
@@ -43,8 +43,8 @@ go_on-requires-clause-unused g c =
 
 -- the hands after the checks are those passed in, unchanged
 kept : (g : given.Over) (c : After-go_on g) → AreUnchanged c.args.hands.items c.obstacle-tags.new.hands.items
-kept g c = kept_from c.args.tags c.obstacle-tags.result.0 c.args.hands.items c.tell_few-hands.result.items
-    c.obstacle-tags.new.hands.items (ap (λ v. v.items) c.tell_few-hands.ensures.same)
+kept g c = kept_from c.args.tags c.obstacle-tags.result.0 c.args.hands.items c.assert_hand_count-hands.result.items
+    c.obstacle-tags.new.hands.items (ap (λ v. v.items) c.assert_hand_count-hands.ensures.same)
     c.obstacle-tags.ensures.same c.obstacle-tags.ensures.unchanged
 
 pub returns-in-None-clause-ok : goal.returns-in-None-clause-ok
@@ -57,15 +57,15 @@ returns-in-None-clause-ok g c =
 
 pub returns-in-None-clause-may : goal.returns-in-None-clause-may
 returns-in-None-clause-may g c = λ ok.
-    may_from c.args.tags c.obstacle-tags.result.0 c.args.hands.items c.tell_few-hands.result.items
-    c.obstacle-tags.new.hands.items (ap (λ v. v.items) c.tell_few-hands.ensures.same)
+    may_from c.args.tags c.obstacle-tags.result.0 c.args.hands.items c.assert_hand_count-hands.result.items
+    c.obstacle-tags.new.hands.items (ap (λ v. v.items) c.assert_hand_count-hands.ensures.same)
     c.obstacle-tags.ensures.same c.obstacle-tags.ensures.unchanged c.args.total (c.go_on.ensures.may ok)
 
 -- a refusal by `go_on` is one for the hands passed in
 refused_late : (g : given.Over) (c : After-go_on g)
     → AreTold (facts_of c.args.tags c.args.hands.items) c.args.total (IsRefusedAs c.go_on.result)
-refused_late g c = told_from c.args.tags c.obstacle-tags.result.0 c.args.hands.items c.tell_few-hands.result.items
-    c.obstacle-tags.new.hands.items (ap (λ v. v.items) c.tell_few-hands.ensures.same)
+refused_late g c = told_from c.args.tags c.obstacle-tags.result.0 c.args.hands.items c.assert_hand_count-hands.result.items
+    c.obstacle-tags.new.hands.items (ap (λ v. v.items) c.assert_hand_count-hands.ensures.same)
     c.obstacle-tags.ensures.same c.obstacle-tags.ensures.unchanged
     c.args.total c.go_on.result c.go_on.ensures.may c.go_on.ensures.cause
 
@@ -86,21 +86,21 @@ returns-in-None-clause-err g c =
     let mid = c.obstacle-tags.result.0 in let mids = c.obstacle-tags.new.hands.items in
     IfErr-weaker c.go_on.result (λ fault. AreSame mid fault.tags × AreUnchanged mids fault.hands.items)
     (λ fault. AreSame c.args.tags fault.tags × AreUnchanged c.args.hands.items fault.hands.items)
-    (λ fault is. back_from c.args.tags mid c.args.hands.items c.tell_few-hands.result.items mids
-    (ap (λ v. v.items) c.tell_few-hands.ensures.same) c.obstacle-tags.ensures.same c.obstacle-tags.ensures.unchanged
+    (λ fault is. back_from c.args.tags mid c.args.hands.items c.assert_hand_count-hands.result.items mids
+    (ap (λ v. v.items) c.assert_hand_count-hands.ensures.same) c.obstacle-tags.ensures.same c.obstacle-tags.ensures.unchanged
     fault.tags fault.hands.items c.requires is) c.go_on.ensures.same
 
 -- the cause that was found prevents a resize of the hands passed in
 refused_early : (g : given.Over) (c : In-Some g)
     → AreTold (facts_of c.args.tags c.args.hands.items) c.args.total (λ other. c.in-Some.cause ≡ other)
 refused_early g c =
-    let seen = c.tell_few-hands.result.items in
+    let seen = c.assert_hand_count-hands.result.items in
     let cause = subst (λ (o : Option ResizeCause).
     MatchOption o (HasMap c.args.tags seen c.args.total × AreUnused seen) (IsRefusedFor c.args.tags seen c.args.total))
     c.in-Some.is c.obstacle-tags.ensures.cause in
     told_err (facts_of c.args.tags c.args.hands.items) c.args.total c.in-Some.cause
     (subst (λ (l : List (Hand g.row.R.Denot)). Refused (facts_of c.args.tags l) c.args.total c.in-Some.cause)
-    (ap (λ v. v.items) c.tell_few-hands.ensures.same) (refused_in c.args.tags seen c.args.total c.in-Some.cause cause))
+    (ap (λ v. v.items) c.assert_hand_count-hands.ensures.same) (refused_in c.args.tags seen c.args.total c.in-Some.cause cause))
 
 pub returns-in-Some-clause-missing : goal.returns-in-Some-clause-missing
 returns-in-Some-clause-missing g c = (refused_early g c).missing
@@ -120,9 +120,9 @@ returns-in-Some-clause-memory g c = (refused_early g c).memory
 pub returns-in-None-clause-balance : goal.returns-in-None-clause-balance
 returns-in-None-clause-balance g c = subst (λ (l : List (Hand g.row.R.Denot)).
     HasMap c.args.tags l c.args.total → BalanceInBoth l)
-    (ap (λ v. v.items) c.tell_few-hands.ensures.same) c.obstacle-tags.ensures.balance
+    (ap (λ v. v.items) c.assert_hand_count-hands.ensures.same) c.obstacle-tags.ensures.balance
 
 pub returns-in-Some-clause-balance : goal.returns-in-Some-clause-balance
 returns-in-Some-clause-balance g c = subst (λ (l : List (Hand g.row.R.Denot)).
     HasMap c.args.tags l c.args.total → BalanceInBoth l)
-    (ap (λ v. v.items) c.tell_few-hands.ensures.same) c.obstacle-tags.ensures.balance
+    (ap (λ v. v.items) c.assert_hand_count-hands.ensures.same) c.obstacle-tags.ensures.balance

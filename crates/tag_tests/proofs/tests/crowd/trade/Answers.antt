@@ -4,6 +4,6 @@ use Rattle.std.proofs.lemmas.List.Elements.{All-set}
 use Rattle.tag_tests.proofs.tests.crowd.trade.Goals as goal
 
 pub returns-in-Some-clause-own : goal.returns-in-Some-clause-own
-returns-in-Some-clause-own g c = let own = g.T.Shared.is_own c.args.tags.now in
+returns-in-Some-clause-own g c = let own = g.T.TagAllocator.is_own c.args.tags.now in
     All-set own c.args.callers.now.items c.args.at c.replace.new.dest
     (subst own (sym c.replace.ensures.after) c.requires.1) c.requires.0

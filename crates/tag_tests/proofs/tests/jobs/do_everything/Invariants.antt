@@ -2,4 +2,4 @@
 use Rattle.tag_tests.proofs.tests.jobs.do_everything.Given as goal
 
 abbrev pub invariant-loop-round : goal.invariant-loop-round
-invariant-loop-round g l = g.T.Shared.is_own l.tags l.caller
+invariant-loop-round g l = g.T.TagAllocator.is_own l.tags l.caller

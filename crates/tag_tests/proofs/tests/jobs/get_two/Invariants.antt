@@ -2,4 +2,4 @@
 use Rattle.tag_tests.proofs.tests.jobs.get_two.Given as goal
 
 abbrev pub invariant-loop : goal.invariant-loop
-invariant-loop g l = g.T.Shared.is_own l.tags l.caller
+invariant-loop g l = g.T.TagAllocator.is_own l.tags l.caller

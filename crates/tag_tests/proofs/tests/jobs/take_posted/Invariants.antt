@@ -2,4 +2,4 @@
 use Rattle.tag_tests.proofs.tests.jobs.take_posted.Given as goal
 
 abbrev pub invariant-loop-tag : goal.invariant-loop-tag
-invariant-loop-tag g l = g.T.Shared.is_own l.tags l.caller
+invariant-loop-tag g l = g.T.TagAllocator.is_own l.tags l.caller

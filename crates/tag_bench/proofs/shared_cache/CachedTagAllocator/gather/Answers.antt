@@ -1,0 +1,16 @@
+-- The cache stood first among the rest.
+use Rattle.std.proofs.Common.{arith, suc, ap, subst, length, All}
+use Rattle.tag_cache.specs.Caches.{IsCacheOf}
+use Rattle.tag_bench.proofs.shared_cache.CachedTagAllocator.gather.Goals as goal
+
+pub into_hand-hand-requires : goal.into_hand-hand-requires
+into_hand-hand-requires c =
+    let whole = subst (All (IsCacheOf c.args.self.tags)) c.in-Some.ensures.steps.0 c.loop-cache.invariant.rest in
+    let fewer = ap length c.in-Some.ensures.steps.0 in
+    whole 0 c.in-Some.cache (omega arith)
+
+pub loop-cache-preserved : goal.loop-cache-preserved
+loop-cache-preserved c =
+    let whole = subst (All (IsCacheOf c.args.self.tags)) c.in-Some.ensures.steps.0 c.loop-cache.invariant.rest in
+    let fewer = ap length c.in-Some.ensures.steps.0 in
+    record { steps = (tt, tt); rest = λ k d low. whole (suc k) d (omega arith) }

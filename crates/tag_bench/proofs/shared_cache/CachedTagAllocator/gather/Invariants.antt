@@ -1,0 +1,11 @@
+-- The caches that are still to come belong to the tags.
+use Rattle.std.proofs.Common.{All}
+use Rattle.std.specs.Vec.Iter.{into_iter_items}
+use Rattle.tag_cache.specs.Caches.{IsCacheOf}
+use Rattle.tag_bench.proofs.shared_cache.CachedTagAllocator.gather.Given as goal
+
+abbrev pub invariant-loop-cache : goal.invariant-loop-cache
+invariant-loop-cache l = record {
+  steps : goal.iterator-loop-cache.can_next l.cache-iterator × goal.iterator-loop-cache.is_finite l.cache-iterator;
+  rest : All (IsCacheOf l.tags) (into_iter_items l.cache-iterator);
+}

@@ -1,0 +1,20 @@
+-- A hand that belongs to the tags makes a cache that does.
+use Rattle.std.proofs.Common.{arith, All, ◌≡◌, ℕ, ◌+◌, ◌≤◌, List, Some, ◌++◌, ◌∷◌, [], sym, subst}
+use Rattle.std.proofs.lemmas.List.Elements.{All-pop, All-push}
+use Rattle.tag_sets.specs.declared.hand.Hand.{Hand}
+use Rattle.tag_sets.specs.Hands.{IsHandOf}
+use Rattle.tag_cache.specs.declared.cache.Cache.{Cache}
+use Rattle.tag_cache.specs.Caches.{IsCacheOf}
+use Rattle.tag_bench.proofs.shared_cache.CachedTagAllocator.open.Goals as goal
+
+pub loop-hand-preserved : goal.loop-hand-preserved
+loop-hand-preserved c = let inv = c.loop-hand.invariant in let tags = c.in_ok-tags.tags in
+    let parts = All-pop (IsHandOf tags) c.loop-hand.hands.items c.pop.new.self.items (Some c.in-Some.hand)
+    c.in-Some.ensures.items inv.left in
+    let one : IsCacheOf tags c.new.result = subst (λ (h : Hand ℕ). IsHandOf tags h) (sym c.new.ensures.hand) parts.1 in
+    let all = All-push (IsCacheOf tags) c.loop-hand.caches.items c.new.result inv.own one in record {
+      left = parts.0;
+      own = subst (λ (cs : List (Cache ℕ)). All (IsCacheOf tags) cs) (sym c.push_reserved.ensures.items) all;
+      fit = (let a = c.in-Some.ensures.len in let b = c.push_reserved.ensures.len in
+          let r = c.push_reserved.ensures.capacity in let d = inv.fit in omega arith);
+    }

@@ -1,0 +1,15 @@
+-- Each hand that is left belongs to the tags, and so does each cache; there is room for the rest.
+use Rattle.std.proofs.Common.{◌+◌, ◌≤◌, All, vec_len, vec_capacity}
+use Rattle.tag_sets.specs.Hands.{IsHandOf}
+use Rattle.tag_cache.specs.Caches.{IsCacheOf}
+use Rattle.tag_bench.proofs.shared_cache.CachedTagAllocator.open.Given as goal
+
+abbrev pub invariant-loop-hand : goal.invariant-loop-hand
+invariant-loop-hand l = record {
+  left : All (IsHandOf l.tags) l.hands.items;
+  own : All (IsCacheOf l.tags) l.caches.items;
+  fit : vec_len l.caches + vec_len l.hands ≤ vec_capacity l.caches;
+}
+
+abbrev pub decreases-loop-hand : goal.decreases-loop-hand
+decreases-loop-hand l = vec_len l.hands

@@ -1,0 +1,6 @@
+-- The thread holds the tag that it takes.
+use Rattle.std.proofs.Common.{refl}
+use Rattle.tag_bench.proofs.shared_cache.CachedTagAllocator.take.Goals as goal
+
+pub returns-clause-held : goal.returns-clause-held
+returns-clause-held c = λ _. c.in-Ok.ensures.more.joined c.args.tag refl

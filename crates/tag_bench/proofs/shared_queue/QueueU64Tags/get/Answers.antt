@@ -1,6 +1,0 @@
--- The agent holds the tag that it gains.
-use Rattle.tag_bench.proofs.Gained.{holds_answer}
-use Rattle.tag_bench.proofs.shared_queue.QueueU64Tags.get.Goals as goal
-
-pub returns-clause-held : goal.returns-clause-held
-returns-clause-held c = holds_answer _ _ _ _ c.in-Ok.ensures.gets.searches.gains

@@ -1,6 +1,0 @@
--- The agent holds the tag that it takes.
-use Rattle.std.proofs.Common.{refl}
-use Rattle.tag_bench.proofs.shared_queue.QueueU64Tags.take.Goals as goal
-
-pub returns-clause-held : goal.returns-clause-held
-returns-clause-held c = λ _. c.in-Ok.ensures.takes.more.joined c.args.tag refl

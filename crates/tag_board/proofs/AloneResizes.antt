@@ -1,0 +1,133 @@
+-- How a resize changes both sets of a board with one caller.
+use Rattle.std.proofs.Common.{◌≡◌, ℕ, ◌-◌, false, nat_eq, List, [], length, map, get_or, All, Ok, sym, ap, ◌∙◌, subst, arith}
+use Rattle.std.proofs.lemmas.List.{get_or-map, length-map}
+use Rattle.atomic_table.proofs.Lists.{at_map}
+use Rattle.tag_layout.specs.Layout.{Layout}
+use Rattle.tag_core.specs.declared.record.Record.{Record}
+use Rattle.tag_core.specs.declared.step.Step.{Step}
+use Rattle.tag_core.specs.Callers.{record_of}
+use Rattle.tag_core.proofs.Entries.{entry, entry_or}
+use Rattle.tag_search.specs.declared.hint.Hint.{Hint}
+use Rattle.tag_search.specs.AloneLaws.{cells_left, words_left}
+use Rattle.tag_search.specs.Pool.{pool_of}
+use Rattle.tag_queue.specs.declared.agent.Agent.{Agent}
+use Rattle.tag_queue.specs.Agents as queue
+use Rattle.tag_sets.specs.declared.hand.Hand.{Hand}
+use Rattle.tag_sets.specs.declared.kind.Kind.{Kind}
+use Rattle.tag_sets.specs.declared.kind.Kind.TheVariants.{Ordinary, Reserved}
+use Rattle.tag_sets.specs.declared.tags.Tags.{Tags}
+use Rattle.tag_sets.specs.Gathering.{hands_of}
+use Rattle.tag_sets.specs.Hands.{IsHandOf, reserved_of, number_of}
+use Rattle.tag_sets.specs.Opening.{reserved_part, ordinary_part}
+use Rattle.tag_sets.specs.Resizing.{IsResized, AreUnchanged}
+use Rattle.tag_board.specs.AloneSets.{AloneSets, AloneResizes, resized, untouched}
+use Rattle.tag_board.specs.Parts.{alone_set_of, alone_sets_in, alone_sets_of_all}
+use Rattle.tag_board.proofs.AloneBoard.{layout_in, split_is}
+use Rattle.tag_board.proofs.AloneOpens.{blank_pool}
+
+-- a layout of this depth and shift
+abbrev laid_out : ℕ → ℕ → Layout
+laid_out depth shift = record { depth = depth; shift = shift }
+
+module _ {R : Type 0} where
+  -- an agent with the record and the hint of another has the same set
+  alone_known : (a b : Agent R) → record_of (queue.caller_of b) ≡ record_of (queue.caller_of a)
+      → queue.hint_of b ≡ queue.hint_of a → alone_set_of b ≡ alone_set_of a
+  alone_known a b known hint = λ j. record {
+    layout = (known j).shape.layout;
+    pool = pool_of (words_left (known j).steps);
+    posted = λ tag. nat_eq ((cells_left (known j).steps).state tag) 1;
+    hint = hint j;
+  }
+
+  -- the set of an agent without steps on a map of this layout
+  alone_fresh : (b : Agent R) (l : Layout) (h : Hint) → (alone_set_of b).layout ≡ l
+      → (record_of (queue.caller_of b)).steps ≡ [] → queue.hint_of b ≡ h
+      → alone_set_of b ≡ record (untouched l false) { hint = h }
+  alone_fresh b l h layout none hint =
+      let pool = ap (λ (s : List (Step R)). pool_of (words_left s)) none ∙ blank_pool R l false in λ j. record {
+        layout = layout j;
+        pool = pool j;
+        posted = λ tag. nat_eq ((cells_left (none j)).state tag) 1;
+        hint = hint j;
+      }
+
+  -- the sets of a list of one hand are those of the hand
+  only_is : (hands : List (Hand R)) (d : Hand R) → length hands ≡ 1 → alone_sets_of_all hands ≡ alone_sets_in (get_or hands 0 d)
+  only_is hands d one = get_or-map alone_sets_in hands 0 d (λ kind. untouched (record { depth = 0; shift = 0 }) false)
+      (omega arith)
+
+  -- unchanged hands leave both sets unchanged
+  pub unchanged_alone : (old new : List (Hand R)) → length old ≡ 1 → AreUnchanged old new
+      → alone_sets_of_all new ≡ alone_sets_of_all old
+  unchanged_alone old new one same =
+      let long = same.count in let a : Hand R = (entry old 0 (omega arith)).0 in
+      let b : Hand R = (entry new 0 (omega arith)).0 in
+      let u = same.each 0 (get_or old 0 a) (get_or new 0 b) (entry_or old 0 a (omega arith))
+      (entry_or new 0 b (omega arith)) in
+      let each : (k : Kind) → alone_sets_in (get_or new 0 b) k ≡ alone_sets_in (get_or old 0 a) k = elim [
+        | Ordinary ↦ alone_known (get_or old 0 a).ordinary (get_or new 0 b).ordinary (u.sets Ordinary).caller.known
+            (u.sets Ordinary).same_else.0
+        | Reserved ↦ alone_known (get_or old 0 a).reserved (get_or new 0 b).reserved (u.sets Reserved).caller.known
+            (u.sets Reserved).same_else.0
+      ] in only_is new b (omega arith) ∙ (λ j. λ k. each k j) ∙ sym (only_is old a one)
+
+  module _ (old new : Tags R) (hands after : List (Hand R)) (total : ℕ) (own : All (IsHandOf old) hands)
+      (agents : hands_of old ≡ 1)
+      (one : length hands ≡ 1) (r : IsResized old hands total new after) where
+    long : length after ≡ 1
+    long = sym (length-map after number_of) ∙ ap (λ (ns : List ℕ). length ns) r.numbers ∙ length-map hands number_of
+        ∙ one
+
+    module _ (a b : Hand R) where
+      -- the ordinary set continues with its new depth
+      ordinary_goes_on : alone_set_of (get_or after 0 b).ordinary
+          ≡ resized (total - reserved_of old) (alone_set_of (get_or hands 0 a).ordinary)
+      ordinary_goes_on =
+          let before : Hand R = get_or hands 0 a in let now : Hand R = get_or after 0 b in
+          let there = at_map ordinary_part hands 0 before (entry_or hands 0 a (omega arith)) in
+          let here = at_map ordinary_part after 0 now (entry_or after 0 b (let l = long in omega arith)) in
+          let fresh = (r.ordinary.callers.callers.each 0 (queue.caller_of before.ordinary)
+          (queue.caller_of now.ordinary)
+          (at_map queue.caller_of (map ordinary_part hands) 0 before.ordinary there)
+          (at_map queue.caller_of (map ordinary_part after) 0 now.ordinary here)).1 in
+          let shift = ap (λ (l : Layout). l.shift) (layout_in old before before (own 0 a (omega arith)) agents Ordinary)
+          in
+          let hint : queue.hint_of now.ordinary ≡ queue.hint_of before.ordinary =
+          sym (get_or-map queue.hint_of (map ordinary_part after) 0 now.ordinary (queue.hint_of now.ordinary)
+          (let l = long in let m = length-map after ordinary_part in omega arith)
+          ∙ ap queue.hint_of (get_or-map ordinary_part after 0 b now.ordinary (let l = long in omega arith)))
+          ∙ ap (λ (hs : List Hint). get_or hs 0 (queue.hint_of now.ordinary)) r.ordinary.hints
+          ∙ get_or-map queue.hint_of (map ordinary_part hands) 0 before.ordinary (queue.hint_of now.ordinary)
+          (let m = length-map hands ordinary_part in omega arith)
+          ∙ ap queue.hint_of (get_or-map ordinary_part hands 0 a before.ordinary (omega arith)) in
+          alone_fresh now.ordinary (record {
+            depth = total - reserved_of old;
+            shift =
+                (alone_set_of before.ordinary).layout.shift;
+          }) (queue.hint_of before.ordinary)
+          (ap (λ (x : Record R). x.shape.layout) fresh ∙ r.ordinary.callers.next.layout_is
+          ∙ ap (λ (s : ℕ). laid_out (total - reserved_of old) s) shift)
+          (ap (λ (x : Record R). x.steps) fresh) hint
+
+      -- the reserved set is unchanged
+      reserved_stays : alone_set_of (get_or after 0 b).reserved ≡ alone_set_of (get_or hands 0 a).reserved
+      reserved_stays =
+          let before : Hand R = get_or hands 0 a in let now : Hand R = get_or after 0 b in
+          let u = r.reserved_agents.each 0 before.reserved now.reserved
+          (at_map reserved_part hands 0 before (entry_or hands 0 a (omega arith)))
+          (at_map reserved_part after 0 now (entry_or after 0 b (let l = long in omega arith))) in
+          alone_known before.reserved now.reserved u.caller.known u.same_else.0
+
+    pub resizes_alone : AloneResizes total (alone_sets_of_all hands) (Ok tt) (alone_sets_of_all after)
+    resizes_alone =
+        let a : Hand R = (entry hands 0 (omega arith)).0 in
+        let b : Hand R = (entry after 0 (let l = long in omega arith)).0 in
+        subst (λ (s : AloneSets). AloneResizes total s (Ok tt) (alone_sets_of_all after)) (sym (only_is hands a one))
+        (subst (λ (s : AloneSets). AloneResizes total (alone_sets_in (get_or hands 0 a)) (Ok tt) s) (sym (only_is after b long)) (
+          subst (λ (n : ℕ). alone_set_of (get_or after 0 b).ordinary
+              ≡ resized (total - n) (alone_set_of (get_or hands 0 a).ordinary))
+              (split_is old (get_or hands 0 a) (get_or hands 0 a) (own 0 a (omega arith)) agents)
+              (ordinary_goes_on a b),
+          reserved_stays a b,
+        ))

@@ -1,0 +1,204 @@
+-- Both sets of a board with one caller, as its steps determine them, and the answers of its commands.
+use Rattle.std.specs.Prelude.{◌≡◌, ℕ, ◌-◌, ◌<◌, ◌*◌, Bool, true, false, not, ◌&&◌, ◌||◌, nat_eq, nat_lt, cond, if◌then◌else◌, List, length, slice_index, map, Option, None, Result, Ok, Err}
+use Rattle.std.specs.List.{list_any}
+use Rattle.tag_layout.specs.Layout.{Layout, word_of, place_of}
+use Rattle.tag_model.specs.Totals.{count_below}
+use Rattle.tag_search.specs.declared.hint.Hint.{Hint}
+use Rattle.tag_search.specs.Batch.{batch_words}
+use Rattle.tag_search.specs.Choice.{IsChoice, IsBatchChoice}
+use Rattle.tag_search.specs.Follows.{HintFollows, BatchFollows}
+use Rattle.tag_search.specs.Hints.{reduced}
+use Rattle.tag_search.specs.Pool.{Pool, is_busy, set_aside}
+use Rattle.tag_search.specs.Search.{Visit}
+use Rattle.tag_search.specs.Visits.{plain_visits, shallow_visits}
+use Rattle.tag_sets.specs.declared.fault.TagFault.{TagFault}
+use Rattle.tag_queue.specs.declared.queue.Options.{Options}
+use Rattle.tag_queue.specs.declared.resizes.ResizeCause.{ResizeCause}
+use Rattle.tag_queue.specs.Opening.{IsLaidOut}
+use Rattle.tag_sets.specs.declared.fault.TagFault.TheVariants.{NotPosted}
+use Rattle.tag_sets.specs.declared.kind.Kind.{Kind}
+use Rattle.tag_sets.specs.declared.kind.Kind.TheVariants.{Ordinary, Reserved}
+use Rattle.tag_sets.specs.declared.shown.Shown.{Shown}
+use Rattle.tag_sets.specs.Bits.{bit_in}
+use Rattle.tag_sets.specs.Gets.{whole, whole_run}
+use Rattle.tag_sets.specs.Sets.{kind_of, number_in_set, other_kind}
+
+-- a set with one caller: its layout, which places are free and which set aside, which tags are posted, and where the
+-- next get begins
+pub record AloneSet : Type 0 where
+  pub layout : Layout
+  pub pool : Pool
+  pub posted : ℕ → Bool
+  pub hint : Hint
+
+-- a set without any step: each of the 64 places of each word is free
+abbrev pub untouched : Layout → Bool → AloneSet
+untouched layout round_robin = record {
+  layout = layout;
+  pool = record { free = λ word place. nat_lt place 64; aside = λ word place. false };
+  posted = λ tag. false;
+  hint = record { at = 0; round_robin = round_robin };
+}
+
+-- both sets
+abbrev pub AloneSets : Type 0
+AloneSets = Kind → AloneSet
+
+-- the number of reserved tags, which are the lowest of the range
+abbrev pub split_in : AloneSets → ℕ
+split_in sets = (sets Reserved).layout.depth
+
+-- the first tag of a set
+abbrev pub first_in : AloneSets → Kind → ℕ
+first_in sets Ordinary = split_in sets
+first_in sets Reserved = 0
+
+-- one set changed so, and the other is unchanged
+abbrev pub ChangesSet : Kind → (AloneSet → AloneSet → Type 0) → AloneSets → AloneSets → Type 0
+ChangesSet kind change old new = change (old kind) (new kind) × (new (other_kind kind) ≡ old (other_kind kind))
+
+-- the set of this tag changed so, for the tag's number in that set
+abbrev pub ChangesSetOf : ℕ → (ℕ → AloneSet → AloneSet → Type 0) → AloneSets → AloneSets → Type 0
+ChangesSetOf tag change old new = ChangesSet (kind_of (split_in old) tag) (change (number_in_set (split_in old) tag))
+    old new
+
+-- a refused command leaves both sets unchanged, and any other changes them so
+abbrev pub Does : {A : Type 0} → (A → AloneSets → AloneSets → Type 0) → AloneSets → Result A TagFault → AloneSets → Type 0
+Does done old (Ok answer) new = done answer old new
+Does done old (Err fault) new = new ≡ old
+
+-- the visits of a plain get, from the hint on
+abbrev pub plain : AloneSet → List Visit
+plain w = plain_visits w.layout w.hint.round_robin (reduced w.layout.depth w.hint.at)
+
+-- the visits of a shallow get of this depth, from the hint on
+abbrev pub shallow : ℕ → AloneSet → List Visit
+shallow depth w = shallow_visits w.layout depth (reduced w.layout.depth w.hint.at)
+
+-- the answer is the choice of these visits, the pool is what the choice leaves, and the hint moves by its rule
+pub record Chooses (visits : AloneSet → List Visit) (answer : Option ℕ) (old new : AloneSet) : Type 0 where
+  pub layout : new.layout ≡ old.layout
+  pub choice : IsChoice old.layout old.pool (visits old) answer new.pool
+  pub posted : new.posted ≡ old.posted
+  pub hint : HintFollows old.layout.depth old.hint new.hint answer
+
+-- the same for n adjacent tags, from the hint's word on
+pub record ChoosesRun (n : ℕ) (answer : Option (ℕ × ℕ)) (old new : AloneSet) : Type 0 where
+  pub layout : new.layout ≡ old.layout
+  pub choice : IsBatchChoice old.layout n old.pool
+      (batch_words old.layout (word_of old.layout (reduced old.layout.depth old.hint.at))) answer new.pool
+  pub posted : new.posted ≡ old.posted
+  pub hint : BatchFollows old.layout.depth n old.hint new.hint answer
+
+-- the tag answered is the choice of its set
+abbrev pub AloneGets : Kind → (AloneSet → List Visit) → Option ℕ → AloneSets → AloneSets → Type 0
+AloneGets kind visits answer old new = (number : Option ℕ) × (answer ≡ whole (first_in old kind) number)
+    × ChangesSet kind (Chooses visits number) old new
+
+-- the tags answered are the choice of the ordinary set; under round robin there are none, and nothing changes
+pub record AloneBatch (n : ℕ) (answer : Option (ℕ × ℕ)) (old new : AloneSets) : Type 0 where
+  pub around : (old Ordinary).hint.round_robin ≡ true → (answer ≡ None) × (new ≡ old)
+  pub choice : (old Ordinary).hint.round_robin ≡ false
+      → (number : Option (ℕ × ℕ)) × (answer ≡ whole_run (split_in old) number)
+      × ChangesSet Ordinary (ChoosesRun n number) old new
+
+-- the hint after a clear of this tag, which leaves it alone under round robin
+abbrev pub hint_at : ℕ → Hint → Hint
+hint_at number h = record h { at = if h.round_robin then h.at else number }
+
+-- the tag is set aside, and the hint moves to it, except under round robin
+abbrev pub put_back : ℕ → AloneSet → AloneSet
+put_back number w =
+    record w {
+      pool = set_aside (word_of w.layout number) (place_of w.layout number) w.pool;
+      hint = hint_at number w.hint;
+    }
+
+-- the place is that of a tag of the list
+abbrev pub is_named : Layout → List ℕ → ℕ → ℕ → Bool
+is_named l numbers word place = list_any (λ number. nat_eq word (word_of l number) && nat_eq place (place_of l number))
+    numbers
+
+-- the tags of the list are free, and the hint moves to the last of them, except under round robin
+abbrev pub give_back : List ℕ → AloneSet → AloneSet
+give_back numbers w = record w {
+  pool = record w.pool { free = λ word place. w.pool.free word place || is_named w.layout numbers word place };
+  hint = hint_at (slice_index numbers (length numbers - 1)) w.hint;
+}
+
+-- the tag becomes posted
+abbrev pub post_in : ℕ → AloneSet → AloneSet
+post_in number w = record w { posted = λ other. w.posted other || nat_eq other number }
+
+-- the tag is no longer posted
+abbrev pub take_in : ℕ → AloneSet → AloneSet
+take_in number w = record w { posted = λ other. w.posted other && not (nat_eq other number) }
+
+-- the tag is posted in its set
+abbrev pub is_posted : AloneSets → ℕ → Bool
+is_posted sets tag = (sets (kind_of (split_in sets) tag)).posted (number_in_set (split_in sets) tag)
+
+-- a clear
+abbrev pub AloneClears : ℕ → AloneSets → AloneSets → Type 0
+AloneClears tag = ChangesSetOf tag (λ number old new. new ≡ put_back number old)
+
+-- a clear of a list of ordinary tags
+abbrev pub AloneClearsList : List ℕ → AloneSets → AloneSets → Type 0
+AloneClearsList tags old = ChangesSet Ordinary
+    (λ before after. after ≡ give_back (map (λ tag. tag - split_in old) tags) before) old
+
+-- a post
+abbrev pub AlonePosts : ℕ → AloneSets → AloneSets → Type 0
+AlonePosts tag = ChangesSetOf tag (λ number old new. new ≡ post_in number old)
+
+-- a take, which finds the tag exactly if it is posted
+abbrev pub AloneTakes : ℕ → AloneSets → Result (Unit {0}) TagFault → AloneSets → Type 0
+AloneTakes tag old (Ok done) new = (is_posted old tag ≡ true)
+    × ChangesSetOf tag (λ number before after. after ≡ take_in number before) old new
+AloneTakes tag old (Err NotPosted) new = (is_posted old tag ≡ false) × (new ≡ old)
+AloneTakes tag old (Err fault) new = new ≡ old
+
+-- the tag of a set is neither free nor set aside
+abbrev pub is_busy_in : AloneSet → ℕ → Bool
+is_busy_in w number = nat_lt number w.layout.depth
+    && is_busy w.pool (word_of w.layout number) (place_of w.layout number)
+
+-- the tag of a set is set aside
+abbrev pub is_aside_in : AloneSet → ℕ → Bool
+is_aside_in w number = nat_lt number w.layout.depth && w.pool.aside (word_of w.layout number) (place_of w.layout number)
+
+-- the tag is busy in its set
+abbrev pub is_busy_tag : AloneSets → ℕ → Bool
+is_busy_tag sets tag = is_busy_in (sets (kind_of (split_in sets) tag)) (number_in_set (split_in sets) tag)
+
+-- the bit of each tag is 1 exactly if the tag is busy
+pub record AloneListsBusy (old : AloneSets) (bits : List ℕ) (new : AloneSets) : Type 0 where
+  pub bits_are : (tag : ℕ) → tag < 64 * length bits → bit_in 64 bits tag ≡ cond (is_busy_tag old tag) 1 0
+  pub same : new ≡ old
+
+-- the numbers of busy tags and of those set aside
+pub record AloneShows (kind : Kind) (old : AloneSets) (shown : Shown) (new : AloneSets) : Type 0 where
+  pub busy : shown.busy ≡ count_below (is_busy_in (old kind)) (old kind).layout.depth
+  pub cleared : shown.cleared ≡ count_below (is_aside_in (old kind)) (old kind).layout.depth
+  pub same : new ≡ old
+
+-- the bit of each tag of the set is 1 exactly if the tag is busy
+pub record AloneDumps (kind : Kind) (old : AloneSets) (bytes : List ℕ) (new : AloneSets) : Type 0 where
+  pub bits_are : (tag : ℕ) → bit_in 8 bytes tag ≡ cond (is_busy_in (old kind) tag) 1 0
+  pub same : new ≡ old
+
+-- both sets have the layouts that the options determine, and no step was made in them
+pub record AreUntouched (total reserved : ℕ) (options : Options) (sets : AloneSets) : Type 0 where
+  pub ordinary_layout : IsLaidOut (total - reserved) options (sets Ordinary).layout
+  pub reserved_layout : IsLaidOut reserved options (sets Reserved).layout
+  pub untouched : (kind : Kind) → sets kind ≡ untouched (sets kind).layout options.round_robin
+
+-- the set continues with `depth` tags, all of them free; the shift and the hint stay
+abbrev pub resized : ℕ → AloneSet → AloneSet
+resized depth w = record (untouched (record { depth = depth; shift = w.layout.shift }) false) { hint = w.hint }
+
+-- a resize to `total` tags in both sets
+abbrev pub AloneResizes : ℕ → AloneSets → Result (Unit {0}) ResizeCause → AloneSets → Type 0
+AloneResizes total old (Ok done) new = ChangesSet Ordinary
+    (λ before after. after ≡ resized (total - split_in old) before) old new
+AloneResizes total old (Err cause) new = new ≡ old

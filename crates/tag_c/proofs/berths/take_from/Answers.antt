@@ -1,9 +1,0 @@
--- The hand that was in the berth fits the claim, and the claim is one of this berth, so both have the same tags.
-use Rattle.std.proofs.Common.{ℕ, subst}
-use Rattle.tag_sets.specs.declared.hand.Hand.{Hand}
-use Rattle.tag_c.specs.Sharing.{SharesTags}
-use Rattle.tag_c.proofs.berths.take_from.Goals as goal
-
-pub returns : goal.returns
-returns c = subst (λ (tag : Hand ℕ). SharesTags tag c.in_ok-hand.field-0.hand) c.turn-found.ensures.2
-    c.in_ok-hand.ensures

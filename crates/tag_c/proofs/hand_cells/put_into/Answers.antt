@@ -1,0 +1,13 @@
+-- The turn found the cell vacant, so this thread alone may put a hand there, and this hand fits.
+use Rattle.std.proofs.Common.{ℕ, arith, refl, sym, subst}
+use Rattle.tag_sets.specs.declared.hand.Hand.{Hand}
+use Rattle.tag_c.specs.Sharing.{SharesTags}
+use Rattle.tag_c.proofs.hand_cells.put_into.Goals as goal
+
+pub put-requires : goal.put-requires
+put-requires c = (
+  (c.turn-found.ensures.0 c.if-found-ne-VACANT.false).0 refl,
+  omega arith,
+  refl,
+  subst (λ (tag : Hand ℕ). SharesTags tag c.args.hand) (sym c.turn-found.ensures.2) c.requires,
+)

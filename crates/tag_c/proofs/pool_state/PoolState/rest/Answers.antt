@@ -1,0 +1,15 @@
+-- Each cell belongs to the same tags as the hand, so the hand fits into any of them.
+use Rattle.std.proofs.Common.{ℕ, arith, sym, subst}
+use Rattle.std.proofs.lemmas.List.Elements.{All-get_or}
+use Rattle.tag_sets.specs.declared.hand.Hand.{Hand}
+use Rattle.tag_sets.specs.Hands.{IsHandOf}
+use Rattle.tag_c.proofs.Owners.{sharing}
+use Rattle.tag_c.proofs.pool_state.PoolState.rest.Goals as goal
+
+pub put_into-requires : goal.put_into-requires
+put_into-requires c = let tags = c.args.self.now.tags in let at = c.index.ensures in
+    let own = All-get_or (IsHandOf tags) c.args.self.now.cells.items c.loop-i.i c.index.result.now
+    (omega (arith, c.loop-i-test.true, c.len-i-end.ensures)) c.args.self.now.own in
+    let cell : IsHandOf tags c.index.result.now = subst (λ (hand : Hand ℕ). IsHandOf tags hand) (sym at) own in
+    sharing tags c.index.result.now c.loop-i.hand cell
+    (subst (λ (hand : Hand ℕ). IsHandOf tags hand) (sym c.loop-i.invariant) c.requires)

@@ -1,0 +1,70 @@
+-- A tag that is kept where no other is, after all kept tags went back.
+use Rattle.std.proofs.Common.{arith, Bool, true, false, ◌≡◌, ◌⊎◌, ℕ, ◌≤◌, sym, ap, ◌∙◌, subst, ⊎_elim}
+use Rattle.std.specs.Prelude.{count_ones}
+use Rattle.std.proofs.lemmas.Nat.{ones_le_self}
+use Rattle.tag_cache.specs.declared.cache.Cache.{Cache}
+use Rattle.tag_cache.specs.Caches.{IsKept, IsLast, IsWithin, IsFixed, KeepsNone, CanBeKept, HasNoPlace, count_of, reused_of}
+use Rattle.tag_cache.specs.Changes.{IsUnchanged, KeepsOnly, MayKeep, SameTerms}
+use Rattle.tag_cache.proofs.Looking.{same_loans}
+use Rattle.tag_cache.proofs.Reusing.{none_kept}
+
+module _ {R : Type 0} where
+  none_counted : (cache : Cache R) → KeepsNone cache → count_of cache ≡ 0
+  none_counted cache none = let same : count_of cache ≡ count_ones 0 = ap count_ones (none_kept cache none) in
+      let zero = ones_le_self 0 in omega arith
+
+  module _ (tag : ℕ) (old mid new : Cache R) (u : IsUnchanged old mid) (none : KeepsNone old) (can : CanBeKept tag old)
+      (aimed : IsWithin mid tag ⊎ ((mid ≡ old) × IsFixed old)) where
+    -- the window is at the tag
+    within : IsWithin mid tag
+    within = ⊎_elim (λ (w : IsWithin mid tag). w)
+        (λ (e : (mid ≡ old) × IsFixed old). subst (λ (x : Cache R). IsWithin x tag) (sym e.0)
+        (⊎_elim (λ (some : ¬ (KeepsNone old)). absurd (some none)) (λ careful. can.within careful) e.1)) aimed
+
+    pub only_after : (kept : Bool) → MayKeep tag kept mid new → KeepsOnly tag old new
+    only_after true k = let zero = none_counted old none in let count = u.kept.count in
+        let more = k.0.also.more in record {
+          only = λ other. (
+            (λ i. ⊎_elim (λ (o : IsKept mid other). absurd (none other ((u.kept.kept other).0 o))) (λ (e : other ≡ tag). e)
+                (k.0.also.none_else other i)),
+            (λ e. subst (λ (t : ℕ). IsKept new t) (sym e) k.0.also.now),
+          );
+          one = omega arith;
+          terms = record {
+            most = k.0.also.terms.most ∙ u.kept.terms.most;
+            keeping = k.0.also.terms.keeping ∙ u.kept.terms.keeping;
+          };
+          reused = k.0.also.reused ∙ u.kept.reused;
+        }
+    only_after false k = let zero = none_counted old none in let count = u.kept.count in
+        let most = u.kept.terms.most in let reused = u.kept.reused in let some = can.some in let alive = can.alive in
+        ⊎_elim
+        (λ (full : HasNoPlace tag mid). ⊎_elim (λ (m : mid.most ≤ count_of mid). absurd (omega arith))
+        (λ o. absurd (o.0 within)) full)
+        (λ (never : ¬ (CanBeKept tag mid)). absurd (never (record {
+          some = omega arith;
+          alive = omega arith;
+          within = λ careful. within;
+        }))) k.1
+
+  module _ (tag : ℕ) (old mid : Cache R) (terms : SameTerms old mid) (reused : reused_of mid ≡ reused_of old)
+      (first : mid.first ≡ old.first) where
+    -- the kept tags went back, and the window stayed
+    pub can_still : CanBeKept tag old → CanBeKept tag mid
+    can_still c = let most = terms.most in let some = c.some in let alive = c.alive in record {
+      some = omega arith;
+      alive = omega arith;
+      within = λ w. let in_window = c.within (sym terms.keeping ∙ w) in let low = in_window.0 in
+          let high = in_window.1 in (omega arith, omega arith);
+    }
+
+    pub last_back : mid.lent ≡ old.lent → IsLast tag mid → IsLast tag old
+    last_back lent l = (sym terms.keeping ∙ l.0, λ other i. l.1 other ((same_loans old mid first lent other).1 i))
+
+    pub only_back : (new : Cache R) → KeepsOnly tag mid new → KeepsOnly tag old new
+    only_back new o = record {
+      only = o.only;
+      one = o.one;
+      terms = record { most = o.terms.most ∙ terms.most; keeping = o.terms.keeping ∙ terms.keeping };
+      reused = o.reused ∙ reused;
+    }

@@ -1,0 +1,35 @@
+-- Grants of calls that were made one after the other.
+use Rattle.std.proofs.Common.{arith, ◌≡◌, ℕ, ◌∷◌, List, Option, ap, subst}
+use Rattle.step_ledger.specs.History.{total}
+use Rattle.wake_book.specs.declared.grants.Grants.{Grants}
+use Rattle.wake_book.specs.declared.steps.GroupStep.{GroupStep}
+use Rattle.wake_book.specs.declared.steps.GroupStep.TheVariants.{Look}
+use Rattle.wake_book.specs.Grants.{AreGrantsOf, granted_in}
+use Rattle.wake_book.specs.Waits.{active_at, moved_by}
+use Rattle.tag_sets.specs.declared.hand.Hand.{Hand}
+use Rattle.tag_sets.specs.Hands.{group_steps}
+use Rattle.tag_cache.specs.Granted.{AreGranted}
+
+-- a look at the active count grants nothing
+pub grants_after : (grants : Grants) (found : ℕ) (old mid new : List GroupStep) → mid ≡ Look active_at found ∷ old
+    → AreGrantsOf grants mid new → AreGrantsOf grants old new
+grants_after grants found old mid new e g = let all = g.all in let looked = ap (total moved_by) e in record {
+  each = λ group low. let is = g.each group low in let same = ap (total (granted_in group)) e in omega arith;
+  all = omega arith;
+  sum_is = g.sum_is;
+}
+
+module _ {R : Type 0} where
+  -- the same of a hand that looked once
+  pub after_look : (grants : Grants) (found : ℕ) (a b c : Hand R) → group_steps b ≡ Look active_at found ∷ group_steps a
+      → AreGrantsOf grants (group_steps b) (group_steps c) → AreGrantsOf grants (group_steps a) (group_steps c)
+  after_look grants found a b c e g = grants_after grants found (group_steps a) (group_steps b) (group_steps c) e g
+
+  -- a hand that is as it was
+  pub before_same : (grants : Grants) (a b c : Hand R) → b ≡ a → AreGrantsOf grants (group_steps b) (group_steps c)
+      → AreGrantsOf grants (group_steps a) (group_steps c)
+  before_same grants a b c e g = subst (λ (x : Hand R). AreGrantsOf grants (group_steps x) (group_steps c)) e g
+
+  pub granted_same : (grants : Option Grants) (a b c : Hand R) → b ≡ a
+      → AreGranted grants (group_steps b) (group_steps c) → AreGranted grants (group_steps a) (group_steps c)
+  granted_same grants a b c e g = subst (λ (x : Hand R). AreGranted grants (group_steps x) (group_steps c)) e g

@@ -1,0 +1,124 @@
+-- What becomes of a tag after a look at the active count, which changes the hand alone.
+use Rattle.std.proofs.Common.{arith, ◌≡◌, ◌⊎◌, ◌↔◌, ℕ, ◌≤◌, List, inl, inr, refl, sym, ap, ◌∙◌, subst, ⊎_elim}
+use Rattle.tag_queue.specs.Masks.{tags_in}
+use Rattle.tag_sets.specs.declared.hand.Hand.{Hand}
+use Rattle.tag_sets.specs.declared.tags.Tags.{Tags}
+use Rattle.tag_cache.specs.declared.cache.Cache.{Cache}
+use Rattle.tag_cache.specs.Windows.{IsIn}
+use Rattle.tag_cache.specs.Caches.{KeepsNone, HasNoPlace, CanBeKept, kept_tags, count_of, reused_of}
+use Rattle.tag_cache.specs.Changes.{KeepsSame, Keeps, SameTerms}
+use Rattle.tag_cache.specs.Clears.{LooksOnce, GivesList, GivesKept, GivesWith, KeptUnseen, KeptInstead, GoesAlone, GoesWithKept, MakesRoom}
+use Rattle.tag_cache.proofs.Carrying.{same_fields, keeps_twice}
+use Rattle.tag_cache.proofs.Moving.{also_from, only_from}
+
+-- the fields that say what is kept, and what may be, are as before
+pub record SameFields {R : Type 0} (old mid : Cache R) : Type 0 where
+  pub first : mid.first ≡ old.first
+  pub kept : mid.kept ≡ old.kept
+  pub most : mid.most ≡ old.most
+  pub keeping : mid.keeping ≡ old.keeping
+  pub reused : mid.reused ≡ old.reused
+
+module _ {R : Type 0} (tags : Tags R) (tag : ℕ) (old mid : Cache R) (s : SameFields old mid) where
+  same : KeepsSame old mid
+  same = same_fields old mid s.first s.kept s.most s.keeping s.reused
+
+  none_from : KeepsNone old → KeepsNone mid
+  none_from n = λ t k. n t ((same.kept t).0 k)
+
+  none_to : KeepsNone mid → KeepsNone old
+  none_to n = λ t k. n t ((same.kept t).1 k)
+
+  place_from : HasNoPlace tag mid → HasNoPlace tag old
+  place_from full = let first = s.first in let most = s.most in let count = same.count in ⊎_elim
+      (λ (m : mid.most ≤ count_of mid). inl (omega arith))
+      (λ o. inr ((λ w. let low = w.0 in let high = w.1 in o.0 (omega arith, omega arith)), λ n. o.1 (none_from n))) full
+
+  can_from : CanBeKept tag mid → CanBeKept tag old
+  can_from c = let first = s.first in let most = s.most in let reused = s.reused in let some = c.some in
+      let alive = c.alive in record {
+        some = omega arith;
+        alive = omega arith;
+        within = λ w. let in_window = c.within (s.keeping ∙ w) in let low = in_window.0 in let high = in_window.1 in
+            (omega arith, omega arith);
+      }
+
+  pub kept_same : (woken : ℕ) (a b : Hand R) → GivesKept tags woken mid a b → GivesKept tags woken old a b
+  kept_same woken a b g = record {
+    none = λ n. g.none (none_from n);
+    some = λ n. subst (λ (l : List ℕ). GivesList tags l woken a b) same_tags (g.some (λ m. n (none_to m)));
+  }
+    where
+      same_tags : kept_tags mid ≡ kept_tags old
+      same_tags = ap (λ (f : ℕ). tags_in f mid.kept) s.first ∙ ap (tags_in old.first) s.kept
+
+  pub goes_with_kept : (found woken : ℕ) (new : Cache R) → LooksOnce found old.hand mid.hand
+      → GivesWith tags tag woken mid mid.hand new.hand → KeepsNone new → SameTerms mid new
+      → reused_of new ≡ reused_of mid → GoesWithKept tags tag found woken old new
+  goes_with_kept found woken new looked g none terms reused = record {
+    between = mid.hand;
+    looked = looked;
+    gives = record {
+      between = g.between;
+      sooner = g.sooner;
+      kept = kept_same g.sooner mid.hand g.between g.kept;
+      later = g.later;
+      gives = g.gives;
+      woken_is = g.woken_is;
+    };
+    none = none;
+    terms = record { most = terms.most ∙ s.most; keeping = terms.keeping ∙ s.keeping };
+    reused = reused ∙ s.reused;
+  }
+
+  pub kept_unseen : (new : Cache R) → LooksOnce 0 old.hand mid.hand → ¬ (HasNoPlace tag old) → CanBeKept tag mid
+      → Keeps tag mid new → KeptUnseen tag 0 old new
+  kept_unseen new looked place can k = record {
+    looked = subst (λ (h : Hand R). LooksOnce 0 old.hand h) (sym k.hand) looked;
+    place = place;
+    can = can_from can;
+    also = also_from tag old mid new same k.also;
+    none = refl;
+  }
+
+  -- there was no place for the tag, or it may not be kept
+  pub room_goes : (woken : ℕ) (before new : Cache R) → LooksOnce 0 old.hand mid.hand → before ≡ mid
+      → HasNoPlace tag mid ⊎ ¬ (CanBeKept tag mid) → MakesRoom tags tag woken before new
+      → KeptInstead tags tag woken old new ⊎ GoesAlone tags tag woken old new
+  room_goes woken before new looked e full g =
+      on (subst (λ (x : Cache R). MakesRoom tags tag woken x new) e g)
+    where
+      to_can : CanBeKept tag old → CanBeKept tag mid
+      to_can c = let first = s.first in let most = s.most in let reused = s.reused in let some = c.some in
+          let alive = c.alive in record {
+            some = omega arith;
+            alive = omega arith;
+            within = λ w. let in_window = c.within (sym s.keeping ∙ w) in let low = in_window.0 in
+                let high = in_window.1 in (omega arith, omega arith);
+          }
+
+      on : MakesRoom tags tag woken mid new → KeptInstead tags tag woken old new ⊎ GoesAlone tags tag woken old new
+      on g = ⊎_elim
+          (λ i. inl (record {
+            between = mid.hand;
+            looked = looked;
+            full = ⊎_elim (λ f. place_from f) (λ n. absurd (n i.0)) full;
+            can = can_from i.0;
+            gives = kept_same woken mid.hand new.hand i.1;
+            only = only_from tag old mid new same i.2;
+          }))
+          (λ a. inr (record {
+            between = mid.hand;
+            looked = looked;
+            never = λ c. a.0 (to_can c);
+            gives = a.1;
+            kept = keeps_twice old mid new same a.2;
+          })) g
+
+-- the same tags are lent if the window and its mask of them are as before
+pub same_loans : {R : Type 0} (old new : Cache R) → new.first ≡ old.first → new.lent ≡ old.lent → (tag : ℕ)
+    → IsIn new.first new.lent tag ↔ IsIn old.first old.lent tag
+same_loans old new first lent tag = (
+  (λ i. subst (λ (m : ℕ). IsIn old.first m tag) lent (subst (λ (f : ℕ). IsIn f new.lent tag) first i)),
+  (λ i. subst (λ (f : ℕ). IsIn f new.lent tag) (sym first) (subst (λ (m : ℕ). IsIn old.first m tag) (sym lent) i)),
+)

@@ -1,0 +1,59 @@
+-- The tags of a mask as a mask of another window.
+use Rattle.std.proofs.Common.{arith, ◌≡◌, ◌↔◌, ℕ, ◌+◌, ◌-◌, ◌*◌, ◌/◌, ◌%◌, ◌^◌, ◌<◌, ◌≤◌, sym, ap, ◌∙◌}
+use Rattle.std.specs.Prelude.{bit_and}
+use Rattle.std.specs.Int.{bit_at, bit_not, w64}
+use Rattle.std.proofs.lemmas.Nat.Bits.{bit_at-lt, bit_at_and, bit_at_not}
+use Rattle.tag_queue.specs.Masks.{mask_bit}
+use Rattle.tag_queue.proofs.MaskParts.{moved_up, moved_down}
+use Rattle.tag_queue.proofs.RunTags.{place_one, bit_from}
+use Rattle.tag_cache.specs.Windows.{IsIn}
+use Rattle.tag_cache.proofs.Windows.{bit_low, below_end, not_set}
+
+module _ (start first mask : ℕ) (fits : mask < 2 ^ 64) (tag : ℕ) where
+  at : start ≤ tag → start + (tag - start) ≡ tag
+  at le = omega arith
+
+  -- a window that begins before the mask's
+  pub up_in : start < first → IsIn start (mask * 2 ^ (first - start) % 2 ^ 64) tag
+      ↔ (IsIn first mask tag × ((start ≤ tag) × (tag < start + 64)))
+  up_in less = (
+    (λ i. let low = bit_low (mask * 2 ^ (first - start) % 2 ^ 64) (tag - start) (omega arith) i.1 in let above = i.0 in (
+      place_one first mask tag (ap (mask_bit first mask) (sym (at i.0))
+          ∙ sym (moved_up first mask start (tag - start) less low) ∙ i.1),
+      (above, omega arith),
+    )),
+    (λ w. let above = w.1.0 in let below = w.1.1 in (
+      above,
+      moved_up first mask start (tag - start) less (omega arith)
+          ∙ ap (mask_bit first mask) (at above) ∙ bit_from first mask tag w.0.0 ∙ w.0.1,
+    )),
+  )
+
+  -- one that begins behind it, or with it
+  pub down_in : first ≤ start → IsIn start (mask / 2 ^ (start - first)) tag
+      ↔ (IsIn first mask tag × ((start ≤ tag) × (tag < start + 64)))
+  down_in le = (
+    (λ i. let above = i.0 in
+        let is = place_one first mask tag (ap (mask_bit first mask) (sym (at i.0))
+        ∙ sym (moved_down first mask start (tag - start) le) ∙ i.1) in
+        let end = below_end first mask tag fits is in (is, (above, omega arith))),
+    (λ w. (
+      w.1.0,
+      moved_down first mask start (tag - start) le ∙ ap (mask_bit first mask) (at w.1.0)
+          ∙ bit_from first mask tag w.0.0 ∙ w.0.1,
+    )),
+  )
+
+-- the tags of one mask of a window without those of another
+module _ (first mask other : ℕ) (fits : mask < 2 ^ 64) (narrow : other < 2 ^ 64) (tag : ℕ) where
+  pub left_out : IsIn first (bit_and mask (bit_not w64 other)) tag → IsIn first mask tag × ¬ (IsIn first other tag)
+  left_out i = let both = bit_at_and mask (bit_not w64 other) (tag - first) in let one = i.1 in
+      let l = bit_at-lt mask (tag - first) in let n = bit_at-lt (bit_not w64 other) (tag - first) in
+      let was : bit_at mask (tag - first) ≡ 1 = omega arith in
+      let flip = bit_at_not w64 other (tag - first) narrow (bit_low mask (tag - first) fits was) in
+      ((i.0, was), λ o. let set = o.1 in omega arith)
+
+  pub stays_out : IsIn first mask tag → ¬ (IsIn first other tag) → IsIn first (bit_and mask (bit_not w64 other)) tag
+  stays_out i out = let both = bit_at_and mask (bit_not w64 other) (tag - first) in let one = i.1 in
+      let flip = bit_at_not w64 other (tag - first) narrow (bit_low mask (tag - first) fits i.1) in
+      let zero = not_set first other tag i.0 out in (i.0, omega arith)

@@ -1,0 +1,206 @@
+//! Clears of the ordinary tags of a mask, as a batch get answers it.
+ghost use Rattle.std.specs.Prelude.{◌≡◌, ◌<◌, ◌≤◌, ◌↔◌, ◌^◌, ◌+◌, ℕ, count_ones, All, Contains, IfOk, IsOk, OnOk, OnErr, IsTrue};
+ghost use Rattle.std.specs.Int.{bit_at};
+ghost use Rattle.wake_book.specs.Grants.{AreGrantsOf};
+ghost use Rattle.tag_queue.specs.Masks.{tags_in};
+ghost use Rattle.tag_sets.specs.Batches.{AreOrdinary};
+ghost use Rattle.tag_sets.specs.Hands.{group_steps, total_of};
+ghost use Rattle.tag_sets.specs.Gets.{IsOrdinaryTag};
+ghost use Rattle.tag_cache.specs.Windows.{IsIn};
+ghost use Rattle.tag_cache.specs.Batches.{ListGoes};
+ghost use Rattle.tag_cache.specs.Caches.{IsCacheOf, IsWithin, IsLent, Holds, hand_of};
+ghost use Rattle.tag_cache.specs.Changes.{IsUnchanged};
+ghost use Rattle.tag_cache.specs.Holding.{HoldsLess};
+ghost use Rattle.tag_cache.specs.Tallies.{Tallies};
+
+use crate::cache::{Cache, WINDOW};
+use crate::grants::both;
+use tag_sets::{Grants, Kind, TagFault, Tags};
+
+impl<R: Copy> Cache<R> {
+    /// Clears the ordinary tags of a mask that the user holds, in which bit `i` is tag `first + i` as in the answer of
+    /// `get_batch`, and returns how many waiters this woke. It does with them what `clear_batch` does with a list: it
+    /// keeps none, and the kept tags go back first in the same cases. They go back as by `Tags::clear_mask`. `NotHeld`
+    /// also means that a tag is kept. `BadCount` means that the mask is empty; `NoSuchTag` that a number is not below
+    /// the total, or a tag is reserved. Nothing changes on an error.
+    pub fn clear_mask(&mut self, tags: &Tags<R>, first: u32, mask: u64) -> Result<u32, TagFault>
+        requires { IsCacheOf tags.now self.old }
+        ensures cache { IsCacheOf tags.now self.new }
+
+        // The causes are checked in this order, each for the whole mask.
+        ensures bad_count { (result ≡ Err TagFault.BadCount) ↔ (mask ≡ 0) }
+        ensures no_such_tag { (result ≡ Err TagFault.NoSuchTag) ↔ ¬ (AreOrdinary tags.now (tags_in first mask)) }
+        ensures not_held { (result ≡ Err TagFault.NotHeld)
+            ↔ (AreOrdinary tags.now (tags_in first mask) × ¬ (All (Holds self.old) (tags_in first mask))) }
+        ensures succeeds { IsOk result
+            ↔ ((1 ≤ mask) × AreOrdinary tags.now (tags_in first mask) × All (Holds self.old) (tags_in first mask)) }
+        ensures less { OnOk result (HoldsLess (Contains (tags_in first mask)) self.old self.new) }
+        ensures way { IfOk result (λ woken. ListGoes tags.now (tags_in first mask) woken self.old self.new) }
+        ensures tally { OnOk result (Tallies 0 (count_ones mask) self.old self.new) }
+        ensures err { OnErr result (IsUnchanged self.old self.new) }
+    {
+        let grants = self.clear_mask_granted(tags, first, mask)?;
+        Ok(tags.ring(grants))
+    }
+
+    /// Like `clear_mask`, but wakes no sleeper, and so links nothing that does. It returns how many waiters it granted a
+    /// wakeup in each group, and leaves waking them to the caller. It is refused as `clear_mask` is: `BadCount`,
+    /// `NoSuchTag`, `NotHeld`.
+    pub fn clear_mask_granted(
+        &mut self,
+        tags: &Tags<R>,
+        first: u32,
+        mask: u64,
+    ) -> Result<Grants, TagFault>
+        requires { IsCacheOf tags.now self.old }
+        ensures cache { IsCacheOf tags.now self.new }
+
+        // The causes are checked in this order, each for the whole mask.
+        ensures bad_count { (result ≡ Err TagFault.BadCount) ↔ (mask ≡ 0) }
+        ensures no_such_tag { (result ≡ Err TagFault.NoSuchTag) ↔ ¬ (AreOrdinary tags.now (tags_in first mask)) }
+        ensures not_held { (result ≡ Err TagFault.NotHeld)
+            ↔ (AreOrdinary tags.now (tags_in first mask) × ¬ (All (Holds self.old) (tags_in first mask))) }
+        ensures succeeds { IsOk result
+            ↔ ((1 ≤ mask) × AreOrdinary tags.now (tags_in first mask) × All (Holds self.old) (tags_in first mask)) }
+        ensures less { OnOk result (HoldsLess (Contains (tags_in first mask)) self.old self.new) }
+        ensures way { IfOk result (λ grants. ListGoes tags.now (tags_in first mask) grants.woken self.old self.new) }
+        ensures grants { IfOk result (λ grants. AreGrantsOf grants (group_steps (hand_of self.old)) (group_steps (hand_of self.new))) }
+        ensures tally { OnOk result (Tallies 0 (count_ones mask) self.old self.new) }
+        ensures err { OnErr result (IsUnchanged self.old self.new) }
+    {
+        self.check_mask(tags, first, mask)?;
+        Ok(self.give_mask(tags, first, mask))
+    }
+
+    /// Checks that the mask has tags, that they are ordinary ones, and that the user holds each of them.
+    fn check_mask(&self, tags: &Tags<R>, first: u32, mask: u64) -> Result<(), TagFault>
+        requires { IsCacheOf tags.now self.now }
+
+        // The causes are checked in this order, each for the whole mask.
+        ensures bad_count { (result ≡ Err TagFault.BadCount) ↔ (mask ≡ 0) }
+        ensures no_such_tag { (result ≡ Err TagFault.NoSuchTag) ↔ ¬ (AreOrdinary tags.now (tags_in first mask)) }
+        ensures not_held { (result ≡ Err TagFault.NotHeld)
+            ↔ (AreOrdinary tags.now (tags_in first mask) × ¬ (All (Holds self.now) (tags_in first mask))) }
+        ensures succeeds { IsOk result
+            ↔ ((1 ≤ mask) × AreOrdinary tags.now (tags_in first mask) × All (Holds self.now) (tags_in first mask)) }
+    {
+        if mask == 0 {
+            return Err(TagFault::BadCount);
+        }
+        if !are_ordinary(tags, first, mask) {
+            return Err(TagFault::NoSuchTag);
+        }
+        if !self.holds_each(tags, first, mask) {
+            return Err(TagFault::NotHeld);
+        }
+        Ok(())
+    }
+
+    /// Returns whether the user holds each tag of a mask of ordinary tags.
+    fn holds_each(&self, tags: &Tags<R>, first: u32, mask: u64) -> bool
+        requires cache { IsCacheOf tags.now self.now }
+        requires ordinary { (1 ≤ mask) × AreOrdinary tags.now (tags_in first mask) }
+        ensures { IsTrue result ↔ All (Holds self.now) (tags_in first mask) }
+    {
+        for place in 0..WINDOW {
+            if !self.has_at(tags, first, mask, place) {
+                return false;
+            }
+        }
+        true
+    }
+
+    /// Returns whether the user holds the tag at a place of a mask, or the mask has none there.
+    fn has_at(&self, tags: &Tags<R>, first: u32, mask: u64, place: u32) -> bool
+        requires cache { IsCacheOf tags.now self.now }
+        requires place { place < 64 }
+        requires fits { first + place < 2 ^ 32 }
+        ensures { IsTrue result ↔ (bit_at mask place ≡ 1 → Holds self.now (first + place)) }
+    {
+        if mask >> place & 1 == 0 {
+            return true;
+        }
+        self.has(tags, first + place)
+    }
+
+    /// Returns whether the user holds a tag.
+    fn has(&self, tags: &Tags<R>, tag: u32) -> bool
+        requires { IsCacheOf tags.now self.now }
+        ensures { IsTrue result ↔ Holds self.now tag }
+    {
+        tags.find_held(&self.hand, tag).is_ok() && !self.keeps(tag)
+    }
+
+    /// Gives back the tags of a mask that the user holds, after all kept ones if somebody waits or none may be kept any
+    /// more.
+    fn give_mask(&mut self, tags: &Tags<R>, first: u32, mask: u64) -> Grants
+        requires cache { IsCacheOf tags.now self.old }
+        requires mask { (1 ≤ mask) × AreOrdinary tags.now (tags_in first mask) }
+        requires held { All (Holds self.old) (tags_in first mask) }
+        ensures cache { IsCacheOf tags.now self.new }
+        ensures way { ListGoes tags.now (tags_in first mask) result.woken self.old self.new }
+        ensures grants { AreGrantsOf result (group_steps (hand_of self.old)) (group_steps (hand_of self.new)) }
+    {
+        let left = self.lent_outside(first, mask);
+        let sooner = self.go_before(tags, left);
+        let Ok(later) = tags.clear_mask_granted(&mut self.hand, first, mask) else {
+            unreachable!()
+        };
+        both(sooner, later)
+    }
+}
+
+impl<R> Cache<R> {
+    /// Returns the mask of the tags that the user is known to hold, without those of a mask.
+    fn lent_outside(&self, first: u32, mask: u64) -> u64
+        ensures { (other : ℕ) → IsIn self.now.first result other
+            ↔ (IsLent self.now other × ¬ (Contains (tags_in first mask) other)) }
+    {
+        self.lent & !self.inside(first, mask)
+    }
+
+    /// Returns the tags of a mask that are in the window, as a mask of the window.
+    fn inside(&self, first: u32, mask: u64) -> u64
+        ensures fits { result < 2 ^ 64 }
+        ensures inside { (tag : ℕ) → IsIn self.now.first result tag ↔ (IsIn first mask tag × IsWithin self.now tag) }
+    {
+        if first.abs_diff(self.first) >= WINDOW {
+            return 0;
+        }
+        if self.first < first {
+            return mask << (first - self.first);
+        }
+        mask >> (self.first - first)
+    }
+}
+
+/// Returns whether the tags of a mask are ordinary ones.
+fn are_ordinary<R: Copy>(tags: &Tags<R>, first: u32, mask: u64) -> bool
+    requires { 1 ≤ mask }
+    ensures { IsTrue result ↔ AreOrdinary tags.now (tags_in first mask) }
+{
+    if !is_tag(tags, first) {
+        return false;
+    }
+    if !is_tag(tags, first + mask.ilog2()) {
+        return false;
+    }
+    is_ordinary(tags, first + mask.trailing_zeros())
+}
+
+/// Returns whether a tag has this number.
+fn is_tag<R: Copy>(tags: &Tags<R>, tag: u32) -> bool
+    ensures { IsTrue result ↔ (tag < total_of tags.now) }
+{
+    tags.find(tag).is_ok()
+}
+
+/// Returns whether an ordinary tag has this number.
+fn is_ordinary<R: Copy>(tags: &Tags<R>, tag: u32) -> bool
+    ensures { IsTrue result ↔ IsOrdinaryTag tags.now tag }
+{
+    match tags.find(tag) {
+        Ok(Kind::Ordinary) => true,
+        _ => false,
+    }
+}

@@ -1,0 +1,93 @@
+//! Blocking gets: an agent that finds no tag stays in a wait group until it is woken, and searches again.
+ghost use Rattle.std.specs.Prelude.{◌≡◌, ℕ, ◌≤◌, ◌↔◌, IfOk, IsSome, OnErr, Some, None};
+ghost use Rattle.wake_book.specs.Groups.{IsWaiterOf, StandsAsBefore, steps_of, moved_of, wait_index_of};
+ghost use Rattle.wake_book.specs.Groups.{standing_of as waiter_standing};
+ghost use Rattle.tag_queue.specs.Agents.{layout_of, IsAgentOf, HasRoom, standing_of, waiter_of};
+ghost use Rattle.tag_queue.specs.Gets.{GetsPlain};
+ghost use Rattle.tag_queue.specs.Blocking.{Rests, IsStay, WaitsFor, BlockingGets};
+
+use crate::agent::Agent;
+use crate::fault::QueueFault;
+use crate::queue::Queue;
+use std::sync::Wait;
+use tag_search::on_map;
+use wake_book::{Groups, Waiter};
+
+impl<R: Copy> Queue<R> {
+    /// Takes a free tag like `get`, and waits as long as it finds none: it enters a wait group, searches once more, and
+    /// sleeps there if it finds none again. Nothing promises that it returns. `NoSuchTag` means that the queue has no
+    /// tags, `Waiting` that the agent is already in a wait group, `Spent` that its life is used up.
+    pub fn get_blocking<W: Wait>(&self, rt: &W, agent: &mut Agent<R>) -> Result<u32, QueueFault>
+        requires agent { IsAgentOf self.now agent.old }
+        ensures agent { IsAgentOf self.now agent.new }
+        ensures no_such_tag { (result ≡ Err QueueFault.NoSuchTag) ↔ ((layout_of self.now).depth ≡ 0) }
+        ensures waiting { (result ≡ Err QueueFault.Waiting) ↔ ((1 ≤ (layout_of self.now).depth) × IsSome (standing_of agent.old)) }
+        ensures spent { (result ≡ Err QueueFault.Spent)
+            ↔ ((1 ≤ (layout_of self.now).depth) × (standing_of agent.old ≡ None) × ¬ (HasRoom agent.old 1)) }
+        ensures gets { IfOk result (λ tag. BlockingGets (layout_of self.now) tag agent.old agent.new) }
+        ensures waits { IfOk result (λ tag. WaitsFor (layout_of self.now) tag agent.old agent.new) }
+        ensures err { OnErr result (agent.new ≡ agent.old) }
+    {
+        if self.map.layout().depth() == 0 {
+            return Err(QueueFault::NoSuchTag);
+        }
+        if Groups::standing(&agent.waiter).is_some() {
+            return Err(QueueFault::Waiting);
+        }
+        if !agent.caller.room(1) {
+            return Err(QueueFault::Spent);
+        }
+        for _ in rt.forever() {
+            if let Some(tag) = self.try_get(agent) {
+                return Ok(tag);
+            }
+            if let Some(tag) = self.stay(rt, agent) {
+                return Ok(tag);
+            }
+        }
+        unreachable!()
+    }
+
+    /// Stays in a wait group for one search, and sleeps there if it finds no tag.
+    fn stay<W: Wait>(&self, rt: &W, agent: &mut Agent<R>) -> Option<u32>
+        requires agent { IsAgentOf self.now agent.old }
+        requires out { standing_of agent.old ≡ None }
+        requires room { HasRoom agent.old 1 }
+        ensures agent { IsAgentOf self.now agent.new }
+        ensures stay { IsStay (layout_of self.now) (wait_index_of (waiter_of agent.old)) result agent.old agent.new }
+    {
+        self.groups.enter(&mut agent.waiter);
+        // A tag given back before the agent entered wakes nobody, so it must be searched for once more.
+        let answer = self.try_get(agent);
+        self.sleep_if_none(rt, &mut agent.waiter, answer);
+        self.groups.leave(rt, &mut agent.waiter);
+        answer
+    }
+
+    /// Sleeps in the waiter's group if the search there found no tag.
+    fn sleep_if_none<W: Wait>(&self, rt: &W, waiter: &mut Waiter, answer: Option<u32>)
+        requires groups { IsWaiterOf self.now.groups waiter.old }
+        requires stands { IsSome (waiter_standing waiter.old) }
+        ensures groups { IsWaiterOf self.now.groups waiter.new × StandsAsBefore waiter.old waiter.new }
+        ensures moved { moved_of waiter.new ≡ moved_of waiter.old }
+        ensures rests { (group : ℕ) → waiter_standing waiter.old ≡ Some group
+            → Rests group answer (steps_of waiter.old) (steps_of waiter.new) }
+    {
+        if answer.is_none() {
+            self.groups.sleep(rt, waiter);
+        }
+    }
+
+    /// Makes a get for an agent that may win one more tag.
+    fn try_get(&self, agent: &mut Agent<R>) -> Option<u32>
+        requires agent { IsAgentOf self.now agent.old }
+        requires room { HasRoom agent.old 1 }
+        ensures agent { IsAgentOf self.now agent.new }
+        ensures gets { GetsPlain (layout_of self.now) result agent.old agent.new }
+    {
+        let Ok(answer) = on_map::get(&self.map, &mut agent.caller, &mut agent.hint) else {
+            unreachable!()
+        };
+        answer
+    }
+}

@@ -1,0 +1,87 @@
+-- The steps of a map's only caller are its whole history, so each finds what the caller's own earlier steps left.
+use Rattle.std.proofs.Common.{◌≡◌, ℕ, ◌<◌, Bool, cond, List, [], ◌∷◌, ◌++◌, arith, refl, sym, ap, ◌∙◌, subst}
+use Rattle.std.proofs.lemmas.Bool.{eq-eqb}
+use Rattle.tag_core.specs.declared.record.Record.{Record}
+use Rattle.tag_core.specs.declared.shape.Shape.{Shape}
+use Rattle.tag_core.specs.declared.step.Step.{Step}
+use Rattle.tag_core.specs.declared.step.Step.TheVariants.{Word}
+use Rattle.tag_core.specs.declared.word_step.WordStep.{WordStep}
+use Rattle.tag_core.specs.Histories.{Cells, FindsIn, cells_after, History, cells_of, EachFinds, steps_by}
+use Rattle.tag_core.specs.Records.{record_after}
+use Rattle.tag_core.specs.Steps.{Words, Quiet, words_after_all}
+use Rattle.tag_search.specs.AloneLaws.{cells_left, words_left, own_after, AreAlone, AloneGetsChoose, AloneBatchesChoose}
+use Rattle.tag_search.specs.Batch.{batch_words}
+use Rattle.tag_search.specs.Choice.{IsChoice, IsBatchChoice}
+use Rattle.tag_search.specs.Pool.{pool_of}
+use Rattle.tag_search.specs.Shared.{record_after_all}
+
+-- the steps of a record after more steps on words
+pub own_of_record : {R : Type 0} (steps : List WordStep) (r : Record R) → (record_after_all steps r).steps
+    ≡ own_after steps r.steps
+own_of_record [] r = refl
+own_of_record (step ∷ steps) r = own_of_record steps (record_after (Word step) r)
+
+-- each step found what the earlier ones left
+abbrev pub EachFound : {R : Type 0} → List (Step R) → Type 0
+EachFound [] = Unit {0}
+EachFound (step ∷ older) = FindsIn step (cells_left older) × EachFound older
+
+module _ {R : Type 0} where
+  -- the newest step is caller 0's own
+  own_first : (x : ℕ × Step R) (older : History R) → x.0 < 1 → steps_by 0 (x ∷ older) ≡ x.1 ∷ steps_by 0 older
+  own_first x older below = ap (λ (b : Bool). cond b (x.1 ∷ steps_by 0 older) (steps_by 0 older))
+      (eq-eqb x.0 0 (omega arith))
+
+  -- a history of one caller leaves the words that the caller's own list leaves
+  pub same_cells : (h : History R) → EachFinds 1 h → cells_of h ≡ cells_left (steps_by 0 h)
+  same_cells [] finds = refl
+  same_cells (x ∷ older) finds =
+      ap (cells_after x.1) (same_cells older finds.3)
+      ∙ sym (ap (λ (own : List (Step R)). cells_left own) (own_first x older finds.0))
+
+  -- each step of the list found what the list's earlier ones left
+  pub each_found : (h : History R) → EachFinds 1 h → EachFound (steps_by 0 h)
+  each_found [] finds = tt
+  each_found (x ∷ older) finds =
+      let here = subst (λ (c : Cells). FindsIn x.1 c) (same_cells older finds.3) finds.1 in
+      subst (λ (own : List (Step R)). EachFound own) (sym (own_first x older finds.0)) (here, each_found older finds.3)
+
+  -- the same for an earlier part of the list
+  found_older : (newer older : List (Step R)) → EachFound (newer ++ older) → EachFound older
+  found_older [] older found = found
+  found_older (step ∷ newer) older found = found_older newer older found.1
+
+  -- steps on words in such a list are quiet from the words that the earlier ones left
+  pub found_quiet : (steps : List WordStep) (older : List (Step R)) → EachFound (own_after steps older)
+      → Quiet steps (words_left older) × EachFound older
+  found_quiet [] older found = (tt, found)
+  found_quiet (step ∷ steps) older found = let rest = found_quiet steps (Word step ∷ older) found in
+      ((rest.1.0, rest.0), rest.1.1)
+
+  -- the words that they leave
+  pub left_after : (steps : List WordStep) (older : List (Step R)) → words_left (own_after steps older)
+      ≡ words_after_all steps (words_left older)
+  left_after [] older = refl
+  left_after (step ∷ steps) older = left_after steps (Word step ∷ older)
+
+  -- the steps of a lone caller are quiet
+  alone_quiet : (k : Shape) (h : History R) (newer older : List (Step R)) (steps : List WordStep)
+      → AreAlone k h newer older steps → Quiet steps (words_left older)
+  alone_quiet k h newer older steps lone =
+      let found = each_found h (subst (λ (callers : ℕ). EachFinds callers h) lone.one lone.lawful.finds) in
+      let own = subst (λ (all : List (Step R)). EachFound all) lone.own found in
+      (found_quiet steps older (found_older newer (own_after steps older) own)).0
+
+-- a get by a lone caller
+pub alone_choice : (R : Type 0) → AloneGetsChoose R
+alone_choice R k h newer older steps lone l visits answer get =
+    subst (λ (w : Words). IsChoice l (pool_of (words_left older)) visits answer (pool_of w))
+    (sym (left_after steps older))
+    (get.alone (words_left older) (alone_quiet k h newer older steps lone))
+
+-- a get of several tags by a lone caller
+pub alone_batch_choice : (R : Type 0) → AloneBatchesChoose R
+alone_batch_choice R k h newer older steps lone l n first answer get =
+    subst (λ (w : Words). IsBatchChoice l n (pool_of (words_left older)) (batch_words l first) answer (pool_of w))
+    (sym (left_after steps older))
+    (get.alone (words_left older) (alone_quiet k h newer older steps lone))

@@ -1,0 +1,13 @@
+-- The limit of the rank is the word's depth, so each place is below it.
+use Rattle.std.proofs.Common.{ℕ, ◌<◌, List, true, subst, sym, arith}
+use Rattle.std.specs.Prelude.{All}
+use Rattle.tag_layout.specs.Layout.{word_depth}
+use Rattle.tag_search.proofs.Orders.{all_scan}
+use Rattle.tag_search.proofs.all_places.all_places.Goals as goal
+
+pub returns-clause-within : goal.returns-clause-within
+returns-clause-within c =
+    let Below : ℕ → Type 0 = λ place. place < word_depth c.args.layout c.args.word in
+    let value = c.word_depth.ensures.value in
+    subst (λ (xs : List ℕ). All Below xs) (sym c.new.ensures)
+    (all_scan Below 0 c.word_depth.result true (λ k h. omega arith))

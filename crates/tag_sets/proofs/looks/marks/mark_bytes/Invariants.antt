@@ -1,0 +1,11 @@
+-- The bits of the places so far are marked, and no other bit has changed.
+use Rattle.std.proofs.Common.{◌≡◌, nat_eq, length}
+use Rattle.std.specs.Int.{bit_at}
+use Rattle.tag_sets.specs.Bits.{Marks}
+use Rattle.tag_sets.proofs.looks.marks.mark_bytes.Given as goal
+
+abbrev pub invariant-loop-place : goal.invariant-loop-place
+invariant-loop-place l = record {
+  room : length l.into ≡ length l.fn.into;
+  marks : Marks 8 l.first l.place (λ k. nat_eq (bit_at l.mask k) 1) l.fn.into l.into;
+}

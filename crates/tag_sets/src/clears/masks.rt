@@ -1,0 +1,104 @@
+//! Clears of the ordinary tags of a mask, as a batch get answers it.
+ghost use Rattle.std.specs.Prelude.{◌≡◌, ◌+◌, ◌-◌, ◌≤◌, ◌↔◌, count_ones, All, IfOk, IfSome, IsOk, IsSome, OnOk, OnErr};
+ghost use Rattle.wake_book.specs.Grants.{AreGrantsOf};
+ghost use Rattle.tag_queue.specs.Masks.{tags_in};
+ghost use Rattle.tag_sets.specs.Hands.{IsHandOf, Holds, step_count, group_steps};
+ghost use Rattle.tag_sets.specs.Batches.{AreOrdinary, GivesBack, numbers_of};
+ghost use Rattle.tag_sets.specs.Clears.{Counts, back_of};
+ghost use Rattle.tag_sets.specs.Masks.{words_over};
+ghost use Rattle.tag_sets.specs.declared.kind.Kind.TheVariants.{Ordinary};
+
+use crate::fault::TagFault;
+use crate::hand::Hand;
+use crate::tags::Tags;
+use wake_book::Grants;
+
+impl<R: Copy> Tags<R> {
+    /// Clears the held ordinary tags of a mask, in which bit `i` is tag `first + i` as in the answer of `get_batch`,
+    /// counts them together if anybody waits, and returns how many waiters it woke. The effect is that of `clear_batch`
+    /// on these tags in order, by one step for each word that has any of them. `BadCount` means that the mask is empty,
+    /// and `NoSuchTag` also that one of its tags is reserved. `NotHeld` means that the hand does not hold one. Nothing
+    /// changes on an error.
+    pub fn clear_mask(&self, hand: &mut Hand<R>, first: u32, mask: u64) -> Result<u32, TagFault>
+        requires hand { IsHandOf self.now hand.old }
+        ensures hand { IsHandOf self.now hand.new }
+
+        // The causes are checked in this order, each for the whole mask.
+        ensures bad_count { (result ≡ Err TagFault.BadCount) ↔ (mask ≡ 0) }
+        ensures no_such_tag { (result ≡ Err TagFault.NoSuchTag) ↔ ¬ (AreOrdinary self.now (tags_in first mask)) }
+        ensures not_held { (result ≡ Err TagFault.NotHeld)
+            ↔ (AreOrdinary self.now (tags_in first mask) × ¬ (All (Holds hand.old) (tags_in first mask))) }
+        ensures succeeds { IsOk result
+            ↔ ((1 ≤ mask) × AreOrdinary self.now (tags_in first mask) × All (Holds hand.old) (tags_in first mask)) }
+        ensures gives { OnOk result (GivesBack self.now (tags_in first mask) hand.old hand.new) }
+        ensures back { OnOk result (back_of hand.new Ordinary ≡ back_of hand.old Ordinary + count_ones mask) }
+        ensures counts { IfOk result (λ woken. Counts self.now Ordinary (count_ones mask) hand.old hand.new woken) }
+        ensures bound { OnOk result (step_count hand.new ≤ words_over self.now first (tags_in first mask) + 117 + step_count hand.old) }
+        ensures err { OnErr result (hand.new ≡ hand.old) }
+    {
+        if mask == 0 {
+            return Err(TagFault::BadCount);
+        }
+        let Some((first, mask)) = ordinary_mask(first, mask, self.reserved_count) else {
+            return Err(TagFault::NoSuchTag);
+        };
+        self.ordinary
+            .clear_mask(&mut hand.ordinary, first, mask)
+            .map_err(TagFault::from)
+    }
+
+    /// Like `clear_mask`, but wakes no sleeper, and so links nothing that does. It returns how many waiters it granted
+    /// a wakeup in each group, and leaves waking them to the caller. It is refused as `clear_mask` is: `BadCount`,
+    /// `NoSuchTag`, `NotHeld`.
+    pub fn clear_mask_granted(
+        &self,
+        hand: &mut Hand<R>,
+        first: u32,
+        mask: u64,
+    ) -> Result<Grants, TagFault>
+        requires hand { IsHandOf self.now hand.old }
+        ensures hand { IsHandOf self.now hand.new }
+
+        // The causes are checked in this order, each for the whole mask.
+        ensures bad_count { (result ≡ Err TagFault.BadCount) ↔ (mask ≡ 0) }
+        ensures no_such_tag { (result ≡ Err TagFault.NoSuchTag) ↔ ¬ (AreOrdinary self.now (tags_in first mask)) }
+        ensures not_held { (result ≡ Err TagFault.NotHeld)
+            ↔ (AreOrdinary self.now (tags_in first mask) × ¬ (All (Holds hand.old) (tags_in first mask))) }
+        ensures succeeds { IsOk result
+            ↔ ((1 ≤ mask) × AreOrdinary self.now (tags_in first mask) × All (Holds hand.old) (tags_in first mask)) }
+        ensures gives { OnOk result (GivesBack self.now (tags_in first mask) hand.old hand.new) }
+        ensures back { OnOk result (back_of hand.new Ordinary ≡ back_of hand.old Ordinary + count_ones mask) }
+        ensures counts { IfOk result (λ grants. Counts self.now Ordinary (count_ones mask) hand.old hand.new grants.woken) }
+        ensures grants { IfOk result (λ grants. AreGrantsOf grants (group_steps hand.old) (group_steps hand.new)) }
+        ensures bound { OnOk result (step_count hand.new ≤ words_over self.now first (tags_in first mask) + 117 + step_count hand.old) }
+        ensures err { OnErr result (hand.new ≡ hand.old) }
+    {
+        if mask == 0 {
+            return Err(TagFault::BadCount);
+        }
+        let Some((first, mask)) = ordinary_mask(first, mask, self.reserved_count) else {
+            return Err(TagFault::NoSuchTag);
+        };
+        self.ordinary
+            .clear_mask_granted(&mut hand.ordinary, first, mask)
+            .map_err(TagFault::from)
+    }
+}
+
+/// Returns the first number and the mask of the same tags in the ordinary set, or `None` if one of them is reserved.
+#[inline]
+fn ordinary_mask(first: u32, mask: u64, reserved: u32) -> Option<(u32, u64)>
+    requires { 1 ≤ mask }
+    ensures ordinary { IsSome result ↔ All (λ tag. reserved ≤ tag) (tags_in first mask) }
+    ensures numbers { IfSome result (λ run. (run.0 ≡ first - reserved) × (tags_in run.0 run.1 ≡ numbers_of reserved (tags_in first mask))) }
+    ensures ones { IfSome result (λ run. count_ones run.1 ≡ count_ones mask) }
+{
+    if first >= reserved {
+        return Some((first - reserved, mask));
+    }
+    let under = reserved - first;
+    if mask.trailing_zeros() < under {
+        return None;
+    }
+    Some((0, mask >> under))
+}

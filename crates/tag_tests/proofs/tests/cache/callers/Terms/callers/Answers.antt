@@ -1,0 +1,22 @@
+-- The hand stood first among the rest, and its caller has it.
+use Rattle.std.proofs.Common.{ℕ, List, arith, suc, sym, ap, subst, length, All}
+use Rattle.std.proofs.lemmas.List.Elements.{All-push}
+use Rattle.tag_sets.specs.declared.hand.Hand.{Hand}
+use Rattle.tag_sets.specs.Hands.{IsHandOf}
+use Rattle.tag_tests.specs.declared.tests.cache.callers.Caller.{Caller}
+use Rattle.tag_tests.specs.Mixed.{hand_in}
+use Rattle.tag_tests.proofs.tests.cache.callers.Terms.callers.Goals as goal
+
+pub loop-hand-preserved : goal.loop-hand-preserved
+loop-hand-preserved c =
+    let was = c.loop-hand.invariant in let tags = c.args.tags.now in
+    let own = λ (caller : Caller). IsHandOf tags (hand_in caller) in
+    let whole = subst (All (IsHandOf tags)) c.in-Some.ensures.steps.0 was.rest in
+    let fewer = ap length c.in-Some.ensures.steps.0 in
+    let one = subst (IsHandOf tags) (sym {A = Hand ℕ} c.caller.ensures) (whole 0 c.in-Some.hand (omega arith)) in
+    record {
+      steps = (tt, tt);
+      rest = λ k d low. whole (suc k) d (omega arith);
+      own = subst (All own) (sym {A = List Caller} c.in_ok-push.ensures.items)
+          (All-push own c.loop-hand.callers.items c.caller.result was.own one);
+    }

@@ -1,0 +1,21 @@
+-- The caller stood first among the rest, and its hand is one of the tags' own.
+use Rattle.std.proofs.Common.{ℕ, List, arith, suc, sym, ap, subst, length, All}
+use Rattle.std.proofs.lemmas.List.Elements.{All-push}
+use Rattle.tag_sets.specs.declared.hand.Hand.{Hand}
+use Rattle.tag_sets.specs.Hands.{IsHandOf}
+use Rattle.tag_tests.specs.declared.tests.cache.callers.Caller.{Caller}
+use Rattle.tag_tests.specs.Mixed.{hand_in}
+use Rattle.tag_tests.proofs.tests.cache.callers.hands_of.Goals as goal
+
+pub loop-caller-preserved : goal.loop-caller-preserved
+loop-caller-preserved c =
+    let was = c.loop-caller.invariant in let tags = c.args.tags.now in
+    let own = λ (caller : Caller). IsHandOf tags (hand_in caller) in
+    let whole = subst (All own) c.in-Some.ensures.steps.0 was.rest in
+    let fewer = ap length c.in-Some.ensures.steps.0 in
+    record {
+      steps = (tt, tt);
+      rest = λ k d low. whole (suc k) d (omega arith);
+      own = subst (All (IsHandOf tags)) (sym {A = List (Hand ℕ)} c.in_ok-push.ensures.items)
+          (All-push (IsHandOf tags) c.loop-caller.hands.items c.hand_of.result was.own c.hand_of.ensures);
+    }

@@ -1,0 +1,13 @@
+-- The callers that are still to come belong to the tags, and so does each hand so far.
+use Rattle.std.proofs.Common.{All}
+use Rattle.std.specs.Vec.Iter.{into_iter_items}
+use Rattle.tag_sets.specs.Hands.{IsHandOf}
+use Rattle.tag_tests.specs.Mixed.{hand_in}
+use Rattle.tag_tests.proofs.tests.cache.callers.hands_of.Given as goal
+
+abbrev pub invariant-loop-caller : goal.invariant-loop-caller
+invariant-loop-caller l = record {
+  steps : goal.iterator-loop-caller.can_next l.caller-iterator × goal.iterator-loop-caller.is_finite l.caller-iterator;
+  rest : All (λ caller. IsHandOf l.tags (hand_in caller)) (into_iter_items l.caller-iterator);
+  own : All (IsHandOf l.tags) l.hands.items;
+}

@@ -1,0 +1,84 @@
+//! Hands, with a cache or without.
+ghost use Rattle.std.specs.Prelude.{◌≡◌, All, IfOk};
+ghost use Rattle.tag_sets.specs.Hands.{IsHandOf};
+ghost use Rattle.tag_tests.specs.Mixed.{hand_in};
+
+use std::alloc::{AllocError, Global};
+use step_ledger::Numbered;
+use tag_cache::{Cache, Keeping};
+use tag_sets::{Hand, Tags};
+
+/// A caller of tag sets.
+#[derive(Drop)]
+pub(crate) enum Caller {
+    Bare(Hand<u64>),
+    Cached(Cache<u64>),
+}
+
+/// Which of the callers have caches, and on what terms.
+#[derive(Clone, Copy)]
+pub(crate) struct Terms {
+    /// How many of the callers have a cache: those with the lowest numbers.
+    pub(crate) caches: u32,
+    /// The most tags that each of them keeps.
+    pub(crate) most: u32,
+    pub(crate) keeping: Keeping,
+}
+
+impl Terms {
+    /// Gives the hand a cache if these terms do.
+    fn caller(self, hand: Hand<u64>) -> Caller
+        ensures { hand_in result ≡ hand }
+    {
+        if Numbered::number(&hand) >= self.caches {
+            return Caller::Bare(hand);
+        }
+        Caller::Cached(Cache::with_keeping(hand, self.most, self.keeping))
+    }
+
+    /// The same for several hands.
+    pub(crate) fn callers(
+        self,
+        alloc: Global,
+        tags: &Tags<u64>,
+        hands: Vec<Hand<u64>>,
+    ) -> Result<Vec<Caller>, AllocError>
+        requires { All (IsHandOf tags.now) hands.items }
+        ensures { IfOk result (λ callers. All (λ caller. IsHandOf tags.now (hand_in caller)) callers.items) }
+    {
+        let mut callers = Vec::new(alloc);
+        for hand in hands {
+            callers.push(self.caller(hand))?;
+        }
+        Ok(callers)
+    }
+}
+
+/// Takes the hands out of their caches, whose kept tags go back.
+pub(crate) fn hands_of(
+    alloc: Global,
+    tags: &Tags<u64>,
+    callers: Vec<Caller>,
+) -> Result<Vec<Hand<u64>>, AllocError>
+    requires { All (λ caller. IsHandOf tags.now (hand_in caller)) callers.items }
+    ensures { IfOk result (λ hands. All (IsHandOf tags.now) hands.items) }
+{
+    let mut hands = Vec::new(alloc);
+    for caller in callers {
+        hands.push(hand_of(tags, caller))?;
+    }
+    Ok(hands)
+}
+
+fn hand_of(tags: &Tags<u64>, caller: Caller) -> Hand<u64>
+    requires { IsHandOf tags.now (hand_in caller) }
+    ensures { IsHandOf tags.now result }
+{
+    match caller {
+        Caller::Bare(hand) => hand,
+        Caller::Cached(cache) => {
+            let (hand, _) = cache.into_hand(tags);
+            hand
+        }
+    }
+}
