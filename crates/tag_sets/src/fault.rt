@@ -53,9 +53,6 @@ pub enum TagFault {
     /// No tag has this number.
     #[error("no tag has this number")]
     NoSuchTag,
-    /// There are no reserved tags.
-    #[error("no tag is reserved")]
-    NoReserved,
     /// The caller does not hold the tag, or named it twice in one batch.
     #[error("the caller does not hold the tag, or named it twice")]
     NotHeld,
@@ -77,6 +74,10 @@ pub enum TagFault {
     /// The caller is not in a wait group.
     #[error("the caller does not wait")]
     NotWaiting,
+    // Last, so that the faults of a queue keep their numbers, and their conversion costs no instruction.
+    /// There are no reserved tags.
+    #[error("no tag is reserved")]
+    NoReserved,
 }
 
 impl From<QueueFault> for TagFault {
