@@ -1,10 +1,12 @@
 -- A search over all words is a get.
-use Rattle.std.proofs.Common.{◌≡◌, ℕ, ◌<◌, ◌≤◌, Bool, true, false, List, Option, arith, subst}
+use Rattle.std.proofs.Common.{◌≡◌, ℕ, zero, suc, ◌<◌, ◌≤◌, Bool, true, false, List, Option, arith, subst}
+use Rattle.std.proofs.Math.Nat.{mod-eq_of_lt}
 use Rattle.tag_core.specs.declared.word_step.WordStep.{WordStep}
 use Rattle.tag_layout.specs.Layout.{Layout, words, word_depth}
 use Rattle.tag_layout.proofs.PlaceFacts.{word-start}
 use Rattle.tag_layout.proofs.ShareFacts.{shallow_limit-le}
 use Rattle.tag_search.specs.Gets.{IsGet}
+use Rattle.tag_search.specs.Hints.{reduced}
 use Rattle.tag_search.specs.Search.{IsSearch}
 use Rattle.tag_search.specs.Visits.{Reach, visits, plain_reach, shallow_reach}
 use Rattle.tag_search.proofs.Choices.{search_chooses}
@@ -21,6 +23,11 @@ get_of_search l first reach narrow h within answer steps search =
       alone = search_chooses l first reach narrow h within answer steps search;
       bound = let a = search_bound search in let b = visits_bound l first reach h within in omega arith;
     }
+
+-- a hint below the depth is reduced already
+pub reduced_below : (depth at : ℕ) → at < depth → reduced depth at ≡ at
+reduced_below zero at low = absurd (omega arith)
+reduced_below (suc depth) at low = mod-eq_of_lt low
 
 -- a plain search has no place past a word's depth
 pub plain_within : (l : Layout) (round_robin : Bool) (hint i : ℕ) → i < words l

@@ -33,6 +33,7 @@ pub fn search_all_places<P: Port>(port: &mut P, layout: Layout, first: u32) -> O
     requires room { P.has_room port.old 1 }
     ensures port { P.ready port.new }
     ensures sizes { P.sizes port.new ≡ P.sizes port.old }
+    ensures shift { layout.shift ≤ 6 }
     ensures tag { IfSome result (λ tag. tag < layout.depth) }
     ensures search { AddsSteps P.adds port.old port.new (λ steps.
         IsSearch layout (visits layout first (plain_reach layout false 0)) steps result) }

@@ -37,38 +37,19 @@ pub fn get<P: Port>(port: &mut P, hint: &mut Hint) -> Result<Option<u32>, Spent>
         return Err(Spent);
     }
     let layout = port.layout();
-    if hint.at < layout.depth() && !hint.round_robin {
-        Ok(get_from(port, hint, layout))
-    } else {
-        Ok(get_any(port, hint, layout))
-    }
-}
-
-/// The search of a get, and the move of its hint.
-#[inline(always)]
-fn get_from<P: Port>(port: &mut P, hint: &mut Hint, layout: Layout) -> Option<u32>
-    requires port { P.ready port.old }
-    requires layout { P.sizes port.old ≡ layout }
-    requires room { P.has_room port.old 1 }
-    ensures port { P.ready port.new }
-    ensures sizes { P.sizes port.new ≡ P.sizes port.old }
-    ensures tag { IfSome result (λ tag. tag < (P.sizes port.old).depth) }
-    ensures steps { let l = P.sizes port.old in
-        let from = reduced l.depth hint.old.at in
-        AddsSteps P.adds port.old port.new (IsGet l (plain_visits l hint.old.round_robin from) result) }
-    ensures hint { HintFollows (P.sizes port.old).depth hint.old hint.new result }
-{
     let before = *hint;
-    let from = before.reduced(layout.depth());
-    let answer = search_plain(port, layout, before.round_robin, from);
-    hint.at = before.after_get(layout.depth(), from, answer);
-    answer
+    if before.round_robin || before.at >= layout.depth() {
+        return Ok(get_by_scan(port, hint, layout));
+    }
+    let answer = search_all_places(port, layout, layout.word_of(before.at));
+    hint.at = before.after_get(layout.depth(), before.at, answer);
+    Ok(answer)
 }
 
-/// As `get_from`, but out of line, and for any hint: `get` tests the usual case, a hint below the depth and no round
-/// robin, only once.
+/// The rest of `get`, out of line: from any hint, with round robin or without. `get` itself only makes the usual
+/// search, from a hint below the depth without round robin.
 #[inline(never)]
-fn get_any<P: Port>(port: &mut P, hint: &mut Hint, layout: Layout) -> Option<u32>
+fn get_by_scan<P: Port>(port: &mut P, hint: &mut Hint, layout: Layout) -> Option<u32>
     requires port { P.ready port.old }
     requires layout { P.sizes port.old ≡ layout }
     requires room { P.has_room port.old 1 }
@@ -80,44 +61,10 @@ fn get_any<P: Port>(port: &mut P, hint: &mut Hint, layout: Layout) -> Option<u32
         AddsSteps P.adds port.old port.new (IsGet l (plain_visits l hint.old.round_robin from) result) }
     ensures hint { HintFollows (P.sizes port.old).depth hint.old hint.new result }
 {
-    get_from(port, hint, layout)
-}
-
-/// Searches from a hint below the depth, or 0 if there are no tags.
-#[inline(always)]
-fn search_plain<P: Port>(port: &mut P, layout: Layout, round_robin: bool, from: u32) -> Option<u32>
-    requires port { P.ready port.old }
-    requires layout { P.sizes port.old ≡ layout }
-    requires from { from ≤ layout.depth - 1 }
-    requires room { P.has_room port.old 1 }
-    ensures port { P.ready port.new }
-    ensures sizes { P.sizes port.new ≡ P.sizes port.old }
-    ensures shift { layout.shift ≤ 6 }
-    ensures first { word_of layout from ≤ words layout }
-    ensures tag { IfSome result (λ tag. tag < layout.depth) }
-    ensures search { AddsSteps P.adds port.old port.new (λ steps. IsSearch layout (plain_visits layout round_robin from) steps result) }
-{
-    if round_robin || from >= layout.depth() {
-        return search_scan(port, layout, round_robin, from);
-    }
-    search_all_places(port, layout, layout.word_of(from))
-}
-
-/// The same search out of line, for round robin and for maps without tags.
-#[inline(never)]
-fn search_scan<P: Port>(port: &mut P, layout: Layout, round_robin: bool, from: u32) -> Option<u32>
-    requires port { P.ready port.old }
-    requires layout { P.sizes port.old ≡ layout }
-    requires from { from ≤ layout.depth - 1 }
-    requires room { P.has_room port.old 1 }
-    ensures port { P.ready port.new }
-    ensures sizes { P.sizes port.new ≡ P.sizes port.old }
-    ensures shift { layout.shift ≤ 6 }
-    ensures first { word_of layout from ≤ words layout }
-    ensures tag { IfSome result (λ tag. tag < layout.depth) }
-    ensures search { AddsSteps P.adds port.old port.new (λ steps. IsSearch layout (plain_visits layout round_robin from) steps result) }
-{
-    Scan::plain(layout, round_robin, from).search(port)
+    let from = hint.reduced(layout.depth());
+    let answer = Scan::plain(layout, hint.round_robin, from).search(port);
+    hint.follow(layout.depth(), from, answer);
+    answer
 }
 
 /// As `get`, limited to `depth` tags, which are distributed over the words. The share of a word may be 0.
