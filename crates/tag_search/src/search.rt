@@ -38,12 +38,12 @@ pub fn get<P: Port>(port: &mut P, hint: &mut Hint) -> Result<Option<u32>, Spent>
     }
     let layout = port.layout();
     let before = *hint;
-    if before.round_robin || before.at >= layout.depth() {
-        return Ok(get_by_scan(port, hint, layout));
+    if before.at < layout.depth() && !before.round_robin {
+        let answer = search_all_places(port, layout, layout.word_of(before.at));
+        hint.at = before.after_get(layout.depth(), before.at, answer);
+        return Ok(answer);
     }
-    let answer = search_all_places(port, layout, layout.word_of(before.at));
-    hint.at = before.after_get(layout.depth(), before.at, answer);
-    Ok(answer)
+    Ok(get_by_scan(port, hint, layout))
 }
 
 /// The rest of `get`, out of line: from any hint, with round robin or without. `get` itself only makes the usual

@@ -1,5 +1,6 @@
 -- A hint below the depth is reduced already, and without round robin a plain search visits every place of each word.
 use Rattle.std.proofs.Common.{◌≡◌, ℕ, ◌<◌, ◌≤◌, false, refl, sym, ap, arith, ◌∙◌, subst}
+use Rattle.std.proofs.lemmas.Bool.{not-true}
 use Rattle.tag_layout.specs.Layout.{Layout, words, word_of}
 use Rattle.tag_search.specs.Gets.{IsGet}
 use Rattle.tag_search.specs.Hints.{reduced, hint_after_get}
@@ -9,14 +10,14 @@ use Rattle.tag_search.proofs.GetFacts.{get_at, plain_within, reduced_below}
 use Rattle.tag_search.proofs.Joined.{adds_weaker}
 use Rattle.tag_search.proofs.search.get.Goals as goal
 
-pub returns-clause-steps : goal.returns-clause-steps
-returns-clause-steps g c =
+pub returns-then-not-before-clause-steps : goal.returns-then-not-before-clause-steps
+returns-then-not-before-clause-steps g c =
     let l = g.P.Port.sizes c.args.port.now in let layout = c.layout-layout.result in
     let at = c.args.hint.now.at in let rr = c.args.hint.now.round_robin in
     let answer = c.search_all_places-answer.result in let same : layout ≡ l = c.layout-layout.ensures.value in
-    let plain : rr ≡ false = c.if-before.false in
+    let plain : rr ≡ false = not-true rr c.if-not-before.true in
     let low : at < l.depth = let d = c.depth.ensures.value ∙ ap (λ (x : Layout). x.depth) same in
-    let f = c.if-before-depth.false in omega arith in
+    let f = c.if-before-depth.true in omega arith in
     let hint : ℕ = reduced l.depth at in let from : at ≡ hint = sym (reduced_below l.depth at low) in
     let first : c.word_of.result ≡ word_of l hint = c.word_of.ensures.value ∙ (λ z. word_of (same z) (from z)) in
     let below : word_of l hint ≤ words l = let w = c.word_of.ensures.within in let n = ap words same in
@@ -30,16 +31,16 @@ returns-clause-steps g c =
     (plain_within l rr hint) answer)
     c.search_all_places-answer.ensures.search
 
-pub returns-clause-hint : goal.returns-clause-hint
-returns-clause-hint g c =
+pub returns-then-not-before-clause-hint : goal.returns-then-not-before-clause-hint
+returns-then-not-before-clause-hint g c =
     let l = g.P.Port.sizes c.args.port.now in let same = c.layout-layout.ensures.value in
-    let deep : c.depth-2.result ≡ l.depth = c.depth-2.ensures.value ∙ ap (λ (x : Layout). x.depth) same in
+    let deep : c.depth-then-not-before.result ≡ l.depth = c.depth-then-not-before.ensures.value ∙ ap (λ (x : Layout). x.depth) same in
     let low : c.args.hint.now.at < l.depth = let d = c.depth.ensures.value ∙ ap (λ (x : Layout). x.depth) same in
-    let f = c.if-before-depth.false in omega arith in
+    let f = c.if-before-depth.true in omega arith in
     record {
       at = let rr = c.args.hint.now.round_robin in let answer = c.search_all_places-answer.result in
           let from = sym (reduced_below l.depth c.args.hint.now.at low) in
           subst (λ (x : ℕ). c.after_get-hint.result ≡ hint_after_get x rr (reduced l.depth c.args.hint.now.at) answer) deep
-          (subst (λ (x : ℕ). c.after_get-hint.result ≡ hint_after_get c.depth-2.result rr x answer) from c.after_get-hint.ensures);
+          (subst (λ (x : ℕ). c.after_get-hint.result ≡ hint_after_get c.depth-then-not-before.result rr x answer) from c.after_get-hint.ensures);
       round_robin = refl;
     }
