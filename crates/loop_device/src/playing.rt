@@ -1,12 +1,11 @@
 //! Plays a log: threads that share tags carry it out.
 ghost use Rattle.std.specs.Prelude.{◌≡◌, ◌≢◌, ◌+◌, ◌<◌, ◌↔◌, All, length, IfOk, IfErr, OnOk};
-ghost use Rattle.crossbeam_queue.specs.Passes.{IsPassOf};
 ghost use Rattle.tag_sets.specs.Hands.{IsHandOf, total_of};
 ghost use Rattle.loop_device.specs.History.{IsHistory};
 ghost use Rattle.loop_device.specs.Playing.{IsPlayed, IsClean, IsJudged, NamesLine};
 ghost use Rattle.loop_device.specs.Setups.{IsLegal};
 
-use crate::device_queue::{DeviceQueue, Tagged, Worker};
+use crate::device_queue::{DeviceQueue, Tagged};
 use crate::fault::PlayFault;
 use crate::gate::Gate;
 use crate::io::{Done, Log};
@@ -16,12 +15,10 @@ use crate::setup::Setup;
 use crate::store::Store;
 use crate::threads::carry_by_threads;
 use crate::workers::{Faults, PlayContext};
-use crossbeam_queue::Pass;
-use std::alloc::{AllocError, Global};
+use std::alloc::Global;
 use std::marker::Brand;
 use std::sync::atomic::AtomicBool;
 use std::sync::{Mutex, Wait};
-use std::thread;
 use std::thread::Threads;
 use tag_model::Totals;
 use tag_sets::{Hand, Options, Tags};
@@ -88,8 +85,8 @@ fn play_under<B: Tagged + Send + Sync, G: Gate, R: Threads + Wait + Sync>(
         stopped: &stopped,
         closed: &closed,
     };
-    let carried = carry_in_scope(rt, alloc, &context, hands, pass, setup.completers as usize);
-    let Ok((hands, faults)) = carried else {
+    let completers = setup.completers as usize;
+    let Ok((hands, faults)) = carry_by_threads(rt, alloc, &context, hands, pass, completers) else {
         return Err(PlayFault::Memory);
     };
     let done = store.into_inner().into_history();
@@ -98,52 +95,6 @@ fn play_under<B: Tagged + Send + Sync, G: Gate, R: Threads + Wait + Sync>(
         return Err(PlayFault::Memory);
     };
     judge(alloc, log, totals.tags, done, faults)
-}
-
-/// Carries out the log in threads, all of which have ended when it returns.
-fn carry_in_scope<B: Tagged + Send + Sync, G: Gate, R: Threads + Wait + Sync>(
-    rt: &R,
-    alloc: Global,
-    context: &PlayContext<'_, B, G>,
-    hands: Vec<Hand<u64>>,
-    pass: Pass<u32, Worker>,
-    wanted: usize,
-) -> Result<(Vec<Hand<u64>>, Faults), AllocError>
-    requires hands { All (IsHandOf context.now.tags.now) hands.items }
-    requires pass { IsPassOf context.now.queue.now pass }
-    requires total { total_of context.now.tags.now ≡ B.total }
-    requires wanted { wanted < length hands.items }
-    ensures { IfOk result (λ back. All (IsHandOf context.now.tags.now) back.0.items) }
-{
-    let PlayContext {
-        log,
-        gate,
-        tags,
-        queue,
-        store,
-        stopped,
-        closed,
-    } = *context;
-    thread::scope(
-        thread::scope_env(),
-        rt,
-        |scope| -> Result<(Vec<Hand<u64>>, Faults), AllocError>
-            requires { All (IsHandOf tags.now) hands.items × IsPassOf queue.now pass × (total_of tags.now ≡ B.total)
-                × (wanted < length hands.items) }
-            ensures { IfOk result (λ back. All (IsHandOf tags.entry.now) back.0.items) }
-        {
-            let context = PlayContext {
-                log,
-                gate,
-                tags,
-                queue,
-                store,
-                stopped,
-                closed,
-            };
-            carry_by_threads(scope, rt, alloc, &context, hands, pass, wanted)
-        },
-    )
 }
 
 /// The outcome of the play, determined after the joins.
