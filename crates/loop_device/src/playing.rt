@@ -5,6 +5,7 @@ ghost use Rattle.loop_device.specs.History.{IsHistory};
 ghost use Rattle.loop_device.specs.Playing.{IsPlayed, IsClean, IsJudged, NamesLine};
 ghost use Rattle.loop_device.specs.Setups.{IsLegal};
 
+use crate::device::Device;
 use crate::device_queue::{DeviceQueue, Tagged};
 use crate::fault::PlayFault;
 use crate::gate::Gate;
@@ -14,7 +15,7 @@ use crate::report::Report;
 use crate::setup::Setup;
 use crate::store::Store;
 use crate::threads::carry_by_threads;
-use crate::workers::{Faults, PlayContext};
+use crate::workers::Faults;
 use std::alloc::Global;
 use std::marker::Brand;
 use std::sync::atomic::AtomicBool;
@@ -73,20 +74,23 @@ fn play_under<B: Tagged + Send + Sync, G: Gate, R: Threads + Wait + Sync>(
     let Ok((queue, pass)) = DeviceQueue::<B>::ruled(alloc, setup.queue as usize) else {
         return Err(PlayFault::Memory);
     };
-    let store = Mutex::new(Store::open(alloc));
-    let stopped = AtomicBool::new(false);
-    let closed = AtomicBool::new(false);
-    let context = PlayContext {
-        log,
-        gate,
-        tags: &tags,
-        queue: &queue,
-        store: &store,
-        stopped: &stopped,
-        closed: &closed,
+    let device = Device {
+        tags,
+        queue,
+        store: Mutex::new(Store::open(alloc)),
+        stopped: AtomicBool::new(false),
+        closed: AtomicBool::new(false),
     };
     let completers = setup.completers as usize;
-    let Ok((hands, faults)) = carry_by_threads(rt, alloc, &context, hands, pass, completers) else {
+    let carried = carry_by_threads(rt, alloc, log, gate, &device, hands, pass, completers);
+    let Device {
+        tags,
+        queue: _,
+        store,
+        stopped: _,
+        closed: _,
+    } = device;
+    let Ok((hands, faults)) = carried else {
         return Err(PlayFault::Memory);
     };
     let done = store.into_inner().into_history();

@@ -4,9 +4,11 @@ ghost use Rattle.crossbeam_queue.specs.Passes.{view, IsPassOf};
 ghost use Rattle.tag_sets.specs.Hands.{IsHandOf, total_of};
 ghost use Rattle.loop_device.specs.Playing.{Promises};
 
+use crate::device::Device;
 use crate::device_queue::{Completer, DeviceQueue, Submitter, Tagged, Worker};
 use crate::gate::Gate;
-use crate::workers::{Faults, PlayContext, Worked, complete_all, submit_all};
+use crate::io::Log;
+use crate::workers::{Faults, Worked, complete_all, submit_all};
 use crossbeam_queue::Pass;
 use std::alloc::{AllocError, Global};
 use std::sync::Wait;
@@ -33,54 +35,55 @@ type Handle<'s> = PromisedHandle<Worked, HandsBack<'s>>;
 pub(crate) fn carry_by_threads<B: Tagged + Send + Sync, G: Gate, R: Threads + Wait + Sync>(
     rt: &R,
     alloc: Global,
-    context: &PlayContext<'_, B, G>,
+    log: &Log,
+    gate: &G,
+    device: &Device<B>,
     hands: Vec<Hand<u64>>,
     pass: Pass<u32, Worker>,
     completers: usize,
 ) -> Result<(Vec<Hand<u64>>, Faults), AllocError>
-    requires hands { All (IsHandOf context.now.tags.now) hands.items }
-    requires pass { IsPassOf context.now.queue.now pass }
-    requires total { total_of context.now.tags.now ≡ B.total }
+    requires hands { All (IsHandOf device.now.tags) hands.items }
+    requires pass { IsPassOf device.now.queue pass }
+    requires total { total_of device.now.tags ≡ B.total }
     requires completers { completers < vec_len hands }
-    ensures { IfOk result (λ back. All (IsHandOf context.now.tags.now) back.0.items) }
+    ensures { IfOk result (λ back. All (IsHandOf device.now.tags) back.0.items) }
 {
-    let PlayContext {
-        log,
-        gate,
-        tags,
-        queue,
-        store,
-        stopped,
-        closed,
-    } = *context;
     thread::scope(
         thread::scope_env(),
         rt,
         |scope| -> Result<(Vec<Hand<u64>>, Faults), AllocError>
-            requires { All (IsHandOf tags.now) hands.items × IsPassOf queue.now pass × (total_of tags.now ≡ B.total)
+            requires { All (IsHandOf device.now.tags) hands.items × IsPassOf device.now.queue pass × (total_of device.now.tags ≡ B.total)
                 × (completers < vec_len hands) }
-            ensures { IfOk result (λ back. All (IsHandOf tags.entry.now) back.0.items) }
+            ensures { IfOk result (λ back. All (IsHandOf device.entry.now.tags) back.0.items) }
         {
-            let context = PlayContext {
-                log,
-                gate,
-                tags,
-                queue,
-                store,
-                stopped,
-                closed,
-            };
             let count = hands.len();
             let mut handles = Vec::with_capacity(alloc, count)?;
             let mut back = Vec::with_capacity(alloc, count)?;
             let mut faults = Faults::none();
-            if !start_all(scope, rt, &context, hands, pass, completers, &mut handles) {
+            if !start_all(
+                scope,
+                rt,
+                log,
+                gate,
+                device,
+                hands,
+                pass,
+                completers,
+                &mut handles,
+            ) {
                 faults.memory = true;
-                stopped.store(true, SeqCst);
+                device.stopped.store(true, SeqCst);
             }
-            join_down_to(rt, tags, completers, &mut handles, &mut back, &mut faults);
-            closed.store(true, SeqCst);
-            join_down_to(rt, tags, 0, &mut handles, &mut back, &mut faults);
+            join_down_to(
+                rt,
+                &device.tags,
+                completers,
+                &mut handles,
+                &mut back,
+                &mut faults,
+            );
+            device.closed.store(true, SeqCst);
+            join_down_to(rt, &device.tags, 0, &mut handles, &mut back, &mut faults);
             Ok((back, faults))
         },
     )
@@ -90,54 +93,40 @@ pub(crate) fn carry_by_threads<B: Tagged + Send + Sync, G: Gate, R: Threads + Wa
 fn start_all<'s, E, B: Tagged + Send + Sync, G: Gate, R: Wait + Sync>(
     scope: &Scope<'s, E>,
     rt: &'s R,
-    context: &PlayContext<'s, B, G>,
+    log: &'s Log,
+    gate: &'s G,
+    device: &'s Device<B>,
     hands: Vec<Hand<u64>>,
     mut pass: Pass<u32, Worker>,
     completers: usize,
     handles: &mut Vec<Handle<'s>>,
 ) -> bool
-    requires hands { All (IsHandOf context.now.tags.now) hands.items }
-    requires pass { IsPassOf context.now.queue.now pass }
-    requires total { total_of context.now.tags.now ≡ B.total }
+    requires hands { All (IsHandOf device.now.tags) hands.items }
+    requires pass { IsPassOf device.now.queue pass }
+    requires total { total_of device.now.tags ≡ B.total }
     requires completers { completers < vec_len hands }
     requires none { handles.old.items ≡ [] }
     requires room { vec_len hands ≤ vec_capacity handles.old }
-    ensures handles { All (Promises context.now.tags.now) handles.new.items }
+    ensures handles { All (Promises device.now.tags) handles.new.items }
     ensures len { vec_len handles.new ≤ vec_len hands }
 {
-    let PlayContext {
-        log,
-        gate,
-        tags,
-        queue,
-        store,
-        stopped,
-        closed,
-    } = *context;
     let submitters = hands.len() - completers;
     for hand in hands {
         // Its number among the submitters. A completer has none.
         let number = handles.len().checked_sub(completers);
-        let mine = pass_for(queue, &mut pass, number.is_some());
+        let mine = pass_for(&device.queue, &mut pass, number.is_some());
         let started = scope.spawn_with(
-            HandsBack(tags),
+            HandsBack(&device.tags),
             move || -> Worked
-                requires { IsHandOf tags.now hand × IsPassOf queue.now mine × (total_of tags.now ≡ B.total)
+                requires { IsHandOf device.now.tags hand × IsPassOf device.now.queue mine × (total_of device.now.tags ≡ B.total)
                     × (0 < submitters) × IfSome number (λ _. (view mine).submits ≡ true) }
-                ensures { IsHandOf tags.entry.now result.hand }
+                ensures { IsHandOf device.entry.now.tags result.hand }
             {
-                let context = PlayContext {
-                    log,
-                    gate,
-                    tags,
-                    queue,
-                    store,
-                    stopped,
-                    closed,
-                };
                 match number {
-                    Some(number) => submit_all(rt, &context, hand, mine, number, submitters),
-                    None => complete_all(rt, &context, hand, mine).0,
+                    Some(number) => submit_all(
+                        rt, log, gate, device, hand, mine, number, submitters,
+                    ),
+                    None => complete_all(rt, log, gate, device, hand, mine).0,
                 }
             },
         );

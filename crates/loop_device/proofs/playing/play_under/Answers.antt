@@ -4,4 +4,4 @@ use Rattle.loop_device.proofs.playing.play_under.Goals as goal
 
 pub returns-clause-line : goal.returns-clause-line
 returns-clause-line g c = names_lines c.args.log.now.ios.items c.into_history-done.result.items
-    c.in-Ok-gather.totals.tags c.in-Ok-carry_by_threads.faults c.judge.result c.judge.ensures.fault
+    c.in-Ok-gather.totals.tags c.in-Ok-carried.faults c.judge.result c.judge.ensures.fault
