@@ -1,4 +1,4 @@
-//! The threads of a play: how they are started and joined.
+//! The threads of a play: one for each hand, started and joined in one scope.
 ghost use Rattle.std.specs.Prelude.{◌≡◌, ◌+◌, ◌<◌, ◌≤◌, All, true, IsTrue, vec_len, vec_capacity, IfOk, IfSome, []};
 ghost use Rattle.crossbeam_queue.specs.Passes.{view, IsPassOf};
 ghost use Rattle.tag_sets.specs.Hands.{IsHandOf, total_of};
@@ -30,8 +30,7 @@ impl<'a> Promise<Worked> for HandsBack<'a> {
 type Handle<'s> = PromisedHandle<Worked, HandsBack<'s>>;
 
 /// Carries out the log: the first `completers` of the hands complete and the others submit, each in a thread of its own.
-/// All threads have ended when it returns. Returns the hands that came back: all but those of threads that could not be
-/// started.
+/// All have ended when it returns. Returns the hands that came back: all but those of threads that could not be started.
 pub(crate) fn carry_by_threads<B: Tagged + Send + Sync, G: Gate, R: Threads + Wait + Sync>(
     rt: &R,
     alloc: Global,
@@ -52,8 +51,8 @@ pub(crate) fn carry_by_threads<B: Tagged + Send + Sync, G: Gate, R: Threads + Wa
         thread::scope_env(),
         rt,
         |scope| -> Result<(Vec<Hand<u64>>, Faults), AllocError>
-            requires { All (IsHandOf device.now.tags) hands.items × IsPassOf device.now.queue pass × (total_of device.now.tags ≡ B.total)
-                × (completers < vec_len hands) }
+            requires { All (IsHandOf device.now.tags) hands.items × IsPassOf device.now.queue pass
+                × (total_of device.now.tags ≡ B.total) × (completers < vec_len hands) }
             ensures { IfOk result (λ back. All (IsHandOf device.entry.now.tags) back.0.items) }
         {
             let count = hands.len();
@@ -118,8 +117,9 @@ fn start_all<'s, E, B: Tagged + Send + Sync, G: Gate, R: Wait + Sync>(
         let started = scope.spawn_with(
             HandsBack(&device.tags),
             move || -> Worked
-                requires { IsHandOf device.now.tags hand × IsPassOf device.now.queue mine × (total_of device.now.tags ≡ B.total)
-                    × (0 < submitters) × IfSome number (λ _. (view mine).submits ≡ true) }
+                requires { IsHandOf device.now.tags hand × IsPassOf device.now.queue mine
+                    × (total_of device.now.tags ≡ B.total) × (0 < submitters)
+                    × IfSome number (λ _. (view mine).submits ≡ true) }
                 ensures { IsHandOf device.entry.now.tags result.hand }
             {
                 match number {
