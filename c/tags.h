@@ -1,48 +1,51 @@
 /*
  * tags.h - a pool of tags that threads share without a lock
  *
- * A tag is a small number with a slot of 64 bits. It is free, held by one hand,
- * or posted. Each thread uses a hand of its own, and a pool has 1 to 64 hands.
- * The first tags of a pool can be reserved: only tags_get_reserved() takes them.
+ * A tag is a small number with a slot of 64 bits for whoever holds it. It is free,
+ * held by one hand, or posted: offered, with its slot, to the first hand that takes
+ * it. A hand is what a thread makes its calls with; a pool has 1 to 64 of them. The
+ * first tags of a pool can be reserved: only tags_get_reserved() takes them. All
+ * other tags are ordinary.
  *
  * The library is proved: under every schedule of the threads no tag and no slot
  * ever has two holders, no call changes what another hand holds, and the sums
- * that tags_close() fills in balance. What takes a bell, and tags_strerror(), is
- * written in C; it is tested, not proved.
+ * that tags_close() fills in balance. The calls that take a struct tags_bell, and
+ * tags_strerror(), are written in C; they are tested, not proved.
  *
  * Threads
- *   A handle, a struct tags_pool or a struct tags_hand, may be in one call at a
- *   time. It may be passed to another thread, synchronized as by a mutex or by
- *   pthread_join(). Handles of one pool may be in calls at once, on any threads.
- *   Only tags_get_blocking() and tags_get_timed() block, and only tags_open(),
- *   tags_join() and tags_resize() take memory. No call may be made from a signal handler, or in
- *   the forked child of a process with threads.
+ *   A handle is a struct tags_pool or a struct tags_hand. Only one call at a time
+ *   may use it. It may move to another thread, if a mutex, pthread_join() or the
+ *   like orders the two. Different handles of one pool may be used at once, on any
+ *   threads. Only tags_get_blocking() and tags_get_timed() block, and only
+ *   tags_open(), tags_join() and tags_resize() allocate memory. Make no call from a
+ *   signal handler, or in the forked child of a process with threads.
  *
  * Caches
- *   If the pool was opened with a cache, each hand keeps some of the ordinary tags
- *   that are given back to it, at most as many as the options say, and hands them
- *   out again by its next gets. These calls take no locked step. A kept tag is held
- *   by no caller: a read, a clear or any other use of it is refused with
- *   TAGS_NOT_HELD. To the pool it is busy, and no other hand can get it. A clear that
- *   finds a hand in a wait group gives all kept tags back, but a hand that makes no
- *   more clears keeps what it has. So before a thread is idle, sleeps or leaves the
- *   pool, it calls tags_ring(&bell, tags_flush(&hand)). With TAGS_KEEP_WHILE_HOLDING
- *   the clear of the last tag that the hand got gives all kept tags back. Then a hand
- *   that keeps tags always has a clear to come, and only a thread whose next call is
- *   tags_post() has to flush. A pool whose threads wait for tags should have at
- *   least 8 ordinary tags more than all its hands may keep, or that flag.
+ *   In a pool with a cache, each hand keeps some of the ordinary tags that it gives
+ *   back, as many as the options allow, and its next gets return those. Neither call
+ *   makes an atomic read-modify-write then. A kept tag has no user: any use of it is
+ *   refused with TAGS_NOT_HELD. But to the pool it is busy, and no other hand can get
+ *   it. A clear that finds a hand in a wait group gives all kept tags back, but a
+ *   hand that makes no more clears keeps what it has. So before a thread goes idle,
+ *   sleeps or leaves the pool, it calls tags_ring(&bell, tags_flush(&hand)).
+ *   With TAGS_KEEP_WHILE_HOLDING, clearing the last tag that a hand got also gives
+ *   back all that it keeps. A hand that keeps tags then always has a clear to come,
+ *   and need only flush before it posts that last tag. If threads wait for tags, set
+ *   that flag, or give the pool at least 8 ordinary tags more than all its hands
+ *   together may keep.
  *
  * Arguments
  *   Each pointer must be NULL or point to an object of its type that overlaps no
- *   other. A handle must not be copied, since the copy would be a second owner.
- *   Within these rules no argument leads to undefined behaviour. NULL, an empty
- *   handle, a handle of the other kind, a tag that is out of range or not held
- *   and a list of a wrong size are refused with a negative status, and a refused
- *   call changes nothing. NULL is checked first, and refused with TAGS_NULL.
+ *   other argument. Do not copy a handle: the copy would be a second owner. Within
+ *   these rules no argument leads to undefined behaviour. NULL, an empty handle, a
+ *   hand in place of a pool or a pool in place of a hand, a tag that is out of range
+ *   or not held, and a list of the wrong size are refused with a negative status,
+ *   and a refused call changes nothing. NULL is checked first, and refused with
+ *   TAGS_NULL.
  *
  * Numbers
- *   A pool has at most 10,240 tags. In its life, a hand may take up to 2^48 tags
- *   of each set and count up to 2^56 completions.
+ *   A pool has at most 10,240 tags. In its life a hand may take up to 2^48 ordinary
+ *   and 2^48 reserved tags, and count up to 2^56 completions.
  */
 #ifndef TAGS_H
 #define TAGS_H
@@ -57,7 +60,7 @@ extern "C" {
 #define TAGS_VERSION_MAJOR 0
 #define TAGS_VERSION_MINOR 2
 
-/* The library has a symbol for each call, and defines both of them for that. */
+/* Programs get the calls inline. The library defines both macros to export them, too. */
 #ifndef TAGS_CALL
 #define TAGS_CALL static inline
 #ifdef __GNUC__
@@ -67,7 +70,7 @@ extern "C" {
 #endif
 #endif
 
-/* A call that is not defined in line, whose answer must not be ignored. */
+/* For a call that is not inline and whose result must not be ignored. */
 #ifdef __GNUC__
 #define TAGS_ANSWER __attribute__((warn_unused_result))
 #else
@@ -76,23 +79,26 @@ extern "C" {
 
 struct timespec;
 
-/** enum tags_status - what a call returns that has no tag and no count to return */
+/** enum tags_status - what a call returns if it has neither a tag nor a count to return */
 enum tags_status {
 	/** done */
 	TAGS_OK = 0,
-	/** the pool has no such tag, or no such ordinary tag if the call needs one */
+	/**
+	 * the tag is out of range, or reserved where the call needs an ordinary tag; or
+	 * the pool has no ordinary tag to wait for
+	 */
 	TAGS_NO_SUCH_TAG = -1,
 	/** the pool was opened without reserved tags */
 	TAGS_NO_RESERVED = -2,
 	/** this hand does not hold the tag */
 	TAGS_NOT_HELD = -3,
-	/** the tag is not posted, or another hand has taken it first */
+	/** the tag is not posted, or another hand took it first */
 	TAGS_NOT_POSTED = -4,
-	/** a batch of 0 tags, or of more than the call allows */
+	/** a batch of 0 tags, or of more than the call allows, or an empty mask */
 	TAGS_BAD_COUNT = -5,
-	/** a depth of 0, or below the pool's min_shallow */
+	/** a depth of 0, or one below the pool's min_shallow */
 	TAGS_TOO_SHALLOW = -6,
-	/** the call could take the hand past its limit of 2^48 tags */
+	/** the call could take the hand past its limit, 2^48 tags in its life */
 	TAGS_SPENT = -7,
 	/** the hand is already in a wait group */
 	TAGS_WAITING = -8,
@@ -100,25 +106,25 @@ enum tags_status {
 	TAGS_NOT_WAITING = -9,
 	/** no free tag was found: each tag checked was taken at some moment of the call */
 	TAGS_NO_TAG = -10,
-	/** the wait group changed during the call: try again */
+	/** other threads changed the wait group during the call: try again */
 	TAGS_AGAIN = -11,
-	/** the handle is empty, or of the other kind */
+	/** the handle is empty, or a hand stands in place of a pool or a pool of a hand */
 	TAGS_BAD_HANDLE = -12,
 	/** the handle to be filled is not empty */
 	TAGS_NOT_EMPTY = -13,
-	/** all hands of the pool are out */
+	/** all hands of the pool are out: joined, and not left */
 	TAGS_NO_HAND = -14,
-	/** not all hands of the pool are back */
+	/** some hands of the pool are out: joined, and not left */
 	TAGS_HANDS_OUT = -15,
 	/** neither TAGS_ORDINARY nor TAGS_RESERVED */
 	TAGS_BAD_KIND = -16,
 	/** an array with fewer bits than the pool has tags */
 	TAGS_TOO_SMALL = -17,
-	/** a flag that the call does not know */
+	/** an unknown flag */
 	TAGS_BAD_FLAG = -18,
-	/** the pool has no room for the hand that leaves; this is not expected */
+	/** the pool has no room for the hand that leaves; this should never happen */
 	TAGS_NO_BERTH = -19,
-	/** a hand was missing where all came together; it is not expected */
+	/** a hand was missing when the pool was closed or resized; this should never happen */
 	TAGS_HAND_LOST = -20,
 	/** out of memory */
 	TAGS_NO_MEMORY = -21,
@@ -138,43 +144,43 @@ enum tags_status {
 	TAGS_NULL = -28,
 	/** tags of the pool are held or posted */
 	TAGS_IN_USE = -29,
-	/** hands of the pool stand in a wait group */
+	/** hands of the pool are in a wait group */
 	TAGS_HANDS_WAIT = -30,
-	/** no tag was found free until the deadline */
+	/** no free tag was found before the deadline */
 	TAGS_TIMED_OUT = -31,
-	/** a clock that the call does not know, or nanoseconds that are no part of a second */
+	/** an unknown clock, or nanoseconds outside 0 to 999,999,999 */
 	TAGS_BAD_TIME = -32,
-	/** the bell has no eventfd, the number is none, or 64 hands are listed already */
+	/** the bell has no eventfd, the descriptor is below -1, or 64 hands already wait for it */
 	TAGS_BAD_EVENT = -33,
-	/** a negative shift other than -1, or any but 0 beside TAGS_ONE_PER_WORD */
+	/** a shift below -1, or a shift other than 0 with TAGS_ONE_PER_WORD */
 	TAGS_BAD_SHIFT = -34,
 	/** a cache of more than TAGS_MAX_CACHE tags */
 	TAGS_CACHE_TOO_LARGE = -35
 };
 
 enum {
-	/** the most tags of a pool */
+	/** the most tags in a pool */
 	TAGS_MAX_TOTAL = 10240,
 	/** the largest shift: 64 tags in a word */
 	TAGS_MAX_SHIFT = 6,
-	/** the most hands of a pool */
+	/** the most hands in a pool */
 	TAGS_MAX_HANDS = 64,
-	/** the most tags of one tags_clear_batch() */
+	/** the most tags in one tags_clear_batch() */
 	TAGS_MAX_BATCH = 64,
 	/** the most tags that a hand keeps */
 	TAGS_MAX_CACHE = 64,
-	/** the wait groups of a pool */
+	/** the number of wait groups of a pool */
 	TAGS_GROUPS = 8
 };
 
-/** struct tags_pool - the handle of a pool; it is empty if all bytes are 0 */
+/** struct tags_pool - a handle for a pool; it is empty if all its bytes are 0 */
 struct tags_pool {
 	/** @full: private to the library, as is @object */
 	uint64_t full;
 	void *object;
 };
 
-/** struct tags_hand - the handle of a hand; it is empty if all bytes are 0 */
+/** struct tags_hand - a handle for a hand; it is empty if all its bytes are 0 */
 struct tags_hand {
 	/** @full: private to the library, as is @object */
 	uint64_t full;
@@ -182,36 +188,36 @@ struct tags_hand {
 };
 
 /**
- * struct tags_bell - where a pool's threads wait for a tag; initially all bytes 0
+ * struct tags_bell - where a pool's threads wait for a tag; initially all bytes are 0
  *
- * All of it is private to the library.
+ * Its fields are private to the library.
  */
 struct tags_bell {
-	/** @sleepers: threads that sleep, or are about to, and that no ring has woken */
+	/** @sleepers: threads that sleep or are about to, and that no ring has woken */
 	uint32_t sleepers;
 	/** @listeners: hands in @listening */
 	uint32_t listeners;
-	/** @event: 0, or 1 more than the number of an eventfd */
+	/** @event: 0 for none, or the descriptor of an eventfd plus 1 */
 	uint32_t event;
-	/** @next: the group with which the next look for sleepers begins */
+	/** @next: the wait group where the next search for sleepers starts */
 	uint32_t next;
-	/** @waking: threads that a ring woke, and that have not tried since */
+	/** @waking: threads that a ring woke and that have not tried again yet */
 	int32_t waking;
-	/** @depth: how many ordinary tags there are, once a thread has slept */
+	/** @depth: the number of ordinary tags, set when a thread sleeps */
 	int32_t depth;
-	/** @rings: the futex of each wait group: how often it rang */
+	/** @rings: the futex of each wait group, which counts its rings */
 	uint32_t rings[TAGS_GROUPS];
-	/** @asleep: the sleepers of each group */
+	/** @asleep: the sleepers in each wait group */
 	uint32_t asleep[TAGS_GROUPS];
-	/** @listening: the hands that wait for an event */
+	/** @listening: the hands that wait for the eventfd */
 	void *listening[TAGS_MAX_HANDS];
 };
 
-/** struct tags_grants - whom a clear granted a wakeup */
+/** struct tags_grants - how many waiters a clear granted a wakeup */
 struct tags_grants {
-	/** @woken: how many waiters */
+	/** @woken: in all */
 	uint32_t woken;
-	/** @in_group: how many of them in each wait group */
+	/** @in_group: in each wait group */
 	uint8_t in_group[TAGS_GROUPS];
 };
 
@@ -221,56 +227,55 @@ struct tags_grants {
 /** initializer of a bell */
 #define TAGS_BELL { 0, 0, 0, 0, 0, 0, { 0 }, { 0 }, { 0 } }
 
-/** initializer of options: no tag and no hand yet, and the rules for the rest */
+/** initializer of options: no tags and no hands, and the defaults for the rest */
 #define TAGS_OPTIONS_INIT { 0, 0, 0, 0, 0, 0, 0 }
 
-/** @shift of struct tags_options: the same as 0 */
+/** a shift of struct tags_options that means the same as 0 */
 #define TAGS_DEFAULT_SHIFT (-1)
 
 /** enum tags_option_flags - @flags of struct tags_options */
 enum tags_option_flags {
 	/**
-	 * A get begins after the tag last won, and at the first tag after the last
-	 * but one. So a tag is reused late, though not as late as possible: a tag that
-	 * was given back is free again once its word has no free tag left, and the
-	 * last tag is passed over unless the others are taken or not free again.
+	 * A get starts after the tag that the hand won last. So a tag is reused late,
+	 * though not as late as possible: a tag that was given back is free again once
+	 * its word has no free tag left. After the last tag but one a get starts at
+	 * the first, so the last tag is won only if it is the only one found free.
 	 */
 	TAGS_ROUND_ROBIN = 1,
-	/** words of one tag each; @shift must be 0 */
+	/** words of one tag each; the shift must be 0 */
 	TAGS_ONE_PER_WORD = 2,
-	/** a hand with a cache keeps tags only while it holds another one that it got */
+	/** a hand keeps tags in its cache only while it holds another one that it got */
 	TAGS_KEEP_WHILE_HOLDING = 4
 };
 
 /** struct tags_options - the options of tags_open(); all but @total and @hands may stay 0 */
 struct tags_options {
-	/** @total: number of tags, at most TAGS_MAX_TOTAL */
+	/** @total: number of tags, including the reserved ones, at most TAGS_MAX_TOTAL */
 	uint32_t total;
-	/** @reserved: how many of them are reserved, from tag 0 */
+	/** @reserved: how many of them are reserved: tags 0 to @reserved - 1 */
 	uint32_t reserved;
 	/**
-	 * @shift: log2(tags per word), 1 to TAGS_MAX_SHIFT. 0 chooses the largest that
-	 * gives a set of 4 tags or more 4 whole words.
+	 * @shift: log2(tags per word), 1 to TAGS_MAX_SHIFT. 0 chooses the largest with
+	 * which the set still has 4 whole words, and TAGS_MAX_SHIFT for fewer than 4 tags.
 	 */
 	int32_t shift;
 	/**
-	 * @min_shallow: the least depth that may be passed to tags_get_shallow(), or 0
-	 * to allow any from 1. Completions are charged in batches of an eighth of the
-	 * ordinary tags, or of @min_shallow if it is lower and not 0; at least 1, at
-	 * most 8.
+	 * @min_shallow: the least depth that tags_get_shallow() accepts; 0 accepts any
+	 * from 1. Completions are charged in batches of an eighth of the ordinary tags,
+	 * or an eighth of @min_shallow if it is lower and not 0; at least 1, at most 8.
 	 */
 	uint32_t min_shallow;
 	/** @hands: number of hands, 1 to TAGS_MAX_HANDS */
 	uint32_t hands;
 	/** @flags: 0, or any of enum tags_option_flags */
 	uint32_t flags;
-	/** @cache: how many tags each hand may keep, at most TAGS_MAX_CACHE, or 0 for none */
+	/** @cache: how many tags each hand may keep, at most TAGS_MAX_CACHE; 0 for no cache */
 	uint32_t cache;
 };
 
 /** enum tags_join_flags - flags of tags_join() */
 enum tags_join_flags {
-	/** the hand's gets go on where they left off, first at tag 0, instead of in its own part */
+	/** the hand's next get starts where its last one left off, or at tag 0, not in its own part */
 	TAGS_STAY = 1
 };
 
@@ -286,7 +291,7 @@ struct tags_sizes {
 	uint32_t depth;
 	/** @busy: tags found held, kept or posted */
 	uint32_t busy;
-	/** @cleared: tags found given back, and not yet swept for reuse */
+	/** @cleared: tags found given back but not yet swept for reuse */
 	uint32_t cleared;
 	/** @bits_per_word: tags per word; the last word can have fewer */
 	uint32_t bits_per_word;
@@ -309,7 +314,7 @@ struct tags_counts {
 /**
  * struct tags_sums - sums over all hands of a pool: got == back + held + posted
  *
- * A tag that a hand kept and took again is not counted: it did not go back to the pool.
+ * A kept tag that its hand gets again is not counted, as it never went back to the pool.
  */
 struct tags_sums {
 	/** @got: tags taken from the pool */
@@ -326,14 +331,14 @@ struct tags_sums {
 	uint64_t charged;
 	/** @issued: wakeups granted */
 	uint64_t issued;
-	/** @used: wakeups that tags_finish() used up */
+	/** @used: granted wakeups that waiters used up */
 	uint64_t used;
 };
 
 /*
- * The exports of the library. They must not be given NULL, so each of them is
- * called through a function below. Its check costs nothing if the compiler sees
- * that a pointer is not NULL.
+ * The exports of the library. They do not check for NULL; the functions below do,
+ * so call those. The check costs nothing if the compiler sees that a pointer is not
+ * NULL.
  */
 int32_t tags_library_open_cached(struct tags_pool *pool, const struct tags_options *options,
 				 uint32_t cache, uint32_t keeping);
@@ -371,9 +376,10 @@ int32_t tags_library_prepare(struct tags_hand *hand);
 int32_t tags_library_finish(struct tags_hand *hand);
 
 /*
- * The thread sanitizer does not see the library's own steps. So where it is on, the
- * calls tell it that what was done before a tag was given away is seen by whoever
- * gets it. The library's C files, which are built without it, look for it at run time.
+ * The thread sanitizer does not see the library's atomic steps. So in a program built
+ * with it, the calls tell it that whoever gets a tag sees what was done before the tag
+ * was given away. The library's C files are built without it, and look for its functions
+ * at run time.
  */
 #if defined __SANITIZE_THREAD__
 #define TAGS_SANITIZED 1
@@ -402,7 +408,7 @@ void __tsan_release(void *address);
 #define TAGS_SHOWS(at) ((void)0)
 #endif
 
-/* What a call does inside is not looked at, as where it moves a hand by a copy that the sanitizer sees. */
+/* What a call does inside is hidden from it, as some move a hand by a copy that it would see. */
 #ifdef TAGS_SANITIZED
 void AnnotateIgnoreReadsBegin(const char *file, int line);
 void AnnotateIgnoreReadsEnd(const char *file, int line);
@@ -463,7 +469,7 @@ static inline void tags_lost_run(uint32_t first, uint64_t mask)
 #endif
 }
 
-/* Whether the shift is one that struct tags_options has, or one too large, which the library refuses. */
+/* Whether the options allow the shift. One that is too large passes: the library refuses it. */
 static inline int tags_knows_shift(const struct tags_options *options)
 {
 	if (options->flags & TAGS_ONE_PER_WORD)
@@ -472,8 +478,8 @@ static inline int tags_knows_shift(const struct tags_options *options)
 }
 
 /*
- * The options as the library takes them: a shift of 0 is one tag a word, and the rule
- * has a negative one. When tags are kept is an argument of its own.
+ * The options as the library takes them: there a shift of 0 means one tag per word, and
+ * a negative one the default. TAGS_KEEP_WHILE_HOLDING is an argument of its own.
  */
 static inline struct tags_options tags_asked(const struct tags_options *options)
 {
@@ -494,8 +500,8 @@ static inline struct tags_options tags_asked(const struct tags_options *options)
  * @pool: an empty handle
  * @options: its options
  *
- * All tags are free and all slots are 0. All memory of the pool is allocated
- * here, except for some 500 bytes per hand, which tags_join() allocates.
+ * All tags are free and all slots are 0. The pool allocates all its memory here,
+ * except for some 500 bytes per hand, which tags_join() allocates.
  *
  * Return: TAGS_OK. Otherwise the first of TAGS_NOT_EMPTY, TAGS_BAD_FLAG,
  * TAGS_BAD_SHIFT, TAGS_CACHE_TOO_LARGE, TAGS_TOTAL_TOO_LARGE,
@@ -524,9 +530,9 @@ TAGS_CHECKED int32_t tags_open(struct tags_pool *pool, const struct tags_options
  * @flags: 0, or TAGS_STAY
  *
  * A hand that left and joins again still holds its tags. Without TAGS_STAY its
- * gets begin in its own part of the tags, which reduces contention.
+ * gets start in its own part of the tags, which reduces contention.
  *
- * Threads: this is a call on both handles, so threads must join one at a time.
+ * Threads: this call uses both handles, so threads must join one at a time.
  *
  * Return: TAGS_OK. Otherwise the first of TAGS_NOT_EMPTY, TAGS_BAD_HANDLE (of
  * @pool), TAGS_BAD_FLAG, TAGS_NO_HAND and TAGS_NO_MEMORY that applies.
@@ -552,9 +558,9 @@ TAGS_CHECKED int32_t tags_join(struct tags_pool *pool, struct tags_hand *hand, u
  * @hand: the hand
  *
  * The hand still holds its tags, and the next thread that joins as this hand can use
- * them. What it keeps in a cache goes back, but no thread is woken for that: call
- * tags_flush() first, and ring, if others may wait. The hand goes back to the pool
- * that it came from, whatever has become of the pool's own handle.
+ * them. What it keeps in a cache goes back, but no thread is woken for that: if others
+ * may wait, call tags_flush() first, and tags_ring() with its result. This call does
+ * not use the pool's handle, so several threads can leave at once.
  *
  * Return: TAGS_OK, or TAGS_BAD_HANDLE.
  *
@@ -570,24 +576,22 @@ TAGS_CALL int32_t tags_leave(struct tags_hand *hand)
 }
 
 /**
- * tags_resize() - go on with another number of ordinary tags
+ * tags_resize() - change the number of ordinary tags
  * @pool: the pool, all of whose hands have left
- * @total: tags in all from now on, at most TAGS_MAX_TOTAL
+ * @total: the new number of tags, including the reserved ones, at most TAGS_MAX_TOTAL
  *
- * The ordinary tags are new ones: they are free, and their slots are 0. The
- * reserved tags, with their slots, the words' size, the hands with what they
- * counted, and the options stay as they are, and so do the sums at the end,
- * which are those over the whole life of the pool. Threads go on by joining
- * again; a hand that has left keeps its place in the pool.
+ * The ordinary tags are new: all are free, and their slots are 0. The reserved tags
+ * keep their slots, the words their size, the hands their counts and the pool its
+ * options, so tags_close() returns the sums over the whole life of the pool.
+ * Afterwards the threads join again.
  *
- * Threads: it is a call on the pool's handle, so no thread joins meanwhile.
+ * Threads: this call uses the pool's handle, so no thread may join meanwhile.
  *
  * Return: TAGS_OK. Otherwise the first of TAGS_BAD_HANDLE, TAGS_TOTAL_TOO_LARGE,
  * TAGS_RESERVED_TOO_LARGE (@total is below the number of reserved tags),
  * TAGS_HANDS_OUT, TAGS_IN_USE (a tag of either kind is held by a hand that left,
  * or posted), TAGS_HANDS_WAIT (a hand left between tags_prepare() and
- * tags_finish()) and TAGS_NO_MEMORY that applies, after which the pool is as it
- * was.
+ * tags_finish()) and TAGS_NO_MEMORY that applies.
  *
  * Since: 0.1
  */
@@ -600,12 +604,11 @@ TAGS_CHECKED int32_t tags_resize(struct tags_pool *pool, uint32_t total)
 }
 
 /**
- * tags_close() - end a pool whose hands are all back, and empty its handle
+ * tags_close() - close a pool whose hands have all left, and empty its handle
  * @pool: the pool
  * @sums: filled in with the sums over all hands
  *
- * Return: TAGS_OK, TAGS_BAD_HANDLE, or TAGS_HANDS_OUT, after which the pool is
- * as it was.
+ * Return: TAGS_OK, TAGS_BAD_HANDLE, or TAGS_HANDS_OUT.
  *
  * Since: 0.1
  */
@@ -625,8 +628,8 @@ TAGS_CHECKED int32_t tags_close(struct tags_pool *pool, struct tags_sums *sums)
  * tags_get() - take a free ordinary tag
  * @hand: the hand that gets the tag
  *
- * A hand that keeps tags gets the one with the lowest number of them. The value of
- * the tag's slot is unspecified: write it before you read it.
+ * If the hand keeps tags, it gets the lowest of those. The value of the tag's slot is
+ * unspecified: write it before you read it.
  *
  * Return: the tag. TAGS_NO_TAG means that each tag was found taken at some
  * moment of the call, not that all were taken at one moment. Otherwise
@@ -658,16 +661,16 @@ TAGS_CHECKED int32_t tags_get_reserved(struct tags_hand *hand)
 }
 
 /**
- * tags_get_shallow() - take an ordinary tag within a limit
+ * tags_get_shallow() - take a free ordinary tag out of a part of them
  * @hand: the hand that gets the tag
  * @depth: how many of the ordinary tags calls with this depth may use, at least 1
  *
- * For requests of lower priority, which leave the other tags to tags_get(). The
- * depth is distributed over the words, and the share of a word can be 0. No kept tag
- * is taken.
+ * For low-priority requests, which leave the other tags to tags_get(). Each word has
+ * a share of the depth in proportion to its tags, which can be 0. No kept tag is
+ * taken.
  *
- * Return: the tag, or TAGS_NO_TAG as from tags_get(), but of the tags within the
- * limit. Otherwise TAGS_BAD_HANDLE, TAGS_TOO_SHALLOW or TAGS_SPENT.
+ * Return: the tag, or TAGS_NO_TAG as from tags_get(), for the tags of that part.
+ * Otherwise TAGS_BAD_HANDLE, TAGS_TOO_SHALLOW or TAGS_SPENT.
  *
  * Since: 0.1
  */
@@ -682,12 +685,12 @@ TAGS_CHECKED int32_t tags_get_shallow(struct tags_hand *hand, uint32_t depth)
  * tags_get_batch() - take up to @n ordinary tags out of a run of @n
  * @hand: the hand that gets the tags
  * @n: how many, from 1 to the number of tags per word
- * @won: filled in with the mask of the tags won, if there are any
+ * @won: filled in with the mask of the tags won, if any
  *
- * Bit i of the mask is 1 if the hand won the tag with the number returned plus i.
- * The batch can be smaller than @n, even while more tags are free, and another
- * thread may have taken the first tag of the run. With TAGS_ROUND_ROBIN there is
- * never a batch. No kept tag is taken.
+ * If the call returns the tag t, bit i of the mask is 1 if the hand won the tag t + i.
+ * The batch can be smaller than @n, even while more tags are free, and bit 0 can be 0:
+ * another thread may have taken the first tag of the run. No kept tag is taken. With
+ * TAGS_ROUND_ROBIN there is never a batch.
  *
  * Return: the first tag of the run, or TAGS_NO_TAG. Otherwise TAGS_BAD_HANDLE,
  * TAGS_BAD_COUNT or TAGS_SPENT.
@@ -718,9 +721,10 @@ TAGS_CHECKED int32_t tags_get_batch(struct tags_hand *hand, uint32_t n, uint64_t
  * @hand: the hand that holds it
  * @tag: the tag
  *
- * If threads or event loops wait for tags, tags_give() is the call to make. A hand
- * with a cache keeps an ordinary tag if it finds no hand in a wait group and there is
- * room; and if it finds one, all kept tags go back with this tag.
+ * If threads or event loops wait for tags, call tags_give() instead. A hand with a
+ * cache keeps an ordinary tag if it finds no hand in a wait group, and first gives its
+ * kept tags back if there is no room for this one. If it finds a hand in a wait group,
+ * all kept tags go back with this tag.
  *
  * Return: how many waiters were granted a wakeup, which is 0 unless some hand
  * is in a wait group. Otherwise TAGS_BAD_HANDLE, TAGS_NO_SUCH_TAG or
@@ -760,12 +764,12 @@ TAGS_CALL int32_t tags_clear_batch(struct tags_hand *hand, const uint32_t *tags,
 }
 
 /**
- * tags_clear_granted() - give a held tag back, and report whom that woke
+ * tags_clear_granted() - give a held tag back, and report the wakeups granted
  * @hand: the hand that holds it
  * @tag: the tag
  * @grants: filled in with how many waiters were granted a wakeup, in each group
  *
- * For callers that sleep by other means, between tags_prepare() and tags_finish().
+ * For programs that sleep by means of their own between tags_prepare() and tags_finish().
  *
  * Return: as tags_clear().
  *
@@ -781,7 +785,7 @@ TAGS_CALL int32_t tags_clear_granted(struct tags_hand *hand, uint32_t tag,
 }
 
 /**
- * tags_clear_batch_granted() - give several ordinary tags back, and report whom that woke
+ * tags_clear_batch_granted() - give several ordinary tags back, and report the wakeups granted
  * @hand: the hand that holds them
  * @tags: the tags, each of them once
  * @count: how many, 1 to TAGS_MAX_BATCH
@@ -806,9 +810,9 @@ TAGS_CALL int32_t tags_clear_batch_granted(struct tags_hand *hand, const uint32_
  * @first: the tag of bit 0, as tags_get_batch() returned it
  * @mask: bit i is 1 if the tag @first + i is given back
  *
- * It does what tags_clear_batch() does with these tags in ascending order, but tests
- * and gives back all tags of a word in one step each. Any tags may be in the mask,
- * from one batch or not. Tag @first itself need not be: it may be reserved.
+ * Like tags_clear_batch() with these tags in ascending order, but one test and one
+ * step handle all tags of a word. The mask may name any tags, from one batch or not.
+ * Tag @first need not be among them, and may be reserved then.
  *
  * Return: as tags_clear(). Otherwise the first of TAGS_BAD_HANDLE, TAGS_BAD_COUNT
  * for an empty mask, TAGS_NO_SUCH_TAG and TAGS_NOT_HELD that applies to any tag of
@@ -825,7 +829,7 @@ TAGS_CALL int32_t tags_clear_run(struct tags_hand *hand, uint32_t first, uint64_
 }
 
 /**
- * tags_clear_run_granted() - give the ordinary tags of a mask back, and report whom that woke
+ * tags_clear_run_granted() - give the ordinary tags of a mask back, and report the wakeups granted
  * @hand: the hand that holds them
  * @first: the tag of bit 0
  * @mask: bit i is 1 if the tag @first + i is given back
@@ -848,7 +852,7 @@ TAGS_CALL int32_t tags_clear_run_granted(struct tags_hand *hand, uint32_t first,
  * tags_flush() - give all kept tags back
  * @hand: a hand of a pool with or without a cache
  *
- * Call it before a thread that keeps tags is idle or sleeps, and wake whoever waits:
+ * Call it before a thread that keeps tags goes idle or sleeps, and wake whoever waits:
  * tags_ring(&bell, tags_flush(&hand)). The tags that the hand holds stay held.
  *
  * Return: how many waiters were granted a wakeup, which is 0 if nothing was kept.
@@ -864,7 +868,7 @@ TAGS_CALL int32_t tags_flush(struct tags_hand *hand)
 }
 
 /**
- * tags_flush_granted() - give all kept tags back, and report whom that woke
+ * tags_flush_granted() - give all kept tags back, and report the wakeups granted
  * @hand: a hand of a pool with or without a cache
  * @grants: filled in with how many waiters were granted a wakeup, in each group
  *
@@ -917,7 +921,6 @@ TAGS_CALL int32_t tags_read_clear(struct tags_hand *hand, uint32_t tag, uint64_t
 	return tags_library_read_clear(hand, tag, value);
 }
 
-
 /**
  * tags_read() - read the slot of a held tag
  * @hand: the hand that holds it
@@ -961,10 +964,10 @@ TAGS_CALL int32_t tags_write(struct tags_hand *hand, uint32_t tag, uint64_t valu
  * @hand: the hand that holds it
  * @tag: the tag
  *
- * The tag is posted until some hand of the pool takes it. That hand sees
- * whatever the poster wrote before, to the slot or to memory that it points to.
- * With TAGS_KEEP_WHILE_HOLDING the post of the last tag that the hand got gives all
- * kept tags back, but wakes no thread: call tags_flush() first, and ring.
+ * The tag is posted until some hand of the pool takes it. That hand sees whatever
+ * this one wrote before the post, to the slot or to memory that it points to. With
+ * TAGS_KEEP_WHILE_HOLDING, posting the last tag that the hand got gives all kept tags
+ * back, but wakes no thread: call tags_flush() first, and tags_ring() with its result.
  *
  * Return: TAGS_OK. Otherwise TAGS_BAD_HANDLE, TAGS_NO_SUCH_TAG or TAGS_NOT_HELD.
  *
@@ -1017,8 +1020,8 @@ TAGS_CHECKED int32_t tags_holds(struct tags_hand *hand, uint32_t tag)
 }
 
 /*
- * Reports. Each call loads one word after another, so while other threads work,
- * its answer is not that of a single moment.
+ * Reports. Each call loads one word after another, so while other threads work, its
+ * result need not be true of any one moment.
  */
 
 /**
@@ -1072,12 +1075,12 @@ TAGS_CALL int32_t tags_wakes(struct tags_hand *hand, struct tags_counts *counts)
 }
 
 /*
- * Waiting for an ordinary tag. A pool has one bell, for all that wait for its
- * tags, and each thread that gives ordinary tags back rings it: by tags_give()
- * or tags_give_batch(), or else by tags_ring() after the clear. Then no thread
- * sleeps, and no hand stays untold, beside a tag that became free since it began
- * to wait. That is tested, not proved. A thread must not sleep while it holds the
- * tags that the others wait for; nor may one be idle that keeps them, see Caches.
+ * Waiting for an ordinary tag. Use one bell per pool, and ring it whenever ordinary
+ * tags are given back: by tags_give(), tags_give_batch() or tags_give_run(), or by
+ * tags_ring() after a clear. Then no thread goes on sleeping, and no event loop goes
+ * without a notification, while a tag is free that became free after it began to
+ * wait. That is tested, not proved. A thread must not sleep while it holds the tags
+ * that others wait for, nor be idle while it keeps them (see Caches above).
  */
 
 /**
@@ -1100,12 +1103,11 @@ int32_t tags_get_blocking(struct tags_hand *hand, struct tags_bell *bell);
  * @clock: CLOCK_MONOTONIC or CLOCK_REALTIME
  * @deadline: when to give up, by that clock
  *
- * After the deadline it is a single try. A hand whose time was up is in no wait
- * group, and a wakeup that it was granted goes to another thread.
+ * If the deadline has passed already, the call tries once. A hand that timed out is in
+ * no wait group, and a wakeup that it was granted goes to another thread.
  *
- * Return: the tag. Otherwise TAGS_BAD_TIME first, which is for another clock or
- * for nanoseconds outside 0 to 999,999,999; TAGS_TIMED_OUT; or as from
- * tags_get_blocking().
+ * Return: the tag. Otherwise TAGS_BAD_TIME, which is checked first: another clock, or
+ * nanoseconds outside 0 to 999,999,999; TAGS_TIMED_OUT; or as tags_get_blocking().
  *
  * Since: 0.2
  */
@@ -1118,7 +1120,7 @@ TAGS_ANSWER int32_t tags_get_timed(struct tags_hand *hand, struct tags_bell *bel
  * @bell: the pool's bell
  * @tag: the tag
  *
- * A thread that sleeps is woken whether or not this clear completes a batch.
+ * It wakes a sleeping thread whether or not this clear completes a batch of completions.
  *
  * Return: as tags_clear().
  *
@@ -1155,9 +1157,9 @@ int32_t tags_give_run(struct tags_hand *hand, struct tags_bell *bell, uint32_t f
 		      uint64_t mask);
 
 /**
- * tags_ring() - wake threads that sleep, as many as there are tags
+ * tags_ring() - wake sleeping threads, at most as many as the pool has ordinary tags
  * @bell: the pool's bell
- * @woken: what tags_clear() or tags_clear_batch() returned
+ * @woken: what tags_clear(), tags_flush() or another call that gives tags back returned
  *
  * Wrap it around the clear: tags_ring(&bell, tags_clear(&hand, tag)). After a
  * clear that was refused it does nothing. Where many threads wait for few tags,
@@ -1170,12 +1172,12 @@ int32_t tags_give_run(struct tags_hand *hand, struct tags_bell *bell, uint32_t f
 int32_t tags_ring(struct tags_bell *bell, int32_t woken);
 
 /**
- * tags_ring_granted() - wake threads that sleep, first in the groups that were granted
+ * tags_ring_granted() - wake sleeping threads, first in the groups with granted wakeups
  * @bell: the pool's bell
  * @grants: what tags_clear_granted() filled in
  *
- * It wakes as many as were granted, and at least one if any sleeps. After the clear
- * of a batch more tags may have become free: tags_give_batch() is the call for that.
+ * It wakes as many as were granted, and at least one if any sleeps. Clearing a batch
+ * may free more tags than that: call tags_give_batch() for a batch.
  *
  * Return: how many were granted, or TAGS_NULL.
  *
@@ -1188,32 +1190,31 @@ int32_t tags_ring_granted(struct tags_bell *bell, const struct tags_grants *gran
  */
 
 /**
- * tags_set_event() - name the eventfd that is told while hands wait for an event
+ * tags_set_event() - set the eventfd that is notified while hands wait by tags_get_async()
  * @bell: the pool's bell
- * @descriptor: the number of the eventfd, which stays the program's; or -1 for none
+ * @descriptor: the eventfd, which still belongs to the program; or -1 for none
  *
- * Name it before the first tags_get_async(), and close it after the last one.
- * Make it non-blocking, so that no thread that gives a tag back can block.
+ * Set it before the first tags_get_async(), and close it after the last. Make it
+ * non-blocking, so that no thread that gives a tag back can block on it.
  *
- * Return: TAGS_OK, or TAGS_BAD_EVENT for a number below -1.
+ * Return: TAGS_OK, or TAGS_BAD_EVENT for a descriptor below -1.
  *
  * Since: 0.2
  */
 int32_t tags_set_event(struct tags_bell *bell, int descriptor);
 
 /**
- * tags_get_async() - take a free ordinary tag, or be told by the eventfd when to try again
+ * tags_get_async() - take a free ordinary tag, or be notified by the eventfd when to try again
  * @hand: the hand that gets the tag
  * @bell: the pool's bell
  *
- * TAGS_NO_TAG means that the hand now waits: each tag that is given back from now
- * on adds 1 to the eventfd. Then read the eventfd, and make this call again, for
- * each hand that waits at the bell, until it returns something else; or end the
- * wait by tags_cancel().
+ * TAGS_NO_TAG means that the hand now waits: each tag given back from now on adds 1
+ * to the eventfd. When the eventfd is readable, read it, and repeat this call for each
+ * hand that waits, until it returns something else; or end the wait by tags_cancel().
  *
  * Return: the tag, or TAGS_NO_TAG. Otherwise the hand does not wait: TAGS_BAD_EVENT,
  * TAGS_BAD_HANDLE, TAGS_SPENT, TAGS_NO_SUCH_TAG if the pool has no ordinary tag,
- * or TAGS_WAITING if it is in a wait group through tags_prepare().
+ * or TAGS_WAITING if tags_prepare() put it in a wait group.
  *
  * Since: 0.2
  */
@@ -1238,10 +1239,10 @@ int32_t tags_cancel(struct tags_hand *hand, struct tags_bell *bell);
  * tags_prepare() - enter a wait group, for callers that sleep by other means
  * @hand: the hand that waits
  *
- * From now on each clear of an ordinary tag is counted. Try tags_get() once
- * more before you sleep: the clear of a tag just before may not have been
- * counted. What the hand keeps in a cache goes back first, but no thread is woken
- * for that: call tags_flush() before, and ring, if others may wait.
+ * From now on each clear of an ordinary tag is counted as a completion. Try
+ * tags_get() once more before you sleep: a clear just before may not have been
+ * counted. What the hand keeps in a cache goes back first, but no thread is woken for
+ * that: if others may wait, call tags_flush() first, and tags_ring() with its result.
  *
  * Return: the group, below 8. Otherwise TAGS_BAD_HANDLE or TAGS_WAITING.
  *
@@ -1258,9 +1259,9 @@ TAGS_CHECKED int32_t tags_prepare(struct tags_hand *hand)
  * tags_finish() - leave the wait group
  * @hand: the hand that waits
  *
- * Return: 1 if the group had been granted a wakeup, which this call uses up, and
- * 0 if not. TAGS_AGAIN if other threads changed the group meanwhile: call it
- * again. Otherwise TAGS_BAD_HANDLE or TAGS_NOT_WAITING.
+ * Return: 1 if the group had a granted wakeup, which this call uses up, and 0 if not.
+ * TAGS_AGAIN if other threads changed the group meanwhile: repeat the call. Otherwise
+ * TAGS_BAD_HANDLE or TAGS_NOT_WAITING.
  *
  * Since: 0.1
  */
@@ -1279,8 +1280,8 @@ TAGS_CALL int32_t tags_finish(struct tags_hand *hand)
  * tags_strerror() - describe a status
  * @status: what a call returned
  *
- * Return: a static string. It is that of TAGS_OK for all numbers from 0, and
- * says so for a negative number that is no status.
+ * Return: a static string: "done" for 0 and every positive number, and "there is no
+ * such status" for a negative number that is none.
  *
  * Since: 0.1
  */

@@ -41,7 +41,7 @@ impl Tags for Kernel {
     fn open(depth: u32, _threads: u32, stride: u32) -> Kernel {
         // SAFETY: a map may be opened at any time.
         let queue = unsafe { sbitmap_tags_open(depth) };
-        assert!(!queue.is_null(), "there is no memory for the kernel's map");
+        assert!(!queue.is_null(), "no memory for the kernel's map");
         Kernel { queue, stride }
     }
 

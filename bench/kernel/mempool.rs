@@ -89,7 +89,7 @@ impl Tags for Mempool {
     fn enter(&self, _index: u32) -> Cache {
         // SAFETY: DPDK has started.
         let cache = unsafe { mempool_tags_enter(MOST) };
-        assert!(!cache.is_null(), "there is no memory for a cache");
+        assert!(!cache.is_null(), "no memory for a cache");
         Cache {
             pool: self.0,
             cache,

@@ -27,8 +27,8 @@ def roff(text, own=""):
     """A text in roff, where names of calls and of statuses are bold, and parameters are in italics."""
     text = re.sub(r"\s+", " ", text).strip().replace("\\", "\\e").replace("-", "\\-")
     text = re.sub(r"@(\w+)", r"\\fI\1\\fR", text)
-    text = re.sub(r"\b(tags_\w+)\(", lambda it: f"\\fB{it[1]}\\fR{'(' if it[1] == own else '(3, '}", text)
-    text = text.replace("(3, )", "(3)")
+    text = re.sub(r"\b(tags_\w+)\(\)", lambda it: f"\\fB{it[1]}\\fR{'()' if it[1] == own else '(3)'}", text)
+    text = re.sub(r"\b(tags_\w+)\((?=[^3)])", r"\\fB\1\\fR(", text)
     text = re.sub(r"\b(TAGS_[A-Z0-9_]+)\b", r"\\fB\1\\fR", text)
     return re.sub(r"^([.'])", r"\\&\1", text)
 

@@ -1,4 +1,4 @@
-//! Errors: the reasons why calls are refused.
+//! Errors: why calls are refused.
 use crate::pool::Pool;
 use crate::raw::tags_strerror;
 use std::ffi::CStr;
@@ -7,29 +7,29 @@ use std::fmt;
 /// The result of a call that can be refused.
 pub type Result<T> = std::result::Result<T, Error>;
 
-/// The reason why a call was refused. A refused call changes nothing.
+/// Why a call was refused. A refused call changes nothing.
 #[derive(Clone, Copy, Debug, PartialEq, Eq, Hash)]
 #[non_exhaustive]
 pub enum Error {
-    /// The pool has no such tag, or it has no ordinary tags at all and the call would wait for one.
+    /// The tag is out of range, or the pool has no ordinary tag to wait for.
     NoSuchTag,
     /// The pool was opened without reserved tags.
     NoReserved,
-    /// This hand does not hold the tag, or a guard of it is there.
+    /// This hand does not hold the tag, or the tag has a guard already.
     NotHeld,
-    /// The tag is not posted, or another hand has taken it first.
+    /// The tag is not posted, or another hand took it first.
     NotPosted,
     /// A batch of 0 tags, or of more than a word has.
     BadCount,
-    /// A depth of 0, or below the pool's [`min_shallow`](crate::Options::min_shallow).
+    /// A depth of 0, or one below the pool's [`min_shallow`](crate::Options::min_shallow).
     TooShallow,
-    /// The call could take the hand past its limit of 2^48 tags.
+    /// The call could take the hand past its limit, 2^48 tags in its life.
     Spent,
     /// The hand is already in a wait group.
     Waiting,
-    /// All hands of the pool are out.
+    /// All hands of the pool are out: joined, and not dropped.
     NoHand,
-    /// Not all hands of the pool are back.
+    /// Some hands of the pool are out: joined, and not dropped.
     HandsOut,
     /// A slice with fewer bits than the pool has tags.
     TooSmall,
@@ -102,7 +102,7 @@ impl fmt::Display for Error {
 
 impl std::error::Error for Error {}
 
-/// Returns what a call returned if it is not negative, and otherwise the error with this status.
+/// Returns a call's result if it is not negative, and otherwise the error with that status.
 #[inline]
 pub(crate) fn number(answer: i32) -> Result<u32> {
     u32::try_from(answer).map_err(|_| Error::of(answer))

@@ -1,4 +1,4 @@
-//! Waits that need no thread.
+//! Waits that block no thread.
 use crate::error::Result;
 use crate::hand::Hand;
 use crate::listeners::Listeners;
@@ -31,14 +31,14 @@ impl<T> Lends for &Hand<T> {
     }
 }
 
-/// A future's wait for a tag. What a give told it is either used by a try that follows, or told to the next future.
+/// A future's wait for a tag. A wakeup from a give either leads to a try or passes to the next future.
 struct Waiting<L: Lends> {
     lender: L,
-    /// Whether the hand counts this one among its waits.
+    /// Whether the hand counts this future among its waits.
     is_counted: bool,
-    /// Whether it is in the list, unless a give has told it since.
+    /// Whether it was put in the list; a give may have removed it since.
     is_listed: bool,
-    /// Its place in the list. It is kept until the future ends, so that one whose try found no tag goes on in front.
+    /// Its place in the list, which it keeps until it ends, so that a try that found no tag does not cost it its turn.
     place: Option<u64>,
 }
 
@@ -65,7 +65,7 @@ impl<L: Lends> Waiting<L> {
         Poll::Ready(found)
     }
 
-    /// Returns whether a give has told this one. Otherwise it stays listed, with this waker.
+    /// Returns whether a give has woken this future. Otherwise it stays listed, with this waker.
     fn hear(&mut self, waker: &Waker) -> bool {
         let (true, Some(place)) = (self.is_listed, self.place) else {
             return false;
@@ -74,7 +74,7 @@ impl<L: Lends> Waiting<L> {
         !self.is_listed
     }
 
-    /// Tries, and if that fails, tries once more when it is listed.
+    /// Tries, and if that fails, tries once more after it is listed.
     fn try_or_wait(&mut self, waker: &Waker) -> Result<Option<u32>> {
         let found = self.lender.lend(Hand::find)?;
         if found.is_some() || self.is_listed {
@@ -90,7 +90,7 @@ impl<L: Lends> Waiting<L> {
         self.lender.lend(Hand::find)
     }
 
-    /// Ends the wait. Returns whether a give has told this one, and no try has followed.
+    /// Ends the wait. Returns whether a give has woken this future and no try has followed.
     fn end(&mut self) -> bool {
         let place = self.place.filter(|_| self.is_listed);
         let was_told = place.is_some_and(|it| !self.lender.listeners().leave(it));
@@ -110,8 +110,8 @@ impl<L: Lends> Drop for Waiting<L> {
     }
 }
 
-/// A get that waits without a thread, made by [`Hand::get_async`]. Dropping it ends the wait. One that is leaked stays in
-/// the list, where it takes one wakeup from the others.
+/// The future of [`Hand::get_async`]. Dropping it ends the wait. One that is leaked stays in the list, where it takes one
+/// wakeup from the others.
 #[must_use = "a future does nothing unless it is polled"]
 pub struct GetAsync<'a, T = ()> {
     waiting: Waiting<&'a Hand<T>>,
@@ -141,7 +141,7 @@ impl<T> fmt::Debug for GetAsync<'_, T> {
     }
 }
 
-/// Like [`GetAsync`], made by [`SharedHand::get_async`]: it keeps its hand, and so does its tag.
+/// The future of [`SharedHand::get_async`]. It keeps its hand alive, and so does its tag.
 #[must_use = "a future does nothing unless it is polled"]
 pub struct GetAsyncOwned<T = ()> {
     waiting: Waiting<SharedHand<T>>,

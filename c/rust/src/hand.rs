@@ -1,4 +1,4 @@
-//! The hand with which a thread takes tags.
+//! The hand through which a thread takes tags.
 use crate::error::{number, Result};
 use crate::listeners::Listeners;
 use crate::options::{Counts, Kind, Sizes};
@@ -10,13 +10,13 @@ use std::cell::{Cell, RefCell, UnsafeCell};
 use std::fmt;
 use std::sync::Arc;
 
-/// The status of a get that found no tag, and of a finish that has to be repeated.
+/// The status of a get that found no tag, and of a finish that must be repeated.
 const NO_TAG: i32 = -10;
 const AGAIN: i32 = -11;
 
-/// A hand, with which one thread takes tags. It is `Send`, but not `Sync`: no two threads use it at once. It leaves its
-/// pool when it is dropped. [`into_shared`](Hand::into_shared) makes one of it that several threads and tasks use, and
-/// whose tags own their claim.
+/// A hand, through which one thread takes tags. It is `Send` but not `Sync`: no two threads can use it at once. Dropping it
+/// returns it to its pool. [`into_shared`](Hand::into_shared) turns it into one that several threads and tasks share, and
+/// whose tags borrow nothing.
 ///
 /// ```compile_fail
 /// fn share<T: Sync>() {}
@@ -37,7 +37,7 @@ pub struct Hand<T = ()> {
     pub(crate) shared: Arc<Shared<T>>,
     /// A bit for each tag that the hand holds without a guard.
     pub(crate) loose: RefCell<Vec<u64>>,
-    /// Futures that wait. The hand is in a wait group while there are any.
+    /// How many futures wait. The hand is in a wait group while there are any.
     pub(crate) waiting: Cell<usize>,
 }
 
@@ -58,7 +58,7 @@ impl<T> Hand<T> {
         self.handle.get()
     }
 
-    /// Returns a bit for each tag that the hand holds: those that it left with before.
+    /// Returns a bit for each tag that the hand holds: those that it held when it left before.
     fn held(&self) -> Vec<u64> {
         // SAFETY: this is a hand of the pool.
         let total = unsafe { self.shared.cells() }.len();
@@ -128,15 +128,15 @@ impl<T> Hand<T> {
         Ok(self.find_reserved()?.map(|tag| Tag::new(self, tag)))
     }
 
-    /// Takes a free ordinary tag within a limit: `depth` is how many ordinary tags such calls may use. It is
-    /// distributed over the words, and the share of a word can be 0.
+    /// Takes a free ordinary tag out of a part of them: `depth` is how many ordinary tags calls with this depth may use.
+    /// Each word has a share of the depth in proportion to its tags, which can be 0.
     #[inline]
     pub fn get_shallow(&self, depth: u32) -> Result<Option<Tag<'_, T>>> {
         Ok(self.find_shallow(depth)?.map(|tag| Tag::new(self, tag)))
     }
 
-    /// Takes up to `n` ordinary tags out of a run of `n`, from 1 to the number of tags per word. With round robin it
-    /// returns `None`.
+    /// Takes up to `n` ordinary tags out of a run of `n`, where `n` is 1 to the number of tags per word. Under round robin
+    /// it always returns `None`.
     ///
     /// ```
     /// # use tags::{Options, Pool};
@@ -156,13 +156,13 @@ impl<T> Hand<T> {
     }
 
     /// Gives all kept tags back, and wakes whoever waits for one. A hand keeps tags if the pool was opened with a
-    /// [`cache`](crate::Options::cache). Call it before the thread is idle or sleeps; a hand that is dropped does the same.
+    /// [`cache`](crate::Options::cache). Call it before the thread goes idle or sleeps; dropping the hand does the same.
     pub fn flush(&self) {
         self.give_kept();
         self.listeners().tell(self.shared.besides);
     }
 
-    /// Makes of this hand one that several threads and tasks use. Its tags are [`OwnedTag`](crate::OwnedTag)s.
+    /// Turns this hand into one that several threads and tasks share. Its tags are [`OwnedTag`](crate::OwnedTag)s.
     pub fn into_shared(self) -> SharedHand<T> {
         SharedHand::new(self)
     }
@@ -196,7 +196,7 @@ impl<T> Hand<T> {
         &self.shared.listeners
     }
 
-    /// Leaves the wait group, if the hand is in one. Returns whether the group had been granted a wakeup.
+    /// Leaves the wait group, if the hand is in one. Returns whether the group had a granted wakeup.
     pub(crate) fn leave_group(&self) -> bool {
         loop {
             // SAFETY: as of `raw`.

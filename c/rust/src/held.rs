@@ -5,8 +5,9 @@ use crate::raw;
 use crate::tag::Tag;
 
 impl<T> Hand<T> {
-    /// Returns the guard of a tag that this hand holds without one, as when the number that
-    /// [`into_number`](Tag::into_number) returned comes back with a completion. Any other number is refused.
+    /// Returns a guard for a tag that this hand holds without one, as when the number that
+    /// [`into_number`](Tag::into_number) returned comes back with a completion. Any other number is refused:
+    /// [`NoSuchTag`](Error::NoSuchTag) or [`NotHeld`](Error::NotHeld).
     ///
     /// ```
     /// # use tags::{Error, Options, Pool};
@@ -65,12 +66,12 @@ impl<T> Hand<T> {
         Ok(Tag::new(self, number))
     }
 
-    /// Notes that the guard of a tag is gone while the hand holds it.
+    /// Notes that a tag has lost its guard while the hand still holds it.
     pub(crate) fn let_go(&self, number: u32) {
         self.loose.borrow_mut()[number as usize / 64] |= 1 << (number % 64);
     }
 
-    /// Notes that a tag that the hand holds has a guard, which it had not.
+    /// Notes that a tag that the hand holds has got a guard.
     pub(crate) fn tie(&self, number: u32) -> Result<()> {
         let bit = 1 << (number % 64);
         match self.loose.borrow_mut().get_mut(number as usize / 64) {
@@ -86,28 +87,28 @@ impl<T> Hand<T> {
         Ok(())
     }
 
-    /// Gives all kept tags back, and wakes the threads that sleep. The caller tells the listeners.
+    /// Gives all kept tags back, and wakes the threads that sleep. The caller wakes the futures.
     pub(crate) fn give_kept(&self) {
         let bell = self.shared.bell.as_ptr();
         // SAFETY: as of `raw`, and the bell is only accessed by atomic operations.
         Self::expect(unsafe { raw::tags_ring(bell, raw::tags_library_flush(self.raw())) });
     }
 
-    /// A future that began to wait after the clear looked for waiters does not find what is kept since.
+    /// A future that began to wait after the clear looked for waiters does not find what the hand has kept since.
     fn give_kept_to_listeners(&self) {
         if self.shared.besides > 0 && self.listeners().are_there() {
             self.give_kept();
         }
     }
 
-    /// Gives a held tag back, and wakes a thread that sleeps until one is free. The caller tells the listeners.
+    /// Gives a held tag back, and wakes a thread that sleeps until one is free. The caller wakes the futures.
     pub(crate) fn give(&self, number: u32) {
         // SAFETY: as of `raw`, and the bell is only accessed by atomic operations.
         Self::expect(unsafe { raw::tags_give(self.raw(), self.shared.bell.as_ptr(), number) });
         self.give_kept_to_listeners();
     }
 
-    /// Gives the held ordinary tags of a mask back together, and wakes as many threads. The caller tells the listeners.
+    /// Gives the held ordinary tags of a mask back together, and wakes as many threads. The caller wakes the futures.
     pub(crate) fn give_run(&self, first: u32, mask: u64) {
         let bell = self.shared.bell.as_ptr();
         // SAFETY: as of `raw`, and the bell is only accessed by atomic operations.
@@ -129,7 +130,7 @@ impl<T> Hand<T> {
         former
     }
 
-    /// Offers a held tag. If this is the last one beside which tags are kept, they go back; the caller tells the listeners.
+    /// Posts a held tag. If tags are kept only beside it, they go back, and the caller wakes the futures.
     pub(crate) fn post(&self, number: u32) {
         if self.shared.keeps_while_holding {
             self.give_kept();

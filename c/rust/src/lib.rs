@@ -1,8 +1,8 @@
 //! A pool of tags that threads share without a lock.
 //!
-//! A tag is a small number with a slot of 64 bits. Each thread takes tags from a [`Pool`] through a [`Hand`] of its
-//! own, and a [`Tag`] is given back when it is dropped. The library below is proved: under every schedule no tag and no
-//! slot ever has two holders. This crate is a thin layer over its C interface, and is tested.
+//! A tag is a small number with a slot of 64 bits for whoever holds it. Each thread takes tags from a [`Pool`] through a
+//! [`Hand`] of its own, and dropping a [`Tag`] gives it back. The library below is proved: under every schedule no tag and
+//! no slot ever has two holders. This crate is a thin layer over its C interface, and is tested.
 //!
 //! ```
 //! use tags::{Options, Pool};
@@ -21,9 +21,9 @@
 //! # }
 //! ```
 //!
-//! A thread that keeps its tags, or a task that awaits them, uses a [`SharedHand`], whose [`OwnedTag`]s own their claim.
-//! [`Pool::open_with`] puts a value of any type beside each tag, for whoever holds the tag. The examples are an I/O queue of
-//! threads, tasks under a small executor, and a copy of a file by threads.
+//! A [`Tag`] borrows its hand. To keep a tag in a struct, or to hold it across an await, take it from a [`SharedHand`],
+//! whose [`OwnedTag`]s borrow nothing. [`Pool::open_with`] puts a value of any type beside each tag, for whoever holds
+//! the tag. The examples are an I/O queue of threads, tasks on a small executor, and threads that copy a file.
 
 mod error;
 mod future;

@@ -4,10 +4,10 @@ use std::sync::atomic::{AtomicUsize, Ordering::SeqCst};
 use std::sync::{Mutex, MutexGuard, PoisonError};
 use std::task::Waker;
 
-/// The futures of a pool that wait, the longest first.
+/// The futures of a pool that wait, the one that has waited longest first.
 #[derive(Default)]
 pub(crate) struct Listeners {
-    /// How many there are. A give loads it after its clear, and a future raises it before its last try, so either that
+    /// How many there are. A give loads it after its clear, and a future raises it before its last try; so either that
     /// try finds the tag or the give finds the future.
     count: AtomicUsize,
     list: Mutex<List>,
@@ -15,7 +15,7 @@ pub(crate) struct Listeners {
 
 #[derive(Default)]
 struct List {
-    /// The place of the next future that comes to wait.
+    /// The place of the next future that begins to wait.
     next: u64,
     /// By place.
     wakers: VecDeque<(u64, Waker)>,
@@ -33,7 +33,7 @@ impl Listeners {
         self.list.lock().unwrap_or_else(PoisonError::into_inner)
     }
 
-    /// Lists a future that is not listed, in the place that it had before, or behind all others. Returns its place.
+    /// Lists a future in the place that it had before, or at the end. Returns its place.
     pub fn enter(&self, before: Option<u64>, waker: Waker) -> u64 {
         let mut list = self.list();
         let place = before.unwrap_or(list.next);
@@ -44,7 +44,7 @@ impl Listeners {
         place
     }
 
-    /// Replaces the waker of a future if it is still listed, and returns whether it is. Otherwise a give has told it.
+    /// Replaces the waker of a future if it is still listed, and returns whether it is. Otherwise a give has woken it.
     pub fn renew(&self, place: u64, mut waker: Waker) -> bool {
         let mut list = self.list();
         let Ok(at) = list.find(place) else {
@@ -54,7 +54,7 @@ impl Listeners {
         true
     }
 
-    /// Strikes a future off the list. Returns whether it was still listed. Otherwise a give has told it.
+    /// Removes a future from the list. Returns whether it was still listed. Otherwise a give has woken it.
     pub fn leave(&self, place: u64) -> bool {
         let mut list = self.list();
         let struck = list.find(place).ok().and_then(|at| list.wakers.remove(at));
@@ -68,7 +68,7 @@ impl Listeners {
         self.count.load(SeqCst) > 0
     }
 
-    /// Wakes a future for each of so many tags that became free.
+    /// Wakes one future for each of this many tags that became free.
     pub fn tell(&self, tags: usize) {
         for _ in 0..tags {
             if self.count.load(SeqCst) == 0 {

@@ -1,7 +1,7 @@
 //! The options of a pool, and what its calls report.
 use crate::raw::{RawOptions, ROUND_ROBIN};
 
-/// The options of a new pool. By default it has no tags and no hands, and the rules for the rest: name `total` and `hands`.
+/// The options of a new pool. Set at least `total` and `hands`: by default there are no tags and no hands.
 ///
 /// ```
 /// # use tags::{Error, Options, Pool};
@@ -11,26 +11,27 @@ use crate::raw::{RawOptions, ROUND_ROBIN};
 /// ```
 #[derive(Clone, Copy, Debug, Default, PartialEq, Eq)]
 pub struct Options {
-    /// Number of tags, at most 10,240.
+    /// Number of tags, including the reserved ones, at most 10,240.
     pub total: u32,
-    /// How many of them are reserved, from tag 0.
+    /// How many of them are reserved: tags 0 to `reserved - 1`.
     pub reserved: u32,
-    /// Binary logarithm of the tags per word, at most 6. `None` chooses the largest that gives a set of 4 tags or more
-    /// 4 whole words.
+    /// Binary logarithm of the tags per word, at most 6. `None` chooses the largest with which the set still has 4 whole
+    /// words, and 6 for fewer than 4 tags.
     pub shift: Option<u32>,
-    /// The least depth that may be passed to [`get_shallow`](crate::Hand::get_shallow). `None` allows any from 1.
-    /// Completions are charged in batches of an eighth of the ordinary tags, or of this depth if it is lower; at
-    /// least 1, at most 8.
+    /// The least depth that [`get_shallow`](crate::Hand::get_shallow) accepts. `None` accepts any from 1.
+    /// Completions are charged in batches of an eighth of the ordinary tags, or an eighth of this depth if it is lower;
+    /// at least 1, at most 8.
     pub min_shallow: Option<u32>,
     /// Number of hands, 1 to 64.
     pub hands: u32,
-    /// Whether a get begins after the tag last won, and at the first tag after the last but one. So a tag is reused late,
-    /// though not as late as possible: a tag that was given back is free again once its word has no free tag left.
+    /// Whether a get starts after the tag that the hand won last (and at the first tag after the last but one). So a tag is
+    /// reused late, though not as late as possible: a tag that was given back is free again once its word has no free
+    /// tag left.
     pub round_robin: bool,
-    /// How many tags each hand may keep of those that it gives back, at most 64, for its next gets, which then take no
-    /// locked step. 0 is none. Nobody else finds a kept tag until the hand gives it back: when it clears a tag and finds
-    /// that somebody waits, by a [`flush`](crate::Hand::flush), or when it is dropped. So flush before the thread is idle
-    /// or sleeps.
+    /// How many of the tags that it gives back each hand may keep for its next gets, at most 64; 0 for none. A get of a
+    /// kept tag makes no atomic read-modify-write. No other hand finds a kept tag until this one gives it back: when it
+    /// gives back a tag while somebody waits, by a [`flush`](crate::Hand::flush), or when it is dropped. So flush before
+    /// the thread goes idle or sleeps.
     ///
     /// ```
     /// # use tags::{Error, Options, Pool};
@@ -47,13 +48,13 @@ pub struct Options {
     /// # }
     /// ```
     pub cache: u32,
-    /// Whether a hand keeps tags only while it holds another one that it got. Then a hand that keeps tags always has a tag
-    /// to give back, and nobody waits for ever for what it keeps.
+    /// Whether a hand keeps tags only while it holds another one that it got. A hand that keeps tags then always has one
+    /// to give back, so nobody waits for ever for a kept tag.
     pub keep_while_holding: bool,
 }
 
 impl Options {
-    /// Options for `total` ordinary tags and `hands` hands, with defaults for the rest.
+    /// Options for `total` ordinary tags and `hands` hands, with the defaults for the rest.
     #[must_use]
     pub fn new(total: u32, hands: u32) -> Options {
         Options {
@@ -99,7 +100,7 @@ pub struct Sizes {
     pub depth: u32,
     /// Tags found held, kept or posted.
     pub busy: u32,
-    /// Tags found given back, and not yet swept for reuse.
+    /// Tags found given back but not yet swept for reuse.
     pub cleared: u32,
     /// Tags per word. The last word can have fewer.
     pub bits_per_word: u32,
@@ -121,7 +122,7 @@ pub struct Counts {
     pub index: u32,
 }
 
-/// Sums over all hands of a pool: `got == back + held + posted`. A tag that a hand kept and took again is not counted.
+/// Sums over all hands of a pool: `got == back + held + posted`. A kept tag that its hand gets again is not counted.
 #[repr(C)]
 #[derive(Clone, Copy, Debug, Default, PartialEq, Eq)]
 pub struct Totals {

@@ -1,10 +1,10 @@
-//! Tags that own their claim.
+//! Tags that keep their hand alive.
 use crate::future::Lends;
 use crate::shared::SharedHand;
 use std::fmt;
 use std::marker::PhantomData;
 
-/// A tag that keeps its hand, a [`SharedHand`]. It is given back when it is dropped, on whichever thread that is.
+/// A tag of a [`SharedHand`], which it keeps alive. Dropping it gives the tag back, on whichever thread that happens.
 ///
 /// ```
 /// fn send<T: Send + Sync + 'static>() {}
@@ -19,9 +19,9 @@ use std::marker::PhantomData;
 pub struct OwnedTag<T = ()> {
     hand: SharedHand<T>,
     number: u32,
-    /// Whether the tag was given away, so that a drop leaves it alone.
+    /// Whether the tag was posted or let go, so that a drop does not give it back.
     is_gone: bool,
-    /// The tag is `Sync` only if the value is, to which a reference leads.
+    /// `value` lends the value, so the tag is `Sync` only if the value is.
     value: PhantomData<T>,
 }
 
@@ -47,13 +47,13 @@ impl<T> OwnedTag<T> {
         &self.hand
     }
 
-    /// Returns the value of its slot. It is unspecified for a tag that was just won.
+    /// Returns the value of the tag's slot, which is unspecified until it is written.
     #[must_use]
     pub fn read(&self) -> u64 {
         self.hand.lend(|hand| hand.read(self.number))
     }
 
-    /// Writes its slot, and returns the former value.
+    /// Writes the tag's slot, and returns the former value.
     pub fn write(&self, value: u64) -> u64 {
         self.hand.lend(|hand| hand.write(self.number, value))
     }
@@ -71,15 +71,15 @@ impl<T> OwnedTag<T> {
         unsafe { &*self.cell() }
     }
 
-    /// Returns the value beside the tag, to change it.
+    /// Returns the value beside the tag, to be changed.
     #[must_use]
     pub fn value_mut(&mut self) -> &mut T {
         // SAFETY: as in `value`, and nothing else borrows the guard.
         unsafe { &mut *self.cell() }
     }
 
-    /// Lets the tag go without giving it back, as [`Tag::into_number`](crate::Tag::into_number) does. The hand leaves its
-    /// pool once nothing keeps it any more, so keep a [`SharedHand`] to [claim](SharedHand::claim) the tag again.
+    /// Lets go of the guard without giving the tag back, as [`Tag::into_number`](crate::Tag::into_number) does. Keep a clone
+    /// of the [`SharedHand`] to [claim](SharedHand::claim) the tag again: the hand leaves its pool with its last clone.
     #[must_use = "the hand keeps the tag until it claims this number"]
     pub fn into_number(mut self) -> u32 {
         self.is_gone = true;
@@ -87,8 +87,8 @@ impl<T> OwnedTag<T> {
         self.number
     }
 
-    /// Offers the tag, with its slot and its value, to all hands of the pool: the first that [takes](crate::Hand::take) this number
-    /// gets it.
+    /// Offers the tag, with its slot and its value, to all hands of the pool, and returns its number: the first hand that
+    /// [takes](crate::Hand::take) it gets it.
     #[must_use = "the tag stays posted until a hand takes this number"]
     pub fn post(mut self) -> u32 {
         self.is_gone = true;

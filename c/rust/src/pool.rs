@@ -1,4 +1,4 @@
-//! What opens tags, resizes them, and hands their hands out.
+//! Pools: opening, joining, resizing and closing.
 use crate::error::{number, CloseError, Result};
 use crate::hand::Hand;
 use crate::listeners::Listeners;
@@ -12,10 +12,10 @@ use std::cell::UnsafeCell;
 use std::fmt;
 use std::sync::{Arc, Mutex, MutexGuard, PoisonError};
 
-/// Tags that threads share, each through a [`Hand`] of its own, with a value of type `T` beside each tag.
+/// Tags that threads share, each thread through a [`Hand`] of its own, with a value of type `T` beside each tag.
 ///
-/// A pool that is dropped lives on until its last hand is dropped. Only [`close`](Pool::close) returns the totals. The
-/// values are dropped with the pool and its hands, each of them once.
+/// A pool that is dropped lives on until its last hand is dropped. Only [`close`](Pool::close) returns the totals. Each
+/// value is dropped once, when the pool and all its hands are gone.
 ///
 /// ```compile_fail
 /// fn send<T: Send>() {}
@@ -32,7 +32,7 @@ pub(crate) struct Shared<T> {
     values: Values<T>,
     /// How many kept tags may go back with a tag: 0 if the hands keep none.
     pub besides: usize,
-    /// Whether hands keep tags only while they hold another one.
+    /// Whether hands keep tags only while they hold another.
     pub keeps_while_holding: bool,
     /// Who waits for a tag: threads at the bell, and futures.
     pub bell: Bell,
@@ -85,8 +85,8 @@ impl Pool {
         Pool::open_with(options, |_| ())
     }
 
-    /// Continues with `total` tags, as many of them reserved as before, once all hands are dropped. The ordinary tags are
-    /// new ones, whose slots are 0; the reserved tags and the totals continue. On failure the pool is as it was.
+    /// Changes the number of tags to `total`, as many of them reserved as before, once all hands are dropped. The ordinary
+    /// tags are new, with slots of 0; the reserved tags and the totals stay. On failure the pool is unchanged.
     ///
     /// ```
     /// # use tags::{Error, Kind, Options, Pool};
@@ -106,7 +106,7 @@ impl Pool {
 }
 
 impl<T> Pool<T> {
-    /// Opens a pool with a value beside each tag, which `make` makes for the tag's number. The value stays when its tag
+    /// Opens a pool with a value beside each tag, which `make` returns for the tag's number. The value stays when its tag
     /// goes back.
     ///
     /// ```
@@ -143,9 +143,9 @@ impl<T> Pool<T> {
         })
     }
 
-    /// Returns a hand for one thread. Its gets begin in its own part of the tags, which reduces contention.
+    /// Returns a hand for one thread. Its gets start in its own part of the tags, which reduces contention.
     ///
-    /// A hand that was dropped and is joined again still holds its tags, and can [claim](Hand::claim) them.
+    /// A hand that was dropped while it held tags still holds them when it joins again, and can [claim](Hand::claim) them.
     ///
     /// ```
     /// # use tags::{Error, Options, Pool};
@@ -162,7 +162,7 @@ impl<T> Pool<T> {
         self.join_by(0)
     }
 
-    /// Like [`join`](Pool::join), but the hand's gets go on where they left off, first at tag 0.
+    /// Like [`join`](Pool::join), but the hand's next get starts where its last one left off, or at tag 0.
     pub fn join_in_place(&self) -> Result<Hand<T>> {
         self.join_by(STAY)
     }
@@ -174,8 +174,8 @@ impl<T> Pool<T> {
         Ok(Hand::new(hand, Arc::clone(&self.shared)))
     }
 
-    /// Like [`resize`](Pool::resize), with values that `make` makes for the ordinary tags. The reserved tags keep theirs.
-    /// It makes the new ones first, and drops them again if it is refused.
+    /// Like [`resize`](Pool::resize), with new values from `make` for the ordinary tags. The reserved tags keep theirs.
+    /// It makes the new values first, and drops them if it is refused.
     ///
     /// ```
     /// # use tags::{Options, Pool};
@@ -204,7 +204,7 @@ impl<T> Pool<T> {
         Ok(())
     }
 
-    /// Closes a pool whose hands are all dropped, and returns its totals. On failure the error contains the pool.
+    /// Closes a pool whose hands are all dropped, and returns its totals. On failure the error hands the pool back.
     ///
     /// ```
     /// # use tags::{Error, Options, Pool};

@@ -22,7 +22,7 @@ impl Handle {
     };
 }
 
-/// The options as the library takes them: a `struct tags_options` without its cache, which is an argument.
+/// The options as the library takes them: a `struct tags_options` without `cache`, which is an argument.
 #[repr(C)]
 pub struct RawOptions {
     pub total: u32,
@@ -33,7 +33,7 @@ pub struct RawOptions {
     pub flags: u32,
 }
 
-/// A `struct tags_bell`. The library accesses it by atomic operations alone.
+/// A `struct tags_bell`. The library accesses it only by atomic operations.
 #[repr(C)]
 pub struct Bell {
     counts: UnsafeCell<[u32; 22]>,
@@ -112,7 +112,7 @@ unsafe extern "C" {
     pub fn tags_strerror(status: i32) -> *const c_char;
 }
 
-/// Returns the moment after this time by the monotonic clock, or `None` if the clock doesn't reach so far.
+/// Returns the moment this long from now by the monotonic clock, or `None` if that is beyond the clock's range.
 pub fn deadline(after: Duration) -> Option<Timespec> {
     let mut now = Timespec {
         seconds: 0,

@@ -1,4 +1,4 @@
-//! A hand that several threads and tasks use.
+//! A hand that several threads and tasks share.
 use crate::error::Result;
 use crate::future::{GetAsyncOwned, Lends};
 use crate::hand::Hand;
@@ -11,10 +11,10 @@ use std::fmt;
 use std::sync::{Arc, Mutex, PoisonError};
 use std::time::{Duration, Instant};
 
-/// A hand that several threads and tasks use, made by [`Hand::into_shared`]. A clone is the same hand. Its tags own their
-/// claim: an [`OwnedTag`] is `Send`, lives across an await, and keeps the hand.
+/// A hand that several threads and tasks share, made by [`Hand::into_shared`]. A clone is the same hand. Its tags borrow
+/// nothing: an [`OwnedTag`] is `Send`, can be held across an await, and keeps the hand alive.
 ///
-/// Each call takes a lock for a short time, and none sleeps with it. A thread that has a [`Hand`] of its own takes none.
+/// Each call takes a lock for a short time, and never sleeps with it. A thread with a [`Hand`] of its own takes no lock.
 ///
 /// ```
 /// # use tags::{Options, OwnedTag, Pool, SharedHand};
@@ -39,7 +39,7 @@ pub struct SharedHand<T = ()> {
 
 struct Inner<T> {
     hand: Mutex<Hand<T>>,
-    /// That of the hand.
+    /// What the hand shares with its pool, which needs no lock.
     shared: Arc<Shared<T>>,
 }
 
@@ -73,13 +73,13 @@ impl<T> SharedHand<T> {
         Ok(self.lend(Hand::find_reserved)?.map(|tag| self.own(tag)))
     }
 
-    /// Takes a free ordinary tag within a limit, as [`Hand::get_shallow`] does.
+    /// Takes a free ordinary tag out of a part of them, as [`Hand::get_shallow`] does.
     pub fn get_shallow(&self, depth: u32) -> Result<Option<OwnedTag<T>>> {
         let found = self.lend(|hand| hand.find_shallow(depth))?;
         Ok(found.map(|tag| self.own(tag)))
     }
 
-    /// Takes a free ordinary tag, and sleeps while there is none. Other threads use the hand meanwhile.
+    /// Takes a free ordinary tag, and sleeps while there is none. Other threads can use the hand meanwhile.
     pub fn get_blocking(&self) -> Result<OwnedTag<T>> {
         loop {
             if let Some(tag) = self.get_timeout(Duration::MAX)? {
@@ -88,8 +88,8 @@ impl<T> SharedHand<T> {
         }
     }
 
-    /// Takes a free ordinary tag, and sleeps up to this long while there is none. `None` means that the time is up; if
-    /// it is 0, this is a try.
+    /// Takes a free ordinary tag, and sleeps up to this long while there is none. `None` means that the time is up. With a
+    /// time of 0 it tries once.
     ///
     /// ```
     /// # use std::time::Duration;
@@ -106,8 +106,8 @@ impl<T> SharedHand<T> {
         wait_for(self.get_async(), Instant::now().checked_add(time)).transpose()
     }
 
-    /// Takes a free ordinary tag, and while there is none, waits without a thread, as [`Hand::get_async`] does. The future
-    /// is `Send`, borrows nothing, and any number of them may wait at once.
+    /// Takes a free ordinary tag, and while there is none, waits without blocking a thread, as [`Hand::get_async`] does. The
+    /// future is `Send` and borrows nothing, and any number of futures may wait at once.
     ///
     /// ```
     /// fn send<T: Send + 'static>(_: T) {}
@@ -124,7 +124,7 @@ impl<T> SharedHand<T> {
         GetAsyncOwned::new(self.clone())
     }
 
-    /// Returns the guard of a tag that this hand holds without one, as [`Hand::claim`] does.
+    /// Returns a guard for a tag that this hand holds without one, as [`Hand::claim`] does.
     ///
     /// ```
     /// # use tags::{Error, Options, Pool};

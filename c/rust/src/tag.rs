@@ -3,7 +3,7 @@ use crate::hand::Hand;
 use std::fmt;
 use std::mem::forget;
 
-/// A tag that a hand holds. It is given back when it is dropped.
+/// A tag that a hand holds. Dropping it gives the tag back.
 ///
 /// ```compile_fail
 /// # use tags::{Options, Pool};
@@ -32,13 +32,13 @@ impl<'a, T> Tag<'a, T> {
         self.number
     }
 
-    /// Returns the value of its slot. It is unspecified for a tag that was just won.
+    /// Returns the value of the tag's slot, which is unspecified until it is written.
     #[must_use]
     pub fn read(&self) -> u64 {
         self.hand.read(self.number)
     }
 
-    /// Writes its slot, and returns the former value.
+    /// Writes the tag's slot, and returns the former value.
     ///
     /// ```
     /// # use tags::{Options, Pool};
@@ -61,22 +61,22 @@ impl<'a, T> Tag<'a, T> {
         cells[self.number as usize].get()
     }
 
-    /// Returns the value beside the tag, which is as whoever held the tag before left it.
+    /// Returns the value beside the tag, as the tag's former holder left it.
     #[must_use]
     pub fn value(&self) -> &T {
         // SAFETY: the hand holds the tag, this is its only guard, and it is borrowed as long as the value.
         unsafe { &*self.cell() }
     }
 
-    /// Returns the value beside the tag, to change it.
+    /// Returns the value beside the tag, to be changed.
     #[must_use]
     pub fn value_mut(&mut self) -> &mut T {
         // SAFETY: as in `value`, and nothing else borrows the guard.
         unsafe { &mut *self.cell() }
     }
 
-    /// Lets the tag go without giving it back. The hand holds it until [`claim`](Hand::claim) makes a tag of the number
-    /// again.
+    /// Lets go of the guard without giving the tag back, and returns the tag's number. The hand still holds the tag, and
+    /// [`claim`](Hand::claim) returns a guard for the number again.
     #[must_use = "the hand keeps the tag until it claims this number"]
     pub fn into_number(self) -> u32 {
         let number = self.number;
@@ -85,8 +85,8 @@ impl<'a, T> Tag<'a, T> {
         number
     }
 
-    /// Offers the tag, with its slot and its value, to all hands of the pool: the first that [takes](Hand::take) this number
-    /// gets it.
+    /// Offers the tag, with its slot and its value, to all hands of the pool, and returns its number: the first hand that
+    /// [takes](Hand::take) it gets it.
     #[must_use = "the tag stays posted until a hand takes this number"]
     pub fn post(self) -> u32 {
         self.hand.post(self.number);
@@ -111,7 +111,7 @@ impl<T> fmt::Debug for Tag<'_, T> {
     }
 }
 
-/// Tags of one word that a hand holds. They are given back together when the batch is dropped.
+/// Tags of one word that a hand holds. Dropping the batch gives all of them back in one step.
 #[must_use = "the tags go back at once"]
 pub struct Batch<'a, T = ()> {
     hand: &'a Hand<T>,
@@ -133,7 +133,7 @@ impl<'a, T> Batch<'a, T> {
             .map(move |bit| first + bit)
     }
 
-    /// Returns the tags one by one. Each is given back on its own.
+    /// Splits the batch into tags, each of which is given back on its own.
     ///
     /// ```
     /// # use tags::{Options, Pool};

@@ -1,7 +1,7 @@
 //! The value beside each tag.
 use std::cell::UnsafeCell;
 
-/// A value for each tag of a pool. Whoever holds a tag has its value alone.
+/// A value for each tag of a pool. Only whoever holds a tag may use its value.
 pub(crate) struct Values<T> {
     cells: UnsafeCell<Vec<UnsafeCell<T>>>,
 }
@@ -20,7 +20,7 @@ impl<T> Values<T> {
     /// Returns the cells, one for each tag. Only whoever holds a tag may look into its cell.
     ///
     /// # Safety
-    /// Nobody replaces any of them meanwhile.
+    /// Nobody replaces any value meanwhile.
     pub unsafe fn cells(&self) -> &[UnsafeCell<T>] {
         // SAFETY: as the caller promises.
         unsafe { &*self.cells.get() }

@@ -12,17 +12,17 @@ use std::time::Duration;
 const TIMED_OUT: i32 = -31;
 
 impl<T> Hand<T> {
-    /// Takes a free ordinary tag, and sleeps while there is none. A thread must not sleep while it holds the tags that
-    /// the others wait for. That a sleeper is woken is tested, not proved. While a [`Wait`] or a future of this hand waits, a
-    /// get that would sleep is refused with [`Waiting`](Error::Waiting).
+    /// Takes a free ordinary tag, and sleeps while there is none. Don't sleep while this thread holds the tags that the
+    /// others wait for. That a sleeper is woken is tested, not proved. While a [`Wait`] or a future of this hand waits, a
+    /// get that would have to sleep is refused with [`Waiting`](Error::Waiting).
     pub fn get_blocking(&self) -> Result<Tag<'_, T>> {
         // SAFETY: as of `raw`, and the bell is only accessed by atomic operations.
         let answer = unsafe { raw::tags_get_blocking(self.raw(), self.shared.bell.as_ptr()) };
         Ok(Tag::new(self, number(answer)?))
     }
 
-    /// Takes a free ordinary tag, and sleeps up to this long while there is none. `None` means that the time is up; if
-    /// it is 0, this is a try.
+    /// Takes a free ordinary tag, and sleeps up to this long while there is none. `None` means that the time is up. With a
+    /// time of 0 it tries once.
     ///
     /// ```
     /// # use std::time::Duration;
@@ -47,9 +47,9 @@ impl<T> Hand<T> {
         }
     }
 
-    /// Takes a free ordinary tag, and while there is none, waits without a thread: the future is woken when a hand of this
-    /// crate gives a tag back. Dropping it ends the wait. It names no runtime, and any number of futures of one hand may
-    /// wait at once. While a [`Wait`] of this hand is there, one that would wait is refused with
+    /// Takes a free ordinary tag, and while there is none, waits without blocking a thread: the future is woken when a hand
+    /// of this crate gives a tag back. Dropping it ends the wait. It works with any runtime, and any number of futures of
+    /// one hand may wait at once. While this hand has a [`Wait`], a future that would have to wait is refused with
     /// [`Waiting`](Error::Waiting).
     ///
     /// ```
@@ -77,7 +77,7 @@ impl<T> Hand<T> {
         GetAsync::new(self)
     }
 
-    /// Enters a wait group, for callers that sleep by other means. Try a get once more before you sleep.
+    /// Enters a wait group, for callers that sleep by means of their own. Try a get once more before you sleep.
     ///
     /// ```
     /// # use tags::{Error, Options, Pool};
@@ -103,7 +103,7 @@ impl<T> Hand<T> {
         Ok(())
     }
 
-    /// Counts a future that begins to wait. A pool without ordinary tags is refused, since it would wait for ever.
+    /// Counts a future that begins to wait. It is refused if the pool has no ordinary tags: it would wait for ever.
     pub(crate) fn begin_wait(&self) -> Result<()> {
         if self.show(Kind::Ordinary).depth == 0 {
             return Err(Error::NoSuchTag);
@@ -123,14 +123,14 @@ impl<T> Hand<T> {
     }
 }
 
-/// A hand in a wait group, which it leaves when this is dropped.
+/// A hand's stay in a wait group. Dropping it leaves the group.
 #[must_use = "the hand leaves the group at once"]
 pub struct Wait<'a, T = ()> {
     hand: &'a Hand<T>,
 }
 
 impl<T> Wait<'_, T> {
-    /// Leaves the group. Returns whether the group had been granted a wakeup, which this call uses up.
+    /// Leaves the group. Returns whether the group had a granted wakeup, which this call uses up.
     pub fn finish(self) -> bool {
         let hand = self.hand;
         std::mem::forget(self);

@@ -1,4 +1,4 @@
-//! Tags that own their claim, and the hand that they share.
+//! Tags that keep their hand alive, and the hand that they share.
 use std::thread;
 use std::time::{Duration, Instant};
 use tags::{Error, Options, OwnedTag, Pool, SharedHand};
