@@ -1,6 +1,7 @@
 //! I/O logs, an in-memory store that carries out their lines under tags, and the verdict on what was carried out.
 #![tactic(auto)]
 
+mod device;
 mod device_queue;
 mod fault;
 mod gate;

@@ -1,12 +1,12 @@
 //! Plays a log: threads that share tags carry it out.
 ghost use Rattle.std.specs.Prelude.{◌≡◌, ◌≢◌, ◌+◌, ◌<◌, ◌↔◌, All, length, IfOk, IfErr, OnOk};
-ghost use Rattle.crossbeam_queue.specs.Passes.{IsPassOf};
 ghost use Rattle.tag_sets.specs.Hands.{IsHandOf, total_of};
 ghost use Rattle.loop_device.specs.History.{IsHistory};
 ghost use Rattle.loop_device.specs.Playing.{IsPlayed, IsClean, IsJudged, NamesLine};
 ghost use Rattle.loop_device.specs.Setups.{IsLegal};
 
-use crate::device_queue::{DeviceQueue, Tagged, Worker};
+use crate::device::Device;
+use crate::device_queue::{DeviceQueue, Tagged};
 use crate::fault::PlayFault;
 use crate::gate::Gate;
 use crate::io::{Done, Log};
@@ -15,13 +15,11 @@ use crate::report::Report;
 use crate::setup::Setup;
 use crate::store::Store;
 use crate::threads::carry_by_threads;
-use crate::workers::{Faults, PlayContext};
-use crossbeam_queue::Pass;
-use std::alloc::{AllocError, Global};
+use crate::workers::Faults;
+use std::alloc::Global;
 use std::marker::Brand;
 use std::sync::atomic::AtomicBool;
 use std::sync::{Mutex, Wait};
-use std::thread;
 use std::thread::Threads;
 use tag_model::Totals;
 use tag_sets::{Hand, Options, Tags};
@@ -76,19 +74,22 @@ fn play_under<B: Tagged + Send + Sync, G: Gate, R: Threads + Wait + Sync>(
     let Ok((queue, pass)) = DeviceQueue::<B>::ruled(alloc, setup.queue as usize) else {
         return Err(PlayFault::Memory);
     };
-    let store = Mutex::new(Store::open(alloc));
-    let stopped = AtomicBool::new(false);
-    let closed = AtomicBool::new(false);
-    let context = PlayContext {
-        log,
-        gate,
-        tags: &tags,
-        queue: &queue,
-        store: &store,
-        stopped: &stopped,
-        closed: &closed,
+    let device = Device {
+        tags,
+        queue,
+        store: Mutex::new(Store::open(alloc)),
+        stopped: AtomicBool::new(false),
+        closed: AtomicBool::new(false),
     };
-    let carried = carry_in_scope(rt, alloc, &context, hands, pass, setup.completers as usize);
+    let completers = setup.completers as usize;
+    let carried = carry_by_threads(rt, alloc, log, gate, &device, hands, pass, completers);
+    let Device {
+        tags,
+        queue: _,
+        store,
+        stopped: _,
+        closed: _,
+    } = device;
     let Ok((hands, faults)) = carried else {
         return Err(PlayFault::Memory);
     };
@@ -98,52 +99,6 @@ fn play_under<B: Tagged + Send + Sync, G: Gate, R: Threads + Wait + Sync>(
         return Err(PlayFault::Memory);
     };
     judge(alloc, log, totals.tags, done, faults)
-}
-
-/// Carries out the log in threads, all of which have ended when it returns.
-fn carry_in_scope<B: Tagged + Send + Sync, G: Gate, R: Threads + Wait + Sync>(
-    rt: &R,
-    alloc: Global,
-    context: &PlayContext<'_, B, G>,
-    hands: Vec<Hand<u64>>,
-    pass: Pass<u32, Worker>,
-    wanted: usize,
-) -> Result<(Vec<Hand<u64>>, Faults), AllocError>
-    requires hands { All (IsHandOf context.now.tags.now) hands.items }
-    requires pass { IsPassOf context.now.queue.now pass }
-    requires total { total_of context.now.tags.now ≡ B.total }
-    requires wanted { wanted < length hands.items }
-    ensures { IfOk result (λ back. All (IsHandOf context.now.tags.now) back.0.items) }
-{
-    let PlayContext {
-        log,
-        gate,
-        tags,
-        queue,
-        store,
-        stopped,
-        closed,
-    } = *context;
-    thread::scope(
-        thread::scope_env(),
-        rt,
-        |scope| -> Result<(Vec<Hand<u64>>, Faults), AllocError>
-            requires { All (IsHandOf tags.now) hands.items × IsPassOf queue.now pass × (total_of tags.now ≡ B.total)
-                × (wanted < length hands.items) }
-            ensures { IfOk result (λ back. All (IsHandOf tags.entry.now) back.0.items) }
-        {
-            let context = PlayContext {
-                log,
-                gate,
-                tags,
-                queue,
-                store,
-                stopped,
-                closed,
-            };
-            carry_by_threads(scope, rt, alloc, &context, hands, pass, wanted)
-        },
-    )
 }
 
 /// The outcome of the play, determined after the joins.

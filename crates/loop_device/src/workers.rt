@@ -5,32 +5,17 @@ ghost use Rattle.tag_sets.specs.Hands.{IsHandOf, total_of};
 ghost use Rattle.loop_device.specs.Playing.{IsClean};
 ghost use Rattle.loop_device.specs.Completing.{CompletesPopped};
 
-use crate::device_queue::{Closing, DeviceQueue, Drained, Popped, Tagged, Worker, pop, push};
+use crate::device::Device;
+use crate::device_queue::{Closing, Drained, Popped, Tagged, Worker, pop, push};
 use crate::fault::PlayFault;
 use crate::gate::Gate;
 use crate::io::Log;
 use crate::request::{complete, finish};
-use crate::store::Store;
 use crossbeam_queue::Pass;
-use std::sync::atomic::AtomicBool;
+use std::sync::Wait;
 use std::sync::atomic::Ordering::SeqCst;
-use std::sync::{Mutex, Wait};
 use std::thread;
 use tag_sets::{Hand, TagFault, Tags};
-
-/// What the threads of a play share.
-#[derive(Drop)]
-pub(crate) struct PlayContext<'a, B: Tagged, G> {
-    pub(crate) log: &'a Log,
-    pub(crate) gate: &'a G,
-    pub(crate) tags: &'a Tags<u64>,
-    pub(crate) queue: &'a DeviceQueue<B>,
-    pub(crate) store: &'a Mutex<Store>,
-    /// Set if nothing more is to be submitted because a thread could not be started.
-    pub(crate) stopped: &'a AtomicBool,
-    /// Set once all submitters have ended.
-    pub(crate) closed: &'a AtomicBool,
-}
 
 /// Faults that threads ran into and that the store's history does not show.
 #[derive(Clone, Copy, Debug, PartialEq, Eq)]
@@ -84,32 +69,26 @@ pub(crate) struct Worked {
 /// Completes what comes through the queue, until a pop finds nothing after the flag was read set.
 pub(crate) fn complete_all<B: Tagged, G: Gate, W: Wait>(
     rt: &W,
-    context: &PlayContext<'_, B, G>,
+    log: &Log,
+    gate: &G,
+    device: &Device<B>,
     mut hand: Hand<u64>,
     mut pass: Pass<u32, Worker>,
 ) -> (Worked, Drained, Pass<u32, Worker>)
-    requires hand { IsHandOf context.now.tags.now hand }
-    requires pass { IsPassOf context.now.queue.now pass }
-    ensures hand { IsHandOf context.now.tags.now result.0.hand }
-    ensures completed { CompletesPopped context.now.tags.now context.now.log.now.ios.items
+    requires hand { IsHandOf device.now.tags hand }
+    requires pass { IsPassOf device.now.queue pass }
+    ensures hand { IsHandOf device.now.tags result.0.hand }
+    ensures completed { CompletesPopped device.now.tags log.now.ios.items
         (view pass) (view result.2) hand result.0.hand }
     ensures drained { result.1.closing.seen ≡ true }
 {
     let mut faults = Faults::none();
     for _ in rt.forever() {
         // The flag is read first, so that the pop finds what was pushed before it was set.
-        let closing = Closing::read(context.closed);
-        match pop(rt, context.queue, &mut pass, closing) {
+        let closing = Closing::read(&device.closed);
+        match pop(rt, &device.queue, &mut pass, closing) {
             Popped::Tag(tag) => {
-                let done = complete(
-                    rt,
-                    context.tags,
-                    &mut hand,
-                    tag,
-                    context.log,
-                    context.store,
-                    context.gate,
-                );
+                let done = complete(rt, &device.tags, &mut hand, tag, log, &device.store, gate);
                 faults.note(done);
             }
             Popped::Empty => thread::yield_now(),
@@ -123,28 +102,30 @@ pub(crate) fn complete_all<B: Tagged, G: Gate, W: Wait>(
 /// `submitters` threads, counted from 0, has every `submitters`-th line, starting with the line at index `number`.
 pub(crate) fn submit_all<B: Tagged, G: Gate, W: Wait>(
     rt: &W,
-    context: &PlayContext<'_, B, G>,
+    log: &Log,
+    gate: &G,
+    device: &Device<B>,
     mut hand: Hand<u64>,
     mut pass: Pass<u32, Worker>,
     number: usize,
     submitters: usize,
 ) -> Worked
-    requires hand { IsHandOf context.now.tags.now hand }
-    requires pass { IsPassOf context.now.queue.now pass }
+    requires hand { IsHandOf device.now.tags hand }
+    requires pass { IsPassOf device.now.queue pass }
     requires submitter { (view pass).submits ≡ true }
-    requires total { total_of context.now.tags.now ≡ B.total }
+    requires total { total_of device.now.tags ≡ B.total }
     requires submitters { 0 < submitters }
-    ensures { IsHandOf context.now.tags.now result.hand }
+    ensures { IsHandOf device.now.tags result.hand }
 {
     let mut faults = Faults::none();
-    for (index, io) in context.log.ios.iter().enumerate() {
+    for (index, io) in log.ios.iter().enumerate() {
         if index % submitters != number {
             continue;
         }
-        if context.stopped.load(SeqCst) {
+        if device.stopped.load(SeqCst) {
             break;
         }
-        let done = submit(rt, context, &mut hand, &mut pass, io.line);
+        let done = submit(rt, log, gate, device, &mut hand, &mut pass, io.line);
         faults.note(done);
     }
     Worked { hand, faults }
@@ -153,40 +134,34 @@ pub(crate) fn submit_all<B: Tagged, G: Gate, W: Wait>(
 /// Passes one line on to the completers, or completes it if the queue is full.
 fn submit<B: Tagged, G: Gate, W: Wait>(
     rt: &W,
-    context: &PlayContext<'_, B, G>,
+    log: &Log,
+    gate: &G,
+    device: &Device<B>,
     hand: &mut Hand<u64>,
     pass: &mut Pass<u32, Worker>,
     line: u64,
 ) -> Result<u64, PlayFault>
-    requires hand { IsHandOf context.now.tags.now hand.old }
-    requires pass { IsPassOf context.now.queue.now pass.old }
+    requires hand { IsHandOf device.now.tags hand.old }
+    requires pass { IsPassOf device.now.queue pass.old }
     requires submitter { (view pass.old).submits ≡ true }
-    requires total { total_of context.now.tags.now ≡ B.total }
-    ensures hand { IsHandOf context.now.tags.now hand.new }
-    ensures pass { IsPassOf context.now.queue.now pass.new }
+    requires total { total_of device.now.tags ≡ B.total }
+    ensures hand { IsHandOf device.now.tags hand.new }
+    ensures pass { IsPassOf device.now.queue pass.new }
     ensures submitter { (view pass.new).submits ≡ true }
 {
-    let Ok(tag) = post_line(rt, context.tags, hand, line) else {
+    let Ok(tag) = post_line(rt, &device.tags, hand, line) else {
         return Err(PlayFault::Lost(line));
     };
-    let Err(tag) = push(rt, context.queue, pass, tag) else {
-        context.gate.after_submit(line);
+    let Err(tag) = push(rt, &device.queue, pass, tag) else {
+        gate.after_submit(line);
         return Ok(line);
     };
-    let taken = context.tags.take(hand, tag);
-    context.gate.after_submit(line);
+    let taken = device.tags.take(hand, tag);
+    gate.after_submit(line);
     let Ok(()) = taken else {
         return Err(PlayFault::Spurious);
     };
-    finish(
-        rt,
-        context.tags,
-        hand,
-        tag,
-        context.log,
-        context.store,
-        context.gate,
-    )
+    finish(rt, &device.tags, hand, tag, log, &device.store, gate)
 }
 
 /// Gets a tag, writes the line into its slot, and posts it.

@@ -1,62 +1,66 @@
--- One hand fewer is left, and at most one thread more runs, of either role.
-use Rattle.std.proofs.Common.{◌≡◌, suc, sym, ap, subst, arith, length, vec_len, vec_capacity, Vec, Global}
+-- What a thread has may go to it, and each new handle promises what the others do.
+use denote.Param.{param}
+use denote.Param.Send.{IsSend, param_send, sendable}
+use Rattle.std.proofs.Common.{suc, ap, subst, arith, length}
 use Rattle.std.specs.List.{All}
-use Rattle.std.specs.declared.thread.PromisedHandle.{PromisedHandle}
-use Rattle.crossbeam_queue.specs.Passes.{IsPassOf}
+use Rattle.std.proofs.Crossing.{crosses}
 use Rattle.tag_sets.specs.Hands.{IsHandOf}
+use Rattle.loop_device.proofs.Crossing.{hand_goes, log_shared, device_shared, pass_goes}
 use Rattle.loop_device.specs.declared.threads.HandsBack.{HandsBack}
-use Rattle.loop_device.specs.declared.workers.Worked.{Worked}
-use Rattle.loop_device.specs.Playing.{Promises}
+use Rattle.loop_device.proofs.Promising.{kept}
+use denote.Struct.Field.{u64-field}
+use Rattle.std.specs.contracts.option.Option as option
+use Rattle.loop_device.proofs.threads.start_all.Lts as lts
 use Rattle.loop_device.proofs.threads.start_all.Goals as goal
-use Rattle.loop_device.proofs.threads.start_all.Goals.{then-len-wanted, else-len-wanted}
+
+count_goes : IsSend (option.the_row u64-field.row)
+count_goes = search (sendable, crosses) depth 60
+
+pub spawn_with-started-requires-send-F : goal.spawn_with-started-requires-send-F
+spawn_with-started-requires-send-F g c κs within =
+    let yd = device_shared (param 1 g.row.B) g.B.Tagged c.type_bounds.send-B c.type_bounds.sync-B in
+    let yg = c.type_bounds.sync-G in
+    let yr = c.type_bounds.sync-R in
+    param_send 2
+    (lts.arg-7-2 g.row.E g.row.B g.row.G g.row.R g.E.laws g.B.laws g.G.laws g.R.laws g.B.Tagged g.B.Tagged-dict
+    g.G.Gate g.G.Gate-dict g.R.Wait g.R.Wait-dict κs) record {
+      owned = λ x vs vss. (
+        tt,
+        (
+          count_goes.owned x.0 vss.0,
+          (
+            (tt, yr.shared x.1.now x.1.ref_ptr.0 x.1.ref_ptr.1 κs.1.1.1.1.1.1.0),
+            (
+              (tt, log_shared.shared x.2.now x.2.ref_ptr.0 x.2.ref_ptr.1 κs.1.1.1.1.1.1.1.0),
+              (
+                (tt, yg.shared x.3.now x.3.ref_ptr.0 x.3.ref_ptr.1 κs.1.1.1.1.1.1.1.1.0),
+                (
+                  (tt, yd.shared x.4.now x.4.ref_ptr.0 x.4.ref_ptr.1 κs.1.1.1.1.1.1.1.1.1.0),
+                  (
+                    hand_goes.owned x.5 vss.1.1.1.1.1.0,
+                    (pass_goes.owned x.6 vss.1.1.1.1.1.1.0, (search sendable, tt)),
+                  ),
+                ),
+              ),
+            ),
+          ),
+        ),
+      );
+      leaving = λ k x w. (tt, (tt, (tt, (tt, (tt, (hand_goes.leaving k x.5 _, (tt, tt)))))));
+    }
 
 pub loop-hand-preserved : goal.loop-hand-preserved
 loop-hand-preserved g c =
     let was = c.loop-hand.invariant in
-    let context = c.args.context.now in
-    let whole = subst (All (IsHandOf context.tags.now)) c.in-Some.ensures.steps.0 was.rest in
+    let tags = c.args.device.now.tags in
+    let whole = subst (All (IsHandOf tags)) c.in-Some.ensures.steps.0 was.rest in
     let fewer = ap length c.in-Some.ensures.steps.0 in
-    elim c.if-len-wanted.branch [
-      | then-len-wanted w ↦ let started = w.start-started in
-          let one : vec_len c.if-len-wanted.completers ≡ vec_len started.new.handles = ap vec_len w.completers-is in
-          let room : vec_capacity c.if-len-wanted.completers ≡ vec_capacity started.new.handles =
-          ap vec_capacity w.completers-is in
-          let other : vec_len c.if-len-wanted.submitters ≡ vec_len c.loop-hand.submitters =
-          ap vec_len w.submitters-is in
-          let other_room : vec_capacity c.if-len-wanted.submitters ≡ vec_capacity c.loop-hand.submitters =
-          ap vec_capacity w.submitters-is in
-          let longer = started.ensures.len in
-          let same = started.ensures.capacity in
-          record {
-            steps = (tt, tt);
-            rest = λ k d low. whole (suc k) d (omega arith);
-            pass = subst (IsPassOf context.queue.now) (sym w.pass-is) started.ensures.pass;
-            completers = subst (λ (v : Vec (PromisedHandle Worked HandsBack) Global).
-                All (Promises context.tags.now) v.items) (sym w.completers-is) started.ensures.handles;
-            submitters = subst (λ (v : Vec (PromisedHandle Worked HandsBack) Global).
-                All (Promises context.tags.now) v.items) (sym w.submitters-is) was.submitters;
-            room = (omega arith, omega arith);
-            len = omega arith;
-          }
-      | else-len-wanted w ↦ let started = w.start-started-else-len-wanted in
-          let one : vec_len c.if-len-wanted.submitters ≡ vec_len started.new.handles = ap vec_len w.submitters-is in
-          let room : vec_capacity c.if-len-wanted.submitters ≡ vec_capacity started.new.handles =
-          ap vec_capacity w.submitters-is in
-          let other : vec_len c.if-len-wanted.completers ≡ vec_len c.loop-hand.completers =
-          ap vec_len w.completers-is in
-          let other_room : vec_capacity c.if-len-wanted.completers ≡ vec_capacity c.loop-hand.completers =
-          ap vec_capacity w.completers-is in
-          let longer = started.ensures.len in
-          let same = started.ensures.capacity in
-          record {
-            steps = (tt, tt);
-            rest = λ k d low. whole (suc k) d (omega arith);
-            pass = subst (IsPassOf context.queue.now) (sym w.pass-is) started.ensures.pass;
-            completers = subst (λ (v : Vec (PromisedHandle Worked HandsBack) Global).
-                All (Promises context.tags.now) v.items) (sym w.completers-is) was.completers;
-            submitters = subst (λ (v : Vec (PromisedHandle Worked HandsBack) Global).
-                All (Promises context.tags.now) v.items) (sym w.submitters-is) started.ensures.handles;
-            room = (omega arith, omega arith);
-            len = omega arith;
-          }
-    ]
+    record {
+      steps = (tt, tt);
+      rest = λ k d low. whole (suc k) d (omega arith);
+      pass = c.pass_for-mine.ensures.pass;
+      handles = kept tags c.loop-hand.handles.items c.push_reserved.new.self.items c.in-Ok.handle was.handles
+          (ap (λ (promise : HandsBack). promise.0.now) c.in-Ok.ensures.ok) c.push_reserved.ensures.items;
+      room = omega arith;
+      len = omega arith;
+    }

@@ -9,11 +9,9 @@ use Rattle.loop_device.proofs.threads.start_all.Given as goal
 abbrev pub invariant-loop-hand : goal.invariant-loop-hand
 invariant-loop-hand g l = record {
   steps : (goal.iterator-loop-hand g).can_next l.hand-iterator × (goal.iterator-loop-hand g).is_finite l.hand-iterator;
-  rest : All (IsHandOf l.context.tags.now) (into_iter_items l.hand-iterator);
-  pass : IsPassOf l.context.queue.now l.pass;
-  completers : All (Promises l.context.tags.now) l.completers.items;
-  submitters : All (Promises l.context.tags.now) l.submitters.items;
-  room : (vec_len l.completers + into_iter_len l.hand-iterator ≤ vec_capacity l.completers)
-      × (vec_len l.submitters + into_iter_len l.hand-iterator ≤ vec_capacity l.submitters);
-  len : vec_len l.completers + vec_len l.submitters + into_iter_len l.hand-iterator ≤ l.count;
+  rest : All (IsHandOf l.device.tags) (into_iter_items l.hand-iterator);
+  pass : IsPassOf l.device.queue l.pass;
+  handles : All (Promises l.device.tags) l.handles.items;
+  room : vec_len l.handles + into_iter_len l.hand-iterator ≤ vec_capacity l.handles;
+  len : vec_len l.handles + into_iter_len l.hand-iterator ≤ vec_len l.fn.hands;
 }

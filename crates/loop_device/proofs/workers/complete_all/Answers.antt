@@ -6,16 +6,16 @@ use Rattle.loop_device.proofs.workers.complete_all.Goals as goal
 
 pub loop-init : goal.loop-init
 loop-init g c =
-    let s = c.args.context.now in record {
+    let tags = c.args.device.now.tags in let ios = c.args.log.now.ios.items in record {
       turns = search rules;
       hand = c.requires.hand;
       pass = c.requires.pass;
-      served = none_popped s.tags.now s.log.now.ios.items (view c.args.pass) c.args.hand;
+      served = none_popped tags ios (view c.args.pass) c.args.hand;
     }
 
 pub loop-preserved-in-Tag : goal.loop-preserved-in-Tag
 loop-preserved-in-Tag g c =
-    let s = c.args.context.now in let tags = s.tags.now in let ios = s.log.now.ios.items in
+    let tags = c.args.device.now.tags in let ios = c.args.log.now.ios.items in
     let hand = c.loop.hand in let last = c.complete-done.new.hand in record {
       turns = search rules;
       hand = c.complete-done.ensures.hand;
@@ -29,6 +29,5 @@ loop-preserved-in-Tag g c =
 
 pub returns-in-Last-clause-completed : goal.returns-in-Last-clause-completed
 returns-in-Last-clause-completed g c =
-    let s = c.args.context.now in
-    still s.tags.now s.log.now.ios.items (view c.args.pass) c.args.hand (view c.loop.pass) (view c.pop.new.pass)
+    still c.args.device.now.tags c.args.log.now.ios.items (view c.args.pass) c.args.hand (view c.loop.pass) (view c.pop.new.pass)
     c.loop.hand c.in-Last.ensures.tells.2 c.loop.invariant.served

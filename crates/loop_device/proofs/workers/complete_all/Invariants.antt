@@ -7,8 +7,8 @@ use Rattle.loop_device.proofs.workers.complete_all.Given as goal
 abbrev pub invariant-loop : goal.invariant-loop
 invariant-loop g l = record {
   turns : (goal.iterator-loop g).can_next l.iterator' × (goal.iterator-loop g).is_finite l.iterator';
-  hand : IsHandOf l.context.tags.now l.hand;
-  pass : IsPassOf l.context.queue.now l.pass;
-  served : CompletesPopped l.context.tags.now l.context.log.now.ios.items (view l.initial.pass) (view l.pass)
+  hand : IsHandOf l.device.tags l.hand;
+  pass : IsPassOf l.device.queue l.pass;
+  served : CompletesPopped l.device.tags l.log.ios.items (view l.initial.pass) (view l.pass)
       l.initial.hand l.hand;
 }

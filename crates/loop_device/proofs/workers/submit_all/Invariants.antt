@@ -5,5 +5,5 @@ use Rattle.tag_sets.specs.Hands.{IsHandOf}
 use Rattle.loop_device.proofs.workers.submit_all.Given as goal
 
 abbrev pub invariant-loop-index : goal.invariant-loop-index
-invariant-loop-index g l = IsHandOf l.context.tags.now l.hand × IsPassOf l.context.queue.now l.pass
+invariant-loop-index g l = IsHandOf l.device.tags l.hand × IsPassOf l.device.queue l.pass
     × ((view l.pass).submits ≡ true)
