@@ -5,7 +5,7 @@ use Rattle.std.proofs.lemmas.Nat.Bits.{bit_at_above}
 use Rattle.std.specs.Int.{bit_at}
 use Rattle.tag_board.specs.Replays.{is_in_run, NobodyElseHolds}
 use Rattle.tag_board.specs.States.{State}
-use Rattle.tag_board.proofs.Moves.{names_run}
+use Rattle.tag_board.proofs.Effects.{names_run}
 
 module _ (first mask : ℕ) where
   -- a one in the mask is a tag of the batch

@@ -25,10 +25,28 @@ pub sits : {R : Type 0} {hands : List (Hand R)} {i : ℕ} {old : Hand R} → i <
     → Sits hands i old
 sits within here = record { within = within; here = here }
 
+module _ {R A : Type 0} (view : Hand R → A) (d : A) {hands : List (Hand R)} {i : ℕ} {old : Hand R} (at : Sits hands i old)
+  where
+    -- what is seen at the index of a hand is what is seen of the hand
+    pub seen_here : get_or (map view hands) i d ≡ view old
+    seen_here = get_or-map view hands i old d at.within ∙ ap view (sym at.here)
+
+    -- and a call on one hand leaves what is seen of the others
+    pub seen_there : (new : Hand R) (other : ℕ) → other ≢ i
+        → get_or (map view (set hands i new)) other d ≡ get_or (map view hands) other d
+    seen_there new other ne = ap (λ (vs : List A). get_or vs other d) (map-set view hands i new)
+        ∙ get_or-set_other (map view hands) i other (view new) d ne
+
+-- after a call on it, the hand sits where it did before
+pub seat : {R : Type 0} {hands : List (Hand R)} {i : ℕ} {old : Hand R} → Sits hands i old → (new : Hand R)
+    → Sits (set hands i new) i new
+seat {R} {hands} {i} at new = let long = length-set hands i new in let low = at.within in
+    record { within = omega arith; here = sym (get_or-set_same hands i new new low) }
+
 module _ {R : Type 0} (tags : Tags R) {hands : List (Hand R)} {i : ℕ} {old : Hand R} (at : Sits hands i old) where
   -- a caller's part is that of the hand at its index
   pub part_here : (state_of_all tags hands).part i ≡ part_of old
-  part_here = get_or-map part_of hands i old (idle false) at.within ∙ ap part_of (sym at.here)
+  part_here = seen_here part_of (idle false) at
 
   pub held_here : (tag : ℕ) → ((state_of_all tags hands).part i).held tag ≡ true → Holds old tag
   held_here tag e = holds_true old tag (sym (ap (λ (p : Part). p.held tag) part_here) ∙ e)
@@ -46,19 +64,12 @@ module _ {R : Type 0} (tags : Tags R) {hands : List (Hand R)} {i : ℕ} {old : H
   -- the hand's part changed so, and the rest of the state is unchanged
   pub changes : (new : Hand R) (change : Part → Part) → part_of new ≡ change (part_of old)
       → Changes i change (state_of_all tags hands) (state_of_all tags (set hands i new))
-  changes new change e =
-      let moved : map part_of (set hands i new) ≡ set (map part_of hands) i (part_of new) =
-      map-set part_of hands i new in
-      let low = at.within in let l = length-map hands part_of in
-      let long : i < length (map part_of hands) = omega arith in record {
-        terms = ap (terms_of tags) (length-set hands i new);
-        total = refl;
-        own = ap (λ (ps : List Part). get_or ps i (idle false)) moved
-            ∙ get_or-set_same (map part_of hands) i (part_of new) (idle false) long
-            ∙ e ∙ ap change (sym part_here);
-        others = λ other ne. ap (λ (ps : List Part). get_or ps other (idle false)) moved
-            ∙ get_or-set_other (map part_of hands) i other (part_of new) (idle false) ne;
-      }
+  changes new change e = record {
+    terms = ap (terms_of tags) (length-set hands i new);
+    total = refl;
+    own = seen_here part_of (idle false) (seat at new) ∙ e ∙ ap change (sym part_here);
+    others = seen_there part_of (idle false) at new;
+  }
 
   -- the hands are still in the order of their numbers
   pub ordered : (new : Hand R) → AreOrdered hands → number_of new ≡ number_of old → AreOrdered (set hands i new)
