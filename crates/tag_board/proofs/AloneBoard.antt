@@ -1,6 +1,5 @@
 -- How the steps of the only hand of a board determine both sets.
-use Rattle.std.proofs.Common.{◌≡◌, ℕ, ◌+◌, ◌<◌, true, false, List, length, map, get_or, set, Option, Some, None, Result, Ok, Err, IfOk, OnErr, refl, sym, ap, ◌∙◌, subst, arith}
-use Rattle.std.proofs.lemmas.List.{get_or-map, get_or-set_same, length-set}
+use Rattle.std.proofs.Common.{◌≡◌, ℕ, true, false, List, length, map, get_or, set, Option, None, sym, ap, ◌∙◌, subst, arith}
 use Rattle.tag_layout.specs.Layout.{Layout}
 use Rattle.tag_core.specs.declared.shape.Shape.{Shape}
 use Rattle.tag_search.specs.Alone.{IsAlone}

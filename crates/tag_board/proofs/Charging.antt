@@ -1,5 +1,5 @@
 -- What the steps of a charge and of a walk count and grant.
-use Rattle.std.proofs.Common.{◌≡◌, ℕ, zero, suc, ◌+◌, ◌-◌, ◌<◌, ◌≤◌, ◌≢◌, ⊎_elim, ◌⊎◌, inl, inr, List, ◌∷◌, refl, sym, ap, arith, min}
+use Rattle.std.proofs.Common.{◌≡◌, ℕ, zero, suc, ◌+◌, ◌≤◌, ⊎_elim, ◌⊎◌, inl, inr, List, ◌∷◌, refl, ap, arith, min}
 use Rattle.step_ledger.specs.History.{total}
 use Rattle.wake_book.specs.declared.charge.Charge.{Charge}
 use Rattle.wake_book.specs.declared.charge.Charge.TheVariants.{Full, Below, Won, Busy}

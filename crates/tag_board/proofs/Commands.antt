@@ -1,5 +1,5 @@
 -- What a call on one hand is for the board.
-use Rattle.std.proofs.Common.{◌≡◌, ◌≢◌, ℕ, ◌<◌, Bool, false, List, length, set, All, Result, Ok, Err, IfOk, OnErr, sym, ap, ◌∙◌, subst, length-set}
+use Rattle.std.proofs.Common.{◌≡◌, ◌≢◌, ℕ, Bool, false, List, length, set, All, Result, Ok, Err, IfOk, OnErr, sym, ap, ◌∙◌, subst, length-set}
 use Rattle.std.proofs.lemmas.List.Elements.{All-set}
 use mathlib.Core.Logic.{dite}
 use native.Mathlib.Decide.{ℕ_discrete}

@@ -3,7 +3,7 @@ use Rattle.std.proofs.Common.{◌≡◌, ◌≢◌, ℕ, ◌+◌, ◌<◌, ◌�
 use mathlib.Core.Logic.{dite}
 use native.Mathlib.Decide.{ℕ_discrete}
 use Rattle.std.proofs.lemmas.Bool.{both_ways, cases_lt}
-use Rattle.std.proofs.lemmas.List.{map-set, set-get_or, length-map, get_or-map}
+use Rattle.std.proofs.lemmas.List.{map-set, set-get_or, get_or-map}
 use Rattle.tag_sets.specs.declared.hand.Hand.{Hand}
 use Rattle.tag_sets.specs.declared.kind.Kind.{Kind}
 use Rattle.tag_sets.specs.declared.kind.Kind.TheVariants.{Ordinary, Reserved}

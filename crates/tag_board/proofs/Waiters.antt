@@ -1,16 +1,12 @@
 -- What a call on one hand is for its caller as it waits and wakes others.
-use Rattle.std.proofs.Common.{◌≡◌, ◌≢◌, ℕ, ◌+◌, ◌<◌, Bool, true, false, Option, None, ⊎_elim, ◌⊎◌, inl, inr, List, length, map, get_or, set, Result, Ok, Err, IfOk, OnErr, refl, sym, ap, ◌∙◌, subst, arith, get_or-set_other, get_or-set_same}
-use Rattle.std.proofs.lemmas.List.{map-set, set-get_or, length-map, get_or-map}
+use Rattle.std.proofs.Common.{◌≡◌, ℕ, ◌+◌, ⊎_elim, inl, List, set, sym, ap, subst, arith}
 use Rattle.step_ledger.specs.History.{total}
-use Rattle.wake_book.specs.declared.steps.BookStep.{BookStep}
 use Rattle.wake_book.specs.declared.steps.GroupStep.{GroupStep}
 use Rattle.wake_book.specs.declared.charge.Charge.{Charge}
 use Rattle.wake_book.specs.declared.charge.Charge.TheVariants.{Full, Below, Won, Busy}
 use Rattle.wake_book.specs.Book as book
-use Rattle.wake_book.specs.Charges.{added}
 use Rattle.wake_book.specs.Groups as groups
 use Rattle.wake_book.specs.Waits.{moved_by}
-use Rattle.tag_queue.specs.declared.agent.Agent.{Agent}
 use Rattle.tag_queue.specs.declared.queue.Queue.{Queue}
 use Rattle.tag_queue.specs.Agents as queue
 use Rattle.tag_queue.specs.Clears as queue_clears
@@ -19,10 +15,10 @@ use Rattle.tag_sets.specs.declared.kind.Kind.{Kind}
 use Rattle.tag_sets.specs.declared.kind.Kind.TheVariants.{Ordinary, Reserved}
 use Rattle.tag_sets.specs.declared.tags.Tags.{Tags}
 use Rattle.tag_sets.specs.Clears as clears
-use Rattle.tag_sets.specs.Hands.{agent_of, hint_of, book_steps, group_steps, standing_of, wait_index_of, split_of, reserved_of}
-use Rattle.tag_sets.specs.Sets.{kind_of, other_kind}
+use Rattle.tag_sets.specs.Hands.{agent_of, book_steps, group_steps}
+use Rattle.tag_sets.specs.Sets.{other_kind}
 use Rattle.tag_board.specs.Parts.{waiter_of, waiters_of_all}
-use Rattle.tag_board.specs.Wakeups.{Waiter, newcomer, Moves, MovesIf, GrantsFor, Enters, Leaves, Finds}
+use Rattle.tag_board.specs.Wakeups.{Waiter, newcomer, Moves, GrantsFor}
 use Rattle.tag_board.proofs.Charging.{charge_adds, walk_grants}
 use Rattle.tag_board.proofs.Seats.{Sits, seat, seen_here, seen_there}
 

@@ -1,6 +1,5 @@
 -- The hand loses the listed tags and counts them.
 use Rattle.std.proofs.Common.{ℕ, length}
-use Rattle.std.specs.Prelude.{All}
 use Rattle.tag_board.specs.AloneSets.{AloneClearsList}
 use Rattle.tag_board.specs.Boards.{state_of}
 use Rattle.tag_board.specs.Refusals.{RefusesList}

@@ -1,5 +1,5 @@
 -- The hand did not hold the tag before, and no other caller holds it now, so no caller held it.
-use Rattle.std.proofs.Common.{◌≡◌, ℕ, Option, Ok, refl, ap, sym}
+use Rattle.std.proofs.Common.{ℕ, Option, Ok, refl, ap}
 use Rattle.tag_search.specs.Gains.{count_of}
 use Rattle.tag_sets.specs.declared.kind.Kind.TheVariants.{Ordinary}
 use Rattle.tag_board.specs.AloneSets.{AloneGets, plain}
@@ -10,7 +10,7 @@ use Rattle.tag_board.proofs.Commands.{got, holds_gained, kept, none_moved, seate
 use Rattle.tag_board.proofs.Effects.{get_gains}
 use Rattle.tag_board.proofs.Outcomes.{ok_map, err_same}
 use Rattle.tag_board.proofs.Verdicts.{get_verdict}
-use Rattle.tag_board.proofs.Seats.{own_here, room_here, sits, spent_here}
+use Rattle.tag_board.proofs.Seats.{own_here, sits, spent_here}
 use Rattle.tag_board.proofs.board.Board.get.Goals as goal
 
 pub invariant_of-self : goal.invariant_of-self

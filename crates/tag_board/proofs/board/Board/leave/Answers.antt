@@ -1,5 +1,5 @@
 -- The hand is then in no group.
-use Rattle.std.proofs.Common.{◌≡◌, ℕ, ◌∙◌, false}
+use Rattle.std.proofs.Common.{ℕ, ◌∙◌, false}
 use Rattle.tag_sets.specs.Hands.{standing_of}
 use Rattle.wake_book.specs.declared.waiting.Left.{Left}
 use Rattle.tag_board.specs.Boards.{state_of}

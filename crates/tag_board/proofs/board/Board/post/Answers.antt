@@ -1,5 +1,5 @@
 -- The hand loses the tag and counts nothing.
-use Rattle.std.proofs.Common.{◌≡◌, ℕ, nat_eq}
+use Rattle.std.proofs.Common.{ℕ, nat_eq}
 use Rattle.tag_board.specs.AloneSets.{AlonePosts}
 use Rattle.tag_board.specs.Boards.{state_of}
 use Rattle.tag_board.specs.Refusals.{RefusesTag}

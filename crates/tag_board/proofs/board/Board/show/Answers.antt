@@ -1,5 +1,5 @@
 -- The sizes are those of the set, and the loads change no part.
-use Rattle.std.proofs.Common.{ℕ, ap}
+use Rattle.std.proofs.Common.{ap}
 use Rattle.tag_board.specs.Boards.{state_of}
 use Rattle.tag_board.proofs.Commands.{all_rest, effect_on, seated}
 use Rattle.tag_board.proofs.Effects.{show_does}

@@ -1,5 +1,5 @@
 -- The hand is then in a group.
-use Rattle.std.proofs.Common.{◌≡◌, ℕ, ◌∙◌, ◌<◌, true}
+use Rattle.std.proofs.Common.{ℕ, ◌∙◌, ◌<◌, true}
 use Rattle.tag_sets.specs.Hands.{standing_of}
 use Rattle.tag_board.specs.Boards.{state_of}
 use Rattle.tag_board.specs.Refusals.{RefusesWait}

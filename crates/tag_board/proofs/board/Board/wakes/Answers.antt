@@ -1,5 +1,5 @@
 -- The call adds loads to the lists of its caller, and nothing else.
-use Rattle.std.proofs.Common.{◌≡◌, ℕ, ◌∙◌}
+use Rattle.std.proofs.Common.{◌∙◌}
 use Rattle.tag_board.specs.Boards.{state_of}
 use Rattle.tag_board.specs.Wakeups.{Finds}
 use Rattle.tag_board.proofs.Commands.{effect_on, seated}
