@@ -1,21 +1,10 @@
 -- How the steps of the only hand of a board determine both sets.
 use Rattle.std.proofs.Common.{◌≡◌, ℕ, true, false, List, length, map, get_or, set, Option, None, sym, ap, ◌∙◌, subst, arith}
-use Rattle.tag_layout.specs.Layout.{Layout}
-use Rattle.tag_core.specs.declared.shape.Shape.{Shape}
-use Rattle.tag_search.specs.Alone.{IsAlone}
+use Rattle.tag_board.proofs.Uses.{Layout, Shape, IsAlone, Visit, Hand, Kind, Ordinary, Reserved, Tags, hands_of, agent_of, hint_of, layout_of, reserved_of, IsHandOf, AloneSet, AloneSets, split_in, Chooses, ChoosesRun, AloneBatch, untouched, alone_set_of, alone_sets_in, alone_sets_of_all}
 use Rattle.tag_search.specs.Choice.{IsChoice}
-use Rattle.tag_search.specs.Search.{Visit}
 use Rattle.tag_queue.specs.Agents as queue
 use Rattle.tag_queue.specs.Gets as queue_gets
-use Rattle.tag_sets.specs.declared.hand.Hand.{Hand}
-use Rattle.tag_sets.specs.declared.kind.Kind.{Kind}
-use Rattle.tag_sets.specs.declared.kind.Kind.TheVariants.{Ordinary, Reserved}
-use Rattle.tag_sets.specs.declared.tags.Tags.{Tags}
-use Rattle.tag_sets.specs.Gathering.{hands_of}
 use Rattle.tag_sets.specs.Gets as gets
-use Rattle.tag_sets.specs.Hands.{agent_of, hint_of, layout_of, reserved_of, IsHandOf}
-use Rattle.tag_board.specs.AloneSets.{AloneSet, AloneSets, split_in, Chooses, ChoosesRun, AloneBatch, untouched}
-use Rattle.tag_board.specs.Parts.{alone_set_of, alone_sets_in, alone_sets_of_all}
 use Rattle.tag_board.proofs.Seats.{Sits, seat, seen_here}
 
 -- what a board without hands shows

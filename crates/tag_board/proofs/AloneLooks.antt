@@ -1,27 +1,10 @@
 -- What the looks of a set's only agent find in it.
 use Rattle.std.proofs.Common.{◌≡◌, ℕ, zero, suc, ◌+◌, ◌<◌, ◌≤◌, Bool, true, false, not, ◌&&◌, ◌||◌, cond, nat_eq, nat_lt, List, [], ◌∷◌, length, get_or, refl, sym, ap, ◌∙◌, subst, arith}
-use Rattle.std.proofs.lemmas.Bool.{ltb-true, lt-ltb}
-use Rattle.std.proofs.lemmas.Nat.Bits.{bit_at-lt}
-use Rattle.std.specs.Int.{bit_at}
-use Rattle.tag_layout.specs.Layout.{Layout, words, word_of, place_of}
-use Rattle.tag_layout.proofs.PlaceFacts.{word_of-below}
-use Rattle.tag_model.specs.Totals.{count_below}
-use Rattle.tag_core.specs.declared.record.Record.{Record}
-use Rattle.tag_core.specs.declared.shape.Shape.{Shape}
-use Rattle.tag_core.specs.declared.step.Step.{Step}
-use Rattle.tag_core.specs.Callers.{record_of}
+use Rattle.tag_board.proofs.Uses.{ltb-true, lt-ltb, bit_at-lt, bit_at, Layout, words, word_of, place_of, word_of-below, count_below, Record, Shape, Step, record_of, IsAlone, is_posted, cells_left, words_left, own_after, pool_of, is_busy, own_found, state_after, place_small, Agent, caller_of, is_busy_in, is_aside_in, alone_set_of}
 use Rattle.tag_core.specs.Steps.{Words, Quiet, words_after_all}
-use Rattle.tag_search.specs.Alone.{IsAlone, is_posted}
-use Rattle.tag_search.specs.AloneLaws.{cells_left, words_left, own_after}
-use Rattle.tag_search.specs.Pool.{pool_of, is_busy}
 use Rattle.tag_search.specs.SharedLaws.{shape_after}
-use Rattle.tag_search.proofs.AloneCallers.{own_found, state_after, place_small}
 use Rattle.tag_search.proofs.AloneFacts.{EachFound, own_of_record, found_quiet, left_after}
-use Rattle.tag_queue.specs.declared.agent.Agent.{Agent}
-use Rattle.tag_queue.specs.Agents.{caller_of}
 use Rattle.tag_sets.specs.Looks as looks
-use Rattle.tag_board.specs.AloneSets.{is_busy_in, is_aside_in}
-use Rattle.tag_board.specs.Parts.{alone_set_of}
 
 -- looks leave the words unchanged
 looks_leave : (found : List (ℕ × ℕ)) (word : ℕ) (w : Words) → words_after_all (looks.looks_from word found) w ≡ w

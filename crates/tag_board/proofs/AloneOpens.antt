@@ -1,33 +1,8 @@
 -- New sets of a board with one caller.
 use Rattle.std.proofs.Common.{◌≡◌, ℕ, ◌-◌, Bool, false, ◌&&◌, nat_eq, nat_lt, List, [], length, map, get_or, sym, ap, ◌∙◌, subst, arith}
-use Rattle.std.proofs.lemmas.List.{get_or-map}
-use Rattle.std.proofs.lemmas.Nat.Bits.{bit_at-zero}
-use mathlib.Core.Option.{some}
-use lib.ListN.{get_elem?}
-use Rattle.atomic_table.proofs.Lists.{at_map}
-use Rattle.tag_layout.specs.Layout.{Layout, HasShift}
-use Rattle.tag_core.specs.declared.record.Record.{Record}
-use Rattle.tag_core.specs.declared.step.Step.{Step}
-use Rattle.tag_core.specs.Callers.{record_of}
-use Rattle.tag_core.proofs.Entries.{entry, entry_or}
-use Rattle.tag_search.specs.AloneLaws.{cells_left, words_left}
-use Rattle.tag_search.specs.Pool.{pool_of}
-use Rattle.tag_search.proofs.Pools.{pool_ext, and_true, and_false}
-use Rattle.tag_queue.specs.declared.agent.Agent.{Agent}
-use Rattle.tag_queue.specs.declared.queue.Options.{Options}
-use Rattle.tag_queue.specs.declared.queue.Queue.{Queue}
+use Rattle.tag_board.proofs.Uses.{get_or-map, bit_at-zero, some, get_elem?, at_map, Layout, HasShift, Record, Step, record_of, entry, entry_or, cells_left, words_left, pool_of, pool_ext, and_true, and_false, Agent, Options, Queue, Hand, Kind, Ordinary, Reserved, Tags, hands_of, IsHandOf, layout_of, reserved_of, total_of, reserved_part, ordinary_part, AreOpen, all_part, AloneSets, untouched, AreUntouched, alone_set_of, alone_sets_in, alone_sets_of_all}
 use Rattle.tag_queue.specs.Agents as queue
 use Rattle.tag_queue.specs.Opening as queue_opening
-use Rattle.tag_sets.specs.declared.hand.Hand.{Hand}
-use Rattle.tag_sets.specs.declared.kind.Kind.{Kind}
-use Rattle.tag_sets.specs.declared.kind.Kind.TheVariants.{Ordinary, Reserved}
-use Rattle.tag_sets.specs.declared.tags.Tags.{Tags}
-use Rattle.tag_sets.specs.Gathering.{hands_of}
-use Rattle.tag_sets.specs.Hands.{IsHandOf, layout_of, reserved_of, total_of}
-use Rattle.tag_sets.specs.Opening.{reserved_part, ordinary_part, IsOpen as AreOpen}
-use Rattle.tag_sets.proofs.Opening.{all_part}
-use Rattle.tag_board.specs.AloneSets.{AloneSets, untouched, AreUntouched}
-use Rattle.tag_board.specs.Parts.{alone_set_of, alone_sets_in, alone_sets_of_all}
 use Rattle.tag_board.proofs.AloneBoard.{layout_in}
 
 -- each place of a map without steps is free

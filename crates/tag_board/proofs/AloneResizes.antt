@@ -1,27 +1,7 @@
 -- How a resize changes both sets of a board with one caller.
 use Rattle.std.proofs.Common.{◌≡◌, ℕ, ◌-◌, false, nat_eq, List, [], length, map, get_or, All, Ok, sym, ap, ◌∙◌, subst, arith}
-use Rattle.std.proofs.lemmas.List.{get_or-map, length-map}
-use Rattle.atomic_table.proofs.Lists.{at_map}
-use Rattle.tag_layout.specs.Layout.{Layout}
-use Rattle.tag_core.specs.declared.record.Record.{Record}
-use Rattle.tag_core.specs.declared.step.Step.{Step}
-use Rattle.tag_core.specs.Callers.{record_of}
-use Rattle.tag_core.proofs.Entries.{entry, entry_or}
-use Rattle.tag_search.specs.declared.hint.Hint.{Hint}
-use Rattle.tag_search.specs.AloneLaws.{cells_left, words_left}
-use Rattle.tag_search.specs.Pool.{pool_of}
-use Rattle.tag_queue.specs.declared.agent.Agent.{Agent}
+use Rattle.tag_board.proofs.Uses.{get_or-map, length-map, at_map, Layout, Record, Step, record_of, entry, entry_or, Hint, cells_left, words_left, pool_of, Agent, Hand, Kind, Ordinary, Reserved, Tags, hands_of, IsHandOf, reserved_of, number_of, reserved_part, ordinary_part, IsResized, AreUnchanged, AloneSets, AloneResizes, resized, untouched, alone_set_of, alone_sets_in, alone_sets_of_all}
 use Rattle.tag_queue.specs.Agents as queue
-use Rattle.tag_sets.specs.declared.hand.Hand.{Hand}
-use Rattle.tag_sets.specs.declared.kind.Kind.{Kind}
-use Rattle.tag_sets.specs.declared.kind.Kind.TheVariants.{Ordinary, Reserved}
-use Rattle.tag_sets.specs.declared.tags.Tags.{Tags}
-use Rattle.tag_sets.specs.Gathering.{hands_of}
-use Rattle.tag_sets.specs.Hands.{IsHandOf, reserved_of, number_of}
-use Rattle.tag_sets.specs.Opening.{reserved_part, ordinary_part}
-use Rattle.tag_sets.specs.Resizing.{IsResized, AreUnchanged}
-use Rattle.tag_board.specs.AloneSets.{AloneSets, AloneResizes, resized, untouched}
-use Rattle.tag_board.specs.Parts.{alone_set_of, alone_sets_in, alone_sets_of_all}
 use Rattle.tag_board.proofs.AloneBoard.{layout_in, split_is}
 use Rattle.tag_board.proofs.AloneOpens.{blank_pool}
 

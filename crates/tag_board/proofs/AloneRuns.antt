@@ -1,39 +1,16 @@
 -- How the only agent of a set changes it by giving back a list of tags.
 use Rattle.std.proofs.Common.{◌≡◌, ℕ, ◌^◌, ◌<◌, ◌≤◌, Bool, true, false, ◌&&◌, ◌||◌, cond, nat_eq, nat_lt, List, [], ◌∷◌, ⊎_elim, refl, sym, ap, ◌∙◌, subst, arith, eq-eqb, eqb-true}
-use Rattle.std.proofs.Math.Logic.{∥∥₁_elim}
-use Rattle.std.proofs.lemmas.Bool.{and_parts, and_from, cases_lt, lt-ltb, ltb-true}
+use Rattle.tag_board.proofs.Uses.{∥∥₁_elim, and_parts, and_from, cases_lt, lt-ltb, ltb-true, bit_at_above, bit_at, list_any, Layout, word_of, place_of, word_bits, word_depth, tag_at, word_of-tag_at, place_of-tag_at, Caller, Record, Shape, Step, Word, Post, Take, Look, LookAside, Claimed, Give, Put, Swap, Spill, record_of, IsAlone, is_posted, cells_left, words_left, Pool, pool_of, free_at, pool_ext, or_false, Agent, caller_of, Run, IsRun, AreRuns, GivesBack, record_after_runs, same_shape, is_named, give_back, alone_set_of}
 use Rattle.std.proofs.lemmas.List.Folds.{list_any-append, Any-from_list_any, list_any-from_Any}
-use Rattle.std.proofs.lemmas.Nat.Bits.{bit_at_above}
-use Rattle.std.specs.Int.{bit_at}
-use Rattle.std.specs.List.{list_any}
 use mathlib.Core.Bool.{Bool-set}
-use Rattle.tag_layout.specs.Layout.{Layout, word_of, place_of, word_bits, word_depth, tag_at}
-use Rattle.tag_layout.proofs.PlaceFacts.{word_of-tag_at, place_of-tag_at}
 use Rattle.tag_model.specs.Event.{IsInLayout}
 use Rattle.tag_model.specs.Runs.{IsHistory}
 use Rattle.tag_model.specs.World.{World}
-use Rattle.tag_core.specs.declared.caller.Caller.{Caller}
-use Rattle.tag_core.specs.declared.record.Record.{Record}
-use Rattle.tag_core.specs.declared.shape.Shape.{Shape}
-use Rattle.tag_core.specs.declared.step.Step.{Step}
-use Rattle.tag_core.specs.declared.step.Step.TheVariants.{Word, Post, Take}
 use Rattle.tag_core.specs.declared.word_step.WordStep.{WordStep}
-use Rattle.tag_core.specs.declared.word_step.WordStep.TheVariants.{Look, LookAside, Claimed, Give, Put, Swap, Spill}
-use Rattle.tag_core.specs.Callers.{record_of}
 use Rattle.tag_core.specs.Histories.{History, events_of, event_of, event_of_word, steps_by, opening_world}
 use Rattle.tag_core.specs.Meeting.{HasHistory}
 use Rattle.tag_core.proofs.TagBits.{small_word}
-use Rattle.tag_search.specs.Alone.{IsAlone, is_posted}
-use Rattle.tag_search.specs.AloneLaws.{cells_left, words_left}
-use Rattle.tag_search.specs.Pool.{Pool, pool_of, free_at}
 use Rattle.tag_search.proofs.PlainPools.{give_pool}
-use Rattle.tag_search.proofs.Pools.{pool_ext, or_false}
-use Rattle.tag_queue.specs.declared.agent.Agent.{Agent}
-use Rattle.tag_queue.specs.Agents.{caller_of}
-use Rattle.tag_queue.specs.Batches.{Run, IsRun, AreRuns, GivesBack, record_after_runs}
-use Rattle.tag_queue.proofs.Giving.{same_shape}
-use Rattle.tag_board.specs.AloneSets.{is_named, give_back}
-use Rattle.tag_board.specs.Parts.{alone_set_of}
 use Rattle.tag_board.proofs.Truths.{same_test}
 
 -- a give frees only bits of its word

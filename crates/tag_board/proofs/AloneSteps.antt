@@ -1,21 +1,9 @@
 -- How single steps of a set's only agent change it.
 use Rattle.std.proofs.Common.{◌≡◌, ℕ, ◌<◌, ◌≤◌, Bool, true, false, not, ◌&&◌, ◌||◌, cond, nat_eq, List, Some, None, refl, sym, ap, ◌∙◌, arith}
-use Rattle.std.proofs.lemmas.Nat.{pow_pos}
-use Rattle.tag_layout.specs.Layout.{Layout, word_of, place_of, word_bits}
-use Rattle.tag_layout.proofs.PlaceFacts.{word_bits-le}
-use Rattle.tag_core.specs.declared.record.Record.{Record}
-use Rattle.tag_core.specs.declared.step.Step.{Step}
-use Rattle.tag_core.specs.Callers.{record_of}
-use Rattle.tag_search.specs.Alone.{IsAlone, is_posted, pool_left}
-use Rattle.tag_search.specs.AloneLaws.{cells_left}
-use Rattle.tag_search.proofs.AloneCallers.{own_put, own_post, own_take, own_took}
-use Rattle.tag_search.proofs.Pools.{or_false, and_true, and_false}
-use Rattle.tag_queue.specs.declared.agent.Agent.{Agent}
-use Rattle.tag_queue.specs.Agents.{caller_of, hint_of}
+use Rattle.tag_board.proofs.Uses.{pow_pos, Layout, word_of, place_of, word_bits, word_bits-le, Record, Step, record_of, IsAlone, is_posted, pool_left, cells_left, own_put, own_post, own_take, own_took, or_false, and_true, and_false, Agent, caller_of, put_back, post_in, take_in, alone_set_of}
+use Rattle.tag_queue.specs.Agents.{hint_of}
 use Rattle.tag_queue.specs.Clears as clears
 use Rattle.tag_queue.specs.Slots as slots
-use Rattle.tag_board.specs.AloneSets.{put_back, post_in, take_in}
-use Rattle.tag_board.specs.Parts.{alone_set_of}
 
 or_true : (a : Bool) → (a || true) ≡ true
 or_true true = refl

@@ -1,28 +1,15 @@
 -- What a call on one hand is for the board.
 use Rattle.std.proofs.Common.{◌≡◌, ◌≢◌, ℕ, Bool, false, List, length, set, All, Result, Ok, Err, IfOk, OnErr, sym, ap, ◌∙◌, subst, length-set}
+use Rattle.tag_board.proofs.Uses.{dite, ℕ_discrete, TagFault, Hand, Kind, Tags, hands_of, IsHandOf, number_of, total_of, reserved_of, HoldsMore, Board, AloneSets, Does, state_of, alone_sets_of, waiters_of, AreOrdered, state_of_all, alone_sets_of_all, waiters_of_all, Answers, Changes, HoldsAll, NobodyHolds, NobodyElseHolds, Wins, won, Part, State, Waiter, Moves, MovesIf}
 use Rattle.std.proofs.lemmas.List.Elements.{All-set}
-use mathlib.Core.Logic.{dite}
-use native.Mathlib.Decide.{ℕ_discrete}
-use Rattle.tag_sets.specs.declared.fault.TagFault.{TagFault}
-use Rattle.tag_sets.specs.declared.hand.Hand.{Hand}
-use Rattle.tag_sets.specs.declared.kind.Kind.{Kind}
-use Rattle.tag_sets.specs.declared.tags.Tags.{Tags}
-use Rattle.tag_sets.specs.Gathering.{hands_of}
-use Rattle.tag_sets.specs.Hands.{IsHandOf, number_of, total_of, reserved_of}
-use Rattle.tag_sets.specs.Holding.{HoldsMore}
-use Rattle.tag_board.specs.declared.board.Board.{Board}
-use Rattle.tag_board.specs.AloneSets.{AloneSets, Does}
-use Rattle.tag_board.specs.Boards.{state_of, alone_sets_of, waiters_of, IsAlone}
-use Rattle.tag_board.specs.Parts.{AreOrdered, state_of_all, alone_sets_of_all, waiters_of_all}
-use Rattle.tag_board.specs.Replays.{Answers, Changes, HoldsAll, NobodyHolds, NobodyElseHolds, Wins, won}
-use Rattle.tag_board.specs.States.{Part, State}
-use Rattle.tag_board.specs.Wakeups.{Waiter, Moves, MovesIf}
+use Rattle.tag_board.specs.Boards.{IsAlone}
 use Rattle.tag_board.proofs.AloneBoard.{alone_sets_moved}
-use Rattle.tag_board.proofs.Effects.{Effect, Gained, AsBefore}
 use Rattle.tag_board.proofs.Holdings.{Names, not_holds}
-use Rattle.tag_board.proofs.Seats.{Sits, seat, changes, ordered, here_held, part_here, unmoved}
-use Rattle.tag_board.proofs.Verdicts.{IsVerdict, answers}
 use Rattle.tag_board.proofs.Waiters.{waiters_move}
+pub use Rattle.tag_board.proofs.Effects.{AsBefore, batch_gains, batch_number, busy_does, clear_does, dump_does, Effect, enter_does, Gained, get_gains, leave_does, list_does, low_group, names_answer, names_one, none_around, none_woken, post_does, refused_does, reserved_gains, shallow_gains, show_does, stay_does, take_does}
+pub use Rattle.tag_board.proofs.Outcomes.{both_ok, both_on, err_same, err_since, none_since, not_some_since, ok_map, on_map, some_since}
+pub use Rattle.tag_board.proofs.Seats.{changes, held_here, here_held, none_here, ordered, own_here, part_here, room_here, round_here, same_state, seat, sits, Sits, spent_here, stands_here, unmoved}
+pub use Rattle.tag_board.proofs.Verdicts.{answers, batch_verdict, get_verdict, IsVerdict, leave_verdict, list_verdict, reserved_verdict, shallow_verdict, tag_verdict, wait_verdict}
 
 -- what a contract sees of a board
 pub record Seen : Type 0 where

@@ -1,42 +1,20 @@
 -- The state after a resize, and why a resize is refused.
 use Rattle.std.proofs.Common.{◌≡◌, ◌≢◌, ℕ, zero, suc, ◌+◌, ◌<◌, ◌≤◌, true, false, List, [], ◌∷◌, length, map, get_or, replicate, All, is_some, refl, sym, ap, ◌∙◌, arith, ⊎_elim}
-use Rattle.std.proofs.lemmas.Bool.{cases_lt}
-use Rattle.std.proofs.lemmas.List.{length-map, get_or-map, get_or_past}
-use mathlib.Core.Option.{some, some-injective}
-use lib.ListN.{get_elem?}
-use Rattle.atomic_table.proofs.Lists.{at_map}
-use Rattle.step_ledger.specs.Views.{HasAll}
-use Rattle.tag_layout.specs.Layout.{word_bits, words}
-use Rattle.tag_core.specs.declared.record.Record.{Record}
-use Rattle.tag_core.specs.Sizes.{total_of as sum_of, size_of}
+use Rattle.tag_board.proofs.Uses.{cases_lt, length-map, get_or-map, get_or_past, some, some-injective, get_elem?, at_map, HasAll, word_bits, words, Record, sum_of, size_of, entry, entry_or, all_at, Hint, Queue, Hand, Kind, Ordinary, Reserved, Tags, IsHandOf, layout_of, queue_of, total_of, number_of, hands_of, numbers_of, reserved_part, ordinary_part, BalanceInBoth, HasMap, record_in, holds, part_of, state_of_all, AreOrdered, NobodyHolds, Part, idle}
 use Rattle.tag_core.specs.Reopening.{reopened_record}
-use Rattle.tag_core.proofs.Entries.{entry, entry_or, all_at}
 use Rattle.step_ledger.proofs.Seats.{within}
-use Rattle.tag_search.specs.declared.hint.Hint.{Hint}
 use Rattle.tag_search.proofs.SharedFacts.{count_ones-zero}
 use Rattle.wake_book.specs.declared.groups.Waiter.{Waiter}
-use Rattle.tag_queue.specs.declared.queue.Queue.{Queue}
 use Rattle.tag_queue.specs.declared.resizes.ResizeCause.{ResizeCause}
 use Rattle.tag_queue.specs.declared.resizes.ResizeCause.TheVariants.{Missing, DepthTooLarge, InUse, Waiting, Memory}
 use Rattle.tag_queue.specs.Agents as queue
 use Rattle.tag_queue.proofs.Resized.{unchanged-numbers}
-use Rattle.tag_sets.specs.declared.hand.Hand.{Hand}
-use Rattle.tag_sets.specs.declared.kind.Kind.{Kind}
-use Rattle.tag_sets.specs.declared.kind.Kind.TheVariants.{Ordinary, Reserved}
-use Rattle.tag_sets.specs.declared.tags.Tags.{Tags}
-use Rattle.tag_sets.specs.Hands.{IsHandOf, layout_of, queue_of, total_of, number_of}
-use Rattle.tag_sets.specs.Gathering.{hands_of, numbers_of}
 use Rattle.tag_sets.specs.Meeting.{IsUnchanged}
-use Rattle.tag_sets.specs.Opening.{reserved_part, ordinary_part}
 use Rattle.tag_sets.specs.Resizing as sets
-use Rattle.tag_sets.specs.Resizing.{BalanceInBoth, HasMap}
 use Rattle.tag_sets.proofs.Gathering.{ordinary_numbers}
 use Rattle.tag_sets.proofs.Refusing.{facts_of, AreTold}
 use Rattle.tag_sets.proofs.Reuniting.{ordinary_unchanged}
-use Rattle.tag_board.specs.Parts.{record_in, holds, part_of, state_of_all, AreOrdered}
-use Rattle.tag_board.specs.Replays.{NobodyHolds}
 use Rattle.tag_board.specs.Resizes.{AreUnused, RefusesResize, MayResize}
-use Rattle.tag_board.specs.States.{Part, idle}
 use Rattle.tag_board.proofs.Adding.{both_sets, add_up, posted_up}
 use Rattle.tag_board.proofs.Handfuls.{part_ext}
 use Rattle.tag_board.proofs.Holdings.{holds_same}

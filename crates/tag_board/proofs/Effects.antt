@@ -1,46 +1,21 @@
 -- What each call does to the hand that makes it.
 use Rattle.std.proofs.Common.{◌≡◌, ℕ, zero, suc, [], ◌∷◌, get_or, ◌+◌, ◌-◌, ◌<◌, nat_eq, nat_le, true, false, List, length, Bool, Option, Some, None, is_some, Result, Ok, Err, IfOk, ◌↔◌, inl, inr, ⊎_elim, refl, sym, ap, ◌∙◌, subst, arith, eq-eqb, eqb-true}
-use Rattle.std.proofs.lemmas.Bool.{and_parts, and_from, or_left, or_right, le-leb, leb-true, cases_Bool}
-use Rattle.std.proofs.lemmas.List.{length-map}
+use Rattle.tag_board.proofs.Uses.{and_parts, and_from, or_left, or_right, le-leb, leb-true, cases_Bool, length-map, bit_at, list_any, Layout, or_false, count_of, count_of_run, Visit, TagFault, BadCount, Hand, Kind, Ordinary, Reserved, Shown, Tags, hands_of, IsHandOf, number_of, split_of, agent_of, reserved_of, layout_of, standing_of, hint_of, wait_index_of, HoldsMore, HoldsSame, kind_of, number_in_set, other_kind, reserved_below, Left, AloneSet, AloneSets, AloneGets, AloneBatch, AloneClears, AloneClearsList, AlonePosts, AloneTakes, AloneShows, AloneDumps, AloneListsBusy, first_in, plain, shallow, alone_set_of, alone_sets_in, holds, part_of, state_of_all, waiter_of, IsOf, joined, won, parted, cleared, standing, is_answer, is_in_run, is_in_list, Part, Waiter, GrantsFor, Enters, Leaves}
 use Rattle.std.proofs.lemmas.Map.Views.{Contains-from_any}
 use Rattle.std.specs.Prelude.{Contains, IsTrue}
-use Rattle.std.specs.Int.{bit_at}
-use Rattle.std.specs.List.{list_any}
-use Rattle.tag_layout.specs.Layout.{Layout}
-use Rattle.tag_search.proofs.Pools.{or_false}
-use Rattle.tag_search.specs.Gains.{count_of, count_of_run}
 use Rattle.tag_search.specs.Hints.{reduced}
-use Rattle.tag_search.specs.Search.{Visit}
 use Rattle.tag_search.specs.Visits.{plain_visits, shallow_visits}
 use Rattle.tag_queue.specs.Agents as queue
 use Rattle.tag_queue.specs.Gets as queue_gets
-use Rattle.tag_sets.specs.declared.fault.TagFault.{TagFault}
-use Rattle.tag_sets.specs.declared.fault.TagFault.TheVariants.{BadCount}
-use Rattle.tag_sets.specs.declared.hand.Hand.{Hand}
-use Rattle.tag_sets.specs.declared.kind.Kind.{Kind}
-use Rattle.tag_sets.specs.declared.kind.Kind.TheVariants.{Ordinary, Reserved}
-use Rattle.tag_sets.specs.declared.shown.Shown.{Shown}
-use Rattle.tag_sets.specs.declared.tags.Tags.{Tags}
 use Rattle.tag_sets.specs.Batches as batches
 use Rattle.tag_sets.specs.Busy as busy
 use Rattle.tag_sets.specs.Clears as clears
 use Rattle.tag_sets.specs.Dumps as dumps
-use Rattle.tag_sets.specs.Gathering.{hands_of}
 use Rattle.tag_sets.specs.Gets as gets
-use Rattle.tag_sets.specs.Hands.{IsHandOf, number_of, split_of, agent_of, reserved_of, layout_of, standing_of, hint_of, wait_index_of}
-use Rattle.tag_sets.specs.Holding.{HoldsMore, HoldsSame}
-use Rattle.tag_sets.specs.Sets.{kind_of, number_in_set, other_kind}
 use Rattle.tag_sets.specs.Shows as shows
 use Rattle.tag_sets.specs.Slots as slots
 use Rattle.tag_sets.specs.Waits as waits
-use Rattle.tag_sets.proofs.Numbering.{reserved_below}
-use Rattle.wake_book.specs.declared.waiting.Left.{Left}
 use Rattle.wake_book.specs.Book as book
-use Rattle.tag_board.specs.AloneSets.{AloneSet, AloneSets, AloneGets, AloneBatch, AloneClears, AloneClearsList, AlonePosts, AloneTakes, AloneShows, AloneDumps, AloneListsBusy, first_in, plain, shallow}
-use Rattle.tag_board.specs.Parts.{alone_set_of, alone_sets_in, holds, part_of, state_of_all, waiter_of}
-use Rattle.tag_board.specs.Replays.{IsOf, joined, won, left as parted, cleared, standing, is_answer, is_in_run, is_in_list}
-use Rattle.tag_board.specs.States.{Part}
-use Rattle.tag_board.specs.Wakeups.{Waiter, GrantsFor, Enters, Leaves}
 use Rattle.tag_board.proofs.AloneBoard.{batch_alone, chooses, split_is}
 use Rattle.tag_board.proofs.AloneSteps.{alone_same}
 use Rattle.tag_board.proofs.AloneChanges.{both_same, clear_alone, list_alone, post_alone, take_alone, miss_alone}

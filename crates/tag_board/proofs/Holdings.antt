@@ -1,12 +1,6 @@
 -- Whether a hand holds a tag, as a test.
 use Rattle.std.proofs.Common.{◌≡◌, ℕ, Bool, true, false, not, ◌&&◌, ◌||◌, nat_eq, nat_lt, ⊎_elim, eq-eqb, eqb-true}
-use Rattle.std.proofs.lemmas.Bool.{ltb-true, lt-ltb, and_parts, and_from, or_cases, or_left, or_right, both_ways, not-true, not_from_false, false_from_ne_true}
-use Rattle.tag_core.specs.Records.{tag_bit}
-use Rattle.tag_sets.specs.declared.hand.Hand.{Hand}
-use Rattle.tag_sets.specs.Hands.{Holds, split_of}
-use Rattle.tag_sets.specs.Holding.{HoldsMore, HoldsLess, HoldsSame}
-use Rattle.tag_sets.specs.Sets.{kind_of, number_in_set}
-use Rattle.tag_board.specs.Parts.{holds, record_in}
+use Rattle.tag_board.proofs.Uses.{ltb-true, lt-ltb, and_parts, and_from, or_cases, or_left, or_right, both_ways, not-true, not_from_false, false_from_ne_true, tag_bit, Hand, Holds, split_of, HoldsMore, HoldsLess, HoldsSame, kind_of, number_in_set, holds, record_in}
 use Rattle.tag_board.proofs.Truths.{same_test}
 
 -- the test is true of exactly the named tags

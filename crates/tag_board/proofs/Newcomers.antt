@@ -1,31 +1,10 @@
 -- The state of new tags, on which nothing has been done.
 use Rattle.std.proofs.Common.{◌≡◌, ℕ, ◌+◌, ◌-◌, ◌<◌, false, List, [], ◌∷◌, length, map, get_or, is_some, None, refl, sym, ap, ◌∙◌, subst, arith}
-use Rattle.std.proofs.lemmas.List.{get_or-map}
-use mathlib.Core.Option.{some}
-use lib.ListN.{get_elem?}
-use Rattle.atomic_table.proofs.Lists.{at_map}
-use Rattle.tag_layout.specs.Layout.{HasShift}
-use Rattle.tag_core.specs.declared.record.Record.{Record}
-use Rattle.tag_core.specs.Callers.{record_of}
-use Rattle.tag_core.proofs.Entries.{entry, entry_or}
-use Rattle.tag_search.specs.declared.hint.Hint.{Hint}
-use Rattle.tag_queue.specs.declared.agent.Agent.{Agent}
-use Rattle.tag_queue.specs.declared.queue.Options.{Options}
-use Rattle.tag_queue.specs.declared.queue.Queue.{Queue}
+use Rattle.tag_board.proofs.Uses.{get_or-map, some, get_elem?, at_map, HasShift, Record, record_of, entry, entry_or, Hint, Agent, Options, Queue, Hand, Kind, Ordinary, Reserved, Tags, layout_of, reserved_of, total_of, standing_of, hint_of, number_of, reserved_part, ordinary_part, AreOpen, all_part, record_in, part_of, state_of_all, AreOrdered, waiter_of, waiters_of_all, Starts, newcomer, idle}
 use Rattle.tag_queue.specs.Agents as queue
 use Rattle.tag_queue.specs.Opening as queue_opening
 use Rattle.wake_book.specs.Groups.{IsNew}
-use Rattle.tag_sets.specs.declared.hand.Hand.{Hand}
-use Rattle.tag_sets.specs.declared.kind.Kind.{Kind}
-use Rattle.tag_sets.specs.declared.kind.Kind.TheVariants.{Ordinary, Reserved}
-use Rattle.tag_sets.specs.declared.tags.Tags.{Tags}
-use Rattle.tag_sets.specs.Hands.{layout_of, reserved_of, total_of, standing_of, hint_of, number_of}
-use Rattle.tag_sets.specs.Opening.{reserved_part, ordinary_part, IsOpen as AreOpen}
-use Rattle.tag_sets.proofs.Opening.{all_part}
 use Rattle.tag_board.specs.Opening.{IsOpen}
-use Rattle.tag_board.specs.Parts.{record_in, part_of, state_of_all, AreOrdered, waiter_of, waiters_of_all}
-use Rattle.tag_board.specs.Wakeups.{Starts, newcomer}
-use Rattle.tag_board.specs.States.{idle}
 use Rattle.tag_board.proofs.Handfuls.{part_ext}
 use Rattle.tag_board.proofs.Holdings.{not_holds}
 

@@ -1,14 +1,7 @@
 -- Why a take is refused.
 use Rattle.std.proofs.Common.{◌≡◌, ℕ, ◌<◌, ◌≤◌, ◌⊎◌, inl, inr, ⊎_elim, Result, Ok, Err, OnOk, IfErr, IsErr, sym, ap, subst}
-use Rattle.std.proofs.lemmas.Bool.{cases_lt}
-use Rattle.tag_sets.specs.declared.fault.TagFault.{TagFault}
-use Rattle.tag_sets.specs.declared.fault.TagFault.TheVariants.{NoSuchTag, NotPosted}
-use Rattle.tag_sets.specs.declared.hand.Hand.{Hand}
-use Rattle.tag_sets.specs.declared.tags.Tags.{Tags}
-use Rattle.tag_sets.specs.Hands.{number_of, IsHandOf}
+use Rattle.tag_board.proofs.Uses.{cases_lt, TagFault, NoSuchTag, NotPosted, Hand, Tags, number_of, IsHandOf, Takes, State}
 use Rattle.tag_sets.specs.Slots as slots
-use Rattle.tag_board.specs.Replays.{Takes}
-use Rattle.tag_board.specs.States.{State}
 use Rattle.tag_board.proofs.Effects.{take_does, refused_does}
 
 module _ (tags : Tags ℕ) (old new : Hand ℕ) (tag : ℕ) where

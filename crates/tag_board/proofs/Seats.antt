@@ -1,19 +1,6 @@
 -- The state of a board after a call on one hand.
 use Rattle.std.proofs.Common.{◌≡◌, ◌≢◌, ℕ, ◌+◌, ◌<◌, ◌≤◌, ⊎_elim, List, length, map, get_or, set, refl, sym, ap, ◌∙◌, subst, arith, true, false, is_some, All, get_or-set_other, get_or-set_same, length-set}
-use mathlib.Core.Logic.{dite}
-use native.Mathlib.Decide.{ℕ_discrete}
-use Rattle.std.proofs.lemmas.Bool.{both_ways, cases_lt}
-use Rattle.std.proofs.lemmas.List.{map-set, set-get_or, get_or-map}
-use Rattle.tag_sets.specs.declared.hand.Hand.{Hand}
-use Rattle.tag_sets.specs.declared.kind.Kind.{Kind}
-use Rattle.tag_sets.specs.declared.kind.Kind.TheVariants.{Ordinary, Reserved}
-use Rattle.tag_sets.specs.declared.tags.Tags.{Tags}
-use Rattle.tag_core.specs.declared.shape.Shape.{Shape}
-use Rattle.tag_sets.specs.Hands.{number_of, Holds, standing_of, hint_of, HasRoom, IsHandOf}
-use Rattle.tag_board.specs.Parts.{part_of, record_in, terms_of, state_of_all, AreOrdered}
-use Rattle.tag_board.specs.Refusals.{IsSpent}
-use Rattle.tag_board.specs.Replays.{Changes}
-use Rattle.tag_board.specs.States.{Part, State, idle}
+use Rattle.tag_board.proofs.Uses.{dite, ℕ_discrete, both_ways, cases_lt, map-set, set-get_or, get_or-map, Hand, Kind, Ordinary, Reserved, Tags, Shape, number_of, Holds, standing_of, hint_of, HasRoom, IsHandOf, part_of, record_in, terms_of, state_of_all, AreOrdered, IsSpent, Changes, Part, State, idle}
 use Rattle.tag_board.proofs.Holdings.{holds_true, true_holds}
 
 -- the caller's hand, among all hands

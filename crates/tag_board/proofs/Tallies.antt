@@ -1,22 +1,11 @@
 -- What a call adds to the counts of its agent: tags won and tags given back.
 use Rattle.std.proofs.Common.{◌≡◌, ℕ, ◌+◌, suc, List, [], ◌∷◌, length, Option, refl, sym, ap, ◌∙◌, subst, arith}
-use Rattle.tag_layout.specs.Layout.{Layout}
-use Rattle.tag_core.specs.declared.record.Record.{Record}
-use Rattle.tag_core.specs.declared.step.Step.TheVariants.{Word}
-use Rattle.tag_core.specs.declared.word_step.WordStep.TheVariants.{Look, LookAside}
-use Rattle.tag_core.specs.Callers.{record_of}
-use Rattle.tag_core.specs.Records.{record_after}
-use Rattle.tag_search.specs.Gains.{count_of, count_of_run}
-use Rattle.tag_search.specs.Search.{Visit}
+use Rattle.tag_board.proofs.Uses.{Layout, Record, Word, Look, LookAside, record_of, record_after, count_of, count_of_run, Visit, Agent, caller_of, SameCounts, SameElse, Run, GivesBack, record_after_runs, same_number, MakesLooks, looks_from}
 use Rattle.tag_search.specs.Shared.{record_after_all}
-use Rattle.tag_queue.specs.declared.agent.Agent.{Agent}
-use Rattle.tag_queue.specs.Agents.{caller_of, standing_of, hint_of, SameCounts, SameElse}
-use Rattle.tag_queue.specs.Batches.{Run, GivesBack, record_after_runs}
+use Rattle.tag_queue.specs.Agents.{standing_of, hint_of}
 use Rattle.tag_queue.specs.Clears.{Puts}
 use Rattle.tag_queue.specs.Gets.{Searches, GetsBatch}
 use Rattle.tag_queue.specs.Slots.{Posts, Takes, Misses}
-use Rattle.tag_queue.proofs.Giving.{same_number}
-use Rattle.tag_sets.specs.Looks.{MakesLooks, looks_from}
 
 -- the record counts this many more tags won and given back than the other, for the same caller
 pub record Counts {R : Type 0} (won back : ℕ) (old new : Record R) : Type 0 where

@@ -1,13 +1,7 @@
 -- Each refusal has its cause, and there is no other refusal.
 use Rattle.std.proofs.Common.{◌≡◌, ◌≢◌, ◌⊎◌, ℕ, ◌+◌, ◌<◌, ◌≤◌, ◌↔◌, true, false, inl, inr, ⊎_elim, Result, Ok, Err, IfOk, OnErr, IsOk, refl, subst, arith, List}
-use Rattle.std.proofs.lemmas.Bool.{cases_lt, cases_Bool, cases_eq, both_ways}
-use Rattle.tag_sets.specs.declared.fault.TagFault.{TagFault}
-use Rattle.tag_sets.specs.declared.fault.TagFault.TheVariants.{NoSuchTag, NoReserved, NotHeld, NotPosted, BadCount, TooShallow, Spent, Waiting, NotWaiting}
-use Rattle.tag_queue.specs.Batches.{CountsTags}
-use Rattle.tag_sets.specs.declared.kind.Kind.TheVariants.{Ordinary, Reserved}
-use Rattle.tag_board.specs.States.{State}
-use Rattle.tag_board.specs.Refusals.{IsSpent, RefusesGet, RefusesShallow, RefusesBatch, RefusesTag, RefusesList, RefusesWait, RefusesLeave, Miscounts, AreOrdinary, AreHeldOnce}
-use Rattle.tag_board.specs.Replays.{Answers}
+use Rattle.tag_board.proofs.Uses.{cases_lt, cases_Bool, cases_eq, both_ways, TagFault, NoSuchTag, NoReserved, NotHeld, NotPosted, BadCount, TooShallow, Spent, NotWaiting, CountsTags, Ordinary, Reserved, State, IsSpent, RefusesGet, RefusesShallow, RefusesBatch, RefusesTag, RefusesList, RefusesWait, RefusesLeave, Miscounts, AreOrdinary, AreHeldOnce, Answers}
+use Rattle.tag_sets.specs.declared.fault.TagFault.TheVariants.{Waiting}
 
 -- the result is a fault whose cause holds, or a value and no cause holds
 abbrev pub IsVerdict : {A : Type 0} → (TagFault → Type 0) → Result A TagFault → Type 0

@@ -1,24 +1,11 @@
 -- What a call on one hand is for its caller as it waits and wakes others.
 use Rattle.std.proofs.Common.{◌≡◌, ℕ, ◌+◌, ⊎_elim, inl, List, set, sym, ap, subst, arith}
-use Rattle.step_ledger.specs.History.{total}
-use Rattle.wake_book.specs.declared.steps.GroupStep.{GroupStep}
-use Rattle.wake_book.specs.declared.charge.Charge.{Charge}
-use Rattle.wake_book.specs.declared.charge.Charge.TheVariants.{Full, Below, Won, Busy}
+use Rattle.tag_board.proofs.Uses.{total, GroupStep, Charge, Full, Below, Won, Busy, moved_by, Queue, Hand, Kind, Ordinary, Reserved, Tags, agent_of, book_steps, group_steps, other_kind, waiter_of, waiters_of_all, Waiter, newcomer, Moves, GrantsFor}
 use Rattle.wake_book.specs.Book as book
 use Rattle.wake_book.specs.Groups as groups
-use Rattle.wake_book.specs.Waits.{moved_by}
-use Rattle.tag_queue.specs.declared.queue.Queue.{Queue}
 use Rattle.tag_queue.specs.Agents as queue
 use Rattle.tag_queue.specs.Clears as queue_clears
-use Rattle.tag_sets.specs.declared.hand.Hand.{Hand}
-use Rattle.tag_sets.specs.declared.kind.Kind.{Kind}
-use Rattle.tag_sets.specs.declared.kind.Kind.TheVariants.{Ordinary, Reserved}
-use Rattle.tag_sets.specs.declared.tags.Tags.{Tags}
 use Rattle.tag_sets.specs.Clears as clears
-use Rattle.tag_sets.specs.Hands.{agent_of, book_steps, group_steps}
-use Rattle.tag_sets.specs.Sets.{other_kind}
-use Rattle.tag_board.specs.Parts.{waiter_of, waiters_of_all}
-use Rattle.tag_board.specs.Wakeups.{Waiter, newcomer, Moves, GrantsFor}
 use Rattle.tag_board.proofs.Charging.{charge_adds, walk_grants}
 use Rattle.tag_board.proofs.Seats.{Sits, seat, seen_here, seen_there}
 

@@ -1,13 +1,9 @@
 -- The new list is filled whole, so its bits are those of the call; the loads change no part.
 use Rattle.std.proofs.Common.{◌≡◌, ℕ, List, length, ap, sym, subst, arith, set}
-use Rattle.std.specs.Int.{div_ceil}
-use Rattle.tag_board.specs.AloneSets.{AloneListsBusy}
-use Rattle.tag_board.specs.Boards.{state_of, alone_sets_of, IsAlone}
-use Rattle.tag_board.specs.Looks.{ListsBusy}
-use Rattle.tag_board.proofs.Commands.{Seen, all_rest, effect_on, seated, seen}
-use Rattle.tag_board.proofs.Effects.{busy_does}
+use Rattle.tag_board.proofs.Uses.{div_ceil, AloneListsBusy, state_of, alone_sets_of, ListsBusy}
+use Rattle.tag_board.specs.Boards.{IsAlone}
 use Rattle.tag_board.proofs.Lookings.{busy_there, whole_list}
-use Rattle.tag_board.proofs.Seats.{held_here, own_here, same_state, sits}
+use Rattle.tag_board.proofs.Commands.{Seen, all_rest, effect_on, seated, seen, busy_does, held_here, own_here, same_state, sits}
 use Rattle.tag_board.proofs.board.Board.busy.Goals as goal
 
 pub invariant_of-self : goal.invariant_of-self

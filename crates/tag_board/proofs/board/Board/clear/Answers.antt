@@ -1,17 +1,7 @@
 -- The hand loses the tag and counts it.
 use Rattle.std.proofs.Common.{◌≡◌, ℕ, nat_eq, ◌<◌}
-use Rattle.tag_sets.specs.Hands.{reserved_of}
-use Rattle.tag_board.specs.AloneSets.{AloneClears}
-use Rattle.tag_board.specs.Boards.{state_of}
-use Rattle.tag_board.specs.Refusals.{RefusesTag}
-use Rattle.tag_board.specs.Replays.{Changes, cleared}
-use Rattle.tag_board.specs.States.{State}
-use Rattle.tag_board.specs.Wakeups.{GrantsFor}
-use Rattle.tag_board.proofs.Commands.{kept, replies, seated}
-use Rattle.tag_board.proofs.Effects.{clear_does, none_woken}
-use Rattle.tag_board.proofs.Outcomes.{both_ok}
-use Rattle.tag_board.proofs.Verdicts.{tag_verdict}
-use Rattle.tag_board.proofs.Seats.{held_here, none_here, own_here, sits}
+use Rattle.tag_board.proofs.Uses.{reserved_of, AloneClears, state_of, RefusesTag, Changes, cleared, State, GrantsFor}
+use Rattle.tag_board.proofs.Commands.{kept, replies, seated, clear_does, none_woken, both_ok, tag_verdict, held_here, none_here, own_here, sits}
 use Rattle.tag_board.proofs.board.Board.clear.Goals as goal
 
 pub invariant_of-self : goal.invariant_of-self

@@ -1,15 +1,7 @@
 -- The hand loses the listed tags and counts them.
 use Rattle.std.proofs.Common.{ℕ, length}
-use Rattle.tag_board.specs.AloneSets.{AloneClearsList}
-use Rattle.tag_board.specs.Boards.{state_of}
-use Rattle.tag_board.specs.Refusals.{RefusesList}
-use Rattle.tag_board.specs.Replays.{Changes, cleared, is_in_list}
-use Rattle.tag_board.specs.Wakeups.{GrantsFor}
-use Rattle.tag_board.proofs.Commands.{kept, replies, seated}
-use Rattle.tag_board.proofs.Effects.{list_does}
-use Rattle.tag_board.proofs.Outcomes.{both_ok, both_on}
-use Rattle.tag_board.proofs.Verdicts.{list_verdict}
-use Rattle.tag_board.proofs.Seats.{held_here, here_held, own_here, sits}
+use Rattle.tag_board.proofs.Uses.{AloneClearsList, state_of, RefusesList, Changes, cleared, is_in_list, GrantsFor}
+use Rattle.tag_board.proofs.Commands.{kept, replies, seated, list_does, both_ok, both_on, list_verdict, held_here, here_held, own_here, sits}
 use Rattle.tag_board.proofs.board.Board.clear_batch.Goals as goal
 
 pub invariant_of-self : goal.invariant_of-self

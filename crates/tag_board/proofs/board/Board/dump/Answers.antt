@@ -1,13 +1,9 @@
 -- The new list is filled whole, so its bytes are those of the dump; the loads change no part.
 use Rattle.std.proofs.Common.{ℕ, List, ◌++◌, drop, ap, sym, ◌∙◌, subst, arith, set}
-use Rattle.std.specs.Int.{div_ceil}
-use Rattle.tag_board.specs.AloneSets.{AloneDumps}
-use Rattle.tag_board.specs.Boards.{state_of, alone_sets_of, IsAlone}
-use Rattle.tag_board.specs.Looks.{Dumps}
-use Rattle.tag_board.proofs.Commands.{Seen, all_rest, effect_on, seated, seen}
-use Rattle.tag_board.proofs.Effects.{dump_does}
+use Rattle.tag_board.proofs.Uses.{div_ceil, AloneDumps, state_of, alone_sets_of, Dumps}
+use Rattle.tag_board.specs.Boards.{IsAlone}
 use Rattle.tag_board.proofs.Lookings.{dump_there, depth_is, filled}
-use Rattle.tag_board.proofs.Seats.{own_here, same_state, sits}
+use Rattle.tag_board.proofs.Commands.{Seen, all_rest, effect_on, seated, seen, dump_does, own_here, same_state, sits}
 use Rattle.tag_board.proofs.board.Board.dump.Goals as goal
 
 pub invariant_of-self : goal.invariant_of-self

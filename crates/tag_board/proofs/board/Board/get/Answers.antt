@@ -1,16 +1,7 @@
 -- The hand did not hold the tag before, and no other caller holds it now, so no caller held it.
 use Rattle.std.proofs.Common.{ℕ, Option, Ok, refl, ap}
-use Rattle.tag_search.specs.Gains.{count_of}
-use Rattle.tag_sets.specs.declared.kind.Kind.TheVariants.{Ordinary}
-use Rattle.tag_board.specs.AloneSets.{AloneGets, plain}
-use Rattle.tag_board.specs.Boards.{state_of}
-use Rattle.tag_board.specs.Refusals.{RefusesGet}
-use Rattle.tag_board.specs.Replays.{Wins, is_answer}
-use Rattle.tag_board.proofs.Commands.{got, holds_gained, kept, none_moved, seated, seen_of}
-use Rattle.tag_board.proofs.Effects.{get_gains}
-use Rattle.tag_board.proofs.Outcomes.{ok_map, err_same}
-use Rattle.tag_board.proofs.Verdicts.{get_verdict}
-use Rattle.tag_board.proofs.Seats.{own_here, sits, spent_here}
+use Rattle.tag_board.proofs.Uses.{count_of, Ordinary, AloneGets, plain, state_of, RefusesGet, Wins, is_answer}
+use Rattle.tag_board.proofs.Commands.{got, holds_gained, kept, none_moved, seated, seen_of, get_gains, ok_map, err_same, get_verdict, own_here, sits, spent_here}
 use Rattle.tag_board.proofs.board.Board.get.Goals as goal
 
 pub invariant_of-self : goal.invariant_of-self

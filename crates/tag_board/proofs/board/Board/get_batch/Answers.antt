@@ -1,16 +1,7 @@
 -- The hand did not hold the tags before, and no other caller holds one now, so no caller held one.
 use Rattle.std.proofs.Common.{◌≡◌, ℕ, true, Option, None, Ok, refl, sym, ap, ◌∙◌}
-use Rattle.tag_search.specs.Gains.{count_of_run}
-use Rattle.tag_sets.specs.declared.kind.Kind.TheVariants.{Ordinary}
-use Rattle.tag_board.specs.AloneSets.{AloneBatch}
-use Rattle.tag_board.specs.Boards.{state_of}
-use Rattle.tag_board.specs.Refusals.{RefusesBatch}
-use Rattle.tag_board.specs.Replays.{Wins, is_in_run}
-use Rattle.tag_board.specs.States.{State}
-use Rattle.tag_board.proofs.Commands.{got, holds_gained, kept, none_moved, seated, seen_of}
-use Rattle.tag_board.proofs.Effects.{batch_gains, batch_number, none_around}
-use Rattle.tag_board.proofs.Verdicts.{batch_verdict}
-use Rattle.tag_board.proofs.Seats.{own_here, room_here, round_here, sits, spent_here}
+use Rattle.tag_board.proofs.Uses.{count_of_run, Ordinary, AloneBatch, state_of, RefusesBatch, Wins, is_in_run, State}
+use Rattle.tag_board.proofs.Commands.{got, holds_gained, kept, none_moved, seated, seen_of, batch_gains, batch_number, none_around, batch_verdict, own_here, room_here, round_here, sits, spent_here}
 use Rattle.tag_board.proofs.board.Board.get_batch.Goals as goal
 
 pub invariant_of-self : goal.invariant_of-self

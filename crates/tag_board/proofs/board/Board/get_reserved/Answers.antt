@@ -1,16 +1,7 @@
 -- The hand did not hold the tag before, and no other caller holds it now, so no caller held it.
 use Rattle.std.proofs.Common.{ℕ, Option, Ok, ap}
-use Rattle.tag_search.specs.Gains.{count_of}
-use Rattle.tag_sets.specs.declared.kind.Kind.TheVariants.{Reserved}
-use Rattle.tag_board.specs.AloneSets.{AloneGets, plain}
-use Rattle.tag_board.specs.Boards.{state_of}
-use Rattle.tag_board.specs.Refusals.{RefusesGet}
-use Rattle.tag_board.specs.Replays.{Wins, is_answer}
-use Rattle.tag_board.proofs.Commands.{got, holds_gained, kept, none_moved, seated, seen_of}
-use Rattle.tag_board.proofs.Effects.{reserved_gains}
-use Rattle.tag_board.proofs.Outcomes.{ok_map}
-use Rattle.tag_board.proofs.Verdicts.{reserved_verdict}
-use Rattle.tag_board.proofs.Seats.{own_here, room_here, sits, spent_here}
+use Rattle.tag_board.proofs.Uses.{count_of, Reserved, AloneGets, plain, state_of, RefusesGet, Wins, is_answer}
+use Rattle.tag_board.proofs.Commands.{got, holds_gained, kept, none_moved, seated, seen_of, reserved_gains, ok_map, reserved_verdict, own_here, room_here, sits, spent_here}
 use Rattle.tag_board.proofs.board.Board.get_reserved.Goals as goal
 
 pub invariant_of-self : goal.invariant_of-self

@@ -1,16 +1,7 @@
 -- The hand did not hold the tag before, and no other caller holds it now, so no caller held it.
 use Rattle.std.proofs.Common.{ℕ, Option, Ok, ap}
-use Rattle.tag_search.specs.Gains.{count_of}
-use Rattle.tag_sets.specs.declared.kind.Kind.TheVariants.{Ordinary}
-use Rattle.tag_board.specs.AloneSets.{AloneGets, shallow}
-use Rattle.tag_board.specs.Boards.{state_of}
-use Rattle.tag_board.specs.Refusals.{RefusesShallow}
-use Rattle.tag_board.specs.Replays.{Wins, is_answer}
-use Rattle.tag_board.proofs.Commands.{got, holds_gained, kept, none_moved, seated, seen_of}
-use Rattle.tag_board.proofs.Effects.{shallow_gains}
-use Rattle.tag_board.proofs.Outcomes.{ok_map}
-use Rattle.tag_board.proofs.Verdicts.{shallow_verdict}
-use Rattle.tag_board.proofs.Seats.{own_here, room_here, sits, spent_here}
+use Rattle.tag_board.proofs.Uses.{count_of, Ordinary, AloneGets, shallow, state_of, RefusesShallow, Wins, is_answer}
+use Rattle.tag_board.proofs.Commands.{got, holds_gained, kept, none_moved, seated, seen_of, shallow_gains, ok_map, shallow_verdict, own_here, room_here, sits, spent_here}
 use Rattle.tag_board.proofs.board.Board.get_shallow.Goals as goal
 
 pub invariant_of-self : goal.invariant_of-self

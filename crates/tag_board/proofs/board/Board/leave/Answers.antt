@@ -1,16 +1,7 @@
 -- The hand is then in no group.
 use Rattle.std.proofs.Common.{ℕ, ◌∙◌, false}
-use Rattle.tag_sets.specs.Hands.{standing_of}
-use Rattle.wake_book.specs.declared.waiting.Left.{Left}
-use Rattle.tag_board.specs.Boards.{state_of}
-use Rattle.tag_board.specs.Refusals.{RefusesLeave}
-use Rattle.tag_board.specs.Replays.{Changes, standing}
-use Rattle.tag_board.specs.Wakeups.{Leaves}
-use Rattle.tag_board.proofs.Commands.{kept, none_done, replies, seated}
-use Rattle.tag_board.proofs.Effects.{AsBefore, leave_does}
-use Rattle.tag_board.proofs.Outcomes.{ok_map, err_same, err_since, not_some_since}
-use Rattle.tag_board.proofs.Verdicts.{leave_verdict}
-use Rattle.tag_board.proofs.Seats.{sits, stands_here}
+use Rattle.tag_board.proofs.Uses.{standing_of, Left, state_of, RefusesLeave, Changes, standing, Leaves}
+use Rattle.tag_board.proofs.Commands.{kept, none_done, replies, seated, AsBefore, leave_does, ok_map, err_same, err_since, not_some_since, leave_verdict, sits, stands_here}
 use Rattle.tag_board.proofs.board.Board.leave.Goals as goal
 
 pub invariant_of-self : goal.invariant_of-self

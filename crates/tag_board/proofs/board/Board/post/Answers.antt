@@ -1,14 +1,7 @@
 -- The hand loses the tag and counts nothing.
 use Rattle.std.proofs.Common.{ℕ, nat_eq}
-use Rattle.tag_board.specs.AloneSets.{AlonePosts}
-use Rattle.tag_board.specs.Boards.{state_of}
-use Rattle.tag_board.specs.Refusals.{RefusesTag}
-use Rattle.tag_board.specs.Replays.{Changes, left}
-use Rattle.tag_board.proofs.Commands.{kept, none_moved, replies, seated}
-use Rattle.tag_board.proofs.Effects.{AsBefore, post_does}
-use Rattle.tag_board.proofs.Outcomes.{on_map}
-use Rattle.tag_board.proofs.Verdicts.{tag_verdict}
-use Rattle.tag_board.proofs.Seats.{held_here, none_here, own_here, sits}
+use Rattle.tag_board.proofs.Uses.{AlonePosts, state_of, RefusesTag, Changes, left}
+use Rattle.tag_board.proofs.Commands.{kept, none_moved, replies, seated, AsBefore, post_does, on_map, tag_verdict, held_here, none_here, own_here, sits}
 use Rattle.tag_board.proofs.board.Board.post.Goals as goal
 
 pub invariant_of-self : goal.invariant_of-self

@@ -1,10 +1,8 @@
 -- The sizes are those of the set, and the loads change no part.
 use Rattle.std.proofs.Common.{ap}
-use Rattle.tag_board.specs.Boards.{state_of}
-use Rattle.tag_board.proofs.Commands.{all_rest, effect_on, seated}
-use Rattle.tag_board.proofs.Effects.{show_does}
+use Rattle.tag_board.proofs.Uses.{state_of}
 use Rattle.tag_board.proofs.Lookings.{show_depth, show_words, show_few}
-use Rattle.tag_board.proofs.Seats.{own_here, same_state, sits}
+use Rattle.tag_board.proofs.Commands.{all_rest, effect_on, seated, show_does, own_here, same_state, sits}
 use Rattle.tag_board.proofs.board.Board.show.Goals as goal
 
 pub invariant_of-self : goal.invariant_of-self

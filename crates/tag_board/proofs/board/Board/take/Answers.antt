@@ -1,15 +1,10 @@
 -- The hand did not hold the tag before, and no other caller holds it now, so no caller held it.
 use Rattle.std.proofs.Common.{◌≡◌, ℕ, nat_eq, set, rules, Option, Some, Result, Ok, Err, IfErr, refl, sym, ap, subst}
-use Rattle.tag_sets.specs.declared.fault.TagFault.{TagFault}
+use Rattle.tag_board.proofs.Uses.{TagFault, AloneTakes, state_of, alone_sets_of, Takes, is_answer, joined}
 use Rattle.tag_sets.specs.Gets.{IsAnswer}
-use Rattle.tag_board.specs.AloneSets.{AloneTakes}
-use Rattle.tag_board.specs.Boards.{state_of, alone_sets_of}
-use Rattle.tag_board.specs.Replays.{Takes, is_answer, joined}
-use Rattle.tag_board.proofs.Commands.{EffectOn, Seen, all_rest, effect_on, free_before, holds_gained, seated, seen, seen_of}
-use Rattle.tag_board.proofs.Effects.{AsBefore, names_answer, names_one, refused_does, take_does}
 use Rattle.tag_board.proofs.Postings.{take_number, cause_of_take, err_is, refused_take}
 use Rattle.tag_board.proofs.Ranges.{tag_low}
-use Rattle.tag_board.proofs.Seats.{own_here, same_state, sits}
+use Rattle.tag_board.proofs.Commands.{EffectOn, Seen, all_rest, effect_on, free_before, holds_gained, seated, seen, seen_of, AsBefore, names_answer, names_one, refused_does, take_does, own_here, same_state, sits}
 use Rattle.tag_board.proofs.board.Board.take.Goals as goal
 
 pub invariant_of-self : goal.invariant_of-self

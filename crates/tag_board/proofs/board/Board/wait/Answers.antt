@@ -1,16 +1,7 @@
 -- The hand is then in a group.
 use Rattle.std.proofs.Common.{ℕ, ◌∙◌, ◌<◌, true}
-use Rattle.tag_sets.specs.Hands.{standing_of}
-use Rattle.tag_board.specs.Boards.{state_of}
-use Rattle.tag_board.specs.Refusals.{RefusesWait}
-use Rattle.tag_board.specs.Replays.{Changes, standing}
-use Rattle.tag_board.specs.States.{State}
-use Rattle.tag_board.specs.Wakeups.{Enters}
-use Rattle.tag_board.proofs.Commands.{kept, none_done, replies, seated}
-use Rattle.tag_board.proofs.Effects.{AsBefore, enter_does, low_group}
-use Rattle.tag_board.proofs.Outcomes.{ok_map, err_same, err_since, none_since, some_since}
-use Rattle.tag_board.proofs.Verdicts.{wait_verdict}
-use Rattle.tag_board.proofs.Seats.{sits, stands_here}
+use Rattle.tag_board.proofs.Uses.{standing_of, state_of, RefusesWait, Changes, standing, State, Enters}
+use Rattle.tag_board.proofs.Commands.{kept, none_done, replies, seated, AsBefore, enter_does, low_group, ok_map, err_same, err_since, none_since, some_since, wait_verdict, sits, stands_here}
 use Rattle.tag_board.proofs.board.Board.wait.Goals as goal
 
 pub invariant_of-self : goal.invariant_of-self

@@ -1,10 +1,7 @@
 -- The call adds loads to the lists of its caller, and nothing else.
 use Rattle.std.proofs.Common.{◌∙◌}
-use Rattle.tag_board.specs.Boards.{state_of}
-use Rattle.tag_board.specs.Wakeups.{Finds}
-use Rattle.tag_board.proofs.Commands.{effect_on, seated}
-use Rattle.tag_board.proofs.Effects.{stay_does}
-use Rattle.tag_board.proofs.Seats.{same_state, sits, stands_here}
+use Rattle.tag_board.proofs.Uses.{state_of, Finds}
+use Rattle.tag_board.proofs.Commands.{effect_on, seated, stay_does, same_state, sits, stands_here}
 use Rattle.tag_board.proofs.board.Board.wakes.Goals as goal
 
 pub invariant_of-self : goal.invariant_of-self
