@@ -1,12 +1,12 @@
 -- The hand loses the tag and counts it.
-use Rattle.std.proofs.Common.{◌≡◌, ℕ, nat_eq, ◌<◌}
+use Rattle.std.proofs.Common.{arith, ◌≡◌, ℕ, nat_eq, ◌<◌}
 use Rattle.tag_board.proofs.Uses.{reserved_of, AloneClears, state_of, RefusesTag, Changes, cleared, State, GrantsFor}
 use Rattle.tag_board.proofs.Commands.{kept, replies, seated, clear_does, none_woken, both_ok, tag_verdict, held_here, none_here, own_here, sits}
 use Rattle.tag_board.proofs.board.Board.clear.Goals as goal
 
 pub invariant_of-self : goal.invariant_of-self
 invariant_of-self c =
-    let b = c.args.self.now in let at = sits c.requires c.index_mut.ensures.value in let old = c.index_mut.result.now in
+    let b = c.args.self.now in let at = sits (omega arith) c.index_mut.ensures.value in let old = c.index_mut.result.now in
     let new = c.clear.new.hand in let e = c.clear.ensures in let r = c.clear.result in
     seated b at new e.hand (kept old new r (both_ok r e.clears e.counts
     (λ woken p q. (clear_does b.tags old new (own_here b.tags at b.own) c.args.tag woken p q).number)) e.err)

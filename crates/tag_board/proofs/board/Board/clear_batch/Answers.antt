@@ -1,12 +1,12 @@
 -- The hand loses the listed tags and counts them.
-use Rattle.std.proofs.Common.{ℕ, length}
+use Rattle.std.proofs.Common.{arith, ℕ, length}
 use Rattle.tag_board.proofs.Uses.{AloneClearsList, state_of, RefusesList, Changes, cleared, is_in_list, GrantsFor}
 use Rattle.tag_board.proofs.Commands.{kept, replies, seated, list_does, both_ok, both_on, list_verdict, held_here, here_held, own_here, sits}
 use Rattle.tag_board.proofs.board.Board.clear_batch.Goals as goal
 
 pub invariant_of-self : goal.invariant_of-self
 invariant_of-self c =
-    let b = c.args.self.now in let at = sits c.requires c.index_mut.ensures.value in let old = c.index_mut.result.now in
+    let b = c.args.self.now in let at = sits (omega arith) c.index_mut.ensures.value in let old = c.index_mut.result.now in
     let new = c.clear_batch.new.hand in let e = c.clear_batch.ensures in let r = c.clear_batch.result in
     seated b at new e.hand (kept old new r (both_ok r (both_on _ _ r e.gives e.back) e.counts
     (λ woken p q. (list_does b.tags old new (own_here b.tags at b.own) c.args.tags.now woken p.0 p.1 q).number)) e.err)

@@ -1,12 +1,12 @@
 -- The hand did not hold the tag before, and no other caller holds it now, so no caller held it.
-use Rattle.std.proofs.Common.{ℕ, Option, Ok, refl, ap}
+use Rattle.std.proofs.Common.{arith, ℕ, Option, Ok, refl, ap}
 use Rattle.tag_board.proofs.Uses.{count_of, Ordinary, AloneGets, plain, state_of, RefusesGet, Wins, is_answer}
 use Rattle.tag_board.proofs.Commands.{got, holds_gained, kept, none_moved, seated, seen_of, get_gains, ok_map, err_same, get_verdict, own_here, sits, spent_here}
 use Rattle.tag_board.proofs.board.Board.get.Goals as goal
 
 pub invariant_of-self : goal.invariant_of-self
 invariant_of-self c =
-    let b = c.args.self.now in let at = sits c.requires c.index_mut.ensures.value in let old = c.index_mut.result.now in
+    let b = c.args.self.now in let at = sits (omega arith) c.index_mut.ensures.value in let old = c.index_mut.result.now in
     let new = c.get.new.hand in let e = c.get.ensures in let r = c.get.result in
     seated b at new e.hand (kept old new r (ok_map r e.gets
     (λ answer g. (get_gains b.tags old new (own_here b.tags at b.own) b.hands.items answer g).effect.number))

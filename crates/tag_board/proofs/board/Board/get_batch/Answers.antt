@@ -1,12 +1,12 @@
 -- The hand did not hold the tags before, and no other caller holds one now, so no caller held one.
-use Rattle.std.proofs.Common.{◌≡◌, ℕ, true, Option, None, Ok, refl, sym, ap, ◌∙◌}
+use Rattle.std.proofs.Common.{arith, ◌≡◌, ℕ, true, Option, None, Ok, refl, sym, ap, ◌∙◌}
 use Rattle.tag_board.proofs.Uses.{count_of_run, Ordinary, AloneBatch, state_of, RefusesBatch, Wins, is_in_run, State}
 use Rattle.tag_board.proofs.Commands.{got, holds_gained, kept, none_moved, seated, seen_of, batch_gains, batch_number, none_around, batch_verdict, own_here, room_here, round_here, sits, spent_here}
 use Rattle.tag_board.proofs.board.Board.get_batch.Goals as goal
 
 pub invariant_of-self : goal.invariant_of-self
 invariant_of-self c =
-    let b = c.args.self.now in let at = sits c.requires c.index_mut.ensures.value in let old = c.index_mut.result.now in
+    let b = c.args.self.now in let at = sits (omega arith) c.index_mut.ensures.value in let old = c.index_mut.result.now in
     let new = c.get_batch.new.hand in let e = c.get_batch.ensures in let r = c.get_batch.result in
     seated b at new e.hand (kept old new r
     (batch_number b.tags old new c.args.n (own_here b.tags at b.own) r e.bad_count e.round_robin e.gets) e.err)

@@ -1,12 +1,12 @@
 -- The hand did not hold the tag before, and no other caller holds it now, so no caller held it.
-use Rattle.std.proofs.Common.{ℕ, Option, Ok, ap}
+use Rattle.std.proofs.Common.{arith, ℕ, Option, Ok, ap}
 use Rattle.tag_board.proofs.Uses.{count_of, Reserved, AloneGets, plain, state_of, RefusesGet, Wins, is_answer}
 use Rattle.tag_board.proofs.Commands.{got, holds_gained, kept, none_moved, seated, seen_of, reserved_gains, ok_map, reserved_verdict, own_here, room_here, sits, spent_here}
 use Rattle.tag_board.proofs.board.Board.get_reserved.Goals as goal
 
 pub invariant_of-self : goal.invariant_of-self
 invariant_of-self c =
-    let b = c.args.self.now in let at = sits c.requires c.index_mut.ensures.value in let old = c.index_mut.result.now in
+    let b = c.args.self.now in let at = sits (omega arith) c.index_mut.ensures.value in let old = c.index_mut.result.now in
     let new = c.get_reserved.new.hand in let e = c.get_reserved.ensures in let r = c.get_reserved.result in
     seated b at new e.hand (kept old new r (ok_map r e.gets
     (λ answer g. (reserved_gains b.tags old new (own_here b.tags at b.own) b.hands.items answer g).effect.number))

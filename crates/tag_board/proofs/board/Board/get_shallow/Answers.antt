@@ -1,12 +1,12 @@
 -- The hand did not hold the tag before, and no other caller holds it now, so no caller held it.
-use Rattle.std.proofs.Common.{ℕ, Option, Ok, ap}
+use Rattle.std.proofs.Common.{arith, ℕ, Option, Ok, ap}
 use Rattle.tag_board.proofs.Uses.{count_of, Ordinary, AloneGets, shallow, state_of, RefusesShallow, Wins, is_answer}
 use Rattle.tag_board.proofs.Commands.{got, holds_gained, kept, none_moved, seated, seen_of, shallow_gains, ok_map, shallow_verdict, own_here, room_here, sits, spent_here}
 use Rattle.tag_board.proofs.board.Board.get_shallow.Goals as goal
 
 pub invariant_of-self : goal.invariant_of-self
 invariant_of-self c =
-    let b = c.args.self.now in let at = sits c.requires c.index_mut.ensures.value in let old = c.index_mut.result.now in
+    let b = c.args.self.now in let at = sits (omega arith) c.index_mut.ensures.value in let old = c.index_mut.result.now in
     let new = c.get_shallow.new.hand in let e = c.get_shallow.ensures in let r = c.get_shallow.result in
     seated b at new e.hand (kept old new r (ok_map r e.gets
     (λ answer g. (shallow_gains b.tags old new (own_here b.tags at b.own) b.hands.items c.args.depth answer g).effect.number))

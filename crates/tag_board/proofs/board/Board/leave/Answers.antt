@@ -1,12 +1,12 @@
 -- The hand is then in no group.
-use Rattle.std.proofs.Common.{ℕ, ◌∙◌, false}
+use Rattle.std.proofs.Common.{arith, ℕ, ◌∙◌, false}
 use Rattle.tag_board.proofs.Uses.{standing_of, Left, state_of, RefusesLeave, Changes, standing, Leaves}
 use Rattle.tag_board.proofs.Commands.{kept, none_done, replies, seated, AsBefore, leave_does, ok_map, err_same, err_since, not_some_since, leave_verdict, sits, stands_here}
 use Rattle.tag_board.proofs.board.Board.leave.Goals as goal
 
 pub invariant_of-self : goal.invariant_of-self
 invariant_of-self g c =
-    let b = c.args.self.now in let at = sits c.requires c.index_mut.ensures.value in let old = c.index_mut.result.now in
+    let b = c.args.self.now in let at = sits (omega arith) c.index_mut.ensures.value in let old = c.index_mut.result.now in
     let new = c.finish_wait.new.hand in let e = c.finish_wait.ensures in let r = c.finish_wait.result in
     seated b at new e.hand (kept old new r
     (ok_map r e.leaves (λ left l. (leave_does b.tags old new left l e.out e.next).number)) (err_same _ _ r e.err))

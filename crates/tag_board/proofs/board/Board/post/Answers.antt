@@ -1,12 +1,12 @@
 -- The hand loses the tag and counts nothing.
-use Rattle.std.proofs.Common.{ℕ, nat_eq}
+use Rattle.std.proofs.Common.{arith, ℕ, nat_eq}
 use Rattle.tag_board.proofs.Uses.{AlonePosts, state_of, RefusesTag, Changes, left}
 use Rattle.tag_board.proofs.Commands.{kept, none_moved, replies, seated, AsBefore, post_does, on_map, tag_verdict, held_here, none_here, own_here, sits}
 use Rattle.tag_board.proofs.board.Board.post.Goals as goal
 
 pub invariant_of-self : goal.invariant_of-self
 invariant_of-self c =
-    let b = c.args.self.now in let at = sits c.requires c.index_mut.ensures.value in let old = c.index_mut.result.now in
+    let b = c.args.self.now in let at = sits (omega arith) c.index_mut.ensures.value in let old = c.index_mut.result.now in
     let new = c.post.new.hand in let e = c.post.ensures in let r = c.post.result in
     seated b at new e.hand (kept old new r
     (on_map _ r e.posts (λ p. (post_does b.tags old new (own_here b.tags at b.own) c.args.tag p).number)) e.err)

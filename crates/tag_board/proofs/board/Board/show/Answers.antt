@@ -1,5 +1,5 @@
 -- The sizes are those of the set, and the loads change no part.
-use Rattle.std.proofs.Common.{ap}
+use Rattle.std.proofs.Common.{arith, ap}
 use Rattle.tag_board.proofs.Uses.{state_of}
 use Rattle.tag_board.proofs.Lookings.{show_depth, show_words, show_few}
 use Rattle.tag_board.proofs.Commands.{all_rest, effect_on, seated, show_does, own_here, same_state, sits}
@@ -7,7 +7,7 @@ use Rattle.tag_board.proofs.board.Board.show.Goals as goal
 
 pub invariant_of-self : goal.invariant_of-self
 invariant_of-self c =
-    let b = c.args.self.now in let at = sits c.requires c.index_mut.ensures.value in let old = c.index_mut.result.now in
+    let b = c.args.self.now in let at = sits (omega arith) c.index_mut.ensures.value in let old = c.index_mut.result.now in
     let new = c.show.new.hand in let e = c.show.ensures in
     seated b at new e.hand
     (show_does b.tags old new (own_here b.tags at b.own) c.args.kind c.show.result e.shows).number

@@ -1,5 +1,5 @@
 -- The hand did not hold the tag before, and no other caller holds it now, so no caller held it.
-use Rattle.std.proofs.Common.{◌≡◌, ℕ, nat_eq, set, rules, Option, Some, Result, Ok, Err, IfErr, refl, sym, ap, subst}
+use Rattle.std.proofs.Common.{arith, ◌≡◌, ℕ, nat_eq, set, rules, Option, Some, Result, Ok, Err, IfErr, refl, sym, ap, subst}
 use Rattle.tag_board.proofs.Uses.{TagFault, AloneTakes, state_of, alone_sets_of, Takes, is_answer, joined}
 use Rattle.tag_sets.specs.Gets.{IsAnswer}
 use Rattle.tag_board.proofs.Postings.{take_number, cause_of_take, err_is, refused_take}
@@ -9,7 +9,7 @@ use Rattle.tag_board.proofs.board.Board.take.Goals as goal
 
 pub invariant_of-self : goal.invariant_of-self
 invariant_of-self c =
-    let b = c.args.self.now in let at = sits c.requires c.index_mut.ensures.value in let old = c.index_mut.result.now in
+    let b = c.args.self.now in let at = sits (omega arith) c.index_mut.ensures.value in let old = c.index_mut.result.now in
     let new = c.take.new.hand in let e = c.take.ensures in
     seated b at new e.hand
     (take_number b.tags old new c.args.tag (own_here b.tags at b.own) c.take.result e.takes e.refuses)

@@ -1,12 +1,12 @@
 -- The hand is then in a group.
-use Rattle.std.proofs.Common.{ℕ, ◌∙◌, ◌<◌, true}
+use Rattle.std.proofs.Common.{arith, ℕ, ◌∙◌, ◌<◌, true}
 use Rattle.tag_board.proofs.Uses.{standing_of, state_of, RefusesWait, Changes, standing, State, Enters}
 use Rattle.tag_board.proofs.Commands.{kept, none_done, replies, seated, AsBefore, enter_does, low_group, ok_map, err_same, err_since, none_since, some_since, wait_verdict, sits, stands_here}
 use Rattle.tag_board.proofs.board.Board.wait.Goals as goal
 
 pub invariant_of-self : goal.invariant_of-self
 invariant_of-self c =
-    let b = c.args.self.now in let at = sits c.requires c.index_mut.ensures.value in let old = c.index_mut.result.now in
+    let b = c.args.self.now in let at = sits (omega arith) c.index_mut.ensures.value in let old = c.index_mut.result.now in
     let new = c.prepare_wait.new.hand in let e = c.prepare_wait.ensures in let r = c.prepare_wait.result in
     seated b at new e.hand (kept old new r
     (ok_map r e.enters (λ group e. (enter_does b.tags old new group e).number)) (err_same _ _ r e.err))

@@ -1,12 +1,12 @@
 -- The call adds loads to the lists of its caller, and nothing else.
-use Rattle.std.proofs.Common.{◌∙◌}
+use Rattle.std.proofs.Common.{arith, ◌∙◌}
 use Rattle.tag_board.proofs.Uses.{state_of, Finds}
 use Rattle.tag_board.proofs.Commands.{effect_on, seated, stay_does, same_state, sits, stands_here}
 use Rattle.tag_board.proofs.board.Board.wakes.Goals as goal
 
 pub invariant_of-self : goal.invariant_of-self
 invariant_of-self c =
-    let b = c.args.self.now in let at = sits c.requires c.index_mut.ensures.value in let old = c.index_mut.result.now in
+    let b = c.args.self.now in let at = sits (omega arith) c.index_mut.ensures.value in let old = c.index_mut.result.now in
     let new = c.wakes.new.hand in let e = c.wakes.ensures in
     seated b at new e.hand (stay_does b.tags old new (λ x y. Unit {0}) e.same tt).number
 
