@@ -1,6 +1,6 @@
 -- How the steps of the only hand of a board determine both sets.
 use Rattle.std.proofs.Common.{◌≡◌, ℕ, true, false, List, length, map, get_or, set, Option, None, sym, ap, ◌∙◌, subst, arith}
-use Rattle.tag_board.proofs.Uses.{Layout, Shape, IsAlone, Visit, Hand, Kind, Ordinary, Reserved, Tags, hands_of, agent_of, hint_of, layout_of, reserved_of, IsHandOf, AloneSet, AloneSets, split_in, Chooses, ChoosesRun, AloneBatch, untouched, alone_set_of, alone_sets_in, alone_sets_of_all}
+use Rattle.tag_board.proofs.Uses.{Layout, Shape, IsAlone, Visit, Hand, Kind, Ordinary, Reserved, Tags, hands_of, agent_of, hint_of, layout_of, reserved_of, IsHandOf, AloneSet, AloneSets, split_in, Chooses, ChoosesRun, AloneBatch, untouched, alone_set_of, alone_sets_in, alone_sets_of_all, get_or-map}
 use Rattle.tag_search.specs.Choice.{IsChoice}
 use Rattle.tag_queue.specs.Agents as queue
 use Rattle.tag_queue.specs.Gets as queue_gets
@@ -10,6 +10,11 @@ use Rattle.tag_board.proofs.Seats.{Sits, seat, seen_here}
 -- what a board without hands shows
 abbrev no_sets : AloneSets
 no_sets kind = untouched (record { depth = 0; shift = 0 }) false
+
+-- the sets of a list of one hand are those of the hand
+pub only_is : {R : Type 0} (hands : List (Hand R)) (d : Hand R) → length hands ≡ 1
+    → alone_sets_of_all hands ≡ alone_sets_in (get_or hands 0 d)
+only_is hands d one = get_or-map alone_sets_in hands 0 d no_sets (omega arith)
 
 -- the sets of the board are those of its only hand, before and after a call
 module _ {R : Type 0} {hands : List (Hand R)} {i : ℕ} {old : Hand R} (at : Sits hands i old) (new : Hand R)

@@ -1,6 +1,7 @@
 -- What the looks of a set's only agent find in it.
 use Rattle.std.proofs.Common.{◌≡◌, ℕ, zero, suc, ◌+◌, ◌<◌, ◌≤◌, Bool, true, false, not, ◌&&◌, ◌||◌, cond, nat_eq, nat_lt, List, [], ◌∷◌, length, get_or, refl, sym, ap, ◌∙◌, subst, arith}
 use Rattle.tag_board.proofs.Uses.{ltb-true, lt-ltb, bit_at-lt, bit_at, Layout, words, word_of, place_of, word_of-below, count_below, Record, Shape, Step, record_of, IsAlone, is_posted, cells_left, words_left, own_after, pool_of, is_busy, own_found, state_after, place_small, Agent, caller_of, is_busy_in, is_aside_in, alone_set_of}
+use Rattle.tag_board.proofs.AloneSteps.{set_ext}
 use Rattle.tag_core.specs.Steps.{Words, Quiet, words_after_all}
 use Rattle.tag_search.specs.SharedLaws.{shape_after}
 use Rattle.tag_search.proofs.AloneFacts.{EachFound, own_of_record, found_quiet, left_after}
@@ -62,14 +63,9 @@ module _ {R : Type 0} (old new : Agent R) (one : IsAlone (caller_of old)) (found
       let older : List (Step R) = (record_of (caller_of old)).steps in
       let words = ap (λ (s : List (Step R)). words_left s) made ∙ left_after (looks.looks_from 0 found) older
       ∙ looks_leave found 0 (words_left older) in
-      let posted : (tag : ℕ) → is_posted (caller_of new) tag ≡ is_posted (caller_of old) tag = λ tag.
-      ap (λ (s : List (Step R)). nat_eq ((cells_left s).state tag) 1) made
-      ∙ ap (λ (g : ℕ → ℕ). nat_eq (g tag) 1) (state_after (looks.looks_from 0 found) older) in λ j. record {
-        layout = (shape j).layout;
-        pool = pool_of (words j);
-        posted = λ tag. posted tag j;
-        hint = f.same_else.0 j;
-      }
+      set_ext (alone_set_of new) (alone_set_of old) (ap (λ (s : Shape). s.layout) shape) (ap pool_of words)
+      (λ tag. ap (λ (s : List (Step R)). nat_eq ((cells_left s).state tag) 1) made
+      ∙ ap (λ (g : ℕ → ℕ). nat_eq (g tag) 1) (state_after (looks.looks_from 0 found) older)) f.same_else.0
 
   word_found : (k : ℕ) → k < length found
       → ((get_or found k (0, 0)).0 ≡ (words_left (record_of (caller_of old)).steps).word k)

@@ -1,6 +1,6 @@
 -- What each call does to the hand that makes it.
 use Rattle.std.proofs.Common.{◌≡◌, ℕ, zero, suc, [], ◌∷◌, get_or, ◌+◌, ◌-◌, ◌<◌, nat_eq, nat_le, true, false, List, length, Bool, Option, Some, None, is_some, Result, Ok, Err, IfOk, ◌↔◌, inl, inr, ⊎_elim, refl, sym, ap, ◌∙◌, subst, arith, eq-eqb, eqb-true}
-use Rattle.tag_board.proofs.Uses.{and_parts, and_from, or_left, or_right, le-leb, leb-true, cases_Bool, length-map, bit_at, list_any, Layout, or_false, count_of, count_of_run, Visit, TagFault, BadCount, Hand, Kind, Ordinary, Reserved, Shown, Tags, hands_of, IsHandOf, number_of, split_of, agent_of, reserved_of, layout_of, standing_of, hint_of, wait_index_of, HoldsMore, HoldsSame, kind_of, number_in_set, other_kind, reserved_below, Left, AloneSet, AloneSets, AloneGets, AloneBatch, AloneClears, AloneClearsList, AlonePosts, AloneTakes, AloneShows, AloneDumps, AloneListsBusy, first_in, plain, shallow, alone_set_of, alone_sets_in, holds, part_of, state_of_all, waiter_of, IsOf, joined, won, parted, cleared, standing, is_answer, is_in_run, is_in_list, Part, Waiter, GrantsFor, Enters, Leaves}
+use Rattle.tag_board.proofs.Uses.{and_parts, and_from, or_left, or_right, le-leb, leb-true, cases_Bool, length-map, bit_at, list_any, Layout, or_false, count_of, count_of_run, Visit, TagFault, BadCount, Hand, Kind, Ordinary, Reserved, Shown, Tags, hands_of, IsHandOf, number_of, split_of, agent_of, reserved_of, layout_of, standing_of, hint_of, wait_index_of, HoldsMore, HoldsSame, kind_of, number_in_set, other_kind, reserved_below, Left, AloneSet, AloneSets, AloneGets, AloneBatch, AloneClears, AloneClearsList, AlonePosts, AloneTakes, AloneShows, AloneDumps, AloneListsBusy, first_in, plain, shallow, alone_set_of, alone_sets_in, holds, part_of, state_of_all, waiter_of, IsOf, joined, won, parted, cleared, standing, is_answer, is_in_run, is_in_list, Part, Waiter, GrantsFor, Enters, Leaves, Caller, record_of}
 use Rattle.std.proofs.lemmas.Map.Views.{Contains-from_any}
 use Rattle.std.specs.Prelude.{Contains, IsTrue}
 use Rattle.tag_search.specs.Hints.{reduced}
@@ -17,7 +17,7 @@ use Rattle.tag_sets.specs.Slots as slots
 use Rattle.tag_sets.specs.Waits as waits
 use Rattle.wake_book.specs.Book as book
 use Rattle.tag_board.proofs.AloneBoard.{batch_alone, chooses, split_is}
-use Rattle.tag_board.proofs.AloneSteps.{alone_same}
+use Rattle.tag_board.proofs.AloneSteps.{alone_known}
 use Rattle.tag_board.proofs.AloneChanges.{both_same, clear_alone, list_alone, post_alone, take_alone, miss_alone}
 use Rattle.tag_board.proofs.AloneShows.{shows_alone, dumps_alone, lists_alone}
 use Rattle.tag_board.proofs.Holdings.{Names, holds_more, holds_less, holds_same}
@@ -360,7 +360,7 @@ module _ (tags : Tags ℕ) (old new : Hand ℕ) where
       let both = part_standing old new stands caller hint other (holds_same old new same) is in record {
         part = both.0;
         number = both.1;
-        alone = λ one. both_same old new Ordinary (alone_same old.ordinary new.ordinary caller hint) other;
+        alone = λ one. both_same old new Ordinary (alone_known old.ordinary new.ordinary (ap (λ (c : Caller ℕ). record_of c) caller) hint) other;
         waiter = moved;
       }
 

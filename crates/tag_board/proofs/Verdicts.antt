@@ -1,5 +1,5 @@
 -- Each refusal has its cause, and there is no other refusal.
-use Rattle.std.proofs.Common.{◌≡◌, ◌≢◌, ◌⊎◌, ℕ, ◌+◌, ◌<◌, ◌≤◌, ◌↔◌, true, false, inl, inr, ⊎_elim, Result, Ok, Err, IfOk, OnErr, IsOk, refl, subst, arith, List}
+use Rattle.std.proofs.Common.{◌≡◌, ◌≢◌, ◌⊎◌, ℕ, ◌+◌, ◌<◌, ◌≤◌, ◌↔◌, true, false, inl, inr, ⊎_elim, Result, Ok, Err, IfOk, OnErr, IsOk, refl, subst, arith, List, sym}
 use Rattle.tag_board.proofs.Uses.{cases_lt, cases_Bool, cases_eq, both_ways, TagFault, NoSuchTag, NoReserved, NotHeld, NotPosted, BadCount, TooShallow, Spent, NotWaiting, CountsTags, Ordinary, Reserved, State, IsSpent, RefusesGet, RefusesShallow, RefusesBatch, RefusesTag, RefusesList, RefusesWait, RefusesLeave, Miscounts, AreOrdinary, AreHeldOnce, Answers}
 use Rattle.tag_sets.specs.declared.fault.TagFault.TheVariants.{Waiting}
 
@@ -83,6 +83,13 @@ module _ {A : Type 0} (s : State) (caller : ℕ) where
   by_answer refuses (Ok a) good bad = inr (refl, good refl)
   by_answer refuses (Err fault) good bad = inl (fault, refl, bad fault refl)
 
+  -- each cause that holds is told, and the result is a value if none does
+  by_cause : (refuses : TagFault → Type 0) (r : Result A TagFault) → ((fault : TagFault) → refuses fault → r ≡ Err fault)
+      → ((fault : TagFault) × refuses fault) ⊎ IsOk r → IsVerdict refuses r
+  by_cause refuses r each (inl bad) = inl (bad.0, each bad.0 bad.1, bad.1)
+  by_cause refuses r each (inr ok) = inr (ok, λ fault cause. let P : Result A TagFault → Type 0 = λ x. IsOk x in
+      let wrong = subst P (each fault cause) ok in cc)
+
   pub get_verdict : (r : Result A TagFault) → (IsSpent s caller Ordinary 1 → r ≡ Err Spent)
       → (¬ (IsSpent s caller Ordinary 1) → IsOk r)
       → IsVerdict (RefusesGet s caller Ordinary) r
@@ -125,39 +132,30 @@ module _ {A : Type 0} (s : State) (caller : ℕ) where
       (around : ¬ (Miscounts s n) → (s.part caller).round_robin ≡ true → IsOk r)
       (spent : ¬ (Miscounts s n) → (s.part caller).round_robin ≡ false → IsSpent s caller Ordinary n → r ≡ Err Spent)
       (room : ¬ (Miscounts s n) → ¬ (IsSpent s caller Ordinary n) → IsOk r) where
-    none_around : ¬ (Miscounts s n) → (s.part caller).round_robin ≡ true → (fault : TagFault)
-        → ¬ (RefusesBatch s caller n fault)
-    none_around fits round BadCount h = fits h
-    none_around fits round Spent h = both_ways (s.part caller).round_robin h.1 round
-    none_around fits round _ h = h
+    each_told : (fault : TagFault) → RefusesBatch s caller n fault → r ≡ Err fault
+    each_told BadCount h = miscounts h
+    each_told Spent h = spent h.0 h.1 h.2
+    each_told _ h = absurd h
 
-    none_in_room : ¬ (Miscounts s n) → ¬ (IsSpent s caller Ordinary n) → (fault : TagFault)
-        → ¬ (RefusesBatch s caller n fault)
-    none_in_room fits open_ BadCount h = fits h
-    none_in_room fits open_ Spent h = open_ h.2
-    none_in_room fits open_ _ h = h
-
-    counted : ¬ (Miscounts s n) → IsVerdict (RefusesBatch s caller n) r
+    counted : ¬ (Miscounts s n) → ((fault : TagFault) × RefusesBatch s caller n fault) ⊎ IsOk r
     counted fits = ⊎_elim
-        (λ (t : (s.part caller).round_robin ≡ true). inr (around fits t, none_around fits t))
+        (λ (t : (s.part caller).round_robin ≡ true). inr (around fits t))
         (λ (f : (s.part caller).round_robin ≡ false). ⊎_elim
-        (λ (less : s.terms.life Ordinary < (s.part caller).won Ordinary + n). inl
-        (Spent, spent fits f less, (fits, f, less)))
-        (λ (some : (s.part caller).won Ordinary + n ≤ s.terms.life Ordinary). let open_ : ¬
-        (IsSpent s caller Ordinary n) = λ less. absurd (omega arith) in
-        inr (room fits open_, none_in_room fits open_))
+        (λ (less : s.terms.life Ordinary < (s.part caller).won Ordinary + n). inl (Spent, (fits, f, less)))
+        (λ (some : (s.part caller).won Ordinary + n ≤ s.terms.life Ordinary). inr
+        (room fits (λ less. absurd (omega arith))))
         (cases_lt (s.terms.life Ordinary) ((s.part caller).won Ordinary + n)))
         (cases_Bool (s.part caller).round_robin)
 
     pub batch_verdict : IsVerdict (RefusesBatch s caller n) r
-    batch_verdict = ⊎_elim
-        (λ (none : n ≡ 0). inl (BadCount, miscounts (inl none), inl none))
+    batch_verdict = by_cause (RefusesBatch s caller n) r each_told (⊎_elim
+        (λ (none : n ≡ 0). inl (BadCount, inl none))
         (λ (some : n ≢ 0). ⊎_elim
-        (λ (wide : s.terms.bits Ordinary < n). inl (BadCount, miscounts (inr wide), inr wide))
+        (λ (wide : s.terms.bits Ordinary < n). inl (BadCount, inr wide))
         (λ (fits : n ≤ s.terms.bits Ordinary). counted
         (⊎_elim (λ (none : n ≡ 0). some none) (λ (wide : s.terms.bits Ordinary < n). absurd (omega arith))))
         (cases_lt (s.terms.bits Ordinary) n))
-        (cases_eq n 0)
+        (cases_eq n 0))
 
   module _ (tags : List ℕ) (r : Result A TagFault) (bad : (r ≡ Err BadCount) ↔ ¬ (CountsTags tags))
       (none : (r ≡ Err NoSuchTag) ↔ (CountsTags tags × ¬ (AreOrdinary s tags)))
@@ -169,15 +167,16 @@ module _ {A : Type 0} (s : State) (caller : ℕ) where
     list_good ok NotHeld h = h.2 (succeeds.0 ok).2
     list_good ok _ h = h
 
-    -- there is no other fault
-    three : (fault : TagFault) → r ≡ Err fault → fault ≢ BadCount → fault ≢ NoSuchTag → fault ≢ NotHeld → ⊥
-    three fault e not_bad not_none not_free =
-        let counts : ¬ (¬ (CountsTags tags)) = λ no_count. let f = bad.1 no_count in
-        let same : fault ≡ BadCount = cc in not_bad same in
-        counts (λ count. let all : ¬ (¬ (AreOrdinary s tags)) = λ no_all. let f = none.1 (count, no_all) in
-        let same : fault ≡ NoSuchTag = cc in not_none same in
-        all (λ there. let held : ¬ (¬ (AreHeldOnce s caller tags)) = λ no_held.
-        let f = free.1 (count, there, no_held) in let same : fault ≡ NotHeld = cc in not_free same in
+    -- the fault told is a cause, since one of the three holds unless the result is a value
+    caused : (fault : TagFault) → r ≡ Err fault → ¬ (¬ (RefusesList s caller tags fault))
+    caused fault e none_is =
+        let is : (other : TagFault) → r ≡ Err other → RefusesList s caller tags other → ⊥ =
+        λ other f cause. let same : fault ≡ other = cc in
+        none_is (subst (λ (x : TagFault). RefusesList s caller tags x) (sym same) cause) in
+        let counts : ¬ (¬ (CountsTags tags)) = λ no. is BadCount (bad.1 no) no in
+        counts (λ count. let all : ¬ (¬ (AreOrdinary s tags)) = λ no. is NoSuchTag (none.1 (count, no)) (count, no) in
+        all (λ there. let held : ¬ (¬ (AreHeldOnce s caller tags)) = λ no.
+        is NotHeld (free.1 (count, there, no)) (count, there, no) in
         held (λ once. let ok = succeeds.1 (count, there, once) in let P : Result A TagFault → Type 0 = λ x. IsOk x in
         let wrong = subst P e ok in cc)))
 
@@ -185,12 +184,7 @@ module _ {A : Type 0} (s : State) (caller : ℕ) where
     list_bad BadCount e = bad.0 e
     list_bad NoSuchTag e = none.0 e
     list_bad NotHeld e = free.0 e
-    list_bad NoReserved e = absurd (three NoReserved e (λ x. cc) (λ x. cc) (λ x. cc))
-    list_bad NotPosted e = absurd (three NotPosted e (λ x. cc) (λ x. cc) (λ x. cc))
-    list_bad TooShallow e = absurd (three TooShallow e (λ x. cc) (λ x. cc) (λ x. cc))
-    list_bad Spent e = absurd (three Spent e (λ x. cc) (λ x. cc) (λ x. cc))
-    list_bad Waiting e = absurd (three Waiting e (λ x. cc) (λ x. cc) (λ x. cc))
-    list_bad NotWaiting e = absurd (three NotWaiting e (λ x. cc) (λ x. cc) (λ x. cc))
+    list_bad fault e = absurd (caused fault e (λ cause. cause))
 
     pub list_verdict : IsVerdict (RefusesList s caller tags) r
     list_verdict = by_answer (RefusesList s caller tags) r list_good list_bad

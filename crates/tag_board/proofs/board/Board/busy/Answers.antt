@@ -11,7 +11,7 @@ invariant_of-self c =
     let b = c.args.self.now in let at = sits (omega arith) c.index_mut.ensures.value in let old = c.index_mut.result.now in
     let new = c.busy.new.hand in let e = c.busy.ensures in
     seated b at new e.hand
-    (busy_does b.tags old new (own_here b.tags at b.own) c.busy.new.into c.busy.result e.lists).number
+    (busy_does b.tags old new (own_here b.tags at b.own) _ _ e.lists).number
 
 pub returns : goal.returns
 returns c =

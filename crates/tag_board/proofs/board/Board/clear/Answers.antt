@@ -9,7 +9,7 @@ invariant_of-self c =
     let b = c.args.self.now in let at = sits (omega arith) c.index_mut.ensures.value in let old = c.index_mut.result.now in
     let new = c.clear.new.hand in let e = c.clear.ensures in let r = c.clear.result in
     seated b at new e.hand (kept old new r (both_ok r e.clears e.counts
-    (λ woken p q. (clear_does b.tags old new (own_here b.tags at b.own) c.args.tag woken p q).number)) e.err)
+    (λ woken p q. (clear_does b.tags old new (own_here b.tags at b.own) _ woken p q).number)) e.err)
 
 pub returns : goal.returns
 returns c =

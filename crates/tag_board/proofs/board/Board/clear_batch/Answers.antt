@@ -9,7 +9,7 @@ invariant_of-self c =
     let b = c.args.self.now in let at = sits (omega arith) c.index_mut.ensures.value in let old = c.index_mut.result.now in
     let new = c.clear_batch.new.hand in let e = c.clear_batch.ensures in let r = c.clear_batch.result in
     seated b at new e.hand (kept old new r (both_ok r (both_on _ _ r e.gives e.back) e.counts
-    (λ woken p q. (list_does b.tags old new (own_here b.tags at b.own) c.args.tags.now woken p.0 p.1 q).number)) e.err)
+    (λ woken p q. (list_does b.tags old new (own_here b.tags at b.own) _ woken p.0 p.1 q).number)) e.err)
 
 pub returns : goal.returns
 returns c =

@@ -11,7 +11,7 @@ invariant_of-self c =
     let b = c.args.self.now in let at = sits (omega arith) c.index_mut.ensures.value in let old = c.index_mut.result.now in
     let new = c.dump.new.hand in let e = c.dump.ensures in
     seated b at new e.hand
-    (dump_does b.tags old new (own_here b.tags at b.own) c.args.kind e.dumps.bytes e.dumps.packed).number
+    (dump_does b.tags old new (own_here b.tags at b.own) _ _ e.dumps.packed).number
 
 pub returns : goal.returns
 returns c =

@@ -9,15 +9,15 @@ invariant_of-self c =
     let b = c.args.self.now in let at = sits (omega arith) c.index_mut.ensures.value in let old = c.index_mut.result.now in
     let new = c.get_batch.new.hand in let e = c.get_batch.ensures in let r = c.get_batch.result in
     seated b at new e.hand (kept old new r
-    (batch_number b.tags old new c.args.n (own_here b.tags at b.own) r e.bad_count e.round_robin e.gets) e.err)
+    (batch_number b.tags old new _ (own_here b.tags at b.own) r e.bad_count e.round_robin e.gets) e.err)
 
 pub tell_run_free-requires-clause-held : goal.tell_run_free-requires-clause-held
 tell_run_free-requires-clause-held c =
     let b = c.args.self.now in let at = sits c.requires c.index_mut.ensures.value in let old = c.index_mut.result.now in
     let new = c.get_batch.new.hand in let a : Option (ℕ × ℕ) = c.in_ok-answer.answer in
     let e = c.in_ok-answer.ensures in
-    let g = batch_gains b.tags old new (own_here b.tags at b.own) b.hands.items c.args.n a
-    (none_around b.tags old new c.args.n a (Ok a) refl e.bad_count e.round_robin) e.gets in
+    let g = batch_gains b.tags old new (own_here b.tags at b.own) b.hands.items _ a
+    (none_around b.tags old new _ a (Ok a) refl e.bad_count e.round_robin) e.gets in
     holds_gained b at new (is_in_run a) _ g.names g.more
 
 pub returns : goal.returns

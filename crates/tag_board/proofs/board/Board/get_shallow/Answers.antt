@@ -9,14 +9,14 @@ invariant_of-self c =
     let b = c.args.self.now in let at = sits (omega arith) c.index_mut.ensures.value in let old = c.index_mut.result.now in
     let new = c.get_shallow.new.hand in let e = c.get_shallow.ensures in let r = c.get_shallow.result in
     seated b at new e.hand (kept old new r (ok_map r e.gets
-    (λ answer g. (shallow_gains b.tags old new (own_here b.tags at b.own) b.hands.items c.args.depth answer g).effect.number))
+    (λ answer g. (shallow_gains b.tags old new (own_here b.tags at b.own) b.hands.items _ answer g).effect.number))
     e.err)
 
 pub tell_free-requires-clause-held : goal.tell_free-requires-clause-held
 tell_free-requires-clause-held c =
     let b = c.args.self.now in let at = sits c.requires c.index_mut.ensures.value in let old = c.index_mut.result.now in
     let new = c.get_shallow.new.hand in let a : Option ℕ = c.in_ok-answer.answer in
-    let g = shallow_gains b.tags old new (own_here b.tags at b.own) b.hands.items c.args.depth a c.in_ok-answer.ensures.gets in
+    let g = shallow_gains b.tags old new (own_here b.tags at b.own) b.hands.items _ a c.in_ok-answer.ensures.gets in
     holds_gained b at new (is_answer a) _ g.names g.more
 
 pub returns : goal.returns

@@ -9,7 +9,7 @@ invariant_of-self c =
     let b = c.args.self.now in let at = sits (omega arith) c.index_mut.ensures.value in let old = c.index_mut.result.now in
     let new = c.post.new.hand in let e = c.post.ensures in let r = c.post.result in
     seated b at new e.hand (kept old new r
-    (on_map _ r e.posts (λ p. (post_does b.tags old new (own_here b.tags at b.own) c.args.tag p).number)) e.err)
+    (on_map _ r e.posts (λ p. (post_does b.tags old new (own_here b.tags at b.own) _ p).number)) e.err)
 
 pub returns : goal.returns
 returns c =

@@ -10,7 +10,7 @@ invariant_of-self c =
     let b = c.args.self.now in let at = sits (omega arith) c.index_mut.ensures.value in let old = c.index_mut.result.now in
     let new = c.show.new.hand in let e = c.show.ensures in
     seated b at new e.hand
-    (show_does b.tags old new (own_here b.tags at b.own) c.args.kind c.show.result e.shows).number
+    (show_does b.tags old new (own_here b.tags at b.own) _ _ e.shows).number
 
 pub returns : goal.returns
 returns c =

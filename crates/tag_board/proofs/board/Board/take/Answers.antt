@@ -12,7 +12,7 @@ invariant_of-self c =
     let b = c.args.self.now in let at = sits (omega arith) c.index_mut.ensures.value in let old = c.index_mut.result.now in
     let new = c.take.new.hand in let e = c.take.ensures in
     seated b at new e.hand
-    (take_number b.tags old new c.args.tag (own_here b.tags at b.own) c.take.result e.takes e.refuses)
+    (take_number b.tags old new _ (own_here b.tags at b.own) c.take.result e.takes e.refuses)
 
 pub tell_free-requires-clause-held : goal.tell_free-requires-clause-held
 tell_free-requires-clause-held c =
