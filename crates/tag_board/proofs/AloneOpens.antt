@@ -1,6 +1,6 @@
 -- New sets of a board with one caller.
 use Rattle.std.proofs.Common.{◌≡◌, ℕ, ◌-◌, Bool, false, ◌&&◌, nat_eq, nat_lt, List, [], length, map, get_or, sym, ap, ◌∙◌, subst, arith, refl}
-use Rattle.tag_board.proofs.Uses.{get_or-map, bit_at-zero, some, get_elem?, at_map, Layout, HasShift, Record, Step, record_of, entry, entry_or, cells_left, words_left, pool_of, pool_ext, and_true, and_false, Agent, Options, Queue, Hand, Kind, Ordinary, Reserved, Tags, hands_of, IsHandOf, layout_of, reserved_of, total_of, reserved_part, ordinary_part, AreOpen, all_part, AloneSets, untouched, AreUntouched, alone_set_of, alone_sets_in, alone_sets_of_all, Hint}
+use Rattle.tag_board.proofs.Uses.{bit_at-zero, some, get_elem?, at_map, Layout, HasShift, Record, Step, record_of, entry, entry_or, cells_left, words_left, pool_of, pool_ext, and_true, and_false, Agent, Options, Queue, Hand, Kind, Ordinary, Reserved, Tags, hands_of, IsHandOf, layout_of, reserved_of, total_of, reserved_part, ordinary_part, AreOpen, all_part, AloneSets, untouched, AreUntouched, alone_set_of, alone_sets_in, alone_sets_of_all, Hint}
 use Rattle.tag_board.proofs.AloneSteps.{set_ext}
 use Rattle.tag_queue.specs.Agents as queue
 use Rattle.tag_queue.specs.Opening as queue_opening

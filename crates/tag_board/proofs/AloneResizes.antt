@@ -1,6 +1,6 @@
 -- How a resize changes both sets of a board with one caller.
-use Rattle.std.proofs.Common.{◌≡◌, ℕ, ◌-◌, false, nat_eq, List, [], length, map, get_or, All, Ok, sym, ap, ◌∙◌, subst, arith}
-use Rattle.tag_board.proofs.Uses.{get_or-map, length-map, at_map, Layout, Record, Step, record_of, entry, entry_or, Hint, cells_left, words_left, pool_of, Agent, Hand, Kind, Ordinary, Reserved, Tags, hands_of, IsHandOf, reserved_of, number_of, reserved_part, ordinary_part, IsResized, AreUnchanged, AloneSets, AloneResizes, resized, untouched, alone_set_of, alone_sets_in, alone_sets_of_all}
+use Rattle.std.proofs.Common.{◌≡◌, ℕ, ◌-◌, List, length, map, get_or, All, Ok, sym, ap, ◌∙◌, subst, arith}
+use Rattle.tag_board.proofs.Uses.{get_or-map, length-map, at_map, Layout, Record, entry, entry_or, Hint, Hand, Kind, Ordinary, Reserved, Tags, hands_of, IsHandOf, reserved_of, number_of, reserved_part, ordinary_part, IsResized, AreUnchanged, AloneSets, AloneResizes, resized, alone_set_of, alone_sets_in, alone_sets_of_all}
 use Rattle.tag_board.proofs.AloneSteps.{alone_known}
 use Rattle.tag_queue.specs.Agents as queue
 use Rattle.tag_board.proofs.AloneBoard.{layout_in, split_is, only_is}

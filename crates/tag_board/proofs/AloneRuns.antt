@@ -1,6 +1,6 @@
 -- How the only agent of a set changes it by giving back a list of tags.
 use Rattle.std.proofs.Common.{◌≡◌, ℕ, ◌^◌, ◌<◌, ◌≤◌, Bool, true, false, ◌&&◌, ◌||◌, cond, nat_eq, nat_lt, List, [], ◌∷◌, ⊎_elim, refl, sym, ap, ◌∙◌, subst, arith, eq-eqb, eqb-true}
-use Rattle.tag_board.proofs.Uses.{∥∥₁_elim, and_parts, and_from, cases_lt, lt-ltb, ltb-true, bit_at_above, bit_at, list_any, Layout, word_of, place_of, word_bits, word_depth, tag_at, word_of-tag_at, place_of-tag_at, Caller, Record, Shape, Step, Word, Give, record_of, IsAlone, is_posted, cells_left, words_left, Pool, pool_of, free_at, pool_ext, or_false, Agent, caller_of, Run, IsRun, AreRuns, GivesBack, record_after_runs, same_shape, is_named, give_back, alone_set_of}
+use Rattle.tag_board.proofs.Uses.{∥∥₁_elim, and_parts, and_from, cases_lt, lt-ltb, ltb-true, bit_at_above, bit_at, list_any, Layout, word_of, place_of, word_bits, word_depth, tag_at, word_of-tag_at, place_of-tag_at, Caller, Record, Shape, Step, Word, Give, record_of, IsAlone, cells_left, words_left, Pool, pool_of, free_at, pool_ext, or_false, Agent, caller_of, Run, IsRun, AreRuns, GivesBack, record_after_runs, same_shape, is_named, give_back, alone_set_of}
 use Rattle.tag_board.proofs.AloneSteps.{set_ext}
 use Rattle.std.proofs.lemmas.List.Folds.{list_any-append, Any-from_list_any, list_any-from_Any}
 use mathlib.Core.Bool.{Bool-set}

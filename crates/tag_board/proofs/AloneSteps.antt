@@ -1,6 +1,6 @@
 -- How single steps of a set's only agent change it.
-use Rattle.std.proofs.Common.{◌≡◌, ℕ, ◌<◌, ◌≤◌, Bool, true, false, not, ◌&&◌, ◌||◌, cond, nat_eq, List, Some, None, refl, sym, ap, ◌∙◌, arith}
-use Rattle.tag_board.proofs.Uses.{pow_pos, Layout, word_of, place_of, word_bits, word_bits-le, Record, Step, record_of, IsAlone, is_posted, pool_left, cells_left, own_put, own_post, own_take, own_took, or_false, and_true, and_false, Agent, caller_of, put_back, post_in, take_in, alone_set_of, AloneSet, words_left, pool_of}
+use Rattle.std.proofs.Common.{◌≡◌, ℕ, ◌<◌, ◌≤◌, Bool, true, false, not, ◌&&◌, ◌||◌, cond, nat_eq, Some, None, refl, sym, ap, ◌∙◌, arith}
+use Rattle.tag_board.proofs.Uses.{pow_pos, Layout, word_of, place_of, word_bits, word_bits-le, Record, record_of, IsAlone, is_posted, pool_left, cells_left, own_put, own_post, own_take, own_took, or_false, and_true, and_false, Agent, caller_of, put_back, post_in, take_in, alone_set_of, AloneSet, words_left, pool_of}
 use Rattle.tag_queue.specs.Agents.{hint_of}
 use Rattle.tag_queue.specs.Clears as clears
 use Rattle.tag_queue.specs.Slots as slots

@@ -26,8 +26,8 @@ pub use Rattle.tag_core.specs.declared.caller.Caller.{Caller}
 pub use Rattle.tag_core.specs.declared.record.Record.{Record}
 pub use Rattle.tag_core.specs.declared.shape.Shape.{Shape}
 pub use Rattle.tag_core.specs.declared.step.Step.{Step}
-pub use Rattle.tag_core.specs.declared.step.Step.TheVariants.{Post, Take, Word}
-pub use Rattle.tag_core.specs.declared.word_step.WordStep.TheVariants.{Claimed, Give, Look, LookAside, Put, Spill, Swap}
+pub use Rattle.tag_core.specs.declared.step.Step.TheVariants.{Word}
+pub use Rattle.tag_core.specs.declared.word_step.WordStep.TheVariants.{Give, Look, LookAside}
 pub use Rattle.tag_search.proofs.AloneCallers.{own_found, own_post, own_put, own_take, own_took, place_small, state_after}
 pub use Rattle.tag_search.proofs.Pools.{and_false, and_true, or_false, pool_ext}
 pub use Rattle.tag_search.specs.Alone.{is_posted, IsAlone, pool_left}

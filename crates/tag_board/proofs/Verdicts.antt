@@ -1,6 +1,6 @@
 -- Each refusal has its cause, and there is no other refusal.
 use Rattle.std.proofs.Common.{◌≡◌, ◌≢◌, ◌⊎◌, ℕ, ◌+◌, ◌<◌, ◌≤◌, ◌↔◌, true, false, inl, inr, ⊎_elim, Result, Ok, Err, IfOk, OnErr, IsOk, refl, subst, arith, List, sym}
-use Rattle.tag_board.proofs.Uses.{cases_lt, cases_Bool, cases_eq, both_ways, TagFault, NoSuchTag, NoReserved, NotHeld, NotPosted, BadCount, TooShallow, Spent, NotWaiting, CountsTags, Ordinary, Reserved, State, IsSpent, RefusesGet, RefusesShallow, RefusesBatch, RefusesTag, RefusesList, RefusesWait, RefusesLeave, Miscounts, AreOrdinary, AreHeldOnce, Answers}
+use Rattle.tag_board.proofs.Uses.{cases_lt, cases_Bool, cases_eq, both_ways, TagFault, NoSuchTag, NoReserved, NotHeld, BadCount, TooShallow, Spent, NotWaiting, CountsTags, Ordinary, Reserved, State, IsSpent, RefusesGet, RefusesShallow, RefusesBatch, RefusesTag, RefusesList, RefusesWait, RefusesLeave, Miscounts, AreOrdinary, AreHeldOnce, Answers}
 use Rattle.tag_sets.specs.declared.fault.TagFault.TheVariants.{Waiting}
 
 -- the result is a fault whose cause holds, or a value and no cause holds
