@@ -108,18 +108,22 @@ module _ (tags : Tags ℕ) (old new : Hand ℕ) where
   pub low_group : (group : ℕ) → waits.Enters group old new → group < 8
   low_group group e = let low = old.ordinary.waiter.within in let is = e.set.changed.group_is in omega arith
 
+  -- a call on one set that counts n tags won, and nothing else
+  counts_won : (kind : Kind) (n : ℕ) (change : Part → Part) (alone : AloneSets → AloneSets → Type 0)
+      → tallies.Tallies n 0 (agent_of old kind) (agent_of new kind)
+      → queue.SameCounts (agent_of old kind) (agent_of new kind)
+      → agent_of new (other_kind kind) ≡ agent_of old (other_kind kind)
+      → (PartTallies kind n 0 old new → part_of new ≡ change (part_of old))
+      → (hands_of tags ≡ 1 → alone (alone_sets_in old) (alone_sets_in new)) → Effect tags change alone AsBefore old new
+  counts_won kind n change alone tally counts other part sets = let t = part_tallies old new kind n 0 tally other in
+      record { part = part t; number = t.number; alone = sets; waiter = rests old new kind counts other }
+
   -- looks at the words of a set change nothing but the caller's list
   looked : (alone : AloneSets → AloneSets → Type 0) → (hands_of tags ≡ 1 → alone (alone_sets_in old) (alone_sets_in new))
       → (l : Layout) (kind : Kind) (found : List (ℕ × ℕ)) → shows.LooksAround l kind found old new
       → Effect tags as_before alone AsBefore old new
-  looked alone sets l kind found a =
-      let t : PartTallies kind 0 0 old new =
-      part_tallies old new kind 0 0 (tallies.finds _ _ found a.looks.changed) a.looks.other in record {
-        part = part_same old new kind t (holds_same old new a.same);
-        number = t.number;
-        alone = sets;
-        waiter = rests old new kind a.looks.changed.same_else.1 a.looks.other;
-      }
+  looked alone sets l kind found a = counts_won kind 0 as_before alone (tallies.finds _ _ found a.looks.changed)
+      a.looks.changed.same_else.1 a.looks.other (λ t. part_same old new kind t (holds_same old new a.same)) sets
 
 module _ (tags : Tags ℕ) (old new : Hand ℕ) where
   module _ (own : IsHandOf tags old) where
@@ -131,14 +135,10 @@ module _ (tags : Tags ℕ) (old new : Hand ℕ) where
         → (alone : AloneSets → AloneSets → Type 0)
         → (hands_of tags ≡ 1 → alone (alone_sets_in old) (alone_sets_in new))
         → Effect tags (won kind named n) alone AsBefore old new
-    won_effect kind named Is names n m same counted counts other more alone sets =
-        let t : PartTallies kind n 0 old new = subst (λ (k : ℕ). PartTallies kind k 0 old new) (sym same)
-        (part_tallies old new kind m 0 counted other) in record {
-          part = part_won old new kind named n t (holds_more old new named Is names more);
-          number = t.number;
-          alone = sets;
-          waiter = rests old new kind counts other;
-        }
+    won_effect kind named Is names n m same counted counts other more alone = counts_won tags old new kind n
+        (won kind named n) alone
+        (subst (λ (k : ℕ). tallies.Tallies k 0 (agent_of old kind) (agent_of new kind)) (sym same) counted) counts other
+        (λ t. part_won old new kind named n t (holds_more old new named Is names more))
 
     -- the same for a search for one tag, whose answer is this number in its set
     searched : (kind : Kind) (visits : AloneSet → List Visit) (to_visit : Layout → List Visit)
@@ -162,31 +162,38 @@ module _ (tags : Tags ℕ) (old new : Hand ℕ) where
         ))
 
     module _ (hands : List (Hand ℕ)) where
+      -- the ordinary tag with this number
+      whole_is : (number answer : Option ℕ) → answer ≡ gets.whole (reserved_of tags) number
+          → (count_of answer ≡ count_of number)
+          × (hands_of tags ≡ 1 → answer ≡ gets.whole (first_in (alone_sets_in old) Ordinary) number)
+      whole_is number answer is = (
+        ap count_of is ∙ same_count (reserved_of tags) number,
+        (λ one. is ∙ ap (λ (r : ℕ). gets.whole r number) (split_is tags old new own one)),
+      )
+
       pub get_gains : (answer : Option ℕ) → gets.Gets tags answer old new
           → Gained tags hands Ordinary (is_answer answer) (gets.IsAnswer answer) (count_of answer)
           (AloneGets Ordinary plain answer) old new
-      get_gains answer g = let s = g.set.changed in let h = hint_of old Ordinary in record {
-        names = names_answer answer;
-        more = g.more;
-        there = g.ordinary;
-        effect = searched Ordinary plain (λ l. plain_visits l h.round_robin (reduced l.depth h.at)) refl g.number answer
-            (ap count_of g.answer_is ∙ same_count (reserved_of tags) g.number)
-            (λ one. g.answer_is ∙ ap (λ (r : ℕ). gets.whole r g.number) (split_is tags old new own one))
-            s.searches s.others g.set.other g.more;
-      }
+      get_gains answer g = let s = g.set.changed in let h = hint_of old Ordinary in
+          let is = whole_is g.number answer g.answer_is in record {
+            names = names_answer answer;
+            more = g.more;
+            there = g.ordinary;
+            effect = searched Ordinary plain (λ l. plain_visits l h.round_robin (reduced l.depth h.at)) refl g.number
+                answer is.0 is.1 s.searches s.others g.set.other g.more;
+          }
 
       pub shallow_gains : (depth : ℕ) (answer : Option ℕ) → gets.GetsShallow tags depth answer old new
           → Gained tags hands Ordinary (is_answer answer) (gets.IsAnswer answer) (count_of answer)
           (AloneGets Ordinary (shallow depth) answer) old new
-      shallow_gains depth answer g = let s = g.set.changed in let h = hint_of old Ordinary in record {
-        names = names_answer answer;
-        more = g.more;
-        there = g.ordinary;
-        effect = searched Ordinary (shallow depth) (λ l. shallow_visits l depth (reduced l.depth h.at)) refl g.number
-            answer (ap count_of g.answer_is ∙ same_count (reserved_of tags) g.number)
-            (λ one. g.answer_is ∙ ap (λ (r : ℕ). gets.whole r g.number) (split_is tags old new own one))
-            s.searches s.others g.set.other g.more;
-      }
+      shallow_gains depth answer g = let s = g.set.changed in let h = hint_of old Ordinary in
+          let is = whole_is g.number answer g.answer_is in record {
+            names = names_answer answer;
+            more = g.more;
+            there = g.ordinary;
+            effect = searched Ordinary (shallow depth) (λ l. shallow_visits l depth (reduced l.depth h.at)) refl g.number
+                answer is.0 is.1 s.searches s.others g.set.other g.more;
+          }
 
       -- without reserved tags before it, the number in the set is the tag
       from_none : (answer : Option ℕ) → answer ≡ gets.whole 0 answer
@@ -284,29 +291,19 @@ module _ (tags : Tags ℕ) (old new : Hand ℕ) where
 
     pub post_does : (tag : ℕ) → slots.Posts tag old new
         → Effect tags (parted (nat_eq tag)) (AlonePosts tag) AsBefore old new
-    post_does tag p =
-        let kind = kind_of (split_of old) tag in let number : ℕ = number_in_set (split_of old) tag in
-        let t : PartTallies kind 0 0 old new =
-        part_tallies old new kind 0 0 (tallies.posts _ _ number p.set.changed) p.set.other in record {
-          part = part_left old new kind (nat_eq tag) t
-              (holds_less old new (nat_eq tag) (λ other. other ≡ tag) (names_one tag) p.less);
-          number = t.number;
-          alone = λ one. post_alone tags old new own one tag p;
-          waiter = rests old new kind p.set.changed.same_else.1 p.set.other;
-        }
+    post_does tag p = let kind = kind_of (split_of old) tag in counts_won tags old new kind 0 (parted (nat_eq tag))
+        (AlonePosts tag) (tallies.posts _ _ (number_in_set (split_of old) tag) p.set.changed)
+        p.set.changed.same_else.1 p.set.other (λ t. part_left old new kind (nat_eq tag) t
+        (holds_less old new (nat_eq tag) (λ other. other ≡ tag) (names_one tag) p.less))
+        (λ one. post_alone tags old new own one tag p)
 
     pub take_does : (tag : ℕ) → slots.Takes tag old new
         → Effect tags (joined (nat_eq tag)) (λ s. AloneTakes tag s (Ok tt)) AsBefore old new
-    take_does tag m =
-        let kind = kind_of (split_of old) tag in let number : ℕ = number_in_set (split_of old) tag in
-        let t : PartTallies kind 0 0 old new =
-        part_tallies old new kind 0 0 (tallies.takes _ _ number m.set.changed) m.set.other in record {
-          part = part_joined old new kind (nat_eq tag) t
-              (holds_more old new (nat_eq tag) (λ other. other ≡ tag) (names_one tag) m.more);
-          number = t.number;
-          alone = λ one. take_alone tags old new own one tag m;
-          waiter = rests old new kind m.set.changed.same_else.1 m.set.other;
-        }
+    take_does tag m = let kind = kind_of (split_of old) tag in counts_won tags old new kind 0 (joined (nat_eq tag))
+        (λ s. AloneTakes tag s (Ok tt)) (tallies.takes _ _ (number_in_set (split_of old) tag) m.set.changed)
+        m.set.changed.same_else.1 m.set.other (λ t. part_joined old new kind (nat_eq tag) t
+        (holds_more old new (nat_eq tag) (λ other. other ≡ tag) (names_one tag) m.more))
+        (λ one. take_alone tags old new own one tag m)
 
     -- a refused take changes at most the caller's list
     pub refused_does : (tag : ℕ) (fault : TagFault) → slots.RefusesTake tag fault old new
@@ -318,16 +315,12 @@ module _ (tags : Tags ℕ) (old new : Hand ℕ) where
           (ap alone_sets_in none.1);
       waiter = ap waiter_of none.1;
     }
-    refused_does tag fault (inr missed) =
-        let m = missed.1 in let kind = kind_of (split_of old) tag in
-        let t : PartTallies kind 0 0 old new = part_tallies old new kind 0 0
-        (tallies.misses _ _ (number_in_set (split_of old) tag) m.set.changed) m.set.other in record {
-          part = part_same old new kind t (holds_same old new m.same);
-          number = t.number;
-          alone = λ one. subst (λ (f : TagFault). AloneTakes tag (alone_sets_in old) (Err f) (alone_sets_in new))
-              (sym missed.0) (miss_alone tags old new own one tag m);
-          waiter = rests old new kind m.set.changed.same_else.1 m.set.other;
-        }
+    refused_does tag fault (inr missed) = let m = missed.1 in let kind = kind_of (split_of old) tag in
+        counts_won tags old new kind 0 as_before (λ s. AloneTakes tag s (Err fault))
+        (tallies.misses _ _ (number_in_set (split_of old) tag) m.set.changed) m.set.changed.same_else.1 m.set.other
+        (λ t. part_same old new kind t (holds_same old new m.same))
+        (λ one. subst (λ (f : TagFault). AloneTakes tag (alone_sets_in old) (Err f) (alone_sets_in new))
+        (sym missed.0) (miss_alone tags old new own one tag m))
 
     pub show_does : (kind : Kind) (shown : Shown) → shows.Shows tags kind shown old new
         → Effect tags as_before (λ s. AloneShows kind s shown) AsBefore old new
