@@ -1,9 +1,10 @@
 -- New sets of a board with one caller.
 use Rattle.std.proofs.Common.{◌≡◌, ℕ, ◌-◌, Bool, false, ◌&&◌, nat_eq, nat_lt, List, [], length, map, get_or, sym, ap, ◌∙◌, subst, arith, refl}
-use Rattle.tag_board.proofs.Uses.{bit_at-zero, some, get_elem?, at_map, Layout, HasShift, Record, Step, record_of, entry, entry_or, cells_left, words_left, pool_of, pool_ext, and_true, and_false, Agent, Options, Queue, Hand, Kind, Ordinary, Reserved, Tags, hands_of, IsHandOf, layout_of, reserved_of, total_of, reserved_part, ordinary_part, AreOpen, all_part, AloneSets, untouched, AreUntouched, alone_set_of, alone_sets_in, alone_sets_of_all, Hint}
+use Rattle.tag_board.proofs.Uses.{bit_at-zero, at_map, Layout, HasShift, Step, record_of, entry, entry_or, cells_left, words_left, pool_of, pool_ext, and_true, and_false, Agent, Options, Hand, Kind, Ordinary, Reserved, Tags, hands_of, IsHandOf, layout_of, reserved_of, total_of, reserved_part, ordinary_part, AreOpen, all_part, AloneSets, untouched, AreUntouched, alone_set_of, alone_sets_in, alone_sets_of_all, Hint}
 use Rattle.tag_board.proofs.AloneSteps.{set_ext}
 use Rattle.tag_queue.specs.Agents as queue
 use Rattle.tag_queue.specs.Opening as queue_opening
+use Rattle.tag_board.proofs.Newcomers.{new_record}
 use Rattle.tag_board.proofs.AloneBoard.{layout_in, only_is}
 
 -- each place of a map without steps is free
@@ -22,13 +23,6 @@ module _ {R : Type 0} where
       (ap (λ (s : List (Step R)). pool_of (words_left s)) none ∙ blank_pool R l false)
       (λ tag. ap (λ (s : List (Step R)). nat_eq ((cells_left s).state tag) 1) none) hint
 
-  -- a new agent has made no step
-  no_steps : (options : Options) (q : Queue R) (agents : List (Agent R)) (n : ℕ) (a : Agent R)
-      → queue_opening.IsOpen options q agents → get_elem? agents n ≡ some a → (record_of (queue.caller_of a)).steps ≡ []
-  no_steps options q agents n a opened at =
-      ap (λ (r : Record R). r.steps) (opened.callers.each n (queue.caller_of a)
-      (at_map queue.caller_of agents n a at)).1
-
   module _ (options : Options) (tags : Tags R) (hands : List (Hand R)) (opened : AreOpen options tags hands)
       (one : length hands ≡ 1) where
     abbrev some_hand : Hand R
@@ -45,17 +39,15 @@ module _ {R : Type 0} where
 
     untouched_in : (kind : Kind) → alone_sets_in only kind ≡ untouched (alone_sets_in only kind).layout options.round_robin
     untouched_in Ordinary = alone_fresh only.ordinary _ (queue_opening.first_hint options.round_robin) refl
-        (no_steps options tags.ordinary (map ordinary_part hands) 0 only.ordinary opened.ordinary
-        (at_map ordinary_part hands 0 only (entry_or hands 0 some_hand (omega arith))))
+        (new_record options tags.ordinary (map ordinary_part hands) 0 only.ordinary opened.ordinary
+        (at_map ordinary_part hands 0 only (entry_or hands 0 some_hand (omega arith)))).2
         (all_part (λ (a : Agent R). queue.hint_of a ≡ queue_opening.first_hint options.round_robin) ordinary_part hands
-        opened.ordinary.hints 0 some_hand
-        (omega arith))
+        opened.ordinary.hints 0 some_hand (omega arith))
     untouched_in Reserved = alone_fresh only.reserved _ (queue_opening.first_hint options.round_robin) refl
-        (no_steps _ tags.reserved (map reserved_part hands) 0 only.reserved opened.reserved
-        (at_map reserved_part hands 0 only (entry_or hands 0 some_hand (omega arith))))
+        (new_record _ tags.reserved (map reserved_part hands) 0 only.reserved opened.reserved
+        (at_map reserved_part hands 0 only (entry_or hands 0 some_hand (omega arith)))).2
         (all_part (λ (a : Agent R). queue.hint_of a ≡ queue_opening.first_hint options.round_robin) reserved_part hands
-        opened.reserved.hints 0 some_hand
-        (omega arith))
+        opened.reserved.hints 0 some_hand (omega arith))
 
     pub opens_alone : (total reserved : ℕ) → total_of tags ≡ total → reserved_of tags ≡ reserved
         → HasShift (total - reserved) options.shift (layout_of tags Ordinary).shift

@@ -12,7 +12,7 @@ use Rattle.tag_core.specs.Histories.{History, events_of, event_of, event_of_word
 use Rattle.tag_core.specs.Meeting.{HasHistory}
 use Rattle.tag_core.proofs.TagBits.{small_word}
 use Rattle.tag_search.proofs.PlainPools.{give_pool}
-use Rattle.tag_board.proofs.Truths.{same_test}
+use Rattle.tag_board.proofs.Holdings.{same_test}
 
 -- a give frees only bits of its word
 abbrev IsGiveWithin : Layout → WordStep → Type 0

@@ -1,5 +1,4 @@
 mod Uses
-mod Truths
 mod Holdings
 mod Tallies
 mod Handfuls

@@ -9,14 +9,16 @@ use Rattle.tag_board.proofs.Handfuls.{part_ext}
 use Rattle.tag_board.proofs.Holdings.{not_holds}
 
 module _ {R : Type 0} where
-  -- a new agent has counted nothing
-  none_counted : (options : Options) (q : Queue R) (agents : List (Agent R)) (n : ℕ) (a : Agent R)
+  -- a new agent has counted nothing, and made no step
+  pub new_record : (options : Options) (q : Queue R) (agents : List (Agent R)) (n : ℕ) (a : Agent R)
       → queue_opening.IsOpen options q agents → get_elem? agents n ≡ some a
       → ((record_of (queue.caller_of a)).won ≡ 0) × ((record_of (queue.caller_of a)).back ≡ 0)
-  none_counted options q agents n a opened at =
+      × ((record_of (queue.caller_of a)).steps ≡ [])
+  new_record options q agents n a opened at =
       let fresh = (opened.callers.each n (queue.caller_of a) (at_map queue.caller_of agents n a at)).1 in (
         ap (λ (r : Record R). r.won) fresh ∙ opened.tags.starts.0 n,
         ap (λ (r : Record R). r.back) fresh ∙ opened.tags.starts.1 n,
+        ap (λ (r : Record R). r.steps) fresh,
       )
 
   module _ (options : Options) (tags : Tags R) (hands : List (Hand R)) (opened : AreOpen options tags hands) where
@@ -24,9 +26,9 @@ module _ {R : Type 0} where
     part_idle : (k : ℕ) (d : Hand R) → k < length hands → part_of (get_or hands k d) ≡ idle options.round_robin
     part_idle k d low =
         let hand = get_or hands k d in let at = entry_or hands k d low in
-        let one = none_counted options tags.ordinary (map ordinary_part hands) k hand.ordinary opened.ordinary
+        let one = new_record options tags.ordinary (map ordinary_part hands) k hand.ordinary opened.ordinary
         (at_map ordinary_part hands k hand at) in
-        let other = none_counted (record options { min_shallow = None }) tags.reserved (map reserved_part hands) k
+        let other = new_record (record options { min_shallow = None }) tags.reserved (map reserved_part hands) k
         hand.reserved opened.reserved (at_map reserved_part hands k hand at) in
         let out : standing_of hand ≡ None = (all_part (λ (a : Agent R). IsNew (queue.waiter_of a)) ordinary_part hands
         (all_part IsNew queue.waiter_of (map ordinary_part hands) opened.ordinary.groups.new) k d low).0 in

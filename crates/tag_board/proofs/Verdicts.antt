@@ -1,6 +1,6 @@
 -- Each refusal has its cause, and there is no other refusal.
 use Rattle.std.proofs.Common.{◌≡◌, ◌≢◌, ◌⊎◌, ℕ, ◌+◌, ◌<◌, ◌≤◌, ◌↔◌, true, false, inl, inr, ⊎_elim, Result, Ok, Err, IfOk, OnErr, IsOk, refl, subst, arith, List, sym}
-use Rattle.tag_board.proofs.Uses.{Kind, cases_lt, cases_Bool, cases_eq, both_ways, TagFault, NoSuchTag, NoReserved, NotHeld, BadCount, TooShallow, Spent, NotWaiting, CountsTags, Ordinary, Reserved, State, IsSpent, RefusesGet, RefusesShallow, RefusesBatch, RefusesTag, RefusesList, RefusesWait, RefusesLeave, Miscounts, AreOrdinary, AreHeldOnce, Answers}
+use Rattle.tag_board.proofs.Uses.{Kind, cases_lt, cases_Bool, cases_eq, TagFault, NoSuchTag, NoReserved, NotHeld, BadCount, TooShallow, Spent, NotWaiting, CountsTags, Ordinary, Reserved, State, IsSpent, RefusesGet, RefusesShallow, RefusesBatch, RefusesTag, RefusesList, RefusesWait, RefusesLeave, Miscounts, AreOrdinary, AreHeldOnce, Answers}
 use Rattle.tag_sets.specs.declared.fault.TagFault.TheVariants.{Waiting}
 
 -- the result is a fault whose cause holds, or a value and no cause holds
@@ -29,8 +29,11 @@ by_cause : {A : Type 0} (refuses : TagFault → Type 0) (r : Result A TagFault)
     → ((fault : TagFault) → refuses fault → r ≡ Err fault) → ((fault : TagFault) × refuses fault) ⊎ IsOk r
     → IsVerdict refuses r
 by_cause refuses r each (inl bad) = inl (bad.0, each bad.0 bad.1, bad.1)
-by_cause {A} refuses r each (inr ok) = inr (ok, λ fault cause. let P : Result A TagFault → Type 0 = λ x. IsOk x in
-    let wrong = subst P (each fault cause) ok in cc)
+by_cause {A} refuses r each (inr ok) = inr (
+  ok,
+  λ fault cause. let P : Result A TagFault → Type 0 = λ x. IsOk x in
+      let wrong = subst P (each fault cause) ok in cc,
+)
 
 spent_or_not : (s : State) (caller : ℕ) (kind : Kind) (n : ℕ) → IsSpent s caller kind n ⊎ (¬ (IsSpent s caller kind n))
 spent_or_not s caller kind n = ⊎_elim (λ (less : s.terms.life kind < (s.part caller).won kind + n). inl less)
