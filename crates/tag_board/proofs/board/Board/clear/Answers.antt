@@ -1,5 +1,5 @@
 -- The hand loses the tag and counts it.
-use Rattle.std.proofs.Common.{arith, ◌≡◌, ℕ, nat_eq, ◌<◌}
+use Rattle.std.proofs.Common.{◌≡◌, ℕ, nat_eq, ◌<◌, arith}
 use Rattle.tag_board.proofs.Uses.{reserved_of, AloneClears, state_of, RefusesTag, Changes, cleared, State, GrantsFor}
 use Rattle.tag_board.proofs.Commands.{kept, replies, seated, clear_does, none_woken, both_ok, tag_verdict, held_here, none_here, own_here, sits}
 use Rattle.tag_board.proofs.board.Board.clear.Goals as goal

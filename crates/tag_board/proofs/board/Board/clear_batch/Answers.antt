@@ -1,5 +1,5 @@
 -- The hand loses the listed tags and counts them.
-use Rattle.std.proofs.Common.{arith, ℕ, length}
+use Rattle.std.proofs.Common.{ℕ, length, arith}
 use Rattle.tag_board.proofs.Uses.{AloneClearsList, state_of, RefusesList, Changes, cleared, is_in_list, GrantsFor}
 use Rattle.tag_board.proofs.Commands.{kept, replies, seated, list_does, both_ok, both_on, list_verdict, held_here, here_held, own_here, sits}
 use Rattle.tag_board.proofs.board.Board.clear_batch.Goals as goal

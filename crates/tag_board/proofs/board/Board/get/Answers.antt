@@ -1,5 +1,5 @@
 -- The hand did not hold the tag before, and no other caller holds it now, so no caller held it.
-use Rattle.std.proofs.Common.{arith, ℕ, Option, Ok, refl, ap}
+use Rattle.std.proofs.Common.{ℕ, Option, Ok, refl, ap, arith}
 use Rattle.tag_board.proofs.Uses.{count_of, Ordinary, AloneGets, plain, state_of, RefusesGet, Wins, is_answer}
 use Rattle.tag_board.proofs.Commands.{got, holds_gained, kept, none_moved, seated, seen_of, get_gains, ok_map, err_same, get_verdict, own_here, sits, spent_here}
 use Rattle.tag_board.proofs.board.Board.get.Goals as goal
@@ -28,5 +28,6 @@ returns c =
     (λ (o : Option ℕ). Wins i Ordinary (is_answer o) (count_of o) s) (AloneGets Ordinary plain) a
     (seen_of c.tell_free.new.self) (ap seen_of c.tell_free.ensures.same)
     (get_gains b.tags old new own b.hands.items a e.gets) c.tell_free.ensures.alone
-    (get_verdict s i (Ok a) (λ spent. absurd (spent_here b.tags at own Ordinary 1 spent (e.room.0 refl))) (λ unspent. refl)) (λ w. w) in
+    (get_verdict s i (Ok a) (λ spent. absurd (spent_here b.tags at own Ordinary 1 spent (e.room.0 refl)))
+    (λ unspent. refl)) (λ w. w) in
     record { answers = k.answers; alone = k.alone; waiters = none_moved i (Ok a) k.waiters }

@@ -1,5 +1,5 @@
 -- The hand did not hold the tags before, and no other caller holds one now, so no caller held one.
-use Rattle.std.proofs.Common.{arith, ◌≡◌, ℕ, true, Option, None, Ok, refl, sym, ap, ◌∙◌}
+use Rattle.std.proofs.Common.{◌≡◌, ℕ, true, Option, None, Ok, refl, sym, ap, ◌∙◌, arith}
 use Rattle.tag_board.proofs.Uses.{count_of_run, Ordinary, AloneBatch, state_of, RefusesBatch, Wins, is_in_run, State}
 use Rattle.tag_board.proofs.Commands.{got, holds_gained, kept, none_moved, seated, seen_of, batch_gains, batch_number, none_around, batch_verdict, own_here, room_here, round_here, sits, spent_here}
 use Rattle.tag_board.proofs.board.Board.get_batch.Goals as goal

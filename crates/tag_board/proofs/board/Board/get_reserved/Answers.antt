@@ -1,5 +1,5 @@
 -- The hand did not hold the tag before, and no other caller holds it now, so no caller held it.
-use Rattle.std.proofs.Common.{arith, ℕ, Option, Ok, ap}
+use Rattle.std.proofs.Common.{ℕ, Option, Ok, ap, arith}
 use Rattle.tag_board.proofs.Uses.{count_of, Reserved, AloneGets, plain, state_of, RefusesGet, Wins, is_answer}
 use Rattle.tag_board.proofs.Commands.{got, holds_gained, kept, none_moved, seated, seen_of, reserved_gains, ok_map, reserved_verdict, own_here, room_here, sits, spent_here}
 use Rattle.tag_board.proofs.board.Board.get_reserved.Goals as goal

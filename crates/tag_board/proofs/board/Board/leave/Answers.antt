@@ -1,5 +1,5 @@
 -- The hand is then in no group.
-use Rattle.std.proofs.Common.{arith, ℕ, ◌∙◌, false}
+use Rattle.std.proofs.Common.{ℕ, ◌∙◌, false, arith}
 use Rattle.tag_board.proofs.Uses.{standing_of, Left, state_of, RefusesLeave, Changes, standing, Leaves}
 use Rattle.tag_board.proofs.Commands.{kept, none_done, replies, seated, AsBefore, leave_does, ok_map, err_same, err_since, not_some_since, leave_verdict, sits, stands_here}
 use Rattle.tag_board.proofs.board.Board.leave.Goals as goal

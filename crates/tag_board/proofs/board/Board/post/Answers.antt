@@ -1,5 +1,5 @@
 -- The hand loses the tag and counts nothing.
-use Rattle.std.proofs.Common.{arith, ℕ, nat_eq}
+use Rattle.std.proofs.Common.{ℕ, nat_eq, arith}
 use Rattle.tag_board.proofs.Uses.{AlonePosts, state_of, RefusesTag, Changes, left}
 use Rattle.tag_board.proofs.Commands.{kept, none_moved, replies, seated, AsBefore, post_does, on_map, tag_verdict, held_here, none_here, own_here, sits}
 use Rattle.tag_board.proofs.board.Board.post.Goals as goal

@@ -1,5 +1,5 @@
 -- The sizes are those of the set, and the loads change no part.
-use Rattle.std.proofs.Common.{arith, ap}
+use Rattle.std.proofs.Common.{ap, arith}
 use Rattle.tag_board.proofs.Uses.{state_of}
 use Rattle.tag_board.proofs.Lookings.{show_depth, show_words, show_few}
 use Rattle.tag_board.proofs.Commands.{all_rest, effect_on, seated, show_does, own_here, same_state, sits}

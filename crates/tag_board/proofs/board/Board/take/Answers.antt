@@ -1,5 +1,5 @@
 -- The hand did not hold the tag before, and no other caller holds it now, so no caller held it.
-use Rattle.std.proofs.Common.{arith, ◌≡◌, ℕ, nat_eq, set, rules, Option, Some, Result, Ok, Err, IfErr, refl, sym, ap, subst}
+use Rattle.std.proofs.Common.{◌≡◌, ℕ, nat_eq, set, rules, Option, Some, Result, Ok, Err, IfErr, refl, sym, ap, subst, arith}
 use Rattle.tag_board.proofs.Uses.{TagFault, AloneTakes, state_of, alone_sets_of, Takes, is_answer, joined}
 use Rattle.tag_sets.specs.Gets.{IsAnswer}
 use Rattle.tag_board.proofs.Postings.{take_number, cause_of_take, err_is, refused_take}

@@ -1,5 +1,5 @@
 -- The hand is then in a group.
-use Rattle.std.proofs.Common.{arith, ℕ, ◌∙◌, ◌<◌, true}
+use Rattle.std.proofs.Common.{ℕ, ◌∙◌, ◌<◌, true, arith}
 use Rattle.tag_board.proofs.Uses.{standing_of, state_of, RefusesWait, Changes, standing, State, Enters}
 use Rattle.tag_board.proofs.Commands.{kept, none_done, replies, seated, AsBefore, enter_does, low_group, ok_map, err_same, err_since, none_since, some_since, wait_verdict, sits, stands_here}
 use Rattle.tag_board.proofs.board.Board.wait.Goals as goal

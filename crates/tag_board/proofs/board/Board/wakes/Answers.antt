@@ -1,5 +1,5 @@
 -- The call adds loads to the lists of its caller, and nothing else.
-use Rattle.std.proofs.Common.{arith, ◌∙◌}
+use Rattle.std.proofs.Common.{◌∙◌, arith}
 use Rattle.tag_board.proofs.Uses.{state_of, Finds}
 use Rattle.tag_board.proofs.Commands.{effect_on, seated, stay_does, same_state, sits, stands_here}
 use Rattle.tag_board.proofs.board.Board.wakes.Goals as goal
