@@ -1,21 +1,8 @@
 -- The counts of all hands, summed over both sets, are the sums over all callers of the state.
 use Rattle.std.proofs.Common.{◌≡◌, ℕ, suc, ◌+◌, Bool, true, false, cond, List, [], ◌∷◌, length, map, get_or, All, is_some, refl, sym, ap, ◌∙◌, arith}
+use Rattle.tag_board.proofs.Uses.{sum_below, sum_below-same, sum_below-split, count_below, Record, sum_of, size_of, Agent, records_of, standing_of_agent, Hand, Ordinary, Reserved, Tags, IsHandOf, total_of, reserved_part, ordinary_part, held_in_both, posted_in_both, standing_count, BalanceInBoth, record_in, part_of, state_of_all, Part, idle, got_in, back_in, posted_in, standing_in}
 use Rattle.std.proofs.lemmas.List.Recursion.{is_count_by}
-use Rattle.tag_layout.specs.Sums.{sum_below}
-use Rattle.tag_layout.proofs.SumFacts.{sum_below-same, sum_below-split}
-use Rattle.tag_model.specs.Totals.{count_below}
-use Rattle.tag_core.specs.declared.record.Record.{Record}
-use Rattle.tag_core.specs.Sizes.{total_of as sum_of, size_of}
-use Rattle.tag_queue.specs.declared.agent.Agent.{Agent}
-use Rattle.tag_queue.specs.Agents.{records_of, standing_of as standing_of_agent}
-use Rattle.tag_sets.specs.declared.hand.Hand.{Hand}
-use Rattle.tag_sets.specs.declared.kind.Kind.TheVariants.{Ordinary, Reserved}
-use Rattle.tag_sets.specs.declared.tags.Tags.{Tags}
-use Rattle.tag_sets.specs.Hands.{IsHandOf, total_of}
-use Rattle.tag_sets.specs.Opening.{reserved_part, ordinary_part}
-use Rattle.tag_sets.specs.Resizing.{held_in_both, posted_in_both, standing_count, BalanceInBoth}
-use Rattle.tag_board.specs.Parts.{record_in, part_of, state_of_all}
-use Rattle.tag_board.specs.States.{Part, idle, got_in, back_in, held_in, posted_in, standing_in}
+use Rattle.tag_board.specs.States.{held_in}
 use Rattle.tag_board.proofs.Sizings.{size_holds}
 
 module _ {R : Type 0} where

@@ -1,22 +1,20 @@
 -- How the steps of the only hand of a board determine both sets.
-use Rattle.std.proofs.Common.{◌≡◌, ℕ, ◌+◌, ◌<◌, true, false, List, length, get_or, set, Option, Some, None, Result, Ok, Err, IfOk, OnErr, refl, sym, ap, ◌∙◌, subst, arith}
-use Rattle.std.proofs.lemmas.List.{get_or-map, get_or-set_same, length-set}
-use Rattle.tag_layout.specs.Layout.{Layout}
-use Rattle.tag_core.specs.declared.shape.Shape.{Shape}
-use Rattle.tag_search.specs.Alone.{IsAlone}
-use Rattle.tag_sets.specs.declared.fault.TagFault.{TagFault}
+use Rattle.std.proofs.Common.{◌≡◌, ℕ, true, false, List, length, map, get_or, set, Option, None, sym, ap, ◌∙◌, subst, arith}
+use Rattle.tag_board.proofs.Uses.{Layout, Shape, IsAlone, Visit, Hand, Kind, Ordinary, Reserved, Tags, hands_of, agent_of, hint_of, layout_of, reserved_of, IsHandOf, AloneSet, AloneSets, split_in, Chooses, ChoosesRun, AloneBatch, untouched, alone_set_of, alone_sets_in, alone_sets_of_all, get_or-map}
+use Rattle.tag_search.specs.Choice.{IsChoice}
 use Rattle.tag_queue.specs.Agents as queue
 use Rattle.tag_queue.specs.Gets as queue_gets
-use Rattle.tag_sets.specs.declared.hand.Hand.{Hand}
-use Rattle.tag_sets.specs.declared.kind.Kind.{Kind}
-use Rattle.tag_sets.specs.declared.kind.Kind.TheVariants.{Ordinary, Reserved}
-use Rattle.tag_sets.specs.declared.tags.Tags.{Tags}
-use Rattle.tag_sets.specs.Gathering.{hands_of}
 use Rattle.tag_sets.specs.Gets as gets
-use Rattle.tag_sets.specs.Hands.{agent_of, hint_of, layout_of, reserved_of, IsHandOf}
-use Rattle.tag_board.specs.AloneSets.{AloneSets, Does, split_in, Chooses, ChoosesRun, AloneGets, AloneBatch, plain, shallow, untouched}
-use Rattle.tag_board.specs.Parts.{alone_set_of, alone_sets_in, alone_sets_of_all}
-use Rattle.tag_board.proofs.Seats.{Sits}
+use Rattle.tag_board.proofs.Seats.{Sits, seat, seen_here}
+
+-- what a board without hands shows
+abbrev no_sets : AloneSets
+no_sets kind = untouched (record { depth = 0; shift = 0 }) false
+
+-- the sets of a list of one hand are those of the hand
+pub only_is : {R : Type 0} (hands : List (Hand R)) (d : Hand R) → length hands ≡ 1
+    → alone_sets_of_all hands ≡ alone_sets_in (get_or hands 0 d)
+only_is hands d one = get_or-map alone_sets_in hands 0 d no_sets (omega arith)
 
 -- the sets of the board are those of its only hand, before and after a call
 module _ {R : Type 0} {hands : List (Hand R)} {i : ℕ} {old : Hand R} (at : Sits hands i old) (new : Hand R)
@@ -24,27 +22,14 @@ module _ {R : Type 0} {hands : List (Hand R)} {i : ℕ} {old : Hand R} (at : Sit
   first : 0 ≡ i
   first = let low = at.within in omega arith
 
-  alone_sets_here : alone_sets_of_all hands ≡ alone_sets_in old
-  alone_sets_here = get_or-map alone_sets_in hands 0 old (λ kind. untouched (record { depth = 0; shift = 0 }) false) (omega arith)
-      ∙ ap alone_sets_in (ap (λ (n : ℕ). get_or hands n old) first ∙ sym at.here)
-
-  alone_sets_now : alone_sets_of_all (set hands i new) ≡ alone_sets_in new
-  alone_sets_now = get_or-map alone_sets_in (set hands i new) 0 new (λ kind. untouched (record { depth = 0; shift = 0 }) false)
-      (let long = length-set hands i new in omega arith)
-      ∙ ap alone_sets_in (ap (λ (n : ℕ). get_or (set hands i new) n new) first
-      ∙ get_or-set_same hands i new new at.within)
+  alone_sets_here : {now : List (Hand R)} {hand : Hand R} → Sits now i hand
+      → alone_sets_of_all now ≡ alone_sets_in hand
+  alone_sets_here {now} sat = ap (λ (n : ℕ). get_or (map alone_sets_in now) n no_sets) first ∙ seen_here alone_sets_in no_sets sat
 
   pub alone_sets_moved : (Q : AloneSets → AloneSets → Type 0) → Q (alone_sets_in old) (alone_sets_in new)
       → Q (alone_sets_of_all hands) (alone_sets_of_all (set hands i new))
-  alone_sets_moved Q q = subst (λ (s : AloneSets). Q s (alone_sets_of_all (set hands i new))) (sym alone_sets_here)
-      (subst (λ (s : AloneSets). Q (alone_sets_in old) s) (sym alone_sets_now) q)
-
-  -- a refused command leaves both sets unchanged
-  pub does_moved : {A : Type 0} (done : A → AloneSets → AloneSets → Type 0) (r : Result A TagFault)
-      → IfOk r (λ a. done a (alone_sets_in old) (alone_sets_in new))
-      → OnErr r (new ≡ old) → Does done (alone_sets_of_all hands) r (alone_sets_of_all (set hands i new))
-  does_moved done (Ok a) d same = alone_sets_moved (done a) d
-  does_moved done (Err fault) d same = alone_sets_moved (λ a b. b ≡ a) (ap alone_sets_in same)
+  alone_sets_moved Q q = subst (λ (s : AloneSets). Q s (alone_sets_of_all (set hands i new))) (sym (alone_sets_here at))
+      (subst (λ (s : AloneSets). Q (alone_sets_in old) s) (sym (alone_sets_here (seat at new))) q)
 
 module _ {R : Type 0} (tags : Tags R) (old new : Hand R) (own : IsHandOf tags old) (one : hands_of tags ≡ 1) where
   -- the hand's callers are the only ones of their maps
@@ -60,30 +45,21 @@ module _ {R : Type 0} (tags : Tags R) (old new : Hand R) (own : IsHandOf tags ol
   pub split_is : reserved_of tags ≡ split_in (alone_sets_in old)
   split_is = sym tags.reserved_is ∙ ap (λ (l : Layout). l.depth) (layout_in Reserved)
 
-  plain_chooses : (kind : Kind) (number : Option ℕ)
-      → queue_gets.GetsPlain (layout_of tags kind) number (agent_of old kind) (agent_of new kind)
-      → Chooses plain number (alone_sets_in old kind) (alone_sets_in new kind)
-  plain_chooses kind number g =
-      let h = subst (λ (l : Layout). queue_gets.GetsPlain l number (agent_of old kind) (agent_of new kind))
-      (layout_in kind) g in
-      let s = h.searches in let a = s.alone (alone_in kind) in record {
-        layout = ap (λ (k : Shape). k.layout) s.gains.shape;
-        choice = a.choice;
+  -- a search whose visits follow from the layout chooses by those of the set
+  pub chooses : (kind : Kind) (visits : AloneSet → List Visit) (to_visit : Layout → List Visit)
+      → visits (alone_sets_in old kind) ≡ to_visit (alone_sets_in old kind).layout → (number : Option ℕ)
+      → queue_gets.Searches (layout_of tags kind) (to_visit (layout_of tags kind)) number
+      (queue.caller_of (agent_of old kind)) (queue.caller_of (agent_of new kind)) (hint_of old kind) (hint_of new kind)
+      → Chooses visits number (alone_sets_in old kind) (alone_sets_in new kind)
+  chooses kind visits to_visit fits number s =
+      let h = subst (λ (l : Layout). queue_gets.Searches l (to_visit l) number (queue.caller_of (agent_of old kind))
+      (queue.caller_of (agent_of new kind)) (hint_of old kind) (hint_of new kind)) (layout_in kind) s in
+      let a = h.alone (alone_in kind) in record {
+        layout = ap (λ (k : Shape). k.layout) h.gains.shape;
+        choice = subst (λ (v : List Visit). IsChoice (alone_sets_in old kind).layout (alone_sets_in old kind).pool v number
+            (alone_sets_in new kind).pool) (sym fits) a.choice;
         posted = λ j. λ tag. a.posted tag j;
-        hint = s.hint;
-      }
-
-  shallow_chooses : (depth : ℕ) (number : Option ℕ)
-      → queue_gets.GetsShallow (layout_of tags Ordinary) depth number old.ordinary new.ordinary
-      → Chooses (shallow depth) number (alone_sets_in old Ordinary) (alone_sets_in new Ordinary)
-  shallow_chooses depth number g =
-      let h = subst (λ (l : Layout). queue_gets.GetsShallow l depth number old.ordinary new.ordinary)
-      (layout_in Ordinary) g in
-      let s = h.searches in let a = s.alone (alone_in Ordinary) in record {
-        layout = ap (λ (k : Shape). k.layout) s.gains.shape;
-        choice = a.choice;
-        posted = λ j. λ tag. a.posted tag j;
-        hint = s.hint;
+        hint = h.hint;
       }
 
   run_chooses : (n : ℕ) (number : Option (ℕ × ℕ))
@@ -98,35 +74,6 @@ module _ {R : Type 0} (tags : Tags R) (old new : Hand R) (own : IsHandOf tags ol
         posted = λ j. λ tag. a.posted tag j;
         hint = h.hint;
       }
-
-  pub get_alone : (answer : Option ℕ) → gets.Gets tags answer old new
-      → AloneGets Ordinary plain answer (alone_sets_in old) (alone_sets_in new)
-  get_alone answer g = (
-    g.number,
-    g.answer_is ∙ ap (λ (r : ℕ). gets.whole r g.number) split_is,
-    (plain_chooses Ordinary g.number g.set.changed, ap alone_set_of g.set.other),
-  )
-
-  pub shallow_alone : (depth : ℕ) (answer : Option ℕ) → gets.GetsShallow tags depth answer old new
-      → AloneGets Ordinary (shallow depth) answer (alone_sets_in old) (alone_sets_in new)
-  shallow_alone depth answer g = (
-    g.number,
-    g.answer_is ∙ ap (λ (r : ℕ). gets.whole r g.number) split_is,
-    (shallow_chooses depth g.number g.set.changed, ap alone_set_of g.set.other),
-  )
-
-  -- without reserved tags, the number in the set is the tag
-  from_none : (answer : Option ℕ) → answer ≡ gets.whole 0 answer
-  from_none None = refl
-  from_none (Some n) = let e : n ≡ 0 + n = omega arith in ap Some e
-
-  pub reserved_alone : (answer : Option ℕ) → gets.GetsReserved tags answer old new
-      → AloneGets Reserved plain answer (alone_sets_in old) (alone_sets_in new)
-  reserved_alone answer g = (
-    answer,
-    from_none answer,
-    (plain_chooses Reserved answer g.set.changed, ap alone_set_of g.set.other),
-  )
 
   pub batch_alone : (n : ℕ) (answer : Option (ℕ × ℕ))
       → ((hint_of old Ordinary).round_robin ≡ true → (answer ≡ None) × (new ≡ old))

@@ -1,25 +1,15 @@
 -- How calls of the only hand on one tag change both sets.
 use Rattle.std.proofs.Common.{◌≡◌, ℕ, ◌≤◌, true, false, ap, ◌∙◌, subst, List, map, ◌-◌}
-use Rattle.tag_layout.specs.Layout.{Layout}
+use Rattle.tag_board.proofs.Uses.{Layout, Hand, Kind, Ordinary, Reserved, Tags, hands_of, agent_of, layout_of, reserved_of, split_of, IsHandOf, kind_of, number_in_set, other_kind, AloneSet, ChangesSet, ChangesSetOf, AloneClears, AlonePosts, put_back, post_in, take_in, AloneClearsList, give_back, alone_set_of, alone_sets_in}
 use Rattle.tag_queue.specs.Clears as queue_clears
-use Rattle.tag_sets.specs.declared.hand.Hand.{Hand}
-use Rattle.tag_sets.specs.declared.kind.Kind.{Kind}
-use Rattle.tag_sets.specs.declared.kind.Kind.TheVariants.{Ordinary, Reserved}
-use Rattle.tag_sets.specs.declared.tags.Tags.{Tags}
 use Rattle.tag_queue.specs.Batches as queue_batches
 use Rattle.tag_sets.specs.Batches as batches
 use Rattle.tag_sets.specs.Clears as clears
-use Rattle.tag_sets.specs.Gathering.{hands_of}
-use Rattle.tag_sets.specs.Hands.{agent_of, layout_of, reserved_of, split_of, IsHandOf}
-use Rattle.tag_sets.specs.Sets.{kind_of, number_in_set, other_kind}
 use Rattle.tag_sets.specs.Slots as slots
-use Rattle.tag_sets.specs.Waits as waits
-use Rattle.wake_book.specs.declared.waiting.Left.{Left}
-use Rattle.tag_board.specs.AloneSets.{AloneSet, ChangesSet, ChangesSetOf, AloneClears, AlonePosts, is_posted, put_back, post_in, take_in, AloneClearsList, give_back}
-use Rattle.tag_board.specs.Parts.{alone_set_of, alone_sets_in}
+use Rattle.tag_board.specs.AloneSets.{is_posted}
 use Rattle.tag_board.proofs.AloneBoard.{alone_in, layout_in, split_is}
 use Rattle.tag_board.proofs.AloneRuns.{alone_give}
-use Rattle.tag_board.proofs.AloneSteps.{alone_same, alone_post, alone_take, alone_miss, alone_put}
+use Rattle.tag_board.proofs.AloneSteps.{alone_post, alone_take, alone_miss, alone_put}
 
 module _ {R : Type 0} (old new : Hand R) where
   -- both sets are unchanged
@@ -32,19 +22,6 @@ module _ {R : Type 0} (old new : Hand R) where
   both_same Reserved here other = let each : (k : Kind) → alone_sets_in new k ≡ alone_sets_in old k =
       elim [ Ordinary ↦ ap alone_set_of other | Reserved ↦ here ] in
       λ j. λ k. each k j
-
-  -- waits, and looks at the counts, leave both sets unchanged
-  pub enter_alone : (group : ℕ) → waits.Enters group old new → alone_sets_in new ≡ alone_sets_in old
-  enter_alone group e = let same = e.set.changed.same in
-      both_same Ordinary (alone_same old.ordinary new.ordinary same.0 same.1) e.set.other
-
-  pub leave_alone : (left : Left) → waits.Leaves left old new → alone_sets_in new ≡ alone_sets_in old
-  leave_alone left l = let same = l.set.changed.1 in
-      both_same Ordinary (alone_same old.ordinary new.ordinary same.0 same.1) l.set.other
-
-  pub stay_alone : waits.Stays old new → alone_sets_in new ≡ alone_sets_in old
-  stay_alone s = let same = s.set.changed in
-      both_same Ordinary (alone_same old.ordinary new.ordinary same.0 same.1) s.set.other
 
 -- words have at most 64 bits
 pub narrow_of : {R : Type 0} (tags : Tags R) (kind : Kind) → (layout_of tags kind).shift ≤ 6

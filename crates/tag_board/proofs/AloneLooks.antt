@@ -1,27 +1,11 @@
 -- What the looks of a set's only agent find in it.
 use Rattle.std.proofs.Common.{◌≡◌, ℕ, zero, suc, ◌+◌, ◌<◌, ◌≤◌, Bool, true, false, not, ◌&&◌, ◌||◌, cond, nat_eq, nat_lt, List, [], ◌∷◌, length, get_or, refl, sym, ap, ◌∙◌, subst, arith}
-use Rattle.std.proofs.lemmas.Bool.{ltb-true, lt-ltb}
-use Rattle.std.proofs.lemmas.Nat.Bits.{bit_at-lt}
-use Rattle.std.specs.Int.{bit_at}
-use Rattle.tag_layout.specs.Layout.{Layout, words, word_of, place_of}
-use Rattle.tag_layout.proofs.PlaceFacts.{word_of-below}
-use Rattle.tag_model.specs.Totals.{count_below}
-use Rattle.tag_core.specs.declared.record.Record.{Record}
-use Rattle.tag_core.specs.declared.shape.Shape.{Shape}
-use Rattle.tag_core.specs.declared.step.Step.{Step}
-use Rattle.tag_core.specs.Callers.{record_of}
+use Rattle.tag_board.proofs.Uses.{ltb-true, lt-ltb, bit_at-lt, bit_at, Layout, words, word_of, place_of, word_of-below, count_below, Record, Shape, Step, record_of, IsAlone, cells_left, words_left, own_after, pool_of, is_busy, own_found, state_after, place_small, Agent, caller_of, is_busy_in, is_aside_in, alone_set_of}
+use Rattle.tag_board.proofs.AloneSteps.{set_ext}
 use Rattle.tag_core.specs.Steps.{Words, Quiet, words_after_all}
-use Rattle.tag_search.specs.Alone.{IsAlone, is_posted}
-use Rattle.tag_search.specs.AloneLaws.{cells_left, words_left, own_after}
-use Rattle.tag_search.specs.Pool.{pool_of, is_busy}
 use Rattle.tag_search.specs.SharedLaws.{shape_after}
-use Rattle.tag_search.proofs.AloneCallers.{own_found, state_after, place_small}
 use Rattle.tag_search.proofs.AloneFacts.{EachFound, own_of_record, found_quiet, left_after}
-use Rattle.tag_queue.specs.declared.agent.Agent.{Agent}
-use Rattle.tag_queue.specs.Agents.{caller_of}
 use Rattle.tag_sets.specs.Looks as looks
-use Rattle.tag_board.specs.AloneSets.{is_busy_in, is_aside_in}
-use Rattle.tag_board.specs.Parts.{alone_set_of}
 
 -- looks leave the words unchanged
 looks_leave : (found : List (ℕ × ℕ)) (word : ℕ) (w : Words) → words_after_all (looks.looks_from word found) w ≡ w
@@ -79,14 +63,9 @@ module _ {R : Type 0} (old new : Agent R) (one : IsAlone (caller_of old)) (found
       let older : List (Step R) = (record_of (caller_of old)).steps in
       let words = ap (λ (s : List (Step R)). words_left s) made ∙ left_after (looks.looks_from 0 found) older
       ∙ looks_leave found 0 (words_left older) in
-      let posted : (tag : ℕ) → is_posted (caller_of new) tag ≡ is_posted (caller_of old) tag = λ tag.
-      ap (λ (s : List (Step R)). nat_eq ((cells_left s).state tag) 1) made
-      ∙ ap (λ (g : ℕ → ℕ). nat_eq (g tag) 1) (state_after (looks.looks_from 0 found) older) in λ j. record {
-        layout = (shape j).layout;
-        pool = pool_of (words j);
-        posted = λ tag. posted tag j;
-        hint = f.same_else.0 j;
-      }
+      set_ext (alone_set_of new) (alone_set_of old) (ap (λ (s : Shape). s.layout) shape) (ap pool_of words)
+      (λ tag. ap (λ (s : List (Step R)). nat_eq ((cells_left s).state tag) 1) made
+      ∙ ap (λ (g : ℕ → ℕ). nat_eq (g tag) 1) (state_after (looks.looks_from 0 found) older)) f.same_else.0
 
   word_found : (k : ℕ) → k < length found
       → ((get_or found k (0, 0)).0 ≡ (words_left (record_of (caller_of old)).steps).word k)

@@ -1,34 +1,11 @@
 -- New sets of a board with one caller.
-use Rattle.std.proofs.Common.{◌≡◌, ℕ, ◌-◌, Bool, false, ◌&&◌, nat_eq, nat_lt, List, [], length, map, get_or, sym, ap, ◌∙◌, subst, arith}
-use Rattle.std.proofs.lemmas.List.{get_or-map}
-use Rattle.std.proofs.lemmas.Nat.Bits.{bit_at-zero}
-use mathlib.Core.Option.{some}
-use lib.ListN.{get_elem?}
-use Rattle.atomic_table.proofs.Lists.{at_map}
-use Rattle.tag_layout.specs.Layout.{Layout, HasShift}
-use Rattle.tag_core.specs.declared.record.Record.{Record}
-use Rattle.tag_core.specs.declared.step.Step.{Step}
-use Rattle.tag_core.specs.Callers.{record_of}
-use Rattle.tag_core.proofs.Entries.{entry, entry_or}
-use Rattle.tag_search.specs.AloneLaws.{cells_left, words_left}
-use Rattle.tag_search.specs.Pool.{pool_of}
-use Rattle.tag_search.proofs.Pools.{pool_ext, and_true, and_false}
-use Rattle.tag_queue.specs.declared.agent.Agent.{Agent}
-use Rattle.tag_queue.specs.declared.queue.Options.{Options}
-use Rattle.tag_queue.specs.declared.queue.Queue.{Queue}
+use Rattle.std.proofs.Common.{◌≡◌, ℕ, ◌-◌, Bool, false, ◌&&◌, nat_eq, nat_lt, List, [], length, map, get_or, sym, ap, ◌∙◌, subst, arith, refl}
+use Rattle.tag_board.proofs.Uses.{bit_at-zero, at_map, Layout, HasShift, Step, record_of, entry, entry_or, cells_left, words_left, pool_of, pool_ext, and_true, and_false, Agent, Options, Hand, Kind, Ordinary, Reserved, Tags, hands_of, IsHandOf, layout_of, reserved_of, total_of, reserved_part, ordinary_part, AreOpen, all_part, AloneSets, untouched, AreUntouched, alone_set_of, alone_sets_in, alone_sets_of_all, Hint}
+use Rattle.tag_board.proofs.AloneSteps.{set_ext}
 use Rattle.tag_queue.specs.Agents as queue
 use Rattle.tag_queue.specs.Opening as queue_opening
-use Rattle.tag_sets.specs.declared.hand.Hand.{Hand}
-use Rattle.tag_sets.specs.declared.kind.Kind.{Kind}
-use Rattle.tag_sets.specs.declared.kind.Kind.TheVariants.{Ordinary, Reserved}
-use Rattle.tag_sets.specs.declared.tags.Tags.{Tags}
-use Rattle.tag_sets.specs.Gathering.{hands_of}
-use Rattle.tag_sets.specs.Hands.{IsHandOf, layout_of, reserved_of, total_of}
-use Rattle.tag_sets.specs.Opening.{reserved_part, ordinary_part, IsOpen as AreOpen}
-use Rattle.tag_sets.proofs.Opening.{all_part}
-use Rattle.tag_board.specs.AloneSets.{AloneSets, untouched, AreUntouched}
-use Rattle.tag_board.specs.Parts.{alone_set_of, alone_sets_in, alone_sets_of_all}
-use Rattle.tag_board.proofs.AloneBoard.{layout_in}
+use Rattle.tag_board.proofs.Newcomers.{new_record}
+use Rattle.tag_board.proofs.AloneBoard.{layout_in, only_is}
 
 -- each place of a map without steps is free
 pub blank_pool : (R : Type 0) (l : Layout) (round_robin : Bool)
@@ -38,25 +15,13 @@ blank_pool R l round_robin = pool_ext (pool_of (words_left {R = R} [])) (untouch
     (λ i k. ap (λ (x : ℕ). nat_lt k 64 && nat_eq x 1) (bit_at-zero k) ∙ and_false (nat_lt k 64))
 
 module _ {R : Type 0} where
-  -- an agent without steps has an untouched set
-  pub alone_untouched : (a : Agent R) (round_robin : Bool) → (record_of (queue.caller_of a)).steps ≡ []
-      → queue.hint_of a ≡ queue_opening.first_hint round_robin
-      → alone_set_of a ≡ untouched (alone_set_of a).layout round_robin
-  alone_untouched a round_robin none hint =
-      let pool = ap (λ (s : List (Step R)). pool_of (words_left s)) none
-      ∙ blank_pool R (alone_set_of a).layout round_robin in λ j. record {
-        layout = (alone_set_of a).layout;
-        pool = pool j;
-        posted = λ tag. nat_eq ((cells_left (none j)).state tag) 1;
-        hint = hint j;
-      }
-
-  -- a new agent has made no step
-  no_steps : (options : Options) (q : Queue R) (agents : List (Agent R)) (n : ℕ) (a : Agent R)
-      → queue_opening.IsOpen options q agents → get_elem? agents n ≡ some a → (record_of (queue.caller_of a)).steps ≡ []
-  no_steps options q agents n a opened at =
-      ap (λ (r : Record R). r.steps) (opened.callers.each n (queue.caller_of a)
-      (at_map queue.caller_of agents n a at)).1
+  -- the set of an agent without steps on a map of this layout
+  pub alone_fresh : (a : Agent R) (l : Layout) (h : Hint) → (alone_set_of a).layout ≡ l
+      → (record_of (queue.caller_of a)).steps ≡ [] → queue.hint_of a ≡ h
+      → alone_set_of a ≡ record (untouched l false) { hint = h }
+  alone_fresh a l h layout none hint = set_ext (alone_set_of a) (record (untouched l false) { hint = h }) layout
+      (ap (λ (s : List (Step R)). pool_of (words_left s)) none ∙ blank_pool R l false)
+      (λ tag. ap (λ (s : List (Step R)). nat_eq ((cells_left s).state tag) 1) none) hint
 
   module _ (options : Options) (tags : Tags R) (hands : List (Hand R)) (opened : AreOpen options tags hands)
       (one : length hands ≡ 1) where
@@ -72,30 +37,24 @@ module _ {R : Type 0} where
     agents : hands_of tags ≡ 1
     agents = opened.ordinary.tags.callers_is ∙ sym opened.count ∙ one
 
-    only_is : alone_sets_of_all hands ≡ alone_sets_in only
-    only_is = get_or-map alone_sets_in hands 0 some_hand (λ kind. untouched (record { depth = 0; shift = 0 }) false)
-        (omega arith)
-
     untouched_in : (kind : Kind) → alone_sets_in only kind ≡ untouched (alone_sets_in only kind).layout options.round_robin
-    untouched_in Ordinary = alone_untouched only.ordinary options.round_robin
-        (no_steps options tags.ordinary (map ordinary_part hands) 0 only.ordinary opened.ordinary
-        (at_map ordinary_part hands 0 only (entry_or hands 0 some_hand (omega arith))))
+    untouched_in Ordinary = alone_fresh only.ordinary _ (queue_opening.first_hint options.round_robin) refl
+        (new_record options tags.ordinary (map ordinary_part hands) 0 only.ordinary opened.ordinary
+        (at_map ordinary_part hands 0 only (entry_or hands 0 some_hand (omega arith)))).2
         (all_part (λ (a : Agent R). queue.hint_of a ≡ queue_opening.first_hint options.round_robin) ordinary_part hands
-        opened.ordinary.hints 0 some_hand
-        (omega arith))
-    untouched_in Reserved = alone_untouched only.reserved options.round_robin
-        (no_steps _ tags.reserved (map reserved_part hands) 0 only.reserved opened.reserved
-        (at_map reserved_part hands 0 only (entry_or hands 0 some_hand (omega arith))))
+        opened.ordinary.hints 0 some_hand (omega arith))
+    untouched_in Reserved = alone_fresh only.reserved _ (queue_opening.first_hint options.round_robin) refl
+        (new_record _ tags.reserved (map reserved_part hands) 0 only.reserved opened.reserved
+        (at_map reserved_part hands 0 only (entry_or hands 0 some_hand (omega arith)))).2
         (all_part (λ (a : Agent R). queue.hint_of a ≡ queue_opening.first_hint options.round_robin) reserved_part hands
-        opened.reserved.hints 0 some_hand
-        (omega arith))
+        opened.reserved.hints 0 some_hand (omega arith))
 
     pub opens_alone : (total reserved : ℕ) → total_of tags ≡ total → reserved_of tags ≡ reserved
         → HasShift (total - reserved) options.shift (layout_of tags Ordinary).shift
         → HasShift reserved options.shift (layout_of tags Reserved).shift
         → AreUntouched total reserved options (alone_sets_of_all hands)
     opens_alone total reserved whole split first second =
-        subst (λ (s : AloneSets). AreUntouched total reserved options s) (sym only_is) (record {
+        subst (λ (s : AloneSets). AreUntouched total reserved options s) (sym (only_is hands some_hand one)) (record {
           ordinary_layout = subst (λ (l : Layout). (l.depth ≡ total - reserved)
               × HasShift (total - reserved) options.shift l.shift)
               (layout_in tags only only own agents Ordinary) (omega arith, first);

@@ -1,62 +1,16 @@
 -- How a resize changes both sets of a board with one caller.
-use Rattle.std.proofs.Common.{◌≡◌, ℕ, ◌-◌, false, nat_eq, List, [], length, map, get_or, All, Ok, sym, ap, ◌∙◌, subst, arith}
-use Rattle.std.proofs.lemmas.List.{get_or-map, length-map}
-use Rattle.atomic_table.proofs.Lists.{at_map}
-use Rattle.tag_layout.specs.Layout.{Layout}
-use Rattle.tag_core.specs.declared.record.Record.{Record}
-use Rattle.tag_core.specs.declared.step.Step.{Step}
-use Rattle.tag_core.specs.Callers.{record_of}
-use Rattle.tag_core.proofs.Entries.{entry, entry_or}
-use Rattle.tag_search.specs.declared.hint.Hint.{Hint}
-use Rattle.tag_search.specs.AloneLaws.{cells_left, words_left}
-use Rattle.tag_search.specs.Pool.{pool_of}
-use Rattle.tag_queue.specs.declared.agent.Agent.{Agent}
+use Rattle.std.proofs.Common.{◌≡◌, ℕ, ◌-◌, List, length, map, get_or, All, Ok, sym, ap, ◌∙◌, subst, arith}
+use Rattle.tag_board.proofs.Uses.{get_or-map, length-map, at_map, Layout, Record, entry, entry_or, Hint, Hand, Kind, Ordinary, Reserved, Tags, hands_of, IsHandOf, reserved_of, number_of, reserved_part, ordinary_part, IsResized, AreUnchanged, AloneSets, AloneResizes, resized, alone_set_of, alone_sets_in, alone_sets_of_all}
+use Rattle.tag_board.proofs.AloneSteps.{alone_known}
 use Rattle.tag_queue.specs.Agents as queue
-use Rattle.tag_sets.specs.declared.hand.Hand.{Hand}
-use Rattle.tag_sets.specs.declared.kind.Kind.{Kind}
-use Rattle.tag_sets.specs.declared.kind.Kind.TheVariants.{Ordinary, Reserved}
-use Rattle.tag_sets.specs.declared.tags.Tags.{Tags}
-use Rattle.tag_sets.specs.Gathering.{hands_of}
-use Rattle.tag_sets.specs.Hands.{IsHandOf, reserved_of, number_of}
-use Rattle.tag_sets.specs.Opening.{reserved_part, ordinary_part}
-use Rattle.tag_sets.specs.Resizing.{IsResized, AreUnchanged}
-use Rattle.tag_board.specs.AloneSets.{AloneSets, AloneResizes, resized, untouched}
-use Rattle.tag_board.specs.Parts.{alone_set_of, alone_sets_in, alone_sets_of_all}
-use Rattle.tag_board.proofs.AloneBoard.{layout_in, split_is}
-use Rattle.tag_board.proofs.AloneOpens.{blank_pool}
+use Rattle.tag_board.proofs.AloneBoard.{layout_in, split_is, only_is}
+use Rattle.tag_board.proofs.AloneOpens.{alone_fresh}
 
 -- a layout of this depth and shift
 abbrev laid_out : ℕ → ℕ → Layout
 laid_out depth shift = record { depth = depth; shift = shift }
 
 module _ {R : Type 0} where
-  -- an agent with the record and the hint of another has the same set
-  alone_known : (a b : Agent R) → record_of (queue.caller_of b) ≡ record_of (queue.caller_of a)
-      → queue.hint_of b ≡ queue.hint_of a → alone_set_of b ≡ alone_set_of a
-  alone_known a b known hint = λ j. record {
-    layout = (known j).shape.layout;
-    pool = pool_of (words_left (known j).steps);
-    posted = λ tag. nat_eq ((cells_left (known j).steps).state tag) 1;
-    hint = hint j;
-  }
-
-  -- the set of an agent without steps on a map of this layout
-  alone_fresh : (b : Agent R) (l : Layout) (h : Hint) → (alone_set_of b).layout ≡ l
-      → (record_of (queue.caller_of b)).steps ≡ [] → queue.hint_of b ≡ h
-      → alone_set_of b ≡ record (untouched l false) { hint = h }
-  alone_fresh b l h layout none hint =
-      let pool = ap (λ (s : List (Step R)). pool_of (words_left s)) none ∙ blank_pool R l false in λ j. record {
-        layout = layout j;
-        pool = pool j;
-        posted = λ tag. nat_eq ((cells_left (none j)).state tag) 1;
-        hint = hint j;
-      }
-
-  -- the sets of a list of one hand are those of the hand
-  only_is : (hands : List (Hand R)) (d : Hand R) → length hands ≡ 1 → alone_sets_of_all hands ≡ alone_sets_in (get_or hands 0 d)
-  only_is hands d one = get_or-map alone_sets_in hands 0 d (λ kind. untouched (record { depth = 0; shift = 0 }) false)
-      (omega arith)
-
   -- unchanged hands leave both sets unchanged
   pub unchanged_alone : (old new : List (Hand R)) → length old ≡ 1 → AreUnchanged old new
       → alone_sets_of_all new ≡ alone_sets_of_all old

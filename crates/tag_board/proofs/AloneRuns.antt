@@ -1,92 +1,52 @@
 -- How the only agent of a set changes it by giving back a list of tags.
 use Rattle.std.proofs.Common.{◌≡◌, ℕ, ◌^◌, ◌<◌, ◌≤◌, Bool, true, false, ◌&&◌, ◌||◌, cond, nat_eq, nat_lt, List, [], ◌∷◌, ⊎_elim, refl, sym, ap, ◌∙◌, subst, arith, eq-eqb, eqb-true}
-use Rattle.std.proofs.Math.Logic.{∥∥₁_elim}
-use Rattle.std.proofs.lemmas.Bool.{and_parts, and_from, cases_lt, lt-ltb, ltb-true}
+use Rattle.tag_board.proofs.Uses.{∥∥₁_elim, and_parts, and_from, cases_lt, lt-ltb, ltb-true, bit_at_above, bit_at, list_any, Layout, word_of, place_of, word_bits, word_depth, tag_at, word_of-tag_at, place_of-tag_at, Caller, Record, Shape, Step, Word, Give, record_of, IsAlone, cells_left, words_left, Pool, pool_of, free_at, pool_ext, or_false, Agent, caller_of, Run, IsRun, AreRuns, GivesBack, record_after_runs, same_shape, is_named, give_back, alone_set_of}
+use Rattle.tag_board.proofs.AloneSteps.{set_ext}
 use Rattle.std.proofs.lemmas.List.Folds.{list_any-append, Any-from_list_any, list_any-from_Any}
-use Rattle.std.proofs.lemmas.Nat.Bits.{bit_at_above}
-use Rattle.std.specs.Int.{bit_at}
-use Rattle.std.specs.List.{list_any}
 use mathlib.Core.Bool.{Bool-set}
-use Rattle.tag_layout.specs.Layout.{Layout, word_of, place_of, word_bits, word_depth, tag_at}
-use Rattle.tag_layout.proofs.PlaceFacts.{word_of-tag_at, place_of-tag_at}
 use Rattle.tag_model.specs.Event.{IsInLayout}
 use Rattle.tag_model.specs.Runs.{IsHistory}
 use Rattle.tag_model.specs.World.{World}
-use Rattle.tag_core.specs.declared.caller.Caller.{Caller}
-use Rattle.tag_core.specs.declared.record.Record.{Record}
-use Rattle.tag_core.specs.declared.shape.Shape.{Shape}
-use Rattle.tag_core.specs.declared.step.Step.{Step}
-use Rattle.tag_core.specs.declared.step.Step.TheVariants.{Word, Post, Take}
 use Rattle.tag_core.specs.declared.word_step.WordStep.{WordStep}
-use Rattle.tag_core.specs.declared.word_step.WordStep.TheVariants.{Look, LookAside, Claimed, Give, Put, Swap, Spill}
-use Rattle.tag_core.specs.Callers.{record_of}
 use Rattle.tag_core.specs.Histories.{History, events_of, event_of, event_of_word, steps_by, opening_world}
 use Rattle.tag_core.specs.Meeting.{HasHistory}
 use Rattle.tag_core.proofs.TagBits.{small_word}
-use Rattle.tag_search.specs.Alone.{IsAlone, is_posted}
-use Rattle.tag_search.specs.AloneLaws.{cells_left, words_left}
-use Rattle.tag_search.specs.Pool.{Pool, pool_of, free_at}
 use Rattle.tag_search.proofs.PlainPools.{give_pool}
-use Rattle.tag_search.proofs.Pools.{pool_ext, or_false}
-use Rattle.tag_queue.specs.declared.agent.Agent.{Agent}
-use Rattle.tag_queue.specs.Agents.{caller_of}
-use Rattle.tag_queue.specs.Batches.{Run, IsRun, AreRuns, GivesBack, record_after_runs}
-use Rattle.tag_queue.proofs.Giving.{same_shape}
-use Rattle.tag_board.specs.AloneSets.{is_named, give_back}
-use Rattle.tag_board.specs.Parts.{alone_set_of}
-use Rattle.tag_board.proofs.Truths.{same_test}
+use Rattle.tag_board.proofs.Holdings.{same_test}
 
 -- a give frees only bits of its word
 abbrev IsGiveWithin : Layout → WordStep → Type 0
-IsGiveWithin l (Look i found) = Unit {0}
-IsGiveWithin l (LookAside i found) = Unit {0}
-IsGiveWithin l (Claimed i mask found) = Unit {0}
 IsGiveWithin l (Give i mask found) = nat_lt mask (2 ^ word_depth l i) ≡ true
-IsGiveWithin l (Put i mask found) = Unit {0}
-IsGiveWithin l (Swap i found) = Unit {0}
-IsGiveWithin l (Spill i mask found) = Unit {0}
+IsGiveWithin l _ = Unit {0}
 
 abbrev IsStepWithin : {R : Type 0} → Layout → Step R → Type 0
 IsStepWithin l (Word step) = IsGiveWithin l step
-IsStepWithin l (Post tag value) = Unit {0}
-IsStepWithin l (Take tag found value) = Unit {0}
+IsStepWithin l _ = Unit {0}
 
 abbrev AreGivesWithin : {R : Type 0} → Layout → List (Step R) → Type 0
 AreGivesWithin l [] = Unit {0}
 AreGivesWithin l (step ∷ older) = IsStepWithin l step × AreGivesWithin l older
 
 give_prop : (l : Layout) (step : WordStep) → IsProp (IsGiveWithin l step)
-give_prop l (Look i found) = hlevel
-give_prop l (LookAside i found) = hlevel
-give_prop l (Claimed i mask found) = hlevel
 give_prop l (Give i mask found) = Bool-set (nat_lt mask (2 ^ word_depth l i)) true
-give_prop l (Put i mask found) = hlevel
-give_prop l (Swap i found) = hlevel
-give_prop l (Spill i mask found) = hlevel
+give_prop l _ = hlevel
 
 step_prop : {R : Type 0} (l : Layout) (step : Step R) → IsProp (IsStepWithin l step)
 step_prop l (Word step) = give_prop l step
-step_prop l (Post tag value) = hlevel
-step_prop l (Take tag found value) = hlevel
+step_prop l _ = hlevel
 
 gives_prop : {R : Type 0} (l : Layout) (steps : List (Step R)) → IsProp (AreGivesWithin l steps)
 gives_prop l [] = hlevel
 gives_prop l (step ∷ older) = hlevel (step_prop l step, gives_prop l older)
 
 give_within : (l : Layout) (n : ℕ) (step : WordStep) → IsInLayout l (event_of_word l n step) → IsGiveWithin l step
-give_within l n (Look i found) e = tt
-give_within l n (LookAside i found) e = tt
-give_within l n (Claimed i mask found) e = tt
 give_within l n (Give i mask found) e = lt-ltb mask (2 ^ word_depth l i) e.1
-give_within l n (Put i mask found) e = tt
-give_within l n (Swap i found) e = tt
-give_within l n (Spill i mask found) e = tt
+give_within l n _ e = tt
 
 module _ {R : Type 0} where
   step_within : (l : Layout) (n : ℕ) (step : Step R) → IsInLayout l (event_of l n step) → IsStepWithin l step
   step_within l n (Word step) e = give_within l n step e
-  step_within l n (Post tag value) e = tt
-  step_within l n (Take tag found value) e = tt
+  step_within l n _ e = tt
 
   pick : (l : Layout) (b : Bool) (step : Step R) (rest : List (Step R)) → IsStepWithin l step → AreGivesWithin l rest
       → AreGivesWithin l (cond b (step ∷ rest) rest)
@@ -240,11 +200,7 @@ module _ {R : Type 0} (old new : Agent R) (one : IsAlone (caller_of old)) (numbe
       ∙ pool_ext (freed_by runs (alone_set_of old).pool) (give_back numbers (alone_set_of old)).pool
       (runs_named k narrow runs numbers g.gives.cut within (alone_set_of old).pool)
       (λ word place. ap (λ (f : ℕ → ℕ → Bool). f word place) (same_places runs (alone_set_of old).pool)) in
-      let posted : (tag : ℕ) → is_posted (caller_of new) tag ≡ is_posted (caller_of old) tag = λ tag.
-      ap (λ (s : List (Step R)). nat_eq ((cells_left s).state tag) 1) made
-      ∙ ap (λ (f : ℕ → ℕ). nat_eq (f tag) 1) (runs_posted k.layout runs r) in λ j. record {
-        layout = (shape j).layout;
-        pool = pool j;
-        posted = λ tag. posted tag j;
-        hint = record { at = g.hint.at j; round_robin = g.hint.round_robin j };
-      }
+      set_ext (alone_set_of new) (give_back numbers (alone_set_of old)) (ap (λ (s : Shape). s.layout) shape) pool
+      (λ tag. ap (λ (s : List (Step R)). nat_eq ((cells_left s).state tag) 1) made
+      ∙ ap (λ (f : ℕ → ℕ). nat_eq (f tag) 1) (runs_posted k.layout runs r))
+      (λ j. record { at = g.hint.at j; round_robin = g.hint.round_robin j })

@@ -1,24 +1,10 @@
 -- What the looks of the only hand find in both sets.
 use Rattle.std.proofs.Common.{◌≡◌, ℕ, ◌+◌, ◌-◌, Bool, true, false, ◌&&◌, cond, if◌then◌else◌, nat_lt, List, ⊎_elim, sym, ap, ◌∙◌, subst, arith}
-use Rattle.std.proofs.lemmas.Bool.{cases_Bool, lt-ltb, le-ltb, ltb-true, ltb-false}
-use Rattle.tag_layout.specs.Layout.{Layout}
-use Rattle.tag_model.specs.Totals.{count_below}
-use Rattle.tag_queue.specs.declared.agent.Agent.{Agent}
-use Rattle.tag_sets.specs.declared.hand.Hand.{Hand}
-use Rattle.tag_sets.specs.declared.kind.Kind.{Kind}
-use Rattle.tag_sets.specs.declared.kind.Kind.TheVariants.{Ordinary, Reserved}
-use Rattle.tag_sets.specs.declared.shown.Shown.{Shown}
-use Rattle.tag_sets.specs.declared.tags.Tags.{Tags}
+use Rattle.tag_board.proofs.Uses.{cases_Bool, lt-ltb, le-ltb, ltb-true, ltb-false, Layout, count_below, Agent, Hand, Kind, Ordinary, Reserved, Shown, Tags, hands_of, agent_of, layout_of, reserved_of, total_of, IsHandOf, kind_of, number_in_set, IsReserved, IsOrdinary, stands, AloneShows, AloneDumps, AloneListsBusy, is_busy_in, is_aside_in, is_busy_tag, alone_set_of, alone_sets_in}
 use Rattle.tag_sets.specs.Busy as busy
 use Rattle.tag_sets.specs.Dumps as dumps
-use Rattle.tag_sets.specs.Gathering.{hands_of}
-use Rattle.tag_sets.specs.Hands.{agent_of, layout_of, reserved_of, total_of, IsHandOf}
 use Rattle.tag_sets.specs.Looks as looks
-use Rattle.tag_sets.specs.Sets.{kind_of, number_in_set}
 use Rattle.tag_sets.specs.Shows as shows
-use Rattle.tag_sets.proofs.Numbering.{IsReserved, IsOrdinary, stands}
-use Rattle.tag_board.specs.AloneSets.{AloneShows, AloneDumps, AloneListsBusy, is_busy_in, is_aside_in, is_busy_tag}
-use Rattle.tag_board.specs.Parts.{alone_set_of, alone_sets_in}
 use Rattle.tag_board.proofs.AloneBoard.{alone_in, layout_in, split_is}
 use Rattle.tag_board.proofs.AloneLooks.{alone_looked, alone_busy, alone_aside, same_counts}
 use Rattle.tag_board.proofs.AloneChanges.{both_same, narrow_of}

@@ -1,11 +1,7 @@
 -- The tags of a batch, by the places of its mask.
 use Rattle.std.proofs.Common.{◌≡◌, ℕ, ◌+◌, ◌^◌, ◌<◌, ◌≤◌, true, nat_eq, Some, ⊎_elim, refl, sym, arith, eq-eqb}
-use Rattle.std.proofs.lemmas.Bool.{cases_lt}
-use Rattle.std.proofs.lemmas.Nat.Bits.{bit_at_above}
-use Rattle.std.specs.Int.{bit_at}
-use Rattle.tag_board.specs.Replays.{is_in_run, NobodyElseHolds}
-use Rattle.tag_board.specs.States.{State}
-use Rattle.tag_board.proofs.Moves.{names_run}
+use Rattle.tag_board.proofs.Uses.{cases_lt, bit_at_above, bit_at, is_in_run, NobodyElseHolds, State}
+use Rattle.tag_board.proofs.Effects.{names_run}
 
 module _ (first mask : ℕ) where
   -- a one in the mask is a tag of the batch

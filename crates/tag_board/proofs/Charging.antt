@@ -1,14 +1,10 @@
 -- What the steps of a charge and of a walk count and grant.
-use Rattle.std.proofs.Common.{◌≡◌, ℕ, zero, suc, ◌+◌, ◌-◌, ◌<◌, ◌≤◌, ◌≢◌, ⊎_elim, ◌⊎◌, inl, inr, List, ◌∷◌, refl, sym, ap, arith, min}
-use Rattle.step_ledger.specs.History.{total}
-use Rattle.wake_book.specs.declared.charge.Charge.{Charge}
-use Rattle.wake_book.specs.declared.charge.Charge.TheVariants.{Full, Below, Won, Busy}
+use Rattle.std.proofs.Common.{◌≡◌, ℕ, zero, suc, ◌+◌, ◌≤◌, ⊎_elim, ◌⊎◌, inl, inr, List, ◌∷◌, refl, ap, arith, min}
+use Rattle.tag_board.proofs.Uses.{total, Charge, Full, Below, Won, Busy, GroupStep, moved_by, waiting}
 use Rattle.wake_book.specs.declared.steps.BookStep.{BookStep}
 use Rattle.wake_book.specs.declared.steps.BookStep.TheVariants.{Add}
-use Rattle.wake_book.specs.declared.steps.GroupStep.{GroupStep}
 use Rattle.wake_book.specs.Charges.{added}
 use Rattle.wake_book.specs.Charging.{LosesTries, IsCharge}
-use Rattle.wake_book.specs.Waits.{moved_by, waiting}
 use Rattle.wake_book.proofs.GroupSteps.{yes_of, no_of}
 use Rattle.wake_book.specs.Walks.{LosesGrants, LosesAndLooks, VisitsGroup, AreVisits, WalksOn, IsWalk}
 

@@ -1,42 +1,21 @@
 -- The state after a resize, and why a resize is refused.
 use Rattle.std.proofs.Common.{◌≡◌, ◌≢◌, ℕ, zero, suc, ◌+◌, ◌<◌, ◌≤◌, true, false, List, [], ◌∷◌, length, map, get_or, replicate, All, is_some, refl, sym, ap, ◌∙◌, arith, ⊎_elim}
-use Rattle.std.proofs.lemmas.Bool.{cases_lt}
-use Rattle.std.proofs.lemmas.List.{length-map, get_or-map, get_or_past}
-use mathlib.Core.Option.{some, some-injective}
-use lib.ListN.{get_elem?}
-use Rattle.atomic_table.proofs.Lists.{at_map}
-use Rattle.step_ledger.specs.Views.{HasAll}
-use Rattle.tag_layout.specs.Layout.{word_bits, words}
-use Rattle.tag_core.specs.declared.record.Record.{Record}
-use Rattle.tag_core.specs.Sizes.{total_of as sum_of, size_of}
+use Rattle.tag_board.proofs.Uses.{cases_lt, length-map, get_or-map, get_or_past, some, some-injective, get_elem?, at_map, HasAll, word_bits, words, Record, sum_of, size_of, entry, entry_or, all_at, Hint, Queue, Hand, Kind, Ordinary, Reserved, Tags, IsHandOf, layout_of, queue_of, total_of, number_of, hands_of, numbers_of, reserved_part, ordinary_part, BalanceInBoth, HasMap, record_in, holds, part_of, state_of_all, AreOrdered, NobodyHolds, Part, idle, reserved_of}
+use Rattle.tag_sets.specs.Hands.{least_of}
 use Rattle.tag_core.specs.Reopening.{reopened_record}
-use Rattle.tag_core.proofs.Entries.{entry, entry_or, all_at}
 use Rattle.step_ledger.proofs.Seats.{within}
-use Rattle.tag_search.specs.declared.hint.Hint.{Hint}
 use Rattle.tag_search.proofs.SharedFacts.{count_ones-zero}
 use Rattle.wake_book.specs.declared.groups.Waiter.{Waiter}
-use Rattle.tag_queue.specs.declared.queue.Queue.{Queue}
 use Rattle.tag_queue.specs.declared.resizes.ResizeCause.{ResizeCause}
 use Rattle.tag_queue.specs.declared.resizes.ResizeCause.TheVariants.{Missing, DepthTooLarge, InUse, Waiting, Memory}
 use Rattle.tag_queue.specs.Agents as queue
 use Rattle.tag_queue.proofs.Resized.{unchanged-numbers}
-use Rattle.tag_sets.specs.declared.hand.Hand.{Hand}
-use Rattle.tag_sets.specs.declared.kind.Kind.{Kind}
-use Rattle.tag_sets.specs.declared.kind.Kind.TheVariants.{Ordinary, Reserved}
-use Rattle.tag_sets.specs.declared.tags.Tags.{Tags}
-use Rattle.tag_sets.specs.Hands.{IsHandOf, layout_of, queue_of, total_of, number_of}
-use Rattle.tag_sets.specs.Gathering.{hands_of, numbers_of}
 use Rattle.tag_sets.specs.Meeting.{IsUnchanged}
-use Rattle.tag_sets.specs.Opening.{reserved_part, ordinary_part}
 use Rattle.tag_sets.specs.Resizing as sets
-use Rattle.tag_sets.specs.Resizing.{BalanceInBoth, HasMap}
 use Rattle.tag_sets.proofs.Gathering.{ordinary_numbers}
 use Rattle.tag_sets.proofs.Refusing.{facts_of, AreTold}
 use Rattle.tag_sets.proofs.Reuniting.{ordinary_unchanged}
-use Rattle.tag_board.specs.Parts.{record_in, holds, part_of, state_of_all, AreOrdered}
-use Rattle.tag_board.specs.Replays.{NobodyHolds}
 use Rattle.tag_board.specs.Resizes.{AreUnused, RefusesResize, MayResize}
-use Rattle.tag_board.specs.States.{Part, idle}
 use Rattle.tag_board.proofs.Adding.{both_sets, add_up, posted_up}
 use Rattle.tag_board.proofs.Handfuls.{part_ext}
 use Rattle.tag_board.proofs.Holdings.{holds_same}
@@ -75,6 +54,24 @@ module _ {R : Type 0} where
   abbrev life_of : Tags R → Kind → ℕ
   life_of tags kind = (queue.shape_of (queue_of tags kind)).life
 
+  -- tags on the same terms, with such hands, make up the state with this total
+  same_terms : (old new : Tags R) (olds news : List (Hand R)) (total : ℕ) → reserved_of new ≡ reserved_of old
+      → length news ≡ length olds → ((kind : Kind) → life_of new kind ≡ life_of old kind) → least_of new ≡ least_of old
+      → ((kind : Kind) → word_bits (layout_of new kind) ≡ word_bits (layout_of old kind)) → total_of new ≡ total
+      → ((n : ℕ) (a b : Hand R) → get_elem? olds n ≡ some a → get_elem? news n ≡ some b → part_of b ≡ part_of a)
+      → state_of_all new news ≡ record (state_of_all old olds) { total = total }
+  same_terms old new olds news total split long life least bits all each = λ j. record {
+    terms = record {
+      reserved = split j;
+      callers = long j;
+      life = λ kind. life kind j;
+      least = least j;
+      bits = λ kind. bits kind j;
+    };
+    total = all j;
+    part = λ caller. same_parts olds news long each caller j;
+  }
+
   -- hands with the same numbers as before are in the same order
   pub order_kept : (old new : List (Hand R)) → numbers_of new ≡ numbers_of old → AreOrdered old
       → (length new ≡ length old) × AreOrdered new
@@ -83,18 +80,20 @@ module _ {R : Type 0} where
       ∙ ap (λ (ns : List ℕ). length ns) same ∙ length-map old number_of in
       (long, λ n low. ap (λ (ns : List ℕ). get_or ns n 0) same ∙ ordered n (omega arith))
 
+  -- a hand that counts what another counts has the same part
+  part_kept : (a b : Hand R) → ((tag : ℕ) → holds b tag ≡ holds a tag)
+      → ((kind : Kind) → ((record_in b kind).won ≡ (record_in a kind).won) × ((record_in b kind).back ≡ (record_in a kind).back))
+      → queue.waiter_of b.ordinary ≡ queue.waiter_of a.ordinary → queue.hint_of b.ordinary ≡ queue.hint_of a.ordinary
+      → part_of b ≡ part_of a
+  part_kept a b held counts waiter hint = part_ext (part_of b) (part_of a) held (λ kind. (counts kind).0)
+      (λ j. (counts Ordinary).1 j + (counts Reserved).1 j) (ap (λ (w : Waiter). is_some w.standing) waiter)
+      (ap (λ (h : Hint). h.round_robin) hint)
+
   -- an unchanged hand has the same part
   same_part : (a b : Hand R) → IsUnchanged a b → part_of b ≡ part_of a
-  same_part a b u =
-      let held = holds_same a b u.same in
-      let one = (u.sets Ordinary).caller.known in let other = (u.sets Reserved).caller.known in
-      let x = ap (λ (r : Record R). r.back) one in let y = ap (λ (r : Record R). r.back) other in
-      let back : (part_of b).back ≡ (part_of a).back = omega arith in
-      let won : (kind : Kind) → (record_in b kind).won ≡ (record_in a kind).won =
-      elim [ Ordinary ↦ ap (λ (r : Record R). r.won) one | Reserved ↦ ap (λ (r : Record R). r.won) other ] in
-      part_ext (part_of b) (part_of a) held won back
-      (ap (λ (w : Waiter). is_some w.standing) (u.sets Ordinary).same_else.1.1)
-      (ap (λ (h : Hint). h.round_robin) (u.sets Ordinary).same_else.0)
+  same_part a b u = let same = (u.sets Ordinary).same_else in part_kept a b (holds_same a b u.same)
+      (λ kind. let known = (u.sets kind).caller.known in (ap (λ (r : Record R). r.won) known, ap (λ (r : Record R). r.back) known))
+      same.1.1 same.0
 
   module _ (old new : Tags R) (olds news : List (Hand R)) (same : sets.AreSame old new)
       (kept : sets.AreUnchanged olds news) where
@@ -104,25 +103,13 @@ module _ {R : Type 0} where
 
     -- unchanged hands make up the same state
     pub world_kept : state_of_all new news ≡ state_of_all old olds
-    world_kept =
-        let part = same_parts olds news kept.count (λ n a b p q. same_part a b (kept.each n a b p q)) in
-        let life : (kind : Kind) → life_of new kind ≡ life_of old kind = elim [
-          | Ordinary ↦ ap (λ (q : Queue R). (queue.shape_of q).life) same.ordinary
-          | Reserved ↦ ap (λ (q : Queue R). (queue.shape_of q).life) same.reserved
-        ] in let bits : (kind : Kind) → word_bits (layout_of new kind) ≡ word_bits (layout_of old kind) = elim [
-          | Ordinary ↦ ap (λ (q : Queue R). word_bits (queue.layout_of q)) same.ordinary
-          | Reserved ↦ ap (λ (q : Queue R). word_bits (queue.layout_of q)) same.reserved
-        ] in λ j. record {
-          terms = record {
-            reserved = same.split j;
-            callers = kept.count j;
-            life = λ kind. life kind j;
-            least = queue.least_of (same.ordinary j);
-            bits = λ kind. bits kind j;
-          };
-          total = total_kept j;
-          part = λ caller. part caller j;
-        }
+    world_kept = same_terms old new olds news (total_of old) same.split kept.count (elim [
+      | Ordinary ↦ ap (λ (q : Queue R). (queue.shape_of q).life) same.ordinary
+      | Reserved ↦ ap (λ (q : Queue R). (queue.shape_of q).life) same.reserved
+    ]) (ap queue.least_of same.ordinary) (elim [
+      | Ordinary ↦ ap (λ (q : Queue R). word_bits (queue.layout_of q)) same.ordinary
+      | Reserved ↦ ap (λ (q : Queue R). word_bits (queue.layout_of q)) same.reserved
+    ]) total_kept (λ n a b p q. same_part a b (kept.each n a b p q))
 
     -- the hands keep their numbers
     pub numbers_kept : numbers_of news ≡ numbers_of olds
@@ -173,15 +160,13 @@ module _ {R : Type 0} (old new : Tags R) (olds news : List (Hand R)) (total : �
       (ap (λ (r : Record R). size_of r.held) known ∙ size_none (words (queue.layout_of new.ordinary)))
       (ap (λ (r : Record R). size_of r.held) other ∙ omega arith) in
       let none : (tag : ℕ) → holds a tag ≡ false = holds_none a (omega arith) (omega arith) in
-      let x = ap (λ (r : Record R). r.back) known in let y = ap (λ (r : Record R). r.back) other in
-      let back : (part_of b).back ≡ (part_of a).back = omega arith in
-      let won : (kind : Kind) → (record_in b kind).won ≡ (record_in a kind).won =
-      elim [ Ordinary ↦ ap (λ (r : Record R). r.won) known | Reserved ↦ ap (λ (r : Record R). r.won) other ] in
       let waiter = same_at queue.waiter_of before after n a.ordinary b.ordinary is.ordinary.waiters here there in
       let hint = same_at queue.hint_of before after n a.ordinary b.ordinary is.ordinary.hints here there in record {
         none = free;
-        part = part_ext (part_of b) (part_of a) (λ tag. free tag ∙ sym (none tag)) won back
-            (ap (λ (w : Waiter). is_some w.standing) waiter) (ap (λ (h : Hint). h.round_robin) hint);
+        part = part_kept a b (λ tag. free tag ∙ sym (none tag)) (elim [
+          | Ordinary ↦ (ap (λ (r : Record R). r.won) known, ap (λ (r : Record R). r.back) known)
+          | Reserved ↦ (ap (λ (r : Record R). r.won) other, ap (λ (r : Record R). r.back) other)
+        ]) waiter hint;
       }
 
   -- there are as many hands as before
@@ -190,25 +175,13 @@ module _ {R : Type 0} (old new : Tags R) (olds news : List (Hand R)) (total : �
 
   -- only the total of the state changes
   pub world_resized : state_of_all new news ≡ record (state_of_all old olds) { total = total }
-  world_resized =
-      let part = same_parts olds news long (λ n a b p q. (goes_on n a b p q).part) in
-      let life : (kind : Kind) → life_of new kind ≡ life_of old kind = elim [
-        | Ordinary ↦ is.ordinary.callers.next.life_is
-        | Reserved ↦ ap (λ (q : Queue R). (queue.shape_of q).life) is.reserved
-      ] in let bits : (kind : Kind) → word_bits (layout_of new kind) ≡ word_bits (layout_of old kind) = elim [
-        | Ordinary ↦ ap word_bits is.ordinary.callers.next.layout_is
-        | Reserved ↦ ap (λ (q : Queue R). word_bits (queue.layout_of q)) is.reserved
-      ] in λ j. record {
-        terms = record {
-          reserved = is.split j;
-          callers = long j;
-          life = λ kind. life kind j;
-          least = is.ordinary.rest.least j;
-          bits = λ kind. bits kind j;
-        };
-        total = is.total_is j;
-        part = λ caller. part caller j;
-      }
+  world_resized = same_terms old new olds news total is.split long (elim [
+    | Ordinary ↦ is.ordinary.callers.next.life_is
+    | Reserved ↦ ap (λ (q : Queue R). (queue.shape_of q).life) is.reserved
+  ]) is.ordinary.rest.least (elim [
+    | Ordinary ↦ ap word_bits is.ordinary.callers.next.layout_is
+    | Reserved ↦ ap (λ (q : Queue R). word_bits (queue.layout_of q)) is.reserved
+  ]) is.total_is (λ n a b p q. (goes_on n a b p q).part)
 
   -- no caller holds a tag
   pub world_free : NobodyHolds (state_of_all new news) (λ tag. true)

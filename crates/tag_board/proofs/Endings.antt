@@ -1,24 +1,12 @@
 -- A board has all its hands, and their totals are those of its state.
 use Rattle.std.proofs.Common.{◌≡◌, ◌+◌, List, length, map, All, sym, ap, ◌∙◌, subst, arith}
-use Rattle.std.proofs.lemmas.List.{length-map}
-use mathlib.Core.Option.{some}
-use Rattle.step_ledger.specs.Views.{HasAll}
+use Rattle.tag_board.proofs.Uses.{length-map, some, HasAll, Record, sum_of, entry_or, Agent, Queue, Hand, Tags, IsHandOf, number_of, hands_of, numbers_of, IsGathered, AreOrdered, state_of_all}
 use Rattle.tag_model.specs.declared.totals.Totals.{Totals}
-use Rattle.tag_core.specs.declared.record.Record.{Record}
-use Rattle.tag_core.specs.Sizes.{total_of as sum_of}
-use Rattle.tag_core.proofs.Entries.{entry_or}
-use Rattle.tag_queue.specs.declared.agent.Agent.{Agent}
 use Rattle.tag_queue.specs.declared.gather.QueueTotals.{QueueTotals}
-use Rattle.tag_queue.specs.declared.queue.Queue.{Queue}
 use Rattle.tag_queue.specs.Agents as queue
 use Rattle.tag_queue.specs.Gathering as queue_gathering
 use Rattle.tag_queue.specs.Using.{held_in}
-use Rattle.tag_sets.specs.declared.hand.Hand.{Hand}
-use Rattle.tag_sets.specs.declared.tags.Tags.{Tags}
-use Rattle.tag_sets.specs.Hands.{IsHandOf, number_of}
-use Rattle.tag_sets.specs.Gathering.{hands_of, numbers_of, IsGathered}
 use Rattle.tag_board.specs.Closing.{totals_in}
-use Rattle.tag_board.specs.Parts.{AreOrdered, state_of_all}
 use Rattle.tag_board.proofs.Adding.{add_up}
 
 -- hands in the order of their numbers, as many as the tags have, are all the hands

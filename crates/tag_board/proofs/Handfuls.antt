@@ -1,18 +1,7 @@
 -- How a call changes the part of a caller, from how it changed the hand's agent in one set.
 use Rattle.std.proofs.Common.{◌≡◌, ℕ, ◌+◌, Bool, not, ◌&&◌, ◌||◌, is_some, refl, sym, ap, ◌∙◌, arith}
-use Rattle.tag_core.specs.declared.caller.Caller.{Caller}
-use Rattle.tag_core.specs.declared.record.Record.{Record}
-use Rattle.tag_core.specs.Callers.{record_of}
-use Rattle.tag_queue.specs.declared.agent.Agent.{Agent}
+use Rattle.tag_board.proofs.Uses.{Caller, Record, record_of, Agent, Hand, Kind, Ordinary, Reserved, agent_of, standing_of, hint_of, number_of, other_kind, holds, record_in, part_of, Part, won_more, joined, won, left, cleared, standing}
 use Rattle.tag_queue.specs.Agents as queue
-use Rattle.tag_sets.specs.declared.hand.Hand.{Hand}
-use Rattle.tag_sets.specs.declared.kind.Kind.{Kind}
-use Rattle.tag_sets.specs.declared.kind.Kind.TheVariants.{Ordinary, Reserved}
-use Rattle.tag_sets.specs.Hands.{agent_of, standing_of, hint_of, number_of}
-use Rattle.tag_sets.specs.Sets.{other_kind}
-use Rattle.tag_board.specs.Parts.{holds, record_in, part_of}
-use Rattle.tag_board.specs.States.{Part}
-use Rattle.tag_board.specs.Replays.{won_more, joined, won, left, cleared, standing}
 use Rattle.tag_board.proofs.Tallies.{Tallies}
 
 -- callers' parts with the same fields are equal

@@ -1,12 +1,6 @@
 -- The callers that hold a tag, as hands at their indexes.
 use Rattle.std.proofs.Common.{◌≡◌, ℕ, zero, suc, ◌<◌, max, min, true, false, List, [], ◌∷◌, length, map, get_or, All, refl, ap, ◌∙◌, subst, arith}
-use mathlib.Core.Logic.{dite}
-use native.Mathlib.Decide.{dec_lt}
-use Rattle.tag_sets.specs.declared.hand.Hand.{Hand}
-use Rattle.tag_sets.specs.declared.tags.Tags.{Tags}
-use Rattle.tag_sets.specs.Hands.{Holds, IsHandOf}
-use Rattle.tag_board.specs.Parts.{part_of, state_of_all}
-use Rattle.tag_board.specs.States.{Part, idle}
+use Rattle.tag_board.proofs.Uses.{dite, dec_lt, Hand, Tags, Holds, IsHandOf, part_of, state_of_all, Part, idle}
 use Rattle.tag_board.proofs.Holdings.{holds_true, not_holds}
 use Rattle.tag_board.proofs.Seats.{sits, part_here, own_here, held_here}
 

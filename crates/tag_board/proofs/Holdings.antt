@@ -1,13 +1,13 @@
 -- Whether a hand holds a tag, as a test.
-use Rattle.std.proofs.Common.{◌≡◌, ℕ, Bool, true, false, not, ◌&&◌, ◌||◌, nat_eq, nat_lt, ⊎_elim, eq-eqb, eqb-true}
-use Rattle.std.proofs.lemmas.Bool.{ltb-true, lt-ltb, and_parts, and_from, or_cases, or_left, or_right, both_ways, not-true, not_from_false, false_from_ne_true}
-use Rattle.tag_core.specs.Records.{tag_bit}
-use Rattle.tag_sets.specs.declared.hand.Hand.{Hand}
-use Rattle.tag_sets.specs.Hands.{Holds, split_of}
-use Rattle.tag_sets.specs.Holding.{HoldsMore, HoldsLess, HoldsSame}
-use Rattle.tag_sets.specs.Sets.{kind_of, number_in_set}
-use Rattle.tag_board.specs.Parts.{holds, record_in}
-use Rattle.tag_board.proofs.Truths.{same_test}
+use Rattle.std.proofs.Common.{◌≡◌, ℕ, Bool, true, false, not, ◌&&◌, ◌||◌, nat_eq, nat_lt, ⊎_elim, eq-eqb, eqb-true, refl, sym}
+use Rattle.tag_board.proofs.Uses.{ltb-true, lt-ltb, and_parts, and_from, or_cases, or_left, or_right, both_ways, not-true, not_from_false, false_from_ne_true, tag_bit, Hand, Holds, split_of, HoldsMore, HoldsLess, HoldsSame, kind_of, number_in_set, holds, record_in}
+
+-- two tests that imply each other are equal
+pub same_test : (a b : Bool) → (a ≡ true → b ≡ true) → (b ≡ true → a ≡ true) → a ≡ b
+same_test true true there back = refl
+same_test true false there back = sym (there refl)
+same_test false true there back = back refl
+same_test false false there back = refl
 
 -- the test is true of exactly the named tags
 abbrev pub Names : (ℕ → Bool) → (ℕ → Type 0) → Type 0

@@ -1,14 +1,14 @@
-mod Truths
+mod Uses
 mod Holdings
 mod Tallies
 mod Handfuls
 mod Seats
 mod Verdicts
 mod Outcomes
-mod Moves
+mod Effects
+mod Commands
 mod Lookings
 mod Ranges
-mod Winnings
 mod Holders
 mod Batching
 mod Postings
@@ -25,6 +25,5 @@ mod AloneLooks
 mod AloneShows
 mod AloneOpens
 mod AloneResizes
-mod Seated
 mod Charging
 mod Waiters

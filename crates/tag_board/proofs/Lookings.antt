@@ -1,26 +1,11 @@
 -- What looks report of the state.
 use Rattle.std.proofs.Common.{◌≡◌, ◌≢◌, ne_eqb, ℕ, zero, suc, ◌+◌, ◌-◌, ◌*◌, ◌/◌, ◌<◌, ◌≤◌, ◌&&◌, Bool, true, false, cond, if◌then◌else◌, nat_lt, nat_eq, List, [], ◌++◌, length, take, drop, sym, ap, ◌∙◌, arith}
-use mathlib.Core.Logic.{dite}
-use native.Mathlib.Decide.{ℕ_discrete}
-use Rattle.std.proofs.lemmas.Bool.{le-ltb}
-use Rattle.tag_search.proofs.Pools.{and_false}
-use Rattle.std.proofs.lemmas.List.{append-nil, drop_all, take_at}
-use Rattle.std.specs.Int.{bit_at}
-use Rattle.tag_layout.specs.Layout.{Layout, word_of, place_of}
-use Rattle.tag_model.specs.Totals.{count_below}
-use Rattle.tag_sets.specs.declared.hand.Hand.{Hand}
-use Rattle.tag_sets.specs.declared.kind.Kind.{Kind}
-use Rattle.tag_sets.specs.declared.kind.Kind.TheVariants.{Ordinary, Reserved}
-use Rattle.tag_sets.specs.declared.shown.Shown.{Shown}
-use Rattle.tag_sets.specs.declared.tags.Tags.{Tags}
+use Rattle.tag_board.proofs.Uses.{dite, ℕ_discrete, le-ltb, and_false, append-nil, drop_all, take_at, bit_at, Layout, word_of, place_of, count_below, Hand, Kind, Ordinary, Reserved, Shown, Tags, layout_of, reserved_of, total_of, word_in, depth_of, state_of_all}
 use Rattle.tag_sets.specs.Bits.{bit_in}
 use Rattle.tag_sets.specs.Busy as busy
 use Rattle.tag_sets.specs.Dumps as dumps
-use Rattle.tag_sets.specs.Hands.{layout_of, reserved_of, total_of}
-use Rattle.tag_sets.specs.Looks.{is_busy_in, is_aside_in, word_in}
+use Rattle.tag_sets.specs.Looks.{is_busy_in, is_aside_in}
 use Rattle.tag_sets.specs.Shows as shows
-use Rattle.tag_board.specs.Looks.{depth_of}
-use Rattle.tag_board.specs.Parts.{state_of_all}
 
 -- 1 if the test holds, otherwise 0
 abbrev one_if : Bool → ℕ

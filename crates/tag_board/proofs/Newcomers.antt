@@ -1,43 +1,24 @@
 -- The state of new tags, on which nothing has been done.
 use Rattle.std.proofs.Common.{◌≡◌, ℕ, ◌+◌, ◌-◌, ◌<◌, false, List, [], ◌∷◌, length, map, get_or, is_some, None, refl, sym, ap, ◌∙◌, subst, arith}
-use Rattle.std.proofs.lemmas.List.{get_or-map}
-use mathlib.Core.Option.{some}
-use lib.ListN.{get_elem?}
-use Rattle.atomic_table.proofs.Lists.{at_map}
-use Rattle.tag_layout.specs.Layout.{HasShift}
-use Rattle.tag_core.specs.declared.record.Record.{Record}
-use Rattle.tag_core.specs.Callers.{record_of}
-use Rattle.tag_core.proofs.Entries.{entry, entry_or}
-use Rattle.tag_search.specs.declared.hint.Hint.{Hint}
-use Rattle.tag_queue.specs.declared.agent.Agent.{Agent}
-use Rattle.tag_queue.specs.declared.queue.Options.{Options}
-use Rattle.tag_queue.specs.declared.queue.Queue.{Queue}
+use Rattle.tag_board.proofs.Uses.{get_or-map, some, get_elem?, at_map, HasShift, Record, record_of, entry, entry_or, Hint, Agent, Options, Queue, Hand, Kind, Ordinary, Reserved, Tags, layout_of, reserved_of, total_of, standing_of, hint_of, number_of, reserved_part, ordinary_part, AreOpen, all_part, record_in, part_of, state_of_all, AreOrdered, waiter_of, waiters_of_all, Starts, newcomer, idle}
 use Rattle.tag_queue.specs.Agents as queue
 use Rattle.tag_queue.specs.Opening as queue_opening
 use Rattle.wake_book.specs.Groups.{IsNew}
-use Rattle.tag_sets.specs.declared.hand.Hand.{Hand}
-use Rattle.tag_sets.specs.declared.kind.Kind.{Kind}
-use Rattle.tag_sets.specs.declared.kind.Kind.TheVariants.{Ordinary, Reserved}
-use Rattle.tag_sets.specs.declared.tags.Tags.{Tags}
-use Rattle.tag_sets.specs.Hands.{layout_of, reserved_of, total_of, standing_of, hint_of, number_of}
-use Rattle.tag_sets.specs.Opening.{reserved_part, ordinary_part, IsOpen as AreOpen}
-use Rattle.tag_sets.proofs.Opening.{all_part}
 use Rattle.tag_board.specs.Opening.{IsOpen}
-use Rattle.tag_board.specs.Parts.{record_in, part_of, state_of_all, AreOrdered, waiter_of, waiters_of_all}
-use Rattle.tag_board.specs.Wakeups.{Starts, newcomer}
-use Rattle.tag_board.specs.States.{idle}
 use Rattle.tag_board.proofs.Handfuls.{part_ext}
 use Rattle.tag_board.proofs.Holdings.{not_holds}
 
 module _ {R : Type 0} where
-  -- a new agent has counted nothing
-  none_counted : (options : Options) (q : Queue R) (agents : List (Agent R)) (n : ℕ) (a : Agent R)
+  -- a new agent has counted nothing, and made no step
+  pub new_record : (options : Options) (q : Queue R) (agents : List (Agent R)) (n : ℕ) (a : Agent R)
       → queue_opening.IsOpen options q agents → get_elem? agents n ≡ some a
       → ((record_of (queue.caller_of a)).won ≡ 0) × ((record_of (queue.caller_of a)).back ≡ 0)
-  none_counted options q agents n a opened at =
+      × ((record_of (queue.caller_of a)).steps ≡ [])
+  new_record options q agents n a opened at =
       let fresh = (opened.callers.each n (queue.caller_of a) (at_map queue.caller_of agents n a at)).1 in (
         ap (λ (r : Record R). r.won) fresh ∙ opened.tags.starts.0 n,
         ap (λ (r : Record R). r.back) fresh ∙ opened.tags.starts.1 n,
+        ap (λ (r : Record R). r.steps) fresh,
       )
 
   module _ (options : Options) (tags : Tags R) (hands : List (Hand R)) (opened : AreOpen options tags hands) where
@@ -45,9 +26,9 @@ module _ {R : Type 0} where
     part_idle : (k : ℕ) (d : Hand R) → k < length hands → part_of (get_or hands k d) ≡ idle options.round_robin
     part_idle k d low =
         let hand = get_or hands k d in let at = entry_or hands k d low in
-        let one = none_counted options tags.ordinary (map ordinary_part hands) k hand.ordinary opened.ordinary
+        let one = new_record options tags.ordinary (map ordinary_part hands) k hand.ordinary opened.ordinary
         (at_map ordinary_part hands k hand at) in
-        let other = none_counted (record options { min_shallow = None }) tags.reserved (map reserved_part hands) k
+        let other = new_record (record options { min_shallow = None }) tags.reserved (map reserved_part hands) k
         hand.reserved opened.reserved (at_map reserved_part hands k hand at) in
         let out : standing_of hand ≡ None = (all_part (λ (a : Agent R). IsNew (queue.waiter_of a)) ordinary_part hands
         (all_part IsNew queue.waiter_of (map ordinary_part hands) opened.ordinary.groups.new) k d low).0 in

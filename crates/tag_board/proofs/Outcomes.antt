@@ -11,10 +11,6 @@ pub both_ok : {A E P : Type 0} {Q T : A → Type 0} (r : Result A E) → OnOk r 
 both_ok (Ok a) p q f = f a p q
 both_ok (Err e) p q f = tt
 
-pub ok_only : {A E : Type 0} (P : Type 0) (r : Result A E) → IfOk r (λ a. P) → OnOk r P
-ok_only P (Ok a) p = p
-ok_only P (Err e) p = tt
-
 pub err_same : {A E : Type 0} (X : Type 0) (f : E) (r : Result A E) → IfErr r (λ fault. (fault ≡ f) × X) → OnErr r X
 err_same X f (Ok a) h = tt
 err_same X f (Err e) h = h.1
@@ -46,7 +42,3 @@ both_on P Q (Err e) p q = tt
 pub on_map : {A E Q : Type 0} (P : Type 0) (r : Result A E) → OnOk r P → (P → Q) → IfOk r (λ a. Q)
 on_map P (Ok a) p f = f p
 on_map P (Err e) p f = tt
-
-pub either_way : {A E P : Type 0} (r : Result A E) → OnOk r P → OnErr r P → P
-either_way (Ok a) p q = p
-either_way (Err e) p q = q

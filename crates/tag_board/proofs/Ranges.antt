@@ -1,14 +1,7 @@
 -- All hands of a board have the same range of tags.
 use Rattle.std.proofs.Common.{◌≡◌, ℕ, ◌<◌, ⊎_elim, ap, ◌∙◌, arith}
-use Rattle.tag_core.specs.declared.shape.Shape.{Shape}
+use Rattle.tag_board.proofs.Uses.{Shape, Hand, Kind, Ordinary, Reserved, Tags, IsHandOf, IsTagOf, Holds, agent_of, layout_of, reserved_of, split_of, total_of, kind_of, number_in_set, IsReserved, IsOrdinary, stands}
 use Rattle.tag_queue.specs.Agents as queue
-use Rattle.tag_sets.specs.declared.hand.Hand.{Hand}
-use Rattle.tag_sets.specs.declared.kind.Kind.{Kind}
-use Rattle.tag_sets.specs.declared.kind.Kind.TheVariants.{Ordinary, Reserved}
-use Rattle.tag_sets.specs.declared.tags.Tags.{Tags}
-use Rattle.tag_sets.specs.Hands.{IsHandOf, IsTagOf, Holds, agent_of, layout_of, reserved_of, split_of, total_of}
-use Rattle.tag_sets.specs.Sets.{kind_of, number_in_set}
-use Rattle.tag_sets.proofs.Numbering.{IsReserved, IsOrdinary, stands}
 
 module _ {R : Type 0} (tags : Tags R) where
   -- the depth of a hand's set is that of the tags' set

@@ -1,19 +1,6 @@
 -- The state of a board after a call on one hand.
 use Rattle.std.proofs.Common.{◌≡◌, ◌≢◌, ℕ, ◌+◌, ◌<◌, ◌≤◌, ⊎_elim, List, length, map, get_or, set, refl, sym, ap, ◌∙◌, subst, arith, true, false, is_some, All, get_or-set_other, get_or-set_same, length-set}
-use mathlib.Core.Logic.{dite}
-use native.Mathlib.Decide.{ℕ_discrete}
-use Rattle.std.proofs.lemmas.Bool.{both_ways, cases_lt}
-use Rattle.std.proofs.lemmas.List.{map-set, set-get_or, length-map, get_or-map}
-use Rattle.tag_sets.specs.declared.hand.Hand.{Hand}
-use Rattle.tag_sets.specs.declared.kind.Kind.{Kind}
-use Rattle.tag_sets.specs.declared.kind.Kind.TheVariants.{Ordinary, Reserved}
-use Rattle.tag_sets.specs.declared.tags.Tags.{Tags}
-use Rattle.tag_core.specs.declared.shape.Shape.{Shape}
-use Rattle.tag_sets.specs.Hands.{number_of, Holds, standing_of, hint_of, HasRoom, IsHandOf}
-use Rattle.tag_board.specs.Parts.{part_of, record_in, terms_of, state_of_all, AreOrdered}
-use Rattle.tag_board.specs.Refusals.{IsSpent}
-use Rattle.tag_board.specs.Replays.{Changes}
-use Rattle.tag_board.specs.States.{Part, State, idle}
+use Rattle.tag_board.proofs.Uses.{dite, ℕ_discrete, both_ways, cases_lt, map-set, set-get_or, get_or-map, Hand, Kind, Ordinary, Reserved, Tags, Shape, number_of, Holds, standing_of, hint_of, HasRoom, IsHandOf, part_of, record_in, terms_of, state_of_all, AreOrdered, IsSpent, Changes, Part, State, idle}
 use Rattle.tag_board.proofs.Holdings.{holds_true, true_holds}
 
 -- the caller's hand, among all hands
@@ -25,10 +12,28 @@ pub sits : {R : Type 0} {hands : List (Hand R)} {i : ℕ} {old : Hand R} → i <
     → Sits hands i old
 sits within here = record { within = within; here = here }
 
+module _ {R A : Type 0} (view : Hand R → A) (d : A) {hands : List (Hand R)} {i : ℕ} {old : Hand R} (at : Sits hands i old)
+  where
+    -- what is seen at the index of a hand is what is seen of the hand
+    pub seen_here : get_or (map view hands) i d ≡ view old
+    seen_here = get_or-map view hands i old d at.within ∙ ap view (sym at.here)
+
+    -- and a call on one hand leaves what is seen of the others
+    pub seen_there : (new : Hand R) (other : ℕ) → other ≢ i
+        → get_or (map view (set hands i new)) other d ≡ get_or (map view hands) other d
+    seen_there new other ne = ap (λ (vs : List A). get_or vs other d) (map-set view hands i new)
+        ∙ get_or-set_other (map view hands) i other (view new) d ne
+
+-- after a call on it, the hand sits where it did before
+pub seat : {R : Type 0} {hands : List (Hand R)} {i : ℕ} {old : Hand R} → Sits hands i old → (new : Hand R)
+    → Sits (set hands i new) i new
+seat {R} {hands} {i} at new = let long = length-set hands i new in let low = at.within in
+    record { within = omega arith; here = sym (get_or-set_same hands i new new low) }
+
 module _ {R : Type 0} (tags : Tags R) {hands : List (Hand R)} {i : ℕ} {old : Hand R} (at : Sits hands i old) where
   -- a caller's part is that of the hand at its index
   pub part_here : (state_of_all tags hands).part i ≡ part_of old
-  part_here = get_or-map part_of hands i old (idle false) at.within ∙ ap part_of (sym at.here)
+  part_here = seen_here part_of (idle false) at
 
   pub held_here : (tag : ℕ) → ((state_of_all tags hands).part i).held tag ≡ true → Holds old tag
   held_here tag e = holds_true old tag (sym (ap (λ (p : Part). p.held tag) part_here) ∙ e)
@@ -46,19 +51,12 @@ module _ {R : Type 0} (tags : Tags R) {hands : List (Hand R)} {i : ℕ} {old : H
   -- the hand's part changed so, and the rest of the state is unchanged
   pub changes : (new : Hand R) (change : Part → Part) → part_of new ≡ change (part_of old)
       → Changes i change (state_of_all tags hands) (state_of_all tags (set hands i new))
-  changes new change e =
-      let moved : map part_of (set hands i new) ≡ set (map part_of hands) i (part_of new) =
-      map-set part_of hands i new in
-      let low = at.within in let l = length-map hands part_of in
-      let long : i < length (map part_of hands) = omega arith in record {
-        terms = ap (terms_of tags) (length-set hands i new);
-        total = refl;
-        own = ap (λ (ps : List Part). get_or ps i (idle false)) moved
-            ∙ get_or-set_same (map part_of hands) i (part_of new) (idle false) long
-            ∙ e ∙ ap change (sym part_here);
-        others = λ other ne. ap (λ (ps : List Part). get_or ps other (idle false)) moved
-            ∙ get_or-set_other (map part_of hands) i other (part_of new) (idle false) ne;
-      }
+  changes new change e = record {
+    terms = ap (terms_of tags) (length-set hands i new);
+    total = refl;
+    own = seen_here part_of (idle false) (seat at new) ∙ e ∙ ap change (sym part_here);
+    others = seen_there part_of (idle false) at new;
+  }
 
   -- the hands are still in the order of their numbers
   pub ordered : (new : Hand R) → AreOrdered hands → number_of new ≡ number_of old → AreOrdered (set hands i new)

@@ -1,28 +1,9 @@
 -- The number of tags that a hand holds is the number of ones in its masks.
 use Rattle.std.proofs.Common.{◌≡◌, ℕ, zero, suc, ◌+◌, ◌<◌, ◌≤◌, Bool, false, cond, ◌&&◌, nat_eq, refl, sym, ap, ◌∙◌, arith, ⊎_elim}
-use Rattle.std.proofs.Math.Logic.{∥∥₁_elim}
+use Rattle.tag_board.proofs.Uses.{∥∥₁_elim, lt-ltb, le-ltb, cases_lt, bit_at-lt, sum_below, sum_below-same, sum_below-split, count_below, Caller, Record, Shape, record_of, tag_bit, size_of, Hand, Kind, Ordinary, Reserved, Tags, IsHandOf, layout_of, reserved_of, total_of, split_of, kind_of, number_in_set, reserved_below, ordinary_above, record_in, has, holds}
 use native.Mathlib.Nat.{ℕ_set}
-use Rattle.std.proofs.lemmas.Bool.{lt-ltb, le-ltb, cases_lt}
-use Rattle.std.proofs.lemmas.Nat.Bits.{bit_at-lt}
-use Rattle.tag_layout.specs.Sums.{sum_below}
-use Rattle.tag_layout.proofs.SumFacts.{sum_below-same, sum_below-split}
-use Rattle.tag_model.specs.Totals.{count_below}
-use Rattle.tag_core.specs.declared.caller.Caller.{Caller}
-use Rattle.tag_core.specs.declared.record.Record.{Record}
-use Rattle.tag_core.specs.declared.shape.Shape.{Shape}
-use Rattle.tag_core.specs.Callers.{record_of}
-use Rattle.tag_core.specs.Records.{tag_bit}
-use Rattle.tag_core.specs.Sizes.{size_of}
 use Rattle.tag_core.proofs.Ends.{by_tags}
 use Rattle.tag_queue.specs.Agents as queue
-use Rattle.tag_sets.specs.declared.hand.Hand.{Hand}
-use Rattle.tag_sets.specs.declared.kind.Kind.{Kind}
-use Rattle.tag_sets.specs.declared.kind.Kind.TheVariants.{Ordinary, Reserved}
-use Rattle.tag_sets.specs.declared.tags.Tags.{Tags}
-use Rattle.tag_sets.specs.Hands.{IsHandOf, layout_of, reserved_of, total_of, split_of}
-use Rattle.tag_sets.specs.Sets.{kind_of, number_in_set}
-use Rattle.tag_sets.proofs.Numbering.{reserved_below, ordinary_above}
-use Rattle.tag_board.specs.Parts.{record_in, has, holds}
 
 one_bit : (b : ℕ) → b < 2 → cond (nat_eq b 1) 1 0 ≡ b
 one_bit zero low = refl

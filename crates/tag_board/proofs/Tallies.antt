@@ -1,21 +1,11 @@
 -- What a call adds to the counts of its agent: tags won and tags given back.
 use Rattle.std.proofs.Common.{◌≡◌, ℕ, ◌+◌, suc, List, [], ◌∷◌, length, Option, refl, sym, ap, ◌∙◌, subst, arith}
-use Rattle.tag_layout.specs.Layout.{Layout}
-use Rattle.tag_core.specs.declared.record.Record.{Record}
-use Rattle.tag_core.specs.declared.step.Step.TheVariants.{Word}
-use Rattle.tag_core.specs.declared.word_step.WordStep.TheVariants.{Look, LookAside}
-use Rattle.tag_core.specs.Callers.{record_of}
-use Rattle.tag_core.specs.Records.{record_after}
-use Rattle.tag_search.specs.Gains.{count_of, count_of_run}
+use Rattle.tag_board.proofs.Uses.{Layout, Record, Word, Look, LookAside, record_of, record_after, count_of, count_of_run, Visit, Agent, caller_of, SameCounts, SameElse, Run, GivesBack, record_after_runs, same_number, MakesLooks, looks_from}
 use Rattle.tag_search.specs.Shared.{record_after_all}
-use Rattle.tag_queue.specs.declared.agent.Agent.{Agent}
-use Rattle.tag_queue.specs.Agents.{caller_of, standing_of, hint_of, SameElse}
-use Rattle.tag_queue.specs.Batches.{Run, GivesBack, record_after_runs}
+use Rattle.tag_queue.specs.Agents.{standing_of, hint_of}
 use Rattle.tag_queue.specs.Clears.{Puts}
-use Rattle.tag_queue.specs.Gets.{GetsPlain, GetsShallow, GetsBatch}
+use Rattle.tag_queue.specs.Gets.{Searches, GetsBatch}
 use Rattle.tag_queue.specs.Slots.{Posts, Takes, Misses}
-use Rattle.tag_queue.proofs.Giving.{same_number}
-use Rattle.tag_sets.specs.Looks.{MakesLooks, looks_from}
 
 -- the record counts this many more tags won and given back than the other, for the same caller
 pub record Counts {R : Type 0} (won back : ℕ) (old new : Record R) : Type 0 where
@@ -52,19 +42,13 @@ module _ {R : Type 0} where
   runs_won (run ∷ runs) r = let rest = runs_won runs r in omega arith
 
   module _ (l : Layout) (old new : Agent R) where
-    pub gets_plain : (answer : Option ℕ) → GetsPlain l answer old new → Tallies (count_of answer) 0 old new
-    gets_plain answer g = let gains = g.searches.gains in let back = gains.back in record {
-      counts = record { won_is = gains.count; back_is = omega arith; number_is = gains.number };
-      stands = ap (λ w. w.standing) g.others.1;
-      round = g.searches.hint.round_robin;
-    }
-
-    pub gets_shallow : (depth : ℕ) (answer : Option ℕ) → GetsShallow l depth answer old new
+    pub searches : (visits : List Visit) (answer : Option ℕ)
+        → Searches l visits answer (caller_of old) (caller_of new) (hint_of old) (hint_of new) → SameCounts old new
         → Tallies (count_of answer) 0 old new
-    gets_shallow depth answer g = let gains = g.searches.gains in let back = gains.back in record {
-      counts = record { won_is = gains.count; back_is = omega arith; number_is = gains.number };
-      stands = ap (λ w. w.standing) g.others.1;
-      round = g.searches.hint.round_robin;
+    searches visits answer s others = let back = s.gains.back in record {
+      counts = record { won_is = s.gains.count; back_is = omega arith; number_is = s.gains.number };
+      stands = ap (λ w. w.standing) others.1;
+      round = s.hint.round_robin;
     }
 
     pub gets_batch : (n : ℕ) (answer : Option (ℕ × ℕ)) → GetsBatch l n answer old new

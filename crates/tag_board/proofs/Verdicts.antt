@@ -1,13 +1,7 @@
 -- Each refusal has its cause, and there is no other refusal.
-use Rattle.std.proofs.Common.{◌≡◌, ◌≢◌, ◌⊎◌, ℕ, ◌+◌, ◌<◌, ◌≤◌, ◌↔◌, true, false, inl, inr, ⊎_elim, Result, Ok, Err, IfOk, OnErr, IsOk, refl, subst, arith, List}
-use Rattle.std.proofs.lemmas.Bool.{cases_lt, cases_Bool, cases_eq, both_ways}
-use Rattle.tag_sets.specs.declared.fault.TagFault.{TagFault}
-use Rattle.tag_sets.specs.declared.fault.TagFault.TheVariants.{NoSuchTag, NoReserved, NotHeld, NotPosted, BadCount, TooShallow, Spent, Waiting, NotWaiting}
-use Rattle.tag_queue.specs.Batches.{CountsTags}
-use Rattle.tag_sets.specs.declared.kind.Kind.TheVariants.{Ordinary, Reserved}
-use Rattle.tag_board.specs.States.{State}
-use Rattle.tag_board.specs.Refusals.{IsSpent, RefusesGet, RefusesShallow, RefusesBatch, RefusesTag, RefusesList, RefusesWait, RefusesLeave, Miscounts, AreOrdinary, AreHeldOnce}
-use Rattle.tag_board.specs.Replays.{Answers}
+use Rattle.std.proofs.Common.{◌≡◌, ◌≢◌, ◌⊎◌, ℕ, ◌+◌, ◌<◌, ◌≤◌, ◌↔◌, true, false, inl, inr, ⊎_elim, Result, Ok, Err, IfOk, OnErr, IsOk, refl, subst, arith, List, sym}
+use Rattle.tag_board.proofs.Uses.{Kind, cases_lt, cases_Bool, cases_eq, TagFault, NoSuchTag, NoReserved, NotHeld, BadCount, TooShallow, Spent, NotWaiting, CountsTags, Ordinary, Reserved, State, IsSpent, RefusesGet, RefusesShallow, RefusesBatch, RefusesTag, RefusesList, RefusesWait, RefusesLeave, Miscounts, AreOrdinary, AreHeldOnce, Answers}
+use Rattle.tag_sets.specs.declared.fault.TagFault.TheVariants.{Waiting}
 
 -- the result is a fault whose cause holds, or a value and no cause holds
 abbrev pub IsVerdict : {A : Type 0} → (TagFault → Type 0) → Result A TagFault → Type 0
@@ -23,147 +17,127 @@ module _ {A : Type 0} (refuses : TagFault → Type 0) (done : A → Type 0) (old
   answers (Err fault) (inl bad) d same = let e = bad.1 in let is : bad.0 ≡ fault = cc in (subst refuses is bad.2, same)
   answers (Err fault) (inr good) d same = let e = good.0 in absurd cc
 
-module _ {A : Type 0} (s : State) (caller : ℕ) (r : Result A TagFault) where
-  module _ (tag : ℕ) where
-    no_tag_cause : tag < s.total → (s.part caller).held tag ≡ true → (fault : TagFault)
-        → ¬ (RefusesTag s caller tag fault)
-    no_tag_cause low held NoSuchTag h = absurd (omega arith)
-    no_tag_cause low held NotHeld h = both_ways ((s.part caller).held tag) h.1 held
-    no_tag_cause low held _ h = h
+-- the result is a value if no cause holds, and the cause of each fault holds
+by_answer : {A : Type 0} (refuses : TagFault → Type 0) (r : Result A TagFault)
+    → (IsOk r → (fault : TagFault) → ¬ (refuses fault)) → ((fault : TagFault) → r ≡ Err fault → refuses fault)
+    → IsVerdict refuses r
+by_answer refuses (Ok a) good bad = inr (refl, good refl)
+by_answer refuses (Err fault) good bad = inl (fault, refl, bad fault refl)
 
-    pub tag_verdict : (s.total ≤ tag → r ≡ Err NoSuchTag)
-        → (tag < s.total → (s.part caller).held tag ≡ false → r ≡ Err NotHeld)
-        → ((s.part caller).held tag ≡ true → IsOk r) → IsVerdict (RefusesTag s caller tag) r
-    tag_verdict none not_held succeeds = ⊎_elim
-        (λ (low : tag < s.total). ⊎_elim
-        (λ (h : (s.part caller).held tag ≡ true). inr (succeeds h, no_tag_cause low h))
-        (λ (h : (s.part caller).held tag ≡ false). inl (NotHeld, not_held low h, (low, h)))
-        (cases_Bool ((s.part caller).held tag)))
-        (λ (high : s.total ≤ tag). inl (NoSuchTag, none high, high))
-        (cases_lt tag s.total)
+-- each cause that holds is told, and the result is a value if none does
+by_cause : {A : Type 0} (refuses : TagFault → Type 0) (r : Result A TagFault)
+    → ((fault : TagFault) → refuses fault → r ≡ Err fault) → ((fault : TagFault) × refuses fault) ⊎ IsOk r
+    → IsVerdict refuses r
+by_cause refuses r each (inl bad) = inl (bad.0, each bad.0 bad.1, bad.1)
+by_cause {A} refuses r each (inr ok) = inr (
+  ok,
+  λ fault cause. let P : Result A TagFault → Type 0 = λ x. IsOk x in
+      let wrong = subst P (each fault cause) ok in cc,
+)
 
-  no_wait_cause : (s.part caller).stands ≡ false → (fault : TagFault) → ¬ (RefusesWait s caller fault)
-  no_wait_cause out Waiting h = both_ways (s.part caller).stands out h
-  no_wait_cause out _ h = h
-
-  pub wait_verdict : ((s.part caller).stands ≡ true → r ≡ Err Waiting) → ((s.part caller).stands ≡ false → IsOk r)
-      → IsVerdict (RefusesWait s caller) r
-  wait_verdict refused succeeds = ⊎_elim
-      (λ (t : (s.part caller).stands ≡ true). inl (Waiting, refused t, t))
-      (λ (f : (s.part caller).stands ≡ false). inr (succeeds f, no_wait_cause f))
-      (cases_Bool (s.part caller).stands)
-
-  no_leave_cause : (s.part caller).stands ≡ true → (fault : TagFault) → ¬ (RefusesLeave s caller fault)
-  no_leave_cause here NotWaiting h = both_ways (s.part caller).stands h here
-  no_leave_cause here _ h = h
-
-  pub leave_verdict : ((s.part caller).stands ≡ false → r ≡ Err NotWaiting) → ((s.part caller).stands ≡ true → IsOk r)
-      → IsVerdict (RefusesLeave s caller) r
-  leave_verdict refused succeeds = ⊎_elim
-      (λ (t : (s.part caller).stands ≡ true). inr (succeeds t, no_leave_cause t))
-      (λ (f : (s.part caller).stands ≡ false). inl (NotWaiting, refused f, f))
-      (cases_Bool (s.part caller).stands)
-
-module _ (s : State) (caller : ℕ) where
-  no_get_cause : ¬ (IsSpent s caller Ordinary 1) → (fault : TagFault) → ¬ (RefusesGet s caller Ordinary fault)
-  no_get_cause room Spent h = room h
-  no_get_cause room _ h = h
-
-  no_reserved_cause : 1 ≤ s.terms.reserved → ¬ (IsSpent s caller Reserved 1) → (fault : TagFault)
-      → ¬ (RefusesGet s caller Reserved fault)
-  no_reserved_cause some room NoReserved h = absurd (omega arith)
-  no_reserved_cause some room Spent h = room h.1
-  no_reserved_cause some room _ h = h
-
-  no_shallow_cause : (depth : ℕ) → s.terms.least ≤ depth → ¬ (IsSpent s caller Ordinary 1) → (fault : TagFault)
-      → ¬ (RefusesShallow s caller depth fault)
-  no_shallow_cause depth deep room TooShallow h = absurd (omega arith)
-  no_shallow_cause depth deep room Spent h = room h.1
-  no_shallow_cause depth deep room _ h = h
+spent_or_not : (s : State) (caller : ℕ) (kind : Kind) (n : ℕ) → IsSpent s caller kind n ⊎ (¬ (IsSpent s caller kind n))
+spent_or_not s caller kind n = ⊎_elim (λ (less : s.terms.life kind < (s.part caller).won kind + n). inl less)
+    (λ (fits : (s.part caller).won kind + n ≤ s.terms.life kind). inr (λ less. absurd (omega arith)))
+    (cases_lt (s.terms.life kind) ((s.part caller).won kind + n))
 
 module _ {A : Type 0} (s : State) (caller : ℕ) where
-  -- the result is a value if no cause holds, and the cause of each fault holds
-  pub by_answer : (refuses : TagFault → Type 0) (r : Result A TagFault)
-      → (IsOk r → (fault : TagFault) → ¬ (refuses fault))
-      → ((fault : TagFault) → r ≡ Err fault → refuses fault) → IsVerdict refuses r
-  by_answer refuses (Ok a) good bad = inr (refl, good refl)
-  by_answer refuses (Err fault) good bad = inl (fault, refl, bad fault refl)
+  pub tag_verdict : (r : Result A TagFault) (tag : ℕ) → (s.total ≤ tag → r ≡ Err NoSuchTag)
+      → (tag < s.total → (s.part caller).held tag ≡ false → r ≡ Err NotHeld)
+      → ((s.part caller).held tag ≡ true → IsOk r) → IsVerdict (RefusesTag s caller tag) r
+  tag_verdict r tag none not_held succeeds = by_cause (RefusesTag s caller tag) r each (⊎_elim
+      (λ (low : tag < s.total). ⊎_elim (λ (h : (s.part caller).held tag ≡ true). inr (succeeds h))
+      (λ (h : (s.part caller).held tag ≡ false). inl (NotHeld, (low, h))) (cases_Bool ((s.part caller).held tag)))
+      (λ (high : s.total ≤ tag). inl (NoSuchTag, high)) (cases_lt tag s.total))
+    where
+      each : (fault : TagFault) → RefusesTag s caller tag fault → r ≡ Err fault
+      each NoSuchTag h = none h
+      each NotHeld h = not_held h.0 h.1
+      each _ h = absurd h
+
+  pub wait_verdict : (r : Result A TagFault) → ((s.part caller).stands ≡ true → r ≡ Err Waiting)
+      → ((s.part caller).stands ≡ false → IsOk r) → IsVerdict (RefusesWait s caller) r
+  wait_verdict r refused succeeds = by_cause (RefusesWait s caller) r each (⊎_elim
+      (λ (t : (s.part caller).stands ≡ true). inl (Waiting, t))
+      (λ (f : (s.part caller).stands ≡ false). inr (succeeds f)) (cases_Bool (s.part caller).stands))
+    where
+      each : (fault : TagFault) → RefusesWait s caller fault → r ≡ Err fault
+      each Waiting h = refused h
+      each _ h = absurd h
+
+  pub leave_verdict : (r : Result A TagFault) → ((s.part caller).stands ≡ false → r ≡ Err NotWaiting)
+      → ((s.part caller).stands ≡ true → IsOk r) → IsVerdict (RefusesLeave s caller) r
+  leave_verdict r refused succeeds = by_cause (RefusesLeave s caller) r each (⊎_elim
+      (λ (t : (s.part caller).stands ≡ true). inr (succeeds t))
+      (λ (f : (s.part caller).stands ≡ false). inl (NotWaiting, f)) (cases_Bool (s.part caller).stands))
+    where
+      each : (fault : TagFault) → RefusesLeave s caller fault → r ≡ Err fault
+      each NotWaiting h = refused h
+      each _ h = absurd h
 
   pub get_verdict : (r : Result A TagFault) → (IsSpent s caller Ordinary 1 → r ≡ Err Spent)
       → (¬ (IsSpent s caller Ordinary 1) → IsOk r)
       → IsVerdict (RefusesGet s caller Ordinary) r
-  get_verdict r spent room = ⊎_elim
-      (λ (less : s.terms.life Ordinary < (s.part caller).won Ordinary + 1). inl (Spent, spent less, less))
-      (λ (fits : (s.part caller).won Ordinary + 1 ≤ s.terms.life Ordinary). let none : ¬ (IsSpent s caller Ordinary 1) =
-      λ less. absurd (omega arith) in
-      inr (room none, no_get_cause s caller none))
-      (cases_lt (s.terms.life Ordinary) ((s.part caller).won Ordinary + 1))
+  get_verdict r spent room = by_cause (RefusesGet s caller Ordinary) r each
+      (⊎_elim (λ less. inl (Spent, less)) (λ fits. inr (room fits)) (spent_or_not s caller Ordinary 1))
+    where
+      each : (fault : TagFault) → RefusesGet s caller Ordinary fault → r ≡ Err fault
+      each Spent h = spent h
+      each _ h = absurd h
 
   pub reserved_verdict : (r : Result A TagFault) → (s.terms.reserved ≡ 0 → r ≡ Err NoReserved)
       → (1 ≤ s.terms.reserved → IsSpent s caller Reserved 1 → r ≡ Err Spent)
       → (1 ≤ s.terms.reserved → ¬ (IsSpent s caller Reserved 1) → IsOk r)
       → IsVerdict (RefusesGet s caller Reserved) r
-  reserved_verdict r none spent room = ⊎_elim
-      (λ (zero_is : s.terms.reserved ≡ 0). inl (NoReserved, none zero_is, zero_is))
-      (λ (ne : s.terms.reserved ≢ 0). let some : 1 ≤ s.terms.reserved = omega arith in ⊎_elim
-      (λ (less : s.terms.life Reserved < (s.part caller).won Reserved + 1). inl (Spent, spent some less, (some, less)))
-      (λ (fits : (s.part caller).won Reserved + 1 ≤ s.terms.life Reserved). let open_ : ¬
-      (IsSpent s caller Reserved 1) = λ less. absurd (omega arith) in
-      inr (room some open_, no_reserved_cause s caller some open_))
-      (cases_lt (s.terms.life Reserved) ((s.part caller).won Reserved + 1)))
-      (cases_eq s.terms.reserved 0)
+  reserved_verdict r none spent room = by_cause (RefusesGet s caller Reserved) r each (⊎_elim
+      (λ (zero_is : s.terms.reserved ≡ 0). inl (NoReserved, zero_is))
+      (λ (ne : s.terms.reserved ≢ 0). let some : 1 ≤ s.terms.reserved = omega arith in
+      ⊎_elim (λ less. inl (Spent, (some, less))) (λ fits. inr (room some fits)) (spent_or_not s caller Reserved 1))
+      (cases_eq s.terms.reserved 0))
+    where
+      each : (fault : TagFault) → RefusesGet s caller Reserved fault → r ≡ Err fault
+      each NoReserved h = none h
+      each Spent h = spent h.0 h.1
+      each _ h = absurd h
 
   pub shallow_verdict : (depth : ℕ) (r : Result A TagFault) → (depth < s.terms.least → r ≡ Err TooShallow)
       → (s.terms.least ≤ depth → IsSpent s caller Ordinary 1 → r ≡ Err Spent)
       → (s.terms.least ≤ depth → ¬ (IsSpent s caller Ordinary 1) → IsOk r)
       → IsVerdict (RefusesShallow s caller depth) r
-  shallow_verdict depth r shallow spent room = ⊎_elim
-      (λ (low : depth < s.terms.least). inl (TooShallow, shallow low, low))
-      (λ (deep : s.terms.least ≤ depth). ⊎_elim
-      (λ (less : s.terms.life Ordinary < (s.part caller).won Ordinary + 1). inl (Spent, spent deep less, (deep, less)))
-      (λ (fits : (s.part caller).won Ordinary + 1 ≤ s.terms.life Ordinary). let open_ : ¬
-      (IsSpent s caller Ordinary 1) = λ less. absurd (omega arith) in
-      inr (room deep open_, no_shallow_cause s caller depth deep open_))
-      (cases_lt (s.terms.life Ordinary) ((s.part caller).won Ordinary + 1)))
-      (cases_lt depth s.terms.least)
+  shallow_verdict depth r shallow spent room = by_cause (RefusesShallow s caller depth) r each (⊎_elim
+      (λ (low : depth < s.terms.least). inl (TooShallow, low))
+      (λ (deep : s.terms.least ≤ depth). ⊎_elim (λ less. inl (Spent, (deep, less))) (λ fits. inr (room deep fits))
+      (spent_or_not s caller Ordinary 1)) (cases_lt depth s.terms.least))
+    where
+      each : (fault : TagFault) → RefusesShallow s caller depth fault → r ≡ Err fault
+      each TooShallow h = shallow h
+      each Spent h = spent h.0 h.1
+      each _ h = absurd h
 
   module _ (n : ℕ) (r : Result A TagFault) (miscounts : Miscounts s n → r ≡ Err BadCount)
       (around : ¬ (Miscounts s n) → (s.part caller).round_robin ≡ true → IsOk r)
       (spent : ¬ (Miscounts s n) → (s.part caller).round_robin ≡ false → IsSpent s caller Ordinary n → r ≡ Err Spent)
       (room : ¬ (Miscounts s n) → ¬ (IsSpent s caller Ordinary n) → IsOk r) where
-    none_around : ¬ (Miscounts s n) → (s.part caller).round_robin ≡ true → (fault : TagFault)
-        → ¬ (RefusesBatch s caller n fault)
-    none_around fits round BadCount h = fits h
-    none_around fits round Spent h = both_ways (s.part caller).round_robin h.1 round
-    none_around fits round _ h = h
+    each_told : (fault : TagFault) → RefusesBatch s caller n fault → r ≡ Err fault
+    each_told BadCount h = miscounts h
+    each_told Spent h = spent h.0 h.1 h.2
+    each_told _ h = absurd h
 
-    none_in_room : ¬ (Miscounts s n) → ¬ (IsSpent s caller Ordinary n) → (fault : TagFault)
-        → ¬ (RefusesBatch s caller n fault)
-    none_in_room fits open_ BadCount h = fits h
-    none_in_room fits open_ Spent h = open_ h.2
-    none_in_room fits open_ _ h = h
-
-    counted : ¬ (Miscounts s n) → IsVerdict (RefusesBatch s caller n) r
+    counted : ¬ (Miscounts s n) → ((fault : TagFault) × RefusesBatch s caller n fault) ⊎ IsOk r
     counted fits = ⊎_elim
-        (λ (t : (s.part caller).round_robin ≡ true). inr (around fits t, none_around fits t))
-        (λ (f : (s.part caller).round_robin ≡ false). ⊎_elim
-        (λ (less : s.terms.life Ordinary < (s.part caller).won Ordinary + n). inl
-        (Spent, spent fits f less, (fits, f, less)))
-        (λ (some : (s.part caller).won Ordinary + n ≤ s.terms.life Ordinary). let open_ : ¬
-        (IsSpent s caller Ordinary n) = λ less. absurd (omega arith) in
-        inr (room fits open_, none_in_room fits open_))
-        (cases_lt (s.terms.life Ordinary) ((s.part caller).won Ordinary + n)))
+        (λ (t : (s.part caller).round_robin ≡ true). inr (around fits t))
+        (λ (f : (s.part caller).round_robin ≡ false).
+        ⊎_elim (λ less. inl (Spent, (fits, f, less))) (λ some. inr (room fits some)) (spent_or_not s caller Ordinary n))
         (cases_Bool (s.part caller).round_robin)
 
     pub batch_verdict : IsVerdict (RefusesBatch s caller n) r
-    batch_verdict = ⊎_elim
-        (λ (none : n ≡ 0). inl (BadCount, miscounts (inl none), inl none))
+    batch_verdict = by_cause (RefusesBatch s caller n) r each_told (⊎_elim
+        (λ (none : n ≡ 0). inl (BadCount, inl none))
         (λ (some : n ≢ 0). ⊎_elim
-        (λ (wide : s.terms.bits Ordinary < n). inl (BadCount, miscounts (inr wide), inr wide))
+        (λ (wide : s.terms.bits Ordinary < n). inl (BadCount, inr wide))
         (λ (fits : n ≤ s.terms.bits Ordinary). counted
         (⊎_elim (λ (none : n ≡ 0). some none) (λ (wide : s.terms.bits Ordinary < n). absurd (omega arith))))
         (cases_lt (s.terms.bits Ordinary) n))
-        (cases_eq n 0)
+        (cases_eq n 0))
 
   module _ (tags : List ℕ) (r : Result A TagFault) (bad : (r ≡ Err BadCount) ↔ ¬ (CountsTags tags))
       (none : (r ≡ Err NoSuchTag) ↔ (CountsTags tags × ¬ (AreOrdinary s tags)))
@@ -175,15 +149,16 @@ module _ {A : Type 0} (s : State) (caller : ℕ) where
     list_good ok NotHeld h = h.2 (succeeds.0 ok).2
     list_good ok _ h = h
 
-    -- there is no other fault
-    three : (fault : TagFault) → r ≡ Err fault → fault ≢ BadCount → fault ≢ NoSuchTag → fault ≢ NotHeld → ⊥
-    three fault e not_bad not_none not_free =
-        let counts : ¬ (¬ (CountsTags tags)) = λ no_count. let f = bad.1 no_count in
-        let same : fault ≡ BadCount = cc in not_bad same in
-        counts (λ count. let all : ¬ (¬ (AreOrdinary s tags)) = λ no_all. let f = none.1 (count, no_all) in
-        let same : fault ≡ NoSuchTag = cc in not_none same in
-        all (λ there. let held : ¬ (¬ (AreHeldOnce s caller tags)) = λ no_held.
-        let f = free.1 (count, there, no_held) in let same : fault ≡ NotHeld = cc in not_free same in
+    -- the fault told is a cause, since one of the three holds unless the result is a value
+    caused : (fault : TagFault) → r ≡ Err fault → ¬ (¬ (RefusesList s caller tags fault))
+    caused fault e none_is =
+        let is : (other : TagFault) → r ≡ Err other → RefusesList s caller tags other → ⊥ =
+        λ other f cause. let same : fault ≡ other = cc in
+        none_is (subst (λ (x : TagFault). RefusesList s caller tags x) (sym same) cause) in
+        let counts : ¬ (¬ (CountsTags tags)) = λ no. is BadCount (bad.1 no) no in
+        counts (λ count. let all : ¬ (¬ (AreOrdinary s tags)) = λ no. is NoSuchTag (none.1 (count, no)) (count, no) in
+        all (λ there. let held : ¬ (¬ (AreHeldOnce s caller tags)) = λ no.
+        is NotHeld (free.1 (count, there, no)) (count, there, no) in
         held (λ once. let ok = succeeds.1 (count, there, once) in let P : Result A TagFault → Type 0 = λ x. IsOk x in
         let wrong = subst P e ok in cc)))
 
@@ -191,12 +166,7 @@ module _ {A : Type 0} (s : State) (caller : ℕ) where
     list_bad BadCount e = bad.0 e
     list_bad NoSuchTag e = none.0 e
     list_bad NotHeld e = free.0 e
-    list_bad NoReserved e = absurd (three NoReserved e (λ x. cc) (λ x. cc) (λ x. cc))
-    list_bad NotPosted e = absurd (three NotPosted e (λ x. cc) (λ x. cc) (λ x. cc))
-    list_bad TooShallow e = absurd (three TooShallow e (λ x. cc) (λ x. cc) (λ x. cc))
-    list_bad Spent e = absurd (three Spent e (λ x. cc) (λ x. cc) (λ x. cc))
-    list_bad Waiting e = absurd (three Waiting e (λ x. cc) (λ x. cc) (λ x. cc))
-    list_bad NotWaiting e = absurd (three NotWaiting e (λ x. cc) (λ x. cc) (λ x. cc))
+    list_bad fault e = absurd (caused fault e (λ cause. cause))
 
     pub list_verdict : IsVerdict (RefusesList s caller tags) r
     list_verdict = by_answer (RefusesList s caller tags) r list_good list_bad

@@ -1,71 +1,23 @@
 -- What a call on one hand is for its caller as it waits and wakes others.
-use Rattle.std.proofs.Common.{◌≡◌, ◌≢◌, ℕ, ◌+◌, ◌<◌, Bool, true, false, Option, None, ⊎_elim, ◌⊎◌, inl, inr, List, length, map, get_or, set, Result, Ok, Err, IfOk, OnErr, refl, sym, ap, ◌∙◌, subst, arith, get_or-set_other, get_or-set_same}
-use Rattle.std.proofs.lemmas.List.{map-set, set-get_or, length-map, get_or-map}
-use Rattle.step_ledger.specs.History.{total}
-use Rattle.wake_book.specs.declared.steps.BookStep.{BookStep}
-use Rattle.wake_book.specs.declared.steps.GroupStep.{GroupStep}
-use Rattle.wake_book.specs.declared.waiting.Left.{Left}
-use Rattle.wake_book.specs.declared.charge.Charge.{Charge}
-use Rattle.wake_book.specs.declared.charge.Charge.TheVariants.{Full, Below, Won, Busy}
+use Rattle.std.proofs.Common.{◌≡◌, ℕ, ◌+◌, ⊎_elim, inl, List, set, sym, ap, subst, arith}
+use Rattle.tag_board.proofs.Uses.{total, GroupStep, Charge, Full, Below, Won, Busy, moved_by, Queue, Hand, Kind, Ordinary, Reserved, Tags, agent_of, book_steps, group_steps, other_kind, waiter_of, waiters_of_all, Waiter, newcomer, Moves, GrantsFor}
 use Rattle.wake_book.specs.Book as book
-use Rattle.wake_book.specs.Charges.{added}
 use Rattle.wake_book.specs.Groups as groups
-use Rattle.wake_book.specs.Waits.{moved_by}
-use Rattle.tag_queue.specs.declared.agent.Agent.{Agent}
-use Rattle.tag_sets.specs.declared.fault.TagFault.{TagFault}
-use Rattle.tag_queue.specs.declared.queue.Queue.{Queue}
-use Rattle.tag_queue.specs.declared.waits.Wakes.{Wakes}
 use Rattle.tag_queue.specs.Agents as queue
 use Rattle.tag_queue.specs.Clears as queue_clears
-use Rattle.tag_sets.specs.declared.hand.Hand.{Hand}
-use Rattle.tag_sets.specs.declared.kind.Kind.{Kind}
-use Rattle.tag_sets.specs.declared.kind.Kind.TheVariants.{Ordinary, Reserved}
-use Rattle.tag_sets.specs.declared.tags.Tags.{Tags}
 use Rattle.tag_sets.specs.Clears as clears
-use Rattle.tag_sets.specs.Gets as gets
-use Rattle.tag_sets.specs.Hands.{agent_of, hint_of, book_steps, group_steps, standing_of, wait_index_of, split_of, reserved_of}
-use Rattle.tag_sets.specs.Sets.{kind_of, other_kind}
-use Rattle.tag_sets.specs.Waits as waits
-use Rattle.tag_board.specs.Parts.{waiter_of, waiters_of_all}
-use Rattle.tag_board.specs.Wakeups.{Waiter, newcomer, Moves, MovesIf, GrantsFor, Enters, Leaves, Finds}
 use Rattle.tag_board.proofs.Charging.{charge_adds, walk_grants}
-use Rattle.tag_board.proofs.Seats.{Sits}
+use Rattle.tag_board.proofs.Seats.{Sits, seat, seen_here, seen_there}
 
-module _ {R : Type 0} {hands : List (Hand R)} {i : ℕ} {old : Hand R} (at : Sits hands i old) (new : Hand R) where
-  waiter_here : waiters_of_all hands i ≡ waiter_of old
-  waiter_here = get_or-map waiter_of hands i old newcomer at.within ∙ ap waiter_of (sym at.here)
-
-  moved : map waiter_of (set hands i new) ≡ set (map waiter_of hands) i (waiter_of new)
-  moved = map-set waiter_of hands i new
-
-  -- a hand that counts and waits as before leaves all callers as they are
-  pub waiters_rest : waiter_of new ≡ waiter_of old → waiters_of_all (set hands i new) ≡ waiters_of_all hands
-  waiters_rest same =
-      let back : map waiter_of (set hands i new) ≡ map waiter_of hands =
-      moved ∙ ap (set (map waiter_of hands) i) (same ∙ sym waiter_here) ∙ set-get_or (map waiter_of hands) i newcomer in
-      ap {B = ℕ → Waiter} (λ (ws : List Waiter) (caller : ℕ). get_or ws caller newcomer) back
-
-  -- one caller changed so, and no other did
-  pub waiters_move : (change : Waiter → Waiter → Type 0) → change (waiter_of old) (waiter_of new)
-      → Moves i change (waiters_of_all hands) (waiters_of_all (set hands i new))
-  waiters_move change c =
-      let low = at.within in let l = length-map hands waiter_of in
-      let long : i < length (map waiter_of hands) = omega arith in
-      let now : waiters_of_all (set hands i new) i ≡ waiter_of new =
-      ap (λ (ws : List Waiter). get_or ws i newcomer) moved
-      ∙ get_or-set_same (map waiter_of hands) i (waiter_of new) newcomer long in record {
-        own = subst (λ (w : Waiter). change w (waiters_of_all (set hands i new) i)) (sym waiter_here)
-            (subst (λ (w : Waiter). change (waiter_of old) w) (sym now) c);
-        others = λ other ne. ap (λ (ws : List Waiter). get_or ws other newcomer) moved
-            ∙ get_or-set_other (map waiter_of hands) i other (waiter_of new) newcomer ne;
-      }
-
-  -- the caller of an answered command changed so; a refused one changes nobody
-  pub waiters_move_if : {A : Type 0} (change : A → Waiter → Waiter → Type 0) (r : Result A TagFault)
-      → IfOk r (λ a. change a (waiter_of old) (waiter_of new)) → OnErr r (new ≡ old)
-      → MovesIf i change (waiters_of_all hands) r (waiters_of_all (set hands i new))
-  waiters_move_if change (Ok a) c same = waiters_move (change a) c
-  waiters_move_if change (Err fault) c same = waiters_rest (ap waiter_of same)
+-- one caller changed so, and no other did
+pub waiters_move : {R : Type 0} {hands : List (Hand R)} {i : ℕ} {old : Hand R} → Sits hands i old → (new : Hand R)
+    → (change : Waiter → Waiter → Type 0) → change (waiter_of old) (waiter_of new)
+    → Moves i change (waiters_of_all hands) (waiters_of_all (set hands i new))
+waiters_move {R} {hands} {i} {old} at new change c = record {
+  own = subst (λ (w : Waiter). change w (waiters_of_all (set hands i new) i)) (sym (seen_here waiter_of newcomer at))
+      (subst (λ (w : Waiter). change (waiter_of old) w) (sym (seen_here waiter_of newcomer (seat at new))) c);
+  others = seen_there waiter_of newcomer at new;
+}
 
 module _ {R : Type 0} (old new : Hand R) where
   -- a hand whose ordinary agent counts and waits as before
@@ -123,40 +75,3 @@ module _ {R : Type 0} (old new : Hand R) where
         counted = inl (ap (λ (w : Waiter). w.book) same);
         stays = (ap (λ (w : Waiter). w.group) same, ap (λ (w : Waiter). w.next) same);
       }
-
-  -- the same for a clear of one tag, whose set is that of the tag
-  pub cleared_grants : (tags : Tags R) (tag woken : ℕ) → split_of old ≡ reserved_of tags → clears.Clears tags tag old new
-      → clears.Counts tags (kind_of (reserved_of tags) tag) 1 old new woken
-      → GrantsFor 1 woken (waiter_of old) (waiter_of new)
-  cleared_grants tags tag woken split c counts = clear_grants tags (kind_of (split_of old) tag) 1 woken
-      (subst (λ (r : ℕ). clears.Counts tags (kind_of r tag) 1 old new woken) (sym split) counts) c.set.other
-
-  pub wait_enters : (group : ℕ) → waits.Enters group old new → Enters group (waiter_of old) (waiter_of new)
-  wait_enters group e = let c = e.set.changed in record {
-    group_is = c.group_is;
-    inside = e.stands;
-    next = c.next;
-    steps = (c.active, c.found, c.steps);
-    book = ap book.steps_of c.same.2;
-  }
-
-  pub wait_leaves : (left : Left) → waits.Leaves left old new → standing_of new ≡ None
-      → wait_index_of new ≡ wait_index_of old → Leaves left (waiter_of old) (waiter_of new)
-  wait_leaves left l out next = record {
-    steps = l.set.changed.0;
-    outside = out;
-    next = next;
-    book = ap book.steps_of l.set.changed.1.2;
-  }
-
--- a batch get counts nothing, whatever its answer: under round robin the hand is unchanged
-pub batch_rests : {R : Type 0} (tags : Tags R) (old new : Hand R) (n : ℕ) (answer : Option (ℕ × ℕ))
-    → ((hint_of old Ordinary).round_robin ≡ true → (answer ≡ None) × (new ≡ old))
-    → ((hint_of old Ordinary).round_robin ≡ false → gets.GetsBatch tags n answer old new)
-    → waiter_of new ≡ waiter_of old
-batch_rests tags old new n answer around straight = by_round (hint_of old Ordinary).round_robin around straight
-  where
-    by_round : (round : Bool) → (round ≡ true → (answer ≡ None) × (new ≡ old))
-        → (round ≡ false → gets.GetsBatch tags n answer old new) → waiter_of new ≡ waiter_of old
-    by_round true around straight = ap waiter_of (around refl).1
-    by_round false around straight = let g = straight refl in rests old new Ordinary g.set.changed.others g.set.other

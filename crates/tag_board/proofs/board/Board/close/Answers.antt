@@ -1,5 +1,5 @@
 -- A board has all its hands, so `gather` succeeds, and its sums over both sets are those over all callers.
-use Rattle.std.proofs.lemmas.Bool.{false≢true}
+use Rattle.tag_board.proofs.Uses.{false≢true}
 use Rattle.tag_board.proofs.Endings.{all_there, totals_are}
 use Rattle.tag_board.proofs.board.Board.close.Goals as goal
 

@@ -1,8 +1,6 @@
 -- The board knows the total and the number of reserved tags, and the ordinary ones are the rest.
 use Rattle.std.proofs.Common.{◌≡◌, ◌-◌, arith, ap, sym, ◌∙◌}
-use Rattle.tag_sets.specs.declared.kind.Kind.TheVariants.{Ordinary}
-use Rattle.tag_board.specs.Boards.{state_of}
-use Rattle.tag_board.specs.Looks.{depth_of}
+use Rattle.tag_board.proofs.Uses.{Ordinary, state_of, depth_of}
 use Rattle.tag_board.proofs.board.Board.depth.Goals as goal
 
 pub returns-in-Ordinary : goal.returns-in-Ordinary

@@ -1,10 +1,6 @@
 -- The tag is in range since its caller holds it, so every hand can be tested. Those that were do not hold it.
 use Rattle.std.proofs.Common.{◌≡◌, ◌≢◌, ℕ, ◌<◌, length, sym, subst, arith, false}
-use mathlib.Core.Logic.{dite}
-use native.Mathlib.Decide.{ℕ_discrete}
-use Rattle.std.proofs.lemmas.Bool.{both_ways}
-use Rattle.tag_sets.specs.Hands.{IsHandOf, Holds}
-use Rattle.tag_board.specs.Boards.{state_of}
+use Rattle.tag_board.proofs.Uses.{dite, ℕ_discrete, both_ways, IsHandOf, Holds, state_of}
 use Rattle.tag_board.proofs.Holders.{holder, unheld_at}
 use Rattle.tag_board.proofs.Ranges.{tag_there}
 use Rattle.tag_board.proofs.Seats.{own_here, sits}

@@ -1,13 +1,7 @@
 -- Each bit of the mask is a tag that the caller holds, so `tell_alone` applies to each, and together they are the run.
 use Rattle.std.proofs.Common.{◌≡◌, ◌≢◌, ℕ, ◌+◌, ◌*◌, ◌%◌, ◌^◌, ◌<◌, nat_eq, bit_and, sym, ap, ◌∙◌, subst, arith}
-use Rattle.std.proofs.lemmas.Nat.{one_shl}
-use Rattle.std.specs.Int.{bit_at}
-use mathlib.Core.Logic.{dite}
-use native.Mathlib.Decide.{ℕ_discrete}
+use Rattle.tag_board.proofs.Uses.{one_shl, bit_at, dite, ℕ_discrete, Board, state_of, NobodyElseHolds}
 use Rattle.tag_search.proofs.PlainFacts.{clear_of_mask, taken_of_mask}
-use Rattle.tag_board.specs.declared.board.Board.{Board}
-use Rattle.tag_board.specs.Boards.{state_of}
-use Rattle.tag_board.specs.Replays.{NobodyElseHolds}
 use Rattle.tag_board.proofs.Batching.{in_run, all_in_run}
 use Rattle.tag_board.proofs.Holders.{holder}
 use Rattle.tag_board.proofs.Ranges.{tag_low}

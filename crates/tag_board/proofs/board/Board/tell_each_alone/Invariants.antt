@@ -1,9 +1,7 @@
 -- No other caller holds a tag of the places visited so far, and the board is unchanged.
 use Rattle.std.proofs.Common.{◌≡◌, ℕ, ◌+◌, ◌<◌}
-use Rattle.std.specs.Int.{bit_at}
+use Rattle.tag_board.proofs.Uses.{bit_at, state_of, NobodyElseHolds}
 use Rattle.std.specs.Prelude.{nat_eq}
-use Rattle.tag_board.specs.Boards.{state_of}
-use Rattle.tag_board.specs.Replays.{NobodyElseHolds}
 use Rattle.tag_board.proofs.board.Board.tell_each_alone.Given as goal
 
 abbrev pub invariant-loop-place : goal.invariant-loop-place

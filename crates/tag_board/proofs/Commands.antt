@@ -1,0 +1,143 @@
+-- What a call on one hand is for the board.
+use Rattle.std.proofs.Common.{◌≡◌, ◌≢◌, ℕ, Bool, false, List, length, set, All, Result, Ok, Err, IfOk, OnErr, sym, ap, ◌∙◌, subst, length-set}
+use Rattle.tag_board.proofs.Uses.{dite, ℕ_discrete, TagFault, Hand, Kind, Tags, hands_of, IsHandOf, number_of, total_of, reserved_of, HoldsMore, Board, AloneSets, Does, state_of, alone_sets_of, waiters_of, AreOrdered, state_of_all, alone_sets_of_all, waiters_of_all, Answers, Changes, HoldsAll, NobodyHolds, NobodyElseHolds, Wins, won, Part, State, Waiter, Moves, MovesIf}
+use Rattle.std.proofs.lemmas.List.Elements.{All-set}
+use Rattle.tag_board.specs.Boards.{IsAlone}
+use Rattle.tag_board.proofs.AloneBoard.{alone_sets_moved}
+use Rattle.tag_board.proofs.Holdings.{Names, not_holds}
+use Rattle.tag_board.proofs.Waiters.{waiters_move}
+pub use Rattle.tag_board.proofs.Effects.{AsBefore, batch_gains, batch_number, busy_does, clear_does, dump_does, Effect, enter_does, Gained, get_gains, leave_does, list_does, low_group, names_answer, names_one, none_around, none_woken, post_does, refused_does, reserved_gains, shallow_gains, show_does, stay_does, take_does}
+pub use Rattle.tag_board.proofs.Outcomes.{both_ok, both_on, err_same, err_since, none_since, not_some_since, ok_map, on_map, some_since}
+pub use Rattle.tag_board.proofs.Seats.{changes, held_here, here_held, none_here, ordered, own_here, part_here, room_here, round_here, same_state, seat, sits, Sits, spent_here, stands_here, unmoved}
+pub use Rattle.tag_board.proofs.Verdicts.{answers, batch_verdict, get_verdict, IsVerdict, leave_verdict, list_verdict, reserved_verdict, shallow_verdict, tag_verdict, wait_verdict}
+
+-- what a contract sees of a board
+pub record Seen : Type 0 where
+  pub state : State
+  pub sets : AloneSets
+  pub waiters : ℕ → Waiter
+
+abbrev pub seen : Tags ℕ → List (Hand ℕ) → Seen
+seen tags hands = record {
+  state = state_of_all tags hands;
+  sets = alone_sets_of_all hands;
+  waiters = waiters_of_all hands;
+}
+
+abbrev pub seen_of : Board → Seen
+seen_of b = seen b.tags b.hands.items
+
+-- a call on the hand of a caller changed so what a contract sees of the board
+pub record EffectOn (b : Board) (i : ℕ) (change : Part → Part) (alters : AloneSets → AloneSets → Type 0)
+    (waits : Waiter → Waiter → Type 0) (after : Seen) : Type 0 where
+  pub changes : Changes i change (state_of b) after.state
+  pub alone : IsAlone b → alters (alone_sets_of b) after.sets
+  pub waiters : Moves i waits (waiters_of b) after.waiters
+
+-- the clauses of a command that may be refused
+pub record Replies {A : Type 0} (b : Board) (i : ℕ) (refuses : TagFault → Type 0) (done : A → State → Type 0)
+    (alters : A → AloneSets → AloneSets → Type 0) (waits : A → Waiter → Waiter → Type 0) (r : Result A TagFault)
+    (after : Seen) : Type 0 where
+  pub answers : Answers refuses (λ a. done a after.state) (state_of b) r after.state
+  pub alone : IsAlone b → Does alters (alone_sets_of b) r after.sets
+  pub waiters : MovesIf i waits (waiters_of b) r after.waiters
+
+-- if one caller is as it was, and no other moved, all are as they were
+pub all_rest : {i : ℕ} {old new : ℕ → Waiter} → Moves i AsBefore old new → new ≡ old
+all_rest {i} {old} {new} m = λ j. λ caller. dite (ℕ_discrete caller i)
+    (λ (e : caller ≡ i). subst (λ (k : ℕ). new k ≡ old k) (sym e) m.own)
+    (λ (ne : caller ≢ i). m.others caller ne) j
+
+-- the same after a refusal
+pub none_moved : {A : Type 0} (i : ℕ) {old new : ℕ → Waiter} (r : Result A TagFault)
+    → MovesIf i (λ a. AsBefore) old r new → new ≡ old
+none_moved i (Ok a) m = all_rest m
+none_moved i (Err fault) m = m
+
+pub none_done : {A : Type 0} {old new : AloneSets} (r : Result A TagFault) → Does (λ a. AsBefore) old r new → new ≡ old
+none_done (Ok a) same = same
+none_done (Err fault) same = same
+
+-- a refused call leaves the number as it was too
+pub kept : {A : Type 0} (old new : Hand ℕ) (r : Result A TagFault) → IfOk r (λ a. number_of new ≡ number_of old)
+    → OnErr r (new ≡ old) → number_of new ≡ number_of old
+kept old new (Ok a) same e = same
+kept old new (Err fault) same e = ap number_of e
+
+module _ (b : Board) {i : ℕ} {old : Hand ℕ} (at : Sits b.hands.items i old) (new : Hand ℕ) where
+  -- the hand is still one of the tags and has its number, so what holds of the board's hands still does
+  pub seated : IsHandOf b.tags new → number_of new ≡ number_of old → record {
+    own : All (IsHandOf b.tags) (set b.hands.items i new);
+    ordered : AreOrdered (set b.hands.items i new);
+    every : length (set b.hands.items i new) ≡ hands_of b.tags;
+    sizes : (total_of b.tags ≡ b.total) × (reserved_of b.tags ≡ b.reserved);
+  }
+  seated own number = record {
+    own = All-set (IsHandOf b.tags) b.hands.items i new own b.own;
+    ordered = ordered b.tags at new b.ordered number;
+    every = length-set b.hands.items i new ∙ b.every;
+    sizes = b.sizes;
+  }
+
+  -- what a contract sees after the call
+  abbrev now : Seen
+  now = seen b.tags (set b.hands.items i new)
+
+  module _ {change : Part → Part} {alone : AloneSets → AloneSets → Type 0} {waits : Waiter → Waiter → Type 0}
+      (d : Effect b.tags change alone waits old new) where
+    -- what the call did to the hand, it did to the board
+    pub effect_on : EffectOn b i change alone waits now
+    effect_on = record {
+      changes = changes b.tags at new change d.part;
+      alone = λ one. alone_sets_moved at new one alone (d.alone (sym b.every ∙ one));
+      waiters = waiters_move at new waits d.waiter;
+    }
+
+  module _ {A : Type 0} {refuses : TagFault → Type 0} (change : A → Part → Part) (done : A → State → Type 0)
+      (alone : A → AloneSets → AloneSets → Type 0) (waits : A → Waiter → Waiter → Type 0) where
+    -- a call that may be refused, which then changes nothing
+    pub replies : (r : Result A TagFault) → IsVerdict refuses r
+        → IfOk r (λ a. Effect b.tags (change a) (alone a) (waits a) old new
+        × (Changes i (change a) (state_of b) now.state → done a now.state))
+        → OnErr r (new ≡ old) → Replies b i refuses done alone waits r now
+    replies (Ok a) verdict d e = let to = effect_on d.0 in record {
+      answers = answers refuses (λ a. done a now.state) (state_of b) now.state (Ok a) verdict (d.1 to.changes) tt;
+      alone = to.alone;
+      waiters = to.waiters;
+    }
+    replies (Err fault) verdict d e = let same = unmoved b.tags at e in record {
+      answers = answers refuses (λ a. done a now.state) (state_of b) now.state (Err fault) verdict tt
+          (ap (state_of_all b.tags) same);
+      alone = λ one. ap alone_sets_of_all same;
+      waiters = ap waiters_of_all same;
+    }
+
+  module _ (named : ℕ → Bool) (Is : ℕ → Type 0) (names : Names named Is) (more : HoldsMore Is old new) where
+    -- the caller holds what its hand gained
+    pub holds_gained : HoldsAll now.state i named
+    holds_gained tag is = here_held b.tags (seat at new) tag (more.joined tag ((names tag).0 is))
+
+    -- nobody held it before, since this hand did not, and no other caller holds it now
+    pub free_before : {change : Part → Part} → Changes i change (state_of b) now.state
+        → NobodyElseHolds now.state i named → NobodyHolds (state_of b) named
+    free_before c alone caller tag is = dite (ℕ_discrete caller i)
+        (λ (e : caller ≡ i). subst (λ (k : ℕ). ((state_of b).part k).held tag ≡ false) (sym e)
+        (ap (λ (p : Part). p.held tag) (part_here b.tags at) ∙ not_holds old tag (more.fresh tag ((names tag).0 is))))
+        (λ (ne : caller ≢ i). sym (ap (λ (p : Part). p.held tag) (c.others caller ne)) ∙ alone caller tag ne is)
+
+  -- a get that the set did not refuse is answered
+  pub got : {A : Type 0} {kind : Kind} {named : ℕ → Bool} {Is : ℕ → Type 0} {n : ℕ} {refuses : TagFault → Type 0}
+      (done : A → State → Type 0) (alone : A → AloneSets → AloneSets → Type 0) (a : A) (after : Seen) → after ≡ now
+      → Gained b.tags b.hands.items kind named Is n (alone a) old new → NobodyElseHolds now.state i named
+      → IsVerdict refuses (Ok a) → (Wins i kind named n (state_of b) now.state → done a now.state)
+      → Replies b i refuses done alone (λ o. AsBefore) (Ok a) after
+  got {A} {kind} {named} {Is} {n} {refuses} done alone a after same g else verdict is =
+      subst (λ (x : Seen). Replies b i refuses done alone (λ o. AsBefore) (Ok a) x) (sym same)
+      (replies (λ o. won kind named n) done alone (λ o. AsBefore) (Ok a) verdict (
+        g.effect,
+        (λ c. is record {
+          free = free_before named Is g.names g.more c else;
+          there = λ tag t. g.there tag ((g.names tag).0 t);
+          change = c;
+        }),
+      ) tt)

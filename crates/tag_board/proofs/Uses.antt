@@ -1,0 +1,74 @@
+-- The names that several proofs use, of the library, the crates below and the definitions here.
+pub use Rattle.std.proofs.Math.Logic.{∥∥₁_elim}
+pub use Rattle.std.proofs.lemmas.Bool.{and_from, and_parts, both_ways, cases_Bool, cases_eq, cases_lt, false_from_ne_true, false≢true, le-leb, le-ltb, leb-true, lt-ltb, ltb-false, ltb-true, not-true, not_from_false, or_cases, or_left, or_right}
+pub use Rattle.std.proofs.lemmas.List.{append-nil, drop_all, get_or-map, get_or_past, length-map, map-set, set-get_or, take_at}
+pub use Rattle.std.proofs.lemmas.Nat.{one_shl, pow_pos}
+pub use Rattle.std.proofs.lemmas.Nat.Bits.{bit_at-lt, bit_at-zero, bit_at_above}
+pub use Rattle.std.specs.Int.{bit_at, div_ceil}
+pub use Rattle.std.specs.List.{list_any}
+pub use mathlib.Core.Logic.{dite}
+pub use mathlib.Core.Option.{some, some-injective}
+pub use native.Mathlib.Decide.{dec_lt, ℕ_discrete}
+pub use lib.ListN.{get_elem?}
+pub use Rattle.atomic_table.proofs.Lists.{at_map}
+pub use Rattle.step_ledger.specs.History.{total}
+pub use Rattle.step_ledger.specs.Views.{HasAll}
+pub use Rattle.tag_layout.proofs.PlaceFacts.{place_of-tag_at, word_bits-le, word_of-below, word_of-tag_at}
+pub use Rattle.tag_layout.proofs.SumFacts.{sum_below-same, sum_below-split}
+pub use Rattle.tag_layout.specs.Layout.{HasShift, Layout, place_of, tag_at, word_bits, word_depth, word_of, words}
+pub use Rattle.tag_layout.specs.Sums.{sum_below}
+pub use Rattle.tag_model.specs.Totals.{count_below}
+pub use Rattle.tag_core.proofs.Entries.{all_at, entry, entry_or}
+pub use Rattle.tag_core.specs.Callers.{record_of}
+pub use Rattle.tag_core.specs.Records.{record_after, tag_bit}
+pub use Rattle.tag_core.specs.Sizes.{size_of, total_of as sum_of}
+pub use Rattle.tag_core.specs.declared.caller.Caller.{Caller}
+pub use Rattle.tag_core.specs.declared.record.Record.{Record}
+pub use Rattle.tag_core.specs.declared.shape.Shape.{Shape}
+pub use Rattle.tag_core.specs.declared.step.Step.{Step}
+pub use Rattle.tag_core.specs.declared.step.Step.TheVariants.{Word}
+pub use Rattle.tag_core.specs.declared.word_step.WordStep.TheVariants.{Give, Look, LookAside}
+pub use Rattle.tag_search.proofs.AloneCallers.{own_found, own_post, own_put, own_take, own_took, place_small, state_after}
+pub use Rattle.tag_search.proofs.Pools.{and_false, and_true, or_false, pool_ext}
+pub use Rattle.tag_search.specs.Alone.{is_posted, IsAlone, pool_left}
+pub use Rattle.tag_search.specs.AloneLaws.{cells_left, own_after, words_left}
+pub use Rattle.tag_search.specs.Gains.{count_of, count_of_run}
+pub use Rattle.tag_search.specs.Pool.{free_at, is_busy, Pool, pool_of}
+pub use Rattle.tag_search.specs.Search.{Visit}
+pub use Rattle.tag_search.specs.declared.hint.Hint.{Hint}
+pub use Rattle.wake_book.specs.Waits.{moved_by, waiting}
+pub use Rattle.wake_book.specs.declared.charge.Charge.{Charge}
+pub use Rattle.wake_book.specs.declared.charge.Charge.TheVariants.{Below, Busy, Full, Won}
+pub use Rattle.wake_book.specs.declared.steps.GroupStep.{GroupStep}
+pub use Rattle.wake_book.specs.declared.waiting.Left.{Left}
+pub use Rattle.tag_queue.proofs.Giving.{same_number, same_shape}
+pub use Rattle.tag_queue.specs.Agents.{caller_of, records_of, SameCounts, SameElse, standing_of as standing_of_agent}
+pub use Rattle.tag_queue.specs.Batches.{AreRuns, CountsTags, GivesBack, IsRun, record_after_runs, Run}
+pub use Rattle.tag_queue.specs.declared.agent.Agent.{Agent}
+pub use Rattle.tag_queue.specs.declared.queue.Options.{Options}
+pub use Rattle.tag_queue.specs.declared.queue.Queue.{Queue}
+pub use Rattle.tag_sets.proofs.Numbering.{IsOrdinary, IsReserved, ordinary_above, reserved_below, stands}
+pub use Rattle.tag_sets.proofs.Opening.{all_part}
+pub use Rattle.tag_sets.specs.Gathering.{hands_of, IsGathered, numbers_of}
+pub use Rattle.tag_sets.specs.Hands.{agent_of, book_steps, group_steps, HasRoom, hint_of, Holds, IsHandOf, IsTagOf, layout_of, number_of, queue_of, reserved_of, split_of, standing_of, total_of, wait_index_of}
+pub use Rattle.tag_sets.specs.Holding.{HoldsLess, HoldsMore, HoldsSame}
+pub use Rattle.tag_sets.specs.Looks.{looks_from, MakesLooks, word_in}
+pub use Rattle.tag_sets.specs.Opening.{IsOpen as AreOpen, ordinary_part, reserved_part}
+pub use Rattle.tag_sets.specs.Resizing.{AreUnchanged, BalanceInBoth, HasMap, held_in_both, IsResized, posted_in_both, standing_count}
+pub use Rattle.tag_sets.specs.Sets.{kind_of, number_in_set, other_kind}
+pub use Rattle.tag_sets.specs.declared.fault.TagFault.{TagFault}
+pub use Rattle.tag_sets.specs.declared.fault.TagFault.TheVariants.{BadCount, NoReserved, NoSuchTag, NotHeld, NotPosted, NotWaiting, Spent, TooShallow}
+pub use Rattle.tag_sets.specs.declared.hand.Hand.{Hand}
+pub use Rattle.tag_sets.specs.declared.kind.Kind.{Kind}
+pub use Rattle.tag_sets.specs.declared.kind.Kind.TheVariants.{Ordinary, Reserved}
+pub use Rattle.tag_sets.specs.declared.shown.Shown.{Shown}
+pub use Rattle.tag_sets.specs.declared.tags.Tags.{Tags}
+pub use Rattle.tag_board.specs.AloneSets.{AloneBatch, AloneClears, AloneClearsList, AloneDumps, AloneGets, AloneListsBusy, AlonePosts, AloneResizes, AloneSet, AloneSets, AloneShows, AloneTakes, AreUntouched, ChangesSet, ChangesSetOf, Chooses, ChoosesRun, Does, first_in, give_back, is_aside_in, is_busy_in, is_busy_tag, is_named, plain, post_in, put_back, resized, shallow, split_in, take_in, untouched}
+pub use Rattle.tag_board.specs.Boards.{alone_sets_of, state_of, waiters_of}
+pub use Rattle.tag_board.specs.Looks.{depth_of, Dumps, ListsBusy}
+pub use Rattle.tag_board.specs.Parts.{alone_set_of, alone_sets_in, alone_sets_of_all, AreOrdered, has, holds, part_of, record_in, state_of_all, terms_of, waiter_of, waiters_of_all}
+pub use Rattle.tag_board.specs.Refusals.{AreHeldOnce, AreOrdinary, IsSpent, Miscounts, RefusesBatch, RefusesGet, RefusesLeave, RefusesList, RefusesShallow, RefusesTag, RefusesWait}
+pub use Rattle.tag_board.specs.Replays.{Answers, Changes, cleared, HoldsAll, is_answer, is_in_list, is_in_run, IsOf, joined, left, left as parted, NobodyElseHolds, NobodyHolds, standing, Takes, Wins, won, won_more}
+pub use Rattle.tag_board.specs.States.{back_in, got_in, idle, Part, posted_in, standing_in, State}
+pub use Rattle.tag_board.specs.Wakeups.{Enters, Finds, GrantsFor, Leaves, Moves, MovesIf, newcomer, Starts, Waiter}
+pub use Rattle.tag_board.specs.declared.board.Board.{Board}
