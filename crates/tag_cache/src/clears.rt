@@ -1,6 +1,7 @@
 //! Clears of one tag.
-ghost use Rattle.std.specs.Prelude.{◌≡◌, ◌⊎◌, ◌<◌, ◌≤◌, ◌↔◌, IfOk, IsOk, OnOk, OnErr};
+ghost use Rattle.std.specs.Prelude.{◌≡◌, ◌⊎◌, ◌<◌, ◌≤◌, ◌↔◌, List, IfOk, IsOk, OnOk, OnErr};
 ghost use Rattle.wake_book.specs.Grants.{AreGrantsOf};
+ghost use Rattle.wake_book.specs.declared.steps.GroupStep.{GroupStep};
 ghost use Rattle.tag_sets.specs.Hands.{total_of, group_steps};
 ghost use Rattle.tag_cache.specs.Caches.{IsCacheOf, Holds, IsLast, IsLent, IsWithin, IsFixed, KeepsNone, hand_of, split_of, reused_of};
 ghost use Rattle.tag_cache.specs.Changes.{IsUnchanged, KeepsSame, SameTerms};
@@ -32,10 +33,28 @@ impl<R: Copy> Cache<R> {
         ensures tally { OnOk result (Tallies 0 1 self.old self.new) }
         ensures err { OnErr result (IsUnchanged self.old self.new) }
     {
-        Ok(match self.clear_as(tags, tag)? {
-            None => 0,
-            Some(grants) => tags.ring(grants),
-        })
+        if self.lends(tag) {
+            return Ok(woken_by(tags, self.put(tags, tag)));
+        }
+        self.clear_unlent(tags, tag)
+    }
+
+    /// Clears a tag that the user is not known to hold, and wakes sleepers for what that granted. It is out of line, so
+    /// that other clears are short.
+    #[inline(never)]
+    fn clear_unlent(&mut self, tags: &Tags<R>, tag: u32) -> Result<u32, TagFault>
+        requires cache { IsCacheOf tags.now self.old }
+        requires unlent { ¬ (IsLent self.old tag) }
+        ensures cache { IsCacheOf tags.now self.new }
+        ensures no_such_tag { (result ≡ Err TagFault.NoSuchTag) ↔ (total_of tags.now ≤ tag) }
+        ensures not_held { (result ≡ Err TagFault.NotHeld) ↔ ((tag < total_of tags.now) × ¬ (Holds self.old tag)) }
+        ensures succeeds { Holds self.old tag → IsOk result }
+        ensures less { OnOk result (HoldsLess (λ other. other ≡ tag) self.old self.new) }
+        ensures way { IfOk result (λ woken. Goes tags.now tag woken self.old self.new) }
+        ensures tally { OnOk result (Tallies 0 1 self.old self.new) }
+        ensures err { OnErr result (IsUnchanged self.old self.new) }
+    {
+        Ok(woken_by(tags, self.clear_other(tags, tag)?))
     }
 
     /// Like `clear`, but wakes no sleeper, and so links nothing that does. It returns how many waiters it granted a
@@ -53,35 +72,32 @@ impl<R: Copy> Cache<R> {
         ensures tally { OnOk result (Tallies 0 1 self.old self.new) }
         ensures err { OnErr result (IsUnchanged self.old self.new) }
     {
-        Ok(match self.clear_as(tags, tag)? {
-            None => NO_GRANTS,
-            Some(grants) => grants,
-        })
+        if self.lends(tag) {
+            return Ok(all_granted(self.put(tags, tag)));
+        }
+        self.clear_unlent_granted(tags, tag)
     }
 
-    /// Clears a tag as `clear_granted` does. `None` is no grants, where the tag is kept without another step: a sum of
-    /// its own, so that this case needs no memory.
-    #[inline(always)]
-    fn clear_as(&mut self, tags: &Tags<R>, tag: u32) -> Result<Option<Grants>, TagFault>
-        requires { IsCacheOf tags.now self.old }
+    /// Clears a tag that the user is not known to hold, and wakes no sleeper. It is out of line, as `clear_unlent` is.
+    #[inline(never)]
+    fn clear_unlent_granted(&mut self, tags: &Tags<R>, tag: u32) -> Result<Grants, TagFault>
+        requires cache { IsCacheOf tags.now self.old }
+        requires unlent { ¬ (IsLent self.old tag) }
         ensures cache { IsCacheOf tags.now self.new }
         ensures no_such_tag { (result ≡ Err TagFault.NoSuchTag) ↔ (total_of tags.now ≤ tag) }
         ensures not_held { (result ≡ Err TagFault.NotHeld) ↔ ((tag < total_of tags.now) × ¬ (Holds self.old tag)) }
         ensures succeeds { Holds self.old tag → IsOk result }
         ensures less { OnOk result (HoldsLess (λ other. other ≡ tag) self.old self.new) }
-        ensures way { IfOk result (λ grants. Goes tags.now tag (woken_in grants) self.old self.new) }
-        ensures grants { IfOk result (λ grants. AreGranted grants (group_steps (hand_of self.old)) (group_steps (hand_of self.new))) }
+        ensures way { IfOk result (λ grants. Goes tags.now tag grants.woken self.old self.new) }
+        ensures grants { IfOk result (λ grants. AreGrantsOf grants (group_steps (hand_of self.old)) (group_steps (hand_of self.new))) }
         ensures tally { OnOk result (Tallies 0 1 self.old self.new) }
         ensures err { OnErr result (IsUnchanged self.old self.new) }
     {
-        if self.lends(tag) {
-            return Ok(self.put(tags, tag));
-        }
-        self.clear_other(tags, tag)
+        Ok(all_granted(self.clear_other(tags, tag)?))
     }
 
-    /// Clears a tag that the user is not known to hold. It is out of line, so that other clears are short.
-    #[inline(never)]
+    /// Clears a tag that the user is not known to hold. `None` is no grants, where the tag is kept without another step.
+    #[inline(always)]
     fn clear_other(&mut self, tags: &Tags<R>, tag: u32) -> Result<Option<Grants>, TagFault>
         requires cache { IsCacheOf tags.now self.old }
         requires unlent { ¬ (IsLent self.old tag) }
@@ -206,5 +222,28 @@ impl<R: Copy> Cache<R> {
         ensures few { result.woken ≤ 8 }
     {
         tags.clear_held(&mut self.hand, tag)
+    }
+}
+
+/// Wakes sleepers for grants, where there are any, and returns how many wakeups were granted.
+#[inline(always)]
+fn woken_by<R: Copy>(tags: &Tags<R>, grants: Option<Grants>) -> u32
+    ensures { result ≡ woken_in grants }
+{
+    match grants {
+        None => 0,
+        Some(grants) => tags.ring(grants),
+    }
+}
+
+/// Returns the grants, or none where there are none.
+#[inline(always)]
+fn all_granted(grants: Option<Grants>) -> Grants
+    ensures woken { result.woken ≡ woken_in grants }
+    ensures grants { (old new : List GroupStep) → AreGranted grants old new → AreGrantsOf result old new }
+{
+    match grants {
+        None => NO_GRANTS,
+        Some(grants) => grants,
     }
 }
