@@ -1,8 +1,7 @@
--- What becomes of a tag, told of what a clear answers.
-use Rattle.std.proofs.Common.{◌≡◌, ◌↔◌, ℕ, Result, Ok, Err, IfOk, OnOk, refl}
-use Rattle.std.specs.Prelude.{IsOk, Option}
+-- What a clear owes its user, from what becomes of the tag.
+use Rattle.std.proofs.Common.{◌≡◌, ℕ, sym, subst}
+use Rattle.std.specs.Prelude.{Option}
 use Rattle.wake_book.specs.declared.grants.Grants.{Grants}
-use Rattle.tag_sets.specs.declared.fault.TagFault.{TagFault}
 use Rattle.tag_sets.specs.declared.tags.Tags.{Tags}
 use Rattle.tag_cache.specs.declared.cache.Cache.{Cache}
 use Rattle.tag_cache.specs.Caches.{Holds}
@@ -13,12 +12,16 @@ use Rattle.tag_cache.specs.Tallies.{Tallies}
 use Rattle.tag_cache.proofs.Going.{goes_less, goes_tallies}
 
 module _ {R : Type 0} (tags : Tags R) (tag : ℕ) (old new : Cache R) where
-  pub goes_less_on : (r : Result (Option Grants) TagFault) → IsOk r ↔ Holds old tag
-      → IfOk r (λ grants. Goes tags tag (woken_in grants) old new) → OnOk r (HoldsLess (λ other. other ≡ tag) old new)
-  goes_less_on (Ok grants) held g = goes_less tags tag (woken_in grants) old new (held.0 refl).1 g
-  goes_less_on (Err fault) held g = tt
+  -- the user holds the tag no more, the clear went its way with so many woken, and one tag was taken back
+  pub record Cleared (woken : ℕ) : Type 0 where
+    pub less : HoldsLess (λ other. other ≡ tag) old new
+    pub way : Goes tags tag woken old new
+    pub tally : Tallies 0 1 old new
 
-  pub goes_tallies_on : (r : Result (Option Grants) TagFault)
-      → IfOk r (λ grants. Goes tags tag (woken_in grants) old new) → OnOk r (Tallies 0 1 old new)
-  goes_tallies_on (Ok grants) g = goes_tallies tags tag (woken_in grants) old new g
-  goes_tallies_on (Err fault) g = tt
+  pub cleared : (grants : Option Grants) (woken : ℕ) → woken ≡ woken_in grants → Holds old tag
+      → Goes tags tag (woken_in grants) old new → Cleared woken
+  cleared grants woken is held goes = record {
+    less = goes_less tags tag (woken_in grants) old new held.1 goes;
+    way = subst (λ (n : ℕ). Goes tags tag n old new) (sym is) goes;
+    tally = goes_tallies tags tag (woken_in grants) old new goes;
+  }
