@@ -141,8 +141,8 @@ impl<R: Copy> Queue<R> {
         self.charge(agent, n)
     }
 
-    /// Like `complete`, but wakes whom it granted a wakeup, and returns how many they are. Where nobody waits it makes no
-    /// grants at all, so that a clear is short.
+    /// Like `complete`, but wakes whom it granted a wakeup, and returns how many they are. Grants stay out of line, so that
+    /// a clear needs no memory where nobody waits.
     #[inline]
     fn complete_and_ring(&self, agent: &mut Agent<R>, n: u32) -> u32
         requires agent { IsAgentOf self.now agent.old }
@@ -157,6 +157,20 @@ impl<R: Copy> Queue<R> {
         if found == 0 {
             return 0;
         }
+        self.charge_and_ring(agent, n)
+    }
+
+    /// Like `charge`, but wakes whom it granted a wakeup, and returns how many they are.
+    #[inline(never)]
+    fn charge_and_ring(&self, agent: &mut Agent<R>, n: u32) -> u32
+        requires agent { IsAgentOf self.now agent.old }
+        requires within { (1 ≤ n) × (n ≤ 64) }
+        requires came_back { counted_by (teller_of agent.old) + n ≤ (record_of (caller_of agent.old)).back }
+        ensures agent { IsAgentOf self.now agent.new }
+        ensures charges { ChargesNow self.now n agent.old agent.new result }
+        ensures others { (caller_of agent.new ≡ caller_of agent.old) × (hint_of agent.new ≡ hint_of agent.old) }
+        ensures bound { step_count agent.new ≤ 116 + step_count agent.old }
+    {
         let grants = self.charge(agent, n);
         self.ring(grants)
     }
