@@ -57,17 +57,21 @@ module _ (change : Tags ℕ → Caller → Caller → Type 0) (code : ℤ) where
       subst (λ (x : Kind). CallsAs change code x after) (sym b)
       (subst (λ (x : Kind). CallsAs change code (IsPool pool) x) (sym a) (is, refl))
 
--- a number below 2^31 in magnitude keeps its value when it is stored in 32 bits
-pub stored : (code : ℤ) → mag code < 2147483648 → to_z w32 (of_z w32 code) ≡ code
+-- a number as it is stored in 32 bits
+abbrev pub as_stored : ℤ → ℤ
+as_stored code = to_z w32 (of_z w32 code)
+
+-- a number below 2^31 in magnitude keeps its value when it is stored
+pub stored : (code : ℤ) → mag code < 2147483648 → as_stored code ≡ code
 stored code small = to_z-of_z w32 code record { sfits = small }
 
 -- an answer of the pool's tags has this number, and the caller changed as the contract says for that answer
-pub through : {A : Type 0} (does : Tags ℕ → A → Caller → Caller → Type 0) (number : A → ℤ) (code raw : ℤ)
+pub through : {A : Type 0} (does : Tags ℕ → A → Caller → Caller → Type 0) (number : A → ℤ) (code : ℤ)
     (state shared : PoolState) (old new : Caller) (answer : A)
-    → raw ≡ number answer → code ≡ raw → shared ≡ state → does shared.tags answer old new
-    → Through does number code state.tags old new
-through does number code raw state shared old new answer is same at did =
-    (answer, same ∙ is, subst (λ (s : PoolState). does s.tags answer old new) at did)
+    → code ≡ number answer → mag code < 2147483648 → shared ≡ state → does shared.tags answer old new
+    → Through does number (as_stored code) state.tags old new
+through does number code state shared old new answer is small at did =
+    (answer, stored code small ∙ is, subst (λ (s : PoolState). does s.tags answer old new) at did)
 
 -- two facts about an answer hold together
 pub both_ok : {A E : Type 0} (P Q : A → Type 0) (answer : Result A E) → IfOk answer P → IfOk answer Q

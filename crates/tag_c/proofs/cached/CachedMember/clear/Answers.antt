@@ -3,15 +3,15 @@ use Rattle.std.proofs.Common.{refl}
 use Rattle.tag_c.specs.Callers.{Caching}
 use Rattle.tag_c.specs.Calls.{DoesClear}
 use Rattle.tag_c.specs.Codes.{code_of_grants}
-use Rattle.tag_c.proofs.Calling.{through, stored}
+use Rattle.tag_c.proofs.Calling.{through}
 use Rattle.tag_c.proofs.Parts.{of_each, three}
 use Rattle.tag_c.proofs.cached.CachedMember.clear.Goals as goal
 
 pub returns : goal.returns
 returns c = let e = c.clear_granted.ensures in let old = c.args.self.now.cache in let new = c.clear_granted.new.self in (
   refl,
-  through (DoesClear c.args.tag) code_of_grants _ c.grants_code.result _ c.deref.result.now (Caching old) (Caching new) c.clear_granted.result
-      c.grants_code.ensures (stored c.grants_code.result c.grants_code.type_inv) c.deref.ensures record {
+  through (DoesClear c.args.tag) code_of_grants c.grants_code.result _ c.deref.result.now (Caching old) (Caching new) c.clear_granted.result
+      c.grants_code.ensures c.grants_code.type_inv c.deref.ensures record {
         no_such_tag = e.no_such_tag;
         not_held = e.not_held;
         succeeds = e.succeeds;

@@ -4,15 +4,15 @@ use Rattle.tag_c.specs.Grants.{Filling}
 use Rattle.tag_c.specs.Callers.{Caching}
 use Rattle.tag_c.specs.Calls.{DoesClear}
 use Rattle.tag_c.specs.Codes.{code_of_grants}
-use Rattle.tag_c.proofs.Calling.{through, stored}
+use Rattle.tag_c.proofs.Calling.{through}
 use Rattle.tag_c.proofs.Parts.{of_each, three}
 use Rattle.tag_c.proofs.cached.CachedMember.clear_granted.Goals as goal
 
 pub returns-clause-calls : goal.returns-clause-calls
 returns-clause-calls c = let e = c.clear_granted.ensures in let old = c.args.self.now.cache in let new = c.clear_granted.new.self in (
   refl,
-  through (Filling c.fill.new.granted (DoesClear c.args.tag)) code_of_grants _ c.fill.result _ c.deref.result.now (Caching old) (Caching new) c.clear_granted.result
-      c.fill.ensures.code (stored c.fill.result c.fill.type_inv) c.deref.ensures (
+  through (Filling c.fill.new.granted (DoesClear c.args.tag)) code_of_grants c.fill.result _ c.deref.result.now (Caching old) (Caching new) c.clear_granted.result
+      c.fill.ensures.code c.fill.type_inv c.deref.ensures (
         record {
           no_such_tag = e.no_such_tag;
           not_held = e.not_held;

@@ -4,14 +4,14 @@ use Rattle.tag_c.specs.Callers.{Caching}
 use Rattle.tag_c.specs.Calls.{DoesFinish}
 use Rattle.tag_c.specs.Codes.{code_of_finish}
 use Rattle.tag_c.proofs.Parts.{of_done}
-use Rattle.tag_c.proofs.Calling.{through, stored}
+use Rattle.tag_c.proofs.Calling.{through}
 use Rattle.tag_c.proofs.cached.CachedMember.finish.Goals as goal
 
 pub returns : goal.returns
 returns c = let e = c.try_finish_wait.ensures in let old = c.args.self.now.cache in let new = c.try_finish_wait.new.self in (
   refl,
-  through (DoesFinish) code_of_finish _ c.finish_code.result _ c.deref.result.now (Caching old) (Caching new) c.try_finish_wait.result
-      c.finish_code.ensures (stored c.finish_code.result c.finish_code.type_inv) c.deref.ensures record {
+  through (DoesFinish) code_of_finish c.finish_code.result _ c.deref.result.now (Caching old) (Caching new) c.try_finish_wait.result
+      c.finish_code.ensures c.finish_code.type_inv c.deref.ensures record {
         stands = e.stands;
         leaves = e.leaves;
         stays = e.stays;

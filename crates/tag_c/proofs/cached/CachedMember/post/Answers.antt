@@ -6,7 +6,7 @@ use Rattle.tag_sets.specs.declared.fault.TagFault.TheVariants.{NoSuchTag, NotHel
 use Rattle.tag_c.specs.Callers.{Caching}
 use Rattle.tag_c.specs.Calls.{DoesPost}
 use Rattle.tag_c.specs.Codes.{code_of_done, done_of}
-use Rattle.tag_c.proofs.Calling.{through, stored}
+use Rattle.tag_c.proofs.Calling.{through}
 use Rattle.tag_c.proofs.Parts.{follows_if, refused_done, ok_done, on_done, none_done}
 use Rattle.tag_c.proofs.cached.CachedMember.post.Goals as goal
 
@@ -22,8 +22,8 @@ returns c = let e = c.post_granted.ensures in let old = c.args.self.now.cache in
       err = none_done _ posted e.err;
     } in (
       refl,
-      through (DoesPost tag) code_of_done _ c.done_code.result _ c.deref.result.now (Caching old) (Caching new)
-          c.without_grants.result c.done_code.ensures (stored c.done_code.result c.done_code.type_inv) c.deref.ensures
+      through (DoesPost tag) code_of_done c.done_code.result _ c.deref.result.now (Caching old) (Caching new)
+          c.without_grants.result c.done_code.ensures c.done_code.type_inv c.deref.ensures
           (subst (λ (a : Result ⊤ TagFault). DoesPost tag tags a (Caching old) (Caching new)) (sym c.without_grants.ensures)
           does),
     )

@@ -5,7 +5,7 @@ use Rattle.tag_c.specs.Callers.{Caching}
 use Rattle.tag_c.specs.Caching as caching
 use Rattle.tag_c.specs.Calls.{DoesPrepare}
 use Rattle.tag_c.specs.Codes.{code_of_count, first_of}
-use Rattle.tag_c.proofs.Calling.{through, stored}
+use Rattle.tag_c.proofs.Calling.{through}
 use Rattle.tag_c.proofs.Parts.{two, ok_first, if_first, err_first}
 use Rattle.tag_c.proofs.cached.CachedMember.prepare.Goals as goal
 
@@ -20,7 +20,7 @@ returns c = let e = c.prepare_wait_granted.ensures in let old = c.args.self.now.
       err = err_first _ found e.err;
     } in (
       refl,
-      through DoesPrepare code_of_count _ c.count_code.result _ c.deref.result.now (Caching old) (Caching new)
-          c.group_alone.result c.count_code.ensures (stored c.count_code.result c.count_code.type_inv) c.deref.ensures
+      through DoesPrepare code_of_count c.count_code.result _ c.deref.result.now (Caching old) (Caching new)
+          c.group_alone.result c.count_code.ensures c.count_code.type_inv c.deref.ensures
           (subst (λ (a : Result ℕ TagFault). DoesPrepare tags a (Caching old) (Caching new)) (sym c.group_alone.ensures) does),
     )
