@@ -1,6 +1,6 @@
 pub mod Calling
+pub mod Does
 pub mod Flags
-pub mod Kept
 pub mod Owners
 pub mod Parts
 pub mod Pairing

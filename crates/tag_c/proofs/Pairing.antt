@@ -1,6 +1,7 @@
 -- Of a read with a clear and a get with a write, the second call succeeds wherever the first did, over any caller.
 use Rattle.std.proofs.Common.{arith, ◌≡◌, ℕ, ◌<◌, ◌≤◌, ◌↔◌, ⊎_elim, ℤ, Option, Some, None, Result, Ok, Err, IsOk, OnOk, refl, sym, subst, ◌∙◌}
 use Rattle.std.proofs.lemmas.Bool.{cases_lt}
+use mathlib.Core.Option.{some}
 use lib.Signed.{mag}
 use Rattle.wake_book.specs.declared.grants.Grants.{Grants}
 use Rattle.tag_sets.specs.declared.fault.TagFault.{TagFault}
@@ -12,9 +13,9 @@ use Rattle.tag_sets.specs.Hands.{total_of}
 use Rattle.tag_sets.specs.Slots.{Reads, Writes}
 use Rattle.tag_c.specs.declared.pool_state.PoolState.{PoolState}
 use Rattle.tag_c.specs.declared.status.Status.TheVariants.{NoTag}
-use Rattle.tag_c.specs.Callers.{Caller, Bare, Caching, Holds, Either}
+use Rattle.tag_c.specs.Callers.{Caller, Bare, Caching, Holds, slot_of, Either, IsUnchanged}
 use Rattle.tag_c.specs.Caching as caching
-use Rattle.tag_c.specs.Calls.{Through, DoesClear, DoesGet, DoesRead}
+use Rattle.tag_c.specs.Calls.{Through, DoesClear, DoesGet}
 use Rattle.tag_c.specs.Codes.{IsRefusal, code_of, code_of_fault, code_of_get, code_of_grants}
 use Rattle.tag_c.specs.Pairs.{DoesGetWrite, DoesReadClear}
 use Rattle.tag_c.proofs.Calling.{as_stored, stored, through}
@@ -61,6 +62,9 @@ refused fault = Err fault
 abbrev cleared : TagFault → Result Grants TagFault
 cleared fault = Err fault
 
+abbrev read_of : ℕ → Result ℕ TagFault
+read_of found = Ok found
+
 to_read : (fault known : TagFault) → cleared fault ≡ cleared known → refused fault ≡ refused known
 to_read fault known is = cc
 
@@ -73,28 +77,29 @@ no_refusal (Ok grants) is refusal = refusal
 no_refusal (Err fault) is refusal = cc
 
 module _ (tags : Tags ℕ) (tag value : ℕ) (old between : Caller)
-    (reads : DoesRead tag value tags (Ok value) old between) where
+    (no_such_tag : (read_of value ≡ refused NoSuchTag) ↔ (total_of tags ≤ tag))
+    (not_held : (read_of value ≡ refused NotHeld) ↔ ((tag < total_of tags) × ¬ (Holds old tag)))
+    (reads : Either (Reads tag value) caching.Reads old between) where
   -- a caller that reads a slot holds its tag
   reader_holds : Holds old tag
-  reader_holds = ⊎_elim (λ (low : tag < total_of tags). holds_stable old tag
-      (λ no. let is = reads.not_held.1 (low, no) in cc))
-      (λ (high : total_of tags ≤ tag). absurd (let is = reads.no_such_tag.1 high in cc)) (cases_lt tag (total_of tags))
+  reader_holds = ⊎_elim (λ (low : tag < total_of tags). holds_stable old tag (λ no. let is = not_held.1 (low, no) in cc))
+      (λ (high : total_of tags ≤ tag). absurd (let is = no_such_tag.1 high in cc)) (cases_lt tag (total_of tags))
 
   -- so the clear that follows the read succeeds
   clear_succeeds : (new : Caller) (answer : Result Grants TagFault) → DoesClear tag tags answer between new
       → IsOk answer
-  clear_succeeds new answer clears = clears.succeeds (still tag value old between reads.reads reader_holds)
+  clear_succeeds new answer clears = clears.succeeds (still tag value old between reads reader_holds)
 
-  read_clears : (new : Caller) (answer : Result Grants TagFault) → DoesClear tag tags answer between new
-      → DoesReadClear tag value tags answer old new
-  read_clears new (Ok woken) clears = record {
+  read_clears : (new : Caller) (answer : Result Grants TagFault) → slot_of old tag ≡ some value
+      → DoesClear tag tags answer between new → DoesReadClear tag value tags answer old new
+  read_clears new (Ok woken) slot clears = record {
     no_such_tag = clears.no_such_tag;
     not_held = ((λ is. absurd cc), (λ no. absurd (no.1 reader_holds)));
     succeeds = λ h. refl;
-    does = (between, reads.found.0, reads.reads, clears);
+    does = (between, slot, reads, clears);
     err = tt;
   }
-  read_clears new (Err fault) clears = absurd (let is = clear_succeeds new (Err fault) clears in cc)
+  read_clears new (Err fault) slot clears = absurd (let is = clear_succeeds new (Err fault) clears in cc)
 
 -- what a read and a clear in one do once the read has found the value: the number is no refusal
 pub record ClearsRead (tag value : ℕ) (code : ℤ) (tags : Tags ℕ) (old new : Caller) : Type 0 where
@@ -106,35 +111,41 @@ module _ (state first : PoolState) (at : first ≡ state) (code : ℤ) (small : 
   module _ (tag value : ℕ) where
     -- a read that is refused is a refusal of both
     pub refused_read : (new : Caller) (fault : TagFault) → code ≡ code_of_fault fault
-        → DoesRead tag value first.tags (Err fault) old new
+        → ((refused fault ≡ refused NoSuchTag) ↔ (total_of first.tags ≤ tag))
+        → ((refused fault ≡ refused NotHeld) ↔ ((tag < total_of first.tags) × ¬ (Holds old tag)))
+        → (Holds old tag → IsOk (refused fault)) → IsUnchanged old new
         → Through (DoesReadClear tag value) code_of_grants (as_stored code) state.tags old new
-    refused_read new fault is reads =
+    refused_read new fault is no_such_tag not_held succeeds same =
         through (DoesReadClear tag value) code_of_grants code state first old new (Err fault) is small at record {
           no_such_tag = (
-            (λ is. reads.no_such_tag.0 (to_read fault NoSuchTag is)),
-            (λ high. to_clear fault NoSuchTag (reads.no_such_tag.1 high)),
+            (λ is. no_such_tag.0 (to_read fault NoSuchTag is)),
+            (λ high. to_clear fault NoSuchTag (no_such_tag.1 high)),
           );
           not_held = (
-            (λ is. reads.not_held.0 (to_read fault NotHeld is)),
-            (λ no. to_clear fault NotHeld (reads.not_held.1 no)),
+            (λ is. not_held.0 (to_read fault NotHeld is)),
+            (λ no. to_clear fault NotHeld (not_held.1 no)),
           );
-          succeeds = λ h. absurd (let is = reads.succeeds h in cc);
+          succeeds = λ h. absurd (let is = succeeds h in cc);
           does = tt;
-          err = reads.err;
+          err = same;
         }
 
     -- the clear that follows a read succeeds
     pub cleared_read : (between new : Caller) (second : PoolState) (answer : Result Grants TagFault)
-        → code ≡ code_of_grants answer → second ≡ state → DoesRead tag value first.tags (Ok value) old between
+        → code ≡ code_of_grants answer → second ≡ state
+        → ((read_of value ≡ refused NoSuchTag) ↔ (total_of first.tags ≤ tag))
+        → ((read_of value ≡ refused NotHeld) ↔ ((tag < total_of first.tags) × ¬ (Holds old tag)))
+        → slot_of old tag ≡ some value → Either (Reads tag value) caching.Reads old between
         → DoesClear tag second.tags answer between new → ClearsRead tag value (as_stored code) state.tags old new
-    cleared_read between new second answer is again reads clears =
+    cleared_read between new second answer is again no_such_tag not_held slot reads clears =
         let does : DoesClear tag first.tags answer between new =
         subst (λ (s : PoolState). DoesClear tag s.tags answer between new) (again ∙ sym at) clears in
+        let clears : DoesReadClear tag value first.tags answer old new =
+        read_clears first.tags tag value old between no_such_tag not_held reads new answer slot does in
         record {
-          calls = through (DoesReadClear tag value) code_of_grants code state first old new answer is small at
-              (read_clears first.tags tag value old between reads new answer does);
+          calls = through (DoesReadClear tag value) code_of_grants code state first old new answer is small at clears;
           done = λ refusal. no_refusal answer
-              (clear_succeeds first.tags tag value old between reads new answer does)
+              (clear_succeeds first.tags tag value old between no_such_tag not_held reads new answer does)
               (subst IsRefusal (stored code small ∙ is) refusal);
         }
 

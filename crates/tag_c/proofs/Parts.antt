@@ -22,6 +22,18 @@ pub three : {A E : Type 0} (P Q R S : A → Type 0) (answer : Result A E) → ((
 three P Q R S (Ok x) f p q r = f x p q r
 three P Q R S (Err e) f p q r = tt
 
+-- the same of two facts, of which the first says nothing of the value
+pub beside : {A E P : Type 0} {Q R : A → Type 0} (answer : Result A E) → ((x : A) → P → Q x → R x) → OnOk answer P
+    → IfOk answer Q → IfOk answer R
+beside (Ok x) f p q = f x p q
+beside (Err e) f p q = tt
+
+-- and of three, of which the one in the middle alone says something of it
+pub around : {A E P R : Type 0} {Q S : A → Type 0} (answer : Result A E) → ((x : A) → P → Q x → R → S x)
+    → OnOk answer P → IfOk answer Q → OnOk answer R → IfOk answer S
+around (Ok x) f p q r = f x p q r
+around (Err e) f p q r = tt
+
 -- what follows from a fact about an answer that has a value holds of it too
 pub follows : {A E : Type 0} (P Q : Type 0) (answer : Result A E) → (P → Q) → OnOk answer P → OnOk answer Q
 follows P Q (Ok x) f p = f p

@@ -5,7 +5,7 @@ use Rattle.tag_c.specs.Callers.{Caching}
 use Rattle.tag_c.specs.Masks.{DoesClearMask}
 use Rattle.tag_c.specs.Codes.{code_of_grants}
 use Rattle.tag_c.proofs.Calling.{through}
-use Rattle.tag_c.proofs.Parts.{of_each, three}
+use Rattle.tag_c.proofs.Parts.{around}
 use Rattle.tag_c.proofs.cached.CachedMember.clear_run_granted.Goals as goal
 
 pub returns-clause-calls : goal.returns-clause-calls
@@ -18,7 +18,8 @@ returns-clause-calls c = let e = c.clear_mask_granted.ensures in let old = c.arg
           no_such_tag = e.no_such_tag;
           not_held = e.not_held;
           succeeds = e.succeeds;
-          gives = three _ _ _ _ c.clear_mask_granted.result (λ grants less way tally. record { less = less; way = way; tally = tally }) (of_each _ c.clear_mask_granted.result e.less) e.way (of_each _ c.clear_mask_granted.result e.tally);
+          gives = around c.clear_mask_granted.result (λ grants less way tally. record { less = less; way = way; tally = tally })
+              e.less e.way e.tally;
           grants = e.grants;
           err = e.err;
         },

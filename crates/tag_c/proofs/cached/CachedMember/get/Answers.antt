@@ -4,7 +4,7 @@ use Rattle.tag_c.specs.Callers.{Caching}
 use Rattle.tag_c.specs.Calls.{DoesGet}
 use Rattle.tag_c.specs.Codes.{code_of_get}
 use Rattle.tag_c.proofs.Calling.{through}
-use Rattle.tag_c.proofs.Kept.{cache_gets}
+use Rattle.tag_c.proofs.Does.{cache_gets}
 use Rattle.tag_c.proofs.cached.CachedMember.get.Goals as goal
 
 pub returns : goal.returns

@@ -1,7 +1,7 @@
 -- The caller holds the tag that it has just won, so the write succeeds.
 use Rattle.std.proofs.Common.{Ok, Err, refl}
 use Rattle.tag_c.specs.Callers.{Caching}
-use Rattle.tag_c.proofs.Kept.{cache_gets}
+use Rattle.tag_c.proofs.Does.{cache_gets}
 use Rattle.tag_c.proofs.Pairing.{get_written, get_alone, get_refused}
 use Rattle.tag_c.proofs.Parts.{follows}
 use Rattle.tag_c.proofs.cached.CachedMember.get_write.Goals as goal

@@ -4,7 +4,7 @@ use Rattle.tag_c.specs.Callers.{Bare}
 use Rattle.tag_c.specs.Masks.{DoesClearMask}
 use Rattle.tag_c.specs.Codes.{code_of_grants}
 use Rattle.tag_c.proofs.Calling.{through}
-use Rattle.tag_c.proofs.Parts.{of_each, two}
+use Rattle.tag_c.proofs.Parts.{beside}
 use Rattle.tag_c.proofs.member.Member.clear_run.Goals as goal
 
 pub returns : goal.returns
@@ -16,7 +16,8 @@ returns c = let e = c.clear_mask_granted.ensures in let old = c.args.self.now.ha
         no_such_tag = e.no_such_tag;
         not_held = e.not_held;
         succeeds = e.succeeds;
-        gives = two _ _ _ c.clear_mask_granted.result (λ grants gives counts. record { gives = gives; counts = counts }) (of_each _ c.clear_mask_granted.result e.gives) e.counts;
+        gives = beside c.clear_mask_granted.result (λ grants gives counts. record { gives = gives; counts = counts }) e.gives
+            e.counts;
         grants = e.grants;
         err = e.err;
       },
