@@ -82,7 +82,8 @@ module _ (tags : Tags ℕ) (tag value : ℕ) (old between : Caller)
     (reads : Either (Reads tag value) caching.Reads old between) where
   -- a caller that reads a slot holds its tag
   reader_holds : Holds old tag
-  reader_holds = ⊎_elim (λ (low : tag < total_of tags). holds_stable old tag (λ no. let is = not_held.1 (low, no) in cc))
+  reader_holds = ⊎_elim (λ (low : tag < total_of tags). holds_stable old tag
+      (λ no. let is = not_held.1 (low, no) in cc))
       (λ (high : total_of tags ≤ tag). absurd (let is = no_such_tag.1 high in cc)) (cases_lt tag (total_of tags))
 
   -- so the clear that follows the read succeeds
@@ -106,62 +107,58 @@ pub record ClearsRead (tag value : ℕ) (code : ℤ) (tags : Tags ℕ) (old new 
   pub calls : Through (DoesReadClear tag value) code_of_grants code tags old new
   pub done : ¬ (IsRefusal code)
 
--- the two calls in one, of which each reads the pool anew and returns the code of its last answer
-module _ (state first : PoolState) (at : first ≡ state) (code : ℤ) (small : mag code < 2147483648) (old : Caller) where
-  module _ (tag value : ℕ) where
-    -- a read that is refused is a refusal of both
-    pub refused_read : (new : Caller) (fault : TagFault) → code ≡ code_of_fault fault
-        → ((refused fault ≡ refused NoSuchTag) ↔ (total_of first.tags ≤ tag))
-        → ((refused fault ≡ refused NotHeld) ↔ ((tag < total_of first.tags) × ¬ (Holds old tag)))
-        → (Holds old tag → IsOk (refused fault)) → IsUnchanged old new
-        → Through (DoesReadClear tag value) code_of_grants (as_stored code) state.tags old new
-    refused_read new fault is no_such_tag not_held succeeds same =
-        through (DoesReadClear tag value) code_of_grants code state first old new (Err fault) is small at record {
-          no_such_tag = (
-            (λ is. no_such_tag.0 (to_read fault NoSuchTag is)),
-            (λ high. to_clear fault NoSuchTag (no_such_tag.1 high)),
-          );
-          not_held = (
-            (λ is. not_held.0 (to_read fault NotHeld is)),
-            (λ no. to_clear fault NotHeld (not_held.1 no)),
-          );
-          succeeds = λ h. absurd (let is = succeeds h in cc);
-          does = tt;
-          err = same;
-        }
+-- the two calls in one return the code of the last answer that they came to
+module _ {state first : PoolState} {code : ℤ} (at : first ≡ state) (small : mag code < 2147483648) where
+  -- a read that is refused is a refusal of both
+  pub refused_read : {tag value : ℕ} {old new : Caller} {fault : TagFault} → code ≡ code_of_fault fault
+      → ((refused fault ≡ refused NoSuchTag) ↔ (total_of first.tags ≤ tag))
+      → ((refused fault ≡ refused NotHeld) ↔ ((tag < total_of first.tags) × ¬ (Holds old tag)))
+      → (Holds old tag → IsOk (refused fault)) → IsUnchanged old new
+      → Through (DoesReadClear tag value) code_of_grants (as_stored code) state.tags old new
+  refused_read {tag} {value} {fault = fault} is no_such_tag not_held succeeds same =
+      through (DoesReadClear tag value) code_of_grants {answer = Err fault} is small at record {
+        no_such_tag = (
+          (λ is. no_such_tag.0 (to_read fault NoSuchTag is)),
+          (λ high. to_clear fault NoSuchTag (no_such_tag.1 high)),
+        );
+        not_held = (
+          (λ is. not_held.0 (to_read fault NotHeld is)),
+          (λ no. to_clear fault NotHeld (not_held.1 no)),
+        );
+        succeeds = λ h. absurd (let is = succeeds h in cc);
+        does = tt;
+        err = same;
+      }
 
-    -- the clear that follows a read succeeds
-    pub cleared_read : (between new : Caller) (second : PoolState) (answer : Result Grants TagFault)
-        → code ≡ code_of_grants answer → second ≡ state
-        → ((read_of value ≡ refused NoSuchTag) ↔ (total_of first.tags ≤ tag))
-        → ((read_of value ≡ refused NotHeld) ↔ ((tag < total_of first.tags) × ¬ (Holds old tag)))
-        → slot_of old tag ≡ some value → Either (Reads tag value) caching.Reads old between
-        → DoesClear tag second.tags answer between new → ClearsRead tag value (as_stored code) state.tags old new
-    cleared_read between new second answer is again no_such_tag not_held slot reads clears =
-        let does : DoesClear tag first.tags answer between new =
-        subst (λ (s : PoolState). DoesClear tag s.tags answer between new) (again ∙ sym at) clears in
-        let clears : DoesReadClear tag value first.tags answer old new =
-        read_clears first.tags tag value old between no_such_tag not_held reads new answer slot does in
-        record {
-          calls = through (DoesReadClear tag value) code_of_grants code state first old new answer is small at clears;
-          done = λ refusal. no_refusal answer
-              (clear_succeeds first.tags tag value old between no_such_tag not_held reads new answer does)
-              (subst IsRefusal (stored code small ∙ is) refusal);
-        }
+  -- the clear that follows a read succeeds; it reads the pool anew
+  pub cleared_read : (tag value : ℕ) (old between new : Caller) {second : PoolState} {answer : Result Grants TagFault}
+      → code ≡ code_of_grants answer → second ≡ state
+      → ((read_of value ≡ refused NoSuchTag) ↔ (total_of first.tags ≤ tag))
+      → ((read_of value ≡ refused NotHeld) ↔ ((tag < total_of first.tags) × ¬ (Holds old tag)))
+      → slot_of old tag ≡ some value → Either (Reads tag value) caching.Reads old between
+      → DoesClear tag second.tags answer between new → ClearsRead tag value (as_stored code) state.tags old new
+  cleared_read tag value old between new {answer = answer} is again no_such_tag not_held slot reads clears =
+      let again : DoesClear tag first.tags answer between new =
+      subst (λ (s : PoolState). DoesClear tag s.tags answer between new) (again ∙ sym at) clears in
+      let does : DoesReadClear tag value first.tags answer old new =
+      read_clears first.tags tag value old between no_such_tag not_held reads new answer slot again in
+      let succeeds = clear_succeeds first.tags tag value old between no_such_tag not_held reads new answer again in
+      record {
+        calls = through (DoesReadClear tag value) code_of_grants is small at does;
+        done = λ refusal. no_refusal answer succeeds (subst IsRefusal (stored code small ∙ is) refusal);
+      }
 
-  module _ (value : ℕ) (between : Caller) where
-    abbrev GetsWrites : Caller → Type 0
-    GetsWrites new = Through (DoesGetWrite value) code_of_get (as_stored code) state.tags old new
-
+  module _ {value : ℕ} {old : Caller} (between : Caller) where
     -- the caller holds the tag that it has just won, so the write succeeds
-    pub get_written : (new : Caller) (found : Option ℕ) (tag : ℕ) (write : Result ℕ TagFault)
-        → code ≡ code_of_get (Ok (Some tag)) → DoesGet first.tags (Ok found) old between → found ≡ Some tag
+    pub get_written : {new : Caller} {found : Option ℕ} {tag : ℕ} (write : Result ℕ TagFault)
+        → code ≡ code_of_get (Ok (Some tag)) → found ≡ Some tag → DoesGet first.tags (Ok found) old between
         → (Holds between tag → IsOk write)
-        → OnOk write (Either (Writes tag value) (caching.Writes tag value) between new) → GetsWrites new
-    get_written new found tag write is gets won succeeds writes =
+        → OnOk write (Either (Writes tag value) (caching.Writes tag value) between new)
+        → Through (DoesGetWrite value) code_of_get (as_stored code) state.tags old new
+    get_written {tag = tag} write is won gets succeeds writes =
         let does : DoesGet first.tags (Ok (Some tag)) old between =
         subst (λ (o : Option ℕ). DoesGet first.tags (Ok o) old between) won gets in
-        through (DoesGetWrite value) code_of_get code state first old new (Ok (Some tag)) is small at record {
+        through (DoesGetWrite value) code_of_get {answer = Ok (Some tag)} is small at record {
           between = between;
           gets = does;
           writes = of_ok write (succeeds (gains first.tags tag old between does)) writes;
@@ -170,25 +167,23 @@ module _ (state first : PoolState) (at : first ≡ state) (code : ℤ) (small : 
         }
 
     -- no tag is won, so the get is all
-    pub get_alone : (found : Option ℕ) → code ≡ code_of NoTag → DoesGet first.tags (Ok found) old between → found ≡ None
-        → GetsWrites between
-    get_alone found is gets none =
-        through (DoesGetWrite value) code_of_get code state first old between (Ok None) is small at record {
-          between = between;
-          gets = subst (λ (o : Option ℕ). DoesGet first.tags (Ok o) old between) none gets;
-          writes = tt;
-          nothing = refl;
-          err = tt;
-        }
+    pub get_alone : {found : Option ℕ} → code ≡ code_of NoTag → found ≡ None → DoesGet first.tags (Ok found) old between
+        → Through (DoesGetWrite value) code_of_get (as_stored code) state.tags old between
+    get_alone is none gets = through (DoesGetWrite value) code_of_get {answer = Ok None} is small at record {
+      between = between;
+      gets = subst (λ (o : Option ℕ). DoesGet first.tags (Ok o) old between) none gets;
+      writes = tt;
+      nothing = refl;
+      err = tt;
+    }
 
     -- and so it is if it is refused
-    pub get_refused : (fault : TagFault) → code ≡ code_of_fault fault → DoesGet first.tags (Err fault) old between
-        → GetsWrites between
-    get_refused fault is gets =
-        through (DoesGetWrite value) code_of_get code state first old between (Err fault) is small at record {
-          between = between;
-          gets = gets;
-          writes = tt;
-          nothing = tt;
-          err = refl;
-        }
+    pub get_refused : {fault : TagFault} → code ≡ code_of_fault fault → DoesGet first.tags (Err fault) old between
+        → Through (DoesGetWrite value) code_of_get (as_stored code) state.tags old between
+    get_refused {fault} is gets = through (DoesGetWrite value) code_of_get {answer = Err fault} is small at record {
+      between = between;
+      gets = gets;
+      writes = tt;
+      nothing = tt;
+      err = refl;
+    }

@@ -1,5 +1,5 @@
 -- Facts about an answer that are one fact together.
-use Rattle.std.proofs.Common.{◌≡◌, ◌↔◌, ℕ, Result, Ok, Err, IsOk, IfOk, IfErr, OnOk, OnErr, ap, refl}
+use Rattle.std.proofs.Common.{◌≡◌, ◌↔◌, Result, Ok, Err, IsOk, IfOk, IfErr, OnOk, OnErr, ap, refl}
 use Rattle.std.specs.Bool.{⊤}
 use Rattle.tag_sets.specs.declared.fault.TagFault.{TagFault}
 use Rattle.tag_sets.specs.declared.fault.TagFault.TheVariants.{Spent}
@@ -103,11 +103,13 @@ module _ {A B : Type 0} where
   ok_first P (Err fault) is = ((λ e. absurd cc), (λ p. absurd (let e = is.1 p in cc)))
 
   -- what holds of the first part holds of the value
-  pub if_first : (Q : A → Type 0) (answer : Result (A × B) TagFault) → IfOk answer (λ x. Q x.0) → IfOk (first_of answer) Q
+  pub if_first : (Q : A → Type 0) (answer : Result (A × B) TagFault) → IfOk answer (λ x. Q x.0)
+      → IfOk (first_of answer) Q
   if_first Q (Ok x) q = q
   if_first Q (Err fault) q = tt
 
   -- and what holds of a refusal stays
-  pub err_first : (Q : TagFault → Type 0) (answer : Result (A × B) TagFault) → IfErr answer Q → IfErr (first_of answer) Q
+  pub err_first : (Q : TagFault → Type 0) (answer : Result (A × B) TagFault) → IfErr answer Q
+      → IfErr (first_of answer) Q
   err_first Q (Ok x) q = tt
   err_first Q (Err fault) q = q

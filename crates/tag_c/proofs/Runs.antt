@@ -40,13 +40,13 @@ few : (shared : PoolState) → total_of shared.tags ≤ MAX_DEPTH
 few shared = omega (arith, shared.total_is.0, shared.total_is.1)
 
 -- the same of a batch get by a hand of the pool, whose total is at most `MAX_DEPTH`
-pub batch_fits : (state shared : PoolState) → shared ≡ state → (old new : Hand ℕ) → IsHandOf state.tags old → (n : ℕ)
-    (same : Type 0) (answer : Result (Option (ℕ × ℕ)) TagFault)
+pub batch_fits : (old new : Hand ℕ) {state shared : PoolState} {n : ℕ} {same : Type 0}
+    {answer : Result (Option (ℕ × ℕ)) TagFault} → shared ≡ state → IsHandOf state.tags old
     → ((answer ≡ Err BadCount) ↔ MiscountsBatch shared.tags n)
     → (¬ (MiscountsBatch shared.tags n) → IsTrue (hint_of old Ordinary).round_robin → (answer ≡ Ok None) × same)
     → ((hint_of old Ordinary).round_robin ≡ false → IfOk answer (λ run. GetsBatch shared.tags n run old new))
     → IfOk answer (λ found. IfSome found (λ run. run.0 ≤ MAX_DEPTH))
-batch_fits state shared at old new own n same answer bad_count round_robin gets =
+batch_fits old new {shared = shared} {n} {answer = answer} at own bad_count round_robin gets =
     run_fits shared.tags old new (subst (λ (s : PoolState). IsHandOf s.tags old) (sym at) own) n answer (few shared)
     bad_count (λ not is. (round_robin not is).0) gets
 

@@ -1,6 +1,5 @@
 -- The answer comes with the clauses of `DoesClear`, and its number fits into 32 bits.
 use Rattle.std.proofs.Common.{refl}
-use Rattle.tag_c.specs.Callers.{Caching}
 use Rattle.tag_c.specs.Calls.{DoesClear}
 use Rattle.tag_c.specs.Codes.{code_of_grants}
 use Rattle.tag_c.proofs.Calling.{through}
@@ -8,10 +7,8 @@ use Rattle.tag_c.proofs.Does.{cache_clears}
 use Rattle.tag_c.proofs.cached.CachedMember.clear.Goals as goal
 
 pub returns : goal.returns
-returns c = let e = c.clear_granted.ensures in let old = c.args.self.now.cache in let new = c.clear_granted.new.self in
-    let first = c.deref.result.now in let answer = c.clear_granted.result in (
-      refl,
-      through (DoesClear c.args.tag) code_of_grants c.grants_code.result _ first (Caching old) (Caching new) answer
-          c.grants_code.ensures c.grants_code.type_inv c.deref.ensures
-          (cache_clears first.tags c.args.tag answer old new e.no_such_tag e.not_held e.succeeds e.grants e.err e.less e.way e.tally),
-    )
+returns c = let e = c.clear_granted.ensures in (
+  refl,
+  through (DoesClear c.args.tag) code_of_grants c.grants_code.ensures c.grants_code.type_inv c.deref.ensures
+      (cache_clears e.no_such_tag e.not_held e.succeeds e.grants e.err e.less e.way e.tally),
+)

@@ -1,7 +1,6 @@
 -- The answer comes with the clauses of `DoesClear`, and its number fits into 32 bits.
 use Rattle.std.proofs.Common.{refl}
 use Rattle.tag_c.specs.Grants.{Filling}
-use Rattle.tag_c.specs.Callers.{Caching}
 use Rattle.tag_c.specs.Calls.{DoesClear}
 use Rattle.tag_c.specs.Codes.{code_of_grants}
 use Rattle.tag_c.proofs.Calling.{through}
@@ -9,12 +8,11 @@ use Rattle.tag_c.proofs.Does.{cache_clears}
 use Rattle.tag_c.proofs.cached.CachedMember.clear_granted.Goals as goal
 
 pub returns-clause-calls : goal.returns-clause-calls
-returns-clause-calls c = let e = c.clear_granted.ensures in let old = c.args.self.now.cache in let new = c.clear_granted.new.self in
-    let first = c.deref.result.now in let answer = c.clear_granted.result in (
-      refl,
-      through (Filling c.fill.new.granted (DoesClear c.args.tag)) code_of_grants c.fill.result _ first (Caching old)
-          (Caching new) answer c.fill.ensures.code c.fill.type_inv c.deref.ensures (
-            cache_clears first.tags c.args.tag answer old new e.no_such_tag e.not_held e.succeeds e.grants e.err e.less e.way e.tally,
-            c.fill.ensures.fills,
-          ),
-    )
+returns-clause-calls c = let e = c.clear_granted.ensures in (
+  refl,
+  through (Filling c.fill.new.granted (DoesClear c.args.tag)) code_of_grants c.fill.ensures.code c.fill.type_inv
+      c.deref.ensures (
+        cache_clears e.no_such_tag e.not_held e.succeeds e.grants e.err e.less e.way e.tally,
+        c.fill.ensures.fills,
+      ),
+)

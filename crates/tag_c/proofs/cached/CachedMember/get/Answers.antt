@@ -1,6 +1,5 @@
 -- The answer comes with the clauses of `DoesGet`, and its number fits into 32 bits.
 use Rattle.std.proofs.Common.{refl}
-use Rattle.tag_c.specs.Callers.{Caching}
 use Rattle.tag_c.specs.Calls.{DoesGet}
 use Rattle.tag_c.specs.Codes.{code_of_get}
 use Rattle.tag_c.proofs.Calling.{through}
@@ -8,9 +7,8 @@ use Rattle.tag_c.proofs.Does.{cache_gets}
 use Rattle.tag_c.proofs.cached.CachedMember.get.Goals as goal
 
 pub returns : goal.returns
-returns c = let e = c.get.ensures in let old = c.args.self.now.cache in let new = c.get.new.self in
-    let first = c.deref.result.now in (
-      refl,
-      through DoesGet code_of_get c.get_code.result _ first (Caching old) (Caching new) c.get.result c.get_code.ensures
-          c.get_code.type_inv c.deref.ensures (cache_gets first.tags c.get.result old new e.spent e.gets e.tally e.err),
-    )
+returns c = let e = c.get.ensures in (
+  refl,
+  through DoesGet code_of_get c.get_code.ensures c.get_code.type_inv c.deref.ensures
+      (cache_gets e.spent e.gets e.tally e.err),
+)

@@ -1,6 +1,5 @@
 -- The answer comes with the clauses of `DoesClear`, and its number fits into 32 bits.
 use Rattle.std.proofs.Common.{refl}
-use Rattle.tag_c.specs.Callers.{Bare}
 use Rattle.tag_c.specs.Calls.{DoesClear}
 use Rattle.tag_c.specs.Codes.{code_of_grants}
 use Rattle.tag_c.proofs.Calling.{through}
@@ -8,10 +7,8 @@ use Rattle.tag_c.proofs.Does.{hand_clears}
 use Rattle.tag_c.proofs.member.Member.clear.Goals as goal
 
 pub returns : goal.returns
-returns c = let e = c.clear_granted.ensures in let old = c.args.self.now.hand in let new = c.clear_granted.new.hand in
-    let first = c.deref.result.now in let answer = c.clear_granted.result in (
-      refl,
-      through (DoesClear c.args.tag) code_of_grants c.grants_code.result _ first (Bare old) (Bare new) answer
-          c.grants_code.ensures c.grants_code.type_inv c.deref.ensures
-          (hand_clears first.tags c.args.tag answer old new e.no_such_tag e.not_held e.succeeds e.grants e.err e.clears e.counts),
-    )
+returns c = let e = c.clear_granted.ensures in (
+  refl,
+  through (DoesClear c.args.tag) code_of_grants c.grants_code.ensures c.grants_code.type_inv c.deref.ensures
+      (hand_clears e.no_such_tag e.not_held e.succeeds e.grants e.err e.clears e.counts),
+)
