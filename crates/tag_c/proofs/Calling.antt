@@ -4,11 +4,7 @@ use lib.Signed.{mag}
 use mir.Syntax.{w32}
 use mir.Val.{to_z, of_z}
 use Rattle.std.proofs.lemmas.Int.{to_z-of_z}
-use Rattle.std.specs.Arc.{arc_value}
-use Rattle.tag_sets.specs.declared.hand.Hand.{Hand}
 use Rattle.tag_sets.specs.declared.tags.Tags.{Tags}
-use Rattle.tag_sets.specs.Hands.{IsHandOf}
-use Rattle.tag_cache.specs.declared.cache.Cache.{Cache}
 use Rattle.tag_c.specs.declared.cached.CachedMember.{CachedMember}
 use Rattle.tag_c.specs.declared.member.Member.{Member}
 use Rattle.tag_c.specs.declared.object.Kind.{Kind}
@@ -17,7 +13,7 @@ use Rattle.tag_c.specs.declared.object.Object.{Object}
 use Rattle.tag_c.specs.declared.pool.Pool.{Pool}
 use Rattle.tag_c.specs.declared.pool_state.PoolState.{PoolState}
 use Rattle.tag_c.specs.declared.status.Status.TheVariants.{BadHandle}
-use Rattle.tag_c.specs.Callers.{Caller, Bare, Caching}
+use Rattle.tag_c.specs.Callers.{Caller}
 use Rattle.tag_c.specs.Calls.{Calls, CallsAs, CallsBy, HandCalls, CacheCalls, Through}
 use Rattle.tag_c.specs.Codes.{code_of}
 
@@ -57,17 +53,21 @@ module _ (change : Tags ℕ → Caller → Caller → Type 0) (code : ℤ) where
       subst (λ (x : Kind). CallsAs change code x after) (sym b)
       (subst (λ (x : Kind). CallsAs change code (IsPool pool) x) (sym a) (is, refl))
 
--- a number below 2^31 in magnitude keeps its value when it is stored in 32 bits
-pub stored : (code : ℤ) → mag code < 2147483648 → to_z w32 (of_z w32 code) ≡ code
+-- a number as it is stored in 32 bits
+abbrev pub as_stored : ℤ → ℤ
+as_stored code = to_z w32 (of_z w32 code)
+
+-- a number below 2^31 in magnitude keeps its value when it is stored
+pub stored : (code : ℤ) → mag code < 2147483648 → as_stored code ≡ code
 stored code small = to_z-of_z w32 code record { sfits = small }
 
 -- an answer of the pool's tags has this number, and the caller changed as the contract says for that answer
-pub through : {A : Type 0} (does : Tags ℕ → A → Caller → Caller → Type 0) (number : A → ℤ) (code raw : ℤ)
-    (state shared : PoolState) (old new : Caller) (answer : A)
-    → raw ≡ number answer → code ≡ raw → shared ≡ state → does shared.tags answer old new
-    → Through does number code state.tags old new
-through does number code raw state shared old new answer is same at did =
-    (answer, same ∙ is, subst (λ (s : PoolState). does s.tags answer old new) at did)
+pub through : {A : Type 0} (does : Tags ℕ → A → Caller → Caller → Type 0) (number : A → ℤ) {code : ℤ}
+    {state shared : PoolState} {old new : Caller} {answer : A}
+    → code ≡ number answer → mag code < 2147483648 → shared ≡ state → does shared.tags answer old new
+    → Through does number (as_stored code) state.tags old new
+through does number {code} {state} {shared} {old} {new} {answer} is small at did =
+    (answer, stored code small ∙ is, subst (λ (s : PoolState). does s.tags answer old new) at did)
 
 -- two facts about an answer hold together
 pub both_ok : {A E : Type 0} (P Q : A → Type 0) (answer : Result A E) → IfOk answer P → IfOk answer Q

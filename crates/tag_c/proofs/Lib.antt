@@ -1,4 +1,5 @@
 pub mod Calling
+pub mod Does
 pub mod Flags
 pub mod Owners
 pub mod Parts

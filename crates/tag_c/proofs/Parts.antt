@@ -1,5 +1,5 @@
 -- Facts about an answer that are one fact together.
-use Rattle.std.proofs.Common.{◌≡◌, ◌↔◌, ℕ, Result, Ok, Err, IsOk, IfOk, IfErr, OnOk, OnErr, ap, refl}
+use Rattle.std.proofs.Common.{◌≡◌, ◌↔◌, Result, Ok, Err, IsOk, IfOk, IfErr, OnOk, OnErr, ap, refl}
 use Rattle.std.specs.Bool.{⊤}
 use Rattle.tag_sets.specs.declared.fault.TagFault.{TagFault}
 use Rattle.tag_sets.specs.declared.fault.TagFault.TheVariants.{Spent}
@@ -21,6 +21,18 @@ pub three : {A E : Type 0} (P Q R S : A → Type 0) (answer : Result A E) → ((
     → IfOk answer P → IfOk answer Q → IfOk answer R → IfOk answer S
 three P Q R S (Ok x) f p q r = f x p q r
 three P Q R S (Err e) f p q r = tt
+
+-- the same of two facts, of which the first says nothing of the value
+pub beside : {A E P : Type 0} {Q R : A → Type 0} (answer : Result A E) → ((x : A) → P → Q x → R x) → OnOk answer P
+    → IfOk answer Q → IfOk answer R
+beside (Ok x) f p q = f x p q
+beside (Err e) f p q = tt
+
+-- and of three, of which the one in the middle alone says something of it
+pub around : {A E P R : Type 0} {Q S : A → Type 0} (answer : Result A E) → ((x : A) → P → Q x → R → S x)
+    → OnOk answer P → IfOk answer Q → OnOk answer R → IfOk answer S
+around (Ok x) f p q r = f x p q r
+around (Err e) f p q r = tt
 
 -- what follows from a fact about an answer that has a value holds of it too
 pub follows : {A E : Type 0} (P Q : Type 0) (answer : Result A E) → (P → Q) → OnOk answer P → OnOk answer Q
@@ -91,11 +103,13 @@ module _ {A B : Type 0} where
   ok_first P (Err fault) is = ((λ e. absurd cc), (λ p. absurd (let e = is.1 p in cc)))
 
   -- what holds of the first part holds of the value
-  pub if_first : (Q : A → Type 0) (answer : Result (A × B) TagFault) → IfOk answer (λ x. Q x.0) → IfOk (first_of answer) Q
+  pub if_first : (Q : A → Type 0) (answer : Result (A × B) TagFault) → IfOk answer (λ x. Q x.0)
+      → IfOk (first_of answer) Q
   if_first Q (Ok x) q = q
   if_first Q (Err fault) q = tt
 
   -- and what holds of a refusal stays
-  pub err_first : (Q : TagFault → Type 0) (answer : Result (A × B) TagFault) → IfErr answer Q → IfErr (first_of answer) Q
+  pub err_first : (Q : TagFault → Type 0) (answer : Result (A × B) TagFault) → IfErr answer Q
+      → IfErr (first_of answer) Q
   err_first Q (Ok x) q = tt
   err_first Q (Err fault) q = q

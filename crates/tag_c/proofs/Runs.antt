@@ -1,5 +1,5 @@
 -- The first tag of a batch, and a reserved tag, is below the total, so its number fits.
-use Rattle.std.proofs.Common.{arith, ◌≡◌, ℕ, ◌+◌, ◌<◌, ◌≤◌, ◌↔◌, Bool, true, false, Option, Some, None, Result, Ok, Err, IfOk, IfSome, IsTrue, ap, refl, unwrap_or}
+use Rattle.std.proofs.Common.{arith, ◌≡◌, ℕ, ◌+◌, ◌<◌, ◌≤◌, ◌↔◌, Bool, true, false, Option, Some, None, Result, Ok, Err, IfOk, IfSome, IsTrue, ap, refl, subst, sym, unwrap_or}
 use Rattle.tag_layout.specs.declared.layout.TheConstants.{MAX_DEPTH}
 use Rattle.tag_sets.specs.declared.fault.TagFault.{TagFault}
 use Rattle.tag_sets.specs.declared.fault.TagFault.TheVariants.{BadCount}
@@ -10,6 +10,7 @@ use Rattle.tag_sets.specs.declared.tags.Tags.{Tags}
 use Rattle.tag_sets.specs.Hands.{reserved_of, total_of, layout_of, hint_of, IsHandOf}
 use Rattle.tag_sets.specs.Gets.{whole_run, GetsBatch, IsAnswer, MiscountsBatch}
 use Rattle.tag_sets.proofs.Getting.{batch_low}
+use Rattle.tag_c.specs.declared.pool_state.PoolState.{PoolState}
 
 module _ (tags : Tags ℕ) (old new : Hand ℕ) (own : IsHandOf tags old) (n : ℕ) where
   low_by : (won : ℕ × ℕ) (number : Option (ℕ × ℕ)) → Some won ≡ whole_run (reserved_of tags) number
@@ -21,7 +22,7 @@ module _ (tags : Tags ℕ) (old new : Hand ℕ) (own : IsHandOf tags old) (n : �
       omega arith
 
   -- if a batch get answers a run, the first tag of the run is at most `MAX_DEPTH`
-  pub run_fits : (answer : Result (Option (ℕ × ℕ)) TagFault) → total_of tags ≤ MAX_DEPTH
+  run_fits : (answer : Result (Option (ℕ × ℕ)) TagFault) → total_of tags ≤ MAX_DEPTH
       → ((answer ≡ Err BadCount) ↔ MiscountsBatch tags n)
       → (¬ (MiscountsBatch tags n) → IsTrue (hint_of old Ordinary).round_robin → answer ≡ Ok None)
       → ((hint_of old Ordinary).round_robin ≡ false → IfOk answer (λ run. GetsBatch tags n run old new))
@@ -35,10 +36,24 @@ module _ (tags : Tags ℕ) (old new : Hand ℕ) (own : IsHandOf tags old) (n : �
         | false ↦ (λ f. let g = gets f in let low = low_by run g.number g.answer_is g.set.changed in omega arith)
       ] refl
 
--- if a get answers a reserved tag, that is at most `MAX_DEPTH`
-pub reserved_fits : (tags : Tags ℕ) (answer : Result (Option ℕ) TagFault) → total_of tags ≤ MAX_DEPTH
-    → IfOk answer (λ found. (tag : ℕ) → IsAnswer found tag → tag < reserved_of tags)
+few : (shared : PoolState) → total_of shared.tags ≤ MAX_DEPTH
+few shared = omega (arith, shared.total_is.0, shared.total_is.1)
+
+-- the same of a batch get by a hand of the pool, whose total is at most `MAX_DEPTH`
+pub batch_fits : (old new : Hand ℕ) {state shared : PoolState} {n : ℕ} {same : Type 0}
+    {answer : Result (Option (ℕ × ℕ)) TagFault} → shared ≡ state → IsHandOf state.tags old
+    → ((answer ≡ Err BadCount) ↔ MiscountsBatch shared.tags n)
+    → (¬ (MiscountsBatch shared.tags n) → IsTrue (hint_of old Ordinary).round_robin → (answer ≡ Ok None) × same)
+    → ((hint_of old Ordinary).round_robin ≡ false → IfOk answer (λ run. GetsBatch shared.tags n run old new))
+    → IfOk answer (λ found. IfSome found (λ run. run.0 ≤ MAX_DEPTH))
+batch_fits old new {shared = shared} {n} {answer = answer} at own bad_count round_robin gets =
+    run_fits shared.tags old new (subst (λ (s : PoolState). IsHandOf s.tags old) (sym at) own) n answer (few shared)
+    bad_count (λ not is. (round_robin not is).0) gets
+
+-- if a get answers a reserved tag of the pool, that is at most `MAX_DEPTH`
+pub reserved_fits : (shared : PoolState) (answer : Result (Option ℕ) TagFault)
+    → IfOk answer (λ found. (tag : ℕ) → IsAnswer found tag → tag < reserved_of shared.tags)
     → IfOk answer (λ found. IfSome found (λ tag. tag ≤ MAX_DEPTH))
-reserved_fits tags (Err fault) few low = tt
-reserved_fits tags (Ok None) few low = tt
-reserved_fits tags (Ok (Some tag)) few low = let below = low tag refl in omega arith
+reserved_fits shared (Err fault) low = tt
+reserved_fits shared (Ok None) low = tt
+reserved_fits shared (Ok (Some tag)) low = let below = low tag refl in let few = few shared in omega arith

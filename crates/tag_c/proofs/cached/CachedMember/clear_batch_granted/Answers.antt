@@ -1,24 +1,24 @@
 -- The answer comes with the clauses of `DoesClearBatch`, and its number fits into 32 bits.
 use Rattle.std.proofs.Common.{refl}
 use Rattle.tag_c.specs.Grants.{Filling}
-use Rattle.tag_c.specs.Callers.{Caching}
 use Rattle.tag_c.specs.Calls.{DoesClearBatch}
 use Rattle.tag_c.specs.Codes.{code_of_grants}
-use Rattle.tag_c.proofs.Calling.{through, stored}
-use Rattle.tag_c.proofs.Parts.{of_each, three}
+use Rattle.tag_c.proofs.Calling.{through}
+use Rattle.tag_c.proofs.Parts.{around}
 use Rattle.tag_c.proofs.cached.CachedMember.clear_batch_granted.Goals as goal
 
 pub returns-clause-calls : goal.returns-clause-calls
-returns-clause-calls c = let e = c.clear_batch_granted.ensures in let old = c.args.self.now.cache in let new = c.clear_batch_granted.new.self in (
+returns-clause-calls c = let e = c.clear_batch_granted.ensures in (
   refl,
-  through (Filling c.fill.new.granted (DoesClearBatch c.args.tags.now)) code_of_grants _ c.fill.result _ c.deref.result.now (Caching old) (Caching new) c.clear_batch_granted.result
-      c.fill.ensures.code (stored c.fill.result c.fill.type_inv) c.deref.ensures (
+  through (Filling c.fill.new.granted (DoesClearBatch c.args.tags.now)) code_of_grants c.fill.ensures.code
+      c.fill.type_inv c.deref.ensures (
         record {
           bad_count = e.bad_count;
           no_such_tag = e.no_such_tag;
           not_held = e.not_held;
           succeeds = e.succeeds;
-          gives = three _ _ _ _ c.clear_batch_granted.result (λ grants less way tally. record { less = less; way = way; tally = tally }) (of_each _ c.clear_batch_granted.result e.less) e.way (of_each _ c.clear_batch_granted.result e.tally);
+          gives = around c.clear_batch_granted.result
+              (λ grants less way tally. record { less = less; way = way; tally = tally }) e.less e.way e.tally;
           grants = e.grants;
           err = e.err;
         },

@@ -1,18 +1,17 @@
 -- The answer comes with the clauses of `DoesClearBatch`, and its number fits into 32 bits.
 use Rattle.std.proofs.Common.{refl}
 use Rattle.tag_c.specs.Grants.{Filling}
-use Rattle.tag_c.specs.Callers.{Bare}
 use Rattle.tag_c.specs.Calls.{DoesClearBatch}
 use Rattle.tag_c.specs.Codes.{code_of_grants}
-use Rattle.tag_c.proofs.Calling.{through, stored}
+use Rattle.tag_c.proofs.Calling.{through}
 use Rattle.tag_c.proofs.Parts.{of_each, three}
 use Rattle.tag_c.proofs.member.Member.clear_batch_granted.Goals as goal
 
 pub returns-clause-calls : goal.returns-clause-calls
-returns-clause-calls c = let e = c.clear_batch_granted.ensures in let old = c.args.self.now.hand in let new = c.clear_batch_granted.new.hand in (
+returns-clause-calls c = let e = c.clear_batch_granted.ensures in (
   refl,
-  through (Filling c.fill.new.granted (DoesClearBatch c.args.tags.now)) code_of_grants _ c.fill.result _ c.deref.result.now (Bare old) (Bare new) c.clear_batch_granted.result
-      c.fill.ensures.code (stored c.fill.result c.fill.type_inv) c.deref.ensures (
+  through (Filling c.fill.new.granted (DoesClearBatch c.args.tags.now)) code_of_grants c.fill.ensures.code
+      c.fill.type_inv c.deref.ensures (
         record {
           bad_count = e.bad_count;
           no_such_tag = e.no_such_tag;

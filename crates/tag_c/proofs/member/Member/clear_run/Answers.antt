@@ -1,22 +1,22 @@
 -- The answer comes with the clauses of `DoesClearMask`, and its number fits into 32 bits.
 use Rattle.std.proofs.Common.{refl}
-use Rattle.tag_c.specs.Callers.{Bare}
 use Rattle.tag_c.specs.Masks.{DoesClearMask}
 use Rattle.tag_c.specs.Codes.{code_of_grants}
-use Rattle.tag_c.proofs.Calling.{through, stored}
-use Rattle.tag_c.proofs.Parts.{of_each, two}
+use Rattle.tag_c.proofs.Calling.{through}
+use Rattle.tag_c.proofs.Parts.{beside}
 use Rattle.tag_c.proofs.member.Member.clear_run.Goals as goal
 
 pub returns : goal.returns
-returns c = let e = c.clear_mask_granted.ensures in let old = c.args.self.now.hand in let new = c.clear_mask_granted.new.hand in (
+returns c = let e = c.clear_mask_granted.ensures in (
   refl,
-  through (DoesClearMask c.args.first c.args.mask) code_of_grants _ c.grants_code.result _ c.deref.result.now (Bare old) (Bare new) c.clear_mask_granted.result
-      c.grants_code.ensures (stored c.grants_code.result c.grants_code.type_inv) c.deref.ensures record {
+  through (DoesClearMask c.args.first c.args.mask) code_of_grants c.grants_code.ensures c.grants_code.type_inv
+      c.deref.ensures record {
         bad_count = e.bad_count;
         no_such_tag = e.no_such_tag;
         not_held = e.not_held;
         succeeds = e.succeeds;
-        gives = two _ _ _ c.clear_mask_granted.result (λ grants gives counts. record { gives = gives; counts = counts }) (of_each _ c.clear_mask_granted.result e.gives) e.counts;
+        gives = beside c.clear_mask_granted.result
+            (λ grants gives counts. record { gives = gives; counts = counts }) e.gives e.counts;
         grants = e.grants;
         err = e.err;
       },

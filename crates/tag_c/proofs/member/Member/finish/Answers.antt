@@ -1,21 +1,19 @@
 -- The answer comes with the clauses of `DoesFinish`, and its number fits into 32 bits.
 use Rattle.std.proofs.Common.{refl}
-use Rattle.tag_c.specs.Callers.{Bare}
 use Rattle.tag_c.specs.Calls.{DoesFinish}
 use Rattle.tag_c.specs.Codes.{code_of_finish}
 use Rattle.tag_c.proofs.Parts.{of_done}
-use Rattle.tag_c.proofs.Calling.{through, stored}
+use Rattle.tag_c.proofs.Calling.{through}
 use Rattle.tag_c.proofs.member.Member.finish.Goals as goal
 
 pub returns : goal.returns
-returns c = let e = c.try_finish_wait.ensures in let old = c.args.self.now.hand in let new = c.try_finish_wait.new.hand in (
+returns c = let e = c.try_finish_wait.ensures in (
   refl,
-  through (DoesFinish) code_of_finish _ c.finish_code.result _ c.deref.result.now (Bare old) (Bare new) c.try_finish_wait.result
-      c.finish_code.ensures (stored c.finish_code.result c.finish_code.type_inv) c.deref.ensures record {
-        stands = e.stands;
-        leaves = e.leaves;
-        stays = e.stays;
-        same = of_done c.try_finish_wait.result tt;
-        err = e.err;
-      },
+  through DoesFinish code_of_finish c.finish_code.ensures c.finish_code.type_inv c.deref.ensures record {
+    stands = e.stands;
+    leaves = e.leaves;
+    stays = e.stays;
+    same = of_done c.try_finish_wait.result tt;
+    err = e.err;
+  },
 )

@@ -1,18 +1,16 @@
 -- The answer comes with the clauses of `DoesGet`, and its number fits into 32 bits.
 use Rattle.std.proofs.Common.{refl}
-use Rattle.tag_c.specs.Callers.{Bare}
 use Rattle.tag_c.specs.Calls.{DoesGet}
 use Rattle.tag_c.specs.Codes.{code_of_get}
-use Rattle.tag_c.proofs.Calling.{through, stored}
+use Rattle.tag_c.proofs.Calling.{through}
 use Rattle.tag_c.proofs.member.Member.get.Goals as goal
 
 pub returns : goal.returns
-returns c = let e = c.get.ensures in let old = c.args.self.now.hand in let new = c.get.new.hand in (
+returns c = let e = c.get.ensures in (
   refl,
-  through (DoesGet) code_of_get _ c.get_code.result _ c.deref.result.now (Bare old) (Bare new) c.get.result
-      c.get_code.ensures (stored c.get_code.result c.get_code.type_inv) c.deref.ensures record {
-        room = e.room;
-        gets = e.gets;
-        err = e.err;
-      },
+  through DoesGet code_of_get c.get_code.ensures c.get_code.type_inv c.deref.ensures record {
+    room = e.room;
+    gets = e.gets;
+    err = e.err;
+  },
 )

@@ -1,36 +1,30 @@
 -- The first tag of a run is below the total, so its number fits; the mask is written exactly if there is a run.
-use Rattle.std.proofs.Common.{arith, rules, refl, sym, subst}
-use Rattle.tag_sets.specs.Hands.{IsHandOf}
-use Rattle.tag_c.specs.declared.pool_state.PoolState.{PoolState}
-use Rattle.tag_c.specs.Callers.{Bare}
+use Rattle.std.proofs.Common.{rules, refl}
 use Rattle.tag_c.specs.Calls.{DoesGetBatch}
 use Rattle.tag_c.specs.Codes.{code_of_batch}
-use Rattle.tag_c.proofs.Calling.{through, stored}
+use Rattle.tag_c.proofs.Calling.{through}
 use Rattle.tag_c.proofs.Parts.{of_any}
-use Rattle.tag_c.proofs.Runs.{run_fits}
+use Rattle.tag_c.proofs.Runs.{batch_fits}
 use Rattle.tag_c.proofs.member.Member.get_batch.Goals as goal
 use Rattle.tag_c.proofs.member.Member.get_batch.Goals.{in-Ok-Some}
 
 pub batch_code-requires : goal.batch_code-requires
-batch_code-requires c = let shared = c.deref.result.now in let e = c.get_batch-answer.ensures in
-    let own = subst (λ (s : PoolState). IsHandOf s.tags c.args.self.now.hand) (sym c.deref.ensures) c.args.self.now.own in
-    run_fits shared.tags c.args.self.now.hand c.get_batch-answer.new.hand own c.args.n c.get_batch-answer.result
-    (omega (arith, shared.total_is.0, shared.total_is.1)) e.bad_count (λ not is. (e.round_robin not is).0) e.gets
+batch_code-requires c = let e = c.get_batch-answer.ensures in
+    batch_fits c.args.self.now.hand c.get_batch-answer.new.hand c.deref.ensures
+    c.args.self.now.own e.bad_count e.round_robin e.gets
 
 pub returns-clause-calls : goal.returns-clause-calls
-returns-clause-calls c = let e = c.get_batch-answer.ensures in let old = c.args.self.now.hand in
-    let new = c.get_batch-answer.new.hand in (
-      refl,
-      through (DoesGetBatch c.args.n c.match-answer.won) code_of_batch _ c.batch_code.result _ c.deref.result.now
-          (Bare old) (Bare new) c.get_batch-answer.result c.batch_code.ensures
-          (stored c.batch_code.result c.batch_code.type_inv) c.deref.ensures record {
-            bad_count = e.bad_count;
-            round_robin = e.round_robin;
-            spent = e.spent;
-            succeeds = e.succeeds;
-            gets = e.gets;
-            caller = of_any c.get_batch-answer.result;
-            mask = elim c.match-answer.branch [ in-Ok-Some w ↦ search rules | w ↦ search rules ];
-            err = e.err;
-          },
-    )
+returns-clause-calls c = let e = c.get_batch-answer.ensures in (
+  refl,
+  through (DoesGetBatch c.args.n c.match-answer.won) code_of_batch c.batch_code.ensures c.batch_code.type_inv
+      c.deref.ensures record {
+        bad_count = e.bad_count;
+        round_robin = e.round_robin;
+        spent = e.spent;
+        succeeds = e.succeeds;
+        gets = e.gets;
+        caller = of_any c.get_batch-answer.result;
+        mask = elim c.match-answer.branch [ in-Ok-Some w ↦ search rules | w ↦ search rules ];
+        err = e.err;
+      },
+)

@@ -1,17 +1,16 @@
 -- The answer comes with the clauses of `DoesRead`, and its number fits into 32 bits.
 use Rattle.std.proofs.Common.{refl}
-use Rattle.tag_c.specs.Callers.{Bare}
 use Rattle.tag_c.specs.Calls.{DoesRead}
 use Rattle.tag_c.specs.Codes.{code_of_done}
-use Rattle.tag_c.proofs.Calling.{through, stored}
+use Rattle.tag_c.proofs.Calling.{through}
 use Rattle.tag_c.proofs.Parts.{two}
 use Rattle.tag_c.proofs.member.Member.read.Goals as goal
 
 pub returns-clause-calls : goal.returns-clause-calls
-returns-clause-calls c = let e = c.read.ensures in let old = c.args.self.now.hand in let new = c.read.new.hand in (
+returns-clause-calls c = let e = c.read.ensures in (
   refl,
-  through (DoesRead c.args.tag c.value_code.new.value) code_of_done _ c.value_code.result _ c.deref.result.now (Bare old) (Bare new) c.read.result
-      c.value_code.ensures.code (stored c.value_code.result c.value_code.type_inv) c.deref.ensures record {
+  through (DoesRead c.args.tag c.value_code.new.value) code_of_done c.value_code.ensures.code c.value_code.type_inv
+      c.deref.ensures record {
         no_such_tag = e.no_such_tag;
         not_held = e.not_held;
         succeeds = e.succeeds;
