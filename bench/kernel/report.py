@@ -243,7 +243,7 @@ def draw_legend(y):
     for _, name, colour in LINES:
         out.append(f'<path d="M{x} {y - 4}h22" stroke="{colour}" stroke-width="2"/>')
         out.append(text(x + 28, y, name))
-        x += 62 + 7 * len(name)
+        x += 50 + 6 * len(name)
     return out
 
 
