@@ -15,8 +15,9 @@ mod stages;
 mod threads;
 mod windows;
 
+use crate::caller::Caller;
 use crate::tests::allocator::{Kept, TagAllocator};
-use crate::tests::cache::callers::{Caller, hands_of};
+use crate::tests::cache::callers::hands_of;
 use crate::tests::cache::mixed::Mixed;
 use std::alloc::Global;
 use std::sync::Wait;
@@ -40,7 +41,7 @@ fn is_among(tag: u32, first: u64, second: u64) -> bool {
 impl TagAllocator for Mixed {
     type Caller = Caller;
 
-    ghost is_own = { IsOwn };
+    ghost is_own = { λ mixed. IsOwn mixed.tags };
 
     ghost is_fact = { λ mixed caller. Prim.hlevel codes };
 
@@ -255,9 +256,9 @@ impl TagAllocator for Mixed {
     }
 
     fn gather(self, callers: Vec<Caller>) -> Result<QueueTotals, (GatherCause, Mixed, Vec<Caller>)>
-        requires { All (IsOwn self) callers.items }
-        ensures own { IfErr result (λ back. All (IsOwn back.1) back.2.items) }
-        ensures others { IfErr result (λ back. (c : _) → IsOwn self c → IsOwn back.1 c) }
+        requires { All (IsOwn self.tags) callers.items }
+        ensures own { IfErr result (λ back. All (IsOwn back.1.tags) back.2.items) }
+        ensures others { IfErr result (λ back. (c : _) → IsOwn self.tags c → IsOwn back.1.tags c) }
     {
         let alloc = self.alloc;
         let Ok(hands) = hands_of(alloc, &self.tags, callers) else {
@@ -279,10 +280,10 @@ impl TagAllocator for Mixed {
         callers: Vec<Caller>,
         total: u32,
     ) -> Result<(Mixed, Vec<Caller>), (ResizeCause, Mixed, Vec<Caller>)>
-        requires { All (IsOwn self) callers.items }
-        ensures ok { IfOk result (λ next. All (IsOwn next.0) next.1.items) }
-        ensures own { IfErr result (λ back. All (IsOwn back.1) back.2.items) }
-        ensures others { IfErr result (λ back. (c : _) → IsOwn self c → IsOwn back.1 c) }
+        requires { All (IsOwn self.tags) callers.items }
+        ensures ok { IfOk result (λ next. All (IsOwn next.0.tags) next.1.items) }
+        ensures own { IfErr result (λ back. All (IsOwn back.1.tags) back.2.items) }
+        ensures others { IfErr result (λ back. (c : _) → IsOwn self.tags c → IsOwn back.1.tags c) }
     {
         let Ok(hands) = hands_of(alloc, &self.tags, callers) else {
             return Err((ResizeCause::Memory, self, Vec::new(alloc)));

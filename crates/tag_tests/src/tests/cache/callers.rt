@@ -3,17 +3,11 @@ ghost use Rattle.std.specs.Prelude.{◌≡◌, All, IfOk};
 ghost use Rattle.tag_sets.specs.Hands.{IsHandOf};
 ghost use Rattle.tag_tests.specs.Mixed.{hand_in};
 
+use crate::caller::Caller;
 use std::alloc::{AllocError, Global};
 use step_ledger::Numbered;
 use tag_cache::{Cache, Keeping};
 use tag_sets::{Hand, Tags};
-
-/// A caller of tag sets.
-#[derive(Drop)]
-pub(crate) enum Caller {
-    Bare(Hand<u64>),
-    Cached(Cache<u64>),
-}
 
 /// Which of the callers have caches, and on what terms.
 #[derive(Clone, Copy)]

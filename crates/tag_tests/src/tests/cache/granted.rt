@@ -1,8 +1,8 @@
 //! Clears and flushes that return their grants.
 ghost use Rattle.tag_tests.specs.Mixed.{IsOwn};
 
+use crate::caller::Caller;
 use crate::tests::answers::Answer::{Group, Keeps, Left, Tag, Woken};
-use crate::tests::cache::callers::Caller;
 use crate::tests::cache::mixed::Mixed;
 use crate::tests::cache::stages::one;
 use crate::tests::calls::Call::{Clear, FinishWait, Get, Kept, PrepareWait};
@@ -14,8 +14,8 @@ use tag_sets::Grants;
 use wake_book::Left as Leave;
 
 fn clear_granted(tags: &Mixed, caller: &mut Caller, tag: u32) -> Option<Grants>
-    requires { IsOwn tags.now caller.old }
-    ensures { IsOwn tags.now caller.new }
+    requires { IsOwn tags.now.tags caller.old }
+    ensures { IsOwn tags.now.tags caller.new }
 {
     match caller {
         Caller::Bare(hand) => tags.tags.clear_granted(hand, tag).ok(),
@@ -25,8 +25,8 @@ fn clear_granted(tags: &Mixed, caller: &mut Caller, tag: u32) -> Option<Grants>
 
 /// A caller without a cache keeps nothing.
 fn flush_granted(tags: &Mixed, caller: &mut Caller) -> Option<Grants>
-    requires { IsOwn tags.now caller.old }
-    ensures { IsOwn tags.now caller.new }
+    requires { IsOwn tags.now.tags caller.old }
+    ensures { IsOwn tags.now.tags caller.new }
 {
     match caller {
         Caller::Bare(_) => None,

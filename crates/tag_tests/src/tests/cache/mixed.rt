@@ -3,7 +3,8 @@ ghost use Rattle.std.specs.Prelude.{◌≡◌, All};
 ghost use Rattle.tag_sets.specs.Hands.{IsHandOf};
 ghost use Rattle.tag_tests.specs.Mixed.{IsOwn};
 
-use crate::tests::cache::callers::{Caller, Terms};
+use crate::caller::Caller;
+use crate::tests::cache::callers::Terms;
 use std::alloc::Global;
 use tag_sets::{Hand, Tags};
 
@@ -35,7 +36,7 @@ impl Mixed {
     ) -> (Mixed, Vec<Caller>)
         requires { All (IsHandOf tags) hands.items }
         ensures tags { result.0.tags ≡ tags }
-        ensures own { All (IsOwn result.0) result.1.items }
+        ensures own { All (IsOwn result.0.tags) result.1.items }
     {
         let callers = match terms.callers(alloc, &tags, hands) {
             Ok(callers) => callers,

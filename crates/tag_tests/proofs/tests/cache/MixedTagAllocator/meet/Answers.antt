@@ -5,7 +5,7 @@ use Rattle.tag_tests.proofs.tests.cache.MixedTagAllocator.meet.Goals as goal
 use Rattle.tag_tests.proofs.tests.cache.MixedTagAllocator.meet.Goals.{in-Bare-Bare, in-Bare-Cached, in-Cached-Cached, in-Cached-Bare}
 
 pub returns-clause-first : goal.returns-clause-first
-returns-clause-first c = let own = IsOwn c.args.self.now in elim c.match-first.branch [
+returns-clause-first c = let own = IsOwn c.args.self.now.tags in elim c.match-first.branch [
   | in-Bare-Bare w ↦ subst own (sym w.first-is) w.meet.ensures.hands.0
   | in-Bare-Cached w ↦ subst own (sym w.first-is) w.meet_hand.ensures.hand
   | in-Cached-Cached w ↦ subst own (sym w.first-is) w.meet-in-Cached-Cached.ensures.caches.0
@@ -13,7 +13,7 @@ returns-clause-first c = let own = IsOwn c.args.self.now in elim c.match-first.b
 ]
 
 pub returns-clause-second : goal.returns-clause-second
-returns-clause-second c = let own = IsOwn c.args.self.now in elim c.match-first.branch [
+returns-clause-second c = let own = IsOwn c.args.self.now.tags in elim c.match-first.branch [
   | in-Bare-Bare w ↦ subst own (sym w.second-is) w.meet.ensures.hands.1
   | in-Bare-Cached w ↦ subst own (sym w.second-is) w.meet_hand.ensures.cache
   | in-Cached-Cached w ↦ subst own (sym w.second-is) w.meet-in-Cached-Cached.ensures.caches.1

@@ -3,7 +3,7 @@ use Rattle.std.proofs.Common.{ℕ, List, arith, suc, sym, ap, subst, length, All
 use Rattle.std.proofs.lemmas.List.Elements.{All-push}
 use Rattle.tag_sets.specs.declared.hand.Hand.{Hand}
 use Rattle.tag_sets.specs.Hands.{IsHandOf}
-use Rattle.tag_tests.specs.declared.tests.cache.callers.Caller.{Caller}
+use Rattle.tag_tests.specs.declared.caller.Caller.{Caller}
 use Rattle.tag_tests.specs.Mixed.{hand_in}
 use Rattle.tag_tests.proofs.tests.cache.callers.hands_of.Goals as goal
 

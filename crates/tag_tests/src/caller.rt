@@ -1,0 +1,11 @@
+//! What the tests of caches act through. It stands outside of them, since their definitions, which every check reads, name it.
+
+use tag_cache::Cache;
+use tag_sets::Hand;
+
+/// A caller of tag sets.
+#[derive(Drop)]
+pub(crate) enum Caller {
+    Bare(Hand<u64>),
+    Cached(Cache<u64>),
+}
