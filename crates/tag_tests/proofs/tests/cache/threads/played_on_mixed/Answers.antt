@@ -7,7 +7,7 @@ use Rattle.std.proofs.Crossing.{crosses}
 use Rattle.tag_sets.proofs.Crossing.{hand_field_send, tags_field_sync}
 use Rattle.tag_cache.proofs.Crossing.{cache_field_send}
 use Rattle.tag_tests.specs.contracts.tests.cache.mixed.Mixed as mixed
-use Rattle.tag_tests.specs.contracts.tests.cache.callers.Caller as caller
+use Rattle.tag_tests.specs.contracts.caller.Caller as caller
 use Rattle.tag_tests.proofs.tests.cache.threads.played_on_mixed.Goals as goal
 
 caller_goes : IsSend caller.the_row
