@@ -1,7 +1,7 @@
 -- The tags of a batch, by the places of its mask.
 use Rattle.std.proofs.Common.{◌≡◌, ℕ, ◌+◌, ◌^◌, ◌<◌, ◌≤◌, true, nat_eq, Some, ⊎_elim, refl, sym, arith, eq-eqb}
 use Rattle.tag_board.proofs.Uses.{cases_lt, bit_at_above, bit_at, is_in_run, NobodyElseHolds, State}
-use Rattle.tag_board.proofs.Effects.{names_run}
+use Rattle.tag_board.proofs.Naming.{names_run}
 
 module _ (first mask : ℕ) where
   -- a one in the mask is a tag of the batch

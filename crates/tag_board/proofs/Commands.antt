@@ -6,7 +6,10 @@ use Rattle.tag_board.specs.Boards.{IsAlone}
 use Rattle.tag_board.proofs.AloneBoard.{alone_sets_moved}
 use Rattle.tag_board.proofs.Holdings.{Names, not_holds}
 use Rattle.tag_board.proofs.Waiters.{waiters_move}
-pub use Rattle.tag_board.proofs.Effects.{AsBefore, batch_gains, batch_number, busy_does, clear_does, dump_does, Effect, enter_does, Gained, get_gains, leave_does, list_does, low_group, names_answer, names_one, none_around, none_woken, post_does, refused_does, reserved_gains, shallow_gains, show_does, stay_does, take_does}
+pub use Rattle.tag_board.proofs.Naming.{names_answer, names_one}
+pub use Rattle.tag_board.proofs.Effects.{AsBefore, Effect, low_group, none_woken}
+pub use Rattle.tag_board.proofs.Gains.{batch_gains, batch_number, Gained, get_gains, none_around, reserved_gains, shallow_gains}
+pub use Rattle.tag_board.proofs.Calls.{busy_does, clear_does, dump_does, enter_does, leave_does, list_does, post_does, refused_does, show_does, stay_does, take_does}
 pub use Rattle.tag_board.proofs.Outcomes.{both_ok, both_on, err_same, err_since, none_since, not_some_since, ok_map, on_map, some_since}
 pub use Rattle.tag_board.proofs.Seats.{changes, held_here, here_held, none_here, ordered, own_here, part_here, room_here, round_here, same_state, seat, sits, Sits, spent_here, stands_here, unmoved}
 pub use Rattle.tag_board.proofs.Verdicts.{answers, batch_verdict, get_verdict, IsVerdict, leave_verdict, list_verdict, reserved_verdict, shallow_verdict, tag_verdict, wait_verdict}

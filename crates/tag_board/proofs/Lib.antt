@@ -5,7 +5,10 @@ mod Handfuls
 mod Seats
 mod Verdicts
 mod Outcomes
+mod Naming
 mod Effects
+mod Gains
+mod Calls
 mod Commands
 mod Lookings
 mod Ranges

@@ -2,7 +2,7 @@
 use Rattle.std.proofs.Common.{◌≡◌, ℕ, ◌<◌, ◌≤◌, ◌⊎◌, inl, inr, ⊎_elim, Result, Ok, Err, OnOk, IfErr, IsErr, sym, ap, subst}
 use Rattle.tag_board.proofs.Uses.{cases_lt, TagFault, NoSuchTag, NotPosted, Hand, Tags, number_of, IsHandOf, Takes, State}
 use Rattle.tag_sets.specs.Slots as slots
-use Rattle.tag_board.proofs.Effects.{take_does, refused_does}
+use Rattle.tag_board.proofs.Calls.{take_does, refused_does}
 
 module _ (tags : Tags ℕ) (old new : Hand ℕ) (tag : ℕ) where
   pub take_number : {A : Type 0} → IsHandOf tags old → (r : Result A TagFault) → OnOk r (slots.Takes tag old new)
