@@ -6,25 +6,21 @@ mod options;
 mod stop;
 mod subcommand;
 
-use command_line::{run, words};
+use command_line::{answer, words};
 pub use loop_device::Setup;
 use std::io;
 use std::process::ExitCode;
-use stop::{Stop, status};
+use stop::end;
 pub use tag_runs::{RunFault, Watched, run_check, run_play, run_script};
 
 fn main(rt: HostRuntime) -> ExitCode {
-    let outcome = match words(&rt) {
-        Ok(words) => run(
+    match words(&rt) {
+        Ok(words) => answer(
             &rt,
             words.as_slice(),
             &mut Watched::new(rt.reader()),
             &mut io::writer(&rt),
         ),
-        Err(fault) => Err(Stop::Run(fault)),
-    };
-    if let Err(Stop::Run(fault)) = &outcome {
-        let _ = eprintln!(rt; "{fault}");
+        Err(stop) => end(&rt, &Err(stop)),
     }
-    ExitCode::from(status(&outcome))
 }

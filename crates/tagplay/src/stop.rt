@@ -1,7 +1,9 @@
 //! How the program ends.
 ghost use Rattle.std.specs.Prelude.{◌≡◌};
+ghost use Rattle.std.specs.Process.{exit_status};
 ghost use Rattle.tagplay.specs.Status.{status_of};
 
+use std::process::ExitCode;
 use tag_runs::RunFault;
 use tag_script::Ending;
 
@@ -24,4 +26,14 @@ pub(crate) fn status(outcome: &Result<Ending, Stop>) -> u8
         Err(Stop::CommandLine(status)) => *status,
         Err(Stop::Run(_)) => 3,
     }
+}
+
+/// Ends the program with the status of this outcome. Standard error says what went wrong in a run.
+pub(crate) fn end<P: Eprint>(rt: &P, outcome: &Result<Ending, Stop>) -> ExitCode
+    ensures { exit_status result ≡ status_of outcome.now }
+{
+    if let Err(Stop::Run(fault)) = outcome {
+        let _ = eprintln!(rt; "{fault}");
+    }
+    ExitCode::from(status(outcome))
 }

@@ -13,10 +13,7 @@ pub(crate) fn options(callers: u32) -> Options {
 
 /// Options with words of `2^shift` tags, and the highest life and cap.
 pub(crate) fn in_words(shift: u32, callers: u32) -> Options {
-    Options {
-        shift: Some(shift),
-        ..options(callers)
-    }
+    options(callers).with_shift(shift)
 }
 
 /// Tags got, given back, held and posted.

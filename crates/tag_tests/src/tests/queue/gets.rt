@@ -10,10 +10,7 @@ use tag_sets::TagFault::{BadCount, Spent, TooShallow};
 
 /// Options with words of four tags and round robin.
 fn in_turn() -> Options {
-    Options {
-        round_robin: true,
-        ..in_words(2, 1)
-    }
+    in_words(2, 1).with_round_robin()
 }
 
 #[test]
@@ -136,9 +133,8 @@ fn a_batch_get_wins_what_is_free_of_a_run(rt: HostRuntime) -> Result<(), Fail> {
 #[test]
 fn a_get_is_refused_for_its_first_fault(rt: HostRuntime) -> Result<(), Fail> {
     let brief = Options {
-        min_shallow: Some(2),
         life: 1,
-        ..options(1)
+        ..options(1).with_min_shallow(2)
     };
     expect(
         &rt,
@@ -155,14 +151,10 @@ fn a_get_is_refused_for_its_first_fault(rt: HostRuntime) -> Result<(), Fail> {
             (0, GetBlocking, Refused(Spent)),
         ],
     )?;
-    let brief_in_turn = Options {
-        round_robin: true,
-        ..brief
-    };
     expect(
         &rt,
         8,
-        brief_in_turn,
+        brief.with_round_robin(),
         &[
             (0, GetBatch(2), Nothing),
             (0, GetBatch(3), Refused(BadCount)),
