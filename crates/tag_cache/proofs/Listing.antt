@@ -36,14 +36,6 @@ refused_not_held {A} r told e counts ordinary hand user was same not_held ok mor
   ) in cc),
 )
 
--- a refusal that is passed on has the same cause
-pub refused_same : {A B : Type 0} (r : Result A TagFault) (told : Result B TagFault) (e : TagFault) (cause : Type 0)
-    → r ≡ Err e → told ≡ Err e → (r ≡ Err NotHeld) ↔ cause → (told ≡ Err NotHeld) ↔ cause
-refused_same r told e cause was same not_held = (
-  (λ x. not_held.0 (cc)),
-  (λ h. let is = not_held.1 h in cc),
-)
-
 module _ {R : Type 0} where
   -- the user holds what the hand holds and does not keep
   pub hand_holds : (cache : Cache R) (list : List ℕ) → AreHeldOnce cache list

@@ -1,6 +1,5 @@
 -- What is counted for tags that are given back, and how many waiters are woken.
-use Rattle.std.proofs.Common.{◌≡◌, ℕ, List, ◌∷◌, Result, Ok, Err, IsErr, refl, sym, ap, ◌∙◌, subst, inl, inr, ⊎_elim}
-use Rattle.std.specs.Prelude.{◌↔◌, IfErr}
+use Rattle.std.proofs.Common.{◌≡◌, ℕ, List, ◌∷◌, refl, ap, ◌∙◌, subst, inl, inr, ⊎_elim}
 use Rattle.wake_book.specs.declared.book.Teller.{Teller}
 use Rattle.wake_book.specs.declared.groups.Waiter.{Waiter}
 use Rattle.wake_book.specs.declared.charge.Charge.{Charge}
@@ -12,7 +11,6 @@ use Rattle.wake_book.specs.Groups as groups
 use Rattle.wake_book.specs.Charging.{IsCharge}
 use Rattle.wake_book.specs.Waits.{active_at}
 use Rattle.tag_queue.specs.declared.agent.Agent.{Agent}
-use Rattle.tag_queue.specs.declared.fault.QueueFault.{QueueFault}
 use Rattle.tag_queue.specs.declared.queue.Queue.{Queue}
 use Rattle.tag_queue.specs.Agents.{SameCounts, waiter_of, book_steps, group_steps, batch_of, cap_of}
 use Rattle.tag_queue.specs.Clears.{Follows, FindsNoneActive, Charges, Counts}
@@ -45,12 +43,3 @@ module _ {R : Type 0} (queue : Queue R) (n : ℕ) where
     })) c.counts;
     stands = subst (λ (w : Waiter). groups.StandsAsBefore w (waiter_of new)) same.1 c.stands;
   }
-
--- a call that passes on the fault of another is refused for the same cause
-pub refused_as : {A B : Type 0} (found : Result A QueueFault) (told : Result B QueueFault) (fault known : QueueFault) (Q : Type 0)
-    → found ≡ Err fault → IsErr told → IfErr told (λ f. f ≡ fault) → (found ≡ Err known) ↔ Q → (told ≡ Err known) ↔ Q
-refused_as found (Ok x) fault known Q was bad same iff = absurd (let b = bad in cc)
-refused_as found (Err f) fault known Q was bad same iff = (
-  λ t. iff.0 (was ∙ ap Err (sym same ∙ (let e = t in cc))),
-  λ q. ap Err (same ∙ (let e = sym was ∙ iff.1 q in cc)),
-)

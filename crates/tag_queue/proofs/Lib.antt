@@ -7,6 +7,7 @@ pub mod MaskHolds
 pub mod MaskGives
 pub mod SoFar
 pub mod Counting
+pub mod PassedOn
 pub mod Fronts
 pub mod Gathering
 pub mod Opening

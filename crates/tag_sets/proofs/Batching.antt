@@ -1,7 +1,6 @@
 -- What the ordinary set answers for the numbers of a list holds for the ordinary tags of the list.
-use Rattle.std.proofs.Common.{◌≡◌, ℕ, ◌+◌, ◌-◌, ◌<◌, ◌≤◌, ◌↔◌, List, All, Contains, length, get_or, Result, Err, IsOk, OnOk, arith, refl, sym, ap, ◌∙◌, subst}
+use Rattle.std.proofs.Common.{◌≡◌, ℕ, ◌+◌, ◌-◌, ◌<◌, ◌≤◌, ◌↔◌, List, All, Contains, length, get_or, Result, Err, IsOk, arith, refl, sym, ap, ◌∙◌, subst}
 use Rattle.std.proofs.lemmas.List.{length-map, get_or-map}
-use Rattle.std.proofs.lemmas.Result.{on_ok_weaker}
 use Rattle.tag_core.specs.declared.shape.Shape.{Shape}
 use Rattle.tag_queue.specs.declared.agent.Agent.{Agent}
 use Rattle.tag_queue.specs.declared.fault.QueueFault.{QueueFault}
@@ -18,7 +17,7 @@ use Rattle.tag_sets.specs.Sets.{number_in_set}
 use Rattle.tag_sets.specs.Hands.{agent_of, split_of, layout_of, reserved_of, IsHandOf, Holds}
 use Rattle.tag_sets.specs.Batches.{CountsTags, AreOrdinary, AreHeldOnce, numbers_of, GivesBack}
 use Rattle.tag_sets.proofs.Numbering.{ordinary_above}
-use Rattle.tag_sets.proofs.Told.{IsTold, told_fault, told_ok, told_on}
+use Rattle.tag_sets.proofs.Told.{IsTold, told_fault, told_ok}
 use Rattle.tag_sets.proofs.Lifting.{InSet, less, less_like}
 use Rattle.tag_sets.proofs.Getting.{ordinary_like}
 
@@ -133,23 +132,4 @@ module _ {R : Type 0} (tags : Tags R) (hand : Hand R) (own : IsHandOf tags hand)
       λ e. let h = ok.0 e in (counts_back h.0, tags_back (are_tags h.1), held_back h.1),
       λ h. ok.1 (counts_there h.0, held_there h.2),
     );
-  }
-
-  -- what a caller is told of the tags by a call that gives them back
-  pub record Answers {A : Type 0} (agent : Agent R) (told : Result A TagFault) : Type 0 where
-    pub refusals : Refusals told
-    pub gives : OnOk told (GivesBack tags list hand (record hand { ordinary = agent }))
-
-  -- the same of a call that gives them back
-  pub answered : {A : Type 0} (agent : Agent R) (r : Result A QueueFault) (told : Result A TagFault) → IsTold r told
-      → (r ≡ Err queue_fault.NoSuchTag)
-      ↔ (queue_batches.CountsTags named × ¬ (queue_batches.AreTags (layout_of tags Ordinary) named))
-      → (r ≡ Err queue_fault.NotHeld)
-      ↔ (queue_batches.CountsTags named × queue_batches.AreTags (layout_of tags Ordinary) named
-      × ¬ (queue_batches.AreHeldOnce (queue.caller_of hand.ordinary) named))
-      → IsOk r ↔ (queue_batches.CountsTags named × queue_batches.AreHeldOnce (queue.caller_of hand.ordinary) named)
-      → OnOk r (queue_batches.GivesBack (layout_of tags Ordinary) named hand.ordinary agent) → Answers agent told
-  answered agent r told is none not_held ok gives = record {
-    refusals = refused r told is none not_held ok;
-    gives = told_on r told is _ (on_ok_weaker r (gives_back agent) gives);
   }

@@ -40,9 +40,8 @@ impl<R: Copy> Queue<R> {
         ensures bound { OnOk result (step_count agent.new ≤ length tags.now + 117 + step_count agent.old) }
         ensures err { OnErr result (agent.new ≡ agent.old) }
     {
-        self.check_batch(agent, tags)?;
-        self.give_back(agent, tags);
-        Ok(self.ring(self.complete(agent, tags.len() as u32)))
+        let grants = self.clear_batch_granted(agent, tags)?;
+        Ok(self.ring(grants))
     }
 
     /// Like `clear_batch`, but wakes no sleeper, and so links nothing that does. It returns how many waiters it granted
@@ -70,8 +69,7 @@ impl<R: Copy> Queue<R> {
         ensures err { OnErr result (agent.new ≡ agent.old) }
     {
         self.check_batch(agent, tags)?;
-        self.give_back(agent, tags);
-        Ok(self.complete(agent, tags.len() as u32))
+        Ok(self.clear_batch_held(agent, tags))
     }
 
     /// Clears 1 to 64 tags that the agent holds, like `clear_batch_granted` but for the tests: it wakes no sleeper.

@@ -40,9 +40,8 @@ impl<R: Copy> Queue<R> {
             ≤ words_over (layout_of self.now) first (tags_in first mask) + 117 + step_count agent.old) }
         ensures err { OnErr result (agent.new ≡ agent.old) }
     {
-        let last = self.find_mask_held(agent, first, mask)?;
-        self.give_mask_back(agent, first, mask, last);
-        Ok(self.ring(self.complete(agent, mask.count_ones())))
+        let grants = self.clear_mask_granted(agent, first, mask)?;
+        Ok(self.ring(grants))
     }
 
     /// Like `clear_mask`, but wakes no sleeper, and so links nothing that does. It returns how many waiters it granted

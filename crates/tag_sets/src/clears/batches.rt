@@ -38,16 +38,8 @@ impl<R: Copy> Tags<R> {
         ensures bound { OnOk result (step_count hand.new ≤ length tags.now + 117 + step_count hand.old) }
         ensures err { OnErr result (hand.new ≡ hand.old) }
     {
-        if tags.is_empty() || tags.len() > MAX_TAGS {
-            return Err(TagFault::BadCount);
-        }
-        let Some(numbers) = ordinary_numbers(tags, self.reserved_count) else {
-            return Err(TagFault::NoSuchTag);
-        };
-        let numbers = &numbers[..tags.len()];
-        self.ordinary
-            .clear_batch(&mut hand.ordinary, numbers)
-            .map_err(TagFault::from)
+        let grants = self.clear_batch_granted(hand, tags)?;
+        Ok(self.ring(grants))
     }
 
     /// Like `clear_batch`, but wakes no sleeper, and so links nothing that does. It returns how many waiters it granted

@@ -36,15 +36,8 @@ impl<R: Copy> Tags<R> {
         ensures bound { OnOk result (step_count hand.new ≤ words_over self.now first (tags_in first mask) + 117 + step_count hand.old) }
         ensures err { OnErr result (hand.new ≡ hand.old) }
     {
-        if mask == 0 {
-            return Err(TagFault::BadCount);
-        }
-        let Some((first, mask)) = ordinary_mask(first, mask, self.reserved_count) else {
-            return Err(TagFault::NoSuchTag);
-        };
-        self.ordinary
-            .clear_mask(&mut hand.ordinary, first, mask)
-            .map_err(TagFault::from)
+        let grants = self.clear_mask_granted(hand, first, mask)?;
+        Ok(self.ring(grants))
     }
 
     /// Like `clear_mask`, but wakes no sleeper, and so links nothing that does. It returns how many waiters it granted

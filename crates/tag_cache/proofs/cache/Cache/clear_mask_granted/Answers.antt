@@ -1,19 +1,18 @@
 -- What is said of the list of the mask's tags is said of the mask.
-use Rattle.std.proofs.Common.{rules, ◌≡◌, ℕ, All, Err, subst}
+use Rattle.std.proofs.Common.{rules, ◌≡◌, ℕ, Err, subst}
 use Rattle.tag_queue.specs.Masks.{tags_in}
+use Rattle.tag_queue.proofs.PassedOn.{refused_alike}
 use Rattle.tag_queue.proofs.RunTags.{tags_in-length}
-use Rattle.tag_sets.specs.Batches.{AreOrdinary}
-use Rattle.tag_cache.specs.Caches.{Holds}
+use Rattle.tag_sets.specs.declared.fault.TagFault.TheVariants.{NotHeld}
 use Rattle.tag_cache.specs.Tallies.{Tallies}
-use Rattle.tag_cache.proofs.Listing.{list_less, list_tallies, refused_same}
+use Rattle.tag_cache.proofs.Listing.{list_less, list_tallies}
 use Rattle.tag_cache.proofs.cache.Cache.clear_mask_granted.Goals as goal
 
 pub returns-in_err-check_mask-clause-not_held : goal.returns-in_err-check_mask-clause-not_held
-returns-in_err-check_mask-clause-not_held g c = let list = tags_in c.args.first c.args.mask in
+returns-in_err-check_mask-clause-not_held g c =
     let same : c.from_residual.result ≡ Err c.in_err-check_mask.field-0.0 = first_of (cc, search rules) in
-    refused_same c.check_mask.result c.from_residual.result c.in_err-check_mask.field-0.0
-    (AreOrdinary c.args.tags.now list × ¬ (All (Holds c.args.self.now) list)) c.in_err-check_mask.was same
-    c.check_mask.ensures.not_held
+    refused_alike c.check_mask.result c.from_residual.result c.in_err-check_mask.field-0.0 NotHeld _
+    c.in_err-check_mask.was same c.check_mask.ensures.not_held
 
 pub returns-clause-less : goal.returns-clause-less
 returns-clause-less g c = list_less c.args.tags.now (tags_in c.args.first c.args.mask) c.give_mask.result.woken

@@ -1,25 +1,23 @@
--- The tags are freed before they are counted, so the agent never counts more than it gave back.
-use Rattle.std.proofs.Common.{rules, ◌≡◌, ℕ, count_ones, sym, subst}
-use Rattle.std.specs.Prelude.{IfErr}
-use Rattle.tag_queue.specs.declared.fault.QueueFault.TheVariants.{NotHeld}
-use Rattle.tag_queue.specs.Clears.{Counts}
-use Rattle.tag_queue.proofs.Counting.{counts_after, refused_as}
-use Rattle.tag_queue.proofs.MaskHolds.{few_ones}
+-- It is refused exactly as the call that wakes no sleeper, whose fault it passes on.
+use Rattle.std.proofs.Common.{rules, ◌≡◌, Err}
+use Rattle.tag_queue.specs.declared.fault.QueueFault.TheVariants.{NoSuchTag, NotHeld}
+use Rattle.tag_queue.proofs.PassedOn.{refused_alike}
 use Rattle.tag_queue.proofs.queue.Queue.clear_mask.Goals as goal
 
-pub returns-in_err-last-clause-not_held : goal.returns-in_err-last-clause-not_held
-returns-in_err-last-clause-not_held g c =
-    let told : IfErr c.from_residual.result (λ fault. fault ≡ c.in_err-last.field-0.0) = search rules in
-    refused_as c.find_mask_held.result c.from_residual.result c.in_err-last.field-0.0 NotHeld _ c.in_err-last.was
-    c.from_residual.ensures.0 told c.find_mask_held.ensures.not_held
+pub returns-in_err-grants-clause-no_such_tag : goal.returns-in_err-grants-clause-no_such_tag
+returns-in_err-grants-clause-no_such_tag g c =
+    let same : c.from_residual.result ≡ Err c.in_err-grants.field-0.0 = first_of (cc, search rules) in
+    refused_alike c.clear_mask_granted.result c.from_residual.result c.in_err-grants.field-0.0 NoSuchTag _
+    c.in_err-grants.was same c.clear_mask_granted.ensures.no_such_tag
 
-pub complete-requires-clause-within : goal.complete-requires-clause-within
-complete-requires-clause-within g c = let some = (c.find_mask_held.ensures.succeeds.0 (search rules)).0 in
-    few_ones c.args.mask c.ranges.mask.fits some
+pub returns-in_err-grants-clause-not_held : goal.returns-in_err-grants-clause-not_held
+returns-in_err-grants-clause-not_held g c =
+    let same : c.from_residual.result ≡ Err c.in_err-grants.field-0.0 = first_of (cc, search rules) in
+    refused_alike c.clear_mask_granted.result c.from_residual.result c.in_err-grants.field-0.0 NotHeld _
+    c.in_err-grants.was same c.clear_mask_granted.ensures.not_held
 
-pub returns-clause-counts : goal.returns-clause-counts
-returns-clause-counts g c =
-    let n : ℕ = count_ones c.args.mask in
-    subst (λ (woken : ℕ). Counts c.args.self.now n c.args.agent.now c.complete.new.agent woken) (sym c.ring.ensures)
-    (counts_after c.args.self.now n c.args.agent.now c.give_mask_back.new.agent c.complete.new.agent
-    c.complete.result.woken c.give_mask_back.ensures.others c.complete.ensures.counts)
+pub returns-clause-no_such_tag : goal.returns-clause-no_such_tag
+returns-clause-no_such_tag g c = (
+  λ e. absurd (let z = e in cc),
+  λ n. absurd (let z = c.clear_mask_granted.ensures.no_such_tag.1 n in let ok = c.in_ok-grants.was in cc),
+)
