@@ -1,6 +1,6 @@
 //! Gets: the calls that take tags.
-ghost use Rattle.std.specs.Prelude.{◌≡◌, ℕ, ◌<◌, ◌≤◌, ◌↔◌, IfOk, IfErr, IsOk, OnOk, OnErr};
-ghost use Rattle.tag_sets.specs.Hands.{HasRoom, reserved_of};
+ghost use Rattle.std.specs.Prelude.{◌≡◌, ℕ, ◌<◌, ◌≤◌, ◌↔◌, IfOk, IfErr, IsOk, IsSome, OnOk, OnErr, None};
+ghost use Rattle.tag_sets.specs.Hands.{HasRoom, reserved_of, standing_of, total_of};
 ghost use Rattle.tag_sets.specs.Gets as hands;
 ghost use Rattle.tag_sets.specs.Waits as hand_waits;
 ghost use Rattle.tag_sets.specs.Gets.{IsAnswer, IsOrdinaryTag};
@@ -59,6 +59,7 @@ impl<R: Copy> Cache<R> {
         ensures spent { (result ≡ Err TagFault.Spent)
             ↔ ((1 ≤ reserved_of tags.now) × ¬ (HasRoom (hand_of self.old) Reserved 1)) }
         ensures succeeds { IsOk result ↔ ((1 ≤ reserved_of tags.now) × HasRoom (hand_of self.old) Reserved 1) }
+        ensures gets { IfOk result (λ answer. hands.GetsReserved tags.now answer (hand_of self.old) (hand_of self.new)) }
         ensures more { IfOk result (λ answer. HoldsMore (IsAnswer answer) self.old self.new) }
         ensures reserved { IfOk result (λ answer. (tag : ℕ) → IsAnswer answer tag → tag < reserved_of tags.now) }
         ensures kept { KeepsSame self.old self.new }
@@ -68,16 +69,27 @@ impl<R: Copy> Cache<R> {
         tags.get_reserved(&mut self.hand)
     }
 
-    /// Returns a kept tag, or takes a free ordinary tag and waits as long as it finds none, as `Tags::get_blocking`
-    /// does, which may refuse it.
+    /// Returns a kept tag, or takes a free ordinary tag and waits as long as it finds none, as `Tags::get_blocking` does.
+    /// If no tag is kept, `NoSuchTag` means that there are no ordinary tags, `Waiting` that the hand is already in a wait
+    /// group, `Spent` that its life is used up.
     pub fn get_blocking<W: Wait>(&mut self, rt: &W, tags: &Tags<R>) -> Result<u32, TagFault>
         requires { IsCacheOf tags.now self.old }
         ensures cache { IsCacheOf tags.now self.new }
+
+        // A kept tag is never refused. The causes are checked in this order.
+        ensures refused { IfErr result (λ fault. KeepsNone self.old) }
+        ensures no_such_tag { (result ≡ Err TagFault.NoSuchTag)
+            ↔ (KeepsNone self.old × (total_of tags.now ≡ reserved_of tags.now)) }
+        ensures waiting { (result ≡ Err TagFault.Waiting)
+            ↔ (KeepsNone self.old × (reserved_of tags.now < total_of tags.now) × IsSome (standing_of (hand_of self.old))) }
+        ensures spent { (result ≡ Err TagFault.Spent) ↔ (KeepsNone self.old × (reserved_of tags.now < total_of tags.now)
+            × (standing_of (hand_of self.old) ≡ None) × ¬ (HasRoom (hand_of self.old) Ordinary 1)) }
+        ensures succeeds { KeepsNone self.old → IsOk result ↔ ((reserved_of tags.now < total_of tags.now)
+            × (standing_of (hand_of self.old) ≡ None) × HasRoom (hand_of self.old) Ordinary 1) }
         ensures more { IfOk result (λ tag. HoldsMore (λ other. other ≡ tag) self.old self.new) }
         ensures ordinary { IfOk result (λ tag. IsOrdinaryTag tags.now tag) }
         ensures waits { IfOk result (λ tag. WaitsFor tags.now tag self.old self.new) }
         ensures tally { OnOk result (Tallies 1 0 self.old self.new) }
-        ensures refused { IfErr result (λ fault. KeepsNone self.old) }
         ensures err { OnErr result (IsUnchanged self.old self.new) }
     {
         if let Some(tag) = self.reuse() {
@@ -91,6 +103,13 @@ impl<R: Copy> Cache<R> {
     fn wait_for<W: Wait>(&mut self, rt: &W, tags: &Tags<R>) -> Result<u32, TagFault>
         requires { IsCacheOf tags.now self.old }
         ensures cache { IsCacheOf tags.now self.new }
+        ensures no_such_tag { (result ≡ Err TagFault.NoSuchTag) ↔ (total_of tags.now ≡ reserved_of tags.now) }
+        ensures waiting { (result ≡ Err TagFault.Waiting)
+            ↔ ((reserved_of tags.now < total_of tags.now) × IsSome (standing_of (hand_of self.old))) }
+        ensures spent { (result ≡ Err TagFault.Spent) ↔ ((reserved_of tags.now < total_of tags.now)
+            × (standing_of (hand_of self.old) ≡ None) × ¬ (HasRoom (hand_of self.old) Ordinary 1)) }
+        ensures succeeds { IsOk result ↔ ((reserved_of tags.now < total_of tags.now)
+            × (standing_of (hand_of self.old) ≡ None) × HasRoom (hand_of self.old) Ordinary 1) }
         ensures gets { IfOk result (λ tag. hands.BlockingGets tags.now tag (hand_of self.old) (hand_of self.new)) }
         ensures waits { IfOk result (λ tag. hand_waits.WaitsFor tags.now tag (hand_of self.old) (hand_of self.new)) }
         ensures kept { KeepsSame self.old self.new }

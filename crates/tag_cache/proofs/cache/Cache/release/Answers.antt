@@ -1,7 +1,11 @@
 -- The kept tags go back first if the tag is the last one known.
-use Rattle.std.proofs.Common.{inl, inr, refl}
+use Rattle.std.proofs.Common.{◌∙◌, inl, inr, refl, sym, ap, subst}
+use Rattle.tag_sets.specs.declared.hand.Hand.{Hand}
+use Rattle.tag_sets.specs.Hands.{group_steps}
 use Rattle.tag_cache.specs.Caches.{IsLast}
+use Rattle.tag_cache.specs.Clears.{GivesKept}
 use Rattle.tag_cache.proofs.Carrying.{not_true, same_user, same_then_same}
+use Rattle.tag_cache.proofs.Granting.{none_granted, then_same}
 use Rattle.tag_cache.proofs.Tallying.{unchanged_tallies, tallies_on}
 use Rattle.tag_cache.proofs.cache.Cache.release.Goals as goal
 
@@ -24,7 +28,21 @@ pub returns-then-is_last-clause-kept : goal.returns-then-is_last-clause-kept
 returns-then-is_last-clause-kept g c = λ other. absurd (other (c.is_last.ensures.0 c.if-is_last.true))
 
 pub returns-then-is_last-clause-last : goal.returns-then-is_last-clause-last
-returns-then-is_last-clause-last g c = λ last tag k. c.flush_granted-grants.ensures.none tag ((c.forget.ensures.same.kept.kept tag).0 k)
+returns-then-is_last-clause-last g c = λ last. subst
+    (λ (h : Hand g.row.R.Denot). GivesKept c.args.tags.now c.flush_granted-grants.result.woken c.args.self.now
+    c.args.self.now.hand h) (sym c.forget.ensures.same.hand) c.flush_granted-grants.ensures.gives
+
+pub returns-then-is_last-clause-none : goal.returns-then-is_last-clause-none
+returns-then-is_last-clause-none g c = λ last tag k. c.flush_granted-grants.ensures.none tag ((c.forget.ensures.same.kept.kept tag).0 k)
+
+pub returns-then-is_last-clause-grants : goal.returns-then-is_last-clause-grants
+returns-then-is_last-clause-grants g c = then_same c.flush_granted-grants.result c.args.self.now.hand
+    c.flush_granted-grants.new.self.hand c.forget.new.self.hand c.flush_granted-grants.ensures.grants
+    (ap (λ (h : Hand g.row.R.Denot). group_steps h) c.forget.ensures.same.hand)
+
+pub returns-then-is_last-clause-terms : goal.returns-then-is_last-clause-terms
+returns-then-is_last-clause-terms g c = let e = c.flush_granted-grants.ensures.terms in
+    let f = c.forget.ensures.same.kept.terms in record { most = f.most ∙ e.most; keeping = f.keeping ∙ e.keeping }
 
 pub returns-then-is_last-clause-unlent : goal.returns-then-is_last-clause-unlent
 returns-then-is_last-clause-unlent g c = λ l. ((c.forget.ensures.loans c.args.tag).0 l).1 refl
@@ -38,6 +56,14 @@ returns-clause-tally g c = unchanged_tallies c.args.self.now c.forget-2.new.self
 pub returns-clause-last : goal.returns-clause-last
 returns-clause-last g c = λ last. absurd (not_true c.is_last.result (IsLast c.args.tag c.args.self.now)
     c.is_last.ensures c.if-is_last.false last)
+
+pub returns-clause-none : goal.returns-clause-none
+returns-clause-none g c = λ last. absurd (not_true c.is_last.result (IsLast c.args.tag c.args.self.now)
+    c.is_last.ensures c.if-is_last.false last)
+
+pub returns-clause-grants : goal.returns-clause-grants
+returns-clause-grants g c = none_granted _ refl refl _ _
+    (ap (λ (h : Hand g.row.R.Denot). group_steps h) c.forget-2.ensures.same.hand)
 
 pub returns-clause-unlent : goal.returns-clause-unlent
 returns-clause-unlent g c = λ l. ((c.forget-2.ensures.loans c.args.tag).0 l).1 refl
