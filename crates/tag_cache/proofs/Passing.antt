@@ -19,7 +19,6 @@ use Rattle.tag_cache.specs.Caches.{KeepsNone}
 use Rattle.tag_cache.specs.Changes.{KeepsSame}
 use Rattle.tag_cache.specs.Slots.{PostsLast}
 use Rattle.tag_cache.specs.Tallies.{Tallies}
-use Rattle.tag_cache.proofs.Carrying.{none_after}
 use Rattle.tag_cache.proofs.Tallying.{Moves, moves_in, moves_tallies, unchanged_tallies}
 
 module _ {R : Type 0} where
@@ -53,13 +52,12 @@ module _ {R : Type 0} where
     posted_tallies (Ok u) p e = moves_tallies 0 0 old new keeps (posts_moves tag old.hand new.hand p)
     posted_tallies (Err x) p e = unchanged_tallies old new (record { hand = e; kept = keeps })
 
-    -- where nothing is kept, nothing has to go back first
-    pub last_on : (tags : Tags R) → KeepsNone old → (r : Result (Unit {0}) TagFault)
-        → OnOk r (Posts tag old.hand new.hand) → OnOk r (PostsLast tags tag 0 old new)
-    last_on tags none (Ok u) p = record {
-      between = old.hand;
-      gives = record { none = λ _. (refl, refl); some = λ s. absurd (s none) };
-      posts = p;
-      none = none_after old new none keeps;
-    }
-    last_on tags none (Err e) p = tt
+  -- where nothing is kept, nothing has to go back first
+  pub last_on : (tags : Tags R) (tag : ℕ) (old new : Cache R) → KeepsNone old → (r : Result (Unit {0}) TagFault)
+      → OnOk r (Posts tag old.hand new.hand) → OnOk r (PostsLast tags tag 0 old new)
+  last_on tags tag old new none (Ok u) p = record {
+    between = old.hand;
+    gives = record { none = λ _. (refl, refl); some = λ s. absurd (s none) };
+    posts = p;
+  }
+  last_on tags tag old new none (Err e) p = tt

@@ -31,3 +31,7 @@ module _ {R : Type 0} (old mid : Cache R) (e : mid ≡ old) (none : KeepsNone ol
 
   pub none_and : (A : Type 0) (B : Hand R → Type 0) → (A ↔ B mid.hand) → A ↔ (KeepsNone old × B old.hand)
   none_and A B says = ((λ a. (none, (as_hand A B says).0 a)), (λ n. (as_hand A B says).1 n.1))
+
+  -- what the call of the hand lent
+  pub lent_after : (P : Cache R → Type 0) → (KeepsNone mid → P mid) → P old
+  lent_after P says = subst (λ (x : Cache R). P x) e (says (subst (λ (x : Cache R). KeepsNone x) (sym e) none))

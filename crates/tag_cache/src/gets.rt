@@ -6,10 +6,10 @@ ghost use Rattle.tag_sets.specs.Waits as hand_waits;
 ghost use Rattle.tag_sets.specs.Gets.{IsAnswer, IsOrdinaryTag};
 ghost use Rattle.tag_sets.specs.declared.kind.Kind.TheVariants.{Ordinary, Reserved};
 ghost use Rattle.tag_cache.specs.Caches.{IsCacheOf, KeepsNone, hand_of};
-ghost use Rattle.tag_cache.specs.Changes.{IsUnchanged, KeepsSame};
+ghost use Rattle.tag_cache.specs.Changes.{IsUnchanged, KeepsSame, SameWindow, Lends};
 ghost use Rattle.tag_cache.specs.Holding.{HoldsMore};
 ghost use Rattle.tag_cache.specs.Tallies.{Tallies, answered};
-ghost use Rattle.tag_cache.specs.Gets.{Gets, WaitsFor};
+ghost use Rattle.tag_cache.specs.Gets.{Gets, WaitsFor, LendsAnswer};
 
 use crate::cache::Cache;
 use std::sync::Wait;
@@ -24,6 +24,7 @@ impl<R: Copy> Cache<R> {
         ensures cache { IsCacheOf tags.now self.new }
         ensures spent { (result ≡ Err TagFault.Spent) ↔ (KeepsNone self.old × ¬ (HasRoom (hand_of self.old) Ordinary 1)) }
         ensures gets { IfOk result (λ answer. Gets tags.now answer self.old self.new) }
+        ensures loans { IfOk result (λ answer. LendsAnswer answer self.old self.new) }
         ensures tally { IfOk result (λ answer. Tallies (answered answer) 0 self.old self.new) }
         ensures err { IfErr result (λ fault. (fault ≡ TagFault.Spent) × IsUnchanged self.old self.new) }
     {
@@ -41,7 +42,8 @@ impl<R: Copy> Cache<R> {
         ensures room { IsOk result ↔ HasRoom (hand_of self.old) Ordinary 1 }
         ensures gets { IfOk result (λ answer. hands.Gets tags.now answer (hand_of self.old) (hand_of self.new)) }
         ensures kept { KeepsSame self.old self.new }
-        ensures err { IfErr result (λ fault. (fault ≡ TagFault.Spent) × (hand_of self.new ≡ hand_of self.old)) }
+        ensures loans { KeepsNone self.old → IfOk result (λ answer. LendsAnswer answer self.old self.new) }
+        ensures err { IfErr result (λ fault. (fault ≡ TagFault.Spent) × IsUnchanged self.old self.new) }
     {
         let Some(tag) = tags.get(&mut self.hand)? else {
             return Ok(None);
@@ -63,6 +65,7 @@ impl<R: Copy> Cache<R> {
         ensures more { IfOk result (λ answer. HoldsMore (IsAnswer answer) self.old self.new) }
         ensures reserved { IfOk result (λ answer. (tag : ℕ) → IsAnswer answer tag → tag < reserved_of tags.now) }
         ensures kept { KeepsSame self.old self.new }
+        ensures window { SameWindow self.old self.new }
         ensures tally { IfOk result (λ answer. Tallies (answered answer) 0 self.old self.new) }
         ensures err { OnErr result (IsUnchanged self.old self.new) }
     {
@@ -89,6 +92,7 @@ impl<R: Copy> Cache<R> {
         ensures more { IfOk result (λ tag. HoldsMore (λ other. other ≡ tag) self.old self.new) }
         ensures ordinary { IfOk result (λ tag. IsOrdinaryTag tags.now tag) }
         ensures waits { IfOk result (λ tag. WaitsFor tags.now tag self.old self.new) }
+        ensures loans { IfOk result (λ tag. Lends tag self.old self.new) }
         ensures tally { OnOk result (Tallies 1 0 self.old self.new) }
         ensures err { OnErr result (IsUnchanged self.old self.new) }
     {
@@ -113,7 +117,8 @@ impl<R: Copy> Cache<R> {
         ensures gets { IfOk result (λ tag. hands.BlockingGets tags.now tag (hand_of self.old) (hand_of self.new)) }
         ensures waits { IfOk result (λ tag. hand_waits.WaitsFor tags.now tag (hand_of self.old) (hand_of self.new)) }
         ensures kept { KeepsSame self.old self.new }
-        ensures err { OnErr result (hand_of self.new ≡ hand_of self.old) }
+        ensures loans { KeepsNone self.old → IfOk result (λ tag. Lends tag self.old self.new) }
+        ensures err { OnErr result (IsUnchanged self.old self.new) }
     {
         let tag = tags.get_blocking(rt, &mut self.hand)?;
         self.lend(tag);

@@ -3,7 +3,7 @@ ghost use Rattle.std.specs.Prelude.{◌≡◌};
 ghost use mathlib.Core.Option.{some};
 ghost use Rattle.tag_sets.specs.Slots as hands;
 ghost use Rattle.tag_cache.specs.Caches.{IsCacheOf, IsLent, slot_of, hand_of};
-ghost use Rattle.tag_cache.specs.Changes.{KeepsSame};
+ghost use Rattle.tag_cache.specs.Changes.{KeepsSame, SameWindow};
 ghost use Rattle.tag_cache.specs.Holding.{HoldsSame, Writes};
 
 use crate::cache::Cache;
@@ -20,6 +20,7 @@ impl<R: Copy> Cache<R> {
         ensures reads { hands.Reads tag result (hand_of self.old) (hand_of self.new) }
         ensures same { HoldsSame self.old self.new }
         ensures kept { KeepsSame self.old self.new }
+        ensures window { SameWindow self.old self.new }
     {
         tags.read_held(&mut self.hand, tag)
     }
@@ -34,6 +35,7 @@ impl<R: Copy> Cache<R> {
         ensures writes { Writes tag value self.old self.new }
         ensures hand { hands.Writes tag value (hand_of self.old) (hand_of self.new) }
         ensures kept { KeepsSame self.old self.new }
+        ensures window { SameWindow self.old self.new }
     {
         tags.write_held(&mut self.hand, tag, value)
     }

@@ -5,7 +5,7 @@ ghost use Rattle.wake_book.specs.Grants.{AreGrantsOf};
 ghost use Rattle.tag_sets.specs.Hands.{total_of, group_steps};
 ghost use Rattle.tag_sets.specs.Slots as hands;
 ghost use Rattle.tag_cache.specs.Caches.{IsCacheOf, IsLast, IsLent, KeepsNone, Holds, slot_of, hand_of};
-ghost use Rattle.tag_cache.specs.Changes.{IsUnchanged, KeepsSame, SameTerms};
+ghost use Rattle.tag_cache.specs.Changes.{IsUnchanged, KeepsSame, SameHand, SameTerms, SameWindow, LendsLess};
 ghost use Rattle.tag_cache.specs.Clears.{GivesKept};
 ghost use Rattle.tag_cache.specs.Holding.{HoldsLess, HoldsMore, HoldsSame, Writes};
 ghost use Rattle.tag_cache.specs.Slots.{PostsLast};
@@ -29,6 +29,7 @@ impl<R: Copy> Cache<R> {
         ensures reads { IfOk result (λ value. hands.Reads tag value (hand_of self.old) (hand_of self.new)) }
         ensures same { OnOk result (HoldsSame self.old self.new) }
         ensures kept { KeepsSame self.old self.new }
+        ensures window { SameWindow self.old self.new }
         ensures err { OnErr result (IsUnchanged self.old self.new) }
     {
         if self.lends(tag) {
@@ -53,6 +54,7 @@ impl<R: Copy> Cache<R> {
         ensures writes { OnOk result (Writes tag value self.old self.new) }
         ensures hand { OnOk result (hands.Writes tag value (hand_of self.old) (hand_of self.new)) }
         ensures kept { KeepsSame self.old self.new }
+        ensures window { SameWindow self.old self.new }
         ensures err { OnErr result (IsUnchanged self.old self.new) }
     {
         if self.lends(tag) {
@@ -78,8 +80,10 @@ impl<R: Copy> Cache<R> {
         ensures less { OnOk result (HoldsLess (λ other. other ≡ tag) self.old self.new) }
         ensures kept { ¬ (IsLast tag self.old) → KeepsSame self.old self.new }
         ensures posts { ¬ (IsLast tag self.old) → OnOk result (hands.Posts tag (hand_of self.old) (hand_of self.new)) }
-        ensures last { IsLast tag self.old → OnOk result ((woken : ℕ) × PostsLast tags.now tag woken self.old self.new) }
+        ensures last { IsLast tag self.old → OnOk result (KeepsNone self.new) }
+        ensures flushes { IsLast tag self.old → OnOk result ((woken : ℕ) × PostsLast tags.now tag woken self.old self.new) }
         ensures terms { SameTerms self.old self.new }
+        ensures loans { OnOk result (LendsLess tag self.old self.new) }
         ensures tally { Tallies 0 0 self.old self.new }
         ensures err { OnErr result (IsUnchanged self.old self.new) }
     {
@@ -101,9 +105,11 @@ impl<R: Copy> Cache<R> {
         ensures less { OnOk result (HoldsLess (λ other. other ≡ tag) self.old self.new) }
         ensures kept { ¬ (IsLast tag self.old) → KeepsSame self.old self.new }
         ensures posts { ¬ (IsLast tag self.old) → OnOk result (hands.Posts tag (hand_of self.old) (hand_of self.new)) }
-        ensures last { IsLast tag self.old → IfOk result (λ grants. PostsLast tags.now tag grants.woken self.old self.new) }
+        ensures last { IsLast tag self.old → OnOk result (KeepsNone self.new) }
+        ensures flushes { IsLast tag self.old → IfOk result (λ grants. PostsLast tags.now tag grants.woken self.old self.new) }
         ensures grants { IfOk result (λ grants. AreGrantsOf grants (group_steps (hand_of self.old)) (group_steps (hand_of self.new))) }
         ensures terms { SameTerms self.old self.new }
+        ensures loans { OnOk result (LendsLess tag self.old self.new) }
         ensures tally { Tallies 0 0 self.old self.new }
         ensures err { OnErr result (IsUnchanged self.old self.new) }
     {
@@ -125,9 +131,11 @@ impl<R: Copy> Cache<R> {
         ensures less { OnOk result (HoldsLess (λ other. other ≡ tag) self.old self.new) }
         ensures kept { ¬ (IsLast tag self.old) → KeepsSame self.old self.new }
         ensures posts { ¬ (IsLast tag self.old) → OnOk result (hands.Posts tag (hand_of self.old) (hand_of self.new)) }
-        ensures last { IsLast tag self.old → OnOk result (PostsLast tags.now tag 0 self.old self.new) }
+        ensures last { IsLast tag self.old → OnOk result (KeepsNone self.new) }
+        ensures flushes { IsLast tag self.old → OnOk result (PostsLast tags.now tag 0 self.old self.new) }
         ensures steps { OnOk result (group_steps (hand_of self.new) ≡ group_steps (hand_of self.old)) }
         ensures terms { SameTerms self.old self.new }
+        ensures loans { OnOk result (LendsLess tag self.old self.new) }
         ensures tally { Tallies 0 0 self.old self.new }
         ensures err { OnErr result (IsUnchanged self.old self.new) }
     {
@@ -145,9 +153,11 @@ impl<R: Copy> Cache<R> {
         ensures less { HoldsLess (λ other. other ≡ tag) self.old self.new }
         ensures kept { ¬ (IsLast tag self.old) → KeepsSame self.old self.new }
         ensures posts { ¬ (IsLast tag self.old) → hands.Posts tag (hand_of self.old) (hand_of self.new) }
-        ensures last { IsLast tag self.old → PostsLast tags.now tag result.woken self.old self.new }
+        ensures last { IsLast tag self.old → KeepsNone self.new }
+        ensures flushes { IsLast tag self.old → PostsLast tags.now tag result.woken self.old self.new }
         ensures grants { AreGrantsOf result (group_steps (hand_of self.old)) (group_steps (hand_of self.new)) }
         ensures terms { SameTerms self.old self.new }
+        ensures loans { LendsLess tag self.old self.new }
         ensures tally { Tallies 0 0 self.old self.new }
     {
         let grants = self.release(tags, tag);
@@ -163,10 +173,10 @@ impl<R: Copy> Cache<R> {
         requires { IsCacheOf tags.now self.old }
         ensures cache { IsCacheOf tags.now self.new }
         ensures same { HoldsSame self.old self.new }
-        ensures unlent { ¬ (IsLent self.new tag) }
-        ensures kept { ¬ (IsLast tag self.old) → IsUnchanged self.old self.new }
-        ensures last { IsLast tag self.old → GivesKept tags.now result.woken self.old (hand_of self.old) (hand_of self.new) }
-        ensures none { IsLast tag self.old → KeepsNone self.new }
+        ensures loans { LendsLess tag self.old self.new }
+        ensures kept { ¬ (IsLast tag self.old) → SameHand self.old self.new }
+        ensures last { IsLast tag self.old → KeepsNone self.new }
+        ensures flushes { IsLast tag self.old → GivesKept tags.now result.woken self.old (hand_of self.old) (hand_of self.new) }
         ensures grants { AreGrantsOf result (group_steps (hand_of self.old)) (group_steps (hand_of self.new)) }
         ensures terms { SameTerms self.old self.new }
         ensures tally { Tallies 0 0 self.old self.new }
@@ -190,6 +200,7 @@ impl<R: Copy> Cache<R> {
         ensures more { OnOk result (HoldsMore (λ other. other ≡ tag) self.old self.new) }
         ensures takes { OnOk result (hands.Takes tag (hand_of self.old) (hand_of self.new)) }
         ensures kept { KeepsSame self.old self.new }
+        ensures window { SameWindow self.old self.new }
         ensures refuses { IfErr result (λ fault. hands.RefusesTake tag fault (hand_of self.old) (hand_of self.new)) }
         ensures same { OnErr result (HoldsSame self.old self.new) }
     {

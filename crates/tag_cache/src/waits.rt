@@ -5,7 +5,7 @@ ghost use Rattle.tag_sets.specs.Hands.{standing_of, wait_index_of, group_steps};
 ghost use Rattle.tag_sets.specs.Waits as hands;
 ghost use Rattle.tag_sets.specs.Waits.{Leaves, StandsOn};
 ghost use Rattle.tag_cache.specs.Caches.{IsCacheOf, hand_of};
-ghost use Rattle.tag_cache.specs.Changes.{IsUnchanged, SameTerms};
+ghost use Rattle.tag_cache.specs.Changes.{IsUnchanged, SameTerms, SameWindow};
 ghost use Rattle.tag_cache.specs.Holding.{HoldsSame};
 ghost use Rattle.tag_cache.specs.Same.{SameTags};
 ghost use Rattle.tag_cache.specs.Tallies.{Tallies};
@@ -26,6 +26,7 @@ impl<R: Copy> Cache<R> {
         ensures same { HoldsSame self.old self.new }
         ensures tally { Tallies 0 0 self.old self.new }
         ensures terms { SameTerms self.old self.new }
+        ensures window { SameWindow self.old self.new }
         ensures err { IfErr result (λ fault. (fault ≡ TagFault.Waiting) × IsUnchanged self.old self.new) }
     {
         let (group, grants) = self.prepare_wait_granted(tags)?;
@@ -45,6 +46,7 @@ impl<R: Copy> Cache<R> {
         ensures same { HoldsSame self.old self.new }
         ensures tally { Tallies 0 0 self.old self.new }
         ensures terms { SameTerms self.old self.new }
+        ensures window { SameWindow self.old self.new }
         ensures err { IfErr result (λ fault. (fault ≡ TagFault.Waiting) × IsUnchanged self.old self.new) }
     {
         if self.hand.is_waiting() {

@@ -1,10 +1,11 @@
 -- A kept tag, or one that the hand gains.
-use Rattle.std.proofs.Common.{◌≡◌, ◌<◌, inl, None}
+use Rattle.std.proofs.Common.{◌≡◌, ◌<◌, IfOk, inl, None}
 use Rattle.std.specs.Prelude.{IsOk, IsSome}
 use Rattle.tag_sets.specs.Hands.{HasRoom, reserved_of, standing_of, total_of}
 use Rattle.tag_sets.specs.declared.kind.Kind.TheVariants.{Ordinary}
+use Rattle.tag_cache.specs.Changes.{Lends}
 use Rattle.tag_cache.proofs.Carrying.{blocking_after}
-use Rattle.tag_cache.proofs.Waiting.{waited_for, as_hand, none_and}
+use Rattle.tag_cache.proofs.Waiting.{waited_for, as_hand, none_and, lent_after}
 use Rattle.tag_cache.proofs.Reusing.{taken}
 use Rattle.tag_cache.proofs.Tallying.{reuse_tallies, blocking_tallies}
 use Rattle.tag_cache.proofs.cache.Cache.get_blocking.Goals as goal
@@ -63,3 +64,10 @@ pub returns-clause-succeeds : goal.returns-clause-succeeds
 returns-clause-succeeds g c = λ none. as_hand c.args.self.now c.reuse.new.self c.in_default.ensures.1 c.in_default.ensures.0
     _ (λ h. (reserved_of c.args.tags.now < total_of c.args.tags.now) × (standing_of h ≡ None) × HasRoom h Ordinary 1)
     c.wait_for.ensures.succeeds
+
+pub returns-in-Some-clause-loans : goal.returns-in-Some-clause-loans
+returns-in-Some-clause-loans g c = c.in-Some.ensures.lends
+
+pub returns-clause-loans : goal.returns-clause-loans
+returns-clause-loans g c = lent_after c.args.self.now c.reuse.new.self c.in_default.ensures.1 c.in_default.ensures.0
+    (λ x. IfOk c.wait_for.result (λ tag. Lends tag x c.wait_for.new.self)) c.wait_for.ensures.loans

@@ -4,6 +4,7 @@ use Rattle.std.proofs.Common.{◌∙◌}
 use Rattle.tag_sets.specs.Hands.{standing_of}
 use Rattle.tag_cache.proofs.Carrying.{not_true, same_then_same}
 use Rattle.tag_cache.proofs.Granting.{then_enters}
+use Rattle.tag_cache.proofs.Looking.{window_twice}
 use Rattle.tag_cache.proofs.Standing.{in_none, stands_after}
 use Rattle.tag_cache.proofs.cache.Cache.prepare_wait_granted.Goals as goal
 
@@ -30,3 +31,7 @@ returns-clause-grants g c = then_enters c.flush_granted-grants.result c.enter.re
 pub returns-clause-same : goal.returns-clause-same
 returns-clause-same g c = same_then_same c.args.self.now c.flush_granted-grants.new.self c.enter.new.self c.flush_granted-grants.ensures.same
     c.enter.ensures.same.held
+
+pub returns-clause-window : goal.returns-clause-window
+returns-clause-window g c = window_twice c.args.self.now c.flush_granted-grants.new.self c.enter.new.self
+    c.flush_granted-grants.ensures.window c.enter.ensures.same.window
