@@ -1,6 +1,6 @@
 -- A kept tag, or one that the hand gains.
 use Rattle.std.proofs.Common.{◌≡◌, ◌<◌, IfOk, inl, None}
-use Rattle.std.specs.Prelude.{IsOk, IsSome}
+use Rattle.std.specs.Prelude.{IsSome}
 use Rattle.tag_sets.specs.Hands.{HasRoom, reserved_of, standing_of, total_of}
 use Rattle.tag_sets.specs.declared.kind.Kind.TheVariants.{Ordinary}
 use Rattle.tag_cache.specs.Changes.{Lends}
