@@ -14,7 +14,7 @@ use Rattle.tag_sets.specs.Gets.{IsAnswer, IsOrdinaryTag}
 use Rattle.tag_cache.specs.declared.cache.Cache.{Cache}
 use Rattle.tag_cache.specs.Windows.{IsIn, AreOwn}
 use Rattle.tag_cache.specs.Caches.{IsKept, KeepsNone, Holds}
-use Rattle.tag_cache.specs.Changes.{KeepsSame, IsUnchanged}
+use Rattle.tag_cache.specs.Changes.{KeepsSame, SameHand}
 use Rattle.tag_cache.specs.Holding.{HoldsMore, HoldsLess, HoldsSame, Writes, IsLeftWith}
 
 -- what a test that failed says
@@ -170,7 +170,7 @@ module _ {R : Type 0} where
   none_after mid new none keeps = λ tag k. none tag (kept_before mid new keeps tag k)
 
   -- what a cache that keeps the same tags, with the same hand, is for the user
-  pub same_user : (old new : Cache R) → IsUnchanged old new → HoldsSame old new
+  pub same_user : (old new : Cache R) → SameHand old new → HoldsSame old new
   same_user old new u = same old new u.kept (unchanged_hand old.hand new.hand u.hand)
 
   pub same_then_more : (a b c : Cache R) (named : ℕ → Type 0) → HoldsSame a b → HoldsMore named b c

@@ -4,7 +4,7 @@ use Rattle.std.specs.Prelude.{count_ones}
 use Rattle.std.proofs.lemmas.Nat.{ones_le_self}
 use Rattle.tag_cache.specs.declared.cache.Cache.{Cache}
 use Rattle.tag_cache.specs.Caches.{IsKept, IsLast, IsWithin, IsFixed, KeepsNone, CanBeKept, HasNoPlace, count_of, reused_of}
-use Rattle.tag_cache.specs.Changes.{IsUnchanged, KeepsOnly, MayKeep, SameTerms}
+use Rattle.tag_cache.specs.Changes.{SameHand, KeepsOnly, MayKeep, SameTerms, LendsLess}
 use Rattle.tag_cache.proofs.Looking.{same_loans}
 use Rattle.tag_cache.proofs.Reusing.{none_kept}
 
@@ -13,13 +13,30 @@ module _ {R : Type 0} where
   none_counted cache none = let same : count_of cache ≡ count_ones 0 = ap count_ones (none_kept cache none) in
       let zero = ones_le_self 0 in omega arith
 
-  module _ (tag : ℕ) (old mid new : Cache R) (u : IsUnchanged old mid) (none : KeepsNone old) (can : CanBeKept tag old)
+  module _ (tag : ℕ) (old mid new : Cache R) (u : SameHand old mid) (none : KeepsNone old) (can : CanBeKept tag old)
       (aimed : IsWithin mid tag ⊎ ((mid ≡ old) × IsFixed old)) where
     -- the window is at the tag
     within : IsWithin mid tag
     within = ⊎_elim (λ (w : IsWithin mid tag). w)
         (λ (e : (mid ≡ old) × IsFixed old). subst (λ (x : Cache R). IsWithin x tag) (sym e.0)
         (⊎_elim (λ (some : ¬ (KeepsNone old)). absurd (some none)) (λ careful. can.within careful) e.1)) aimed
+
+    -- so there is a place for the tag
+    has_place : ¬ (MayKeep tag false mid new)
+    has_place k = let zero = none_counted old none in let count = u.kept.count in let most = u.kept.terms.most in
+        let reused = u.kept.reused in let some = can.some in let alive = can.alive in ⊎_elim
+        (λ (full : HasNoPlace tag mid). ⊎_elim (λ (m : mid.most ≤ count_of mid). absurd (omega arith))
+        (λ o. absurd (o.0 within)) full)
+        (λ (never : ¬ (CanBeKept tag mid)). absurd (never (record {
+          some = omega arith;
+          alive = omega arith;
+          within = λ careful. within;
+        }))) k.1
+
+    -- the user is known to hold the same tags but this one, if the window did not move
+    pub less_after : mid ≡ old → (kept : Bool) → MayKeep tag kept mid new → LendsLess tag old new
+    less_after e true k = subst (λ (x : Cache R). LendsLess tag x new) e k.0.loans
+    less_after e false k = absurd (has_place k)
 
     pub only_after : (kept : Bool) → MayKeep tag kept mid new → KeepsOnly tag old new
     only_after true k = let zero = none_counted old none in let count = u.kept.count in
@@ -36,16 +53,7 @@ module _ {R : Type 0} where
           };
           reused = k.0.also.reused ∙ u.kept.reused;
         }
-    only_after false k = let zero = none_counted old none in let count = u.kept.count in
-        let most = u.kept.terms.most in let reused = u.kept.reused in let some = can.some in let alive = can.alive in
-        ⊎_elim
-        (λ (full : HasNoPlace tag mid). ⊎_elim (λ (m : mid.most ≤ count_of mid). absurd (omega arith))
-        (λ o. absurd (o.0 within)) full)
-        (λ (never : ¬ (CanBeKept tag mid)). absurd (never (record {
-          some = omega arith;
-          alive = omega arith;
-          within = λ careful. within;
-        }))) k.1
+    only_after false k = absurd (has_place k)
 
   module _ (tag : ℕ) (old mid : Cache R) (terms : SameTerms old mid) (reused : reused_of mid ≡ reused_of old)
       (first : mid.first ≡ old.first) where

@@ -1,5 +1,6 @@
 -- Grants of calls that were made one after the other.
-use Rattle.std.proofs.Common.{arith, ◌≡◌, ℕ, ◌∷◌, List, Option, ap, subst}
+use Rattle.std.proofs.Common.{arith, ◌≡◌, ℕ, ◌∷◌, List, Option, get_or, replicate, sum, sym, ap, ◌∙◌, subst}
+use Rattle.std.proofs.lemmas.List.{get_or-replicate}
 use Rattle.step_ledger.specs.History.{total}
 use Rattle.wake_book.specs.declared.grants.Grants.{Grants}
 use Rattle.wake_book.specs.declared.steps.GroupStep.{GroupStep}
@@ -8,6 +9,7 @@ use Rattle.wake_book.specs.Grants.{AreGrantsOf, granted_in}
 use Rattle.wake_book.specs.Waits.{active_at, moved_by}
 use Rattle.tag_sets.specs.declared.hand.Hand.{Hand}
 use Rattle.tag_sets.specs.Hands.{group_steps}
+use Rattle.tag_sets.specs.Waits.{Enters}
 use Rattle.tag_cache.specs.Granted.{AreGranted}
 
 -- a look at the active count grants nothing
@@ -17,6 +19,16 @@ grants_after grants found old mid new e g = let all = g.all in let looked = ap (
   each = λ group low. let is = g.each group low in let same = ap (total (granted_in group)) e in omega arith;
   all = omega arith;
   sum_is = g.sum_is;
+}
+
+-- no grants, of a list that is as it was
+pub none_granted : (grants : Grants) → grants.woken ≡ 0 → grants.in_group ≡ replicate 8 0 → (old new : List GroupStep)
+    → new ≡ old → AreGrantsOf grants old new
+none_granted grants none zeros old new e = let all = ap (total moved_by) e in let empty = ap sum zeros in record {
+  each = λ group low. let zero = ap (λ (xs : List ℕ). get_or xs group 0) zeros ∙ get_or-replicate 8 group 0 0 low in
+      let same = ap (total (granted_in group)) e in omega arith;
+  all = omega arith;
+  sum_is = none ∙ sym empty;
 }
 
 module _ {R : Type 0} where
@@ -33,3 +45,18 @@ module _ {R : Type 0} where
   pub granted_same : (grants : Option Grants) (a b c : Hand R) → b ≡ a
       → AreGranted grants (group_steps b) (group_steps c) → AreGranted grants (group_steps a) (group_steps c)
   granted_same grants a b c e g = subst (λ (x : Hand R). AreGranted grants (group_steps x) (group_steps c)) e g
+
+  -- a hand that then enters a wait group
+  pub then_enters : (grants : Grants) (group : ℕ) (a b c : Hand R) → AreGrantsOf grants (group_steps a) (group_steps b)
+      → Enters group b c → AreGrantsOf grants (group_steps a) (group_steps c)
+  then_enters grants group a b c g e = let all = g.all in
+      let entered = ap (total moved_by) e.set.changed.steps in record {
+        each = λ n low. let is = g.each n low in let same = ap (total (granted_in n)) e.set.changed.steps in omega arith;
+        all = omega arith;
+        sum_is = g.sum_is;
+      }
+
+  -- a hand that then makes no step on the groups
+  pub then_same : (grants : Grants) (a b c : Hand R) → AreGrantsOf grants (group_steps a) (group_steps b)
+      → group_steps c ≡ group_steps b → AreGrantsOf grants (group_steps a) (group_steps c)
+  then_same grants a b c g e = subst (λ (s : List GroupStep). AreGrantsOf grants (group_steps a) s) (sym e) g

@@ -18,3 +18,4 @@ pub mod Steady
 pub mod Standing
 pub mod Gaining
 pub mod Listing
+pub mod Passing

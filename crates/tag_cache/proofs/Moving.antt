@@ -5,7 +5,7 @@ use Rattle.tag_sets.specs.declared.tags.Tags.{Tags}
 use Rattle.tag_cache.specs.declared.cache.Cache.{Cache}
 use Rattle.tag_cache.specs.declared.keeping.Keeping.TheVariants.{WhileHolding}
 use Rattle.tag_cache.specs.Caches.{IsKept, IsLast, KeepsNone, HasNoPlace, CanBeKept, keeping_of}
-use Rattle.tag_cache.specs.Changes.{KeepsSame, KeepsAlso, KeepsOnly, IsUnchanged}
+use Rattle.tag_cache.specs.Changes.{KeepsSame, KeepsAlso, KeepsOnly, SameHand}
 use Rattle.tag_cache.specs.Clears.{LooksOnce, KeptUnseen, KeptInstead, GoesAlone, GoesWithKept, GoesWithAll, GoesLast, GoesOrdinary}
 use Rattle.tag_cache.proofs.Carrying.{keeps_twice}
 use Rattle.tag_cache.proofs.Giving.{kept_from}
@@ -33,7 +33,7 @@ only_from tag old mid new s o = record {
   reused = o.reused ∙ s.reused;
 }
 
-module _ {R : Type 0} (tags : Tags R) (tag woken : ℕ) (old mid new : Cache R) (u : IsUnchanged old mid)
+module _ {R : Type 0} (tags : Tags R) (tag woken : ℕ) (old mid new : Cache R) (u : SameHand old mid)
     (moved : KeepsNone old ⊎ (mid ≡ old)) (careful : keeping_of old ≡ WhileHolding → mid ≡ old) where
   side : (KeepsNone old × KeepsNone mid) ⊎ (mid ≡ old)
   side = ⊎_elim (λ (n : KeepsNone old). inl (n, λ t k. n t ((u.kept.kept t).0 k))) (λ (e : mid ≡ old). inr e) moved

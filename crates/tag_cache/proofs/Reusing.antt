@@ -15,7 +15,7 @@ use Rattle.tag_cache.specs.declared.cache.Cache.{Cache}
 use Rattle.tag_cache.specs.declared.keeping.Keeping.TheVariants.{WhileHolding}
 use Rattle.tag_cache.specs.Windows.{IsIn}
 use Rattle.tag_cache.specs.Caches.{IsKept, IsLent, IsLast, IsWithin, KeepsNone, KeepsWithCare, Holds, split_of}
-use Rattle.tag_cache.specs.Changes.{KeepsSame, IsUnchanged, KeepsAlso, TakesLeast, Pops, Reuses}
+use Rattle.tag_cache.specs.Changes.{KeepsSame, SameHand, KeepsAlso, TakesLeast, Pops, Reuses}
 use Rattle.tag_cache.specs.Gets.{Gets}
 use Rattle.tag_cache.specs.Holding.{HoldsMore, HoldsLess}
 use Rattle.tag_cache.proofs.Below.{held_below}
@@ -105,7 +105,7 @@ module _ {R : Type 0} where
   none_kept cache none = emptied cache.first cache.kept cache.wide.0 none
 
   -- what an unchanged cache has in common with the former one
-  pub held_still : (old new : Cache R) (tag : ℕ) → IsUnchanged old new → Holds old tag → Holds new tag
+  pub held_still : (old new : Cache R) (tag : ℕ) → SameHand old new → Holds old tag → Holds new tag
   held_still old new tag u h = (
     subst (λ (x : Hand R). hands.Holds x tag) (sym u.hand) h.0,
     λ k. h.1 ((u.kept.kept tag).0 k),

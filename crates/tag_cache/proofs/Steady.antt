@@ -28,7 +28,7 @@ use Rattle.tag_sets.specs.Meeting.{IsUnchanged}
 use Rattle.tag_sets.specs.Waits as hand_waits
 use Rattle.tag_cache.specs.declared.cache.Cache.{Cache}
 use Rattle.tag_cache.specs.Windows.{IsIn, AreOwn}
-use Rattle.tag_cache.specs.Changes.{KeepsSame}
+use Rattle.tag_cache.specs.Changes.{KeepsSame, SameWindow}
 use Rattle.tag_cache.specs.Same.{SameTags}
 use Rattle.tag_cache.proofs.Carrying.{same, own_after}
 use Rattle.tag_cache.proofs.Tallying.{Moves, MovesAgent, moves_in, stays_moves}
@@ -147,10 +147,12 @@ module _ {R : Type 0} where
   own_rests tags first mask a b ha hb own r = own_after tags first mask a b ha hb own
       (λ tag h (i : IsIn first mask tag). (r.held.kept tag h).0)
 
-  pub same_tags : (old new : Cache R) → KeepsSame old new → Rests old.hand new.hand → SameTags old new
-  same_tags old new keeps r = let w = r.moves.won_is in let k = r.moves.back_is in let again = keeps.reused in
+  pub same_tags : (old new : Cache R) → KeepsSame old new → SameWindow old new → Rests old.hand new.hand
+      → SameTags old new
+  same_tags old new keeps window r = let w = r.moves.won_is in let k = r.moves.back_is in let again = keeps.reused in
       let count = keeps.count in record {
         held = same old new keeps r.held;
         kept = keeps;
+        window = window;
         tally = record { handed = omega arith; taken = omega arith };
       }

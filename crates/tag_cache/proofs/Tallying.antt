@@ -25,7 +25,7 @@ use Rattle.tag_sets.specs.Tallies.{won_in_both, back_in_both}
 use Rattle.tag_sets.specs.Waits.{Stays}
 use Rattle.tag_sets.specs.declared.fault.TagFault.{TagFault}
 use Rattle.tag_cache.specs.declared.cache.Cache.{Cache}
-use Rattle.tag_cache.specs.Changes.{KeepsSame, IsUnchanged, Reuses}
+use Rattle.tag_cache.specs.Changes.{KeepsSame, SameHand, Reuses}
 use Rattle.tag_cache.specs.Tallies.{Tallies, answered}
 
 -- that many more tags were won and that many more given back
@@ -155,7 +155,7 @@ module _ {R : Type 0} where
   reserved_tallies tags old new s (Err e) g = tt
 
   -- an unchanged cache adds nothing
-  pub unchanged_tallies : (old new : Cache R) → IsUnchanged old new → Tallies 0 0 old new
+  pub unchanged_tallies : (old new : Cache R) → SameHand old new → Tallies 0 0 old new
   unchanged_tallies old new u = let w = ap (λ (h : Hand R). won_in_both h) u.hand in
       let k = ap (λ (h : Hand R). back_in_both h) u.hand in let reused = u.kept.reused in
       let count = u.kept.count in record { handed = omega arith; taken = omega arith }

@@ -1,7 +1,7 @@
 -- How the tags that are kept change, and those that the user is known to hold.
 use Rattle.std.specs.Prelude.{◌≡◌, ◌≢◌, ◌⊎◌, ◌↔◌, ℕ, ◌+◌, ◌≤◌, Bool, true, false}
 use Rattle.tag_cache.specs.declared.cache.Cache.{Cache}
-use Rattle.tag_cache.specs.Caches.{hand_of, count_of, most_of, keeping_of, reused_of, IsKept, IsLent, HasNoPlace, CanBeKept}
+use Rattle.tag_cache.specs.Caches.{hand_of, count_of, most_of, keeping_of, reused_of, IsKept, IsLent, IsWithin, KeepsNone, HasNoPlace, CanBeKept}
 
 -- as many tags may be kept, and when
 pub record SameTerms {R : Type 0} (old new : Cache R) : Type 0 where
@@ -15,19 +15,37 @@ pub record KeepsSame {R : Type 0} (old new : Cache R) : Type 0 where
   pub terms : SameTerms old new
   pub reused : reused_of new ≡ reused_of old
 
+-- the window is where it was, and the user is known to hold the same tags
+pub record SameWindow {R : Type 0} (old new : Cache R) : Type 0 where
+  pub place : (tag : ℕ) → IsWithin new tag ↔ IsWithin old tag
+  pub loans : (tag : ℕ) → IsLent new tag ↔ IsLent old tag
+
 -- the hand is as it was, and so is what is kept
-pub record IsUnchanged {R : Type 0} (old new : Cache R) : Type 0 where
+pub record SameHand {R : Type 0} (old new : Cache R) : Type 0 where
   pub hand : hand_of new ≡ hand_of old
   pub kept : KeepsSame old new
 
--- the user is known to hold the same tags
-abbrev pub SameLoans : {R : Type 0} → Cache R → Cache R → Type 0
-SameLoans old new = (tag : ℕ) → IsLent new tag ↔ IsLent old tag
+-- the hand is as it was, and so are what is kept and what the user is known to hold
+pub record IsUnchanged {R : Type 0} (old new : Cache R) : Type 0 where
+  pub hand : hand_of new ≡ hand_of old
+  pub kept : KeepsSame old new
+  pub window : SameWindow old new
+
+-- the user is known to hold this tag besides those that it was known to hold, unless none was kept and the window moved
+-- to it
+pub record Lends {R : Type 0} (tag : ℕ) (old new : Cache R) : Type 0 where
+  pub now : IsLent new tag
+  pub still : (KeepsNone old → IsWithin old tag) → (other : ℕ) → IsLent old other → IsLent new other
+  pub none_else : (other : ℕ) → IsLent new other → IsLent old other ⊎ (other ≡ tag)
+
+-- the user is known to hold the same tags but this one
+abbrev pub LendsLess : {R : Type 0} → ℕ → Cache R → Cache R → Type 0
+LendsLess tag old new = (other : ℕ) → IsLent new other ↔ (IsLent old other × other ≢ tag)
 
 -- it is no longer known that the user holds this tag, and nothing else changed
 pub record Forgets {R : Type 0} (tag : ℕ) (old new : Cache R) : Type 0 where
-  pub same : IsUnchanged old new
-  pub loans : (other : ℕ) → IsLent new other ↔ (IsLent old other × other ≢ tag)
+  pub same : SameHand old new
+  pub loans : LendsLess tag old new
 
 -- the least kept tag is kept no more
 pub record TakesLeast {R : Type 0} (tag : ℕ) (old new : Cache R) : Type 0 where
@@ -48,7 +66,7 @@ pub record Pops {R : Type 0} (tag : ℕ) (old new : Cache R) : Type 0 where
 -- the least kept tag is kept no more, but handed to the user, once more than before
 pub record Reuses {R : Type 0} (tag : ℕ) (old new : Cache R) : Type 0 where
   pub takes : TakesLeast tag old new
-  pub lent : IsLent new tag
+  pub lends : Lends tag old new
   pub reused : reused_of new ≡ reused_of old + 1
 
 -- this tag is kept besides the others, on the same terms, and none was handed out again
@@ -64,6 +82,7 @@ pub record KeepsAlso {R : Type 0} (tag : ℕ) (old new : Cache R) : Type 0 where
 pub record Keeps {R : Type 0} (tag : ℕ) (old new : Cache R) : Type 0 where
   pub hand : hand_of new ≡ hand_of old
   pub also : KeepsAlso tag old new
+  pub loans : LendsLess tag old new
 
 -- the tag is kept besides, or nothing changed, since there is no place for it or it may not be kept
 abbrev pub MayKeep : {R : Type 0} → ℕ → Bool → Cache R → Cache R → Type 0

@@ -1,12 +1,12 @@
 -- The effect of gets on the cache that makes them.
-use Rattle.std.specs.Prelude.{◌≡◌, ◌⊎◌, ℕ, Option, Some}
+use Rattle.std.specs.Prelude.{◌≡◌, ◌⊎◌, ℕ, Option, Some, None}
 use Rattle.tag_sets.specs.declared.tags.Tags.{Tags}
 use Rattle.tag_sets.specs.Gets.{IsAnswer, IsOrdinaryTag}
 use Rattle.tag_sets.specs.Gets as hands
 use Rattle.tag_sets.specs.Waits as hand_waits
 use Rattle.tag_cache.specs.declared.cache.Cache.{Cache}
 use Rattle.tag_cache.specs.Caches.{KeepsNone}
-use Rattle.tag_cache.specs.Changes.{KeepsSame, Reuses}
+use Rattle.tag_cache.specs.Changes.{KeepsSame, SameWindow, Lends, Reuses}
 use Rattle.tag_cache.specs.Holding.{HoldsMore}
 
 -- the answer is the least kept tag, by no step
@@ -38,3 +38,8 @@ pub record FromWaiting {R : Type 0} (tags : Tags R) (tag : ℕ) (old new : Cache
 -- where a tag comes from that a call waits for: it is the least kept one, by no step, or the hand waited for it
 abbrev pub WaitsFor : {R : Type 0} → Tags R → ℕ → Cache R → Cache R → Type 0
 WaitsFor tags tag old new = Reuses tag old new ⊎ FromWaiting tags tag old new
+
+-- the user is known to hold the tag returned, if there is one, and otherwise what it was known to hold
+abbrev pub LendsAnswer : {R : Type 0} → Option ℕ → Cache R → Cache R → Type 0
+LendsAnswer None old new = SameWindow old new
+LendsAnswer (Some tag) old new = Lends tag old new

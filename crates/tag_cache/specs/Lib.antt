@@ -7,5 +7,6 @@ pub mod Gets
 pub mod Clears
 pub mod Granted
 pub mod Same
+pub mod Slots
 pub mod Waits
 pub mod Batches

@@ -6,7 +6,7 @@ ghost use Rattle.tag_sets.specs.Gets as hands;
 ghost use Rattle.tag_sets.specs.Gets.{IsInRun, MiscountsBatch};
 ghost use Rattle.tag_cache.specs.Batches.{answered_run};
 ghost use Rattle.tag_cache.specs.Caches.{IsCacheOf, hand_of};
-ghost use Rattle.tag_cache.specs.Changes.{IsUnchanged, KeepsSame};
+ghost use Rattle.tag_cache.specs.Changes.{IsUnchanged, KeepsSame, SameWindow};
 ghost use Rattle.tag_cache.specs.Holding.{HoldsMore};
 ghost use Rattle.tag_cache.specs.Tallies.{Tallies};
 
@@ -33,6 +33,7 @@ impl<R: Copy> Cache<R> {
             → IfOk result (λ answer. hands.GetsBatch tags.now n answer (hand_of self.old) (hand_of self.new)) }
         ensures more { IfOk result (λ answer. HoldsMore (IsInRun answer) self.old self.new) }
         ensures kept { KeepsSame self.old self.new }
+        ensures window { SameWindow self.old self.new }
         ensures tally { IfOk result (λ answer. Tallies (answered_run answer) 0 self.old self.new) }
         ensures err { OnErr result (IsUnchanged self.old self.new) }
     {

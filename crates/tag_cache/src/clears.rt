@@ -3,8 +3,8 @@ ghost use Rattle.std.specs.Prelude.{◌≡◌, ◌⊎◌, ◌<◌, ◌≤◌, �
 ghost use Rattle.wake_book.specs.Grants.{AreGrantsOf};
 ghost use Rattle.wake_book.specs.declared.steps.GroupStep.{GroupStep};
 ghost use Rattle.tag_sets.specs.Hands.{total_of, group_steps};
-ghost use Rattle.tag_cache.specs.Caches.{IsCacheOf, Holds, IsLast, IsLent, IsWithin, IsFixed, KeepsNone, hand_of, split_of, reused_of};
-ghost use Rattle.tag_cache.specs.Changes.{IsUnchanged, KeepsSame, SameTerms};
+ghost use Rattle.tag_cache.specs.Caches.{IsCacheOf, Holds, IsLast, IsLent, IsWithin, IsFixed, KeepsNone, hand_of, split_of, keeping_of, reused_of};
+ghost use Rattle.tag_cache.specs.Changes.{IsUnchanged, KeepsSame, SameTerms, SameWindow, LendsLess};
 ghost use Rattle.tag_cache.specs.Holding.{HoldsLess};
 ghost use Rattle.tag_cache.specs.Tallies.{Tallies};
 ghost use Rattle.tag_cache.specs.Clears.{Goes, GoesOrdinary, MakesRoom, GivesOne, GivesWith};
@@ -12,6 +12,7 @@ ghost use Rattle.tag_cache.specs.Granted.{woken_in, AreGranted};
 
 use crate::cache::Cache;
 use crate::grants::both;
+use crate::keeping::Keeping;
 use tag_sets::{Grants, Kind, TagFault, Tags};
 use wake_book::NO_GRANTS;
 
@@ -30,6 +31,7 @@ impl<R: Copy> Cache<R> {
         ensures succeeds { Holds self.old tag → IsOk result }
         ensures less { OnOk result (HoldsLess (λ other. other ≡ tag) self.old self.new) }
         ensures way { IfOk result (λ woken. Goes tags.now tag woken self.old self.new) }
+        ensures loans { keeping_of self.old ≡ Keeping.WhileHolding → OnOk result (LendsLess tag self.old self.new) }
         ensures tally { OnOk result (Tallies 0 1 self.old self.new) }
         ensures err { OnErr result (IsUnchanged self.old self.new) }
     {
@@ -51,6 +53,7 @@ impl<R: Copy> Cache<R> {
         ensures succeeds { Holds self.old tag → IsOk result }
         ensures less { OnOk result (HoldsLess (λ other. other ≡ tag) self.old self.new) }
         ensures way { IfOk result (λ woken. Goes tags.now tag woken self.old self.new) }
+        ensures loans { keeping_of self.old ≡ Keeping.WhileHolding → OnOk result (LendsLess tag self.old self.new) }
         ensures tally { OnOk result (Tallies 0 1 self.old self.new) }
         ensures err { OnErr result (IsUnchanged self.old self.new) }
     {
@@ -69,6 +72,7 @@ impl<R: Copy> Cache<R> {
         ensures less { OnOk result (HoldsLess (λ other. other ≡ tag) self.old self.new) }
         ensures way { IfOk result (λ grants. Goes tags.now tag grants.woken self.old self.new) }
         ensures grants { IfOk result (λ grants. AreGrantsOf grants (group_steps (hand_of self.old)) (group_steps (hand_of self.new))) }
+        ensures loans { keeping_of self.old ≡ Keeping.WhileHolding → OnOk result (LendsLess tag self.old self.new) }
         ensures tally { OnOk result (Tallies 0 1 self.old self.new) }
         ensures err { OnErr result (IsUnchanged self.old self.new) }
     {
@@ -90,6 +94,7 @@ impl<R: Copy> Cache<R> {
         ensures less { OnOk result (HoldsLess (λ other. other ≡ tag) self.old self.new) }
         ensures way { IfOk result (λ grants. Goes tags.now tag grants.woken self.old self.new) }
         ensures grants { IfOk result (λ grants. AreGrantsOf grants (group_steps (hand_of self.old)) (group_steps (hand_of self.new))) }
+        ensures loans { keeping_of self.old ≡ Keeping.WhileHolding → OnOk result (LendsLess tag self.old self.new) }
         ensures tally { OnOk result (Tallies 0 1 self.old self.new) }
         ensures err { OnErr result (IsUnchanged self.old self.new) }
     {
@@ -107,6 +112,7 @@ impl<R: Copy> Cache<R> {
         ensures succeeds { IsOk result ↔ Holds self.old tag }
         ensures way { IfOk result (λ grants. Goes tags.now tag (woken_in grants) self.old self.new) }
         ensures grants { IfOk result (λ grants. AreGranted grants (group_steps (hand_of self.old)) (group_steps (hand_of self.new))) }
+        ensures loans { keeping_of self.old ≡ Keeping.WhileHolding → OnOk result (LendsLess tag self.old self.new) }
         ensures err { OnErr result (IsUnchanged self.old self.new) }
     {
         let kind = tags.find_held(&self.hand, tag)?;
@@ -128,6 +134,7 @@ impl<R: Copy> Cache<R> {
         ensures cache { IsCacheOf tags.now self.new }
         ensures way { GoesOrdinary tags.now tag (woken_in result) self.old self.new }
         ensures grants { AreGranted result (group_steps (hand_of self.old)) (group_steps (hand_of self.new)) }
+        ensures loans { keeping_of self.old ≡ Keeping.WhileHolding → LendsLess tag self.old self.new }
     {
         self.follow(tag);
         self.put(tags, tag)
@@ -144,6 +151,7 @@ impl<R: Copy> Cache<R> {
         ensures cache { IsCacheOf tags.now self.new }
         ensures way { GoesOrdinary tags.now tag (woken_in result) self.old self.new }
         ensures grants { AreGranted result (group_steps (hand_of self.old)) (group_steps (hand_of self.new)) }
+        ensures loans { keeping_of self.old ≡ Keeping.WhileHolding → LendsLess tag self.old self.new }
     {
         if tags.active(&mut self.hand) != 0 {
             return Some(self.give_all(tags, tag));
@@ -167,6 +175,7 @@ impl<R: Copy> Cache<R> {
         ensures cache { IsCacheOf tags.now self.new }
         ensures way { MakesRoom tags.now tag result.woken self.old self.new }
         ensures grants { AreGrantsOf result (group_steps (hand_of self.old)) (group_steps (hand_of self.new)) }
+        ensures loans { keeping_of self.old ≡ Keeping.WhileHolding → LendsLess tag self.old self.new }
     {
         if !self.can_keep(tag) {
             return self.give_alone(tags, tag);
@@ -184,6 +193,7 @@ impl<R: Copy> Cache<R> {
         ensures cache { IsCacheOf tags.now self.new }
         ensures gives { GivesWith tags.now tag result.woken self.old (hand_of self.old) (hand_of self.new) }
         ensures grants { AreGrantsOf result (group_steps (hand_of self.old)) (group_steps (hand_of self.new)) }
+        ensures loans { LendsLess tag self.old self.new }
         ensures none { KeepsNone self.new }
         ensures terms { SameTerms self.old self.new }
         ensures reused { reused_of self.new ≡ reused_of self.old }
@@ -202,6 +212,7 @@ impl<R: Copy> Cache<R> {
         ensures cache { IsCacheOf tags.now self.new }
         ensures gives { GivesOne tags.now tag result.woken (hand_of self.old) (hand_of self.new) }
         ensures grants { AreGrantsOf result (group_steps (hand_of self.old)) (group_steps (hand_of self.new)) }
+        ensures loans { LendsLess tag self.old self.new }
         ensures kept { KeepsSame self.old self.new }
         ensures few { result.woken ≤ 8 }
     {
@@ -219,6 +230,7 @@ impl<R: Copy> Cache<R> {
         ensures gives { GivesOne tags.now tag result.woken (hand_of self.old) (hand_of self.new) }
         ensures grants { AreGrantsOf result (group_steps (hand_of self.old)) (group_steps (hand_of self.new)) }
         ensures kept { KeepsSame self.old self.new }
+        ensures window { SameWindow self.old self.new }
         ensures few { result.woken ≤ 8 }
     {
         tags.clear_held(&mut self.hand, tag)

@@ -3,7 +3,7 @@ ghost use Rattle.std.specs.Prelude.{◌≡◌, ◌≤◌};
 ghost use Rattle.wake_book.specs.Grants.{AreGrantsOf};
 ghost use Rattle.tag_sets.specs.Hands.{IsHandOf, group_steps};
 ghost use Rattle.tag_cache.specs.Caches.{IsCacheOf, KeepsNone, hand_of, reused_of};
-ghost use Rattle.tag_cache.specs.Changes.{SameTerms, SameLoans};
+ghost use Rattle.tag_cache.specs.Changes.{SameTerms, SameWindow};
 ghost use Rattle.tag_cache.specs.Holding.{HoldsSame, IsLeftWith};
 ghost use Rattle.tag_cache.specs.Tallies.{Tallies};
 ghost use Rattle.tag_cache.specs.Clears.{GivesKept};
@@ -25,7 +25,7 @@ impl<R: Copy> Cache<R> {
         ensures tally { Tallies 0 0 self.old self.new }
         ensures terms { SameTerms self.old self.new }
         ensures reused { reused_of self.new ≡ reused_of self.old }
-        ensures loans { SameLoans self.old self.new }
+        ensures window { SameWindow self.old self.new }
         ensures few { result ≤ 8 }
     {
         let grants = self.flush_granted(tags);
@@ -44,7 +44,7 @@ impl<R: Copy> Cache<R> {
         ensures tally { Tallies 0 0 self.old self.new }
         ensures terms { SameTerms self.old self.new }
         ensures reused { reused_of self.new ≡ reused_of self.old }
-        ensures loans { SameLoans self.old self.new }
+        ensures window { SameWindow self.old self.new }
         ensures few { result.woken ≤ 8 }
     {
         self.give_kept(tags)

@@ -21,7 +21,7 @@ impl<R> Cache<R> {
 
 impl<R: Copy> Cache<R> {
     ghost use Rattle.tag_cache.specs.Caches.{IsCacheOf};
-    ghost use Rattle.tag_cache.specs.Changes.{KeepsSame};
+    ghost use Rattle.tag_cache.specs.Changes.{KeepsSame, SameWindow};
     ghost use Rattle.tag_cache.specs.Holding.{HoldsSame};
 
     /// Places the hand's hints as `Tags::place` does.
@@ -30,6 +30,7 @@ impl<R: Copy> Cache<R> {
         ensures cache { IsCacheOf tags.now self.new }
         ensures same { HoldsSame self.old self.new }
         ensures kept { KeepsSame self.old self.new }
+        ensures window { SameWindow self.old self.new }
         ensures hints { (kind : Kind) → hint_of (hand_of self.new) kind
             ≡ hint_in_part (queue_of tags.now kind) (agent_of (hand_of self.old) kind) }
         ensures hand { (kind : Kind) → SameButHint kind (hand_of self.old) (hand_of self.new) }

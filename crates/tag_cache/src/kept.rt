@@ -1,7 +1,7 @@
 //! Which tags are kept.
 ghost use Rattle.std.specs.Prelude.{◌≡◌, ◌⊎◌, ◌<◌, ◌≤◌, ◌^◌, ◌↔◌, IsTrue, MatchOption};
-ghost use Rattle.tag_cache.specs.Caches.{IsKept, IsWithin, IsFixed, IsLast, KeepsNone, KeepsWithCare, CanBeKept, Holds, most_of, count_of, split_of, hand_of};
-ghost use Rattle.tag_cache.specs.Changes.{Pops, Reuses, MayKeep, KeepsOnly};
+ghost use Rattle.tag_cache.specs.Caches.{IsKept, IsWithin, IsFixed, IsLast, KeepsNone, KeepsWithCare, CanBeKept, Holds, most_of, count_of, split_of, keeping_of, hand_of};
+ghost use Rattle.tag_cache.specs.Changes.{Pops, Reuses, MayKeep, KeepsOnly, LendsLess};
 
 use crate::cache::{Cache, MOST_REUSED, WINDOW};
 use crate::keeping::Keeping;
@@ -81,6 +81,7 @@ impl<R> Cache<R> {
         requires other { ¬ (IsLast tag self.old) }
         ensures hand { hand_of self.new ≡ hand_of self.old }
         ensures only { KeepsOnly tag self.old self.new }
+        ensures loans { keeping_of self.old ≡ Keeping.WhileHolding → LendsLess tag self.old self.new }
     {
         self.follow(tag);
         let _ = self.keep(tag);

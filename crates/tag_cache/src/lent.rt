@@ -1,8 +1,9 @@
 //! The slots of tags that the user is known to hold, which need no test.
 ghost use Rattle.std.specs.Prelude.{◌≡◌};
 ghost use mathlib.Core.Option.{some};
-ghost use Rattle.tag_cache.specs.Caches.{IsCacheOf, IsLent, slot_of};
-ghost use Rattle.tag_cache.specs.Changes.{KeepsSame};
+ghost use Rattle.tag_sets.specs.Slots as hands;
+ghost use Rattle.tag_cache.specs.Caches.{IsCacheOf, IsLent, slot_of, hand_of};
+ghost use Rattle.tag_cache.specs.Changes.{KeepsSame, SameWindow};
 ghost use Rattle.tag_cache.specs.Holding.{HoldsSame, Writes};
 
 use crate::cache::Cache;
@@ -16,8 +17,10 @@ impl<R: Copy> Cache<R> {
         requires lent { IsLent self.old tag }
         ensures cache { IsCacheOf tags.now self.new }
         ensures value { slot_of self.old tag ≡ some result }
+        ensures reads { hands.Reads tag result (hand_of self.old) (hand_of self.new) }
         ensures same { HoldsSame self.old self.new }
         ensures kept { KeepsSame self.old self.new }
+        ensures window { SameWindow self.old self.new }
     {
         tags.read_held(&mut self.hand, tag)
     }
@@ -30,7 +33,9 @@ impl<R: Copy> Cache<R> {
         ensures cache { IsCacheOf tags.now self.new }
         ensures former { slot_of self.old tag ≡ some result }
         ensures writes { Writes tag value self.old self.new }
+        ensures hand { hands.Writes tag value (hand_of self.old) (hand_of self.new) }
         ensures kept { KeepsSame self.old self.new }
+        ensures window { SameWindow self.old self.new }
     {
         tags.write_held(&mut self.hand, tag, value)
     }

@@ -5,7 +5,7 @@ ghost use Rattle.tag_sets.specs.Hands.{HasRoom, least_of};
 ghost use Rattle.tag_sets.specs.Gets as hands;
 ghost use Rattle.tag_sets.specs.Gets.{IsAnswer};
 ghost use Rattle.tag_cache.specs.Caches.{IsCacheOf, hand_of};
-ghost use Rattle.tag_cache.specs.Changes.{IsUnchanged, KeepsSame};
+ghost use Rattle.tag_cache.specs.Changes.{IsUnchanged, KeepsSame, SameWindow};
 ghost use Rattle.tag_cache.specs.Holding.{HoldsMore};
 ghost use Rattle.tag_cache.specs.Tallies.{Tallies, answered};
 
@@ -28,6 +28,7 @@ impl<R: Copy> Cache<R> {
         ensures gets { IfOk result (λ answer. hands.GetsShallow tags.now depth answer (hand_of self.old) (hand_of self.new)) }
         ensures more { IfOk result (λ answer. HoldsMore (IsAnswer answer) self.old self.new) }
         ensures kept { KeepsSame self.old self.new }
+        ensures window { SameWindow self.old self.new }
         ensures tally { IfOk result (λ answer. Tallies (answered answer) 0 self.old self.new) }
         ensures err { OnErr result (IsUnchanged self.old self.new) }
     {

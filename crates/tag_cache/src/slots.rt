@@ -1,11 +1,14 @@
 //! The slots of held tags, and how tags pass from thread to thread.
-ghost use Rattle.std.specs.Prelude.{◌≡◌, ◌<◌, ◌≤◌, ◌↔◌, IfOk, IfErr, IsOk, OnOk, OnErr};
+ghost use Rattle.std.specs.Prelude.{◌≡◌, ℕ, ◌<◌, ◌≤◌, ◌↔◌, IfOk, IfErr, IsOk, OnOk, OnErr};
 ghost use mathlib.Core.Option.{some};
-ghost use Rattle.tag_sets.specs.Hands.{total_of};
-ghost use Rattle.tag_sets.specs.Slots.{RefusesTake};
+ghost use Rattle.wake_book.specs.Grants.{AreGrantsOf};
+ghost use Rattle.tag_sets.specs.Hands.{total_of, group_steps};
+ghost use Rattle.tag_sets.specs.Slots as hands;
 ghost use Rattle.tag_cache.specs.Caches.{IsCacheOf, IsLast, IsLent, KeepsNone, Holds, slot_of, hand_of};
-ghost use Rattle.tag_cache.specs.Changes.{IsUnchanged, KeepsSame};
+ghost use Rattle.tag_cache.specs.Changes.{IsUnchanged, KeepsSame, SameHand, SameTerms, SameWindow, LendsLess};
+ghost use Rattle.tag_cache.specs.Clears.{GivesKept};
 ghost use Rattle.tag_cache.specs.Holding.{HoldsLess, HoldsMore, HoldsSame, Writes};
+ghost use Rattle.tag_cache.specs.Slots.{PostsLast};
 ghost use Rattle.tag_cache.specs.Tallies.{Tallies};
 
 use crate::cache::Cache;
@@ -23,8 +26,10 @@ impl<R: Copy> Cache<R> {
         ensures not_held { (result ≡ Err TagFault.NotHeld) ↔ ((tag < total_of tags.now) × ¬ (Holds self.old tag)) }
         ensures succeeds { Holds self.old tag → IsOk result }
         ensures value { IfOk result (λ value. slot_of self.old tag ≡ some value) }
+        ensures reads { IfOk result (λ value. hands.Reads tag value (hand_of self.old) (hand_of self.new)) }
         ensures same { OnOk result (HoldsSame self.old self.new) }
         ensures kept { KeepsSame self.old self.new }
+        ensures window { SameWindow self.old self.new }
         ensures err { OnErr result (IsUnchanged self.old self.new) }
     {
         if self.lends(tag) {
@@ -47,7 +52,9 @@ impl<R: Copy> Cache<R> {
         ensures succeeds { Holds self.old tag → IsOk result }
         ensures former { IfOk result (λ former. slot_of self.old tag ≡ some former) }
         ensures writes { OnOk result (Writes tag value self.old self.new) }
+        ensures hand { OnOk result (hands.Writes tag value (hand_of self.old) (hand_of self.new)) }
         ensures kept { KeepsSame self.old self.new }
+        ensures window { SameWindow self.old self.new }
         ensures err { OnErr result (IsUnchanged self.old self.new) }
     {
         if self.lends(tag) {
@@ -72,7 +79,12 @@ impl<R: Copy> Cache<R> {
         ensures succeeds { Holds self.old tag → IsOk result }
         ensures less { OnOk result (HoldsLess (λ other. other ≡ tag) self.old self.new) }
         ensures kept { ¬ (IsLast tag self.old) → KeepsSame self.old self.new }
+        ensures posts { ¬ (IsLast tag self.old) → OnOk result (hands.Posts tag (hand_of self.old) (hand_of self.new)) }
         ensures last { IsLast tag self.old → OnOk result (KeepsNone self.new) }
+        ensures flushes { IsLast tag self.old → OnOk result ((woken : ℕ) × PostsLast tags.now tag woken self.old self.new) }
+        ensures terms { SameTerms self.old self.new }
+        ensures loans { OnOk result (LendsLess tag self.old self.new) }
+        ensures tally { Tallies 0 0 self.old self.new }
         ensures err { OnErr result (IsUnchanged self.old self.new) }
     {
         let grants = self.post_granted(tags, tag)?;
@@ -92,7 +104,13 @@ impl<R: Copy> Cache<R> {
         ensures succeeds { Holds self.old tag → IsOk result }
         ensures less { OnOk result (HoldsLess (λ other. other ≡ tag) self.old self.new) }
         ensures kept { ¬ (IsLast tag self.old) → KeepsSame self.old self.new }
+        ensures posts { ¬ (IsLast tag self.old) → OnOk result (hands.Posts tag (hand_of self.old) (hand_of self.new)) }
         ensures last { IsLast tag self.old → OnOk result (KeepsNone self.new) }
+        ensures flushes { IsLast tag self.old → IfOk result (λ grants. PostsLast tags.now tag grants.woken self.old self.new) }
+        ensures grants { IfOk result (λ grants. AreGrantsOf grants (group_steps (hand_of self.old)) (group_steps (hand_of self.new))) }
+        ensures terms { SameTerms self.old self.new }
+        ensures loans { OnOk result (LendsLess tag self.old self.new) }
+        ensures tally { Tallies 0 0 self.old self.new }
         ensures err { OnErr result (IsUnchanged self.old self.new) }
     {
         if self.lends(tag) {
@@ -112,7 +130,13 @@ impl<R: Copy> Cache<R> {
         ensures succeeds { Holds self.old tag → IsOk result }
         ensures less { OnOk result (HoldsLess (λ other. other ≡ tag) self.old self.new) }
         ensures kept { ¬ (IsLast tag self.old) → KeepsSame self.old self.new }
+        ensures posts { ¬ (IsLast tag self.old) → OnOk result (hands.Posts tag (hand_of self.old) (hand_of self.new)) }
         ensures last { IsLast tag self.old → OnOk result (KeepsNone self.new) }
+        ensures flushes { IsLast tag self.old → OnOk result (PostsLast tags.now tag 0 self.old self.new) }
+        ensures steps { OnOk result (group_steps (hand_of self.new) ≡ group_steps (hand_of self.old)) }
+        ensures terms { SameTerms self.old self.new }
+        ensures loans { OnOk result (LendsLess tag self.old self.new) }
+        ensures tally { Tallies 0 0 self.old self.new }
         ensures err { OnErr result (IsUnchanged self.old self.new) }
     {
         if self.keeps(tag) {
@@ -128,7 +152,13 @@ impl<R: Copy> Cache<R> {
         ensures cache { IsCacheOf tags.now self.new }
         ensures less { HoldsLess (λ other. other ≡ tag) self.old self.new }
         ensures kept { ¬ (IsLast tag self.old) → KeepsSame self.old self.new }
+        ensures posts { ¬ (IsLast tag self.old) → hands.Posts tag (hand_of self.old) (hand_of self.new) }
         ensures last { IsLast tag self.old → KeepsNone self.new }
+        ensures flushes { IsLast tag self.old → PostsLast tags.now tag result.woken self.old self.new }
+        ensures grants { AreGrantsOf result (group_steps (hand_of self.old)) (group_steps (hand_of self.new)) }
+        ensures terms { SameTerms self.old self.new }
+        ensures loans { LendsLess tag self.old self.new }
+        ensures tally { Tallies 0 0 self.old self.new }
     {
         let grants = self.release(tags, tag);
         let Ok(()) = tags.post(&mut self.hand, tag) else {
@@ -143,9 +173,12 @@ impl<R: Copy> Cache<R> {
         requires { IsCacheOf tags.now self.old }
         ensures cache { IsCacheOf tags.now self.new }
         ensures same { HoldsSame self.old self.new }
-        ensures unlent { ¬ (IsLent self.new tag) }
-        ensures kept { ¬ (IsLast tag self.old) → KeepsSame self.old self.new }
+        ensures loans { LendsLess tag self.old self.new }
+        ensures kept { ¬ (IsLast tag self.old) → SameHand self.old self.new }
         ensures last { IsLast tag self.old → KeepsNone self.new }
+        ensures flushes { IsLast tag self.old → GivesKept tags.now result.woken self.old (hand_of self.old) (hand_of self.new) }
+        ensures grants { AreGrantsOf result (group_steps (hand_of self.old)) (group_steps (hand_of self.new)) }
+        ensures terms { SameTerms self.old self.new }
         ensures tally { Tallies 0 0 self.old self.new }
     {
         if self.is_last(tag) {
@@ -165,8 +198,10 @@ impl<R: Copy> Cache<R> {
         ensures cache { IsCacheOf tags.now self.new }
         ensures no_such_tag { (result ≡ Err TagFault.NoSuchTag) ↔ (total_of tags.now ≤ tag) }
         ensures more { OnOk result (HoldsMore (λ other. other ≡ tag) self.old self.new) }
+        ensures takes { OnOk result (hands.Takes tag (hand_of self.old) (hand_of self.new)) }
         ensures kept { KeepsSame self.old self.new }
-        ensures refuses { IfErr result (λ fault. RefusesTake tag fault (hand_of self.old) (hand_of self.new)) }
+        ensures window { SameWindow self.old self.new }
+        ensures refuses { IfErr result (λ fault. hands.RefusesTake tag fault (hand_of self.old) (hand_of self.new)) }
         ensures same { OnErr result (HoldsSame self.old self.new) }
     {
         tags.take(&mut self.hand, tag)

@@ -1,10 +1,11 @@
 //! Waits for an ordinary tag. A thread that begins to wait keeps nothing.
 ghost use Rattle.std.specs.Prelude.{◌≡◌, ◌↔◌, IfOk, IfErr, IfSome, IfNone, IsOk, IsSome, None};
-ghost use Rattle.tag_sets.specs.Hands.{standing_of, wait_index_of};
+ghost use Rattle.wake_book.specs.Grants.{AreGrantsOf};
+ghost use Rattle.tag_sets.specs.Hands.{standing_of, wait_index_of, group_steps};
 ghost use Rattle.tag_sets.specs.Waits as hands;
 ghost use Rattle.tag_sets.specs.Waits.{Leaves, StandsOn};
 ghost use Rattle.tag_cache.specs.Caches.{IsCacheOf, hand_of};
-ghost use Rattle.tag_cache.specs.Changes.{IsUnchanged, SameTerms};
+ghost use Rattle.tag_cache.specs.Changes.{IsUnchanged, SameTerms, SameWindow};
 ghost use Rattle.tag_cache.specs.Holding.{HoldsSame};
 ghost use Rattle.tag_cache.specs.Same.{SameTags};
 ghost use Rattle.tag_cache.specs.Tallies.{Tallies};
@@ -25,6 +26,7 @@ impl<R: Copy> Cache<R> {
         ensures same { HoldsSame self.old self.new }
         ensures tally { Tallies 0 0 self.old self.new }
         ensures terms { SameTerms self.old self.new }
+        ensures window { SameWindow self.old self.new }
         ensures err { IfErr result (λ fault. (fault ≡ TagFault.Waiting) × IsUnchanged self.old self.new) }
     {
         let (group, grants) = self.prepare_wait_granted(tags)?;
@@ -40,9 +42,11 @@ impl<R: Copy> Cache<R> {
         ensures cache { IsCacheOf tags.now self.new }
         ensures out { IsOk result ↔ (standing_of (hand_of self.old) ≡ None) }
         ensures enters { IfOk result (λ found. Enters tags.now found.0 self.old self.new) }
+        ensures grants { IfOk result (λ found. AreGrantsOf found.1 (group_steps (hand_of self.old)) (group_steps (hand_of self.new))) }
         ensures same { HoldsSame self.old self.new }
         ensures tally { Tallies 0 0 self.old self.new }
         ensures terms { SameTerms self.old self.new }
+        ensures window { SameWindow self.old self.new }
         ensures err { IfErr result (λ fault. (fault ≡ TagFault.Waiting) × IsUnchanged self.old self.new) }
     {
         if self.hand.is_waiting() {
@@ -90,6 +94,7 @@ impl<R: Copy> Cache<R> {
         ensures leaves { IfOk result (λ answer. IfSome answer (λ left. Leaves left (hand_of self.old) (hand_of self.new))) }
         ensures out { IfOk result (λ answer. IfSome answer (λ _. standing_of (hand_of self.new) ≡ None)) }
         ensures stays { IfOk result (λ answer. IfNone answer (StandsOn (hand_of self.old) (hand_of self.new))) }
+        ensures next { wait_index_of (hand_of self.new) ≡ wait_index_of (hand_of self.old) }
         ensures same { SameTags self.old self.new }
         ensures err { IfErr result (λ fault. (fault ≡ TagFault.NotWaiting) × IsUnchanged self.old self.new) }
     {

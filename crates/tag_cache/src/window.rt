@@ -2,7 +2,7 @@
 ghost use Rattle.std.specs.Prelude.{◌≡◌, ◌≢◌, ◌⊎◌, ℕ, ◌+◌, ◌^◌, ◌<◌, ◌≤◌, ◌↔◌, IsTrue};
 ghost use Rattle.tag_cache.specs.Windows.{IsIn};
 ghost use Rattle.tag_cache.specs.Caches.{IsLent, IsWithin, IsFixed, IsLast, KeepsNone, Holds, split_of, keeping_of};
-ghost use Rattle.tag_cache.specs.Changes.{IsUnchanged, Forgets};
+ghost use Rattle.tag_cache.specs.Changes.{SameHand, Lends, Forgets};
 
 use crate::cache::{Cache, WINDOW};
 use crate::keeping::Keeping;
@@ -66,9 +66,11 @@ impl<R> Cache<R> {
     /// known no more.
     pub(crate) fn aim(&mut self, tag: u32)
         requires { tag < 2 ^ 31 }
-        ensures same { IsUnchanged self.old self.new }
+        ensures same { SameHand self.old self.new }
         ensures aimed { IsWithin self.new tag ⊎ ((self.new ≡ self.old) × ¬ (KeepsNone self.old)) }
         ensures moved { KeepsNone self.old ⊎ (self.new ≡ self.old) }
+        ensures still { (KeepsNone self.old → IsWithin self.old tag) → self.new ≡ self.old }
+        ensures loans { (other : ℕ) → IsLent self.new other → IsLent self.old other }
     {
         if self.kept != 0 {
             return;
@@ -84,7 +86,7 @@ impl<R> Cache<R> {
     /// another.
     pub(crate) fn follow(&mut self, tag: u32)
         requires { tag < 2 ^ 31 }
-        ensures same { IsUnchanged self.old self.new }
+        ensures same { SameHand self.old self.new }
         ensures aimed { IsWithin self.new tag ⊎ ((self.new ≡ self.old) × IsFixed self.old) }
         ensures moved { KeepsNone self.old ⊎ (self.new ≡ self.old) }
         ensures careful { keeping_of self.old ≡ Keeping.WhileHolding → self.new ≡ self.old }
@@ -100,7 +102,8 @@ impl<R> Cache<R> {
         requires held { Holds self.old tag }
         requires ordinary { split_of self.old ≤ tag }
         requires low { tag < 2 ^ 31 }
-        ensures { IsUnchanged self.old self.new }
+        ensures same { SameHand self.old self.new }
+        ensures lends { KeepsNone self.old → Lends tag self.old self.new }
     {
         self.aim(tag);
         self.note(tag);
@@ -110,7 +113,8 @@ impl<R> Cache<R> {
     fn note(&mut self, tag: u32)
         requires held { Holds self.old tag }
         requires ordinary { split_of self.old ≤ tag }
-        ensures { IsUnchanged self.old self.new }
+        ensures same { SameHand self.old self.new }
+        ensures lends { IsWithin self.old tag → Lends tag self.old self.new }
     {
         let offset = self.offset(tag);
         if offset >= WINDOW {

@@ -71,6 +71,7 @@ impl<R: Copy> Queue<R> {
         ensures out { IfOk result (λ answer. IfSome answer (λ _. standing_of agent.new ≡ None)) }
         ensures stays { IfOk result (λ answer. IfNone answer (standing_of agent.new ≡ standing_of agent.old)) }
         ensures idle { IfOk result (λ answer. IfNone answer (IdlesOnce (waiter_of agent.old) (waiter_of agent.new))) }
+        ensures next { wait_index_of (waiter_of agent.new) ≡ wait_index_of (waiter_of agent.old) }
         ensures same { SameTags agent.old agent.new }
         ensures err { IfErr result (λ fault. (fault ≡ QueueFault.NotWaiting) × (agent.new ≡ agent.old)) }
     {

@@ -109,6 +109,8 @@ impl<R: Copy> Tags<R> {
             ↔ ((reserved_of self.now < total_of self.now) × IsSome (standing_of hand.old)) }
         ensures spent { (result ≡ Err TagFault.Spent)
             ↔ ((reserved_of self.now < total_of self.now) × (standing_of hand.old ≡ None) × ¬ (HasRoom hand.old Ordinary 1)) }
+        ensures succeeds { IsOk result
+            ↔ ((reserved_of self.now < total_of self.now) × (standing_of hand.old ≡ None) × HasRoom hand.old Ordinary 1) }
         ensures gets { IfOk result (λ tag. BlockingGets self.now tag hand.old hand.new) }
         ensures waits { IfOk result (λ tag. WaitsFor self.now tag hand.old hand.new) }
         ensures err { OnErr result (hand.new ≡ hand.old) }

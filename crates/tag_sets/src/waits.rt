@@ -52,6 +52,7 @@ impl<R: Copy> Tags<R> {
         ensures leaves { IfOk result (λ answer. IfSome answer (λ left. Leaves left hand.old hand.new)) }
         ensures out { IfOk result (λ answer. IfSome answer (λ _. standing_of hand.new ≡ None)) }
         ensures stays { IfOk result (λ answer. IfNone answer (StandsOn hand.old hand.new)) }
+        ensures next { wait_index_of hand.new ≡ wait_index_of hand.old }
         ensures err { IfErr result (λ fault. (fault ≡ TagFault.NotWaiting) × (hand.new ≡ hand.old)) }
     {
         Ok(self.ordinary.try_finish_wait(&mut hand.ordinary)?)

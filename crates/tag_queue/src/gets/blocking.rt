@@ -1,5 +1,5 @@
 //! Blocking gets: an agent that finds no tag stays in a wait group until it is woken, and searches again.
-ghost use Rattle.std.specs.Prelude.{◌≡◌, ℕ, ◌≤◌, ◌↔◌, IfOk, IsSome, OnErr, Some, None};
+ghost use Rattle.std.specs.Prelude.{◌≡◌, ℕ, ◌≤◌, ◌↔◌, IfOk, IsOk, IsSome, OnErr, Some, None};
 ghost use Rattle.wake_book.specs.Groups.{IsWaiterOf, StandsAsBefore, steps_of, moved_of, wait_index_of};
 ghost use Rattle.wake_book.specs.Groups.{standing_of as waiter_standing};
 ghost use Rattle.tag_queue.specs.Agents.{layout_of, IsAgentOf, HasRoom, standing_of, waiter_of};
@@ -24,6 +24,8 @@ impl<R: Copy> Queue<R> {
         ensures waiting { (result ≡ Err QueueFault.Waiting) ↔ ((1 ≤ (layout_of self.now).depth) × IsSome (standing_of agent.old)) }
         ensures spent { (result ≡ Err QueueFault.Spent)
             ↔ ((1 ≤ (layout_of self.now).depth) × (standing_of agent.old ≡ None) × ¬ (HasRoom agent.old 1)) }
+        ensures succeeds { IsOk result
+            ↔ ((1 ≤ (layout_of self.now).depth) × (standing_of agent.old ≡ None) × HasRoom agent.old 1) }
         ensures gets { IfOk result (λ tag. BlockingGets (layout_of self.now) tag agent.old agent.new) }
         ensures waits { IfOk result (λ tag. WaitsFor (layout_of self.now) tag agent.old agent.new) }
         ensures err { OnErr result (agent.new ≡ agent.old) }

@@ -46,3 +46,10 @@ returns-then-offset-lt-WINDOW-clause-moved g c = inr refl
 
 pub returns-clause-moved : goal.returns-clause-moved
 returns-clause-moved g c = inl (λ tag k. none_in c.args.self.now.first c.args.self.now.kept tag c.if-self-ne0.false k)
+
+pub returns-clause-still : goal.returns-clause-still
+returns-clause-still g c = λ within. let far = c.if-offset-lt-WINDOW.false in let near = c.offset.ensures.within.1
+    (within (λ tag k. none_in c.args.self.now.first c.args.self.now.kept tag c.if-self-ne0.false k)) in absurd (omega arith)
+
+pub returns-clause-loans : goal.returns-clause-loans
+returns-clause-loans g c = λ other l. absurd (none_in (c.args.tag / 64 * 64) 0 other refl l)

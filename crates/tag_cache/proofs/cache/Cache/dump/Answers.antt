@@ -1,6 +1,7 @@
 -- The hand keeps its tags.
 use Rattle.std.proofs.Common.{refl}
 use Rattle.tag_cache.proofs.Carrying.{same_fields}
+use Rattle.tag_cache.proofs.Looking.{same_window}
 use Rattle.tag_cache.proofs.Steady.{around_rests, own_rests, same_tags}
 use Rattle.tag_cache.proofs.cache.Cache.dump.Goals as goal
 
@@ -16,5 +17,5 @@ invariant_of-self-clause-loans g c = let cache = c.args.self.now in
 
 pub returns-clause-same : goal.returns-clause-same
 returns-clause-same g c = let cache = c.args.self.now in same_tags cache _
-    (same_fields cache _ refl refl refl refl refl)
+    (same_fields cache _ refl refl refl refl refl) (same_window cache _ refl refl)
     (around_rests _ c.args.kind c.dump.ensures.dumps.packed.found cache.hand c.dump.new.hand c.dump.ensures.dumps.packed.around)

@@ -1,6 +1,7 @@
 -- The hand keeps its tags.
 use Rattle.std.proofs.Common.{refl}
 use Rattle.tag_cache.proofs.Carrying.{same_fields}
+use Rattle.tag_cache.proofs.Looking.{same_window}
 use Rattle.tag_cache.proofs.Steady.{finish_rests, own_rests, same_tags}
 use Rattle.tag_cache.proofs.cache.Cache.finish_wait.Goals as goal
 
@@ -18,6 +19,6 @@ invariant_of-self-clause-loans g c = let cache = c.args.self.now in
 
 pub returns-clause-same : goal.returns-clause-same
 returns-clause-same g c = let cache = c.args.self.now in same_tags cache _
-    (same_fields cache _ refl refl refl refl refl)
+    (same_fields cache _ refl refl refl refl refl) (same_window cache _ refl refl)
     (finish_rests cache.hand c.finish_wait.new.hand c.finish_wait.result c.finish_wait.ensures.leaves
     c.finish_wait.ensures.err)

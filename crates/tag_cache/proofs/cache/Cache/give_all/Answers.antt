@@ -2,6 +2,7 @@
 use Rattle.std.proofs.Common.{◌∙◌, inl}
 use Rattle.tag_sets.specs.Hands.{group_steps}
 use Rattle.tag_cache.proofs.Giving.{flushed}
+use Rattle.tag_cache.proofs.Looking.{same_loans, same_then_lends_less}
 use Rattle.tag_cache.proofs.cache.Cache.give_all.Goals as goal
 
 pub give_alone-later-requires-clause-held : goal.give_alone-later-requires-clause-held
@@ -42,3 +43,8 @@ returns-clause-terms g c = record {
   most = c.give_alone-later.ensures.kept.terms.most ∙ c.give_kept-sooner.ensures.terms.most;
   keeping = c.give_alone-later.ensures.kept.terms.keeping ∙ c.give_kept-sooner.ensures.terms.keeping;
 }
+
+pub returns-clause-loans : goal.returns-clause-loans
+returns-clause-loans g c = let w = c.give_kept-sooner.ensures.window in
+    same_then_lends_less c.args.tag c.args.self.now c.give_kept-sooner.new.self c.give_alone-later.new.self
+    (same_loans c.args.self.now c.give_kept-sooner.new.self w.0 w.1) c.give_alone-later.ensures.loans

@@ -4,6 +4,7 @@ use Rattle.tag_sets.specs.declared.hand.Hand.{Hand}
 use Rattle.tag_cache.specs.Clears.{GivesOne}
 use Rattle.tag_cache.proofs.Carrying.{keeps_twice}
 use Rattle.tag_cache.proofs.Granting.{before_same}
+use Rattle.tag_cache.proofs.Looking.{lends_less_then_same}
 use Rattle.tag_cache.proofs.Reusing.{held_still}
 use Rattle.tag_cache.proofs.cache.Cache.give_alone.Goals as goal
 
@@ -26,3 +27,7 @@ returns-clause-grants g c = before_same c.give.result c.args.self.now.hand c.for
 pub returns-clause-kept : goal.returns-clause-kept
 returns-clause-kept g c = keeps_twice c.args.self.now c.forget.new.self c.give.new.self c.forget.ensures.same.kept
     c.give.ensures.kept
+
+pub returns-clause-loans : goal.returns-clause-loans
+returns-clause-loans g c = lends_less_then_same c.args.tag c.args.self.now c.forget.new.self c.give.new.self
+    c.forget.ensures.loans c.give.ensures.window.loans

@@ -86,6 +86,7 @@ returns g c = let cache = c.args.self.now in let tag = c.args.tag in
           terms = record { most = refl; keeping = refl };
           reused = refl;
         };
+        loans = c.lent_without-self.ensures;
       },
       (λ full. ⊎_elim (λ (m : cache.most ≤ count_of cache). omega arith) (λ o. o.0 within) full),
       record { some = omega arith; alive = omega arith; within = λ careful. within },

@@ -1,7 +1,9 @@
 -- After the window moved, or did not, the hand holds what it held and the same tags are kept.
-use Rattle.std.proofs.Common.{◌≤◌, ◌∙◌, sym, subst}
+use Rattle.std.proofs.Common.{◌≡◌, ◌≤◌, ◌∙◌, inl, inr, sym, subst, ⊎_elim}
 use Rattle.tag_sets.specs.declared.hand.Hand.{Hand}
 use Rattle.tag_sets.specs.Hands as hands
+use Rattle.tag_cache.specs.declared.cache.Cache.{Cache}
+use Rattle.tag_cache.specs.Caches.{IsLent, IsWithin}
 use Rattle.tag_cache.proofs.Carrying.{keeps_twice}
 use Rattle.tag_cache.proofs.Reusing.{held_still}
 use Rattle.tag_cache.proofs.cache.Cache.lend.Goals as goal
@@ -14,8 +16,19 @@ pub note-requires-clause-ordinary : goal.note-requires-clause-ordinary
 note-requires-clause-ordinary g c = subst
     (λ (h : Hand g.row.R.Denot). hands.split_of h ≤ c.args.tag) (sym c.aim.ensures.same.hand) c.requires.ordinary
 
-pub returns : goal.returns
-returns g c = record {
-  hand = c.note.ensures.hand ∙ c.aim.ensures.same.hand;
-  kept = keeps_twice c.args.self.now c.aim.new.self c.note.new.self c.aim.ensures.same.kept c.note.ensures.kept;
+pub returns-clause-same : goal.returns-clause-same
+returns-clause-same g c = record {
+  hand = c.note.ensures.same.hand ∙ c.aim.ensures.same.hand;
+  kept = keeps_twice c.args.self.now c.aim.new.self c.note.new.self c.aim.ensures.same.kept c.note.ensures.same.kept;
 }
+
+pub returns-clause-lends : goal.returns-clause-lends
+returns-clause-lends g c = λ none. let mid = c.aim.new.self in
+    let in_window = ⊎_elim (λ (w : IsWithin mid c.args.tag). w) (λ e. absurd (e.1 none)) c.aim.ensures.aimed in
+    let lends = c.note.ensures.lends in_window in record {
+      now = lends.now;
+      still = λ within other l. lends.still (λ n. in_window) other
+          (subst (λ (x : Cache g.row.R.Denot). IsLent x other) (sym (c.aim.ensures.still within)) l);
+      none_else = λ other l. ⊎_elim (λ (o : IsLent mid other). inl (c.aim.ensures.loans other o))
+          (λ (e : other ≡ c.args.tag). inr e) (lends.none_else other l);
+    }

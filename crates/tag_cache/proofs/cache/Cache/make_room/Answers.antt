@@ -6,6 +6,7 @@ use Rattle.wake_book.specs.Grants.{AreGrantsOf}
 use Rattle.tag_cache.specs.Clears.{GivesKept}
 use Rattle.tag_cache.proofs.Cautious.{can_still, last_back, only_back}
 use Rattle.tag_cache.proofs.Giving.{flushed}
+use Rattle.tag_cache.proofs.Looking.{same_loans, same_then_lends_less}
 use Rattle.tag_cache.proofs.cache.Cache.make_room.Goals as goal
 
 pub returns-then-not-can_keep-clause-way : goal.returns-then-not-can_keep-clause-way
@@ -44,3 +45,12 @@ returns-clause-way g c = let e = c.give_kept-grants.ensures in let old = c.args.
 pub returns-clause-grants : goal.returns-clause-grants
 returns-clause-grants g c = subst (λ (h : Hand g.row.R.Denot). AreGrantsOf c.give_kept-grants.result
     (group_steps c.args.self.now.hand) (group_steps h)) (sym c.keep_first.ensures.hand) c.give_kept-grants.ensures.grants
+
+pub returns-then-not-can_keep-clause-loans : goal.returns-then-not-can_keep-clause-loans
+returns-then-not-can_keep-clause-loans g c = λ careful. c.give_alone.ensures.loans
+
+pub returns-clause-loans : goal.returns-clause-loans
+returns-clause-loans g c = λ careful. let e = c.give_kept-grants.ensures in
+    same_then_lends_less c.args.tag c.args.self.now c.give_kept-grants.new.self c.keep_first.new.self
+    (same_loans c.args.self.now c.give_kept-grants.new.self e.window.0 e.window.1)
+    (c.keep_first.ensures.loans (e.terms.keeping ∙ careful))

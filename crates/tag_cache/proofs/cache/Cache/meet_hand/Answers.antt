@@ -1,10 +1,11 @@
 -- The hands are unchanged, and so is what is kept.
 use Rattle.std.proofs.Common.{refl}
 use Rattle.tag_cache.proofs.Carrying.{same_fields}
+use Rattle.tag_cache.proofs.Looking.{same_window}
 use Rattle.tag_cache.proofs.Steady.{meets_rests, same_tags}
 use Rattle.tag_cache.proofs.cache.Cache.meet_hand.Goals as goal
 
 pub returns-clause-same : goal.returns-clause-same
 returns-clause-same g c = let cache = c.args.self.now in same_tags cache _
-    (same_fields cache _ refl refl refl refl refl)
+    (same_fields cache _ refl refl refl refl refl) (same_window cache _ refl refl)
     (meets_rests cache.hand c.meet.new.first c.meet.ensures.unchanged.0)

@@ -3,7 +3,7 @@ use Rattle.std.proofs.Common.{arith, ◌≡◌, ◌<◌, ◌≤◌, ◌-◌, ℕ
 use Rattle.tag_sets.specs.Hands as hands
 use Rattle.tag_cache.specs.Windows.{IsIn}
 use Rattle.tag_cache.specs.Caches.{IsKept}
-use Rattle.tag_cache.proofs.Windows.{now_in, was_in, some_in, joined_fits, with_bit}
+use Rattle.tag_cache.proofs.Windows.{now_in, still_in, was_in, some_in, joined_fits, with_bit}
 use Rattle.tag_cache.proofs.cache.Cache.note.Goals as goal
 
 pub invariant_of-self-clause-loans : goal.invariant_of-self-clause-loans
@@ -36,3 +36,17 @@ invariant_of-self-clause-careful g c = let cache = c.args.self.now in let tag = 
     let same : tag - cache.first ≡ at = omega arith in
     λ careful some. some_in cache.first (with_bit cache.lent at) tag
     (now_in cache.lent at cache.wide.1 low cache.first tag above same)
+
+pub returns-then-offset-ge-WINDOW-clause-lends : goal.returns-then-offset-ge-WINDOW-clause-lends
+returns-then-offset-ge-WINDOW-clause-lends g c = λ within. let low = c.offset-offset.ensures.within.1 within in
+    absurd (omega arith)
+
+pub returns-clause-lends : goal.returns-clause-lends
+returns-clause-lends g c = let cache = c.args.self.now in let tag = c.args.tag in
+    let at = c.offset-offset.result in let low : at < 64 = c.if-offset-ge-WINDOW.false in
+    let is = c.offset-offset.ensures.offset low in let above : cache.first ≤ tag = omega arith in
+    let same : tag - cache.first ≡ at = omega arith in λ within. record {
+      now = now_in cache.lent at cache.wide.1 low cache.first tag above same;
+      still = λ w other l. still_in cache.lent at cache.wide.1 low cache.first tag above same other l;
+      none_else = λ other l. was_in cache.lent at cache.wide.1 low cache.first tag above same other l;
+    }

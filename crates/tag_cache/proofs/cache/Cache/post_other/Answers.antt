@@ -3,6 +3,8 @@ use Rattle.std.proofs.Common.{◌≡◌, ℕ, refl, subst}
 use Rattle.tag_sets.specs.Slots.{Posts}
 use Rattle.tag_cache.specs.Caches.{IsKept, IsLent, KeepsNone}
 use Rattle.tag_cache.proofs.Carrying.{posts_on, own_after, less_still, not_true, same_fields, on_any}
+use Rattle.tag_cache.proofs.Looking.{unlent_less}
+use Rattle.tag_cache.proofs.Passing.{steps_on, posted_tallies, last_on}
 use Rattle.tag_cache.proofs.Reusing.{last_unlent}
 use Rattle.tag_cache.proofs.cache.Cache.post_other.Goals as goal
 
@@ -29,3 +31,18 @@ returns-clause-less g c = posts_on c.args.self.now _ (same_fields c.args.self.no
 pub returns-clause-last : goal.returns-clause-last
 returns-clause-last g c = λ last. on_any c.post.result (KeepsNone c.args.self.now)
     (last_unlent c.args.self.now c.args.tag c.requires.unlent last)
+
+pub returns-clause-flushes : goal.returns-clause-flushes
+returns-clause-flushes g c = λ last. last_on c.args.tags.now c.args.tag c.args.self.now _
+    (last_unlent c.args.self.now c.args.tag c.requires.unlent last) c.post.result c.post.ensures.posts
+
+pub returns-clause-steps : goal.returns-clause-steps
+returns-clause-steps g c = steps_on c.args.tag c.args.self.now.hand c.post.new.hand c.post.result c.post.ensures.posts
+
+pub returns-clause-tally : goal.returns-clause-tally
+returns-clause-tally g c = posted_tallies c.args.tag c.args.self.now _
+    (same_fields c.args.self.now _ refl refl refl refl refl) c.post.result c.post.ensures.posts c.post.ensures.err
+
+pub returns-clause-loans : goal.returns-clause-loans
+returns-clause-loans g c = on_any c.post.result _ (unlent_less c.args.tag c.args.self.now c.args.self.now c.requires.unlent
+    (λ other. ((λ l. l), (λ l. l))))

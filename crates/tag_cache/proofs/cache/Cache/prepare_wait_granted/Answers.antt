@@ -3,6 +3,8 @@ use Rattle.std.specs.Prelude.{IsSome}
 use Rattle.std.proofs.Common.{◌∙◌}
 use Rattle.tag_sets.specs.Hands.{standing_of}
 use Rattle.tag_cache.proofs.Carrying.{not_true, same_then_same}
+use Rattle.tag_cache.proofs.Granting.{then_enters}
+use Rattle.tag_cache.proofs.Looking.{window_twice}
 use Rattle.tag_cache.proofs.Standing.{in_none, stands_after}
 use Rattle.tag_cache.proofs.cache.Cache.prepare_wait_granted.Goals as goal
 
@@ -21,6 +23,15 @@ returns-clause-enters g c = record {
   none = λ tag k. c.flush_granted-grants.ensures.none tag ((c.enter.ensures.same.kept.kept tag).0 k);
 }
 
+pub returns-clause-grants : goal.returns-clause-grants
+returns-clause-grants g c = then_enters c.flush_granted-grants.result c.enter.result c.args.self.now.hand
+    c.flush_granted-grants.new.self.hand c.enter.new.self.hand c.flush_granted-grants.ensures.grants
+    c.enter.ensures.enters
+
 pub returns-clause-same : goal.returns-clause-same
 returns-clause-same g c = same_then_same c.args.self.now c.flush_granted-grants.new.self c.enter.new.self c.flush_granted-grants.ensures.same
     c.enter.ensures.same.held
+
+pub returns-clause-window : goal.returns-clause-window
+returns-clause-window g c = window_twice c.args.self.now c.flush_granted-grants.new.self c.enter.new.self
+    c.flush_granted-grants.ensures.window c.enter.ensures.same.window

@@ -1,7 +1,8 @@
 -- After the look at the active count the tag is kept or given back.
-use Rattle.std.proofs.Common.{arith, ◌≡◌, inl, inr, refl, subst, ⊎_elim}
+use Rattle.std.proofs.Common.{arith, ◌≡◌, inl, inr, refl, ap, ◌∙◌, subst, ⊎_elim}
 use Rattle.tag_cache.specs.declared.cache.Cache.{Cache}
 use Rattle.tag_cache.specs.Caches.{IsLast}
+use Rattle.tag_cache.specs.Changes.{LendsLess}
 use Rattle.tag_cache.proofs.Carrying.{not_true}
 use Rattle.tag_cache.proofs.Going.{found_none}
 use Rattle.tag_cache.proofs.Granting.{after_look}
@@ -60,3 +61,17 @@ pub make_room-requires-clause-other : goal.make_room-requires-clause-other
 make_room-requires-clause-other g c = λ last. not_true c.is_last.result (IsLast c.args.tag c.args.self.now)
     c.is_last.ensures c.if-is_last.false
     (subst (λ (x : Cache g.row.R.Denot). IsLast c.args.tag x) c.if-keep.ensures.0 last)
+
+pub returns-then-active-ne0-clause-loans : goal.returns-then-active-ne0-clause-loans
+returns-then-active-ne0-clause-loans g c = λ careful. c.give_all.ensures.loans
+
+pub returns-then-is_last-clause-loans : goal.returns-then-is_last-clause-loans
+returns-then-is_last-clause-loans g c = λ careful. c.give_all-then-is_last.ensures.loans
+
+pub returns-then-keep-clause-loans : goal.returns-then-keep-clause-loans
+returns-then-keep-clause-loans g c = λ careful. c.if-keep.ensures.0.loans
+
+pub returns-clause-loans : goal.returns-clause-loans
+returns-clause-loans g c = λ careful. let e = c.if-keep.ensures.0 in
+    subst (λ (x : Cache g.row.R.Denot). LendsLess c.args.tag x c.make_room.new.self) e
+    (c.make_room.ensures.loans (ap (λ (x : Cache g.row.R.Denot). x.keeping) e ∙ careful))

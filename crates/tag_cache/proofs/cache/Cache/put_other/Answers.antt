@@ -1,9 +1,10 @@
 -- The window moved, or did not, and then the tag is kept or given back.
-use Rattle.std.proofs.Common.{◌≤◌, inl, inr, sym, subst, ⊎_elim}
+use Rattle.std.proofs.Common.{◌≤◌, ◌∙◌, inl, inr, sym, subst, ⊎_elim}
 use Rattle.tag_sets.specs.declared.hand.Hand.{Hand}
 use Rattle.tag_sets.specs.Hands as hands
 use Rattle.tag_cache.specs.declared.cache.Cache.{Cache}
 use Rattle.tag_cache.specs.Caches.{IsFixed}
+use Rattle.tag_cache.specs.Changes.{LendsLess}
 use Rattle.tag_cache.specs.Granted.{woken_in}
 use Rattle.tag_cache.proofs.Granting.{granted_same}
 use Rattle.tag_cache.proofs.Reusing.{held_still}
@@ -33,3 +34,8 @@ put-requires-clause-ordinary g c = subst (λ (h : Hand g.row.R.Denot). hands.spl
 pub put-requires-clause-aimed : goal.put-requires-clause-aimed
 put-requires-clause-aimed g c = ⊎_elim (λ w. inl w)
     (λ e. inr (subst (λ (x : Cache g.row.R.Denot). IsFixed x) (sym e.0) e.1)) c.follow.ensures.aimed
+
+pub returns-clause-loans : goal.returns-clause-loans
+returns-clause-loans g c = λ careful. let e = c.follow.ensures.careful careful in
+    subst (λ (x : Cache g.row.R.Denot). LendsLess c.args.tag x c.put.new.self) e
+    (c.put.ensures.loans (c.follow.ensures.same.kept.terms.keeping ∙ careful))

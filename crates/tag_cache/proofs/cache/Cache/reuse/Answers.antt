@@ -1,9 +1,10 @@
 -- The least kept tag leaves the mask of kept tags and joins that of the lent ones.
-use Rattle.std.proofs.Common.{arith, ◌≡◌, ◌<◌, ◌≤◌, ◌-◌, ℕ, refl, sym, subst, ⊎_elim}
+use Rattle.std.proofs.Common.{arith, ◌≡◌, ◌<◌, ◌≤◌, ◌-◌, ℕ, inl, inr, refl, sym, subst, ⊎_elim}
 use Rattle.tag_sets.specs.declared.hand.Hand.{Hand}
 use Rattle.tag_sets.specs.Hands as hands
 use Rattle.tag_cache.specs.Windows.{IsIn}
-use Rattle.tag_cache.proofs.Windows.{now_in, was_in, some_in, joined_fits, with_bit, below_end}
+use Rattle.tag_cache.proofs.Looking.{same_loans}
+use Rattle.tag_cache.proofs.Windows.{now_in, still_in, was_in, some_in, joined_fits, with_bit, below_end}
 use Rattle.tag_cache.proofs.cache.Cache.reuse.Goals as goal
 
 pub overflow_sub-self : goal.overflow_sub-self
@@ -72,6 +73,14 @@ returns g c = let cache = c.pop.new.self in let tag = c.in-Some.tag in
         left = takes.left;
         fewer = takes.fewer;
       };
-      lent = now_in cache.lent (tag - cache.first) cache.wide.1 low cache.first tag over refl;
+      lends = record {
+        now = now_in cache.lent (tag - cache.first) cache.wide.1 low cache.first tag over refl;
+        still = λ w other l. still_in cache.lent (tag - cache.first) cache.wide.1 low cache.first tag over refl other
+            ((same_loans c.args.self.now cache first c.in-Some.ensures.lent other).1 l);
+        none_else = λ other l. ⊎_elim
+            (λ (o : IsIn cache.first cache.lent other). inl ((same_loans c.args.self.now cache first c.in-Some.ensures.lent other).0 o))
+            (λ (e : other ≡ tag). inr e)
+            (was_in cache.lent (tag - cache.first) cache.wide.1 low cache.first tag over refl other l);
+      };
       reused = let reused = c.in-Some.ensures.reused in omega arith;
     }

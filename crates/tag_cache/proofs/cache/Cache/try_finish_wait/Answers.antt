@@ -1,6 +1,7 @@
 -- The hand keeps its tags.
 use Rattle.std.proofs.Common.{refl}
 use Rattle.tag_cache.proofs.Carrying.{same_fields}
+use Rattle.tag_cache.proofs.Looking.{same_window}
 use Rattle.tag_cache.proofs.Steady.{try_rests, own_rests, same_tags}
 use Rattle.tag_cache.proofs.cache.Cache.try_finish_wait.Goals as goal
 
@@ -18,6 +19,6 @@ invariant_of-self-clause-loans g c = let cache = c.args.self.now in
 
 pub returns-clause-same : goal.returns-clause-same
 returns-clause-same g c = let cache = c.args.self.now in same_tags cache _
-    (same_fields cache _ refl refl refl refl refl)
+    (same_fields cache _ refl refl refl refl refl) (same_window cache _ refl refl)
     (try_rests cache.hand c.try_finish_wait.new.hand c.try_finish_wait.result c.try_finish_wait.ensures.leaves
     c.try_finish_wait.ensures.stays c.try_finish_wait.ensures.err)

@@ -13,3 +13,7 @@ invariant_of-self-clause-loans g c = let cache = c.args.self.now in own_after c.
     cache.hand c.get_blocking.new.hand c.requires c.get_blocking.ensures.hand cache.loans
     (λ other h i. blocking_still c.args.tags.now cache.hand c.get_blocking.new.hand c.get_blocking.result
     c.get_blocking.ensures.gets c.get_blocking.ensures.err other h)
+
+pub returns-clause-loans : goal.returns-clause-loans
+returns-clause-loans g c = λ none. let lends = c.lend.ensures.lends none in
+    record { now = lends.now; still = lends.still; none_else = lends.none_else }

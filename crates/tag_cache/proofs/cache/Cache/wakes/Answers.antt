@@ -1,6 +1,7 @@
 -- The hand keeps its tags.
 use Rattle.std.proofs.Common.{refl}
 use Rattle.tag_cache.proofs.Carrying.{same_fields}
+use Rattle.tag_cache.proofs.Looking.{same_window}
 use Rattle.tag_cache.proofs.Steady.{stays_rests, own_rests, same_tags}
 use Rattle.tag_cache.proofs.cache.Cache.wakes.Goals as goal
 
@@ -16,5 +17,5 @@ invariant_of-self-clause-loans g c = let cache = c.args.self.now in
 
 pub returns-clause-same : goal.returns-clause-same
 returns-clause-same g c = let cache = c.args.self.now in same_tags cache _
-    (same_fields cache _ refl refl refl refl refl)
+    (same_fields cache _ refl refl refl refl refl) (same_window cache _ refl refl)
     (stays_rests cache.hand c.wakes.new.hand c.wakes.ensures.same)
