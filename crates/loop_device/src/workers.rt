@@ -78,7 +78,7 @@ pub(crate) fn complete_all<B: Tagged, G: Gate, W: Wait>(
     requires hand { IsHandOf device.now.tags hand }
     requires pass { IsPassOf device.now.queue pass }
     ensures hand { IsHandOf device.now.tags result.0.hand }
-    ensures completed { CompletesPopped device.now.tags log.now.ios.items
+    ensures completed { CompletesPopped device.now.tags log.now.ios.items result.0.faults
         (view pass) (view result.2) hand result.0.hand }
     ensures drained { result.1.closing.seen ≡ true }
 {

@@ -1,6 +1,6 @@
 -- The state after a resize, and why a resize is refused.
 use Rattle.std.proofs.Common.{◌≡◌, ◌≢◌, ℕ, zero, suc, ◌+◌, ◌<◌, ◌≤◌, true, false, List, [], ◌∷◌, length, map, get_or, replicate, All, is_some, refl, sym, ap, ◌∙◌, arith, ⊎_elim}
-use Rattle.tag_board.proofs.Uses.{cases_lt, length-map, get_or-map, get_or_past, some, some-injective, get_elem?, at_map, HasAll, word_bits, words, Record, sum_of, size_of, entry, entry_or, all_at, Hint, Queue, Hand, Kind, Ordinary, Reserved, Tags, IsHandOf, layout_of, queue_of, total_of, number_of, hands_of, numbers_of, reserved_part, ordinary_part, BalanceInBoth, HasMap, record_in, holds, part_of, state_of_all, AreOrdered, NobodyHolds, Part, idle, reserved_of}
+use Rattle.tag_board.proofs.Uses.{cases_lt, length-map, get_or-map, get_or_past, some, some-injective, get_elem?, at_map, HasAll, word_bits, words, Record, sum_of, size_of, entry, entry_or, all_at, Hint, Queue, Hand, Kind, Ordinary, Reserved, Tags, IsHandOf, layout_of, queue_of, total_of, number_of, hands_of, numbers_of, reserved_part, ordinary_part, BalanceInBoth, HasMap, record_in, holds, part_of, state_of_all, waiter_of, waiters_of_all, newcomer, AreOrdered, NobodyHolds, Part, idle, reserved_of}
 use Rattle.tag_sets.specs.Hands.{least_of}
 use Rattle.tag_core.specs.Reopening.{reopened_record}
 use Rattle.step_ledger.proofs.Seats.{within}
@@ -20,6 +20,7 @@ use Rattle.tag_board.proofs.Adding.{both_sets, add_up, posted_up}
 use Rattle.tag_board.proofs.Handfuls.{part_ext}
 use Rattle.tag_board.proofs.Holdings.{holds_same}
 use Rattle.tag_board.proofs.Sizings.{holds_none}
+use Rattle.tag_board.proofs.Waiters.{as_it_was}
 
 -- a list of zero masks has no bit
 size_none : (n : ℕ) → size_of (replicate n 0) ≡ 0
@@ -34,21 +35,28 @@ module _ {A : Type 0} where
   all_none f (x ∷ xs) none (suc k) d low = all_none f xs (omega arith) k d (omega arith)
 
 module _ {R : Type 0} where
-  -- hands with equal parts make up the same state
-  same_parts : (old new : List (Hand R)) → length new ≡ length old
-      → ((n : ℕ) (a b : Hand R) → get_elem? old n ≡ some a → get_elem? new n ≡ some b → part_of b ≡ part_of a)
-      → (caller : ℕ) → get_or (map part_of new) caller (idle false) ≡ get_or (map part_of old) caller (idle false)
-  same_parts old new long each caller = ⊎_elim
+  -- hands of which the same is seen one by one look the same to each caller
+  same_seen : {B : Type 0} (seen : Hand R → B) (none : B) (old new : List (Hand R)) → length new ≡ length old
+      → ((n : ℕ) (a b : Hand R) → get_elem? old n ≡ some a → get_elem? new n ≡ some b → seen b ≡ seen a)
+      → (caller : ℕ) → get_or (map seen new) caller none ≡ get_or (map seen old) caller none
+  same_seen seen none old new long each caller = ⊎_elim
       (λ (low : caller < length old).
       let a = entry old caller low in let b = entry new caller (omega arith) in
-      get_or-map part_of new caller b.0 (idle false) (omega arith)
+      get_or-map seen new caller b.0 none (omega arith)
       ∙ each caller (get_or old caller a.0) (get_or new caller b.0)
       (entry_or old caller a.0 low) (entry_or new caller b.0 (omega arith))
-      ∙ sym (get_or-map part_of old caller a.0 (idle false) low))
+      ∙ sym (get_or-map seen old caller a.0 none low))
       (λ (high : length old ≤ caller).
-      get_or_past (map part_of new) caller (idle false) (let z = length-map new part_of in omega arith)
-      ∙ sym (get_or_past (map part_of old) caller (idle false) (let z = length-map old part_of in omega arith)))
+      get_or_past (map seen new) caller none (let z = length-map new seen in omega arith)
+      ∙ sym (get_or_past (map seen old) caller none (let z = length-map old seen in omega arith)))
       (cases_lt caller (length old))
+
+  -- hands that count and wait as before leave each caller as it waits and wakes others
+  same_waiters : (old new : List (Hand R)) → length new ≡ length old
+      → ((n : ℕ) (a b : Hand R) → get_elem? old n ≡ some a → get_elem? new n ≡ some b
+      → queue.SameCounts a.ordinary b.ordinary) → waiters_of_all new ≡ waiters_of_all old
+  same_waiters old new long each = λ j. λ caller.
+      same_seen waiter_of newcomer old new long (λ n a b p q. as_it_was a b (each n a b p q)) caller j
 
   -- the most tags of a set that a caller may win
   abbrev life_of : Tags R → Kind → ℕ
@@ -69,7 +77,7 @@ module _ {R : Type 0} where
       bits = λ kind. bits kind j;
     };
     total = all j;
-    part = λ caller. same_parts olds news long each caller j;
+    part = λ caller. same_seen part_of (idle false) olds news long each caller j;
   }
 
   -- hands with the same numbers as before are in the same order
@@ -110,6 +118,10 @@ module _ {R : Type 0} where
       | Ordinary ↦ ap (λ (q : Queue R). word_bits (queue.layout_of q)) same.ordinary
       | Reserved ↦ ap (λ (q : Queue R). word_bits (queue.layout_of q)) same.reserved
     ]) total_kept (λ n a b p q. same_part a b (kept.each n a b p q))
+
+    -- unchanged hands leave each caller as it waits and wakes others
+    pub waiters_kept : waiters_of_all news ≡ waiters_of_all olds
+    waiters_kept = same_waiters olds news kept.count (λ n a b p q. ((kept.each n a b p q).sets Ordinary).same_else.1)
 
     -- the hands keep their numbers
     pub numbers_kept : numbers_of news ≡ numbers_of olds
@@ -182,6 +194,15 @@ module _ {R : Type 0} (old new : Tags R) (olds news : List (Hand R)) (total : �
     | Ordinary ↦ ap word_bits is.ordinary.callers.next.layout_is
     | Reserved ↦ ap (λ (q : Queue R). word_bits (queue.layout_of q)) is.reserved
   ]) is.total_is (λ n a b p q. (goes_on n a b p q).part)
+
+  -- each caller waits and wakes others as before
+  pub waiters_resized : waiters_of_all news ≡ waiters_of_all olds
+  waiters_resized = same_waiters olds news long (λ n a b p q.
+      let before = map ordinary_part olds in let after = map ordinary_part news in
+      let here = at_map ordinary_part olds n a p in let there = at_map ordinary_part news n b q in (
+        same_at queue.teller_of before after n a.ordinary b.ordinary is.ordinary.tellers here there,
+        same_at queue.waiter_of before after n a.ordinary b.ordinary is.ordinary.waiters here there,
+      ))
 
   -- no caller holds a tag
   pub world_free : NobodyHolds (state_of_all new news) (λ tag. true)

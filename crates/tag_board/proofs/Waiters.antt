@@ -21,7 +21,7 @@ waiters_move {R} {hands} {i} {old} at new change c = record {
 
 module _ {R : Type 0} (old new : Hand R) where
   -- a hand whose ordinary agent counts and waits as before
-  as_it_was : queue.SameCounts old.ordinary new.ordinary → waiter_of new ≡ waiter_of old
+  pub as_it_was : queue.SameCounts old.ordinary new.ordinary → waiter_of new ≡ waiter_of old
   as_it_was same = λ j. record {
     book = ap book.steps_of same.0 j;
     groups = ap groups.steps_of same.1 j;

@@ -1,6 +1,6 @@
 //! Resizing a board.
-ghost use Rattle.std.specs.Prelude.{IfOk, IsErr};
-ghost use Rattle.tag_board.specs.Boards.{state_of, alone_sets_of, IsAlone};
+ghost use Rattle.std.specs.Prelude.{◌≡◌, IfOk, IsErr};
+ghost use Rattle.tag_board.specs.Boards.{state_of, alone_sets_of, waiters_of, IsAlone};
 ghost use Rattle.tag_board.specs.AloneSets.{AloneResizes};
 ghost use Rattle.tag_board.specs.Resizes.{Resizes, MayResize};
 
@@ -19,6 +19,7 @@ impl Board {
         ensures answers { IfOk result (λ resized. Resizes total (state_of self) resized.0 (state_of resized.1)) }
         ensures alone { IfOk result (λ resized. IsAlone self
             → AloneResizes total (alone_sets_of self) resized.0 (alone_sets_of resized.1)) }
+        ensures waiters { IfOk result (λ resized. waiters_of resized.1 ≡ waiters_of self) }
         ensures memory { IsErr result → MayResize (state_of self) total }
     {
         let Board {

@@ -1,6 +1,7 @@
 pub mod Calling
 pub mod Does
 pub mod Flags
+pub mod Joining
 pub mod Owners
 pub mod Parts
 pub mod Pairing

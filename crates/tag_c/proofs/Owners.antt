@@ -1,5 +1,7 @@
 -- A hand that shares its tags with a cell belongs to whatever tags the cell belongs to.
-use Rattle.std.proofs.Common.{arith, ℕ, suc, List, [], ◌∷◌, ◌++◌, All, sym, ◌∙◌}
+use Rattle.std.proofs.Common.{arith, ◌≡◌, ℕ, suc, List, [], ◌∷◌, ◌++◌, All, ap, sym, ◌∙◌, append_assoc}
+use Rattle.std.specs.Prelude.{reverse}
+use Rattle.std.proofs.lemmas.List.{reverse-append}
 use Rattle.tag_queue.specs.declared.agent.Agent.{Agent}
 use Rattle.tag_queue.specs.declared.queue.Queue.{Queue}
 use Rattle.tag_queue.specs.Agents.{IsAgentOf}
@@ -34,3 +36,9 @@ sharing tags cell hand b h = (tags, b, h)
 pub last_of : {X : Type 0} (P : X → Type 0) (xs : List X) (x : X) → All P (xs ++ (x ∷ [])) → P x
 last_of P [] x all = all 0 x (omega arith)
 last_of P (y ∷ ys) x all = last_of P ys x (λ k d low. all (suc k) d (omega arith))
+
+-- the last element of a list, put behind another list, is the next of the first one in reverse
+pub moved : {X : Type 0} (front rest : List X) (x : X) → (front ++ (x ∷ [])) ++ reverse rest
+    ≡ front ++ reverse (rest ++ (x ∷ []))
+moved {X = X} front rest x = append_assoc front (x ∷ []) (reverse rest)
+    ∙ ap (λ (behind : List X). front ++ behind) (sym (reverse-append rest (x ∷ [])))

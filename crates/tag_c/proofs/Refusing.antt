@@ -1,5 +1,6 @@
 -- The reasons why calls on pools are refused, and that each has a negative number.
-use Rattle.std.proofs.Common.{◌≡◌, ◌≢◌, ℕ, ◌<◌, ◌≤◌, ◌⊎◌, ⊎_elim, inl, inr, ℤ, pos, Option, Some, None, IfSome, refl, sym, subst, ◌∙◌}
+use Rattle.std.proofs.Common.{◌≡◌, ◌≢◌, ℕ, ◌<◌, ◌≤◌, Bool, ◌⊎◌, ⊎_elim, inl, inr, ℤ, pos, Option, Some, None, IfSome, refl, sym, subst, ◌∙◌}
+use Rattle.std.specs.Prelude.{nat_eq}
 use lib.Signed.{mag}
 use mir.Syntax.{w32}
 use mir.Val.{to_z, of_z}
@@ -59,28 +60,36 @@ pub hand_there : (value : Option Object) (object : Object) → value ≡ Some ob
     × IsMemberIn tags object.kind
 hand_there value object some has = (has.0, subst (λ (x : Option Object). IsHandIn has.0 x) some has.1)
 
+-- a handle with an object that is a pool has a pool
+pub has_pool : (value : Option Object) (object : Object) → value ≡ Some object
+    → (tags : Tags ℕ) × IsPoolIn tags object.kind → HasPool value
+has_pool value object some there =
+    (there.0, subst (λ (x : Option Object). IsPoolOf there.0 x) (sym some) there.1)
+
 -- the object behind a handle that has a pool is a pool
 pub pool_there : (value : Option Object) (object : Object) → value ≡ Some object → HasPool value → (tags : Tags ℕ)
     × IsPoolIn tags object.kind
 pool_there value object some has = (has.0, subst (λ (x : Option Object). IsPoolOf has.0 x) some has.1)
 
 -- whatever joins the hands of a pool is a hand
-is_hand : (state : PoolState) (kind : Kind) → JoinsAs state kind → (tags : Tags ℕ) × IsMemberIn tags kind
-is_hand state (IsMember member) joins = ((arc_value member.shared).tags, refl)
-is_hand state (IsCached member) joins = ((arc_value member.shared).tags, refl)
-is_hand state (IsPool pool) joins = absurd joins
+is_hand : (state : PoolState) (placed : Bool) (kind : Kind) → JoinsAs state placed kind → (tags : Tags ℕ)
+    × IsMemberIn tags kind
+is_hand state placed (IsMember member) joins = ((arc_value member.shared).tags, refl)
+is_hand state placed (IsCached member) joins = ((arc_value member.shared).tags, refl)
+is_hand state placed (IsPool pool) joins = absurd joins
 
 -- whatever joins an object is a hand
-pub joiner : (pool kind : Kind) → JoinsKind pool kind → (tags : Tags ℕ) × IsMemberIn tags kind
-joiner (IsPool pool) kind joins = is_hand (arc_value pool.shared) kind joins
-joiner (IsMember member) kind joins = absurd joins
-joiner (IsCached member) kind joins = absurd joins
+pub joiner : (flags : ℕ) (pool kind : Kind) → JoinsKind flags pool kind → (tags : Tags ℕ) × IsMemberIn tags kind
+joiner flags (IsPool pool) kind joins = is_hand (arc_value pool.shared) (nat_eq flags 0) kind joins.1
+joiner flags (IsMember member) kind joins = absurd joins
+joiner flags (IsCached member) kind joins = absurd joins
 
--- and that object is a pool
-pub joined : (pool kind : Kind) → JoinsKind pool kind → (tags : Tags ℕ) × IsPoolIn tags pool
-joined (IsPool pool) kind joins = ((arc_value pool.shared).tags, refl)
-joined (IsMember member) kind joins = absurd joins
-joined (IsCached member) kind joins = absurd joins
+-- and that object is a pool, for known flags
+pub joined : (flags : ℕ) (pool kind : Kind) → JoinsKind flags pool kind → ((tags : Tags ℕ) × IsPoolIn tags pool)
+    × (flags ≤ 1)
+joined flags (IsPool pool) kind joins = (((arc_value pool.shared).tags, refl), joins.0)
+joined flags (IsMember member) kind joins = absurd joins
+joined flags (IsCached member) kind joins = absurd joins
 
 -- the totals of a gathered pool are those of an object that is this pool
 pub ends_of : (kind : Kind) (pool : Pool) → kind ≡ IsPool pool → (totals : Option QueueTotals)
@@ -98,9 +107,9 @@ closes_of pool object some totals sums ends is =
 -- each reason why a pool is not closed is a refusal
 pub close_below : (pool : Option Object) (status : Status) → RefusesClose pool status → IsRefusal (code_of status)
 close_below pool status why = ⊎_elim (λ (no : (status ≡ BadHandle) × ¬ (HasPool pool)). below status BadHandle no.0 tt)
-    (λ (rest : (status ≡ HandsOut) ⊎ (status ≡ HandLost)). ⊎_elim
+    (λ (rest : HasPool pool × ((status ≡ HandsOut) ⊎ (status ≡ HandLost))). ⊎_elim
     (λ (is : status ≡ HandsOut). below status HandsOut is tt)
-    (λ (is : status ≡ HandLost). below status HandLost is tt) rest) why
+    (λ (is : status ≡ HandLost). below status HandLost is tt) rest.1) why
 
 module _ (flags : ℕ) (status : Status) where
   -- each reason why an object gives no hand is a refusal

@@ -1,6 +1,6 @@
 -- What calls over a cache do for its caller, in terms of `tag_cache`: what the caller gains and loses, what becomes of the
 -- kept tags, and how many tags were handed out and taken back.
-use Rattle.std.specs.Prelude.{◌≡◌, ℕ, ◌<◌, List, length, Contains, count_ones, Option, Some, None}
+use Rattle.std.specs.Prelude.{◌≡◌, ℕ, ◌<◌, List, length, Contains, count_ones, Option}
 use Rattle.tag_queue.specs.Masks.{tags_in}
 use Rattle.tag_sets.specs.declared.tags.Tags.{Tags}
 use Rattle.tag_sets.specs.Hands.{reserved_of}

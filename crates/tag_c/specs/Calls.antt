@@ -1,5 +1,5 @@
 -- What a call through the handle of a hand does, in terms of `tag_sets`, and over a cache of `tag_cache`.
-use Rattle.std.specs.Prelude.{◌≡◌, ℕ, ◌≤◌, ◌<◌, ◌↔◌, ℤ, false, IsTrue, List, length, Option, Some, None, Result, Ok, Err, IfOk, IfErr, IfSome, IfNone, IsOk, IsSome, OnOk, OnErr, ⊤}
+use Rattle.std.specs.Prelude.{◌≡◌, ℕ, ◌≤◌, ◌<◌, ◌↔◌, ℤ, false, IsTrue, List, Option, Some, None, Result, Ok, Err, IfOk, IfErr, IfSome, IfNone, IsOk, IsSome, OnOk, OnErr, ⊤}
 use mathlib.Core.Option.{some}
 use Rattle.std.specs.Arc.{arc_value}
 use Rattle.wake_book.specs.declared.grants.Grants.{Grants}
@@ -161,6 +161,7 @@ pub record DoesPrepare (tags : Tags ℕ) (answer : Result ℕ TagFault) (old new
 pub record DoesFinish (tags : Tags ℕ) (answer : Result (Option Left) TagFault) (old new : Caller) : Type 0 where
   pub stands : IsOk answer ↔ IsSome (standing_of (hand_of old))
   pub leaves : IfOk answer (λ left. IfSome left (λ how. Leaves how (hand_of old) (hand_of new)))
+  pub out : IfOk answer (λ left. IfSome left (λ how. standing_of (hand_of new) ≡ None))
   pub stays : IfOk answer (λ left. IfNone left (StandsOn (hand_of old) (hand_of new)))
   pub same : OnOk answer (Either (λ _ _. ⊤) SameTags old new)
   pub err : IfErr answer (λ fault. (fault ≡ NotWaiting) × IsUnchanged old new)

@@ -93,21 +93,21 @@ sums_of totals = record {
 abbrev pub Refuses : (Status → Type 0) → ℤ → Type 0
 Refuses reason code = (status : Status) × (code ≡ code_of status) × reason status
 
--- the hands of a pool keep tags on these terms
-abbrev pub KeepsOn : CacheTerms → Kind → Type 0
-KeepsOn terms (IsPool pool) = (arc_value pool.shared).cache ≡ terms
-KeepsOn terms _ = ⊥
+-- this is a new pool, opened with these options, whose hands keep tags on these terms
+abbrev pub IsNewPool : ℕ → ℕ → Options → CacheTerms → Kind → Type 0
+IsNewPool total reserved options terms (IsPool pool) = let state = arc_value pool.shared in
+    Opens total reserved options state.tags state.cells.items × (state.cache ≡ terms)
+IsNewPool total reserved options terms _ = ⊥
 
--- the same of the pool behind a handle
-abbrev pub KeepsBy : CacheTerms → Option Object → Type 0
-KeepsBy terms None = ⊥
-KeepsBy terms (Some object) = KeepsOn terms object.kind
+-- the flags are known, and so is the number that says when tags are kept, of which there are few enough
+abbrev pub IsKnown : RequestedOptions → ℕ → ℕ → Type 0
+IsKnown requested most keeping = (requested.flags ≤ 1) × (keeping ≤ 1) × (most ≤ MAX_CACHE)
 
 -- the handle has a new pool, opened with these options, whose hands keep up to so many tags
 abbrev pub OpensPool : RequestedOptions → ℕ → ℕ → Option Object → Type 0
-OpensPool requested most keeping value = (tags : Tags ℕ)
-    × Opens requested.total requested.reserved (options_of requested) tags × IsPoolOf tags value
-    × (most ≤ MAX_CACHE) × KeepsBy (terms_of most keeping) value
+OpensPool requested most keeping None = ⊥
+OpensPool requested most keeping (Some object) = IsKnown requested most keeping
+    × IsNewPool requested.total requested.reserved (options_of requested) (terms_of most keeping) object.kind
 
 -- an open is refused for the first that holds: a full handle, an unknown flag or number, too large a cache, a limit
 -- exceeded, lack of memory
@@ -116,18 +116,18 @@ RefusesOpen old requested most keeping status =
     ((status ≡ NotEmpty) × IsSome old)
     ⊎ ((status ≡ BadFlag) × (old ≡ None) × ((1 < requested.flags) ⊎ (1 < keeping)))
     ⊎ ((status ≡ CacheTooLarge) × (old ≡ None) × (requested.flags ≤ 1) × (keeping ≤ 1) × (MAX_CACHE < most))
-    ⊎ ((fault : SetFault) × (status ≡ NotOpened fault) × (old ≡ None) × (requested.flags ≤ 1) × (keeping ≤ 1)
-    × (most ≤ MAX_CACHE) × sets.RefusesOpen requested.total requested.reserved (options_of requested) fault)
+    ⊎ ((fault : SetFault) × (status ≡ NotOpened fault) × (old ≡ None) × IsKnown requested most keeping
+    × sets.RefusesOpen requested.total requested.reserved (options_of requested) fault)
 
--- the object is a hand of this pool; it has a cache if the pool's hands keep tags, and keeps none yet
-abbrev pub JoinsKind : Kind → Kind → Type 0
-JoinsKind (IsPool pool) hand = JoinsAs (arc_value pool.shared) hand
-JoinsKind _ hand = ⊥
+-- the flags are known, and the object is a hand of this pool, whose gets begin in its own part if there is no flag
+abbrev pub JoinsKind : ℕ → Kind → Kind → Type 0
+JoinsKind flags (IsPool pool) hand = (flags ≤ 1) × JoinsAs (arc_value pool.shared) (nat_eq flags 0) hand
+JoinsKind flags _ hand = ⊥
 
 -- the second handle has a hand of the first one's pool
-abbrev pub JoinsPool : Option Object → Option Object → Type 0
-JoinsPool (Some pool) (Some hand) = JoinsKind pool.kind hand.kind
-JoinsPool _ _ = ⊥
+abbrev pub JoinsPool : ℕ → Option Object → Option Object → Type 0
+JoinsPool flags (Some pool) (Some hand) = JoinsKind flags pool.kind hand.kind
+JoinsPool flags _ _ = ⊥
 
 -- a pool gives no hand for unknown flags, nor for known ones if it lacks a hand
 abbrev pub RefusesHand : ℕ → Status → Type 0
@@ -157,6 +157,7 @@ abbrev pub ClosesPool : Option Object → Sums → Type 0
 ClosesPool pool sums = (tags : Tags ℕ) × (totals : QueueTotals) × IsPoolOf tags pool × Gathers tags totals
     × (sums ≡ sums_of totals)
 
--- a close is refused for a handle without a pool; which hands are out is not specified
+-- a close is refused for a handle without a pool; when hands of a pool are out or lost is not specified
 abbrev pub RefusesClose : Option Object → Status → Type 0
-RefusesClose pool status = ((status ≡ BadHandle) × ¬ (HasPool pool)) ⊎ (status ≡ HandsOut) ⊎ (status ≡ HandLost)
+RefusesClose pool status = ((status ≡ BadHandle) × ¬ (HasPool pool))
+    ⊎ (HasPool pool × ((status ≡ HandsOut) ⊎ (status ≡ HandLost)))

@@ -1,5 +1,5 @@
 -- What a clear of a mask of tags through the handle of a hand does.
-use Rattle.std.specs.Prelude.{◌≡◌, ℕ, ◌≤◌, ◌↔◌, count_ones, All, Result, Err, IfOk, IsOk, OnOk, OnErr}
+use Rattle.std.specs.Prelude.{◌≡◌, ℕ, ◌≤◌, ◌↔◌, count_ones, All, Result, Err, IfOk, IsOk, OnErr}
 use Rattle.wake_book.specs.declared.grants.Grants.{Grants}
 use Rattle.wake_book.specs.Grants.{AreGrantsOf}
 use Rattle.tag_sets.specs.declared.fault.TagFault.{TagFault}

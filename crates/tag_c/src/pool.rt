@@ -1,7 +1,7 @@
 //! Opens and closes the tags of a pool, and gives out its hands.
 ghost use Rattle.std.specs.Prelude.{◌≡◌, ◌≤◌, [], IfOk, IfErr, IfSome, vec_len, vec_capacity};
 ghost use Rattle.std.specs.Arc.{arc_value};
-ghost use Rattle.tag_sets.specs.Opening.{CanOpen, RefusesOpen};
+ghost use Rattle.tag_sets.specs.Opening.{RefusesOpen};
 ghost use Rattle.tag_c.specs.Pools.{Opens, LacksHand, Gathers};
 
 use crate::cached::{CacheTerms, CachedMember};
@@ -33,9 +33,9 @@ impl Pool {
         options: Options,
         cache: CacheTerms,
     ) -> Result<Pool, SetFault>
-        ensures ok { IfOk result (λ pool. Opens total reserved options (arc_value pool.shared).tags) }
+        ensures ok { IfOk result (λ pool. let state = arc_value pool.shared in
+            Opens total reserved options state.tags state.cells.items) }
         ensures cache { IfOk result (λ pool. (arc_value pool.shared).cache ≡ cache) }
-        ensures can { IfOk result (λ _. CanOpen total reserved options) }
         ensures cause { IfErr result (RefusesOpen total reserved options) }
     {
         let (tags, hands) = Tags::open(alloc, total, reserved, options, 0)?;
@@ -54,7 +54,7 @@ impl Pool {
     /// begin in its own part of the tags, and otherwise where its last get left off. Fails if all hands are out, or if the
     /// pool cannot be shared once more.
     pub(crate) fn join(&self, placed: bool) -> Result<Kind, Status>
-        ensures ok { IfOk result (JoinsAs (arc_value self.now.shared)) }
+        ensures ok { IfOk result (JoinsAs (arc_value self.now.shared) placed) }
         ensures why { IfErr result LacksHand }
     {
         let Ok(shared) = Arc::try_clone(&self.shared) else {

@@ -1,5 +1,5 @@
 //! The part of a pool that all its hands share.
-ghost use Rattle.std.specs.Prelude.{◌≡◌, ◌≤◌, [], All, IfSome, IfErr, vec_len, vec_capacity};
+ghost use Rattle.std.specs.Prelude.{◌≡◌, ◌≤◌, [], All, IfSome, IfErr, reverse, vec_len, vec_capacity};
 ghost use Rattle.tag_layout.specs.declared.layout.TheConstants.{MAX_DEPTH};
 ghost use Rattle.tag_sets.specs.Hands.{IsHandOf, reserved_of, total_of};
 ghost use Rattle.tag_c.specs.Pools.{Gathers};
@@ -66,6 +66,7 @@ impl PoolState {
         requires own { All (IsHandOf tags) hands.items }
         requires room { (cells.items ≡ []) × (vec_len hands ≤ vec_capacity cells) }
         ensures tags { result.0.tags ≡ tags }
+        ensures cells { result.0.cells.items ≡ reverse hands.items }
         ensures cache { result.0.cache ≡ cache }
         ensures room { (result.1.items ≡ []) × (vec_len result.0.cells ≤ vec_capacity result.1) }
     {

@@ -22,8 +22,7 @@ const STAY: u32 = 1;
 impl Object {
     /// Takes out a hand of this pool. Fails if this is a hand, if the flags are unknown, or if the pool gives no hand.
     pub(crate) fn join(&self, flags: u32) -> Result<Kind, Status>
-        ensures ok { IfOk result (JoinsKind self.now.kind) }
-        ensures known { IfOk result (λ _. flags ≤ 1) }
+        ensures ok { IfOk result (JoinsKind flags self.now.kind) }
         ensures why { IfErr result (RefusesHandOf self.now.kind flags) }
     {
         let Kind::Pool(pool) = &self.kind else {
@@ -165,7 +164,7 @@ pub extern "C" fn tags_open_cached(
 
 #[unsafe(no_mangle)]
 pub extern "C" fn tags_join(alloc: Global, pool: &mut Handle, hand: &mut Handle, flags: u32) -> i32
-    ensures joins { result ≡ pos 0 → JoinsPool pool.old.object.value hand.new.object.value }
+    ensures joins { result ≡ pos 0 → JoinsPool flags pool.old.object.value hand.new.object.value }
     ensures not_empty { IsSome hand.old.object.value → result ≡ code_of NotEmpty }
     ensures why { result ≢ pos 0 → Refuses (RefusesJoin pool.old.object.value hand.old.object.value flags) result }
     ensures pool { pool.new.object.value ≡ pool.old.object.value }

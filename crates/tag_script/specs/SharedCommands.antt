@@ -1,6 +1,6 @@
 -- The answer of each command of a script over shared tags, and the state after it. With one caller the answers are
 -- those over plain words.
-use Rattle.std.specs.Prelude.{⊤, ◌≡◌, ◌≢◌, ℕ, ◌*◌, ◌≤◌, Bool, true, List, length, filter, nat_eq, Result, Ok, Err}
+use Rattle.std.specs.Prelude.{◌≡◌, ◌≢◌, ℕ, ◌*◌, ◌≤◌, Bool, true, List, length, filter, nat_eq, Result, Ok, Err}
 use Rattle.tag_board.specs.declared.board.Board.{Board}
 use Rattle.tag_board.specs.Boards.{state_of, alone_sets_of, waiters_of}
 use Rattle.tag_board.specs.Closing.{totals_in}
@@ -62,14 +62,10 @@ abbrev pub Both : {A : Type 0} → (State → A → State → Type 0) → (Alone
     → Type 0
 Both any alone old outcome new = Together any alone Stay old outcome new
 
--- whatever the callers do as they wait and wake others
-abbrev pub Anyhow : {A : Type 0} → (ℕ → Waiter) → A → (ℕ → Waiter) → Type 0
-Anyhow old outcome new = ⊤
-
--- the answer is that of a result which the resize may have, after which the callers' steps are counted anew
+-- the answer is that of a result which the resize may have
 abbrev pub TellsResize : ℕ → Scene → Answer → Scene → Type 0
 TellsResize total old answer new = (outcome : Result (Unit {0}) ResizeCause)
-    × Together (Resizes total) (AloneResizes total) Anyhow old outcome new × (answer ≡ resize_answer outcome)
+    × Both (Resizes total) (AloneResizes total) old outcome new × (answer ≡ resize_answer outcome)
 
 -- the tag's bit is 1
 abbrev pub is_marked : List ℕ → ℕ → Bool

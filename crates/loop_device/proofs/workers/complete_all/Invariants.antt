@@ -1,4 +1,4 @@
--- Hand and pass stay those of the play, and the numbers popped so far are served.
+-- Hand and pass stay those of the play, and the numbers popped so far are served, with their faults noted.
 use Rattle.crossbeam_queue.specs.Passes.{IsPassOf, view}
 use Rattle.tag_sets.specs.Hands.{IsHandOf}
 use Rattle.loop_device.specs.Completing.{CompletesPopped}
@@ -9,6 +9,6 @@ invariant-loop g l = record {
   turns : (goal.iterator-loop g).can_next l.iterator' × (goal.iterator-loop g).is_finite l.iterator';
   hand : IsHandOf l.device.tags l.hand;
   pass : IsPassOf l.device.queue l.pass;
-  served : CompletesPopped l.device.tags l.log.ios.items (view l.initial.pass) (view l.pass)
+  served : CompletesPopped l.device.tags l.log.ios.items l.faults (view l.initial.pass) (view l.pass)
       l.initial.hand l.hand;
 }

@@ -1,5 +1,5 @@
 -- The pool that fills the handle was opened with the converted options; each early return has a reason of its own.
-use Rattle.std.proofs.Common.{arith, ◌≡◌, Option, None, inl, inr, refl, sym, subst, ◌∙◌}
+use Rattle.std.proofs.Common.{arith, ◌≡◌, Option, Some, None, inl, inr, refl, sym, subst, ◌∙◌}
 use Rattle.std.specs.Arc.{arc_value}
 use Rattle.tag_sets.specs.declared.fault.SetFault.TheVariants.{Memory}
 use Rattle.tag_queue.specs.declared.queue.Options.{Options}
@@ -7,7 +7,7 @@ use Rattle.tag_sets.specs.Opening as sets
 use Rattle.tag_c.specs.declared.handle.Handle.{Handle}
 use Rattle.tag_c.specs.declared.object.Object.{Object}
 use Rattle.tag_c.specs.declared.status.Status.TheVariants.{NotEmpty, BadFlag, NotOpened, CacheTooLarge}
-use Rattle.tag_c.specs.Exports.{RefusesOpen, IsPoolIn, IsPoolOf, KeepsOn, KeepsBy, terms_of}
+use Rattle.tag_c.specs.Exports.{RefusesOpen, OpensPool, options_of}
 use Rattle.tag_c.specs.Pools.{Opens}
 use Rattle.tag_c.proofs.Refusing.{refuses, refused, fault_below}
 use Rattle.tag_c.proofs.Flags.{is_some_of, empty_of}
@@ -60,9 +60,11 @@ returns-in-Err-clause-why c = λ _. let code = c.code-in-Err in let requested = 
       fault,
       refl,
       empty c.args.pool.now c.if-pool-ne0.false,
-      omega (arith, c.if-requested-gt-ROUND_ROBIN.false),
-      omega (arith, c.if-keeping-gt-WHILE_HOLDING.false),
-      omega (arith, c.if-most-gt-MAX_CACHE.false),
+      (
+        omega (arith, c.if-requested-gt-ROUND_ROBIN.false),
+        omega (arith, c.if-keeping-gt-WHILE_HOLDING.false),
+        omega (arith, c.if-most-gt-MAX_CACHE.false),
+      ),
       subst (λ (o : Options). sets.RefusesOpen requested.total requested.reserved o fault) c.read_options.ensures
           c.in-Err.ensures.cause,
     ))))
@@ -75,22 +77,27 @@ returns-in_default-clause-why c = λ _. let code = c.code-in_default in
       Memory,
       refl,
       empty c.args.pool.now c.if-pool-ne0.false,
-      omega (arith, c.if-requested-gt-ROUND_ROBIN.false),
-      omega (arith, c.if-keeping-gt-WHILE_HOLDING.false),
-      omega (arith, c.if-most-gt-MAX_CACHE.false),
+      (
+        omega (arith, c.if-requested-gt-ROUND_ROBIN.false),
+        omega (arith, c.if-keeping-gt-WHILE_HOLDING.false),
+        omega (arith, c.if-most-gt-MAX_CACHE.false),
+      ),
       subst (λ (o : Options). sets.CanOpen c.args.requested.now.total c.args.requested.now.reserved o)
-          c.read_options.ensures c.in-Ok.ensures.can,
+          c.read_options.ensures c.in-Ok.ensures.ok.can,
     ))))
 
 pub returns-clause-opens : goal.returns-clause-opens
-returns-clause-opens c = λ _. let requested = c.args.requested.now in let tags = (arc_value c.in-Ok.opened.shared).tags in
-    let terms = terms_of c.args.most c.args.keeping in (
-      tags,
-      subst (λ (o : Options). Opens requested.total requested.reserved o tags) c.read_options.ensures c.in-Ok.ensures.ok,
-      subst (λ (x : Option Object). IsPoolOf tags x) (sym c.of.ensures)
-          (subst (λ (x : Object). IsPoolIn tags x.kind) (sym c.in-Ok-new.ensures.ok) refl),
-      omega (arith, c.if-most-gt-MAX_CACHE.false),
-      subst (λ (x : Option Object). KeepsBy terms x) (sym c.of.ensures)
-          (subst (λ (x : Object). KeepsOn terms x.kind) (sym c.in-Ok-new.ensures.ok)
-          (c.in-Ok.ensures.cache ∙ c.read_terms.ensures)),
-    )
+returns-clause-opens c = λ _. let requested = c.args.requested.now in let state = arc_value c.in-Ok.opened.shared in
+    let most = c.args.most in let keeping = c.args.keeping in
+    let opens : Opens requested.total requested.reserved (options_of requested) state.tags state.cells.items =
+    subst (λ (o : Options). Opens requested.total requested.reserved o state.tags state.cells.items)
+    c.read_options.ensures c.in-Ok.ensures.ok in
+    subst (λ (x : Option Object). OpensPool requested most keeping x) (sym c.of.ensures)
+    (subst (λ (x : Object). OpensPool requested most keeping (Some x)) (sym c.in-Ok-new.ensures.ok) (
+      (
+        omega (arith, c.if-requested-gt-ROUND_ROBIN.false),
+        omega (arith, c.if-keeping-gt-WHILE_HOLDING.false),
+        omega (arith, c.if-most-gt-MAX_CACHE.false),
+      ),
+      (opens, c.in-Ok.ensures.cache ∙ c.read_terms.ensures),
+    ))

@@ -3,7 +3,7 @@ use Rattle.std.proofs.Common.{rules, ◌≡◌, Some, None, inl, inr, refl, sym,
 use Rattle.tag_c.specs.declared.object.Object.{Object}
 use Rattle.tag_c.specs.declared.status.Status.TheVariants.{BadHandle, HandLost}
 use Rattle.tag_c.specs.Exports.{RefusesClose, Ends}
-use Rattle.tag_c.proofs.Refusing.{refuses, refused, no_pool, pool_there, closes_of, close_below}
+use Rattle.tag_c.proofs.Refusing.{refuses, refused, no_pool, has_pool, pool_there, closes_of, close_below}
 use Rattle.tag_c.proofs.pools.tags_close.Goals as goal
 use Rattle.tag_c.proofs.pools.tags_close.Goals.{in-Ok-false, in-Err}
 
@@ -14,7 +14,11 @@ returns-in_default-clause-why c = λ _. let value = c.args.pool.now.object.value
 
 pub returns-in_default-close-clause-why : goal.returns-in_default-close-clause-why
 returns-in_default-close-clause-why c = λ _. let code = c.code-in_default-close in
-    refuses (RefusesClose c.args.pool.now.object.value) HandLost code.result code.ensures code.type_inv (inr (inr refl))
+    let value = c.args.pool.now.object.value in
+    let some : value ≡ Some c.deref.result.now =
+    subst (λ (x : Object). value ≡ Some x) (sym c.deref.ensures) c.in-Some.ensures.some in
+    refuses (RefusesClose value) HandLost code.result code.ensures code.type_inv
+    (inr (has_pool value c.deref.result.now some c.in-Ok-true.ensures.ok, inr refl))
 
 pub returns-in-Ok-true-clause-closes : goal.returns-in-Ok-true-clause-closes
 returns-in-Ok-true-clause-closes c = λ _. let totals = c.in-Some-close.totals in (
@@ -29,7 +33,7 @@ left c = let value = c.args.pool.now.object.value in
     let some : value ≡ Some c.deref.result.now =
     subst (λ (x : Object). value ≡ Some x) (sym c.deref.ensures) c.in-Some.ensures.some in
     elim c.match-has_all_hands.branch [
-      | in-Ok-false w ↦ inr (inl w.refused-is)
+      | in-Ok-false w ↦ inr (has_pool value c.deref.result.now some w.in-Ok-false.ensures.ok, inl w.refused-is)
       | in-Err w ↦ let no = w.in-Err.ensures.err in
           inl (w.refused-is ∙ no.0, λ has. no.1 (pool_there value c.deref.result.now some has))
     ]

@@ -46,13 +46,14 @@ returns-in-Err-clause-why c = λ _. let pool = c.args.pool.now.object.value in l
 
 pub leave-requires : goal.leave-requires
 leave-requires c = let pool = c.in-Some.object.now.kind in
-    subst IsHand (sym c.in-Err-new.ensures.value_returned) (joiner pool c.in-Ok.kind c.in-Ok.ensures.ok)
+    subst IsHand (sym c.in-Err-new.ensures.value_returned) (joiner c.args.flags pool c.in-Ok.kind c.in-Ok.ensures.ok)
 
 pub returns-in-Ok-new-clause-joins : goal.returns-in-Ok-new-clause-joins
 returns-in-Ok-new-clause-joins c = λ _. let pool = c.in-Some.object.now in
-    subst (λ (x : Option Object). JoinsPool x c.of.result.object.value) (sym c.in-Some.ensures.some)
-    (subst (λ (x : Option Object). JoinsPool (Some pool) x) (sym c.of.ensures)
-    (subst (λ (x : Object). JoinsKind pool.kind x.kind) (sym c.in-Ok-new.ensures.ok) c.in-Ok.ensures.ok))
+    let flags = c.args.flags in
+    subst (λ (x : Option Object). JoinsPool flags x c.of.result.object.value) (sym c.in-Some.ensures.some)
+    (subst (λ (x : Option Object). JoinsPool flags (Some pool) x) (sym c.of.ensures)
+    (subst (λ (x : Object). JoinsKind flags pool.kind x.kind) (sym c.in-Ok-new.ensures.ok) c.in-Ok.ensures.ok))
 
 pub returns-in-Ok-new-clause-not_empty : goal.returns-in-Ok-new-clause-not_empty
 returns-in-Ok-new-clause-not_empty c = λ full. let hand = c.args.hand.now in
@@ -64,10 +65,11 @@ returns-in-Err-new-clause-not_empty c = λ full. let hand = c.args.hand.now in
 
 pub returns-in-Err-new-clause-why : goal.returns-in-Err-new-clause-why
 returns-in-Err-new-clause-why c = λ _. let code = c.code-in-Err-new in
-    let there = joined c.in-Some.object.now.kind c.in-Ok.kind c.in-Ok.ensures.ok in
+    let there = joined c.args.flags c.in-Some.object.now.kind c.in-Ok.kind c.in-Ok.ensures.ok in
+    let pool = there.0 in
     refuses (RefusesJoin c.args.pool.now.object.value c.args.hand.now.object.value c.args.flags) (NotOpened Memory)
     code.result code.ensures code.type_inv (inr (inr (
       empty c.args.hand.now c.if-hand-ne0.false,
-      (there.0, subst (λ (x : Option Object). IsPoolOf there.0 x) (sym c.in-Some.ensures.some) there.1),
-      inr (c.in-Ok.ensures.known, inr refl),
+      (pool.0, subst (λ (x : Option Object). IsPoolOf pool.0 x) (sym c.in-Some.ensures.some) pool.1),
+      inr (there.1, inr refl),
     )))

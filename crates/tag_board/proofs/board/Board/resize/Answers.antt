@@ -1,7 +1,7 @@
 -- All hands are passed in, so none is missing; the tags in use that a refusal reports are the sums over both sets.
 use Rattle.std.proofs.Common.{◌≡◌, refl, sym, ap, ◌∙◌}
 use Rattle.tag_queue.specs.Agents as queue
-use Rattle.tag_board.proofs.Continuing.{order_kept, every_there, world_resized, world_free, total_kept, world_kept, numbers_kept, may_resize, refuses}
+use Rattle.tag_board.proofs.Continuing.{order_kept, every_there, world_resized, world_free, waiters_resized, total_kept, world_kept, waiters_kept, numbers_kept, may_resize, refuses}
 use Rattle.tag_board.proofs.Endings.{all_there}
 use Rattle.tag_board.proofs.AloneResizes.{resizes_alone, unchanged_alone}
 use Rattle.tag_board.proofs.board.Board.resize.Goals as goal
@@ -66,3 +66,11 @@ returns-in-Ok-clause-alone c = λ one. let b = c.args.self in
 pub returns-in_default-clause-alone : goal.returns-in_default-clause-alone
 returns-in_default-clause-alone c = λ one. let b = c.args.self in
     unchanged_alone b.hands.items c.in-Err.field-0.hands.items one c.in-Err.ensures.err.1
+
+pub returns-in-Ok-clause-waiters : goal.returns-in-Ok-clause-waiters
+returns-in-Ok-clause-waiters c = let b = c.args.self in let is = c.in-Ok.ensures.ok in
+    waiters_resized b.tags c.in-Ok.tags b.hands.items c.in-Ok.hands.items c.args.total is (c.in-Ok.ensures.may refl).1.0
+
+pub returns-in_default-clause-waiters : goal.returns-in_default-clause-waiters
+returns-in_default-clause-waiters c = let b = c.args.self in let fault = c.in-Err.field-0 in
+    let back = c.in-Err.ensures.err in waiters_kept b.tags fault.tags b.hands.items fault.hands.items back.0 back.1

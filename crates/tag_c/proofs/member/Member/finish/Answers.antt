@@ -12,6 +12,7 @@ returns c = let e = c.try_finish_wait.ensures in (
   through DoesFinish code_of_finish c.finish_code.ensures c.finish_code.type_inv c.deref.ensures record {
     stands = e.stands;
     leaves = e.leaves;
+    out = e.out;
     stays = e.stays;
     same = of_done c.try_finish_wait.result tt;
     err = e.err;

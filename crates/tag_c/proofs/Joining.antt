@@ -1,0 +1,35 @@
+-- Where the gets of a hand that joins begin.
+use Rattle.std.proofs.Common.{◌≡◌, ℕ, ◌*◌, ◌/◌, sym, ap, ◌∙◌}
+use Rattle.tag_core.specs.declared.caller.Caller.{Caller}
+use Rattle.tag_core.specs.Callers.{record_of}
+use Rattle.tag_search.specs.declared.hint.Hint.{Hint}
+use Rattle.tag_queue.specs.declared.agent.Agent.{Agent}
+use Rattle.tag_queue.specs.declared.queue.Queue.{Queue}
+use Rattle.tag_queue.specs.Agents as queue
+use Rattle.tag_queue.specs.Placing.{hint_in_part}
+use Rattle.tag_sets.specs.declared.hand.Hand.{Hand}
+use Rattle.tag_sets.specs.declared.kind.Kind.{Kind}
+use Rattle.tag_sets.specs.declared.tags.Tags.{Tags}
+use Rattle.tag_sets.specs.Hands.{agent_of, hint_of, queue_of}
+use Rattle.tag_sets.specs.Placing.{SameButHint}
+use Rattle.tag_c.specs.Joins.{BeginsInPart}
+
+-- an agent of the same caller and with the same way of going round has the same part
+same_part : (q : Queue ℕ) (old new : Agent ℕ) → queue.caller_of new ≡ queue.caller_of old
+    → (queue.hint_of new).round_robin ≡ (queue.hint_of old).round_robin → hint_in_part q old ≡ hint_in_part q new
+same_part q old new caller round =
+    let number : queue.number_of new ≡ queue.number_of old =
+    sym new.numbers.0 ∙ ap (λ (c : Caller ℕ). (record_of c).number) caller ∙ old.numbers.0 in λ j. record {
+      at = (sym number j * (queue.layout_of q).depth) / queue.agents_of q;
+      round_robin = sym round j;
+    }
+
+-- a hand whose hints were moved begins in its own part
+pub begins : (tags seen : Tags ℕ) (old new : Hand ℕ) → seen ≡ tags
+    → ((kind : Kind) → hint_of new kind ≡ hint_in_part (queue_of seen kind) (agent_of old kind))
+    → ((kind : Kind) → SameButHint kind old new) → BeginsInPart tags new
+begins tags seen old new same hints rest = λ kind.
+    let part : hint_of new kind ≡ hint_in_part (queue_of tags kind) (agent_of old kind) =
+    hints kind ∙ ap (λ (t : Tags ℕ). hint_in_part (queue_of t kind) (agent_of old kind)) same in
+    part ∙ same_part (queue_of tags kind) (agent_of old kind) (agent_of new kind) (rest kind).0
+    (ap (λ (h : Hint). h.round_robin) part)
