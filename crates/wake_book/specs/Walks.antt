@@ -1,5 +1,5 @@
 -- Lawful walks, and how a waiter sleeps in a group and leaves it.
-use Rattle.std.specs.Prelude.{◌≡◌, ◌≢◌, ◌⊎◌, ℕ, zero, suc, ◌+◌, ◌-◌, ◌%◌, ◌^◌, ◌<◌, ◌≤◌, List, [], ◌∷◌, length, sum, min}
+use Rattle.std.specs.Prelude.{◌≡◌, ◌≢◌, ◌⊎◌, ℕ, zero, suc, ◌+◌, ◌-◌, ◌*◌, ◌%◌, ◌^◌, ◌<◌, ◌≤◌, List, [], ◌∷◌, length, sum, min}
 use Rattle.step_ledger.specs.History.{total}
 use Rattle.wake_book.specs.declared.steps.GroupStep.{GroupStep}
 use Rattle.wake_book.specs.declared.steps.GroupStep.TheVariants.{Look, Lower, Grant, Use, Withdraw, Store}
@@ -64,6 +64,10 @@ abbrev pub IsWalk : ℕ → List GroupStep → List GroupStep → ℕ → Type 0
 IsWalk nr steps steps' moved = ((2 ^ 56 < total moved_by steps + nr) × (steps' ≡ steps) × (moved ≡ 0))
     ⊎ (((total moved_by steps + nr ≤ 2 ^ 56) × (steps' ≡ Look active_at 0 ∷ steps) × (moved ≡ 0))
     ⊎ ((total moved_by steps + nr ≤ 2 ^ 56) × WalksOn nr steps steps' moved))
+
+-- the most steps of a walk: two loads, eight visits of four tries of two steps each, and the store
+abbrev pub walk_steps : ℕ
+walk_steps = 2 + 8 * (4 * 2) + 1
 
 -- the exchange that follows a look: a use of a grant if the look found one, otherwise a withdrawal
 abbrev pub IsCalledFor : ℕ → ℕ → ℕ → GroupStep → Type 0
