@@ -1,5 +1,6 @@
 -- What the steps of a charge and of a walk count and grant.
-use Rattle.std.proofs.Common.{◌≡◌, ℕ, zero, suc, ◌+◌, ◌≤◌, ⊎_elim, ◌⊎◌, inl, inr, List, ◌∷◌, refl, ap, arith, min}
+use Rattle.std.proofs.Common.{◌≡◌, ℕ, zero, suc, ◌+◌, ◌-◌, ◌%◌, ⊎_elim, ◌⊎◌, inl, inr, List, [], ◌∷◌, length, sum, refl, ap, arith, min}
+use Rattle.std.proofs.lemmas.List.Sums.{sum_by-cons}
 use Rattle.tag_board.proofs.Uses.{total, Charge, Full, Below, Won, Busy, GroupStep, moved_by, waiting}
 use Rattle.wake_book.specs.declared.steps.BookStep.{BookStep}
 use Rattle.wake_book.specs.declared.steps.BookStep.TheVariants.{Add}
@@ -42,29 +43,23 @@ looks_grant : (g most : ℕ) (steps steps' : List GroupStep) (found : ℕ) → L
 looks_grant g most steps steps' found l =
     let rest = loses_grant l.0 g most steps l.2 l.3 in let all = ap (total moved_by) l.4 in omega arith
 
--- a visit grants what it says that it moved, at most what it may
+-- a visit grants what it says that it moved
 visit_grants : (g most : ℕ) (steps steps' : List GroupStep) (moved : ℕ) → VisitsGroup g most steps steps' moved
-    → (total moved_by steps' ≡ total moved_by steps + moved) × (moved ≤ most)
+    → total moved_by steps' ≡ total moved_by steps + moved
 visit_grants g most steps steps' moved v = ⊎_elim
-    (λ nobody. let rest = looks_grant g most steps steps' nobody.0 nobody.1 in let none = nobody.3 in
-    (omega arith, omega arith))
+    (λ nobody. let rest = looks_grant g most steps steps' nobody.0 nobody.1 in let none = nobody.3 in omega arith)
     (λ some. ⊎_elim
     (λ wins. let rest = looks_grant g most steps wins.1 wins.0 wins.2 in let all = ap (total moved_by) wins.5 in
-    let won = yes_of wins.0 wins.0 moved 0 refl in let few = wins.4 in (omega arith, omega arith))
-    (λ four. let rest = loses_grant four.0 g most steps steps' four.2 in let none = four.3 in
-    (omega arith, omega arith)) some) v
+    let won = yes_of wins.0 wins.0 moved 0 refl in omega arith)
+    (λ four. let rest = loses_grant four.0 g most steps steps' four.2 in let none = four.3 in omega arith) some) v
 
--- visits grant what they no longer leave to wake
-visits_grant : (visits first nr : ℕ) (steps steps' : List GroupStep) (left next : ℕ)
-    → AreVisits visits first nr steps steps' left next
-    → (total moved_by steps' + left ≡ total moved_by steps + nr) × (left ≤ nr)
-visits_grant zero first nr steps steps' left next a =
-    let all = ap (total moved_by) a.0 in let same = a.1 in (omega arith, omega arith)
-visits_grant (suc visits) first nr steps steps' left next a =
-    let rest = visits_grant visits first nr steps a.0 a.1 a.2 a.4 in
-    let visit = visit_grants a.2 a.1 a.0 steps' a.3 a.6 in
-    let one = rest.0 in let two = rest.1 in let more = visit.0 in let few = visit.1 in let less = a.7 in
-    (omega arith, omega arith)
+-- visits grant what they moved, all together
+visits_grant : (first nr : ℕ) (counts : List ℕ) (steps steps' : List GroupStep) → AreVisits first nr counts steps steps'
+    → total moved_by steps' ≡ total moved_by steps + sum counts
+visits_grant first nr [] steps steps' same = let all = ap (total moved_by) same in omega arith
+visits_grant first nr (moved ∷ earlier) steps steps' v = let rest = visits_grant first nr earlier steps v.0 v.1 in
+    let visit = visit_grants ((first + length earlier) % 8) (nr - sum earlier) v.0 steps' moved v.3 in
+    let more = sum_by-cons (λ x. x) moved earlier in omega arith
 
 -- a walk grants as many wakeups as it says
 pub walk_grants : (nr : ℕ) (steps steps' : List GroupStep) (moved : ℕ) → IsWalk nr steps steps' moved
@@ -76,5 +71,5 @@ walk_grants nr steps steps' moved w = ⊎_elim
     (λ walks. on walks.1) room) w
   where
     on : WalksOn nr steps steps' moved → total moved_by steps' ≡ total moved_by steps + moved
-    on w = let visits = visits_grant w.3 w.2 nr _ w.5 w.6 w.7 w.8 in let one = visits.0 in let two = visits.1 in
-        let all = ap (total moved_by) w.10 in let is = w.11 in omega arith
+    on w = let visits = visits_grant w.2 nr w.4 _ w.5 w.6 in let all = ap (total moved_by) w.9 in let is = w.10 in
+        omega arith

@@ -10,7 +10,7 @@ use Rattle.tag_core.specs.Callers.{record_of}
 use Rattle.wake_book.specs.declared.charge.Charge.{Charge}
 use Rattle.wake_book.specs.declared.charge.Charge.TheVariants.{Full, Below, Won, Busy}
 use Rattle.wake_book.specs.declared.steps.GroupStep.{GroupStep}
-use Rattle.wake_book.specs.Walks.{IsWalk, WalksOn}
+use Rattle.wake_book.proofs.Walking.{walk_few}
 use Rattle.tag_queue.specs.Agents as queue
 use Rattle.tag_queue.specs.Batches.{Run, record_after_runs}
 use Rattle.tag_queue.specs.Clears as queue_clears
@@ -36,14 +36,6 @@ use Rattle.tag_cache.proofs.Reusing.{none_kept}
 use Rattle.tag_cache.proofs.Windows.{none_in}
 use Rattle.tag_cache.proofs.Tallying.{Moves, clears_moves, rests as rests_agent}
 
--- a walk wakes no more than it was asked for
-walk_few : (nr : ℕ) (steps steps' : List GroupStep) (moved : ℕ) → IsWalk nr steps steps' moved → moved ≤ nr
-walk_few nr steps steps' moved w = ⊎_elim (λ full. let none = full.2 in omega arith)
-    (λ room. ⊎_elim (λ nobody. let none = nobody.2 in omega arith) (λ walks. on walks.1) room) w
-  where
-    on : WalksOn nr steps steps' moved → moved ≤ nr
-    on w = let is = w.11 in omega arith
-
 -- what follows a charge wakes no more than a batch
 follows_few : (batch : ℕ) (charge : Charge) (steps steps' : List GroupStep) (woken : ℕ)
     → queue_clears.Follows batch charge steps steps' woken → woken ≤ batch
@@ -67,7 +59,8 @@ runs_win (run ∷ runs) r = let rest = runs_win runs r in
 
 module _ {R : Type 0} (tags : Tags R) where
   -- a clear wakes no more than a batch
-  counts_few : (kind : Kind) (n : ℕ) (a b : Hand R) (woken : ℕ) → hand_clears.Counts tags kind n a b woken → woken ≤ 8
+  pub counts_few : (kind : Kind) (n : ℕ) (a b : Hand R) (woken : ℕ) → hand_clears.Counts tags kind n a b woken
+      → woken ≤ 8
   counts_few Ordinary n a b woken c = let batch : queue.batch_of tags.ordinary ≤ 8 = tags.ordinary.book.small.3 in
       ⊎_elim (λ (n : queue_clears.FindsNoneActive a.ordinary b.ordinary woken). let none = n.none in omega arith)
       (λ (s : queue_clears.Charges tags.ordinary n a.ordinary b.ordinary woken).

@@ -1,5 +1,5 @@
 -- How many steps a walk adds at most.
-use Rattle.std.proofs.Common.{◌≡◌, ℕ, zero, suc, ◌+◌, ◌*◌, ◌≤◌, List, length, arith, ap, ◌∙◌, ⊎_elim}
+use Rattle.std.proofs.Common.{◌≡◌, ℕ, zero, suc, ◌+◌, ◌-◌, ◌*◌, ◌%◌, ◌≤◌, List, [], ◌∷◌, length, sum, arith, ap, ◌∙◌, ⊎_elim}
 use Rattle.wake_book.specs.declared.steps.GroupStep.{GroupStep}
 use Rattle.wake_book.specs.Walks.{LosesGrants, LosesAndLooks, VisitsGroup, AreVisits}
 
@@ -19,8 +19,8 @@ visit_long g most s s' moved v = ⊎_elim
     (λ r. ⊎_elim (λ a. let l = looked_long g most s a.1 a.0 a.2 in let e = ap length a.5 in
     omega arith) (λ a. let l = lost_long a.0 g most s s' a.2 in let four = a.1 in omega arith) r) v
 
-pub visits_long : (visits first nr : ℕ) (s s' : List GroupStep) (left next : ℕ)
-    → AreVisits visits first nr s s' left next → length s' ≤ 8 * visits + length s
-visits_long zero first nr s s' left next v = let e = ap length v.0 in omega arith
-visits_long (suc visits) first nr s s' left next v = let ih = visits_long visits first nr s v.0 v.1 v.2 v.4 in
-    let t = visit_long v.2 v.1 v.0 s' v.3 v.6 in omega arith
+pub visits_long : (first nr : ℕ) (counts : List ℕ) (s s' : List GroupStep) → AreVisits first nr counts s s'
+    → length s' ≤ 8 * length counts + length s
+visits_long first nr [] s s' v = let e = ap length v in omega arith
+visits_long first nr (moved ∷ earlier) s s' v = let ih = visits_long first nr earlier s v.0 v.1 in
+    let t = visit_long ((first + length earlier) % 8) (nr - sum earlier) v.0 s' moved v.3 in omega arith

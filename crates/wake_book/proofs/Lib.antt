@@ -7,6 +7,7 @@ pub mod AllGroups
 pub mod GroupKeeps
 pub mod Lengths
 pub mod Granting
+pub mod Walking
 pub mod GroupsEnding
 pub mod Crossing
 pub mod Waiters

@@ -1,5 +1,5 @@
 -- Lawful charges: which steps a charge makes, and which outcome it returns.
-use Rattle.std.specs.Prelude.{◌≡◌, ◌≢◌, ℕ, zero, suc, ◌+◌, ◌<◌, ◌≤◌, List, ◌∷◌}
+use Rattle.std.specs.Prelude.{◌≡◌, ◌≢◌, ℕ, zero, suc, ◌+◌, ◌*◌, ◌<◌, ◌≤◌, List, ◌∷◌}
 use Rattle.step_ledger.specs.History.{total}
 use Rattle.wake_book.specs.declared.steps.BookStep.{BookStep}
 use Rattle.wake_book.specs.declared.steps.BookStep.TheVariants.{LookCompletions, LookWakeups, Add, Advance}
@@ -47,3 +47,7 @@ IsCharge cap batch n steps steps' (Won start) = (before : List BookStep) × Coun
     × (steps' ≡ Advance start (start + batch) start ∷ looked start completions before)
 IsCharge cap batch n steps steps' Busy = (total added steps + n ≤ cap) × (found : ℕ) × (tries : ℕ) × (tries ≡ 16)
     × LosesTries tries batch (Add n found ∷ steps) steps'
+
+-- the most steps of a count: the add, and 16 tries of two loads and an exchange each
+abbrev pub count_steps : ℕ
+count_steps = 1 + 16 * 3

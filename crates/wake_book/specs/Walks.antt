@@ -1,5 +1,5 @@
 -- Lawful walks, and how a waiter sleeps in a group and leaves it.
-use Rattle.std.specs.Prelude.{◌≡◌, ◌≢◌, ◌⊎◌, ℕ, zero, suc, ◌+◌, ◌-◌, ◌%◌, ◌^◌, ◌<◌, ◌≤◌, List, ◌∷◌, min}
+use Rattle.std.specs.Prelude.{◌≡◌, ◌≢◌, ◌⊎◌, ℕ, zero, suc, ◌+◌, ◌-◌, ◌*◌, ◌%◌, ◌^◌, ◌<◌, ◌≤◌, List, [], ◌∷◌, length, sum, min}
 use Rattle.step_ledger.specs.History.{total}
 use Rattle.wake_book.specs.declared.steps.GroupStep.{GroupStep}
 use Rattle.wake_book.specs.declared.steps.GroupStep.TheVariants.{Look, Lower, Grant, Use, Withdraw, Store}
@@ -42,28 +42,32 @@ abbrev pub VisitsGroup : ℕ → ℕ → List GroupStep → List GroupStep → �
 VisitsGroup g most steps steps' moved = FindsNobody g most steps steps' moved
     ⊎ (WinsGrant g most steps steps' moved ⊎ LosesFour g most steps steps' moved)
 
--- that many visits to groups in cyclic order from the first, each with at least one still to wake;
--- they end with `left` still to wake and with the group `next`
-abbrev pub AreVisits : ℕ → ℕ → ℕ → List GroupStep → List GroupStep → ℕ → ℕ → Type 0
-AreVisits zero first nr steps steps' left next = (steps' ≡ steps) × (left ≡ nr) × (next ≡ first)
-AreVisits (suc visits) first nr steps steps' left next = (before : List GroupStep) × (most : ℕ) × (g : ℕ) × (moved : ℕ)
-    × AreVisits visits first nr steps before most g × (1 ≤ most) × VisitsGroup g most before steps' moved
-    × (left ≡ most - moved) × (next ≡ (g + 1) % 8)
+-- the visits of a walk from the group `first` on, and how many waiters each moved, the last one first: each is to the
+-- next group in cyclic order, and moves at most what those before it left of `nr`, which was not 0
+abbrev pub AreVisits : ℕ → ℕ → List ℕ → List GroupStep → List GroupStep → Type 0
+AreVisits first nr [] steps steps' = steps' ≡ steps
+AreVisits first nr (moved ∷ earlier) steps steps' = (before : List GroupStep)
+    × AreVisits first nr earlier steps before × (sum earlier < nr)
+    × VisitsGroup ((first + length earlier) % 8) (nr - sum earlier) before steps' moved
 
--- the walk loads an active count other than 0 and the wake index, visits groups until none is left to wake or all
--- eight were visited, and stores the next group
+-- the walk loads an active count other than 0 and the wake index, visits groups until `nr` are moved or all eight were
+-- visited, and stores the group after the last one visited
 abbrev pub WalksOn : ℕ → List GroupStep → List GroupStep → ℕ → Type 0
-WalksOn nr steps steps' moved = (active : ℕ) × (1 ≤ active) × (first : ℕ) × (visits : ℕ) × (visits ≤ 8)
-    × (before : List GroupStep) × (left : ℕ) × (next : ℕ)
-    × AreVisits visits first nr (Look index_at first ∷ Look active_at active ∷ steps) before left next
-    × ((left ≡ 0) ⊎ (visits ≡ 8))
-    × (steps' ≡ Store next ∷ before) × (moved ≡ nr - left)
+WalksOn nr steps steps' moved = (active : ℕ) × (1 ≤ active) × (first : ℕ) × (first < 8)
+    × (counts : List ℕ) × (before : List GroupStep)
+    × AreVisits first nr counts (Look index_at first ∷ Look active_at active ∷ steps) before
+    × (length counts ≤ 8) × ((sum counts ≡ nr) ⊎ (length counts ≡ 8))
+    × (steps' ≡ Store ((first + length counts) % 8) ∷ before) × (moved ≡ sum counts)
 
 -- a walk for nr makes no step if its waiter's moves could exceed 2^56, and ends at once if it finds nobody active
 abbrev pub IsWalk : ℕ → List GroupStep → List GroupStep → ℕ → Type 0
 IsWalk nr steps steps' moved = ((2 ^ 56 < total moved_by steps + nr) × (steps' ≡ steps) × (moved ≡ 0))
     ⊎ (((total moved_by steps + nr ≤ 2 ^ 56) × (steps' ≡ Look active_at 0 ∷ steps) × (moved ≡ 0))
     ⊎ ((total moved_by steps + nr ≤ 2 ^ 56) × WalksOn nr steps steps' moved))
+
+-- the most steps of a walk: two loads, eight visits of four tries of two steps each, and the store
+abbrev pub walk_steps : ℕ
+walk_steps = 2 + 8 * (4 * 2) + 1
 
 -- the exchange that follows a look: a use of a grant if the look found one, otherwise a withdrawal
 abbrev pub IsCalledFor : ℕ → ℕ → ℕ → GroupStep → Type 0

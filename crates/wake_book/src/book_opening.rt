@@ -18,7 +18,7 @@ const MAX_BATCH: u32 = 8;
 const MAX_TELLERS: u32 = 64;
 
 /// The highest cap: the most completions that one teller may count, 2^56.
-pub const MAX_CAP: u64 = 72_057_594_037_927_936;
+pub const MAX_CAP: u64 = 1 << 56;
 
 impl Book {
     /// Opens a book with `tellers` tellers, 1 to 64, in the order of their numbers. Each of them may count up to `cap`

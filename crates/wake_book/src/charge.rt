@@ -1,7 +1,7 @@
 //! Counts completions, and charges a batch of them if one is open.
 ghost use Rattle.std.specs.Prelude.{◌≡◌, ◌≢◌, ℕ, ◌+◌, ◌-◌, ◌^◌, ◌<◌, ◌≤◌, ◌↔◌, List, ◌∷◌, length, IsTrue, IsFalse};
 ghost use Rattle.wake_book.specs.Book.{IsTellerOf, steps_of, number_of, counted_by, charged_by, cap_of, batch_of, JustSaw, LosesAdvance, Rebatches};
-ghost use Rattle.wake_book.specs.Charging.{IsCharge, counted_as, taken_as};
+ghost use Rattle.wake_book.specs.Charging.{IsCharge, counted_as, taken_as, count_steps};
 ghost use Rattle.wake_book.specs.declared.steps.BookStep.TheVariants.{LookCompletions, LookWakeups, Add, Advance};
 
 use crate::book::{Book, COMPLETIONS, Teller, WAKEUPS};
@@ -35,7 +35,7 @@ impl Book {
 
     /// Counts `n` completions, 1 to 64, and charges one batch if one is open. Other tellers may count and charge
     /// meanwhile. It is the counterpart of `sbitmap_queue_wake_up` (lib/sbitmap.c) up to the wakeups, with at most 16
-    /// tries. This adds at most 49 steps to the teller's list; loads that stand in no list are not counted.
+    /// tries. This adds at most 49 steps to the teller's list; loads that are not recorded as steps are not counted.
     pub fn count(&self, teller: &mut Teller, n: u32) -> Charge
         requires book { IsTellerOf self.now teller.old }
         requires within { (1 ≤ n) × (n ≤ 64) }
@@ -43,7 +43,7 @@ impl Book {
         ensures lawful { IsCharge (cap_of self.now) (batch_of self.now) n (steps_of teller.old) (steps_of teller.new) result }
         ensures counted { counted_by teller.new ≡ counted_by teller.old + counted_as n result }
         ensures charged { charged_by teller.new ≡ charged_by teller.old + taken_as (batch_of self.now) result }
-        ensures bound { length (steps_of teller.new) ≤ 49 + length (steps_of teller.old) }
+        ensures bound { length (steps_of teller.new) ≤ count_steps + length (steps_of teller.old) }
     {
         let n = n as u64;
         if n + teller.count > self.limits.cap {

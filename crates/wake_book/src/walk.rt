@@ -1,7 +1,7 @@
 //! The wake walk: moves waiters from waiting to granted, group by group.
 ghost use Rattle.std.specs.Prelude.{◌≡◌, ◌+◌, ◌^◌, ◌<◌, ◌≤◌, ◌∷◌, length, IsTrue, IsFalse};
 ghost use Rattle.wake_book.specs.Waits.{waiting};
-ghost use Rattle.wake_book.specs.Walks.{VisitsGroup, IsWalk};
+ghost use Rattle.wake_book.specs.Walks.{VisitsGroup, IsWalk, walk_steps};
 ghost use Rattle.wake_book.specs.Grants.{AreGrantsOf};
 ghost use Rattle.wake_book.specs.Groups.{IsWaiterOf, steps_of, moved_of, StandsAsBefore, MovesMore, Loses};
 ghost use Rattle.wake_book.specs.declared.steps.GroupStep.TheVariants.{Grant, Store};
@@ -19,8 +19,8 @@ const MAX_MOVED: u64 = 1 << 56;
 impl Groups {
     /// Moves up to `nr` waiters, 1 to 8, from waiting to granted, wakes as many sleepers in each group, and returns how
     /// many it moved. Like `__sbitmap_queue_wake_up` (lib/sbitmap.c) it visits the groups in cyclic order from the wake
-    /// index, each at most once. This adds at most 67 steps to the waiter's list; loads that stand in no list are not
-    /// counted.
+    /// index, each at most once. A waiter that could exceed 2^56 moves in all makes no step and moves none. This adds at
+    /// most 67 steps to the waiter's list; loads that are not recorded as steps are not counted.
     pub fn wake(&self, waiter: &mut Waiter, nr: u32) -> u32
         requires groups { IsWaiterOf self.now waiter.old }
         requires within { (1 ≤ nr) × (nr ≤ 8) }
@@ -28,7 +28,7 @@ impl Groups {
         ensures most { result ≤ nr }
         ensures moved { moved_of waiter.new ≡ moved_of waiter.old + result }
         ensures lawful { IsWalk nr (steps_of waiter.old) (steps_of waiter.new) result }
-        ensures bound { length (steps_of waiter.new) ≤ 67 + length (steps_of waiter.old) }
+        ensures bound { length (steps_of waiter.new) ≤ walk_steps + length (steps_of waiter.old) }
     {
         let grants = self.walk(waiter, nr);
         self.ring(&grants);
@@ -36,7 +36,7 @@ impl Groups {
     }
 
     /// Like `wake`, but wakes no sleeper: it returns how many it moved in each group, and the caller wakes as many there
-    /// with `ring`, or by other means.
+    /// with `ring`, or by other means. It too makes no step and moves none if the waiter could exceed 2^56 moves in all.
     pub fn walk(&self, waiter: &mut Waiter, nr: u32) -> Grants
         requires groups { IsWaiterOf self.now waiter.old }
         requires within { (1 ≤ nr) × (nr ≤ 8) }
@@ -45,7 +45,7 @@ impl Groups {
         ensures moved { moved_of waiter.new ≡ moved_of waiter.old + result.woken }
         ensures lawful { IsWalk nr (steps_of waiter.old) (steps_of waiter.new) result.woken }
         ensures grants { AreGrantsOf result (steps_of waiter.old) (steps_of waiter.new) }
-        ensures bound { length (steps_of waiter.new) ≤ 67 + length (steps_of waiter.old) }
+        ensures bound { length (steps_of waiter.new) ≤ walk_steps + length (steps_of waiter.old) }
     {
         if waiter.moved + nr as u64 > MAX_MOVED || self.active(waiter) == 0 {
             return NO_GRANTS;

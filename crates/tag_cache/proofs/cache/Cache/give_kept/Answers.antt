@@ -1,11 +1,12 @@
 -- The kept tags are held and ordinary, so the hand gives them back; then none is kept.
 use Rattle.std.proofs.Common.{arith, ◌≤◌, refl}
-use Rattle.std.specs.Prelude.{Contains}
+use Rattle.std.specs.Prelude.{Contains, count_ones}
 use Rattle.std.proofs.lemmas.Nat.{ones_le_self}
+use Rattle.tag_sets.specs.declared.kind.Kind.TheVariants.{Ordinary}
 use Rattle.tag_sets.specs.Batches.{GivesBack}
 use Rattle.tag_cache.specs.Caches.{kept_tags}
 use Rattle.tag_cache.proofs.Carrying.{own_after, less_still, not_ok}
-use Rattle.tag_cache.proofs.Giving.{kept_held, kept_ordinary, kept_in, mask_gives}
+use Rattle.tag_cache.proofs.Giving.{counts_few, kept_held, kept_ordinary, kept_in, mask_gives}
 use Rattle.tag_cache.proofs.Reusing.{none_kept}
 use Rattle.tag_cache.proofs.Windows.{none_in}
 use Rattle.tag_cache.proofs.cache.Cache.give_kept.Goals as goal
@@ -51,3 +52,7 @@ returns-clause-gives g c = let cache = c.args.self.now in let e = c.in-Ok.ensure
   some = λ s. mask_gives c.args.tags.now cache.first cache.kept cache.wide.0 c.in-Ok.grants.woken cache.hand
       c.clear_mask_granted.new.hand e.gives e.back e.counts;
 }
+
+pub returns-clause-few : goal.returns-clause-few
+returns-clause-few g c = counts_few c.args.tags.now Ordinary (count_ones c.args.self.now.kept) c.args.self.now.hand
+    c.clear_mask_granted.new.hand c.in-Ok.grants.woken c.in-Ok.ensures.counts

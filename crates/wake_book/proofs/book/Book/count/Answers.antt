@@ -1,4 +1,4 @@
--- A lost try adds three steps, so 16 tries and the count add at most 49.
+-- A lost try adds three steps, so 16 tries and the count add at most `count_steps`.
 use Rattle.std.proofs.Common.{arith, length, ap}
 use Rattle.wake_book.proofs.Counting.{lost_long}
 use Rattle.wake_book.proofs.book.Book.count.Goals as goal

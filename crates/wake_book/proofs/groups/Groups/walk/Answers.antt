@@ -1,65 +1,40 @@
--- A visit adds at most eight steps, so eight visits, two loads before them and one store after them add at most 67.
-use Rattle.std.proofs.Common.{arith, ◌<◌, ◌≤◌, length-set, get_or, sum, ◌≡◌, ℕ, suc, ◌+◌, ◌-◌, ◌%◌, ◌∷◌, length, refl, ap, ◌∙◌, subst}
-use Rattle.wake_book.specs.declared.steps.GroupStep.TheVariants.{Look}
+-- A further visit keeps what is said of those before it; at the end the steps and the grants are those of all visits.
+use Rattle.std.proofs.Common.{arith, length-set, get_or, ℕ, ◌+◌, ◌<◌, length, ap, ◌∙◌}
 use Rattle.wake_book.specs.Groups.{steps_of}
 use Rattle.step_ledger.specs.History.{total}
 use Rattle.wake_book.specs.Grants.{granted_in}
 use Rattle.wake_book.specs.Waits.{moved_by}
-use Rattle.wake_book.specs.Walks.{AreVisits}
 use Rattle.wake_book.proofs.Granting.{granted_by_visit, counted_at, sum_set}
-use Rattle.wake_book.proofs.Lengths.{visits_long}
-use Rattle.wake_book.specs.Waits.{active_at, index_at}
+use Rattle.wake_book.proofs.Walking.{one_more, visited_long}
 use Rattle.wake_book.proofs.groups.Groups.walk.Goals as goal
 
 pub loop-left-preserved : goal.loop-left-preserved
-loop-left-preserved c = let inv = c.loop-left.invariant in let e = c.visit-moved.ensures in let walk = inv.walk in
-    let some = c.loop-left-test.true in let v : ℕ = c.loop-left.visits in let next : suc v ≡ v + 1 = omega arith in
-    let few = inv.few.0 in let more = c.if-visits-lt-GROUPS.true in let moved = e.moved in let before = inv.moved in
-    let start = Look index_at walk.0 ∷ Look active_at walk.1 ∷ steps_of c.args.waiter.now in record {
+loop-left-preserved c = let inv = c.loop-left.invariant in let e = c.visit-moved.ensures in
+    let some = c.loop-left-test.true in let few = inv.few.0 in let more = c.if-visits-lt-GROUPS.true in
+    let moved = e.moved in let before = inv.moved in let low = inv.few.1 in let long = inv.eight in
+    let here : c.loop-left.group < length c.loop-left.in_group = omega arith in
+    let count : ℕ = get_or c.loop-left.in_group c.loop-left.group 0 + c.visit-moved.result in record {
       groups = (
         e.groups.0,
-        (
-          e.groups.1.0 ∙ inv.groups.1.0,
-          e.groups.1.1 ∙ inv.groups.1.1,
-          e.groups.1.2 ∙
-              inv.groups.1.2,
-        ),
+        (e.groups.1.0 ∙ inv.groups.1.0, e.groups.1.1 ∙ inv.groups.1.1, e.groups.1.2 ∙ inv.groups.1.2),
       );
       few = (omega arith, omega arith, omega arith);
       moved = omega arith;
-      walk = (
-        walk.0,
-        walk.1,
-        walk.2,
-        subst (λ (z : ℕ). AreVisits z walk.0 c.args.nr start (steps_of c.visit-moved.new.waiter)
-            (c.loop-left.left - c.visit-moved.result) ((c.loop-left.group + 1) % 8)) next (
-              steps_of c.loop-left.waiter,
-              c.loop-left.left,
-              c.loop-left.group,
-              c.visit-moved.result,
-              walk.3,
-              some,
-              e.visit,
-              refl,
-              refl,
-            ),
-      );
-      eight = length-set c.loop-left.in_group c.loop-left.group (get_or c.loop-left.in_group c.loop-left.group 0 + c.visit-moved.result) ∙ inv.eight;
-      sum_is = let up = sum_set c.loop-left.in_group c.loop-left.group (get_or c.loop-left.in_group c.loop-left.group 0 + c.visit-moved.result) (let low = inv.few.1 in let long = inv.eight in omega arith) in
-          let is = inv.sum_is in omega arith;
+      walk = one_more c.args.nr c.loop-left.left c.loop-left.group c.loop-left.visits (steps_of c.args.waiter.now)
+          (steps_of c.loop-left.waiter) inv.walk c.visit-moved.result (steps_of c.visit-moved.new.waiter) some e.visit;
+      eight = length-set c.loop-left.in_group c.loop-left.group count ∙ inv.eight;
+      sum_is = let up = sum_set c.loop-left.in_group c.loop-left.group count here in let is = inv.sum_is in omega arith;
       each = λ group low.
           let visit = granted_by_visit group c.loop-left.group c.loop-left.left (steps_of c.loop-left.waiter)
-          (steps_of c.visit-moved.new.waiter) c.visit-moved.result e.visit in
-          let is = inv.each group low in
-          let entry = counted_at c.loop-left.in_group c.loop-left.group group c.visit-moved.result
-          (let here = inv.few.1 in let long = inv.eight in omega arith) in omega arith;
+          (steps_of c.visit-moved.new.waiter) c.visit-moved.result e.visit in let is = inv.each group low in
+          let entry = counted_at c.loop-left.in_group c.loop-left.group group c.visit-moved.result here in omega arith;
     }
 
 pub returns-clause-bound : goal.returns-clause-bound
-returns-clause-bound c = let inv = c.loop-left.invariant in let walk = inv.walk in let few = inv.few.2 in
+returns-clause-bound c = let inv = c.loop-left.invariant in let few = inv.few.2 in
     let e = ap length c.store_index.ensures.step in
-    let l = visits_long c.loop-left.visits walk.0 c.args.nr (Look index_at walk.0 ∷ Look active_at walk.1 ∷ steps_of
-    c.args.waiter.now) (steps_of c.loop-left.waiter) c.loop-left.left c.loop-left.group walk.3 in omega arith
+    let l = visited_long c.args.nr c.loop-left.left c.loop-left.group c.loop-left.visits (steps_of c.args.waiter.now)
+    (steps_of c.loop-left.waiter) inv.walk in omega arith
 
 pub overflow_add-in_group : goal.overflow_add-in_group
 overflow_add-in_group c = let inv = c.loop-left.invariant in let is = inv.sum_is in let within = c.requires.within in

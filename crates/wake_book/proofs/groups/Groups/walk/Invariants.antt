@@ -1,12 +1,10 @@
 -- The visits so far moved `nr - left` waiters, in cyclic order from the wake index, and as many in each group as its
 -- entry says; there are at most eight visits.
-use Rattle.std.proofs.Common.{length, get_or, sum, ◌≡◌, ℕ, ◌+◌, ◌-◌, ◌<◌, ◌≤◌, ◌∷◌}
-use Rattle.wake_book.specs.declared.steps.GroupStep.TheVariants.{Look}
+use Rattle.std.proofs.Common.{length, get_or, sum, ◌≡◌, ℕ, ◌+◌, ◌-◌, ◌<◌, ◌≤◌}
 use Rattle.wake_book.specs.Groups.{IsWaiterOf, steps_of, StandsAsBefore}
 use Rattle.step_ledger.specs.History.{total}
 use Rattle.wake_book.specs.Grants.{granted_in}
-use Rattle.wake_book.specs.Walks.{AreVisits}
-use Rattle.wake_book.specs.Waits.{active_at, index_at}
+use Rattle.wake_book.proofs.Walking.{HasVisited}
 use Rattle.wake_book.proofs.groups.Groups.walk.Given as goal
 
 abbrev pub invariant-loop-left : goal.invariant-loop-left
@@ -14,8 +12,7 @@ invariant-loop-left l = record {
   groups : IsWaiterOf l.self l.waiter × StandsAsBefore l.fn.waiter l.waiter;
   few : (l.left ≤ l.nr) × (l.group < 8) × (l.visits ≤ 8);
   moved : l.waiter.moved + l.left ≡ l.fn.waiter.moved + l.nr;
-  walk : (first : ℕ) × (active : ℕ) × (1 ≤ active) × AreVisits l.visits first l.nr
-      (Look index_at first ∷ Look active_at active ∷ steps_of l.fn.waiter) (steps_of l.waiter) l.left l.group;
+  walk : HasVisited l.nr l.left l.group l.visits (steps_of l.fn.waiter) (steps_of l.waiter);
   eight : length l.in_group ≡ 8;
   sum_is : sum l.in_group + l.left ≡ l.nr;
   each : (group : ℕ) → group < 8 → total (granted_in group) (steps_of l.waiter)
