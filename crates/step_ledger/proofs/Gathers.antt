@@ -3,12 +3,13 @@ use Rattle.std.proofs.Common.{◌≡◌, ℕ, zero, suc, ◌<◌, List, [], ◌�
 use mathlib.Core.Option.{some, some-injective, some-ne-none}
 use lib.ListN.{get_elem?}
 use Rattle.atomic_table.specs.Table.{State, Final, Seen}
+use Rattle.sums.specs.Below.{sum_below}
+use Rattle.sums.proofs.Laws.{sum_below-first, sum_below-turned}
 use Rattle.step_ledger.specs.declared.record.Record.{Record}
 use Rattle.step_ledger.specs.declared.record.View.{View}
 use Rattle.step_ledger.specs.Views.{Has, numbers, turned, sum_over}
-use Rattle.step_ledger.specs.History.{own_steps, words_left, Lawful, sum_to, AreListsOf}
+use Rattle.step_ledger.specs.History.{own_steps, words_left, Lawful, AreListsOf}
 use Rattle.step_ledger.specs.Ledger.{Ledger}
-use Rattle.step_ledger.proofs.Sums as sums
 use Rattle.step_ledger.proofs.Turned.{at_turned, has_turned, sum_turned}
 
 at_has : (ns : List ℕ) (i n : ℕ) → get_elem? ns i ≡ some n → (i < length ns) × (get_or ns i 0 ≡ n)
@@ -19,10 +20,10 @@ at_has (x ∷ ns) (suc i) n e = let w = at_has ns i n e in let l = w.0 in (omega
 module _ {T : Type 0} where
   sum_by_place : (f : ℕ → ℕ) (g : List T → ℕ) (rs : List (Record T)) → ((i : ℕ) (r : Record T) → get_elem? rs i ≡ some r
       → g r.steps ≡ f r.number)
-      → sum_over g rs ≡ sum_to (λ i. f (get_or (numbers rs) i 0)) (length (numbers rs))
+      → sum_over g rs ≡ sum_below (λ i. f (get_or (numbers rs) i 0)) (length (numbers rs))
   sum_by_place f g [] h = refl
   sum_by_place f g (r ∷ rs) h = let ih = sum_by_place f g rs (λ i q e. h (suc i) q e) in let one = h 0 r refl in
-      let s = sums.sum_first (λ i. f (get_or (numbers (r ∷ rs)) i 0)) (length (numbers rs)) in omega arith
+      let s = sum_below-first (λ i. f (get_or (numbers (r ∷ rs)) i 0)) (length (numbers rs)) in omega arith
 
   at_place : (rs : List (Record T)) (i : ℕ) → i < length (numbers rs) → (r : Record T) × (get_elem? rs i ≡ some r)
       × (r.number ≡ get_or (numbers rs) i 0)
@@ -37,16 +38,16 @@ pub record Gathered {T : Type 0} (n : ℕ) (start : List ℕ) (after : T → Lis
   pub lawful : Lawful n MayStep history
   pub words_are : words ≡ words_left start after history
   pub lists : AreListsOf history rs
-  pub sums : (f : List T → ℕ) → sum_over f rs ≡ sum_to (λ c. f (own_steps c history)) n
+  pub sums : (f : List T → ℕ) → sum_over f rs ≡ sum_below (λ c. f (own_steps c history)) n
 
 module _ {S T : Type 0} (n : ℕ) (start : List ℕ) (after : T → List ℕ → List ℕ) (MayStep : ℕ → T
     → List (ℕ × T) → Type 0) where
   sums_of : (s : State S (View T)) (k : Ledger n start after MayStep s) (id : ℕ) (v : View T)
       → get_elem? s.views id ≡ some v → ((c : ℕ) → c < n → Has (numbers v.records.value) c)
-      → (f : List T → ℕ) → sum_over f v.records.value ≡ sum_to (λ c. f (own_steps c k.history)) n
+      → (f : List T → ℕ) → sum_over f v.records.value ≡ sum_below (λ c. f (own_steps c k.history)) n
   sums_of s k id v at has f = let rs = v.records.value in let number : ℕ → ℕ = λ i. get_or (numbers rs) i 0 in
       sum_by_place (λ c. f (own_steps c k.history)) f rs (λ i r e. ap f (k.records id v at i r e).1)
-      ∙ sums.sum_turned (λ c. f (own_steps c k.history)) k.position number (length (numbers rs)) n
+      ∙ sum_below-turned (λ c. f (own_steps c k.history)) k.position number (length (numbers rs)) n
       (λ i l. let x = at_place rs i l in let o = k.records id v at i x.0 x.1 in
       (subst (λ (z : ℕ). z < n) x.2 o.0, ap k.position (sym x.2) ∙ o.3))
       (λ c l. let x = has c l in let y = at_has (numbers rs) x.0 c x.1 in (x.0, y.0, y.1))

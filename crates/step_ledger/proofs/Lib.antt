@@ -1,6 +1,6 @@
 pub mod Seats
 pub mod Members
-pub mod Sums
+pub mod Totals
 pub mod Turned
 pub mod Gathers
 pub mod Crossing

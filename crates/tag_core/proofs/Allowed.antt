@@ -10,6 +10,7 @@ use Rattle.atomic_table.specs.Table.{State, Me, step, Allows, Act, Valid, carrie
 use Rattle.atomic_table.proofs.Lists.{exchanged}
 use Rattle.std.specs.Int.{bit_at}
 use Rattle.std.proofs.lemmas.Nat.{or_lt}
+use Rattle.sums.specs.Below.{one_if}
 use Rattle.tag_layout.specs.Layout.{Layout, words, word_depth, word_of, place_of, IsWithin}
 use Rattle.tag_layout.proofs.PlaceFacts.{word_of-below}
 use Rattle.tag_model.specs.declared.place.Place.{Place}
@@ -23,7 +24,7 @@ use Rattle.tag_core.specs.declared.word_step.WordStep.TheVariants.{Look, LookAsi
 use Rattle.tag_core.specs.declared.record.Record.{Record}
 use Rattle.tag_core.specs.declared.record.View.{View}
 use Rattle.tag_core.specs.Spacing.{word_at, aside_at, state_at}
-use Rattle.tag_core.specs.Bits.{one_if, held_bit, posted_bit}
+use Rattle.tag_core.specs.Bits.{held_bit, posted_bit}
 use Rattle.tag_core.specs.Histories.{event_of, world_of, last_post}
 use Rattle.tag_core.specs.Records.{record_after, held_after, tag_bit, value_of, Carries}
 use Rattle.tag_core.specs.Views.{own_view}

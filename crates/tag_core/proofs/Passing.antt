@@ -1,5 +1,5 @@
 -- Records pass from one seat to another.
-use Rattle.std.proofs.Common.{◌≡◌, ℕ, zero, suc, ◌+◌, ◌-◌, ◌%◌, ◌^◌, ◌<◌, ◌≤◌, List, [], ◌∷◌, map, length, get_or, replicate, Bool, cond, arith, refl, sym, ap, ◌∙◌, subst, ne_eqb}
+use Rattle.std.proofs.Common.{◌≡◌, ℕ, zero, suc, ◌+◌, ◌-◌, ◌%◌, ◌^◌, ◌<◌, List, [], ◌∷◌, map, length, get_or, replicate, Bool, cond, arith, refl, sym, ap, ◌∙◌, subst, ne_eqb}
 use mathlib.Core.Option.{some, some-injective, some-ne-none}
 use lib.ListN.{get_elem?, length-replicate}
 use Rattle.std.specs.Int.{bit_at}
@@ -7,9 +7,8 @@ use Rattle.std.proofs.lemmas.Nat.{pow_pos}
 use Rattle.std.proofs.lemmas.Nat.Bits.{bit_at-zero}
 use Rattle.atomic_table.specs.Table.{State, opening, Splits, Joins}
 use Rattle.atomic_table.proofs.Lists.{set_else}
+use Rattle.sums.proofs.Laws.{sum_below-none}
 use Rattle.tag_layout.specs.Layout.{Layout, words, word_depth, word_of, place_of}
-use Rattle.tag_layout.proofs.SumFacts.{sum_below-none}
-use Rattle.tag_model.specs.declared.world.TheConstants.{MOST_WON}
 use Rattle.tag_core.specs.declared.shape.Shape.{Shape}
 use Rattle.tag_core.specs.declared.record.Record.{Record}
 use Rattle.tag_core.specs.declared.record.View.{View}

@@ -1,7 +1,8 @@
 -- The charge book's words, what each step does to them, and when a step may happen.
-use Rattle.std.specs.Prelude.{◌≡◌, ℕ, ◌+◌, ◌-◌, ◌^◌, ◌<◌, ◌≤◌, List, ◌∷◌, replicate, slice_index, slice_set, cond, min, nat_eq, Bool, true, false}
+use Rattle.std.specs.Prelude.{◌≡◌, ℕ, ◌+◌, ◌-◌, ◌^◌, ◌<◌, ◌≤◌, List, ◌∷◌, replicate, slice_index, slice_set, cond, min, nat_eq}
 use Rattle.atomic_table.specs.Table.{State, Me}
 use Rattle.atomic_table.specs.Table as table
+use Rattle.sums.specs.Below.{one_if}
 use Rattle.step_ledger.specs.declared.record.View.{View}
 use Rattle.step_ledger.specs.Views.{viewing, fresh, steps_of, Stepped}
 use Rattle.step_ledger.specs.History.{own_steps, total, words_left}
@@ -56,11 +57,6 @@ added (LookCompletions found) = 0
 added (LookWakeups found) = 0
 added (Add n found) = n
 added (Advance start end found) = 0
-
--- 1 if the test holds, else 0
-abbrev pub one_if : Bool → ℕ
-one_if true = 1
-one_if false = 0
 
 -- 1 if the step won an interval, else 0
 abbrev pub charged : BookStep → ℕ

@@ -1,5 +1,5 @@
 -- The seat splits off the record of one caller, who has won and holds nothing.
-use Rattle.std.proofs.Common.{rules, arith, ◌≡◌, ℕ, ◌<◌, ◌-◌, ◌+◌, List, [], ◌∷◌, replicate, get_or, length, sym, ap, ◌∙◌, subst}
+use Rattle.std.proofs.Common.{rules, arith, ◌≡◌, ℕ, ◌<◌, ◌-◌, ◌+◌, List, [], ◌∷◌, replicate, length, sym, ap, ◌∙◌, subst}
 use lib.ListN.{length-replicate}
 use Rattle.atomic_table.specs.Table.{Splits}
 use Rattle.tag_layout.specs.Layout.{words}

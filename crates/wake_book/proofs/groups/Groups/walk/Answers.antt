@@ -1,5 +1,5 @@
 -- A visit adds at most eight steps, so eight visits, two loads before them and one store after them add at most 67.
-use Rattle.std.proofs.Common.{arith, ◌<◌, ◌≤◌, length-set, get_or, sum, ◌≡◌, ℕ, suc, ◌+◌, ◌-◌, ◌%◌, ◌∷◌, length, refl, ap, ◌∙◌, subst}
+use Rattle.std.proofs.Common.{arith, length-set, get_or, ◌≡◌, ℕ, suc, ◌+◌, ◌-◌, ◌%◌, ◌∷◌, length, refl, ap, ◌∙◌, subst}
 use Rattle.wake_book.specs.declared.steps.GroupStep.TheVariants.{Look}
 use Rattle.wake_book.specs.Groups.{steps_of}
 use Rattle.step_ledger.specs.History.{total}
