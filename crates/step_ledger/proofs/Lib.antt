@@ -1,4 +1,7 @@
 pub mod Seats
+pub mod Fresh
+pub mod Moves
+pub mod Whole
 pub mod Members
 pub mod Totals
 pub mod Turned

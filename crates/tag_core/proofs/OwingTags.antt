@@ -7,6 +7,7 @@ use Rattle.std.specs.Int.{bit_at}
 use Rattle.std.proofs.lemmas.Nat.{pow_pos, or_lt}
 use Rattle.atomic_table.specs.Table.{State}
 use Rattle.sums.specs.Below.{one_if}
+use Rattle.tag_core.specs.Views.{View}
 use Rattle.tag_layout.specs.Layout.{words, word_depth, word_of, place_of}
 use Rattle.tag_layout.proofs.PlaceFacts.{word_of-below}
 use Rattle.tag_model.specs.declared.place.Place.{Place}
@@ -17,7 +18,6 @@ use Rattle.tag_core.specs.declared.shape.Shape.{Shape}
 use Rattle.tag_core.specs.declared.step.Step.TheVariants.{Word, Post, Take}
 use Rattle.tag_core.specs.declared.word_step.WordStep.TheVariants.{Put, Swap, Spill}
 use Rattle.tag_core.specs.declared.record.Record.{Record}
-use Rattle.tag_core.specs.declared.record.View.{View}
 use Rattle.tag_core.specs.Steps.{without}
 use Rattle.tag_core.specs.Spacing.{word_at, aside_at, state_at}
 use Rattle.tag_core.specs.Bits.{word_bit, aside_bit, posted_bit, held_bit, sweep_bit}

@@ -9,7 +9,7 @@ use Rattle.std.specs.Coded.{le_prop}
 use lib.ListN.{get_elem?}
 use Rattle.atomic_table.proofs.Lists.{at_map}
 use Rattle.sums.proofs.Laws.{sum_below-same}
-use Rattle.step_ledger.specs.Views.{Has}
+use Rattle.step_ledger.specs.Gather.{Has}
 use Rattle.tag_layout.specs.Layout.{Layout}
 use Rattle.tag_model.specs.declared.totals.Totals.{Totals}
 use Rattle.tag_model.specs.declared.world.TheConstants.{MOST_WON}

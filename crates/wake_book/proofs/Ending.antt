@@ -4,9 +4,9 @@ use mathlib.Core.Option.{some, some-injective, some-ne-none}
 use lib.ListN.{get_elem?}
 use Rattle.atomic_table.specs.Table.{Final, Seen}
 use Rattle.sums.proofs.Laws.{sum_below-bound}
+use Rattle.step_ledger.specs.Gather.{HasAll, turned}
+use Rattle.step_ledger.specs.Records.{Records, numbers, sum_over}
 use Rattle.step_ledger.specs.declared.record.Record.{Record}
-use Rattle.step_ledger.specs.declared.record.View.{View}
-use Rattle.step_ledger.specs.Views.{HasAll, numbers, turned, sum_over}
 use Rattle.step_ledger.specs.History.{own_steps, total}
 use Rattle.step_ledger.proofs.Totals.{totals}
 use Rattle.step_ledger.proofs.Turned.{sum_turned}
@@ -26,7 +26,7 @@ read (a ∷ l) zero x e = some-injective a x e
 read (a ∷ l) (suc i) x e = read l i x e
 
 pub booked : {S : Type 0} (k : Limits) → k.tellers ≤ 64 → k.cap ≤ 2 ^ 56
-    → (id : ℕ) (v : View BookStep) (ws : List ℕ) (xs : List S) (tellers : List (Record BookStep))
+    → (id : ℕ) (v : Records BookStep) (ws : List ℕ) (xs : List S) (tellers : List (Record BookStep))
     (completions wakeups charges : ℕ)
     → Final (Seen (BookRule k) id v) ws xs → v.records.value ≡ turned tellers → HasAll (numbers tellers) k.tellers
     → charges ≡ min (sum_over (total charged) v.records.value) (2 ^ 64 - 1)

@@ -3,9 +3,9 @@ use Rattle.std.proofs.Common.{◌≡◌, ℕ, ◌+◌, ◌-◌, ◌^◌, ◌≤�
 use Rattle.atomic_table.specs.Table.{Final, Seen}
 use Rattle.sums.specs.Below.{sum_below}
 use Rattle.sums.proofs.Laws.{sum_below-bound}
+use Rattle.step_ledger.specs.Gather.{HasAll, turned}
+use Rattle.step_ledger.specs.Records.{Records, numbers, sum_over}
 use Rattle.step_ledger.specs.declared.record.Record.{Record}
-use Rattle.step_ledger.specs.declared.record.View.{View}
-use Rattle.step_ledger.specs.Views.{HasAll, numbers, turned, sum_over}
 use Rattle.step_ledger.specs.History.{own_steps, total}
 use Rattle.step_ledger.proofs.Totals.{totals}
 use Rattle.step_ledger.proofs.Turned.{sum_turned}
@@ -17,7 +17,7 @@ use Rattle.wake_book.specs.Balance.{IsBalanced}
 use Rattle.wake_book.proofs.Standing.{balanced, balance, active_is}
 use Rattle.wake_book.proofs.AllGroups.{all_issued, moved_capped, who_stands}
 
-module _ {S : Type 0} (n : ℕ) (few : n ≤ 64) (id : ℕ) (v : View GroupStep) (ws : List ℕ) (xs : List S)
+module _ {S : Type 0} (n : ℕ) (few : n ≤ 64) (id : ℕ) (v : Records GroupStep) (ws : List ℕ) (xs : List S)
     (waiters : List (Record GroupStep)) (moved granted_now waiting_now : ℕ)
     (last : Final (Seen (GroupsRule n) id v) ws xs) (is : v.records.value ≡ turned waiters)
     (all : HasAll (numbers waiters) n) (sum : moved ≡ min (sum_over (total moved_by) v.records.value) (2 ^ 64 - 1))

@@ -3,8 +3,8 @@ use Rattle.std.specs.Prelude.{◌≡◌, ℕ, ◌+◌, ◌<◌, ◌≤◌, List,
 use mathlib.Core.Option.{some}
 use lib.ListN.{get_elem?}
 use Rattle.sums.specs.Below.{sum_below}
+use Rattle.step_ledger.specs.Records.{sum_over}
 use Rattle.step_ledger.specs.declared.record.Record.{Record}
-use Rattle.step_ledger.specs.Views.{sum_over}
 use Rattle.step_ledger.specs.History.{total, Lawful, AreListsOf}
 use Rattle.wake_book.specs.declared.groups.GroupTotals.{GroupTotals}
 use Rattle.wake_book.specs.declared.steps.GroupStep.{GroupStep}

@@ -2,8 +2,8 @@
 ghost use Rattle.std.specs.Prelude.{◌≡◌, ◌↔◌, [], ◌∷◌, All, IfOk, IfErr, IsOk};
 ghost use Rattle.std.specs.Slots.{slots_len, slots_items, IsFull};
 ghost use Rattle.sums.specs.Below.{sum_below};
-ghost use Rattle.step_ledger.specs.Views.{Has, HasAll, numbers};
-ghost use Rattle.step_ledger.specs.Gather.{IsCauseOf};
+ghost use Rattle.step_ledger.specs.Records.{numbers};
+ghost use Rattle.step_ledger.specs.Gather.{Has, HasAll, IsCauseOf};
 ghost use Rattle.wake_book.specs.Waits.{granted, groups_width, waiting, word};
 ghost use Rattle.wake_book.specs.Groups.{IsWaiterOf, record_of, records_of, numbers_of, waiters_of};
 ghost use Rattle.wake_book.specs.Groups.{IsGatheringOf, gathered};
