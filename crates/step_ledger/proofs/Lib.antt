@@ -1,6 +1,9 @@
 pub mod Seats
+pub mod Fresh
+pub mod Moves
+pub mod Whole
 pub mod Members
-pub mod Sums
+pub mod Totals
 pub mod Turned
 pub mod Gathers
 pub mod Crossing

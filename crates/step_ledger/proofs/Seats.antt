@@ -5,6 +5,8 @@ use mathlib.Core.Logic.{dite}
 use native.Mathlib.Decide.{ℕ_discrete}
 use lib.ListN.{get_elem?}
 use Rattle.atomic_table.proofs.Lists.{at_set, set_here, set_else, at_longer}
+use Rattle.step_ledger.specs.declared.record.View.{View}
+use Rattle.step_ledger.specs.Views.{viewing, own_view, both_views, EachStands}
 
 -- an entry stands below the length
 pub within : {A : Type 0} (l : List A) (i : ℕ) (a : A) → get_elem? l i ≡ some a → i < length l
@@ -57,58 +59,56 @@ pairs_more {A} P olds news a b long same one n x y e f = ⊎_elim
     (snoc_at news b y n f))
     (snoc_at olds a x n e)
 
-first_only : {A : Type 0} (i : ℕ) (a q : A) → get_elem? (a ∷ []) i ≡ some q → (i ≡ 0) × (a ≡ q)
+pub first_only : {A : Type 0} (i : ℕ) (a q : A) → get_elem? (a ∷ []) i ≡ some q → (i ≡ 0) × (a ≡ q)
 first_only zero a q e = (refl, some-injective a q e)
 first_only (suc i) a q e = absurd (some-ne-none q (sym e))
+
+-- two views with one record each are the same where the records are
+pub same_record : {A : Type 0} (a b : A) → own_view a ≡ own_view b → a ≡ b
+same_record a b e = some-injective a b (ap (λ (v : View _). get_elem? v.records.value 0) e)
 
 behind : {A : Type 0} (i : ℕ) (a : A) (qs : List A) (q : A) → (a ≢ q) → get_elem? (a ∷ qs) i ≡ some q
     → get_elem? qs (i - 1) ≡ some q
 behind zero a qs q ne e = absurd (ne (some-injective a q e))
 behind (suc i) a qs q ne e = (let z : suc i - 1 ≡ i = omega arith in ap (get_elem? qs) z) ∙ e
 
-module _ {V A : Type 0} (items : V → List A) (number : A → ℕ) where
-  -- each number below n has a record in some view
-  abbrev pub EachStands : ℕ → List V → (ℕ → ℕ) → (ℕ → ℕ) → Type 0
-  EachStands n views seat position = (c : ℕ) → c < n → (v : V) × (r : A) × (get_elem? views (seat c) ≡ some v)
-      × (get_elem? (items v) (position c) ≡ some r) × (number r ≡ c)
-
+module _ {A : Type 0} (number : A → ℕ) where
   -- where the records stand: each number has one seat and one position there, and what is known of its record
-  pub record Standing (Known : A → Type 0) (n : ℕ) (views : List V) : Type 0 where
+  pub record Standing (Known : A → Type 0) (n : ℕ) (views : List (View A)) : Type 0 where
     pub seat : ℕ → ℕ
     pub position : ℕ → ℕ
-    pub records : (j : ℕ) (v : V) → get_elem? views j ≡ some v → (i : ℕ) (r : A) → get_elem? (items v) i ≡ some r
-        → Known r × (seat (number r) ≡ j) × (position (number r) ≡ i)
-    pub each : EachStands n views seat position
+    pub records : (j : ℕ) (v : View A) → get_elem? views j ≡ some v → (i : ℕ) (r : A)
+        → get_elem? v.records.value i ≡ some r → Known r × (seat (number r) ≡ j) × (position (number r) ≡ i)
+    pub each : EachStands number n views seat position
 
   -- a record of the same number takes the place of the only one
-  pub each_same : (n : ℕ) (views : List V) (seat position : ℕ → ℕ) (id : ℕ) (v v' : V) (r r' : A)
-      → items v ≡ r ∷ [] → items v' ≡ r' ∷ []
-      → get_elem? views id ≡ some v → number r' ≡ number r → EachStands n views seat position
-      → EachStands n (set views id v') seat position
-  each_same n views seat position id v v' r r' is is' at same each c l = let w = each c l in
+  pub each_same : (n : ℕ) (views : List (View A)) (seat position : ℕ → ℕ) (id : ℕ) (r r' : A)
+      → get_elem? views id ≡ some (own_view r) → number r' ≡ number r → EachStands number n views seat position
+      → EachStands number n (set views id (own_view r')) seat position
+  each_same n views seat position id r r' at same each c l = let w = each c l in
       dite (ℕ_discrete (seat c) id)
       (λ (es : seat c ≡ id).
-      let one : v ≡ w.0 = some-injective v w.0 (sym at ∙ ap (get_elem? views) (sym es) ∙ w.2) in
-      let f = first_only (position c) r w.1 (ap (λ (z : List A). get_elem? z (position c)) (sym is ∙ ap items one)
-      ∙ w.3) in (
-        v',
+      let one : own_view r ≡ w.0 =
+      some-injective (own_view r) w.0 (sym at ∙ ap (get_elem? views) (sym es) ∙ w.2) in
+      let f = first_only (position c) r w.1 (ap (λ (z : View A). get_elem? z.records.value (position c)) one ∙ w.3) in (
+        own_view r',
         r',
-        ap (get_elem? (set views id v')) es ∙ set_here views id v' (within views id v at),
-        ap (λ (z : List A). get_elem? z (position c)) is' ∙ ap (get_elem? (r' ∷ [])) f.0,
+        ap (get_elem? (set views id (own_view r'))) es
+            ∙ set_here views id (own_view r') (within views id (own_view r) at),
+        ap (get_elem? (r' ∷ [])) f.0,
         same ∙ ap number f.1 ∙ w.4,
       ))
-      (λ (far : seat c ≢ id). (w.0, w.1, set_else views id (seat c) v' far ∙ w.2, w.3, w.4))
+      (λ (far : seat c ≢ id). (w.0, w.1, set_else views id (seat c) (own_view r') far ∙ w.2, w.3, w.4))
 
-  module _ (Known : A → Type 0) (n : ℕ) (views : List V) (s : Standing Known n views) where
-    module _ (id : ℕ) (v left one : V) (r : A) (rs : List A) (is : items v ≡ r ∷ rs) (left_is : items left ≡ rs)
-        (one_is : items one ≡ r ∷ []) (at : get_elem? views id ≡ some v) where
-      abbrev vs : List V
-      vs = set views id left
+  module _ (Known : A → Type 0) (n : ℕ) (views : List (View A)) (s : Standing Known n views) where
+    module _ (id : ℕ) (r : A) (rs : List A) (at : get_elem? views id ≡ some (viewing (r ∷ rs))) where
+      abbrev vs : List (View A)
+      vs = set views id (viewing rs)
 
       -- the first record passes to a new seat
-      pub split : Standing Known n (set views id left ++ one ∷ [])
+      pub split : Standing Known n (set views id (viewing rs) ++ own_view r ∷ [])
       split =
-          let first = s.records id v at 0 r (ap (λ (z : List A). get_elem? z 0) is) in
+          let first = s.records id (viewing (r ∷ rs)) at 0 r refl in
           let seat' : ℕ → ℕ = λ c. cond (nat_eq c (number r)) (length vs) (s.seat c) in
           let before : ℕ → ℕ = λ c. cond (nat_eq (s.seat c) id) (s.position c - 1) (s.position c) in
           let position' : ℕ → ℕ = λ c. cond (nat_eq c (number r)) 0 (before c) in
@@ -128,9 +128,9 @@ module _ {V A : Type 0} (items : V → List A) (number : A → ℕ) where
             position = position';
             records = λ j v' e i q e'. ⊎_elim
                 (λ (old : get_elem? vs j ≡ some v'). ⊎_elim
-                (λ (t : (j ≡ id) × (left ≡ v')).
-                let o = s.records id v at (suc i) q (ap (λ (z : List A). get_elem? z (suc i)) is
-                ∙ ap (λ (z : List A). get_elem? z i) (sym left_is ∙ ap items t.1) ∙ e') in
+                (λ (t : (j ≡ id) × (viewing rs ≡ v')).
+                let o = s.records id (viewing (r ∷ rs)) at (suc i) q
+                (ap (λ (z : View A). get_elem? z.records.value i) t.1 ∙ e') in
                 let far : number q ≢ number r = (λ z. let p = sym o.2 ∙ ap s.position z ∙ first.2 in
                 absurd (omega arith)) in
                 let p = o.2 in let less : s.position (number q) - 1 ≡ i = omega arith in
@@ -140,52 +140,52 @@ module _ {V A : Type 0} (items : V → List A) (number : A → ℕ) where
                 let o = s.records j v' t.1 i q e' in
                 let m = stays (number q) (λ z. t.0 (sym o.1 ∙ ap s.seat z ∙ first.1)) in
                 (o.0, m.0 ∙ o.1, m.1 ∙ else (number q) (λ z. t.0 (sym o.1 ∙ z)) ∙ o.2))
-                (at_set views id j left v' old))
-                (λ (t : (j ≡ length vs) × (one ≡ v')).
-                let o = first_only i r q (ap (λ (z : List A). get_elem? z i) (sym one_is ∙ ap items t.1) ∙ e') in
+                (at_set views id j (viewing rs) v' old))
+                (λ (t : (j ≡ length vs) × (own_view r ≡ v')).
+                let o = first_only i r q (ap (λ (z : View A). get_elem? z.records.value i) t.1 ∙ e') in
                 let m = goes (number q) (ap number (sym o.1)) in
                 (subst Known o.1 first.0, m.0 ∙ sym t.0, m.1 ∙ sym o.0))
-                (snoc_at vs one v' j e);
+                (snoc_at vs (own_view r) v' j e);
             each = λ c l. let w = s.each c l in dite (ℕ_discrete c (number r))
                 (λ (e : c ≡ number r). let m = goes c e in (
-                  one,
+                  own_view r,
                   r,
-                  ap (get_elem? (vs ++ one ∷ [])) m.0 ∙ snoc_here vs one,
-                  ap (get_elem? (items one)) m.1 ∙ ap (λ (z : List A). get_elem? z 0) one_is,
+                  ap (get_elem? (vs ++ own_view r ∷ [])) m.0 ∙ snoc_here vs (own_view r),
+                  ap (get_elem? (r ∷ [])) m.1,
                   sym e,
                 ))
                 (λ (ne : c ≢ number r). let m = stays c ne in dite (ℕ_discrete (s.seat c) id)
                 (λ (es : s.seat c ≡ id).
-                let same : v ≡ w.0 = some-injective v w.0 (sym at ∙ ap (get_elem? views) (sym es) ∙ w.2) in
+                let same : viewing (r ∷ rs) ≡ w.0 =
+                some-injective (viewing (r ∷ rs)) w.0 (sym at ∙ ap (get_elem? views) (sym es) ∙ w.2) in
                 let q = behind (s.position c) r rs w.1 (λ z. ne (sym w.4 ∙ ap number (sym z)))
-                (ap (λ (z : List A). get_elem? z (s.position c)) (sym is ∙ ap items same) ∙ w.3) in (
-                  left,
+                (ap (λ (z : View A). get_elem? z.records.value (s.position c)) same ∙ w.3) in (
+                  viewing rs,
                   w.1,
-                  ap (get_elem? (vs ++ one ∷ [])) (m.0 ∙ es) ∙ at_longer vs (one ∷ []) id left
-                      (set_here views id left (within views id v at)),
-                  ap (get_elem? (items left)) (m.1 ∙ here c es)
-                      ∙ ap (λ (z : List A). get_elem? z (s.position c - 1)) left_is ∙ q,
+                  ap (get_elem? (vs ++ own_view r ∷ [])) (m.0 ∙ es) ∙ at_longer vs (own_view r ∷ []) id (viewing rs)
+                      (set_here views id (viewing rs) (within views id (viewing (r ∷ rs)) at)),
+                  ap (get_elem? rs) (m.1 ∙ here c es) ∙ q,
                   w.4,
                 ))
                 (λ (far : s.seat c ≢ id). (
                   w.0,
                   w.1,
-                  ap (get_elem? (vs ++ one ∷ [])) m.0 ∙ at_longer vs (one ∷ []) (s.seat c) w.0
-                      (set_else views id (s.seat c) left far ∙ w.2),
-                  ap (get_elem? (items w.0)) (m.1 ∙ else c far) ∙ w.3,
+                  ap (get_elem? (vs ++ own_view r ∷ [])) m.0 ∙ at_longer vs (own_view r ∷ []) (s.seat c) w.0
+                      (set_else views id (s.seat c) (viewing rs) far ∙ w.2),
+                  ap (get_elem? w.0.records.value) (m.1 ∙ else c far) ∙ w.3,
                   w.4,
                 )));
           }
 
-    module _ (id other : ℕ) (v w both none : V) (both_is : items both ≡ items v ++ items w) (none_is : items none ≡ [])
-        (at : get_elem? views id ≡ some v) (that : get_elem? views other ≡ some w) (apart : ¬ (other ≡ id)) where
-      abbrev us : List V
-      us = set views id both
+    module _ (id other : ℕ) (v w : View A) (at : get_elem? views id ≡ some v) (that : get_elem? views other ≡ some w)
+        (apart : ¬ (other ≡ id)) where
+      abbrev us : List (View A)
+      us = set views id (both_views v w)
 
       -- one seat's records pass behind another's
-      pub join : Standing Known n (set (set views id both) other none)
+      pub join : Standing Known n (set (set views id (both_views v w)) other (viewing []))
       join =
-          let many : ℕ = length (items v) in
+          let many : ℕ = length v.records.value in
           let seat' : ℕ → ℕ = λ c. cond (nat_eq (s.seat c) other) id (s.seat c) in
           let position' : ℕ → ℕ = λ c. cond (nat_eq (s.seat c) other) (many + s.position c) (s.position c) in
           let stays : (c : ℕ) → s.seat c ≢ other → (seat' c ≡ s.seat c) × (position' c ≡ s.position c) = (λ c far. (
@@ -196,55 +196,55 @@ module _ {V A : Type 0} (items : V → List A) (number : A → ℕ) where
             ap (λ (b : Bool). cond b id (s.seat c)) (eq-eqb (s.seat c) other here),
             ap (λ (b : Bool). cond b (many + s.position c) (s.position c)) (eq-eqb (s.seat c) other here),
           )) in
-          let there : get_elem? (set us other none) id ≡ some both =
-          set_else us other id none (λ (z : id ≡ other). apart (sym z)) ∙ set_here views id both (within views id v at)
-          in record {
+          let there : get_elem? (set us other (viewing [])) id ≡ some (both_views v w) =
+          set_else us other id (viewing []) (λ (z : id ≡ other). apart (sym z))
+          ∙ set_here views id (both_views v w) (within views id v at) in record {
             seat = seat';
             position = position';
             records = λ j v' e i q e'. ⊎_elim
-                (λ (t : (j ≡ other) × (none ≡ v')). absurd (some-ne-none q
-                (sym (ap (λ (z : List A). get_elem? z i) (sym none_is ∙ ap items t.1) ∙ e'))))
+                (λ (t : (j ≡ other) × (viewing [] ≡ v')). absurd (some-ne-none q
+                (sym (ap (λ (z : View A). get_elem? z.records.value i) t.1 ∙ e'))))
                 (λ (t : (j ≢ other) × (get_elem? us j ≡ some v')). ⊎_elim
-                (λ (u : (j ≡ id) × (both ≡ v')). ⊎_elim
-                (λ (own : get_elem? (items v) i ≡ some q). let o = s.records id v at i q own in
+                (λ (u : (j ≡ id) × (both_views v w ≡ v')). ⊎_elim
+                (λ (own : get_elem? v.records.value i ≡ some q). let o = s.records id v at i q own in
                 let m = stays (number q) (λ z. t.0 (u.0 ∙ sym o.1 ∙ z)) in (o.0, m.0 ∙ o.1 ∙ sym u.0, m.1 ∙ o.2))
-                (λ (his : (a : ℕ) × (i ≡ many + a) × (get_elem? (items w) a ≡ some q)).
+                (λ (his : (a : ℕ) × (i ≡ many + a) × (get_elem? w.records.value a ≡ some q)).
                 let o = s.records other w that his.0 q his.2 in let m = goes (number q) o.1 in
                 (o.0, m.0 ∙ sym u.0, m.1 ∙ ap (λ (z : ℕ). many + z) o.2 ∙ sym his.1))
-                (append_at (items v) (items w) q i
-                (ap (λ (z : List A). get_elem? z i) (sym both_is ∙ ap items u.1) ∙ e')))
+                (append_at v.records.value w.records.value q i
+                (ap (λ (z : View A). get_elem? z.records.value i) u.1 ∙ e')))
                 (λ (u : (j ≢ id) × (get_elem? views j ≡ some v')). let o = s.records j v' u.1 i q e' in
                 let m = stays (number q) (λ z. t.0 (sym o.1 ∙ z)) in (o.0, m.0 ∙ o.1, m.1 ∙ o.2))
-                (at_set views id j both v' t.1))
-                (at_set us other j none v' e);
+                (at_set views id j (both_views v w) v' t.1))
+                (at_set us other j (viewing []) v' e);
             each = λ c l. let x = s.each c l in dite (ℕ_discrete (s.seat c) other)
                 (λ (es : s.seat c ≡ other). let m = goes c es in
                 let same : w ≡ x.0 = some-injective w x.0 (sym that ∙ ap (get_elem? views) (sym es) ∙ x.2) in (
-                  both,
+                  both_views v w,
                   x.1,
-                  ap (get_elem? (set us other none)) m.0 ∙ there,
-                  ap (get_elem? (items both)) m.1 ∙ ap (λ (z : List A). get_elem? z (many + s.position c)) both_is
-                      ∙ append_second (items v) (items w) (s.position c)
-                      ∙ ap (λ (z : V). get_elem? (items z) (s.position c)) same ∙ x.3,
+                  ap (get_elem? (set us other (viewing []))) m.0 ∙ there,
+                  ap (get_elem? (v.records.value ++ w.records.value)) m.1
+                      ∙ append_second v.records.value w.records.value (s.position c)
+                      ∙ ap (λ (z : View A). get_elem? z.records.value (s.position c)) same ∙ x.3,
                   x.4,
                 ))
                 (λ (far : s.seat c ≢ other). let m = stays c far in dite (ℕ_discrete (s.seat c) id)
                 (λ (es : s.seat c ≡ id).
                 let same : v ≡ x.0 = some-injective v x.0 (sym at ∙ ap (get_elem? views) (sym es) ∙ x.2) in (
-                  both,
+                  both_views v w,
                   x.1,
-                  ap (get_elem? (set us other none)) (m.0 ∙ es) ∙ there,
-                  ap (get_elem? (items both)) m.1 ∙ ap (λ (z : List A). get_elem? z (s.position c)) both_is
-                      ∙ at_longer (items v) (items w) (s.position c) x.1
-                      (ap (λ (z : V). get_elem? (items z) (s.position c)) same ∙ x.3),
+                  ap (get_elem? (set us other (viewing []))) (m.0 ∙ es) ∙ there,
+                  ap (get_elem? (v.records.value ++ w.records.value)) m.1
+                      ∙ at_longer v.records.value w.records.value (s.position c) x.1
+                      (ap (λ (z : View A). get_elem? z.records.value (s.position c)) same ∙ x.3),
                   x.4,
                 ))
                 (λ (off : s.seat c ≢ id). (
                   x.0,
                   x.1,
-                  ap (get_elem? (set us other none)) m.0 ∙ set_else us other (s.seat c) none far
-                      ∙ set_else views id (s.seat c) both off ∙ x.2,
-                  ap (get_elem? (items x.0)) m.1 ∙ x.3,
+                  ap (get_elem? (set us other (viewing []))) m.0 ∙ set_else us other (s.seat c) (viewing []) far
+                      ∙ set_else views id (s.seat c) (both_views v w) off ∙ x.2,
+                  ap (get_elem? x.0.records.value) m.1 ∙ x.3,
                   x.4,
                 )));
           }

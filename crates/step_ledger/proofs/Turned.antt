@@ -4,10 +4,12 @@ use mathlib.Core.List.{map-append}
 use mathlib.Core.Option.{some, some-injective, some-ne-none}
 use lib.ListN.{get_elem?}
 use Rattle.atomic_table.proofs.Lists.{at_longer}
+use Rattle.step_ledger.specs.Gather.{Has, turned}
+use Rattle.step_ledger.specs.Records.{Records, numbers, sum_over}
 use Rattle.step_ledger.specs.declared.record.Record.{Record}
-use Rattle.step_ledger.specs.declared.record.View.{View}
-use Rattle.step_ledger.specs.Views.{Has, own_view, both_views, numbers, turned, sum_over}
+use Rattle.step_ledger.specs.Views.{own_view, both_views}
 use Rattle.step_ledger.proofs.Seats.{append_second}
+use Rattle.step_ledger.proofs.Whole.{has_record}
 
 module _ {A : Type 0} where
   -- the last comes first
@@ -69,22 +71,15 @@ module _ {T : Type 0} where
   sum_turned f (r ∷ rs) = let e = sum_append f (turned rs) (r ∷ []) in let i = sum_turned f rs in omega arith
 
   -- where one member's seat was joined to another, its record is the newest
-  pub joined : (v w now : View T) (r : Record T) → now ≡ both_views v w → w ≡ own_view r
+  pub joined : (v w now : Records T) (r : Record T) → now ≡ both_views v w → w ≡ own_view r
       → turned now.records.value ≡ r ∷ turned v.records.value
-  joined v w now r is one = ap (λ (z : View T). turned z.records.value) (is ∙ ap (both_views v) one)
+  joined v w now r is one = ap (λ (z : Records T). turned z.records.value) (is ∙ ap (both_views v) one)
       ∙ turned_last v.records.value r
 
-  pub sum_joined : (f : List T → ℕ) (v w now : View T) (r : Record T) → now ≡ both_views v w → w ≡ own_view r
+  pub sum_joined : (f : List T → ℕ) (v w now : Records T) (r : Record T) → now ≡ both_views v w → w ≡ own_view r
       → sum_over f now.records.value ≡ sum_over f v.records.value + f r.steps
   sum_joined f v w now r is one = let e = sum_append f v.records.value (r ∷ []) in
-      let j = ap (λ (z : View T). sum_over f z.records.value) (is ∙ ap (both_views v) one) in omega arith
-
-  -- whose record stands at an index
-  pub number_at : (rs : List (Record T)) (i c : ℕ) → get_elem? (numbers rs) i ≡ some c
-      → (r : Record T) × (get_elem? rs i ≡ some r) × (r.number ≡ c)
-  number_at [] i c e = absurd (some-ne-none c (sym e))
-  number_at (r ∷ rs) zero c e = (r, refl, some-injective r.number c e)
-  number_at (r ∷ rs) (suc i) c e = number_at rs i c e
+      let j = ap (λ (z : Records T). sum_over f z.records.value) (is ∙ ap (both_views v) one) in omega arith
 
   pub at_number : (rs : List (Record T)) (i : ℕ) (r : Record T) → get_elem? rs i ≡ some r
       → get_elem? (numbers rs) i ≡ some r.number
@@ -93,8 +88,8 @@ module _ {T : Type 0} where
   at_number (q ∷ rs) (suc i) r e = at_number rs i r e
 
   pub has_turned : (rs : List (Record T)) (c : ℕ) → Has (numbers rs) c → Has (numbers (turned rs)) c
-  has_turned rs c h = let a = number_at rs h.0 c h.1 in let b = at_turned rs h.0 a.0 a.1 in
-      (b.0, at_number (turned rs) b.0 a.0 b.1 ∙ ap some a.2)
+  has_turned rs c h = let a = has_record (λ (r : Record T). r.number) rs c h in let b = at_turned rs a.0 a.1 a.2 in
+      (b.0, at_number (turned rs) b.0 a.1 b.1 ∙ ap some a.3)
 
 -- what stands at no index isn't there
 pub nowhere : (ns : List ℕ) (c : ℕ) → ((i : ℕ) → i < length ns → get_elem? ns i ≢ some c) → ¬ Has ns c

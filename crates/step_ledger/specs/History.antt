@@ -1,13 +1,8 @@
 -- Histories: the steps of all members in one list, newest first.
-use Rattle.std.specs.Prelude.{◌≡◌, ℕ, zero, suc, ◌+◌, ◌<◌, List, [], ◌∷◌, cond, nat_eq}
+use Rattle.std.specs.Prelude.{◌≡◌, ℕ, ◌+◌, ◌<◌, List, [], ◌∷◌, cond, nat_eq}
 use mathlib.Core.Option.{some}
 use lib.ListN.{get_elem?}
 use Rattle.step_ledger.specs.declared.record.Record.{Record}
-
--- the sum of the first n values
-abbrev pub sum_to : (ℕ → ℕ) → ℕ → ℕ
-sum_to f zero = 0
-sum_to f (suc n) = sum_to f n + f n
 
 module _ {T : Type 0} where
   -- the steps of one member

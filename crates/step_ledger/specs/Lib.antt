@@ -1,4 +1,5 @@
 pub mod Views
+pub mod Records
 pub mod Gather
 pub mod History
 pub mod Ledger

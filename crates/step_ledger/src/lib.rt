@@ -8,4 +8,4 @@ mod record;
 
 pub use numbered::{GatherCause, Numbered, least_missing};
 pub use passing::{Collect, HandOut};
-pub use record::{Record, View};
+pub use record::{Record, Records, View};

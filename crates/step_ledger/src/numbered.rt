@@ -1,6 +1,6 @@
 //! Which member is missing when the members of a table come together.
 ghost use Rattle.std.specs.Prelude.{◌≡◌, ◌↔◌, map, IsTrue, MatchOption};
-ghost use Rattle.step_ledger.specs.Views.{Has, HasAll, IsLeastMissing};
+ghost use Rattle.step_ledger.specs.Gather.{Has, HasAll, IsLeastMissing};
 
 /// Why members cannot come together.
 #[derive(Clone, Copy, Debug, PartialEq, Eq)]

@@ -8,7 +8,7 @@ use atomic_table::{Join, Split};
 /// Moves the first record to a new seat.
 pub struct HandOut;
 
-impl<T> Split<View<T>> for HandOut {
+impl<P> Split<View<P>> for HandOut {
     ghost left = { other_views };
 
     ghost right = { first_view };
@@ -17,7 +17,7 @@ impl<T> Split<View<T>> for HandOut {
 /// Moves all records of one seat to another.
 pub struct Collect;
 
-impl<T> Join<View<T>> for Collect {
+impl<P> Join<View<P>> for Collect {
     ghost both = { both_views };
 
     ghost spent = { viewing [] };

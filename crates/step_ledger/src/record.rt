@@ -9,7 +9,11 @@ pub struct Record<T> {
     pub steps: [T; 0],
 }
 
-/// The records in one seat's view: one while its member runs, several while members are handed out or gathered.
-pub struct View<T> {
-    pub records: Snapshot<[Record<T>; 0]>,
+/// The records in one seat's view: one while its member runs, several while members are handed out or gathered. `P` is
+/// what the table keeps of a member.
+pub struct View<P> {
+    pub records: Snapshot<[P; 0]>,
 }
+
+/// A view of records that have a number and steps, and nothing else.
+pub type Records<T> = View<Record<T>>;

@@ -1,6 +1,6 @@
 -- The counts of all hands, summed over both sets, are the sums over all callers of the state.
 use Rattle.std.proofs.Common.{◌≡◌, ℕ, suc, ◌+◌, Bool, true, false, cond, List, [], ◌∷◌, length, map, get_or, All, is_some, refl, sym, ap, ◌∙◌, arith}
-use Rattle.tag_board.proofs.Uses.{sum_below, sum_below-same, sum_below-split, count_below, Record, sum_of, size_of, Agent, records_of, standing_of_agent, Hand, Ordinary, Reserved, Tags, IsHandOf, total_of, reserved_part, ordinary_part, held_in_both, posted_in_both, standing_count, BalanceInBoth, record_in, part_of, state_of_all, Part, idle, got_in, back_in, posted_in, standing_in}
+use Rattle.tag_board.proofs.Uses.{sum_below, sum_below-same, sum_below-split, count_below, Record, sum_of, size_of, Agent, records_of, standing_of_agent, Hand, Ordinary, Reserved, Tags, IsHandOf, total_of, reserved_part, ordinary_part, held_in_both, posted_in_both, standing_count, BalanceInBoth, record_in, part_of, state_of_all, Part, idle, got_in, back_in, posted_in, standing_in, sum_below-first}
 use Rattle.std.proofs.lemmas.List.Recursion.{is_count_by}
 use Rattle.tag_board.specs.States.{held_in}
 use Rattle.tag_board.proofs.Sizings.{size_holds}
@@ -12,15 +12,10 @@ module _ {R : Type 0} where
       → sum_of f hands ≡ sum_below (λ caller. g (get_or (map part_of hands) caller (idle false))) (length hands)
   parts_sum f g [] same = refl
   parts_sum f g (hand ∷ hands) same =
-      let F : ℕ → ℕ = λ caller. g (get_or (map part_of (hand ∷ hands)) caller (idle false)) in
-      let len : ℕ = length hands in
-      let first : f hand ≡ F 0 = same 0 hand (omega arith) in
+      let first = same 0 hand (omega arith) in
       let rest = parts_sum f g hands (λ k d l. same (suc k) d (omega arith)) in
-      let split = sum_below-split F 1 len in
-      let shifted = sum_below-same (λ k. F (1 + k)) (λ k. g (get_or (map part_of hands) k (idle false))) len
-      (λ k l. let next : 1 + k ≡ suc k = omega arith in ap F next) in
-      let e : suc len ≡ 1 + len = omega arith in
-      (let all : f hand + sum_of f hands ≡ sum_below F (1 + len) = omega arith in all ∙ ap (sum_below F) (sym e))
+      let split = sum_below-first (λ caller. g (get_or (map part_of (hand ∷ hands)) caller (idle false)))
+      (length hands) in omega arith
 
   -- a number of each agent's record, summed over both sets
   abbrev pub sum_over : (Record R → ℕ) → List (Hand R) → ℕ

@@ -39,16 +39,6 @@ and_under : (b x y : Bool) → (b ≡ true → x ≡ y) → (b && x) ≡ (b && y
 and_under true x y e = e refl
 and_under false x y e = refl
 
--- 1 if the test holds, otherwise 0
-abbrev one_if : Bool → ℕ
-one_if b = cond b 1 0
-
--- tests that agree count the same
-pub same_counts : (f g : ℕ → Bool) (n : ℕ) → ((k : ℕ) → k < n → f k ≡ g k) → count_below f n ≡ count_below g n
-same_counts f g zero same = refl
-same_counts f g (suc n) same = let rest = same_counts f g n (λ k low. same k (omega arith)) in
-    let last : one_if (f n) ≡ one_if (g n) = ap one_if (same n (omega arith)) in omega arith
-
 module _ {R : Type 0} (old new : Agent R) (one : IsAlone (caller_of old)) (found : List (ℕ × ℕ))
     (f : looks.MakesLooks (looks.looks_from 0 found) old new) where
   made : (record_of (caller_of new)).steps ≡ own_after (looks.looks_from 0 found) (record_of (caller_of old)).steps

@@ -1,12 +1,12 @@
 -- What the looks of the only hand find in both sets.
 use Rattle.std.proofs.Common.{◌≡◌, ℕ, ◌+◌, ◌-◌, Bool, true, false, ◌&&◌, cond, if◌then◌else◌, nat_lt, List, ⊎_elim, sym, ap, ◌∙◌, subst, arith}
-use Rattle.tag_board.proofs.Uses.{cases_Bool, lt-ltb, le-ltb, ltb-true, ltb-false, Layout, count_below, Agent, Hand, Kind, Ordinary, Reserved, Shown, Tags, hands_of, agent_of, layout_of, reserved_of, total_of, IsHandOf, kind_of, number_in_set, IsReserved, IsOrdinary, stands, AloneShows, AloneDumps, AloneListsBusy, is_busy_in, is_aside_in, is_busy_tag, alone_set_of, alone_sets_in}
+use Rattle.tag_board.proofs.Uses.{cases_Bool, lt-ltb, le-ltb, ltb-true, ltb-false, Layout, count_below, Agent, Hand, Kind, Ordinary, Reserved, Shown, Tags, hands_of, agent_of, layout_of, reserved_of, total_of, IsHandOf, kind_of, number_in_set, IsReserved, IsOrdinary, stands, AloneShows, AloneDumps, AloneListsBusy, is_busy_in, is_aside_in, is_busy_tag, alone_set_of, alone_sets_in, count_below-same}
 use Rattle.tag_sets.specs.Busy as busy
 use Rattle.tag_sets.specs.Dumps as dumps
 use Rattle.tag_sets.specs.Looks as looks
 use Rattle.tag_sets.specs.Shows as shows
 use Rattle.tag_board.proofs.AloneBoard.{alone_in, layout_in, split_is}
-use Rattle.tag_board.proofs.AloneLooks.{alone_looked, alone_busy, alone_aside, same_counts}
+use Rattle.tag_board.proofs.AloneLooks.{alone_looked, alone_busy, alone_aside}
 use Rattle.tag_board.proofs.AloneChanges.{both_same, narrow_of}
 
 module _ {R : Type 0} (tags : Tags R) (old new : Hand R) (own : IsHandOf tags old) (one : hands_of tags ≡ 1) where
@@ -34,7 +34,7 @@ module _ {R : Type 0} (tags : Tags R) (old new : Hand R) (own : IsHandOf tags ol
     -- two tests that agree on the numbers of a set count the same
     counted : (f g : ℕ → Bool) → ((number : ℕ) → (nat_lt number (layout_of tags kind).depth && f number) ≡ g number)
         → count_below f (layout_of tags kind).depth ≡ count_below g (alone_sets_in old kind).layout.depth
-    counted f g same = same_counts f g (layout_of tags kind).depth
+    counted f g same = count_below-same f g (layout_of tags kind).depth
         (λ k low. ap (λ (b : Bool). b && f k) (sym (lt-ltb k (layout_of tags kind).depth low)) ∙ same k)
         ∙ ap (λ (l : Layout). count_below g l.depth) (layout_in tags old new own one kind)
 

@@ -1,28 +1,20 @@
 -- What looks report of the state.
 use Rattle.std.proofs.Common.{◌≡◌, ◌≢◌, ne_eqb, ℕ, zero, suc, ◌+◌, ◌-◌, ◌*◌, ◌/◌, ◌<◌, ◌≤◌, ◌&&◌, Bool, true, false, cond, if◌then◌else◌, nat_lt, nat_eq, List, [], ◌++◌, length, take, drop, sym, ap, ◌∙◌, arith}
-use Rattle.tag_board.proofs.Uses.{dite, ℕ_discrete, le-ltb, and_false, append-nil, drop_all, take_at, bit_at, Layout, word_of, place_of, count_below, Hand, Kind, Ordinary, Reserved, Shown, Tags, layout_of, reserved_of, total_of, word_in, depth_of, state_of_all}
+use Rattle.tag_board.proofs.Uses.{dite, ℕ_discrete, le-ltb, and_false, append-nil, drop_all, take_at, bit_at, Layout, word_of, place_of, count_below, Hand, Kind, Ordinary, Reserved, Shown, Tags, layout_of, reserved_of, total_of, word_in, depth_of, state_of_all, one_if, one_if-le}
 use Rattle.tag_sets.specs.Bits.{bit_in}
 use Rattle.tag_sets.specs.Busy as busy
 use Rattle.tag_sets.specs.Dumps as dumps
 use Rattle.tag_sets.specs.Looks.{is_busy_in, is_aside_in}
 use Rattle.tag_sets.specs.Shows as shows
 
--- 1 if the test holds, otherwise 0
-abbrev one_if : Bool → ℕ
-one_if b = cond b 1 0
-
-at_most_one : (b : Bool) → one_if b ≤ 1
-at_most_one true = omega arith
-at_most_one false = omega arith
-
 -- a bit that is 0 is not 1
 not_both : (a : Bool) (n : ℕ) → one_if (a && nat_eq n 0) + one_if (nat_eq n 1) ≤ 1
 not_both a n = dite (ℕ_discrete n 1)
     (λ (is : n ≡ 1). let none : one_if (a && nat_eq n 0) ≡ 0 =
     ap (λ (t : Bool). one_if (a && t)) (ne_eqb n 0 (λ z. absurd (omega arith))) ∙ ap one_if (and_false a) in
-    let few : one_if (nat_eq n 1) ≤ 1 = at_most_one (nat_eq n 1) in omega arith)
+    let few : one_if (nat_eq n 1) ≤ 1 = one_if-le (nat_eq n 1) in omega arith)
     (λ (ne : n ≢ 1). let none : one_if (nat_eq n 1) ≡ 0 = ap one_if (ne_eqb n 1 ne) in
-    let few : one_if (a && nat_eq n 0) ≤ 1 = at_most_one (a && nat_eq n 0) in omega arith)
+    let few : one_if (a && nat_eq n 0) ≤ 1 = one_if-le (a && nat_eq n 0) in omega arith)
 
 -- no tag is both busy and set aside
 few_shown : (l : Layout) (found : List (ℕ × ℕ)) (n : ℕ)

@@ -1,22 +1,9 @@
 -- The number of tags that a hand holds is the number of ones in its masks.
 use Rattle.std.proofs.Common.{◌≡◌, ℕ, zero, suc, ◌+◌, ◌<◌, ◌≤◌, Bool, false, cond, ◌&&◌, nat_eq, refl, sym, ap, ◌∙◌, arith, ⊎_elim}
-use Rattle.tag_board.proofs.Uses.{∥∥₁_elim, lt-ltb, le-ltb, cases_lt, bit_at-lt, sum_below, sum_below-same, sum_below-split, count_below, Caller, Record, Shape, record_of, tag_bit, size_of, Hand, Kind, Ordinary, Reserved, Tags, IsHandOf, layout_of, reserved_of, total_of, split_of, kind_of, number_in_set, reserved_below, ordinary_above, record_in, has, holds}
+use Rattle.tag_board.proofs.Uses.{∥∥₁_elim, lt-ltb, le-ltb, cases_lt, bit_at-lt, sum_below, sum_below-same, sum_below-split, count_below, Caller, Record, Shape, record_of, tag_bit, size_of, Hand, Kind, Ordinary, Reserved, Tags, IsHandOf, layout_of, reserved_of, total_of, split_of, kind_of, number_in_set, reserved_below, ordinary_above, record_in, has, holds, one_if-bit, le-sum_below}
 use native.Mathlib.Nat.{ℕ_set}
 use Rattle.tag_core.proofs.Ends.{by_tags}
 use Rattle.tag_queue.specs.Agents as queue
-
-one_bit : (b : ℕ) → b < 2 → cond (nat_eq b 1) 1 0 ≡ b
-one_bit zero low = refl
-one_bit (suc zero) low = refl
-one_bit (suc (suc b)) low = absurd (omega arith)
-
--- the terms of a sum that is 0 are 0
-pub none_below : (f : ℕ → ℕ) (n : ℕ) → sum_below f n ≡ 0 → (k : ℕ) → k < n → f k ≡ 0
-none_below f zero none k low = absurd (omega arith)
-none_below f (suc n) none k low = ⊎_elim
-    (λ (less : k < n). none_below f n (omega arith) k less)
-    (λ (last : n ≤ k). let e : k ≡ n = omega arith in let z : f n ≡ 0 = omega arith in ap f e ∙ z)
-    (cases_lt k n)
 
 module _ {R : Type 0} where
   -- the tag's bit in the masks of a record, and the number of tags
@@ -33,7 +20,7 @@ module _ {R : Type 0} where
 
   has_bit : (r : Record R) (n : ℕ) → n < depth_in r → cond (has r n) 1 0 ≡ bit_in r n
   has_bit r n low = ap (λ (b : Bool). cond (b && nat_eq (bit_in r n) 1) 1 0) (lt-ltb n (depth_in r) low)
-      ∙ one_bit (bit_in r n) (bit_at-lt _ _)
+      ∙ one_if-bit (bit_in r n) (bit_at-lt _ _)
 
   -- as many tags of a set pass the test as the caller's masks have ones
   size_has : (c : Caller R) → count_below (has (record_of c)) (depth_in (record_of c)) ≡ size_of (record_of c).held
@@ -43,7 +30,8 @@ module _ {R : Type 0} where
   -- a caller whose masks are zero has no tag
   has_none : (c : Caller R) → size_of (record_of c).held ≡ 0 → (n : ℕ) → has (record_of c) n ≡ false
   has_none c none n = let r = record_of c in ⊎_elim
-      (λ (low : n < depth_in r). let zero_bit = none_below (bit_in r) (depth_in r) (sym (bits_are c) ∙ none) n low in
+      (λ (low : n < depth_in r). let most = le-sum_below (bit_in r) (depth_in r) n low in let all = bits_are c in
+      let zero_bit : bit_in r n ≡ 0 = omega arith in
       ap (λ (b : Bool). b && nat_eq (bit_in r n) 1) (lt-ltb n (depth_in r) low) ∙ ap (λ (b : ℕ). nat_eq b 1) zero_bit)
       (λ (high : depth_in r ≤ n). ap (λ (b : Bool). b && nat_eq (bit_in r n) 1) (le-ltb n (depth_in r) high))
       (cases_lt n (depth_in r))

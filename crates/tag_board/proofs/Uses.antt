@@ -11,13 +11,12 @@ pub use mathlib.Core.Option.{some, some-injective}
 pub use native.Mathlib.Decide.{dec_lt, ℕ_discrete}
 pub use lib.ListN.{get_elem?}
 pub use Rattle.atomic_table.proofs.Lists.{at_map}
+pub use Rattle.sums.proofs.Laws.{count_below-same, le-sum_below, one_if-bit, one_if-le, sum_below-first, sum_below-same, sum_below-split}
+pub use Rattle.sums.specs.Below.{count_below, one_if, sum_below}
+pub use Rattle.step_ledger.specs.Gather.{HasAll}
 pub use Rattle.step_ledger.specs.History.{total}
-pub use Rattle.step_ledger.specs.Views.{HasAll}
 pub use Rattle.tag_layout.proofs.PlaceFacts.{place_of-tag_at, word_bits-le, word_of-below, word_of-tag_at}
-pub use Rattle.tag_layout.proofs.SumFacts.{sum_below-same, sum_below-split}
 pub use Rattle.tag_layout.specs.Layout.{HasShift, Layout, place_of, tag_at, word_bits, word_depth, word_of, words}
-pub use Rattle.tag_layout.specs.Sums.{sum_below}
-pub use Rattle.tag_model.specs.Totals.{count_below}
 pub use Rattle.tag_core.proofs.Entries.{all_at, entry, entry_or}
 pub use Rattle.tag_core.specs.Callers.{record_of}
 pub use Rattle.tag_core.specs.Records.{record_after, tag_bit}

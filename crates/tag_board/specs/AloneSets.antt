@@ -1,8 +1,8 @@
 -- Both sets of a board with one caller, as its steps determine them, and the answers of its commands.
 use Rattle.std.specs.Prelude.{◌≡◌, ℕ, ◌-◌, ◌<◌, ◌*◌, Bool, true, false, not, ◌&&◌, ◌||◌, nat_eq, nat_lt, cond, if◌then◌else◌, List, length, slice_index, map, Option, None, Result, Ok, Err}
 use Rattle.std.specs.List.{list_any}
+use Rattle.sums.specs.Below.{count_below}
 use Rattle.tag_layout.specs.Layout.{Layout, word_of, place_of}
-use Rattle.tag_model.specs.Totals.{count_below}
 use Rattle.tag_search.specs.declared.hint.Hint.{Hint}
 use Rattle.tag_search.specs.Batch.{batch_words}
 use Rattle.tag_search.specs.Choice.{IsChoice, IsBatchChoice}

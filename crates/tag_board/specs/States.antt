@@ -1,7 +1,6 @@
 -- The state of a board, as far as the answers determine it.
 use Rattle.std.specs.Prelude.{ℕ, ◌+◌, ◌-◌, Bool, false}
-use Rattle.tag_layout.specs.Sums.{sum_below}
-use Rattle.tag_model.specs.Totals.{count_below}
+use Rattle.sums.specs.Below.{sum_below, count_below}
 use Rattle.tag_sets.specs.declared.kind.Kind.{Kind}
 use Rattle.tag_sets.specs.declared.kind.Kind.TheVariants.{Ordinary, Reserved}
 

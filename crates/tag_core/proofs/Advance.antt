@@ -1,11 +1,13 @@
 -- One step of one caller keeps the rule, where the cells, the tags and the slots are shown to follow.
-use Rattle.std.proofs.Common.{◌≡◌, ◌≢◌, ℕ, zero, suc, ◌+◌, ◌<◌, List, [], ◌∷◌, get_or, set, refl, sym, ap, ◌∙◌, subst, ⊎_elim}
+use Rattle.std.proofs.Common.{◌≡◌, ◌≢◌, ℕ, ◌+◌, ◌<◌, List, ◌∷◌, get_or, set, refl, sym, ap, ◌∙◌, subst, ⊎_elim}
 use mathlib.Core.Option.{some, none, some-injective, some-ne-none}
 use mathlib.Core.Option as maybe
 use lib.ListN.{get_elem?}
 use Rattle.std.specs.Int.{bit_at}
 use Rattle.atomic_table.specs.Table.{State}
 use Rattle.atomic_table.proofs.Lists.{at_set}
+use Rattle.step_ledger.specs.Views.{own_view}
+use Rattle.tag_core.specs.Views.{View}
 use Rattle.tag_layout.specs.Layout.{Layout, words, word_of, place_of, IsWithin}
 use Rattle.tag_model.specs.declared.place.Place.TheVariants.{Posted as posted}
 use Rattle.tag_model.specs.Event.{won_by, back_by}
@@ -13,15 +15,13 @@ use Rattle.tag_model.specs.World.{MayHappen}
 use Rattle.tag_core.specs.declared.shape.Shape.{Shape}
 use Rattle.tag_core.specs.declared.step.Step.{Step}
 use Rattle.tag_core.specs.declared.record.Record.{Record}
-use Rattle.tag_core.specs.declared.record.View.{View}
 use Rattle.tag_core.specs.Histories.{History, FindsIn, FindsPost, cells_after, cells_of, event_of, world_of, last_post}
 use Rattle.tag_core.specs.Records.{record_after, held_after, swept_after, tag_bit}
-use Rattle.tag_core.specs.Views.{own_view}
 use Rattle.tag_core.specs.Rule.{HasCells, SlotIs, IsKnown, Shown}
 use Rattle.tag_core.proofs.Picks.{placed}
 use Rattle.tag_core.proofs.Turns.{Shows}
 use Rattle.tag_core.proofs.Within.{held_within, sweeps_within}
-use Rattle.step_ledger.proofs.Seats.{each_same}
+use Rattle.step_ledger.proofs.Seats.{first_only, each_same}
 use Rattle.tag_core.proofs.Counts.{own_counts, other_counts, steps_here, steps_else, held_long, swept_long}
 
 module _ (R : Type 0) (k : Shape) where
@@ -117,20 +117,16 @@ module _ (R : Type 0) (k : Shape) where
           (λ (t : (j ≢ id) × (get_elem? s.views j ≡ some v)). let o = sh.records j v t.1 n q e' in
           (other q (λ e. t.0 (sym o.1 ∙ ap sh.seat e ∙ mine_ok.1)) o.0, o.1, o.2))
           (at_set s.views id j (own_view (record_after st r)) v e);
-      each = each_same (λ (v : View R). v.records.value) (λ (r : Record R). r.number) k.callers s.views sh.seat
-          sh.position id (own_view r) (own_view (record_after st r)) r (record_after st r) refl refl at refl sh.each;
+      each = each_same (λ (r : Record R). r.number) k.callers s.views sh.seat sh.position id r (record_after st r) at
+          refl sh.each;
     }
       where
-        first : (n : ℕ) (a q : Record R) → get_elem? (a ∷ []) n ≡ some q → (n ≡ 0) × (a ≡ q)
-        first zero a q e = (refl, some-injective a q e)
-        first (suc n) a q e = absurd (some-ne-none q (sym e))
-
         here : IsKnown k h r × (sh.seat r.number ≡ id) × (sh.position r.number ≡ 0)
             → (j : ℕ) (v : View R) (n : ℕ) (q : Record R) → j ≡ id → own_view (record_after st r) ≡ v
             → get_elem? v.records.value n ≡ some q
             → IsKnown k h' q × (sh.seat q.number ≡ j) × (sh.position q.number ≡ n)
         here ok j v n q ej ev e =
-            let f = first n (record_after st r) q (ap (λ (z : View R). get_elem? z.records.value n) ev ∙ e) in (
+            let f = first_only n (record_after st r) q (ap (λ (z : View R). get_elem? z.records.value n) ev ∙ e) in (
               subst (IsKnown k h') f.1 (mine ok.0),
               ap (λ (z : Record R). sh.seat z.number) (sym f.1) ∙ ok.1
                   ∙ sym ej,

@@ -10,6 +10,10 @@ use Rattle.atomic_table.specs.Table.{State, Me, step, Allows, Act, Valid, carrie
 use Rattle.atomic_table.proofs.Lists.{exchanged}
 use Rattle.std.specs.Int.{bit_at}
 use Rattle.std.proofs.lemmas.Nat.{or_lt}
+use Rattle.sums.specs.Below.{one_if}
+use Rattle.step_ledger.proofs.Seats.{same_record}
+use Rattle.step_ledger.specs.Views.{own_view}
+use Rattle.tag_core.specs.Views.{View}
 use Rattle.tag_layout.specs.Layout.{Layout, words, word_depth, word_of, place_of, IsWithin}
 use Rattle.tag_layout.proofs.PlaceFacts.{word_of-below}
 use Rattle.tag_model.specs.declared.place.Place.{Place}
@@ -21,12 +25,10 @@ use Rattle.tag_core.specs.declared.step.Step.{Step}
 use Rattle.tag_core.specs.declared.step.Step.TheVariants.{Word, Post, Take}
 use Rattle.tag_core.specs.declared.word_step.WordStep.TheVariants.{Look, LookAside, Claimed, Give, Put, Swap, Spill}
 use Rattle.tag_core.specs.declared.record.Record.{Record}
-use Rattle.tag_core.specs.declared.record.View.{View}
 use Rattle.tag_core.specs.Spacing.{word_at, aside_at, state_at}
-use Rattle.tag_core.specs.Bits.{one_if, held_bit, posted_bit}
+use Rattle.tag_core.specs.Bits.{held_bit, posted_bit}
 use Rattle.tag_core.specs.Histories.{event_of, world_of, last_post}
 use Rattle.tag_core.specs.Records.{record_after, held_after, tag_bit, value_of, Carries}
-use Rattle.tag_core.specs.Views.{own_view}
 use Rattle.tag_core.specs.Rule.{SlotIs, IsKnown, Shown}
 use Rattle.tag_core.specs.Plays.{Stepped, FindsHeld, looked, looked_aside, claimed, gave, put_aside, swapped, spilled, took}
 use Rattle.tag_core.specs.Plays as plays
@@ -37,7 +39,7 @@ use Rattle.tag_core.proofs.Owing.{claim_owed, give_owed, look_owed, look_aside_o
 use Rattle.tag_core.proofs.OwingTags.{put_owed, post_owed, take_owed, swap_owed, swept_taken, spill_owed}
 use Rattle.tag_core.proofs.Masks.{add_bit, take_bits}
 use Rattle.tag_core.proofs.Stand.{word_at_one, aside_at_one, tag_mask_within}
-use Rattle.tag_core.proofs.Singles.{same_record, same_state}
+use Rattle.tag_core.proofs.Singles.{same_state}
 use Rattle.tag_core.proofs.Advance.{Owed}
 use Rattle.tag_core.proofs.Moving.{moved, kept, told}
 

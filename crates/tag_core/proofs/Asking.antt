@@ -4,23 +4,23 @@ use mathlib.Core.Option.{none}
 use Rattle.std.proofs.Math.Nat.{mul-le-mul_right}
 use Rattle.atomic_table.specs.Table.{Me, step, Allows}
 use Rattle.atomic_table.specs.Table as table
+use Rattle.step_ledger.proofs.Seats.{same_record}
+use Rattle.step_ledger.specs.Views.{own_view}
 use Rattle.tag_layout.specs.Layout.{words}
 use Rattle.tag_model.specs.declared.world.TheConstants.{MAX_CALLERS, MOST_WON}
 use Rattle.tag_model.specs.Event.{won_by, back_by}
 use Rattle.tag_core.specs.declared.shape.Shape.{Shape}
 use Rattle.tag_core.specs.declared.step.Step.{Step}
 use Rattle.tag_core.specs.declared.record.Record.{Record}
-use Rattle.tag_core.specs.declared.record.View.{View}
 use Rattle.tag_core.specs.declared.caller.Caller.{Caller}
 use Rattle.tag_core.specs.declared.map.Map.{Map}
 use Rattle.tag_core.specs.Spacing.{table_width, state_at}
 use Rattle.tag_core.specs.Histories.{event_of}
 use Rattle.tag_core.specs.Records.{record_after, held_after, swept_after, tag_bit, value_of, Carries}
-use Rattle.tag_core.specs.Views.{own_view, steps_of}
+use Rattle.tag_core.specs.Views.{steps_of, View}
 use Rattle.tag_core.specs.Rule.{Shown}
 use Rattle.tag_core.specs.Plays.{Stepped}
 use Rattle.tag_core.specs.Meeting.{HasHistory}
-use Rattle.tag_core.proofs.Singles.{same_record}
 use Rattle.tag_core.specs.Callers.{IsCallerOf, record_of, Holds}
 
 -- what the table asks of a step at this index

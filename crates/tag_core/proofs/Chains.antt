@@ -1,7 +1,7 @@
 -- What was won along a chain of maps.
-use Rattle.std.proofs.Common.{◌≡◌, ℕ, ◌+◌, List, [], ◌∷◌, get_or, arith, ap, ◌∙◌}
+use Rattle.std.proofs.Common.{◌≡◌, ℕ, ◌+◌, List, [], ◌∷◌, arith, ap, ◌∙◌}
+use Rattle.sums.proofs.Laws.{sum_below-none, sum_below-same}
 use Rattle.tag_layout.specs.Layout.{Layout}
-use Rattle.tag_layout.proofs.SumFacts.{sum_below-none, sum_below-same}
 use Rattle.tag_model.specs.declared.event.Event.{Event}
 use Rattle.tag_model.specs.declared.totals.Totals.{Totals}
 use Rattle.tag_model.specs.Event.{caller_of, won_by, back_by}

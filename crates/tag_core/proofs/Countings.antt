@@ -3,9 +3,9 @@ use Rattle.std.proofs.Common.{◌≡◌, ℕ, ◌≤◌, ◌∷◌, length, refl
 use mathlib.Core.Option.{some, none}
 use lib.ListN.{get_elem?}
 use Rattle.atomic_table.specs.Table.{Me, step, Allows}
+use Rattle.step_ledger.specs.Views.{viewing}
+use Rattle.tag_core.specs.Views.{View}
 use Rattle.tag_core.specs.declared.shape.Shape.{Shape}
-use Rattle.tag_core.specs.declared.record.View.{View}
-use Rattle.tag_core.specs.Views.{viewing}
 use Rattle.tag_core.specs.Rule.{Shown}
 use Rattle.tag_core.specs.Plays.{counted}
 use Rattle.tag_core.proofs.Fronts.{idle_allowed}

@@ -1,14 +1,16 @@
 -- What the last state tells where one seat has the records of all callers.
-use Rattle.std.proofs.Common.{◌≡◌, ◌≢◌, ℕ, zero, suc, ◌+◌, ◌/◌, ◌%◌, ◌^◌, ◌<◌, ◌≤◌, ◌⊎◌, List, [], ◌∷◌, length, get_or, nat_eq, ◌==◌, Bool, true, false, cond, count_ones, arith, refl, sym, ap, ◌∙◌, subst, ⊎_elim, inl, inr, eq-eqb, ne_eqb}
-use mathlib.Core.Option.{some, some-injective, some-ne-none}
+use Rattle.std.proofs.Common.{◌≡◌, ◌≢◌, ℕ, zero, suc, ◌/◌, ◌%◌, ◌^◌, ◌<◌, ◌≤◌, ◌⊎◌, List, [], ◌∷◌, length, get_or, nat_eq, ◌==◌, Bool, true, false, cond, count_ones, arith, refl, sym, ap, ◌∙◌, ⊎_elim, inl, inr, eq-eqb, ne_eqb}
+use mathlib.Core.Option.{some}
 use mathlib.Core.Logic.{dite}
 use native.Mathlib.Decide.{dec_lt}
 use lib.ListN.{get_elem?}
 use Rattle.std.specs.Int.{bit_at}
 use Rattle.atomic_table.specs.Table.{State}
+use Rattle.sums.specs.Below.{sum_below, one_if}
+use Rattle.sums.proofs.Laws.{sum_below-none, sum_below-same, sum_below-only, sum_below-first, sum_below-swap, sum_below-le, one_if-le}
+use Rattle.step_ledger.proofs.Whole.{number_in, number_once, total_of_all}
+use Rattle.tag_core.specs.Views.{View}
 use Rattle.tag_layout.specs.Layout.{words, word_of, IsWithin}
-use Rattle.tag_layout.specs.Sums.{sum_below}
-use Rattle.tag_layout.proofs.SumFacts.{sum_below-none, sum_below-same, sum_below-only, sum_below-split, sum_below-swap, sum_below-le}
 use Rattle.tag_layout.proofs.PlaceFacts.{word_of-below}
 use Rattle.tag_model.specs.declared.place.Place.{Place}
 use Rattle.tag_model.specs.declared.place.Place.TheVariants.{Free as free, Held as held, Posted as posted, Aside as aside, Sweep as sweep}
@@ -22,30 +24,14 @@ use Rattle.tag_model.proofs.MaskFacts.{sum_below-mask}
 use Rattle.tag_model.proofs.BalanceFacts.{balances-history}
 use Rattle.tag_core.specs.declared.shape.Shape.{Shape}
 use Rattle.tag_core.specs.declared.record.Record.{Record}
-use Rattle.tag_core.specs.declared.record.View.{View}
 use Rattle.tag_core.specs.Spacing.{state_at}
-use Rattle.tag_core.specs.Bits.{one_if, held_bit, posted_bit}
+use Rattle.tag_core.specs.Bits.{held_bit, posted_bit}
 use Rattle.tag_core.specs.Histories.{events_of, opening_world, world_of}
 use Rattle.tag_core.specs.Records.{tag_bit}
 use Rattle.tag_core.specs.Sizes.{total_of, size_of}
 use Rattle.tag_core.specs.Rule.{Shown}
 use Rattle.tag_core.proofs.Moving.{opening_even}
 use Rattle.tag_core.proofs.Picks.{among, among_named}
-
--- a sum in another order
-perm_sum : (f num pos : ℕ → ℕ) (len m : ℕ) → ((n : ℕ) → n < len → (num n < m) × (pos (num n) ≡ n))
-    → ((c : ℕ) → c < m → (n : ℕ) × (n < len) × (num n ≡ c)) → sum_below (λ n. f (num n)) len ≡ sum_below f m
-perm_sum f num pos len m one all =
-    let F : ℕ → ℕ → ℕ = λ c n. cond (nat_eq (num n) c) (f c) 0 in
-    let hit : (c n : ℕ) → num n ≡ c → F c n ≡ f c = (λ c n e. ap (λ (b : Bool). cond b (f c) 0) (eq-eqb (num n) c e)) in
-    let miss : (c n : ℕ) → num n ≢ c → F c n ≡ 0 = (λ c n e. ap (λ (b : Bool). cond b (f c) 0) (ne_eqb (num n) c e)) in
-    sum_below-same (λ n. f (num n)) (λ n. sum_below (λ c. F c n) m) len
-    (λ n l. sym (sum_below-only (λ c. F c n) m (num n) (one n l).0 (λ c lc ne. miss c n (λ z. ne (sym z)))
-    ∙ hit (num n) n refl))
-    ∙ sum_below-swap F len m
-    ∙ sum_below-same (λ c. sum_below (F c) len) f m (λ c lc. let w = all c lc in
-    sum_below-only (F c) len w.0 w.1
-    (λ n l ne. miss c n (λ z. ne (sym (one n l).1 ∙ ap pos (z ∙ sym w.2) ∙ (one w.0 w.1).1))) ∙ hit c w.0 w.2)
 
 -- numbers that are all different are no more than there are
 few_numbers : (num pos : ℕ → ℕ) (len m : ℕ) → ((n : ℕ) → n < len → (num n < m) × (pos (num n) ≡ n)) → len ≤ m
@@ -68,56 +54,17 @@ few_numbers num pos len m one =
     at_most c = let p : ℕ = pos c in dite (dec_lt p len)
         (λ (low : p < len). let only = sum_below-only (λ n. cond (nat_eq (num n) c) 1 0) len p low
         (λ n l ne. ap (λ (b : Bool). cond b 1 0) (ne_eqb (num n) c (λ z. ne (sym (one n l).1 ∙ ap pos z)))) in
-        let small = one_at_most (nat_eq (num p) c) in omega arith)
+        let small = one_if-le (nat_eq (num p) c) in omega arith)
         (λ (high : ¬ (p < len)). let none_there = sum_below-none (λ n. cond (nat_eq (num n) c) 1 0) len
         (λ n l. ap (λ (b : Bool). cond b 1 0)
         (ne_eqb (num n) c (λ z. let q : pos (num n) ≡ n = (one n l).1 in
         let r : pos (num n) ≡ pos c = ap pos z in absurd (omega arith)))) in omega arith)
-      where
-        one_at_most : (b : Bool) → cond b 1 0 ≤ 1
-        one_at_most true = omega arith
-        one_at_most false = omega arith
-
-module _ {R : Type 0} where
-  -- the number of a record in a list
-  abbrev pub number_at : List (Record R) → ℕ → ℕ
-  number_at [] n = 0
-  number_at (r ∷ rs) zero = r.number
-  number_at (r ∷ rs) (suc n) = number_at rs n
-
-  nth : (rs : List (Record R)) (n : ℕ) → n < length rs → (r : Record R) × (get_elem? rs n ≡ some r)
-      × (r.number ≡ number_at rs n)
-  nth [] n h = absurd (omega arith)
-  nth (x ∷ rs) zero h = (x, refl, refl)
-  nth (x ∷ rs) (suc n) h = nth rs n (omega arith)
-
-  at_number : (rs : List (Record R)) (n : ℕ) (r : Record R) → get_elem? rs n ≡ some r
-      → (n < length rs) × (number_at rs n ≡ r.number)
-  at_number [] n r e = absurd (some-ne-none r (sym e))
-  at_number (x ∷ rs) zero r e = (omega arith, ap (λ (z : Record R). z.number) (some-injective x r e))
-  at_number (x ∷ rs) (suc n) r e = let w = at_number rs n r e in let l = w.0 in (omega arith, w.1)
-
-  records_as : (f : ℕ → ℕ) (g : Record R → ℕ) (rs : List (Record R))
-      → ((n : ℕ) (r : Record R) → get_elem? rs n ≡ some r → g r ≡ f r.number)
-      → total_of g rs ≡ sum_below (λ n. f (number_at rs n)) (length rs)
-  records_as f g [] h = refl
-  records_as f g (x ∷ rs) h =
-      let F : ℕ → ℕ = λ n. f (number_at (x ∷ rs) n) in let len : ℕ = length rs in
-      let ih = records_as f g rs (λ n r e. h (suc n) r e) in let one = h 0 x refl in let s = sum_below-split F 1 len in
-      let same = sum_below-same (λ b. F (1 + b)) (λ n. f (number_at rs n)) len
-      (λ b l. let z : 1 + b ≡ suc b = omega arith in ap F z) in
-      let e : suc len ≡ 1 + len = omega arith in
-      (let total : g x + total_of g rs ≡ sum_below F (1 + len) = omega arith in total ∙ ap (sum_below F) (sym e))
 
 by_index : (g : ℕ → ℕ) (ms : List ℕ) → total_of g ms ≡ sum_below (λ i. g (get_or ms i 0)) (length ms)
 by_index g [] = refl
 by_index g (m ∷ ms) =
-    let F : ℕ → ℕ = λ i. g (get_or (m ∷ ms) i 0) in let len : ℕ = length ms in let ih = by_index g ms in
-    let s = sum_below-split F 1 len in
-    let same = sum_below-same (λ b. F (1 + b)) (λ i. g (get_or ms i 0)) len
-    (λ b l. let z : 1 + b ≡ suc b = omega arith in ap F z) in
-    let e : suc len ≡ 1 + len = omega arith in
-    (let total : g m + total_of g ms ≡ sum_below F (1 + len) = omega arith in total ∙ ap (sum_below F) (sym e))
+    let rest = by_index g ms in
+    let s = sum_below-first (λ i. g (get_or (m ∷ ms) i 0)) (length ms) in omega arith
 
 -- who may hold a tag after a change
 came : (b : Bool) (p q : Place) (d : ℕ) → cond b p q ≡ held d → (q ≡ held d) ⊎ (p ≡ held d)
@@ -204,48 +151,41 @@ module _ (k : Shape) where
 
   module _ {R : Type 0} (s : State R (View R)) (sh : Shown k s) (id : ℕ) (v : View R)
       (at : get_elem? s.views id ≡ some v) where
-    each_once : (n : ℕ) → n < length v.records.value
-        → (number_at v.records.value n < k.callers) × (sh.position (number_at v.records.value n) ≡ n)
-    each_once n l =
-        let x = nth v.records.value n l in
-        let o = sh.records id v at n x.0 x.1 in
-        (subst (λ (z : ℕ). z < k.callers) x.2 o.0.number, ap sh.position (sym x.2) ∙ o.2)
+    once : (n : ℕ) (r : Record R) → get_elem? v.records.value n ≡ some r
+        → (r.number < k.callers) × (sh.position r.number ≡ n)
+    once n r e = let o = sh.records id v at n r e in (o.0.number, o.2)
 
     -- one seat has no more records than there are callers
     pub few_records : length v.records.value ≤ k.callers
-    few_records = few_numbers (number_at v.records.value) sh.position (length v.records.value) k.callers each_once
+    few_records = few_numbers (number_in (λ (r : Record R). r.number) v.records.value) sh.position
+        (length v.records.value) k.callers
+        (number_once (λ (r : Record R). r.number) k.callers v.records.value sh.position once)
 
     module _ (has : (c : ℕ) → c < k.callers
         → (n : ℕ) × (r : Record R) × (get_elem? v.records.value n ≡ some r) × (r.number ≡ c)) where
-      all_there : (c : ℕ) → c < k.callers → (n : ℕ) × (n < length v.records.value) × (number_at v.records.value n ≡ c)
-      all_there c l = let x = has c l in let y = at_number v.records.value x.0 x.1 x.2 in (x.0, y.0, y.1 ∙ x.3)
+      of_all : (f : ℕ → ℕ) (g : Record R → ℕ)
+          → ((n : ℕ) (r : Record R) → get_elem? v.records.value n ≡ some r → g r ≡ f r.number)
+          → total_of g v.records.value ≡ sum_below f k.callers
+      of_all = total_of_all (λ (r : Record R). r.number) k.callers v.records.value sh.position once has
 
       -- the records of all callers tell what was won
       pub won_all : total_of (λ (r : Record R). r.won) v.records.value ≡ got_in k.callers (world_of k sh.history)
-      won_all = records_as (world_of k sh.history).won (λ (r : Record R). r.won) v.records.value
+      won_all = of_all (world_of k sh.history).won (λ (r : Record R). r.won)
           (λ n r e. (sh.records id v at n r e).0.won)
-          ∙ perm_sum (world_of k sh.history).won (number_at v.records.value) sh.position
-          (length v.records.value) k.callers each_once all_there
 
       -- what was given back
       pub back_all : total_of (λ (r : Record R). r.back) v.records.value ≡ back_in k.callers (world_of k sh.history)
-      back_all = records_as (world_of k sh.history).back (λ (r : Record R). r.back) v.records.value
+      back_all = of_all (world_of k sh.history).back (λ (r : Record R). r.back)
           (λ n r e. (sh.records id v at n r e).0.back)
-          ∙ perm_sum (world_of k sh.history).back (number_at v.records.value) sh.position
-          (length v.records.value) k.callers each_once all_there
 
       -- what is held
       pub held_all : total_of (λ (r : Record R). size_of r.held) v.records.value
           ≡ held_in k.layout (world_of k sh.history)
       held_all = let w : World = world_of k sh.history in
-          records_as (λ c. sum_below (λ t. held_bit c (w.place t)) k.layout.depth)
-          (λ (r : Record R). size_of r.held) v.records.value
+          of_all (λ c. sum_below (λ t. held_bit c (w.place t)) k.layout.depth) (λ (r : Record R). size_of r.held)
           (λ n r e. let o = (sh.records id v at n r e).0 in by_tags r.held o.held_wide o.within
           ∙ sum_below-same (tag_bit k.layout r.held) (λ t. held_bit r.number (w.place t)) k.layout.depth
           (λ t l. sym (o.held t l)))
-          ∙ perm_sum (λ c. sum_below (λ t. held_bit c (w.place t)) k.layout.depth)
-          (number_at v.records.value) sh.position
-          (length v.records.value) k.callers each_once all_there
           ∙ sym (sum_below-swap (λ c t. held_bit c (w.place t)) k.layout.depth k.callers)
           ∙ sum_below-same (λ t. sum_below (λ c. held_bit c (w.place t)) k.callers)
           (λ t. one_if (is_held (w.place t))) k.layout.depth

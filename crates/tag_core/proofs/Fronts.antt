@@ -9,17 +9,18 @@ use lib.ListN.{get_elem?}
 use lib.Seq.{set-get_or}
 use Rattle.atomic_table.specs.Table.{State, Me, Act, Valid, keeps, takes, gives, chain, carried_after, homes_after, step, Allows}
 use Rattle.atomic_table.proofs.Lists.{set_here, set_else}
+use Rattle.step_ledger.proofs.Seats.{same_record}
+use Rattle.step_ledger.specs.Views.{own_view}
+use Rattle.tag_core.specs.Views.{View}
 use Rattle.tag_core.specs.declared.shape.Shape.{Shape}
 use Rattle.tag_core.specs.declared.record.Record.{Record}
-use Rattle.tag_core.specs.declared.record.View.{View}
 use Rattle.tag_core.specs.Spacing.{state_at}
 use Rattle.tag_core.specs.Histories.{world_of}
 use Rattle.tag_core.specs.Records.{tag_bit, value_of, tags_from, but, Carries}
-use Rattle.tag_core.specs.Views.{own_view}
 use Rattle.tag_core.specs.Rule.{SlotIs, IsKnown, Shown}
 use Rattle.tag_core.specs.Plays.{fronted, ordered}
 use Rattle.tag_core.proofs.Turns.{held_from}
-use Rattle.tag_core.proofs.Singles.{same_record, same_state}
+use Rattle.tag_core.proofs.Singles.{same_state}
 use Rattle.tag_core.proofs.Acts.{moves}
 
 -- what stands in a list already

@@ -5,6 +5,7 @@ use native.Mathlib.Decide.{ℕ_discrete}
 use Rattle.std.specs.Int.{bit_at}
 use Rattle.std.proofs.lemmas.Nat.Bits.{bit_at-lt, bit_at_above}
 use Rattle.std.proofs.lemmas.Bool.{cases_lt}
+use Rattle.sums.specs.Below.{one_if}
 use Rattle.tag_layout.specs.Layout.{Layout, words, word_depth, word_of, place_of, IsWithin}
 use Rattle.tag_layout.proofs.PlaceFacts.{word_of-below, tag_at-back, tag_at-below}
 use Rattle.tag_core.specs.declared.shape.Shape.{Shape}
@@ -13,7 +14,6 @@ use Rattle.tag_core.specs.declared.record.Record.{Record}
 use Rattle.tag_core.specs.declared.caller.Caller.{Caller}
 use Rattle.tag_core.specs.declared.map.Map.{Map}
 use Rattle.tag_core.specs.Steps.{without}
-use Rattle.tag_core.specs.Bits.{one_if}
 use Rattle.tag_core.specs.Records.{joined, parted, held_after, tag_bit}
 use Rattle.tag_core.specs.Callers.{layout_of, IsCallerOf, Holds, slot_of, Adds, AddsTwo}
 use Rattle.tag_core.specs.Holdings.{IsInMask, Releases, Acquires, KeepsAll}

@@ -4,13 +4,13 @@ use Rattle.std.proofs.Common.{◌≡◌, ◌≢◌, ℕ, List, ◌∷◌, sym, a
 use mathlib.Core.Option.{some, none, some-injective}
 use lib.ListN.{get_elem?}
 use Rattle.atomic_table.specs.Table.{Me, step, rest}
+use Rattle.step_ledger.specs.Views.{own_view}
+use Rattle.tag_core.specs.Views.{View}
 use Rattle.tag_layout.specs.Layout.{Layout}
-use Rattle.tag_core.specs.declared.record.View.{View}
 use Rattle.tag_core.specs.declared.caller.Caller.{Caller}
 use Rattle.tag_core.specs.declared.map.Map.{Map}
 use Rattle.tag_core.specs.Spacing.{state_at}
 use Rattle.tag_core.specs.Records.{value_of, Carries}
-use Rattle.tag_core.specs.Views.{own_view}
 use Rattle.tag_core.specs.Plays.{fronted, ordered}
 use Rattle.tag_core.specs.Callers.{IsCallerOf, record_of, Holds, slot_of}
 use Rattle.tag_core.proofs.Stand.{state_in}

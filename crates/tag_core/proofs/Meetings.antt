@@ -3,14 +3,14 @@ use Rattle.std.proofs.Common.{◌≡◌, ◌≢◌, ℕ, [], ◌∷◌, nat_eq, 
 use mathlib.Core.Option.{some, none}
 use lib.ListN.{get_elem?}
 use Rattle.atomic_table.specs.Table.{State, Me, step, Allows}
+use Rattle.sums.specs.Below.{one_if}
+use Rattle.step_ledger.specs.Views.{viewing}
+use Rattle.tag_core.specs.Views.{View}
 use Rattle.tag_model.specs.declared.place.Place.{Place}
 use Rattle.tag_core.specs.declared.shape.Shape.{Shape}
 use Rattle.tag_core.specs.declared.record.Record.{Record}
-use Rattle.tag_core.specs.declared.record.View.{View}
-use Rattle.tag_model.specs.Totals.{one_if}
 use Rattle.tag_core.specs.Bits.{held_bit}
 use Rattle.tag_core.specs.Histories.{world_of}
-use Rattle.tag_core.specs.Views.{viewing}
 use Rattle.tag_core.specs.Rule.{IsKnown, Shown}
 use Rattle.tag_core.specs.Meeting.{ShareHistory, AreApart}
 use Rattle.tag_core.specs.Plays.{met}

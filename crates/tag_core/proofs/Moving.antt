@@ -6,21 +6,22 @@ use mathlib.Core.Logic.{dite}
 use native.Mathlib.Decide.{ℕ_discrete}
 use lib.ListN.{get_elem?}
 use Rattle.atomic_table.specs.Table.{State, carried_after, homes_after}
+use Rattle.sums.proofs.Laws.{sum_below-none}
+use Rattle.sums.specs.Below.{one_if}
+use Rattle.step_ledger.specs.Views.{own_view}
+use Rattle.tag_core.specs.Views.{View}
 use Rattle.tag_model.specs.declared.place.Place.{Place}
 use Rattle.tag_model.specs.declared.place.Place.TheVariants.{Free as free, Held as held, Posted as posted, Aside as aside, Sweep as sweep}
 use Rattle.tag_model.specs.declared.world.TheConstants.{MOST_WON}
 use Rattle.tag_model.specs.Event.{back_by}
 use Rattle.tag_model.specs.Totals.{got_in, back_in, held_in, posted_in}
-use Rattle.tag_layout.proofs.SumFacts.{sum_below-none}
 use Rattle.tag_model.proofs.HistoryFacts.{back-history}
 use Rattle.tag_core.specs.declared.shape.Shape.{Shape}
 use Rattle.tag_core.specs.declared.step.Step.{Step}
 use Rattle.tag_core.specs.declared.record.Record.{Record}
-use Rattle.tag_core.specs.declared.record.View.{View}
-use Rattle.tag_core.specs.Bits.{one_if, held_bit}
+use Rattle.tag_core.specs.Bits.{held_bit}
 use Rattle.tag_core.specs.Histories.{event_of, events_of, opening_world, world_of, last_post}
 use Rattle.tag_core.specs.Records.{record_after, held_after, tag_bit, value_of, Carries}
-use Rattle.tag_core.specs.Views.{own_view}
 use Rattle.tag_core.specs.Rule.{SlotIs, IsKnown, IsOpening, Shown}
 use Rattle.tag_core.specs.Plays.{Stepped}
 use Rattle.tag_core.proofs.Picks.{placed}

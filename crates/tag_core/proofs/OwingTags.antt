@@ -6,6 +6,8 @@ use native.Mathlib.Decide.{ℕ_discrete}
 use Rattle.std.specs.Int.{bit_at}
 use Rattle.std.proofs.lemmas.Nat.{pow_pos, or_lt}
 use Rattle.atomic_table.specs.Table.{State}
+use Rattle.sums.specs.Below.{one_if}
+use Rattle.tag_core.specs.Views.{View}
 use Rattle.tag_layout.specs.Layout.{words, word_depth, word_of, place_of}
 use Rattle.tag_layout.proofs.PlaceFacts.{word_of-below}
 use Rattle.tag_model.specs.declared.place.Place.{Place}
@@ -16,10 +18,8 @@ use Rattle.tag_core.specs.declared.shape.Shape.{Shape}
 use Rattle.tag_core.specs.declared.step.Step.TheVariants.{Word, Post, Take}
 use Rattle.tag_core.specs.declared.word_step.WordStep.TheVariants.{Put, Swap, Spill}
 use Rattle.tag_core.specs.declared.record.Record.{Record}
-use Rattle.tag_core.specs.declared.record.View.{View}
 use Rattle.tag_core.specs.Steps.{without}
 use Rattle.tag_core.specs.Spacing.{word_at, aside_at, state_at}
-use Rattle.tag_model.specs.Totals.{one_if}
 use Rattle.tag_core.specs.Bits.{word_bit, aside_bit, posted_bit, held_bit, sweep_bit}
 use Rattle.tag_core.specs.Histories.{Cells, cells_of, world_of, last_post}
 use Rattle.tag_core.specs.Records.{tag_bit}

@@ -1,25 +1,25 @@
 -- Records pass from one seat to another.
-use Rattle.std.proofs.Common.{◌≡◌, ℕ, zero, suc, ◌+◌, ◌-◌, ◌%◌, ◌^◌, ◌<◌, ◌≤◌, List, [], ◌∷◌, map, length, get_or, replicate, Bool, cond, arith, refl, sym, ap, ◌∙◌, subst, ne_eqb}
-use mathlib.Core.Option.{some, some-injective, some-ne-none}
+use Rattle.std.proofs.Common.{◌≡◌, ℕ, zero, suc, ◌%◌, ◌^◌, ◌<◌, List, [], ◌∷◌, map, length, get_or, replicate, Bool, cond, arith, refl, sym, ap, ◌∙◌, subst, ne_eqb}
+use mathlib.Core.Option.{some}
 use lib.ListN.{get_elem?, length-replicate}
 use Rattle.std.specs.Int.{bit_at}
 use Rattle.std.proofs.lemmas.Nat.{pow_pos}
 use Rattle.std.proofs.lemmas.Nat.Bits.{bit_at-zero}
 use Rattle.atomic_table.specs.Table.{State, opening, Splits, Joins}
-use Rattle.atomic_table.proofs.Lists.{set_else}
+use Rattle.sums.proofs.Laws.{sum_below-none}
+use Rattle.step_ledger.specs.Views.{viewing, first_view, other_views, both_views}
 use Rattle.tag_layout.specs.Layout.{Layout, words, word_depth, word_of, place_of}
-use Rattle.tag_layout.proofs.SumFacts.{sum_below-none}
-use Rattle.tag_model.specs.declared.world.TheConstants.{MOST_WON}
 use Rattle.tag_core.specs.declared.shape.Shape.{Shape}
 use Rattle.tag_core.specs.declared.record.Record.{Record}
-use Rattle.tag_core.specs.declared.record.View.{View}
 use Rattle.tag_core.specs.Histories.{History}
 use Rattle.tag_core.specs.Spacing.{word_at, aside_at, state_at, table_width}
 use Rattle.tag_core.specs.Records.{fresh_record, tag_bit, tags_from, StartsAtZero}
-use Rattle.tag_core.specs.Views.{viewing, own_view, fresh, all_fresh, first_view, other_views, both_views}
+use Rattle.tag_core.specs.Views.{all_fresh, View}
 use Rattle.tag_core.specs.Rule.{IsOpening, IsKnown, Shown}
 use Rattle.tag_core.specs.Meeting.{HasHistory}
-use Rattle.step_ledger.proofs.Seats.{Standing, split, join}
+use Rattle.step_ledger.proofs.Seats.{Standing}
+use Rattle.step_ledger.proofs.Fresh.{standing-fresh}
+use Rattle.step_ledger.proofs.Moves.{splits_first, joins_behind}
 
 -- each of so many zeros is 0
 pub zeros : (n i : ℕ) → ◌≡◌ {A = ℕ} (get_or (replicate n 0) i 0) 0
@@ -39,20 +39,6 @@ starts k zero_now = record {
 }
 
 module _ (R : Type 0) (k : Shape) where
-  fresh_at : (m c n : ℕ) (r : Record R) → get_elem? (fresh k c m) n ≡ some r → (n < m) × (fresh_record k (c + n) ≡ r)
-  fresh_at zero c n r e = absurd (some-ne-none r (sym e))
-  fresh_at (suc m) c zero r e =
-      (omega arith, (let z : c + 0 ≡ c = omega arith in ap (fresh_record {R = R} k) z) ∙ some-injective _ r e)
-  fresh_at (suc m) c (suc n) r e =
-      let w = fresh_at m (suc c) n r e in
-      let l = w.0 in (omega arith, (let z : c + suc n ≡ suc c + n = omega arith in ap (fresh_record {R = R} k) z) ∙ w.1)
-
-  at_fresh : (m c n : ℕ) → n < m → get_elem? (fresh {R = R} k c m) n ≡ some (fresh_record k (c + n))
-  at_fresh zero c n h = absurd (omega arith)
-  at_fresh (suc m) c zero h = let z : c ≡ c + 0 = omega arith in ap (λ (x : ℕ). some (fresh_record {R = R} k x)) z
-  at_fresh (suc m) c (suc n) h = at_fresh m (suc c) n (omega arith)
-      ∙ (let z : suc c + n ≡ c + suc n = omega arith in ap (λ (x : ℕ). some (fresh_record {R = R} k x)) z)
-
   fresh_ok : (c : ℕ) → c < k.callers → IsKnown k [] (fresh_record {R = R} k c)
   fresh_ok c h = record {
     shape = refl;
@@ -95,52 +81,37 @@ module _ (R : Type 0) (k : Shape) where
   -- a table whose words are 0 shows a new map
   pub opens : (table : List ℕ) (slots : List R) → IsOpening k → length table ≡ table_width k.layout
       → ((i : ℕ) → get_or table i 0 ≡ 0) → length slots ≡ k.layout.depth → Shown k (opening table slots (all_fresh k))
-  opens table slots starts wide blank deep = record {
-    opening = starts;
-    history = [];
-    lawful = record { finds = tt; happens = tt };
-    cells = record {
-      wide = wide;
-      word = λ i l. blank (word_at i);
-      aside = λ i l. blank (aside_at i);
-      state = λ t l. blank (state_at k.layout t);
-      word_within = λ i l. pow_pos (word_depth k.layout i);
-      aside_within = λ i l. pow_pos (word_depth k.layout i);
-    };
-    tags = λ t l. record {
-      word = sym (bit_at-zero (t % 2 ^ k.layout.shift));
-      aside = sym
-          (bit_at-zero (t % 2 ^ k.layout.shift));
-      posted = refl;
-    };
-    slots = λ t l. at_home slots t (omega arith);
-    posts = λ t l e. cc;
-    seat = λ c. 0;
-    position = λ c. c;
-    records = λ j v e n r e'. only_one j v n r e e';
-    each = λ c l. (
-      all_fresh k,
-      fresh_record k c,
-      refl,
-      at_fresh k.callers 0 c l
-          ∙ (let z : 0 + c ≡ c = omega arith in ap (λ (x : ℕ). some (fresh_record {R = R} k x)) z),
-      refl,
-    );
-  }
-    where
-      only_one : (j : ℕ) (v : View R) (n : ℕ) (r : Record R) → get_elem? (all_fresh k ∷ []) j ≡ some v
-          → get_elem? v.records.value n ≡ some r → IsKnown k [] r × (0 ≡ j) × (r.number ≡ n)
-      only_one zero v n r e e' =
-          let w = fresh_at k.callers 0 n r
-          (ap (λ (z : View R). get_elem? z.records.value n) (some-injective _ v e) ∙ e') in
-          let z : 0 + n ≡ n = omega arith in
-          let low : 0 + n < k.callers = (let l = w.0 in omega arith) in
-          (subst (IsKnown k []) w.1 (fresh_ok (0 + n) low), refl, ap (λ (x : Record R). x.number) (sym w.1) ∙ z)
-      only_one (suc j) v n r e e' = absurd (some-ne-none v (sym e))
+  opens table slots starts wide blank deep =
+      let now = standing-fresh (fresh_record {R = R} k) (λ (r : Record R). r.number) (IsKnown k []) k.callers (λ c. refl)
+      fresh_ok in record {
+        opening = starts;
+        history = [];
+        lawful = record { finds = tt; happens = tt };
+        cells = record {
+          wide = wide;
+          word = λ i l. blank (word_at i);
+          aside = λ i l. blank (aside_at i);
+          state = λ t l. blank (state_at k.layout t);
+          word_within = λ i l. pow_pos (word_depth k.layout i);
+          aside_within = λ i l. pow_pos (word_depth k.layout i);
+        };
+        tags = λ t l. record {
+          word = sym (bit_at-zero (t % 2 ^ k.layout.shift));
+          aside = sym
+              (bit_at-zero (t % 2 ^ k.layout.shift));
+          posted = refl;
+        };
+        slots = λ t l. at_home slots t (omega arith);
+        posts = λ t l e. cc;
+        seat = now.seat;
+        position = now.position;
+        records = now.records;
+        each = now.each;
+      }
 
   -- where the callers' records stand, each as this history has it
   abbrev Stand : History R → List (View R) → Type 0
-  Stand h views = Standing (λ (v : View R). v.records.value) (λ (r : Record R). r.number) (IsKnown k h) k.callers views
+  Stand h views = Standing (λ (r : Record R). r.number) (IsKnown k h) k.callers views
 
   standing : (s : State R (View R)) (sh : Shown k s) → Stand sh.history s.views
   standing s sh = record { seat = sh.seat; position = sh.position; records = sh.records; each = sh.each }
@@ -162,30 +133,16 @@ module _ (R : Type 0) (k : Shape) where
     each = now.each;
   }
 
-  -- the first record goes to a new seat
-  pub splits : (id : ℕ) (v : View R) (r : Record R) (rs : List (Record R)) → v ≡ viewing (r ∷ rs)
-      → Splits (Shown k) id v (viewing rs) (own_view r)
-  splits id v r rs is s sh at = reseated s sh _ (split _ _ _ k.callers s.views (standing s sh) id (viewing (r ∷ rs))
-      (viewing rs) (own_view r) r rs refl refl refl (at ∙ ap some is))
+  -- the first record may go to a seat of its own
+  pub hands_first : (id : ℕ) (v : View R) (r : Record R) (rs : List (Record R)) → v ≡ viewing (r ∷ rs)
+      → Splits (Shown k) id v (other_views v) (first_view v)
+  hands_first = splits_first (λ (r : Record R). r.number) k.callers (Shown k) (λ s sh. IsKnown k sh.history) standing
+      reseated
 
   -- the other's records stand behind those of the first
   pub joins : (id : ℕ) (v : View R) (other : ℕ) (w : View R)
       → Joins (Shown k) id v other w (both_views v w) (viewing [])
-  joins id v other w s sh at apart there = reseated s sh _ (join _ _ _ k.callers s.views (standing s sh) id other v w
-      (both_views v w) (viewing []) refl refl at (sym (set_else s.views id other (both_views v w) apart) ∙ there) apart)
-
-  -- the next caller of those that are still to come
-  pub next_fresh : (c n : ℕ) → c < n → fresh {R = R} k c (n - c) ≡ fresh_record k c ∷ fresh k (c + 1) (n - (c + 1))
-  next_fresh c n h =
-      let m : ℕ = n - (c + 1) in let e : n - c ≡ suc m = omega arith in
-      let e' : suc c ≡ c + 1 = omega arith in
-      ap (fresh {R = R} k c) e ∙ ap (λ (z : ℕ). fresh_record {R = R} k c ∷ fresh k z m) e'
-
-  -- the first record may go to a seat of its own
-  pub hands_first : (id : ℕ) (v : View R) (r : Record R) (rs : List (Record R)) → v ≡ viewing (r ∷ rs)
-      → Splits (Shown k) id v (other_views v) (first_view v)
-  hands_first id v r rs is = subst (λ (z : View R × View R). Splits (Shown k) id v z.0 z.1)
-      (λ j. (ap other_views (sym is) j, ap first_view (sym is) j)) (splits id v r rs is)
+  joins = joins_behind (λ (r : Record R). r.number) k.callers (Shown k) (λ s sh. IsKnown k sh.history) standing reseated
 
   -- a record that holds nothing carries nothing
   pub carries_none : (n : ℕ) → [] ≡ tags_from (tag_bit k.layout (replicate n 0)) 0 k.layout.depth

@@ -2,13 +2,14 @@
 use Rattle.std.proofs.Common.{◌≡◌, ℕ, zero, suc, ◌/◌, ◌%◌, ◌^◌, ◌<◌, Bool, true, false, cond, nat_eq, ◌==◌, ◌&&◌, IsTrue, arith, refl, sym, ap, ◌∙◌}
 use Rattle.std.specs.Int.{bit_at}
 use Rattle.std.proofs.lemmas.Nat.Bits.{bit_at-lt}
+use Rattle.sums.specs.Below.{one_if}
+use Rattle.sums.proofs.Laws.{one_if-bit}
 use Rattle.tag_layout.specs.Layout.{Layout}
 use Rattle.tag_model.specs.declared.place.Place.{Place}
 use Rattle.tag_model.specs.declared.place.Place.TheVariants.{Free as free, Held as held, Posted as posted, Aside as aside, Sweep as sweep}
 use Rattle.tag_model.specs.declared.event.Event.{Event}
 use Rattle.tag_model.specs.Event.{is_in_mask, swept_by, spilled_by}
 use Rattle.tag_model.specs.World.{place_after}
-use Rattle.tag_model.specs.Totals.{one_if}
 use Rattle.tag_core.specs.Bits.{aside_bit, sweep_bit}
 
 -- the second place where n is 0, else the first
@@ -32,13 +33,8 @@ by_bool : (b : Bool) (q p : Place) → pick (one_if b) q p ≡ cond b q p
 by_bool true q p = refl
 by_bool false q p = refl
 
-two : (x : ℕ) → x < 2 → x ≡ one_if (x == 1)
-two zero h = refl
-two (suc zero) h = refl
-two (suc (suc x)) h = absurd (omega arith)
-
 one_in : (b : Bool) (x : ℕ) → x < 2 → cond b x 0 ≡ one_if (b && (x == 1))
-one_in true x h = two x h
+one_in true x h = sym (one_if-bit x h)
 one_in false x h = refl
 
 -- the tag's bit in a mask is 1 where the mask names the tag

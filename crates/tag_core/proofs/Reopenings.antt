@@ -1,16 +1,16 @@
 -- The callers of a map that has ended go on with a next one: what their counts and their records tell of it.
-use Rattle.std.proofs.Common.{◌≡◌, ℕ, ◌<◌, ◌≤◌, List, [], ◌∷◌, Bool, cond, nat_eq, map, length, get_or, arith, refl, sym, ap, ◌∙◌, subst, eq-eqb}
+use Rattle.std.proofs.Common.{◌≡◌, ℕ, ◌<◌, ◌≤◌, List, [], ◌∷◌, Bool, cond, nat_eq, map, get_or, arith, refl, sym, ap, ◌∙◌, subst, eq-eqb}
 use mathlib.Core.Option.{some}
 use mathlib.Core.Logic.{dite}
 use native.Mathlib.Decide.{dec_lt}
 use native.Mathlib.Nat.{ℕ_set}
 use Rattle.std.proofs.Math.Logic.{∥∥₁_elim, ∥∥₁_map, ∥∥₁_prop}
 use Rattle.std.specs.Coded.{le_prop}
-use lib.ListN.{get_elem?, get_or-eq_default}
+use lib.ListN.{get_elem?}
 use Rattle.atomic_table.proofs.Lists.{at_map}
-use Rattle.step_ledger.specs.Views.{Has}
+use Rattle.sums.proofs.Laws.{sum_below-same}
+use Rattle.step_ledger.specs.Gather.{Has}
 use Rattle.tag_layout.specs.Layout.{Layout}
-use Rattle.tag_layout.proofs.SumFacts.{sum_below-same}
 use Rattle.tag_model.specs.declared.totals.Totals.{Totals}
 use Rattle.tag_model.specs.declared.world.TheConstants.{MOST_WON}
 use Rattle.tag_model.specs.Totals.{got_in, back_in}

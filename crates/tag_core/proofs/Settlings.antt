@@ -4,11 +4,11 @@ use Rattle.std.proofs.lemmas.List.{map-append}
 use mathlib.Core.Option.{some, none}
 use lib.ListN.{get_elem?}
 use Rattle.atomic_table.specs.Table.{State, Me, step, Allows}
+use Rattle.tag_core.specs.Views.{View}
 use Rattle.tag_model.specs.declared.totals.Totals.{Totals}
 use Rattle.tag_model.specs.Totals.{posted_in}
 use Rattle.tag_core.specs.declared.shape.Shape.{Shape}
 use Rattle.tag_core.specs.declared.record.Record.{Record}
-use Rattle.tag_core.specs.declared.record.View.{View}
 use Rattle.tag_core.specs.declared.caller.Caller.{Caller}
 use Rattle.tag_core.specs.Histories.{world_of}
 use Rattle.tag_core.specs.Sizes.{total_of, size_of}

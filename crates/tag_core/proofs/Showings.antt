@@ -3,10 +3,10 @@ use Rattle.std.proofs.Common.{◌≡◌, ℕ, refl}
 use mathlib.Core.Option.{some}
 use lib.ListN.{get_elem?}
 use Rattle.atomic_table.specs.Table.{State}
+use Rattle.step_ledger.specs.Views.{own_view}
+use Rattle.tag_core.specs.Views.{View}
 use Rattle.tag_core.specs.declared.shape.Shape.{Shape}
 use Rattle.tag_core.specs.declared.record.Record.{Record}
-use Rattle.tag_core.specs.declared.record.View.{View}
-use Rattle.tag_core.specs.Views.{own_view}
 use Rattle.tag_core.specs.Rule.{Shown}
 use Rattle.tag_core.specs.Meeting.{HasHistory}
 

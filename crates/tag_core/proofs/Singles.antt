@@ -1,17 +1,9 @@
--- A view with one record tells that record, and a state's place tells its tag.
+-- A state's place tells its tag.
 use Rattle.std.proofs.Common.{◌≡◌, ℕ, sym, ap, ◌∙◌}
-use mathlib.Core.Option.{some-injective}
-use lib.ListN.{get_elem?}
 use Rattle.tag_core.specs.declared.shape.Shape.{Shape}
 use Rattle.tag_core.specs.declared.record.Record.{Record}
-use Rattle.tag_core.specs.declared.record.View.{View}
 use Rattle.tag_core.specs.Spacing.{state_at}
-use Rattle.tag_core.specs.Views.{own_view}
 use Rattle.tag_core.proofs.Stand.{state_at_one}
-
--- two views with one record each are the same where the records are
-pub same_record : {R : Type 0} (a b : Record R) → own_view a ≡ own_view b → a ≡ b
-same_record a b e = some-injective a b (ap (λ (v : View _). get_elem? v.records.value 0) e)
 
 -- two tags whose states stand at one place, by the layouts of two records that are the same
 pub same_state : {R : Type 0} (k : Shape) (r r' : Record R) (u u' : ℕ) → r.shape ≡ k → r ≡ r'

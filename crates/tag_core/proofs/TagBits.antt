@@ -7,11 +7,11 @@ use Rattle.std.proofs.lemmas.Bool.{cases_lt}
 use Rattle.std.proofs.lemmas.Nat.{pow_pos, pow_below, mod_below}
 use Rattle.std.proofs.lemmas.Nat.Bits.{bit_at_or, bit_at_above, bit_at-lt, bit_at-zero, bit_at-pow_same, bit_at-pow_other, bit_at-trailing_zeros}
 use Rattle.std.proofs.Math.Pow.{pow_mono}
+use Rattle.sums.specs.Below.{one_if}
 use Rattle.tag_layout.specs.Layout.{words, word_bits, word_depth, word_of, place_of, tag_at, IsWithin}
 use Rattle.tag_layout.proofs.PlaceFacts.{tag_at-back, tag_at-below, word_of-tag_at, place_of-tag_at}
 use Rattle.tag_core.specs.declared.shape.Shape.{Shape}
 use Rattle.tag_core.specs.Steps.{changed_at, without}
-use Rattle.tag_core.specs.Bits.{one_if}
 use Rattle.tag_core.specs.Records.{tag_bit}
 use Rattle.tag_core.proofs.Picks.{among, only}
 use Rattle.tag_core.proofs.Masks.{bit_minus}

@@ -1,10 +1,12 @@
 -- What each event does to what one tag's place shows.
-use Rattle.std.proofs.Common.{◌≡◌, ◌≢◌, ℕ, zero, suc, ◌-◌, ◌<◌, min, max, Bool, true, false, nat_eq, arith, refl, sym, ap, ◌∙◌, subst, eq-eqb, ne_eqb}
+use Rattle.std.proofs.Common.{◌≡◌, ◌≢◌, ℕ, zero, suc, ◌-◌, ◌<◌, min, max, nat_eq, arith, refl, sym, ap, ◌∙◌, subst, eq-eqb, ne_eqb}
 use mathlib.Core.Logic.{dite}
 use native.Mathlib.Decide.{ℕ_discrete}
+use Rattle.sums.specs.Below.{one_if}
+use Rattle.sums.proofs.Laws.{one_if-le}
 use Rattle.tag_model.specs.declared.place.Place.{Place}
 use Rattle.tag_model.specs.declared.place.Place.TheVariants.{Free as free, Held as held, Posted as posted, Aside as aside, Sweep as sweep}
-use Rattle.tag_core.specs.Bits.{one_if, word_bit, aside_bit, posted_bit, held_bit, sweep_bit}
+use Rattle.tag_core.specs.Bits.{word_bit, aside_bit, posted_bit, held_bit, sweep_bit}
 use Rattle.tag_core.proofs.Picks.{pick}
 
 same : (c : ℕ) → one_if (nat_eq c c) ≡ 1
@@ -21,14 +23,10 @@ word_small posted = omega arith
 word_small aside = omega arith
 word_small (sweep c) = omega arith
 
-one_small : (b : Bool) → one_if b < 2
-one_small true = omega arith
-one_small false = omega arith
-
 -- in a held set
 pub held_small : (a : ℕ) (q : Place) → held_bit a q < 2
 held_small a free = omega arith
-held_small a (held c) = one_small (nat_eq c a)
+held_small a (held c) = let few = one_if-le (nat_eq c a) in omega arith
 held_small a posted = omega arith
 held_small a aside = omega arith
 held_small a (sweep c) = omega arith
@@ -143,7 +141,7 @@ sweep_small a free = omega arith
 sweep_small a (held c) = omega arith
 sweep_small a posted = omega arith
 sweep_small a aside = omega arith
-sweep_small a (sweep c) = one_small (nat_eq c a)
+sweep_small a (sweep c) = let few = one_if-le (nat_eq c a) in omega arith
 
 -- a held tag is set aside
 pub puts : (c : ℕ) (q : Place) (x : ℕ) → x < 2 → (x ≡ 1 → q ≡ held c)

@@ -2,7 +2,7 @@
 use Rattle.std.specs.Prelude.{ℕ, nat_eq}
 use Rattle.tag_model.specs.declared.place.Place.{Place}
 use Rattle.tag_model.specs.declared.place.Place.TheVariants.{Free, Held, Posted, Aside, Sweep}
-pub use Rattle.tag_model.specs.Totals.{one_if}
+use Rattle.sums.specs.Below.{one_if}
 
 -- the tag's bit in `word`: 1 is taken
 abbrev pub word_bit : Place → ℕ

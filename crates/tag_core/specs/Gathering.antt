@@ -2,8 +2,8 @@
 use Rattle.std.specs.Prelude.{◌≡◌, ℕ, ◌+◌, ◌<◌, List, length, map, nat_eq, slice_index}
 use mathlib.Core.Option.{some}
 use lib.ListN.{get_elem?}
+use Rattle.sums.specs.Below.{sum_below, one_if}
 use Rattle.tag_layout.specs.Layout.{Layout}
-use Rattle.tag_layout.specs.Sums.{sum_below}
 use Rattle.tag_model.specs.declared.place.Place.TheVariants.{Posted}
 use Rattle.tag_model.specs.Totals.{AreTotals}
 use Rattle.tag_core.specs.declared.shape.Shape.{Shape}
@@ -12,7 +12,6 @@ use Rattle.tag_core.specs.declared.caller.Caller.{Caller}
 use Rattle.tag_core.specs.declared.map.Map.{Map}
 use Rattle.tag_core.specs.declared.closed.Closed.{Closed}
 use Rattle.tag_core.specs.declared.together.Gathering.{Gathering}
-use Rattle.tag_core.specs.Bits.{one_if}
 use Rattle.tag_core.specs.Spacing.{state_at}
 use Rattle.tag_core.specs.Histories.{History, IsLawful, world_of, steps_by, last_post}
 use Rattle.tag_core.specs.Sizes.{total_of, size_of}

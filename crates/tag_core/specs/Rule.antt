@@ -6,6 +6,8 @@ use mathlib.Core.Option as maybe
 use lib.ListN.{get_elem?}
 use Rattle.std.specs.Int.{bit_at}
 use Rattle.atomic_table.specs.Table.{State}
+use Rattle.tag_core.specs.Views.{View}
+use Rattle.step_ledger.specs.Views.{EachStands}
 use Rattle.tag_layout.specs.Layout.{words, word_of, place_of, IsWithin}
 use Rattle.tag_model.specs.declared.place.Place.{Place}
 use Rattle.tag_model.specs.declared.place.Place.TheVariants.{Held, Posted}
@@ -13,7 +15,6 @@ use Rattle.tag_model.specs.declared.world.TheConstants.{MOST_WON}
 use Rattle.tag_model.specs.Totals.{got_in, back_in}
 use Rattle.tag_core.specs.declared.shape.Shape.{Shape}
 use Rattle.tag_core.specs.declared.record.Record.{Record}
-use Rattle.tag_core.specs.declared.record.View.{View}
 use Rattle.tag_core.specs.Spacing.{word_at, aside_at, state_at, table_width}
 use Rattle.tag_core.specs.Bits.{word_bit, aside_bit, posted_bit, held_bit, sweep_bit}
 use Rattle.tag_core.specs.Histories.{Cells, History, cells_of, opening_world, world_of, IsLawful, last_post, steps_by}
@@ -60,13 +61,6 @@ pub record IsKnown {R : Type 0} (k : Shape) (h : History R) (r : Record R) : Typ
   pub back : r.back ≡ (world_of k h).back r.number
   pub steps : r.steps ≡ steps_by r.number h
 
--- each caller's record stands in the view of some seat
-abbrev pub EachStands : {R : Type 0} → ℕ → List (View R) → (ℕ → ℕ) → (ℕ → ℕ) → Type 0
-EachStands {R} callers views seat position =
-    (caller : ℕ) → caller < callers
-    → (v : View R) × (r : Record R) × (get_elem? views (seat caller) ≡ some v)
-    × (get_elem? v.records.value (position caller) ≡ some r) × (r.number ≡ caller)
-
 -- the rule
 pub record Shown {R : Type 0} (k : Shape) (s : State R (View R)) : Type 0 where
   pub opening : IsOpening k
@@ -85,4 +79,4 @@ pub record Shown {R : Type 0} (k : Shape) (s : State R (View R)) : Type 0 where
       (j : ℕ) (v : View R) → get_elem? s.views j ≡ some v → (n : ℕ) (r : Record R)
       → get_elem? v.records.value n ≡ some r
       → IsKnown k history r × (seat r.number ≡ j) × (position r.number ≡ n)
-  pub each : EachStands k.callers s.views seat position
+  pub each : EachStands (λ (r : Record R). r.number) k.callers s.views seat position

@@ -1,12 +1,13 @@
 //! A caller of a map.
 ghost use Rattle.std.specs.Prelude.{◌≡◌, ◌≤◌, ◌*◌, length, replicate};
+ghost use Rattle.step_ledger.specs.Views.{own_view};
 ghost use Rattle.tag_layout.specs.Layout.{words};
 ghost use Rattle.tag_model.specs.declared.world.TheConstants.{MOST_WON, MAX_CALLERS};
 ghost use Rattle.tag_core.specs.declared.record.Record.{Record};
 ghost use Rattle.tag_core.specs.Meeting.{HasHistory};
 ghost use Rattle.tag_core.specs.Records.{Carries};
 ghost use Rattle.tag_core.specs.Spacing.{state_at};
-ghost use Rattle.tag_core.specs.Views.{own_view, steps_of};
+ghost use Rattle.tag_core.specs.Views.{steps_of};
 
 use crate::record::View;
 use crate::shape::Shape;

@@ -4,8 +4,7 @@ ghost use mathlib.Core.Option.{some};
 ghost use lib.ListN.{get_elem?};
 ghost use Rattle.std.specs.Slots.{slots_items, slots_filled, slots_len, IsFull};
 ghost use Rattle.tag_core.specs.Spacing.{table_width};
-ghost use Rattle.step_ledger.specs.Views.{HasAll};
-ghost use Rattle.step_ledger.specs.Gather.{IsCauseOf};
+ghost use Rattle.step_ledger.specs.Gather.{IsCauseOf, HasAll};
 ghost use Rattle.tag_core.specs.Gathering.{states_posted, IsGathered, IsGatheringOf, gathered, numbers, numbers_of};
 ghost use Rattle.tag_core.specs.Callers.{IsCallerOf, record_of};
 

@@ -1,17 +1,18 @@
 //! Callers that lend their records, one after another, and then go on unchanged. They may be parts of larger values.
 ghost use Rattle.std.specs.Prelude.{◌≡◌, [], ◌∷◌};
-ghost use Rattle.step_ledger.specs.Views.{HasAll};
-ghost use Rattle.tag_core.specs.Views.{viewing, rest_of};
+ghost use Rattle.step_ledger.specs.Views.{viewing, rest_of};
+ghost use Rattle.step_ledger.specs.Gather.{HasAll};
 
 use crate::caller::{APART, Caller};
 use crate::map::Map;
-use crate::plays::{Collect, HandOut, Settling};
+use crate::plays::Settling;
 use crate::record::View;
 use crate::shape::Shape;
 use crate::spots::{SPARE, first_state};
 use crate::together::Gathering;
 use atomic_table::Seat;
 use std::snapshot::Snapshot;
+use step_ledger::{Collect, HandOut};
 use tag_layout::Layout;
 use tag_model::Totals;
 

@@ -5,8 +5,9 @@ ghost use Rattle.tag_core.specs.Callers.{IsCallerOf, record_of, Holds, IsUnchang
 
 use crate::caller::Caller;
 use crate::map::Map;
-use crate::plays::{Collect, HandOut, Meeting};
+use crate::plays::Meeting;
 use crate::spots::SPARE;
+use step_ledger::{Collect, HandOut};
 
 impl<R> Map<R> {
     /// Establishes that two callers hold no tag in common. Its seven loads, of the spare word, change no place and stand

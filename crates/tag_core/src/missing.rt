@@ -1,7 +1,6 @@
 //! Whether all callers of a map were passed in.
 ghost use Rattle.std.specs.Prelude.{◌≡◌, ◌↔◌, IsOk, IfOk, IfErr};
-ghost use Rattle.step_ledger.specs.Views.{HasAll};
-ghost use Rattle.step_ledger.specs.Gather.{IsCauseOf};
+ghost use Rattle.step_ledger.specs.Gather.{IsCauseOf, HasAll};
 ghost use Rattle.tag_core.specs.Gathering.{numbers_of};
 
 use crate::caller::Caller;

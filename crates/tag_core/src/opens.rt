@@ -1,9 +1,10 @@
 //! A new map, and its callers.
 ghost use Rattle.std.specs.Prelude.{◌≡◌, ◌⊎◌, ℕ, ◌+◌, ◌-◌, ◌<◌, ◌≤◌, ◌↔◌, ◌≢◌, List, [], length, replicate, All, IfOk, IfErr};
+ghost use Rattle.step_ledger.specs.Views.{viewing};
 ghost use Rattle.tag_layout.specs.declared.layout.TheConstants.{MAX_DEPTH};
 ghost use Rattle.tag_model.specs.declared.world.TheConstants.{MAX_CALLERS, MOST_WON};
 ghost use Rattle.tag_core.specs.Records.{fresh_record, StartsAtZero};
-ghost use Rattle.tag_core.specs.Views.{viewing, fresh, all_fresh};
+ghost use Rattle.tag_core.specs.Views.{fresh, all_fresh};
 ghost use Rattle.tag_core.specs.Rule.{IsOpening};
 ghost use Rattle.tag_core.specs.Chain.{HasChain};
 ghost use Rattle.tag_core.specs.Opening.{IsNew, AreNew};
@@ -11,13 +12,13 @@ ghost use Rattle.tag_core.specs.Callers.{IsCallerOf, record_of};
 
 use crate::caller::{APART, Caller};
 use crate::map::Map;
-use crate::plays::HandOut;
 use crate::record::View;
 use crate::shape::{COUNTS, Shape};
 use crate::spots::{first_state, table_words};
 use atomic_table::{Seat, Table};
 use std::alloc::{AllocError, Global};
 use std::snapshot::Snapshot;
+use step_ledger::HandOut;
 use tag_layout::Layout;
 use tag_model::{MAX_CALLERS, MOST_WON};
 

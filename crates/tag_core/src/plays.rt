@@ -1,10 +1,11 @@
 //! What each kind of step tells. These types are for the proofs alone.
 ghost use Rattle.std.specs.Prelude.{[]};
+ghost use Rattle.step_ledger.specs.Views.{viewing, first_view, other_views, both_views};
 ghost use Rattle.tag_core.specs.Plays.{looked, looked_aside, claimed, gave, put_aside, swapped, spilled, posted, took, fronted, ordered, counted, met, settled};
-ghost use Rattle.tag_core.specs.Views.{first_view, other_views, both_views, viewing};
 
 use crate::record::View;
 use atomic_table::{Join, Play, Split};
+use step_ledger::{Collect, HandOut};
 
 pub(crate) struct Looking;
 
@@ -90,17 +91,11 @@ impl<R> Play<R, View<R>> for Settling {
     ghost then = { settled };
 }
 
-/// The first record goes to a seat of its own.
-pub(crate) struct HandOut;
-
 impl<R> Split<View<R>> for HandOut {
     ghost left = { other_views };
 
     ghost right = { first_view };
 }
-
-/// A seat takes in the records of another.
-pub(crate) struct Collect;
 
 impl<R> Join<View<R>> for Collect {
     ghost both = { both_views };

@@ -1,6 +1,7 @@
 //! What contracts know of a caller. No such value is ever made.
 use crate::shape::Shape;
 use crate::step::Step;
+use std::marker::Model;
 use std::snapshot::Snapshot;
 
 /// What is known of one caller. A clause reads each array as a list of any length.
@@ -21,7 +22,17 @@ pub struct Record<R> {
     pub steps: [Step<R>; 0],
 }
 
-/// The records that a seat of the table has: one while its caller runs.
+/// The records that a seat of the table has: one while its caller runs. Contracts see a view of `step_ledger`.
 pub struct View<R> {
-    pub records: Snapshot<[Record<R>; 0]>,
+    records: Snapshot<[Record<R>; 0]>,
+}
+
+impl<R> Model for View<R> {
+    ghost use Rattle.step_ledger.specs.Views.{viewing};
+    ghost use Rattle.tag_core.specs.declared.record.Record.{Record};
+    ghost use Rattle.step_ledger.specs.declared.record.View as ledger;
+
+    ghost Value = { ledger.View (Record R) };
+
+    ghost view = { λ v. viewing v.records.value };
 }

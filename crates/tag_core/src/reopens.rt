@@ -2,19 +2,19 @@
 ghost use Rattle.std.specs.Prelude.{◌≡◌, ℕ, ◌+◌, ◌-◌, ◌<◌, ◌≤◌, [], length, replicate, map, All, IfOk, IfErr, IfNone, IfSome, slice_index};
 ghost use mathlib.Core.Option.{some};
 ghost use lib.ListN.{get_elem?};
-ghost use Rattle.step_ledger.specs.Views.{Has};
+ghost use Rattle.step_ledger.specs.Views.{viewing};
+ghost use Rattle.step_ledger.specs.Gather.{Has};
 ghost use Rattle.tag_layout.specs.Layout.{words};
 ghost use Rattle.tag_layout.specs.declared.layout.TheConstants.{MAX_DEPTH};
 ghost use Rattle.tag_model.specs.declared.world.TheConstants.{MAX_CALLERS};
 ghost use Rattle.tag_core.specs.Callers.{IsCallerOf, record_of, HaveOwnNumbers};
 ghost use Rattle.tag_core.specs.Gathering.{numbers_of};
 ghost use Rattle.tag_core.specs.Reopening.{reopened_record, IsNext, HasCounts, AreReopened, GoesOnFrom, AllFree};
-ghost use Rattle.tag_core.specs.Views.{viewing, fresh, all_fresh};
+ghost use Rattle.tag_core.specs.Views.{fresh, all_fresh};
 
 use crate::caller::Caller;
 use crate::map::Map;
 use crate::opens::{new_map, none_held};
-use crate::plays::HandOut;
 use crate::record::View;
 use crate::settled::Settled;
 use crate::shape::{COUNTS, Shape};
@@ -22,6 +22,7 @@ use crate::spots::first_state;
 use atomic_table::Seat;
 use std::alloc::{AllocError, Global};
 use std::snapshot::Snapshot;
+use step_ledger::HandOut;
 use tag_layout::Layout;
 
 /// The index of the caller with this number.

@@ -1,7 +1,6 @@
 //! Settling: all callers are passed in, and the map stays.
 ghost use Rattle.std.specs.Prelude.{◌≡◌, ◌↔◌, ◌++◌, map, All, IsOk, IfOk, IfErr, vec_len, vec_capacity};
-ghost use Rattle.step_ledger.specs.Views.{HasAll};
-ghost use Rattle.step_ledger.specs.Gather.{IsCauseOf};
+ghost use Rattle.step_ledger.specs.Gather.{IsCauseOf, HasAll};
 ghost use Rattle.tag_core.specs.Callers.{IsCallerOf, record_of, AreUnchanged};
 ghost use Rattle.tag_core.specs.Gathering.{IsGatheringOf, gathered, numbers, numbers_of};
 ghost use Rattle.tag_core.specs.Lending.{lent, AreLoansOf, BeginsWith};

@@ -1,19 +1,20 @@
 //! Gathering callers, one after another: their records come into the view of one seat.
 ghost use Rattle.std.specs.Prelude.{◌≡◌, ℕ, ◌+◌, ◌*◌, ◌≤◌, [], ◌∷◌, length, map, All};
+ghost use Rattle.step_ledger.specs.Gather.{Has};
 ghost use Rattle.tag_layout.specs.declared.layout.TheConstants.{MAX_DEPTH};
 ghost use Rattle.tag_model.specs.declared.world.TheConstants.{MAX_CALLERS, MOST_WON};
-ghost use Rattle.step_ledger.specs.Views.{Has};
 ghost use Rattle.tag_core.specs.Sizes.{total_of, size_of};
 
 use crate::caller::Caller;
 use crate::loans::Lender;
 use crate::map::Map;
-use crate::plays::{Collect, Counting, HandOut};
+use crate::plays::Counting;
 use crate::record::View;
 use crate::spots::SPARE;
 use atomic_table::Seat;
 use std::mem::swap;
 use std::snapshot::Snapshot;
+use step_ledger::{Collect, HandOut};
 
 /// Callers that have been gathered, one after another. A clause sees the list of their records, the newest first.
 #[derive(Drop)]

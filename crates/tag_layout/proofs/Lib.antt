@@ -1,4 +1,3 @@
 pub mod PlaceFacts
 pub mod ShareFacts
-pub mod SumFacts
 pub mod Scans

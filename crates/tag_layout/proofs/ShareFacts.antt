@@ -4,8 +4,8 @@ use mathlib.Core.Logic.{dite}
 use native.Mathlib.Decide.{dec_lt}
 use Rattle.std.proofs.lemmas.Nat.{le-div, mod_below, div-mul-add, div-add-mod'}
 use Rattle.std.proofs.Math.Nat.{mul-le-mul_left, mul-le-mul_right}
+use Rattle.sums.specs.Below.{sum_below}
 use Rattle.tag_layout.specs.Layout.{Layout, word_bits, words, word_depth, share, shallow_limit}
-use Rattle.tag_layout.specs.Sums.{sum_below}
 use Rattle.tag_layout.proofs.PlaceFacts.{word_bits-pos, depth-le-words}
 
 -- a quotient is between its bounds

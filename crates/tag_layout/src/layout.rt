@@ -1,8 +1,8 @@
 //! The layout of a map: from tags to words and places, and back.
 ghost use Rattle.std.specs.Prelude.{◌≡◌, ◌≢◌, ℕ, ◌+◌, ◌*◌, ◌^◌, ◌<◌, ◌≤◌, ◌↔◌, IfOk, IsSomeAnd, Option, Some, None};
 ghost use Rattle.std.specs.Int.{bit_at};
+ghost use Rattle.sums.specs.Below.{sum_below};
 ghost use Rattle.tag_layout.specs.Layout.{word_bits, words, word_of, place_of, tag_at, word_depth, HasShift, IsDefaultShift};
-ghost use Rattle.tag_layout.specs.Sums.{sum_below};
 
 use std::marker::Model;
 

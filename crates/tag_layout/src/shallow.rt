@@ -1,7 +1,7 @@
 //! How a shallow depth is shared out among the words.
 ghost use Rattle.std.specs.Prelude.{◌≡◌, ℕ, ◌+◌, ◌/◌, ◌^◌, ◌<◌, ◌≤◌, min};
+ghost use Rattle.sums.specs.Below.{sum_below};
 ghost use Rattle.tag_layout.specs.Layout.{words, word_depth, share, shallow_limit};
-ghost use Rattle.tag_layout.specs.Sums.{sum_below};
 
 use crate::layout::Layout;
 

@@ -1,8 +1,8 @@
 -- In every run the tags won are those given back, held and posted.
 use Rattle.std.proofs.Common.{◌≡◌, ℕ, ◌+◌, ◌<◌, ◌==◌, List, [], ◌∷◌, Bool, true, false, cond, IsTrue, arith, refl, sym, ap, ◌∙◌, eq-eqb, ne_eqb}
+use Rattle.sums.specs.Below.{sum_below, one_if}
+use Rattle.sums.proofs.Laws.{sum_below-none, sum_below-same, sum_below-add, sum_below-only, sum_below-more}
 use Rattle.tag_layout.specs.Layout.{Layout}
-use Rattle.tag_layout.specs.Sums.{sum_below}
-use Rattle.tag_layout.proofs.SumFacts.{sum_below-none, sum_below-same, sum_below-add, sum_below-only}
 use Rattle.tag_model.specs.declared.place.Place.{Place}
 use Rattle.tag_model.specs.declared.place.Place.TheVariants.{Free, Held, Posted, Aside, Sweep as Swept}
 use Rattle.tag_model.specs.declared.event.Event.{Event}
@@ -10,7 +10,7 @@ use Rattle.tag_model.specs.declared.event.Event.TheVariants.{Look, Win, Put, Giv
 use Rattle.tag_model.specs.Event.{caller_of, is_in_mask, names, swept_by, spilled_by, won_by, back_by}
 use Rattle.tag_model.specs.World.{World, opened, place_after, plus_at, after, MayHappen}
 use Rattle.tag_model.specs.Runs.{after_all, MayRun, after_history, IsHistory}
-use Rattle.tag_model.specs.Totals.{is_held, is_posted, one_if, held_in, posted_in, Balances}
+use Rattle.tag_model.specs.Totals.{is_held, is_posted, held_in, posted_in, Balances}
 use Rattle.tag_model.proofs.MaskFacts.{sum_below-mask}
 
 -- 1 for a tag that was won and not given back
@@ -21,10 +21,9 @@ out place = one_if (is_held place) + one_if (is_posted place)
 pub sum_below-plus_at : (f : ℕ → ℕ) (n here more : ℕ) → here < n
     → sum_below (plus_at here more f) n ≡ sum_below f n + more
 sum_below-plus_at f n here more h =
-    sum_below-add (plus_at here more f) f (λ k. cond (k == here) more 0) n (λ k h2. refl)
-    ∙ ap (λ (z : ℕ). sum_below f n + z)
-    (sum_below-only (λ k. cond (k == here) more 0) n here h (λ k h2 ne. ap (λ (b : Bool). cond b more 0)
-    (ne_eqb k here ne)) ∙ ap (λ (b : Bool). cond b more 0) (eq-eqb here here refl))
+    let grown = sum_below-more f (plus_at here more f) here more n h
+    (let e = ap (λ (b : Bool). f here + cond b more 0) (eq-eqb here here refl) in omega arith)
+    (λ k ne. let e = ap (λ (b : Bool). f k + cond b more 0) (ne_eqb k here ne) in omega arith) in omega arith
 
 -- one tag is one
 sum_below-one : (n tag : ℕ) → tag < n → sum_below (λ t. one_if (t == tag)) n ≡ 1

@@ -1,15 +1,14 @@
 -- Worlds as they are kept: sums and counts of their lists, and the lists after an event.
-use Rattle.std.proofs.Common.{◌≡◌, ◌≢◌, ℕ, zero, suc, ◌+◌, ◌*◌, ◌<◌, ◌≤◌, ◌==◌, List, length, get_or, set, take, replicate, sum, sum_by, Bool, true, false, cond, arith, refl, sym, ap, ◌∙◌, subst, eq-eqb, ne_eqb, get_or-set_same, get_or-set_other, length-set, Vec, Global}
+use Rattle.std.proofs.Common.{◌≡◌, ◌≢◌, ℕ, ◌+◌, ◌*◌, ◌<◌, ◌≤◌, ◌==◌, List, length, get_or, set, replicate, Bool, true, false, cond, arith, refl, sym, ap, ◌∙◌, subst, eq-eqb, ne_eqb, get_or-set_same, get_or-set_other, length-set, Vec, Global}
 use mathlib.Core.Logic.{dite}
 use native.Mathlib.Decide.{ℕ_discrete, dec_lt}
 use Rattle.std.proofs.Math.Path.{fun_ext}
 use Rattle.std.specs.Vec.{with_items}
 use Rattle.std.proofs.Math.Nat.{mul-le-mul_right}
-use Rattle.std.proofs.Math.Seq.{take-length}
 use Rattle.std.proofs.lemmas.List.{with_items_is, length-replicate, get_or-replicate, get_or_past}
-use Rattle.std.proofs.lemmas.List.Sums.{sum_by_more}
+use Rattle.sums.specs.Below.{sum_below}
+use Rattle.sums.proofs.Laws.{sum_below-bound, le-sum_below}
 use Rattle.tag_layout.specs.Layout.{Layout, word_of}
-use Rattle.tag_layout.specs.Sums.{sum_below}
 use Rattle.tag_model.specs.declared.place.Place.{Place}
 use Rattle.tag_model.specs.declared.place.Place.TheVariants.{Free}
 use Rattle.tag_model.specs.declared.event.Event.{Event}
@@ -20,27 +19,6 @@ use Rattle.tag_model.specs.Totals.{Balances}
 use Rattle.tag_model.specs.Kept.{KeptWorld, callers_of, world_of, IsSound, Happens, MovesTags}
 use Rattle.tag_model.proofs.MaskFacts.{in_mask-past}
 use Rattle.tag_model.proofs.BalanceFacts.{balances-after, balances-opened}
-
--- the sum of a list by its indexes
-pub sum_by-below : {X : Type 0} (f : X → ℕ) (xs : List X) (d : X)
-    → sum_by f xs ≡ sum_below (λ k. f (get_or xs k d)) (length xs)
-sum_by-below {X} f xs d = ap (sum_by f) (sym (take-length xs)) ∙ up_to (length xs) (omega arith)
-  where
-    up_to : (n : ℕ) → n ≤ length xs → sum_by f (take n xs) ≡ sum_below (λ k. f (get_or xs k d)) n
-    up_to zero h = refl
-    up_to (suc n) h =
-        let before = up_to n (omega arith) in let more = sum_by_more f xs n d (omega arith) in
-        (let e : suc n ≡ n + 1 = omega arith in ap (λ (k : ℕ). sum_by f (take k xs)) e) ∙ more
-        ∙ ap (λ (z : ℕ). z + f (get_or xs n d)) before
-
-pub sum-below : (xs : List ℕ) → sum xs ≡ sum_below (λ k. get_or xs k 0) (length xs)
-sum-below xs = sum_by-below (λ x. x) xs 0
-
--- a sum of terms that are each at most m
-pub sum_below-bound : (f : ℕ → ℕ) (n m : ℕ) → ((k : ℕ) → k < n → f k ≤ m) → sum_below f n ≤ n * m
-sum_below-bound f zero m h = omega arith
-sum_below-bound f (suc n) m h = let before = sum_below-bound f n m (λ k h2. h k (omega arith)) in
-    let last = h n (omega arith) in omega arith
 
 -- past the depth nothing is named but what stays free
 pub free-past : (l : Layout) (event : Event) (tag : ℕ) → IsInLayout l event → l.depth ≤ tag
@@ -127,13 +105,6 @@ world-opened depth callers =
     same : {X : Type 0} (n k : ℕ) (x : X) → get_or (replicate n x) k x ≡ x
     same n k x = dite (dec_lt k n) (λ (h : k < n). get_or-replicate n k x x h)
         (λ no. get_or_past (replicate n x) k x (let e = length-replicate n x in omega arith))
-
--- a term is within the sum
-pub le-sum_below : (f : ℕ → ℕ) (n k : ℕ) → k < n → f k ≤ sum_below f n
-le-sum_below f zero k h = absurd (omega arith)
-le-sum_below f (suc n) k h = dite (ℕ_discrete k n)
-    (λ (e : k ≡ n). let same : f k ≡ f n = ap f e in omega arith)
-    (λ (ne : k ≢ n). let before = le-sum_below f n k (omega arith) in omega arith)
 
 -- what a sound world keeps is far from overflow
 module _ (kept : KeptWorld) (sound : IsSound kept) where

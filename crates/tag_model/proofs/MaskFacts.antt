@@ -1,5 +1,5 @@
 -- The tags of a mask: which they are, and how many.
-use Rattle.std.proofs.Common.{◌≡◌, ◌≢◌, ℕ, zero, suc, ◌+◌, ◌*◌, ◌/◌, ◌^◌, ◌<◌, ◌≤◌, ◌==◌, ◌&&◌, Bool, false, count_ones, arith, refl, sym, ap, ◌∙◌, subst, ⊎_elim, eq-eqb, ne_eqb}
+use Rattle.std.proofs.Common.{◌≡◌, ◌≢◌, ℕ, zero, suc, ◌+◌, ◌*◌, ◌/◌, ◌^◌, ◌<◌, ◌≤◌, ◌==◌, ◌&&◌, Bool, false, count_ones, arith, sym, ap, ◌∙◌, subst, ⊎_elim, eq-eqb, ne_eqb}
 use mathlib.Core.Logic.{dite}
 use native.Mathlib.Decide.{ℕ_discrete}
 use lib.Count.{ones_step}
@@ -7,17 +7,11 @@ use Rattle.std.specs.Int.{bit_at}
 use Rattle.std.proofs.Math.Nat.{pow-suc}
 use Rattle.std.proofs.lemmas.Nat.{ones-le}
 use Rattle.std.proofs.lemmas.Nat.Bits.{bit_at-lt, bit_at_lowest, bit_at-suc, bit_at_above, bit_at-pow_same, bit_at-pow_other}
+use Rattle.sums.specs.Below.{sum_below, one_if}
+use Rattle.sums.proofs.Laws.{sum_below-same, sum_below-split, sum_below-window, one_if-bit}
 use Rattle.tag_layout.specs.Layout.{Layout, word_bits, words, word_of, place_of, tag_at, word_depth, IsWithin}
-use Rattle.tag_layout.specs.Sums.{sum_below}
-use Rattle.tag_layout.proofs.SumFacts.{sum_below-same, sum_below-split, sum_below-window}
 use Rattle.tag_layout.proofs.PlaceFacts.{word-start, word_bits-pos, tag_at-back, place_of-below, word_of-tag_at, place_of-tag_at}
 use Rattle.tag_model.specs.Event.{is_in_mask}
-use Rattle.tag_model.specs.Totals.{one_if}
-
-pub one_if-bit : (x : ℕ) → x < 2 → one_if (x == 1) ≡ x
-one_if-bit zero h = refl
-one_if-bit (suc zero) h = refl
-one_if-bit (suc (suc x)) h = absurd (omega arith)
 
 -- the sum of the bits is their number
 pub sum_below-bits : (width mask : ℕ) → mask < 2 ^ width → sum_below (bit_at mask) width ≡ count_ones mask

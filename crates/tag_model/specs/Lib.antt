@@ -7,4 +7,4 @@ pub mod Kept
 pub mod Laws
 pub use Rattle.tag_layout.specs.Layout
 pub use Rattle.tag_layout.specs.Bits
-pub use Rattle.tag_layout.specs.Sums
+pub use Rattle.sums.specs.Below

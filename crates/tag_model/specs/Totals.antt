@@ -1,7 +1,7 @@
 -- Totals over all callers and all tags, and how they balance.
-use Rattle.std.specs.Prelude.{◌≡◌, ℕ, ◌+◌, Bool, true, false, cond}
+use Rattle.std.specs.Prelude.{◌≡◌, ℕ, ◌+◌, Bool, true, false}
+use Rattle.sums.specs.Below.{sum_below, count_below}
 use Rattle.tag_layout.specs.Layout.{Layout}
-use Rattle.tag_layout.specs.Sums.{sum_below}
 use Rattle.tag_model.specs.declared.place.Place.{Place}
 use Rattle.tag_model.specs.declared.place.Place.TheVariants.{Held, Posted}
 use Rattle.tag_model.specs.declared.totals.Totals.{Totals}
@@ -16,14 +16,6 @@ is_held _ = false
 abbrev pub is_posted : Place → Bool
 is_posted Posted = true
 is_posted _ = false
-
--- 1 where the test passes, else 0
-abbrev pub one_if : Bool → ℕ
-one_if b = cond b 1 0
-
--- how many of the numbers below n pass the test
-abbrev pub count_below : (ℕ → Bool) → ℕ → ℕ
-count_below test n = sum_below (λ k. cond (test k) 1 0) n
 
 -- tags won by all callers
 abbrev pub got_in : ℕ → World → ℕ

@@ -1,9 +1,10 @@
 //! Where each tag is, and where an event is about to bring it.
 ghost use Rattle.std.specs.Prelude.{◌≡◌, ◌≢◌, ℕ, ◌<◌, IfOk, MatchBool, MatchOption, replicate, length, slice_index_or};
+ghost use Rattle.sums.specs.Below.{count_below};
 ghost use Rattle.tag_layout.specs.Layout.{words};
 ghost use Rattle.tag_model.specs.declared.place.Place.TheVariants.{Free};
 ghost use Rattle.tag_model.specs.Event.{IsInLayout};
-ghost use Rattle.tag_model.specs.Totals.{is_held, is_posted, count_below};
+ghost use Rattle.tag_model.specs.Totals.{is_held, is_posted};
 ghost use Rattle.tag_model.specs.Entries.{is_turned, AreReady, SamePlaces, Turns};
 ghost use Rattle.tag_model.specs.Kept.{AreAccepted, MissesOne, MovesTags};
 

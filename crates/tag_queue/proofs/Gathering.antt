@@ -1,6 +1,6 @@
 -- All agents together: which are present, and the sums over them.
 use Rattle.std.proofs.Common.{◌≡◌, ℕ, ◌≤◌, List, [], ◌∷◌, map, arith, refl, sym, ap, ◌∙◌}
-use Rattle.step_ledger.specs.Views.{numbers, sum_over}
+use Rattle.step_ledger.specs.Records.{numbers, sum_over}
 use Rattle.step_ledger.specs.History.{total}
 use Rattle.tag_core.specs.declared.closed.Closed.{Closed}
 use Rattle.tag_core.specs.declared.record.Record.{Record}

@@ -9,8 +9,9 @@ use Rattle.std.proofs.lemmas.List.{length-take, get_or-take}
 use Rattle.std.proofs.lemmas.List.Elements.{Contains-append_left, Contains-append_right, Contains-append_cases, Contains-push, Contains-push_cases}
 use Rattle.std.proofs.lemmas.Nat.{or_lt, pow_below}
 use Rattle.std.proofs.lemmas.Nat.Bits.{bit_at_or, bit_at-lt, bit_at-zero, bit_at-pow_other}
+use Rattle.sums.proofs.Laws.{sum_below-add}
+use Rattle.sums.specs.Below.{one_if}
 use Rattle.tag_layout.specs.Layout.{Layout, word_of, place_of}
-use Rattle.tag_layout.proofs.SumFacts.{sum_below-add}
 use Rattle.tag_model.proofs.MaskFacts.{sum_below-bits}
 use Rattle.tag_core.specs.declared.shape.Shape.{Shape}
 use Rattle.tag_core.specs.declared.caller.Caller.{Caller}
@@ -18,7 +19,6 @@ use Rattle.tag_core.specs.declared.map.Map.{Map}
 use Rattle.tag_core.specs.declared.record.Record.{Record}
 use Rattle.tag_core.specs.declared.step.Step.TheVariants.{Word}
 use Rattle.tag_core.specs.declared.word_step.WordStep.TheVariants.{Give}
-use Rattle.tag_core.specs.Bits.{one_if}
 use Rattle.tag_core.specs.Callers.{record_of, Adds}
 use Rattle.tag_core.specs.Holdings.{IsInMask, Releases}
 use Rattle.tag_core.specs.Records.{record_after}

@@ -5,8 +5,8 @@ use Rattle.std.specs.Int.{bit_at}
 use Rattle.std.proofs.Math.Pow.{pow_mono}
 use Rattle.std.proofs.lemmas.List.{append-nil, nil_from_length}
 use Rattle.std.proofs.lemmas.Nat.{zero_from_ones}
+use Rattle.sums.proofs.Laws.{sum_below-same}
 use Rattle.tag_layout.specs.Layout.{Layout, word_bits, word_of, word_depth, tag_at, IsWithin}
-use Rattle.tag_layout.proofs.SumFacts.{sum_below-same}
 use Rattle.tag_model.specs.Event.{is_in_mask}
 use Rattle.tag_model.proofs.MaskFacts.{sum_below-bits}
 use Rattle.tag_core.specs.declared.caller.Caller.{Caller}

@@ -5,8 +5,8 @@ use Rattle.std.proofs.lemmas.List.{length-map, get_or-map}
 use mathlib.Core.Option.{some, some-injective, some-ne-none}
 use lib.ListN.{get_elem?}
 use Rattle.atomic_table.proofs.Lists.{at_map}
+use Rattle.step_ledger.specs.Records.{fresh, fresh_record}
 use Rattle.step_ledger.specs.declared.record.Record.{Record}
-use Rattle.step_ledger.specs.Views.{fresh, fresh_record}
 use Rattle.step_ledger.specs.History.{total}
 use Rattle.tag_core.specs.declared.caller.Caller.{Caller}
 use Rattle.tag_core.specs.declared.map.Map.{Map}

@@ -2,8 +2,7 @@
 use Rattle.std.proofs.Common.{◌≡◌, ℕ, List, true, false, refl, subst}
 use Rattle.std.specs.Prelude.{◌↔◌}
 use Rattle.std.proofs.lemmas.Bool.{false≢true}
-use Rattle.step_ledger.specs.Gather.{IsCauseOf}
-use Rattle.step_ledger.specs.Views.{HasAll, IsLeastMissing}
+use Rattle.step_ledger.specs.Gather.{HasAll, IsLeastMissing, IsCauseOf}
 use Rattle.step_ledger.specs.declared.numbered.GatherCause.TheVariants.{Missing}
 
 module _ {seen ns : List ℕ} {some count : ℕ} (same : seen ≡ ns) (many : some ≡ count) where

@@ -8,7 +8,7 @@ use lib.ListN.{get_elem?}
 use native.Mathlib.Nat.{ℕ_set}
 use Rattle.std.specs.Coded.{le_prop}
 use Rattle.atomic_table.proofs.Lists.{at_map}
-use Rattle.step_ledger.specs.Views.{HasAll}
+use Rattle.step_ledger.specs.Gather.{HasAll}
 use Rattle.tag_layout.specs.Layout.{Layout}
 use Rattle.tag_core.specs.declared.caller.Caller.{Caller}
 use Rattle.tag_core.specs.declared.map.Map.{Map}

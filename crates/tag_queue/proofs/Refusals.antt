@@ -2,7 +2,7 @@
 use Rattle.std.proofs.Common.{◌≡◌, ℕ, ◌<◌, ◌≤◌, List, arith, refl, sym, ap, ◌∙◌, subst, ⊎_elim, Ok, Err, Result}
 use Rattle.std.specs.Prelude.{◌↔◌, IfErr}
 use Rattle.std.proofs.lemmas.Bool.{cases_lt}
-use Rattle.step_ledger.specs.Views.{HasAll, IsLeastMissing}
+use Rattle.step_ledger.specs.Gather.{HasAll, IsLeastMissing}
 use Rattle.tag_layout.specs.declared.layout.TheConstants.{MAX_DEPTH}
 use Rattle.tag_queue.specs.declared.agent.Agent.{Agent}
 use Rattle.tag_queue.specs.declared.queue.Queue.{Queue}

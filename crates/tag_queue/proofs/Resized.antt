@@ -4,7 +4,7 @@ use Rattle.std.specs.Prelude.{◌↔◌, is_ok}
 use Rattle.std.proofs.lemmas.Bool.{cases_lt, false≢true}
 use Rattle.std.proofs.lemmas.List.{length-map}
 use mathlib.Core.Option.{some-injective}
-use Rattle.step_ledger.specs.Views.{HasAll}
+use Rattle.step_ledger.specs.Gather.{HasAll}
 use Rattle.tag_layout.specs.declared.layout.TheConstants.{MAX_DEPTH}
 use Rattle.tag_core.specs.declared.caller.Caller.{Caller}
 use Rattle.tag_core.specs.declared.record.Record.{Record}

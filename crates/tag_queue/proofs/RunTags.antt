@@ -8,8 +8,8 @@ use Rattle.std.proofs.lemmas.Bool.{cases_lt, lt-ltb, le-ltb}
 use Rattle.std.proofs.lemmas.List.{append-nil, length-map, get_or_push}
 use Rattle.std.proofs.lemmas.List.Elements.{Contains-append_left, Contains-append_right, Contains-append_cases, Contains-push, Contains-push_cases}
 use Rattle.std.proofs.lemmas.Nat.Bits.{bit_at-lt, bit_at_above}
-use Rattle.tag_layout.specs.Sums.{sum_below}
-use Rattle.tag_layout.proofs.SumFacts.{sum_below-same}
+use Rattle.sums.specs.Below.{sum_below}
+use Rattle.sums.proofs.Laws.{sum_below-same}
 use Rattle.tag_model.proofs.MaskFacts.{sum_below-bits}
 use Rattle.tag_core.specs.Records.{tags_from}
 use Rattle.tag_queue.specs.Masks.{set_bits, tags_in, mask_bit}

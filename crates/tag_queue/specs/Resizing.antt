@@ -1,6 +1,6 @@
 -- Resizes of a queue: when they are refused, and what continues.
 use Rattle.std.specs.Prelude.{◌≡◌, ℕ, ◌<◌, ◌≤◌, List, All, map, count_by, is_some, Result, IsErrAnd}
-use Rattle.step_ledger.specs.Views.{HasAll, IsLeastMissing}
+use Rattle.step_ledger.specs.Gather.{HasAll, IsLeastMissing}
 use Rattle.tag_layout.specs.Layout.{Layout, wake_batch}
 use Rattle.tag_layout.specs.declared.layout.TheConstants.{MAX_DEPTH}
 use Rattle.tag_model.specs.declared.totals.Totals.{Totals}

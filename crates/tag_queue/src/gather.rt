@@ -1,7 +1,6 @@
 //! Gathers all agents and closes the queue.
 ghost use Rattle.std.specs.Prelude.{◌≡◌, ◌↔◌, All, IfOk, IfErr, IsOk, MatchOption};
-ghost use Rattle.step_ledger.specs.Views.{HasAll, IsLeastMissing};
-ghost use Rattle.step_ledger.specs.Gather.{IsCauseOf};
+ghost use Rattle.step_ledger.specs.Gather.{HasAll, IsLeastMissing, IsCauseOf};
 ghost use Rattle.tag_queue.specs.Agents.{IsAgentOf, agents_of, numbers_of};
 ghost use Rattle.tag_queue.specs.Gathering.{IsGathered};
 

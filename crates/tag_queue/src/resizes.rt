@@ -1,6 +1,6 @@
 //! Resizes a queue to another depth.
 ghost use Rattle.std.specs.Prelude.{◌≡◌, ◌<◌, ◌↔◌, ℕ, All, IfOk, IfErr, IsOk, MatchOption, MatchResult};
-ghost use Rattle.step_ledger.specs.Views.{HasAll, IsLeastMissing};
+ghost use Rattle.step_ledger.specs.Gather.{HasAll, IsLeastMissing};
 ghost use Rattle.tag_layout.specs.declared.layout.TheConstants.{MAX_DEPTH};
 ghost use Rattle.tag_queue.specs.Agents.{IsAgentOf, AreUnchanged, agents_of, numbers_of, records_of, layout_of};
 ghost use Rattle.tag_queue.specs.Resizing.{IsRefusedAs, IsRefusedFor, IsResized, MayResize, HasMap, layout_at};

@@ -1,7 +1,6 @@
 //! Counts the tags that are held and those that are posted.
 ghost use Rattle.std.specs.Prelude.{◌≡◌, ◌↔◌, ◌++◌, All, IfOk, IfErr, IsOk, vec_len, vec_capacity};
-ghost use Rattle.step_ledger.specs.Views.{HasAll};
-ghost use Rattle.step_ledger.specs.Gather.{IsCauseOf};
+ghost use Rattle.step_ledger.specs.Gather.{HasAll, IsCauseOf};
 ghost use Rattle.tag_core.specs.Gathering.{IsGatheringOf, gathered, numbers};
 ghost use Rattle.tag_core.specs.Lending.{lent, AreLoansOf, BeginsWith};
 ghost use Rattle.tag_core.specs.Settling.{AreSettled};

@@ -4,12 +4,13 @@ use Rattle.std.specs.Int.{bit_at, bit_not, w64}
 use Rattle.std.proofs.lemmas.Bool.{eqb-true}
 use Rattle.std.proofs.lemmas.Nat.{and_le_l, and_le_r}
 use Rattle.std.proofs.lemmas.Nat.Bits.{bit_at-zero, bit_at-lt, bit_at_and, bit_at_not}
+use Rattle.sums.specs.Below.{count_below}
+use Rattle.sums.proofs.Laws.{one_if-bit}
 use Rattle.tag_layout.specs.Layout.{word_bits, words, word_of, place_of, tag_at, word_depth}
 use Rattle.tag_layout.proofs.PlaceFacts.{word_of-tag_at, place_of-tag_at}
-use Rattle.tag_model.specs.Totals.{count_below}
 use Rattle.tag_search.specs.Plain.{Plain, plain_words}
 use Rattle.tag_search.specs.Pool.{pool_of, is_busy}
-use Rattle.tag_sets.proofs.Tallies.{aside_bits, count_word}
+use Rattle.tag_sets.proofs.Tallies.{count_word}
 
 -- a bit that is 1 and not aside
 busy_bits : (b a : ℕ) → b < 2 → a < 2 → cond (not (nat_eq b 0 || nat_eq a 1)) 1 0 ≡ min b (1 - a)
@@ -45,7 +46,7 @@ aside_place : (a u place : ℕ) → place < 64 → bit_at u place ≡ 1
 aside_place a u place low one =
     let below : nat_lt place 64 ≡ true = search (rules, low) in
     let used = bit_at_and a u place in let b = bit_at-lt a place in
-    ap (λ (t : Bool). cond (t && nat_eq (bit_at a place) 1) 1 0) below ∙ aside_bits (bit_at a place) b ∙ omega arith
+    ap (λ (t : Bool). cond (t && nat_eq (bit_at a place) 1) 1 0) below ∙ one_if-bit (bit_at a place) b ∙ omega arith
 
 -- a number that a test does not find different from 0 is 0
 pub zero_of : (x : ℕ) → not (nat_eq x 0) ≡ false → x ≡ 0

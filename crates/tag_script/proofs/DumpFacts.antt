@@ -1,6 +1,6 @@
 -- Bytes made of bits.
 use Rattle.std.proofs.Common.{◌≡◌, ℕ, zero, suc, ◌+◌, ◌*◌, ◌^◌, ◌<◌, ◌≤◌, Bool, true, false, cond, ap, arith}
-use Rattle.tag_layout.specs.Sums.{sum_below}
+use Rattle.sums.specs.Below.{sum_below}
 use Rattle.tag_script.specs.Dump.{bit_value, is_held_tag}
 use Rattle.tag_script.specs.PlainWorld.{PlainWorld}
 

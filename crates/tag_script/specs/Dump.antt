@@ -1,7 +1,7 @@
 -- The held tags as a list, and as bytes.
 use Rattle.std.specs.Prelude.{ℕ, zero, suc, ◌+◌, ◌*◌, ◌^◌, ◌&&◌, if◌then◌else◌, nat_lt, Bool, List, [], ◌∷◌, ◌++◌}
 use Rattle.std.specs.Int.{div_ceil}
-use Rattle.tag_layout.specs.Sums.{sum_below}
+use Rattle.sums.specs.Below.{sum_below}
 use Rattle.tag_script.specs.PlainWorld.{PlainWorld, is_held}
 
 -- the numbers below n, ascending

@@ -1,8 +1,8 @@
 -- The world of a plain script: one caller alone with a map.
 use Rattle.std.specs.Prelude.{◌≡◌, ℕ, ◌+◌, ◌<◌, ◌≤◌, ◌≢◌, List, length, Bool, true, false, if◌then◌else◌, Option, Some, None, Result, Ok, Err, nat_lt, nat_eq, count_ones, ◌&&◌, ◌||◌, ◌-◌, slice_index, ◌⊎◌}
 use Rattle.std.specs.List.{All, AllPairs, Any, list_any}
+use Rattle.sums.specs.Below.{count_below}
 use Rattle.tag_layout.specs.Layout.{Layout, word_bits, word_of, place_of}
-use Rattle.tag_model.specs.Totals.{count_below}
 use Rattle.tag_search.specs.declared.hint.Hint.{Hint}
 use Rattle.tag_search.specs.Batch.{batch_words}
 use Rattle.tag_search.specs.Follows.{HintFollows, BatchFollows}

@@ -1,7 +1,7 @@
 -- Sums over the words of a list, in the order in which a search visits them.
 use Rattle.std.proofs.Common.{◌≡◌, ℕ, zero, suc, ◌+◌, ◌-◌, ◌*◌, ◌≤◌, List, [], ◌∷◌, ◌++◌, arith, refl, ap, ◌∙◌}
+use Rattle.sums.specs.Below.{sum_below}
 use Rattle.tag_layout.specs.Layout.{Layout, words, word_depth}
-use Rattle.tag_layout.specs.Sums.{sum_below}
 use Rattle.tag_layout.proofs.PlaceFacts.{word_depths-sum}
 use Rattle.tag_search.specs.Order.{numbers_from, numbers}
 

@@ -5,8 +5,8 @@ use Rattle.std.proofs.lemmas.List.{length-map}
 use Rattle.std.proofs.lemmas.List.Elements.{All-map, All-weaker}
 use mathlib.Core.Logic.{dite}
 use native.Mathlib.Decide.{ℕ_discrete}
-use Rattle.tag_layout.specs.Sums.{sum_below}
-use Rattle.tag_layout.proofs.SumFacts.{sum_below-none, sum_below-same, sum_below-only, sum_below-swap, sum_below-le}
+use Rattle.sums.specs.Below.{sum_below}
+use Rattle.sums.proofs.Laws.{sum_below-none, sum_below-same, sum_below-only, sum_below-swap, sum_below-le}
 use Rattle.tag_model.specs.declared.totals.Totals.{Totals}
 use Rattle.tag_model.specs.declared.world.TheConstants.{MOST_WON}
 use Rattle.tag_core.specs.declared.record.Record.{Record}

@@ -6,8 +6,8 @@ use Rattle.std.proofs.lemmas.Bool.{lt-ltb, le-ltb}
 use Rattle.std.proofs.lemmas.Nat.Bits.{bit_at-zero}
 use mathlib.Core.Logic.{dite}
 use native.Mathlib.Decide.{dec_lt}
-use Rattle.tag_layout.proofs.SumFacts.{sum_below-same, sum_below-split}
-use Rattle.tag_model.specs.Totals.{count_below}
+use Rattle.sums.proofs.Laws.{sum_below-same, sum_below-split}
+use Rattle.sums.specs.Below.{count_below, one_if}
 use Rattle.tag_queue.specs.declared.agent.Agent.{Agent}
 use Rattle.tag_queue.specs.Agents as queue
 use Rattle.tag_sets.specs.declared.hand.Hand.{Hand}
@@ -19,7 +19,6 @@ use Rattle.tag_sets.specs.Busy.{ListsSet, ListsBusy, is_busy_tag}
 use Rattle.tag_sets.specs.Sets.{number_in_set}
 use Rattle.tag_sets.specs.Hands.{IsHandOf, Holds, agent_of, split_of, reserved_of, total_of, layout_of}
 use Rattle.tag_sets.specs.Looks.{is_busy_in}
-use Rattle.tag_sets.proofs.Marking.{one_if}
 use Rattle.tag_sets.proofs.Numbering.{IsReserved, IsOrdinary, stands}
 use Rattle.tag_sets.proofs.Sizes.{held_low}
 

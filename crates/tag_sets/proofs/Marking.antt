@@ -7,12 +7,9 @@ use Rattle.std.proofs.lemmas.Nat.{one_shl}
 use Rattle.std.proofs.lemmas.Nat.Bits.{bit_at-lt, bit_at_or, bit_at-pow_same, bit_at-pow_other}
 use mathlib.Core.Logic.{dite}
 use native.Mathlib.Decide.{dec_lt, ℕ_discrete}
+use Rattle.sums.specs.Below.{one_if}
 use Rattle.tag_search.proofs.PlainFacts.{clear_of_mask, taken_of_mask}
 use Rattle.tag_sets.specs.Bits.{bit_in, Marks}
-
--- 1 if the test holds, else 0
-abbrev pub one_if : Bool → ℕ
-one_if b = cond b 1 0
 
 -- zero bits are marked in an unchanged list
 pub marks-none : (w first : ℕ) (test : ℕ → Bool) (old : List ℕ) → Marks w first 0 test old old

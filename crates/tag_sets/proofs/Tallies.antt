@@ -8,13 +8,13 @@ use Rattle.std.proofs.lemmas.Nat.Bits.{bit_at-lt, bit_at_and, bit_at_not, bit_at
 use Rattle.std.proofs.Math.Nat.{mul-le-mul_right}
 use mathlib.Core.Logic.{dite}
 use native.Mathlib.Decide.{dec_lt}
+use Rattle.sums.proofs.Laws.{sum_below-same, sum_below-split, one_if-bit, count_below-le}
+use Rattle.sums.specs.Below.{count_below, one_if}
 use Rattle.tag_layout.specs.Layout.{Layout, word_bits, words, word_of, place_of, tag_at, word_depth}
-use Rattle.tag_layout.proofs.SumFacts.{sum_below-same, sum_below-split}
 use Rattle.tag_layout.proofs.PlaceFacts.{word-start, depth-le-words, tag_at-back, word_of-tag_at, place_of-tag_at}
-use Rattle.tag_model.specs.Totals.{count_below}
 use Rattle.tag_model.proofs.MaskFacts.{sum_below-bits}
 use Rattle.tag_sets.specs.Bits.{Marks}
-use Rattle.tag_sets.proofs.Marking.{one_if, marks-like, marks-then}
+use Rattle.tag_sets.proofs.Marking.{marks-like, marks-then}
 use Rattle.tag_sets.specs.Looks.{word_in, is_busy_in, is_aside_in}
 
 -- a tag is busy if its bit is taken and not set aside, as numbers
@@ -26,20 +26,6 @@ busy_bits (suc zero) (suc zero) h k = refl
 busy_bits (suc (suc b)) a h k = absurd (omega arith)
 busy_bits zero (suc (suc a)) h k = absurd (omega arith)
 busy_bits (suc zero) (suc (suc a)) h k = absurd (omega arith)
-
-pub aside_bits : (a : ℕ) → a < 2 → cond (nat_eq a 1) 1 0 ≡ a
-aside_bits zero h = refl
-aside_bits (suc zero) h = refl
-aside_bits (suc (suc a)) h = absurd (omega arith)
-
--- a test counts at most 1
-bit_le : (b : Bool) → cond b 1 0 ≤ 1
-bit_le true = omega arith
-bit_le false = omega arith
-
-pub count_le : (test : ℕ → Bool) (n : ℕ) → count_below test n ≤ n
-count_le test zero = omega arith
-count_le test (suc n) = let before = count_le test n in let last = bit_le (test n) in omega arith
 
 module _ (l : Layout) (test : ℕ → Bool) where
   -- before the first word nothing is counted
@@ -144,7 +130,7 @@ module _ (l : Layout) (found : List (ℕ × ℕ)) (pair : ℕ × ℕ) (i : ℕ) 
         ap (λ (w : ℕ × ℕ). cond (nat_eq (bit_at w.1 (place_of l (tag_at l i place))) 1) 1 0)
         (word_here place (omega arith))
         ∙ ap (λ (k : ℕ). cond (nat_eq (bit_at pair.1 k) 1) 1 0) (place_of-tag_at l i place (omega arith))
-        ∙ aside_bits (bit_at pair.1 place) b ∙ omega arith
+        ∙ one_if-bit (bit_at pair.1 place) b ∙ omega arith
 
     pub count_aside :
         count_below (is_aside_in l (found ++ pair ∷ [])) (min ((i + 1) * word_bits l) l.depth)
@@ -173,9 +159,9 @@ counted layout l is found pair i u count there small usable bits fits =
     subst (λ (s : Layout). Counted s found pair i u) is (record {
       busy = count_busy layout found pair i count u there small usable (λ place low. (bits place).1 low) fits;
       aside = count_aside layout found pair i count u there small usable (λ place low. (bits place).1 low);
-      few_busy = (let le = count_le (is_busy_in layout (found ++ pair ∷ [])) (min ((i + 1) * word_bits layout) layout.depth)
+      few_busy = (let le = count_below-le (is_busy_in layout (found ++ pair ∷ [])) (min ((i + 1) * word_bits layout) layout.depth)
           in omega arith);
-      few_aside = (let le = count_le (is_aside_in layout (found ++ pair ∷ []))
+      few_aside = (let le = count_below-le (is_aside_in layout (found ++ pair ∷ []))
           (min ((i + 1) * word_bits layout) layout.depth) in omega arith);
     })
 
@@ -204,7 +190,7 @@ marks_word w l found pair i count u there small usable bits fits first old mid n
     (λ k. nat_eq (bit_at mask k) 1) old mid new
     (subst (λ (n : ℕ). Marks w first n (is_busy_in l (found ++ pair ∷ [])) old mid) here before)
     (subst (λ (n : ℕ). Marks w (first + n) (word_depth l i) (λ k. nat_eq (bit_at mask k) 1) mid new) at two)
-    (λ k less. aside_bits (bit_at mask k) (bit_at-lt mask k)
+    (λ k less. one_if-bit (bit_at mask k) (bit_at-lt mask k)
     ∙ sym (busy_here l found pair i count u there small usable (λ place low. (bits place).1 low) fits k less)))
 
 -- the held tags of the words so far were found busy, and so are those of one more word

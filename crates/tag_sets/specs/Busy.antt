@@ -1,7 +1,7 @@
 -- Which tags of both sets are busy.
 use Rattle.std.specs.Prelude.{◌≡◌, ℕ, ◌*◌, ◌-◌, ◌<◌, List, length, Bool, true, cond, nat_lt, ◌&&◌, if◌then◌else◌}
+use Rattle.sums.specs.Below.{count_below}
 use Rattle.tag_layout.specs.Layout.{Layout}
-use Rattle.tag_model.specs.Totals.{count_below}
 use Rattle.tag_queue.specs.Agents.{Holds}
 use Rattle.tag_sets.specs.declared.hand.Hand.{Hand}
 use Rattle.tag_sets.specs.declared.kind.Kind.{Kind}

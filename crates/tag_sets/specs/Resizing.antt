@@ -2,7 +2,7 @@
 use Rattle.std.specs.Prelude.{◌≡◌, ◌⊎◌, ℕ, ◌+◌, ◌-◌, ◌<◌, ◌≤◌, List, All, map, length, Result, IsErrAnd}
 use mathlib.Core.Option.{some}
 use lib.ListN.{get_elem?}
-use Rattle.step_ledger.specs.Views.{HasAll, IsLeastMissing}
+use Rattle.step_ledger.specs.Gather.{HasAll, IsLeastMissing}
 use Rattle.tag_layout.specs.declared.layout.TheConstants.{MAX_DEPTH}
 use Rattle.tag_queue.specs.declared.agent.Agent.{Agent}
 use Rattle.tag_queue.specs.declared.queue.Queue.{Queue}

@@ -1,7 +1,7 @@
 -- Shows: sizes, and sums over the words that the call found.
 use Rattle.std.specs.Prelude.{◌≡◌, ℕ, List, length}
+use Rattle.sums.specs.Below.{count_below}
 use Rattle.tag_layout.specs.Layout.{Layout, words, word_bits}
-use Rattle.tag_model.specs.Totals.{count_below}
 use Rattle.tag_sets.specs.declared.hand.Hand.{Hand}
 use Rattle.tag_sets.specs.declared.kind.Kind.{Kind}
 use Rattle.tag_sets.specs.declared.shown.Shown.{Shown}

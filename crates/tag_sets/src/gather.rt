@@ -1,7 +1,6 @@
 //! Gathers all hands and closes both sets.
 ghost use Rattle.std.specs.Prelude.{◌≡◌, ◌↔◌, All, IfOk, IfErr, IsOk};
-ghost use Rattle.step_ledger.specs.Views.{HasAll};
-ghost use Rattle.step_ledger.specs.Gather.{IsCauseOf};
+ghost use Rattle.step_ledger.specs.Gather.{HasAll, IsCauseOf};
 ghost use Rattle.tag_sets.specs.Hands.{IsHandOf};
 ghost use Rattle.tag_sets.specs.Gathering.{hands_of, numbers_of, totals_of_both, IsSmall, IsGathered};
 

@@ -1,6 +1,6 @@
 //! Resizes the ordinary set to another number of tags.
 ghost use Rattle.std.specs.Prelude.{◌≡◌, ◌↔◌, ◌≤◌, ℕ, length, All, IfOk, IfErr, IsOk, MatchOption};
-ghost use Rattle.step_ledger.specs.Views.{HasAll, IsLeastMissing};
+ghost use Rattle.step_ledger.specs.Gather.{HasAll, IsLeastMissing};
 ghost use Rattle.tag_sets.specs.Hands.{IsHandOf, reserved_of};
 ghost use Rattle.tag_sets.specs.Gathering.{hands_of, numbers_of};
 ghost use Rattle.tag_sets.specs.Opening.{HasRange};

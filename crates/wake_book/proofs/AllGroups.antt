@@ -3,61 +3,62 @@ use Rattle.std.proofs.Common.{◌≡◌, ℕ, ◌+◌, ◌^◌, ◌≤◌, [], �
 use Rattle.std.proofs.Common.{nat_eq, cond, arith, refl, sym, ◌∙◌}
 use mathlib.Core.Logic.{dite}
 use native.Mathlib.Decide.{ℕ_discrete}
+use Rattle.sums.specs.Below.{sum_below}
+use Rattle.sums.proofs.Laws.{sum_below-same, sum_below-add, sum_below-only, sum_below-zero}
 use Rattle.wake_book.specs.declared.steps.GroupStep.{GroupStep}
 use Rattle.wake_book.specs.declared.steps.GroupStep.TheVariants.{Look, Raise, Lower, Enter, Grant, Use, Withdraw, Store}
-use Rattle.step_ledger.specs.History.{own_steps, total, total_all, sum_to}
+use Rattle.step_ledger.specs.History.{own_steps, total, total_all}
 use Rattle.wake_book.specs.Waits.{words_in, word}
 use Rattle.wake_book.specs.Waits.{granted, raised, stand}
 use Rattle.wake_book.specs.Waits.{moved_by, used_by, MayStep}
-use Rattle.step_ledger.proofs.Sums.{sum_same, sum_two, sum_only, sum_none}
 use Rattle.wake_book.proofs.GroupSteps.{Hist, at_group, issued, used, yes_of, no_of}
 use Rattle.wake_book.proofs.Standing.{Ok, each, balanced}
 
 module _ (n : ℕ) where
-  moved_in_groups : (c : ℕ) (x : GroupStep) (h : Hist) → MayStep c x h → moved_by x ≡ sum_to (λ g. issued g x) 8
-  moved_in_groups c (Look i f) h can = sym (sum_none 8)
-  moved_in_groups c (Raise f) h can = sym (sum_none 8)
-  moved_in_groups c (Lower f) h can = sym (sum_none 8)
-  moved_in_groups c (Enter u f) h can = sym (sum_none 8)
+  moved_in_groups : (c : ℕ) (x : GroupStep) (h : Hist) → MayStep c x h → moved_by x ≡ sum_below (λ g. issued g x) 8
+  moved_in_groups c (Look i f) h can = sym (sum_below-zero 8)
+  moved_in_groups c (Raise f) h can = sym (sum_below-zero 8)
+  moved_in_groups c (Lower f) h can = sym (sum_below-zero 8)
+  moved_in_groups c (Enter u f) h can = sym (sum_below-zero 8)
   moved_in_groups c (Grant u old m f) h can =
-      sym (sum_only (λ g. at_group g u f old m) 8 u can.1
+      sym (sum_below-only (λ g. at_group g u f old m) 8 u can.1
       (λ g l ne. no_of u g (cond (nat_eq f old) m 0) 0 (λ e. ne (sym e))) ∙ yes_of u u (cond (nat_eq f old) m 0) 0 refl)
-  moved_in_groups c (Use u old f) h can = sym (sum_none 8)
-  moved_in_groups c (Withdraw u old f) h can = sym (sum_none 8)
-  moved_in_groups c (Store v) h can = sym (sum_none 8)
+  moved_in_groups c (Use u old f) h can = sym (sum_below-zero 8)
+  moved_in_groups c (Withdraw u old f) h can = sym (sum_below-zero 8)
+  moved_in_groups c (Store v) h can = sym (sum_below-zero 8)
 
-  used_in_groups : (c : ℕ) (x : GroupStep) (h : Hist) → MayStep c x h → used_by x ≡ sum_to (λ g. used g x) 8
-  used_in_groups c (Look i f) h can = sym (sum_none 8)
-  used_in_groups c (Raise f) h can = sym (sum_none 8)
-  used_in_groups c (Lower f) h can = sym (sum_none 8)
-  used_in_groups c (Enter u f) h can = sym (sum_none 8)
-  used_in_groups c (Grant u old m f) h can = sym (sum_none 8)
+  used_in_groups : (c : ℕ) (x : GroupStep) (h : Hist) → MayStep c x h → used_by x ≡ sum_below (λ g. used g x) 8
+  used_in_groups c (Look i f) h can = sym (sum_below-zero 8)
+  used_in_groups c (Raise f) h can = sym (sum_below-zero 8)
+  used_in_groups c (Lower f) h can = sym (sum_below-zero 8)
+  used_in_groups c (Enter u f) h can = sym (sum_below-zero 8)
+  used_in_groups c (Grant u old m f) h can = sym (sum_below-zero 8)
   used_in_groups c (Use u old f) h can =
-      sym (sum_only (λ g. at_group g u f old 1) 8 u can.1
+      sym (sum_below-only (λ g. at_group g u f old 1) 8 u can.1
       (λ g l ne. no_of u g (cond (nat_eq f old) 1 0) 0 (λ e. ne (sym e))) ∙ yes_of u u (cond (nat_eq f old) 1 0) 0 refl)
-  used_in_groups c (Withdraw u old f) h can = sym (sum_none 8)
-  used_in_groups c (Store v) h can = sym (sum_none 8)
+  used_in_groups c (Withdraw u old f) h can = sym (sum_below-zero 8)
+  used_in_groups c (Store v) h can = sym (sum_below-zero 8)
 
-  all_moved : (h : Hist) → Ok n h → total_all moved_by h ≡ sum_to (λ g. total_all (issued g) h) 8
-  all_moved [] l = sym (sum_none 8)
+  all_moved : (h : Hist) → Ok n h → total_all moved_by h ≡ sum_below (λ g. total_all (issued g) h) 8
+  all_moved [] l = sym (sum_below-zero 8)
   all_moved (x ∷ h) l = let a = all_moved h l.2 in let b = moved_in_groups x.0 x.1 h l.1 in
-      let s = sum_two (λ g. total_all (issued g) (x ∷ h)) (λ g. issued g x.1) (λ g. total_all (issued g) h) 8
-      (λ g. refl) in omega arith
+      let s = sum_below-add (λ g. total_all (issued g) (x ∷ h)) (λ g. issued g x.1) (λ g. total_all (issued g) h) 8
+      (λ g _. refl) in omega arith
 
-  all_used : (h : Hist) → Ok n h → total_all used_by h ≡ sum_to (λ g. total_all (used g) h) 8
-  all_used [] l = sym (sum_none 8)
+  all_used : (h : Hist) → Ok n h → total_all used_by h ≡ sum_below (λ g. total_all (used g) h) 8
+  all_used [] l = sym (sum_below-zero 8)
   all_used (x ∷ h) l = let a = all_used h l.2 in let b = used_in_groups x.0 x.1 h l.1 in
-      let s = sum_two (λ g. total_all (used g) (x ∷ h)) (λ g. used g x.1) (λ g. total_all (used g) h) 8 (λ g. refl) in
+      let s = sum_below-add (λ g. total_all (used g) (x ∷ h)) (λ g. used g x.1) (λ g. total_all (used g) h) 8 (λ g _. refl) in
       omega arith
 
   -- each waiter moved to granted has used its grant, or the grant is still unused
   pub all_issued : n ≤ 64 → (h : Hist) → Ok n h → total_all moved_by h ≡ total_all used_by h
-      + sum_to (λ g. granted (word (words_in h) g)) 8
+      + sum_below (λ g. granted (word (words_in h) g)) 8
   all_issued few h l = let m = all_moved h l in let u = all_used h l in
-      let same = sum_same (λ g. total_all (issued g) h) (λ g. granted (word (words_in h) g) + total_all (used g) h) 8
+      let same = sum_below-same (λ g. total_all (issued g) h) (λ g. granted (word (words_in h) g) + total_all (used g) h) 8
       (λ g less. sym (balanced n few g less h l).0) in
-      let parts = sum_two (λ g. granted (word (words_in h) g) + total_all (used g) h)
-      (λ g. granted (word (words_in h) g)) (λ g. total_all (used g) h) 8 (λ g. refl) in omega arith
+      let parts = sum_below-add (λ g. granted (word (words_in h) g) + total_all (used g) h)
+      (λ g. granted (word (words_in h) g)) (λ g. total_all (used g) h) 8 (λ g _. refl) in omega arith
 
   moved_step : (c : ℕ) (x : GroupStep) (h : Hist) → MayStep c x h → total moved_by (own_steps c h) ≤ 2 ^ 56
       → total moved_by (x ∷ own_steps c h) ≤ 2 ^ 56

@@ -6,12 +6,12 @@ use lib.Seq.{set-get_or}
 use prog.Atomic.{either}
 use Rattle.atomic_table.specs.Table.{Me, step, Allows}
 use Rattle.atomic_table.proofs.Lists.{exchanged}
+use Rattle.sums.proofs.Laws.{sum_below-bound}
+use Rattle.step_ledger.specs.Records.{Records, steps_of}
 use Rattle.step_ledger.specs.declared.record.Record.{Record}
-use Rattle.step_ledger.specs.declared.record.View.{View}
-use Rattle.step_ledger.specs.Views.{own_view, steps_of}
+use Rattle.step_ledger.specs.Views.{own_view}
 use Rattle.step_ledger.specs.History.{own_steps, total, Lawful}
 use Rattle.step_ledger.proofs.Members.{allows}
-use Rattle.step_ledger.proofs.Sums.{sum_most}
 use Rattle.wake_book.specs.declared.book.Limits.{Limits}
 use Rattle.wake_book.specs.declared.steps.BookStep.{BookStep}
 use Rattle.wake_book.specs.declared.steps.BookStep.TheVariants.{LookCompletions, LookWakeups, Add, Advance}
@@ -21,12 +21,12 @@ use Rattle.wake_book.specs.Charges.{BookRule, looked_completions, looked_wakeups
 use Rattle.wake_book.proofs.Counting.{capped, counted, charged_le, saw, saw_wakeups, own_le, moves, misses}
 
 module _ {S : Type 0} (k : Limits) (few : k.tellers ≤ 64) (low : k.cap ≤ 2 ^ 56) (slots id : ℕ)
-    (m : Me S (View BookStep)) (r : Record BookStep) (is : m.0 ≡ own_view r) where
+    (m : Me S (Records BookStep)) (r : Record BookStep) (is : m.0 ≡ own_view r) where
   own : r.steps ≡ steps_of m.0
   own = ap steps_of (sym is)
 
   small : (h : List (ℕ × BookStep)) → Lawful k.tellers (MayStep k) h → completions_in h ≤ 64 * 2 ^ 56
-  small h l = let a = counted k h l in let b = sum_most (λ c. total added (own_steps c h)) (2 ^ 56) k.tellers
+  small h l = let a = counted k h l in let b = sum_below-bound (λ c. total added (own_steps c h)) k.tellers (2 ^ 56)
       (λ c _. let z = capped k h l c in omega arith) in omega arith
 
   pub look_completions : Allows (BookRule k) slots id m completions_at (λ n. n)

@@ -6,16 +6,18 @@ use mathlib.Core.Logic.{dite}
 use mathlib.Core.Option.{some-injective}
 use lib.ListN.{get_elem?}
 use native.Mathlib.Decide.{ℕ_discrete}
+use Rattle.sums.specs.Below.{sum_below, one_if}
+use Rattle.sums.proofs.Laws.{sum_below-bound, le-sum_below}
 use Rattle.wake_book.specs.declared.book.Limits.{Limits}
 use Rattle.wake_book.specs.declared.steps.BookStep.{BookStep}
 use Rattle.wake_book.specs.declared.steps.BookStep.TheVariants.{LookCompletions, LookWakeups, Add, Advance}
-use Rattle.step_ledger.specs.History.{own_steps, total, total_all, sum_to, Lawful}
+use Rattle.step_ledger.specs.History.{own_steps, total, total_all, Lawful}
 use Rattle.wake_book.specs.Charges.{book_width, completions_at, wakeups_at, words_after, words_in, completions_in}
-use Rattle.wake_book.specs.Charges.{wakeups_in, added, one_if, charged, covers}
+use Rattle.wake_book.specs.Charges.{wakeups_in, added, charged, covers}
 use Rattle.wake_book.specs.Charges.{taken, MayStep, exchange_to}
 use Rattle.wake_book.specs.Charging.{LosesTries}
 use Rattle.step_ledger.proofs.Members.{own_here, own_else}
-use Rattle.step_ledger.proofs.Sums.{totals, sum_most, sum_has}
+use Rattle.step_ledger.proofs.Totals.{totals}
 
 abbrev Hist : Type 0
 Hist = List (ℕ × BookStep)
@@ -101,11 +103,11 @@ module _ (k : Limits) where
       (λ (ne : c ≢ x.0). subst (λ (z : List BookStep). total added z ≤ k.cap) (sym (own_else c x.0 x.1 h ne)) (ih c))
 
   -- the completions are the sum of the tellers' counts
-  pub counted : (h : Hist) → Ok h → sum_to (λ c. own_count c h) k.tellers ≡ completions_in h
+  pub counted : (h : Hist) → Ok h → sum_below (λ c. own_count c h) k.tellers ≡ completions_in h
   counted h l = totals k.tellers (MayStep k) added h l ∙ sym (completions_are h)
 
   pub bounded : (h : Hist) → Ok h → completions_in h ≤ k.tellers * k.cap
-  bounded h l = let a = counted h l in let b = sum_most (λ c. own_count c h) k.cap k.tellers (λ c _. capped h l c) in
+  bounded h l = let a = counted h l in let b = sum_below-bound (λ c. own_count c h) k.tellers k.cap (λ c _. capped h l c) in
       omega arith
 
   le_step : (x : BookStep) (c : ℕ) (h : Hist) → MayStep k c x h → wakeups_in h ≤ completions_in h
@@ -155,7 +157,7 @@ module _ (k : Limits) where
       let d = wakeups_next x.0 x.1 h in omega arith
 
   -- each number below charged lies in exactly one interval of one teller, and no other number in any
-  pub tiles : (h : Hist) → Ok h → (y : ℕ) → sum_to (λ c. total (covers y) (own_steps c h)) k.tellers
+  pub tiles : (h : Hist) → Ok h → (y : ℕ) → sum_below (λ c. total (covers y) (own_steps c h)) k.tellers
       ≡ min 1 (wakeups_in h - y)
   tiles h l y = totals k.tellers (MayStep k) (covers y) h l ∙ covered y h l
 
@@ -195,7 +197,7 @@ module _ (k : Limits) where
 
   -- a teller's count is at most the completions
   pub own_le : (c : ℕ) (h : Hist) → Ok h → c < k.tellers → own_count c h ≤ completions_in h
-  own_le c h l less = let a = counted h l in let b = sum_has (λ d. own_count d h) c k.tellers less in omega arith
+  own_le c h l less = let a = counted h l in let b = le-sum_below (λ d. own_count d h) k.tellers c less in omega arith
 
   -- wakeups that a teller found are at most those now
   pub saw_wakeups : (c w : ℕ) (rest : List BookStep) (h : Hist) → Ok h → own_steps c h ≡ LookWakeups w ∷ rest

@@ -3,11 +3,12 @@ use Rattle.std.proofs.Common.{◌≡◌, ℕ, zero, suc, ◌-◌, ◌^◌, ◌�
 use mathlib.Core.Option.{some, some-injective, some-ne-none}
 use lib.ListN.{get_elem?}
 use Rattle.atomic_table.specs.Table.{Final, Seen}
+use Rattle.sums.proofs.Laws.{sum_below-bound}
+use Rattle.step_ledger.specs.Gather.{HasAll, turned}
+use Rattle.step_ledger.specs.Records.{Records, numbers, sum_over}
 use Rattle.step_ledger.specs.declared.record.Record.{Record}
-use Rattle.step_ledger.specs.declared.record.View.{View}
-use Rattle.step_ledger.specs.Views.{HasAll, numbers, turned, sum_over}
 use Rattle.step_ledger.specs.History.{own_steps, total}
-use Rattle.step_ledger.proofs.Sums.{totals, sum_most}
+use Rattle.step_ledger.proofs.Totals.{totals}
 use Rattle.step_ledger.proofs.Turned.{sum_turned}
 use Rattle.step_ledger.proofs.Gathers.{gathered}
 use Rattle.wake_book.specs.declared.book.Limits.{Limits}
@@ -25,7 +26,7 @@ read (a ∷ l) zero x e = some-injective a x e
 read (a ∷ l) (suc i) x e = read l i x e
 
 pub booked : {S : Type 0} (k : Limits) → k.tellers ≤ 64 → k.cap ≤ 2 ^ 56
-    → (id : ℕ) (v : View BookStep) (ws : List ℕ) (xs : List S) (tellers : List (Record BookStep))
+    → (id : ℕ) (v : Records BookStep) (ws : List ℕ) (xs : List S) (tellers : List (Record BookStep))
     (completions wakeups charges : ℕ)
     → Final (Seen (BookRule k) id v) ws xs → v.records.value ≡ turned tellers → HasAll (numbers tellers) k.tellers
     → charges ≡ min (sum_over (total charged) v.records.value) (2 ^ 64 - 1)
@@ -39,7 +40,7 @@ booked k few low id v ws xs tellers completions wakeups charges last is all sum 
     let w_is : wakeups ≡ wakeups_in h = sym (read ws wakeups_at wakeups at_wakeups)
     ∙ ap (λ (z : List ℕ). get_or z wakeups_at 0) g.words_are in
     let n_is = g.sums (total added) in let n_all = counted k h l in
-    let most = sum_most (λ c. total added (own_steps c h)) (2 ^ 56) k.tellers (λ c _. let z = capped k h l c in
+    let most = sum_below-bound (λ c. total added (own_steps c h)) k.tellers (2 ^ 56) (λ c _. let z = capped k h l c in
     omega arith) in
     let q_is = g.sums (total charged) in let q_all = totals k.tellers (MayStep k) charged h l in
     let q_most = charges_le k h l in let below = charged_le k h l in

@@ -6,9 +6,9 @@ use lib.Seq.{set-get_or}
 use prog.Atomic.{either}
 use Rattle.atomic_table.specs.Table.{Me, Step, step, carried_after, Allows}
 use Rattle.atomic_table.proofs.Lists.{exchanged}
+use Rattle.step_ledger.specs.Records.{Records, push, steps_of, Stepped}
 use Rattle.step_ledger.specs.declared.record.Record.{Record}
-use Rattle.step_ledger.specs.declared.record.View.{View}
-use Rattle.step_ledger.specs.Views.{own_view, push, steps_of, Stepped}
+use Rattle.step_ledger.specs.Views.{own_view}
 use Rattle.step_ledger.specs.History.{own_steps, total, Lawful}
 use Rattle.step_ledger.proofs.Members.{allows}
 use Rattle.wake_book.specs.declared.steps.GroupStep.{GroupStep}
@@ -25,7 +25,7 @@ use Rattle.wake_book.specs.Walks.{IsWayOut, IsCalledFor}
 use Rattle.wake_book.proofs.Counting.{moves, misses}
 use Rattle.wake_book.proofs.Standing.{balanced, balance, few_stand, active_is, few_up, some_stand, some_up, index_small}
 
-module _ {S : Type 0} (n : ℕ) (few : n ≤ 64) (slots id : ℕ) (m : Me S (View GroupStep)) (r : Record GroupStep)
+module _ {S : Type 0} (n : ℕ) (few : n ≤ 64) (slots id : ℕ) (m : Me S (Records GroupStep)) (r : Record GroupStep)
     (is : m.0 ≡ own_view r) where
   own : r.steps ≡ steps_of m.0
   own = ap steps_of (sym is)
@@ -37,7 +37,7 @@ module _ {S : Type 0} (n : ℕ) (few : n ≤ 64) (slots id : ℕ) (m : Me S (Vie
 
   -- a step on the word at a group's index is a step on that group's word
   pub placed : (i g : ℕ) → i ≡ group_at g
-      → (f : ℕ → ℕ) (a b : ℕ) (then : Step S → Me S (View GroupStep) → ℕ → Me S (View GroupStep) → Type 0)
+      → (f : ℕ → ℕ) (a b : ℕ) (then : Step S → Me S (Records GroupStep) → ℕ → Me S (Records GroupStep) → Type 0)
       → Allows (GroupsRule n) slots id m (group_at g) f (then (step slots (group_at g) a b none) m)
       → Allows (GroupsRule n) slots id m i f (then (step slots i a b none) m)
   placed i g e f a b then at = subst (λ (z : ℕ). Allows (GroupsRule n) slots id m z f (then (step slots z a b none) m))

@@ -1,11 +1,13 @@
 -- What the groups' last words say once all waiters are gathered.
 use Rattle.std.proofs.Common.{◌≡◌, ℕ, ◌+◌, ◌-◌, ◌^◌, ◌≤◌, min, List, arith, sym, ap, ◌∙◌, subst}
 use Rattle.atomic_table.specs.Table.{Final, Seen}
+use Rattle.sums.specs.Below.{sum_below}
+use Rattle.sums.proofs.Laws.{sum_below-bound}
+use Rattle.step_ledger.specs.Gather.{HasAll, turned}
+use Rattle.step_ledger.specs.Records.{Records, numbers, sum_over}
 use Rattle.step_ledger.specs.declared.record.Record.{Record}
-use Rattle.step_ledger.specs.declared.record.View.{View}
-use Rattle.step_ledger.specs.Views.{HasAll, numbers, turned, sum_over}
-use Rattle.step_ledger.specs.History.{own_steps, total, sum_to}
-use Rattle.step_ledger.proofs.Sums.{totals, sum_most}
+use Rattle.step_ledger.specs.History.{own_steps, total}
+use Rattle.step_ledger.proofs.Totals.{totals}
 use Rattle.step_ledger.proofs.Turned.{sum_turned}
 use Rattle.step_ledger.proofs.Gathers.{Gathered, gathered}
 use Rattle.wake_book.specs.declared.steps.GroupStep.{GroupStep}
@@ -15,18 +17,18 @@ use Rattle.wake_book.specs.Balance.{IsBalanced}
 use Rattle.wake_book.proofs.Standing.{balanced, balance, active_is}
 use Rattle.wake_book.proofs.AllGroups.{all_issued, moved_capped, who_stands}
 
-module _ {S : Type 0} (n : ℕ) (few : n ≤ 64) (id : ℕ) (v : View GroupStep) (ws : List ℕ) (xs : List S)
+module _ {S : Type 0} (n : ℕ) (few : n ≤ 64) (id : ℕ) (v : Records GroupStep) (ws : List ℕ) (xs : List S)
     (waiters : List (Record GroupStep)) (moved granted_now waiting_now : ℕ)
     (last : Final (Seen (GroupsRule n) id v) ws xs) (is : v.records.value ≡ turned waiters)
     (all : HasAll (numbers waiters) n) (sum : moved ≡ min (sum_over (total moved_by) v.records.value) (2 ^ 64 - 1))
-    (granted_is : granted_now ≡ sum_to (λ g. granted (word ws g)) 8)
-    (waiting_is : waiting_now ≡ sum_to (λ g. waiting (word ws g)) 8) where
+    (granted_is : granted_now ≡ sum_below (λ g. granted (word ws g)) 8)
+    (waiting_is : waiting_now ≡ sum_below (λ g. waiting (word ws g)) 8) where
   found : Gathered n opening_words words_after MayStep ws waiters
   found = gathered n opening_words words_after MayStep id v ws xs waiters last is all
 
   issued_is : moved ≡ sum_over (total moved_by) waiters
   issued_is = let h = found.history in let l = found.lawful in let m = found.sums (total moved_by) in
-      let most = sum_most (λ c. total moved_by (own_steps c h)) (2 ^ 56) n (λ c _. moved_capped n h l c) in
+      let most = sum_below-bound (λ c. total moved_by (own_steps c h)) n (2 ^ 56) (λ c _. moved_capped n h l c) in
       let same = ap (sum_over (total moved_by)) is ∙ sum_turned (total moved_by) waiters in omega arith
 
   parts : moved ≡ sum_over (total used_by) waiters + granted_now
@@ -34,7 +36,7 @@ module _ {S : Type 0} (n : ℕ) (few : n ≤ 64) (id : ℕ) (v : View GroupStep)
       let ma = totals n MayStep moved_by h l in let u = found.sums (total used_by) in
       let ua = totals n MayStep used_by h l in
       let i = issued_is in let p = all_issued n few h l in
-      let g = ap (λ (z : List ℕ). sum_to (λ g. granted (word z g)) 8) found.words_are in omega arith
+      let g = ap (λ (z : List ℕ). sum_below (λ g. granted (word z g)) 8) found.words_are in omega arith
 
   pub enough : granted_now ≤ moved
   enough = let p = parts in omega arith
@@ -55,7 +57,7 @@ module _ {S : Type 0} (n : ℕ) (few : n ≤ 64) (id : ℕ) (v : View GroupStep)
         ∙ who_stands n h l r.number (subst (λ (z : List GroupStep). 1 ≤ stand z) (found.lists i r at) some_stand);
     issued = issued_is;
     used = omega arith;
-    granted_all = granted_is ∙ ap (λ (z : List ℕ). sum_to (λ g. granted (word z g)) 8) found.words_are;
-    waiting_all = waiting_is ∙ ap (λ (z : List ℕ). sum_to (λ g. waiting (word z g)) 8) found.words_are;
+    granted_all = granted_is ∙ ap (λ (z : List ℕ). sum_below (λ g. granted (word z g)) 8) found.words_are;
+    waiting_all = waiting_is ∙ ap (λ (z : List ℕ). sum_below (λ g. waiting (word z g)) 8) found.words_are;
     balance = omega arith;
   }

@@ -2,8 +2,8 @@
 -- the active count, and where it lost, the waiter stands as before.
 use Rattle.std.proofs.Common.{arith, ◌≡◌, ◌≢◌, ℕ, suc, nat_eq, cond, List, [], ◌∷◌, Some, None, refl, sym, ap, ◌∙◌, subst, inl, inr}
 use Rattle.atomic_table.specs.Table.{Me}
-use Rattle.step_ledger.specs.declared.record.View.{View}
-use Rattle.step_ledger.specs.Views.{own_view, steps_of, with_step, Stepped}
+use Rattle.step_ledger.specs.Records.{Records, steps_of, with_step, Stepped}
+use Rattle.step_ledger.specs.Views.{own_view}
 use Rattle.wake_book.specs.declared.steps.GroupStep.{GroupStep}
 use Rattle.wake_book.specs.declared.steps.GroupStep.TheVariants.{Lower, Use, Withdraw}
 use Rattle.wake_book.specs.declared.groups.Waiter.{Waiter}
@@ -32,10 +32,10 @@ steps_out g expected found x called = elim called [
 ]
 
 -- the exchange that the word expected calls for
-abbrev pub Exchanges : (w : Waiter) (g expected found : ℕ) → Me (Unit {0}) (View GroupStep) → Type 0
+abbrev pub Exchanges : (w : Waiter) (g expected found : ℕ) → Me (Unit {0}) (Records GroupStep) → Type 0
 Exchanges w g expected found me = (x : GroupStep) × IsCalledFor g expected found x × Stepped x w.seat.me me
 
-module _ (w : Waiter) (g expected found : ℕ) (me : Me (Unit {0}) (View GroupStep))
+module _ (w : Waiter) (g expected found : ℕ) (me : Me (Unit {0}) (Records GroupStep))
     (did : Exchanges w g expected found me) where
   abbrev before : List GroupStep
   before = steps_of w.seat.me.0
@@ -69,7 +69,7 @@ module _ (w : Waiter) (g expected found : ℕ) (me : Me (Unit {0}) (View GroupSt
     up stood = let code : stand_code w.standing ≡ suc g = ap stand_code stood in
         exit.raises before ∙ w.stands.1 ∙ omega arith
 
-    module _ (n : ℕ) (me' : Me (Unit {0}) (View GroupStep)) (lowered : Stepped (Lower n) me me') where
+    module _ (n : ℕ) (me' : Me (Unit {0}) (Records GroupStep)) (lowered : Stepped (Lower n) me me') where
       left_steps : steps_of me'.0 ≡ Lower n ∷ did.0 ∷ before
       left_steps = made_steps (with_step did.0 (record_of w)) me me' tried (Lower n) lowered
 

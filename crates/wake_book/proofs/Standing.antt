@@ -4,15 +4,17 @@ use Rattle.std.proofs.Common.{get_or, arith, refl, sym, ap, ◌∙◌, subst}
 use Rattle.std.proofs.Common.{get_or-set_same, get_or-set_other}
 use mathlib.Core.Logic.{dite}
 use native.Mathlib.Decide.{ℕ_discrete}
+use Rattle.sums.specs.Below.{sum_below}
+use Rattle.sums.proofs.Laws.{sum_below-bound, sum_below-add, sum_below-three, le-sum_below}
 use Rattle.wake_book.specs.declared.steps.GroupStep.{GroupStep}
 use Rattle.wake_book.specs.declared.steps.GroupStep.TheVariants.{Look, Raise, Lower, Enter, Grant, Use, Withdraw, Store}
 use Rattle.wake_book.specs.Charges.{exchange_to}
-use Rattle.step_ledger.specs.History.{own_steps, total, total_all, sum_to, Lawful}
+use Rattle.step_ledger.specs.History.{own_steps, total, total_all, Lawful}
 use Rattle.wake_book.specs.Waits.{active_at, groups_width, index_at, one_waiting, words_after, words_in, group_at, word}
 use Rattle.wake_book.specs.Waits.{granted, waiting, moved_in, raised, stand}
 use Rattle.wake_book.specs.Waits.{MayStep}
 use Rattle.step_ledger.proofs.Members.{own_here, own_else}
-use Rattle.step_ledger.proofs.Sums.{totals, sum_most, sum_two, sum_three, sum_has}
+use Rattle.step_ledger.proofs.Totals.{totals}
 use Rattle.wake_book.proofs.GroupSteps.{Hist, here, entered, issued, used, withdrawn, ups, downs, yes_of, no_of, zeros, long, word_step, here_in, here_not, Own, own_step, Up, up_step, cas}
 
 module _ (n : ℕ) where
@@ -37,16 +39,16 @@ module _ (n : ℕ) where
 
   -- the number of waiters in a group, and of those that have raised the active count
   abbrev pub standing : ℕ → Hist → ℕ
-  standing g h = sum_to (λ c. here g (stand (own_steps c h))) n
+  standing g h = sum_below (λ c. here g (stand (own_steps c h))) n
 
   abbrev pub up_now : Hist → ℕ
-  up_now h = sum_to (λ c. raised (own_steps c h)) n
+  up_now h = sum_below (λ c. raised (own_steps c h)) n
 
   all_entered : (h : Hist) → Ok h → (g : ℕ) → total_all (entered g) h ≡ total_all (used g) h + total_all (withdrawn g) h
       + standing g h
   all_entered h l g = let e = totals n MayStep (entered g) h l in let u = totals n MayStep (used g) h l in
       let d = totals n MayStep (withdrawn g) h l in
-      let s = sum_three (λ c. total (entered g) (own_steps c h)) (λ c. total (used g) (own_steps c h))
+      let s = sum_below-three (λ c. total (entered g) (own_steps c h)) (λ c. total (used g) (own_steps c h))
       (λ c. total (withdrawn g) (own_steps c h)) (λ c. here g (stand (own_steps c h))) n (λ c. own h l g c) in
       omega arith
 
@@ -55,15 +57,15 @@ module _ (n : ℕ) where
       omega arith) (λ ne. let z = no_of s (suc g) 1 0 ne in omega arith)
 
   pub few_stand : (g : ℕ) (h : Hist) → standing g h ≤ n * 1
-  few_stand g h = sum_most (λ c. here g (stand (own_steps c h))) 1 n (λ c l. here_le g (stand (own_steps c h)))
+  few_stand g h = sum_below-bound (λ c. here g (stand (own_steps c h))) n 1 (λ c l. here_le g (stand (own_steps c h)))
 
   all_up : (h : Hist) → Ok h → total_all ups h ≡ total_all downs h + up_now h
   all_up h l = let e = totals n MayStep ups h l in let d = totals n MayStep downs h l in
-      let s = sum_two (λ c. total ups (own_steps c h)) (λ c. total downs (own_steps c h)) (λ c. raised (own_steps c h))
-      n (λ c. (up h l c).0) in omega arith
+      let s = sum_below-add (λ c. total ups (own_steps c h)) (λ c. total downs (own_steps c h)) (λ c. raised (own_steps c h))
+      n (λ c _. (up h l c).0) in omega arith
 
   pub few_up : (h : Hist) → Ok h → up_now h ≤ n * 1
-  few_up h l = sum_most (λ c. raised (own_steps c h)) 1 n (λ c _. (up h l c).1)
+  few_up h l = sum_below-bound (λ c. raised (own_steps c h)) n 1 (λ c _. (up h l c).1)
 
   abbrev pub Bal : ℕ → Hist → Type 0
   Bal g h = (granted (word (words_in h) g) + total_all (used g) h ≡ total_all (issued g) h)
@@ -120,7 +122,7 @@ module _ (n : ℕ) where
       (subst (λ (w' : ℕ). P w' (withdrawn g (Withdraw u old f))) (sym (word_step c g (Withdraw u old f) h s can))
       (cas g u f old (old - one_waiting) 1 w P (λ e. can.0 ∙ ap (word (words_in h)) e)
       (λ e won. let stands_here = here_in g u (stand (own_steps c h)) can.3 in let one = yes_of u g 1 0 e in
-      let has = sum_has (λ d. here g (stand (own_steps d h))) c n k in (omega arith, omega arith))
+      let has = le-sum_below (λ d. here g (stand (own_steps d h))) n c k in (omega arith, omega arith))
       (omega arith, omega arith))) in let t0 = t.0 in let t1 = t.1 in (omega arith, omega arith)
 
   pub balanced : n ≤ 64 → (g : ℕ) → g < 8 → (h : Hist) → Ok h → Bal g h
@@ -137,7 +139,7 @@ module _ (n : ℕ) where
       omega arith
   active_step c (Lower f) h l k can b = let o = long h in
       let z = get_or-set_same (words_in h) active_at (get_or (words_in h) active_at 0 - 1) 0 (omega arith) in
-      let has = sum_has (λ d. raised (own_steps d h)) c n k in let one = can.1 in let a = all_up h l in omega arith
+      let has = le-sum_below (λ d. raised (own_steps d h)) n c k in let one = can.1 in let a = all_up h l in omega arith
   active_step c (Enter u f) h l k can b = let z = get_or-set_other (words_in h) (group_at u) active_at
       (word (words_in h) u + one_waiting) 0 (λ e. let t = can.1 in absurd (omega arith)) in omega arith
   active_step c (Grant u old m f) h l k can b = let z = get_or-set_other (words_in h) (group_at u) active_at
@@ -163,10 +165,10 @@ module _ (n : ℕ) where
   -- a waiter in a group is counted there, and one that has raised the active count is counted in it
   pub some_stand : (c g : ℕ) (h : Hist) → c < n → stand (own_steps c h) ≡ suc g → 1 ≤ standing g h
   some_stand c g h k e = let a = here_in g g (stand (own_steps c h)) e in let b = yes_of g g 1 0 refl in
-      let has = sum_has (λ d. here g (stand (own_steps d h))) c n k in omega arith
+      let has = le-sum_below (λ d. here g (stand (own_steps d h))) n c k in omega arith
 
   pub some_up : (c : ℕ) (h : Hist) → c < n → raised (own_steps c h) ≡ 1 → 1 ≤ up_now h
-  some_up c h k e = let has = sum_has (λ d. raised (own_steps d h)) c n k in omega arith
+  some_up c h k e = let has = le-sum_below (λ d. raised (own_steps d h)) n c k in omega arith
 
   index_step : (c : ℕ) (x : GroupStep) (h : Hist) → MayStep c x h → get_or (words_in h) index_at 0 < 8
       → get_or (words_after x (words_in h)) index_at 0 < 8

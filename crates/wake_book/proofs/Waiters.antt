@@ -1,9 +1,9 @@
 -- What a waiter is after steps of its own.
 use Rattle.std.proofs.Common.{arith, ◌≡◌, ℕ, ◌^◌, ◌<◌, ◌≤◌, [], ◌∷◌, Option, sym, ap, ◌∙◌, subst}
 use Rattle.atomic_table.specs.Table.{Me}
+use Rattle.step_ledger.specs.Records.{Records, steps_of, with_step, Stepped}
 use Rattle.step_ledger.specs.declared.record.Record.{Record}
-use Rattle.step_ledger.specs.declared.record.View.{View}
-use Rattle.step_ledger.specs.Views.{own_view, steps_of, with_step, Stepped}
+use Rattle.step_ledger.specs.Views.{own_view}
 use Rattle.step_ledger.specs.History.{total}
 use Rattle.step_ledger.proofs.Members.{pushed, settled}
 use Rattle.wake_book.specs.declared.steps.GroupStep.{GroupStep}
@@ -12,7 +12,7 @@ use Rattle.wake_book.specs.Waits.{moved_by}
 use Rattle.wake_book.specs.Stands.{StandsSo}
 
 -- what a waiter with this number and these fields promises of its seat
-abbrev pub Promises : ℕ → Option ℕ → ℕ → ℕ → Me (Unit {0}) (View GroupStep) → Type 0
+abbrev pub Promises : ℕ → Option ℕ → ℕ → ℕ → Me (Unit {0}) (Records GroupStep) → Type 0
 Promises number standing next moved me = record {
   knows : me ≡ (own_view (record { number = number; steps = steps_of me.0 }), []);
   stands : StandsSo standing (steps_of me.0);
@@ -20,7 +20,7 @@ Promises number standing next moved me = record {
   moves : (moved ≡ total moved_by (steps_of me.0)) × (moved ≤ 2 ^ 56);
 }
 
-module _ (r : Record GroupStep) (me me' : Me (Unit {0}) (View GroupStep)) (is : me ≡ (own_view r, [])) (x : GroupStep)
+module _ (r : Record GroupStep) (me me' : Me (Unit {0}) (Records GroupStep)) (is : me ≡ (own_view r, [])) (x : GroupStep)
     (did : Stepped x me me') where
   -- the seat knows the step
   pub made : me' ≡ (own_view (with_step x r), [])
@@ -28,7 +28,7 @@ module _ (r : Record GroupStep) (me me' : Me (Unit {0}) (View GroupStep)) (is : 
 
   -- the list begins with it
   pub made_steps : steps_of me'.0 ≡ x ∷ r.steps
-  made_steps = ap (λ (z : Me (Unit {0}) (View GroupStep)). steps_of z.0) made
+  made_steps = ap (λ (z : Me (Unit {0}) (Records GroupStep)). steps_of z.0) made
 
   -- so what holds of that list holds of the waiter
   pub after : (standing : Option ℕ) (next moved : ℕ) → StandsSo standing (x ∷ r.steps) → next < 8

@@ -2,9 +2,10 @@
 use Rattle.std.specs.Prelude.{◌≡◌, ℕ, ◌+◌, ◌<◌, ◌≤◌, List, slice_index}
 use mathlib.Core.Option.{some}
 use lib.ListN.{get_elem?}
+use Rattle.sums.specs.Below.{sum_below}
+use Rattle.step_ledger.specs.Records.{sum_over}
 use Rattle.step_ledger.specs.declared.record.Record.{Record}
-use Rattle.step_ledger.specs.Views.{sum_over}
-use Rattle.step_ledger.specs.History.{total, sum_to, Lawful, AreListsOf}
+use Rattle.step_ledger.specs.History.{total, Lawful, AreListsOf}
 use Rattle.wake_book.specs.declared.groups.GroupTotals.{GroupTotals}
 use Rattle.wake_book.specs.declared.steps.GroupStep.{GroupStep}
 use Rattle.wake_book.specs.Waits.{active_at, words_in, word, granted, waiting, raised, stand, stands_in, moved_by, used_by, MayStep}
@@ -22,6 +23,6 @@ pub record IsBalanced (n : ℕ) (waiters : List (Record GroupStep)) (totals : Gr
       → 1 ≤ stand r.steps → raised r.steps ≡ 1
   pub issued : totals.issued ≡ sum_over (total moved_by) waiters
   pub used : totals.used ≡ sum_over (total used_by) waiters
-  pub granted_all : totals.granted ≡ sum_to (λ g. granted (word (words_in history) g)) 8
-  pub waiting_all : totals.waiting ≡ sum_to (λ g. waiting (word (words_in history) g)) 8
+  pub granted_all : totals.granted ≡ sum_below (λ g. granted (word (words_in history) g)) 8
+  pub waiting_all : totals.waiting ≡ sum_below (λ g. waiting (word (words_in history) g)) 8
   pub balance : totals.issued ≡ totals.used + totals.granted

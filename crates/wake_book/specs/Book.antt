@@ -1,7 +1,8 @@
 -- The terms of public clauses about a book and its tellers.
 use Rattle.std.specs.Prelude.{◌≡◌, ℕ, ◌≢◌, ◌^◌, ◌<◌, ◌≤◌, ◌⊎◌, List, ◌∷◌, All, map}
 use Rattle.step_ledger.specs.declared.record.Record.{Record}
-use Rattle.step_ledger.specs.Views as views
+use Rattle.step_ledger.specs.Gather as members
+use Rattle.step_ledger.specs.Records as ledger
 use Rattle.step_ledger.specs.History.{total}
 use Rattle.wake_book.specs.declared.book.Book.{Book}
 use Rattle.wake_book.specs.declared.book.Limits.{Limits}
@@ -17,7 +18,7 @@ IsTellerOf book teller = teller.seat.table_id ≡ book.table.shared.table_id
 
 -- the teller's own steps, newest first
 abbrev pub steps_of : Teller → List BookStep
-steps_of teller = views.steps_of teller.seat.me.0
+steps_of teller = ledger.steps_of teller.seat.me.0
 
 -- the teller's number, from 0
 abbrev pub number_of : Teller → ℕ
@@ -49,7 +50,7 @@ IsGatheringOf book gathering = gathering.seat.table_id ≡ book.table.shared.tab
 
 -- the records of the tellers gathered, the last one added first
 abbrev pub gathered : TellerGathering → List (Record BookStep)
-gathered gathering = views.turned gathering.seat.me.0.records.value
+gathered gathering = members.turned gathering.seat.me.0.records.value
 
 -- the parameters with which the book was opened
 abbrev pub limits_of : Book → Limits
@@ -93,4 +94,4 @@ pub record IsOpenBook (batch tellers cap : ℕ) (book : Book) (all : List Teller
   pub tellers_are : tellers_of book ≡ tellers
   pub cap_is : cap_of book ≡ cap
   pub own : All (IsTellerOf book) all
-  pub fresh_all : records_of all ≡ views.fresh 0 tellers
+  pub fresh_all : records_of all ≡ ledger.fresh 0 tellers

@@ -1,7 +1,7 @@
 -- What the book's totals say about all its tellers, once they are gathered.
 use Rattle.std.specs.Prelude.{◌≡◌, ℕ, ◌-◌, ◌≤◌, min, List}
+use Rattle.step_ledger.specs.Records.{sum_over}
 use Rattle.step_ledger.specs.declared.record.Record.{Record}
-use Rattle.step_ledger.specs.Views.{sum_over}
 use Rattle.step_ledger.specs.History.{total, Lawful, AreListsOf}
 use Rattle.wake_book.specs.declared.book.Limits.{Limits}
 use Rattle.wake_book.specs.declared.book.BookTotals.{BookTotals}

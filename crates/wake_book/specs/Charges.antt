@@ -1,9 +1,10 @@
 -- The charge book's words, what each step does to them, and when a step may happen.
-use Rattle.std.specs.Prelude.{◌≡◌, ℕ, ◌+◌, ◌-◌, ◌^◌, ◌<◌, ◌≤◌, List, ◌∷◌, replicate, slice_index, slice_set, cond, min, nat_eq, Bool, true, false}
+use Rattle.std.specs.Prelude.{◌≡◌, ℕ, ◌+◌, ◌-◌, ◌^◌, ◌<◌, ◌≤◌, List, ◌∷◌, replicate, slice_index, slice_set, cond, min, nat_eq}
 use Rattle.atomic_table.specs.Table.{State, Me}
 use Rattle.atomic_table.specs.Table as table
-use Rattle.step_ledger.specs.declared.record.View.{View}
-use Rattle.step_ledger.specs.Views.{viewing, fresh, steps_of, Stepped}
+use Rattle.sums.specs.Below.{one_if}
+use Rattle.step_ledger.specs.Records.{Records, fresh, steps_of, Stepped}
+use Rattle.step_ledger.specs.Views.{viewing}
 use Rattle.step_ledger.specs.History.{own_steps, total, words_left}
 use Rattle.step_ledger.specs.Ledger.{Ledger}
 use Rattle.wake_book.specs.declared.book.Limits.{Limits}
@@ -57,11 +58,6 @@ added (LookWakeups found) = 0
 added (Add n found) = n
 added (Advance start end found) = 0
 
--- 1 if the test holds, else 0
-abbrev pub one_if : Bool → ℕ
-one_if true = 1
-one_if false = 0
-
 -- 1 if the step won an interval, else 0
 abbrev pub charged : BookStep → ℕ
 charged (LookCompletions found) = 0
@@ -93,29 +89,29 @@ MayStep k c (Advance start end found) h = (found ≡ wakeups_in h) × (start < e
     × (end ≤ completions_in h)
 
 -- the rule of the table
-abbrev pub BookRule : {S : Type 0} → Limits → State S (View BookStep) → Type 0
+abbrev pub BookRule : {S : Type 0} → Limits → State S (Records BookStep) → Type 0
 BookRule k s = Ledger k.tellers opening_words words_after (MayStep k) s
 
 -- the records on the first seat: those of all tellers, without steps
-abbrev pub all_fresh : Limits → View BookStep
+abbrev pub all_fresh : Limits → Records BookStep
 all_fresh k = viewing (fresh 0 k.tellers)
 
 -- what a teller learns from each kind of step
 module _ {S : Type 0} where
   -- the completions are at least what the teller counted, and at least the wakeups if it has just loaded those
-  abbrev pub looked_completions : table.Step S → Me S (View BookStep) → ℕ → Me S (View BookStep) → Type 0
+  abbrev pub looked_completions : table.Step S → Me S (Records BookStep) → ℕ → Me S (Records BookStep) → Type 0
   looked_completions step m found m' = Stepped (LookCompletions found) m m' × (found < 2 ^ 63)
       × (total added (steps_of m.0) ≤ found)
       × ((wakeups : ℕ) (before : List BookStep) → steps_of m.0 ≡ LookWakeups wakeups ∷ before → wakeups ≤ found)
 
   -- the wakeups are loaded
-  abbrev pub looked_wakeups : table.Step S → Me S (View BookStep) → ℕ → Me S (View BookStep) → Type 0
+  abbrev pub looked_wakeups : table.Step S → Me S (Records BookStep) → ℕ → Me S (Records BookStep) → Type 0
   looked_wakeups step m found m' = Stepped (LookWakeups found) m m' × (found < 2 ^ 63)
 
   -- completions are added
-  abbrev pub adding : table.Step S → Me S (View BookStep) → ℕ → Me S (View BookStep) → Type 0
+  abbrev pub adding : table.Step S → Me S (Records BookStep) → ℕ → Me S (Records BookStep) → Type 0
   adding step m found m' = Stepped (Add step.first found) m m'
 
   -- the wakeups advance if they are what was expected
-  abbrev pub advancing : table.Step S → Me S (View BookStep) → ℕ → Me S (View BookStep) → Type 0
+  abbrev pub advancing : table.Step S → Me S (Records BookStep) → ℕ → Me S (Records BookStep) → Type 0
   advancing step m found m' = Stepped (Advance step.first step.second found) m m'

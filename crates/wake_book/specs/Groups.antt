@@ -1,7 +1,8 @@
 -- The terms of public clauses about wait groups and their waiters.
 use Rattle.std.specs.Prelude.{◌≡◌, ◌≢◌, ℕ, ◌+◌, ◌<◌, ◌≤◌, ◌⊎◌, List, ◌∷◌, All, map, Option, Some, None}
 use Rattle.step_ledger.specs.declared.record.Record.{Record}
-use Rattle.step_ledger.specs.Views as views
+use Rattle.step_ledger.specs.Gather as members
+use Rattle.step_ledger.specs.Records as ledger
 use Rattle.step_ledger.specs.History.{total}
 use Rattle.wake_book.specs.declared.groups.Groups.{Groups}
 use Rattle.wake_book.specs.declared.groups.Waiter.{Waiter}
@@ -17,7 +18,7 @@ IsWaiterOf groups waiter = waiter.seat.table_id ≡ groups.table.shared.table_id
 
 -- the waiter's own steps, newest first
 abbrev pub steps_of : Waiter → List GroupStep
-steps_of waiter = views.steps_of waiter.seat.me.0
+steps_of waiter = ledger.steps_of waiter.seat.me.0
 
 -- the waiter's number, from 0
 abbrev pub number_of : Waiter → ℕ
@@ -53,7 +54,7 @@ IsGatheringOf groups gathering = gathering.seat.table_id ≡ groups.table.shared
 
 -- the records of the waiters gathered, the last one added first
 abbrev pub gathered : WaiterGathering → List (Record GroupStep)
-gathered gathering = views.turned gathering.seat.me.0.records.value
+gathered gathering = members.turned gathering.seat.me.0.records.value
 
 -- how many waiters the groups have
 abbrev pub waiters_of : Groups → ℕ
@@ -98,4 +99,4 @@ pub record AreOpenGroups (waiters : ℕ) (groups : Groups) (all : List Waiter) :
   pub waiters_are : waiters_of groups ≡ waiters
   pub own : All (IsWaiterOf groups) all
   pub new : All IsNew all
-  pub fresh_all : records_of all ≡ views.fresh 0 waiters
+  pub fresh_all : records_of all ≡ ledger.fresh 0 waiters

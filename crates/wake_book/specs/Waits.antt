@@ -1,8 +1,8 @@
 -- The wait groups' words, what each step does to them, and when a step may happen.
 use Rattle.std.specs.Prelude.{◌≡◌, ℕ, suc, ◌+◌, ◌-◌, ◌*◌, ◌/◌, ◌%◌, ◌^◌, ◌<◌, ◌≤◌, List, [], ◌∷◌, replicate, slice_index, slice_set, cond, nat_eq}
 use Rattle.atomic_table.specs.Table.{State}
-use Rattle.step_ledger.specs.declared.record.View.{View}
-use Rattle.step_ledger.specs.Views.{viewing, fresh}
+use Rattle.step_ledger.specs.Records.{Records, fresh}
+use Rattle.step_ledger.specs.Views.{viewing}
 use Rattle.step_ledger.specs.History.{own_steps, total, words_left}
 use Rattle.step_ledger.specs.Ledger.{Ledger}
 use Rattle.wake_book.specs.declared.groups.TheConstants.{ACTIVE, INDEX, GROUP_WORDS, WAITING}
@@ -128,9 +128,9 @@ MayStep c (Withdraw g expected found) h = (found ≡ word (words_in h) g) × (g 
 MayStep c (Store index) h = index < 8
 
 -- the rule of the table
-abbrev pub GroupsRule : {S : Type 0} → ℕ → State S (View GroupStep) → Type 0
+abbrev pub GroupsRule : {S : Type 0} → ℕ → State S (Records GroupStep) → Type 0
 GroupsRule waiters s = Ledger waiters opening_words words_after MayStep s
 
 -- the records on the first seat: those of all waiters, without steps
-abbrev pub all_fresh : ℕ → View GroupStep
+abbrev pub all_fresh : ℕ → Records GroupStep
 all_fresh waiters = viewing (fresh 0 waiters)

@@ -1,6 +1,7 @@
 //! The charge book: completions are counted, and each full batch of them is charged once.
 ghost use Rattle.std.specs.Prelude.{◌≡◌, ◌-◌, ◌^◌, ◌≤◌, [], min};
-ghost use Rattle.step_ledger.specs.Views.{own_view, steps_of, sum_over};
+ghost use Rattle.step_ledger.specs.Records.{steps_of, sum_over};
+ghost use Rattle.step_ledger.specs.Views.{own_view};
 ghost use Rattle.step_ledger.specs.History.{total};
 ghost use Rattle.wake_book.specs.Charges.{all_fresh, added, book_width, charged};
 
@@ -8,7 +9,7 @@ use crate::spacing::STRIDE;
 use crate::steps::BookStep;
 use atomic_table::{Seat, Table, TableRule};
 use std::alloc::Global;
-use step_ledger::{Numbered, View};
+use step_ledger::{Numbered, Records};
 
 /// Index of the word that counts completions. The spare word is at 0.
 pub(crate) const COMPLETIONS: usize = STRIDE;
@@ -32,7 +33,7 @@ pub struct Limits {
 #[derive(Drop)]
 pub struct Charges;
 
-impl TableRule<(), View<BookStep>, Limits> for Charges {
+impl TableRule<(), Records<BookStep>, Limits> for Charges {
     ghost use Rattle.wake_book.specs.Charges.{BookRule};
 
     ghost holds = { λ k. BookRule k };
@@ -43,7 +44,7 @@ impl TableRule<(), View<BookStep>, Limits> for Charges {
 /// The counts of completions and wakeups, shared by up to 64 tellers without a lock.
 #[derive(Drop)]
 pub struct Book {
-    pub(crate) table: Table<(), View<BookStep>, Limits, Charges, Global>,
+    pub(crate) table: Table<(), Records<BookStep>, Limits, Charges, Global>,
     pub(crate) limits: Limits,
     /// Completions per charge, 1 to 8.
     pub(crate) batch: u32,
@@ -75,7 +76,7 @@ impl Book {
 /// A handle that counts completions. A contract sees its number and the list of its own steps.
 #[derive(Drop)]
 pub struct Teller {
-    pub(crate) seat: Seat<(), View<BookStep>>,
+    pub(crate) seat: Seat<(), Records<BookStep>>,
     /// Its number, from 0.
     pub(crate) number: u32,
     /// Completions that it counted, at most the cap.
@@ -99,7 +100,7 @@ impl Numbered for Teller {
 #[derive(Drop)]
 pub struct TellerGathering {
     /// The seat that holds the records of these tellers.
-    pub(crate) seat: Seat<(), View<BookStep>>,
+    pub(crate) seat: Seat<(), Records<BookStep>>,
     /// Charges that these tellers won, as a saturating sum. 64 tellers of at most 2^56 charges each never saturate it.
     pub(crate) charges: u64,
     ghost empty: { seat.me.1 ≡ [] },

@@ -1,8 +1,8 @@
 //! Gathers all tellers and closes the book.
 ghost use Rattle.std.specs.Prelude.{◌≡◌, ◌↔◌, [], ◌∷◌, All, IfOk, IfErr, IsOk};
 ghost use Rattle.std.specs.Slots.{slots_len};
-ghost use Rattle.step_ledger.specs.Views.{Has, HasAll, numbers};
-ghost use Rattle.step_ledger.specs.Gather.{IsCauseOf};
+ghost use Rattle.step_ledger.specs.Records.{numbers};
+ghost use Rattle.step_ledger.specs.Gather.{Has, HasAll, IsCauseOf};
 ghost use Rattle.wake_book.specs.Book.{IsTellerOf, record_of, records_of, numbers_of, tellers_of, limits_of};
 ghost use Rattle.wake_book.specs.Book.{IsGatheringOf, gathered};
 ghost use Rattle.wake_book.specs.Booked.{IsBooked};

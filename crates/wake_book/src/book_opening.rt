@@ -1,6 +1,6 @@
 //! Opens a book with its tellers.
 ghost use Rattle.std.specs.Prelude.{◌≡◌, ℕ, ◌+◌, ◌^◌, ◌<◌, ◌≤◌, ◌↔◌, ◌⊎◌, [], ◌∷◌, All, IfOk};
-ghost use Rattle.step_ledger.specs.Views.{fresh, fresh_record, still_to_come};
+ghost use Rattle.step_ledger.specs.Records.{fresh, fresh_record, still_to_come};
 ghost use Rattle.wake_book.specs.Charges.{all_fresh};
 ghost use Rattle.wake_book.specs.Book.{IsTellerOf, record_of, records_of, tellers_of, IsOpenBook, MiscountsBook};
 
@@ -9,7 +9,7 @@ use crate::fault::BookFault;
 use crate::steps::BookStep;
 use atomic_table::{Seat, Table};
 use std::alloc::{AllocError, Global};
-use step_ledger::{HandOut, View};
+use step_ledger::{HandOut, Records};
 
 /// The largest batch, in completions.
 const MAX_BATCH: u32 = 8;
@@ -66,7 +66,7 @@ impl Book {
     fn hand_out(
         &self,
         alloc: Global,
-        mut rest: Seat<(), View<BookStep>>,
+        mut rest: Seat<(), Records<BookStep>>,
     ) -> Result<Vec<Teller>, AllocError>
         requires { (rest.table_id ≡ self.now.table.shared.table_id) × (rest.me ≡ (all_fresh self.now.limits, [])) }
         ensures own { IfOk result (λ tellers. All (IsTellerOf self.now) tellers.items) }
@@ -81,7 +81,7 @@ impl Book {
     }
 
     /// Makes the next teller from the seat that holds its record and those of all later tellers.
-    fn new_teller(&self, rest: &mut Seat<(), View<BookStep>>, number: u32) -> Teller
+    fn new_teller(&self, rest: &mut Seat<(), Records<BookStep>>, number: u32) -> Teller
         requires comes { (number < self.now.limits.tellers) × (rest.old.table_id ≡ self.now.table.shared.table_id) }
         requires knows { rest.old.me ≡ (still_to_come number (tellers_of self.now), []) }
         ensures teller { IsTellerOf self.now result × (record_of result ≡ fresh_record number) }

@@ -3,28 +3,28 @@ ghost use Rattle.wake_book.specs.Charges.{looked_completions, looked_wakeups, ad
 
 use crate::steps::BookStep;
 use atomic_table::Play;
-use step_ledger::View;
+use step_ledger::Records;
 
 pub(crate) struct SeeCompletions;
 
-impl Play<(), View<BookStep>> for SeeCompletions {
+impl Play<(), Records<BookStep>> for SeeCompletions {
     ghost then = { looked_completions };
 }
 
 pub(crate) struct SeeWakeups;
 
-impl Play<(), View<BookStep>> for SeeWakeups {
+impl Play<(), Records<BookStep>> for SeeWakeups {
     ghost then = { looked_wakeups };
 }
 
 pub(crate) struct CountSome;
 
-impl Play<(), View<BookStep>> for CountSome {
+impl Play<(), Records<BookStep>> for CountSome {
     ghost then = { adding };
 }
 
 pub(crate) struct MoveOn;
 
-impl Play<(), View<BookStep>> for MoveOn {
+impl Play<(), Records<BookStep>> for MoveOn {
     ghost then = { advancing };
 }

@@ -4,58 +4,58 @@ ghost use Rattle.wake_book.specs.WaitPlays.{entering, granting, leaving, storing
 
 use crate::steps::GroupStep;
 use atomic_table::Play;
-use step_ledger::View;
+use step_ledger::Records;
 
 pub(crate) struct SeeActive;
 
-impl Play<(), View<GroupStep>> for SeeActive {
+impl Play<(), Records<GroupStep>> for SeeActive {
     ghost then = { looked_active };
 }
 
 pub(crate) struct SeeIndex;
 
-impl Play<(), View<GroupStep>> for SeeIndex {
+impl Play<(), Records<GroupStep>> for SeeIndex {
     ghost then = { looked_index };
 }
 
 pub(crate) struct SeeGroup;
 
-impl Play<(), View<GroupStep>> for SeeGroup {
+impl Play<(), Records<GroupStep>> for SeeGroup {
     ghost then = { looked_group };
 }
 
 pub(crate) struct RaiseActive;
 
-impl Play<(), View<GroupStep>> for RaiseActive {
+impl Play<(), Records<GroupStep>> for RaiseActive {
     ghost then = { raising };
 }
 
 pub(crate) struct LowerActive;
 
-impl Play<(), View<GroupStep>> for LowerActive {
+impl Play<(), Records<GroupStep>> for LowerActive {
     ghost then = { lowering };
 }
 
 pub(crate) struct EnterGroup;
 
-impl Play<(), View<GroupStep>> for EnterGroup {
+impl Play<(), Records<GroupStep>> for EnterGroup {
     ghost then = { entering };
 }
 
 pub(crate) struct GrantSome;
 
-impl Play<(), View<GroupStep>> for GrantSome {
+impl Play<(), Records<GroupStep>> for GrantSome {
     ghost then = { granting };
 }
 
 pub(crate) struct LeaveGroup;
 
-impl Play<(), View<GroupStep>> for LeaveGroup {
+impl Play<(), Records<GroupStep>> for LeaveGroup {
     ghost then = { leaving };
 }
 
 pub(crate) struct StoreIndex;
 
-impl Play<(), View<GroupStep>> for StoreIndex {
+impl Play<(), Records<GroupStep>> for StoreIndex {
     ghost then = { storing };
 }

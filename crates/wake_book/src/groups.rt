@@ -1,6 +1,7 @@
 //! The wait groups: eight words, each with a count of waiters and a count of grants, and the number of active waiters.
 ghost use Rattle.std.specs.Prelude.{◌≡◌, ◌-◌, ◌^◌, ◌<◌, ◌≤◌, [], min};
-ghost use Rattle.step_ledger.specs.Views.{own_view, steps_of, sum_over};
+ghost use Rattle.step_ledger.specs.Records.{steps_of, sum_over};
+ghost use Rattle.step_ledger.specs.Views.{own_view};
 ghost use Rattle.step_ledger.specs.History.{total};
 ghost use Rattle.wake_book.specs.Waits.{all_fresh, group_at, groups_width, moved_by};
 ghost use Rattle.wake_book.specs.Stands.{StandsSo};
@@ -11,7 +12,7 @@ use atomic_table::{Seat, Table, TableRule};
 use crossbeam_utils::CachePadded;
 use crossbeam_utils::sync::EventCount;
 use std::alloc::Global;
-use step_ledger::{Numbered, View};
+use step_ledger::{Numbered, Records};
 
 /// Index of the word that counts active waiters, after the spare word at 0 and the eight groups.
 pub(crate) const ACTIVE: usize = 9 * STRIDE;
@@ -32,7 +33,7 @@ pub(crate) const WAITING: u64 = 1 << 32;
 #[derive(Drop)]
 pub struct Waits;
 
-impl TableRule<(), View<GroupStep>, u32> for Waits {
+impl TableRule<(), Records<GroupStep>, u32> for Waits {
     ghost use Rattle.wake_book.specs.Waits.{GroupsRule};
 
     ghost holds = { λ n. GroupsRule n };
@@ -43,7 +44,7 @@ impl TableRule<(), View<GroupStep>, u32> for Waits {
 /// Eight groups, shared by up to 64 waiters without a lock.
 #[derive(Drop)]
 pub struct Groups {
-    pub(crate) table: Table<(), View<GroupStep>, u32, Waits, Global>,
+    pub(crate) table: Table<(), Records<GroupStep>, u32, Waits, Global>,
     /// Number of waiters, 1 to 64.
     pub(crate) waiters: u32,
     /// The event count of each group, on which its sleepers wait. No clause mentions it.
@@ -68,7 +69,7 @@ impl Groups {
 /// A handle that waits and wakes others. A contract sees its number, group, wait index, and the list of its own steps.
 #[derive(Drop)]
 pub struct Waiter {
-    pub(crate) seat: Seat<(), View<GroupStep>>,
+    pub(crate) seat: Seat<(), Records<GroupStep>>,
     /// Its number, from 0.
     pub(crate) number: u32,
     /// The group that it is in, 0 to 7, or `None`.
@@ -95,7 +96,7 @@ impl Numbered for Waiter {
 #[derive(Drop)]
 pub struct WaiterGathering {
     /// The seat that holds the records of these waiters.
-    pub(crate) seat: Seat<(), View<GroupStep>>,
+    pub(crate) seat: Seat<(), Records<GroupStep>>,
     /// Moves to granted by these waiters, as a saturating sum. 64 waiters of at most 2^56 moves each never saturate it.
     pub(crate) moved: u64,
     ghost empty: { seat.me.1 ≡ [] },

@@ -1,9 +1,9 @@
 //! Gathers all waiters and closes the groups.
 ghost use Rattle.std.specs.Prelude.{◌≡◌, ◌↔◌, [], ◌∷◌, All, IfOk, IfErr, IsOk};
 ghost use Rattle.std.specs.Slots.{slots_len, slots_items, IsFull};
-ghost use Rattle.step_ledger.specs.Views.{Has, HasAll, numbers};
-ghost use Rattle.step_ledger.specs.History.{sum_to};
-ghost use Rattle.step_ledger.specs.Gather.{IsCauseOf};
+ghost use Rattle.sums.specs.Below.{sum_below};
+ghost use Rattle.step_ledger.specs.Records.{numbers};
+ghost use Rattle.step_ledger.specs.Gather.{Has, HasAll, IsCauseOf};
 ghost use Rattle.wake_book.specs.Waits.{granted, groups_width, waiting, word};
 ghost use Rattle.wake_book.specs.Groups.{IsWaiterOf, record_of, records_of, numbers_of, waiters_of};
 ghost use Rattle.wake_book.specs.Groups.{IsGatheringOf, gathered};
@@ -129,8 +129,8 @@ impl WaiterGathering {
 /// Returns the grants and the waiting waiters of all groups together.
 fn counts_of(closed: &Closed<(), Global>) -> (u64, u64)
     requires { IsFull closed.now.words × (slots_len closed.now.words ≡ groups_width) }
-    ensures granted { result.0 ≡ sum_to (λ g. granted (word (slots_items closed.now.words) g)) 8 }
-    ensures waiting { result.1 ≡ sum_to (λ g. waiting (word (slots_items closed.now.words) g)) 8 }
+    ensures granted { result.0 ≡ sum_below (λ g. granted (word (slots_items closed.now.words) g)) 8 }
+    ensures waiting { result.1 ≡ sum_below (λ g. waiting (word (slots_items closed.now.words) g)) 8 }
 {
     let mut granted = 0u64;
     let mut waiting = 0u64;

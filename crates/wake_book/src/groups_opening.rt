@@ -1,6 +1,6 @@
 //! Opens wait groups with their waiters.
 ghost use Rattle.std.specs.Prelude.{◌≡◌, ◌≢◌, ℕ, ◌+◌, ◌<◌, ◌≤◌, ◌↔◌, ◌⊎◌, [], ◌∷◌, All, IfOk};
-ghost use Rattle.step_ledger.specs.Views.{fresh, fresh_record, still_to_come};
+ghost use Rattle.step_ledger.specs.Records.{fresh, fresh_record, still_to_come};
 ghost use Rattle.wake_book.specs.Waits.{all_fresh};
 ghost use Rattle.wake_book.specs.Groups.{IsWaiterOf, IsNew, record_of, records_of, waiters_of, AreOpenGroups, MiscountsGroups};
 
@@ -11,7 +11,7 @@ use atomic_table::{Seat, Table};
 use crossbeam_utils::CachePadded;
 use crossbeam_utils::sync::EventCount;
 use std::alloc::{AllocError, Global};
-use step_ledger::{HandOut, View};
+use step_ledger::{HandOut, Records};
 
 /// The most waiters that groups can have.
 const MAX_WAITERS: u32 = 64;
@@ -62,7 +62,7 @@ impl Groups {
     fn hand_out(
         &self,
         alloc: Global,
-        mut rest: Seat<(), View<GroupStep>>,
+        mut rest: Seat<(), Records<GroupStep>>,
     ) -> Result<Vec<Waiter>, AllocError>
         requires { (rest.table_id ≡ self.now.table.shared.table_id) × (rest.me ≡ (all_fresh self.now.waiters, [])) }
         ensures own { IfOk result (λ all. All (IsWaiterOf self.now) all.items × All IsNew all.items) }
@@ -77,7 +77,7 @@ impl Groups {
     }
 
     /// Makes the next waiter from the seat that holds its record and those of all later waiters.
-    fn new_waiter(&self, rest: &mut Seat<(), View<GroupStep>>, number: u32) -> Waiter
+    fn new_waiter(&self, rest: &mut Seat<(), Records<GroupStep>>, number: u32) -> Waiter
         requires comes { (number < self.now.waiters) × (rest.old.table_id ≡ self.now.table.shared.table_id) }
         requires knows { rest.old.me ≡ (still_to_come number (waiters_of self.now), []) }
         ensures waiter { IsWaiterOf self.now result × IsNew result × (record_of result ≡ fresh_record number) }

@@ -1,6 +1,6 @@
 //! Gathers agents one after another.
 ghost use Rattle.std.specs.Prelude.{◌≡◌, [], ◌∷◌, List, All};
-ghost use Rattle.step_ledger.specs.Views.{Has};
+ghost use Rattle.step_ledger.specs.Gather.{Has};
 ghost use Rattle.tag_queue.specs.Agents.{IsAgentOf, numbers_of};
 ghost use Rattle.tag_queue.specs.Gathering.{IsTogetherOf, AreTogether};
 

@@ -1,6 +1,6 @@
 //! Moves callers to the next map.
 ghost use Rattle.std.specs.Prelude.{◌≡◌, All, IfOk, IfErr, length, map};
-ghost use Rattle.step_ledger.specs.Views.{HasAll};
+ghost use Rattle.step_ledger.specs.Gather.{HasAll};
 ghost use Rattle.tag_core.specs.Callers.{IsCallerOf, AreUnchanged, record_of};
 ghost use Rattle.tag_core.specs.Gathering.{numbers_of};
 ghost use Rattle.tag_queue.specs.Resizing.{MoveOn};

@@ -1,6 +1,6 @@
 //! Moves the agents to the next map, or hands them back if memory runs out.
 ghost use Rattle.std.specs.Prelude.{◌≡◌, All, IfOk, IfErr, length, map};
-ghost use Rattle.step_ledger.specs.Views.{HasAll};
+ghost use Rattle.step_ledger.specs.Gather.{HasAll};
 ghost use Rattle.tag_core.specs.Callers.{IsCallerOf, record_of};
 ghost use Rattle.tag_core.specs.Callers as core;
 ghost use Rattle.tag_core.specs.Gathering as tags;

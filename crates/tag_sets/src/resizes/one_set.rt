@@ -1,6 +1,6 @@
 //! One set with the agents of all hands, while the hands are taken apart: counting its tags in use, and resizing it.
 ghost use Rattle.std.specs.Prelude.{◌≡◌, ◌+◌, ◌≤◌, ◌<◌, ◌^◌, [], length, vec_capacity, All, IfOk, IfErr, IsOk};
-ghost use Rattle.step_ledger.specs.Views.{HasAll};
+ghost use Rattle.step_ledger.specs.Gather.{HasAll};
 ghost use Rattle.tag_layout.specs.declared.layout.TheConstants.{MAX_DEPTH};
 ghost use Rattle.tag_queue.specs.Agents.{IsAgentOf, AreUnchanged as AgentsUnchanged, agents_of, layout_of, records_of};
 ghost use Rattle.tag_queue.specs.Agents.{numbers_of as agent_numbers};

@@ -1,6 +1,6 @@
 -- All numbers below the loop's are there, so the first that is not is the least.
 use Rattle.std.proofs.Common.{rules, map, below_more}
-use Rattle.step_ledger.specs.Views.{Has}
+use Rattle.step_ledger.specs.Gather.{Has}
 use Rattle.step_ledger.proofs.numbered.least_missing.Goals as goal
 
 pub returns-then-not-has_number : goal.returns-then-not-has_number

@@ -3,9 +3,8 @@ use Rattle.std.proofs.Common.{rules, arith, ◌≡◌, ℕ, zero, suc, ◌+◌, 
 use mathlib.Core.Option.{some, some-injective, some-ne-none}
 use lib.ListN.{get_elem?}
 use Rattle.std.specs.Slots.{slots_items, slots_len}
+use Rattle.sums.specs.Below.{sum_below, one_if}
 use Rattle.tag_layout.specs.Layout.{Layout}
-use Rattle.tag_layout.specs.Sums.{sum_below}
-use Rattle.tag_core.specs.Bits.{one_if}
 use Rattle.tag_core.specs.Spacing.{state_at}
 use Rattle.tag_core.proofs.Stand.{state_in}
 use Rattle.tag_core.proofs.gather.count_posted.Goals.{then-word-eq1, else-word-eq1}

@@ -1,8 +1,7 @@
 -- The states of the tags so far that are 1 are counted.
 use Rattle.std.proofs.Common.{◌≡◌, ◌≤◌, slice_index, nat_eq}
 use Rattle.std.specs.Slots.{slots_items}
-use Rattle.tag_layout.specs.Sums.{sum_below}
-use Rattle.tag_core.specs.Bits.{one_if}
+use Rattle.sums.specs.Below.{sum_below, one_if}
 use Rattle.tag_core.specs.Spacing.{state_at}
 use Rattle.tag_core.proofs.gather.count_posted.Given as goal
 

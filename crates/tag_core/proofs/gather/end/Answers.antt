@@ -5,9 +5,8 @@ use mathlib.Core.Option.{some-injective}
 use lib.ListN.{get_elem?}
 use Rattle.std.specs.Slots.{slots_items}
 use Rattle.atomic_table.specs.Table.{Final, Seen}
-use Rattle.tag_layout.specs.Sums.{sum_below}
+use Rattle.sums.specs.Below.{sum_below, one_if}
 use Rattle.tag_core.specs.declared.shape.Shape.{Shape}
-use Rattle.tag_core.specs.Bits.{one_if}
 use Rattle.tag_core.specs.Spacing.{state_at}
 use Rattle.tag_core.specs.Rule.{Shown, SlotIs}
 use Rattle.tag_core.proofs.Ends.{won_all, back_all, held_all, posted_all, even_all}

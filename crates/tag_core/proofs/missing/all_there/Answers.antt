@@ -1,7 +1,7 @@
 -- The members that were looked at are the callers handed in.
 use Rattle.std.proofs.Common.{List, refl, subst}
 use Rattle.std.proofs.lemmas.Bool.{false≢true}
-use Rattle.step_ledger.specs.Views.{HasAll, IsLeastMissing}
+use Rattle.step_ledger.specs.Gather.{HasAll, IsLeastMissing}
 use Rattle.tag_core.specs.declared.caller.Caller.{Caller}
 use Rattle.tag_core.specs.Gathering.{numbers_of}
 use Rattle.tag_core.proofs.missing.all_there.Given as given

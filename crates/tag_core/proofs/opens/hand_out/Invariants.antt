@@ -2,9 +2,10 @@
 use Rattle.std.proofs.Common.{◌≡◌, ◌-◌, ℕ, [], length, All}
 use mathlib.Core.Option.{some}
 use lib.ListN.{get_elem?}
+use Rattle.step_ledger.specs.Views.{viewing}
 use Rattle.tag_core.specs.declared.caller.Caller.{Caller}
 use Rattle.tag_core.specs.Records.{fresh_record}
-use Rattle.tag_core.specs.Views.{viewing, fresh}
+use Rattle.tag_core.specs.Views.{fresh}
 use Rattle.tag_core.specs.Callers.{IsCallerOf, record_of}
 use Rattle.tag_core.proofs.opens.hand_out.Given as goal
 

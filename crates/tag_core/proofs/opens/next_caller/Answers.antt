@@ -1,15 +1,17 @@
 -- The seat splits off the record of one caller, who has won and holds nothing.
-use Rattle.std.proofs.Common.{rules, arith, ◌≡◌, ℕ, ◌<◌, ◌-◌, ◌+◌, List, [], ◌∷◌, replicate, get_or, length, sym, ap, ◌∙◌, subst}
+use Rattle.std.proofs.Common.{rules, arith, ◌≡◌, ℕ, ◌<◌, ◌-◌, ◌+◌, List, [], ◌∷◌, replicate, length, sym, ap, ◌∙◌, subst}
 use lib.ListN.{length-replicate}
 use Rattle.atomic_table.specs.Table.{Splits}
+use Rattle.step_ledger.proofs.Seats.{same_record}
+use Rattle.step_ledger.specs.Views.{viewing, own_view, first_view, other_views}
+use Rattle.step_ledger.proofs.Fresh.{next_from}
 use Rattle.tag_layout.specs.Layout.{words}
 use Rattle.tag_core.specs.declared.shape.Shape.{Shape}
 use Rattle.tag_core.specs.Records.{fresh_record, Carries, StartsAtZero}
-use Rattle.tag_core.specs.Views.{viewing, own_view, fresh, first_view, other_views, steps_of}
+use Rattle.tag_core.specs.Views.{fresh, steps_of}
 use Rattle.tag_core.specs.Rule.{Shown}
 use Rattle.tag_core.specs.Meeting.{HasHistory}
-use Rattle.tag_core.proofs.Passing.{hands_first, next_fresh, carries_none, fresh_history}
-use Rattle.tag_core.proofs.Singles.{same_record}
+use Rattle.tag_core.proofs.Passing.{hands_first, carries_none, fresh_history}
 use Rattle.tag_core.proofs.Stand.{some_width}
 use Rattle.tag_core.proofs.opens.next_caller.Goals as goal
 
@@ -18,7 +20,7 @@ split_seat-seat-requires g c =
     let m = c.args.map.now in let k = m.shape in let R = g.row.R.Denot in let v = c.args.rest.now.me.0 in
     let n : ℕ = c.args.number in
     let is : v ≡ viewing (fresh_record k n ∷ fresh k (n + 1) (k.callers - (n + 1))) = ap (λ x. x.0) c.requires.rest
-    ∙ ap viewing (next_fresh R k n k.callers c.requires.number) in (
+    ∙ ap viewing (next_from (fresh_record {R = R} k) n k.callers c.requires.number) in (
       c.requires.seat,
       subst (λ (z : ℕ). 0 < z) (sym m.wide.0) (some_width k.layout),
       subst (λ (z : Shape). Splits (Shown z) c.args.rest.now.id v (other_views v) (first_view v)) (sym m.told)
@@ -51,7 +53,7 @@ none_before k n starts j =
 
 pub invariant_of-result : goal.invariant_of-result
 invariant_of-result g c = let k = c.args.map.now.shape in let n : ℕ = c.args.number in let R = g.row.R.Denot in
-    let is = ap (λ x. x.0) c.requires.rest ∙ ap viewing (next_fresh R k n k.callers c.requires.number) in
+    let is = ap (λ x. x.0) c.requires.rest ∙ ap viewing (next_from (fresh_record {R = R} k) n k.callers c.requires.number) in
     let blank : c.in_ok-held.held.items ≡ replicate (words k.layout) 0 = search rules in
     let now = c.split_seat-seat.ensures.4 in
     let alone_is = ap (λ x. x.0) now ∙ ap first_view is
@@ -81,7 +83,7 @@ invariant_of-result g c = let k = c.args.map.now.shape in let n : ℕ = c.args.n
 
 pub returns-clause-caller : goal.returns-clause-caller
 returns-clause-caller g c = let k = c.args.map.now.shape in let n : ℕ = c.args.number in let R = g.row.R.Denot in
-    let is = ap (λ x. x.0) c.requires.rest ∙ ap viewing (next_fresh R k n k.callers c.requires.number) in
+    let is = ap (λ x. x.0) c.requires.rest ∙ ap viewing (next_from (fresh_record {R = R} k) n k.callers c.requires.number) in
     let blank : c.in_ok-held.held.items ≡ replicate (words k.layout) 0 = search rules in
     let alone_is = ap (λ x. x.0) c.split_seat-seat.ensures.4 ∙ ap first_view is in (
       (c.split_seat-seat.ensures.3 ∙ c.requires.seat, c.of.ensures),
@@ -100,7 +102,7 @@ returns-clause-caller g c = let k = c.args.map.now.shape in let n : ℕ = c.args
 
 pub returns-clause-rest : goal.returns-clause-rest
 returns-clause-rest g c = let k = c.args.map.now.shape in let n : ℕ = c.args.number in let R = g.row.R.Denot in
-    let is = ap (λ x. x.0) c.requires.rest ∙ ap viewing (next_fresh R k n k.callers c.requires.number) in (
+    let is = ap (λ x. x.0) c.requires.rest ∙ ap viewing (next_from (fresh_record {R = R} k) n k.callers c.requires.number) in (
       c.split_seat-seat.ensures.0,
       c.split_seat-seat.ensures.2
           ∙ (λ j. (ap other_views is j, ap (λ x. x.1) c.requires.rest j)),

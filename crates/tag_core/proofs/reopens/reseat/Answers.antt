@@ -1,17 +1,18 @@
 -- The seat has the caller's record of the next map first: nothing held or done, and the counts that it brings.
 use Rattle.std.proofs.Common.{◌≡◌, ℕ, ◌<◌, ◌-◌, ◌+◌, List, [], ◌∷◌, replicate, length, sym, ap, ◌∙◌, subst}
 use lib.ListN.{length-replicate}
+use Rattle.step_ledger.proofs.Seats.{same_record}
+use Rattle.step_ledger.specs.Views.{viewing, own_view, first_view, other_views}
+use Rattle.step_ledger.proofs.Fresh.{next_from}
 use Rattle.tag_layout.specs.Layout.{words}
 use Rattle.tag_core.specs.declared.shape.Shape.{Shape}
-use Rattle.tag_core.specs.declared.record.View.{View}
 use Rattle.tag_core.specs.declared.caller.Caller.{Caller}
 use Rattle.tag_core.specs.Records.{fresh_record, Carries}
 use Rattle.tag_core.specs.Reopening.{reopened_record}
-use Rattle.tag_core.specs.Views.{viewing, own_view, fresh, first_view, other_views, steps_of}
+use Rattle.tag_core.specs.Views.{fresh, steps_of, View}
 use Rattle.tag_core.specs.Callers.{record_of}
 use Rattle.tag_core.specs.Meeting.{HasHistory}
-use Rattle.tag_core.proofs.Passing.{next_fresh, carries_none, fresh_history}
-use Rattle.tag_core.proofs.Singles.{same_record}
+use Rattle.tag_core.proofs.Passing.{carries_none, fresh_history}
 use Rattle.tag_core.proofs.SeatMoves.{some_words, splits_off}
 use Rattle.tag_core.proofs.reopens.reseat.Goals as goal
 
@@ -19,7 +20,7 @@ module _ {R : Type 0} (k : Shape) (old : Caller R) where
   -- the seat has this caller's record first
   first_is : (v : View R) → old.number < k.callers → v ≡ viewing (fresh k old.number (k.callers - old.number))
       → v ≡ viewing (fresh_record k old.number ∷ fresh k (old.number + 1) (k.callers - (old.number + 1)))
-  first_is v low is = is ∙ ap viewing (next_fresh R k old.number k.callers low)
+  first_is v low is = is ∙ ap viewing (next_from (fresh_record {R = R} k) old.number k.callers low)
 
 pub split_seat-requires : goal.split_seat-requires
 split_seat-requires g c =

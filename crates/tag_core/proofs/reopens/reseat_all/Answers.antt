@@ -5,12 +5,13 @@ use mathlib.Core.Logic.{dite}
 use native.Mathlib.Decide.{dec_lt}
 use lib.ListN.{get_elem?}
 use Rattle.atomic_table.proofs.Lists.{at_index, at_map, at_set}
-use Rattle.step_ledger.specs.Views.{Has}
+use Rattle.step_ledger.specs.Views.{viewing}
+use Rattle.step_ledger.specs.Gather.{Has}
 use Rattle.tag_layout.specs.Layout.{words}
 use Rattle.tag_core.specs.declared.caller.Caller.{Caller}
 use Rattle.tag_core.specs.declared.map.Map.{Map}
 use Rattle.tag_core.specs.declared.record.Record.{Record}
-use Rattle.tag_core.specs.Views.{viewing, fresh}
+use Rattle.tag_core.specs.Views.{fresh}
 use Rattle.tag_core.specs.Callers.{IsCallerOf, record_of, HaveOwnNumbers}
 use Rattle.tag_core.specs.Gathering.{numbers_of}
 use Rattle.tag_core.specs.Reopening.{reopened_record}

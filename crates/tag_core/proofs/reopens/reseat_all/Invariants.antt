@@ -3,11 +3,12 @@
 use Rattle.std.proofs.Common.{◌≡◌, ℕ, ◌+◌, ◌-◌, ◌<◌, ◌≤◌, [], length, replicate, All}
 use mathlib.Core.Option.{some}
 use lib.ListN.{get_elem?}
+use Rattle.step_ledger.specs.Views.{viewing}
 use Rattle.tag_layout.specs.Layout.{words}
 use Rattle.tag_core.specs.declared.caller.Caller.{Caller}
 use Rattle.tag_core.specs.Callers.{IsCallerOf, record_of}
 use Rattle.tag_core.specs.Reopening.{reopened_record}
-use Rattle.tag_core.specs.Views.{viewing, fresh}
+use Rattle.tag_core.specs.Views.{fresh}
 use Rattle.tag_core.proofs.reopens.reseat_all.Given as goal
 
 abbrev pub invariant-loop-number : goal.invariant-loop-number

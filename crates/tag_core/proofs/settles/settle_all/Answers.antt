@@ -2,7 +2,7 @@
 use Rattle.std.proofs.Common.{◌≡◌, ℕ, List, [], ◌∷◌, ◌++◌, map, All, sym, ap, ◌∙◌, subst}
 use Rattle.std.proofs.lemmas.List.Elements.{All-push}
 use lib.ListN.{get_elem?}
-use Rattle.step_ledger.specs.Views.{HasAll}
+use Rattle.step_ledger.specs.Gather.{HasAll}
 use Rattle.tag_model.specs.declared.totals.Totals.{Totals}
 use Rattle.tag_core.specs.declared.caller.Caller.{Caller}
 use Rattle.tag_core.specs.declared.record.Record.{Record}

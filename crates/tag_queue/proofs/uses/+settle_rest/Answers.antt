@@ -1,7 +1,7 @@
 -- The last agent's record goes in front of those gathered, so on the way back it is the first to be returned.
 use Rattle.std.proofs.Common.{rules, ◌≡◌, List, [], ◌++◌, All, refl, sym, ap, ◌∙◌, subst}
 use lib.ListN.{get_elem?}
-use Rattle.step_ledger.specs.Views.{HasAll}
+use Rattle.step_ledger.specs.Gather.{HasAll}
 use Rattle.tag_core.specs.declared.record.Record.{Record}
 use Rattle.tag_core.specs.declared.caller.Caller.{Caller}
 use Rattle.tag_core.specs.Callers.{IsCallerOf, IsUnchanged, record_of}

@@ -1,7 +1,7 @@
 -- Each group's word adds its two halves, as its definition reads them, and eight halves below 2^32 fit.
 use Rattle.std.proofs.Common.{arith, ◌≡◌, ℕ, suc, ◌+◌, ◌/◌, ◌%◌, List, get_or, sym, ap, ◌∙◌}
 use Rattle.std.specs.Slots.{slots_items}
-use Rattle.step_ledger.specs.History.{sum_to}
+use Rattle.sums.specs.Below.{sum_below}
 use Rattle.wake_book.specs.Waits.{one_waiting, granted, waiting, word}
 use Rattle.wake_book.proofs.Ending.{read}
 use Rattle.wake_book.proofs.groups_closing.counts_of.Goals as goal
@@ -12,7 +12,7 @@ loop-group-preserved c = let ws : List ℕ = slots_items c.args.closed.now.words
     let is : word ws g ≡ c.word-word.result = ap (λ (z : ℕ). get_or ws z 0) (sym c.group_spot.ensures)
     ∙ read ws c.group_spot.result c.word-word.result c.word-word.ensures in
     let small = inv.small.0 in let small' = inv.small.1 in let range = c.word-word.type_inv in record {
-      granted_is = (λ j. inv.granted_is j + sym is j % one_waiting) ∙ ap (sum_to (λ g. granted (word ws g))) next;
-      waiting_is = (λ j. inv.waiting_is j + sym is j / one_waiting) ∙ ap (sum_to (λ g. waiting (word ws g))) next;
+      granted_is = (λ j. inv.granted_is j + sym is j % one_waiting) ∙ ap (sum_below (λ g. granted (word ws g))) next;
+      waiting_is = (λ j. inv.waiting_is j + sym is j / one_waiting) ∙ ap (sum_below (λ g. waiting (word ws g))) next;
       small = (omega arith, omega arith);
     }

@@ -1,6 +1,6 @@
 -- The latest record leaves the others for its caller's seat, which had none, and so has what it had before.
 use Rattle.std.proofs.Common.{ap, ◌∙◌}
-use Rattle.tag_core.specs.Views.{viewing, rest_of}
+use Rattle.step_ledger.specs.Views.{viewing, rest_of}
 use Rattle.tag_core.specs.Callers.{record_of}
 use Rattle.tag_core.specs.Lending.{caller_before, lent}
 use Rattle.tag_core.proofs.SeatMoves.{some_words, splits_off, joins_in}

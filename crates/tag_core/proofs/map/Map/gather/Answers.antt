@@ -1,7 +1,7 @@
 -- All are there exactly where none is missing; then the records gathered are those of the list.
 use Rattle.std.proofs.Common.{arith, ℕ, List, refl, sym, ◌∙◌, subst, ap}
 use Rattle.std.proofs.lemmas.Bool.{false≢true}
-use Rattle.step_ledger.specs.Views.{HasAll, IsLeastMissing}
+use Rattle.step_ledger.specs.Gather.{HasAll, IsLeastMissing}
 use Rattle.tag_core.specs.declared.record.Record.{Record}
 use Rattle.tag_core.specs.declared.caller.Caller.{Caller}
 use Rattle.tag_core.specs.Gathering.{numbers, numbers_of}

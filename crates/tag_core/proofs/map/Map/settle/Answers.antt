@@ -1,6 +1,6 @@
 -- None is missing in what comes of the test.
 use Rattle.std.proofs.Common.{ℕ, List, refl, sym, ap, subst}
-use Rattle.step_ledger.specs.Views.{HasAll}
+use Rattle.step_ledger.specs.Gather.{HasAll}
 use Rattle.tag_core.specs.declared.caller.Caller.{Caller}
 use Rattle.tag_core.specs.Gathering.{numbers_of}
 use Rattle.tag_core.proofs.map.Map.settle.Goals as goal

@@ -1,8 +1,8 @@
 -- The caller's record leaves its seat by a split, and the seat keeps its number and slots.
 use Rattle.std.proofs.Common.{ℕ, ◌<◌, [], sym, subst}
 use Rattle.atomic_table.specs.Table.{Splits}
+use Rattle.step_ledger.specs.Views.{first_view, other_views}
 use Rattle.tag_core.specs.declared.shape.Shape.{Shape}
-use Rattle.tag_core.specs.Views.{first_view, other_views}
 use Rattle.tag_core.specs.Rule.{Shown}
 use Rattle.tag_core.specs.Callers.{record_of}
 use Rattle.tag_core.proofs.Passing.{hands_first}

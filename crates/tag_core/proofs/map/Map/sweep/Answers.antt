@@ -3,6 +3,7 @@
 use Rattle.std.proofs.Common.{arith, ◌≡◌, ℕ, ◌+◌, ◌-◌, ◌%◌, ◌^◌, ◌<◌, replicate, get_or, bit_or, refl, sym, ap, ◌∙◌, subst}
 use mathlib.Core.Option.{none}
 use Rattle.atomic_table.specs.Table.{step, Allows}
+use Rattle.step_ledger.specs.Views.{own_view}
 use Rattle.tag_layout.specs.Layout.{words}
 use Rattle.tag_core.specs.declared.step.Step.TheVariants.{Word}
 use Rattle.tag_core.specs.declared.word_step.WordStep.TheVariants.{Swap, Spill}
@@ -17,9 +18,8 @@ use Rattle.tag_core.proofs.Allowed.{swap_allowed, spill_allowed}
 use Rattle.tag_core.proofs.Asking.{narrow, in_words, asked, left, after, recorded, slots, plus_none, shows}
 use Rattle.std.proofs.Common.{◌∷◌}
 use Rattle.atomic_table.specs.Table.{Me}
-use Rattle.tag_core.specs.declared.record.View.{View}
 use Rattle.tag_core.specs.declared.caller.Caller.{Caller}
-use Rattle.tag_core.specs.Views.{own_view, steps_of}
+use Rattle.tag_core.specs.Views.{steps_of, View}
 use Rattle.tag_core.specs.Rule.{Shown}
 use Rattle.tag_core.proofs.Holdings.{adds_keeps, adds_two_keeps}
 use Rattle.tag_core.proofs.map.Map.sweep.Goals as goal

@@ -3,11 +3,11 @@
 use Rattle.std.proofs.Common.{arith, ◌≡◌, ℕ, ◌+◌, ◌<◌, ◌≤◌, suc, List, [], ◌∷◌, ◌++◌, length, sym, ap, ◌∙◌, subst}
 use Rattle.atomic_table.specs.Table.{Me, Joins}
 use Rattle.atomic_table.specs.declared.shared.Seat.{Seat}
+use Rattle.step_ledger.specs.Views.{both_views, viewing}
+use Rattle.tag_core.specs.Views.{View}
 use Rattle.tag_core.specs.declared.record.Record.{Record}
-use Rattle.tag_core.specs.declared.record.View.{View}
 use Rattle.tag_core.specs.declared.shape.Shape.{Shape}
 use Rattle.tag_core.specs.Sizes.{total_of, size_of}
-use Rattle.tag_core.specs.Views.{both_views, viewing}
 use Rattle.tag_core.specs.Rule.{Shown}
 use Rattle.tag_core.specs.Callers.{record_of}
 use Rattle.tag_core.specs.Gathering.{gathered}

@@ -4,7 +4,7 @@ use Rattle.tag_model.specs.declared.totals.Totals.{Totals}
 use Rattle.tag_core.specs.declared.shape.Shape.{Shape}
 use Rattle.tag_core.specs.Gathering.{gathered}
 use Rattle.tag_core.specs.Settling.{HasRecords, AreSettled}
-use Rattle.tag_core.proofs.Numbers.{numbered}
+use Rattle.step_ledger.proofs.Whole.{has_record}
 use Rattle.tag_core.proofs.SeatMoves.{some_words}
 use Rattle.tag_core.proofs.Settlings.{settle_allowed, totals_same}
 use Rattle.tag_core.proofs.together.Gathering.settle.Given as given
@@ -25,7 +25,7 @@ settled_here : {g : given.Over} (c : After-load g)
 settled_here {g} c =
     let R = g.row.R.Denot in let rs = gathered c.args.self in let first = c.requires.first in
     subst (λ (z : Shape). HasRecords z.callers rs → (totals : Totals) × AreSettled z rs totals)
-    first.2 (c.load.ensures.2.1 first.0 first.1) (λ n l. numbered rs n (c.requires.all n l))
+    first.2 (c.load.ensures.2.1 first.0 first.1) (λ n l. has_record (λ r. r.number) rs n (c.requires.all n l))
 
 -- what was given back and is held was won
 enough : {g : given.Over} (c : After-load g) → c.args.self.back + c.args.self.held ≤ c.args.self.won

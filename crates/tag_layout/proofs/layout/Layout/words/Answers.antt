@@ -1,8 +1,8 @@
 -- The words use all tags.
 use Rattle.std.proofs.Common.{◌+◌, ◌-◌, ◌/◌, ◌^◌, arith, ap, ◌∙◌}
+use Rattle.sums.specs.Below.{sum_below}
 use Rattle.tag_layout.specs.Layout.{words, word_depth}
 use Rattle.std.proofs.lemmas.Nat.{one_shl}
-use Rattle.tag_layout.specs.Sums.{sum_below}
 use Rattle.tag_layout.proofs.PlaceFacts.{word_depths-sum}
 use Rattle.tag_layout.proofs.layout.Layout.words.Goals as goal
 

@@ -1,9 +1,10 @@
 -- Sums of lists are sums over tags and callers, and a sound world balances.
 use Rattle.std.proofs.Common.{get_or, sum, arith, ap, ◌∙◌, subst}
-use Rattle.tag_layout.specs.Sums.{sum_below}
+use Rattle.sums.specs.Below.{sum_below}
+use Rattle.sums.proofs.Laws.{sum-below}
 use Rattle.tag_model.specs.Totals.{AreTotals}
 use Rattle.tag_model.specs.Kept.{KeptWorld, callers_of, world_of, IsSound}
-use Rattle.tag_model.proofs.KeptFacts.{sum-below, got-fits, back-fits}
+use Rattle.tag_model.proofs.KeptFacts.{got-fits, back-fits}
 use Rattle.tag_model.proofs.world.World.totals.Goals as goal
 
 pub sum_of-requires : goal.sum_of-requires

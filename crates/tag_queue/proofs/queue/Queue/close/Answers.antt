@@ -1,6 +1,7 @@
 -- All callers, tellers and waiters were gathered, so the totals of the three parts are those of the agents.
 use Rattle.std.proofs.Common.{ℕ, List, sym, ap, ◌∙◌, subst}
-use Rattle.step_ledger.specs.Views.{HasAll, numbers}
+use Rattle.step_ledger.specs.Records.{numbers}
+use Rattle.step_ledger.specs.Gather.{HasAll}
 use Rattle.step_ledger.specs.declared.record.Record as ledger
 use Rattle.tag_core.specs.declared.record.Record.{Record}
 use Rattle.tag_core.specs.Gathering as tags

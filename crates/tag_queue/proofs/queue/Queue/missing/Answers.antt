@@ -1,7 +1,7 @@
 -- The queue's number of agents is that of its map.
 use Rattle.std.proofs.Common.{ℕ, subst}
 use Rattle.std.specs.Prelude.{MatchOption}
-use Rattle.step_ledger.specs.Views.{HasAll, IsLeastMissing}
+use Rattle.step_ledger.specs.Gather.{HasAll, IsLeastMissing}
 use Rattle.tag_queue.specs.Agents.{numbers_of}
 use Rattle.tag_queue.proofs.queue.Queue.missing.Goals as goal
 

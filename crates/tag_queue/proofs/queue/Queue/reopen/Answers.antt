@@ -1,6 +1,6 @@
 -- The callers keep their order and numbers, on the next map or their own, so each fits the shell of its agent again.
 use Rattle.std.proofs.Common.{List, map, refl, sym, ◌∙◌, subst}
-use Rattle.step_ledger.specs.Views.{HasAll}
+use Rattle.step_ledger.specs.Gather.{HasAll}
 use Rattle.tag_core.specs.declared.caller.Caller.{Caller}
 use Rattle.tag_core.specs.Callers.{IsCallerOf, record_of}
 use Rattle.tag_core.specs.Gathering as tags

@@ -2,8 +2,8 @@
 use Rattle.std.proofs.Common.{◌≡◌, ℕ, ◌+◌, ◌*◌, ◌^◌, ◌<◌, ◌≤◌, min, bit_and, count_ones, slice_index, sym, ap, subst, ◌∙◌, arith}
 use Rattle.std.specs.Int.{bit_at, bit_not, w64}
 use Rattle.std.proofs.lemmas.Nat.{ones-le, and_le_l, and_le_r}
+use Rattle.sums.specs.Below.{count_below}
 use Rattle.tag_layout.specs.Layout.{Layout, words, word_bits, word_depth}
-use Rattle.tag_model.specs.Totals.{count_below}
 use Rattle.tag_sets.proofs.Tallies.{narrow_word, all_words}
 use Rattle.tag_script.specs.PlainCallers.{plain_world_of}
 use Rattle.tag_script.specs.PlainWorld.{PlainWorld, is_held, is_aside, held_in, aside_in}

@@ -2,7 +2,7 @@
 use Rattle.std.proofs.Common.{◌≡◌, ◌*◌, ◌%◌, ◌^◌, ◌<◌, ◌≤◌, ap, ◌∙◌, arith}
 use Rattle.std.proofs.Math.Nat.{pow-le-pow_right}
 use Rattle.std.proofs.lemmas.Nat.{one_shl}
-use Rattle.tag_layout.specs.Sums.{sum_below}
+use Rattle.sums.specs.Below.{sum_below}
 use Rattle.tag_script.specs.Dump.{bit_value}
 use Rattle.tag_script.specs.PlainCallers.{plain_world_of}
 use Rattle.tag_script.proofs.DumpFacts.{bits-below}

@@ -1,6 +1,6 @@
 -- The byte is the sum of the values of the bits so far.
 use Rattle.std.proofs.Common.{◌≡◌}
-use Rattle.tag_layout.specs.Sums.{sum_below}
+use Rattle.sums.specs.Below.{sum_below}
 use Rattle.tag_script.specs.Dump.{bit_value}
 use Rattle.tag_script.specs.PlainCallers.{plain_world_of}
 use Rattle.tag_script.proofs.plain_caller.PlainCaller.held_byte.Given as goal

@@ -2,7 +2,7 @@
 -- make hands with the untouched reserved agents again.
 use Rattle.std.proofs.Common.{arith, ◌≡◌, ℕ, ◌-◌, List, All, length, sym, ap, ◌∙◌, subst}
 use Rattle.std.proofs.lemmas.List.{length-map}
-use Rattle.step_ledger.specs.Views.{HasAll}
+use Rattle.step_ledger.specs.Gather.{HasAll}
 use Rattle.tag_layout.specs.Layout.{Layout}
 use Rattle.tag_queue.specs.declared.agent.Agent.{Agent}
 use Rattle.tag_queue.specs.declared.queue.Queue.{Queue}

@@ -1,9 +1,10 @@
 -- Each turn looks at one word, marks the bits of its busy tags and adds their number.
 use Rattle.std.proofs.Common.{arith, ◌≡◌, ℕ, ◌+◌, ◌*◌, ◌<◌, [], ◌∷◌, ◌++◌, min, nat_eq, bit_and, refl, sym, ap, ◌∙◌, subst}
 use Rattle.std.specs.Int.{bit_at, bit_not, w64}
+use Rattle.sums.specs.Below.{count_below}
+use Rattle.sums.proofs.Laws.{count_below-le}
 use Rattle.tag_layout.specs.Layout.{Layout, word_bits}
 use Rattle.tag_layout.proofs.PlaceFacts.{word_depth-pos, word_of-below}
-use Rattle.tag_model.specs.Totals.{count_below}
 use Rattle.tag_queue.specs.Agents as queue
 use Rattle.tag_sets.specs.Bits.{Marks}
 use Rattle.tag_sets.specs.Busy.{ListsSet}
@@ -12,7 +13,7 @@ use Rattle.tag_sets.specs.Looks.{FindsHeld, is_busy_in}
 use Rattle.tag_sets.proofs.Around.{starts, goes_on, found_holds}
 use Rattle.tag_sets.proofs.Marking.{marks-none}
 use Rattle.tag_sets.proofs.Sizes.{small_set, held_low}
-use Rattle.tag_sets.proofs.Tallies.{counted, count_le, none_yet, marks_word, held_word, all_words}
+use Rattle.tag_sets.proofs.Tallies.{counted, none_yet, marks_word, held_word, all_words}
 use Rattle.tag_sets.proofs.tags.Tags.list_set.Goals as goal
 
 pub loop-word-init : goal.loop-word-init
@@ -98,6 +99,6 @@ returns-clause-lists g c =
 pub returns-clause-few : goal.returns-clause-few
 returns-clause-few g c =
     let l = c.layout-layout.result in let inv = c.loop-word.invariant.found in let so = inv.2 in
-    let le = count_le (is_busy_in l inv.0) (min (c.loop-word.word * word_bits l) l.depth) in
+    let le = count_below-le (is_busy_in l inv.0) (min (c.loop-word.word * word_bits l) l.depth) in
     let small = small_set c.args.self.now c.args.kind in
     let same = ap (λ (s : Layout). s.depth) c.layout-layout.ensures in omega arith

@@ -1,6 +1,6 @@
 -- Each cause is checked once those before it are ruled out; if none holds, all hands are present and no tag is in use.
 use Rattle.std.proofs.Common.{arith, ◌≡◌, List, sym, ap, ◌∙◌, inl, inr}
-use Rattle.step_ledger.specs.Views.{HasAll}
+use Rattle.step_ledger.specs.Gather.{HasAll}
 use Rattle.tag_queue.proofs.Presence.{all_there, is_missing}
 use Rattle.tag_sets.specs.declared.hand.Hand.{Hand}
 use Rattle.tag_sets.specs.declared.tags.Tags.{Tags}

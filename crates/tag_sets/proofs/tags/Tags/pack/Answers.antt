@@ -5,6 +5,7 @@ use Rattle.std.specs.Int.{bit_at, bit_not, w64}
 use Rattle.std.proofs.lemmas.Bool.{lt-ltb, le-ltb}
 use mathlib.Core.Logic.{dite}
 use native.Mathlib.Decide.{dec_lt}
+use Rattle.sums.specs.Below.{one_if}
 use Rattle.tag_layout.specs.Layout.{Layout, word_bits, tag_at}
 use Rattle.tag_layout.proofs.PlaceFacts.{word_depth-pos}
 use Rattle.tag_core.proofs.Passing.{zeros}
@@ -13,7 +14,7 @@ use Rattle.tag_sets.specs.Dumps.{Packs}
 use Rattle.tag_sets.specs.Looks.{is_busy_in}
 use Rattle.tag_sets.proofs.Around.{starts, goes_on}
 use Rattle.tag_sets.proofs.Listing.{no_bit}
-use Rattle.tag_sets.proofs.Marking.{one_if, marks-none}
+use Rattle.tag_sets.proofs.Marking.{marks-none}
 use Rattle.tag_sets.proofs.Tallies.{marks_word, all_words}
 use Rattle.tag_sets.proofs.tags.Tags.pack.Goals as goal
 

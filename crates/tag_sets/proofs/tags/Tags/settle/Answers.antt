@@ -1,7 +1,7 @@
 -- Each set returns its agents unchanged and in order, so the hands that they make are those passed in.
 use Rattle.std.proofs.Common.{arith, ◌≡◌, ℕ, List, All, length, sym, ap, ◌∙◌, subst}
 use Rattle.std.proofs.lemmas.List.{length-map}
-use Rattle.step_ledger.specs.Views.{HasAll}
+use Rattle.step_ledger.specs.Gather.{HasAll}
 use Rattle.tag_queue.specs.declared.agent.Agent.{Agent}
 use Rattle.tag_queue.specs.declared.queue.Queue.{Queue}
 use Rattle.tag_queue.specs.Agents as queue

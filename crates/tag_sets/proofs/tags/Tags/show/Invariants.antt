@@ -1,7 +1,7 @@
 -- The sums are those of the words looked at so far.
 use Rattle.std.proofs.Common.{◌≡◌, ℕ, ◌*◌, List, min}
+use Rattle.sums.specs.Below.{count_below}
 use Rattle.tag_layout.specs.Layout.{word_bits}
-use Rattle.tag_model.specs.Totals.{count_below}
 use Rattle.tag_sets.specs.Hands.{IsHandOf, layout_of}
 use Rattle.tag_sets.specs.Looks.{is_busy_in, is_aside_in}
 use Rattle.tag_sets.proofs.Around.{SoFar}

@@ -1,6 +1,6 @@
 -- The teller's own count stays within the cap, so the step may happen.
 use Rattle.std.proofs.Common.{arith, ◌^◌, ◌+◌, ◌≤◌, sym, ap, ◌∙◌, subst}
-use Rattle.step_ledger.specs.Views.{steps_of, push}
+use Rattle.step_ledger.specs.Records.{steps_of, push}
 use Rattle.step_ledger.specs.History.{total}
 use Rattle.wake_book.specs.declared.book.Limits.{Limits}
 use Rattle.wake_book.specs.declared.steps.BookStep.TheVariants.{Add}

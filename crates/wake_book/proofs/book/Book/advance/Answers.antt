@@ -1,7 +1,7 @@
 -- The teller has just found the interval's end counted, so the exchange may happen; it wins exactly if it found the
 -- start.
 use Rattle.std.proofs.Common.{arith, refl, ℕ, ◌^◌, ◌-◌, ◌≤◌, ◌∷◌, sym, ap, ◌∙◌, subst}
-use Rattle.step_ledger.specs.Views.{steps_of, push}
+use Rattle.step_ledger.specs.Records.{steps_of, push}
 use Rattle.step_ledger.specs.History.{total}
 use Rattle.wake_book.specs.declared.book.Limits.{Limits}
 use Rattle.wake_book.specs.declared.steps.BookStep.TheVariants.{Advance}

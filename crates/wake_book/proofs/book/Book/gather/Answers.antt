@@ -1,8 +1,9 @@
 -- All tellers are present exactly if no number is missing; then the records gathered are those of the list.
 use Rattle.std.proofs.Common.{arith, ℕ, List, refl, sym, ◌∙◌, subst, ap}
 use Rattle.std.proofs.lemmas.Bool.{false≢true}
+use Rattle.step_ledger.specs.Records.{numbers}
+use Rattle.step_ledger.specs.Gather.{HasAll, IsLeastMissing}
 use Rattle.step_ledger.specs.declared.record.Record.{Record}
-use Rattle.step_ledger.specs.Views.{HasAll, IsLeastMissing, numbers}
 use Rattle.step_ledger.proofs.Turned.{numbers_map}
 use Rattle.wake_book.specs.declared.book.Teller.{Teller}
 use Rattle.wake_book.specs.declared.steps.BookStep.{BookStep}

@@ -1,6 +1,7 @@
 -- The tellers made so far have the numbers below the loop's; the seat has the records of the others.
 use Rattle.std.proofs.Common.{◌≡◌, ◌-◌, [], All}
-use Rattle.step_ledger.specs.Views.{viewing, fresh}
+use Rattle.step_ledger.specs.Records.{fresh}
+use Rattle.step_ledger.specs.Views.{viewing}
 use Rattle.wake_book.specs.Book.{IsTellerOf, records_of}
 use Rattle.wake_book.proofs.book.Book.hand_out.Given as goal
 

@@ -1,8 +1,8 @@
 -- The waiter is in no group, so it may raise the active count, and then it may enter the group of its wait index.
 use Rattle.std.proofs.Common.{arith, ◌≡◌, ℕ, ◌+◌, ◌%◌, ◌^◌, length, ◌∷◌, [], Some, refl, sym, ap, ◌∙◌}
 use Rattle.atomic_table.specs.Table.{Me}
-use Rattle.step_ledger.specs.declared.record.View.{View}
-use Rattle.step_ledger.specs.Views.{own_view, steps_of, with_step, Stepped}
+use Rattle.step_ledger.specs.Records.{Records, steps_of, with_step, Stepped}
+use Rattle.step_ledger.specs.Views.{own_view}
 use Rattle.wake_book.specs.declared.groups.Waiter.{Waiter}
 use Rattle.wake_book.specs.declared.steps.GroupStep.{GroupStep}
 use Rattle.wake_book.specs.declared.steps.GroupStep.TheVariants.{Raise, Enter}
@@ -14,12 +14,12 @@ use Rattle.wake_book.proofs.GroupKeeps as keeps
 use Rattle.wake_book.proofs.Waiters.{Promises, made, made_steps, after, few}
 use Rattle.wake_book.proofs.groups.Groups.enter.Goals as goal
 
-module _ (w : Waiter) (active : ℕ) (me : Me (Unit {0}) (View GroupStep))
+module _ (w : Waiter) (active : ℕ) (me : Me (Unit {0}) (Records GroupStep))
     (did : Stepped (Raise active) w.seat.me me) where
   raised_is : me ≡ (own_view (with_step (Raise active) (record_of w)), [])
   raised_is = made (record_of w) w.seat.me me w.knows (Raise active) did
 
-  module _ (found : ℕ) (me' : Me (Unit {0}) (View GroupStep)) (next : Stepped (Enter w.next found) me me') where
+  module _ (found : ℕ) (me' : Me (Unit {0}) (Records GroupStep)) (next : Stepped (Enter w.next found) me me') where
     entered_steps : steps_of me'.0 ≡ Enter w.next found ∷ Raise active ∷ steps_of w.seat.me.0
     entered_steps = made_steps (with_step (Raise active) (record_of w)) me me' raised_is (Enter w.next found) next
 

@@ -3,8 +3,7 @@
 use Rattle.std.proofs.Common.{arith, ◌≡◌, ℕ, eqb, ◌+◌, ◌-◌, ◌*◌, ◌^◌, ◌≤◌, ◌∷◌, ap, ◌∙◌}
 use prog.Atomic.{either}
 use Rattle.atomic_table.specs.Table.{Me}
-use Rattle.step_ledger.specs.declared.record.View.{View}
-use Rattle.step_ledger.specs.Views.{steps_of, Stepped}
+use Rattle.step_ledger.specs.Records.{Records, steps_of, Stepped}
 use Rattle.step_ledger.specs.History.{total}
 use Rattle.wake_book.specs.declared.groups.Waiter.{Waiter}
 use Rattle.wake_book.specs.declared.steps.GroupStep.{GroupStep}
@@ -21,7 +20,7 @@ use Rattle.wake_book.proofs.groups.Groups.grant.Goals as goal
 same_word : (found count : ℕ) → count ≤ waiting found → found - one_waiting * count + count ≡ moved_in found count
 same_word found count few_wait = omega arith
 
-module _ (w : Waiter) (g found count seen : ℕ) (me : Me (Unit {0}) (View GroupStep))
+module _ (w : Waiter) (g found count seen : ℕ) (me : Me (Unit {0}) (Records GroupStep))
     (did : Stepped (Grant g found count seen) w.seat.me me) where
   granted_steps : steps_of me.0 ≡ Grant g found count seen ∷ steps_of w.seat.me.0
   granted_steps = made_steps (record_of w) w.seat.me me w.knows (Grant g found count seen) did

@@ -2,8 +2,8 @@
 use Rattle.std.proofs.Common.{rules, arith, ◌≡◌, ℕ, ◌+◌, [], ◌∷◌, ◌++◌, All, sym, ap, ◌∙◌, subst}
 use mathlib.Core.List.{map-append}
 use Rattle.std.proofs.lemmas.List.Elements.{All-push}
-use Rattle.step_ledger.specs.Views.{fresh, fresh_record}
-use Rattle.step_ledger.proofs.Members.{fresh_longer}
+use Rattle.step_ledger.specs.Records.{fresh, fresh_record}
+use Rattle.step_ledger.proofs.Fresh.{from_longer}
 use Rattle.wake_book.specs.declared.groups.Waiter.{Waiter}
 use Rattle.wake_book.specs.declared.steps.GroupStep.{GroupStep}
 use Rattle.wake_book.specs.Groups.{IsWaiterOf, IsNew, record_of, records_of}
@@ -21,5 +21,5 @@ loop-number-preserved c = let inv = c.loop-number.invariant in let t = c.new_wai
       new = subst (All IsNew) (sym e) (All-push IsNew old t.result inv.new t.ensures.waiter.1);
       fresh_all = ap records_of e ∙ map-append record_of old (t.result ∷ [])
           ∙ (λ j. inv.fresh_all j ++ t.ensures.waiter.2 j ∷ [])
-          ∙ ap (λ (x : ℕ). fresh {T = GroupStep} 0 n ++ fresh_record x ∷ []) (sym z) ∙ fresh_longer 0 n;
+          ∙ ap (λ (x : ℕ). fresh {T = GroupStep} 0 n ++ fresh_record x ∷ []) (sym z) ∙ from_longer fresh_record 0 n;
     }

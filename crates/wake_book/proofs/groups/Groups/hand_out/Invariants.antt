@@ -1,6 +1,7 @@
 -- The waiters made so far have the numbers below the loop's and are in no group; the seat has the other records.
 use Rattle.std.proofs.Common.{◌≡◌, ◌-◌, [], All}
-use Rattle.step_ledger.specs.Views.{viewing, fresh}
+use Rattle.step_ledger.specs.Records.{fresh}
+use Rattle.step_ledger.specs.Views.{viewing}
 use Rattle.wake_book.specs.Groups.{IsWaiterOf, IsNew, records_of}
 use Rattle.wake_book.proofs.groups.Groups.hand_out.Given as goal
 

@@ -1,6 +1,6 @@
 -- A load may always happen, and if the waiter is in this group and the group has no grant, somebody waits there.
 use Rattle.std.proofs.Common.{arith, ℕ, ◌∷◌, sym, ap, ◌∙◌}
-use Rattle.step_ledger.specs.Views.{steps_of}
+use Rattle.step_ledger.specs.Records.{steps_of}
 use Rattle.wake_book.specs.declared.steps.GroupStep.TheVariants.{Look}
 use Rattle.wake_book.specs.WaitPlays.{looked_group}
 use Rattle.wake_book.specs.Stands.{stand_code}

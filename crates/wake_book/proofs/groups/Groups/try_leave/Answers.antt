@@ -2,7 +2,7 @@
 -- one is an idle, with the look before it.
 use Rattle.std.proofs.Common.{arith, ◌≡◌, ℕ, eqb, suc, ◌<◌, ◌∷◌, List, refl, sym, ap, ◌∙◌}
 use prog.Atomic.{either}
-use Rattle.step_ledger.specs.Views.{steps_of, with_step}
+use Rattle.step_ledger.specs.Records.{steps_of, with_step}
 use Rattle.wake_book.specs.declared.steps.GroupStep.{GroupStep}
 use Rattle.wake_book.specs.WaitPlays.{leaving}
 use Rattle.wake_book.specs.Stands.{stand_code}

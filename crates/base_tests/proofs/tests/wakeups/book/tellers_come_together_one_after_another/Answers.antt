@@ -1,8 +1,9 @@
 -- The book has two tellers, so the two numbers that the test checks are all.
 use Rattle.std.proofs.Common.{arith, ◌≡◌, ℕ, zero, suc, List, [], ◌∷◌, sym, ap, ◌∙◌, subst}
 use mathlib.Core.Option.{some}
+use Rattle.step_ledger.specs.Records.{numbers}
+use Rattle.step_ledger.specs.Gather.{HasAll}
 use Rattle.step_ledger.specs.declared.record.Record.{Record}
-use Rattle.step_ledger.specs.Views.{HasAll, numbers}
 use Rattle.wake_book.specs.declared.steps.BookStep.{BookStep}
 use Rattle.wake_book.specs.Book.{record_of}
 use Rattle.base_tests.proofs.tests.wakeups.book.tellers_come_together_one_after_another.Goals as goal

@@ -1,8 +1,9 @@
 -- The groups have two waiters, so the two numbers that the test checks are all.
 use Rattle.std.proofs.Common.{arith, ◌≡◌, ℕ, zero, suc, List, [], ◌∷◌, sym, ap, ◌∙◌, subst}
 use mathlib.Core.Option.{some}
+use Rattle.step_ledger.specs.Records.{numbers}
+use Rattle.step_ledger.specs.Gather.{HasAll}
 use Rattle.step_ledger.specs.declared.record.Record.{Record}
-use Rattle.step_ledger.specs.Views.{HasAll, numbers}
 use Rattle.wake_book.specs.declared.steps.GroupStep.{GroupStep}
 use Rattle.wake_book.specs.Groups.{record_of}
 use Rattle.base_tests.proofs.tests.wakeups.groups.waiters_come_together_one_after_another.Goals as goal

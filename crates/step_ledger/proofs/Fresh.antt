@@ -1,0 +1,62 @@
+-- The records of all members in one seat, in the order of their numbers, as a table opens with them.
+use Rattle.std.proofs.Common.{◌≡◌, ℕ, zero, suc, ◌+◌, ◌-◌, ◌<◌, List, [], ◌∷◌, ◌++◌, arith, refl, sym, ap, ◌∙◌, subst}
+use mathlib.Core.Option.{some, some-injective, some-ne-none}
+use lib.ListN.{get_elem?}
+use Rattle.step_ledger.specs.declared.record.View.{View}
+use Rattle.step_ledger.specs.Views.{viewing, records_from}
+use Rattle.step_ledger.proofs.Seats.{Standing}
+
+module _ {A : Type 0} (record_of : ℕ → A) where
+  from_at : (m c i : ℕ) (r : A) → get_elem? (records_from record_of c m) i ≡ some r
+      → (i < m) × (record_of (c + i) ≡ r)
+  from_at zero c i r e = absurd (some-ne-none r (sym e))
+  from_at (suc m) c zero r e = (
+    omega arith,
+    (let z : c + 0 ≡ c = omega arith in ap record_of z) ∙ some-injective (record_of c) r e,
+  )
+  from_at (suc m) c (suc i) r e = let w = from_at m (suc c) i r e in let l = w.0 in
+      (omega arith, (let z : c + suc i ≡ suc c + i = omega arith in ap record_of z) ∙ w.1)
+
+  at_from : (m c i : ℕ) → i < m → get_elem? (records_from record_of c m) i ≡ some (record_of (c + i))
+  at_from zero c i h = absurd (omega arith)
+  at_from (suc m) c zero h = let z : c ≡ c + 0 = omega arith in ap (λ (x : ℕ). some (record_of x)) z
+  at_from (suc m) c (suc i) h = at_from m (suc c) i (omega arith)
+      ∙ (let z : suc c + i ≡ c + suc i = omega arith in ap (λ (x : ℕ). some (record_of x)) z)
+
+  -- the first of those that are still there, and the rest
+  pub next_from : (c n : ℕ) → c < n
+      → records_from record_of c (n - c) ≡ record_of c ∷ records_from record_of (c + 1) (n - (c + 1))
+  next_from c n h = let d : ℕ = n - (c + 1) in let e : n - c ≡ suc d = omega arith in
+      let e' : suc c ≡ c + 1 = omega arith in
+      ap (records_from record_of c) e ∙ ap (λ (z : ℕ). record_of c ∷ records_from record_of z d) e'
+
+  -- one more behind them
+  pub from_longer : (c n : ℕ) → records_from record_of c n ++ record_of (c + n) ∷ [] ≡ records_from record_of c (n + 1)
+  from_longer c zero = let z : c + 0 ≡ c = omega arith in ap (λ (x : ℕ). record_of x ∷ []) z
+  from_longer c (suc n) = let z : c + suc n ≡ suc c + n = omega arith in let y : suc n + 1 ≡ suc (n + 1) = omega arith in
+      ap (λ (x : ℕ). record_of c ∷ (records_from record_of (suc c) n ++ record_of x ∷ [])) z
+      ∙ ap (λ (l : List A). record_of c ∷ l) (from_longer (suc c) n) ∙ ap (records_from record_of c) (sym y)
+
+  -- where the records stand in a table that opens
+  pub standing-fresh : (number : A → ℕ) (Known : A → Type 0) (n : ℕ) → ((c : ℕ) → number (record_of c) ≡ c)
+      → ((c : ℕ) → c < n → Known (record_of c)) → Standing number Known n (viewing (records_from record_of 0 n) ∷ [])
+  standing-fresh number Known n same known = record {
+    seat = λ c. 0;
+    position = λ c. c;
+    records = λ j v e i r e'. only_one j v e i r e';
+    each = λ c l. (
+      viewing (records_from record_of 0 n),
+      record_of c,
+      refl,
+      at_from n 0 c l ∙ (let z : 0 + c ≡ c = omega arith in ap (λ (x : ℕ). some (record_of x)) z),
+      same c,
+    );
+  }
+    where
+      only_one : (j : ℕ) (v : View A) → get_elem? (viewing (records_from record_of 0 n) ∷ []) j ≡ some v
+          → (i : ℕ) (r : A) → get_elem? v.records.value i ≡ some r → Known r × (0 ≡ j) × (number r ≡ i)
+      only_one zero v e i r e' =
+          let w = from_at n 0 i r (ap (λ (z : View A). get_elem? z.records.value i) (some-injective _ v e) ∙ e') in
+          let l = w.0 in let z : 0 + i ≡ i = omega arith in
+          (subst Known w.1 (known (0 + i) (omega arith)), refl, ap number (sym w.1) ∙ same (0 + i) ∙ z)
+      only_one (suc j) v e i r e' = absurd (some-ne-none v (sym e))
