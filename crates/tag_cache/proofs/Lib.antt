@@ -12,7 +12,6 @@ pub mod Answering
 pub mod Cautious
 pub mod Waiting
 pub mod Shifting
-pub mod Ordinary
 pub mod Crossing
 pub mod Steady
 pub mod Standing

@@ -1,13 +1,15 @@
 -- The tags of a mask as a mask of another window.
 use Rattle.std.proofs.Common.{arith, ◌≡◌, ◌↔◌, ℕ, ◌+◌, ◌-◌, ◌*◌, ◌/◌, ◌%◌, ◌^◌, ◌<◌, ◌≤◌, sym, ap, ◌∙◌}
-use Rattle.std.specs.Prelude.{bit_and}
+use Rattle.std.specs.Prelude.{All, bit_and}
 use Rattle.std.specs.Int.{bit_at, bit_not, w64}
+use Rattle.std.proofs.lemmas.Nat.{and_le_l}
 use Rattle.std.proofs.lemmas.Nat.Bits.{bit_at-lt, bit_at_and, bit_at_not}
-use Rattle.tag_queue.specs.Masks.{mask_bit}
+use Rattle.tag_queue.specs.Masks.{mask_bit, tags_in}
+use Rattle.tag_queue.proofs.MaskHolds.{all_in, each_in}
 use Rattle.tag_queue.proofs.MaskParts.{moved_up, moved_down}
 use Rattle.tag_queue.proofs.RunTags.{place_one, bit_from}
 use Rattle.tag_cache.specs.Windows.{IsIn}
-use Rattle.tag_cache.proofs.Windows.{bit_low, below_end, not_set}
+use Rattle.tag_cache.proofs.Windows.{bit_low, below_end, emptied, none_in, not_set}
 
 module _ (start first mask : ℕ) (fits : mask < 2 ^ 64) (tag : ℕ) where
   at : start ≤ tag → start + (tag - start) ≡ tag
@@ -57,3 +59,20 @@ module _ (first mask other : ℕ) (fits : mask < 2 ^ 64) (narrow : other < 2 ^ 6
   stays_out i out = let both = bit_at_and mask (bit_not w64 other) (tag - first) in let one = i.1 in
       let flip = bit_at_not w64 other (tag - first) narrow (bit_low mask (tag - first) fits i.1) in
       let zero = not_set first other tag i.0 out in (i.0, omega arith)
+
+-- a window and a mask have no tag in common exactly if they have no bit in common there
+module _ (start own first mask inside : ℕ) (narrow : own < 2 ^ 64) (fits : mask < 2 ^ 64)
+    (is : (tag : ℕ) → IsIn start inside tag ↔ (IsIn first mask tag × ((start ≤ tag) × (tag < start + 64)))) where
+  in_neither : bit_and own inside ≡ 0 → All (λ tag. ¬ (IsIn start own tag)) (tags_in first mask)
+  in_neither zero = all_in first mask fits (λ tag. ¬ (IsIn start own tag)) (λ tag one i.
+      let there = (is tag).1 (place_one first mask tag one, (i.0, below_end start own tag narrow i)) in
+      let both = bit_at_and own inside (tag - start) in let set = i.1 in let set' = there.1 in
+      none_in start (bit_and own inside) tag zero (i.0, omega arith))
+
+  pub no_common : (bit_and own inside ≡ 0) ↔ All (λ tag. ¬ (IsIn start own tag)) (tags_in first mask)
+  no_common = (in_neither, λ none. emptied start (bit_and own inside) (let le = and_le_l own inside in omega arith)
+      (λ tag i. let both = bit_at_and own inside (tag - start) in let one = i.1 in
+      let l = bit_at-lt own (tag - start) in let m = bit_at-lt inside (tag - start) in
+      let there : IsIn start inside tag = (i.0, omega arith) in let w = ((is tag).0 there).0 in
+      each_in first mask fits (λ t. ¬ (IsIn start own t)) none tag (bit_from first mask tag w.0 ∙ w.1)
+      (i.0, omega arith)))

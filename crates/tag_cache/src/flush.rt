@@ -68,10 +68,7 @@ impl<R: Copy> Cache<R> {
             return NO_GRANTS;
         }
         self.kept = 0;
-        let Ok(grants) = tags.clear_mask_granted(&mut self.hand, self.first, kept) else {
-            unreachable!()
-        };
-        grants
+        tags.clear_mask_held(&mut self.hand, self.first, kept)
     }
 
     /// Gives all kept tags back, as `flush` does. Returns the hand, which holds what the user holds, and how many waiters

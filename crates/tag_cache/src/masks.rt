@@ -1,11 +1,9 @@
 //! Clears of the ordinary tags of a mask, as a batch get answers it.
-ghost use Rattle.std.specs.Prelude.{◌≡◌, ◌<◌, ◌≤◌, ◌↔◌, ◌^◌, ◌+◌, ℕ, count_ones, All, Contains, IfOk, IsOk, OnOk, OnErr, IsTrue};
-ghost use Rattle.std.specs.Int.{bit_at};
+ghost use Rattle.std.specs.Prelude.{◌≡◌, ◌<◌, ◌≤◌, ◌↔◌, ◌^◌, ℕ, count_ones, All, Contains, IfOk, IsOk, OnOk, OnErr};
 ghost use Rattle.wake_book.specs.Grants.{AreGrantsOf};
 ghost use Rattle.tag_queue.specs.Masks.{tags_in};
 ghost use Rattle.tag_sets.specs.Batches.{AreOrdinary};
-ghost use Rattle.tag_sets.specs.Hands.{group_steps, total_of};
-ghost use Rattle.tag_sets.specs.Gets.{IsOrdinaryTag};
+ghost use Rattle.tag_sets.specs.Hands.{group_steps};
 ghost use Rattle.tag_cache.specs.Windows.{IsIn};
 ghost use Rattle.tag_cache.specs.Batches.{ListGoes};
 ghost use Rattle.tag_cache.specs.Caches.{IsCacheOf, IsWithin, IsLent, Holds, hand_of};
@@ -15,7 +13,7 @@ ghost use Rattle.tag_cache.specs.Tallies.{Tallies};
 
 use crate::cache::{Cache, WINDOW};
 use crate::grants::both;
-use tag_sets::{Grants, Kind, TagFault, Tags};
+use tag_sets::{Grants, TagFault, Tags};
 
 impl<R: Copy> Cache<R> {
     /// Clears the ordinary tags of a mask that the user holds, in which bit `i` is tag `first + i` as in the answer of
@@ -84,51 +82,11 @@ impl<R: Copy> Cache<R> {
         ensures succeeds { IsOk result
             ↔ ((1 ≤ mask) × AreOrdinary tags.now (tags_in first mask) × All (Holds self.now) (tags_in first mask)) }
     {
-        if mask == 0 {
-            return Err(TagFault::BadCount);
-        }
-        if !are_ordinary(tags, first, mask) {
-            return Err(TagFault::NoSuchTag);
-        }
-        if !self.holds_each(tags, first, mask) {
+        tags.check_mask(&self.hand, first, mask)?;
+        if self.kept & self.inside(first, mask) != 0 {
             return Err(TagFault::NotHeld);
         }
         Ok(())
-    }
-
-    /// Returns whether the user holds each tag of a mask of ordinary tags.
-    fn holds_each(&self, tags: &Tags<R>, first: u32, mask: u64) -> bool
-        requires cache { IsCacheOf tags.now self.now }
-        requires ordinary { (1 ≤ mask) × AreOrdinary tags.now (tags_in first mask) }
-        ensures { IsTrue result ↔ All (Holds self.now) (tags_in first mask) }
-    {
-        for place in 0..WINDOW {
-            if !self.has_at(tags, first, mask, place) {
-                return false;
-            }
-        }
-        true
-    }
-
-    /// Returns whether the user holds the tag at a place of a mask, or the mask has none there.
-    fn has_at(&self, tags: &Tags<R>, first: u32, mask: u64, place: u32) -> bool
-        requires cache { IsCacheOf tags.now self.now }
-        requires place { place < 64 }
-        requires fits { first + place < 2 ^ 32 }
-        ensures { IsTrue result ↔ (bit_at mask place ≡ 1 → Holds self.now (first + place)) }
-    {
-        if mask >> place & 1 == 0 {
-            return true;
-        }
-        self.has(tags, first + place)
-    }
-
-    /// Returns whether the user holds a tag.
-    fn has(&self, tags: &Tags<R>, tag: u32) -> bool
-        requires { IsCacheOf tags.now self.now }
-        ensures { IsTrue result ↔ Holds self.now tag }
-    {
-        tags.find_held(&self.hand, tag).is_ok() && !self.keeps(tag)
     }
 
     /// Gives back the tags of a mask that the user holds, after all kept ones if somebody waits or none may be kept any
@@ -143,9 +101,7 @@ impl<R: Copy> Cache<R> {
     {
         let left = self.lent_outside(first, mask);
         let sooner = self.go_before(tags, left);
-        let Ok(later) = tags.clear_mask_granted(&mut self.hand, first, mask) else {
-            unreachable!()
-        };
+        let later = tags.clear_mask_held(&mut self.hand, first, mask);
         both(sooner, later)
     }
 }
@@ -171,36 +127,5 @@ impl<R> Cache<R> {
             return mask << (first - self.first);
         }
         mask >> (self.first - first)
-    }
-}
-
-/// Returns whether the tags of a mask are ordinary ones.
-fn are_ordinary<R: Copy>(tags: &Tags<R>, first: u32, mask: u64) -> bool
-    requires { 1 ≤ mask }
-    ensures { IsTrue result ↔ AreOrdinary tags.now (tags_in first mask) }
-{
-    if !is_tag(tags, first) {
-        return false;
-    }
-    if !is_tag(tags, first + mask.ilog2()) {
-        return false;
-    }
-    is_ordinary(tags, first + mask.trailing_zeros())
-}
-
-/// Returns whether a tag has this number.
-fn is_tag<R: Copy>(tags: &Tags<R>, tag: u32) -> bool
-    ensures { IsTrue result ↔ (tag < total_of tags.now) }
-{
-    tags.find(tag).is_ok()
-}
-
-/// Returns whether an ordinary tag has this number.
-fn is_ordinary<R: Copy>(tags: &Tags<R>, tag: u32) -> bool
-    ensures { IsTrue result ↔ IsOrdinaryTag tags.now tag }
-{
-    match tags.find(tag) {
-        Ok(Kind::Ordinary) => true,
-        _ => false,
     }
 }

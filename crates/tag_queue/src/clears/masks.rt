@@ -8,6 +8,7 @@ ghost use Rattle.tag_queue.specs.Agents.{layout_of, IsAgentOf, Holds, step_count
 ghost use Rattle.tag_queue.specs.Batches.{AreTags, GivesAll, GivesBack};
 ghost use Rattle.tag_queue.specs.Clears.{Counts};
 ghost use Rattle.tag_queue.specs.Masks.{tags_in, mask_bit, words_over, IsLastIn};
+ghost use Rattle.tag_queue.specs.Tallies.{back_of};
 
 use crate::agent::Agent;
 use crate::fault::QueueFault;
@@ -70,13 +71,31 @@ impl<R: Copy> Queue<R> {
             ≤ words_over (layout_of self.now) first (tags_in first mask) + 117 + step_count agent.old) }
         ensures err { OnErr result (agent.new ≡ agent.old) }
     {
-        let last = self.find_mask_held(agent, first, mask)?;
-        self.give_mask_back(agent, first, mask, last);
-        Ok(self.complete(agent, mask.count_ones()))
+        self.check_mask(agent, first, mask)?;
+        Ok(self.clear_mask_held(agent, first, mask))
     }
 
-    /// Checks that the mask is not empty and that the agent holds each of its tags, and returns the last of them.
-    fn find_mask_held(&self, agent: &Agent<R>, first: u32, mask: u64) -> Result<u32, QueueFault>
+    /// Clears the tags of a mask, each of which the agent holds, like `clear_mask_granted` but for the tests: it wakes
+    /// no sleeper.
+    pub fn clear_mask_held(&self, agent: &mut Agent<R>, first: u32, mask: u64) -> Grants
+        requires agent { IsAgentOf self.now agent.old }
+        requires some { 1 ≤ mask }
+        requires held { All (Holds agent.old) (tags_in first mask) }
+        ensures agent { IsAgentOf self.now agent.new }
+        ensures gives { GivesBack (layout_of self.now) (tags_in first mask) agent.old agent.new }
+        ensures back { back_of agent.new ≡ back_of agent.old + count_ones mask }
+        ensures counts { Counts self.now (count_ones mask) agent.old agent.new result.woken }
+        ensures grants { AreGrantsOf result (group_steps agent.old) (group_steps agent.new) }
+        ensures bound { step_count agent.new ≤ words_over (layout_of self.now) first (tags_in first mask) + 117 + step_count agent.old }
+    {
+        let last = first + mask.ilog2();
+        self.give_mask_back(agent, first, mask, last);
+        self.complete(agent, mask.count_ones())
+    }
+
+    /// Returns `Ok` if `clear_mask` would clear this mask, and otherwise its refusal. This makes no step. The refusals,
+    /// in order: `BadCount`, `NoSuchTag`, `NotHeld`.
+    pub fn check_mask(&self, agent: &Agent<R>, first: u32, mask: u64) -> Result<(), QueueFault>
         requires agent { IsAgentOf self.now agent.now }
 
         // The causes are checked in this order, each for the whole mask.
@@ -85,7 +104,6 @@ impl<R: Copy> Queue<R> {
         ensures not_held { (result ≡ Err QueueFault.NotHeld)
             ↔ (AreTags (layout_of self.now) (tags_in first mask) × ¬ (All (Holds agent.now) (tags_in first mask))) }
         ensures succeeds { IsOk result ↔ ((1 ≤ mask) × All (Holds agent.now) (tags_in first mask)) }
-        ensures last { IfOk result (λ last. IsLastIn first mask last) }
     {
         if mask == 0 {
             return Err(QueueFault::BadCount);
@@ -101,7 +119,7 @@ impl<R: Copy> Queue<R> {
         if !are_held(&self.map, &agent.caller, first, mask, last) {
             return Err(QueueFault::NotHeld);
         }
-        Ok(last)
+        Ok(())
     }
 
     /// Frees the held tags of a mask, and moves the hint to the last of them, unless it is round robin.

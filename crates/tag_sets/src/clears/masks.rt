@@ -66,6 +66,44 @@ impl<R: Copy> Tags<R> {
         ensures bound { OnOk result (step_count hand.new ≤ words_over self.now first (tags_in first mask) + 117 + step_count hand.old) }
         ensures err { OnErr result (hand.new ≡ hand.old) }
     {
+        self.check_mask(hand, first, mask)?;
+        Ok(self.clear_mask_held(hand, first, mask))
+    }
+
+    /// Clears the ordinary tags of a mask, each of which the hand holds, like `clear_mask_granted` but for the tests: it
+    /// wakes no sleeper.
+    pub fn clear_mask_held(&self, hand: &mut Hand<R>, first: u32, mask: u64) -> Grants
+        requires hand { IsHandOf self.now hand.old }
+        requires some { 1 ≤ mask }
+        requires ordinary { AreOrdinary self.now (tags_in first mask) }
+        requires held { All (Holds hand.old) (tags_in first mask) }
+        ensures hand { IsHandOf self.now hand.new }
+        ensures gives { GivesBack self.now (tags_in first mask) hand.old hand.new }
+        ensures back { back_of hand.new Ordinary ≡ back_of hand.old Ordinary + count_ones mask }
+        ensures counts { Counts self.now Ordinary (count_ones mask) hand.old hand.new result.woken }
+        ensures grants { AreGrantsOf result (group_steps hand.old) (group_steps hand.new) }
+        ensures bound { step_count hand.new ≤ words_over self.now first (tags_in first mask) + 117 + step_count hand.old }
+    {
+        let Some((first, mask)) = ordinary_mask(first, mask, self.reserved_count) else {
+            unreachable!()
+        };
+        self.ordinary
+            .clear_mask_held(&mut hand.ordinary, first, mask)
+    }
+
+    /// Returns `Ok` if `clear_mask` would clear this mask, and otherwise its refusal. This makes no step. The refusals,
+    /// in order: `BadCount`, `NoSuchTag`, `NotHeld`.
+    pub fn check_mask(&self, hand: &Hand<R>, first: u32, mask: u64) -> Result<(), TagFault>
+        requires hand { IsHandOf self.now hand.now }
+
+        // The causes are checked in this order, each for the whole mask.
+        ensures bad_count { (result ≡ Err TagFault.BadCount) ↔ (mask ≡ 0) }
+        ensures no_such_tag { (result ≡ Err TagFault.NoSuchTag) ↔ ¬ (AreOrdinary self.now (tags_in first mask)) }
+        ensures not_held { (result ≡ Err TagFault.NotHeld)
+            ↔ (AreOrdinary self.now (tags_in first mask) × ¬ (All (Holds hand.now) (tags_in first mask))) }
+        ensures succeeds { IsOk result
+            ↔ ((1 ≤ mask) × AreOrdinary self.now (tags_in first mask) × All (Holds hand.now) (tags_in first mask)) }
+    {
         if mask == 0 {
             return Err(TagFault::BadCount);
         }
@@ -73,7 +111,7 @@ impl<R: Copy> Tags<R> {
             return Err(TagFault::NoSuchTag);
         };
         self.ordinary
-            .clear_mask_granted(&mut hand.ordinary, first, mask)
+            .check_mask(&hand.ordinary, first, mask)
             .map_err(TagFault::from)
     }
 }

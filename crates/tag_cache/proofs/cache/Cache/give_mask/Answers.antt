@@ -1,10 +1,8 @@
 -- The kept tags go first if that is called for, and then the tags of the mask.
-use Rattle.std.proofs.Common.{refl}
-use Rattle.std.specs.Prelude.{Contains}
+use Rattle.std.proofs.Common.{ℕ, refl}
 use Rattle.tag_queue.specs.Masks.{tags_in}
-use Rattle.tag_sets.specs.Batches.{GivesBack}
 use Rattle.tag_sets.specs.Hands.{group_steps}
-use Rattle.tag_cache.proofs.Carrying.{own_after, less_still, not_ok, same_fields}
+use Rattle.tag_cache.proofs.Carrying.{own_after, same_fields}
 use Rattle.tag_cache.proofs.Giving.{list_few, mask_gives}
 use Rattle.tag_cache.proofs.Listing.{all_before, not_listed, list_goes}
 use Rattle.tag_cache.proofs.cache.Cache.give_mask.Goals as goal
@@ -12,54 +10,52 @@ use Rattle.tag_cache.proofs.cache.Cache.give_mask.Goals as goal
 pub go_before-sooner-requires-clause-left : goal.go_before-sooner-requires-clause-left
 go_before-sooner-requires-clause-left g c = λ other i. ((c.lent_outside-left.ensures other).0 i).0
 
+pub clear_mask_held-later-requires-clause-held : goal.clear_mask_held-later-requires-clause-held
+clear_mask_held-later-requires-clause-held g c = let held = all_before c.args.tags.now c.lent_outside-left.result
+    c.go_before-sooner.result.woken c.args.self.now c.go_before-sooner.new.self (tags_in c.args.first c.args.mask)
+    c.go_before-sooner.ensures.way c.requires.held in λ k d l. (held k d l).0
+
 pub invariant_of-self-clause-own : goal.invariant_of-self-clause-own
-invariant_of-self-clause-own g c = let mid = c.go_before-sooner.new.self in let e = c.clear_mask_granted.ensures in
+invariant_of-self-clause-own g c = let mid = c.go_before-sooner.new.self in let e = c.clear_mask_held-later.ensures in
     let list = tags_in c.args.first c.args.mask in
     let held = all_before c.args.tags.now c.lent_outside-left.result c.go_before-sooner.result.woken c.args.self.now mid
     list c.go_before-sooner.ensures.way c.requires.held in
-    own_after c.args.tags.now mid.first mid.kept mid.hand c.clear_mask_granted.new.hand
-    c.go_before-sooner.ensures.cache e.hand mid.own (λ other h i. less_still (Contains list) mid.hand
-    c.clear_mask_granted.new.hand c.clear_mask_granted.result
-    (GivesBack c.args.tags.now list mid.hand c.clear_mask_granted.new.hand) (λ x. x.less) e.gives e.err other
-    (λ inside. not_listed mid list held other inside i) h)
+    own_after c.args.tags.now mid.first mid.kept mid.hand c.clear_mask_held-later.new.hand
+    c.go_before-sooner.ensures.cache e.hand mid.own (λ other h i. (e.gives.less.kept other
+    (λ inside. not_listed mid list held other inside i) h).0)
 
 pub invariant_of-self-clause-loans : goal.invariant_of-self-clause-loans
-invariant_of-self-clause-loans g c = let mid = c.go_before-sooner.new.self in let e = c.clear_mask_granted.ensures in
-    let list = tags_in c.args.first c.args.mask in
-    own_after c.args.tags.now mid.first mid.lent mid.hand c.clear_mask_granted.new.hand
-    c.go_before-sooner.ensures.cache e.hand mid.loans (λ other h i. less_still (Contains list) mid.hand
-    c.clear_mask_granted.new.hand c.clear_mask_granted.result
-    (GivesBack c.args.tags.now list mid.hand c.clear_mask_granted.new.hand) (λ x. x.less) e.gives e.err other
-    (λ inside. ((c.lent_outside-left.ensures other).0 ((c.go_before-sooner.ensures.loans other).0 i)).1 inside) h)
-
-pub unreachable-requires : goal.unreachable-requires
-unreachable-requires g c = let mid = c.go_before-sooner.new.self in let list = tags_in c.args.first c.args.mask in
-    let held = all_before c.args.tags.now c.lent_outside-left.result c.go_before-sooner.result.woken c.args.self.now mid
-    list c.go_before-sooner.ensures.way c.requires.held in
-    not_ok c.clear_mask_granted.result c.in_default.field-0 c.in_default.is (c.clear_mask_granted.ensures.succeeds.1
-    (c.requires.mask.0, c.requires.mask.1, λ k d l. (held k d l).0))
+invariant_of-self-clause-loans g c = let mid = c.go_before-sooner.new.self in let e = c.clear_mask_held-later.ensures in
+    own_after c.args.tags.now mid.first mid.lent mid.hand c.clear_mask_held-later.new.hand
+    c.go_before-sooner.ensures.cache e.hand mid.loans (λ other h i. (e.gives.less.kept other
+    (λ inside. ((c.lent_outside-left.ensures other).0 ((c.go_before-sooner.ensures.loans other).0 i)).1 inside) h).0)
 
 pub both-requires-clause-few : goal.both-requires-clause-few
-both-requires-clause-few g c = let e = c.in-Ok.ensures in (
-  c.go_before-sooner.ensures.few,
-  list_few c.args.tags.now (tags_in c.args.first c.args.mask) c.in-Ok.later.woken c.go_before-sooner.new.self.hand
-      c.clear_mask_granted.new.hand (mask_gives c.args.tags.now c.args.first c.args.mask c.ranges.mask.fits
-      c.in-Ok.later.woken c.go_before-sooner.new.self.hand c.clear_mask_granted.new.hand e.gives e.back e.counts),
-)
+both-requires-clause-few g c = let e = c.clear_mask_held-later.ensures in
+    let mid = c.go_before-sooner.new.self.hand in let new = c.clear_mask_held-later.new.hand in
+    let later : ℕ = c.clear_mask_held-later.result.woken in (
+      c.go_before-sooner.ensures.few,
+      list_few c.args.tags.now (tags_in c.args.first c.args.mask) later mid new (mask_gives c.args.tags.now
+          c.args.first c.args.mask c.ranges.mask.fits later mid new e.gives e.back e.counts),
+    )
 
 pub both-requires-clause-sums : goal.both-requires-clause-sums
-both-requires-clause-sums g c = (c.go_before-sooner.ensures.grants.sum_is, c.in-Ok.ensures.grants.sum_is)
+both-requires-clause-sums g c = (
+  c.go_before-sooner.ensures.grants.sum_is,
+  c.clear_mask_held-later.ensures.grants.sum_is,
+)
 
 pub returns-clause-way : goal.returns-clause-way
-returns-clause-way g c = let mid = c.go_before-sooner.new.self in let e = c.in-Ok.ensures in
+returns-clause-way g c = let mid = c.go_before-sooner.new.self in let e = c.clear_mask_held-later.ensures in
+    let later : ℕ = c.clear_mask_held-later.result.woken in
     list_goes c.args.tags.now (tags_in c.args.first c.args.mask) c.lent_outside-left.result c.args.self.now
-    c.lent_outside-left.type_inv c.lent_outside-left.ensures c.go_before-sooner.result.woken
-    c.in-Ok.later.woken c.both.result.woken mid _ c.go_before-sooner.ensures.way
-    (mask_gives c.args.tags.now c.args.first c.args.mask c.ranges.mask.fits c.in-Ok.later.woken mid.hand
-    c.clear_mask_granted.new.hand e.gives e.back e.counts)
+    c.lent_outside-left.type_inv c.lent_outside-left.ensures c.go_before-sooner.result.woken later
+    c.both.result.woken mid _ c.go_before-sooner.ensures.way
+    (mask_gives c.args.tags.now c.args.first c.args.mask c.ranges.mask.fits later mid.hand
+    c.clear_mask_held-later.new.hand e.gives e.back e.counts)
     (same_fields mid _ refl refl refl refl refl) c.both.ensures.woken
 
 pub returns-clause-grants : goal.returns-clause-grants
 returns-clause-grants g c = c.both.ensures.grants (group_steps c.args.self.now.hand)
-    (group_steps c.go_before-sooner.new.self.hand) (group_steps c.clear_mask_granted.new.hand)
-    c.go_before-sooner.ensures.grants c.in-Ok.ensures.grants
+    (group_steps c.go_before-sooner.new.self.hand) (group_steps c.clear_mask_held-later.new.hand)
+    c.go_before-sooner.ensures.grants c.clear_mask_held-later.ensures.grants

@@ -4,7 +4,7 @@ use Rattle.tag_layout.specs.Layout.{Layout}
 use Rattle.tag_core.specs.Callers.{Holds}
 use Rattle.tag_queue.specs.Agents.{layout_of}
 use Rattle.tag_queue.proofs.MaskHolds.{is_last, some_tag, none_in_zero, held_below, not_tags, are_tags}
-use Rattle.tag_queue.proofs.queue.Queue.find_mask_held.Goals as goal
+use Rattle.tag_queue.proofs.queue.Queue.check_mask.Goals as goal
 
 pub returns-then-mask-eq0-clause-no_such_tag : goal.returns-then-mask-eq0-clause-no_such_tag
 returns-then-mask-eq0-clause-no_such_tag g c = (
@@ -94,7 +94,3 @@ returns-then-not-are_held-clause-not_held g c = let l = layout_of c.args.self.no
       ),
       λ n. cc,
     )
-
-pub returns-clause-last : goal.returns-clause-last
-returns-clause-last g c =
-    is_last c.args.first c.args.mask c.ilog2.result c.ilog2.ensures.power_le c.ilog2.ensures.next_power_gt
