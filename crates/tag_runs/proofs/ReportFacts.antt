@@ -8,7 +8,7 @@ use Rattle.loop_device.specs.declared.io.Log.{Log}
 use Rattle.loop_device.specs.declared.report.Report.{Report}
 use Rattle.loop_device.specs.declared.setup.Setup.{Setup as SetupAsked}
 use Rattle.loop_device.specs.Logs.{IsLogOf, IsLogFault}
-use Rattle.loop_device.specs.Playing.{IsPlayed}
+use Rattle.loop_device.specs.Playing.{IsPlayed, NamesLine}
 use Rattle.loop_device.specs.Setups.{IsLegal}
 use Rattle.tag_script.specs.declared.ending.Ending.TheVariants.{Done, Refused}
 use Rattle.tag_runs.specs.Reports.{Reports, faulty, played, log_fault_text, play_fault_text, report_text}
@@ -46,18 +46,20 @@ owes_report setup input before text log report outcome spelt is played_well refu
       played = played_well;
       setup_refused = subst (λ r. RefusesSetup setup r) is refuses;
       no_memory = λ e. cc;
+      names = tt;
     }))
 
 -- the line of a play's fault is its output
 pub owes_fault : (setup : SetupAsked) (input before text : List ℕ) (log : Log) (fault : PlayFault)
     (outcome : Result Report PlayFault) → IsLogOf input log → outcome ≡ Err fault → fault ≢ Memory
-    → RefusesSetup setup outcome
+    → RefusesSetup setup outcome → NamesLine log.ios.items fault
     → before ≡ [] → text ≡ before ++ play_fault_text fault → Reports setup input text Refused
-owes_fault setup input before text log fault outcome spelt is other refuses none text_is =
+owes_fault setup input before text log fault outcome spelt is other refuses names none text_is =
     let same : text ≡ play_fault_text fault = text_is ∙ ap (λ front. front ++ play_fault_text fault) none in
     subst (λ t. Reports setup input t Refused) (sym same)
     (played log (Err fault) spelt (record {
       played = tt;
       setup_refused = subst (λ r. RefusesSetup setup r) is refuses;
       no_memory = subst (λ r. r ≢ Err Memory) is (other_outcome fault outcome is other);
+      names = names;
     }))

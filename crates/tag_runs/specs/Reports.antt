@@ -1,5 +1,5 @@
 -- The output for a log: the line of its first fault, or the text of an outcome that a play of it may have.
-use Rattle.std.specs.Prelude.{◌≡◌, ◌≢◌, ◌↔◌, ℕ, Bool, ◌==◌, List, ◌++◌, length, count_by, Result, Ok, Err, IfOk, codes}
+use Rattle.std.specs.Prelude.{◌≡◌, ◌≢◌, ◌↔◌, ℕ, Bool, ◌==◌, List, ◌++◌, length, count_by, Result, Ok, Err, IfOk, IfErr, codes}
 use Rattle.loop_device.specs.declared.fault.LogCause.TheVariants as causes
 use Rattle.loop_device.specs.declared.fault.LogFault.{LogFault}
 use Rattle.loop_device.specs.declared.fault.PlayFault.{PlayFault}
@@ -13,7 +13,7 @@ use Rattle.loop_device.specs.declared.report.Report.{Report}
 use Rattle.loop_device.specs.declared.setup.Setup.{Setup as SetupAsked}
 use Rattle.loop_device.specs.LogFaults.{number_of_cause}
 use Rattle.loop_device.specs.Logs.{IsLogOf, IsLogFault}
-use Rattle.loop_device.specs.Playing.{IsPlayed}
+use Rattle.loop_device.specs.Playing.{IsPlayed, NamesLine}
 use Rattle.loop_device.specs.Setups.{IsLegal}
 use Rattle.tag_model.specs.declared.totals.Totals.{Totals}
 use Rattle.tag_script.specs.declared.ending.Ending.{Ending}
@@ -72,11 +72,12 @@ play_fault_text (Twice line) = field (codes "play refused ") 4 ++ line_of (codes
 play_fault_text Spurious = line_of (codes "play refused ") 5
 
 -- the outcomes that a play may have: a report on all I/O lines, a refused setup exactly if it is not legal, or another
--- fault except running out of memory
+-- fault except running out of memory, which names no line that is not one of them
 pub record MayComeTo (setup : SetupAsked) (ios : List Io) (outcome : Result Report PlayFault) : Type 0 where
   pub played : IfOk outcome (IsPlayed ios)
   pub setup_refused : (outcome ≡ Err Setup) ↔ ¬ (IsLegal setup)
   pub no_memory : outcome ≢ Err Memory
+  pub names : IfErr outcome (NamesLine ios)
 
 -- the text of an outcome
 abbrev pub outcome_text : Log → Result Report PlayFault → List ℕ

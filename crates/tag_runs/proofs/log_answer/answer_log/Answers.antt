@@ -28,4 +28,5 @@ returns g c =
     let log = c.in-Ok.log in let fault = c.in-Err-play.fault in let before = c.new-text.result.items in
     let text_is : c.push_play_fault.new.text.items ≡ before ++ play_fault_text fault = search rules in
     owes_fault c.args.setup.now c.args.input.now before c.push_play_fault.new.text.items log fault
-    c.play.result c.in-Ok.ensures.log c.in-Err-play.is (search rules) c.play.ensures.setup c.new-text.ensures.items text_is
+    c.play.result c.in-Ok.ensures.log c.in-Err-play.is (search rules) c.play.ensures.setup c.in-Err-play.ensures.line
+    c.new-text.ensures.items text_is
