@@ -70,9 +70,12 @@ module _ (start own first mask inside : ℕ) (narrow : own < 2 ^ 64) (fits : mas
       none_in start (bit_and own inside) tag zero (i.0, omega arith))
 
   pub no_common : (bit_and own inside ≡ 0) ↔ All (λ tag. ¬ (IsIn start own tag)) (tags_in first mask)
-  no_common = (in_neither, λ none. emptied start (bit_and own inside) (let le = and_le_l own inside in omega arith)
-      (λ tag i. let both = bit_at_and own inside (tag - start) in let one = i.1 in
-      let l = bit_at-lt own (tag - start) in let m = bit_at-lt inside (tag - start) in
-      let there : IsIn start inside tag = (i.0, omega arith) in let w = ((is tag).0 there).0 in
-      each_in first mask fits (λ t. ¬ (IsIn start own t)) none tag (bit_from first mask tag w.0 ∙ w.1)
-      (i.0, omega arith)))
+  no_common = (
+    in_neither,
+    λ none. emptied start (bit_and own inside) (let le = and_le_l own inside in omega arith)
+        (λ tag i. let both = bit_at_and own inside (tag - start) in let one = i.1 in
+        let l = bit_at-lt own (tag - start) in let m = bit_at-lt inside (tag - start) in
+        let there : IsIn start inside tag = (i.0, omega arith) in let w = ((is tag).0 there).0 in
+        each_in first mask fits (λ t. ¬ (IsIn start own t)) none tag (bit_from first mask tag w.0 ∙ w.1)
+        (i.0, omega arith)),
+  )

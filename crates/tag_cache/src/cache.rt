@@ -14,7 +14,7 @@ pub(crate) const WINDOW: u32 = 64;
 pub(crate) const MOST_REUSED: u64 = 1 << 56;
 
 /// One thread's hand on tags, and which of the tags that the hand holds are kept for later gets. All kept tags are
-/// ordinary, and in a window of 64 numbers. A tag that is kept is not the user's: to the tags it is held.
+/// ordinary, and in a window of 64 numbers. The user does not hold a kept tag; for the tag sets the hand still does.
 #[derive(Drop)]
 pub struct Cache<R> {
     /// The first number of the window.

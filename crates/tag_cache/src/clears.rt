@@ -60,7 +60,7 @@ impl<R: Copy> Cache<R> {
         Ok(woken_by(tags, self.clear_other(tags, tag)?))
     }
 
-    /// Like `clear`, but wakes no sleeper, and so links nothing that does. It returns how many waiters it granted a
+    /// Like `clear`, but wakes no sleeper, and pulls in no code that does. It returns how many waiters it granted a
     /// wakeup in each group, and leaves waking them to the caller. It is refused as `clear` is: `NoSuchTag`, `NotHeld`.
     #[inline(always)]
     pub fn clear_granted(&mut self, tags: &Tags<R>, tag: u32) -> Result<Grants, TagFault>

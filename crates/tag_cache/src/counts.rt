@@ -15,8 +15,8 @@ impl<R> Cache<R> {
     }
 
     /// Returns how many tags were taken back from the user: those that the hand gave back so far, and those that are or
-    /// were kept. As long as the user posts and takes none, `handed_out` less this is how many more tags it holds than
-    /// the hand did when the cache was made, less what the hand had won and not given back then.
+    /// were kept. While the user neither posts nor takes, `handed_out` less this changes by as much as the number of
+    /// tags that it holds.
     pub fn taken_back(&self) -> u64
         ensures { result ≡ taken_of self.now }
     {

@@ -32,7 +32,7 @@ impl<R: Copy> Cache<R> {
         tags.ring(grants)
     }
 
-    /// Like `flush`, but wakes no sleeper, and so links nothing that does. It returns how many waiters it granted a
+    /// Like `flush`, but wakes no sleeper, and pulls in no code that does. It returns how many waiters it granted a
     /// wakeup in each group, and leaves waking them to the caller.
     pub fn flush_granted(&mut self, tags: &Tags<R>) -> Grants
         requires { IsCacheOf tags.now self.old }
@@ -83,7 +83,7 @@ impl<R: Copy> Cache<R> {
         (hand, tags.ring(grants))
     }
 
-    /// Like `into_hand`, but wakes no sleeper, and so links nothing that does. It returns how many waiters it granted a
+    /// Like `into_hand`, but wakes no sleeper, and pulls in no code that does. It returns how many waiters it granted a
     /// wakeup in each group, and leaves waking them to the caller.
     pub fn into_hand_granted(mut self, tags: &Tags<R>) -> (Hand<R>, Grants)
         requires { IsCacheOf tags.now self }

@@ -41,7 +41,7 @@ impl<R: Copy> Cache<R> {
         Ok(tags.ring(grants))
     }
 
-    /// Like `clear_mask`, but wakes no sleeper, and so links nothing that does. It returns how many waiters it granted a
+    /// Like `clear_mask`, but wakes no sleeper, and pulls in no code that does. It returns how many waiters it granted a
     /// wakeup in each group, and leaves waking them to the caller. It is refused as `clear_mask` is: `BadCount`,
     /// `NoSuchTag`, `NotHeld`.
     pub fn clear_mask_granted(

@@ -92,7 +92,7 @@ impl<R: Copy> Cache<R> {
         Ok(())
     }
 
-    /// Like `post`, but wakes no sleeper, and so links nothing that does. It returns how many waiters the kept tags that
+    /// Like `post`, but wakes no sleeper, and pulls in no code that does. It returns how many waiters the kept tags that
     /// went back granted a wakeup in each group, and leaves waking them to the caller. It is refused as `post` is:
     /// `NoSuchTag`, `NotHeld`.
     #[inline]

@@ -34,7 +34,7 @@ impl<R: Copy> Cache<R> {
         Ok(group)
     }
 
-    /// Like `prepare_wait`, but wakes no sleeper, and so links nothing that does. It returns the group, and how many
+    /// Like `prepare_wait`, but wakes no sleeper, and pulls in no code that does. It returns the group, and how many
     /// waiters the kept tags granted a wakeup in each group, and leaves waking them to the caller. It is refused as
     /// `prepare_wait` is: `Waiting`.
     pub fn prepare_wait_granted(&mut self, tags: &Tags<R>) -> Result<(u32, Grants), TagFault>

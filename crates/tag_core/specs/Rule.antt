@@ -61,7 +61,7 @@ pub record IsKnown {R : Type 0} (k : Shape) (h : History R) (r : Record R) : Typ
   pub back : r.back ≡ (world_of k h).back r.number
   pub steps : r.steps ≡ steps_by r.number h
 
--- the rule
+-- some lawful history of all callers leaves these words, states and slots, and each caller's record is its part of it
 pub record Shown {R : Type 0} (k : Shape) (s : State R (View R)) : Type 0 where
   pub opening : IsOpening k
   pub history : History R

@@ -33,7 +33,8 @@ impl<R> Map<R> {
     }
 
     /// Sets a held tag aside: its bit in the word stays 1, its bit in the cleared set becomes 1, and the next sweep of
-    /// the word frees it. One step, `fetch_add`, as `sbitmap_deferred_clear_bit` (include/linux/sbitmap.h) does it.
+    /// the word frees it. One step, like `sbitmap_deferred_clear_bit` (include/linux/sbitmap.h): `fetch_add`, where the
+    /// kernel has `set_bit`, since the bit is known to be 0.
     pub fn put(&self, caller: &mut Caller<R>, tag: u32)
         requires caller { IsCallerOf self.now caller.old }
         requires held { Holds caller.old tag }

@@ -50,7 +50,7 @@ impl<R> Gathering<R> {
     ghost use Rattle.tag_core.specs.Settling.{AreSettled};
 
     /// Returns the totals of all callers of the map, which have lent their records: tags won, given back, held and
-    /// posted. Its one load, of the spare word, stands in no list.
+    /// posted. Its one load, of the spare word, is not recorded as a step.
     pub fn settle(self, map: &Map<R>) -> (Loans<R>, Totals)
         requires map { IsGatheringOf map.now self }
         requires first { BeginsWith map.now.shape (gathered self) }
@@ -80,7 +80,8 @@ impl<R> Loans<R> {
     ghost use Rattle.tag_core.specs.Callers.{IsCallerOf, IsUnchanged, record_of};
     ghost use Rattle.tag_core.specs.Lending.{caller_before, lent, AreLoansOf};
 
-    /// Returns the caller that lent its record last, unchanged. Its two loads, of the spare word, stand in no list.
+    /// Returns the caller that lent its record last, unchanged. Its two loads, of the spare word, are not recorded as
+    /// steps.
     pub fn give_back(&mut self, map: &Map<R>, lender: Lender<R>) -> Caller<R>
         requires map { AreLoansOf map.now self.old }
         requires caller { IsCallerOf map.now (caller_before lender) }

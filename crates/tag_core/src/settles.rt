@@ -64,7 +64,7 @@ fn settle_all<R>(tags: &Map<R>, callers: &mut Vec<Caller<R>>) -> Totals
 impl<R: Drop> Map<R> {
     /// Brings all callers of the map together, in any order, so that nobody else acts on it. If one is missing,
     /// `GatherFault` has the map and all callers back, unchanged. Its loads of the spare word, `5 n - 1` for `n`
-    /// callers, change no place and stand in no list.
+    /// callers, change no place and are not recorded as steps.
     pub fn settle(self, callers: Vec<Caller<R>>) -> Result<Settled<R>, GatherFault<R>>
         requires { All (λ c. IsCallerOf self c) callers.items }
         ensures succeeds { IsOk result ↔ HasAll (numbers_of callers.items) self.shape.callers }

@@ -14,7 +14,7 @@ use atomic_table::{Seat, Shared};
 
 impl<R> Map<R> {
     /// Writes the slot of a held tag, and returns the former value. Its two loads, of the tag's state, which only the
-    /// holder writes, change no place and stand in no list.
+    /// holder writes, change no place and are not recorded as steps.
     pub fn slot(&self, caller: &mut Caller<R>, tag: u32, new: R) -> R
         requires caller { IsCallerOf self.now caller.old }
         requires held { Holds caller.old tag }
@@ -48,7 +48,7 @@ fn front_value<R: Copy>(
 
 impl<R: Copy> Map<R> {
     /// Returns the value in the slot of a held tag, which keeps it. Its two loads, of the same kind as those of `slot`,
-    /// stand in no list.
+    /// are not recorded as steps.
     pub fn read(&self, caller: &mut Caller<R>, tag: u32) -> R
         requires caller { IsCallerOf self.now caller.old }
         requires held { Holds caller.old tag }

@@ -55,7 +55,7 @@ impl<R> Map<R> {
     ghost use Rattle.tag_core.specs.Lending.{caller_before};
 
     /// Starts to gather the map's callers with this one. The slots of its tags stay in the table, each with some value.
-    /// Its one load, of the spare word, stands in no list.
+    /// Its one load, of the spare word, is not recorded as a step.
     pub fn start_gathering(&self, caller: Caller<R>) -> Gathering<R>
         requires { IsCallerOf self.now caller }
         ensures map { IsGatheringOf self.now result }
@@ -66,7 +66,7 @@ impl<R> Map<R> {
     }
 
     /// Starts to bring the map's callers together for a while, with this one: it lends its record, and keeps the slots
-    /// of its tags. Its one load, of the spare word, stands in no list.
+    /// of its tags. Its one load, of the spare word, is not recorded as a step.
     pub fn start_lending(&self, caller: Caller<R>) -> (Gathering<R>, Lender<R>)
         requires { IsCallerOf self.now caller }
         ensures map { IsGatheringOf self.now result.0 }
@@ -133,7 +133,7 @@ impl<R> Gathering<R> {
     ghost use Rattle.tag_core.specs.Gathering.{IsGatheringOf, gathered};
     ghost use Rattle.tag_core.specs.Lending.{caller_before};
 
-    /// Adds another caller of the map to those gathered. Its three loads, of the spare word, stand in no list.
+    /// Adds another caller of the map to those gathered. Its three loads, of the spare word, are not recorded as steps.
     pub fn add(&mut self, map: &Map<R>, caller: Caller<R>)
         requires caller { IsCallerOf map.now caller }
         requires map { IsGatheringOf map.now self.old }

@@ -14,7 +14,7 @@ use tag_layout::Layout;
 pub enum Event {
     /// Nothing changes.
     Look,
-    /// The caller wins the free tags of a word whose bits are 1 in the mask.
+    /// The caller wins tags of a word, all of them free: those whose bits are 1 in the mask.
     Win(u32, u32, u64),
     /// The caller sets a tag that it holds aside.
     Put(u32, u32),
@@ -33,7 +33,7 @@ pub enum Event {
 /// Why an event can't happen. The causes are looked at in the order in which they stand here.
 #[derive(Clone, Copy, Debug, PartialEq, Eq)]
 pub enum EventFault {
-    /// It names a tag, a word or a bit of a mask that the layout has not.
+    /// It names a tag, a word or a bit of a mask that the layout does not have.
     NoSuchTag,
     /// No caller has this number.
     NoSuchCaller,
@@ -183,7 +183,7 @@ impl Event {
         }
     }
 
-    /// What it is called that a tag isn't where the event needs it.
+    /// Returns the fault of an event one of whose tags is elsewhere.
     pub(crate) fn missing(self) -> EventFault
         ensures { result ≡ missing_of self }
     {

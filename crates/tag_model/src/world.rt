@@ -133,7 +133,7 @@ impl World {
         Ok(self.totals())
     }
 
-    /// The first cause for which the event can't happen, if it isn't where its tags are.
+    /// Checks the numbers that the event names and its caller's room, but not where its tags are.
     fn test(&self, event: Event) -> Result<(), EventFault>
         ensures ok { OnOk result (IsInRoom self.now event) }
         ensures fault { IfErr result (HasFault self.now event) }

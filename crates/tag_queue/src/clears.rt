@@ -38,7 +38,7 @@ impl<R: Copy> Queue<R> {
         Ok(self.complete_and_ring(agent, 1))
     }
 
-    /// Like `clear`, but wakes no sleeper, and so links nothing that does. It returns how many waiters it granted a
+    /// Like `clear`, but wakes no sleeper, and pulls in no code that does. It returns how many waiters it granted a
     /// wakeup in each group, and leaves waking them to the caller. `NoSuchTag` means that the number is not below the
     /// depth, `NotHeld` that the agent does not hold the tag; nothing changes then.
     #[inline]

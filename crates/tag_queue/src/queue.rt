@@ -21,7 +21,8 @@ pub struct Options {
     pub callers: u32,
     /// Tags that one agent may win in all, at most 2^48.
     pub life: u64,
-    /// Completions that one agent may count in all, at most 2^56.
+    /// Completions that one agent may count in all, at most 2^56. Past it the agent's clears give tags back as before,
+    /// but count nothing and wake nobody.
     pub cap: u64,
 }
 

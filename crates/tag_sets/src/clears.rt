@@ -41,7 +41,7 @@ impl<R: Copy> Tags<R> {
         }
     }
 
-    /// Like `clear`, but wakes no sleeper, and so links nothing that does. It returns how many waiters it granted a
+    /// Like `clear`, but wakes no sleeper, and pulls in no code that does. It returns how many waiters it granted a
     /// wakeup in each group, and leaves waking them to the caller. `NoSuchTag` means that the number is not below the
     /// total, `NotHeld` that the hand does not hold the tag; nothing changes then.
     #[inline(always)]

@@ -26,7 +26,7 @@ pub struct Shown {
 impl<R: Copy> Tags<R> {
     /// Returns the sizes of a set, and how many of its tags are busy and how many set aside. The hand's list has one load
     /// of each word, and then one of its cleared set; so while other hands act, the sums are not a snapshot of a single
-    /// moment. Loads that stand in no list are not counted.
+    /// moment. Loads that are not recorded as steps are not counted.
     pub fn show(&self, hand: &mut Hand<R>, kind: Kind) -> Shown
         requires hand { IsHandOf self.now hand.old }
         ensures hand { IsHandOf self.now hand.new }

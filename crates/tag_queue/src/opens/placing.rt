@@ -32,7 +32,7 @@ impl<R: Copy> Queue<R> {
     /// Moves the agent's hint to the first tag of its own part of the map: its number times the depth, divided by the
     /// number of agents, rounded down. All hints start at 0, where threads would contend; placed agents meet where their
     /// parts share a word, since a get without round robin starts with the first tag of the hint's word, and once their
-    /// parts are full. This makes no step.
+    /// parts are full: a get that finds no tag at all moves the hint to 0. This makes no step.
     pub fn place(&self, agent: &mut Agent<R>)
         requires { IsAgentOf self.now agent.old }
         ensures agent { IsAgentOf self.now agent.new }

@@ -42,7 +42,7 @@ impl<R: Copy> Tags<R> {
         Ok(self.ring(grants))
     }
 
-    /// Like `clear_batch`, but wakes no sleeper, and so links nothing that does. It returns how many waiters it granted
+    /// Like `clear_batch`, but wakes no sleeper, and pulls in no code that does. It returns how many waiters it granted
     /// a wakeup in each group, and leaves waking them to the caller. It is refused as `clear_batch` is: `BadCount`,
     /// `NoSuchTag`, `NotHeld`.
     pub fn clear_batch_granted(&self, hand: &mut Hand<R>, tags: &[u32]) -> Result<Grants, TagFault>

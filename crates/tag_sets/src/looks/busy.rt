@@ -16,7 +16,7 @@ impl<R: Copy> Tags<R> {
     /// Sets bit `t % 64` of `into[t / 64]` for each busy tag `t`, clears all other bits, and returns the number of busy
     /// tags. A tag is busy if it was found taken and then not set aside. `into` must have a bit for each tag of both
     /// sets. The hand's list has one load of each word, and then one of its cleared set; so while other hands act, the
-    /// tags are not a snapshot of a single moment. Loads that stand in no list are not counted.
+    /// tags are not a snapshot of a single moment. Loads that are not recorded as steps are not counted.
     pub fn busy(&self, hand: &mut Hand<R>, into: &mut [u64]) -> u32
         requires hand { IsHandOf self.now hand.old }
         requires room { total_of self.now ≤ 64 * length into.old }

@@ -13,8 +13,8 @@ impl<R: Copy> Tags<R> {
     /// Packs a set into the first bytes of `into`, eight tags a byte, low bit first, where 1 is busy: found taken and
     /// then not set aside. Returns the number of those bytes, `ceil(depth / 8)`. The last one is padded with zeros, and
     /// the bytes after it are unchanged. The hand's list has one load of each word, and then one of its cleared set; so
-    /// while other hands act, the bytes are not a snapshot of a single moment. Loads that stand in no list are not
-    /// counted.
+    /// while other hands act, the bytes are not a snapshot of a single moment. Loads that are not recorded as
+    /// steps are not counted.
     pub fn dump(&self, hand: &mut Hand<R>, kind: Kind, into: &mut [u8]) -> u32
         requires hand { IsHandOf self.now hand.old }
         requires room { (layout_of self.now kind).depth ≤ 8 * length into.old }
