@@ -9,10 +9,11 @@ use Rattle.loop_device.specs.declared.io.IoKind.TheVariants.{Read, Write, Trim, 
 abbrev pub done_of : Io → ℕ → Done
 done_of io stamp = record { io = io; stamp = stamp }
 
--- the first and the last sector that the line covers, if its length isn't 0
+-- the first sector that the line covers, if its length isn't 0
 abbrev pub first_sector : Io → ℕ
 first_sector io = io.offset / 512
 
+-- the last one
 abbrev pub last_sector : Io → ℕ
 last_sector io = (io.offset + io.length - 1) / 512
 

@@ -10,10 +10,11 @@ use Rattle.loop_device.specs.History.{first_sector, last_sector, stamp_of, done_
 abbrev pub key : ℕ → ℕ → ℕ
 key name sector = name * 2 ^ 56 + sector
 
--- the position of the first sector that the line covers, and the position after the last one
+-- the position of the first sector that the line covers
 abbrev pub first_key : Io → ℕ
 first_key io = key io.name (first_sector io)
 
+-- the position after the last one, or that of the first if the line covers none
 abbrev pub end_key : Io → ℕ
 end_key io = if nat_lt 0 io.length then key io.name (last_sector io) + 1 else first_key io
 

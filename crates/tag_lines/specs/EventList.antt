@@ -45,6 +45,7 @@ single_line (Some kind) None on = Err BadNumber
 single_line (Some kind) (Some caller) None = Err BadNumber
 single_line (Some kind) (Some caller) (Some on) = Ok (single_event kind caller on)
 
+-- the same for an event with a mask
 abbrev pub masked_line : Option Masked → Option ℕ → Option ℕ → Option ℕ → Result Event LineFault
 masked_line None caller word mask = Err BadLine
 masked_line (Some kind) None word mask = Err BadNumber

@@ -95,6 +95,7 @@ lone_line callers None caller = Err BadLine
 lone_line callers (Some command) None = Err BadNumber
 lone_line callers (Some command) (Some caller) = ordered callers caller command
 
+-- the same for a command with a number
 abbrev pub numbered_line : ℕ → Option Numbered → Option ℕ → Option ℕ → Result Order LineFault
 numbered_line callers None caller number = Err BadLine
 numbered_line callers (Some kind) None number = Err BadNumber
