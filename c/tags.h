@@ -535,7 +535,7 @@ TAGS_CHECKED int32_t tags_open(struct tags_pool *pool, const struct tags_options
  * Threads: this call uses both handles, so threads must join one at a time.
  *
  * Return: TAGS_OK. Otherwise the first of TAGS_NOT_EMPTY, TAGS_BAD_HANDLE (of
- * @pool), TAGS_BAD_FLAG, TAGS_NO_HAND and TAGS_NO_MEMORY that applies.
+ * @pool), TAGS_BAD_FLAG and TAGS_NO_HAND that applies, or TAGS_NO_MEMORY.
  *
  * Since: 0.1
  */
