@@ -1,6 +1,6 @@
 -- When a pool opens, gives a hand and closes.
 use Rattle.std.specs.Prelude.{◌≡◌, ℕ, ◌-◌, ◌⊎◌, List, All, reverse}
-use Rattle.step_ledger.specs.Views.{HasAll}
+use Rattle.step_ledger.specs.Gather.{HasAll}
 use Rattle.tag_layout.specs.Layout.{HasShift}
 use Rattle.tag_sets.specs.declared.fault.SetFault.TheVariants.{Memory}
 use Rattle.tag_queue.specs.declared.gather.QueueTotals.{QueueTotals}

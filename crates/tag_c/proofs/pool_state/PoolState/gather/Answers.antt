@@ -1,6 +1,6 @@
 -- The hands that were in the cells belong to the tags, and they are those that are gathered.
 use Rattle.std.proofs.Common.{ℕ, refl, subst}
-use Rattle.step_ledger.specs.Views.{HasAll}
+use Rattle.step_ledger.specs.Gather.{HasAll}
 use Rattle.tag_sets.specs.declared.tags.Tags.{Tags}
 use Rattle.tag_sets.specs.Gathering.{hands_of, numbers_of, IsGathered}
 use Rattle.tag_c.proofs.pool_state.PoolState.gather.Goals as goal
