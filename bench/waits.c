@@ -28,7 +28,6 @@ struct thread {
 	uint64_t rounds;
 };
 
-static struct tags_bell bell = TAGS_BELL;
 static struct {
 	pthread_mutex_t lock;
 	pthread_cond_t freed;
@@ -45,7 +44,7 @@ static uint32_t get(struct thread *self)
 	uint32_t tag;
 
 	if (!has_list) {
-		int32_t got = tags_get_blocking(&self->hand, &bell);
+		int32_t got = tags_get_blocking(&self->hand);
 
 		if (got < 0)
 			abort();
@@ -62,7 +61,7 @@ static uint32_t get(struct thread *self)
 static void give(struct thread *self, uint32_t tag)
 {
 	if (!has_list) {
-		if (tags_give(&self->hand, &bell, tag) < 0)
+		if (tags_clear(&self->hand, tag) < 0)
 			abort();
 		return;
 	}

@@ -1,188 +1,285 @@
 /*
- * The bell: it wakes threads that sleep until a tag is free, and tells programs
- * that wait in an event loop.
+ * The bell of a pool: who waits for a tag, and how they are told.
  *
- * Each wait group has a futex. A thread that is about to sleep enters a group,
- * reads the rings of its futex, counts itself as a sleeper, and then tries once
- * more. A give clears first and then looks whether anyone sleeps. Both steps are
- * sequentially consistent, so either that try finds the tag or the give finds
- * the sleeper; and a ring after the rings were read ends the sleep or prevents
- * it.
+ * Two lists, in the order in which the waits began: the sleepers, threads in
+ * tags_get_blocking() or tags_get_timed(); and the listeners, hands that wait
+ * for an eventfd, and Rust's futures. A lock guards the lists; what is done with
+ * it is one step to everybody else.
  *
- * A give wakes one thread for each tag that it gives back, and the kernel tells
- * whether it did. More are not woken than there are tags, since a thread that was
- * woken tries after it has said so. So for each tag that becomes free while threads sleep, one of
- * them wakes up and tries after that. It is found by the sleepers' own count. The
- * grants of the clear say in which groups to look first; that a batch was not
- * complete, or a grant went to a hand that does not sleep, keeps nobody asleep. A
- * thread whose second try won a tag, or whose time is up, was not asleep when the
- * kernel looked for one, so no wakeup is spent on it.
+ * No hand waits beside a free tag, by two phases on each side. Who waits: list
+ * yourself, then try. Who makes tags free, by giving them back or by a sweep:
+ * free them, then look whether anybody is listed. All four are sequentially
+ * consistent. So either that try follows the tag's becoming free, or the look
+ * finds the waiter; and then it is told, and tries again after that.
+ *
+ * Each tag that became free tells one sleeper and one listener. The first of its
+ * list is told, and removed from it, so that the next tag tells the next one. Who
+ * was told tries, and if that finds no tag, returns to its old turn. Who was told
+ * and needs no tag any more, because it has one or ends its wait, tells the next.
+ *
+ * A sleeper that was told counts as waking until it tries again. If as many are
+ * waking as there are tags, no other is woken: each of them tries after the tag
+ * became free, so if all find a tag, whoever gives one of those back looks again.
+ * Nobody knows when a listener tries, so none of them stands in for another.
  */
 #define _GNU_SOURCE
 #include "bell.h"
 
-#include <limits.h>
 #include <linux/futex.h>
+#include <stdlib.h>
 #include <sys/syscall.h>
 #include <unistd.h>
 
 char tags_library_order[TAGS_MAX_TOTAL + 1];
 
-/*
- * Returns how many threads it woke; a thread that it woke no longer counts as a
- * sleeper. A thread that was only about to sleep is not among them: it finds that
- * the bell has rung, and tries again.
- */
-static uint32_t wake_group(struct tags_bell *bell, uint32_t group, uint32_t most)
+struct bell *tags_library_make_bell(uint32_t hands)
 {
-	long woken;
-
-	if (tags_load(&bell->asleep[group]) == 0)
-		return 0;
-	tags_add(&bell->rings[group], 1);
-	woken = syscall(SYS_futex, &bell->rings[group], FUTEX_WAKE_PRIVATE, (int)most, NULL, NULL,
-			0);
-	if (woken <= 0)
-		return 0;
-	tags_subtract(&bell->asleep[group], (uint32_t)woken);
-	tags_subtract(&bell->sleepers, (uint32_t)woken);
-	__atomic_fetch_add(&bell->waking, (int32_t)woken, __ATOMIC_SEQ_CST);
-	return (uint32_t)woken;
-}
-
-/* Begins with another group each time, so that no sleeper is always the last. */
-void tags_library_wake_any(struct tags_bell *bell, uint32_t most)
-{
-	uint32_t first = __atomic_fetch_add(&bell->next, 1, __ATOMIC_RELAXED);
-
-	for (uint32_t i = 0; i < TAGS_GROUPS && most > 0 && tags_load(&bell->sleepers); i++)
-		most -= wake_group(bell, (first + i) % TAGS_GROUPS, most);
-}
-
-/* The number that an eventfd takes is added to its count. If that is full, it has been told. */
-static void tell_listeners(struct tags_bell *bell)
-{
-	uint32_t event = tags_load(&bell->event);
-	const uint64_t one = 1;
-	ssize_t unused;
-
-	if (event == 0)
-		return;
-	unused = write((int)(event - 1), &one, sizeof(one));
-	(void)unused;
-}
-
-/*
- * Whoever was granted a wakeup comes first. With as many threads under way as there are tags, each of which has still to
- * try, the tags find takers without another one.
- */
-static void wake_for(struct tags_bell *bell, const struct tags_grants *grants, int32_t freed)
-{
-	int32_t wanted = __atomic_load_n(&bell->depth, __ATOMIC_SEQ_CST) -
-			 __atomic_load_n(&bell->waking, __ATOMIC_SEQ_CST);
-
-	if (wanted > freed)
-		wanted = freed;
-	for (uint32_t group = 0; group < TAGS_GROUPS && wanted > 0; group++) {
-		int32_t granted = grants->in_group[group];
-
-		if (granted > 0)
-			wanted -= (int32_t)wake_group(bell, group,
-						      (uint32_t)(granted < wanted ? granted : wanted));
-	}
-	if (wanted > 0)
-		tags_library_wake_any(bell, (uint32_t)wanted);
-}
-
-/*
- * With a tag over a cache, any number of kept tags may have gone back, and those that are
- * kept since no hand was in a wait group yet go back now that one is.
- */
-static int32_t free_kept(struct tags_hand *hand, int32_t freed)
-{
-	if (tags_library_is_cached(hand) != 1)
-		return freed;
-	tags_library_flush(hand);
-	return freed + TAGS_MAX_CACHE;
-}
-
-/* Rings for @freed tags that the hand gave back. */
-static void ring_after(struct tags_hand *hand, struct tags_bell *bell,
-		       const struct tags_grants *grants, int32_t freed)
-{
-	if (tags_load(&bell->sleepers) > 0)
-		wake_for(bell, grants, free_kept(hand, freed));
-	if (tags_load(&bell->listeners) > 0) {
-		free_kept(hand, freed);
-		tell_listeners(bell);
-	}
-}
-
-/* Rings for @freed tags that became free. */
-static void ring_for(struct tags_bell *bell, const struct tags_grants *grants, int32_t freed)
-{
-	if (tags_load(&bell->sleepers) > 0)
-		wake_for(bell, grants, freed);
-	if (tags_load(&bell->listeners) > 0)
-		tell_listeners(bell);
-}
-
-int32_t tags_ring(struct tags_bell *bell, int32_t woken)
-{
-	static const struct tags_grants unknown;
+	struct bell *bell = calloc(1, sizeof(struct bell) + hands * sizeof(struct tags_waiter));
 
 	if (!bell)
-		return TAGS_NULL;
-	if (woken >= 0)
-		ring_for(bell, &unknown, INT_MAX);
-	return woken;
+		return NULL;
+	pthread_mutex_init(&bell->lock, NULL);
+	bell->vacant = ~UINT64_C(0) >> (TAGS_MAX_HANDS - hands);
+	return bell;
 }
 
-int32_t tags_ring_granted(struct tags_bell *bell, const struct tags_grants *grants)
+void tags_library_free_bell(struct bell *bell)
 {
-	if (!bell || !grants)
-		return TAGS_NULL;
-	ring_for(bell, grants, grants->woken > 1 ? (int32_t)grants->woken : 1);
-	return (int32_t)grants->woken;
+	pthread_mutex_destroy(&bell->lock);
+	free(bell);
 }
 
-int32_t tags_give(struct tags_hand *hand, struct tags_bell *bell, uint32_t tag)
-{
-	struct tags_grants grants;
-	int32_t woken;
+/*
+ * The lists, with the lock
+ */
 
-	if (!hand || !bell)
-		return TAGS_NULL;
-	woken = tags_clear_granted(hand, tag, &grants);
-	if (woken >= 0)
-		ring_after(hand, bell, &grants, 1);
-	return woken;
+/* Returns the first waiter of a list that began to wait after this turn. */
+static struct tags_waiter *find_later(const struct tags_list *list, uint64_t turn)
+{
+	struct tags_waiter *waiter = list->first;
+
+	if (list->last && list->last->turn < turn)
+		return NULL;
+	while (waiter && waiter->turn < turn)
+		waiter = waiter->next;
+	return waiter;
 }
 
-int32_t tags_give_batch(struct tags_hand *hand, struct tags_bell *bell, const uint32_t *tags,
-			size_t count)
+static void insert(struct bell *bell, struct tags_list *list, struct tags_waiter *waiter)
 {
-	struct tags_grants grants;
-	int32_t woken;
+	struct tags_waiter *later = find_later(list, waiter->turn);
+	struct tags_waiter *earlier = later ? later->previous : list->last;
 
-	if (!hand || !bell || !tags)
-		return TAGS_NULL;
-	woken = tags_clear_batch_granted(hand, tags, count, &grants);
-	if (woken >= 0)
-		ring_after(hand, bell, &grants, (int32_t)count);
-	return woken;
+	waiter->list = list;
+	waiter->next = later;
+	waiter->previous = earlier;
+	*(later ? &later->previous : &list->last) = waiter;
+	*(earlier ? &earlier->next : &list->first) = waiter;
+	tags_add(&list->length, 1);
+	tags_add(&bell->waits.waiting, 1);
+	tags_store(&waiter->state, TAGS_LISTED);
 }
 
-int32_t tags_give_run(struct tags_hand *hand, struct tags_bell *bell, uint32_t first,
-		      uint64_t mask)
+static void take_out(struct bell *bell, struct tags_waiter *waiter, uint32_t state)
 {
-	struct tags_grants grants;
-	int32_t woken;
+	struct tags_list *list = waiter->list;
 
-	if (!hand || !bell)
-		return TAGS_NULL;
-	woken = tags_clear_run_granted(hand, first, mask, &grants);
-	if (woken >= 0)
-		ring_after(hand, bell, &grants, __builtin_popcountll(mask));
-	return woken;
+	*(waiter->next ? &waiter->next->previous : &list->last) = waiter->previous;
+	*(waiter->previous ? &waiter->previous->next : &list->first) = waiter->next;
+	tags_subtract(&list->length, 1);
+	tags_subtract(&bell->waits.waiting, 1);
+	tags_store(&waiter->state, state);
+}
+
+/*
+ * Who waits
+ */
+
+bool tags_library_enlist(struct bell *bell, struct tags_list *list, struct tags_waiter *waiter)
+{
+	bool goes_on;
+
+	pthread_mutex_lock(&bell->lock);
+	goes_on = tags_load(&bell->waits.stopped) == 0;
+	if (goes_on) {
+		if (waiter->turn == 0)
+			waiter->turn = ++bell->turns;
+		insert(bell, list, waiter);
+	}
+	pthread_mutex_unlock(&bell->lock);
+	return goes_on;
+}
+
+bool tags_library_strike(struct bell *bell, struct tags_waiter *waiter)
+{
+	bool was_told;
+
+	pthread_mutex_lock(&bell->lock);
+	was_told = waiter->state == TAGS_TOLD;
+	if (waiter->state == TAGS_LISTED)
+		take_out(bell, waiter, TAGS_IDLE);
+	else
+		tags_store(&waiter->state, TAGS_IDLE);
+	pthread_mutex_unlock(&bell->lock);
+	return was_told;
+}
+
+/*
+ * Who tells
+ */
+
+/* Wakes the first sleeper, if fewer than @most are waking. Returns whether it did. */
+static bool wake_first(struct bell *bell, uint32_t most)
+{
+	struct tags_waiter *first = NULL;
+
+	pthread_mutex_lock(&bell->lock);
+	if (tags_load(&bell->waking) < most)
+		first = bell->sleepers.first;
+	if (first) {
+		tags_add(&bell->waking, 1);
+		take_out(bell, first, TAGS_TOLD);
+	}
+	pthread_mutex_unlock(&bell->lock);
+	if (first)
+		syscall(SYS_futex, &first->state, FUTEX_WAKE_PRIVATE, 1, NULL, NULL, 0);
+	return first != NULL;
+}
+
+/*
+ * The number that an eventfd takes is added to its count. If that is full, it has been
+ * told. This is no cancellation point, as write() would be.
+ */
+static void notify(int descriptor)
+{
+	const uint64_t one = 1;
+
+	syscall(SYS_write, descriptor, &one, sizeof(one));
+}
+
+/*
+ * Tells the first listener. An eventfd is told with the lock: once a hand is struck, the
+ * program may close it. What others call may do anything, such as give a tag back.
+ */
+static bool tell_first(struct bell *bell)
+{
+	void (*tell)(void *whom) = NULL;
+	struct tags_waiter *first;
+	void *whom = NULL;
+
+	pthread_mutex_lock(&bell->lock);
+	first = bell->listeners.first;
+	if (first) {
+		tell = first->tell;
+		whom = first->whom;
+		take_out(bell, first, TAGS_TOLD);
+		if (!tell)
+			notify(first->descriptor);
+	}
+	pthread_mutex_unlock(&bell->lock);
+	if (tell)
+		tell(whom);
+	return first != NULL;
+}
+
+void tags_library_wake(struct bell *bell, uint64_t freed)
+{
+	while (freed-- > 0 && tags_load(&bell->sleepers.length) > 0 &&
+	       tags_load(&bell->waking) < bell->depth && wake_first(bell, bell->depth))
+		;
+}
+
+static void tell(struct bell *bell, uint64_t freed)
+{
+	while (freed-- > 0 && tags_load(&bell->listeners.length) > 0 && tell_first(bell))
+		;
+}
+
+static void ring(struct bell *bell, uint64_t freed)
+{
+	int kept = errno;
+
+	if (freed > bell->depth)
+		freed = bell->depth;
+	tags_library_wake(bell, freed);
+	tell(bell, freed);
+	errno = kept;
+}
+
+void tags_library_tell(struct tags_waits *waits, uint64_t freed)
+{
+	int kept = errno;
+
+	tell(tags_bell_of(waits), freed);
+	errno = kept;
+}
+
+void tags_library_ring(struct tags_waits *waits, uint64_t freed)
+{
+	if (tags_load(&waits->waiting) > 0)
+		ring(tags_bell_of(waits), freed);
+}
+
+/*
+ * A clear that found no hand in a wait group kept its tag; now somebody waits. How many
+ * tags go back is not known.
+ */
+void tags_library_ring_kept(struct tags_hand *hand, uint64_t freed)
+{
+	struct bell *bell = tags_bell_of(hand->waits);
+
+	if (bell->is_cached) {
+		tags_library_flush(hand);
+		freed += TAGS_MAX_CACHE;
+	}
+	ring(bell, freed);
+}
+
+void tags_library_stop(struct tags_waits *waits)
+{
+	struct bell *bell = tags_bell_of(waits);
+	int kept = errno;
+
+	pthread_mutex_lock(&bell->lock);
+	tags_store(&bell->waits.stopped, 1);
+	pthread_mutex_unlock(&bell->lock);
+	while (wake_first(bell, UINT32_MAX))
+		;
+	while (tell_first(bell))
+		;
+	errno = kept;
+}
+
+/*
+ * Futures of other languages
+ */
+
+int32_t tags_library_listen(struct tags_waits *waits, struct tags_waiter *waiter)
+{
+	struct bell *bell = tags_bell_of(waits);
+
+	if (bell->depth == 0)
+		return TAGS_NO_SUCH_TAG;
+	return tags_library_enlist(bell, &bell->listeners, waiter) ? TAGS_OK : TAGS_STOPPED;
+}
+
+void *tags_library_renew(struct tags_waits *waits, struct tags_waiter *waiter, void *whom)
+{
+	struct bell *bell = tags_bell_of(waits);
+	void *former = NULL;
+
+	pthread_mutex_lock(&bell->lock);
+	if (waiter->state == TAGS_LISTED) {
+		former = waiter->whom;
+		waiter->whom = whom;
+	} else {
+		tags_store(&waiter->state, TAGS_IDLE);
+	}
+	pthread_mutex_unlock(&bell->lock);
+	return former;
+}
+
+int32_t tags_library_unlist(struct tags_waits *waits, struct tags_waiter *waiter)
+{
+	return tags_library_strike(tags_bell_of(waits), waiter);
 }

@@ -1,13 +1,17 @@
 /*
- * Threads that sleep until a tag is free. How they are found and woken is in
- * bell.c.
+ * Threads that sleep until a tag is free. How they are told is in bell.c.
+ *
+ * Each hand has a place in the bell, whose state is a futex: the thread sleeps
+ * while it is listed. The state tells for sure whether it was told, whatever the
+ * kernel says of why the sleep ended; so a sleep that ends for no reason goes on,
+ * and one that ends by its deadline or by a cancel leaves nothing behind.
  */
 #define _GNU_SOURCE
 #include "bell.h"
 
-#include <errno.h>
 #include <linux/futex.h>
 #include <sys/syscall.h>
+#include <time.h>
 #include <unistd.h>
 
 /* When a wait ends: never if @end is NULL. */
@@ -34,124 +38,121 @@ static bool is_past(const struct limit *limit)
 	return now.tv_nsec >= limit->end->tv_nsec;
 }
 
-static void count_in(struct tags_bell *bell, uint32_t group)
+/*
+ * Ends the hand's stay in the bell. Returns whether it was told; from here on it is about
+ * to try, and waking no more. A sleeper that was told is in no list, so it needs no lock.
+ */
+static bool get_up(struct tags_hand *hand)
 {
-	tags_add(&bell->asleep[group], 1);
-	tags_add(&bell->sleepers, 1);
+	struct bell *bell = tags_bell_of(hand->waits);
+	bool was_told = tags_load(&hand->place->state) == TAGS_TOLD;
+
+	if (was_told)
+		tags_store(&hand->place->state, TAGS_IDLE);
+	else
+		was_told = tags_library_strike(bell, hand->place);
+	if (was_told)
+		tags_subtract(&bell->waking, 1);
+	tags_leave_group(hand);
+	return was_told;
 }
 
-static void count_out(struct tags_bell *bell, uint32_t group)
+/* A tag was told to a hand that does not need it. */
+static void pass_on(struct tags_hand *hand)
 {
-	tags_subtract(&bell->asleep[group], 1);
-	tags_subtract(&bell->sleepers, 1);
+	tags_library_wake(tags_bell_of(hand->waits), 1);
+}
+
+/* What is left of the wait of a thread that was cancelled in its sleep. */
+static void abandon(void *argument)
+{
+	struct tags_hand *hand = argument;
+
+	if (get_up(hand))
+		pass_on(hand);
+	hand->place->turn = 0;
 }
 
 /*
- * The kernel compares the word with @rings before it sleeps, so no ring is
- * missed. It returns 0 to a thread that a ring woke and counted out; from here on
- * that thread is no longer under way, but about to try.
+ * Until the hand was told, or until the limit. The kernel looks at the state before it lets
+ * the thread sleep. The system call alone acts on a cancel: it can't be cut off halfway.
  */
-static void sleep_until_rung(struct tags_bell *bell, uint32_t group, uint32_t rings,
-			     const struct limit *limit)
+static void sleep_until_told(struct tags_hand *hand, const struct limit *limit)
 {
-	int how = FUTEX_WAIT_BITSET_PRIVATE;
+	const uint32_t *state = &hand->place->state;
+	const bool is_real = limit->end && limit->clock == CLOCK_REALTIME;
+	const int how = FUTEX_WAIT_BITSET_PRIVATE | (is_real ? FUTEX_CLOCK_REALTIME : 0);
 	long status;
+	int type;
 
-	if (limit->end && limit->clock == CLOCK_REALTIME)
-		how |= FUTEX_CLOCK_REALTIME;
-	do
-		status = syscall(SYS_futex, &bell->rings[group], how, rings, limit->end, NULL,
+	pthread_cleanup_push(abandon, hand);
+	do {
+		pthread_setcanceltype(PTHREAD_CANCEL_ASYNCHRONOUS, &type);
+		status = syscall(SYS_futex, state, how, TAGS_LISTED, limit->end, NULL,
 				 FUTEX_BITSET_MATCH_ANY);
-	while (status != 0 && errno == EINTR);
-	if (status != 0)
-		count_out(bell, group);
-	else
-		__atomic_fetch_sub(&bell->waking, 1, __ATOMIC_SEQ_CST);
+		pthread_setcanceltype(type, &type);
+	} while (tags_load(state) == TAGS_LISTED && (status == 0 || errno == EINTR));
+	pthread_cleanup_pop(0);
 }
 
 /* Returns a tag, or TAGS_NO_TAG after a sleep. */
-static int32_t get_or_sleep(struct tags_hand *hand, struct tags_bell *bell,
-			    const struct limit *limit)
+static int32_t get_or_sleep(struct tags_hand *hand, const struct limit *limit)
 {
-	int32_t group = tags_prepare(hand);
-	uint32_t rings;
-	int32_t tag;
+	struct bell *bell = tags_bell_of(hand->waits);
+	int32_t tag = tags_library_prepare(hand);
 
-	if (group < 0)
-		return group;
-	rings = tags_load(&bell->rings[group]);
-	count_in(bell, (uint32_t)group);
+	if (tag < 0)
+		return tag;
+	if (!tags_library_enlist(bell, &bell->sleepers, hand->place)) {
+		tags_leave_group(hand);
+		return TAGS_STOPPED;
+	}
 	tag = tags_get(hand);
 	if (tag == TAGS_NO_TAG)
-		sleep_until_rung(bell, (uint32_t)group, rings, limit);
-	else
-		count_out(bell, (uint32_t)group);
-	tags_leave_group(hand);
+		sleep_until_told(hand, limit);
+	if (get_up(hand) && tag != TAGS_NO_TAG)
+		pass_on(hand);
 	return tag;
 }
 
-/* A thread that was woken and may take no tag leaves it to another. */
-static int32_t get_woken(struct tags_hand *hand, struct tags_bell *bell)
+/* After a get that found no tag. */
+static int32_t wait_for_tag(struct tags_hand *hand, const struct limit *limit)
 {
-	int32_t tag = tags_get(hand);
+	int kept = errno;
+	int32_t tag;
 
-	if (tag < 0 && tag != TAGS_NO_TAG)
-		tags_library_wake_any(bell, 1);
-	return tag;
-}
-
-/* A give reads the depth after it has seen a sleeper, so it is noted first. */
-static int32_t find_depth(struct tags_hand *hand, struct tags_bell *bell)
-{
-	struct tags_sizes sizes;
-	int32_t status = tags_show(hand, TAGS_ORDINARY, &sizes);
-
-	if (status != TAGS_OK)
-		return status;
-	if (sizes.depth == 0)
+	if (tags_bell_of(hand->waits)->depth == 0)
 		return TAGS_NO_SUCH_TAG;
-	__atomic_store_n(&bell->depth, (int32_t)sizes.depth, __ATOMIC_SEQ_CST);
-	return TAGS_OK;
-}
-
-static int32_t get_within(struct tags_hand *hand, struct tags_bell *bell,
-			  const struct limit *limit)
-{
-	int32_t tag = tags_get(hand);
-	int32_t status;
-
-	if (tag != TAGS_NO_TAG)
-		return tag;
-	status = find_depth(hand, bell);
-	if (status != TAGS_OK)
-		return status;
+	if (tags_load(&hand->place->state) != TAGS_IDLE)
+		return TAGS_WAITING;
 	do {
-		if (is_past(limit))
-			return TAGS_TIMED_OUT;
-		tag = get_or_sleep(hand, bell, limit);
+		tag = is_past(limit) ? (int32_t)TAGS_TIMED_OUT : get_or_sleep(hand, limit);
 		if (tag == TAGS_NO_TAG)
-			tag = get_woken(hand, bell);
+			tag = tags_get(hand);
 	} while (tag == TAGS_NO_TAG);
+	hand->place->turn = 0;
+	errno = kept;
 	return tag;
 }
 
-int32_t tags_get_blocking(struct tags_hand *hand, struct tags_bell *bell)
+int32_t tags_library_wait(struct tags_hand *hand)
 {
 	const struct limit none = { CLOCK_MONOTONIC, NULL };
 
-	if (!hand || !bell)
-		return TAGS_NULL;
-	return get_within(hand, bell, &none);
+	return wait_for_tag(hand, &none);
 }
 
-int32_t tags_get_timed(struct tags_hand *hand, struct tags_bell *bell, int32_t clock,
-		       const struct timespec *deadline)
+int32_t tags_get_timed(struct tags_hand *hand, int32_t clock, const struct timespec *deadline)
 {
 	const struct limit limit = { clock, deadline };
+	int32_t tag;
 
-	if (!hand || !bell || !deadline)
+	if (!hand || !deadline)
 		return TAGS_NULL;
 	if (!is_sound(&limit))
 		return TAGS_BAD_TIME;
-	return get_within(hand, bell, &limit);
+	if (tags_is_stopped(hand))
+		return TAGS_STOPPED;
+	tag = tags_get(hand);
+	return tag == TAGS_NO_TAG ? wait_for_tag(hand, &limit) : tag;
 }

@@ -1,8 +1,9 @@
 /*
- * The memory of the library: the three functions by which code of the toolchain
+ * The memory of the library: the three functions by which the proved code
  * allocates, over malloc() on each processor. The proof of their callers shows
  * that no alignment is above 16, which malloc() keeps to, and that each pointer
- * passed is one that was returned here and not freed since.
+ * passed is one that was returned here and not freed since. A shared library
+ * doesn't export them.
  */
 #include <stddef.h>
 #include <stdint.h>
@@ -14,9 +15,11 @@ struct tried {
 	void *start;
 };
 
-struct tried rattle_alloc(size_t size, size_t align);
-struct tried rattle_realloc(void *start, size_t size, size_t new_size, size_t align);
-void rattle_dealloc(void *start);
+#define HIDDEN __attribute__((visibility("hidden")))
+
+HIDDEN struct tried tags_library_alloc(size_t size, size_t align);
+HIDDEN struct tried tags_library_realloc(void *start, size_t size, size_t new_size, size_t align);
+HIDDEN void tags_library_dealloc(void *start);
 
 /* Where the pointer leads if there was no memory. */
 static char nothing[16];
@@ -35,20 +38,20 @@ static size_t at_least_one(size_t size)
 	return size > 0 ? size : 1;
 }
 
-struct tried rattle_alloc(size_t size, size_t align)
+struct tried tags_library_alloc(size_t size, size_t align)
 {
 	(void)align;
 	return tried(malloc(at_least_one(size)));
 }
 
-struct tried rattle_realloc(void *start, size_t size, size_t new_size, size_t align)
+struct tried tags_library_realloc(void *start, size_t size, size_t new_size, size_t align)
 {
 	(void)size;
 	(void)align;
 	return tried(realloc(start, at_least_one(new_size)));
 }
 
-void rattle_dealloc(void *start)
+void tags_library_dealloc(void *start)
 {
 	free(start);
 }

@@ -1,19 +1,24 @@
 #!/usr/bin/env bash
-# library.sh build: makes out/libtags.a beside this file: crates/tag_c, proved and compiled, with what of the library is C.
-# library.sh install PREFIX: builds it, and puts it, tags.h, tags.pc and a CMake package file below the prefix.
+# library.sh build [--prove]: makes out/libtags.a beside this file: crates/tag_c, with what of the library is C.
+# library.sh install [--prove] PREFIX: makes it, and puts it, tags.h, tags.pc and a CMake package file below the prefix.
 # library.sh uninstall PREFIX: removes them.
+# library.sh generate [FOLDER]: proves crates/tag_c and makes generated/, or FOLDER, of it, for x86-64 and 64-bit ARM.
 # library.sh dist: makes archives and Debian packages for x86-64 and 64-bit ARM, and those of tagplay, in dist/ beside this file.
-# Set LIBDIR=lib/x86_64-linux-gnu, or an absolute folder, for another folder of libraries than lib, and DESTDIR to stage an
-# install. With TAG_C=FILE the library of crates/tag_c is that file, and rt proves nothing; else `rt` of the kit is on the path.
-# OUT is another folder than out/, and CROSS_COMPILE=aarch64-linux-gnu- names the tools of another processor.
+# The crate is taken from generated/, which needs only a C compiler and ar, unless its sources have changed since that was made:
+# then, or with --prove, it is proved and compiled, which needs the kit. TAG_C=FILE takes that static library of the crate instead.
+# CC and AR name other tools than gcc and ar, and CROSS_COMPILE=aarch64-linux-gnu- those of another processor. OUT is another folder
+# than out/. LIBDIR is another folder of libraries than lib, as lib/x86_64-linux-gnu, or an absolute one, and DESTDIR stages an
+# install.
 set -euo pipefail
 here=$(cd "$(dirname "$0")" && pwd)
 out=${OUT:-$here/out}
 tools=${CROSS_COMPILE:-}
 CC=${CC:-${tools}gcc}
+AR=${AR:-${tools}ar}
+export LC_ALL=C
 
 usage() {
-  sed -n '2,8s/^# //p' "$0" >&2
+  sed -n '2,11s/^# //p' "$0" >&2
   exit 2
 }
 
@@ -21,37 +26,133 @@ say() {
   echo "library.sh: $*" >&2
 }
 
+fail() {
+  say "$@"
+  exit 1
+}
+
 version() {
   sed -n 's/^#define TAGS_VERSION_M[A-Z]* //p' "$here/tags.h" | paste -sd .
 }
 
-# The crate's exports get the names by which tags.h calls them. It is linked with its heap into one object, in which no other
-# name is visible: another library of the toolchain has the same ones.
-archive() {
-  rm -f "$out/libtags.a"
-  "${tools}nm" --extern-only --defined-only "$1" | sed -n 's/.* T tags_\(.*\)/tags_\1 tags_library_\1/p' > "$out/names"
-  [ -s "$out/names" ]
-  "${tools}objcopy" --redefine-syms="$out/names" "$1" "$out/crate.a"
-  "${tools}ld" -r --whole-archive "$out/crate.a" --no-whole-archive "$out/parts/heap.o" -o "$out/crate.o"
-  "${tools}objcopy" --wildcard --keep-global-symbol='tags_library_*' "$out/crate.o"
-  rm "$out/parts/heap.o"
-  "${tools}ar" rcsD "$out/libtags.a" "$out/crate.o" "$out"/parts/*.o
+# Stops unless the first word of each argument is a command.
+need() {
+  local tool
+  for tool; do
+    command -v "${tool%% *}" > /dev/null || fail "there is no ${tool%% *} here: install gcc and binutils, or name others by CC and AR"
+  done
+}
+
+# The processor for which a compiler's target names the assembly.
+processor() {
+  case "$1" in
+    *x32) ;;
+    x86_64*linux*) echo x86_64 && return ;;
+    aarch64*linux*) echo aarch64 && return ;;
+  esac
+  fail "$1: the library is for x86-64 and 64-bit ARM under Linux"
+}
+
+# The sum of what decides the code of crates, and what a proof says of it: src/, specs/ and the lines of crates.txt.
+sum_of_sources() {
+  local crate part
+  cd "$here/.."
+  for crate; do
+    grep -E "^$crate[ :]" crates.txt || fail "crates.txt has no line for $crate"
+    for part in src specs; do
+      [ ! -d "crates/$crate/$part" ] || find "crates/$crate/$part" -name '*.rt' -o -name '*.antt' | sort | xargs -r sha256sum
+    done
+  done | sha256sum | cut -d ' ' -f 1
+}
+
+# What the first lines of a generated file say under a name.
+said() {
+  sed -n -e "s/^ \* $1: //p" -e '/^ \*\/$/q' "$2"
+}
+
+# Prints the file of generated/ for a processor, which was not edited. Its status is 3 if the sources have changed since.
+assembly() {
+  local file="$here/generated/tag_c-$1.s" lines
+  [ -f "$file" ] || fail "there is no $file: c/library.sh generate makes it, with the kit"
+  lines=$(sed '1,/^ \*\/$/d' "$file" | sha256sum | cut -d ' ' -f 1)
+  [ "$lines" = "$(said 'Lines below' "$file")" ] ||
+    fail "$file is not as it was made, by its own sum: restore it, or make it anew by c/library.sh generate"
+  echo "$file"
+  # A copy of this folder alone has no sources to compare.
+  if [ -d "$here/../crates" ]; then
+    # shellcheck disable=SC2046
+    [ "$(sum_of_sources $(said 'Of the crates' "$file"))" = "$(said Sources "$file")" ] || return 3
+  fi
+}
+
+# Prints the file for a target, if it is of the sources as they are.
+current_assembly() {
+  local file status=0
+  file=$(assembly "$(processor "$1")") || status=$?
+  [ "$status" != 3 ] || fail "the sources of tag_c have changed since $file was made: c/library.sh generate makes it anew, with the kit"
+  [ "$status" = 0 ] || exit "$status"
+  echo "$file"
+}
+
+# Proves the crate and compiles it for a processor: prints the static library, with the kit's own names.
+proved() {
+  local cpu=x86-64 name=amd64
+  [ "$1" = x86_64 ] || cpu=generic name=arm64
+  command -v rt > /dev/null || fail "proving needs the kit, whose rt is not on the path"
+  say "proving crates/tag_c and the crates below: half an hour or more in a fresh clone, a minute once they are proved"
+  "$here/package/build_for.py" tag_c "$1-unknown-linux-gnu" "$cpu" "$out/kit/$name/libtag_c.a" || exit
+  echo "$out/kit/$name/libtag_c.a"
+}
+
+# Makes an object of the kit's static library. Its exports get the names by which tags.h calls them, and its heap that of heap.c. No
+# other name is visible: another library of the toolchain has the same ones.
+object_of() {
+  need "${tools}nm" "${tools}ld" "${tools}objcopy"
+  "${tools}nm" --extern-only --defined-only "$1" | sed -n 's/.* T tags_\(.*\)/tags_\1 tags_library_\1/p' > "$2.names"
+  [ -s "$2.names" ] || fail "$1 has no exports"
+  printf 'rattle_%s tags_library_%s\n' alloc alloc realloc realloc dealloc dealloc >> "$2.names"
+  "${tools}ld" -r --whole-archive "$1" -o "$2"
+  "${tools}objcopy" --redefine-syms="$2.names" "$2"
+  "${tools}objcopy" --wildcard --keep-global-symbol='tags_library_*' "$2"
+}
+
+# Takes what is told to, or what is there: sets the crate's static library or its assembly, and what is said of its proof.
+choose() {
+  local kind status=0
+  library=${TAG_C:-} code='' rests="rests on $library, of which nothing is known here"
+  [ -z "$library" ] || return 0
+  kind=$(processor "$($CC -dumpmachine)")
+  if [ -z "$prove" ]; then
+    code=$(assembly "$kind") || status=$?
+    [ "$status" = 0 ] || [ "$status" = 3 ] || exit "$status"
+    [ "$status" = 0 ] || say "the sources of tag_c have changed since $code was made"
+  fi
+  if [ -n "$prove" ] || [ "$status" = 3 ]; then
+    code='' library=$(proved "$kind")
+    rests="rests on the proof just made: $(cat "$library.verdict")"
+  else
+    rests="rests on the proof of which generated/$(basename "$code") was made: $(said Proved "$code"), $(said With "$code")"
+  fi
 }
 
 build() {
-  local crate=${TAG_C:-} file
-  rm -rf "$out/parts"
-  mkdir -p "$out/parts"
-  if [ -z "$crate" ]; then
-    say "proving crates/tag_c: half an hour or more in a fresh clone, a minute at most once it is proved"
-    (cd "$here/../crates/tag_c" && rt lib) >&2
-    crate=$here/../crates/tag_c/out/libtag_c.a
+  local file
+  need "$CC" "$AR" sha256sum
+  choose
+  mkdir -p "$out" || fail "$out can't be written: nothing was made"
+  making=$(mktemp -d "$out/making.XXXXXX") || fail "$out can't be written: nothing was made"
+  trap 'rm -rf "$making"' EXIT
+  if [ -n "$library" ]; then
+    object_of "$library" "$making/tag_c.o"
+  else
+    $CC -c "$code" -o "$making/tag_c.o"
   fi
   for file in "$here"/*.c; do
-    "$CC" -std=c99 -O2 -fPIC -Wall -Wextra -Wpedantic -Werror -c "$file" -o "$out/parts/$(basename "$file" .c).o"
+    $CC -std=c99 -O2 -fPIC -fno-plt -Wall -Wextra -Wpedantic -c "$file" -o "$making/$(basename "$file" .c).o"
   done
-  archive "$crate"
-  say "made $out/libtags.a"
+  $AR rcsD "$making/libtags.a" "$making"/*.o
+  mv "$making/libtags.a" "$out/libtags.a"
+  say "made $out/libtags.a: it $rests"
 }
 
 # Sets the folders of an install as it will be found, and where it is put now.
@@ -75,14 +176,31 @@ filled() {
     -e "s|@INCLUDE@|$(realpath -ms --relative-to="$libdir/cmake/tags" "$prefix/include")|" "$1"
 }
 
+# The files of an install.
+placed() {
+  echo "$include/tags.h" "$lib/libtags.a" "$lib/pkgconfig/tags.pc" "$lib/cmake/tags"/tagsConfig{,Version}.cmake
+}
+
+# Writes the files beside their places, which only then get their names: all of them, or none.
 put() {
+  local file
   folders "$1"
-  mkdir -p "$include" "$lib/pkgconfig" "$lib/cmake/tags"
-  install -m 644 "$here/tags.h" "$include/tags.h"
-  install -m 644 "$out/libtags.a" "$lib/libtags.a"
-  filled "$here/tags.pc.in" > "$lib/pkgconfig/tags.pc"
-  filled "$here/package/tagsConfig.cmake.in" > "$lib/cmake/tags/tagsConfig.cmake"
-  filled "$here/package/tagsConfigVersion.cmake.in" > "$lib/cmake/tags/tagsConfigVersion.cmake"
+  if mkdir -p "$include" "$lib/pkgconfig" "$lib/cmake/tags" &&
+    cp "$here/tags.h" "$include/tags.h.new" &&
+    cp "$out/libtags.a" "$lib/libtags.a.new" &&
+    filled "$here/tags.pc.in" > "$lib/pkgconfig/tags.pc.new" &&
+    filled "$here/package/tagsConfig.cmake.in" > "$lib/cmake/tags/tagsConfig.cmake.new" &&
+    filled "$here/package/tagsConfigVersion.cmake.in" > "$lib/cmake/tags/tagsConfigVersion.cmake.new"; then
+    for file in $(placed); do
+      chmod 644 "$file.new"
+      mv "$file.new" "$file"
+    done
+  else
+    for file in $(placed); do
+      rm -f "$file.new"
+    done
+    fail "nothing was installed: $include and $lib have to be folders that can be written"
+  fi
 }
 
 install_to() {
@@ -93,17 +211,26 @@ install_to() {
 
 uninstall_from() {
   folders "$1"
-  rm -f "$include/tags.h" "$lib/libtags.a" "$lib/pkgconfig/tags.pc" "$lib/cmake/tags"/tagsConfig{,Version}.cmake
+  # shellcheck disable=SC2046
+  rm -f $(placed)
   # Folders that nothing else is in.
   rmdir "$lib/cmake/tags" "$lib/cmake" "$lib/pkgconfig" 2> /dev/null || :
 }
 
+prove=
+case "${1:-} ${2:-}" in
+  'build --prove' | 'install --prove') prove=1 && set -- "$1" "${@:3}" ;;
+esac
 case "$#:${1:-}" in
   1:build) build ;;
+  1:generate | 2:generate) exec "$here/package/generate.py" "${@:2}" ;;
   1:dist) exec "$here/package/dist.py" ;;
   2:install) install_to "$2" ;;
   # For dist.py: puts what was built.
   2:put) put "$2" ;;
   2:uninstall) uninstall_from "$2" ;;
+  # For CMake and Cargo: the assembly for a target. For generate.py: the sum of the sources of crates.
+  2:assembly) current_assembly "$2" ;;
+  *:sum) sum_of_sources "${@:2}" ;;
   *) usage ;;
 esac

@@ -35,16 +35,17 @@ static const char *const sentences[] = {
 	[-TAGS_HANDS_WAIT] = "hands are in wait groups",
 	[-TAGS_TIMED_OUT] = "no tag was found free in time",
 	[-TAGS_BAD_TIME] = "no such clock, or no such time",
-	[-TAGS_BAD_EVENT] = "no eventfd, or too many hands wait for it",
+	[-TAGS_BAD_EVENT] = "no such descriptor",
 	[-TAGS_BAD_SHIFT] = "no such shift",
 	[-TAGS_CACHE_TOO_LARGE] = "a cache of more than 64 tags",
+	[-TAGS_STOPPED] = "the pool was stopped",
 };
 
 const char *tags_strerror(int32_t status)
 {
 	if (status >= 0)
 		return sentences[0];
-	if (status < TAGS_CACHE_TOO_LARGE)
+	if (status < TAGS_STOPPED)
 		return "there is no such status";
 	return sentences[-status];
 }

@@ -9,8 +9,9 @@
  *
  * The library is proved: under every schedule of the threads no tag and no slot
  * ever has two holders, no call changes what another hand holds, and the sums
- * that tags_close() fills in balance. The calls that take a struct tags_bell, and
- * tags_strerror(), are written in C; they are tested, not proved.
+ * that tags_close() fills in balance. How those who wait for a tag are told of one
+ * is written in C, and so is tags_strerror(). That is tested and model-checked, not
+ * proved.
  *
  * Threads
  *   A handle is a struct tags_pool or a struct tags_hand. Only one call at a time
@@ -19,20 +20,29 @@
  *   threads. Only tags_get_blocking() and tags_get_timed() block, and only
  *   tags_open(), tags_join() and tags_resize() allocate memory. Make no call from a
  *   signal handler, or in the forked child of a process with threads.
+ *   Only the two calls that block are cancellation points, and only while they
+ *   sleep: see tags_get_blocking(). Let no thread that has the cancellation type
+ *   PTHREAD_CANCEL_ASYNCHRONOUS make a call. Each call keeps errno.
+ *
+ * Waiting
+ *   A thread sleeps in tags_get_blocking() or tags_get_timed() until it gets a tag; an
+ *   event loop is notified by an eventfd, see tags_get_async(). Every call that makes
+ *   ordinary tags free looks whether anybody waits, and tells as many as there are
+ *   tags for. So nobody waits while a tag is free that no other thread is about to
+ *   get. A thread must not sleep while it holds the tags that others wait for, nor be
+ *   idle while it keeps them (see Caches). tags_stop() ends all waits.
  *
  * Caches
  *   In a pool with a cache, each hand keeps some of the ordinary tags that it gives
  *   back, as many as the options allow, and its next gets return those. Neither call
  *   makes an atomic read-modify-write then. A kept tag has no user: any use of it is
  *   refused with TAGS_NOT_HELD. But to the pool it is busy, and no other hand can get
- *   it. A clear that finds a hand in a wait group gives all kept tags back, but a
- *   hand that makes no more clears keeps what it has. So before a thread goes idle,
- *   sleeps or leaves the pool, it calls tags_ring(&bell, tags_flush(&hand)).
- *   With TAGS_KEEP_WHILE_HOLDING, clearing the last tag that a hand got also gives
- *   back all that it keeps. A hand that keeps tags then always has a clear to come,
- *   and need only flush before it posts that last tag. If threads wait for tags, set
- *   that flag, or give the pool at least 8 ordinary tags more than all its hands
- *   together may keep.
+ *   it. A clear that finds somebody waiting gives all kept tags back, but a hand that
+ *   makes no more clears keeps what it has. So before a thread goes idle, or sleeps
+ *   elsewhere, it calls tags_flush(). With TAGS_KEEP_WHILE_HOLDING, clearing or posting
+ *   the last tag that a hand got also gives back all that it keeps. A hand that keeps
+ *   tags then always has such a call to come. If threads wait for tags, set that flag,
+ *   or give the pool at least 8 ordinary tags more than all its hands together may keep.
  *
  * Arguments
  *   Each pointer must be NULL or point to an object of its type that overlaps no
@@ -57,8 +67,9 @@
 extern "C" {
 #endif
 
+/** the version of this header */
 #define TAGS_VERSION_MAJOR 0
-#define TAGS_VERSION_MINOR 2
+#define TAGS_VERSION_MINOR 3
 
 /* Programs get the calls inline. The library defines both macros to export them, too. */
 #ifndef TAGS_CALL
@@ -78,6 +89,7 @@ extern "C" {
 #endif
 
 struct timespec;
+struct tags_waiter;
 
 /** enum tags_status - what a call returns if it has neither a tag nor a count to return */
 enum tags_status {
@@ -150,12 +162,14 @@ enum tags_status {
 	TAGS_TIMED_OUT = -31,
 	/** an unknown clock, or nanoseconds outside 0 to 999,999,999 */
 	TAGS_BAD_TIME = -32,
-	/** the bell has no eventfd, the descriptor is below -1, or 64 hands already wait for it */
+	/** a descriptor below 0 */
 	TAGS_BAD_EVENT = -33,
 	/** a shift below -1, or a shift other than 0 with TAGS_ONE_PER_WORD */
 	TAGS_BAD_SHIFT = -34,
 	/** a cache of more than TAGS_MAX_CACHE tags */
-	TAGS_CACHE_TOO_LARGE = -35
+	TAGS_CACHE_TOO_LARGE = -35,
+	/** tags_stop() ended all waits */
+	TAGS_STOPPED = -36
 };
 
 enum {
@@ -173,44 +187,31 @@ enum {
 	TAGS_GROUPS = 8
 };
 
+/** struct tags_waits - what a pool and its hands share of who waits; private to the library */
+struct tags_waits {
+	/** @waiting: how many wait and have not been told of a tag */
+	uint32_t waiting;
+	/** @stopped: 1 once tags_stop() was called */
+	uint32_t stopped;
+};
+
 /** struct tags_pool - a handle for a pool; it is empty if all its bytes are 0 */
 struct tags_pool {
-	/** @full: private to the library, as is @object */
+	/** @full: private to the library, as are all fields */
 	uint64_t full;
 	void *object;
+	struct tags_waits *waits;
+	/** @place: unused; both kinds of handles have the same fields */
+	struct tags_waiter *place;
 };
 
 /** struct tags_hand - a handle for a hand; it is empty if all its bytes are 0 */
 struct tags_hand {
-	/** @full: private to the library, as is @object */
+	/** @full: private to the library, as are all fields */
 	uint64_t full;
 	void *object;
-};
-
-/**
- * struct tags_bell - where a pool's threads wait for a tag; initially all bytes are 0
- *
- * Its fields are private to the library.
- */
-struct tags_bell {
-	/** @sleepers: threads that sleep or are about to, and that no ring has woken */
-	uint32_t sleepers;
-	/** @listeners: hands in @listening */
-	uint32_t listeners;
-	/** @event: 0 for none, or the descriptor of an eventfd plus 1 */
-	uint32_t event;
-	/** @next: the wait group where the next search for sleepers starts */
-	uint32_t next;
-	/** @waking: threads that a ring woke and that have not tried again yet */
-	int32_t waking;
-	/** @depth: the number of ordinary tags, set when a thread sleeps */
-	int32_t depth;
-	/** @rings: the futex of each wait group, which counts its rings */
-	uint32_t rings[TAGS_GROUPS];
-	/** @asleep: the sleepers in each wait group */
-	uint32_t asleep[TAGS_GROUPS];
-	/** @listening: the hands that wait for the eventfd */
-	void *listening[TAGS_MAX_HANDS];
+	struct tags_waits *waits;
+	struct tags_waiter *place;
 };
 
 /** struct tags_grants - how many waiters a clear granted a wakeup */
@@ -221,11 +222,12 @@ struct tags_grants {
 	uint8_t in_group[TAGS_GROUPS];
 };
 
+#ifdef __cplusplus
+#define TAGS_EMPTY {}
+#else
 /** initializer of an empty handle */
-#define TAGS_EMPTY { 0, 0 }
-
-/** initializer of a bell */
-#define TAGS_BELL { 0, 0, 0, 0, 0, 0, { 0 }, { 0 }, { 0 } }
+#define TAGS_EMPTY { 0, 0, 0, 0 }
+#endif
 
 /** initializer of options: no tags and no hands, and the defaults for the rest */
 #define TAGS_OPTIONS_INIT { 0, 0, 0, 0, 0, 0, 0 }
@@ -281,7 +283,9 @@ enum tags_join_flags {
 
 /** enum tags_kind - one of the two sets of a pool's tags */
 enum tags_kind {
+	/** those that tags_get() takes */
 	TAGS_ORDINARY = 0,
+	/** those that tags_get_reserved() takes */
 	TAGS_RESERVED = 1
 };
 
@@ -338,7 +342,7 @@ struct tags_sums {
 /*
  * The exports of the library. They do not check for NULL; the functions below do,
  * so call those. The check costs nothing if the compiler sees that a pointer is not
- * NULL.
+ * NULL. A get fills in @left: how many tags it made free and did not take.
  */
 int32_t tags_library_open_cached(struct tags_pool *pool, const struct tags_options *options,
 				 uint32_t cache, uint32_t keeping);
@@ -346,10 +350,11 @@ int32_t tags_library_join(struct tags_pool *pool, struct tags_hand *hand, uint32
 int32_t tags_library_leave(struct tags_hand *hand);
 int32_t tags_library_resize(struct tags_pool *pool, uint32_t total);
 int32_t tags_library_close(struct tags_pool *pool, struct tags_sums *sums);
-int32_t tags_library_get(struct tags_hand *hand);
+int32_t tags_library_get(struct tags_hand *hand, uint64_t *left);
 int32_t tags_library_get_reserved(struct tags_hand *hand);
-int32_t tags_library_get_shallow(struct tags_hand *hand, uint32_t depth);
-int32_t tags_library_get_batch(struct tags_hand *hand, uint32_t n, uint64_t *won);
+int32_t tags_library_get_shallow(struct tags_hand *hand, uint32_t depth, uint64_t *left);
+int32_t tags_library_get_batch(struct tags_hand *hand, uint32_t n, uint64_t *won,
+			       uint64_t *left);
 int32_t tags_library_clear(struct tags_hand *hand, uint32_t tag);
 int32_t tags_library_clear_batch(struct tags_hand *hand, const uint32_t *tags, size_t count);
 int32_t tags_library_clear_granted(struct tags_hand *hand, uint32_t tag,
@@ -362,7 +367,7 @@ int32_t tags_library_clear_run_granted(struct tags_hand *hand, uint32_t first, u
 int32_t tags_library_flush(struct tags_hand *hand);
 int32_t tags_library_flush_granted(struct tags_hand *hand, struct tags_grants *grants);
 int32_t tags_library_is_cached(struct tags_hand *hand);
-int32_t tags_library_get_write(struct tags_hand *hand, uint64_t value);
+int32_t tags_library_get_write(struct tags_hand *hand, uint64_t value, uint64_t *left);
 int32_t tags_library_read_clear(struct tags_hand *hand, uint32_t tag, uint64_t *value);
 int32_t tags_library_read(struct tags_hand *hand, uint32_t tag, uint64_t *value);
 int32_t tags_library_write(struct tags_hand *hand, uint32_t tag, uint64_t value, uint64_t *former);
@@ -374,6 +379,14 @@ int32_t tags_library_show(struct tags_hand *hand, uint32_t kind, struct tags_siz
 int32_t tags_library_wakes(struct tags_hand *hand, struct tags_counts *counts);
 int32_t tags_library_prepare(struct tags_hand *hand);
 int32_t tags_library_finish(struct tags_hand *hand);
+
+/*
+ * What the calls below use of the C part. The first two tell those who wait of @freed tags,
+ * the second one after it gave back what the hand keeps.
+ */
+void tags_library_ring(struct tags_waits *waits, uint64_t freed);
+void tags_library_ring_kept(struct tags_hand *hand, uint64_t freed);
+int32_t tags_library_wait(struct tags_hand *hand);
 
 /*
  * The thread sanitizer does not see the library's atomic steps. So in a program built
@@ -407,31 +420,6 @@ void __tsan_release(void *address);
 #define TAGS_SEES(at) ((void)0)
 #define TAGS_SHOWS(at) ((void)0)
 #endif
-
-/* What a call does inside is hidden from it, as some move a hand by a copy that it would see. */
-#ifdef TAGS_SANITIZED
-void AnnotateIgnoreReadsBegin(const char *file, int line);
-void AnnotateIgnoreReadsEnd(const char *file, int line);
-void AnnotateIgnoreWritesBegin(const char *file, int line);
-void AnnotateIgnoreWritesEnd(const char *file, int line);
-#endif
-
-static inline int32_t tags_unseen(int32_t status)
-{
-#ifdef TAGS_SANITIZED
-	AnnotateIgnoreWritesEnd(__FILE__, __LINE__);
-	AnnotateIgnoreReadsEnd(__FILE__, __LINE__);
-#endif
-	return status;
-}
-
-static inline void tags_unsee(void)
-{
-#ifdef TAGS_SANITIZED
-	AnnotateIgnoreReadsBegin(__FILE__, __LINE__);
-	AnnotateIgnoreWritesBegin(__FILE__, __LINE__);
-#endif
-}
 
 static inline int32_t tags_won(int32_t tag)
 {
@@ -469,26 +457,44 @@ static inline void tags_lost_run(uint32_t first, uint64_t mask)
 #endif
 }
 
-/* Whether the options allow the shift. One that is too large passes: the library refuses it. */
-static inline int tags_knows_shift(const struct tags_options *options)
+/*
+ * Whoever makes tags free looks afterwards whether anybody waits. The loads below do that.
+ * They are sequentially consistent, as is each step of the library on its tags.
+ */
+
+/* After a get that returned @tag, and freed @left tags that it did not take. */
+static inline int32_t tags_swept(struct tags_hand *hand, int32_t tag, uint64_t left)
 {
-	if (options->flags & TAGS_ONE_PER_WORD)
-		return options->shift == 0;
-	return options->shift >= TAGS_DEFAULT_SHIFT;
+	if (left > 0)
+		tags_library_ring(hand->waits, left);
+	return tags_won(tag);
 }
 
-/*
- * The options as the library takes them: there a shift of 0 means one tag per word, and
- * a negative one the default. TAGS_KEEP_WHILE_HOLDING is an argument of its own.
- */
-static inline struct tags_options tags_asked(const struct tags_options *options)
+/* After a call that gave @freed tags back, and may have kept others or given kept ones back. */
+static inline int32_t tags_gave(struct tags_hand *hand, int32_t status, uint64_t freed)
 {
-	struct tags_options asked = *options;
+	if (status >= 0 && __atomic_load_n(&hand->waits->waiting, __ATOMIC_SEQ_CST) > 0)
+		tags_library_ring_kept(hand, freed);
+	return status;
+}
 
-	if (!(asked.flags & TAGS_ONE_PER_WORD) && asked.shift == 0)
-		asked.shift = TAGS_DEFAULT_SHIFT;
-	asked.flags &= ~(uint32_t)(TAGS_ONE_PER_WORD | TAGS_KEEP_WHILE_HOLDING);
-	return asked;
+/* The same for the tags of a mask, which are counted only if somebody waits. */
+static inline int32_t tags_gave_run(struct tags_hand *hand, int32_t status, uint64_t mask)
+{
+	uint64_t freed = 0;
+
+	if (status < 0 || __atomic_load_n(&hand->waits->waiting, __ATOMIC_SEQ_CST) == 0)
+		return status;
+	for (; mask; mask &= mask - 1)
+		freed++;
+	tags_library_ring_kept(hand, freed);
+	return status;
+}
+
+/* Whether tags_stop() ended the waits of the hand's pool. */
+static inline int tags_is_stopped(const struct tags_hand *hand)
+{
+	return hand->place && __atomic_load_n(&hand->waits->stopped, __ATOMIC_SEQ_CST) > 0;
 }
 
 /*
@@ -510,18 +516,7 @@ static inline struct tags_options tags_asked(const struct tags_options *options)
  *
  * Since: 0.1
  */
-TAGS_CHECKED int32_t tags_open(struct tags_pool *pool, const struct tags_options *options)
-{
-	struct tags_options asked;
-
-	if (!pool || !options)
-		return TAGS_NULL;
-	asked = tags_asked(options);
-	if (!pool->full && asked.flags <= TAGS_ROUND_ROBIN && !tags_knows_shift(options))
-		return TAGS_BAD_SHIFT;
-	return tags_library_open_cached(pool, &asked, options->cache,
-					(options->flags & TAGS_KEEP_WHILE_HOLDING) != 0);
-}
+TAGS_ANSWER int32_t tags_open(struct tags_pool *pool, const struct tags_options *options);
 
 /**
  * tags_join() - fill an empty handle with a hand of a pool
@@ -539,41 +534,22 @@ TAGS_CHECKED int32_t tags_open(struct tags_pool *pool, const struct tags_options
  *
  * Since: 0.1
  */
-TAGS_CHECKED int32_t tags_join(struct tags_pool *pool, struct tags_hand *hand, uint32_t flags)
-{
-	int32_t status;
-
-	if (!pool || !hand)
-		return TAGS_NULL;
-	if (&pool->full == &hand->full)
-		return hand->full ? TAGS_NOT_EMPTY : TAGS_BAD_HANDLE;
-	tags_unsee();
-	status = tags_unseen(tags_library_join(pool, hand, flags));
-	TAGS_SEES(TAGS_MAX_TOTAL);
-	return status;
-}
+TAGS_ANSWER int32_t tags_join(struct tags_pool *pool, struct tags_hand *hand, uint32_t flags);
 
 /**
  * tags_leave() - return a hand to its pool, and empty its handle
  * @hand: the hand
  *
  * The hand still holds its tags, and the next thread that joins as this hand can use
- * them. What it keeps in a cache goes back, but no thread is woken for that: if others
- * may wait, call tags_flush() first, and tags_ring() with its result. This call does
+ * them. What it keeps in a cache goes back, and those who wait are told of it. If the
+ * hand waits by tags_get_async(), that wait ends, as by tags_cancel(). This call does
  * not use the pool's handle, so several threads can leave at once.
  *
  * Return: TAGS_OK, or TAGS_BAD_HANDLE.
  *
  * Since: 0.1
  */
-TAGS_CALL int32_t tags_leave(struct tags_hand *hand)
-{
-	if (!hand)
-		return TAGS_NULL;
-	TAGS_SHOWS(TAGS_MAX_TOTAL);
-	tags_unsee();
-	return tags_unseen(tags_library_leave(hand));
-}
+int32_t tags_leave(struct tags_hand *hand);
 
 /**
  * tags_resize() - change the number of ordinary tags
@@ -595,13 +571,26 @@ TAGS_CALL int32_t tags_leave(struct tags_hand *hand)
  *
  * Since: 0.1
  */
-TAGS_CHECKED int32_t tags_resize(struct tags_pool *pool, uint32_t total)
-{
-	if (!pool)
-		return TAGS_NULL;
-	tags_unsee();
-	return tags_unseen(tags_library_resize(pool, total));
-}
+TAGS_ANSWER int32_t tags_resize(struct tags_pool *pool, uint32_t total);
+
+/**
+ * tags_stop() - end every wait for a tag, now and from now on
+ * @pool: the pool
+ *
+ * For a shutdown. Threads that sleep for a tag wake up, and eventfds that hands wait for
+ * are notified. From now on tags_get_blocking(), tags_get_timed() and tags_get_async()
+ * return TAGS_STOPPED, even while a tag is free. A call that was waiting may still
+ * return a tag. All other calls work as before, so that tags are given back and hands
+ * leave; then tags_close() finds them. A pool stays stopped, also over a tags_resize().
+ *
+ * Threads: this call only reads the pool's handle. It may run beside calls that use the
+ * handle, except tags_open() and tags_close().
+ *
+ * Return: TAGS_OK, or TAGS_BAD_HANDLE.
+ *
+ * Since: 0.3
+ */
+int32_t tags_stop(struct tags_pool *pool);
 
 /**
  * tags_close() - close a pool whose hands have all left, and empty its handle
@@ -612,13 +601,7 @@ TAGS_CHECKED int32_t tags_resize(struct tags_pool *pool, uint32_t total)
  *
  * Since: 0.1
  */
-TAGS_CHECKED int32_t tags_close(struct tags_pool *pool, struct tags_sums *sums)
-{
-	if (!pool || !sums)
-		return TAGS_NULL;
-	tags_unsee();
-	return tags_unseen(tags_library_close(pool, sums));
-}
+TAGS_ANSWER int32_t tags_close(struct tags_pool *pool, struct tags_sums *sums);
 
 /*
  * Taking tags
@@ -639,9 +622,13 @@ TAGS_CHECKED int32_t tags_close(struct tags_pool *pool, struct tags_sums *sums)
  */
 TAGS_CHECKED int32_t tags_get(struct tags_hand *hand)
 {
+	uint64_t left = 0;
+	int32_t tag;
+
 	if (!hand)
 		return TAGS_NULL;
-	return tags_won(tags_library_get(hand));
+	tag = tags_library_get(hand, &left);
+	return tags_swept(hand, tag, left);
 }
 
 /**
@@ -676,9 +663,13 @@ TAGS_CHECKED int32_t tags_get_reserved(struct tags_hand *hand)
  */
 TAGS_CHECKED int32_t tags_get_shallow(struct tags_hand *hand, uint32_t depth)
 {
+	uint64_t left = 0;
+	int32_t tag;
+
 	if (!hand)
 		return TAGS_NULL;
-	return tags_won(tags_library_get_shallow(hand, depth));
+	tag = tags_library_get_shallow(hand, depth, &left);
+	return tags_swept(hand, tag, left);
 }
 
 /**
@@ -699,11 +690,14 @@ TAGS_CHECKED int32_t tags_get_shallow(struct tags_hand *hand, uint32_t depth)
  */
 TAGS_CHECKED int32_t tags_get_batch(struct tags_hand *hand, uint32_t n, uint64_t *won)
 {
+	uint64_t left = 0;
 	int32_t first;
 
 	if (!hand || !won)
 		return TAGS_NULL;
-	first = tags_library_get_batch(hand, n, won);
+	first = tags_library_get_batch(hand, n, won, &left);
+	if (left > 0)
+		tags_library_ring(hand->waits, left);
 #ifdef TAGS_SANITIZED
 	for (int32_t i = 0; first >= 0 && i < 64; i++)
 		if (*won >> i & 1)
@@ -721,10 +715,10 @@ TAGS_CHECKED int32_t tags_get_batch(struct tags_hand *hand, uint32_t n, uint64_t
  * @hand: the hand that holds it
  * @tag: the tag
  *
- * If threads or event loops wait for tags, call tags_give() instead. A hand with a
- * cache keeps an ordinary tag if it finds no hand in a wait group, and first gives its
- * kept tags back if there is no room for this one. If it finds a hand in a wait group,
- * all kept tags go back with this tag.
+ * Whoever waits for a tag is told, whether or not this clear completes a batch of
+ * completions. A hand with a cache keeps an ordinary tag if it finds nobody waiting, and
+ * first gives its kept tags back if there is no room for this one. If it finds somebody
+ * waiting, or a hand in a wait group, all kept tags go back with this tag.
  *
  * Return: how many waiters were granted a wakeup, which is 0 unless some hand
  * is in a wait group. Otherwise TAGS_BAD_HANDLE, TAGS_NO_SUCH_TAG or
@@ -737,7 +731,7 @@ TAGS_CALL int32_t tags_clear(struct tags_hand *hand, uint32_t tag)
 	if (!hand)
 		return TAGS_NULL;
 	tags_lost(tag);
-	return tags_library_clear(hand, tag);
+	return tags_gave(hand, tags_library_clear(hand, tag), 1);
 }
 
 /**
@@ -760,7 +754,7 @@ TAGS_CALL int32_t tags_clear_batch(struct tags_hand *hand, const uint32_t *tags,
 	if (!hand || !tags)
 		return TAGS_NULL;
 	tags_lost_all(tags, count);
-	return tags_library_clear_batch(hand, tags, count);
+	return tags_gave(hand, tags_library_clear_batch(hand, tags, count), count);
 }
 
 /**
@@ -781,7 +775,7 @@ TAGS_CALL int32_t tags_clear_granted(struct tags_hand *hand, uint32_t tag,
 	if (!hand || !grants)
 		return TAGS_NULL;
 	tags_lost(tag);
-	return tags_library_clear_granted(hand, tag, grants);
+	return tags_gave(hand, tags_library_clear_granted(hand, tag, grants), 1);
 }
 
 /**
@@ -801,7 +795,7 @@ TAGS_CALL int32_t tags_clear_batch_granted(struct tags_hand *hand, const uint32_
 	if (!hand || !tags || !grants)
 		return TAGS_NULL;
 	tags_lost_all(tags, count);
-	return tags_library_clear_batch_granted(hand, tags, count, grants);
+	return tags_gave(hand, tags_library_clear_batch_granted(hand, tags, count, grants), count);
 }
 
 /**
@@ -825,7 +819,7 @@ TAGS_CALL int32_t tags_clear_run(struct tags_hand *hand, uint32_t first, uint64_
 	if (!hand)
 		return TAGS_NULL;
 	tags_lost_run(first, mask);
-	return tags_library_clear_run(hand, first, mask);
+	return tags_gave_run(hand, tags_library_clear_run(hand, first, mask), mask);
 }
 
 /**
@@ -845,15 +839,16 @@ TAGS_CALL int32_t tags_clear_run_granted(struct tags_hand *hand, uint32_t first,
 	if (!hand || !grants)
 		return TAGS_NULL;
 	tags_lost_run(first, mask);
-	return tags_library_clear_run_granted(hand, first, mask, grants);
+	return tags_gave_run(hand, tags_library_clear_run_granted(hand, first, mask, grants),
+			     mask);
 }
 
 /**
  * tags_flush() - give all kept tags back
  * @hand: a hand of a pool with or without a cache
  *
- * Call it before a thread that keeps tags goes idle or sleeps, and wake whoever waits:
- * tags_ring(&bell, tags_flush(&hand)). The tags that the hand holds stay held.
+ * Call it before a thread that keeps tags goes idle, or sleeps elsewhere. Those who wait
+ * are told. The tags that the hand holds stay held.
  *
  * Return: how many waiters were granted a wakeup, which is 0 if nothing was kept.
  * Otherwise TAGS_BAD_HANDLE.
@@ -864,7 +859,7 @@ TAGS_CALL int32_t tags_flush(struct tags_hand *hand)
 {
 	if (!hand)
 		return TAGS_NULL;
-	return tags_library_flush(hand);
+	return tags_gave(hand, tags_library_flush(hand), 0);
 }
 
 /**
@@ -880,7 +875,7 @@ TAGS_CALL int32_t tags_flush_granted(struct tags_hand *hand, struct tags_grants 
 {
 	if (!hand || !grants)
 		return TAGS_NULL;
-	return tags_library_flush_granted(hand, grants);
+	return tags_gave(hand, tags_library_flush_granted(hand, grants), 0);
 }
 
 /*
@@ -898,9 +893,13 @@ TAGS_CALL int32_t tags_flush_granted(struct tags_hand *hand, struct tags_grants 
  */
 TAGS_CHECKED int32_t tags_get_write(struct tags_hand *hand, uint64_t value)
 {
+	uint64_t left = 0;
+	int32_t tag;
+
 	if (!hand)
 		return TAGS_NULL;
-	return tags_won(tags_library_get_write(hand, value));
+	tag = tags_library_get_write(hand, value, &left);
+	return tags_swept(hand, tag, left);
 }
 
 /**
@@ -918,7 +917,7 @@ TAGS_CALL int32_t tags_read_clear(struct tags_hand *hand, uint32_t tag, uint64_t
 	if (!hand || !value)
 		return TAGS_NULL;
 	tags_lost(tag);
-	return tags_library_read_clear(hand, tag, value);
+	return tags_gave(hand, tags_library_read_clear(hand, tag, value), 1);
 }
 
 /**
@@ -967,7 +966,7 @@ TAGS_CALL int32_t tags_write(struct tags_hand *hand, uint32_t tag, uint64_t valu
  * The tag is posted until some hand of the pool takes it. That hand sees whatever
  * this one wrote before the post, to the slot or to memory that it points to. With
  * TAGS_KEEP_WHILE_HOLDING, posting the last tag that the hand got gives all kept tags
- * back, but wakes no thread: call tags_flush() first, and tags_ring() with its result.
+ * back, and those who wait are told.
  *
  * Return: TAGS_OK. Otherwise TAGS_BAD_HANDLE, TAGS_NO_SUCH_TAG or TAGS_NOT_HELD.
  *
@@ -978,7 +977,7 @@ TAGS_CALL int32_t tags_post(struct tags_hand *hand, uint32_t tag)
 	if (!hand)
 		return TAGS_NULL;
 	tags_lost(tag);
-	return tags_library_post(hand, tag);
+	return tags_gave(hand, tags_library_post(hand, tag), 0);
 }
 
 /**
@@ -998,8 +997,8 @@ TAGS_CHECKED int32_t tags_take(struct tags_hand *hand, uint32_t tag)
 	if (!hand)
 		return TAGS_NULL;
 	status = tags_library_take(hand, tag);
-	if (status == TAGS_OK)
-		tags_won((int32_t)tag);
+	if (status == TAGS_OK && tag < TAGS_MAX_TOTAL)
+		TAGS_SEES(tag);
 	return status;
 }
 
@@ -1075,161 +1074,93 @@ TAGS_CALL int32_t tags_wakes(struct tags_hand *hand, struct tags_counts *counts)
 }
 
 /*
- * Waiting for an ordinary tag. Use one bell per pool, and ring it whenever ordinary
- * tags are given back: by tags_give(), tags_give_batch() or tags_give_run(), or by
- * tags_ring() after a clear. Then no thread goes on sleeping, and no event loop goes
- * without a notification, while a tag is free that became free after it began to
- * wait. That is tested, not proved. A thread must not sleep while it holds the tags
- * that others wait for, nor be idle while it keeps them (see Caches above).
+ * Waiting for an ordinary tag. Whoever makes tags free tells those who wait, as many as
+ * there are tags for: each tag tells one of the threads that sleep and one of the hands
+ * that wait for an eventfd, each time the one that has waited longest. That is tested
+ * and model-checked, not proved.
  */
 
 /**
  * tags_get_blocking() - take a free ordinary tag, and sleep while there is none
  * @hand: the hand that gets the tag
- * @bell: the pool's bell
+ *
+ * While it sleeps, and only then, it is a cancellation point. A thread that is cancelled
+ * there has got no tag, its hand waits no more, and a tag that it was told of goes to
+ * another thread. The hand is still joined, and any thread may use it or let it leave.
  *
  * Return: the tag. Otherwise TAGS_BAD_HANDLE, TAGS_SPENT, TAGS_NO_SUCH_TAG if
- * the pool has no ordinary tag, or TAGS_WAITING if the hand would have to wait
- * but is already in a wait group.
+ * the pool has no ordinary tag, TAGS_WAITING if the hand would have to wait
+ * but is already in a wait group, or TAGS_STOPPED.
  *
  * Since: 0.1
  */
-int32_t tags_get_blocking(struct tags_hand *hand, struct tags_bell *bell);
+TAGS_CHECKED int32_t tags_get_blocking(struct tags_hand *hand)
+{
+	int32_t tag;
+
+	if (!hand)
+		return TAGS_NULL;
+	if (tags_is_stopped(hand))
+		return TAGS_STOPPED;
+	tag = tags_get(hand);
+	return tag == TAGS_NO_TAG ? tags_library_wait(hand) : tag;
+}
 
 /**
  * tags_get_timed() - take a free ordinary tag, and sleep until a deadline while there is none
  * @hand: the hand that gets the tag
- * @bell: the pool's bell
  * @clock: CLOCK_MONOTONIC or CLOCK_REALTIME
  * @deadline: when to give up, by that clock
  *
  * If the deadline has passed already, the call tries once. A hand that timed out is in
- * no wait group, and a wakeup that it was granted goes to another thread.
+ * no wait group, and a tag that it was told of goes to another thread. Of cancellation
+ * holds what is said of tags_get_blocking().
  *
  * Return: the tag. Otherwise TAGS_BAD_TIME, which is checked first: another clock, or
  * nanoseconds outside 0 to 999,999,999; TAGS_TIMED_OUT; or as tags_get_blocking().
  *
  * Since: 0.2
  */
-TAGS_ANSWER int32_t tags_get_timed(struct tags_hand *hand, struct tags_bell *bell, int32_t clock,
-		       const struct timespec *deadline);
+TAGS_ANSWER int32_t tags_get_timed(struct tags_hand *hand, int32_t clock,
+				   const struct timespec *deadline);
 
 /**
- * tags_give() - give a held tag back, and wake a thread that waits for one
- * @hand: the hand that holds the tag
- * @bell: the pool's bell
- * @tag: the tag
- *
- * It wakes a sleeping thread whether or not this clear completes a batch of completions.
- *
- * Return: as tags_clear().
- *
- * Since: 0.2
- */
-int32_t tags_give(struct tags_hand *hand, struct tags_bell *bell, uint32_t tag);
-
-/**
- * tags_give_batch() - give several ordinary tags back, and wake as many threads
- * @hand: the hand that holds the tags
- * @bell: the pool's bell
- * @tags: the tags, each of them once
- * @count: how many, 1 to TAGS_MAX_BATCH
- *
- * Return: as tags_clear_batch().
- *
- * Since: 0.2
- */
-int32_t tags_give_batch(struct tags_hand *hand, struct tags_bell *bell, const uint32_t *tags,
-			size_t count);
-
-/**
- * tags_give_run() - give the ordinary tags of a mask back, and wake as many threads
- * @hand: the hand that holds the tags
- * @bell: the pool's bell
- * @first: the tag of bit 0
- * @mask: bit i is 1 if the tag @first + i is given back
- *
- * Return: as tags_clear_run().
- *
- * Since: 0.2
- */
-int32_t tags_give_run(struct tags_hand *hand, struct tags_bell *bell, uint32_t first,
-		      uint64_t mask);
-
-/**
- * tags_ring() - wake sleeping threads, at most as many as the pool has ordinary tags
- * @bell: the pool's bell
- * @woken: what tags_clear(), tags_flush() or another call that gives tags back returned
- *
- * Wrap it around the clear: tags_ring(&bell, tags_clear(&hand, tag)). After a
- * clear that was refused it does nothing. Where many threads wait for few tags,
- * tags_give() takes a fraction of the processor time.
- *
- * Return: @woken.
- *
- * Since: 0.1
- */
-int32_t tags_ring(struct tags_bell *bell, int32_t woken);
-
-/**
- * tags_ring_granted() - wake sleeping threads, first in the groups with granted wakeups
- * @bell: the pool's bell
- * @grants: what tags_clear_granted() filled in
- *
- * It wakes as many as were granted, and at least one if any sleeps. Clearing a batch
- * may free more tags than that: call tags_give_batch() for a batch.
- *
- * Return: how many were granted, or TAGS_NULL.
- *
- * Since: 0.2
- */
-int32_t tags_ring_granted(struct tags_bell *bell, const struct tags_grants *grants);
-
-/*
- * Waiting for an ordinary tag in an event loop
- */
-
-/**
- * tags_set_event() - set the eventfd that is notified while hands wait by tags_get_async()
- * @bell: the pool's bell
- * @descriptor: the eventfd, which still belongs to the program; or -1 for none
- *
- * Set it before the first tags_get_async(), and close it after the last. Make it
- * non-blocking, so that no thread that gives a tag back can block on it.
- *
- * Return: TAGS_OK, or TAGS_BAD_EVENT for a descriptor below -1.
- *
- * Since: 0.2
- */
-int32_t tags_set_event(struct tags_bell *bell, int descriptor);
-
-/**
- * tags_get_async() - take a free ordinary tag, or be notified by the eventfd when to try again
+ * tags_get_async() - take a free ordinary tag, or be notified by an eventfd when to try again
  * @hand: the hand that gets the tag
- * @bell: the pool's bell
+ * @descriptor: the eventfd, which still belongs to the program; several hands may name one
  *
- * TAGS_NO_TAG means that the hand now waits: each tag given back from now on adds 1
- * to the eventfd. When the eventfd is readable, read it, and repeat this call for each
- * hand that waits, until it returns something else; or end the wait by tags_cancel().
+ * TAGS_NO_TAG means that the hand now waits. Of those that wait, the one that has waited
+ * longest is notified for each tag that becomes free, by adding 1 to its eventfd: for a
+ * batch of three tags three hands are. When the eventfd is readable, read it, and repeat
+ * this call for each hand that waits for it, until it returns something else; or end the
+ * wait by tags_cancel() or tags_leave(). Another hand may have got the tag first, so that
+ * it returns TAGS_NO_TAG again; that does not cost the hand its turn. The repeated call
+ * may name another eventfd. A hand that was notified is not notified again before it
+ * repeats the call, and until then no other hand is notified of that tag: so repeat it
+ * soon, or cancel.
  *
- * Return: the tag, or TAGS_NO_TAG. Otherwise the hand does not wait: TAGS_BAD_EVENT,
- * TAGS_BAD_HANDLE, TAGS_SPENT, TAGS_NO_SUCH_TAG if the pool has no ordinary tag,
- * or TAGS_WAITING if tags_prepare() put it in a wait group.
+ * Once the wait has ended nothing is written to the eventfd, so the program may close it.
+ * Make it non-blocking, so that no thread that gives a tag back can block on it.
+ *
+ * Return: the tag, or TAGS_NO_TAG. Otherwise the hand does not wait: TAGS_BAD_HANDLE,
+ * TAGS_BAD_EVENT, TAGS_STOPPED, TAGS_SPENT, TAGS_NO_SUCH_TAG if the pool has no
+ * ordinary tag, or TAGS_WAITING if tags_prepare() put it in a wait group.
  *
  * Since: 0.2
  */
-TAGS_ANSWER int32_t tags_get_async(struct tags_hand *hand, struct tags_bell *bell);
+TAGS_ANSWER int32_t tags_get_async(struct tags_hand *hand, int descriptor);
 
 /**
  * tags_cancel() - end a wait that tags_get_async() began
  * @hand: the hand that waits
- * @bell: the pool's bell
+ *
+ * If the hand was notified of a tag, another hand that waits is notified in its place.
  *
  * Return: TAGS_OK, TAGS_BAD_HANDLE, or TAGS_NOT_WAITING.
  *
  * Since: 0.2
  */
-int32_t tags_cancel(struct tags_hand *hand, struct tags_bell *bell);
+int32_t tags_cancel(struct tags_hand *hand);
 
 /*
  * Waiting by other means
@@ -1241,8 +1172,10 @@ int32_t tags_cancel(struct tags_hand *hand, struct tags_bell *bell);
  *
  * From now on each clear of an ordinary tag is counted as a completion. Try
  * tags_get() once more before you sleep: a clear just before may not have been
- * counted. What the hand keeps in a cache goes back first, but no thread is woken for
- * that: if others may wait, call tags_flush() first, and tags_ring() with its result.
+ * counted. What the hand keeps in a cache goes back first, and those who wait are told.
+ * A get can make tags free too, and grants no wakeup for them; so a program that sleeps
+ * by other means sleeps beside a free tag now and then, unless it sleeps for a limited
+ * time. tags_get_blocking() and tags_get_async() do not.
  *
  * Return: the group, below 8. Otherwise TAGS_BAD_HANDLE or TAGS_WAITING.
  *
@@ -1252,7 +1185,7 @@ TAGS_CHECKED int32_t tags_prepare(struct tags_hand *hand)
 {
 	if (!hand)
 		return TAGS_NULL;
-	return tags_library_prepare(hand);
+	return tags_gave(hand, tags_library_prepare(hand), 0);
 }
 
 /**

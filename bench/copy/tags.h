@@ -8,9 +8,7 @@
 
 enum { TAGS_NO_TAG = -1, MOST = 64 };
 #define TAGS_EMPTY { 0 }
-#define TAGS_BELL { 0 }
 
-struct tags_bell { int unused; };
 struct tags_hand { int unused; };
 struct tags_pool { int unused; };
 struct tags_options { uint32_t total, hands; };
@@ -61,8 +59,8 @@ static int32_t list_open(uint32_t total)
 
 #define tags_open(pool, options) list_open((options)->total)
 #define tags_get(hand) list_get(0)
-#define tags_get_blocking(hand, bell) list_get(1)
-#define tags_give(hand, bell, tag) list_give(tag)
+#define tags_get_blocking(hand) list_get(1)
+#define tags_clear(hand, tag) list_give(tag)
 #define tags_write(hand, tag, value, former) (list.slots[tag] = (value), 0)
 #define tags_read(hand, tag, value) (*(value) = list.slots[tag], 0)
 #define tags_take(hand, tag) 0

@@ -48,7 +48,6 @@ struct file {
 
 /* one for each tag that is under way */
 static struct request requests[DEPTH];
-static struct tags_bell bell = TAGS_BELL;
 static struct tags_hand submitter = TAGS_EMPTY;
 static struct tags_hand reaper = TAGS_EMPTY;
 static struct io_uring ring;
@@ -111,7 +110,7 @@ static void complete(uint32_t tag, ssize_t result)
 		write_block(request, result);
 	}
 	copied += result;
-	must("tags_give", tags_give(&reaper, &bell, tag));
+	must("tags_clear", tags_clear(&reaper, tag));
 }
 
 static void *reap(void *unused)
@@ -156,7 +155,7 @@ static uint32_t get_tag(void)
 
 	if (tag == TAGS_NO_TAG) {
 		submit();
-		tag = tags_get_blocking(&submitter, &bell);
+		tag = tags_get_blocking(&submitter);
 	}
 	return (uint32_t)must("tags_get_blocking", tag);
 }

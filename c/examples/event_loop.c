@@ -24,7 +24,6 @@ struct stream {
 
 static struct stream streams[STREAMS];
 static struct tags_hand other = TAGS_EMPTY;
-static struct tags_bell bell = TAGS_BELL;
 static int to_device[2];
 static int to_loop[2];
 
@@ -59,18 +58,18 @@ static void *run_device(void *unused)
 static void *run_other(void *unused)
 {
 	for (uint32_t i = 0; i < REQUESTS; i++) {
-		int32_t tag = must("tags_get_blocking", tags_get_blocking(&other, &bell));
+		int32_t tag = must("tags_get_blocking", tags_get_blocking(&other));
 
-		must("tags_give", tags_give(&other, &bell, (uint32_t)tag));
+		must("tags_clear", tags_clear(&other, (uint32_t)tag));
 	}
 	return unused;
 }
 
 /* Submits as many requests as there are tags for. Where none is free, the eventfd will tell. */
-static void submit(struct stream *stream, uint64_t number)
+static void submit(struct stream *stream, uint64_t number, int event)
 {
 	while (stream->submitted < REQUESTS) {
-		int32_t answer = tags_get_async(&stream->hand, &bell);
+		int32_t answer = tags_get_async(&stream->hand, event);
 		uint32_t tag = (uint32_t)answer;
 
 		if (answer == TAGS_NO_TAG)
@@ -94,7 +93,7 @@ static void complete(void)
 	must("tags_take", tags_take(hand, tag));
 	must("tags_read", tags_read(hand, tag, &number));
 	streams[number].completed++;
-	must("tags_give", tags_give(hand, &bell, tag));
+	must("tags_clear", tags_clear(hand, tag));
 }
 
 static uint32_t completed(void)
@@ -112,7 +111,7 @@ static void loop(int event)
 	uint64_t told;
 
 	for (uint32_t i = 0; i < STREAMS; i++)
-		submit(&streams[i], i);
+		submit(&streams[i], i, event);
 	while (completed() < STREAMS * REQUESTS) {
 		if (poll(looks, 2, -1) < 0)
 			exit(1);
@@ -120,7 +119,7 @@ static void loop(int event)
 			complete();
 		if (looks[0].revents && read(event, &told, sizeof(told)) == sizeof(told))
 			for (uint32_t i = 0; i < STREAMS; i++)
-				submit(&streams[i], i);
+				submit(&streams[i], i, event);
 	}
 }
 
@@ -137,7 +136,6 @@ int main(void)
 	pthread_t thread;
 
 	must("tags_open", tags_open(&pool, &options));
-	must("tags_set_event", tags_set_event(&bell, event));
 	for (uint32_t i = 0; i < STREAMS; i++)
 		must("tags_join", tags_join(&pool, &streams[i].hand, 0));
 	must("tags_join", tags_join(&pool, &other, 0));

@@ -48,7 +48,6 @@ static struct device device = {
 	.lock = PTHREAD_MUTEX_INITIALIZER,
 	.filled = PTHREAD_COND_INITIALIZER,
 };
-static struct tags_bell bell = TAGS_BELL;
 
 /* Exits if a call was refused, which none of the calls here should be. */
 static int32_t must(const char *call, int32_t answer)
@@ -97,7 +96,7 @@ static void *submit(void *argument)
 	struct worker *self = argument;
 
 	for (uint32_t i = self->number; i < REQUESTS; i += SUBMITTERS) {
-		int32_t tag = must("tags_get_blocking", tags_get_blocking(&self->hand, &bell));
+		int32_t tag = must("tags_get_blocking", tags_get_blocking(&self->hand));
 
 		must("tags_write", tags_write(&self->hand, (uint32_t)tag, i, NULL));
 		must("tags_post", tags_post(&self->hand, (uint32_t)tag));
@@ -117,7 +116,7 @@ static void *complete(void *argument)
 		must("tags_take", tags_take(&self->hand, (uint32_t)tag));
 		must("tags_read", tags_read(&self->hand, (uint32_t)tag, &number));
 		requests[number].done++;
-		must("tags_give", tags_give(&self->hand, &bell, (uint32_t)tag));
+		must("tags_clear", tags_clear(&self->hand, (uint32_t)tag));
 	}
 	return NULL;
 }

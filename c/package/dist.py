@@ -1,6 +1,6 @@
 #!/usr/bin/env python3
 """Makes dist/ beside c/library.sh: the C library as a tar.gz and as Debian packages, for x86-64 and for 64-bit ARM, and the program
-tagplay for x86-64.
+tagplay for x86-64. The library is made of generated/, which has to be of the sources as they are; the program takes the kit.
 
 The same sources and tools give the same bytes: the date of all files is SOURCE_DATE_EPOCH, or that of the last commit. ARM is left
 out where gcc-aarch64-linux-gnu is not installed. `--of amd64` or `--of arm64` makes those of one processor alone, and
@@ -26,21 +26,23 @@ from packing import (  # noqa: E402
 )
 
 SONAME = "libtags.so.0"
+EXAMPLES = ["quick_start.c", "io_queue.c", "event_loop.c", "copy_file.c"]
 
 
 def build(processor):
-    """Builds the library for a processor: its verdict."""
-    archive = f"{processor.made}/libtag_c.a"
-    say(f"{processor.name}: compiling tag_c; what is not proved yet is proved first, which takes half an hour in a fresh clone")
-    subprocess.run([f"{HERE}/build_for.py", "tag_c", processor.triple, processor.cpu, archive], check=True, stdout=sys.stderr)
-    known = {**os.environ, "TAG_C": archive, "OUT": f"{processor.made}/out", "CROSS_COMPILE": processor.tools}
+    """Builds the library for a processor: what was proved, with which kit."""
+    assembly = ran(f"{C}/library.sh", "assembly", processor.gnu).strip()
+    known = {**os.environ, "OUT": f"{processor.made}/out", "CROSS_COMPILE": processor.tools}
     subprocess.run([f"{C}/library.sh", "build"], check=True, env=known)
     library = f"{processor.made}/out/libtags.so"
     options = [f"-Wl,-soname,{SONAME}", f"-Wl,--version-script={C}/tags.map", "-Wl,-z,relro,-z,now,-z,defs", "-Wl,--no-undefined"]
+    # The library calls its own exports directly, and not through the table by which others find them.
+    options.append("-Wl,-Bsymbolic-functions")
     whole = ["-Wl,--whole-archive", f"{processor.made}/out/libtags.a", "-Wl,--no-whole-archive"]
     subprocess.run([processor.tool("gcc"), "-shared", *options, *whole, "-o", library], check=True)
     subprocess.run([processor.tool("strip"), "--strip-unneeded", library], check=True)
-    return read(f"{archive}.verdict")
+    head = dict(re.findall(r"^ \* ([A-Z][a-z ]+): (.*)$", read(assembly).partition("*/")[0], re.M))
+    return head["Proved"], head["With"]
 
 
 def put(processor, folder, prefix, libdir):
@@ -60,7 +62,7 @@ def put_manual(folder):
 
 
 def put_crate(folder):
-    """The Rust crate, whose build script finds an installed library."""
+    """The Rust crate, whose build script finds an installed library, or makes one of what native/ has."""
     for name in ran("git", "-C", C, "ls-files", "rust").split():
         if os.path.basename(name) != ".gitignore":
             copy(f"{C}/{name}", f"{folder}/{name.removeprefix('rust/')}")
@@ -83,7 +85,7 @@ def make_packages(processor, proved, work):
             os.rename(f"{lib}/{name}", f"{runtime}/usr/lib/{processor.gnu}/{name}")
     put_manual(f"{dev}/usr/share/man/man3")
     put_crate(f"{dev}/usr/share/tags/rust")
-    for name in ("quick_start.c", "io_queue.c"):
+    for name in EXAMPLES:
         copy(f"{C}/examples/{name}", f"{dev}/usr/share/doc/libtags-dev/examples/{name}")
     put_documents(f"{runtime}/usr/share/doc/libtags0", "libtags0", processor, proved)
     put_documents(f"{dev}/usr/share/doc/libtags-dev", "libtags-dev", processor, proved)
@@ -116,7 +118,7 @@ def make_tarball(processor, proved, work):
     write(file, re.sub(r"^libdir=.*", "libdir=${prefix}/lib", found, flags=re.M))
     put_manual(f"{folder}/share/man/man3")
     put_crate(f"{folder}/share/tags/rust")
-    for example in ("quick_start.c", "io_queue.c"):
+    for example in EXAMPLES:
         copy(f"{C}/examples/{example}", f"{folder}/share/doc/tags/examples/{example}")
     put_documents(f"{folder}/share/doc/tags", "tags", processor, proved)
     tarball(folder, f"{DIST}/{name}.tar.gz")
@@ -133,7 +135,7 @@ def make_library(processor, work):
     if not can_compile(processor):
         say(f"there is no {processor.tool('gcc')} with a C library here, so {processor.name} is left out")
         return
-    proved = proved_text("tag_c", processor, build(processor))
+    proved = proved_text("tag_c", processor, *build(processor))
     make_packages(processor, proved, work)
     make_tarball(processor, proved, work)
 

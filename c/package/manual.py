@@ -2,7 +2,7 @@
 """manual.py FOLDER: writes man pages of section 3, made from the texts of tags.h: tags.3 and one page for each call.
 
 What tags.h says of a call is the page: its summary, its parameters, its paragraphs, and the parts that begin with a word and a colon
-(Threads, Return, Since). The date is SOURCE_DATE_EPOCH, or today.
+(Threads, Return, Since). Types, macros and constants are in tags.3. The date is SOURCE_DATE_EPOCH, or today.
 """
 import os
 import re
@@ -12,7 +12,13 @@ import time
 C = os.path.dirname(os.path.dirname(os.path.abspath(__file__)))
 HEADER, EXAMPLE = f"{C}/tags.h", f"{C}/examples/quick_start.c"
 DOC = re.compile(r"^/\*\*\n \* (\w+)\(\) - (.*?)\n(.*?)^ \*/\n(.*?)(?:;|\n\{)", re.M | re.S)
-TYPE = re.compile(r"^/\*\* (enum|struct) (\w+) - (.*?) \*/\n\1 \2 \{\n(.*?)^\};", re.M | re.S)
+# A comment of one line, or of several.
+TEXT = r"^/\*\*((?:(?!\*/).)*)\*/\n"
+TYPE = re.compile(rf"{TEXT}(enum|struct) (\w+) \{{\n(.*?)^\}};", re.M | re.S)
+MACROS = re.compile(rf"{TEXT}((?:#define TAGS_\w+[^\n]*\n)+)", re.M | re.S)
+CONSTANTS = re.compile(r"^enum \{\n(.*?)^\};", re.M | re.S)
+# Macros of the header that are not for programs.
+PRIVATE = set("TAGS_H TAGS_CALL TAGS_CHECKED TAGS_ANSWER TAGS_SANITIZED TAGS_SEES TAGS_SHOWS".split())
 MEMBER = re.compile(r"/\*\*(.*?)\*/\s*([^;,/]+?)\s*[;,]?\s*$", re.M | re.S)
 PART = re.compile(r"^(Threads|Return|Since): ")
 TITLES = {"Threads": "NOTES", "Return": "RETURN VALUE", "Since": "HISTORY"}
@@ -108,6 +114,23 @@ def listing(text):
         yield re.sub(r"^([.'])", r"\\&\1", line.replace("\\", "\\e").replace("-", "\\-").replace("'", "\\(aq"))
 
 
+def sentence(text):
+    text = roff(text.strip())
+    return text[0].upper() + text[1:] + ("" if text.endswith(".") else ".")
+
+
+def title_of(kind, name):
+    return ".SH STATUSES" if name == "tags_status" else f'.SH "{kind.upper()} {name.upper()}"'
+
+
+def macros(text):
+    """The macros that programs use, with what is said of them; several under one comment stand together."""
+    for comment, defined in MACROS.findall(text):
+        names = re.findall(r"^#define (\w+)", defined, re.M)
+        if not PRIVATE.issuperset(names):
+            yield ", ".join(names), unstarred(comment)
+
+
 def page_of_all(text, version, calls):
     lines = head("tags", version, re.match(r"/\*\n \* tags\.h - (.*)", text)[1])
     lines += [".SH SYNOPSIS", ".nf", ".B #include <tags.h>", ".PP"]
@@ -115,9 +138,18 @@ def page_of_all(text, version, calls):
     lines += [".SH CALLS"]
     for found in calls:
         lines += [".TP", f".BR {found[1]} (3)", roff(found[2])]
-    for kind, name, summary, body in TYPE.findall(text):
-        title = "STATUSES" if name == "tags_status" else f"{kind} {name}"
-        lines += [f".SH {title}" if title == "STATUSES" else f'.SH "{title.upper()}"', roff(summary[0].upper() + summary[1:]) + "."]
+    for comment, kind, name, body in TYPE.findall(text):
+        first, *rest = paragraphs(unstarred(comment).strip())
+        lines += [title_of(kind, name), sentence(first.partition(" - ")[2])]
+        for it in rest:
+            lines += [".PP", roff(it)]
+        for member, meaning in members(body):
+            lines += [".TP", f".B {member}", roff(meaning)]
+    lines += [".SH MACROS"]
+    for names, meaning in macros(text):
+        lines += [".TP", f".B {names}", sentence(meaning)]
+    lines += [".SH CONSTANTS"]
+    for body in CONSTANTS.findall(text):
         for member, meaning in members(body):
             lines += [".TP", f".B {member}", roff(meaning)]
     with open(EXAMPLE, encoding="utf-8") as file:
@@ -132,6 +164,24 @@ def pages(text):
     names = {it[1] for it in calls}
     made = {f"{it[1]}.3": page_of_call(it, version, names) for it in calls}
     return {"tags.3": page_of_all(text, version, calls), **made}
+
+
+def unnamed(text):
+    """Each struct, enum, macro and call of the header that no page has, by another reading of it."""
+    found = pages(text)
+    whole = found["tags.3"]
+    for kind, name in re.findall(r"^(struct|enum) (tags_\w+) \{", text, re.M):
+        if title_of(kind, name) not in whole:
+            yield f"{kind} {name}"
+    named = set(re.findall(r"\w+", " ".join(re.findall(r"^\.B (.*)$", whole, re.M))))
+    for name in sorted({*re.findall(r"^[ \t]*#[ \t]*define (TAGS_\w+)", text, re.M)} - PRIVATE - named):
+        yield name
+    for name in sorted({*re.findall(r"^\t(TAGS_\w+)(?: = .*)?,?$", text, re.M)} - named):
+        yield name
+    calls = re.findall(r"^(?!static|#|[ \t/*])[\w \t*]*?\b(tags_(?!library_)\w+)\(", text, re.M)
+    for name in calls:
+        if f"{name}.3" not in found:
+            yield f"{name}()"
 
 
 def main():

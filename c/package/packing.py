@@ -20,8 +20,8 @@ MAINTAINER = "The authors of Yalmosti <unset@example.invalid>"
 class Processor:
     """A processor by Debian's name, with what other tools call it, and the toolchain's least model of it."""
 
-    def __init__(self, name, gnu, cpu):
-        self.name, self.gnu, self.cpu = name, gnu, cpu
+    def __init__(self, name, gnu, cpu, kind):
+        self.name, self.gnu, self.cpu, self.kind = name, gnu, cpu, kind
         self.triple = gnu.replace("-linux", "-unknown-linux")
         self.tools = "" if os.uname().machine == gnu.split("-")[0] else f"{gnu}-"
         self.made = f"{OUT}/{name}"
@@ -31,13 +31,13 @@ class Processor:
 
 
 PROCESSORS = [
-    Processor("amd64", "x86_64-linux-gnu", "x86-64"),
-    Processor("arm64", "aarch64-linux-gnu", "generic"),
+    Processor("amd64", "x86_64-linux-gnu", "x86-64", "every x86-64 processor"),
+    Processor("arm64", "aarch64-linux-gnu", "generic", "every 64-bit ARM processor"),
 ]
 
 
 # What `rt` compiles for.
-AS_BUILT = Processor("amd64", "x86_64-linux-gnu", "x86-64-v2")
+AS_BUILT = Processor("amd64", "x86_64-linux-gnu", "x86-64-v2", "x86-64-v2")
 
 
 def say(text):
@@ -113,13 +113,13 @@ def crates_below(crate):
     return [it for it in known if it in found]
 
 
-def proved_text(crate, processor, verdict):
+def proved_text(crate, processor, verdict, kit):
     """What was proved, with which kit, of which commit."""
     parts = sorted(it for it in os.listdir(C) if it.endswith(".c"))
     of_c = f"Written in C, and tested but not proved: {', '.join(parts)}, and the checks for NULL in tags.h.\n"
     return f"""Proved: the crate {crate}, over these crates, each of which is proved:
     {' '.join(crates_below(crate))}
-With:      {ran('rt', 'version').strip()}
+With:      {kit}
 Of commit: {commit()}
 For:       {processor.triple}, cpu {processor.cpu}{": every processor of this kind" if processor in PROCESSORS else ""}
 Verdict:   {verdict.strip()}

@@ -4,7 +4,7 @@ import re
 import subprocess
 import sys
 
-import build_for
+import kit
 import program
 from packing import (
     AS_BUILT, DIST, HERE, PROCESSORS, ROOT, copy, debian, fields_of, least_libc, package, packed, proved_text, put_documents, ran,
@@ -36,9 +36,9 @@ def build():
 
 def as_built():
     """Says what the verdict on the program is that `rt` left, which has to be newer than all that it is made of."""
-    kit = build_for.kit()
-    crate = next(it for it in kit.crates_below(ROOT) if it.name == "tagplay")
-    sources = [f"{ROOT}/crates.txt", *(file for it in [crate, *crate.below()] for file in kit.files_of(it.folder))]
+    rtlib = kit.load()
+    crate = next(it for it in rtlib.crates_below(ROOT) if it.name == "tagplay")
+    sources = [f"{ROOT}/crates.txt", *(file for it in [crate, *crate.below()] for file in rtlib.files_of(it.folder))]
     if not os.path.exists(LEFT) or os.path.getmtime(LEFT) < max(map(os.path.getmtime, sources)):
         sys.exit(f"{LEFT} is not what rt makes of the files as they are: run rt ci")
     return "rt proved it, and then left this program"
@@ -46,10 +46,10 @@ def as_built():
 
 def version_of(file):
     """The version of the program, whose own line has to name the kit that proved it."""
-    said, kit = ran(file, "--version").strip(), ran("rt", "version").strip()
+    said, wanted = ran(file, "--version").strip(), kit.version()
     found = re.fullmatch(r"tagplay (\S+), proved with (.*)", said)
-    if not found or found[2] != kit:
-        sys.exit(f"tagplay --version prints '{said}', and the kit is '{kit}': change crates/tagplay/src/options.rt")
+    if not found or found[2] != wanted:
+        sys.exit(f"tagplay --version prints '{said}', and the kit is '{wanted}': change crates/tagplay/src/options.rt")
     return found[1]
 
 
@@ -68,7 +68,7 @@ def put(built, folder, share, version, proved):
 
 def make(work, is_as_built):
     processor, built = (AS_BUILT, LEFT) if is_as_built else (PROCESSOR, BUILT)
-    proved = proved_text("tagplay", processor, as_built() if is_as_built else build())
+    proved = proved_text("tagplay", processor, as_built() if is_as_built else build(), kit.version())
     version = version_of(built)
     put(built, f"{work}/tagplay/usr", "/usr/share", version, proved)
     summary = "proved tag allocator for scripts, lists of events and I/O logs"

@@ -1,15 +1,19 @@
-//! Finds libtags and links it: in the folder that `TAGS_LIB_DIR` names, or else where pkg-config says that it is installed
-//! (`PKG_CONFIG` names another program for that), or else where `c/library.sh build` leaves it in a checkout. A shared library is
-//! preferred, unless `TAGS_STATIC=1`. If there is none, the build ends with the reason of each place.
+//! Links libtags: the one in the folder that `TAGS_LIB_DIR` names, or else the one that pkg-config finds (`PKG_CONFIG` names another
+//! program for that), of which a shared library is preferred unless `TAGS_STATIC=1`; or else one that it makes of the files in
+//! `native/`, the proved code as assembly and the rest in C. That takes a C compiler and `ar`: `CC` and `AR` name others, for another
+//! target `CC_aarch64_unknown_linux_gnu` and the like. If there is no library, the build ends with the reason of each place.
 use std::env;
+use std::ffi::OsStr;
+use std::fs;
+use std::io::Write;
 use std::path::{Path, PathBuf};
-use std::process::{exit, Command};
+use std::process::{exit, Command, Stdio};
 
 /// The version of the library that this crate needs.
-const NEEDED: &str = "tags >= 0.2";
+const NEEDED: &str = "tags >= 0.3";
 
 const HELP: &str = "\
-Make the library by `c/library.sh install PREFIX` of the repository, or install the package libtags-dev.
+Install a C compiler and binutils, or the package libtags-dev, or make the library by `c/library.sh install PREFIX` of the repository.
 If pkg-config does not know its place, set PKG_CONFIG_PATH to PREFIX/lib/pkgconfig, or TAGS_LIB_DIR to the folder that has it.";
 
 /// A library file, or the reason why there is none.
@@ -37,20 +41,123 @@ fn below_root(folder: &str) -> PathBuf {
     }
 }
 
+fn text(bytes: &[u8]) -> String {
+    String::from_utf8_lossy(bytes).trim().to_string()
+}
+
 fn installed() -> Found {
     let program = env::var("PKG_CONFIG").unwrap_or_else(|_| "pkg-config".into());
     let asked = Command::new(&program)
         .args(["--print-errors", "--variable=libdir", NEEDED])
         .output();
     let said = asked.map_err(|error| format!("{program} can't be run: {error}"))?;
-    let text = |bytes: &[u8]| String::from_utf8_lossy(bytes).trim().to_string();
     if !said.status.success() {
-        return Err(format!(
-            "{program} finds no {NEEDED}: {}",
-            text(&said.stderr)
-        ));
+        let why = text(&said.stderr);
+        return Err(format!("{program} finds no {NEEDED}: {why}"));
     }
     in_folder(&below_root(&text(&said.stdout)))
+}
+
+/// What Cargo says of the target.
+fn target(part: &str) -> String {
+    env::var(format!("CARGO_CFG_TARGET_{part}")).unwrap_or_default()
+}
+
+/// The name of a tool: by the variable for this target, by the one for every target, or what it is called for the target.
+fn tool(variable: &str, name: &str) -> String {
+    let triple = env::var("TARGET").unwrap_or_default();
+    let is_native = env::var("HOST").is_ok_and(|it| it == triple);
+    let own = format!("{variable}_{}", triple.replace('-', "_"));
+    for it in [&own, variable] {
+        println!("cargo:rerun-if-env-changed={it}");
+    }
+    let named = env::var(&own).or_else(|_| env::var(variable));
+    named.unwrap_or_else(|_| {
+        let prefix = triple.replace("-unknown-", "-");
+        match (is_native, name) {
+            (true, _) => name.into(),
+            (false, "cc") => format!("{prefix}-gcc"),
+            (false, _) => format!("{prefix}-{name}"),
+        }
+    })
+}
+
+/// Runs a program, whose name may bring words with it.
+fn run<S: AsRef<OsStr>>(program: &str, words: &[S]) -> Result<(), String> {
+    let mut names = program.split_whitespace();
+    let mut command = Command::new(names.next().unwrap_or_default());
+    let ended = command.args(names).args(words).output();
+    let ended = ended.map_err(|error| format!("{program} can't be run: {error}"))?;
+    if ended.status.success() {
+        return Ok(());
+    }
+    Err(format!("{program} failed: {}", text(&ended.stderr)))
+}
+
+/// The SHA-256 sum of a text.
+fn sum_of(lines: &str) -> Result<String, String> {
+    let why = |error| format!("sha256sum can't be run: {error}");
+    let mut program = Command::new("sha256sum");
+    let program = program.stdin(Stdio::piped()).stdout(Stdio::piped());
+    let mut running = program.spawn().map_err(why)?;
+    if let Some(mut input) = running.stdin.take() {
+        input.write_all(lines.as_bytes()).map_err(why)?;
+    }
+    let said = running.wait_with_output().map_err(why)?;
+    Ok(text(&said.stdout).chars().take(64).collect())
+}
+
+/// The assembly for the target, which has to be as it was made. In a checkout, where it is a link and may be older than its
+/// sources, `library.sh` says that.
+fn assembly(native: &Path) -> Found {
+    let processor = target("ARCH");
+    let file = native.join(format!("tag_c-{processor}.s"));
+    if target("OS") != "linux" || target("POINTER_WIDTH") != "64" || !file.exists() {
+        let triple = env::var("TARGET").unwrap_or_default();
+        return Err(format!("there is no assembly for {triple}: the library is for x86-64 and 64-bit ARM under Linux"));
+    }
+    let read = fs::read_to_string(&file).map_err(|error| format!("{}: {error}", file.display()))?;
+    let (head, lines) = read.split_once("\n */\n").unwrap_or_default();
+    let kept = head
+        .lines()
+        .find_map(|it| it.strip_prefix(" * Lines below: "));
+    if kept != Some(sum_of(lines)?.as_str()) {
+        let name = file.display();
+        return Err(format!("{name} is not as it was made, by its own sum"));
+    }
+    if file.is_symlink() {
+        let script = native.join("../../library.sh");
+        let linux = format!("{processor}-linux");
+        let words = [script.as_os_str(), "assembly".as_ref(), linux.as_ref()];
+        run("bash", &words)?;
+    }
+    Ok(file)
+}
+
+/// Makes the library of the files in `native/`.
+fn made() -> Found {
+    let native = Path::new(env!("CARGO_MANIFEST_DIR")).join("native");
+    let out = PathBuf::from(env::var_os("OUT_DIR").unwrap_or_default());
+    println!("cargo:rerun-if-changed={}", native.display());
+    let listed = fs::read_dir(&native).map_err(|error| format!("{}: {error}", native.display()))?;
+    let mut files: Vec<PathBuf> = listed.flatten().map(|it| it.path()).collect();
+    files.retain(|it| it.extension().is_some_and(|end| end == "c"));
+    files.push(assembly(&native)?);
+    files.sort();
+    let (compiler, archive) = (tool("CC", "cc"), out.join("libtags.a"));
+    let mut words = vec![PathBuf::from("rcs"), archive.clone()];
+    for file in &files {
+        println!("cargo:rerun-if-changed={}", file.display());
+        let object = out.join(file.with_extension("o").file_name().unwrap_or_default());
+        let options = ["-std=c99", "-O2", "-fPIC", "-fno-plt", "-c"].map(OsStr::new);
+        let named = [file.as_os_str(), "-o".as_ref(), object.as_os_str()];
+        run(&compiler, &[&options[..], &named[..]].concat())?;
+        words.push(object);
+    }
+    // What is there from an earlier build may have other members.
+    let _ = fs::remove_file(&archive);
+    run(&tool("AR", "ar"), &words)?;
+    Ok(archive)
 }
 
 fn find() -> Result<PathBuf, Vec<String>> {
@@ -58,8 +165,7 @@ fn find() -> Result<PathBuf, Vec<String>> {
         let why = |it| vec![format!("TAGS_LIB_DIR: {it}")];
         return in_folder(Path::new(&folder)).map_err(why);
     }
-    let beside = Path::new(env!("CARGO_MANIFEST_DIR")).join("../out");
-    installed().or_else(|first| in_folder(&beside).map_err(|second| vec![first, second]))
+    installed().or_else(|first| made().map_err(|second| vec![first, second]))
 }
 
 fn main() {
@@ -70,8 +176,13 @@ fn main() {
         "PKG_CONFIG_PATH",
         "PKG_CONFIG_LIBDIR",
         "PKG_CONFIG_SYSROOT_DIR",
+        "DOCS_RS",
     ] {
         println!("cargo:rerun-if-env-changed={name}");
+    }
+    // Documents are made without the library.
+    if env::var_os("DOCS_RS").is_some() {
+        return;
     }
     let library = find().unwrap_or_else(|reasons| {
         eprintln!("libtags was not found:\n- {}\n{HELP}", reasons.join("\n- "));

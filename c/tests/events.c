@@ -24,7 +24,6 @@ struct thread {
 };
 
 static long rounds = 2000;
-static struct tags_bell bell = TAGS_BELL;
 static uint64_t wrong;
 
 static void check(bool is_well, const char *what)
@@ -61,7 +60,6 @@ static void close_pool(struct tags_pool *pool)
 
 	CHECK(tags_close(pool, &sums) == TAGS_OK);
 	CHECK(sums.got == sums.back && sums.held == 0);
-	CHECK(bell.sleepers == 0 && bell.listeners == 0);
 }
 
 static void take_turns(int event)
@@ -73,22 +71,21 @@ static void take_turns(int event)
 	open_pool(&pool, 2, 2);
 	CHECK(tags_join(&pool, &hand, TAGS_STAY) == TAGS_OK);
 	CHECK(tags_join(&pool, &other, TAGS_STAY) == TAGS_OK);
-	CHECK(tags_get_async(&hand, &bell) == TAGS_BAD_EVENT);
-	CHECK(tags_set_event(&bell, event) == TAGS_OK);
-	CHECK(tags_get_async(&hand, &bell) == 0 && tags_get_async(&hand, &bell) == 1);
-	CHECK(tags_get_async(&other, &bell) == TAGS_NO_TAG && told(event) == 0);
-	CHECK(tags_get_async(&other, &bell) == TAGS_NO_TAG);
-	CHECK(tags_prepare(&other) == TAGS_WAITING);
-	CHECK(tags_give(&hand, &bell, 1) >= 0 && told(event) == 1);
-	CHECK(tags_get_async(&other, &bell) == 1 && tags_finish(&other) == TAGS_NOT_WAITING);
-	CHECK(tags_give(&hand, &bell, 0) == 0 && told(event) == 0);
-	CHECK(tags_get(&hand) == 0 && tags_get_async(&hand, &bell) == TAGS_NO_TAG);
-	CHECK(tags_cancel(&hand, &bell) == TAGS_OK && tags_cancel(&hand, &bell) == TAGS_NOT_WAITING);
-	CHECK(tags_ring(&bell, tags_clear(&other, 1)) == 0 && told(event) == 0);
+	CHECK(tags_get_async(&hand, -1) == TAGS_BAD_EVENT);
+	CHECK(tags_get_async(&hand, event) == 0 && tags_get_async(&hand, event) == 1);
+	CHECK(tags_get_async(&other, event) == TAGS_NO_TAG && told(event) == 0);
+	CHECK(tags_get_async(&other, event) == TAGS_NO_TAG);
+	CHECK(tags_prepare(&other) == TAGS_WAITING && tags_get_blocking(&other) == TAGS_WAITING);
+	CHECK(tags_clear(&hand, 1) >= 0 && told(event) == 1);
+	CHECK(tags_get_async(&other, event) == 1 && tags_finish(&other) == TAGS_NOT_WAITING);
+	CHECK(tags_clear(&hand, 0) == 0 && told(event) == 0);
+	CHECK(tags_get(&hand) == 0 && tags_get_async(&hand, event) == TAGS_NO_TAG);
+	CHECK(tags_cancel(&hand) == TAGS_OK && tags_cancel(&hand) == TAGS_NOT_WAITING);
+	CHECK(tags_clear(&other, 1) == 0 && told(event) == 0);
 	CHECK(tags_get(&other) == 1 && tags_prepare(&hand) >= 0);
-	CHECK(tags_get_async(&hand, &bell) == TAGS_WAITING);
-	CHECK(tags_cancel(&hand, &bell) == TAGS_NOT_WAITING && tags_finish(&hand) == 0);
-	CHECK(tags_give(&hand, &bell, 0) == 0 && tags_give(&other, &bell, 1) == 0);
+	CHECK(tags_get_async(&hand, event) == TAGS_WAITING);
+	CHECK(tags_cancel(&hand) == TAGS_NOT_WAITING && tags_finish(&hand) == 0);
+	CHECK(tags_clear(&hand, 0) == 0 && tags_clear(&other, 1) == 0);
 	CHECK(tags_leave(&hand) == TAGS_OK && tags_leave(&other) == TAGS_OK);
 	close_pool(&pool);
 }
@@ -98,11 +95,11 @@ static void *sleep_and_give(void *argument)
 	struct thread *self = argument;
 
 	for (long round = 0; round < rounds; round++) {
-		int32_t tag = tags_get_blocking(&self->hand, &bell);
+		int32_t tag = tags_get_blocking(&self->hand);
 
 		check(tag >= 0, "tags_get_blocking");
 		sched_yield();
-		check(tags_give(&self->hand, &bell, (uint32_t)tag) >= 0, "tags_give");
+		check(tags_clear(&self->hand, (uint32_t)tag) >= 0, "tags_give");
 	}
 	return NULL;
 }
@@ -120,11 +117,11 @@ static void serve(int event, struct tags_hand *hands)
 		long before = in_all;
 
 		for (int i = 0; i < HANDS; i++) {
-			int32_t tag = left[i] > 0 ? tags_get_async(&hands[i], &bell) : (int32_t)TAGS_NO_TAG;
+			int32_t tag = left[i] > 0 ? tags_get_async(&hands[i], event) : (int32_t)TAGS_NO_TAG;
 
 			if (tag == TAGS_NO_TAG)
 				continue;
-			check(tag >= 0 && tags_give(&hands[i], &bell, (uint32_t)tag) >= 0, "get_async");
+			check(tag >= 0 && tags_clear(&hands[i], (uint32_t)tag) >= 0, "get_async");
 			left[i]--;
 			in_all--;
 		}

@@ -27,22 +27,10 @@ union handle {
 	struct tags_hand hand;
 };
 
-/* The bell of a pool, and what the model says of it. */
-struct bell {
-	struct pool *pool;
-	struct tags_bell bell;
-	int event;
-	/* whether the event was named */
-	bool is_named;
-	/* the hands that wait for the event, and how often it was told */
-	bool listed[TAGS_MAX_HANDS];
-	uint64_t told;
-};
-
 static union handle handles[HANDLES];
 static struct model models[HANDLES];
-/* the last one is that of handles without a pool */
-static struct bell bells[HANDLES + 1];
+/* the eventfds of each pool, by the handle of the pool */
+static int events[HANDLES][EVENTS];
 
 static uint64_t state = 1;
 static uint64_t calls;
@@ -204,46 +192,40 @@ static struct tags_options any_options(void)
 }
 
 /*
- * Bells
+ * Eventfds
  */
 
-static struct bell *bell_of(uint32_t at)
+/* The handle of the pool that a hand belongs to; that of the hand if it has none. */
+static uint32_t pool_of(uint32_t at)
 {
-	uint32_t i = 0;
-
-	while (i < HANDLES && !(models[at].pool && bells[i].pool == models[at].pool))
-		i++;
-	return &bells[i];
+	for (uint32_t pool = 0; pool < HANDLES; pool++)
+		if (models[at].pool && models[pool].pool == models[at].pool && !is_hand(&models[pool]))
+			return pool;
+	return at;
 }
 
-/* Lets a vacant bell be that of the pool. */
-static void hang_bell(struct pool *pool)
+/* What was added to the eventfds of a pool since they were read last is what the model says. */
+static void compare_events(uint32_t pool)
 {
-	struct bell *bell = bells;
+	for (uint32_t i = 0; i < EVENTS; i++) {
+		uint64_t *wanted = &models[pool].pool->told[i];
+		uint64_t found = 0;
 
-	while (bell->pool)
-		bell++;
-	memset(&bell->bell, 0, sizeof(bell->bell));
-	bell->pool = pool;
-	bell->is_named = false;
+		if (read(events[pool][i], &found, sizeof(found)) < 0)
+			found = 0;
+		compare_filled("the eventfd", &found, wanted, sizeof(found));
+		*wanted = 0;
+	}
 }
 
-static bool is_listed(uint32_t at)
+/* How many tags a mask has. */
+static uint32_t count_in(uint64_t mask)
 {
-	return is_hand(&models[at]) && bell_of(at)->listed[models[at].number];
-}
+	uint32_t count = 0;
 
-/* After a call that rang, unless it was refused: the event is told once while any hand waits for it. */
-static int32_t ring(uint32_t at, int32_t answer)
-{
-	struct bell *bell = bell_of(at);
-
-	for (int number = 0; answer >= 0 && bell->is_named && number < TAGS_MAX_HANDS; number++)
-		if (bell->listed[number]) {
-			bell->told++;
-			break;
-		}
-	return answer;
+	for (; mask; mask &= mask - 1)
+		count++;
+	return count;
 }
 
 /*
@@ -252,11 +234,9 @@ static int32_t ring(uint32_t at, int32_t answer)
 
 static void leave(uint32_t at)
 {
-	/* a hand that leaves while it is listed stays in the list */
-	if (is_listed(at)) {
-		bell_of(at)->listed[models[at].number] = false;
-		model_finish(&models[at]);
-		compare("cancel", tags_cancel(&handles[at].hand, &bell_of(at)->bell), TAGS_OK);
+	if (is_hand(&models[at])) {
+		model_cancel(&models[at]);
+		model_gave(&models[at], model_flush(&models[at]), 0);
 	}
 	compare("leave", tags_leave(&handles[at].hand), model_leave(&models[at]));
 }
@@ -265,14 +245,10 @@ static void try_open(void)
 {
 	uint32_t at = seldom(20) ? any_handle() : empty_handle();
 	struct tags_options options = any_options();
-	int32_t wanted;
 
 	if (count_pools() >= 3 && !seldom(60))
 		return;
-	wanted = model_open(&models[at], &options);
-	compare("open", tags_open(&handles[at].pool, &options), wanted);
-	if (wanted == TAGS_OK)
-		hang_bell(models[at].pool);
+	compare("open", tags_open(&handles[at].pool, &options), model_open(&models[at], &options));
 }
 
 static void try_join(void)
@@ -297,12 +273,11 @@ static void close_one(uint32_t at)
 {
 	struct tags_sums found = { 0 };
 	struct tags_sums wanted = { 0 };
-	struct bell *bell = bell_of(at);
 
+	if (models[at].pool && !is_hand(&models[at]))
+		compare_events(at);
 	compare("close", tags_close(&handles[at].pool, &found), model_close(&models[at], &wanted));
 	compare_filled("close", &found, &wanted, sizeof(found));
-	if (!models[at].pool)
-		bell->pool = NULL;
 }
 
 static void try_close(void)
@@ -319,7 +294,8 @@ static void try_get(void)
 {
 	uint32_t at = hand_handle();
 
-	compare("get", tags_get(&handles[at].hand), model_get(&models[at]));
+	compare("get", tags_get(&handles[at].hand),
+		model_swept(&models[at], model_get(&models[at])));
 }
 
 static void try_get_reserved(void)
@@ -336,7 +312,7 @@ static void try_get_shallow(void)
 	uint32_t depth = seldom(20) ? odd_number() : below(total_behind(at) + 2);
 
 	compare("get_shallow", tags_get_shallow(&handles[at].hand, depth),
-		model_get_shallow(&models[at], depth));
+		model_swept(&models[at], model_get_shallow(&models[at], depth)));
 }
 
 static void try_get_batch(void)
@@ -345,9 +321,10 @@ static void try_get_batch(void)
 	uint32_t n = seldom(20) ? odd_number() : below(20);
 	uint64_t found = 5;
 	uint64_t wanted = 5;
+	int32_t first = model_get_batch(&models[at], n, &wanted);
 
 	compare("get_batch", tags_get_batch(&handles[at].hand, n, &found),
-		model_get_batch(&models[at], n, &wanted));
+		model_swept(&models[at], first));
 	compare_filled("get_batch", &found, &wanted, sizeof(found));
 }
 
@@ -356,7 +333,8 @@ static void try_clear(void)
 	uint32_t at = hand_handle();
 	uint32_t tag = any_tag(at);
 
-	compare("clear", tags_clear(&handles[at].hand, tag), model_clear(&models[at], tag));
+	compare("clear", tags_clear(&handles[at].hand, tag),
+		model_gave(&models[at], model_clear(&models[at], tag), 1));
 }
 
 static void try_clear_granted(void)
@@ -367,24 +345,8 @@ static void try_clear_granted(void)
 	struct tags_grants wanted = { 5, { 5 } };
 
 	compare("clear_granted", tags_clear_granted(&handles[at].hand, tag, &found),
-		model_clear_granted(&models[at], tag, &wanted));
+		model_gave(&models[at], model_clear_granted(&models[at], tag, &wanted), 1));
 	compare_filled("clear_granted", &found, &wanted, sizeof(found));
-	if (found.woken != 5 && seldom(2))
-		compare("ring_granted", tags_ring_granted(&bell_of(at)->bell, &found),
-			ring(at, (int32_t)wanted.woken));
-}
-
-/* A call that gives tags back and rings looks for whoever waits, and if it finds any, what is kept goes back. */
-static int32_t ring_after(uint32_t at, int32_t answer)
-{
-	struct bell *bell = bell_of(at);
-
-	for (int number = 0; answer >= 0 && number < TAGS_MAX_HANDS; number++)
-		if (bell->listed[number]) {
-			model_flush(&models[at]);
-			break;
-		}
-	return ring(at, answer);
 }
 
 static void try_flush(void)
@@ -394,30 +356,15 @@ static void try_flush(void)
 	struct tags_grants wanted = { 5, { 5 } };
 
 	if (seldom(3)) {
-		compare("flush", tags_ring(&bell_of(at)->bell, tags_flush(&handles[at].hand)),
-			ring(at, model_flush(&models[at])));
+		compare("flush", tags_flush(&handles[at].hand),
+			model_gave(&models[at], model_flush(&models[at]), 0));
 		return;
 	}
 	if (!seldom(4))
 		return;
 	compare("flush_granted", tags_flush_granted(&handles[at].hand, &found),
-		model_flush_granted(&models[at], &wanted));
+		model_gave(&models[at], model_flush_granted(&models[at], &wanted), 0));
 	compare_filled("flush_granted", &found, &wanted, sizeof(found));
-}
-
-static void try_give(void)
-{
-	uint32_t at = hand_handle();
-	uint32_t tag = any_tag(at);
-	struct tags_bell *bell = &bell_of(at)->bell;
-	struct tags_hand *hand = &handles[at].hand;
-
-	if (seldom(3))
-		compare("ring", tags_ring(bell, tags_clear(hand, tag)),
-			ring(at, model_clear(&models[at], tag)));
-	else
-		compare("give", tags_give(hand, bell, tag),
-			ring_after(at, model_clear(&models[at], tag)));
 }
 
 static void try_read_clear(void)
@@ -428,7 +375,7 @@ static void try_read_clear(void)
 	uint64_t wanted = 5;
 
 	compare("read_clear", tags_read_clear(&handles[at].hand, tag, &found),
-		model_read_clear(&models[at], tag, &wanted));
+		model_gave(&models[at], model_read_clear(&models[at], tag, &wanted), 1));
 	compare_filled("read_clear", &found, &wanted, sizeof(found));
 }
 
@@ -438,7 +385,7 @@ static void try_get_write(void)
 	uint64_t value = (uint64_t)draw() << 32 | draw();
 
 	compare("get_write", tags_get_write(&handles[at].hand, value),
-		model_get_write(&models[at], value));
+		model_swept(&models[at], model_get_write(&models[at], value)));
 }
 
 /* Lists some of the tags that the hand holds. */
@@ -470,18 +417,13 @@ static void try_clear_batch(void)
 		n = seldom(2) ? TAGS_MAX_BATCH + 1 : SIZE_MAX / 8;
 	if (seldom(3)) {
 		compare("clear_batch", tags_clear_batch(&handles[at].hand, tags, n),
-			model_clear_batch(&models[at], tags, n));
-		return;
-	}
-	if (seldom(2)) {
-		compare("give_batch",
-			tags_give_batch(&handles[at].hand, &bell_of(at)->bell, tags, n),
-			ring_after(at, model_clear_batch(&models[at], tags, n)));
+			model_gave(&models[at], model_clear_batch(&models[at], tags, n), (uint32_t)n));
 		return;
 	}
 	compare("clear_batch_granted",
 		tags_clear_batch_granted(&handles[at].hand, tags, n, &found),
-		model_clear_batch_granted(&models[at], tags, n, &wanted));
+		model_gave(&models[at], model_clear_batch_granted(&models[at], tags, n, &wanted),
+			   (uint32_t)n));
 	compare_filled("clear_batch_granted", &found, &wanted, sizeof(found));
 }
 
@@ -508,12 +450,15 @@ static void try_clear_run(void)
 
 	if (seldom(2)) {
 		compare("clear_run", tags_clear_run(&handles[at].hand, first, mask),
-			model_clear_run(&models[at], first, mask));
+			model_gave(&models[at], model_clear_run(&models[at], first, mask),
+				   count_in(mask)));
 		return;
 	}
 	compare("clear_run_granted",
 		tags_clear_run_granted(&handles[at].hand, first, mask, &found),
-		model_clear_run_granted(&models[at], first, mask, &wanted));
+		model_gave(&models[at],
+			   model_clear_run_granted(&models[at], first, mask, &wanted),
+			   count_in(mask)));
 	compare_filled("clear_run_granted", &found, &wanted, sizeof(found));
 }
 
@@ -551,7 +496,8 @@ static void try_post(void)
 	uint32_t at = hand_handle();
 	uint32_t tag = any_tag(at);
 
-	compare("post", tags_post(&handles[at].hand, tag), model_post(&models[at], tag));
+	compare("post", tags_post(&handles[at].hand, tag),
+		model_gave(&models[at], model_post(&models[at], tag), 0));
 }
 
 static void try_take(void)
@@ -580,7 +526,8 @@ static void try_prepare(void)
 {
 	uint32_t at = hand_handle();
 
-	compare("prepare", tags_prepare(&handles[at].hand), model_prepare(&models[at]));
+	compare("prepare", tags_prepare(&handles[at].hand),
+		model_gave(&models[at], model_prepare(&models[at]), 0));
 }
 
 static void try_finish(void)
@@ -590,28 +537,10 @@ static void try_finish(void)
 	compare("finish", tags_finish(&handles[at].hand), model_finish(&models[at]));
 }
 
-static uint32_t ordinary_tags(uint32_t at)
-{
-	return models[at].pool->set[TAGS_ORDINARY].depth;
-}
-
-/* What a get returns that would have to wait if it found no tag, and whose time is up then or has no end. */
-static int32_t model_wait(uint32_t at, bool is_late)
-{
-	int32_t tag = model_get(&models[at]);
-
-	if (tag != TAGS_NO_TAG)
-		return tag;
-	if (ordinary_tags(at) == 0)
-		return TAGS_NO_SUCH_TAG;
-	return is_late ? TAGS_TIMED_OUT : TAGS_WAITING;
-}
-
 static void try_get_timed(void)
 {
 	static const int clocks[] = { CLOCK_MONOTONIC, CLOCK_REALTIME };
 	uint32_t at = hand_handle();
-	struct tags_bell *bell = &bell_of(at)->bell;
 	struct timespec end = { 0, (long)below(1000000000) };
 	int clock = clocks[below(2)];
 	bool is_sound = true;
@@ -623,8 +552,8 @@ static void try_get_timed(void)
 		else
 			end.tv_nsec = seldom(2) ? -1 : 1000000000;
 	}
-	compare("get_timed", tags_get_timed(&handles[at].hand, bell, clock, &end),
-		is_sound ? model_wait(at, true) : (int32_t)TAGS_BAD_TIME);
+	compare("get_timed", tags_get_timed(&handles[at].hand, clock, &end),
+		is_sound ? model_wait(&models[at], true) : (int32_t)TAGS_BAD_TIME);
 }
 
 /* Whether a thread that waits for a tag might sleep, here for ever. A get by round robin may miss a free tag. */
@@ -632,7 +561,8 @@ static bool might_sleep(uint32_t at)
 {
 	const struct set *set;
 
-	if (!is_hand(&models[at]) || member_of(&models[at])->standing != NOWHERE)
+	if (!is_hand(&models[at]) || member_of(&models[at])->standing != NOWHERE ||
+	    models[at].pool->is_stopped)
 		return false;
 	set = &models[at].pool->set[TAGS_ORDINARY];
 	for (uint32_t tag = 0; tag < set->depth; tag++)
@@ -646,85 +576,41 @@ static void try_get_blocking(void)
 	uint32_t at = hand_handle();
 
 	if (!might_sleep(at))
-		compare("get_blocking",
-			tags_get_blocking(&handles[at].hand, &bell_of(at)->bell),
-			model_wait(at, false));
-}
-
-static bool model_strike(uint32_t at)
-{
-	if (!is_listed(at))
-		return false;
-	bell_of(at)->listed[models[at].number] = false;
-	model_finish(&models[at]);
-	return true;
-}
-
-static int32_t model_get_async(uint32_t at)
-{
-	int32_t tag;
-	int32_t group;
-
-	if (!bell_of(at)->is_named)
-		return TAGS_BAD_EVENT;
-	model_strike(at);
-	tag = model_get(&models[at]);
-	if (tag != TAGS_NO_TAG)
-		return tag;
-	if (ordinary_tags(at) == 0)
-		return TAGS_NO_SUCH_TAG;
-	group = model_prepare(&models[at]);
-	if (group < 0)
-		return group;
-	bell_of(at)->listed[models[at].number] = true;
-	tag = model_get(&models[at]);
-	if (tag != TAGS_NO_TAG)
-		model_strike(at);
-	return tag;
-}
-
-static int32_t model_cancel(uint32_t at)
-{
-	if (!is_hand(&models[at]))
-		return TAGS_BAD_HANDLE;
-	return model_strike(at) ? TAGS_OK : TAGS_NOT_WAITING;
+		compare("get_blocking", tags_get_blocking(&handles[at].hand),
+			model_wait(&models[at], false));
 }
 
 static void try_get_async(void)
 {
 	uint32_t at = hand_handle();
+	int32_t event = seldom(20) ? -1 - (int32_t)below(3) : (int32_t)below(EVENTS);
 
-	compare("get_async", tags_get_async(&handles[at].hand, &bell_of(at)->bell),
-		model_get_async(at));
+	compare("get_async",
+		tags_get_async(&handles[at].hand, event < 0 ? event : events[pool_of(at)][event]),
+		model_get_async(&models[at], event));
 }
 
 static void try_cancel(void)
 {
 	uint32_t at = hand_handle();
 
-	compare("cancel", tags_cancel(&handles[at].hand, &bell_of(at)->bell), model_cancel(at));
+	compare("cancel", tags_cancel(&handles[at].hand), model_cancel(&models[at]));
 }
 
-static void try_set_event(void)
+static void try_stop(void)
 {
-	struct bell *bell = bell_of(pool_handle());
-	int event = seldom(4) ? -1 - (int)below(3) : bell->event;
+	uint32_t at = seldom(4) ? any_handle() : pool_handle();
 
-	if (event >= -1)
-		bell->is_named = event >= 0;
-	compare("set_event", tags_set_event(&bell->bell, event),
-		event < -1 ? (int32_t)TAGS_BAD_EVENT : (int32_t)TAGS_OK);
+	if (seldom(400))
+		compare("stop", tags_stop(&handles[at].pool), model_stop(&models[at]));
 }
 
-static void try_event(void)
+static void try_events(void)
 {
-	struct bell *bell = bell_of(pool_handle());
-	uint64_t told = 0;
+	uint32_t at = pool_handle();
 
-	if (read(bell->event, &told, sizeof(told)) < 0)
-		told = 0;
-	compare_filled("the event", &told, &bell->told, sizeof(told));
-	bell->told = 0;
+	if (models[at].pool && !is_hand(&models[at]))
+		compare_events(at);
 }
 
 static void try_busy(void)
@@ -785,13 +671,14 @@ static void empty_hand(uint32_t at)
 	uint32_t total = total_behind(at);
 
 	compare("finish", tags_finish(&handles[at].hand), model_finish(&models[at]));
+	compare("cancel", tags_cancel(&handles[at].hand), model_cancel(&models[at]));
 	for (uint32_t tag = 0; tag < total; tag++) {
 		if (is_posted(&models[at], tag))
 			compare("take", tags_take(&handles[at].hand, tag),
 				model_take(&models[at], tag));
 		if (model_holds(&models[at], tag) == 1)
 			compare("clear", tags_clear(&handles[at].hand, tag),
-				model_clear(&models[at], tag));
+				model_gave(&models[at], model_clear(&models[at], tag), 1));
 	}
 }
 
@@ -836,14 +723,14 @@ static const struct {
 	{ try_prepare, 1 },	  { try_finish, 1 },	   { try_busy, 1 },
 	{ try_show, 1 },	  { try_wakes, 1 },	   { try_resize, 1 },
 	{ try_clear_granted, 1 }, { try_read_clear, 1 },   { try_get_write, 1 },
-	{ try_give, 2 },	  { try_get_timed, 1 },	   { try_get_blocking, 1 },
-	{ try_get_async, 3 },	  { try_cancel, 1 },	   { try_set_event, 1 },
-	{ try_event, 1 },	  { try_clear_run, 1 },	   { try_flush, 1 },
+	{ try_stop, 1 },	  { try_get_timed, 1 },	   { try_get_blocking, 1 },
+	{ try_get_async, 4 },	  { try_cancel, 1 },	   { try_events, 1 },
+	{ try_clear_run, 1 },	  { try_flush, 1 },
 };
 
 static void try_any(void)
 {
-	uint32_t turn = below(46);
+	uint32_t turn = below(45);
 	size_t at = 0;
 
 	while (turn >= tries[at].turns)
@@ -866,13 +753,13 @@ int main(int argc, char **argv)
 
 	if (argc > 2)
 		state = strtoull(argv[2], NULL, 10);
-	for (uint32_t i = 0; i <= HANDLES; i++)
-		bells[i].event = eventfd(0, EFD_NONBLOCK);
+	for (uint32_t i = 0; i < HANDLES * EVENTS; i++)
+		events[i / EVENTS][i % EVENTS] = eventfd(0, EFD_NONBLOCK);
 	while (calls < most)
 		try_any();
 	close_all();
-	for (uint32_t i = 0; i <= HANDLES; i++)
-		close(bells[i].event);
+	for (uint32_t i = 0; i < HANDLES * EVENTS; i++)
+		close(events[i / EVENTS][i % EVENTS]);
 	printf("%" PRIu64 " calls as the model says\n", calls);
 	fprintf(stderr, "%" PRIu64 " of them refused\n", refused);
 	return 0;

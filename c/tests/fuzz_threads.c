@@ -31,9 +31,6 @@ enum {
 
 struct pool {
 	struct tags_pool pool;
-	struct tags_bell bell;
-	/* an eventfd that the bell tells, for all threads */
-	int event;
 	/* the handle of a pool is in one call at a time */
 	pthread_mutex_t lock;
 	uint32_t total;
@@ -56,6 +53,8 @@ struct thread {
 	pthread_t id;
 	uint32_t number;
 	uint64_t state;
+	/* the eventfd that its hands name */
+	int event;
 	struct part part[POOLS];
 };
 
@@ -139,12 +138,12 @@ static void give_some(struct thread *self, uint32_t at)
 		if (tags[count - 1] >= RESERVED)
 			continue;
 		/* a batch has ordinary tags alone */
-		CHECK(tags_give_batch(hand, &pools[at].bell, tags, count) == TAGS_NO_SUCH_TAG);
-		CHECK(tags_give(hand, &pools[at].bell, tags[--count]) >= 0);
+		CHECK(tags_clear_batch(hand, tags, count) == TAGS_NO_SUCH_TAG);
+		CHECK(tags_clear(hand, tags[--count]) >= 0);
 		count_back(at, 1);
 	}
 	if (count > 0)
-		CHECK(tags_give_batch(hand, &pools[at].bell, tags, count) >= 0);
+		CHECK(tags_clear_batch(hand, tags, count) >= 0);
 	count_back(at, count);
 }
 
@@ -160,17 +159,17 @@ static void give_back(struct thread *self, uint32_t at)
 	}
 	tag = disown(self, at);
 	if (way == 0)
-		CHECK(tags_give(hand, &pools[at].bell, tag) >= 0);
+		CHECK(tags_clear(hand, tag) >= 0);
 	else
-		CHECK(tags_ring(&pools[at].bell, tags_clear(hand, tag)) >= 0);
+		CHECK(tags_clear(hand, tag) >= 0);
 	CHECK(tags_clear(hand, tag) == TAGS_NOT_HELD);
 	count_back(at, 1);
 }
 
-/* Before a thread waits without a limit, or leaves, it gives back what it keeps; it need not where hands keep with care. */
+/* Before a thread waits without a limit, or is idle, it gives back what it keeps; it need not where hands keep with care. */
 static void flush(struct thread *self, uint32_t at)
 {
-	CHECK(tags_ring(&pools[at].bell, tags_flush(&self->part[at].hand)) >= 0);
+	CHECK(tags_flush(&self->part[at].hand) >= 0);
 }
 
 static int32_t get_in_time(struct thread *self, uint32_t at)
@@ -181,27 +180,26 @@ static int32_t get_in_time(struct thread *self, uint32_t at)
 	end.tv_nsec += (long)below(self, 200000);
 	end.tv_sec += end.tv_nsec / 1000000000;
 	end.tv_nsec %= 1000000000;
-	return tags_get_timed(&self->part[at].hand, &pools[at].bell, CLOCK_MONOTONIC, &end);
+	return tags_get_timed(&self->part[at].hand, CLOCK_MONOTONIC, &end);
 }
 
-/* Waits by the eventfd, for some milliseconds at most, since another thread may have read it. */
+/* Waits by the eventfd, for some milliseconds at most. What an earlier wait left there is no harm. */
 static int32_t get_by_event(struct thread *self, uint32_t at)
 {
 	struct tags_hand *hand = &self->part[at].hand;
-	struct tags_bell *bell = &pools[at].bell;
-	struct pollfd event = { pools[at].event, POLLIN, 0 };
-	int32_t tag = tags_get_async(hand, bell);
+	struct pollfd event = { self->event, POLLIN, 0 };
+	int32_t tag = tags_get_async(hand, event.fd);
 	uint64_t told;
 
 	for (int tries = 0; tag == TAGS_NO_TAG && tries < 3; tries++) {
 		CHECK(tags_prepare(hand) == TAGS_WAITING);
 		if (poll(&event, 1, 1) == 1)
 			CHECK(read(event.fd, &told, sizeof(told)) == sizeof(told) || errno == EAGAIN);
-		tag = tags_get_async(hand, bell);
+		tag = tags_get_async(hand, event.fd);
 	}
 	if (tag == TAGS_NO_TAG)
-		CHECK(tags_cancel(hand, bell) == TAGS_OK);
-	CHECK(tags_cancel(hand, bell) == TAGS_NOT_WAITING);
+		CHECK(tags_cancel(hand) == TAGS_OK);
+	CHECK(tags_cancel(hand) == TAGS_NOT_WAITING);
 	return tag;
 }
 
@@ -230,7 +228,7 @@ static void get_one(struct thread *self, uint32_t at)
 		for (uint32_t other = 0; other < POOLS; other++)
 			if (!is_careful[other])
 				flush(self, other);
-		tag = tags_get_blocking(hand, &pools[at].bell);
+		tag = tags_get_blocking(hand);
 	}
 	else if (way == 4)
 		tag = get_by_event(self, at);
@@ -257,10 +255,18 @@ static void leave_and_join(struct thread *self, uint32_t at)
 {
 	struct part *part = &self->part[at];
 
+	int32_t tag;
+
 	while (part->count > 0)
 		give_back(self, at);
-	if (!is_careful[at])
-		flush(self, at);
+	/* a hand may leave while it waits, and while it keeps tags */
+	tag = below(self, 2) ? tags_get_async(&part->hand, self->event) : (int32_t)TAGS_NO_TAG;
+	CHECK(tag >= 0 || tag == TAGS_NO_TAG);
+	if (tag >= 0) {
+		own(self, at, (uint32_t)tag);
+		count_got(at);
+		give_back(self, at);
+	}
 	pthread_mutex_lock(&pools[at].lock);
 	CHECK(tags_leave(&part->hand) == TAGS_OK);
 	CHECK(tags_join(&pools[at].pool, &part->hand, below(self, 2)) == TAGS_OK);
@@ -273,9 +279,6 @@ static void post_one(struct thread *self, uint32_t at)
 	uint32_t tag = disown(self, at);
 	int32_t status;
 
-	/* a post that gives kept tags back rings no bell */
-	if (is_careful[at])
-		flush(self, at);
 	CHECK(tags_post(&self->part[at].hand, tag) == TAGS_OK);
 	status = tags_take(&self->part[at].hand, tag);
 	CHECK(status == TAGS_OK || status == TAGS_NOT_POSTED);
@@ -334,7 +337,7 @@ static void resize(uint32_t at)
 
 	pool->total = RESERVED + 1 + below(&threads[0], at == 0 ? 4 : TAGS - RESERVED - 1);
 	CHECK(tags_resize(&pool->pool, pool->total) == TAGS_OK);
-	CHECK(pool->bell.sleepers == 0 && pool->bell.waking == 0 && pool->bell.listeners == 0);
+	CHECK(pool->pool.waits->waiting == 0);
 }
 
 int main(int argc, char **argv)
@@ -345,6 +348,7 @@ int main(int argc, char **argv)
 
 	for (uint32_t i = 0; i < THREADS; i++) {
 		threads[i].number = i + 1;
+		threads[i].event = eventfd(0, EFD_NONBLOCK);
 		threads[i].state = (argc > 2 ? strtoull(argv[2], NULL, 10) : 1) * 64 + i;
 	}
 	for (uint32_t at = 0; at < POOLS; at++) {
@@ -353,8 +357,6 @@ int main(int argc, char **argv)
 		options.cache = cache[at];
 		options.flags = is_careful[at] ? TAGS_KEEP_WHILE_HOLDING : 0;
 		CHECK(tags_open(&pools[at].pool, &options) == TAGS_OK);
-		pools[at].event = eventfd(0, EFD_NONBLOCK);
-		CHECK(tags_set_event(&pools[at].bell, pools[at].event) == TAGS_OK);
 	}
 	do {
 		run_round();
@@ -367,8 +369,9 @@ int main(int argc, char **argv)
 		CHECK(cache[at] > 0 ? sums.got <= pools[at].got :
 				      sums.got == pools[at].got && sums.back == pools[at].back);
 		CHECK(sums.got == sums.back && sums.held == 0 && sums.posted == 0);
-		close(pools[at].event);
 	}
+	for (uint32_t i = 0; i < THREADS; i++)
+		close(threads[i].event);
 	fprintf(stderr, "%" PRIu64 " turns\n", calls);
 	printf("%" PRIu64 " wrong\n", wrong);
 	return wrong != 0;

@@ -1,7 +1,8 @@
 /*
- * Refuses each allocation in turn: the call reports it, its handle stays as it
- * was, and no memory leaks. Built with --wrap for malloc, realloc and free.
+ * Refuses each allocation in turn: the call reports it, its handle and errno stay as
+ * they were, and no memory leaks. Built with --wrap for malloc, calloc, realloc and free.
  */
+#include <errno.h>
 #include <stdio.h>
 #include <stdlib.h>
 
@@ -14,20 +15,33 @@ static long left = -1;
 static long kept;
 
 void *__real_malloc(size_t size);
+void *__real_calloc(size_t count, size_t size);
 void *__real_realloc(void *old, size_t size);
 void __real_free(void *old);
 void *__wrap_malloc(size_t size);
+void *__wrap_calloc(size_t count, size_t size);
 void *__wrap_realloc(void *old, size_t size);
 void __wrap_free(void *old);
 
 static int is_refused(void)
 {
-	return left > 0 && --left == 0;
+	if (left <= 0 || --left > 0)
+		return 0;
+	errno = ENOMEM;
+	return 1;
 }
 
 void *__wrap_malloc(size_t size)
 {
 	void *new = is_refused() ? NULL : __real_malloc(size);
+
+	kept += new != NULL;
+	return new;
+}
+
+void *__wrap_calloc(size_t count, size_t size)
+{
+	void *new = is_refused() ? NULL : __real_calloc(count, size);
 
 	kept += new != NULL;
 	return new;
@@ -66,8 +80,10 @@ static int32_t open_refused(struct tags_pool *pool, long number)
 	int32_t status;
 
 	left = number;
+	errno = 0;
 	status = tags_open(pool, &options);
 	left = -1;
+	check("an open changes errno", errno == 0);
 	return status;
 }
 
@@ -76,8 +92,10 @@ static int32_t join_refused(struct tags_pool *pool, struct tags_hand *hand, long
 	int32_t status;
 
 	left = number;
+	errno = 0;
 	status = tags_join(pool, hand, 0);
 	left = -1;
+	check("a join changes errno", errno == 0);
 	return status;
 }
 
@@ -112,8 +130,10 @@ static int32_t resize_refused(struct tags_pool *pool, uint32_t total, long numbe
 	int32_t status;
 
 	left = number;
+	errno = 0;
 	status = tags_resize(pool, total);
 	left = -1;
+	check("a resize changes errno", errno == 0);
 	return status;
 }
 

@@ -16,8 +16,13 @@ enum place {
 	POSTED
 };
 
+/* whether a hand waits for an eventfd, or has been told of a tag */
+enum bell { IDLE, LISTED, TOLD };
+
 enum {
 	GROUPS = 8,
+	/* eventfds of a pool */
+	EVENTS = 3,
 	NOBODY = -1,
 	NOWHERE = -1
 };
@@ -33,6 +38,10 @@ struct set {
 	/* the hand that holds the tag, while it is held */
 	int holder[TAGS_MAX_TOTAL];
 	uint64_t slot[TAGS_MAX_TOTAL];
+	/* how many tags the sweeps of this call made free; those of the latest sweep, and the first of its word */
+	uint32_t freed;
+	uint64_t swept;
+	uint32_t swept_from;
 };
 
 /* The state of a hand, whether a thread has it or not. */
@@ -46,6 +55,10 @@ struct member {
 	uint32_t window;
 	uint64_t kept;
 	uint64_t lent;
+	enum bell bell;
+	/* 0, or when its wait began, and the eventfd that it named last */
+	uint64_t turn;
+	uint32_t event;
 };
 
 struct pool {
@@ -66,6 +79,10 @@ struct pool {
 	uint32_t granted[GROUPS];
 	struct tags_counts counts;
 	struct tags_sums sums;
+	bool is_stopped;
+	/* the waits for eventfds that have begun, and what was added to each eventfd */
+	uint64_t turns;
+	uint64_t told[EVENTS];
 };
 
 /* What is behind a handle: nothing, a pool, or a hand of a pool. */
@@ -168,5 +185,15 @@ int32_t model_finish(struct model *hand);
 int32_t model_busy(struct model *hand, uint64_t *into, size_t words);
 int32_t model_show(struct model *hand, uint32_t kind, struct tags_sizes *sizes);
 int32_t model_wakes(struct model *hand, struct tags_counts *counts);
+
+/* After a get: those that it made free are told of, without those of the latest sweep that it won. Returns @answer. */
+int32_t model_swept(struct model *hand, int32_t answer);
+/* After a call that gave this many tags back, unless it was refused. Returns @answer. */
+int32_t model_gave(struct model *hand, int32_t answer, uint32_t freed);
+int32_t model_get_async(struct model *hand, int32_t event);
+int32_t model_cancel(struct model *hand);
+int32_t model_stop(struct model *handle);
+/* What a get returns that would have to wait if it found no tag, and whose time is up then or has no end. */
+int32_t model_wait(struct model *hand, bool is_late);
 
 #endif

@@ -23,14 +23,19 @@ static uint32_t share_of(const struct set *set, uint32_t word, uint32_t depth)
 /* Frees the tags that are set aside in a word, and returns whether there were any. */
 static bool sweep(struct set *set, uint32_t word)
 {
-	bool any = false;
+	uint64_t tags = 0;
 
 	for (uint32_t at = begin_of(set, word); at < end_of(set, word); at++)
 		if (set->place[at] == ASIDE) {
 			set->place[at] = FREE;
-			any = true;
+			set->freed++;
+			tags |= (uint64_t)1 << (at - begin_of(set, word));
 		}
-	return any;
+	if (tags) {
+		set->swept_from = begin_of(set, word);
+		set->swept = tags;
+	}
+	return tags != 0;
 }
 
 /* Returns the first free tag in [@from, @to), or @to. */

@@ -45,7 +45,6 @@ static struct tags_hand *as_hand(struct tags_pool *pool)
 /* Passes NULL for each pointer in turn. */
 static void refuse_null(struct tags_pool *pool, struct tags_hand *hand)
 {
-	struct tags_bell bell = TAGS_BELL;
 	struct tags_grants grants;
 	const uint32_t tag = 2;
 	uint64_t value = 5;
@@ -74,21 +73,11 @@ static void refuse_null(struct tags_pool *pool, struct tags_hand *hand)
 	WANT(tags_wakes(hand, NULL), -28);
 	WANT(tags_prepare(NULL), -28);
 	WANT(tags_finish(NULL), -28);
-	WANT(tags_get_blocking(NULL, &bell), -28);
-	WANT(tags_get_blocking(hand, NULL), -28);
-	WANT(tags_ring(NULL, 1), -28);
-	WANT(tags_ring_granted(NULL, &grants), -28);
-	WANT(tags_ring_granted(&bell, NULL), -28);
-	WANT(tags_give(NULL, &bell, 2), -28);
-	WANT(tags_give(hand, NULL, 2), -28);
-	WANT(tags_give_batch(NULL, &bell, &tag, 1), -28);
-	WANT(tags_give_batch(hand, NULL, &tag, 1), -28);
-	WANT(tags_give_batch(hand, &bell, NULL, 1), -28);
+	WANT(tags_get_blocking(NULL), -28);
+	WANT(tags_clear_batch(NULL, &tag, 1), -28);
 	WANT(tags_clear_run(NULL, 2, 1), -28);
 	WANT(tags_clear_run_granted(NULL, 2, 1, &grants), -28);
 	WANT(tags_clear_run_granted(hand, 2, 1, NULL), -28);
-	WANT(tags_give_run(NULL, &bell, 2, 1), -28);
-	WANT(tags_give_run(hand, NULL, 2, 1), -28);
 	WANT(tags_clear_granted(NULL, 2, &grants), -28);
 	WANT(tags_clear_granted(hand, 2, NULL), -28);
 	WANT(tags_clear_batch_granted(NULL, &tag, 1, &grants), -28);
@@ -100,11 +89,9 @@ static void refuse_null(struct tags_pool *pool, struct tags_hand *hand)
 	WANT(tags_get_write(NULL, 1), -28);
 	WANT(tags_read_clear(NULL, 2, &value), -28);
 	WANT(tags_read_clear(hand, 2, NULL), -28);
-	WANT(tags_get_async(NULL, &bell), -28);
-	WANT(tags_get_async(hand, NULL), -28);
-	WANT(tags_cancel(NULL, &bell), -28);
-	WANT(tags_cancel(hand, NULL), -28);
-	WANT(tags_set_event(NULL, 1), -28);
+	WANT(tags_get_async(NULL, 0), -28);
+	WANT(tags_cancel(NULL), -28);
+	WANT(tags_stop(NULL), -28);
 }
 
 static void refuse_options(void)
@@ -196,26 +183,20 @@ static void refuse_handles(struct tags_pool *pool, struct tags_hand *hand)
 {
 	struct tags_pool none = TAGS_EMPTY;
 	struct tags_hand idle = TAGS_EMPTY;
-	struct tags_bell bell = TAGS_BELL;
-	const uint32_t two = 2;
 	struct tags_sums sums;
 
 	refuse_handle(&idle);
 	refuse_handle(as_hand(pool));
-	WANT(tags_get_blocking(&idle, &bell), -12);
-	WANT(tags_get_blocking(as_hand(pool), &bell), -12);
-	WANT(tags_get_async(&idle, &bell), -33);
-	WANT(tags_set_event(&bell, -2), -33);
-	WANT(tags_set_event(&bell, 0), 0);
-	WANT(tags_get_async(&idle, &bell), -12);
-	WANT(tags_get_async(as_hand(pool), &bell), -12);
-	WANT(tags_cancel(&idle, &bell), -12);
-	WANT(tags_cancel(hand, &bell), -9);
-	WANT(tags_give(&idle, &bell, 2), -12);
-	WANT(tags_give(hand, &bell, 2), -3);
-	WANT(tags_give(hand, &bell, 12), -1);
-	WANT(tags_give_batch(hand, &bell, &two, 0), -5);
-	WANT(tags_give_batch(hand, &bell, &two, 1), -3);
+	WANT(tags_get_blocking(&idle), -12);
+	WANT(tags_get_blocking(as_hand(pool)), -12);
+	WANT(tags_get_async(&idle, -1), -12);
+	WANT(tags_get_async(as_hand(pool), 0), -12);
+	WANT(tags_get_async(hand, -1), -33);
+	WANT(tags_cancel(&idle), -12);
+	WANT(tags_cancel(as_hand(pool)), -12);
+	WANT(tags_cancel(hand), -9);
+	WANT(tags_stop(&none), -12);
+	WANT(tags_stop(as_pool(hand)), -12);
 	WANT(tags_open(pool, &twelve), -13);
 	WANT(tags_open(as_pool(hand), &twelve), -13);
 	WANT(tags_join(pool, hand, 0), -13);
@@ -315,7 +296,6 @@ static void refuse_waits(struct tags_hand *hand)
 
 static void use_up(struct tags_hand *hand)
 {
-	struct tags_bell bell = TAGS_BELL;
 	int32_t tag;
 
 	while ((tag = tags_get_reserved(hand)) >= 0)
@@ -325,7 +305,7 @@ static void use_up(struct tags_hand *hand)
 		;
 	WANT(tag, -10);
 	WANT(tags_prepare(hand), 1);
-	WANT(tags_get_blocking(hand, &bell), -8);
+	WANT(tags_get_blocking(hand), -8);
 	WANT(tags_finish(hand), 0);
 }
 
@@ -335,7 +315,6 @@ static void refuse_kinds(void)
 	struct tags_options options = { .total = 4, .hands = 1 };
 	struct tags_pool pool = TAGS_EMPTY;
 	struct tags_hand hand = TAGS_EMPTY;
-	struct tags_bell bell = TAGS_BELL;
 	struct tags_sums sums;
 
 	WANT(tags_open(&pool, &options), 0);
@@ -347,7 +326,7 @@ static void refuse_kinds(void)
 	WANT(tags_open(&pool, &options), 0);
 	WANT(tags_join(&pool, &hand, 0), 0);
 	WANT(tags_get(&hand), -10);
-	WANT(tags_get_blocking(&hand, &bell), -1);
+	WANT(tags_get_blocking(&hand), -1);
 	WANT(tags_leave(&hand), 0);
 	WANT(tags_close(&pool, &sums), 0);
 }
@@ -496,37 +475,13 @@ static void refuse_kept(void)
 	WANT(sums.got == 2 && sums.back == 2 && sums.held == 0, 1);
 }
 
-/* A program that was compiled with a header whose options had no cache calls this export. */
-int32_t tags_library_open(struct tags_pool *pool, const void *options);
-
-static void open_as_before(void)
-{
-	const struct {
-		uint32_t total, reserved;
-		int32_t shift;
-		uint32_t min_shallow, hands, flags;
-	} former = { .total = 4, .shift = -1, .hands = 1 };
-	struct tags_pool pool = TAGS_EMPTY;
-	struct tags_hand hand = TAGS_EMPTY;
-	struct tags_sums sums;
-	uint64_t busy;
-
-	WANT(tags_library_open(&pool, &former), 0);
-	WANT(tags_join(&pool, &hand, 0), 0);
-	WANT(tags_get(&hand), 0);
-	WANT(tags_clear(&hand, 0), 0);
-	WANT(tags_busy(&hand, &busy, 1), 0);
-	WANT(tags_leave(&hand), 0);
-	WANT(tags_close(&pool, &sums), 0);
-}
-
 static void name_statuses(void)
 {
-	for (int32_t status = TAGS_CACHE_TOO_LARGE; status < 0; status++)
+	for (int32_t status = TAGS_STOPPED; status < 0; status++)
 		for (int32_t other = status + 1; other <= 0; other++)
 			WANT(strcmp(tags_strerror(status), tags_strerror(other)) != 0, 1);
 	WANT(strcmp(tags_strerror(7), tags_strerror(TAGS_OK)), 0);
-	WANT(strcmp(tags_strerror(INT32_MIN), tags_strerror(TAGS_CACHE_TOO_LARGE - 1)), 0);
+	WANT(strcmp(tags_strerror(INT32_MIN), tags_strerror(TAGS_STOPPED - 1)), 0);
 }
 
 int main(void)
@@ -559,7 +514,6 @@ int main(void)
 			part_with_all_hands(total, hands);
 	refuse_resizes();
 	refuse_kept();
-	open_as_before();
 	name_statuses();
 	printf("%d answers, %d wrong\n", wanted, wrong);
 	return wrong != 0;

@@ -26,7 +26,6 @@ struct thread {
 };
 
 static long rounds = 500;
-static struct tags_bell bell = TAGS_BELL;
 static uint64_t wrong;
 
 /* Number of threads that have a tag. It never exceeds the number of tags. */
@@ -51,22 +50,22 @@ static void *run(void *argument)
 	struct thread *self = argument;
 
 	for (long round = 0; round < rounds; round++) {
-		int32_t tag = tags_get_blocking(&self->hand, &bell);
+		int32_t tag = tags_get_blocking(&self->hand);
 
 		check(tag >= 0);
 		check(__atomic_add_fetch(&inside, 1, __ATOMIC_SEQ_CST) <= tags_in_all);
 		sched_yield();
 		__atomic_fetch_sub(&inside, 1, __ATOMIC_SEQ_CST);
-		check(tags_ring(&bell, clear(self, (uint32_t)tag)) >= 0);
+		check(clear(self, (uint32_t)tag) >= 0);
 	}
 	if (self->flushes)
-		check(tags_ring(&bell, tags_flush(&self->hand)) >= 0);
+		check(tags_flush(&self->hand) >= 0);
 	return NULL;
 }
 
 static uint32_t get(struct thread *self)
 {
-	int32_t tag = tags_get_blocking(&self->hand, &bell);
+	int32_t tag = tags_get_blocking(&self->hand);
 
 	check(tag >= 0);
 	check(__atomic_add_fetch(&inside, 1, __ATOMIC_SEQ_CST) <= tags_in_all);
@@ -76,7 +75,7 @@ static uint32_t get(struct thread *self)
 static void give(struct thread *self, uint32_t tag)
 {
 	__atomic_fetch_sub(&inside, 1, __ATOMIC_SEQ_CST);
-	check(tags_give(&self->hand, &bell, tag) >= 0);
+	check(tags_clear(&self->hand, tag) >= 0);
 }
 
 /* The second tag of a pair is given back and taken again while the first is held. */
@@ -95,7 +94,7 @@ static void *run_pairs(void *argument)
 		give(self, round % 2 ? second : first);
 	}
 	if (self->flushes)
-		check(tags_ring(&bell, tags_flush(&self->hand)) >= 0);
+		check(tags_flush(&self->hand) >= 0);
 	return NULL;
 }
 
@@ -165,8 +164,8 @@ static void *answer(void *unused)
 		wait_for(&called, round);
 		__atomic_store_n(&near, round, __ATOMIC_SEQ_CST);
 		linger(round * 7 % 600);
-		tag = tags_get_blocking(&waiter, &bell);
-		check(tag == 0 && tags_ring(&bell, tags_clear(&waiter, 0)) == 0);
+		tag = tags_get_blocking(&waiter);
+		check(tag == 0 && tags_clear(&waiter, 0) == 0);
 		__atomic_store_n(&answered, round, __ATOMIC_SEQ_CST);
 	}
 	return unused;
@@ -188,7 +187,7 @@ static void duel(void)
 		__atomic_store_n(&called, round, __ATOMIC_SEQ_CST);
 		wait_for(&near, round);
 		linger(round * 11 % 200);
-		check(tags_ring(&bell, tags_clear(&hand, 0)) >= 0);
+		check(tags_clear(&hand, 0) >= 0);
 		wait_for(&answered, round);
 	}
 	pthread_join(id, NULL);

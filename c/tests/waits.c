@@ -31,7 +31,6 @@ struct thread {
 };
 
 static long rounds = 400;
-static struct tags_bell bell = TAGS_BELL;
 static struct thread threads[MOST];
 static uint32_t asleep;
 static uint32_t inside;
@@ -102,14 +101,13 @@ static void close_pool(struct tags_pool *pool)
 
 	CHECK(tags_close(pool, &sums) == TAGS_OK);
 	CHECK(sums.got == sums.back && sums.held == 0);
-	CHECK(bell.sleepers == 0 && bell.listeners == 0);
 }
 
 /*
  * Free tags
  */
 
-enum way { GIVE, GIVE_BATCH, RING, RING_GRANTED };
+enum way { CLEAR, CLEAR_BATCH, CLEAR_RUN, CLEAR_GRANTED };
 
 static enum way the_way;
 
@@ -117,15 +115,13 @@ static int32_t give(struct tags_hand *hand, enum way way, uint32_t tag)
 {
 	struct tags_grants grants;
 
-	if (way == GIVE)
-		return tags_give(hand, &bell, tag);
-	if (way == GIVE_BATCH)
-		return tags_give_batch(hand, &bell, &tag, 1);
-	if (way == RING)
-		return tags_ring(&bell, tags_clear(hand, tag));
-	if (tags_clear_granted(hand, tag, &grants) < 0)
-		return TAGS_NOT_HELD;
-	return tags_ring_granted(&bell, &grants);
+	if (way == CLEAR)
+		return tags_clear(hand, tag);
+	if (way == CLEAR_BATCH)
+		return tags_clear_batch(hand, &tag, 1);
+	if (way == CLEAR_RUN)
+		return tags_clear_run(hand, tag, 1);
+	return tags_clear_granted(hand, tag, &grants);
 }
 
 /* Gives its tag back once as many threads have one as tags became free. */
@@ -135,7 +131,7 @@ static void *wait_for_one(void *argument)
 	struct timespec end = after(CLOCK_MONOTONIC, PATIENCE_MS * 1000L);
 
 	__atomic_fetch_add(&asleep, 1, __ATOMIC_SEQ_CST);
-	self->got = tags_get_timed(&self->hand, &bell, CLOCK_MONOTONIC, &end);
+	self->got = tags_get_timed(&self->hand, CLOCK_MONOTONIC, &end);
 	CHECK(self->got >= 0);
 	__atomic_fetch_add(&inside, 1, __ATOMIC_SEQ_CST);
 	while (__atomic_load_n(&inside, __ATOMIC_SEQ_CST) < wanted_inside)
@@ -171,9 +167,9 @@ static void wake_beside_free_tags(uint32_t total, uint32_t sleepers, uint32_t cl
 	for (uint32_t i = 0; i < cleared; i++)
 		tags[i] = i * (total / cleared);
 	begin = now(CLOCK_MONOTONIC);
-	if (way == GIVE_BATCH)
-		CHECK(tags_give_batch(&hand, &bell, tags, cleared) >= 0);
-	for (uint32_t i = 0; i < cleared && way != GIVE_BATCH; i++)
+	if (way == CLEAR_BATCH)
+		CHECK(tags_clear_batch(&hand, tags, cleared) >= 0);
+	for (uint32_t i = 0; i < cleared && way != CLEAR_BATCH; i++)
 		CHECK(give(&hand, way, tags[i]) >= 0);
 	for (uint32_t i = 0; i < sleepers; i++) {
 		pthread_join(threads[i].id, NULL);
@@ -196,13 +192,13 @@ static void time_out(struct tags_hand *hand, int32_t clock)
 	struct timespec begin = now(CLOCK_MONOTONIC);
 	struct timespec end = after(clock, 30000);
 
-	CHECK(tags_get_timed(hand, &bell, clock, &end) == TAGS_TIMED_OUT);
+	CHECK(tags_get_timed(hand, clock, &end) == TAGS_TIMED_OUT);
 	CHECK(us_since(begin) >= 29000);
 	CHECK(tags_finish(hand) == TAGS_NOT_WAITING);
 	begin = now(CLOCK_MONOTONIC);
-	CHECK(tags_get_timed(hand, &bell, clock, &end) == TAGS_TIMED_OUT);
+	CHECK(tags_get_timed(hand, clock, &end) == TAGS_TIMED_OUT);
 	end = (struct timespec){ -5, 0 };
-	CHECK(tags_get_timed(hand, &bell, clock, &end) == TAGS_TIMED_OUT);
+	CHECK(tags_get_timed(hand, clock, &end) == TAGS_TIMED_OUT);
 }
 
 static void refuse_times(struct tags_hand *hand)
@@ -210,16 +206,15 @@ static void refuse_times(struct tags_hand *hand)
 	struct tags_hand none = TAGS_EMPTY;
 	struct timespec end = { 0, 1000000000 };
 
-	CHECK(tags_get_timed(hand, &bell, CLOCK_MONOTONIC, NULL) == TAGS_NULL);
-	CHECK(tags_get_timed(NULL, &bell, CLOCK_MONOTONIC, &end) == TAGS_NULL);
-	CHECK(tags_get_timed(hand, NULL, CLOCK_MONOTONIC, &end) == TAGS_NULL);
-	CHECK(tags_get_timed(hand, &bell, CLOCK_MONOTONIC, &end) == TAGS_BAD_TIME);
+	CHECK(tags_get_timed(hand, CLOCK_MONOTONIC, NULL) == TAGS_NULL);
+	CHECK(tags_get_timed(NULL, CLOCK_MONOTONIC, &end) == TAGS_NULL);
+	CHECK(tags_get_timed(hand, CLOCK_MONOTONIC, &end) == TAGS_BAD_TIME);
 	end.tv_nsec = -1;
-	CHECK(tags_get_timed(hand, &bell, CLOCK_MONOTONIC, &end) == TAGS_BAD_TIME);
+	CHECK(tags_get_timed(hand, CLOCK_MONOTONIC, &end) == TAGS_BAD_TIME);
 	end.tv_nsec = 0;
-	CHECK(tags_get_timed(hand, &bell, CLOCK_PROCESS_CPUTIME_ID, &end) == TAGS_BAD_TIME);
-	CHECK(tags_get_timed(hand, &bell, -1, &end) == TAGS_BAD_TIME);
-	CHECK(tags_get_timed(&none, &bell, CLOCK_REALTIME, &end) == TAGS_BAD_HANDLE);
+	CHECK(tags_get_timed(hand, CLOCK_PROCESS_CPUTIME_ID, &end) == TAGS_BAD_TIME);
+	CHECK(tags_get_timed(hand, -1, &end) == TAGS_BAD_TIME);
+	CHECK(tags_get_timed(&none, CLOCK_REALTIME, &end) == TAGS_BAD_HANDLE);
 }
 
 static void keep_to_a_deadline(void)
@@ -232,17 +227,17 @@ static void keep_to_a_deadline(void)
 	open_pool(&pool, 1, 2);
 	CHECK(tags_join(&pool, &hand, 0) == TAGS_OK && tags_join(&pool, &other, 0) == TAGS_OK);
 	refuse_times(&hand);
-	CHECK(tags_get_timed(&hand, &bell, CLOCK_MONOTONIC, &past) == 0);
+	CHECK(tags_get_timed(&hand, CLOCK_MONOTONIC, &past) == 0);
 	time_out(&other, CLOCK_MONOTONIC);
 	time_out(&other, CLOCK_REALTIME);
 	CHECK(tags_prepare(&other) >= 0);
-	CHECK(tags_get_timed(&other, &bell, CLOCK_MONOTONIC, &past) == TAGS_TIMED_OUT);
+	CHECK(tags_get_timed(&other, CLOCK_MONOTONIC, &past) == TAGS_TIMED_OUT);
 	past = after(CLOCK_MONOTONIC, 10000000);
-	CHECK(tags_get_timed(&other, &bell, CLOCK_MONOTONIC, &past) == TAGS_WAITING);
+	CHECK(tags_get_timed(&other, CLOCK_MONOTONIC, &past) == TAGS_WAITING);
 	CHECK(tags_finish(&other) == 0);
-	CHECK(tags_give(&hand, &bell, 0) == 0);
-	CHECK(tags_get_timed(&other, &bell, CLOCK_REALTIME, &past) == 0);
-	CHECK(tags_give(&other, &bell, 0) == 0);
+	CHECK(tags_clear(&hand, 0) == 0);
+	CHECK(tags_get_timed(&other, CLOCK_REALTIME, &past) == 0);
+	CHECK(tags_clear(&other, 0) == 0);
 	CHECK(tags_leave(&hand) == TAGS_OK && tags_leave(&other) == TAGS_OK);
 	close_pool(&pool);
 }
@@ -254,16 +249,16 @@ static void *come_and_go(void *argument)
 	while (self->limit_us ? !__atomic_load_n(&is_over, __ATOMIC_SEQ_CST) :
 				self->gets < (uint64_t)rounds) {
 		struct timespec end = after(CLOCK_MONOTONIC, self->limit_us);
-		int32_t tag = self->limit_us ? tags_get_timed(&self->hand, &bell, CLOCK_MONOTONIC,
+		int32_t tag = self->limit_us ? tags_get_timed(&self->hand, CLOCK_MONOTONIC,
 							      &end) :
-					       tags_get_blocking(&self->hand, &bell);
+					       tags_get_blocking(&self->hand);
 
 		self->late += tag == TAGS_TIMED_OUT;
 		self->gets += tag >= 0;
 		check(tag >= 0 || (tag == TAGS_TIMED_OUT && self->limit_us), "come_and_go");
 		sched_yield();
 		if (tag >= 0)
-			check(tags_give(&self->hand, &bell, (uint32_t)tag) >= 0, "give");
+			check(tags_clear(&self->hand, (uint32_t)tag) >= 0, "give");
 	}
 	return NULL;
 }
@@ -295,7 +290,7 @@ int main(int argc, char **argv)
 {
 	if (argc > 1)
 		rounds = strtol(argv[1], NULL, 10);
-	for (enum way way = GIVE; way <= RING_GRANTED; way++) {
+	for (enum way way = CLEAR; way <= CLEAR_GRANTED; way++) {
 		wake_beside_free_tags(64, 1, 7, way);
 		wake_beside_free_tags(64, 7, 7, way);
 		wake_beside_free_tags(64, 20, 20, way);

@@ -94,7 +94,8 @@ def check_c(target):
     is_old = target.is_native and not lacks("an old x86-64 processor is", OLDEST[0])
     if is_old and not tell("qemu refuses popcnt on an old processor", not makes("gcc", "c", NEWER, OLDEST)):
         is_old = False
-    for name in ("quick_start", "io_queue"):
+    tell(f"{target.name}: copy_file.c is among the examples", os.path.exists(f"{target.root}/usr/share/doc/libtags-dev/examples/copy_file.c"))
+    for name in ("quick_start", "io_queue", "event_loop"):
         for kind, more, options in (("shared", [], []), ("static", ["--static"], ["-static"])):
             program, what = f"{target.work}/{name}_{kind}", f"{target.name}: {name}, {kind}"
             source = f"{target.root}/usr/share/doc/libtags-dev/examples/{name}.c"
@@ -165,6 +166,9 @@ def check_rust(target):
         for name in ("quick_start", "io_queue"):
             command = ["cargo", "run", "--offline", "--quiet", "--example", name]
             run(f"{target.name}: {name} in Rust, {kind}", command, wanted=expected(name), cwd=crate, env=known)
+    known = {**target.environment(), **more, "PKG_CONFIG_LIBDIR": f"{target.work}/nowhere", "CARGO_TARGET_DIR": f"{target.work}/alone"}
+    command = ["cargo", "run", "--offline", "--quiet", "--example", "quick_start"]
+    run(f"{target.name}: quick_start in Rust, of the crate alone", command, wanted=expected("quick_start"), cwd=crate, env=known)
 
 
 def check_page(page, name, *wanted):

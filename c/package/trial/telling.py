@@ -1,12 +1,19 @@
-"""Runs commands and counts what passes; what fails is told, with the last lines that it printed."""
+"""Runs commands and counts what passes; what fails is told, with the last lines that it printed.
+
+It is for scripts of .ci/, beside which debian.py says which package has a tool.
+"""
 import os
-import shutil
 import subprocess
+import sys
 import tempfile
+
+import debian
 
 HERE = os.path.dirname(os.path.abspath(__file__))
 EXAMPLES = os.path.join(os.path.dirname(os.path.dirname(HERE)), "examples")
 SECONDS = 100
+# The script that tells.
+WHO = os.path.basename(sys.argv[0])
 
 counts = {True: 0, False: 0}
 
@@ -14,7 +21,7 @@ counts = {True: 0, False: 0}
 def tell(name, is_well, said=""):
     counts[bool(is_well)] += 1
     if not is_well:
-        print(f"packages: FAILED: {name}", *said.splitlines()[-20:], sep="\n  ", flush=True)
+        print(f"{WHO}: FAILED: {name}", *said.splitlines()[-20:], sep="\n  ", flush=True)
     return bool(is_well)
 
 
@@ -38,14 +45,15 @@ def out(command, **more):
 
 
 def untested(what, why):
-    print(f"packages: {what} not tested, since {why}", flush=True)
+    print(f"{WHO}: {what} not tested, since {why}", flush=True)
 
 
 def lacks(what, *tools):
-    """Whether a tool is missing here, which is then said."""
-    missing = [it for it in tools if not shutil.which(it)]
+    """Whether a tool is missing here, which is then said; in CI that is a failure."""
+    missing = debian.missing(tools)
     if missing:
-        untested(what, f"there is no {', no '.join(missing)} here")
+        untested(what, debian.advice(missing))
+        counts[False] += debian.IN_CI
     return bool(missing)
 
 

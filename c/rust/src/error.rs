@@ -47,12 +47,14 @@ pub enum Error {
     InUse,
     /// A cache of more than 64 tags.
     CacheTooLarge,
+    /// [`Pool::stop`] ended all waits.
+    Stopped,
     /// A status that no call of this crate should return.
     Unexpected(i32),
 }
 
 /// The status of each error in tags.h.
-const NUMBERS: [(Error, i32); 18] = [
+const NUMBERS: [(Error, i32); 19] = [
     (Error::NoSuchTag, -1),
     (Error::NoReserved, -2),
     (Error::NotHeld, -3),
@@ -71,6 +73,7 @@ const NUMBERS: [(Error, i32); 18] = [
     (Error::BadHandCount, -25),
     (Error::InUse, -29),
     (Error::CacheTooLarge, -35),
+    (Error::Stopped, -36),
 ];
 
 impl Error {

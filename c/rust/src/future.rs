@@ -1,7 +1,7 @@
 //! Waits that block no thread.
-use crate::error::Result;
+use crate::bell::{Bell, Place};
+use crate::error::{Error, Result};
 use crate::hand::Hand;
-use crate::listeners::Listeners;
 use crate::owned::OwnedTag;
 use crate::shared::SharedHand;
 use crate::tag::Tag;
@@ -10,36 +10,35 @@ use std::future::Future;
 use std::pin::Pin;
 use std::task::{Context, Poll, Waker};
 
-/// Lends a hand to a future, for one call at a time.
+/// Lends a hand to a future, for one call at a time, and then settles what the hand owes.
 pub(crate) trait Lends {
     type Value;
 
     fn lend<R>(&self, call: impl FnOnce(&Hand<Self::Value>) -> R) -> R;
 
-    fn listeners(&self) -> &Listeners;
+    fn bell(&self) -> Bell;
 }
 
 impl<T> Lends for &Hand<T> {
     type Value = T;
 
     fn lend<R>(&self, call: impl FnOnce(&Hand<T>) -> R) -> R {
-        call(self)
+        let answer = call(self);
+        self.settle();
+        answer
     }
 
-    fn listeners(&self) -> &Listeners {
-        Hand::listeners(self)
+    fn bell(&self) -> Bell {
+        self.shared.bell
     }
 }
 
-/// A future's wait for a tag. A wakeup from a give either leads to a try or passes to the next future.
+/// A future's wait for a tag. If it is told of one, that either leads to a try or passes to the next future.
 struct Waiting<L: Lends> {
     lender: L,
     /// Whether the hand counts this future among its waits.
     is_counted: bool,
-    /// Whether it was put in the list; a give may have removed it since.
-    is_listed: bool,
-    /// Its place in the list, which it keeps until it ends, so that a try that found no tag does not cost it its turn.
-    place: Option<u64>,
+    place: Option<Place>,
 }
 
 impl<L: Lends> Waiting<L> {
@@ -47,7 +46,6 @@ impl<L: Lends> Waiting<L> {
         Waiting {
             lender,
             is_counted: false,
-            is_listed: false,
             place: None,
         }
     }
@@ -59,45 +57,46 @@ impl<L: Lends> Waiting<L> {
             Ok(Some(tag)) => Ok(tag),
             Err(error) => Err(error),
         };
-        let unused = usize::from(was_told && found.is_err());
-        let told_since = usize::from(self.end());
-        self.lender.listeners().tell(unused + told_since);
+        let unused = u64::from(was_told && found.is_err());
+        let told_since = u64::from(self.end());
+        self.lender.bell().pass_on(unused + told_since);
         Poll::Ready(found)
     }
 
-    /// Returns whether a give has woken this future. Otherwise it stays listed, with this waker.
+    /// Returns whether this future was told of a tag. Otherwise it stays listed, with this waker.
     fn hear(&mut self, waker: &Waker) -> bool {
-        let (true, Some(place)) = (self.is_listed, self.place) else {
-            return false;
-        };
-        self.is_listed = self.lender.listeners().renew(place, waker.clone());
-        !self.is_listed
+        match &mut self.place {
+            Some(place) if place.is_listed() => !place.renew(waker.clone()),
+            _ => false,
+        }
     }
 
     /// Tries, and if that fails, tries once more after it is listed.
     fn try_or_wait(&mut self, waker: &Waker) -> Result<Option<u32>> {
+        let bell = self.lender.bell();
+        if bell.is_stopped() {
+            return Err(Error::Stopped);
+        }
         let found = self.lender.lend(Hand::find)?;
-        if found.is_some() || self.is_listed {
+        if found.is_some() || self.place.as_ref().is_some_and(Place::is_listed) {
             return Ok(found);
         }
         if !self.is_counted {
             self.lender.lend(Hand::begin_wait)?;
             self.is_counted = true;
         }
-        let listeners = self.lender.listeners();
-        self.place = Some(listeners.enter(self.place, waker.clone()));
-        self.is_listed = true;
+        let place = self.place.get_or_insert_with(|| Place::new(bell));
+        place.enter(waker.clone())?;
         self.lender.lend(Hand::find)
     }
 
-    /// Ends the wait. Returns whether a give has woken this future and no try has followed.
+    /// Ends the wait. Returns whether this future was told of a tag and no try has followed.
     fn end(&mut self) -> bool {
-        let place = self.place.filter(|_| self.is_listed);
-        let was_told = place.is_some_and(|it| !self.lender.listeners().leave(it));
+        let was_told = self.place.take().is_some_and(|mut it| it.leave());
         if self.is_counted {
             self.lender.lend(Hand::end_wait);
         }
-        (self.is_counted, self.is_listed) = (false, false);
+        self.is_counted = false;
         was_told
     }
 }
@@ -105,7 +104,7 @@ impl<L: Lends> Waiting<L> {
 impl<L: Lends> Drop for Waiting<L> {
     fn drop(&mut self) {
         if self.end() {
-            self.lender.listeners().tell(1);
+            self.lender.bell().pass_on(1);
         }
     }
 }

@@ -1,6 +1,5 @@
 //! The hand through which a thread takes tags.
 use crate::error::{number, Result};
-use crate::listeners::Listeners;
 use crate::options::{Counts, Kind, Sizes};
 use crate::pool::Shared;
 use crate::raw::{self, Handle};
@@ -39,6 +38,8 @@ pub struct Hand<T = ()> {
     pub(crate) loose: RefCell<Vec<u64>>,
     /// How many futures wait. The hand is in a wait group while there are any.
     pub(crate) waiting: Cell<usize>,
+    /// How many tags it made free of which it has not told those who wait yet.
+    pub(crate) owed: Cell<u64>,
 }
 
 impl<T> Hand<T> {
@@ -48,6 +49,7 @@ impl<T> Hand<T> {
             shared,
             loose: RefCell::default(),
             waiting: Cell::new(0),
+            owed: Cell::new(0),
         };
         *hand.loose.borrow_mut() = hand.held();
         hand
@@ -84,10 +86,49 @@ impl<T> Hand<T> {
         }
     }
 
+    // Whoever makes tags free tells those who wait afterwards. Telling may call a waker, so a hand behind a lock owes it until
+    // the lock is left, and each call below that makes tags free only notes how many they are.
+
+    /// Notes that a get made tags free that it did not take.
+    #[cold]
+    fn owe(&self, freed: u64) {
+        self.owed.set(self.owed.get() + freed);
+    }
+
+    /// Notes that a call gave this many tags back, if anybody waits. What the hand keeps goes back then, too.
+    #[inline]
+    pub(crate) fn owe_if_awaited(&self, freed: u64) {
+        if self.shared.bell.is_awaited() {
+            self.give_kept();
+            self.owe(freed + self.shared.besides);
+        }
+    }
+
+    #[cold]
+    fn give_kept(&self) {
+        if self.shared.besides > 0 {
+            // SAFETY: as of `raw`.
+            Self::expect(unsafe { raw::tags_library_flush(self.raw()) });
+        }
+    }
+
+    /// Tells those who wait of the tags that the hand made free.
+    #[inline]
+    pub(crate) fn settle(&self) {
+        if self.owed.get() > 0 {
+            self.shared.bell.ring(self.owed.take());
+        }
+    }
+
     #[inline]
     pub(crate) fn find(&self) -> Result<Option<u32>> {
+        let mut left = 0;
         // SAFETY: as of `raw`.
-        Self::found(unsafe { raw::tags_library_get(self.raw()) })
+        let answer = unsafe { raw::tags_library_get(self.raw(), &mut left) };
+        if left > 0 {
+            self.owe(left);
+        }
+        Self::found(answer)
     }
 
     #[inline]
@@ -98,8 +139,13 @@ impl<T> Hand<T> {
 
     #[inline]
     pub(crate) fn find_shallow(&self, depth: u32) -> Result<Option<u32>> {
+        let mut left = 0;
         // SAFETY: as of `raw`.
-        Self::found(unsafe { raw::tags_library_get_shallow(self.raw(), depth) })
+        let answer = unsafe { raw::tags_library_get_shallow(self.raw(), depth, &mut left) };
+        if left > 0 {
+            self.owe(left);
+        }
+        Self::found(answer)
     }
 
     /// Takes a free ordinary tag. `None` means that each tag was found taken at some moment of the call, not that all
@@ -119,7 +165,9 @@ impl<T> Hand<T> {
     /// ```
     #[inline]
     pub fn get(&self) -> Result<Option<Tag<'_, T>>> {
-        Ok(self.find()?.map(|tag| Tag::new(self, tag)))
+        let found = self.find();
+        self.settle();
+        Ok(found?.map(|tag| Tag::new(self, tag)))
     }
 
     /// Takes a free reserved tag. `None` is as from [`get`](Hand::get).
@@ -132,7 +180,9 @@ impl<T> Hand<T> {
     /// Each word has a share of the depth in proportion to its tags, which can be 0.
     #[inline]
     pub fn get_shallow(&self, depth: u32) -> Result<Option<Tag<'_, T>>> {
-        Ok(self.find_shallow(depth)?.map(|tag| Tag::new(self, tag)))
+        let found = self.find_shallow(depth);
+        self.settle();
+        Ok(found?.map(|tag| Tag::new(self, tag)))
     }
 
     /// Takes up to `n` ordinary tags out of a run of `n`, where `n` is 1 to the number of tags per word. Under round robin
@@ -149,17 +199,26 @@ impl<T> Hand<T> {
     /// # }
     /// ```
     pub fn get_batch(&self, n: u32) -> Result<Option<Batch<'_, T>>> {
-        let mut won = 0;
+        let (mut won, mut left) = (0, 0);
         // SAFETY: as of `raw`.
-        let first = Self::found(unsafe { raw::tags_library_get_batch(self.raw(), n, &mut won) })?;
-        Ok(first.map(|first| Batch::new(self, first, won)))
+        let first = unsafe { raw::tags_library_get_batch(self.raw(), n, &mut won, &mut left) };
+        if left > 0 {
+            self.owe(left);
+        }
+        self.settle();
+        Ok(Self::found(first)?.map(|first| Batch::new(self, first, won)))
     }
 
     /// Gives all kept tags back, and wakes whoever waits for one. A hand keeps tags if the pool was opened with a
     /// [`cache`](crate::Options::cache). Call it before the thread goes idle or sleeps; dropping the hand does the same.
     pub fn flush(&self) {
+        self.flush_kept();
+        self.settle();
+    }
+
+    pub(crate) fn flush_kept(&self) {
         self.give_kept();
-        self.listeners().tell(self.shared.besides);
+        self.owe_if_awaited(0);
     }
 
     /// Turns this hand into one that several threads and tasks share. Its tags are [`OwnedTag`](crate::OwnedTag)s.
@@ -192,10 +251,6 @@ impl<T> Hand<T> {
         counts
     }
 
-    pub(crate) fn listeners(&self) -> &Listeners {
-        &self.shared.listeners
-    }
-
     /// Leaves the wait group, if the hand is in one. Returns whether the group had a granted wakeup.
     pub(crate) fn leave_group(&self) -> bool {
         loop {
@@ -219,11 +274,8 @@ impl<T> Drop for Hand<T> {
     fn drop(&mut self) {
         // It is in a group only if the guard of a wait was leaked.
         self.leave_group();
-        if self.shared.besides > 0 {
-            self.flush();
-        }
         // SAFETY: as of `raw`.
-        unsafe { raw::tags_library_leave(self.raw()) };
+        unsafe { raw::tags_leave(self.raw()) };
     }
 }
 

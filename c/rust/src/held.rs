@@ -87,33 +87,19 @@ impl<T> Hand<T> {
         Ok(())
     }
 
-    /// Gives all kept tags back, and wakes the threads that sleep. The caller wakes the futures.
-    pub(crate) fn give_kept(&self) {
-        let bell = self.shared.bell.as_ptr();
-        // SAFETY: as of `raw`, and the bell is only accessed by atomic operations.
-        Self::expect(unsafe { raw::tags_ring(bell, raw::tags_library_flush(self.raw())) });
-    }
-
-    /// A future that began to wait after the clear looked for waiters does not find what the hand has kept since.
-    fn give_kept_to_listeners(&self) {
-        if self.shared.besides > 0 && self.listeners().are_there() {
-            self.give_kept();
-        }
-    }
-
-    /// Gives a held tag back, and wakes a thread that sleeps until one is free. The caller wakes the futures.
+    /// Gives a held tag back. The caller settles what the hand owes.
+    #[inline]
     pub(crate) fn give(&self, number: u32) {
-        // SAFETY: as of `raw`, and the bell is only accessed by atomic operations.
-        Self::expect(unsafe { raw::tags_give(self.raw(), self.shared.bell.as_ptr(), number) });
-        self.give_kept_to_listeners();
+        // SAFETY: as of `raw`.
+        Self::expect(unsafe { raw::tags_library_clear(self.raw(), number) });
+        self.owe_if_awaited(1);
     }
 
-    /// Gives the held ordinary tags of a mask back together, and wakes as many threads. The caller wakes the futures.
+    /// Gives the held ordinary tags of a mask back together. The caller settles what the hand owes.
     pub(crate) fn give_run(&self, first: u32, mask: u64) {
-        let bell = self.shared.bell.as_ptr();
-        // SAFETY: as of `raw`, and the bell is only accessed by atomic operations.
-        Self::expect(unsafe { raw::tags_give_run(self.raw(), bell, first, mask) });
-        self.give_kept_to_listeners();
+        // SAFETY: as of `raw`.
+        Self::expect(unsafe { raw::tags_library_clear_run(self.raw(), first, mask) });
+        self.owe_if_awaited(mask.count_ones().into());
     }
 
     pub(crate) fn read(&self, number: u32) -> u64 {
@@ -130,12 +116,10 @@ impl<T> Hand<T> {
         former
     }
 
-    /// Posts a held tag. If tags are kept only beside it, they go back, and the caller wakes the futures.
+    /// Posts a held tag. Tags that are kept only beside it go back. The caller settles what the hand owes.
     pub(crate) fn post(&self, number: u32) {
-        if self.shared.keeps_while_holding {
-            self.give_kept();
-        }
         // SAFETY: as of `raw`.
         Self::expect(unsafe { raw::tags_library_post(self.raw(), number) });
+        self.owe_if_awaited(0);
     }
 }

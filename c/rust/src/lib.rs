@@ -25,11 +25,11 @@
 //! whose [`OwnedTag`]s borrow nothing. [`Pool::open_with`] puts a value of any type beside each tag, for whoever holds
 //! the tag. The examples are an I/O queue of threads, tasks on a small executor, and threads that copy a file.
 
+mod bell;
 mod error;
 mod future;
 mod hand;
 mod held;
-mod listeners;
 mod options;
 mod owned;
 mod pool;

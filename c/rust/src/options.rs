@@ -1,5 +1,5 @@
 //! The options of a pool, and what its calls report.
-use crate::raw::{RawOptions, ROUND_ROBIN};
+use crate::raw::{RawOptions, KEEP_WHILE_HOLDING, ONE_PER_WORD, ROUND_ROBIN};
 
 /// The options of a new pool. Set at least `total` and `hands`: by default there are no tags and no hands.
 ///
@@ -70,6 +70,7 @@ impl Options {
     }
 
     pub(crate) fn to_raw(self) -> RawOptions {
+        let flag = |is_set, flag| if is_set { flag } else { 0 };
         RawOptions {
             total: self.total,
             reserved: self.reserved,
@@ -78,7 +79,10 @@ impl Options {
                 .map_or(-1, |shift| shift.try_into().unwrap_or(i32::MAX)),
             min_shallow: self.min_shallow.unwrap_or(0),
             hands: self.hands,
-            flags: if self.round_robin { ROUND_ROBIN } else { 0 },
+            flags: flag(self.round_robin, ROUND_ROBIN)
+                | flag(self.shift == Some(0), ONE_PER_WORD)
+                | flag(self.keep_while_holding, KEEP_WHILE_HOLDING),
+            cache: self.cache,
         }
     }
 }

@@ -93,7 +93,6 @@ impl<T> OwnedTag<T> {
     pub fn post(mut self) -> u32 {
         self.is_gone = true;
         self.hand.lend(|hand| hand.post(self.number));
-        self.hand.listeners().tell(self.hand.shared().besides);
         self.number
     }
 }
@@ -102,7 +101,6 @@ impl<T> Drop for OwnedTag<T> {
     fn drop(&mut self) {
         if !self.is_gone {
             self.hand.lend(|hand| hand.give(self.number));
-            self.hand.listeners().tell(1 + self.hand.shared().besides);
         }
     }
 }

@@ -1,15 +1,15 @@
 //! Pools: opening, joining, resizing and closing.
+use crate::bell::Bell;
 use crate::error::{number, CloseError, Result};
 use crate::hand::Hand;
-use crate::listeners::Listeners;
 use crate::options::{Options, Totals};
 use crate::raw::{
-    tags_library_close, tags_library_join, tags_library_open_cached, tags_library_resize, Bell,
-    Handle, MAX_CACHE, MAX_TOTAL, STAY,
+    tags_close, tags_join, tags_open, tags_resize, Handle, MAX_CACHE, MAX_TOTAL, STAY,
 };
 use crate::values::Values;
 use std::cell::UnsafeCell;
 use std::fmt;
+use std::ptr::NonNull;
 use std::sync::{Arc, Mutex, MutexGuard, PoisonError};
 
 /// Tags that threads share, each thread through a [`Hand`] of its own, with a value of type `T` beside each tag.
@@ -31,12 +31,9 @@ pub(crate) struct Shared<T> {
     reserved: u32,
     values: Values<T>,
     /// How many kept tags may go back with a tag: 0 if the hands keep none.
-    pub besides: usize,
-    /// Whether hands keep tags only while they hold another.
-    pub keeps_while_holding: bool,
-    /// Who waits for a tag: threads at the bell, and futures.
+    pub besides: u64,
+    /// Who waits for a tag. It lives until the pool is closed.
     pub bell: Bell,
-    pub listeners: Listeners,
 }
 
 /// A pool's handle, which may be in one call at a time.
@@ -50,7 +47,7 @@ impl Opened {
     fn close(&self) -> Result<Totals> {
         let mut totals = Totals::default();
         // SAFETY: the lock reserves the handle for this call.
-        number(unsafe { tags_library_close(&mut *self.handle(), &mut totals) })?;
+        number(unsafe { tags_close(&mut *self.handle(), &mut totals) })?;
         Ok(totals)
     }
 }
@@ -122,21 +119,21 @@ impl<T> Pool<T> {
     /// ```
     pub fn open_with(options: &Options, make: impl FnMut(u32) -> T) -> Result<Pool<T>> {
         let mut handle = Handle::EMPTY;
-        let (raw, keeping) = (options.to_raw(), u32::from(options.keep_while_holding));
         // SAFETY: both are local to this function.
-        number(unsafe { tags_library_open_cached(&mut handle, &raw, options.cache, keeping) })?;
+        number(unsafe { tags_open(&mut handle, &options.to_raw()) })?;
+        let Some(waits) = NonNull::new(handle.waits) else {
+            unreachable!("an open pool has a bell");
+        };
         let shared = Shared {
             opened: Opened(Mutex::new(handle)),
             reserved: options.reserved,
             values: Values::new((0..options.total).map(make)),
             besides: if options.cache > 0 {
-                MAX_CACHE as usize
+                MAX_CACHE.into()
             } else {
                 0
             },
-            keeps_while_holding: options.cache > 0 && options.keep_while_holding,
-            bell: Bell::new(),
-            listeners: Listeners::default(),
+            bell: Bell::of(waits),
         };
         Ok(Pool {
             shared: Arc::new(shared),
@@ -170,7 +167,7 @@ impl<T> Pool<T> {
     fn join_by(&self, flags: u32) -> Result<Hand<T>> {
         let mut hand = Handle::EMPTY;
         // SAFETY: the lock reserves the pool's handle for this call, and the other is local to this function.
-        number(unsafe { tags_library_join(&mut *self.shared.opened.handle(), &mut hand, flags) })?;
+        number(unsafe { tags_join(&mut *self.shared.opened.handle(), &mut hand, flags) })?;
         Ok(Hand::new(hand, Arc::clone(&self.shared)))
     }
 
@@ -195,13 +192,37 @@ impl<T> Pool<T> {
         let values = Values::new((reserved..end).map(make));
         let mut handle = self.shared.opened.handle();
         // SAFETY: the lock reserves the handle for this call.
-        number(unsafe { tags_library_resize(&mut *handle, total) })?;
+        number(unsafe { tags_resize(&mut *handle, total) })?;
         // SAFETY: all hands are back, and none joins while this has the lock.
         let former = unsafe { self.shared.values.replace(reserved, values) };
         // A value may use the pool when it is dropped.
         drop(handle);
         drop(former);
         Ok(())
+    }
+
+    /// Ends every wait for a tag, now and from now on, as for a shutdown. Threads that sleep for a tag and futures that wait
+    /// for one are woken. From now on [`Hand::get_blocking`], [`Hand::get_timeout`] and [`Hand::get_async`] return
+    /// [`Stopped`](crate::Error::Stopped), even while a tag is free. A call that was waiting may still return a tag. Tags
+    /// still go back, and [`Hand::get`] still takes them.
+    ///
+    /// ```
+    /// # use tags::{Error, Options, Pool};
+    /// # fn main() -> tags::Result<()> {
+    /// let pool = Pool::open(&Options::new(1, 2))?;
+    /// let (first, second) = (pool.join()?, pool.join()?);
+    /// let tag = first.get_blocking()?;
+    /// std::thread::scope(|threads| {
+    ///     let waiter = threads.spawn(move || second.get_blocking().map(|tag| tag.number()));
+    ///     pool.stop();
+    ///     assert_eq!(waiter.join().unwrap(), Err(Error::Stopped));
+    /// });
+    /// # drop(tag);
+    /// # Ok(())
+    /// # }
+    /// ```
+    pub fn stop(&self) {
+        self.shared.bell.stop();
     }
 
     /// Closes a pool whose hands are all dropped, and returns its totals. On failure the error hands the pool back.

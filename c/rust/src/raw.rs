@@ -1,15 +1,24 @@
 //! The exports of the library, and the types of tags.h that they take.
 use crate::options::{Counts, Sizes, Totals};
-use std::cell::UnsafeCell;
 use std::ffi::{c_char, c_void};
 use std::ptr::null_mut;
+use std::sync::atomic::AtomicU32;
 use std::time::Duration;
+
+/// A `struct tags_waits`.
+#[repr(C)]
+pub struct Waits {
+    pub waiting: AtomicU32,
+    pub stopped: AtomicU32,
+}
 
 /// A `struct tags_pool` or a `struct tags_hand`.
 #[repr(C)]
 pub struct Handle {
     full: u64,
     object: *mut c_void,
+    pub waits: *mut Waits,
+    place: *mut c_void,
 }
 
 // SAFETY: the object behind a handle may be sent to any thread, as the library proves, and is in one call at a time.
@@ -19,10 +28,12 @@ impl Handle {
     pub const EMPTY: Handle = Handle {
         full: 0,
         object: null_mut(),
+        waits: null_mut(),
+        place: null_mut(),
     };
 }
 
-/// The options as the library takes them: a `struct tags_options` without `cache`, which is an argument.
+/// A `struct tags_options`.
 #[repr(C)]
 pub struct RawOptions {
     pub total: u32,
@@ -31,30 +42,35 @@ pub struct RawOptions {
     pub min_shallow: u32,
     pub hands: u32,
     pub flags: u32,
+    pub cache: u32,
 }
 
-/// A `struct tags_bell`. The library accesses it only by atomic operations.
+/// A `struct tags_waiter`. While it is listed, the library alone uses it.
 #[repr(C)]
-pub struct Bell {
-    counts: UnsafeCell<[u32; 22]>,
-    listening: UnsafeCell<[*mut c_void; 64]>,
+pub struct Waiter {
+    state: u32,
+    descriptor: i32,
+    turn: u64,
+    next: *mut Waiter,
+    previous: *mut Waiter,
+    list: *mut c_void,
+    tell: extern "C" fn(*mut c_void),
+    /// What `tell` is called with. Whoever calls it owns it.
+    pub whom: *mut c_void,
 }
 
-// SAFETY: all accesses to it are atomic.
-unsafe impl Sync for Bell {}
-// SAFETY: it owns nothing that is bound to a thread.
-unsafe impl Send for Bell {}
-
-impl Bell {
-    pub const fn new() -> Bell {
-        Bell {
-            counts: UnsafeCell::new([0; 22]),
-            listening: UnsafeCell::new([null_mut(); 64]),
+impl Waiter {
+    pub fn new(tell: extern "C" fn(*mut c_void)) -> Waiter {
+        Waiter {
+            state: 0,
+            descriptor: -1,
+            turn: 0,
+            next: null_mut(),
+            previous: null_mut(),
+            list: null_mut(),
+            tell,
+            whom: null_mut(),
         }
-    }
-
-    pub fn as_ptr(&self) -> *mut Bell {
-        std::ptr::from_ref(self).cast_mut()
     }
 }
 
@@ -70,23 +86,18 @@ pub const CLOCK_MONOTONIC: i32 = 1;
 pub const MAX_TOTAL: u32 = 10_240;
 pub const MAX_CACHE: u32 = 64;
 pub const ROUND_ROBIN: u32 = 1;
+pub const ONE_PER_WORD: u32 = 2;
+pub const KEEP_WHILE_HOLDING: u32 = 4;
 pub const STAY: u32 = 1;
 
+// The calls of tags.h that tell nobody, for callers that do so themselves, and the others.
 unsafe extern "C" {
-    pub fn tags_library_open_cached(
-        pool: *mut Handle,
-        options: *const RawOptions,
-        cache: u32,
-        keeping: u32,
-    ) -> i32;
-    pub fn tags_library_join(pool: *mut Handle, hand: *mut Handle, flags: u32) -> i32;
-    pub fn tags_library_leave(hand: *mut Handle) -> i32;
-    pub fn tags_library_resize(pool: *mut Handle, total: u32) -> i32;
-    pub fn tags_library_close(pool: *mut Handle, sums: *mut Totals) -> i32;
-    pub fn tags_library_get(hand: *mut Handle) -> i32;
+    pub fn tags_library_get(hand: *mut Handle, left: *mut u64) -> i32;
     pub fn tags_library_get_reserved(hand: *mut Handle) -> i32;
-    pub fn tags_library_get_shallow(hand: *mut Handle, depth: u32) -> i32;
-    pub fn tags_library_get_batch(hand: *mut Handle, n: u32, won: *mut u64) -> i32;
+    pub fn tags_library_get_shallow(hand: *mut Handle, depth: u32, left: *mut u64) -> i32;
+    pub fn tags_library_get_batch(hand: *mut Handle, n: u32, won: *mut u64, left: *mut u64) -> i32;
+    pub fn tags_library_clear(hand: *mut Handle, tag: u32) -> i32;
+    pub fn tags_library_clear_run(hand: *mut Handle, first: u32, mask: u64) -> i32;
     pub fn tags_library_flush(hand: *mut Handle) -> i32;
     pub fn tags_library_read(hand: *mut Handle, tag: u32, value: *mut u64) -> i32;
     pub fn tags_library_write(hand: *mut Handle, tag: u32, value: u64, former: *mut u64) -> i32;
@@ -96,20 +107,27 @@ unsafe extern "C" {
     pub fn tags_library_show(hand: *mut Handle, kind: u32, sizes: *mut Sizes) -> i32;
     pub fn tags_library_wakes(hand: *mut Handle, counts: *mut Counts) -> i32;
     pub fn tags_library_holds(hand: *mut Handle, tag: u32) -> i32;
-    pub fn tags_get_blocking(hand: *mut Handle, bell: *mut Bell) -> i32;
-    pub fn tags_get_timed(
-        hand: *mut Handle,
-        bell: *mut Bell,
-        clock: i32,
-        end: *const Timespec,
-    ) -> i32;
-    pub fn tags_give(hand: *mut Handle, bell: *mut Bell, tag: u32) -> i32;
-    pub fn tags_ring(bell: *mut Bell, woken: i32) -> i32;
-    pub fn tags_give_run(hand: *mut Handle, bell: *mut Bell, first: u32, mask: u64) -> i32;
-    fn clock_gettime(clock: i32, now: *mut Timespec) -> i32;
     pub fn tags_library_prepare(hand: *mut Handle) -> i32;
     pub fn tags_library_finish(hand: *mut Handle) -> i32;
+    pub fn tags_library_wait(hand: *mut Handle) -> i32;
+    pub fn tags_library_ring(waits: *mut Waits, freed: u64);
+    pub fn tags_library_tell(waits: *mut Waits, freed: u64);
+    pub fn tags_library_stop(waits: *mut Waits);
+    pub fn tags_library_listen(waits: *mut Waits, waiter: *mut Waiter) -> i32;
+    pub fn tags_library_renew(
+        waits: *mut Waits,
+        waiter: *mut Waiter,
+        whom: *mut c_void,
+    ) -> *mut c_void;
+    pub fn tags_library_unlist(waits: *mut Waits, waiter: *mut Waiter) -> i32;
+    pub fn tags_open(pool: *mut Handle, options: *const RawOptions) -> i32;
+    pub fn tags_join(pool: *mut Handle, hand: *mut Handle, flags: u32) -> i32;
+    pub fn tags_leave(hand: *mut Handle) -> i32;
+    pub fn tags_resize(pool: *mut Handle, total: u32) -> i32;
+    pub fn tags_close(pool: *mut Handle, sums: *mut Totals) -> i32;
+    pub fn tags_get_timed(hand: *mut Handle, clock: i32, end: *const Timespec) -> i32;
     pub fn tags_strerror(status: i32) -> *const c_char;
+    fn clock_gettime(clock: i32, now: *mut Timespec) -> i32;
 }
 
 /// Returns the moment this long from now by the monotonic clock, or `None` if that is beyond the clock's range.

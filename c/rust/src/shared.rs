@@ -1,8 +1,8 @@
 //! A hand that several threads and tasks share.
+use crate::bell::Bell;
 use crate::error::Result;
 use crate::future::{GetAsyncOwned, Lends};
 use crate::hand::Hand;
-use crate::listeners::Listeners;
 use crate::options::{Counts, Kind, Sizes};
 use crate::owned::OwnedTag;
 use crate::pool::Shared;
@@ -156,8 +156,7 @@ impl<T> SharedHand<T> {
 
     /// Gives all kept tags back, and wakes whoever waits for one, as [`Hand::flush`] does.
     pub fn flush(&self) {
-        self.lend(Hand::give_kept);
-        self.listeners().tell(self.shared().besides);
+        self.lend(Hand::flush_kept);
     }
 
     /// Reports which tags are busy, as [`Hand::busy`] does.
@@ -178,17 +177,24 @@ impl<T> SharedHand<T> {
     }
 }
 
-// No call below runs code of the program's with the lock, such as a waker.
 impl<T> Lends for SharedHand<T> {
     type Value = T;
 
+    /// No code of the program's, such as a waker, runs with the lock: what the hand owes is settled after it.
     fn lend<R>(&self, call: impl FnOnce(&Hand<T>) -> R) -> R {
         let hand = self.inner.hand.lock();
-        call(&hand.unwrap_or_else(PoisonError::into_inner))
+        let hand = hand.unwrap_or_else(PoisonError::into_inner);
+        let answer = call(&hand);
+        let owed = hand.owed.take();
+        drop(hand);
+        if owed > 0 {
+            self.bell().ring(owed);
+        }
+        answer
     }
 
-    fn listeners(&self) -> &Listeners {
-        &self.shared().listeners
+    fn bell(&self) -> Bell {
+        self.shared().bell
     }
 }
 

@@ -90,7 +90,7 @@ impl<'a, T> Tag<'a, T> {
     #[must_use = "the tag stays posted until a hand takes this number"]
     pub fn post(self) -> u32 {
         self.hand.post(self.number);
-        self.hand.listeners().tell(self.hand.shared.besides);
+        self.hand.settle();
         let number = self.number;
         forget(self);
         number
@@ -98,9 +98,10 @@ impl<'a, T> Tag<'a, T> {
 }
 
 impl<T> Drop for Tag<'_, T> {
+    #[inline]
     fn drop(&mut self) {
         self.hand.give(self.number);
-        self.hand.listeners().tell(1 + self.hand.shared.besides);
+        self.hand.settle();
     }
 }
 
@@ -157,8 +158,7 @@ impl<'a, T> Batch<'a, T> {
 impl<T> Drop for Batch<'_, T> {
     fn drop(&mut self) {
         self.hand.give_run(self.first, self.won);
-        let freed = self.won.count_ones() as usize + self.hand.shared.besides;
-        self.hand.listeners().tell(freed);
+        self.hand.settle();
     }
 }
 

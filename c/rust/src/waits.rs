@@ -2,7 +2,6 @@
 use crate::error::{number, Error, Result};
 use crate::future::GetAsync;
 use crate::hand::Hand;
-use crate::options::Kind;
 use crate::raw;
 use crate::tag::Tag;
 use std::fmt;
@@ -15,9 +14,21 @@ impl<T> Hand<T> {
     /// Takes a free ordinary tag, and sleeps while there is none. Don't sleep while this thread holds the tags that the
     /// others wait for. That a sleeper is woken is tested, not proved. While a [`Wait`] or a future of this hand waits, a
     /// get that would have to sleep is refused with [`Waiting`](Error::Waiting).
+    #[inline]
     pub fn get_blocking(&self) -> Result<Tag<'_, T>> {
-        // SAFETY: as of `raw`, and the bell is only accessed by atomic operations.
-        let answer = unsafe { raw::tags_get_blocking(self.raw(), self.shared.bell.as_ptr()) };
+        if self.shared.bell.is_stopped() {
+            return Err(Error::Stopped);
+        }
+        match self.get()? {
+            Some(tag) => Ok(tag),
+            None => self.sleep(),
+        }
+    }
+
+    #[cold]
+    fn sleep(&self) -> Result<Tag<'_, T>> {
+        // SAFETY: as of `raw`.
+        let answer = unsafe { raw::tags_library_wait(self.raw()) };
         Ok(Tag::new(self, number(answer)?))
     }
 
@@ -39,16 +50,17 @@ impl<T> Hand<T> {
         let Some(end) = raw::deadline(time) else {
             return self.get_blocking().map(Some);
         };
-        let bell = self.shared.bell.as_ptr();
-        // SAFETY: as of `raw`, and the bell is only accessed by atomic operations.
-        match unsafe { raw::tags_get_timed(self.raw(), bell, raw::CLOCK_MONOTONIC, &end) } {
+        // SAFETY: as of `raw`.
+        match unsafe { raw::tags_get_timed(self.raw(), raw::CLOCK_MONOTONIC, &end) } {
             TIMED_OUT => Ok(None),
             answer => Ok(Some(Tag::new(self, number(answer)?))),
         }
     }
 
-    /// Takes a free ordinary tag, and while there is none, waits without blocking a thread: the future is woken when a hand
-    /// of this crate gives a tag back. Dropping it ends the wait. It works with any runtime, and any number of futures of
+    /// Takes a free ordinary tag, and while there is none, waits without blocking a thread: the future is woken when a tag
+    /// becomes free. Each tag wakes the future that has waited longest, which keeps its turn if it finds the tag gone; no other
+    /// is woken for that tag until this one is polled or dropped, so poll a future soon after it is woken, or drop it. Dropping
+    /// it ends the wait. It works with any runtime, and any number of futures of
     /// one hand may wait at once. While this hand has a [`Wait`], a future that would have to wait is refused with
     /// [`Waiting`](Error::Waiting).
     ///
@@ -93,21 +105,22 @@ impl<T> Hand<T> {
     /// # }
     /// ```
     pub fn prepare(&self) -> Result<Wait<'_, T>> {
-        self.enter_group()?;
+        let entered = self.enter_group();
+        self.settle();
+        entered?;
         Ok(Wait { hand: self })
     }
 
+    /// Enters a wait group. What the hand keeps goes back first.
     fn enter_group(&self) -> Result<()> {
         // SAFETY: as of `raw`.
         number(unsafe { raw::tags_library_prepare(self.raw()) })?;
+        self.owe_if_awaited(0);
         Ok(())
     }
 
-    /// Counts a future that begins to wait. It is refused if the pool has no ordinary tags: it would wait for ever.
+    /// Counts a future that begins to wait.
     pub(crate) fn begin_wait(&self) -> Result<()> {
-        if self.show(Kind::Ordinary).depth == 0 {
-            return Err(Error::NoSuchTag);
-        }
         if self.waiting.get() == 0 {
             self.enter_group()?;
         }

@@ -67,10 +67,10 @@ fn win_run(map: &Map<u64>, caller: &mut Caller<u64>, hint: &mut Hint) -> Option<
     ensures caller { IsCallerOf map.now caller.new }
     ensures held { IfSome result (λ run. (k : ℕ) → bit_at run.1 k ≡ 1 → Holds caller.new (run.0 + k)) }
 {
-    let Ok(answer) = on_map::get_batch(map, caller, hint, BATCH) else {
+    let Ok(found) = on_map::get_batch(map, caller, hint, BATCH) else {
         return None;
     };
-    answer
+    found.answer
 }
 
 /// Touches the slot of each tag of a batch.

@@ -83,7 +83,10 @@ fn put_often(map: &Map<u64>, caller: &mut Caller<u64>, from: Hint, rounds: u32)
 {
     let mut hint = from;
     for _ in 0..rounds {
-        if let Ok(Some(tag)) = on_map::get(map, caller, &mut hint) {
+        let Ok(found) = on_map::get(map, caller, &mut hint) else {
+            return;
+        };
+        if let Some(tag) = found.answer {
             on_map::put(map, caller, &mut hint, tag);
         }
     }
@@ -96,7 +99,10 @@ fn give_often(map: &Map<u64>, caller: &mut Caller<u64>, from: Hint, rounds: u32)
 {
     let mut hint = from;
     for _ in 0..rounds {
-        if let Ok(Some(tag)) = on_map::get(map, caller, &mut hint) {
+        let Ok(found) = on_map::get(map, caller, &mut hint) else {
+            return;
+        };
+        if let Some(tag) = found.answer {
             on_map::give(map, caller, &mut hint, tag);
         }
     }

@@ -44,7 +44,7 @@ impl TagAllocator for Map<u64> {
 
     #[inline]
     fn get(&self, caller: &mut Caller<u64>, hint: &mut Hint) -> Result<Option<u32>, Spent> {
-        on_map::get(self, caller, hint)
+        Ok(on_map::get(self, caller, hint)?.answer)
     }
 
     #[inline]

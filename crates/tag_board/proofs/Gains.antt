@@ -1,7 +1,7 @@
 -- What each get does to the hand that makes it.
 use Rattle.std.proofs.Common.{◌≡◌, ℕ, [], ◌+◌, ◌-◌, true, false, List, Bool, Option, Some, None, Result, Ok, Err, IfOk, ◌↔◌, inl, ⊎_elim, refl, sym, ap, ◌∙◌, subst, arith}
-use Rattle.tag_board.proofs.Uses.{cases_Bool, Layout, or_false, count_of, count_of_run, Visit, TagFault, BadCount, Hand, Kind, Ordinary, Reserved, Tags, hands_of, IsHandOf, number_of, agent_of, reserved_of, layout_of, hint_of, HoldsMore, other_kind, AloneSet, AloneSets, AloneGets, AloneBatch, first_in, plain, shallow, alone_set_of, alone_sets_in, holds, part_of, state_of_all, waiter_of, IsOf, joined, won, is_answer, is_in_run}
-use Rattle.std.specs.Prelude.{IsTrue}
+use Rattle.tag_board.proofs.Uses.{cases_Bool, Found, Layout, or_false, count_of, count_of_run, Visit, TagFault, BadCount, Hand, Kind, Ordinary, Reserved, Tags, hands_of, IsHandOf, number_of, agent_of, reserved_of, layout_of, hint_of, HoldsMore, other_kind, AloneSet, AloneSets, AloneGets, AloneBatch, first_in, plain, shallow, alone_set_of, alone_sets_in, holds, part_of, state_of_all, waiter_of, IsOf, joined, won, is_answer, is_in_run}
+use Rattle.std.specs.Prelude.{IsTrue, IsOkAnd}
 use Rattle.tag_search.specs.Hints.{reduced}
 use Rattle.tag_search.specs.Visits.{plain_visits, shallow_visits}
 use Rattle.tag_queue.specs.Agents as queue
@@ -163,19 +163,22 @@ module _ (tags : Tags ℕ) (old new : Hand ℕ) where
 
 module _ (tags : Tags ℕ) (old new : Hand ℕ) (n : ℕ) where
   -- a batch that is answered has a legal count, so under round robin it has no tags
-  pub none_around : (answer : Option (ℕ × ℕ)) (r : Result (Option (ℕ × ℕ)) TagFault) → r ≡ Ok answer
+  pub none_around : (r : Result (Found (ℕ × ℕ)) TagFault) (found : Found (ℕ × ℕ)) → r ≡ Ok found
       → (r ≡ Err BadCount) ↔ gets.MiscountsBatch tags n
-      → (¬ (gets.MiscountsBatch tags n) → IsTrue (hint_of old Ordinary).round_robin → (r ≡ Ok None) × (new ≡ old))
-      → (hint_of old Ordinary).round_robin ≡ true → (answer ≡ None) × (new ≡ old)
-  none_around answer r is bad around round = let none = around (λ m. let e = bad.1 m in cc) round in
-      (let same = none.0 in cc, none.1)
+      → (¬ (gets.MiscountsBatch tags n) → IsTrue (hint_of old Ordinary).round_robin
+      → IsOkAnd r (λ other. other.answer ≡ None) × (new ≡ old))
+      → (hint_of old Ordinary).round_robin ≡ true → (found.answer ≡ None) × (new ≡ old)
+  none_around (Ok other) found is bad around round = let none = around (λ m. let e = bad.1 m in cc) round in
+      (let same : found ≡ other = cc in ap (λ f. f.answer) same ∙ none.0, none.1)
+  none_around (Err fault) found is bad around round = absurd cc
 
   -- a batch keeps the number, whatever its answer
-  pub batch_number : IsHandOf tags old → (r : Result (Option (ℕ × ℕ)) TagFault)
+  pub batch_number : IsHandOf tags old → (r : Result (Found (ℕ × ℕ)) TagFault)
       → (r ≡ Err BadCount) ↔ gets.MiscountsBatch tags n
-      → (¬ (gets.MiscountsBatch tags n) → IsTrue (hint_of old Ordinary).round_robin → (r ≡ Ok None) × (new ≡ old))
-      → ((hint_of old Ordinary).round_robin ≡ false → IfOk r (λ answer. gets.GetsBatch tags n answer old new))
-      → IfOk r (λ answer. number_of new ≡ number_of old)
-  batch_number own (Ok answer) bad around straight = (batch_gains tags old new own [] n answer
-      (none_around answer (Ok answer) refl bad around) straight).effect.number
+      → (¬ (gets.MiscountsBatch tags n) → IsTrue (hint_of old Ordinary).round_robin
+      → IsOkAnd r (λ other. other.answer ≡ None) × (new ≡ old))
+      → ((hint_of old Ordinary).round_robin ≡ false → IfOk r (λ found. gets.GetsBatch tags n found.answer old new))
+      → IfOk r (λ found. number_of new ≡ number_of old)
+  batch_number own (Ok found) bad around straight = (batch_gains tags old new own [] n found.answer
+      (none_around (Ok found) found refl bad around) straight).effect.number
   batch_number own (Err fault) bad around straight = tt

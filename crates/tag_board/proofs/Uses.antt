@@ -34,6 +34,7 @@ pub use Rattle.tag_search.specs.AloneLaws.{cells_left, own_after, words_left}
 pub use Rattle.tag_search.specs.Gains.{count_of, count_of_run}
 pub use Rattle.tag_search.specs.Pool.{free_at, is_busy, Pool, pool_of}
 pub use Rattle.tag_search.specs.Search.{Visit}
+pub use Rattle.tag_search.specs.declared.found.Found.{Found}
 pub use Rattle.tag_search.specs.declared.hint.Hint.{Hint}
 pub use Rattle.wake_book.specs.Waits.{moved_by, waiting}
 pub use Rattle.wake_book.specs.declared.charge.Charge.{Charge}

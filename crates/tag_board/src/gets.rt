@@ -6,7 +6,7 @@ ghost use Rattle.tag_board.specs.AloneSets.{Does, AloneGets, AloneBatch, plain, 
 ghost use Rattle.tag_board.specs.Replays.{Gets, GetsShallow, GetsBatch};
 
 use crate::board::Board;
-use tag_sets::TagFault;
+use tag_sets::{Found, TagFault};
 
 impl Board {
     /// Takes an ordinary tag that no caller held, or `None` if the search found none. `Spent` if winning one more tag
@@ -18,7 +18,8 @@ impl Board {
             → Does (AloneGets Ordinary plain) (alone_sets_of self.old) result (alone_sets_of self.new) }
         ensures waiters { waiters_of self.new ≡ waiters_of self.old }
     {
-        let answer = self.tags.get(&mut self.hands[caller as usize])?;
+        // Nobody sleeps on a board, so no tag that the sweeps freed keeps anybody waiting.
+        let Found { answer, .. } = self.tags.get_freed(&mut self.hands[caller as usize])?;
         self.tell_free(caller, answer);
         Ok(answer)
     }
@@ -46,9 +47,9 @@ impl Board {
             → Does (AloneGets Ordinary (shallow depth)) (alone_sets_of self.old) result (alone_sets_of self.new) }
         ensures waiters { waiters_of self.new ≡ waiters_of self.old }
     {
-        let answer = self
+        let Found { answer, .. } = self
             .tags
-            .get_shallow(&mut self.hands[caller as usize], depth)?;
+            .get_shallow_freed(&mut self.hands[caller as usize], depth)?;
         self.tell_free(caller, answer);
         Ok(answer)
     }
@@ -63,7 +64,9 @@ impl Board {
             → Does (AloneBatch n) (alone_sets_of self.old) result (alone_sets_of self.new) }
         ensures waiters { waiters_of self.new ≡ waiters_of self.old }
     {
-        let answer = self.tags.get_batch(&mut self.hands[caller as usize], n)?;
+        let Found { answer, .. } = self
+            .tags
+            .get_batch_freed(&mut self.hands[caller as usize], n)?;
         self.tell_run_free(caller, answer);
         Ok(answer)
     }

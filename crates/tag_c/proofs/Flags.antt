@@ -1,5 +1,9 @@
 -- The flag of a handle says whether it has an object.
-use Rattle.std.proofs.Common.{◌≡◌, ◌≢◌, Option, Some, None, IsSome, arith, refl}
+use Rattle.std.proofs.Common.{◌≡◌, ◌≢◌, ◌⊎◌, inl, ℕ, Option, Some, None, IsSome, arith, refl, subst, sym}
+use base.Fml.{GName}
+use native.Mathlib.Nat.{ℕ_set}
+use Rattle.tag_c.specs.declared.erased.ErasedPointer.{ErasedPointer}
+use Rattle.tag_c.specs.declared.handle.Handle.{Handle}
 use Rattle.tag_c.specs.declared.object.Object.{Object}
 use Rattle.tag_c.specs.Held.{flag_of}
 
@@ -27,3 +31,21 @@ not_some_of (Some object) e is = omega arith
 pub empty_of : (value : Option Object) → flag_of value ≡ 0 → value ≡ None
 empty_of None e = refl
 empty_of (Some object) e = absurd (omega arith)
+
+-- a handle with this flag and this object
+abbrev flagged : (object : ErasedPointer) (full : ℕ) → full ≡ flag_of object.value → Handle
+flagged object full held = record { full = full; object = object; held = held }
+
+-- the same object behind the same flag is the same handle
+same_handle : (object : ErasedPointer) (full other : ℕ) → full ≡ other → (held : full ≡ flag_of object.value)
+    (kept : other ≡ flag_of object.value) → flagged object full held ≡ flagged object other kept
+same_handle object full other e = subst (λ (n : ℕ). (held : n ≡ flag_of object.value)
+    (kept : other ≡ flag_of object.value) → flagged object n held ≡ flagged object other kept) (sym e)
+    (λ held kept. λ j. flagged object other (ℕ_set _ _ held kept j))
+
+-- so a handle whose flag is 1 ends with its last object as a full handle
+pub ends_full : (name : GName) (end : Object → ErasedPointer) (full : ℕ) → full ≡ 1
+    → (held : (x : Object) → full ≡ flag_of (end x).value) (kept : (x : Object) → 1 ≡ flag_of (end x).value)
+    → ◌≡◌ {A = (GName × (Object → Handle)) ⊎ Handle} (inl (name, λ x. flagged (end x) full (held x)))
+    (inl (name, λ x. flagged (end x) 1 (kept x)))
+ends_full name end full e held kept = λ j. inl (name, λ x. same_handle (end x) full 1 e (held x) (kept x) j)

@@ -1,3 +1,4 @@
+pub mod Answering
 pub mod Calling
 pub mod Does
 pub mod Flags

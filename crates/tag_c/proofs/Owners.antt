@@ -1,5 +1,10 @@
 -- A hand that shares its tags with a cell belongs to whatever tags the cell belongs to.
-use Rattle.std.proofs.Common.{arith, ◌≡◌, ℕ, suc, List, [], ◌∷◌, ◌++◌, All, ap, sym, ◌∙◌, append_assoc}
+use Rattle.std.proofs.Common.{arith, ◌≡◌, ℕ, suc, List, [], ◌∷◌, ◌++◌, All, ap, sym, subst, ◌∙◌, append_assoc}
+use native.Mathlib.Nat.{ℕ_set}
+use Rattle.std.specs.Arc.{arc_value}
+use Rattle.std.specs.Coded.{Coded-set}
+use Rattle.atomic_table.specs.Seated.{table_id_coded}
+use Rattle.tag_core.specs.contracts.shape.Shape.{the_row as shape}
 use Rattle.std.specs.Prelude.{reverse}
 use Rattle.std.proofs.lemmas.List.{reverse-append}
 use Rattle.tag_queue.specs.declared.agent.Agent.{Agent}
@@ -8,6 +13,8 @@ use Rattle.tag_queue.specs.Agents.{IsAgentOf}
 use Rattle.tag_sets.specs.declared.hand.Hand.{Hand}
 use Rattle.tag_sets.specs.declared.tags.Tags.{Tags}
 use Rattle.tag_sets.specs.Hands.{IsHandOf}
+use Rattle.tag_c.specs.declared.member.Member.{Member}
+use Rattle.tag_c.specs.declared.pool_state.PoolState.{PoolState}
 use Rattle.tag_c.specs.Sharing.{SharesTags}
 
 -- of two agents of one queue, the second belongs to every queue that the first belongs to
@@ -28,6 +35,12 @@ one_owner tags cell hand shares own = let other = shares.0 in let b = shares.1 i
   h.3,
 )
 
+-- a hand of a pool's tags is one of the same pool's under another name
+pub same_pool : (state shared : PoolState) (hand other : Hand ℕ) → state ≡ shared → other ≡ hand
+    → IsHandOf state.tags hand → IsHandOf shared.tags other
+same_pool state shared hand other at is own = subst (λ (s : PoolState). IsHandOf s.tags other) at
+    (subst (λ (h : Hand ℕ). IsHandOf state.tags h) (sym is) own)
+
 -- two hands of the same tags share their tags
 pub sharing : (tags : Tags ℕ) (cell hand : Hand ℕ) → IsHandOf tags cell → IsHandOf tags hand → SharesTags cell hand
 sharing tags cell hand b h = (tags, b, h)
@@ -42,3 +55,31 @@ pub moved : {X : Type 0} (front rest : List X) (x : X) → (front ++ (x ∷ []))
     ≡ front ++ reverse (rest ++ (x ∷ []))
 moved {X = X} front rest x = append_assoc front (x ∷ []) (reverse rest)
     ∙ ap (λ (behind : List X). front ++ behind) (sym (reverse-append rest (x ∷ [])))
+
+agent_once : (queue : Queue ℕ) (agent : Agent ℕ) (a b : IsAgentOf queue agent) → a ≡ b
+agent_once queue agent a b = λ j. (
+  (Coded-set table_id_coded _ _ a.0.0 b.0.0 j, Coded-set shape.coded _ _ a.0.1 b.0.1 j),
+  Coded-set table_id_coded _ _ a.1 b.1 j,
+  Coded-set table_id_coded _ _ a.2 b.2 j,
+)
+
+-- that a hand belongs to tags is shown in one way
+hand_once : (tags : Tags ℕ) (hand : Hand ℕ) (a b : IsHandOf tags hand) → a ≡ b
+hand_once tags hand a b = λ j. (
+  agent_once tags.reserved hand.reserved a.0 b.0 j,
+  agent_once tags.ordinary hand.ordinary a.1 b.1 j,
+  ℕ_set _ _ a.2 b.2 j,
+  ℕ_set _ _ a.3 b.3 j,
+)
+
+module _ (member : Member) where
+  -- the member with this hand in place of its own
+  abbrev with_hand : (hand : Hand ℕ) → IsHandOf (arc_value member.shared).tags hand → Member
+  with_hand hand own = record { shared = member.shared; hand = hand; own = own }
+
+  -- with its own hand it is the same member
+  pub same_member : (hand : Hand ℕ) → hand ≡ member.hand → (own : IsHandOf (arc_value member.shared).tags hand)
+      → with_hand hand own ≡ member
+  same_member hand e = subst (λ (h : Hand ℕ). (own : IsHandOf (arc_value member.shared).tags h)
+      → with_hand h own ≡ member) (sym e)
+      (λ own. λ j. with_hand member.hand (hand_once (arc_value member.shared).tags member.hand own member.own j))

@@ -3,7 +3,6 @@ use Rattle.std.proofs.Common.{arith, ◌≡◌, ℕ, ◌<◌, ◌≤◌, ◌↔�
 use Rattle.std.proofs.lemmas.Bool.{cases_lt}
 use mathlib.Core.Option.{some}
 use lib.Signed.{mag}
-use Rattle.wake_book.specs.declared.grants.Grants.{Grants}
 use Rattle.tag_sets.specs.declared.fault.TagFault.{TagFault}
 use Rattle.tag_sets.specs.declared.fault.TagFault.TheVariants.{NoSuchTag, NotHeld}
 use Rattle.tag_sets.specs.declared.hand.Hand.{Hand}
@@ -16,7 +15,7 @@ use Rattle.tag_c.specs.declared.status.Status.TheVariants.{NoTag}
 use Rattle.tag_c.specs.Callers.{Caller, Bare, Caching, Holds, slot_of, Either, IsUnchanged}
 use Rattle.tag_c.specs.Caching as caching
 use Rattle.tag_c.specs.Calls.{Through, DoesClear, DoesGet}
-use Rattle.tag_c.specs.Codes.{IsRefusal, code_of, code_of_fault, code_of_get, code_of_grants}
+use Rattle.tag_c.specs.Codes.{IsRefusal, code_of, code_of_fault, code_of_get, code_of_count}
 use Rattle.tag_c.specs.Pairs.{DoesGetWrite, DoesReadClear}
 use Rattle.tag_c.proofs.Calling.{as_stored, stored, through}
 
@@ -50,30 +49,28 @@ still tag value (Bare old) (Caching between) reads h = absurd reads
 still tag value (Caching old) (Bare between) reads h = absurd reads
 
 -- a caller that gets a tag holds it
-gains : (tags : Tags ℕ) (tag : ℕ) (old between : Caller) → DoesGet tags (Ok (Some tag)) old between → Holds between tag
+gains : (tags : Tags ℕ) (tag : ℕ) (old between : Caller) {left : ℕ} → DoesGet left tags (Ok (Some tag)) old between
+    → Holds between tag
 gains tags tag (Bare old) (Bare between) does = does.gets.more.joined tag refl
 gains tags tag (Caching old) (Caching between) does = does.gets.gets.more.joined tag refl
 gains tags tag (Bare old) (Caching between) does = absurd does.gets
 gains tags tag (Caching old) (Bare between) does = absurd does.gets
 
+-- what a get does for its caller is told by its answer
+got : {tags : Tags ℕ} {left : ℕ} {old between : Caller} {answer known : Result (Option ℕ) TagFault}
+    → DoesGet left tags answer old between → answer ≡ known → DoesGet left tags known old between
+got {tags} {left} {old} {between} gets is =
+    subst (λ (a : Result (Option ℕ) TagFault). DoesGet left tags a old between) is gets
+
 abbrev refused : TagFault → Result ℕ TagFault
 refused fault = Err fault
-
-abbrev cleared : TagFault → Result Grants TagFault
-cleared fault = Err fault
 
 abbrev read_of : ℕ → Result ℕ TagFault
 read_of found = Ok found
 
-to_read : (fault known : TagFault) → cleared fault ≡ cleared known → refused fault ≡ refused known
-to_read fault known is = cc
-
-to_clear : (fault known : TagFault) → refused fault ≡ refused known → cleared fault ≡ cleared known
-to_clear fault known is = cc
-
 -- the answer of a clear that succeeds has no number of a refusal
-no_refusal : (answer : Result Grants TagFault) → IsOk answer → ¬ (IsRefusal (code_of_grants answer))
-no_refusal (Ok grants) is refusal = refusal
+no_refusal : (answer : Result ℕ TagFault) → IsOk answer → ¬ (IsRefusal (code_of_count answer))
+no_refusal (Ok woken) is refusal = refusal
 no_refusal (Err fault) is refusal = cc
 
 module _ (tags : Tags ℕ) (tag value : ℕ) (old between : Caller)
@@ -87,11 +84,11 @@ module _ (tags : Tags ℕ) (tag value : ℕ) (old between : Caller)
       (λ (high : total_of tags ≤ tag). absurd (let is = no_such_tag.1 high in cc)) (cases_lt tag (total_of tags))
 
   -- so the clear that follows the read succeeds
-  clear_succeeds : (new : Caller) (answer : Result Grants TagFault) → DoesClear tag tags answer between new
+  clear_succeeds : (new : Caller) (answer : Result ℕ TagFault) → DoesClear tag tags answer between new
       → IsOk answer
   clear_succeeds new answer clears = clears.succeeds (still tag value old between reads reader_holds)
 
-  read_clears : (new : Caller) (answer : Result Grants TagFault) → slot_of old tag ≡ some value
+  read_clears : (new : Caller) (answer : Result ℕ TagFault) → slot_of old tag ≡ some value
       → DoesClear tag tags answer between new → DoesReadClear tag value tags answer old new
   read_clears new (Ok woken) slot clears = record {
     no_such_tag = clears.no_such_tag;
@@ -104,7 +101,7 @@ module _ (tags : Tags ℕ) (tag value : ℕ) (old between : Caller)
 
 -- what a read and a clear in one do once the read has found the value: the number is no refusal
 pub record ClearsRead (tag value : ℕ) (code : ℤ) (tags : Tags ℕ) (old new : Caller) : Type 0 where
-  pub calls : Through (DoesReadClear tag value) code_of_grants code tags old new
+  pub calls : Through (DoesReadClear tag value) code_of_count code tags old new
   pub done : ¬ (IsRefusal code)
 
 -- the two calls in one return the code of the last answer that they came to
@@ -114,25 +111,19 @@ module _ {state first : PoolState} {code : ℤ} (at : first ≡ state) (small : 
       → ((refused fault ≡ refused NoSuchTag) ↔ (total_of first.tags ≤ tag))
       → ((refused fault ≡ refused NotHeld) ↔ ((tag < total_of first.tags) × ¬ (Holds old tag)))
       → (Holds old tag → IsOk (refused fault)) → IsUnchanged old new
-      → Through (DoesReadClear tag value) code_of_grants (as_stored code) state.tags old new
+      → Through (DoesReadClear tag value) code_of_count (as_stored code) state.tags old new
   refused_read {tag} {value} {fault = fault} is no_such_tag not_held succeeds same =
-      through (DoesReadClear tag value) code_of_grants {answer = Err fault} is small at record {
-        no_such_tag = (
-          (λ is. no_such_tag.0 (to_read fault NoSuchTag is)),
-          (λ high. to_clear fault NoSuchTag (no_such_tag.1 high)),
-        );
-        not_held = (
-          (λ is. not_held.0 (to_read fault NotHeld is)),
-          (λ no. to_clear fault NotHeld (not_held.1 no)),
-        );
-        succeeds = λ h. absurd (let is = succeeds h in cc);
+      through (DoesReadClear tag value) code_of_count {answer = Err fault} is small at record {
+        no_such_tag = no_such_tag;
+        not_held = not_held;
+        succeeds = succeeds;
         does = tt;
         err = same;
       }
 
   -- the clear that follows a read succeeds; it reads the pool anew
-  pub cleared_read : (tag value : ℕ) (old between new : Caller) {second : PoolState} {answer : Result Grants TagFault}
-      → code ≡ code_of_grants answer → second ≡ state
+  pub cleared_read : (tag value : ℕ) (old between new : Caller) {second : PoolState} {answer : Result ℕ TagFault}
+      → code ≡ code_of_count answer → second ≡ state
       → ((read_of value ≡ refused NoSuchTag) ↔ (total_of first.tags ≤ tag))
       → ((read_of value ≡ refused NotHeld) ↔ ((tag < total_of first.tags) × ¬ (Holds old tag)))
       → slot_of old tag ≡ some value → Either (Reads tag value) caching.Reads old between
@@ -144,46 +135,45 @@ module _ {state first : PoolState} {code : ℤ} (at : first ≡ state) (small : 
       read_clears first.tags tag value old between no_such_tag not_held reads new answer slot again in
       let succeeds = clear_succeeds first.tags tag value old between no_such_tag not_held reads new answer again in
       record {
-        calls = through (DoesReadClear tag value) code_of_grants is small at does;
+        calls = through (DoesReadClear tag value) code_of_count is small at does;
         done = λ refusal. no_refusal answer succeeds (subst IsRefusal (stored code small ∙ is) refusal);
       }
 
-  module _ {value : ℕ} {old : Caller} (between : Caller) where
+  module _ {value left : ℕ} {old : Caller} (between : Caller) {answer : Result (Option ℕ) TagFault}
+      (gets : DoesGet left first.tags answer old between) where
     -- the caller holds the tag that it has just won, so the write succeeds
-    pub get_written : {new : Caller} {found : Option ℕ} {tag : ℕ} (write : Result ℕ TagFault)
-        → code ≡ code_of_get (Ok (Some tag)) → found ≡ Some tag → DoesGet first.tags (Ok found) old between
-        → (Holds between tag → IsOk write)
+    pub get_written : {new : Caller} {tag : ℕ} (write : Result ℕ TagFault)
+        → code ≡ code_of_get (Ok (Some tag)) → answer ≡ Ok (Some tag) → (Holds between tag → IsOk write)
         → OnOk write (Either (Writes tag value) (caching.Writes tag value) between new)
-        → Through (DoesGetWrite value) code_of_get (as_stored code) state.tags old new
-    get_written {tag = tag} write is won gets succeeds writes =
-        let does : DoesGet first.tags (Ok (Some tag)) old between =
-        subst (λ (o : Option ℕ). DoesGet first.tags (Ok o) old between) won gets in
-        through (DoesGetWrite value) code_of_get {answer = Ok (Some tag)} is small at record {
+        → Through (DoesGetWrite value left) code_of_get (as_stored code) state.tags old new
+    get_written {tag = tag} write is won succeeds writes =
+        through (DoesGetWrite value left) code_of_get {answer = Ok (Some tag)} is small at record {
           between = between;
-          gets = does;
-          writes = of_ok write (succeeds (gains first.tags tag old between does)) writes;
+          gets = got gets won;
+          writes = of_ok write (succeeds (gains first.tags tag old between (got gets won))) writes;
           nothing = tt;
           err = tt;
         }
 
     -- no tag is won, so the get is all
-    pub get_alone : {found : Option ℕ} → code ≡ code_of NoTag → found ≡ None → DoesGet first.tags (Ok found) old between
-        → Through (DoesGetWrite value) code_of_get (as_stored code) state.tags old between
-    get_alone is none gets = through (DoesGetWrite value) code_of_get {answer = Ok None} is small at record {
+    pub get_alone : code ≡ code_of NoTag → answer ≡ Ok None
+        → Through (DoesGetWrite value left) code_of_get (as_stored code) state.tags old between
+    get_alone is none = through (DoesGetWrite value left) code_of_get {answer = Ok None} is small at record {
       between = between;
-      gets = subst (λ (o : Option ℕ). DoesGet first.tags (Ok o) old between) none gets;
+      gets = got gets none;
       writes = tt;
       nothing = refl;
       err = tt;
     }
 
     -- and so it is if it is refused
-    pub get_refused : {fault : TagFault} → code ≡ code_of_fault fault → DoesGet first.tags (Err fault) old between
-        → Through (DoesGetWrite value) code_of_get (as_stored code) state.tags old between
-    get_refused {fault} is gets = through (DoesGetWrite value) code_of_get {answer = Err fault} is small at record {
-      between = between;
-      gets = gets;
-      writes = tt;
-      nothing = tt;
-      err = refl;
-    }
+    pub get_refused : {fault : TagFault} → code ≡ code_of_fault fault → answer ≡ Err fault
+        → Through (DoesGetWrite value left) code_of_get (as_stored code) state.tags old between
+    get_refused {fault} is refused = through (DoesGetWrite value left) code_of_get {answer = Err fault} is small at
+        record {
+          between = between;
+          gets = got gets refused;
+          writes = tt;
+          nothing = tt;
+          err = refl;
+        }

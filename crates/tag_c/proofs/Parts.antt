@@ -10,6 +10,12 @@ pub of_each : {A E : Type 0} (P : Type 0) (answer : Result A E) → OnOk answer 
 of_each P (Ok x) p = p
 of_each P (Err e) p = tt
 
+-- what follows from a fact about the value of an answer holds of it too
+pub each : {A E : Type 0} {P Q : A → Type 0} (answer : Result A E) → ((x : A) → P x → Q x) → IfOk answer P
+    → IfOk answer Q
+each (Ok x) f p = f x p
+each (Err e) f p = tt
+
 -- two facts about the value of an answer make a third
 pub two : {A E : Type 0} (P Q R : A → Type 0) (answer : Result A E) → ((x : A) → P x → Q x → R x) → IfOk answer P
     → IfOk answer Q → IfOk answer R

@@ -17,7 +17,7 @@ use Rattle.tag_cache.specs.Waits as waits
 
 -- the caller gains the ordinary tag found, if there is one: the least kept one, or one that the hand got
 pub record Gets (tags : Tags ℕ) (found : Option ℕ) (old new : Cache ℕ) : Type 0 where
-  pub gets : gets.Gets tags found old new
+  pub gets : gets.GetsFreed tags found old new
   pub tally : Tallies (answered found) 0 old new
 
 -- the caller gains the tag found, if there is one, and the same tags are kept

@@ -10,6 +10,7 @@ use Rattle.tag_sets.specs.declared.fault.TagFault.TheVariants.{NoSuchTag, NoRese
 use Rattle.tag_sets.specs.declared.kind.Kind.TheVariants.{Ordinary, Reserved}
 use Rattle.tag_sets.specs.declared.tags.Tags.{Tags}
 use Rattle.tag_sets.specs.Hands.{reserved_of, total_of, least_of, HasRoom, hint_of, standing_of, group_steps}
+use Rattle.tag_sets.specs.Freed.{left_free}
 use Rattle.tag_sets.specs.Gets.{Gets, GetsReserved, GetsShallow, GetsBatch, MiscountsBatch}
 use Rattle.tag_sets.specs.Batches.{CountsTags, AreOrdinary}
 use Rattle.tag_sets.specs.Slots.{Reads, Writes, Posts, Takes, RefusesTake}
@@ -24,7 +25,7 @@ use Rattle.tag_c.specs.declared.object.Object.{Object}
 use Rattle.tag_c.specs.declared.status.Status.TheVariants.{BadHandle}
 use Rattle.tag_c.specs.Callers.{Caller, Bare, Caching, hand_of, Holds, AreHeldOnce, slot_of, Either, IsUnchanged, MayGet}
 use Rattle.tag_c.specs.Caching as caching
-use Rattle.tag_c.specs.Codes.{code_of}
+use Rattle.tag_c.specs.Codes.{code_of, woken_of}
 
 -- a hand stays one of the same pool and changes by this relation
 abbrev pub HandCalls : (Tags ℕ → Caller → Caller → Type 0) → Member → Member → Type 0
@@ -59,10 +60,16 @@ abbrev pub Through : {A : Type 0} → (Tags ℕ → A → Caller → Caller → 
     → Type 0
 Through {A} does number code tags old new = (answer : A) × (code ≡ number answer) × does tags answer old new
 
--- gets an ordinary tag
-pub record DoesGet (tags : Tags ℕ) (answer : Result (Option ℕ) TagFault) (old new : Caller) : Type 0 where
+-- the number is how many tags the caller's sweeps freed and left free, or 0 if the get was refused
+pub record TellsLeft {A : Type 0} (left : ℕ) (answer : Result A TagFault) (old new : Caller) : Type 0 where
+  pub done : OnOk answer (left ≡ left_free (hand_of old) (hand_of new))
+  pub none : OnErr answer (left ≡ 0)
+
+-- gets an ordinary tag, and tells how many tags it left free
+pub record DoesGet (left : ℕ) (tags : Tags ℕ) (answer : Result (Option ℕ) TagFault) (old new : Caller) : Type 0 where
   pub room : IsOk answer ↔ MayGet old
   pub gets : IfOk answer (λ found. Either (Gets tags found) (caching.Gets tags found) old new)
+  pub left_is : TellsLeft left answer old new
   pub err : IfErr answer (λ fault. (fault ≡ Spent) × IsUnchanged old new)
 
 -- gets a reserved tag
@@ -73,18 +80,19 @@ pub record DoesGetReserved (tags : Tags ℕ) (answer : Result (Option ℕ) TagFa
   pub gets : IfOk answer (λ found. Either (GetsReserved tags found) (caching.GainsReserved tags found) old new)
   pub err : OnErr answer (IsUnchanged old new)
 
--- gets an ordinary tag within the shares of a shallow depth
-pub record DoesGetShallow (depth : ℕ) (tags : Tags ℕ) (answer : Result (Option ℕ) TagFault) (old new : Caller) : Type 0
+-- gets an ordinary tag within the shares of a shallow depth, and tells how many tags it left free
+pub record DoesGetShallow (depth left : ℕ) (tags : Tags ℕ) (answer : Result (Option ℕ) TagFault) (old new : Caller) : Type 0
   where
     pub too_shallow : (answer ≡ Err TooShallow) ↔ (depth < least_of tags)
     pub spent : (answer ≡ Err Spent) ↔ ((least_of tags ≤ depth) × ¬ (HasRoom (hand_of old) Ordinary 1))
     pub succeeds : IsOk answer ↔ ((least_of tags ≤ depth) × HasRoom (hand_of old) Ordinary 1)
     pub gets : IfOk answer (λ found. GetsShallow tags depth found (hand_of old) (hand_of new))
     pub caller : IfOk answer (λ found. Either (λ _ _. ⊤) (caching.Gains found) old new)
+    pub left_is : TellsLeft left answer old new
     pub err : OnErr answer (IsUnchanged old new)
 
--- gets up to n ordinary tags, and writes the mask of those won, if there are any
-pub record DoesGetBatch (n won : ℕ) (tags : Tags ℕ) (answer : Result (Option (ℕ × ℕ)) TagFault)
+-- gets up to n ordinary tags, writes the mask of those won, if there are any, and tells how many tags it left free
+pub record DoesGetBatch (n won left : ℕ) (tags : Tags ℕ) (answer : Result (Option (ℕ × ℕ)) TagFault)
     (old new : Caller) : Type 0 where
   pub bad_count : (answer ≡ Err BadCount) ↔ MiscountsBatch tags n
   pub round_robin : ¬ (MiscountsBatch tags n) → IsTrue (hint_of (hand_of old) Ordinary).round_robin → (answer ≡ Ok None)
@@ -95,16 +103,22 @@ pub record DoesGetBatch (n won : ℕ) (tags : Tags ℕ) (answer : Result (Option
   pub gets : (hint_of (hand_of old) Ordinary).round_robin ≡ false → IfOk answer (λ run. GetsBatch tags n run (hand_of old) (hand_of new))
   pub caller : IfOk answer (λ run. Either (λ _ _. ⊤) (caching.GainsRun run) old new)
   pub mask : IfOk answer (λ run. IfSome run (λ first. won ≡ first.1))
+  pub left_is : TellsLeft left answer old new
   pub err : OnErr answer (IsUnchanged old new)
 
--- clears a tag, and answers how many waiters it granted a wakeup in each group
-pub record DoesClear (tag : ℕ) (tags : Tags ℕ) (answer : Result Grants TagFault) (old new : Caller) : Type 0 where
+-- clears a tag, and answers how many waiters it granted a wakeup
+pub record DoesClear (tag : ℕ) (tags : Tags ℕ) (answer : Result ℕ TagFault) (old new : Caller) : Type 0 where
   pub no_such_tag : (answer ≡ Err NoSuchTag) ↔ (total_of tags ≤ tag)
   pub not_held : (answer ≡ Err NotHeld) ↔ ((tag < total_of tags) × ¬ (Holds old tag))
   pub succeeds : Holds old tag → IsOk answer
-  pub clears : IfOk answer (λ grants. Either (GivesOne tags tag grants.woken) (caching.Clears tags tag grants.woken) old new)
-  pub grants : IfOk answer (λ grants. AreGrantsOf grants (group_steps (hand_of old)) (group_steps (hand_of new)))
+  pub clears : IfOk answer (λ woken. Either (GivesOne tags tag woken) (caching.Clears tags tag woken) old new)
   pub err : OnErr answer (IsUnchanged old new)
+
+-- clears a tag, and answers how many waiters it granted a wakeup in each group
+pub record DoesClearGranted (tag : ℕ) (tags : Tags ℕ) (answer : Result Grants TagFault) (old new : Caller) : Type 0
+  where
+    pub clears : DoesClear tag tags (woken_of answer) old new
+    pub grants : IfOk answer (λ grants. AreGrantsOf grants (group_steps (hand_of old)) (group_steps (hand_of new)))
 
 -- gives back the tags of a list, and answers how many waiters it granted a wakeup in each group
 pub record DoesClearBatch (list : List ℕ) (tags : Tags ℕ) (answer : Result Grants TagFault) (old new : Caller) : Type 0 where

@@ -80,6 +80,11 @@ abbrev pub code_of_grants : Result Grants TagFault → ℤ
 code_of_grants (Ok grants) = pos (min grants.woken MAX_DEPTH)
 code_of_grants (Err fault) = code_of_fault fault
 
+-- the same answer with the number of waiters alone
+abbrev pub woken_of : Result Grants TagFault → Result ℕ TagFault
+woken_of (Ok grants) = Ok grants.woken
+woken_of (Err fault) = Err fault
+
 -- 0 on success, or the reason for the refusal
 abbrev pub code_of_done : {A : Type 0} → Result A TagFault → ℤ
 code_of_done (Ok done) = pos 0

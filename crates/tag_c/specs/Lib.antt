@@ -14,3 +14,4 @@ pub mod Exports
 pub mod Resizes
 pub mod Held
 pub mod Lending
+pub mod Left

@@ -1,10 +1,32 @@
 //! Turns the answers of `tag_sets` into the numbers that C sees. An error becomes its negative status of tags.h.
 ghost use Rattle.std.specs.Prelude.{◌≡◌, ◌≤◌, IfOk, IfSome, pos, min};
 ghost use Rattle.tag_layout.specs.declared.layout.TheConstants.{MAX_DEPTH};
-ghost use Rattle.tag_c.specs.Codes.{IsRefusal, code_of_get, code_of_batch, code_of_count, code_of_grants, code_of_done, code_of_finish, done_of, first_of};
+ghost use Rattle.tag_c.specs.Left.{answer_of, left_of};
+ghost use Rattle.tag_c.specs.Codes.{IsRefusal, code_of_get, code_of_batch, code_of_count, code_of_grants, code_of_done, code_of_finish, done_of, first_of, woken_of};
 
 use crate::status::{Status, fault_code};
-use tag_sets::{Grants, Left, MAX_DEPTH, TagFault};
+use tag_sets::{Found, Grants, Left, MAX_DEPTH, TagFault};
+
+/// Writes how many tags the get left free, 0 if it was refused, and returns its answer without that number.
+#[inline]
+pub(crate) fn tell_left<T>(
+    found: Result<Found<T>, TagFault>,
+    left: &mut u64,
+) -> Result<Option<T>, TagFault>
+    ensures answer { result ≡ answer_of found }
+    ensures left { left.new ≡ left_of found }
+{
+    match found {
+        Ok(found) => {
+            *left = found.left;
+            Ok(found.answer)
+        }
+        Err(fault) => {
+            *left = 0;
+            Err(fault)
+        }
+    }
+}
 
 /// Returns the tag, `NoTag` if none was found, or the status of the error.
 #[inline]
@@ -48,6 +70,17 @@ pub(crate) fn count_code(answer: Result<u32, TagFault>) -> i32
     match answer {
         Ok(count) => number_code(count),
         Err(fault) => fault_code(fault),
+    }
+}
+
+/// Returns the number of waiters that were granted a wakeup, without their groups.
+#[inline]
+pub(crate) fn woken_alone(answer: Result<Grants, TagFault>) -> Result<u32, TagFault>
+    ensures { result ≡ woken_of answer }
+{
+    match answer {
+        Ok(grants) => Ok(grants.woken),
+        Err(fault) => Err(fault),
     }
 }
 

@@ -1,7 +1,9 @@
 //! A pointer to an object, without its type.
 ghost use Rattle.std.specs.Prelude.{◌≡◌, Option, Some, None};
 ghost use Rattle.std.specs.Borrow.{sem};
+ghost use Rattle.std.specs.Coded.{coded_option};
 ghost use Rattle.tag_c.specs.Held.{held};
+ghost use Rattle.tag_c.specs.contracts.object.Object.{the_row};
 ghost use Rattle.tag_c.specs.declared.object.Object.{Object};
 
 use crate::box_parts::BoxParts;
@@ -15,7 +17,7 @@ use std::marker::Model;
 pub struct ErasedPointer {
     at: *mut u8,
     alloc: Global,
-    pub ghost value: { Option Object },
+    pub ghost value: { Option Object } by { coded_option the_row.coded },
 }
 
 impl Model for ErasedPointer {

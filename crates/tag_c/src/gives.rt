@@ -3,7 +3,7 @@ ghost use Rattle.tag_c.specs.Calls.{Calls, CallsBy, HandCalls, CacheCalls, Throu
 ghost use Rattle.tag_c.specs.Codes.{code_of_count, code_of_grants, code_of_finish};
 
 use crate::cached::CachedMember;
-use crate::codes::{count_code, finish_code, grants_code, group_alone};
+use crate::codes::{count_code, finish_code, grants_code, group_alone, woken_alone};
 use crate::handle::Handle;
 use crate::member::Member;
 use crate::object::{Kind, Object};
@@ -13,9 +13,9 @@ impl Member {
     /// Gives a held tag back, and returns how many waiters were granted a wakeup.
     #[inline(always)]
     fn clear(&mut self, tag: u32) -> i32
-        ensures { HandCalls (Through (DoesClear tag) code_of_grants result) self.old self.new }
+        ensures { HandCalls (Through (DoesClear tag) code_of_count result) self.old self.new }
     {
-        grants_code(self.shared.tags.clear_granted(&mut self.hand, tag))
+        count_code(woken_alone(self.shared.tags.clear_granted(&mut self.hand, tag)))
     }
 
     /// Gives held ordinary tags back, and returns how many waiters were granted a wakeup.
@@ -48,9 +48,9 @@ impl CachedMember {
     #[cold]
     #[inline(never)]
     fn clear(&mut self, tag: u32) -> i32
-        ensures { CacheCalls (Through (DoesClear tag) code_of_grants result) self.old self.new }
+        ensures { CacheCalls (Through (DoesClear tag) code_of_count result) self.old self.new }
     {
-        grants_code(self.cache.clear_granted(&self.shared.tags, tag))
+        count_code(self.cache.clear_counted(&self.shared.tags, tag))
     }
 
     /// Gives held ordinary tags back, and returns how many waiters were granted a wakeup.
@@ -85,7 +85,7 @@ impl Object {
     /// Gives a held tag back, and returns how many waiters were granted a wakeup.
     #[inline]
     pub(crate) fn clear(&mut self, tag: u32) -> i32
-        ensures { Calls (Through (DoesClear tag) code_of_grants result) result self.old self.new }
+        ensures { Calls (Through (DoesClear tag) code_of_count result) result self.old self.new }
     {
         match &mut self.kind {
             Kind::Member(member) => member.clear(tag),
@@ -133,7 +133,7 @@ impl Object {
 
 #[unsafe(no_mangle)]
 pub extern "C" fn tags_clear(hand: &mut Handle, tag: u32) -> i32
-    ensures { CallsBy (Through (DoesClear tag) code_of_grants result) result hand.old.object.value hand.new.object.value }
+    ensures { CallsBy (Through (DoesClear tag) code_of_count result) result hand.old.object.value hand.new.object.value }
 {
     let Some(object) = hand.lend() else {
         return Status::BadHandle.code();

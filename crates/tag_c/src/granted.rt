@@ -1,7 +1,7 @@
 //! Clears that also say in which wait groups they granted wakeups, through the handle of a hand. Each is described in
 //! tags.h.
 ghost use Rattle.std.specs.Prelude.{◌≡◌};
-ghost use Rattle.tag_c.specs.Calls.{Calls, CallsBy, HandCalls, CacheCalls, Through, DoesClear, DoesClearBatch};
+ghost use Rattle.tag_c.specs.Calls.{Calls, CallsBy, HandCalls, CacheCalls, Through, DoesClearGranted, DoesClearBatch};
 ghost use Rattle.tag_c.specs.Codes.{IsRefusal, code_of_grants};
 ghost use Rattle.tag_c.specs.Grants.{Filling, Fills};
 
@@ -44,7 +44,7 @@ impl Member {
     /// Gives a held tag back, fills in whom that granted a wakeup, and returns how many waiters they are.
     #[inline(always)]
     fn clear_granted(&mut self, tag: u32, granted: &mut Granted) -> i32
-        ensures calls { HandCalls (Through (Filling granted.new (DoesClear tag)) code_of_grants result) self.old self.new }
+        ensures calls { HandCalls (Through (Filling granted.new (DoesClearGranted tag)) code_of_grants result) self.old self.new }
         ensures kept { IsRefusal result → granted.new ≡ granted.old }
     {
         fill(self.shared.tags.clear_granted(&mut self.hand, tag), granted)
@@ -68,7 +68,7 @@ impl CachedMember {
     #[cold]
     #[inline(never)]
     fn clear_granted(&mut self, tag: u32, granted: &mut Granted) -> i32
-        ensures calls { CacheCalls (Through (Filling granted.new (DoesClear tag)) code_of_grants result) self.old self.new }
+        ensures calls { CacheCalls (Through (Filling granted.new (DoesClearGranted tag)) code_of_grants result) self.old self.new }
         ensures kept { IsRefusal result → granted.new ≡ granted.old }
     {
         fill(self.cache.clear_granted(&self.shared.tags, tag), granted)
@@ -92,7 +92,7 @@ impl Object {
     /// Gives a held tag back, fills in whom that granted a wakeup, and returns how many waiters they are.
     #[inline]
     pub(crate) fn clear_granted(&mut self, tag: u32, granted: &mut Granted) -> i32
-        ensures calls { Calls (Through (Filling granted.new (DoesClear tag)) code_of_grants result) result self.old self.new }
+        ensures calls { Calls (Through (Filling granted.new (DoesClearGranted tag)) code_of_grants result) result self.old self.new }
         ensures kept { IsRefusal result → granted.new ≡ granted.old }
     {
         match &mut self.kind {
@@ -118,7 +118,7 @@ impl Object {
 
 #[unsafe(no_mangle)]
 pub extern "C" fn tags_clear_granted(hand: &mut Handle, tag: u32, granted: &mut Granted) -> i32
-    ensures calls { CallsBy (Through (Filling granted.new (DoesClear tag)) code_of_grants result) result
+    ensures calls { CallsBy (Through (Filling granted.new (DoesClearGranted tag)) code_of_grants result) result
         hand.old.object.value hand.new.object.value }
     ensures kept { IsRefusal result → granted.new ≡ granted.old }
 {

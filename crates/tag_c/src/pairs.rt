@@ -2,11 +2,12 @@
 //! tags.h.
 ghost use Rattle.std.specs.Prelude.{◌≡◌};
 ghost use Rattle.tag_c.specs.Calls.{Calls, CallsBy, HandCalls, CacheCalls, Through};
-ghost use Rattle.tag_c.specs.Codes.{IsRefusal, code_of_get, code_of_grants};
+ghost use Rattle.tag_c.specs.Codes.{IsRefusal, code_of, code_of_get, code_of_count};
+ghost use Rattle.tag_c.specs.declared.status.Status.TheVariants.{BadHandle};
 ghost use Rattle.tag_c.specs.Pairs.{DoesGetWrite, DoesReadClear};
 
 use crate::cached::CachedMember;
-use crate::codes::{get_code, grants_code};
+use crate::codes::{count_code, get_code, tell_left, woken_alone};
 use crate::handle::Handle;
 use crate::member::Member;
 use crate::object::{Kind, Object};
@@ -15,10 +16,11 @@ use crate::status::{Status, fault_code};
 impl Member {
     /// Takes a free ordinary tag, writes its slot, and returns the tag.
     #[inline(always)]
-    fn get_write(&mut self, value: u64) -> i32
-        ensures { HandCalls (Through (DoesGetWrite value) code_of_get result) self.old self.new }
+    fn get_write(&mut self, value: u64, left: &mut u64) -> i32
+        ensures { HandCalls (Through (DoesGetWrite value left.new) code_of_get result) self.old self.new }
     {
-        match self.shared.tags.get(&mut self.hand) {
+        let found = self.shared.tags.get_freed(&mut self.hand);
+        match tell_left(found, left) {
             Ok(Some(tag)) => {
                 // The caller has just won the tag, so the write is not refused.
                 let _ = self.shared.tags.write(&mut self.hand, tag, value);
@@ -33,7 +35,7 @@ impl Member {
     /// wakeup.
     #[inline(always)]
     fn read_clear(&mut self, tag: u32, value: &mut u64) -> i32
-        ensures calls { HandCalls (Through (DoesReadClear tag value.new) code_of_grants result) self.old self.new }
+        ensures calls { HandCalls (Through (DoesReadClear tag value.new) code_of_count result) self.old self.new }
         ensures kept { IsRefusal result → value.new ≡ value.old }
     {
         let found = match self.shared.tags.read(&mut self.hand, tag) {
@@ -41,7 +43,7 @@ impl Member {
             Err(fault) => return fault_code(fault),
         };
         *value = found;
-        grants_code(self.shared.tags.clear_granted(&mut self.hand, tag))
+        count_code(woken_alone(self.shared.tags.clear_granted(&mut self.hand, tag)))
     }
 }
 
@@ -49,10 +51,11 @@ impl CachedMember {
     /// Takes a free ordinary tag, writes its slot, and returns the tag.
     #[cold]
     #[inline(never)]
-    fn get_write(&mut self, value: u64) -> i32
-        ensures { CacheCalls (Through (DoesGetWrite value) code_of_get result) self.old self.new }
+    fn get_write(&mut self, value: u64, left: &mut u64) -> i32
+        ensures { CacheCalls (Through (DoesGetWrite value left.new) code_of_get result) self.old self.new }
     {
-        match self.cache.get(&self.shared.tags) {
+        let found = self.cache.get_freed(&self.shared.tags);
+        match tell_left(found, left) {
             Ok(Some(tag)) => {
                 // The caller has just won the tag, so the write is not refused.
                 let _ = self.cache.write(&self.shared.tags, tag, value);
@@ -68,7 +71,7 @@ impl CachedMember {
     #[cold]
     #[inline(never)]
     fn read_clear(&mut self, tag: u32, value: &mut u64) -> i32
-        ensures calls { CacheCalls (Through (DoesReadClear tag value.new) code_of_grants result) self.old self.new }
+        ensures calls { CacheCalls (Through (DoesReadClear tag value.new) code_of_count result) self.old self.new }
         ensures kept { IsRefusal result → value.new ≡ value.old }
     {
         let found = match self.cache.read(&self.shared.tags, tag) {
@@ -76,19 +79,21 @@ impl CachedMember {
             Err(fault) => return fault_code(fault),
         };
         *value = found;
-        grants_code(self.cache.clear_granted(&self.shared.tags, tag))
+        count_code(self.cache.clear_counted(&self.shared.tags, tag))
     }
 }
 
 impl Object {
     /// Takes a free ordinary tag, writes its slot, and returns the tag.
     #[inline]
-    pub(crate) fn get_write(&mut self, value: u64) -> i32
-        ensures { Calls (Through (DoesGetWrite value) code_of_get result) result self.old self.new }
+    pub(crate) fn get_write(&mut self, value: u64, left: &mut u64) -> i32
+        requires none { left.old ≡ 0 }
+        ensures calls { Calls (Through (DoesGetWrite value left.new) code_of_get result) result self.old self.new }
+        ensures bad_handle { result ≡ code_of BadHandle → left.new ≡ 0 }
     {
         match &mut self.kind {
-            Kind::Member(member) => member.get_write(value),
-            Kind::Cached(member) => member.get_write(value),
+            Kind::Member(member) => member.get_write(value, left),
+            Kind::Cached(member) => member.get_write(value, left),
             Kind::Pool(_) => Status::BadHandle.code(),
         }
     }
@@ -97,7 +102,7 @@ impl Object {
     /// wakeup.
     #[inline]
     pub(crate) fn read_clear(&mut self, tag: u32, value: &mut u64) -> i32
-        ensures calls { Calls (Through (DoesReadClear tag value.new) code_of_grants result) result self.old self.new }
+        ensures calls { Calls (Through (DoesReadClear tag value.new) code_of_count result) result self.old self.new }
         ensures kept { IsRefusal result → value.new ≡ value.old }
     {
         match &mut self.kind {
@@ -109,18 +114,21 @@ impl Object {
 }
 
 #[unsafe(no_mangle)]
-pub extern "C" fn tags_get_write(hand: &mut Handle, value: u64) -> i32
-    ensures { CallsBy (Through (DoesGetWrite value) code_of_get result) result hand.old.object.value hand.new.object.value }
+pub extern "C" fn tags_get_write(hand: &mut Handle, value: u64, left: &mut u64) -> i32
+    ensures calls { CallsBy (Through (DoesGetWrite value left.new) code_of_get result) result
+        hand.old.object.value hand.new.object.value }
+    ensures bad_handle { result ≡ code_of BadHandle → left.new ≡ 0 }
 {
+    *left = 0;
     let Some(object) = hand.lend() else {
         return Status::BadHandle.code();
     };
-    object.get_write(value)
+    object.get_write(value, left)
 }
 
 #[unsafe(no_mangle)]
 pub extern "C" fn tags_read_clear(hand: &mut Handle, tag: u32, value: &mut u64) -> i32
-    ensures calls { CallsBy (Through (DoesReadClear tag value.new) code_of_grants result) result
+    ensures calls { CallsBy (Through (DoesReadClear tag value.new) code_of_count result) result
         hand.old.object.value hand.new.object.value }
     ensures kept { IsRefusal result → value.new ≡ value.old }
 {

@@ -1,12 +1,12 @@
 -- What a clear owes its user, from what becomes of the tag.
-use Rattle.std.proofs.Common.{◌≡◌, ℕ, sym, subst}
-use Rattle.std.specs.Prelude.{Option}
+use Rattle.std.proofs.Common.{◌≡◌, ℕ, Result, Ok, Err, IfOk, OnOk, refl}
+use Rattle.std.specs.Prelude.{IsOk}
 use Rattle.wake_book.specs.declared.grants.Grants.{Grants}
+use Rattle.tag_sets.specs.declared.fault.TagFault.{TagFault}
 use Rattle.tag_sets.specs.declared.tags.Tags.{Tags}
 use Rattle.tag_cache.specs.declared.cache.Cache.{Cache}
 use Rattle.tag_cache.specs.Caches.{Holds}
 use Rattle.tag_cache.specs.Clears.{Goes}
-use Rattle.tag_cache.specs.Granted.{woken_in}
 use Rattle.tag_cache.specs.Holding.{HoldsLess}
 use Rattle.tag_cache.specs.Tallies.{Tallies}
 use Rattle.tag_cache.proofs.Going.{goes_less, goes_tallies}
@@ -18,10 +18,20 @@ module _ {R : Type 0} (tags : Tags R) (tag : ℕ) (old new : Cache R) where
     pub way : Goes tags tag woken old new
     pub tally : Tallies 0 1 old new
 
-  pub cleared : (grants : Option Grants) (woken : ℕ) → woken ≡ woken_in grants → Holds old tag
-      → Goes tags tag (woken_in grants) old new → Cleared woken
-  cleared grants woken is held goes = record {
-    less = goes_less tags tag (woken_in grants) old new held.1 goes;
-    way = subst (λ (n : ℕ). Goes tags tag n old new) (sym is) goes;
-    tally = goes_tallies tags tag (woken_in grants) old new goes;
+  pub cleared : (woken : ℕ) → Holds old tag → Goes tags tag woken old new → Cleared woken
+  cleared woken held goes = record {
+    less = goes_less tags tag woken old new held.1 goes;
+    way = goes;
+    tally = goes_tallies tags tag woken old new goes;
   }
+
+  -- the same of what a clear answers
+  pub less_on : (r : Result Grants TagFault) → (IsOk r → Holds old tag)
+      → IfOk r (λ grants. Goes tags tag grants.woken old new) → OnOk r (HoldsLess (λ other. other ≡ tag) old new)
+  less_on (Ok grants) held goes = goes_less tags tag grants.woken old new (held refl).1 goes
+  less_on (Err fault) held goes = tt
+
+  pub tally_on : (r : Result Grants TagFault) → IfOk r (λ grants. Goes tags tag grants.woken old new)
+      → OnOk r (Tallies 0 1 old new)
+  tally_on (Ok grants) goes = goes_tallies tags tag grants.woken old new goes
+  tally_on (Err fault) goes = tt

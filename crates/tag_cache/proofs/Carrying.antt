@@ -1,7 +1,8 @@
 -- What a change of the hand, or of the kept tags, is for the user of a cache.
 use Rattle.std.specs.Prelude.{IsTrue, IsOk, count_ones}
+use mathlib.Core.Bool.{not}
 use Rattle.std.proofs.lemmas.Bool.{false≢true}
-use Rattle.std.proofs.Common.{Bool, false, ◌↔◌, Option, Result, Ok, Err, OnOk, OnErr, IfOk, IfErr, ◌≡◌, ℕ, ◌≤◌, inl, inr, refl, sym, ap, ◌∙◌, subst, ⊎_elim}
+use Rattle.std.proofs.Common.{Bool, true, false, ◌↔◌, Option, Result, Ok, Err, OnOk, OnErr, IfOk, IfErr, ◌≡◌, ℕ, ◌≤◌, inl, inr, refl, sym, ap, ◌∙◌, subst, ⊎_elim}
 use Rattle.tag_sets.specs.declared.fault.TagFault.{TagFault}
 use Rattle.tag_sets.specs.declared.fault.TagFault.TheVariants.{NoSuchTag, NotPosted}
 use Rattle.tag_sets.specs.declared.hand.Hand.{Hand}
@@ -20,6 +21,11 @@ use Rattle.tag_cache.specs.Holding.{HoldsMore, HoldsLess, HoldsSame, Writes, IsL
 -- what a test that failed says
 pub not_true : (b : Bool) (P : Type 0) → (IsTrue b ↔ P) → b ≡ false → ¬ P
 not_true b P says f h = false≢true (sym f ∙ says.1 h)
+
+-- what a test says of its opposite
+pub is_not : (b : Bool) (P : Type 0) → (IsTrue b ↔ P) → ¬ P → IsTrue (not b)
+is_not true P says n = absurd (n (says.0 refl))
+is_not false P says n = refl
 
 -- a call that was refused did not succeed
 pub not_ok : {T : Type 0} (r : Result T TagFault) (fault : TagFault) → r ≡ Err fault → ¬ (IsOk r)
@@ -47,6 +53,13 @@ module _ {R : Type 0} where
       → (other : ℕ) → ¬ (named other) → hands.Holds a other → hands.Holds b other
   less_still named a b (Ok v) P f p e other n h = ((f p).kept other n h).0
   less_still named a b (Err v) P f p e other n h = subst (λ (x : Hand R). hands.Holds x other) (sym e) h
+
+  -- a call that won the named tags, or was refused, leaves the hand what it had
+  pub more_still : {A : Type 0} (a b : Hand R) (r : Result A TagFault) (named : A → ℕ → Type 0)
+      → IfOk r (λ v. hand_holding.HoldsMore (named v) a b) → OnErr r (b ≡ a)
+      → (tag : ℕ) → hands.Holds a tag → hands.Holds b tag
+  more_still a b (Ok v) named m e tag h = (m.kept tag h).0
+  more_still a b (Err f) named m e tag h = subst (λ (x : Hand R). hands.Holds x tag) (sym e) h
 
   -- what the test answers
   pub not_kept : (cache : Cache R) (tag : ℕ) (b : Bool) → (IsTrue b ↔ IsKept cache tag) → b ≡ false → ¬ (IsKept cache tag)

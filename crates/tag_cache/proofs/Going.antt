@@ -1,7 +1,8 @@
 -- What becomes of a tag that is cleared, and what that is for the user and for the tallies.
-use Rattle.std.proofs.Common.{arith, ◌≡◌, ℕ, ◌∙◌, subst, ⊎_elim}
+use Rattle.std.proofs.Common.{arith, ◌≡◌, ℕ, ◌≤◌, ◌∙◌, subst, ⊎_elim}
 use Rattle.tag_sets.specs.declared.hand.Hand.{Hand}
 use Rattle.tag_sets.specs.declared.tags.Tags.{Tags}
+use Rattle.tag_sets.specs.Hands.{reserved_of}
 use Rattle.tag_sets.specs.Holding as hand_holding
 use Rattle.tag_cache.specs.declared.cache.Cache.{Cache}
 use Rattle.tag_cache.specs.Caches.{IsKept, KeepsNone}
@@ -73,7 +74,7 @@ module _ {R : Type 0} (tags : Tags R) where
   pub goes_less : (tag woken : ℕ) (old new : Cache R) → ¬ (IsKept old tag) → Goes tags tag woken old new
       → HoldsLess (λ other. other ≡ tag) old new
   goes_less tag woken old new out g = ⊎_elim
-      (λ (o : GoesOrdinary tags tag woken old new). ordinary_less tag woken old new out o)
+      (λ (o : (reserved_of tags ≤ tag) × GoesOrdinary tags tag woken old new). ordinary_less tag woken old new out o.1)
       (λ (r : GoesReserved tags tag woken old new). less old new r.kept (λ other. other ≡ tag) r.gives.clears.less) g
 
   with_kept_tallies : (tag found woken : ℕ) (old new : Cache R) → GoesWithKept tags tag found woken old new
@@ -111,7 +112,7 @@ module _ {R : Type 0} (tags : Tags R) where
 
   pub goes_tallies : (tag woken : ℕ) (old new : Cache R) → Goes tags tag woken old new → Tallies 0 1 old new
   goes_tallies tag woken old new g = ⊎_elim
-      (λ (o : GoesOrdinary tags tag woken old new). ordinary_tallies tag woken old new o)
+      (λ (o : (reserved_of tags ≤ tag) × GoesOrdinary tags tag woken old new). ordinary_tallies tag woken old new o.1)
       (λ (r : GoesReserved tags tag woken old new). let m = gives_moves tags tag woken old.hand new.hand r.gives in
       let mw = m.won_is in let mb = m.back_is in let count = r.kept.count in let reused = r.kept.reused in
       record { handed = omega arith; taken = omega arith }) g

@@ -1,5 +1,5 @@
 -- Grants of calls that were made one after the other.
-use Rattle.std.proofs.Common.{arith, ◌≡◌, ℕ, ◌∷◌, List, Option, get_or, replicate, sum, sym, ap, ◌∙◌, subst}
+use Rattle.std.proofs.Common.{arith, ◌≡◌, ℕ, ◌∷◌, List, get_or, replicate, sum, sym, ap, ◌∙◌, subst}
 use Rattle.std.proofs.lemmas.List.{get_or-replicate}
 use Rattle.step_ledger.specs.History.{total}
 use Rattle.wake_book.specs.declared.grants.Grants.{Grants}
@@ -10,7 +10,6 @@ use Rattle.wake_book.specs.Waits.{active_at, moved_by}
 use Rattle.tag_sets.specs.declared.hand.Hand.{Hand}
 use Rattle.tag_sets.specs.Hands.{group_steps}
 use Rattle.tag_sets.specs.Waits.{Enters}
-use Rattle.tag_cache.specs.Granted.{AreGranted}
 
 -- a look at the active count grants nothing
 pub grants_after : (grants : Grants) (found : ℕ) (old mid new : List GroupStep) → mid ≡ Look active_at found ∷ old
@@ -42,9 +41,11 @@ module _ {R : Type 0} where
       → AreGrantsOf grants (group_steps a) (group_steps c)
   before_same grants a b c e g = subst (λ (x : Hand R). AreGrantsOf grants (group_steps x) (group_steps c)) e g
 
-  pub granted_same : (grants : Option Grants) (a b c : Hand R) → b ≡ a
-      → AreGranted grants (group_steps b) (group_steps c) → AreGranted grants (group_steps a) (group_steps c)
-  granted_same grants a b c e g = subst (λ (x : Hand R). AreGranted grants (group_steps x) (group_steps c)) e g
+  -- nobody was granted a wakeup by a hand that is as it was
+  pub none_since : (grants : Grants) (a b : Hand R) → AreGrantsOf grants (group_steps a) (group_steps b) → b ≡ a
+      → grants.woken ≡ 0
+  none_since grants a b g e = let all = g.all in let same = ap (λ (x : Hand R). total moved_by (group_steps x)) e in
+      omega arith
 
   -- a hand that then enters a wait group
   pub then_enters : (grants : Grants) (group : ℕ) (a b c : Hand R) → AreGrantsOf grants (group_steps a) (group_steps b)

@@ -18,3 +18,6 @@ pub mod Standing
 pub mod Gaining
 pub mod Listing
 pub mod Passing
+pub mod Getting
+pub mod Ringing
+pub mod Rung

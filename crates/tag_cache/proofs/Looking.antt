@@ -5,7 +5,7 @@ use Rattle.tag_sets.specs.declared.hand.Hand.{Hand}
 use Rattle.tag_sets.specs.declared.tags.Tags.{Tags}
 use Rattle.tag_cache.specs.declared.cache.Cache.{Cache}
 use Rattle.tag_cache.specs.Windows.{IsIn}
-use Rattle.tag_cache.specs.Caches.{IsLent, KeepsNone, HasNoPlace, CanBeKept, kept_tags, count_of, reused_of}
+use Rattle.tag_cache.specs.Caches.{IsLent, KeepsNone, HasNoPlace, HasPlace, CanBeKept, kept_tags, count_of, reused_of}
 use Rattle.tag_cache.specs.Changes.{KeepsSame, Keeps, SameTerms, SameWindow, LendsLess}
 use Rattle.tag_cache.specs.Clears.{LooksOnce, GivesList, GivesKept, GivesWith, KeptUnseen, KeptInstead, GoesAlone, GoesWithKept, MakesRoom}
 use Rattle.tag_cache.proofs.Carrying.{same_fields, keeps_twice}
@@ -77,6 +77,16 @@ module _ {R : Type 0} (tags : Tags R) (tag : ℕ) (old mid : Cache R) (s : SameF
     looked = subst (λ (h : Hand R). LooksOnce 0 old.hand h) (sym k.hand) looked;
     place = place;
     can = can_from can;
+    also = also_from tag old mid new same k.also;
+    none = refl;
+  }
+
+  pub kept_at_once : (new : Cache R) → LooksOnce 0 old.hand mid.hand → HasPlace tag old → Keeps tag mid new
+      → KeptUnseen tag 0 old new
+  kept_at_once new looked p k = record {
+    looked = subst (λ (h : Hand R). LooksOnce 0 old.hand h) (sym k.hand) looked;
+    place = p.place;
+    can = p.can;
     also = also_from tag old mid new same k.also;
     none = refl;
   }

@@ -12,7 +12,7 @@ use Rattle.tag_sets.specs.declared.kind.Kind.{Kind}
 use Rattle.tag_sets.specs.declared.kind.Kind.TheVariants.{Ordinary, Reserved}
 use Rattle.tag_sets.specs.declared.tags.Tags.{Tags}
 use Rattle.tag_sets.specs.Sets.{kind_of}
-use Rattle.tag_sets.specs.Hands.{Changes, split_of, group_steps}
+use Rattle.tag_sets.specs.Hands.{Changes, split_of, group_steps, waiter_of}
 use Rattle.tag_sets.specs.Slots.{Posts}
 use Rattle.tag_cache.specs.declared.cache.Cache.{Cache}
 use Rattle.tag_cache.specs.Caches.{KeepsNone}
@@ -32,6 +32,17 @@ module _ {R : Type 0} where
   pub posts_steps : (tag : ℕ) (a b : Hand R) → Posts tag a b → group_steps b ≡ group_steps a
   posts_steps tag a b p = steps_in (kind_of (split_of a) tag) _ a b
       (λ c d (x : queue_slots.Posts _ c d). ap (λ (w : Waiter). steps_of w) x.same_else.1.1) p.set
+
+  -- nor does it ring
+  waiter_in : (kind : Kind) (change : Agent R → Agent R → Type 0) (a b : Hand R)
+      → ((c d : Agent R) → change c d → queue.waiter_of d ≡ queue.waiter_of c) → Changes kind change a b
+      → waiter_of b ≡ waiter_of a
+  waiter_in Ordinary change a b same c = same a.ordinary b.ordinary c.changed
+  waiter_in Reserved change a b same c = ap (λ (x : Agent R). queue.waiter_of x) c.other
+
+  pub posts_waiter : (tag : ℕ) (a b : Hand R) → Posts tag a b → waiter_of b ≡ waiter_of a
+  posts_waiter tag a b p = waiter_in (kind_of (split_of a) tag) _ a b
+      (λ c d (x : queue_slots.Posts _ c d). x.same_else.1.1) p.set
 
   pub posts_moves : (tag : ℕ) (a b : Hand R) → Posts tag a b → Moves 0 0 a b
   posts_moves tag a b p = moves_in (kind_of (split_of a) tag) 0 0 _ a b (λ c d (x : queue_slots.Posts _ c d). record {

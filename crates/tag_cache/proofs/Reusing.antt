@@ -1,25 +1,22 @@
 -- What a change of the kept tags is for the user of a cache, and what is known of lent ones.
-use Rattle.std.proofs.Common.{arith, ◌↔◌, Option, Some, Result, Ok, Err, IfOk, ◌≡◌, ◌≢◌, ℕ, ◌+◌, ◌^◌, ◌<◌, ◌≤◌, inl, inr, refl, sym, ap, subst, ⊎_elim}
+use Rattle.std.proofs.Common.{arith, ◌↔◌, Some, ◌≡◌, ◌≢◌, ℕ, ◌+◌, ◌^◌, ◌<◌, ◌≤◌, inl, inr, refl, sym, ap, subst, ⊎_elim}
 use mathlib.Core.Logic.{dite}
 use native.Mathlib.Decide.{ℕ_discrete}
 use Rattle.std.specs.Int.{trailing_zeros, w64}
 use Rattle.std.proofs.lemmas.Bool.{cases_lt}
-use Rattle.tag_sets.specs.declared.fault.TagFault.{TagFault}
 use Rattle.tag_sets.specs.declared.hand.Hand.{Hand}
 use Rattle.tag_sets.specs.declared.tags.Tags.{Tags}
 use Rattle.tag_sets.specs.Hands as hands
 use Rattle.tag_sets.specs.Holding as hand_holding
-use Rattle.tag_sets.specs.Gets as hand_gets
-use Rattle.tag_sets.specs.Gets.{IsAnswer, IsOrdinaryTag}
+use Rattle.tag_sets.specs.Gets.{IsOrdinaryTag}
 use Rattle.tag_cache.specs.declared.cache.Cache.{Cache}
 use Rattle.tag_cache.specs.declared.keeping.Keeping.TheVariants.{WhileHolding}
 use Rattle.tag_cache.specs.Windows.{IsIn}
 use Rattle.tag_cache.specs.Caches.{IsKept, IsLent, IsLast, IsWithin, KeepsNone, KeepsWithCare, Holds, split_of}
-use Rattle.tag_cache.specs.Changes.{KeepsSame, SameHand, KeepsAlso, TakesLeast, Pops, Reuses}
-use Rattle.tag_cache.specs.Gets.{Gets}
+use Rattle.tag_cache.specs.Changes.{SameHand, KeepsAlso, TakesLeast, Pops, Reuses}
+use Rattle.tag_cache.specs.Gets.{GetsBy}
 use Rattle.tag_cache.specs.Holding.{HoldsMore, HoldsLess}
 use Rattle.tag_cache.proofs.Below.{held_below}
-use Rattle.tag_cache.proofs.Carrying.{more}
 use Rattle.tag_cache.proofs.Windows.{below_end, emptied, none_else, some_in, least_in}
 
 module _ {R : Type 0} where
@@ -64,31 +61,13 @@ module _ {R : Type 0} where
     held_below tags old.hand tag own mine.0,
   )
 
-  pub gets_kept : (tags : Tags R) (old new : Cache R) (tag : ℕ) → hands.IsHandOf tags old.hand → Reuses tag old new
-      → Gets tags (Some tag) old new
-  gets_kept tags old new tag own r = record {
+  pub gets_kept : (gets : Hand R → Hand R → Type 0) (tags : Tags R) (old new : Cache R) (tag : ℕ)
+      → hands.IsHandOf tags old.hand → Reuses tag old new → GetsBy gets tags (Some tag) old new
+  gets_kept gets tags old new tag own r = record {
     more = taken old new tag r.takes;
     ordinary = λ t e. subst (λ (x : ℕ). IsOrdinaryTag tags x) (sym e) (reuse_ordinary tags old new tag own r.takes);
     source = inl (record { tag = tag; answer_is = refl; reuses = r });
   }
-
-  -- a get of the hand while nothing is kept
-  pub gets_more : (tags : Tags R) (old new : Cache R) → KeepsSame old new → KeepsNone old
-      → (r : Result (Option ℕ) TagFault) → IfOk r (λ answer. hand_gets.Gets tags answer old.hand new.hand)
-      → IfOk r (λ answer. Gets tags answer old new)
-  gets_more tags old new keeps none (Ok answer) g = record {
-    more = more old new keeps (IsAnswer answer) g.more;
-    ordinary = g.ordinary;
-    source = inr (record { none = none; gets = g; same = keeps });
-  }
-  gets_more tags old new keeps none (Err e) g = tt
-
-  -- the same after nothing was found kept
-  pub gets_after : (tags : Tags R) (old mid new : Cache R) → mid ≡ old → KeepsSame mid new → KeepsNone old
-      → (r : Result (Option ℕ) TagFault) → IfOk r (λ answer. hand_gets.Gets tags answer mid.hand new.hand)
-      → IfOk r (λ answer. Gets tags answer old new)
-  gets_after tags old mid new e keeps none r g = subst (λ (s : Cache R). IfOk r (λ answer. Gets tags answer s new)) e
-      (gets_more tags mid new keeps (subst (λ (s : Cache R). KeepsNone s) (sym e) none) r g)
 
   -- a tag that the user is known to hold is held and not kept, ordinary, and in the window
   pub lent_held : (cache : Cache R) (tag : ℕ) → IsLent cache tag → Holds cache tag
@@ -96,6 +75,10 @@ module _ {R : Type 0} where
 
   pub lent_ordinary : (cache : Cache R) (tag : ℕ) → IsLent cache tag → split_of cache ≤ tag
   lent_ordinary cache tag l = (cache.loans tag l).1
+
+  pub lent_ordinary_of : (tags : Tags R) (cache : Cache R) (tag : ℕ) → hands.IsHandOf tags cache.hand
+      → IsLent cache tag → hands.reserved_of tags ≤ tag
+  lent_ordinary_of tags cache tag own l = subst (λ (s : ℕ). s ≤ tag) own.2 (lent_ordinary cache tag l)
 
   pub lent_within : (cache : Cache R) (tag : ℕ) → IsLent cache tag → IsWithin cache tag
   lent_within cache tag l = (l.0, below_end cache.first cache.lent tag cache.wide.1 l)

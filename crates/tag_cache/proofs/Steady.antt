@@ -13,6 +13,7 @@ use Rattle.tag_queue.specs.declared.agent.Agent.{Agent}
 use Rattle.tag_sets.specs.declared.fault.TagFault.{TagFault}
 use Rattle.tag_sets.specs.declared.fault.TagFault.TheVariants.{Waiting, NotWaiting}
 use Rattle.tag_queue.specs.Agents as queue
+use Rattle.tag_queue.specs.Freed as queue_freed
 use Rattle.tag_queue.specs.Waits as queue_waits
 use Rattle.tag_sets.specs.declared.hand.Hand.{Hand}
 use Rattle.tag_sets.specs.declared.kind.Kind.{Kind}
@@ -24,6 +25,7 @@ use Rattle.tag_sets.specs.Holding.{HoldsSame}
 use Rattle.tag_sets.specs.Looks.{looks_from, MakesLooks}
 use Rattle.tag_sets.specs.Shows.{LooksAround}
 use Rattle.tag_sets.specs.Busy.{ListsBusy}
+use Rattle.tag_sets.specs.Freed.{LooksAfter}
 use Rattle.tag_sets.specs.Meeting.{IsUnchanged}
 use Rattle.tag_sets.specs.Waits as hand_waits
 use Rattle.tag_cache.specs.declared.cache.Cache.{Cache}
@@ -97,6 +99,12 @@ module _ {R : Type 0} where
   pub stays_rests : (a b : Hand R) → hand_waits.Stays a b → Rests a b
   stays_rests a b s = record { held = s.same; moves = stays_moves a b s }
 
+  pub looked_rests : (left : ℕ) (a b : Hand R) → LooksAfter left a b → Rests a b
+  looked_rests left a b l = record {
+    held = l.same;
+    moves = moves_in Ordinary 0 0 _ a b (λ c d (x : queue_freed.LooksAfter left c d). caller_rests c d x.same.0) l.set;
+  }
+
   pub meets_rests : (a b : Hand R) → IsUnchanged a b → Rests a b
   meets_rests a b u = let o = record_rests a.ordinary b.ordinary (u.sets Ordinary).caller.known in
       let r = record_rests a.reserved b.reserved (u.sets Reserved).caller.known in
@@ -146,6 +154,9 @@ module _ {R : Type 0} where
       → AreOwn a first mask → Rests a b → AreOwn b first mask
   own_rests tags first mask a b ha hb own r = own_after tags first mask a b ha hb own
       (λ tag h (i : IsIn first mask tag). (r.held.kept tag h).0)
+
+  pub own_unchanged : (first mask : ℕ) (a b : Hand R) → AreOwn a first mask → b ≡ a → AreOwn b first mask
+  own_unchanged first mask a b own e = subst (λ (x : Hand R). AreOwn x first mask) (sym e) own
 
   pub same_tags : (old new : Cache R) → KeepsSame old new → SameWindow old new → Rests old.hand new.hand
       → SameTags old new

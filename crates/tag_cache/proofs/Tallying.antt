@@ -140,13 +140,6 @@ module _ {R : Type 0} where
       let count = s.count in record { handed = omega arith; taken = omega arith }
 
   -- the same of what calls answer
-  pub get_tallies : (tags : Tags R) (old new : Cache R) → KeepsSame old new → (r : Result (Option ℕ) TagFault)
-      → IfOk r (λ answer. hand_gets.Gets tags answer old.hand new.hand)
-      → IfOk r (λ answer. Tallies (answered answer) 0 old new)
-  get_tallies tags old new s (Ok answer) g = moves_tallies (answered answer) 0 old new s
-      (gets_moves tags answer old.hand new.hand g)
-  get_tallies tags old new s (Err e) g = tt
-
   pub reserved_tallies : (tags : Tags R) (old new : Cache R) → KeepsSame old new → (r : Result (Option ℕ) TagFault)
       → IfOk r (λ answer. hand_gets.GetsReserved tags answer old.hand new.hand)
       → IfOk r (λ answer. Tallies (answered answer) 0 old new)
@@ -171,9 +164,3 @@ module _ {R : Type 0} where
   blocking_tallies tags old mid new e s (Ok tag) g = subst (λ (x : Cache R). Tallies 1 0 x new) e
       (moves_tallies 1 0 mid new s (blocking_moves tags tag mid.hand new.hand g))
   blocking_tallies tags old mid new e s (Err x) g = tt
-
-  pub get_after_tallies : (tags : Tags R) (old mid new : Cache R) → mid ≡ old → KeepsSame mid new
-      → (r : Result (Option ℕ) TagFault) → IfOk r (λ answer. hand_gets.Gets tags answer mid.hand new.hand)
-      → IfOk r (λ answer. Tallies (answered answer) 0 old new)
-  get_after_tallies tags old mid new e s r g = subst
-      (λ (x : Cache R). IfOk r (λ answer. Tallies (answered answer) 0 x new)) e (get_tallies tags mid new s r g)

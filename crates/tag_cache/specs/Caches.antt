@@ -90,3 +90,15 @@ pub record CanBeKept {R : Type 0} (tag : ℕ) (cache : Cache R) : Type 0 where
   pub some : 1 ≤ most_of cache
   pub alive : reused_of cache < MOST_REUSED
   pub within : keeping_of cache ≡ WhileHolding → IsWithin cache tag
+
+-- a clear keeps the tag if nobody waits: the user is known to hold it, and it may be kept besides those that are
+pub record HasPlace {R : Type 0} (tag : ℕ) (cache : Cache R) : Type 0 where
+  pub lent : IsLent cache tag
+  pub place : ¬ (HasNoPlace tag cache)
+  pub can : CanBeKept tag cache
+  pub other : ¬ (IsLast tag cache)
+
+-- a clear of the tag leaves the window where it is: the tag is in it, or tags are kept only while the user is known to
+-- hold one
+abbrev pub LeavesWindow : {R : Type 0} → ℕ → Cache R → Type 0
+LeavesWindow tag cache = IsWithin cache tag ⊎ (keeping_of cache ≡ WhileHolding)

@@ -1,5 +1,5 @@
 -- How the tags that are kept change, and those that the user is known to hold.
-use Rattle.std.specs.Prelude.{◌≡◌, ◌≢◌, ◌⊎◌, ◌↔◌, ℕ, ◌+◌, ◌≤◌, Bool, true, false}
+use Rattle.std.specs.Prelude.{◌≡◌, ◌≢◌, ◌⊎◌, ◌↔◌, ℕ, ◌+◌, ◌≤◌, Bool, true, false, List, Contains}
 use Rattle.tag_cache.specs.declared.cache.Cache.{Cache}
 use Rattle.tag_cache.specs.Caches.{hand_of, count_of, most_of, keeping_of, reused_of, IsKept, IsLent, IsWithin, KeepsNone, HasNoPlace, CanBeKept}
 
@@ -41,6 +41,10 @@ pub record Lends {R : Type 0} (tag : ℕ) (old new : Cache R) : Type 0 where
 -- the user is known to hold the same tags but this one
 abbrev pub LendsLess : {R : Type 0} → ℕ → Cache R → Cache R → Type 0
 LendsLess tag old new = (other : ℕ) → IsLent new other ↔ (IsLent old other × other ≢ tag)
+
+-- the user is known to hold the same tags but those of the list
+abbrev pub LendsNoneOf : {R : Type 0} → List ℕ → Cache R → Cache R → Type 0
+LendsNoneOf list old new = (other : ℕ) → IsLent new other ↔ (IsLent old other × ¬ (Contains list other))
 
 -- it is no longer known that the user holds this tag, and nothing else changed
 pub record Forgets {R : Type 0} (tag : ℕ) (old new : Cache R) : Type 0 where

@@ -114,4 +114,5 @@ GoesOrdinary tags tag woken old new = KeptUnseen tag woken old new ⊎ (KeptInst
 
 -- what becomes of a tag that is cleared
 abbrev pub Goes : {R : Type 0} → Tags R → ℕ → ℕ → Cache R → Cache R → Type 0
-Goes tags tag woken old new = GoesOrdinary tags tag woken old new ⊎ GoesReserved tags tag woken old new
+Goes tags tag woken old new = ((hands.reserved_of tags ≤ tag) × GoesOrdinary tags tag woken old new)
+    ⊎ GoesReserved tags tag woken old new

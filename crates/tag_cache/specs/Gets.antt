@@ -1,6 +1,8 @@
 -- The effect of gets on the cache that makes them.
 use Rattle.std.specs.Prelude.{◌≡◌, ◌⊎◌, ℕ, Option, Some, None}
+use Rattle.tag_sets.specs.declared.hand.Hand.{Hand}
 use Rattle.tag_sets.specs.declared.tags.Tags.{Tags}
+use Rattle.tag_sets.specs.Freed.{GetsAndLooks}
 use Rattle.tag_sets.specs.Gets.{IsAnswer, IsOrdinaryTag}
 use Rattle.tag_sets.specs.Gets as hands
 use Rattle.tag_sets.specs.Waits as hand_waits
@@ -15,18 +17,27 @@ pub record FromKept {R : Type 0} (answer : Option ℕ) (old new : Cache R) : Typ
   pub answer_is : answer ≡ Some tag
   pub reuses : Reuses tag old new
 
--- nothing was kept, and the hand made a get
-pub record FromTags {R : Type 0} (tags : Tags R) (answer : Option ℕ) (old new : Cache R) : Type 0 where
+-- nothing was kept, and the hand made this get
+pub record FromTags {R : Type 0} (Search : Hand R → Hand R → Type 0) (old new : Cache R) : Type 0 where
   pub none : KeepsNone old
-  pub gets : hands.Gets tags answer old.hand new.hand
+  pub gets : Search old.hand new.hand
   pub same : KeepsSame old new
 
--- the user gains the ordinary tag returned, if there is one, and no other: the least kept one, or by a get if none is
--- kept
-pub record Gets {R : Type 0} (tags : Tags R) (answer : Option ℕ) (old new : Cache R) : Type 0 where
+-- the user gains the ordinary tag returned, if there is one, and no other: the least kept one, or by this get of the
+-- hand if none is kept
+pub record GetsBy {R : Type 0} (Search : Hand R → Hand R → Type 0) (tags : Tags R) (answer : Option ℕ)
+    (old new : Cache R) : Type 0 where
   pub more : HoldsMore (IsAnswer answer) old new
   pub ordinary : (tag : ℕ) → IsAnswer answer tag → IsOrdinaryTag tags tag
-  pub source : FromKept answer old new ⊎ FromTags tags answer old new
+  pub source : FromKept answer old new ⊎ FromTags Search old new
+
+-- a get that looks for sleepers where it left tags free
+abbrev pub Gets : {R : Type 0} → Tags R → Option ℕ → Cache R → Cache R → Type 0
+Gets tags answer = GetsBy (GetsAndLooks (hands.Gets tags answer)) tags answer
+
+-- a get that looks for no sleeper
+abbrev pub GetsFreed : {R : Type 0} → Tags R → Option ℕ → Cache R → Cache R → Type 0
+GetsFreed tags answer = GetsBy (hands.Gets tags answer) tags answer
 
 -- nothing was kept, and the hand waited for the tag by rounds
 pub record FromWaiting {R : Type 0} (tags : Tags R) (tag : ℕ) (old new : Cache R) : Type 0 where

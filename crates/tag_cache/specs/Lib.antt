@@ -5,8 +5,8 @@ pub mod Holding
 pub mod Tallies
 pub mod Gets
 pub mod Clears
-pub mod Granted
 pub mod Same
 pub mod Slots
 pub mod Waits
 pub mod Batches
+pub mod Rings

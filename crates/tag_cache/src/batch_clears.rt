@@ -6,8 +6,9 @@ ghost use Rattle.tag_sets.specs.Hands.{group_steps};
 ghost use Rattle.tag_cache.specs.Windows.{IsIn};
 ghost use Rattle.tag_cache.specs.Batches.{AreHeldOnce, ListGoes};
 ghost use Rattle.tag_cache.specs.Caches.{IsCacheOf, IsKept, IsLent, hand_of};
-ghost use Rattle.tag_cache.specs.Changes.{IsUnchanged};
+ghost use Rattle.tag_cache.specs.Changes.{IsUnchanged, LendsNoneOf};
 ghost use Rattle.tag_cache.specs.Holding.{HoldsLess};
+ghost use Rattle.tag_cache.specs.Rings.{RingsGranted};
 ghost use Rattle.tag_cache.specs.Tallies.{Tallies};
 
 use crate::cache::{Cache, WINDOW};
@@ -33,11 +34,13 @@ impl<R: Copy> Cache<R> {
             ↔ (CountsTags list.now × AreOrdinary tags.now list.now × AreHeldOnce self.old list.now) }
         ensures less { OnOk result (HoldsLess (Contains list.now) self.old self.new) }
         ensures way { IfOk result (λ woken. ListGoes tags.now list.now woken self.old self.new) }
+        ensures rings { OnOk result (RingsGranted self.old self.new) }
+        ensures loans { OnOk result (LendsNoneOf list.now self.old self.new) }
         ensures tally { OnOk result (Tallies 0 (length list.now) self.old self.new) }
         ensures err { OnErr result (IsUnchanged self.old self.new) }
     {
         let grants = self.clear_batch_granted(tags, list)?;
-        Ok(tags.ring(grants))
+        Ok(self.ring(tags, grants))
     }
 
     /// Like `clear_batch`, but wakes no sleeper, and pulls in no code that does. It returns how many waiters it granted
@@ -57,6 +60,7 @@ impl<R: Copy> Cache<R> {
         ensures less { OnOk result (HoldsLess (Contains list.now) self.old self.new) }
         ensures way { IfOk result (λ grants. ListGoes tags.now list.now grants.woken self.old self.new) }
         ensures grants { IfOk result (λ grants. AreGrantsOf grants (group_steps (hand_of self.old)) (group_steps (hand_of self.new))) }
+        ensures loans { OnOk result (LendsNoneOf list.now self.old self.new) }
         ensures tally { OnOk result (Tallies 0 (length list.now) self.old self.new) }
         ensures err { OnErr result (IsUnchanged self.old self.new) }
     {
@@ -75,6 +79,7 @@ impl<R: Copy> Cache<R> {
         ensures cache { IsCacheOf tags.now self.new }
         ensures way { ListGoes tags.now list.now result.woken self.old self.new }
         ensures grants { AreGrantsOf result (group_steps (hand_of self.old)) (group_steps (hand_of self.new)) }
+        ensures loans { LendsNoneOf list.now self.old self.new }
     {
         let left = self.lent_without_all(list);
         let sooner = self.go_before(tags, left);

@@ -2,6 +2,7 @@
 ghost use Rattle.std.specs.Prelude.{◌≡◌, ◌↔◌, false, IfOk, IsOk, OnErr, IsTrue, None};
 ghost use Rattle.tag_sets.specs.declared.kind.Kind.TheVariants.{Ordinary};
 ghost use Rattle.tag_sets.specs.Hands.{HasRoom, hint_of};
+ghost use Rattle.tag_sets.specs.Freed.{GetsAndLooks};
 ghost use Rattle.tag_sets.specs.Gets as hands;
 ghost use Rattle.tag_sets.specs.Gets.{IsInRun, MiscountsBatch};
 ghost use Rattle.tag_cache.specs.Batches.{answered_run};
@@ -30,7 +31,7 @@ impl<R: Copy> Cache<R> {
             × ¬ (HasRoom (hand_of self.old) Ordinary n)) }
         ensures succeeds { ¬ (MiscountsBatch tags.now n) → HasRoom (hand_of self.old) Ordinary n → IsOk result }
         ensures gets { (hint_of (hand_of self.old) Ordinary).round_robin ≡ false
-            → IfOk result (λ answer. hands.GetsBatch tags.now n answer (hand_of self.old) (hand_of self.new)) }
+            → IfOk result (λ answer. GetsAndLooks (hands.GetsBatch tags.now n answer) (hand_of self.old) (hand_of self.new)) }
         ensures more { IfOk result (λ answer. HoldsMore (IsInRun answer) self.old self.new) }
         ensures kept { KeepsSame self.old self.new }
         ensures window { SameWindow self.old self.new }

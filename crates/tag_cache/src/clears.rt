@@ -1,18 +1,16 @@
 //! Clears of one tag.
-ghost use Rattle.std.specs.Prelude.{◌≡◌, ◌⊎◌, ◌<◌, ◌≤◌, ◌↔◌, List, IfOk, IsOk, OnOk, OnErr};
+ghost use Rattle.std.specs.Prelude.{◌≡◌, ◌⊎◌, ◌<◌, ◌≤◌, ◌↔◌, IfOk, IsOk, OnOk, OnErr};
 ghost use Rattle.wake_book.specs.Grants.{AreGrantsOf};
-ghost use Rattle.wake_book.specs.declared.steps.GroupStep.{GroupStep};
 ghost use Rattle.tag_sets.specs.Hands.{total_of, group_steps};
-ghost use Rattle.tag_cache.specs.Caches.{IsCacheOf, Holds, IsLast, IsLent, IsWithin, IsFixed, KeepsNone, hand_of, split_of, keeping_of, reused_of};
+ghost use Rattle.tag_cache.specs.Caches.{IsCacheOf, Holds, HasPlace, IsLast, IsLent, IsWithin, IsFixed, KeepsNone, LeavesWindow, hand_of, split_of, reused_of};
 ghost use Rattle.tag_cache.specs.Changes.{IsUnchanged, KeepsSame, SameTerms, SameWindow, LendsLess};
 ghost use Rattle.tag_cache.specs.Holding.{HoldsLess};
+ghost use Rattle.tag_cache.specs.Rings.{RingsGranted};
 ghost use Rattle.tag_cache.specs.Tallies.{Tallies};
 ghost use Rattle.tag_cache.specs.Clears.{Goes, GoesOrdinary, MakesRoom, GivesOne, GivesWith};
-ghost use Rattle.tag_cache.specs.Granted.{woken_in, AreGranted};
 
 use crate::cache::Cache;
 use crate::grants::both;
-use crate::keeping::Keeping;
 use tag_sets::{Grants, Kind, TagFault, Tags};
 use wake_book::NO_GRANTS;
 
@@ -31,38 +29,149 @@ impl<R: Copy> Cache<R> {
         ensures succeeds { Holds self.old tag → IsOk result }
         ensures less { OnOk result (HoldsLess (λ other. other ≡ tag) self.old self.new) }
         ensures way { IfOk result (λ woken. Goes tags.now tag woken self.old self.new) }
-        ensures loans { keeping_of self.old ≡ Keeping.WhileHolding → OnOk result (LendsLess tag self.old self.new) }
+        ensures rings { OnOk result (RingsGranted self.old self.new) }
+        ensures loans { LeavesWindow tag self.old → OnOk result (LendsLess tag self.old self.new) }
         ensures tally { OnOk result (Tallies 0 1 self.old self.new) }
         ensures err { OnErr result (IsUnchanged self.old self.new) }
     {
-        if self.lends(tag) {
-            return Ok(woken_by(tags, self.put(tags, tag)));
+        if self.has_place(tag) {
+            return Ok(self.put_and_ring(tags, tag));
         }
-        self.clear_unlent(tags, tag)
+        self.clear_and_ring(tags, tag)
     }
 
-    /// Clears a tag that the user is not known to hold, and wakes sleepers for what that granted. It is out of line, so
-    /// that other clears are short.
-    #[inline(never)]
-    fn clear_unlent(&mut self, tags: &Tags<R>, tag: u32) -> Result<u32, TagFault>
+    /// Keeps a tag that has a place, or gives all back if somebody waits. Grants stay out of line, so that a clear needs
+    /// no memory where its tag is kept.
+    #[inline(always)]
+    fn put_and_ring(&mut self, tags: &Tags<R>, tag: u32) -> u32
         requires cache { IsCacheOf tags.now self.old }
-        requires unlent { ¬ (IsLent self.old tag) }
+        requires place { HasPlace tag self.old }
+        ensures cache { IsCacheOf tags.now self.new }
+        ensures way { GoesOrdinary tags.now tag result self.old self.new }
+        ensures rings { RingsGranted self.old self.new }
+        ensures loans { LendsLess tag self.old self.new }
+    {
+        let offset = self.offset(tag);
+        if tags.active(&mut self.hand) != 0 {
+            return self.give_all_and_ring(tags, tag);
+        }
+        self.keep_at(tag, offset);
+        0
+    }
+
+    /// Gives all kept tags back and then a tag that the user holds, and wakes whom this granted a wakeup.
+    #[inline(never)]
+    fn give_all_and_ring(&mut self, tags: &Tags<R>, tag: u32) -> u32
+        requires cache { IsCacheOf tags.now self.old }
+        requires held { Holds self.old tag }
+        requires ordinary { split_of self.old ≤ tag }
+        ensures cache { IsCacheOf tags.now self.new }
+        ensures gives { GivesWith tags.now tag result self.old (hand_of self.old) (hand_of self.new) }
+        ensures rings { RingsGranted self.old self.new }
+        ensures loans { LendsLess tag self.old self.new }
+        ensures none { KeepsNone self.new }
+        ensures terms { SameTerms self.old self.new }
+        ensures reused { reused_of self.new ≡ reused_of self.old }
+    {
+        let grants = self.give_all(tags, tag);
+        self.ring(tags, grants)
+    }
+
+    /// Clears a tag as `clear_granted` does, and wakes whom this granted a wakeup. It is out of line, so that a clear is
+    /// short where its tag is kept.
+    #[inline(never)]
+    fn clear_and_ring(&mut self, tags: &Tags<R>, tag: u32) -> Result<u32, TagFault>
+        requires { IsCacheOf tags.now self.old }
         ensures cache { IsCacheOf tags.now self.new }
         ensures no_such_tag { (result ≡ Err TagFault.NoSuchTag) ↔ (total_of tags.now ≤ tag) }
         ensures not_held { (result ≡ Err TagFault.NotHeld) ↔ ((tag < total_of tags.now) × ¬ (Holds self.old tag)) }
         ensures succeeds { Holds self.old tag → IsOk result }
         ensures less { OnOk result (HoldsLess (λ other. other ≡ tag) self.old self.new) }
         ensures way { IfOk result (λ woken. Goes tags.now tag woken self.old self.new) }
-        ensures loans { keeping_of self.old ≡ Keeping.WhileHolding → OnOk result (LendsLess tag self.old self.new) }
+        ensures rings { OnOk result (RingsGranted self.old self.new) }
+        ensures loans { LeavesWindow tag self.old → OnOk result (LendsLess tag self.old self.new) }
         ensures tally { OnOk result (Tallies 0 1 self.old self.new) }
         ensures err { OnErr result (IsUnchanged self.old self.new) }
     {
-        Ok(woken_by(tags, self.clear_other(tags, tag)?))
+        let grants = self.clear_granted(tags, tag)?;
+        Ok(self.ring(tags, grants))
+    }
+
+    /// Like `clear`, but wakes no sleeper, and pulls in no code that does. It returns how many waiters it granted a
+    /// wakeup, for callers that wake threads by other means and need not know in which groups. It is refused as `clear`
+    /// is: `NoSuchTag`, `NotHeld`.
+    #[inline(always)]
+    pub fn clear_counted(&mut self, tags: &Tags<R>, tag: u32) -> Result<u32, TagFault>
+        requires { IsCacheOf tags.now self.old }
+        ensures cache { IsCacheOf tags.now self.new }
+        ensures no_such_tag { (result ≡ Err TagFault.NoSuchTag) ↔ (total_of tags.now ≤ tag) }
+        ensures not_held { (result ≡ Err TagFault.NotHeld) ↔ ((tag < total_of tags.now) × ¬ (Holds self.old tag)) }
+        ensures succeeds { Holds self.old tag → IsOk result }
+        ensures less { OnOk result (HoldsLess (λ other. other ≡ tag) self.old self.new) }
+        ensures way { IfOk result (λ woken. Goes tags.now tag woken self.old self.new) }
+        ensures loans { LeavesWindow tag self.old → OnOk result (LendsLess tag self.old self.new) }
+        ensures tally { OnOk result (Tallies 0 1 self.old self.new) }
+        ensures err { OnErr result (IsUnchanged self.old self.new) }
+    {
+        if self.has_place(tag) {
+            return Ok(self.put_and_count(tags, tag));
+        }
+        self.clear_and_count(tags, tag)
+    }
+
+    /// Like `put_and_ring`, but wakes nobody.
+    #[inline(always)]
+    fn put_and_count(&mut self, tags: &Tags<R>, tag: u32) -> u32
+        requires cache { IsCacheOf tags.now self.old }
+        requires place { HasPlace tag self.old }
+        ensures cache { IsCacheOf tags.now self.new }
+        ensures way { GoesOrdinary tags.now tag result self.old self.new }
+        ensures loans { LendsLess tag self.old self.new }
+    {
+        let place = self.offset(tag);
+        if tags.active(&mut self.hand) != 0 {
+            return self.give_all_and_count(tags, tag);
+        }
+        self.keep_at(tag, place);
+        0
+    }
+
+    /// Like `give_all_and_ring`, but wakes nobody.
+    #[inline(never)]
+    fn give_all_and_count(&mut self, tags: &Tags<R>, tag: u32) -> u32
+        requires cache { IsCacheOf tags.now self.old }
+        requires held { Holds self.old tag }
+        ensures cache { IsCacheOf tags.now self.new }
+        ensures gives { GivesWith tags.now tag result self.old (hand_of self.old) (hand_of self.new) }
+        ensures loans { LendsLess tag self.old self.new }
+        ensures none { KeepsNone self.new }
+        ensures terms { SameTerms self.old self.new }
+        ensures reused { reused_of self.new ≡ reused_of self.old }
+    {
+        self.give_all(tags, tag).woken
+    }
+
+    /// Like `clear_and_ring`, but wakes nobody.
+    #[inline(never)]
+    fn clear_and_count(&mut self, tags: &Tags<R>, tag: u32) -> Result<u32, TagFault>
+        requires { IsCacheOf tags.now self.old }
+        ensures cache { IsCacheOf tags.now self.new }
+        ensures no_such_tag { (result ≡ Err TagFault.NoSuchTag) ↔ (total_of tags.now ≤ tag) }
+        ensures not_held { (result ≡ Err TagFault.NotHeld) ↔ ((tag < total_of tags.now) × ¬ (Holds self.old tag)) }
+        ensures succeeds { Holds self.old tag → IsOk result }
+        ensures less { OnOk result (HoldsLess (λ other. other ≡ tag) self.old self.new) }
+        ensures way { IfOk result (λ woken. Goes tags.now tag woken self.old self.new) }
+        ensures loans { LeavesWindow tag self.old → OnOk result (LendsLess tag self.old self.new) }
+        ensures tally { OnOk result (Tallies 0 1 self.old self.new) }
+        ensures err { OnErr result (IsUnchanged self.old self.new) }
+    {
+        let grants = self.clear_granted(tags, tag)?;
+        Ok(grants.woken)
     }
 
     /// Like `clear`, but wakes no sleeper, and pulls in no code that does. It returns how many waiters it granted a
     /// wakeup in each group, and leaves waking them to the caller. It is refused as `clear` is: `NoSuchTag`, `NotHeld`.
-    #[inline(always)]
+    #[inline]
     pub fn clear_granted(&mut self, tags: &Tags<R>, tag: u32) -> Result<Grants, TagFault>
         requires { IsCacheOf tags.now self.old }
         ensures cache { IsCacheOf tags.now self.new }
@@ -72,47 +181,27 @@ impl<R: Copy> Cache<R> {
         ensures less { OnOk result (HoldsLess (λ other. other ≡ tag) self.old self.new) }
         ensures way { IfOk result (λ grants. Goes tags.now tag grants.woken self.old self.new) }
         ensures grants { IfOk result (λ grants. AreGrantsOf grants (group_steps (hand_of self.old)) (group_steps (hand_of self.new))) }
-        ensures loans { keeping_of self.old ≡ Keeping.WhileHolding → OnOk result (LendsLess tag self.old self.new) }
+        ensures loans { LeavesWindow tag self.old → OnOk result (LendsLess tag self.old self.new) }
         ensures tally { OnOk result (Tallies 0 1 self.old self.new) }
         ensures err { OnErr result (IsUnchanged self.old self.new) }
     {
         if self.lends(tag) {
-            return Ok(all_granted(self.put(tags, tag)));
+            return Ok(self.put(tags, tag));
         }
-        self.clear_unlent_granted(tags, tag)
+        self.clear_other(tags, tag)
     }
 
-    /// Clears a tag that the user is not known to hold, and wakes no sleeper. It is out of line, as `clear_unlent` is.
-    #[inline(never)]
-    fn clear_unlent_granted(&mut self, tags: &Tags<R>, tag: u32) -> Result<Grants, TagFault>
-        requires cache { IsCacheOf tags.now self.old }
-        requires unlent { ¬ (IsLent self.old tag) }
-        ensures cache { IsCacheOf tags.now self.new }
-        ensures no_such_tag { (result ≡ Err TagFault.NoSuchTag) ↔ (total_of tags.now ≤ tag) }
-        ensures not_held { (result ≡ Err TagFault.NotHeld) ↔ ((tag < total_of tags.now) × ¬ (Holds self.old tag)) }
-        ensures succeeds { Holds self.old tag → IsOk result }
-        ensures less { OnOk result (HoldsLess (λ other. other ≡ tag) self.old self.new) }
-        ensures way { IfOk result (λ grants. Goes tags.now tag grants.woken self.old self.new) }
-        ensures grants { IfOk result (λ grants. AreGrantsOf grants (group_steps (hand_of self.old)) (group_steps (hand_of self.new))) }
-        ensures loans { keeping_of self.old ≡ Keeping.WhileHolding → OnOk result (LendsLess tag self.old self.new) }
-        ensures tally { OnOk result (Tallies 0 1 self.old self.new) }
-        ensures err { OnErr result (IsUnchanged self.old self.new) }
-    {
-        Ok(all_granted(self.clear_other(tags, tag)?))
-    }
-
-    /// Clears a tag that the user is not known to hold. `None` is no grants, where the tag is kept without another step.
-    #[inline(always)]
-    fn clear_other(&mut self, tags: &Tags<R>, tag: u32) -> Result<Option<Grants>, TagFault>
+    /// Clears a tag that the user is not known to hold.
+    fn clear_other(&mut self, tags: &Tags<R>, tag: u32) -> Result<Grants, TagFault>
         requires cache { IsCacheOf tags.now self.old }
         requires unlent { ¬ (IsLent self.old tag) }
         ensures cache { IsCacheOf tags.now self.new }
         ensures no_such_tag { (result ≡ Err TagFault.NoSuchTag) ↔ (total_of tags.now ≤ tag) }
         ensures not_held { (result ≡ Err TagFault.NotHeld) ↔ ((tag < total_of tags.now) × ¬ (Holds self.old tag)) }
         ensures succeeds { IsOk result ↔ Holds self.old tag }
-        ensures way { IfOk result (λ grants. Goes tags.now tag (woken_in grants) self.old self.new) }
-        ensures grants { IfOk result (λ grants. AreGranted grants (group_steps (hand_of self.old)) (group_steps (hand_of self.new))) }
-        ensures loans { keeping_of self.old ≡ Keeping.WhileHolding → OnOk result (LendsLess tag self.old self.new) }
+        ensures way { IfOk result (λ grants. Goes tags.now tag grants.woken self.old self.new) }
+        ensures grants { IfOk result (λ grants. AreGrantsOf grants (group_steps (hand_of self.old)) (group_steps (hand_of self.new))) }
+        ensures loans { LeavesWindow tag self.old → OnOk result (LendsLess tag self.old self.new) }
         ensures err { OnErr result (IsUnchanged self.old self.new) }
     {
         let kind = tags.find_held(&self.hand, tag)?;
@@ -121,48 +210,46 @@ impl<R: Copy> Cache<R> {
         }
         match kind {
             Kind::Ordinary => Ok(self.put_other(tags, tag)),
-            Kind::Reserved => Ok(Some(self.give(tags, tag))),
+            Kind::Reserved => Ok(self.give(tags, tag)),
         }
     }
 
     /// Keeps an ordinary tag that the user is not known to hold, or gives it back.
     #[inline(always)]
-    fn put_other(&mut self, tags: &Tags<R>, tag: u32) -> Option<Grants>
+    fn put_other(&mut self, tags: &Tags<R>, tag: u32) -> Grants
         requires cache { IsCacheOf tags.now self.old }
         requires held { Holds self.old tag }
         requires ordinary { split_of self.old ≤ tag }
         ensures cache { IsCacheOf tags.now self.new }
-        ensures way { GoesOrdinary tags.now tag (woken_in result) self.old self.new }
-        ensures grants { AreGranted result (group_steps (hand_of self.old)) (group_steps (hand_of self.new)) }
-        ensures loans { keeping_of self.old ≡ Keeping.WhileHolding → LendsLess tag self.old self.new }
+        ensures way { GoesOrdinary tags.now tag result.woken self.old self.new }
+        ensures grants { AreGrantsOf result (group_steps (hand_of self.old)) (group_steps (hand_of self.new)) }
+        ensures loans { LeavesWindow tag self.old → LendsLess tag self.old self.new }
     {
         self.follow(tag);
         self.put(tags, tag)
     }
 
-    /// Keeps an ordinary tag that the user holds, or gives it back. `None` is no grants, where the tag is kept without
-    /// another step.
-    #[inline(always)]
-    fn put(&mut self, tags: &Tags<R>, tag: u32) -> Option<Grants>
+    /// Keeps an ordinary tag that the user holds, or gives it back.
+    fn put(&mut self, tags: &Tags<R>, tag: u32) -> Grants
         requires cache { IsCacheOf tags.now self.old }
         requires held { Holds self.old tag }
         requires ordinary { split_of self.old ≤ tag }
         requires aimed { IsWithin self.old tag ⊎ IsFixed self.old }
         ensures cache { IsCacheOf tags.now self.new }
-        ensures way { GoesOrdinary tags.now tag (woken_in result) self.old self.new }
-        ensures grants { AreGranted result (group_steps (hand_of self.old)) (group_steps (hand_of self.new)) }
-        ensures loans { keeping_of self.old ≡ Keeping.WhileHolding → LendsLess tag self.old self.new }
+        ensures way { GoesOrdinary tags.now tag result.woken self.old self.new }
+        ensures grants { AreGrantsOf result (group_steps (hand_of self.old)) (group_steps (hand_of self.new)) }
+        ensures loans { LeavesWindow tag self.old → LendsLess tag self.old self.new }
     {
         if tags.active(&mut self.hand) != 0 {
-            return Some(self.give_all(tags, tag));
+            return self.give_all(tags, tag);
         }
         if self.is_last(tag) {
-            return Some(self.give_all(tags, tag));
+            return self.give_all(tags, tag);
         }
         if self.keep(tag) {
-            return None;
+            return NO_GRANTS;
         }
-        Some(self.make_room(tags, tag))
+        self.make_room(tags, tag)
     }
 
     /// Gives all kept tags back and keeps this one instead of them, or gives it back alone if it may not be kept.
@@ -175,7 +262,7 @@ impl<R: Copy> Cache<R> {
         ensures cache { IsCacheOf tags.now self.new }
         ensures way { MakesRoom tags.now tag result.woken self.old self.new }
         ensures grants { AreGrantsOf result (group_steps (hand_of self.old)) (group_steps (hand_of self.new)) }
-        ensures loans { keeping_of self.old ≡ Keeping.WhileHolding → LendsLess tag self.old self.new }
+        ensures loans { LeavesWindow tag self.old → LendsLess tag self.old self.new }
     {
         if !self.can_keep(tag) {
             return self.give_alone(tags, tag);
@@ -234,28 +321,5 @@ impl<R: Copy> Cache<R> {
         ensures few { result.woken ≤ 8 }
     {
         tags.clear_held(&mut self.hand, tag)
-    }
-}
-
-/// Wakes sleepers for grants, where there are any, and returns how many wakeups were granted.
-#[inline(always)]
-fn woken_by<R: Copy>(tags: &Tags<R>, grants: Option<Grants>) -> u32
-    ensures { result ≡ woken_in grants }
-{
-    match grants {
-        None => 0,
-        Some(grants) => tags.ring(grants),
-    }
-}
-
-/// Returns the grants, or none where there are none.
-#[inline(always)]
-fn all_granted(grants: Option<Grants>) -> Grants
-    ensures woken { result.woken ≡ woken_in grants }
-    ensures grants { (old new : List GroupStep) → AreGranted grants old new → AreGrantsOf result old new }
-{
-    match grants {
-        None => NO_GRANTS,
-        Some(grants) => grants,
     }
 }

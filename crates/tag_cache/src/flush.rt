@@ -1,10 +1,12 @@
 //! Kept tags are given back.
 ghost use Rattle.std.specs.Prelude.{◌≡◌, ◌≤◌};
 ghost use Rattle.wake_book.specs.Grants.{AreGrantsOf};
-ghost use Rattle.tag_sets.specs.Hands.{IsHandOf, group_steps};
+ghost use Rattle.tag_sets.specs.Hands.{IsHandOf, waiter_of, group_steps};
+ghost use Rattle.wake_book.specs.Groups as waiters;
 ghost use Rattle.tag_cache.specs.Caches.{IsCacheOf, KeepsNone, hand_of, reused_of};
 ghost use Rattle.tag_cache.specs.Changes.{SameTerms, SameWindow};
 ghost use Rattle.tag_cache.specs.Holding.{HoldsSame, IsLeftWith};
+ghost use Rattle.tag_cache.specs.Rings.{RingsGranted};
 ghost use Rattle.tag_cache.specs.Tallies.{Tallies};
 ghost use Rattle.tag_cache.specs.Clears.{GivesKept};
 
@@ -22,6 +24,7 @@ impl<R: Copy> Cache<R> {
         ensures same { HoldsSame self.old self.new }
         ensures none { KeepsNone self.new }
         ensures gives { GivesKept tags.now result self.old (hand_of self.old) (hand_of self.new) }
+        ensures rings { RingsGranted self.old self.new }
         ensures tally { Tallies 0 0 self.old self.new }
         ensures terms { SameTerms self.old self.new }
         ensures reused { reused_of self.new ≡ reused_of self.old }
@@ -29,7 +32,7 @@ impl<R: Copy> Cache<R> {
         ensures few { result ≤ 8 }
     {
         let grants = self.flush_granted(tags);
-        tags.ring(grants)
+        self.ring(tags, grants)
     }
 
     /// Like `flush`, but wakes no sleeper, and pulls in no code that does. It returns how many waiters it granted a
@@ -73,14 +76,16 @@ impl<R: Copy> Cache<R> {
 
     /// Gives all kept tags back, as `flush` does. Returns the hand, which holds what the user holds, and how many waiters
     /// this woke.
-    pub fn into_hand(self, tags: &Tags<R>) -> (Hand<R>, u32)
+    pub fn into_hand(mut self, tags: &Tags<R>) -> (Hand<R>, u32)
         requires { IsCacheOf tags.now self }
         ensures hand { IsHandOf tags.now result.0 }
         ensures left { IsLeftWith self result.0 }
         ensures gives { GivesKept tags.now result.1 self (hand_of self) result.0 }
+        ensures rings { waiters.RingsGranted (waiter_of (hand_of self)) (waiter_of result.0) }
     {
-        let (hand, grants) = self.into_hand_granted(tags);
-        (hand, tags.ring(grants))
+        let woken = self.flush(tags);
+        let Cache { hand, .. } = self;
+        (hand, woken)
     }
 
     /// Like `into_hand`, but wakes no sleeper, and pulls in no code that does. It returns how many waiters it granted a

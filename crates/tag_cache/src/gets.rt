@@ -1,6 +1,7 @@
 //! Gets: the calls that take tags.
 ghost use Rattle.std.specs.Prelude.{◌≡◌, ℕ, ◌<◌, ◌≤◌, ◌↔◌, IfOk, IfErr, IsOk, IsSome, OnOk, OnErr, None};
 ghost use Rattle.tag_sets.specs.Hands.{HasRoom, reserved_of, standing_of, total_of};
+ghost use Rattle.tag_sets.specs.Freed.{GetsAndLooks};
 ghost use Rattle.tag_sets.specs.Gets as hands;
 ghost use Rattle.tag_sets.specs.Waits as hand_waits;
 ghost use Rattle.tag_sets.specs.Gets.{IsAnswer, IsOrdinaryTag};
@@ -17,7 +18,7 @@ use tag_sets::{TagFault, Tags};
 
 impl<R: Copy> Cache<R> {
     /// Returns the least kept tag, by no step. If no tag is kept it takes a free ordinary tag as `Tags::get` does, and
-    /// `Spent` means that the hand's life is used up.
+    /// looks for sleepers as that does. `Spent` means that the hand's life is used up.
     #[inline(always)]
     pub fn get(&mut self, tags: &Tags<R>) -> Result<Option<u32>, TagFault>
         requires { IsCacheOf tags.now self.old }
@@ -40,7 +41,7 @@ impl<R: Copy> Cache<R> {
         requires { IsCacheOf tags.now self.old }
         ensures cache { IsCacheOf tags.now self.new }
         ensures room { IsOk result ↔ HasRoom (hand_of self.old) Ordinary 1 }
-        ensures gets { IfOk result (λ answer. hands.Gets tags.now answer (hand_of self.old) (hand_of self.new)) }
+        ensures gets { IfOk result (λ answer. GetsAndLooks (hands.Gets tags.now answer) (hand_of self.old) (hand_of self.new)) }
         ensures kept { KeepsSame self.old self.new }
         ensures loans { KeepsNone self.old → IfOk result (λ answer. LendsAnswer answer self.old self.new) }
         ensures err { IfErr result (λ fault. (fault ≡ TagFault.Spent) × IsUnchanged self.old self.new) }

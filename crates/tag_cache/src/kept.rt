@@ -1,7 +1,7 @@
 //! Which tags are kept.
-ghost use Rattle.std.specs.Prelude.{◌≡◌, ◌⊎◌, ◌<◌, ◌≤◌, ◌^◌, ◌↔◌, IsTrue, MatchOption};
-ghost use Rattle.tag_cache.specs.Caches.{IsKept, IsWithin, IsFixed, IsLast, KeepsNone, KeepsWithCare, CanBeKept, Holds, most_of, count_of, split_of, keeping_of, hand_of};
-ghost use Rattle.tag_cache.specs.Changes.{Pops, Reuses, MayKeep, KeepsOnly, LendsLess};
+ghost use Rattle.std.specs.Prelude.{◌≡◌, ◌+◌, ◌⊎◌, ◌<◌, ◌≤◌, ◌^◌, ◌↔◌, IsTrue, MatchOption};
+ghost use Rattle.tag_cache.specs.Caches.{IsKept, IsWithin, IsFixed, IsLast, HasPlace, KeepsNone, KeepsWithCare, LeavesWindow, CanBeKept, Holds, most_of, count_of, split_of, hand_of};
+ghost use Rattle.tag_cache.specs.Changes.{Pops, Reuses, Keeps, MayKeep, KeepsOnly, LendsLess};
 
 use crate::cache::{Cache, MOST_REUSED, WINDOW};
 use crate::keeping::Keeping;
@@ -81,7 +81,7 @@ impl<R> Cache<R> {
         requires other { ¬ (IsLast tag self.old) }
         ensures hand { hand_of self.new ≡ hand_of self.old }
         ensures only { KeepsOnly tag self.old self.new }
-        ensures loans { keeping_of self.old ≡ Keeping.WhileHolding → LendsLess tag self.old self.new }
+        ensures loans { LeavesWindow tag self.old → LendsLess tag self.old self.new }
     {
         self.follow(tag);
         let _ = self.keep(tag);
@@ -109,5 +109,33 @@ impl<R> Cache<R> {
         self.lent = self.lent_without(tag);
         self.kept |= 1 << offset;
         true
+    }
+
+    /// Returns whether a clear keeps the tag if nobody waits: the user is known to hold it, and there is a place for it.
+    #[inline(always)]
+    pub(crate) fn has_place(&self, tag: u32) -> bool
+        ensures { IsTrue result ↔ HasPlace tag self.now }
+    {
+        if !self.lends(tag) {
+            return false;
+        }
+        if self.most <= self.count() {
+            return false;
+        }
+        if self.reused >= MOST_REUSED {
+            return false;
+        }
+        !self.is_last(tag)
+    }
+
+    /// Keeps a tag that has a place, this far behind the first tag of the window.
+    #[inline(always)]
+    pub(crate) fn keep_at(&mut self, tag: u32, offset: u32)
+        requires place { HasPlace tag self.old }
+        requires offset { self.old.first + offset ≡ tag }
+        ensures { Keeps tag self.old self.new }
+    {
+        self.lent &= !(1 << offset);
+        self.kept |= 1 << offset;
     }
 }

@@ -37,6 +37,6 @@ impl<R: Copy> Cache<R> {
         ensures kept { KeepsSame self.old self.new }
         ensures window { SameWindow self.old self.new }
     {
-        tags.write_held(&mut self.hand, tag, value)
+        tags.write_ordinary_held(&mut self.hand, tag, value)
     }
 }

@@ -7,8 +7,9 @@ ghost use Rattle.tag_sets.specs.Hands.{group_steps};
 ghost use Rattle.tag_cache.specs.Windows.{IsIn};
 ghost use Rattle.tag_cache.specs.Batches.{ListGoes};
 ghost use Rattle.tag_cache.specs.Caches.{IsCacheOf, IsWithin, IsLent, Holds, hand_of};
-ghost use Rattle.tag_cache.specs.Changes.{IsUnchanged};
+ghost use Rattle.tag_cache.specs.Changes.{IsUnchanged, LendsNoneOf};
 ghost use Rattle.tag_cache.specs.Holding.{HoldsLess};
+ghost use Rattle.tag_cache.specs.Rings.{RingsGranted};
 ghost use Rattle.tag_cache.specs.Tallies.{Tallies};
 
 use crate::cache::{Cache, WINDOW};
@@ -34,11 +35,13 @@ impl<R: Copy> Cache<R> {
             ↔ ((1 ≤ mask) × AreOrdinary tags.now (tags_in first mask) × All (Holds self.old) (tags_in first mask)) }
         ensures less { OnOk result (HoldsLess (Contains (tags_in first mask)) self.old self.new) }
         ensures way { IfOk result (λ woken. ListGoes tags.now (tags_in first mask) woken self.old self.new) }
+        ensures rings { OnOk result (RingsGranted self.old self.new) }
+        ensures loans { OnOk result (LendsNoneOf (tags_in first mask) self.old self.new) }
         ensures tally { OnOk result (Tallies 0 (count_ones mask) self.old self.new) }
         ensures err { OnErr result (IsUnchanged self.old self.new) }
     {
         let grants = self.clear_mask_granted(tags, first, mask)?;
-        Ok(tags.ring(grants))
+        Ok(self.ring(tags, grants))
     }
 
     /// Like `clear_mask`, but wakes no sleeper, and pulls in no code that does. It returns how many waiters it granted a
@@ -63,6 +66,7 @@ impl<R: Copy> Cache<R> {
         ensures less { OnOk result (HoldsLess (Contains (tags_in first mask)) self.old self.new) }
         ensures way { IfOk result (λ grants. ListGoes tags.now (tags_in first mask) grants.woken self.old self.new) }
         ensures grants { IfOk result (λ grants. AreGrantsOf grants (group_steps (hand_of self.old)) (group_steps (hand_of self.new))) }
+        ensures loans { OnOk result (LendsNoneOf (tags_in first mask) self.old self.new) }
         ensures tally { OnOk result (Tallies 0 (count_ones mask) self.old self.new) }
         ensures err { OnErr result (IsUnchanged self.old self.new) }
     {
@@ -98,6 +102,7 @@ impl<R: Copy> Cache<R> {
         ensures cache { IsCacheOf tags.now self.new }
         ensures way { ListGoes tags.now (tags_in first mask) result.woken self.old self.new }
         ensures grants { AreGrantsOf result (group_steps (hand_of self.old)) (group_steps (hand_of self.new)) }
+        ensures loans { LendsNoneOf (tags_in first mask) self.old self.new }
     {
         let left = self.lent_outside(first, mask);
         let sooner = self.go_before(tags, left);

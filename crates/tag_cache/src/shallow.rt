@@ -2,6 +2,7 @@
 ghost use Rattle.std.specs.Prelude.{◌≡◌, ◌<◌, ◌≤◌, ◌↔◌, IfOk, IsOk, OnErr};
 ghost use Rattle.tag_sets.specs.declared.kind.Kind.TheVariants.{Ordinary};
 ghost use Rattle.tag_sets.specs.Hands.{HasRoom, least_of};
+ghost use Rattle.tag_sets.specs.Freed.{GetsAndLooks};
 ghost use Rattle.tag_sets.specs.Gets as hands;
 ghost use Rattle.tag_sets.specs.Gets.{IsAnswer};
 ghost use Rattle.tag_cache.specs.Caches.{IsCacheOf, hand_of};
@@ -25,7 +26,7 @@ impl<R: Copy> Cache<R> {
         ensures spent { (result ≡ Err TagFault.Spent)
             ↔ ((least_of tags.now ≤ depth) × ¬ (HasRoom (hand_of self.old) Ordinary 1)) }
         ensures succeeds { IsOk result ↔ ((least_of tags.now ≤ depth) × HasRoom (hand_of self.old) Ordinary 1) }
-        ensures gets { IfOk result (λ answer. hands.GetsShallow tags.now depth answer (hand_of self.old) (hand_of self.new)) }
+        ensures gets { IfOk result (λ answer. GetsAndLooks (hands.GetsShallow tags.now depth answer) (hand_of self.old) (hand_of self.new)) }
         ensures more { IfOk result (λ answer. HoldsMore (IsAnswer answer) self.old self.new) }
         ensures kept { KeepsSame self.old self.new }
         ensures window { SameWindow self.old self.new }

@@ -8,6 +8,7 @@ ghost use Rattle.tag_cache.specs.Caches.{IsCacheOf, IsLast, IsLent, KeepsNone, H
 ghost use Rattle.tag_cache.specs.Changes.{IsUnchanged, KeepsSame, SameHand, SameTerms, SameWindow, LendsLess};
 ghost use Rattle.tag_cache.specs.Clears.{GivesKept};
 ghost use Rattle.tag_cache.specs.Holding.{HoldsLess, HoldsMore, HoldsSame, Writes};
+ghost use Rattle.tag_cache.specs.Rings.{RingsGranted};
 ghost use Rattle.tag_cache.specs.Slots.{PostsLast};
 ghost use Rattle.tag_cache.specs.Tallies.{Tallies};
 
@@ -60,10 +61,38 @@ impl<R: Copy> Cache<R> {
         if self.lends(tag) {
             return Ok(self.write_lent(tags, tag, value));
         }
+        self.check_unlent(tags, tag)?;
+        Ok(self.write_unlent(tags, tag, value))
+    }
+
+    /// Checks that the user holds a tag that it is not known to hold. It is out of line, so that other writes are short.
+    #[inline(never)]
+    fn check_unlent(&self, tags: &Tags<R>, tag: u32) -> Result<(), TagFault>
+        requires { IsCacheOf tags.now self.now }
+        ensures no_such_tag { (result ≡ Err TagFault.NoSuchTag) ↔ (total_of tags.now ≤ tag) }
+        ensures not_held { (result ≡ Err TagFault.NotHeld) ↔ ((tag < total_of tags.now) × ¬ (Holds self.now tag)) }
+        ensures succeeds { IsOk result ↔ Holds self.now tag }
+    {
+        let _ = tags.find_held(&self.hand, tag)?;
         if self.keeps(tag) {
             return Err(TagFault::NotHeld);
         }
-        tags.write(&mut self.hand, tag, value)
+        Ok(())
+    }
+
+    /// Writes the slot of a tag that the user holds, and returns its former value.
+    #[inline(never)]
+    fn write_unlent(&mut self, tags: &Tags<R>, tag: u32, value: R) -> R
+        requires cache { IsCacheOf tags.now self.old }
+        requires held { Holds self.old tag }
+        ensures cache { IsCacheOf tags.now self.new }
+        ensures former { slot_of self.old tag ≡ some result }
+        ensures writes { Writes tag value self.old self.new }
+        ensures hand { hands.Writes tag value (hand_of self.old) (hand_of self.new) }
+        ensures kept { KeepsSame self.old self.new }
+        ensures window { SameWindow self.old self.new }
+    {
+        tags.write_held(&mut self.hand, tag, value)
     }
 
     /// Gives up a tag that the user holds with its slot, so that another thread can `take` it. If tags are kept only
@@ -85,11 +114,14 @@ impl<R: Copy> Cache<R> {
         ensures terms { SameTerms self.old self.new }
         ensures loans { OnOk result (LendsLess tag self.old self.new) }
         ensures tally { Tallies 0 0 self.old self.new }
+        ensures rings { OnOk result (RingsGranted self.old self.new) }
         ensures err { OnErr result (IsUnchanged self.old self.new) }
     {
-        let grants = self.post_granted(tags, tag)?;
-        tags.ring(grants);
-        Ok(())
+        if self.lends(tag) {
+            self.post_lent_and_ring(tags, tag);
+            return Ok(());
+        }
+        self.post_other(tags, tag)
     }
 
     /// Like `post`, but wakes no sleeper, and pulls in no code that does. It returns how many waiters the kept tags that
@@ -145,6 +177,26 @@ impl<R: Copy> Cache<R> {
         tags.post(&mut self.hand, tag)
     }
 
+    /// Gives up a tag that the user is known to hold, and wakes whom the kept tags granted a wakeup before it leaves.
+    fn post_lent_and_ring(&mut self, tags: &Tags<R>, tag: u32)
+        requires cache { IsCacheOf tags.now self.old }
+        requires lent { IsLent self.old tag }
+        ensures cache { IsCacheOf tags.now self.new }
+        ensures less { HoldsLess (λ other. other ≡ tag) self.old self.new }
+        ensures kept { ¬ (IsLast tag self.old) → KeepsSame self.old self.new }
+        ensures posts { ¬ (IsLast tag self.old) → hands.Posts tag (hand_of self.old) (hand_of self.new) }
+        ensures last { IsLast tag self.old → KeepsNone self.new }
+        ensures flushes { IsLast tag self.old → (woken : ℕ) × PostsLast tags.now tag woken self.old self.new }
+        ensures rings { RingsGranted self.old self.new }
+        ensures terms { SameTerms self.old self.new }
+        ensures loans { LendsLess tag self.old self.new }
+        ensures tally { Tallies 0 0 self.old self.new }
+    {
+        let grants = self.release(tags, tag);
+        self.ring(tags, grants);
+        self.post_released(tags, tag);
+    }
+
     /// Gives up a tag that the user is known to hold.
     fn post_lent(&mut self, tags: &Tags<R>, tag: u32) -> Grants
         requires cache { IsCacheOf tags.now self.old }
@@ -161,10 +213,25 @@ impl<R: Copy> Cache<R> {
         ensures tally { Tallies 0 0 self.old self.new }
     {
         let grants = self.release(tags, tag);
+        self.post_released(tags, tag);
+        grants
+    }
+
+    /// Gives up a tag that the user holds, but is not known to.
+    fn post_released(&mut self, tags: &Tags<R>, tag: u32)
+        requires cache { IsCacheOf tags.now self.old }
+        requires held { Holds self.old tag }
+        requires unlent { ¬ (IsLent self.old tag) }
+        ensures cache { IsCacheOf tags.now self.new }
+        ensures less { HoldsLess (λ other. other ≡ tag) self.old self.new }
+        ensures posts { hands.Posts tag (hand_of self.old) (hand_of self.new) }
+        ensures kept { KeepsSame self.old self.new }
+        ensures window { SameWindow self.old self.new }
+        ensures tally { Tallies 0 0 self.old self.new }
+    {
         let Ok(()) = tags.post(&mut self.hand, tag) else {
             unreachable!()
         };
-        grants
     }
 
     /// Says that it is no longer known that the user holds the tag, which is about to leave. If it is the last, all kept

@@ -1,5 +1,5 @@
 //! Waits for an ordinary tag. A thread that begins to wait keeps nothing.
-ghost use Rattle.std.specs.Prelude.{◌≡◌, ◌↔◌, IfOk, IfErr, IfSome, IfNone, IsOk, IsSome, None};
+ghost use Rattle.std.specs.Prelude.{◌≡◌, ◌↔◌, IfOk, IfErr, IfSome, IfNone, IsOk, IsSome, OnOk, None};
 ghost use Rattle.wake_book.specs.Grants.{AreGrantsOf};
 ghost use Rattle.tag_sets.specs.Hands.{standing_of, wait_index_of, group_steps};
 ghost use Rattle.tag_sets.specs.Waits as hands;
@@ -7,6 +7,7 @@ ghost use Rattle.tag_sets.specs.Waits.{Leaves, StandsOn};
 ghost use Rattle.tag_cache.specs.Caches.{IsCacheOf, hand_of};
 ghost use Rattle.tag_cache.specs.Changes.{IsUnchanged, SameTerms, SameWindow};
 ghost use Rattle.tag_cache.specs.Holding.{HoldsSame};
+ghost use Rattle.tag_cache.specs.Rings.{RingsGranted};
 ghost use Rattle.tag_cache.specs.Same.{SameTags};
 ghost use Rattle.tag_cache.specs.Tallies.{Tallies};
 ghost use Rattle.tag_cache.specs.Waits.{Enters};
@@ -23,6 +24,7 @@ impl<R: Copy> Cache<R> {
         ensures cache { IsCacheOf tags.now self.new }
         ensures out { IsOk result ↔ (standing_of (hand_of self.old) ≡ None) }
         ensures enters { IfOk result (λ group. Enters tags.now group self.old self.new) }
+        ensures rings { OnOk result (RingsGranted self.old self.new) }
         ensures same { HoldsSame self.old self.new }
         ensures tally { Tallies 0 0 self.old self.new }
         ensures terms { SameTerms self.old self.new }
@@ -30,7 +32,7 @@ impl<R: Copy> Cache<R> {
         ensures err { IfErr result (λ fault. (fault ≡ TagFault.Waiting) × IsUnchanged self.old self.new) }
     {
         let (group, grants) = self.prepare_wait_granted(tags)?;
-        tags.ring(grants);
+        self.ring(tags, grants);
         Ok(group)
     }
 

@@ -1,7 +1,7 @@
 //! The window: its place, and which of its tags the user is known to hold.
 ghost use Rattle.std.specs.Prelude.{◌≡◌, ◌≢◌, ◌⊎◌, ℕ, ◌+◌, ◌^◌, ◌<◌, ◌≤◌, ◌↔◌, IsTrue};
 ghost use Rattle.tag_cache.specs.Windows.{IsIn};
-ghost use Rattle.tag_cache.specs.Caches.{IsLent, IsWithin, IsFixed, IsLast, KeepsNone, Holds, split_of, keeping_of};
+ghost use Rattle.tag_cache.specs.Caches.{IsLent, IsWithin, IsFixed, IsLast, KeepsNone, LeavesWindow, Holds, split_of};
 ghost use Rattle.tag_cache.specs.Changes.{SameHand, Lends, Forgets};
 
 use crate::cache::{Cache, WINDOW};
@@ -89,7 +89,7 @@ impl<R> Cache<R> {
         ensures same { SameHand self.old self.new }
         ensures aimed { IsWithin self.new tag ⊎ ((self.new ≡ self.old) × IsFixed self.old) }
         ensures moved { KeepsNone self.old ⊎ (self.new ≡ self.old) }
-        ensures careful { keeping_of self.old ≡ Keeping.WhileHolding → self.new ≡ self.old }
+        ensures still { LeavesWindow tag self.old → self.new ≡ self.old }
     {
         match self.keeping {
             Keeping::Always => self.aim(tag),

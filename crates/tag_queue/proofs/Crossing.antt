@@ -4,8 +4,9 @@ use denote.RattleType.{RattleType}
 use denote.Param.Send.{IsSend, IsSync, recorded_send, struct_send, recorded_sync, struct_sync, sendable}
 use denote.Struct.Declared.{shape as fields_of}
 use Rattle.std.proofs.Crossing.{crosses}
+use Rattle.tag_core.specs.contracts.caller.Caller as caller
 use Rattle.tag_core.proofs.Crossing.{caller_field_send, map_field_send, map_field_sync}
-use Rattle.wake_book.proofs.Crossing.{teller_field_send, waiter_field_send}
+use Rattle.wake_book.proofs.Crossing.{teller_field_send, waiter_field_send, sighting_field_send, announcement_field_send}
 use Rattle.wake_book.proofs.Crossing.{book_field_send, book_field_sync, groups_field_send, groups_field_sync}
 use Rattle.tag_queue.specs.contracts.agent.Agent as agent
 use Rattle.tag_queue.specs.contracts.queue.Queue as queue
@@ -13,7 +14,19 @@ use Rattle.tag_queue.specs.contracts.queue.Queue as queue
 pub agent_field_send : (R : RattleType) → IsSend R → IsSend (agent.the_field R).row
 agent_field_send R value = struct_send (fields_of (agent.the_type R)) (
   search (sendable, crosses) depth 40,
-  (search (sendable, crosses) depth 40, (teller_field_send, (waiter_field_send, (caller_field_send R value, tt)))),
+  (
+    search (sendable, crosses) depth 40,
+    (
+      teller_field_send,
+      (
+        waiter_field_send,
+        (
+          sighting_field_send (caller.the_row R),
+          (announcement_field_send (caller.the_row R), (caller_field_send R value, tt)),
+        ),
+      ),
+    ),
+  ),
 )
 
 -- an agent may go to another thread

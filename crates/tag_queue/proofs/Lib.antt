@@ -1,4 +1,6 @@
 pub mod Getting
+pub mod SameParts
+pub mod Looking
 pub mod Rounds
 pub mod Giving
 pub mod RunTags
@@ -7,6 +9,7 @@ pub mod MaskHolds
 pub mod MaskGives
 pub mod SoFar
 pub mod Counting
+pub mod Ringing
 pub mod PassedOn
 pub mod Fronts
 pub mod Gathering

@@ -26,7 +26,7 @@ use Rattle.wake_book.specs.Charges.{added}
 use Rattle.wake_book.specs.Waits.{moved_by}
 use Rattle.tag_queue.specs.declared.agent.Agent.{Agent}
 use Rattle.tag_queue.specs.Agents.{caller_of, teller_of, waiter_of}
-use Rattle.tag_queue.specs.Parts.{FitTogether, AreParts}
+use Rattle.tag_queue.specs.Parts.{FitTogether, AreParts, HaveNoSteps}
 
 fresh_length : (T : Type 0) (c n : ℕ) → length (fresh {T = T} c n) ≡ n
 fresh_length T c zero = refl
@@ -58,6 +58,12 @@ there (y ∷ xs) (suc i) x e = let h = there xs i x e in omega arith
 -- what holds of all images holds of the image of each entry
 all-map : {A B : Type 0} (P : B → Type 0) (f : A → B) (xs : List A) → All P (map f xs) → All (λ x. P (f x)) xs
 all-map P f xs h k d l = subst P (get_or-map f xs k d (f d) l) (h k (f d) (let z = length-map xs f in omega arith))
+
+-- new waiters have made no step
+pub none_stepped : (s : Groups) (waiters : List Waiter) (count : ℕ) → groups.AreOpenGroups count s waiters
+    → HaveNoSteps waiters
+none_stepped s waiters count new n w e =
+    ap (λ (r : Record GroupStep). r.steps) (member_is groups.record_of waiters count n w new.fresh_all e)
 
 module _ {R : Type 0} where
   -- the parts of a new queue fit together

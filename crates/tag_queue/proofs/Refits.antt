@@ -98,7 +98,7 @@ module _ {R : Type 0} where
     shell_same : (n : ℕ) (a b : Agent R) → get_elem? agents n ≡ some a → get_elem? news n ≡ some b
         → shell_of b ≡ shell_of a
     shell_same n a b p q = some-injective (shell_of b) (shell_of a)
-        (sym (at_map shell_of news n b q) ∙ ap (λ (l : List Shell). get_elem? l n) shells
+        (sym (at_map shell_of news n b q) ∙ ap (λ (l : List (Shell R)). get_elem? l n) shells
         ∙ at_map shell_of agents n a p)
 
     -- agents whose callers are unchanged are unchanged
@@ -111,32 +111,32 @@ module _ {R : Type 0} where
           (subst (λ (l : List (Caller R)). get_elem? l n ≡ some b.caller) is (at_map caller_of news n b q)) in
           let shell = shell_same n a b p q in
           agent_same a b one (
-            ap (λ (s : Shell). s.hint) shell,
-            (ap (λ (s : Shell). s.teller) shell, ap (λ (s : Shell). s.waiter) shell),
+            ap (λ (s : Shell R). s.hint) shell,
+            (ap (λ (s : Shell R). s.teller) shell, ap (λ (s : Shell R). s.waiter) shell),
           );
     }
 
-  of_shells : {B : Type 0} (f : Shell → B) (agents : List (Agent R))
+  of_shells : {B : Type 0} (f : Shell R → B) (agents : List (Agent R))
       → map f (map shell_of agents) ≡ map (λ (a : Agent R). f (shell_of a)) agents
   of_shells f [] = refl
   of_shells {B} f (a ∷ agents) = ap (λ (l : List B). f (shell_of a) ∷ l) (of_shells f agents)
 
   module _ (agents news : List (Agent R)) (shells : map shell_of news ≡ map shell_of agents) where
-    part_same : {B : Type 0} (f : Shell → B)
+    part_same : {B : Type 0} (f : Shell R → B)
         → map (λ (a : Agent R). f (shell_of a)) news ≡ map (λ (a : Agent R). f (shell_of a)) agents
     part_same f = sym (of_shells f news) ∙ ap (map f) shells ∙ of_shells f agents
 
     pub tellers_same : map teller_of news ≡ map teller_of agents
-    tellers_same = part_same (λ (s : Shell). s.teller)
+    tellers_same = part_same (λ (s : Shell R). s.teller)
 
     pub waiters_same : map waiter_of news ≡ map waiter_of agents
-    waiters_same = part_same (λ (s : Shell). s.waiter)
+    waiters_same = part_same (λ (s : Shell R). s.waiter)
 
     pub hints_same : map hint_of news ≡ map hint_of agents
-    hints_same = part_same (λ (s : Shell). s.hint)
+    hints_same = part_same (λ (s : Shell R). s.hint)
 
     pub numbers_same : numbers_of news ≡ numbers_of agents
-    numbers_same = part_same (λ (s : Shell). s.number)
+    numbers_same = part_same (λ (s : Shell R). s.number)
 
     -- the agents belong to a queue if their callers belong to its map, and its book and groups are the same as before
     pub own_again : (queue : Queue R) (m : Map R) (b : Book) (s : Groups) (callers : List (Caller R))
@@ -215,7 +215,7 @@ module _ {R : Type 0} (queue : Queue R) where
 
 module _ {R : Type 0} (queue : Queue R) (agents : List (Agent R)) (own : All (IsAgentOf queue) agents)
     (seen callers : List (Caller R))
-    (shells : List Shell) (apart : seen ≡ map caller_of agents) (left : shells ≡ map shell_of agents) where
+    (shells : List (Shell R)) (apart : seen ≡ map caller_of agents) (left : shells ≡ map shell_of agents) where
   module _ (layout : Layout) (next : Map R) (on : MoveOn layout queue.map seen next callers) where
     on_here : MoveOn layout queue.map (map caller_of agents) next callers
     on_here = subst (λ (z : List (Caller R)). MoveOn layout queue.map z next callers) apart on

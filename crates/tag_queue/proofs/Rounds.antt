@@ -1,6 +1,6 @@
 -- What the rounds of a blocking get say of its searches, and which group a waiter leaves.
 use Rattle.std.proofs.Common.{◌≡◌, ℕ, zero, suc, Some, None, inl, inr, arith, sym, ap, ◌∙◌, subst}
-use Rattle.std.specs.Prelude.{◌⊎◌}
+use Rattle.std.specs.Prelude.{◌⊎◌, Option}
 use Rattle.std.proofs.lemmas.Option.{same_Some}
 use Rattle.tag_layout.specs.Layout.{Layout}
 use Rattle.tag_core.specs.declared.caller.Caller.{Caller}
@@ -14,8 +14,9 @@ use Rattle.wake_book.specs.Groups.{LeavesAs}
 use Rattle.wake_book.specs.Walks.{IsLeave}
 use Rattle.tag_queue.specs.declared.agent.Agent.{Agent}
 use Rattle.tag_queue.specs.Agents.{caller_of, teller_of, hint_of, standing_of}
-use Rattle.tag_queue.specs.Gets.{SearchesPlain, GetsPlain}
-use Rattle.tag_queue.specs.Blocking.{AreRounds, IsRound, WaitsFor, FindNone, BlockingGets}
+use Rattle.tag_queue.specs.Gets.{SearchesPlain}
+use Rattle.tag_queue.specs.Blocking.{GetsPlainAndLooks, AreRounds, IsStay, IsRound, WaitsFor, FindNone, BlockingGets}
+use Rattle.tag_queue.proofs.Looking.{searched_plain, counted_none, stood_still}
 
 -- a waiter that is in a group leaves that one
 pub leaves_there : (group : ℕ) (old new : Waiter) (left : Left) → groups.standing_of old ≡ Some group
@@ -30,6 +31,20 @@ module _ {R : Type 0} (l : Layout) where
       → search.HasRoom old 1 → search.HasRoom new 1
   search_keeps_room old new before after s room = let count = s.gains.count in
       let life = ap (λ (k : Shape). k.life) s.gains.shape in omega arith
+
+  -- the search of a stay is the only thing that changes the agent's caller and hint
+  pub searched_there : (group : ℕ) (answer : Option ℕ) (old new : Agent R) → IsStay l group answer old new
+      → SearchesPlain l answer (caller_of old) (caller_of new) (hint_of old) (hint_of new)
+  searched_there group answer old new stay = let before = stay.enters.same in let after = stay.same in
+      subst (λ (z : (Caller R × Hint) × (Caller R × Hint)). SearchesPlain l answer z.0.0 z.1.0 z.0.1 z.1.1)
+      (λ j. ((before.0 j, before.1 j), (sym after.0 j, sym after.1 j)))
+      (searched_plain l answer stay.entered stay.searched stay.search)
+
+  -- a stay counts no completion
+  counted_there : (group : ℕ) (answer : Option ℕ) (old new : Agent R) → IsStay l group answer old new
+      → teller_of new ≡ teller_of old
+  counted_there group answer old new stay = stay.same.2
+      ∙ counted_none l answer stay.entered stay.searched stay.search ∙ stay.enters.same.2
 
   -- what an agent did in some rounds: that many searches, and it counted nothing
   record Searched (old new : Agent R) : Type 0 where
@@ -50,31 +65,33 @@ module _ {R : Type 0} (l : Layout) where
         none = (
           caller_of round.between,
           hint_of round.between,
-          (caller_of made.0, hint_of made.0, before.none, round.none.searches),
-          round.stay.searches,
+          (caller_of made.0, hint_of made.0, before.none, searched_plain l None made.0 round.between round.none),
+          searched_there round.group None round.between new round.stay,
         );
-        counts = round.stay.counts ∙ round.none.others.0 ∙ before.counts;
+        counts = counted_there round.group None round.between new round.stay
+            ∙ counted_none l None made.0 round.between round.none ∙ before.counts;
       }
 
   -- the last search won the tag
   last_won : (tag : ℕ) (old last new : Agent R) → standing_of last ≡ None → Searched old last
-      → GetsPlain l (Some tag) last new ⊎ IsRound l (Some tag) last new → BlockingGets l tag old new
+      → GetsPlainAndLooks l (Some tag) last new ⊎ IsRound l (Some tag) last new → BlockingGets l tag old new
   last_won tag old last new out before (inl get) = record {
     tries = before.tries;
     caller = caller_of last;
     hint = hint_of last;
     none = before.none;
-    won = get.searches;
-    counts = get.others.0 ∙ before.counts;
-    out = ap groups.standing_of get.others.1 ∙ out;
+    won = searched_plain l (Some tag) last new get;
+    counts = counted_none l (Some tag) last new get ∙ before.counts;
+    out = stood_still l (Some tag) last new get ∙ out;
   }
   last_won tag old last new out before (inr round) = record {
     tries = suc before.tries;
     caller = caller_of round.between;
     hint = hint_of round.between;
-    none = (caller_of last, hint_of last, before.none, round.none.searches);
-    won = round.stay.searches;
-    counts = round.stay.counts ∙ round.none.others.0 ∙ before.counts;
+    none = (caller_of last, hint_of last, before.none, searched_plain l None last round.between round.none);
+    won = searched_there round.group (Some tag) round.between new round.stay;
+    counts = counted_there round.group (Some tag) round.between new round.stay
+        ∙ counted_none l None last round.between round.none ∙ before.counts;
     out = round.stay.out;
   }
 

@@ -12,6 +12,8 @@ use Rattle.tag_search.specs.declared.hint.Hint.{Hint}
 use Rattle.tag_search.specs.Shared as search
 use Rattle.wake_book.specs.declared.book.Teller.{Teller}
 use Rattle.wake_book.specs.declared.groups.Waiter.{Waiter}
+use Rattle.wake_book.specs.declared.sighting.Sighting.{Sighting}
+use Rattle.wake_book.specs.declared.sleeping.Announcement.{Announcement}
 use Rattle.wake_book.specs.declared.steps.BookStep.{BookStep}
 use Rattle.wake_book.specs.declared.steps.GroupStep.{GroupStep}
 use Rattle.wake_book.specs.Book as book
@@ -59,6 +61,14 @@ teller_of agent = agent.teller
 -- the agent as a waiter of the groups
 abbrev pub waiter_of : {R : Type 0} → Agent R → Waiter
 waiter_of agent = agent.waiter
+
+-- the agent's latest look for sleepers after a get
+abbrev pub sighting_of : {R : Type 0} → Agent R → Sighting (Caller R)
+sighting_of agent = agent.sighting
+
+-- when the agent announced its latest sleep
+abbrev pub announcement_of : {R : Type 0} → Agent R → Announcement (Caller R)
+announcement_of agent = agent.announcement
 
 -- where the agent's next get starts
 abbrev pub hint_of : {R : Type 0} → Agent R → Hint

@@ -1,42 +1,62 @@
 -- How a blocking get waits: by rounds, each of them a get that found no tag and then a stay in a wait group.
-use Rattle.std.specs.Prelude.{◌≡◌, ℕ, zero, suc, ◌+◌, ◌%◌, ◌⊎◌, List, ◌∷◌, Option, Some, None}
+use Rattle.std.specs.Prelude.{◌≡◌, ℕ, zero, suc, ◌+◌, ◌%◌, ◌⊎◌, List, Option, Some, None}
 use Rattle.tag_layout.specs.Layout.{Layout}
 use Rattle.tag_core.specs.declared.caller.Caller.{Caller}
 use Rattle.tag_search.specs.declared.hint.Hint.{Hint}
+use Rattle.wake_book.specs.declared.groups.Waiter.{Waiter}
+use Rattle.wake_book.specs.declared.rings.Rung.TheVariants.{Nudged}
 use Rattle.wake_book.specs.declared.steps.GroupStep.{GroupStep}
-use Rattle.wake_book.specs.declared.steps.GroupStep.TheVariants.{Enter, Raise}
 use Rattle.wake_book.specs.declared.waiting.Left.{Left}
-use Rattle.wake_book.specs.Groups.{wait_index_of}
+use Rattle.wake_book.specs.declared.waiting.Left.TheVariants.{Woken}
+use Rattle.wake_book.specs.Groups.{wait_index_of, rung_of, announced_beside, announced_steps}
 use Rattle.wake_book.specs.Walks.{IsLeave, IsSleep}
 use Rattle.tag_queue.specs.declared.agent.Agent.{Agent}
-use Rattle.tag_queue.specs.Agents.{caller_of, teller_of, waiter_of, hint_of, standing_of, group_steps}
+use Rattle.tag_queue.specs.Agents.{caller_of, teller_of, waiter_of, hint_of, announcement_of, standing_of, group_steps}
+use Rattle.tag_queue.specs.Freed.{GetsAndLooks}
 use Rattle.tag_queue.specs.Gets.{SearchesPlain, GetsPlain}
+use Rattle.tag_queue.specs.Waits.{SameTags, Enters}
+
+-- a plain get, and then the look for sleepers that it calls for
+abbrev pub GetsPlainAndLooks : {R : Type 0} → Layout → Option ℕ → Agent R → Agent R → Type 0
+GetsPlainAndLooks l answer = GetsAndLooks (GetsPlain l answer)
 
 -- the waiter slept in the group if its search there found no tag, and otherwise made no step
 abbrev pub Rests : ℕ → Option ℕ → List GroupStep → List GroupStep → Type 0
 Rests group None steps steps' = IsSleep group steps steps'
 Rests group (Some tag) steps steps' = steps' ≡ steps
 
--- the agent entered the group of its wait index, rested there as its one search called for, and left that group;
--- its list of group steps grew by nothing else
+-- the agent announced its latest sleep when its list of group steps and what it had done on the map were these
+abbrev pub AnnouncedAt : {R : Type 0} → Agent R → Agent R → Type 0
+AnnouncedAt moment agent = (announced_beside (announcement_of agent) ≡ caller_of moment)
+    × (announced_steps (announcement_of agent) ≡ group_steps moment)
+
+-- a waiter that has a tag, and used a grant although it needed none, rang one sleeper of every group
+abbrev pub PassesOn : Option ℕ → Left → Waiter → Type 0
+PassesOn (Some tag) Woken waiter = rung_of waiter ≡ Nudged 1
+PassesOn _ _ waiter = Unit {0}
+
+-- the agent entered the group of its wait index, searched, rested there as that search called for, left that group, and
+-- passed on a wakeup that it did not need; its list of group steps grew by nothing else
 pub record IsStay {R : Type 0} (l : Layout) (group : ℕ) (answer : Option ℕ) (old new : Agent R) : Type 0 where
-  pub group_is : group ≡ wait_index_of (waiter_of old)
-  pub next : wait_index_of (waiter_of new) ≡ (group + 1) % 8
-  pub searches : SearchesPlain l answer (caller_of old) (caller_of new) (hint_of old) (hint_of new)
-  pub active : ℕ
-  pub found : ℕ
+  pub entered : Agent R
+  pub searched : Agent R
+  pub enters : Enters group old entered
+  pub search : GetsPlainAndLooks l answer entered searched
   pub rested : List GroupStep
   pub left : Left
-  pub rests : Rests group answer (Enter group found ∷ Raise active ∷ group_steps old) rested
+  pub rests : Rests group answer (group_steps searched) rested
+  pub announced : answer ≡ None → AnnouncedAt entered new
   pub leaves : IsLeave group rested (group_steps new) left
+  pub passes : PassesOn answer left (waiter_of new)
   pub out : standing_of new ≡ None
-  pub counts : teller_of new ≡ teller_of old
+  pub next : wait_index_of (waiter_of new) ≡ (group + 1) % 8
+  pub same : SameTags searched new
 
 -- a get that found no tag, and then a stay whose search gave this answer
 pub record IsRound {R : Type 0} (l : Layout) (answer : Option ℕ) (old new : Agent R) : Type 0 where
   pub between : Agent R
   pub group : ℕ
-  pub none : GetsPlain l None old between
+  pub none : GetsPlainAndLooks l None old between
   pub stay : IsStay l group answer between new
 
 -- that many rounds, one after another, none of which found a tag
@@ -49,7 +69,7 @@ pub record WaitsFor {R : Type 0} (l : Layout) (tag : ℕ) (old new : Agent R) : 
   pub rounds : ℕ
   pub last : Agent R
   pub none : AreRounds rounds l old last
-  pub won : GetsPlain l (Some tag) last new ⊎ IsRound l (Some tag) last new
+  pub won : GetsPlainAndLooks l (Some tag) last new ⊎ IsRound l (Some tag) last new
 
 -- that many searches, one after another, each of which found no tag
 abbrev pub FindNone : {R : Type 0} → ℕ → Layout → Caller R → Hint → Caller R → Hint → Type 0

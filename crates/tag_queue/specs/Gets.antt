@@ -60,7 +60,7 @@ MiscountsBatch l n = (n ≡ 0) ⊎ (word_bits l < n)
 
 -- the most steps that a get adds to the agent's list
 abbrev pub most_steps : Layout → ℕ
-most_steps l = 2 * l.depth + 4 * words l
+most_steps l = 2 * l.depth + 5 * words l + 3 * (word_bits l + 4)
 
 -- the agent made this step on a word, and nothing else of it changed
 pub record Looks {R : Type 0} (step : WordStep) (old new : Agent R) : Type 0 where

@@ -6,6 +6,7 @@ pub mod Batches
 pub mod Masks
 pub mod Slots
 pub mod Waits
+pub mod Freed
 pub mod Blocking
 pub mod Parts
 pub mod Gathering

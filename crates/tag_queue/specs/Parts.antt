@@ -1,5 +1,5 @@
 -- The parts of an agent: a caller, a teller and a waiter of one number.
-use Rattle.std.specs.Prelude.{◌≡◌, ℕ, ◌<◌, ◌≤◌, List, map}
+use Rattle.std.specs.Prelude.{◌≡◌, ℕ, ◌<◌, ◌≤◌, List, [], map}
 use mathlib.Core.Option.{some}
 use lib.ListN.{get_elem?}
 use Rattle.tag_core.specs.declared.caller.Caller.{Caller}
@@ -20,6 +20,14 @@ pub record Fits {R : Type 0} (number : ℕ) (caller : Caller R) (teller : Teller
   pub below : number < (record_of caller).shape.callers
   pub counts : book.counted_by teller ≤ (record_of caller).back
   pub wakes : groups.moved_of waiter ≤ book.charged_by teller
+
+-- the waiter has made no step
+abbrev pub HasNoSteps : Waiter → Type 0
+HasNoSteps waiter = groups.steps_of waiter ≡ []
+
+-- none of the waiters has made a step
+abbrev pub HaveNoSteps : List Waiter → Type 0
+HaveNoSteps waiters = (n : ℕ) (waiter : Waiter) → get_elem? waiters n ≡ some waiter → HasNoSteps waiter
 
 -- at each index of the lists, the three can be the parts of the agent with that number
 abbrev pub FitTogether : {R : Type 0} → List (Caller R) → List Teller → List Waiter → Type 0

@@ -6,11 +6,18 @@ use Rattle.tag_queue.specs.declared.resizes.shells.Shell.{Shell}
 use Rattle.tag_queue.specs.Parts.{Fits}
 
 -- the agent without its caller
-abbrev pub shell_of : {R : Type 0} → Agent R → Shell
-shell_of agent = record { teller = agent.teller; waiter = agent.waiter; hint = agent.hint; number = agent.number }
+abbrev pub shell_of : {R : Type 0} → Agent R → Shell R
+shell_of agent = record {
+  teller = agent.teller;
+  waiter = agent.waiter;
+  sighting = agent.sighting;
+  announcement = agent.announcement;
+  hint = agent.hint;
+  number = agent.number;
+}
 
 -- there are as many callers as shells, and each caller can be the one of its shell's agent
-abbrev pub FitShells : {R : Type 0} → List (Caller R) → List Shell → Type 0
+abbrev pub FitShells : {R : Type 0} → List (Caller R) → List (Shell R) → Type 0
 FitShells [] [] = Unit {0}
 FitShells [] (shell ∷ shells) = ⊥
 FitShells (caller ∷ callers) [] = ⊥

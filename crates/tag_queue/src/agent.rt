@@ -7,7 +7,7 @@ ghost use Rattle.wake_book.specs.Groups.{number_of as waiter_number, moved_of};
 use step_ledger::Numbered;
 use tag_core::Caller;
 use tag_search::Hint;
-use wake_book::{Groups, Teller, Waiter};
+use wake_book::{Announcement, Groups, Sighting, Teller, Waiter};
 
 /// One thread's handle on a queue. It holds tags, counts completions, wakes other agents, and waits.
 #[derive(Drop)]
@@ -18,6 +18,10 @@ pub struct Agent<R> {
     pub(crate) number: u32,
     pub(crate) teller: Teller,
     pub(crate) waiter: Waiter,
+    /// Its latest look for sleepers, and what it had done on the map by then. It has no bytes: only contracts see it.
+    pub(crate) sighting: Sighting<Caller<R>>,
+    /// When it announced its latest sleep, and what it had done on the map by then. This has no bytes either.
+    pub(crate) announcement: Announcement<Caller<R>>,
     /// Must be the last field: it ends with padding, so that agents that are adjacent in memory share no cache line.
     pub(crate) caller: Caller<R>,
     ghost numbers: { ((record_of caller).number ≡ number) × (teller_number teller ≡ number) × (waiter_number waiter ≡ number) },

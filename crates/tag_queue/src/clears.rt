@@ -2,9 +2,12 @@
 ghost use Rattle.std.specs.Prelude.{◌≡◌, ◌+◌, ◌<◌, ◌≤◌, ◌↔◌, IfOk, IsOk, OnOk, OnErr};
 ghost use Rattle.tag_core.specs.Callers.{record_of};
 ghost use Rattle.wake_book.specs.Book.{counted_by};
-ghost use Rattle.tag_queue.specs.Agents.{layout_of, IsAgentOf, Holds, step_count, caller_of, teller_of, hint_of, group_steps, SameCounts};
+ghost use Rattle.tag_queue.specs.Agents.{layout_of, IsAgentOf, Holds, step_count, caller_of, teller_of, waiter_of, hint_of, group_steps, SameCounts};
 ghost use Rattle.tag_queue.specs.Clears.{Puts, Counts, ChargesNow};
+ghost use Rattle.tag_queue.specs.Waits.{SameTags};
 ghost use Rattle.wake_book.specs.Grants.{AreGrantsOf};
+ghost use Rattle.wake_book.specs.Groups.{StandsAsBefore, RingsGranted, rung_of};
+ghost use Rattle.wake_book.specs.declared.rings.Rung.TheVariants.{Granted};
 
 use crate::agent::Agent;
 use crate::fault::QueueFault;
@@ -30,6 +33,7 @@ impl<R: Copy> Queue<R> {
         ensures succeeds { Holds agent.old tag → IsOk result }
         ensures puts { OnOk result (Puts (layout_of self.now) tag agent.old agent.new) }
         ensures counts { IfOk result (λ woken. Counts self.now 1 agent.old agent.new woken) }
+        ensures rings { OnOk result (RingsGranted (waiter_of agent.old) (waiter_of agent.new)) }
         ensures bound { step_count agent.new ≤ 118 + step_count agent.old }
         ensures err { OnErr result (agent.new ≡ agent.old) }
     {
@@ -150,6 +154,7 @@ impl<R: Copy> Queue<R> {
         requires came_back { counted_by (teller_of agent.old) + n ≤ (record_of (caller_of agent.old)).back }
         ensures agent { IsAgentOf self.now agent.new }
         ensures counts { Counts self.now n agent.old agent.new result }
+        ensures rings { RingsGranted (waiter_of agent.old) (waiter_of agent.new) }
         ensures others { (caller_of agent.new ≡ caller_of agent.old) × (hint_of agent.new ≡ hint_of agent.old) }
         ensures bound { step_count agent.new ≤ 117 + step_count agent.old }
     {
@@ -168,11 +173,12 @@ impl<R: Copy> Queue<R> {
         requires came_back { counted_by (teller_of agent.old) + n ≤ (record_of (caller_of agent.old)).back }
         ensures agent { IsAgentOf self.now agent.new }
         ensures charges { ChargesNow self.now n agent.old agent.new result }
+        ensures rings { RingsGranted (waiter_of agent.old) (waiter_of agent.new) }
         ensures others { (caller_of agent.new ≡ caller_of agent.old) × (hint_of agent.new ≡ hint_of agent.old) }
         ensures bound { step_count agent.new ≤ 116 + step_count agent.old }
     {
         let grants = self.charge(agent, n);
-        self.ring(grants)
+        self.ring(agent, grants)
     }
 
     /// Counts tags that came back, and grants up to a batch of wakeups if it charged one. It is out of line, so that a
@@ -195,13 +201,20 @@ impl<R: Copy> Queue<R> {
     }
 
     /// Wakes a sleeper for each grant, in its group, and returns how many waiters were granted a wakeup. Grants of a call
-    /// that wakes no sleeper are passed to it once. No clause mentions sleepers.
+    /// that wakes no sleeper are passed to it once. This makes no step.
     #[inline]
-    pub fn ring(&self, grants: Grants) -> u32
-        ensures { result ≡ grants.woken }
+    pub fn ring(&self, agent: &mut Agent<R>, grants: Grants) -> u32
+        requires agent { IsAgentOf self.now agent.old }
+        ensures agent { IsAgentOf self.now agent.new }
+        ensures woken { result ≡ grants.woken }
+        ensures rings { 1 ≤ grants.woken → rung_of (waiter_of agent.new) ≡ Granted grants }
+        ensures none { grants.woken ≡ 0 → agent.new ≡ agent.old }
+        ensures steps { group_steps agent.new ≡ group_steps agent.old }
+        ensures stands { StandsAsBefore (waiter_of agent.old) (waiter_of agent.new) }
+        ensures others { SameTags agent.old agent.new }
     {
         if grants.woken != 0 {
-            self.groups.ring(&grants);
+            self.groups.ring(&mut agent.waiter, grants);
         }
         grants.woken
     }

@@ -1,31 +1,33 @@
 //! Gets: the calls that take tags.
 ghost use Rattle.std.specs.Prelude.{◌≡◌, ◌+◌, ◌<◌, ◌≤◌, ◌↔◌, false, IfOk, IfErr, OnErr, IsOk, IsTrue, None};
 ghost use Rattle.tag_queue.specs.Agents.{layout_of, least_of, IsAgentOf, HasRoom, hint_of, step_count};
+ghost use Rattle.tag_queue.specs.Freed.{GetsAndLooks};
 ghost use Rattle.tag_queue.specs.Gets.{GetsPlain, GetsShallow, GetsBatch, MiscountsBatch, most_steps};
 
 use crate::agent::Agent;
 use crate::fault::QueueFault;
 use crate::queue::Queue;
-use tag_search::on_map;
+use tag_search::Found;
 
 mod blocking;
+mod freed;
 
 impl<R: Copy> Queue<R> {
     /// Takes a free tag, which this agent alone holds until it clears or posts the tag. `None` means that each tag that
     /// the search looked at was found taken at some moment of the call, not that all were taken at the same moment.
-    /// `Spent` means that the agent's life is used up.
+    /// `Spent` means that the agent's life is used up. If its sweeps freed tags that it did not take, it then looks for
+    /// sleepers and rings them (see `look_after`), so that none of them sleeps beside such a tag.
     #[inline(always)]
     pub fn get(&self, agent: &mut Agent<R>) -> Result<Option<u32>, QueueFault>
         requires agent { IsAgentOf self.now agent.old }
         ensures agent { IsAgentOf self.now agent.new }
         ensures room { IsOk result ↔ HasRoom agent.old 1 }
-        ensures gets { IfOk result (λ answer. GetsPlain (layout_of self.now) answer agent.old agent.new) }
-        ensures bound { step_count agent.new ≤ most_steps (layout_of self.now) + step_count agent.old }
+        ensures gets { IfOk result (λ answer. GetsAndLooks (GetsPlain (layout_of self.now) answer) agent.old agent.new) }
+        ensures bound { step_count agent.new ≤ most_steps (layout_of self.now) + 1 + step_count agent.old }
         ensures err { IfErr result (λ fault. (fault ≡ QueueFault.Spent) × (agent.new ≡ agent.old)) }
     {
-        let Ok(answer) = on_map::get(&self.map, &mut agent.caller, &mut agent.hint) else {
-            return Err(QueueFault::Spent);
-        };
+        let Found { answer, left } = self.get_freed(agent)?;
+        self.look_after(agent, left);
         Ok(answer)
     }
 
@@ -40,17 +42,12 @@ impl<R: Copy> Queue<R> {
         ensures too_shallow { (result ≡ Err QueueFault.TooShallow) ↔ (depth < least_of self.now) }
         ensures spent { (result ≡ Err QueueFault.Spent) ↔ ((least_of self.now ≤ depth) × ¬ (HasRoom agent.old 1)) }
         ensures succeeds { IsOk result ↔ ((least_of self.now ≤ depth) × HasRoom agent.old 1) }
-        ensures gets { IfOk result (λ answer. GetsShallow (layout_of self.now) depth answer agent.old agent.new) }
-        ensures bound { step_count agent.new ≤ most_steps (layout_of self.now) + step_count agent.old }
+        ensures gets { IfOk result (λ answer. GetsAndLooks (GetsShallow (layout_of self.now) depth answer) agent.old agent.new) }
+        ensures bound { step_count agent.new ≤ most_steps (layout_of self.now) + 1 + step_count agent.old }
         ensures err { OnErr result (agent.new ≡ agent.old) }
     {
-        if depth < self.shallowest {
-            return Err(QueueFault::TooShallow);
-        }
-        let Ok(answer) = on_map::get_shallow(&self.map, &mut agent.caller, &mut agent.hint, depth)
-        else {
-            return Err(QueueFault::Spent);
-        };
+        let Found { answer, left } = self.get_shallow_freed(agent, depth)?;
+        self.look_after(agent, left);
         Ok(answer)
     }
 
@@ -58,7 +55,6 @@ impl<R: Copy> Queue<R> {
     /// the first of them and the mask of those won, in which bit 0 is that first tag. Under round robin it returns
     /// `None` and makes no step, as in the kernel (lib/sbitmap.c). `BadCount` means an `n` out of that range, `Spent`
     /// that the life does not suffice for `n` more tags.
-    #[tactic(auto, using(std::proofs::lemmas::Nat::one_shl))]
     pub fn get_batch(&self, agent: &mut Agent<R>, n: u32) -> Result<Option<(u32, u64)>, QueueFault>
         requires agent { IsAgentOf self.now agent.old }
         ensures agent { IsAgentOf self.now agent.new }
@@ -71,20 +67,12 @@ impl<R: Copy> Queue<R> {
             ↔ (¬ (MiscountsBatch (layout_of self.now) n) × ((hint_of agent.old).round_robin ≡ false) × ¬ (HasRoom agent.old n)) }
         ensures succeeds { ¬ (MiscountsBatch (layout_of self.now) n) → HasRoom agent.old n → IsOk result }
         ensures gets { (hint_of agent.old).round_robin ≡ false
-            → IfOk result (λ answer. GetsBatch (layout_of self.now) n answer agent.old agent.new) }
-        ensures bound { step_count agent.new ≤ most_steps (layout_of self.now) + step_count agent.old }
+            → IfOk result (λ answer. GetsAndLooks (GetsBatch (layout_of self.now) n answer) agent.old agent.new) }
+        ensures bound { step_count agent.new ≤ most_steps (layout_of self.now) + 1 + step_count agent.old }
         ensures err { OnErr result (agent.new ≡ agent.old) }
     {
-        let bits = 1u32 << self.map.layout().shift();
-        if n == 0 || n > bits {
-            return Err(QueueFault::BadCount);
-        }
-        if agent.hint.round_robin {
-            return Ok(None);
-        }
-        let Ok(answer) = on_map::get_batch(&self.map, &mut agent.caller, &mut agent.hint, n) else {
-            return Err(QueueFault::Spent);
-        };
+        let Found { answer, left } = self.get_batch_freed(agent, n)?;
+        self.look_after(agent, left);
         Ok(answer)
     }
 }

@@ -25,6 +25,7 @@ pub use resizes::{ResizeCause, ResizeFault};
 pub use step_ledger::{GatherCause, Numbered};
 pub use tag_layout::{MAX_DEPTH, MAX_SHIFT};
 pub use tag_model::{MAX_CALLERS, MOST_WON};
+pub use tag_search::Found;
 pub use uses::Usage;
 pub use waits::Wakes;
 pub use wake_book::MAX_CAP;

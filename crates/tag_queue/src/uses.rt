@@ -51,6 +51,8 @@ fn settle_rest<R>(
         caller,
         teller,
         waiter,
+        sighting,
+        announcement,
         hint,
         number,
     } = last;
@@ -61,6 +63,8 @@ fn settle_rest<R>(
         caller,
         teller,
         waiter,
+        sighting,
+        announcement,
         hint,
         number,
     });
@@ -84,6 +88,8 @@ impl<R> Queue<R> {
             caller,
             teller,
             waiter,
+            sighting,
+            announcement,
             hint,
             number,
         } = last;
@@ -94,6 +100,8 @@ impl<R> Queue<R> {
             caller,
             teller,
             waiter,
+            sighting,
+            announcement,
             hint,
             number,
         });

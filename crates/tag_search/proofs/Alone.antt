@@ -1,20 +1,19 @@
 -- The effect of passes and visits if no other caller steps.
-use Rattle.std.proofs.Common.{◌≡◌, ℕ, ◌<◌, Bool, ◌||◌, List, [], ◌∷◌, ◌++◌, get_or, Option, Some, None, arith, refl}
+use Rattle.std.proofs.Common.{◌≡◌, ℕ, ◌<◌, ◌≤◌, Bool, true, false, ◌||◌, nat_eq, List, [], ◌∷◌, ◌++◌, get_or, Option, Some, None, arith, refl}
 use Rattle.std.proofs.Common.{sym, ap, ◌∙◌, subst}
 use Rattle.std.specs.Prelude.{All}
 use Rattle.std.specs.Int.{bit_at}
 use Rattle.std.proofs.lemmas.List.Elements.{All-nil, All-cons, All-head, All-tail}
-use Rattle.std.proofs.lemmas.Nat.Bits.{bit_at-zero}
 use Rattle.tag_core.specs.declared.word_step.WordStep.{WordStep}
 use Rattle.tag_core.specs.Steps.{Words, Quiet, words_after, words_after_all}
 use Rattle.tag_search.specs.Choice.{IsFree, IsSet, IsAside, IsBusy, IsFirst}
 use Rattle.tag_search.specs.PlainLaws.{words_after-append}
 use Rattle.tag_search.specs.Pool.{Pool, pool_of, freed_in, taken_at}
-use Rattle.tag_search.specs.Search.{AllTaken, IsTries, none_left, wins, loses, IsPass, pass, IsRetry, nothing_aside}
-use Rattle.tag_search.specs.Search.{swept, IsVisit, at_once, retried}
+use Rattle.tag_search.specs.Search.{AllTaken, IsTries, none_left, wins, loses, IsPass, pass, IsRetry, no_turn}
+use Rattle.tag_search.specs.Search.{turn_won, turn_passed, IsVisit, at_once, retried}
 use Rattle.tag_search.proofs.Passes.{all_behind}
-use Rattle.tag_search.proofs.Pools.{free_here, aside_of_open}
-use Rattle.tag_search.proofs.Sweeps.{clear_of, set_of, none_of, claim_one, sweep_pool, sweep_none}
+use Rattle.tag_search.proofs.Pools.{free_here, aside_of_open, freed_twice}
+use Rattle.tag_search.proofs.Sweeps.{clear_of, set_of, claim_one, sweep_pool}
 
 -- the parts of a quiet list are quiet, the second from the words that the first leaves
 pub quiet-split : (xs ys : List WordStep) (w : Words) → Quiet (xs ++ ys) w → Quiet xs w
@@ -103,33 +102,84 @@ second_tells p mid w left i rank (Some place) e f set tells =
           (sym (free_here p i place) ∙ ap (λ (q : Pool). q.free i place) (sym (e ∙ f)) ∙ first.is);
     }) (tells.1 ∙ ap (taken_at i place) (e ∙ f))
 
-retry_alone : {i : ℕ} {rank : List ℕ} {steps : List WordStep} {answer : Option ℕ} → IsRetry i rank steps answer
-    → (w : Words) → All (λ b. b < 64) rank
+either_twice : (b : Bool) → ((b || false) || (b || false)) ≡ (b || false)
+either_twice true = refl
+either_twice false = refl
+
+-- a word that is swept again is as it was
+freed_again : (i : ℕ) (p : Pool) → freed_in (i ∷ []) (freed_in (i ∷ []) p) ≡ freed_in (i ∷ []) p
+freed_again i p = freed_twice (i ∷ []) (i ∷ []) (i ∷ []) p (λ j. either_twice (nat_eq j i))
+
+-- a pass over a swept word whose places are all busy wins nothing and changes nothing
+busy_pass : (p : Pool) (i : ℕ) {rank : List ℕ} {steps : List WordStep} (answer : Option ℕ) → IsPass i rank steps answer
+    → (w : Words) → pool_of w ≡ freed_in (i ∷ []) p → All (IsBusy p i) rank → All (λ b. b < 64) rank → Quiet steps w
+    → (answer ≡ None) × (pool_of (words_after_all steps w) ≡ freed_in (i ∷ []) p)
+busy_pass p i None again w e busy within quiet =
+    (refl, ap pool_of (pass_alone again w within quiet).1 ∙ e)
+busy_pass p i {rank = rank} (Some place) again w e busy within quiet =
+    let first = (pass_alone again w within quiet).0 in
+    let here = all_behind (IsBusy p i) first.before place first.behind (subst (All (IsBusy p i)) first.order busy) in
+    absurd (let no : false ≡ true = sym here.0 ∙ sym (free_here p i place)
+    ∙ ap (λ (q : Pool). q.free i place) (sym e) ∙ first.is in cc)
+
+-- turns over a swept word whose places are all busy win nothing and change nothing
+busy_turns : (p : Pool) (i : ℕ) {rank : List ℕ} {turns : ℕ} {steps : List WordStep} {answer : Option ℕ}
+    → IsRetry i rank turns steps answer → (w : Words) → pool_of w ≡ freed_in (i ∷ []) p
+    → All (IsBusy p i) rank → All (λ b. b < 64) rank → Quiet steps w
+    → (answer ≡ None) × (pool_of (words_after_all steps w) ≡ freed_in (i ∷ []) p)
+busy_turns p i no_turn w e busy within quiet = (refl, e)
+busy_turns p i (turn_won {place = place} {sweep = sweep} {second = second} s again) w e busy within quiet =
+    let parts = quiet-split sweep second w quiet in let mid = words_after_all sweep w in
+    let f : pool_of mid ≡ freed_in (i ∷ []) p = sweep_pool s w parts.0 ∙ ap (freed_in (i ∷ [])) e ∙ freed_again i p in
+    let tells = busy_pass p i (Some place) again mid f busy within parts.1 in
+    absurd (let no : Some place ≡ None = tells.0 in cc)
+busy_turns p i (turn_passed {sweep = sweep} {second = second} {rest = rest} s again more) w e busy within quiet =
+    let outer = quiet-split (sweep ++ second) rest w quiet in
+    let parts = quiet-split sweep second w outer.0 in let mid = words_after_all sweep w in
+    let f : pool_of mid ≡ freed_in (i ∷ []) p = sweep_pool s w parts.0 ∙ ap (freed_in (i ∷ [])) e ∙ freed_again i p in
+    let tells = busy_pass p i None again mid f busy within parts.1 in
+    let last = words_after_all (sweep ++ second) w in
+    let h : pool_of last ≡ freed_in (i ∷ []) p = ap pool_of (words_after-append sweep second w) ∙ tells.1 in
+    let left = busy_turns p i more last h busy within outer.1 in
+    (left.0, ap pool_of (words_after-append (sweep ++ second) rest w) ∙ left.1)
+
+retry_alone : {i : ℕ} {rank : List ℕ} {turns : ℕ} {steps : List WordStep} {answer : Option ℕ}
+    → IsRetry i rank turns steps answer → 1 ≤ turns → (w : Words) → All (λ b. b < 64) rank
     → All (IsSet (pool_of w) i) rank → Quiet steps w
     → VisitTells (pool_of w) i rank answer (pool_of (words_after_all steps w))
-retry_alone {i = i} {rank = rank} (nothing_aside sweep) w within set quiet =
-    let none = sweep_none sweep w quiet in (
-      λ k d h. let place = get_or rank k d in
-          ap (λ (b : Bool). b || (pool_of w).aside i place) (set k d h)
-          ∙ none_of (w.aside i) place (ap (λ (n : ℕ). bit_at n place) none ∙ bit_at-zero place),
-      sweep_pool sweep w quiet,
-    )
-retry_alone {i = i} {rank = rank} {answer = answer} (swept {sweep = sweep} {second = second} ne s again) w within set
+retry_alone no_turn some w within set quiet = absurd (omega arith)
+retry_alone {i = i} {rank = rank} (turn_won {place = place} {sweep = sweep} {second = second} s again) some w within set
     quiet =
     let parts = quiet-split sweep second w quiet in let mid = words_after_all sweep w in
     let tells = pass_alone again mid within parts.1 in
-    subst (λ (x : Words). VisitTells (pool_of w) i rank answer (pool_of x)) (sym (words_after-append sweep second w))
-    (second_tells (pool_of w) (pool_of mid) mid (words_after_all second mid) i rank answer refl (sweep_pool s w parts.0)
-    set tells)
+    subst (λ (x : Words). VisitTells (pool_of w) i rank (Some place) (pool_of x))
+    (sym (words_after-append sweep second w))
+    (second_tells (pool_of w) (pool_of mid) mid (words_after_all second mid) i rank (Some place) refl
+    (sweep_pool s w parts.0) set tells)
+retry_alone {i = i} {rank = rank} {answer = answer}
+    (turn_passed {sweep = sweep} {second = second} {rest = rest} s again more) some w within set quiet =
+    let outer = quiet-split (sweep ++ second) rest w quiet in
+    let parts = quiet-split sweep second w outer.0 in let mid = words_after_all sweep w in
+    let tells = second_tells (pool_of w) (pool_of mid) mid (words_after_all second mid) i rank None refl
+    (sweep_pool s w parts.0) set (pass_alone again mid within parts.1) in
+    let last = words_after_all (sweep ++ second) w in
+    let h : pool_of last ≡ freed_in (i ∷ []) (pool_of w) = ap pool_of (words_after-append sweep second w) ∙ tells.1 in
+    let left = busy_turns (pool_of w) i more last h tells.0 within outer.1 in
+    let told : VisitTells (pool_of w) i rank None (pool_of (words_after_all ((sweep ++ second) ++ rest) w)) =
+    (tells.0, ap pool_of (words_after-append (sweep ++ second) rest w) ∙ left.1) in
+    subst (λ (a : Option ℕ). VisitTells (pool_of w) i rank a
+    (pool_of (words_after_all ((sweep ++ second) ++ rest) w))) (sym left.0) told
 
-pub visit_alone : {i : ℕ} {rank : List ℕ} {steps : List WordStep} {answer : Option ℕ} → IsVisit i rank steps answer
+pub visit_alone : {i : ℕ} {rank : List ℕ} {turns : ℕ} {steps : List WordStep} {answer : Option ℕ}
+    → IsVisit i rank turns steps answer
     → (w : Words) → All (λ b. b < 64) rank
     → Quiet steps w → VisitTells (pool_of w) i rank answer (pool_of (words_after_all steps w))
 visit_alone (at_once once) w within quiet = let tells = pass_alone once w within quiet in wins_free tells.0 tells.1
-visit_alone {i = i} {rank = rank} {answer = answer} (retried {first = first} {rest = rest} once again) w within quiet =
+visit_alone {i = i} {rank = rank} {answer = answer} (retried {first = first} {rest = rest} some once again) w within
+    quiet =
     let parts = quiet-split first rest w quiet in let tells = pass_alone once w within parts.0 in
     let quiet' : Quiet rest w = subst (Quiet rest) tells.1 parts.1 in
     let e : words_after_all (first ++ rest) w ≡ words_after_all rest w = words_after-append first rest w
     ∙ ap (words_after_all rest) tells.1 in
     subst (λ (x : Words). VisitTells (pool_of w) i rank answer (pool_of x)) (sym e)
-    (retry_alone again w within tells.0 quiet')
+    (retry_alone again some w within tells.0 quiet')

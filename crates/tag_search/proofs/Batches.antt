@@ -1,9 +1,8 @@
 -- What is known in the middle of a search for several tags.
-use Rattle.std.proofs.Common.{◌≡◌, ◌≢◌, ℕ, zero, suc, ◌+◌, ◌*◌, ◌/◌, ◌%◌, ◌^◌, ◌<◌, ◌≤◌, min, Bool, true, false, List, [], ◌∷◌}
+use Rattle.std.proofs.Common.{◌≡◌, ℕ, zero, suc, ◌+◌, ◌*◌, ◌/◌, ◌%◌, ◌^◌, ◌<◌, ◌≤◌, min, true, List, [], ◌∷◌}
 use Rattle.std.proofs.Common.{◌++◌, length, Option, Some, None, arith, refl, sym, ap, ◌∙◌, subst}
 use mathlib.Core.Logic.{dite}
 use native.Mathlib.Decide.{dec_lt}
-use Rattle.std.specs.Prelude.{MatchBool}
 use Rattle.std.proofs.lemmas.List.{append_assoc, append-nil, length-append}
 use Rattle.tag_core.specs.declared.word_step.WordStep.{WordStep}
 use Rattle.tag_core.specs.declared.word_step.WordStep.TheVariants.{Look, Claimed}
@@ -12,21 +11,12 @@ use Rattle.tag_layout.specs.Layout.{Layout, words, word_of, word_depth, tag_at}
 use Rattle.tag_layout.proofs.PlaceFacts.{word_bits-le, word_of-below}
 use Rattle.std.proofs.lemmas.Nat.{mod_below, pow_pos}
 use Rattle.tag_search.specs.Hints.{reduced}
-use Rattle.tag_search.specs.Added.{AddsSteps}
 use Rattle.tag_search.specs.Batch.{run_mask, IsSweptLook, swept_look, IsBatchVisit, no_run, run_lost, run_taken}
 use Rattle.tag_search.specs.Batch.{IsBatchSearch, batch_over, batch_won, batch_passed, IsBatchGet}
 use Rattle.tag_search.specs.Order.{numbers, scan_order}
-use Rattle.tag_search.specs.Search.{IsSweep}
 use Rattle.tag_search.proofs.BatchAlone.{batch_alone}
 use Rattle.tag_search.proofs.Bounds.{sweep_bound}
 use Rattle.tag_search.proofs.Orders.{length-numbers}
-
--- the steps of a sweep, whether or not it found a mask
-pub swept_any : {Port : Type 0} (adds : Port → List WordStep → Port → Type 0) (p q : Port) (i : ℕ) (b : Bool)
-    → MatchBool b ((mask : ℕ) × (mask ≢ 0) × AddsSteps adds p q (IsSweep i mask)) (AddsSteps adds p q (IsSweep i 0))
-    → AddsSteps adds p q (λ xs. (mask : ℕ) × IsSweep i mask xs)
-swept_any adds p q i true h = record { steps = h.2.steps; added = h.2.added; holds = (h.0, h.2.holds) }
-swept_any adds p q i false h = record { steps = h.steps; added = h.added; holds = (0, h.holds) }
 
 -- a word without a clear place has no run
 pub no_first_clear : (found depth n : ℕ) → AllSet found 0 depth → (place : ℕ) → IsFirstClear found 0 depth place
@@ -78,12 +68,12 @@ batch_goes_on l n first more rest answer e (batch_passed {i = i} {is = is} {step
     subst (λ xs. IsBatchSearch l n (i ∷ (is ++ more)) xs answer) (sym (append_assoc s r rest))
     (batch_passed v (batch_goes_on l n first more rest answer e left search))
 
-swept_look_bound : {i found : ℕ} {steps : List WordStep} → IsSweptLook i found steps → length steps ≤ 3
+swept_look_bound : {i found : ℕ} {steps : List WordStep} → IsSweptLook i found steps → length steps ≤ 4
 swept_look_bound {i = i} {found = found} (swept_look {sweep = sweep} s fits) = let a = sweep_bound s in
     let e = length-append sweep (Look i found ∷ []) in omega arith
 
 batch_visit_bound : {i depth n : ℕ} {steps : List WordStep} {answer : Option (ℕ × ℕ)}
-    → IsBatchVisit i depth n steps answer → length steps ≤ 4
+    → IsBatchVisit i depth n steps answer → length steps ≤ 5
 batch_visit_bound (no_run look none) = let a = swept_look_bound look in omega arith
 batch_visit_bound {i = i} {n = n} (run_lost {place = place} {steps = steps} next look run lost) =
     let a = swept_look_bound look in let e = length-append steps (Claimed i (run_mask n place) next ∷ []) in omega arith
@@ -91,7 +81,7 @@ batch_visit_bound {i = i} {n = n} (run_taken {place = place} {steps = steps} nex
     let a = swept_look_bound look in let e = length-append steps (Claimed i (run_mask n place) next ∷ []) in omega arith
 
 batch_bound : {l : Layout} {n : ℕ} {is : List ℕ} {steps : List WordStep} {answer : Option (ℕ × ℕ)}
-    → IsBatchSearch l n is steps answer → length steps ≤ 4 * length is
+    → IsBatchSearch l n is steps answer → length steps ≤ 5 * length is
 batch_bound batch_over = omega arith
 batch_bound (batch_won v) = let a = batch_visit_bound v in omega arith
 batch_bound (batch_passed {steps = first} {rest = rest} v search) =

@@ -17,8 +17,8 @@ use Rattle.tag_core.proofs.Masks.{bit_minus}
 use Rattle.tag_search.specs.Batch.{run_mask, run_won, IsBatchVisit, no_run, run_lost, run_taken, IsBatchSearch}
 use Rattle.tag_search.specs.Batch.{batch_over, batch_won, batch_passed}
 use Rattle.tag_search.specs.Gains.{IsInRun}
-use Rattle.tag_search.specs.Search.{IsTries, none_left, wins, loses, IsPass, pass, IsRetry, nothing_aside, swept}
-use Rattle.tag_search.specs.Search.{IsVisit, at_once, retried, Visit, IsSearch, over, won, passed}
+use Rattle.tag_search.specs.Search.{IsTries, none_left, wins, loses, IsPass, pass, IsRetry, no_turn, turn_won}
+use Rattle.tag_search.specs.Search.{turn_passed, IsVisit, at_once, retried, Visit, IsSearch, over, won, passed}
 use Rattle.tag_search.specs.Shared.{FindsWord, FindsHeldBy}
 use Rattle.tag_search.proofs.RunFacts.{inside as won_inside}
 use Rattle.tag_search.proofs.SharedFacts.{IsInside, visit_wins, finds-split}
@@ -49,16 +49,18 @@ module _ {R : Type 0} (c : Caller R) where
       → Blocks steps → IfSome answer (IsNew i)
   pass_new (pass more) blocks = tries_new more blocks.1
 
-  retry_new : {i : ℕ} {rank : List ℕ} {steps : List WordStep} {answer : Option ℕ} → IsRetry i rank steps answer
-      → Blocks steps → IfSome answer (IsNew i)
-  retry_new (nothing_aside sweep) blocks = tt
-  retry_new (swept {sweep = first} {second = second} some sweep again) blocks = pass_new again
+  retry_new : {i : ℕ} {rank : List ℕ} {turns : ℕ} {steps : List WordStep} {answer : Option ℕ}
+      → IsRetry i rank turns steps answer → Blocks steps → IfSome answer (IsNew i)
+  retry_new no_turn blocks = tt
+  retry_new (turn_won {sweep = first} {second = second} sweep again) blocks = pass_new again
       (blocks-split first second blocks).1
+  retry_new (turn_passed {sweep = first} {second = second} {rest = rest} sweep again more) blocks = retry_new more
+      (blocks-split (first ++ second) rest blocks).1
 
-  visit_new : {i : ℕ} {rank : List ℕ} {steps : List WordStep} {answer : Option ℕ} → IsVisit i rank steps answer
-      → Blocks steps → IfSome answer (IsNew i)
+  visit_new : {i : ℕ} {rank : List ℕ} {turns : ℕ} {steps : List WordStep} {answer : Option ℕ}
+      → IsVisit i rank turns steps answer → Blocks steps → IfSome answer (IsNew i)
   visit_new (at_once once) blocks = pass_new once blocks
-  visit_new (retried {first = first} {rest = rest} once again) blocks = retry_new again
+  visit_new (retried {first = first} {rest = rest} some once again) blocks = retry_new again
       (blocks-split first rest blocks).1
 
   -- the tag that a search answers was not held

@@ -5,6 +5,7 @@ pub mod Joined
 pub mod Passes
 pub mod Searches
 pub mod Tallies
+pub mod Turns
 pub mod Bounds
 pub mod Pools
 pub mod Sweeps
@@ -20,6 +21,7 @@ pub mod Writings
 pub mod TakenPlaces
 pub mod PlainPools
 pub mod SharedCalls
+pub mod FreedFacts
 pub mod SharedFacts
 pub mod OneTag
 pub mod RunFacts

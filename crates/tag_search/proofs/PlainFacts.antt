@@ -8,7 +8,7 @@ use native.Mathlib.Decide.{ℕ_discrete}
 use Rattle.std.proofs.lemmas.Nat.{pow_pos}
 use Rattle.std.proofs.lemmas.Nat.Bits.{and_pow, bit_at-lt}
 use Rattle.std.specs.Int.{bit_at}
-use Rattle.tag_core.specs.declared.word_step.WordStep.TheVariants.{Claimed, Give, Put, Swap, Spill}
+use Rattle.tag_core.specs.declared.word_step.WordStep.TheVariants.{LookAside, Claimed, Give, Put, Swap, Spill}
 use Rattle.tag_core.specs.Steps.{changed_at, without}
 use Rattle.tag_search.specs.Plain.{Plain, RunsAlone, IsTaken}
 
@@ -64,28 +64,18 @@ ran_put_at p i r place bit found e b h is =
     subst (λ (x : ℕ × ℕ). RunsAlone p (Put x.0 x.1 found ∷ []) (record p { aside = set p.aside r (bit_or found bit) }))
     (λ j. (e j, b j)) (ran_put p r bit found h is)
 
--- a sweep that finds nothing writes what was there
-pub ran_empty : (p : Plain) (i : ℕ) → get_or p.aside i 0 ≡ 0 → RunsAlone p (Swap i 0 ∷ []) p
-ran_empty p i e = record {
-  layout = refl;
-  quiet = (sym e, tt);
-  leaves = λ z. record { word = λ j. get_or p.word j 0; aside = λ j. same j z };
-}
-  where
-    same : (j : ℕ) → get_or p.aside j 0 ≡ cond (nat_eq j i) 0 (get_or p.aside j 0)
-    same j = dite (ℕ_discrete j i)
-        (λ k. ap (λ (m : ℕ). get_or p.aside m 0) k ∙ e ∙ ap (λ (b : Bool). cond b 0 (get_or p.aside j 0))
-        (sym (eq-eqb j i k)))
-        (λ ne. ap (λ (b : Bool). cond b 0 (get_or p.aside j 0)) (sym (ne_eqb j i ne)))
+-- a sweep that finds nothing writes nothing
+pub ran_empty : (p : Plain) (i : ℕ) → get_or p.aside i 0 ≡ 0 → RunsAlone p (LookAside i 0 ∷ []) p
+ran_empty p i e = record { layout = refl; quiet = (sym e, tt); leaves = refl }
 
 -- a sweep that finds a mask writes both
 pub ran_sweep : (p : Plain) (i mask found : ℕ) → i < length p.word → i < length p.aside → mask ≡ get_or p.aside i 0
     → found ≡ get_or p.word i 0
-    → RunsAlone p (Swap i mask ∷ Spill i mask found ∷ [])
+    → RunsAlone p (LookAside i mask ∷ Swap i mask ∷ Spill i mask found ∷ [])
     (record p { word = set p.word i (without found mask); aside = set p.aside i 0 })
 ran_sweep p i mask found h k e f = let now = written p.word i found (λ x. without x mask) h f in record {
   layout = refl;
-  quiet = (e, (f, tt));
+  quiet = (e, (e, (f, tt)));
   leaves = λ z. record { word = now z; aside = set_changed p.aside i 0 k z };
 }
 

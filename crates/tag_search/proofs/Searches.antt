@@ -16,7 +16,7 @@ IsSearchBegun l all left steps = (rest : List WordStep) (answer : Option ℕ) �
 -- after a visit that won nothing the search goes on with those after it
 pub search_further : (l : Layout) (all behind : List Visit) (visit : Visit) (steps more : List WordStep)
     → IsSearchBegun l all (visit ∷ behind) steps
-    → IsVisit visit.word visit.rank more None → IsSearchBegun l all behind (steps ++ more)
+    → IsVisit visit.word visit.rank visit.turns more None → IsSearchBegun l all behind (steps ++ more)
 search_further l all behind visit steps more begun none rest answer search =
     subst (λ xs. IsSearch l all xs answer) (sym (append_assoc steps more rest))
     (begun (more ++ rest) answer (passed {visit = visit} none search))

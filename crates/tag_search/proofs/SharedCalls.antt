@@ -1,7 +1,6 @@
 -- The steps that calls on a shared map add, in the form of the port's clauses.
-use Rattle.std.proofs.Common.{◌≡◌, ◌≢◌, ℕ, ◌^◌, ◌<◌, Bool, true, false, List, [], ◌∷◌, length, get_or, bit_or}
-use Rattle.std.proofs.Common.{get_or-set_same, get_or-set_other, arith, refl, sym, ap, ◌∙◌}
-use Rattle.std.specs.Prelude.{IsTrue, IsFalse, MatchBool}
+use Rattle.std.proofs.Common.{◌≡◌, ◌≢◌, ℕ, ◌+◌, ◌^◌, ◌<◌, count_ones, List, [], ◌∷◌, length, get_or, bit_or}
+use Rattle.std.proofs.Common.{get_or-set_same, get_or-set_other, arith, sym, ap, ◌∙◌}
 use mathlib.Core.Logic.{dite}
 use native.Mathlib.Decide.{ℕ_discrete}
 use Rattle.std.specs.Int.{bit_at}
@@ -11,14 +10,15 @@ use Rattle.tag_core.specs.declared.caller.Caller.{Caller}
 use Rattle.tag_core.specs.declared.record.Record.{Record}
 use Rattle.tag_core.specs.declared.step.Step.TheVariants.{Word}
 use Rattle.tag_core.specs.declared.word_step.WordStep.{WordStep}
-use Rattle.tag_core.specs.declared.word_step.WordStep.TheVariants.{Claimed, Swap, Spill}
+use Rattle.tag_core.specs.declared.word_step.WordStep.TheVariants.{LookAside, Claimed, Swap, Spill}
 use Rattle.tag_core.specs.Callers.{Holds, Adds, AddsTwo}
 use Rattle.tag_core.specs.Records.{joined, held_after_word, tag_bit}
 use Rattle.tag_core.specs.Steps.{without}
 use Rattle.tag_search.specs.declared.shared.Shared.{Shared}
 use Rattle.tag_search.specs.Added.{AddsSteps as Ports}
-use Rattle.tag_search.specs.Search.{IsSweep, empty, spilled}
-use Rattle.tag_search.specs.Shared.{FindsWord, FindsHeldBy, AddsAll, AddsThrough}
+use Rattle.tag_search.specs.Search.{IsSweep, unseen, empty, spilled}
+use Rattle.tag_search.specs.SharedLaws.{adds_on}
+use Rattle.tag_search.specs.Shared.{FindsWord, FindsHeldBy, AddsAll, AddsThrough, latest_of}
 
 -- adding bits to a word keeps the bit of a tag
 pub bit_kept : (l : Layout) (held : List ℕ) (i mask tag : ℕ) → i < length held → tag_bit l held tag ≡ 1
@@ -64,16 +64,16 @@ adds_one {R} step old new a fits found_held keeps = record {
 }
 
 -- a swap, and a spill of the mask that it found
-pub adds_two : {R : Type 0} (i mask found : ℕ) (old new : Caller R)
+pub adds_two : {R : Type 0} (i mask found : ℕ) (old new : Caller R) → mask < 2 ^ 64
     → AddsTwo (Word (Swap i mask)) (Word (Spill i mask found)) old new
     → AddsAll (Swap i mask ∷ Spill i mask found ∷ []) old new
-adds_two {R} i mask found old new a = record {
+adds_two {R} i mask found old new fits a = record {
   known = a.known;
   kept = λ tag was.
       let is : Holds new tag = holds_by old new old.held.items tag (ap (λ (r : Record R). r.shape) a.known)
       (ap (λ (r : Record R). r.held) a.known) was was.1 in
       (is, a.slots tag was is);
-  finds = (tt, (tt, tt));
+  finds = (tt, (fits, tt));
   finds_held = (tt, (tt, tt));
   same_map = a.same_map;
 }
@@ -85,29 +85,61 @@ pub adds_claim : {R : Type 0} (i mask found : ℕ) (old new : Caller R) → i < 
 adds_claim i mask found old new near fits found_held a = adds_one (Claimed i mask found) old new a fits found_held
     (λ tag. bit_kept old.shape.value.layout old.held.items i (without mask found) tag near)
 
--- a sweep adds a swap alone, or a swap and a spill
-pub swept : {R : Type 0} (i : ℕ) (some : Bool) (old new : Shared R) → new.map.now ≡ old.map.now
-    → new.caller.ghost_name ≡ old.caller.ghost_name
-    → (IsFalse some → Adds (Word (Swap i 0)) old.caller.now new.caller.now)
-    → (IsTrue some → (mask : ℕ) × (found : ℕ) × (mask ≢ 0) × (mask < 2 ^ 64)
-    × AddsTwo (Word (Swap i mask)) (Word (Spill i mask found)) old.caller.now new.caller.now)
-    → MatchBool some ((mask : ℕ) × (mask ≢ 0) × Ports AddsThrough old new (IsSweep i mask))
-    (Ports AddsThrough old new (IsSweep i 0))
-swept i true old new map lent none some = let s = some refl in (
-  s.0,
-  s.2,
-  record {
-    steps = Swap i s.0 ∷ Spill i s.0 s.1 ∷ [];
-    added = record { added = adds_two i s.0 s.1 old.caller.now new.caller.now s.4; map = map; lent = lent };
-    holds = spilled s.2 s.3;
-  },
-)
-swept i false old new map lent none some = record {
-  steps = Swap i 0 ∷ [];
+-- a load of a cleared set that is empty is a sweep
+pub swept_unseen : {R : Type 0} (i : ℕ) (old new : Shared R) → new.map.now ≡ old.map.now
+    → new.caller.ghost_name ≡ old.caller.ghost_name → new.freed ≡ old.freed
+    → latest_of new ≡ latest_of old
+    → Adds (Word (LookAside i 0)) old.caller.now new.caller.now → Ports AddsThrough old new (IsSweep i 0)
+swept_unseen i old new map lent none same look = record {
+  steps = LookAside i 0 ∷ [];
   added = record {
-    added = adds_one (Swap i 0) old.caller.now new.caller.now (none refl) tt tt (λ tag h. h);
+    added = adds_one (LookAside i 0) old.caller.now new.caller.now look tt tt (λ tag h. h);
     map = map;
     lent = lent;
+    freed = λ fits. omega arith;
+    latest = same;
   };
-  holds = empty;
+  holds = unseen;
+}
+
+-- after a load of the cleared set, a swap alone
+pub swept_empty : {R : Type 0} (i seen : ℕ) (old new : Shared R) (mid : Caller R) → new.map.now ≡ old.map.now
+    → new.caller.ghost_name ≡ old.caller.ghost_name → new.freed ≡ old.freed
+    → latest_of new ≡ latest_of old
+    → seen ≢ 0 → Adds (Word (LookAside i seen)) old.caller.now mid
+    → Adds (Word (Swap i 0)) mid new.caller.now → Ports AddsThrough old new (IsSweep i 0)
+swept_empty i seen old new mid map lent none same has look swap = record {
+  steps = LookAside i seen ∷ Swap i 0 ∷ [];
+  added = record {
+    added = adds_on old.caller.now mid new.caller.now (LookAside i seen ∷ []) (Swap i 0 ∷ [])
+        (adds_one (LookAside i seen) old.caller.now mid look tt tt (λ tag h. h))
+        (adds_one (Swap i 0) mid new.caller.now swap tt tt (λ tag h. h));
+    map = map;
+    lent = lent;
+    freed = λ fits. omega arith;
+    latest = same;
+  };
+  holds = empty has;
+}
+
+-- after a load of the cleared set, a swap and a spill
+pub swept_some : {R : Type 0} (i seen mask found : ℕ) (old new : Shared R) (mid : Caller R) → new.map.now ≡ old.map.now
+    → new.caller.ghost_name ≡ old.caller.ghost_name
+    → (old.freed + count_ones mask < 2 ^ 64 → new.freed ≡ old.freed + count_ones mask)
+    → latest_of new ≡ (i, mask)
+    → seen ≢ 0 → mask ≢ 0 → mask < 2 ^ 64 → Adds (Word (LookAside i seen)) old.caller.now mid
+    → AddsTwo (Word (Swap i mask)) (Word (Spill i mask found)) mid new.caller.now
+    → Ports AddsThrough old new (IsSweep i mask)
+swept_some i seen mask found old new mid map lent counts latest has some fits look two = record {
+  steps = LookAside i seen ∷ Swap i mask ∷ Spill i mask found ∷ [];
+  added = record {
+    added = adds_on old.caller.now mid new.caller.now (LookAside i seen ∷ []) (Swap i mask ∷ Spill i mask found ∷ [])
+        (adds_one (LookAside i seen) old.caller.now mid look tt tt (λ tag h. h))
+        (adds_two i mask found mid new.caller.now fits two);
+    map = map;
+    lent = lent;
+    freed = λ small. let more = counts (omega arith) in omega arith;
+    latest = latest;
+  };
+  holds = spilled has some fits;
 }

@@ -13,13 +13,14 @@ use Rattle.tag_layout.proofs.PlaceFacts.{word_of-tag_at, place_of-tag_at, tag_at
 use Rattle.tag_core.specs.declared.record.Record.{Record}
 use Rattle.tag_core.specs.declared.step.Step.TheVariants.{Word}
 use Rattle.tag_core.specs.declared.word_step.WordStep.{WordStep}
-use Rattle.tag_core.specs.declared.word_step.WordStep.TheVariants.{Look, Claimed, Swap, Spill}
+use Rattle.tag_core.specs.declared.word_step.WordStep.TheVariants.{Look, LookAside, Claimed, Swap, Spill}
 use Rattle.tag_core.specs.Records.{record_after, joined}
 use Rattle.tag_core.specs.Steps.{without}
 use Rattle.tag_search.specs.Gains.{held_with, count_of}
 use Rattle.tag_search.specs.Order.{scan_order}
-use Rattle.tag_search.specs.Search.{IsTries, none_left, wins, loses, IsPass, pass, IsSweep, empty, spilled, IsRetry}
-use Rattle.tag_search.specs.Search.{nothing_aside, swept, IsVisit, at_once, retried, Visit, IsSearch, over, won, passed}
+use Rattle.tag_search.specs.Search.{IsTries, none_left, wins, loses, IsPass, pass, IsSweep, unseen, empty, spilled}
+use Rattle.tag_search.specs.Search.{IsRetry, no_turn, turn_won, turn_passed, IsVisit, at_once, retried, Visit}
+use Rattle.tag_search.specs.Search.{IsSearch, over, won, passed}
 use Rattle.tag_search.specs.Shared.{record_after_all, FindsWord}
 use Rattle.tag_search.specs.SharedLaws.{record_after-append}
 use Rattle.tag_search.specs.Visits.{Reach, visit_of, visits}
@@ -76,6 +77,9 @@ module _ {R : Type 0} (bits i : ℕ) where
 
   pub took_look : (r : Record R) (found : ℕ) → Took bits i None r (record_after (Word (Look i found)) r)
   took_look r found = record { shape = refl; number = refl; held = refl; won = refl; back = omega arith; place = tt }
+
+  took_aside : (r : Record R) (found : ℕ) → Took bits i None r (record_after (Word (LookAside i found)) r)
+  took_aside r found = record { shape = refl; number = refl; held = refl; won = refl; back = omega arith; place = tt }
 
   took_swap : (r : Record R) (found : ℕ) → Took bits i None r (record_after (Word (Swap i found)) r)
   took_swap r found = record { shape = refl; number = refl; held = refl; won = refl; back = omega arith; place = tt }
@@ -146,26 +150,42 @@ module _ {R : Type 0} (bits i : ℕ) (narrow : bits ≤ 64) where
 
   pub sweep_took : {mask : ℕ} {steps : List WordStep} (r : Record R) → IsSweep i mask steps
       → Took bits i None r (record_after_all steps r)
-  sweep_took r empty = took_swap bits i r 0
-  sweep_took r (spilled {mask = mask} {found = found} some fits) =
-      let s : Record R = record_after (Word (Swap i mask)) r in
-      took_on bits i r s (record_after (Word (Spill i mask found)) s) None (took_swap bits i r mask)
-      (took_spill bits i s mask found)
+  sweep_took r unseen = took_aside bits i r 0
+  sweep_took r (empty {seen = seen} some) =
+      let q : Record R = record_after (Word (LookAside i seen)) r in
+      took_on bits i r q (record_after (Word (Swap i 0)) q) None (took_aside bits i r seen) (took_swap bits i q 0)
+  sweep_took r (spilled {seen = seen} {mask = mask} {found = found} some has fits) =
+      let q : Record R = record_after (Word (LookAside i seen)) r in
+      let s : Record R = record_after (Word (Swap i mask)) q in
+      let t : Record R = record_after (Word (Spill i mask found)) s in
+      took_on bits i r q t None (took_aside bits i r seen)
+      (took_on bits i q s t None (took_swap bits i q mask) (took_spill bits i s mask found))
 
-  retry_took : {rank : List ℕ} {steps : List WordStep} {answer : Option ℕ} (r : Record R) → IsRetry i rank steps answer
-      → AllByRecursion FindsWord steps → All (λ place. place < bits) rank
-      → Took bits i answer r (record_after_all steps r)
-  retry_took r (nothing_aside sweep) finds small = sweep_took r sweep
-  retry_took r (swept {sweep = first} {second = second} {answer = answer} some sweep again) finds small =
+  turn_took : {mask : ℕ} {rank : List ℕ} {first second : List WordStep} {answer : Option ℕ} (r : Record R)
+      → IsSweep i mask first → IsPass i rank second answer
+      → AllByRecursion FindsWord (first ++ second) → All (λ place. place < bits) rank
+      → Took bits i answer r (record_after_all (first ++ second) r)
+  turn_took {first = first} {second = second} {answer = answer} r sweep again finds small =
       took_more bits i r first second answer (sweep_took r sweep)
       (pass_took (record_after_all first r) again (finds-split first second finds).1 small)
 
+  retry_took : {rank : List ℕ} {turns : ℕ} {steps : List WordStep} {answer : Option ℕ} (r : Record R)
+      → IsRetry i rank turns steps answer → AllByRecursion FindsWord steps → All (λ place. place < bits) rank
+      → Took bits i answer r (record_after_all steps r)
+  retry_took r no_turn finds small = took_none bits i r
+  retry_took r (turn_won sweep again) finds small = turn_took r sweep again finds small
+  retry_took r (turn_passed {sweep = first} {second = second} {rest = rest} {answer = answer} sweep again more) finds
+      small =
+      let split = finds-split (first ++ second) rest finds in
+      took_more bits i r (first ++ second) rest answer (turn_took r sweep again split.0 small)
+      (retry_took (record_after_all (first ++ second) r) more split.1 small)
+
   -- a visit wins the place that it answers, and nothing else
-  visit_took : {rank : List ℕ} {steps : List WordStep} {answer : Option ℕ} (r : Record R) → IsVisit i rank steps answer
-      → AllByRecursion FindsWord steps → All (λ place. place < bits) rank
+  visit_took : {rank : List ℕ} {turns : ℕ} {steps : List WordStep} {answer : Option ℕ} (r : Record R)
+      → IsVisit i rank turns steps answer → AllByRecursion FindsWord steps → All (λ place. place < bits) rank
       → Took bits i answer r (record_after_all steps r)
   visit_took r (at_once once) finds small = pass_took r once finds small
-  visit_took r (retried {first = first} {rest = rest} {answer = answer} once again) finds small =
+  visit_took r (retried {first = first} {rest = rest} {answer = answer} some once again) finds small =
       let split = finds-split first rest finds in
       took_more bits i r first rest answer (pass_took r once split.0 small)
       (retry_took (record_after_all first r) again split.1 small)
@@ -212,7 +232,7 @@ module _ {R : Type 0} (l : Layout) (narrow : word_bits l ≤ 64) where
   }
 
   pub visit_wins : (visit : Visit) {steps : List WordStep} {answer : Option ℕ} (r : Record R)
-      → IsVisit visit.word visit.rank steps answer
+      → IsVisit visit.word visit.rank visit.turns steps answer
       → AllByRecursion FindsWord steps → IsInside l visit → Took (word_depth l visit.word) visit.word answer r
       (record_after_all steps r)
   visit_wins visit r v finds inside = visit_took (word_depth l visit.word) visit.word

@@ -9,10 +9,10 @@ use Rattle.std.proofs.lemmas.Bool.{lt-ltb, ltb-true}
 use Rattle.std.proofs.lemmas.Nat.Bits.{bit_at_and, bit_at_or, bit_at_not, bit_at-lt, bit_at-zero, bit_at-pow_same}
 use Rattle.std.proofs.lemmas.Nat.Bits.{bit_at-pow_other}
 use Rattle.tag_core.specs.declared.word_step.WordStep.{WordStep}
-use Rattle.tag_core.specs.declared.word_step.WordStep.TheVariants.{Claimed, Swap, Spill}
+use Rattle.tag_core.specs.declared.word_step.WordStep.TheVariants.{LookAside, Claimed, Swap, Spill}
 use Rattle.tag_core.specs.Steps.{Words, Quiet, words_after, words_after_all, without}
 use Rattle.tag_search.specs.Pool.{pool_of, freed_in, taken_in, taken_at}
-use Rattle.tag_search.specs.Search.{IsSweep, empty, spilled}
+use Rattle.tag_search.specs.Search.{IsSweep, unseen, empty, spilled}
 use Rattle.tag_search.proofs.Pools.{pool_ext, or_false, and_true, and_false, taken_same}
 
 -- the place is below 64, and its bit is 0 (or 1)
@@ -115,20 +115,24 @@ swap_bit : (b : Bool) (a k : ℕ) → is_one (cond b 0 a) k ≡ (not (b || false
 swap_bit true a k = none_of 0 k (bit_at-zero k)
 swap_bit false a k = refl
 
+swap_none : (b : Bool) (a k : ℕ) → (b ≡ true → a ≡ 0) → is_one a k ≡ (not (b || false) && is_one a k)
+swap_none true a k none = none_of a k (ap (λ (n : ℕ). bit_at n k) (none refl) ∙ bit_at-zero k)
+swap_none false a k none = refl
+
 -- a sweep frees what is set aside in its word
 pub sweep_pool : {i mask : ℕ} {steps : List WordStep} → IsSweep i mask steps → (w : Words) → Quiet steps w
     → pool_of (words_after_all steps w) ≡ freed_in (i ∷ []) (pool_of w)
-sweep_pool {i = i} empty w quiet = pool_ext (pool_of (words_after_all (Swap i 0 ∷ []) w))
+sweep_pool {i = i} unseen w quiet = pool_ext (pool_of (words_after_all (LookAside i 0 ∷ []) w))
     (freed_in (i ∷ []) (pool_of w))
     (λ j k. kept_bit (nat_eq j i) (w.word j) (w.aside j) k (λ t. ap w.aside (eqb-true j i t) ∙ sym quiet.0))
+    (λ j k. swap_none (nat_eq j i) (w.aside j) k (λ t. ap w.aside (eqb-true j i t) ∙ sym quiet.0))
+sweep_pool {i = i} (empty {seen = seen} some) w quiet =
+    pool_ext (pool_of (words_after_all (LookAside i seen ∷ Swap i 0 ∷ []) w)) (freed_in (i ∷ []) (pool_of w))
+    (λ j k. kept_bit (nat_eq j i) (w.word j) (w.aside j) k (λ t. ap w.aside (eqb-true j i t) ∙ sym quiet.1.0))
     (λ j k. swap_bit (nat_eq j i) (w.aside j) k)
-sweep_pool {i = i} {mask = mask} (spilled {found = found} some fits) w quiet =
-    pool_ext (pool_of (words_after_all (Swap i mask ∷ Spill i mask found ∷ []) w)) (freed_in (i ∷ []) (pool_of w))
+sweep_pool {i = i} {mask = mask} (spilled {seen = seen} {found = found} some has fits) w quiet =
+    pool_ext (pool_of (words_after_all (LookAside i seen ∷ Swap i mask ∷ Spill i mask found ∷ []) w))
+    (freed_in (i ∷ []) (pool_of w))
     (λ j k. spill_bit (nat_eq j i) (w.word i) (w.word j) (w.aside j) mask k (λ t. ap w.word (eqb-true j i t))
-    (λ t. ap w.aside (eqb-true j i t) ∙ sym quiet.0) fits)
+    (λ t. ap w.aside (eqb-true j i t) ∙ sym quiet.1.0) fits)
     (λ j k. swap_bit (nat_eq j i) (w.aside j) k)
-
--- a sweep that found no mask found no place set aside
-pub sweep_none : {i : ℕ} {steps : List WordStep} → IsSweep i 0 steps → (w : Words) → Quiet steps w → w.aside i ≡ 0
-sweep_none empty w quiet = sym quiet.0
-sweep_none (spilled some fits) w quiet = sym quiet.0

@@ -1,5 +1,7 @@
 -- Sums over the words of a list, in the order in which a search visits them.
-use Rattle.std.proofs.Common.{◌≡◌, ℕ, zero, suc, ◌+◌, ◌-◌, ◌*◌, ◌≤◌, List, [], ◌∷◌, ◌++◌, arith, refl, ap, ◌∙◌}
+use Rattle.std.proofs.Common.{◌≡◌, ℕ, zero, suc, ◌+◌, ◌-◌, ◌*◌, ◌≤◌, Bool, true, false, cond, nat_eq, ne_eqb, List, [], ◌∷◌, ◌++◌, arith, refl, ap, ◌∙◌}
+use mathlib.Core.Logic.{dite}
+use native.Mathlib.Decide.{ℕ_discrete}
 use Rattle.sums.specs.Below.{sum_below}
 use Rattle.tag_layout.specs.Layout.{Layout, words, word_depth}
 use Rattle.tag_layout.proofs.PlaceFacts.{word_depths-sum}
@@ -34,11 +36,33 @@ tally-around f first n h =
     let low : sum_below f (0 + (first - 0)) ≡ sum_below f first = ap (sum_below f) e' in
     let front = tally-from f 0 (first - 0) in omega arith
 
--- the sum of twice a number and four
-pub sum_below-twice : (f : ℕ → ℕ) (n : ℕ) → sum_below (λ i. 2 * f i + 4) n ≡ 2 * sum_below f n + 4 * n
+-- the sum of twice a number and five
+pub sum_below-twice : (f : ℕ → ℕ) (n : ℕ) → sum_below (λ i. 2 * f i + 5) n ≡ 2 * sum_below f n + 5 * n
 sum_below-twice f zero = refl
 sum_below-twice f (suc n) = let before = sum_below-twice f n in omega arith
 
--- the sum of twice the depth of each word and four
-pub steps-sum : (l : Layout) → sum_below (λ i. 2 * word_depth l i + 4) (words l) ≡ 2 * l.depth + 4 * words l
-steps-sum l = sum_below-twice (word_depth l) (words l) ∙ ap (λ (d : ℕ). 2 * d + 4 * words l) (word_depths-sum l)
+-- the sum of twice the depth of each word and five
+pub steps-sum : (l : Layout) → sum_below (λ i. 2 * word_depth l i + 5) (words l) ≡ 2 * l.depth + 5 * words l
+steps-sum l = sum_below-twice (word_depth l) (words l) ∙ ap (λ (d : ℕ). 2 * d + 5 * words l) (word_depths-sum l)
+
+cond-le : (b : Bool) (c : ℕ) → cond b c 0 ≤ c
+cond-le true c = omega arith
+cond-le false c = omega arith
+
+-- an addend at one index that is not below the bound
+sum_below-apart : (g : ℕ → ℕ) (c at n : ℕ) → n ≤ at
+    → sum_below (λ i. g i + cond (nat_eq i at) c 0) n ≡ sum_below g n
+sum_below-apart g c at zero h = refl
+sum_below-apart g c at (suc n) h =
+    let before = sum_below-apart g c at n (omega arith) in
+    let none : cond (nat_eq n at) c 0 ≡ 0 = ap (λ (b : Bool). cond b c 0) (ne_eqb n at (λ e. omega arith)) in
+    omega arith
+
+-- an addend at one index counts once
+pub sum_below-once : (g : ℕ → ℕ) (c at n : ℕ)
+    → sum_below (λ i. g i + cond (nat_eq i at) c 0) n ≤ sum_below g n + c
+sum_below-once g c at zero = omega arith
+sum_below-once g c at (suc n) = dite (ℕ_discrete n at)
+    (λ e. let before = sum_below-apart g c at n (omega arith) in let most = cond-le (nat_eq n at) c in omega arith)
+    (λ ne. let before = sum_below-once g c at n in
+    let none : cond (nat_eq n at) c 0 ≡ 0 = ap (λ (b : Bool). cond b c 0) (ne_eqb n at ne) in omega arith)

@@ -4,7 +4,7 @@ use Rattle.tag_core.specs.declared.word_step.WordStep.{WordStep}
 use Rattle.tag_core.specs.declared.word_step.WordStep.TheVariants.{Look, Claimed}
 use Rattle.tag_core.specs.Steps.{Words, Quiet, words_after_all, without}
 use Rattle.tag_layout.specs.Bits.{IsFirstClear}
-use Rattle.tag_layout.specs.Layout.{Layout, words, word_depth, tag_at}
+use Rattle.tag_layout.specs.Layout.{Layout, word_bits, words, word_depth, tag_at}
 use Rattle.tag_search.specs.Pool.{pool_of}
 use Rattle.tag_search.specs.Choice.{IsBatchChoice}
 use Rattle.tag_search.specs.Order.{scan_order}
@@ -60,4 +60,4 @@ pub record IsBatchGet (l : Layout) (n first : ℕ) (answer : Option (ℕ × ℕ)
   pub search : IsBatchSearch l n (batch_words l first) steps answer
   pub alone : (w : Words) → Quiet steps w
       → IsBatchChoice l n (pool_of w) (batch_words l first) answer (pool_of (words_after_all steps w))
-  pub bound : length steps ≤ 2 * l.depth + 4 * words l
+  pub bound : length steps ≤ 2 * l.depth + 5 * words l + 3 * (word_bits l + 4)

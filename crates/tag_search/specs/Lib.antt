@@ -13,6 +13,7 @@ pub mod Scans
 pub mod Plain
 pub mod PlainLaws
 pub mod Writes
+pub mod Freed
 pub mod Shared
 pub mod SharedLaws
 pub mod AloneLaws

@@ -1,9 +1,9 @@
 -- Which steps are a search: passes over the places of a word, visits of words, and their answers.
-use Rattle.std.specs.Prelude.{◌≡◌, ◌≢◌, ℕ, ◌^◌, ◌<◌, List, [], ◌∷◌, ◌++◌, All, Option, Some, None}
+use Rattle.std.specs.Prelude.{◌≡◌, ◌≢◌, ℕ, suc, ◌^◌, ◌<◌, ◌≤◌, List, [], ◌∷◌, ◌++◌, All, Option, Some, None}
 use Rattle.std.specs.Int.{bit_at}
 use Rattle.tag_layout.specs.Layout.{Layout, tag_at}
 use Rattle.tag_core.specs.declared.word_step.WordStep.{WordStep}
-use Rattle.tag_core.specs.declared.word_step.WordStep.TheVariants.{Look, Claimed, Swap, Spill}
+use Rattle.tag_core.specs.declared.word_step.WordStep.TheVariants.{Look, LookAside, Claimed, Swap, Spill}
 
 -- each of the places is taken in the word
 abbrev pub AllTaken : ℕ → List ℕ → Type 0
@@ -35,38 +35,55 @@ pub data IsPass (i : ℕ) (rank : List ℕ) : List WordStep → Option ℕ → T
       {found : ℕ} {tries : List WordStep} {answer : Option ℕ}
       → IsTries i rank found tries answer → IsPass i rank (Look i found ∷ tries) answer
 
--- the cleared set is swapped with 0, and the mask that it had, if any, is removed from the word
+-- a load of the cleared set; if anything was set aside, the set is swapped with 0, and the mask that it had by then, if
+-- any, is removed from the word
 pub data IsSweep (i : ℕ) : ℕ → List WordStep → Type 0 where
-  empty : IsSweep i 0 (Swap i 0 ∷ [])
-  spilled : {mask found : ℕ} → mask ≢ 0 → mask < 2 ^ 64 → IsSweep i mask (Swap i mask ∷ Spill i mask found ∷ [])
+  unseen : IsSweep i 0 (LookAside i 0 ∷ [])
+  empty : {seen : ℕ} → seen ≢ 0 → IsSweep i 0 (LookAside i seen ∷ Swap i 0 ∷ [])
+  spilled :
+      {seen mask found : ℕ}
+      → seen ≢ 0 → mask ≢ 0 → mask < 2 ^ 64 → IsSweep i mask (LookAside i seen ∷ Swap i mask ∷ Spill i mask found ∷ [])
 
--- a sweep and, if it found a mask, a pass
-pub data IsRetry (i : ℕ) (rank : List ℕ) : List WordStep → Option ℕ → Type 0 where
-  nothing_aside : {sweep : List WordStep} → IsSweep i 0 sweep → IsRetry i rank sweep None
-  swept :
-      {sweep second : List WordStep} {mask : ℕ} {answer : Option ℕ}
-      → mask ≢ 0 → IsSweep i mask sweep → IsPass i rank second answer → IsRetry i rank (sweep ++ second) answer
+-- at most so many turns, each a sweep and a pass, up to the first pass that wins
+pub data IsRetry (i : ℕ) (rank : List ℕ) : ℕ → List WordStep → Option ℕ → Type 0 where
+  no_turn : IsRetry i rank 0 [] None
+  turn_won :
+      {turns mask place : ℕ} {sweep second : List WordStep}
+      → IsSweep i mask sweep → IsPass i rank second (Some place)
+      → IsRetry i rank (suc turns) (sweep ++ second) (Some place)
+  turn_passed :
+      {turns mask : ℕ} {sweep second rest : List WordStep} {answer : Option ℕ}
+      → IsSweep i mask sweep → IsPass i rank second None → IsRetry i rank turns rest answer
+      → IsRetry i rank (suc turns) ((sweep ++ second) ++ rest) answer
 
--- a pass and, if it wins nothing, a sweep with a second pass
-pub data IsVisit (i : ℕ) (rank : List ℕ) : List WordStep → Option ℕ → Type 0 where
-  at_once : {steps : List WordStep} {place : ℕ} → IsPass i rank steps (Some place) → IsVisit i rank steps (Some place)
+-- turns of the visit of the hint's word: one is not enough, since between the two steps of another caller's sweep
+-- neither the word nor its cleared set shows the tags swept
+abbrev pub most_turns : ℕ
+most_turns = 4
+
+-- a pass and, if it wins nothing, some turns
+pub data IsVisit (i : ℕ) (rank : List ℕ) (turns : ℕ) : List WordStep → Option ℕ → Type 0 where
+  at_once : {steps : List WordStep} {place : ℕ} → IsPass i rank steps (Some place)
+      → IsVisit i rank turns steps (Some place)
   retried :
       {first rest : List WordStep} {answer : Option ℕ}
-      → IsPass i rank first None → IsRetry i rank rest answer → IsVisit i rank (first ++ rest) answer
+      → 1 ≤ turns → IsPass i rank first None → IsRetry i rank turns rest answer
+      → IsVisit i rank turns (first ++ rest) answer
 
--- a word, and the places to try in it, in order
+-- a word, the places to try in it, in order, and how many turns at most
 pub record Visit : Type 0 where
   pub word : ℕ
   pub rank : List ℕ
+  pub turns : ℕ
 
 -- the visits in order, up to the first that wins; the answer is its tag, or none after the last visit
 pub data IsSearch (l : Layout) : List Visit → List WordStep → Option ℕ → Type 0 where
   over : IsSearch l [] [] None
   won :
       {visit : Visit} {visits : List Visit} {steps : List WordStep} {place : ℕ}
-      → IsVisit visit.word visit.rank steps (Some place)
+      → IsVisit visit.word visit.rank visit.turns steps (Some place)
       → IsSearch l (visit ∷ visits) steps (Some (tag_at l visit.word place))
   passed :
       {visit : Visit} {visits : List Visit} {steps rest : List WordStep} {answer : Option ℕ}
-      → IsVisit visit.word visit.rank steps None → IsSearch l visits rest answer
+      → IsVisit visit.word visit.rank visit.turns steps None → IsSearch l visits rest answer
       → IsSearch l (visit ∷ visits) (steps ++ rest) answer

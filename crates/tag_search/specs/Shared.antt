@@ -2,16 +2,18 @@
 use Rattle.std.specs.Prelude.{◌≡◌, ℕ, ◌+◌, ◌^◌, ◌<◌, ◌≤◌, List, [], ◌∷◌}
 use Rattle.std.specs.List.{AllByRecursion}
 use Rattle.std.specs.Int.{bit_at}
+use Rattle.step_ledger.specs.History.{total}
 use Rattle.tag_layout.specs.Layout.{word_of, place_of}
 use Rattle.tag_core.specs.declared.caller.Caller.{Caller}
 use Rattle.tag_core.specs.declared.record.Record.{Record}
 use Rattle.tag_core.specs.declared.step.Step.TheVariants.{Word}
 use Rattle.tag_core.specs.declared.word_step.WordStep.{WordStep}
-use Rattle.tag_core.specs.declared.word_step.WordStep.TheVariants.{Claimed}
+use Rattle.tag_core.specs.declared.word_step.WordStep.TheVariants.{Claimed, Spill}
 use Rattle.tag_core.specs.Callers.{record_of, slot_of, Holds, SameMap}
 use Rattle.tag_core.specs.Records.{record_after}
 use Rattle.tag_search.specs.declared.shared.Shared.{Shared}
 use Rattle.tag_search.specs.Added.{AddsSteps}
+use Rattle.tag_search.specs.Freed.{spilled, latest_after}
 
 -- the caller may win n more tags
 abbrev pub HasRoom : {R : Type 0} → Caller R → ℕ → Type 0
@@ -22,9 +24,10 @@ abbrev pub record_after_all : {R : Type 0} → List WordStep → Record R → Re
 record_after_all [] r = r
 record_after_all (step ∷ steps) r = record_after_all steps (record_after (Word step) r)
 
--- a claim found a word of 64 bits
+-- a claim found a word of 64 bits, and what a sweep freed is one
 abbrev pub FindsWord : WordStep → Type 0
 FindsWord (Claimed i mask found) = found < 2 ^ 64
+FindsWord (Spill i mask found) = mask < 2 ^ 64
 FindsWord _ = Unit {0}
 
 -- a claim found the bit set of each tag of its word that the caller holds
@@ -43,11 +46,23 @@ pub record AddsAll {R : Type 0} (steps : List WordStep) (old new : Caller R) : T
   pub finds_held : AllByRecursion (FindsHeldBy old) steps
   pub same_map : SameMap old new
 
--- the port's caller made the steps, and the port still is that caller's, on that map
+-- the word and the mask of the latest sweep after these steps, oldest first
+abbrev pub latest_after_all : List WordStep → ℕ × ℕ → ℕ × ℕ
+latest_after_all [] latest = latest
+latest_after_all (step ∷ steps) latest = latest_after_all steps (latest_after step latest)
+
+-- the word and the mask of the port's latest sweep
+abbrev pub latest_of : {R : Type 0} → Shared R → ℕ × ℕ
+latest_of port = (port.word, port.mask)
+
+-- the port's caller made the steps, the port still is that caller's, on that map, and it counted the tags freed and
+-- knows those of the latest sweep
 pub record AddsThrough {R : Type 0} (old : Shared R) (steps : List WordStep) (new : Shared R) : Type 0 where
   pub added : AddsAll steps old.caller.now new.caller.now
   pub map : new.map.now ≡ old.map.now
   pub lent : new.caller.ghost_name ≡ old.caller.ghost_name
+  pub freed : old.freed + total spilled steps < 2 ^ 64 → new.freed ≡ old.freed + total spilled steps
+  pub latest : latest_of new ≡ latest_after_all steps (latest_of old)
 
 -- the caller made some steps, and the fact holds of them
 abbrev pub Makes : {R : Type 0} → Caller R → Caller R → (List WordStep → Type 0) → Type 0

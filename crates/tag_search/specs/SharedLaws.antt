@@ -1,7 +1,8 @@
 -- Lists of steps by one caller of a shared map, one after the other.
-use Rattle.std.specs.Prelude.{◌≡◌, ℕ, List, [], ◌∷◌, ◌++◌, refl}
+use Rattle.std.specs.Prelude.{◌≡◌, ℕ, ◌+◌, List, [], ◌∷◌, ◌++◌, refl}
 use Rattle.std.specs.List.{AllByRecursion}
-use Rattle.std.proofs.Common.{sym, ap, ◌∙◌}
+use Rattle.std.proofs.Common.{arith, sym, ap, ◌∙◌}
+use Rattle.step_ledger.specs.History.{total}
 use Rattle.tag_core.specs.declared.caller.Caller.{Caller}
 use Rattle.tag_core.specs.declared.record.Record.{Record}
 use Rattle.tag_core.specs.declared.step.Step.TheVariants.{Word}
@@ -13,7 +14,8 @@ use Rattle.std.specs.Int.{bit_at}
 use Rattle.tag_layout.specs.Layout.{word_of, place_of}
 use Rattle.tag_core.specs.declared.shape.Shape.{Shape}
 use Rattle.tag_core.specs.declared.word_step.WordStep.TheVariants.{Look, LookAside, Claimed, Give, Put, Swap, Spill}
-use Rattle.tag_search.specs.Shared.{record_after_all, FindsWord, FindsHeldBy, AddsAll, AddsThrough}
+use Rattle.tag_search.specs.Freed.{spilled, latest_after}
+use Rattle.tag_search.specs.Shared.{record_after_all, latest_after_all, latest_of, FindsWord, FindsHeldBy, AddsAll, AddsThrough}
 
 -- the record after a concatenation is that after the second list, from that after the first
 pub record_after-append : {R : Type 0} (xs ys : List WordStep) (r : Record R)
@@ -71,7 +73,24 @@ adds_on c d e xs ys a b = record {
 
 -- the empty list of steps leads from a port to itself
 pub through_nothing : {R : Type 0} (p : Shared R) → AddsThrough p [] p
-through_nothing p = record { added = adds_nothing p.caller.now; map = refl; lent = refl }
+through_nothing p = record {
+  added = adds_nothing p.caller.now;
+  map = refl;
+  lent = refl;
+  freed = λ fits. omega arith;
+  latest = refl;
+}
+
+-- the latest sweep of a concatenation is that of the second list, from that of the first
+pub latest_after-append : (xs ys : List WordStep) (latest : ℕ × ℕ)
+    → latest_after_all (xs ++ ys) latest ≡ latest_after_all ys (latest_after_all xs latest)
+latest_after-append [] ys latest = refl
+latest_after-append (x ∷ xs) ys latest = latest_after-append xs ys (latest_after x latest)
+
+-- the sum over a concatenation
+pub total-append : {T : Type 0} (f : T → ℕ) (xs ys : List T) → total f (xs ++ ys) ≡ total f xs + total f ys
+total-append f [] ys = omega arith
+total-append f (x ∷ xs) ys = let rest = total-append f xs ys in omega arith
 
 -- the steps of two calls through one port
 pub through_more : {R : Type 0} (p q r : Shared R) (xs ys : List WordStep) → AddsThrough p xs q → AddsThrough q ys r
@@ -80,4 +99,7 @@ through_more p q r xs ys a b = record {
   added = adds_on p.caller.now q.caller.now r.caller.now xs ys a.added b.added;
   map = b.map ∙ a.map;
   lent = b.lent ∙ a.lent;
+  freed = λ fits. let both = total-append spilled xs ys in let once = a.freed (omega arith) in
+      let twice = b.freed (omega arith) in omega arith;
+  latest = b.latest ∙ ap (latest_after_all ys) a.latest ∙ sym (latest_after-append xs ys (latest_of p));
 }

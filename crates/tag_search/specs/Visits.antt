@@ -2,7 +2,7 @@
 use Rattle.std.specs.Prelude.{ℕ, Bool, true, false, cond, nat_eq, List, map}
 use Rattle.tag_layout.specs.Layout.{Layout, words, word_of, place_of, word_depth, shallow_limit}
 use Rattle.tag_search.specs.Order.{scan_order}
-use Rattle.tag_search.specs.Search.{Visit}
+use Rattle.tag_search.specs.Search.{Visit, most_turns}
 
 -- the first place of the first word, the number of places of each word that may be taken, and whether the places before
 -- the start follow
@@ -20,11 +20,13 @@ plain_reach l true hint = record { start = place_of l hint; limit = word_depth l
 abbrev pub shallow_reach : Layout → ℕ → ℕ → Reach
 shallow_reach l depth hint = record { start = place_of l hint; limit = λ i. shallow_limit l i depth; wrap = true }
 
--- the visit of a word: it begins at `start` in the first word, and at place 0 in every other
+-- the visit of a word: it begins at `start` in the first word, with the most turns, and at place 0 in every other, with
+-- one
 abbrev pub visit_of : ℕ → Reach → ℕ → Visit
 visit_of first reach i = record {
   word = i;
   rank = scan_order (cond (nat_eq i first) reach.start 0) (reach.limit i) reach.wrap;
+  turns = cond (nat_eq i first) most_turns 1;
 }
 
 -- a visit of each word, in cyclic order from the first

@@ -8,7 +8,7 @@ ghost use Rattle.tag_search.specs.Places.{places_of};
 ghost use Rattle.tag_search.specs.Search.{IsPass, IsSearch};
 ghost use Rattle.tag_search.specs.Visits.{visit_of, visits, plain_reach};
 
-use crate::pass::{pass, retry};
+use crate::pass::{TURNS, pass, retry};
 use crate::port::Port;
 use crate::rank::Rank;
 use crate::scan::Scan;
@@ -58,7 +58,7 @@ fn search_on<P: Port>(port: &mut P, layout: Layout, first: u32) -> Option<u32>
         (seen : List WordStep) → IsPass first (scan_order 0 (word_depth layout first) true) seen None
         → IsSearch layout (visits layout first (plain_reach layout false 0)) (seen ++ steps) result) }
 {
-    match retry(port, first, all_places(layout, first)) {
+    match retry(port, first, all_places(layout, first), TURNS) {
         Some(place) => Some(layout.tag_at(first, place)),
         None => search_others(port, layout, first),
     }

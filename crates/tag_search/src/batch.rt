@@ -57,7 +57,7 @@ fn sweep_and_look<P: Port>(port: &mut P, word: u32) -> u64
     ensures room { SameRoom P.has_room port.old port.new }
     ensures steps { AddsSteps P.adds port.old port.new (IsSweptLook word result) }
 {
-    let _swept = port.sweep(word);
+    port.sweep(word);
     port.look(word)
 }
 

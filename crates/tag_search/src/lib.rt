@@ -4,6 +4,7 @@
 mod all_places;
 mod batch;
 mod choosing;
+mod found;
 mod hint;
 mod laws;
 pub mod on_map;
@@ -17,6 +18,7 @@ mod scan;
 mod search;
 mod shared;
 
+pub use found::Found;
 pub use hint::{Hint, after_clear};
 pub use laws::{alone_batches_choose, alone_gets_choose};
 pub use plain::PlainPort;

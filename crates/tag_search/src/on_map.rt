@@ -7,6 +7,7 @@ ghost use Rattle.tag_core.specs.declared.step.Step.TheVariants.{Word};
 ghost use Rattle.tag_core.specs.declared.word_step.WordStep.TheVariants.{Give, Put};
 ghost use Rattle.tag_search.specs.Batch.{IsBatchGet};
 ghost use Rattle.tag_search.specs.Follows.{HintFollows, BatchFollows, ClearFollows};
+ghost use Rattle.tag_search.specs.Freed.{left_free};
 ghost use Rattle.tag_search.specs.Gains.{Gains, GainsRun};
 ghost use Rattle.tag_search.specs.Gets.{IsGet};
 ghost use Rattle.tag_search.specs.Hints.{reduced};
@@ -15,6 +16,7 @@ ghost use Rattle.tag_search.specs.Pool.{set_aside, free_at};
 ghost use Rattle.tag_search.specs.Shared.{HasRoom, Makes};
 ghost use Rattle.tag_search.specs.Visits.{plain_visits, shallow_visits};
 
+use crate::found::Found;
 use crate::hint::{Hint, after_clear};
 use crate::place::bit_of;
 use crate::search;
@@ -24,26 +26,30 @@ use tag_core::{Caller, Map, Spent};
 /// Takes a free tag for the caller. `None` means that each place tried was found taken at some moment of the call, not
 /// that all were taken at one moment. `Spent` if the caller's life has no room for one more tag.
 #[inline(always)]
-pub fn get<R>(map: &Map<R>, caller: &mut Caller<R>, hint: &mut Hint) -> Result<Option<u32>, Spent>
+pub fn get<R>(map: &Map<R>, caller: &mut Caller<R>, hint: &mut Hint) -> Result<Found<u32>, Spent>
     requires caller { IsCallerOf map.now caller.old }
     ensures caller { IsCallerOf map.now caller.new }
     ensures room { IsOk result ↔ HasRoom caller.old 1 }
-    ensures gains { IfOk result (λ answer. Gains (layout_of map.now) answer caller.old caller.new) }
-    ensures steps { IfOk result (λ answer.
+    ensures gains { IfOk result (λ found. Gains (layout_of map.now) found.answer caller.old caller.new) }
+    ensures steps { IfOk result (λ found.
         let l = layout_of map.now in
         let visits = plain_visits l hint.old.round_robin (reduced l.depth hint.old.at) in
-        Makes caller.old caller.new (IsGet l visits answer)) }
+        Makes caller.old caller.new (IsGet l visits found.answer)) }
 
     // If the map has no other caller, the get is the choice over the words that the caller's own steps left.
-    ensures alone { IsAlone caller.old → IfOk result (λ answer.
+    ensures alone { IsAlone caller.old → IfOk result (λ found.
         let l = layout_of map.now in
         let visits = plain_visits l hint.old.round_robin (reduced l.depth hint.old.at) in
-        Chooses l visits answer caller.old caller.new) }
-    ensures hint { IfOk result (λ answer.
-        HintFollows (layout_of map.now).depth hint.old hint.new answer) }
+        Chooses l visits found.answer caller.old caller.new) }
+    ensures hint { IfOk result (λ found.
+        HintFollows (layout_of map.now).depth hint.old hint.new found.answer) }
+    ensures left { IfOk result (λ found. found.left ≡ left_free caller.old caller.new) }
     ensures err { OnErr result ((caller.new ≡ caller.old) × (hint.new ≡ hint.old)) }
 {
-    search::get(&mut Shared::new(map, caller), hint)
+    let mut port = Shared::new(map, caller);
+    let answer = search::get(&mut port, hint)?;
+    let left = port.left();
+    Ok(Found { answer, left })
 }
 
 /// As `get`, limited to `depth` tags, which are distributed over the words. The share of a word may be 0.
@@ -53,24 +59,28 @@ pub fn get_shallow<R>(
     caller: &mut Caller<R>,
     hint: &mut Hint,
     depth: u32,
-) -> Result<Option<u32>, Spent>
+) -> Result<Found<u32>, Spent>
     requires caller { IsCallerOf map.now caller.old }
     ensures caller { IsCallerOf map.now caller.new }
     ensures room { IsOk result ↔ HasRoom caller.old 1 }
-    ensures gains { IfOk result (λ answer. Gains (layout_of map.now) answer caller.old caller.new) }
-    ensures steps { IfOk result (λ answer.
+    ensures gains { IfOk result (λ found. Gains (layout_of map.now) found.answer caller.old caller.new) }
+    ensures steps { IfOk result (λ found.
         let l = layout_of map.now in
         let visits = shallow_visits l depth (reduced l.depth hint.old.at) in
-        Makes caller.old caller.new (IsGet l visits answer)) }
-    ensures alone { IsAlone caller.old → IfOk result (λ answer.
+        Makes caller.old caller.new (IsGet l visits found.answer)) }
+    ensures alone { IsAlone caller.old → IfOk result (λ found.
         let l = layout_of map.now in
         let visits = shallow_visits l depth (reduced l.depth hint.old.at) in
-        Chooses l visits answer caller.old caller.new) }
-    ensures hint { IfOk result (λ answer.
-        HintFollows (layout_of map.now).depth hint.old hint.new answer) }
+        Chooses l visits found.answer caller.old caller.new) }
+    ensures hint { IfOk result (λ found.
+        HintFollows (layout_of map.now).depth hint.old hint.new found.answer) }
+    ensures left { IfOk result (λ found. found.left ≡ left_free caller.old caller.new) }
     ensures err { OnErr result ((caller.new ≡ caller.old) × (hint.new ≡ hint.old)) }
 {
-    search::get_shallow(&mut Shared::new(map, caller), hint, depth)
+    let mut port = Shared::new(map, caller);
+    let answer = search::get_shallow(&mut port, hint, depth)?;
+    let left = port.left();
+    Ok(Found { answer, left })
 }
 
 /// Takes up to `n` adjacent free tags of one word for the caller. Returns the first tag of the run and the mask of
@@ -81,28 +91,32 @@ pub fn get_batch<R>(
     caller: &mut Caller<R>,
     hint: &mut Hint,
     n: u32,
-) -> Result<Option<(u32, u64)>, Spent>
+) -> Result<Found<(u32, u64)>, Spent>
     requires caller { IsCallerOf map.now caller.old }
     requires count { (1 ≤ n) × (n ≤ word_bits (layout_of map.now)) }
     ensures caller { IsCallerOf map.now caller.new }
     ensures room { IsOk result ↔ (IsTrue hint.old.round_robin ⊎ HasRoom caller.old n) }
-    ensures gains { IfOk result (λ answer.
-        GainsRun (layout_of map.now) answer caller.old caller.new) }
+    ensures gains { IfOk result (λ found.
+        GainsRun (layout_of map.now) found.answer caller.old caller.new) }
     ensures round_robin { IsTrue hint.old.round_robin
-        → (result ≡ Ok None) × (caller.new ≡ caller.old) × (hint.new ≡ hint.old) }
-    ensures steps { hint.old.round_robin ≡ false → IfOk result (λ answer.
+        → (result ≡ Ok (record { answer = None; left = 0 })) × (caller.new ≡ caller.old) × (hint.new ≡ hint.old) }
+    ensures steps { hint.old.round_robin ≡ false → IfOk result (λ found.
         let l = layout_of map.now in
         let first = word_of l (reduced l.depth hint.old.at) in
-        Makes caller.old caller.new (IsBatchGet l n first answer)) }
-    ensures alone { hint.old.round_robin ≡ false → IsAlone caller.old → IfOk result (λ answer.
+        Makes caller.old caller.new (IsBatchGet l n first found.answer)) }
+    ensures alone { hint.old.round_robin ≡ false → IsAlone caller.old → IfOk result (λ found.
         let l = layout_of map.now in
-        ChoosesRun l n (word_of l (reduced l.depth hint.old.at)) answer caller.old caller.new) }
+        ChoosesRun l n (word_of l (reduced l.depth hint.old.at)) found.answer caller.old caller.new) }
     ensures hint { hint.old.round_robin ≡ false
-        → IfOk result (λ answer.
-        BatchFollows (layout_of map.now).depth n hint.old hint.new answer) }
+        → IfOk result (λ found.
+        BatchFollows (layout_of map.now).depth n hint.old hint.new found.answer) }
+    ensures left { IfOk result (λ found. found.left ≡ left_free caller.old caller.new) }
     ensures err { OnErr result ((caller.new ≡ caller.old) × (hint.new ≡ hint.old)) }
 {
-    search::get_batch(&mut Shared::new(map, caller), hint, n)
+    let mut port = Shared::new(map, caller);
+    let answer = search::get_batch(&mut port, hint, n)?;
+    let left = port.left();
+    Ok(Found { answer, left })
 }
 
 /// Sets a held tag aside: it is free after the next sweep of its word. The hint moves to the tag, except under round

@@ -11,6 +11,9 @@ ghost use Rattle.tag_search.specs.Places.{places_of};
 use crate::port::Port;
 use crate::rank::Rank;
 
+/// Turns of the visit of the hint's word, each a sweep and a pass.
+pub const TURNS: u32 = 4;
+
 /// Claims one place. If the place was taken, returns the word as the claim found it.
 #[inline]
 fn claim_place<P: Port>(port: &mut P, word: u32, place: u32) -> Result<(), u64>
@@ -93,28 +96,30 @@ fn pass_on<P: Port>(
     None
 }
 
-/// Passes over the word. If that wins nothing and something was set aside in the word, sweeps it and passes again.
+/// Passes over the word. If that wins nothing, sweeps it and passes again, up to so many times.
 #[inline]
-pub fn visit<P: Port>(port: &mut P, word: u32, rank: Rank) -> Option<u32>
+pub fn visit<P: Port>(port: &mut P, word: u32, rank: Rank, turns: u32) -> Option<u32>
     requires port { P.ready port.old }
     requires word { word < words (P.sizes port.old) }
     requires room { P.has_room port.old 1 }
     requires places { All (λ place. place < word_depth (P.sizes port.old) word) (places_of rank) }
+    requires some { 1 ≤ turns }
     ensures port { P.ready port.new }
     ensures sizes { P.sizes port.new ≡ P.sizes port.old }
     ensures room { IfNone result (SameRoom P.has_room port.old port.new) }
     ensures place { IfSome result (λ place. place < word_depth (P.sizes port.old) word) }
-    ensures visit { AddsSteps P.adds port.old port.new (λ steps. IsVisit word (places_of rank) steps result) }
+    ensures visit { AddsSteps P.adds port.old port.new (λ steps. IsVisit word (places_of rank) turns steps result) }
 {
     match pass(port, word, rank) {
         Some(place) => Some(place),
-        None => retry(port, word, rank),
+        None => retry(port, word, rank, turns),
     }
 }
 
-/// Continues a visit after a pass that won nothing.
+/// Continues a visit after a pass that won nothing. It takes several turns: between the two steps of another caller's
+/// sweep neither the word nor its cleared set shows the tags swept.
 #[inline]
-pub fn retry<P: Port>(port: &mut P, word: u32, rank: Rank) -> Option<u32>
+pub fn retry<P: Port>(port: &mut P, word: u32, rank: Rank, turns: u32) -> Option<u32>
     requires port { P.ready port.old }
     requires word { word < words (P.sizes port.old) }
     requires room { P.has_room port.old 1 }
@@ -123,11 +128,13 @@ pub fn retry<P: Port>(port: &mut P, word: u32, rank: Rank) -> Option<u32>
     ensures sizes { P.sizes port.new ≡ P.sizes port.old }
     ensures room { IfNone result (SameRoom P.has_room port.old port.new) }
     ensures place { IfSome result (λ place. place < word_depth (P.sizes port.old) word) }
-    ensures retry { AddsSteps P.adds port.old port.new (λ steps. IsRetry word (places_of rank) steps result) }
+    ensures retry { AddsSteps P.adds port.old port.new (λ steps. IsRetry word (places_of rank) turns steps result) }
 {
-    if port.sweep(word) {
-        pass(port, word, rank)
-    } else {
-        None
+    for _ in 0..turns {
+        port.sweep(word);
+        if let Some(place) = pass(port, word, rank) {
+            return Some(place);
+        }
     }
+    None
 }

@@ -67,23 +67,21 @@ impl Port for PlainPort {
         })
     }
 
-    fn sweep(&mut self, word: u32) -> bool
+    fn sweep(&mut self, word: u32) -> u64
         requires word { word < words self.old.layout }
         ensures layout { self.new.layout ≡ self.old.layout }
-        ensures swept { IsTrue result ↔ (slice_index self.old.aside word ≢ 0) }
+        ensures swept { result ≡ slice_index self.old.aside word }
         ensures word { WritesBits self.old.word self.new.word word (IsIn (slice_index self.old.aside word)) 0 }
         ensures aside { WritesBits self.old.aside self.new.aside word (λ _. ⊤) 0 }
-        ensures steps { MatchBool result
-            ((mask : ℕ) × (mask ≢ 0) × AddsSteps RunsAlone self.old self.new (IsSweep word mask))
-            (AddsSteps RunsAlone self.old self.new (IsSweep word 0)) }
+        ensures steps { AddsSteps RunsAlone self.old self.new (IsSweep word result) }
     {
         let at = word as usize;
         let mask = self.cleared[at];
         if mask == 0 {
-            return false;
+            return 0;
         }
         self.cleared[at] = 0;
         self.word[at] &= !mask;
-        true
+        mask
     }
 }

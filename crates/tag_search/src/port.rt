@@ -1,5 +1,5 @@
 //! The interface of a search to the words.
-ghost use Rattle.std.specs.Prelude.{◌≡◌, ◌≢◌, ℕ, ◌+◌, ◌^◌, ◌<◌, ◌↔◌, List, [], ◌∷◌, ◌++◌, IsTrue, IfOk, IsOk, OnErr, count_ones, MatchBool};
+ghost use Rattle.std.specs.Prelude.{◌≡◌, ℕ, ◌+◌, ◌^◌, ◌<◌, ◌↔◌, List, [], ◌∷◌, ◌++◌, IsTrue, IfOk, IsOk, OnErr, count_ones};
 ghost use Rattle.tag_layout.specs.Layout.{Layout as Sizes, words, IsWithin};
 ghost use Rattle.tag_core.specs.declared.word_step.WordStep.{WordStep};
 ghost use Rattle.tag_core.specs.declared.word_step.WordStep.TheVariants.{Look, Claimed};
@@ -56,16 +56,14 @@ pub trait Port {
         ensures step { IfOk result (λ claim. adds self.old (Claimed word mask claim.found ∷ []) self.new) }
         ensures err { OnErr result (self.new ≡ self.old) };
 
-    /// Frees the tags of a word that were set aside, and returns whether there were any.
-    fn sweep(&mut self, word: u32) -> bool
+    /// Frees the tags of a word that were set aside, and returns their mask.
+    fn sweep(&mut self, word: u32) -> u64
         requires port { ready self.old }
         requires word { word < words (sizes self.old) }
         ensures port { ready self.new }
         ensures sizes { sizes self.new ≡ sizes self.old }
         ensures room { SameRoom has_room self.old self.new }
-        ensures steps { MatchBool result
-            ((mask : ℕ) × (mask ≢ 0) × AddsSteps adds self.old self.new (IsSweep word mask))
-            (AddsSteps adds self.old self.new (IsSweep word 0)) };
+        ensures steps { AddsSteps adds self.old self.new (IsSweep word result) };
 
     /// No steps lead from a state to itself.
     ghost adds_none: { (p : Self) → adds p [] p };

@@ -8,7 +8,7 @@ ghost use Rattle.tag_search.specs.Places.{places_of};
 ghost use Rattle.tag_search.specs.Visits.{visit_of, visits, plain_reach, shallow_reach};
 ghost use Rattle.tag_search.specs.Scans.{limit_of, reach_of};
 
-use crate::pass::visit;
+use crate::pass::{TURNS, visit};
 use crate::place::place_in_word;
 use crate::port::Port;
 use crate::rank::Rank;
@@ -96,6 +96,15 @@ impl Scan {
         Rank::new(start, self.limit(word), self.wrap)
     }
 
+    /// Returns the number of turns of a word's visit.
+    #[inline]
+    fn turns(&self, word: u32) -> u32
+        ensures value { result ≡ (visit_of self.now.first (reach_of self.now) word).turns }
+        ensures some { 1 ≤ result }
+    {
+        if word == self.first { TURNS } else { 1 }
+    }
+
     /// Returns the number of places of a word that may be taken.
     #[inline]
     fn limit(&self, word: u32) -> u32
@@ -126,7 +135,7 @@ impl Scan {
             IsSearch self.now.layout (map (visit_of self.now.first (reach_of self.now)) (numbers from end)) steps result) }
     {
         for word in from..end {
-            if let Some(place) = visit(port, word, self.rank(word)) {
+            if let Some(place) = visit(port, word, self.rank(word), self.turns(word)) {
                 return Some(self.layout.tag_at(word, place));
             }
         }

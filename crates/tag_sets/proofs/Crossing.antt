@@ -3,8 +3,9 @@ use denote.RattleType.{RattleType}
 use denote.Param.Send.{IsSend, IsSync, recorded_send, struct_send, recorded_sync, struct_sync, sendable}
 use denote.Struct.Declared.{shape as fields_of}
 use Rattle.std.proofs.Crossing.{crosses}
+use Rattle.tag_core.specs.contracts.caller.Caller as caller
 use Rattle.tag_core.proofs.Crossing.{caller_field_sync}
-use Rattle.wake_book.proofs.Crossing.{teller_field_sync, waiter_field_sync}
+use Rattle.wake_book.proofs.Crossing.{teller_field_sync, waiter_field_sync, sighting_field_sync, announcement_field_sync}
 use Rattle.tag_queue.specs.contracts.agent.Agent as agent
 use Rattle.tag_queue.proofs.Crossing.{agent_send, agent_field_send, queue_field_send, queue_field_sync}
 use Rattle.tag_sets.specs.contracts.hand.Hand as hand
@@ -22,7 +23,19 @@ hand_send R value = recorded_send _ _ _ (hand.the_type R).to_one (hand_field_sen
 agent_field_sync : (R : RattleType) → IsSend R → IsSync (agent.the_field R).row
 agent_field_sync R sent = struct_sync (fields_of (agent.the_type R)) (
   search (sendable, crosses) depth 40,
-  (search (sendable, crosses) depth 40, (teller_field_sync, (waiter_field_sync, (caller_field_sync R sent, tt)))),
+  (
+    search (sendable, crosses) depth 40,
+    (
+      teller_field_sync,
+      (
+        waiter_field_sync,
+        (
+          sighting_field_sync (caller.the_row R),
+          (announcement_field_sync (caller.the_row R), (caller_field_sync R sent, tt)),
+        ),
+      ),
+    ),
+  ),
 )
 
 agent_sync : (R : RattleType) → IsSend R → IsSync (agent.the_row R)

@@ -4,6 +4,7 @@ pub mod Told
 pub mod Passing
 pub mod Getting
 pub mod Standing
+pub mod Looking
 pub mod Uniting
 pub mod Opening
 pub mod Batching

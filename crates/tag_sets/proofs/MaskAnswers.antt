@@ -1,11 +1,13 @@
 -- What the ordinary set answers for the numbers of a list holds for the tags of the list, each of which stands there once.
 use Rattle.std.proofs.Common.{◌≡◌, ℕ, ◌^◌, ◌<◌, ◌≤◌, ◌↔◌, List, All, length, get_or, count_ones, Result, Err, IsOk, arith, subst}
 use Rattle.std.proofs.lemmas.Nat.{ones_le_self}
+use Rattle.tag_layout.specs.Layout.{Layout}
 use Rattle.tag_core.specs.declared.shape.Shape.{Shape}
 use Rattle.tag_queue.specs.declared.fault.QueueFault.{QueueFault}
 use Rattle.tag_queue.specs.declared.fault.QueueFault.TheVariants as queue_fault
 use Rattle.tag_queue.specs.Agents as queue
 use Rattle.tag_queue.specs.Batches as queue_batches
+use Rattle.tag_queue.specs.Masks.{words_over}
 use Rattle.tag_queue.proofs.MaskHolds.{few_ones}
 use Rattle.tag_sets.specs.declared.fault.TagFault.{TagFault}
 use Rattle.tag_sets.specs.declared.fault.TagFault.TheVariants.{NoSuchTag, NotHeld}
@@ -21,6 +23,11 @@ use Rattle.tag_sets.proofs.Batching.{same_count, at_place, tags_there, tags_back
 pub still_some : (mask part : ℕ) → mask < 2 ^ 64 → 1 ≤ mask → count_ones part ≡ count_ones mask → 1 ≤ part
 still_some mask part fits some same = let few = (few_ones mask fits some).0 in let most = ones_le_self part in
     omega arith
+
+-- the words from the first of these numbers to the last are those of equal ones
+pub words_alike : (l : Layout) {first first' : ℕ} {list list' : List ℕ} → first ≡ first' → list ≡ list'
+    → words_over l first list ≡ words_over l first' list'
+words_alike l one all j = words_over l (one j) (all j)
 
 module _ {R : Type 0} (tags : Tags R) (hand : Hand R) (own : IsHandOf tags hand) (list named : List ℕ)
     (above : All (λ tag. reserved_of tags ≤ tag) list) (is_named : named ≡ numbers_of (reserved_of tags) list) where

@@ -1,10 +1,14 @@
 -- What an agent does as it enters or leaves its wait group is what its hand does.
-use Rattle.std.proofs.Common.{◌≡◌, ℕ, refl, sym, subst}
+use Rattle.std.proofs.Common.{◌≡◌, ℕ, Result, Ok, Err, IfOk, OnErr, refl, sym, ap, ◌∙◌, subst}
 use Rattle.tag_core.specs.declared.caller.Caller.{Caller}
 use Rattle.tag_core.specs.Holdings.{KeepsAll}
 use Rattle.wake_book.specs.declared.waiting.Left.{Left}
+use Rattle.wake_book.specs.Groups as groups
 use Rattle.tag_queue.specs.declared.agent.Agent.{Agent}
+use Rattle.tag_queue.specs.declared.fault.QueueFault.{QueueFault}
+use Rattle.tag_queue.specs.declared.queue.Queue.{Queue}
 use Rattle.tag_queue.specs.Agents as queue
+use Rattle.tag_queue.specs.Clears as queue_clears
 use Rattle.tag_queue.specs.Holding as queue_holding
 use Rattle.tag_queue.specs.Waits as queue_waits
 use Rattle.tag_sets.specs.declared.hand.Hand.{Hand}
@@ -12,8 +16,20 @@ use Rattle.tag_sets.specs.declared.kind.Kind.TheVariants.{Ordinary}
 use Rattle.tag_sets.specs.Waits.{Enters, Leaves, AgentLeaves}
 use Rattle.tag_sets.proofs.Lifting.{same}
 
+-- an agent has its number, whether or not a clear is refused
+pub same_number : {A R : Type 0} (woken_in : A → ℕ) (set : Queue R) (n : ℕ) (old new : Agent R) (r : Result A QueueFault)
+    → IfOk r (λ told. queue_clears.Counts set n old new (woken_in told)) → OnErr r (new ≡ old)
+    → queue.number_of new ≡ queue.number_of old
+same_number woken_in set n old new (Ok told) counts err = sym new.numbers.2 ∙ counts.stands.0 ∙ old.numbers.2
+same_number woken_in set n old new (Err fault) counts err = ap queue.number_of err
+
+-- and where its waiter is as before
+pub number_stays : {R : Type 0} (old new : Agent R) → queue.waiter_of new ≡ queue.waiter_of old
+    → queue.number_of new ≡ queue.number_of old
+number_stays old new same = sym new.numbers.2 ∙ ap groups.number_of same ∙ old.numbers.2
+
 module _ {R : Type 0} (hand : Hand R) (agent : Agent R) where
-  same_tags : queue.caller_of agent ≡ queue.caller_of hand.ordinary → queue_holding.HoldsSame hand.ordinary agent
+  pub same_tags : queue.caller_of agent ≡ queue.caller_of hand.ordinary → queue_holding.HoldsSame hand.ordinary agent
   same_tags e = subst (λ (c : Caller R). KeepsAll (queue.caller_of hand.ordinary) c) (sym e)
       (record { kept = λ tag h. (h, refl); none_else = λ tag h. h })
 

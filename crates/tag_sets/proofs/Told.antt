@@ -1,5 +1,5 @@
 -- A caller of the sets is told a queue's answer: its value, or the fault of the same name.
-use Rattle.std.proofs.Common.{◌≡◌, ◌≢◌, ◌↔◌, Option, None, Some, Result, Ok, Err, IsOk, OnOk, refl, sym, ap, ◌∙◌}
+use Rattle.std.proofs.Common.{◌≡◌, ◌≢◌, ◌↔◌, Option, None, Some, Result, Ok, Err, IsOk, IfOk, OnOk, OnErr, refl, sym, ap, ◌∙◌}
 use Rattle.std.specs.Result.{MatchResult, IsErrAnd}
 use Rattle.tag_queue.specs.declared.fault.QueueFault.{QueueFault}
 use Rattle.tag_queue.specs.declared.fault.QueueFault.TheVariants as queue
@@ -97,3 +97,15 @@ pub told_on : {A : Type 0} (r : Result A QueueFault) (told : Result A TagFault) 
     → (P : Type 0) → OnOk r P → OnOk told P
 told_on (Ok x) told is P h = rw is h
 told_on (Err e) told is P h = rw (err_is told (of_queue e) is) tt
+
+-- so does what holds of the value
+pub told_if : {A : Type 0} (r : Result A QueueFault) (told : Result A TagFault) → IsTold r told
+    → (P : A → Type 0) → IfOk r P → IfOk told P
+told_if (Ok x) told is P h = rw is h
+told_if (Err e) told is P h = rw (err_is told (of_queue e) is) tt
+
+-- and what holds where the queue refuses the call holds where the caller is told so
+pub told_err : {A : Type 0} (r : Result A QueueFault) (told : Result A TagFault) → IsTold r told
+    → (P : Type 0) → OnErr r P → OnErr told P
+told_err (Ok x) told is P h = rw is tt
+told_err (Err e) told is P h = rw (err_is told (of_queue e) is) h

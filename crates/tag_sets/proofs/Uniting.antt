@@ -1,15 +1,18 @@
 -- A hand is unchanged if both its agents are, and two hands are apart if their agents are in both sets.
 use Rattle.std.proofs.Common.{◌≡◌, ℕ, refl, sym, subst, ◌∙◌}
+use Rattle.tag_core.specs.Callers.{record_of}
+use Rattle.tag_core.specs.Meeting.{ShareHistory}
 use Rattle.tag_queue.specs.declared.agent.Agent.{Agent}
 use Rattle.tag_queue.specs.Agents as queue
 use Rattle.tag_queue.specs.Holding as queue_holding
 use Rattle.tag_sets.specs.declared.hand.Hand.{Hand}
 use Rattle.tag_sets.specs.declared.kind.Kind.{Kind}
 use Rattle.tag_sets.specs.declared.kind.Kind.TheVariants.{Ordinary, Reserved}
+use Rattle.tag_sets.specs.declared.tags.Tags.{Tags}
 use Rattle.tag_sets.specs.Hands.{Holds, agent_of, split_of}
 use Rattle.tag_sets.specs.Sets.{kind_of, number_in_set}
 use Rattle.tag_sets.specs.Holding.{HoldsSame}
-use Rattle.tag_sets.specs.Meeting.{IsUnchanged}
+use Rattle.tag_sets.specs.Meeting.{IsUnchanged, ShareHistories}
 use Rattle.tag_sets.proofs.Lifting.{same}
 
 module _ {R : Type 0} where
@@ -44,6 +47,15 @@ module _ {R : Type 0} where
         sets = each_set hand reserved ordinary r o;
         split = refl;
       }
+
+  -- agents that share a history in each set make hands that do
+  pub share_both : (tags : Tags R) (first second : Hand R)
+      → ShareHistory (queue.shape_of tags.reserved) (record_of (queue.caller_of first.reserved))
+      (record_of (queue.caller_of second.reserved))
+      → ShareHistory (queue.shape_of tags.ordinary) (record_of (queue.caller_of first.ordinary))
+      (record_of (queue.caller_of second.ordinary)) → ShareHistories tags first second
+  share_both tags first second reserved ordinary Ordinary = ordinary
+  share_both tags first second reserved ordinary Reserved = reserved
 
   -- hands whose agents hold no tag in common in either set hold none in common
   pub hold_apart : (first second : Hand R) → split_of first ≡ split_of second

@@ -2,7 +2,9 @@
 use Rattle.std.specs.Prelude.{◌≡◌, ℕ, ◌+◌, ◌<◌, List, Option}
 use mathlib.Core.Option as maybe
 use Rattle.tag_layout.specs.Layout.{Layout}
+use Rattle.tag_core.specs.declared.caller.Caller.{Caller}
 use Rattle.tag_search.specs.declared.hint.Hint.{Hint}
+use Rattle.wake_book.specs.declared.groups.Waiter.{Waiter}
 use Rattle.wake_book.specs.declared.steps.BookStep.{BookStep}
 use Rattle.wake_book.specs.declared.steps.GroupStep.{GroupStep}
 use Rattle.wake_book.specs.Groups as groups
@@ -74,13 +76,21 @@ hint_of hand kind = queue.hint_of (agent_of hand kind)
 abbrev pub HasRoom : {R : Type 0} → Hand R → Kind → ℕ → Type 0
 HasRoom hand kind n = queue.HasRoom (agent_of hand kind) n
 
+-- the hand as a caller of the ordinary map
+abbrev pub caller_of : {R : Type 0} → Hand R → Caller R
+caller_of hand = queue.caller_of hand.ordinary
+
+-- the hand as a waiter of the ordinary set
+abbrev pub waiter_of : {R : Type 0} → Hand R → Waiter
+waiter_of hand = queue.waiter_of hand.ordinary
+
 -- the wait group that the hand is in, if any
 abbrev pub standing_of : {R : Type 0} → Hand R → Option ℕ
 standing_of hand = queue.standing_of hand.ordinary
 
 -- the wait group that the hand enters next
 abbrev pub wait_index_of : {R : Type 0} → Hand R → ℕ
-wait_index_of hand = groups.wait_index_of (queue.waiter_of hand.ordinary)
+wait_index_of hand = groups.wait_index_of (waiter_of hand)
 
 -- the hand's own steps on the charge book, newest first
 abbrev pub book_steps : {R : Type 0} → Hand R → List BookStep

@@ -5,6 +5,7 @@ pub mod Holding
 pub mod Slots
 pub mod Clears
 pub mod Gets
+pub mod Freed
 pub mod Waits
 pub mod Meeting
 pub mod Opening

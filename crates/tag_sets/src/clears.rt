@@ -1,9 +1,14 @@
 //! Clears of one tag.
 ghost use Rattle.std.specs.Prelude.{◌≡◌, ◌+◌, ◌<◌, ◌≤◌, ◌↔◌, IfOk, IsOk, OnOk, OnErr};
 ghost use Rattle.tag_sets.specs.Sets.{kind_of};
-ghost use Rattle.tag_sets.specs.Hands.{reserved_of, total_of, IsHandOf, Holds, step_count, group_steps};
+ghost use Rattle.tag_sets.specs.Hands.{reserved_of, total_of, IsHandOf, Holds, agent_of, waiter_of, step_count, group_steps};
 ghost use Rattle.tag_sets.specs.Clears.{Clears, Counts};
+ghost use Rattle.tag_sets.specs.Waits.{Stays};
+ghost use Rattle.tag_sets.specs.declared.kind.Kind.TheVariants.{Ordinary};
+ghost use Rattle.tag_queue.specs.Agents.{teller_of};
 ghost use Rattle.wake_book.specs.Grants.{AreGrantsOf};
+ghost use Rattle.wake_book.specs.Groups.{RingsGranted, rung_of};
+ghost use Rattle.wake_book.specs.declared.rings.Rung.TheVariants.{Granted};
 
 use crate::fault::TagFault;
 use crate::hand::Hand;
@@ -28,6 +33,7 @@ impl<R: Copy> Tags<R> {
         ensures succeeds { Holds hand.old tag → IsOk result }
         ensures clears { OnOk result (Clears self.now tag hand.old hand.new) }
         ensures counts { IfOk result (λ woken. Counts self.now (kind_of (reserved_of self.now) tag) 1 hand.old hand.new woken) }
+        ensures rings { OnOk result (RingsGranted (waiter_of hand.old) (waiter_of hand.new)) }
         ensures bound { step_count hand.new ≤ 118 + step_count hand.old }
         ensures err { OnErr result (hand.new ≡ hand.old) }
     {
@@ -91,11 +97,18 @@ impl<R: Copy> Tags<R> {
     }
 
     /// Wakes a sleeper for each grant, in its group, and returns how many waiters were granted a wakeup. Grants of a call
-    /// that wakes no sleeper are passed to it once. No clause mentions sleepers.
+    /// that wakes no sleeper are passed to it once. This makes no step.
     #[inline]
-    pub fn ring(&self, grants: Grants) -> u32
-        ensures { result ≡ grants.woken }
+    pub fn ring(&self, hand: &mut Hand<R>, grants: Grants) -> u32
+        requires hand { IsHandOf self.now hand.old }
+        ensures hand { IsHandOf self.now hand.new }
+        ensures woken { result ≡ grants.woken }
+        ensures rings { 1 ≤ grants.woken → rung_of (waiter_of hand.new) ≡ Granted grants }
+        ensures none { grants.woken ≡ 0 → hand.new ≡ hand.old }
+        ensures steps { group_steps hand.new ≡ group_steps hand.old }
+        ensures counts { teller_of (agent_of hand.new Ordinary) ≡ teller_of (agent_of hand.old Ordinary) }
+        ensures same { Stays hand.old hand.new }
     {
-        self.ordinary.ring(grants)
+        self.ordinary.ring(&mut hand.ordinary, grants)
     }
 }

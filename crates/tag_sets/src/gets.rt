@@ -1,5 +1,6 @@
 //! Gets: the calls that take tags.
 ghost use Rattle.std.specs.Prelude.{◌≡◌, ◌+◌, ◌<◌, ◌≤◌, ◌↔◌, false, IfOk, IfErr, OnErr, IsOk, IsTrue, None, IsSome};
+ghost use Rattle.tag_sets.specs.Freed.{GetsAndLooks};
 ghost use Rattle.tag_sets.specs.Hands.{reserved_of, least_of, IsHandOf, HasRoom, hint_of, step_count, total_of, standing_of};
 ghost use Rattle.tag_sets.specs.Gets.{Gets, GetsReserved, GetsShallow, GetsBatch, MiscountsBatch, most_steps, most_reserved_steps, BlockingGets};
 ghost use Rattle.tag_sets.specs.declared.kind.Kind.TheVariants.{Ordinary, Reserved};
@@ -9,24 +10,27 @@ use crate::fault::TagFault;
 use crate::hand::Hand;
 use crate::tags::Tags;
 use std::sync::Wait;
+use tag_queue::Found;
+
+mod freed;
 
 impl<R: Copy> Tags<R> {
     /// Takes a free ordinary tag, which this hand alone holds until it clears or posts the tag. `None` means that each
     /// tag that the search looked at was found taken at some moment of the call, not that all were taken at the same
-    /// moment. `Spent` means that the hand's life in the ordinary set is used up.
+    /// moment. If its sweeps freed tags that it did not take, it then looks for sleepers and rings them (see
+    /// `look_after`). `Spent` means that the hand's life in the ordinary set is used up.
     #[inline(always)]
     pub fn get(&self, hand: &mut Hand<R>) -> Result<Option<u32>, TagFault>
         requires hand { IsHandOf self.now hand.old }
         ensures hand { IsHandOf self.now hand.new }
         ensures room { IsOk result ↔ HasRoom hand.old Ordinary 1 }
-        ensures gets { IfOk result (λ answer. Gets self.now answer hand.old hand.new) }
-        ensures bound { step_count hand.new ≤ most_steps self.now + step_count hand.old }
+        ensures gets { IfOk result (λ answer. GetsAndLooks (Gets self.now answer) hand.old hand.new) }
+        ensures bound { step_count hand.new ≤ most_steps self.now + 1 + step_count hand.old }
         ensures err { IfErr result (λ fault. (fault ≡ TagFault.Spent) × (hand.new ≡ hand.old)) }
     {
-        let Some(number) = self.ordinary.get(&mut hand.ordinary)? else {
-            return Ok(None);
-        };
-        Ok(Some(self.reserved_count + number))
+        let Found { answer, left } = self.get_freed(hand)?;
+        self.look_after(hand, left);
+        Ok(answer)
     }
 
     /// Like `get`, but takes a reserved tag. `NoReserved` means that there are none. `Spent` means that the hand's life
@@ -46,7 +50,9 @@ impl<R: Copy> Tags<R> {
         if self.reserved_count == 0 {
             return Err(TagFault::NoReserved);
         }
-        Ok(self.reserved.get(&mut hand.reserved)?)
+        // Nobody waits for a reserved tag, so nobody can sleep beside those that the sweeps freed.
+        let found = self.reserved.get_freed(&mut hand.reserved)?;
+        Ok(found.answer)
     }
 
     /// Like `get`, but limited to `depth` of the ordinary tags, which are shared out among the words in proportion. A
@@ -60,14 +66,13 @@ impl<R: Copy> Tags<R> {
         ensures too_shallow { (result ≡ Err TagFault.TooShallow) ↔ (depth < least_of self.now) }
         ensures spent { (result ≡ Err TagFault.Spent) ↔ ((least_of self.now ≤ depth) × ¬ (HasRoom hand.old Ordinary 1)) }
         ensures succeeds { IsOk result ↔ ((least_of self.now ≤ depth) × HasRoom hand.old Ordinary 1) }
-        ensures gets { IfOk result (λ answer. GetsShallow self.now depth answer hand.old hand.new) }
-        ensures bound { step_count hand.new ≤ most_steps self.now + step_count hand.old }
+        ensures gets { IfOk result (λ answer. GetsAndLooks (GetsShallow self.now depth answer) hand.old hand.new) }
+        ensures bound { step_count hand.new ≤ most_steps self.now + 1 + step_count hand.old }
         ensures err { OnErr result (hand.new ≡ hand.old) }
     {
-        let Some(found) = self.ordinary.get_shallow(&mut hand.ordinary, depth)? else {
-            return Ok(None);
-        };
-        Ok(Some(self.reserved_count + found))
+        let Found { answer, left } = self.get_shallow_freed(hand, depth)?;
+        self.look_after(hand, left);
+        Ok(answer)
     }
 
     /// Takes up to `n` free ordinary tags out of `n` consecutive ones of one word, where `n` is 1 to the bits of a
@@ -86,17 +91,17 @@ impl<R: Copy> Tags<R> {
             ↔ (¬ (MiscountsBatch self.now n) × ((hint_of hand.old Ordinary).round_robin ≡ false) × ¬ (HasRoom hand.old Ordinary n)) }
         ensures succeeds { ¬ (MiscountsBatch self.now n) → HasRoom hand.old Ordinary n → IsOk result }
         ensures gets { (hint_of hand.old Ordinary).round_robin ≡ false
-            → IfOk result (λ answer. GetsBatch self.now n answer hand.old hand.new) }
-        ensures bound { step_count hand.new ≤ most_steps self.now + step_count hand.old }
+            → IfOk result (λ answer. GetsAndLooks (GetsBatch self.now n answer) hand.old hand.new) }
+        ensures bound { step_count hand.new ≤ most_steps self.now + 1 + step_count hand.old }
         ensures err { OnErr result (hand.new ≡ hand.old) }
     {
-        let Some((first, won)) = self.ordinary.get_batch(&mut hand.ordinary, n)? else {
-            return Ok(None);
-        };
-        Ok(Some((self.reserved_count + first, won)))
+        let Found { answer, left } = self.get_batch_freed(hand, n)?;
+        self.look_after(hand, left);
+        Ok(answer)
     }
 
-    /// Takes a free ordinary tag like `get`, and waits as long as it finds none. Nothing promises that it returns.
+    /// Takes a free ordinary tag like `get`, and waits as long as it finds none, until it is granted a wakeup or rung.
+    /// Nothing promises that it returns.
     /// `NoSuchTag` means that there are no ordinary tags, `Waiting` that the hand is already in a wait group, `Spent`
     /// that its life in the ordinary set is used up.
     pub fn get_blocking<W: Wait>(&self, rt: &W, hand: &mut Hand<R>) -> Result<u32, TagFault>

@@ -1,7 +1,7 @@
 //! The slots of held tags, and how tags pass from hand to hand.
 ghost use Rattle.std.specs.Prelude.{◌≡◌, ◌<◌, ◌≤◌, ◌↔◌, IfOk, IfErr, IsOk, OnOk, OnErr};
 ghost use mathlib.Core.Option.{some};
-ghost use Rattle.tag_sets.specs.Hands.{total_of, IsHandOf, Holds, slot_of};
+ghost use Rattle.tag_sets.specs.Hands.{total_of, IsHandOf, Holds, slot_of, split_of};
 ghost use Rattle.tag_sets.specs.Slots.{Reads, Writes, Posts, Takes, RefusesTake};
 
 use crate::fault::TagFault;
@@ -117,5 +117,20 @@ impl<R: Copy> Tags<R> {
             Kind::Ordinary => self.ordinary.write_held(&mut hand.ordinary, number, value),
             Kind::Reserved => self.reserved.write_held(&mut hand.reserved, number, value),
         }
+    }
+
+    /// Writes the slot of an ordinary tag that the hand holds, and returns its former value: like `write_held`, but it
+    /// need not find the tag's set.
+    #[inline]
+    pub fn write_ordinary_held(&self, hand: &mut Hand<R>, tag: u32, value: R) -> R
+        requires hand { IsHandOf self.now hand.old }
+        requires held { Holds hand.old tag }
+        requires ordinary { split_of hand.old ≤ tag }
+        ensures hand { IsHandOf self.now hand.new }
+        ensures former { slot_of hand.old tag ≡ some result }
+        ensures writes { Writes tag value hand.old hand.new }
+    {
+        self.ordinary
+            .write_held(&mut hand.ordinary, tag - self.reserved_count, value)
     }
 }

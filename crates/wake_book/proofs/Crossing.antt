@@ -1,5 +1,6 @@
 -- Each of the crate's values may go to another thread, and threads may share each.
 -- A layer above cites the row of a value that it passes, and the field's row of one that a struct of its own has.
+use denote.RattleType.{RattleType}
 use denote.Param.Send.{IsSend, IsSync, sendable}
 use Rattle.std.proofs.Crossing.{crosses}
 use Rattle.atomic_table.proofs.shared.Seat.TheSendSync.{the_send as seat_send}
@@ -11,6 +12,8 @@ use Rattle.wake_book.specs.contracts.book.TellerGathering as tellers
 use Rattle.wake_book.specs.contracts.groups.Waiter as waiter
 use Rattle.wake_book.specs.contracts.groups.Groups as groups
 use Rattle.wake_book.specs.contracts.groups.WaiterGathering as waiters
+use Rattle.wake_book.specs.contracts.sighting.Sighting as sighting
+use Rattle.wake_book.specs.contracts.sleeping.Announcement as announcement
 
 pub teller_send : IsSend teller.the_row
 teller_send = search (sendable, crosses, seat_send) depth 60
@@ -71,3 +74,29 @@ waiters_send = search (sendable, crosses, seat_send) depth 60
 
 pub waiters_field_send : IsSend waiters.the_field.row
 waiters_field_send = search (sendable, crosses, seat_send) depth 60
+
+-- a sighting has no bytes, whatever it was beside
+pub sighting_send : (T : RattleType) → IsSend (sighting.the_row T)
+sighting_send T = search (sendable, crosses) depth 60
+
+pub sighting_field_send : (T : RattleType) → IsSend (sighting.the_field T).row
+sighting_field_send T = search (sendable, crosses) depth 60
+
+pub sighting_sync : (T : RattleType) → IsSync (sighting.the_row T)
+sighting_sync T = search (sendable, crosses) depth 60
+
+pub sighting_field_sync : (T : RattleType) → IsSync (sighting.the_field T).row
+sighting_field_sync T = search (sendable, crosses) depth 60
+
+-- nor has an announcement
+pub announcement_send : (T : RattleType) → IsSend (announcement.the_row T)
+announcement_send T = search (sendable, crosses) depth 60
+
+pub announcement_field_send : (T : RattleType) → IsSend (announcement.the_field T).row
+announcement_field_send T = search (sendable, crosses) depth 60
+
+pub announcement_sync : (T : RattleType) → IsSync (announcement.the_row T)
+announcement_sync T = search (sendable, crosses) depth 60
+
+pub announcement_field_sync : (T : RattleType) → IsSync (announcement.the_field T).row
+announcement_field_sync T = search (sendable, crosses) depth 60

@@ -4,11 +4,18 @@ use Rattle.step_ledger.specs.declared.record.Record.{Record}
 use Rattle.step_ledger.specs.Gather as members
 use Rattle.step_ledger.specs.Records as ledger
 use Rattle.step_ledger.specs.History.{total}
+use Rattle.wake_book.specs.declared.grants.Grants.{Grants}
 use Rattle.wake_book.specs.declared.groups.Groups.{Groups}
 use Rattle.wake_book.specs.declared.groups.Waiter.{Waiter}
 use Rattle.wake_book.specs.declared.groups.WaiterGathering.{WaiterGathering}
+use Rattle.wake_book.specs.declared.rings.Rung.{Rung}
+use Rattle.wake_book.specs.declared.rings.Rung.TheVariants.{Granted, Nudged}
+use Rattle.wake_book.specs.declared.sighting.Sighting.{Sighting}
+use Rattle.wake_book.specs.declared.sleeping.Announcement.{Announcement}
+use Rattle.wake_book.specs.declared.sleeping.Key.{Key}
 use Rattle.wake_book.specs.declared.steps.GroupStep.{GroupStep}
 use Rattle.wake_book.specs.declared.waiting.Left.{Left}
+use Rattle.wake_book.specs.Grants.{AreGrantsOf}
 use Rattle.wake_book.specs.Waits.{moved_by}
 use Rattle.wake_book.specs.Walks.{Idles, IsLeave, IsSleep}
 
@@ -35,6 +42,10 @@ wait_index_of waiter = waiter.next
 -- how many waiters this one moved from waiting to granted
 abbrev pub moved_of : Waiter → ℕ
 moved_of waiter = total moved_by (steps_of waiter)
+
+-- whom the waiter's latest ring was for
+abbrev pub rung_of : Waiter → Rung
+rung_of waiter = waiter.rung.value
 
 -- the waiter's number and steps
 abbrev pub record_of : Waiter → Record GroupStep
@@ -65,6 +76,39 @@ abbrev pub StandsAsBefore : Waiter → Waiter → Type 0
 StandsAsBefore old new = (number_of new ≡ number_of old) × (standing_of new ≡ standing_of old)
     × (wait_index_of new ≡ wait_index_of old)
 
+-- the waiter's latest ring was for these, and nothing else of the waiter changed
+abbrev pub RingsFor : Rung → Waiter → Waiter → Type 0
+RingsFor rung old new = StandsAsBefore old new × (steps_of new ≡ steps_of old) × (rung_of new ≡ rung)
+
+-- whom the waiter's steps granted a wakeup since, if anybody, its latest ring was for
+abbrev pub RingsGranted : Waiter → Waiter → Type 0
+RingsGranted old new = (moved_of new ≡ moved_of old)
+    ⊎ ((grants : Grants) × (rung_of new ≡ Granted grants) × AreGrantsOf grants (steps_of old) (steps_of new))
+
+-- what the other value was at the look
+abbrev pub sighted_beside : {T : Type 0} → Sighting T → T
+sighted_beside sighting = sighting.beside.value
+
+-- the waiter's own steps, newest first, right after the look
+abbrev pub sighted_steps : {T : Type 0} → Sighting T → List GroupStep
+sighted_steps sighting = steps_of sighting.waiter.value
+
+-- when the sleep of this key was announced
+abbrev pub announcement_of : {T : Type 0} → Key T → Announcement T
+announcement_of key = key.announcement
+
+-- what the other value was at the announcement
+abbrev pub announced_beside : {T : Type 0} → Announcement T → T
+announced_beside announcement = announcement.beside.value
+
+-- the waiter's own steps, newest first, at the announcement
+abbrev pub announced_steps : {T : Type 0} → Announcement T → List GroupStep
+announced_steps announcement = steps_of announcement.waiter.value
+
+-- the key announces a sleep in the group of these groups that the waiter is in
+abbrev pub IsKeyFor : {T : Type 0} → Groups → Waiter → Key T → Type 0
+IsKeyFor groups waiter key = (key.groups.value ≡ groups) × (standing_of waiter ≡ Some key.group)
+
 -- the waiter left the group that it was in, as the result says
 abbrev pub LeavesAs : Waiter → Waiter → Left → Type 0
 LeavesAs old new left = (group : ℕ) × (standing_of old ≡ Some group) × IsLeave group (steps_of old) (steps_of new) left
@@ -73,7 +117,7 @@ LeavesAs old new left = (group : ℕ) × (standing_of old ≡ Some group) × IsL
 abbrev pub IdlesOnce : Waiter → Waiter → Type 0
 IdlesOnce old new = (group : ℕ) × (standing_of old ≡ Some group) × Idles 1 group (steps_of old) (steps_of new)
 
--- the waiter slept in the group that it is in, until it found a grant there
+-- the waiter slept in the group that it is in, where it looked once
 abbrev pub Sleeps : Waiter → Waiter → Type 0
 Sleeps old new = (group : ℕ) × (standing_of old ≡ Some group) × IsSleep group (steps_of old) (steps_of new)
 
@@ -89,9 +133,9 @@ MovesMore count old new = new.moved ≡ old.moved + count
 abbrev pub MiscountsGroups : ℕ → Type 0
 MiscountsGroups waiters = (waiters < 1) ⊎ (64 < waiters)
 
--- the waiter is in no group, and enters group 0 next
+-- the waiter is in no group, enters group 0 next, and has rung for nobody
 abbrev pub IsNew : Waiter → Type 0
-IsNew waiter = (standing_of waiter ≡ None) × (wait_index_of waiter ≡ 0)
+IsNew waiter = (standing_of waiter ≡ None) × (wait_index_of waiter ≡ 0) × (rung_of waiter ≡ Nudged 0)
 
 -- new groups, whose waiters are in the order of their numbers and have made no step
 pub record AreOpenGroups (waiters : ℕ) (groups : Groups) (all : List Waiter) : Type 0 where

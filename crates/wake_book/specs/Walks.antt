@@ -101,13 +101,6 @@ IsLeave g steps steps' Unwoken = (active : ℕ) × (found : ℕ) × (before : Li
     × IdlesAndLooks g steps before found
     × (granted found ≡ 0) × (steps' ≡ Lower active ∷ Withdraw g found found ∷ before)
 
--- that many looks at the group, none of which found a grant
-abbrev pub LooksInVain : ℕ → ℕ → List GroupStep → List GroupStep → Type 0
-LooksInVain zero g steps steps' = steps' ≡ steps
-LooksInVain (suc looks) g steps steps' = (found : ℕ) × (before : List GroupStep) × LooksInVain looks g steps before
-    × (granted found ≡ 0) × (steps' ≡ looked g found before)
-
--- the waiter looked at its group until a look found a grant
+-- the waiter looked at its group once, and made no other step
 abbrev pub IsSleep : ℕ → List GroupStep → List GroupStep → Type 0
-IsSleep g steps steps' = (looks : ℕ) × (before : List GroupStep) × LooksInVain looks g steps before
-    × (found : ℕ) × (0 < granted found) × (steps' ≡ looked g found before)
+IsSleep g steps steps' = (found : ℕ) × (steps' ≡ looked g found steps)

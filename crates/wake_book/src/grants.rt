@@ -1,5 +1,4 @@
-//! The wakeups that a walk granted, group by group, and how they end sleeps.
-use crate::groups::{GROUPS, Groups};
+//! The wakeups that a walk granted, group by group.
 
 /// The wakeups that a walk granted.
 #[derive(Clone, Copy, Debug, PartialEq, Eq)]
@@ -15,15 +14,3 @@ pub const NO_GRANTS: Grants = Grants {
     woken: 0,
     in_group: [0; 8],
 };
-
-impl Groups {
-    /// Wakes one sleeper of a group for each grant in it. No clause mentions sleepers.
-    #[inline(never)]
-    pub fn ring(&self, grants: &Grants) {
-        for group in 0..GROUPS as usize {
-            for _ in 0..grants.in_group[group] {
-                self.bells[group].notify_one();
-            }
-        }
-    }
-}

@@ -6,12 +6,14 @@ ghost use Rattle.step_ledger.specs.History.{total};
 ghost use Rattle.wake_book.specs.Waits.{all_fresh, group_at, groups_width, moved_by};
 ghost use Rattle.wake_book.specs.Stands.{StandsSo};
 
+use crate::rings::Rung;
 use crate::spacing::STRIDE;
 use crate::steps::GroupStep;
 use atomic_table::{Seat, Table, TableRule};
 use crossbeam_utils::CachePadded;
 use crossbeam_utils::sync::EventCount;
 use std::alloc::Global;
+use std::snapshot::Snapshot;
 use step_ledger::{Numbered, Records};
 
 /// Index of the word that counts active waiters, after the spare word at 0 and the eight groups.
@@ -66,7 +68,8 @@ impl Groups {
     }
 }
 
-/// A handle that waits and wakes others. A contract sees its number, group, wait index, and the list of its own steps.
+/// A handle that waits and wakes others. A contract sees its number, group, wait index, latest ring, and the list of its own
+/// steps.
 #[derive(Drop)]
 pub struct Waiter {
     pub(crate) seat: Seat<(), Records<GroupStep>>,
@@ -78,6 +81,8 @@ pub struct Waiter {
     pub(crate) next: u32,
     /// Waiters that it moved from waiting to granted, at most 2^56.
     pub(crate) moved: u64,
+    /// Whom its latest ring was for, and nobody (`Nudged(0)`) before the first. Only contracts see it.
+    pub(crate) rung: Snapshot<Rung>,
     ghost knows: { seat.me ≡ (own_view (record { number = number; steps = steps_of seat.me.0 }), []) },
     ghost stands: { StandsSo standing (steps_of seat.me.0) },
     ghost within: { next < 8 },

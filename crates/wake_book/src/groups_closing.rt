@@ -75,6 +75,7 @@ impl Groups {
             standing: _,
             next: _,
             moved,
+            rung: _,
         } = waiter;
         WaiterGathering { seat, moved }
     }
@@ -117,6 +118,7 @@ impl WaiterGathering {
             standing: _,
             next: _,
             moved,
+            rung: _,
         } = waiter;
         groups
             .table

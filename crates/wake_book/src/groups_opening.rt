@@ -6,11 +6,13 @@ ghost use Rattle.wake_book.specs.Groups.{IsWaiterOf, IsNew, record_of, records_o
 
 use crate::fault::BookFault;
 use crate::groups::{GROUP_WORDS, Groups, Waiter};
+use crate::rings::Rung;
 use crate::steps::GroupStep;
 use atomic_table::{Seat, Table};
 use crossbeam_utils::CachePadded;
 use crossbeam_utils::sync::EventCount;
 use std::alloc::{AllocError, Global};
+use std::snapshot::Snapshot;
 use step_ledger::{HandOut, Records};
 
 /// The most waiters that groups can have.
@@ -91,6 +93,7 @@ impl Groups {
             standing: None,
             next: 0,
             moved: 0,
+            rung: Snapshot::of(&Rung::Nudged(0)),
         }
     }
 }

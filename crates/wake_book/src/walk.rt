@@ -17,26 +17,11 @@ const TRIES: u32 = 4;
 const MAX_MOVED: u64 = 1 << 56;
 
 impl Groups {
-    /// Moves up to `nr` waiters, 1 to 8, from waiting to granted, wakes as many sleepers in each group, and returns how
-    /// many it moved. Like `__sbitmap_queue_wake_up` (lib/sbitmap.c) it visits the groups in cyclic order from the wake
-    /// index, each at most once. A waiter that could exceed 2^56 moves in all makes no step and moves none. This adds at
-    /// most 67 steps to the waiter's list; loads that are not recorded as steps are not counted.
-    pub fn wake(&self, waiter: &mut Waiter, nr: u32) -> u32
-        requires groups { IsWaiterOf self.now waiter.old }
-        requires within { (1 ≤ nr) × (nr ≤ 8) }
-        ensures groups { IsWaiterOf self.now waiter.new × StandsAsBefore waiter.old waiter.new }
-        ensures most { result ≤ nr }
-        ensures moved { moved_of waiter.new ≡ moved_of waiter.old + result }
-        ensures lawful { IsWalk nr (steps_of waiter.old) (steps_of waiter.new) result }
-        ensures bound { length (steps_of waiter.new) ≤ walk_steps + length (steps_of waiter.old) }
-    {
-        let grants = self.walk(waiter, nr);
-        self.ring(&grants);
-        grants.woken
-    }
-
-    /// Like `wake`, but wakes no sleeper: it returns how many it moved in each group, and the caller wakes as many there
-    /// with `ring`, or by other means. It too makes no step and moves none if the waiter could exceed 2^56 moves in all.
+    /// Moves up to `nr` waiters, 1 to 8, from waiting to granted, and returns how many it moved in each group. Like
+    /// `__sbitmap_queue_wake_up` (lib/sbitmap.c) it visits the groups in cyclic order from the wake index, each at most
+    /// once. It wakes no sleeper: the caller wakes as many in each group with `ring`, or by other means. A waiter that
+    /// could exceed 2^56 moves in all makes no step and moves none. This adds at most 67 steps to the waiter's list;
+    /// loads that are not recorded as steps are not counted.
     pub fn walk(&self, waiter: &mut Waiter, nr: u32) -> Grants
         requires groups { IsWaiterOf self.now waiter.old }
         requires within { (1 ≤ nr) × (nr ≤ 8) }

@@ -4,6 +4,7 @@ ghost use Rattle.std.specs.Prelude.{ℕ, ◌<◌};
 mod calls;
 mod comparison;
 mod draws;
+mod freed;
 mod hints;
 mod marks;
 mod memory;
@@ -62,10 +63,10 @@ impl Port for Counting {
         self.port.claim(word, mask)
     }
 
-    fn sweep(&mut self, word: u32) -> bool {
-        let swept = self.port.sweep(word);
-        self.steps = self.steps.wrapping_add(if swept { 2 } else { 1 });
-        swept
+    fn sweep(&mut self, word: u32) -> u64 {
+        let mask = self.port.sweep(word);
+        self.steps = self.steps.wrapping_add(if mask == 0 { 1 } else { 3 });
+        mask
     }
 }
 
@@ -175,7 +176,7 @@ fn a_get_makes_as_many_steps_as_on_paper(rt: HostRuntime) -> Result<(), Fail> {
             "a cleared tag is found after a sweep",
             [(0, 0b1111), (1, 0b1111)],
             Tag(4),
-            7,
+            15,
         ),
     ] {
         let mut counting = fresh(rt.alloc(), 8, 2)?;

@@ -2,4 +2,5 @@
 mod book;
 mod groups;
 mod memory;
+mod rings;
 mod threads;

@@ -1,10 +1,11 @@
 //! Clears of several tags at once.
 ghost use Rattle.std.specs.Prelude.{◌≡◌, ◌+◌, ◌≤◌, ◌↔◌, length, IfOk, IsOk, OnOk, OnErr, IsTrue};
 ghost use Rattle.tag_core.specs.Callers.{IsCallerOf, record_of, layout_of as layout_of_map};
-ghost use Rattle.tag_queue.specs.Agents.{layout_of, IsAgentOf, step_count, caller_of, SameCounts, group_steps};
+ghost use Rattle.tag_queue.specs.Agents.{layout_of, IsAgentOf, step_count, caller_of, waiter_of, SameCounts, group_steps};
 ghost use Rattle.tag_queue.specs.Batches.{CountsTags, AreTags, AreHeldOnce, GivesAll, GivesBack};
 ghost use Rattle.tag_queue.specs.Clears.{Counts};
 ghost use Rattle.wake_book.specs.Grants.{AreGrantsOf};
+ghost use Rattle.wake_book.specs.Groups.{RingsGranted};
 ghost use Rattle.tag_queue.specs.Tallies.{back_of};
 
 use crate::agent::Agent;
@@ -37,11 +38,12 @@ impl<R: Copy> Queue<R> {
         ensures gives { OnOk result (GivesBack (layout_of self.now) tags.now agent.old agent.new) }
         ensures back { OnOk result ((record_of (caller_of agent.new)).back ≡ (record_of (caller_of agent.old)).back + length tags.now) }
         ensures counts { IfOk result (λ woken. Counts self.now (length tags.now) agent.old agent.new woken) }
+        ensures rings { OnOk result (RingsGranted (waiter_of agent.old) (waiter_of agent.new)) }
         ensures bound { OnOk result (step_count agent.new ≤ length tags.now + 117 + step_count agent.old) }
         ensures err { OnErr result (agent.new ≡ agent.old) }
     {
         let grants = self.clear_batch_granted(agent, tags)?;
-        Ok(self.ring(grants))
+        Ok(self.ring(agent, grants))
     }
 
     /// Like `clear_batch`, but wakes no sleeper, and pulls in no code that does. It returns how many waiters it granted

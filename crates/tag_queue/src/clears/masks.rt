@@ -4,7 +4,8 @@ ghost use Rattle.std.specs.Int.{bit_at};
 ghost use Rattle.tag_layout.specs.Layout.{words, word_bits, word_of, tag_at, IsWithin};
 ghost use Rattle.tag_core.specs.Callers.{IsCallerOf, record_of, layout_of as layout_of_map, Holds as HoldsTag};
 ghost use Rattle.wake_book.specs.Grants.{AreGrantsOf};
-ghost use Rattle.tag_queue.specs.Agents.{layout_of, IsAgentOf, Holds, step_count, caller_of, group_steps, SameCounts};
+ghost use Rattle.wake_book.specs.Groups.{RingsGranted};
+ghost use Rattle.tag_queue.specs.Agents.{layout_of, IsAgentOf, Holds, step_count, caller_of, waiter_of, group_steps, SameCounts};
 ghost use Rattle.tag_queue.specs.Batches.{AreTags, GivesAll, GivesBack};
 ghost use Rattle.tag_queue.specs.Clears.{Counts};
 ghost use Rattle.tag_queue.specs.Masks.{tags_in, mask_bit, words_over, IsLastIn};
@@ -37,12 +38,13 @@ impl<R: Copy> Queue<R> {
         ensures gives { OnOk result (GivesBack (layout_of self.now) (tags_in first mask) agent.old agent.new) }
         ensures back { OnOk result ((record_of (caller_of agent.new)).back ≡ (record_of (caller_of agent.old)).back + count_ones mask) }
         ensures counts { IfOk result (λ woken. Counts self.now (count_ones mask) agent.old agent.new woken) }
+        ensures rings { OnOk result (RingsGranted (waiter_of agent.old) (waiter_of agent.new)) }
         ensures bound { OnOk result (step_count agent.new
             ≤ words_over (layout_of self.now) first (tags_in first mask) + 117 + step_count agent.old) }
         ensures err { OnErr result (agent.new ≡ agent.old) }
     {
         let grants = self.clear_mask_granted(agent, first, mask)?;
-        Ok(self.ring(grants))
+        Ok(self.ring(agent, grants))
     }
 
     /// Like `clear_mask`, but wakes no sleeper, and pulls in no code that does. It returns how many waiters it granted

@@ -45,6 +45,8 @@ impl<R> Together<R> {
             caller,
             teller,
             waiter,
+            sighting: _,
+            announcement: _,
             hint: _,
             number: _,
         } = agent;
@@ -65,6 +67,8 @@ impl<R> Together<R> {
             caller,
             teller,
             waiter,
+            sighting: _,
+            announcement: _,
             hint: _,
             number: _,
         } = agent;

@@ -1,22 +1,23 @@
 //! Blocking gets: an agent that finds no tag stays in a wait group until it is woken, and searches again.
 ghost use Rattle.std.specs.Prelude.{◌≡◌, ℕ, ◌≤◌, ◌↔◌, IfOk, IsOk, IsSome, OnErr, Some, None};
-ghost use Rattle.wake_book.specs.Groups.{IsWaiterOf, StandsAsBefore, steps_of, moved_of, wait_index_of};
-ghost use Rattle.wake_book.specs.Groups.{standing_of as waiter_standing};
-ghost use Rattle.tag_queue.specs.Agents.{layout_of, IsAgentOf, HasRoom, standing_of, waiter_of};
-ghost use Rattle.tag_queue.specs.Gets.{GetsPlain};
-ghost use Rattle.tag_queue.specs.Blocking.{Rests, IsStay, WaitsFor, BlockingGets};
+ghost use Rattle.wake_book.specs.Groups.{IsWaiterOf, IsKeyFor, StandsAsBefore, steps_of, wait_index_of};
+ghost use Rattle.wake_book.specs.Groups.{announcement_of as announced};
+ghost use Rattle.tag_queue.specs.Agents.{layout_of, IsAgentOf, HasRoom, standing_of, waiter_of, group_steps, announcement_of};
+ghost use Rattle.tag_queue.specs.Waits.{SameTags};
+ghost use Rattle.tag_queue.specs.Blocking.{GetsPlainAndLooks, Rests, PassesOn, IsStay, WaitsFor, BlockingGets};
 
 use crate::agent::Agent;
 use crate::fault::QueueFault;
 use crate::queue::Queue;
 use std::sync::Wait;
-use tag_search::on_map;
-use wake_book::{Groups, Waiter};
+use tag_core::Caller;
+use wake_book::{Groups, Key, Left, Waiter};
 
 impl<R: Copy> Queue<R> {
     /// Takes a free tag like `get`, and waits as long as it finds none: it enters a wait group, searches once more, and
-    /// sleeps there if it finds none again. Nothing promises that it returns. `NoSuchTag` means that the queue has no
-    /// tags, `Waiting` that the agent is already in a wait group, `Spent` that its life is used up.
+    /// sleeps there if it finds none again, until it is granted a wakeup or rung. Nothing promises that it returns.
+    /// `NoSuchTag` means that the queue has no tags, `Waiting` that the agent is already in a wait group, `Spent` that
+    /// its life is used up.
     pub fn get_blocking<W: Wait>(&self, rt: &W, agent: &mut Agent<R>) -> Result<u32, QueueFault>
         requires agent { IsAgentOf self.now agent.old }
         ensures agent { IsAgentOf self.now agent.new }
@@ -59,24 +60,47 @@ impl<R: Copy> Queue<R> {
         ensures stay { IsStay (layout_of self.now) (wait_index_of (waiter_of agent.old)) result agent.old agent.new }
     {
         self.groups.enter(&mut agent.waiter);
+        // Whoever frees a tag after this search has passed it rings, and a ring after this line ends the sleep.
+        let key = self.groups.announce(&agent.waiter, &agent.caller);
         // A tag given back before the agent entered wakes nobody, so it must be searched for once more.
         let answer = self.try_get(agent);
-        self.sleep_if_none(rt, &mut agent.waiter, answer);
-        self.groups.leave(rt, &mut agent.waiter);
+        self.sleep_if_none(rt, agent, key, answer);
+        let left = self.groups.leave(rt, &mut agent.waiter);
+        self.pass_on(&mut agent.waiter, answer, left);
         answer
     }
 
-    /// Sleeps in the waiter's group if the search there found no tag.
-    fn sleep_if_none<W: Wait>(&self, rt: &W, waiter: &mut Waiter, answer: Option<u32>)
-        requires groups { IsWaiterOf self.now.groups waiter.old }
-        requires stands { IsSome (waiter_standing waiter.old) }
-        ensures groups { IsWaiterOf self.now.groups waiter.new × StandsAsBefore waiter.old waiter.new }
-        ensures moved { moved_of waiter.new ≡ moved_of waiter.old }
-        ensures rests { (group : ℕ) → waiter_standing waiter.old ≡ Some group
-            → Rests group answer (steps_of waiter.old) (steps_of waiter.new) }
+    /// Sleeps in the agent's group, as the key announced, if the search there found no tag.
+    fn sleep_if_none<W: Wait>(
+        &self,
+        rt: &W,
+        agent: &mut Agent<R>,
+        key: Key<'_, Caller<R>>,
+        answer: Option<u32>,
+    )
+        requires agent { IsAgentOf self.now agent.old }
+        requires key { IsKeyFor self.now.groups (waiter_of agent.old) key }
+        ensures agent { IsAgentOf self.now agent.new }
+        ensures rests { (group : ℕ) → standing_of agent.old ≡ Some group
+            → Rests group answer (group_steps agent.old) (group_steps agent.new) }
+        ensures announced { answer ≡ None → announcement_of agent.new ≡ announced key.entry }
+        ensures same { SameTags agent.old agent.new × StandsAsBefore (waiter_of agent.old) (waiter_of agent.new) }
     {
         if answer.is_none() {
-            self.groups.sleep(rt, waiter);
+            agent.announcement = self.groups.sleep(rt, &mut agent.waiter, key);
+        }
+    }
+
+    /// Rings one sleeper of each group if the waiter has a tag and used a grant: another could have used that grant, and
+    /// would have looked for a tag that this one does not need.
+    fn pass_on(&self, waiter: &mut Waiter, answer: Option<u32>, left: Left)
+        requires groups { IsWaiterOf self.now.groups waiter.old }
+        ensures groups { IsWaiterOf self.now.groups waiter.new × StandsAsBefore waiter.old waiter.new }
+        ensures steps { steps_of waiter.new ≡ steps_of waiter.old }
+        ensures passes { PassesOn answer left waiter.new }
+    {
+        if answer.is_some() && left == Left::Woken {
+            self.groups.nudge(waiter, 1);
         }
     }
 
@@ -85,9 +109,9 @@ impl<R: Copy> Queue<R> {
         requires agent { IsAgentOf self.now agent.old }
         requires room { HasRoom agent.old 1 }
         ensures agent { IsAgentOf self.now agent.new }
-        ensures gets { GetsPlain (layout_of self.now) result agent.old agent.new }
+        ensures gets { GetsPlainAndLooks (layout_of self.now) result agent.old agent.new }
     {
-        let Ok(answer) = on_map::get(&self.map, &mut agent.caller, &mut agent.hint) else {
+        let Ok(answer) = self.get(agent) else {
             unreachable!()
         };
         answer

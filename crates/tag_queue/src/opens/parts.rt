@@ -5,13 +5,13 @@ ghost use lib.ListN.{get_elem?};
 ghost use Rattle.tag_core.specs.declared.caller.Caller.{Caller};
 ghost use Rattle.wake_book.specs.declared.book.Teller.{Teller};
 ghost use Rattle.wake_book.specs.declared.groups.Waiter.{Waiter};
-ghost use Rattle.tag_queue.specs.Parts.{FitTogether, Fits, AreParts, HasHint};
+ghost use Rattle.tag_queue.specs.Parts.{FitTogether, Fits, AreParts, HasHint, HasNoSteps, HaveNoSteps};
 
 use crate::agent::Agent;
 use std::alloc::{AllocError, Global};
 use tag_core::Caller;
 use tag_search::Hint;
-use wake_book::{Teller, Waiter};
+use wake_book::{Announcement, Sighting, Teller, Waiter};
 
 /// Puts the agents together from these parts, in the same order.
 pub(crate) fn join<R>(
@@ -24,6 +24,7 @@ pub(crate) fn join<R>(
 ) -> Result<Vec<Agent<R>>, AllocError>
     requires counts { (length callers.items ≡ count) × (length tellers.items ≡ count) × (length waiters.items ≡ count) }
     requires fit { FitTogether callers.items tellers.items waiters.items }
+    requires new { HaveNoSteps waiters.items }
     ensures parts { IfOk result (λ agents. AreParts agents.items callers.items tellers.items waiters.items) }
     ensures hints { IfOk result (λ agents. All (HasHint hint) agents.items) }
 {
@@ -53,14 +54,19 @@ fn agent_of<R>(
     waiter: Waiter,
     hint: Hint,
 ) -> Agent<R>
-    requires { Fits number caller teller waiter }
+    requires fit { Fits number caller teller waiter }
+    requires new { HasNoSteps waiter }
     ensures parts { (result.caller ≡ caller) × (result.teller ≡ teller) × (result.waiter ≡ waiter) }
     ensures hint { result.hint ≡ hint }
 {
+    let sighting = Sighting::none(&waiter, &caller);
+    let announcement = Announcement::none(&waiter, &caller);
     Agent {
         caller,
         teller,
         waiter,
+        sighting,
+        announcement,
         hint,
         number,
     }

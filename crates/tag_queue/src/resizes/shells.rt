@@ -8,13 +8,15 @@ use crate::agent::Agent;
 use std::alloc::{AllocError, Global};
 use tag_core::Caller;
 use tag_search::Hint;
-use wake_book::{Teller, Waiter};
+use wake_book::{Announcement, Sighting, Teller, Waiter};
 
 /// An agent without its caller.
 #[derive(Drop)]
-pub(crate) struct Shell {
+pub(crate) struct Shell<R> {
     pub(crate) teller: Teller,
     pub(crate) waiter: Waiter,
+    pub(crate) sighting: Sighting<Caller<R>>,
+    pub(crate) announcement: Announcement<Caller<R>>,
     pub(crate) hint: Hint,
     pub(crate) number: u32,
 }
@@ -24,7 +26,7 @@ pub(crate) struct Shell {
 #[derive(Drop)]
 pub(crate) struct Buffers<R> {
     pub(crate) callers: Vec<Caller<R>>,
-    pub(crate) shells: Vec<Shell>,
+    pub(crate) shells: Vec<Shell<R>>,
     pub(crate) agents: Vec<Agent<R>>,
     pub(crate) slots: Vec<R>,
     ghost empty: { (callers.items ≡ []) × (shells.items ≡ []) × (agents.items ≡ []) },
@@ -59,8 +61,8 @@ impl<R: Copy> Buffers<R> {
 pub(crate) fn part<R>(
     agents: Vec<Agent<R>>,
     mut callers: Vec<Caller<R>>,
-    mut shells: Vec<Shell>,
-) -> (Vec<Caller<R>>, Vec<Shell>)
+    mut shells: Vec<Shell<R>>,
+) -> (Vec<Caller<R>>, Vec<Shell<R>>)
     requires empty { (callers.items ≡ []) × (shells.items ≡ []) }
     requires room { (length agents.items ≤ vec_capacity callers) × (length agents.items ≤ vec_capacity shells) }
     ensures callers { result.0.items ≡ map caller_of agents.items }
@@ -72,6 +74,8 @@ pub(crate) fn part<R>(
             caller,
             teller,
             waiter,
+            sighting,
+            announcement,
             hint,
             number,
         } = agent;
@@ -79,6 +83,8 @@ pub(crate) fn part<R>(
         shells.push_reserved(Shell {
             teller,
             waiter,
+            sighting,
+            announcement,
             hint,
             number,
         });
@@ -90,7 +96,7 @@ pub(crate) fn part<R>(
 /// Puts the agents together from these callers and shells, in the same order.
 pub(crate) fn unite<R>(
     callers: Vec<Caller<R>>,
-    shells: Vec<Shell>,
+    shells: Vec<Shell<R>>,
     mut agents: Vec<Agent<R>>,
 ) -> Vec<Agent<R>>
     requires empty { agents.items ≡ [] }
@@ -110,7 +116,7 @@ pub(crate) fn unite<R>(
     agents
 }
 
-fn agent_of<R>(caller: Caller<R>, shell: Shell) -> Agent<R>
+fn agent_of<R>(caller: Caller<R>, shell: Shell<R>) -> Agent<R>
     requires { Fits shell.number caller shell.teller shell.waiter }
     ensures caller { caller_of result ≡ caller }
     ensures shell { shell_of result ≡ shell }
@@ -118,6 +124,8 @@ fn agent_of<R>(caller: Caller<R>, shell: Shell) -> Agent<R>
     let Shell {
         teller,
         waiter,
+        sighting,
+        announcement,
         hint,
         number,
     } = shell;
@@ -125,6 +133,8 @@ fn agent_of<R>(caller: Caller<R>, shell: Shell) -> Agent<R>
         caller,
         teller,
         waiter,
+        sighting,
+        announcement,
         hint,
         number,
     }

@@ -1,10 +1,11 @@
 //! Clears of several ordinary tags at once.
 ghost use Rattle.std.specs.Prelude.{◌≡◌, ◌+◌, ◌≤◌, ◌↔◌, length, take, All, IfOk, IfSome, IsOk, IsSome, OnOk, OnErr};
-ghost use Rattle.tag_sets.specs.Hands.{IsHandOf, step_count, group_steps};
+ghost use Rattle.tag_sets.specs.Hands.{IsHandOf, waiter_of, step_count, group_steps};
 ghost use Rattle.tag_sets.specs.Batches.{CountsTags, AreOrdinary, AreHeldOnce, GivesBack, numbers_of};
 ghost use Rattle.tag_sets.specs.Clears.{Counts, back_of};
 ghost use Rattle.tag_sets.specs.declared.kind.Kind.TheVariants.{Ordinary};
 ghost use Rattle.wake_book.specs.Grants.{AreGrantsOf};
+ghost use Rattle.wake_book.specs.Groups.{RingsGranted};
 
 use crate::fault::TagFault;
 use crate::hand::Hand;
@@ -35,11 +36,20 @@ impl<R: Copy> Tags<R> {
         ensures gives { OnOk result (GivesBack self.now tags.now hand.old hand.new) }
         ensures back { OnOk result (back_of hand.new Ordinary ≡ back_of hand.old Ordinary + length tags.now) }
         ensures counts { IfOk result (λ woken. Counts self.now Ordinary (length tags.now) hand.old hand.new woken) }
+        ensures rings { OnOk result (RingsGranted (waiter_of hand.old) (waiter_of hand.new)) }
         ensures bound { OnOk result (step_count hand.new ≤ length tags.now + 117 + step_count hand.old) }
         ensures err { OnErr result (hand.new ≡ hand.old) }
     {
-        let grants = self.clear_batch_granted(hand, tags)?;
-        Ok(self.ring(grants))
+        if tags.is_empty() || tags.len() > MAX_TAGS {
+            return Err(TagFault::BadCount);
+        }
+        let Some(numbers) = ordinary_numbers(tags, self.reserved_count) else {
+            return Err(TagFault::NoSuchTag);
+        };
+        let numbers = &numbers[..tags.len()];
+        self.ordinary
+            .clear_batch(&mut hand.ordinary, numbers)
+            .map_err(TagFault::from)
     }
 
     /// Like `clear_batch`, but wakes no sleeper, and pulls in no code that does. It returns how many waiters it granted

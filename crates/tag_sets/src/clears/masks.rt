@@ -1,8 +1,9 @@
 //! Clears of the ordinary tags of a mask, as a batch get answers it.
 ghost use Rattle.std.specs.Prelude.{◌≡◌, ◌+◌, ◌-◌, ◌≤◌, ◌↔◌, count_ones, All, IfOk, IfSome, IsOk, IsSome, OnOk, OnErr};
 ghost use Rattle.wake_book.specs.Grants.{AreGrantsOf};
+ghost use Rattle.wake_book.specs.Groups.{RingsGranted};
 ghost use Rattle.tag_queue.specs.Masks.{tags_in};
-ghost use Rattle.tag_sets.specs.Hands.{IsHandOf, Holds, step_count, group_steps};
+ghost use Rattle.tag_sets.specs.Hands.{IsHandOf, waiter_of, Holds, step_count, group_steps};
 ghost use Rattle.tag_sets.specs.Batches.{AreOrdinary, GivesBack, numbers_of};
 ghost use Rattle.tag_sets.specs.Clears.{Counts, back_of};
 ghost use Rattle.tag_sets.specs.Masks.{words_over};
@@ -33,11 +34,19 @@ impl<R: Copy> Tags<R> {
         ensures gives { OnOk result (GivesBack self.now (tags_in first mask) hand.old hand.new) }
         ensures back { OnOk result (back_of hand.new Ordinary ≡ back_of hand.old Ordinary + count_ones mask) }
         ensures counts { IfOk result (λ woken. Counts self.now Ordinary (count_ones mask) hand.old hand.new woken) }
+        ensures rings { OnOk result (RingsGranted (waiter_of hand.old) (waiter_of hand.new)) }
         ensures bound { OnOk result (step_count hand.new ≤ words_over self.now first (tags_in first mask) + 117 + step_count hand.old) }
         ensures err { OnErr result (hand.new ≡ hand.old) }
     {
-        let grants = self.clear_mask_granted(hand, first, mask)?;
-        Ok(self.ring(grants))
+        if mask == 0 {
+            return Err(TagFault::BadCount);
+        }
+        let Some((first, mask)) = ordinary_mask(first, mask, self.reserved_count) else {
+            return Err(TagFault::NoSuchTag);
+        };
+        self.ordinary
+            .clear_mask(&mut hand.ordinary, first, mask)
+            .map_err(TagFault::from)
     }
 
     /// Like `clear_mask`, but wakes no sleeper, and pulls in no code that does. It returns how many waiters it granted
@@ -66,8 +75,43 @@ impl<R: Copy> Tags<R> {
         ensures bound { OnOk result (step_count hand.new ≤ words_over self.now first (tags_in first mask) + 117 + step_count hand.old) }
         ensures err { OnErr result (hand.new ≡ hand.old) }
     {
-        self.check_mask(hand, first, mask)?;
-        Ok(self.clear_mask_held(hand, first, mask))
+        if mask == 0 {
+            return Err(TagFault::BadCount);
+        }
+        let Some((first, mask)) = ordinary_mask(first, mask, self.reserved_count) else {
+            return Err(TagFault::NoSuchTag);
+        };
+        self.ordinary
+            .clear_mask_granted(&mut hand.ordinary, first, mask)
+            .map_err(TagFault::from)
+    }
+
+    /// Like `clear_mask_granted`, and refused as it is (`BadCount`, `NoSuchTag`, `NotHeld`), but returns only how many
+    /// waiters it granted a wakeup, for callers that wake threads by other means and need not know their groups.
+    pub fn clear_mask_counted(
+        &self,
+        hand: &mut Hand<R>,
+        first: u32,
+        mask: u64,
+    ) -> Result<u32, TagFault>
+        requires hand { IsHandOf self.now hand.old }
+        ensures hand { IsHandOf self.now hand.new }
+
+        // The causes are checked in this order, each for the whole mask.
+        ensures bad_count { (result ≡ Err TagFault.BadCount) ↔ (mask ≡ 0) }
+        ensures no_such_tag { (result ≡ Err TagFault.NoSuchTag) ↔ ¬ (AreOrdinary self.now (tags_in first mask)) }
+        ensures not_held { (result ≡ Err TagFault.NotHeld)
+            ↔ (AreOrdinary self.now (tags_in first mask) × ¬ (All (Holds hand.old) (tags_in first mask))) }
+        ensures succeeds { IsOk result
+            ↔ ((1 ≤ mask) × AreOrdinary self.now (tags_in first mask) × All (Holds hand.old) (tags_in first mask)) }
+        ensures gives { OnOk result (GivesBack self.now (tags_in first mask) hand.old hand.new) }
+        ensures back { OnOk result (back_of hand.new Ordinary ≡ back_of hand.old Ordinary + count_ones mask) }
+        ensures counts { IfOk result (λ woken. Counts self.now Ordinary (count_ones mask) hand.old hand.new woken) }
+        ensures bound { OnOk result (step_count hand.new ≤ words_over self.now first (tags_in first mask) + 117 + step_count hand.old) }
+        ensures err { OnErr result (hand.new ≡ hand.old) }
+    {
+        let grants = self.clear_mask_granted(hand, first, mask)?;
+        Ok(grants.woken)
     }
 
     /// Clears the ordinary tags of a mask, each of which the hand holds, like `clear_mask_granted` but for the tests: it

@@ -7,6 +7,7 @@ use crate::tests::calls::{Call, act};
 use crate::tests::tally::Tally;
 use std::sync::Wait;
 use std::sync::atomic::Ordering::SeqCst;
+use std::thread;
 
 /// What the threads of a test do.
 #[derive(Clone, Copy)]
@@ -21,6 +22,9 @@ pub(crate) enum Job {
     /// The workers make this call, and then a get; they clear what the get won first. At the end they give back what they
     /// keep.
     Pairs(Call),
+    /// The workers make this call, wait until each of them has its tag, and then clear it. There is a tag for each, so that
+    /// none of them may sleep for long.
+    Meet(Call),
     /// One thread gets tag 0, and clears it once the other one waits for it.
     PassOn,
 }
@@ -60,6 +64,7 @@ pub(crate) fn play<R: Wait, T: TagAllocator>(
         Job::Gets(call) if works => get_and_clear(rt, tags, caller, tally, call, plan.rounds),
         Job::Gets(_) => wait_on_and_off(rt, tags, caller, tally, plan.workers),
         Job::Pairs(call) => get_two(rt, tags, caller, tally, call, plan.rounds),
+        Job::Meet(call) => meet(rt, tags, caller, tally, call, plan),
         Job::PassOn if works => clear_for_a_waiter(rt, tags, caller, tally),
         Job::PassOn => wait_for_a_tag(rt, tags, caller, tally),
     }
@@ -307,6 +312,45 @@ fn get_two<R: Wait, T: TagAllocator>(
         win_two(rt, tags, caller, tally, call);
     }
     tally.cleared(0, Ok(tags.flush(caller)));
+}
+
+/// Wins a tag in each round, and clears it once as many tags were won as there are workers. It gives back what it keeps at
+/// the end.
+fn meet<R: Wait, T: TagAllocator>(
+    rt: &R,
+    tags: &T,
+    caller: &mut T::Caller,
+    tally: &Tally,
+    call: Call,
+    plan: Plan,
+)
+    requires { T.is_own tags.now caller.old }
+    ensures { T.is_own tags.now caller.new }
+{
+    let mut wins = 0u64;
+    for _ in 0..plan.rounds {
+        wins = wins.wrapping_add(plan.workers as u64);
+        match act(rt, tags, caller, call) {
+            Answer::Tag(tag) => {
+                tally.wins(tag);
+                wait_for_wins(rt, tally, wins);
+                tally.goes(tag);
+                tally.cleared(1, tags.clear(caller, tag));
+            }
+            _ => tally.check(false),
+        }
+    }
+    tally.cleared(0, Ok(tags.flush(caller)));
+}
+
+/// Waits until this many tags were won.
+fn wait_for_wins<R: Wait>(rt: &R, tally: &Tally, wins: u64) {
+    for _ in rt.forever() {
+        if tally.won.load(SeqCst) >= wins {
+            break;
+        }
+        thread::yield_now();
+    }
 }
 
 /// Enters and leaves a wait until the workers have finished.

@@ -201,3 +201,28 @@ fn two_agents_take_turns_at_one_tag(rt: HostRuntime) -> Result<(), Fail> {
     assert_eq!(rt; sums.tags, totals(20_000, 20_000, 0, 0));
     Ok(())
 }
+
+/// As many workers as there are tags. A tag that a search made free, and took from nobody, must not stay beside a sleeper.
+fn meeting(workers: usize) -> Plan {
+    Plan {
+        job: Job::Meet(Call::GetBlocking),
+        workers,
+        rounds: 2_000,
+    }
+}
+
+#[test]
+fn as_many_agents_as_tags_meet(rt: HostRuntime) -> Result<(), Fail> {
+    let (tally, sums) = played_on_queue(&rt, 3, 3, meeting(3))?;
+    expect_balance(&rt, &tally, sums);
+    assert_eq!(rt; sums.tags.got, 6_000);
+    Ok(())
+}
+
+#[test]
+fn as_many_hands_as_tags_meet(rt: HostRuntime) -> Result<(), Fail> {
+    let (tally, sums) = played_on_sets(&rt, 10, 2, 8, meeting(8))?;
+    expect_balance(&rt, &tally, sums);
+    assert_eq!(rt; sums.tags.got, 16_000);
+    Ok(())
+}

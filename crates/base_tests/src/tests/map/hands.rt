@@ -80,7 +80,7 @@ pub(crate) fn sweep_word(map: &Map<u64>, caller: &mut Caller<u64>, word: u32) ->
     requires { IsCallerOf map.now caller.old }
     ensures { IsCallerOf map.now caller.new }
 {
-    word < map.layout().words() && map.sweep(caller, word)
+    word < map.layout().words() && map.sweep(caller, word) != 0
 }
 
 pub(crate) fn post_tag(map: &Map<u64>, caller: &mut Caller<u64>, tag: u32) -> bool

@@ -33,7 +33,8 @@ pub(crate) enum Answer {
     Nothing,
     Spent,
     Done,
-    Swept(bool),
+    /// The mask that a sweep freed.
+    Swept(u64),
     /// The taken places of a word, and those set aside.
     Word(u64, u64),
     /// The count, the tag or the word is out of range, or the tag is not taken.

@@ -30,14 +30,16 @@ fn call_shared(map: &Map<u64>, caller: &mut Caller<u64>, hint: &mut Hint, call: 
 {
     let layout = map.layout();
     match call {
-        Call::Get => told(on_map::get(map, caller, hint)),
-        Call::Shallow(depth) => told(on_map::get_shallow(map, caller, hint, depth)),
+        Call::Get => told(on_map::get(map, caller, hint).map(|found| found.answer)),
+        Call::Shallow(depth) => {
+            told(on_map::get_shallow(map, caller, hint, depth).map(|found| found.answer))
+        }
         Call::Batch(n) => {
             let bits = 1u32 << layout.shift();
             if n == 0 || n > bits {
                 return Answer::Refused;
             }
-            told_of_batch(on_map::get_batch(map, caller, hint, n))
+            told_of_batch(on_map::get_batch(map, caller, hint, n).map(|found| found.answer))
         }
         Call::Put(tag) => {
             if !has(map, caller, tag) {

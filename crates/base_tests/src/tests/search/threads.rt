@@ -55,7 +55,9 @@ fn round(map: &Map<u64>, caller: &mut Caller<u64>, hint: &mut Hint, clear: Clear
     requires { IsCallerOf map.now caller.old }
     ensures { IsCallerOf map.now caller.new }
 {
-    if let Ok(Some(tag)) = on_map::get(map, caller, hint) {
+    if let Ok(found) = on_map::get(map, caller, hint)
+        && let Some(tag) = found.answer
+    {
         seen.comes(tag);
         seen.goes(tag);
         match clear {

@@ -2,6 +2,7 @@
 ghost use Rattle.std.specs.Prelude.{◌≡◌, All, IfSome, None};
 ghost use Rattle.wake_book.specs.Groups.{IsWaiterOf, IsNew};
 
+use crate::tests::wakeups::rings::wake;
 use std::test::Fail;
 use step_ledger::{GatherCause, Numbered};
 use wake_book::Left::{Unwoken, Woken};
@@ -28,7 +29,7 @@ pub(crate) fn put_back(
 }
 
 /// Wakeups issued, used and granted, and waiters that wait.
-fn totals(issued: u64, used: u64, granted: u64, waiting: u64) -> GroupTotals {
+pub(crate) fn totals(issued: u64, used: u64, granted: u64, waiting: u64) -> GroupTotals {
     GroupTotals {
         issued,
         used,
@@ -58,7 +59,7 @@ fn a_grant_is_used_once(rt: HostRuntime) -> Result<(), Fail> {
     let entered = [groups.enter(&mut first), groups.enter(&mut second)];
     let standing = Groups::standing(&second);
     let active = groups.active(&mut first);
-    let woken = groups.wake(&mut first, 1);
+    let woken = wake(&groups, &mut first, 1);
     let index = groups.index(&mut first);
     assert_eq!(rt;
         (entered, standing, active, woken, index),
@@ -91,7 +92,7 @@ fn who_stands_is_gathered_too(rt: HostRuntime) -> Result<(), Fail> {
     };
     groups.enter(&mut second);
     groups.enter(&mut first);
-    let woken = groups.wake(&mut second, 1);
+    let woken = wake(&groups, &mut second, 1);
     put_back(&groups, &mut waiters, second)?;
     put_back(&groups, &mut waiters, zeroth)?;
     let Err(fault) = Groups::gather(groups, waiters) else {
@@ -118,7 +119,7 @@ fn waiters_come_together_one_after_another(rt: HostRuntime) -> Result<(), Fail> 
         return Err(Fail::new("fewer than two waiters"));
     };
     groups.enter(&mut second);
-    let woken = groups.wake(&mut second, 8);
+    let woken = wake(&groups, &mut second, 8);
     if groups.waiters() != 2 || first.number() != 0 || second.number() != 1 {
         return Err(Fail::new("the waiters are numbered otherwise"));
     }

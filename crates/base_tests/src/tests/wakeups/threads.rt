@@ -3,6 +3,7 @@ ghost use Rattle.std.specs.Prelude.{◌≡◌, ◌≤◌, All, None, IfSome};
 ghost use Rattle.wake_book.specs.Groups.{IsWaiterOf, standing_of};
 
 use crate::tests::wakeups::groups::{close, next_waiter};
+use crate::tests::wakeups::rings::wake;
 use std::sync::Wait;
 use std::sync::atomic::AtomicU64;
 use std::sync::atomic::Ordering::SeqCst;
@@ -28,7 +29,8 @@ fn sleep_often<R: Wait>(rt: &R, groups: &Groups, waiter: &mut Waiter, rounds: u3
     let mut woken = 0u64;
     for _ in 0..rounds {
         groups.enter(waiter);
-        groups.sleep(rt, waiter);
+        let key = groups.announce(waiter, &());
+        groups.sleep(rt, waiter, key);
         if groups.leave(rt, waiter) == Left::Woken {
             woken += 1;
         }
@@ -43,7 +45,7 @@ fn wake_often<R: Wait>(rt: &R, groups: &Groups, waiter: &mut Waiter, rounds: u32
 {
     for _ in 0..rounds {
         for _ in rt.forever() {
-            if groups.wake(waiter, 1) == 1 {
+            if wake(groups, waiter, 1) == 1 {
                 break;
             }
         }
@@ -73,7 +75,7 @@ fn each_sleeper_is_woken(rt: HostRuntime) -> Result<(), Fail> {
 struct Tally {
     /// Waiting threads that have finished.
     finished: AtomicU64,
-    /// Waiters moved to granted: the sum of what the calls of `wake` returned.
+    /// Waiters moved to granted: the sum of what the walks returned.
     issued: AtomicU64,
     /// Grants used: how often `leave` returned `Woken`.
     used: AtomicU64,
@@ -95,7 +97,7 @@ fn wait_or_wake<R: Wait>(rt: &R, groups: &Groups, waiter: &mut Waiter, tally: &T
         if tally.finished.load(SeqCst) == WAITERS as u64 {
             break;
         }
-        let moved = groups.wake(waiter, 8);
+        let moved = wake(groups, waiter, 8);
         tally.issued.fetch_add(moved as u64, SeqCst);
     }
 }

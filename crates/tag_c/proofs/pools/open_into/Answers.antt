@@ -10,7 +10,7 @@ use Rattle.tag_c.specs.declared.status.Status.TheVariants.{NotEmpty, BadFlag, No
 use Rattle.tag_c.specs.Exports.{RefusesOpen, OpensPool, options_of}
 use Rattle.tag_c.specs.Pools.{Opens}
 use Rattle.tag_c.proofs.Refusing.{refuses, refused, fault_below}
-use Rattle.tag_c.proofs.Flags.{is_some_of, empty_of}
+use Rattle.tag_c.proofs.Flags.{is_some_of, not_some_of, empty_of}
 use Rattle.tag_c.proofs.pools.open_into.Goals as goal
 
 -- a handle that is not full is empty
@@ -85,6 +85,10 @@ returns-in_default-clause-why c = λ _. let code = c.code-in_default in
       subst (λ (o : Options). sets.CanOpen c.args.requested.now.total c.args.requested.now.reserved o)
           c.read_options.ensures c.in-Ok.ensures.ok.can,
     ))))
+
+pub returns-in_default-clause-not_empty : goal.returns-in_default-clause-not_empty
+returns-in_default-clause-not_empty c = λ some. let pool = c.args.pool.now in
+    absurd (not_some_of pool.object.value (sym pool.held ∙ c.if-pool-ne0.false) some)
 
 pub returns-clause-opens : goal.returns-clause-opens
 returns-clause-opens c = λ _. let requested = c.args.requested.now in let state = arc_value c.in-Ok.opened.shared in

@@ -7,7 +7,7 @@ use Rattle.wake_book.specs.declared.groups.Waiter.{Waiter}
 use Rattle.wake_book.specs.Book as book
 use Rattle.wake_book.specs.Groups as groups
 use Rattle.tag_queue.specs.Agents.{teller_of}
-use Rattle.tag_queue.proofs.Opening.{fresh_count, fit_new, own_all}
+use Rattle.tag_queue.proofs.Opening.{fresh_count, fit_new, none_stepped, own_all}
 use Rattle.tag_queue.proofs.opens.lay_out.Goals as goal
 
 pub join-requires-clause-counts : goal.join-requires-clause-counts
@@ -20,6 +20,9 @@ join-requires-clause-counts g c = (
 pub join-requires-clause-fit : goal.join-requires-clause-fit
 join-requires-clause-fit g c = fit_new c.in-Ok.map c.in-Ok-open.book c.in-Ok-open-2.groups _ _ _ _ _ _
     c.in-Ok.ensures.callers c.in-Ok-open.ensures.ok c.in-Ok-open-2.ensures.ok
+
+pub join-requires-clause-new : goal.join-requires-clause-new
+join-requires-clause-new g c = none_stepped c.in-Ok-open-2.groups _ _ c.in-Ok-open-2.ensures.ok
 
 pub returns-clause-open : goal.returns-clause-open
 returns-clause-open g c = let parts = c.in_ok-agents.ensures.parts in let options = c.args.options in

@@ -2,16 +2,14 @@
 use Rattle.std.proofs.Common.{arith, [], ◌∷◌, ◌++◌}
 use Rattle.tag_core.specs.declared.word_step.WordStep.TheVariants.{Look}
 use Rattle.tag_search.specs.Batch.{swept_look}
-use Rattle.tag_search.proofs.Batches.{swept_any}
 use Rattle.tag_search.proofs.batch.sweep_and_look.Goals as goal
 
 pub returns-clause-steps : goal.returns-clause-steps
 returns-clause-steps g c =
-    let a = swept_any (λ p xs q. g.P.Port.adds p xs q) c.args.port.now c.sweep-swept.new.self c.args.word
-    c.sweep-swept.result c.sweep-swept.ensures.steps in
+    let a = c.sweep.ensures.steps in
     record {
       steps = a.steps ++ Look c.args.word c.look.result ∷ [];
-      added = g.met.P.Port.adds_more c.args.port.now c.sweep-swept.new.self c.look.new.self a.steps
+      added = g.met.P.Port.adds_more c.args.port.now c.sweep.new.self c.look.new.self a.steps
           (Look c.args.word c.look.result ∷ []) a.added c.look.ensures.step;
-      holds = swept_look a.holds.1 (omega arith);
+      holds = swept_look a.holds (omega arith);
     }

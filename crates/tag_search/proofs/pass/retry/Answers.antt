@@ -1,21 +1,41 @@
--- A sweep that found a mask is followed by a pass, and one that found none ends the visit.
-use Rattle.std.proofs.Common.{None}
-use Rattle.tag_search.specs.Search.{IsPass, IsSweep, IsRetry, nothing_aside, swept}
+-- A turn that wins nothing is followed by the turns left, and the last one ends the visit.
+use Rattle.std.proofs.Common.{◌≡◌, suc, ◌-◌, ◌+◌, arith, ◌∙◌, subst}
 use Rattle.tag_search.specs.Places.{places_of}
-use Rattle.tag_search.proofs.Joined.{adds_joined, adds_weaker}
+use Rattle.tag_search.specs.Search.{IsPass}
+use Rattle.tag_search.specs.Added.{AddsSteps}
+use Rattle.tag_search.proofs.Joined.{same_room_joined}
+use Rattle.tag_search.proofs.Turns.{turn_further, turn_ends, turns_over}
 use Rattle.tag_search.proofs.pass.retry.Goals as goal
 
-pub returns-then-sweep-clause-retry : goal.returns-then-sweep-clause-retry
-returns-then-sweep-clause-retry g c =
-    let found = rw c.if-sweep.true at c.sweep.ensures.steps in let rank = places_of c.args.rank in
-    adds_joined (λ p xs q. g.P.Port.adds p xs q) g.met.P.Port.adds_more c.args.port.now c.sweep.new.self c.pass.new.port
-    (IsSweep c.args.word found.0) (λ xs. IsPass c.args.word rank xs c.pass.result)
-    (λ xs. IsRetry c.args.word rank xs c.pass.result)
-    (λ xs ys sweep second. swept found.1 sweep second) found.2 c.pass.ensures.pass
+pub returns-in-Some-clause-retry : goal.returns-in-Some-clause-retry
+returns-in-Some-clause-retry g c =
+    let turn = c.loop.counter in let turns = c.args.turns in let low = c.loop-test.true in
+    let e : turns - turn ≡ suc (turns - (turn + 1)) = omega arith in
+    turn_ends (λ p xs q. g.P.Port.adds p xs q) g.met.P.Port.adds_more c.args.word (places_of c.args.rank)
+    c.args.turns c.sweep.result c.args.port.now c.loop.port c.sweep.new.self c.pass.new.port (turns - turn)
+    (turns - (turn + 1)) c.in-Some.place e c.loop.invariant.begun
+    c.sweep.ensures.steps c.in-Some.ensures.pass
 
-pub returns-else-sweep-clause-retry : goal.returns-else-sweep-clause-retry
-returns-else-sweep-clause-retry g c =
-    let found = rw c.if-sweep.false at c.sweep.ensures.steps in
-    adds_weaker (λ p xs q. g.P.Port.adds p xs q) c.args.port.now c.sweep.new.self (IsSweep c.args.word 0)
-    (λ xs. IsRetry c.args.word (places_of c.args.rank) xs None)
-    (λ xs sweep. nothing_aside sweep) found
+pub loop-preserved : goal.loop-preserved
+loop-preserved g c =
+    let turn = c.loop.counter in let turns = c.args.turns in let low = c.loop-test.true in
+    let e : turns - turn ≡ suc (turns - (turn + 1)) = omega arith in
+    record {
+      port = c.pass.ensures.port;
+      sizes = c.pass.ensures.sizes ∙ c.sweep.ensures.sizes ∙ c.loop.invariant.sizes;
+      room = same_room_joined (λ p n. g.P.Port.has_room p n) c.args.port.now c.loop.port c.pass.new.port
+          c.loop.invariant.room (same_room_joined (λ p n. g.P.Port.has_room p n) c.loop.port
+          c.sweep.new.self c.pass.new.port c.sweep.ensures.room c.in_default.ensures.room);
+      begun = turn_further (λ p xs q. g.P.Port.adds p xs q) g.met.P.Port.adds_more c.args.word (places_of c.args.rank)
+          c.args.turns c.sweep.result c.args.port.now c.loop.port c.sweep.new.self c.pass.new.port (turns - turn)
+          (turns - (turn + 1)) e c.loop.invariant.begun
+          c.sweep.ensures.steps
+          (subst (λ answer. AddsSteps (λ p xs q. g.P.Port.adds p xs q) c.sweep.new.self c.pass.new.port
+          (λ xs. IsPass c.args.word (places_of c.args.rank) xs answer)) c.in_default.is c.pass.ensures.pass);
+    }
+
+pub returns-clause-retry : goal.returns-clause-retry
+returns-clause-retry g c =
+    let done = c.loop-test.false in
+    turns_over (λ p xs q. g.P.Port.adds p xs q) c.args.word (places_of c.args.rank) c.args.turns c.args.port.now
+    c.loop.port (c.args.turns - c.loop.counter) (omega arith) c.loop.invariant.begun

@@ -79,3 +79,17 @@ fn caches_and_bare_hands_share_few_tags(rt: HostRuntime) -> Result<(), Fail> {
     expect_all_back(&rt, &tally, sums);
     Ok(())
 }
+
+/// As many callers as there are tags, two of which have no cache.
+#[test]
+fn as_many_callers_as_tags_meet(rt: HostRuntime) -> Result<(), Fail> {
+    let plan = Plan {
+        job: Job::Meet(Call::GetBlocking),
+        workers: 4,
+        rounds: 2_000,
+    };
+    let (tally, sums) = played_on_mixed(&rt, 4, 4, caches(2, 8, Keeping::WhileHolding), plan)?;
+    expect_all_back(&rt, &tally, sums);
+    assert_eq!(rt; tally.won.load(SeqCst), 8_000);
+    Ok(())
+}

@@ -7,22 +7,22 @@ use Rattle.tag_board.proofs.board.Board.get.Goals as goal
 pub invariant_of-self : goal.invariant_of-self
 invariant_of-self c =
     let b = c.args.self.now in let at = sits (omega arith) c.index_mut.ensures.value in let old = c.index_mut.result.now in
-    let new = c.get.new.hand in let e = c.get.ensures in let r = c.get.result in
+    let new = c.get_freed.new.hand in let e = c.get_freed.ensures in let r = c.get_freed.result in
     seated b at new e.hand (kept old new r (ok_map r e.gets
-    (λ answer g. (get_gains b.tags old new (own_here b.tags at b.own) b.hands.items answer g).effect.number))
+    (λ found g. (get_gains b.tags old new (own_here b.tags at b.own) b.hands.items found.answer g).effect.number))
     (err_same _ _ r e.err))
 
 pub tell_free-requires-clause-held : goal.tell_free-requires-clause-held
 tell_free-requires-clause-held c =
     let b = c.args.self.now in let at = sits c.requires c.index_mut.ensures.value in let old = c.index_mut.result.now in
-    let new = c.get.new.hand in let a : Option ℕ = c.in_ok-answer.answer in
+    let new = c.get_freed.new.hand in let a : Option ℕ = c.in_ok-answer.field-0.answer in
     let g = get_gains b.tags old new (own_here b.tags at b.own) b.hands.items a c.in_ok-answer.ensures.gets in
     holds_gained b at new (is_answer a) _ g.names g.more
 
 pub returns : goal.returns
 returns c =
     let b = c.args.self.now in let at = sits c.requires c.index_mut.ensures.value in let old = c.index_mut.result.now in
-    let new = c.get.new.hand in let a : Option ℕ = c.in_ok-answer.answer in let e = c.in_ok-answer.ensures in
+    let new = c.get_freed.new.hand in let a : Option ℕ = c.in_ok-answer.field-0.answer in let e = c.in_ok-answer.ensures in
     let i : ℕ = c.args.caller in let s = state_of b in let own = own_here b.tags at b.own in
     let k = got b at new {refuses = RefusesGet s i Ordinary}
     (λ (o : Option ℕ). Wins i Ordinary (is_answer o) (count_of o) s) (AloneGets Ordinary plain) a

@@ -1,34 +1,34 @@
 -- The hand did not hold the tag before, and no other caller holds it now, so no caller held it.
-use Rattle.std.proofs.Common.{ℕ, Option, Ok, ap, arith}
+use Rattle.std.proofs.Common.{ℕ, Option, Ok, refl, ap, arith}
 use Rattle.tag_board.proofs.Uses.{count_of, Ordinary, AloneGets, shallow, state_of, RefusesShallow, Wins, is_answer}
-use Rattle.tag_board.proofs.Commands.{got, holds_gained, kept, none_moved, seated, seen_of, shallow_gains, ok_map, shallow_verdict, own_here, room_here, sits, spent_here}
+use Rattle.tag_board.proofs.Commands.{got, holds_gained, kept, none_moved, seated, seen_of, shallow_gains, ok_map, shallow_verdict, own_here, sits, spent_here}
 use Rattle.tag_board.proofs.board.Board.get_shallow.Goals as goal
 
 pub invariant_of-self : goal.invariant_of-self
 invariant_of-self c =
     let b = c.args.self.now in let at = sits (omega arith) c.index_mut.ensures.value in let old = c.index_mut.result.now in
-    let new = c.get_shallow.new.hand in let e = c.get_shallow.ensures in let r = c.get_shallow.result in
+    let new = c.get_shallow_freed.new.hand in let e = c.get_shallow_freed.ensures in let r = c.get_shallow_freed.result in
     seated b at new e.hand (kept old new r (ok_map r e.gets
-    (λ answer g. (shallow_gains b.tags old new (own_here b.tags at b.own) b.hands.items _ answer g).effect.number))
+    (λ found g. (shallow_gains b.tags old new (own_here b.tags at b.own) b.hands.items _ found.answer g).effect.number))
     e.err)
 
 pub tell_free-requires-clause-held : goal.tell_free-requires-clause-held
 tell_free-requires-clause-held c =
     let b = c.args.self.now in let at = sits c.requires c.index_mut.ensures.value in let old = c.index_mut.result.now in
-    let new = c.get_shallow.new.hand in let a : Option ℕ = c.in_ok-answer.answer in
+    let new = c.get_shallow_freed.new.hand in let a : Option ℕ = c.in_ok-answer.field-0.answer in
     let g = shallow_gains b.tags old new (own_here b.tags at b.own) b.hands.items _ a c.in_ok-answer.ensures.gets in
     holds_gained b at new (is_answer a) _ g.names g.more
 
 pub returns : goal.returns
 returns c =
     let b = c.args.self.now in let at = sits c.requires c.index_mut.ensures.value in let old = c.index_mut.result.now in
-    let new = c.get_shallow.new.hand in let a : Option ℕ = c.in_ok-answer.answer in let e = c.in_ok-answer.ensures in
+    let new = c.get_shallow_freed.new.hand in let a : Option ℕ = c.in_ok-answer.field-0.answer in let e = c.in_ok-answer.ensures in
     let i : ℕ = c.args.caller in let s = state_of b in let own = own_here b.tags at b.own in
     let k = got b at new {refuses = RefusesShallow s i c.args.depth}
     (λ (o : Option ℕ). Wins i Ordinary (is_answer o) (count_of o) s) (AloneGets Ordinary (shallow c.args.depth)) a
     (seen_of c.tell_free.new.self) (ap seen_of c.tell_free.ensures.same)
     (shallow_gains b.tags old new own b.hands.items c.args.depth a e.gets) c.tell_free.ensures.alone
-    (shallow_verdict s i c.args.depth (Ok a) e.too_shallow.1
-    (λ deep spent. e.spent.1 (deep, spent_here b.tags at own Ordinary 1 spent))
-    (λ deep unspent. e.succeeds.1 (deep, room_here b.tags at own Ordinary 1 unspent))) (λ w. w) in
+    (shallow_verdict s i c.args.depth (Ok a) (λ low. let wrong = e.too_shallow.1 low in absurd cc)
+    (λ deep spent. let wrong = e.spent.1 (deep, spent_here b.tags at own Ordinary 1 spent) in absurd cc)
+    (λ deep unspent. refl)) (λ w. w) in
     record { answers = k.answers; alone = k.alone; waiters = none_moved i (Ok a) k.waiters }

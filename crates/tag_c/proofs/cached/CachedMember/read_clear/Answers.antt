@@ -12,10 +12,10 @@ returns-in-Err-clause-calls c = let e = c.in-Err.ensures in (
 )
 
 pub returns : goal.returns
-returns c = let e = c.in-Ok.ensures in let k = c.clear_granted.ensures in
-    let both = cleared_read c.deref.ensures c.grants_code.type_inv c.args.tag c.in-Ok.found
-    (Caching c.args.self.now.cache) (Caching c.read.new.self) (Caching c.clear_granted.new.self)
-    c.grants_code.ensures c.deref-2.ensures e.no_such_tag e.not_held e.value
+returns c = let e = c.in-Ok.ensures in let k = c.clear_counted.ensures in
+    let both = cleared_read c.deref.ensures c.count_code.type_inv c.args.tag c.in-Ok.found
+    (Caching c.args.self.now.cache) (Caching c.read.new.self) (Caching c.clear_counted.new.self)
+    c.count_code.ensures c.deref-2.ensures e.no_such_tag e.not_held e.value
     record { same = e.same; kept = e.kept }
-    (cache_clears k.no_such_tag k.not_held k.succeeds k.grants k.err k.less k.way k.tally) in
+    (cache_clears k.no_such_tag k.not_held k.succeeds k.err k.less k.way k.tally) in
     record { calls = (refl, both.calls); kept = λ refusal. absurd (both.done refusal) }

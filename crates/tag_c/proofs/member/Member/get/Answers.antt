@@ -1,16 +1,23 @@
 -- The answer comes with the clauses of `DoesGet`, and its number fits into 32 bits.
-use Rattle.std.proofs.Common.{refl}
+use Rattle.std.proofs.Common.{ap, refl, ◌∙◌}
 use Rattle.tag_c.specs.Calls.{DoesGet}
 use Rattle.tag_c.specs.Codes.{code_of_get}
+use Rattle.tag_c.specs.Left.{answer_of}
 use Rattle.tag_c.proofs.Calling.{through}
+use Rattle.tag_c.proofs.Does.{hand_gets}
+use Rattle.tag_c.proofs.Parts.{each}
+use Rattle.tag_c.proofs.Runs.{ordinary_fits}
 use Rattle.tag_c.proofs.member.Member.get.Goals as goal
 
+pub get_code-requires : goal.get_code-requires
+get_code-requires c = let found = c.get_freed-found.result in
+    ordinary_fits c.deref.result.now found c.tell_left.ensures.answer
+    (each found (λ known gets. gets.ordinary) c.get_freed-found.ensures.gets)
+
 pub returns : goal.returns
-returns c = let e = c.get.ensures in (
+returns c = let e = c.get_freed-found.ensures in let found = c.get_freed-found.result in (
   refl,
-  through DoesGet code_of_get c.get_code.ensures c.get_code.type_inv c.deref.ensures record {
-    room = e.room;
-    gets = e.gets;
-    err = e.err;
-  },
+  through (DoesGet c.tell_left.new.left) code_of_get {answer = answer_of found}
+      (c.get_code.ensures ∙ ap code_of_get c.tell_left.ensures.answer) c.get_code.type_inv c.deref.ensures
+      (hand_gets found e.room e.gets e.err c.tell_left.ensures.left e.left),
 )

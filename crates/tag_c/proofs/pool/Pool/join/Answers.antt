@@ -5,8 +5,32 @@ use Rattle.tag_sets.specs.declared.hand.Hand.{Hand}
 use Rattle.tag_c.specs.declared.pool_state.PoolState.{PoolState}
 use Rattle.tag_c.specs.Joins.{BeginsInPart}
 use Rattle.tag_c.proofs.Joining.{begins}
+use Rattle.tag_c.proofs.Owners.{same_pool}
 use Rattle.tag_c.proofs.pool.Pool.join.Goals as goal
 use Rattle.tag_c.proofs.pool.Pool.join.Goals.{then-placed, else-placed}
+
+pub invariant_of-result : goal.invariant_of-result
+invariant_of-result c = let shared = arc_value c.in-Ok.shared in let hand = c.if-placed.hand in record {
+  own =
+      elim c.if-placed.branch [
+        | then-placed w ↦ same_pool w.deref-then-placed.result.now shared w.place.new.hand hand
+            w.deref-then-placed.ensures w.hand-is w.place.ensures.hand
+        | else-placed w ↦ same_pool c.deref.result.now shared c.in-Some.hand hand c.deref.ensures w.hand-is
+            c.in-Some.ensures
+      ];
+}
+
+pub invariant_of-result-2 : goal.invariant_of-result-2
+invariant_of-result-2 c = let shared = arc_value c.in-Ok.shared in let hand = c.with_keeping-cache.result.hand in
+    let is = c.with_keeping-cache.ensures.hand in record {
+      own =
+          elim c.if-placed.branch [
+            | then-placed w ↦ same_pool w.deref-then-placed.result.now shared w.place.new.hand hand
+                w.deref-then-placed.ensures (is ∙ w.hand-is) w.place.ensures.hand
+            | else-placed w ↦ same_pool c.deref.result.now shared c.in-Some.hand hand c.deref.ensures (is ∙ w.hand-is)
+                c.in-Some.ensures
+          ];
+    }
 
 pub returns-then-deref-eq0-clause-ok : goal.returns-then-deref-eq0-clause-ok
 returns-then-deref-eq0-clause-ok c = let tags = (arc_value c.args.self.now.shared).tags in (

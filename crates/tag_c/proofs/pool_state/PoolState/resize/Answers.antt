@@ -8,6 +8,10 @@ use Rattle.tag_c.specs.Resizes.{EndsResize}
 use Rattle.tag_c.proofs.Resizing.{refusal_ends}
 use Rattle.tag_c.proofs.pool_state.PoolState.resize.Goals as goal
 
+pub resize-requires : goal.resize-requires
+resize-requires c = let parted = c.part-tags.ensures in
+    subst (λ (tags : Tags ℕ). All (IsHandOf tags) c.part-tags.result.1.items) (sym parted.tags) parted.own
+
 pub returns-in-Err-clause-ends : goal.returns-in-Err-clause-ends
 returns-in-Err-clause-ends c = let e = c.in-Err.ensures in let fault = c.in-Err.field-0 in let total = c.args.request.1 in
     let hands = c.part-tags.result.1.items in let parted = c.part-tags.ensures in

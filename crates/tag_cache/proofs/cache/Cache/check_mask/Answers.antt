@@ -3,7 +3,8 @@ use Rattle.std.proofs.Common.{rules, arith, ◌≡◌, ◌<◌, ◌≤◌, Err, 
 use Rattle.std.specs.Prelude.{bit_and}
 use Rattle.std.proofs.lemmas.Bool.{cases_lt}
 use Rattle.tag_queue.proofs.MaskHolds.{none_in_zero}
-use Rattle.tag_sets.specs.declared.fault.TagFault.TheVariants.{NotHeld}
+use Rattle.tag_queue.proofs.PassedOn.{refused_alike}
+use Rattle.tag_sets.specs.declared.fault.TagFault.TheVariants.{NoSuchTag, NotHeld}
 use Rattle.tag_cache.specs.Caches.{Holds}
 use Rattle.tag_cache.proofs.Carrying.{not_ok}
 use Rattle.tag_cache.proofs.Shifting.{no_common}
@@ -54,3 +55,9 @@ returns-clause-not_held g c = (
   λ e. absurd (let z = e in cc),
   λ h. absurd (h.1 ((returns-clause-succeeds g c).0 refl).2),
 )
+
+pub returns-in_err-check_mask-clause-no_such_tag : goal.returns-in_err-check_mask-clause-no_such_tag
+returns-in_err-check_mask-clause-no_such_tag g c =
+    let same : c.from_residual.result ≡ Err c.in_err-check_mask.field-0.0 = first_of (cc, search rules) in
+    refused_alike c.check_mask.result c.from_residual.result c.in_err-check_mask.field-0.0 NoSuchTag _
+    c.in_err-check_mask.was same c.check_mask.ensures.no_such_tag

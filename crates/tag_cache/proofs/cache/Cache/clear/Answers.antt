@@ -1,26 +1,21 @@
--- A lent tag is held and ordinary, so it needs no test; what becomes of a tag says the rest.
+-- A tag that has a place is held and ordinary, so it needs no test; what becomes of it says the rest.
 use Rattle.std.proofs.Common.{inl}
 use Rattle.tag_cache.proofs.Answering.{cleared}
-use Rattle.tag_cache.proofs.Reusing.{lent_held, lent_within}
+use Rattle.tag_cache.proofs.Reusing.{lent_held, lent_ordinary_of}
 use Rattle.tag_cache.proofs.cache.Cache.clear.Goals as goal
 
-pub put-requires-clause-held : goal.put-requires-clause-held
-put-requires-clause-held g c = lent_held c.args.self.now c.args.tag (c.lends.ensures.0 c.if-lends.true)
+pub returns-then-has_place-clause-less : goal.returns-then-has_place-clause-less
+returns-then-has_place-clause-less g c = let lent = (c.has_place.ensures.0 c.if-has_place.true).lent in
+    (cleared c.args.tags.now c.args.tag c.args.self.now c.put_and_ring.new.self c.put_and_ring.result
+    (lent_held c.args.self.now c.args.tag lent)
+    (inl (lent_ordinary_of c.args.tags.now c.args.self.now c.args.tag c.requires lent, c.put_and_ring.ensures.way))).less
 
-pub put-requires-clause-aimed : goal.put-requires-clause-aimed
-put-requires-clause-aimed g c = inl (lent_within c.args.self.now c.args.tag (c.lends.ensures.0 c.if-lends.true))
+pub returns-then-has_place-clause-way : goal.returns-then-has_place-clause-way
+returns-then-has_place-clause-way g c = let lent = (c.has_place.ensures.0 c.if-has_place.true).lent in
+    inl (lent_ordinary_of c.args.tags.now c.args.self.now c.args.tag c.requires lent, c.put_and_ring.ensures.way)
 
-pub returns-then-lends-clause-less : goal.returns-then-lends-clause-less
-returns-then-lends-clause-less g c = (cleared c.args.tags.now c.args.tag c.args.self.now c.put.new.self c.put.result
-    c.woken_by.result c.woken_by.ensures (lent_held c.args.self.now c.args.tag (c.lends.ensures.0 c.if-lends.true))
-    (inl c.put.ensures.way)).less
-
-pub returns-then-lends-clause-way : goal.returns-then-lends-clause-way
-returns-then-lends-clause-way g c = (cleared c.args.tags.now c.args.tag c.args.self.now c.put.new.self c.put.result
-    c.woken_by.result c.woken_by.ensures (lent_held c.args.self.now c.args.tag (c.lends.ensures.0 c.if-lends.true))
-    (inl c.put.ensures.way)).way
-
-pub returns-then-lends-clause-tally : goal.returns-then-lends-clause-tally
-returns-then-lends-clause-tally g c = (cleared c.args.tags.now c.args.tag c.args.self.now c.put.new.self c.put.result
-    c.woken_by.result c.woken_by.ensures (lent_held c.args.self.now c.args.tag (c.lends.ensures.0 c.if-lends.true))
-    (inl c.put.ensures.way)).tally
+pub returns-then-has_place-clause-tally : goal.returns-then-has_place-clause-tally
+returns-then-has_place-clause-tally g c = let lent = (c.has_place.ensures.0 c.if-has_place.true).lent in
+    (cleared c.args.tags.now c.args.tag c.args.self.now c.put_and_ring.new.self c.put_and_ring.result
+    (lent_held c.args.self.now c.args.tag lent)
+    (inl (lent_ordinary_of c.args.tags.now c.args.self.now c.args.tag c.requires lent, c.put_and_ring.ensures.way))).tally

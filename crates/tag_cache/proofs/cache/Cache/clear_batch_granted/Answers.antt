@@ -1,5 +1,7 @@
 -- The hand's refusals are the user's, and a tag that is kept is one that the user does not hold.
 use Rattle.std.proofs.Common.{rules, ◌≡◌, Err, refl}
+use Rattle.tag_queue.proofs.PassedOn.{refused_alike}
+use Rattle.tag_sets.specs.declared.fault.TagFault.TheVariants.{NoSuchTag}
 use Rattle.tag_sets.specs.Batches.{CountsTags, AreOrdinary}
 use Rattle.tag_sets.specs.Batches as hand_batches
 use Rattle.tag_cache.specs.Batches.{AreHeldOnce}
@@ -48,3 +50,21 @@ returns-clause-less g c = list_less c.args.tags.now c.args.list.now c.give_list.
 pub returns-clause-tally : goal.returns-clause-tally
 returns-clause-tally g c = list_tallies c.args.tags.now c.args.list.now c.give_list.result.woken c.args.self.now
     c.give_list.new.self c.give_list.ensures.way
+
+pub returns-in_err-check_batch-clause-no_such_tag : goal.returns-in_err-check_batch-clause-no_such_tag
+returns-in_err-check_batch-clause-no_such_tag g c =
+    let same : c.from_residual.result ≡ Err c.in_err-check_batch.field-0.0 = first_of (cc, search rules) in
+    refused_alike c.check_batch.result c.from_residual.result c.in_err-check_batch.field-0.0 NoSuchTag _
+    c.in_err-check_batch.was same c.check_batch.ensures.no_such_tag
+
+pub returns-then-not-keeps_none_of-clause-succeeds : goal.returns-then-not-keeps_none_of-clause-succeeds
+returns-then-not-keeps_none_of-clause-succeeds g c = let list = c.args.list.now in let cache = c.args.self.now in (
+  (λ ok. absurd (let no = ok in cc)),
+  (λ h. let none = c.keeps_none_of.ensures.1 (none_is_kept cache list h.2) in
+      let some = c.if-not-keeps_none_of.true in absurd cc),
+)
+
+pub give_list-requires-clause-held : goal.give_list-requires-clause-held
+give_list-requires-clause-held g c = let list = c.args.list.now in
+    user_holds c.args.self.now list (c.in_ok-check_batch.ensures.succeeds.0 refl).2
+    (c.keeps_none_of.ensures.0 (let some = c.if-not-keeps_none_of.false in cc))

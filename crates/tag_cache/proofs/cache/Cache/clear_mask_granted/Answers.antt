@@ -3,7 +3,7 @@ use Rattle.std.proofs.Common.{rules, ◌≡◌, ℕ, Err, subst}
 use Rattle.tag_queue.specs.Masks.{tags_in}
 use Rattle.tag_queue.proofs.PassedOn.{refused_alike}
 use Rattle.tag_queue.proofs.RunTags.{tags_in-length}
-use Rattle.tag_sets.specs.declared.fault.TagFault.TheVariants.{NotHeld}
+use Rattle.tag_sets.specs.declared.fault.TagFault.TheVariants.{NoSuchTag, NotHeld}
 use Rattle.tag_cache.specs.Tallies.{Tallies}
 use Rattle.tag_cache.proofs.Listing.{list_less, list_tallies}
 use Rattle.tag_cache.proofs.cache.Cache.clear_mask_granted.Goals as goal
@@ -23,3 +23,9 @@ returns-clause-tally g c = subst (λ (n : ℕ). Tallies 0 n c.args.self.now c.gi
     (tags_in-length c.args.first c.args.mask c.ranges.mask.fits)
     (list_tallies c.args.tags.now (tags_in c.args.first c.args.mask) c.give_mask.result.woken c.args.self.now
     c.give_mask.new.self c.give_mask.ensures.way)
+
+pub returns-in_err-check_mask-clause-no_such_tag : goal.returns-in_err-check_mask-clause-no_such_tag
+returns-in_err-check_mask-clause-no_such_tag g c =
+    let same : c.from_residual.result ≡ Err c.in_err-check_mask.field-0.0 = first_of (cc, search rules) in
+    refused_alike c.check_mask.result c.from_residual.result c.in_err-check_mask.field-0.0 NoSuchTag _
+    c.in_err-check_mask.was same c.check_mask.ensures.no_such_tag

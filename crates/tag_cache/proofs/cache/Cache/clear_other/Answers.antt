@@ -1,14 +1,19 @@
 -- An ordinary tag is kept or goes back.
-use Rattle.std.proofs.Common.{inl}
+use Rattle.std.proofs.Common.{inl, sym, ◌∙◌}
+use Rattle.tag_sets.specs.Hands.{reserved_of}
+use Rattle.tag_sets.proofs.Numbering.{ordinary_at}
 use Rattle.tag_cache.proofs.Looking.{unlent_less}
 use Rattle.tag_cache.proofs.cache.Cache.clear_other.Goals as goal
 
 pub returns-in-Ordinary-clause-way : goal.returns-in-Ordinary-clause-way
-returns-in-Ordinary-clause-way g c = inl c.put_other.ensures.way
+returns-in-Ordinary-clause-way g c = inl (
+  (ordinary_at (reserved_of c.args.tags.now) c.args.tag (sym c.in_ok-kind.ensures.kind ∙ c.in-Ordinary.is)).above,
+  c.put_other.ensures.way,
+)
 
 pub returns-in-Ordinary-clause-loans : goal.returns-in-Ordinary-clause-loans
 returns-in-Ordinary-clause-loans g c = c.put_other.ensures.loans
 
 pub returns-in-Reserved-clause-loans : goal.returns-in-Reserved-clause-loans
-returns-in-Reserved-clause-loans g c = λ careful. unlent_less c.args.tag c.args.self.now c.give.new.self c.requires.unlent
+returns-in-Reserved-clause-loans g c = λ leaves. unlent_less c.args.tag c.args.self.now c.give.new.self c.requires.unlent
     c.give.ensures.window.loans

@@ -53,3 +53,9 @@ pub returns-clause-grants : goal.returns-clause-grants
 returns-clause-grants g c = c.both.ensures.grants (group_steps c.args.self.now.hand)
     (group_steps c.go_before-sooner.new.self.hand) (group_steps c.clear_batch_held-later.new.hand)
     c.go_before-sooner.ensures.grants c.clear_batch_held-later.ensures.grants
+
+pub returns-clause-loans : goal.returns-clause-loans
+returns-clause-loans g c = λ other. (
+  (λ l. (c.lent_without_all-left.ensures other).0 ((c.go_before-sooner.ensures.loans other).0 l)),
+  (λ l. (c.go_before-sooner.ensures.loans other).1 ((c.lent_without_all-left.ensures other).1 l)),
+)

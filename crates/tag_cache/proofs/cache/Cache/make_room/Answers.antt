@@ -1,5 +1,5 @@
 -- The kept tags go back, and the tag is kept where none is; or it goes back alone.
-use Rattle.std.proofs.Common.{◌≤◌, ◌∙◌, ℕ, inl, inr, sym, subst}
+use Rattle.std.proofs.Common.{arith, ◌≤◌, ◌∙◌, ℕ, inl, inr, sym, subst, ⊎_elim}
 use Rattle.tag_sets.specs.declared.hand.Hand.{Hand}
 use Rattle.tag_sets.specs.Hands.{group_steps}
 use Rattle.wake_book.specs.Grants.{AreGrantsOf}
@@ -47,10 +47,12 @@ returns-clause-grants g c = subst (λ (h : Hand g.row.R.Denot). AreGrantsOf c.gi
     (group_steps c.args.self.now.hand) (group_steps h)) (sym c.keep_first.ensures.hand) c.give_kept-grants.ensures.grants
 
 pub returns-then-not-can_keep-clause-loans : goal.returns-then-not-can_keep-clause-loans
-returns-then-not-can_keep-clause-loans g c = λ careful. c.give_alone.ensures.loans
+returns-then-not-can_keep-clause-loans g c = λ leaves. c.give_alone.ensures.loans
 
 pub returns-clause-loans : goal.returns-clause-loans
-returns-clause-loans g c = λ careful. let e = c.give_kept-grants.ensures in
+returns-clause-loans g c = λ leaves. let e = c.give_kept-grants.ensures in let first = e.window.0 in
     same_then_lends_less c.args.tag c.args.self.now c.give_kept-grants.new.self c.keep_first.new.self
     (same_loans c.args.self.now c.give_kept-grants.new.self e.window.0 e.window.1)
-    (c.keep_first.ensures.loans (e.terms.keeping ∙ careful))
+    (c.keep_first.ensures.loans (⊎_elim
+    (λ within. let low = within.0 in let high = within.1 in inl (omega arith, omega arith))
+    (λ careful. inr (e.terms.keeping ∙ careful)) leaves))

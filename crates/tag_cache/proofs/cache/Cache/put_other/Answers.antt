@@ -1,22 +1,21 @@
 -- The window moved, or did not, and then the tag is kept or given back.
-use Rattle.std.proofs.Common.{◌≤◌, ◌∙◌, inl, inr, sym, subst, ⊎_elim}
+use Rattle.std.proofs.Common.{◌≤◌, inl, inr, sym, subst, ⊎_elim}
 use Rattle.tag_sets.specs.declared.hand.Hand.{Hand}
 use Rattle.tag_sets.specs.Hands as hands
 use Rattle.tag_cache.specs.declared.cache.Cache.{Cache}
-use Rattle.tag_cache.specs.Caches.{IsFixed}
+use Rattle.tag_cache.specs.Caches.{IsFixed, LeavesWindow}
 use Rattle.tag_cache.specs.Changes.{LendsLess}
-use Rattle.tag_cache.specs.Granted.{woken_in}
-use Rattle.tag_cache.proofs.Granting.{granted_same}
+use Rattle.tag_cache.proofs.Granting.{before_same}
 use Rattle.tag_cache.proofs.Reusing.{held_still}
 use Rattle.tag_cache.proofs.Moving.{goes_from}
 use Rattle.tag_cache.proofs.cache.Cache.put_other.Goals as goal
 
 pub returns-clause-way : goal.returns-clause-way
-returns-clause-way g c = goes_from c.args.tags.now c.args.tag (woken_in c.put.result) c.args.self.now c.follow.new.self
-    c.put.new.self c.follow.ensures.same c.follow.ensures.moved c.follow.ensures.careful c.put.ensures.way
+returns-clause-way g c = goes_from c.args.tags.now c.args.tag c.put.result.woken c.args.self.now c.follow.new.self
+    c.put.new.self c.follow.ensures.same c.follow.ensures.moved (λ careful. c.follow.ensures.still (inr careful)) c.put.ensures.way
 
 pub returns-clause-grants : goal.returns-clause-grants
-returns-clause-grants g c = granted_same c.put.result c.args.self.now.hand c.follow.new.self.hand c.put.new.self.hand
+returns-clause-grants g c = before_same c.put.result c.args.self.now.hand c.follow.new.self.hand c.put.new.self.hand
     c.follow.ensures.same.hand c.put.ensures.grants
 
 pub put-requires-clause-cache : goal.put-requires-clause-cache
@@ -36,6 +35,6 @@ put-requires-clause-aimed g c = ⊎_elim (λ w. inl w)
     (λ e. inr (subst (λ (x : Cache g.row.R.Denot). IsFixed x) (sym e.0) e.1)) c.follow.ensures.aimed
 
 pub returns-clause-loans : goal.returns-clause-loans
-returns-clause-loans g c = λ careful. let e = c.follow.ensures.careful careful in
+returns-clause-loans g c = λ leaves. let e = c.follow.ensures.still leaves in
     subst (λ (x : Cache g.row.R.Denot). LendsLess c.args.tag x c.put.new.self) e
-    (c.put.ensures.loans (c.follow.ensures.same.kept.terms.keeping ∙ careful))
+    (c.put.ensures.loans (subst (λ (x : Cache g.row.R.Denot). LeavesWindow c.args.tag x) (sym e) leaves))

@@ -126,10 +126,7 @@ returns-clause-some g c =
     let r1 : Record R = record_after (Word (Swap i f)) (record_of w) in
     let done = c.fetch_sub.ensures.2 i r1 c.word_spot.ensures did.view in let me = c.fetch_sub.new.seat.me in
     λ _. (
-      f,
       c.fetch_sub.result,
-      c.if-mask-eq0.false,
-      c.swap-mask.type_inv,
       record {
         known = both w i f c.fetch_sub.result me inside done.view;
         slots = λ t was is. done.values t was.0 was.1 was.1 ∙ did.values t was.0 was.1 was.1;
@@ -142,5 +139,5 @@ returns-then-mask-eq0-clause-kept g c =
     adds_keeps c.args.self.now c.args.caller.now _ c.requires.caller _ (returns-then-mask-eq0-clause-none g c refl) refl
 
 pub returns-clause-kept : goal.returns-clause-kept
-returns-clause-kept g c = let steps = returns-clause-some g c refl in
-    adds_two_keeps c.args.self.now c.args.caller.now _ c.requires.caller _ _ steps.4 refl
+returns-clause-kept g c = let steps = returns-clause-some g c c.if-mask-eq0.false in
+    adds_two_keeps c.args.self.now c.args.caller.now _ c.requires.caller _ _ steps.1 refl

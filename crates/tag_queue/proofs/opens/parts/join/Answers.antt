@@ -7,11 +7,16 @@ use Rattle.tag_queue.specs.Parts.{HasHint}
 use Rattle.tag_queue.proofs.Fronts.{at_next, goes_on}
 use Rattle.tag_queue.proofs.opens.parts.join.Goals as goal
 
-pub agent_of-requires : goal.agent_of-requires
-agent_of-requires g c = let inv = c.loop-number.invariant in let made = c.loop-number.agents.items in
+pub agent_of-requires-clause-fit : goal.agent_of-requires-clause-fit
+agent_of-requires-clause-fit g c = let inv = c.loop-number.invariant in let made = c.loop-number.agents.items in
     c.requires.fit c.loop-number.number _ _ _
     (at_next caller_of made c.in-Some.caller _ _ _ _ inv.callers c.in-Some.ensures.items inv.made)
     (at_next teller_of made c.in-Some-next.teller _ _ _ _ inv.tellers c.in-Some-next.ensures.items inv.made)
+    (at_next waiter_of made c.in-Some-next-2.waiter _ _ _ _ inv.waiters c.in-Some-next-2.ensures.items inv.made)
+
+pub agent_of-requires-clause-new : goal.agent_of-requires-clause-new
+agent_of-requires-clause-new g c = let inv = c.loop-number.invariant in let made = c.loop-number.agents.items in
+    c.requires.new c.loop-number.number _
     (at_next waiter_of made c.in-Some-next-2.waiter _ _ _ _ inv.waiters c.in-Some-next-2.ensures.items inv.made)
 
 pub loop-number-preserved : goal.loop-number-preserved

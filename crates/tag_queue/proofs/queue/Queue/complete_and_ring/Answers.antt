@@ -3,6 +3,7 @@ use Rattle.std.proofs.Common.{rules, arith, List, inr, subst}
 use Rattle.wake_book.specs.declared.steps.GroupStep.{GroupStep}
 use Rattle.tag_queue.specs.Agents.{batch_of, group_steps}
 use Rattle.tag_queue.specs.Clears.{Follows}
+use Rattle.tag_queue.proofs.Ringing.{rings_looked}
 use Rattle.tag_queue.proofs.queue.Queue.complete_and_ring.Goals as goal
 
 pub returns-clause-counts : goal.returns-clause-counts
@@ -18,3 +19,7 @@ returns-clause-counts g c = record {
   });
   stands = search rules;
 }
+
+pub returns-clause-rings : goal.returns-clause-rings
+returns-clause-rings g c = rings_looked c.active-found.result c.args.agent.now.waiter c.active-found.new.waiter
+    c.charge_and_ring.new.agent.waiter c.active-found.ensures.step c.charge_and_ring.ensures.rings

@@ -1,10 +1,12 @@
--- The bound is that of the search on the map: all other steps of a batch are its own.
-use Rattle.std.proofs.Common.{rules, arith}
-use Rattle.tag_queue.specs.Agents.{layout_of}
-use Rattle.tag_queue.specs.Gets.{most_steps}
-use Rattle.tag_queue.proofs.Getting.{few_steps}
+-- The look that follows is for as many tags as the batch left free, and under round robin it left none.
+use Rattle.std.proofs.Common.{ℕ, subst}
+use Rattle.tag_queue.specs.Freed.{LooksAfter}
 use Rattle.tag_queue.proofs.queue.Queue.get_batch.Goals as goal
 
-pub returns-clause-bound : goal.returns-clause-bound
-returns-clause-bound g c = let few = few_steps (most_steps (layout_of c.args.self.now)) (λ steps h. h.bound)
-    (c.in-Ok.ensures.steps (search rules)) in omega arith
+pub returns-clause-gets : goal.returns-clause-gets
+returns-clause-gets g c = λ free. record {
+  searched = c.get_batch_freed.new.agent;
+  gets = c.in_ok-answer.ensures.gets free;
+  looks = subst (λ (n : ℕ). LooksAfter n c.get_batch_freed.new.agent c.look_after.new.agent)
+      c.in_ok-answer.ensures.left c.look_after.ensures.looks;
+}

@@ -1,8 +1,9 @@
 -- Each turn is a round that found no tag and used up none of the agent's life; the last get or stay finds one.
-use Rattle.std.proofs.Common.{inl, inr, suc}
+use Rattle.std.proofs.Common.{None, inl, inr, suc, refl}
 use Rattle.wake_book.specs.Groups.{wait_index_of}
 use Rattle.tag_queue.specs.Agents.{layout_of, waiter_of}
-use Rattle.tag_queue.proofs.Rounds.{search_keeps_room, gets_by_rounds}
+use Rattle.tag_queue.proofs.Looking.{searched_plain}
+use Rattle.tag_queue.proofs.Rounds.{search_keeps_room, searched_there, gets_by_rounds}
 use Rattle.tag_queue.proofs.queue.Queue.get_blocking.Goals as goal
 
 pub returns-in-Some-try_get-clause-waits : goal.returns-in-Some-try_get-clause-waits
@@ -45,8 +46,10 @@ loop-preserved g c =
     record {
       turns = (tt, tt);
       agent = c.in_default-stay.ensures.agent;
-      room = search_keeps_room l _ _ _ _ stay.searches (search_keeps_room l _ _ _ _ first.searches inv.room);
+      room = search_keeps_room l _ _ _ _ (searched_there l _ None _ _ stay)
+          (search_keeps_room l _ _ _ _ (searched_plain l None _ _ first) inv.room);
       out = stay.out;
+      free = inv.free;
       rounds = (
         suc inv.rounds.0,
         (
@@ -61,3 +64,15 @@ loop-preserved g c =
         ),
       );
     }
+
+pub returns-in-Some-try_get-clause-succeeds : goal.returns-in-Some-try_get-clause-succeeds
+returns-in-Some-try_get-clause-succeeds g c = (λ ok. c.loop.invariant.free, λ free. refl)
+
+pub returns-in-Some-stay-clause-spent : goal.returns-in-Some-stay-clause-spent
+returns-in-Some-stay-clause-spent g c = (
+  λ e. absurd (let z = e in cc),
+  λ spent. absurd (spent.2 c.loop.invariant.free.2),
+)
+
+pub returns-in-Some-stay-clause-succeeds : goal.returns-in-Some-stay-clause-succeeds
+returns-in-Some-stay-clause-succeeds g c = (λ ok. c.loop.invariant.free, λ free. refl)

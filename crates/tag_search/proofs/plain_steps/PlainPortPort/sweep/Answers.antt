@@ -2,8 +2,8 @@
 use Rattle.std.proofs.Common.{◌≡◌, ℕ, ◌^◌, ◌<◌, [], ◌∷◌, get_or, set, sym, ◌∙◌, subst, arith}
 use Rattle.tag_layout.specs.Layout.{words}
 use Rattle.tag_search.specs.Plain.{Plain}
-use Rattle.tag_core.specs.declared.word_step.WordStep.TheVariants.{Swap, Spill}
-use Rattle.tag_search.specs.Search.{empty, spilled}
+use Rattle.tag_core.specs.declared.word_step.WordStep.TheVariants.{LookAside, Swap, Spill}
+use Rattle.tag_search.specs.Search.{unseen, spilled}
 use Rattle.tag_core.specs.Steps.{without}
 use Rattle.tag_search.specs.Writes.{WritesBits, IsIn}
 use Rattle.tag_search.proofs.Seen.{seen, swept, aside_found}
@@ -18,7 +18,7 @@ returns-then-mask-eq0-clause-steps c =
     let near : i < words p.layout = subst (λ (x : Plain). i < words x.layout) (sym c.self.view_is) c.requires.word in
     let is : get_or p.aside i 0 ≡ 0 = sym (aside_found p c.self.invariant i near mask c.index-mask.ensures)
     ∙ c.if-mask-eq0.true in
-    rw (← c.self.view_is) (record { steps = Swap i 0 ∷ []; added = ran_empty p i is; holds = empty })
+    rw (← c.self.view_is) (record { steps = LookAside i 0 ∷ []; added = ran_empty p i is; holds = unseen })
 
 pub invariant_of-self : goal.invariant_of-self
 invariant_of-self c =
@@ -46,12 +46,9 @@ returns-clause-steps c =
     let i = c.args.word in let mask = c.index-mask.result.now in let found = c.index_mut-2.result.now in
     let near : i < words p.layout = subst (λ (x : Plain). i < words x.layout) (sym c.self.view_is) c.requires.word in
     let has = swept p c.self.invariant i near mask found c.index-mask.ensures c.index_mut-2.ensures.value in
-    let fits : mask < 2 ^ 64 = omega arith in (
-      mask,
-      c.if-mask-eq0.false,
-      rw (← c.self.view_is) (record {
-        steps = Swap i mask ∷ Spill i mask found ∷ [];
-        added = ran_sweep p i mask found has.in_word has.in_aside has.aside_is has.word_is;
-        holds = spilled c.if-mask-eq0.false fits;
-      }),
-    )
+    let fits : mask < 2 ^ 64 = omega arith in
+    rw (← c.self.view_is) (record {
+      steps = LookAside i mask ∷ Swap i mask ∷ Spill i mask found ∷ [];
+      added = ran_sweep p i mask found has.in_word has.in_aside has.aside_is has.word_is;
+      holds = spilled c.if-mask-eq0.false c.if-mask-eq0.false fits;
+    })

@@ -16,8 +16,10 @@ returns-in-Some-clause-search g c =
     let word = c.loop-word.word in let begun = c.loop-word.invariant.begun in let visit = c.in-Some.ensures.visit in
     let left : map of (numbers word c.args.end) ≡ of word ∷ map of (numbers (word + 1) c.args.end) = ap (map of)
     (numbers-cons word c.args.end c.loop-word-test.true) in
-    let is : IsVisit word (of word).rank visit.steps (Some c.in-Some.place) =
-    subst (λ rank. IsVisit word rank visit.steps (Some c.in-Some.place)) c.rank.ensures.rank visit.holds in
+    let is : IsVisit word (of word).rank (of word).turns visit.steps (Some c.in-Some.place) =
+    subst (λ turns. IsVisit word (of word).rank turns visit.steps (Some c.in-Some.place)) c.turns.ensures.value
+    (subst (λ rank. IsVisit word rank c.turns.result visit.steps (Some c.in-Some.place)) c.rank.ensures.rank visit.holds)
+    in
     let last : IsSearch l (of word ∷ map of (numbers (word + 1) c.args.end)) visit.steps
     (Some (tag_at l word c.in-Some.place)) = won {visit = of word} is in
     record {
@@ -37,9 +39,10 @@ loop-word-preserved g c =
     let visit = c.visit.ensures.visit in
     let left : map of (numbers word c.args.end) ≡ of word ∷ map of (numbers (word + 1) c.args.end) = ap (map of)
     (numbers-cons word c.args.end c.loop-word-test.true) in
-    let none : IsVisit word (of word).rank visit.steps None =
-    subst (λ answer. IsVisit word (of word).rank visit.steps answer) c.in_default.is
-    (subst (λ rank. IsVisit word rank visit.steps c.visit.result) c.rank.ensures.rank visit.holds) in
+    let none : IsVisit word (of word).rank (of word).turns visit.steps None =
+    subst (λ answer. IsVisit word (of word).rank (of word).turns visit.steps answer) c.in_default.is
+    (subst (λ turns. IsVisit word (of word).rank turns visit.steps c.visit.result) c.turns.ensures.value
+    (subst (λ rank. IsVisit word rank c.turns.result visit.steps c.visit.result) c.rank.ensures.rank visit.holds)) in
     record {
       port = c.visit.ensures.port;
       sizes = c.visit.ensures.sizes ∙ c.loop-word.invariant.sizes;

@@ -21,4 +21,6 @@ returns-clause-step g c =
       added = adds_claim c.args.word c.args.mask found w _ near fits found_held c.in_ok-claim.ensures.step;
       map = refl;
       lent = refl;
+      freed = λ fits. omega arith;
+      latest = refl;
     }

@@ -1,36 +1,21 @@
--- The first number is below the depth of its set, so adding the reserved tags gives an ordinary tag without overflow.
-use Rattle.std.proofs.Common.{arith, ◌≡◌, ℕ, ◌+◌, ◌<◌, Bool, true, false, Option, None, Some, sym, ap, subst, refl}
-use Rattle.tag_queue.specs.Gets.{GetsBatch}
-use Rattle.tag_sets.specs.declared.kind.Kind.TheVariants.{Ordinary}
-use Rattle.tag_sets.specs.Hands.{layout_of, reserved_of, hint_of}
-use Rattle.tag_sets.specs.Gets.{whole_run}
-use Rattle.tag_sets.proofs.Getting.{batch_low, batch_of}
+-- The look that follows is for as many tags as the batch left free, and under round robin it left none.
+use Rattle.std.proofs.Common.{arith, ◌≡◌, ℕ, Ok, sym, ap, ◌∙◌, subst}
+use Rattle.tag_sets.specs.Freed.{left_free, LooksAfter}
 use Rattle.tag_sets.proofs.tags.Tags.get_batch.Goals as goal
 
-pub returns-in_default-clause-gets : goal.returns-in_default-clause-gets
-returns-in_default-clause-gets g c = λ plain. let tags = c.args.self.now in
-    let none : c.in_ok-first.field-0 ≡ None = cc in
-    batch_of tags c.args.hand.now c.get_batch.new.agent c.requires.hand c.args.n c.in_ok-first.field-0 None
-    (ap (whole_run (reserved_of tags)) (sym none))
-    (c.in_ok-first.ensures.gets plain)
-
-pub overflow_add-result : goal.overflow_add-result
-overflow_add-result g c = let tags = c.args.self.now in let hand = c.args.hand.now in
-    let low : c.in-Some.first < (layout_of tags Ordinary).depth =
-    elim ((hint_of hand Ordinary).round_robin) as
-    (λ (b : Bool). (hint_of hand Ordinary).round_robin ≡ b → c.in-Some.first < (layout_of tags Ordinary).depth) [
-      | true ↦ (λ t. absurd (let none = (c.in_ok-first.ensures.round_robin
-          (λ m. let bad = c.in_ok-first.ensures.bad_count.1 m in cc) (search t)).0 in cc))
-      | false ↦ (λ f. batch_low tags hand c.get_batch.new.agent c.requires.hand c.args.n
-          (c.in-Some.first, c.in-Some.won)
-          (subst (λ (o : Option (ℕ × ℕ)). GetsBatch (layout_of tags Ordinary) c.args.n o hand.ordinary
-          c.get_batch.new.agent) (cc) (c.in_ok-first.ensures.gets f)))
-    ] refl in
-    let fits = tags.fits in omega arith
-
 pub returns-clause-gets : goal.returns-clause-gets
-returns-clause-gets g c = λ plain. let tags = c.args.self.now in
-    let is : c.in_ok-first.field-0 ≡ Some (c.in-Some.first, c.in-Some.won) = cc in
-    batch_of tags c.args.hand.now c.get_batch.new.agent c.requires.hand c.args.n c.in_ok-first.field-0
-    (Some (reserved_of tags + c.in-Some.first, c.in-Some.won))
-    (ap (whole_run (reserved_of tags)) (sym is)) (c.in_ok-first.ensures.gets plain)
+returns-clause-gets g c = λ plain. record {
+  searched = c.get_batch_freed.new.hand;
+  gets = c.in_ok-answer.ensures.gets plain;
+  looks = subst (λ (n : ℕ). LooksAfter n c.get_batch_freed.new.hand c.look_after.new.hand)
+      c.in_ok-answer.ensures.left c.look_after.ensures.looks;
+}
+
+pub returns-clause-round_robin : goal.returns-clause-round_robin
+returns-clause-round_robin g c = λ fits round.
+    let hand = c.args.hand.now in let searched = c.get_batch_freed.new.hand in
+    let batch = c.in_ok-answer.ensures.round_robin fits round in
+    let same : searched ≡ hand = batch.1 in
+    let none : left_free hand hand ≡ 0 = omega arith in
+    let left = c.in_ok-answer.ensures.left ∙ subst (λ h. left_free hand h ≡ 0) (sym same) none in
+    (ap Ok batch.0, c.look_after.ensures.looks.none left ∙ same)

@@ -3,5 +3,5 @@ use Rattle.tag_sets.proofs.Getting.{reserved_gets}
 use Rattle.tag_sets.proofs.tags.Tags.get_reserved.Goals as goal
 
 pub returns-clause-gets : goal.returns-clause-gets
-returns-clause-gets g c = reserved_gets c.args.self.now c.args.hand.now c.get.new.agent c.requires.hand
-    c.in_ok-get.field-0 c.in_ok-get.ensures.gets
+returns-clause-gets g c = reserved_gets c.args.self.now c.args.hand.now c.get_freed.new.agent c.requires.hand
+    c.in_ok-found.found.answer c.in_ok-found.ensures.gets

@@ -1,28 +1,12 @@
--- The number found is below the depth of its set, so adding the reserved tags gives an ordinary tag without overflow.
-use Rattle.std.proofs.Common.{arith, ◌≡◌, ℕ, ◌+◌, ◌<◌, Option, None, Some, sym, ap, subst}
-use Rattle.tag_queue.specs.Gets.{GetsShallow}
-use Rattle.tag_sets.specs.declared.kind.Kind.TheVariants.{Ordinary}
-use Rattle.tag_sets.specs.Hands.{layout_of, reserved_of}
-use Rattle.tag_sets.specs.Gets.{whole}
-use Rattle.tag_sets.proofs.Getting.{shallow_low, shallow_of}
+-- The look that follows is for as many tags as the get left free.
+use Rattle.std.proofs.Common.{ℕ, subst}
+use Rattle.tag_sets.specs.Freed.{LooksAfter}
 use Rattle.tag_sets.proofs.tags.Tags.get_shallow.Goals as goal
 
-pub returns-in_default-clause-gets : goal.returns-in_default-clause-gets
-returns-in_default-clause-gets g c = let tags = c.args.self.now in let none : c.in_ok-found.field-0 ≡ None = cc in
-    shallow_of tags c.args.hand.now c.get_shallow.new.agent c.requires.hand c.args.depth c.in_ok-found.field-0 None
-    (ap (whole (reserved_of tags)) (sym none))
-    c.in_ok-found.ensures.gets
-
-pub overflow_add-result : goal.overflow_add-result
-overflow_add-result g c = let tags = c.args.self.now in let hand = c.args.hand.now in
-    let low : c.in-Some.found < (layout_of tags Ordinary).depth =
-    shallow_low tags hand c.get_shallow.new.agent c.requires.hand c.args.depth c.in-Some.found
-    (subst (λ (o : Option ℕ). GetsShallow (layout_of tags Ordinary) c.args.depth o hand.ordinary
-    c.get_shallow.new.agent) c.in-Some.is c.in_ok-found.ensures.gets) in
-    let fits = tags.fits in omega arith
-
 pub returns-clause-gets : goal.returns-clause-gets
-returns-clause-gets g c = let tags = c.args.self.now in
-    shallow_of tags c.args.hand.now c.get_shallow.new.agent c.requires.hand c.args.depth c.in_ok-found.field-0
-    (Some (reserved_of tags + c.in-Some.found))
-    (ap (whole (reserved_of tags)) (sym c.in-Some.is)) c.in_ok-found.ensures.gets
+returns-clause-gets g c = record {
+  searched = c.get_shallow_freed.new.hand;
+  gets = c.in_ok-answer.ensures.gets;
+  looks = subst (λ (n : ℕ). LooksAfter n c.get_shallow_freed.new.hand c.look_after.new.hand) c.in_ok-answer.ensures.left
+      c.look_after.ensures.looks;
+}

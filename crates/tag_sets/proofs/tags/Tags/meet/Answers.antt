@@ -1,6 +1,6 @@
 -- In each set both agents are unchanged and hold no tag in common; so are the hands, and so do they.
 use Rattle.std.proofs.Common.{sym, ◌∙◌}
-use Rattle.tag_sets.proofs.Uniting.{unchanged, hold_apart}
+use Rattle.tag_sets.proofs.Uniting.{unchanged, share_both, hold_apart}
 use Rattle.tag_sets.proofs.tags.Tags.meet.Goals as goal
 
 pub returns-clause-unchanged : goal.returns-clause-unchanged
@@ -16,3 +16,9 @@ returns-clause-apart g c =
     hold_apart (record c.args.first.now { reserved = c.meet.new.first; ordinary = c.meet-2.new.first })
     (record c.args.second.now { reserved = c.meet.new.second; ordinary = c.meet-2.new.second })
     (c.requires.hands.0.2 ∙ sym c.requires.hands.1.2) c.meet.ensures.apart c.meet-2.ensures.apart
+
+pub returns-clause-histories : goal.returns-clause-histories
+returns-clause-histories g c =
+    share_both c.args.self.now (record c.args.first.now { reserved = c.meet.new.first; ordinary = c.meet-2.new.first })
+    (record c.args.second.now { reserved = c.meet.new.second; ordinary = c.meet-2.new.second })
+    c.meet.ensures.history c.meet-2.ensures.history

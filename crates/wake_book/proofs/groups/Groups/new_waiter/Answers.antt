@@ -25,7 +25,7 @@ returns-clause-waiter c = let k : ℕ = c.args.self.now.waiters in let n : ℕ =
     let e = c.split_seat-seat.ensures in
     let is = ap (λ x. x.0) c.requires.knows ∙ ap viewing (next_from fresh_record n k c.requires.comes.0) in (
       e.3 ∙ c.requires.comes.1,
-      (refl, refl),
+      (refl, refl, c.of.ensures),
       ap (λ (z : List GroupStep). record { number = n; steps = z })
           (ap (λ z. steps_of z.0) e.4 ∙ ap (λ z. steps_of (first_view z)) is),
     )

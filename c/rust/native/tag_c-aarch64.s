@@ -1,0 +1,1 @@
+../../generated/tag_c-aarch64.s

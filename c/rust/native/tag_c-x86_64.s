@@ -1,0 +1,1 @@
+../../generated/tag_c-x86_64.s

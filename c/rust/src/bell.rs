@@ -1,0 +1,162 @@
+//! The bell of a pool, which the library makes: it knows who waits for a tag, and tells them when one is free.
+use crate::error::{number, Result};
+use crate::raw::{self, Waiter, Waits};
+use std::ffi::c_void;
+use std::ptr::{null_mut, NonNull};
+use std::sync::atomic::Ordering::SeqCst;
+use std::task::Waker;
+
+/// What a pool and its hands share of who waits.
+#[derive(Clone, Copy)]
+pub(crate) struct Bell(NonNull<Waits>);
+
+// SAFETY: the library guards it by a lock and by atomic steps, and it lives as long as any hand is out.
+unsafe impl Send for Bell {}
+// SAFETY: as above.
+unsafe impl Sync for Bell {}
+
+impl Bell {
+    pub fn of(waits: NonNull<Waits>) -> Bell {
+        Bell(waits)
+    }
+
+    fn waits(&self) -> &Waits {
+        // SAFETY: it lives as long as the pool or a hand, one of which the caller has.
+        unsafe { self.0.as_ref() }
+    }
+
+    /// Returns whether anybody waits. Load it after tags became free.
+    #[inline]
+    pub fn is_awaited(&self) -> bool {
+        self.waits().waiting.load(SeqCst) > 0
+    }
+
+    #[inline]
+    pub fn is_stopped(&self) -> bool {
+        self.waits().stopped.load(SeqCst) > 0
+    }
+
+    /// Tells those who wait of this many tags that became free. It calls wakers, which may do anything, so no lock that
+    /// they may need is held meanwhile.
+    #[cold]
+    pub fn ring(&self, freed: u64) {
+        // SAFETY: it lives as long as the pool or a hand, one of which the caller has.
+        unsafe { raw::tags_library_ring(self.0.as_ptr(), freed) };
+    }
+
+    /// Tells this many futures, or hands of C, that a tag is theirs to try for.
+    pub fn pass_on(&self, tags: u64) {
+        if tags > 0 {
+            // SAFETY: as in `ring`.
+            unsafe { raw::tags_library_tell(self.0.as_ptr(), tags) };
+        }
+    }
+
+    pub fn stop(&self) {
+        // SAFETY: as in `ring`.
+        unsafe { raw::tags_library_stop(self.0.as_ptr()) };
+    }
+}
+
+/// A future's place among those who wait. It keeps its turn until it is dropped, so that a try that found no tag does not
+/// cost it that.
+pub(crate) struct Place {
+    bell: Bell,
+    /// The library has a pointer to it while it is listed.
+    waiter: NonNull<Waiter>,
+    /// Whether it was listed; it may have been told since.
+    is_listed: bool,
+}
+
+// SAFETY: the library guards the list by a lock, and a waker may be used on any thread.
+unsafe impl Send for Place {}
+// SAFETY: no call changes a place that is shared.
+unsafe impl Sync for Place {}
+
+/// Wakes a future. A waker that panics ends the program.
+extern "C" fn wake(waker: *mut c_void) {
+    // SAFETY: it came from `boxed`, and whoever tells a future owns it.
+    unsafe { unboxed(waker) }.wake();
+}
+
+fn boxed(waker: Waker) -> *mut c_void {
+    Box::into_raw(Box::new(waker)).cast()
+}
+
+/// # Safety
+/// The pointer came from `boxed`, and nobody else uses it.
+unsafe fn unboxed(waker: *mut c_void) -> Waker {
+    // SAFETY: as the caller promises.
+    *unsafe { Box::from_raw(waker.cast::<Waker>()) }
+}
+
+impl Place {
+    pub fn new(bell: Bell) -> Place {
+        let waiter = Box::new(Waiter::new(wake));
+        Place {
+            bell,
+            waiter: NonNull::from(Box::leak(waiter)),
+            is_listed: false,
+        }
+    }
+
+    pub fn is_listed(&self) -> bool {
+        self.is_listed
+    }
+
+    /// Lists the future at its turn. It must not be listed.
+    pub fn enter(&mut self, waker: Waker) -> Result<()> {
+        let waiter = self.waiter.as_ptr();
+        // SAFETY: while it is not listed, it is this place's alone.
+        unsafe { (*waiter).whom = boxed(waker) };
+        // SAFETY: it stays where it is until it was told or removed.
+        let listed = number(unsafe { raw::tags_library_listen(self.bell.0.as_ptr(), waiter) });
+        self.is_listed = listed.is_ok();
+        if !self.is_listed {
+            self.drop_waker();
+        }
+        listed.map(|_| ())
+    }
+
+    /// Replaces the waker of a listed future, and returns whether it still waits. Otherwise it was told.
+    pub fn renew(&mut self, waker: Waker) -> bool {
+        let (waits, new) = (self.bell.0.as_ptr(), boxed(waker));
+        // SAFETY: the future is listed or was told.
+        let former = unsafe { raw::tags_library_renew(waits, self.waiter.as_ptr(), new) };
+        self.is_listed = !former.is_null();
+        // SAFETY: the former waker is this place's again, or the new one still is.
+        drop(unsafe { unboxed(if self.is_listed { former } else { new }) });
+        self.is_listed
+    }
+
+    /// Removes the future from the list, if it was listed. Returns whether it was told since, and no try has followed.
+    pub fn leave(&mut self) -> bool {
+        if !self.is_listed {
+            return false;
+        }
+        self.is_listed = false;
+        // SAFETY: it is listed or was told.
+        let was_told =
+            unsafe { raw::tags_library_unlist(self.bell.0.as_ptr(), self.waiter.as_ptr()) } == 1;
+        if !was_told {
+            self.drop_waker();
+        }
+        was_told
+    }
+
+    /// Drops the waker of a future that is not listed and was not told.
+    fn drop_waker(&mut self) {
+        let waiter = self.waiter.as_ptr();
+        // SAFETY: it is this place's alone.
+        drop(unsafe { unboxed(std::mem::replace(&mut (*waiter).whom, null_mut())) });
+    }
+}
+
+impl Drop for Place {
+    fn drop(&mut self) {
+        let was_told = self.leave();
+        // SAFETY: it came from a box, and the library has no pointer to it any more.
+        drop(unsafe { Box::from_raw(self.waiter.as_ptr()) });
+        self.bell.pass_on(u64::from(was_told));
+    }
+}

@@ -1,0 +1,14 @@
+-- What a get answers, and how many tags it left free.
+use Rattle.std.specs.Prelude.{ℕ, Option, Result, Ok, Err}
+use Rattle.tag_search.specs.declared.found.Found.{Found}
+use Rattle.tag_sets.specs.declared.fault.TagFault.{TagFault}
+
+-- the answer without the number of tags left free
+abbrev pub answer_of : {A : Type 0} → Result (Found A) TagFault → Result (Option A) TagFault
+answer_of (Ok found) = Ok found.answer
+answer_of (Err fault) = Err fault
+
+-- how many tags the get left free, or 0 if it was refused
+abbrev pub left_of : {A : Type 0} → Result (Found A) TagFault → ℕ
+left_of (Ok found) = found.left
+left_of (Err fault) = 0

@@ -1,0 +1,133 @@
+//! Gets that look for no sleeper and tell how many tags they left free, and the look that follows them.
+ghost use Rattle.std.specs.Prelude.{◌≡◌, ◌+◌, ◌<◌, ◌≤◌, ◌↔◌, false, IfOk, IfErr, OnErr, IsOk, IsTrue, IsOkAnd, None};
+ghost use Rattle.tag_queue.specs.Agents.{layout_of, least_of, IsAgentOf, HasRoom, caller_of, hint_of, step_count};
+ghost use Rattle.tag_queue.specs.Freed.{LooksAfter, LooksAndRings};
+ghost use Rattle.tag_queue.specs.Gets.{GetsPlain, GetsShallow, GetsBatch, MiscountsBatch, most_steps};
+ghost use Rattle.tag_search.specs.Freed.{left_free};
+
+use crate::agent::Agent;
+use crate::fault::QueueFault;
+use crate::queue::Queue;
+use tag_search::{Found, on_map};
+
+impl<R: Copy> Queue<R> {
+    /// Like `get`, but looks for no sleeper: `left` is how many tags its sweeps freed and it did not take, 0 for none.
+    /// The caller passes that number to `look_after`, or wakes sleepers by other means, or knows that nobody sleeps.
+    #[inline(always)]
+    pub fn get_freed(&self, agent: &mut Agent<R>) -> Result<Found<u32>, QueueFault>
+        requires agent { IsAgentOf self.now agent.old }
+        ensures agent { IsAgentOf self.now agent.new }
+        ensures room { IsOk result ↔ HasRoom agent.old 1 }
+        ensures gets { IfOk result (λ found. GetsPlain (layout_of self.now) found.answer agent.old agent.new) }
+        ensures left { IfOk result (λ found. found.left ≡ left_free (caller_of agent.old) (caller_of agent.new)) }
+        ensures bound { step_count agent.new ≤ most_steps (layout_of self.now) + step_count agent.old }
+        ensures err { IfErr result (λ fault. (fault ≡ QueueFault.Spent) × (agent.new ≡ agent.old)) }
+    {
+        let Ok(found) = on_map::get(&self.map, &mut agent.caller, &mut agent.hint) else {
+            return Err(QueueFault::Spent);
+        };
+        Ok(found)
+    }
+
+    /// Like `get_shallow`, but looks for no sleeper (see `get_freed`). It is refused as `get_shallow` is: `TooShallow`,
+    /// `Spent`.
+    pub fn get_shallow_freed(
+        &self,
+        agent: &mut Agent<R>,
+        depth: u32,
+    ) -> Result<Found<u32>, QueueFault>
+        requires agent { IsAgentOf self.now agent.old }
+        ensures agent { IsAgentOf self.now agent.new }
+
+        // The depth is checked first.
+        ensures too_shallow { (result ≡ Err QueueFault.TooShallow) ↔ (depth < least_of self.now) }
+        ensures spent { (result ≡ Err QueueFault.Spent) ↔ ((least_of self.now ≤ depth) × ¬ (HasRoom agent.old 1)) }
+        ensures succeeds { IsOk result ↔ ((least_of self.now ≤ depth) × HasRoom agent.old 1) }
+        ensures gets { IfOk result (λ found. GetsShallow (layout_of self.now) depth found.answer agent.old agent.new) }
+        ensures left { IfOk result (λ found. found.left ≡ left_free (caller_of agent.old) (caller_of agent.new)) }
+        ensures bound { step_count agent.new ≤ most_steps (layout_of self.now) + step_count agent.old }
+        ensures err { OnErr result (agent.new ≡ agent.old) }
+    {
+        if depth < self.shallowest {
+            return Err(QueueFault::TooShallow);
+        }
+        let Ok(found) = on_map::get_shallow(&self.map, &mut agent.caller, &mut agent.hint, depth)
+        else {
+            return Err(QueueFault::Spent);
+        };
+        Ok(found)
+    }
+
+    /// Like `get_batch`, but looks for no sleeper (see `get_freed`). It is refused as `get_batch` is: `BadCount`,
+    /// `Spent`.
+    #[tactic(auto, using(std::proofs::lemmas::Nat::one_shl))]
+    pub fn get_batch_freed(
+        &self,
+        agent: &mut Agent<R>,
+        n: u32,
+    ) -> Result<Found<(u32, u64)>, QueueFault>
+        requires agent { IsAgentOf self.now agent.old }
+        ensures agent { IsAgentOf self.now agent.new }
+
+        // The count is checked first, then round robin.
+        ensures bad_count { (result ≡ Err QueueFault.BadCount) ↔ MiscountsBatch (layout_of self.now) n }
+        ensures round_robin { ¬ (MiscountsBatch (layout_of self.now) n) → IsTrue (hint_of agent.old).round_robin
+            → IsOkAnd result (λ found. found.answer ≡ None) × (agent.new ≡ agent.old) }
+        ensures spent { (result ≡ Err QueueFault.Spent)
+            ↔ (¬ (MiscountsBatch (layout_of self.now) n) × ((hint_of agent.old).round_robin ≡ false) × ¬ (HasRoom agent.old n)) }
+        ensures succeeds { ¬ (MiscountsBatch (layout_of self.now) n) → HasRoom agent.old n → IsOk result }
+        ensures gets { (hint_of agent.old).round_robin ≡ false
+            → IfOk result (λ found. GetsBatch (layout_of self.now) n found.answer agent.old agent.new) }
+        ensures left { IfOk result (λ found. found.left ≡ left_free (caller_of agent.old) (caller_of agent.new)) }
+        ensures bound { step_count agent.new ≤ most_steps (layout_of self.now) + step_count agent.old }
+        ensures err { OnErr result (agent.new ≡ agent.old) }
+    {
+        let bits = 1u32 << self.map.layout().shift();
+        if n == 0 || n > bits {
+            return Err(QueueFault::BadCount);
+        }
+        if agent.hint.round_robin {
+            return Ok(Found {
+                answer: None,
+                left: 0,
+            });
+        }
+        let Ok(found) = on_map::get_batch(&self.map, &mut agent.caller, &mut agent.hint, n) else {
+            return Err(QueueFault::Spent);
+        };
+        Ok(found)
+    }
+
+    /// Looks for sleepers after a get that left `left` tags free: if the active count tells of any, it rings up to
+    /// `left` sleepers of each group, since a sleeper's own search may have come before these tags were free. With 0 it
+    /// does nothing.
+    #[inline(always)]
+    pub fn look_after(&self, agent: &mut Agent<R>, left: u64)
+        requires agent { IsAgentOf self.now agent.old }
+        ensures agent { IsAgentOf self.now agent.new }
+        ensures looks { LooksAfter left agent.old agent.new }
+        ensures bound { step_count agent.new ≤ 1 + step_count agent.old }
+    {
+        if left != 0 {
+            self.look_and_ring(agent, left);
+        }
+    }
+
+    /// Loads the active count, and rings as many sleepers of each group as it tells of, up to `left`. It is out of line,
+    /// so that a get is short where nothing was left.
+    #[cold]
+    #[inline(never)]
+    fn look_and_ring(&self, agent: &mut Agent<R>, left: u64)
+        requires agent { IsAgentOf self.now agent.old }
+        requires some { 1 ≤ left }
+        ensures agent { IsAgentOf self.now agent.new }
+        ensures looks { LooksAfter left agent.old agent.new }
+        ensures bound { step_count agent.new ≤ 1 + step_count agent.old }
+    {
+        let (active, sighting) = self.groups.sight(&mut agent.waiter, &agent.caller);
+        agent.sighting = sighting;
+        if active != 0 {
+            self.groups.nudge(&mut agent.waiter, active.min(left));
+        }
+    }
+}

@@ -1,0 +1,33 @@
+-- What a look for sleepers is for the hand whose ordinary agent makes it.
+use Rattle.std.proofs.Common.{◌≡◌, ℕ, arith, refl, ap, ◌∙◌}
+use Rattle.tag_queue.specs.declared.agent.Agent.{Agent}
+use Rattle.tag_queue.specs.Freed as queue
+use Rattle.tag_sets.specs.declared.hand.Hand.{Hand}
+use Rattle.tag_sets.specs.declared.kind.Kind.TheVariants.{Ordinary}
+use Rattle.tag_sets.specs.Holding.{HoldsMore, HoldsSame}
+use Rattle.tag_sets.specs.Freed.{left_free, LooksAfter}
+use Rattle.tag_sets.proofs.Lifting.{same}
+use Rattle.tag_sets.proofs.Standing.{same_tags}
+
+module _ {R : Type 0} where
+  pub looks_of : (hand : Hand R) (agent : Agent R) (left : ℕ) → queue.LooksAfter left hand.ordinary agent
+      → LooksAfter left hand (record hand { ordinary = agent })
+  looks_of hand agent left looks = record {
+    none = λ e. ap (λ (a : Agent R). record hand { ordinary = a }) (looks.none e);
+    same = same hand (record hand { ordinary = agent }) Ordinary refl refl (same_tags hand agent looks.same.0);
+    set = record { changed = looks; other = refl; split = refl };
+  }
+
+  -- what a hand gained it still holds if it then keeps its tags
+  pub more_kept : (named : ℕ → Type 0) (old mid new : Hand R) → HoldsMore named old mid → HoldsSame mid new
+      → HoldsMore named old new
+  more_kept named old mid new more kept = record {
+    fresh = more.fresh;
+    joined = λ tag n. (kept.kept tag (more.joined tag n)).0;
+    kept = λ tag h. let before = more.kept tag h in let now = kept.kept tag before.0 in (now.0, now.1 ∙ before.1);
+    none_else = λ tag h. more.none_else tag (kept.none_else tag h);
+  }
+
+  -- a hand that made no step left no tag free
+  pub none_left : (hand : Hand R) → left_free hand hand ≡ 0
+  none_left hand = omega arith

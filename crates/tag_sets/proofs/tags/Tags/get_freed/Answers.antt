@@ -1,0 +1,27 @@
+-- The number found is below the depth of its set, so adding the reserved tags gives an ordinary tag without overflow.
+use Rattle.std.proofs.Common.{arith, ◌≡◌, ℕ, ◌+◌, ◌<◌, Option, None, Some, sym, ap, subst}
+use Rattle.tag_queue.specs.Gets.{GetsPlain}
+use Rattle.tag_sets.specs.declared.kind.Kind.TheVariants.{Ordinary}
+use Rattle.tag_sets.specs.Hands.{layout_of, reserved_of}
+use Rattle.tag_sets.specs.Gets.{whole}
+use Rattle.tag_sets.proofs.Getting.{number_low, gets_of}
+use Rattle.tag_sets.proofs.tags.Tags.get_freed.Goals as goal
+
+pub returns-in_default-clause-gets : goal.returns-in_default-clause-gets
+returns-in_default-clause-gets g c = let tags = c.args.self.now in let none : c.in_ok-answer.field-0.answer ≡ None = cc in
+    gets_of tags c.args.hand.now c.get_freed.new.agent c.requires.hand c.in_ok-answer.field-0.answer None
+    (ap (whole (reserved_of tags)) (sym none)) c.in_ok-answer.ensures.gets
+
+pub overflow_add-answer : goal.overflow_add-answer
+overflow_add-answer g c = let tags = c.args.self.now in let hand = c.args.hand.now in
+    let low : c.in-Some.number < (layout_of tags Ordinary).depth =
+    number_low tags hand c.get_freed.new.agent c.requires.hand c.in-Some.number
+    (subst (λ (o : Option ℕ). GetsPlain (layout_of tags Ordinary) o hand.ordinary c.get_freed.new.agent) c.in-Some.is
+    c.in_ok-answer.ensures.gets) in
+    let fits = tags.fits in omega arith
+
+pub returns-clause-gets : goal.returns-clause-gets
+returns-clause-gets g c = let tags = c.args.self.now in
+    gets_of tags c.args.hand.now c.get_freed.new.agent c.requires.hand c.in_ok-answer.field-0.answer
+    (Some (reserved_of tags + c.in-Some.number))
+    (ap (whole (reserved_of tags)) (sym c.in-Some.is)) c.in_ok-answer.ensures.gets
