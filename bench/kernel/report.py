@@ -37,11 +37,11 @@ SECOND = [
     ("limit", LIMIT),
     ("tag sets", SETS),
     ("C, pool's slots", THROUGH_C),
-    ("from 0: kernel", ("kernel", "from 0")),
-    ("map", ("tag_bench", "from 0")),
-    ("`Queue`", ("tag_queue", "from 0")),
-    ("cache", ("tag_cache", "from 0")),
-    ("C", ("tag_c", "from 0")),
+    ("kernel, from 0", ("kernel", "from 0")),
+    ("map, from 0", ("tag_bench", "from 0")),
+    ("`Queue`, from 0", ("tag_queue", "from 0")),
+    ("cache, from 0", ("tag_cache", "from 0")),
+    ("C, from 0", ("tag_c", "from 0")),
 ]
 # Of which contenders the third table says how much longer a thread takes while others run.
 SCALING = [
