@@ -9,9 +9,8 @@
  *
  * The library is proved: under every schedule of the threads no tag and no slot
  * ever has two holders, no call changes what another hand holds, and the sums
- * that tags_close() fills in balance. How those who wait for a tag are told of one
- * is written in C, and so is tags_strerror(). That is tested and model-checked, not
- * proved.
+ * that tags_close() fills in balance. What is C in it, above all how those who wait
+ * for a tag are woken, is tested and model-checked, not proved.
  *
  * Threads
  *   A handle is a struct tags_pool or a struct tags_hand. Only one call at a time
@@ -29,8 +28,8 @@
  *   event loop is notified by an eventfd, see tags_get_async(). Every call that makes
  *   ordinary tags free looks whether anybody waits, and tells as many as there are
  *   tags for. So nobody waits while a tag is free that no other thread is about to
- *   get. A thread must not sleep while it holds the tags that others wait for, nor be
- *   idle while it keeps them (see Caches). tags_stop() ends all waits.
+ *   get. A thread must not sleep for a tag while it holds those that others wait for,
+ *   nor be idle while it keeps them (see Caches). tags_stop() ends all waits.
  *
  * Caches
  *   In a pool with a cache, each hand keeps some of the ordinary tags that it gives
@@ -38,16 +37,16 @@
  *   makes an atomic read-modify-write then. A kept tag has no user: any use of it is
  *   refused with TAGS_NOT_HELD. But to the pool it is busy, and no other hand can get
  *   it. A clear that finds somebody waiting gives all kept tags back, but a hand that
- *   makes no more clears keeps what it has. So before a thread goes idle, or sleeps
- *   elsewhere, it calls tags_flush(). With TAGS_KEEP_WHILE_HOLDING, clearing or posting
- *   the last tag that a hand got also gives back all that it keeps. A hand that keeps
- *   tags then always has such a call to come. If threads wait for tags, set that flag,
- *   or give the pool at least 8 ordinary tags more than all its hands together may keep.
+ *   makes no more clears keeps what it has. So have a thread call tags_flush() before it
+ *   goes idle, or sleeps elsewhere. With TAGS_KEEP_WHILE_HOLDING, clearing or posting
+ *   the last tag that a hand got gives back all that it keeps, so a hand that keeps tags
+ *   always has such a call to come. If threads wait for tags, set that flag, or give the
+ *   pool at least 8 ordinary tags more than all its hands together may keep.
  *
  * Arguments
  *   Each pointer must be NULL or point to an object of its type that overlaps no
- *   other argument. Do not copy a handle: the copy would be a second owner. Within
- *   these rules no argument leads to undefined behaviour. NULL, an empty handle, a
+ *   other argument. Do not copy a handle: the copy would be a second owner. If you
+ *   keep to this, no argument leads to undefined behaviour. NULL, an empty handle, a
  *   hand in place of a pool or a pool in place of a hand, a tag that is out of range
  *   or not held, and a list of the wrong size are refused with a negative status,
  *   and a refused call changes nothing. NULL is checked first, and refused with
@@ -277,7 +276,7 @@ struct tags_options {
 
 /** enum tags_join_flags - flags of tags_join() */
 enum tags_join_flags {
-	/** the hand's next get starts where its last one left off, or at tag 0, not in its own part */
+	/** the hand's next get starts where its last one left off; that of a new hand, at the first tag */
 	TAGS_STAY = 1
 };
 
@@ -389,10 +388,10 @@ void tags_library_ring_kept(struct tags_hand *hand, uint64_t freed);
 int32_t tags_library_wait(struct tags_hand *hand);
 
 /*
- * The thread sanitizer does not see the library's atomic steps. So in a program built
- * with it, the calls tell it that whoever gets a tag sees what was done before the tag
- * was given away. The library's C files are built without it, and look for its functions
- * at run time.
+ * The thread sanitizer can't see the atomic steps of the library, which is not built with
+ * it. So in a program that is, each call reports them: giving a tag away is a release, and
+ * getting it an acquire, both on one address for each tag. The symbols of these calls in
+ * the library report them if the program brings the sanitizer's functions.
  */
 #if defined __SANITIZE_THREAD__
 #define TAGS_SANITIZED 1
@@ -524,8 +523,9 @@ TAGS_ANSWER int32_t tags_open(struct tags_pool *pool, const struct tags_options 
  * @hand: an empty handle
  * @flags: 0, or TAGS_STAY
  *
- * A hand that left and joins again still holds its tags. Without TAGS_STAY its
- * gets start in its own part of the tags, which reduces contention.
+ * A hand that left and joins again still holds its tags. Its gets start in a part of
+ * the tags of its own, so that threads seldom meet on one word; with TAGS_STAY, where
+ * its last get left off.
  *
  * Threads: this call uses both handles, so threads must join one at a time.
  *
@@ -1113,8 +1113,8 @@ TAGS_CHECKED int32_t tags_get_blocking(struct tags_hand *hand)
  * @deadline: when to give up, by that clock
  *
  * If the deadline has passed already, the call tries once. A hand that timed out is in
- * no wait group, and a tag that it was told of goes to another thread. Of cancellation
- * holds what is said of tags_get_blocking().
+ * no wait group, and a tag that it was told of goes to another thread. While it sleeps
+ * it is a cancellation point, as tags_get_blocking() is.
  *
  * Return: the tag. Otherwise TAGS_BAD_TIME, which is checked first: another clock, or
  * nanoseconds outside 0 to 999,999,999; TAGS_TIMED_OUT; or as tags_get_blocking().
@@ -1129,9 +1129,9 @@ TAGS_ANSWER int32_t tags_get_timed(struct tags_hand *hand, int32_t clock,
  * @hand: the hand that gets the tag
  * @descriptor: the eventfd, which still belongs to the program; several hands may name one
  *
- * TAGS_NO_TAG means that the hand now waits. Of those that wait, the one that has waited
- * longest is notified for each tag that becomes free, by adding 1 to its eventfd: for a
- * batch of three tags three hands are. When the eventfd is readable, read it, and repeat
+ * TAGS_NO_TAG means that the hand now waits. For each tag that becomes free, the hand that
+ * has waited longest is notified, by adding 1 to its eventfd; so a batch of three tags
+ * notifies three hands. When the eventfd is readable, read it, and repeat
  * this call for each hand that waits for it, until it returns something else; or end the
  * wait by tags_cancel() or tags_leave(). Another hand may have got the tag first, so that
  * it returns TAGS_NO_TAG again; that does not cost the hand its turn. The repeated call
@@ -1142,7 +1142,7 @@ TAGS_ANSWER int32_t tags_get_timed(struct tags_hand *hand, int32_t clock,
  * Once the wait has ended nothing is written to the eventfd, so the program may close it.
  * Make it non-blocking, so that no thread that gives a tag back can block on it.
  *
- * Return: the tag, or TAGS_NO_TAG. Otherwise the hand does not wait: TAGS_BAD_HANDLE,
+ * Return: the tag, or TAGS_NO_TAG. Otherwise, with the hand not waiting: TAGS_BAD_HANDLE,
  * TAGS_BAD_EVENT, TAGS_STOPPED, TAGS_SPENT, TAGS_NO_SUCH_TAG if the pool has no
  * ordinary tag, or TAGS_WAITING if tags_prepare() put it in a wait group.
  *
@@ -1173,9 +1173,9 @@ int32_t tags_cancel(struct tags_hand *hand);
  * From now on each clear of an ordinary tag is counted as a completion. Try
  * tags_get() once more before you sleep: a clear just before may not have been
  * counted. What the hand keeps in a cache goes back first, and those who wait are told.
- * A get can make tags free too, and grants no wakeup for them; so a program that sleeps
- * by other means sleeps beside a free tag now and then, unless it sleeps for a limited
- * time. tags_get_blocking() and tags_get_async() do not.
+ * A get can make tags free too, and grants no wakeup for them. So limit your sleep: now
+ * and then a tag is free all the while, and nothing ends it. Waits by
+ * tags_get_blocking() and tags_get_async() are told of such tags.
  *
  * Return: the group, below 8. Otherwise TAGS_BAD_HANDLE or TAGS_WAITING.
  *

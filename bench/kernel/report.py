@@ -1,12 +1,11 @@
 """report.py LINES SVG: prints what kernel.sh measured as tables, and draws a part of it.
 
-The first table is what a reader wants to know of one depth, hints apart; the second has all that was measured. A figure is the
-median over the repetitions. Times are a thread's processor time, which a machine that is busy with something
-else changes little. A ratio is to the kernel's time with hints apart in the same repetition; less is better. The last columns are
-a ratio by the clock, and the nanoseconds that an operation over `Queue` takes more than one over the map alone, and one
-through C more than one over `Queue`, in the same repetition, with hints apart. A third table has how many times as long one of
-several threads takes as one alone, hints apart; by the clock too, where what is above the processor time is time that the machine
-did not give to the threads. The first and the third table and the plot are of one depth, and left out where it was not measured."""
+Of each depth there are two tables, as docs/PERFORMANCE.md has them: the first has each contender with its hints apart, the second
+what else was measured. A figure is the median over the repetitions. Times are a thread's processor time, which a machine that is
+busy with something else changes little. A ratio is to the kernel's time with hints apart in the same repetition; less is better. The
+last column is the nanoseconds that an operation over `Queue` takes more than one over the map alone, in the same repetition, with
+hints apart. Of one depth a third table has how many times as long one of several threads takes as one alone, hints apart; by the
+clock too, where what is above the processor time is time that the machine did not give to the threads; and there is a plot."""
 import json
 import statistics
 import sys
@@ -23,35 +22,26 @@ OWN_SLOTS = ("tag_c, own slots", "apart")
 CACHE_THROUGH_C = ("tag_c, cache", "apart")
 LIMIT = ("limit", None)
 REGISTERS = ("registers", None)
-COLUMNS = [
-    ("map", OURS),
-    ("map, from 0", ("tag_bench", "from 0")),
+# The columns of the first table, and of the second, each a title and a contender.
+FIRST = [
+    ("C, own slots", OWN_SLOTS),
+    ("C, cache", CACHE_THROUGH_C),
     ("`Queue`", QUEUE),
-    ("`Queue`, from 0", ("tag_queue", "from 0")),
-    ("tag sets", SETS),
     ("cache", CACHE),
-    ("cache, from 0", ("tag_cache", "from 0")),
-    ("`tag_c`", THROUGH_C),
-    ("`tag_c`, from 0", ("tag_c", "from 0")),
-    ("`tag_c`, own slots", OWN_SLOTS),
-    ("`tag_c`, cache", CACHE_THROUGH_C),
-    ("kernel, from 0", ("kernel", "from 0")),
+    ("map", OURS),
     ("rte_mempool", MEMPOOL),
     ("queue of tags", ("queue", None)),
     ("locked list", ("locked list", None)),
-    ("limit", LIMIT),
 ]
-# What the first table has.
-SUMMARY = [
-    ("map", OURS),
-    ("`Queue`", QUEUE),
+SECOND = [
+    ("limit", LIMIT),
     ("tag sets", SETS),
-    ("cache", CACHE),
-    ("through C", OWN_SLOTS),
-    ("through C, cache", CACHE_THROUGH_C),
-    ("rte_mempool", MEMPOOL),
-    ("queue of tags", ("queue", None)),
-    ("locked list", ("locked list", None)),
+    ("C, pool's slots", THROUGH_C),
+    ("kernel, from 0", ("kernel", "from 0")),
+    ("map, from 0", ("tag_bench", "from 0")),
+    ("`Queue`, from 0", ("tag_queue", "from 0")),
+    ("cache, from 0", ("tag_cache", "from 0")),
+    ("C, from 0", ("tag_c", "from 0")),
 ]
 # Of which contenders the third table says how much longer a thread takes while others run.
 SCALING = [
@@ -63,7 +53,7 @@ SCALING = [
     ("cache", CACHE),
     ("`tag_c`", THROUGH_C),
 ]
-# What the plot has: its panels, and of each contender its name and colour.
+# What the plot has: its panels, and of each contender its name, its colour and the dashes of its line.
 PLOTTED_DEPTH = 1024
 PANELS = [
     ("pair", "one tag at a time"),
@@ -71,13 +61,13 @@ PANELS = [
     ("full", "all tags held"),
 ]
 LINES = [
-    (CACHE, "cache", "#0b6e4f"),
-    (OURS, "map", "#55b391"),
-    (KERNEL, "kernel", "#b3261e"),
-    (MEMPOOL, "rte_mempool", "#7b4fa6"),
-    (("queue", None), "queue of tags", "#3b5ba5"),
-    (("locked list", None), "locked list", "#8a6d1d"),
-    (LIMIT, "limit", "#777777"),
+    (CACHE, "cache", "#0b6e4f", None),
+    (OURS, "map", "#111111", None),
+    (KERNEL, "kernel", "#c62828", None),
+    (MEMPOOL, "rte_mempool", "#8e4fb0", None),
+    (("queue", None), "queue of tags", "#2f6fd0", None),
+    (("locked list", None), "locked list", "#c98a00", None),
+    (LIMIT, "limit", "#777777", "5 4"),
 ]
 
 
@@ -118,29 +108,35 @@ def median(case, who):
     return statistics.median(entry["processor"] for entry in case[who].values())
 
 
-def print_summary(figures):
-    print("| workload | threads | kernel, ns | " + " | ".join(title for title, _ in SUMMARY) + " |")
-    print("|" + "---|" * (3 + len(SUMMARY)))
-    for (workload, depth, threads), case in figures.items():
-        if depth == PLOTTED_DEPTH and KERNEL in case:
-            ratios = [ratio(case, who) for _, who in SUMMARY]
-            cells = ["" if value is None else f"{value:.2f}" for value in ratios]
-            print(f"| {workload} | {threads} | {median(case, KERNEL):.1f} | " + " | ".join(cells) + " |")
-
-
-def print_table(figures):
-    head = ["workload", "depth", "threads", "kernel, ns"]
-    head += [title for title, _ in COLUMNS] + ["map, clock"]
-    head += ["`Queue` over map, ns", "`tag_c` over `Queue`, ns"]
+def print_table(head, rows):
     print("| " + " | ".join(head) + " |")
     print("|" + "---|" * len(head))
-    for (workload, depth, threads), case in figures.items():
-        ratios = [ratio(case, who) for _, who in COLUMNS] + [ratio(case, OURS, "ns")]
-        row = [workload, str(depth), str(threads), f"{median(case, KERNEL):.1f}" if KERNEL in case else ""]
-        row += ["" if value is None else f"{value:.2f}" for value in ratios]
-        more = [costs(case, QUEUE, OURS), costs(case, THROUGH_C, QUEUE)]
-        row += ["" if cost is None else f"{cost:+.1f}" for cost in more]
+    for row in rows:
         print("| " + " | ".join(row) + " |")
+    print()
+
+
+def cells(case, columns):
+    ratios = [ratio(case, who) for _, who in columns]
+    return ["" if value is None else f"{value:.2f}" for value in ratios]
+
+
+def first_row(case):
+    return [f"{median(case, KERNEL):.1f}" if KERNEL in case else "", *cells(case, FIRST)]
+
+
+def second_row(case):
+    more = costs(case, QUEUE, OURS)
+    return [*cells(case, SECOND), "" if more is None else f"{more:+.1f}"]
+
+
+def print_tables(figures, depth):
+    cases = {(workload, str(threads)): case for (workload, at, threads), case in figures.items() if at == depth}
+    print(f"Depth {depth:,}:\n")
+    head = ["workload", "threads"]
+    print_table([*head, "kernel, ns", *(title for title, _ in FIRST)], ([*at, *first_row(it)] for at, it in cases.items()))
+    titles = [title for title, _ in SECOND]
+    print_table([*head, *titles, "`Queue` over map, ns"], ([*at, *second_row(it)] for at, it in cases.items()))
 
 
 def slowdown(figures, workload, who, threads, what):
@@ -152,20 +148,19 @@ def slowdown(figures, workload, who, threads, what):
 
 
 def print_scaling(figures):
-    print("| time | workload | threads | " + " | ".join(name for name, _ in SCALING) + " |")
-    print("|" + "---|" * (3 + len(SCALING)))
+    rows = []
     for what, time in (("processor", "processor"), ("ns", "clock")):
         for workload in ("pair", "ring"):
             for threads in (2, 4):
                 ratios = [slowdown(figures, workload, who, threads, what) for _, who in SCALING]
-                cells = ["" if value is None else f"{value:.2f}" for value in ratios]
-                print(f"| {time} | {workload} | {threads} | " + " | ".join(cells) + " |")
+                rows.append([time, workload, str(threads), *("" if value is None else f"{value:.2f}" for value in ratios)])
+    print_table(["time", "workload", "threads", *(name for name, _ in SCALING)], rows)
 
 
 class Panel:
     """One workload: nanoseconds over threads, both on scales on which twice as much is one step."""
 
-    WIDTH, HEIGHT, LEFT, TOP = 210, 220, 48, 56
+    WIDTH, HEIGHT, LEFT, TOP = 210, 220, 60, 92
     THREADS = [1, 2, 4]
 
     def __init__(self, index, least, most):
@@ -192,7 +187,7 @@ def draw(figures, path):
             if who in (case := figures.get((workload, PLOTTED_DEPTH, threads), {}))
         ]
         for workload, _ in PANELS
-        for who, _, _ in LINES
+        for who, *_ in LINES
     }
     times = [ns for line in points.values() for _, ns in line]
     least = 2 ** int(log2(min(times)))
@@ -203,13 +198,15 @@ def draw(figures, path):
         f'<svg xmlns="http://www.w3.org/2000/svg" width="{width}" height="{height}" viewBox="0 0 {width} {height}"'
         ' font-family="sans-serif" font-size="12" fill="#222">',
         f'<rect width="{width}" height="{height}" fill="#fff"/>',
-        text(Panel.LEFT, 20, f"A get, a touch and a clear: nanoseconds of a thread's processor time, depth {PLOTTED_DEPTH}", font_size=14),
+        text(Panel.LEFT, 20, f"A get, a touch and a clear: nanoseconds of a thread's processor time, {PLOTTED_DEPTH:,} tags", font_size=14),
+        text(Panel.LEFT, 38, "The scale is logarithmic: each line is twice the one below it. Lower is faster."),
+        text(Panel.LEFT, 54, "limit: no search, one locked instruction for the get and one for the clear."),
     ]
     for index, (workload, title) in enumerate(PANELS):
         panel = Panel(index, least, most)
         out += draw_panel(panel, title, index == 0)
-        for who, _, colour in LINES:
-            out += draw_line(panel, points[workload, who], colour)
+        for who, _, colour, dashes in LINES:
+            out += draw_line(panel, points[workload, who], colour, dashes)
     out += draw_legend(height - 14)
     with open(path, "w", encoding="utf-8") as svg:
         svg.write("\n".join(out + ["</svg>"]) + "\n")
@@ -222,26 +219,30 @@ def draw_panel(panel, title, has_scale):
         y = panel.y(ns)
         out.append(f'<path d="M{panel.left} {y:.1f}h{panel.WIDTH}" stroke="#ddd"/>')
         if has_scale:
-            out.append(text(panel.left - 6, y + 4, ns, text_anchor="end"))
+            out.append(text(panel.left - 6, y + 4, f"{ns} ns" if ns > panel.most / 2 else ns, text_anchor="end"))
         ns *= 2
     bottom = panel.TOP + panel.HEIGHT + 18
     out += [text(panel.x(threads), bottom, threads, text_anchor="middle") for threads in panel.THREADS]
     return out + [text(panel.left + panel.WIDTH / 2, bottom + 18, "threads", text_anchor="middle")]
 
 
-def draw_line(panel, line, colour):
+def stroke(colour, dashes):
+    return f'stroke="{colour}" stroke-width="2"' + (f' stroke-dasharray="{dashes}"' if dashes else "")
+
+
+def draw_line(panel, line, colour, dashes):
     if not line:
         return []
     at = [(panel.x(threads), panel.y(ns)) for threads, ns in line]
     way = " ".join(f"{x:.1f},{y:.1f}" for x, y in at)
-    out = [f'<polyline points="{way}" fill="none" stroke="{colour}" stroke-width="2"/>']
+    out = [f'<polyline points="{way}" fill="none" {stroke(colour, dashes)}/>']
     return out + [f'<circle cx="{x:.1f}" cy="{y:.1f}" r="3.5" fill="{colour}"/>' for x, y in at]
 
 
 def draw_legend(y):
     out, x = [], Panel.LEFT
-    for _, name, colour in LINES:
-        out.append(f'<path d="M{x} {y - 4}h22" stroke="{colour}" stroke-width="2"/>')
+    for _, name, colour, dashes in LINES:
+        out.append(f'<path d="M{x} {y - 4}h22" {stroke(colour, dashes)}/>')
         out.append(text(x + 28, y, name))
         x += 50 + 6 * len(name)
     return out
@@ -249,13 +250,10 @@ def draw_legend(y):
 
 def main():
     figures = read(sys.argv[1])
-    is_plotted = any(depth == PLOTTED_DEPTH for _, depth, _ in figures)
-    if is_plotted:
-        print_summary(figures)
-        print()
-    print_table(figures)
-    if is_plotted:
-        print()
+    depths = sorted({depth for _, depth, _ in figures})
+    for depth in depths:
+        print_tables(figures, depth)
+    if PLOTTED_DEPTH in depths:
         print_scaling(figures)
         draw(figures, sys.argv[2])
 
