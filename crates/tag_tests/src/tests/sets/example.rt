@@ -1,4 +1,4 @@
-//! The first example of the README and of docs/USING.md.
+//! The first example of the README and of docs/USING_RATTLE.md.
 use std::test::Fail;
 use tag_sets::{Options, Tags};
 

@@ -1,4 +1,4 @@
-//! The code that docs/USING.md quotes, as a caller writes it.
+//! The code that docs/USING_RATTLE.md quotes, as a caller writes it.
 ghost use Rattle.std.specs.Prelude.{IfOk};
 ghost use Rattle.tag_sets.specs.Hands.{IsHandOf, Holds};
 
