@@ -179,8 +179,8 @@ public:
 
 namespace detail {
 
-/// The reason that a status names. The only pointer that a call here can find NULL is that of an
-/// empty object.
+/// The reason that a status names. The only pointer here that is passed on and can be NULL is that
+/// of an empty object.
 inline errc reason(std::int32_t status) noexcept
 {
 	return static_cast<errc>(status == TAGS_NULL ? TAGS_BAD_HANDLE : status);
@@ -327,7 +327,8 @@ template <class Rep, class Period>
 std::int64_t nanoseconds(const std::chrono::duration<Rep, Period> &time) noexcept
 {
 	using std::chrono::duration_cast;
-	const double about = std::chrono::duration<double, std::nano>(time).count();
+	constexpr double period = static_cast<double>(second) * Period::num / Period::den;
+	const double about = static_cast<double>(time.count()) * period;
 	if (about >= static_cast<double>(longest))
 		return longest;
 	if (about <= -static_cast<double>(longest))
@@ -977,7 +978,7 @@ public:
 	/// Errors: bad_handle, too_small.
 	std::uint32_t busy(std::uint64_t *into, std::size_t words)
 	{
-		const std::int32_t answer = tags_busy(raw(), into, words);
+		const std::int32_t answer = try_busy(into, words);
 		detail::check(answer);
 		return static_cast<std::uint32_t>(answer);
 	}
@@ -1096,7 +1097,7 @@ public:
 
 	std::uint32_t busy(std::uint64_t *into, std::size_t words, std::error_code &ec) noexcept
 	{
-		const std::int32_t answer = tags_busy(raw(), into, words);
+		const std::int32_t answer = try_busy(into, words);
 		detail::note(answer, ec);
 		return answer < 0 ? 0 : static_cast<std::uint32_t>(answer);
 	}
@@ -1175,7 +1176,7 @@ private:
 	{
 		if (state_ == nullptr)
 			return TAGS_BAD_HANDLE;
-		if (count == 0 || count > TAGS_MAX_BATCH)
+		if (numbers == nullptr || count == 0 || count > TAGS_MAX_BATCH)
 			return TAGS_BAD_COUNT;
 		// The library looks for the other causes; what it does not know is which tags have objects.
 		bool are_loose = true;
@@ -1191,6 +1192,13 @@ private:
 		for (std::size_t i = 0; answer >= 0 && i < count; i++)
 			state_->tie(numbers[i]);
 		return answer;
+	}
+
+	std::int32_t try_busy(std::uint64_t *into, std::size_t words) noexcept
+	{
+		if (state_ != nullptr && into == nullptr)
+			return TAGS_TOO_SMALL;
+		return tags_busy(raw(), into, words);
 	}
 
 	std::optional<batch> won_batch(std::int32_t first, std::uint64_t won) const noexcept
