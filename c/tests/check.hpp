@@ -40,8 +40,8 @@ std::error_code refusal(Call call)
 }
 
 // `why` is the error of a call in both forms. CODE stands for the argument of the second.
-#define REFUSED(why, call) CHECK(refusal([&](auto &...code) { static_cast<void>(call); }) == (why))
-#define CODE code...
+#define REFUSED(why, call) CHECK(refusal([&](auto &...also) { static_cast<void>(call); }) == (why))
+#define CODE also...
 
 inline tags::options sized(std::uint32_t total, std::uint32_t hands, std::uint32_t reserved = 0)
 {

@@ -94,6 +94,40 @@ static void a_tag_given_back_behind_its_object()
 	}));
 }
 
+#ifdef TAGS_HAS_COROUTINES
+struct task {
+	struct promise_type {
+		task get_return_object() { return {}; }
+		std::suspend_never initial_suspend() noexcept { return {}; }
+		std::suspend_never final_suspend() noexcept { return {}; }
+		void return_void() noexcept {}
+		void unhandled_exception() noexcept {}
+	};
+};
+
+static task wait_for_tag(tags::listener &listener)
+{
+	const tags::tag tag = co_await listener.get(ec);
+}
+
+static void listeners()
+{
+	CHECK(terminates("a hand ended before its wait or listener", [] {
+		tags::pool pool(sized(4, 1), ec);
+		std::optional<tags::listener> listener;
+		tags::hand hand = pool.join(ec);
+		listener.emplace(hand, 0);
+	}));
+	CHECK(terminates("a listener ended while a coroutine waits", [] {
+		tags::pool pool(sized(1, 1), ec);
+		tags::hand hand = pool.join(ec);
+		const tags::tag tag = *hand.get(ec);
+		tags::listener listener(hand, 0);
+		wait_for_tag(listener);
+	}));
+}
+#endif
+
 // What has to end in no such way.
 static void orderly_ends()
 {
@@ -112,10 +146,12 @@ static void orderly_ends()
 
 int main()
 {
-	// Before any thread is started, and of no use to a sanitizer: the children end at once.
 	a_hand_before_its_tag();
 	a_hand_before_its_wait();
 	a_tag_given_back_behind_its_object();
+#ifdef TAGS_HAS_COROUTINES
+	listeners();
+#endif
 	orderly_ends();
 	return report();
 }
