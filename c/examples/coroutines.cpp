@@ -35,16 +35,21 @@ static void must(bool is_well, const char *what)
 	}
 }
 
-// The device: a request goes to it by its tag, and whoever awaits it goes on when the tag comes back.
+// What goes to the device and comes back: the tag of a request, and who awaits it.
+struct message {
+	std::uint32_t tag;
+	void *coroutine;
+};
+
 class device {
 public:
-	explicit device(const tags::pool &pool) : waiting_(pool)
+	device()
 	{
 		must(pipe(to_device_) == 0 && pipe(to_loop_) == 0, "pipe");
 		thread_ = std::thread([this] {
-			std::uint64_t address = 0;
-			while (read(to_device_[0], &address, sizeof(address)) == sizeof(address))
-				must(write(to_loop_[1], &address, sizeof(address)) == sizeof(address), "write");
+			message next;
+			while (read(to_device_[0], &next, sizeof(next)) == sizeof(next))
+				send(to_loop_[1], next);
 		});
 	}
 
@@ -54,40 +59,36 @@ public:
 		thread_.join();
 	}
 
-	// Carries out the request of this tag, when it is awaited.
+	// Carries out the request of a tag, when it is awaited.
 	auto carry_out(const tags::tag &tag)
 	{
 		struct awaiter {
-			device &on;
-			const tags::tag &tag;
+			int device;
+			std::uint32_t tag;
 			bool await_ready() { return false; }
-			void await_suspend(std::coroutine_handle<> coroutine) { on.submit(tag, coroutine); }
+			void await_suspend(std::coroutine_handle<> self) { send(device, {tag, self.address()}); }
 			void await_resume() {}
 		};
-		return awaiter{*this, tag};
+		return awaiter{to_device_[1], tag.number()};
 	}
 
+	// Readable when a request has completed.
 	int descriptor() const { return to_loop_[0]; }
 
-	// Resumes whoever awaits the next completion.
+	// Resumes whoever awaits the next request that has completed.
 	void complete()
 	{
-		std::uint64_t address = 0;
-		must(read(to_loop_[0], &address, sizeof(address)) == sizeof(address), "read");
-		reinterpret_cast<std::coroutine_handle<> *>(address)->resume();
+		message next;
+		must(read(to_loop_[0], &next, sizeof(next)) == sizeof(next), "read");
+		std::coroutine_handle<>::from_address(next.coroutine).resume();
 	}
 
 private:
-	void submit(const tags::tag &tag, std::coroutine_handle<> coroutine)
+	static void send(int to, const message &it)
 	{
-		std::coroutine_handle<> &beside = waiting_[tag];
-		const std::uint64_t address = reinterpret_cast<std::uintptr_t>(&beside);
-		beside = coroutine;
-		must(write(to_device_[1], &address, sizeof(address)) == sizeof(address), "write");
+		must(write(to, &it, sizeof(it)) == sizeof(it), "write");
 	}
 
-	// Beside each tag, who awaits its request.
-	tags::values<std::coroutine_handle<>> waiting_;
 	int to_device_[2];
 	int to_loop_[2];
 	std::thread thread_;
@@ -110,7 +111,7 @@ int main()
 	{
 		tags::hand hand = pool.join();
 		tags::listener listener(hand, event);
-		device to(pool);
+		device to;
 		pollfd looks[] = {{event, POLLIN, 0}, {to.descriptor(), POLLIN, 0}};
 		for (int &stream : completed)
 			submit(listener, to, stream);

@@ -6,6 +6,7 @@
 #include <cstdint>
 #include <cstdio>
 #include <deque>
+#include <functional>
 #include <mutex>
 #include <optional>
 #include <tags.hpp>
@@ -70,7 +71,7 @@ struct queue {
 	request_of values{pool};
 	device sent;
 	// How often each request was carried out, and the bytes of all.
-	std::vector<std::atomic<int>> done{requests};
+	std::vector<std::atomic<int>> done = std::vector<std::atomic<int>>(requests);
 	std::atomic<std::uint64_t> bytes{0};
 };
 
