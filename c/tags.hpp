@@ -260,7 +260,8 @@ struct joined {
 	/// A bit for each tag that the hand holds and for which there is no object.
 	std::uint64_t loose[words] = {};
 
-	/// Of the tags of these bits, leaves the bits of those that the hand holds. Returns whether any is left.
+	/// Of the tags of these bits, leaves the bits of those that the hand holds. Returns whether
+	/// any is left.
 	bool keep_held(std::uint64_t (&bits)[words]) noexcept
 	{
 		bool is_any = false;
@@ -311,10 +312,7 @@ struct joined {
 	}
 };
 
-inline tags_hand *raw(joined *hand) noexcept
-{
-	return hand != nullptr ? &hand->handle : nullptr;
-}
+inline tags_hand *raw(joined *hand) noexcept { return hand != nullptr ? &hand->handle : nullptr; }
 
 /*
  * Times, in nanoseconds. None is longer than the longest, 285 years.
@@ -335,7 +333,8 @@ std::int64_t nanoseconds(const std::chrono::duration<Rep, Period> &time) noexcep
 		return -longest;
 	if (!(about > 0 || about < 0))
 		return 0;
-	// Seconds first: a cast of the whole could overflow on its way, as by a period of 1/60 seconds.
+	// Seconds first: a cast of the whole could overflow on its way, as by a period of 1/60
+	// seconds.
 	const auto whole = duration_cast<std::chrono::seconds>(time);
 	const auto rest = duration_cast<std::chrono::nanoseconds>(time - whole);
 	return whole.count() * second + rest.count();
@@ -388,7 +387,8 @@ std::int32_t get_until(joined *hand, const std::chrono::time_point<Clock, Durati
 	} else {
 		// Nothing is known of how fast another clock goes, so it is looked at again.
 		for (;;) {
-			const std::int64_t left = difference(nanoseconds(Clock::now().time_since_epoch()), end);
+			const std::int64_t left =
+				difference(nanoseconds(Clock::now().time_since_epoch()), end);
 			const std::int32_t answer = get_for(hand, left);
 			if (answer != TAGS_TIMED_OUT || left <= 0)
 				return answer;
@@ -473,8 +473,7 @@ public:
 
 	tag(tag &&other) noexcept
 		: hand_(std::exchange(other.hand_, nullptr)), number_(other.number_)
-	{
-	}
+	{}
 
 	/// Gives the tag that this object has back first, if it has one.
 	tag &operator=(tag &&other) noexcept
@@ -650,7 +649,9 @@ public:
 	private:
 		friend class batch;
 
-		iterator(std::uint32_t first, std::uint64_t left) noexcept : first_(first), left_(left) {}
+		iterator(std::uint32_t first, std::uint64_t left) noexcept
+			: first_(first), left_(left)
+		{}
 
 		std::uint32_t first_;
 		std::uint64_t left_;
@@ -660,8 +661,7 @@ public:
 
 	batch(batch &&other) noexcept
 		: hand_(other.hand_), first_(other.first_), mask_(std::exchange(other.mask_, 0))
-	{
-	}
+	{}
 
 	/// Gives the tags that this object has back first, if it has any.
 	batch &operator=(batch &&other) noexcept
@@ -693,7 +693,8 @@ public:
 	void clear() noexcept
 	{
 		if (mask_ != 0)
-			detail::expect(tags_clear_run(&hand_->handle, first_, std::exchange(mask_, 0)));
+			detail::expect(
+				tags_clear_run(&hand_->handle, first_, std::exchange(mask_, 0)));
 	}
 
 	/// Splits the first tag off, which is given back on its own. No tag: the batch is empty.
@@ -711,8 +712,7 @@ private:
 
 	batch(detail::joined *hand, std::uint32_t first, std::uint64_t mask) noexcept
 		: hand_(hand), first_(first), mask_(mask)
-	{
-	}
+	{}
 
 	static std::uint32_t lowest(std::uint64_t bits) noexcept
 	{
@@ -774,8 +774,8 @@ private:
  * Hands
  */
 
-/// What a thread takes tags through, or empty. pool::join() makes one, and its end returns it to its
-/// pool. Tags that were released stay with it, and what it keeps in a cache goes back.
+/// What a thread takes tags through, or empty. pool::join() makes one, and its end returns it to
+/// its pool. Tags that were released stay with it, and what it keeps in a cache goes back.
 class hand {
 public:
 	hand() noexcept = default;
@@ -792,14 +792,15 @@ public:
 		return *this;
 	}
 
-	/// Calls std::terminate() if a tag, batch, wait or listener of the hand has not ended yet. To
-	/// see that, it looks at each busy tag of the pool. A wait by get_async() ends.
+	/// Calls std::terminate() if a tag, batch, wait or listener of the hand has not ended yet.
+	/// To see that, it looks at each busy tag of the pool. A wait by get_async() ends.
 	~hand() { end(); }
 
 	/// Whether it has joined.
 	explicit operator bool() const noexcept { return state_ != nullptr; }
 
-	/// For the calls of tags.h: NULL if it is empty. Give back by them no tag that has an object.
+	/// For the calls of tags.h: NULL if it is empty. Give back by them no tag that has an
+	/// object, and give back by them what you get by them, before the hand ends.
 	tags_hand *native_handle() noexcept { return detail::raw(state_); }
 
 #ifdef TAGS_THROWS
@@ -830,7 +831,10 @@ public:
 	/// Takes a free reserved tag. No tag: as from get(), of the reserved ones.
 	///
 	/// Errors: bad_handle, no_reserved, spent.
-	[[nodiscard]] std::optional<tag> get_reserved() { return found(state_, tags_get_reserved(raw())); }
+	[[nodiscard]] std::optional<tag> get_reserved()
+	{
+		return found(state_, tags_get_reserved(raw()));
+	}
 
 	/// Takes a free ordinary tag out of a part of them, for requests of low priority: depth is
 	/// how many of the ordinary tags calls with this depth may use, at least 1. Each word has a
@@ -843,9 +847,9 @@ public:
 		return found(state_, tags_get_shallow(raw(), depth));
 	}
 
-	/// Takes up to n ordinary tags out of a run of n, where n is 1 to the number of tags per word.
-	/// The batch can be smaller than n, even while more tags are free. No batch: as from get();
-	/// and always in a pool with round_robin.
+	/// Takes up to n ordinary tags out of a run of n, where n is 1 to the number of tags per
+	/// word. The batch can be smaller than n, even while more tags are free. No batch: as from
+	/// get(); and always in a pool with round_robin.
 	///
 	/// Errors: bad_handle, bad_count, spent.
 	[[nodiscard]] std::optional<batch> get_batch(std::uint32_t n)
@@ -861,8 +865,9 @@ public:
 	/// holds the tags that others wait for, nor while it keeps them. That a sleeper is woken is
 	/// tested and model-checked, not proved. While it sleeps it is a cancellation point.
 	///
-	/// Errors: bad_handle, spent, stopped; no_such_tag if the pool has no ordinary tag; waiting if
-	/// it would have to sleep and the hand waits already, by a wait, get_async() or a listener.
+	/// Errors: bad_handle, spent, stopped; no_such_tag if the pool has no ordinary tag; waiting
+	/// if it would have to sleep and the hand waits already, by a wait, get_async() or a
+	/// listener.
 	tag get_blocking()
 	{
 		const std::int32_t answer = tags_get_blocking(raw());
@@ -897,14 +902,17 @@ public:
 	/// Takes a free ordinary tag, or has an eventfd of the program's notified of when to try
 	/// again. No tag: the hand now waits. Each tag that becomes free adds 1 to the eventfd of
 	/// the hand that has waited longest. When the eventfd is readable, read it and repeat the
-	/// call, soon, for each hand that waits for it, until it returns a tag or is refused; or end
-	/// the wait by cancel(). The hand's end ends it too. Afterwards nothing is written to the
-	/// eventfd. Make it non-blocking. A listener does all this for coroutines.
+	/// call, soon, for each hand that waits for it, until it returns a tag or is refused; or
+	/// end the wait by cancel(). The hand's end ends it too. Afterwards nothing is written to
+	/// the eventfd. Make it non-blocking. A listener does all this for coroutines.
 	///
 	/// Errors, after which the hand does not wait: bad_handle, spent, stopped; bad_event for a
 	/// descriptor below 0; no_such_tag if the pool has no ordinary tag; waiting if the hand has
 	/// a wait or a listener.
-	[[nodiscard]] std::optional<tag> get_async(int eventfd) { return found(state_, async(eventfd)); }
+	[[nodiscard]] std::optional<tag> get_async(int eventfd)
+	{
+		return found(state_, async(eventfd));
+	}
 
 	/// Ends a wait that get_async() began. If the hand was notified of a tag, another hand that
 	/// waits is notified in its place.
@@ -926,8 +934,8 @@ public:
 	/// Takes a tag that a hand of this pool has posted, with its slot. Whatever was written
 	/// before the post is seen after this call.
 	///
-	/// Errors: bad_handle, no_such_tag; not_posted if the tag is not posted, or another hand took it
-	/// first.
+	/// Errors: bad_handle, no_such_tag; not_posted if the tag is not posted, or another hand
+	/// took it first.
 	tag take(std::uint32_t number)
 	{
 		detail::check(tags_take(raw(), number));
@@ -944,11 +952,11 @@ public:
 		return tag(state_, number);
 	}
 
-	/// Gives back ordinary tags that were released, 1 to 64 at once, each named once. Consecutive
-	/// ones of the list that belong to one word are given back in one step.
+	/// Gives back ordinary tags that were released, 1 to 64 at once, each named once.
+	/// Consecutive ones of the list that belong to one word are given back in one step.
 	///
-	/// Errors, by which no tag is given back: bad_handle, bad_count, no_such_tag; not_held if one
-	/// is not held, has an object, or is named twice.
+	/// Errors, by which no tag is given back: bad_handle, bad_count, no_such_tag; not_held if
+	/// one is not held, has an object, or is named twice.
 	void clear_batch(const std::uint32_t *numbers, std::size_t count)
 	{
 		detail::check(try_clear_batch(numbers, count));
@@ -971,9 +979,9 @@ public:
 	void flush() { detail::check(tags_flush(raw())); }
 
 	/// Reports which tags of both sets are busy, that is held, kept or posted, and returns how
-	/// many: bit t % 64 of into[t / 64] becomes 1 if tag t is busy, every other bit 0. While other
-	/// threads work this need not be true of any one moment. There are to be at least a 64th as
-	/// many words as tags.
+	/// many: bit t % 64 of into[t / 64] becomes 1 if tag t is busy, every other bit 0. While
+	/// other threads work this need not be true of any one moment. There are to be at least a
+	/// 64th as many words as tags.
 	///
 	/// Errors: bad_handle, too_small.
 	std::uint32_t busy(std::uint64_t *into, std::size_t words)
@@ -1012,7 +1020,8 @@ public:
 		return found(state, tags_get(detail::raw(state)), ec);
 	}
 
-	[[nodiscard]] std::optional<tag> get_write(std::uint64_t value, std::error_code &ec) noexcept
+	[[nodiscard]] std::optional<tag> get_write(std::uint64_t value,
+						   std::error_code &ec) noexcept
 	{
 		return found(state_, tags_get_write(raw(), value), ec);
 	}
@@ -1022,7 +1031,8 @@ public:
 		return found(state_, tags_get_reserved(raw()), ec);
 	}
 
-	[[nodiscard]] std::optional<tag> get_shallow(std::uint32_t depth, std::error_code &ec) noexcept
+	[[nodiscard]] std::optional<tag> get_shallow(std::uint32_t depth,
+						     std::error_code &ec) noexcept
 	{
 		return found(state_, tags_get_shallow(raw(), depth), ec);
 	}
@@ -1043,7 +1053,8 @@ public:
 	[[nodiscard]] std::optional<tag> try_get_for(const std::chrono::duration<Rep, Period> &time,
 						     std::error_code &ec)
 	{
-		return found_in_time(state_, detail::get_for(state_, detail::nanoseconds(time)), ec);
+		return found_in_time(state_, detail::get_for(state_, detail::nanoseconds(time)),
+				     ec);
 	}
 
 	template <class Clock, class Duration>
@@ -1081,7 +1092,8 @@ public:
 		return status < 0 ? tag() : tag(state_, number);
 	}
 
-	void clear_batch(const std::uint32_t *numbers, std::size_t count, std::error_code &ec) noexcept
+	void clear_batch(const std::uint32_t *numbers, std::size_t count,
+			 std::error_code &ec) noexcept
 	{
 		detail::note(try_clear_batch(numbers, count), ec);
 	}
@@ -1178,7 +1190,8 @@ private:
 			return TAGS_BAD_HANDLE;
 		if (numbers == nullptr || count == 0 || count > TAGS_MAX_BATCH)
 			return TAGS_BAD_COUNT;
-		// The library looks for the other causes; what it does not know is which tags have objects.
+		// The library looks for the other causes; what it does not know is which tags have
+		// objects.
 		bool are_loose = true;
 		for (std::size_t i = 0; i < count; i++) {
 			const std::int32_t answer = tags_holds(raw(), numbers[i]);
@@ -1208,7 +1221,8 @@ private:
 		return batch(state_, static_cast<std::uint32_t>(first), won);
 	}
 
-	static std::optional<tag> found(detail::joined *state, std::int32_t answer, std::error_code &ec) noexcept
+	static std::optional<tag> found(detail::joined *state, std::int32_t answer,
+					std::error_code &ec) noexcept
 	{
 		detail::note(answer == TAGS_NO_TAG ? TAGS_OK : answer, ec);
 		if (answer < 0)
@@ -1279,7 +1293,8 @@ public:
 	/// Number of reserved tags: 0 to reserved() - 1; 0 if it is empty.
 	std::uint32_t reserved() const noexcept { return sized().second; }
 
-	/// For the calls of tags.h: NULL if it is empty. No other thread may call this pool meanwhile.
+	/// For the calls of tags.h: NULL if it is empty. No other thread may call this pool
+	/// meanwhile.
 	tags_pool *native_handle() noexcept
 	{
 		return shared_ != nullptr ? &shared_->handle : nullptr;
@@ -1301,23 +1316,24 @@ public:
 	/// The same, but the hand's next get starts where its last one left off, or at tag 0.
 	[[nodiscard]] hand join_in_place() { return joined_by(TAGS_STAY); }
 
-	/// Changes the number of tags to this, as many of them reserved as before, once all hands have
-	/// ended. The ordinary tags are new, with slots of 0; the reserved tags and the totals stay.
+	/// Changes the number of tags to this, as many of them reserved as before, once all hands
+	/// have ended. The ordinary tags are new, with slots of 0; the reserved tags and the totals
+	/// stay.
 	///
 	/// Errors: bad_handle, total_too_large, hands_out, no_memory; reserved_too_large if it is
 	/// below the number of reserved tags; in_use if a tag is still held or posted.
 	void resize(std::uint32_t total) { detail::check(try_resize(total)); }
 
 	/// Ends every wait for a tag, now and from now on, as for a shutdown. Who waits is woken,
-	/// and refused with stopped; so is who begins to wait, even while a tag is free. A call that
-	/// was waiting may still return a tag. All other calls work as before.
+	/// and refused with stopped; so is who begins to wait, even while a tag is free. A call
+	/// that was waiting may still return a tag. All other calls work as before.
 	///
 	/// Errors: bad_handle.
 	void stop() { detail::check(try_stop()); }
 
-	/// Closes the pool once all hands have ended, and returns its totals: how many tags were got
-	/// and went back, and how many are held by hands that left, or posted. The object is empty
-	/// then.
+	/// Closes the pool once all hands have ended, and returns its totals: how many tags were
+	/// got and went back, and how many are held by hands that left, or posted. The object is
+	/// empty then.
 	///
 	/// Errors: bad_handle, hands_out.
 	totals close()
@@ -1397,7 +1413,8 @@ private:
 			return TAGS_NO_MEMORY;
 		{
 			const locked lock(shared_->lock);
-			const std::int32_t status = tags_join(&shared_->handle, &state->handle, flags);
+			const std::int32_t status =
+				tags_join(&shared_->handle, &state->handle, flags);
 			if (status != TAGS_OK)
 				return status;
 		}
@@ -1462,10 +1479,10 @@ private:
  * A value beside each tag
  */
 
-/// A value of type T beside each tag of a pool, such as a buffer or a request, for whoever holds the
-/// tag. It stays when its tag goes back, and passes with a tag that is posted. Any thread may look
-/// up the value of a tag that it holds, and no lock is taken: the library gives a tag to one hand at
-/// a time, and what its former holder wrote is seen by the next one.
+/// A value of type T beside each tag of a pool, such as a buffer or a request, for whoever holds
+/// the tag. It stays when its tag goes back, and passes with a tag that is posted. Any thread may
+/// look up the value of a tag that it holds, and no lock is taken: the library gives a tag to one
+/// hand at a time, and what its former holder wrote is seen by the next one.
 template <class T>
 class values {
 public:
@@ -1491,8 +1508,8 @@ public:
 	/// Errors: bad_handle if the pool is empty, no_memory.
 	explicit values(const pool &of) : values(of, &none) {}
 
-	/// Makes a value for each tag of the pool, which make returns for the tag's number. T need not
-	/// be movable.
+	/// Makes a value for each tag of the pool, which make returns for the tag's number. T need
+	/// not be movable.
 	///
 	/// Errors: bad_handle if the pool is empty, no_memory; and what make throws.
 	template <class Make>
@@ -1511,11 +1528,11 @@ public:
 		return values_[held.number_];
 	}
 
-	/// After pool::resize(): makes new values for the ordinary tags. The reserved tags keep theirs.
-	/// If this fails all values are as before.
+	/// After pool::resize(): makes new values for the ordinary tags. The reserved tags keep
+	/// theirs. If this fails all values are as before.
 	///
-	/// Errors: bad_handle if the pool is empty, no_memory; no_such_tag for another pool than before;
-	/// and what make throws.
+	/// Errors: bad_handle if the pool is empty, no_memory; no_such_tag for another pool than
+	/// before; and what make throws.
 	void resize(const pool &of) { resize(of, &none); }
 
 	template <class Make, class = std::enable_if_t<std::is_invocable_v<Make &, std::uint32_t>>>
@@ -1586,7 +1603,8 @@ private:
 		const std::uint32_t total = of.total();
 		const std::align_val_t alignment{alignof(T)};
 		values made;
-		made.values_ = static_cast<T *>(::operator new(total * sizeof(T), alignment, std::nothrow));
+		made.values_ = static_cast<T *>(
+			::operator new(total * sizeof(T), alignment, std::nothrow));
 		if (made.values_ == nullptr)
 			return TAGS_NO_MEMORY;
 		made.pool_ = of.shared_;
@@ -1610,7 +1628,8 @@ private:
 			return status;
 		while (made.from_ > 0) {
 			made.from_--;
-			::new (static_cast<void *>(made.values_ + made.from_)) T(std::move(values_[made.from_]));
+			::new (static_cast<void *>(made.values_ + made.from_))
+				T(std::move(values_[made.from_]));
 		}
 		swap(made);
 		return TAGS_OK;
@@ -1632,16 +1651,16 @@ private:
 #define TAGS_HAS_COROUTINES 1
 
 /// The coroutines that wait for tags of one hand, in the order in which their waits began:
-/// co_await listener.get() is a tag. It asks this of the program's event loop: when the eventfd that
-/// the listener was made with is readable, read it and call resume(), soon, on each listener that was
-/// made with it. The eventfd stays the program's, which makes it non-blocking and closes it after the
-/// listener has ended.
+/// co_await listener.get() is a tag. It asks this of the program's event loop: when the eventfd
+/// that the listener was made with is readable, read it and call resume(), soon, on each listener
+/// that was made with it. The eventfd stays the program's, which makes it non-blocking and closes
+/// it after the listener has ended.
 ///
 /// A listener is used by one thread at a time, as its hand is, and coroutines are resumed on the
-/// thread that calls resume(). A coroutine that is destroyed while it waits waits no more: if it was
-/// to be resumed with a tag, the tag goes back, and if none is left that waits, the hand's wait is
-/// cancelled. A listener that ends while a coroutine waits ends the program by std::terminate(); so
-/// stop the pool and call resume(), or destroy the coroutines, before.
+/// thread that calls resume(). A coroutine that is destroyed while it waits waits no more: if it
+/// was to be resumed with a tag, the tag goes back, and if none is left that waits, the hand's wait
+/// is cancelled. A listener that ends while a coroutine waits ends the program by std::terminate();
+/// so stop the pool and call resume(), or destroy the coroutines, before.
 class listener {
 	/// A place in one of the two lists, or a list, which is a ring.
 	struct link {
@@ -1748,7 +1767,9 @@ public:
 	private:
 		friend class listener;
 
-		awaiter_with_code(listener *from, std::error_code &ec) noexcept : waiter(from), code_(ec) {}
+		awaiter_with_code(listener *from, std::error_code &ec) noexcept
+			: waiter(from), code_(ec)
+		{}
 
 		std::error_code &code_;
 	};
@@ -1772,23 +1793,24 @@ public:
 	}
 
 #ifdef TAGS_THROWS
-	/// Takes a free ordinary tag when it is awaited, and suspends the coroutine while there is none
-	/// or others wait already.
+	/// Takes a free ordinary tag when it is awaited, and suspends the coroutine while there is
+	/// none or others wait already.
 	///
 	/// Errors: as of hand::get_async(), except waiting: if the hand waits by prepare().
 	awaiter get() noexcept { return awaiter(this); }
 #endif
 
-	/// The same: ec is set to the error or cleared, and the tag is empty if there is an error. ec has
-	/// to live until the coroutine goes on.
+	/// The same: ec is set to the error or cleared, and the tag is empty if there is an error.
+	/// ec has to live until the coroutine goes on.
 	awaiter_with_code get(std::error_code &ec) noexcept { return {this, ec}; }
 
-	/// Resumes the coroutines for which there is a tag or an error, in the order of their waits. If
-	/// one of them lets an exception out, it comes out here: call this again for the others.
+	/// Resumes the coroutines for which there is a tag or an error, in the order of their
+	/// waits. If one of them lets an exception out, it comes out here: call this again for the
+	/// others.
 	void resume()
 	{
-		// All of them are taken out first, so that whatever a coroutine does, the hand waits if and
-		// only if one of the others still does.
+		// All of them are taken out first, so that whatever a coroutine does, the hand
+		// waits if and only if one of the others still does.
 		while (!waiting_.is_alone()) {
 			const std::int32_t answer = try_or_wait();
 			if (answer == TAGS_NO_TAG)

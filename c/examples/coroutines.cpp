@@ -1,6 +1,7 @@
-// One thread that never sleeps for a tag alone, in C++20: four streams of requests are coroutines that await tags, three for all of
-// them, and the completions of their requests. Under poll() the thread waits for "a tag or a completion". A device in a second thread
-// sends the tags of completed requests back by a pipe, as a ring of completions would come.
+// One thread that never sleeps for a tag alone, in C++20: four streams of requests are coroutines
+// that await tags, three for all of them, and the completions of their requests. Under poll() the
+// thread waits for "a tag or a completion". A device in a second thread sends the tags of completed
+// requests back by a pipe, as a ring of completions would come.
 #include <coroutine>
 #include <cstdint>
 #include <cstdio>
@@ -66,7 +67,10 @@ public:
 			int device;
 			std::uint32_t tag;
 			bool await_ready() { return false; }
-			void await_suspend(std::coroutine_handle<> self) { send(device, {tag, self.address()}); }
+			void await_suspend(std::coroutine_handle<> self)
+			{
+				send(device, {tag, self.address()});
+			}
 			void await_resume() {}
 		};
 		return awaiter{to_device_[1], tag.number()};
@@ -118,7 +122,8 @@ int main()
 		for (int left = streams * requests; left > 0;) {
 			must(poll(looks, 2, -1) > 0, "poll");
 			std::uint64_t told = 0;
-			if (looks[0].revents != 0 && read(event, &told, sizeof(told)) == sizeof(told))
+			if (looks[0].revents != 0 &&
+			    read(event, &told, sizeof(told)) == sizeof(told))
 				listener.resume();
 			if (looks[1].revents != 0) {
 				to.complete();

@@ -1,6 +1,7 @@
-// An I/O queue of eight threads. Five submit requests: each takes a tag, and waits while none is free, fills in the request that lies
-// beside the tag, posts the tag and sends its number to the device. Three complete: each takes the next tag from the device, carries
-// its request out and gives the tag back, which may wake a submitter.
+// An I/O queue of eight threads. Five submit requests: each takes a tag, and waits while none is
+// free, fills in the request that lies beside the tag, posts the tag and sends its number to the
+// device. Three complete: each takes the next tag from the device, carries its request out and
+// gives the tag back, which may wake a submitter.
 #include <atomic>
 #include <condition_variable>
 #include <cstdint>
@@ -118,7 +119,8 @@ static void report(const queue &all, const tags::totals &totals)
 		once += times == 1;
 	std::printf("requests=%d\nbytes=%ju\n", once, std::uintmax_t{all.bytes});
 	std::printf("got=%ju\nback=%ju\n", std::uintmax_t{totals.got}, std::uintmax_t{totals.back});
-	std::printf("held=%ju\nposted=%ju\n", std::uintmax_t{totals.held}, std::uintmax_t{totals.posted});
+	std::printf("held=%ju\nposted=%ju\n", std::uintmax_t{totals.held},
+		    std::uintmax_t{totals.posted});
 }
 
 int main()

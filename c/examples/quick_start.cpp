@@ -22,7 +22,8 @@ int main()
 		use_tag(hand);
 		hand.leave();
 		const tags::totals totals = pool.close();
-		std::printf("got %d, back %d\n", static_cast<int>(totals.got), static_cast<int>(totals.back));
+		std::printf("got %d, back %d\n", static_cast<int>(totals.got),
+			    static_cast<int>(totals.back));
 	} catch (const tags::error &error) {
 		std::fprintf(stderr, "%s\n", error.what());
 		return 1;

@@ -1,5 +1,5 @@
-// A thread that is cancelled by pthread_cancel() while it sleeps for a tag unwinds: its tags go back, its hand leaves, and what it was
-// told goes to another thread. That needs exceptions.
+// A thread that is cancelled by pthread_cancel() while it sleeps for a tag unwinds: its tags go
+// back, its hand leaves, and what it was told goes to another thread. That needs exceptions.
 #include "check.hpp"
 
 #include <chrono>
@@ -12,7 +12,10 @@ enum way { BLOCKING, BLOCKING_WITH_CODE, FOR, UNTIL, UNTIL_BY_ANOTHER_CLOCK, WAY
 
 struct other_clock : std::chrono::steady_clock {
 	using time_point = std::chrono::time_point<other_clock>;
-	static time_point now() noexcept { return time_point(std::chrono::steady_clock::now().time_since_epoch()); }
+	static time_point now() noexcept
+	{
+		return time_point(std::chrono::steady_clock::now().time_since_epoch());
+	}
 };
 
 struct sleeper {
@@ -97,7 +100,8 @@ static void a_cancelled_sleeper(way how)
 	CHECK(sums.got == sums.back && sums.held == 0);
 }
 
-// Cancels race with clears: whoever is told and cancelled passes it on, so the other sleeper always gets the tag.
+// Cancels race with clears: whoever is told and cancelled passes it on, so the other sleeper always
+// gets the tag.
 static void cancels_beside_clears()
 {
 	for (int round = 0; round < 300; round++) {

@@ -1,5 +1,6 @@
-// Coroutines that wait for tags with a listener: in turn, beside threads that sleep, destroyed while they wait and while they are to be
-// resumed, refused, stopped. It needs C++20, and compiles without exceptions too.
+// Coroutines that wait for tags with a listener: in turn, beside threads that sleep, destroyed
+// while they wait and while they are to be resumed, refused, stopped. It needs C++20, and compiles
+// without exceptions too.
 #include "check.hpp"
 
 #ifdef TAGS_HAS_COROUTINES
@@ -223,7 +224,8 @@ static void who_was_told_and_is_destroyed_passes_it_on()
 }
 
 // When it goes on, it destroys the next one, which has been given a tag already.
-static task destroys(tags::listener &listener, std::unique_ptr<task> &victim, std::vector<tags::tag> &into)
+static task destroys(tags::listener &listener, std::unique_ptr<task> &victim,
+		     std::vector<tags::tag> &into)
 {
 	std::error_code code;
 	tags::tag tag = co_await listener.get(code);

@@ -1,5 +1,5 @@
-// Waits with a limit: by each clock of std::chrono and by others, of any length and of any type of duration; and one that has passed
-// is one try.
+// Waits with a limit: by each clock of std::chrono and by others, of any length and of any type of
+// duration; and one that has passed is one try.
 #include "check.hpp"
 
 #include <chrono>
@@ -31,7 +31,8 @@ struct fast_clock {
 	static constexpr bool is_steady = true;
 	static time_point now() noexcept
 	{
-		return time_point(10 * steady_clock::now().time_since_epoch() - hours(24 * 365 * 100));
+		return time_point(10 * steady_clock::now().time_since_epoch() -
+				  hours(24 * 365 * 100));
 	}
 };
 
@@ -44,7 +45,8 @@ struct slow_clock {
 	static constexpr bool is_steady = true;
 	static time_point now() noexcept
 	{
-		return time_point(duration_cast<duration>(steady_clock::now().time_since_epoch()) / 2);
+		return time_point(duration_cast<duration>(steady_clock::now().time_since_epoch()) /
+				  2);
 	}
 };
 
@@ -156,7 +158,9 @@ static void distant_deadlines()
 {
 	is_woken([](tags::hand &hand) { return hand.try_get_until(Clock::now() + 1h, ec); });
 	is_woken([](tags::hand &hand) { return hand.try_get_until(Clock::time_point::max(), ec); });
-	is_woken([](tags::hand &hand) { return hand.try_get_until(time_point<Clock, hours>::max(), ec); });
+	is_woken([](tags::hand &hand) {
+		return hand.try_get_until(time_point<Clock, hours>::max(), ec);
+	});
 	is_woken([](tags::hand &hand) {
 		return hand.try_get_until(time_point<Clock, duration<double>>::max(), ec);
 	});
@@ -188,14 +192,21 @@ static void nanoseconds_of()
 	using tags::detail::longest;
 	using tags::detail::moment;
 	constexpr std::int64_t most = std::numeric_limits<std::int64_t>::max();
-	CHECK(tags::detail::nanoseconds(1s) == 1'000'000'000 && tags::detail::nanoseconds(-1ms) == -1'000'000);
-	CHECK(tags::detail::nanoseconds(duration<std::int64_t, std::ratio<1, 3>>(2)) == 666'666'666);
+	CHECK(tags::detail::nanoseconds(1s) == 1'000'000'000 &&
+	      tags::detail::nanoseconds(-1ms) == -1'000'000);
+	CHECK(tags::detail::nanoseconds(duration<std::int64_t, std::ratio<1, 3>>(2)) ==
+	      666'666'666);
 	CHECK(tags::detail::nanoseconds(duration<std::int64_t, std::atto>(-1'999'999'999)) == -1);
-	CHECK(tags::detail::nanoseconds(std::chrono::nanoseconds(longest - 1025)) == longest - 1025);
-	CHECK(tags::detail::nanoseconds(hours::max()) == longest && tags::detail::nanoseconds(hours::min()) == -longest);
-	CHECK(tags::detail::nanoseconds(duration<std::int64_t, std::ratio<1, 60>>(longest / 1'000'000'000 * 60 - 1)) == longest - 16'666'667);
-	CHECK(difference(1, 5) == 4 && difference(-longest, longest) == longest && difference(longest, -longest) == -longest);
-	CHECK(moment(-1).tv_sec == 0 && moment(-1).tv_nsec == 0 && moment(1'000'000'001).tv_sec == 1 && moment(1'000'000'001).tv_nsec == 1);
+	CHECK(tags::detail::nanoseconds(std::chrono::nanoseconds(longest - 1025)) ==
+	      longest - 1025);
+	CHECK(tags::detail::nanoseconds(hours::max()) == longest &&
+	      tags::detail::nanoseconds(hours::min()) == -longest);
+	CHECK(tags::detail::nanoseconds(duration<std::int64_t, std::ratio<1, 60>>(
+		      longest / 1'000'000'000 * 60 - 1)) == longest - 16'666'667);
+	CHECK(difference(1, 5) == 4 && difference(-longest, longest) == longest &&
+	      difference(longest, -longest) == -longest);
+	CHECK(moment(-1).tv_sec == 0 && moment(-1).tv_nsec == 0 &&
+	      moment(1'000'000'001).tv_sec == 1 && moment(1'000'000'001).tv_nsec == 1);
 	CHECK(longest < most);
 }
 

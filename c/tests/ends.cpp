@@ -1,5 +1,5 @@
-// What ends the program, and says why: a hand that ends before what belongs to it. Each is tried in a process of its own, which ends by
-// std::terminate().
+// What ends the program, and says why: a hand that ends before what belongs to it. Each is tried in
+// a process of its own, which ends by std::terminate().
 #include "check.hpp"
 
 #include <cstdlib>
@@ -11,10 +11,7 @@ static std::error_code ec;
 
 enum { TERMINATED = 42 };
 
-[[noreturn]] static void terminated()
-{
-	std::_Exit(TERMINATED);
-}
+[[noreturn]] static void terminated() { std::_Exit(TERMINATED); }
 
 // Runs this in a process of its own: whether it terminates there, with this line on stderr.
 template <class Run>
@@ -37,7 +34,8 @@ static bool terminates(const char *line, Run run)
 	close(ends[0]);
 	int status = 0;
 	waitpid(child, &status, 0);
-	return WIFEXITED(status) && WEXITSTATUS(status) == TERMINATED && said == std::string("tags.hpp: ") + line + "\n";
+	return WIFEXITED(status) && WEXITSTATUS(status) == TERMINATED &&
+	       said == std::string("tags.hpp: ") + line + "\n";
 }
 
 static void a_hand_before_its_tag()

@@ -1,4 +1,5 @@
-// Each refusal of tags.hpp has its reason, in both forms of its call, and changes nothing; and what an error is to a program.
+// Each refusal of tags.hpp has its reason, in both forms of its call, and changes nothing; and what
+// an error is to a program.
 #include "check.hpp"
 
 #include <chrono>
@@ -22,14 +23,17 @@ static void errors_have_texts()
 		CHECK(code.message() == tags_strerror(status));
 	}
 	const std::error_code code = errc::no_hand;
-	CHECK(code.message() == "all hands of the pool are out" && code == errc::no_hand && code != errc::in_use);
+	CHECK(code.message() == "all hands of the pool are out" && code == errc::no_hand &&
+	      code != errc::in_use);
 	CHECK(code.message() == tags::make_error_code(errc::no_hand).message());
 	CHECK(std::error_code(errc::no_memory) == std::errc::not_enough_memory);
 	CHECK(std::error_code(errc::stopped) == std::errc::operation_canceled);
 	CHECK(std::error_code(errc::no_tag) != std::errc::operation_canceled);
-	CHECK(tags::category().message(0) == "done" && tags::category().message(-99) == tags_strerror(-99));
+	CHECK(tags::category().message(0) == "done" &&
+	      tags::category().message(-99) == tags_strerror(-99));
 	const tags::error thrown(errc::not_held);
-	CHECK(thrown.code() == errc::not_held && std::string(thrown.what()) == "this hand does not hold the tag");
+	CHECK(thrown.code() == errc::not_held &&
+	      std::string(thrown.what()) == "this hand does not hold the tag");
 }
 
 static void pools_that_do_not_open()
@@ -43,7 +47,8 @@ static void pools_that_do_not_open()
 	tags::options options = sized(4, 1);
 	CHECK(opened(sized(10241, 1)) == errc::total_too_large);
 	CHECK(opened(sized(4, 1, 5)) == errc::reserved_too_large);
-	CHECK(opened(sized(4, 0)) == errc::bad_hand_count && opened(sized(4, 65)) == errc::bad_hand_count);
+	CHECK(opened(sized(4, 0)) == errc::bad_hand_count &&
+	      opened(sized(4, 65)) == errc::bad_hand_count);
 	for (const std::uint32_t shift : {7U, 31U, 32U, 0x80000000U, 0xffffffffU}) {
 		options.shift = shift;
 		CHECK(opened(options) == errc::shift_too_large);
@@ -143,11 +148,15 @@ static void gets()
 	const tags::tag one = *hand.get_reserved(ec);
 	const tags::tag other = *hand.get_reserved(ec);
 	// None is free, which is no error.
-	CHECK(refusal([&](auto &...code) { CHECK(!hand.get_reserved(code...)); }) == std::error_code());
+	CHECK(refusal([&](auto &...code) { CHECK(!hand.get_reserved(code...)); }) ==
+	      std::error_code());
 	CHECK(refusal([&](auto &...code) { CHECK(!hand.get(code...)); }) == std::error_code());
-	CHECK(refusal([&](auto &...code) { CHECK(!hand.get_write(1, code...)); }) == std::error_code());
-	CHECK(refusal([&](auto &...code) { CHECK(!hand.get_batch(1, code...)); }) == std::error_code());
-	CHECK(refusal([&](auto &...code) { CHECK(!hand.get_shallow(1, code...)); }) == std::error_code());
+	CHECK(refusal([&](auto &...code) { CHECK(!hand.get_write(1, code...)); }) ==
+	      std::error_code());
+	CHECK(refusal([&](auto &...code) { CHECK(!hand.get_batch(1, code...)); }) ==
+	      std::error_code());
+	CHECK(refusal([&](auto &...code) { CHECK(!hand.get_shallow(1, code...)); }) ==
+	      std::error_code());
 	REFUSED(errc::no_such_tag, hand.get_blocking(CODE));
 	REFUSED(errc::no_such_tag, hand.try_get_for(1h, CODE));
 	REFUSED(errc::no_such_tag, hand.get_async(0, CODE));

@@ -1,4 +1,5 @@
-// If an allocation of tags.hpp fails, the call says so, changes nothing and leaks nothing. (For those of the library see memory.c.)
+// If an allocation of tags.hpp fails, the call says so, changes nothing and leaks nothing. (For
+// those of the library see memory.c.)
 #include "check.hpp"
 
 #include <cstdlib>
@@ -45,20 +46,11 @@ void *operator new(std::size_t size, std::align_val_t alignment, const std::noth
 	return allocate(size, static_cast<std::size_t>(alignment));
 }
 
-void operator delete(void *memory) noexcept
-{
-	release(memory);
-}
+void operator delete(void *memory) noexcept { release(memory); }
 
-void operator delete(void *memory, std::size_t) noexcept
-{
-	release(memory);
-}
+void operator delete(void *memory, std::size_t) noexcept { release(memory); }
 
-void operator delete(void *memory, std::align_val_t) noexcept
-{
-	release(memory);
-}
+void operator delete(void *memory, std::align_val_t) noexcept { release(memory); }
 
 template <class Call>
 static std::error_code without_memory(Call call)
@@ -74,18 +66,26 @@ int main()
 {
 	{
 		tags::pool pool;
-		CHECK(without_memory([&](std::error_code &code) { pool = tags::pool(sized(8, 2), code); }) == errc::no_memory);
+		CHECK(without_memory([&](std::error_code &code) {
+			      pool = tags::pool(sized(8, 2), code);
+		      }) == errc::no_memory);
 		CHECK(!pool && allocated == 0);
 		pool = tags::pool(sized(8, 1, 1), failure);
 		tags::hand hand;
-		CHECK(without_memory([&](std::error_code &code) { hand = pool.join(code); }) == errc::no_memory);
+		CHECK(without_memory([&](std::error_code &code) { hand = pool.join(code); }) ==
+		      errc::no_memory);
 		CHECK(!hand && pool);
 		tags::values<int> values;
-		CHECK(without_memory([&](std::error_code &code) { values = tags::values<int>(pool, code); }) == errc::no_memory);
+		CHECK(without_memory([&](std::error_code &code) {
+			      values = tags::values<int>(pool, code);
+		      }) == errc::no_memory);
 		CHECK(values.size() == 0);
-		values = tags::values<int>(pool, [](std::uint32_t number) { return static_cast<int>(number); }, failure);
+		values = tags::values<int>(
+			pool, [](std::uint32_t number) { return static_cast<int>(number); },
+			failure);
 		CHECK(!failure && values.size() == 8);
-		CHECK(without_memory([&](std::error_code &code) { values.resize(pool, code); }) == errc::no_memory);
+		CHECK(without_memory([&](std::error_code &code) { values.resize(pool, code); }) ==
+		      errc::no_memory);
 		hand = pool.join(failure);
 		CHECK(values.size() == 8 && values[*hand.get(failure)] == 1);
 	}

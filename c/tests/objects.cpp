@@ -1,5 +1,5 @@
-// The objects of tags.hpp give back what they hold: at their ends, when they are assigned to, and after moves. It compiles without
-// exceptions too.
+// The objects of tags.hpp give back what they hold: at their ends, when they are assigned to, and
+// after moves. It compiles without exceptions too.
 #include "check.hpp"
 
 #include <map>
@@ -9,17 +9,24 @@
 
 using tags::errc;
 
-static_assert(std::is_nothrow_move_constructible_v<tags::tag> && std::is_nothrow_move_assignable_v<tags::tag>);
-static_assert(std::is_nothrow_move_constructible_v<tags::batch> && std::is_nothrow_move_assignable_v<tags::batch>);
-static_assert(std::is_nothrow_move_constructible_v<tags::wait> && std::is_nothrow_move_assignable_v<tags::wait>);
-static_assert(std::is_nothrow_move_constructible_v<tags::hand> && std::is_nothrow_move_assignable_v<tags::hand>);
-static_assert(std::is_nothrow_move_constructible_v<tags::pool> && std::is_nothrow_move_assignable_v<tags::pool>);
+static_assert(std::is_nothrow_move_constructible_v<tags::tag> &&
+	      std::is_nothrow_move_assignable_v<tags::tag>);
+static_assert(std::is_nothrow_move_constructible_v<tags::batch> &&
+	      std::is_nothrow_move_assignable_v<tags::batch>);
+static_assert(std::is_nothrow_move_constructible_v<tags::wait> &&
+	      std::is_nothrow_move_assignable_v<tags::wait>);
+static_assert(std::is_nothrow_move_constructible_v<tags::hand> &&
+	      std::is_nothrow_move_assignable_v<tags::hand>);
+static_assert(std::is_nothrow_move_constructible_v<tags::pool> &&
+	      std::is_nothrow_move_assignable_v<tags::pool>);
 static_assert(!std::is_copy_constructible_v<tags::tag> && !std::is_copy_assignable_v<tags::tag>);
-static_assert(!std::is_copy_constructible_v<tags::batch> && !std::is_copy_assignable_v<tags::batch>);
+static_assert(!std::is_copy_constructible_v<tags::batch> &&
+	      !std::is_copy_assignable_v<tags::batch>);
 static_assert(!std::is_copy_constructible_v<tags::wait> && !std::is_copy_assignable_v<tags::wait>);
 static_assert(!std::is_copy_constructible_v<tags::hand> && !std::is_copy_assignable_v<tags::hand>);
 static_assert(!std::is_copy_constructible_v<tags::pool> && !std::is_copy_assignable_v<tags::pool>);
-static_assert(!std::is_convertible_v<tags::tag, bool> && std::is_nothrow_destructible_v<tags::hand>);
+static_assert(!std::is_convertible_v<tags::tag, bool> &&
+	      std::is_nothrow_destructible_v<tags::hand>);
 static_assert(sizeof(tags::hand) == sizeof(void *) && sizeof(tags::tag) == 2 * sizeof(void *));
 
 static std::error_code ec;
@@ -54,11 +61,13 @@ static void each_end_gives_tags_back()
 		CHECK(shallow && hand.busy(&bits, 1, ec) == 5 && bits == 0x3d);
 	}
 	CHECK(busy(hand) == 0);
-	CHECK(hand.show(tags::kind::ordinary, ec).depth == 14 && hand.show(tags::kind::reserved, ec).depth == 2);
+	CHECK(hand.show(tags::kind::ordinary, ec).depth == 14 &&
+	      hand.show(tags::kind::reserved, ec).depth == 2);
 	CHECK(hand.wakes(ec).active == 0 && !ec);
 	hand.leave(ec);
 	const tags::totals sums = pool.close(ec);
-	CHECK(!ec && !pool && !hand && sums.got == 5 && sums.back == 5 && sums.held == 0 && sums.posted == 0);
+	CHECK(!ec && !pool && !hand && sums.got == 5 && sums.back == 5 && sums.held == 0 &&
+	      sums.posted == 0);
 }
 
 static void tags_move()

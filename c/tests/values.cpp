@@ -1,4 +1,5 @@
-// Values beside tags: each is made and destroyed once, whatever fails meanwhile; it stays when its tag goes back, and it has one user.
+// Values beside tags: each is made and destroyed once, whatever fails meanwhile; it stays when its
+// tag goes back, and it has one user.
 #include "check.hpp"
 
 #include <memory>
@@ -26,10 +27,7 @@ struct alignas(256) aligned {
 	std::uint64_t words[32];
 };
 
-static fixed of_number(std::uint32_t number)
-{
-	return fixed(number);
-}
+static fixed of_number(std::uint32_t number) { return fixed(number); }
 
 static void each_value_lives_once()
 {
@@ -43,9 +41,11 @@ static void each_value_lives_once()
 			held.push_back(std::move(*tag));
 		CHECK(held.size() == 14);
 		for (const tags::tag &tag : held)
-			CHECK(values[tag].number == tag.number() && values.at(tag, failure) == &values[tag] && !failure);
+			CHECK(values[tag].number == tag.number() &&
+			      values.at(tag, failure) == &values[tag] && !failure);
 		tags::values<fixed> moved(std::move(values));
-		CHECK(values.size() == 0 && moved.size() == 16 && values.at(held[0], failure) == nullptr && failure == errc::no_such_tag);
+		CHECK(values.size() == 0 && moved.size() == 16 &&
+		      values.at(held[0], failure) == nullptr && failure == errc::no_such_tag);
 		values = std::move(moved);
 		CHECK(values.size() == 16 && made == 16 && destroyed == 0);
 	}
@@ -58,7 +58,8 @@ static void they_have_their_alignment()
 	const tags::values<aligned> values(pool, failure);
 	tags::hand hand = pool.join(failure);
 	const tags::tag tag = *hand.get(failure);
-	CHECK(reinterpret_cast<std::uintptr_t>(&values[tag]) % 256 == 0 && values[tag].words[31] == 0);
+	CHECK(reinterpret_cast<std::uintptr_t>(&values[tag]) % 256 == 0 &&
+	      values[tag].words[31] == 0);
 }
 
 static void a_value_stays_and_passes_on()
@@ -81,7 +82,8 @@ static void tags_of_other_pools_are_refused()
 {
 	tags::pool pool(sized(4, 1), failure);
 	tags::pool another(sized(4, 1), failure);
-	tags::values<int> values(pool, [](std::uint32_t number) { return 10 * static_cast<int>(number); }, failure);
+	tags::values<int> values(
+		pool, [](std::uint32_t number) { return 10 * static_cast<int>(number); }, failure);
 	tags::hand hand = pool.join(failure);
 	tags::hand stranger = another.join(failure);
 	tags::tag good = *hand.get(failure);
@@ -91,7 +93,8 @@ static void tags_of_other_pools_are_refused()
 	CHECK(values.at(tags::tag(), failure) == nullptr && failure == errc::no_such_tag);
 	const tags::pool none;
 	const tags::values<int> empty(none, failure);
-	CHECK(failure == errc::bad_handle && empty.size() == 0 && empty.at(good, failure) == nullptr);
+	CHECK(failure == errc::bad_handle && empty.size() == 0 &&
+	      empty.at(good, failure) == nullptr);
 	values.resize(another, failure);
 	CHECK(failure == errc::no_such_tag && values.size() == 4);
 	values.resize(none, failure);
@@ -108,8 +111,12 @@ static void tags_of_other_pools_are_refused()
 static void reserved_values_stay_over_a_resize()
 {
 	tags::pool pool(sized(4, 1, 2), failure);
-	const auto make = [](std::uint32_t number) { return std::make_unique<std::uint32_t>(number); };
-	const auto make_others = [](std::uint32_t number) { return std::make_unique<std::uint32_t>(100 + number); };
+	const auto make = [](std::uint32_t number) {
+		return std::make_unique<std::uint32_t>(number);
+	};
+	const auto make_others = [](std::uint32_t number) {
+		return std::make_unique<std::uint32_t>(100 + number);
+	};
 	tags::values<std::unique_ptr<std::uint32_t>> values(pool, make, failure);
 	for (const std::uint32_t total : {7U, 2U, 70U, 3U}) {
 		pool.resize(total, failure);
@@ -117,7 +124,8 @@ static void reserved_values_stay_over_a_resize()
 		values.resize(pool, make_others, failure);
 		CHECK(!failure && values.size() == total);
 		tags::hand hand = pool.join(failure);
-		const tags::tag reserved[] = {std::move(*hand.get_reserved(failure)), std::move(*hand.get_reserved(failure))};
+		const tags::tag reserved[] = {std::move(*hand.get_reserved(failure)),
+					      std::move(*hand.get_reserved(failure))};
 		CHECK(*values[reserved[0]] == 0 && *values[reserved[1]] == 1);
 		std::vector<tags::tag> held;
 		while (std::optional<tags::tag> tag = hand.get(failure)) {
@@ -144,7 +152,8 @@ static void a_value_that_can_not_be_made()
 	} catch (int) {
 		CHECK(made == 9 && destroyed == 9);
 	}
-	tags::values<std::shared_ptr<int>> values(pool, [](std::uint32_t) { return std::make_shared<int>(5); });
+	tags::values<std::shared_ptr<int>> values(
+		pool, [](std::uint32_t) { return std::make_shared<int>(5); });
 	pool.resize(32);
 	try {
 		values.resize(pool, [](std::uint32_t number) {

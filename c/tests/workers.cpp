@@ -1,6 +1,6 @@
-// Eight threads share a pool of few tags: they get them in every way, pass them on, let them go and adopt them, join and leave, while
-// it is resized between rounds. No tag has two users, values and slots are those of their tags, and the totals are exact.
-// workers [ROUNDS]
+// Eight threads share a pool of few tags: they get them in every way, pass them on, let them go and
+// adopt them, join and leave, while it is resized between rounds. No tag has two users, values and
+// slots are those of their tags, and the totals are exact. workers [ROUNDS]
 #include "check.hpp"
 
 #include <chrono>
@@ -101,7 +101,8 @@ static std::optional<std::uint32_t> next_posted(shared &all)
 	return number;
 }
 
-// Whoever sleeps while tags are posted would wait for ever if all others slept too, so each thread takes them first.
+// Whoever sleeps while tags are posted would wait for ever if all others slept too, so each thread
+// takes them first.
 static void take_posted(shared &all, tags::hand &hand)
 {
 	std::error_code failure;
@@ -119,14 +120,16 @@ static void work(shared &all, std::uint32_t self)
 	tags::hand hand = all.pool.join(failure);
 	CHECK(hand);
 	for (long round = 0; round < all.rounds; round++) {
-		// Posts are taken before anybody sleeps, but others may post after that: so only the even threads post, and never sleep.
+		// Posts are taken before anybody sleeps, but others may post after that: so only
+		// the even threads post, and never sleep.
 		const bool posts = self % 2 == 0;
 		const std::uint32_t ways[] = {0, 3, 4, 5, 1, 2};
 		take_posted(all, hand);
 		std::optional<tags::tag> tag = get(hand, ways[random() % (posts ? 4 : 6)]);
 		if (tag) {
 			use(all, *tag, self * 1000000ULL + static_cast<std::uint64_t>(round));
-			dispose(all, hand, std::move(*tag), static_cast<std::uint32_t>(random() % 5) + (posts ? 0 : 1));
+			dispose(all, hand, std::move(*tag),
+				static_cast<std::uint32_t>(random() % 5) + (posts ? 0 : 1));
 		}
 		if (random() % 64 == 0) {
 			hand.leave(failure);
