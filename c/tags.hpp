@@ -186,18 +186,19 @@ inline errc reason(std::int32_t status) noexcept
 	return static_cast<errc>(status == TAGS_NULL ? TAGS_BAD_HANDLE : status);
 }
 
-[[gnu::cold, gnu::noinline]] inline void refuse(std::int32_t status, std::error_code &ec) noexcept
+[[gnu::cold, gnu::noinline]] inline void set(std::error_code &ec, std::int32_t status) noexcept
 {
-	ec = reason(status);
+	if (status < 0)
+		ec = reason(status);
+	else
+		ec.clear();
 }
 
 /// Sets the code to the reason if the status is negative, and clears it otherwise.
 inline void note(std::int32_t status, std::error_code &ec) noexcept
 {
-	if (status < 0)
-		refuse(status, ec);
-	else if (ec)
-		ec.clear();
+	if (status < 0 || ec)
+		set(ec, status);
 }
 
 #ifdef TAGS_THROWS
