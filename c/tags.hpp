@@ -3,7 +3,7 @@
  *
  * A tag is a small number with a slot of 64 bits for whoever holds it. A tags::pool has the
  * tags. Each thread takes them through a tags::hand of its own, as objects of type tags::tag,
- * whose end gives them back:
+ * whose destructor gives them back:
  *
  *	tags::pool pool(tags::options{16, 2});
  *	tags::hand hand = pool.join();
@@ -11,7 +11,8 @@
  *		tag->write(70);
  *
  * This header is the whole C++ part: inline functions over the calls of tags.h, which says
- * what the library proves. A get and the end of its tag are the two calls of C, and no more.
+ * what the library proves. A get and the destructor of its tag make the two calls that a
+ * program in C makes, and no others.
  *
  * Errors
  *   A refused call changes nothing. Its reason is a tags::errc, of a category whose texts are
@@ -24,14 +25,14 @@
  *   unless it says otherwise.
  *
  * Lifetimes
- *   Pools, hands, tags and batches can be moved, and not copied. A hand may be moved while its
- *   tags are out. A tag's end gives it back. A hand's end returns the hand to its pool, with
- *   any tag that was released: it still holds those when it is joined again. So that no tag
- *   is lost unnoticed, a hand that ends before its tags, batches, waits or listeners do ends
- *   the program by std::terminate(), with a line on stderr; leave() refuses instead. A pool that
- *   ends before its hands lives on until the last of them ends. Only close() returns the
- *   totals: a pool that ends unclosed is closed, with the tags that are still released or
- *   posted.
+ *   Pools, hands, tags and batches can be moved, and not copied. A hand can be moved while its
+ *   tags are out. The destructor of a hand returns it to its pool, with the tags that were
+ *   released: it still holds those when it joins again. So that no tag is lost unnoticed, the
+ *   destructor of a hand that still has tag, batch, wait or listener objects calls
+ *   std::terminate(), after a line on stderr; leave() refuses instead. If a pool is destroyed
+ *   before its hands it stays open until the last of them is. Only close() returns the totals:
+ *   a pool that was not closed is closed by its destructor, with any tags that are still
+ *   released or posted.
  *
  * Threads
  *   Any thread may call any function of a pool at any time, except that nobody else may use a
@@ -214,7 +215,7 @@ inline void check(std::int32_t status)
 }
 #endif
 
-/// For what the documents of this header forbid: the program ends, with a line on stderr.
+/// For what the comments below forbid.
 [[noreturn, gnu::cold, gnu::noinline]] inline void give_up(const char *what) noexcept
 {
 	std::fprintf(stderr, "tags.hpp: %s\n", what);
@@ -228,7 +229,7 @@ inline void expect(std::int32_t status) noexcept
 		give_up("a tag was given back by other means than its object");
 }
 
-/// What a pool shares with its hands. It lives until the pool and all its hands have ended.
+/// What a pool shares with its hands. It lives until the pool and all its hands are gone.
 struct opened {
 	tags_pool handle = TAGS_EMPTY;
 	/// Only one call at a time may use the handle, and the sizes change by one of them.
@@ -326,7 +327,8 @@ template <class Rep, class Period>
 std::int64_t nanoseconds(const std::chrono::duration<Rep, Period> &time) noexcept
 {
 	using std::chrono::duration_cast;
-	constexpr double period = static_cast<double>(second) * Period::num / Period::den;
+	constexpr double period = static_cast<double>(second) * static_cast<double>(Period::num) /
+				  static_cast<double>(Period::den);
 	const double about = static_cast<double>(time.count()) * period;
 	if (about >= static_cast<double>(longest))
 		return longest;
@@ -467,7 +469,8 @@ using counts = ::tags_counts;
  * Tags
  */
 
-/// A tag that a hand holds, or empty. Its end gives the tag back. It has to end before its hand.
+/// A tag that a hand holds, or empty. Its destructor gives the tag back. Destroy it before its
+/// hand.
 class [[nodiscard]] tag {
 public:
 	tag() noexcept = default;
@@ -609,8 +612,8 @@ private:
 	std::uint32_t number_ = 0;
 };
 
-/// Tags of one word that a hand holds, or empty. Its end gives all of them back in one step. It is
-/// a range of their numbers, in ascending order. It has to end before its hand.
+/// Tags of one word that a hand holds, or empty: a range of their numbers, in ascending order. Its
+/// destructor gives all of them back in one step. Destroy it before its hand.
 class [[nodiscard]] batch {
 public:
 	/// Goes over the numbers of a batch.
@@ -726,8 +729,8 @@ private:
 	std::uint64_t mask_ = 0;
 };
 
-/// A hand's stay in a wait group, for programs that sleep by means of their own, or empty. Its end
-/// leaves the group. It has to end before its hand.
+/// A hand's stay in a wait group, for programs that sleep by means of their own, or empty. Its
+/// destructor leaves the group. Destroy it before its hand.
 class [[nodiscard]] wait {
 public:
 	wait() noexcept = default;
@@ -775,15 +778,15 @@ private:
  * Hands
  */
 
-/// What a thread takes tags through, or empty. pool::join() makes one, and its end returns it to
-/// its pool. Tags that were released stay with it, and what it keeps in a cache goes back.
+/// What a thread takes tags through, or empty. pool::join() makes one, and its destructor returns
+/// it to its pool. Tags that were released stay with it, and what it keeps in a cache goes back.
 class hand {
 public:
 	hand() noexcept = default;
 
 	hand(hand &&other) noexcept : state_(std::exchange(other.state_, nullptr)) {}
 
-	/// Returns the hand that this object has to its pool first, as the end of the object does.
+	/// Returns the hand that this object has to its pool first, as the destructor does.
 	hand &operator=(hand &&other) noexcept
 	{
 		if (this != &other) {
@@ -793,22 +796,22 @@ public:
 		return *this;
 	}
 
-	/// Calls std::terminate() if a tag, batch, wait or listener of the hand has not ended yet.
-	/// To see that, it looks at each busy tag of the pool. A wait by get_async() ends.
+	/// Calls std::terminate() if there still is a tag, batch, wait or listener of the hand. To
+	/// see that, it looks at each busy tag of the pool. A wait by get_async() ends.
 	~hand() { end(); }
 
 	/// Whether it has joined.
 	explicit operator bool() const noexcept { return state_ != nullptr; }
 
 	/// For the calls of tags.h: NULL if it is empty. Give back by them no tag that has an
-	/// object, and give back by them what you get by them, before the hand ends.
+	/// object, and give back by them what you get by them, before the hand leaves.
 	tags_hand *native_handle() noexcept { return detail::raw(state_); }
 
 #ifdef TAGS_THROWS
-	/// Returns the hand to its pool, as the end of the object does. The object is empty then.
+	/// Returns the hand to its pool, as the destructor does. The object is empty then.
 	///
-	/// Errors: bad_handle; in_use if a tag or batch of the hand has not ended yet; waiting if a
-	/// wait or listener has not.
+	/// Errors: bad_handle; in_use if there still is a tag or batch of the hand; waiting if
+	/// there is a wait or listener.
 	void leave() { detail::check(try_leave()); }
 
 	/// Takes a free ordinary tag. No tag: each was found taken at some moment of the call, not
@@ -888,9 +891,10 @@ public:
 	}
 
 	/// Takes a free ordinary tag, and sleeps until this moment while there is none. No tag: the
-	/// moment has come. If it has passed already, the call tries once. If steps change
-	/// std::chrono::system_clock, the sleep follows them; of any other clock it looks again
-	/// after the time that was left. While it sleeps it is a cancellation point.
+	/// moment has come. If it has passed already, the call tries once. If
+	/// std::chrono::system_clock is set meanwhile, the sleep follows it. Any clock but that and
+	/// steady_clock is looked at again after the time that was left. While it sleeps it is a
+	/// cancellation point.
 	///
 	/// Errors: as of get_blocking().
 	template <class Clock, class Duration>
@@ -904,8 +908,8 @@ public:
 	/// again. No tag: the hand now waits. Each tag that becomes free adds 1 to the eventfd of
 	/// the hand that has waited longest. When the eventfd is readable, read it and repeat the
 	/// call, soon, for each hand that waits for it, until it returns a tag or is refused; or
-	/// end the wait by cancel(). The hand's end ends it too. Afterwards nothing is written to
-	/// the eventfd. Make it non-blocking. A listener does all this for coroutines.
+	/// end the wait by cancel(); the hand's destructor ends it, too. Afterwards nothing is
+	/// written to the eventfd. Make it non-blocking. A listener does all this for coroutines.
 	///
 	/// Errors, after which the hand does not wait: bad_handle, spent, stopped; bad_event for a
 	/// descriptor below 0; no_such_tag if the pool has no ordinary tag; waiting if the hand has
@@ -1142,9 +1146,9 @@ private:
 		if (state_ == nullptr)
 			return;
 		if (state_->users > 0)
-			detail::give_up("a hand ended before its wait or listener");
+			detail::give_up("a hand was destroyed before its wait or listener");
 		if (state_->has_objects())
-			detail::give_up("a hand ended before its tags");
+			detail::give_up("a hand was destroyed before its tags");
 		std::exchange(state_, nullptr)->leave();
 	}
 
@@ -1266,8 +1270,8 @@ private:
  * Pools
  */
 
-/// The tags that threads share, or empty. One that ends before its hands lives on until the last of
-/// them ends.
+/// The tags that threads share, or empty. If it is destroyed before its hands it stays open until
+/// the last of them is.
 class pool {
 public:
 	pool() noexcept = default;
@@ -1318,7 +1322,7 @@ public:
 	[[nodiscard]] hand join_in_place() { return joined_by(TAGS_STAY); }
 
 	/// Changes the number of tags to this, as many of them reserved as before, once all hands
-	/// have ended. The ordinary tags are new, with slots of 0; the reserved tags and the totals
+	/// have left. The ordinary tags are new, with slots of 0; the reserved tags and the totals
 	/// stay.
 	///
 	/// Errors: bad_handle, total_too_large, hands_out, no_memory; reserved_too_large if it is
@@ -1332,7 +1336,7 @@ public:
 	/// Errors: bad_handle.
 	void stop() { detail::check(try_stop()); }
 
-	/// Closes the pool once all hands have ended, and returns its totals: how many tags were
+	/// Closes the pool once all hands have left, and returns its totals: how many tags were
 	/// got and went back, and how many are held by hands that left, or posted. The object is
 	/// empty then.
 	///
@@ -1649,18 +1653,19 @@ private:
  */
 
 #ifdef __cpp_lib_coroutine
+/* for programs to test */
 #define TAGS_HAS_COROUTINES 1
 
 /// The coroutines that wait for tags of one hand, in the order in which their waits began:
 /// co_await listener.get() is a tag. It asks this of the program's event loop: when the eventfd
 /// that the listener was made with is readable, read it and call resume(), soon, on each listener
 /// that was made with it. The eventfd stays the program's, which makes it non-blocking and closes
-/// it after the listener has ended.
+/// it after the listener.
 ///
 /// A listener is used by one thread at a time, as its hand is, and coroutines are resumed on the
 /// thread that calls resume(). A coroutine that is destroyed while it waits waits no more: if it
 /// was to be resumed with a tag, the tag goes back, and if none is left that waits, the hand's wait
-/// is cancelled. A listener that ends while a coroutine waits ends the program by std::terminate();
+/// is cancelled. The destructor of a listener for which a coroutine waits calls std::terminate();
 /// so stop the pool and call resume(), or destroy the coroutines, before.
 class listener {
 	/// A place in one of the two lists, or a list, which is a ring.
@@ -1788,7 +1793,7 @@ public:
 	~listener()
 	{
 		if (!waiting_.is_alone() || !ready_.is_alone())
-			detail::give_up("a listener ended while a coroutine waits");
+			detail::give_up("a listener was destroyed while a coroutine waits");
 		if (hand_ != nullptr)
 			hand_->users--;
 	}

@@ -1,5 +1,5 @@
-// What ends the program, and says why: a hand that ends before what belongs to it. Each is tried in
-// a process of its own, which ends by std::terminate().
+// What ends the program, and says why: a hand that is destroyed before what belongs to it. Each is
+// tried in a process of its own, which ends by std::terminate().
 #include "check.hpp"
 
 #include <cstdlib>
@@ -40,7 +40,7 @@ static bool terminates(const char *line, Run run)
 
 static void a_hand_before_its_tag()
 {
-	const char *const line = "a hand ended before its tags";
+	const char *const line = "a hand was destroyed before its tags";
 	CHECK(terminates(line, [] {
 		tags::pool pool(sized(4, 1), ec);
 		tags::tag tag;
@@ -74,7 +74,7 @@ static void a_hand_before_its_tag()
 
 static void a_hand_before_its_wait()
 {
-	CHECK(terminates("a hand ended before its wait or listener", [] {
+	CHECK(terminates("a hand was destroyed before its wait or listener", [] {
 		tags::pool pool(sized(4, 1), ec);
 		tags::wait wait;
 		tags::hand hand = pool.join(ec);
@@ -110,13 +110,13 @@ static task wait_for_tag(tags::listener &listener)
 
 static void listeners()
 {
-	CHECK(terminates("a hand ended before its wait or listener", [] {
+	CHECK(terminates("a hand was destroyed before its wait or listener", [] {
 		tags::pool pool(sized(4, 1), ec);
 		std::optional<tags::listener> listener;
 		tags::hand hand = pool.join(ec);
 		listener.emplace(hand, 0);
 	}));
-	CHECK(terminates("a listener ended while a coroutine waits", [] {
+	CHECK(terminates("a listener was destroyed while a coroutine waits", [] {
 		tags::pool pool(sized(1, 1), ec);
 		tags::hand hand = pool.join(ec);
 		const tags::tag tag = *hand.get(ec);
