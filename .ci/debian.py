@@ -6,7 +6,7 @@ import subprocess
 import sys
 
 PACKAGES = {
-    "gcc": "gcc", "g++": "g++", "clang": "clang", "cargo": "cargo", "rustc": "rustc", "valgrind": "valgrind", "pkg-config": "pkg-config",
+    "gcc": "gcc", "g++": "g++", "clang": "clang", "clang++": "clang", "cargo": "cargo", "rustc": "rustc", "valgrind": "valgrind", "pkg-config": "pkg-config",
     "cmake": "cmake", "make": "make", "man": "man-db", "dpkg": "dpkg", "dpkg-deb": "dpkg", "tar": "tar", "ldconfig": "libc-bin",
     "spin": "spin", "qemu-aarch64": "qemu-user", "qemu-x86_64": "qemu-user", "aarch64-linux-gnu-g++": "g++-aarch64-linux-gnu",
     **dict.fromkeys("ar ld nm objcopy objdump readelf strip".split(), "binutils"),

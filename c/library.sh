@@ -1,6 +1,6 @@
 #!/usr/bin/env bash
 # library.sh build [--prove]: makes out/libtags.a beside this file: crates/tag_c, with what of the library is C.
-# library.sh install [--prove] PREFIX: makes it, and puts it, tags.h, tags.pc and a CMake package file below the prefix.
+# library.sh install [--prove] PREFIX: makes it, and puts it, tags.h, tags.hpp, tags.pc and CMake package files below the prefix.
 # library.sh uninstall PREFIX: removes them.
 # library.sh generate [FOLDER]: proves crates/tag_c and makes generated/, or FOLDER, of it, for x86-64 and 64-bit ARM.
 # library.sh dist: makes archives and Debian packages for x86-64 and 64-bit ARM, and those of tagplay, in dist/ beside this file.
@@ -178,7 +178,7 @@ filled() {
 
 # The files of an install.
 placed() {
-  echo "$include/tags.h" "$lib/libtags.a" "$lib/pkgconfig/tags.pc" "$lib/cmake/tags"/tagsConfig{,Version}.cmake
+  echo "$include/tags.h" "$include/tags.hpp" "$lib/libtags.a" "$lib/pkgconfig/tags.pc" "$lib/cmake/tags"/tagsConfig{,Version}.cmake
 }
 
 # Writes the files beside their places, which only then get their names: all of them, or none.
@@ -187,6 +187,7 @@ put() {
   folders "$1"
   if mkdir -p "$include" "$lib/pkgconfig" "$lib/cmake/tags" &&
     cp "$here/tags.h" "$include/tags.h.new" &&
+    cp "$here/tags.hpp" "$include/tags.hpp.new" &&
     cp "$out/libtags.a" "$lib/libtags.a.new" &&
     filled "$here/tags.pc.in" > "$lib/pkgconfig/tags.pc.new" &&
     filled "$here/package/tagsConfig.cmake.in" > "$lib/cmake/tags/tagsConfig.cmake.new" &&

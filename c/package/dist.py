@@ -26,7 +26,7 @@ from packing import (  # noqa: E402
 )
 
 SONAME = "libtags.so.0"
-EXAMPLES = ["quick_start.c", "io_queue.c", "event_loop.c", "copy_file.c"]
+EXAMPLES = ["quick_start.c", "io_queue.c", "event_loop.c", "copy_file.c", "quick_start.cpp", "io_queue.cpp", "coroutines.cpp"]
 
 
 def build(processor):
@@ -97,7 +97,7 @@ def make_packages(processor, proved, work):
         fields_of("libtags0", "pool of tags that threads share without a lock", ABOUT, Section="libs", Depends=f"libc6 (>= {libc})", **same),
         scripts,
     )
-    more = ABOUT + "\nThis package has the header, the static library and the manual, and a Rust\ncrate over it."
+    more = ABOUT + "\nThis package has the headers for C and C++, the static library and the manual,\nand a Rust crate over it."
     package(
         dev, processor,
         fields_of(

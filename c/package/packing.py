@@ -116,7 +116,7 @@ def crates_below(crate):
 def proved_text(crate, processor, verdict, kit):
     """What was proved, with which kit, of which commit."""
     parts = sorted(it for it in os.listdir(C) if it.endswith(".c"))
-    of_c = f"Written in C, and tested but not proved: {', '.join(parts)}, and the checks for NULL in tags.h.\n"
+    of_c = f"Written in C, and tested but not proved: {', '.join(parts)}, the checks for NULL in tags.h, and tags.hpp.\n"
     return f"""Proved: the crate {crate}, over these crates, each of which is proved:
     {' '.join(crates_below(crate))}
 With:      {kit}

@@ -109,14 +109,24 @@ def check_c(target):
                 run(f"{what}, on an old processor", [*OLDEST, program], wanted=expected(name), env=known)
 
 
+def has_plus(target):
+    return makes(f"{target.tools}g++", "c++", "#include <cstdio>\nint main() { std::puts(\"\"); }", target.runner)
+
+
 def check_plus(target):
-    if not makes(f"{target.tools}g++", "c++", "#include <cstdio>\nint main() { std::puts(\"\"); }", target.runner):
+    """tags.h in C++, and the examples over tags.hpp by pkg-config, shared and static."""
+    if not has_plus(target):
         return untested(f"C++ for {target.name} is", f"{target.tools}g++ makes no program here")
-    known, program = target.environment(), f"{target.work}/plus"
-    flags = out(["pkg-config", "--cflags", "--libs", "tags"], env=known).split()
-    command = [f"{target.tools}g++", "-std=c++17", "-Wall", "-Wextra", "-Werror", f"{HERE}/plus.cpp", "-o", program, *flags]
-    if run(f"{target.name}: build in C++", command):
-        run(f"{target.name}: C++", [*target.runner, program], wanted="done\n", env=known)
+    known, examples = target.environment(), f"{target.root}/usr/share/doc/libtags-dev/examples"
+    sources = {f"{HERE}/plus.cpp": "done\n"} | {f"{examples}/{it}.cpp": expected(it) for it in ("quick_start", "io_queue", "coroutines")}
+    for source, wanted in sources.items():
+        for kind, more, options in (("shared", [], []), ("static", ["--static"], ["-static"])):
+            program, what = f"{target.work}/plus", f"{target.name}: {os.path.basename(source)}, {kind}"
+            flags = out(["pkg-config", "--cflags", "--libs", *more, "tags"], env=known).split()
+            standard = "-std=c++20" if "coroutines" in source else "-std=c++17"
+            command = [f"{target.tools}g++", standard, "-O2", "-Wall", "-Wextra", "-Werror", source, "-o", program, *flags, *options]
+            if run(f"build of {what}", command):
+                run(what, [*target.runner, program], wanted=wanted, env=known)
 
 
 def check_cmake(target, prefix, what):
@@ -124,16 +134,21 @@ def check_cmake(target, prefix, what):
     folder = f"{target.work}/cmake_{what}"
     os.makedirs(folder)
     shutil.copy(f"{EXAMPLES}/quick_start.c", folder)
+    shutil.copy(f"{EXAMPLES}/quick_start.cpp", folder)
     shutil.copy(f"{HERE}/CMakeLists.txt", folder)
     with open(f"{prefix}/include/tags.h", encoding="utf-8") as file:
         version = ".".join(re.findall(r"^#define TAGS_VERSION_M\w+ (\d+)", file.read(), re.M))
     options = [f"-DCMAKE_PREFIX_PATH={prefix}", f"-DWANTED={version}"]
     if not target.is_native:
-        options += ["-DCMAKE_SYSTEM_NAME=Linux", f"-DCMAKE_C_COMPILER={target.tools}gcc"]
+        options += ["-DCMAKE_SYSTEM_NAME=Linux", f"-DCMAKE_C_COMPILER={target.tools}gcc", f"-DCMAKE_CXX_COMPILER={target.tools}g++"]
+    kinds = ["shared", "static"]
+    if has_plus(target):
+        options.append("-DPLUS=ON")
+        kinds += ["plus_shared", "plus_static"]
     name = f"{target.name}: {what} by CMake"
     if run(f"{name}: cmake", ["cmake", "-S", folder, "-B", f"{folder}/out", *options]):
         if run(f"{name}: cmake --build", ["cmake", "--build", f"{folder}/out"]):
-            for kind in ("shared", "static"):
+            for kind in kinds:
                 program = [*target.runner, f"{folder}/out/{kind}"]
                 run(f"{name}, {kind}", program, wanted=expected("quick_start"), env=target.environment())
     refused = ["cmake", "-S", folder, "-B", f"{folder}/other", *options, "-DWANTED=99.0"]

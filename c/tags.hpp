@@ -1,0 +1,1859 @@
+/*
+ * tags.hpp - tags.h for C++17: a pool of tags that threads share without a lock
+ *
+ * A tag is a small number with a slot of 64 bits for whoever holds it. A tags::pool has the
+ * tags. Each thread takes them through a tags::hand of its own, as objects of type tags::tag,
+ * whose destructor gives them back:
+ *
+ *	tags::pool pool(tags::options{16, 2});
+ *	tags::hand hand = pool.join();
+ *	if (std::optional<tags::tag> tag = hand.get())
+ *		tag->write(70);
+ *
+ * This header is the whole C++ part: inline functions over the calls of tags.h, which says
+ * what the library proves. A get and the destructor of its tag make the two calls that a
+ * program in C makes, and no others.
+ *
+ * Errors
+ *   A refused call changes nothing. Its reason is a tags::errc, of a category whose texts are
+ *   those of tags_strerror(). Each call that can be refused has two forms. One throws
+ *   tags::error, a std::system_error. The other takes a std::error_code as its last argument,
+ *   sets it to the reason or clears it, and throws nothing; if refused it returns an empty
+ *   object or 0. Without exceptions (-fno-exceptions) only the second one exists. That no tag
+ *   was found is no error: it is an empty std::optional.
+ *   Any call on an empty object (one that was moved from, say) is refused with bad_handle,
+ *   unless it says otherwise.
+ *
+ * Lifetimes
+ *   Pools, hands, tags and batches can be moved, and not copied. A hand can be moved while its
+ *   tags are out. The destructor of a hand returns it to its pool, with the tags that were
+ *   released: it still holds those when it joins again. So that no tag is lost unnoticed, the
+ *   destructor of a hand that still has tag, batch, wait or listener objects calls
+ *   std::terminate(), after a line on stderr; leave() refuses instead. If a pool is destroyed
+ *   before its hands it stays open until the last of them is. Only close() returns the totals:
+ *   a pool that was not closed is closed by its destructor, with any tags that are still
+ *   released or posted.
+ *
+ * Threads
+ *   Any thread may call any function of a pool at any time, except that nobody else may use a
+ *   pool that is moved, closed or destroyed. A hand, with its tags, batches, waits and
+ *   listeners, is used by one thread at a time. It may pass to another thread if a mutex, the
+ *   start of a thread or the like orders the two.
+ *
+ * Cancellation
+ *   get_blocking(), try_get_for() and try_get_until() are cancellation points while they sleep,
+ *   and none of the forms that sleep is noexcept. With glibc pthread_cancel() unwinds the
+ *   stack: destructors run, so the thread's tags go back and its hand leaves. Code that is
+ *   compiled without exceptions runs no destructors then: the tags stay held, and the hand
+ *   out. Cancel no thread there; pool::stop() ends its wait.
+ */
+#ifndef TAGS_HPP
+#define TAGS_HPP
+
+#include "tags.h"
+
+#include <atomic>
+#include <cassert>
+#include <chrono>
+#include <cstddef>
+#include <cstdint>
+#include <cstdio>
+#include <ctime>
+#include <exception>
+#include <memory>
+#include <mutex>
+#include <new>
+#include <optional>
+#include <string>
+#include <system_error>
+#include <type_traits>
+#include <utility>
+
+#if defined __cpp_impl_coroutine && __has_include(<coroutine>)
+#include <coroutine>
+#endif
+
+#ifdef __cpp_exceptions
+#define TAGS_THROWS 1
+#endif
+
+/* One category and one type of exception in all shared objects of a program. */
+#define TAGS_VISIBLE [[gnu::visibility("default")]]
+
+namespace tags {
+
+/*
+ * Errors
+ */
+
+/// Why a call was refused: the statuses of tags.h, which describes each.
+enum class errc : std::int32_t {
+	no_such_tag = TAGS_NO_SUCH_TAG,
+	no_reserved = TAGS_NO_RESERVED,
+	not_held = TAGS_NOT_HELD,
+	not_posted = TAGS_NOT_POSTED,
+	bad_count = TAGS_BAD_COUNT,
+	too_shallow = TAGS_TOO_SHALLOW,
+	spent = TAGS_SPENT,
+	waiting = TAGS_WAITING,
+	not_waiting = TAGS_NOT_WAITING,
+	no_tag = TAGS_NO_TAG,
+	again = TAGS_AGAIN,
+	bad_handle = TAGS_BAD_HANDLE,
+	not_empty = TAGS_NOT_EMPTY,
+	no_hand = TAGS_NO_HAND,
+	hands_out = TAGS_HANDS_OUT,
+	bad_kind = TAGS_BAD_KIND,
+	too_small = TAGS_TOO_SMALL,
+	bad_flag = TAGS_BAD_FLAG,
+	no_berth = TAGS_NO_BERTH,
+	hand_lost = TAGS_HAND_LOST,
+	no_memory = TAGS_NO_MEMORY,
+	total_too_large = TAGS_TOTAL_TOO_LARGE,
+	reserved_too_large = TAGS_RESERVED_TOO_LARGE,
+	shift_too_large = TAGS_SHIFT_TOO_LARGE,
+	bad_hand_count = TAGS_BAD_HAND_COUNT,
+	life_too_long = TAGS_LIFE_TOO_LONG,
+	cap_too_large = TAGS_CAP_TOO_LARGE,
+	null = TAGS_NULL,
+	in_use = TAGS_IN_USE,
+	hands_wait = TAGS_HANDS_WAIT,
+	timed_out = TAGS_TIMED_OUT,
+	bad_time = TAGS_BAD_TIME,
+	bad_event = TAGS_BAD_EVENT,
+	bad_shift = TAGS_BAD_SHIFT,
+	cache_too_large = TAGS_CACHE_TOO_LARGE,
+	stopped = TAGS_STOPPED
+};
+
+} // namespace tags
+
+template <>
+struct std::is_error_code_enum<tags::errc> : std::true_type {};
+
+namespace tags {
+
+namespace detail {
+
+class TAGS_VISIBLE category final : public std::error_category {
+public:
+	const char *name() const noexcept override { return "tags"; }
+
+	std::string message(int code) const override { return tags_strerror(code); }
+
+	std::error_condition default_error_condition(int code) const noexcept override
+	{
+		switch (code) {
+		case TAGS_NO_MEMORY:
+			return std::errc::not_enough_memory;
+		case TAGS_STOPPED:
+			return std::errc::operation_canceled;
+		default:
+			return std::error_condition(code, *this);
+		}
+	}
+};
+
+} // namespace detail
+
+/// The category of errc. Its texts are those of tags_strerror(). Its no_memory is equivalent to
+/// std::errc::not_enough_memory, and its stopped to std::errc::operation_canceled.
+TAGS_VISIBLE inline const std::error_category &category() noexcept
+{
+	// It is never destroyed, since other destructors at the end of the program may need it.
+	alignas(detail::category) static unsigned char room[sizeof(detail::category)];
+	static const std::error_category *const made = ::new (room) detail::category;
+	return *made;
+}
+
+/// For std::error_code: an errc converts to one.
+inline std::error_code make_error_code(errc code) noexcept
+{
+	return {static_cast<int>(code), category()};
+}
+
+/// What a refused call throws. Its what() is the text of the errc, which is its code().
+class TAGS_VISIBLE error : public std::system_error {
+public:
+	explicit error(errc code) : std::system_error(make_error_code(code)) {}
+};
+
+namespace detail {
+
+/// The reason that a status names. The only pointer here that is passed on and can be NULL is that
+/// of an empty object.
+inline errc reason(std::int32_t status) noexcept
+{
+	return static_cast<errc>(status == TAGS_NULL ? TAGS_BAD_HANDLE : status);
+}
+
+[[gnu::cold, gnu::noinline]] inline void set(std::error_code &ec, std::int32_t status) noexcept
+{
+	if (status < 0)
+		ec = reason(status);
+	else
+		ec.clear();
+}
+
+/// Sets the code to the reason if the status is negative, and clears it otherwise.
+inline void note(std::int32_t status, std::error_code &ec) noexcept
+{
+	if (status < 0 || ec)
+		set(ec, status);
+}
+
+#ifdef TAGS_THROWS
+[[noreturn, gnu::cold, gnu::noinline]] inline void fail(std::int32_t status)
+{
+	throw error(reason(status));
+}
+
+inline void check(std::int32_t status)
+{
+	if (status < 0)
+		fail(status);
+}
+#endif
+
+/// For what the comments below forbid.
+[[noreturn, gnu::cold, gnu::noinline]] inline void give_up(const char *what) noexcept
+{
+	std::fprintf(stderr, "tags.hpp: %s\n", what);
+	std::terminate();
+}
+
+/// Of a call that is only refused if a tag was given back behind its object's back.
+inline void expect(std::int32_t status) noexcept
+{
+	if (status < 0)
+		give_up("a tag was given back by other means than its object");
+}
+
+/// What a pool shares with its hands. It lives until the pool and all its hands are gone.
+struct opened {
+	tags_pool handle = TAGS_EMPTY;
+	/// Only one call at a time may use the handle, and the sizes change by one of them.
+	std::mutex lock;
+	std::uint32_t total = 0;
+	std::uint32_t reserved = 0;
+	std::atomic<std::uint32_t> owners{1};
+
+	void hold() noexcept { owners.fetch_add(1, std::memory_order_relaxed); }
+
+	void drop() noexcept
+	{
+		if (owners.fetch_sub(1, std::memory_order_acq_rel) > 1)
+			return;
+		// All hands have left, so this closes the pool, unless it was closed before.
+		tags_sums unused;
+		[[maybe_unused]] const std::int32_t status = tags_close(&handle, &unused);
+		delete this;
+	}
+};
+
+/// A hand that has joined. Its tags point to it, so it stays where it is when the hand is moved.
+struct joined {
+	static constexpr std::size_t words = TAGS_MAX_TOTAL / 64;
+
+	tags_hand handle = TAGS_EMPTY;
+	opened *pool = nullptr;
+	/// The listeners and waits that point to it.
+	std::uint32_t users = 0;
+	/// A bit for each tag that the hand holds and for which there is no object.
+	std::uint64_t loose[words] = {};
+
+	/// Of the tags of these bits, leaves the bits of those that the hand holds. Returns whether
+	/// any is left.
+	bool keep_held(std::uint64_t (&bits)[words]) noexcept
+	{
+		bool is_any = false;
+		for (std::uint32_t first = 0; first < TAGS_MAX_TOTAL; first += 64) {
+			std::uint64_t &word = bits[first / 64];
+			std::uint64_t left = word;
+			for (std::uint32_t at = first; left != 0; at++, left >>= 1) {
+				if ((left & 1) != 0 && tags_holds(&handle, at) != 1)
+					word &= ~(std::uint64_t{1} << at % 64);
+			}
+			is_any |= word != 0;
+		}
+		return is_any;
+	}
+
+	/// Notes which tags the hand has held since it left before.
+	void find_loose() noexcept
+	{
+		if (tags_busy(&handle, loose, words) > 0)
+			keep_held(loose);
+	}
+
+	/// Whether there is an object for a tag that the hand holds.
+	bool has_objects() noexcept
+	{
+		std::uint64_t bits[words];
+		if (tags_busy(&handle, bits, words) <= 0)
+			return false;
+		for (std::size_t i = 0; i < words; i++)
+			bits[i] &= ~loose[i];
+		return keep_held(bits);
+	}
+
+	bool is_loose(std::uint32_t tag) const noexcept
+	{
+		return tag < TAGS_MAX_TOTAL && (loose[tag / 64] >> tag % 64 & 1) != 0;
+	}
+
+	void let_go(std::uint32_t tag) noexcept { loose[tag / 64] |= std::uint64_t{1} << tag % 64; }
+
+	void tie(std::uint32_t tag) noexcept { loose[tag / 64] &= ~(std::uint64_t{1} << tag % 64); }
+
+	void leave() noexcept
+	{
+		tags_leave(&handle);
+		pool->drop();
+		delete this;
+	}
+};
+
+inline tags_hand *raw(joined *hand) noexcept { return hand != nullptr ? &hand->handle : nullptr; }
+
+/*
+ * Times, in nanoseconds. None is longer than the longest, 285 years.
+ */
+constexpr std::int64_t second = 1000000000;
+constexpr std::int64_t longest = 9000000000 * second;
+
+/// A duration, rounded towards 0, or the longest one on its side of 0. NaN is 0.
+template <class Rep, class Period>
+std::int64_t nanoseconds(const std::chrono::duration<Rep, Period> &time) noexcept
+{
+	using std::chrono::duration_cast;
+	constexpr double period = static_cast<double>(second) * static_cast<double>(Period::num) /
+				  static_cast<double>(Period::den);
+	const double about = static_cast<double>(time.count()) * period;
+	if (about >= static_cast<double>(longest))
+		return longest;
+	if (about <= -static_cast<double>(longest))
+		return -longest;
+	if (!(about > 0 || about < 0))
+		return 0;
+	// Seconds first: a cast of the whole could overflow on its way, as by a period of 1/60
+	// seconds.
+	const auto whole = duration_cast<std::chrono::seconds>(time);
+	const auto rest = duration_cast<std::chrono::nanoseconds>(time - whole);
+	return whole.count() * second + rest.count();
+}
+
+/// The time from one moment to another.
+inline std::int64_t difference(std::int64_t from, std::int64_t to) noexcept
+{
+	std::int64_t time = 0;
+	if (__builtin_sub_overflow(to, from, &time))
+		return to > from ? longest : -longest;
+	return time;
+}
+
+/// A moment of a clock of tags_get_timed(). What precedes its epoch has passed.
+inline std::timespec moment(std::int64_t since_epoch) noexcept
+{
+	std::timespec time = {};
+	if (since_epoch > 0) {
+		time.tv_sec = static_cast<std::time_t>(since_epoch / second);
+		time.tv_nsec = static_cast<long>(since_epoch % second);
+	}
+	return time;
+}
+
+inline std::int32_t get_timed(joined *hand, std::int32_t clock, std::int64_t since_epoch)
+{
+	const std::timespec deadline = moment(since_epoch);
+	return tags_get_timed(raw(hand), clock, &deadline);
+}
+
+/// Tries once, and looks at the clock only if that finds no tag.
+inline std::int32_t get_for(joined *hand, std::int64_t time)
+{
+	const std::int32_t answer = get_timed(hand, CLOCK_MONOTONIC, 0);
+	if (answer != TAGS_TIMED_OUT || time <= 0)
+		return answer;
+	const std::int64_t now = nanoseconds(std::chrono::steady_clock::now().time_since_epoch());
+	return get_timed(hand, CLOCK_MONOTONIC, time < longest - now ? now + time : longest);
+}
+
+template <class Clock, class Duration>
+std::int32_t get_until(joined *hand, const std::chrono::time_point<Clock, Duration> &deadline)
+{
+	const std::int64_t end = nanoseconds(deadline.time_since_epoch());
+	if constexpr (std::is_same_v<Clock, std::chrono::steady_clock>) {
+		return get_timed(hand, CLOCK_MONOTONIC, end);
+	} else if constexpr (std::is_same_v<Clock, std::chrono::system_clock>) {
+		return get_timed(hand, CLOCK_REALTIME, end);
+	} else {
+		// Nothing is known of how fast another clock goes, so it is looked at again.
+		for (;;) {
+			const std::int64_t left =
+				difference(nanoseconds(Clock::now().time_since_epoch()), end);
+			const std::int32_t answer = get_for(hand, left);
+			if (answer != TAGS_TIMED_OUT || left <= 0)
+				return answer;
+		}
+	}
+}
+
+} // namespace detail
+
+/*
+ * Options and reports
+ */
+
+/// The options of a pool. Set at least total and hands: options{16, 2} has 16 tags and 2 hands.
+struct options {
+	/// Number of tags, including the reserved ones, at most 10,240.
+	std::uint32_t total = 0;
+	/// Number of hands, 1 to 64.
+	std::uint32_t hands = 0;
+	/// How many of the tags are reserved for get_reserved(): tags 0 to reserved - 1.
+	std::uint32_t reserved = 0;
+	/// Binary logarithm of the tags per word, at most 6. By default the largest with which the
+	/// set still has 4 whole words, and 6 for fewer than 4 tags.
+	std::optional<std::uint32_t> shift = std::nullopt;
+	/// The least depth that get_shallow() accepts; 0 accepts any from 1.
+	std::uint32_t min_shallow = 0;
+	/// Whether a get starts after the tag that the hand won last, so that a tag is reused late.
+	bool round_robin = false;
+	/// How many of the tags that it gives back each hand may keep for its next gets, at most
+	/// 64; 0 for none. No other hand finds a kept tag until this one gives it back: see
+	/// hand::flush().
+	std::uint32_t cache = 0;
+	/// Whether a hand keeps tags only while it holds another one that it got. Then it never
+	/// has to flush.
+	bool keep_while_holding = false;
+
+	/// The same for tags_open().
+	tags_options native() const noexcept
+	{
+		tags_options made = TAGS_OPTIONS_INIT;
+		made.total = total;
+		made.reserved = reserved;
+		made.shift = TAGS_DEFAULT_SHIFT;
+		if (shift)
+			made.shift = *shift < 32 ? static_cast<std::int32_t>(*shift) : 32;
+		made.min_shallow = min_shallow;
+		made.hands = hands;
+		made.cache = cache;
+		if (round_robin)
+			made.flags |= TAGS_ROUND_ROBIN;
+		if (shift == 0U)
+			made.flags |= TAGS_ONE_PER_WORD;
+		if (keep_while_holding)
+			made.flags |= TAGS_KEEP_WHILE_HOLDING;
+		return made;
+	}
+};
+
+/// One of the two sets of a pool's tags.
+enum class kind : std::uint32_t {
+	/// the tags that hand::get() takes
+	ordinary = TAGS_ORDINARY,
+	/// the tags that hand::get_reserved() takes
+	reserved = TAGS_RESERVED
+};
+
+/// Sums over all hands of a pool: got == back + held + posted.
+using totals = ::tags_sums;
+/// The sizes of a set of tags.
+using sizes = ::tags_sizes;
+/// Counts of completions and of waiters.
+using counts = ::tags_counts;
+
+/*
+ * Tags
+ */
+
+/// A tag that a hand holds, or empty. Its destructor gives the tag back. Destroy it before its
+/// hand.
+class [[nodiscard]] tag {
+public:
+	tag() noexcept = default;
+
+	tag(tag &&other) noexcept
+		: hand_(std::exchange(other.hand_, nullptr)), number_(other.number_)
+	{}
+
+	/// Gives the tag that this object has back first, if it has one.
+	tag &operator=(tag &&other) noexcept
+	{
+		if (this != &other) {
+			clear();
+			hand_ = std::exchange(other.hand_, nullptr);
+			number_ = other.number_;
+		}
+		return *this;
+	}
+
+	~tag()
+	{
+		if (hand_ != nullptr)
+			detail::expect(tags_clear(&hand_->handle, number_));
+	}
+
+	/// Whether there is a tag.
+	explicit operator bool() const noexcept { return hand_ != nullptr; }
+
+	/// The number of the tag, below the pool's total. That of an empty object is unspecified.
+	std::uint32_t number() const noexcept { return number_; }
+
+	/// Gives the tag back now, if there is one. Whoever waits for a tag is told.
+	void clear() noexcept
+	{
+		if (hand_ != nullptr)
+			detail::expect(tags_clear(&std::exchange(hand_, nullptr)->handle, number_));
+	}
+
+	/// Lets go of the tag without giving it back, and returns its number. The hand still holds
+	/// it: hand::adopt() makes an object for the number again, as when it comes back with a
+	/// completion. An empty object stays so, and its number is unspecified.
+	[[nodiscard]] std::uint32_t release() noexcept
+	{
+		if (hand_ != nullptr)
+			std::exchange(hand_, nullptr)->let_go(number_);
+		return number_;
+	}
+
+#ifdef TAGS_THROWS
+	/// The value of the tag's slot. After a get it is unspecified until it is written; after a
+	/// take it is what the tag was posted with.
+	///
+	/// Errors: bad_handle.
+	std::uint64_t read() const
+	{
+		std::uint64_t value = 0;
+		detail::check(tags_read(detail::raw(hand_), number_, &value));
+		return value;
+	}
+
+	/// Writes the tag's slot, as with a number, or a pointer cast to std::uintptr_t. Returns
+	/// the former value.
+	///
+	/// Errors: bad_handle.
+	std::uint64_t write(std::uint64_t value)
+	{
+		std::uint64_t former = 0;
+		detail::check(tags_write(detail::raw(hand_), number_, value, &former));
+		return former;
+	}
+
+	/// Reads the tag's slot and gives the tag back, in one call. The object is empty then.
+	///
+	/// Errors: bad_handle.
+	std::uint64_t read_clear()
+	{
+		std::uint64_t value = 0;
+		detail::check(gone(tags_read_clear(detail::raw(hand_), number_, &value)));
+		return value;
+	}
+
+	/// Offers the tag, with its slot and what lies beside it, to all hands of the pool, and
+	/// returns its number: the first hand that takes it gets it. The object is empty then.
+	///
+	/// Errors: bad_handle.
+	std::uint32_t post()
+	{
+		detail::check(gone(tags_post(detail::raw(hand_), number_)));
+		return number_;
+	}
+#endif
+
+	std::uint64_t read(std::error_code &ec) const noexcept
+	{
+		std::uint64_t value = 0;
+		detail::note(tags_read(detail::raw(hand_), number_, &value), ec);
+		return value;
+	}
+
+	std::uint64_t write(std::uint64_t value, std::error_code &ec) noexcept
+	{
+		std::uint64_t former = 0;
+		detail::note(tags_write(detail::raw(hand_), number_, value, &former), ec);
+		return former;
+	}
+
+	std::uint64_t read_clear(std::error_code &ec) noexcept
+	{
+		std::uint64_t value = 0;
+		detail::note(gone(tags_read_clear(detail::raw(hand_), number_, &value)), ec);
+		return value;
+	}
+
+	std::uint32_t post(std::error_code &ec) noexcept
+	{
+		const std::int32_t status = gone(tags_post(detail::raw(hand_), number_));
+		detail::note(status, ec);
+		return status < 0 ? 0 : number_;
+	}
+
+private:
+	friend class hand;
+	friend class batch;
+	friend class listener;
+	template <class T>
+	friend class values;
+
+	tag(detail::joined *hand, std::uint32_t number) noexcept : hand_(hand), number_(number) {}
+
+	/// After a call that takes the tag away unless it is refused.
+	std::int32_t gone(std::int32_t status) noexcept
+	{
+		if (status >= 0)
+			hand_ = nullptr;
+		return status;
+	}
+
+	detail::joined *hand_ = nullptr;
+	std::uint32_t number_ = 0;
+};
+
+/// Tags of one word that a hand holds, or empty: a range of their numbers, in ascending order. Its
+/// destructor gives all of them back in one step. Destroy it before its hand.
+class [[nodiscard]] batch {
+public:
+	/// Goes over the numbers of a batch.
+	class iterator {
+	public:
+		using iterator_category = std::input_iterator_tag;
+		using value_type = std::uint32_t;
+		using difference_type = std::ptrdiff_t;
+		using pointer = const std::uint32_t *;
+		using reference = std::uint32_t;
+
+		std::uint32_t operator*() const noexcept { return first_ + lowest(left_); }
+
+		iterator &operator++() noexcept
+		{
+			left_ &= left_ - 1;
+			return *this;
+		}
+
+		iterator operator++(int) noexcept
+		{
+			const iterator before = *this;
+			left_ &= left_ - 1;
+			return before;
+		}
+
+		friend bool operator==(iterator one, iterator other) noexcept
+		{
+			return one.left_ == other.left_;
+		}
+
+		friend bool operator!=(iterator one, iterator other) noexcept
+		{
+			return one.left_ != other.left_;
+		}
+
+	private:
+		friend class batch;
+
+		iterator(std::uint32_t first, std::uint64_t left) noexcept
+			: first_(first), left_(left)
+		{}
+
+		std::uint32_t first_;
+		std::uint64_t left_;
+	};
+
+	batch() noexcept = default;
+
+	batch(batch &&other) noexcept
+		: hand_(other.hand_), first_(other.first_), mask_(std::exchange(other.mask_, 0))
+	{}
+
+	/// Gives the tags that this object has back first, if it has any.
+	batch &operator=(batch &&other) noexcept
+	{
+		if (this != &other) {
+			clear();
+			hand_ = other.hand_;
+			first_ = other.first_;
+			mask_ = std::exchange(other.mask_, 0);
+		}
+		return *this;
+	}
+
+	~batch() { clear(); }
+
+	/// Whether there is any tag.
+	explicit operator bool() const noexcept { return mask_ != 0; }
+
+	iterator begin() const noexcept { return {first_, mask_}; }
+	iterator end() const noexcept { return {first_, 0}; }
+
+	/// How many tags there are.
+	std::size_t size() const noexcept
+	{
+		return static_cast<std::size_t>(__builtin_popcountll(mask_));
+	}
+
+	/// Gives all tags back now. Whoever waits for a tag is told.
+	void clear() noexcept
+	{
+		if (mask_ != 0)
+			detail::expect(
+				tags_clear_run(&hand_->handle, first_, std::exchange(mask_, 0)));
+	}
+
+	/// Splits the first tag off, which is given back on its own. No tag: the batch is empty.
+	[[nodiscard]] std::optional<tag> pop() noexcept
+	{
+		if (mask_ == 0)
+			return std::nullopt;
+		const std::uint32_t number = first_ + lowest(mask_);
+		mask_ &= mask_ - 1;
+		return tag(hand_, number);
+	}
+
+private:
+	friend class hand;
+
+	batch(detail::joined *hand, std::uint32_t first, std::uint64_t mask) noexcept
+		: hand_(hand), first_(first), mask_(mask)
+	{}
+
+	static std::uint32_t lowest(std::uint64_t bits) noexcept
+	{
+		return static_cast<std::uint32_t>(__builtin_ctzll(bits));
+	}
+
+	detail::joined *hand_ = nullptr;
+	std::uint32_t first_ = 0;
+	/// Bit i is 1 if the tag first_ + i is one of them.
+	std::uint64_t mask_ = 0;
+};
+
+/// A hand's stay in a wait group, for programs that sleep by means of their own, or empty. Its
+/// destructor leaves the group. Destroy it before its hand.
+class [[nodiscard]] wait {
+public:
+	wait() noexcept = default;
+
+	wait(wait &&other) noexcept : hand_(std::exchange(other.hand_, nullptr)) {}
+
+	/// Leaves the group that this object is in first, if it is in one.
+	wait &operator=(wait &&other) noexcept
+	{
+		if (this != &other) {
+			finish();
+			hand_ = std::exchange(other.hand_, nullptr);
+		}
+		return *this;
+	}
+
+	~wait() { finish(); }
+
+	/// Whether the hand is in the group.
+	explicit operator bool() const noexcept { return hand_ != nullptr; }
+
+	/// Leaves the group, if the hand is in it. Returns whether the group had a granted wakeup,
+	/// which this call uses up.
+	bool finish() noexcept
+	{
+		if (hand_ == nullptr)
+			return false;
+		detail::joined *const hand = std::exchange(hand_, nullptr);
+		hand->users--;
+		std::int32_t answer = TAGS_AGAIN;
+		while (answer == TAGS_AGAIN)
+			answer = tags_finish(&hand->handle);
+		return answer == 1;
+	}
+
+private:
+	friend class hand;
+
+	explicit wait(detail::joined *hand) noexcept : hand_(hand) { hand_->users++; }
+
+	detail::joined *hand_ = nullptr;
+};
+
+/*
+ * Hands
+ */
+
+/// What a thread takes tags through, or empty. pool::join() makes one, and its destructor returns
+/// it to its pool. Tags that were released stay with it, and what it keeps in a cache goes back.
+class hand {
+public:
+	hand() noexcept = default;
+
+	hand(hand &&other) noexcept : state_(std::exchange(other.state_, nullptr)) {}
+
+	/// Returns the hand that this object has to its pool first, as the destructor does.
+	hand &operator=(hand &&other) noexcept
+	{
+		if (this != &other) {
+			end();
+			state_ = std::exchange(other.state_, nullptr);
+		}
+		return *this;
+	}
+
+	/// Calls std::terminate() if there still is a tag, batch, wait or listener of the hand. To
+	/// see that, it looks at each busy tag of the pool. A wait by get_async() ends.
+	~hand() { end(); }
+
+	/// Whether it has joined.
+	explicit operator bool() const noexcept { return state_ != nullptr; }
+
+	/// For the calls of tags.h: NULL if it is empty. Give back by them no tag that has an
+	/// object, and give back by them what you get by them, before the hand leaves.
+	tags_hand *native_handle() noexcept { return detail::raw(state_); }
+
+#ifdef TAGS_THROWS
+	/// Returns the hand to its pool, as the destructor does. The object is empty then.
+	///
+	/// Errors: bad_handle; in_use if there still is a tag or batch of the hand; waiting if
+	/// there is a wait or listener.
+	void leave() { detail::check(try_leave()); }
+
+	/// Takes a free ordinary tag. No tag: each was found taken at some moment of the call, not
+	/// all at one moment. If the hand keeps tags, it gets the lowest of those.
+	///
+	/// Errors: bad_handle, spent.
+	[[nodiscard]] std::optional<tag> get()
+	{
+		detail::joined *const state = state_;
+		return found(state, tags_get(detail::raw(state)));
+	}
+
+	/// Takes a free ordinary tag and writes its slot, in one call. No tag: as from get().
+	///
+	/// Errors: bad_handle, spent.
+	[[nodiscard]] std::optional<tag> get_write(std::uint64_t value)
+	{
+		return found(state_, tags_get_write(raw(), value));
+	}
+
+	/// Takes a free reserved tag. No tag: as from get(), of the reserved ones.
+	///
+	/// Errors: bad_handle, no_reserved, spent.
+	[[nodiscard]] std::optional<tag> get_reserved()
+	{
+		return found(state_, tags_get_reserved(raw()));
+	}
+
+	/// Takes a free ordinary tag out of a part of them, for requests of low priority: depth is
+	/// how many of the ordinary tags calls with this depth may use, at least 1. Each word has a
+	/// share of the depth in proportion to its tags, which can be 0. No tag: as from get(), of
+	/// that part.
+	///
+	/// Errors: bad_handle, too_shallow, spent.
+	[[nodiscard]] std::optional<tag> get_shallow(std::uint32_t depth)
+	{
+		return found(state_, tags_get_shallow(raw(), depth));
+	}
+
+	/// Takes up to n ordinary tags out of a run of n, where n is 1 to the number of tags per
+	/// word. The batch can be smaller than n, even while more tags are free. No batch: as from
+	/// get(); and always in a pool with round_robin.
+	///
+	/// Errors: bad_handle, bad_count, spent.
+	[[nodiscard]] std::optional<batch> get_batch(std::uint32_t n)
+	{
+		std::uint64_t won = 0;
+		const std::int32_t first = tags_get_batch(raw(), n, &won);
+		if (first < 0 && first != TAGS_NO_TAG)
+			detail::fail(first);
+		return won_batch(first, won);
+	}
+
+	/// Takes a free ordinary tag, and sleeps while there is none. Don't sleep while this thread
+	/// holds the tags that others wait for, nor while it keeps them. That a sleeper is woken is
+	/// tested and model-checked, not proved. While it sleeps it is a cancellation point.
+	///
+	/// Errors: bad_handle, spent, stopped; no_such_tag if the pool has no ordinary tag; waiting
+	/// if it would have to sleep and the hand waits already, by a wait, get_async() or a
+	/// listener.
+	tag get_blocking()
+	{
+		const std::int32_t answer = tags_get_blocking(raw());
+		detail::check(answer);
+		return tag(state_, static_cast<std::uint32_t>(answer));
+	}
+
+	/// Takes a free ordinary tag, and sleeps at most this long while there is none, by
+	/// std::chrono::steady_clock. No tag: the time is up. With a time of 0 or less, or NaN, it
+	/// tries once. No time is too long. While it sleeps it is a cancellation point.
+	///
+	/// Errors: as of get_blocking().
+	template <class Rep, class Period>
+	[[nodiscard]] std::optional<tag> try_get_for(const std::chrono::duration<Rep, Period> &time)
+	{
+		return found_in_time(state_, detail::get_for(state_, detail::nanoseconds(time)));
+	}
+
+	/// Takes a free ordinary tag, and sleeps until this moment while there is none. No tag: the
+	/// moment has come. If it has passed already, the call tries once. If
+	/// std::chrono::system_clock is set meanwhile, the sleep follows it. Any clock but that and
+	/// steady_clock is looked at again after the time that was left. While it sleeps it is a
+	/// cancellation point.
+	///
+	/// Errors: as of get_blocking().
+	template <class Clock, class Duration>
+	[[nodiscard]] std::optional<tag>
+	try_get_until(const std::chrono::time_point<Clock, Duration> &deadline)
+	{
+		return found_in_time(state_, detail::get_until(state_, deadline));
+	}
+
+	/// Takes a free ordinary tag, or has an eventfd of the program's notified of when to try
+	/// again. No tag: the hand now waits. Each tag that becomes free adds 1 to the eventfd of
+	/// the hand that has waited longest. When the eventfd is readable, read it and repeat the
+	/// call, soon, for each hand that waits for it, until it returns a tag or is refused; or
+	/// end the wait by cancel(); the hand's destructor ends it, too. Afterwards nothing is
+	/// written to the eventfd. Make it non-blocking. A listener does all this for coroutines.
+	///
+	/// Errors, after which the hand does not wait: bad_handle, spent, stopped; bad_event for a
+	/// descriptor below 0; no_such_tag if the pool has no ordinary tag; waiting if the hand has
+	/// a wait or a listener.
+	[[nodiscard]] std::optional<tag> get_async(int eventfd)
+	{
+		return found(state_, async(eventfd));
+	}
+
+	/// Ends a wait that get_async() began. If the hand was notified of a tag, another hand that
+	/// waits is notified in its place.
+	///
+	/// Errors: bad_handle, not_waiting; waiting if the hand has a wait or a listener.
+	void cancel() { detail::check(try_cancel()); }
+
+	/// Enters a wait group, for programs that sleep by means of their own. Try get() once more
+	/// before you sleep, and sleep for a limited time: see tags_prepare(). What the hand keeps
+	/// goes back first.
+	///
+	/// Errors: bad_handle, waiting.
+	wait prepare()
+	{
+		detail::check(tags_prepare(raw()));
+		return wait(state_);
+	}
+
+	/// Takes a tag that a hand of this pool has posted, with its slot. Whatever was written
+	/// before the post is seen after this call.
+	///
+	/// Errors: bad_handle, no_such_tag; not_posted if the tag is not posted, or another hand
+	/// took it first.
+	tag take(std::uint32_t number)
+	{
+		detail::check(tags_take(raw(), number));
+		return tag(state_, number);
+	}
+
+	/// Makes an object for a tag that was released: this hand holds it, and it has no object.
+	/// That includes the tags that the hand held when it left before.
+	///
+	/// Errors: bad_handle, no_such_tag; not_held for any other number of the pool.
+	tag adopt(std::uint32_t number)
+	{
+		detail::check(try_adopt(number));
+		return tag(state_, number);
+	}
+
+	/// Gives back ordinary tags that were released, 1 to 64 at once, each named once.
+	/// Consecutive ones of the list that belong to one word are given back in one step.
+	///
+	/// Errors, by which no tag is given back: bad_handle, bad_count, no_such_tag; not_held if
+	/// one is not held, has an object, or is named twice.
+	void clear_batch(const std::uint32_t *numbers, std::size_t count)
+	{
+		detail::check(try_clear_batch(numbers, count));
+	}
+
+	/// Whether this hand holds the tag.
+	///
+	/// Errors: bad_handle, no_such_tag.
+	bool holds(std::uint32_t number)
+	{
+		const std::int32_t answer = tags_holds(raw(), number);
+		detail::check(answer);
+		return answer == 1;
+	}
+
+	/// Gives all kept tags back, and tells those who wait. Call it before a thread whose hand
+	/// keeps tags goes idle or sleeps elsewhere. In a pool without a cache it does nothing.
+	///
+	/// Errors: bad_handle.
+	void flush() { detail::check(tags_flush(raw())); }
+
+	/// Reports which tags of both sets are busy, that is held, kept or posted, and returns how
+	/// many: bit t % 64 of into[t / 64] becomes 1 if tag t is busy, every other bit 0. While
+	/// other threads work this need not be true of any one moment. There are to be at least a
+	/// 64th as many words as tags.
+	///
+	/// Errors: bad_handle, too_small.
+	std::uint32_t busy(std::uint64_t *into, std::size_t words)
+	{
+		const std::int32_t answer = try_busy(into, words);
+		detail::check(answer);
+		return static_cast<std::uint32_t>(answer);
+	}
+
+	/// Reports the sizes of a set of tags, and how many of them are busy.
+	///
+	/// Errors: bad_handle.
+	sizes show(kind of)
+	{
+		sizes made = {};
+		detail::check(tags_show(raw(), static_cast<std::uint32_t>(of), &made));
+		return made;
+	}
+
+	/// Reports the counts of completions and of waiters.
+	///
+	/// Errors: bad_handle.
+	counts wakes()
+	{
+		counts made = {};
+		detail::check(tags_wakes(raw(), &made));
+		return made;
+	}
+#endif
+
+	void leave(std::error_code &ec) noexcept { detail::note(try_leave(), ec); }
+
+	[[nodiscard]] std::optional<tag> get(std::error_code &ec) noexcept
+	{
+		detail::joined *const state = state_;
+		return found(state, tags_get(detail::raw(state)), ec);
+	}
+
+	[[nodiscard]] std::optional<tag> get_write(std::uint64_t value,
+						   std::error_code &ec) noexcept
+	{
+		return found(state_, tags_get_write(raw(), value), ec);
+	}
+
+	[[nodiscard]] std::optional<tag> get_reserved(std::error_code &ec) noexcept
+	{
+		return found(state_, tags_get_reserved(raw()), ec);
+	}
+
+	[[nodiscard]] std::optional<tag> get_shallow(std::uint32_t depth,
+						     std::error_code &ec) noexcept
+	{
+		return found(state_, tags_get_shallow(raw(), depth), ec);
+	}
+
+	[[nodiscard]] std::optional<batch> get_batch(std::uint32_t n, std::error_code &ec) noexcept
+	{
+		std::uint64_t won = 0;
+		const std::int32_t first = tags_get_batch(raw(), n, &won);
+		detail::note(first == TAGS_NO_TAG ? TAGS_OK : first, ec);
+		return won_batch(first, won);
+	}
+
+	// The forms that sleep are not noexcept: a thread that is cancelled in them unwinds.
+
+	tag get_blocking(std::error_code &ec) { return owned(tags_get_blocking(raw()), ec); }
+
+	template <class Rep, class Period>
+	[[nodiscard]] std::optional<tag> try_get_for(const std::chrono::duration<Rep, Period> &time,
+						     std::error_code &ec)
+	{
+		return found_in_time(state_, detail::get_for(state_, detail::nanoseconds(time)),
+				     ec);
+	}
+
+	template <class Clock, class Duration>
+	[[nodiscard]] std::optional<tag>
+	try_get_until(const std::chrono::time_point<Clock, Duration> &deadline, std::error_code &ec)
+	{
+		return found_in_time(state_, detail::get_until(state_, deadline), ec);
+	}
+
+	[[nodiscard]] std::optional<tag> get_async(int eventfd, std::error_code &ec) noexcept
+	{
+		return found(state_, async(eventfd), ec);
+	}
+
+	void cancel(std::error_code &ec) noexcept { detail::note(try_cancel(), ec); }
+
+	wait prepare(std::error_code &ec) noexcept
+	{
+		const std::int32_t status = tags_prepare(raw());
+		detail::note(status, ec);
+		return status < 0 ? wait() : wait(state_);
+	}
+
+	tag take(std::uint32_t number, std::error_code &ec) noexcept
+	{
+		const std::int32_t status = tags_take(raw(), number);
+		detail::note(status, ec);
+		return status < 0 ? tag() : tag(state_, number);
+	}
+
+	tag adopt(std::uint32_t number, std::error_code &ec) noexcept
+	{
+		const std::int32_t status = try_adopt(number);
+		detail::note(status, ec);
+		return status < 0 ? tag() : tag(state_, number);
+	}
+
+	void clear_batch(const std::uint32_t *numbers, std::size_t count,
+			 std::error_code &ec) noexcept
+	{
+		detail::note(try_clear_batch(numbers, count), ec);
+	}
+
+	bool holds(std::uint32_t number, std::error_code &ec) noexcept
+	{
+		const std::int32_t answer = tags_holds(raw(), number);
+		detail::note(answer, ec);
+		return answer == 1;
+	}
+
+	void flush(std::error_code &ec) noexcept { detail::note(tags_flush(raw()), ec); }
+
+	std::uint32_t busy(std::uint64_t *into, std::size_t words, std::error_code &ec) noexcept
+	{
+		const std::int32_t answer = try_busy(into, words);
+		detail::note(answer, ec);
+		return answer < 0 ? 0 : static_cast<std::uint32_t>(answer);
+	}
+
+	sizes show(kind of, std::error_code &ec) noexcept
+	{
+		sizes made = {};
+		detail::note(tags_show(raw(), static_cast<std::uint32_t>(of), &made), ec);
+		return made;
+	}
+
+	counts wakes(std::error_code &ec) noexcept
+	{
+		counts made = {};
+		detail::note(tags_wakes(raw(), &made), ec);
+		return made;
+	}
+
+private:
+	friend class pool;
+	friend class listener;
+
+	explicit hand(detail::joined *state) noexcept : state_(state) {}
+
+	tags_hand *raw() const noexcept { return detail::raw(state_); }
+
+	void end() noexcept
+	{
+		if (state_ == nullptr)
+			return;
+		if (state_->users > 0)
+			detail::give_up("a hand was destroyed before its wait or listener");
+		if (state_->has_objects())
+			detail::give_up("a hand was destroyed before its tags");
+		std::exchange(state_, nullptr)->leave();
+	}
+
+	std::int32_t try_leave() noexcept
+	{
+		if (state_ == nullptr)
+			return TAGS_BAD_HANDLE;
+		if (state_->users > 0)
+			return TAGS_WAITING;
+		if (state_->has_objects())
+			return TAGS_IN_USE;
+		std::exchange(state_, nullptr)->leave();
+		return TAGS_OK;
+	}
+
+	std::int32_t async(int eventfd) noexcept
+	{
+		if (state_ != nullptr && state_->users > 0)
+			return TAGS_WAITING;
+		return tags_get_async(raw(), eventfd);
+	}
+
+	std::int32_t try_cancel() noexcept
+	{
+		if (state_ != nullptr && state_->users > 0)
+			return TAGS_WAITING;
+		return tags_cancel(raw());
+	}
+
+	std::int32_t try_adopt(std::uint32_t number) noexcept
+	{
+		const std::int32_t answer = tags_holds(raw(), number);
+		if (answer < 0)
+			return answer;
+		if (answer == 0 || !state_->is_loose(number))
+			return TAGS_NOT_HELD;
+		state_->tie(number);
+		return TAGS_OK;
+	}
+
+	std::int32_t try_clear_batch(const std::uint32_t *numbers, std::size_t count) noexcept
+	{
+		if (state_ == nullptr)
+			return TAGS_BAD_HANDLE;
+		if (numbers == nullptr || count == 0 || count > TAGS_MAX_BATCH)
+			return TAGS_BAD_COUNT;
+		// The library looks for the other causes; what it does not know is which tags have
+		// objects.
+		bool are_loose = true;
+		for (std::size_t i = 0; i < count; i++) {
+			const std::int32_t answer = tags_holds(raw(), numbers[i]);
+			if (answer < 0 || numbers[i] < state_->pool->reserved)
+				return TAGS_NO_SUCH_TAG;
+			are_loose &= answer == 1 && state_->is_loose(numbers[i]);
+		}
+		if (!are_loose)
+			return TAGS_NOT_HELD;
+		const std::int32_t answer = tags_clear_batch(raw(), numbers, count);
+		for (std::size_t i = 0; answer >= 0 && i < count; i++)
+			state_->tie(numbers[i]);
+		return answer;
+	}
+
+	std::int32_t try_busy(std::uint64_t *into, std::size_t words) noexcept
+	{
+		if (state_ != nullptr && into == nullptr)
+			return TAGS_TOO_SMALL;
+		return tags_busy(raw(), into, words);
+	}
+
+	std::optional<batch> won_batch(std::int32_t first, std::uint64_t won) const noexcept
+	{
+		if (first < 0)
+			return std::nullopt;
+		return batch(state_, static_cast<std::uint32_t>(first), won);
+	}
+
+	static std::optional<tag> found(detail::joined *state, std::int32_t answer,
+					std::error_code &ec) noexcept
+	{
+		detail::note(answer == TAGS_NO_TAG ? TAGS_OK : answer, ec);
+		if (answer < 0)
+			return std::nullopt;
+		return tag(state, static_cast<std::uint32_t>(answer));
+	}
+
+	static std::optional<tag> found_in_time(detail::joined *state, std::int32_t answer,
+						std::error_code &ec) noexcept
+	{
+		return found(state, answer == TAGS_TIMED_OUT ? TAGS_NO_TAG : answer, ec);
+	}
+
+	tag owned(std::int32_t answer, std::error_code &ec) const noexcept
+	{
+		detail::note(answer, ec);
+		return answer < 0 ? tag() : tag(state_, static_cast<std::uint32_t>(answer));
+	}
+
+#ifdef TAGS_THROWS
+	static std::optional<tag> found(detail::joined *state, std::int32_t answer)
+	{
+		if (answer >= 0)
+			return tag(state, static_cast<std::uint32_t>(answer));
+		if (answer != TAGS_NO_TAG)
+			detail::fail(answer);
+		return std::nullopt;
+	}
+
+	static std::optional<tag> found_in_time(detail::joined *state, std::int32_t answer)
+	{
+		return found(state, answer == TAGS_TIMED_OUT ? TAGS_NO_TAG : answer);
+	}
+#endif
+
+	detail::joined *state_ = nullptr;
+};
+
+/*
+ * Pools
+ */
+
+/// The tags that threads share, or empty. If it is destroyed before its hands it stays open until
+/// the last of them is.
+class pool {
+public:
+	pool() noexcept = default;
+
+	pool(pool &&other) noexcept : shared_(std::exchange(other.shared_, nullptr)) {}
+
+	pool &operator=(pool &&other) noexcept
+	{
+		if (this != &other) {
+			end();
+			shared_ = std::exchange(other.shared_, nullptr);
+		}
+		return *this;
+	}
+
+	~pool() { end(); }
+
+	/// Whether it is open.
+	explicit operator bool() const noexcept { return shared_ != nullptr; }
+
+	/// Number of tags, including the reserved ones; 0 if it is empty.
+	std::uint32_t total() const noexcept { return sized().first; }
+
+	/// Number of reserved tags: 0 to reserved() - 1; 0 if it is empty.
+	std::uint32_t reserved() const noexcept { return sized().second; }
+
+	/// For the calls of tags.h: NULL if it is empty. No other thread may call this pool
+	/// meanwhile.
+	tags_pool *native_handle() noexcept
+	{
+		return shared_ != nullptr ? &shared_->handle : nullptr;
+	}
+
+#ifdef TAGS_THROWS
+	/// Opens a pool. All tags are free, and all slots are 0.
+	///
+	/// Errors: cache_too_large, total_too_large, reserved_too_large, shift_too_large,
+	/// bad_hand_count, no_memory.
+	explicit pool(const options &asked) { detail::check(open(asked)); }
+
+	/// Returns a hand for one thread. Its gets start in its own part of the tags, which reduces
+	/// contention.
+	///
+	/// Errors: bad_handle, no_memory; no_hand if all hands are out.
+	[[nodiscard]] hand join() { return joined_by(0); }
+
+	/// The same, but the hand's next get starts where its last one left off, or at tag 0.
+	[[nodiscard]] hand join_in_place() { return joined_by(TAGS_STAY); }
+
+	/// Changes the number of tags to this, as many of them reserved as before, once all hands
+	/// have left. The ordinary tags are new, with slots of 0; the reserved tags and the totals
+	/// stay.
+	///
+	/// Errors: bad_handle, total_too_large, hands_out, no_memory; reserved_too_large if it is
+	/// below the number of reserved tags; in_use if a tag is still held or posted.
+	void resize(std::uint32_t total) { detail::check(try_resize(total)); }
+
+	/// Ends every wait for a tag, now and from now on, as for a shutdown. Who waits is woken,
+	/// and refused with stopped; so is who begins to wait, even while a tag is free. A call
+	/// that was waiting may still return a tag. All other calls work as before.
+	///
+	/// Errors: bad_handle.
+	void stop() { detail::check(try_stop()); }
+
+	/// Closes the pool once all hands have left, and returns its totals: how many tags were
+	/// got and went back, and how many are held by hands that left, or posted. The object is
+	/// empty then.
+	///
+	/// Errors: bad_handle, hands_out.
+	totals close()
+	{
+		totals sums = {};
+		detail::check(try_close(sums));
+		return sums;
+	}
+#endif
+
+	pool(const options &asked, std::error_code &ec) noexcept { detail::note(open(asked), ec); }
+
+	[[nodiscard]] hand join(std::error_code &ec) noexcept
+	{
+		hand made;
+		detail::note(try_join(made, 0), ec);
+		return made;
+	}
+
+	[[nodiscard]] hand join_in_place(std::error_code &ec) noexcept
+	{
+		hand made;
+		detail::note(try_join(made, TAGS_STAY), ec);
+		return made;
+	}
+
+	void resize(std::uint32_t total, std::error_code &ec) noexcept
+	{
+		detail::note(try_resize(total), ec);
+	}
+
+	void stop(std::error_code &ec) noexcept { detail::note(try_stop(), ec); }
+
+	totals close(std::error_code &ec) noexcept
+	{
+		totals sums = {};
+		detail::note(try_close(sums), ec);
+		return sums;
+	}
+
+private:
+	using locked = std::lock_guard<std::mutex>;
+
+	template <class T>
+	friend class values;
+
+#ifdef TAGS_THROWS
+	hand joined_by(std::uint32_t flags)
+	{
+		hand made;
+		detail::check(try_join(made, flags));
+		return made;
+	}
+#endif
+
+	std::int32_t open(const options &asked) noexcept
+	{
+		const tags_options native = asked.native();
+		std::unique_ptr<detail::opened> made(new (std::nothrow) detail::opened);
+		if (!made)
+			return TAGS_NO_MEMORY;
+		const std::int32_t status = tags_open(&made->handle, &native);
+		if (status != TAGS_OK)
+			return status;
+		made->total = asked.total;
+		made->reserved = asked.reserved;
+		shared_ = made.release();
+		return TAGS_OK;
+	}
+
+	std::int32_t try_join(hand &made, std::uint32_t flags) noexcept
+	{
+		if (shared_ == nullptr)
+			return TAGS_BAD_HANDLE;
+		std::unique_ptr<detail::joined> state(new (std::nothrow) detail::joined);
+		if (!state)
+			return TAGS_NO_MEMORY;
+		{
+			const locked lock(shared_->lock);
+			const std::int32_t status =
+				tags_join(&shared_->handle, &state->handle, flags);
+			if (status != TAGS_OK)
+				return status;
+		}
+		shared_->hold();
+		state->pool = shared_;
+		state->find_loose();
+		made = hand(state.release());
+		return TAGS_OK;
+	}
+
+	std::int32_t try_resize(std::uint32_t total) noexcept
+	{
+		if (shared_ == nullptr)
+			return TAGS_BAD_HANDLE;
+		const locked lock(shared_->lock);
+		const std::int32_t status = tags_resize(&shared_->handle, total);
+		if (status == TAGS_OK)
+			shared_->total = total;
+		return status;
+	}
+
+	std::int32_t try_stop() noexcept
+	{
+		if (shared_ == nullptr)
+			return TAGS_BAD_HANDLE;
+		const locked lock(shared_->lock);
+		return tags_stop(&shared_->handle);
+	}
+
+	std::int32_t try_close(totals &sums) noexcept
+	{
+		if (shared_ == nullptr)
+			return TAGS_BAD_HANDLE;
+		std::int32_t status;
+		{
+			const locked lock(shared_->lock);
+			status = tags_close(&shared_->handle, &sums);
+		}
+		if (status == TAGS_OK)
+			end();
+		return status;
+	}
+
+	std::pair<std::uint32_t, std::uint32_t> sized() const noexcept
+	{
+		if (shared_ == nullptr)
+			return {0, 0};
+		const locked lock(shared_->lock);
+		return {shared_->total, shared_->reserved};
+	}
+
+	void end() noexcept
+	{
+		if (shared_ != nullptr)
+			std::exchange(shared_, nullptr)->drop();
+	}
+
+	detail::opened *shared_ = nullptr;
+};
+
+/*
+ * A value beside each tag
+ */
+
+/// A value of type T beside each tag of a pool, such as a buffer or a request, for whoever holds
+/// the tag. It stays when its tag goes back, and passes with a tag that is posted. Any thread may
+/// look up the value of a tag that it holds, and no lock is taken: the library gives a tag to one
+/// hand at a time, and what its former holder wrote is seen by the next one.
+template <class T>
+class values {
+public:
+	values() noexcept = default;
+	values(values &&other) noexcept { swap(other); }
+
+	values &operator=(values &&other) noexcept
+	{
+		values(std::move(other)).swap(*this);
+		return *this;
+	}
+
+	~values()
+	{
+		while (to_ > from_)
+			values_[--to_].~T();
+		::operator delete(static_cast<void *>(values_), std::align_val_t(alignof(T)));
+	}
+
+#ifdef TAGS_THROWS
+	/// Makes a value T() for each tag of the pool.
+	///
+	/// Errors: bad_handle if the pool is empty, no_memory.
+	explicit values(const pool &of) : values(of, &none) {}
+
+	/// Makes a value for each tag of the pool, which make returns for the tag's number. T need
+	/// not be movable.
+	///
+	/// Errors: bad_handle if the pool is empty, no_memory; and what make throws.
+	template <class Make>
+	values(const pool &of, Make make)
+	{
+		detail::check(fill(of, 0, make));
+	}
+
+	/// The value beside a tag.
+	///
+	/// Errors: no_such_tag if the tag is empty, or one of another pool.
+	T &at(const tag &held) const
+	{
+		if (!has(held))
+			detail::fail(TAGS_NO_SUCH_TAG);
+		return values_[held.number_];
+	}
+
+	/// After pool::resize(): makes new values for the ordinary tags. The reserved tags keep
+	/// theirs. If this fails all values are as before.
+	///
+	/// Errors: bad_handle if the pool is empty, no_memory; no_such_tag for another pool than
+	/// before; and what make throws.
+	void resize(const pool &of) { resize(of, &none); }
+
+	template <class Make, class = std::enable_if_t<std::is_invocable_v<Make &, std::uint32_t>>>
+	void resize(const pool &of, Make make)
+	{
+		detail::check(refill(of, make));
+	}
+#endif
+
+	// These throw nothing but what make throws.
+
+	values(const pool &of, std::error_code &ec) : values(of, &none, ec) {}
+
+	template <class Make>
+	values(const pool &of, Make make, std::error_code &ec)
+	{
+		detail::note(fill(of, 0, make), ec);
+	}
+
+	/// NULL if it is refused.
+	T *at(const tag &held, std::error_code &ec) const noexcept
+	{
+		const bool is_here = has(held);
+		detail::note(is_here ? TAGS_OK : TAGS_NO_SUCH_TAG, ec);
+		return is_here ? &values_[held.number_] : nullptr;
+	}
+
+	void resize(const pool &of, std::error_code &ec) { resize(of, &none, ec); }
+
+	template <class Make>
+	void resize(const pool &of, Make make, std::error_code &ec)
+	{
+		detail::note(refill(of, make), ec);
+	}
+
+	/// The value beside a tag of this pool. Nothing is checked but by assert().
+	T &operator[](const tag &held) const noexcept
+	{
+		assert(has(held));
+		return values_[held.number_];
+	}
+
+	/// How many values there are: the pool's total when they were made.
+	std::size_t size() const noexcept { return to_; }
+
+	void swap(values &other) noexcept
+	{
+		std::swap(pool_, other.pool_);
+		std::swap(values_, other.values_);
+		std::swap(from_, other.from_);
+		std::swap(to_, other.to_);
+	}
+
+private:
+	static T none(std::uint32_t) { return T(); }
+
+	bool has(const tag &held) const noexcept
+	{
+		return held.hand_ != nullptr && held.hand_->pool == pool_ && held.number_ < to_;
+	}
+
+	/// Makes the values from this tag on.
+	template <class Make>
+	std::int32_t fill(const pool &of, std::uint32_t from, Make &make)
+	{
+		if (of.shared_ == nullptr)
+			return TAGS_BAD_HANDLE;
+		const std::uint32_t total = of.total();
+		const std::align_val_t alignment{alignof(T)};
+		values made;
+		made.values_ = static_cast<T *>(
+			::operator new(total * sizeof(T), alignment, std::nothrow));
+		if (made.values_ == nullptr)
+			return TAGS_NO_MEMORY;
+		made.pool_ = of.shared_;
+		made.from_ = from;
+		for (made.to_ = from; made.to_ < total; made.to_++)
+			::new (static_cast<void *>(made.values_ + made.to_)) T(make(made.to_));
+		swap(made);
+		return TAGS_OK;
+	}
+
+	template <class Make>
+	std::int32_t refill(const pool &of, Make &make)
+	{
+		static_assert(std::is_nothrow_move_constructible_v<T>,
+			      "the values of reserved tags are moved: make a new object instead");
+		if (of.shared_ != nullptr && of.shared_ != pool_)
+			return TAGS_NO_SUCH_TAG;
+		values made;
+		const std::int32_t status = made.fill(of, of.reserved(), make);
+		if (status != TAGS_OK)
+			return status;
+		while (made.from_ > 0) {
+			made.from_--;
+			::new (static_cast<void *>(made.values_ + made.from_))
+				T(std::move(values_[made.from_]));
+		}
+		swap(made);
+		return TAGS_OK;
+	}
+
+	/// The pool, to tell its tags from others; nothing is called on it.
+	const detail::opened *pool_ = nullptr;
+	T *values_ = nullptr;
+	/// Those that have been made: all, except while they are made.
+	std::uint32_t from_ = 0;
+	std::uint32_t to_ = 0;
+};
+
+/*
+ * Coroutines
+ */
+
+#ifdef __cpp_lib_coroutine
+/* for programs to test */
+#define TAGS_HAS_COROUTINES 1
+
+/// The coroutines that wait for tags of one hand, in the order in which their waits began:
+/// co_await listener.get() is a tag. It asks this of the program's event loop: when the eventfd
+/// that the listener was made with is readable, read it and call resume(), soon, on each listener
+/// that was made with it. The eventfd stays the program's, which makes it non-blocking and closes
+/// it after the listener.
+///
+/// A listener is used by one thread at a time, as its hand is, and coroutines are resumed on the
+/// thread that calls resume(). A coroutine that is destroyed while it waits waits no more: if it
+/// was to be resumed with a tag, the tag goes back, and if none is left that waits, the hand's wait
+/// is cancelled. The destructor of a listener for which a coroutine waits calls std::terminate();
+/// so stop the pool and call resume(), or destroy the coroutines, before.
+class listener {
+	/// A place in one of the two lists, or a list, which is a ring.
+	struct link {
+		link *next = this;
+		link *previous = this;
+
+		link() noexcept = default;
+		link(const link &) = delete;
+		link &operator=(const link &) = delete;
+
+		bool is_alone() const noexcept { return next == this; }
+
+		void put_before(link &other) noexcept
+		{
+			next = &other;
+			previous = other.previous;
+			previous->next = this;
+			other.previous = this;
+		}
+
+		void take_out() noexcept
+		{
+			next->previous = previous;
+			previous->next = next;
+			next = previous = this;
+		}
+	};
+
+public:
+	/// A coroutine's wait.
+	class waiter : link {
+	public:
+		waiter(const waiter &) = delete;
+		waiter &operator=(const waiter &) = delete;
+
+		/// Tries, unless others wait already.
+		bool await_ready() noexcept
+		{
+			if (listener_->waiting_.is_alone())
+				set(listener_->try_or_wait());
+			return answer_ != TAGS_NO_TAG;
+		}
+
+		void await_suspend(std::coroutine_handle<> coroutine) noexcept
+		{
+			coroutine_ = coroutine;
+			put_before(listener_->waiting_);
+		}
+
+	protected:
+		explicit waiter(listener *from) noexcept : listener_(from) {}
+
+		~waiter()
+		{
+			const bool is_listed = !is_alone();
+			take_out();
+			if (is_listed && answer_ == TAGS_NO_TAG)
+				listener_->end_wait();
+		}
+
+		std::int32_t answer_ = TAGS_NO_TAG;
+		tag tag_;
+
+	private:
+		friend class listener;
+
+		void set(std::int32_t answer) noexcept
+		{
+			answer_ = answer;
+			if (answer >= 0)
+				tag_ = tag(listener_->hand_, static_cast<std::uint32_t>(answer));
+		}
+
+		listener *listener_;
+		std::coroutine_handle<> coroutine_;
+	};
+
+#ifdef TAGS_THROWS
+	/// What get() returns, to be awaited at once.
+	class [[nodiscard]] awaiter final : public waiter {
+	public:
+		tag await_resume()
+		{
+			detail::check(answer_);
+			return std::move(tag_);
+		}
+
+	private:
+		friend class listener;
+
+		explicit awaiter(listener *from) noexcept : waiter(from) {}
+	};
+#endif
+
+	/// What get() with a code returns, to be awaited at once.
+	class [[nodiscard]] awaiter_with_code final : public waiter {
+	public:
+		tag await_resume() noexcept
+		{
+			detail::note(answer_, code_);
+			return std::move(tag_);
+		}
+
+	private:
+		friend class listener;
+
+		awaiter_with_code(listener *from, std::error_code &ec) noexcept
+			: waiter(from), code_(ec)
+		{}
+
+		std::error_code &code_;
+	};
+
+	/// The coroutines wait with this hand, and the eventfd is notified.
+	listener(hand &with, int eventfd) noexcept : hand_(with.state_), eventfd_(eventfd)
+	{
+		if (hand_ != nullptr)
+			hand_->users++;
+	}
+
+	listener(const listener &) = delete;
+	listener &operator=(const listener &) = delete;
+
+	~listener()
+	{
+		if (!waiting_.is_alone() || !ready_.is_alone())
+			detail::give_up("a listener was destroyed while a coroutine waits");
+		if (hand_ != nullptr)
+			hand_->users--;
+	}
+
+#ifdef TAGS_THROWS
+	/// Takes a free ordinary tag when it is awaited, and suspends the coroutine while there is
+	/// none or others wait already.
+	///
+	/// Errors: as of hand::get_async(), except waiting: if the hand waits by prepare().
+	awaiter get() noexcept { return awaiter(this); }
+#endif
+
+	/// The same: ec is set to the error or cleared, and the tag is empty if there is an error.
+	/// ec has to live until the coroutine goes on.
+	awaiter_with_code get(std::error_code &ec) noexcept { return {this, ec}; }
+
+	/// Resumes the coroutines for which there is a tag or an error, in the order of their
+	/// waits. If one of them lets an exception out, it comes out here: call this again for the
+	/// others.
+	void resume()
+	{
+		// All of them are taken out first, so that whatever a coroutine does, the hand
+		// waits if and only if one of the others still does.
+		while (!waiting_.is_alone()) {
+			const std::int32_t answer = try_or_wait();
+			if (answer == TAGS_NO_TAG)
+				break;
+			waiter &first = static_cast<waiter &>(*waiting_.next);
+			first.set(answer);
+			first.take_out();
+			first.put_before(ready_);
+		}
+		while (!ready_.is_alone()) {
+			waiter &first = static_cast<waiter &>(*ready_.next);
+			first.take_out();
+			first.coroutine_.resume();
+		}
+	}
+
+private:
+	std::int32_t try_or_wait() noexcept { return tags_get_async(detail::raw(hand_), eventfd_); }
+
+	/// After a waiter was taken out.
+	void end_wait() noexcept
+	{
+		if (waiting_.is_alone())
+			tags_cancel(detail::raw(hand_));
+	}
+
+	detail::joined *hand_;
+	int eventfd_;
+	link waiting_;
+	/// Those that have an answer and were not resumed yet.
+	link ready_;
+};
+#endif
+
+} // namespace tags
+
+#undef TAGS_VISIBLE
+#undef TAGS_THROWS
+
+#endif

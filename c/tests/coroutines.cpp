@@ -1,0 +1,434 @@
+// Coroutines that wait for tags with a listener: in turn, beside threads that sleep, destroyed
+// while they wait and while they are to be resumed, refused, stopped. It needs C++20, and compiles
+// without exceptions too.
+#include "check.hpp"
+
+#ifdef TAGS_HAS_COROUTINES
+#include <deque>
+#include <exception>
+#include <memory>
+#include <poll.h>
+#include <sys/eventfd.h>
+#include <thread>
+#include <unistd.h>
+#include <vector>
+
+using tags::errc;
+
+static std::error_code failure;
+
+// A coroutine that begins at once, and whose end destroys it where it stands.
+class task {
+public:
+	struct promise_type {
+		task get_return_object() { return task(handle::from_promise(*this)); }
+		std::suspend_never initial_suspend() noexcept { return {}; }
+		std::suspend_always final_suspend() noexcept { return {}; }
+		void return_void() noexcept {}
+#ifdef __cpp_exceptions
+		void unhandled_exception() { throw; }
+#else
+		void unhandled_exception() noexcept {}
+#endif
+	};
+
+	task(task &&other) noexcept : handle_(std::exchange(other.handle_, nullptr)) {}
+	task &operator=(task &&other) noexcept
+	{
+		std::swap(handle_, other.handle_);
+		return *this;
+	}
+	~task()
+	{
+		if (handle_)
+			handle_.destroy();
+	}
+	bool is_done() const { return handle_.done(); }
+
+private:
+	using handle = std::coroutine_handle<promise_type>;
+	explicit task(handle of) : handle_(of) {}
+	handle handle_;
+};
+
+// An eventfd that is closed at the end.
+struct event {
+	int descriptor = eventfd(0, EFD_NONBLOCK);
+	event() = default;
+	event(const event &) = delete;
+	event &operator=(const event &) = delete;
+	~event() { close(descriptor); }
+
+	bool take() const
+	{
+		std::uint64_t told = 0;
+		return read(descriptor, &told, sizeof(told)) == sizeof(told);
+	}
+
+	void wait() const
+	{
+		pollfd look = {descriptor, POLLIN, 0};
+		CHECK(poll(&look, 1, 60000) == 1);
+		CHECK(take());
+	}
+};
+
+static task get(tags::listener &listener, std::vector<tags::tag> &into, std::error_code &code)
+{
+	tags::tag tag = co_await listener.get(code);
+	if (tag)
+		into.push_back(std::move(tag));
+}
+
+static task get(tags::listener &listener, std::vector<tags::tag> &into)
+{
+	std::error_code code;
+	tags::tag tag = co_await listener.get(code);
+	CHECK(!code && tag);
+	into.push_back(std::move(tag));
+}
+
+// A pool of one tag, which is held, and a listener by another hand.
+struct setting {
+	tags::pool pool;
+	tags::hand holder = pool.join(failure);
+	tags::tag tag = *holder.get(failure);
+	tags::hand hand = pool.join(failure);
+	event told;
+	tags::listener listener{hand, told.descriptor};
+	std::vector<tags::tag> got;
+
+	explicit setting(std::uint32_t hands = 2) : pool(sized(1, hands), failure) {}
+};
+
+static void a_free_tag_suspends_nobody()
+{
+	setting it;
+	it.tag.clear();
+	const task first = get(it.listener, it.got);
+	CHECK(first.is_done() && it.got.size() == 1 && !it.told.take());
+}
+
+static void coroutines_are_resumed_in_turn()
+{
+	setting it;
+	std::deque<task> tasks;
+	for (int i = 0; i < 4; i++)
+		tasks.push_back(get(it.listener, it.got));
+	it.listener.resume();
+	CHECK(it.got.empty() && !it.told.take());
+	for (std::size_t i = 0; i < tasks.size(); i++) {
+		(i == 0 ? it.tag : it.got[i - 1]).clear();
+		CHECK(it.told.take());
+		CHECK(!tasks[i].is_done());
+		it.listener.resume();
+		CHECK(tasks[i].is_done() && it.got.size() == i + 1);
+		// One that asks while others wait gets none before them.
+		if (i == 0) {
+			it.got[0].clear();
+			tasks.push_back(get(it.listener, it.got));
+			CHECK(!tasks.back().is_done() && !tasks[1].is_done());
+			CHECK(it.told.take());
+			it.listener.resume();
+			CHECK(tasks[1].is_done());
+			i++;
+		}
+	}
+	it.listener.resume();
+	it.got.clear();
+	CHECK(!it.told.take() && it.hand.wakes(failure).active == 0);
+}
+
+static void several_tags_resume_several()
+{
+	tags::pool pool(sized(3, 2), failure);
+	tags::hand holder = pool.join(failure);
+	tags::hand hand = pool.join(failure);
+	tags::batch batch = *holder.get_batch(1, failure);
+	std::vector<tags::tag> held;
+	while (std::optional<tags::tag> tag = holder.get(failure))
+		held.push_back(std::move(*tag));
+	const event told;
+	tags::listener listener(hand, told.descriptor);
+	std::vector<tags::tag> got;
+	std::deque<task> tasks;
+	for (int i = 0; i < 4; i++)
+		tasks.push_back(get(listener, got));
+	held.clear();
+	batch.clear();
+	CHECK(told.take());
+	listener.resume();
+	CHECK(got.size() == 3 && !tasks.back().is_done());
+	got.pop_back();
+	CHECK(told.take());
+	listener.resume();
+	CHECK(tasks.back().is_done());
+}
+
+static void the_last_that_is_destroyed_cancels()
+{
+	setting it(3);
+	{
+		const task first = get(it.listener, it.got);
+		{
+			const task second = get(it.listener, it.got);
+		}
+		CHECK(it.hand.wakes(failure).active == 1);
+	}
+	CHECK(it.hand.wakes(failure).active == 0);
+	it.tag.clear();
+	CHECK(!it.told.take());
+
+	// One that was told of a tag passes it on.
+	it.tag = *it.holder.get(failure);
+	tags::hand other = it.pool.join(failure);
+	const event another;
+	tags::listener next(other, another.descriptor);
+	{
+		const task first = get(it.listener, it.got);
+		const task second = get(next, it.got);
+		it.tag.clear();
+		CHECK(it.told.take() && !another.take());
+	}
+	{
+		it.tag = *it.holder.get(failure);
+		const task second = get(it.listener, it.got);
+		const task third = get(next, it.got);
+		it.tag.clear();
+		CHECK(it.told.take() && !another.take());
+		{
+			setting unrelated;
+		}
+		it.listener.resume();
+		CHECK(second.is_done() && !third.is_done());
+		it.got.clear();
+		CHECK(another.take());
+	}
+}
+
+static void who_was_told_and_is_destroyed_passes_it_on()
+{
+	setting it(3);
+	tags::hand other = it.pool.join(failure);
+	const event another;
+	tags::listener next(other, another.descriptor);
+	auto first = std::make_unique<task>(get(it.listener, it.got));
+	const task second = get(next, it.got);
+	it.tag.clear();
+	CHECK(it.told.take() && !another.take());
+	first.reset();
+	CHECK(another.take());
+	next.resume();
+	CHECK(second.is_done() && it.got.size() == 1);
+	it.got.clear();
+}
+
+// When it goes on, it destroys the next one, which has been given a tag already.
+static task destroys(tags::listener &listener, std::unique_ptr<task> &victim,
+		     std::vector<tags::tag> &into)
+{
+	std::error_code code;
+	tags::tag tag = co_await listener.get(code);
+	victim.reset();
+	into.push_back(std::move(tag));
+}
+
+static void a_coroutine_destroys_another()
+{
+	tags::pool pool(sized(2, 2), failure);
+	tags::hand holder = pool.join(failure);
+	tags::hand hand = pool.join(failure);
+	tags::tag held[] = {*holder.get(failure), *holder.get(failure)};
+	const event told;
+	tags::listener listener(hand, told.descriptor);
+	std::vector<tags::tag> got;
+	std::unique_ptr<task> victim;
+	const task first = destroys(listener, victim, got);
+	victim = std::make_unique<task>(get(listener, got));
+	held[0].clear();
+	held[1].clear();
+	listener.resume();
+	CHECK(first.is_done() && !victim && got.size() == 1);
+	// The tag of the one that was destroyed went back.
+	CHECK(hand.show(tags::kind::ordinary, failure).busy == 1);
+}
+
+static void refusals()
+{
+	setting it(3);
+	std::error_code code;
+	tags::hand none;
+	tags::listener empty(none, it.told.descriptor);
+	const task no_hand = get(empty, it.got, code);
+	CHECK(no_hand.is_done() && code == errc::bad_handle);
+	tags::hand other = it.pool.join(failure);
+	{
+		tags::listener closed(other, -1);
+		const task no_event = get(closed, it.got, code);
+		CHECK(no_event.is_done() && code == errc::bad_event);
+		REFUSED(errc::waiting, other.get_async(it.told.descriptor, CODE));
+		REFUSED(errc::waiting, other.cancel(CODE));
+		REFUSED(errc::waiting, other.leave(CODE));
+	}
+	const task waiting = get(it.listener, it.got);
+	REFUSED(errc::waiting, it.hand.get_blocking(CODE));
+	REFUSED(errc::waiting, it.hand.prepare(CODE));
+	it.tag.clear();
+	it.listener.resume();
+	CHECK(it.got.size() == 1);
+	const tags::wait wait = it.hand.prepare(failure);
+	const task grouped = get(it.listener, it.got, code);
+	CHECK(grouped.is_done() && code == errc::waiting);
+	// A clear code is left clear, and one of before is cleared.
+	it.got.clear();
+	const task found = get(it.listener, it.got, code);
+	CHECK(found.is_done() && !code);
+}
+
+static void a_stop_ends_all_waits()
+{
+	setting it;
+	std::error_code codes[3];
+	std::deque<task> tasks;
+	for (std::error_code &code : codes)
+		tasks.push_back(get(it.listener, it.got, code));
+	it.pool.stop(failure);
+	CHECK(it.told.take());
+	it.listener.resume();
+	for (const std::error_code &code : codes)
+		CHECK(code == errc::stopped);
+	for (const task &it_is : tasks)
+		CHECK(it_is.is_done());
+	const task late = get(it.listener, it.got, codes[0]);
+	CHECK(late.is_done() && codes[0] == errc::stopped);
+}
+
+#ifdef __cpp_exceptions
+static task must_get(tags::listener &listener, int &caught, bool passes_on)
+{
+	try {
+		const tags::tag tag = co_await listener.get();
+		CHECK(tag);
+	} catch (const tags::error &error) {
+		CHECK(error.code() == errc::stopped);
+		caught++;
+		if (passes_on)
+			throw;
+	}
+}
+
+static void refusals_are_thrown()
+{
+	setting it;
+	int caught = 0;
+	{
+		const task good = must_get(it.listener, caught, false);
+		it.tag.clear();
+		it.listener.resume();
+		CHECK(good.is_done() && caught == 0);
+	}
+	it.tag = *it.holder.get();
+	const task first = must_get(it.listener, caught, true);
+	const task second = must_get(it.listener, caught, false);
+	it.pool.stop();
+	try {
+		it.listener.resume();
+		CHECK(false);
+	} catch (const tags::error &error) {
+		CHECK(error.code() == errc::stopped && caught == 1);
+	}
+	it.listener.resume();
+	CHECK(caught == 2 && second.is_done());
+}
+#endif
+
+static task submit(tags::listener &listener, int requests, int &left)
+{
+	std::error_code code;
+	for (int i = 0; i < requests; i++) {
+		const tags::tag tag = co_await listener.get(code);
+		CHECK(tag && !code);
+	}
+	left--;
+}
+
+// An event loop with two hands, each with many coroutines, beside threads that sleep.
+static void loops_beside_threads()
+{
+	constexpr int requests = 500;
+	tags::pool pool(sized(2, 4), failure);
+	tags::hand hands[] = {pool.join(failure), pool.join(failure)};
+	const event told;
+	tags::listener listeners[] = {{hands[0], told.descriptor}, {hands[1], told.descriptor}};
+	std::vector<std::thread> threads;
+	for (int i = 0; i < 2; i++) {
+		threads.emplace_back([&pool] {
+			std::error_code own;
+			tags::hand hand = pool.join(own);
+			for (int round = 0; round < 8 * requests; round++) {
+				const tags::tag tag = hand.get_blocking(own);
+				CHECK(tag);
+				if (round % 16 == 0)
+					std::this_thread::yield();
+			}
+		});
+	}
+	int left = 20;
+	std::deque<task> tasks;
+	for (int i = 0; i < 20; i++)
+		tasks.push_back(submit(listeners[i % 2], requests, left));
+	while (left > 0) {
+		told.wait();
+		for (tags::listener &listener : listeners)
+			listener.resume();
+	}
+	for (std::thread &thread : threads)
+		thread.join();
+	tasks.clear();
+}
+
+static task hold_two(tags::listener &listener, int &rounds)
+{
+	std::error_code code;
+	while (rounds-- > 0) {
+		const tags::tag first = co_await listener.get(code);
+		const tags::tag second = co_await listener.get(code);
+		CHECK(first && second && first.number() != second.number());
+	}
+}
+
+static void a_coroutine_holds_two()
+{
+	tags::pool pool(sized(2, 1), failure);
+	tags::hand hand = pool.join(failure);
+	const event told;
+	tags::listener listener(hand, told.descriptor);
+	int rounds = 100;
+	const task one = hold_two(listener, rounds);
+	CHECK(one.is_done() && rounds < 0);
+}
+
+int main()
+{
+	a_free_tag_suspends_nobody();
+	coroutines_are_resumed_in_turn();
+	several_tags_resume_several();
+	the_last_that_is_destroyed_cancels();
+	who_was_told_and_is_destroyed_passes_it_on();
+	a_coroutine_destroys_another();
+	refusals();
+	a_stop_ends_all_waits();
+#ifdef __cpp_exceptions
+	refusals_are_thrown();
+#endif
+	loops_beside_threads();
+	a_coroutine_holds_two();
+	return report();
+}
+#else
+int main()
+{
+	std::puts("this compiler has no coroutines in this version of C++");
+	return 0;
+}
+#endif

@@ -1,0 +1,159 @@
+// The excerpts of docs/USING_CPP.md that are in no example.
+#include "check.hpp"
+
+#include <chrono>
+#include <poll.h>
+#include <sys/eventfd.h>
+#include <thread>
+#include <unistd.h>
+#include <vector>
+
+using namespace std::chrono_literals;
+
+static tags::pool opened(std::uint32_t total, std::uint32_t hands)
+{
+	return tags::pool(tags::options{total, hands});
+}
+
+// A program without exceptions.
+static bool serve(tags::pool &pool)
+{
+	std::error_code ec;
+	tags::hand hand = pool.join(ec);
+	if (ec) {
+		std::fprintf(stderr, "join: %s\n", ec.message().c_str());
+		return false;
+	}
+	std::optional<tags::tag> tag = hand.get(ec);
+	if (tag)
+		tag->write(70, ec);
+	return !ec;
+}
+
+static void a_misuse()
+{
+	tags::pool pool = opened(4, 1);
+	tags::hand hand = pool.join();
+	try {
+		const tags::hand another = pool.join();
+	} catch (const tags::error &error) {
+		CHECK(error.code() == tags::errc::no_hand);
+		CHECK(std::string(error.what()) == "all hands of the pool are out");
+		return;
+	}
+	CHECK(false);
+}
+
+static void a_limit()
+{
+	tags::pool pool = opened(1, 2);
+	tags::hand holder = pool.join();
+	const tags::tag held = holder.get_blocking();
+	tags::hand hand = pool.join();
+	bool is_late = false;
+	std::optional<tags::tag> tag = hand.try_get_for(5ms);
+	if (!tag)
+		is_late = true;
+	CHECK(is_late);
+}
+
+static void in_flight()
+{
+	tags::pool pool = opened(16, 1);
+	tags::hand hand = pool.join();
+	std::vector<std::uint32_t> sent;
+	const auto submit = [&](std::uint32_t number) { sent.push_back(number); };
+
+	tags::tag tag = hand.get_blocking();
+	submit(tag.release());
+	for (const std::uint32_t number : sent) {
+		tags::tag completed = hand.adopt(number);
+		CHECK(completed.number() == number);
+	} // here the tag goes back
+	sent.clear();
+
+	for (int i = 0; i < 8; i++)
+		submit(hand.get_blocking().release());
+	hand.clear_batch(sent.data(), sent.size());
+	CHECK(hand.show(tags::kind::ordinary).busy == 0);
+}
+
+static void several_at_once()
+{
+	tags::pool pool = opened(64, 1);
+	tags::hand hand = pool.join();
+	std::uint32_t sum = 0;
+	if (std::optional<tags::batch> batch = hand.get_batch(8)) {
+		for (const std::uint32_t number : *batch)
+			sum += number;
+		std::optional<tags::tag> first = batch->pop();
+	} // here the first tag goes back, and then the others in one step
+	CHECK(sum == 28 && hand.show(tags::kind::ordinary).busy == 0);
+}
+
+static int event_loop()
+{
+	tags::pool pool = opened(1, 2);
+	tags::hand holder = pool.join();
+	tags::tag held = holder.get_blocking();
+	tags::hand hand = pool.join();
+	const int event = eventfd(0, EFD_NONBLOCK);
+	std::thread giver([&held] { held.clear(); });
+	pollfd looks[] = {{event, POLLIN, 0}};
+
+	std::optional<tags::tag> tag = hand.get_async(event);
+	while (!tag) {
+		poll(looks, 1, -1);
+		std::uint64_t told = 0;
+		if (read(event, &told, sizeof(told)) == sizeof(told))
+			tag = hand.get_async(event);
+	}
+	giver.join();
+	close(event);
+	return static_cast<int>(tag->number());
+}
+
+static void resized()
+{
+	tags::options options;
+	options.total = 4;
+	options.hands = 2;
+	options.reserved = 1;
+	tags::pool pool(options);
+	tags::values<std::vector<char>> buffers(pool);
+	tags::hand hand = pool.join();
+
+	hand.leave();
+	pool.resize(16);
+	buffers.resize(pool);
+	hand = pool.join();
+	CHECK(hand.show(tags::kind::ordinary).depth == 15 && buffers.size() == 16);
+}
+
+static void cached()
+{
+	tags::options options;
+	options.total = 64;
+	options.hands = 4;
+	options.cache = 8;
+	tags::pool pool(options);
+	tags::hand hand = pool.join();
+	hand.get_blocking().clear();
+	CHECK(hand.show(tags::kind::ordinary).busy == 1);
+	hand.flush();
+	CHECK(hand.show(tags::kind::ordinary).busy == 0);
+}
+
+int main()
+{
+	tags::pool pool = opened(4, 1);
+	CHECK(serve(pool));
+	a_misuse();
+	a_limit();
+	in_flight();
+	several_at_once();
+	CHECK(event_loop() == 0);
+	resized();
+	cached();
+	return report();
+}

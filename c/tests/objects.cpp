@@ -1,0 +1,373 @@
+// The objects of tags.hpp give back what they hold: at their ends, when they are assigned to, and
+// after moves. It compiles without exceptions too.
+#include "check.hpp"
+
+#include <map>
+#include <memory>
+#include <thread>
+#include <vector>
+
+using tags::errc;
+
+static_assert(std::is_nothrow_move_constructible_v<tags::tag> &&
+	      std::is_nothrow_move_assignable_v<tags::tag>);
+static_assert(std::is_nothrow_move_constructible_v<tags::batch> &&
+	      std::is_nothrow_move_assignable_v<tags::batch>);
+static_assert(std::is_nothrow_move_constructible_v<tags::wait> &&
+	      std::is_nothrow_move_assignable_v<tags::wait>);
+static_assert(std::is_nothrow_move_constructible_v<tags::hand> &&
+	      std::is_nothrow_move_assignable_v<tags::hand>);
+static_assert(std::is_nothrow_move_constructible_v<tags::pool> &&
+	      std::is_nothrow_move_assignable_v<tags::pool>);
+static_assert(!std::is_copy_constructible_v<tags::tag> && !std::is_copy_assignable_v<tags::tag>);
+static_assert(!std::is_copy_constructible_v<tags::batch> &&
+	      !std::is_copy_assignable_v<tags::batch>);
+static_assert(!std::is_copy_constructible_v<tags::wait> && !std::is_copy_assignable_v<tags::wait>);
+static_assert(!std::is_copy_constructible_v<tags::hand> && !std::is_copy_assignable_v<tags::hand>);
+static_assert(!std::is_copy_constructible_v<tags::pool> && !std::is_copy_assignable_v<tags::pool>);
+static_assert(!std::is_convertible_v<tags::tag, bool> &&
+	      std::is_nothrow_destructible_v<tags::hand>);
+static_assert(sizeof(tags::hand) == sizeof(void *) && sizeof(tags::tag) == 2 * sizeof(void *));
+
+static std::error_code ec;
+
+// How many tags are busy.
+static std::uint32_t busy(tags::hand &hand)
+{
+	std::uint64_t bits[2] = {};
+	return hand.busy(bits, 2, ec);
+}
+
+static tags::tag get(tags::hand &hand)
+{
+	std::optional<tags::tag> found = hand.get(ec);
+	CHECK(!ec && found);
+	return found ? std::move(*found) : tags::tag();
+}
+
+static void each_end_gives_tags_back()
+{
+	tags::pool pool(sized(16, 1, 2), ec);
+	tags::hand hand = pool.join(ec);
+	std::uint64_t bits = 0;
+
+	CHECK(pool && hand && pool.total() == 16 && pool.reserved() == 2);
+	{
+		const tags::tag first = get(hand);
+		const std::optional<tags::tag> reserved = hand.get_reserved(ec);
+		const std::optional<tags::batch> batch = hand.get_batch(2, ec);
+		const std::optional<tags::tag> shallow = hand.get_shallow(14, ec);
+		CHECK(first.number() == 2 && reserved->number() == 0 && batch->size() == 2);
+		CHECK(shallow && hand.busy(&bits, 1, ec) == 5 && bits == 0x3d);
+	}
+	CHECK(busy(hand) == 0);
+	CHECK(hand.show(tags::kind::ordinary, ec).depth == 14 &&
+	      hand.show(tags::kind::reserved, ec).depth == 2);
+	CHECK(hand.wakes(ec).active == 0 && !ec);
+	hand.leave(ec);
+	const tags::totals sums = pool.close(ec);
+	CHECK(!ec && !pool && !hand && sums.got == 5 && sums.back == 5 && sums.held == 0 &&
+	      sums.posted == 0);
+}
+
+static void tags_move()
+{
+	tags::pool pool(sized(16, 2), ec);
+	tags::hand hand = pool.join(ec);
+	tags::tag one = get(hand);
+	tags::tag other = get(hand);
+	const std::uint32_t number = one.number();
+
+	tags::tag moved(std::move(one));
+	CHECK(moved && !one && moved.number() == number && busy(hand) == 2);
+	other = std::move(moved);
+	CHECK(other && !moved && other.number() == number && busy(hand) == 1);
+	tags::tag &itself = other;
+	other = std::move(itself);
+	CHECK(other && busy(hand) == 1);
+	other = tags::tag();
+	CHECK(!other && busy(hand) == 0);
+
+	std::vector<tags::tag> many;
+	std::map<std::uint32_t, tags::tag> by_number;
+	for (int i = 0; i < 8; i++)
+		many.push_back(get(hand));
+	for (tags::tag &it : many) {
+		const std::uint32_t key = it.number();
+		by_number.emplace(key, std::move(it));
+	}
+	many.clear();
+	CHECK(by_number.size() == 8 && busy(hand) == 8);
+	by_number.erase(3);
+	CHECK(busy(hand) == 7);
+	by_number.clear();
+	CHECK(busy(hand) == 0);
+
+	tags::tag again = get(hand);
+	again.clear();
+	again.clear();
+	CHECK(!again && busy(hand) == 0);
+}
+
+static void hands_move_while_their_tags_are_out()
+{
+	tags::pool pool(sized(4, 2), ec);
+	std::vector<tags::hand> hands;
+	hands.push_back(pool.join(ec));
+	tags::tag first = get(hands[0]);
+	// The vector moves the first hand elsewhere.
+	hands.push_back(pool.join(ec));
+	first.write(7, ec);
+	CHECK(!ec && first.read(ec) == 7 && busy(hands[0]) == 1);
+	tags::hand hand = std::move(hands[0]);
+	CHECK(!hands[0] && hand.holds(first.number(), ec) && !ec);
+	first.clear();
+	CHECK(busy(hand) == 0);
+	hands.clear();
+	tags::hand &itself = hand;
+	hand = std::move(itself);
+	CHECK(hand);
+	hand = tags::hand();
+	CHECK(!hand && pool.close(ec).got == 1 && !ec);
+}
+
+static void a_hand_goes_to_another_thread()
+{
+	tags::pool pool(sized(4, 1), ec);
+	tags::hand hand = pool.join(ec);
+	tags::tag tag = get(hand);
+	tag.write(9, ec);
+	std::thread([hand = std::move(hand), tag = std::move(tag)]() mutable {
+		std::error_code own;
+		CHECK(tag.read(own) == 9 && !own);
+		tag.clear();
+		hand.leave(own);
+		CHECK(!own);
+	}).join();
+	CHECK(pool.close(ec).back == 1);
+}
+
+static void a_pool_lives_until_its_hands_end()
+{
+	tags::hand hand;
+	{
+		tags::pool pool(sized(4, 1), ec);
+		tags::pool moved(std::move(pool));
+		CHECK(!pool && pool.total() == 0 && pool.reserved() == 0 && moved);
+		pool = std::move(moved);
+		tags::pool &itself = pool;
+		pool = std::move(itself);
+		hand = pool.join(ec);
+	}
+	tags::tag tag = get(hand);
+	CHECK(tag.number() == 0);
+}
+
+static void released_tags_are_adopted()
+{
+	tags::pool pool(sized(70, 2), ec);
+	tags::hand hand = pool.join_in_place(ec);
+	std::optional<tags::batch> batch = hand.get_batch(16, ec);
+	std::vector<std::uint32_t> numbers;
+
+	CHECK(batch && batch->size() == 16);
+	while (std::optional<tags::tag> tag = batch->pop())
+		numbers.push_back(tag->release());
+	CHECK(!*batch && numbers.size() == 16 && busy(hand) == 16);
+	tags::tag tag = hand.adopt(numbers[3], ec);
+	CHECK(tag && !ec);
+	CHECK(!hand.adopt(numbers[3], ec) && ec == errc::not_held);
+	tag.clear();
+	CHECK(!hand.adopt(numbers[3], ec) && ec == errc::not_held);
+	hand.clear_batch(numbers.data(), 3, ec);
+	CHECK(!ec && busy(hand) == 12);
+	hand.clear_batch(numbers.data(), 3, ec);
+	CHECK(ec == errc::not_held && busy(hand) == 12);
+
+	// The hand holds them still when it joins again.
+	tag = get(hand);
+	hand.leave(ec);
+	CHECK(ec == errc::in_use && hand);
+	tag.clear();
+	hand.leave(ec);
+	CHECK(!ec && !hand);
+	pool.resize(64, ec);
+	CHECK(ec == errc::in_use);
+	hand = pool.join_in_place(ec);
+	for (std::size_t i = 4; i < numbers.size(); i++) {
+		tags::tag found = hand.adopt(numbers[i], ec);
+		CHECK(found && !ec);
+		if (i % 2 == 0)
+			static_cast<void>(found.release());
+	}
+	CHECK(busy(hand) == 6);
+	hand = tags::hand();
+	const tags::totals sums = pool.close(ec);
+	CHECK(sums.got == 17 && sums.back == 11 && sums.held == 6);
+	tags::tag none;
+	static_cast<void>(none.release());
+	CHECK(!none);
+}
+
+static void batches()
+{
+	tags::options options = sized(64, 1);
+	options.shift = 6;
+	tags::pool pool(options, ec);
+	tags::hand hand = pool.join(ec);
+	std::optional<tags::batch> found = hand.get_batch(5, ec);
+	CHECK(found && *found && found->size() == 5);
+	std::uint32_t next = 0;
+	for (const std::uint32_t number : *found)
+		CHECK(number == next++);
+	CHECK(next == 5);
+	tags::batch::iterator at = found->begin();
+	CHECK(*at++ == 0 && *at == 1 && at != found->begin() && ++at != found->end());
+
+	tags::batch moved(std::move(*found));
+	CHECK(!*found && moved.size() == 5);
+	std::optional<tags::tag> first = moved.pop();
+	CHECK(first && first->number() == 0 && moved.size() == 4);
+	std::optional<tags::batch> other = hand.get_batch(2, ec);
+	CHECK(other && busy(hand) == 7);
+	*other = std::move(moved);
+	CHECK(other->size() == 4 && !moved && !moved.pop() && busy(hand) == 5);
+	tags::batch &itself = *other;
+	*other = std::move(itself);
+	other->clear();
+	other->clear();
+	CHECK(busy(hand) == 1 && other->begin() == other->end());
+	first.reset();
+	tags::batch all = std::move(*hand.get_batch(64, ec));
+	CHECK(all.size() == 64 && !hand.get_batch(1, ec) && !ec && !hand.get(ec) && !ec);
+}
+
+static void tags_pass_from_hand_to_hand()
+{
+	tags::pool pool(sized(4, 2), ec);
+	tags::hand one = pool.join(ec);
+	tags::hand other = pool.join(ec);
+	std::optional<tags::tag> tag = one.get_write(70, ec);
+	CHECK(tag && tag->read(ec) == 70 && tag->write(71, ec) == 70 && !ec);
+	const std::uint32_t number = tag->post(ec);
+	CHECK(!*tag && !ec && !one.holds(number, ec) && !ec);
+	tags::tag taken = other.take(number, ec);
+	CHECK(taken && taken.number() == number && taken.read_clear(ec) == 71 && !ec && !taken);
+	CHECK(!other.take(number, ec) && ec == errc::not_posted);
+	CHECK(busy(one) == 0);
+}
+
+static void caches()
+{
+	tags::options options = sized(1, 2);
+	options.cache = 8;
+	tags::pool pool(options, ec);
+	tags::hand one = pool.join(ec);
+	tags::hand other = pool.join(ec);
+	get(one).clear();
+	CHECK(!other.get(ec) && !ec && busy(other) == 1);
+	one.flush(ec);
+	get(other).clear();
+	// A kept tag is no hindrance for a hand that ends.
+	other = tags::hand();
+	CHECK(busy(one) == 0);
+	options.keep_while_holding = true;
+	tags::pool keeping(options, ec);
+	tags::hand first = keeping.join(ec);
+	tags::hand second = keeping.join(ec);
+	get(first).clear();
+	get(second).clear();
+}
+
+static void waits_by_other_means()
+{
+	tags::pool pool(sized(1, 2), ec);
+	tags::hand one = pool.join(ec);
+	tags::hand other = pool.join(ec);
+	tags::tag tag = get(one);
+	tags::wait wait = other.prepare(ec);
+	CHECK(wait && !ec && !other.prepare(ec) && ec == errc::waiting);
+	other.leave(ec);
+	CHECK(ec == errc::waiting && other);
+	tag.clear();
+	tags::wait moved(std::move(wait));
+	CHECK(!wait && moved && moved.finish() && !moved && !moved.finish());
+	moved = other.prepare(ec);
+	CHECK(moved);
+	tags::wait &itself = moved;
+	moved = std::move(itself);
+	moved = tags::wait();
+	CHECK(other.wakes(ec).active == 0);
+}
+
+static void resizes()
+{
+	tags::pool pool(sized(16, 1, 2), ec);
+	tags::hand hand = pool.join(ec);
+	const std::uint32_t reserved = hand.get_reserved(ec)->release();
+	{
+		tags::tag tag = hand.adopt(reserved, ec);
+		tag.write(5, ec);
+	}
+	get(hand).clear();
+	pool.resize(32, ec);
+	CHECK(ec == errc::hands_out);
+	hand.leave(ec);
+	pool.resize(32, ec);
+	CHECK(!ec && pool.total() == 32 && pool.reserved() == 2);
+	hand = pool.join(ec);
+	CHECK(hand.show(tags::kind::ordinary, ec).depth == 30);
+	hand.leave(ec);
+	const tags::totals sums = pool.close(ec);
+	CHECK(sums.got == 2 && sums.back == 2);
+}
+
+static void options_are_passed_on()
+{
+	tags::options options = sized(6, 1);
+	options.round_robin = true;
+	options.shift = 1;
+	tags::pool pool(options, ec);
+	tags::hand hand = pool.join(ec);
+	const std::uint32_t wanted[] = {0, 1, 2, 3, 4, 0, 1, 2, 3, 5};
+	for (const std::uint32_t number : wanted)
+		CHECK(get(hand).number() == number);
+	CHECK(!hand.get_batch(2, ec) && !ec);
+	options = sized(3, 1);
+	options.shift = 0;
+	tags::pool alone(options, ec);
+	CHECK(alone.join(ec).show(tags::kind::ordinary, ec).bits_per_word == 1 && !ec);
+	options.shift = 2;
+	options.min_shallow = 2;
+	tags::pool shallow(options, ec);
+	tags::hand low = shallow.join(ec);
+	CHECK(!low.get_shallow(1, ec) && ec == errc::too_shallow && low.get_shallow(2, ec) && !ec);
+}
+
+static void native_handles()
+{
+	tags::pool pool(sized(4, 1), ec);
+	tags::hand hand = pool.join(ec);
+	const std::int32_t tag = tags_get(hand.native_handle());
+	CHECK(tag == 0 && tags_clear(hand.native_handle(), 0) == 0);
+	CHECK(tags_stop(pool.native_handle()) == TAGS_OK);
+	CHECK(tags::hand().native_handle() == nullptr && tags::pool().native_handle() == nullptr);
+}
+
+int main()
+{
+	each_end_gives_tags_back();
+	tags_move();
+	hands_move_while_their_tags_are_out();
+	a_hand_goes_to_another_thread();
+	a_pool_lives_until_its_hands_end();
+	released_tags_are_adopted();
+	batches();
+	tags_pass_from_hand_to_hand();
+	caches();
+	waits_by_other_means();
+	resizes();
+	options_are_passed_on();
+	native_handles();
+	return report();
+}
