@@ -1,6 +1,6 @@
 //! A hand that several threads and tasks share.
 use crate::bell::Bell;
-use crate::error::Result;
+use crate::error::{Error, Result};
 use crate::future::{GetAsyncOwned, Lends};
 use crate::hand::Hand;
 use crate::options::{Counts, Kind, Sizes};
@@ -103,7 +103,18 @@ impl<T> SharedHand<T> {
     /// # }
     /// ```
     pub fn get_timeout(&self, time: Duration) -> Result<Option<OwnedTag<T>>> {
+        // A wait needs memory and the time, of which a free tag needs neither.
+        if let Some(tag) = self.get_unless_stopped()? {
+            return Ok(Some(tag));
+        }
         wait_for(self.get_async(), Instant::now().checked_add(time)).transpose()
+    }
+
+    fn get_unless_stopped(&self) -> Result<Option<OwnedTag<T>>> {
+        if self.bell().is_stopped() {
+            return Err(Error::Stopped);
+        }
+        self.get()
     }
 
     /// Takes a free ordinary tag, and while there is none, waits without blocking a thread, as [`Hand::get_async`] does. The
