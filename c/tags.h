@@ -16,9 +16,9 @@
  * Threads
  *   A handle is a struct tags_pool or a struct tags_hand. Only one call at a time
  *   may use it. It may move to another thread, if a mutex, pthread_join() or the
- *   like orders the two. But any number of tags_join(), tags_stop() and reports through
- *   the pool's handle may use that one at once: they take turns. Different handles of one
- *   pool may be used at once, on any threads. Only tags_get_blocking() and tags_get_timed() block, and only
+ *   like orders the two. The handle of a pool may be in any number of tags_join(),
+ *   tags_stop() and reports at once. Different handles of one pool may be used at once, on
+ *   any threads. Only tags_get_blocking() and tags_get_timed() block, and only
  *   tags_open(), tags_join() and tags_resize() allocate memory. Make no call from a
  *   signal handler, or in the forked child of a process with threads.
  *   Only the two calls that block are cancellation points, and only while they

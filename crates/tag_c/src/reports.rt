@@ -19,11 +19,10 @@ impl Pool {
         ensures tells { TellsBusy into.old into.new result (arc_value self.now.shared).tags }
         ensures kept { IsRefusal result → into.new ≡ into.old }
     {
-        let state = &*self.shared;
-        if (state.total as usize).div_ceil(64) > into.len() {
+        if (self.shared.total as usize).div_ceil(64) > into.len() {
             return Status::TooSmall.code();
         }
-        number_code(state.tags.peek_busy(into))
+        number_code(self.shared.tags.peek_busy(into))
     }
 
     /// Writes the sizes of the ordinary set if `kind` is 0, and of the reserved set if it is 1.
