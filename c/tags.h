@@ -1121,16 +1121,17 @@ TAGS_CALL int32_t tags_wakes(struct tags_hand *hand, struct tags_counts *counts)
 }
 
 /*
- * The same reports through the handle of a pool. They need no hand, and may be made at any
- * time, also while all hands are out and other threads use them. What they tell is tested,
- * and not proved but for its limits, which each call states.
+ * The same reports without a hand. What they tell is tested, and not proved but for the
+ * limits that each call states.
  */
 
 /**
  * tags_pool_busy() - report which tags of a pool are busy, without a hand
  * @pool: the pool
- * @into: as of tags_busy(); no bit past the last tag becomes 1
+ * @into: bit t % 64 of into[t / 64] becomes 1 if tag t is busy, every other bit 0
  * @words: length of @into, at least a 64th of the pool's tags, rounded up
+ *
+ * As tags_busy(), at any time, also while all hands are out.
  *
  * Return: how many tags are busy, which is how many bits of @into are 1. Otherwise
  * TAGS_BAD_HANDLE or TAGS_TOO_SMALL.
@@ -1145,6 +1146,8 @@ int32_t tags_pool_busy(struct tags_pool *pool, uint64_t *into, size_t words);
  * @kind: TAGS_ORDINARY or TAGS_RESERVED
  * @sizes: filled in; @busy and @cleared are together at most @depth
  *
+ * As tags_show(), at any time, also while all hands are out.
+ *
  * Return: TAGS_OK. Otherwise TAGS_BAD_HANDLE or TAGS_BAD_KIND.
  *
  * Since: 0.3
@@ -1155,6 +1158,8 @@ int32_t tags_pool_show(struct tags_pool *pool, uint32_t kind, struct tags_sizes 
  * tags_pool_wakes() - report the counts of completions and of waiters of a pool, without a hand
  * @pool: the pool
  * @counts: filled in; @charged is at most @counted, and @index is below 8
+ *
+ * As tags_wakes(), at any time, also while all hands are out.
  *
  * Return: TAGS_OK or TAGS_BAD_HANDLE.
  *
