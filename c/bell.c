@@ -39,12 +39,14 @@ struct bell *tags_library_make_bell(uint32_t hands)
 	if (!bell)
 		return NULL;
 	pthread_mutex_init(&bell->lock, NULL);
+	pthread_mutex_init(&bell->handle, NULL);
 	bell->vacant = ~UINT64_C(0) >> (TAGS_MAX_HANDS - hands);
 	return bell;
 }
 
 void tags_library_free_bell(struct bell *bell)
 {
+	pthread_mutex_destroy(&bell->handle);
 	pthread_mutex_destroy(&bell->lock);
 	free(bell);
 }

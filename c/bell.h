@@ -50,6 +50,8 @@ struct bell {
 	/* sleepers that were told and have not begun to try again */
 	uint32_t waking;
 	pthread_mutex_t lock;
+	/* guards the pool's handle; taken before @lock */
+	pthread_mutex_t handle;
 	/* the waits that have begun */
 	uint64_t turns;
 	struct tags_list sleepers;

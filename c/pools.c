@@ -54,6 +54,22 @@ static void give_up_place(struct bell *bell, const struct tags_waiter *place)
 	pthread_mutex_unlock(&bell->lock);
 }
 
+/*
+ * Joins and reports may use a pool's handle at once, so they take turns. An empty handle
+ * has no bell, and is refused.
+ */
+static void lock_handle(struct tags_pool *pool)
+{
+	if (pool->waits)
+		pthread_mutex_lock(&tags_bell_of(pool->waits)->handle);
+}
+
+static void unlock_handle(struct tags_pool *pool)
+{
+	if (pool->waits)
+		pthread_mutex_unlock(&tags_bell_of(pool->waits)->handle);
+}
+
 /* Whether the options allow the shift. One that is too large passes: the library refuses it. */
 static bool knows_shift(const struct tags_options *options)
 {
@@ -121,8 +137,10 @@ int32_t tags_join(struct tags_pool *pool, struct tags_hand *hand, uint32_t flags
 		return TAGS_NULL;
 	if (&pool->full == &hand->full)
 		return hand->full ? TAGS_NOT_EMPTY : TAGS_BAD_HANDLE;
+	lock_handle(pool);
 	unsee();
 	status = unseen(tags_library_join(pool, hand, flags));
+	unlock_handle(pool);
 	TAGS_SEES(TAGS_MAX_TOTAL);
 	if (status == TAGS_OK) {
 		hand->waits = pool->waits;
@@ -180,7 +198,7 @@ int32_t tags_close(struct tags_pool *pool, struct tags_sums *sums)
 	if (!pool || !sums)
 		return TAGS_NULL;
 	unsee();
-	status = unseen(tags_library_close(pool, sums));
+	status = tags_filled(unseen(tags_library_close(pool, sums)), sums, sizeof(*sums));
 	TAGS_SEES(TAGS_MAX_TOTAL);
 	if (status == TAGS_OK || status == TAGS_HAND_LOST) {
 		tags_library_free_bell(tags_bell_of(pool->waits));
@@ -198,4 +216,44 @@ int32_t tags_stop(struct tags_pool *pool)
 		return TAGS_BAD_HANDLE;
 	tags_library_stop(pool->waits);
 	return TAGS_OK;
+}
+
+/*
+ * Reports
+ */
+
+int32_t tags_pool_busy(struct tags_pool *pool, uint64_t *into, size_t words)
+{
+	int32_t status;
+
+	if (!pool || !into)
+		return TAGS_NULL;
+	lock_handle(pool);
+	status = tags_library_pool_busy(pool, into, words);
+	unlock_handle(pool);
+	return tags_filled(status, into, words * sizeof(*into));
+}
+
+int32_t tags_pool_show(struct tags_pool *pool, uint32_t kind, struct tags_sizes *sizes)
+{
+	int32_t status;
+
+	if (!pool || !sizes)
+		return TAGS_NULL;
+	lock_handle(pool);
+	status = tags_library_pool_show(pool, kind, sizes);
+	unlock_handle(pool);
+	return tags_filled(status, sizes, sizeof(*sizes));
+}
+
+int32_t tags_pool_wakes(struct tags_pool *pool, struct tags_counts *counts)
+{
+	int32_t status;
+
+	if (!pool || !counts)
+		return TAGS_NULL;
+	lock_handle(pool);
+	status = tags_library_pool_wakes(pool, counts);
+	unlock_handle(pool);
+	return tags_filled(status, counts, sizeof(*counts));
 }

@@ -15,8 +15,9 @@
  * Threads
  *   A handle is a struct tags_pool or a struct tags_hand. Only one call at a time
  *   may use it. It may move to another thread, if a mutex, pthread_join() or the
- *   like orders the two. Different handles of one pool may be used at once, on any
- *   threads. Only tags_get_blocking() and tags_get_timed() block, and only
+ *   like orders the two. The handle of a pool may be in any number of tags_join(),
+ *   tags_stop() and reports at once. Different handles of one pool may be used at once, on
+ *   any threads. Only tags_get_blocking() and tags_get_timed() block, and only
  *   tags_open(), tags_join() and tags_resize() allocate memory. Make no call from a
  *   signal handler, or in the forked child of a process with threads.
  *   Only the two calls that block are cancellation points, and only while they
@@ -376,6 +377,9 @@ int32_t tags_library_holds(struct tags_hand *hand, uint32_t tag);
 int32_t tags_library_busy(struct tags_hand *hand, uint64_t *into, size_t words);
 int32_t tags_library_show(struct tags_hand *hand, uint32_t kind, struct tags_sizes *sizes);
 int32_t tags_library_wakes(struct tags_hand *hand, struct tags_counts *counts);
+int32_t tags_library_pool_busy(struct tags_pool *pool, uint64_t *into, size_t words);
+int32_t tags_library_pool_show(struct tags_pool *pool, uint32_t kind, struct tags_sizes *sizes);
+int32_t tags_library_pool_wakes(struct tags_pool *pool, struct tags_counts *counts);
 int32_t tags_library_prepare(struct tags_hand *hand);
 int32_t tags_library_finish(struct tags_hand *hand);
 
@@ -419,6 +423,38 @@ void __tsan_release(void *address);
 #define TAGS_SEES(at) ((void)0)
 #define TAGS_SHOWS(at) ((void)0)
 #endif
+
+/*
+ * Nor does the memory sanitizer see what the library fills in, so the calls tell it what they
+ * filled in if they were not refused.
+ */
+#if defined __has_feature
+#if __has_feature(memory_sanitizer)
+#define TAGS_MEMORY_SANITIZED 1
+#endif
+#endif
+
+#ifdef TAGS_LIBRARY
+__attribute__((weak)) void __msan_unpoison(const volatile void *start, size_t size);
+#define TAGS_FILLED(start, size) (__msan_unpoison ? __msan_unpoison(start, size) : (void)0)
+#elif defined TAGS_MEMORY_SANITIZED
+void __msan_unpoison(const volatile void *start, size_t size);
+#define TAGS_FILLED(start, size) __msan_unpoison(start, size)
+#else
+#define TAGS_FILLED(start, size) ((void)(start), (void)(size))
+#endif
+
+static inline int32_t tags_filled(int32_t status, const void *start, size_t size)
+{
+	if (status >= 0)
+		TAGS_FILLED(start, size);
+	return status;
+}
+
+static inline int32_t tags_granted(int32_t status, const struct tags_grants *grants)
+{
+	return tags_filled(status, grants, sizeof(*grants));
+}
 
 static inline int32_t tags_won(int32_t tag)
 {
@@ -505,8 +541,9 @@ static inline int tags_is_stopped(const struct tags_hand *hand)
  * @pool: an empty handle
  * @options: its options
  *
- * All tags are free and all slots are 0. The pool allocates all its memory here,
- * except for some 500 bytes per hand, which tags_join() allocates.
+ * All tags are free and all slots are 0. The pool allocates its memory here: about 83
+ * bytes for each tag, 130 for each word, and for each hand 2 kilobytes and 8 bytes for each
+ * word. tags_join() allocates some 550 bytes more.
  *
  * Return: TAGS_OK. Otherwise the first of TAGS_NOT_EMPTY, TAGS_BAD_FLAG,
  * TAGS_BAD_SHIFT, TAGS_CACHE_TOO_LARGE, TAGS_TOTAL_TOO_LARGE,
@@ -527,7 +564,7 @@ TAGS_ANSWER int32_t tags_open(struct tags_pool *pool, const struct tags_options 
  * the tags of its own, so that threads seldom meet on one word; with TAGS_STAY, where
  * its last get left off.
  *
- * Threads: this call uses both handles, so threads must join one at a time.
+ * Threads: several threads may join at once, each with an empty handle of its own.
  *
  * Return: TAGS_OK. Otherwise the first of TAGS_NOT_EMPTY, TAGS_BAD_HANDLE (of
  * @pool), TAGS_BAD_FLAG and TAGS_NO_HAND that applies, or TAGS_NO_MEMORY.
@@ -561,7 +598,7 @@ int32_t tags_leave(struct tags_hand *hand);
  * options, so tags_close() returns the sums over the whole life of the pool.
  * Afterwards the threads join again.
  *
- * Threads: this call uses the pool's handle, so no thread may join meanwhile.
+ * Threads: no other call may use the pool's handle meanwhile.
  *
  * Return: TAGS_OK. Otherwise the first of TAGS_BAD_HANDLE, TAGS_TOTAL_TOO_LARGE,
  * TAGS_RESERVED_TOO_LARGE (@total is below the number of reserved tags),
@@ -583,8 +620,8 @@ TAGS_ANSWER int32_t tags_resize(struct tags_pool *pool, uint32_t total);
  * return a tag. All other calls work as before, so that tags are given back and hands
  * leave; then tags_close() finds them. A pool stays stopped, also over a tags_resize().
  *
- * Threads: this call only reads the pool's handle. It may run beside calls that use the
- * handle, except tags_open() and tags_close().
+ * Threads: this call may run beside any that uses the pool's handle, except tags_open()
+ * and tags_close().
  *
  * Return: TAGS_OK, or TAGS_BAD_HANDLE.
  *
@@ -695,7 +732,7 @@ TAGS_CHECKED int32_t tags_get_batch(struct tags_hand *hand, uint32_t n, uint64_t
 
 	if (!hand || !won)
 		return TAGS_NULL;
-	first = tags_library_get_batch(hand, n, won, &left);
+	first = tags_filled(tags_library_get_batch(hand, n, won, &left), won, sizeof(*won));
 	if (left > 0)
 		tags_library_ring(hand->waits, left);
 #ifdef TAGS_SANITIZED
@@ -775,7 +812,8 @@ TAGS_CALL int32_t tags_clear_granted(struct tags_hand *hand, uint32_t tag,
 	if (!hand || !grants)
 		return TAGS_NULL;
 	tags_lost(tag);
-	return tags_gave(hand, tags_library_clear_granted(hand, tag, grants), 1);
+	return tags_gave(hand, tags_granted(tags_library_clear_granted(hand, tag, grants), grants),
+			 1);
 }
 
 /**
@@ -795,7 +833,10 @@ TAGS_CALL int32_t tags_clear_batch_granted(struct tags_hand *hand, const uint32_
 	if (!hand || !tags || !grants)
 		return TAGS_NULL;
 	tags_lost_all(tags, count);
-	return tags_gave(hand, tags_library_clear_batch_granted(hand, tags, count, grants), count);
+	return tags_gave(hand,
+			 tags_granted(tags_library_clear_batch_granted(hand, tags, count, grants),
+				      grants),
+			 count);
 }
 
 /**
@@ -839,7 +880,9 @@ TAGS_CALL int32_t tags_clear_run_granted(struct tags_hand *hand, uint32_t first,
 	if (!hand || !grants)
 		return TAGS_NULL;
 	tags_lost_run(first, mask);
-	return tags_gave_run(hand, tags_library_clear_run_granted(hand, first, mask, grants),
+	return tags_gave_run(hand,
+			     tags_granted(tags_library_clear_run_granted(hand, first, mask, grants),
+					  grants),
 			     mask);
 }
 
@@ -875,7 +918,7 @@ TAGS_CALL int32_t tags_flush_granted(struct tags_hand *hand, struct tags_grants 
 {
 	if (!hand || !grants)
 		return TAGS_NULL;
-	return tags_gave(hand, tags_library_flush_granted(hand, grants), 0);
+	return tags_gave(hand, tags_granted(tags_library_flush_granted(hand, grants), grants), 0);
 }
 
 /*
@@ -917,7 +960,9 @@ TAGS_CALL int32_t tags_read_clear(struct tags_hand *hand, uint32_t tag, uint64_t
 	if (!hand || !value)
 		return TAGS_NULL;
 	tags_lost(tag);
-	return tags_gave(hand, tags_library_read_clear(hand, tag, value), 1);
+	return tags_gave(hand, tags_filled(tags_library_read_clear(hand, tag, value), value,
+					   sizeof(*value)),
+			 1);
 }
 
 /**
@@ -934,7 +979,7 @@ TAGS_CALL int32_t tags_read(struct tags_hand *hand, uint32_t tag, uint64_t *valu
 {
 	if (!hand || !value)
 		return TAGS_NULL;
-	return tags_library_read(hand, tag, value);
+	return tags_filled(tags_library_read(hand, tag, value), value, sizeof(*value));
 }
 
 /**
@@ -955,7 +1000,9 @@ TAGS_CALL int32_t tags_write(struct tags_hand *hand, uint32_t tag, uint64_t valu
 
 	if (!hand)
 		return TAGS_NULL;
-	return tags_library_write(hand, tag, value, former ? former : &unused);
+	if (!former)
+		former = &unused;
+	return tags_filled(tags_library_write(hand, tag, value, former), former, sizeof(*former));
 }
 
 /**
@@ -1037,7 +1084,7 @@ TAGS_CALL int32_t tags_busy(struct tags_hand *hand, uint64_t *into, size_t words
 {
 	if (!hand || !into)
 		return TAGS_NULL;
-	return tags_library_busy(hand, into, words);
+	return tags_filled(tags_library_busy(hand, into, words), into, words * sizeof(*into));
 }
 
 /**
@@ -1054,7 +1101,7 @@ TAGS_CALL int32_t tags_show(struct tags_hand *hand, uint32_t kind, struct tags_s
 {
 	if (!hand || !sizes)
 		return TAGS_NULL;
-	return tags_library_show(hand, kind, sizes);
+	return tags_filled(tags_library_show(hand, kind, sizes), sizes, sizeof(*sizes));
 }
 
 /**
@@ -1070,8 +1117,55 @@ TAGS_CALL int32_t tags_wakes(struct tags_hand *hand, struct tags_counts *counts)
 {
 	if (!hand || !counts)
 		return TAGS_NULL;
-	return tags_library_wakes(hand, counts);
+	return tags_filled(tags_library_wakes(hand, counts), counts, sizeof(*counts));
 }
+
+/*
+ * The same reports without a hand. What they tell is tested, and not proved but for the
+ * limits that each call states.
+ */
+
+/**
+ * tags_pool_busy() - report which tags of a pool are busy, without a hand
+ * @pool: the pool
+ * @into: bit t % 64 of into[t / 64] becomes 1 if tag t is busy, every other bit 0
+ * @words: length of @into, at least a 64th of the pool's tags, rounded up
+ *
+ * As tags_busy(), at any time, also while all hands are out.
+ *
+ * Return: how many tags are busy, which is how many bits of @into are 1. Otherwise
+ * TAGS_BAD_HANDLE or TAGS_TOO_SMALL.
+ *
+ * Since: 0.3
+ */
+int32_t tags_pool_busy(struct tags_pool *pool, uint64_t *into, size_t words);
+
+/**
+ * tags_pool_show() - report the sizes of a set of tags of a pool, without a hand
+ * @pool: the pool
+ * @kind: TAGS_ORDINARY or TAGS_RESERVED
+ * @sizes: filled in; @busy and @cleared are together at most @depth
+ *
+ * As tags_show(), at any time, also while all hands are out.
+ *
+ * Return: TAGS_OK. Otherwise TAGS_BAD_HANDLE or TAGS_BAD_KIND.
+ *
+ * Since: 0.3
+ */
+int32_t tags_pool_show(struct tags_pool *pool, uint32_t kind, struct tags_sizes *sizes);
+
+/**
+ * tags_pool_wakes() - report the counts of completions and of waiters of a pool, without a hand
+ * @pool: the pool
+ * @counts: filled in; @charged is at most @counted, and @index is below 8
+ *
+ * As tags_wakes(), at any time, also while all hands are out.
+ *
+ * Return: TAGS_OK or TAGS_BAD_HANDLE.
+ *
+ * Since: 0.3
+ */
+int32_t tags_pool_wakes(struct tags_pool *pool, struct tags_counts *counts);
 
 /*
  * Waiting for an ordinary tag. Whoever makes tags free tells those who wait, as many as

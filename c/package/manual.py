@@ -18,7 +18,7 @@ TYPE = re.compile(rf"{TEXT}(enum|struct) (\w+) \{{\n(.*?)^\}};", re.M | re.S)
 MACROS = re.compile(rf"{TEXT}((?:#define TAGS_\w+[^\n]*\n)+)", re.M | re.S)
 CONSTANTS = re.compile(r"^enum \{\n(.*?)^\};", re.M | re.S)
 # Macros of the header that are not for programs.
-PRIVATE = set("TAGS_H TAGS_CALL TAGS_CHECKED TAGS_ANSWER TAGS_SANITIZED TAGS_SEES TAGS_SHOWS".split())
+PRIVATE = set("TAGS_H TAGS_CALL TAGS_CHECKED TAGS_ANSWER TAGS_SANITIZED TAGS_MEMORY_SANITIZED TAGS_SEES TAGS_SHOWS TAGS_FILLED".split())
 MEMBER = re.compile(r"/\*\*(.*?)\*/\s*([^;,/]+?)\s*[;,]?\s*$", re.M | re.S)
 PART = re.compile(r"^(Threads|Return|Since): ")
 TITLES = {"Threads": "NOTES", "Return": "RETURN VALUE", "Since": "HISTORY"}

@@ -1,6 +1,7 @@
 /*
  * The edges of waiting: cancels, stops, leaves, eventfds that the program closes, two
- * event loops, whom a tag tells and in which order, and errno. edges [ROUNDS]
+ * event loops, whom a tag tells and in which order, reports and joins at once, and errno.
+ * edges [ROUNDS]
  */
 #define _GNU_SOURCE
 #include <errno.h>
@@ -422,6 +423,78 @@ static void stop_among_others(void)
 }
 
 /*
+ * The pool's handle, which joins, stops and reports use at once
+ */
+
+enum { TAGS = 70, LAST = TAGS - 1 };
+
+static void *come_and_go(void *number)
+{
+	struct tags_hand *hand = &hands[(uintptr_t)number];
+
+	for (long round = 0; round < rounds; round++) {
+		int32_t tag;
+
+		CHECK(tags_join(&pool, hand, 0) == TAGS_OK);
+		tag = tags_get(hand);
+		CHECK(tag >= 0 && tags_clear(hand, (uint32_t)tag) >= 0);
+		CHECK(tags_leave(hand) == TAGS_OK);
+	}
+	__atomic_fetch_sub(&begun, 1, __ATOMIC_SEQ_CST);
+	return number;
+}
+
+/* Hand 0 holds the last tag, and up to @others other tags are busy. */
+static void report(uint32_t others)
+{
+	const uint64_t last = UINT64_C(1) << LAST % 64;
+	uint64_t bits[LAST / 64 + 1];
+	struct tags_counts counts;
+	struct tags_sizes sizes;
+	int32_t busy = tags_pool_busy(&pool, bits, LAST / 64 + 1);
+	int32_t ones = 0;
+
+	for (uint32_t tag = 0; tag < (LAST / 64 + 1) * 64; tag++)
+		ones += (bits[tag / 64] >> tag % 64 & 1) != 0;
+	CHECK(busy == ones && busy >= 1 && (bits[LAST / 64] & last));
+	CHECK((bits[LAST / 64] & ~(last | (last - 1))) == 0);
+	CHECK(tags_pool_show(&pool, TAGS_ORDINARY, &sizes) == TAGS_OK);
+	CHECK(sizes.depth == TAGS && sizes.busy >= 1 && sizes.busy + sizes.cleared <= TAGS);
+	CHECK(tags_pool_wakes(&pool, &counts) == TAGS_OK && counts.charged <= counts.counted);
+	if (others == 0)
+		CHECK(busy == 1 && sizes.busy == 1 && counts.active == 0);
+}
+
+/* Without a hand: while all are out, and while threads join, work and leave. */
+static void report_at_any_time(void)
+{
+	struct tags_hand extra = TAGS_EMPTY;
+	struct tags_counts counts;
+	uint64_t bits[2];
+	pthread_t ids[MOST + 1];
+
+	set_up(TAGS, MOST);
+	CHECK(tags_join(&pool, &extra, 0) == TAGS_NO_HAND);
+	CHECK(tags_pool_busy(&pool, bits, 2) == TAGS && bits[0] == UINT64_MAX && bits[1] == 63);
+	CHECK(tags_get_async(&hands[1], events[0]) == TAGS_NO_TAG);
+	CHECK(tags_pool_wakes(&pool, &counts) == TAGS_OK && counts.active == 1);
+	for (uint32_t i = 1; i <= MOST; i++)
+		CHECK(tags_leave(&hands[i]) == TAGS_OK);
+	for (uint32_t tag = 0; tag < LAST; tag++)
+		CHECK(tags_clear(&hands[0], tag) >= 0);
+	report(0);
+	__atomic_store_n(&begun, MOST, __ATOMIC_SEQ_CST);
+	for (uintptr_t i = 1; i <= MOST; i++)
+		CHECK(pthread_create(&ids[i], NULL, come_and_go, (void *)i) == 0);
+	while (__atomic_load_n(&begun, __ATOMIC_SEQ_CST) > 0)
+		report(MOST);
+	for (int i = 1; i <= MOST; i++)
+		pthread_join(ids[i], NULL);
+	report(0);
+	tear_down(MOST);
+}
+
+/*
  * errno
  */
 
@@ -473,6 +546,7 @@ int main(int argc, char **argv)
 	run_two_loops();
 	stop_each_wait();
 	stop_among_others();
+	report_at_any_time();
 	keep_errno();
 	printf("%" PRIu64 " wrong\n", wrong);
 	return wrong != 0;

@@ -639,6 +639,15 @@ static void try_show(void)
 	compare_filled("show", &found, &wanted, sizeof(found));
 }
 
+static void compare_counts(const char *call, const struct tags_counts *found,
+			   const struct tags_counts *wanted)
+{
+	if (found->counted != wanted->counted || found->charged != wanted->charged)
+		fail(call, "counted", (int64_t)found->counted, (int64_t)wanted->counted);
+	if (found->active != wanted->active || found->index != wanted->index)
+		fail(call, "active", (int64_t)found->active, (int64_t)wanted->active);
+}
+
 static void try_wakes(void)
 {
 	uint32_t at = hand_handle();
@@ -648,10 +657,46 @@ static void try_wakes(void)
 	memset(&found, 0, sizeof(found));
 	memset(&wanted, 0, sizeof(wanted));
 	compare("wakes", tags_wakes(&handles[at].hand, &found), model_wakes(&models[at], &wanted));
-	if (found.counted != wanted.counted || found.charged != wanted.charged)
-		fail("wakes", "counted", (int64_t)found.counted, (int64_t)wanted.counted);
-	if (found.active != wanted.active || found.index != wanted.index)
-		fail("wakes", "active", (int64_t)found.active, (int64_t)wanted.active);
+	compare_counts("wakes", &found, &wanted);
+}
+
+static void try_pool_busy(void)
+{
+	uint64_t found[WORDS];
+	uint64_t wanted[WORDS];
+	uint32_t at = seldom(10) ? any_handle() : pool_handle();
+	size_t words = below((total_behind(at) + 63) / 64 + 3);
+
+	memset(found, 0x5a, sizeof(found));
+	memset(wanted, 0x5a, sizeof(wanted));
+	compare("pool_busy", tags_pool_busy(&handles[at].pool, found, words),
+		model_pool_busy(&models[at], wanted, words));
+	compare_filled("pool_busy", found, wanted, sizeof(found));
+}
+
+static void try_pool_show(void)
+{
+	uint32_t at = seldom(10) ? any_handle() : pool_handle();
+	uint32_t kind = seldom(10) ? odd_number() : below(2);
+	struct tags_sizes found = { .depth = 5 };
+	struct tags_sizes wanted = { .depth = 5 };
+
+	compare("pool_show", tags_pool_show(&handles[at].pool, kind, &found),
+		model_pool_show(&models[at], kind, &wanted));
+	compare_filled("pool_show", &found, &wanted, sizeof(found));
+}
+
+static void try_pool_wakes(void)
+{
+	uint32_t at = seldom(10) ? any_handle() : pool_handle();
+	struct tags_counts found;
+	struct tags_counts wanted;
+
+	memset(&found, 0, sizeof(found));
+	memset(&wanted, 0, sizeof(wanted));
+	compare("pool_wakes", tags_pool_wakes(&handles[at].pool, &found),
+		model_pool_wakes(&models[at], &wanted));
+	compare_counts("pool_wakes", &found, &wanted);
 }
 
 /*
@@ -725,12 +770,13 @@ static const struct {
 	{ try_clear_granted, 1 }, { try_read_clear, 1 },   { try_get_write, 1 },
 	{ try_stop, 1 },	  { try_get_timed, 1 },	   { try_get_blocking, 1 },
 	{ try_get_async, 4 },	  { try_cancel, 1 },	   { try_events, 1 },
-	{ try_clear_run, 1 },	  { try_flush, 1 },
+	{ try_clear_run, 1 },	  { try_flush, 1 },	   { try_pool_busy, 1 },
+	{ try_pool_show, 1 },	  { try_pool_wakes, 1 },
 };
 
 static void try_any(void)
 {
-	uint32_t turn = below(45);
+	uint32_t turn = below(48);
 	size_t at = 0;
 
 	while (turn >= tries[at].turns)

@@ -185,6 +185,9 @@ int32_t model_finish(struct model *hand);
 int32_t model_busy(struct model *hand, uint64_t *into, size_t words);
 int32_t model_show(struct model *hand, uint32_t kind, struct tags_sizes *sizes);
 int32_t model_wakes(struct model *hand, struct tags_counts *counts);
+int32_t model_pool_busy(struct model *pool, uint64_t *into, size_t words);
+int32_t model_pool_show(struct model *pool, uint32_t kind, struct tags_sizes *sizes);
+int32_t model_pool_wakes(struct model *pool, struct tags_counts *counts);
 
 /* After a get: those that it made free are told of, without those of the latest sweep that it won. Returns @answer. */
 int32_t model_swept(struct model *hand, int32_t answer);

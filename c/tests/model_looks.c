@@ -45,12 +45,15 @@ static bool is_busy(const struct set *set, uint32_t at)
 	return set->place[at] == HELD || set->place[at] == POSTED;
 }
 
-int32_t model_busy(struct model *hand, uint64_t *into, size_t words)
+static bool is_pool(const struct model *handle)
+{
+	return handle->pool && !is_hand(handle);
+}
+
+static int32_t list_busy(struct model *hand, uint64_t *into, size_t words)
 {
 	int32_t busy = 0;
 
-	if (!is_hand(hand))
-		return TAGS_BAD_HANDLE;
 	if ((total_of(hand) + 63) / 64 > words)
 		return TAGS_TOO_SMALL;
 	memset(into, 0, words * sizeof(*into));
@@ -62,12 +65,20 @@ int32_t model_busy(struct model *hand, uint64_t *into, size_t words)
 	return busy;
 }
 
-int32_t model_show(struct model *hand, uint32_t kind, struct tags_sizes *sizes)
+int32_t model_busy(struct model *hand, uint64_t *into, size_t words)
+{
+	return is_hand(hand) ? list_busy(hand, into, words) : TAGS_BAD_HANDLE;
+}
+
+int32_t model_pool_busy(struct model *pool, uint64_t *into, size_t words)
+{
+	return is_pool(pool) ? list_busy(pool, into, words) : TAGS_BAD_HANDLE;
+}
+
+static int32_t show_set(const struct model *hand, uint32_t kind, struct tags_sizes *sizes)
 {
 	const struct set *set;
 
-	if (!is_hand(hand))
-		return TAGS_BAD_HANDLE;
 	if (kind > TAGS_RESERVED)
 		return TAGS_BAD_KIND;
 	set = &hand->pool->set[kind];
@@ -83,10 +94,28 @@ int32_t model_show(struct model *hand, uint32_t kind, struct tags_sizes *sizes)
 	return TAGS_OK;
 }
 
+int32_t model_show(struct model *hand, uint32_t kind, struct tags_sizes *sizes)
+{
+	return is_hand(hand) ? show_set(hand, kind, sizes) : TAGS_BAD_HANDLE;
+}
+
+int32_t model_pool_show(struct model *pool, uint32_t kind, struct tags_sizes *sizes)
+{
+	return is_pool(pool) ? show_set(pool, kind, sizes) : TAGS_BAD_HANDLE;
+}
+
 int32_t model_wakes(struct model *hand, struct tags_counts *counts)
 {
 	if (!is_hand(hand))
 		return TAGS_BAD_HANDLE;
 	*counts = hand->pool->counts;
+	return TAGS_OK;
+}
+
+int32_t model_pool_wakes(struct model *pool, struct tags_counts *counts)
+{
+	if (!is_pool(pool))
+		return TAGS_BAD_HANDLE;
+	*counts = pool->pool->counts;
 	return TAGS_OK;
 }

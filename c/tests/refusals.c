@@ -73,6 +73,10 @@ static void refuse_null(struct tags_pool *pool, struct tags_hand *hand)
 	WANT(tags_wakes(hand, NULL), -28);
 	WANT(tags_prepare(NULL), -28);
 	WANT(tags_finish(NULL), -28);
+	WANT(tags_pool_busy(NULL, &value, 1), -28);
+	WANT(tags_pool_busy(pool, NULL, 1), -28);
+	WANT(tags_pool_show(pool, TAGS_ORDINARY, NULL), -28);
+	WANT(tags_pool_wakes(pool, NULL), -28);
 	WANT(tags_get_blocking(NULL), -28);
 	WANT(tags_clear_batch(NULL, &tag, 1), -28);
 	WANT(tags_clear_run(NULL, 2, 1), -28);
@@ -179,6 +183,19 @@ static void refuse_handle(struct tags_hand *hand)
 	WANT(value == 5 && grants.woken == 5, 1);
 }
 
+/* An empty handle, or that of a hand, is no pool to report of. */
+static void refuse_reports(struct tags_pool *pool)
+{
+	struct tags_counts counts = { .counted = 5 };
+	struct tags_sizes sizes = { .depth = 5 };
+	uint64_t bits = 5;
+
+	WANT(tags_pool_busy(pool, &bits, 1), -12);
+	WANT(tags_pool_show(pool, TAGS_ORDINARY, &sizes), -12);
+	WANT(tags_pool_wakes(pool, &counts), -12);
+	WANT(bits == 5 && sizes.depth == 5 && counts.counted == 5, 1);
+}
+
 static void refuse_handles(struct tags_pool *pool, struct tags_hand *hand)
 {
 	struct tags_pool none = TAGS_EMPTY;
@@ -197,6 +214,8 @@ static void refuse_handles(struct tags_pool *pool, struct tags_hand *hand)
 	WANT(tags_cancel(hand), -9);
 	WANT(tags_stop(&none), -12);
 	WANT(tags_stop(as_pool(hand)), -12);
+	refuse_reports(&none);
+	refuse_reports(as_pool(hand));
 	WANT(tags_open(pool, &twelve), -13);
 	WANT(tags_open(as_pool(hand), &twelve), -13);
 	WANT(tags_join(pool, hand, 0), -13);
@@ -270,6 +289,19 @@ static void refuse_counts(struct tags_hand *hand)
 	WANT(tags_clear_run(hand, 0, 4), 0);
 	list[0] = 3;
 	WANT(tags_clear_batch(hand, list, 1), 0);
+}
+
+static void refuse_pool_sizes(struct tags_pool *pool)
+{
+	struct tags_sizes sizes = { .depth = 5 };
+	uint64_t bits = 5;
+
+	WANT(tags_pool_busy(pool, &bits, 0), -17);
+	WANT(bits == 5, 1);
+	WANT(tags_pool_busy(pool, &bits, 1), 0);
+	WANT(tags_pool_show(pool, 2, &sizes), -16);
+	WANT(tags_pool_show(pool, UINT32_MAX, &sizes), -16);
+	WANT(sizes.depth == 5, 1);
 }
 
 static void refuse_sizes(struct tags_hand *hand)
@@ -500,6 +532,7 @@ int main(void)
 	refuse_tags(&hand, &other);
 	refuse_counts(&hand);
 	refuse_sizes(&hand);
+	refuse_pool_sizes(&pool);
 	refuse_waits(&hand);
 	use_up(&hand);
 	WANT(tags_leave(&hand), 0);

@@ -82,6 +82,16 @@ static void run_through_all_calls(void)
 	WANT(tags_wakes(&hand, &counts), TAGS_OK);
 	WANT(counts.counted, 2);
 	WANT(counts.active, 0);
+	WANT(tags_pool_busy(&pool, &bits, 1), 2);
+	WANT(bits, 33);
+	WANT(tags_pool_show(&pool, TAGS_ORDINARY, &sizes), TAGS_OK);
+	WANT(sizes.depth, 10);
+	WANT(sizes.busy, 1);
+	WANT(sizes.cleared, 3);
+	WANT(sizes.words, 3);
+	WANT(tags_pool_wakes(&pool, &counts), TAGS_OK);
+	WANT(counts.counted, 2);
+	WANT(counts.index, 1);
 	WANT(tags_leave(&hand), TAGS_OK);
 	WANT(tags_close(&pool, &sums), TAGS_HANDS_OUT);
 	WANT(tags_leave(&other), TAGS_OK);

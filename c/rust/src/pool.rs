@@ -2,9 +2,10 @@
 use crate::bell::Bell;
 use crate::error::{number, CloseError, Result};
 use crate::hand::Hand;
-use crate::options::{Options, Totals};
+use crate::options::{Counts, Kind, Options, Sizes, Totals};
 use crate::raw::{
-    tags_close, tags_join, tags_open, tags_resize, Handle, MAX_CACHE, MAX_TOTAL, STAY,
+    tags_close, tags_join, tags_open, tags_pool_busy, tags_pool_show, tags_pool_wakes, tags_resize,
+    Handle, MAX_CACHE, MAX_TOTAL, STAY,
 };
 use crate::values::Values;
 use std::cell::UnsafeCell;
@@ -223,6 +224,59 @@ impl<T> Pool<T> {
     /// ```
     pub fn stop(&self) {
         self.shared.bell.stop();
+    }
+
+    /// Sets bit `t % 64` of `into[t / 64]` for each busy tag `t`, clears every other bit, and returns how many tags are
+    /// busy, as [`Hand::busy`] does. It needs no hand, so it works at any time, also while all hands are out.
+    ///
+    /// ```
+    /// # use tags::{Options, Pool};
+    /// # fn main() -> tags::Result<()> {
+    /// let pool = Pool::open(&Options::new(4, 1))?;
+    /// let hand = pool.join()?;
+    /// let tag = hand.get_blocking()?;
+    /// let mut busy = [0];
+    /// assert_eq!(pool.busy(&mut busy), Ok(1));
+    /// assert_eq!(busy, [1 << tag.number()]);
+    /// # Ok(())
+    /// # }
+    /// ```
+    pub fn busy(&self, into: &mut [u64]) -> Result<u32> {
+        let mut handle = self.shared.opened.handle();
+        // SAFETY: the lock reserves the handle for this call, and the length is that of the slice.
+        number(unsafe { tags_pool_busy(&mut *handle, into.as_mut_ptr(), into.len()) })
+    }
+
+    /// Returns the sizes of a set of tags, as [`Hand::show`] does, but without a hand.
+    #[must_use]
+    pub fn show(&self, kind: Kind) -> Sizes {
+        let mut sizes = Sizes::default();
+        let mut handle = self.shared.opened.handle();
+        // SAFETY: the lock reserves the handle for this call.
+        Hand::<T>::expect(unsafe { tags_pool_show(&mut *handle, kind as u32, &mut sizes) });
+        sizes
+    }
+
+    /// Returns the counts of completions and of waiters, as [`Hand::wakes`] does, but without a hand.
+    ///
+    /// ```
+    /// # use tags::{Options, Pool};
+    /// # fn main() -> tags::Result<()> {
+    /// let pool = Pool::open(&Options::new(1, 1))?;
+    /// let hand = pool.join()?;
+    /// let wait = hand.prepare()?;
+    /// assert_eq!(pool.wakes().active, 1);
+    /// # drop(wait);
+    /// # Ok(())
+    /// # }
+    /// ```
+    #[must_use]
+    pub fn wakes(&self) -> Counts {
+        let mut counts = Counts::default();
+        let mut handle = self.shared.opened.handle();
+        // SAFETY: the lock reserves the handle for this call.
+        Hand::<T>::expect(unsafe { tags_pool_wakes(&mut *handle, &mut counts) });
+        counts
     }
 
     /// Closes a pool whose hands are all dropped, and returns its totals. On failure the error hands the pool back.

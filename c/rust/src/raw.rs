@@ -125,6 +125,9 @@ unsafe extern "C" {
     pub fn tags_leave(hand: *mut Handle) -> i32;
     pub fn tags_resize(pool: *mut Handle, total: u32) -> i32;
     pub fn tags_close(pool: *mut Handle, sums: *mut Totals) -> i32;
+    pub fn tags_pool_busy(pool: *mut Handle, into: *mut u64, words: usize) -> i32;
+    pub fn tags_pool_show(pool: *mut Handle, kind: u32, sizes: *mut Sizes) -> i32;
+    pub fn tags_pool_wakes(pool: *mut Handle, counts: *mut Counts) -> i32;
     pub fn tags_get_timed(hand: *mut Handle, clock: i32, end: *const Timespec) -> i32;
     pub fn tags_strerror(status: i32) -> *const c_char;
     fn clock_gettime(clock: i32, now: *mut Timespec) -> i32;

@@ -1,6 +1,6 @@
 //! A hand that several threads and tasks share.
 use crate::bell::Bell;
-use crate::error::Result;
+use crate::error::{Error, Result};
 use crate::future::{GetAsyncOwned, Lends};
 use crate::hand::Hand;
 use crate::options::{Counts, Kind, Sizes};
@@ -64,6 +64,7 @@ impl<T> SharedHand<T> {
     }
 
     /// Takes a free ordinary tag, as [`Hand::get`] does.
+    #[inline]
     pub fn get(&self) -> Result<Option<OwnedTag<T>>> {
         Ok(self.lend(Hand::find)?.map(|tag| self.own(tag)))
     }
@@ -82,7 +83,10 @@ impl<T> SharedHand<T> {
     /// Takes a free ordinary tag, and sleeps while there is none. Other threads can use the hand meanwhile.
     pub fn get_blocking(&self) -> Result<OwnedTag<T>> {
         loop {
-            if let Some(tag) = self.get_timeout(Duration::MAX)? {
+            if let Some(tag) = self.get_unless_stopped()? {
+                return Ok(tag);
+            }
+            if let Some(tag) = self.sleep(None)? {
                 return Ok(tag);
             }
         }
@@ -103,7 +107,25 @@ impl<T> SharedHand<T> {
     /// # }
     /// ```
     pub fn get_timeout(&self, time: Duration) -> Result<Option<OwnedTag<T>>> {
-        wait_for(self.get_async(), Instant::now().checked_add(time)).transpose()
+        match self.get_unless_stopped()? {
+            Some(tag) => Ok(Some(tag)),
+            None => self.sleep(Instant::now().checked_add(time)),
+        }
+    }
+
+    /// Tries before a wait, which allocates memory, as a free tag needs none.
+    #[inline]
+    fn get_unless_stopped(&self) -> Result<Option<OwnedTag<T>>> {
+        if self.bell().is_stopped() {
+            return Err(Error::Stopped);
+        }
+        self.get()
+    }
+
+    /// Sleeps until there is a tag, or until this moment if there is one.
+    #[cold]
+    fn sleep(&self, end: Option<Instant>) -> Result<Option<OwnedTag<T>>> {
+        wait_for(self.get_async(), end).transpose()
     }
 
     /// Takes a free ordinary tag, and while there is none, waits without blocking a thread, as [`Hand::get_async`] does. The

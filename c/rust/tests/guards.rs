@@ -189,3 +189,33 @@ fn a_wait_ends_in_time() {
     drop(tag);
     assert!(waiter.get_timeout(Duration::ZERO).unwrap().is_some());
 }
+
+#[test]
+fn a_pool_reports_while_all_hands_are_out() {
+    let pool = open(70, 2, 3);
+    let (hand, others) = (pool.join().unwrap(), [(); 2].map(|()| pool.join().unwrap()));
+    assert_eq!(pool.join().unwrap_err(), Error::NoHand);
+    let tag = hand.get_reserved().unwrap().unwrap();
+    let mut busy = [0; 2];
+    assert_eq!(pool.busy(&mut busy), Ok(1));
+    assert_eq!(busy, [1 << tag.number(), 0]);
+    assert_eq!(pool.busy(&mut busy[..1]), Err(Error::TooSmall));
+    assert_eq!(pool.show(Kind::Reserved), hand.show(Kind::Reserved));
+    let wait = hand.prepare().unwrap();
+    assert_eq!(pool.wakes(), hand.wakes());
+    drop(wait);
+    thread::scope(|threads| {
+        let workers = others.map(|hand| {
+            threads.spawn(move || (0..20_000).for_each(|_| drop(hand.get().unwrap())))
+        });
+        while !workers.iter().all(|it| it.is_finished()) {
+            let sizes = pool.show(Kind::Ordinary);
+            assert!(sizes.depth == 68 && sizes.busy + sizes.cleared <= 68);
+            let found = pool.busy(&mut busy).unwrap();
+            assert_eq!(found, busy[0].count_ones() + busy[1].count_ones());
+            assert!(busy[0] & 1 == 1 && busy[1] < 1 << 6);
+        }
+    });
+    drop(tag);
+    assert_eq!(pool.busy(&mut busy), Ok(0));
+}

@@ -10,6 +10,7 @@ pub mod Masks
 pub mod Grants
 pub mod Pairs
 pub mod Views
+pub mod Reports
 pub mod Exports
 pub mod Resizes
 pub mod Held

@@ -20,6 +20,7 @@ mod pairs;
 mod pool;
 mod pool_state;
 mod pools;
+mod reports;
 mod resizes;
 mod status;
 mod structs;

@@ -59,6 +59,20 @@ impl<R> Map<R> {
         let table = &self.table.shared;
         table.load::<LookingAside>(&mut caller.seat, aside_spot(word))
     }
+
+    /// Loads a word without a caller. The load is in no list of steps, so no clause says what it finds.
+    pub fn peek(&self, word: u32) -> u64
+        requires { word < words (layout_of self.now) }
+    {
+        self.table.shared.peek(word_spot(word))
+    }
+
+    /// Loads a word's cleared set without a caller. The load is in no list of steps, so no clause says what it finds.
+    pub fn peek_aside(&self, word: u32) -> u64
+        requires { word < words (layout_of self.now) }
+    {
+        self.table.shared.peek(aside_spot(word))
+    }
 }
 
 impl<R> Caller<R> {

@@ -37,4 +37,18 @@ impl<R: Copy> Queue<R> {
     {
         self.map.look_aside(&mut agent.caller, word)
     }
+
+    /// Loads the bits of a word without an agent. The load is in no list of steps, so no clause says what it finds.
+    pub fn peek(&self, word: u32) -> u64
+        requires { word < words (layout_of self.now) }
+    {
+        self.map.peek(word)
+    }
+
+    /// Loads the cleared set of a word without an agent. The load is in no list of steps, so no clause says what it finds.
+    pub fn peek_aside(&self, word: u32) -> u64
+        requires { word < words (layout_of self.now) }
+    {
+        self.map.peek_aside(word)
+    }
 }

@@ -118,4 +118,19 @@ impl<R: Copy> Queue<R> {
     {
         self.groups.active(&mut agent.waiter)
     }
+
+    /// Loads the counts and the state of the wait groups without an agent, in four loads at different moments. They are in
+    /// no list of steps, so no clause says what they find.
+    pub fn peek_wakes(&self) -> Wakes
+        ensures ordered { result.charged ≤ result.counted }
+        ensures within { result.index < 8 }
+    {
+        let (counted, charged) = self.book.peek_counts();
+        Wakes {
+            counted,
+            charged,
+            index: self.groups.peek_index(),
+            active: self.groups.peek_active(),
+        }
+    }
 }

@@ -1,12 +1,12 @@
 -- The bits of the busy tags of both sets, put together in one list.
-use Rattle.std.proofs.Common.{◌≡◌, inl, inr, ℕ, ◌+◌, ◌-◌, ◌/◌, ◌%◌, ◌<◌, ◌≤◌, Bool, nat_lt, List, get_or, sym, ap, ◌∙◌, subst, ⊎_elim, arith}
+use Rattle.std.proofs.Common.{◌≡◌, inl, inr, ℕ, ◌+◌, ◌-◌, ◌/◌, ◌%◌, ◌<◌, ◌≤◌, Bool, nat_eq, nat_lt, List, get_or, sym, ap, ◌∙◌, subst, ⊎_elim, arith}
 use Rattle.std.specs.Prelude.{◌&&◌, if◌then◌else◌}
 use Rattle.std.specs.Int.{bit_at}
 use Rattle.std.proofs.lemmas.Bool.{lt-ltb, le-ltb}
 use Rattle.std.proofs.lemmas.Nat.Bits.{bit_at-zero}
 use mathlib.Core.Logic.{dite}
 use native.Mathlib.Decide.{dec_lt}
-use Rattle.sums.proofs.Laws.{sum_below-same, sum_below-split}
+use Rattle.sums.proofs.Laws.{sum_below-same, sum_below-split, one_if-bit, one_if-le}
 use Rattle.sums.specs.Below.{count_below, one_if}
 use Rattle.tag_queue.specs.declared.agent.Agent.{Agent}
 use Rattle.tag_queue.specs.Agents as queue
@@ -14,8 +14,9 @@ use Rattle.tag_sets.specs.declared.hand.Hand.{Hand}
 use Rattle.tag_sets.specs.declared.kind.Kind.{Kind}
 use Rattle.tag_sets.specs.declared.kind.Kind.TheVariants.{Ordinary, Reserved}
 use Rattle.tag_sets.specs.declared.tags.Tags.{Tags}
-use Rattle.tag_sets.specs.Bits.{bit_in}
+use Rattle.tag_sets.specs.Bits.{bit_in, Marks}
 use Rattle.tag_sets.specs.Busy.{ListsSet, ListsBusy, is_busy_tag}
+use Rattle.tag_sets.specs.Peeks.{PeeksBusy, PeeksSet}
 use Rattle.tag_sets.specs.Sets.{number_in_set}
 use Rattle.tag_sets.specs.Hands.{IsHandOf, Holds, agent_of, split_of, reserved_of, total_of, layout_of}
 use Rattle.tag_sets.specs.Looks.{is_busy_in}
@@ -66,39 +67,61 @@ module _ {R : Type 0} (tags : Tags R) (found found' : List (ℕ × ℕ)) where
       (λ (k : ℕ). one_if (is_busy_in (layout_of tags Ordinary) found' k)) d ordinary_one in
       let is = ap (count_below (is_busy_in (layout_of tags Reserved) found)) tags.reserved_is in omega arith
 
-module _ {R : Type 0} (tags : Tags R) (zeros mid bits : List ℕ) (x y : ℕ) (old between new : Hand R)
+module _ {R : Type 0} (tags : Tags R) (zeros mid bits : List ℕ) (found found' : List (ℕ × ℕ))
     (none : (n : ℕ) → bit_in 64 zeros n ≡ 0)
-    (one : ListsSet (layout_of tags Reserved) Reserved 0 zeros mid x old between)
-    (two : ListsSet (layout_of tags Ordinary) Ordinary (reserved_of tags) mid bits y between new) where
-  low_bit : (tag : ℕ) → tag < reserved_of tags → bit_in 64 bits tag ≡ one_if (is_busy_tag tags one.found two.found tag)
+    (one : Marks 64 0 (layout_of tags Reserved).depth (is_busy_in (layout_of tags Reserved) found) zeros mid)
+    (two : Marks 64 (reserved_of tags) (layout_of tags Ordinary).depth (is_busy_in (layout_of tags Ordinary) found')
+    mid bits) where
+  low_bit : (tag : ℕ) → tag < reserved_of tags → bit_in 64 bits tag ≡ one_if (is_busy_tag tags found found' tag)
   low_bit tag low =
-      let is = tags.reserved_is in let a = one.marks.inside tag (omega arith) in
-      let b = two.marks.outside tag (inl low) in
+      let is = tags.reserved_is in let a = one.inside tag (omega arith) in
+      let b = two.outside tag (inl low) in
       let z = none (0 + tag) in let e : 0 + tag ≡ tag = omega arith in
-      let m = ap (λ (n : ℕ). bit_in 64 mid n) e in let t = in_reserve tags one.found two.found tag low in omega arith
+      let m = ap (λ (n : ℕ). bit_in 64 mid n) e in let t = in_reserve tags found found' tag low in omega arith
 
   high_bit : (k : ℕ) → k < (layout_of tags Ordinary).depth
-      → bit_in 64 bits (reserved_of tags + k) ≡ one_if (is_busy_tag tags one.found two.found (reserved_of tags + k))
+      → bit_in 64 bits (reserved_of tags + k) ≡ one_if (is_busy_tag tags found found' (reserved_of tags + k))
   high_bit k low =
-      let is = tags.reserved_is in let a = one.marks.outside (reserved_of tags + k) (inr (omega arith)) in
-      let b = two.marks.inside k low in
-      let z = none (reserved_of tags + k) in let t = ordinary_one tags one.found two.found k low in omega arith
+      let is = tags.reserved_is in let a = one.outside (reserved_of tags + k) (inr (omega arith)) in
+      let b = two.inside k low in
+      let z = none (reserved_of tags + k) in let t = ordinary_one tags found found' k low in omega arith
 
-  past_bit : (tag : ℕ) → total_of tags ≤ tag → bit_in 64 bits tag ≡ one_if (is_busy_tag tags one.found two.found tag)
+  past_bit : (tag : ℕ) → total_of tags ≤ tag → bit_in 64 bits tag ≡ one_if (is_busy_tag tags found found' tag)
   past_bit tag high =
-      let is = tags.reserved_is in let a = one.marks.outside tag (inr (omega arith)) in
-      let b = two.marks.outside tag (inr (omega arith)) in
-      let z = none tag in let t = past_all tags one.found two.found tag high in omega arith
+      let is = tags.reserved_is in let a = one.outside tag (inr (omega arith)) in
+      let b = two.outside tag (inr (omega arith)) in
+      let z = none tag in let t = past_all tags found found' tag high in omega arith
 
-  each_bit : (tag : ℕ) → bit_in 64 bits tag ≡ one_if (is_busy_tag tags one.found two.found tag)
+  each_bit : (tag : ℕ) → bit_in 64 bits tag ≡ one_if (is_busy_tag tags found found' tag)
   each_bit tag = dite (dec_lt tag (reserved_of tags)) (low_bit tag)
       (λ above. dite (dec_lt tag (total_of tags))
       (λ (h : tag < total_of tags). subst (λ (t : ℕ). bit_in 64 bits t
-      ≡ one_if (is_busy_tag tags one.found two.found t))
+      ≡ one_if (is_busy_tag tags found found' t))
       (let e : reserved_of tags + (tag - reserved_of tags) ≡ tag = omega arith in e)
       (high_bit (tag - reserved_of tags) (omega arith)))
       (λ past. past_bit tag (omega arith)))
 
+module _ {R : Type 0} (tags : Tags R) (zeros mid bits : List ℕ) (x y : ℕ)
+    (none : (n : ℕ) → bit_in 64 zeros n ≡ 0)
+    (one : PeeksSet (layout_of tags Reserved) 0 zeros mid x)
+    (two : PeeksSet (layout_of tags Ordinary) (reserved_of tags) mid bits y) where
+  pub peeks : PeeksBusy (total_of tags) bits (x + y)
+  peeks =
+      let each = each_bit tags zeros mid bits one.found two.found none one.marks two.marks in
+      let busy = is_busy_tag tags one.found two.found in record {
+        past = λ tag high low. each tag ∙ past_all tags one.found two.found tag high;
+        count_is =
+            let a = one.count_is in let b = two.count_is in let c = count_both tags one.found two.found in
+            let d : count_below busy (total_of tags) ≡ count_below (λ tag. nat_eq (bit_in 64 bits tag) 1) (total_of tags) =
+            sum_below-same (λ tag. one_if (busy tag)) (λ tag. one_if (nat_eq (bit_in 64 bits tag) 1)) (total_of tags)
+            (λ tag low. sym (one_if-bit (one_if (busy tag)) (let le = one_if-le (busy tag) in omega arith))
+            ∙ ap (λ (n : ℕ). one_if (nat_eq n 1)) (sym (each tag))) in omega arith;
+      }
+
+module _ {R : Type 0} (tags : Tags R) (zeros mid bits : List ℕ) (x y : ℕ) (old between new : Hand R)
+    (none : (n : ℕ) → bit_in 64 zeros n ≡ 0)
+    (one : ListsSet (layout_of tags Reserved) Reserved 0 zeros mid x old between)
+    (two : ListsSet (layout_of tags Ordinary) Ordinary (reserved_of tags) mid bits y between new) where
   pub lists : ListsBusy tags bits (x + y) old new
   lists = record {
     reserved = one.found;
@@ -106,7 +129,7 @@ module _ {R : Type 0} (tags : Tags R) (zeros mid bits : List ℕ) (x y : ℕ) (o
     between = between;
     first = one.around;
     second = two.around;
-    bits_are = λ tag low. each_bit tag;
+    bits_are = λ tag low. each_bit tags zeros mid bits one.found two.found none one.marks two.marks tag;
     count_is = let a = one.count_is in let b = two.count_is in
         let c = count_both tags one.found two.found in omega arith;
   }
@@ -118,7 +141,7 @@ module _ {R : Type 0} (tags : Tags R) (zeros mid bits : List ℕ) (x y : ℕ) (o
       let a = one.held tag (subst (λ (p : Agent R × ℕ). queue.Holds p.0 p.1)
       (λ j. (ap (agent_of old) r.kind j, r.number j)) h) in
       let low = r.below in
-      low_bit tag (omega (arith, own.2)) ∙ in_reserve tags one.found two.found tag (omega (arith, own.2)) ∙ ap one_if a)
+      low_bit tags zeros mid bits one.found two.found none one.marks two.marks tag (omega (arith, own.2)) ∙ in_reserve tags one.found two.found tag (omega (arith, own.2)) ∙ ap one_if a)
       (λ (o : IsOrdinary (split_of old) tag). let k : ℕ = number_in_set (split_of old) tag in let number = o.number in
       let was : queue.Holds (agent_of old Ordinary) k =
       subst (λ (kind : Kind). queue.Holds (agent_of old kind) k) o.kind h in
@@ -127,5 +150,5 @@ module _ {R : Type 0} (tags : Tags R) (zeros mid bits : List ℕ) (x y : ℕ) (o
       let low = held_low tags old Ordinary k own was in
       let is : reserved_of tags + k ≡ tag = omega (arith, own.2) in
       subst (λ (t : ℕ). bit_in 64 bits t ≡ 1) is
-      (high_bit k low ∙ ordinary_one tags one.found two.found k low ∙ ap one_if (two.held k still)))
+      (high_bit tags zeros mid bits one.found two.found none one.marks two.marks k low ∙ ordinary_one tags one.found two.found k low ∙ ap one_if (two.held k still)))
       (stands (split_of old) tag)

@@ -8,7 +8,7 @@ use Rattle.std.proofs.lemmas.Nat.Bits.{bit_at-lt, bit_at_and, bit_at_not, bit_at
 use Rattle.std.proofs.Math.Nat.{mul-le-mul_right}
 use mathlib.Core.Logic.{dite}
 use native.Mathlib.Decide.{dec_lt}
-use Rattle.sums.proofs.Laws.{sum_below-same, sum_below-split, one_if-bit, count_below-le}
+use Rattle.sums.proofs.Laws.{sum_below-same, sum_below-split, sum_below-add, sum_below-bound, one_if-bit, one_if-le, count_below-le}
 use Rattle.sums.specs.Below.{count_below, one_if}
 use Rattle.tag_layout.specs.Layout.{Layout, word_bits, words, word_of, place_of, tag_at, word_depth}
 use Rattle.tag_layout.proofs.PlaceFacts.{word-start, depth-le-words, tag_at-back, word_of-tag_at, place_of-tag_at}
@@ -207,3 +207,24 @@ held_word l found pair i count holds before here tag h low = dite (dec_lt (word_
     ap (λ (w : ℕ × ℕ). nat_eq (bit_at w.0 (place_of l tag)) 1 && nat_eq (bit_at w.1 (place_of l tag)) 0)
     (get_or_push found pair (0, 0) (word_of l tag) (count ∙ sym is))
     ∙ ap (λ (x : ℕ). nat_eq x 1 && nat_eq (bit_at pair.1 (place_of l tag)) 0) f.0 ∙ ap (λ (x : ℕ). nat_eq x 0) f.1)
+
+-- a tag is not both busy and set aside
+apart : (test : Bool) (a : ℕ) → a < 2 → one_if (test && nat_eq a 0) + one_if (nat_eq a 1) ≤ 1
+apart test zero h = let le = one_if-le (test && nat_eq 0 0) in let none : one_if (nat_eq 0 1) ≡ 0 = refl in omega arith
+apart true (suc zero) h =
+    let none : one_if (true && nat_eq 1 0) ≡ 0 = refl in let le = one_if-le (nat_eq 1 1) in omega arith
+apart false (suc zero) h =
+    let none : one_if (false && nat_eq 1 0) ≡ 0 = refl in let le = one_if-le (nat_eq 1 1) in omega arith
+apart test (suc (suc a)) h = absurd (omega arith)
+
+-- so both together are no more than the tags
+pub no_more : (l : Layout) (found : List (ℕ × ℕ)) (n : ℕ)
+    → count_below (is_busy_in l found) n + count_below (is_aside_in l found) n ≤ n
+no_more l found n =
+    let busy : ℕ → ℕ = λ tag. one_if (is_busy_in l found tag) in
+    let aside : ℕ → ℕ = λ tag. one_if (is_aside_in l found tag) in
+    let both = sum_below-add (λ tag. busy tag + aside tag) busy aside n (λ tag low. refl) in
+    let bound = sum_below-bound (λ tag. busy tag + aside tag) n 1 (λ tag low.
+    apart (nat_eq (bit_at (word_in found (word_of l tag)).0 (place_of l tag)) 1)
+    (bit_at (word_in found (word_of l tag)).1 (place_of l tag))
+    (bit_at-lt (word_in found (word_of l tag)).1 (place_of l tag))) in omega arith

@@ -15,6 +15,7 @@ pub mod Masks
 pub mod Gathering
 pub mod Looks
 pub mod Shows
+pub mod Peeks
 pub mod Texts
 pub mod Bits
 pub mod Busy

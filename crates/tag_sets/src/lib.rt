@@ -12,6 +12,7 @@ mod kind;
 mod looks;
 mod meets;
 mod opens;
+mod peeks;
 mod resizes;
 mod shown;
 mod slots;

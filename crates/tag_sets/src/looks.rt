@@ -13,7 +13,7 @@ use tag_layout::Layout;
 
 mod busy;
 mod dump;
-mod marks;
+pub(crate) mod marks;
 pub(crate) mod texts;
 
 impl<R> Tags<R> {

@@ -76,6 +76,16 @@ impl Book {
         (completions, wakeups)
     }
 
+    /// Loads the wakeups and then the completions without a teller, and returns the completions first. The loads are in
+    /// no list of steps, so no clause says what they find.
+    pub fn peek_counts(&self) -> (u64, u64)
+        ensures { result.1 ≤ result.0 }
+    {
+        let wakeups = self.table.shared.peek(WAKEUPS);
+        let completions = self.table.shared.peek(COMPLETIONS);
+        (completions.max(wakeups), wakeups)
+    }
+
     fn look_completions(&self, teller: &mut Teller) -> u64
         requires { IsTellerOf self.now teller.old }
         ensures book { IsTellerOf self.now teller.new × (number_of teller.new ≡ number_of teller.old) }

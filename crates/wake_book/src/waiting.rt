@@ -58,6 +58,18 @@ impl Groups {
         self.table.shared.load::<SeeIndex>(&mut waiter.seat, INDEX) as u32
     }
 
+    /// Loads the active count without a waiter. The load is in no list of steps, so no clause says what it finds.
+    pub fn peek_active(&self) -> u64 {
+        self.table.shared.peek(ACTIVE)
+    }
+
+    /// Loads the wake index without a waiter. The load is in no list of steps, so no clause says what it finds.
+    pub fn peek_index(&self) -> u32
+        ensures { result < 8 }
+    {
+        (self.table.shared.peek(INDEX) % u64::from(GROUPS)) as u32
+    }
+
     /// Returns the group that the waiter is in, 0 to 7. This makes no step.
     pub fn standing(waiter: &Waiter) -> Option<u32>
         ensures { result ≡ standing_of waiter.now }

@@ -1,0 +1,134 @@
+//! Reports through the handle of a pool, which spend no hand and are made at any time. Each call is described in tags.h.
+ghost use Rattle.std.specs.Prelude.{◌≡◌, ◌≤◌, ◌*◌, length};
+ghost use Rattle.std.specs.Arc.{arc_value};
+ghost use Rattle.tag_c.specs.Codes.{IsRefusal};
+ghost use Rattle.tag_c.specs.Reports.{Reports, ReportsBy, TellsBusy, TellsShown, TellsWakes};
+
+use crate::codes::number_code;
+use crate::handle::Handle;
+use crate::looks::{Counts, Sizes};
+use crate::object::{Kind as Behind, Object};
+use crate::pool::Pool;
+use crate::status::Status;
+use tag_sets::Kind;
+
+impl Pool {
+    /// Returns how many tags of both sets are busy. Bit `tag % 64` of `into[tag / 64]` becomes 1 for each of them, and
+    /// every other bit becomes 0.
+    fn busy(&self, into: &mut [u64]) -> i32
+        ensures tells { TellsBusy into.old into.new result (arc_value self.now.shared).tags }
+        ensures kept { IsRefusal result → into.new ≡ into.old }
+    {
+        if (self.shared.total as usize).div_ceil(64) > into.len() {
+            return Status::TooSmall.code();
+        }
+        number_code(self.shared.tags.peek_busy(into))
+    }
+
+    /// Writes the sizes of the ordinary set if `kind` is 0, and of the reserved set if it is 1.
+    fn show(&self, kind: u32, sizes: &mut Sizes) -> i32
+        ensures tells { TellsShown kind sizes.new result (arc_value self.now.shared).tags }
+        ensures kept { IsRefusal result → sizes.new ≡ sizes.old }
+    {
+        let kind = match kind {
+            0 => Kind::Ordinary,
+            1 => Kind::Reserved,
+            _ => return Status::BadKind.code(),
+        };
+        let shown = self.shared.tags.peek_show(kind);
+        *sizes = Sizes {
+            depth: shown.depth,
+            busy: shown.busy,
+            cleared: shown.cleared,
+            bits_per_word: shown.bits_per_word,
+            words: shown.map_nr,
+        };
+        0
+    }
+
+    /// Writes the counts of completions and of waiters, each from a load of its own.
+    fn wakes(&self, counts: &mut Counts) -> i32
+        ensures tells { TellsWakes counts.new result (arc_value self.now.shared).tags }
+        ensures kept { IsRefusal result → counts.new ≡ counts.old }
+    {
+        let found = self.shared.tags.peek_wakes();
+        *counts = Counts {
+            counted: found.counted,
+            charged: found.charged,
+            active: found.active,
+            index: found.index,
+        };
+        0
+    }
+}
+
+impl Object {
+    /// Returns how many tags of both sets of this pool are busy, and sets their bits.
+    fn pool_busy(&self, into: &mut [u64]) -> i32
+        ensures tells { Reports (TellsBusy into.old into.new result) result self.now.kind }
+        ensures kept { IsRefusal result → into.new ≡ into.old }
+    {
+        match &self.kind {
+            Behind::Pool(pool) => pool.busy(into),
+            Behind::Member(_) | Behind::Cached(_) => Status::BadHandle.code(),
+        }
+    }
+
+    /// Writes the sizes of a set of this pool.
+    fn pool_show(&self, kind: u32, sizes: &mut Sizes) -> i32
+        ensures tells { Reports (TellsShown kind sizes.new result) result self.now.kind }
+        ensures kept { IsRefusal result → sizes.new ≡ sizes.old }
+    {
+        match &self.kind {
+            Behind::Pool(pool) => pool.show(kind, sizes),
+            Behind::Member(_) | Behind::Cached(_) => Status::BadHandle.code(),
+        }
+    }
+
+    /// Writes the counts of completions and of waiters of this pool.
+    fn pool_wakes(&self, counts: &mut Counts) -> i32
+        ensures tells { Reports (TellsWakes counts.new result) result self.now.kind }
+        ensures kept { IsRefusal result → counts.new ≡ counts.old }
+    {
+        match &self.kind {
+            Behind::Pool(pool) => pool.wakes(counts),
+            Behind::Member(_) | Behind::Cached(_) => Status::BadHandle.code(),
+        }
+    }
+}
+
+#[unsafe(no_mangle)]
+pub extern "C" fn tags_pool_busy(pool: &mut Handle, into: &mut [u64]) -> i32
+    ensures tells { ReportsBy (TellsBusy into.old into.new result) result pool.old.object.value }
+    ensures same { pool.new.object.value ≡ pool.old.object.value }
+    ensures kept { IsRefusal result → into.new ≡ into.old }
+{
+    let Some(object) = pool.lend() else {
+        return Status::BadHandle.code();
+    };
+    object.pool_busy(into)
+}
+
+#[unsafe(no_mangle)]
+pub extern "C" fn tags_pool_show(pool: &mut Handle, kind: u32, sizes: &mut Sizes) -> i32
+    ensures tells { ReportsBy (TellsShown kind sizes.new result) result pool.old.object.value }
+    ensures same { pool.new.object.value ≡ pool.old.object.value }
+    ensures kept { IsRefusal result → sizes.new ≡ sizes.old }
+{
+    let Some(object) = pool.lend() else {
+        return Status::BadHandle.code();
+    };
+    object.pool_show(kind, sizes)
+}
+
+#[unsafe(no_mangle)]
+pub extern "C" fn tags_pool_wakes(pool: &mut Handle, counts: &mut Counts) -> i32
+    ensures tells { ReportsBy (TellsWakes counts.new result) result pool.old.object.value }
+    ensures same { pool.new.object.value ≡ pool.old.object.value }
+    ensures kept { IsRefusal result → counts.new ≡ counts.old }
+{
+    let Some(object) = pool.lend() else {
+        return Status::BadHandle.code();
+    };
+    object.pool_wakes(counts)
+}
