@@ -12,7 +12,7 @@ use wake_book::{Book, Groups, MAX_CAP};
 pub struct Options {
     /// Binary logarithm of the bits in a whole word, 0 to 6. `None` is the default for the depth.
     pub shift: Option<u32>,
-    /// Whether each get starts after the last tag won, so that tags are reused as late as possible.
+    /// Whether each get starts after the last tag won, so that tags are reused late.
     pub round_robin: bool,
     /// The minimum shallow depth, below which a shallow get is refused. If it is less than the depth, the wake batch is
     /// an eighth of it, clamped to 1 to 8. With `None` only the shallow depth 0 is refused.
