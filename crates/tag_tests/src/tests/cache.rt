@@ -1,5 +1,6 @@
 //! Tag sets whose callers are caches, or caches beside bare hands.
-ghost use Rattle.std.specs.Prelude.{All, IfOk, IfErr};
+ghost use Rattle.std.specs.Prelude.{All, IfOk, IfErr, IsTrue};
+ghost use Rattle.tag_cache.specs.Caches.{IsCacheOf, Holds};
 ghost use Rattle.std.specs.Coded.{codes};
 ghost use Rattle.tag_tests.specs.Mixed.{IsOwn, HoldsTag};
 
@@ -19,9 +20,11 @@ use crate::caller::Caller;
 use crate::tests::allocator::{Kept, TagAllocator};
 use crate::tests::cache::callers::hands_of;
 use crate::tests::cache::mixed::Mixed;
+use crate::tests::sets::{hand_has, part_hands};
 use std::alloc::Global;
 use std::sync::Wait;
 use step_ledger::{GatherCause, Numbered};
+use tag_cache::Cache;
 use tag_queue::{QueueTotals, ResizeCause, Wakes};
 use tag_sets::{Kind, Shown, TagFault, Tags};
 use wake_book::Left;
@@ -35,6 +38,18 @@ fn is_among(tag: u32, first: u64, second: u64) -> bool {
         0..64 => first >> tag & 1 == 1,
         64..128 => second >> (tag - 64) & 1 == 1,
         _ => true,
+    }
+}
+
+/// Returns whether the number is a tag's and the cache's user holds that tag.
+fn cache_has(cache: &mut Cache<u64>, tags: &Tags<u64>, tag: u32) -> bool
+    requires { IsCacheOf tags.now cache.old }
+    ensures own { IsCacheOf tags.now cache.new }
+    ensures held { IsTrue result → Holds cache.new tag }
+{
+    match cache.read(tags, tag) {
+        Err(TagFault::NoSuchTag) => false,
+        _ => cache.holds(tag),
     }
 }
 
@@ -170,14 +185,8 @@ impl TagAllocator for Mixed {
 
     fn has(&self, caller: &mut Caller, tag: u32) -> bool {
         match caller {
-            Caller::Bare(hand) => match self.tags.read(hand, tag) {
-                Err(TagFault::NoSuchTag) => false,
-                _ => hand.holds(tag),
-            },
-            Caller::Cached(cache) => match cache.read(&self.tags, tag) {
-                Err(TagFault::NoSuchTag) => false,
-                _ => cache.holds(tag),
-            },
+            Caller::Bare(hand) => hand_has(&self.tags, hand, tag),
+            Caller::Cached(cache) => cache_has(cache, &self.tags, tag),
         }
     }
 
@@ -246,7 +255,9 @@ impl TagAllocator for Mixed {
 
     fn apart(&self, first: &mut Caller, second: &mut Caller, tag: u32) {
         match (first, second) {
-            (Caller::Bare(first), Caller::Bare(second)) => self.tags.apart(first, second, tag),
+            (Caller::Bare(first), Caller::Bare(second)) => {
+                part_hands(&self.tags, first, second, tag);
+            }
             (Caller::Cached(first), Caller::Cached(second)) => {
                 first.apart(second, &self.tags, tag);
             }

@@ -1,5 +1,5 @@
 //! Tag sets with their hands.
-ghost use Rattle.std.specs.Prelude.{All, IfOk, IfErr};
+ghost use Rattle.std.specs.Prelude.{All, IfOk, IfErr, IsTrue};
 ghost use Rattle.std.specs.Coded.{codes};
 ghost use Rattle.tag_sets.specs.Hands.{IsHandOf, Holds};
 
@@ -27,6 +27,29 @@ use wake_book::Left;
 
 /// The most tags of both sets.
 const MAX_TAGS: usize = 10_240;
+
+/// Returns whether the number is a tag's and the hand holds that tag.
+pub(crate) fn hand_has(tags: &Tags<u64>, hand: &mut Hand<u64>, tag: u32) -> bool
+    requires { IsHandOf tags.now hand.old }
+    ensures own { IsHandOf tags.now hand.new }
+    ensures held { IsTrue result → Holds hand.new tag }
+{
+    match tags.read(hand, tag) {
+        Err(TagFault::NoSuchTag) => false,
+        _ => hand.holds(tag),
+    }
+}
+
+/// Has the tags establish that the second hand does not hold a tag that the first one holds.
+pub(crate) fn part_hands(tags: &Tags<u64>, first: &mut Hand<u64>, second: &mut Hand<u64>, tag: u32)
+    requires first { IsHandOf tags.now first.old }
+    requires second { IsHandOf tags.now second.old }
+    requires held { Holds first.old tag }
+    ensures first { IsHandOf tags.now first.new }
+    ensures second { IsHandOf tags.now second.new }
+{
+    tags.apart(first, second, tag);
+}
 
 /// Takes the last of the hands.
 pub(crate) fn next_hand(tags: &Tags<u64>, hands: &mut Vec<Hand<u64>>) -> Result<Hand<u64>, Fail>
@@ -130,10 +153,7 @@ impl TagAllocator for Sets {
     }
 
     fn has(&self, hand: &mut Hand<u64>, tag: u32) -> bool {
-        match self.tags.read(hand, tag) {
-            Err(TagFault::NoSuchTag) => false,
-            _ => hand.holds(tag),
-        }
+        hand_has(&self.tags, hand, tag)
     }
 
     fn agrees(&self, hand: &mut Hand<u64>, tag: u32) -> bool {
@@ -181,7 +201,7 @@ impl TagAllocator for Sets {
     }
 
     fn apart(&self, first: &mut Hand<u64>, second: &mut Hand<u64>, tag: u32) {
-        self.tags.apart(first, second, tag);
+        part_hands(&self.tags, first, second, tag);
     }
 
     fn gather(

@@ -1,7 +1,14 @@
--- The cache stood first among the rest.
-use Rattle.std.proofs.Common.{arith, suc, ap, subst, length, All}
+-- The cache stood first among the rest, which are all caches at first.
+use Rattle.std.proofs.Common.{◌≡◌, arith, suc, sym, ap, subst, length, All}
+use Rattle.std.specs.Vec.Iter.{into_iter_items}
 use Rattle.tag_cache.specs.Caches.{IsCacheOf}
 use Rattle.tag_bench.proofs.shared_cache.CachedTagAllocator.gather.Goals as goal
+
+pub loop-cache-init : goal.loop-cache-init
+loop-cache-init c =
+    let whole : into_iter_items c.into_iter-cache-iterator.result ≡ c.args.caches.items =
+        c.into_iter-cache-iterator.ensures.into_iter_gives.0 in
+    record { steps = (tt, tt); rest = subst (All (IsCacheOf c.args.self.tags)) (sym whole) c.requires }
 
 pub into_hand-hand-requires : goal.into_hand-hand-requires
 into_hand-hand-requires c =

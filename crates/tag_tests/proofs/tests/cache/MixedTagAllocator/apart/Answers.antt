@@ -1,0 +1,21 @@
+-- In each arm both callers stay the tags' own, by the call that it makes.
+use Rattle.std.proofs.Common.{sym, subst}
+use Rattle.tag_tests.specs.Mixed.{IsOwn}
+use Rattle.tag_tests.proofs.tests.cache.MixedTagAllocator.apart.Goals as goal
+use Rattle.tag_tests.proofs.tests.cache.MixedTagAllocator.apart.Goals.{in-Bare-Bare, in-Bare-Cached, in-Cached-Cached, in-Cached-Bare}
+
+pub returns-clause-first : goal.returns-clause-first
+returns-clause-first c = let own = IsOwn c.args.self.now.tags in elim c.match-first.branch [
+  | in-Bare-Bare w ↦ subst own (sym w.first-is) w.part_hands.ensures.first
+  | in-Bare-Cached w ↦ subst own (sym w.first-is) w.meet_hand.ensures.hand
+  | in-Cached-Cached w ↦ subst own (sym w.first-is) w.apart.ensures.caches.0
+  | in-Cached-Bare w ↦ subst own (sym w.first-is) w.meet_hand-in-Cached-Bare.ensures.cache
+]
+
+pub returns-clause-second : goal.returns-clause-second
+returns-clause-second c = let own = IsOwn c.args.self.now.tags in elim c.match-first.branch [
+  | in-Bare-Bare w ↦ subst own (sym w.second-is) w.part_hands.ensures.second
+  | in-Bare-Cached w ↦ subst own (sym w.second-is) w.meet_hand.ensures.cache
+  | in-Cached-Cached w ↦ subst own (sym w.second-is) w.apart.ensures.caches.1
+  | in-Cached-Bare w ↦ subst own (sym w.second-is) w.meet_hand-in-Cached-Bare.ensures.hand
+]

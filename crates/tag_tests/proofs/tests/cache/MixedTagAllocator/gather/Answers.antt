@@ -1,0 +1,16 @@
+-- The hands of all callers belong to the tags, which `into_parts` returns and a failed gather hands back.
+use Rattle.std.proofs.Common.{ℕ, List, All, sym, ap, subst}
+use Rattle.tag_sets.specs.declared.hand.Hand.{Hand}
+use Rattle.tag_sets.specs.declared.tags.Tags.{Tags}
+use Rattle.tag_sets.specs.Hands.{IsHandOf}
+use Rattle.tag_tests.proofs.tests.cache.MixedTagAllocator.gather.Goals as goal
+
+pub gather-requires : goal.gather-requires
+gather-requires c = subst (λ (t : Tags ℕ). All (IsHandOf t) c.in-Ok.hands.items) (sym c.into_parts-tags.ensures)
+    c.in-Ok.ensures
+
+pub of-mixed-requires : goal.of-mixed-requires
+of-mixed-requires c = let back = c.in-Err.ensures.err in
+    subst (λ (t : Tags ℕ). All (IsHandOf t) c.in-Err.fault.hands.items) (sym back.0)
+    (subst (λ (hands : List (Hand ℕ)). All (IsHandOf c.into_parts-tags.result.0) hands) (sym (ap (λ v. v.items) back.1))
+    (subst (λ (t : Tags ℕ). All (IsHandOf t) c.in-Ok.hands.items) (sym c.into_parts-tags.ensures) c.in-Ok.ensures))

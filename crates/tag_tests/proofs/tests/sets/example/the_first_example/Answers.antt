@@ -1,0 +1,11 @@
+-- The hand is the last of those that came with the tags.
+use Rattle.std.proofs.Common.{Some}
+use Rattle.std.proofs.lemmas.List.Elements.{All-pop}
+use Rattle.tag_sets.specs.Hands.{IsHandOf}
+use Rattle.tag_tests.proofs.tests.sets.example.the_first_example.Goals as goal
+
+pub get-requires : goal.get-requires
+get-requires g c = record {
+  hand = (All-pop (IsHandOf c.in_ok-tags.tags) c.in_ok-tags.hands.items c.pop.new.self.items (Some c.in-Some.hand)
+      c.in-Some.ensures.items c.in_ok-tags.ensures.ok.own).1;
+}
