@@ -30,7 +30,7 @@ EXAMPLES = ["quick_start.c", "io_queue.c", "event_loop.c", "copy_file.c", "quick
 
 
 def build(processor):
-    """Builds the library for a processor: what was proved, with which kit."""
+    """Builds the library for a processor: what was proved, and by which logic."""
     assembly = ran(f"{C}/library.sh", "assembly", processor.gnu).strip()
     known = {**os.environ, "OUT": f"{processor.made}/out", "CROSS_COMPILE": processor.tools}
     subprocess.run([f"{C}/library.sh", "build"], check=True, env=known)

@@ -35,7 +35,7 @@ HEAD = """/*
  * Made by: c/library.sh generate. Don't edit it.
  *
  * Proved: {verdict}
- * With: {kit}
+ * With: {logic}
  * Of the crates: {crates}
  * Sources: {sources}
  * Lines below: {lines}
@@ -102,7 +102,7 @@ def file_of(processor, made):
     sources = ran(f"{C}/library.sh", "sum", *crates).strip()
     lines = hashlib.sha256(body.encode()).hexdigest()
     verdict = read(f"{made}.verdict").strip()
-    head = HEAD.format(kind=processor.kind, verdict=verdict, kit=kit.version(), crates=" ".join(crates), sources=sources, lines=lines)
+    head = HEAD.format(kind=processor.kind, verdict=verdict, logic=kit.logic(), crates=" ".join(crates), sources=sources, lines=lines)
     return head + body
 
 

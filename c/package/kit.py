@@ -27,6 +27,11 @@ def version():
         return file.readline().strip()
 
 
+def logic():
+    """The logic alone, as `rt version` prints it: kits that share it prove the same."""
+    return version().partition(" ")[2]
+
+
 def load():
     """The module. A kit that has it otherwise is refused, and one that was not read is told."""
     file, found = f"{folder()}/bin/rtlib.py", version().split()[0]

@@ -113,13 +113,13 @@ def crates_below(crate):
     return [it for it in known if it in found]
 
 
-def proved_text(crate, processor, verdict, kit):
-    """What was proved, with which kit, of which commit."""
+def proved_text(crate, processor, verdict, logic):
+    """What was proved, by which logic, of which commit."""
     parts = sorted(it for it in os.listdir(C) if it.endswith(".c"))
     of_c = f"Written in C, and tested but not proved: {', '.join(parts)}, the checks for NULL in tags.h, and tags.hpp.\n"
     return f"""Proved: the crate {crate}, over these crates, each of which is proved:
     {' '.join(crates_below(crate))}
-With:      {kit}
+With:      {logic}
 Of commit: {commit()}
 For:       {processor.triple}, cpu {processor.cpu}{": every processor of this kind" if processor in PROCESSORS else ""}
 Verdict:   {verdict.strip()}

@@ -45,11 +45,11 @@ def as_built():
 
 
 def version_of(file):
-    """The version of the program, whose own line has to name the kit that proved it."""
-    said, wanted = ran(file, "--version").strip(), kit.version()
+    """The version of the program, whose own line has to name the logic by which it was proved."""
+    said, wanted = ran(file, "--version").strip(), kit.logic()
     found = re.fullmatch(r"tagplay (\S+), proved with (.*)", said)
     if not found or found[2] != wanted:
-        sys.exit(f"tagplay --version prints '{said}', and the kit is '{wanted}': change crates/tagplay/src/options.rt")
+        sys.exit(f"tagplay --version prints '{said}', and the kit has the {wanted}: change crates/tagplay/src/options.rt")
     return found[1]
 
 
@@ -68,7 +68,7 @@ def put(built, folder, share, version, proved):
 
 def make(work, is_as_built):
     processor, built = (AS_BUILT, LEFT) if is_as_built else (PROCESSOR, BUILT)
-    proved = proved_text("tagplay", processor, as_built() if is_as_built else build(), kit.version())
+    proved = proved_text("tagplay", processor, as_built() if is_as_built else build(), kit.logic())
     version = version_of(built)
     put(built, f"{work}/tagplay/usr", "/usr/share", version, proved)
     summary = "proved tag allocator for scripts, lists of events and I/O logs"

@@ -47,8 +47,8 @@ def check(target, dist):
     said = out([program, "--version"])
     with open(f"{share}/doc/tagplay/PROVED.{target.name}", encoding="utf-8") as file:
         proved = file.read()
-    kit = re.search(r"^With: +(.+)$", proved, re.M)
-    tell("tagplay: --version names the kit that proved it", kit and said.endswith(f", proved with {kit[1]}\n"), said)
+    logic = re.search(r"^With: +(.+)$", proved, re.M)
+    tell("tagplay: --version names the logic that proved it", logic and said.endswith(f", proved with {logic[1]}\n"), said)
     links = needed(target, program)
     tell("tagplay: it needs libc alone", links <= {"libc.so.6", "libm.so.6"}, " ".join(links))
     check_processor(program, proved)

@@ -18,7 +18,7 @@ pub(crate) fn command<'a>(alloc: Global) -> Result<Command<'a>, AllocError>
     ensures { IfOk result (λ command. app_of command ≡ line.command_line) }
 {
     Command::new(alloc, "tagplay")
-        .version("0.1.0, proved with rattle-kit-13f logic dac8208d650f15bf")
+        .version("0.1.0, proved with logic dac8208d650f15bf")
         .about(
             "Runs a tag allocator on lines of standard input, and writes the answers to standard output",
         )
