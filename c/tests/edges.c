@@ -532,6 +532,17 @@ static void keep_errno(void)
 	tear_down(3);
 }
 
+/*
+ * The address sanitizer does not see that a cancel ends the frames of a thread, and would
+ * report them when it gives up the thread's stack for signals.
+ */
+const char *__asan_default_options(void);
+
+const char *__asan_default_options(void)
+{
+	return "use_sigaltstack=0";
+}
+
 int main(int argc, char **argv)
 {
 	if (argc > 1)

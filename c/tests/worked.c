@@ -87,7 +87,7 @@ static void run_through_all_calls(void)
 	WANT(tags_pool_show(&pool, TAGS_ORDINARY, &sizes), TAGS_OK);
 	WANT(sizes.depth, 10);
 	WANT(sizes.busy, 1);
-	WANT(sizes.cleared, 3);
+	WANT(sizes.cleared, 1);
 	WANT(sizes.words, 3);
 	WANT(tags_pool_wakes(&pool, &counts), TAGS_OK);
 	WANT(counts.counted, 2);
