@@ -1299,7 +1299,7 @@ public:
 	std::uint32_t reserved() const noexcept { return sized().second; }
 
 	/// For the calls of tags.h: NULL if it is empty. No other thread may call this pool
-	/// meanwhile.
+	/// meanwhile. Neither resize nor close it by them.
 	tags_pool *native_handle() noexcept
 	{
 		return shared_ != nullptr ? &shared_->handle : nullptr;
