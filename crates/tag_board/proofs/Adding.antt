@@ -1,6 +1,6 @@
 -- The counts of all hands, summed over both sets, are the sums over all callers of the state.
 use Rattle.std.proofs.Common.{◌≡◌, ℕ, suc, ◌+◌, Bool, true, false, cond, List, [], ◌∷◌, length, map, get_or, All, is_some, refl, sym, ap, ◌∙◌, arith}
-use Rattle.tag_board.proofs.Uses.{sum_below, sum_below-same, sum_below-split, count_below, Record, sum_of, size_of, Agent, records_of, standing_of_agent, Hand, Ordinary, Reserved, Tags, IsHandOf, total_of, reserved_part, ordinary_part, held_in_both, posted_in_both, standing_count, BalanceInBoth, record_in, part_of, state_of_all, Part, idle, got_in, back_in, posted_in, standing_in, sum_below-first}
+use Rattle.tag_board.proofs.Uses.{sum_below, count_below, Record, sum_of, size_of, Agent, records_of, standing_of_agent, Hand, Ordinary, Reserved, Tags, IsHandOf, total_of, reserved_part, ordinary_part, held_in_both, posted_in_both, standing_count, BalanceInBoth, record_in, part_of, state_of_all, Part, idle, got_in, back_in, posted_in, standing_in, sum_below-first}
 use Rattle.std.proofs.lemmas.List.Recursion.{is_count_by}
 use Rattle.tag_board.specs.States.{held_in}
 use Rattle.tag_board.proofs.Sizings.{size_holds}

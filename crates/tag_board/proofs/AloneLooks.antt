@@ -1,6 +1,6 @@
 -- What the looks of a set's only agent find in it.
-use Rattle.std.proofs.Common.{◌≡◌, ℕ, zero, suc, ◌+◌, ◌<◌, ◌≤◌, Bool, true, false, not, ◌&&◌, ◌||◌, cond, nat_eq, nat_lt, List, [], ◌∷◌, length, get_or, refl, sym, ap, ◌∙◌, subst, arith}
-use Rattle.tag_board.proofs.Uses.{ltb-true, lt-ltb, bit_at-lt, bit_at, Layout, words, word_of, place_of, word_of-below, count_below, Record, Shape, Step, record_of, IsAlone, cells_left, words_left, own_after, pool_of, is_busy, own_found, state_after, place_small, Agent, caller_of, is_busy_in, is_aside_in, alone_set_of}
+use Rattle.std.proofs.Common.{◌≡◌, ℕ, zero, suc, ◌+◌, ◌<◌, ◌≤◌, Bool, true, false, not, ◌&&◌, ◌||◌, nat_eq, nat_lt, List, [], ◌∷◌, length, get_or, refl, sym, ap, ◌∙◌, subst, arith}
+use Rattle.tag_board.proofs.Uses.{ltb-true, lt-ltb, bit_at-lt, bit_at, Layout, words, word_of, place_of, word_of-below, Record, Shape, Step, record_of, IsAlone, cells_left, words_left, own_after, pool_of, is_busy, own_found, state_after, place_small, Agent, caller_of, is_busy_in, is_aside_in, alone_set_of}
 use Rattle.tag_board.proofs.AloneSteps.{set_ext}
 use Rattle.tag_core.specs.Steps.{Words, Quiet, words_after_all}
 use Rattle.tag_search.specs.SharedLaws.{shape_after}

@@ -1,5 +1,5 @@
 -- What the steps of a charge and of a walk count and grant.
-use Rattle.std.proofs.Common.{◌≡◌, ℕ, zero, suc, ◌+◌, ◌-◌, ◌%◌, ⊎_elim, ◌⊎◌, inl, inr, List, [], ◌∷◌, length, sum, refl, ap, arith, min}
+use Rattle.std.proofs.Common.{◌≡◌, ℕ, zero, suc, ◌+◌, ◌-◌, ◌%◌, ◌<◌, ⊎_elim, ◌⊎◌, inl, inr, List, [], ◌∷◌, length, sum, refl, ap, arith, min}
 use Rattle.std.proofs.lemmas.List.Sums.{sum_by-cons}
 use Rattle.tag_board.proofs.Uses.{total, Charge, Full, Below, Won, Busy, GroupStep, moved_by, waiting}
 use Rattle.wake_book.specs.declared.steps.BookStep.{BookStep}
@@ -16,19 +16,19 @@ loses_add zero batch steps steps' same = ap (total added) same
 loses_add (suc tries) batch steps steps' c =
     let rest = loses_add tries batch steps c.3 c.4 in let all = ap (total added) c.7 in omega arith
 
--- a charge of n counts n completions or none
+-- a charge of n counts n completions, or none if they would exceed the cap
 pub charge_adds : (cap batch n : ℕ) (steps steps' : List BookStep) (charge : Charge)
     → IsCharge cap batch n steps steps' charge
-    → (steps' ≡ steps) ⊎ (total added steps' ≡ total added steps + n)
-charge_adds cap batch n steps steps' Full c = inl c.1
+    → (total added steps' ≡ total added steps + n) ⊎ ((steps' ≡ steps) × (cap < total added steps + n))
+charge_adds cap batch n steps steps' Full c = inr (c.1, c.0)
 charge_adds cap batch n steps steps' Below c =
     let lost = loses_add c.1.2 batch (Add n c.1.1 ∷ steps) c.0 c.1.4 in let all = ap (total added) c.5 in
-    inr (omega arith)
+    inl (omega arith)
 charge_adds cap batch n steps steps' (Won start) c =
     let lost = loses_add c.1.2 batch (Add n c.1.1 ∷ steps) c.0 c.1.4 in let all = ap (total added) c.4 in
-    inr (omega arith)
+    inl (omega arith)
 charge_adds cap batch n steps steps' Busy c =
-    let lost = loses_add c.2 batch (Add n c.1 ∷ steps) steps' c.4 in inr (omega arith)
+    let lost = loses_add c.2 batch (Add n c.1 ∷ steps) steps' c.4 in inl (omega arith)
 
 -- lost exchanges grant nothing
 loses_grant : (tries g most : ℕ) (steps steps' : List GroupStep) → LosesGrants tries g most steps steps'

@@ -1,10 +1,11 @@
 -- What a call on one hand is for the board.
 use Rattle.std.proofs.Common.{◌≡◌, ◌≢◌, ℕ, Bool, false, List, length, set, All, Result, Ok, Err, IfOk, OnErr, sym, ap, ◌∙◌, subst, length-set}
-use Rattle.tag_board.proofs.Uses.{dite, ℕ_discrete, TagFault, Hand, Kind, Tags, hands_of, IsHandOf, number_of, total_of, reserved_of, HoldsMore, Board, AloneSets, Does, state_of, alone_sets_of, waiters_of, AreOrdered, state_of_all, alone_sets_of_all, waiters_of_all, Answers, Changes, HoldsAll, NobodyHolds, NobodyElseHolds, Wins, won, Part, State, Waiter, Moves, MovesIf}
+use Rattle.tag_board.proofs.Uses.{dite, ℕ_discrete, TagFault, Hand, Kind, Tags, hands_of, IsHandOf, number_of, total_of, reserved_of, HoldsMore, Board, AloneSets, Does, state_of, alone_sets_of, waiters_of, searchers_of, AreOrdered, state_of_all, alone_sets_of_all, waiters_of_all, searchers_of_all, Searchers, Answers, Changes, HoldsAll, NobodyHolds, NobodyElseHolds, Wins, won, Part, State, Waiter, Moves, MovesIf}
 use Rattle.std.proofs.lemmas.List.Elements.{All-set}
 use Rattle.tag_board.specs.Boards.{IsAlone}
 use Rattle.tag_board.proofs.AloneBoard.{alone_sets_moved}
 use Rattle.tag_board.proofs.Holdings.{Names, not_holds}
+use Rattle.tag_board.proofs.Searching.{searchers_move}
 use Rattle.tag_board.proofs.Waiters.{waiters_move}
 pub use Rattle.tag_board.proofs.Naming.{names_answer, names_one}
 pub use Rattle.tag_board.proofs.Effects.{AsBefore, Effect, low_group, none_woken}
@@ -19,12 +20,14 @@ pub record Seen : Type 0 where
   pub state : State
   pub sets : AloneSets
   pub waiters : ℕ → Waiter
+  pub searchers : ℕ → Searchers
 
 abbrev pub seen : Tags ℕ → List (Hand ℕ) → Seen
 seen tags hands = record {
   state = state_of_all tags hands;
   sets = alone_sets_of_all hands;
   waiters = waiters_of_all hands;
+  searchers = searchers_of_all hands;
 }
 
 abbrev pub seen_of : Board → Seen
@@ -32,27 +35,29 @@ seen_of b = seen b.tags b.hands.items
 
 -- a call on the hand of a caller changed so what a contract sees of the board
 pub record EffectOn (b : Board) (i : ℕ) (change : Part → Part) (alters : AloneSets → AloneSets → Type 0)
-    (waits : Waiter → Waiter → Type 0) (after : Seen) : Type 0 where
+    (waits : Waiter → Waiter → Type 0) (works : Searchers → Searchers → Type 0) (after : Seen) : Type 0 where
   pub changes : Changes i change (state_of b) after.state
   pub alone : IsAlone b → alters (alone_sets_of b) after.sets
   pub waiters : Moves i waits (waiters_of b) after.waiters
+  pub searches : Moves i works (searchers_of b) after.searchers
 
 -- the clauses of a command that may be refused
 pub record Replies {A : Type 0} (b : Board) (i : ℕ) (refuses : TagFault → Type 0) (done : A → State → Type 0)
-    (alters : A → AloneSets → AloneSets → Type 0) (waits : A → Waiter → Waiter → Type 0) (r : Result A TagFault)
-    (after : Seen) : Type 0 where
+    (alters : A → AloneSets → AloneSets → Type 0) (waits : A → Waiter → Waiter → Type 0)
+    (works : A → Searchers → Searchers → Type 0) (r : Result A TagFault) (after : Seen) : Type 0 where
   pub answers : Answers refuses (λ a. done a after.state) (state_of b) r after.state
   pub alone : IsAlone b → Does alters (alone_sets_of b) r after.sets
   pub waiters : MovesIf i waits (waiters_of b) r after.waiters
+  pub searches : MovesIf i works (searchers_of b) r after.searchers
 
 -- if one caller is as it was, and no other moved, all are as they were
-pub all_rest : {i : ℕ} {old new : ℕ → Waiter} → Moves i AsBefore old new → new ≡ old
-all_rest {i} {old} {new} m = λ j. λ caller. dite (ℕ_discrete caller i)
+pub all_rest : {A : Type 0} {i : ℕ} {old new : ℕ → A} → Moves i AsBefore old new → new ≡ old
+all_rest {A} {i} {old} {new} m = λ j. λ caller. dite (ℕ_discrete caller i)
     (λ (e : caller ≡ i). subst (λ (k : ℕ). new k ≡ old k) (sym e) m.own)
     (λ (ne : caller ≢ i). m.others caller ne) j
 
 -- the same after a refusal
-pub none_moved : {A : Type 0} (i : ℕ) {old new : ℕ → Waiter} (r : Result A TagFault)
+pub none_moved : {A B : Type 0} (i : ℕ) {old new : ℕ → B} (r : Result A TagFault)
     → MovesIf i (λ a. AsBefore) old r new → new ≡ old
 none_moved i (Ok a) m = all_rest m
 none_moved i (Err fault) m = m
@@ -87,32 +92,36 @@ module _ (b : Board) {i : ℕ} {old : Hand ℕ} (at : Sits b.hands.items i old) 
   now = seen b.tags (set b.hands.items i new)
 
   module _ {change : Part → Part} {alone : AloneSets → AloneSets → Type 0} {waits : Waiter → Waiter → Type 0}
-      (d : Effect b.tags change alone waits old new) where
+      {works : Searchers → Searchers → Type 0} (d : Effect b.tags change alone waits works old new) where
     -- what the call did to the hand, it did to the board
-    pub effect_on : EffectOn b i change alone waits now
+    pub effect_on : EffectOn b i change alone waits works now
     effect_on = record {
       changes = changes b.tags at new change d.part;
       alone = λ one. alone_sets_moved at new one alone (d.alone (sym b.every ∙ one));
       waiters = waiters_move at new waits d.waiter;
+      searches = searchers_move at new works d.searcher;
     }
 
   module _ {A : Type 0} {refuses : TagFault → Type 0} (change : A → Part → Part) (done : A → State → Type 0)
-      (alone : A → AloneSets → AloneSets → Type 0) (waits : A → Waiter → Waiter → Type 0) where
+      (alone : A → AloneSets → AloneSets → Type 0) (waits : A → Waiter → Waiter → Type 0)
+      (works : A → Searchers → Searchers → Type 0) where
     -- a call that may be refused, which then changes nothing
     pub replies : (r : Result A TagFault) → IsVerdict refuses r
-        → IfOk r (λ a. Effect b.tags (change a) (alone a) (waits a) old new
+        → IfOk r (λ a. Effect b.tags (change a) (alone a) (waits a) (works a) old new
         × (Changes i (change a) (state_of b) now.state → done a now.state))
-        → OnErr r (new ≡ old) → Replies b i refuses done alone waits r now
+        → OnErr r (new ≡ old) → Replies b i refuses done alone waits works r now
     replies (Ok a) verdict d e = let to = effect_on d.0 in record {
       answers = answers refuses (λ a. done a now.state) (state_of b) now.state (Ok a) verdict (d.1 to.changes) tt;
       alone = to.alone;
       waiters = to.waiters;
+      searches = to.searches;
     }
     replies (Err fault) verdict d e = let same = unmoved b.tags at e in record {
       answers = answers refuses (λ a. done a now.state) (state_of b) now.state (Err fault) verdict tt
           (ap (state_of_all b.tags) same);
       alone = λ one. ap alone_sets_of_all same;
       waiters = ap waiters_of_all same;
+      searches = ap searchers_of_all same;
     }
 
   module _ (named : ℕ → Bool) (Is : ℕ → Type 0) (names : Names named Is) (more : HoldsMore Is old new) where
@@ -130,13 +139,14 @@ module _ (b : Board) {i : ℕ} {old : Hand ℕ} (at : Sits b.hands.items i old) 
 
   -- a get that the set did not refuse is answered
   pub got : {A : Type 0} {kind : Kind} {named : ℕ → Bool} {Is : ℕ → Type 0} {n : ℕ} {refuses : TagFault → Type 0}
-      (done : A → State → Type 0) (alone : A → AloneSets → AloneSets → Type 0) (a : A) (after : Seen) → after ≡ now
-      → Gained b.tags b.hands.items kind named Is n (alone a) old new → NobodyElseHolds now.state i named
+      (done : A → State → Type 0) (alone : A → AloneSets → AloneSets → Type 0)
+      (works : A → Searchers → Searchers → Type 0) (a : A) (after : Seen) → after ≡ now
+      → Gained b.tags b.hands.items kind named Is n (alone a) (works a) old new → NobodyElseHolds now.state i named
       → IsVerdict refuses (Ok a) → (Wins i kind named n (state_of b) now.state → done a now.state)
-      → Replies b i refuses done alone (λ o. AsBefore) (Ok a) after
-  got {A} {kind} {named} {Is} {n} {refuses} done alone a after same g else verdict is =
-      subst (λ (x : Seen). Replies b i refuses done alone (λ o. AsBefore) (Ok a) x) (sym same)
-      (replies (λ o. won kind named n) done alone (λ o. AsBefore) (Ok a) verdict (
+      → Replies b i refuses done alone (λ o. AsBefore) works (Ok a) after
+  got {A} {kind} {named} {Is} {n} {refuses} done alone works a after same g else verdict is =
+      subst (λ (x : Seen). Replies b i refuses done alone (λ o. AsBefore) works (Ok a) x) (sym same)
+      (replies (λ o. won kind named n) done alone (λ o. AsBefore) works (Ok a) verdict (
         g.effect,
         (λ c. is record {
           free = free_before named Is g.names g.more c else;

@@ -5,6 +5,7 @@ use Rattle.tag_sets.specs.Hands.{least_of}
 use Rattle.tag_core.specs.Reopening.{reopened_record}
 use Rattle.step_ledger.proofs.Seats.{within}
 use Rattle.tag_search.proofs.SharedFacts.{count_ones-zero}
+use Rattle.wake_book.specs.declared.book.Limits.{Limits}
 use Rattle.wake_book.specs.declared.groups.Waiter.{Waiter}
 use Rattle.tag_queue.specs.declared.resizes.ResizeCause.{ResizeCause}
 use Rattle.tag_queue.specs.declared.resizes.ResizeCause.TheVariants.{Missing, DepthTooLarge, InUse, Waiting, Memory}
@@ -36,7 +37,7 @@ module _ {A : Type 0} where
 
 module _ {R : Type 0} where
   -- hands of which the same is seen one by one look the same to each caller
-  same_seen : {B : Type 0} (seen : Hand R → B) (none : B) (old new : List (Hand R)) → length new ≡ length old
+  pub same_seen : {B : Type 0} (seen : Hand R → B) (none : B) (old new : List (Hand R)) → length new ≡ length old
       → ((n : ℕ) (a b : Hand R) → get_elem? old n ≡ some a → get_elem? new n ≡ some b → seen b ≡ seen a)
       → (caller : ℕ) → get_or (map seen new) caller none ≡ get_or (map seen old) caller none
   same_seen seen none old new long each caller = ⊎_elim
@@ -64,15 +65,17 @@ module _ {R : Type 0} where
 
   -- tags on the same terms, with such hands, make up the state with this total
   same_terms : (old new : Tags R) (olds news : List (Hand R)) (total : ℕ) → reserved_of new ≡ reserved_of old
-      → length news ≡ length olds → ((kind : Kind) → life_of new kind ≡ life_of old kind) → least_of new ≡ least_of old
+      → length news ≡ length olds → ((kind : Kind) → life_of new kind ≡ life_of old kind)
+      → queue.cap_of new.ordinary ≡ queue.cap_of old.ordinary → least_of new ≡ least_of old
       → ((kind : Kind) → word_bits (layout_of new kind) ≡ word_bits (layout_of old kind)) → total_of new ≡ total
       → ((n : ℕ) (a b : Hand R) → get_elem? olds n ≡ some a → get_elem? news n ≡ some b → part_of b ≡ part_of a)
       → state_of_all new news ≡ record (state_of_all old olds) { total = total }
-  same_terms old new olds news total split long life least bits all each = λ j. record {
+  same_terms old new olds news total split long life cap least bits all each = λ j. record {
     terms = record {
       reserved = split j;
       callers = long j;
       life = λ kind. life kind j;
+      cap = cap j;
       least = least j;
       bits = λ kind. bits kind j;
     };
@@ -114,7 +117,7 @@ module _ {R : Type 0} where
     world_kept = same_terms old new olds news (total_of old) same.split kept.count (elim [
       | Ordinary ↦ ap (λ (q : Queue R). (queue.shape_of q).life) same.ordinary
       | Reserved ↦ ap (λ (q : Queue R). (queue.shape_of q).life) same.reserved
-    ]) (ap queue.least_of same.ordinary) (elim [
+    ]) (ap queue.cap_of same.ordinary) (ap queue.least_of same.ordinary) (elim [
       | Ordinary ↦ ap (λ (q : Queue R). word_bits (queue.layout_of q)) same.ordinary
       | Reserved ↦ ap (λ (q : Queue R). word_bits (queue.layout_of q)) same.reserved
     ]) total_kept (λ n a b p q. same_part a b (kept.each n a b p q))
@@ -130,7 +133,7 @@ module _ {R : Type 0} where
         ∙ ordinary_numbers olds
 
 -- two lists that a function maps to the same list have equal images at each index
-same_at : {A B : Type 0} (f : A → B) (xs ys : List A) (n : ℕ) (x y : A) → map f ys ≡ map f xs
+pub same_at : {A B : Type 0} (f : A → B) (xs ys : List A) (n : ℕ) (x y : A) → map f ys ≡ map f xs
     → get_elem? xs n ≡ some x → get_elem? ys n ≡ some y → f y ≡ f x
 same_at {A} {B} f xs ys n x y same p q = some-injective (f y) (f x)
     (sym (at_map f ys n y q) ∙ ap (λ (l : List B). get_elem? l n) same ∙ at_map f xs n x p)
@@ -190,7 +193,7 @@ module _ {R : Type 0} (old new : Tags R) (olds news : List (Hand R)) (total : �
   world_resized = same_terms old new olds news total is.split long (elim [
     | Ordinary ↦ is.ordinary.callers.next.life_is
     | Reserved ↦ ap (λ (q : Queue R). (queue.shape_of q).life) is.reserved
-  ]) is.ordinary.rest.least (elim [
+  ]) (ap (λ (l : Limits). l.cap) is.ordinary.rest.book.limits) is.ordinary.rest.least (elim [
     | Ordinary ↦ ap word_bits is.ordinary.callers.next.layout_is
     | Reserved ↦ ap (λ (q : Queue R). word_bits (queue.layout_of q)) is.reserved
   ]) is.total_is (λ n a b p q. (goes_on n a b p q).part)

@@ -6,6 +6,8 @@ mod Seats
 mod Verdicts
 mod Outcomes
 mod Naming
+mod Searching
+mod Reopened
 mod Effects
 mod Gains
 mod Calls

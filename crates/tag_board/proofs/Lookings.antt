@@ -1,5 +1,5 @@
 -- What looks report of the state.
-use Rattle.std.proofs.Common.{◌≡◌, ◌≢◌, ne_eqb, ℕ, zero, suc, ◌+◌, ◌-◌, ◌*◌, ◌/◌, ◌<◌, ◌≤◌, ◌&&◌, Bool, true, false, cond, if◌then◌else◌, nat_lt, nat_eq, List, [], ◌++◌, length, take, drop, sym, ap, ◌∙◌, arith}
+use Rattle.std.proofs.Common.{◌≡◌, ◌≢◌, ne_eqb, ℕ, zero, suc, ◌+◌, ◌-◌, ◌*◌, ◌/◌, ◌<◌, ◌≤◌, ◌&&◌, Bool, false, cond, if◌then◌else◌, nat_lt, nat_eq, List, [], ◌++◌, length, take, drop, sym, ap, ◌∙◌, arith}
 use Rattle.tag_board.proofs.Uses.{dite, ℕ_discrete, le-ltb, and_false, append-nil, drop_all, take_at, bit_at, Layout, word_of, place_of, count_below, Hand, Kind, Ordinary, Reserved, Shown, Tags, layout_of, reserved_of, total_of, word_in, depth_of, state_of_all, one_if, one_if-le}
 use Rattle.tag_sets.specs.Bits.{bit_in}
 use Rattle.tag_sets.specs.Busy as busy

@@ -51,6 +51,7 @@ module _ {R : Type 0} where
       reserved_is = split;
       callers_are = opened.count;
       life_is = elim [ Ordinary ↦ opened.ordinary.tags.life_is | Reserved ↦ opened.reserved.tags.life_is ];
+      cap_is = opened.ordinary.book.cap_is;
       least_is = opened.ordinary.least;
       ordinary_bits = ((layout_of tags Ordinary).shift, one, refl);
       reserved_bits = ((layout_of tags Reserved).shift, other, refl);

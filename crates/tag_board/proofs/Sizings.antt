@@ -1,5 +1,5 @@
 -- The number of tags that a hand holds is the number of ones in its masks.
-use Rattle.std.proofs.Common.{◌≡◌, ℕ, zero, suc, ◌+◌, ◌<◌, ◌≤◌, Bool, false, cond, ◌&&◌, nat_eq, refl, sym, ap, ◌∙◌, arith, ⊎_elim}
+use Rattle.std.proofs.Common.{◌≡◌, ℕ, ◌+◌, ◌<◌, ◌≤◌, Bool, false, cond, ◌&&◌, nat_eq, sym, ap, ◌∙◌, arith, ⊎_elim}
 use Rattle.tag_board.proofs.Uses.{∥∥₁_elim, lt-ltb, le-ltb, cases_lt, bit_at-lt, sum_below, sum_below-same, sum_below-split, count_below, Caller, Record, Shape, record_of, tag_bit, size_of, Hand, Kind, Ordinary, Reserved, Tags, IsHandOf, layout_of, reserved_of, total_of, split_of, kind_of, number_in_set, reserved_below, ordinary_above, record_in, has, holds, one_if-bit, le-sum_below}
 use native.Mathlib.Nat.{ℕ_set}
 use Rattle.tag_core.proofs.Ends.{by_tags}

@@ -1,7 +1,8 @@
 -- What a call on one hand is for its caller as it waits and wakes others.
-use Rattle.std.proofs.Common.{◌≡◌, ℕ, ◌+◌, ⊎_elim, inl, List, set, sym, ap, subst, arith}
-use Rattle.tag_board.proofs.Uses.{total, GroupStep, Charge, Full, Below, Won, Busy, moved_by, Queue, Hand, Kind, Ordinary, Reserved, Tags, agent_of, book_steps, group_steps, other_kind, waiter_of, waiters_of_all, Waiter, newcomer, Moves, GrantsFor}
+use Rattle.std.proofs.Common.{◌≡◌, ℕ, ◌+◌, ◌<◌, ⊎_elim, inl, inr, List, set, sym, ap, subst, arith}
+use Rattle.tag_board.proofs.Uses.{total, GroupStep, Charge, Full, Below, Won, Busy, moved_by, Queue, Hand, Kind, Ordinary, Reserved, Tags, agent_of, book_steps, group_steps, other_kind, waiter_of, waiters_of_all, Waiter, newcomer, Moves, GrantsFor, GrantsForTag, reserved_of, kind_of, reserved_below, ordinary_above, terms_of}
 use Rattle.wake_book.specs.Book as book
+use Rattle.wake_book.specs.Charges.{added}
 use Rattle.wake_book.specs.Groups as groups
 use Rattle.tag_queue.specs.Agents as queue
 use Rattle.tag_queue.specs.Clears as queue_clears
@@ -47,31 +48,40 @@ module _ {R : Type 0} (old new : Hand R) where
       let all = ap (total moved_by) f.0 in let none = f.1 in omega arith
 
   counts_grant : (q : Queue R) (n woken : ℕ) → queue_clears.Counts q n old.ordinary new.ordinary woken
-      → GrantsFor n woken (waiter_of old) (waiter_of new)
+      → GrantsFor (queue.cap_of q) n woken (waiter_of old) (waiter_of new)
   counts_grant q n woken c = ⊎_elim
       (λ (none : queue_clears.FindsNoneActive old.ordinary new.ordinary woken).
       let looks = ap (total moved_by) none.looks in let zero_woken = none.none in record {
         granted = omega arith;
-        counted = inl (ap book.steps_of none.teller);
+        counted = inr (ap book.steps_of none.teller, inl none.looks);
         stays = (c.stands.1, c.stands.2);
       })
       (λ (some : queue_clears.Charges q n old.ordinary new.ordinary woken).
       let follows = follows_grant (queue.batch_of q) some.charge _ (group_steps new) woken some.follows in record {
         granted = omega arith;
-        counted = charge_adds (queue.cap_of q) (queue.batch_of q) n (book_steps old) (book_steps new) some.charge
-            some.lawful;
+        counted = ⊎_elim
+            (λ (all : total added (book_steps new) ≡ total added (book_steps old) + n). inl all)
+            (λ (full : (book_steps new ≡ book_steps old) × (queue.cap_of q < total added (book_steps old) + n)).
+            inr (full.0, inr full.1))
+            (charge_adds (queue.cap_of q) (queue.batch_of q) n (book_steps old) (book_steps new) some.charge some.lawful);
         stays = (c.stands.1, c.stands.2);
       }) c.counts
 
-  -- a clear tells how many wakeups it granted
-  pub clear_grants : (tags : Tags R) (kind : Kind) (n woken : ℕ) → clears.Counts tags kind n old new woken
-      → agent_of new (other_kind kind) ≡ agent_of old (other_kind kind)
-      → GrantsFor n woken (waiter_of old) (waiter_of new)
-  clear_grants tags Ordinary n woken c other = counts_grant tags.ordinary n woken c
-  clear_grants tags Reserved n woken c other =
-      let same = rests Reserved c.1 other in let steps = ap (λ (w : Waiter). total moved_by w.groups) same in
-      let none = c.0 in record {
-        granted = omega arith;
-        counted = inl (ap (λ (w : Waiter). w.book) same);
-        stays = (ap (λ (w : Waiter). w.group) same, ap (λ (w : Waiter). w.next) same);
-      }
+  -- a clear of a tag tells how many wakeups it granted, and a reserved one grants and counts nothing
+  pub clear_grants : (tags : Tags R) (callers tag woken : ℕ)
+      → clears.Counts tags (kind_of (reserved_of tags) tag) 1 old new woken
+      → agent_of new (other_kind (kind_of (reserved_of tags) tag))
+      ≡ agent_of old (other_kind (kind_of (reserved_of tags) tag))
+      → GrantsForTag (terms_of tags callers) tag woken (waiter_of old) (waiter_of new)
+  clear_grants tags callers tag woken c other = (
+    (λ low. let is = (reserved_below (reserved_of tags) tag low).kind in
+        let none = subst (λ (k : Kind). clears.Counts tags k 1 old new woken) is c in
+        rests Reserved none.1 (subst (λ (k : Kind). agent_of new (other_kind k) ≡ agent_of old (other_kind k)) is other)),
+    (λ high. counts_grant tags.ordinary 1 woken
+        (subst (λ (k : Kind). clears.Counts tags k 1 old new woken) (ordinary_above (reserved_of tags) tag high).kind c)),
+  )
+
+  -- and so does a clear of a list of ordinary tags
+  pub list_grants : (tags : Tags R) (callers n woken : ℕ) → clears.Counts tags Ordinary n old new woken
+      → GrantsFor (terms_of tags callers).cap n woken (waiter_of old) (waiter_of new)
+  list_grants tags callers n woken c = counts_grant tags.ordinary n woken c

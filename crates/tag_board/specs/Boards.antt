@@ -3,7 +3,8 @@ use Rattle.std.specs.Prelude.{◌≡◌, ℕ, ◌<◌}
 use Rattle.tag_board.specs.declared.board.Board.{Board}
 use Rattle.tag_board.specs.AloneSets.{AloneSets}
 use Rattle.tag_board.specs.States.{State}
-use Rattle.tag_board.specs.Parts.{state_of_all, alone_sets_of_all, waiters_of_all}
+use Rattle.tag_board.specs.Parts.{state_of_all, alone_sets_of_all, waiters_of_all, searchers_of_all}
+use Rattle.tag_board.specs.Searches.{Searchers}
 use Rattle.tag_board.specs.Wakeups.{Waiter}
 
 -- the state of a board
@@ -25,3 +26,7 @@ alone_sets_of board = alone_sets_of_all board.hands.items
 -- each caller as it waits and wakes others
 abbrev pub waiters_of : Board → ℕ → Waiter
 waiters_of board = waiters_of_all board.hands.items
+
+-- each caller as it works on both sets
+abbrev pub searchers_of : Board → ℕ → Searchers
+searchers_of board = searchers_of_all board.hands.items

@@ -16,6 +16,7 @@ pub record IsOpen (total reserved : ℕ) (options : Options) (s : State) : Type 
   pub reserved_is : s.terms.reserved ≡ reserved
   pub callers_are : s.terms.callers ≡ options.callers
   pub life_is : (kind : Kind) → s.terms.life kind ≡ options.life
+  pub cap_is : s.terms.cap ≡ options.cap
   pub least_is : s.terms.least ≡ max (unwrap_or options.min_shallow 1) 1
   pub ordinary_bits : HasBits options (total - reserved) (s.terms.bits Ordinary)
   pub reserved_bits : HasBits options reserved (s.terms.bits Reserved)

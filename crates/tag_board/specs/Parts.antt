@@ -15,6 +15,7 @@ use Rattle.tag_sets.specs.Sets.{kind_of, number_in_set}
 use Rattle.tag_sets.specs.Hands.{agent_of, queue_of, layout_of, reserved_of, total_of, least_of, split_of, standing_of, hint_of, number_of}
 use Rattle.tag_sets.specs.Hands.{book_steps, group_steps, wait_index_of}
 use Rattle.tag_board.specs.AloneSets.{AloneSet, AloneSets, untouched}
+use Rattle.tag_board.specs.Searches.{Searcher, Searchers, nobody}
 use Rattle.tag_board.specs.States.{Terms, Part, State, idle}
 use Rattle.tag_board.specs.Wakeups.{Waiter, newcomer}
 
@@ -46,6 +47,7 @@ terms_of tags callers = record {
   reserved = reserved_of tags;
   callers = callers;
   life = λ kind. (queue.shape_of (queue_of tags kind)).life;
+  cap = queue.cap_of (queue_of tags Ordinary);
   least = least_of tags;
   bits = λ kind. word_bits (layout_of tags kind);
 }
@@ -91,3 +93,19 @@ waiter_of hand = record {
 -- each caller as it waits and wakes others: caller n is the hand at index n
 abbrev pub waiters_of_all : {R : Type 0} → List (Hand R) → ℕ → Waiter
 waiters_of_all hands caller = slice_index_or (map waiter_of hands) caller newcomer
+
+-- an agent as it works on its set
+abbrev pub searcher_of : Agent ℕ → Searcher
+searcher_of agent = record {
+  layout = (queue.caller_of agent).shape.value.layout;
+  steps = (record_of (queue.caller_of agent)).steps;
+  hint = queue.hint_of agent;
+}
+
+-- the hand as it works on both sets
+abbrev pub searchers_in : Hand ℕ → Searchers
+searchers_in hand = λ kind. searcher_of (agent_of hand kind)
+
+-- each caller as it works on both sets: caller n is the hand at index n
+abbrev pub searchers_of_all : List (Hand ℕ) → ℕ → Searchers
+searchers_of_all hands caller = slice_index_or (map searchers_in hands) caller nobody

@@ -5,11 +5,13 @@ use Rattle.tag_sets.specs.declared.kind.Kind.{Kind}
 use Rattle.tag_sets.specs.declared.kind.Kind.TheVariants.{Ordinary, Reserved}
 
 -- what never changes: the number of reserved tags, which are the lowest; the number of callers; the most tags of a set
--- that a caller may win; the least depth of a shallow get; and the bits per word of a set
+-- that a caller may win; the most completions that it may count; the least depth of a shallow get; and the bits of a
+-- word of a set
 pub record Terms : Type 0 where
   pub reserved : ℕ
   pub callers : ℕ
   pub life : Kind → ℕ
+  pub cap : ℕ
   pub least : ℕ
   pub bits : Kind → ℕ
 

@@ -1,6 +1,7 @@
 //! Commands that give tags back.
-ghost use Rattle.tag_board.specs.Boards.{state_of, alone_sets_of, waiters_of, IsCallerOf, IsAlone};
-ghost use Rattle.tag_board.specs.Wakeups.{MovesIf, GrantsFor};
+ghost use Rattle.tag_board.specs.Boards.{state_of, alone_sets_of, waiters_of, searchers_of, IsCallerOf, IsAlone};
+ghost use Rattle.tag_board.specs.Searches.{PutsTag, GivesTags};
+ghost use Rattle.tag_board.specs.Wakeups.{MovesIf, GrantsFor, GrantsForTag};
 ghost use Rattle.tag_board.specs.AloneSets.{Does, AloneClears, AloneClearsList};
 ghost use Rattle.std.specs.Prelude.{length};
 ghost use Rattle.tag_board.specs.Replays.{Clears, ClearsList};
@@ -16,7 +17,10 @@ impl Board {
         ensures answers { Clears tag caller (state_of self.old) result (state_of self.new) }
         ensures alone { IsAlone self.old
             → Does (λ woken. AloneClears tag) (alone_sets_of self.old) result (alone_sets_of self.new) }
-        ensures waiters { MovesIf caller (GrantsFor 1) (waiters_of self.old) result (waiters_of self.new) }
+        ensures waiters { MovesIf caller (GrantsForTag (state_of self.old).terms tag) (waiters_of self.old) result
+            (waiters_of self.new) }
+        ensures searches { MovesIf caller (λ woken. PutsTag tag) (searchers_of self.old) result
+            (searchers_of self.new) }
     {
         self.tags.clear(&mut self.hands[caller as usize], tag)
     }
@@ -28,7 +32,10 @@ impl Board {
         ensures answers { ClearsList tags.now caller (state_of self.old) result (state_of self.new) }
         ensures alone { IsAlone self.old
             → Does (λ woken. AloneClearsList tags.now) (alone_sets_of self.old) result (alone_sets_of self.new) }
-        ensures waiters { MovesIf caller (GrantsFor (length tags.now)) (waiters_of self.old) result (waiters_of self.new) }
+        ensures waiters { MovesIf caller (GrantsFor (state_of self.old).terms.cap (length tags.now))
+            (waiters_of self.old) result (waiters_of self.new) }
+        ensures searches { MovesIf caller (λ woken. GivesTags tags.now) (searchers_of self.old) result
+            (searchers_of self.new) }
     {
         self.tags
             .clear_batch(&mut self.hands[caller as usize], tags)

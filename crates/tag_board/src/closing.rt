@@ -1,5 +1,5 @@
 //! Closing a board.
-ghost use Rattle.std.specs.Prelude.{◌≡◌};
+ghost use Rattle.std.specs.Prelude.{◌≡◌, ◌+◌};
 ghost use Rattle.tag_board.specs.Boards.{state_of};
 ghost use Rattle.tag_board.specs.Closing.{totals_in};
 
@@ -8,9 +8,10 @@ use tag_model::Totals;
 use tag_sets::Tags;
 
 impl Board {
-    /// Gathers all callers. Returns the totals over both sets: tags got, given back, held and posted.
+    /// Gathers all callers. Returns the totals over both sets: tags got, given back, held and posted. They balance.
     pub fn close(self) -> Totals
-        ensures { result ≡ totals_in (state_of self) }
+        ensures totals { result ≡ totals_in (state_of self) }
+        ensures balance { result.got ≡ result.back + result.held + result.posted }
     {
         let Board {
             tags,

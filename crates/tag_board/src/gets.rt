@@ -1,7 +1,9 @@
 //! Commands that take tags.
 ghost use Rattle.std.specs.Prelude.{◌≡◌};
 ghost use Rattle.tag_sets.specs.declared.kind.Kind.TheVariants.{Ordinary, Reserved};
-ghost use Rattle.tag_board.specs.Boards.{state_of, alone_sets_of, waiters_of, IsCallerOf, IsAlone};
+ghost use Rattle.tag_board.specs.Boards.{state_of, alone_sets_of, waiters_of, searchers_of, IsCallerOf, IsAlone};
+ghost use Rattle.tag_board.specs.Searches.{FindsTag, FindsRun, plainly, shallowly};
+ghost use Rattle.tag_board.specs.Wakeups.{MovesIf};
 ghost use Rattle.tag_board.specs.AloneSets.{Does, AloneGets, AloneBatch, plain, shallow};
 ghost use Rattle.tag_board.specs.Replays.{Gets, GetsShallow, GetsBatch};
 
@@ -17,6 +19,8 @@ impl Board {
         ensures alone { IsAlone self.old
             → Does (AloneGets Ordinary plain) (alone_sets_of self.old) result (alone_sets_of self.new) }
         ensures waiters { waiters_of self.new ≡ waiters_of self.old }
+        ensures searches { MovesIf caller (FindsTag Ordinary plainly) (searchers_of self.old) result
+            (searchers_of self.new) }
     {
         // Nobody sleeps on a board, so no tag that the sweeps freed keeps anybody waiting.
         let Found { answer, .. } = self.tags.get_freed(&mut self.hands[caller as usize])?;
@@ -32,6 +36,8 @@ impl Board {
         ensures alone { IsAlone self.old
             → Does (AloneGets Reserved plain) (alone_sets_of self.old) result (alone_sets_of self.new) }
         ensures waiters { waiters_of self.new ≡ waiters_of self.old }
+        ensures searches { MovesIf caller (FindsTag Reserved plainly) (searchers_of self.old) result
+            (searchers_of self.new) }
     {
         let answer = self.tags.get_reserved(&mut self.hands[caller as usize])?;
         self.tell_free(caller, answer);
@@ -46,6 +52,8 @@ impl Board {
         ensures alone { IsAlone self.old
             → Does (AloneGets Ordinary (shallow depth)) (alone_sets_of self.old) result (alone_sets_of self.new) }
         ensures waiters { waiters_of self.new ≡ waiters_of self.old }
+        ensures searches { MovesIf caller (FindsTag Ordinary (shallowly depth)) (searchers_of self.old) result
+            (searchers_of self.new) }
     {
         let Found { answer, .. } = self
             .tags
@@ -63,6 +71,7 @@ impl Board {
         ensures alone { IsAlone self.old
             → Does (AloneBatch n) (alone_sets_of self.old) result (alone_sets_of self.new) }
         ensures waiters { waiters_of self.new ≡ waiters_of self.old }
+        ensures searches { MovesIf caller (FindsRun n) (searchers_of self.old) result (searchers_of self.new) }
     {
         let Found { answer, .. } = self
             .tags

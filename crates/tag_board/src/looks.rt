@@ -1,6 +1,8 @@
 //! Commands that list and count busy tags.
 ghost use Rattle.std.specs.Prelude.{◌≡◌, IfOk};
-ghost use Rattle.tag_board.specs.Boards.{state_of, alone_sets_of, waiters_of, IsCallerOf, IsAlone};
+ghost use Rattle.tag_board.specs.Boards.{state_of, alone_sets_of, waiters_of, searchers_of, IsCallerOf, IsAlone};
+ghost use Rattle.tag_board.specs.Searches.{CountsFound, PacksFound, ListsFound};
+ghost use Rattle.tag_board.specs.Wakeups.{Moves};
 ghost use Rattle.tag_board.specs.AloneSets.{AloneListsBusy, AloneShows, AloneDumps};
 ghost use Rattle.tag_board.specs.Looks.{ListsBusy, Shows, Dumps, depth_of};
 
@@ -16,6 +18,8 @@ impl Board {
         ensures alone { IsAlone self.old
             → IfOk result (λ bits. AloneListsBusy (alone_sets_of self.old) bits.items (alone_sets_of self.new)) }
         ensures waiters { waiters_of self.new ≡ waiters_of self.old }
+        ensures searches { IfOk result (λ bits. Moves caller (ListsFound bits.items) (searchers_of self.old)
+            (searchers_of self.new)) }
     {
         let mut bits = vec![in alloc; 0u64; self.total.div_ceil(64) as usize]?;
         self.tags.busy(&mut self.hands[caller as usize], &mut bits);
@@ -28,6 +32,7 @@ impl Board {
         ensures answers { Shows kind (state_of self.old) result (state_of self.new) }
         ensures alone { IsAlone self.old → AloneShows kind (alone_sets_of self.old) result (alone_sets_of self.new) }
         ensures waiters { waiters_of self.new ≡ waiters_of self.old }
+        ensures searches { Moves caller (CountsFound kind result) (searchers_of self.old) (searchers_of self.new) }
     {
         self.tags.show(&mut self.hands[caller as usize], kind)
     }
@@ -39,6 +44,8 @@ impl Board {
         ensures alone { IsAlone self.old
             → IfOk result (λ bytes. AloneDumps kind (alone_sets_of self.old) bytes.items (alone_sets_of self.new)) }
         ensures waiters { waiters_of self.new ≡ waiters_of self.old }
+        ensures searches { IfOk result (λ bytes. Moves caller (PacksFound kind bytes.items) (searchers_of self.old)
+            (searchers_of self.new)) }
     {
         let depth = self.depth(kind);
         let mut bytes = vec![in alloc; 0u8; depth.div_ceil(8) as usize]?;

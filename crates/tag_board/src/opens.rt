@@ -4,9 +4,10 @@ ghost use Rattle.tag_layout.specs.declared.layout.TheConstants.{MAX_DEPTH, MAX_S
 ghost use Rattle.tag_model.specs.declared.world.TheConstants.{MOST_WON};
 ghost use Rattle.tag_queue.specs.Opening.{MiscountsAgents, CountsAgents};
 ghost use Rattle.tag_sets.specs.Opening.{HasRange, HasLayouts};
-ghost use Rattle.tag_board.specs.Boards.{state_of, alone_sets_of, waiters_of, IsAlone};
+ghost use Rattle.tag_board.specs.Boards.{state_of, alone_sets_of, waiters_of, searchers_of, IsAlone};
 ghost use Rattle.tag_board.specs.AloneSets.{AreUntouched};
 ghost use Rattle.tag_board.specs.Opening.{IsOpen};
+ghost use Rattle.tag_board.specs.Searches.{Begins};
 ghost use Rattle.tag_board.specs.Wakeups.{Starts};
 
 use crate::board::Board;
@@ -26,6 +27,8 @@ impl Board {
         ensures ok { IfOk result (λ board. IsOpen total reserved options (state_of board)) }
         ensures alone { IfOk result (λ board. IsAlone board → AreUntouched total reserved options (alone_sets_of board)) }
         ensures waiters { IfOk result (λ board. (caller : ℕ) → caller < options.callers → Starts (waiters_of board caller)) }
+        ensures searches { IfOk result (λ board. (caller : ℕ) → caller < options.callers
+            → Begins total reserved options (searchers_of board caller)) }
 
         // The causes are tested in this order, and memory comes last.
         ensures total { (result ≡ Err SetFault.TotalTooLarge) ↔ (MAX_DEPTH < total) }

@@ -1,6 +1,6 @@
 //! Commands that wait.
 ghost use Rattle.std.specs.Prelude.{◌≡◌, ◌≤◌, true};
-ghost use Rattle.tag_board.specs.Boards.{state_of, alone_sets_of, waiters_of, IsCallerOf, IsAlone};
+ghost use Rattle.tag_board.specs.Boards.{state_of, alone_sets_of, waiters_of, searchers_of, IsCallerOf, IsAlone};
 ghost use Rattle.tag_board.specs.Wakeups.{Moves, MovesIf, Enters, Leaves as LeavesGroup, Finds};
 ghost use Rattle.tag_board.specs.Replays.{Waits, Leaves};
 
@@ -15,6 +15,7 @@ impl Board {
         ensures answers { Waits caller (state_of self.old) result (state_of self.new) }
         ensures alone { IsAlone self.old → alone_sets_of self.new ≡ alone_sets_of self.old }
         ensures waiters { MovesIf caller Enters (waiters_of self.old) result (waiters_of self.new) }
+        ensures searches { searchers_of self.new ≡ searchers_of self.old }
     {
         self.tags.prepare_wait(&mut self.hands[caller as usize])
     }
@@ -26,6 +27,7 @@ impl Board {
         ensures answers { Leaves caller (state_of self.old) result (state_of self.new) }
         ensures alone { IsAlone self.old → alone_sets_of self.new ≡ alone_sets_of self.old }
         ensures waiters { MovesIf caller LeavesGroup (waiters_of self.old) result (waiters_of self.new) }
+        ensures searches { searchers_of self.new ≡ searchers_of self.old }
     {
         self.tags.finish_wait(rt, &mut self.hands[caller as usize])
     }
@@ -38,6 +40,7 @@ impl Board {
         ensures same { state_of self.new ≡ state_of self.old }
         ensures alone { IsAlone self.old → alone_sets_of self.new ≡ alone_sets_of self.old }
         ensures waiters { Moves caller (Finds result) (waiters_of self.old) (waiters_of self.new) }
+        ensures searches { searchers_of self.new ≡ searchers_of self.old }
     {
         self.tags.wakes(&mut self.hands[caller as usize])
     }

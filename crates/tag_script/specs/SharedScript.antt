@@ -10,6 +10,7 @@ use Rattle.tag_queue.specs.Opening.{MiscountsAgents, CountsAgents}
 use Rattle.tag_sets.specs.Opening.{HasRange, HasLayouts}
 use Rattle.tag_board.specs.AloneSets.{AreUntouched}
 use Rattle.tag_board.specs.Opening.{IsOpen}
+use Rattle.tag_board.specs.Searches.{Begins}
 use Rattle.tag_board.specs.Wakeups.{Starts}
 use Rattle.tag_script.specs.declared.options.ScriptOptions.{ScriptOptions}
 use Rattle.tag_script.specs.Outputs.{IsRun}
@@ -49,6 +50,7 @@ pub record IsNewScene (o : ScriptOptions) (s : Scene) : Type 0 where
   pub opened : IsOpen o.tags o.reserved (tag_options o) s.state
   pub untouched : IsAlone s → AreUntouched o.tags o.reserved (tag_options o) s.sets
   pub outside : (caller : ℕ) → caller < o.callers → Starts (s.waiters caller)
+  pub begins : (caller : ℕ) → caller < o.callers → Begins o.tags o.reserved (tag_options o) (s.searchers caller)
 
 -- the output of the orders: the options are allowed, and the orders are answered one after another, from new tags on
 pub record IsToldShared (o : ScriptOptions) (orders : List Order) (text : List ℕ) : Type 0 where

@@ -3,8 +3,9 @@ ghost use Rattle.std.specs.Prelude.{◌≡◌, IfOk};
 ghost use Rattle.tag_board.specs.Boards.{IsCallerOf};
 ghost use Rattle.tag_board.specs.Looks.{Dumps};
 ghost use Rattle.tag_board.specs.AloneSets.{AloneDumps};
+ghost use Rattle.tag_board.specs.Searches.{PacksFound};
 ghost use Rattle.tag_script.specs.SharedCommands.{ObeysBy, ObeysShared, AreSharedTotals};
-ghost use Rattle.tag_script.specs.SharedCommands.{scene_of, Both, IsNoResize, ListsTags};
+ghost use Rattle.tag_script.specs.SharedCommands.{scene_of, Quietly, Looks, IsNoResize, ListsTags};
 
 use crate::answer::{Answer, BusyTags, DumpBytes};
 use crate::world::World;
@@ -114,7 +115,8 @@ impl<'a, W: Wait> Callers<'a, W> {
     fn dump(&mut self, caller: u32, kind: Kind) -> Result<DumpBytes, AllocError>
         requires { IsCallerOf self.old.board caller }
         ensures { IfOk result (λ bytes.
-            Both (Dumps kind) (AloneDumps kind) (scene_of self.old.board) bytes (scene_of self.new.board)) }
+            Quietly (Dumps kind) (AloneDumps kind) (Looks caller (PacksFound kind)) (scene_of self.old.board) bytes
+            (scene_of self.new.board)) }
     {
         let bytes = self.board.dump(self.alloc, caller, kind)?;
         Ok(DumpBytes::new(bytes))

@@ -49,6 +49,16 @@ fn what_one_caller_holds_no_other_gets(rt: HostRuntime) -> Result<(), Fail> {
     expect(&rt, &shared(4, 3), script, text)
 }
 
+/// The gets of both callers begin at tag 0, and looks report the tags of both.
+#[test]
+fn callers_begin_at_the_first_tag(rt: HostRuntime) -> Result<(), Fail> {
+    let script =
+        "0 get\n1 get\n0 clear 0\n1 get\n0 show\n0 busy\n0 dump\n1 clear 2\n0 get\n1 get\n0 get\n";
+    let text = "0\n1\nok\n2\ndepth=16\nbusy=2\ncleared=1\nbits_per_word=4\nmap_nr=4\nbusy 1 2\n\
+        00000000: 0600\nok\n3\n0\n2\ntotal got=6 back=2 held=4 posted=0\n";
+    expect(&rt, &shared(16, 2), script, text)
+}
+
 #[test]
 fn waiters_are_woken_by_batches(rt: HostRuntime) -> Result<(), Fail> {
     let script = "0 get\n0 get\n0 get\n1 wait\n0 clear 0\n0 clear 1\n0 clear 2\n0 wakes\n\

@@ -1,6 +1,6 @@
 -- The new list is filled whole, so its bits are those of the call; the loads change no part.
 use Rattle.std.proofs.Common.{◌≡◌, ℕ, List, length, ap, sym, subst, arith, set}
-use Rattle.tag_board.proofs.Uses.{div_ceil, AloneListsBusy, state_of, alone_sets_of, ListsBusy}
+use Rattle.tag_board.proofs.Uses.{div_ceil, AloneListsBusy, ListsFound, state_of, alone_sets_of, searchers_of, ListsBusy, Moves}
 use Rattle.tag_board.specs.Boards.{IsAlone}
 use Rattle.tag_board.proofs.Lookings.{busy_there, whole_list}
 use Rattle.tag_board.proofs.Commands.{Seen, all_rest, effect_on, seated, seen, busy_does, held_here, own_here, same_state, sits}
@@ -22,7 +22,7 @@ returns c =
     let long : length into ≡ bits.len = let room = e.room in let f = ap length c.deref_mut.ensures.value in
     let g = bits.ok in omega arith in
     let P : List ℕ → Type 0 = λ x. ListsBusy i (state_of b) x now.state
-    × (IsAlone b → AloneListsBusy (alone_sets_of b) x now.sets) in
+    × (IsAlone b → AloneListsBusy (alone_sets_of b) x now.sets) × Moves i (ListsFound x) (searchers_of b) now.searchers in
     let t = subst P (sym (whole_list bits.items into bits.len long)) (
       record {
         long = let few = c.in_ok-bits.ensures.len in let d = c.div_ceil.ensures in
@@ -32,5 +32,6 @@ returns c =
         same = same_state (state_of b) now.state i k.changes;
       },
       k.alone,
+      k.searches,
     ) in
-    record { answers = t.0; alone = t.1; waiters = all_rest k.waiters }
+    record { answers = t.0; alone = t.1; waiters = all_rest k.waiters; searches = t.2 }

@@ -1,6 +1,6 @@
 -- The hand loses the listed tags and counts them.
 use Rattle.std.proofs.Common.{ℕ, length, arith}
-use Rattle.tag_board.proofs.Uses.{AloneClearsList, state_of, RefusesList, Changes, cleared, is_in_list, GrantsFor}
+use Rattle.tag_board.proofs.Uses.{AloneClearsList, GivesTags, state_of, RefusesList, Changes, cleared, is_in_list, GrantsFor}
 use Rattle.tag_board.proofs.Commands.{kept, replies, seated, list_does, both_ok, both_on, list_verdict, held_here, here_held, own_here, sits}
 use Rattle.tag_board.proofs.board.Board.clear_batch.Goals as goal
 
@@ -9,7 +9,7 @@ invariant_of-self c =
     let b = c.args.self.now in let at = sits (omega arith) c.index_mut.ensures.value in let old = c.index_mut.result.now in
     let new = c.clear_batch.new.hand in let e = c.clear_batch.ensures in let r = c.clear_batch.result in
     seated b at new e.hand (kept old new r (both_ok r (both_on _ _ r e.gives e.back) e.counts
-    (λ woken p q. (list_does b.tags old new (own_here b.tags at b.own) _ woken p.0 p.1 q).number)) e.err)
+    (λ woken p q. (list_does b.tags old new (own_here b.tags at b.own) 0 _ woken p.0 p.1 q).number)) e.err)
 
 pub returns : goal.returns
 returns c =
@@ -18,7 +18,7 @@ returns c =
     let i : ℕ = c.args.caller in let tags = c.args.tags.now in let s = state_of b in
     let k = replies b at new {refuses = RefusesList s i tags} (λ woken. cleared (is_in_list tags) (length tags))
     (λ (woken : ℕ). Changes i (cleared (is_in_list tags) (length tags)) s)
-    (λ woken. AloneClearsList tags) (GrantsFor (length tags)) r
+    (λ woken. AloneClearsList tags) (GrantsFor s.terms.cap (length tags)) (λ woken. GivesTags tags) r
     (list_verdict s i tags r e.bad_count e.no_such_tag (
       (λ x. let h = e.not_held.0 x in
           (h.0, h.1, λ m. h.2 (λ k d l. held_here b.tags at _ (m.0 k d l), m.1))),
@@ -28,5 +28,8 @@ returns c =
       (λ y. e.succeeds.1 (y.0, y.1, (λ k d l. held_here b.tags at _ (y.2.0 k d l), y.2.1))),
     ))
     (both_ok r (both_on _ _ r e.gives e.back) e.counts
-    (λ woken p q. (list_does b.tags old new (own_here b.tags at b.own) tags woken p.0 p.1 q, (λ to. to)))) e.err in
-    record { answers = k.answers; alone = k.alone; waiters = k.waiters }
+    (λ woken p q. (
+      list_does b.tags old new (own_here b.tags at b.own) (length b.hands.items) tags woken p.0 p.1 q,
+      (λ to. to),
+    ))) e.err in
+    record { answers = k.answers; alone = k.alone; waiters = k.waiters; searches = k.searches }

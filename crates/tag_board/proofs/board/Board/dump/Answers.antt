@@ -1,6 +1,6 @@
 -- The new list is filled whole, so its bytes are those of the dump; the loads change no part.
 use Rattle.std.proofs.Common.{ℕ, List, ◌++◌, drop, ap, sym, ◌∙◌, subst, arith, set}
-use Rattle.tag_board.proofs.Uses.{div_ceil, AloneDumps, state_of, alone_sets_of, Dumps}
+use Rattle.tag_board.proofs.Uses.{div_ceil, AloneDumps, PacksFound, state_of, alone_sets_of, searchers_of, Dumps, Moves}
 use Rattle.tag_board.specs.Boards.{IsAlone}
 use Rattle.tag_board.proofs.Lookings.{dump_there, depth_is, filled}
 use Rattle.tag_board.proofs.Commands.{Seen, all_rest, effect_on, seated, seen, dump_does, own_here, same_state, sits}
@@ -26,7 +26,8 @@ returns c =
     let whole = filled bytes.items c.dump.new.into d.bytes bytes.len c.dump.result (sym bytes.ok.0) after d.long
     (d.count_is ∙ is ∙ omega arith) in
     let P : List ℕ → Type 0 = λ x. Dumps kind (state_of b) x now.state
-    × (IsAlone b → AloneDumps kind (alone_sets_of b) x now.sets) in
+    × (IsAlone b → AloneDumps kind (alone_sets_of b) x now.sets)
+    × Moves i (PacksFound kind x) (searchers_of b) now.searchers in
     let t = subst P whole (
       record {
         long = d.long ∙ d.count_is ∙ is;
@@ -34,5 +35,6 @@ returns c =
         same = same_state (state_of b) now.state i k.changes;
       },
       k.alone,
+      k.searches,
     ) in
-    record { answers = t.0; alone = t.1; waiters = all_rest k.waiters }
+    record { answers = t.0; alone = t.1; waiters = all_rest k.waiters; searches = t.2 }

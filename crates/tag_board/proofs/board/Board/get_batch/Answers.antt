@@ -1,6 +1,6 @@
 -- The hand did not hold the tags before, and no other caller holds one now, so no caller held one.
 use Rattle.std.proofs.Common.{◌≡◌, ℕ, true, Option, None, Ok, refl, sym, ap, ◌∙◌, arith}
-use Rattle.tag_board.proofs.Uses.{count_of_run, Ordinary, AloneBatch, state_of, RefusesBatch, Wins, is_in_run, State}
+use Rattle.tag_board.proofs.Uses.{count_of_run, Ordinary, AloneBatch, FindsRun, state_of, RefusesBatch, Wins, is_in_run, State}
 use Rattle.tag_board.proofs.Commands.{got, holds_gained, kept, none_moved, seated, seen_of, batch_gains, batch_number, none_around, batch_verdict, own_here, round_here, sits, spent_here}
 use Rattle.tag_board.proofs.board.Board.get_batch.Goals as goal
 
@@ -29,7 +29,8 @@ returns c =
     let around = none_around b.tags old new n (Ok c.in_ok-answer.field-0) c.in_ok-answer.field-0 refl e.bad_count e.round_robin in
     let k = got b at new {refuses = RefusesBatch s i n}
     (λ (o : Option (ℕ × ℕ)) (t : State). ((s.part i).round_robin ≡ true → o ≡ None)
-    × Wins i Ordinary (is_in_run o) (count_of_run o) s t) (AloneBatch n) a
+    × Wins i Ordinary (is_in_run o) (count_of_run o) s t) (AloneBatch n)
+    (FindsRun n) a
     (seen_of c.tell_run_free.new.self) (ap seen_of c.tell_run_free.ensures.same)
     (batch_gains b.tags old new own b.hands.items n a around e.gets) c.tell_run_free.ensures.alone
     (batch_verdict s i n (Ok a) (λ bad. let wrong = e.bad_count.1 bad in absurd cc)
@@ -38,4 +39,4 @@ returns c =
     absurd cc)
     (λ fits unspent. refl))
     (λ w. ((λ t. (around (sym round ∙ t)).0), w)) in
-    record { answers = k.answers; alone = k.alone; waiters = none_moved i (Ok a) k.waiters }
+    record { answers = k.answers; alone = k.alone; waiters = none_moved i (Ok a) k.waiters; searches = k.searches }

@@ -1,6 +1,6 @@
 -- The hand did not hold the tag before, and no other caller holds it now, so no caller held it.
 use Rattle.std.proofs.Common.{ℕ, Option, Ok, ap, arith}
-use Rattle.tag_board.proofs.Uses.{count_of, Reserved, AloneGets, plain, state_of, RefusesGet, Wins, is_answer}
+use Rattle.tag_board.proofs.Uses.{count_of, Reserved, AloneGets, plain, FindsTag, plainly, state_of, RefusesGet, Wins, is_answer}
 use Rattle.tag_board.proofs.Commands.{got, holds_gained, kept, none_moved, seated, seen_of, reserved_gains, ok_map, reserved_verdict, own_here, room_here, sits, spent_here}
 use Rattle.tag_board.proofs.board.Board.get_reserved.Goals as goal
 
@@ -25,10 +25,11 @@ returns c =
     let new = c.get_reserved.new.hand in let a : Option ℕ = c.in_ok-answer.answer in let e = c.in_ok-answer.ensures in
     let i : ℕ = c.args.caller in let s = state_of b in let own = own_here b.tags at b.own in
     let k = got b at new {refuses = RefusesGet s i Reserved}
-    (λ (o : Option ℕ). Wins i Reserved (is_answer o) (count_of o) s) (AloneGets Reserved plain) a
+    (λ (o : Option ℕ). Wins i Reserved (is_answer o) (count_of o) s) (AloneGets Reserved plain)
+    (FindsTag Reserved plainly) a
     (seen_of c.tell_free.new.self) (ap seen_of c.tell_free.ensures.same)
     (reserved_gains b.tags old new own b.hands.items a e.gets) c.tell_free.ensures.alone
     (reserved_verdict s i (Ok a) e.no_reserved.1
     (λ some spent. e.spent.1 (some, spent_here b.tags at own Reserved 1 spent))
     (λ some unspent. e.succeeds.1 (some, room_here b.tags at own Reserved 1 unspent))) (λ w. w) in
-    record { answers = k.answers; alone = k.alone; waiters = none_moved i (Ok a) k.waiters }
+    record { answers = k.answers; alone = k.alone; waiters = none_moved i (Ok a) k.waiters; searches = k.searches }

@@ -1,7 +1,7 @@
 -- The hand is then in no group.
 use Rattle.std.proofs.Common.{ℕ, ◌∙◌, false, arith}
 use Rattle.tag_board.proofs.Uses.{standing_of, Left, state_of, RefusesLeave, Changes, standing, Leaves}
-use Rattle.tag_board.proofs.Commands.{kept, none_done, replies, seated, AsBefore, leave_does, ok_map, err_same, err_since, not_some_since, leave_verdict, sits, stands_here}
+use Rattle.tag_board.proofs.Commands.{kept, none_done, none_moved, replies, seated, AsBefore, leave_does, ok_map, err_same, err_since, not_some_since, leave_verdict, sits, stands_here}
 use Rattle.tag_board.proofs.board.Board.leave.Goals as goal
 
 pub invariant_of-self : goal.invariant_of-self
@@ -18,10 +18,15 @@ returns g c =
     let i : ℕ = c.args.caller in let s = state_of b in let stands = stands_here b.tags at in
     let k = replies b at new {refuses = RefusesLeave s i} (λ left. standing false)
     (λ (left : Left). Changes i (standing false) s)
-    (λ left. AsBefore) Leaves r
+    (λ left. AsBefore) Leaves (λ left. AsBefore) r
     (leave_verdict s i r
     (λ f. err_since _ _ r e.err (λ ok. not_some_since (standing_of old) (stands ∙ f) (e.stands.0 ok)))
     (λ t. e.stands.1 (stands ∙ t)))
     (ok_map r e.leaves (λ left l. (leave_does b.tags old new left l e.out e.next, (λ to. to))))
     (err_same _ _ r e.err) in
-    record { answers = k.answers; alone = λ one. none_done r (k.alone one); waiters = k.waiters }
+    record {
+      answers = k.answers;
+      alone = λ one. none_done r (k.alone one);
+      waiters = k.waiters;
+      searches = none_moved i r k.searches;
+    }

@@ -2,6 +2,7 @@
 use Rattle.std.proofs.Common.{arith}
 use Rattle.tag_board.proofs.Newcomers.{opens, every, in_order, starts}
 use Rattle.tag_board.proofs.AloneOpens.{opens_alone}
+use Rattle.tag_board.proofs.Reopened.{begins}
 use Rattle.tag_board.proofs.board.Board.open.Goals as goal
 
 pub invariant_of-result : goal.invariant_of-result
@@ -25,3 +26,8 @@ returns-clause-alone c = λ one. let o = c.in_ok-tags in let e = o.ensures in
 pub returns-clause-waiters : goal.returns-clause-waiters
 returns-clause-waiters c = λ caller low. let o = c.in_ok-tags in let e = o.ensures in
     starts c.args.options o.tags o.hands.items e.ok caller (let many = e.ok.count in omega arith)
+
+pub returns-clause-searches : goal.returns-clause-searches
+returns-clause-searches c = λ caller low. let o = c.in_ok-tags in let e = o.ensures in
+    begins c.args.options o.tags o.hands.items e.ok c.args.total c.args.reserved e.range.0 e.range.1
+    e.ordinary_shift e.reserved_shift caller (let many = e.ok.count in omega arith)

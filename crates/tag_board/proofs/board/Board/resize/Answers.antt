@@ -4,6 +4,7 @@ use Rattle.tag_queue.specs.Agents as queue
 use Rattle.tag_board.proofs.Continuing.{order_kept, every_there, world_resized, world_free, waiters_resized, total_kept, world_kept, waiters_kept, numbers_kept, may_resize, refuses}
 use Rattle.tag_board.proofs.Endings.{all_there}
 use Rattle.tag_board.proofs.AloneResizes.{resizes_alone, unchanged_alone}
+use Rattle.tag_board.proofs.Reopened.{sets_kept, sets_resized}
 use Rattle.tag_board.proofs.board.Board.resize.Goals as goal
 
 pub invariant_of-result : goal.invariant_of-result
@@ -74,3 +75,11 @@ returns-in-Ok-clause-waiters c = let b = c.args.self in let is = c.in-Ok.ensures
 pub returns-in_default-clause-waiters : goal.returns-in_default-clause-waiters
 returns-in_default-clause-waiters c = let b = c.args.self in let fault = c.in-Err.field-0 in
     let back = c.in-Err.ensures.err in waiters_kept b.tags fault.tags b.hands.items fault.hands.items back.0 back.1
+
+pub returns-in-Ok-clause-searches : goal.returns-in-Ok-clause-searches
+returns-in-Ok-clause-searches c = let b = c.args.self in
+    sets_resized b.tags c.in-Ok.tags b.hands.items c.in-Ok.hands.items c.args.total b.own c.in-Ok.ensures.ok
+
+pub returns-in_default-clause-searches : goal.returns-in_default-clause-searches
+returns-in_default-clause-searches c = let b = c.args.self in
+    sets_kept b.hands.items c.in-Err.field-0.hands.items c.in-Err.ensures.err.1

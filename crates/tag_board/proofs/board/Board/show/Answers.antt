@@ -27,4 +27,5 @@ returns c =
       };
       alone = k.alone;
       waiters = all_rest k.waiters;
+      searches = k.searches;
     }

@@ -1,6 +1,6 @@
 -- The hand did not hold the tag before, and no other caller holds it now, so no caller held it.
 use Rattle.std.proofs.Common.{◌≡◌, ℕ, nat_eq, set, rules, Option, Some, Result, Ok, Err, IfErr, refl, sym, ap, subst, arith}
-use Rattle.tag_board.proofs.Uses.{TagFault, AloneTakes, state_of, alone_sets_of, Takes, is_answer, joined}
+use Rattle.tag_board.proofs.Uses.{TagFault, AloneTakes, TriesTag, state_of, alone_sets_of, searchers_of, Moves, Takes, is_answer, joined}
 use Rattle.tag_sets.specs.Gets.{IsAnswer}
 use Rattle.tag_board.proofs.Postings.{take_number, cause_of_take, err_is, refused_take}
 use Rattle.tag_board.proofs.Ranges.{tag_low}
@@ -30,7 +30,7 @@ returns c =
     let free = free_before b at new (is_answer answer) (IsAnswer answer) (names_answer answer) takes.more k.changes
     c.tell_free.ensures.alone in
     let t = subst (λ (x : Seen). Takes tag i (state_of b) (Ok tt) x.state
-    × EffectOn b i (joined (nat_eq tag)) (λ s. AloneTakes tag s (Ok tt)) AsBefore x)
+    × EffectOn b i (joined (nat_eq tag)) (λ s. AloneTakes tag s (Ok tt)) AsBefore (TriesTag tag (Ok tt)) x)
     (sym (ap seen_of c.tell_free.ensures.same)) (
       (
         tag_low b.tags new c.take.ensures.hand tag (takes.more.joined tag refl),
@@ -39,7 +39,7 @@ returns c =
       ),
       k,
     ) in
-    record { answers = t.0; alone = t.1.alone; waiters = all_rest t.1.waiters }
+    record { answers = t.0; alone = t.1.alone; waiters = all_rest t.1.waiters; searches = t.1.searches }
 
 pub returns-in_err-take : goal.returns-in_err-take
 returns-in_err-take c =
@@ -57,4 +57,6 @@ returns-in_err-take c =
       alone = λ one. subst (λ (x : Result (Unit {0}) TagFault). AloneTakes tag (alone_sets_of b) x now.sets) (sym is)
           (k.alone one);
       waiters = all_rest k.waiters;
+      searches = subst (λ (x : Result (Unit {0}) TagFault). Moves i (TriesTag tag x) (searchers_of b) now.searchers)
+          (sym is) k.searches;
     }
