@@ -1,10 +1,11 @@
 -- Threads that are started one after another, and joined from the last on.
-use Rattle.std.proofs.Common.{◌≡◌, ℕ, ◌+◌, ◌⊎◌, inl, inr, ⊎_elim, Bool, true, false, ◌||◌, List, [], ◌∷◌, ◌++◌, length, get_or, drop, map, fold, Option, refl, sym, ap, ◌∙◌, subst, arith, append_assoc, length-append}
+use Rattle.std.proofs.Common.{◌≡◌, ℕ, ◌+◌, ◌-◌, ◌≤◌, ◌⊎◌, ⊎_elim, Bool, true, false, not, ◌||◌, IsTrue, rules, List, [], ◌∷◌, ◌++◌, length, map, fold, Option, Some, None, SomeIff, refl, sym, ap, ◌∙◌, subst, arith, append_assoc, length-append}
 use Rattle.std.specs.List.{All}
 use Rattle.std.specs.declared.thread.PromisedHandle.{PromisedHandle}
+use Rattle.std.proofs.lemmas.Bool.Decides.{nat_tests}
 use Rattle.std.proofs.lemmas.List.Elements.{All-cons, All-nil}
 use Rattle.std.proofs.lemmas.List.Sums.{fold-append, fold_push}
-use Rattle.std.proofs.lemmas.List.{map-append}
+use Rattle.std.proofs.lemmas.List.{append-nil, map-append}
 use Rattle.tag_sets.specs.declared.hand.Hand.{Hand}
 use Rattle.tag_sets.specs.declared.tags.Tags.{Tags}
 use Rattle.tag_sets.specs.Hands.{IsHandOf}
@@ -27,7 +28,18 @@ hand_of worked = worked.hand
 abbrev with_faults : Faults → Worked → Faults
 with_faults faults worked = added faults worked.faults
 
+-- the number among the submitters, as it is computed
+pub numbered : (o : Option ℕ) (completers thread : ℕ) → SomeIff o (completers ≤ thread) (thread - completers)
+    → o ≡ submitter_at completers thread
+numbered None completers thread none = grind (arith, nat_tests)
+numbered (Some number) completers thread is = grind (arith, nat_tests)
+
 module _ (tags : Tags ℕ) (setup : Asked) (ios : List Io) where
+  -- before the first
+  pub promised_none : HavePromised tags setup ios []
+  promised_none before handle after parts =
+      let long = ap length parts ∙ length-append before (handle ∷ after) in absurd (omega arith)
+
   -- one thread more that promises its part
   pub promised_more : (old new : Handles) (handle : PromisedHandle Worked Part) → HavePromised tags setup ios old
       → IsPart tags setup ios (length old) handle.promise → new ≡ old ++ handle ∷ [] → HavePromised tags setup ios new
@@ -71,7 +83,7 @@ module _ (tags : Tags ℕ) (setup : Asked) (ios : List Io) where
       let fewer = before.count in record {
         count = omega arith;
         did = (
-          subst (λ (n : ℕ). Returns tags setup ios (submitter_at setup.completers n) worked) fewer returns .1,
+          (subst (λ (n : ℕ). Returns tags setup ios (submitter_at setup.completers n) worked) fewer returns).1,
           before.did,
         );
         own = All-cons (IsHandOf tags) worked.hand (map hand_of works) returns.0 before.own;
@@ -90,6 +102,27 @@ kept_both : (old mid new : Handles) (works more : List Worked) → KeepInTurn ol
 kept_both old mid new [] more same turn = subst (λ (l : Handles). KeepInTurn l new more) same turn
 kept_both old mid new (w ∷ ws) more turn then =
     (turn.0, turn.1, turn.2, turn.3, kept_both turn.0 mid new ws more turn.4 then)
+
+-- nothing is joined
+pub joined_none : (handles : Handles) (hands : List (Hand ℕ)) (faults : Faults)
+    → AreJoined handles handles hands hands faults faults
+joined_none handles hands faults =
+    record { works = []; kept = refl; back_is = sym (append-nil hands); all_are = refl }
+
+-- one thread more
+pub joined_more : (old mid rest : Handles) (last : PromisedHandle Worked Part) (worked : Worked)
+    (hands middle back : List (Hand ℕ)) (faults between all : Faults) → AreJoined old mid hands middle faults between
+    → mid ≡ rest ++ last ∷ [] → Keeps last.promise worked → back ≡ middle ++ worked.hand ∷ []
+    → all ≡ added between worked.faults → AreJoined old rest hands back faults all
+joined_more old mid rest last worked hands middle back faults between all was parts keeps pushed noted = record {
+  works = was.works ++ worked ∷ [];
+  kept = kept_more old mid rest was.works last worked was.kept parts keeps;
+  back_is = pushed ∙ ap (λ (l : List (Hand ℕ)). l ++ worked.hand ∷ []) was.back_is
+      ∙ append_assoc hands (map hand_of was.works) (worked.hand ∷ [])
+      ∙ ap (λ (l : List (Hand ℕ)). hands ++ l) (sym (map-append hand_of was.works (worked ∷ [])));
+  all_are = noted ∙ ap (λ (f : Faults). added f worked.faults) was.all_are
+      ∙ sym (fold_push with_faults faults was.works worked);
+}
 
 -- joined in two goes
 pub joined_both : (old mid new : Handles) (hands middle back : List (Hand ℕ)) (faults between all : Faults)
@@ -120,18 +153,29 @@ no_more : (handles : Handles) → length handles ≡ 0 → handles ≡ []
 no_more [] none = refl
 no_more (handle ∷ rest) none = absurd (omega arith)
 
-module _ (tags : Tags ℕ) (setup : Asked) (ios : List Io) (old : Handles) (back : List (Hand ℕ)) (faults all : Faults)
-    (were : HavePromised tags setup ios old) (done : AreJoined old [] [] back faults all) where
+-- all threads are joined in two goes
+module _ (tags : Tags ℕ) (setup : Asked) (ios : List Io) (old mid new : Handles) (hands middle back : List (Hand ℕ))
+    (faults between all : Faults) (were : HavePromised tags setup ios old) (none_yet : hands ≡ [])
+    (none_left : length new ≤ 0) (one : AreJoined old mid hands middle faults between)
+    (other : AreJoined mid new middle back between all) where
+  done : AreJoined old [] [] back faults all
+  done =
+      let none : length new ≡ 0 = omega arith in
+      subst (λ (z : Handles × List (Hand ℕ)). AreJoined old z.0 z.1 back faults all)
+      (λ i. (no_more new none i, none_yet i))
+      (joined_both old mid new hands middle back faults between all one other)
+
+  parts : Joined tags setup ios old [] done.works
+  parts = joined_parts tags setup ios old [] done.works done.kept were
+
   -- the hands that came back are hands of the tags
   pub own_hands : All (IsHandOf tags) back
-  own_hands = subst (All (IsHandOf tags)) (sym done.back_is)
-      (joined_parts tags setup ios old [] done.works done.kept were).own
+  own_hands = subst (All (IsHandOf tags)) (sym done.back_is) parts.own
 
   -- where none ran out of memory, all threads were started and did their parts
   pub have_run : (faults.memory ≡ false → (faults ≡ clean) × (length old ≡ setup.completers + setup.submitters))
       → all.memory ≡ false → HasRun tags setup ios back all
   have_run started none =
-      let parts = joined_parts tags setup ios old [] done.works done.kept were in
       let first = started (none_first faults done.works (subst (λ (f : Faults). f.memory ≡ false) done.all_are none)) in
       let count = parts.count in let full = first.1 in record {
         works = done.works;
@@ -140,3 +184,8 @@ module _ (tags : Tags ℕ) (setup : Asked) (ios : List Io) (old : Handles) (back
         hands_are = done.back_is;
         faults_are = done.all_are ∙ ap (λ (f : Faults). fold with_faults f done.works) first.0;
       }
+
+-- a flag that is not unset is set
+pub is_set : (b : Bool) → not b ≡ false → IsTrue b
+is_set true e = search rules
+is_set false e = cc

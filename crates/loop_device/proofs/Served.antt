@@ -12,7 +12,8 @@ use Rattle.loop_device.specs.Requests.{Completes, IsRequestFault}
 use Rattle.loop_device.specs.Working.{State, noted}
 use Rattle.loop_device.proofs.Turns.{one_more}
 
-abbrev state : Hand ℕ → Worker → Faults → State
+-- what a thread has at a turn
+abbrev pub state : Hand ℕ → Worker → Faults → State
 state hand view faults = record { hand = hand; view = view; faults = faults }
 
 -- what `complete` says of its tag, whether it is `Ok` or not

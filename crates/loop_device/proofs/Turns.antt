@@ -1,7 +1,8 @@
 -- One turn more at the end of a thread's work, and what it was the turn of.
-use Rattle.std.proofs.Common.{◌≡◌, ◌≢◌, ℕ, ◌+◌, ◌%◌, ◌<◌, ◌==◌, Bool, true, false, cond, List, [], ◌∷◌, ◌++◌, length, get_or, map, filter, take, refl, sym, ap, ◌∙◌, subst, arith, rules, add-zero, zero-add}
+use Rattle.std.proofs.Common.{◌≡◌, ◌≢◌, ℕ, ◌+◌, ◌%◌, ◌<◌, ◌==◌, Bool, true, false, cond, List, [], ◌∷◌, ◌++◌, length, get_or, map, filter, take, refl, sym, ap, ◌∙◌, subst, arith, add-zero, zero-add}
 use Rattle.std.specs.List.{enumerate_from}
 use Rattle.std.proofs.lemmas.List.{take_more, length-take, map-append, append-nil}
+use Rattle.std.proofs.lemmas.Bool.Decides.{nat_tests}
 use Rattle.std.proofs.lemmas.List.Elements.{filter-append}
 use Rattle.loop_device.specs.declared.io.Io.{Io}
 use Rattle.loop_device.specs.Submitting.{share_of}
@@ -50,10 +51,14 @@ module _ (number submitters : ℕ) (ios : List Io) (index : ℕ) (io : Io) (low 
 
   pub share_with : index % submitters ≡ number → share_of number submitters (take (index + 1) ios)
       ≡ share_of number submitters (take index ios) ++ (get_or ios index io).line ∷ []
-  share_with is = share_next ∙ ap (λ (b : Bool). share_of number submitters (take index ios)
-      ++ cond b ((get_or ios index io).line ∷ []) []) (search (rules, is))
+  share_with is =
+      let own : (index % submitters == number) ≡ true = grind (arith, nat_tests) in
+      share_next ∙ ap (λ (b : Bool). share_of number submitters (take index ios)
+      ++ cond b ((get_or ios index io).line ∷ []) []) own
 
   pub share_without : index % submitters ≢ number → share_of number submitters (take (index + 1) ios)
       ≡ share_of number submitters (take index ios)
-  share_without other = share_next ∙ ap (λ (b : Bool). share_of number submitters (take index ios)
-      ++ cond b ((get_or ios index io).line ∷ []) []) (search (rules, other)) ∙ append-nil _
+  share_without other =
+      let others : (index % submitters == number) ≡ false = grind (arith, nat_tests) in
+      share_next ∙ ap (λ (b : Bool). share_of number submitters (take index ios)
+      ++ cond b ((get_or ios index io).line ∷ []) []) others ∙ append-nil (share_of number submitters (take index ios))

@@ -31,8 +31,8 @@ HavePromised tags setup ios handles = (before : List (PromisedHandle Worked Part
 -- threads were joined from the last on, and each kept its promise
 abbrev pub KeepInTurn : List (PromisedHandle Worked Part) → List (PromisedHandle Worked Part) → List Worked → Type 0
 KeepInTurn old new [] = new ≡ old
-KeepInTurn old new (worked ∷ later) = (rest : List (PromisedHandle Worked Part)) (last : PromisedHandle Worked Part)
-    × (old ≡ rest ++ last ∷ []) × Keeps last.promise worked × KeepInTurn rest new later
+KeepInTurn old new (worked ∷ later) = (rest : List (PromisedHandle Worked Part))
+    × (last : PromisedHandle Worked Part) × (old ≡ rest ++ last ∷ []) × Keeps last.promise worked × KeepInTurn rest new later
 
 -- the threads that were joined added their hands and their faults
 pub record AreJoined (old new : List (PromisedHandle Worked Part)) (hands back : List (Hand ℕ))

@@ -75,7 +75,17 @@ pub(crate) fn carry_by_threads<B: Tagged + Send + Sync, G: Gate, R: Threads + Wa
         {
             let mut handles = Vec::with_capacity(alloc, hands.len())?;
             let mut back = Vec::with_capacity(alloc, hands.len())?;
-            let started = start_all(scope, rt, log, gate, device, hands, pass, setup, &mut handles);
+            let started = start_all(
+                scope,
+                rt,
+                log,
+                gate,
+                device,
+                hands,
+                pass,
+                setup,
+                &mut handles,
+            );
             if !started {
                 device.stopped.store(true, SeqCst);
             }
@@ -131,15 +141,7 @@ fn start_all<'s, E, B: Tagged + Send + Sync, G: Gate, R: Wait + Sync>(
                     × (total_of device.now.tags ≡ B.total) × (ruled_capacity device.now.queue ≡ setup.queue)
                     × (0 < setup.submitters) × (view mine ≡ worker (is_some number) [] []) }
                 ensures { Returns device.entry.now.tags setup log.entry.now.ios.items number result }
-            {
-                let submitters = setup.submitters as usize;
-                match number {
-                    Some(number) => {
-                        submit_all(rt, log, gate, device, hand, mine, number, submitters).0
-                    }
-                    None => complete_all(rt, log, gate, device, hand, mine).0,
-                }
-            },
+            { do_part(rt, log, gate, device, hand, mine, number, setup) },
         );
         let Ok(handle) = started else {
             return false;
@@ -147,6 +149,34 @@ fn start_all<'s, E, B: Tagged + Send + Sync, G: Gate, R: Wait + Sync>(
         handles.push_reserved(handle);
     }
     true
+}
+
+/// Does the part of one thread, which completes, or submits its share if it has a number among the submitters.
+fn do_part<B: Tagged, G: Gate, W: Wait>(
+    rt: &W,
+    log: &Log,
+    gate: &G,
+    device: &Device<B>,
+    hand: Hand<u64>,
+    pass: Pass<u32, Worker>,
+    number: Option<usize>,
+    setup: Setup,
+) -> Worked
+    requires hand { IsFreshOf device.now.tags hand }
+    requires pass { IsPassOf device.now.queue pass }
+    requires begins { view pass ≡ worker (is_some number) [] [] }
+    requires total { total_of device.now.tags ≡ B.total }
+    requires room { ruled_capacity device.now.queue ≡ setup.queue }
+    requires submitters { 0 < setup.submitters }
+    ensures { Returns device.now.tags setup log.now.ios.items number result }
+{
+    match number {
+        Some(number) => {
+            let submitters = setup.submitters as usize;
+            submit_all(rt, log, gate, device, hand, pass, number, submitters).0
+        }
+        None => complete_all(rt, log, gate, device, hand, pass).0,
+    }
 }
 
 /// A pass of its own for one more thread, which may push if it is to submit.
