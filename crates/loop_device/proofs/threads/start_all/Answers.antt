@@ -55,7 +55,7 @@ spawn_with-started-requires-send-F g c κs within =
           ),
         ),
       );
-      leaving = λ k x w. (tt, (tt, (tt, (tt, (hand_goes.leaving k x.4 _, (tt, (tt, tt)))))));
+      leaving = λ k x w. (tt, (tt, (tt, (tt, (hand_goes.leaving k x.4 _, (tt, tt))))));
     }
 
 pub spawn_with-started-requires-send-T : goal.spawn_with-started-requires-send-T
@@ -79,9 +79,12 @@ spawn_with-started-requires-clause-runs g c =
 
 pub loop-hand-init : goal.loop-hand-init
 loop-hand-init g c =
-    let requires = c.requires in let none = ap length requires.none in record {
+    let requires = c.requires in let none = ap length requires.none in
+    let given = c.into_iter-hand-iterator.ensures.into_iter_gives in let many = given.1 in
+    let empty : vec_len c.args.handles.now ≡ length c.args.handles.now.items =
+        first_of (omega arith, search rules, omega (arith, c.args.handles.now.ok.0)) in record {
       steps = search rules;
-      rest = search rules;
+      rest = subst (All (IsFreshOf c.args.device.now.tags)) (sym given.0) requires.hands;
       pass = requires.pass;
       handles = subst (HavePromised c.args.device.now.tags c.args.setup c.args.log.now.ios.items) (sym requires.none)
           (promised_none c.args.device.now.tags c.args.setup c.args.log.now.ios.items);
