@@ -1,5 +1,5 @@
 -- Threads that are started one after another, and joined from the last on.
-use Rattle.std.proofs.Common.{◌≡◌, ℕ, ◌+◌, ◌-◌, ◌≤◌, ◌⊎◌, ⊎_elim, Bool, true, false, not, ◌||◌, IsTrue, rules, List, [], ◌∷◌, ◌++◌, length, map, fold, Option, Some, None, SomeIff, refl, sym, ap, ◌∙◌, subst, arith, append_assoc, length-append}
+use Rattle.std.proofs.Common.{◌≡◌, ℕ, ◌+◌, ◌-◌, ◌≤◌, ⊎_elim, Bool, true, false, not, ◌||◌, IsTrue, rules, List, [], ◌∷◌, ◌++◌, length, map, fold, Option, Some, None, SomeIff, refl, sym, ap, ◌∙◌, subst, arith, append_assoc, length-append}
 use Rattle.std.specs.List.{All}
 use Rattle.std.specs.declared.thread.PromisedHandle.{PromisedHandle}
 use Rattle.std.proofs.lemmas.Bool.Decides.{nat_tests}
@@ -15,7 +15,7 @@ use Rattle.loop_device.specs.declared.threads.Part.{Part}
 use Rattle.loop_device.specs.declared.workers.Faults.{Faults}
 use Rattle.loop_device.specs.declared.workers.Worked.{Worked}
 use Rattle.loop_device.specs.Promises.{Keeps, IsPart, HavePromised, KeepInTurn, AreJoined}
-use Rattle.loop_device.specs.Runs.{DidParts, Returns, submitter_at, faults_of, HasRun}
+use Rattle.loop_device.specs.Runs.{DidParts, Returns, submitter_at, HasRun}
 use Rattle.loop_device.specs.Working.{added, clean}
 use Rattle.loop_device.proofs.Parting.{parted}
 

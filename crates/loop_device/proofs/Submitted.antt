@@ -1,14 +1,9 @@
 -- One line more submitted.
-use Rattle.std.proofs.Common.{◌≡◌, ◌≢◌, ℕ, ◌+◌, ◌%◌, ◌<◌, List, [], ◌∷◌, ◌++◌, length, get_or, take, Result, sym, ap, ◌∙◌, subst, arith}
-use Rattle.tag_sets.specs.declared.hand.Hand.{Hand}
+use Rattle.std.proofs.Common.{◌≡◌, ◌≢◌, ℕ, ◌+◌, ◌%◌, ◌<◌, List, [], ◌∷◌, ◌++◌, length, get_or, take, sym, ap, ◌∙◌, subst, arith}
 use Rattle.tag_sets.specs.declared.tags.Tags.{Tags}
-use Rattle.loop_device.specs.declared.device_queue.Worker.{Worker}
-use Rattle.loop_device.specs.declared.fault.PlayFault.{PlayFault}
 use Rattle.loop_device.specs.declared.io.Io.{Io}
-use Rattle.loop_device.specs.declared.workers.Faults.{Faults}
-use Rattle.loop_device.specs.Submitting.{share_of, Submits, SubmitsAs}
-use Rattle.loop_device.specs.Working.{State, noted, TakesTurns}
-use Rattle.loop_device.proofs.Served.{state}
+use Rattle.loop_device.specs.Submitting.{share_of, Submits}
+use Rattle.loop_device.specs.Working.{State, TakesTurns}
 use Rattle.loop_device.proofs.Turns.{one_more, share_with, share_without}
 
 some_line : (ios : List Io) → 0 < length ios → Io

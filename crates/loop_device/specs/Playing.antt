@@ -1,5 +1,5 @@
 -- What a play reports, and how it is judged.
-use Rattle.std.specs.Prelude.{◌≡◌, ◌≢◌, ◌⊎◌, ℕ, true, false, List, length}
+use Rattle.std.specs.Prelude.{◌≡◌, ◌≢◌, ◌⊎◌, true, false, List, length}
 use Rattle.tag_model.specs.declared.totals.Totals.{Totals}
 use Rattle.loop_device.specs.declared.fault.PlayFault.{PlayFault}
 use Rattle.loop_device.specs.declared.fault.PlayFault.TheVariants.{Memory, Setup, Lost, Twice, Spurious}

@@ -1,7 +1,5 @@
 -- What all threads of a play did together.
-use Rattle.std.specs.Prelude.{◌≡◌, ℕ, ◌+◌, ◌-◌, ◌<◌, nat_lt, true, false, List, [], ◌∷◌, length, map, fold, Option, Some, None, Result, Ok, Err, if◌then◌else◌}
-use Rattle.std.specs.List.{All}
-use Rattle.std.specs.declared.thread.PromisedHandle.{PromisedHandle}
+use Rattle.std.specs.Prelude.{◌≡◌, ℕ, ◌+◌, ◌-◌, nat_lt, true, false, List, [], ◌∷◌, length, map, fold, Option, Some, None, if◌then◌else◌}
 use Rattle.tag_layout.specs.Layout.{HasShift}
 use Rattle.tag_model.specs.declared.totals.Totals.{Totals}
 use Rattle.tag_queue.specs.declared.gather.QueueTotals.{QueueTotals}
@@ -16,7 +14,6 @@ use Rattle.loop_device.specs.declared.fault.PlayFault.{PlayFault}
 use Rattle.loop_device.specs.declared.fault.PlayFault.TheVariants.{Memory, Setup, Lost, Twice, Spurious}
 use Rattle.loop_device.specs.declared.io.Done.{Done}
 use Rattle.loop_device.specs.declared.io.Io.{Io}
-use Rattle.loop_device.specs.declared.report.Report.{Report}
 use Rattle.loop_device.specs.declared.setup.Setup.{Setup as Asked}
 use Rattle.loop_device.specs.declared.workers.Faults.{Faults}
 use Rattle.loop_device.specs.declared.workers.Worked.{Worked}

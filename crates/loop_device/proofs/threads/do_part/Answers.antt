@@ -1,5 +1,5 @@
 -- A thread does the part that its number says.
-use Rattle.std.proofs.Common.{◌≡◌, ℕ, true, false, [], Option, Some, None, sym, ap, ◌∙◌, subst}
+use Rattle.std.proofs.Common.{◌≡◌, ℕ, true, false, [], Option, sym, ap, ◌∙◌, subst}
 use Rattle.std.specs.Prelude.{is_some}
 use Rattle.crossbeam_queue.specs.Passes.{view}
 use Rattle.loop_device.specs.declared.device_queue.Worker.{Worker}
@@ -15,8 +15,7 @@ returns-in-Some g c =
     let tags = c.args.device.now.tags in let ios = c.args.log.now.ios.items in let setup = c.args.setup in
     let worked = c.submit_all.result.0 in let last = view c.submit_all.result.1 in
     let begun : view c.args.pass ≡ worker true [] [] = c.requires.begins
-        ∙ ap (λ (number : Option ℕ). worker (is_some number) [] []) c.in-Some.is in
-    (
+    ∙ ap (λ (number : Option ℕ). worker (is_some number) [] []) c.in-Some.is in (
       c.submit_all.ensures.hand,
       subst (λ (number : Option ℕ). DoesPart tags setup ios number worked) (sym c.in-Some.is) record {
         first = c.args.hand;
@@ -33,8 +32,7 @@ returns-in-None g c =
     let tags = c.args.device.now.tags in let ios = c.args.log.now.ios.items in let setup = c.args.setup in
     let worked = c.complete_all.result.0 in let last = view c.complete_all.result.2 in
     let begun : view c.args.pass ≡ worker false [] [] = c.requires.begins
-        ∙ ap (λ (number : Option ℕ). worker (is_some number) [] []) c.in-None.is in
-    (
+    ∙ ap (λ (number : Option ℕ). worker (is_some number) [] []) c.in-None.is in (
       c.complete_all.ensures.hand,
       subst (λ (number : Option ℕ). DoesPart tags setup ios number worked) (sym c.in-None.is) record {
         first = c.args.hand;

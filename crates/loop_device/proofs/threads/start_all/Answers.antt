@@ -82,7 +82,7 @@ loop-hand-init g c =
     let requires = c.requires in let none = ap length requires.none in
     let given = c.into_iter-hand-iterator.ensures.into_iter_gives in let many = given.1 in
     let empty : vec_len c.args.handles.now ≡ length c.args.handles.now.items =
-        first_of (omega arith, search rules, omega (arith, c.args.handles.now.ok.0)) in record {
+    first_of (omega arith, search rules, omega (arith, c.args.handles.now.ok.0)) in record {
       steps = search rules;
       rest = subst (All (IsFreshOf c.args.device.now.tags)) (sym given.0) requires.hands;
       pass = requires.pass;
@@ -99,7 +99,7 @@ loop-hand-preserved g c =
     let whole = subst (All (IsFreshOf tags)) c.in-Some.ensures.steps.0 was.rest in
     let fewer = ap length c.in-Some.ensures.steps.0 in
     let long : vec_len c.loop-hand.handles ≡ length c.loop-hand.handles.items =
-        first_of (omega arith, search rules, omega (arith, c.loop-hand.handles.ok.0)) in
+    first_of (omega arith, search rules, omega (arith, c.loop-hand.handles.ok.0)) in
     record {
       steps = (tt, tt);
       rest = λ k d low. whole (suc k) d (omega arith);

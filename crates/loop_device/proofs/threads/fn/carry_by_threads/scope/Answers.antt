@@ -10,9 +10,9 @@ returns g c =
     let started = c.start_all-started in let one = c.join_down_to in let other = c.join_down_to-2 in
     let handles = started.new.handles.items in
     let long : vec_len started.new.handles ≡ length handles =
-        first_of (omega arith, search rules, omega (arith, started.new.handles.ok.0)) in
+    first_of (omega arith, search rules, omega (arith, started.new.handles.ok.0)) in
     let none_left : length other.new.handles.items ≤ 0 =
-        first_of (omega arith, omega (arith, other.ensures.left, other.new.handles.ok.0)) in
+    first_of (omega arith, omega (arith, other.ensures.left, other.new.handles.ok.0)) in
     let first : Faults = record { memory = not started.result; spurious = false } in (
       own_hands tags setup ios handles one.new.handles.items other.new.handles.items c.in_ok-back.back.items
           one.new.back.items other.new.back.items first one.new.faults other.new.faults started.ensures.handles
