@@ -1,27 +1,35 @@
 -- What a play reports where it fails.
-use Rattle.std.proofs.Common.{◌≡◌, ℕ, zero, suc, ◌<◌, List, [], ◌∷◌, Result, Ok, Err, IfErr, length, map, get_or, inl, inr, refl, arith}
+use Rattle.std.proofs.Common.{◌≡◌, ℕ, zero, suc, ◌<◌, false, List, [], ◌∷◌, Result, Ok, Err, IfOk, IfErr, OnOk, length, map, get_or, inl, inr, refl, sym, subst, arith}
 use Rattle.std.specs.List.{Contains}
 use Rattle.std.proofs.lemmas.List.Elements.{Contains-append_right}
 use Rattle.std.proofs.lemmas.List.{length-map}
 use Rattle.tag_model.specs.declared.totals.Totals.{Totals}
+use Rattle.tag_queue.specs.declared.gather.QueueTotals.{QueueTotals}
+use Rattle.tag_sets.specs.declared.hand.Hand.{Hand}
+use Rattle.tag_sets.specs.declared.tags.Tags.{Tags}
+use Rattle.tag_sets.specs.Gathering.{IsGathered}
 use Rattle.loop_device.specs.declared.io.Io.{Io}
 use Rattle.loop_device.specs.declared.io.Done.{Done}
 use Rattle.loop_device.specs.declared.fault.PlayFault.{PlayFault}
 use Rattle.loop_device.specs.declared.fault.PlayFault.TheVariants.{Memory, Setup, Lost, Twice, Spurious}
 use Rattle.loop_device.specs.declared.report.Report.{Report}
+use Rattle.loop_device.specs.declared.setup.Setup.{Setup as Asked}
 use Rattle.loop_device.specs.declared.workers.Faults.{Faults}
+use Rattle.loop_device.specs.History.{IsHistory}
 use Rattle.loop_device.specs.Requests.{IsLineOf}
 use Rattle.loop_device.specs.Verdict.{IsPlayFault}
 use Rattle.loop_device.specs.Playing.{IsClean, IsJudged, NamesLine}
+use Rattle.loop_device.specs.Runs.{AreTagsFor, HasRun, IsRun, SaysSeen}
+use Rattle.loop_device.specs.Working.{clean}
 
 -- a fault of the verdict is that of the play, where no thread ran into another
 pub passed_on : (ios : List Io) (done : List Done) (totals : Totals) (faults : Faults) (fault : PlayFault)
     → IsClean faults → IsPlayFault ios done fault → IsJudged ios done totals faults fault
-passed_on ios done totals faults Memory clean tells = tt
-passed_on ios done totals faults Setup clean tells = tells
-passed_on ios done totals faults (Lost line) clean tells = (clean, tells)
-passed_on ios done totals faults (Twice line) clean tells = (clean, tells)
-passed_on ios done totals faults Spurious clean tells = record { memory = clean.memory; cause = inr (inl tells) }
+passed_on ios done totals faults Memory none tells = tt
+passed_on ios done totals faults Setup none tells = tells
+passed_on ios done totals faults (Lost line) none tells = (none, tells)
+passed_on ios done totals faults (Twice line) none tells = (none, tells)
+passed_on ios done totals faults Spurious none tells = record { memory = none.memory; cause = inr (inl tells) }
 
 -- a number that is among those of the lines is the number of one
 line_among : (ios : List Io) (k line : ℕ) → k < length ios → get_or (map (λ (io : Io). io.line) ios) k line ≡ line
@@ -48,3 +56,64 @@ pub names_lines : (ios : List Io) (done : List Done) (totals : Totals) (faults :
     → IfErr r (IsJudged ios done totals faults) → IfErr r (NamesLine ios)
 names_lines ios done totals faults (Ok report) is = tt
 names_lines ios done totals faults (Err fault) is = names_line ios done totals faults fault is
+
+-- what the threads did under tags that are gathered then is a run
+pub runs : (tags : Tags ℕ) (setup : Asked) (ios : List Io) (hands : List (Hand ℕ)) (faults : Faults)
+    (gathered : QueueTotals) → AreTagsFor setup tags → (faults.memory ≡ false → HasRun tags setup ios hands faults)
+    → IsGathered tags hands gathered → faults.memory ≡ false → IsRun setup ios gathered.tags faults
+runs tags setup ios hands faults gathered asked run all none = record {
+  tags = tags;
+  asked = asked;
+  hands = hands;
+  run = run none;
+  gathered = gathered;
+  all = all;
+  totals_are = refl;
+}
+
+clean_is : (faults : Faults) → IsClean faults → faults ≡ clean
+clean_is faults is i = record { memory = is.memory i; spurious = is.spurious i }
+
+module _ (setup : Asked) (ios : List Io) (done : List Done) (totals : Totals) (faults : Faults)
+    (run : faults.memory ≡ false → IsRun setup ios totals faults) where
+  -- what the play saw is what its fault says
+  seen : IsHistory done → (fault : PlayFault) → IsJudged ios done totals faults fault → SaysSeen setup ios fault
+  seen lawful Memory is = tt
+  seen lawful Setup is = tt
+  seen lawful (Lost line) is = record {
+    done = done;
+    lawful = lawful;
+    totals = totals;
+    faults = faults;
+    ran = run is.0.memory;
+    judged = is;
+  }
+  seen lawful (Twice line) is = record {
+    done = done;
+    lawful = lawful;
+    totals = totals;
+    faults = faults;
+    ran = run is.0.memory;
+    judged = is;
+  }
+  seen lawful Spurious is = record {
+    done = done;
+    lawful = lawful;
+    totals = totals;
+    faults = faults;
+    ran = run is.memory;
+    judged = is;
+  }
+
+  pub says_seen : IsHistory done → (r : Result Report PlayFault) → IfErr r (IsJudged ios done totals faults)
+      → IfErr r (SaysSeen setup ios)
+  says_seen lawful (Ok report) is = tt
+  says_seen lawful (Err fault) is = seen lawful fault is
+
+  -- a report has the totals of a run without faults
+  pub has_run : (Reports : Report → Type 0) (r : Result Report PlayFault) → OnOk r (IsClean faults)
+      → IfOk r (λ report. Reports report × (report.totals ≡ totals))
+      → IfOk r (λ report. IsRun setup ios report.totals clean)
+  has_run Reports (Ok report) is same = subst (λ (z : Totals × Faults). IsRun setup ios z.0 z.1)
+      (λ i. (sym same.1 i, clean_is faults is i)) (run is.memory)
+  has_run Reports (Err fault) is same = tt

@@ -1,5 +1,5 @@
 -- What a history with one line more says of its sectors, and where they stand in the row.
-use Rattle.std.proofs.Common.{◌≡◌, ℕ, ◌+◌, ◌-◌, ◌*◌, ◌/◌, ◌^◌, ◌<◌, ◌≤◌, ◌⊎◌, inl, inr, ⊎_elim, Bool, true, false, ◌&&◌, ◌==◌, cond, nat_lt, nat_le, List, [], ◌∷◌, ◌++◌, length, drop, get_or, refl, sym, ap, ◌∙◌, subst, arith, rules, length-append}
+use Rattle.std.proofs.Common.{◌≡◌, ℕ, ◌+◌, ◌-◌, ◌*◌, ◌/◌, ◌^◌, ◌<◌, ◌≤◌, ◌⊎◌, inl, inr, ⊎_elim, Bool, true, false, ◌&&◌, ◌==◌, cond, nat_lt, nat_le, List, [], ◌∷◌, ◌++◌, length, refl, sym, ap, ◌∙◌, subst, arith, rules}
 use Rattle.std.proofs.lemmas.Bool.{and_parts, false_from_ne_true}
 use Rattle.loop_device.specs.declared.io.Io.{Io}
 use Rattle.loop_device.specs.declared.io.Done.{Done}
@@ -10,21 +10,7 @@ use Rattle.loop_device.specs.Halving.{stamp_at, IsGreatestWithin, IsStampedWithi
 use Rattle.loop_device.specs.History.{first_sector, last_sector, covers, leaves_stamp, stamps_sector, stamp_after, stamp_of, done_of, Answers, AnswersAs, IsGreatest, IsHistory}
 use Rattle.loop_device.specs.Keys.{key, first_key, end_key, AreStampsOf, FitsTypes}
 use Rattle.loop_device.proofs.Halves.{sides, cond_low, cond_high}
-
--- where a list that ends in d is parted at e, that is d, or e stands before it
-parted : (h : List Done) (d : Done) (before : List Done) (e : Done) (after : List Done)
-    → h ++ d ∷ [] ≡ before ++ e ∷ after
-    → ((h ≡ before) × (d ≡ e)) ⊎ ((rest : List Done) × (h ≡ before ++ e ∷ rest))
-parted [] d [] e after p = inl (refl, ap (λ l. get_or l 0 d) p)
-parted [] d (b ∷ bs) e after p = let q = ap length p in absurd (omega (arith, length-append bs (e ∷ after), q))
-parted (x ∷ xs) d [] e after p = inr (xs, ap (λ z. z ∷ xs) (ap (λ l. get_or l 0 x) p))
-parted (x ∷ xs) d (b ∷ bs) e after p = ⊎_elim (λ (t : (xs ≡ bs) × (d ≡ e)). inl (
-  (λ i. (ap (λ l. get_or l 0 x) p) i ∷
-      t.0 i),
-  t.1,
-))
-    (λ (t : (rest : List Done) × (xs ≡ bs ++ e ∷ rest)). inr (t.0, λ i. (ap (λ l. get_or l 0 x) p) i ∷ t.1 i))
-    (parted xs d bs e after (ap (drop 1) p))
+use Rattle.loop_device.proofs.Parting.{parted}
 
 -- a line that answers what it answers after a history makes a history with it
 pub extends : (h : List Done) (d : Done) → IsHistory h → Answers h d.io d.stamp → IsHistory (h ++ d ∷ [])

@@ -8,6 +8,9 @@ pub mod LogFacts
 pub mod QueueMoves
 pub mod Completing
 pub mod Served
-pub mod Promising
+pub mod Parting
+pub mod Turns
+pub mod Joining
+pub mod Submitted
 pub mod Crossing
 pub mod Blaming

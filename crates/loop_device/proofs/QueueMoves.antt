@@ -5,10 +5,10 @@ use Rattle.std.proofs.lemmas.List.Elements.{Contains-append_right, Contains-appe
 use Rattle.std.proofs.lemmas.List.Sums.{sum_by-cons, sum_by-set, sum_by_push}
 use mathlib.Core.Option.{some, some-injective, some-ne-none}
 use lib.ListN.{get_elem?}
-use Rattle.crossbeam_queue.specs.Fifo.{Pushes, Pops, Forks}
+use Rattle.crossbeam_queue.specs.Fifo.{Pushes, Pops, Forks, Learns}
 use Rattle.crossbeam_queue.proofs.Lists.{set_again}
 use Rattle.loop_device.specs.declared.device_queue.Worker.{Worker}
-use Rattle.loop_device.specs.DeviceQueue.{worker, after_push, after_pop, times_in, times_pushed, times_popped, AreHandedOn}
+use Rattle.loop_device.specs.DeviceQueue.{worker, after_push, after_pop, times_in, times_pushed, times_popped, AreHandedOn, IsSeenBy}
 
 there : (workers : List Worker) (i : ℕ) (v : Worker) → get_elem? workers i ≡ some v
     → (i < length workers) × (get_or workers i v ≡ v)
@@ -89,6 +89,11 @@ pushes total n pass v x role low items workers room h at = (
   },
   refl,
 )
+
+-- a thread is among the workers of the rule
+pub seen : (total pass : ℕ) (v : Worker) → Learns (AreHandedOn total) pass v (IsSeenBy total v)
+seen total pass v items workers h at =
+    let here = there workers pass v at in record { workers = workers; lawful = h; among = (pass, here.0, here.1) }
 
 -- whoever pops has the number that it took, which is below the total
 pub pops : (total pass : ℕ) (v : Worker)

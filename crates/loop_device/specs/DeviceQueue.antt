@@ -1,6 +1,7 @@
 -- The rule of the device queue, through which submitters pass tags to completers.
 use Rattle.std.specs.Prelude.{◌≡◌, ℕ, ◌+◌, ◌<◌, ◌==◌, Bool, true, cond, List, ◌∷◌}
 use Rattle.std.specs.List.{Contains, count_by, sum_by}
+use Rattle.crossbeam_queue.specs.Fifo.{Held}
 use Rattle.loop_device.specs.declared.device_queue.Worker.{Worker}
 use Rattle.loop_device.specs.declared.device_queue.Closing.{Closing}
 use Rattle.loop_device.specs.declared.device_queue.Popped.{Popped}
@@ -34,6 +35,16 @@ times_popped workers number = sum_by (λ v. times_in v.popped number) workers
 pub record AreHandedOn (total : ℕ) (numbers : List ℕ) (workers : List Worker) : Type 0 where
   pub below : (number : ℕ) → Contains numbers number → number < total
   pub balanced : (number : ℕ) → times_pushed workers number ≡ times_popped workers number + times_in numbers number
+
+-- this was in the queue, handed on by workers of which the thread was one
+pub record IsSeenBy (total : ℕ) (v : Worker) (numbers : List ℕ) : Type 0 where
+  pub workers : List Worker
+  pub lawful : AreHandedOn total numbers workers
+  pub among : Contains workers v
+
+-- at one moment the queue held as many numbers as it has room for
+abbrev pub WasFull : ℕ → ℕ → Worker → Type 0
+WasFull total room v = Held room (IsSeenBy total v)
 
 -- what a pop tells: the number that it took, or that it found none, and then whether the flag was read set before it
 abbrev pub Tells : Closing → ℕ → Worker → Worker → Popped → Type 0

@@ -8,7 +8,11 @@ pub mod LogLines
 pub mod LogProgress
 pub mod Logs
 pub mod Playing
+pub mod Promises
 pub mod Requests
 pub mod Completing
+pub mod Runs
 pub mod Setups
+pub mod Submitting
 pub mod Verdict
+pub mod Working

@@ -1,16 +1,12 @@
--- What a successful play reports, and what its threads promise.
-use Rattle.std.specs.Prelude.{◌≡◌, ◌≢◌, ◌⊎◌, ℕ, true, false, List, length}
-use Rattle.std.specs.declared.thread.PromisedHandle.{PromisedHandle}
+-- What a play reports, and how it is judged.
+use Rattle.std.specs.Prelude.{◌≡◌, ◌≢◌, ◌⊎◌, true, false, List, length}
 use Rattle.tag_model.specs.declared.totals.Totals.{Totals}
-use Rattle.tag_sets.specs.declared.tags.Tags.{Tags}
 use Rattle.loop_device.specs.declared.fault.PlayFault.{PlayFault}
 use Rattle.loop_device.specs.declared.fault.PlayFault.TheVariants.{Memory, Setup, Lost, Twice, Spurious}
 use Rattle.loop_device.specs.declared.io.Done.{Done}
 use Rattle.loop_device.specs.declared.io.Io.{Io}
 use Rattle.loop_device.specs.declared.report.Report.{Report}
-use Rattle.loop_device.specs.declared.threads.HandsBack.{HandsBack}
 use Rattle.loop_device.specs.declared.workers.Faults.{Faults}
-use Rattle.loop_device.specs.declared.workers.Worked.{Worked}
 use Rattle.loop_device.specs.History.{IsHistory}
 use Rattle.loop_device.specs.Requests.{IsLineOf}
 use Rattle.loop_device.specs.Verdict.{AreOfLog, CarriesEachOnce, IsTwice, IsLost}
@@ -50,7 +46,3 @@ NamesLine ios Setup = Unit {0}
 NamesLine ios (Lost line) = IsLineOf ios line
 NamesLine ios (Twice line) = IsLineOf ios line
 NamesLine ios Spurious = Unit {0}
-
--- the thread of this handle returns a hand of these tags
-abbrev pub Promises : Tags ℕ → PromisedHandle Worked HandsBack → Type 0
-Promises tags handle = handle.promise.0.now ≡ tags

@@ -1,7 +1,7 @@
 //! The device queue, through which submitters pass tags to completers.
 ghost use Rattle.std.specs.Prelude.{◌≡◌, ◌<◌, true, ℕ, OnOk, OnErr, IfErr, List};
-ghost use Rattle.crossbeam_queue.specs.Passes.{view, IsPassOf};
-ghost use Rattle.loop_device.specs.DeviceQueue.{after_push, Tells};
+ghost use Rattle.crossbeam_queue.specs.Passes.{view, IsPassOf, ruled_capacity};
+ghost use Rattle.loop_device.specs.DeviceQueue.{after_push, Tells, WasFull};
 
 use crossbeam_queue::protocol::{Lesson, Outcome, Protocol, Split};
 use crossbeam_queue::{Pass, RuledArrayQueue};
@@ -69,17 +69,21 @@ impl Split<Worker> for Completer {
 }
 
 /// A number was pushed.
-struct Pushes;
+struct Pushes<B> {
+    of: PhantomData<B>,
+}
 
-impl Outcome<u32, Worker> for Pushes {
+impl<B: Tagged> Outcome<u32, Worker> for Pushes<B> {
     ghost use Rattle.std.specs.Prelude.{◌≡◌};
     ghost use Rattle.loop_device.specs.DeviceQueue.{after_push};
 
     ghost then = { λ v number w. w ≡ after_push v number };
 }
 
-impl Lesson<u32, Worker> for Pushes {
-    ghost fact = { λ v numbers. Unit {0} };
+impl<B: Tagged> Lesson<u32, Worker> for Pushes<B> {
+    ghost use Rattle.loop_device.specs.DeviceQueue.{IsSeenBy};
+
+    ghost fact = { IsSeenBy B.total };
 }
 
 /// A number below the total was popped.
@@ -147,10 +151,11 @@ pub(crate) fn push<B: Tagged, W: Wait>(
     ensures pass { IsPassOf queue.now pass.new }
     ensures submitter { (view pass.new).submits ≡ true }
     ensures pushed { OnOk result (view pass.new ≡ after_push (view pass.old) tag) }
-    ensures full { IfErr result (λ back. back ≡ tag) }
+    ensures back { IfErr result (λ back. back ≡ tag) }
+    ensures full { OnErr result (WasFull B.total (ruled_capacity queue.now) (view pass.old)) }
     ensures err { OnErr result (view pass.new ≡ view pass.old) }
 {
-    queue.push_as::<Pushes, W>(rt, pass, tag)
+    queue.push_as::<Pushes<B>, W>(rt, pass, tag)
 }
 
 /// Pops the oldest tag of the queue, if there is one, after the flag was read.

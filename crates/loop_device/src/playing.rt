@@ -1,9 +1,11 @@
 //! Plays a log: threads that share tags carry it out.
 ghost use Rattle.std.specs.Prelude.{◌≡◌, ◌≢◌, ◌+◌, ◌<◌, ◌↔◌, All, length, IfOk, IfErr, OnOk};
-ghost use Rattle.tag_sets.specs.Hands.{IsHandOf, total_of};
+ghost use Rattle.tag_sets.specs.Hands.{total_of};
 ghost use Rattle.loop_device.specs.History.{IsHistory};
 ghost use Rattle.loop_device.specs.Playing.{IsPlayed, IsClean, IsJudged, NamesLine};
+ghost use Rattle.loop_device.specs.Runs.{AreTagsFor, IsFreshOf, IsRun, SaysSeen};
 ghost use Rattle.loop_device.specs.Setups.{IsLegal};
+ghost use Rattle.loop_device.specs.Working.{clean};
 
 use crate::device::Device;
 use crate::device_queue::{DeviceQueue, Tagged};
@@ -36,6 +38,8 @@ pub fn play<G: Gate, R: Threads + Wait + Sync>(
     gate: &G,
 ) -> Result<Report, PlayFault>
     ensures ok { IfOk result (IsPlayed log.now.ios.items) }
+    ensures ran { IfOk result (λ report. IsRun setup log.now.ios.items report.totals clean) }
+    ensures saw { IfErr result (SaysSeen setup log.now.ios.items) }
     ensures setup { (result ≡ Err PlayFault.Setup) ↔ ¬ (IsLegal setup) }
     ensures line { IfErr result (NamesLine log.now.ios.items) }
 {
@@ -64,10 +68,13 @@ fn play_under<B: Tagged + Send + Sync, G: Gate, R: Threads + Wait + Sync>(
     hands: Vec<Hand<u64>>,
 ) -> Result<Report, PlayFault>
     requires total { total_of tags ≡ B.total }
-    requires hands { All (IsHandOf tags) hands.items }
+    requires tags { AreTagsFor setup tags }
+    requires hands { All (IsFreshOf tags) hands.items }
     requires count { length hands.items ≡ setup.submitters + setup.completers }
     requires setup { IsLegal setup }
     ensures ok { IfOk result (IsPlayed log.now.ios.items) }
+    ensures ran { IfOk result (λ report. IsRun setup log.now.ios.items report.totals clean) }
+    ensures saw { IfErr result (SaysSeen setup log.now.ios.items) }
     ensures fault { IfErr result (λ fault. fault ≢ PlayFault.Setup) }
     ensures line { IfErr result (NamesLine log.now.ios.items) }
 {
@@ -81,8 +88,7 @@ fn play_under<B: Tagged + Send + Sync, G: Gate, R: Threads + Wait + Sync>(
         stopped: AtomicBool::new(false),
         closed: AtomicBool::new(false),
     };
-    let completers = setup.completers as usize;
-    let carried = carry_by_threads(rt, alloc, log, gate, &device, hands, pass, completers);
+    let carried = carry_by_threads(rt, alloc, log, gate, &device, hands, pass, setup);
     let Device {
         tags,
         queue: _,

@@ -1,13 +1,16 @@
 //! The threads of a play: one for each hand, started and joined in one scope.
-ghost use Rattle.std.specs.Prelude.{◌≡◌, ◌+◌, ◌<◌, ◌≤◌, All, true, IsTrue, vec_len, vec_capacity, IfOk, IfSome, []};
-ghost use Rattle.crossbeam_queue.specs.Passes.{view, IsPassOf};
+ghost use Rattle.std.specs.Prelude.{◌≡◌, ◌+◌, ◌<◌, ◌≤◌, All, false, IsTrue, is_some, vec_len, vec_capacity, IfOk, []};
+ghost use Rattle.crossbeam_queue.specs.Passes.{view, IsPassOf, ruled_capacity};
 ghost use Rattle.tag_sets.specs.Hands.{IsHandOf, total_of};
-ghost use Rattle.loop_device.specs.Playing.{Promises};
+ghost use Rattle.loop_device.specs.DeviceQueue.{worker};
+ghost use Rattle.loop_device.specs.Runs.{IsFreshOf, Returns, HasRun};
+ghost use Rattle.loop_device.specs.Promises.{AreJoined, HavePromised};
 
 use crate::device::Device;
 use crate::device_queue::{Completer, DeviceQueue, Submitter, Tagged, Worker};
 use crate::gate::Gate;
 use crate::io::Log;
+use crate::setup::Setup;
 use crate::workers::{Faults, Worked, complete_all, submit_all};
 use crossbeam_queue::Pass;
 use std::alloc::{AllocError, Global};
@@ -17,20 +20,27 @@ use std::thread;
 use std::thread::{Promise, PromisedHandle, Scope, Threads};
 use tag_sets::{Hand, Tags};
 
-/// A thread's promise to return a hand of these tags.
+/// A thread's promise to do its part of a play, and to return a hand of the play's tags.
 #[derive(Clone, Copy)]
-pub(crate) struct HandsBack<'a>(&'a Tags<u64>);
-
-impl<'a> Promise<Worked> for HandsBack<'a> {
-    ghost use Rattle.tag_sets.specs.Hands.{IsHandOf};
-
-    ghost kept_by = { λ p worked. IsHandOf p.0.now worked.hand };
+pub(crate) struct Part<'a> {
+    tags: &'a Tags<u64>,
+    log: &'a Log,
+    setup: Setup,
+    /// The thread's number among the submitters. A completer has none.
+    number: Option<usize>,
 }
 
-type Handle<'s> = PromisedHandle<Worked, HandsBack<'s>>;
+impl<'a> Promise<Worked> for Part<'a> {
+    ghost use Rattle.loop_device.specs.Runs.{Returns};
 
-/// Carries out the log: the first `completers` of the hands complete and the others submit, each in a thread of its own.
-/// All have ended when it returns. Returns the hands that came back: all but those of threads that could not be started.
+    ghost kept_by = { λ p worked. Returns p.tags.now p.setup p.log.now.ios.items p.number worked };
+}
+
+type Handle<'s> = PromisedHandle<Worked, Part<'s>>;
+
+/// Carries out the log with the threads that the setup asks for, one for each hand: the first of them complete and the
+/// others submit. All have ended when it returns. Returns the hands that came back: all but those of threads that could
+/// not be started, which is a want of memory.
 pub(crate) fn carry_by_threads<B: Tagged + Send + Sync, G: Gate, R: Threads + Wait + Sync>(
     rt: &R,
     alloc: Global,
@@ -39,27 +49,33 @@ pub(crate) fn carry_by_threads<B: Tagged + Send + Sync, G: Gate, R: Threads + Wa
     device: &Device<B>,
     hands: Vec<Hand<u64>>,
     pass: Pass<u32, Worker>,
-    completers: usize,
+    setup: Setup,
 ) -> Result<(Vec<Hand<u64>>, Faults), AllocError>
-    requires hands { All (IsHandOf device.now.tags) hands.items }
+    requires hands { All (IsFreshOf device.now.tags) hands.items }
+    requires count { vec_len hands ≡ setup.completers + setup.submitters }
     requires pass { IsPassOf device.now.queue pass }
     requires total { total_of device.now.tags ≡ B.total }
-    requires completers { completers < vec_len hands }
-    ensures { IfOk result (λ back. All (IsHandOf device.now.tags) back.0.items) }
+    requires room { ruled_capacity device.now.queue ≡ setup.queue }
+    requires submitters { 0 < setup.submitters }
+    ensures hands { IfOk result (λ back. All (IsHandOf device.now.tags) back.0.items) }
+    ensures run { IfOk result (λ back. back.1.memory ≡ false
+        → HasRun device.now.tags setup log.now.ios.items back.0.items back.1) }
 {
     thread::scope(
         thread::scope_env(),
         rt,
         |scope| -> Result<(Vec<Hand<u64>>, Faults), AllocError>
-            requires { All (IsHandOf device.now.tags) hands.items × IsPassOf device.now.queue pass
-                × (total_of device.now.tags ≡ B.total) × (completers < vec_len hands) }
-            ensures { IfOk result (λ back. All (IsHandOf device.entry.now.tags) back.0.items) }
+            requires { All (IsFreshOf device.now.tags) hands.items
+                × (vec_len hands ≡ setup.completers + setup.submitters) × IsPassOf device.now.queue pass
+                × (total_of device.now.tags ≡ B.total) × (ruled_capacity device.now.queue ≡ setup.queue)
+                × (0 < setup.submitters) }
+            ensures { IfOk result (λ back. All (IsHandOf device.entry.now.tags) back.0.items
+                × (back.1.memory ≡ false
+                → HasRun device.entry.now.tags setup log.entry.now.ios.items back.0.items back.1)) }
         {
-            let count = hands.len();
-            let mut handles = Vec::with_capacity(alloc, count)?;
-            let mut back = Vec::with_capacity(alloc, count)?;
-            let mut faults = Faults::none();
-            if !start_all(
+            let mut handles = Vec::with_capacity(alloc, hands.len())?;
+            let mut back = Vec::with_capacity(alloc, hands.len())?;
+            let started = start_all(
                 scope,
                 rt,
                 log,
@@ -67,22 +83,20 @@ pub(crate) fn carry_by_threads<B: Tagged + Send + Sync, G: Gate, R: Threads + Wa
                 device,
                 hands,
                 pass,
-                completers,
+                setup,
                 &mut handles,
-            ) {
-                faults.memory = true;
+            );
+            if !started {
                 device.stopped.store(true, SeqCst);
             }
-            join_down_to(
-                rt,
-                &device.tags,
-                completers,
-                &mut handles,
-                &mut back,
-                &mut faults,
-            );
+            let mut faults = Faults {
+                memory: !started,
+                spurious: false,
+            };
+            let completers = setup.completers as usize;
+            join_down_to(rt, completers, &mut handles, &mut back, &mut faults);
             device.closed.store(true, SeqCst);
-            join_down_to(rt, &device.tags, 0, &mut handles, &mut back, &mut faults);
+            join_down_to(rt, 0, &mut handles, &mut back, &mut faults);
             Ok((back, faults))
         },
     )
@@ -97,38 +111,37 @@ fn start_all<'s, E, B: Tagged + Send + Sync, G: Gate, R: Wait + Sync>(
     device: &'s Device<B>,
     hands: Vec<Hand<u64>>,
     mut pass: Pass<u32, Worker>,
-    completers: usize,
+    setup: Setup,
     handles: &mut Vec<Handle<'s>>,
 ) -> bool
-    requires hands { All (IsHandOf device.now.tags) hands.items }
+    requires hands { All (IsFreshOf device.now.tags) hands.items }
     requires pass { IsPassOf device.now.queue pass }
     requires total { total_of device.now.tags ≡ B.total }
-    requires completers { completers < vec_len hands }
+    requires capacity { ruled_capacity device.now.queue ≡ setup.queue }
+    requires submitters { 0 < setup.submitters }
     requires none { handles.old.items ≡ [] }
     requires room { vec_len hands ≤ vec_capacity handles.old }
-    ensures handles { All (Promises device.now.tags) handles.new.items }
+    ensures handles { HavePromised device.now.tags setup log.now.ios.items handles.new.items }
     ensures len { vec_len handles.new ≤ vec_len hands }
+    ensures all { IsTrue result → vec_len handles.new ≡ vec_len hands }
 {
-    let submitters = hands.len() - completers;
     for hand in hands {
-        // Its number among the submitters. A completer has none.
-        let number = handles.len().checked_sub(completers);
+        let number = handles.len().checked_sub(setup.completers as usize);
         let mine = pass_for(&device.queue, &mut pass, number.is_some());
+        let part = Part {
+            tags: &device.tags,
+            log,
+            setup,
+            number,
+        };
         let started = scope.spawn_with(
-            HandsBack(&device.tags),
+            part,
             move || -> Worked
-                requires { IsHandOf device.now.tags hand × IsPassOf device.now.queue mine
-                    × (total_of device.now.tags ≡ B.total) × (0 < submitters)
-                    × IfSome number (λ _. (view mine).submits ≡ true) }
-                ensures { IsHandOf device.entry.now.tags result.hand }
-            {
-                match number {
-                    Some(number) => submit_all(
-                        rt, log, gate, device, hand, mine, number, submitters,
-                    ),
-                    None => complete_all(rt, log, gate, device, hand, mine).0,
-                }
-            },
+                requires { IsFreshOf device.now.tags hand × IsPassOf device.now.queue mine
+                    × (total_of device.now.tags ≡ B.total) × (ruled_capacity device.now.queue ≡ setup.queue)
+                    × (0 < setup.submitters) × (view mine ≡ worker (is_some number) [] []) }
+                ensures { Returns device.entry.now.tags setup log.entry.now.ios.items number result }
+            { do_part(rt, log, gate, device, hand, mine, number, setup) },
         );
         let Ok(handle) = started else {
             return false;
@@ -136,6 +149,34 @@ fn start_all<'s, E, B: Tagged + Send + Sync, G: Gate, R: Wait + Sync>(
         handles.push_reserved(handle);
     }
     true
+}
+
+/// Does the part of one thread, which completes, or submits its share if it has a number among the submitters.
+fn do_part<B: Tagged, G: Gate, W: Wait>(
+    rt: &W,
+    log: &Log,
+    gate: &G,
+    device: &Device<B>,
+    hand: Hand<u64>,
+    pass: Pass<u32, Worker>,
+    number: Option<usize>,
+    setup: Setup,
+) -> Worked
+    requires hand { IsFreshOf device.now.tags hand }
+    requires pass { IsPassOf device.now.queue pass }
+    requires begins { view pass ≡ worker (is_some number) [] [] }
+    requires total { total_of device.now.tags ≡ B.total }
+    requires room { ruled_capacity device.now.queue ≡ setup.queue }
+    requires submitters { 0 < setup.submitters }
+    ensures { Returns device.now.tags setup log.now.ios.items number result }
+{
+    match number {
+        Some(number) => {
+            let submitters = setup.submitters as usize;
+            submit_all(rt, log, gate, device, hand, pass, number, submitters).0
+        }
+        None => complete_all(rt, log, gate, device, hand, pass).0,
+    }
 }
 
 /// A pass of its own for one more thread, which may push if it is to submit.
@@ -147,7 +188,7 @@ fn pass_for<B: Tagged>(
     requires { IsPassOf queue.now pass.old }
     ensures pass { IsPassOf queue.now pass.new }
     ensures result { IsPassOf queue.now result }
-    ensures submits { IsTrue submits → (view result).submits ≡ true }
+    ensures begins { view result ≡ worker submits [] [] }
 {
     if submits {
         queue.another::<Submitter>(pass)
@@ -156,21 +197,18 @@ fn pass_for<B: Tagged>(
     }
 }
 
-/// Joins the threads that were started last, up to those that are to be left, and collects the hands that they return.
+/// Joins the threads that were started last, up to those that are to be left, and collects the hands and the faults
+/// that they return.
 fn join_down_to<'s, R: Threads>(
     rt: &R,
-    tags: &Tags<u64>,
     left: usize,
     handles: &mut Vec<Handle<'s>>,
     back: &mut Vec<Hand<u64>>,
     faults: &mut Faults,
 )
-    requires handles { All (Promises tags.now) handles.old.items }
-    requires back { All (IsHandOf tags.now) back.old.items }
-    requires room { vec_len back.old + vec_len handles.old ≤ vec_capacity back.old }
-    ensures handles { All (Promises tags.now) handles.new.items }
+    requires { vec_len back.old + vec_len handles.old ≤ vec_capacity back.old }
+    ensures joined { AreJoined handles.old.items handles.new.items back.old.items back.new.items faults.old faults.new }
     ensures left { vec_len handles.new ≤ left }
-    ensures back { All (IsHandOf tags.now) back.new.items }
     ensures room { vec_len back.new + vec_len handles.new ≤ vec_capacity back.new }
 {
     while handles.len() > left {

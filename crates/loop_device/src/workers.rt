@@ -1,9 +1,10 @@
 //! What the threads of a play do.
-ghost use Rattle.std.specs.Prelude.{◌≡◌, ◌<◌, ◌↔◌, ◌⊎◌, true, IsTrue, IfOk};
-ghost use Rattle.crossbeam_queue.specs.Passes.{view, IsPassOf};
+ghost use Rattle.std.specs.Prelude.{◌≡◌, ◌<◌, true, IfOk, OnErr};
+ghost use Rattle.crossbeam_queue.specs.Passes.{view, IsPassOf, ruled_capacity};
 ghost use Rattle.tag_sets.specs.Hands.{IsHandOf, total_of};
-ghost use Rattle.loop_device.specs.Playing.{IsClean};
-ghost use Rattle.loop_device.specs.Completing.{CompletesPopped};
+ghost use Rattle.loop_device.specs.Completing.{ServesPopped};
+ghost use Rattle.loop_device.specs.Submitting.{CanBlock, PostsLine, SubmitsAs, SubmitsShare};
+ghost use Rattle.loop_device.specs.Working.{clean, added, noted, begins, ends};
 
 use crate::device::Device;
 use crate::device_queue::{Closing, Drained, Popped, Tagged, Worker, pop, push};
@@ -29,7 +30,7 @@ pub(crate) struct Faults {
 impl Faults {
     /// No faults so far.
     pub(crate) fn none() -> Faults
-        ensures { IsClean result }
+        ensures { result ≡ clean }
     {
         Faults {
             memory: false,
@@ -39,8 +40,7 @@ impl Faults {
 
     /// Adds the faults of another thread.
     pub(crate) fn add(&mut self, other: Faults)
-        ensures memory { IsTrue self.new.memory ↔ IsTrue self.old.memory ⊎ IsTrue other.memory }
-        ensures spurious { IsTrue self.new.spurious ↔ IsTrue self.old.spurious ⊎ IsTrue other.spurious }
+        ensures { self.new ≡ added self.old other }
     {
         self.memory |= other.memory;
         self.spurious |= other.spurious;
@@ -48,8 +48,7 @@ impl Faults {
 
     /// Notes what became of one line. A line that was not submitted is missing from the history.
     fn note(&mut self, done: Result<u64, PlayFault>)
-        ensures memory { IsTrue self.new.memory ↔ IsTrue self.old.memory ⊎ (done ≡ Err PlayFault.Memory) }
-        ensures spurious { IsTrue self.new.spurious ↔ IsTrue self.old.spurious ⊎ (done ≡ Err PlayFault.Spurious) }
+        ensures { self.new ≡ noted self.old done }
     {
         match done {
             Err(PlayFault::Memory) => self.memory = true,
@@ -78,8 +77,8 @@ pub(crate) fn complete_all<B: Tagged, G: Gate, W: Wait>(
     requires hand { IsHandOf device.now.tags hand }
     requires pass { IsPassOf device.now.queue pass }
     ensures hand { IsHandOf device.now.tags result.0.hand }
-    ensures completed { CompletesPopped device.now.tags log.now.ios.items result.0.faults
-        (view pass) (view result.2) hand result.0.hand }
+    ensures served { ServesPopped device.now.tags log.now.ios.items
+        (begins hand (view pass)) (ends result.0 (view result.2)) }
     ensures drained { result.1.closing.seen ≡ true }
 {
     let mut faults = Faults::none();
@@ -98,8 +97,9 @@ pub(crate) fn complete_all<B: Tagged, G: Gate, W: Wait>(
     unreachable!()
 }
 
-/// Submits this thread's share of the I/O lines in order, until nothing more is to be submitted: number `number` of
-/// `submitters` threads, counted from 0, has every `submitters`-th line, starting with the line at index `number`.
+/// Submits this thread's share of the I/O lines in order: number `number` of `submitters` threads, counted from 0, has
+/// every `submitters`-th line, starting with the line at index `number`. If a thread could not be started, it leaves out
+/// the rest and notes a want of memory.
 pub(crate) fn submit_all<B: Tagged, G: Gate, W: Wait>(
     rt: &W,
     log: &Log,
@@ -109,13 +109,15 @@ pub(crate) fn submit_all<B: Tagged, G: Gate, W: Wait>(
     mut pass: Pass<u32, Worker>,
     number: usize,
     submitters: usize,
-) -> Worked
+) -> (Worked, Pass<u32, Worker>)
     requires hand { IsHandOf device.now.tags hand }
     requires pass { IsPassOf device.now.queue pass }
     requires submitter { (view pass).submits ≡ true }
     requires total { total_of device.now.tags ≡ B.total }
     requires submitters { 0 < submitters }
-    ensures { IsHandOf device.now.tags result.hand }
+    ensures hand { IsHandOf device.now.tags result.0.hand }
+    ensures submitted { SubmitsShare device.now.tags (ruled_capacity device.now.queue) log.now.ios.items number submitters
+        (begins hand (view pass)) (ends result.0 (view result.1)) }
 {
     let mut faults = Faults::none();
     for (index, io) in log.ios.iter().enumerate() {
@@ -123,12 +125,13 @@ pub(crate) fn submit_all<B: Tagged, G: Gate, W: Wait>(
             continue;
         }
         if device.stopped.load(SeqCst) {
-            break;
+            faults.memory = true;
+            return (Worked { hand, faults }, pass);
         }
         let done = submit(rt, log, gate, device, &mut hand, &mut pass, io.line);
         faults.note(done);
     }
-    Worked { hand, faults }
+    (Worked { hand, faults }, pass)
 }
 
 /// Passes one line on to the completers, or completes it if the queue is full.
@@ -148,6 +151,8 @@ fn submit<B: Tagged, G: Gate, W: Wait>(
     ensures hand { IsHandOf device.now.tags hand.new }
     ensures pass { IsPassOf device.now.queue pass.new }
     ensures submitter { (view pass.new).submits ≡ true }
+    ensures submits { SubmitsAs device.now.tags (ruled_capacity device.now.queue) log.now.ios.items line result
+        (view pass.old) (view pass.new) hand.old hand.new }
 {
     let Ok(tag) = post_line(rt, &device.tags, hand, line) else {
         return Err(PlayFault::Lost(line));
@@ -174,6 +179,9 @@ fn post_line<W: Wait>(
     requires hand { IsHandOf tags.now hand.old }
     ensures hand { IsHandOf tags.now hand.new }
     ensures tag { IfOk result (λ tag. tag < total_of tags.now) }
+    ensures posts { IfOk result (λ tag. PostsLine tags.now line tag hand.old hand.new) }
+    ensures refused { OnErr result (¬ CanBlock tags.now hand.old) }
+    ensures err { OnErr result (hand.new ≡ hand.old) }
 {
     let tag = tags.get_blocking(rt, hand)?;
     let Ok(_) = tags.write(hand, tag, line) else {

@@ -1,17 +1,17 @@
--- The hands that are left are the tags' own, the threads that run promise theirs, and there is room for as many more.
-use Rattle.std.proofs.Common.{All, ◌+◌, ◌≤◌, vec_len, vec_capacity}
+-- The hands that are left are fresh, the threads that run have promised their parts, and there is room for as many more.
+use Rattle.std.proofs.Common.{All, ◌≡◌, ◌+◌, ◌≤◌, vec_len, vec_capacity}
 use Rattle.std.specs.Vec.Iter.{into_iter_items, into_iter_len}
 use Rattle.crossbeam_queue.specs.Passes.{IsPassOf}
-use Rattle.tag_sets.specs.Hands.{IsHandOf}
-use Rattle.loop_device.specs.Playing.{Promises}
+use Rattle.loop_device.specs.Promises.{HavePromised}
+use Rattle.loop_device.specs.Runs.{IsFreshOf}
 use Rattle.loop_device.proofs.threads.start_all.Given as goal
 
 abbrev pub invariant-loop-hand : goal.invariant-loop-hand
 invariant-loop-hand g l = record {
   steps : (goal.iterator-loop-hand g).can_next l.hand-iterator × (goal.iterator-loop-hand g).is_finite l.hand-iterator;
-  rest : All (IsHandOf l.device.tags) (into_iter_items l.hand-iterator);
+  rest : All (IsFreshOf l.device.tags) (into_iter_items l.hand-iterator);
   pass : IsPassOf l.device.queue l.pass;
-  handles : All (Promises l.device.tags) l.handles.items;
+  handles : HavePromised l.device.tags l.setup l.log.ios.items l.handles.items;
   room : vec_len l.handles + into_iter_len l.hand-iterator ≤ vec_capacity l.handles;
-  len : vec_len l.handles + into_iter_len l.hand-iterator ≤ vec_len l.fn.hands;
+  len : vec_len l.handles + into_iter_len l.hand-iterator ≡ vec_len l.fn.hands;
 }

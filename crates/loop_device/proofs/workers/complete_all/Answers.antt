@@ -1,36 +1,37 @@
 -- Each turn pops one more number and serves it, or finds none.
-use Rattle.std.proofs.Common.{rules}
+use Rattle.std.proofs.Common.{rules, sym, subst}
 use Rattle.crossbeam_queue.specs.Passes.{view}
-use Rattle.loop_device.proofs.Served.{Notes, serves_by, none_popped, still, serves_more}
+use Rattle.loop_device.specs.declared.workers.Faults.{Faults}
+use Rattle.loop_device.specs.Completing.{ServesPopped}
+use Rattle.loop_device.specs.Working.{begins}
+use Rattle.loop_device.proofs.Served.{ended, none_popped, still, serves_more}
 use Rattle.loop_device.proofs.workers.complete_all.Goals as goal
 
 pub loop-init : goal.loop-init
 loop-init g c =
-    let tags = c.args.device.now.tags in let ios = c.args.log.now.ios.items in record {
+    let tags = c.args.device.now.tags in let ios = c.args.log.now.ios.items in
+    let first = begins c.args.hand (view c.args.pass) in record {
       turns = search rules;
       hand = c.requires.hand;
       pass = c.requires.pass;
-      served = none_popped tags ios (view c.args.pass) c.args.hand c.none-faults.result;
+      served = subst (λ (faults : Faults). ServesPopped tags ios first (record first { faults = faults }))
+          (sym c.none-faults.ensures) (none_popped tags ios first);
     }
 
 pub loop-preserved-in-Tag : goal.loop-preserved-in-Tag
 loop-preserved-in-Tag g c =
     let tags = c.args.device.now.tags in let ios = c.args.log.now.ios.items in
-    let hand = c.loop.hand in let last = c.complete-done.new.hand in
-    let notes : Notes c.complete-done.result c.loop.faults c.note.new.self =
-    record { memory = c.note.ensures.memory; spurious = c.note.ensures.spurious } in record {
+    let hand = c.loop.hand in let last = c.complete-done.new.hand in let done = c.complete-done.result in record {
       turns = search rules;
       hand = c.complete-done.ensures.hand;
       pass = c.pop.ensures.pass;
-      served = serves_more tags ios (view c.args.pass) c.args.hand (view c.loop.pass) (view c.pop.new.pass) hand last
-          c.in-Tag.tag c.loop.faults c.note.new.self c.complete-done.result notes
-          c.in-Tag.ensures.tells.1 c.loop.invariant.served
-          (serves_by tags ios c.in-Tag.tag hand last c.loop.faults c.note.new.self c.complete-done.result notes
-          c.complete-done.ensures.ok c.complete-done.ensures.fault);
+      served = serves_more tags ios (begins c.args.hand (view c.args.pass)) hand last (view c.loop.pass)
+          (view c.pop.new.pass) c.loop.faults c.note.new.self c.in-Tag.tag done c.in-Tag.ensures.tells.1
+          (ended tags ios c.in-Tag.tag hand last done c.complete-done.ensures.ok c.complete-done.ensures.fault)
+          c.note.ensures c.loop.invariant.served;
     }
 
-pub returns-in-Last-clause-completed : goal.returns-in-Last-clause-completed
-returns-in-Last-clause-completed g c =
-    still c.args.device.now.tags c.args.log.now.ios.items (view c.args.pass) c.args.hand c.loop.faults
-    (view c.loop.pass) (view c.pop.new.pass)
-    c.loop.hand c.in-Last.ensures.tells.2 c.loop.invariant.served
+pub returns-in-Last-clause-served : goal.returns-in-Last-clause-served
+returns-in-Last-clause-served g c =
+    still c.args.device.now.tags c.args.log.now.ios.items (begins c.args.hand (view c.args.pass)) c.loop.hand
+    (view c.loop.pass) (view c.pop.new.pass) c.loop.faults c.in-Last.ensures.tells.2 c.loop.invariant.served

@@ -1,7 +1,8 @@
--- Hand and pass stay those of the play, and the numbers popped so far are served, with their faults noted.
+-- Hand and pass stay those of the play, and the numbers popped so far are served.
 use Rattle.crossbeam_queue.specs.Passes.{IsPassOf, view}
 use Rattle.tag_sets.specs.Hands.{IsHandOf}
-use Rattle.loop_device.specs.Completing.{CompletesPopped}
+use Rattle.loop_device.specs.Completing.{ServesPopped}
+use Rattle.loop_device.specs.Working.{begins}
 use Rattle.loop_device.proofs.workers.complete_all.Given as goal
 
 abbrev pub invariant-loop : goal.invariant-loop
@@ -9,6 +10,6 @@ invariant-loop g l = record {
   turns : (goal.iterator-loop g).can_next l.iterator' × (goal.iterator-loop g).is_finite l.iterator';
   hand : IsHandOf l.device.tags l.hand;
   pass : IsPassOf l.device.queue l.pass;
-  served : CompletesPopped l.device.tags l.log.ios.items l.faults (view l.initial.pass) (view l.pass)
-      l.initial.hand l.hand;
+  served : ServesPopped l.device.tags l.log.ios.items (begins l.initial.hand (view l.initial.pass))
+      (record { hand = l.hand; view = view l.pass; faults = l.faults });
 }

@@ -1,9 +1,18 @@
--- Hand and pass stay those of the play, and the pass that of a submitter.
-use Rattle.std.proofs.Common.{◌≡◌, true}
-use Rattle.crossbeam_queue.specs.Passes.{view, IsPassOf}
+-- Hand and pass stay those of the play and of a submitter, and the lines of the share so far are submitted.
+use Rattle.std.proofs.Common.{◌≡◌, true, take}
+use Rattle.crossbeam_queue.specs.Passes.{view, IsPassOf, ruled_capacity}
 use Rattle.tag_sets.specs.Hands.{IsHandOf}
+use Rattle.loop_device.specs.Submitting.{Submits, share_of}
+use Rattle.loop_device.specs.Working.{begins, TakesTurns}
 use Rattle.loop_device.proofs.workers.submit_all.Given as goal
 
 abbrev pub invariant-loop-index : goal.invariant-loop-index
-invariant-loop-index g l = IsHandOf l.device.tags l.hand × IsPassOf l.device.queue l.pass
-    × ((view l.pass).submits ≡ true)
+invariant-loop-index g l = record {
+  hand : IsHandOf l.device.tags l.hand;
+  pass : IsPassOf l.device.queue l.pass;
+  submitter : (view l.pass).submits ≡ true;
+  submitted : TakesTurns (Submits l.device.tags (ruled_capacity l.device.queue) l.log.ios.items)
+      (share_of l.number l.submitters (take l.index l.log.ios.items))
+      (begins l.initial.hand (view l.initial.pass))
+      (record { hand = l.hand; view = view l.pass; faults = l.faults });
+}
