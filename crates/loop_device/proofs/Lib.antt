@@ -11,3 +11,5 @@ pub mod Served
 pub mod Promising
 pub mod Crossing
 pub mod Blaming
+pub mod TimedFacts
+pub mod TimedWords

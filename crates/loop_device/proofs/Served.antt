@@ -1,5 +1,5 @@
 -- One more number served, or one more look at the queue that found none.
-use Rattle.std.proofs.Common.{◌≡◌, ◌↔◌, ◌⊎◌, ⊎_elim, ℕ, true, Result, Ok, Err, IfOk, IfErr, List, [], ◌∷◌, inl, inr, refl, sym, ap, subst, ◌∙◌}
+use Rattle.std.proofs.Common.{◌≡◌, ◌↔◌, ◌⊎◌, ⊎_elim, ℕ, true, Result, Ok, Err, IfOk, IfErr, List, [], ◌∷◌, inl, inr, refl, ap, ◌∙◌}
 use Rattle.tag_sets.specs.declared.hand.Hand.{Hand}
 use Rattle.tag_sets.specs.declared.tags.Tags.{Tags}
 use Rattle.loop_device.specs.declared.device_queue.Worker.{Worker}
