@@ -89,7 +89,7 @@ def usage(line):
 
 EXAMPLES = [
     ("Two tags are taken and one is given back:", "printf '0 get\\n0 get\\n0 clear 0\\n' | tagplay script --tags 4"),
-    ("An I/O log by fio is carried out by six threads under 32 tags:", "tagplay play --tags 32 --submitters 4 --completers 2 < FILE"),
+    ("A log that fio wrote is carried out by six threads under 32 tags:", "tagplay play --tags 32 --submitters 4 --completers 2 --with-times < FILE"),
 ]
 
 

@@ -14,3 +14,5 @@ pub mod Joining
 pub mod Submitted
 pub mod Crossing
 pub mod Blaming
+pub mod TimedFacts
+pub mod TimedWords

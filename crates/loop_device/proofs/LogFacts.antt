@@ -1,6 +1,6 @@
 -- What is read of a log, line after line.
 use Rattle.std.proofs.Common.{◌≡◌, ℕ, ◌+◌, ◌<◌, ◌≤◌, true, false, cond, List, [], ◌∷◌, ◌++◌, length, map, filter_map, count_by, Some, None, Option, Ok, Err, Result, ap, sym, subst, ◌∙◌, append_assoc, append-nil, length-append, refl, arith, rules}
-use Rattle.std.specs.Prelude.{IfOk, IfErr, IsSomeAnd, MatchOption, codes}
+use Rattle.std.specs.Prelude.{IfErr, MatchOption}
 use Rattle.std.specs.List.{All}
 use Rattle.std.specs.Str.{bytes_eq}
 use Rattle.std.proofs.lemmas.List.{map-append}
@@ -9,6 +9,7 @@ use Rattle.std.proofs.lemmas.List.Sums.{sum_by-append}
 use Rattle.std.proofs.lemmas.List.Quantifiers.{all_pairs_push}
 use Rattle.tag_lines.specs.Lines.{LacksByte, lines_of, line_words}
 use Rattle.tag_lines.proofs.LineFacts.{has_line}
+use Rattle.loop_device.specs.declared.fault.LogCause.{LogCause}
 use Rattle.loop_device.specs.declared.fault.LogCause.TheVariants.{NoHeader}
 use Rattle.loop_device.specs.declared.fault.LogFault.{LogFault}
 use Rattle.loop_device.specs.declared.io.Io.{Io}
@@ -16,7 +17,7 @@ use Rattle.loop_device.specs.declared.io.Log.{Log}
 use Rattle.loop_device.specs.declared.log_line.Entry.{Entry}
 use Rattle.loop_device.specs.Lines.{LinesAscend}
 use Rattle.loop_device.specs.LogLines.{names_of, names_after, entry_of}
-use Rattle.loop_device.specs.Logs.{entries_of, names_in, io_in, is_wait, body_of, Says, IsFaultOf, IsLogOf, IsLogFault}
+use Rattle.loop_device.specs.Logs.{entries_of, names_in, io_in, is_wait, body_of, header_cause, line_cause, Says, IsFaultOf}
 use Rattle.loop_device.specs.LogProgress.{Progress, ReadsLine, Fails}
 
 -- of the lines after the header, line 1, all but `rest` have been read, with this progress; `entries` are those read
@@ -97,43 +98,45 @@ pub before_next : (ios : List Io) (n : ℕ) → All (λ (i : Io). i.line < n) io
 before_next ios n before k d lt = omega (arith, before k d lt)
 
 -- a text whose first line is another has no header
-pub no_header : {A : Type 0} (o : Option A) (view : A → List ℕ) (text header : List ℕ) → LacksByte 10 header
-    → MatchOption o (text ≡ header) (λ rest. text ≡ header ++ 10 ∷ view rest)
-    → bytes_eq header (codes "fio version 2 iolog") ≡ false → body_of (lines_of text) ≡ None
-no_header o view [] header lacks whole other = refl
-no_header o view (b ∷ bytes) header lacks whole other =
-    let lines = has_line o view (b ∷ bytes) header (omega arith) lacks whole in
-    ap body_of lines.1 ∙ ap (λ test. cond test (Some lines.0) None) other
+pub no_header : {A : Type 0} (o : Option A) (view : A → List ℕ) (text first header : List ℕ) → LacksByte 10 first
+    → MatchOption o (text ≡ first) (λ rest. text ≡ first ++ 10 ∷ view rest)
+    → bytes_eq first header ≡ false → body_of header (lines_of text) ≡ None
+no_header o view [] first header lacks whole different = refl
+no_header o view (b ∷ bytes) first header lacks whole different =
+    let lines = has_line o view (b ∷ bytes) first (omega arith) lacks whole in
+    ap (body_of header) lines.1 ∙ ap (λ test. cond test (Some lines.0) None) different
+
+empty_header : (first other : List ℕ) → first ≡ [] → 0 < length other → NoHeader ≡ line_cause other first
+empty_header [] [] is some = absurd (omega (arith, some))
+empty_header [] (b ∷ bytes) is some = refl
+empty_header (c ∷ first) other is some = absurd (let no : c ∷ first ≡ [] = is in cc)
+
+-- its first line tells why
+pub other_header : {A : Type 0} (o : Option A) (view : A → List ℕ) (text first other : List ℕ) → LacksByte 10 first
+    → MatchOption o (text ≡ first) (λ rest. text ≡ first ++ 10 ∷ view rest) → 0 < length other
+    → header_cause other (lines_of text) ≡ line_cause other first
+other_header None view [] first other lacks whole some = empty_header first other (sym whole) some
+other_header (Some rest) view [] [] other lacks whole some = absurd (let no : [] ≡ 10 ∷ view rest = whole in cc)
+other_header (Some rest) view [] (c ∷ first) other lacks whole some =
+    absurd (let no : [] ≡ c ∷ first ++ 10 ∷ view rest = whole in cc)
+other_header o view (b ∷ bytes) first other lacks whole some =
+    ap (header_cause other) (has_line o view (b ∷ bytes) first (omega arith) lacks whole).1
+
+-- what is told of it
+pub told_header : (line : ℕ) (cause other : LogCause) → cause ≡ other
+    → (let told : LogFault = record { line = line; cause = cause } in told) ≡ record { line = line; cause = other }
+told_header line cause other e = ap (λ c. record { line = line; cause = c }) e
 
 -- a text with the header has the lines behind it
-pub has_body : (text header : List ℕ) (lines : List (List ℕ)) → lines_of text ≡ header ∷ lines
-    → bytes_eq header (codes "fio version 2 iolog") ≡ true → body_of (lines_of text) ≡ Some lines
-has_body text header lines e same = ap body_of e ∙ ap (λ test. cond test (Some lines) None) same
+pub has_body : (text first header : List ℕ) (lines : List (List ℕ)) → lines_of text ≡ first ∷ lines
+    → bytes_eq first header ≡ true → body_of header (lines_of text) ≡ Some lines
+has_body text first header lines e same = ap (body_of header) e ∙ ap (λ test. cond test (Some lines) None) same
 
 -- the header isn't empty
-pub some_header : (header : List ℕ) → bytes_eq header (codes "fio version 2 iolog") ≡ true → 0 < length header
-some_header [] same = absurd (search (rules, same))
-some_header (b ∷ bytes) same = omega arith
-
--- what its lines say is what the text spells
-pub log_in : (text : List ℕ) (lines : List (List ℕ)) (result : Result Log LogFault)
-    → body_of (lines_of text) ≡ Some lines
-    → IfOk result (Says lines) → IfOk result (IsLogOf text)
-log_in text lines (Ok log) e says = subst (λ o. IsSomeAnd o (λ ls. Says ls log)) (sym e) says
-log_in text lines (Err fault) e says = tt
-
-pub fault_in : (text : List ℕ) (lines : List (List ℕ)) (result : Result Log LogFault)
-    → body_of (lines_of text) ≡ Some lines
-    → IfErr result (IsFaultOf lines) → IfErr result (IsLogFault text)
-fault_in text lines (Ok log) e told = tt
-fault_in text lines (Err fault) e told =
-    subst (λ o. MatchOption o (fault ≡ record { line = 1; cause = NoHeader }) (λ ls. IsFaultOf ls fault)) (sym e) told
-
-pub no_log : (text : List ℕ) (fault : LogFault) → body_of (lines_of text) ≡ None
-    → fault ≡ record { line = 1; cause = NoHeader }
-    → IsLogFault text fault
-no_log text fault e same =
-    subst (λ o. MatchOption o (fault ≡ record { line = 1; cause = NoHeader }) (λ ls. IsFaultOf ls fault)) (sym e) same
+pub some_header : (first header : List ℕ) → bytes_eq first header ≡ true → 0 < length header → 0 < length first
+some_header [] [] same some = some
+some_header [] (b ∷ bytes) same some = absurd (search (rules, same))
+some_header (b ∷ bytes) header same some = omega arith
 
 -- the same where a reader tells it
 pub faulty_in : (lines : List (List ℕ)) (p : Progress) (line : List ℕ) (rest : List (List ℕ))

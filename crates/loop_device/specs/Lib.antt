@@ -6,7 +6,9 @@ pub mod Lines
 pub mod LogFaults
 pub mod LogLines
 pub mod LogProgress
+pub mod TimedProgress
 pub mod Logs
+pub mod TimedLogs
 pub mod Playing
 pub mod Promises
 pub mod Requests

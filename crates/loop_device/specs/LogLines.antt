@@ -5,7 +5,9 @@ use Rattle.std.specs.Str.{bytes_eq}
 use Rattle.std.specs.declared.alloc.Global.{Global}
 use Rattle.tag_lines.specs.Lines.{number_below}
 use Rattle.loop_device.specs.declared.fault.LogCause.{LogCause}
+use Rattle.tag_lines.specs.declared.fault.Misfit.TheVariants.{EmptyWord, WordCount, UnknownCommand}
 use Rattle.loop_device.specs.declared.fault.LogCause.TheVariants.{BadLine, BadNumber, UnknownName, TooManyNames, Memory}
+use Rattle.loop_device.specs.declared.fault.LogNumber.TheVariants.{Offset, Length}
 use Rattle.loop_device.specs.declared.io.IoKind.TheVariants as kinds
 use Rattle.loop_device.specs.declared.log_line.Entry.{Entry}
 use Rattle.loop_device.specs.declared.log_line.Entry.TheVariants as entries
@@ -40,9 +42,17 @@ range_action action =
     (if bytes_eq action (codes "datasync") then Some (ranges.Carry kinds.Datasync) else
     (if bytes_eq action (codes "wait") then Some ranges.Wait else None)))))
 
+-- the line has neither two words nor four
+abbrev pub uncounted : Result Entry LogCause
+uncounted = Err (BadLine WordCount)
+
+-- the second word is no action with this many words
+abbrev pub unknown : Result Entry LogCause
+unknown = Err (BadLine (UnknownCommand 2))
+
 -- a new name is added if there is room for it; only a known name can be opened or closed
 abbrev pub name_entry : Option NameAction → Option ℕ → ℕ → Result Entry LogCause
-name_entry None index count = Err BadLine
+name_entry None index count = unknown
 name_entry (Some action) (Some index) count = Ok entries.Name
 name_entry (Some Add) None count = if nat_lt count MAX_NAMES then Ok entries.Name else Err TooManyNames
 name_entry (Some Open) None count = Err UnknownName
@@ -57,23 +67,23 @@ io_entry line (ranges.Carry kind) offset length (Some index) =
 
 -- an unknown action is reported before a bad number, and a bad number before an unknown name
 abbrev pub range_entry : ℕ → Option RangeAction → Option ℕ → Option ℕ → Option ℕ → Result Entry LogCause
-range_entry line None offset length index = Err BadLine
-range_entry line (Some action) None length index = Err BadNumber
-range_entry line (Some action) (Some offset) None index = Err BadNumber
+range_entry line None offset length index = unknown
+range_entry line (Some action) None length index = Err (BadNumber Offset)
+range_entry line (Some action) (Some offset) None index = Err (BadNumber Length)
 range_entry line (Some action) (Some offset) (Some length) index = io_entry line action offset length index
 
 -- exactly two numbers
 abbrev pub range_words : ℕ → Option RangeAction → List (List ℕ) → Option ℕ → Result Entry LogCause
-range_words line action [] index = Err BadLine
-range_words line action (offset ∷ []) index = Err BadLine
+range_words line action [] index = uncounted
+range_words line action (offset ∷ []) index = uncounted
 range_words line action (offset ∷ length ∷ []) index =
     range_entry line action (number_below (2 ^ 63) offset) (number_below (2 ^ 63) length) index
-range_words line action (offset ∷ length ∷ word ∷ more) index = Err BadLine
+range_words line action (offset ∷ length ∷ word ∷ more) index = uncounted
 
 -- what the words of the line with this number say, given the known names; a line with an empty word has no words
 abbrev pub entry_of : List (List ℕ) → ℕ → List (List ℕ) → Result Entry LogCause
-entry_of names line [] = Err BadLine
-entry_of names line (name ∷ []) = Err BadLine
+entry_of names line [] = Err (BadLine EmptyWord)
+entry_of names line (name ∷ []) = uncounted
 entry_of names line (name ∷ action ∷ []) = name_entry (name_action action) (index_of names name) (length names)
 entry_of names line (name ∷ action ∷ word ∷ more) = range_words line (range_action action) (word ∷ more)
     (index_of names name)

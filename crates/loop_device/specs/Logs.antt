@@ -4,7 +4,7 @@ use Rattle.std.specs.Prelude.{Option, Some, None, IsSomeAnd, MatchOption, Result
 use Rattle.std.specs.Str.{bytes_eq}
 use Rattle.tag_lines.specs.Lines.{lines_of, line_words}
 use Rattle.loop_device.specs.declared.fault.LogCause.{LogCause}
-use Rattle.loop_device.specs.declared.fault.LogCause.TheVariants.{NoHeader}
+use Rattle.loop_device.specs.declared.fault.LogCause.TheVariants.{NoHeader, OtherVersion}
 use Rattle.loop_device.specs.declared.fault.LogFault.{LogFault}
 use Rattle.loop_device.specs.declared.io.Io.{Io}
 use Rattle.loop_device.specs.declared.io.Log.{Log}
@@ -12,10 +12,27 @@ use Rattle.loop_device.specs.declared.log_line.Entry.{Entry}
 use Rattle.loop_device.specs.declared.log_line.Entry.TheVariants.{Name, Wait, Carry}
 use Rattle.loop_device.specs.LogLines.{names_of, entry_of, names_after, TellsCause}
 
+-- the first line of a log
+abbrev pub version_2 : List ℕ
+version_2 = codes "fio version 2 iolog"
+
+-- the first line of a log with times
+abbrev pub version_3 : List ℕ
+version_3 = codes "fio version 3 iolog"
+
 -- the lines after the header
-abbrev pub body_of : List (List ℕ) → Option (List (List ℕ))
-body_of [] = None
-body_of (line ∷ lines) = if bytes_eq line (codes "fio version 2 iolog") then Some lines else None
+abbrev pub body_of : List ℕ → List (List ℕ) → Option (List (List ℕ))
+body_of header [] = None
+body_of header (line ∷ lines) = if bytes_eq line header then Some lines else None
+
+-- why a first line is not the header: it is that of the other version, or of no log
+abbrev pub line_cause : List ℕ → List ℕ → LogCause
+line_cause other line = if bytes_eq line other then OtherVersion else NoHeader
+
+-- the same of a text, which may have no lines
+abbrev pub header_cause : List ℕ → List (List ℕ) → LogCause
+header_cause other [] = NoHeader
+header_cause other (line ∷ lines) = line_cause other line
 
 -- what each line says, if these names are known before the first line, which has this number
 abbrev pub entries_of : List (List ℕ) → ℕ → List (List ℕ) → List (Result Entry LogCause)
@@ -58,9 +75,9 @@ pub record IsFaultOf (lines : List (List ℕ)) (fault : LogFault) : Type 0 where
 
 -- the log that a text describes
 abbrev pub IsLogOf : List ℕ → Log → Type 0
-IsLogOf text log = IsSomeAnd (body_of (lines_of text)) (λ lines. Says lines log)
+IsLogOf text log = IsSomeAnd (body_of version_2 (lines_of text)) (λ lines. Says lines log)
 
 -- why a text is not a log: it has no header, or a line after the header is faulty
 abbrev pub IsLogFault : List ℕ → LogFault → Type 0
-IsLogFault text fault = MatchOption (body_of (lines_of text)) (fault ≡ record { line = 1; cause = NoHeader })
-    (λ lines. IsFaultOf lines fault)
+IsLogFault text fault = MatchOption (body_of version_2 (lines_of text))
+    (fault ≡ record { line = 1; cause = header_cause version_3 (lines_of text) }) (λ lines. IsFaultOf lines fault)

@@ -1,31 +1,72 @@
-//! fio's I/O logs, version 2.
-ghost use Rattle.std.specs.Prelude.{IfOk, IfErr};
-ghost use Rattle.tag_lines.specs.Lines.{lines_of};
-ghost use Rattle.loop_device.specs.Logs.{IsLogOf, IsLogFault, Says, IsFaultOf};
+//! fio's I/O logs: version 2, and version 3, which has a time before each line.
+ghost use Rattle.std.specs.Prelude.{◌≡◌, ◌<◌, Some, None, length, IfOk, IfErr};
+ghost use Rattle.tag_lines.specs.Lines.{LacksByte, lines_of};
+ghost use Rattle.loop_device.specs.Logs.{IsLogOf, IsLogFault, Says, IsFaultOf, body_of, header_cause, line_cause};
+ghost use Rattle.loop_device.specs.TimedLogs.{IsTimedLogOf, IsTimedLogFault, SaysTimed, IsTimedFaultOf};
 
 use crate::fault::{LogCause, LogFault};
 use crate::io::Log;
 use crate::log_reader::Reader;
+use crate::timed_reader::TimedReader;
 use std::alloc::Global;
 use tag_lines::{LINE_FEED, cut};
 
+/// The first line of a log.
+const VERSION_2: &[u8] = b"fio version 2 iolog";
+
+/// The first line of a log with times.
+const VERSION_3: &[u8] = b"fio version 3 iolog";
+
 impl Log {
-    /// Reads a log from its text, or reports the first faulty line and why.
+    /// Reads a log of version 2 from its text, or reports the first faulty line and why.
     pub fn read(alloc: Global, text: &[u8]) -> Result<Log, LogFault>
         ensures log { IfOk result (IsLogOf text.now) }
         ensures fault { IfErr result (IsLogFault text.now) }
     {
-        let (header, body) = cut(text, LINE_FEED);
-        if header != b"fio version 2 iolog".as_slice() {
-            return Err(LogFault {
-                line: 1,
-                cause: LogCause::NoHeader,
-            });
-        }
-        match body {
-            Some(body) => read_lines(alloc, body),
-            None => read_lines(alloc, &[]),
-        }
+        let body = body_of(text, VERSION_2, VERSION_3)?;
+        read_lines(alloc, body)
+    }
+
+    /// Reads a log of version 3, in which each line begins with a time that is not less than the one before, or reports
+    /// the first faulty line and why. The log is that of the lines without their times.
+    pub fn read_with_times(alloc: Global, text: &[u8]) -> Result<Log, LogFault>
+        ensures log { IfOk result (IsTimedLogOf text.now) }
+        ensures fault { IfErr result (IsTimedLogFault text.now) }
+    {
+        let body = body_of(text, VERSION_3, VERSION_2)?;
+        read_timed_lines(alloc, body)
+    }
+}
+
+/// What follows the header. A header of the other version is reported as such.
+fn body_of<'a>(text: &'a [u8], header: &[u8], other: &[u8]) -> Result<&'a [u8], LogFault>
+    requires some { 0 < length header.now }
+    requires other { 0 < length other.now }
+    ensures body { IfOk result (λ body. body_of header.now (lines_of text.now) ≡ Some (lines_of body.now)) }
+    ensures none { IfErr result (λ fault. body_of header.now (lines_of text.now) ≡ None) }
+    ensures fault { IfErr result (λ fault. fault ≡ record { line = 1; cause = header_cause other.now (lines_of text.now) }) }
+{
+    let (first, body) = cut(text, LINE_FEED);
+    if first != header {
+        return Err(LogFault {
+            line: 1,
+            cause: line_cause(first, other),
+        });
+    }
+    match body {
+        Some(body) => Ok(body),
+        None => Ok(&[]),
+    }
+}
+
+/// Why a first line is not the header.
+fn line_cause(first: &[u8], other: &[u8]) -> LogCause
+    ensures { result ≡ line_cause other.now first.now }
+{
+    if first == other {
+        LogCause::OtherVersion
+    } else {
+        LogCause::NoHeader
     }
 }
 
@@ -35,6 +76,24 @@ fn read_lines(alloc: Global, body: &[u8]) -> Result<Log, LogFault>
     ensures fault { IfErr result (IsFaultOf (lines_of body.now)) }
 {
     let mut reader = Reader::new(alloc);
+    let mut rest = body;
+    while !rest.is_empty() {
+        let (line, after) = cut(rest, LINE_FEED);
+        reader.read(line)?;
+        rest = match after {
+            Some(after) => after,
+            None => &[],
+        };
+    }
+    Ok(reader.log())
+}
+
+/// The same for lines with times.
+fn read_timed_lines(alloc: Global, body: &[u8]) -> Result<Log, LogFault>
+    ensures log { IfOk result (SaysTimed (lines_of body.now)) }
+    ensures fault { IfErr result (IsTimedFaultOf (lines_of body.now)) }
+{
+    let mut reader = TimedReader::new(alloc);
     let mut rest = body;
     while !rest.is_empty() {
         let (line, after) = cut(rest, LINE_FEED);

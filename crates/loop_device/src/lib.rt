@@ -17,9 +17,10 @@ mod request;
 mod setup;
 mod store;
 mod threads;
+mod timed_reader;
 mod workers;
 
-pub use fault::{LogCause, LogFault, PlayFault};
+pub use fault::{LogCause, LogFault, LogNumber, PlayFault};
 pub use gate::{Gate, OpenGate};
 pub use io::{Done, Io, IoKind, Log};
 pub use judging::verdict;

@@ -5,16 +5,22 @@ ghost use Rattle.tag_lines.specs.Lines.{parts_of, line_words, number_below};
 ghost use Rattle.loop_device.specs.LogLines.{names_of, index_of, name_action, range_action, name_entry, range_entry};
 ghost use Rattle.loop_device.specs.LogLines.{range_words, with_name, entry_of, names_after, IsOfLine, TellsCause};
 
-use crate::fault::LogCause;
+use crate::fault::{LogCause, LogNumber};
 use crate::io::{Io, IoKind};
 use std::alloc::Global;
-use tag_lines::{BLANK, cut, has_gap, number};
+use tag_lines::{BLANK, Misfit, cut, has_gap, number};
 
 /// The most names that a log may have.
 pub(crate) const MAX_NAMES: usize = 16;
 
 /// The greatest offset and length: 2^63 - 1.
 const MAX_EXTENT: u64 = 9_223_372_036_854_775_807;
+
+/// The line has neither two words nor four.
+const WORD_COUNT: LogCause = LogCause::BadLine(Misfit::WordCount);
+
+/// The second word is no action with this many words.
+const UNKNOWN_ACTION: LogCause = LogCause::BadLine(Misfit::UnknownCommand(2));
 
 /// What a line says.
 #[derive(Clone, Copy, Debug, PartialEq, Eq)]
@@ -102,12 +108,12 @@ pub(crate) fn read_line(
     ensures err { IfErr result (TellsCause (entry_of (names_of names.old.items) number (line_words line.now))) }
 {
     if has_gap(line) {
-        return Err(LogCause::BadLine);
+        return Err(LogCause::BadLine(Misfit::EmptyWord));
     }
     let (name, rest) = cut(line, BLANK);
     let rest = match rest {
         Some(rest) => rest,
-        None => return Err(LogCause::BadLine),
+        None => return Err(WORD_COUNT),
     };
     let (action, rest) = cut(rest, BLANK);
     match rest {
@@ -131,7 +137,7 @@ fn name_line(
     ensures line { IfOk result (IsOfLine number) }
     ensures err { IfErr result (TellsCause (entry_of (names_of names.old.items) number (name.now ∷ action.now ∷ []))) }
 {
-    let action = NameAction::named(action).ok_or(LogCause::BadLine)?;
+    let action = NameAction::named(action).ok_or(UNKNOWN_ACTION)?;
     match (action, index_of(names, name)) {
         (_, Some(_)) => {}
         (NameAction::Add, None) => add_name(alloc, names, name)?,
@@ -184,11 +190,11 @@ fn range_line(
     let (offset, rest) = cut(range, BLANK);
     let rest = match rest {
         Some(rest) => rest,
-        None => return Err(LogCause::BadLine),
+        None => return Err(WORD_COUNT),
     };
     let (size, more) = cut(rest, BLANK);
     match more {
-        Some(_) => Err(LogCause::BadLine),
+        Some(_) => Err(WORD_COUNT),
         None => range_entry(names, line, name, action, offset, size),
     }
 }
@@ -206,9 +212,9 @@ fn range_entry(
     ensures said { result ≡ range_entry line (range_action action.now) (number_below (2 ^ 63) offset.now)
         (number_below (2 ^ 63) size.now) (index_of (names_of names.now) name.now) }
 {
-    let action = RangeAction::named(action).ok_or(LogCause::BadLine)?;
-    let offset = extent(offset).ok_or(LogCause::BadNumber)?;
-    let length = extent(size).ok_or(LogCause::BadNumber)?;
+    let action = RangeAction::named(action).ok_or(UNKNOWN_ACTION)?;
+    let offset = extent(offset).ok_or(LogCause::BadNumber(LogNumber::Offset))?;
+    let length = extent(size).ok_or(LogCause::BadNumber(LogNumber::Length))?;
     let kind = match action {
         RangeAction::Carry(kind) => kind,
         RangeAction::Wait => return Ok(Entry::Wait),

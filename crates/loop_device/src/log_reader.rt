@@ -49,10 +49,7 @@ impl Reader {
         let number = self.number;
         let entry = match read_line(self.alloc, &mut self.names, number, line) {
             Ok(entry) => entry,
-            Err(cause) => return Err(LogFault {
-                line: number,
-                cause,
-            }),
+            Err(cause) => return Err(self.fault(cause)),
         };
         self.number += 1;
         match entry {
@@ -68,6 +65,17 @@ impl Reader {
             }
         }
         Ok(())
+    }
+
+    /// The next line is faulty for this cause.
+    pub(crate) fn fault(&self, cause: LogCause) -> LogFault
+        ensures line { result.line ≡ (progress_of self.now).number }
+        ensures cause { result.cause ≡ cause }
+    {
+        LogFault {
+            line: self.number,
+            cause,
+        }
     }
 
     /// The log that the lines read so far make up.

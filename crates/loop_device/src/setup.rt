@@ -1,5 +1,5 @@
 //! How a log is played.
-ghost use Rattle.std.specs.Prelude.{IsTrue, IsSomeAnd, ◌<◌, ◌≤◌, ◌↔◌};
+ghost use Rattle.std.specs.Prelude.{IsNone, IsTrue, IsSomeAnd, ◌<◌, ◌≤◌, ◌↔◌};
 ghost use Rattle.loop_device.specs.Setups.{IsLegal};
 
 use tag_layout::{MAX_DEPTH, MAX_SHIFT};
@@ -29,12 +29,28 @@ impl Setup {
     pub(crate) fn is_legal(&self) -> bool
         ensures { IsTrue result ↔ IsLegal self.now }
     {
-        self.total <= MAX_DEPTH
-            && self.reserved < self.total
-            && self.has_shift()
-            && is_count(self.submitters, MAX_THREADS)
-            && is_count(self.completers, MAX_THREADS)
-            && is_count(self.queue, MAX_DEPTH)
+        self.flaw().is_none()
+    }
+
+    /// What is wrong with the setup, in words: the first of its numbers that is beyond its limits. `None` if it is legal.
+    pub fn flaw(&self) -> Option<&'static str>
+        ensures { IsNone result ↔ IsLegal self.now }
+    {
+        if self.total > MAX_DEPTH {
+            Some("more than 10240 tags")
+        } else if self.reserved >= self.total {
+            Some("no tag that is not reserved")
+        } else if !self.has_shift() {
+            Some("a shift above 6")
+        } else if !is_count(self.submitters, MAX_THREADS) {
+            Some("the number of submitters is not from 1 to 16")
+        } else if !is_count(self.completers, MAX_THREADS) {
+            Some("the number of completers is not from 1 to 16")
+        } else if !is_count(self.queue, MAX_DEPTH) {
+            Some("the queue is not from 1 to 10240")
+        } else {
+            None
+        }
     }
 
     /// Whether the shift, if one is given, is within its limit.

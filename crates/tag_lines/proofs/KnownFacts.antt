@@ -1,5 +1,5 @@
 -- The commands and the callers that lines name are known.
-use Rattle.std.proofs.Common.{◌≡◌, ℕ, ◌^◌, Bool, true, false, List, [], ◌∷◌, cond, nat_lt, refl, Option, Some, None, Result}
+use Rattle.std.proofs.Common.{◌≡◌, ℕ, ◌^◌, Bool, true, false, List, [], ◌∷◌, cond, nat_lt, refl, Option, Some, None, Result, Ok, Err}
 use Rattle.std.proofs.lemmas.Bool.{ltb-true}
 use Rattle.std.specs.List.{All}
 use Rattle.std.specs.Prelude.{IfSome, IfOk, codes}
@@ -12,6 +12,7 @@ use Rattle.tag_lines.specs.declared.order.Command.TheVariants as commands
 use Rattle.tag_lines.specs.declared.order.Numbered.{Numbered}
 use Rattle.tag_lines.specs.declared.order.Numbered.TheVariants as kinds
 use Rattle.tag_lines.specs.declared.order.Order.{Order}
+use Rattle.tag_lines.specs.declared.tag_list.TheConstants.{FIRST}
 use Rattle.tag_lines.specs.Dialects.{only_shared}
 use Rattle.tag_lines.specs.Lines.{number_below, numbers_below}
 use Rattle.tag_lines.specs.Readings.{AreReadings}
@@ -99,11 +100,11 @@ module _ (dialect : Dialect) (callers : ℕ) where
   numbered_line_known (Some kind) (Some caller) (Some number) h =
       ordered_known caller (numbered_command kind number) (h number) (nat_lt caller callers) refl
 
-  listed_line_known : (caller : Option ℕ) (tags : Option (List ℕ))
+  listed_line_known : (caller : Option ℕ) (tags : Result (List ℕ) ℕ)
       → IfOk (listed_line callers caller tags) (IsOrderOf dialect callers)
   listed_line_known None tags = tt
-  listed_line_known (Some caller) None = tt
-  listed_line_known (Some caller) (Some tags) =
+  listed_line_known (Some caller) (Err word) = tt
+  listed_line_known (Some caller) (Ok tags) =
       ordered_known caller (commands.ClearBatch tags) (plain_command dialect (commands.ClearBatch tags) tt)
       (nat_lt caller callers) refl
 
@@ -129,7 +130,7 @@ module _ (dialect : Dialect) (callers : ℕ) where
       (lone_known name)
   order_known (caller ∷ name ∷ word ∷ more) =
       either_ok (IsOrderOf dialect callers) (bytes_eq name (codes "clear-batch")) _ _
-      (listed_line_known (number_below (2 ^ 32) caller) (numbers_below (2 ^ 32) (word ∷ more)))
+      (listed_line_known (number_below (2 ^ 32) caller) (numbers_below (2 ^ 32) FIRST (word ∷ more)))
       (one_word_known caller name word more)
 
   -- so has each order of a script

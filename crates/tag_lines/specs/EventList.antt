@@ -5,6 +5,7 @@ use Rattle.tag_model.specs.declared.event.Event.{Event}
 use Rattle.tag_model.specs.declared.event.Event.TheVariants as events
 use Rattle.tag_lines.specs.declared.fault.LineFault.{LineFault}
 use Rattle.tag_lines.specs.declared.fault.LineFault.TheVariants.{BadLine, BadNumber}
+use Rattle.tag_lines.specs.declared.fault.Misfit.TheVariants.{EmptyWord, UnknownCommand}
 use Rattle.tag_lines.specs.declared.event_list.Single.{Single}
 use Rattle.tag_lines.specs.declared.event_list.Single.TheVariants.{Put, Sweep, Spill, Post, Take}
 use Rattle.tag_lines.specs.declared.event_list.Masked.{Masked}
@@ -38,29 +39,33 @@ abbrev pub masked_event : Masked → ℕ → ℕ → ℕ → Event
 masked_event Win caller word mask = events.Win caller word mask
 masked_event Give caller word mask = events.Give caller word mask
 
+-- the first word is no event's name with as many words
+abbrev pub unknown : Result Event LineFault
+unknown = Err (BadLine (UnknownCommand 1))
+
 -- an unknown name is reported before a bad number
 abbrev pub single_line : Option Single → Option ℕ → Option ℕ → Result Event LineFault
-single_line None caller on = Err BadLine
-single_line (Some kind) None on = Err BadNumber
-single_line (Some kind) (Some caller) None = Err BadNumber
+single_line None caller on = unknown
+single_line (Some kind) None on = Err (BadNumber 2)
+single_line (Some kind) (Some caller) None = Err (BadNumber 3)
 single_line (Some kind) (Some caller) (Some on) = Ok (single_event kind caller on)
 
 -- the same for an event with a mask
 abbrev pub masked_line : Option Masked → Option ℕ → Option ℕ → Option ℕ → Result Event LineFault
-masked_line None caller word mask = Err BadLine
-masked_line (Some kind) None word mask = Err BadNumber
-masked_line (Some kind) (Some caller) None mask = Err BadNumber
-masked_line (Some kind) (Some caller) (Some word) None = Err BadNumber
+masked_line None caller word mask = unknown
+masked_line (Some kind) None word mask = Err (BadNumber 2)
+masked_line (Some kind) (Some caller) None mask = Err (BadNumber 3)
+masked_line (Some kind) (Some caller) (Some word) None = Err (BadNumber 4)
 masked_line (Some kind) (Some caller) (Some word) (Some mask) = Ok (masked_event kind caller word mask)
 
 -- the event that the words of a line describe; a line with an empty word counts as having no words
 abbrev pub event_of : List (List ℕ) → Result Event LineFault
-event_of [] = Err BadLine
-event_of (name ∷ []) = if bytes_eq name (codes "look") then Ok events.Look else Err BadLine
-event_of (name ∷ caller ∷ []) = Err BadLine
+event_of [] = Err (BadLine EmptyWord)
+event_of (name ∷ []) = if bytes_eq name (codes "look") then Ok events.Look else unknown
+event_of (name ∷ caller ∷ []) = unknown
 event_of (name ∷ caller ∷ on ∷ []) = single_line (single_of name) (number_below (2 ^ 32) caller)
     (number_below (2 ^ 32) on)
 event_of (name ∷ caller ∷ word ∷ mask ∷ []) =
     masked_line (masked_of name) (number_below (2 ^ 32) caller) (number_below (2 ^ 32) word)
     (number_below (2 ^ 64) mask)
-event_of (name ∷ caller ∷ word ∷ mask ∷ more ∷ rest) = Err BadLine
+event_of (name ∷ caller ∷ word ∷ mask ∷ more ∷ rest) = unknown

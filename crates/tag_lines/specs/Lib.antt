@@ -1,4 +1,5 @@
 pub mod Lines
+pub mod Refusals
 pub mod Faults
 pub mod Readings
 pub mod EventList

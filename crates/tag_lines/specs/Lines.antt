@@ -1,6 +1,6 @@
 -- The lines of a text, the words of a line, and the numbers that words denote.
 use Rattle.std.specs.Prelude.{◌≡◌, ℕ, Bool, false, List, [], ◌∷◌, ◌==◌, ◌&&◌, nat_lt, if◌then◌else◌, length}
-use Rattle.std.specs.Prelude.{Option, Some, None}
+use Rattle.std.specs.Prelude.{◌+◌, Option, Some, None, Result, Ok, Err}
 use Rattle.std.specs.List.{All, list_any, slice_split, onto_first}
 use Rattle.std.specs.Str.{all_ascii_digits}
 use Rattle.std.specs.Str.Parse.{digits_value}
@@ -31,13 +31,14 @@ abbrev pub number_below : ℕ → List ℕ → Option ℕ
 number_below limit word =
     if all_ascii_digits word && nat_lt (digits_value 10 word) limit then Some (digits_value 10 word) else None
 
--- the list with the number in front, if both are present
-abbrev pub onto_numbers : Option ℕ → Option (List ℕ) → Option (List ℕ)
-onto_numbers None numbers = None
-onto_numbers (Some number) None = None
-onto_numbers (Some number) (Some numbers) = Some (number ∷ numbers)
+-- the list with the value of this word in front, or the first word that has none
+abbrev pub onto_numbers : ℕ → Option ℕ → Result (List ℕ) ℕ → Result (List ℕ) ℕ
+onto_numbers word None numbers = Err word
+onto_numbers word (Some number) (Err other) = Err other
+onto_numbers word (Some number) (Ok numbers) = Ok (number ∷ numbers)
 
--- the values of the words, if each is a number below the limit
-abbrev pub numbers_below : ℕ → List (List ℕ) → Option (List ℕ)
-numbers_below limit [] = Some []
-numbers_below limit (word ∷ words) = onto_numbers (number_below limit word) (numbers_below limit words)
+-- the values of the words, of which the first has this number; or the first word that is no number below the limit
+abbrev pub numbers_below : ℕ → ℕ → List (List ℕ) → Result (List ℕ) ℕ
+numbers_below limit first [] = Ok []
+numbers_below limit first (word ∷ words) =
+    onto_numbers first (number_below limit word) (numbers_below limit (first + 1) words)

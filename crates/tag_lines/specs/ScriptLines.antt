@@ -5,6 +5,8 @@ use Rattle.tag_lines.specs.declared.dialect.Dialect.{Dialect}
 use Rattle.tag_lines.specs.declared.dialect.Dialect.TheVariants.{Plain, Shared}
 use Rattle.tag_lines.specs.declared.fault.LineFault.{LineFault}
 use Rattle.tag_lines.specs.declared.fault.LineFault.TheVariants.{BadLine, BadNumber, NoSuchCaller}
+use Rattle.tag_lines.specs.declared.fault.Misfit.TheVariants.{EmptyWord, WordCount, UnknownCommand}
+use Rattle.tag_lines.specs.declared.tag_list.TheConstants.{FIRST}
 use Rattle.tag_lines.specs.declared.order.Command.{Command}
 use Rattle.tag_lines.specs.declared.order.Command.TheVariants as commands
 use Rattle.tag_lines.specs.declared.order.Numbered.{Numbered}
@@ -89,24 +91,28 @@ abbrev pub ordered : ℕ → ℕ → Command → Result Order LineFault
 ordered callers caller command =
     if nat_lt caller callers then Ok (record { caller = caller; command = command }) else Err NoSuchCaller
 
+-- the second word is no command's name with as many words
+abbrev pub unknown : Result Order LineFault
+unknown = Err (BadLine (UnknownCommand 2))
+
 -- an unknown name is reported before a bad number, and a bad number before an unknown caller
 abbrev pub lone_line : ℕ → Option Command → Option ℕ → Result Order LineFault
-lone_line callers None caller = Err BadLine
-lone_line callers (Some command) None = Err BadNumber
+lone_line callers None caller = unknown
+lone_line callers (Some command) None = Err (BadNumber 1)
 lone_line callers (Some command) (Some caller) = ordered callers caller command
 
 -- the same for a command with a number
 abbrev pub numbered_line : ℕ → Option Numbered → Option ℕ → Option ℕ → Result Order LineFault
-numbered_line callers None caller number = Err BadLine
-numbered_line callers (Some kind) None number = Err BadNumber
-numbered_line callers (Some kind) (Some caller) None = Err BadNumber
+numbered_line callers None caller number = unknown
+numbered_line callers (Some kind) None number = Err (BadNumber 1)
+numbered_line callers (Some kind) (Some caller) None = Err (BadNumber 3)
 numbered_line callers (Some kind) (Some caller) (Some number) = ordered callers caller (numbered_command kind number)
 
 -- the same for a list of numbers
-abbrev pub listed_line : ℕ → Option ℕ → Option (List ℕ) → Result Order LineFault
-listed_line callers None tags = Err BadNumber
-listed_line callers (Some caller) None = Err BadNumber
-listed_line callers (Some caller) (Some tags) = ordered callers caller (commands.ClearBatch tags)
+abbrev pub listed_line : ℕ → Option ℕ → Result (List ℕ) ℕ → Result Order LineFault
+listed_line callers None tags = Err (BadNumber 1)
+listed_line callers (Some caller) (Err word) = Err (BadNumber word)
+listed_line callers (Some caller) (Ok tags) = ordered callers caller (commands.ClearBatch tags)
 
 -- a command with one argument: the word `reserved` if the command takes it, otherwise a number
 abbrev pub word_line : ℕ → Option Command → Option Numbered → Option ℕ → Option ℕ → Result Order LineFault
@@ -118,14 +124,14 @@ abbrev pub one_word_line : Dialect → ℕ → List ℕ → List ℕ → List �
 one_word_line dialect callers caller name word [] =
     word_line callers (worded_of dialect name word) (numbered_of dialect name) (number_below (2 ^ 32) caller)
     (number_below (2 ^ 32) word)
-one_word_line dialect callers caller name word (next ∷ more) = Err BadLine
+one_word_line dialect callers caller name word (next ∷ more) = unknown
 
 -- the order that a line's words describe, by a caller below `callers`; an empty word leaves the line without words
 abbrev pub order_of : Dialect → ℕ → List (List ℕ) → Result Order LineFault
-order_of dialect callers [] = Err BadLine
-order_of dialect callers (caller ∷ []) = Err BadLine
+order_of dialect callers [] = Err (BadLine EmptyWord)
+order_of dialect callers (caller ∷ []) = Err (BadLine WordCount)
 order_of dialect callers (caller ∷ name ∷ []) = lone_line callers (lone_of dialect name) (number_below (2 ^ 32) caller)
 order_of dialect callers (caller ∷ name ∷ word ∷ more) =
     if bytes_eq name (codes "clear-batch") then listed_line callers (number_below (2 ^ 32) caller)
-    (numbers_below (2 ^ 32) (word ∷ more))
+    (numbers_below (2 ^ 32) FIRST (word ∷ more))
     else one_word_line dialect callers caller name word more

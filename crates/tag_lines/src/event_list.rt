@@ -4,11 +4,14 @@ ghost use Rattle.tag_lines.specs.Lines.{line_words};
 ghost use Rattle.tag_lines.specs.Readings.{AreReadings, IsListFault};
 ghost use Rattle.tag_lines.specs.EventList.{event_of, single_of, masked_of, single_event, masked_event};
 
-use crate::fault::{FaultyLine, LineFault, ListFault};
+use crate::fault::{FaultyLine, LineFault, ListFault, Misfit};
 use crate::lines::{BLANK, LINE_FEED, cut, has_gap};
 use crate::numbers::{number, short_number};
 use std::alloc::Global;
 use tag_model::Event;
+
+/// The first word is no event's name, or not with as many words behind it.
+const UNKNOWN_EVENT: LineFault = LineFault::BadLine(Misfit::UnknownCommand(1));
 
 /// The kinds of event that name a caller and one tag or one word.
 #[derive(Clone, Copy, Debug, PartialEq, Eq)]
@@ -125,7 +128,7 @@ fn event(line: &[u8]) -> Result<Event, LineFault>
     ensures { result ≡ event_of (line_words line.now) }
 {
     if has_gap(line) {
-        return Err(LineFault::BadLine);
+        return Err(LineFault::BadLine(Misfit::EmptyWord));
     }
     let (name, rest) = cut(line, BLANK);
     let rest = match rest {
@@ -135,7 +138,7 @@ fn event(line: &[u8]) -> Result<Event, LineFault>
     let (caller, rest) = cut(rest, BLANK);
     let rest = match rest {
         Some(rest) => rest,
-        None => return Err(LineFault::BadLine),
+        None => return Err(UNKNOWN_EVENT),
     };
     let (on, rest) = cut(rest, BLANK);
     let rest = match rest {
@@ -144,7 +147,7 @@ fn event(line: &[u8]) -> Result<Event, LineFault>
     };
     let (mask, rest) = cut(rest, BLANK);
     match rest {
-        Some(_) => Err(LineFault::BadLine),
+        Some(_) => Err(UNKNOWN_EVENT),
         None => masked_event(name, caller, on, mask),
     }
 }
@@ -155,25 +158,25 @@ fn lone_event(name: &[u8]) -> Result<Event, LineFault>
     if name == b"look".as_slice() {
         Ok(Event::Look)
     } else {
-        Err(LineFault::BadLine)
+        Err(UNKNOWN_EVENT)
     }
 }
 
 fn single_event(name: &[u8], caller: &[u8], on: &[u8]) -> Result<Event, LineFault>
     ensures { result ≡ event_of (name.now ∷ caller.now ∷ on.now ∷ []) }
 {
-    let kind = Single::named(name).ok_or(LineFault::BadLine)?;
-    let caller = short_number(caller).ok_or(LineFault::BadNumber)?;
-    let on = short_number(on).ok_or(LineFault::BadNumber)?;
+    let kind = Single::named(name).ok_or(UNKNOWN_EVENT)?;
+    let caller = short_number(caller).ok_or(LineFault::BadNumber(2))?;
+    let on = short_number(on).ok_or(LineFault::BadNumber(3))?;
     Ok(kind.event(caller, on))
 }
 
 fn masked_event(name: &[u8], caller: &[u8], word: &[u8], mask: &[u8]) -> Result<Event, LineFault>
     ensures { result ≡ event_of (name.now ∷ caller.now ∷ word.now ∷ mask.now ∷ []) }
 {
-    let kind = Masked::named(name).ok_or(LineFault::BadLine)?;
-    let caller = short_number(caller).ok_or(LineFault::BadNumber)?;
-    let word = short_number(word).ok_or(LineFault::BadNumber)?;
-    let mask = number(mask).ok_or(LineFault::BadNumber)?;
+    let kind = Masked::named(name).ok_or(UNKNOWN_EVENT)?;
+    let caller = short_number(caller).ok_or(LineFault::BadNumber(2))?;
+    let word = short_number(word).ok_or(LineFault::BadNumber(3))?;
+    let mask = number(mask).ok_or(LineFault::BadNumber(4))?;
     Ok(kind.event(caller, word, mask))
 }

@@ -8,13 +8,15 @@ mod lines;
 mod numbers;
 mod order;
 mod order_list;
+mod refusal;
 mod tag_list;
 
 pub use dialect::Dialect;
 pub use event_list::events;
-pub use fault::{FaultyLine, LineFault, ListFault};
+pub use fault::{FaultyLine, LineFault, ListFault, Misfit};
 pub use lines::{BLANK, LINE_FEED, MAX_INPUT, cut, has_gap};
 pub use numbers::{number, short_number};
 pub use order::{Command, Order, read_order};
 pub use order_list::orders;
+pub use refusal::{Place, Refusal};
 pub use tag_list::{TagList, read_tags};

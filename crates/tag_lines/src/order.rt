@@ -5,11 +5,14 @@ ghost use Rattle.tag_lines.specs.ScriptLines.{order_of, lone_of, numbered_of, wo
 ghost use Rattle.tag_lines.specs.ScriptLines.{lone_line, word_line, numbered_line, listed_line, ordered};
 
 use crate::dialect::Dialect;
-use crate::fault::LineFault;
+use crate::fault::{LineFault, Misfit};
 use crate::lines::{BLANK, cut, has_gap};
 use crate::numbers::short_number;
 use crate::tag_list::{TagList, read_tags};
 use std::alloc::{AllocError, Global};
+
+/// The second word is no command's name, or not with as many words behind it.
+const UNKNOWN_COMMAND: LineFault = LineFault::BadLine(Misfit::UnknownCommand(2));
 
 /// What a caller asks for.
 #[derive(Debug, Drop)]
@@ -165,12 +168,12 @@ pub fn read_order(
     ensures { IfOk result (λ said. said ≡ order_of dialect callers (line_words line.now)) }
 {
     if has_gap(line) {
-        return Ok(Err(LineFault::BadLine));
+        return Ok(Err(LineFault::BadLine(Misfit::EmptyWord)));
     }
     let (caller, rest) = cut(line, BLANK);
     let rest = match rest {
         Some(rest) => rest,
-        None => return Ok(Err(LineFault::BadLine)),
+        None => return Ok(Err(LineFault::BadLine(Misfit::WordCount))),
     };
     let (name, rest) = cut(rest, BLANK);
     let words = match rest {
@@ -183,7 +186,7 @@ pub fn read_order(
     }
     let (word, more) = cut(words, BLANK);
     match more {
-        Some(_) => Ok(Err(LineFault::BadLine)),
+        Some(_) => Ok(Err(UNKNOWN_COMMAND)),
         None => Ok(word_order(dialect, callers, caller, name, word)),
     }
 }
@@ -191,8 +194,8 @@ pub fn read_order(
 fn lone_order(callers: u32, caller: &[u8], command: Option<Command>) -> Result<Order, LineFault>
     ensures { result ≡ lone_line callers command (number_below (2 ^ 32) caller.now) }
 {
-    let command = command.ok_or(LineFault::BadLine)?;
-    let caller = short_number(caller).ok_or(LineFault::BadNumber)?;
+    let command = command.ok_or(UNKNOWN_COMMAND)?;
+    let caller = short_number(caller).ok_or(LineFault::BadNumber(1))?;
     ordered(callers, caller, command)
 }
 
@@ -220,17 +223,17 @@ fn numbered_order(
 ) -> Result<Order, LineFault>
     ensures { result ≡ numbered_line callers kind (number_below (2 ^ 32) caller.now) (number_below (2 ^ 32) number.now) }
 {
-    let kind = kind.ok_or(LineFault::BadLine)?;
-    let caller = short_number(caller).ok_or(LineFault::BadNumber)?;
-    let number = short_number(number).ok_or(LineFault::BadNumber)?;
+    let kind = kind.ok_or(UNKNOWN_COMMAND)?;
+    let caller = short_number(caller).ok_or(LineFault::BadNumber(1))?;
+    let number = short_number(number).ok_or(LineFault::BadNumber(3))?;
     ordered(callers, caller, kind.command(number))
 }
 
-fn listed_order(callers: u32, caller: &[u8], tags: Option<TagList>) -> Result<Order, LineFault>
+fn listed_order(callers: u32, caller: &[u8], tags: Result<TagList, u64>) -> Result<Order, LineFault>
     ensures { result ≡ listed_line callers (number_below (2 ^ 32) caller.now) tags }
 {
-    let caller = short_number(caller).ok_or(LineFault::BadNumber)?;
-    let tags = tags.ok_or(LineFault::BadNumber)?;
+    let caller = short_number(caller).ok_or(LineFault::BadNumber(1))?;
+    let tags = tags.map_err(LineFault::BadNumber)?;
     ordered(callers, caller, Command::ClearBatch(tags))
 }
 

@@ -28,9 +28,13 @@ impl TagList {
     }
 }
 
-/// Parses numbers separated by single blanks, if each fits in 32 bits.
-pub fn read_tags(alloc: Global, words: &[u8]) -> Result<Option<TagList>, AllocError>
-    ensures { IfOk result (λ tags. tags ≡ numbers_below (2 ^ 32) (parts_of words.now)) }
+/// The number of a list's first word in its line.
+const FIRST: u64 = 3;
+
+/// Parses the numbers of a list, separated by single blanks, if each fits in 32 bits. Otherwise the error is the number
+/// that the first word that does not has in its line.
+pub fn read_tags(alloc: Global, words: &[u8]) -> Result<Result<TagList, u64>, AllocError>
+    ensures { IfOk result (λ tags. tags ≡ numbers_below (2 ^ 32) FIRST (parts_of words.now)) }
 {
     let mut tags = Vec::new(alloc);
     let mut rest = words;
@@ -38,11 +42,11 @@ pub fn read_tags(alloc: Global, words: &[u8]) -> Result<Option<TagList>, AllocEr
         let (word, after) = cut(rest, BLANK);
         match short_number(word) {
             Some(tag) => tags.push(tag)?,
-            None => return Ok(None),
+            None => return Ok(Err(FIRST + tags.len() as u64)),
         }
         rest = match after {
             Some(after) => after,
-            None => return Ok(Some(TagList(Box::new(alloc, tags)?))),
+            None => return Ok(Ok(TagList(Box::new(alloc, tags)?))),
         };
     }
 }

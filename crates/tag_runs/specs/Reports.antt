@@ -1,23 +1,28 @@
 -- The output for a log: the line of its first fault, or the text of an outcome that a play of it may have.
-use Rattle.std.specs.Prelude.{◌≡◌, ◌≢◌, ◌↔◌, ℕ, Bool, ◌==◌, List, ◌++◌, length, count_by, Result, Ok, Err, IfOk, IfErr, codes}
+use Rattle.std.specs.Prelude.{◌≡◌, ◌≢◌, ◌↔◌, ℕ, Bool, true, false, ◌==◌, List, ◌++◌, length, count_by, Result, Ok, Err, IfOk, IfErr, codes}
 use Rattle.loop_device.specs.declared.fault.LogCause.TheVariants as causes
 use Rattle.loop_device.specs.declared.fault.LogFault.{LogFault}
 use Rattle.loop_device.specs.declared.fault.PlayFault.{PlayFault}
 use Rattle.loop_device.specs.declared.fault.PlayFault.TheVariants.{Memory, Setup, Lost, Twice, Spurious}
-use Rattle.loop_device.specs.declared.io.Done.{Done}
+use Rattle.loop_device.specs.declared.io.Done.{Done as DoneLine}
 use Rattle.loop_device.specs.declared.io.Io.{Io}
 use Rattle.loop_device.specs.declared.io.IoKind.{IoKind}
 use Rattle.loop_device.specs.declared.io.IoKind.TheVariants.{Read, Write, Trim, Sync, Datasync}
 use Rattle.loop_device.specs.declared.io.Log.{Log}
 use Rattle.loop_device.specs.declared.report.Report.{Report}
 use Rattle.loop_device.specs.declared.setup.Setup.{Setup as SetupAsked}
-use Rattle.loop_device.specs.LogFaults.{number_of_cause}
+use Rattle.loop_device.specs.LogFaults.{number_of_cause, place_of_fault}
 use Rattle.loop_device.specs.Logs.{IsLogOf, IsLogFault}
+use Rattle.loop_device.specs.TimedLogs.{IsTimedLogOf, IsTimedLogFault}
 use Rattle.loop_device.specs.Playing.{IsPlayed, NamesLine}
 use Rattle.loop_device.specs.Setups.{IsLegal}
+use Rattle.tag_lines.specs.declared.refusal.Place.{Place}
+use Rattle.tag_lines.specs.declared.refusal.Place.TheVariants.{Whole, Line}
 use Rattle.tag_model.specs.declared.totals.Totals.{Totals}
 use Rattle.tag_script.specs.declared.ending.Ending.{Ending}
-use Rattle.tag_script.specs.declared.ending.Ending.TheVariants as endings
+use Rattle.tag_script.specs.declared.ending.Ending.TheVariants.{Done}
+use Rattle.tag_script.specs.Refusals.{IsRefusedAt}
+use Rattle.tag_runs.specs.declared.options.PlayOptions.{PlayOptions}
 use Rattle.tag_sets.specs.Texts.{field}
 
 -- the index of a kind in a report
@@ -33,7 +38,7 @@ abbrev pub is_kind : IoKind → IoKind → Bool
 is_kind wanted kind = number_of_kind wanted == number_of_kind kind
 
 -- the number of items that carry out a line of this kind
-abbrev pub count_of : IoKind → List Done → ℕ
+abbrev pub count_of : IoKind → List DoneLine → ℕ
 count_of kind done = count_by (λ d. is_kind kind d.io.kind) done
 
 -- a line of some words and a number
@@ -41,7 +46,7 @@ abbrev pub line_of : List ℕ → ℕ → List ℕ
 line_of words number = field words number ++ codes "\n"
 
 -- the lines that count the five kinds
-abbrev pub kinds_lines : List Done → List ℕ
+abbrev pub kinds_lines : List DoneLine → List ℕ
 kinds_lines done =
     line_of (codes "reads=") (count_of Read done) ++ line_of (codes "writes=") (count_of Write done)
     ++ line_of (codes "trims=") (count_of Trim done) ++ line_of (codes "syncs=") (count_of Sync done)
@@ -84,15 +89,34 @@ abbrev pub outcome_text : Log → Result Report PlayFault → List ℕ
 outcome_text log (Ok report) = report_text log report
 outcome_text log (Err fault) = play_fault_text fault
 
--- a report is done, and any fault is a refusal
-abbrev pub ending_of : Result Report PlayFault → Ending
-ending_of (Ok report) = endings.Done
-ending_of (Err fault) = endings.Refused
+-- the line of the log that a play's fault is about, if there is one
+abbrev pub place_of_play : PlayFault → Place
+place_of_play Memory = Whole
+place_of_play Setup = Whole
+place_of_play (Lost line) = Line line
+place_of_play (Twice line) = Line line
+place_of_play Spurious = Whole
 
--- the output for an input, and whether it is a refusal: the line of its first fault, otherwise the outcome of a play
-pub data Reports (setup : SetupAsked) (input : List ℕ) : List ℕ → Ending → Type 0 where
-  faulty : (fault : LogFault) → IsLogFault input fault → fault.cause ≢ causes.Memory
-      → Reports setup input (log_fault_text fault) endings.Refused
-  played : (log : Log) (outcome : Result Report PlayFault) → IsLogOf input log
-      → MayComeTo setup log.ios.items outcome
-      → Reports setup input (outcome_text log outcome) (ending_of outcome)
+-- a report is done, and any fault is a refusal for what is wrong
+abbrev pub EndsIn : Result Report PlayFault → Ending → Type 0
+EndsIn (Ok report) ending = ending ≡ Done
+EndsIn (Err fault) ending = IsRefusedAt (place_of_play fault) ending
+
+-- the log that a text describes, with times or without
+abbrev pub IsRead : Bool → List ℕ → Log → Type 0
+IsRead true = IsTimedLogOf
+IsRead false = IsLogOf
+
+-- why a text is no log, with times or without
+abbrev pub IsUnread : Bool → List ℕ → LogFault → Type 0
+IsUnread true = IsTimedLogFault
+IsUnread false = IsLogFault
+
+-- the output for an input, and how it ends: the line of its first fault, with a refusal for its wrong word, otherwise the
+-- outcome of a play
+pub data Reports (o : PlayOptions) (input : List ℕ) : List ℕ → Ending → Type 0 where
+  faulty : (fault : LogFault) (ending : Ending) → IsUnread o.with_times input fault → fault.cause ≢ causes.Memory
+      → IsRefusedAt (place_of_fault o.with_times fault) ending → Reports o input (log_fault_text fault) ending
+  played : (log : Log) (outcome : Result Report PlayFault) (ending : Ending) → IsRead o.with_times input log
+      → MayComeTo o.setup log.ios.items outcome → EndsIn outcome ending
+      → Reports o input (outcome_text log outcome) ending

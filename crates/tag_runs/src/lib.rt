@@ -4,10 +4,12 @@
 mod fault;
 mod input;
 mod log_answer;
+mod options;
 mod report;
 mod run;
 mod source;
 
 pub use fault::RunFault;
+pub use options::PlayOptions;
 pub use run::{run_check, run_play, run_script};
 pub use source::{Source, Watched};

@@ -9,8 +9,8 @@ ghost use Rattle.tag_runs.specs.Runs.{HasOutput, WritesOutput};
 use crate::fault::RunFault;
 use crate::input::read_whole;
 use crate::log_answer::answer_log;
+use crate::options::PlayOptions;
 use crate::source::Source;
-use loop_device::Setup;
 use std::alloc::Global;
 use std::io::Write;
 use std::sync::Wait;
@@ -77,19 +77,19 @@ pub fn run_check<R: Source, W: Write>(
 pub fn run_play<T: Threads + Wait + Sync, R: Source, W: Write>(
     rt: &T,
     alloc: Global,
-    setup: &Setup,
+    options: &PlayOptions,
     reader: &mut R,
     writer: &mut W,
 ) -> Result<Ending, RunFault>
-    ensures written { IfOk result (WritesOutput (Reports setup.now) (R.remaining reader.old)
+    ensures written { IfOk result (WritesOutput (Reports options.now) (R.remaining reader.old)
         (W.contents writer.old) (W.contents writer.new)) }
     ensures untouched { IfErr result (λ fault. fault ≢ RunFault.Write → writer.new ≡ writer.old) }
     ensures stopped { IfErr result (λ fault. StopsReading fault (R.remaining reader.old) (R.remaining reader.new)) }
     ensures failed { R.has_failed reader.new ≡ (is_read_fault result || R.has_failed reader.old) }
-    ensures answered { IsErrOf result RunFault.Write → HasOutput (Reports setup.now) (R.remaining reader.old) }
+    ensures answered { IsErrOf result RunFault.Write → HasOutput (Reports options.now) (R.remaining reader.old) }
 {
     let input = read_whole(alloc, reader)?;
-    let Ok((text, ending)) = answer_log(rt, alloc, setup, &input) else {
+    let Ok((text, ending)) = answer_log(rt, alloc, options, &input) else {
         return Err(RunFault::Memory);
     };
     match writer.write_all(&text) {

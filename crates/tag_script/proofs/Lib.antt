@@ -3,3 +3,4 @@ pub mod DumpFacts
 pub mod ClearingFacts
 pub mod CountFacts
 pub mod RunFacts
+pub mod CheckFacts

@@ -11,9 +11,13 @@ use Rattle.tag_script.specs.declared.options.CheckOptions.{CheckOptions}
 use Rattle.tag_sets.specs.declared.fault.SetFault.{SetFault}
 use Rattle.tag_sets.specs.declared.fault.SetFault.TheVariants as faults
 use Rattle.tag_script.specs.declared.ending.Ending.{Ending}
-use Rattle.tag_script.specs.declared.ending.Ending.TheVariants.{Done, Refused}
+use Rattle.tag_script.specs.declared.ending.Ending.TheVariants.{Done}
 use Rattle.tag_script.specs.declared.check.Verdict.{Verdict}
 use Rattle.tag_script.specs.declared.check.Verdict.TheVariants.{Faulty, Setup, Stopped, Legal}
+use Rattle.tag_lines.specs.declared.refusal.Place.TheVariants.{Whole, Word}
+use Rattle.tag_lines.specs.Faults.{place_of}
+use Rattle.tag_model.specs.declared.event.EventFault.{EventFault}
+use Rattle.tag_script.specs.Refusals.{IsRefusedAt, wrong_word}
 use Rattle.tag_script.specs.Faults.{number_of_event_fault}
 use Rattle.tag_lines.specs.Readings.{AreReadings, IsFirstFaulty}
 use Rattle.tag_lines.specs.EventList.{event_of}
@@ -36,12 +40,19 @@ IsSetupFault o faults.CallerCount = (l : Layout) × IsLayoutOf o.tags o.shift l
 IsSetupFault o faults.LifeTooLong = ⊥
 IsSetupFault o faults.CapTooLarge = ⊥
 
--- the verdict on a run of events; the event at index n - 1 is in line n
+-- the event at index n - 1, in line n, is the first that cannot happen, for this cause, and this word of it is wrong
+pub record IsStopped (l : Layout) (callers : ℕ) (w : World) (events : List Event) (line word : ℕ)
+    (fault : EventFault) : Type 0 where
+  pub index : ℕ
+  pub line_is : line ≡ index + 1
+  pub stops : StopsAt l callers w events index fault
+  pub word_is : word ≡ wrong_word l stops.event fault
+
+-- the verdict on a run of events
 abbrev pub IsRunVerdict : Layout → ℕ → World → List Event → Verdict → Type 0
 IsRunVerdict l callers w events (Faulty fault) = ⊥
 IsRunVerdict l callers w events (Setup fault) = ⊥
-IsRunVerdict l callers w events (Stopped line fault) =
-    (index : ℕ) × (line ≡ index + 1) × StopsAt l callers w events index fault
+IsRunVerdict l callers w events (Stopped line word fault) = IsStopped l callers w events line word fault
 IsRunVerdict l callers w events (Legal count totals) =
     (count ≡ length events) × MayRun l callers w events × AreTotals l callers (after_all l events w) totals
 
@@ -58,27 +69,27 @@ pub record RunsEvents (o : CheckOptions) (text : List ℕ) (verdict : Verdict) :
 abbrev pub IsVerdict : CheckOptions → List ℕ → Verdict → Type 0
 IsVerdict o text (Faulty fault) = IsFirstFaulty event_of text fault
 IsVerdict o text (Setup fault) = (events : List Event) × AreReadings event_of text events × IsSetupFault o fault
-IsVerdict o text (Stopped line fault) = RunsEvents o text (Stopped line fault)
+IsVerdict o text (Stopped line word fault) = RunsEvents o text (Stopped line word fault)
 IsVerdict o text (Legal count totals) = RunsEvents o text (Legal count totals)
 
 -- the line that reports a verdict
 abbrev pub verdict_text : Verdict → List ℕ
 verdict_text (Faulty fault) = faulty_text fault
 verdict_text (Setup fault) = setup_text fault
-verdict_text (Stopped line fault) =
+verdict_text (Stopped line word fault) =
     field (codes "event ") line ++ field (codes " refused ") (number_of_event_fault fault) ++ codes "\n"
 verdict_text (Legal count totals) = field (codes "ok events=") count ++ totals_text totals ++ codes "\n"
 
--- a legal list is done, and any other is refused
-abbrev pub ending_of : Verdict → Ending
-ending_of (Faulty fault) = Refused
-ending_of (Setup fault) = Refused
-ending_of (Stopped line fault) = Refused
-ending_of (Legal count totals) = Done
+-- a legal list is done, and any other is refused for what is wrong
+abbrev pub EndsIn : Verdict → Ending → Type 0
+EndsIn (Faulty fault) ending = IsRefusedAt (place_of fault) ending
+EndsIn (Setup fault) ending = IsRefusedAt Whole ending
+EndsIn (Stopped line word fault) ending = IsRefusedAt (Word line word) ending
+EndsIn (Legal count totals) ending = ending ≡ Done
 
--- the output for a list, and whether it is a refusal, by its verdict
+-- the output for a list, and how it ends, by its verdict
 pub record TellsVerdict (o : CheckOptions) (list text : List ℕ) (ending : Ending) : Type 0 where
   pub verdict : Verdict
   pub verdict_is : IsVerdict o list verdict
   pub text_is : text ≡ verdict_text verdict
-  pub ending_is : ending ≡ ending_of verdict
+  pub ending_is : EndsIn verdict ending

@@ -13,6 +13,7 @@ pub mod PlainScript
 pub mod SharedCommands
 pub mod SharedScript
 pub mod Script
+pub mod Refusals
 pub use Rattle.tag_lines.specs.Lines
 pub use Rattle.tag_lines.specs.Readings
 pub use Rattle.tag_lines.specs.EventList

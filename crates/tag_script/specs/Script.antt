@@ -4,13 +4,16 @@ use Rattle.tag_lines.specs.declared.dialect.Dialect.{Dialect}
 use Rattle.tag_lines.specs.declared.dialect.Dialect.TheVariants.{Plain, Shared}
 use Rattle.tag_lines.specs.declared.fault.FaultyLine.{FaultyLine}
 use Rattle.tag_lines.specs.declared.order.Order.{Order}
+use Rattle.tag_lines.specs.declared.refusal.Place.TheVariants.{Whole}
+use Rattle.tag_lines.specs.Faults.{place_of}
 use Rattle.tag_lines.specs.Readings.{AreReadings, IsFirstFaulty}
 use Rattle.tag_lines.specs.ScriptLines.{order_of}
 use Rattle.tag_sets.specs.declared.fault.SetFault.{SetFault}
 use Rattle.tag_script.specs.declared.ending.Ending.{Ending}
-use Rattle.tag_script.specs.declared.ending.Ending.TheVariants.{Done, Refused}
+use Rattle.tag_script.specs.declared.ending.Ending.TheVariants.{Done}
 use Rattle.tag_script.specs.declared.options.ScriptOptions.{ScriptOptions}
 use Rattle.tag_script.specs.PlainScript.{IsRefusedAlone, IsToldAlone}
+use Rattle.tag_script.specs.Refusals.{IsRefusedAt}
 use Rattle.tag_script.specs.SharedScript.{IsRefusedShared, IsToldShared}
 use Rattle.tag_script.specs.Texts.{faulty_text, setup_text}
 
@@ -29,13 +32,14 @@ abbrev pub IsTold : Bool → ScriptOptions → List Order → List ℕ → Type 
 IsTold true = IsToldAlone
 IsTold false = IsToldShared
 
--- the output of a script, and whether it is a refusal: the line of its first malformed line, else that of a refused
--- setup, else the output of its orders
+-- the output of a script, and how it ends: the line of its first malformed line, with a refusal for its wrong word, else
+-- that of a refused setup, else the output of its orders
 pub data Owed (o : ScriptOptions) (script : List ℕ) : List ℕ → Ending → Type 0 where
-  faulty : (fault : FaultyLine) → IsFirstFaulty (order_of (dialect_of o.plain) o.callers) script fault
-      → Owed o script (faulty_text fault) Refused
-  refused : (orders : List Order) (fault : SetFault)
+  faulty : (fault : FaultyLine) (ending : Ending)
+      → IsFirstFaulty (order_of (dialect_of o.plain) o.callers) script fault
+      → IsRefusedAt (place_of fault) ending → Owed o script (faulty_text fault) ending
+  refused : (orders : List Order) (fault : SetFault) (ending : Ending)
       → AreReadings (order_of (dialect_of o.plain) o.callers) script orders
-      → IsRefusedSetup o.plain o fault → Owed o script (setup_text fault) Refused
+      → IsRefusedSetup o.plain o fault → IsRefusedAt Whole ending → Owed o script (setup_text fault) ending
   answered : (orders : List Order) (text : List ℕ) → AreReadings (order_of (dialect_of o.plain) o.callers) script orders
       → IsTold o.plain o orders text → Owed o script text Done

@@ -3,19 +3,23 @@ ghost use Rattle.std.specs.Prelude.{◌≡◌, ◌++◌, IfOk, IfErr, OnOk};
 ghost use Rattle.tag_script.specs.Faults.{number_of_event_fault};
 ghost use Rattle.tag_script.specs.Setups.{IsOpenFault, IsLayoutOf};
 ghost use Rattle.tag_script.specs.Check.{HasCallers, IsRunVerdict, IsSetupFault, IsVerdict};
-ghost use Rattle.tag_script.specs.Check.{verdict_text, ending_of};
+ghost use Rattle.tag_script.specs.Check.{verdict_text, EndsIn};
 ghost use Rattle.tag_model.specs.Kept.{callers_of, world_of};
 ghost use Rattle.tag_model.specs.World.{opened};
 
 use crate::ending::Ending;
 use crate::fault::OpenFault;
 use crate::options::CheckOptions;
+use crate::refusals::{event_words, setup_refusal, wrong_word};
 use crate::text::{end_line, push_faulty, push_field, push_setup, push_totals};
 use std::alloc::{AllocError, Global};
 use tag_layout::{Layout, LayoutFault};
-use tag_lines::{FaultyLine, ListFault, events};
+use tag_lines::{FaultyLine, ListFault, Place, Refusal, events};
 use tag_model::{Event, EventFault, ModelFault, Totals, World};
 use tag_sets::SetFault;
+
+/// What is said of a word by which no event goes.
+const UNKNOWN_EVENT: &str = "no such event with this many words";
 
 /// The verdict on a list of events.
 #[derive(Clone, Copy, Debug, PartialEq, Eq)]
@@ -24,8 +28,9 @@ pub enum Verdict {
     Faulty(FaultyLine),
     /// The options describe no world. Every line is an event.
     Setup(SetFault),
-    /// The line of the first event that cannot happen, counted from 1, and the reason.
-    Stopped(u64, EventFault),
+    /// The line of the first event that cannot happen, and the word of it that is wrong, both counted from 1, and the
+    /// reason.
+    Stopped(u64, u64, EventFault),
     /// Every event can happen: the number of events, and the totals after them.
     Legal(u64, Totals),
 }
@@ -41,17 +46,18 @@ pub fn verdict_on(alloc: Global, options: &CheckOptions, text: &[u8]) -> Result<
         Err(ListFault::Faulty(fault)) => return Ok(Verdict::Faulty(fault)),
     };
     match open(alloc, options) {
-        Ok(mut world) => Ok(run(&mut world, &events)),
+        Ok((layout, mut world)) => Ok(run(layout, &mut world, &events)),
         Err(OpenFault::Memory) => Err(AllocError),
         Err(OpenFault::Setup(fault)) => Ok(Verdict::Setup(fault)),
     }
 }
 
 /// Opens the world that the options describe, with all tags free.
-fn open(alloc: Global, options: &CheckOptions) -> Result<World, OpenFault>
-    ensures layout { IfOk result (λ world. IsLayoutOf options.now.tags options.now.shift world.layout) }
-    ensures callers { IfOk result (λ world. HasCallers options.now × (callers_of world ≡ options.now.callers)) }
-    ensures all_free { IfOk result (λ world. world_of world ≡ opened) }
+fn open(alloc: Global, options: &CheckOptions) -> Result<(Layout, World), OpenFault>
+    ensures layout { IfOk result (λ (layout, world). IsLayoutOf options.now.tags options.now.shift layout) }
+    ensures its_layout { IfOk result (λ (layout, world). world.layout ≡ layout) }
+    ensures callers { IfOk result (λ (layout, world). HasCallers options.now × (callers_of world ≡ options.now.callers)) }
+    ensures all_free { IfOk result (λ (layout, world). world_of world ≡ opened) }
     ensures fault { IfErr result (IsOpenFault (IsSetupFault options.now)) }
 {
     let layout = match Layout::new(options.tags, options.shift) {
@@ -60,19 +66,23 @@ fn open(alloc: Global, options: &CheckOptions) -> Result<World, OpenFault>
         Err(LayoutFault::ShiftTooLarge) => return Err(OpenFault::Setup(SetFault::ShiftTooLarge)),
     };
     match World::open(alloc, layout, options.callers) {
-        Ok(world) => Ok(world),
+        Ok(world) => Ok((layout, world)),
         Err(ModelFault::Memory) => Err(OpenFault::Memory),
         Err(ModelFault::CallerCount) => Err(OpenFault::Setup(SetFault::CallerCount)),
     }
 }
 
 /// Runs the events one after another. The event at index `n - 1` is in line `n`.
-fn run(world: &mut World, events: &[Event]) -> Verdict
-    ensures { IsRunVerdict world.old.layout (callers_of world.old) (world_of world.old) events.now result }
+fn run(layout: Layout, world: &mut World, events: &[Event]) -> Verdict
+    requires { world.old.layout ≡ layout }
+    ensures { IsRunVerdict layout (callers_of world.old) (world_of world.old) events.now result }
 {
     match world.run(events) {
         Ok(totals) => Verdict::Legal(events.len() as u64, totals),
-        Err((index, fault)) => Verdict::Stopped(index as u64 + 1, fault),
+        Err((index, fault)) => {
+            let word = wrong_word(layout, events[index], fault);
+            Verdict::Stopped(index as u64 + 1, word, fault)
+        }
     }
 }
 
@@ -92,7 +102,7 @@ impl Verdict {
         match *self {
             Verdict::Faulty(fault) => push_faulty(text, fault),
             Verdict::Setup(fault) => push_setup(text, fault),
-            Verdict::Stopped(line, fault) => {
+            Verdict::Stopped(line, _, fault) => {
                 push_field(text, b"event ", line)?;
                 push_field(text, b" refused ", number_of(fault))?;
                 end_line(text)
@@ -105,13 +115,18 @@ impl Verdict {
         }
     }
 
-    /// Returns `Done` if the list is legal, otherwise `Refused`.
+    /// Returns `Done` if the list is legal, otherwise `Refused` with what is wrong.
     pub fn ending(&self) -> Ending
-        ensures { result ≡ ending_of self.now }
+        ensures { EndsIn self.now result }
     {
-        match self {
+        match *self {
+            Verdict::Faulty(fault) => Ending::Refused(fault.refusal(UNKNOWN_EVENT)),
+            Verdict::Setup(fault) => Ending::Refused(setup_refusal(fault)),
+            Verdict::Stopped(line, word, fault) => Ending::Refused(Refusal {
+                place: Place::Word(line, word),
+                what: event_words(fault),
+            }),
             Verdict::Legal(_, _) => Ending::Done,
-            _ => Ending::Refused,
         }
     }
 }

@@ -9,10 +9,14 @@ use crate::fault::OpenFault;
 use crate::options::ScriptOptions;
 use crate::plain::run_alone;
 use crate::shared::run_shared;
+use crate::refusals::setup_refusal;
 use crate::text::{faulty_text, setup_text};
 use std::alloc::{AllocError, Global};
 use std::sync::Wait;
 use tag_lines::{ListFault, MAX_INPUT, Order, orders};
+
+/// What is said of a word by which no command goes.
+const UNKNOWN_COMMAND: &str = "no such command with this many words, or not under --plain";
 
 /// Returns the output of a script, and whether it is a refusal. All lines are read before the world is opened, and that
 /// before any command: the output reports the first malformed line, or else a refused setup, or else has the answers of
@@ -29,12 +33,18 @@ pub fn answer_script<W: Wait>(
     let orders = match orders(alloc, options.dialect(), options.callers, script) {
         Ok(orders) => orders,
         Err(ListFault::Memory) => return Err(AllocError),
-        Err(ListFault::Faulty(fault)) => return Ok((faulty_text(alloc, fault)?, Ending::Refused)),
+        Err(ListFault::Faulty(fault)) => {
+            let text = faulty_text(alloc, fault)?;
+            return Ok((text, Ending::Refused(fault.refusal(UNKNOWN_COMMAND))));
+        }
     };
     match carry_out(rt, alloc, options, &orders) {
         Ok(text) => Ok((text, Ending::Done)),
         Err(OpenFault::Memory) => Err(AllocError),
-        Err(OpenFault::Setup(fault)) => Ok((setup_text(alloc, fault)?, Ending::Refused)),
+        Err(OpenFault::Setup(fault)) => {
+            let text = setup_text(alloc, fault)?;
+            Ok((text, Ending::Refused(setup_refusal(fault))))
+        }
     }
 }
 

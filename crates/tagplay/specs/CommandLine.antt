@@ -48,7 +48,7 @@ abbrev pub play : Shape
 play = record (new_shape (codes "play")) {
   rules = required (codes "tags") ∷ defaulted (codes "reserved") (codes "0") ∷ number (codes "shift")
       ∷ defaulted (codes "submitters") (codes "1") ∷ defaulted (codes "completers") (codes "1")
-      ∷ defaulted (codes "queue") (codes "64") ∷ [];
+      ∷ defaulted (codes "queue") (codes "64") ∷ flag (codes "with-times") ∷ [];
 }
 
 -- the program: one of its subcommands is required, and it has a version

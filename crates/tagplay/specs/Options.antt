@@ -3,6 +3,7 @@ use Rattle.std.specs.Prelude.{◌≡◌, ℕ, ◌<◌, ◌^◌, Bool, true, fals
 use Rattle.std.specs.Str.Parse.{IsNumeral, digits_value, without_leading_plus}
 use Rattle.clap.specs.Words.{Row, Text, one_of}
 use Rattle.loop_device.specs.declared.setup.Setup.{Setup}
+use Rattle.tag_runs.specs.declared.options.PlayOptions.{PlayOptions}
 use Rattle.tag_script.specs.declared.options.CheckOptions.{CheckOptions}
 use Rattle.tag_script.specs.declared.options.ScriptOptions.{ScriptOptions}
 
@@ -45,11 +46,16 @@ pub record AreCheckOptions (rows : List Row) (o : CheckOptions) : Type 0 where
   pub shift : IsOptional 32 rows (codes "shift") o.shift
   pub callers : IsNumber 32 rows (codes "callers") 1 o.callers
 
--- the options of `play`
-pub record ArePlayOptions (rows : List Row) (o : Setup) : Type 0 where
+-- the numbers of `play`
+pub record IsSetup (rows : List Row) (o : Setup) : Type 0 where
   pub tags : IsNumber 32 rows (codes "tags") 0 o.total
   pub reserved : IsNumber 32 rows (codes "reserved") 0 o.reserved
   pub shift : IsOptional 32 rows (codes "shift") o.shift
   pub submitters : IsNumber 32 rows (codes "submitters") 1 o.submitters
   pub completers : IsNumber 32 rows (codes "completers") 1 o.completers
   pub queue : IsNumber 32 rows (codes "queue") 64 o.queue
+
+-- the options of `play`
+pub record ArePlayOptions (rows : List Row) (o : PlayOptions) : Type 0 where
+  pub setup : IsSetup rows o.setup
+  pub with_times : IsFlag rows (codes "with-times") o.with_times

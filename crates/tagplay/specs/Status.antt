@@ -47,6 +47,6 @@ is_read_stop (Err (Run fault)) = is_read fault
 -- 0 done, 1 refused, the status of the command line, or 3 for any fault of a run
 abbrev pub status_of : Result Ending Stop → ℕ
 status_of (Ok Done) = 0
-status_of (Ok Refused) = 1
+status_of (Ok (Refused refusal)) = 1
 status_of (Err (CommandLine status)) = status
 status_of (Err (Run fault)) = 3

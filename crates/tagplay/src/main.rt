@@ -7,11 +7,10 @@ mod stop;
 mod subcommand;
 
 use command_line::{answer, words};
-pub use loop_device::Setup;
 use std::io;
 use std::process::ExitCode;
 use stop::end;
-pub use tag_runs::{RunFault, Watched, run_check, run_play, run_script};
+pub use tag_runs::{PlayOptions, RunFault, Watched, run_check, run_play, run_script};
 
 fn main(rt: HostRuntime) -> ExitCode {
     match words(&rt) {

@@ -3,11 +3,12 @@ ghost use Rattle.std.specs.Prelude.{◌≡◌, false, codes, IfOk};
 ghost use Rattle.clap.specs.Words.{app_of, found_of, rows_of, rule_of, shape_of};
 ghost use Rattle.clap.specs.declared.builder.command.Command.TheViews.{out-Command as fields_of};
 ghost use Rattle.tagplay.specs.CommandLine as line;
-ghost use Rattle.tagplay.specs.Options.{IsNumber, IsOptional, IsFlag, AreScriptOptions, AreCheckOptions, ArePlayOptions};
+ghost use Rattle.tagplay.specs.Options.{IsNumber, IsOptional, IsFlag, AreScriptOptions, AreCheckOptions, ArePlayOptions, IsSetup};
 
 use clap::{Arg, ArgAction, ArgMatches, Command, value_parser};
 use loop_device::Setup;
 use std::alloc::{AllocError, Global};
+use tag_runs::PlayOptions;
 use tag_script::{CheckOptions, ScriptOptions};
 
 /// Default for the most tags that a caller may win, 2^48.
@@ -96,11 +97,12 @@ fn play_command<'a>(alloc: Global) -> Result<Command<'a>, AllocError>
         .arg(count(alloc, "queue", "Q", "64").help(
             "Lines that wait for a completer at most, 1 to 10240; beyond that a submitter carries out its own line",
         ))?
+        .arg(with_times(alloc))?
         .after_help(
             "The log is of version 2: 'fio version 2 iolog', then lines NAME add, NAME open, NAME close, and NAME read, write,\n\
             trim, sync, datasync or wait with an offset and a length in bytes; it has 16 names at most.\n\
-            fio writes a log with --write_iolog. Since fio 3.31 it is of version 3, with a time before each line; to play it:\n\
-            sed 's/^fio version 3/fio version 2/; s/^[0-9]* //' LOG | tagplay play --tags 64\n\
+            fio writes a log with --write_iolog. Since fio 3.31 it is of version 3: 'fio version 3 iolog', then the same lines with\n\
+            a time before each. --with-times plays it: the times must never fall; they are read and not waited for.\n\
             At most N - R lines are under way at once, as with fio's iodepth. No order of lines is promised, and a wait is\n\
             counted but waits for nothing. The report counts the lines by kind, and the tags.\n\
             Exit status: 0 each line carried out once, 1 refused, 2 mistaken command line, 3 out of memory, input too long, or a\n\
@@ -136,9 +138,19 @@ pub(crate) fn check_options(matches: &ArgMatches) -> CheckOptions
     }
 }
 
-/// Returns the setup of a `play` command line.
-pub(crate) fn setup(matches: &ArgMatches) -> Setup
+/// Returns the options of a `play` command line.
+pub(crate) fn play_options(matches: &ArgMatches) -> PlayOptions
     ensures { ArePlayOptions (rows_of (found_of matches.now)) result }
+{
+    PlayOptions {
+        setup: setup(matches),
+        with_times: flag(matches, "with-times"),
+    }
+}
+
+/// Returns how a log is played.
+fn setup(matches: &ArgMatches) -> Setup
+    ensures { IsSetup (rows_of (found_of matches.now)) result }
 {
     Setup {
         total: number(matches, "tags", 0),
@@ -250,6 +262,16 @@ fn life<'a>(alloc: Global) -> Arg<'a>
         .help(
             "Most tags of each set that a caller may win, at most 2^48; without effect under --plain",
         )
+}
+
+fn with_times<'a>(alloc: Global) -> Arg<'a>
+    ensures rule { rule_of result ≡ line.flag (codes "with-times") }
+    ensures local { result.global ≡ false }
+{
+    Arg::new(alloc, "with-times")
+        .long("with-times")
+        .action(ArgAction::SetTrue)
+        .help("Plays a log of version 3, in which each line begins with a time in milliseconds")
 }
 
 fn plain<'a>(alloc: Global) -> Arg<'a>

@@ -22,18 +22,25 @@ pub(crate) fn status(outcome: &Result<Ending, Stop>) -> u8
 {
     match outcome {
         Ok(Ending::Done) => 0,
-        Ok(Ending::Refused) => 1,
+        Ok(Ending::Refused(_)) => 1,
         Err(Stop::CommandLine(status)) => *status,
         Err(Stop::Run(_)) => 3,
     }
 }
 
-/// Ends the program with the status of this outcome. Standard error says what went wrong in a run.
+/// Ends the program with the status of this outcome. Standard error says what is wrong with the input, or what went
+/// wrong in the run.
 pub(crate) fn end<P: Eprint>(rt: &P, outcome: &Result<Ending, Stop>) -> ExitCode
     ensures { exit_status result ≡ status_of outcome.now }
 {
-    if let Err(Stop::Run(fault)) = outcome {
-        let _ = eprintln!(rt; "{fault}");
+    match outcome {
+        Ok(Ending::Refused(refusal)) => {
+            let _ = eprintln!(rt; "{refusal}");
+        }
+        Err(Stop::Run(fault)) => {
+            let _ = eprintln!(rt; "{fault}");
+        }
+        Ok(Ending::Done) | Err(Stop::CommandLine(_)) => {}
     }
     ExitCode::from(status(outcome))
 }

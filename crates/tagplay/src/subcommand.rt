@@ -7,14 +7,13 @@ ghost use Rattle.tagplay.specs.Subcommands.{owed_by, IsChosen};
 ghost use Rattle.tagplay.specs.CommandLine.{EntersOne};
 ghost use Rattle.tagplay.specs.declared.subcommand.Subcommand.{Subcommand};
 
-use crate::options::{check_options, script_options, setup};
+use crate::options::{check_options, play_options, script_options};
 use clap::ArgMatches;
-use loop_device::Setup;
 use std::alloc::Global;
 use std::io::Write;
 use std::sync::Wait;
 use std::thread::Threads;
-use tag_runs::{RunFault, Source, run_check, run_play, run_script};
+use tag_runs::{PlayOptions, RunFault, Source, run_check, run_play, run_script};
 use tag_script::{CheckOptions, Ending, ScriptOptions};
 
 /// A subcommand with its options.
@@ -25,7 +24,7 @@ pub enum Subcommand {
     /// Check a list of events.
     Check(CheckOptions),
     /// Play a log.
-    Play(Setup),
+    Play(PlayOptions),
 }
 
 impl Subcommand {
@@ -40,7 +39,7 @@ impl Subcommand {
         } else if name == "check" {
             Some(Subcommand::Check(check_options(options)))
         } else if name == "play" {
-            Some(Subcommand::Play(setup(options)))
+            Some(Subcommand::Play(play_options(options)))
         } else {
             None
         }
@@ -64,7 +63,7 @@ impl Subcommand {
         match self {
             Subcommand::Script(options) => run_script(rt, alloc, options, reader, writer),
             Subcommand::Check(options) => run_check(alloc, options, reader, writer),
-            Subcommand::Play(setup) => run_play(rt, alloc, setup, reader, writer),
+            Subcommand::Play(options) => run_play(rt, alloc, options, reader, writer),
         }
     }
 }

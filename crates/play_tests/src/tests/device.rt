@@ -4,6 +4,7 @@ mod memory;
 mod overlap;
 mod plays;
 mod requests;
+mod times;
 
 use loop_device::{Done, Io, IoKind, Log, PlayFault, Store, verdict};
 use std::alloc::{AllocError, Global};

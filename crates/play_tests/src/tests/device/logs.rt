@@ -1,8 +1,9 @@
 //! I/O logs whose reading was worked out by hand.
 
-use loop_device::{Io, IoKind, Log, LogCause, LogFault};
+use loop_device::{Io, IoKind, Log, LogCause, LogFault, LogNumber};
 use std::alloc::{AllocError, Global};
 use std::test::Fail;
+use tag_lines::Misfit;
 
 const SMALL: &[u8] =
     b"fio version 2 iolog\n/dev/loop0 add\n/dev/loop0 open\n/dev/loop0 write 0 4096\n\
@@ -22,12 +23,26 @@ fn fault_of(alloc: Global, text: &[u8]) -> Option<LogFault> {
     }
 }
 
-/// A fault `BadLine` at this line.
-fn bad_line(line: u64) -> Option<LogFault> {
-    Some(LogFault {
-        line,
-        cause: LogCause::BadLine,
-    })
+/// The second word is no action with as many words.
+const UNKNOWN: LogCause = LogCause::BadLine(Misfit::UnknownCommand(2));
+
+const EMPTY: LogCause = LogCause::BadLine(Misfit::EmptyWord);
+
+const COUNT: LogCause = LogCause::BadLine(Misfit::WordCount);
+
+const OFFSET: LogCause = LogCause::BadNumber(LogNumber::Offset);
+
+const LENGTH: LogCause = LogCause::BadNumber(LogNumber::Length);
+
+/// The line where a fault `BadLine` is.
+fn bad_line_of(alloc: Global, text: &[u8]) -> Option<u64> {
+    match fault_of(alloc, text) {
+        Some(LogFault {
+            line,
+            cause: LogCause::BadLine(_),
+        }) => Some(line),
+        _ => None,
+    }
 }
 
 #[test]
@@ -81,35 +96,28 @@ fn names_and_waits(rt: HostRuntime) -> Result<(), Fail> {
 fn faulty_logs(rt: HostRuntime) -> Result<(), Fail> {
     for (lines, line, cause) in [
         (b"a read 0 512".as_slice(), 2, LogCause::UnknownName),
-        (b"a add\na read 0".as_slice(), 3, LogCause::BadLine),
-        (b"a add\na read 0 -1".as_slice(), 3, LogCause::BadNumber),
-        (
-            b"a add\na read 0 9223372036854775808".as_slice(),
-            3,
-            LogCause::BadNumber,
-        ),
+        (b"a add\na read 0".as_slice(), 3, COUNT),
+        (b"a add\na read 0 -1".as_slice(), 3, LENGTH),
+        (b"a add\na read 0 9223372036854775808".as_slice(), 3, LENGTH),
         (b"a open\n".as_slice(), 2, LogCause::UnknownName),
-        (b"a add\n\na add".as_slice(), 3, LogCause::BadLine),
-        (b"a add \n".as_slice(), 2, LogCause::BadLine),
-        (b"a shut\n".as_slice(), 2, LogCause::BadLine),
-        (b"a add 0 0\n".as_slice(), 2, LogCause::BadLine),
-        (b"a read x 0\n".as_slice(), 2, LogCause::BadNumber),
-        (b"a read 0 0 0".as_slice(), 2, LogCause::BadLine),
-        (b"\n".as_slice(), 2, LogCause::BadLine),
-        (b" add".as_slice(), 2, LogCause::BadLine),
-        (b"a add\r\n".as_slice(), 2, LogCause::BadLine),
-        (b"fio version 2 iolog".as_slice(), 2, LogCause::BadLine),
-        (b"a read 0 +1".as_slice(), 2, LogCause::BadNumber),
-        (
-            b"a wait 0 9223372036854775808".as_slice(),
-            2,
-            LogCause::BadNumber,
-        ),
+        (b"a add\n\na add".as_slice(), 3, EMPTY),
+        (b"a add \n".as_slice(), 2, EMPTY),
+        (b"a shut\n".as_slice(), 2, UNKNOWN),
+        (b"a add 0 0\n".as_slice(), 2, UNKNOWN),
+        (b"a read x 0\n".as_slice(), 2, OFFSET),
+        (b"a read 0 0 0".as_slice(), 2, COUNT),
+        (b"\n".as_slice(), 2, EMPTY),
+        (b" add".as_slice(), 2, EMPTY),
+        (b"a add\r\n".as_slice(), 2, UNKNOWN),
+        (b"fio version 2 iolog".as_slice(), 2, UNKNOWN),
+        (b"a read 0 +1".as_slice(), 2, LENGTH),
+        (b"a wait 0 9223372036854775808".as_slice(), 2, LENGTH),
         (b"ab add\na open".as_slice(), 3, LogCause::UnknownName),
         (b"a add\nab open".as_slice(), 3, LogCause::UnknownName),
+        (b"my file add".as_slice(), 2, COUNT),
     ] {
         let text = behind_header(rt.alloc(), lines)?;
-        assert_eq!(rt; fault_of(rt.alloc(), &text), Some(LogFault { line, cause }));
+        assert_eq!(rt; fault_of(rt.alloc(), &text), Some(LogFault { line, cause }), "at {lines:?}");
     }
     Ok(())
 }
@@ -123,13 +131,17 @@ fn headers(rt: HostRuntime) -> Result<(), Fail> {
     for text in [
         b"".as_slice(),
         b"\n".as_slice(),
-        b"fio version 3 iolog\n".as_slice(),
         b" fio version 2 iolog".as_slice(),
         b"fio version 2 iolog \n".as_slice(),
         b"fio version 2 iolog\r\n".as_slice(),
     ] {
         assert_eq!(rt; fault_of(rt.alloc(), text), missing);
     }
+    let other = Some(LogFault {
+        line: 1,
+        cause: LogCause::OtherVersion,
+    });
+    assert_eq!(rt; fault_of(rt.alloc(), b"fio version 3 iolog\n"), other);
     assert_eq!(rt; fault_of(rt.alloc(), b"fio version 2 iolog"), None);
     assert_eq!(rt; fault_of(rt.alloc(), b"fio version 2 iolog\n"), None);
     Ok(())
@@ -168,7 +180,7 @@ fn long_lines(rt: HostRuntime) -> Result<(), Fail> {
     assert_eq!(rt; log.ios.len(), 1);
     let line = vec![in rt.alloc(); b'n'; 16_777_216]?;
     let text = behind_header(rt.alloc(), &line)?;
-    assert_eq!(rt; fault_of(rt.alloc(), &text), bad_line(2));
+    assert_eq!(rt; bad_line_of(rt.alloc(), &text), Some(2));
     Ok(())
 }
 
@@ -181,7 +193,7 @@ fn random_bytes(rt: HostRuntime) -> Result<(), Fail> {
             .wrapping_mul(6_364_136_223_846_793_005)
             .wrapping_add(1);
         text.push((state >> 56) as u8)?;
-        assert_eq!(rt; fault_of(rt.alloc(), &text), bad_line(2));
+        assert_eq!(rt; bad_line_of(rt.alloc(), &text), Some(2));
     }
     Ok(())
 }
@@ -201,20 +213,18 @@ const WHOLE: [(usize, usize); 7] = [
 fn each_prefix_is_read_or_is_faulty_in_its_last_line(rt: HostRuntime) -> Result<(), Fail> {
     for end in 0..SMALL.len() {
         let lines = SMALL[..end].iter().filter(|byte| **byte == b'\n').count() as u64;
-        let owed = if WHOLE
+        let fault = fault_of(rt.alloc(), &SMALL[..end]);
+        if WHOLE
             .iter()
             .any(|(first, last)| *first <= end && end <= *last)
         {
-            None
+            assert_eq!(rt; fault, None);
         } else if lines == 0 {
-            Some(LogFault {
-                line: 1,
-                cause: LogCause::NoHeader,
-            })
+            assert_eq!(rt; fault.map(|fault| fault.cause), Some(LogCause::NoHeader));
         } else {
-            bad_line(lines.saturating_add(1))
-        };
-        assert_eq!(rt; fault_of(rt.alloc(), &SMALL[..end]), owed);
+            let last = lines.saturating_add(1);
+            assert_eq!(rt; bad_line_of(rt.alloc(), &SMALL[..end]), Some(last));
+        }
     }
     Ok(())
 }

@@ -3,7 +3,7 @@ use loop_device::Setup;
 use std::io;
 use std::io::{Read, Write};
 use std::test::*;
-use tag_runs::{RunFault, Watched, run_check, run_play, run_script};
+use tag_runs::{PlayOptions, RunFault, Watched, run_check, run_play, run_script};
 use tag_script::{CheckOptions, Ending, ScriptOptions};
 
 const FOUR: CheckOptions = CheckOptions {
@@ -28,13 +28,16 @@ const SHARED_FOUR: ScriptOptions = ScriptOptions {
     ..PLAIN_FOUR
 };
 
-const PLAYED_FOUR: Setup = Setup {
-    total: 4,
-    reserved: 0,
-    shift: None,
-    submitters: 1,
-    completers: 1,
-    queue: 1,
+const PLAYED_FOUR: PlayOptions = PlayOptions {
+    setup: Setup {
+        total: 4,
+        reserved: 0,
+        shift: None,
+        submitters: 1,
+        completers: 1,
+        queue: 1,
+    },
+    with_times: false,
 };
 
 /// A reader that gives one byte per call, and an error at the call with this number, counted from 0.
@@ -183,7 +186,7 @@ fn an_input_of_16_mib_is_read_and_one_byte_more_is_too_long(rt: HostRuntime) {
     assert_eq!(rt; outcome, Err(RunFault::TooLong));
     assert!(rt; written.is_empty());
     let outcome = run_check(rt.alloc(), &FOUR, &mut sevens(MOST), &mut written);
-    assert_eq!(rt; outcome, Ok(Ending::Refused));
+    assert!(rt; matches!(outcome, Ok(Ending::Refused(_))));
     assert_eq!(rt; written.as_slice(), b"line 1 refused 1\n".as_slice());
 }
 
@@ -196,7 +199,7 @@ fn a_script_of_16_mib_is_read_and_one_byte_more_is_too_long(rt: HostRuntime) {
         assert_eq!(rt; outcome, Err(RunFault::TooLong));
         assert!(rt; written.is_empty());
         let outcome = run_script(&rt, rt.alloc(), &options, &mut sevens(MOST), &mut written);
-        assert_eq!(rt; outcome, Ok(Ending::Refused));
+        assert!(rt; matches!(outcome, Ok(Ending::Refused(_))));
         assert_eq!(rt; written.as_slice(), b"line 1 refused 1\n".as_slice());
     }
 }
@@ -220,7 +223,7 @@ fn a_log_of_16_mib_is_read_and_one_byte_more_is_too_long(rt: HostRuntime) {
         &mut sevens(MOST),
         &mut written,
     );
-    assert_eq!(rt; outcome, Ok(Ending::Refused));
+    assert!(rt; matches!(outcome, Ok(Ending::Refused(_))));
     assert_eq!(rt; written.as_slice(), b"line 1 refused 1\n".as_slice());
 }
 

@@ -4,7 +4,7 @@ use std::process::Abort;
 use std::sync::Wait;
 use std::test::*;
 use std::thread::Threads;
-use tag_runs::run_play;
+use tag_runs::{PlayOptions, run_play};
 use tag_script::Ending;
 
 const FOUR: Setup = Setup {
@@ -26,19 +26,27 @@ const SMALL_REPORT: &str = "names=1\nreads=1\nwrites=2\ntrims=0\nsyncs=1\ndatasy
 const IDLE_REPORT: &str = "names=0\nreads=0\nwrites=0\ntrims=0\nsyncs=0\ndatasyncs=0\nwaits=0\n\
     got=0\nback=0\nheld=0\nposted=0\n";
 
-/// Plays a log, and compares the ending and the text.
+/// Plays a log, and compares the text and whether it is refused.
 fn expect<R: Abort + AllocGlobal + Threads + Wait + Sync>(
     rt: &R,
-    setup: Setup,
+    options: PlayOptions,
     log: &[u8],
-    ending: Ending,
     text: &str,
 ) {
     let mut reader = log;
     let mut written = Vec::new(rt.alloc());
-    let outcome = run_play(rt, rt.alloc(), &setup, &mut reader, &mut written);
-    assert_eq!(rt; outcome, Ok(ending), "at {log:?}");
+    let outcome = run_play(rt, rt.alloc(), &options, &mut reader, &mut written);
+    assert_eq!(rt; outcome == Ok(Ending::Done), text.starts_with("names="), "at {log:?}");
+    assert_eq!(rt; outcome.is_ok(), true, "at {log:?}");
     assert_eq!(rt; written.as_slice(), text.as_bytes(), "at {log:?}");
+}
+
+/// A log of version 2 that is played so.
+const fn without_times(setup: Setup) -> PlayOptions {
+    PlayOptions {
+        setup,
+        with_times: false,
+    }
 }
 
 #[test]
@@ -50,8 +58,8 @@ fn a_small_log_is_reported(rt: HostRuntime) {
         queue: 4,
         ..FOUR
     };
-    expect(&rt, setup, SMALL.as_bytes(), Ending::Done, SMALL_REPORT);
-    expect(&rt, FOUR, SMALL.as_bytes(), Ending::Done, SMALL_REPORT);
+    expect(&rt, without_times(setup), SMALL.as_bytes(), SMALL_REPORT);
+    expect(&rt, without_times(FOUR), SMALL.as_bytes(), SMALL_REPORT);
 }
 
 /// Prefixes of the small log that end in an incomplete line: the lengths of the shortest and the longest, in bytes.
@@ -84,7 +92,7 @@ fn each_prefix_of_a_small_log_is_reported_or_refused(rt: HostRuntime) -> Result<
     for (shortest, longest, text) in CUT {
         for length in shortest..=longest {
             let log = SMALL.as_bytes().get(..length).unwrap_or_default();
-            expect(&rt, FOUR, log, Ending::Refused, text);
+            expect(&rt, without_times(FOUR), log, text);
         }
     }
     for (shortest, longest, [names, reads, writes, syncs, tags]) in WHOLE {
@@ -94,7 +102,7 @@ fn each_prefix_of_a_small_log_is_reported_or_refused(rt: HostRuntime) -> Result<
         )?;
         for length in shortest..=longest {
             let log = SMALL.as_bytes().get(..length).unwrap_or_default();
-            expect(&rt, FOUR, log, Ending::Done, &text);
+            expect(&rt, without_times(FOUR), log, &text);
         }
     }
     Ok(())
@@ -107,7 +115,7 @@ fn each_kind_is_counted(rt: HostRuntime) {
         a datasync 0 0\na datasync 0 0\nb datasync 0 0\na datasync 0 0\nb sync 0 0\nb wait 0 0\n";
     let text = "names=2\nreads=0\nwrites=0\ntrims=3\nsyncs=1\ndatasyncs=4\nwaits=2\n\
         got=8\nback=8\nheld=0\nposted=0\n";
-    expect(&rt, FOUR, log.as_bytes(), Ending::Done, text);
+    expect(&rt, without_times(FOUR), log.as_bytes(), text);
 }
 
 #[test]
@@ -138,7 +146,7 @@ fn the_first_faulty_line_is_told(rt: HostRuntime) {
             "line 4 refused 2\n",
         ),
     ] {
-        expect(&rt, FOUR, log.as_bytes(), Ending::Refused, text);
+        expect(&rt, without_times(FOUR), log.as_bytes(), text);
     }
 }
 
@@ -157,15 +165,31 @@ fn a_setup_beyond_its_limits_is_refused(rt: HostRuntime) {
         },
         Setup { queue: 0, ..FOUR },
     ] {
-        expect(&rt, setup, header, Ending::Refused, "play refused 2\n");
+        expect(&rt, without_times(setup), header, "play refused 2\n");
     }
-    expect(&rt, FOUR, header, Ending::Done, IDLE_REPORT);
+    expect(&rt, without_times(FOUR), header, IDLE_REPORT);
     // A malformed line is reported before an illegal setup.
     expect(
         &rt,
-        Setup { queue: 0, ..FOUR },
+        without_times(Setup { queue: 0, ..FOUR }),
         &[],
-        Ending::Refused,
         "line 1 refused 1\n",
     );
+}
+
+#[test]
+fn a_log_with_times_is_reported_as_without(rt: HostRuntime) {
+    let with_times = PlayOptions {
+        setup: FOUR,
+        with_times: true,
+    };
+    let log = "fio version 3 iolog\n0 /dev/loop0 add\n12 /dev/loop0 open\n12 /dev/loop0 write 0 4096\n\
+        13 /dev/loop0 write 4096 4096\n20 /dev/loop0 read 0 8192\n20 /dev/loop0 sync 0 0\n25 /dev/loop0 close";
+    expect(&rt, with_times, log.as_bytes(), SMALL_REPORT);
+    expect(&rt, without_times(FOUR), log.as_bytes(), "line 1 refused 1\n");
+    expect(&rt, with_times, SMALL.as_bytes(), "line 1 refused 1\n");
+    let falls = b"fio version 3 iolog\n5 a add\n4 a open\n".as_slice();
+    expect(&rt, with_times, falls, "line 3 refused 7\n");
+    expect(&rt, with_times, b"fio version 3 iolog\na add\n", "line 2 refused 3\n");
+    expect(&rt, with_times, b"fio version 3 iolog\n5\n", "line 2 refused 2\n");
 }

@@ -12,13 +12,8 @@ fn expect<R: Abort + AllocGlobal>(
 ) -> Result<(), Fail> {
     let verdict = verdict_on(rt.alloc(), options, list.as_bytes())?;
     let written = verdict.text(rt.alloc())?;
-    let wanted = if text.starts_with("ok ") {
-        Ending::Done
-    } else {
-        Ending::Refused
-    };
     assert_eq!(rt; written.as_slice(), text.as_bytes(), "at {list}");
-    assert_eq!(rt; verdict.ending(), wanted, "at {list}");
+    assert_eq!(rt; verdict.ending() == Ending::Done, text.starts_with("ok "), "at {list}");
     Ok(())
 }
 
@@ -141,7 +136,7 @@ fn bytes_of_any_value_stand_in_words(rt: HostRuntime) -> Result<(), Fail> {
         let verdict = verdict_on(rt.alloc(), &options(1), list)?;
         let written = verdict.text(rt.alloc())?;
         assert_eq!(rt; written.as_slice(), text, "at {list:?}");
-        assert_eq!(rt; verdict.ending(), Ending::Refused, "at {list:?}");
+        assert!(rt; verdict.ending() != Ending::Done, "at {list:?}");
     }
     Ok(())
 }

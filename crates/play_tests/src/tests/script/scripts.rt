@@ -16,13 +16,8 @@ pub(crate) fn expect<R: Abort + AllocGlobal + Wait>(
     assert!(rt; script.len() <= MAX_INPUT);
     let (written, ending) = answer_script(rt, rt.alloc(), options, script.as_bytes())?;
     let refused = text.starts_with("line ") || text.starts_with("setup ");
-    let wanted = if refused {
-        Ending::Refused
-    } else {
-        Ending::Done
-    };
     assert_eq!(rt; written.as_slice(), text.as_bytes(), "at {script}");
-    assert_eq!(rt; ending, wanted, "at {script}");
+    assert_eq!(rt; ending != Ending::Done, refused, "at {script}");
     Ok(())
 }
 

@@ -1,10 +1,11 @@
 -- Each text is that of the first malformed line, of a refused setup, or of a run of the orders.
-use Rattle.std.proofs.Common.{ℕ, List, sym, ap, subst, ◌∙◌}
+use Rattle.std.proofs.Common.{◌≡◌, ℕ, List, sym, ap, subst, ◌∙◌}
 use Rattle.std.specs.List.{All}
 use Rattle.tag_lines.specs.declared.dialect.Dialect.{Dialect}
 use Rattle.tag_lines.specs.declared.fault.ListFault.{ListFault}
 use Rattle.tag_lines.specs.declared.order.Order.{Order}
 use Rattle.tag_lines.specs.Readings.{AreReadings, IsFirstFaulty, IsListFault}
+use Rattle.tag_lines.specs.Faults.{place_of}
 use Rattle.tag_lines.specs.ScriptLines.{order_of, IsOrderOf}
 use Rattle.tag_lines.proofs.KnownFacts.{orders_known}
 use Rattle.tag_script.specs.declared.ending.Ending.TheVariants.{Refused}
@@ -17,12 +18,14 @@ use Rattle.tag_script.proofs.script.answer_script.Goals as goal
 pub returns-in-Err-Faulty : goal.returns-in-Err-Faulty
 returns-in-Err-Faulty g c =
     let fault = c.in-Err-Faulty.fault in let o = c.args.options.now in let script = c.args.script.now in
-    let text_is = c.in_ok-faulty_text-in-Err-Faulty.ensures ∙ ap faulty_text c.in-Err-Faulty.fault-is in
+    let text_is = c.in_ok-text-in-Err-Faulty.ensures ∙ ap faulty_text c.in-Err-Faulty.fault-is in
     let first = subst (λ (f : ListFault). IsListFault (order_of c.dialect.result o.callers) script f)
     c.in-Err-Faulty.field-0-is
     c.in-Err-Faulty.ensures.fault in
     let of_kind = subst (λ (d : Dialect). IsFirstFaulty (order_of d o.callers) script fault) c.dialect.ensures first in
-    subst (λ (t : List ℕ). Owed o script t Refused) (sym text_is) (faulty fault of_kind)
+    let place : c.refusal.result.place ≡ place_of fault = c.refusal.ensures ∙ ap place_of c.in-Err-Faulty.fault-is in
+    subst (λ (t : List ℕ). Owed o script t (Refused c.refusal.result)) (sym text_is)
+    (faulty fault (Refused c.refusal.result) of_kind place)
 
 pub carry_out-requires-clause-known : goal.carry_out-requires-clause-known
 carry_out-requires-clause-known g c =
@@ -44,9 +47,10 @@ pub returns : goal.returns
 returns g c =
     let fault = c.in-Err-Setup.fault in let o = c.args.options.now in let script = c.args.script.now in
     let orders : List Order = c.in-Ok.orders.items in
-    let text_is = c.in_ok-setup_text-in-Err-Setup.ensures ∙ ap setup_text c.in-Err-Setup.fault-is in
+    let text_is = c.in_ok-text-in-Err-Setup.ensures ∙ ap setup_text c.in-Err-Setup.fault-is in
     let says = subst (λ (d : Dialect). AreReadings (order_of d o.callers) script orders) c.dialect.ensures
     c.in-Ok.ensures.orders in
     let why = subst (λ (f : OpenFault). IsOpenFault (IsRefusedSetup o.plain o) f) c.in-Err-Setup.field-0-is
     c.in-Err-Setup.ensures.fault in
-    subst (λ (t : List ℕ). Owed o script t Refused) (sym text_is) (refused orders fault says why)
+    subst (λ (t : List ℕ). Owed o script t (Refused c.setup_refusal.result)) (sym text_is)
+    (refused orders fault (Refused c.setup_refusal.result) says why c.setup_refusal.ensures)

@@ -20,6 +20,7 @@ returns c =
     (ap (λ (a : Arg). a.global) c.help-3.ensures ∙ c.count-3.ensures.local) in
     let queue = adds _ _ _ _ _ completers c.in_ok-arg-6.ensures (ap rule_of c.help-4.ensures ∙ c.count-4.ensures.rule)
     (ap (λ (a : Arg). a.global) c.help-4.ensures ∙ c.count-4.ensures.local) in
+    let times = adds _ _ _ _ _ queue c.in_ok-arg-7.ensures c.with_times.ensures.rule c.with_times.ensures.local in
     let all =
-    sets (λ a. a) c.in_ok-arg-6.field-0 c.after_help-play.result _ _ queue c.after_help-play.ensures refl refl in
+    sets (λ a. a) c.in_ok-arg-7.field-0 c.after_help-play.result _ _ times c.after_help-play.ensures refl refl in
     record { shape = ap (λ (a : App). a.top) all.is; local = all.local }

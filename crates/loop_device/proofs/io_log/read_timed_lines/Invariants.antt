@@ -1,0 +1,16 @@
+-- The lines so far are read without their times, and the rest is left.
+use Rattle.std.proofs.Common.{◌≤◌, ◌+◌, length}
+use Rattle.tag_lines.specs.Lines.{lines_of}
+use Rattle.loop_device.specs.LogProgress.{progress_of}
+use Rattle.loop_device.proofs.TimedFacts.{IsTimedTo}
+use Rattle.loop_device.proofs.io_log.read_timed_lines.Given as goal
+
+-- the lines so far are read, and each had a byte
+abbrev pub invariant-loop-rest : goal.invariant-loop-rest
+invariant-loop-rest l = record {
+  read : IsTimedTo (lines_of l.fn.body) (progress_of l.reader.reader) l.reader.last (lines_of l.rest);
+  room : l.reader.reader.number + length l.rest ≤ length l.fn.body + 2;
+}
+
+abbrev pub decreases-loop-rest : goal.decreases-loop-rest
+decreases-loop-rest l = length l.rest
