@@ -1,5 +1,5 @@
 -- The hands of a pool: the spare ones, and behind them those that had left.
-use Rattle.std.proofs.Common.{arith, ◌≡◌, ◌≤◌, ◌<◌, ℕ, zero, suc, List, [], ◌∷◌, ◌++◌, length, take, All, refl, sym, ap, subst, ◌∙◌, append_assoc}
+use Rattle.std.proofs.Common.{◌≡◌, ◌≤◌, ℕ, zero, suc, List, [], ◌∷◌, ◌++◌, length, take, All, sym, ap, subst, ◌∙◌, append_assoc}
 use mathlib.Core.List.{reverse_aux}
 use mathlib.Core.Option.{some}
 use lib.ListN.{get_elem?}

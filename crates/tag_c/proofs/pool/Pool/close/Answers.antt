@@ -1,5 +1,5 @@
 -- The spare hands belong to the tags that were shared.
-use Rattle.std.proofs.Common.{◌≡◌, All, IfNone, sym, subst}
+use Rattle.std.proofs.Common.{◌≡◌, All, IfNone, subst}
 use Rattle.std.specs.Arc.{arc_value}
 use Rattle.tag_sets.specs.Hands.{IsHandOf}
 use Rattle.tag_c.specs.declared.pool_state.PoolState.{PoolState}

@@ -3,7 +3,6 @@ use Rattle.std.proofs.Common.{◌≡◌, ℕ, All, sym, subst}
 use Rattle.std.specs.Arc.{arc_value}
 use Rattle.tag_sets.specs.declared.tags.Tags.{Tags}
 use Rattle.tag_sets.specs.Hands.{IsHandOf}
-use Rattle.tag_c.specs.declared.pool_state.PoolState.{PoolState}
 use Rattle.tag_c.proofs.Collected.{All-reverse}
 use Rattle.tag_c.proofs.pool.Pool.open.Goals as goal
 
