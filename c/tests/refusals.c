@@ -416,6 +416,65 @@ static void part_with_all_hands(uint32_t total, uint32_t hands)
 	WANT(sums.got == hands && sums.back == hands, 1);
 }
 
+/* Shows that refused calls leave a hand that left where the next join finds it. */
+static void keep_hands_that_left(void)
+{
+	struct tags_pool pool = TAGS_EMPTY;
+	struct tags_hand hand = TAGS_EMPTY;
+	struct tags_hand other = TAGS_EMPTY;
+	struct tags_sums sums;
+
+	WANT(tags_open(&pool, &twelve), 0);
+	WANT(tags_join(&pool, &hand, 0), 0);
+	WANT(tags_join(&pool, &other, 0), 0);
+	WANT(tags_leave(&hand), 0);
+	WANT(tags_join(&pool, &hand, 2), -18);
+	WANT(tags_join(&pool, &other, 0), -13);
+	WANT(tags_resize(&pool, TAGS_MAX_TOTAL + 1), -22);
+	WANT(tags_resize(&pool, 1), -23);
+	WANT(tags_resize(&pool, 20), -15);
+	WANT(tags_close(&pool, &sums), -15);
+	WANT(tags_join(&pool, &hand, 0), 0);
+	WANT(tags_get(&hand), 2);
+	WANT(tags_leave(&hand), 0);
+	WANT(tags_leave(&other), 0);
+	WANT(tags_resize(&pool, 20), -29);
+	WANT(tags_join(&pool, &hand, 0), 0);
+	WANT(tags_join(&pool, &other, 0), 0);
+	WANT(tags_leave(&hand), 0);
+	WANT(tags_leave(&other), 0);
+	WANT(tags_close(&pool, &sums), 0);
+	WANT(sums.got == 1 && sums.held == 1, 1);
+}
+
+/* A hand that joins to stay goes on where it left off, and otherwise begins in its own part again. */
+static void stay_or_begin_again(void)
+{
+	const struct tags_options options = { .total = 64, .shift = 2, .hands = 2 };
+	struct tags_pool pool = TAGS_EMPTY;
+	struct tags_hand hand = TAGS_EMPTY;
+	struct tags_hand other = TAGS_EMPTY;
+	struct tags_sums sums;
+
+	WANT(tags_open(&pool, &options), 0);
+	WANT(tags_join(&pool, &hand, 0), 0);
+	WANT(tags_join(&pool, &other, 0), 0);
+	for (int32_t tag = 32; tag < 37; tag++)
+		WANT(tags_get(&other), tag);
+	for (uint32_t tag = 32; tag < 37; tag++)
+		WANT(tags_clear(&other, tag), 0);
+	WANT(tags_leave(&other), 0);
+	WANT(tags_join(&pool, &other, TAGS_STAY), 0);
+	WANT(tags_get(&other), 37);
+	WANT(tags_leave(&other), 0);
+	WANT(tags_join(&pool, &other, 0), 0);
+	WANT(tags_get(&other), 32);
+	WANT(tags_leave(&other), 0);
+	WANT(tags_leave(&hand), 0);
+	WANT(tags_close(&pool, &sums), 0);
+	WANT(sums.got == 7 && sums.back == 5 && sums.held == 2, 1);
+}
+
 /* What a resize needs: no hand out, no tag in use, and no hand in a wait group. */
 static void refuse_resizes(void)
 {
@@ -545,6 +604,8 @@ int main(void)
 	for (uint32_t hands = 1; hands <= 4; hands++)
 		for (uint32_t total = hands; total <= 64; total++)
 			part_with_all_hands(total, hands);
+	keep_hands_that_left();
+	stay_or_begin_again();
 	refuse_resizes();
 	refuse_kept();
 	name_statuses();

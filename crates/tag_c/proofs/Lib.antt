@@ -1,5 +1,6 @@
 pub mod Answering
 pub mod Calling
+pub mod Collected
 pub mod Does
 pub mod Flags
 pub mod Joining

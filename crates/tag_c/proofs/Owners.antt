@@ -1,12 +1,10 @@
 -- A hand that shares its tags with a cell belongs to whatever tags the cell belongs to.
-use Rattle.std.proofs.Common.{arith, ◌≡◌, ℕ, suc, List, [], ◌∷◌, ◌++◌, All, ap, sym, subst, ◌∙◌, append_assoc}
+use Rattle.std.proofs.Common.{◌≡◌, ℕ, sym, subst, ◌∙◌}
 use native.Mathlib.Nat.{ℕ_set}
 use Rattle.std.specs.Arc.{arc_value}
 use Rattle.std.specs.Coded.{Coded-set}
 use Rattle.atomic_table.specs.Seated.{table_id_coded}
 use Rattle.tag_core.specs.contracts.shape.Shape.{the_row as shape}
-use Rattle.std.specs.Prelude.{reverse}
-use Rattle.std.proofs.lemmas.List.{reverse-append}
 use Rattle.tag_queue.specs.declared.agent.Agent.{Agent}
 use Rattle.tag_queue.specs.declared.queue.Queue.{Queue}
 use Rattle.tag_queue.specs.Agents.{IsAgentOf}
@@ -44,17 +42,6 @@ same_pool state shared hand other at is own = subst (λ (s : PoolState). IsHandO
 -- two hands of the same tags share their tags
 pub sharing : (tags : Tags ℕ) (cell hand : Hand ℕ) → IsHandOf tags cell → IsHandOf tags hand → SharesTags cell hand
 sharing tags cell hand b h = (tags, b, h)
-
--- what holds for all elements of a list holds for the last
-pub last_of : {X : Type 0} (P : X → Type 0) (xs : List X) (x : X) → All P (xs ++ (x ∷ [])) → P x
-last_of P [] x all = all 0 x (omega arith)
-last_of P (y ∷ ys) x all = last_of P ys x (λ k d low. all (suc k) d (omega arith))
-
--- the last element of a list, put behind another list, is the next of the first one in reverse
-pub moved : {X : Type 0} (front rest : List X) (x : X) → (front ++ (x ∷ [])) ++ reverse rest
-    ≡ front ++ reverse (rest ++ (x ∷ []))
-moved {X = X} front rest x = append_assoc front (x ∷ []) (reverse rest)
-    ∙ ap (λ (behind : List X). front ++ behind) (sym (reverse-append rest (x ∷ [])))
 
 agent_once : (queue : Queue ℕ) (agent : Agent ℕ) (a b : IsAgentOf queue agent) → a ≡ b
 agent_once queue agent a b = λ j. (

@@ -1,5 +1,5 @@
 -- The reasons why calls on pools are refused, and that each has a negative number.
-use Rattle.std.proofs.Common.{◌≡◌, ◌≢◌, ℕ, ◌<◌, ◌≤◌, Bool, ◌⊎◌, ⊎_elim, inl, inr, ℤ, pos, Option, Some, None, IfSome, refl, sym, subst, ◌∙◌}
+use Rattle.std.proofs.Common.{◌≡◌, ◌≢◌, ℕ, ◌<◌, ◌≤◌, Bool, ◌⊎◌, ⊎_elim, inl, inr, ℤ, pos, List, [], Option, Some, None, IfSome, ap, refl, sym, subst, ◌∙◌}
 use Rattle.std.specs.Prelude.{nat_eq}
 use lib.Signed.{mag}
 use mir.Syntax.{w32}
@@ -8,17 +8,17 @@ use Rattle.std.specs.Arc.{arc_value}
 use Rattle.tag_sets.specs.declared.fault.SetFault.{SetFault}
 use Rattle.tag_sets.specs.declared.fault.SetFault.TheVariants.{Memory, TotalTooLarge, ReservedTooLarge, ShiftTooLarge, CallerCount, LifeTooLong, CapTooLarge}
 use Rattle.tag_queue.specs.declared.gather.QueueTotals.{QueueTotals}
+use Rattle.tag_sets.specs.declared.hand.Hand.{Hand}
 use Rattle.tag_sets.specs.declared.tags.Tags.{Tags}
 use Rattle.tag_c.specs.declared.object.Kind.{Kind}
 use Rattle.tag_c.specs.declared.object.Kind.TheVariants.{Pool as IsPool, Member as IsMember, Cached as IsCached}
 use Rattle.tag_c.specs.declared.object.Object.{Object}
 use Rattle.tag_c.specs.declared.pool.Pool.{Pool}
-use Rattle.tag_c.specs.declared.pool_state.PoolState.{PoolState}
 use Rattle.tag_c.specs.declared.status.Status.{Status}
 use Rattle.tag_c.specs.declared.status.Status.TheVariants.{BadHandle, NoHand, HandsOut, BadFlag, NotOpened, HandLost}
 use Rattle.tag_c.specs.declared.structs.Sums.{Sums}
 use Rattle.tag_c.specs.Codes.{code_of, code_of_set_fault, IsRefusal}
-use Rattle.tag_c.specs.Exports.{HasHand, HasPool, IsHandIn, IsPoolOf, IsMemberIn, IsPoolIn, Refuses, RefusesHandOf, RefusesJoin, RefusesClose, ClosesPool, Ends, JoinsKind, sums_of}
+use Rattle.tag_c.specs.Exports.{HasHand, HasPool, IsHandIn, IsPoolOf, IsMemberIn, IsPoolIn, Refuses, RefusesHand, RefusesHandOf, RefusesJoin, RefusesClose, ClosesPool, Ends, GaveBack, JoinsKind, spare_in, spare_of, sums_of}
 use Rattle.tag_c.specs.Joins.{JoinsAs}
 use Rattle.tag_c.specs.Pools.{LacksHand, Gathers}
 use Rattle.tag_c.proofs.Calling.{stored}
@@ -72,37 +72,48 @@ pub pool_there : (value : Option Object) (object : Object) → value ≡ Some ob
 pool_there value object some has = (has.0, subst (λ (x : Option Object). IsPoolOf has.0 x) some has.1)
 
 -- whatever joins the hands of a pool is a hand
-is_hand : (state : PoolState) (placed : Bool) (kind : Kind) → JoinsAs state placed kind → (tags : Tags ℕ)
+is_hand : (placed : Bool) (old new : Pool) (kind : Kind) → JoinsAs placed old new kind → (tags : Tags ℕ)
     × IsMemberIn tags kind
-is_hand state placed (IsMember member) joins = ((arc_value member.shared).tags, refl)
-is_hand state placed (IsCached member) joins = ((arc_value member.shared).tags, refl)
-is_hand state placed (IsPool pool) joins = absurd joins
+is_hand placed old new (IsMember member) joins = ((arc_value member.shared).tags, refl)
+is_hand placed old new (IsCached member) joins = ((arc_value member.shared).tags, refl)
+is_hand placed old new (IsPool pool) joins = absurd joins
+
+-- and it is one that the pool gave
+gave : (placed : Bool) (old new : Pool) (kind : Kind) → JoinsAs placed old new kind → GaveBack (IsPool old) (IsPool new)
+gave placed old new (IsMember member) joins = let gives = joins.2 in (gives.found, gives.takes)
+gave placed old new (IsCached member) joins = let gives = joins.5 in (gives.found, gives.takes)
+gave placed old new (IsPool pool) joins = absurd joins
 
 -- whatever joins an object is a hand
-pub joiner : (flags : ℕ) (pool kind : Kind) → JoinsKind flags pool kind → (tags : Tags ℕ) × IsMemberIn tags kind
-joiner flags (IsPool pool) kind joins = is_hand (arc_value pool.shared) (nat_eq flags 0) kind joins.1
-joiner flags (IsMember member) kind joins = absurd joins
-joiner flags (IsCached member) kind joins = absurd joins
+pub joiner : (flags : ℕ) (old new kind : Kind) → JoinsKind flags old new kind → (tags : Tags ℕ) × IsMemberIn tags kind
+joiner flags (IsPool old) (IsPool new) kind joins = is_hand (nat_eq flags 0) old new kind joins.1
+joiner flags (IsPool old) (IsMember new) kind joins = absurd joins
+joiner flags (IsPool old) (IsCached new) kind joins = absurd joins
+joiner flags (IsMember old) new kind joins = absurd joins
+joiner flags (IsCached old) new kind joins = absurd joins
 
--- and that object is a pool, for known flags
-pub joined : (flags : ℕ) (pool kind : Kind) → JoinsKind flags pool kind → ((tags : Tags ℕ) × IsPoolIn tags pool)
-    × (flags ≤ 1)
-joined flags (IsPool pool) kind joins = (((arc_value pool.shared).tags, refl), joins.0)
-joined flags (IsMember member) kind joins = absurd joins
-joined flags (IsCached member) kind joins = absurd joins
+-- that object is a pool, which gave the hand, for known flags
+pub joined : (flags : ℕ) (old new kind : Kind) → JoinsKind flags old new kind → ((tags : Tags ℕ) × IsPoolIn tags old)
+    × (flags ≤ 1) × GaveBack old new
+joined flags (IsPool old) (IsPool new) kind joins =
+    (((arc_value old.shared).tags, refl), joins.0, gave (nat_eq flags 0) old new kind joins.1)
+joined flags (IsPool old) (IsMember new) kind joins = absurd joins
+joined flags (IsPool old) (IsCached new) kind joins = absurd joins
+joined flags (IsMember old) new kind joins = absurd joins
+joined flags (IsCached old) new kind joins = absurd joins
 
 -- the totals of a gathered pool are those of an object that is this pool
 pub ends_of : (kind : Kind) (pool : Pool) → kind ≡ IsPool pool → (totals : Option QueueTotals)
-    → IfSome totals (Gathers (arc_value pool.shared).tags) → IfSome totals (Ends kind)
+    → IfSome totals (Gathers (arc_value pool.shared).tags pool.spare.items) → IfSome totals (Ends kind)
 ends_of kind pool is None gathers = tt
-ends_of kind pool is (Some totals) gathers = let tags = (arc_value pool.shared).tags in
-    (tags, subst (λ (k : Kind). IsPoolIn tags k) (sym is) refl, gathers)
+ends_of kind pool is (Some totals) gathers =
+    subst (λ (k : Kind). Ends k totals) (sym is) ((arc_value pool.shared).tags, refl, gathers)
 
 -- the handle that had this object is closed with the same totals
 pub closes_of : (pool : Option Object) (object : Object) → pool ≡ Some object → (totals : QueueTotals) (sums : Sums)
     → Ends object.kind totals → sums ≡ sums_of totals → ClosesPool pool sums
 closes_of pool object some totals sums ends is =
-    (ends.0, totals, subst (λ (x : Option Object). IsPoolOf ends.0 x) (sym some) ends.1, ends.2, is)
+    subst (λ (x : Option Object). ClosesPool x sums) (sym some) (ends.0, totals, ends.1, ends.2, is)
 
 -- each reason why a pool is not closed is a refusal
 pub close_below : (pool : Option Object) (status : Status) → RefusesClose pool status → IsRefusal (code_of status)
@@ -118,23 +129,24 @@ module _ (flags : ℕ) (status : Status) where
   join_below (IsCached member) is = below status BadHandle is tt
   join_below (IsPool pool) hand =
       ⊎_elim (λ (flag : (status ≡ BadFlag) × (1 < flags)). below status BadFlag flag.0 tt)
-      (λ (lacks : (flags ≤ 1) × LacksHand status).
-      ⊎_elim (λ (is : status ≡ NoHand). below status NoHand is tt)
+      (λ (lacks : (flags ≤ 1) × LacksHand pool.spare.items status).
+      ⊎_elim (λ (is : (status ≡ NoHand) × (pool.spare.items ≡ [])). below status NoHand is.0 tt)
       (λ (is : status ≡ NotOpened Memory). below status (NotOpened Memory) is tt)
       lacks.1) hand
 
   module _ (pool hand : Option Object) (empty : hand ≡ None) where
     -- behind a handle that is no pool, or is one, stands an object that gives no hand
     join_behind : (kind : Kind) → ((tags : Tags ℕ) → IsPoolIn tags kind → IsPoolOf tags pool)
-        → (HasPool pool → (tags : Tags ℕ) × IsPoolIn tags kind)
+        → (HasPool pool → (tags : Tags ℕ) × IsPoolIn tags kind) → spare_of pool ≡ spare_in kind
         → RefusesHandOf kind flags status → RefusesJoin pool hand flags status
-    join_behind (IsMember member) to from is = inr (inl (is, empty, λ has. (from has).1))
-    join_behind (IsCached member) to from is = inr (inl (is, empty, λ has. (from has).1))
-    join_behind (IsPool inner) to from why = let tags = (arc_value inner.shared).tags in
-        inr (inr (empty, (tags, to tags refl), why))
+    join_behind (IsMember member) to from spare is = inr (inl (is, empty, λ has. (from has).1))
+    join_behind (IsCached member) to from spare is = inr (inl (is, empty, λ has. (from has).1))
+    join_behind (IsPool inner) to from spare why = let tags = (arc_value inner.shared).tags in
+        inr (inr (empty, (tags, to tags refl), subst (λ (s : List (Hand ℕ)). RefusesHand s flags status) (sym spare) why))
 
     -- the join is refused for the same reason
     pub refuses_join : (object : Object) → pool ≡ Some object → RefusesHandOf object.kind flags status
         → RefusesJoin pool hand flags status
     refuses_join object is why = join_behind object.kind
-        (λ tags in_it. subst (λ (x : Option Object). IsPoolOf tags x) (sym is) in_it) (pool_there pool object is) why
+        (λ tags in_it. subst (λ (x : Option Object). IsPoolOf tags x) (sym is) in_it) (pool_there pool object is)
+        (ap spare_of is) why

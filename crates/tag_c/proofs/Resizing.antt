@@ -1,5 +1,5 @@
 -- Why a resize is refused, as C is told it.
-use Rattle.std.proofs.Common.{arith, ◌≡◌, ℕ, ◌<◌, List, All, ⊎_elim, sym, subst}
+use Rattle.std.proofs.Common.{arith, ◌≡◌, ℕ, ◌<◌, List, ◌++◌, All, ⊎_elim, sym, subst}
 use Rattle.tag_layout.specs.declared.layout.TheConstants.{MAX_DEPTH}
 use Rattle.tag_queue.specs.declared.resizes.ResizeCause.{ResizeCause}
 use Rattle.tag_queue.specs.declared.resizes.ResizeCause.TheVariants.{Missing, DepthTooLarge, InUse, Waiting, Memory}
@@ -7,12 +7,16 @@ use Rattle.tag_sets.specs.declared.hand.Hand.{Hand}
 use Rattle.tag_sets.specs.declared.tags.Tags.{Tags}
 use Rattle.tag_sets.specs.Hands.{IsHandOf, reserved_of}
 use Rattle.tag_sets.specs.Opening.{HasRange}
-use Rattle.tag_sets.specs.Resizing.{AreSame, IsOutOfRange, IsRefusedFor}
+use Rattle.tag_sets.specs.Resizing.{AreSame, AreUnchanged, IsOutOfRange, IsRefusedFor, IsResized, MayResize}
 use Rattle.tag_sets.proofs.Refusing.{AreTold, facts_of}
 use Rattle.tag_c.specs.declared.status.Status.{Status}
-use Rattle.tag_c.specs.Resizes.{status_of_cause, Prevents, EndsResize}
+use Rattle.tag_c.specs.Resizes.{status_of_cause, Prevents, Resizes, EndsResize}
 
-module _ (total : ℕ) (tags : Tags ℕ) (hands : List (Hand ℕ)) where
+module _ (total : ℕ) (tags : Tags ℕ) (spare left : List (Hand ℕ)) where
+  -- the hands that are passed in
+  abbrev hands : List (Hand ℕ)
+  hands = spare ++ left
+
   -- the cause that is told is there
   refused_for : (told : ResizeCause → Type 0) → AreTold (facts_of tags hands) total told → (cause : ResizeCause)
       → told cause → IsRefusedFor tags hands total cause
@@ -22,16 +26,18 @@ module _ (total : ℕ) (tags : Tags ℕ) (hands : List (Hand ℕ)) where
   refused_for told are (Waiting count) is = (are.waiting count).0 is
   refused_for told are Memory is = are.memory is
 
-  module _ (range : HasRange total (reserved_of tags)) (own : All (IsHandOf tags) hands) where
-    prevents : (cause : ResizeCause) → IsRefusedFor tags hands total cause → Prevents total tags cause
-    prevents cause is = record { range = range; hands = hands; own = own; refused = is }
+  module _ (range : HasRange total (reserved_of tags)) (own : All (IsHandOf tags) hands) (back : List (Hand ℕ))
+    (unchanged : AreUnchanged hands back) where
+    prevents : (cause : ResizeCause) → IsRefusedFor tags hands total cause → Prevents total tags spare cause back
+    prevents cause is =
+        record { range = range; left = left; own = own; refused = is; back_are = unchanged }
 
     in_range : IsOutOfRange total (reserved_of tags) → ⊥
     in_range out = let fits = range.0 in let covers = range.1 in ⊎_elim (λ (large : MAX_DEPTH < total). omega arith)
         (λ (small : total < reserved_of tags). omega arith) out
 
     ends_as : (cause : ResizeCause) (new : Tags ℕ) → IsRefusedFor tags hands total cause → AreSame tags new
-        → EndsResize total tags (status_of_cause cause) new
+        → EndsResize total tags spare (status_of_cause cause) new back
     ends_as (Missing number) new is same = ((number, prevents (Missing number) is), same)
     ends_as DepthTooLarge new is same = absurd (in_range is.1)
     ends_as (InUse held posted) new is same = ((held, posted, prevents (InUse held posted) is), same)
@@ -40,9 +46,35 @@ module _ (total : ℕ) (tags : Tags ℕ) (hands : List (Hand ℕ)) where
 
     -- the tags that come back are the same, and the status is that of the cause
     pub refusal_ends : (told : ResizeCause → Type 0) → AreTold (facts_of tags hands) total told → (cause : ResizeCause)
-        → told cause → (status : Status) → status ≡ status_of_cause cause → (back new : Tags ℕ) → new ≡ back
-        → AreSame tags back → EndsResize total tags status new
-    refusal_ends told are cause is status says back new kept same =
-        subst (λ (s : Status). EndsResize total tags s new) (sym says)
-        (subst (λ (t : Tags ℕ). EndsResize total tags (status_of_cause cause) t) (sym kept)
-        (ends_as cause back (refused_for told are cause is) same))
+        → told cause → (status : Status) → status ≡ status_of_cause cause → (new : Tags ℕ) → AreSame tags new
+        → EndsResize total tags spare status new back
+    refusal_ends told are cause is status says new same =
+        subst (λ (s : Status). EndsResize total tags spare s new back) (sym says)
+        (ends_as cause new (refused_for told are cause is) same)
+
+module _ (total : ℕ) (old parted : Tags ℕ) (spare left hands : List (Hand ℕ)) (same : parted ≡ old)
+  (are : hands ≡ spare ++ left) where
+  -- the spare hands and those that had left were resized
+  pub resizes : (new made : Tags ℕ) (resized : List (Hand ℕ)) → made ≡ new → All (IsHandOf old) hands
+      → MayResize parted hands total → IsResized parted hands total new resized → Resizes total old spare made resized
+  resizes new made resized kept own may is = record {
+    left = left;
+    own = subst (All (IsHandOf old)) are own;
+    may = subst (λ (t : Tags ℕ). MayResize t (spare ++ left) total) same
+        (subst (λ (l : List (Hand ℕ)). MayResize parted l total) are may);
+    is = subst (λ (t : Tags ℕ). IsResized old (spare ++ left) total t resized) (sym kept)
+        (subst (λ (t : Tags ℕ). IsResized t (spare ++ left) total new resized) same
+        (subst (λ (l : List (Hand ℕ)). IsResized parted l total new resized) are is));
+  }
+
+  -- they were refused
+  pub refused_ends : HasRange total (reserved_of old) → All (IsHandOf old) hands → (back : List (Hand ℕ))
+      → AreUnchanged hands back → (told : ResizeCause → Type 0) → AreTold (facts_of parted hands) total told
+      → (cause : ResizeCause) → told cause → (status : Status) → status ≡ status_of_cause cause → (new : Tags ℕ)
+      → AreSame parted new → EndsResize total old spare status new back
+  refused_ends range own back unchanged told are_told cause is status says new stays =
+      refusal_ends total old spare left range (subst (All (IsHandOf old)) are own) back
+      (subst (λ (l : List (Hand ℕ)). AreUnchanged l back) are unchanged) told
+      (subst (λ (t : Tags ℕ). AreTold (facts_of t (spare ++ left)) total told) same
+      (subst (λ (l : List (Hand ℕ)). AreTold (facts_of parted l) total told) are are_told)) cause is status says new
+      (subst (λ (t : Tags ℕ). AreSame t new) same stays)

@@ -1,11 +1,13 @@
 -- What the calls do that open, join, leave and close pools through their handles.
-use Rattle.std.specs.Prelude.{◌≡◌, ℕ, zero, suc, ℤ, pos, negsuc, nat_eq, if◌then◌else◌, ◌<◌, ◌≤◌, ◌⊎◌, Option, Some, None, IsSome}
+use Rattle.std.specs.Prelude.{◌≡◌, ℕ, zero, suc, ℤ, pos, negsuc, nat_eq, if◌then◌else◌, ◌<◌, ◌≤◌, ◌⊎◌, List, [], Option, Some, None, IsSome}
 use Rattle.std.specs.Arc.{arc_value}
 use Rattle.tag_model.specs.declared.world.TheConstants.{MOST_WON}
 use Rattle.wake_book.specs.declared.book_opening.TheConstants.{MAX_CAP}
 use Rattle.tag_sets.specs.declared.fault.SetFault.{SetFault}
+use Rattle.tag_sets.specs.declared.fault.SetFault.TheVariants.{Memory}
 use Rattle.tag_queue.specs.declared.gather.QueueTotals.{QueueTotals}
 use Rattle.tag_queue.specs.declared.queue.Options.{Options}
+use Rattle.tag_sets.specs.declared.hand.Hand.{Hand}
 use Rattle.tag_sets.specs.declared.tags.Tags.{Tags}
 use Rattle.tag_sets.specs.Opening as sets
 use Rattle.tag_cache.specs.declared.keeping.Keeping.TheVariants.{Always, WhileHolding}
@@ -19,7 +21,7 @@ use Rattle.tag_c.specs.declared.structs.TheConstants.{MAX_CACHE}
 use Rattle.tag_c.specs.declared.structs.Sums.{Sums}
 use Rattle.tag_c.specs.declared.structs.RequestedOptions.{RequestedOptions}
 use Rattle.tag_c.specs.Codes.{code_of}
-use Rattle.tag_c.specs.Joins.{JoinsAs}
+use Rattle.tag_c.specs.Joins.{JoinsAs, Takes}
 use Rattle.tag_c.specs.Pools.{Opens, LacksHand, Gathers}
 
 -- this is a pool of these tags
@@ -96,7 +98,7 @@ Refuses reason code = (status : Status) × (code ≡ code_of status) × reason s
 -- this is a new pool, opened with these options, whose hands keep tags on these terms
 abbrev pub IsNewPool : ℕ → ℕ → Options → CacheTerms → Kind → Type 0
 IsNewPool total reserved options terms (IsPool pool) = let state = arc_value pool.shared in
-    Opens total reserved options state.tags state.cells.items × (state.cache ≡ terms)
+    Opens total reserved options state.tags pool.spare.items × (state.cache ≡ terms)
 IsNewPool total reserved options terms _ = ⊥
 
 -- the flags are known, and so is the number that says when tags are kept, of which there are few enough
@@ -119,30 +121,54 @@ RefusesOpen old requested most keeping status =
     ⊎ ((fault : SetFault) × (status ≡ NotOpened fault) × (old ≡ None) × IsKnown requested most keeping
     × sets.RefusesOpen requested.total requested.reserved (options_of requested) fault)
 
--- the flags are known, and the object is a hand of this pool, whose gets begin in its own part if there is no flag
-abbrev pub JoinsKind : ℕ → Kind → Kind → Type 0
-JoinsKind flags (IsPool pool) hand = (flags ≤ 1) × JoinsAs (arc_value pool.shared) (nat_eq flags 0) hand
-JoinsKind flags _ hand = ⊥
+-- the spare hands of a pool
+abbrev pub spare_in : Kind → List (Hand ℕ)
+spare_in (IsPool pool) = pool.spare.items
+spare_in _ = []
 
--- the second handle has a hand of the first one's pool
-abbrev pub JoinsPool : ℕ → Option Object → Option Object → Type 0
-JoinsPool flags (Some pool) (Some hand) = JoinsKind flags pool.kind hand.kind
-JoinsPool flags _ _ = ⊥
+-- the spare hands of the handle's pool
+abbrev pub spare_of : Option Object → List (Hand ℕ)
+spare_of None = []
+spare_of (Some object) = spare_in object.kind
 
--- a pool gives no hand for unknown flags, nor for known ones if it lacks a hand
-abbrev pub RefusesHand : ℕ → Status → Type 0
-RefusesHand flags status = ((status ≡ BadFlag) × (1 < flags)) ⊎ ((flags ≤ 1) × LacksHand status)
+-- the flags are known, and the pool gives a hand, whose gets begin in its own part if there is no flag
+abbrev pub JoinsKind : ℕ → Kind → Kind → Kind → Type 0
+JoinsKind flags (IsPool old) (IsPool new) hand = (flags ≤ 1) × JoinsAs (nat_eq flags 0) old new hand
+JoinsKind flags _ _ hand = ⊥
+
+-- the second handle has a hand that the first one's pool gives
+abbrev pub JoinsPool : ℕ → Option Object → Option Object → Option Object → Type 0
+JoinsPool flags (Some old) (Some new) (Some hand) = JoinsKind flags old.kind new.kind hand.kind
+JoinsPool flags _ _ _ = ⊥
+
+-- a pool with these spare hands gives no hand for unknown flags, nor for known ones if it lacks a hand
+abbrev pub RefusesHand : List (Hand ℕ) → ℕ → Status → Type 0
+RefusesHand spare flags status = ((status ≡ BadFlag) × (1 < flags)) ⊎ ((flags ≤ 1) × LacksHand spare status)
 
 -- a hand gives no other hand
 abbrev pub RefusesHandOf : Kind → ℕ → Status → Type 0
-RefusesHandOf (IsPool pool) flags status = RefusesHand flags status
+RefusesHandOf (IsPool pool) flags status = RefusesHand pool.spare.items flags status
 RefusesHandOf _ flags status = status ≡ BadHandle
 
 -- a join is refused for the first that holds: a full handle, a handle without a pool, a pool that gives no hand
 abbrev pub RefusesJoin : Option Object → Option Object → ℕ → Status → Type 0
 RefusesJoin pool hand flags status = ((status ≡ NotEmpty) × IsSome hand)
     ⊎ ((status ≡ BadHandle) × (hand ≡ None) × ¬ (HasPool pool))
-    ⊎ ((hand ≡ None) × HasPool pool × RefusesHand flags status)
+    ⊎ ((hand ≡ None) × HasPool pool × RefusesHand (spare_of pool) flags status)
+
+-- a hand that the pool gave may have left again
+abbrev pub GaveBack : Kind → Kind → Type 0
+GaveBack (IsPool old) (IsPool new) = (hand : Hand ℕ) × Takes old hand new
+GaveBack _ _ = ⊥
+
+-- the same of a handle
+abbrev pub GaveBackBy : Option Object → Option Object → Type 0
+GaveBackBy (Some old) (Some new) = GaveBack old.kind new.kind
+GaveBackBy _ _ = ⊥
+
+-- a refused join changes nothing of the pool, but where memory ran out it may have given a hand, which left again
+abbrev pub IsRefusedJoin : ℤ → Option Object → Option Object → Type 0
+IsRefusedJoin code old new = (new ≡ old) ⊎ ((code ≡ code_of (NotOpened Memory)) × GaveBackBy old new)
 
 -- a leave is refused for a handle without a hand; when cells are free is not specified
 abbrev pub RefusesLeave : Option Object → Status → Type 0
@@ -150,11 +176,11 @@ RefusesLeave hand status = ((status ≡ BadHandle) × ¬ (HasHand hand)) ⊎ (st
 
 -- this was a pool, and its tags were gathered with these totals
 abbrev pub Ends : Kind → QueueTotals → Type 0
-Ends kind totals = (tags : Tags ℕ) × IsPoolIn tags kind × Gathers tags totals
+Ends kind totals = (tags : Tags ℕ) × IsPoolIn tags kind × Gathers tags (spare_in kind) totals
 
 -- the tags of the handle's pool were gathered with these sums
 abbrev pub ClosesPool : Option Object → Sums → Type 0
-ClosesPool pool sums = (tags : Tags ℕ) × (totals : QueueTotals) × IsPoolOf tags pool × Gathers tags totals
+ClosesPool pool sums = (tags : Tags ℕ) × (totals : QueueTotals) × IsPoolOf tags pool × Gathers tags (spare_of pool) totals
     × (sums ≡ sums_of totals)
 
 -- a close is refused for a handle without a pool; when hands of a pool are out or lost is not specified

@@ -1,28 +1,40 @@
 -- Which object a hand becomes that joins.
-use Rattle.std.specs.Prelude.{◌≡◌, ◌≤◌, ℕ, Bool, IsTrue, min}
+use Rattle.std.specs.Prelude.{◌≡◌, ◌≤◌, ℕ, ◌⊎◌, ◌∷◌, ◌++◌, [], Bool, false, IsTrue, min}
 use Rattle.std.specs.Arc.{arc_value}
 use Rattle.tag_queue.specs.Placing.{hint_in_part}
 use Rattle.tag_sets.specs.declared.hand.Hand.{Hand}
 use Rattle.tag_sets.specs.declared.kind.Kind as sets
 use Rattle.tag_sets.specs.declared.tags.Tags.{Tags}
 use Rattle.tag_sets.specs.Hands.{agent_of, hint_of, queue_of}
+use Rattle.tag_sets.specs.Placing.{SameButHint}
 use Rattle.tag_cache.specs.Caches.{KeepsNone, hand_of, most_of, keeping_of}
 use Rattle.tag_c.specs.declared.object.Kind.{Kind}
 use Rattle.tag_c.specs.declared.object.Kind.TheVariants.{Pool as IsPool, Member as IsMember, Cached as IsCached}
-use Rattle.tag_c.specs.declared.pool_state.PoolState.{PoolState}
+use Rattle.tag_c.specs.declared.pool.Pool.{Pool}
 use Rattle.tag_c.specs.declared.structs.TheConstants.{MAX_CACHE}
 
 -- the hand's next get in each set begins at the first tag of its own part of the set
 abbrev pub BeginsInPart : Tags ℕ → Hand ℕ → Type 0
 BeginsInPart tags hand = (kind : sets.Kind) → hint_of hand kind ≡ hint_in_part (queue_of tags kind) (agent_of hand kind)
 
--- a hand of these tags, whose gets begin in its own part of them if it is placed; it has a cache if the pool's hands
--- keep tags, and keeps none yet
-abbrev pub JoinsAs : PoolState → Bool → Kind → Type 0
-JoinsAs state placed (IsMember member) = (arc_value member.shared ≡ state) × (state.cache.most ≡ 0)
-    × (IsTrue placed → BeginsInPart state.tags member.hand)
-JoinsAs state placed (IsCached member) = (arc_value member.shared ≡ state) × (1 ≤ state.cache.most)
-    × KeepsNone member.cache × (most_of member.cache ≡ min state.cache.most MAX_CACHE)
-    × (keeping_of member.cache ≡ state.cache.keeping)
-    × (IsTrue placed → BeginsInPart state.tags (hand_of member.cache))
-JoinsAs state placed (IsPool pool) = ⊥
+-- the pool gives this hand, its last spare one or one that had left
+abbrev pub Takes : Pool → Hand ℕ → Pool → Type 0
+Takes old hand new = (new.shared ≡ old.shared)
+    × ((old.spare.items ≡ new.spare.items ++ hand ∷ []) ⊎ (new.spare.items ≡ old.spare.items))
+
+-- the pool gives this hand as it was, or if it is placed, with its gets beginning in its own part of the tags
+pub record Gives (placed : Bool) (old new : Pool) (hand : Hand ℕ) : Type 0 where
+  pub found : Hand ℕ
+  pub takes : Takes old found new
+  pub stays : placed ≡ false → hand ≡ found
+  pub begins : IsTrue placed → BeginsInPart (arc_value old.shared).tags hand
+  pub same : (kind : sets.Kind) → SameButHint kind found hand
+
+-- a hand that the pool gives, and that belongs to it; it has a cache if the pool's hands keep tags, and keeps none yet
+abbrev pub JoinsAs : Bool → Pool → Pool → Kind → Type 0
+JoinsAs placed old new (IsMember member) = let state = arc_value old.shared in (arc_value member.shared ≡ state)
+    × (state.cache.most ≡ 0) × Gives placed old new member.hand
+JoinsAs placed old new (IsCached member) = let state = arc_value old.shared in (arc_value member.shared ≡ state)
+    × (1 ≤ state.cache.most) × KeepsNone member.cache × (most_of member.cache ≡ min state.cache.most MAX_CACHE)
+    × (keeping_of member.cache ≡ state.cache.keeping) × Gives placed old new (hand_of member.cache)
+JoinsAs placed old new (IsPool pool) = ⊥

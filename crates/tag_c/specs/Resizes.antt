@@ -1,5 +1,5 @@
 -- How a pool is resized through its handle.
-use Rattle.std.specs.Prelude.{◌≡◌, ℕ, ◌<◌, ◌≤◌, ℤ, List, All, Option, Some, None}
+use Rattle.std.specs.Prelude.{◌≡◌, ℕ, ◌<◌, ◌≤◌, ℤ, List, ◌++◌, All, Option, Some, None}
 use Rattle.std.specs.Arc.{arc_value}
 use Rattle.tag_layout.specs.declared.layout.TheConstants.{MAX_DEPTH}
 use Rattle.tag_sets.specs.declared.fault.SetFault.TheVariants.{Memory as WantOfMemory, TotalTooLarge, ReservedTooLarge}
@@ -9,7 +9,7 @@ use Rattle.tag_sets.specs.declared.hand.Hand.{Hand}
 use Rattle.tag_sets.specs.declared.tags.Tags.{Tags}
 use Rattle.tag_sets.specs.Hands.{IsHandOf, reserved_of}
 use Rattle.tag_sets.specs.Opening.{HasRange}
-use Rattle.tag_sets.specs.Resizing.{AreSame, IsRefusedFor, IsResized, MayResize}
+use Rattle.tag_sets.specs.Resizing.{AreSame, AreUnchanged, IsRefusedFor, IsResized, MayResize}
 use Rattle.tag_c.specs.declared.object.Kind.{Kind}
 use Rattle.tag_c.specs.declared.object.Kind.TheVariants.{Pool as IsPool}
 use Rattle.tag_c.specs.declared.object.Object.{Object}
@@ -25,43 +25,48 @@ status_of_cause (Used held posted) = InUse
 status_of_cause (Waiting count) = HandsWait
 status_of_cause Memory = NotOpened WantOfMemory
 
--- all hands of the old tags, of which none is in use, continue with this total
-pub record Resizes (total : ℕ) (old new : Tags ℕ) : Type 0 where
-  pub hands : List (Hand ℕ)
-  pub resized : List (Hand ℕ)
-  pub own : All (IsHandOf old) hands
-  pub may : MayResize old hands total
-  pub is : IsResized old hands total new resized
+-- all hands of the old tags, of which none is in use, continue with this total: the spare ones and those that had left,
+-- in this order; now they are all spare
+pub record Resizes (total : ℕ) (old : Tags ℕ) (spare : List (Hand ℕ)) (new : Tags ℕ) (resized : List (Hand ℕ)) : Type 0
+  where
+    pub left : List (Hand ℕ)
+    pub own : All (IsHandOf old) (spare ++ left)
+    pub may : MayResize old (spare ++ left) total
+    pub is : IsResized old (spare ++ left) total new resized
 
--- the total is in range, and the tags' hands do not continue with it for this cause
-pub record Prevents (total : ℕ) (tags : Tags ℕ) (cause : ResizeCause) : Type 0 where
+-- the total is in range, and the tags' hands, the spare ones and those that had left, do not continue with it for this
+-- cause; they are unchanged and spare
+pub record Prevents (total : ℕ) (tags : Tags ℕ) (spare : List (Hand ℕ)) (cause : ResizeCause) (back : List (Hand ℕ))
+    : Type 0 where
   pub range : HasRange total (reserved_of tags)
-  pub hands : List (Hand ℕ)
-  pub own : All (IsHandOf tags) hands
-  pub refused : IsRefusedFor tags hands total cause
+  pub left : List (Hand ℕ)
+  pub own : All (IsHandOf tags) (spare ++ left)
+  pub refused : IsRefusedFor tags (spare ++ left) total cause
+  pub back_are : AreUnchanged (spare ++ left) back
 
--- why tags do not continue with this total; for `HandsOut` only that the total is in range: that a hand is out is not
--- stated
-abbrev pub RefusesResize : ℕ → Tags ℕ → Status → Type 0
-RefusesResize total tags (NotOpened TotalTooLarge) = MAX_DEPTH < total
-RefusesResize total tags (NotOpened ReservedTooLarge) = (total ≤ MAX_DEPTH) × (total < reserved_of tags)
-RefusesResize total tags HandsOut = HasRange total (reserved_of tags)
-RefusesResize total tags HandLost = (number : ℕ) × Prevents total tags (Missing number)
-RefusesResize total tags InUse = (held : ℕ) × (posted : ℕ) × Prevents total tags (Used held posted)
-RefusesResize total tags HandsWait = (count : ℕ) × Prevents total tags (Waiting count)
-RefusesResize total tags (NotOpened WantOfMemory) = Prevents total tags Memory
-RefusesResize total tags _ = ⊥
+-- why tags with these spare hands do not continue with this total, and which hands are spare then; for `HandsOut` only
+-- that the total is in range: that a hand is out is not stated
+abbrev pub RefusesResize : ℕ → Tags ℕ → List (Hand ℕ) → Status → List (Hand ℕ) → Type 0
+RefusesResize total tags spare (NotOpened TotalTooLarge) back = (MAX_DEPTH < total) × (back ≡ spare)
+RefusesResize total tags spare (NotOpened ReservedTooLarge) back =
+    (total ≤ MAX_DEPTH) × (total < reserved_of tags) × (back ≡ spare)
+RefusesResize total tags spare HandsOut back = HasRange total (reserved_of tags) × (back ≡ spare)
+RefusesResize total tags spare HandLost back = (number : ℕ) × Prevents total tags spare (Missing number) back
+RefusesResize total tags spare InUse back = (held : ℕ) × (posted : ℕ) × Prevents total tags spare (Used held posted) back
+RefusesResize total tags spare HandsWait back = (count : ℕ) × Prevents total tags spare (Waiting count) back
+RefusesResize total tags spare (NotOpened WantOfMemory) back = Prevents total tags spare Memory back
+RefusesResize total tags spare _ back = ⊥
 
 -- tags continue with this total, or stay the same for this reason
-abbrev pub EndsResize : ℕ → Tags ℕ → Status → Tags ℕ → Type 0
-EndsResize total old Done new = Resizes total old new
-EndsResize total old status new = RefusesResize total old status × AreSame old new
+abbrev pub EndsResize : ℕ → Tags ℕ → List (Hand ℕ) → Status → Tags ℕ → List (Hand ℕ) → Type 0
+EndsResize total old spare Done new back = Resizes total old spare new back
+EndsResize total old spare status new back = RefusesResize total old spare status back × AreSame old new
 
 -- a pool is resized or refused, and the code is that of the status; its hands keep tags on the same terms; on a hand the
 -- call is refused, and nothing changes
 abbrev pub ResizesAs : ℕ → ℤ → Kind → Kind → Type 0
 ResizesAs total code (IsPool old) (IsPool new) = (status : Status) × (code ≡ code_of status)
-    × EndsResize total (arc_value old.shared).tags status (arc_value new.shared).tags
+    × EndsResize total (arc_value old.shared).tags old.spare.items status (arc_value new.shared).tags new.spare.items
     × ((arc_value new.shared).cache ≡ (arc_value old.shared).cache)
 ResizesAs total code (IsPool old) new = ⊥
 ResizesAs total code old new = (code ≡ code_of BadHandle) × (new ≡ old)

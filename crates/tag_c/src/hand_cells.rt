@@ -1,4 +1,4 @@
-//! The places in which a pool keeps the hands that no thread has.
+//! The places in which hands that left wait for their pool.
 ghost use Rattle.std.specs.Prelude.{◌≡◌, IfSome, IfErr};
 ghost use Rattle.tag_c.specs.Sharing.{SharesTags};
 
@@ -26,27 +26,15 @@ impl Fits for IdleHand {
     ghost fits = { λ witness idle. SharesTags witness idle.hand };
 }
 
-/// A place for one hand. A contract sees it as the hand that it was made for, even when that hand is out: only hands of
-/// the same tags fit in.
+/// A place for one hand. A contract sees it as the hand that it was made beside, and does not see whether a hand is in it:
+/// only hands of the same tags fit in.
 pub type HandCell = Counted<Option<IdleHand>>;
 
-/// Returns a new cell with this hand in it.
-pub(crate) fn cell_of(hand: Hand<u64>) -> HandCell
-    requires { SharesTags hand hand }
-    ensures { result ≡ hand }
+/// Returns a new, empty cell for hands that have the same tags as this one.
+pub(crate) fn empty_cell(beside: &Hand<u64>) -> HandCell
+    ensures { result ≡ beside.now }
 {
-    let cell = Counted::new(None, &hand);
-    // No other thread has the cell yet, so it is empty.
-    let _ = put_into(&cell, hand);
-    cell
-}
-
-/// Takes a cell apart and returns its hand, if it has one.
-pub(crate) fn hand_of(cell: HandCell) -> Option<Hand<u64>>
-    ensures { IfSome result (SharesTags cell) }
-{
-    let IdleHand { hand } = cell.into_inner()?;
-    Some(hand)
+    Counted::new(None, beside)
 }
 
 /// Takes the hand out of a cell. `None` if it has none, or if another thread is moving a hand in or out.

@@ -1,8 +1,9 @@
 //! Opens and closes the tags of a pool, and gives out its hands.
-ghost use Rattle.std.specs.Prelude.{◌≡◌, ◌≤◌, [], IfOk, IfErr, IfSome, vec_len, vec_capacity};
+ghost use Rattle.std.specs.Prelude.{◌≡◌, [], All, IfOk, IfErr, IfSome, IfNone, OnErr};
 ghost use Rattle.std.specs.Arc.{arc_value};
+ghost use Rattle.tag_sets.specs.Hands.{IsHandOf};
 ghost use Rattle.tag_sets.specs.Opening.{RefusesOpen};
-ghost use Rattle.tag_c.specs.Pools.{Opens, LacksHand, Gathers};
+ghost use Rattle.tag_c.specs.Pools.{Opens, LacksHand, Gathers, HasHands};
 
 use crate::cached::{CacheTerms, CachedMember};
 use crate::member::Member;
@@ -14,18 +15,20 @@ use std::sync::Arc;
 use tag_cache::Cache;
 use tag_sets::{Hand, Options, QueueTotals, SetFault, Tags};
 
-/// An open pool, with room for the list of its hands when it is closed.
+/// An open pool, with the hands that did not join since it was opened or resized.
 #[derive(Drop)]
 pub struct Pool {
     pub shared: Arc<PoolState, Global>,
-    pub room: Vec<Hand<u64>>,
-    ghost roomy: { (room.items ≡ []) × (vec_len (arc_value shared).cells ≤ vec_capacity room) },
+    /// The hand that joins next is the last.
+    pub spare: Vec<Hand<u64>>,
+    ghost own: { All (IsHandOf (arc_value shared).tags) spare.items },
 }
 
 impl Pool {
-    ghost use Rattle.tag_c.specs.Joins.{JoinsAs};
+    ghost use Rattle.tag_c.specs.Joins.{JoinsAs, Takes};
 
-    /// Opens a pool whose tags are all free and whose slots are all 0, with each hand in a cell.
+    /// Opens a pool whose tags are all free and whose slots are all 0. Until the first hand leaves, its hands join in the
+    /// order of their numbers.
     pub(crate) fn open(
         alloc: Global,
         total: u32,
@@ -33,8 +36,7 @@ impl Pool {
         options: Options,
         cache: CacheTerms,
     ) -> Result<Pool, SetFault>
-        ensures ok { IfOk result (λ pool. let state = arc_value pool.shared in
-            Opens total reserved options state.tags state.cells.items) }
+        ensures ok { IfOk result (λ pool. Opens total reserved options (arc_value pool.shared).tags pool.spare.items) }
         ensures cache { IfOk result (λ pool. (arc_value pool.shared).cache ≡ cache) }
         ensures cause { IfErr result (RefusesOpen total reserved options) }
     {
@@ -43,24 +45,42 @@ impl Pool {
             tags.discard();
             return Err(SetFault::Memory);
         };
-        let (shared, room) = PoolState::with_hands(tags, total, reserved, cache, hands, cells);
+        let shared = PoolState::with_cells(tags, total, reserved, cache, hands.as_slice(), cells);
+        let mut spare = hands;
+        spare.reverse();
         match Arc::new(alloc, shared) {
-            Ok(shared) => Ok(Pool { shared, room }),
+            Ok(shared) => Ok(Pool { shared, spare }),
             Err(_) => Err(SetFault::Memory),
         }
+    }
+
+    /// Takes out a hand that left, or else the last spare one.
+    fn next_hand(&mut self) -> Option<Hand<u64>>
+        ensures own { IfSome result (IsHandOf (arc_value self.old.shared).tags) }
+        ensures takes { IfSome result (λ hand. Takes self.old hand self.new) }
+        ensures none { IfNone result ((self.old.spare.items ≡ []) × (self.new ≡ self.old)) }
+    {
+        if let Some(hand) = self.shared.take_hand() {
+            return Some(hand);
+        }
+        if self.spare.is_empty() {
+            return None;
+        }
+        self.spare.pop()
     }
 
     /// Takes out a hand that no thread has, and gives it a cache if the pool's hands keep tags. If `placed`, its next gets
     /// begin in its own part of the tags, and otherwise where its last get left off. Fails if all hands are out, or if the
     /// pool cannot be shared once more.
-    pub(crate) fn join(&self, placed: bool) -> Result<Kind, Status>
-        ensures ok { IfOk result (JoinsAs (arc_value self.now.shared) placed) }
-        ensures why { IfErr result LacksHand }
+    pub(crate) fn join(&mut self, placed: bool) -> Result<Kind, Status>
+        ensures ok { IfOk result (JoinsAs placed self.old self.new) }
+        ensures why { IfErr result (LacksHand self.old.spare.items) }
+        ensures err { OnErr result (self.new ≡ self.old) }
     {
         let Ok(shared) = Arc::try_clone(&self.shared) else {
             return Err(Status::NotOpened(SetFault::Memory));
         };
-        let Some(mut hand) = shared.take_hand() else {
+        let Some(mut hand) = self.next_hand() else {
             return Err(Status::NoHand);
         };
         if placed {
@@ -81,13 +101,14 @@ impl Pool {
     /// Closes the pool if all its hands are back, and otherwise returns it. `Ok(None)` means that a hand was missing
     /// from the cells. That is not expected, but it is not ruled out by a proof.
     pub(crate) fn close(self) -> Result<Option<QueueTotals>, Pool>
-        ensures ok { IfOk result (λ totals. IfSome totals (Gathers (arc_value self.shared).tags)) }
+        ensures ok { IfOk result (λ totals. IfSome totals (Gathers (arc_value self.shared).tags self.spare.items)) }
+        ensures lost { IfOk result (λ totals. IfNone totals (¬ (HasHands (arc_value self.shared).tags self.spare.items))) }
         ensures err { IfErr result (λ back. back ≡ self) }
     {
-        let Pool { shared, room } = self;
+        let Pool { shared, spare } = self;
         match Arc::try_unwrap(shared) {
-            Ok(shared) => Ok(shared.gather(room)),
-            Err(shared) => Err(Pool { shared, room }),
+            Ok(shared) => Ok(shared.gather(spare)),
+            Err(shared) => Err(Pool { shared, spare }),
         }
     }
 }

@@ -1,14 +1,16 @@
 //! The part of a pool that all its hands share.
-ghost use Rattle.std.specs.Prelude.{◌≡◌, ◌≤◌, [], All, IfSome, IfErr, reverse, vec_len, vec_capacity};
+ghost use Rattle.std.specs.Prelude.{◌≡◌, ◌≤◌, ◌++◌, ℕ, length, List, [], All, IfSome, IfNone, IfErr, vec_len, vec_capacity};
 ghost use Rattle.tag_layout.specs.declared.layout.TheConstants.{MAX_DEPTH};
+ghost use Rattle.tag_sets.specs.declared.hand.Hand.{Hand};
+ghost use Rattle.tag_sets.specs.Gathering.{hands_of};
 ghost use Rattle.tag_sets.specs.Hands.{IsHandOf, reserved_of, total_of};
-ghost use Rattle.tag_c.specs.Pools.{Gathers};
+ghost use Rattle.tag_c.specs.Pools.{Gathers, HasHands};
 
 use crate::cached::CacheTerms;
-use crate::hand_cells::{HandCell, cell_of, hand_of, put_into, take_from};
+use crate::hand_cells::{HandCell, empty_cell, put_into, take_from};
 use tag_sets::{Hand, QueueTotals, Tags, TagsGatherFault};
 
-/// The tags of a pool, and a cell for each of their hands.
+/// The tags of a pool, and the cells into which its hands leave.
 pub struct PoolState {
     pub tags: Tags<u64>,
     /// Tags in both sets, at most `MAX_DEPTH`.
@@ -17,15 +19,16 @@ pub struct PoolState {
     pub reserved: u32,
     /// On which terms the hands keep tags.
     pub cache: CacheTerms,
+    /// As many as the tags have hands, so that each hand that leaves finds an empty one.
     pub cells: Vec<HandCell>,
     ghost total_is: { (total_of tags ≡ total) × (total ≤ MAX_DEPTH) },
     ghost reserved_is: { reserved_of tags ≡ reserved },
     ghost own: { All (IsHandOf tags) cells.items },
+    ghost enough: { vec_len cells ≡ hands_of tags },
 }
 
 impl PoolState {
-    /// Takes a hand out of its cell, if there is one. Until the first hand leaves, they go out in the order of their
-    /// numbers.
+    /// Takes a hand that left out of its cell, if there is one.
     #[tactic(auto, using(crate::proofs::Owners::one_owner))]
     pub(crate) fn take_hand(&self) -> Option<Hand<u64>>
         ensures { IfSome result (IsHandOf self.now.tags) }
@@ -53,45 +56,64 @@ impl PoolState {
         Err(hand)
     }
 
-    /// Puts all hands of the tags into cells, for which there is room. Returns the emptied list of hands too.
-    pub(crate) fn with_hands(
+    /// Shares tags that have these hands, with an empty cell for each.
+    pub(crate) fn with_cells(
         tags: Tags<u64>,
         total: u32,
         reserved: u32,
         cache: CacheTerms,
-        hands: Vec<Hand<u64>>,
+        hands: &[Hand<u64>],
         cells: Vec<HandCell>,
-    ) -> (PoolState, Vec<Hand<u64>>)
+    ) -> PoolState
         requires sizes { (total_of tags ≡ total) × (total ≤ MAX_DEPTH) × (reserved_of tags ≡ reserved) }
-        requires own { All (IsHandOf tags) hands.items }
-        requires room { (cells.items ≡ []) × (vec_len hands ≤ vec_capacity cells) }
-        ensures tags { result.0.tags ≡ tags }
-        ensures cells { result.0.cells.items ≡ reverse hands.items }
-        ensures cache { result.0.cache ≡ cache }
-        ensures room { (result.1.items ≡ []) × (vec_len result.0.cells ≤ vec_capacity result.1) }
+        requires own { All (IsHandOf tags) hands.now }
+        requires all { length hands.now ≡ hands_of tags }
+        requires room { (cells.items ≡ []) × (length hands.now ≤ vec_capacity cells) }
+        ensures tags { result.tags ≡ tags }
+        ensures cache { result.cache ≡ cache }
     {
-        let mut hands = hands;
         let mut cells = cells;
-        while let Some(hand) = hands.pop() {
-            cells.push_reserved(cell_of(hand));
+        for hand in hands {
+            cells.push_reserved(empty_cell(hand));
         }
-        let shared = PoolState {
+        PoolState {
             tags,
             total,
             reserved,
             cache,
             cells,
-        };
-        (shared, hands)
+        }
     }
 
-    /// Takes all hands out of their cells into `room`. Returns the emptied list of cells too.
-    pub(crate) fn part(self, room: Vec<Hand<u64>>) -> (Tags<u64>, Vec<Hand<u64>>, Vec<HandCell>)
-        requires room { (room.items ≡ []) × (vec_len self.cells ≤ vec_capacity room) }
+    /// Moves the hands that left from their cells to the end of a list of hands. The list has room for all hands of the
+    /// tags.
+    fn collect(&self, spare: Vec<Hand<u64>>) -> Vec<Hand<u64>>
+        requires { All (IsHandOf self.now.tags) spare.items }
+        ensures own { All (IsHandOf self.now.tags) result.items }
+        ensures kept { (left : List (Hand ℕ)) × (result.items ≡ spare.items ++ left) }
+    {
+        let mut hands = spare;
+        for cell in &self.cells {
+            // A full list has all hands, so no other cell has one.
+            if hands.len() == hands.capacity() {
+                break;
+            }
+            if let Some(hand) = take_from(cell) {
+                hands.push_reserved(hand);
+            }
+        }
+        hands
+    }
+
+    /// Returns the tags, their spare hands with those that left, and the cells.
+    pub(crate) fn part(self, spare: Vec<Hand<u64>>) -> (Tags<u64>, Vec<Hand<u64>>, Vec<HandCell>)
+        requires { All (IsHandOf self.tags) spare.items }
         ensures tags { result.0 ≡ self.tags }
         ensures own { All (IsHandOf self.tags) result.1.items }
-        ensures room { (result.2.items ≡ []) × (vec_len result.1 ≤ vec_capacity result.2) }
+        ensures kept { (left : List (Hand ℕ)) × (result.1.items ≡ spare.items ++ left) }
+        ensures cells { result.2 ≡ self.cells }
     {
+        let hands = self.collect(spare);
         let PoolState {
             tags,
             total: _,
@@ -99,22 +121,16 @@ impl PoolState {
             cache: _,
             cells,
         } = self;
-        let mut cells = cells;
-        let mut hands = room;
-        while let Some(cell) = cells.pop() {
-            if let Some(hand) = hand_of(cell) {
-                hands.push_reserved(hand);
-            }
-        }
         (tags, hands, cells)
     }
 
-    /// Ends the tags with all their hands, for which there is room. `None` where a hand is missing.
-    pub(crate) fn gather(self, room: Vec<Hand<u64>>) -> Option<QueueTotals>
-        requires room { (room.items ≡ []) × (vec_len self.cells ≤ vec_capacity room) }
-        ensures { IfSome result (Gathers self.tags) }
+    /// Ends the tags with the spare hands and those that left. `None` where a hand is missing.
+    pub(crate) fn gather(self, spare: Vec<Hand<u64>>) -> Option<QueueTotals>
+        requires { All (IsHandOf self.tags) spare.items }
+        ensures some { IfSome result (Gathers self.tags spare.items) }
+        ensures none { IfNone result (¬ (HasHands self.tags spare.items)) }
     {
-        let (tags, hands, _) = self.part(room);
+        let (tags, hands, _) = self.part(spare);
         match Tags::gather(tags, hands) {
             Ok(totals) => Some(totals),
             Err(fault) => {

@@ -1,9 +1,9 @@
 //! Opens and closes pools, and gives out and takes back their hands, through handles. Each call is described in tags.h.
-ghost use Rattle.std.specs.Prelude.{◌≡◌, ◌≢◌, ◌≤◌, ℕ, ◌⊎◌, ◌↔◌, pos, IsSome, None, IfOk, IfErr, IfSome, IsTrue};
+ghost use Rattle.std.specs.Prelude.{◌≡◌, ◌≢◌, ◌≤◌, ℕ, ◌⊎◌, ◌↔◌, pos, IsSome, None, IfOk, IfErr, IfSome, IsTrue, OnErr};
 ghost use Rattle.std.specs.Arc.{arc_value};
 ghost use Rattle.tag_sets.specs.declared.tags.Tags.{Tags};
 ghost use Rattle.tag_c.specs.Codes.{code_of};
-ghost use Rattle.tag_c.specs.Exports.{HasPool, HasHand, IsPoolIn, IsMemberIn, Refuses, Ends};
+ghost use Rattle.tag_c.specs.Exports.{HasPool, HasHand, IsPoolIn, IsMemberIn, Refuses, Ends, IsRefusedJoin};
 ghost use Rattle.tag_c.specs.Exports.{OpensPool, RefusesOpen, JoinsKind, JoinsPool, RefusesHandOf, RefusesJoin, RefusesLeave, ClosesPool, RefusesClose};
 ghost use Rattle.tag_c.specs.declared.status.Status.TheVariants.{Done, NotEmpty, BadHandle, HandsOut, HandLost, NoBerth};
 
@@ -21,11 +21,12 @@ const STAY: u32 = 1;
 
 impl Object {
     /// Takes out a hand of this pool. Fails if this is a hand, if the flags are unknown, or if the pool gives no hand.
-    pub(crate) fn join(&self, flags: u32) -> Result<Kind, Status>
-        ensures ok { IfOk result (JoinsKind flags self.now.kind) }
-        ensures why { IfErr result (RefusesHandOf self.now.kind flags) }
+    pub(crate) fn join(&mut self, flags: u32) -> Result<Kind, Status>
+        ensures ok { IfOk result (JoinsKind flags self.old.kind self.new.kind) }
+        ensures why { IfErr result (RefusesHandOf self.old.kind flags) }
+        ensures err { OnErr result (self.new ≡ self.old) }
     {
-        let Kind::Pool(pool) = &self.kind else {
+        let Kind::Pool(pool) = &mut self.kind else {
             return Err(Status::BadHandle);
         };
         if flags > STAY {
@@ -164,10 +165,10 @@ pub extern "C" fn tags_open_cached(
 
 #[unsafe(no_mangle)]
 pub extern "C" fn tags_join(alloc: Global, pool: &mut Handle, hand: &mut Handle, flags: u32) -> i32
-    ensures joins { result ≡ pos 0 → JoinsPool flags pool.old.object.value hand.new.object.value }
+    ensures joins { result ≡ pos 0 → JoinsPool flags pool.old.object.value pool.new.object.value hand.new.object.value }
     ensures not_empty { IsSome hand.old.object.value → result ≡ code_of NotEmpty }
     ensures why { result ≢ pos 0 → Refuses (RefusesJoin pool.old.object.value hand.old.object.value flags) result }
-    ensures pool { pool.new.object.value ≡ pool.old.object.value }
+    ensures pool { result ≢ pos 0 → IsRefusedJoin result pool.old.object.value pool.new.object.value }
     ensures refused { result ≢ pos 0 → hand.new.object.value ≡ hand.old.object.value }
 {
     if hand.full != 0 {

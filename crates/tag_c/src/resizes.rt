@@ -1,7 +1,7 @@
 //! Resizing a pool whose hands are all back.
-ghost use Rattle.std.specs.Prelude.{◌≡◌, ◌≤◌, [], vec_len, vec_capacity};
+ghost use Rattle.std.specs.Prelude.{◌≡◌, All};
 ghost use Rattle.std.specs.Arc.{arc_value};
-ghost use Rattle.tag_sets.specs.Hands.{reserved_of};
+ghost use Rattle.tag_sets.specs.Hands.{IsHandOf, reserved_of};
 ghost use Rattle.tag_sets.specs.Opening.{HasRange};
 ghost use Rattle.tag_c.specs.Resizes.{status_of_cause, EndsResize, ResizesAs, ResizesBy};
 
@@ -29,30 +29,34 @@ fn status_of(cause: ResizeCause) -> Status
 }
 
 impl PoolState {
-    /// Resizes the tags with all hands, which are collected in the given room. Returns the emptied room too. If the resize is
-    /// refused, the tags and the hands continue as they were.
+    /// Resizes the tags with the spare hands and those that left, and returns all of them. If the resize is refused, the
+    /// tags and the hands continue as they were.
     fn resize(self, request: (Global, u32, Vec<Hand<u64>>)) -> (PoolState, (Vec<Hand<u64>>, Status))
-        requires room { (request.2.items ≡ []) × (vec_len self.cells ≤ vec_capacity request.2) }
+        requires own { All (IsHandOf self.tags) request.2.items }
         requires range { HasRange request.1 (reserved_of self.tags) }
-        ensures room { (result.1.0.items ≡ []) × (vec_len result.0.cells ≤ vec_capacity result.1.0) }
-        ensures ends { EndsResize request.1 self.tags result.1.1 result.0.tags }
+        ensures own { All (IsHandOf result.0.tags) result.1.0.items }
+        ensures ends { EndsResize request.1 self.tags request.2.items result.1.1 result.0.tags result.1.0.items }
         ensures cache { result.0.cache ≡ self.cache }
     {
-        let (alloc, total, room) = request;
+        let (alloc, total, spare) = request;
         let (former, reserved, cache) = (self.total, self.reserved, self.cache);
-        let (tags, hands, cells) = self.part(room);
+        let (tags, hands, mut cells) = self.part(spare);
         match Tags::resize(alloc, tags, hands, total) {
             Ok((tags, hands)) => {
-                let (shared, room) = PoolState::with_hands(
-                    tags, total, reserved, cache, hands, cells,
-                );
-                (shared, (room, Status::Done))
+                let members = &hands[..cells.len()];
+                cells.clear();
+                let shared = PoolState::with_cells(tags, total, reserved, cache, members, cells);
+                (shared, (hands, Status::Done))
             }
             Err(TagsResizeFault { cause, tags, hands }) => {
-                let (shared, room) = PoolState::with_hands(
-                    tags, former, reserved, cache, hands, cells,
-                );
-                (shared, (room, status_of(cause)))
+                let shared = PoolState {
+                    tags,
+                    total: former,
+                    reserved,
+                    cache,
+                    cells,
+                };
+                (shared, (hands, status_of(cause)))
             }
         }
     }
@@ -62,7 +66,8 @@ impl Pool {
     /// Continues with this many tags, as many of them reserved as before, if all hands are back, no tag is in use and no hand
     /// is in a wait group.
     pub(crate) fn resize(self, request: (Global, u32)) -> (Pool, Status)
-        ensures ends { EndsResize request.1 (arc_value self.shared).tags result.1 (arc_value result.0.shared).tags }
+        ensures ends { EndsResize request.1 (arc_value self.shared).tags self.spare.items result.1
+            (arc_value result.0.shared).tags result.0.spare.items }
         ensures cache { (arc_value result.0.shared).cache ≡ (arc_value self.shared).cache }
     {
         let (alloc, total) = request;
@@ -72,12 +77,12 @@ impl Pool {
         if total < self.shared.reserved {
             return (self, Status::NotOpened(SetFault::ReservedTooLarge));
         }
-        let Pool { mut shared, room } = self;
+        let Pool { mut shared, spare } = self;
         let Some(inner) = Arc::get_mut(&mut shared) else {
-            return (Pool { shared, room }, Status::HandsOut);
+            return (Pool { shared, spare }, Status::HandsOut);
         };
-        let (room, status) = replace_with(inner, (alloc, total, room), PoolState::resize);
-        (Pool { shared, room }, status)
+        let (spare, status) = replace_with(inner, (alloc, total, spare), PoolState::resize);
+        (Pool { shared, spare }, status)
     }
 }
 

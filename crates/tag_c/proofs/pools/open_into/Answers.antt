@@ -93,8 +93,8 @@ returns-in_default-clause-not_empty c = λ some. let pool = c.args.pool.now in
 pub returns-clause-opens : goal.returns-clause-opens
 returns-clause-opens c = λ _. let requested = c.args.requested.now in let state = arc_value c.in-Ok.opened.shared in
     let most = c.args.most in let keeping = c.args.keeping in
-    let opens : Opens requested.total requested.reserved (options_of requested) state.tags state.cells.items =
-    subst (λ (o : Options). Opens requested.total requested.reserved o state.tags state.cells.items)
+    let opens : Opens requested.total requested.reserved (options_of requested) state.tags c.in-Ok.opened.spare.items =
+    subst (λ (o : Options). Opens requested.total requested.reserved o state.tags c.in-Ok.opened.spare.items)
     c.read_options.ensures c.in-Ok.ensures.ok in
     subst (λ (x : Option Object). OpensPool requested most keeping x) (sym c.of.ensures)
     (subst (λ (x : Object). OpensPool requested most keeping (Some x)) (sym c.in-Ok-new.ensures.ok) (

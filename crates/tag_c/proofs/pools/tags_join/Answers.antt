@@ -1,11 +1,12 @@
--- The pool's handle keeps its object in every case; the other was empty, and is filled only with a hand of it.
+-- The pool's handle keeps its pool in every case; the other was empty, and is filled only with a hand of it.
 use Rattle.std.proofs.Common.{rules, ◌≡◌, ℕ, Option, Some, None, inl, inr, refl, sym, subst, ◌∙◌}
 use Rattle.tag_sets.specs.declared.fault.SetFault.TheVariants.{Memory}
 use Rattle.tag_sets.specs.declared.tags.Tags.{Tags}
 use Rattle.tag_c.specs.declared.handle.Handle.{Handle}
 use Rattle.tag_c.specs.declared.object.Object.{Object}
 use Rattle.tag_c.specs.declared.status.Status.TheVariants.{BadHandle, NotEmpty, NotOpened}
-use Rattle.tag_c.specs.Exports.{RefusesJoin, JoinsKind, JoinsPool, IsPoolOf, IsMemberIn}
+use Rattle.tag_c.specs.Exports.{RefusesJoin, JoinsKind, JoinsPool, GaveBackBy, IsPoolOf, IsMemberIn}
+use Rattle.tag_c.proofs.Calling.{stored}
 use Rattle.tag_c.proofs.Refusing.{refuses, refused, no_pool, join_below, refuses_join, joiner, joined}
 use Rattle.tag_c.proofs.Flags.{is_some_of, not_some_of, empty_of}
 use Rattle.tag_c.proofs.pools.tags_join.Goals as goal
@@ -46,14 +47,15 @@ returns-in-Err-clause-why c = λ _. let pool = c.args.pool.now.object.value in l
 
 pub leave-requires : goal.leave-requires
 leave-requires c = let pool = c.in-Some.object.now.kind in
-    subst IsHand (sym c.in-Err-new.ensures.value_returned) (joiner c.args.flags pool c.in-Ok.kind c.in-Ok.ensures.ok)
+    subst IsHand (sym c.in-Err-new.ensures.value_returned)
+    (joiner c.args.flags pool c.join.new.self.kind c.in-Ok.kind c.in-Ok.ensures.ok)
 
 pub returns-in-Ok-new-clause-joins : goal.returns-in-Ok-new-clause-joins
-returns-in-Ok-new-clause-joins c = λ _. let pool = c.in-Some.object.now in
+returns-in-Ok-new-clause-joins c = λ _. let old = c.in-Some.object.now in let new = c.join.new.self in
     let flags = c.args.flags in
-    subst (λ (x : Option Object). JoinsPool flags x c.of.result.object.value) (sym c.in-Some.ensures.some)
-    (subst (λ (x : Option Object). JoinsPool flags (Some pool) x) (sym c.of.ensures)
-    (subst (λ (x : Object). JoinsKind flags pool.kind x.kind) (sym c.in-Ok-new.ensures.ok) c.in-Ok.ensures.ok))
+    subst (λ (x : Option Object). JoinsPool flags x (Some new) c.of.result.object.value) (sym c.in-Some.ensures.some)
+    (subst (λ (x : Option Object). JoinsPool flags (Some old) (Some new) x) (sym c.of.ensures)
+    (subst (λ (x : Object). JoinsKind flags old.kind new.kind x.kind) (sym c.in-Ok-new.ensures.ok) c.in-Ok.ensures.ok))
 
 pub returns-in-Ok-new-clause-not_empty : goal.returns-in-Ok-new-clause-not_empty
 returns-in-Ok-new-clause-not_empty c = λ full. let hand = c.args.hand.now in
@@ -65,7 +67,7 @@ returns-in-Err-new-clause-not_empty c = λ full. let hand = c.args.hand.now in
 
 pub returns-in-Err-new-clause-why : goal.returns-in-Err-new-clause-why
 returns-in-Err-new-clause-why c = λ _. let code = c.code-in-Err-new in
-    let there = joined c.args.flags c.in-Some.object.now.kind c.in-Ok.kind c.in-Ok.ensures.ok in
+    let there = joined c.args.flags c.in-Some.object.now.kind c.join.new.self.kind c.in-Ok.kind c.in-Ok.ensures.ok in
     let pool = there.0 in
     refuses (RefusesJoin c.args.pool.now.object.value c.args.hand.now.object.value c.args.flags) (NotOpened Memory)
     code.result code.ensures code.type_inv (inr (inr (
@@ -73,3 +75,11 @@ returns-in-Err-new-clause-why c = λ _. let code = c.code-in-Err-new in
       (pool.0, subst (λ (x : Option Object). IsPoolOf pool.0 x) (sym c.in-Some.ensures.some) pool.1),
       inr (there.1, inr refl),
     )))
+
+pub returns-in-Err-new-clause-pool : goal.returns-in-Err-new-clause-pool
+returns-in-Err-new-clause-pool c = λ _. let code = c.code-in-Err-new in let new = c.join.new.self in
+    let gave = joined c.args.flags c.in-Some.object.now.kind new.kind c.in-Ok.kind c.in-Ok.ensures.ok in
+    inr (
+      stored code.result code.type_inv ∙ code.ensures,
+      subst (λ (x : Option Object). GaveBackBy x (Some new)) (sym c.in-Some.ensures.some) gave.2,
+    )

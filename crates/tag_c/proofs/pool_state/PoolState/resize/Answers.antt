@@ -1,26 +1,67 @@
--- The tags that come back are those that were handed in, for the cause that is told.
-use Rattle.std.proofs.Common.{◌≡◌, ℕ, All, refl, sym, subst}
+-- All hands are there after a resize; a refusal leaves the tags and the cells as they were, for the cause that is told.
+use Rattle.std.proofs.Common.{◌≡◌, ℕ, All, ap, refl, sym, subst, ◌∙◌}
+use Rattle.std.proofs.lemmas.List.Elements.{All-take}
 use Rattle.tag_queue.specs.declared.resizes.ResizeCause.{ResizeCause}
 use Rattle.tag_sets.specs.declared.tags.Tags.{Tags}
-use Rattle.tag_sets.specs.Hands.{IsHandOf, reserved_of}
-use Rattle.tag_sets.specs.Opening.{HasRange}
-use Rattle.tag_c.specs.Resizes.{EndsResize}
-use Rattle.tag_c.proofs.Resizing.{refusal_ends}
+use Rattle.tag_sets.specs.Hands.{IsHandOf, reserved_of, total_of}
+use Rattle.tag_sets.specs.Gathering.{hands_of}
+use Rattle.tag_c.proofs.Collected.{as_many, as_many_there, same_count, same_total, all_still_own}
+use Rattle.tag_c.proofs.Resizing.{resizes, refused_ends}
 use Rattle.tag_c.proofs.pool_state.PoolState.resize.Goals as goal
 
 pub resize-requires : goal.resize-requires
 resize-requires c = let parted = c.part-tags.ensures in
     subst (λ (tags : Tags ℕ). All (IsHandOf tags) c.part-tags.result.1.items) (sym parted.tags) parted.own
 
+pub slice_bounds-members-end : goal.slice_bounds-members-end
+slice_bounds-members-end c =
+    let were : c.len.result ≡ hands_of c.part-tags.result.0 =
+    (let len = c.len.ensures in let cells = c.part-tags.ensures.cells in let tags = c.part-tags.ensures.tags in
+    let enough = c.args.self.enough in cc) in
+    sym (as_many_there c.part-tags.result.0 c.in-Ok.tags c.part-tags.result.1.items c.in-Ok.hands.items c.args.request.1
+    (c.in-Ok.ensures.may refl) c.in-Ok.ensures.ok c.len.result were c.deref.result.now c.deref.ensures.value)
+
+pub with_cells-shared-requires-clause-own : goal.with_cells-shared-requires-clause-own
+with_cells-shared-requires-clause-own c = All-take (IsHandOf c.in-Ok.tags) c.len.result c.deref.result.now
+    (subst (All (IsHandOf c.in-Ok.tags)) (sym c.deref.ensures.value) c.in-Ok.ensures.ok.own)
+
+pub with_cells-shared-requires-clause-all : goal.with_cells-shared-requires-clause-all
+with_cells-shared-requires-clause-all c =
+    let were : c.len.result ≡ hands_of c.part-tags.result.0 =
+    (let len = c.len.ensures in let cells = c.part-tags.ensures.cells in let tags = c.part-tags.ensures.tags in
+    let enough = c.args.self.enough in cc) in let parted = c.part-tags.result in
+    as_many_there parted.0 c.in-Ok.tags parted.1.items c.in-Ok.hands.items c.args.request.1
+    (c.in-Ok.ensures.may refl) c.in-Ok.ensures.ok c.len.result were c.deref.result.now c.deref.ensures.value
+    ∙ were ∙ sym (as_many parted.0 c.in-Ok.tags parted.1.items c.in-Ok.hands.items c.args.request.1
+    (c.in-Ok.ensures.may refl) c.in-Ok.ensures.ok)
+
+pub returns-in-Ok-clause-own : goal.returns-in-Ok-clause-own
+returns-in-Ok-clause-own c = subst (λ (tags : Tags ℕ). All (IsHandOf tags) c.in-Ok.hands.items)
+    (sym c.with_cells-shared.ensures.tags) c.in-Ok.ensures.ok.own
+
+pub returns-in-Ok-clause-ends : goal.returns-in-Ok-clause-ends
+returns-in-Ok-clause-ends c = let parted = c.part-tags.ensures in
+    resizes c.args.request.1 c.args.self.tags c.part-tags.result.0 c.args.request.2.items parted.kept.0
+    c.part-tags.result.1.items parted.tags parted.kept.1 c.in-Ok.tags c.with_cells-shared.result.tags c.in-Ok.hands.items
+    c.with_cells-shared.ensures.tags parted.own (c.in-Ok.ensures.may refl) c.in-Ok.ensures.ok
+
+pub invariant_of-shared : goal.invariant_of-shared
+invariant_of-shared c = let self = c.args.self in let parted = c.part-tags.ensures in let tags = c.part-tags.result.0 in
+    let new = c.in-Err.field-0.tags in let same = c.in-Err.ensures.err.0 in record {
+      total_is = (same_total tags new same ∙ ap total_of parted.tags ∙ self.total_is.0, self.total_is.1);
+      reserved_is = same.split ∙ ap reserved_of parted.tags ∙ self.reserved_is;
+      own = all_still_own tags new same c.part-tags.result.2.items
+          (subst (λ (t : Tags ℕ). All (IsHandOf t) c.part-tags.result.2.items) (sym parted.tags)
+          (subst (All (IsHandOf self.tags)) (let cells = parted.cells in cc) self.own));
+      enough =
+          let cells = parted.cells in let tags_are = parted.tags in let enough = self.enough in
+          let count = same_count tags new same in cc;
+    }
+
 pub returns-in-Err-clause-ends : goal.returns-in-Err-clause-ends
-returns-in-Err-clause-ends c = let e = c.in-Err.ensures in let fault = c.in-Err.field-0 in let total = c.args.request.1 in
-    let hands = c.part-tags.result.1.items in let parted = c.part-tags.ensures in
-    let new = c.with_hands-shared-in-Err.result.0.tags in
-    subst (λ (tags : Tags ℕ). EndsResize total tags c.status_of.result new) parted.tags
-    (refusal_ends total c.part-tags.result.0 hands
-    (subst (λ (tags : Tags ℕ). HasRange total (reserved_of tags)) (sym parted.tags) c.requires.range)
-    (subst (λ (tags : Tags ℕ). All (IsHandOf tags) hands) (sym parted.tags) parted.own)
+returns-in-Err-clause-ends c = let e = c.in-Err.ensures in let fault = c.in-Err.field-0 in let parted = c.part-tags.ensures in
+    refused_ends c.args.request.1 c.args.self.tags c.part-tags.result.0 c.args.request.2.items parted.kept.0
+    c.part-tags.result.1.items parted.tags parted.kept.1 c.requires.range parted.own fault.hands.items e.err.1
     (λ (other : ResizeCause). fault.cause ≡ other)
     record { missing = e.missing; too_deep = e.too_deep; in_use = e.in_use; waiting = e.waiting; memory = e.memory }
-    fault.cause refl c.status_of.result c.status_of.ensures fault.tags new c.with_hands-shared-in-Err.ensures.tags
-    e.err.0)
+    fault.cause refl c.status_of.result c.status_of.ensures fault.tags e.err.0

@@ -1,0 +1,12 @@
+-- There is a cell for each hand so far, and room for one for each other hand.
+use Rattle.std.proofs.Common.{◌≡◌, ◌≤◌, length, vec_len, vec_capacity}
+use Rattle.std.specs.Prelude.{All}
+use Rattle.tag_sets.specs.Hands.{IsHandOf}
+use Rattle.tag_c.proofs.pool_state.PoolState.with_cells.Given as goal
+
+abbrev pub invariant-loop-hand : goal.invariant-loop-hand
+invariant-loop-hand l = record {
+  own : All (IsHandOf l.tags) l.cells.items;
+  count : vec_len l.cells ≡ l.hand-index;
+  room : length l.hands ≤ vec_capacity l.cells;
+}
