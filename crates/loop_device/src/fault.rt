@@ -120,7 +120,8 @@ impl LogCause {
             LogCause::BadLine(Misfit::UnknownCommand(_)) => {
                 "no such action with this many words; a file name has no blanks"
             }
-            LogCause::BadNumber(LogNumber::Time) => "the time is not a decimal number, or is too large",
+            LogCause::BadNumber(LogNumber::Time) =>
+                "the time is not a decimal number, or is too large",
             LogCause::BadNumber(_) => "not a decimal number of at most 9223372036854775807",
             LogCause::UnknownName => "no line before this one adds this file",
             LogCause::TooManyNames => "a seventeenth file, and a log has 16 at most",

@@ -64,8 +64,14 @@ fn play_refusal(setup: &Setup, fault: PlayFault) -> Refusal
         PlayFault::Memory => (Place::Whole, "out of memory"),
         PlayFault::Setup => (Place::Whole, setup.flaw().unwrap_or("no such setup")),
         PlayFault::Lost(line) => (Place::Line(line), "not carried out: a bug in tagplay"),
-        PlayFault::Twice(line) => (Place::Line(line), "carried out more than once: a bug in tagplay"),
-        PlayFault::Spurious => (Place::Whole, "what was carried out is no line of the log: a bug in tagplay"),
+        PlayFault::Twice(line) => (
+            Place::Line(line),
+            "carried out more than once: a bug in tagplay",
+        ),
+        PlayFault::Spurious => (
+            Place::Whole,
+            "what was carried out is no line of the log: a bug in tagplay",
+        ),
     };
     Refusal { place, what }
 }

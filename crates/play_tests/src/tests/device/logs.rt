@@ -37,10 +37,12 @@ const LENGTH: LogCause = LogCause::BadNumber(LogNumber::Length);
 /// The line where a fault `BadLine` is.
 fn bad_line_of(alloc: Global, text: &[u8]) -> Option<u64> {
     match fault_of(alloc, text) {
-        Some(LogFault {
-            line,
-            cause: LogCause::BadLine(_),
-        }) => Some(line),
+        Some(
+            LogFault {
+                line,
+                cause: LogCause::BadLine(_),
+            },
+        ) => Some(line),
         _ => None,
     }
 }
@@ -117,7 +119,11 @@ fn faulty_logs(rt: HostRuntime) -> Result<(), Fail> {
         (b"my file add".as_slice(), 2, COUNT),
     ] {
         let text = behind_header(rt.alloc(), lines)?;
-        assert_eq!(rt; fault_of(rt.alloc(), &text), Some(LogFault { line, cause }), "at {lines:?}");
+        assert_eq!(rt;
+            fault_of(rt.alloc(), &text),
+            Some(LogFault { line, cause }),
+            "at {lines:?}"
+        );
     }
     Ok(())
 }

@@ -5,7 +5,8 @@ use std::alloc::{AllocError, Global};
 use std::test::Fail;
 use tag_lines::Misfit;
 
-const PLAIN: &[u8] = b"fio version 2 iolog\na add\na write 0 512\nb wait 1 1\na trim 0 9223372036854775807";
+const PLAIN: &[u8] =
+    b"fio version 2 iolog\na add\na write 0 512\nb wait 1 1\na trim 0 9223372036854775807";
 
 /// The same log with times, among them equal ones, leading zeros and the greatest one.
 const TIMED: &[u8] = b"fio version 3 iolog\n0 a add\n007 a write 0 512\n7 b wait 1 1\n\
@@ -50,7 +51,11 @@ fn faulty_times(rt: HostRuntime) -> Result<(), Fail> {
     for (lines, line, cause) in [
         (b"5 a add\n4 a open".as_slice(), 3, LogCause::EarlierTime),
         (b"5 a add\n4 a shut".as_slice(), 3, LogCause::EarlierTime),
-        (b"5 a add\n6 a open\n5 a close".as_slice(), 4, LogCause::EarlierTime),
+        (
+            b"5 a add\n6 a open\n5 a close".as_slice(),
+            4,
+            LogCause::EarlierTime,
+        ),
         (b"a add".as_slice(), 2, time),
         (b"-1 a add".as_slice(), 2, time),
         (b"1.5 a add".as_slice(), 2, time),
@@ -87,7 +92,10 @@ fn faulty_times(rt: HostRuntime) -> Result<(), Fail> {
 #[test]
 fn the_other_header_is_told_apart(rt: HostRuntime) {
     let fault = fault_of(rt.alloc(), PLAIN);
-    assert_eq!(rt; fault.map(|fault| fault.cause), Some(LogCause::OtherVersion));
+    assert_eq!(rt;
+        fault.map(|fault| fault.cause),
+        Some(LogCause::OtherVersion)
+    );
     let fault = fault_of(rt.alloc(), b"fio version 1 iolog\n");
     assert_eq!(rt; fault.map(|fault| fault.cause), Some(LogCause::NoHeader));
     assert_eq!(rt; fault_of(rt.alloc(), b"fio version 3 iolog"), None);

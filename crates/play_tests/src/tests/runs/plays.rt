@@ -36,7 +36,11 @@ fn expect<R: Abort + AllocGlobal + Threads + Wait + Sync>(
     let mut reader = log;
     let mut written = Vec::new(rt.alloc());
     let outcome = run_play(rt, rt.alloc(), &options, &mut reader, &mut written);
-    assert_eq!(rt; outcome == Ok(Ending::Done), text.starts_with("names="), "at {log:?}");
+    assert_eq!(rt;
+        outcome == Ok(Ending::Done),
+        text.starts_with("names="),
+        "at {log:?}"
+    );
     assert_eq!(rt; outcome.is_ok(), true, "at {log:?}");
     assert_eq!(rt; written.as_slice(), text.as_bytes(), "at {log:?}");
 }
@@ -183,13 +187,29 @@ fn a_log_with_times_is_reported_as_without(rt: HostRuntime) {
         setup: FOUR,
         with_times: true,
     };
-    let log = "fio version 3 iolog\n0 /dev/loop0 add\n12 /dev/loop0 open\n12 /dev/loop0 write 0 4096\n\
+    let log =
+        "fio version 3 iolog\n0 /dev/loop0 add\n12 /dev/loop0 open\n12 /dev/loop0 write 0 4096\n\
         13 /dev/loop0 write 4096 4096\n20 /dev/loop0 read 0 8192\n20 /dev/loop0 sync 0 0\n25 /dev/loop0 close";
     expect(&rt, with_times, log.as_bytes(), SMALL_REPORT);
-    expect(&rt, without_times(FOUR), log.as_bytes(), "line 1 refused 1\n");
+    expect(
+        &rt,
+        without_times(FOUR),
+        log.as_bytes(),
+        "line 1 refused 1\n",
+    );
     expect(&rt, with_times, SMALL.as_bytes(), "line 1 refused 1\n");
     let falls = b"fio version 3 iolog\n5 a add\n4 a open\n".as_slice();
     expect(&rt, with_times, falls, "line 3 refused 7\n");
-    expect(&rt, with_times, b"fio version 3 iolog\na add\n", "line 2 refused 3\n");
-    expect(&rt, with_times, b"fio version 3 iolog\n5\n", "line 2 refused 2\n");
+    expect(
+        &rt,
+        with_times,
+        b"fio version 3 iolog\na add\n",
+        "line 2 refused 3\n",
+    );
+    expect(
+        &rt,
+        with_times,
+        b"fio version 3 iolog\n5\n",
+        "line 2 refused 2\n",
+    );
 }

@@ -13,7 +13,11 @@ fn expect<R: Abort + AllocGlobal>(
     let verdict = verdict_on(rt.alloc(), options, list.as_bytes())?;
     let written = verdict.text(rt.alloc())?;
     assert_eq!(rt; written.as_slice(), text.as_bytes(), "at {list}");
-    assert_eq!(rt; verdict.ending() == Ending::Done, text.starts_with("ok "), "at {list}");
+    assert_eq!(rt;
+        verdict.ending() == Ending::Done,
+        text.starts_with("ok "),
+        "at {list}"
+    );
     Ok(())
 }
 

@@ -7,7 +7,7 @@ use Rattle.tag_bench.proofs.shared_cache.CachedTagAllocator.gather.Goals as goal
 pub loop-cache-init : goal.loop-cache-init
 loop-cache-init c =
     let whole : into_iter_items c.into_iter-cache-iterator.result ≡ c.args.caches.items =
-        c.into_iter-cache-iterator.ensures.into_iter_gives.0 in
+    c.into_iter-cache-iterator.ensures.into_iter_gives.0 in
     record { steps = (tt, tt); rest = subst (All (IsCacheOf c.args.self.tags)) (sym whole) c.requires }
 
 pub into_hand-hand-requires : goal.into_hand-hand-requires
