@@ -2,6 +2,7 @@
 # library.sh build [--prove]: makes out/libtags.a beside this file: crates/tag_c, with what of the library is C.
 # library.sh install [--prove] PREFIX: makes it, and puts it, tags.h, tags.hpp, tags.pc and CMake package files below the prefix.
 # library.sh uninstall PREFIX: removes them.
+# library.sh crate FOLDER: makes a copy of the Rust crate that has what it makes the library of, for `cargo package`.
 # library.sh generate [FOLDER]: proves crates/tag_c and makes generated/, or FOLDER, of it, for x86-64 and 64-bit ARM.
 # library.sh dist: makes archives and Debian packages for x86-64 and 64-bit ARM, and those of tagplay, in dist/ beside this file.
 # The crate is taken from generated/, which needs only a C compiler and ar, unless its sources have changed since that was made:
@@ -18,7 +19,7 @@ AR=${AR:-${tools}ar}
 export LC_ALL=C
 
 usage() {
-  sed -n '2,11s/^# //p' "$0" >&2
+  sed -n '2,12s/^# //p' "$0" >&2
   exit 2
 }
 
@@ -219,6 +220,18 @@ uninstall_from() {
 }
 
 prove=
+# The crate takes the files from the checkout around it, and a copy has none.
+copy_crate() {
+  local kind
+  need tar sha256sum
+  for kind in x86_64 aarch64; do
+    current_assembly "$kind-linux" > /dev/null
+  done
+  mkdir -p "$1/native" || fail "$1 can't be written: nothing was made"
+  tar -C "$here/rust" --exclude=./target --exclude=./.gitignore -cf - . | tar -C "$1" -xf -
+  cp "$here"/*.c "$here"/*.h "$here"/generated/*.s "$1/native"
+}
+
 case "${1:-} ${2:-}" in
   'build --prove' | 'install --prove') prove=1 && set -- "$1" "${@:3}" ;;
 esac
@@ -230,6 +243,7 @@ case "$#:${1:-}" in
   # For dist.py: puts what was built.
   2:put) put "$2" ;;
   2:uninstall) uninstall_from "$2" ;;
+  2:crate) copy_crate "$2" ;;
   # For CMake and Cargo: the assembly for a target. For generate.py: the sum of the sources of crates.
   2:assembly) current_assembly "$2" ;;
   *:sum) sum_of_sources "${@:2}" ;;

@@ -63,9 +63,7 @@ def put_manual(folder):
 
 def put_crate(folder):
     """The Rust crate, whose build script finds an installed library, or makes one of what native/ has."""
-    for name in ran("git", "-C", C, "ls-files", "rust").split():
-        if os.path.basename(name) != ".gitignore":
-            copy(f"{C}/{name}", f"{folder}/{name.removeprefix('rust/')}")
+    subprocess.run([f"{C}/library.sh", "crate", folder], check=True)
 
 
 ABOUT = """

@@ -1,7 +1,8 @@
 //! Links libtags: the one in the folder that `TAGS_LIB_DIR` names, or else the one that pkg-config finds (`PKG_CONFIG` names another
-//! program for that), of which a shared library is preferred unless `TAGS_STATIC=1`; or else one that it makes of the files in
-//! `native/`, the proved code as assembly and the rest in C. That takes a C compiler and `ar`: `CC` and `AR` name others, for another
-//! target `CC_aarch64_unknown_linux_gnu` and the like. If there is no library, the build ends with the reason of each place.
+//! program for that), of which a shared library is preferred unless `TAGS_STATIC=1`; or else one that it makes of the proved code as
+//! assembly and the rest in C. These files are in `native/` of a crate that was packed, and else in the checkout around the crate. That
+//! takes a C compiler and `ar`: `CC` and `AR` name others, for another target `CC_aarch64_unknown_linux_gnu` and the like. If there is
+//! no library, the build ends with the reason of each place.
 use std::env;
 use std::ffi::OsStr;
 use std::fs;
@@ -107,11 +108,33 @@ fn sum_of(lines: &str) -> Result<String, String> {
     Ok(text(&said.stdout).chars().take(64).collect())
 }
 
-/// The assembly for the target, which has to be as it was made. In a checkout, where it is a link and may be older than its
-/// sources, `library.sh` says that.
-fn assembly(native: &Path) -> Found {
+/// Where the files of the library are.
+struct Files {
+    /// Those in C.
+    in_c: PathBuf,
+    /// The assembly.
+    generated: PathBuf,
+    /// What says whether the assembly is older than its sources, in a checkout.
+    script: Option<PathBuf>,
+}
+
+fn files() -> Files {
+    let own = Path::new(env!("CARGO_MANIFEST_DIR"));
+    let (native, around) = (own.join("native"), own.join(".."));
+    if native.is_dir() {
+        return Files { in_c: native.clone(), generated: native, script: None };
+    }
+    let (generated, script) = (around.join("generated"), Some(around.join("library.sh")));
+    Files { in_c: around, generated, script }
+}
+
+/// The assembly for the target, which has to be as it was made, and no older than its sources.
+fn assembly(files: &Files) -> Found {
     let processor = target("ARCH");
-    let file = native.join(format!("tag_c-{processor}.s"));
+    if !files.generated.is_dir() {
+        return Err("the crate lacks native/: `c/library.sh crate FOLDER` of the repository makes one that has it".into());
+    }
+    let file = files.generated.join(format!("tag_c-{processor}.s"));
     if target("OS") != "linux" || target("POINTER_WIDTH") != "64" || !file.exists() {
         let triple = env::var("TARGET").unwrap_or_default();
         return Err(format!("there is no assembly for {triple}: the library is for x86-64 and 64-bit ARM under Linux"));
@@ -125,8 +148,7 @@ fn assembly(native: &Path) -> Found {
         let name = file.display();
         return Err(format!("{name} is not as it was made, by its own sum"));
     }
-    if file.is_symlink() {
-        let script = native.join("../../library.sh");
+    if let Some(script) = &files.script {
         let linux = format!("{processor}-linux");
         let words = [script.as_os_str(), "assembly".as_ref(), linux.as_ref()];
         run("bash", &words)?;
@@ -134,15 +156,18 @@ fn assembly(native: &Path) -> Found {
     Ok(file)
 }
 
-/// Makes the library of the files in `native/`.
+/// Makes the library of its files.
 fn made() -> Found {
-    let native = Path::new(env!("CARGO_MANIFEST_DIR")).join("native");
+    let all = files();
     let out = PathBuf::from(env::var_os("OUT_DIR").unwrap_or_default());
-    println!("cargo:rerun-if-changed={}", native.display());
-    let listed = fs::read_dir(&native).map_err(|error| format!("{}: {error}", native.display()))?;
+    let code = assembly(&all)?;
+    let listed = fs::read_dir(&all.in_c).map_err(|error| format!("{}: {error}", all.in_c.display()))?;
     let mut files: Vec<PathBuf> = listed.flatten().map(|it| it.path()).collect();
     files.retain(|it| it.extension().is_some_and(|end| end == "c"));
-    files.push(assembly(&native)?);
+    for header in ["bell.h", "tags.h"] {
+        println!("cargo:rerun-if-changed={}", all.in_c.join(header).display());
+    }
+    files.push(code);
     files.sort();
     let (compiler, archive) = (tool("CC", "cc"), out.join("libtags.a"));
     let mut words = vec![PathBuf::from("rcs"), archive.clone()];

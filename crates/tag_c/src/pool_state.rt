@@ -57,6 +57,8 @@ impl PoolState {
     }
 
     /// Shares tags that have these hands, with an empty cell for each.
+    // In line, this and `part` make a resize, which moves whole pools, ten times as long.
+    #[inline(never)]
     pub(crate) fn with_cells(
         tags: Tags<u64>,
         total: u32,
@@ -106,6 +108,7 @@ impl PoolState {
     }
 
     /// Returns the tags, their spare hands with those that left, and the cells.
+    #[inline(never)]
     pub(crate) fn part(self, spare: Vec<Hand<u64>>) -> (Tags<u64>, Vec<Hand<u64>>, Vec<HandCell>)
         requires { All (IsHandOf self.tags) spare.items }
         ensures tags { result.0 ≡ self.tags }

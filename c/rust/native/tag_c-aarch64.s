@@ -1,1 +1,0 @@
-../../generated/tag_c-aarch64.s

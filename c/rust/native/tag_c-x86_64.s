@@ -1,1 +1,0 @@
-../../generated/tag_c-x86_64.s
