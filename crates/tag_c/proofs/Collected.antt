@@ -43,9 +43,11 @@ at_first (y ∷ xs) ys (suc i) x is = at_first xs ys i x is
 
 -- if the spare hands are all hands of the tags, they are so with others behind them
 still_all : (tags : Tags ℕ) (spare left : List (Hand ℕ)) → HasHands tags spare → HasHands tags (spare ++ left)
-still_all tags spare left every = λ number low. let has = every number low in
-    (has.0, subst (λ (ns : List ℕ). get_elem? ns has.0 ≡ some number) (sym (map-append number_of spare left))
-    (at_first (numbers_of spare) (numbers_of left) has.0 number has.1))
+still_all tags spare left every = λ number low. let has = every number low in (
+  has.0,
+  subst (λ (ns : List ℕ). get_elem? ns has.0 ≡ some number) (sym (map-append number_of spare left))
+      (at_first (numbers_of spare) (numbers_of left) has.0 number has.1),
+)
 
 module _ (tags parted : Tags ℕ) (spare left hands : List (Hand ℕ)) (same : parted ≡ tags) (are : hands ≡ spare ++ left) where
   -- what was gathered are the spare hands and those that had left
@@ -68,7 +70,7 @@ module _ (tags parted : Tags ℕ) (spare left hands : List (Hand ℕ)) (same : p
       let least = told.2 in least.1 (still_all tags spare left every told.0 least.0)
 
 module _ (old new : Tags ℕ) (hands resized : List (Hand ℕ)) (total : ℕ) (may : MayResize old hands total)
-  (is : IsResized old hands total new resized) where
+    (is : IsResized old hands total new resized) where
   -- after a resize the tags have as many hands as before
   pub as_many : hands_of new ≡ hands_of old
   as_many = is.ordinary.callers.next.callers_is

@@ -27,7 +27,7 @@ module _ (total : ℕ) (tags : Tags ℕ) (spare left : List (Hand ℕ)) where
   refused_for told are Memory is = are.memory is
 
   module _ (range : HasRange total (reserved_of tags)) (own : All (IsHandOf tags) hands) (back : List (Hand ℕ))
-    (unchanged : AreUnchanged hands back) where
+      (unchanged : AreUnchanged hands back) where
     prevents : (cause : ResizeCause) → IsRefusedFor tags hands total cause → Prevents total tags spare cause back
     prevents cause is =
         record { range = range; left = left; own = own; refused = is; back_are = unchanged }
@@ -53,7 +53,7 @@ module _ (total : ℕ) (tags : Tags ℕ) (spare left : List (Hand ℕ)) where
         (ends_as cause new (refused_for told are cause is) same)
 
 module _ (total : ℕ) (old parted : Tags ℕ) (spare left hands : List (Hand ℕ)) (same : parted ≡ old)
-  (are : hands ≡ spare ++ left) where
+    (are : hands ≡ spare ++ left) where
   -- the spare hands and those that had left were resized
   pub resizes : (new made : Tags ℕ) (resized : List (Hand ℕ)) → made ≡ new → All (IsHandOf old) hands
       → MayResize parted hands total → IsResized parted hands total new resized → Resizes total old spare made resized
