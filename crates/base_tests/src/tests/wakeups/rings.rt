@@ -169,7 +169,7 @@ fn sleep_or_wake<R: Wait>(
 }
 
 #[test]
-fn a_nudge_wakes_as_many_as_it_is_for(rt: HostRuntime) -> Result<(), Fail> {
+fn a_nudge_wakes_as_many_threads_as_it_is_for(rt: HostRuntime) -> Result<(), Fail> {
     let (groups, mut waiters) = Groups::open(rt.alloc(), 3)?;
     let tally = new_tally();
     thread::for_each_mut(
@@ -183,7 +183,7 @@ fn a_nudge_wakes_as_many_as_it_is_for(rt: HostRuntime) -> Result<(), Fail> {
 }
 
 #[test]
-fn a_ring_wakes_as_many_as_there_are_grants(rt: HostRuntime) -> Result<(), Fail> {
+fn a_ring_wakes_as_many_threads_as_there_are_grants(rt: HostRuntime) -> Result<(), Fail> {
     let (groups, mut waiters) = Groups::open(rt.alloc(), 3)?;
     let tally = new_tally();
     thread::for_each_mut(
