@@ -6,6 +6,7 @@
  * a new thread follows on the same hand, and stops the pool.
  */
 #define _GNU_SOURCE
+#include <errno.h>
 #include <inttypes.h>
 #include <poll.h>
 #include <pthread.h>
@@ -96,15 +97,21 @@ static int32_t sleep_for_tag(struct worker *self)
 
 /*
  * glibc 2.36 acts on a cancel that is on its way when the thread disables cancels, once the
- * thread enters a cancellation point. So the system calls below are none.
+ * thread enters a cancellation point. So the system calls below are none. Its signal may
+ * interrupt them.
  */
 static void await_event(struct worker *self)
 {
 	struct pollfd look = { self->event, POLLIN, 0 };
-	const struct timespec most = { PATIENCE, 0 };
+	/* the kernel leaves here how much of the time is left */
+	struct timespec most = { PATIENCE, 0 };
 	uint64_t unused;
+	long told;
 
-	want(syscall(SYS_ppoll, &look, 1, &most, NULL, 0) == 1, "a loop sleeps for long", 0);
+	do
+		told = syscall(SYS_ppoll, &look, 1, &most, NULL, 0);
+	while (told < 0 && errno == EINTR);
+	want(told == 1, "a loop sleeps for long", told);
 	want(syscall(SYS_read, self->event, &unused, sizeof(unused)) > 0, "an eventfd", 0);
 }
 
