@@ -41,8 +41,8 @@ unsafe extern "C" {
     fn tags_library_join(pool: *mut Handle, hand: *mut Handle, flags: u32) -> i32;
     fn tags_library_leave(hand: *mut Handle) -> i32;
     fn tags_library_close(pool: *mut Handle, sums: *mut [u64; 8]) -> i32;
-    fn tags_library_get(hand: *mut Handle) -> i32;
-    fn tags_library_get_batch(hand: *mut Handle, n: u32, won: *mut u64) -> i32;
+    fn tags_library_get(hand: *mut Handle, left: *mut u64) -> i32;
+    fn tags_library_get_batch(hand: *mut Handle, n: u32, won: *mut u64, left: *mut u64) -> i32;
     fn tags_library_clear(hand: *mut Handle, tag: u32) -> i32;
     fn tags_library_clear_run(hand: *mut Handle, first: u32, mask: u64) -> i32;
     fn tags_library_write(hand: *mut Handle, tag: u32, value: u64, former: *mut u64) -> i32;
@@ -155,8 +155,10 @@ impl<K: Keeping> Tags for TagC<K> {
 
     #[inline]
     fn get(&self, hand: &mut Hand) -> Option<u32> {
+        // Nobody waits here, so nobody is told of tags that the get left free.
+        let mut left = 0;
         // SAFETY: as of `drop`.
-        u32::try_from(unsafe { tags_library_get(&mut hand.0) }).ok()
+        u32::try_from(unsafe { tags_library_get(&mut hand.0, &mut left) }).ok()
     }
 
     #[inline]
@@ -184,9 +186,9 @@ impl<K: Keeping> Tags for TagC<K> {
 
     #[inline]
     fn get_batch(&self, hand: &mut Hand, tags: &mut [u32; BATCH]) -> usize {
-        let mut won = 0;
+        let (mut won, mut left) = (0, 0);
         // SAFETY: as of `drop`.
-        let first = unsafe { tags_library_get_batch(&mut hand.0, BATCH as u32, &mut won) };
+        let first = unsafe { tags_library_get_batch(&mut hand.0, BATCH as u32, &mut won, &mut left) };
         (hand.1, hand.2) = (first as u32, won);
         let mut count = 0;
         while first >= 0 && won != 0 {
