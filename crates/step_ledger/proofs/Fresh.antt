@@ -1,9 +1,9 @@
 -- The records of all members in one seat, in the order of their numbers, as a table opens with them.
-use Rattle.std.proofs.Common.{◌≡◌, ℕ, zero, suc, ◌+◌, ◌-◌, ◌<◌, List, [], ◌∷◌, ◌++◌, arith, refl, sym, ap, ◌∙◌, subst}
+use Rattle.std.proofs.Common.{◌≡◌, ℕ, zero, suc, ◌+◌, ◌-◌, ◌<◌, [], ◌∷◌, arith, refl, sym, ap, ◌∙◌, subst}
 use mathlib.Core.Option.{some, some-injective, some-ne-none}
 use lib.ListN.{get_elem?}
 use Rattle.step_ledger.specs.declared.record.View.{View}
-use Rattle.step_ledger.specs.Views.{viewing, records_from}
+use Rattle.step_ledger.specs.Views.{viewing, own_view, first_view, other_views, records_from}
 use Rattle.step_ledger.proofs.Seats.{Standing}
 
 module _ {A : Type 0} (record_of : ℕ → A) where
@@ -23,19 +23,23 @@ module _ {A : Type 0} (record_of : ℕ → A) where
   at_from (suc m) c (suc i) h = at_from m (suc c) i (omega arith)
       ∙ (let z : suc c + i ≡ c + suc i = omega arith in ap (λ (x : ℕ). some (record_of x)) z)
 
-  -- the first of those that are still there, and the rest
-  pub next_from : (c n : ℕ) → c < n
+  -- the first of those that are still to come, and the rest
+  next_from : (c n : ℕ) → c < n
       → records_from record_of c (n - c) ≡ record_of c ∷ records_from record_of (c + 1) (n - (c + 1))
   next_from c n h = let d : ℕ = n - (c + 1) in let e : n - c ≡ suc d = omega arith in
       let e' : suc c ≡ c + 1 = omega arith in
       ap (records_from record_of c) e ∙ ap (λ (z : ℕ). record_of c ∷ records_from record_of z d) e'
 
-  -- one more behind them
-  pub from_longer : (c n : ℕ) → records_from record_of c n ++ record_of (c + n) ∷ [] ≡ records_from record_of c (n + 1)
-  from_longer c zero = let z : c + 0 ≡ c = omega arith in ap (λ (x : ℕ). record_of x ∷ []) z
-  from_longer c (suc n) = let z : c + suc n ≡ suc c + n = omega arith in let y : suc n + 1 ≡ suc (n + 1) = omega arith in
-      ap (λ (x : ℕ). record_of c ∷ (records_from record_of (suc c) n ++ record_of x ∷ [])) z
-      ∙ ap (λ (l : List A). record_of c ∷ l) (from_longer (suc c) n) ∙ ap (records_from record_of c) (sym y)
+  -- what the seat that they are handed out from has, gives and keeps
+  module _ (c n : ℕ) (low : c < n) (v : View A) (is : v ≡ viewing (records_from record_of c (n - c))) where
+    pub next_is : v ≡ viewing (record_of c ∷ records_from record_of (c + 1) (n - (c + 1)))
+    next_is = is ∙ ap viewing (next_from c n low)
+
+    pub next_first : first_view v ≡ own_view (record_of c)
+    next_first = ap first_view next_is
+
+    pub next_others : other_views v ≡ viewing (records_from record_of (c + 1) (n - (c + 1)))
+    next_others = ap other_views next_is
 
   -- where the records stand in a table that opens
   pub standing-fresh : (number : A → ℕ) (Known : A → Type 0) (n : ℕ) → ((c : ℕ) → number (record_of c) ≡ c)

@@ -1,5 +1,6 @@
 pub mod Seats
 pub mod Fresh
+pub mod Numbers
 pub mod Moves
 pub mod Whole
 pub mod Members

@@ -1,17 +1,17 @@
 -- Steps of members, and records that pass from seat to seat, keep the rule of a ledger. Nothing here depends on what
 -- the steps are.
-use Rattle.std.proofs.Common.{◌≡◌, ◌≢◌, ℕ, ◌<◌, List, [], ◌∷◌, get_or, set, Bool, cond, refl, sym, ap, ◌∙◌, subst, ⊎_elim, eq-eqb, ne_eqb}
+use Rattle.std.proofs.Common.{◌≡◌, ◌≢◌, ℕ, ◌+◌, ◌-◌, ◌<◌, List, [], ◌∷◌, get_or, set, Bool, cond, refl, sym, ap, ◌∙◌, subst, ⊎_elim, eq-eqb, ne_eqb}
 use mathlib.Core.Option.{some}
 use lib.ListN.{get_elem?}
 use Rattle.atomic_table.specs.Table.{State, Me, opening, Allows, keeps, Splits, Joins}
 use Rattle.atomic_table.proofs.Lists.{at_set}
-use Rattle.step_ledger.specs.Records.{Records, with_step, push, fresh_record, fresh, steps_of, Stepped}
+use Rattle.step_ledger.specs.Records.{Records, with_step, push, fresh_record, fresh, still_to_come, steps_of, Stepped}
 use Rattle.step_ledger.specs.declared.record.Record.{Record}
 use Rattle.step_ledger.specs.Views.{viewing, own_view, first_view, other_views, both_views}
 use Rattle.step_ledger.specs.History.{own_steps, words_left, Lawful}
 use Rattle.step_ledger.specs.Ledger.{Ledger}
 use Rattle.step_ledger.proofs.Seats.{Standing, first_only, each_same}
-use Rattle.step_ledger.proofs.Fresh.{standing-fresh}
+use Rattle.step_ledger.proofs.Fresh.{standing-fresh, next_is}
 use Rattle.step_ledger.proofs.Moves.{splits_first, joins_behind}
 
 module _ {T : Type 0} where
@@ -149,9 +149,14 @@ module _ {S T : Type 0} (n : ℕ) (start : List ℕ) (after : T → List ℕ →
   }
 
   -- the first record goes to a new seat
-  pub splits : (id : ℕ) (v : Records T) (r : Record T) (rs : List (Record T)) → v ≡ viewing (r ∷ rs)
+  splits : (id : ℕ) (v : Records T) (r : Record T) (rs : List (Record T)) → v ≡ viewing (r ∷ rs)
       → Splits Rule id v (other_views v) (first_view v)
   splits = splits_first (λ (r : Record T). r.number) n Rule (λ s k. IsKnown n k.history) standing reseated
+
+  -- the next of the members that are still to come goes to a new seat
+  pub splits_next : (id : ℕ) (v : Records T) (c m : ℕ) → c < m → v ≡ still_to_come c m
+      → Splits Rule id v (other_views v) (first_view v)
+  splits_next id v c m low is = splits id v (fresh_record c) (fresh (c + 1) (m - (c + 1))) (next_is fresh_record c m low v is)
 
   -- the other's records stand behind those of the first
   pub joins : (id : ℕ) (v : Records T) (other : ℕ) (w : Records T)

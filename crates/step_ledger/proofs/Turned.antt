@@ -4,7 +4,7 @@ use mathlib.Core.List.{map-append}
 use mathlib.Core.Option.{some, some-injective, some-ne-none}
 use lib.ListN.{get_elem?}
 use Rattle.atomic_table.proofs.Lists.{at_longer}
-use Rattle.step_ledger.specs.Gather.{Has, turned}
+use Rattle.step_ledger.specs.Gather.{Has, HasAll, turned}
 use Rattle.step_ledger.specs.Records.{Records, numbers, sum_over}
 use Rattle.step_ledger.specs.declared.record.Record.{Record}
 use Rattle.step_ledger.specs.Views.{own_view, both_views}
@@ -54,12 +54,16 @@ pub taken_first : {A B : Type 0} (f : A → B) (xs left : List A) (x : A) → xs
     → map f left ++ f x ∷ [] ≡ map f xs
 taken_first f xs left x e = sym (map-append f left (x ∷ [])) ∙ ap (map f) (sym e)
 
--- whose records they are, where they are made of members
-pub numbers_map : {A T : Type 0} (record_of : A → Record T) (number_of : A → ℕ)
-    → ((a : A) → (record_of a).number ≡ number_of a)
-    → (xs : List A) → numbers (map record_of xs) ≡ map number_of xs
-numbers_map record_of number_of same [] = refl
-numbers_map record_of number_of same (x ∷ xs) = λ j. same x j ∷ numbers_map record_of number_of same xs j
+-- where members have all numbers, their records have
+pub numbers_all : {A T : Type 0} (record_of : A → Record T) (number_of : A → ℕ)
+    → ((a : A) → (record_of a).number ≡ number_of a) → (xs : List A) (rs : List (Record T)) (n : ℕ)
+    → rs ≡ map record_of xs → HasAll (map number_of xs) n → HasAll (numbers rs) n
+numbers_all {A} {T} record_of number_of same xs rs n are all = subst (λ (ns : List ℕ). HasAll ns n)
+    (sym (ap numbers are ∙ numbers_map xs)) all
+  where
+    numbers_map : (xs : List A) → numbers (map record_of xs) ≡ map number_of xs
+    numbers_map [] = refl
+    numbers_map (x ∷ xs) = λ j. same x j ∷ numbers_map xs j
 
 module _ {T : Type 0} where
   pub sum_append : (f : List T → ℕ) (rs qs : List (Record T)) → sum_over f (rs ++ qs) ≡ sum_over f rs + sum_over f qs

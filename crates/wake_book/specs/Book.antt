@@ -52,6 +52,10 @@ IsGatheringOf book gathering = gathering.seat.table_id ≡ book.table.shared.tab
 abbrev pub gathered : TellerGathering → List (Record BookStep)
 gathered gathering = members.turned gathering.seat.me.0.records.value
 
+-- these are the tellers gathered, and they were opened with the book
+abbrev pub AreGathered : Book → List Teller → TellerGathering → Type 0
+AreGathered book tellers gathering = IsGatheringOf book gathering × (gathered gathering ≡ records_of tellers)
+
 -- the parameters with which the book was opened
 abbrev pub limits_of : Book → Limits
 limits_of book = book.limits

@@ -67,6 +67,10 @@ IsGatheringOf groups gathering = gathering.seat.table_id ≡ groups.table.shared
 abbrev pub gathered : WaiterGathering → List (Record GroupStep)
 gathered gathering = members.turned gathering.seat.me.0.records.value
 
+-- these are the waiters gathered, and they were opened with the groups
+abbrev pub AreGathered : Groups → List Waiter → WaiterGathering → Type 0
+AreGathered groups waiters gathering = IsGatheringOf groups gathering × (gathered gathering ≡ records_of waiters)
+
 -- how many waiters the groups have
 abbrev pub waiters_of : Groups → ℕ
 waiters_of groups = groups.waiters

@@ -2,7 +2,7 @@
 ghost use Rattle.std.specs.Prelude.{◌≡◌, ◌↔◌, [], ◌∷◌, All, IfOk, IfErr, IsOk};
 ghost use Rattle.std.specs.Slots.{slots_len};
 ghost use Rattle.step_ledger.specs.Records.{numbers};
-ghost use Rattle.step_ledger.specs.Gather.{Has, HasAll, IsCauseOf};
+ghost use Rattle.step_ledger.specs.Gather.{HasAll, IsCauseOf};
 ghost use Rattle.wake_book.specs.Book.{IsTellerOf, record_of, records_of, numbers_of, tellers_of, limits_of};
 ghost use Rattle.wake_book.specs.Book.{IsGatheringOf, gathered};
 ghost use Rattle.wake_book.specs.Booked.{IsBooked};
@@ -10,7 +10,7 @@ ghost use Rattle.wake_book.specs.Booked.{IsBooked};
 use crate::book::{Book, BookTotals, COMPLETIONS, Teller, TellerGathering, WAKEUPS};
 use atomic_table::Closed;
 use std::alloc::Global;
-use step_ledger::{Collect, GatherCause, least_missing};
+use step_ledger::{Collect, Gather, GatherCause, all_there, gather_each};
 
 /// The reason why `gather` failed, with the book and the tellers that were passed in.
 #[derive(Drop)]
@@ -31,32 +31,15 @@ impl Book {
         ensures missing { IfErr result (λ fault. IsCauseOf (numbers_of tellers.items) (tellers_of book) fault.cause) }
         ensures err { IfErr result (λ fault. (fault.book ≡ book) × (fault.tellers ≡ tellers)) }
     {
-        if let Some(number) = least_missing(tellers.as_slice(), book.limits.tellers) {
+        if let Err(cause) = all_there(&tellers, book.limits.tellers) {
             return Err(BookGatherFault {
-                cause: GatherCause::Missing(number),
+                cause,
                 book,
                 tellers,
             });
         }
-        let all = book.gather_each(tellers);
+        let all = gather_each(&book, tellers);
         Ok(book.finish(all))
-    }
-
-    fn gather_each(&self, mut tellers: Vec<Teller>) -> TellerGathering
-        requires own { All (IsTellerOf self.now) tellers.items }
-        requires some { Has (numbers_of tellers.items) 0 }
-        ensures book { IsGatheringOf self.now result }
-        ensures gathered { gathered result ≡ records_of tellers.items }
-    {
-        let Some(last) = tellers.pop() else {
-            unreachable!()
-        };
-        let mut all = self.start_gathering(last);
-        while let Some(teller) = tellers.pop() {
-            all.add(self, teller);
-        }
-        tellers.destroy_empty();
-        all
     }
 
     /// Starts a gathering with its first teller.
@@ -95,6 +78,26 @@ impl Book {
             charged,
             charges,
         }
+    }
+}
+
+impl Gather for Book {
+    ghost use Rattle.wake_book.specs.Book.{AreGathered};
+
+    type Member = Teller;
+
+    type Gathering = TellerGathering;
+
+    ghost owns = { λ book teller. IsTellerOf book teller };
+
+    ghost gathers = { λ book tellers gathering. AreGathered book tellers gathering };
+
+    fn take_first(&self, teller: Teller) -> TellerGathering {
+        self.start_gathering(teller)
+    }
+
+    fn take_next(&self, gathering: &mut TellerGathering, teller: Teller) {
+        gathering.add(self, teller);
     }
 }
 

@@ -1,7 +1,6 @@
 //! Opens a book with its tellers.
 ghost use Rattle.std.specs.Prelude.{◌≡◌, ℕ, ◌+◌, ◌^◌, ◌<◌, ◌≤◌, ◌↔◌, ◌⊎◌, [], ◌∷◌, All, IfOk};
-ghost use Rattle.step_ledger.specs.Records.{fresh, fresh_record, still_to_come};
-ghost use Rattle.wake_book.specs.Charges.{all_fresh};
+ghost use Rattle.step_ledger.specs.Records.{fresh_record, still_to_come};
 ghost use Rattle.wake_book.specs.Book.{IsTellerOf, record_of, records_of, tellers_of, IsOpenBook, MiscountsBook};
 
 use crate::book::{BOOK_WORDS, Book, Limits, Teller};
@@ -9,7 +8,7 @@ use crate::fault::BookFault;
 use crate::steps::BookStep;
 use atomic_table::{Seat, Table};
 use std::alloc::{AllocError, Global};
-use step_ledger::{HandOut, Records};
+use step_ledger::{HandOut, MemberSource, Records, hand_out};
 
 /// The largest batch, in completions.
 const MAX_BATCH: u32 = 8;
@@ -59,41 +58,35 @@ impl Book {
             limits,
             batch,
         };
-        let tellers = book.hand_out(alloc, rest)?;
+        let tellers = hand_out(alloc, &book, rest, limits.tellers)?;
         Ok((book, tellers))
     }
+}
 
-    fn hand_out(
+impl MemberSource for Book {
+    type Member = Teller;
+
+    type Rest = Seat<(), Records<BookStep>>;
+
+    ghost count_of = { λ book. tellers_of book };
+
+    ghost has_rest = { λ book number rest. (rest.table_id ≡ book.table.shared.table_id)
+        × (rest.me ≡ (still_to_come number (tellers_of book), [])) };
+
+    ghost is_new = { λ book number teller. IsTellerOf book teller × (record_of teller ≡ fresh_record number) };
+
+    fn next_member(
         &self,
-        alloc: Global,
-        mut rest: Seat<(), Records<BookStep>>,
-    ) -> Result<Vec<Teller>, AllocError>
-        requires { (rest.table_id ≡ self.now.table.shared.table_id) × (rest.me ≡ (all_fresh self.now.limits, [])) }
-        ensures own { IfOk result (λ tellers. All (IsTellerOf self.now) tellers.items) }
-        ensures fresh_all { IfOk result (λ tellers. records_of tellers.items ≡ fresh 0 (tellers_of self.now)) }
-    {
-        let mut tellers = Vec::new(alloc);
-        for number in 0..self.limits.tellers {
-            let teller = self.new_teller(&mut rest, number);
-            tellers.push(teller)?;
-        }
-        Ok(tellers)
-    }
-
-    /// Makes the next teller from the seat that holds its record and those of all later tellers.
-    fn new_teller(&self, rest: &mut Seat<(), Records<BookStep>>, number: u32) -> Teller
-        requires comes { (number < self.now.limits.tellers) × (rest.old.table_id ≡ self.now.table.shared.table_id) }
-        requires knows { rest.old.me ≡ (still_to_come number (tellers_of self.now), []) }
-        ensures teller { IsTellerOf self.now result × (record_of result ≡ fresh_record number) }
-        ensures rest { rest.new.table_id ≡ rest.old.table_id }
-        ensures knows { rest.new.me ≡ (still_to_come (number + 1) (tellers_of self.now), []) }
-    {
+        _alloc: Global,
+        rest: &mut Seat<(), Records<BookStep>>,
+        number: u32,
+    ) -> Result<Teller, AllocError> {
         let seat = self.table.shared.split_seat::<HandOut>(rest);
-        Teller {
+        Ok(Teller {
             seat,
             number,
             count: 0,
             charges: 0,
-        }
+        })
     }
 }

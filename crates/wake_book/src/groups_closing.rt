@@ -3,7 +3,7 @@ ghost use Rattle.std.specs.Prelude.{◌≡◌, ◌↔◌, [], ◌∷◌, All, If
 ghost use Rattle.std.specs.Slots.{slots_len, slots_items, IsFull};
 ghost use Rattle.sums.specs.Below.{sum_below};
 ghost use Rattle.step_ledger.specs.Records.{numbers};
-ghost use Rattle.step_ledger.specs.Gather.{Has, HasAll, IsCauseOf};
+ghost use Rattle.step_ledger.specs.Gather.{HasAll, IsCauseOf};
 ghost use Rattle.wake_book.specs.Waits.{granted, groups_width, waiting, word};
 ghost use Rattle.wake_book.specs.Groups.{IsWaiterOf, record_of, records_of, numbers_of, waiters_of};
 ghost use Rattle.wake_book.specs.Groups.{IsGatheringOf, gathered};
@@ -13,7 +13,7 @@ use crate::book_closing::discard;
 use crate::groups::{GROUPS, GroupTotals, Groups, WAITING, Waiter, WaiterGathering, group_spot};
 use atomic_table::Closed;
 use std::alloc::Global;
-use step_ledger::{Collect, GatherCause, least_missing};
+use step_ledger::{Collect, Gather, GatherCause, all_there, gather_each};
 
 /// The reason why `gather` failed, with the groups and the waiters that were passed in.
 #[derive(Drop)]
@@ -35,32 +35,15 @@ impl Groups {
         ensures missing { IfErr result (λ fault. IsCauseOf (numbers_of waiters.items) (waiters_of groups) fault.cause) }
         ensures err { IfErr result (λ fault. (fault.groups ≡ groups) × (fault.waiters ≡ waiters)) }
     {
-        if let Some(number) = least_missing(waiters.as_slice(), groups.waiters) {
+        if let Err(cause) = all_there(&waiters, groups.waiters) {
             return Err(GroupsGatherFault {
-                cause: GatherCause::Missing(number),
+                cause,
                 groups,
                 waiters,
             });
         }
-        let all = groups.gather_each(waiters);
+        let all = gather_each(&groups, waiters);
         Ok(groups.finish(all))
-    }
-
-    fn gather_each(&self, mut waiters: Vec<Waiter>) -> WaiterGathering
-        requires own { All (IsWaiterOf self.now) waiters.items }
-        requires some { Has (numbers_of waiters.items) 0 }
-        ensures groups { IsGatheringOf self.now result }
-        ensures gathered { gathered result ≡ records_of waiters.items }
-    {
-        let Some(last) = waiters.pop() else {
-            unreachable!()
-        };
-        let mut all = self.start_gathering(last);
-        while let Some(waiter) = waiters.pop() {
-            all.add(self, waiter);
-        }
-        waiters.destroy_empty();
-        all
     }
 
     /// Starts a gathering with its first waiter.
@@ -101,6 +84,26 @@ impl Groups {
             granted,
             waiting,
         }
+    }
+}
+
+impl Gather for Groups {
+    ghost use Rattle.wake_book.specs.Groups.{AreGathered};
+
+    type Member = Waiter;
+
+    type Gathering = WaiterGathering;
+
+    ghost owns = { λ groups waiter. IsWaiterOf groups waiter };
+
+    ghost gathers = { λ groups waiters gathering. AreGathered groups waiters gathering };
+
+    fn take_first(&self, waiter: Waiter) -> WaiterGathering {
+        self.start_gathering(waiter)
+    }
+
+    fn take_next(&self, gathering: &mut WaiterGathering, waiter: Waiter) {
+        gathering.add(self, waiter);
     }
 }
 

@@ -1,7 +1,6 @@
 //! Opens wait groups with their waiters.
 ghost use Rattle.std.specs.Prelude.{◌≡◌, ◌≢◌, ℕ, ◌+◌, ◌<◌, ◌≤◌, ◌↔◌, ◌⊎◌, [], ◌∷◌, All, IfOk};
-ghost use Rattle.step_ledger.specs.Records.{fresh, fresh_record, still_to_come};
-ghost use Rattle.wake_book.specs.Waits.{all_fresh};
+ghost use Rattle.step_ledger.specs.Records.{fresh_record, still_to_come};
 ghost use Rattle.wake_book.specs.Groups.{IsWaiterOf, IsNew, record_of, records_of, waiters_of, AreOpenGroups, MiscountsGroups};
 
 use crate::fault::BookFault;
@@ -13,7 +12,7 @@ use crossbeam_utils::CachePadded;
 use crossbeam_utils::sync::EventCount;
 use std::alloc::{AllocError, Global};
 use std::snapshot::Snapshot;
-use step_ledger::{HandOut, Records};
+use step_ledger::{HandOut, MemberSource, Records, hand_out};
 
 /// The most waiters that groups can have.
 const MAX_WAITERS: u32 = 64;
@@ -57,44 +56,39 @@ impl Groups {
                 new_bell(),
             ],
         };
-        let all = groups.hand_out(alloc, rest)?;
+        let all = hand_out(alloc, &groups, rest, waiters)?;
         Ok((groups, all))
     }
+}
 
-    fn hand_out(
+impl MemberSource for Groups {
+    type Member = Waiter;
+
+    type Rest = Seat<(), Records<GroupStep>>;
+
+    ghost count_of = { λ groups. waiters_of groups };
+
+    ghost has_rest = { λ groups number rest. (rest.table_id ≡ groups.table.shared.table_id)
+        × (rest.me ≡ (still_to_come number (waiters_of groups), [])) };
+
+    ghost is_new = { λ groups number waiter. IsWaiterOf groups waiter × IsNew waiter
+        × (record_of waiter ≡ fresh_record number) };
+
+    fn next_member(
         &self,
-        alloc: Global,
-        mut rest: Seat<(), Records<GroupStep>>,
-    ) -> Result<Vec<Waiter>, AllocError>
-        requires { (rest.table_id ≡ self.now.table.shared.table_id) × (rest.me ≡ (all_fresh self.now.waiters, [])) }
-        ensures own { IfOk result (λ all. All (IsWaiterOf self.now) all.items × All IsNew all.items) }
-        ensures fresh_all { IfOk result (λ all. records_of all.items ≡ fresh 0 (waiters_of self.now)) }
-    {
-        let mut all = Vec::new(alloc);
-        for number in 0..self.waiters {
-            let waiter = self.new_waiter(&mut rest, number);
-            all.push(waiter)?;
-        }
-        Ok(all)
-    }
-
-    /// Makes the next waiter from the seat that holds its record and those of all later waiters.
-    fn new_waiter(&self, rest: &mut Seat<(), Records<GroupStep>>, number: u32) -> Waiter
-        requires comes { (number < self.now.waiters) × (rest.old.table_id ≡ self.now.table.shared.table_id) }
-        requires knows { rest.old.me ≡ (still_to_come number (waiters_of self.now), []) }
-        ensures waiter { IsWaiterOf self.now result × IsNew result × (record_of result ≡ fresh_record number) }
-        ensures rest { rest.new.table_id ≡ rest.old.table_id }
-        ensures knows { rest.new.me ≡ (still_to_come (number + 1) (waiters_of self.now), []) }
-    {
+        _alloc: Global,
+        rest: &mut Seat<(), Records<GroupStep>>,
+        number: u32,
+    ) -> Result<Waiter, AllocError> {
         let seat = self.table.shared.split_seat::<HandOut>(rest);
-        Waiter {
+        Ok(Waiter {
             seat,
             number,
             standing: None,
             next: 0,
             moved: 0,
             rung: Snapshot::of(&Rung::Nudged(0)),
-        }
+        })
     }
 }
 
