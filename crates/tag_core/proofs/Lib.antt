@@ -26,6 +26,7 @@ pub mod Crossing
 pub mod Totalling
 pub mod Entries
 pub mod SeatMoves
+pub mod Seatings
 pub mod Settlings
 pub mod Chains
 pub mod Reopenings

@@ -16,7 +16,7 @@ use crate::spots::state_spot;
 use crate::together::Gathering;
 use atomic_table::Closed as Ended;
 use std::alloc::Global;
-use step_ledger::{GatherCause, least_missing};
+use step_ledger::{Gather, all_there, gather_each};
 use tag_layout::Layout;
 use tag_model::Totals;
 
@@ -98,14 +98,32 @@ impl<R: Drop> Map<R> {
         ensures missing { IfErr result (λ f. IsCauseOf (numbers_of callers.items) self.shape.callers f.cause) }
         ensures err { IfErr result (λ f. (f.map ≡ self) × (f.callers ≡ callers)) }
     {
-        if let Some(number) = least_missing(callers.as_slice(), self.shape.callers) {
+        if let Err(cause) = all_there(&callers, self.shape.callers) {
             return Err(GatherFault {
-                cause: GatherCause::Missing(number),
+                cause,
                 map: self,
                 callers,
             });
         }
-        let all = self.gather_each(callers);
+        let all = gather_each(&self, callers);
         Ok(self.finish(all))
+    }
+}
+
+impl<R> Gather for Map<R> {
+    type Member = Caller<R>;
+
+    type Gathering = Gathering<R>;
+
+    ghost owns = { λ owner caller. IsCallerOf owner caller };
+
+    ghost gathers = { λ owner callers gathering. IsGatheringOf owner gathering × (gathered gathering ≡ map record_of callers) };
+
+    fn take_first(&self, caller: Caller<R>) -> Gathering<R> {
+        self.start_gathering(caller)
+    }
+
+    fn take_next(&self, gathering: &mut Gathering<R>, caller: Caller<R>) {
+        gathering.add(self, caller);
     }
 }

@@ -12,7 +12,6 @@ mod loans;
 mod looks;
 mod map;
 mod meets;
-mod missing;
 mod opens;
 mod plays;
 mod posts;

@@ -18,7 +18,7 @@ use crate::spots::{first_state, table_words};
 use atomic_table::{Seat, Table};
 use std::alloc::{AllocError, Global};
 use std::snapshot::Snapshot;
-use step_ledger::HandOut;
+use step_ledger::{HandOut, MemberSource, hand_out};
 use tag_layout::Layout;
 use tag_model::{MAX_CALLERS, MOST_WON};
 
@@ -45,57 +45,40 @@ pub(crate) fn none_held(alloc: Global, words: usize) -> Result<Vec<u64>, AllocEr
     Ok(held)
 }
 
-/// The next caller, from a seat that has the records of all callers still to come.
-fn next_caller<R>(
-    alloc: Global,
-    map: &Map<R>,
-    rest: &mut Seat<R, View<R>>,
-    number: u32,
-) -> Result<Caller<R>, AllocError>
-    requires number { number < map.now.shape.callers }
-    requires seat { rest.old.table_id ≡ map.now.table.shared.table_id }
-    requires rest { rest.old.me ≡ (viewing (fresh map.now.shape number (map.now.shape.callers - number)), []) }
-    requires blank { StartsAtZero map.now.shape }
-    ensures caller { IfOk result (λ c. IsCallerOf map.now c × (record_of c ≡ fresh_record map.now.shape number)) }
-    ensures rest { IfOk result (λ c. (rest.new.table_id ≡ rest.old.table_id)
-        × (rest.new.me ≡ (viewing (fresh map.now.shape (number + 1) (map.now.shape.callers - (number + 1))), []))) }
-{
-    let layout = map.shape.layout;
-    let held = none_held(alloc, layout.words() as usize)?;
-    let seat = map.table.shared.split_seat::<HandOut>(rest);
-    Ok(Caller {
-        seat,
-        layout,
-        states: first_state(layout),
-        number,
-        life: map.shape.life,
-        held,
-        won: 0,
-        back: 0,
-        shape: Snapshot::of(&map.shape),
-        apart: [0; APART],
-    })
-}
+impl<R> MemberSource for Map<R> {
+    type Member = Caller<R>;
 
-/// All callers, in the order of their numbers, from the seat that has all records.
-fn hand_out<R>(
-    alloc: Global,
-    map: &Map<R>,
-    mut rest: Seat<R, View<R>>,
-) -> Result<Vec<Caller<R>>, AllocError>
-    requires seat { (rest.table_id ≡ map.now.table.shared.table_id) × (rest.me ≡ (all_fresh map.now.shape, [])) }
-    requires blank { StartsAtZero map.now.shape }
-    ensures new { IfOk result (λ v. AreNew map.now v.items) }
-    ensures own { IfOk result (λ v. All (IsCallerOf map.now) v.items) }
-{
-    let mut callers = Vec::new(alloc);
-    for number in 0..map.shape.callers {
-        let caller = next_caller(alloc, map, &mut rest, number)?;
-        if callers.push(caller).is_err() {
-            return Err(AllocError);
-        }
+    type Rest = Seat<R, View<R>>;
+
+    ghost count_of = { λ map. map.shape.callers };
+
+    ghost has_rest = { λ map number rest. StartsAtZero map.shape × (rest.table_id ≡ map.table.shared.table_id)
+        × (rest.me ≡ (viewing (fresh map.shape number (map.shape.callers - number)), [])) };
+
+    ghost is_new = { λ map number caller. IsCallerOf map caller × (record_of caller ≡ fresh_record map.shape number) };
+
+    fn next_member(
+        &self,
+        alloc: Global,
+        rest: &mut Seat<R, View<R>>,
+        number: u32,
+    ) -> Result<Caller<R>, AllocError> {
+        let layout = self.shape.layout;
+        let held = none_held(alloc, layout.words() as usize)?;
+        let seat = self.table.shared.split_seat::<HandOut>(rest);
+        Ok(Caller {
+            seat,
+            layout,
+            states: first_state(layout),
+            number,
+            life: self.shape.life,
+            held,
+            won: 0,
+            back: 0,
+            shape: Snapshot::of(&self.shape),
+            apart: [0; APART],
+        })
     }
-    Ok(callers)
 }
 
 /// A map of this shape with all tags free, and the seat that has the records of all its callers. The slots come back if
@@ -140,7 +123,7 @@ fn lay_out<R: Drop>(
     let Ok((map, rest)) = new_map(alloc, shape, slots) else {
         return Err(AllocError);
     };
-    let callers = hand_out(alloc, &map, rest)?;
+    let callers = hand_out(alloc, &map, rest, map.shape.callers)?;
     Ok((map, callers))
 }
 

@@ -22,21 +22,8 @@ use crate::spots::first_state;
 use atomic_table::Seat;
 use std::alloc::{AllocError, Global};
 use std::snapshot::Snapshot;
-use step_ledger::HandOut;
+use step_ledger::{HandOut, index_of};
 use tag_layout::Layout;
-
-/// The index of the caller with this number.
-fn index_of<R>(callers: &[Caller<R>], number: u32) -> Option<usize>
-    ensures none { IfNone result (¬ Has (numbers_of callers.now) number) }
-    ensures some { IfSome result (λ i. get_elem? (numbers_of callers.now) i ≡ some number) }
-{
-    for (i, caller) in callers.iter().enumerate() {
-        if caller.number == number {
-            return Some(i);
-        }
-    }
-    None
-}
 
 /// For each caller, an empty mask for each word.
 fn spare_masks(alloc: Global, count: usize, words: usize) -> Result<Vec<Vec<u64>>, AllocError>

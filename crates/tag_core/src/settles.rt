@@ -10,9 +10,9 @@ use crate::caller::Caller;
 use crate::closed::GatherFault;
 use crate::loans::Loans;
 use crate::map::Map;
-use crate::missing::all_there;
 use crate::settled::Settled;
 use crate::together::Gathering;
+use step_ledger::all_there;
 use tag_model::Totals;
 
 /// Has these callers lend their records to those gathered. Once all are together, one history shows them; then each
@@ -65,7 +65,7 @@ impl<R: Drop> Map<R> {
     /// Brings all callers of the map together, in any order, so that nobody else acts on it. If one is missing,
     /// `GatherFault` has the map and all callers back, unchanged. Its loads of the spare word, `5 n - 1` for `n`
     /// callers, change no place and are not recorded as steps.
-    pub fn settle(self, callers: Vec<Caller<R>>) -> Result<Settled<R>, GatherFault<R>>
+    pub fn settle(self, mut callers: Vec<Caller<R>>) -> Result<Settled<R>, GatherFault<R>>
         requires { All (λ c. IsCallerOf self c) callers.items }
         ensures succeeds { IsOk result ↔ HasAll (numbers_of callers.items) self.shape.callers }
         ensures map { IfOk result (λ s. s.tags ≡ self) }
@@ -76,10 +76,16 @@ impl<R: Drop> Map<R> {
         ensures missing { IfErr result (λ f. IsCauseOf (numbers_of callers.items) self.shape.callers f.cause) }
         ensures err { IfErr result (λ f. (f.map ≡ self) × (f.callers ≡ callers)) }
     {
-        let (tags, mut callers) = all_there(self, callers)?;
-        let totals = settle_all(&tags, &mut callers);
+        if let Err(cause) = all_there(&callers, self.shape.callers) {
+            return Err(GatherFault {
+                cause,
+                map: self,
+                callers,
+            });
+        }
+        let totals = settle_all(&self, &mut callers);
         Ok(Settled {
-            tags,
+            tags: self,
             callers,
             totals,
         })

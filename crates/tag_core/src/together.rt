@@ -108,24 +108,6 @@ impl<R> Map<R> {
         };
         (first, lender)
     }
-
-    /// Gathers all these callers, beginning with the last.
-    pub(crate) fn gather_each(&self, mut callers: Vec<Caller<R>>) -> Gathering<R>
-        requires own { All (IsCallerOf self.now) callers.items }
-        requires some { Has (numbers_of callers.items) 0 }
-        ensures map { IsGatheringOf self.now result }
-        ensures gathered { gathered result ≡ map record_of callers.items }
-    {
-        let Some(last) = callers.pop() else {
-            unreachable!()
-        };
-        let mut all = self.start_gathering(last);
-        while let Some(caller) = callers.pop() {
-            all.add(self, caller);
-        }
-        callers.destroy_empty();
-        all
-    }
 }
 
 impl<R> Gathering<R> {
