@@ -167,17 +167,6 @@ module _ {R : Type 0} (map : Map R) (caller : Caller R) (old new : Shared R) (ma
   of_map : (fact : Layout → Type 0) → fact caller.shape.value.layout → fact (layout_of map)
   of_map fact = subst (λ (k : Shape). fact k.layout) own.1
 
-  -- after a get
-  pub get_got : (round_robin : Bool) (from : ℕ) (answer : Option ℕ)
-      → Ports AddsThrough old new (IsGet (layout_of old.map.now)
-      (plain_visits (layout_of old.map.now) round_robin from) answer)
-      → Got (layout_of map) (plain_visits (layout_of map) round_robin from) answer caller new.caller.now
-  get_got round_robin from answer a = let l = caller.shape.value.layout in
-      of_map (λ k. Got k (plain_visits k round_robin from) answer caller new.caller.now)
-      (got map caller new.caller.now own (word_of l from) (plain_reach l round_robin from) answer
-      (plain_within l round_robin from)
-      (made (λ k. IsGet k (plain_visits k round_robin from) answer) a))
-
   -- after a shallow get
   pub shallow_got : (depth from : ℕ) (answer : Option ℕ)
       → Ports AddsThrough old new (IsGet (layout_of old.map.now)

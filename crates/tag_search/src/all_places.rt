@@ -28,7 +28,12 @@ pub fn all_places(layout: Layout, word: u32) -> Rank
 
 /// Visits all words in cyclic order from `first`, until a visit wins a tag, after a first try that won nothing.
 #[inline(always)]
-pub fn search_after<P: Port>(port: &mut P, layout: Layout, first: u32, missed: Missed) -> Option<u32>
+pub fn search_after<P: Port>(
+    port: &mut P,
+    layout: Layout,
+    first: u32,
+    missed: Missed,
+) -> Option<u32>
     requires port { P.ready port.old }
     requires layout { P.sizes port.old ≡ layout }
     requires first { first < words layout }
