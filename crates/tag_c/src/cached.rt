@@ -18,8 +18,8 @@ pub struct CacheTerms {
     pub keeping: Keeping,
 }
 
-/// A hand outside its cell, with its cache, and the pool that it belongs to. Its calls are out of line and cold, so that
-/// the calls of a hand without a cache stay as short as if there were no other.
+/// A hand outside its cell, with its cache, and the pool that it belongs to. Its calls are out of line, so that those of a
+/// hand without a cache stay as short as if there were no other.
 #[derive(Drop)]
 pub struct CachedMember {
     pub shared: Arc<PoolState, Global>,

@@ -47,7 +47,6 @@ impl Member {
 
 impl CachedMember {
     /// Gives all kept tags back, and returns how many waiters were granted a wakeup.
-    #[cold]
     #[inline(never)]
     fn flush(&mut self) -> i32
         ensures { CacheCalls (Through DoesFlush code_of_grants result) self.old self.new }
@@ -56,7 +55,6 @@ impl CachedMember {
     }
 
     /// Gives all kept tags back, fills in whom that granted a wakeup, and returns how many waiters they are.
-    #[cold]
     #[inline(never)]
     fn flush_granted(&mut self, granted: &mut Granted) -> i32
         ensures calls { CacheCalls (Through (Filling granted.new DoesFlush) code_of_grants result) self.old self.new }

@@ -55,7 +55,6 @@ impl Member {
 
 impl CachedMember {
     /// Takes a free ordinary tag and returns it.
-    #[cold]
     #[inline(never)]
     fn get(&mut self, left: &mut u64) -> i32
         ensures { CacheCalls (Through (DoesGet left.new) code_of_get result) self.old self.new }
@@ -65,7 +64,6 @@ impl CachedMember {
     }
 
     /// Takes a free reserved tag and returns it.
-    #[cold]
     #[inline(never)]
     fn get_reserved(&mut self) -> i32
         ensures { CacheCalls (Through DoesGetReserved code_of_get result) self.old self.new }
@@ -74,7 +72,6 @@ impl CachedMember {
     }
 
     /// Takes a free ordinary tag within the words' shares of `depth` and returns it.
-    #[cold]
     #[inline(never)]
     fn get_shallow(&mut self, depth: u32, left: &mut u64) -> i32
         ensures { CacheCalls (Through (DoesGetShallow depth left.new) code_of_get result) self.old self.new }
@@ -85,7 +82,6 @@ impl CachedMember {
 
     /// Takes up to `n` ordinary tags of one word, and returns the first tag of their run. Bit 0 of `won` becomes 1 if
     /// that tag was won, bit 1 if the next one was, and so on. If no tag was won, `won` keeps its value.
-    #[cold]
     #[inline(never)]
     fn get_batch(&mut self, n: u32, won: &mut u64, left: &mut u64) -> i32
         ensures calls { CacheCalls (Through (DoesGetBatch n won.new left.new) code_of_batch result) self.old self.new }

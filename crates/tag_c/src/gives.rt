@@ -45,7 +45,6 @@ impl Member {
 
 impl CachedMember {
     /// Gives a held tag back, and returns how many waiters were granted a wakeup.
-    #[cold]
     #[inline(never)]
     fn clear(&mut self, tag: u32) -> i32
         ensures { CacheCalls (Through (DoesClear tag) code_of_count result) self.old self.new }
@@ -54,7 +53,6 @@ impl CachedMember {
     }
 
     /// Gives held ordinary tags back, and returns how many waiters were granted a wakeup.
-    #[cold]
     #[inline(never)]
     fn clear_batch(&mut self, tags: &[u32]) -> i32
         ensures { CacheCalls (Through (DoesClearBatch tags.now) code_of_grants result) self.old self.new }
@@ -63,7 +61,6 @@ impl CachedMember {
     }
 
     /// Enters a wait group, and returns its index, below 8.
-    #[cold]
     #[inline(never)]
     fn prepare(&mut self) -> i32
         ensures { CacheCalls (Through DoesPrepare code_of_count result) self.old self.new }
@@ -72,7 +69,6 @@ impl CachedMember {
     }
 
     /// Leaves the wait group, and returns 1 if the wait used a grant, and 0 if it found none.
-    #[cold]
     #[inline(never)]
     fn finish(&mut self) -> i32
         ensures { CacheCalls (Through DoesFinish code_of_finish result) self.old self.new }

@@ -65,7 +65,6 @@ impl Member {
 
 impl CachedMember {
     /// Gives a held tag back, fills in whom that granted a wakeup, and returns how many waiters they are.
-    #[cold]
     #[inline(never)]
     fn clear_granted(&mut self, tag: u32, granted: &mut Granted) -> i32
         ensures calls { CacheCalls (Through (Filling granted.new (DoesClearGranted tag)) code_of_grants result) self.old self.new }
@@ -75,7 +74,6 @@ impl CachedMember {
     }
 
     /// Gives held ordinary tags back, fills in whom that granted a wakeup, and returns how many waiters they are.
-    #[cold]
     #[inline(never)]
     fn clear_batch_granted(&mut self, tags: &[u32], granted: &mut Granted) -> i32
         ensures calls { CacheCalls (Through (Filling granted.new (DoesClearBatch tags.now)) code_of_grants result) self.old self.new }

@@ -109,7 +109,6 @@ impl Member {
 
 impl CachedMember {
     /// Returns 1 if the caller holds the tag, and 0 if not.
-    #[cold]
     #[inline(never)]
     fn holds(&mut self, tag: u32) -> i32
         ensures { CacheCalls (SaysHeld tag result) self.old self.new }
@@ -122,7 +121,6 @@ impl CachedMember {
 
     /// Returns how many tags of both sets are busy. Bit `tag % 64` of `into[tag / 64]` becomes 1 for each of them, and
     /// every other bit becomes 0.
-    #[cold]
     #[inline(never)]
     fn busy(&mut self, into: &mut [u64]) -> i32
         ensures calls { CacheCalls (SaysBusy into.old into.new result) self.old self.new }
@@ -135,7 +133,6 @@ impl CachedMember {
     }
 
     /// Writes the sizes of the ordinary set if `kind` is 0, and of the reserved set if it is 1.
-    #[cold]
     #[inline(never)]
     fn show(&mut self, kind: u32, sizes: &mut Sizes) -> i32
         ensures calls { CacheCalls (SaysShown kind sizes.new result) self.old self.new }
@@ -158,7 +155,6 @@ impl CachedMember {
     }
 
     /// Writes the counts of completions and of waiters, each from a load of its own.
-    #[cold]
     #[inline(never)]
     fn wakes(&mut self, counts: &mut Counts) -> i32
         ensures calls { CacheCalls (SaysWakes counts.new result) self.old self.new }

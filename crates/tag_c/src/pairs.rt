@@ -49,7 +49,6 @@ impl Member {
 
 impl CachedMember {
     /// Takes a free ordinary tag, writes its slot, and returns the tag.
-    #[cold]
     #[inline(never)]
     fn get_write(&mut self, value: u64, left: &mut u64) -> i32
         ensures { CacheCalls (Through (DoesGetWrite value left.new) code_of_get result) self.old self.new }
@@ -68,7 +67,6 @@ impl CachedMember {
 
     /// Reads the slot of a held tag into `value`, gives the tag back, and returns how many waiters were granted a
     /// wakeup.
-    #[cold]
     #[inline(never)]
     fn read_clear(&mut self, tag: u32, value: &mut u64) -> i32
         ensures calls { CacheCalls (Through (DoesReadClear tag value.new) code_of_count result) self.old self.new }

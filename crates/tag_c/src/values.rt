@@ -49,7 +49,6 @@ impl Member {
 
 impl CachedMember {
     /// Reads the slot of a held tag into `value`.
-    #[cold]
     #[inline(never)]
     fn read(&mut self, tag: u32, value: &mut u64) -> i32
         ensures calls { CacheCalls (Through (DoesRead tag value.new) code_of_done result) self.old self.new }
@@ -59,7 +58,6 @@ impl CachedMember {
     }
 
     /// Writes the slot of a held tag, and what it held before into `former`.
-    #[cold]
     #[inline(never)]
     fn write(&mut self, tag: u32, value: u64, former: &mut u64) -> i32
         ensures calls { CacheCalls (Through (DoesWrite tag value former.new) code_of_done result) self.old self.new }
@@ -69,7 +67,6 @@ impl CachedMember {
     }
 
     /// Posts a held tag, so that any hand of the pool can take it.
-    #[cold]
     #[inline(never)]
     fn post(&mut self, tag: u32) -> i32
         ensures { CacheCalls (Through (DoesPost tag) code_of_done result) self.old self.new }
@@ -79,7 +76,6 @@ impl CachedMember {
     }
 
     /// Takes a posted tag.
-    #[cold]
     #[inline(never)]
     fn take(&mut self, tag: u32) -> i32
         ensures { CacheCalls (Through (DoesTake tag) code_of_done result) self.old self.new }

@@ -71,6 +71,7 @@ impl<R: Copy> Cache<R> {
             return NO_GRANTS;
         }
         self.kept = 0;
+        self.room = self.most;
         tags.clear_mask_held(&mut self.hand, self.first, kept)
     }
 

@@ -29,6 +29,14 @@ impl<R> Cache<R> {
         self.kept.count_ones()
     }
 
+    /// Returns whether as many tags are kept as may be.
+    #[inline(always)]
+    fn is_full(&self) -> bool
+        ensures { IsTrue result ↔ (most_of self.now ≤ count_of self.now) }
+    {
+        self.room == 0
+    }
+
     /// Takes the least kept tag out of the kept ones.
     #[inline(always)]
     pub(crate) fn pop(&mut self) -> Option<u32>
@@ -39,6 +47,7 @@ impl<R> Cache<R> {
         }
         let place = self.kept.trailing_zeros();
         self.kept &= !(1 << place);
+        self.room += 1;
         Some(self.first + place)
     }
 
@@ -100,7 +109,7 @@ impl<R> Cache<R> {
         if offset >= WINDOW {
             return false;
         }
-        if self.count() >= self.most {
+        if self.is_full() {
             return false;
         }
         if self.reused >= MOST_REUSED {
@@ -108,6 +117,7 @@ impl<R> Cache<R> {
         }
         self.lent = self.lent_without(tag);
         self.kept |= 1 << offset;
+        self.room -= 1;
         true
     }
 
@@ -119,7 +129,7 @@ impl<R> Cache<R> {
         if !self.lends(tag) {
             return false;
         }
-        if self.most <= self.count() {
+        if self.is_full() {
             return false;
         }
         if self.reused >= MOST_REUSED {
@@ -137,5 +147,6 @@ impl<R> Cache<R> {
     {
         self.lent &= !(1 << offset);
         self.kept |= 1 << offset;
+        self.room -= 1;
     }
 }

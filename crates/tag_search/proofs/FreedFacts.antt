@@ -19,7 +19,7 @@ use Rattle.tag_core.specs.Callers.{layout_of, record_of}
 use Rattle.tag_core.specs.Records.{record_after}
 use Rattle.tag_search.specs.declared.shared.Shared.{Shared}
 use Rattle.tag_search.specs.Freed.{spilled, spilled_by, freed_of, latest_in, held_of, left_free}
-use Rattle.tag_search.specs.Shared.{record_after_all, latest_after_all, latest_of, FindsWord, AddsThrough}
+use Rattle.tag_search.specs.Shared.{record_after_all, latest_after_all, latest_of, FindsWord, AddsAll, AddsThrough}
 
 -- steps on words add what they spill to what their caller has freed
 total_after : {R : Type 0} (steps : List WordStep) (r : Record R)
@@ -44,6 +44,22 @@ latest_of_some (Claimed i mask found ∷ steps) one other some = latest_of_some 
 latest_of_some (Give i mask found ∷ steps) one other some = latest_of_some steps one other (omega arith)
 latest_of_some (Put i mask found ∷ steps) one other some = latest_of_some steps one other (omega arith)
 latest_of_some (Swap i found ∷ steps) one other some = latest_of_some steps one other (omega arith)
+
+-- steps that free no tag leave what their caller has freed
+pub freed_same : {R : Type 0} (old new : Caller R) (steps : List WordStep) → AddsAll steps old new
+    → total spilled steps ≡ 0 → freed_of new ≡ freed_of old
+freed_same old new steps all none =
+    let sum = ap (λ (r : Record _). total spilled_by r.steps) all.known ∙ total_after steps (record_of old) in omega arith
+
+-- a caller that freed no tag leaves none free
+pub none_left : {R : Type 0} (old new : Caller R) → freed_of new ≡ freed_of old → 0 ≡ left_free old new
+none_left old new same = omega arith
+
+-- what is left free since a caller had freed no further tag
+pub left_since : {R : Type 0} (old middle new : Caller R) → freed_of middle ≡ freed_of old
+    → left_free middle new ≡ left_free old new
+left_since old middle new same =
+    ap (λ (n : ℕ). (freed_of new - n) - held_of new (latest_in (record_of new).steps)) same
 
 zero_or : (n : ℕ) → (n ≡ 0) ⊎ (1 ≤ n)
 zero_or zero = inl refl

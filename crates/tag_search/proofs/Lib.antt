@@ -12,6 +12,7 @@ pub mod Sweeps
 pub mod Alone
 pub mod Choices
 pub mod GetFacts
+pub mod BegunFacts
 pub mod AllPlaces
 pub mod BatchAlone
 pub mod Batches

@@ -1,5 +1,5 @@
 -- How a get through the port of a map's caller changes the caller.
-use Rattle.std.proofs.Common.{◌≡◌, ℕ, ◌<◌, ◌≤◌, Bool, List, Option, None, Result, Ok, arith, refl, sym, ap, subst, inl}
+use Rattle.std.proofs.Common.{◌≡◌, ℕ, ◌<◌, ◌≤◌, Bool, List, ◌++◌, Option, Some, None, Result, Ok, arith, refl, sym, ap, subst, inl}
 use Rattle.std.proofs.Common.{◌∙◌}
 use Rattle.std.specs.Prelude.{IfOk}
 use Rattle.tag_layout.specs.Layout.{Layout, words, word_of, word_depth}
@@ -14,13 +14,17 @@ use Rattle.tag_core.specs.Callers.{layout_of, IsCallerOf, record_of, slot_of, Ho
 use Rattle.tag_core.specs.Holdings.{Acquires}
 use Rattle.tag_search.specs.declared.shared.Shared.{Shared}
 use Rattle.tag_search.specs.Added.{AddsSteps as Ports}
+use Rattle.tag_search.specs.declared.hint.Hint.{Hint}
+use Rattle.tag_search.specs.declared.search.Unfinished.{Unfinished}
 use Rattle.tag_search.specs.Batch.{IsBatchGet}
+use Rattle.tag_search.specs.Begun.{visits_from, IsBegun, IsRestOfGet, IsWonAtOnce}
 use Rattle.tag_search.specs.Gains.{IsAnswer, Gains, IsInRun, GainsRun}
 use Rattle.tag_search.specs.Gets.{IsGet}
 use Rattle.tag_search.specs.Hints.{reduced}
 use Rattle.tag_search.specs.Alone.{IsAlone, Chooses, ChoosesRun}
 use Rattle.tag_search.specs.Search.{Visit}
 use Rattle.tag_search.specs.Shared.{AddsAll, AddsThrough, Makes}
+use Rattle.tag_search.specs.SharedLaws.{adds_on}
 use Rattle.tag_search.specs.Visits.{Reach, visits, plain_visits, shallow_visits, plain_reach, shallow_reach}
 use Rattle.tag_search.proofs.Freshness.{search_new, batch_new}
 use Rattle.tag_search.proofs.GetFacts.{plain_within, shallow_within}
@@ -95,6 +99,35 @@ module _ {R : Type 0} (map : Map R) (caller now : Caller R) (own : IsCallerOf ma
         };
       }
 
+  -- the same in the terms of the map
+  pub got_of : (round_robin : Bool) (from : ℕ) (answer : Option ℕ)
+      → Makes caller now (IsGet (layout_of map) (plain_visits (layout_of map) round_robin from) answer)
+      → Got (layout_of map) (plain_visits (layout_of map) round_robin from) answer caller now
+  got_of round_robin from answer made =
+      subst (λ (k : Shape). Got k.layout (plain_visits k.layout round_robin from) answer caller now) own.1
+      (got (word_of sizes from) (plain_reach sizes round_robin from) answer (plain_within sizes round_robin from)
+      (subst (λ (k : Shape). Makes caller now (IsGet k.layout (plain_visits k.layout round_robin from) answer))
+      (sym own.1) made))
+
+  -- a get that won at its first try
+  pub won_got : (hint : Hint) (tag : ℕ) → Makes caller now (IsWonAtOnce (layout_of map) hint tag)
+      → Got (layout_of map) (visits_from (layout_of map) hint) (Some tag) caller now
+  won_got hint tag made =
+      got_of hint.round_robin (reduced (layout_of map).depth hint.at) (Some tag)
+      (record { steps = made.steps; added = made.added; holds = made.holds.get })
+
+  -- a get that was begun by the time that the caller was this one, and then finished
+  pub rest_got : (middle : Caller R) (hint : Hint) (rest : Unfinished) (answer : Option ℕ)
+      → Makes caller middle (IsBegun (layout_of map) hint rest)
+      → Makes middle now (IsRestOfGet (layout_of map) hint rest answer)
+      → Got (layout_of map) (visits_from (layout_of map) hint) answer caller now
+  rest_got middle hint rest answer begun finished =
+      got_of hint.round_robin (reduced (layout_of map).depth hint.at) answer (record {
+        steps = begun.steps ++ finished.steps;
+        added = adds_on caller middle now begun.steps finished.steps begun.added finished.added;
+        holds = finished.holds begun.steps begun.holds;
+      })
+
   -- a batch get, from its steps
   got_run : (n first : ℕ) (answer : Option (ℕ × ℕ)) → Makes caller now (IsBatchGet sizes n first answer)
       → GotRun sizes n first answer caller now
@@ -133,17 +166,6 @@ module _ {R : Type 0} (map : Map R) (caller : Caller R) (old new : Shared R) (ma
   -- a fact about the caller's layout is one about the map's
   of_map : (fact : Layout → Type 0) → fact caller.shape.value.layout → fact (layout_of map)
   of_map fact = subst (λ (k : Shape). fact k.layout) own.1
-
-  -- after a get
-  pub get_got : (round_robin : Bool) (from : ℕ) (answer : Option ℕ)
-      → Ports AddsThrough old new (IsGet (layout_of old.map.now)
-      (plain_visits (layout_of old.map.now) round_robin from) answer)
-      → Got (layout_of map) (plain_visits (layout_of map) round_robin from) answer caller new.caller.now
-  get_got round_robin from answer a = let l = caller.shape.value.layout in
-      of_map (λ k. Got k (plain_visits k round_robin from) answer caller new.caller.now)
-      (got map caller new.caller.now own (word_of l from) (plain_reach l round_robin from) answer
-      (plain_within l round_robin from)
-      (made (λ k. IsGet k (plain_visits k round_robin from) answer) a))
 
   -- after a shallow get
   pub shallow_got : (depth from : ℕ) (answer : Option ℕ)

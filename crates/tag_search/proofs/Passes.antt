@@ -1,13 +1,13 @@
 -- The state in the middle of a pass.
-use Rattle.std.proofs.Common.{◌≡◌, ℕ, suc, ◌+◌, ◌^◌, ◌<◌, List, [], ◌∷◌, ◌++◌, length, Option, arith, sym, ap, ◌∙◌}
+use Rattle.std.proofs.Common.{◌≡◌, ℕ, suc, ◌+◌, ◌^◌, ◌<◌, List, [], ◌∷◌, ◌++◌, length, Option, None, arith, sym, ap, ◌∙◌}
 use Rattle.std.proofs.Common.{subst}
 use Rattle.std.specs.Prelude.{All}
 use Rattle.std.specs.Int.{bit_at}
 use Rattle.std.proofs.lemmas.List.{append_assoc, length-append}
 use Rattle.std.proofs.lemmas.List.Elements.{All-head, All-tail}
 use Rattle.tag_core.specs.declared.word_step.WordStep.{WordStep}
-use Rattle.tag_core.specs.declared.word_step.WordStep.TheVariants.{Claimed}
-use Rattle.tag_search.specs.Search.{IsFirstInRank, IsTries, loses}
+use Rattle.tag_core.specs.declared.word_step.WordStep.TheVariants.{Look, Claimed}
+use Rattle.tag_search.specs.Search.{AllTaken, IsFirstInRank, IsTries, none_left, loses, IsPass, pass}
 
 -- these steps, followed by tries of the places left, are tries of the rank
 abbrev pub AreTriesBegun : ℕ → List ℕ → List ℕ → ℕ → ℕ → List WordStep → Type 0
@@ -41,3 +41,10 @@ fewer_left found left behind place first =
 pub all_left : (P : ℕ → Type 0) (found : ℕ) (left behind : List ℕ) (place : ℕ) → IsFirstInRank found left place behind
     → All P left → P place × All P behind
 all_left P found left behind place first h = all_behind P first.before place behind (subst (All P) first.order h)
+
+-- a load that found every place of the rank taken is the whole pass
+pub full_pass : (i : ℕ) (rank : List ℕ) (found : ℕ) → AllTaken found rank → (rest : List WordStep)
+    (answer : Option ℕ) → (rest ≡ []) × (answer ≡ None) → IsPass i rank (Look i found ∷ rest) answer
+full_pass i rank found taken rest answer none =
+    subst (λ (x : List WordStep). IsPass i rank (Look i found ∷ x) answer) (sym none.0)
+    (subst (λ (a : Option ℕ). IsPass i rank (Look i found ∷ []) a) (sym none.1) (pass (none_left taken)))

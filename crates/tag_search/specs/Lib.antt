@@ -9,11 +9,13 @@ pub mod Added
 pub mod Hints
 pub mod Follows
 pub mod Places
+pub mod Tries
 pub mod Scans
 pub mod Plain
 pub mod PlainLaws
 pub mod Writes
 pub mod Freed
+pub mod Begun
 pub mod Shared
 pub mod SharedLaws
 pub mod AloneLaws

@@ -6,9 +6,10 @@ ghost use Rattle.tag_search.specs.Added.{AddsSteps};
 ghost use Rattle.tag_search.specs.Order.{numbers, scan_order};
 ghost use Rattle.tag_search.specs.Places.{places_of};
 ghost use Rattle.tag_search.specs.Search.{IsPass, IsSearch};
+ghost use Rattle.tag_search.specs.Tries.{left_to_try, IsMissed};
 ghost use Rattle.tag_search.specs.Visits.{visit_of, visits, plain_reach};
 
-use crate::pass::{TURNS, pass, retry};
+use crate::pass::{Missed, TURNS, pass_after, retry};
 use crate::port::Port;
 use crate::rank::Rank;
 use crate::scan::Scan;
@@ -16,36 +17,44 @@ use tag_layout::Layout;
 
 /// Returns all places of a word, in increasing order.
 #[inline]
-fn all_places(layout: Layout, word: u32) -> Rank
+pub fn all_places(layout: Layout, word: u32) -> Rank
     requires { word < words layout }
     ensures rank { places_of result ≡ scan_order 0 (word_depth layout word) true }
     ensures within { All (λ place. place < word_depth layout word) (places_of result) }
+    ensures shift { layout.shift ≤ 6 }
 {
     Rank::new(0, layout.word_depth(word), true)
 }
 
-/// Visits all words in cyclic order from `first`, until a visit wins a tag. Only the first pass is inlined.
+/// Visits all words in cyclic order from `first`, until a visit wins a tag, after a first try that won nothing.
 #[inline(always)]
-pub fn search_all_places<P: Port>(port: &mut P, layout: Layout, first: u32) -> Option<u32>
+pub fn search_after<P: Port>(
+    port: &mut P,
+    layout: Layout,
+    first: u32,
+    missed: Missed,
+) -> Option<u32>
     requires port { P.ready port.old }
     requires layout { P.sizes port.old ≡ layout }
     requires first { first < words layout }
     requires room { P.has_room port.old 1 }
+    requires places { All (λ place. place < word_depth layout first) (left_to_try missed) }
     ensures port { P.ready port.new }
     ensures sizes { P.sizes port.new ≡ P.sizes port.old }
     ensures shift { layout.shift ≤ 6 }
     ensures tag { IfSome result (λ tag. tag < layout.depth) }
     ensures search { AddsSteps P.adds port.old port.new (λ steps.
-        IsSearch layout (visits layout first (plain_reach layout false 0)) steps result) }
+        (tried : List WordStep) → IsMissed first (scan_order 0 (word_depth layout first) true) missed tried
+        → IsSearch layout (visits layout first (plain_reach layout false 0)) (tried ++ steps) result) }
 {
-    match pass(port, first, all_places(layout, first)) {
+    match pass_after(port, first, missed) {
         Some(place) => Some(layout.tag_at(first, place)),
         None => search_on(port, layout, first),
     }
 }
 
 /// Continues the search after a pass over the first word that won nothing.
-#[inline(never)]
+#[inline(always)]
 fn search_on<P: Port>(port: &mut P, layout: Layout, first: u32) -> Option<u32>
     requires port { P.ready port.old }
     requires layout { P.sizes port.old ≡ layout }

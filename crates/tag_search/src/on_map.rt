@@ -1,11 +1,13 @@
 //! Gets and clears by one of the callers of a shared map.
-ghost use Rattle.std.specs.Prelude.{◌≡◌, ℕ, ◌^◌, ◌↔◌, ◌⊎◌, ◌≤◌, false, IsTrue, IsOk, IfOk, OnErr};
+ghost use Rattle.std.specs.Prelude.{◌≡◌, ℕ, ◌^◌, ◌↔◌, ◌⊎◌, ◌≤◌, false, List, IsTrue, IsOk, IfOk, IfErr, OnErr, Some};
 ghost use Rattle.tag_layout.specs.Layout.{word_bits, word_of, place_of};
 ghost use Rattle.tag_core.specs.Callers.{layout_of, IsCallerOf, Holds, Adds};
 ghost use Rattle.tag_core.specs.Holdings.{Releases};
 ghost use Rattle.tag_core.specs.declared.step.Step.TheVariants.{Word};
 ghost use Rattle.tag_core.specs.declared.word_step.WordStep.TheVariants.{Give, Put};
+ghost use Rattle.tag_core.specs.declared.word_step.WordStep.{WordStep};
 ghost use Rattle.tag_search.specs.Batch.{IsBatchGet};
+ghost use Rattle.tag_search.specs.Begun.{CanFinish, IsBegun, IsRestOfGet, IsWonAtOnce};
 ghost use Rattle.tag_search.specs.Follows.{HintFollows, BatchFollows, ClearFollows};
 ghost use Rattle.tag_search.specs.Freed.{left_free};
 ghost use Rattle.tag_search.specs.Gains.{Gains, GainsRun};
@@ -19,7 +21,7 @@ ghost use Rattle.tag_search.specs.Visits.{plain_visits, shallow_visits};
 use crate::found::Found;
 use crate::hint::{Hint, after_clear};
 use crate::place::bit_of;
-use crate::search;
+use crate::search::{self, Unfinished};
 use crate::shared::Shared;
 use tag_core::{Caller, Map, Spent};
 
@@ -46,10 +48,57 @@ pub fn get<R>(map: &Map<R>, caller: &mut Caller<R>, hint: &mut Hint) -> Result<F
     ensures left { IfOk result (λ found. found.left ≡ left_free caller.old caller.new) }
     ensures err { OnErr result ((caller.new ≡ caller.old) × (hint.new ≡ hint.old)) }
 {
+    if !caller.room(1) {
+        return Err(Spent);
+    }
+    match begin_get(map, caller, hint) {
+        Ok(tag) => Ok(Found {
+            answer: Some(tag),
+            left: 0,
+        }),
+        Err(rest) => Ok(finish_get(map, caller, hint, rest)),
+    }
+}
+
+/// Begins a get by its first try.
+#[inline(always)]
+fn begin_get<R>(map: &Map<R>, caller: &mut Caller<R>, hint: &mut Hint) -> Result<u32, Unfinished>
+    requires caller { IsCallerOf map.now caller.old }
+    requires room { HasRoom caller.old 1 }
+    ensures caller { IsCallerOf map.now caller.new }
+    ensures won { IfOk result (λ tag. Makes caller.old caller.new (IsWonAtOnce (layout_of map.now) hint.old tag)) }
+    ensures hint { IfOk result (λ tag. HintFollows (layout_of map.now).depth hint.old hint.new (Some tag)) }
+    ensures begun { IfErr result (λ rest. Makes caller.old caller.new (IsBegun (layout_of map.now) hint.old rest)) }
+    ensures rest { IfErr result (CanFinish (layout_of map.now) hint.old) }
+    ensures room { OnErr result (HasRoom caller.new 1) }
+    ensures unmoved { OnErr result (hint.new ≡ hint.old) }
+{
+    let tag = search::begin(&mut Shared::new(map, caller), hint)?;
+    Ok(tag)
+}
+
+/// Finishes a get that won nothing at its first try. It is out of line and makes a port of its own: the port of the first
+/// try then needs no memory.
+#[inline(never)]
+fn finish_get<R>(
+    map: &Map<R>,
+    caller: &mut Caller<R>,
+    hint: &mut Hint,
+    rest: Unfinished,
+) -> Found<u32>
+    requires caller { IsCallerOf map.now caller.old }
+    requires room { HasRoom caller.old 1 }
+    requires rest { CanFinish (layout_of map.now) hint.old rest }
+    requires begun { (steps : List WordStep) × IsBegun (layout_of map.now) hint.old rest steps }
+    ensures caller { IsCallerOf map.now caller.new }
+    ensures steps { Makes caller.old caller.new (IsRestOfGet (layout_of map.now) hint.old rest result.answer) }
+    ensures hint { HintFollows (layout_of map.now).depth hint.old hint.new result.answer }
+    ensures left { result.left ≡ left_free caller.old caller.new }
+{
     let mut port = Shared::new(map, caller);
-    let answer = search::get(&mut port, hint)?;
+    let answer = search::finish(&mut port, hint, rest);
     let left = port.left();
-    Ok(Found { answer, left })
+    Found { answer, left }
 }
 
 /// As `get`, limited to `depth` tags, which are distributed over the words. The share of a word may be 0.

@@ -1,5 +1,5 @@
 //! Passes over the places of one word, and visits of a word.
-ghost use Rattle.std.specs.Prelude.{◌≡◌, ℕ, ◌<◌, ◌≤◌, ◌^◌, [], ◌∷◌, ◌++◌, All, IfSome, IfNone, IfOk, IfErr};
+ghost use Rattle.std.specs.Prelude.{◌≡◌, ℕ, ◌<◌, ◌≤◌, ◌^◌, [], ◌∷◌, ◌++◌, All, IfSome, IfNone, IfOk, IfErr, OnErr};
 ghost use Rattle.std.specs.Int.{bit_at};
 ghost use Rattle.tag_core.specs.declared.word_step.WordStep.TheVariants.{Claimed};
 ghost use Rattle.tag_layout.specs.Layout.{words, word_depth};
@@ -7,6 +7,7 @@ ghost use Rattle.tag_search.specs.Search.{IsTries, IsPass, IsRetry, IsVisit};
 ghost use Rattle.tag_search.specs.Added.{AddsSteps, SameRoom};
 ghost use Rattle.tag_search.specs.Order.{numbers};
 ghost use Rattle.tag_search.specs.Places.{places_of};
+ghost use Rattle.tag_search.specs.Tries.{left_to_try, IsRestOfPass, IsMissed, IsFirstWin};
 
 use crate::port::Port;
 use crate::rank::Rank;
@@ -39,6 +40,62 @@ fn claim_place<P: Port>(port: &mut P, word: u32, place: u32) -> Result<(), u64>
     }
 }
 
+/// What a pass has still to do after a first try that won nothing.
+#[derive(Clone, Copy)]
+pub enum Missed {
+    /// Nothing: no place of the rank was clear.
+    Full,
+    /// To try the places that are left, in the word as the lost claim found it.
+    Lost { rest: Rank, found: u64 },
+}
+
+/// Loads the word and claims the first clear place of the rank: the whole of most passes.
+#[inline(always)]
+pub fn try_first<P: Port>(port: &mut P, word: u32, rank: Rank) -> Result<u32, Missed>
+    requires port { P.ready port.old }
+    requires word { word < words (P.sizes port.old) }
+    requires room { P.has_room port.old 1 }
+    requires places { All (λ place. place < word_depth (P.sizes port.old) word) (places_of rank) }
+    ensures port { P.ready port.new }
+    ensures sizes { P.sizes port.new ≡ P.sizes port.old }
+    ensures room { OnErr result (SameRoom P.has_room port.old port.new) }
+    ensures place { IfOk result (λ place. place < word_depth (P.sizes port.old) word) }
+    ensures won { IfOk result (λ place. AddsSteps P.adds port.old port.new (IsFirstWin word (places_of rank) place)) }
+    ensures missed { IfErr result (λ missed. AddsSteps P.adds port.old port.new (IsMissed word (places_of rank) missed)) }
+    ensures left { IfErr result (λ missed. All (λ place. place < word_depth (P.sizes port.old) word) (left_to_try missed)) }
+{
+    let found = port.look(word);
+    let mut rest = rank;
+    let Some(place) = rest.next(found) else {
+        return Err(Missed::Full);
+    };
+    match claim_place(port, word, place) {
+        Ok(()) => Ok(place),
+        Err(found) => Err(Missed::Lost { rest, found }),
+    }
+}
+
+/// Does the rest of a pass.
+#[inline(always)]
+pub fn pass_after<P: Port>(port: &mut P, word: u32, missed: Missed) -> Option<u32>
+    requires port { P.ready port.old }
+    requires word { word < words (P.sizes port.old) }
+    requires room { P.has_room port.old 1 }
+    requires places { All (λ place. place < word_depth (P.sizes port.old) word) (left_to_try missed) }
+    ensures port { P.ready port.new }
+    ensures sizes { P.sizes port.new ≡ P.sizes port.old }
+    ensures room { IfNone result (SameRoom P.has_room port.old port.new) }
+    ensures place { IfSome result (λ place. place < word_depth (P.sizes port.old) word) }
+    ensures rest { AddsSteps P.adds port.old port.new (λ steps. IsRestOfPass word missed steps result) }
+{
+    match missed {
+        Missed::Full => None,
+        Missed::Lost { rest, found } => {
+            pass_on(port, word, rest.from, rest.limit, rest.then, found)
+        }
+    }
+}
+
 /// Loads the word and claims the first clear place of the rank. After a lost claim it goes on with the next place that
 /// is clear in the word as that claim found it.
 #[inline]
@@ -53,14 +110,9 @@ pub fn pass<P: Port>(port: &mut P, word: u32, rank: Rank) -> Option<u32>
     ensures place { IfSome result (λ place. place < word_depth (P.sizes port.old) word) }
     ensures pass { AddsSteps P.adds port.old port.new (λ steps. IsPass word (places_of rank) steps result) }
 {
-    let found = port.look(word);
-    let mut left = rank;
-    let Some(place) = left.next(found) else {
-        return None;
-    };
-    match claim_place(port, word, place) {
-        Ok(()) => Some(place),
-        Err(next) => pass_on(port, word, left.from, left.limit, left.then, next),
+    match try_first(port, word, rank) {
+        Ok(place) => Some(place),
+        Err(missed) => pass_after(port, word, missed),
     }
 }
 
@@ -118,7 +170,7 @@ pub fn visit<P: Port>(port: &mut P, word: u32, rank: Rank, turns: u32) -> Option
 
 /// Continues a visit after a pass that won nothing. It takes several turns: between the two steps of another caller's
 /// sweep neither the word nor its cleared set shows the tags swept.
-#[inline]
+#[inline(always)]
 pub fn retry<P: Port>(port: &mut P, word: u32, rank: Rank, turns: u32) -> Option<u32>
     requires port { P.ready port.old }
     requires word { word < words (P.sizes port.old) }

@@ -1,17 +1,19 @@
 //! Gets: the search for a free tag, from a caller's hint.
-ghost use Rattle.std.specs.Prelude.{◌≡◌, ℕ, ◌↔◌, ◌⊎◌, ◌<◌, ◌≤◌, ◌+◌, ◌-◌, false, IsTrue, IsOk, IfOk, IfSome, OnErr};
+ghost use Rattle.std.specs.Prelude.{◌≡◌, ℕ, ◌↔◌, ◌⊎◌, ◌<◌, ◌≤◌, ◌+◌, ◌-◌, false, IsTrue, IsOk, IfOk, IfErr, IfSome, OnErr, Some};
 ghost use Rattle.tag_layout.specs.Layout.{Layout as Sizes, word_bits, word_of, words};
 ghost use Rattle.tag_search.specs.Search.{IsSearch};
-ghost use Rattle.tag_search.specs.Added.{AddsSteps};
+ghost use Rattle.tag_search.specs.Added.{AddsSteps, SameRoom};
+ghost use Rattle.tag_search.specs.Begun.{CanFinish, IsBegun, IsRestOfGet, IsWonAtOnce};
 ghost use Rattle.tag_search.specs.Gets.{IsGet};
 ghost use Rattle.tag_search.specs.Batch.{IsBatchGet};
 ghost use Rattle.tag_search.specs.Hints.{reduced};
 ghost use Rattle.tag_search.specs.Follows.{HintFollows, BatchFollows};
 ghost use Rattle.tag_search.specs.Visits.{plain_visits, shallow_visits};
 
-use crate::all_places::search_all_places;
+use crate::all_places::{all_places, search_after};
 use crate::batch::search_run;
 use crate::hint::Hint;
+use crate::pass::{Missed, try_first};
 use crate::port::Port;
 use crate::scan::Scan;
 use tag_core::Spent;
@@ -36,18 +38,77 @@ pub fn get<P: Port>(port: &mut P, hint: &mut Hint) -> Result<Option<u32>, Spent>
     if !port.room(1) {
         return Err(Spent);
     }
-    let layout = port.layout();
-    let before = *hint;
-    if before.at < layout.depth() && !before.round_robin {
-        let answer = search_all_places(port, layout, layout.word_of(before.at));
-        hint.at = before.after_get(layout.depth(), before.at, answer);
-        return Ok(answer);
+    match begin(port, hint) {
+        Ok(tag) => Ok(Some(tag)),
+        Err(rest) => Ok(finish(port, hint, rest)),
     }
-    Ok(get_by_scan(port, hint, layout))
 }
 
-/// The rest of `get`, out of line: from any hint, with round robin or without. `get` itself only makes the usual
-/// search, from a hint below the depth without round robin.
+/// What a get has still to do after `begin`.
+pub enum Unfinished {
+    /// All of it: the hint is not below the depth, or gets are round robin.
+    NotBegun,
+    /// What its first try missed.
+    Tried(Missed),
+}
+
+/// Begins a get: tries the first clear place of the hint's word, and moves the hint if it won it. That is the whole of
+/// most gets, so `finish` stays out of line.
+#[inline(always)]
+pub(crate) fn begin<P: Port>(port: &mut P, hint: &mut Hint) -> Result<u32, Unfinished>
+    requires port { P.ready port.old }
+    requires room { P.has_room port.old 1 }
+    ensures port { P.ready port.new }
+    ensures sizes { P.sizes port.new ≡ P.sizes port.old }
+    ensures room { OnErr result (SameRoom P.has_room port.old port.new) }
+    ensures tag { IfOk result (λ tag. tag < (P.sizes port.old).depth) }
+    ensures won { IfOk result (λ tag. AddsSteps P.adds port.old port.new (IsWonAtOnce (P.sizes port.old) hint.old tag)) }
+    ensures hint { IfOk result (λ tag. HintFollows (P.sizes port.old).depth hint.old hint.new (Some tag)) }
+    ensures begun { IfErr result (λ rest. AddsSteps P.adds port.old port.new (IsBegun (P.sizes port.old) hint.old rest)) }
+    ensures rest { IfErr result (CanFinish (P.sizes port.old) hint.old) }
+    ensures unmoved { OnErr result (hint.new ≡ hint.old) }
+{
+    let layout = port.layout();
+    let before = *hint;
+    if before.at >= layout.depth() || before.round_robin {
+        return Err(Unfinished::NotBegun);
+    }
+    let word = layout.word_of(before.at);
+    match try_first(port, word, all_places(layout, word)) {
+        Ok(place) => {
+            let tag = layout.tag_at(word, place);
+            hint.at = before.after_get(layout.depth(), before.at, Some(tag));
+            Ok(tag)
+        }
+        Err(missed) => Err(Unfinished::Tried(missed)),
+    }
+}
+
+/// Finishes a get that `begin` did not.
+#[inline(always)]
+pub(crate) fn finish<P: Port>(port: &mut P, hint: &mut Hint, rest: Unfinished) -> Option<u32>
+    requires port { P.ready port.old }
+    requires room { P.has_room port.old 1 }
+    requires rest { CanFinish (P.sizes port.old) hint.old rest }
+    ensures port { P.ready port.new }
+    ensures sizes { P.sizes port.new ≡ P.sizes port.old }
+    ensures tag { IfSome result (λ tag. tag < (P.sizes port.old).depth) }
+    ensures steps { AddsSteps P.adds port.old port.new (IsRestOfGet (P.sizes port.old) hint.old rest result) }
+    ensures hint { HintFollows (P.sizes port.old).depth hint.old hint.new result }
+{
+    let layout = port.layout();
+    match rest {
+        Unfinished::NotBegun => get_by_scan(port, hint, layout),
+        Unfinished::Tried(missed) => {
+            let before = *hint;
+            let answer = search_after(port, layout, layout.word_of(before.at), missed);
+            hint.at = before.after_get(layout.depth(), before.at, answer);
+            answer
+        }
+    }
+}
+
+/// Makes a get from any hint, with round robin or without.
 #[inline(never)]
 fn get_by_scan<P: Port>(port: &mut P, hint: &mut Hint, layout: Layout) -> Option<u32>
     requires port { P.ready port.old }

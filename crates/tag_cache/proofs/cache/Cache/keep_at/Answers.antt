@@ -62,7 +62,7 @@ invariant_of-self-clause-few g c = let cache = c.args.self.now in let tag = c.ar
     let added = ones_added cache.kept at cache.wide.0 low none in
     let room : count_of cache < cache.most = ⊎_elim (λ (l : count_of cache < cache.most). l)
     (λ (h : cache.most ≤ count_of cache). absurd (c.requires.place.place (inl h))) (cases_lt (count_of cache) cache.most) in
-    (omega arith, cache.few.1)
+    let few = cache.few in (omega arith, cache.few.1)
 
 pub invariant_of-self-clause-alive : goal.invariant_of-self-clause-alive
 invariant_of-self-clause-alive g c = let cache = c.args.self.now in let tag = c.args.tag in let at = c.args.offset in

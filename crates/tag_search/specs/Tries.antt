@@ -1,0 +1,30 @@
+-- A pass that is left after its first try.
+use Rattle.std.specs.Prelude.{◌≡◌, ℕ, List, [], ◌++◌, Option, Some, None}
+use Rattle.step_ledger.specs.History.{total}
+use Rattle.tag_core.specs.declared.word_step.WordStep.{WordStep}
+use Rattle.tag_search.specs.declared.pass.Missed.{Missed}
+use Rattle.tag_search.specs.declared.pass.Missed.TheVariants.{Full, Lost}
+use Rattle.tag_search.specs.Freed.{spilled}
+use Rattle.tag_search.specs.Places.{places_of}
+use Rattle.tag_search.specs.Search.{IsTries, IsPass}
+
+-- the places that the rest of the pass may try
+abbrev pub left_to_try : Missed → List ℕ
+left_to_try Full = []
+left_to_try (Lost rest found) = places_of rest
+
+-- these steps are the rest of the pass, with this answer
+abbrev pub IsRestOfPass : ℕ → Missed → List WordStep → Option ℕ → Type 0
+IsRestOfPass word Full steps answer = (steps ≡ []) × (answer ≡ None)
+IsRestOfPass word (Lost rest found) steps answer = IsTries word (places_of rest) found steps answer
+
+-- the steps of a first try that won nothing: with any rest they are a pass, and they freed no tag
+pub record IsMissed (word : ℕ) (rank : List ℕ) (missed : Missed) (steps : List WordStep) : Type 0 where
+  pub goes_on : (rest : List WordStep) (answer : Option ℕ) → IsRestOfPass word missed rest answer
+      → IsPass word rank (steps ++ rest) answer
+  pub freed : total spilled steps ≡ 0
+
+-- the steps of a first try that won this place: they are a pass, and they freed no tag
+pub record IsFirstWin (word : ℕ) (rank : List ℕ) (place : ℕ) (steps : List WordStep) : Type 0 where
+  pub pass : IsPass word rank steps (Some place)
+  pub freed : total spilled steps ≡ 0
