@@ -30,7 +30,8 @@
  *   ordinary tags free looks whether anybody waits, and tells as many as there are
  *   tags for. So nobody waits while a tag is free that no other thread is about to
  *   get. A thread must not sleep for a tag while it holds those that others wait for,
- *   nor be idle while it keeps them (see Caches). tags_stop() ends all waits.
+ *   nor be idle while it keeps them (see Caches). tags_stop() ends all waits. A program
+ *   that sleeps by means of its own enters a wait group: see tags_prepare().
  *
  * Caches
  *   In a pool with a cache, each hand keeps some of the ordinary tags that it gives

@@ -59,6 +59,19 @@ fn callers_begin_at_the_first_tag(rt: HostRuntime) -> Result<(), Fail> {
     expect(&rt, &shared(16, 2), script, text)
 }
 
+/// Both callers use words of the size asked for, and a batch is bounded by it.
+#[test]
+fn callers_share_words_of_two_tags(rt: HostRuntime) -> Result<(), Fail> {
+    let small = ScriptOptions {
+        shift: Some(1),
+        ..shared(6, 2)
+    };
+    let script = "0 get\n1 get\n1 get\n0 show\n1 batch 2\n1 batch 3\n";
+    let text = "0\n1\n2\ndepth=6\nbusy=3\ncleared=0\nbits_per_word=2\nmap_nr=3\nmask 3 at 4\n\
+        refused 5\ntotal got=5 back=0 held=5 posted=0\n";
+    expect(&rt, &small, script, text)
+}
+
 #[test]
 fn waiters_are_woken_by_batches(rt: HostRuntime) -> Result<(), Fail> {
     let script = "0 get\n0 get\n0 get\n1 wait\n0 clear 0\n0 clear 1\n0 clear 2\n0 wakes\n\

@@ -1,5 +1,5 @@
 -- The caller stays one of the tags' own.
-use Rattle.tag_tests.proofs.tests.jobs.clear_for_a_waiter.Given as goal
+use Rattle.tag_tests.proofs.tests.jobs.everything.keep.Given as goal
 
 abbrev pub invariant-loop : goal.invariant-loop
 invariant-loop g l = record {

@@ -1,5 +1,5 @@
 -- The caller stays one of the tags' own.
-use Rattle.tag_tests.proofs.tests.jobs.wait_on_and_off.Given as goal
+use Rattle.tag_tests.proofs.tests.jobs.waits.wait_on_and_off.Given as goal
 
 abbrev pub invariant-loop : goal.invariant-loop
 invariant-loop g l = record {
