@@ -1,5 +1,5 @@
 //! Which tags are kept.
-ghost use Rattle.std.specs.Prelude.{◌≡◌, ◌+◌, ◌⊎◌, ◌<◌, ◌≤◌, ◌^◌, ◌↔◌, IsTrue, MatchOption};
+ghost use Rattle.std.specs.Prelude.{◌≡◌, ◌+◌, ◌⊎◌, ◌<◌, ◌≤◌, ◌^◌, ◌↔◌, IsTrue, IsFalse, MatchOption};
 ghost use Rattle.tag_cache.specs.Caches.{IsKept, IsWithin, IsFixed, IsLast, HasPlace, KeepsNone, KeepsWithCare, LeavesWindow, CanBeKept, Holds, most_of, count_of, split_of, hand_of};
 ghost use Rattle.tag_cache.specs.Changes.{Pops, Reuses, Keeps, MayKeep, KeepsOnly, LendsLess};
 
@@ -32,7 +32,8 @@ impl<R> Cache<R> {
     /// Returns whether as many tags are kept as may be.
     #[inline(always)]
     fn is_full(&self) -> bool
-        ensures { IsTrue result ↔ (most_of self.now ≤ count_of self.now) }
+        ensures full { IsTrue result → most_of self.now ≤ count_of self.now }
+        ensures room { IsFalse result → count_of self.now < most_of self.now }
     {
         self.room == 0
     }

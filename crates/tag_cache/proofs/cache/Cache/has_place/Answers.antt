@@ -8,7 +8,7 @@ use Rattle.tag_cache.proofs.cache.Cache.has_place.Goals as goal
 pub returns : goal.returns
 returns g c = let cache = c.args.self.now in let tag = c.args.tag in
     let lent = c.lends.ensures.0 (let no = c.if-not-lends.false in cc) in let within = lent_within cache tag lent in
-    let count = c.count.ensures.count in (
+    let room = c.is_full.ensures.room c.if-is_full.false in (
       (λ t. record {
         lent = lent;
         place = λ full. ⊎_elim (λ (most : cache.most ≤ count_of cache). omega arith) (λ o. o.0 within) full;

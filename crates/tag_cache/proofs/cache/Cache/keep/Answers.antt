@@ -43,7 +43,7 @@ invariant_of-self-clause-few g c = let cache = c.args.self.now in let tag = c.ar
     let none : bit_at cache.kept at ≡ 0 =
     subst (λ (p : ℕ). bit_at cache.kept p ≡ 0) same (not_set cache.first cache.kept tag above c.requires.held.1) in
     let added = ones_added cache.kept at cache.wide.0 low none in let few = cache.few in
-    (omega arith, cache.few.1)
+    let room = c.is_full.ensures.room c.if-is_full.false in (omega arith, cache.few.1)
 
 pub invariant_of-self-clause-alive : goal.invariant_of-self-clause-alive
 invariant_of-self-clause-alive g c = let cache = c.args.self.now in let tag = c.args.tag in
@@ -75,7 +75,8 @@ returns g c = let cache = c.args.self.now in let tag = c.args.tag in
     let same : tag - cache.first ≡ at = omega arith in
     let within : IsWithin cache tag = c.offset-offset.ensures.within.0 low in
     let none : bit_at cache.kept at ≡ 0 =
-    subst (λ (p : ℕ). bit_at cache.kept p ≡ 0) same (not_set cache.first cache.kept tag above c.requires.held.1) in (
+    subst (λ (p : ℕ). bit_at cache.kept p ≡ 0) same (not_set cache.first cache.kept tag above c.requires.held.1) in
+    let room = c.is_full.ensures.room c.if-is_full.false in (
       record {
         hand = refl;
         also = record {
