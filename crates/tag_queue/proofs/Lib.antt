@@ -7,6 +7,7 @@ pub mod RunTags
 pub mod MaskParts
 pub mod MaskHolds
 pub mod MaskGives
+pub mod MaskPlaced
 pub mod SoFar
 pub mod Counting
 pub mod Ringing

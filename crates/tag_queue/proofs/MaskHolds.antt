@@ -55,7 +55,8 @@ module _ (l : Layout) (first mask last : ℕ) where
 
 module _ (l : Layout) (first mask word part : ℕ)
     (bits : (p : ℕ) → p < word_bits l → bit_at part p ≡ mask_bit first mask (tag_at l word p)) where
-  same_bit : (t : ℕ) → word_of l t ≡ word → bit_at part (place_of l t) ≡ mask_bit first mask t
+  -- a bit of the mask's part in a word is that of the tag at its place
+  pub same_bit : (t : ℕ) → word_of l t ≡ word → bit_at part (place_of l t) ≡ mask_bit first mask t
   same_bit t here = bits (place_of l t) (mod_below t (word_bits l) (word_bits-pos l))
       ∙ ap (mask_bit first mask) (ap (λ (w : ℕ). tag_at l w (place_of l t)) (sym here) ∙ tag_at-back l t)
 

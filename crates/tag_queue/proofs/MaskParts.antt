@@ -37,8 +37,8 @@ low_bits x p h = sym (bit_at_cat_low (x / 2 ^ 64) 64 (x % 2 ^ 64) p h) ∙ ap (�
 plus_none : (x : ℕ) → x ≡ x + 0
 plus_none x = omega arith
 
--- a mask moved up has the bits of the tags from a number below its first tag on
-pub moved_up : (first mask start p : ℕ) → start < first → p < 64
+-- a mask moved up has the bits of the tags from a number up to its first tag on
+pub moved_up : (first mask start p : ℕ) → start ≤ first → p < 64
     → bit_at (mask * 2 ^ (first - start) % 2 ^ 64) p ≡ mask_bit first mask (start + p)
 moved_up first mask start p less low = low_bits (mask * 2 ^ (first - start)) p low
     ∙ ap (λ (y : ℕ). bit_at y p) (plus_none (mask * 2 ^ (first - start))) ∙ ⊎_elim

@@ -148,7 +148,7 @@ impl<R: Copy> Queue<R> {
     /// Like `complete`, but wakes whom it granted a wakeup, and returns how many they are. Grants stay out of line, so that
     /// a clear needs no memory where nobody waits.
     #[inline]
-    fn complete_and_ring(&self, agent: &mut Agent<R>, n: u32) -> u32
+    pub(crate) fn complete_and_ring(&self, agent: &mut Agent<R>, n: u32) -> u32
         requires agent { IsAgentOf self.now agent.old }
         requires within { (1 ≤ n) × (n ≤ 64) }
         requires came_back { counted_by (teller_of agent.old) + n ≤ (record_of (caller_of agent.old)).back }
@@ -163,6 +163,38 @@ impl<R: Copy> Queue<R> {
             return 0;
         }
         self.charge_and_ring(agent, n)
+    }
+
+    /// Like `complete`, but returns only how many waiters it granted a wakeup. Grants stay out of line here too.
+    #[inline]
+    pub(crate) fn complete_counted(&self, agent: &mut Agent<R>, n: u32) -> u32
+        requires agent { IsAgentOf self.now agent.old }
+        requires within { (1 ≤ n) × (n ≤ 64) }
+        requires came_back { counted_by (teller_of agent.old) + n ≤ (record_of (caller_of agent.old)).back }
+        ensures agent { IsAgentOf self.now agent.new }
+        ensures counts { Counts self.now n agent.old agent.new result }
+        ensures others { (caller_of agent.new ≡ caller_of agent.old) × (hint_of agent.new ≡ hint_of agent.old) }
+        ensures bound { step_count agent.new ≤ 117 + step_count agent.old }
+    {
+        let found = self.groups.active(&mut agent.waiter);
+        if found == 0 {
+            return 0;
+        }
+        self.charge_counted(agent, n)
+    }
+
+    /// Like `charge`, but returns only how many waiters it granted a wakeup.
+    #[inline(never)]
+    fn charge_counted(&self, agent: &mut Agent<R>, n: u32) -> u32
+        requires agent { IsAgentOf self.now agent.old }
+        requires within { (1 ≤ n) × (n ≤ 64) }
+        requires came_back { counted_by (teller_of agent.old) + n ≤ (record_of (caller_of agent.old)).back }
+        ensures agent { IsAgentOf self.now agent.new }
+        ensures charges { ChargesNow self.now n agent.old agent.new result }
+        ensures others { (caller_of agent.new ≡ caller_of agent.old) × (hint_of agent.new ≡ hint_of agent.old) }
+        ensures bound { step_count agent.new ≤ 116 + step_count agent.old }
+    {
+        self.charge(agent, n).woken
     }
 
     /// Like `charge`, but wakes whom it granted a wakeup, and returns how many they are.

@@ -43,8 +43,9 @@ impl<R: Copy> Queue<R> {
             ≤ words_over (layout_of self.now) first (tags_in first mask) + 117 + step_count agent.old) }
         ensures err { OnErr result (agent.new ≡ agent.old) }
     {
-        let grants = self.clear_mask_granted(agent, first, mask)?;
-        Ok(self.ring(agent, grants))
+        self.check_mask(agent, first, mask)?;
+        self.give_mask_back(agent, first, mask);
+        Ok(self.complete_and_ring(agent, mask.count_ones()))
     }
 
     /// Like `clear_mask`, but wakes no sleeper, and pulls in no code that does. It returns how many waiters it granted
@@ -77,8 +78,39 @@ impl<R: Copy> Queue<R> {
         Ok(self.clear_mask_held(agent, first, mask))
     }
 
+    /// Like `clear_mask_granted`, and refused as it is (`BadCount`, `NoSuchTag`, `NotHeld`), but returns only how many
+    /// waiters it granted a wakeup, for callers that wake threads by other means and need not know their groups.
+    #[inline]
+    pub fn clear_mask_counted(
+        &self,
+        agent: &mut Agent<R>,
+        first: u32,
+        mask: u64,
+    ) -> Result<u32, QueueFault>
+        requires agent { IsAgentOf self.now agent.old }
+        ensures agent { IsAgentOf self.now agent.new }
+
+        // The causes are checked in this order, each for the whole mask.
+        ensures bad_count { (result ≡ Err QueueFault.BadCount) ↔ (mask ≡ 0) }
+        ensures no_such_tag { (result ≡ Err QueueFault.NoSuchTag) ↔ ¬ (AreTags (layout_of self.now) (tags_in first mask)) }
+        ensures not_held { (result ≡ Err QueueFault.NotHeld)
+            ↔ (AreTags (layout_of self.now) (tags_in first mask) × ¬ (All (Holds agent.old) (tags_in first mask))) }
+        ensures succeeds { IsOk result ↔ ((1 ≤ mask) × All (Holds agent.old) (tags_in first mask)) }
+        ensures gives { OnOk result (GivesBack (layout_of self.now) (tags_in first mask) agent.old agent.new) }
+        ensures back { OnOk result ((record_of (caller_of agent.new)).back ≡ (record_of (caller_of agent.old)).back + count_ones mask) }
+        ensures counts { IfOk result (λ woken. Counts self.now (count_ones mask) agent.old agent.new woken) }
+        ensures bound { OnOk result (step_count agent.new
+            ≤ words_over (layout_of self.now) first (tags_in first mask) + 117 + step_count agent.old) }
+        ensures err { OnErr result (agent.new ≡ agent.old) }
+    {
+        self.check_mask(agent, first, mask)?;
+        self.give_mask_back(agent, first, mask);
+        Ok(self.complete_counted(agent, mask.count_ones()))
+    }
+
     /// Clears the tags of a mask, each of which the agent holds, like `clear_mask_granted` but for the tests: it wakes
     /// no sleeper.
+    #[inline]
     pub fn clear_mask_held(&self, agent: &mut Agent<R>, first: u32, mask: u64) -> Grants
         requires agent { IsAgentOf self.now agent.old }
         requires some { 1 ≤ mask }
@@ -90,13 +122,13 @@ impl<R: Copy> Queue<R> {
         ensures grants { AreGrantsOf result (group_steps agent.old) (group_steps agent.new) }
         ensures bound { step_count agent.new ≤ words_over (layout_of self.now) first (tags_in first mask) + 117 + step_count agent.old }
     {
-        let last = first + mask.ilog2();
-        self.give_mask_back(agent, first, mask, last);
+        self.give_mask_back(agent, first, mask);
         self.complete(agent, mask.count_ones())
     }
 
     /// Returns `Ok` if `clear_mask` would clear this mask, and otherwise its refusal. This makes no step. The refusals,
     /// in order: `BadCount`, `NoSuchTag`, `NotHeld`.
+    #[inline]
     pub fn check_mask(&self, agent: &Agent<R>, first: u32, mask: u64) -> Result<(), QueueFault>
         requires agent { IsAgentOf self.now agent.now }
 
@@ -125,9 +157,10 @@ impl<R: Copy> Queue<R> {
     }
 
     /// Frees the held tags of a mask, and moves the hint to the last of them, unless it is round robin.
-    fn give_mask_back(&self, agent: &mut Agent<R>, first: u32, mask: u64, last: u32)
+    #[inline]
+    fn give_mask_back(&self, agent: &mut Agent<R>, first: u32, mask: u64)
         requires agent { IsAgentOf self.now agent.old }
-        requires last { IsLastIn first mask last }
+        requires some { 1 ≤ mask }
         requires held { All (Holds agent.old) (tags_in first mask) }
         ensures agent { IsAgentOf self.now agent.new }
         ensures gives { GivesBack (layout_of self.now) (tags_in first mask) agent.old agent.new }
@@ -135,6 +168,7 @@ impl<R: Copy> Queue<R> {
         ensures others { SameCounts agent.old agent.new }
         ensures bound { step_count agent.new ≤ words_over (layout_of self.now) first (tags_in first mask) + step_count agent.old }
     {
+        let last = first + mask.ilog2();
         give_mask(&self.map, &mut agent.caller, first, mask, last);
         after_clear(&mut agent.hint, last);
     }
@@ -159,9 +193,59 @@ fn part_in(layout: Layout, first: u32, mask: u64, word: u32) -> u64
     moved & layout.usable(word)
 }
 
-/// Returns whether the caller holds each tag of a mask, by one test for each word.
+/// A mask whose tags are all in one word, moved to their places in that word.
+#[inline]
+fn placed(layout: Layout, first: u32, mask: u64, last: u32) -> u64
+    requires first { first < layout.depth }
+    requires last { IsLastIn first mask last × (last < layout.depth) }
+    requires one_word { word_of layout last ≡ word_of layout first }
+    ensures within { IsWithin layout (word_of layout first) result }
+    ensures bits { (place : ℕ) → place < word_bits layout
+        → bit_at result place ≡ mask_bit first mask (tag_at layout (word_of layout first) place) }
+{
+    mask << layout.place_of(first)
+}
+
+/// Returns whether the caller holds each tag of a mask, by one test for each word. Tags of several words are tested out
+/// of line, so that a call for those of one word is short.
 #[inline]
 fn are_held<R>(map: &Map<R>, caller: &Caller<R>, first: u32, mask: u64, last: u32) -> bool
+    requires caller { IsCallerOf map.now caller.now }
+    requires first { first < (layout_of_map map.now).depth }
+    requires last { IsLastIn first mask last × (last < (layout_of_map map.now).depth) }
+    ensures { IsTrue result ↔ All (HoldsTag caller.now) (tags_in first mask) }
+{
+    let layout = map.layout();
+    let word = layout.word_of(first);
+    if layout.word_of(last) != word {
+        return are_held_across(map, caller, first, mask, last);
+    }
+    caller.holds_all(word, placed(layout, first, mask, last))
+}
+
+/// Frees the held tags of a mask by one step for each word that has any of them.
+#[inline]
+fn give_mask<R>(map: &Map<R>, caller: &mut Caller<R>, first: u32, mask: u64, last: u32)
+    requires caller { IsCallerOf map.now caller.old }
+    requires last { IsLastIn first mask last }
+    requires held { All (HoldsTag caller.old) (tags_in first mask) }
+    ensures caller { IsCallerOf map.now caller.new }
+    ensures gives { GivesAll (layout_of_map map.now) (tags_in first mask) caller.old caller.new }
+    ensures back { (record_of caller.new).back ≡ (record_of caller.old).back + count_ones mask }
+    ensures bound { length (record_of caller.new).steps
+        ≤ words_over (layout_of_map map.now) first (tags_in first mask) + length (record_of caller.old).steps }
+{
+    let layout = map.layout();
+    let word = layout.word_of(first);
+    if layout.word_of(last) != word {
+        return give_mask_across(map, caller, first, mask, last);
+    }
+    map.give(caller, word, placed(layout, first, mask, last));
+}
+
+/// Like `are_held`, for a mask whose tags may be in several words: by one test for each word.
+#[inline(never)]
+fn are_held_across<R>(map: &Map<R>, caller: &Caller<R>, first: u32, mask: u64, last: u32) -> bool
     requires caller { IsCallerOf map.now caller.now }
     requires first { first < (layout_of_map map.now).depth }
     requires last { IsLastIn first mask last × (last < (layout_of_map map.now).depth) }
@@ -178,9 +262,9 @@ fn are_held<R>(map: &Map<R>, caller: &Caller<R>, first: u32, mask: u64, last: u3
     true
 }
 
-/// Frees the held tags of a mask by one step for each word that has any of them.
-#[inline]
-fn give_mask<R>(map: &Map<R>, caller: &mut Caller<R>, first: u32, mask: u64, last: u32)
+/// Like `give_mask`, for a mask whose tags may be in several words.
+#[inline(never)]
+fn give_mask_across<R>(map: &Map<R>, caller: &mut Caller<R>, first: u32, mask: u64, last: u32)
     requires caller { IsCallerOf map.now caller.old }
     requires last { IsLastIn first mask last }
     requires held { All (HoldsTag caller.old) (tags_in first mask) }

@@ -88,6 +88,7 @@ impl<R: Copy> Tags<R> {
 
     /// Like `clear_mask_granted`, and refused as it is (`BadCount`, `NoSuchTag`, `NotHeld`), but returns only how many
     /// waiters it granted a wakeup, for callers that wake threads by other means and need not know their groups.
+    #[inline]
     pub fn clear_mask_counted(
         &self,
         hand: &mut Hand<R>,
@@ -110,8 +111,15 @@ impl<R: Copy> Tags<R> {
         ensures bound { OnOk result (step_count hand.new ≤ words_over self.now first (tags_in first mask) + 117 + step_count hand.old) }
         ensures err { OnErr result (hand.new ≡ hand.old) }
     {
-        let grants = self.clear_mask_granted(hand, first, mask)?;
-        Ok(grants.woken)
+        if mask == 0 {
+            return Err(TagFault::BadCount);
+        }
+        let Some((first, mask)) = ordinary_mask(first, mask, self.reserved_count) else {
+            return Err(TagFault::NoSuchTag);
+        };
+        self.ordinary
+            .clear_mask_counted(&mut hand.ordinary, first, mask)
+            .map_err(TagFault::from)
     }
 
     /// Clears the ordinary tags of a mask, each of which the hand holds, like `clear_mask_granted` but for the tests: it

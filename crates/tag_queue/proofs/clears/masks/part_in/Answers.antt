@@ -23,7 +23,7 @@ returns c = let l = c.args.layout in let first : ℕ = c.args.first in let mask 
                 ap (λ (x : ℕ). x * word_bits l + place_of l first) (sym here) ∙ tag_at-back l first in
                 let up : w.place_of.result ≡ first - word * word_bits l = let v = w.place_of.ensures.value in omega arith in
                 ap (λ (x : ℕ). bit_at x p) (w.moved-is ∙ ap (λ (k : ℕ). mask * 2 ^ k % 2 ^ 64) up)
-                ∙ moved_up first mask (word * word_bits l) p less small
+                ∙ moved_up first mask (word * word_bits l) p (omega arith) small
             | else-start-first w ↦
                 let le : first ≤ word * word_bits l = let h = w.if-start-first.false in omega arith in
                 ap (λ (x : ℕ). bit_at x p) (w.moved-is ∙ ap (λ (x : ℕ). mask / 2 ^ (x - first)) start)
