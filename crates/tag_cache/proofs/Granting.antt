@@ -1,12 +1,14 @@
 -- Grants of calls that were made one after the other.
-use Rattle.std.proofs.Common.{arith, ◌≡◌, ℕ, ◌∷◌, List, get_or, replicate, sum, sym, ap, ◌∙◌, subst}
+use Rattle.std.proofs.Common.{arith, ◌≡◌, ℕ, zero, suc, ◌+◌, [], ◌∷◌, List, get_or, replicate, sum, refl, sym, ap, ◌∙◌, subst}
 use Rattle.std.proofs.lemmas.List.{get_or-replicate}
+use Rattle.std.proofs.lemmas.List.Sums.{sum_by-cons}
 use Rattle.step_ledger.specs.History.{total}
 use Rattle.wake_book.specs.declared.grants.Grants.{Grants}
 use Rattle.wake_book.specs.declared.steps.GroupStep.{GroupStep}
 use Rattle.wake_book.specs.declared.steps.GroupStep.TheVariants.{Look}
 use Rattle.wake_book.specs.Grants.{AreGrantsOf, granted_in}
 use Rattle.wake_book.specs.Waits.{active_at, moved_by}
+use Rattle.tag_queue.specs.Woken.{WokenBy}
 use Rattle.tag_sets.specs.declared.hand.Hand.{Hand}
 use Rattle.tag_sets.specs.Hands.{group_steps}
 use Rattle.tag_sets.specs.Waits.{Enters}
@@ -61,3 +63,42 @@ module _ {R : Type 0} where
   pub then_same : (grants : Grants) (a b c : Hand R) → AreGrantsOf grants (group_steps a) (group_steps b)
       → group_steps c ≡ group_steps b → AreGrantsOf grants (group_steps a) (group_steps c)
   then_same grants a b c g e = subst (λ (s : List GroupStep). AreGrantsOf grants (group_steps a) s) (sym e) g
+
+-- the sums of two lists' entries
+abbrev adds : List ℕ → List ℕ → List ℕ
+adds [] ys = ys
+adds (x ∷ xs) [] = x ∷ xs
+adds (x ∷ xs) (y ∷ ys) = (x + y) ∷ adds xs ys
+
+adds-at : (xs ys : List ℕ) (k : ℕ) → get_or (adds xs ys) k 0 ≡ get_or xs k 0 + get_or ys k 0
+adds-at [] ys k = grind arith
+adds-at (x ∷ xs) [] k = grind arith
+adds-at (x ∷ xs) (y ∷ ys) zero = refl
+adds-at (x ∷ xs) (y ∷ ys) (suc k) = adds-at xs ys k
+
+adds-sum : (xs ys : List ℕ) → sum (adds xs ys) ≡ sum xs + sum ys
+adds-sum [] ys = grind arith
+adds-sum (x ∷ xs) [] = grind arith
+adds-sum (x ∷ xs) (y ∷ ys) = let rest = adds-sum xs ys in
+    let left : sum (x ∷ xs) ≡ x + sum xs = sum_by-cons (λ n. n) x xs in
+    let right : sum (y ∷ ys) ≡ y + sum ys = sum_by-cons (λ n. n) y ys in
+    let both : sum ((x + y) ∷ adds xs ys) ≡ (x + y) + sum (adds xs ys) = sum_by-cons (λ n. n) (x + y) (adds xs ys) in
+    omega arith
+
+-- what two calls granted, of which one was made after the other
+pub woken_both : (sooner later : ℕ) (old mid new : List GroupStep) → WokenBy sooner old mid → WokenBy later mid new
+    → WokenBy (sooner + later) old new
+woken_both sooner later old mid new a b = record {
+  grants = record {
+    woken = a.grants.woken + b.grants.woken;
+    in_group = adds a.grants.in_group b.grants.in_group;
+  };
+  are = let x = a.are.all in let y = b.are.all in record {
+    each = λ k low. let p = a.are.each k low in let q = b.are.each k low in
+        let both = adds-at a.grants.in_group b.grants.in_group k in omega arith;
+    all = omega arith;
+    sum_is = let p = a.are.sum_is in let q = b.are.sum_is in
+        let both = adds-sum a.grants.in_group b.grants.in_group in omega arith;
+  };
+  all = let p = a.all in let q = b.all in omega arith;
+}

@@ -21,12 +21,12 @@ module _ (start first mask : ℕ) (fits : mask < 2 ^ 64) (tag : ℕ) where
   up_in less = (
     (λ i. let low = bit_low (mask * 2 ^ (first - start) % 2 ^ 64) (tag - start) (omega arith) i.1 in let above = i.0 in (
       place_one first mask tag (ap (mask_bit first mask) (sym (at i.0))
-          ∙ sym (moved_up first mask start (tag - start) less low) ∙ i.1),
+          ∙ sym (moved_up first mask start (tag - start) (omega arith) low) ∙ i.1),
       (above, omega arith),
     )),
     (λ w. let above = w.1.0 in let below = w.1.1 in (
       above,
-      moved_up first mask start (tag - start) less (omega arith)
+      moved_up first mask start (tag - start) (omega arith) (omega arith)
           ∙ ap (mask_bit first mask) (at above) ∙ bit_from first mask tag w.0.0 ∙ w.0.1,
     )),
   )

@@ -1,6 +1,7 @@
 //! What goes back before tags that are cleared together.
 ghost use Rattle.std.specs.Prelude.{◌≡◌, ◌≤◌, ◌↔◌, ℕ, IsTrue};
 ghost use Rattle.wake_book.specs.Grants.{AreGrantsOf};
+ghost use Rattle.tag_queue.specs.Woken.{WokenBy};
 ghost use Rattle.tag_sets.specs.Hands.{group_steps};
 ghost use Rattle.tag_cache.specs.Windows.{IsIn};
 ghost use Rattle.tag_cache.specs.Batches.{GoesBefore, LeavesNone};
@@ -35,6 +36,46 @@ impl<R: Copy> Cache<R> {
         NO_GRANTS
     }
 
+    /// Like `go_before`, but returns only how many waiters it granted a wakeup. Grants stay out of line, so that a clear
+    /// needs no memory where nobody waits.
+    #[inline]
+    pub(crate) fn go_before_counted(&mut self, tags: &Tags<R>, left: u64) -> u32
+        requires cache { IsCacheOf tags.now self.old }
+        requires left { (other : ℕ) → IsIn self.old.first left other → IsLent self.old other }
+        ensures cache { IsCacheOf tags.now self.new }
+        ensures way { GoesBefore tags.now left result self.old self.new }
+        ensures grants { WokenBy result (group_steps (hand_of self.old)) (group_steps (hand_of self.new)) }
+        ensures loans { (other : ℕ) → IsLent self.new other ↔ IsIn self.old.first left other }
+        ensures few { result ≤ 8 }
+    {
+        let waiting = tags.active(&mut self.hand);
+        if waiting != 0 {
+            return self.leave_counted(tags, left);
+        }
+        if self.leaves_none(left) {
+            return self.leave_counted(tags, left);
+        }
+        self.lent = left;
+        0
+    }
+
+    /// Like `leave`, but returns only how many waiters it granted a wakeup.
+    #[inline(never)]
+    fn leave_counted(&mut self, tags: &Tags<R>, left: u64) -> u32
+        requires cache { IsCacheOf tags.now self.old }
+        requires left { (other : ℕ) → IsIn self.old.first left other → IsLent self.old other }
+        ensures cache { IsCacheOf tags.now self.new }
+        ensures gives { GivesKept tags.now result self.old (hand_of self.old) (hand_of self.new) }
+        ensures grants { WokenBy result (group_steps (hand_of self.old)) (group_steps (hand_of self.new)) }
+        ensures none { KeepsNone self.new }
+        ensures terms { SameTerms self.old self.new }
+        ensures reused { reused_of self.new ≡ reused_of self.old }
+        ensures loans { (other : ℕ) → IsLent self.new other ↔ IsIn self.old.first left other }
+        ensures few { result ≤ 8 }
+    {
+        self.leave(tags, left).woken
+    }
+
     /// Gives all kept tags back, and says that the user is known to hold only the tags of this mask.
     fn leave(&mut self, tags: &Tags<R>, left: u64) -> Grants
         requires cache { IsCacheOf tags.now self.old }
@@ -56,6 +97,7 @@ impl<R: Copy> Cache<R> {
 
 impl<R> Cache<R> {
     /// Returns whether nothing may be kept any more once the user is known to hold only the tags of this mask.
+    #[inline]
     fn leaves_none(&self, left: u64) -> bool
         ensures { IsTrue result ↔ LeavesNone left self.now }
     {

@@ -2,6 +2,7 @@
 ghost use Rattle.std.specs.Prelude.{◌≡◌, ◌<◌, ◌≤◌, ◌↔◌, ◌^◌, ℕ, count_ones, All, Contains, IfOk, IsOk, OnOk, OnErr};
 ghost use Rattle.wake_book.specs.Grants.{AreGrantsOf};
 ghost use Rattle.tag_queue.specs.Masks.{tags_in};
+ghost use Rattle.tag_queue.specs.Woken.{WokenBy};
 ghost use Rattle.tag_sets.specs.Batches.{AreOrdinary};
 ghost use Rattle.tag_sets.specs.Hands.{group_steps};
 ghost use Rattle.tag_cache.specs.Windows.{IsIn};
@@ -74,7 +75,38 @@ impl<R: Copy> Cache<R> {
         Ok(self.give_mask(tags, first, mask))
     }
 
+    /// Like `clear_mask_granted`, and refused as it is (`BadCount`, `NoSuchTag`, `NotHeld`), but returns only how many
+    /// waiters it granted a wakeup, for callers that wake threads by other means and need not know their groups.
+    #[inline]
+    pub fn clear_mask_counted(
+        &mut self,
+        tags: &Tags<R>,
+        first: u32,
+        mask: u64,
+    ) -> Result<u32, TagFault>
+        requires { IsCacheOf tags.now self.old }
+        ensures cache { IsCacheOf tags.now self.new }
+
+        // The causes are checked in this order, each for the whole mask.
+        ensures bad_count { (result ≡ Err TagFault.BadCount) ↔ (mask ≡ 0) }
+        ensures no_such_tag { (result ≡ Err TagFault.NoSuchTag) ↔ ¬ (AreOrdinary tags.now (tags_in first mask)) }
+        ensures not_held { (result ≡ Err TagFault.NotHeld)
+            ↔ (AreOrdinary tags.now (tags_in first mask) × ¬ (All (Holds self.old) (tags_in first mask))) }
+        ensures succeeds { IsOk result
+            ↔ ((1 ≤ mask) × AreOrdinary tags.now (tags_in first mask) × All (Holds self.old) (tags_in first mask)) }
+        ensures less { OnOk result (HoldsLess (Contains (tags_in first mask)) self.old self.new) }
+        ensures way { IfOk result (λ woken. ListGoes tags.now (tags_in first mask) woken self.old self.new) }
+        ensures grants { IfOk result (λ woken. WokenBy woken (group_steps (hand_of self.old)) (group_steps (hand_of self.new))) }
+        ensures loans { OnOk result (LendsNoneOf (tags_in first mask) self.old self.new) }
+        ensures tally { OnOk result (Tallies 0 (count_ones mask) self.old self.new) }
+        ensures err { OnErr result (IsUnchanged self.old self.new) }
+    {
+        self.check_mask(tags, first, mask)?;
+        Ok(self.give_mask_counted(tags, first, mask))
+    }
+
     /// Checks that the mask has tags, that they are ordinary ones, and that the user holds each of them.
+    #[inline]
     fn check_mask(&self, tags: &Tags<R>, first: u32, mask: u64) -> Result<(), TagFault>
         requires { IsCacheOf tags.now self.now }
 
@@ -109,10 +141,29 @@ impl<R: Copy> Cache<R> {
         let later = tags.clear_mask_held(&mut self.hand, first, mask);
         both(sooner, later)
     }
+
+    /// Like `give_mask`, but returns only how many waiters it granted a wakeup.
+    #[inline]
+    fn give_mask_counted(&mut self, tags: &Tags<R>, first: u32, mask: u64) -> u32
+        requires cache { IsCacheOf tags.now self.old }
+        requires mask { (1 ≤ mask) × AreOrdinary tags.now (tags_in first mask) }
+        requires held { All (Holds self.old) (tags_in first mask) }
+        ensures cache { IsCacheOf tags.now self.new }
+        ensures way { ListGoes tags.now (tags_in first mask) result self.old self.new }
+        ensures grants { WokenBy result (group_steps (hand_of self.old)) (group_steps (hand_of self.new)) }
+        ensures loans { LendsNoneOf (tags_in first mask) self.old self.new }
+    {
+        let left = self.lent_outside(first, mask);
+        let sooner = self.go_before_counted(tags, left);
+        let later = tags.clear_mask_held_counted(&mut self.hand, first, mask);
+        let woken = sooner + later;
+        woken
+    }
 }
 
 impl<R> Cache<R> {
     /// Returns the mask of the tags that the user is known to hold, without those of a mask.
+    #[inline]
     fn lent_outside(&self, first: u32, mask: u64) -> u64
         ensures { (other : ℕ) → IsIn self.now.first result other
             ↔ (IsLent self.now other × ¬ (Contains (tags_in first mask) other)) }
@@ -121,6 +172,7 @@ impl<R> Cache<R> {
     }
 
     /// Returns the tags of a mask that are in the window, as a mask of the window.
+    #[inline]
     fn inside(&self, first: u32, mask: u64) -> u64
         ensures fits { result < 2 ^ 64 }
         ensures inside { (tag : ℕ) → IsIn self.now.first result tag ↔ (IsIn first mask tag × IsWithin self.now tag) }

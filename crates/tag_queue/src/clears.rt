@@ -5,6 +5,7 @@ ghost use Rattle.wake_book.specs.Book.{counted_by};
 ghost use Rattle.tag_queue.specs.Agents.{layout_of, IsAgentOf, Holds, step_count, caller_of, teller_of, waiter_of, hint_of, group_steps, SameCounts};
 ghost use Rattle.tag_queue.specs.Clears.{Puts, Counts, ChargesNow};
 ghost use Rattle.tag_queue.specs.Waits.{SameTags};
+ghost use Rattle.tag_queue.specs.Woken.{WokenBy};
 ghost use Rattle.wake_book.specs.Grants.{AreGrantsOf};
 ghost use Rattle.wake_book.specs.Groups.{StandsAsBefore, RingsGranted, rung_of};
 ghost use Rattle.wake_book.specs.declared.rings.Rung.TheVariants.{Granted};
@@ -173,6 +174,7 @@ impl<R: Copy> Queue<R> {
         requires came_back { counted_by (teller_of agent.old) + n ≤ (record_of (caller_of agent.old)).back }
         ensures agent { IsAgentOf self.now agent.new }
         ensures counts { Counts self.now n agent.old agent.new result }
+        ensures grants { WokenBy result (group_steps agent.old) (group_steps agent.new) }
         ensures others { (caller_of agent.new ≡ caller_of agent.old) × (hint_of agent.new ≡ hint_of agent.old) }
         ensures bound { step_count agent.new ≤ 117 + step_count agent.old }
     {
@@ -191,6 +193,7 @@ impl<R: Copy> Queue<R> {
         requires came_back { counted_by (teller_of agent.old) + n ≤ (record_of (caller_of agent.old)).back }
         ensures agent { IsAgentOf self.now agent.new }
         ensures charges { ChargesNow self.now n agent.old agent.new result }
+        ensures grants { WokenBy result (group_steps agent.old) (group_steps agent.new) }
         ensures others { (caller_of agent.new ≡ caller_of agent.old) × (hint_of agent.new ≡ hint_of agent.old) }
         ensures bound { step_count agent.new ≤ 116 + step_count agent.old }
     {

@@ -1,23 +1,23 @@
 //! Clears of the tags of a mask, as a batch get answers it.
-ghost use Rattle.std.specs.Prelude.{◌≡◌, ◌≢◌, ℕ, ◌+◌, ◌*◌, ◌<◌, ◌≤◌, ◌↔◌, length, count_ones, All, IfOk, IsOk, OnOk, OnErr, IsTrue};
-ghost use Rattle.std.specs.Int.{bit_at};
-ghost use Rattle.tag_layout.specs.Layout.{words, word_bits, word_of, tag_at, IsWithin};
-ghost use Rattle.tag_core.specs.Callers.{IsCallerOf, record_of, layout_of as layout_of_map, Holds as HoldsTag};
+ghost use Rattle.std.specs.Prelude.{◌≡◌, ◌+◌, ◌≤◌, ◌↔◌, count_ones, All, IfOk, IsOk, OnOk, OnErr};
+ghost use Rattle.tag_core.specs.Callers.{record_of};
 ghost use Rattle.wake_book.specs.Grants.{AreGrantsOf};
 ghost use Rattle.wake_book.specs.Groups.{RingsGranted};
 ghost use Rattle.tag_queue.specs.Agents.{layout_of, IsAgentOf, Holds, step_count, caller_of, waiter_of, group_steps, SameCounts};
-ghost use Rattle.tag_queue.specs.Batches.{AreTags, GivesAll, GivesBack};
+ghost use Rattle.tag_queue.specs.Batches.{AreTags, GivesBack};
 ghost use Rattle.tag_queue.specs.Clears.{Counts};
-ghost use Rattle.tag_queue.specs.Masks.{tags_in, mask_bit, words_over, IsLastIn};
+ghost use Rattle.tag_queue.specs.Masks.{tags_in, words_over};
 ghost use Rattle.tag_queue.specs.Tallies.{back_of};
+ghost use Rattle.tag_queue.specs.Woken.{WokenBy};
 
 use crate::agent::Agent;
 use crate::fault::QueueFault;
 use crate::queue::Queue;
-use tag_core::{Caller, Map};
-use tag_layout::Layout;
 use tag_search::after_clear;
 use wake_book::Grants;
+use words::{are_held, give_mask};
+
+mod words;
 
 impl<R: Copy> Queue<R> {
     /// Clears the held tags of a mask, in which bit `i` is tag `first + i` as in the answer of `get_batch`, counts them
@@ -99,13 +99,13 @@ impl<R: Copy> Queue<R> {
         ensures gives { OnOk result (GivesBack (layout_of self.now) (tags_in first mask) agent.old agent.new) }
         ensures back { OnOk result ((record_of (caller_of agent.new)).back ≡ (record_of (caller_of agent.old)).back + count_ones mask) }
         ensures counts { IfOk result (λ woken. Counts self.now (count_ones mask) agent.old agent.new woken) }
+        ensures grants { IfOk result (λ woken. WokenBy woken (group_steps agent.old) (group_steps agent.new)) }
         ensures bound { OnOk result (step_count agent.new
             ≤ words_over (layout_of self.now) first (tags_in first mask) + 117 + step_count agent.old) }
         ensures err { OnErr result (agent.new ≡ agent.old) }
     {
         self.check_mask(agent, first, mask)?;
-        self.give_mask_back(agent, first, mask);
-        Ok(self.complete_counted(agent, mask.count_ones()))
+        Ok(self.clear_mask_held_counted(agent, first, mask))
     }
 
     /// Clears the tags of a mask, each of which the agent holds, like `clear_mask_granted` but for the tests: it wakes
@@ -124,6 +124,23 @@ impl<R: Copy> Queue<R> {
     {
         self.give_mask_back(agent, first, mask);
         self.complete(agent, mask.count_ones())
+    }
+
+    /// Like `clear_mask_held`, but returns only how many waiters it granted a wakeup.
+    #[inline]
+    pub fn clear_mask_held_counted(&self, agent: &mut Agent<R>, first: u32, mask: u64) -> u32
+        requires agent { IsAgentOf self.now agent.old }
+        requires some { 1 ≤ mask }
+        requires held { All (Holds agent.old) (tags_in first mask) }
+        ensures agent { IsAgentOf self.now agent.new }
+        ensures gives { GivesBack (layout_of self.now) (tags_in first mask) agent.old agent.new }
+        ensures back { back_of agent.new ≡ back_of agent.old + count_ones mask }
+        ensures counts { Counts self.now (count_ones mask) agent.old agent.new result }
+        ensures grants { WokenBy result (group_steps agent.old) (group_steps agent.new) }
+        ensures bound { step_count agent.new ≤ words_over (layout_of self.now) first (tags_in first mask) + 117 + step_count agent.old }
+    {
+        self.give_mask_back(agent, first, mask);
+        self.complete_counted(agent, mask.count_ones())
     }
 
     /// Returns `Ok` if `clear_mask` would clear this mask, and otherwise its refusal. This makes no step. The refusals,
@@ -171,116 +188,5 @@ impl<R: Copy> Queue<R> {
         let last = first + mask.ilog2();
         give_mask(&self.map, &mut agent.caller, first, mask, last);
         after_clear(&mut agent.hint, last);
-    }
-}
-
-/// The bits of a mask whose tags are in this word, at the places of the word.
-#[inline]
-fn part_in(layout: Layout, first: u32, mask: u64, word: u32) -> u64
-    requires first { first < layout.depth }
-    requires word { (word_of layout first ≤ word) × (word < words layout) }
-    requires near { word * word_bits layout < first + 64 }
-    requires tags { (tag : ℕ) → layout.depth ≤ tag → mask_bit first mask tag ≢ 1 }
-    ensures within { IsWithin layout word result }
-    ensures bits { (place : ℕ) → place < word_bits layout → bit_at result place ≡ mask_bit first mask (tag_at layout word place) }
-{
-    let start = layout.tag_at(word, 0);
-    let moved = if start < first {
-        mask << layout.place_of(first)
-    } else {
-        mask >> (start - first)
-    };
-    moved & layout.usable(word)
-}
-
-/// A mask whose tags are all in one word, moved to their places in that word.
-#[inline]
-fn placed(layout: Layout, first: u32, mask: u64, last: u32) -> u64
-    requires first { first < layout.depth }
-    requires last { IsLastIn first mask last × (last < layout.depth) }
-    requires one_word { word_of layout last ≡ word_of layout first }
-    ensures within { IsWithin layout (word_of layout first) result }
-    ensures bits { (place : ℕ) → place < word_bits layout
-        → bit_at result place ≡ mask_bit first mask (tag_at layout (word_of layout first) place) }
-{
-    mask << layout.place_of(first)
-}
-
-/// Returns whether the caller holds each tag of a mask, by one test for each word. Tags of several words are tested out
-/// of line, so that a call for those of one word is short.
-#[inline]
-fn are_held<R>(map: &Map<R>, caller: &Caller<R>, first: u32, mask: u64, last: u32) -> bool
-    requires caller { IsCallerOf map.now caller.now }
-    requires first { first < (layout_of_map map.now).depth }
-    requires last { IsLastIn first mask last × (last < (layout_of_map map.now).depth) }
-    ensures { IsTrue result ↔ All (HoldsTag caller.now) (tags_in first mask) }
-{
-    let layout = map.layout();
-    let word = layout.word_of(first);
-    if layout.word_of(last) != word {
-        return are_held_across(map, caller, first, mask, last);
-    }
-    caller.holds_all(word, placed(layout, first, mask, last))
-}
-
-/// Frees the held tags of a mask by one step for each word that has any of them.
-#[inline]
-fn give_mask<R>(map: &Map<R>, caller: &mut Caller<R>, first: u32, mask: u64, last: u32)
-    requires caller { IsCallerOf map.now caller.old }
-    requires last { IsLastIn first mask last }
-    requires held { All (HoldsTag caller.old) (tags_in first mask) }
-    ensures caller { IsCallerOf map.now caller.new }
-    ensures gives { GivesAll (layout_of_map map.now) (tags_in first mask) caller.old caller.new }
-    ensures back { (record_of caller.new).back ≡ (record_of caller.old).back + count_ones mask }
-    ensures bound { length (record_of caller.new).steps
-        ≤ words_over (layout_of_map map.now) first (tags_in first mask) + length (record_of caller.old).steps }
-{
-    let layout = map.layout();
-    let word = layout.word_of(first);
-    if layout.word_of(last) != word {
-        return give_mask_across(map, caller, first, mask, last);
-    }
-    map.give(caller, word, placed(layout, first, mask, last));
-}
-
-/// Like `are_held`, for a mask whose tags may be in several words: by one test for each word.
-#[inline(never)]
-fn are_held_across<R>(map: &Map<R>, caller: &Caller<R>, first: u32, mask: u64, last: u32) -> bool
-    requires caller { IsCallerOf map.now caller.now }
-    requires first { first < (layout_of_map map.now).depth }
-    requires last { IsLastIn first mask last × (last < (layout_of_map map.now).depth) }
-    ensures { IsTrue result ↔ All (HoldsTag caller.now) (tags_in first mask) }
-{
-    let layout = map.layout();
-    let from = layout.word_of(first);
-    let to = layout.word_of(last);
-    for word in from..to + 1 {
-        if !caller.holds_all(word, part_in(layout, first, mask, word)) {
-            return false;
-        }
-    }
-    true
-}
-
-/// Like `give_mask`, for a mask whose tags may be in several words.
-#[inline(never)]
-fn give_mask_across<R>(map: &Map<R>, caller: &mut Caller<R>, first: u32, mask: u64, last: u32)
-    requires caller { IsCallerOf map.now caller.old }
-    requires last { IsLastIn first mask last }
-    requires held { All (HoldsTag caller.old) (tags_in first mask) }
-    ensures caller { IsCallerOf map.now caller.new }
-    ensures gives { GivesAll (layout_of_map map.now) (tags_in first mask) caller.old caller.new }
-    ensures back { (record_of caller.new).back ≡ (record_of caller.old).back + count_ones mask }
-    ensures bound { length (record_of caller.new).steps
-        ≤ words_over (layout_of_map map.now) first (tags_in first mask) + length (record_of caller.old).steps }
-{
-    let layout = map.layout();
-    let from = layout.word_of(first);
-    let to = layout.word_of(last);
-    for word in from..to + 1 {
-        let here = part_in(layout, first, mask, word);
-        if here != 0 {
-            map.give(caller, word, here);
-        }
     }
 }

@@ -3,6 +3,7 @@ ghost use Rattle.std.specs.Prelude.{◌≡◌, ◌+◌, ◌-◌, ◌≤◌, ◌�
 ghost use Rattle.wake_book.specs.Grants.{AreGrantsOf};
 ghost use Rattle.wake_book.specs.Groups.{RingsGranted};
 ghost use Rattle.tag_queue.specs.Masks.{tags_in};
+ghost use Rattle.tag_queue.specs.Woken.{WokenBy};
 ghost use Rattle.tag_sets.specs.Hands.{IsHandOf, waiter_of, Holds, step_count, group_steps};
 ghost use Rattle.tag_sets.specs.Batches.{AreOrdinary, GivesBack, numbers_of};
 ghost use Rattle.tag_sets.specs.Clears.{Counts, back_of};
@@ -108,6 +109,7 @@ impl<R: Copy> Tags<R> {
         ensures gives { OnOk result (GivesBack self.now (tags_in first mask) hand.old hand.new) }
         ensures back { OnOk result (back_of hand.new Ordinary ≡ back_of hand.old Ordinary + count_ones mask) }
         ensures counts { IfOk result (λ woken. Counts self.now Ordinary (count_ones mask) hand.old hand.new woken) }
+        ensures grants { IfOk result (λ woken. WokenBy woken (group_steps hand.old) (group_steps hand.new)) }
         ensures bound { OnOk result (step_count hand.new ≤ words_over self.now first (tags_in first mask) + 117 + step_count hand.old) }
         ensures err { OnErr result (hand.new ≡ hand.old) }
     {
@@ -143,8 +145,30 @@ impl<R: Copy> Tags<R> {
             .clear_mask_held(&mut hand.ordinary, first, mask)
     }
 
+    /// Like `clear_mask_held`, but returns only how many waiters it granted a wakeup.
+    #[inline]
+    pub fn clear_mask_held_counted(&self, hand: &mut Hand<R>, first: u32, mask: u64) -> u32
+        requires hand { IsHandOf self.now hand.old }
+        requires some { 1 ≤ mask }
+        requires ordinary { AreOrdinary self.now (tags_in first mask) }
+        requires held { All (Holds hand.old) (tags_in first mask) }
+        ensures hand { IsHandOf self.now hand.new }
+        ensures gives { GivesBack self.now (tags_in first mask) hand.old hand.new }
+        ensures back { back_of hand.new Ordinary ≡ back_of hand.old Ordinary + count_ones mask }
+        ensures counts { Counts self.now Ordinary (count_ones mask) hand.old hand.new result }
+        ensures grants { WokenBy result (group_steps hand.old) (group_steps hand.new) }
+        ensures bound { step_count hand.new ≤ words_over self.now first (tags_in first mask) + 117 + step_count hand.old }
+    {
+        let Some((first, mask)) = ordinary_mask(first, mask, self.reserved_count) else {
+            unreachable!()
+        };
+        self.ordinary
+            .clear_mask_held_counted(&mut hand.ordinary, first, mask)
+    }
+
     /// Returns `Ok` if `clear_mask` would clear this mask, and otherwise its refusal. This makes no step. The refusals,
     /// in order: `BadCount`, `NoSuchTag`, `NotHeld`.
+    #[inline]
     pub fn check_mask(&self, hand: &Hand<R>, first: u32, mask: u64) -> Result<(), TagFault>
         requires hand { IsHandOf self.now hand.now }
 

@@ -2,7 +2,7 @@
 use Rattle.std.proofs.Common.{◌≡◌, ◌∙◌, refl, sym, ap, subst}
 use Rattle.tag_sets.specs.declared.hand.Hand.{Hand}
 use Rattle.wake_book.specs.declared.groups.Waiter.{Waiter}
-use Rattle.tag_sets.specs.Hands.{group_steps, waiter_of}
+use Rattle.tag_sets.specs.Hands.{waiter_of}
 use Rattle.wake_book.specs.Groups as waiters
 use Rattle.tag_sets.specs.Slots.{Posts}
 use Rattle.tag_cache.proofs.Carrying.{same_then_same, same_then_less, keeps_twice, none_after}

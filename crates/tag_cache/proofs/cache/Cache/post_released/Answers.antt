@@ -3,7 +3,6 @@ use Rattle.std.proofs.Common.{◌≡◌, ℕ, refl, subst}
 use Rattle.tag_sets.specs.Slots.{Posts}
 use Rattle.tag_cache.specs.Caches.{IsKept, IsLent}
 use Rattle.tag_cache.proofs.Carrying.{less, same_fields, own_after, less_still, not_ok}
-use Rattle.tag_cache.proofs.Looking.{same_window}
 use Rattle.tag_cache.proofs.Passing.{posted_tallies}
 use Rattle.tag_cache.proofs.cache.Cache.post_released.Goals as goal
 

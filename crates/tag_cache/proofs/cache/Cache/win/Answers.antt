@@ -1,5 +1,5 @@
 -- The call of the hand leaves the window as it is, and the tag that the hand won is the user's.
-use Rattle.std.proofs.Common.{◌≡◌, ◌≤◌, ℕ, Option, Some, sym, subst}
+use Rattle.std.proofs.Common.{◌≤◌, ℕ, Option, Some, sym, subst}
 use Rattle.tag_sets.specs.Freed.{GetsAndLooks}
 use Rattle.tag_sets.specs.Gets as hand_gets
 use Rattle.tag_sets.specs.Gets.{IsAnswer}

@@ -3,6 +3,7 @@ use Rattle.std.proofs.Common.{rules, arith, List, inr, subst}
 use Rattle.wake_book.specs.declared.steps.GroupStep.{GroupStep}
 use Rattle.tag_queue.specs.Agents.{batch_of, group_steps}
 use Rattle.tag_queue.specs.Clears.{Follows}
+use Rattle.tag_queue.proofs.WokenFacts.{woken_after, none_woken}
 use Rattle.tag_queue.proofs.queue.Queue.complete_counted.Goals as goal
 
 pub returns-clause-counts : goal.returns-clause-counts
@@ -18,3 +19,11 @@ returns-clause-counts g c = record {
   });
   stands = search rules;
 }
+
+pub returns-then-found-eq0-clause-grants : goal.returns-then-found-eq0-clause-grants
+returns-then-found-eq0-clause-grants g c = none_woken c.active-found.result (group_steps c.args.agent.now) _
+    c.active-found.ensures.step
+
+pub returns-clause-grants : goal.returns-clause-grants
+returns-clause-grants g c = woken_after c.charge_counted.result c.active-found.result (group_steps c.args.agent.now) _
+    (group_steps c.charge_counted.new.agent) c.active-found.ensures.step c.charge_counted.ensures.grants

@@ -90,6 +90,10 @@ returns-clause-counts g c = told_if c.clear_mask_counted.result c.map_err.result
     c.args.hand.now.ordinary c.clear_mask_counted.new.agent woken)) c.in-Some.ensures.ones
     c.clear_mask_counted.ensures.counts)
 
+pub returns-clause-grants : goal.returns-clause-grants
+returns-clause-grants g c = told_if c.clear_mask_counted.result c.map_err.result c.map_err.ensures.cases _
+    c.clear_mask_counted.ensures.grants
+
 pub returns-clause-bound : goal.returns-clause-bound
 returns-clause-bound g c = let numbers = c.in-Some.ensures.numbers in
     let over = words_alike (layout_of c.args.self.now Ordinary) numbers.0 numbers.1 in

@@ -10,8 +10,8 @@ use Rattle.tag_queue.proofs.RunTags.{place_one, bit_below}
 use Rattle.tag_queue.proofs.MaskParts.{start_le}
 use Rattle.tag_queue.proofs.MaskHolds.{near, none_at, last_held}
 use Rattle.tag_queue.proofs.MaskGives.{GivenTo, before, none_given, still_held, none_here, one_here, all_given, all_back, few_steps}
-use Rattle.tag_queue.proofs.clears.masks.give_mask_across.Goals.{then-here-ne0, else-here-ne0}
-use Rattle.tag_queue.proofs.clears.masks.give_mask_across.Goals as goal
+use Rattle.tag_queue.proofs.clears.masks.words.give_mask_across.Goals.{then-here-ne0, else-here-ne0}
+use Rattle.tag_queue.proofs.clears.masks.words.give_mask_across.Goals as goal
 
 pub word_of-to-requires : goal.word_of-to-requires
 word_of-to-requires g c = subst (λ (x : Layout). c.args.last < x.depth) (sym c.layout-layout.ensures)

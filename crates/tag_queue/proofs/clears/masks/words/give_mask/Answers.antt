@@ -4,7 +4,7 @@ use Rattle.tag_layout.specs.Layout.{Layout}
 use Rattle.tag_queue.proofs.RunTags.{place_one}
 use Rattle.tag_queue.proofs.MaskHolds.{last_held}
 use Rattle.tag_queue.proofs.MaskPlaced.{is_placed, placed_holds, gives_placed, back_placed}
-use Rattle.tag_queue.proofs.clears.masks.give_mask.Goals as goal
+use Rattle.tag_queue.proofs.clears.masks.words.give_mask.Goals as goal
 
 pub word_of-requires : goal.word_of-requires
 word_of-requires g c = subst (λ (x : Layout). c.args.last < x.depth) (sym c.layout-layout.ensures)

@@ -2,7 +2,7 @@
 use Rattle.std.proofs.Common.{arith}
 use Rattle.tag_layout.proofs.PlaceFacts.{word_bits-le}
 use Rattle.tag_queue.proofs.MaskPlaced.{placed_bits, placed_within}
-use Rattle.tag_queue.proofs.clears.masks.placed.Goals as goal
+use Rattle.tag_queue.proofs.clears.masks.words.placed.Goals as goal
 
 pub returns-clause-within : goal.returns-clause-within
 returns-clause-within c = let last = c.requires.last in placed_within c.args.layout c.args.first c.args.mask c.args.last

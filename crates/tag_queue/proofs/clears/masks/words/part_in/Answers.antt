@@ -5,8 +5,8 @@ use Rattle.std.proofs.lemmas.Nat.{and_le_r}
 use Rattle.tag_layout.specs.Layout.{word_bits, place_of}
 use Rattle.tag_layout.proofs.PlaceFacts.{tag_at-back}
 use Rattle.tag_queue.proofs.MaskParts.{moved_up, moved_down, part_bits, used_low, past_start, in_word}
-use Rattle.tag_queue.proofs.clears.masks.part_in.Goals as goal
-use Rattle.tag_queue.proofs.clears.masks.part_in.Goals.{then-start-first, else-start-first}
+use Rattle.tag_queue.proofs.clears.masks.words.part_in.Goals as goal
+use Rattle.tag_queue.proofs.clears.masks.words.part_in.Goals.{then-start-first, else-start-first}
 
 pub returns : goal.returns
 returns c = let l = c.args.layout in let first : ℕ = c.args.first in let mask : ℕ = c.args.mask in

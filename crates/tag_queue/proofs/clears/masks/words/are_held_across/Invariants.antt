@@ -3,7 +3,7 @@ use Rattle.std.proofs.Common.{◌≡◌, ℕ, ◌*◌, ◌<◌}
 use Rattle.tag_layout.specs.Layout.{word_bits}
 use Rattle.tag_core.specs.Callers.{Holds}
 use Rattle.tag_queue.specs.Masks.{mask_bit}
-use Rattle.tag_queue.proofs.clears.masks.are_held_across.Given as goal
+use Rattle.tag_queue.proofs.clears.masks.words.are_held_across.Given as goal
 
 abbrev pub invariant-loop-word : goal.invariant-loop-word
 invariant-loop-word g l = (t : ℕ) → mask_bit l.first l.mask t ≡ 1 → t < l.word * word_bits l.map.shape.layout → Holds l.caller t

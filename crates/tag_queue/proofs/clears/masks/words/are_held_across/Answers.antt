@@ -5,7 +5,7 @@ use Rattle.tag_core.specs.Callers.{Holds}
 use Rattle.tag_queue.proofs.RunTags.{place_one}
 use Rattle.tag_queue.proofs.MaskParts.{start_le}
 use Rattle.tag_queue.proofs.MaskHolds.{all_in, each_in, near, last_below, holds_more, holds_part}
-use Rattle.tag_queue.proofs.clears.masks.are_held_across.Goals as goal
+use Rattle.tag_queue.proofs.clears.masks.words.are_held_across.Goals as goal
 
 pub loop-word-init : goal.loop-word-init
 loop-word-init g c = λ t one low. let l = c.args.map.now.shape.layout in let first : ℕ = c.args.first in

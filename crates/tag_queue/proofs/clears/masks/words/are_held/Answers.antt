@@ -3,7 +3,7 @@ use Rattle.std.proofs.Common.{ℕ, subst}
 use Rattle.tag_core.specs.declared.shape.Shape.{Shape}
 use Rattle.tag_core.specs.Holdings.{IsInMask}
 use Rattle.tag_queue.proofs.MaskPlaced.{is_placed, holds_placed, placed_holds}
-use Rattle.tag_queue.proofs.clears.masks.are_held.Goals as goal
+use Rattle.tag_queue.proofs.clears.masks.words.are_held.Goals as goal
 
 pub returns : goal.returns
 returns g c = let first : ℕ = c.args.first in let mask : ℕ = c.args.mask in let last : ℕ = c.args.last in
