@@ -1,5 +1,5 @@
 -- Lists in the other order, as they come off the end one by one, and what stands in them.
-use Rattle.std.proofs.Common.{◌≡◌, ◌≢◌, ℕ, zero, suc, ◌+◌, ◌<◌, List, [], ◌∷◌, ◌++◌, map, length, get_or, All, arith, refl, sym, ap, ◌∙◌, subst, length-append, append_assoc}
+use Rattle.std.proofs.Common.{◌≡◌, ◌≢◌, ℕ, zero, suc, ◌+◌, ◌<◌, List, [], ◌∷◌, ◌++◌, map, length, get_or, All, arith, refl, sym, ap, ◌∙◌, subst, length-append}
 use mathlib.Core.List.{map-append}
 use mathlib.Core.Option.{some, some-injective, some-ne-none}
 use lib.ListN.{get_elem?}
@@ -43,13 +43,7 @@ module _ {A : Type 0} where
   pub all_last : (P : A → Type 0) (xs : List A) (x : A) → All P (xs ++ x ∷ []) → P x
   all_last P xs x h = subst P (get_last xs x x) (h (length xs) x (let e = length-append xs (x ∷ []) in omega arith))
 
--- what is taken off the end of a list comes before what was taken earlier
-pub taken : {A B : Type 0} (f : A → B) (xs left : List A) (x : A) (earlier : List B) → xs ≡ left ++ x ∷ []
-    → map f left ++ f x ∷ earlier ≡ map f xs ++ earlier
-taken f xs left x earlier e = sym (append_assoc (map f left) (f x ∷ []) earlier)
-    ∙ ap (λ (z : List _). z ++ earlier) (sym (map-append f left (x ∷ [])) ∙ ap (map f) (sym e))
-
--- the first that is taken off
+-- what is taken off the end of a list comes last
 pub taken_first : {A B : Type 0} (f : A → B) (xs left : List A) (x : A) → xs ≡ left ++ x ∷ []
     → map f left ++ f x ∷ [] ≡ map f xs
 taken_first f xs left x e = sym (map-append f left (x ∷ [])) ∙ ap (map f) (sym e)
@@ -94,6 +88,11 @@ module _ {T : Type 0} where
   pub has_turned : (rs : List (Record T)) (c : ℕ) → Has (numbers rs) c → Has (numbers (turned rs)) c
   has_turned rs c h = let a = has_record (λ (r : Record T). r.number) rs c h in let b = at_turned rs a.0 a.1 a.2 in
       (b.0, at_number (turned rs) b.0 a.1 b.1 ∙ ap some a.3)
+
+-- where a number is there, a member is
+pub some_there : {A : Type 0} (number_of : A → ℕ) (xs : List A) (n : ℕ) → HasAll (map number_of xs) n → 0 < n → xs ≢ []
+some_there number_of xs n all less none = let first = all 0 less in
+    some-ne-none 0 (sym (subst (λ (ys : List _). get_elem? (map number_of ys) first.0 ≡ some 0) none first.1))
 
 -- what stands at no index isn't there
 pub nowhere : (ns : List ℕ) (c : ℕ) → ((i : ℕ) → i < length ns → get_elem? ns i ≢ some c) → ¬ Has ns c

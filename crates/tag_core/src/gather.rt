@@ -1,8 +1,8 @@
 //! Gathering: all callers are passed in, and the map ends.
-ghost use Rattle.std.specs.Prelude.{◌≡◌, ◌≢◌, ℕ, ◌+◌, ◌<◌, ◌≤◌, ◌↔◌, List, [], length, map, All, IfOk, IfErr, IsOk, vec_capacity};
+ghost use Rattle.std.specs.Prelude.{◌≡◌, ℕ, ◌+◌, ◌<◌, ◌≤◌, ◌↔◌, [], length, map, All, IfOk, IfErr, IsOk, vec_capacity};
 ghost use mathlib.Core.Option.{some};
 ghost use lib.ListN.{get_elem?};
-ghost use Rattle.std.specs.Slots.{slots_items, slots_filled, slots_len, IsFull};
+ghost use Rattle.std.specs.Slots.{slots_items, slots_len, IsFull};
 ghost use Rattle.tag_core.specs.Spacing.{table_width};
 ghost use Rattle.step_ledger.specs.Gather.{IsCauseOf, HasAll};
 ghost use Rattle.tag_core.specs.Gathering.{states_posted, IsGathered, IsGatheringOf, gathered, numbers, numbers_of};

@@ -5,9 +5,9 @@ ghost use Rattle.tag_queue.specs.Agents.{IsAgentOf, agents_of, numbers_of};
 ghost use Rattle.tag_queue.specs.Gathering.{IsGathered};
 
 use crate::agent::Agent;
-use crate::gather::together::{Together, gather_each};
+use crate::gather::together::Together;
 use crate::queue::Queue;
-use step_ledger::{GatherCause, least_missing};
+use step_ledger::{GatherCause, gather_each, least_missing};
 use tag_model::Totals;
 use wake_book::{BookTotals, GroupTotals};
 

@@ -1,7 +1,7 @@
 //! Opens a book with its tellers.
-ghost use Rattle.std.specs.Prelude.{◌≡◌, ℕ, ◌+◌, ◌^◌, ◌<◌, ◌≤◌, ◌↔◌, ◌⊎◌, [], ◌∷◌, All, IfOk};
+ghost use Rattle.std.specs.Prelude.{◌≡◌, ◌^◌, ◌<◌, ◌≤◌, ◌↔◌, [], All, IfOk};
 ghost use Rattle.step_ledger.specs.Records.{fresh_record, still_to_come};
-ghost use Rattle.wake_book.specs.Book.{IsTellerOf, record_of, records_of, tellers_of, IsOpenBook, MiscountsBook};
+ghost use Rattle.wake_book.specs.Book.{IsTellerOf, record_of, tellers_of, IsOpenBook, MiscountsBook};
 
 use crate::book::{BOOK_WORDS, Book, Limits, Teller};
 use crate::fault::BookFault;

@@ -1,7 +1,7 @@
 //! Opens wait groups with their waiters.
-ghost use Rattle.std.specs.Prelude.{◌≡◌, ◌≢◌, ℕ, ◌+◌, ◌<◌, ◌≤◌, ◌↔◌, ◌⊎◌, [], ◌∷◌, All, IfOk};
+ghost use Rattle.std.specs.Prelude.{◌≡◌, ◌≢◌, ◌<◌, ◌≤◌, ◌↔◌, [], All, IfOk};
 ghost use Rattle.step_ledger.specs.Records.{fresh_record, still_to_come};
-ghost use Rattle.wake_book.specs.Groups.{IsWaiterOf, IsNew, record_of, records_of, waiters_of, AreOpenGroups, MiscountsGroups};
+ghost use Rattle.wake_book.specs.Groups.{IsWaiterOf, IsNew, record_of, waiters_of, AreOpenGroups, MiscountsGroups};
 
 use crate::fault::BookFault;
 use crate::groups::{GROUP_WORDS, Groups, Waiter};

@@ -1,18 +1,16 @@
 -- The records of all callers have the callers' numbers.
-use Rattle.std.proofs.Common.{arith, ◌≡◌, ℕ, List, refl, sym, ap, ◌∙◌, subst}
-use mathlib.Core.Option.{some, some-ne-none}
-use lib.ListN.{get_elem?}
+use Rattle.std.proofs.Common.{ℕ, List, refl, sym, ap, ◌∙◌, subst}
+use Rattle.step_ledger.proofs.Turned.{some_there}
 use Rattle.step_ledger.specs.Gather.{HasAll}
 use Rattle.tag_core.specs.declared.caller.Caller.{Caller}
 use Rattle.tag_core.specs.declared.record.Record.{Record}
-use Rattle.tag_core.specs.Gathering.{numbers, numbers_of}
+use Rattle.tag_core.specs.Gathering.{numbers}
 use Rattle.tag_core.proofs.Numbers.{numbers-records}
 use Rattle.tag_core.proofs.map.Map.gather.Goals as goal
 
 pub gather_each-all-requires-clause-some : goal.gather_each-all-requires-clause-some
-gather_each-all-requires-clause-some g c none = let few = c.args.self.few.0 in
-    let has = c.in_default.ensures.succeeds.0 refl 0 (omega arith) in
-    some-ne-none 0 (sym (subst (λ (xs : List (Caller g.row.R.Denot)). get_elem? (numbers_of xs) has.0 ≡ some 0) none has.1))
+gather_each-all-requires-clause-some g c = some_there (λ (x : Caller g.row.R.Denot). x.number) c.args.callers.items
+    c.args.self.shape.callers (c.in_default.ensures.succeeds.0 refl) c.args.self.few.0
 
 pub finish-requires-clause-all : goal.finish-requires-clause-all
 finish-requires-clause-all g c = subst (λ (ns : List ℕ). HasAll ns c.args.self.shape.callers)

@@ -3,7 +3,9 @@ use Rattle.std.proofs.Common.{◌≡◌, ◌≢◌, ℕ, sym, ap, ◌∙◌}
 use mathlib.Core.Logic.{dite}
 use native.Mathlib.Decide.{ℕ_discrete}
 use Rattle.tag_core.specs.Records.{value_of}
-use Rattle.tag_core.proofs.InFront.{front_asked, in_front, order_asked, exchanged, after, recorded}
+use Rattle.tag_core.proofs.InFront.{Exchanged, front_asked, in_front, order_asked, exchanged, after, recorded}
+use Rattle.tag_core.proofs.map.Map.read.Given as given
+use Rattle.tag_core.proofs.map.Map.read.Goals.{After-load-2}
 use Rattle.tag_core.proofs.map.Map.read.Goals as goal
 
 pub load-requires : goal.load-requires
@@ -26,42 +28,33 @@ load-requires-2 g c =
     (read.ensures.same.2 ∙ (λ j. (me.0, read.ensures.value j))) c.args.self.now own read.new.seat.id in
     (read.ensures.same.0 ∙ c.load.ensures.0 ∙ own.0, a.0, a.1)
 
-pub invariant_of-caller : goal.invariant_of-caller
-invariant_of-caller g c =
-    let w = c.args.caller.now in let read = c.front_value-value in let me = c.load.new.seat.me in
-    let done = exchanged w c.args.tag _ c.state_spot-spot.ensures c.requires.held me c.load.ensures.2
+-- the second load puts the slot back
+done : (g : given.Over) (c : After-load-2 g) → Exchanged c.args.caller.now c.args.tag
+    c.front_value-value.result c.front_value-value.result c.load-2.new.seat.me
+done g c = let read = c.front_value-value in let me = c.load.new.seat.me in
+    exchanged c.args.caller.now c.args.tag _ c.state_spot-spot.ensures c.requires.held me c.load.ensures.2
     read.result read.result read.new.seat.me read.ensures.value
-    (read.ensures.same.2 ∙ (λ j. (me.0, read.ensures.value j))) c.load-2.new.seat.me c.load-2.ensures.2 in
-    after done
+    (read.ensures.same.2 ∙ (λ j. (me.0, read.ensures.value j))) c.load-2.new.seat.me c.load-2.ensures.2
+
+pub invariant_of-caller : goal.invariant_of-caller
+invariant_of-caller g c = after (done g c)
 
 pub returns-clause-value : goal.returns-clause-value
-returns-clause-value g c =
-    let read = c.front_value-value in let me = c.load.new.seat.me in
-    (exchanged c.args.caller.now c.args.tag _ c.state_spot-spot.ensures c.requires.held me c.load.ensures.2
-    read.result read.result read.new.seat.me read.ensures.value
-    (read.ensures.same.2 ∙ (λ j. (me.0, read.ensures.value j))) c.load-2.new.seat.me c.load-2.ensures.2).found
+returns-clause-value g c = (done g c.before).found
 
 pub returns-clause-kept : goal.returns-clause-kept
 returns-clause-kept g c =
-    let w = c.args.caller.now in let u : ℕ = c.args.tag in
-    let read = c.front_value-value in let me = c.load.new.seat.me in
-    let done = exchanged w u _ c.state_spot-spot.ensures c.requires.held me c.load.ensures.2
-    read.result read.result read.new.seat.me read.ensures.value
-    (read.ensures.same.2 ∙ (λ j. (me.0, read.ensures.value j))) c.load-2.new.seat.me c.load-2.ensures.2 in record {
+    let w = c.args.caller.now in let u : ℕ = c.args.tag in let d = done g c.before in record {
       kept = λ t h. (
         h,
         dite (ℕ_discrete t u)
-            (λ (e : t ≡ u). ap (value_of c.load-2.new.seat.me.1) e ∙ done.put ∙ sym done.found
+            (λ (e : t ≡ u). ap (value_of c.load-2.new.seat.me.1) e ∙ d.put ∙ sym d.found
             ∙ ap (value_of w.seat.me.1) (sym e))
-            (λ (ne : t ≢ u). done.others t h ne),
+            (λ (ne : t ≢ u). d.others t h ne),
       );
       none_else = λ t h. h;
     }
 
 pub returns-clause-unchanged : goal.returns-clause-unchanged
 returns-clause-unchanged g c =
-    let read = c.front_value-value in let me = c.load.new.seat.me in
-    let done = exchanged c.args.caller.now c.args.tag _ c.state_spot-spot.ensures c.requires.held me c.load.ensures.2
-    read.result read.result read.new.seat.me read.ensures.value
-    (read.ensures.same.2 ∙ (λ j. (me.0, read.ensures.value j))) c.load-2.new.seat.me c.load-2.ensures.2 in
-    (recorded done, c.load-2.ensures.0 ∙ read.ensures.same.0 ∙ c.load.ensures.0)
+    (recorded (done g c.before), c.load-2.ensures.0 ∙ c.front_value-value.ensures.same.0 ∙ c.load.ensures.0)

@@ -1,19 +1,17 @@
 -- The caller's record comes before those on the seat, which then has at most as many as the map has callers; what the
 -- caller won, gave back and holds is added to the sums.
-use Rattle.std.proofs.Common.{arith, ◌≡◌, ℕ, ◌+◌, ◌<◌, ◌≤◌, suc, List, [], ◌∷◌, ◌++◌, length, sym, ap, ◌∙◌, subst}
-use Rattle.atomic_table.specs.Table.{Me, Joins}
+use Rattle.std.proofs.Common.{arith, ◌≡◌, ℕ, ◌+◌, ◌≤◌, suc, List, [], ◌∷◌, ◌++◌, length, sym, ap, ◌∙◌, subst}
+use Rattle.atomic_table.specs.Table.{Me}
 use Rattle.atomic_table.specs.declared.shared.Seat.{Seat}
 use Rattle.step_ledger.specs.Views.{both_views, viewing}
 use Rattle.tag_core.specs.Views.{View}
 use Rattle.tag_core.specs.declared.record.Record.{Record}
 use Rattle.tag_core.specs.declared.shape.Shape.{Shape}
 use Rattle.tag_core.specs.Sizes.{total_of, size_of}
-use Rattle.tag_core.specs.Rule.{Shown}
 use Rattle.tag_core.specs.Callers.{record_of}
 use Rattle.tag_core.specs.Gathering.{gathered}
 use Rattle.tag_core.proofs.Countings.{count_allowed}
-use Rattle.tag_core.proofs.Passing.{joins}
-use Rattle.tag_core.proofs.Stand.{some_width}
+use Rattle.tag_core.proofs.SeatMoves.{some_words, joins_in}
 use Rattle.tag_core.proofs.together.Gathering.lend.Goals as goal
 
 pub join_seat-requires : goal.join_seat-requires
@@ -23,10 +21,8 @@ join_seat-requires g c =
       ap (λ (z : Seat R (View R)). z.table_id) s.x_after ∙ c.start_lending-first.ensures.map,
       ap (λ (z : Seat R (View R)). z.table_id) s.y_after ∙ c.requires.map,
       ap (λ (z : Seat R (View R)). z.me.1) s.y_after ∙ c.args.self.now.empty,
-      subst (λ (z : ℕ). 0 < z) (sym m.wide.0) (some_width m.shape.layout),
-      subst (λ (z : Shape). Joins (Shown z) v.id v.me.0 w.id w.me.0 (both_views v.me.0 w.me.0) (viewing []))
-          (sym m.told)
-          (joins R m.shape v.id v.me.0 w.id w.me.0),
+      some_words m,
+      joins_in m v.id v.me.0 w.id w.me.0,
     )
 
 pub load-requires : goal.load-requires
@@ -34,7 +30,7 @@ load-requires g c =
     let R = g.row.R.Denot in let m = c.args.map.now in let seat = c.join_seat.new.seat in (
       c.join_seat.ensures.0 ∙ ap (λ (z : Seat R (View R)). z.table_id) c.swap.ensures.x_after
           ∙ c.start_lending-first.ensures.map,
-      subst (λ (z : ℕ). 0 < z) (sym m.wide.0) (some_width m.shape.layout),
+      some_words m,
       count_allowed R m.table.shared.key m.table.shared.table_id.slots seat.id seat.me,
     )
 

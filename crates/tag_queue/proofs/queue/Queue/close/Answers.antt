@@ -3,6 +3,7 @@ use Rattle.std.proofs.Common.{ℕ, List, sym, ap, ◌∙◌, subst}
 use Rattle.step_ledger.specs.Records.{numbers}
 use Rattle.step_ledger.specs.Gather.{HasAll}
 use Rattle.step_ledger.specs.declared.record.Record as ledger
+use Rattle.step_ledger.proofs.Turned.{some_there}
 use Rattle.tag_core.specs.declared.record.Record.{Record}
 use Rattle.tag_core.specs.Gathering as tags
 use Rattle.wake_book.specs.declared.steps.BookStep.{BookStep}
@@ -11,18 +12,19 @@ use Rattle.wake_book.specs.Book as book
 use Rattle.wake_book.specs.Groups as groups
 use Rattle.wake_book.specs.Booked.{IsBooked}
 use Rattle.wake_book.specs.Balance.{IsBalanced}
-use Rattle.tag_queue.specs.Agents.{agents_of}
+use Rattle.tag_queue.specs.Agents.{agents_of, number_of}
 use Rattle.tag_queue.proofs.Gathering.{caller_numbers, teller_numbers, waiter_numbers, gathers}
 use Rattle.tag_queue.proofs.queue.Queue.close.Goals as goal
 
 pub gather_each-callers-requires-clause-some : goal.gather_each-callers-requires-clause-some
-gather_each-callers-requires-clause-some g c = c.requires.all 0 c.args.self.map.few.0
+gather_each-callers-requires-clause-some g c = some_there number_of c.args.agents.items (agents_of c.args.self)
+    c.requires.all c.args.self.map.few.0
 
 pub finish-requires-clause-all : goal.finish-requires-clause-all
 finish-requires-clause-all g c =
     subst (λ (z : List ℕ). HasAll z (agents_of c.args.self))
     (caller_numbers c.args.agents.items
-    ∙ ap (λ (z : List (Record g.row.R.Denot)). tags.numbers z) (sym c.gather_each-callers.ensures.all.callers))
+    ∙ ap (λ (z : List (Record g.row.R.Denot)). tags.numbers z) (sym c.gather_each-callers.ensures.1.callers))
     c.requires.all
 
 pub finish-requires-2-clause-all : goal.finish-requires-2-clause-all
@@ -31,7 +33,7 @@ finish-requires-2-clause-all g c =
     (sym c.args.self.as_many.0)
     (subst (λ (z : List ℕ). HasAll z (agents_of c.args.self))
     (teller_numbers c.args.agents.items
-    ∙ ap (λ (z : List (ledger.Record BookStep)). numbers z) (sym c.gather_each-callers.ensures.all.tellers))
+    ∙ ap (λ (z : List (ledger.Record BookStep)). numbers z) (sym c.gather_each-callers.ensures.1.tellers))
     c.requires.all)
 
 pub finish-requires-3-clause-all : goal.finish-requires-3-clause-all
@@ -40,12 +42,12 @@ finish-requires-3-clause-all g c =
     (sym c.args.self.as_many.1)
     (subst (λ (z : List ℕ). HasAll z (agents_of c.args.self))
     (waiter_numbers c.args.agents.items
-    ∙ ap (λ (z : List (ledger.Record GroupStep)). numbers z) (sym c.gather_each-callers.ensures.all.waiters))
+    ∙ ap (λ (z : List (ledger.Record GroupStep)). numbers z) (sym c.gather_each-callers.ensures.1.waiters))
     c.requires.all)
 
 pub returns : goal.returns
 returns g c =
-    let q = c.args.self in let all = c.gather_each-callers.ensures.all in
+    let q = c.args.self in let all = c.gather_each-callers.ensures.1 in
     gathers q c.args.agents.items c.finish.result c.finish-2.result c.finish-3.result
     (subst (λ (z : List (Record g.row.R.Denot)). tags.IsGathered q.map.shape z c.finish.result)
     all.callers c.finish.ensures)
