@@ -15,7 +15,10 @@ cache_field_send R value = struct_send (fields_of (cache.the_type R)) (
       search (sendable, crosses) depth 40,
       (
         search (sendable, crosses) depth 40,
-        (search (sendable, crosses) depth 40, (search (sendable, crosses) depth 40, (hand_field_send R value, tt))),
+        (
+          search (sendable, crosses) depth 40,
+          (search (sendable, crosses) depth 40, (search (sendable, crosses) depth 40, (hand_field_send R value, tt))),
+        ),
       ),
     ),
   ),
