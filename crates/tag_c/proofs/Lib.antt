@@ -4,6 +4,7 @@ pub mod Collected
 pub mod Does
 pub mod Flags
 pub mod Joining
+pub mod Masking
 pub mod Owners
 pub mod Parts
 pub mod Pairing

@@ -6,7 +6,7 @@ ghost use Rattle.tag_c.specs.Grants.{Filling};
 ghost use Rattle.tag_c.specs.Masks.{DoesClearMask};
 
 use crate::cached::CachedMember;
-use crate::codes::grants_code;
+use crate::codes::count_code;
 use crate::granted::{Granted, fill};
 use crate::handle::Handle;
 use crate::member::Member;
@@ -19,10 +19,10 @@ impl Member {
     fn clear_run(&mut self, first: u32, mask: u64) -> i32
         ensures { HandCalls (Through (DoesClearMask first mask) code_of_grants result) self.old self.new }
     {
-        grants_code(
+        count_code(
             self.shared
                 .tags
-                .clear_mask_granted(&mut self.hand, first, mask),
+                .clear_mask_counted(&mut self.hand, first, mask),
         )
     }
 
@@ -44,20 +44,18 @@ impl Member {
 
 impl CachedMember {
     /// Gives the held ordinary tags of a mask back, and returns how many waiters were granted a wakeup.
-    #[cold]
     #[inline(never)]
     fn clear_run(&mut self, first: u32, mask: u64) -> i32
         ensures { CacheCalls (Through (DoesClearMask first mask) code_of_grants result) self.old self.new }
     {
-        grants_code(
+        count_code(
             self.cache
-                .clear_mask_granted(&self.shared.tags, first, mask),
+                .clear_mask_counted(&self.shared.tags, first, mask),
         )
     }
 
     /// Gives the held ordinary tags of a mask back, fills in whom that granted a wakeup, and returns how many waiters
     /// they are.
-    #[cold]
     #[inline(never)]
     fn clear_run_granted(&mut self, first: u32, mask: u64, granted: &mut Granted) -> i32
         ensures calls { CacheCalls (Through (Filling granted.new (DoesClearMask first mask)) code_of_grants result) self.old self.new }
