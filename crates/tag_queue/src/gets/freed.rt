@@ -60,6 +60,7 @@ impl<R: Copy> Queue<R> {
 
     /// Like `get_batch`, but looks for no sleeper (see `get_freed`). It is refused as `get_batch` is: `BadCount`,
     /// `Spent`.
+    #[inline]
     #[tactic(auto, using(std::proofs::lemmas::Nat::one_shl))]
     pub fn get_batch_freed(
         &self,

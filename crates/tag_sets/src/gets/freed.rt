@@ -59,6 +59,7 @@ impl<R: Copy> Tags<R> {
 
     /// Like `get_batch`, but looks for no sleeper (see `get_freed`). It is refused as `get_batch` is: `BadCount`,
     /// `Spent`.
+    #[inline]
     pub fn get_batch_freed(&self, hand: &mut Hand<R>, n: u32) -> Result<Found<(u32, u64)>, TagFault>
         requires hand { IsHandOf self.now hand.old }
         ensures hand { IsHandOf self.now hand.new }
