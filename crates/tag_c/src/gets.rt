@@ -12,8 +12,9 @@ use crate::object::{Kind, Object};
 use crate::status::Status;
 
 impl Member {
-    /// Takes a free ordinary tag and returns it. `left` becomes the number of tags that this freed and did not take.
-    #[inline(always)]
+    /// Takes a free ordinary tag and returns it. `left` becomes the number of tags that this freed and did not take. It is
+    /// out of line too: what it saves of the registers of its caller, a get over a cache need not save.
+    #[inline(never)]
     fn get(&mut self, left: &mut u64) -> i32
         ensures { HandCalls (Through (DoesGet left.new) code_of_get result) self.old self.new }
     {
