@@ -65,9 +65,6 @@ where
     T::Hand: Send + Drop,
 {
     let (tags, mut hands) = T::open(rt.alloc(), plan.depth, plan.threads)?;
-    if plan.stride > 0 {
-        work_all(rt, &tags, &mut hands, Plan { threads: 1, ..plan }, &Placing);
-    }
     // Tags end by a gather alone, also where the clock failed.
     let runs = time_runs(rt, &tags, &mut hands, plan, job);
     let totals = tags.gather(hands)?;
@@ -82,7 +79,7 @@ where
     })
 }
 
-/// Has each hand begin in its own part of the tags, before the first run.
+/// Has each hand begin in its own part of the tags, before a run.
 #[derive(Drop)]
 struct Placing;
 
@@ -106,6 +103,9 @@ where
 {
     let mut runs = [Run::ZERO; RUNS];
     for run in runs.iter_mut() {
+        if plan.stride > 0 {
+            work_all(rt, tags, hands, Plan { threads: 1, ..plan }, &Placing);
+        }
         let watch = Watch::start(rt)?;
         work_all(rt, tags, hands, plan, job);
         *run = watch.stop(rt)?;
