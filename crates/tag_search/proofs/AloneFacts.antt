@@ -12,7 +12,7 @@ use Rattle.tag_core.specs.Steps.{Words, Quiet, words_after_all}
 use Rattle.tag_search.specs.AloneLaws.{cells_left, words_left, own_after, AreAlone, AloneGetsChoose, AloneBatchesChoose}
 use Rattle.tag_search.specs.Batch.{batch_words}
 use Rattle.tag_search.specs.Choice.{IsChoice, IsBatchChoice}
-use Rattle.tag_search.specs.Pool.{pool_of}
+use Rattle.tag_search.specs.Pool.{Pool, pool_of}
 use Rattle.tag_search.specs.Shared.{record_after_all}
 
 -- the steps of a record after more steps on words
@@ -64,24 +64,29 @@ module _ {R : Type 0} where
   left_after [] older = refl
   left_after (step ∷ steps) older = left_after steps (Word step ∷ older)
 
-  -- the steps of a lone caller are quiet
-  alone_quiet : (k : Shape) (h : History R) (newer older : List (Step R)) (steps : List WordStep)
-      → AreAlone k h newer older steps → Quiet steps (words_left older)
-  alone_quiet k h newer older steps lone =
+  -- a change that quiet steps make to any pool, such steps make to what the earlier ones left
+  pub found_changes : (Change : Pool → Pool → Type 0) (steps : List WordStep) (older : List (Step R))
+      → EachFound (own_after steps older)
+      → ((w : Words) → Quiet steps w → Change (pool_of w) (pool_of (words_after_all steps w)))
+      → Change (pool_of (words_left older)) (pool_of (words_left (own_after steps older)))
+  found_changes Change steps older found quietly =
+      subst (λ (w : Words). Change (pool_of (words_left older)) (pool_of w)) (sym (left_after steps older))
+      (quietly (words_left older) (found_quiet steps older found).0)
+
+  -- the steps of a lone caller found what its earlier ones left
+  lone_found : (k : Shape) (h : History R) (newer older : List (Step R)) (steps : List WordStep)
+      → AreAlone k h newer older steps → EachFound (own_after steps older)
+  lone_found k h newer older steps lone =
       let found = each_found h (subst (λ (callers : ℕ). EachFinds callers h) lone.one lone.lawful.finds) in
-      let own = subst (λ (all : List (Step R)). EachFound all) lone.own found in
-      (found_quiet steps older (found_older newer (own_after steps older) own)).0
+      found_older newer (own_after steps older) (subst (λ (all : List (Step R)). EachFound all) lone.own found)
 
 -- a get by a lone caller
 pub alone_choice : (R : Type 0) → AloneGetsChoose R
 alone_choice R k h newer older steps lone l visits answer get =
-    subst (λ (w : Words). IsChoice l (pool_of (words_left older)) visits answer (pool_of w))
-    (sym (left_after steps older))
-    (get.alone (words_left older) (alone_quiet k h newer older steps lone))
+    found_changes (λ p q. IsChoice l p visits answer q) steps older (lone_found k h newer older steps lone) get.alone
 
 -- a get of several tags by a lone caller
 pub alone_batch_choice : (R : Type 0) → AloneBatchesChoose R
 alone_batch_choice R k h newer older steps lone l n first answer get =
-    subst (λ (w : Words). IsBatchChoice l n (pool_of (words_left older)) (batch_words l first) answer (pool_of w))
-    (sym (left_after steps older))
-    (get.alone (words_left older) (alone_quiet k h newer older steps lone))
+    found_changes (λ p q. IsBatchChoice l n p (batch_words l first) answer q) steps older
+    (lone_found k h newer older steps lone) get.alone

@@ -16,7 +16,8 @@ use Rattle.tag_search.specs.declared.shared.Shared.{Shared}
 use Rattle.tag_search.specs.Added.{AddsSteps as Ports}
 use Rattle.tag_search.specs.declared.hint.Hint.{Hint}
 use Rattle.tag_search.specs.declared.search.Unfinished.{Unfinished}
-use Rattle.tag_search.specs.Batch.{IsBatchGet}
+use Rattle.tag_search.specs.Batch.{IsBatchGet, batch_words}
+use Rattle.tag_search.specs.Choice.{IsChoice, IsBatchChoice}
 use Rattle.tag_search.specs.Begun.{visits_from, IsBegun, IsRestOfGet, IsWonAtOnce}
 use Rattle.tag_search.specs.Gains.{IsAnswer, Gains, IsInRun, GainsRun}
 use Rattle.tag_search.specs.Gets.{IsGet}
@@ -29,7 +30,7 @@ use Rattle.tag_search.specs.Visits.{Reach, visits, plain_visits, shallow_visits,
 use Rattle.tag_search.proofs.Freshness.{search_new, batch_new}
 use Rattle.tag_search.proofs.GetFacts.{plain_within, shallow_within}
 use Rattle.tag_search.proofs.HeldFacts.{acquires_answer, acquires_run}
-use Rattle.tag_search.proofs.AloneCallers.{alone_still, own_choice, own_batch, own_posted}
+use Rattle.tag_search.proofs.AloneCallers.{alone_still, own_changes, own_posted}
 use Rattle.tag_search.proofs.RunFacts.{WonRun, batch_wins}
 use Rattle.tag_search.proofs.SharedFacts.{Won, search_wins, visits_inside}
 
@@ -93,8 +94,8 @@ module _ {R : Type 0} (map : Map R) (caller now : Caller R) (own : IsCallerOf ma
             (λ tag was is. (all.kept tag was).1)) won all.same_map;
         steps = made;
         alone = λ one. record {
-          choice = own_choice caller now made.steps sizes (visits sizes first reach) answer
-              (alone_still caller now made.steps all one) all made.holds;
+          choice = own_changes (λ p q. IsChoice sizes p (visits sizes first reach) answer q) caller now made.steps
+              (alone_still caller now made.steps all one) all made.holds.alone;
           posted = own_posted caller now made.steps all;
         };
       }
@@ -141,8 +142,8 @@ module _ {R : Type 0} (map : Map R) (caller now : Caller R) (own : IsCallerOf ma
             (λ tag was is. (all.kept tag was).1)) won all.same_map;
         steps = made;
         alone = λ one. record {
-          choice = own_batch caller now made.steps sizes n first answer
-              (alone_still caller now made.steps all one) all made.holds;
+          choice = own_changes (λ p q. IsBatchChoice sizes n p (batch_words sizes first) answer q) caller now made.steps
+              (alone_still caller now made.steps all one) all made.holds.alone;
           posted = own_posted caller now made.steps all;
         };
       }

@@ -1,10 +1,10 @@
 -- What the only caller of a map knows of it from its own steps.
-use Rattle.std.specs.Prelude.{◌≡◌, ℕ, Bool, not, ◌&&◌, nat_eq, List, Option}
-use Rattle.tag_layout.specs.Layout.{Layout, word_of, place_of}
+use Rattle.std.specs.Prelude.{◌≡◌, ℕ, Bool, nat_eq, List, Option}
+use Rattle.tag_layout.specs.Layout.{Layout}
 use Rattle.tag_core.specs.declared.caller.Caller.{Caller}
 use Rattle.tag_core.specs.Callers.{record_of}
 use Rattle.tag_search.specs.AloneLaws.{cells_left, words_left}
-use Rattle.tag_search.specs.Pool.{Pool, pool_of, is_busy}
+use Rattle.tag_search.specs.Pool.{Pool, pool_of}
 use Rattle.tag_search.specs.Search.{Visit}
 use Rattle.tag_search.specs.Choice.{IsChoice, IsBatchChoice}
 use Rattle.tag_search.specs.Batch.{batch_words}
@@ -20,12 +20,6 @@ pool_left c = pool_of (words_left (record_of c).steps)
 -- the tag is posted, after the caller's own steps
 abbrev pub is_posted : {R : Type 0} → Caller R → ℕ → Bool
 is_posted c tag = nat_eq ((cells_left (record_of c).steps).state tag) 1
-
--- the tag is neither free nor set aside nor posted, after the caller's own steps
-abbrev pub is_own : {R : Type 0} → Caller R → ℕ → Bool
-is_own c tag =
-    is_busy (pool_left c) (word_of c.shape.value.layout tag) (place_of c.shape.value.layout tag) && not
-    (is_posted c tag)
 
 -- the answer is the choice over the pool that the caller's own steps left, the pool afterwards is what the choice
 -- leaves, and no tag is posted or taken from the posted ones

@@ -1,5 +1,5 @@
 -- A plain get that is left after its first try.
-use Rattle.std.specs.Prelude.{◌≡◌, ℕ, ◌<◌, Bool, false, true, List, [], ◌++◌, All, Option, Some}
+use Rattle.std.specs.Prelude.{◌≡◌, ℕ, ◌<◌, false, true, List, [], ◌++◌, All, Option, Some}
 use Rattle.step_ledger.specs.History.{total}
 use Rattle.tag_layout.specs.Layout.{Layout, word_of, word_depth}
 use Rattle.tag_core.specs.declared.word_step.WordStep.{WordStep}

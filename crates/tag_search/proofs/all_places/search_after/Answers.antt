@@ -1,5 +1,5 @@
 -- A rest that wins ends the search with the first word's tag, and one that does not is followed by `search_on`.
-use Rattle.std.proofs.Common.{ℕ, List, ◌++◌, Option, Some, None, true, false, sym, subst}
+use Rattle.std.proofs.Common.{ℕ, List, ◌++◌, Some, None, true, false, sym, subst}
 use Rattle.std.proofs.lemmas.List.{append_assoc}
 use Rattle.tag_core.specs.declared.word_step.WordStep.{WordStep}
 use Rattle.tag_layout.specs.Layout.{word_depth}

@@ -1,6 +1,5 @@
 -- A first try that wins is the whole pass, and one that misses is followed by the rest.
-use Rattle.std.proofs.Common.{ℕ, ◌<◌, Some}
-use Rattle.tag_layout.specs.Layout.{word_depth}
+use Rattle.std.proofs.Common.{Some}
 use Rattle.tag_search.specs.Places.{places_of}
 use Rattle.tag_search.specs.Search.{IsPass}
 use Rattle.tag_search.specs.Tries.{IsRestOfPass, IsMissed, IsFirstWin}

@@ -1,10 +1,9 @@
 -- The first claim follows what the load found; neither step frees a tag.
-use Rattle.std.proofs.Common.{◌≡◌, ◌^◌, ◌<◌, List, [], ◌∷◌, ◌++◌, Option, None, Some, arith, refl, subst, sym}
-use Rattle.tag_core.specs.declared.word_step.WordStep.{WordStep}
+use Rattle.std.proofs.Common.{◌^◌, ◌<◌, [], ◌∷◌, refl}
 use Rattle.tag_core.specs.declared.word_step.WordStep.TheVariants.{Look, Claimed}
 use Rattle.tag_layout.specs.Layout.{word_depth}
 use Rattle.tag_search.specs.Places.{places_of}
-use Rattle.tag_search.specs.Search.{IsPass, pass, none_left, wins, loses}
+use Rattle.tag_search.specs.Search.{pass, wins, loses}
 use Rattle.tag_search.proofs.Passes.{all_left, full_pass}
 use Rattle.tag_search.proofs.pass.try_first.Goals as goal
 

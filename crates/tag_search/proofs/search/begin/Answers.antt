@@ -1,6 +1,6 @@
 -- A first try that wins is the whole search, as a hint below the depth is reduced already.
-use Rattle.std.proofs.Common.{◌≡◌, ℕ, ◌<◌, ◌≤◌, List, Bool, Some, false, true, ap, arith, sym, subst, ◌∙◌}
-use Rattle.tag_layout.specs.Layout.{Layout, word_of, words}
+use Rattle.std.proofs.Common.{◌≡◌, ℕ, ◌<◌, ◌≤◌, List, Some, false, arith, sym, subst}
+use Rattle.tag_layout.specs.Layout.{Layout, words}
 use Rattle.tag_search.specs.declared.hint.Hint.{Hint}
 use Rattle.tag_search.specs.Begun.{visits_from, IsWonAtOnce}
 use Rattle.tag_search.specs.Follows.{HintFollows}
@@ -10,7 +10,7 @@ use Rattle.tag_search.specs.Places.{places_of}
 use Rattle.tag_search.specs.Search.{IsSearch, IsPass, at_once}
 use Rattle.tag_search.specs.Tries.{IsFirstWin}
 use Rattle.tag_search.specs.Visits.{visits, plain_reach}
-use Rattle.tag_search.proofs.AllPlaces.{places, whole_won}
+use Rattle.tag_search.proofs.AllPlaces.{whole_won}
 use Rattle.tag_search.proofs.GetFacts.{plain_get, plain_follows}
 use Rattle.tag_search.proofs.Joined.{adds_weaker}
 use Rattle.tag_search.proofs.search.begin.Goals as goal

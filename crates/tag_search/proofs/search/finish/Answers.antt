@@ -1,13 +1,12 @@
 -- A search after the first try is the rest of the get, as a hint below the depth is reduced already.
-use Rattle.std.proofs.Common.{◌≡◌, ℕ, ◌<◌, ◌≤◌, List, ◌++◌, Bool, Some, false, true, ap, arith, sym, subst, ◌∙◌}
+use Rattle.std.proofs.Common.{◌≡◌, ℕ, ◌<◌, ◌≤◌, List, ◌++◌, false, true, arith, sym, subst}
 use Rattle.tag_core.specs.declared.word_step.WordStep.{WordStep}
-use Rattle.tag_layout.specs.Layout.{Layout, word_of, words, word_depth}
+use Rattle.tag_layout.specs.Layout.{Layout, words, word_depth}
 use Rattle.tag_search.specs.declared.hint.Hint.{Hint}
 use Rattle.tag_search.specs.declared.search.Unfinished.{Unfinished}
 use Rattle.tag_search.specs.declared.search.Unfinished.TheVariants.{Tried}
-use Rattle.tag_search.specs.Begun.{visits_from, CanFinish, IsBegun, IsRestOfGet}
+use Rattle.tag_search.specs.Begun.{CanFinish, IsRestOfGet}
 use Rattle.tag_search.specs.Follows.{HintFollows}
-use Rattle.tag_search.specs.Gets.{IsGet}
 use Rattle.tag_search.specs.Hints.{hint_after_get}
 use Rattle.tag_search.specs.Order.{scan_order}
 use Rattle.tag_search.specs.Search.{IsSearch}
