@@ -1,5 +1,5 @@
 -- What is known in the middle of a search for several tags.
-use Rattle.std.proofs.Common.{◌≡◌, ℕ, zero, suc, ◌+◌, ◌*◌, ◌/◌, ◌%◌, ◌^◌, ◌<◌, ◌≤◌, min, true, List, [], ◌∷◌}
+use Rattle.std.proofs.Common.{◌≡◌, ℕ, zero, suc, ◌+◌, ◌*◌, ◌/◌, ◌%◌, ◌^◌, ◌<◌, ◌≤◌, true, List, [], ◌∷◌}
 use Rattle.std.proofs.Common.{◌++◌, length, Option, Some, None, arith, refl, sym, ap, ◌∙◌, subst}
 use mathlib.Core.Logic.{dite}
 use native.Mathlib.Decide.{dec_lt}
@@ -16,7 +16,7 @@ use Rattle.tag_search.specs.Batch.{IsBatchSearch, batch_over, batch_won, batch_p
 use Rattle.tag_search.specs.Order.{numbers, scan_order}
 use Rattle.tag_search.proofs.BatchAlone.{batch_alone}
 use Rattle.tag_search.proofs.Bounds.{sweep_bound}
-use Rattle.tag_search.proofs.Orders.{length-numbers}
+use Rattle.tag_search.proofs.Orders.{length-numbers, order-split}
 
 -- a word without a clear place has no run
 pub no_first_clear : (found depth n : ℕ) → AllSet found 0 depth → (place : ℕ) → IsFirstClear found 0 depth place
@@ -86,12 +86,6 @@ batch_bound batch_over = omega arith
 batch_bound (batch_won v) = let a = batch_visit_bound v in omega arith
 batch_bound (batch_passed {steps = first} {rest = rest} v search) =
     let a = batch_visit_bound v in let b = batch_bound search in let e = length-append first rest in omega arith
-
--- the words from the first on, and then those before it
-pub order-split : (first count : ℕ) → first ≤ count → scan_order first count true ≡ numbers first count
-    ++ numbers 0 first
-order-split first count h = let e : min first count ≡ first = omega arith in
-    ap (λ (end : ℕ). numbers first count ++ numbers 0 end) e
 
 -- a search over all words is a batch get
 pub batch_get : (l : Layout) (n first : ℕ) → 1 ≤ n → l.shift ≤ 6 → first ≤ words l

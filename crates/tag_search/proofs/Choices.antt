@@ -1,21 +1,22 @@
 -- If no other caller steps, a search answers the choice.
-use Rattle.std.proofs.Common.{◌≡◌, ◌≢◌, ℕ, zero, suc, ◌+◌, ◌-◌, ◌<◌, ◌≤◌, min, true, cond, nat_eq, List, [], ◌∷◌, ◌++◌}
+use Rattle.std.proofs.Common.{◌≢◌, ℕ, zero, suc, ◌+◌, ◌-◌, ◌<◌, ◌≤◌, List, [], ◌∷◌, ◌++◌}
 use Rattle.std.proofs.Common.{map, get_or, Option, Some, None, arith, sym, ap, ◌∙◌, subst}
 use Rattle.std.specs.Prelude.{All}
 use Rattle.std.proofs.lemmas.List.Elements.{All-nil, All-cons, All-head, All-tail, All-append, All-map}
 use Rattle.tag_core.specs.declared.word_step.WordStep.{WordStep}
 use Rattle.tag_core.specs.Steps.{Words, Quiet, words_after_all}
-use Rattle.tag_layout.specs.Layout.{Layout, words, word_depth, tag_at}
+use Rattle.tag_layout.specs.Layout.{Layout, words, word_bits, word_depth, tag_at}
 use Rattle.tag_layout.proofs.PlaceFacts.{word_bits-le}
 use Rattle.tag_search.specs.Choice.{IsFree, IsSet, IsAside, IsBusy, IsFirst, IsFull, words_in, IsChoice, nothing}
 use Rattle.tag_search.specs.Choice.{chosen_free, chosen_aside}
-use Rattle.tag_search.specs.Order.{numbers_from, numbers, scan_order}
+use Rattle.tag_search.specs.Order.{numbers_from, numbers}
 use Rattle.tag_search.specs.PlainLaws.{words_after-append}
 use Rattle.tag_search.specs.Pool.{Pool, pool_of, freed_in, taken_at}
 use Rattle.tag_search.specs.Search.{Visit, IsSearch, over, won, passed}
 use Rattle.tag_search.specs.Visits.{Reach, visit_of, visits}
 use Rattle.tag_search.proofs.Alone.{quiet-split, Wins, wins_free, wins_aside, visit_alone}
-use Rattle.tag_search.proofs.Orders.{all_from, all_numbers, all_scan}
+use Rattle.tag_search.proofs.Inside.{IsInside, inside_word, visits_inside}
+use Rattle.tag_search.proofs.Orders.{all_from, all_numbers, order-split}
 use Rattle.tag_search.proofs.Passes.{all_behind}
 use Rattle.tag_search.proofs.Pools.{available_freed, free_elsewhere, aside_elsewhere, freed_none, freed_before}
 use Rattle.tag_search.proofs.Pools.{freed_between}
@@ -24,10 +25,6 @@ use Rattle.tag_search.proofs.Pools.{freed_between}
 abbrev pub Distinct : List Visit → Type 0
 Distinct [] = Unit {0}
 Distinct (visit ∷ visits) = All (λ other. other.word ≢ visit.word) visits × Distinct visits
-
--- each place is below 64
-abbrev pub InWords : Visit → Type 0
-InWords visit = All (λ b. b < 64) visit.rank
 
 set_elsewhere : (x : ℕ) (p : Pool) (i : ℕ) (places : List ℕ) → i ≢ x → All (IsSet (freed_in (x ∷ []) p) i) places
     → All (IsSet p i) places
@@ -98,19 +95,20 @@ choice_here l p left visit more place (wins_aside set first e) =
     (chosen_aside [] more visit (All-nil (IsFull p)) set first)
 
 -- a quiet search is a choice
-pub search_alone : {l : Layout} {vs : List Visit} {steps : List WordStep} {answer : Option ℕ}
-    → IsSearch l vs steps answer → (w : Words) → Distinct vs → All InWords vs
+search_alone : {l : Layout} → word_bits l ≤ 64 → {vs : List Visit} {steps : List WordStep} {answer : Option ℕ}
+    → IsSearch l vs steps answer → (w : Words) → Distinct vs → All (IsInside l) vs
     → Quiet steps w → IsChoice l (pool_of w) vs answer (pool_of (words_after_all steps w))
-search_alone {l = l} over w distinct within quiet = subst (IsChoice l (pool_of w) [] None) (freed_none (pool_of w))
+search_alone {l = l} narrow over w distinct inside quiet = subst (IsChoice l (pool_of w) [] None) (freed_none (pool_of w))
     (nothing (All-nil (IsFull (pool_of w))))
-search_alone {l = l} (won {visit = visit} {visits = more} {steps = steps} {place = place} v) w distinct within quiet =
+search_alone {l = l} narrow (won {visit = visit} {visits = more} {steps = steps} {place = place} v) w distinct inside
+    quiet =
     choice_here l (pool_of w) (pool_of (words_after_all steps w)) visit more place
-    (visit_alone v w (All-head InWords visit more within) quiet)
-search_alone {l = l} (passed {visit = visit} {visits = more} {steps = first} {rest = rest} {answer = answer} v search) w
-    distinct within quiet =
+    (visit_alone v w (inside_word l visit narrow (All-head (IsInside l) visit more inside)) quiet)
+search_alone {l = l} narrow (passed {visit = visit} {visits = more} {steps = first} {rest = rest} {answer = answer} v
+    search) w distinct inside quiet =
     let parts = quiet-split first rest w quiet in let mid = words_after_all first w in
-    let tells = visit_alone v w (All-head InWords visit more within) parts.0 in
-    let a = search_alone search mid distinct.1 (All-tail InWords visit more within) parts.1 in
+    let tells = visit_alone v w (inside_word l visit narrow (All-head (IsInside l) visit more inside)) parts.0 in
+    let a = search_alone narrow search mid distinct.1 (All-tail (IsInside l) visit more inside) parts.1 in
     let b = subst (λ (x : Words). IsChoice l (pool_of mid) more answer (pool_of x))
     (sym (words_after-append first rest w)) a in
     choice_behind (pool_of w) visit tells.0 distinct.0
@@ -146,22 +144,11 @@ pub search_chooses : (l : Layout) (first : ℕ) (reach : Reach) → l.shift ≤ 
     → IsChoice l (pool_of w) (visits l first reach) answer (pool_of (words_after_all steps w))
 search_chooses l first reach narrow h within answer steps search w quiet =
     let front = numbers first (words l) in let back = numbers 0 first in
-    let e : min first (words l) ≡ first = omega arith in
-    let order : scan_order first (words l) true ≡ front ++ back = ap (λ (end : ℕ). front ++ numbers 0 end) e in
-    let bits = word_bits-le l narrow in
-    let Narrow : ℕ → Type 0 = λ i. InWords (visit_of first reach i) in
-    let each : (i : ℕ) → i < words l → Narrow i = λ i k. let a = within i k in
-    all_scan (λ b. b < 64) (cond (nat_eq i first) reach.start 0) (reach.limit i) reach.wrap (λ b below. omega arith) in
-    let narrow_all : All Narrow (front ++ back) = All-append Narrow front back
-    (all_numbers Narrow first (words l) (λ i _ k. each i k))
-    (all_numbers Narrow 0 first (λ i _ k. each i (omega arith))) in
     let apart : Apart (front ++ back) = apart-append front back (apart_from first (words l - first))
     (apart_from 0 (first - 0))
     (all_numbers (λ x. All (λ y. y ≢ x) back) first (words l)
     (λ x low _. all_numbers (λ y. y ≢ x) 0 first (λ y _ high e. omega arith))) in
-    let of = visit_of first reach in
-    let distinct : Distinct (visits l first reach) = subst (λ (xs : List ℕ). Distinct (map of xs)) (sym order)
+    let distinct : Distinct (visits l first reach) =
+    subst (λ (xs : List ℕ). Distinct (map (visit_of first reach) xs)) (sym (order-split first (words l) h))
     (distinct_map first reach (front ++ back) apart) in
-    let inside : All InWords (visits l first reach) = subst (λ (xs : List ℕ). All InWords (map of xs)) (sym order)
-    (All-map InWords of (front ++ back) narrow_all) in
-    search_alone search w distinct inside quiet
+    search_alone (word_bits-le l narrow) search w distinct (visits_inside l first reach within) quiet

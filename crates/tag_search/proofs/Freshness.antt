@@ -21,7 +21,8 @@ use Rattle.tag_search.specs.Search.{IsTries, none_left, wins, loses, IsPass, pas
 use Rattle.tag_search.specs.Search.{turn_passed, IsVisit, at_once, retried, Visit, IsSearch, over, won, passed}
 use Rattle.tag_search.specs.Shared.{FindsWord, FindsHeldBy}
 use Rattle.tag_search.proofs.RunFacts.{inside as won_inside}
-use Rattle.tag_search.proofs.SharedFacts.{IsInside, visit_wins, finds-split}
+use Rattle.tag_search.proofs.Inside.{IsInside}
+use Rattle.tag_search.proofs.SharedFacts.{visit_wins, finds-split}
 
 module _ {R : Type 0} (c : Caller R) where
   abbrev Blocks : List WordStep → Type 0

@@ -1,10 +1,10 @@
 -- If no place is both free and set aside, the answer of a choice is held afterwards, and still no place is both.
-use Rattle.std.proofs.Common.{◌≡◌, ℕ, ◌+◌, ◌<◌, ◌≤◌, Bool, true, false, not, ◌&&◌, ◌||◌, cond, nat_eq, nat_lt, nat_le}
-use Rattle.std.proofs.Common.{List, ◌∷◌, ◌++◌, map, Option, IfSome, arith, refl, sym, ◌∙◌, subst, eq-eqb}
+use Rattle.std.proofs.Common.{◌≡◌, ℕ, ◌+◌, ◌<◌, ◌≤◌, Bool, true, false, not, ◌&&◌, ◌||◌, nat_eq, nat_lt, nat_le}
+use Rattle.std.proofs.Common.{List, ◌∷◌, Option, IfSome, arith, refl, sym, ◌∙◌, subst, eq-eqb}
 use Rattle.std.specs.Prelude.{All}
 use Rattle.std.proofs.lemmas.Bool.{le-leb, lt-ltb}
-use Rattle.std.proofs.lemmas.List.Elements.{All-append, All-map}
-use Rattle.tag_core.specs.Steps.{Words}
+use Rattle.tag_core.specs.declared.word_step.WordStep.{WordStep}
+use Rattle.tag_core.specs.Steps.{Words, Quiet, words_after_all}
 use Rattle.tag_layout.specs.Layout.{Layout, words, word_bits, word_depth, tag_at}
 use Rattle.tag_layout.proofs.PlaceFacts.{word_of-tag_at, place_of-tag_at}
 use Rattle.tag_search.specs.Added.{AddsSteps}
@@ -12,14 +12,11 @@ use Rattle.tag_search.specs.Batch.{IsBatchGet, batch_words}
 use Rattle.tag_search.specs.Choice.{IsAvailable, IsBusy, IsHeld, HoldsRun, words_in, IsChoice, nothing, chosen_free, chosen_aside}
 use Rattle.tag_search.specs.Choice.{IsBatchChoice, no_batch, batch}
 use Rattle.tag_search.specs.Gets.{IsGet}
-use Rattle.tag_search.specs.Order.{numbers}
 use Rattle.tag_search.specs.Plain.{Plain, plain_words, RunsAlone}
-use Rattle.tag_search.specs.Pool.{Pool, pool_of, is_available, IsApart, is_in, freed_in, taken_in}
+use Rattle.tag_search.specs.Pool.{Pool, pool_of, is_available, IsApart, is_in, freed_in, taken_in, taken_at}
 use Rattle.tag_search.specs.Search.{Visit}
-use Rattle.tag_search.specs.Visits.{Reach, visit_of, visits}
-use Rattle.tag_search.proofs.Batches.{order-split}
-use Rattle.tag_search.proofs.Orders.{all_numbers, all_scan}
-use Rattle.tag_search.proofs.Passes.{all_behind}
+use Rattle.tag_search.specs.Visits.{Reach, visits}
+use Rattle.tag_search.proofs.Inside.{IsInside, place_inside, visits_inside}
 use Rattle.tag_search.proofs.Pools.{and_false}
 
 freed_bits : (f a x : Bool) → (f && a) ≡ false → ((f || (x && a)) && (not x && a)) ≡ false
@@ -69,42 +66,35 @@ or_right true a e = refl
 or_right false a e = e
 
 -- the tag at a place that is held
-held_at : (l : Layout) (p : Pool) (i k : ℕ) → k < word_bits l → IsBusy p i k → IsHeld l p (tag_at l i k)
-held_at l p i k h busy = (λ z. is_available p (word_of-tag_at l i k h z) (place_of-tag_at l i k h z)) ∙ busy
+held_at : (l : Layout) (p : Pool) (i k : ℕ) → k < word_depth l i → IsBusy p i k → IsHeld l p (tag_at l i k)
+held_at l p i k h busy = let small : k < word_bits l = omega arith in
+    (λ z. is_available p (word_of-tag_at l i k small z) (place_of-tag_at l i k small z)) ∙ busy
 
--- each place of the visit is below the word's size
-abbrev pub InDepth : Layout → Visit → Type 0
-InDepth l visit = All (λ k. k < word_bits l) visit.rank
+-- a free place that is taken: the two sets stay disjoint, and its tag is held
+place_held : (l : Layout) (p : Pool) (i k : ℕ) → IsApart p → p.free i k ≡ true → k < word_depth l i
+    → IsApart (taken_at i k p) × IsHeld l (taken_at i k p) (tag_at l i k)
+place_held l p i k apart free low = (
+  apart_taken i (nat_eq k) p apart,
+  held_at l (taken_at i k p) i k low (taken_busy i (nat_eq k) p k apart free (eq-eqb k k refl)),
+)
 
-pub choice_held : {l : Layout} {old : Pool} {vs : List Visit} {answer : Option ℕ} {new : Pool}
-    → IsChoice l old vs answer new → IsApart old → All (InDepth l) vs
+choice_held : {l : Layout} {old : Pool} {vs : List Visit} {answer : Option ℕ} {new : Pool}
+    → IsChoice l old vs answer new → IsApart old → All (IsInside l) vs
     → IsApart new × IfSome answer (IsHeld l new)
 choice_held {old = old} (nothing {visits = vs} all) apart inside = (apart_freed (words_in vs) old apart, tt)
 choice_held {l = l} {old = old} (chosen_free full behind visit {place = place} all first) apart inside =
-    let p : Pool = freed_in (words_in full) old in let apart' = apart_freed (words_in full) old apart in
-    let Low : ℕ → Type 0 = λ k. k < word_bits l in
-    let low = all_behind Low first.before place first.behind
-    (subst (All Low) first.order (all_behind (InDepth l) full visit behind inside).0) in
-    let free = or_left (old.free visit.word place) (is_in visit.word (words_in full) && old.aside visit.word place)
-    first.is in (
-      apart_taken visit.word (nat_eq place) p apart',
-      held_at l (taken_in visit.word (nat_eq place) p) visit.word place low.0
-          (taken_busy visit.word (nat_eq place) p place apart' free (eq-eqb place place refl)),
-    )
+    let words = words_in full in
+    place_held l (freed_in words old) visit.word place (apart_freed words old apart)
+    (or_left (old.free visit.word place) (is_in visit.word words && old.aside visit.word place) first.is)
+    (place_inside l full behind visit first.before first.behind place first.order inside)
 choice_held {l = l} {old = old} (chosen_aside full behind visit {place = place} all set first) apart inside =
-    let p : Pool = freed_in (visit.word ∷ words_in full) old in
-    let apart' = apart_freed (visit.word ∷ words_in full) old apart in
-    let Low : ℕ → Type 0 = λ k. k < word_bits l in
-    let low = all_behind Low first.before place first.behind
-    (subst (All Low) first.order (all_behind (InDepth l) full visit behind inside).0) in
-    let free = free_after visit.word (words_in full) old place
-    (or_right (old.free visit.word place) (old.aside visit.word place) first.is) in (
-      apart_taken visit.word (nat_eq place) p apart',
-      held_at l (taken_in visit.word (nat_eq place) p) visit.word place low.0
-          (taken_busy visit.word (nat_eq place) p place apart' free (eq-eqb place place refl)),
-    )
+    let words = words_in full in
+    place_held l (freed_in (visit.word ∷ words) old) visit.word place (apart_freed (visit.word ∷ words) old apart)
+    (free_after visit.word words old place
+    (or_right (old.free visit.word place) (old.aside visit.word place) first.is))
+    (place_inside l full behind visit first.before first.behind place first.order inside)
 
-pub batch_held : {l : Layout} {n : ℕ} {old : Pool} {is : List ℕ} {answer : Option (ℕ × ℕ)} {new : Pool}
+batch_held : {l : Layout} {n : ℕ} {old : Pool} {is : List ℕ} {answer : Option (ℕ × ℕ)} {new : Pool}
     → IsBatchChoice l n old is answer new → IsApart old
     → IsApart new × IfSome answer (HoldsRun l new)
 batch_held {old = old} (no_batch {words = is} all) apart = (apart_freed is old apart, tt)
@@ -121,31 +111,27 @@ batch_held {l = l} {n = n} {old = old} (batch passed behind word {place = place}
           (taken_busy word these p (place + k) apart' (free_after word passed old (place + k) is.1) here)),
     )
 
--- the visits of a search whose limits are within the words
-pub visits_inside : (l : Layout) (first : ℕ) (reach : Reach) → first ≤ words l
-    → ((i : ℕ) → i < words l → reach.limit i ≤ word_depth l i) → All (InDepth l) (visits l first reach)
-visits_inside l first reach h within =
-    let of = visit_of first reach in let Inside : ℕ → Type 0 = λ i. InDepth l (of i) in
-    let each : (i : ℕ) → i < words l → Inside i = λ i k. let a = within i k in
-    all_scan (λ b. b < word_bits l) (cond (nat_eq i first) reach.start 0) (reach.limit i) reach.wrap
-    (λ b below. omega arith) in
-    let front = numbers first (words l) in let back = numbers 0 first in
-    let all : All Inside (front ++ back) = All-append Inside front back
-    (all_numbers Inside first (words l) (λ i _ k. each i k))
-    (all_numbers Inside 0 first (λ i _ k. each i (omega arith))) in
-    subst (λ (xs : List ℕ). All (InDepth l) (map of xs)) (sym (order-split first (words l) h))
-    (All-map (InDepth l) of (front ++ back) all)
+-- a change that quiet steps make to any pool, steps that ran alone make to that of the words
+ran_changes : (Change : Pool → Pool → Type 0) (p q : Plain) (steps : List WordStep) → RunsAlone p steps q
+    → ((w : Words) → Quiet steps w → Change (pool_of w) (pool_of (words_after_all steps w)))
+    → Change (pool_of (plain_words p)) (pool_of (plain_words q))
+ran_changes Change p q steps ran quietly =
+    subst (λ (w : Words). Change (pool_of (plain_words p)) (pool_of w)) (sym ran.leaves)
+    (quietly (plain_words p) ran.quiet)
 
--- a get over plain words is the choice
-pub choice_of : (l : Layout) (p q : Plain) (vs : List Visit) (answer : Option ℕ)
-    → AddsSteps RunsAlone p q (IsGet l vs answer)
-    → IsChoice l (pool_of (plain_words p)) vs answer (pool_of (plain_words q))
-choice_of l p q vs answer a = subst (λ (x : Words). IsChoice l (pool_of (plain_words p)) vs answer (pool_of x))
-    (sym a.added.leaves) (a.holds.alone (plain_words p) a.added.quiet)
+-- after a get over plain words its tag is held
+pub get_held : (l : Layout) (first : ℕ) (reach : Reach) (p q : Plain) (answer : Option ℕ)
+    → ((i : ℕ) → i < words l → reach.limit i ≤ word_depth l i)
+    → AddsSteps RunsAlone p q (IsGet l (visits l first reach) answer) → IsApart (pool_of (plain_words p))
+    → let left = pool_of (plain_words q) in IsApart left × IfSome answer (IsHeld l left)
+get_held l first reach p q answer within made apart =
+    choice_held (ran_changes (λ old new. IsChoice l old (visits l first reach) answer new) p q made.steps made.added
+    made.holds.alone) apart (visits_inside l first reach within)
 
-pub batch_choice_of : (l : Layout) (n first : ℕ) (p q : Plain) (answer : Option (ℕ × ℕ))
-    → AddsSteps RunsAlone p q (IsBatchGet l n first answer)
-    → IsBatchChoice l n (pool_of (plain_words p)) (batch_words l first) answer (pool_of (plain_words q))
-batch_choice_of l n first p q answer a =
-    subst (λ (x : Words). IsBatchChoice l n (pool_of (plain_words p)) (batch_words l first) answer (pool_of x))
-    (sym a.added.leaves) (a.holds.alone (plain_words p) a.added.quiet)
+-- after a batch get its tags are held
+pub batch_get_held : (l : Layout) (n first : ℕ) (p q : Plain) (answer : Option (ℕ × ℕ))
+    → AddsSteps RunsAlone p q (IsBatchGet l n first answer) → IsApart (pool_of (plain_words p))
+    → let left = pool_of (plain_words q) in IsApart left × IfSome answer (HoldsRun l left)
+batch_get_held l n first p q answer made apart =
+    batch_held (ran_changes (λ old new. IsBatchChoice l n old (batch_words l first) answer new) p q made.steps
+    made.added made.holds.alone) apart

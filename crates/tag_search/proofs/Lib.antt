@@ -1,8 +1,10 @@
 pub mod Orders
+pub mod OneTag
 pub mod Claims
 pub mod Runs
 pub mod Joined
 pub mod Passes
+pub mod Inside
 pub mod Searches
 pub mod Tallies
 pub mod Turns
@@ -24,7 +26,6 @@ pub mod PlainPools
 pub mod SharedCalls
 pub mod FreedFacts
 pub mod SharedFacts
-pub mod OneTag
 pub mod RunFacts
 pub mod AloneFacts
 pub mod AloneCallers

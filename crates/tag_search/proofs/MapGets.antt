@@ -32,7 +32,8 @@ use Rattle.tag_search.proofs.GetFacts.{plain_within, shallow_within}
 use Rattle.tag_search.proofs.HeldFacts.{acquires_answer, acquires_run}
 use Rattle.tag_search.proofs.AloneCallers.{alone_still, own_changes, own_posted}
 use Rattle.tag_search.proofs.RunFacts.{WonRun, batch_wins}
-use Rattle.tag_search.proofs.SharedFacts.{Won, search_wins, visits_inside}
+use Rattle.tag_search.proofs.Inside.{visits_inside}
+use Rattle.tag_search.proofs.SharedFacts.{Won, search_wins}
 
 -- the effect of a get with these visits on its caller, in the form of the clauses of `on_map`
 pub record Got {R : Type 0} (l : Layout) (visits : List Visit) (answer : Option ℕ) (old new : Caller R) : Type 0 where

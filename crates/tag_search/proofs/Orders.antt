@@ -54,6 +54,12 @@ length_from a (suc n) = ap suc (length_from (a + 1) n)
 pub length-numbers : (a b : ℕ) → length (numbers a b) ≡ b - a
 length-numbers a b = length_from a (b - a)
 
+-- a scan of all numbers from the first on, and then those before it
+pub order-split : (first count : ℕ) → first ≤ count → scan_order first count true ≡ numbers first count
+    ++ numbers 0 first
+order-split first count h = let e : min first count ≡ first = omega arith in
+    ap (λ (end : ℕ). numbers first count ++ numbers 0 end) e
+
 -- a scan has no place twice, so at most as many as its limit
 pub length-scan_order : (start limit : ℕ) (wrap : Bool) → length (scan_order start limit wrap) ≤ limit
 length-scan_order start limit true =

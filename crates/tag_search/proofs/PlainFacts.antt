@@ -1,16 +1,17 @@
 -- All plain words after a write to one of them.
-use Rattle.std.proofs.Common.{◌≡◌, ◌≢◌, ℕ, zero, suc, ◌*◌, ◌^◌, ◌<◌, List, [], ◌∷◌, length, get_or, set, nat_eq, cond}
+use Rattle.std.proofs.Common.{◌≡◌, ◌≢◌, ℕ, ◌*◌, ◌^◌, ◌<◌, List, [], ◌∷◌, length, get_or, set, nat_eq, cond}
 use Rattle.std.proofs.Common.{Bool, true, false, bit_and, bit_or, arith, refl, sym, ap, ◌∙◌, subst, get_or-set_other}
-use Rattle.std.proofs.Common.{get_or-set_same, eq-eqb, ne_eqb, eqb-true, ◌↔◌}
+use Rattle.std.proofs.Common.{get_or-set_same, eq-eqb, ne_eqb, eqb-true, ◌↔◌, inl, inr}
 use mathlib.Core.Logic.{dite}
 use Rattle.std.specs.Prelude.{IsTrue, not}
 use native.Mathlib.Decide.{ℕ_discrete}
 use Rattle.std.proofs.lemmas.Nat.{pow_pos}
-use Rattle.std.proofs.lemmas.Nat.Bits.{and_pow, bit_at-lt}
+use Rattle.std.proofs.lemmas.Nat.Bits.{and_pow}
 use Rattle.std.specs.Int.{bit_at}
 use Rattle.tag_core.specs.declared.word_step.WordStep.TheVariants.{LookAside, Claimed, Give, Put, Swap, Spill}
 use Rattle.tag_core.specs.Steps.{changed_at, without}
 use Rattle.tag_search.specs.Plain.{Plain, RunsAlone, IsTaken}
+use Rattle.tag_search.proofs.OneTag.{bit_is}
 
 -- a list with one entry changed, as a function of the index
 pub set_changed : (xs : List ℕ) (i v : ℕ) → i < length xs → (λ (j : ℕ). get_or (set xs i v) j 0) ≡ changed_at
@@ -80,26 +81,18 @@ ran_sweep p i mask found h k e f = let now = written p.word i found (λ x. witho
 }
 
 -- a word masked with one bit is 0 exactly if the bit is clear
-pub clear_of_mask : (n k : ℕ) → bit_and n (2 ^ k) ≡ 0 → bit_at n k ≡ 0
-clear_of_mask n k e = cases (bit_at n k) refl (bit_at-lt n k)
-  where
-    cases : (b : ℕ) → bit_at n k ≡ b → b < 2 → bit_at n k ≡ 0
-    cases zero f l = f
-    cases (suc zero) f l = let pos : 0 < 2 ^ k = pow_pos k in
-        let one : bit_and n (2 ^ k) ≡ 2 ^ k = and_pow n k ∙ ap (λ (x : ℕ). x * 2 ^ k) f ∙ omega arith in
-        absurd (omega arith)
-    cases (suc (suc b)) f l = absurd (omega arith)
-
-pub mask_of_clear : (n k : ℕ) → bit_at n k ≡ 0 → bit_and n (2 ^ k) ≡ 0
+mask_of_clear : (n k : ℕ) → bit_at n k ≡ 0 → bit_and n (2 ^ k) ≡ 0
 mask_of_clear n k e = and_pow n k ∙ ap (λ (x : ℕ). x * 2 ^ k) e ∙ omega arith
 
+pub clear_of_mask : (n k : ℕ) → bit_and n (2 ^ k) ≡ 0 → bit_at n k ≡ 0
+clear_of_mask n k e = elim (bit_is n k) [
+  | inl one ↦ absurd (let all : bit_and n (2 ^ k) ≡ 2 ^ k = and_pow n k ∙ ap (λ (x : ℕ). x * 2 ^ k) one ∙ omega arith in
+      let pos : 0 < 2 ^ k = pow_pos k in omega arith)
+  | inr none ↦ none
+]
+
 pub taken_of_mask : (n k : ℕ) → bit_and n (2 ^ k) ≢ 0 → bit_at n k ≡ 1
-taken_of_mask n k ne = cases (bit_at n k) refl (bit_at-lt n k)
-  where
-    cases : (b : ℕ) → bit_at n k ≡ b → b < 2 → bit_at n k ≡ 1
-    cases zero f l = absurd (ne (and_pow n k ∙ ap (λ (x : ℕ). x * 2 ^ k) f ∙ omega arith))
-    cases (suc zero) f l = f
-    cases (suc (suc b)) f l = absurd (omega arith)
+taken_of_mask n k ne = elim (bit_is n k) [ inl one ↦ one | inr none ↦ absurd (ne (mask_of_clear n k none)) ]
 
 -- a place whose bit is set is taken exactly if it is not set aside
 pub tells_taken : (p : Plain) (i k n a bit : ℕ) → bit ≡ 2 ^ k → n ≡ get_or p.word i 0 → a ≡ get_or p.aside i 0

@@ -1,7 +1,7 @@
 -- The pool of plain words after a put, a give and an opening.
 use Rattle.std.proofs.Common.{◌≡◌, ◌≢◌, ◌↔◌, ℕ, zero, suc, ◌^◌, ◌<◌, ◌≤◌, max, length, replicate, Bool, true}
 use Rattle.std.proofs.Common.{false, ◌&&◌, ◌||◌, cond, nat_eq, nat_lt, List, [], ◌∷◌, get_or, bit_or, arith, refl, sym}
-use Rattle.std.proofs.Common.{ap, ◌∙◌, inl, inr, eq-eqb, ne_eqb, eqb-true}
+use Rattle.std.proofs.Common.{ap, ◌∙◌, eq-eqb, ne_eqb, eqb-true}
 use Rattle.std.specs.Prelude.{IsTrue, not}
 use mathlib.Core.Logic.{dite}
 use native.Mathlib.Decide.{ℕ_discrete, dec_lt}
@@ -12,11 +12,10 @@ use Rattle.std.proofs.lemmas.Nat.Bits.{bit_at_or, bit_at-lt, bit_at-zero, bit_at
 use Rattle.tag_core.specs.declared.word_step.WordStep.TheVariants.{Give, Put}
 use Rattle.tag_core.specs.Steps.{Words, words_after, without}
 use Rattle.tag_search.specs.Plain.{Plain, plain_words, RunsAlone, IsTaken}
-use Rattle.tag_search.specs.Pool.{pool_of, is_busy, set_aside, free_at, IsApart}
-use Rattle.tag_search.specs.Writes.{IsTidy, IsAllFree}
-use Rattle.tag_search.proofs.Pools.{pool_ext, or_false, and_false}
-use Rattle.tag_search.proofs.Sweeps.{is_clear, is_one, clear_of, set_of, none_of, without_clear}
-use Rattle.tag_search.proofs.Writings.{bit_is}
+use Rattle.tag_search.specs.Pool.{pool_of, is_busy, set_aside, free_at}
+use Rattle.tag_search.specs.Writes.{IsAllFree}
+use Rattle.tag_search.proofs.Pools.{pool_ext, or_false}
+use Rattle.tag_search.proofs.Sweeps.{is_clear, is_one, clear_of, none_of, without_clear}
 
 -- a bit of two words or-ed together is 1 exactly if it is 1 in one of them
 or_one : (t : Bool) (a b : ℕ) → a < 2 → b < 2 → (t && nat_eq (max a b) 1) ≡ ((t && nat_eq a 1) || (t && nat_eq b 1))
@@ -103,14 +102,6 @@ taken_of_busy p i k low busy =
     split (suc zero) (suc zero) h g e = absurd (let no : false ≡ true = e in cc)
     split (suc zero) (suc (suc b)) h g e = absurd (omega arith)
     split (suc (suc a)) b h g e = absurd (omega arith)
-
--- in tidy words no place is both free and set aside
-pub tidy_apart : (p : Plain) → IsTidy p → IsApart (pool_of (plain_words p))
-tidy_apart p tidy i k = elim (bit_is (get_or p.aside i 0) k) [
-  | inl one ↦ ap (λ (b : Bool). b && is_one (get_or p.aside i 0) k) (set_of (get_or p.word i 0) k (tidy.taken i k one))
-  | inr none ↦ ap (λ (b : Bool). is_clear (get_or p.word i 0) k && b) (none_of (get_or p.aside i 0) k none)
-      ∙ and_false (is_clear (get_or p.word i 0) k)
-]
 
 -- words of zeros
 zeros : (n i : ℕ) → get_or (replicate n zero) i zero ≡ zero

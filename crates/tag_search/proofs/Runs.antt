@@ -1,34 +1,26 @@
 -- Masks of several adjacent bits.
-use Rattle.std.proofs.Common.{◌≡◌, ℕ, zero, suc, ◌+◌, ◌-◌, ◌*◌, ◌/◌, ◌%◌, ◌^◌, ◌<◌, ◌≤◌, count_ones, arith, refl, ap}
+use Rattle.std.proofs.Common.{◌≡◌, ℕ, zero, suc, ◌+◌, ◌-◌, ◌*◌, ◌/◌, ◌%◌, ◌^◌, ◌<◌, ◌≤◌, count_ones, arith, ap}
 use Rattle.std.proofs.Common.{◌∙◌}
 use Rattle.std.proofs.lemmas.Nat.{ones_cat, pow_pos, shl_whole, shl_below}
 use Rattle.std.proofs.lemmas.Nat.Bits.{ones_shr}
 use Rattle.std.proofs.Math.Nat.{pow-suc, pow-le-pow_right}
-use lib.Count.{ones}
 use Rattle.tag_search.specs.Batch.{run_mask}
-
-ones-zero : count_ones 0 ≡ 0
-unfolding ones
-ones-zero = refl
-
-ones-one : count_ones 1 ≡ 1
-unfolding ones
-ones-one = refl
+use Rattle.tag_search.proofs.Claims.{count_ones-pow, count_ones-zero}
 
 ones-low : (n : ℕ) → count_ones (2 ^ n - 1) ≡ n
-ones-low zero = ones-zero
+ones-low zero = count_ones-zero
 ones-low (suc n) =
     let pos : 0 < 2 ^ n = pow_pos n in let low : 2 ^ n - 1 < 2 ^ n = omega arith in
     let double : 2 ^ suc n ≡ 2 ^ n * 2 = pow-suc 2 n in
     let e : 2 ^ suc n - 1 ≡ 1 * 2 ^ n + (2 ^ n - 1) = omega arith in
     let sum = ones_cat n 1 (2 ^ n - 1) low in let rest = ones-low n in
-    let one = ones-one in ap count_ones e ∙ sum ∙ omega arith
+    let one = count_ones-pow 0 in ap count_ones e ∙ sum ∙ omega arith
 
 -- a run of n places has n bits
 pub ones-run : (n place : ℕ) → count_ones (run_mask n place) ≡ n
 ones-run n place =
     let e : run_mask n place ≡ (2 ^ n - 1) * 2 ^ place + 0 = omega arith in
-    let sum = ones_cat place (2 ^ n - 1) 0 (pow_pos place) in let low = ones-low n in let none = ones-zero in
+    let sum = ones_cat place (2 ^ n - 1) 0 (pow_pos place) in let low = ones-low n in let none = count_ones-zero in
     ap count_ones e ∙ sum ∙ omega arith
 
 -- the mask of a run, as the code shifts it

@@ -1,5 +1,5 @@
 -- The state in the middle of a search.
-use Rattle.std.proofs.Common.{◌≡◌, ℕ, ◌≤◌, List, [], ◌∷◌, ◌++◌, map, min, Option, Some, None, arith, sym, ap, ◌∙◌}
+use Rattle.std.proofs.Common.{◌≡◌, ℕ, ◌≤◌, List, [], ◌∷◌, ◌++◌, map, Option, Some, None, sym, ap, ◌∙◌}
 use Rattle.std.proofs.Common.{subst}
 use Rattle.std.proofs.lemmas.List.{append_assoc, append-nil, map-append}
 use Rattle.tag_core.specs.declared.word_step.WordStep.{WordStep}
@@ -7,6 +7,7 @@ use Rattle.tag_layout.specs.Layout.{Layout, words}
 use Rattle.tag_search.specs.Order.{numbers}
 use Rattle.tag_search.specs.Visits.{Reach, visit_of, visits}
 use Rattle.tag_search.specs.Search.{Visit, IsVisit, IsSearch, over, won, passed}
+use Rattle.tag_search.proofs.Orders.{order-split}
 
 -- these steps, followed by a search of the visits left, are a search of all visits
 abbrev pub IsSearchBegun : Layout → List Visit → List Visit → List WordStep → Type 0
@@ -54,6 +55,5 @@ pub visits-split : (l : Layout) (first : ℕ) (reach : Reach) → first ≤ word
     → visits l first reach ≡ map (visit_of first reach) (numbers first (words l)) ++ map (visit_of first reach)
     (numbers 0 first)
 visits-split l first reach h =
-    let e : min first (words l) ≡ first = omega arith in
-    ap (λ (end : ℕ). map (visit_of first reach) (numbers first (words l) ++ numbers 0 end)) e
+    ap (map (visit_of first reach)) (order-split first (words l) h)
     ∙ map-append (visit_of first reach) (numbers first (words l)) (numbers 0 first)

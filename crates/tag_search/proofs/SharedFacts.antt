@@ -1,31 +1,29 @@
 -- A get over a shared map adds the tag that it won to its caller's held set, and keeps the rest.
-use Rattle.std.proofs.Common.{◌≡◌, ℕ, ◌+◌, ◌-◌, ◌*◌, ◌^◌, ◌<◌, ◌≤◌, true, cond, nat_eq, List, [], ◌∷◌, ◌++◌, Option}
+use Rattle.std.proofs.Common.{◌≡◌, ℕ, ◌+◌, ◌^◌, ◌<◌, ◌≤◌, List, [], ◌∷◌, ◌++◌, Option}
 use Rattle.std.proofs.Common.{Some, None, get_or, set, count_ones, arith, refl, sym, ap, ◌∙◌, subst}
 use Rattle.std.specs.Prelude.{All, IfSome}
 use Rattle.std.specs.List.{AllByRecursion}
 use Rattle.std.specs.Int.{bit_at}
 use Rattle.std.specs.Int.Bits.{or_zero_r}
 use Rattle.std.proofs.lemmas.List.{set-get_or}
-use Rattle.std.proofs.lemmas.List.Elements.{All-head, All-tail, All-map}
+use Rattle.std.proofs.lemmas.List.Elements.{All-head, All-tail}
 use lib.Count.{ones}
-use Rattle.tag_layout.specs.Layout.{Layout, words, word_bits, word_depth, tag_at}
+use Rattle.tag_layout.specs.Layout.{Layout, word_bits, word_depth, tag_at}
 use Rattle.tag_layout.proofs.PlaceFacts.{word_of-tag_at, place_of-tag_at, tag_at-below}
 use Rattle.tag_core.specs.declared.record.Record.{Record}
 use Rattle.tag_core.specs.declared.step.Step.TheVariants.{Word}
 use Rattle.tag_core.specs.declared.word_step.WordStep.{WordStep}
 use Rattle.tag_core.specs.declared.word_step.WordStep.TheVariants.{Look, LookAside, Claimed, Swap, Spill}
 use Rattle.tag_core.specs.Records.{record_after, joined}
-use Rattle.tag_core.specs.Steps.{without}
 use Rattle.tag_search.specs.Gains.{held_with, count_of}
-use Rattle.tag_search.specs.Order.{scan_order}
 use Rattle.tag_search.specs.Search.{IsTries, none_left, wins, loses, IsPass, pass, IsSweep, unseen, empty, spilled}
 use Rattle.tag_search.specs.Search.{IsRetry, no_turn, turn_won, turn_passed, IsVisit, at_once, retried, Visit}
 use Rattle.tag_search.specs.Search.{IsSearch, over, won, passed}
 use Rattle.tag_search.specs.Shared.{record_after_all, FindsWord}
 use Rattle.tag_search.specs.SharedLaws.{record_after-append}
-use Rattle.tag_search.specs.Visits.{Reach, visit_of, visits}
-use Rattle.tag_search.proofs.Claims.{count_ones-pow, without-pow}
-use Rattle.tag_search.proofs.Orders.{all_scan}
+pub use Rattle.tag_search.proofs.Claims.{count_ones-zero}
+use Rattle.tag_search.proofs.Claims.{count_ones-pow, won_where_clear, none_where_taken}
+use Rattle.tag_search.proofs.Inside.{IsInside}
 use Rattle.tag_search.proofs.Passes.{all_left}
 
 -- the held set with the place won in a word, if there is one
@@ -41,10 +39,6 @@ pub record Took {R : Type 0} (bits i : ℕ) (answer : Option ℕ) (old new : Rec
   pub won : new.won ≡ old.won + count_of answer
   pub back : new.back ≡ old.back
   pub place : IfSome answer (λ place. place < bits)
-
-pub count_ones-zero : count_ones 0 ≡ 0
-unfolding ones
-count_ones-zero = refl
 
 pub finds-split : (xs ys : List WordStep) → AllByRecursion FindsWord (xs ++ ys) → AllByRecursion FindsWord xs
     × AllByRecursion FindsWord ys
@@ -98,8 +92,7 @@ module _ {R : Type 0} (bits i : ℕ) where
   took_lost : (r : Record R) (place found : ℕ) → place < 64 → found < 2 ^ 64 → bit_at found place ≡ 1
       → Took bits i None r (record_after (Word (Claimed i (2 ^ place) found)) r)
   took_lost r place found h fits one =
-      let none : without (2 ^ place) found ≡ 0 = without-pow found place fits h
-      ∙ ap (λ (x : ℕ). (1 - x) * 2 ^ place) one ∙ omega arith in record {
+      let none = none_where_taken found place fits h one in record {
         shape = refl;
         number = refl;
         held = ap (joined r.held i) none ∙ ap (set r.held i) (or_zero_r (get_or r.held i 0)) ∙ set-get_or r.held i 0;
@@ -112,8 +105,7 @@ module _ {R : Type 0} (bits i : ℕ) where
   took_won : (r : Record R) (place found : ℕ) → place < 64 → place < bits → found < 2 ^ 64 → bit_at found place ≡ 0
       → Took bits i (Some place) r (record_after (Word (Claimed i (2 ^ place) found)) r)
   took_won r place found h below fits clear =
-      let all : without (2 ^ place) found ≡ 2 ^ place = without-pow found place fits h
-      ∙ ap (λ (x : ℕ). (1 - x) * 2 ^ place) clear ∙ omega arith in record {
+      let all = won_where_clear found place fits h clear in record {
         shape = refl;
         number = refl;
         held = ap (joined r.held i) all;
@@ -199,10 +191,6 @@ pub record Won {R : Type 0} (l : Layout) (answer : Option ℕ) (old new : Record
   pub back : new.back ≡ old.back
   pub tag : IfSome answer (λ tag. tag < l.depth)
 
--- each place of the visit is below the word's depth
-abbrev pub IsInside : Layout → Visit → Type 0
-IsInside l visit = All (λ place. place < word_depth l visit.word) visit.rank
-
 module _ {R : Type 0} (l : Layout) (narrow : word_bits l ≤ 64) where
   won_none : (r : Record R) → Won l None r r
   won_none r = record { shape = refl; number = refl; held = refl; won = omega arith; back = refl; tag = tt }
@@ -253,12 +241,3 @@ module _ {R : Type 0} (l : Layout) (narrow : word_bits l ≤ 64) where
       (won_on visit.word r s (record_after_all rest s) answer
       (visit_wins visit r v split.0 (All-head (IsInside l) visit more inside))
       (search_wins s search split.1 (All-tail (IsInside l) visit more inside)))
-
--- the visits of a get are within their words
-pub visits_inside : (l : Layout) (first : ℕ) (reach : Reach) → ((i : ℕ) → i < words l → reach.limit i ≤ word_depth l i)
-    → All (IsInside l) (visits l first reach)
-visits_inside l first reach within =
-    All-map (IsInside l) (visit_of first reach) (scan_order first (words l) true)
-    (all_scan (λ i. IsInside l (visit_of first reach i)) first (words l) true (λ i h.
-    all_scan (λ place. place < word_depth l i) (cond (nat_eq i first) reach.start 0) (reach.limit i) reach.wrap
-    (λ k below. let most = within i h in (let z : k < word_depth l i = omega arith in z))))

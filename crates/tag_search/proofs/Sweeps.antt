@@ -1,7 +1,7 @@
 -- The pool of the words after claims and sweeps.
 use Rattle.std.proofs.Common.{◌≡◌, ℕ, zero, suc, ◌-◌, ◌^◌, ◌<◌, min, max, Bool, true, false, not, ◌&&◌, ◌||◌, cond}
 use Rattle.std.proofs.Common.{nat_eq, nat_lt, List, [], ◌∷◌, bit_or, arith, refl, sym, ap, ◌∙◌, eq-eqb, ne_eqb}
-use Rattle.std.proofs.Common.{eqb-true}
+use Rattle.std.proofs.Common.{eqb-true, inl, inr}
 use mathlib.Core.Logic.{dite}
 use native.Mathlib.Decide.{ℕ_discrete}
 use Rattle.std.specs.Int.{bit_at, w64}
@@ -13,6 +13,7 @@ use Rattle.tag_core.specs.declared.word_step.WordStep.TheVariants.{LookAside, Cl
 use Rattle.tag_core.specs.Steps.{Words, Quiet, words_after, words_after_all, without}
 use Rattle.tag_search.specs.Pool.{pool_of, freed_in, taken_in, taken_at}
 use Rattle.tag_search.specs.Search.{IsSweep, unseen, empty, spilled}
+use Rattle.tag_search.proofs.OneTag.{bit_is, both_true}
 use Rattle.tag_search.proofs.Pools.{pool_ext, or_false, and_true, and_false, taken_same}
 
 -- the place is below 64, and its bit is 0 (or 1)
@@ -31,17 +32,14 @@ set_of n k e = ap (λ (x : ℕ). nat_lt k 64 && nat_eq x 0) e ∙ and_false (nat
 pub none_of : (n k : ℕ) → bit_at n k ≡ 0 → is_one n k ≡ false
 none_of n k e = ap (λ (x : ℕ). nat_lt k 64 && nat_eq x 1) e ∙ and_false (nat_lt k 64)
 
-second_true : (a b : Bool) → (a && b) ≡ true → b ≡ true
-second_true true b e = e
-second_true false b e = absurd (let no : false ≡ true = e in cc)
-
 pub bit_of_clear : (n k : ℕ) → is_clear n k ≡ true → bit_at n k ≡ 0
-bit_of_clear n k e = eqb-true (bit_at n k) 0 (second_true (nat_lt k 64) (nat_eq (bit_at n k) 0) e)
+bit_of_clear n k e = eqb-true (bit_at n k) 0 (both_true (nat_lt k 64) (nat_eq (bit_at n k) 0) e).1
 
 pub bit_of_set : (n k : ℕ) → k < 64 → is_clear n k ≡ false → bit_at n k ≡ 1
-bit_of_set n k h e = dite (ℕ_discrete (bit_at n k) 0)
-    (λ zero. absurd (let yes = clear_of n k h zero in let no : true ≡ false = sym yes ∙ e in cc))
-    (λ ne. let l = bit_at-lt n k in omega arith)
+bit_of_set n k h e = elim (bit_is n k) [
+  | inl one ↦ one
+  | inr none ↦ absurd (let yes = clear_of n k h none in let no : true ≡ false = sym yes ∙ e in cc)
+]
 
 or_tests : (t : Bool) (a b : ℕ) → b < 2 → (t && nat_eq (max a b) 0) ≡ ((t && nat_eq a 0) && not (nat_eq b 1))
 or_tests false a b h = refl

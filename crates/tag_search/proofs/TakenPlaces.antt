@@ -9,7 +9,7 @@ use Rattle.tag_layout.specs.Layout.{IsWithin, word_depth}
 use Rattle.tag_layout.proofs.Scans.{bit_at-shr}
 use Rattle.tag_search.specs.Plain.{Plain, IsTaken}
 use Rattle.tag_search.specs.Writes.{IsTidy}
-use Rattle.tag_search.proofs.Writings.{bit_is}
+use Rattle.tag_search.proofs.OneTag.{bit_is}
 
 -- a number whose bits are all below a place is below that power of two
 pub below_of_bits : (n w : ℕ) → ((k : ℕ) → bit_at n k ≡ 1 → k < w) → n < 2 ^ w

@@ -1,25 +1,18 @@
 -- The bits of a list of words after one write, and that the words stay tidy.
-use Rattle.std.proofs.Common.{◌≡◌, ◌≢◌, ℕ, zero, suc, ◌-◌, ◌^◌, ◌<◌, ◌⊎◌, min, List, length, get_or, set, bit_or, arith}
-use Rattle.std.proofs.Common.{refl, sym, ap, ◌∙◌, subst, inl, inr, get_or-set_other, get_or-set_same}
+use Rattle.std.proofs.Common.{◌≡◌, ◌≢◌, ℕ, ◌-◌, ◌^◌, ◌<◌, min, List, length, get_or, set, bit_or, arith}
+use Rattle.std.proofs.Common.{sym, ap, ◌∙◌, subst, inl, inr, get_or-set_other, get_or-set_same}
 use mathlib.Core.Logic.{dite}
 use native.Mathlib.Decide.{ℕ_discrete, dec_lt}
-use Rattle.std.specs.Int.{bit_at, w64}
+use Rattle.std.specs.Int.{bit_at}
 use Rattle.std.proofs.Math.ListN.{length-set}
-use Rattle.std.proofs.lemmas.Nat.Bits.{bit_at_and, bit_at_or, bit_at_not, bit_at-lt, bit_at-zero, bit_at_above}
-use Rattle.std.proofs.lemmas.Nat.Bits.{bit_at-pow_same, bit_at-pow_other}
+use Rattle.std.proofs.lemmas.Nat.Bits.{bit_at_and, bit_at_or, bit_at-lt, bit_at-zero, bit_at_above}
+use Rattle.std.proofs.lemmas.Nat.Bits.{bit_at-pow_same}
 use Rattle.tag_core.specs.Steps.{without}
 use Rattle.tag_layout.specs.Layout.{word_depth, IsWithin}
 use Rattle.tag_search.specs.Plain.{Plain}
 use Rattle.tag_search.specs.Writes.{WritesBits, IsIn, IsTidy}
-
--- a bit is 1 or 0
-pub bit_is : (n k : ℕ) → (bit_at n k ≡ 1) ⊎ (bit_at n k ≡ 0)
-bit_is n k = cases (bit_at n k) refl (bit_at-lt n k)
-  where
-    cases : (b : ℕ) → bit_at n k ≡ b → b < 2 → (bit_at n k ≡ 1) ⊎ (bit_at n k ≡ 0)
-    cases zero e l = inr e
-    cases (suc zero) e l = inl e
-    cases (suc (suc b)) e l = absurd (omega arith)
+use Rattle.tag_search.proofs.OneTag.{bit_is, one_place}
+use Rattle.tag_search.proofs.Sweeps.{bit_without}
 
 -- a bit that is not in a mask is 0 there
 pub bit_out : (mask k : ℕ) → ¬ IsIn mask k → bit_at mask k ≡ 0
@@ -52,7 +45,7 @@ writes_or xs i v mask h e =
 pub bit_at_without : (v mask k : ℕ) → v < 2 ^ 64 → mask < 2 ^ 64 → bit_at (without v mask) k ≡ min (bit_at v k)
     (1 - bit_at mask k)
 bit_at_without v mask k fits narrow = dite (dec_lt k 64)
-    (λ (low : k < 64). bit_at_and v (2 ^ 64 - 1 - mask) k ∙ ap (min (bit_at v k)) (bit_at_not w64 mask k narrow low))
+    (λ (low : k < 64). bit_without v mask k narrow low)
     (λ high. let none = bit_at_above v 64 k fits (omega arith) in let b = bit_at_and v (2 ^ 64 - 1 - mask) k in
     omega arith)
 
@@ -70,25 +63,6 @@ writes_without xs i v mask h e fits narrow =
       others = λ j ne. other_entries xs i (without v mask) j ne;
     }
 
--- a word set to 0
-pub writes_zero : (xs : List ℕ) (i : ℕ) (P : ℕ → Type 0) → i < length xs
-    → ((k : ℕ) → ¬ P k → bit_at (get_or xs i 0) k ≡ 0) → WritesBits xs (set xs i 0) i P 0
-writes_zero xs i P h out =
-    let here : get_or (set xs i 0) i 0 ≡ 0 = get_or-set_same xs i 0 0 h in
-    record {
-      there = λ k one. ap (λ (x : ℕ). bit_at x k) here ∙ bit_at-zero k;
-      beside = λ k no. ap (λ (x : ℕ). bit_at x k) here ∙ bit_at-zero k ∙ sym (out k no);
-      others = λ j ne. other_entries xs i 0 j ne;
-    }
-
--- writing no place
-pub writes_nothing : (xs : List ℕ) (i : ℕ) (P : ℕ → Type 0) (b : ℕ) → ((k : ℕ) → ¬ P k) → WritesBits xs xs i P b
-writes_nothing xs i P b none = record {
-  there = λ k one. absurd (none k one);
-  beside = λ k _. refl;
-  others = λ j _. refl;
-}
-
 -- an equivalent set of places
 pub writes_where : (xs ys : List ℕ) (i b : ℕ) (P Q : ℕ → Type 0) → ((k : ℕ) → Q k → P k) → ((k : ℕ) → P k → Q k)
     → WritesBits xs ys i P b → WritesBits xs ys i Q b
@@ -98,12 +72,8 @@ writes_where xs ys i b P Q f g w = record {
   others = w.others;
 }
 
--- the only place of a mask of one bit
-pub is_place : (place k : ℕ) → IsIn (2 ^ place) k → k ≡ place
-is_place place k one = dite (ℕ_discrete k place) (λ e. e) (λ ne. let none = bit_at-pow_other place k ne in
-    absurd (omega arith))
-
-pub place_is : (place k : ℕ) → k ≡ place → IsIn (2 ^ place) k
+-- a power of two has its bit
+place_is : (place k : ℕ) → k ≡ place → IsIn (2 ^ place) k
 place_is place k e = ap (bit_at (2 ^ place)) e ∙ bit_at-pow_same place
 
 -- a claim of places within the word's depth
@@ -180,7 +150,7 @@ writes_place xs r i found bit place e b h f =
     subst (λ (x : ℕ). WritesBits xs new x (λ k. k ≡ place) 1) e
     (writes_where xs new r 1 (IsIn bit) (λ k. k ≡ place)
     (λ k q. subst (λ (x : ℕ). IsIn x k) (sym b) (place_is place k q))
-    (λ k q. is_place place k (subst (λ (x : ℕ). IsIn x k) b q))
+    (λ k q. one_place place k (subst (λ (x : ℕ). IsIn x k) b q))
     (writes_or xs r found bit h f))
 
 -- a sweep that found a mask

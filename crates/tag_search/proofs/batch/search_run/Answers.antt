@@ -3,8 +3,9 @@ use Rattle.std.proofs.Common.{◌++◌, true, Some, None, refl, sym, subst}
 use Rattle.tag_layout.specs.Layout.{words}
 use Rattle.tag_search.specs.Batch.{IsBatchSearch}
 use Rattle.tag_search.specs.Order.{numbers, scan_order}
-use Rattle.tag_search.proofs.Batches.{batch_stops, batch_goes_on, order-split}
+use Rattle.tag_search.proofs.Batches.{batch_stops, batch_goes_on}
 use Rattle.tag_search.proofs.Joined.{adds_joined, adds_weaker}
+use Rattle.tag_search.proofs.Orders.{order-split}
 use Rattle.tag_search.proofs.batch.search_run.Goals as goal
 
 pub returns-in-Some-clause-search : goal.returns-in-Some-clause-search

@@ -2,17 +2,14 @@
 use Rattle.std.proofs.Common.{ℕ}
 use Rattle.tag_layout.specs.Layout.{Layout, word_of}
 use Rattle.tag_search.specs.Hints.{reduced}
-use Rattle.tag_search.specs.Visits.{plain_reach, plain_visits}
-use Rattle.tag_search.proofs.Batches.{hint_word-le}
+use Rattle.tag_search.specs.Visits.{plain_reach}
 use Rattle.tag_search.proofs.GetFacts.{plain_within}
-use Rattle.tag_search.proofs.Held.{choice_held, visits_inside, choice_of}
+use Rattle.tag_search.proofs.Held.{get_held}
 use Rattle.tag_search.proofs.plain.PlainPort.choose.Goals as goal
 
 pub returns-clause-held : goal.returns-clause-held
-returns-clause-held c apart =
-    let l : Layout = c.args.self.now.layout in let round_robin = c.args.hint.now.round_robin in
-    let hint : ℕ = reduced l.depth c.args.hint.now.at in
-    let choice = choice_of l c.args.self.now c.get.new.port (plain_visits l round_robin hint) c.in-Ok.answer
-    c.in-Ok.ensures.steps in
-    choice_held choice apart (visits_inside l (word_of l hint) (plain_reach l round_robin hint)
-    (hint_word-le l c.args.hint.now.at) (plain_within l round_robin hint))
+returns-clause-held c =
+    let l : Layout = c.args.self.now.layout in let hint : ℕ = reduced l.depth c.args.hint.now.at in
+    let round_robin = c.args.hint.now.round_robin in
+    get_held l (word_of l hint) (plain_reach l round_robin hint) c.args.self.now c.get.new.port c.in-Ok.answer
+    (plain_within l round_robin hint) c.in-Ok.ensures.steps

@@ -2,11 +2,11 @@
 use Rattle.std.proofs.Common.{ℕ}
 use Rattle.tag_layout.specs.Layout.{Layout, word_of}
 use Rattle.tag_search.specs.Hints.{reduced}
-use Rattle.tag_search.proofs.Held.{batch_held, batch_choice_of}
+use Rattle.tag_search.proofs.Held.{batch_get_held}
 use Rattle.tag_search.proofs.plain.PlainPort.choose_batch.Goals as goal
 
 pub returns-clause-held : goal.returns-clause-held
-returns-clause-held c straight apart =
+returns-clause-held c straight =
     let l : Layout = c.args.self.now.layout in let hint : ℕ = reduced l.depth c.args.hint.now.at in
-    batch_held (batch_choice_of l c.args.n (word_of l hint) c.args.self.now c.get_batch.new.port c.in-Ok.answer
-    (c.in-Ok.ensures.steps straight)) apart
+    batch_get_held l c.args.n (word_of l hint) c.args.self.now c.get_batch.new.port c.in-Ok.answer
+    (c.in-Ok.ensures.steps straight)
