@@ -72,7 +72,7 @@ module _ {R : Type 0} (c : Caller R) where
   search_new l same narrow r over finds blocks inside = tt
   search_new l same narrow r (won {visit = visit} {visits = more} {steps = steps} {place = place} v) finds blocks
       inside = λ holds.
-      let near = (visit_wins l narrow visit r v finds (All-head (IsInside l) visit more inside)).place in
+      let near = (visit_wins l narrow visit r v finds (All-head (IsInside l) visit more inside)).fact in
       let low : place < word_depth l visit.word = near in let small : place < word_bits l = omega arith in
       visit_new v blocks (tag_at l visit.word place) holds
       (ap (λ (x : Layout). word_of x (tag_at l visit.word place)) same ∙ word_of-tag_at l visit.word place small)

@@ -89,9 +89,9 @@ module _ {R : Type 0} (old new : Caller R) (narrow : old.shape.value.layout.shif
       let i : ℕ = word_of sizes answer in let bit : ℕ = 2 ^ place_of sizes answer in
       let to = alone_named old.shape.value narrow answer in
       acquired_as old new (IsInMask sizes i bit) (λ tag. tag ≡ answer) to (named_alone old.shape.value narrow answer)
-      (acquires old new narrow gained.shape slots i bit (word_of-below sizes answer gained.tag)
+      (acquires old new narrow gained.shape slots i bit (word_of-below sizes answer gained.fact)
       (λ tag named. subst (λ (t : ℕ). ¬ (Holds old t)) (sym (to tag named)) fresh)
-      (λ tag named. subst (λ (t : ℕ). t < sizes.depth) (sym (to tag named)) gained.tag) gained.held)
+      (λ tag named. subst (λ (t : ℕ). t < sizes.depth) (sym (to tag named)) gained.fact) gained.held)
 
   -- the tags that a batch get acquires
   pub acquires_run : (answer : Option (ℕ × ℕ)) → WonRun sizes answer (record_of old) (record_of new)
@@ -106,10 +106,10 @@ module _ {R : Type 0} (old new : Caller R) (narrow : old.shape.value.layout.shif
   }
   acquires_run (Some won) gained fresh slots =
       let i : ℕ = word_of sizes won.0 in let mask : ℕ = won.1 * 2 ^ place_of sizes won.0 in
-      let to = named_in_run sizes won gained.tags in
-      let first : won.0 < sizes.depth = let low = tag_at-below sizes i (place_of sizes won.0) gained.tags.0 in
+      let to = named_in_run sizes won gained.fact in
+      let first : won.0 < sizes.depth = let low = tag_at-below sizes i (place_of sizes won.0) gained.fact.0 in
       let back = tag_at-back sizes won.0 in omega arith in
-      acquired_as old new (IsInMask sizes i mask) (IsInRun (Some won)) to (run_named sizes won gained.tags)
+      acquired_as old new (IsInMask sizes i mask) (IsInRun (Some won)) to (run_named sizes won gained.fact)
       (acquires old new narrow gained.shape slots i mask (word_of-below sizes won.0 first)
       (λ tag named. fresh tag (to tag named))
-      (λ tag named. run_below sizes won gained.tags tag (to tag named)) gained.held)
+      (λ tag named. run_below sizes won gained.fact tag (to tag named)) gained.held)

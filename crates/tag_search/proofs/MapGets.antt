@@ -137,7 +137,7 @@ module _ {R : Type 0} (map : Map R) (caller now : Caller R) (own : IsCallerOf ma
       let all = made.added in
       let won : WonRun sizes answer (record_of caller) (record_of now) =
       subst (λ (t : Record R). WonRun sizes answer (record_of caller) t) (sym all.known)
-      (batch_wins sizes (word_bits-le sizes narrow) (record_of caller) made.holds.search) in record {
+      (batch_wins sizes (record_of caller) made.holds.search) in record {
         gains = gains_run answer (acquires_run caller now narrow answer won
             (batch_new caller sizes refl (word_bits-le sizes narrow) made.holds.search all.finds all.finds_held)
             (λ tag was is. (all.kept tag was).1)) won all.same_map;

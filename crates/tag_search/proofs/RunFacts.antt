@@ -1,10 +1,9 @@
 -- A batch get over a shared map adds the tags that it won to its caller's held set, and keeps the rest.
-use Rattle.std.proofs.Common.{◌≡◌, ℕ, ◌+◌, ◌-◌, ◌*◌, ◌%◌, ◌^◌, ◌<◌, ◌≤◌, List, [], ◌∷◌, Option, Some, None, get_or, set}
+use Rattle.std.proofs.Common.{◌≡◌, ℕ, ◌+◌, ◌-◌, ◌*◌, ◌%◌, ◌^◌, ◌<◌, ◌≤◌, List, [], ◌∷◌, Option, Some, None}
 use Rattle.std.proofs.Common.{bit_and, count_ones, arith, refl, sym, ap, ◌∙◌, subst, ⊎_elim}
 use Rattle.std.specs.Prelude.{IfSome}
 use Rattle.std.specs.Int.{bit_at}
-use Rattle.std.specs.Int.Bits.{or_zero_r, and_zero_l}
-use Rattle.std.proofs.lemmas.List.{set-get_or}
+use Rattle.std.specs.Int.Bits.{and_zero_l}
 use Rattle.std.proofs.lemmas.Bool.{cases_lt}
 use Rattle.std.proofs.lemmas.Nat.{and_le_l, and_mod, ones_cat, pow_pos}
 use Rattle.std.proofs.lemmas.Nat.Bits.{bit_at_above}
@@ -23,9 +22,8 @@ use Rattle.tag_search.specs.Batch.{run_mask, run_won, IsSweptLook, swept_look, I
 use Rattle.tag_search.specs.Batch.{run_taken, IsBatchSearch, batch_over, batch_won, batch_passed}
 use Rattle.tag_search.specs.Gains.{held_with_run, count_of_run}
 use Rattle.tag_search.specs.Shared.{record_after_all}
-use Rattle.tag_search.specs.SharedLaws.{record_after-append}
 use Rattle.tag_search.proofs.Runs.{run_below}
-use Rattle.tag_search.proofs.SharedFacts.{Took, took_more, took_look, sweep_took, count_ones-zero}
+use Rattle.tag_search.proofs.SharedFacts.{Took, TookNone, took_more, took_none, took_look, sweep_took, took_lost, count_ones-zero}
 
 -- the bits of a run that were won, shifted back to their places, are the mask that was won
 module _ (n place found : ℕ) where
@@ -65,47 +63,15 @@ run_at i (Some won) held = joined held i (won.1 * 2 ^ won.0)
 abbrev pub IsBelow : ℕ → ℕ × ℕ → Type 0
 IsBelow depth won = (won.0 < depth) × ((k : ℕ) → bit_at won.1 k ≡ 1 → won.0 + k < depth)
 
--- the caller won this run of the word, if there is one, and nothing else, and gave none back
-record TookRun {R : Type 0} (depth i : ℕ) (answer : Option (ℕ × ℕ)) (old new : Record R) : Type 0 where
-  shape : new.shape ≡ old.shape
-  number : new.number ≡ old.number
-  held : new.held ≡ run_at i answer old.held
-  won : new.won ≡ old.won + count_of_run answer
-  back : new.back ≡ old.back
-  below : IfSome answer (IsBelow depth)
+-- the caller won this run of the word, below the depth, if there is one, and nothing else
+abbrev TookRun : {R : Type 0} → ℕ → ℕ → Option (ℕ × ℕ) → Record R → Record R → Type 0
+TookRun depth i answer old new = Took (run_at i answer) (count_of_run answer) (IfSome answer (IsBelow depth)) old new
 
-module _ {R : Type 0} (depth i : ℕ) (narrow : depth ≤ 64) where
-  -- steps that took nothing, followed by one more
-  run_after : (r s t : Record R) (answer : Option (ℕ × ℕ)) → Took depth i None r s → TookRun depth i answer s t
-      → TookRun depth i answer r t
-  run_after r s t answer a b = record {
-    shape = b.shape ∙ a.shape;
-    number = b.number ∙ a.number;
-    held = b.held ∙ ap (run_at i answer) a.held;
-    won = let x = a.won in let y = b.won in omega arith;
-    back = b.back ∙ a.back;
-    below = b.below;
-  }
-
-  run_none : (r : Record R) → TookRun depth i None r r
-  run_none r = record { shape = refl; number = refl; held = refl; won = omega arith; back = refl; below = tt }
-
+module _ {R : Type 0} (depth i : ℕ) where
   swept_took : {found : ℕ} {steps : List WordStep} (r : Record R) → IsSweptLook i found steps
-      → Took depth i None r (record_after_all steps r)
+      → TookNone r (record_after_all steps r)
   swept_took {found = found} r (swept_look {sweep = sweep} is small) =
-      took_more depth i r sweep (Look i found ∷ []) None (sweep_took depth i narrow r is)
-      (took_look depth i (record_after_all sweep r) found)
-
-  claim_lost : (n place found : ℕ) (r : Record R) → without (run_mask n place) found ≡ 0
-      → TookRun depth i None r (record_after (Word (Claimed i (run_mask n place) found)) r)
-  claim_lost n place found r none = record {
-    shape = refl;
-    number = refl;
-    held = ap (joined r.held i) none ∙ ap (set r.held i) (or_zero_r (get_or r.held i 0)) ∙ set-get_or r.held i 0;
-    won = ap (λ (x : ℕ). r.won + count_ones x) none ∙ ap (λ (x : ℕ). r.won + x) count_ones-zero;
-    back = omega arith;
-    below = tt;
-  }
+      took_more r sweep (Look i found ∷ []) (sweep_took r is) (took_look i found (record_after_all sweep r))
 
   claim_won : (n place found : ℕ) (r : Record R) → place < depth → place + n ≤ depth
       → TookRun depth i (Some (place, run_won n place found)) r
@@ -116,76 +82,45 @@ module _ {R : Type 0} (depth i : ℕ) (narrow : depth ≤ 64) where
     held = ap (joined r.held i) (sym (back n place found));
     won = ap (λ (x : ℕ). r.won + x) (as_many n place found);
     back = omega arith;
-    below = (first, λ k one. inside n place found depth k fits one);
+    fact = (first, λ k one. inside n place found depth k fits one);
   }
 
   -- a visit wins the run that it answers, and nothing else
   visit_took_run : {n : ℕ} {steps : List WordStep} {answer : Option (ℕ × ℕ)} (r : Record R)
       → IsBatchVisit i depth n steps answer → TookRun depth i answer r (record_after_all steps r)
-  visit_took_run r (no_run {steps = steps} sweep none) =
-      run_after r (record_after_all steps r) (record_after_all steps r) None (swept_took r sweep)
-      (run_none (record_after_all steps r))
-  visit_took_run {n = n} r (run_lost {found = found} {place = place} {steps = steps} next sweep run none) =
-      let s : Record R = record_after_all steps r in
-      let t : Record R = record_after (Word (Claimed i (run_mask n place) next)) s in
-      subst (λ (u : Record R). TookRun depth i None r u)
-      (sym (record_after-append steps (Claimed i (run_mask n place) next ∷ []) r))
-      (run_after r s t None (swept_took r sweep) (claim_lost n place next s none))
-  visit_took_run {n = n} r (run_taken {found = found} {place = place} {steps = steps} next sweep run some) =
-      let s : Record R = record_after_all steps r in
-      let t : Record R = record_after (Word (Claimed i (run_mask n place) next)) s in
-      subst (λ (u : Record R). TookRun depth i (Some (place, run_won n place next)) r u)
-      (sym (record_after-append steps (Claimed i (run_mask n place) next ∷ []) r))
-      (run_after r s t (Some (place, run_won n place next)) (swept_took r sweep)
-      (claim_won n place next s run.first.within run.fits))
+  visit_took_run r (no_run sweep none) = swept_took r sweep
+  visit_took_run {n = n} r (run_lost {place = place} {steps = steps} next sweep run none) =
+      took_more r steps (Claimed i (run_mask n place) next ∷ []) (swept_took r sweep)
+      (took_lost i (run_mask n place) next (record_after_all steps r) none)
+  visit_took_run {n = n} r (run_taken {place = place} {steps = steps} next sweep run some) =
+      took_more r steps (Claimed i (run_mask n place) next ∷ []) (swept_took r sweep)
+      (claim_won n place next (record_after_all steps r) run.first.within run.fits)
 
 -- as `GainsRun`, for the records alone, with tags of one word
-pub record WonRun {R : Type 0} (l : Layout) (answer : Option (ℕ × ℕ)) (old new : Record R) : Type 0 where
-  pub shape : new.shape ≡ old.shape
-  pub number : new.number ≡ old.number
-  pub held : new.held ≡ held_with_run l answer old.held
-  pub won : new.won ≡ old.won + count_of_run answer
-  pub back : new.back ≡ old.back
-  pub tags : IfSome answer (λ won. IsBelow (word_depth l (word_of l won.0)) (place_of l won.0, won.1))
+abbrev pub WonRun : {R : Type 0} → Layout → Option (ℕ × ℕ) → Record R → Record R → Type 0
+WonRun l answer old new = Took (held_with_run l answer) (count_of_run answer)
+    (IfSome answer (λ won. IsBelow (word_depth l (word_of l won.0)) (place_of l won.0, won.1))) old new
 
-module _ {R : Type 0} (l : Layout) (narrow : word_bits l ≤ 64) where
+module _ {R : Type 0} (l : Layout) where
   won_run : (i place bits : ℕ) (r s : Record R) → TookRun (word_depth l i) i (Some (place, bits)) r s
       → WonRun l (Some (tag_at l i place, bits)) r s
   won_run i place bits r s took =
-      let near : place < word_depth l i = took.below.0 in let small : place < word_bits l = omega arith in
+      let near : place < word_depth l i = took.fact.0 in let small : place < word_bits l = omega arith in
       let word = word_of-tag_at l i place small in let at = place_of-tag_at l i place small in record {
         shape = took.shape;
         number = took.number;
         held = took.held ∙ sym (λ z. joined r.held (word z) (bits * 2 ^ at z));
         won = took.won;
         back = took.back;
-        tags = subst (λ (w : ℕ). IsBelow (word_depth l w) (place_of l (tag_at l i place), bits)) (sym word)
-            (subst (λ (p : ℕ). IsBelow (word_depth l i) (p, bits)) (sym at) took.below);
+        fact = subst (λ (w : ℕ). IsBelow (word_depth l w) (place_of l (tag_at l i place), bits)) (sym word)
+            (subst (λ (p : ℕ). IsBelow (word_depth l i) (p, bits)) (sym at) took.fact);
       }
 
   -- a batch search wins the tags that it answers, and nothing else
   pub batch_wins : {n : ℕ} {is : List ℕ} {steps : List WordStep} {answer : Option (ℕ × ℕ)} (r : Record R)
       → IsBatchSearch l n is steps answer → WonRun l answer r (record_after_all steps r)
-  batch_wins r batch_over = record {
-    shape = refl;
-    number = refl;
-    held = refl;
-    won = omega arith;
-    back = refl;
-    tags = tt;
-  }
+  batch_wins r batch_over = took_none r
   batch_wins r (batch_won {i = i} {steps = steps} {place = place} {bits = bits} v) =
-      won_run i place bits r (record_after_all steps r)
-      (visit_took_run (word_depth l i) i (let z : word_depth l i ≤ 64 = omega arith in z) r v)
-  batch_wins r (batch_passed {i = i} {steps = steps} {rest = rest} {answer = answer} v search) =
-      let s : Record R = record_after_all steps r in
-      let a = visit_took_run (word_depth l i) i (let z : word_depth l i ≤ 64 = omega arith in z) r v in
-      let b = batch_wins s search in
-      subst (λ (t : Record R). WonRun l answer r t) (sym (record_after-append steps rest r)) (record {
-        shape = b.shape ∙ a.shape;
-        number = b.number ∙ a.number;
-        held = b.held ∙ ap (held_with_run l answer) a.held;
-        won = let x = a.won in let y = b.won in omega arith;
-        back = b.back ∙ a.back;
-        tags = b.tags;
-      })
+      won_run i place bits r (record_after_all steps r) (visit_took_run (word_depth l i) i r v)
+  batch_wins r (batch_passed {i = i} {steps = steps} {rest = rest} v search) =
+      took_more r steps rest (visit_took_run (word_depth l i) i r v) (batch_wins (record_after_all steps r) search)

@@ -13,8 +13,9 @@ use Rattle.tag_layout.proofs.PlaceFacts.{word_of-tag_at, place_of-tag_at, tag_at
 use Rattle.tag_core.specs.declared.record.Record.{Record}
 use Rattle.tag_core.specs.declared.step.Step.TheVariants.{Word}
 use Rattle.tag_core.specs.declared.word_step.WordStep.{WordStep}
-use Rattle.tag_core.specs.declared.word_step.WordStep.TheVariants.{Look, LookAside, Claimed, Swap, Spill}
+use Rattle.tag_core.specs.declared.word_step.WordStep.TheVariants.{Look, Claimed}
 use Rattle.tag_core.specs.Records.{record_after, joined}
+use Rattle.tag_core.specs.Steps.{without}
 use Rattle.tag_search.specs.Gains.{held_with, count_of}
 use Rattle.tag_search.specs.Search.{IsTries, none_left, wins, loses, IsPass, pass, IsSweep, unseen, empty, spilled}
 use Rattle.tag_search.specs.Search.{IsRetry, no_turn, turn_won, turn_passed, IsVisit, at_once, retried, Visit}
@@ -31,173 +32,152 @@ abbrev pub held_at : ℕ → Option ℕ → List ℕ → List ℕ
 held_at i None held = held
 held_at i (Some place) held = joined held i (2 ^ place)
 
--- the caller won this place of the word, below the bound, if there is one, and no other, and gave none back
-pub record Took {R : Type 0} (bits i : ℕ) (answer : Option ℕ) (old new : Record R) : Type 0 where
+-- the caller's held set changed so, it won so many tags and gave none back, and the fact tells which
+pub record Took {R : Type 0} (gain : List ℕ → List ℕ) (count : ℕ) (Fact : Type 0) (old new : Record R) : Type 0 where
   pub shape : new.shape ≡ old.shape
   pub number : new.number ≡ old.number
-  pub held : new.held ≡ held_at i answer old.held
-  pub won : new.won ≡ old.won + count_of answer
+  pub held : new.held ≡ gain old.held
+  pub won : new.won ≡ old.won + count
   pub back : new.back ≡ old.back
-  pub place : IfSome answer (λ place. place < bits)
+  pub fact : Fact
 
+-- the caller won nothing
+abbrev pub TookNone : {R : Type 0} → Record R → Record R → Type 0
+TookNone old new = Took (λ held. held) 0 (Unit {0}) old new
+
+-- the caller won this place of the word, below the bound, if there is one, and no other
+abbrev pub TookPlace : {R : Type 0} → ℕ → ℕ → Option ℕ → Record R → Record R → Type 0
+TookPlace bits i answer old new =
+    Took (held_at i answer) (count_of answer) (IfSome answer (λ place. place < bits)) old new
+
+-- as `Gains`, for the records alone, with a tag of the map
+abbrev pub Won : {R : Type 0} → Layout → Option ℕ → Record R → Record R → Type 0
+Won l answer old new = Took (held_with l answer) (count_of answer) (IfSome answer (λ tag. tag < l.depth)) old new
+
+-- a fact of each step of a concatenation is one of each step of both lists
 pub finds-split : (xs ys : List WordStep) → AllByRecursion FindsWord (xs ++ ys) → AllByRecursion FindsWord xs
     × AllByRecursion FindsWord ys
 finds-split [] ys h = (tt, h)
 finds-split (x ∷ xs) ys h = let rest = finds-split xs ys h.1 in ((h.0, rest.0), rest.1)
 
-module _ {R : Type 0} (bits i : ℕ) where
+module _ {R : Type 0} where
   -- steps that took nothing, followed by steps that took something
-  took_on : (r s t : Record R) (answer : Option ℕ) → Took bits i None r s → Took bits i answer s t
-      → Took bits i answer r t
-  took_on r s t answer a b = record {
+  took_on : {gain : List ℕ → List ℕ} {count : ℕ} {Fact : Type 0} (r s t : Record R) → TookNone r s
+      → Took gain count Fact s t → Took gain count Fact r t
+  took_on {gain = gain} r s t a b = record {
     shape = b.shape ∙ a.shape;
     number = b.number ∙ a.number;
-    held = b.held ∙ ap (held_at i answer) a.held;
+    held = b.held ∙ ap gain a.held;
     won = let x = a.won in let y = b.won in omega arith;
     back = b.back ∙ a.back;
-    place = b.place;
+    fact = b.fact;
   }
 
-  pub took_more : (r : Record R) (xs ys : List WordStep) (answer : Option ℕ)
-      → Took bits i None r (record_after_all xs r)
-      → Took bits i answer (record_after_all xs r) (record_after_all ys (record_after_all xs r))
-      → Took bits i answer r (record_after_all (xs ++ ys) r)
-  took_more r xs ys answer a b =
-      subst (λ (s : Record R). Took bits i answer r s) (sym (record_after-append xs ys r))
-      (took_on r (record_after_all xs r) (record_after_all ys (record_after_all xs r)) answer a b)
+  pub took_more : {gain : List ℕ → List ℕ} {count : ℕ} {Fact : Type 0} (r : Record R) (xs ys : List WordStep)
+      → TookNone r (record_after_all xs r)
+      → Took gain count Fact (record_after_all xs r) (record_after_all ys (record_after_all xs r))
+      → Took gain count Fact r (record_after_all (xs ++ ys) r)
+  took_more {gain = gain} {count = count} {Fact = Fact} r xs ys a b =
+      subst (λ (s : Record R). Took gain count Fact r s) (sym (record_after-append xs ys r))
+      (took_on r (record_after_all xs r) (record_after_all ys (record_after_all xs r)) a b)
 
-  pub took_none : (r : Record R) → Took bits i None r r
-  took_none r = record { shape = refl; number = refl; held = refl; won = omega arith; back = refl; place = tt }
+  pub took_none : (r : Record R) → TookNone r r
+  took_none r = record { shape = refl; number = refl; held = refl; won = omega arith; back = refl; fact = tt }
 
-  pub took_look : (r : Record R) (found : ℕ) → Took bits i None r (record_after (Word (Look i found)) r)
-  took_look r found = record { shape = refl; number = refl; held = refl; won = refl; back = omega arith; place = tt }
+  pub took_look : (i found : ℕ) (r : Record R) → TookNone r (record_after (Word (Look i found)) r)
+  took_look i found r = record { shape = refl; number = refl; held = refl; won = refl; back = omega arith; fact = tt }
 
-  took_aside : (r : Record R) (found : ℕ) → Took bits i None r (record_after (Word (LookAside i found)) r)
-  took_aside r found = record { shape = refl; number = refl; held = refl; won = refl; back = omega arith; place = tt }
+  pub sweep_took : {i mask : ℕ} {steps : List WordStep} (r : Record R) → IsSweep i mask steps
+      → TookNone r (record_after_all steps r)
+  sweep_took r unseen = record { shape = refl; number = refl; held = refl; won = refl; back = omega arith; fact = tt }
+  sweep_took r (empty some) =
+      record { shape = refl; number = refl; held = refl; won = omega arith; back = omega arith; fact = tt }
+  sweep_took r (spilled some has fits) =
+      record { shape = refl; number = refl; held = refl; won = omega arith; back = omega arith; fact = tt }
 
-  took_swap : (r : Record R) (found : ℕ) → Took bits i None r (record_after (Word (Swap i found)) r)
-  took_swap r found = record { shape = refl; number = refl; held = refl; won = refl; back = omega arith; place = tt }
-
-  took_spill : (r : Record R) (mask found : ℕ) → Took bits i None r (record_after (Word (Spill i mask found)) r)
-  took_spill r mask found = record {
+  -- a claim that won nothing
+  pub took_lost : (i mask found : ℕ) (r : Record R) → without mask found ≡ 0
+      → TookNone r (record_after (Word (Claimed i mask found)) r)
+  took_lost i mask found r none = record {
     shape = refl;
     number = refl;
-    held = refl;
-    won = refl;
+    held = ap (joined r.held i) none ∙ ap (set r.held i) (or_zero_r (get_or r.held i 0)) ∙ set-get_or r.held i 0;
+    won = ap (λ (x : ℕ). r.won + count_ones x) none ∙ ap (λ (x : ℕ). r.won + x) count_ones-zero;
     back = omega arith;
-    place = tt;
+    fact = tt;
   }
 
-  -- a claim of a place that was taken
-  took_lost : (r : Record R) (place found : ℕ) → place < 64 → found < 2 ^ 64 → bit_at found place ≡ 1
-      → Took bits i None r (record_after (Word (Claimed i (2 ^ place) found)) r)
-  took_lost r place found h fits one =
-      let none = none_where_taken found place fits h one in record {
-        shape = refl;
-        number = refl;
-        held = ap (joined r.held i) none ∙ ap (set r.held i) (or_zero_r (get_or r.held i 0)) ∙ set-get_or r.held i 0;
-        won = ap (λ (x : ℕ). r.won + count_ones x) none ∙ ap (λ (x : ℕ). r.won + x) count_ones-zero;
-        back = omega arith;
-        place = tt;
-      }
-
   -- a claim of a place that was clear
-  took_won : (r : Record R) (place found : ℕ) → place < 64 → place < bits → found < 2 ^ 64 → bit_at found place ≡ 0
-      → Took bits i (Some place) r (record_after (Word (Claimed i (2 ^ place) found)) r)
-  took_won r place found h below fits clear =
-      let all = won_where_clear found place fits h clear in record {
-        shape = refl;
-        number = refl;
-        held = ap (joined r.held i) all;
-        won = ap (λ (x : ℕ). r.won + count_ones x) all ∙ ap (λ (x : ℕ). r.won + x) (count_ones-pow place);
-        back = omega arith;
-        place = below;
-      }
+  took_won : (bits i place found : ℕ) (r : Record R) → place < 64 → place < bits → found < 2 ^ 64
+      → bit_at found place ≡ 0 → TookPlace bits i (Some place) r (record_after (Word (Claimed i (2 ^ place) found)) r)
+  took_won bits i place found r h below fits clear = let all = won_where_clear found place fits h clear in record {
+    shape = refl;
+    number = refl;
+    held = ap (joined r.held i) all;
+    won = ap (λ (x : ℕ). r.won + count_ones x) all ∙ ap (λ (x : ℕ). r.won + x) (count_ones-pow place);
+    back = omega arith;
+    fact = below;
+  }
 
 module _ {R : Type 0} (bits i : ℕ) (narrow : bits ≤ 64) where
   tries_took : {rank : List ℕ} {found : ℕ} {steps : List WordStep} {answer : Option ℕ} (r : Record R)
       → IsTries i rank found steps answer
       → AllByRecursion FindsWord steps → All (λ place. place < bits) rank
-      → Took bits i answer r (record_after_all steps r)
-  tries_took r (none_left taken) finds small = took_none bits i r
+      → TookPlace bits i answer r (record_after_all steps r)
+  tries_took r (none_left taken) finds small = took_none r
   tries_took r (wins {rank = rank} {behind = behind} {found = found} {next = next} {place = place} first clear) finds
       small =
       let at = all_left (λ place. place < bits) found rank behind place first small in
       let below : place < bits = at.0 in
-      took_won bits i r place next (omega arith) below finds.0 clear
-  tries_took r (loses {rank = rank} {behind = behind} {found = found} {next = next} {place = place} {rest = rest}
-      {answer = answer} first taken more) finds small =
+      took_won bits i place next r (omega arith) below finds.0 clear
+  tries_took r (loses {rank = rank} {behind = behind} {found = found} {next = next} {place = place} {rest = rest} first
+      taken more) finds small =
       let at = all_left (λ place. place < bits) found rank behind place first small in
       let below : place < bits = at.0 in
       let s : Record R = record_after (Word (Claimed i (2 ^ place) next)) r in
-      took_on bits i r s (record_after_all rest s) answer (took_lost bits i r place next (omega arith) finds.0 taken)
+      took_on r s (record_after_all rest s)
+      (took_lost i (2 ^ place) next r (none_where_taken next place finds.0 (omega arith) taken))
       (tries_took s more finds.1 at.1)
 
   pass_took : {rank : List ℕ} {steps : List WordStep} {answer : Option ℕ} (r : Record R) → IsPass i rank steps answer
       → AllByRecursion FindsWord steps → All (λ place. place < bits) rank
-      → Took bits i answer r (record_after_all steps r)
-  pass_took r (pass {found = found} {tries = tries} {answer = answer} more) finds small =
+      → TookPlace bits i answer r (record_after_all steps r)
+  pass_took r (pass {found = found} {tries = tries} more) finds small =
       let s : Record R = record_after (Word (Look i found)) r in
-      took_on bits i r s (record_after_all tries s) answer (took_look bits i r found) (tries_took s more finds.1 small)
-
-  pub sweep_took : {mask : ℕ} {steps : List WordStep} (r : Record R) → IsSweep i mask steps
-      → Took bits i None r (record_after_all steps r)
-  sweep_took r unseen = took_aside bits i r 0
-  sweep_took r (empty {seen = seen} some) =
-      let q : Record R = record_after (Word (LookAside i seen)) r in
-      took_on bits i r q (record_after (Word (Swap i 0)) q) None (took_aside bits i r seen) (took_swap bits i q 0)
-  sweep_took r (spilled {seen = seen} {mask = mask} {found = found} some has fits) =
-      let q : Record R = record_after (Word (LookAside i seen)) r in
-      let s : Record R = record_after (Word (Swap i mask)) q in
-      let t : Record R = record_after (Word (Spill i mask found)) s in
-      took_on bits i r q t None (took_aside bits i r seen)
-      (took_on bits i q s t None (took_swap bits i q mask) (took_spill bits i s mask found))
+      took_on r s (record_after_all tries s) (took_look i found r) (tries_took s more finds.1 small)
 
   turn_took : {mask : ℕ} {rank : List ℕ} {first second : List WordStep} {answer : Option ℕ} (r : Record R)
       → IsSweep i mask first → IsPass i rank second answer
       → AllByRecursion FindsWord (first ++ second) → All (λ place. place < bits) rank
-      → Took bits i answer r (record_after_all (first ++ second) r)
-  turn_took {first = first} {second = second} {answer = answer} r sweep again finds small =
-      took_more bits i r first second answer (sweep_took r sweep)
+      → TookPlace bits i answer r (record_after_all (first ++ second) r)
+  turn_took {first = first} {second = second} r sweep again finds small =
+      took_more r first second (sweep_took r sweep)
       (pass_took (record_after_all first r) again (finds-split first second finds).1 small)
 
   retry_took : {rank : List ℕ} {turns : ℕ} {steps : List WordStep} {answer : Option ℕ} (r : Record R)
       → IsRetry i rank turns steps answer → AllByRecursion FindsWord steps → All (λ place. place < bits) rank
-      → Took bits i answer r (record_after_all steps r)
-  retry_took r no_turn finds small = took_none bits i r
+      → TookPlace bits i answer r (record_after_all steps r)
+  retry_took r no_turn finds small = took_none r
   retry_took r (turn_won sweep again) finds small = turn_took r sweep again finds small
-  retry_took r (turn_passed {sweep = first} {second = second} {rest = rest} {answer = answer} sweep again more) finds
-      small =
+  retry_took r (turn_passed {sweep = first} {second = second} {rest = rest} sweep again more) finds small =
       let split = finds-split (first ++ second) rest finds in
-      took_more bits i r (first ++ second) rest answer (turn_took r sweep again split.0 small)
+      took_more r (first ++ second) rest (turn_took r sweep again split.0 small)
       (retry_took (record_after_all (first ++ second) r) more split.1 small)
 
   -- a visit wins the place that it answers, and nothing else
   visit_took : {rank : List ℕ} {turns : ℕ} {steps : List WordStep} {answer : Option ℕ} (r : Record R)
       → IsVisit i rank turns steps answer → AllByRecursion FindsWord steps → All (λ place. place < bits) rank
-      → Took bits i answer r (record_after_all steps r)
+      → TookPlace bits i answer r (record_after_all steps r)
   visit_took r (at_once once) finds small = pass_took r once finds small
-  visit_took r (retried {first = first} {rest = rest} {answer = answer} some once again) finds small =
+  visit_took r (retried {first = first} {rest = rest} some once again) finds small =
       let split = finds-split first rest finds in
-      took_more bits i r first rest answer (pass_took r once split.0 small)
+      took_more r first rest (pass_took r once split.0 small)
       (retry_took (record_after_all first r) again split.1 small)
 
--- as `Gains`, for the records alone, with a tag of the map
-pub record Won {R : Type 0} (l : Layout) (answer : Option ℕ) (old new : Record R) : Type 0 where
-  pub shape : new.shape ≡ old.shape
-  pub number : new.number ≡ old.number
-  pub held : new.held ≡ held_with l answer old.held
-  pub won : new.won ≡ old.won + count_of answer
-  pub back : new.back ≡ old.back
-  pub tag : IfSome answer (λ tag. tag < l.depth)
-
 module _ {R : Type 0} (l : Layout) (narrow : word_bits l ≤ 64) where
-  won_none : (r : Record R) → Won l None r r
-  won_none r = record { shape = refl; number = refl; held = refl; won = omega arith; back = refl; tag = tt }
-
-  won_tag : (i place : ℕ) (r s : Record R) → Took (word_depth l i) i (Some place) r s
+  won_tag : (i place : ℕ) (r s : Record R) → TookPlace (word_depth l i) i (Some place) r s
       → Won l (Some (tag_at l i place)) r s
-  won_tag i place r s took = let near : place < word_depth l i = took.place in
+  won_tag i place r s took = let near : place < word_depth l i = took.fact in
       let small : place < word_bits l = omega arith in record {
         shape = took.shape;
         number = took.number;
@@ -205,23 +185,12 @@ module _ {R : Type 0} (l : Layout) (narrow : word_bits l ≤ 64) where
             (2 ^ place_of-tag_at l i place small z));
         won = took.won;
         back = took.back;
-        tag = tag_at-below l i place near;
+        fact = tag_at-below l i place near;
       }
-
-  won_on : (i : ℕ) (r s t : Record R) (answer : Option ℕ) → Took (word_depth l i) i None r s → Won l answer s t
-      → Won l answer r t
-  won_on i r s t answer a b = record {
-    shape = b.shape ∙ a.shape;
-    number = b.number ∙ a.number;
-    held = b.held ∙ ap (held_with l answer) a.held;
-    won = let x = a.won in let y = b.won in omega arith;
-    back = b.back ∙ a.back;
-    tag = b.tag;
-  }
 
   pub visit_wins : (visit : Visit) {steps : List WordStep} {answer : Option ℕ} (r : Record R)
       → IsVisit visit.word visit.rank visit.turns steps answer
-      → AllByRecursion FindsWord steps → IsInside l visit → Took (word_depth l visit.word) visit.word answer r
+      → AllByRecursion FindsWord steps → IsInside l visit → TookPlace (word_depth l visit.word) visit.word answer r
       (record_after_all steps r)
   visit_wins visit r v finds inside = visit_took (word_depth l visit.word) visit.word
       (let z : word_depth l visit.word ≤ 64 = omega arith in z) r v finds inside
@@ -230,14 +199,11 @@ module _ {R : Type 0} (l : Layout) (narrow : word_bits l ≤ 64) where
   pub search_wins : {vs : List Visit} {steps : List WordStep} {answer : Option ℕ} (r : Record R)
       → IsSearch l vs steps answer
       → AllByRecursion FindsWord steps → All (IsInside l) vs → Won l answer r (record_after_all steps r)
-  search_wins r over finds inside = won_none r
+  search_wins r over finds inside = took_none r
   search_wins r (won {visit = visit} {visits = more} {steps = steps} {place = place} v) finds inside =
       won_tag visit.word place r (record_after_all steps r)
       (visit_wins visit r v finds (All-head (IsInside l) visit more inside))
-  search_wins r (passed {visit = visit} {visits = more} {steps = steps} {rest = rest} {answer = answer} v search) finds
-      inside =
-      let split = finds-split steps rest finds in let s : Record R = record_after_all steps r in
-      subst (λ (t : Record R). Won l answer r t) (sym (record_after-append steps rest r))
-      (won_on visit.word r s (record_after_all rest s) answer
-      (visit_wins visit r v split.0 (All-head (IsInside l) visit more inside))
-      (search_wins s search split.1 (All-tail (IsInside l) visit more inside)))
+  search_wins r (passed {visit = visit} {visits = more} {steps = steps} {rest = rest} v search) finds inside =
+      let split = finds-split steps rest finds in
+      took_more r steps rest (visit_wins visit r v split.0 (All-head (IsInside l) visit more inside))
+      (search_wins (record_after_all steps r) search split.1 (All-tail (IsInside l) visit more inside))
