@@ -3,11 +3,11 @@ use Rattle.std.proofs.Common.{◌≡◌, ℕ, zero, suc, ◌+◌, ◌*◌, ◌/�
 use Rattle.std.proofs.Common.{◌++◌, length, Option, Some, None, arith, refl, sym, ap, ◌∙◌, subst}
 use mathlib.Core.Logic.{dite}
 use native.Mathlib.Decide.{dec_lt}
-use Rattle.std.proofs.lemmas.List.{append_assoc, append-nil, length-append}
+use Rattle.std.proofs.lemmas.List.{append_assoc, length-append}
 use Rattle.tag_core.specs.declared.word_step.WordStep.{WordStep}
 use Rattle.tag_core.specs.declared.word_step.WordStep.TheVariants.{Look, Claimed}
 use Rattle.tag_layout.specs.Bits.{AllSet, IsFirstClear}
-use Rattle.tag_layout.specs.Layout.{Layout, words, word_of, word_depth, tag_at}
+use Rattle.tag_layout.specs.Layout.{Layout, words, word_of, tag_at}
 use Rattle.tag_layout.proofs.PlaceFacts.{word_bits-le, word_of-below}
 use Rattle.std.proofs.lemmas.Nat.{mod_below, pow_pos}
 use Rattle.tag_search.specs.Hints.{reduced}
@@ -29,24 +29,6 @@ pub same_first_clear : (found depth a b : ℕ) → IsFirstClear found 0 depth a 
 same_first_clear found depth a b x y = dite (dec_lt b a)
     (λ (less : b < a). absurd (let t = x.first b (omega arith) less in let f = y.clear in omega arith))
     (λ (no : b < a → ⊥). omega arith)
-
--- these steps, followed by a search of the words left, are a search of all words
-abbrev pub IsBatchBegun : Layout → ℕ → List ℕ → List ℕ → List WordStep → Type 0
-IsBatchBegun l n all left steps = (rest : List WordStep) (answer : Option (ℕ × ℕ)) → IsBatchSearch l n left rest answer
-    → IsBatchSearch l n all (steps ++ rest) answer
-
-pub batch_further : (l : Layout) (n : ℕ) (all behind : List ℕ) (i : ℕ) (steps more : List WordStep)
-    → IsBatchBegun l n all (i ∷ behind) steps
-    → IsBatchVisit i (word_depth l i) n more None → IsBatchBegun l n all behind (steps ++ more)
-batch_further l n all behind i steps more begun none rest answer search =
-    subst (λ xs. IsBatchSearch l n all xs answer) (sym (append_assoc steps more rest))
-    (begun (more ++ rest) answer (batch_passed none search))
-
-pub batch_ends : (l : Layout) (n : ℕ) (all left : List ℕ) (steps : List WordStep) → left ≡ []
-    → IsBatchBegun l n all left steps → IsBatchSearch l n all steps None
-batch_ends l n all left steps e begun =
-    subst (λ xs. IsBatchSearch l n all xs None) (append-nil steps)
-    (begun [] None (subst (λ is. IsBatchSearch l n is [] None) (sym e) batch_over))
 
 -- a search that has an answer visits no further words
 pub batch_stops : (l : Layout) (n : ℕ) {is : List ℕ} {steps : List WordStep} (won : ℕ × ℕ) (answer : Option (ℕ × ℕ))

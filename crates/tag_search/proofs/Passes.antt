@@ -1,28 +1,12 @@
--- The state in the middle of a pass.
-use Rattle.std.proofs.Common.{◌≡◌, ℕ, suc, ◌+◌, ◌^◌, ◌<◌, List, [], ◌∷◌, ◌++◌, length, Option, None, arith, sym, ap, ◌∙◌}
+-- What is left of a pass after the first clear place of its rank.
+use Rattle.std.proofs.Common.{◌≡◌, ℕ, suc, ◌+◌, ◌<◌, List, [], ◌∷◌, ◌++◌, length, Option, None, arith, sym, ap, ◌∙◌}
 use Rattle.std.proofs.Common.{subst}
 use Rattle.std.specs.Prelude.{All}
-use Rattle.std.specs.Int.{bit_at}
-use Rattle.std.proofs.lemmas.List.{append_assoc, length-append}
+use Rattle.std.proofs.lemmas.List.{length-append}
 use Rattle.std.proofs.lemmas.List.Elements.{All-head, All-tail}
 use Rattle.tag_core.specs.declared.word_step.WordStep.{WordStep}
-use Rattle.tag_core.specs.declared.word_step.WordStep.TheVariants.{Look, Claimed}
-use Rattle.tag_search.specs.Search.{AllTaken, IsFirstInRank, IsTries, none_left, loses, IsPass, pass}
-
--- these steps, followed by tries of the places left, are tries of the rank
-abbrev pub AreTriesBegun : ℕ → List ℕ → List ℕ → ℕ → ℕ → List WordStep → Type 0
-AreTriesBegun i rank left first found steps = (tries : List WordStep) (answer : Option ℕ)
-    → IsTries i left found tries answer
-    → IsTries i rank first (steps ++ tries) answer
-
--- after a lost claim the tries go on with the places after it
-pub begun_further : (i : ℕ) (rank left behind : List ℕ) (first found next place : ℕ) (steps : List WordStep)
-    → AreTriesBegun i rank left first found steps
-    → IsFirstInRank found left place behind → bit_at next place ≡ 1
-    → AreTriesBegun i rank behind first next (steps ++ Claimed i (2 ^ place) next ∷ [])
-begun_further i rank left behind first found next place steps begun is taken tries answer rest =
-    subst (λ xs. IsTries i rank first xs answer) (sym (append_assoc steps (Claimed i (2 ^ place) next ∷ []) tries))
-    (begun (Claimed i (2 ^ place) next ∷ tries) answer (loses is taken rest))
+use Rattle.tag_core.specs.declared.word_step.WordStep.TheVariants.{Look}
+use Rattle.tag_search.specs.Search.{AllTaken, IsFirstInRank, none_left, IsPass, pass}
 
 -- a fact of each element holds of one in the middle, and of those after it
 pub all_behind : {X : Type 0} (P : X → Type 0) (xs : List X) (y : X) (ys : List X) → All P (xs ++ y ∷ ys) → P y

@@ -1,59 +1,51 @@
 -- Each visit that wins nothing adds its steps, and the search goes on with the words after it.
-use Rattle.std.proofs.Common.{ℕ, ◌+◌, ◌∷◌, ◌++◌, Option, Some, None, sym, ◌∙◌, subst}
+use Rattle.std.proofs.Common.{ℕ, ◌+◌, List, [], ◌∷◌, Option, Some, None, sym, ◌∙◌, subst}
 use Rattle.tag_layout.specs.Layout.{word_depth, tag_at}
+use Rattle.tag_search.specs.Added.{AddsSteps}
 use Rattle.tag_search.specs.Order.{numbers}
-use Rattle.tag_search.specs.Batch.{IsBatchVisit, IsBatchSearch, batch_won}
-use Rattle.tag_search.proofs.Batches.{IsBatchBegun, batch_further, batch_ends}
-use Rattle.tag_search.proofs.Joined.{same_room_joined}
+use Rattle.tag_search.specs.Batch.{IsBatchVisit, IsBatchSearch, batch_over, batch_won, batch_passed}
+use Rattle.tag_search.proofs.Joined.{Begins, adds_weaker, adds_over, adds_further, adds_ended, same_room_joined}
 use Rattle.tag_search.proofs.Orders.{numbers-none, numbers-cons}
 use Rattle.tag_search.proofs.batch.runs_between.Goals as goal
 
 pub loop-word-preserved : goal.loop-word-preserved
 loop-word-preserved g c =
     let l = c.args.layout in let n = c.args.n in let word = c.loop-word.word in
-    let begun = c.loop-word.invariant.begun in
-    let visit = c.visit_for_run.ensures.visit in let all = numbers c.args.from c.args.end in
-    let none : IsBatchVisit word (word_depth l word) n visit.steps None =
-    subst (λ answer. IsBatchVisit word (word_depth l word) n visit.steps answer) c.in_default.is visit.holds in
+    let behind : List ℕ = numbers (word + 1) c.args.end in let whole : List ℕ = numbers c.args.from c.args.end in
+    let begun = subst (λ (is : List ℕ). AddsSteps (λ p xs q. g.P.Port.adds p xs q) c.args.port.now c.loop-word.port
+    (Begins (IsBatchSearch l n is) (IsBatchSearch l n whole))) (numbers-cons word c.args.end c.loop-word-test.true)
+    c.loop-word.invariant.begun in
     record {
       port = c.visit_for_run.ensures.port;
       sizes = c.visit_for_run.ensures.sizes ∙ c.loop-word.invariant.sizes;
       room = same_room_joined (λ p n. g.P.Port.has_room p n) c.args.port.now c.loop-word.port c.visit_for_run.new.port
           c.loop-word.invariant.room c.in_default.ensures.room;
-      begun = record {
-        steps = begun.steps ++ visit.steps;
-        added = g.met.P.Port.adds_more c.args.port.now c.loop-word.port c.visit_for_run.new.port begun.steps visit.steps
-            begun.added visit.added;
-        holds = batch_further l n all (numbers (word + 1) c.args.end) word begun.steps visit.steps
-            (subst (λ is. IsBatchBegun l n all is begun.steps) (numbers-cons word c.args.end c.loop-word-test.true)
-            begun.holds) none;
-      };
+      begun = adds_further (λ p xs q. g.P.Port.adds p xs q) g.met.P.Port.adds_more c.args.port.now c.loop-word.port
+          c.visit_for_run.new.port (IsBatchSearch l n behind) (IsBatchSearch l n (word ∷ behind))
+          (IsBatchSearch l n whole) begun
+          (adds_weaker (λ p xs q. g.P.Port.adds p xs q) c.loop-word.port c.visit_for_run.new.port
+          (λ xs. IsBatchVisit word (word_depth l word) n xs None) _ (λ xs is rest answer. batch_passed is)
+          (rw c.in_default.is at c.visit_for_run.ensures.visit));
     }
 
 pub returns-clause-search : goal.returns-clause-search
 returns-clause-search g c =
-    let begun = c.loop-word.invariant.begun in
-    record {
-      steps = begun.steps;
-      added = begun.added;
-      holds = batch_ends c.args.layout c.args.n (numbers c.args.from c.args.end) (numbers c.loop-word.word c.args.end)
-          begun.steps
-          (numbers-none c.loop-word.word c.args.end c.loop-word-test.false) begun.holds;
-    }
+    let l = c.args.layout in let n = c.args.n in let left : List ℕ = numbers c.loop-word.word c.args.end in
+    let none = numbers-none c.loop-word.word c.args.end c.loop-word-test.false in
+    adds_over (λ p xs q. g.P.Port.adds p xs q) c.args.port.now c.loop-word.port (IsBatchSearch l n left)
+    (IsBatchSearch l n (numbers c.args.from c.args.end)) None
+    (subst (λ (is : List ℕ). IsBatchSearch l n is [] None) (sym none) batch_over) c.loop-word.invariant.begun
 
 pub returns-in-Some-clause-search : goal.returns-in-Some-clause-search
 returns-in-Some-clause-search g c =
     let l = c.args.layout in let n = c.args.n in let word = c.loop-word.word in
-    let begun = c.loop-word.invariant.begun in
-    let visit = c.in-Some.ensures.visit in let all = numbers c.args.from c.args.end in let bits = c.in-Some.bits in
-    let won : Option (ℕ × ℕ) = Some (tag_at l word c.in-Some.place, bits) in
-    let last : IsBatchSearch l n (word ∷ numbers (word + 1) c.args.end) visit.steps won = batch_won visit.holds in
-    record {
-      steps = begun.steps ++ visit.steps;
-      added = g.met.P.Port.adds_more c.args.port.now c.loop-word.port c.visit_for_run.new.port begun.steps visit.steps
-          begun.added visit.added;
-      holds = subst (λ (tag : ℕ). IsBatchSearch l n all (begun.steps ++ visit.steps) (Some (tag, bits)))
-          (sym c.tag_at.ensures.value)
-          (begun.holds visit.steps won (subst (λ is. IsBatchSearch l n is visit.steps won)
-          (sym (numbers-cons word c.args.end c.loop-word-test.true)) last));
-    }
+    let behind : List ℕ = numbers (word + 1) c.args.end in let whole : List ℕ = numbers c.args.from c.args.end in
+    let won : Option (ℕ × ℕ) = Some (tag_at l word c.in-Some.place, c.in-Some.bits) in
+    let begun = subst (λ (is : List ℕ). AddsSteps (λ p xs q. g.P.Port.adds p xs q) c.args.port.now c.loop-word.port
+    (Begins (IsBatchSearch l n is) (IsBatchSearch l n whole))) (numbers-cons word c.args.end c.loop-word-test.true)
+    c.loop-word.invariant.begun in
+    rw c.tag_at.ensures.value (adds_ended (λ p xs q. g.P.Port.adds p xs q) g.met.P.Port.adds_more c.args.port.now
+    c.loop-word.port c.visit_for_run.new.port (IsBatchSearch l n (word ∷ behind)) (IsBatchSearch l n whole) won begun
+    (adds_weaker (λ p xs q. g.P.Port.adds p xs q) c.loop-word.port c.visit_for_run.new.port
+    (λ xs. IsBatchVisit word (word_depth l word) n xs (Some (c.in-Some.place, c.in-Some.bits)))
+    (λ xs. IsBatchSearch l n (word ∷ behind) xs won) (λ xs is. batch_won is) c.in-Some.ensures.visit))

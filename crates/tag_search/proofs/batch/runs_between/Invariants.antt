@@ -2,7 +2,8 @@
 use Rattle.std.proofs.Common.{◌≡◌}
 use Rattle.tag_search.specs.Added.{AddsSteps, SameRoom}
 use Rattle.tag_search.specs.Order.{numbers}
-use Rattle.tag_search.proofs.Batches.{IsBatchBegun}
+use Rattle.tag_search.specs.Batch.{IsBatchSearch}
+use Rattle.tag_search.proofs.Joined.{Begins}
 use Rattle.tag_search.proofs.batch.runs_between.Given as goal
 
 abbrev pub invariant-loop-word : goal.invariant-loop-word
@@ -11,5 +12,6 @@ invariant-loop-word g l = record {
   sizes : g.P.Port.sizes l.port ≡ g.P.Port.sizes l.fn.port;
   room : SameRoom (λ p n. g.P.Port.has_room p n) l.fn.port l.port;
   begun : AddsSteps (λ p steps q. g.P.Port.adds p steps q) l.fn.port l.port
-      (IsBatchBegun l.layout l.n (numbers l.fn.from l.end) (numbers l.word l.end));
+      (Begins (IsBatchSearch l.layout l.n (numbers l.word l.end))
+      (IsBatchSearch l.layout l.n (numbers l.fn.from l.end)));
 }

@@ -1,14 +1,12 @@
 -- Each lost claim adds its step, and the tries go on behind it.
-use Rattle.std.proofs.Common.{◌^◌, ◌<◌, List, [], ◌∷◌, ◌++◌, Some, None, refl, ◌∙◌, subst}
-use Rattle.std.proofs.lemmas.List.{append-nil}
-use Rattle.tag_core.specs.declared.word_step.WordStep.{WordStep}
+use Rattle.std.proofs.Common.{◌^◌, ◌<◌, [], ◌∷◌, ◌++◌, Some, None, refl, ◌∙◌}
 use Rattle.tag_core.specs.declared.word_step.WordStep.TheVariants.{Claimed}
 use Rattle.tag_layout.specs.Layout.{word_depth}
-use Rattle.tag_search.specs.Search.{IsTries, none_left, wins}
+use Rattle.tag_search.specs.Search.{IsTries, none_left, wins, loses}
 use Rattle.tag_search.specs.Order.{numbers}
 use Rattle.tag_search.specs.Places.{places_of}
-use Rattle.tag_search.proofs.Joined.{same_room_joined}
-use Rattle.tag_search.proofs.Passes.{begun_further, all_left}
+use Rattle.tag_search.proofs.Joined.{adds_over, adds_further, adds_ended, same_room_joined}
+use Rattle.tag_search.proofs.Passes.{all_left}
 use Rattle.tag_search.proofs.pass.pass_on.Goals as goal
 
 pub loop-place-init : goal.loop-place-init
@@ -39,19 +37,20 @@ returns-in-Ok-clause-place g c =
 
 pub returns-in-Ok-clause-tries : goal.returns-in-Ok-clause-tries
 returns-in-Ok-clause-tries g c =
-    let claim = c.in-Ok.ensures.won in let begun = c.loop-place.invariant.begun in
-    let step = Claimed c.args.word (2 ^ c.in-Some.place) claim.0 in
-    record {
-      steps = begun.steps ++ step ∷ [];
-      added = g.met.P.Port.adds_more c.args.port.now c.loop-place.port c.claim_place.new.port begun.steps
-          (step ∷ []) begun.added claim.2;
-      holds = begun.holds (step ∷ []) (Some c.in-Some.place) (wins c.in-Some.ensures.next claim.1);
-    }
+    let claim = c.in-Ok.ensures.won in let place = c.in-Some.place in
+    adds_ended (λ p xs q. g.P.Port.adds p xs q) g.met.P.Port.adds_more c.args.port.now c.loop-place.port
+    c.claim_place.new.port (IsTries c.args.word (places_of c.loop-place.left) c.loop-place.found)
+    (IsTries c.args.word (numbers c.args.from c.args.limit ++ numbers 0 c.args.then) c.args.lost) (Some place)
+    c.loop-place.invariant.begun (record {
+      steps = Claimed c.args.word (2 ^ place) claim.0 ∷ [];
+      added = claim.2;
+      holds = wins c.in-Some.ensures.next claim.1;
+    })
 
 pub loop-place-preserved : goal.loop-place-preserved
 loop-place-preserved g c =
-    let claim = c.in-Err.ensures.lost in let begun = c.loop-place.invariant.begun in
-    let step = Claimed c.args.word (2 ^ c.in-Some.place) c.in-Err.next in
+    let claim = c.in-Err.ensures.lost in let i = c.args.word in let all = numbers c.args.from c.args.limit
+    ++ numbers 0 c.args.then in
     record {
       port = c.in-Err.ensures.port;
       sizes = c.in-Err.ensures.sizes ∙ c.loop-place.invariant.sizes;
@@ -59,22 +58,19 @@ loop-place-preserved g c =
           c.loop-place.invariant.room claim.1;
       places = (all_left (λ place. place < word_depth (g.P.Port.sizes c.args.port.now) c.args.word) c.loop-place.found _
           _ c.in-Some.place c.in-Some.ensures.next c.loop-place.invariant.places).1;
-      begun = record {
-        steps = begun.steps ++ step ∷ [];
-        added = g.met.P.Port.adds_more c.args.port.now c.loop-place.port c.claim_place.new.port begun.steps
-            (step ∷ []) begun.added claim.2;
-        holds = begun_further c.args.word (numbers c.args.from c.args.limit ++ numbers 0 c.args.then) (places_of c.loop-place.left)
-            (places_of c.next.new.self) c.args.lost c.loop-place.found c.in-Err.next c.in-Some.place begun.steps
-            begun.holds c.in-Some.ensures.next claim.0;
-      };
+      begun = adds_further (λ p xs q. g.P.Port.adds p xs q) g.met.P.Port.adds_more c.args.port.now c.loop-place.port
+          c.claim_place.new.port (IsTries i (places_of c.next.new.self) c.in-Err.next)
+          (IsTries i (places_of c.loop-place.left) c.loop-place.found) (IsTries i all c.args.lost)
+          c.loop-place.invariant.begun (record {
+            steps = Claimed i (2 ^ c.in-Some.place) c.in-Err.next ∷ [];
+            added = claim.2;
+            holds = λ rest answer. loses c.in-Some.ensures.next claim.0;
+          });
     }
 
 pub returns-clause-tries : goal.returns-clause-tries
 returns-clause-tries g c =
-    let begun = c.loop-place.invariant.begun in
-    record {
-      steps = begun.steps;
-      added = begun.added;
-      holds = subst (λ (xs : List WordStep). IsTries c.args.word (numbers c.args.from c.args.limit ++ numbers 0 c.args.then) c.args.lost xs None)
-          (append-nil begun.steps) (begun.holds [] None (none_left c.in_default.ensures.next));
-    }
+    adds_over (λ p xs q. g.P.Port.adds p xs q) c.args.port.now c.loop-place.port
+    (IsTries c.args.word (places_of c.loop-place.left) c.loop-place.found)
+    (IsTries c.args.word (numbers c.args.from c.args.limit ++ numbers 0 c.args.then) c.args.lost) None
+    (none_left c.in_default.ensures.next) c.loop-place.invariant.begun

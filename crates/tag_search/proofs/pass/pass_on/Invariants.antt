@@ -5,7 +5,8 @@ use Rattle.tag_layout.specs.Layout.{word_depth}
 use Rattle.tag_search.specs.Added.{AddsSteps, SameRoom}
 use Rattle.tag_search.specs.Order.{numbers}
 use Rattle.tag_search.specs.Places.{places_of}
-use Rattle.tag_search.proofs.Passes.{AreTriesBegun}
+use Rattle.tag_search.specs.Search.{IsTries}
+use Rattle.tag_search.proofs.Joined.{Begins}
 use Rattle.tag_search.proofs.pass.pass_on.Given as goal
 
 abbrev pub invariant-loop-place : goal.invariant-loop-place
@@ -15,7 +16,8 @@ invariant-loop-place g l = record {
   room : SameRoom (λ p n. g.P.Port.has_room p n) l.fn.port l.port;
   places : All (λ place. place < word_depth (g.P.Port.sizes l.fn.port) l.word) (places_of l.left);
   begun : AddsSteps (λ p steps q. g.P.Port.adds p steps q) l.fn.port l.port
-      (AreTriesBegun l.word (numbers l.fn.from l.fn.limit ++ numbers 0 l.fn.then) (places_of l.left) l.fn.lost l.found);
+      (Begins (IsTries l.word (places_of l.left) l.found)
+      (IsTries l.word (numbers l.fn.from l.fn.limit ++ numbers 0 l.fn.then) l.fn.lost));
 }
 
 abbrev pub decreases-loop-place : goal.decreases-loop-place

@@ -13,7 +13,7 @@ returns-in-Some-clause-retry g c =
     let e : turns - turn ≡ suc (turns - (turn + 1)) = omega arith in
     turn_ends (λ p xs q. g.P.Port.adds p xs q) g.met.P.Port.adds_more c.args.word (places_of c.args.rank)
     c.args.turns c.sweep.result c.args.port.now c.loop.port c.sweep.new.self c.pass.new.port (turns - turn)
-    (turns - (turn + 1)) c.in-Some.place e c.loop.invariant.begun
+    (turns - (turn + 1)) e c.in-Some.place c.loop.invariant.begun
     c.sweep.ensures.steps c.in-Some.ensures.pass
 
 pub loop-preserved : goal.loop-preserved

@@ -2,7 +2,8 @@
 use Rattle.std.proofs.Common.{◌≡◌, ◌-◌}
 use Rattle.tag_search.specs.Added.{AddsSteps, SameRoom}
 use Rattle.tag_search.specs.Places.{places_of}
-use Rattle.tag_search.proofs.Turns.{AreTurnsBegun}
+use Rattle.tag_search.specs.Search.{IsRetry}
+use Rattle.tag_search.proofs.Joined.{Begins}
 use Rattle.tag_search.proofs.pass.retry.Given as goal
 
 abbrev pub invariant-loop : goal.invariant-loop
@@ -11,5 +12,5 @@ invariant-loop g l = record {
   sizes : g.P.Port.sizes l.port ≡ g.P.Port.sizes l.fn.port;
   room : SameRoom (λ p n. g.P.Port.has_room p n) l.fn.port l.port;
   begun : AddsSteps (λ p steps q. g.P.Port.adds p steps q) l.fn.port l.port
-      (AreTurnsBegun l.word (places_of l.rank) l.turns (l.turns - l.counter));
+      (Begins (IsRetry l.word (places_of l.rank) (l.turns - l.counter)) (IsRetry l.word (places_of l.rank) l.turns));
 }

@@ -4,7 +4,8 @@ use Rattle.tag_search.specs.Added.{AddsSteps, SameRoom}
 use Rattle.tag_search.specs.Order.{numbers}
 use Rattle.tag_search.specs.Scans.{reach_of}
 use Rattle.tag_search.specs.Visits.{visit_of}
-use Rattle.tag_search.proofs.Searches.{IsSearchBegun}
+use Rattle.tag_search.specs.Search.{IsSearch}
+use Rattle.tag_search.proofs.Joined.{Begins}
 use Rattle.tag_search.proofs.scan.Scan.visit_between.Given as goal
 
 abbrev pub invariant-loop-word : goal.invariant-loop-word
@@ -14,5 +15,6 @@ invariant-loop-word g l = record {
   room : SameRoom (λ p n. g.P.Port.has_room p n) l.fn.port l.port;
   begun : let visit = visit_of l.self.first (reach_of l.self) in
       AddsSteps (λ p steps q. g.P.Port.adds p steps q) l.fn.port l.port
-      (IsSearchBegun l.self.layout (map visit (numbers l.fn.from l.end)) (map visit (numbers l.word l.end)));
+      (Begins (IsSearch l.self.layout (map visit (numbers l.word l.end)))
+      (IsSearch l.self.layout (map visit (numbers l.fn.from l.end))));
 }
